@@ -1,5 +1,5 @@
 -- An operation that is answered 0 changes nothing
-use Rattle.std.proofs.Common.{◌≡◌, ℕ, ◌+◌, ◌==◌, Bool, true, false, cond, List, [], ◌∷◌, ◌++◌, length, drop, refl, ap, arith}
+use Rattle.std.proofs.Common.{◌≡◌, ℕ, ◌==◌, Bool, true, false, cond, List, [], ◌∷◌, ◌++◌, length, drop, refl, ap, arith}
 use Rattle.std.specs.Prelude.{nat_lt}
 use Rattle.monk_object.specs.Buffer.{PUT, TAKE, taken}
 use Rattle.monk_object.specs.Book.{book_serves, book_served}
