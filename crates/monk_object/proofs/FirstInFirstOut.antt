@@ -1,0 +1,87 @@
+-- A buffer is first in, first out
+use Rattle.std.proofs.Common.{◌≡◌, ℕ, ◌+◌, ◌-◌, ◌<◌, ◌≤◌, ◌==◌, Bool, true, false, ◌&&◌, cond, List, [], ◌∷◌, ◌++◌, length, drop, map, refl, sym, ap, ◌∙◌, arith, append_assoc, length-append}
+use Rattle.std.specs.Prelude.{nat_lt, filter}
+use Rattle.std.proofs.lemmas.Bool.{eqb-true, ne_eqb, lt-ltb}
+use Rattle.std.proofs.lemmas.List.{append-nil}
+use Rattle.monk_object.specs.Buffer.{PUT, TAKE, buffer_meaning, items_after, items_reply, taken}
+use Rattle.monk_object.specs.Laws.{IsFirstInFirstOut, items_put, items_taken}
+use Rattle.monk_object.specs.Runs.{Answered, state_after, answered, is_done}
+use Rattle.monk_object.specs.declared.op.Op.{Op}
+
+-- of tests for a put, for a take and for room: the reply, the items after, the items that were put and taken
+abbrev reply_by : Bool → Bool → Bool → List ℕ → ℕ
+reply_by put take room items = cond put (cond room 1 0) (cond take (taken items) 0)
+
+abbrev after_by : Bool → Bool → Bool → List ℕ → ℕ → List ℕ
+after_by put take room items arg = cond put (cond room (items ++ arg ∷ []) items) (cond take (drop 1 items) items)
+
+abbrev put_by : Bool → ℕ → ℕ → List ℕ
+put_by put reply arg = cond (put && nat_lt 0 reply) (arg ∷ []) []
+
+abbrev taken_by : Bool → ℕ → List ℕ
+taken_by take reply = cond (take && nat_lt 0 reply) ((reply - 1) ∷ []) []
+
+step_by : (put take room : Bool) (items : List ℕ) (arg : ℕ) → (put ≡ true → take ≡ false)
+    → items ++ put_by put (reply_by put take room items) arg ≡ taken_by take (reply_by put take room items) ++ after_by put take room items arg
+step_by true true room items arg one = let f : true ≡ false = one refl in absurd cc
+step_by true false true items arg one = refl
+step_by true false false items arg one = append-nil items
+step_by false true room [] arg one = refl
+step_by false true room (x ∷ xs) arg one =
+    let above : nat_lt 0 (x + 1) ≡ true = lt-ltb 0 (x + 1) (omega arith) in
+    let item : x + 1 - 1 ≡ x = omega arith in
+    rw (above, item) (append-nil (x ∷ xs))
+step_by false false room items arg one = append-nil items
+
+fits_by : (size : ℕ) (put take room : Bool) (items : List ℕ) (arg : ℕ) → length items ≤ size → (room ≡ true → length items < size)
+    → length (after_by put take room items arg) ≤ size
+fits_by size true take true items arg fits less = omega (arith, less refl, length-append items (arg ∷ []))
+fits_by size true take false items arg fits less = fits
+fits_by size false true room [] arg fits less = fits
+fits_by size false true room (x ∷ xs) arg fits less = omega arith
+fits_by size false false room items arg fits less = fits
+
+-- an operation in front
+mapped : (f : Answered → ℕ) (b : Bool) (act : Answered) (acts : List Answered) → map f (cond b (act ∷ acts) acts) ≡ cond b (f act ∷ []) [] ++ map f acts
+mapped f true act acts = refl
+mapped f false act acts = refl
+
+not_both : (code : ℕ) → (code == PUT) ≡ true → (code == TAKE) ≡ false
+not_both code e = ne_eqb code TAKE (λ h. let z : code ≡ 0 = eqb-true code 0 e in omega arith)
+
+-- from a state with some items
+record Run (size : ℕ) (items : List ℕ) (ops : List Op) : Type 0 where
+  left : List ℕ
+  state : state_after buffer_meaning (size ∷ items) ops ≡ size ∷ left
+  in_order : items ++ items_put (answered buffer_meaning (size ∷ items) ops) ≡ items_taken (answered buffer_meaning (size ∷ items) ops) ++ left
+  within : length left ≤ size
+
+run : (size : ℕ) (items : List ℕ) (ops : List Op) → length items ≤ size → Run size items ops
+run size items [] fits = record { left = items; state = refl; in_order = append-nil items; within = fits }
+run size items (op ∷ ops) fits =
+    let put = op.code == PUT in
+    let take = op.code == TAKE in
+    let room = nat_lt (length items) size in
+    let reply = items_reply size items op in
+    let next = items_after size items op in
+    let rest = run size next ops (fits_by size put take room items op.arg fits (λ h. grind (arith, h))) in
+    let act : Answered = record { op = op; reply = reply } in
+    let acts = answered buffer_meaning (size ∷ next) ops in
+    record {
+      left = rest.left;
+      state = rest.state;
+      in_order =
+          ap (λ xs. items ++ xs) (mapped (λ a. a.op.arg) (is_done PUT act) act (filter (is_done PUT) acts))
+          ∙ (sym (append_assoc items (put_by put reply op.arg) (items_put acts))
+          ∙ (ap (λ xs. xs ++ items_put acts) (step_by put take room items op.arg (not_both op.code))
+          ∙ (append_assoc (taken_by take reply) next (items_put acts)
+          ∙ (ap (λ xs. taken_by take reply ++ xs) rest.in_order
+          ∙ (sym (append_assoc (taken_by take reply) (items_taken acts) rest.left)
+          ∙ ap (λ xs. xs ++ rest.left) (sym (mapped (λ a. a.reply - 1) (is_done TAKE act) act (filter (is_done TAKE) acts))))))));
+      within = rest.within;
+    }
+
+pub first_in_first_out : (size : ℕ) (ops : List Op) → IsFirstInFirstOut size ops
+first_in_first_out size ops =
+    let r = run size [] ops (omega arith) in
+    record { items = r.left; state = r.state; in_order = r.in_order; within = r.within }

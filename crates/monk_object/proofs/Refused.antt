@@ -1,0 +1,36 @@
+-- An operation that is answered 0 changes nothing
+use Rattle.std.proofs.Common.{◌≡◌, ℕ, ◌==◌, Bool, true, false, cond, List, [], ◌∷◌, ◌++◌, length, drop, refl, ap, arith}
+use Rattle.std.specs.Prelude.{nat_lt}
+use Rattle.monk_object.specs.Buffer.{PUT, TAKE, taken}
+use Rattle.monk_object.specs.Book.{book_serves, book_served}
+use Rattle.monk_object.specs.Shop.{shop_serves, shop_served}
+use Rattle.monk_object.specs.Laws.{IsUnchangedByRefusal}
+use Rattle.monk_object.specs.declared.name.ObjectName.{ObjectName}
+use Rattle.monk_object.specs.declared.name.ObjectName.TheVariants.{Buffer, Book, Shop}
+use Rattle.monk_object.specs.declared.op.Op.{Op}
+
+items_stay : (put take room : Bool) (items : List ℕ) (arg : ℕ) → ◌≡◌ {A = ℕ} (cond put (cond room 1 0) (cond take (taken items) 0)) 0
+    → cond put (cond room (items ++ arg ∷ []) items) (cond take (drop 1 items) items) ≡ items
+items_stay true take true items arg e = absurd (omega (arith, e))
+items_stay true take false items arg e = refl
+items_stay false true room [] arg e = refl
+items_stay false true room (x ∷ xs) arg e = absurd (omega (arith, e))
+items_stay false false room items arg e = refl
+
+state_stays : (served : Bool) (next state : List ℕ) → ◌≡◌ {A = ℕ} (cond served 1 0) 0 → cond served next state ≡ state
+state_stays true next state e = absurd (omega (arith, e))
+state_stays false next state e = refl
+
+pub refused : (o : ObjectName) (state : List ℕ) (op : Op) → IsUnchangedByRefusal o state op
+refused Buffer [] op e = refl
+refused Buffer (size ∷ items) op e = ap (λ xs. size ∷ xs) (items_stay (op.code == PUT) (op.code == TAKE) (nat_lt (length items) size) items op.arg e)
+refused Book [] op e = refl
+refused Book (size ∷ []) op e = refl
+refused Book (size ∷ readers ∷ []) op e = refl
+refused Book (size ∷ readers ∷ writing ∷ more) op e =
+    state_stays (book_serves size readers writing op.code) (book_served size readers writing op.code) (size ∷ readers ∷ writing ∷ more) e
+refused Shop [] op e = refl
+refused Shop (size ∷ []) op e = refl
+refused Shop (size ∷ sitting ∷ []) op e = refl
+refused Shop (size ∷ sitting ∷ chair ∷ more) op e =
+    state_stays (shop_serves size sitting chair op.code) (shop_served size sitting chair op.code) (size ∷ sitting ∷ chair ∷ more) e

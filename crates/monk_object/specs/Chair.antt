@@ -1,0 +1,9 @@
+-- The numbers of a shop's chair
+use Rattle.std.specs.Prelude.{ℕ}
+use Rattle.monk_object.specs.declared.shop.Chair.{Chair}
+use Rattle.monk_object.specs.declared.shop.Chair.TheVariants.{Empty, InUse, Done}
+
+abbrev pub chair_number : Chair → ℕ
+chair_number Empty = 0
+chair_number InUse = 1
+chair_number Done = 2

@@ -1,0 +1,57 @@
+-- What holds of every list of operations on an object made with some size
+use Rattle.std.specs.Prelude.{◌≡◌, ℕ, ◌+◌, ◌-◌, ◌≤◌, ◌==◌, ◌⊎◌, List, [], ◌∷◌, ◌++◌, length, map, filter, if◌then◌else◌}
+use Rattle.monk_object.specs.Buffer.{PUT, TAKE}
+use Rattle.monk_object.specs.Book.{START_READ, END_READ, START_WRITE, END_WRITE}
+use Rattle.monk_object.specs.Shop.{SIT, CALL, FINISH, DEPART}
+use Rattle.monk_object.specs.Names.{meaning_named, opening_named}
+use Rattle.monk_object.specs.Runs.{Answered, state_after, answered, is_done, times_done}
+use Rattle.monk_object.specs.declared.name.ObjectName.{ObjectName}
+use Rattle.monk_object.specs.declared.name.ObjectName.TheVariants.{Buffer, Book, Shop}
+use Rattle.monk_object.specs.declared.op.Op.{Op}
+
+-- of the object of that name and size: its state after the operations, and these with their replies
+abbrev pub state_of : ObjectName → ℕ → List Op → List ℕ
+state_of o size ops = state_after (meaning_named o) (opening_named o size) ops
+
+abbrev pub acts_of : ObjectName → ℕ → List Op → List Answered
+acts_of o size ops = answered (meaning_named o) (opening_named o size) ops
+
+abbrev pub items_put : List Answered → List ℕ
+items_put acts = map (λ act. act.op.arg) (filter (is_done PUT) acts)
+
+abbrev pub items_taken : List Answered → List ℕ
+items_taken acts = map (λ act. act.reply - 1) (filter (is_done TAKE) acts)
+
+-- a buffer: what was put is what was taken and then what is there, in order, and never more than the size is there
+pub record IsFirstInFirstOut (size : ℕ) (ops : List Op) : Type 0 where
+  pub items : List ℕ
+  pub state : state_of Buffer size ops ≡ size ∷ items
+  pub in_order : items_put (acts_of Buffer size ops) ≡ items_taken (acts_of Buffer size ops) ++ items
+  pub within : length items ≤ size
+
+-- a book: there is at most one writer, never beside a reader, and never more readers than the size; whoever started
+-- and has not ended is there
+pub record IsExclusive (size : ℕ) (ops : List Op) : Type 0 where
+  pub readers : ℕ
+  pub writers : ℕ
+  pub state : state_of Book size ops ≡ size ∷ readers ∷ writers ∷ []
+  pub within : readers ≤ size
+  pub one_writer : writers ≤ 1
+  pub alone : (readers ≡ 0) ⊎ (writers ≡ 0)
+  pub reads : times_done START_READ (acts_of Book size ops) ≡ times_done END_READ (acts_of Book size ops) + readers
+  pub writes : times_done START_WRITE (acts_of Book size ops) ≡ times_done END_WRITE (acts_of Book size ops) + writers
+
+-- a shop: whoever sat down was called or sits, whoever was called was served or is in the chair, and whoever was
+-- served departed or is still in the chair
+pub record LosesNoCustomer (size : ℕ) (ops : List Op) : Type 0 where
+  pub sitting : ℕ
+  pub chair : ℕ
+  pub state : state_of Shop size ops ≡ size ∷ sitting ∷ chair ∷ []
+  pub within : sitting ≤ size
+  pub sat : times_done SIT (acts_of Shop size ops) ≡ times_done CALL (acts_of Shop size ops) + sitting
+  pub called : times_done CALL (acts_of Shop size ops) ≡ times_done FINISH (acts_of Shop size ops) + (if chair == 1 then 1 else 0)
+  pub finished : times_done FINISH (acts_of Shop size ops) ≡ times_done DEPART (acts_of Shop size ops) + (if chair == 2 then 1 else 0)
+
+-- an operation that is answered 0 changes nothing
+abbrev pub IsUnchangedByRefusal : ObjectName → List ℕ → Op → Type 0
+IsUnchangedByRefusal o state op = (meaning_named o).reply state op ≡ 0 → (meaning_named o).after state op ≡ state

@@ -1,0 +1,26 @@
+-- What a list of operations does to an object
+use Rattle.std.specs.Prelude.{ℕ, ◌==◌, Bool, ◌&&◌, nat_lt, List, [], ◌∷◌, count_by}
+use Rattle.std.specs.List.{fold}
+use Rattle.monk_object.specs.Object.{Object}
+use Rattle.monk_object.specs.declared.op.Op.{Op}
+
+-- an operation with the reply to it
+pub record Answered : Type 0 where
+  pub op : Op
+  pub reply : ℕ
+
+-- from a state, the state after the operations
+abbrev pub state_after : Object → List ℕ → List Op → List ℕ
+state_after o state ops = fold o.after state ops
+
+-- from a state, the operations with their replies
+abbrev pub answered : Object → List ℕ → List Op → List Answered
+answered o state [] = []
+answered o state (op ∷ ops) = record { op = op; reply = o.reply state op } ∷ answered o (o.after state op) ops
+
+-- it is of that code and was done
+abbrev pub is_done : ℕ → Answered → Bool
+is_done code act = act.op.code == code && nat_lt 0 act.reply
+
+abbrev pub times_done : ℕ → List Answered → ℕ
+times_done code acts = count_by (is_done code) acts
