@@ -9,13 +9,13 @@ use Rattle.monk_kinds.specs.declared.mode.Pick.{Pick}
 use Rattle.monk_kinds.specs.declared.mode.Pick.TheVariants.{Entry as WishEntry, Waiter as WishWaiter, Signaller as WishSignaller}
 use Rattle.monk_kinds.specs.Kind.{IsKind, FitsMode}
 use Rattle.monk_object.specs.Object.{Object}
-use Rattle.monk_history.specs.Meaning.Events.{seat_of, next_of, is_stay, is_waiter, is_signaller, has_conditions, returns_at_once}
+use Rattle.monk_history.specs.Meaning.Events.{seat_of, next_of, is_stay, is_waiter, is_signaller, has_conditions, has_signaller_queue, returns_at_once}
 use Rattle.monk_history.specs.Meaning.Monitor.{Monitor}
 use Rattle.monk_history.specs.Meaning.Situation.{Situation, situation}
 use Rattle.monk_history.specs.Meaning.Step.{after}
 use Rattle.monk_history.specs.Meaning.Signallers.{is_empty, signallers, signals, takes_signaller}
 use Rattle.monk_history.specs.Meaning.Choice.{Queues, queues_at, is_front, may_choose, may_signal, must_stay}
-use Rattle.monk_history.specs.Meaning.Wish.{inner_waiters, front, waiter_choice, signaller_choice, choice_by, past_waiters}
+use Rattle.monk_history.specs.Meaning.Wish.{inner_waiters, front, waiter_choice, signaller_choice, choice_by}
 use Rattle.monk_history.specs.Meaning.Release.{MayCall, choice_of}
 use Rattle.monk_history.specs.Meaning.Reasons.{IsAllowedIn}
 use Rattle.monk_history.specs.Meaning.Legal.{IsLegal}
@@ -93,80 +93,6 @@ pub legal_alone : (m : Monitor) (h : List Event) → IsNonBlocking m.kind → Is
 legal_alone m h n l =
     legal_induction m (λ t. t.signallers ≡ []) (ap (λ t. t.signallers) (situation-none m)) (λ t e s a. alone_after m t e n s a) h l
 
-le_no : (x y : ℕ) → y < x → nat_le x y ≡ false
-le_no x y l = grind (arith, l)
-
-le_yes : (x y : ℕ) → x ≤ y → nat_le x y ≡ true
-le_yes x y l = grind (arith, l)
-
--- a choice by what it reads of the queues
-abbrev pub parts : Bool → Bool → Bool → Bool → Bool → Next → Bool → Next → Bool → Pick → Next
-parts we se sw ws none next empty other known WishEntry =
-  if known && (none || we) && (empty || se) then Entry
-  else if none && empty then Entry
-  else if not none && (empty || sw) then next
-  else other
-parts we se sw ws none next empty other known WishWaiter =
-  if not none && (empty || sw) then next
-  else if none && empty then Entry
-  else if not none && (empty || sw) then next
-  else other
-parts we se sw ws none next empty other known WishSignaller =
-  if not empty && (none || ws) then other
-  else if none && empty then Entry
-  else if not none && (empty || sw) then next
-  else other
-
-pub parts_are : (k : Rules) (q : Queues) (s : ℕ) (known : Bool) (wish : Pick)
-  → choice_by k q s known wish ≡ parts (nat_le k.waiter k.entry) (nat_le k.signaller k.entry) (nat_le k.signaller k.waiter) (nat_le k.waiter k.signaller) (is_empty (inner_waiters k q)) (waiter_choice k q) (is_empty q.signallers) (signaller_choice q s) known wish
-parts_are k q s known WishEntry = refl
-parts_are k q s known WishWaiter = refl
-parts_are k q s known WishSignaller = refl
-
-signaller_wins : (we ws none : Bool) (next other : Next) (known : Bool) (wish : Pick) → ws ≡ true → parts we false false ws none next false other known wish ≡ other
-signaller_wins we true true next other true WishEntry h = refl
-signaller_wins we true false next other true WishEntry h = last we
-  where
-    last : (b : Bool) → cond (b && false) Entry other ≡ other
-    last true = refl
-    last false = refl
-signaller_wins we true true next other false WishEntry h = refl
-signaller_wins we true false next other false WishEntry h = refl
-signaller_wins we true true next other known WishWaiter h = refl
-signaller_wins we true false next other known WishWaiter h = refl
-signaller_wins we true true next other known WishSignaller h = refl
-signaller_wins we true false next other known WishSignaller h = refl
-signaller_wins we false none next other known wish h = absurd (false≢true h)
-
--- under a non-blocking kind a served signal goes to the front of the signaller queue, whatever the wish
-pub signaller_first : (k : Rules) (q : Queues) (s : ℕ) (known : Bool) (wish : Pick) → IsNonBlocking k → is_empty q.signallers ≡ false → choice_by k q s known wish ≡ signaller_choice q s
-signaller_first k q s known wish n e =
-    let a = n.entry_waiter in
-    let b = n.waiter_signaller in
-    parts_are k q s known wish
-    ∙ ((λ i. parts (nat_le k.waiter k.entry) (le_no k.signaller k.entry (omega (arith, a, b)) i) (le_no k.signaller k.waiter b i) (nat_le k.waiter k.signaller) (is_empty (inner_waiters k q)) (waiter_choice k q) (e i) (signaller_choice q s) known wish)
-    ∙ signaller_wins (nat_le k.waiter k.entry) (nat_le k.waiter k.signaller) (is_empty (inner_waiters k q)) (waiter_choice k q) (signaller_choice q s) known wish (le_yes k.waiter k.signaller (omega (arith, b))))
-
-caller_first : (ss : List ℕ) (s : ℕ) → ss ≡ [] → cond (front (ss ++ s ∷ []) == s) Stay (Signaller (front (ss ++ s ∷ []))) ≡ Stay
-caller_first ss s e = ap (λ z. cond (front (z ++ s ∷ []) == s) Stay (Signaller (front (z ++ s ∷ [])))) e ∙ ap (λ b. cond b Stay (Signaller s)) (eq-eqb s s refl)
-
-not_empty_push : (ss : List ℕ) (s : ℕ) → is_empty (ss ++ s ∷ []) ≡ false
-not_empty_push [] s = refl
-not_empty_push (x ∷ xs) s = refl
-
-stay_choice : (k : Rules) (ws ss rs : List ℕ) (s : ℕ) (b : Bool) (known : Bool) (wish : Pick) → IsNonBlocking k → ss ≡ []
-  → Stay ≡ cond b Stay (choice_by k (record { waiters = ws; signallers = ss ++ cond b [] (s ∷ []); ready = rs }) s known wish)
-stay_choice k ws ss rs s true known wish n e = refl
-stay_choice k ws ss rs s false known wish n e =
-    sym (signaller_first k (record { waiters = ws; signallers = ss ++ s ∷ []; ready = rs }) s known wish n (not_empty_push ss s) ∙ caller_first ss s e)
-
--- under a non-blocking kind a signal stays
-pub signal_stays : (m : Monitor) (h : List Event) (s c : ℕ) (x : Next) (known : Bool) (wish : Pick) → IsNonBlocking m.kind → IsLegal m h
-  → Stay ≡ choice_of m.kind m.object (situation m h) (Signal s c x) known wish
-signal_stays m h s c x known wish n l =
-    let t = situation m h in
-    stay_choice m.kind _ t.signallers _ s (is_empty (t.condition c)) known wish n (legal_alone m h n l)
-
 -- the rules of a blocking kind
 pub record IsBlocking (k : Rules) : Type 0 where
   pub conditions : has_conditions k.mode ≡ true
@@ -216,29 +142,17 @@ pub legal_emptied : (m : Monitor) (h : List Event) → IsBlocking m.kind → IsL
 legal_emptied m h n l =
     legal_induction m (λ t. t.waiters ≡ []) (ap (λ t. t.waiters) (situation-none m)) (λ t e s a. emptied_after m t e n s a) h l
 
-leave_parts : (we se sw ws : Bool) (next : Next) (ss : List ℕ) (s : ℕ) (known : Bool) (wish : Pick) → is_front s ss ≡ false
-  → parts we se sw ws true next (is_empty ss) (cond (front ss == s) Stay (Signaller (front ss))) known wish ≡ past_waiters se (slice_get ss 0) known wish
-leave_parts we se sw ws next [] s true WishEntry h = refl
-leave_parts we se sw ws next [] s false WishEntry h = refl
-leave_parts we se sw ws next [] s known WishWaiter h = refl
-leave_parts we se sw ws next [] s known WishSignaller h = refl
-leave_parts we se sw ws next (y ∷ ys) s true WishEntry h = ap (λ b. cond se Entry (cond b Stay (Signaller y))) h
-leave_parts we se sw ws next (y ∷ ys) s false WishEntry h = ap (λ b. cond b Stay (Signaller y)) h
-leave_parts we se sw ws next (y ∷ ys) s known WishWaiter h = ap (λ b. cond b Stay (Signaller y)) h
-leave_parts we se sw ws next (y ∷ ys) s known WishSignaller h = ap (λ b. cond b Stay (Signaller y)) h
+-- where there is no signaller queue nobody is ever in it
+unsignalled_after : (m : Monitor) (t : Situation) (e : Event) → has_signaller_queue m.kind.mode ≡ false → t.signallers ≡ [] → IsAllowedIn m t e → (after m.object t e).signallers ≡ []
+unsignalled_after m t (Enter s via) n h a = drop_nobody false t.signallers [] h refl
+unsignalled_after m t (Act s op r) n h a = drop_nobody false t.signallers [] h refl
+unsignalled_after m t (Leave s x) n h a = drop_nobody _ t.signallers [] h refl
+unsignalled_after m t (Wait s c x) n h a = drop_nobody _ t.signallers [] h refl
+unsignalled_after m t (Signal s c x) n h a = absurd (false≢true (sym n ∙ a.offered))
+unsignalled_after m t (SignalLeave s c x) n h a = drop_nobody _ t.signallers [] h refl
+unsignalled_after m t (Until s p x) n h a = drop_nobody _ t.signallers [] h refl
+unsignalled_after m t (Resume s q) n h a = drop_nobody false t.signallers [] h refl
 
-inner_none : (b : Bool) (ws rs : List ℕ) → b ≡ true → ws ≡ [] → is_empty (cond b ws rs) ≡ true
-inner_none true ws rs h e = ap is_empty e
-inner_none false ws rs h e = absurd (false≢true h)
-
--- under a blocking kind a leave looks at the signallers alone
-pub leave_past : (m : Monitor) (h : List Event) (s : ℕ) (known : Bool) (wish : Pick) → IsBlocking m.kind → IsLegal m h → MayCall m h (Leave s Stay)
-  → past_waiters (nat_le m.kind.signaller m.kind.entry) (slice_get ((situation m h).signallers ++ []) 0) known wish ≡ choice_of m.kind m.object (situation m h) (Leave s Stay) known wish
-leave_past m h s known wish n l c =
-    let t = situation m h in
-    let q = queues_at m.object t (Leave s Stay) in
-    sym (parts_are m.kind q s known wish
-      ∙ (ap (λ b. parts (nat_le m.kind.waiter m.kind.entry) (nat_le m.kind.signaller m.kind.entry) (nat_le m.kind.signaller m.kind.waiter) (nat_le m.kind.waiter m.kind.signaller) b (waiter_choice m.kind q) (is_empty q.signallers) (signaller_choice q s) known wish)
-          (inner_none (has_conditions m.kind.mode) (t.waiters ++ []) q.ready n.conditions (ap (λ z. z ++ []) (legal_emptied m h n l)))
-      ∙ leave_parts (nat_le m.kind.waiter m.kind.entry) (nat_le m.kind.signaller m.kind.entry) (nat_le m.kind.signaller m.kind.waiter) (nat_le m.kind.waiter m.kind.signaller) (waiter_choice m.kind q) (t.signallers ++ []) s known wish
-          (front_absent s (t.signallers ++ []) (omega (arith, times-append s t.signallers [], (caller_apart m t (Leave s Stay) (legal_placed m h l) c.in_turn c.in_place).signallers)))))
+pub legal_unsignalled : (m : Monitor) (h : List Event) → has_signaller_queue m.kind.mode ≡ false → IsLegal m h → (situation m h).signallers ≡ []
+legal_unsignalled m h n l =
+    legal_induction m (λ t. t.signallers ≡ []) (ap (λ t. t.signallers) (situation-none m)) (λ t e s a. unsignalled_after m t e n s a) h l
