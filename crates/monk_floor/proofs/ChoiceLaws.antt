@@ -70,7 +70,7 @@ choice_first k ws ss rs s known wish =
     ∙ ((λ i. parts k (inner_first (has_conditions k.mode) ws rs i) (cond (has_conditions k.mode) (Waiter (front_first ws i)) (UntilSeat (front_first rs i))) (empty_first ss i) (front_first ss i) s known wish)
     ∙ sym (parts_are k (record { waiters = ws; signallers = ss; ready = rs }) s known wish))
 
-stays_is : (o : Object) (t : Situation) (e : Event) → stays_by o t.condition t.state e ≡ must_stay o t e
+pub stays_is : (o : Object) (t : Situation) (e : Event) → stays_by o t.condition t.state e ≡ must_stay o t e
 stays_is o t (Enter s via) = refl
 stays_is o t (Act s op r) = refl
 stays_is o t (Leave s x) = refl

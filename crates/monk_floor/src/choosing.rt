@@ -1,106 +1,16 @@
-ghost use Rattle.std.specs.Prelude.{◌≡◌, List, ℕ, All, ◌<◌, slice_get, length, true, if◌then◌else◌};
-ghost use Rattle.monk_floor.specs.Just.{just};
-ghost use Rattle.monk_history.specs.Meaning.Wish as wish;
+ghost use Rattle.std.specs.Prelude.{◌≡◌, ◌<◌, All, slice_get, length, true};
 ghost use Rattle.monk_history.specs.Meaning.Events as events;
-ghost use Rattle.monk_history.specs.Meaning.Untils.{ready_of};
+ghost use Rattle.monk_history.specs.Meaning.Paths as paths;
 ghost use Rattle.monk_history.specs.Meaning.Reasons.{is_condition, fits_object};
-ghost use Rattle.monk_floor.specs.Ready.{stays_by};
+ghost use Rattle.monk_history.specs.Meaning.Untils.{ready_of};
 ghost use Rattle.monk_floor.specs.Queues.{queue_at};
+ghost use Rattle.monk_floor.specs.Ready.{stays_by};
 
-use monk_history::{Event, Next};
-use monk_kinds::{Mode, Pick, Rules};
+use monk_history::{Event, From3, Next};
+use monk_kinds::Pick;
 use monk_object::Guarded;
 
 use crate::queues::Queues;
-
-/// The fronts of the queues that a release chooses from.
-#[derive(Clone, Copy)]
-pub struct Fronts {
-    pub waiter: Option<u8>,
-    pub signaller: Option<u8>,
-    pub ready: Option<u8>,
-}
-
-impl Fronts {
-    ghost use Rattle.monk_floor.specs.Fronts.{queues};
-
-    fn inner(self, rules: Rules) -> Option<u8>
-        ensures { just result ≡ wish.inner_waiters rules (queues self) }
-    {
-        if rules.mode == Mode::Automatic {
-            self.ready
-        } else {
-            self.waiter
-        }
-    }
-
-    fn is_waiter_open(self, rules: Rules) -> bool
-        ensures { result ≡ wish.is_waiter_open rules (queues self) }
-    {
-        self.inner(rules).is_some()
-            && (self.signaller.is_none() || rules.signaller <= rules.waiter)
-    }
-
-    fn is_signaller_open(self, rules: Rules) -> bool
-        ensures { result ≡ wish.is_signaller_open rules (queues self) }
-    {
-        self.signaller.is_some()
-            && (self.inner(rules).is_none() || rules.waiter <= rules.signaller)
-    }
-
-    fn is_entry_open(self, rules: Rules, entry_known: bool) -> bool
-        ensures { result ≡ wish.is_entry_open rules (queues self) entry_known }
-    {
-        entry_known
-            && (self.inner(rules).is_none() || rules.waiter <= rules.entry)
-            && (self.signaller.is_none() || rules.signaller <= rules.entry)
-    }
-
-    fn waiter_choice(self, rules: Rules) -> Next
-        ensures { result ≡ wish.waiter_choice rules (queues self) }
-    {
-        if rules.mode == Mode::Automatic {
-            Next::Until(self.ready.unwrap_or(0))
-        } else {
-            Next::Waiter(self.waiter.unwrap_or(0))
-        }
-    }
-
-    fn signaller_choice(self, seat: u8) -> Next
-        ensures { result ≡ wish.signaller_choice (queues self) seat }
-    {
-        let front = self.signaller.unwrap_or(0);
-        if front == seat {
-            Next::Stay
-        } else {
-            Next::Signaller(front)
-        }
-    }
-
-    fn unwished(self, rules: Rules, seat: u8) -> Next
-        ensures { result ≡ wish.unwished_choice rules (queues self) seat }
-    {
-        if self.inner(rules).is_none() && self.signaller.is_none() {
-            Next::Entry
-        } else if self.is_waiter_open(rules) {
-            self.waiter_choice(rules)
-        } else {
-            self.signaller_choice(seat)
-        }
-    }
-
-    /// The choice of a release of a seat, by its wish and by whether somebody is known to wait for entry.
-    pub fn choose(self, rules: Rules, seat: u8, entry_known: bool, pick: Pick) -> Next
-        ensures { result ≡ wish.choice_by rules (queues self) seat entry_known pick }
-    {
-        match pick {
-            Pick::Entry if self.is_entry_open(rules, entry_known) => Next::Entry,
-            Pick::Waiter if self.is_waiter_open(rules) => self.waiter_choice(rules),
-            Pick::Signaller if self.is_signaller_open(rules) => self.signaller_choice(seat),
-            _ => self.unwished(rules, seat),
-        }
-    }
-}
 
 /// The first of the waits-until whose predicate holds.
 pub fn first_ready<T: Guarded>(object: &T, untils: &[(u8, u8)]) -> Option<u8>
@@ -115,22 +25,6 @@ pub fn first_ready<T: Guarded>(object: &T, untils: &[(u8, u8)]) -> Option<u8>
     None
 }
 
-/// The seat whose event it is.
-pub fn seat_of(event: Event) -> u8
-    ensures { result ≡ events.seat_of event }
-{
-    match event {
-        Event::Enter(seat, _)
-        | Event::Act(seat, ..)
-        | Event::Leave(seat, _)
-        | Event::Wait(seat, ..)
-        | Event::Signal(seat, ..)
-        | Event::SignalLeave(seat, ..)
-        | Event::Until(seat, ..)
-        | Event::Resume(seat, _) => seat,
-    }
-}
-
 /// Whether an event must stay: a signal on an empty condition, an until whose predicate holds.
 pub fn must_stay<T: Guarded>(object: &T, queues: &Queues, event: Event) -> bool
     requires signals { is_condition (length queues.now.conditions) (events.signals_on event) ≡ true }
@@ -141,5 +35,83 @@ pub fn must_stay<T: Guarded>(object: &T, queues: &Queues, event: Event) -> bool
         Event::Signal(..) => queues.finds_none(event),
         Event::Until(_, pred, _) => object.holds(pred),
         _ => false,
+    }
+}
+
+/// The choice of that seat from that queue.
+fn next_from(queue: From3, seat: u8) -> Next
+    ensures { result ≡ paths.next_from queue seat }
+{
+    match queue {
+        From3::Waiter => Next::Waiter(seat),
+        From3::Signaller => Next::Signaller(seat),
+        From3::Until => Next::Until(seat),
+    }
+}
+
+/// The choice past one inner queue, by its front and whether entry ties with it.
+pub fn single_choice(
+    queue: From3,
+    ties: bool,
+    front: Option<u8>,
+    entry_known: bool,
+    pick: Pick,
+) -> Next
+    ensures { result ≡ paths.single_choice queue ties front entry_known pick }
+{
+    match front {
+        None => Next::Entry,
+        Some(seat) => match pick {
+            Pick::Entry if entry_known && ties => Next::Entry,
+            _ => next_from(queue, seat),
+        },
+    }
+}
+
+/// The front of the signaller queue, which stays if it is the caller.
+fn staying(front: u8, caller: u8) -> Next
+    ensures { result ≡ paths.staying front caller }
+{
+    if front == caller {
+        Next::Stay
+    } else {
+        Next::Signaller(front)
+    }
+}
+
+/// The choice past a waiter queue and a signaller queue of one priority, by their fronts and whether entry ties
+/// with them.
+pub fn equal_choice(
+    ties: bool,
+    waiter: Option<u8>,
+    signaller: Option<u8>,
+    caller: u8,
+    entry_known: bool,
+    pick: Pick,
+) -> Next
+    ensures { result ≡ paths.equal_choice ties waiter signaller caller entry_known pick }
+{
+    match (waiter, signaller) {
+        (None, None) => Next::Entry,
+        (Some(seat), None) => single_choice(From3::Waiter, ties, Some(seat), entry_known, pick),
+        (None, Some(front)) => match pick {
+            Pick::Entry if entry_known && ties => Next::Entry,
+            _ => staying(front, caller),
+        },
+        (Some(seat), Some(front)) => match pick {
+            Pick::Entry if entry_known && ties => Next::Entry,
+            Pick::Signaller => staying(front, caller),
+            _ => Next::Waiter(seat),
+        },
+    }
+}
+
+/// The choice of a signal that hands over to the seat that it serves.
+pub fn served_choice(served: Option<u8>) -> Next
+    ensures { result ≡ paths.served_choice served }
+{
+    match served {
+        None => Next::Stay,
+        Some(seat) => Next::Waiter(seat),
     }
 }

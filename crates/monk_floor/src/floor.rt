@@ -1,42 +1,43 @@
-ghost use Rattle.std.specs.Prelude.{◌≡◌, ℕ, ◌<◌, ◌≤◌, ◌^◌, Option, Some, None, true, IfOk, IfErr, nat_lt, nat_le, false, not, ◌&&◌, slice_index_or, List, [], ◌∷◌, ◌++◌, length};
-ghost use Rattle.monk_history.specs.Meaning.Monitor.{monitor, data_of, data_after};
-ghost use Rattle.monk_history.specs.Meaning.Situation.{situation};
+ghost use Rattle.std.specs.Prelude.{◌≡◌, ℕ, ◌<◌, ◌≤◌, ◌^◌, Bool, Option, Some, None, true, false, not, ◌&&◌, IfOk, IfErr, nat_lt, slice_index_or, List, [], ◌∷◌, ◌++◌, length};
 ghost use Rattle.monk_history.specs.Meaning.Conditions.{condition};
-ghost use Rattle.monk_history.specs.Meaning.Turn.{turn};
-ghost use Rattle.monk_history.specs.Meaning.Legal.{IsLegal};
-ghost use Rattle.monk_history.specs.Meaning.Reasons.{IsAllowed, is_right_reply};
-ghost use Rattle.monk_history.specs.Meaning.Release.{MayCall, with_next, choice_of};
-ghost use Rattle.monk_history.specs.Meaning.Events as events;
 ghost use Rattle.monk_history.specs.Meaning.Counts.{left_of, granted_of, enters_of};
+ghost use Rattle.monk_history.specs.Meaning.Events as events;
+ghost use Rattle.monk_history.specs.Meaning.Legal.{IsLegal};
+ghost use Rattle.monk_history.specs.Meaning.Monitor.{data_of, data_after};
+ghost use Rattle.monk_history.specs.Meaning.Reasons.{IsAllowed};
+ghost use Rattle.monk_history.specs.Meaning.Release.{MayCall, choice_of};
 ghost use Rattle.monk_history.specs.Meaning.Standing.{has_turn, is_queued};
-ghost use Rattle.monk_history.specs.Meaning.Wish.{past_waiters};
-ghost use Rattle.monk_floor.specs.View.{FloorView, monitor_of, fresh};
+ghost use Rattle.monk_history.specs.Meaning.Turn.{turn};
+ghost use Rattle.monk_floor.specs.Chosen.{IsChosen};
+ghost use Rattle.monk_floor.specs.Due.{IsDueTo, IsDueSome, due_seat};
 ghost use Rattle.monk_floor.specs.Grown.{IsGrown};
 ghost use Rattle.monk_floor.specs.Making.{refusal, IsRefused};
-ghost use Rattle.monk_floor.specs.Due.{IsDueTo, IsDueSome, due_seat};
+ghost use Rattle.monk_floor.specs.Silent.{IsReplyless};
+ghost use Rattle.monk_floor.specs.View.{monitor_of, stands_of, fresh};
 
 use std::alloc::{AllocError, Global};
 use std::marker::{Model, PhantomData};
 use std::snapshot::Snapshot;
 
 use monk_history::{Event, From3, Next, Turn, Via};
-use monk_kinds::{Explicit, Kind, Mode, Pick, Rules, rules_of};
+use monk_kinds::{Kind, Pick, rules_of};
 use monk_object::{Guarded, Op};
 
-use crate::choosing::{Fronts, first_ready, must_stay, seat_of};
+use crate::choosing::{first_ready, must_stay};
+use crate::events::seat_of;
+use crate::fault::MakeFault;
+use crate::fronts::Fronts;
 use crate::ledger::Ledger;
-use crate::queues::Queues;
 
-/// Why a floor was not made.
-#[derive(Debug, Drop)]
-pub enum MakeFault {
-    Seats,
-    Conds,
-    Budget,
-    Memory,
-}
+mod paths;
 
-/// A monitor's object, its queues and its history.
+/// The floor of a monitor of kind `K` over an object `T`: the object, the queues and the history.
+///
+/// To contracts a floor is its object's opening state, its numbers and its history. The data, the queues, whose turn
+/// it is and who is inside are what the definitions of a history say of these.
+///
+/// Making a floor reserves `seats * budget` events and every queue. No later call takes memory, and the time of each
+/// is independent of how long the history is.
 #[derive(Drop)]
 pub struct Floor<K: Kind, T: Guarded> {
     object: T,
@@ -63,7 +64,11 @@ impl<K: Kind, T: Guarded> Model for Floor<K, T> {
 }
 
 impl<K: Kind, T: Guarded> Floor<K, T> {
-    /// A floor with nobody inside, over an object. The first refusal that applies is answered.
+    /// A floor over an object, with no event yet: 1 to 32 seats, at most 8 condition variables, and 2 to 2^20 events
+    /// for each seat.
+    ///
+    /// The first fault that applies is answered, want of memory last; the object is dropped with it. Takes memory for
+    /// `seats * budget` events and all queues at once.
     pub fn make(
         alloc: Global,
         object: T,
@@ -83,10 +88,7 @@ impl<K: Kind, T: Guarded> Floor<K, T> {
         if budget < 2 || budget > 1_048_576 {
             return Err(MakeFault::Budget);
         }
-        match Self::build(alloc, object, seats, conds, budget) {
-            Ok(floor) => Ok(floor),
-            Err(_) => Err(MakeFault::Memory),
-        }
+        Ok(Self::build(alloc, object, seats, conds, budget)?)
     }
 
     /// A floor with these numbers, which are in range.
@@ -116,7 +118,7 @@ impl<K: Kind, T: Guarded> Floor<K, T> {
         })
     }
 
-    /// Appends an event that is allowed. No act: that needs the object.
+    /// Appends an event that is allowed. It is no act, since that changes the object.
     fn append(&mut self, event: Event)
         requires allowed { IsAllowed (monitor_of K.rules T.meaning self.old) self.old.history event }
         requires left { 0 < left_of self.old.budget self.old.history (events.seat_of event) }
@@ -127,12 +129,12 @@ impl<K: Kind, T: Guarded> Floor<K, T> {
         self.history.push_reserved(event);
     }
 
-    /// What a release chooses, by the wish rules over the queues after its own moves.
+    /// What a release chooses by the wish rules, over all queues as they are after its own moves. Any next may stand
+    /// in the event.
     fn next_by(&self, event: Event, entry_known: bool, pick: Pick) -> Next
         requires call { MayCall (monitor_of K.rules T.meaning self.now) self.now.history event }
-        requires release { (d : List ℕ) → is_right_reply T.meaning d event ≡ true }
-        ensures choice { result ≡ choice_of K.rules T.meaning (situation (monitor_of K.rules T.meaning self.now) self.now.history) event entry_known pick }
-        ensures allowed { IsAllowed (monitor_of K.rules T.meaning self.now) self.now.history (with_next result event) }
+        requires release { IsReplyless T.meaning event }
+        ensures { IsChosen K.rules T.meaning self.now event entry_known pick result }
     {
         if must_stay(&self.object, &self.ledger.queues, event) {
             return Next::Stay;
@@ -145,14 +147,8 @@ impl<K: Kind, T: Guarded> Floor<K, T> {
         fronts.choose(rules_of::<K>(), seat_of(event), entry_known, pick)
     }
 
-    /// The history is legal.
-    pub fn is_legal(&self)
-        ensures { IsLegal (monitor_of K.rules T.meaning self.now) self.now.history }
-    {
-        let _ = &self.history;
-    }
-
-    /// A seat enters.
+    /// A seat that is outside enters where the monitor is free: `Via::Free` past no inner queue, `Via::Handed` after
+    /// somebody let it in.
     pub fn enter(&mut self, seat: u8, via: Via)
         requires call { MayCall (monitor_of K.rules T.meaning self.old) self.old.history (Event.Enter seat via) }
         requires left { 0 < left_of self.old.budget self.old.history seat }
@@ -161,7 +157,7 @@ impl<K: Kind, T: Guarded> Floor<K, T> {
         self.append(Event::Enter(seat, via));
     }
 
-    /// A seat resumes from the queue that it was chosen from.
+    /// The seat that was chosen from a queue goes on, and learns from which queue.
     pub fn resume(&mut self, seat: u8) -> From3
         requires seat { seat < self.old.seats }
         requires due { IsDueTo seat (turn self.old.history) }
@@ -184,7 +180,7 @@ impl<K: Kind, T: Guarded> Floor<K, T> {
         }
     }
 
-    /// A seat acts.
+    /// The active seat carries an operation out on the object, and gets its reply. Costs what the object's `act` costs.
     pub fn act(&mut self, seat: u8, op: Op) -> u64
         requires call { MayCall (monitor_of K.rules T.meaning self.old) self.old.history (Event.Act seat op 0) }
         requires left { 0 < left_of self.old.budget self.old.history seat }
@@ -204,14 +200,15 @@ impl<K: Kind, T: Guarded> Floor<K, T> {
         self.object.holds(pred)
     }
 
-    /// The history.
+    /// The history, which is always legal.
     pub fn history(&self) -> &[Event]
-        ensures { result.now ≡ self.now.history }
+        ensures history { result.now ≡ self.now.history }
+        ensures legal { IsLegal (monitor_of K.rules T.meaning self.now) self.now.history }
     {
         self.history.as_slice()
     }
 
-    /// What a seat has left of its budget.
+    /// How many events a seat has left of its budget.
     pub fn left(&self, seat: u8) -> u32
         requires { seat < self.now.seats }
         ensures { result ≡ left_of self.now.budget self.now.history seat }
@@ -219,67 +216,7 @@ impl<K: Kind, T: Guarded> Floor<K, T> {
         self.budget - self.ledger.spent[seat as usize]
     }
 
-    /// A leave, by the general scheduler step.
-    pub fn plain_leave(&mut self, seat: u8, pick: Pick, entry_known: bool) -> Next
-        requires call { MayCall (monitor_of K.rules T.meaning self.old) self.old.history (Event.Leave seat Next.Stay) }
-        requires left { 0 < left_of self.old.budget self.old.history seat }
-        ensures grown { IsGrown K.rules T.meaning self.old (Event.Leave seat result) self.new }
-        ensures choice { result ≡ choice_of K.rules T.meaning (situation (monitor_of K.rules T.meaning self.old) self.old.history) (Event.Leave seat Next.Stay) entry_known pick }
-    {
-        let next = self.next_by(Event::Leave(seat, Next::Stay), entry_known, pick);
-        self.append(Event::Leave(seat, next));
-        next
-    }
-
-    /// A signal, by the general scheduler step.
-    pub fn plain_signal(&mut self, seat: u8, cond: u8, pick: Pick, entry_known: bool) -> Next
-        requires call { MayCall (monitor_of K.rules T.meaning self.old) self.old.history (Event.Signal seat cond Next.Stay) }
-        requires left { 0 < left_of self.old.budget self.old.history seat }
-        ensures grown { IsGrown K.rules T.meaning self.old (Event.Signal seat cond result) self.new }
-        ensures choice { result ≡ choice_of K.rules T.meaning (situation (monitor_of K.rules T.meaning self.old) self.old.history) (Event.Signal seat cond Next.Stay) entry_known pick }
-    {
-        let next = self.next_by(Event::Signal(seat, cond, Next::Stay), entry_known, pick);
-        self.append(Event::Signal(seat, cond, next));
-        next
-    }
-
-    /// A wait, by the general scheduler step.
-    pub fn plain_wait(&mut self, seat: u8, cond: u8, pick: Pick, entry_known: bool) -> Next
-        requires call { MayCall (monitor_of K.rules T.meaning self.old) self.old.history (Event.Wait seat cond Next.Stay) }
-        requires left { 0 < left_of self.old.budget self.old.history seat }
-        ensures grown { IsGrown K.rules T.meaning self.old (Event.Wait seat cond result) self.new }
-        ensures choice { result ≡ choice_of K.rules T.meaning (situation (monitor_of K.rules T.meaning self.old) self.old.history) (Event.Wait seat cond Next.Stay) entry_known pick }
-    {
-        let next = self.next_by(Event::Wait(seat, cond, Next::Stay), entry_known, pick);
-        self.append(Event::Wait(seat, cond, next));
-        next
-    }
-
-    /// A signal and leave, by the general scheduler step.
-    pub fn plain_signal_leave(&mut self, seat: u8, cond: u8, pick: Pick, entry_known: bool) -> Next
-        requires call { MayCall (monitor_of K.rules T.meaning self.old) self.old.history (Event.SignalLeave seat cond Next.Stay) }
-        requires left { 0 < left_of self.old.budget self.old.history seat }
-        ensures grown { IsGrown K.rules T.meaning self.old (Event.SignalLeave seat cond result) self.new }
-        ensures choice { result ≡ choice_of K.rules T.meaning (situation (monitor_of K.rules T.meaning self.old) self.old.history) (Event.SignalLeave seat cond Next.Stay) entry_known pick }
-    {
-        let next = self.next_by(Event::SignalLeave(seat, cond, Next::Stay), entry_known, pick);
-        self.append(Event::SignalLeave(seat, cond, next));
-        next
-    }
-
-    /// A until, by the general scheduler step.
-    pub fn plain_until(&mut self, seat: u8, pred: u8, pick: Pick, entry_known: bool) -> Next
-        requires call { MayCall (monitor_of K.rules T.meaning self.old) self.old.history (Event.Until seat pred Next.Stay) }
-        requires left { 0 < left_of self.old.budget self.old.history seat }
-        ensures grown { IsGrown K.rules T.meaning self.old (Event.Until seat pred result) self.new }
-        ensures choice { result ≡ choice_of K.rules T.meaning (situation (monitor_of K.rules T.meaning self.old) self.old.history) (Event.Until seat pred Next.Stay) entry_known pick }
-    {
-        let next = self.next_by(Event::Until(seat, pred, Next::Stay), entry_known, pick);
-        self.append(Event::Until(seat, pred, next));
-        next
-    }
-
-    /// How many seats wait on a condition.
+    /// How many seats wait on a condition variable.
     pub fn waiting(&self, cond: u8) -> u32
         requires { cond < self.now.conds }
         ensures { result ≡ length (condition cond self.now.history) }
@@ -287,7 +224,7 @@ impl<K: Kind, T: Guarded> Floor<K, T> {
         self.ledger.queues.waiting(cond)
     }
 
-    /// How many events chose a seat from a queue.
+    /// How many events chose a seat from a queue. A stay is none.
     pub fn granted(&self, seat: u8) -> u32
         requires { seat < self.now.seats }
         ensures { result ≡ granted_of self.now.history seat }
@@ -302,18 +239,20 @@ impl<K: Kind, T: Guarded> Floor<K, T> {
         self.ledger.entered
     }
 
-    /// Whether a queue has the seat.
+    /// Whether a queue has the seat. No queue is searched: a seat is in one exactly where it is inside and has not
+    /// the turn.
     pub fn queued(&self, seat: u8) -> bool
         requires { seat < self.now.seats }
-        ensures { result ≡ is_queued self.now.conds seat (situation (monitor_of K.rules T.meaning self.now) self.now.history) }
+        ensures { result ≡ is_queued self.now.conds seat (stands_of K.rules T.meaning self.now) }
     {
         is_parked(&self.ledger.inside, self.ledger.turn, seat)
     }
 
-    /// The object and the history.
+    /// Gives the object and the history out. The object's state is the data of that history.
     pub fn close(self) -> (T, Vec<Event>)
         ensures object { T.state result.0 ≡ data_of (monitor_of K.rules T.meaning self) self.history }
         ensures history { result.1.items ≡ self.history }
+        ensures legal { IsLegal (monitor_of K.rules T.meaning self) self.history }
     {
         (self.object, self.history)
     }
@@ -338,91 +277,69 @@ fn has_turn(turn: Turn, seat: u8) -> bool
     }
 }
 
-impl<K: Explicit, T: Guarded> Floor<K, T> {
-    ghost use Rattle.std.specs.Prelude.{◌≡◌, ◌<◌};
-    ghost use Rattle.monk_history.specs.Meaning.Situation.{situation};
-    ghost use Rattle.monk_history.specs.Meaning.Reasons.{IsAllowed};
-    ghost use Rattle.monk_history.specs.Meaning.Release.{MayCall, choice_of};
-    ghost use Rattle.monk_history.specs.Meaning.Counts.{left_of};
-    ghost use Rattle.monk_kinds.specs.declared.mode.Mode as modes;
-    ghost use Rattle.monk_floor.specs.View.{monitor_of};
-    ghost use Rattle.monk_floor.specs.Grown.{IsGrown};
-
-    /// A signal, by the path of the kind's mode: under a non-blocking kind the caller stays, and no queue is asked.
-    pub fn signal(&mut self, seat: u8, cond: u8, pick: Pick, entry_known: bool) -> Next
-        requires call { MayCall (monitor_of K.rules T.meaning self.old) self.old.history (Event.Signal seat cond Next.Stay) }
-        requires left { 0 < left_of self.old.budget self.old.history seat }
-        ensures grown { IsGrown K.rules T.meaning self.old (Event.Signal seat cond result) self.new }
-        ensures choice { result ≡ choice_of K.rules T.meaning (situation (monitor_of K.rules T.meaning self.old) self.old.history) (Event.Signal seat cond Next.Stay) entry_known pick }
-    {
-        match rules_of::<K>().mode {
-            Mode::NonBlocking => {
-                self.stays(seat, cond, pick, entry_known);
-                self.append(Event::Signal(seat, cond, Next::Stay));
-                Next::Stay
-            }
-            _ => self.plain_signal(seat, cond, pick, entry_known),
-        }
-    }
-
-    /// Under a non-blocking kind a signal stays.
-    fn stays(&self, seat: u8, cond: u8, pick: Pick, entry_known: bool)
-        requires mode { K.rules.mode ≡ Mode.NonBlocking }
-        requires call { MayCall (monitor_of K.rules T.meaning self.now) self.now.history (Event.Signal seat cond Next.Stay) }
-        ensures choice { Next.Stay ≡ choice_of K.rules T.meaning (situation (monitor_of K.rules T.meaning self.now) self.now.history) (Event.Signal seat cond Next.Stay) entry_known pick }
-        ensures allowed { IsAllowed (monitor_of K.rules T.meaning self.now) self.now.history (Event.Signal seat cond Next.Stay) }
-    {
-        let _ = &self.history;
-    }
-}
-
-/// The choice of a release past no waiters: by the front of the signallers alone.
-fn past_waiters(rules: Rules, front: Option<u8>, entry_known: bool, pick: Pick) -> Next
-    ensures { result ≡ past_waiters (nat_le rules.signaller rules.entry) front entry_known pick }
-{
-    match front {
-        None => Next::Entry,
-        Some(front) => match pick {
-            Pick::Entry if entry_known && rules.signaller <= rules.entry => Next::Entry,
-            _ => Next::Signaller(front),
-        },
-    }
-}
-
 impl<K: Kind, T: Guarded> Floor<K, T> {
-    ghost use Rattle.std.specs.Prelude.{◌≡◌, ◌<◌};
-    ghost use Rattle.monk_history.specs.Meaning.Situation.{situation};
-    ghost use Rattle.monk_history.specs.Meaning.Reasons.{IsAllowed};
-    ghost use Rattle.monk_history.specs.Meaning.Release.{MayCall, choice_of};
-    ghost use Rattle.monk_history.specs.Meaning.Counts.{left_of};
-    ghost use Rattle.monk_floor.specs.View.{monitor_of};
-    ghost use Rattle.monk_floor.specs.Grown.{IsGrown};
-
-    /// A leave, by the path of the kind's mode: under a blocking kind nobody waits to be admitted as a waiter.
-    pub fn leave(&mut self, seat: u8, pick: Pick, entry_known: bool) -> Next
+    /// The active seat leaves the monitor, by the general scheduler step.
+    ///
+    /// The step takes the wish where it is open, else the waiter queue (under automatic kinds the ready seats) before
+    /// the signaller queue, else entry; `entry_known` says whether somebody is known to wait for entry.
+    pub fn plain_leave(&mut self, seat: u8, pick: Pick, entry_known: bool) -> Next
         requires call { MayCall (monitor_of K.rules T.meaning self.old) self.old.history (Event.Leave seat Next.Stay) }
         requires left { 0 < left_of self.old.budget self.old.history seat }
         ensures grown { IsGrown K.rules T.meaning self.old (Event.Leave seat result) self.new }
-        ensures choice { result ≡ choice_of K.rules T.meaning (situation (monitor_of K.rules T.meaning self.old) self.old.history) (Event.Leave seat Next.Stay) entry_known pick }
+        ensures choice { result ≡ choice_of K.rules T.meaning (stands_of K.rules T.meaning self.old) (Event.Leave seat Next.Stay) entry_known pick }
     {
-        match rules_of::<K>().mode {
-            Mode::Blocking => {
-                let next = self.leaves_to(seat, pick, entry_known);
-                self.append(Event::Leave(seat, next));
-                next
-            }
-            _ => self.plain_leave(seat, pick, entry_known),
-        }
+        let next = self.next_by(Event::Leave(seat, Next::Stay), entry_known, pick);
+        self.append(Event::Leave(seat, next));
+        next
     }
 
-    /// What a leave chooses under a blocking kind.
-    fn leaves_to(&self, seat: u8, pick: Pick, entry_known: bool) -> Next
-        requires mode { K.rules.mode ≡ Mode.Blocking }
-        requires call { MayCall (monitor_of K.rules T.meaning self.now) self.now.history (Event.Leave seat Next.Stay) }
-        ensures choice { result ≡ choice_of K.rules T.meaning (situation (monitor_of K.rules T.meaning self.now) self.now.history) (Event.Leave seat Next.Stay) entry_known pick }
-        ensures allowed { IsAllowed (monitor_of K.rules T.meaning self.now) self.now.history (Event.Leave seat result) }
+    /// The active seat waits on a condition variable, by the general scheduler step.
+    pub fn plain_wait(&mut self, seat: u8, cond: u8, pick: Pick, entry_known: bool) -> Next
+        requires call { MayCall (monitor_of K.rules T.meaning self.old) self.old.history (Event.Wait seat cond Next.Stay) }
+        requires left { 0 < left_of self.old.budget self.old.history seat }
+        ensures grown { IsGrown K.rules T.meaning self.old (Event.Wait seat cond result) self.new }
+        ensures choice { result ≡ choice_of K.rules T.meaning (stands_of K.rules T.meaning self.old) (Event.Wait seat cond Next.Stay) entry_known pick }
     {
-        let front = self.ledger.queues.front_signaller(Event::Leave(seat, Next::Stay));
-        past_waiters(rules_of::<K>(), front, entry_known, pick)
+        let next = self.next_by(Event::Wait(seat, cond, Next::Stay), entry_known, pick);
+        self.append(Event::Wait(seat, cond, next));
+        next
+    }
+
+    /// The active seat signals a condition variable, by the general scheduler step. Where nobody waits on it the seat
+    /// stays, and the signal is forgotten.
+    pub fn plain_signal(&mut self, seat: u8, cond: u8, pick: Pick, entry_known: bool) -> Next
+        requires call { MayCall (monitor_of K.rules T.meaning self.old) self.old.history (Event.Signal seat cond Next.Stay) }
+        requires left { 0 < left_of self.old.budget self.old.history seat }
+        ensures grown { IsGrown K.rules T.meaning self.old (Event.Signal seat cond result) self.new }
+        ensures choice { result ≡ choice_of K.rules T.meaning (stands_of K.rules T.meaning self.old) (Event.Signal seat cond Next.Stay) entry_known pick }
+    {
+        let next = self.next_by(Event::Signal(seat, cond, Next::Stay), entry_known, pick);
+        self.append(Event::Signal(seat, cond, next));
+        next
+    }
+
+    /// The active seat signals a condition variable and leaves the monitor, by the general scheduler step.
+    pub fn plain_signal_leave(&mut self, seat: u8, cond: u8, pick: Pick, entry_known: bool) -> Next
+        requires call { MayCall (monitor_of K.rules T.meaning self.old) self.old.history (Event.SignalLeave seat cond Next.Stay) }
+        requires left { 0 < left_of self.old.budget self.old.history seat }
+        ensures grown { IsGrown K.rules T.meaning self.old (Event.SignalLeave seat cond result) self.new }
+        ensures choice { result ≡ choice_of K.rules T.meaning (stands_of K.rules T.meaning self.old) (Event.SignalLeave seat cond Next.Stay) entry_known pick }
+    {
+        let next = self.next_by(Event::SignalLeave(seat, cond, Next::Stay), entry_known, pick);
+        self.append(Event::SignalLeave(seat, cond, next));
+        next
+    }
+
+    /// The active seat waits until a predicate holds, by the general scheduler step. Where it holds at once the seat
+    /// stays.
+    pub fn plain_until(&mut self, seat: u8, pred: u8, pick: Pick, entry_known: bool) -> Next
+        requires call { MayCall (monitor_of K.rules T.meaning self.old) self.old.history (Event.Until seat pred Next.Stay) }
+        requires left { 0 < left_of self.old.budget self.old.history seat }
+        ensures grown { IsGrown K.rules T.meaning self.old (Event.Until seat pred result) self.new }
+        ensures choice { result ≡ choice_of K.rules T.meaning (stands_of K.rules T.meaning self.old) (Event.Until seat pred Next.Stay) entry_known pick }
+    {
+        let next = self.next_by(Event::Until(seat, pred, Next::Stay), entry_known, pick);
+        self.append(Event::Until(seat, pred, next));
+        next
     }
 }

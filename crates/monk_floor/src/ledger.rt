@@ -10,8 +10,8 @@ use std::alloc::{AllocError, Global};
 
 use monk_history::{Event, From3, Next, Turn};
 
-use crate::choosing::seat_of;
-use crate::queues::{Queues, next_of};
+use crate::events::{next_of, seat_of};
+use crate::queues::Queues;
 
 /// Whose turn it is after an event.
 pub fn turn_after(event: Event) -> Turn

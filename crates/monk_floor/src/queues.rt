@@ -9,10 +9,11 @@ use std::marker::Model;
 
 use monk_history::{Event, Next};
 
-use crate::line::Line;
+use crate::events::next_of;
+use crate::seat_queue::SeatQueue;
 
 /// Takes the front of one of the queues.
-pub fn take_front(queues: &mut Vec<Line>, at: u8) -> Option<u8>
+pub fn take_front(queues: &mut Vec<SeatQueue>, at: u8) -> Option<u8>
     requires { at < length queues.old.items }
     ensures front { result ≡ slice_get (lists.queue_at queues.old.items at) 0 }
     ensures rest { (c : ℕ) → lists.queue_at queues.new.items c ≡ (if at == c then drop 1 (lists.queue_at queues.old.items c) else lists.queue_at queues.old.items c) }
@@ -22,7 +23,7 @@ pub fn take_front(queues: &mut Vec<Line>, at: u8) -> Option<u8>
 }
 
 /// Puts a seat at the back of one of the queues.
-pub fn join_back(queues: &mut Vec<Line>, at: u8, seat: u8)
+pub fn join_back(queues: &mut Vec<SeatQueue>, at: u8, seat: u8)
     requires at { at < length queues.old.items }
     requires room { length (lists.queue_at queues.old.items at) < 32 }
     ensures joined { (c : ℕ) → lists.queue_at queues.new.items c ≡ lists.queue_at queues.old.items c ++ (if at == c then seat ∷ [] else []) }
@@ -32,7 +33,7 @@ pub fn join_back(queues: &mut Vec<Line>, at: u8, seat: u8)
 }
 
 /// The front of one of the queues.
-pub fn front_at(queues: &[Line], at: u8) -> Option<u8>
+pub fn front_at(queues: &[SeatQueue], at: u8) -> Option<u8>
     requires { at < length queues.now }
     ensures { result ≡ slice_get (lists.queue_at queues.now at) 0 }
 {
@@ -40,25 +41,11 @@ pub fn front_at(queues: &[Line], at: u8) -> Option<u8>
 }
 
 /// The length of one of the queues.
-pub fn length_at(queues: &[Line], at: u8) -> u32
+pub fn length_at(queues: &[SeatQueue], at: u8) -> u32
     requires { at < length queues.now }
     ensures { result ≡ length (lists.queue_at queues.now at) }
 {
     queues[at as usize].len()
-}
-
-/// What an event chose, if it is a release.
-pub fn next_of(event: Event) -> Option<Next>
-    ensures { result ≡ events.next_of event }
-{
-    match event {
-        Event::Enter(..) | Event::Act(..) | Event::Resume(..) => None,
-        Event::Leave(_, next)
-        | Event::Wait(_, _, next)
-        | Event::Signal(_, _, next)
-        | Event::SignalLeave(_, _, next)
-        | Event::Until(_, _, next) => Some(next),
-    }
 }
 
 /// Whether an event chose a seat of the waits-until.
@@ -96,9 +83,9 @@ pub fn join_untils(untils: &mut Vec<(u8, u8)>, event: Event)
 /// The queues of a floor.
 #[derive(Drop)]
 pub struct Queues {
-    conditions: Vec<Line>,
-    waiters: Line,
-    signallers: Line,
+    conditions: Vec<SeatQueue>,
+    waiters: SeatQueue,
+    signallers: SeatQueue,
     untils: Vec<(u8, u8)>,
 }
 
@@ -129,12 +116,12 @@ impl Queues {
     {
         let mut conditions = Vec::new(alloc);
         for _ in 0..conds {
-            conditions.push(Line::make(alloc)?)?;
+            conditions.push(SeatQueue::make(alloc)?)?;
         }
         Ok(Queues {
             conditions,
-            waiters: Line::make(alloc)?,
-            signallers: Line::make(alloc)?,
+            waiters: SeatQueue::make(alloc)?,
+            signallers: SeatQueue::make(alloc)?,
             untils: Vec::with_capacity(alloc, 32)?,
         })
     }
@@ -152,6 +139,14 @@ impl Queues {
         ensures { result ≡ length (lists.queue_at self.now.conditions cond) }
     {
         length_at(self.conditions.as_slice(), cond)
+    }
+
+    /// The front of a condition's queue.
+    pub fn front_of(&self, cond: u8) -> Option<u8>
+        requires { cond < length self.now.conditions }
+        ensures { result ≡ slice_get (lists.queue_at self.now.conditions cond) 0 }
+    {
+        front_at(&self.conditions, cond)
     }
 
     /// Whether an event signals a condition on which nobody waits.
