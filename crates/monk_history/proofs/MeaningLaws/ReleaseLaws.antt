@@ -194,7 +194,7 @@ cond_le_one : (b : Bool) → ◌≤◌ (cond b 1 0) 1
 cond_le_one true = omega arith
 cond_le_one false = omega arith
 
-times_filter : (o : Object) (d : List ℕ) (us : List (ℕ × ℕ)) (j : ℕ) → times j (ready_of o d us) ≤ times j (map (λ w. w.0) us)
+pub times_filter : (o : Object) (d : List ℕ) (us : List (ℕ × ℕ)) (j : ℕ) → times j (ready_of o d us) ≤ times j (map (λ w. w.0) us)
 times_filter o d [] j = omega arith
 times_filter o d (u ∷ us) j = one (o.holds d u.1) (times_filter o d us j)
   where
@@ -307,7 +307,7 @@ room_for m t i l p s a = record {
     (length_few m.seats i (map (λ w. w.0) t.untils) l (λ j n. omega (arith, p j, far_none m.seats j t s n)) (λ j. omega (arith, p j, cond_le_one (t.inside j))) a.untils) }
 
 -- whoever stands in a queue of a release is a seat
-serves_times : (n : ℕ) (q : ℕ → List ℕ) (e : Event) (j : ℕ) → is_condition n (signals_on e) ≡ true → times j (serves q e) ≤ times_in_conditions n j q
+pub serves_times : (n : ℕ) (q : ℕ → List ℕ) (e : Event) (j : ℕ) → is_condition n (signals_on e) ≡ true → times j (serves q e) ≤ times_in_conditions n j q
 serves_times n q (Enter s via) j h = omega arith
 serves_times n q (Act s op r) j h = omega arith
 serves_times n q (Leave s x) j h = omega arith
@@ -321,7 +321,7 @@ one_caller : (b : Bool) (s j : ℕ) → 1 ≤ times j (cond b [] (s ∷ [])) →
 one_caller true s j h = absurd (omega (arith, h))
 one_caller false s j h = eqb-true s j (some_true (s == j) (omega (arith, h)))
 
-caller_signals : (q : ℕ → List ℕ) (e : Event) (j : ℕ) → 1 ≤ times j (signals q e) → seat_of e ≡ j
+pub caller_signals : (q : ℕ → List ℕ) (e : Event) (j : ℕ) → 1 ≤ times j (signals q e) → seat_of e ≡ j
 caller_signals q (Enter s via) j h = absurd (omega (arith, h))
 caller_signals q (Act s op r) j h = absurd (omega (arith, h))
 caller_signals q (Leave s x) j h = absurd (omega (arith, h))

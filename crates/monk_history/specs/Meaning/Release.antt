@@ -25,6 +25,17 @@ pub record MayCallIn (m : Monitor) (t : Situation) (e : Event) : Type 0 where
 abbrev pub MayCall : Monitor → List Event → Event → Type 0
 MayCall m h e = MayCallIn m (situation m h) e
 
+-- the event as a caller knows it: written with `stay` and reply 0
+abbrev pub as_called : Event → Event
+as_called (Enter s via) = Enter s via
+as_called (Act s op r) = Act s op 0
+as_called (Leave s x) = Leave s Stay
+as_called (Wait s c x) = Wait s c Stay
+as_called (Signal s c x) = Signal s c Stay
+as_called (SignalLeave s c x) = SignalLeave s c Stay
+as_called (Until s p x) = Until s p Stay
+as_called (Resume s q) = Resume s q
+
 -- the releasing event with this choice
 abbrev pub with_next : Next → Event → Event
 with_next x (Enter s via) = Enter s via
