@@ -1,7 +1,7 @@
 //! The stream that names an ordering of three priorities.
 
 ghost use Rattle.std.specs.Prelude.{◌≡◌, true, false, IfOk, OnOk, OnErr, Err};
-ghost use Rattle.monk_kinds.specs.Orderings.{is_ordered};
+ghost use Rattle.monk_kinds.specs.Orderings.{IsOrdered};
 ghost use Rattle.monk_kinds.specs.declared.ordering.Ordering13.{Ordering13};
 ghost use Rattle.monk_history.specs.Text.Device.{has_failed, Writes};
 ghost use Rattle.monk.specs.Classified.{ordering_lines};
@@ -27,7 +27,7 @@ pub fn classify_stream<W: Write>(
 ) -> Result<u8, StreamFault>
     requires { has_failed writer.old ≡ false }
     ensures zero { IfOk result (λ status. status ≡ 0) }
-    ensures lines { IfOk result (λ status. (o : Ordering13) × ((is_ordered e w s o ≡ true) × Writes W.contents writer.old writer.new (ordering_lines o))) }
+    ensures lines { IfOk result (λ status. (o : Ordering13) × (IsOrdered o e w s × Writes W.contents writer.old writer.new (ordering_lines o))) }
     ensures file { OnErr result ((result ≡ Err StreamFault.File) × (has_failed writer.new ≡ true)) }
 {
     match put_ordering(classify(e, w, s), writer) {
