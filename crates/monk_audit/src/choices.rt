@@ -5,7 +5,6 @@ ghost use Rattle.monk_history.specs.Meaning.Choice as choice;
 ghost use Rattle.monk_audit.specs.Just.{just};
 ghost use Rattle.monk_audit.specs.Settled.{permits};
 
-use crate::moves::next_of;
 use monk_history::{Event, Next};
 use monk_kinds::{Mode, Rules};
 
@@ -22,7 +21,7 @@ pub fn permits(
     ensures { result ≡ permits rules (record { waiters = waiters.now; signallers = signallers.now; ready = just ready }) stays event }
 {
     if stays {
-        next_of(event) == Some(Next::Stay)
+        event.next() == Some(Next::Stay)
     } else {
         chooses_well(rules, waiters, signallers, ready, event)
     }

@@ -1,0 +1,24 @@
+//! Who is inside after an event.
+
+ghost use Rattle.std.specs.Prelude.{◌≡◌, ℕ, ◌<◌, OnOk, Bool, false, true, ◌&&◌, ◌||◌, not, List, [], ◌∷◌, ◌++◌, drop, length, slice_index_or, if◌then◌else◌};
+ghost use Rattle.monk_history.specs.Meaning.Events as events;
+ghost use Rattle.monk_history.specs.Meaning.Turn as turns;
+
+use monk_history::Event;
+
+/// Notes who is inside after an event.
+#[inline(always)]
+pub fn mark_inside(inside: &mut [bool], event: Event)
+    requires { events.seat_of event < length inside.old }
+    ensures { (j : ℕ) → slice_index_or inside.new j false ≡ (slice_index_or inside.old j false && not (turns.leaves j event)) || turns.enters j event }
+{
+    match event {
+        Event::Enter(seat, _) => inside[seat as usize] = true,
+        Event::Leave(seat, _) | Event::SignalLeave(seat, ..) => inside[seat as usize] = false,
+        Event::Act(..)
+        | Event::Wait(..)
+        | Event::Signal(..)
+        | Event::Until(..)
+        | Event::Resume(..) => {}
+    }
+}
