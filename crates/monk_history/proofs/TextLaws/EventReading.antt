@@ -1,5 +1,5 @@
 -- What is read as an event is how it is written, and an event that is written is read again.
-use Rattle.std.proofs.Common.{◌-◌, lit<, ◌≡◌, ℕ, ◌≤◌, ◌^◌, List, [], ◌∷◌, ◌++◌, Some, Result, Ok, refl, sym, ap, subst, ◌∙◌}
+use Rattle.std.proofs.Common.{◌-◌, lit<, ◌≡◌, ℕ, ◌≤◌, ◌^◌, List, [], ◌∷◌, ◌++◌, Some, Ok, refl, sym, ap, subst, ◌∙◌}
 use Rattle.std.specs.Fmt.{decimal}
 use Rattle.std.proofs.lemmas.List.{append-nil}
 use Rattle.monk_history.specs.declared.event.Event.{Event}
@@ -18,7 +18,7 @@ use Rattle.monk_history.specs.declared.text.verb.Verb.{Verb}
 use Rattle.monk_history.specs.declared.text.verb.Verb.TheVariants as verb
 use Rattle.monk_kinds.specs.Names.{written}
 use Rattle.monk_history.specs.Text.{via_word, from_word, next_words, event_words, NextFits, EventFits}
-use Rattle.monk_history.specs.Text.Words.{◌>>=◌, Word, Taken, number_at, one_of, end_at}
+use Rattle.monk_history.specs.Text.Words.{◌>>=◌, Word, number_at, one_of, end_at}
 use Rattle.monk_history.specs.Text.Reading.{vias, froms, next_word, all_next_words, next_after, next_at, verb_word, verbs, cond_next_at, act_at, event_after, event_at}
 use Rattle.monk_history.proofs.TextLaws.WordReaders.{bind_ok, ok_is, number_takes, number_again, one_of_takes, one_of_again, end_takes}
 

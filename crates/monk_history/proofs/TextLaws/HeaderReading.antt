@@ -1,5 +1,5 @@
 -- What is read as a header is how it is written, and a header that is written is read again.
-use Rattle.std.proofs.Common.{lit<, ◌≡◌, ℕ, ◌≤◌, Bool, true, false, cond, List, [], ◌∷◌, Some, None, Result, Ok, refl, sym, subst, arith}
+use Rattle.std.proofs.Common.{lit<, ◌≡◌, ℕ, ◌≤◌, Bool, true, false, cond, List, [], ◌∷◌, Some, None, Ok, refl, sym, subst, arith}
 use Rattle.std.specs.Prelude.{◌&&◌, nat_le, codes}
 use Rattle.std.specs.Fmt.{decimal}
 use Rattle.std.proofs.lemmas.Bool.{leb-true, le-leb}

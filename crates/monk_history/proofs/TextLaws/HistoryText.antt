@@ -6,7 +6,7 @@ use Rattle.monk_history.specs.declared.event.Event.{Event}
 use Rattle.monk_history.specs.declared.text.fault.ReadFault.{ReadFault}
 use Rattle.monk_history.specs.Text.{Heading, text, header_words, event_words, IsHeading, EventFits, HasText}
 use Rattle.monk_history.specs.Text.Lines.{Gives}
-use Rattle.monk_history.specs.Text.Reading.{History, history, view, header_at, event_at, event_under, text_at}
+use Rattle.monk_history.specs.Text.Reading.{History, history, view, header_at, event_under, text_at}
 use Rattle.monk_history.proofs.TextLaws.TextFormats as formats
 use Rattle.monk_history.proofs.TextLaws.TextFormats.{IsFormat}
 use Rattle.monk_history.proofs.TextLaws.PlainWords.{event_are_words, header_are_words, some_word}

@@ -1,5 +1,5 @@
 -- No word of an event or of a header has a byte 32 or 10.
-use Rattle.std.proofs.Common.{◌≡◌, ℕ, ◌≤◌, ◌<◌, length, refl, arith}
+use Rattle.std.proofs.Common.{ℕ, ◌≤◌, ◌<◌, length, refl, arith}
 use Rattle.std.specs.Fmt.{decimal}
 use Rattle.monk_history.specs.declared.event.Event.{Event}
 use Rattle.monk_history.specs.declared.event.Event.TheVariants.{Enter, Act, Leave, Wait, Signal, SignalLeave, Until, Resume}

@@ -9,7 +9,7 @@ use Rattle.std.proofs.lemmas.Slice.Eq.{bytes_eq-Decides}
 use Rattle.monk_history.specs.declared.text.fault.Flaw.{Flaw}
 use Rattle.monk_history.specs.declared.text.fault.Flaw.TheVariants as flaw
 use Rattle.monk_kinds.specs.Names.{written}
-use Rattle.monk_history.specs.Text.Words.{◌>>=◌, Word, Taken, is_number, number_at, with_rest, one_of, literal_at, end_at}
+use Rattle.monk_history.specs.Text.Words.{◌>>=◌, Word, is_number, number_at, with_rest, one_of, literal_at, end_at}
 use Rattle.monk_history.proofs.TextLaws.NumberWords.{is_number_decimal}
 use Rattle.monk_history.proofs.TextLaws.LineCuts.{both}
 
