@@ -10,7 +10,7 @@ use Rattle.monk_history.specs.declared.text.fault.Flaw.{Flaw}
 use Rattle.monk_history.specs.declared.text.fault.Flaw.TheVariants as flaw
 use Rattle.monk_kinds.specs.Names.{written}
 use Rattle.monk_history.specs.Text.Words.{◌>>=◌, Word, is_number, number_at, with_rest, one_of, literal_at, end_at}
-use Rattle.monk_history.proofs.TextLaws.NumberWords.{is_number_decimal}
+use Rattle.monk_history.proofs.TextLaws.NumberWords.{is_number_decimal, is_number_too_great}
 use Rattle.monk_history.proofs.TextLaws.LineCuts.{both}
 
 -- the value of a step that did not fail
@@ -45,6 +45,11 @@ unfolding number_at
 number_again most n ws lt le =
     let h = is_number_decimal most n lt le in
     rw (h.0, h.1) refl
+
+pub number_refused : (most n : ℕ) (ws : List Word) → n < 2 ^ 64 → most < n → number_at most (decimal n ∷ ws) ≡ Err flaw.Number
+unfolding number_at
+number_refused most n ws lt great =
+    rw (is_number_too_great most n lt great) refl
 
 -- ---- one of several words
 

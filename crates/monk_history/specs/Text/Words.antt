@@ -1,6 +1,6 @@
 -- The words of a line: what is taken from their front is a value and the words behind it, or a flaw.
-use Rattle.std.specs.Prelude.{◌≡◌, ℕ, List, [], ◌∷◌, Bool, Option, Some, None, Result, Ok, Err, nat_le, ◌==◌, ◌&&◌, if◌then◌else◌}
-use Rattle.std.specs.List.{slice_split}
+use Rattle.std.specs.Prelude.{◌≡◌, ℕ, List, [], ◌∷◌, Bool, true, false, not, Option, Some, None, Result, Ok, Err, nat_le, ◌==◌, ◌&&◌, if◌then◌else◌}
+use Rattle.std.specs.List.{slice_split, list_all}
 use Rattle.std.specs.Str.{bytes_eq}
 use Rattle.std.specs.Str.Parse.{digits_value}
 use Rattle.std.specs.Fmt.{decimal}
@@ -54,6 +54,15 @@ literal_at l (w ∷ ws) = if bytes_eq w l then Ok (tt, ws) else Err flaw.Word
 abbrev pub end_at : List Word → Taken (Unit {0})
 end_at [] = Ok (tt, [])
 end_at (w ∷ ws) = Err flaw.Word
+
+-- a word with no byte 32
+abbrev pub is_unbroken : Word → Bool
+is_unbroken w = list_all (λ b. not (b == 32)) w
+
+-- whether the next word is that one
+abbrev pub is_next : Word → List Word → Bool
+is_next w [] = false
+is_next w (v ∷ vs) = bytes_eq v w
 
 -- what a reader of words returned and left is what is taken from them
 abbrev pub Reads : {A : Type 0} → Result A Flaw → List Word → Taken A → Type 0

@@ -1,7 +1,6 @@
 //! An event, read from the words of its line.
 
 ghost use Rattle.std.specs.Prelude.{◌≡◌, ◌-◌, ◌^◌};
-ghost use Rattle.monk_kinds.specs.Names.{written};
 ghost use Rattle.monk_history.specs.Text.{via_word, from_word};
 ghost use Rattle.monk_history.specs.Text.Words.{Reads, one_of};
 ghost use Rattle.monk_history.specs.Text.Reading.{vias, froms, next_word, all_next_words, verb_word, verbs, next_at, cond_next_at, act_at, event_after, event_at};
@@ -94,7 +93,7 @@ fn cond_next(words: &mut Words<'_>) -> Result<(u8, Next), Flaw>
 fn next(words: &mut Words<'_>) -> Result<Next, Flaw>
     ensures { Reads result words.new (next_at words.old) }
 {
-    Ok(match first_of_next(words)? {
+    Ok(match next_word(words)? {
         NextWord::Stay => Next::Stay,
         NextWord::Entry => Next::Entry,
         NextWord::Waiter => Next::Waiter(words.byte()?),
@@ -103,60 +102,78 @@ fn next(words: &mut Words<'_>) -> Result<Next, Flaw>
     })
 }
 
-#[tactic(auto, unfolding(crate::specs::Text::Words::one_of))]
+#[tactic(auto, using(crate::proofs::TextLaws::EventWords::verb_words))]
+#[inline(always)]
 fn verb(words: &mut Words<'_>) -> Result<Verb, Flaw>
     ensures { Reads result words.new (one_of verb_word verbs words.old) }
 {
-    let word = words.next().ok_or(Flaw::Word)?;
-    Verb::of_text(word).ok_or(Flaw::Word)
-}
-
-#[tactic(auto, unfolding(crate::specs::Text::Words::one_of))]
-fn first_of_next(words: &mut Words<'_>) -> Result<NextWord, Flaw>
-    ensures { Reads result words.new (one_of next_word all_next_words words.old) }
-{
-    let word = words.next().ok_or(Flaw::Word)?;
-    NextWord::of_text(word).ok_or(Flaw::Word)
-}
-
-#[tactic(auto, unfolding(crate::specs::Text::Words::one_of))]
-fn via(words: &mut Words<'_>) -> Result<Via, Flaw>
-    ensures { Reads result words.new (one_of via_word vias words.old) }
-{
-    let word = words.next().ok_or(Flaw::Word)?;
-    via_of(word).ok_or(Flaw::Word)
-}
-
-#[tactic(auto, unfolding(crate::specs::Text::Words::one_of))]
-fn from(words: &mut Words<'_>) -> Result<From3, Flaw>
-    ensures { Reads result words.new (one_of from_word froms words.old) }
-{
-    let word = words.next().ok_or(Flaw::Word)?;
-    from_of(word).ok_or(Flaw::Word)
-}
-
-fn via_of(word: &[u8]) -> Option<Via>
-    ensures { result ≡ written via_word vias word.now }
-{
-    if word == b"free".as_slice() {
-        Some(Via::Free)
-    } else if word == b"handed".as_slice() {
-        Some(Via::Handed)
+    if words.takes(b"enter") {
+        Ok(Verb::Enter)
+    } else if words.takes(b"act") {
+        Ok(Verb::Act)
+    } else if words.takes(b"leave") {
+        Ok(Verb::Leave)
+    } else if words.takes(b"wait") {
+        Ok(Verb::Wait)
+    } else if words.takes(b"signal") {
+        Ok(Verb::Signal)
+    } else if words.takes(b"signal-leave") {
+        Ok(Verb::SignalLeave)
+    } else if words.takes(b"until") {
+        Ok(Verb::Until)
+    } else if words.takes(b"resume") {
+        Ok(Verb::Resume)
     } else {
-        None
+        Err(Flaw::Word)
     }
 }
 
-fn from_of(word: &[u8]) -> Option<From3>
-    ensures { result ≡ written from_word froms word.now }
+#[tactic(auto, using(crate::proofs::TextLaws::EventWords::next_words))]
+#[inline(always)]
+fn next_word(words: &mut Words<'_>) -> Result<NextWord, Flaw>
+    ensures { Reads result words.new (one_of next_word all_next_words words.old) }
 {
-    if word == b"waiter".as_slice() {
-        Some(From3::Waiter)
-    } else if word == b"signaller".as_slice() {
-        Some(From3::Signaller)
-    } else if word == b"until".as_slice() {
-        Some(From3::Until)
+    if words.takes(b"stay") {
+        Ok(NextWord::Stay)
+    } else if words.takes(b"entry") {
+        Ok(NextWord::Entry)
+    } else if words.takes(b"waiter") {
+        Ok(NextWord::Waiter)
+    } else if words.takes(b"signaller") {
+        Ok(NextWord::Signaller)
+    } else if words.takes(b"until") {
+        Ok(NextWord::Until)
     } else {
-        None
+        Err(Flaw::Word)
+    }
+}
+
+#[tactic(auto, using(crate::proofs::TextLaws::EventWords::via_words))]
+#[inline(always)]
+fn via(words: &mut Words<'_>) -> Result<Via, Flaw>
+    ensures { Reads result words.new (one_of via_word vias words.old) }
+{
+    if words.takes(b"free") {
+        Ok(Via::Free)
+    } else if words.takes(b"handed") {
+        Ok(Via::Handed)
+    } else {
+        Err(Flaw::Word)
+    }
+}
+
+#[tactic(auto, using(crate::proofs::TextLaws::EventWords::from_words))]
+#[inline(always)]
+fn from(words: &mut Words<'_>) -> Result<From3, Flaw>
+    ensures { Reads result words.new (one_of from_word froms words.old) }
+{
+    if words.takes(b"waiter") {
+        Ok(From3::Waiter)
+    } else if words.takes(b"signaller") {
+        Ok(From3::Signaller)
+    } else if words.takes(b"until") {
+        Ok(From3::Until)
+    } else {
+        Err(Flaw::Word)
     }
 }

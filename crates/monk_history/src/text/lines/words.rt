@@ -1,10 +1,11 @@
 //! The words of a line, taken from left to right.
 
-ghost use Rattle.std.specs.Prelude.{◌≡◌, ◌∷◌, [], List, ℕ, ◌≤◌, MatchOption, IfOk};
+ghost use Rattle.std.specs.Prelude.{◌≡◌, ◌∷◌, [], List, ℕ, ◌≤◌, true, false, MatchOption, IfOk, decimal};
 ghost use Rattle.std.specs.Option.{option_copied};
-ghost use Rattle.monk_history.specs.Text.Words.{Reads, words_of, words_left, number_at, literal_at, end_at};
+ghost use Rattle.monk_history.specs.Text.Words.{Reads, words_of, words_left, is_unbroken, is_next, number_at, literal_at, end_at};
 
 use crate::text::fault::Flaw;
+use crate::text::lines::front::{left_behind_digit, left_behind_word};
 use crate::text::lines::numbers::number_of;
 use crate::text::lines::split::split_once;
 use std::marker::Model;
@@ -48,9 +49,55 @@ impl<'a> Words<'a> {
         }
     }
 
+    /// Takes that word where it is the next, and else no word. Answers whether it did.
+    #[inline(always)]
+    pub fn takes(&mut self, word: &[u8]) -> bool
+        requires { is_unbroken word.now ≡ true }
+        ensures is { result ≡ is_next word.now self.old }
+        ensures taken { result ≡ true → self.old ≡ word.now ∷ self.new }
+        ensures left { result ≡ false → self.old ≡ self.new }
+    {
+        let Some(line) = self.rest else {
+            return false;
+        };
+        let Some(left) = left_behind_word(line, word) else {
+            return false;
+        };
+        self.rest = left;
+        true
+    }
+
+    /// Takes the next word where it is a single digit, and else no word.
+    #[inline(always)]
+    fn digit(&mut self) -> Option<u8>
+        ensures { MatchOption result (self.new ≡ self.old) (λ n. (self.old ≡ decimal n ∷ self.new) × (n ≤ 9)) }
+    {
+        let (digit, left) = left_behind_digit(self.rest?)?;
+        self.rest = left;
+        Some(digit)
+    }
+
     /// Takes a number from 0 to `most`. [`Flaw::Word`] where no word is left, [`Flaw::Number`] where it is no such number.
-    #[tactic(auto, unfolding(crate::specs::Text::Words::number_at))]
+    #[tactic(auto, using(crate::proofs::TextLaws::WordReaders::number_again, crate::proofs::TextLaws::WordReaders::number_refused))]
+    #[inline(always)]
     pub fn number(&mut self, most: u64) -> Result<u64, Flaw>
+        ensures reads { Reads result self.new (number_at most self.old) }
+        ensures within { IfOk result (λ n. n ≤ most) }
+    {
+        if let Some(digit) = self.digit() {
+            let number = u64::from(digit);
+            return if number <= most {
+                Ok(number)
+            } else {
+                Err(Flaw::Number)
+            };
+        }
+        self.long_number(most)
+    }
+
+    #[tactic(auto, unfolding(crate::specs::Text::Words::number_at))]
+    #[inline(never)]
+    fn long_number(&mut self, most: u64) -> Result<u64, Flaw>
         ensures reads { Reads result self.new (number_at most self.old) }
         ensures within { IfOk result (λ n. n ≤ most) }
     {
@@ -59,12 +106,11 @@ impl<'a> Words<'a> {
     }
 
     /// Takes a number from 0 to 255, with the flaws of [`Words::number`].
-    #[tactic(auto, unfolding(crate::specs::Text::Words::number_at))]
+    #[inline(always)]
     pub fn byte(&mut self) -> Result<u8, Flaw>
         ensures { Reads result self.new (number_at 255 self.old) }
     {
-        let word = self.next().ok_or(Flaw::Word)?;
-        let number = number_of(word, 255).ok_or(Flaw::Number)?;
+        let number = self.number(255)?;
         Ok(number as u8)
     }
 
