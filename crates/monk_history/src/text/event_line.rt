@@ -27,6 +27,7 @@ impl Record<Header> for Event {
 }
 
 #[tactic(auto, unfolding(crate::specs::Text::Reading::event_at))]
+#[inline(always)]
 fn event(words: &mut Words<'_>) -> Result<Event, Flaw>
     ensures { Reads result words.new (event_at words.old) }
 {
@@ -38,6 +39,7 @@ fn event(words: &mut Words<'_>) -> Result<Event, Flaw>
 }
 
 #[tactic(auto, unfolding(crate::specs::Text::Reading::event_after))]
+#[inline(always)]
 fn event_after(words: &mut Words<'_>, verb: Verb, seat: u8) -> Result<Event, Flaw>
     ensures { Reads result words.new (event_after verb seat words.old) }
 {
@@ -70,6 +72,7 @@ fn event_after(words: &mut Words<'_>, verb: Verb, seat: u8) -> Result<Event, Fla
 
 /// A code, an argument and a reply.
 #[tactic(auto, unfolding(crate::specs::Text::Reading::act_at))]
+#[inline(always)]
 fn act(words: &mut Words<'_>) -> Result<(Op, u64), Flaw>
     ensures { Reads result words.new (act_at words.old) }
 {
@@ -81,6 +84,7 @@ fn act(words: &mut Words<'_>) -> Result<(Op, u64), Flaw>
 
 /// A condition or a predicate, and a next.
 #[tactic(auto, unfolding(crate::specs::Text::Reading::cond_next_at))]
+#[inline(always)]
 fn cond_next(words: &mut Words<'_>) -> Result<(u8, Next), Flaw>
     ensures { Reads result words.new (cond_next_at words.old) }
 {
@@ -90,6 +94,7 @@ fn cond_next(words: &mut Words<'_>) -> Result<(u8, Next), Flaw>
 }
 
 #[tactic(auto, unfolding(crate::specs::Text::Reading::next_at))]
+#[inline(always)]
 fn next(words: &mut Words<'_>) -> Result<Next, Flaw>
     ensures { Reads result words.new (next_at words.old) }
 {

@@ -92,17 +92,9 @@ impl<'a> Words<'a> {
                 Err(Flaw::Number)
             };
         }
-        self.long_number(most)
-    }
-
-    #[tactic(auto, unfolding(crate::specs::Text::Words::number_at))]
-    #[inline(never)]
-    fn long_number(&mut self, most: u64) -> Result<u64, Flaw>
-        ensures reads { Reads result self.new (number_at most self.old) }
-        ensures within { IfOk result (λ n. n ≤ most) }
-    {
-        let word = self.next().ok_or(Flaw::Word)?;
-        number_of(word, most).ok_or(Flaw::Number)
+        let (number, rest) = any_number(self.rest, most);
+        self.rest = rest;
+        number
     }
 
     /// Takes a number from 0 to 255, with the flaws of [`Words::number`].
@@ -135,4 +127,20 @@ impl<'a> Words<'a> {
             Some(_) => Err(Flaw::Word),
         }
     }
+}
+
+/// A number of any length from the front of a line, and what is left of the line.
+///
+/// It takes the line by value, so that callers keep theirs in registers.
+#[tactic(auto, unfolding(crate::specs::Text::Words::number_at))]
+#[inline(never)]
+fn any_number(line: Option<&[u8]>, most: u64) -> (Result<u64, Flaw>, Option<&[u8]>)
+    ensures reads { Reads result.0 (words_left (option_copied result.1)) (number_at most (words_left (option_copied line.entry))) }
+    ensures within { IfOk result.0 (λ n. n ≤ most) }
+{
+    let mut words = Words { rest: line };
+    let Some(word) = words.next() else {
+        return (Err(Flaw::Word), None);
+    };
+    (number_of(word, most).ok_or(Flaw::Number), words.rest)
 }
