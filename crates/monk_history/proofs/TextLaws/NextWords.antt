@@ -1,0 +1,69 @@
+-- What stands at the front of a line is its next word where the line ends behind it, or a byte 32 follows.
+use Rattle.std.proofs.Common.{◌≡◌, ◌==◌, ◌≢◌, ℕ, ◌-◌, ◌+◌, ◌≤◌, Bool, true, false, List, [], ◌∷◌, ◌++◌, length, take, drop, refl, sym, ap, ◌∙◌, arith}
+use Rattle.std.specs.Prelude.{not}
+use Rattle.std.specs.Char.{IsAsciiDigit}
+use Rattle.std.specs.Fmt.{decimal}
+use Rattle.std.specs.Str.{bytes_eq}
+use Rattle.std.specs.List.{slice_split, list_all, join_with_byte}
+use Rattle.std.proofs.Math.Seq.{take-append_seam, drop-append_seam}
+use Rattle.std.proofs.lemmas.List.{append-nil}
+use Rattle.std.proofs.lemmas.List.Splits.{join_with_byte-slice_split}
+use Rattle.std.proofs.lemmas.Bool.Decides.{nat_tests}
+use Rattle.std.proofs.lemmas.Fmt.{decimal_digit}
+use Rattle.std.proofs.lemmas.Slice.Eq.{bytes_eq-Decides}
+use Rattle.monk_history.specs.Text.Words.{Word, words_of, is_unbroken, is_next}
+use Rattle.monk_history.proofs.TextLaws.LineCuts.{cut_at, cut_none}
+
+pub words-last : (word : Word) → is_unbroken word ≡ true → words_of (word ++ []) ≡ word ∷ []
+words-last word plain = ap words_of (append-nil word) ∙ cut_none (λ b. b == 32) word plain
+
+pub words-more : (word rest : List ℕ) → is_unbroken word ≡ true → words_of (word ++ 32 ∷ rest) ≡ word ∷ words_of rest
+words-more word rest plain = cut_at (λ b. b == 32) word 32 rest plain refl
+
+pub is_next-first : (word : Word) (ws : List Word) → is_next word (word ∷ ws) ≡ true
+is_next-first word ws = (bytes_eq-Decides word word).1 refl
+
+not_true : (b : Bool) → (b ≡ true → ⊥) → b ≡ false
+not_true true h = absurd (h refl)
+not_true false h = refl
+
+-- the bytes of a line whose next word is that one
+begins : (word : Word) (parts : List Word) (bytes : List ℕ) → join_with_byte 32 parts ≡ bytes → is_next word parts ≡ true → (rest : List ℕ) × (bytes ≡ word ++ rest) × (rest ≢ [] → (after : List ℕ) × (rest ≡ 32 ∷ after))
+begins word [] bytes same is = absurd cc
+begins word (v ∷ []) bytes same is =
+    let e : v ≡ word = (bytes_eq-Decides v word).0 is in
+    ([], sym same ∙ e ∙ sym (append-nil word), λ some. absurd (some refl))
+begins word (v ∷ w ∷ ws) bytes same is =
+    let e : v ≡ word = (bytes_eq-Decides v word).0 is in
+    (32 ∷ join_with_byte 32 (w ∷ ws), sym same ∙ ap (λ (x : List ℕ). x ++ 32 ∷ join_with_byte 32 (w ∷ ws)) e, λ some. (join_with_byte 32 (w ∷ ws), refl))
+
+begins_with : (word bytes : List ℕ) → is_next word (words_of bytes) ≡ true → (rest : List ℕ) × (bytes ≡ word ++ rest) × (rest ≢ [] → (after : List ℕ) × (rest ≡ 32 ∷ after))
+begins_with word bytes is = begins word (words_of bytes) bytes (join_with_byte-slice_split 32 bytes) is
+
+pub is_next-other : (word bytes : List ℕ) → take (length word) bytes ≢ word → is_next word (words_of bytes) ≡ false
+is_next-other word bytes other =
+    not_true _ (λ is. let h = begins_with word bytes is in other (ap (take (length word)) h.1 ∙ take-append_seam word h.0))
+
+pub is_next-longer : (word rest : List ℕ) (c : ℕ) → c ≢ 32 → is_next word (words_of (word ++ c ∷ rest)) ≡ false
+is_next-longer word rest c ne =
+    not_true _ (λ is.
+    let h = begins_with word (word ++ c ∷ rest) is in
+    let same : c ∷ rest ≡ h.0 = sym (drop-append_seam word (c ∷ rest)) ∙ ap (drop (length word)) h.1 ∙ drop-append_seam word h.0 in
+    let some : h.0 ≢ [] = λ none. let bad : c ∷ rest ≡ [] = same ∙ none in absurd cc in
+    let h2 = h.2 some in
+    let first : c ∷ rest ≡ 32 ∷ h2.0 = same ∙ h2.1 in
+    ne (cc))
+
+-- ---- a word of one digit
+
+digit-unbroken : (d : ℕ) → 48 ≤ d → is_unbroken (d ∷ []) ≡ true
+digit-unbroken d low = grind (arith, nat_tests)
+
+decimal-byte : (d : ℕ) → 48 ≤ d → d ≤ 57 → decimal (d - 48) ≡ d ∷ []
+decimal-byte d low high = decimal_digit (d - 48) (omega arith) ∙ ap (λ n. n ∷ []) (omega arith)
+
+pub digit-first : (d : ℕ) (line behind : List ℕ) (left : List Word) → line ≡ d ∷ behind → IsAsciiDigit d → (is_unbroken (d ∷ []) ≡ true → words_of ((d ∷ []) ++ behind) ≡ (d ∷ []) ∷ left) → (words_of line ≡ decimal (d - 48) ∷ left) × (d - 48 ≤ 9)
+digit-first d line behind left is digit cut =
+    let low : 48 ≤ d = omega arith in
+    let high : d ≤ 57 = omega arith in
+    (ap words_of is ∙ cut (digit-unbroken d low) ∙ ap (λ (w : Word). w ∷ left) (sym (decimal-byte d low high)), omega arith)

@@ -1,0 +1,72 @@
+-- No word of an event or of a header has a byte 32 or 10.
+use Rattle.std.proofs.Common.{ℕ, ◌≤◌, ◌<◌, length, refl, arith}
+use Rattle.std.specs.Fmt.{decimal}
+use Rattle.monk_history.specs.declared.event.Event.{Event}
+use Rattle.monk_history.specs.declared.event.Event.TheVariants.{Enter, Act, Leave, Wait, Signal, SignalLeave, Until, Resume}
+use Rattle.monk_history.specs.declared.event.Via.TheVariants.{Free, Handed}
+use Rattle.monk_history.specs.declared.event.From3.TheVariants as from
+use Rattle.monk_history.specs.declared.event.Next.{Next}
+use Rattle.monk_history.specs.declared.event.Next.TheVariants.{Stay, Entry, Waiter, Signaller}
+use Rattle.monk_history.specs.declared.event.Next.TheVariants as next
+use Rattle.monk_kinds.specs.declared.name.KindName.{KindName}
+use Rattle.monk_kinds.specs.declared.name.KindName.TheVariants.{Pb, Npb, Pnb, Npnb, Pqb, Npqb, Pir, Npir, Pis, Npis}
+use Rattle.monk_object.specs.declared.name.ObjectName.{ObjectName}
+use Rattle.monk_object.specs.declared.name.ObjectName.TheVariants.{Buffer, Book, Shop}
+use Rattle.monk_kinds.specs.Names.{kind_word}
+use Rattle.monk_object.specs.Names.{object_word}
+use Rattle.monk_history.specs.Text.{Heading, next_words, event_words, header_words, IsHeading, NextFits, EventFits}
+use Rattle.monk_history.proofs.TextLaws.LineCuts.{AreWords, IsWord, IsWord-decimal}
+
+decimal_word : (n : ℕ) → n ≤ 255 → IsWord (decimal n)
+decimal_word n le = IsWord-decimal n (omega arith)
+
+next_are_words : (n : Next) → NextFits n → AreWords (next_words n)
+next_are_words Stay fits = refl
+next_are_words Entry fits = refl
+next_are_words (Waiter j) fits = rw (decimal_word j fits) refl
+next_are_words (Signaller j) fits = rw (decimal_word j fits) refl
+next_are_words (next.Until j) fits = rw (decimal_word j fits) refl
+
+pub event_are_words : (e : Event) → EventFits e → AreWords (event_words e)
+event_are_words (Enter s Free) fits = rw (decimal_word s fits) refl
+event_are_words (Enter s Handed) fits = rw (decimal_word s fits) refl
+event_are_words (Leave s n) fits = rw (decimal_word s fits.0, next_are_words n fits.1) refl
+event_are_words (Wait s c n) fits = rw (decimal_word s fits.0, decimal_word c fits.1, next_are_words n fits.2) refl
+event_are_words (Signal s c n) fits = rw (decimal_word s fits.0, decimal_word c fits.1, next_are_words n fits.2) refl
+event_are_words (SignalLeave s c n) fits = rw (decimal_word s fits.0, decimal_word c fits.1, next_are_words n fits.2) refl
+event_are_words (Until s c n) fits = rw (decimal_word s fits.0, decimal_word c fits.1, next_are_words n fits.2) refl
+event_are_words (Act s op reply) fits = rw (decimal_word s fits.0, decimal_word op.code fits.1, IsWord-decimal op.arg (omega (arith, fits.2)), IsWord-decimal reply (omega (arith, fits.3))) refl
+event_are_words (Resume s from.Waiter) fits = rw (decimal_word s fits) refl
+event_are_words (Resume s from.Signaller) fits = rw (decimal_word s fits) refl
+event_are_words (Resume s from.Until) fits = rw (decimal_word s fits) refl
+
+kind_is_word : (k : KindName) → IsWord (kind_word k)
+kind_is_word Pb = refl
+kind_is_word Npb = refl
+kind_is_word Pnb = refl
+kind_is_word Npnb = refl
+kind_is_word Pqb = refl
+kind_is_word Npqb = refl
+kind_is_word Pir = refl
+kind_is_word Npir = refl
+kind_is_word Pis = refl
+kind_is_word Npis = refl
+
+object_is_word : (o : ObjectName) → IsWord (object_word o)
+object_is_word Buffer = refl
+object_is_word Book = refl
+object_is_word Shop = refl
+
+pub header_are_words : (h : Heading) → IsHeading h → AreWords (header_words h)
+header_are_words h fits =
+    rw (kind_is_word h.kind, decimal_word h.seats (omega (arith, fits.seats)), decimal_word h.conds (omega (arith, fits.conds)), object_is_word h.object, decimal_word h.size fits.size) refl
+
+pub some_word : (e : Event) → 0 < length (event_words e)
+some_word (Enter s via) = omega arith
+some_word (Leave s n) = omega arith
+some_word (Wait s c n) = omega arith
+some_word (Signal s c n) = omega arith
+some_word (SignalLeave s c n) = omega arith
+some_word (Until s c n) = omega arith
+some_word (Act s op reply) = omega arith
+some_word (Resume s q) = omega arith

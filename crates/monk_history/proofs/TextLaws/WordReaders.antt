@@ -1,0 +1,89 @@
+-- What is taken from the words is what its value is written as, and what is so written is taken again.
+use Rattle.std.proofs.Common.{◌≡◌, ℕ, ◌≤◌, ◌<◌, ◌^◌, Bool, true, false, cond, List, [], ◌∷◌, Option, Some, None, Result, Ok, Err, refl, sym, ap, subst, ◌∙◌}
+use Rattle.std.specs.Prelude.{nat_le}
+use Rattle.std.specs.Fmt.{decimal}
+use Rattle.std.specs.Str.{bytes_eq}
+use Rattle.std.specs.Str.Parse.{digits_value}
+use Rattle.std.proofs.lemmas.Bool.{leb-true}
+use Rattle.std.proofs.lemmas.Slice.Eq.{bytes_eq-Decides}
+use Rattle.monk_history.specs.declared.text.fault.Flaw.{Flaw}
+use Rattle.monk_history.specs.declared.text.fault.Flaw.TheVariants as flaw
+use Rattle.monk_kinds.specs.Names.{written}
+use Rattle.monk_history.specs.Text.Words.{◌>>=◌, Word, is_number, number_at, with_rest, one_of, literal_at, end_at}
+use Rattle.monk_history.proofs.TextLaws.NumberWords.{is_number_decimal, is_number_too_great}
+use Rattle.monk_history.proofs.TextLaws.LineCuts.{both}
+
+-- the value of a step that did not fail
+pub bind_ok : {A B E : Type 0} (r : Result A E) (f : A → Result B E) (y : B) → (r >>= f) ≡ Ok y → (x : A) × (r ≡ Ok x) × (f x ≡ Ok y)
+bind_ok (Ok x) f y e = (x, refl, e)
+bind_ok (Err d) f y e = absurd cc
+
+-- a test that did not fail
+guard_ok : {A E : Type 0} (b : Bool) (d : E) (x y : A) → cond b (Ok x) (Err d) ≡ Ok y → (b ≡ true) × (x ≡ y)
+guard_ok true d x y e = (refl, cc)
+guard_ok false d x y e = absurd cc
+
+abbrev pub done : {A : Type 0} → A → Result A Flaw
+done x = Ok x
+
+pub ok_is : {A : Type 0} (x y : A) → done x ≡ done y → x ≡ y
+ok_is x y e = cc
+
+-- ---- numbers
+
+pub number_takes : (most : ℕ) (ws : List Word) (x : ℕ × List Word) → number_at most ws ≡ Ok x → (ws ≡ decimal x.0 ∷ x.1) × (x.0 ≤ most)
+unfolding number_at
+number_takes most [] x e = absurd cc
+number_takes most (w ∷ ws) x e =
+    let g = guard_ok (is_number most w) flaw.Number (digits_value 10 w, ws) x e in
+    let p = both (bytes_eq w (decimal (digits_value 10 w))) (nat_le (digits_value 10 w) most) g.0 in
+    let same : w ≡ decimal (digits_value 10 w) = (bytes_eq-Decides w (decimal (digits_value 10 w))).0 p.0 in
+    subst (λ (y : ℕ × List Word). (w ∷ ws ≡ decimal y.0 ∷ y.1) × (y.0 ≤ most)) g.1 (ap (λ (v : Word). v ∷ ws) same, leb-true _ _ p.1)
+
+pub number_again : (most n : ℕ) (ws : List Word) → most < 2 ^ 64 → n ≤ most → number_at most (decimal n ∷ ws) ≡ Ok (n, ws)
+unfolding number_at
+number_again most n ws lt le =
+    let h = is_number_decimal most n lt le in
+    rw (h.0, h.1) refl
+
+pub number_refused : (most n : ℕ) (ws : List Word) → n < 2 ^ 64 → most < n → number_at most (decimal n ∷ ws) ≡ Err flaw.Number
+unfolding number_at
+number_refused most n ws lt great =
+    rw (is_number_too_great most n lt great) refl
+
+-- ---- one of several words
+
+some_is : {A : Type 0} (a b : A) → Option.Some a ≡ Some b → a ≡ b
+some_is a b e = cc
+
+test_found : {A : Type 0} (b : Bool) (w u : Word) (v x : A) (rest : Option A) (word : A → Word) → (b ≡ true → w ≡ word v) → (rest ≡ Some x → w ≡ word x) → cond b (Some v) rest ≡ Some x → w ≡ word x
+test_found true w u v x rest word same other e = same refl ∙ ap word (some_is v x e)
+test_found false w u v x rest word same other e = other e
+
+found_is : {A : Type 0} (word : A → Word) (values : List A) (w : Word) (x : A) → written word values w ≡ Some x → w ≡ word x
+found_is word [] w x e = absurd cc
+found_is word (v ∷ vs) w x e = test_found (bytes_eq w (word v)) w w v x (written word vs w) word (λ b. (bytes_eq-Decides w (word v)).0 b) (found_is word vs w x) e
+
+rest_taken : {A : Type 0} (o : Option A) (word : A → Word) (w : Word) (ws : List Word) (x : A × List Word) → ((y : A) → o ≡ Some y → w ≡ word y) → with_rest ws o ≡ Ok x → w ∷ ws ≡ word x.0 ∷ x.1
+rest_taken None word w ws x h e = absurd cc
+rest_taken {A = A} (Some y) word w ws x h e = subst (λ (z : A × List Word). w ∷ ws ≡ word z.0 ∷ z.1) (ok_is (y, ws) x e) (ap (λ (v : Word). v ∷ ws) (h y refl))
+
+pub one_of_takes : {A : Type 0} (word : A → Word) (values : List A) (ws : List Word) (x : A × List Word) → one_of word values ws ≡ Ok x → ws ≡ word x.0 ∷ x.1
+unfolding one_of
+one_of_takes word values [] x e = absurd cc
+one_of_takes word values (w ∷ ws) x e = rest_taken (written word values w) word w ws x (found_is word values w) e
+
+pub one_of_again : {A : Type 0} (word : A → Word) (values : List A) (x : A) (ws : List Word) → written word values (word x) ≡ Some x → one_of word values (word x ∷ ws) ≡ Ok (x, ws)
+unfolding one_of
+one_of_again word values x ws e = rw e refl
+
+pub literal_takes : (l : Word) (ws : List Word) (x : Unit {0} × List Word) → literal_at l ws ≡ Ok x → ws ≡ l ∷ x.1
+literal_takes l [] x e = absurd cc
+literal_takes l (w ∷ ws) x e =
+    let g = guard_ok (bytes_eq w l) flaw.Word (tt {0}, ws) x e in
+    let same : w ≡ l = (bytes_eq-Decides w l).0 g.0 in
+    subst (λ (y : Unit {0} × List Word). w ∷ ws ≡ l ∷ y.1) g.1 (ap (λ (v : Word). v ∷ ws) same)
+
+pub end_takes : (ws : List Word) (x : Unit {0} × List Word) → end_at ws ≡ Ok x → (ws ≡ []) × (x.1 ≡ [])
+end_takes [] x e = (refl, ap (λ (y : Unit {0} × List Word). y.1) (sym (ok_is (tt {0}, []) x e)))
+end_takes (w ∷ ws) x e = absurd cc

@@ -1,0 +1,49 @@
+use Rattle.std.proofs.Common.{ap, sym, ◌∙◌}
+use Rattle.std.specs.Prelude.{codes}
+use Rattle.monk_history.specs.Text.Words.{is_next}
+use Rattle.monk_history.specs.declared.text.verb.Verb.TheVariants as verb
+use Rattle.monk_history.proofs.TextLaws.EventWords.{verb-next, verb-none}
+use Rattle.monk_history.proofs.text.event_line.verb.Goals as goal
+
+pub returns-then-takes : goal.returns-then-takes
+returns-then-takes c = verb-next verb.Enter c.args.words.now c.takes.new.self (c.takes.ensures.taken c.if-takes.true)
+
+pub returns-then-takes-2 : goal.returns-then-takes-2
+returns-then-takes-2 c = verb-next verb.Act c.args.words.now c.takes-else-takes.new.self (c.takes.ensures.left c.if-takes.false ∙ c.takes-else-takes.ensures.taken c.if-takes-2.true)
+
+pub returns-then-takes-3 : goal.returns-then-takes-3
+returns-then-takes-3 c = verb-next verb.Leave c.args.words.now c.takes-else-takes-2.new.self (c.takes.ensures.left c.if-takes.false ∙ c.takes-else-takes.ensures.left c.if-takes-2.false ∙ c.takes-else-takes-2.ensures.taken c.if-takes-3.true)
+
+pub returns-then-takes-4 : goal.returns-then-takes-4
+returns-then-takes-4 c = verb-next verb.Wait c.args.words.now c.takes-else-takes-3.new.self (c.takes.ensures.left c.if-takes.false ∙ c.takes-else-takes.ensures.left c.if-takes-2.false ∙ c.takes-else-takes-2.ensures.left c.if-takes-3.false ∙ c.takes-else-takes-3.ensures.taken c.if-takes-4.true)
+
+pub returns-then-takes-5 : goal.returns-then-takes-5
+returns-then-takes-5 c = verb-next verb.Signal c.args.words.now c.takes-else-takes-4.new.self (c.takes.ensures.left c.if-takes.false ∙ c.takes-else-takes.ensures.left c.if-takes-2.false ∙ c.takes-else-takes-2.ensures.left c.if-takes-3.false ∙ c.takes-else-takes-3.ensures.left c.if-takes-4.false ∙ c.takes-else-takes-4.ensures.taken c.if-takes-5.true)
+
+pub returns-then-takes-6 : goal.returns-then-takes-6
+returns-then-takes-6 c = verb-next verb.SignalLeave c.args.words.now c.takes-else-takes-5.new.self (c.takes.ensures.left c.if-takes.false ∙ c.takes-else-takes.ensures.left c.if-takes-2.false ∙ c.takes-else-takes-2.ensures.left c.if-takes-3.false ∙ c.takes-else-takes-3.ensures.left c.if-takes-4.false ∙ c.takes-else-takes-4.ensures.left c.if-takes-5.false ∙ c.takes-else-takes-5.ensures.taken c.if-takes-6.true)
+
+pub returns-then-takes-7 : goal.returns-then-takes-7
+returns-then-takes-7 c = verb-next verb.Until c.args.words.now c.takes-else-takes-6.new.self (c.takes.ensures.left c.if-takes.false ∙ c.takes-else-takes.ensures.left c.if-takes-2.false ∙ c.takes-else-takes-2.ensures.left c.if-takes-3.false ∙ c.takes-else-takes-3.ensures.left c.if-takes-4.false ∙ c.takes-else-takes-4.ensures.left c.if-takes-5.false ∙ c.takes-else-takes-5.ensures.left c.if-takes-6.false ∙ c.takes-else-takes-6.ensures.taken c.if-takes-7.true)
+
+pub returns-then-takes-8 : goal.returns-then-takes-8
+returns-then-takes-8 c = verb-next verb.Resume c.args.words.now c.takes-else-takes-7.new.self (c.takes.ensures.left c.if-takes.false ∙ c.takes-else-takes.ensures.left c.if-takes-2.false ∙ c.takes-else-takes-2.ensures.left c.if-takes-3.false ∙ c.takes-else-takes-3.ensures.left c.if-takes-4.false ∙ c.takes-else-takes-4.ensures.left c.if-takes-5.false ∙ c.takes-else-takes-5.ensures.left c.if-takes-6.false ∙ c.takes-else-takes-6.ensures.left c.if-takes-7.false ∙ c.takes-else-takes-7.ensures.taken c.if-takes-8.true)
+
+pub returns-else-takes-8 : goal.returns-else-takes-8
+returns-else-takes-8 c =
+    let same2 = c.takes.ensures.left c.if-takes.false in
+    let same3 = same2 ∙ c.takes-else-takes.ensures.left c.if-takes-2.false in
+    let same4 = same3 ∙ c.takes-else-takes-2.ensures.left c.if-takes-3.false in
+    let same5 = same4 ∙ c.takes-else-takes-3.ensures.left c.if-takes-4.false in
+    let same6 = same5 ∙ c.takes-else-takes-4.ensures.left c.if-takes-5.false in
+    let same7 = same6 ∙ c.takes-else-takes-5.ensures.left c.if-takes-6.false in
+    let same8 = same7 ∙ c.takes-else-takes-6.ensures.left c.if-takes-7.false in
+    verb-none c.args.words.now
+    (sym c.takes.ensures.is ∙ c.if-takes.false)
+    (ap (is_next (codes "act")) same2 ∙ sym c.takes-else-takes.ensures.is ∙ c.if-takes-2.false)
+    (ap (is_next (codes "leave")) same3 ∙ sym c.takes-else-takes-2.ensures.is ∙ c.if-takes-3.false)
+    (ap (is_next (codes "wait")) same4 ∙ sym c.takes-else-takes-3.ensures.is ∙ c.if-takes-4.false)
+    (ap (is_next (codes "signal")) same5 ∙ sym c.takes-else-takes-4.ensures.is ∙ c.if-takes-5.false)
+    (ap (is_next (codes "signal-leave")) same6 ∙ sym c.takes-else-takes-5.ensures.is ∙ c.if-takes-6.false)
+    (ap (is_next (codes "until")) same7 ∙ sym c.takes-else-takes-6.ensures.is ∙ c.if-takes-7.false)
+    (ap (is_next (codes "resume")) same8 ∙ sym c.takes-else-takes-7.ensures.is ∙ c.if-takes-8.false)

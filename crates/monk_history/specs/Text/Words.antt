@@ -1,0 +1,75 @@
+-- The words of a line: what is taken from their front is a value and the words behind it, or a flaw.
+use Rattle.std.specs.Prelude.{◌≡◌, ℕ, List, [], ◌∷◌, Bool, true, false, not, Option, Some, None, Result, Ok, Err, nat_le, ◌==◌, ◌&&◌, if◌then◌else◌}
+use Rattle.std.specs.List.{slice_split, list_all}
+use Rattle.std.specs.Str.{bytes_eq}
+use Rattle.std.specs.Str.Parse.{digits_value}
+use Rattle.std.specs.Fmt.{decimal}
+use Rattle.monk_history.specs.declared.text.fault.Flaw.{Flaw}
+use Rattle.monk_history.specs.declared.text.fault.Flaw.TheVariants as flaw
+use Rattle.monk_kinds.specs.Names.{written}
+
+-- a word's bytes
+abbrev pub Word : Type 0
+Word = List ℕ
+
+-- a line is cut at every byte 32, so words may be empty
+abbrev pub words_of : List ℕ → List Word
+words_of line = slice_split (λ b. b == 32) line
+
+abbrev pub Taken : Type 0 → Type 0
+Taken A = Result (A × List Word) Flaw
+
+infixl 10 ◌>>=◌
+abbrev pub ◌>>=◌ : {A B E : Type 0} → Result A E → (A → Result B E) → Result B E
+(Ok x) >>= f = f x
+(Err e) >>= f = Err e
+
+-- a word is a number if it is how its value is written: as decimal digits, with no zero in front
+abbrev pub is_number : ℕ → Word → Bool
+is_number most w = bytes_eq w (decimal (digits_value 10 w)) && nat_le (digits_value 10 w) most
+
+abbrev pub number_in : ℕ → Word → Option ℕ
+number_in most w = if is_number most w then Some (digits_value 10 w) else None
+
+-- a number that is at most the first argument
+unfoldable pub number_at : ℕ → List Word → Taken ℕ
+number_at most [] = Err flaw.Word
+number_at most (w ∷ ws) = if is_number most w then Ok (digits_value 10 w, ws) else Err flaw.Number
+
+abbrev pub with_rest : {A : Type 0} → List Word → Option A → Taken A
+with_rest ws None = Err flaw.Word
+with_rest ws (Some x) = Ok (x, ws)
+
+-- one of the values, by its word
+unfoldable pub one_of : {A : Type 0} → (A → Word) → List A → List Word → Taken A
+one_of word values [] = Err flaw.Word
+one_of word values (w ∷ ws) = with_rest ws (written word values w)
+
+-- that word and no other
+abbrev pub literal_at : Word → List Word → Taken (Unit {0})
+literal_at l [] = Err flaw.Word
+literal_at l (w ∷ ws) = if bytes_eq w l then Ok (tt, ws) else Err flaw.Word
+
+-- no word more
+abbrev pub end_at : List Word → Taken (Unit {0})
+end_at [] = Ok (tt, [])
+end_at (w ∷ ws) = Err flaw.Word
+
+-- a word with no byte 32
+abbrev pub is_unbroken : Word → Bool
+is_unbroken w = list_all (λ b. not (b == 32)) w
+
+-- whether the next word is that one
+abbrev pub is_next : Word → List Word → Bool
+is_next w [] = false
+is_next w (v ∷ vs) = bytes_eq v w
+
+-- what a reader of words returned and left is what is taken from them
+abbrev pub Reads : {A : Type 0} → Result A Flaw → List Word → Taken A → Type 0
+Reads (Ok x) left taken = taken ≡ Ok (x, left)
+Reads (Err f) left taken = taken ≡ Err f
+
+-- the words of what is left of a line, if anything is
+abbrev pub words_left : Option (List ℕ) → List Word
+words_left None = []
+words_left (Some line) = words_of line

@@ -1,0 +1,184 @@
+//! An event, read from the words of its line.
+
+ghost use Rattle.std.specs.Prelude.{◌≡◌, ◌-◌, ◌^◌};
+ghost use Rattle.monk_history.specs.Text.{via_word, from_word};
+ghost use Rattle.monk_history.specs.Text.Words.{Reads, one_of};
+ghost use Rattle.monk_history.specs.Text.Reading.{vias, froms, next_word, all_next_words, verb_word, verbs, next_at, cond_next_at, act_at, event_after, event_at};
+
+use crate::event::{Event, From3, Next, Via};
+use crate::text::fault::Flaw;
+use crate::text::header::Header;
+use crate::text::lines::{Record, Words};
+use crate::text::next_word::NextWord;
+use crate::text::verb::Verb;
+use monk_object::Op;
+
+impl Record<Header> for Event {
+    ghost use Rattle.monk_history.specs.Text.Words.{Reads};
+    ghost use Rattle.monk_history.specs.Text.Reading.{event_at, event_under};
+
+    ghost parse = { event_under };
+
+    fn parse(_header: &Header, words: &mut Words<'_>) -> Result<Event, Flaw>
+        ensures { Reads result words.new (event_at words.old) }
+    {
+        event(words)
+    }
+}
+
+#[tactic(auto, unfolding(crate::specs::Text::Reading::event_at))]
+#[inline(always)]
+fn event(words: &mut Words<'_>) -> Result<Event, Flaw>
+    ensures { Reads result words.new (event_at words.old) }
+{
+    let verb = verb(words)?;
+    let seat = words.byte()?;
+    let event = event_after(words, verb, seat)?;
+    words.end()?;
+    Ok(event)
+}
+
+#[tactic(auto, unfolding(crate::specs::Text::Reading::event_after))]
+#[inline(always)]
+fn event_after(words: &mut Words<'_>, verb: Verb, seat: u8) -> Result<Event, Flaw>
+    ensures { Reads result words.new (event_after verb seat words.old) }
+{
+    match verb {
+        Verb::Enter => Ok(Event::Enter(seat, via(words)?)),
+        Verb::Act => {
+            let (op, reply) = act(words)?;
+            Ok(Event::Act(seat, op, reply))
+        }
+        Verb::Leave => Ok(Event::Leave(seat, next(words)?)),
+        Verb::Wait => {
+            let (cond, next) = cond_next(words)?;
+            Ok(Event::Wait(seat, cond, next))
+        }
+        Verb::Signal => {
+            let (cond, next) = cond_next(words)?;
+            Ok(Event::Signal(seat, cond, next))
+        }
+        Verb::SignalLeave => {
+            let (cond, next) = cond_next(words)?;
+            Ok(Event::SignalLeave(seat, cond, next))
+        }
+        Verb::Until => {
+            let (pred, next) = cond_next(words)?;
+            Ok(Event::Until(seat, pred, next))
+        }
+        Verb::Resume => Ok(Event::Resume(seat, from(words)?)),
+    }
+}
+
+/// A code, an argument and a reply.
+#[tactic(auto, unfolding(crate::specs::Text::Reading::act_at))]
+#[inline(always)]
+fn act(words: &mut Words<'_>) -> Result<(Op, u64), Flaw>
+    ensures { Reads result words.new (act_at words.old) }
+{
+    let code = words.byte()?;
+    let arg = words.number(u64::from(u32::MAX))? as u32;
+    let reply = words.number(u64::MAX)?;
+    Ok((Op { code, arg }, reply))
+}
+
+/// A condition or a predicate, and a next.
+#[tactic(auto, unfolding(crate::specs::Text::Reading::cond_next_at))]
+#[inline(always)]
+fn cond_next(words: &mut Words<'_>) -> Result<(u8, Next), Flaw>
+    ensures { Reads result words.new (cond_next_at words.old) }
+{
+    let cond = words.byte()?;
+    let next = next(words)?;
+    Ok((cond, next))
+}
+
+#[tactic(auto, unfolding(crate::specs::Text::Reading::next_at))]
+#[inline(always)]
+fn next(words: &mut Words<'_>) -> Result<Next, Flaw>
+    ensures { Reads result words.new (next_at words.old) }
+{
+    Ok(match next_word(words)? {
+        NextWord::Stay => Next::Stay,
+        NextWord::Entry => Next::Entry,
+        NextWord::Waiter => Next::Waiter(words.byte()?),
+        NextWord::Signaller => Next::Signaller(words.byte()?),
+        NextWord::Until => Next::Until(words.byte()?),
+    })
+}
+
+#[tactic(auto, using(crate::proofs::TextLaws::EventWords::verb_words))]
+#[inline(always)]
+fn verb(words: &mut Words<'_>) -> Result<Verb, Flaw>
+    ensures { Reads result words.new (one_of verb_word verbs words.old) }
+{
+    if words.takes(b"enter") {
+        Ok(Verb::Enter)
+    } else if words.takes(b"act") {
+        Ok(Verb::Act)
+    } else if words.takes(b"leave") {
+        Ok(Verb::Leave)
+    } else if words.takes(b"wait") {
+        Ok(Verb::Wait)
+    } else if words.takes(b"signal") {
+        Ok(Verb::Signal)
+    } else if words.takes(b"signal-leave") {
+        Ok(Verb::SignalLeave)
+    } else if words.takes(b"until") {
+        Ok(Verb::Until)
+    } else if words.takes(b"resume") {
+        Ok(Verb::Resume)
+    } else {
+        Err(Flaw::Word)
+    }
+}
+
+#[tactic(auto, using(crate::proofs::TextLaws::EventWords::next_words))]
+#[inline(always)]
+fn next_word(words: &mut Words<'_>) -> Result<NextWord, Flaw>
+    ensures { Reads result words.new (one_of next_word all_next_words words.old) }
+{
+    if words.takes(b"stay") {
+        Ok(NextWord::Stay)
+    } else if words.takes(b"entry") {
+        Ok(NextWord::Entry)
+    } else if words.takes(b"waiter") {
+        Ok(NextWord::Waiter)
+    } else if words.takes(b"signaller") {
+        Ok(NextWord::Signaller)
+    } else if words.takes(b"until") {
+        Ok(NextWord::Until)
+    } else {
+        Err(Flaw::Word)
+    }
+}
+
+#[tactic(auto, using(crate::proofs::TextLaws::EventWords::via_words))]
+#[inline(always)]
+fn via(words: &mut Words<'_>) -> Result<Via, Flaw>
+    ensures { Reads result words.new (one_of via_word vias words.old) }
+{
+    if words.takes(b"free") {
+        Ok(Via::Free)
+    } else if words.takes(b"handed") {
+        Ok(Via::Handed)
+    } else {
+        Err(Flaw::Word)
+    }
+}
+
+#[tactic(auto, using(crate::proofs::TextLaws::EventWords::from_words))]
+#[inline(always)]
+fn from(words: &mut Words<'_>) -> Result<From3, Flaw>
+    ensures { Reads result words.new (one_of from_word froms words.old) }
+{
+    if words.takes(b"waiter") {
+        Ok(From3::Waiter)
+    } else if words.takes(b"signaller") {
+        Ok(From3::Signaller)
+    } else if words.takes(b"until") {
+        Ok(From3::Until)
+    } else {
+        Err(Flaw::Word)
+    }
+}

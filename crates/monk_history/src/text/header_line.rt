@@ -1,0 +1,57 @@
+//! A header, read from the words of its line.
+
+ghost use Rattle.std.specs.Prelude.{◌≡◌};
+ghost use Rattle.monk_kinds.specs.Names.{kind_word, kinds};
+ghost use Rattle.monk_object.specs.Names.{object_word, objects};
+ghost use Rattle.monk_history.specs.Text.Words.{Reads, one_of};
+ghost use Rattle.monk_history.specs.Text.Reading.{header_at};
+
+use crate::text::fault::Flaw;
+use crate::text::header::Header;
+use crate::text::lines::{Head, Words};
+use monk_kinds::KindName;
+use monk_object::ObjectName;
+
+impl Head for Header {
+    ghost use Rattle.monk_history.specs.Text.Words.{Reads};
+    ghost use Rattle.monk_history.specs.Text.Reading.{header_at};
+
+    ghost parse = { header_at };
+
+    fn parse(words: &mut Words<'_>) -> Result<Header, Flaw>
+        ensures { Reads result words.new (header_at words.old) }
+    {
+        header(words)
+    }
+}
+
+#[tactic(auto, unfolding(crate::specs::Text::Reading::header_at))]
+fn header(words: &mut Words<'_>) -> Result<Header, Flaw>
+    ensures { Reads result words.new (header_at words.old) }
+{
+    words.literal(b"monk")?;
+    words.literal(b"1")?;
+    let kind = kind(words)?;
+    let seats = words.byte()?;
+    let conds = words.byte()?;
+    let object = object(words)?;
+    let size = words.byte()?;
+    words.end()?;
+    Header::new(kind, seats, conds, object, size).ok_or(Flaw::Word)
+}
+
+#[tactic(auto, unfolding(crate::specs::Text::Words::one_of))]
+fn kind(words: &mut Words<'_>) -> Result<KindName, Flaw>
+    ensures { Reads result words.new (one_of kind_word kinds words.old) }
+{
+    let word = words.next().ok_or(Flaw::Word)?;
+    KindName::of_text(word).ok_or(Flaw::Word)
+}
+
+#[tactic(auto, unfolding(crate::specs::Text::Words::one_of))]
+fn object(words: &mut Words<'_>) -> Result<ObjectName, Flaw>
+    ensures { Reads result words.new (one_of object_word objects words.old) }
+{
+    let word = words.next().ok_or(Flaw::Word)?;
+    ObjectName::of_text(word).ok_or(Flaw::Word)
+}

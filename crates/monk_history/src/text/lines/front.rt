@@ -1,0 +1,64 @@
+//! The front of a line, where what may stand there is known. Words are short, so their bytes are compared one by one.
+
+ghost use Rattle.std.specs.Prelude.{◌≡◌, ◌≢◌, ◌≤◌, ◌∷◌, ◌++◌, true, false, MatchOption, IfSome, length, take, decimal};
+ghost use Rattle.std.specs.Option.{option_copied};
+ghost use Rattle.monk_history.specs.Text.Words.{Word, words_of, words_left, is_unbroken, is_next};
+
+/// What is left of the line behind that word, where it is the first.
+#[inline(always)]
+pub(crate) fn left_behind_word<'a>(line: &'a [u8], word: &[u8]) -> Option<Option<&'a [u8]>>
+    requires { is_unbroken word.now ≡ true }
+    ensures { MatchOption result
+        (is_next word.now (words_of line.entry.now) ≡ false)
+        (λ left. words_of line.entry.now ≡ word.now ∷ words_left (option_copied left)) }
+{
+    let behind = behind(line, word)?;
+    let left = left_behind(behind)?;
+    Some(left)
+}
+
+/// The first word of the line where it is a single digit, and what is left of the line behind it.
+#[inline(always)]
+pub(crate) fn left_behind_digit(line: &[u8]) -> Option<(u8, Option<&[u8]>)>
+    ensures { IfSome result (λ x. (words_of line.now ≡ decimal x.0 ∷ words_left (option_copied x.1)) × (x.0 ≤ 9)) }
+{
+    let (digit, behind) = line.split_first()?;
+    if !digit.is_ascii_digit() {
+        return None;
+    }
+    let left = left_behind(behind)?;
+    Some((*digit - b'0', left))
+}
+
+/// What stands behind the word, where the bytes begin with it.
+#[inline(always)]
+fn behind<'a>(bytes: &'a [u8], word: &[u8]) -> Option<&'a [u8]>
+    ensures { MatchOption result (take (length word.now) bytes.now ≢ word.now) (λ rest. bytes.entry.now ≡ word.now ++ rest.now) }
+{
+    if bytes.len() < word.len() {
+        return None;
+    }
+    for at in 0..word.len() {
+        if bytes[at] != word[at] {
+            return None;
+        }
+    }
+    Some(&bytes[word.len()..])
+}
+
+/// What is left of a line behind a word that ends where these bytes begin; `None` where the word goes on.
+#[inline(always)]
+fn left_behind(bytes: &[u8]) -> Option<Option<&[u8]>>
+    ensures { MatchOption result
+        ((w : Word) → is_next w (words_of (w ++ bytes.now)) ≡ false)
+        (λ left. (w : Word) → is_unbroken w ≡ true → words_of (w ++ bytes.now) ≡ w ∷ words_left (option_copied left)) }
+{
+    let Some((next, rest)) = bytes.split_first() else {
+        return Some(None);
+    };
+    if *next == b' ' {
+        Some(Some(rest))
+    } else {
+        None
+    }
+}

@@ -1,0 +1,30 @@
+//! What the lines of a text hold.
+
+use crate::text::fault::Flaw;
+use crate::text::lines::words::Words;
+
+/// What the first line of a text holds.
+pub trait Head: Copy {
+    ghost use Rattle.std.specs.Prelude.{List};
+    ghost use Rattle.monk_history.specs.Text.Words.{Word, Taken, Reads};
+
+    /// What is read from the words of the line.
+    ghost parse: { List Word → Taken Self };
+
+    /// Reads it from all the words of the line.
+    fn parse(words: &mut Words<'_>) -> Result<Self, Flaw>
+        ensures { Reads result words.new (parse words.old) };
+}
+
+/// What each further line of a text with the header `H` holds.
+pub trait Record<H>: Copy {
+    ghost use Rattle.std.specs.Prelude.{List};
+    ghost use Rattle.monk_history.specs.Text.Words.{Word, Taken, Reads};
+
+    /// What is read from the words of the line under that header, as one that names a version.
+    ghost parse: { H → List Word → Taken Self };
+
+    /// Reads it from all the words of the line.
+    fn parse(header: &H, words: &mut Words<'_>) -> Result<Self, Flaw>
+        ensures { Reads result words.new (parse header.now words.old) };
+}
