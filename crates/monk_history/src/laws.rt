@@ -1,11 +1,12 @@
 //! What holds of every history, as laws that other crates may cite.
 ghost use Rattle.std.specs.Prelude.{◌≡◌, ◌≢◌, ◌≤◌, ◌↔◌, ℕ, List, [], ◌∷◌, ◌++◌};
+ghost use Rattle.monk_kinds.specs.declared.mode.Pick.{Pick};
 ghost use Rattle.monk_history.specs.declared.event.Event.{Event};
 ghost use Rattle.monk_history.specs.declared.event.From3.{From3};
 ghost use Rattle.monk_history.specs.declared.event.Event.TheVariants.{Enter, Resume};
 ghost use Rattle.monk_history.specs.declared.event.Via.TheVariants.{Free, Handed};
 ghost use Rattle.monk_history.specs.Meaning.Counts.{events_of};
-ghost use Rattle.monk_history.specs.Meaning.Entry.{IsAtDoor, IsDueFrom, IsQuiet};
+ghost use Rattle.monk_history.specs.Meaning.Entry.{AdmitsUnknown, IsAtDoor, IsDueFrom, IsQuiet};
 ghost use Rattle.monk_history.specs.Meaning.Legal.{IsLegal};
 ghost use Rattle.monk_history.specs.Meaning.Monitor.{Monitor};
 ghost use Rattle.monk_history.specs.Meaning.Moves.{CountsAfter, StandsAfter};
@@ -44,6 +45,12 @@ pub fn event_moves_seats()
 pub fn seat_enters()
     ensures free { (m : Monitor) (h : List Event) (s : ℕ) → IsAllowed m h (Enter s Free) ↔ (IsAtDoor m h s × IsQuiet m h) }
     ensures handed { (m : Monitor) (h : List Event) (s : ℕ) → IsAllowed m h (Enter s Handed) ↔ (IsAtDoor m h s × (h ≢ [])) }
+{}
+
+/// A release that lets the entry in, with nobody known to wait for it, leaves nobody who could be chosen from a queue:
+/// beside somebody who could be, entry is chosen only where `entry_known` says so.
+pub fn entry_is_quiet()
+    ensures { (m : Monitor) (h : List Event) (e : Event) (wish : Pick) → IsLegal m h → IsAllowed m h e → AdmitsUnknown m (situation m h) e wish → IsQuiet m (h ++ e ∷ []) }
 {}
 
 /// A seat may resume exactly where the turn is due to it from that queue.
