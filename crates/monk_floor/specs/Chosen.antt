@@ -1,0 +1,15 @@
+-- What a release chooses
+use Rattle.std.specs.Prelude.{◌≡◌, Bool}
+use Rattle.monk_kinds.specs.declared.mode.Rules.{Rules}
+use Rattle.monk_kinds.specs.declared.mode.Pick.{Pick}
+use Rattle.monk_object.specs.Object.{Object}
+use Rattle.monk_history.specs.Meaning.Reasons.{IsAllowed}
+use Rattle.monk_history.specs.Meaning.Release.{with_next, choice_of}
+use Rattle.monk_history.specs.declared.event.Event.{Event}
+use Rattle.monk_history.specs.declared.event.Next.{Next}
+use Rattle.monk_floor.specs.View.{FloorView, monitor_of, stands_of}
+
+-- the choice by the wish rules, with which the event is allowed
+pub record IsChosen (k : Rules) (o : Object) (f : FloorView) (e : Event) (known : Bool) (pick : Pick) (next : Next) : Type 0 where
+  pub choice : next ≡ choice_of k o (stands_of k o f) e known pick
+  pub allowed : IsAllowed (monitor_of k o f) f.history (with_next next e)

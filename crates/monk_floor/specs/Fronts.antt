@@ -1,0 +1,7 @@
+use Rattle.monk_history.specs.Meaning.Choice.{Queues}
+use Rattle.monk_floor.specs.Just.{just}
+use Rattle.monk_floor.specs.declared.fronts.Fronts.{Fronts}
+
+-- queues with these fronts and nobody behind them
+abbrev pub queues : Fronts → Queues
+queues f = record { waiters = just f.waiter; signallers = just f.signaller; ready = just f.ready }

@@ -1,0 +1,38 @@
+-- What a floor's fields are of its history
+use Rattle.std.specs.Prelude.{◌≡◌, ℕ, ◌≤◌, ◌<◌, ◌*◌, ◌^◌, Bool, false, not, All, List, length, slice_index_or}
+use Rattle.monk_history.specs.Meaning.Monitor.{Monitor}
+use Rattle.monk_history.specs.Meaning.Situation.{Situation, situation}
+use Rattle.monk_history.specs.Meaning.Signallers.{is_empty}
+use Rattle.monk_history.specs.Meaning.Legal.{IsLegal}
+use Rattle.monk_history.specs.Meaning.Counts.{events_of, granted_of, enters_of}
+use Rattle.monk_history.specs.declared.event.Event.{Event}
+use Rattle.monk_history.specs.declared.event.Turn.{Turn}
+use Rattle.monk_floor.specs.Queues.{QueueLists, queue_at}
+
+-- the situation that the fields show
+abbrev pub shown : QueueLists → List ℕ → Turn → List Bool → Bool → Situation
+shown q state turn inside begun = record {
+  condition = queue_at q.conditions;
+  waiters = q.waiters;
+  signallers = q.signallers;
+  untils = q.untils;
+  state = state;
+  turn = turn;
+  inside = λ j. slice_index_or inside j false;
+  begun = begun }
+
+pub record IsKept (m : Monitor) (budget : ℕ) (h : List Event) (capacity : ℕ) (q : QueueLists) (state : List ℕ) (turn : Turn) (inside : List Bool) (spent granted : List ℕ) (entered : ℕ) : Type 0 where
+  pub legal : IsLegal m h
+  pub stands : shown q state turn inside (not (is_empty h)) ≡ situation m h
+  pub counts : (s : ℕ) → slice_index_or spent s 0 ≡ length (events_of h s)
+  pub grants_counted : (s : ℕ) → slice_index_or granted s 0 ≡ granted_of h s
+  pub enters_counted : entered ≡ enters_of h
+  pub granted_seats : length granted ≡ m.seats
+  pub within : (s : ℕ) → length (events_of h s) ≤ budget
+  pub room : m.seats * budget ≤ capacity
+  pub inside_seats : length inside ≡ m.seats
+  pub spent_seats : length spent ≡ m.seats
+  pub conds : length q.conditions ≡ m.conds
+  pub few : m.seats ≤ 32
+  pub low : budget ≤ 2 ^ 20
+  pub predicates : All (λ w. w.1 < m.object.predicates) q.untils

@@ -1,0 +1,79 @@
+-- The queues of a floor as plain lists, and what one event makes of them
+use Rattle.std.specs.Prelude.{◌≡◌, ℕ, ◌<◌, zero, suc, Bool, false, true, not, List, [], ◌∷◌, ◌++◌, length, drop, filter, if◌then◌else◌}
+use Rattle.monk_history.specs.Meaning.Events.{next_of, is_waiter, is_signaller}
+use Rattle.monk_history.specs.Meaning.Conditions.{served_by, waiting_by}
+use Rattle.monk_history.specs.Meaning.Waiters.{serves}
+use Rattle.monk_history.specs.Meaning.Signallers.{is_empty, signals, takes_signaller}
+use Rattle.monk_history.specs.Meaning.Untils.{chooses, waits_until}
+use Rattle.monk_history.specs.declared.event.Event.{Event}
+use Rattle.monk_history.specs.declared.event.Event.TheVariants.{Enter, Act, Leave, Wait, Signal, SignalLeave, Until, Resume}
+use Rattle.monk_history.specs.declared.event.Next.{Next}
+use Rattle.monk_history.specs.declared.event.Next.TheVariants.{Stay, Entry, Waiter, Signaller, Until as UntilSeat}
+
+pub record QueueLists : Type 0 where
+  pub conditions : List (List ℕ)
+  pub waiters : List ℕ
+  pub signallers : List ℕ
+  pub untils : List (ℕ × ℕ)
+
+-- the queue at c, empty past the end
+abbrev pub queue_at : List (List ℕ) → ℕ → List ℕ
+queue_at [] c = []
+queue_at (q ∷ qs) zero = q
+queue_at (q ∷ qs) (suc c) = queue_at qs c
+
+-- each queue has a place left
+pub record HasPlaces (q : QueueLists) : Type 0 where
+  pub conditions : (c : ℕ) → c < length q.conditions → length (queue_at q.conditions c) < 32
+  pub waiters : length q.waiters < 32
+  pub signallers : length q.signallers < 32
+  pub untils : length q.untils < 32
+
+-- what an event itself joins and serves
+pub record IsServed (old : QueueLists) (e : Event) (new : QueueLists) : Type 0 where
+  pub condition : (c : ℕ) → queue_at new.conditions c ≡ drop (length (served_by c e (queue_at old.conditions c))) (queue_at old.conditions c) ++ waiting_by c e
+  pub waiters : new.waiters ≡ old.waiters ++ serves (queue_at old.conditions) e
+  pub signallers : new.signallers ≡ old.signallers ++ signals (queue_at old.conditions) e
+  pub untils : new.untils ≡ old.untils
+  pub conds : length new.conditions ≡ length old.conditions
+
+-- whether it is a signal on an empty condition
+abbrev pub finds_none : (ℕ → List ℕ) → Event → Bool
+finds_none queue (Enter s via) = false
+finds_none queue (Act s op r) = false
+finds_none queue (Leave s x) = false
+finds_none queue (Wait s c x) = false
+finds_none queue (Signal s c x) = is_empty (queue c)
+finds_none queue (SignalLeave s c x) = false
+finds_none queue (Until s p x) = false
+finds_none queue (Resume s q) = false
+
+abbrev pub takes_other : Next → Bool
+takes_other Stay = false
+takes_other Entry = false
+takes_other (Waiter j) = false
+takes_other (Signaller j) = true
+takes_other (UntilSeat j) = false
+
+-- whether an event takes the front of the signaller queue, by whether it found none to serve
+abbrev pub takes_front : Bool → Event → Bool
+takes_front none (Enter s via) = false
+takes_front none (Act s op r) = false
+takes_front none (Leave s x) = takes_other x
+takes_front none (Wait s c x) = takes_other x
+takes_front none (Signal s c Stay) = not none
+takes_front none (Signal s c Entry) = false
+takes_front none (Signal s c (Waiter j)) = false
+takes_front none (Signal s c (Signaller j)) = true
+takes_front none (Signal s c (UntilSeat j)) = false
+takes_front none (SignalLeave s c x) = takes_other x
+takes_front none (Until s p x) = takes_other x
+takes_front none (Resume s q) = false
+
+-- what an event makes of the queues
+pub record IsMoved (old : QueueLists) (e : Event) (new : QueueLists) : Type 0 where
+  pub condition : (c : ℕ) → queue_at new.conditions c ≡ drop (length (served_by c e (queue_at old.conditions c))) (queue_at old.conditions c) ++ waiting_by c e
+  pub waiters : new.waiters ≡ drop (if is_waiter (next_of e) then 1 else 0) (old.waiters ++ serves (queue_at old.conditions) e)
+  pub signallers : new.signallers ≡ drop (if takes_signaller (queue_at old.conditions) e then 1 else 0) (old.signallers ++ signals (queue_at old.conditions) e)
+  pub untils : new.untils ≡ filter (λ w. not (chooses e w)) old.untils ++ waits_until e
+  pub conds : length new.conditions ≡ length old.conditions

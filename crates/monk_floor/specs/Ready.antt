@@ -1,0 +1,32 @@
+use Rattle.std.specs.Prelude.{◌≡◌, ℕ, ◌<◌, ◌^◌, Bool, false, true, List, length, slice_index_or, nat_lt}
+use Rattle.std.specs.List.{list_all}
+use Rattle.monk_object.specs.Object.{Object}
+use Rattle.monk_history.specs.Meaning.Events.{seat_of, next_of, named_seat, waits_on, signals_on}
+use Rattle.monk_history.specs.Meaning.Reasons.{is_condition}
+use Rattle.monk_history.specs.Meaning.Signallers.{is_empty}
+use Rattle.monk_history.specs.declared.event.Event.{Event}
+use Rattle.monk_history.specs.declared.event.Event.TheVariants.{Enter, Act, Leave, Wait, Signal, SignalLeave, Until, Resume}
+use Rattle.monk_floor.specs.Queues.{QueueLists, HasPlaces}
+
+-- an event fits what a floor keeps
+pub record IsReady (q : QueueLists) (inside : List Bool) (spent granted : List ℕ) (entered : ℕ) (e : Event) : Type 0 where
+  pub seat : seat_of e < length inside
+  pub counted : seat_of e < length spent
+  pub low : slice_index_or spent (seat_of e) 0 < 2 ^ 25
+  pub named : list_all (λ j. nat_lt j (length granted)) (named_seat (next_of e)) ≡ true
+  pub low_granted : (j : ℕ) → slice_index_or granted j 0 < 2 ^ 25
+  pub low_entered : entered < 2 ^ 25
+  pub waits : is_condition (length q.conditions) (waits_on e) ≡ true
+  pub signals : is_condition (length q.conditions) (signals_on e) ≡ true
+  pub places : HasPlaces q
+
+-- whether an event must stay, by the queues of the conditions and the data
+abbrev pub stays_by : Object → (ℕ → List ℕ) → List ℕ → Event → Bool
+stays_by o queue d (Enter s via) = false
+stays_by o queue d (Act s op r) = false
+stays_by o queue d (Leave s x) = false
+stays_by o queue d (Wait s c x) = false
+stays_by o queue d (Signal s c x) = is_empty (queue c)
+stays_by o queue d (SignalLeave s c x) = false
+stays_by o queue d (Until s p x) = o.holds d p
+stays_by o queue d (Resume s q) = false

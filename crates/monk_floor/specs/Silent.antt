@@ -1,0 +1,26 @@
+-- Releases by what they do to the queues before they choose
+use Rattle.std.specs.Prelude.{◌≡◌, ℕ, List, [], true, false}
+use Rattle.monk_object.specs.Object.{Object}
+use Rattle.monk_history.specs.Meaning.Situation.{Situation}
+use Rattle.monk_history.specs.Meaning.Waiters.{serves}
+use Rattle.monk_history.specs.Meaning.Signallers.{signals}
+use Rattle.monk_history.specs.Meaning.Choice.{must_stay}
+use Rattle.monk_history.specs.Meaning.Reasons.{is_right_reply}
+use Rattle.monk_history.specs.declared.event.Event.{Event}
+
+-- it has no reply
+abbrev pub IsReplyless : Object → Event → Type 0
+IsReplyless o e = (d : List ℕ) → is_right_reply o d e ≡ true
+
+-- it must choose, and makes nobody a signaller: a leave, a wait, a signal and leave
+pub record MakesNoSignaller (o : Object) (e : Event) : Type 0 where
+  pub replyless : IsReplyless o e
+  pub chooses : (t : Situation) → must_stay o t e ≡ false
+  pub signals : (queue : ℕ → List ℕ) → signals queue e ≡ []
+
+-- and it serves nobody: a leave, a wait
+pub record ServesNobody (o : Object) (e : Event) : Type 0 where
+  pub replyless : IsReplyless o e
+  pub chooses : (t : Situation) → must_stay o t e ≡ false
+  pub signals : (queue : ℕ → List ℕ) → signals queue e ≡ []
+  pub serves : (queue : ℕ → List ℕ) → serves queue e ≡ []

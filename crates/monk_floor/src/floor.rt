@@ -1,0 +1,345 @@
+ghost use Rattle.std.specs.Prelude.{◌≡◌, ℕ, ◌<◌, ◌≤◌, ◌^◌, Bool, Option, Some, None, true, false, not, ◌&&◌, IfOk, IfErr, nat_lt, slice_index_or, List, [], ◌∷◌, ◌++◌, length};
+ghost use Rattle.monk_history.specs.Meaning.Conditions.{condition};
+ghost use Rattle.monk_history.specs.Meaning.Counts.{left_of, granted_of, enters_of};
+ghost use Rattle.monk_history.specs.Meaning.Events as events;
+ghost use Rattle.monk_history.specs.Meaning.Legal.{IsLegal};
+ghost use Rattle.monk_history.specs.Meaning.Monitor.{data_of, data_after};
+ghost use Rattle.monk_history.specs.Meaning.Reasons.{IsAllowed};
+ghost use Rattle.monk_history.specs.Meaning.Release.{MayCall, choice_of};
+ghost use Rattle.monk_history.specs.Meaning.Standing.{has_turn, is_queued};
+ghost use Rattle.monk_history.specs.Meaning.Turn.{turn};
+ghost use Rattle.monk_floor.specs.Chosen.{IsChosen};
+ghost use Rattle.monk_floor.specs.Due.{IsDueTo, IsDueSome, due_seat};
+ghost use Rattle.monk_floor.specs.Grown.{IsGrown};
+ghost use Rattle.monk_floor.specs.Making.{refusal, IsRefused};
+ghost use Rattle.monk_floor.specs.Silent.{IsReplyless};
+ghost use Rattle.monk_floor.specs.View.{monitor_of, stands_of, fresh};
+
+use std::alloc::{AllocError, Global};
+use std::marker::{Model, PhantomData};
+use std::snapshot::Snapshot;
+
+use monk_history::{Event, From3, Next, Turn, Via};
+use monk_kinds::{Kind, Pick, rules_of};
+use monk_object::{Guarded, Op};
+
+use crate::choosing::{first_ready, must_stay};
+use crate::events::seat_of;
+use crate::fault::MakeFault;
+use crate::fronts::Fronts;
+use crate::ledger::Ledger;
+
+mod paths;
+
+/// The floor of a monitor of kind `K` over an object `T`: the object, the queues and the history.
+///
+/// To contracts a floor is its object's opening state, its numbers and its history. The data, the queues, whose turn
+/// it is and who is inside are what the definitions of a history say of these.
+///
+/// Making a floor reserves `seats * budget` events and every queue. No later call takes memory, and the time of each
+/// is independent of how long the history is.
+#[derive(Drop)]
+pub struct Floor<K: Kind, T: Guarded> {
+    object: T,
+    opening: Snapshot<T>,
+    history: Vec<Event>,
+    ledger: Ledger,
+    seats: u8,
+    conds: u8,
+    budget: u32,
+    kind: PhantomData<K>,
+}
+
+impl<K: Kind, T: Guarded> Model for Floor<K, T> {
+    ghost use Rattle.std.specs.Prelude.{ℕ, List, vec_capacity};
+    ghost use Rattle.monk_history.specs.Meaning.Monitor.{monitor};
+    ghost use Rattle.monk_floor.specs.View.{FloorView};
+    ghost use Rattle.monk_floor.specs.Kept.{IsKept};
+
+    ghost Value = { FloorView };
+
+    ghost view = { λ f. record { opening = T.state f.opening.value; seats = f.seats; conds = f.conds; budget = f.budget; history = f.history.items } };
+
+    ghost invariant = { λ f. IsKept (monitor K.rules f.seats f.conds T.meaning (T.state f.opening.value)) f.budget f.history.items (vec_capacity f.history) f.ledger.queues (T.state f.object) f.ledger.turn f.ledger.inside.items f.ledger.spent.items f.ledger.granted.items f.ledger.entered };
+}
+
+impl<K: Kind, T: Guarded> Floor<K, T> {
+    /// A floor over an object, with no event yet: 1 to 32 seats, at most 8 condition variables, and 2 to 2^20 events
+    /// for each seat.
+    ///
+    /// The first fault that applies is answered, want of memory last; the object is dropped with it. Takes memory for
+    /// `seats * budget` events and all queues at once.
+    pub fn make(
+        alloc: Global,
+        object: T,
+        seats: u8,
+        conds: u8,
+        budget: u32,
+    ) -> Result<Floor<K, T>, MakeFault>
+        ensures made { IfOk result (λ f. (refusal seats conds budget ≡ None) × (f ≡ fresh (T.state object) seats conds budget)) }
+        ensures refused { IfErr result (λ e. IsRefused seats conds budget e) }
+    {
+        if seats < 1 || seats > 32 {
+            return Err(MakeFault::Seats);
+        }
+        if conds > 8 {
+            return Err(MakeFault::Conds);
+        }
+        if budget < 2 || budget > 1_048_576 {
+            return Err(MakeFault::Budget);
+        }
+        Ok(Self::build(alloc, object, seats, conds, budget)?)
+    }
+
+    /// A floor with these numbers, which are in range.
+    fn build(
+        alloc: Global,
+        object: T,
+        seats: u8,
+        conds: u8,
+        budget: u32,
+    ) -> Result<Floor<K, T>, AllocError>
+        requires seats { seats ≤ 32 }
+        requires budget { budget ≤ 1048576 }
+        ensures { IfOk result (λ f. f ≡ fresh (T.state object) seats conds budget) }
+    {
+        let opening = Snapshot::of(&object);
+        let history = Vec::with_capacity(alloc, seats as usize * budget as usize)?;
+        let ledger = Ledger::make(alloc, seats, conds)?;
+        Ok(Floor {
+            object,
+            opening,
+            history,
+            ledger,
+            seats,
+            conds,
+            budget,
+            kind: PhantomData,
+        })
+    }
+
+    /// Appends an event that is allowed. It is no act, since that changes the object.
+    fn append(&mut self, event: Event)
+        requires allowed { IsAllowed (monitor_of K.rules T.meaning self.old) self.old.history event }
+        requires left { 0 < left_of self.old.budget self.old.history (events.seat_of event) }
+        requires still { (d : List ℕ) → data_after T.meaning d event ≡ d }
+        ensures { self.new ≡ record self.old { history = self.old.history ++ event ∷ [] } }
+    {
+        self.ledger.note(event);
+        self.history.push_reserved(event);
+    }
+
+    /// What a release chooses by the wish rules, over all queues as they are after its own moves. Any next may stand
+    /// in the event.
+    fn next_by(&self, event: Event, entry_known: bool, pick: Pick) -> Next
+        requires call { MayCall (monitor_of K.rules T.meaning self.now) self.now.history event }
+        requires release { IsReplyless T.meaning event }
+        ensures { IsChosen K.rules T.meaning self.now event entry_known pick result }
+    {
+        if must_stay(&self.object, &self.ledger.queues, event) {
+            return Next::Stay;
+        }
+        let fronts = Fronts {
+            waiter: self.ledger.queues.front_waiter(event),
+            signaller: self.ledger.queues.front_signaller(event),
+            ready: first_ready(&self.object, self.ledger.queues.untils()),
+        };
+        fronts.choose(rules_of::<K>(), seat_of(event), entry_known, pick)
+    }
+
+    /// A seat that is outside enters where the monitor is free: `Via::Free` past no inner queue, `Via::Handed` after
+    /// somebody let it in.
+    pub fn enter(&mut self, seat: u8, via: Via)
+        requires call { MayCall (monitor_of K.rules T.meaning self.old) self.old.history (Event.Enter seat via) }
+        requires left { 0 < left_of self.old.budget self.old.history seat }
+        ensures { IsGrown K.rules T.meaning self.old (Event.Enter seat via) self.new }
+    {
+        self.append(Event::Enter(seat, via));
+    }
+
+    /// The seat that was chosen from a queue goes on, and learns from which queue.
+    pub fn resume(&mut self, seat: u8) -> From3
+        requires seat { seat < self.old.seats }
+        requires due { IsDueTo seat (turn self.old.history) }
+        requires left { 0 < left_of self.old.budget self.old.history seat }
+        ensures { IsGrown K.rules T.meaning self.old (Event.Resume seat result) self.new }
+    {
+        let queue = self.due();
+        self.append(Event::Resume(seat, queue));
+        queue
+    }
+
+    /// The queue from which the turn is due.
+    fn due(&self) -> From3
+        requires { IsDueSome (turn self.now.history) }
+        ensures { turn self.now.history ≡ Turn.Due (due_seat (turn self.now.history)) result }
+    {
+        match self.ledger.turn {
+            Turn::Due(_, queue) => queue,
+            _ => unreachable!(),
+        }
+    }
+
+    /// The active seat carries an operation out on the object, and gets its reply. Costs what the object's `act` costs.
+    pub fn act(&mut self, seat: u8, op: Op) -> u64
+        requires call { MayCall (monitor_of K.rules T.meaning self.old) self.old.history (Event.Act seat op 0) }
+        requires left { 0 < left_of self.old.budget self.old.history seat }
+        ensures { IsGrown K.rules T.meaning self.old (Event.Act seat op result) self.new }
+    {
+        let reply = self.object.act(op);
+        self.ledger.note(Event::Act(seat, op, reply));
+        self.history.push_reserved(Event::Act(seat, op, reply));
+        reply
+    }
+
+    /// Whether a predicate holds of the data.
+    pub fn holds(&self, pred: u8) -> bool
+        requires { pred < T.PREDICATES }
+        ensures { result ≡ T.meaning.holds (data_of (monitor_of K.rules T.meaning self.now) self.now.history) pred }
+    {
+        self.object.holds(pred)
+    }
+
+    /// The history, which is always legal.
+    pub fn history(&self) -> &[Event]
+        ensures history { result.now ≡ self.now.history }
+        ensures legal { IsLegal (monitor_of K.rules T.meaning self.now) self.now.history }
+    {
+        self.history.as_slice()
+    }
+
+    /// How many events a seat has left of its budget.
+    pub fn left(&self, seat: u8) -> u32
+        requires { seat < self.now.seats }
+        ensures { result ≡ left_of self.now.budget self.now.history seat }
+    {
+        self.budget - self.ledger.spent[seat as usize]
+    }
+
+    /// How many seats wait on a condition variable.
+    pub fn waiting(&self, cond: u8) -> u32
+        requires { cond < self.now.conds }
+        ensures { result ≡ length (condition cond self.now.history) }
+    {
+        self.ledger.queues.waiting(cond)
+    }
+
+    /// How many events chose a seat from a queue. A stay is none.
+    pub fn granted(&self, seat: u8) -> u32
+        requires { seat < self.now.seats }
+        ensures { result ≡ granted_of self.now.history seat }
+    {
+        self.ledger.granted[seat as usize]
+    }
+
+    /// How many enters there were.
+    pub fn enters(&self) -> u32
+        ensures { result ≡ enters_of self.now.history }
+    {
+        self.ledger.entered
+    }
+
+    /// Whether a queue has the seat. No queue is searched: a seat is in one exactly where it is inside and has not
+    /// the turn.
+    pub fn queued(&self, seat: u8) -> bool
+        requires { seat < self.now.seats }
+        ensures { result ≡ is_queued self.now.conds seat (stands_of K.rules T.meaning self.now) }
+    {
+        is_parked(&self.ledger.inside, self.ledger.turn, seat)
+    }
+
+    /// Gives the object and the history out. The object's state is the data of that history.
+    pub fn close(self) -> (T, Vec<Event>)
+        ensures object { T.state result.0 ≡ data_of (monitor_of K.rules T.meaning self) self.history }
+        ensures history { result.1.items ≡ self.history }
+        ensures legal { IsLegal (monitor_of K.rules T.meaning self) self.history }
+    {
+        (self.object, self.history)
+    }
+}
+
+/// Whether a seat is inside and has not the turn.
+fn is_parked(inside: &[bool], turn: Turn, seat: u8) -> bool
+    requires { seat < length inside.now }
+    ensures { result ≡ (slice_index_or inside.now seat false && not (nat_lt 0 (has_turn seat turn))) }
+{
+    inside[seat as usize] && !has_turn(turn, seat)
+}
+
+/// Whether a seat has the turn or is due to have it.
+fn has_turn(turn: Turn, seat: u8) -> bool
+    ensures { result ≡ nat_lt 0 (has_turn seat turn) }
+{
+    match turn {
+        Turn::Open => false,
+        Turn::Due(due, _) => due == seat,
+        Turn::Owned(owner) => owner == seat,
+    }
+}
+
+impl<K: Kind, T: Guarded> Floor<K, T> {
+    /// The active seat leaves the monitor, by the general scheduler step.
+    ///
+    /// The step takes the wish where it is open, else the waiter queue (under automatic kinds the ready seats) before
+    /// the signaller queue, else entry; `entry_known` says whether somebody is known to wait for entry.
+    pub fn plain_leave(&mut self, seat: u8, pick: Pick, entry_known: bool) -> Next
+        requires call { MayCall (monitor_of K.rules T.meaning self.old) self.old.history (Event.Leave seat Next.Stay) }
+        requires left { 0 < left_of self.old.budget self.old.history seat }
+        ensures grown { IsGrown K.rules T.meaning self.old (Event.Leave seat result) self.new }
+        ensures choice { result ≡ choice_of K.rules T.meaning (stands_of K.rules T.meaning self.old) (Event.Leave seat Next.Stay) entry_known pick }
+    {
+        let next = self.next_by(Event::Leave(seat, Next::Stay), entry_known, pick);
+        self.append(Event::Leave(seat, next));
+        next
+    }
+
+    /// The active seat waits on a condition variable, by the general scheduler step.
+    pub fn plain_wait(&mut self, seat: u8, cond: u8, pick: Pick, entry_known: bool) -> Next
+        requires call { MayCall (monitor_of K.rules T.meaning self.old) self.old.history (Event.Wait seat cond Next.Stay) }
+        requires left { 0 < left_of self.old.budget self.old.history seat }
+        ensures grown { IsGrown K.rules T.meaning self.old (Event.Wait seat cond result) self.new }
+        ensures choice { result ≡ choice_of K.rules T.meaning (stands_of K.rules T.meaning self.old) (Event.Wait seat cond Next.Stay) entry_known pick }
+    {
+        let next = self.next_by(Event::Wait(seat, cond, Next::Stay), entry_known, pick);
+        self.append(Event::Wait(seat, cond, next));
+        next
+    }
+
+    /// The active seat signals a condition variable, by the general scheduler step. Where nobody waits on it the seat
+    /// stays, and the signal is forgotten.
+    pub fn plain_signal(&mut self, seat: u8, cond: u8, pick: Pick, entry_known: bool) -> Next
+        requires call { MayCall (monitor_of K.rules T.meaning self.old) self.old.history (Event.Signal seat cond Next.Stay) }
+        requires left { 0 < left_of self.old.budget self.old.history seat }
+        ensures grown { IsGrown K.rules T.meaning self.old (Event.Signal seat cond result) self.new }
+        ensures choice { result ≡ choice_of K.rules T.meaning (stands_of K.rules T.meaning self.old) (Event.Signal seat cond Next.Stay) entry_known pick }
+    {
+        let next = self.next_by(Event::Signal(seat, cond, Next::Stay), entry_known, pick);
+        self.append(Event::Signal(seat, cond, next));
+        next
+    }
+
+    /// The active seat signals a condition variable and leaves the monitor, by the general scheduler step.
+    pub fn plain_signal_leave(&mut self, seat: u8, cond: u8, pick: Pick, entry_known: bool) -> Next
+        requires call { MayCall (monitor_of K.rules T.meaning self.old) self.old.history (Event.SignalLeave seat cond Next.Stay) }
+        requires left { 0 < left_of self.old.budget self.old.history seat }
+        ensures grown { IsGrown K.rules T.meaning self.old (Event.SignalLeave seat cond result) self.new }
+        ensures choice { result ≡ choice_of K.rules T.meaning (stands_of K.rules T.meaning self.old) (Event.SignalLeave seat cond Next.Stay) entry_known pick }
+    {
+        let next = self.next_by(Event::SignalLeave(seat, cond, Next::Stay), entry_known, pick);
+        self.append(Event::SignalLeave(seat, cond, next));
+        next
+    }
+
+    /// The active seat waits until a predicate holds, by the general scheduler step. Where it holds at once the seat
+    /// stays.
+    pub fn plain_until(&mut self, seat: u8, pred: u8, pick: Pick, entry_known: bool) -> Next
+        requires call { MayCall (monitor_of K.rules T.meaning self.old) self.old.history (Event.Until seat pred Next.Stay) }
+        requires left { 0 < left_of self.old.budget self.old.history seat }
+        ensures grown { IsGrown K.rules T.meaning self.old (Event.Until seat pred result) self.new }
+        ensures choice { result ≡ choice_of K.rules T.meaning (stands_of K.rules T.meaning self.old) (Event.Until seat pred Next.Stay) entry_known pick }
+    {
+        let next = self.next_by(Event::Until(seat, pred, Next::Stay), entry_known, pick);
+        self.append(Event::Until(seat, pred, next));
+        next
+    }
+}

@@ -1,0 +1,199 @@
+//! The releases by the path of each mode: only the queues that the mode can have anybody in are asked.
+ghost use Rattle.std.specs.Prelude.{◌≡◌, ◌<◌, Bool, true, false};
+ghost use Rattle.monk_kinds.specs.declared.mode.Pick.{Pick};
+ghost use Rattle.monk_history.specs.Meaning.Counts.{left_of};
+ghost use Rattle.monk_history.specs.Meaning.Events.{has_conditions};
+ghost use Rattle.monk_history.specs.Meaning.Paths.{keeps_signallers};
+ghost use Rattle.monk_history.specs.Meaning.Release.{MayCall, choice_of};
+ghost use Rattle.monk_floor.specs.Chosen.{IsChosen};
+ghost use Rattle.monk_floor.specs.Grown.{IsGrown};
+ghost use Rattle.monk_floor.specs.Silent.{IsReplyless, MakesNoSignaller, ServesNobody};
+ghost use Rattle.monk_floor.specs.View.{monitor_of, stands_of};
+
+use monk_history::{Event, From3, Next};
+use monk_kinds::{Automatic, Conditional, Explicit, ImmediateReturn, Kind, Mode, Pick, rules_of};
+use monk_object::Guarded;
+
+use crate::choosing::{equal_choice, first_ready, must_stay, served_choice, single_choice};
+use crate::events::seat_of;
+use crate::floor::Floor;
+
+impl<K: Kind, T: Guarded> Floor<K, T> {
+    /// Past the waiter queue alone, under a kind that keeps nobody in the signaller queue.
+    fn next_waiter(&self, event: Event, entry_known: bool, pick: Pick) -> Next
+        requires conditions { has_conditions K.rules.mode ≡ true }
+        requires signallers { keeps_signallers K.rules.mode ≡ false }
+        requires call { MayCall (monitor_of K.rules T.meaning self.now) self.now.history event }
+        requires release { MakesNoSignaller T.meaning event }
+        ensures { IsChosen K.rules T.meaning self.now event entry_known pick result }
+    {
+        let rules = rules_of::<K>();
+        let front = self.ledger.queues.front_waiter(event);
+        single_choice(From3::Waiter, rules.waiter <= rules.entry, front, entry_known, pick)
+    }
+
+    /// Past the signaller queue alone, under a blocking kind: whoever is served is admitted at once.
+    fn next_signaller(&self, event: Event, entry_known: bool, pick: Pick) -> Next
+        requires mode { K.rules.mode ≡ Mode.Blocking }
+        requires call { MayCall (monitor_of K.rules T.meaning self.now) self.now.history event }
+        requires release { ServesNobody T.meaning event }
+        ensures { IsChosen K.rules T.meaning self.now event entry_known pick result }
+    {
+        let rules = rules_of::<K>();
+        let front = self.ledger.queues.front_signaller(event);
+        single_choice(From3::Signaller, rules.signaller <= rules.entry, front, entry_known, pick)
+    }
+
+    /// Past waiters and signallers of one priority, under a quasi-blocking kind.
+    fn next_equal(&self, event: Event, entry_known: bool, pick: Pick) -> Next
+        requires mode { K.rules.mode ≡ Mode.QuasiBlocking }
+        requires call { MayCall (monitor_of K.rules T.meaning self.now) self.now.history event }
+        requires release { IsReplyless T.meaning event }
+        ensures { IsChosen K.rules T.meaning self.now event entry_known pick result }
+    {
+        if must_stay(&self.object, &self.ledger.queues, event) {
+            return Next::Stay;
+        }
+        let rules = rules_of::<K>();
+        let waiter = self.ledger.queues.front_waiter(event);
+        let signaller = self.ledger.queues.front_signaller(event);
+        equal_choice(rules.waiter <= rules.entry, waiter, signaller, seat_of(event), entry_known, pick)
+    }
+
+    /// Past the ready seats alone, under an automatic kind.
+    fn next_ready(&self, event: Event, entry_known: bool, pick: Pick) -> Next
+        requires mode { K.rules.mode ≡ Mode.Automatic }
+        requires call { MayCall (monitor_of K.rules T.meaning self.now) self.now.history event }
+        requires release { IsReplyless T.meaning event }
+        ensures { IsChosen K.rules T.meaning self.now event entry_known pick result }
+    {
+        if must_stay(&self.object, &self.ledger.queues, event) {
+            return Next::Stay;
+        }
+        let rules = rules_of::<K>();
+        let front = first_ready(&self.object, self.ledger.queues.untils());
+        single_choice(From3::Until, rules.waiter <= rules.entry, front, entry_known, pick)
+    }
+
+    /// A signal under a blocking kind hands over to the seat that it serves, whatever the wish.
+    fn next_served(&self, seat: u8, cond: u8) -> Next
+        requires mode { K.rules.mode ≡ Mode.Blocking }
+        requires call { MayCall (monitor_of K.rules T.meaning self.now) self.now.history (Event.Signal seat cond Next.Stay) }
+        ensures { (known : Bool) (pick : Pick) → IsChosen K.rules T.meaning self.now (Event.Signal seat cond Next.Stay) known pick result }
+    {
+        served_choice(self.ledger.queues.front_of(cond))
+    }
+
+    /// A signal under a non-blocking kind stays, whatever the wish, and no queue is asked.
+    fn next_staying(&self, seat: u8, cond: u8) -> Next
+        requires mode { K.rules.mode ≡ Mode.NonBlocking }
+        requires call { MayCall (monitor_of K.rules T.meaning self.now) self.now.history (Event.Signal seat cond Next.Stay) }
+        ensures { (known : Bool) (pick : Pick) → IsChosen K.rules T.meaning self.now (Event.Signal seat cond Next.Stay) known pick result }
+    {
+        let _ = &self.history;
+        Next::Stay
+    }
+
+    /// What a leave or a wait chooses, by the path of the mode.
+    fn next_past(&self, event: Event, entry_known: bool, pick: Pick) -> Next
+        requires call { MayCall (monitor_of K.rules T.meaning self.now) self.now.history event }
+        requires release { ServesNobody T.meaning event }
+        ensures { IsChosen K.rules T.meaning self.now event entry_known pick result }
+    {
+        match rules_of::<K>().mode {
+            Mode::Blocking => self.next_signaller(event, entry_known, pick),
+            Mode::NonBlocking => self.next_waiter(event, entry_known, pick),
+            Mode::QuasiBlocking => self.next_equal(event, entry_known, pick),
+            Mode::ImmediateReturn => self.next_waiter(event, entry_known, pick),
+            Mode::Automatic => self.next_ready(event, entry_known, pick),
+        }
+    }
+
+    /// The active seat leaves the monitor: `plain_leave` by the path of the mode.
+    pub fn leave(&mut self, seat: u8, pick: Pick, entry_known: bool) -> Next
+        requires call { MayCall (monitor_of K.rules T.meaning self.old) self.old.history (Event.Leave seat Next.Stay) }
+        requires left { 0 < left_of self.old.budget self.old.history seat }
+        ensures grown { IsGrown K.rules T.meaning self.old (Event.Leave seat result) self.new }
+        ensures choice { result ≡ choice_of K.rules T.meaning (stands_of K.rules T.meaning self.old) (Event.Leave seat Next.Stay) entry_known pick }
+    {
+        let next = self.next_past(Event::Leave(seat, Next::Stay), entry_known, pick);
+        self.append(Event::Leave(seat, next));
+        next
+    }
+}
+
+impl<K: Conditional, T: Guarded> Floor<K, T> {
+    /// The active seat waits on a condition variable: `plain_wait` by the path of the mode.
+    pub fn wait(&mut self, seat: u8, cond: u8, pick: Pick, entry_known: bool) -> Next
+        requires call { MayCall (monitor_of K.rules T.meaning self.old) self.old.history (Event.Wait seat cond Next.Stay) }
+        requires left { 0 < left_of self.old.budget self.old.history seat }
+        ensures grown { IsGrown K.rules T.meaning self.old (Event.Wait seat cond result) self.new }
+        ensures choice { result ≡ choice_of K.rules T.meaning (stands_of K.rules T.meaning self.old) (Event.Wait seat cond Next.Stay) entry_known pick }
+    {
+        let next = self.next_past(Event::Wait(seat, cond, Next::Stay), entry_known, pick);
+        self.append(Event::Wait(seat, cond, next));
+        next
+    }
+}
+
+impl<K: Explicit, T: Guarded> Floor<K, T> {
+    /// What a signal chooses, by the path of the mode.
+    fn next_signal(&self, seat: u8, cond: u8, entry_known: bool, pick: Pick) -> Next
+        requires call { MayCall (monitor_of K.rules T.meaning self.now) self.now.history (Event.Signal seat cond Next.Stay) }
+        ensures { IsChosen K.rules T.meaning self.now (Event.Signal seat cond Next.Stay) entry_known pick result }
+    {
+        match rules_of::<K>().mode {
+            Mode::Blocking => self.next_served(seat, cond),
+            Mode::NonBlocking => self.next_staying(seat, cond),
+            Mode::QuasiBlocking => {
+                self.next_equal(Event::Signal(seat, cond, Next::Stay), entry_known, pick)
+            }
+            Mode::ImmediateReturn | Mode::Automatic => unreachable!(),
+        }
+    }
+
+    /// The active seat signals a condition variable: `plain_signal` by the path of the mode.
+    ///
+    /// Under a non-blocking kind it stays, and no queue is asked. Under a blocking kind it hands over to the seat that
+    /// it serves, and no priority is compared.
+    pub fn signal(&mut self, seat: u8, cond: u8, pick: Pick, entry_known: bool) -> Next
+        requires call { MayCall (monitor_of K.rules T.meaning self.old) self.old.history (Event.Signal seat cond Next.Stay) }
+        requires left { 0 < left_of self.old.budget self.old.history seat }
+        ensures grown { IsGrown K.rules T.meaning self.old (Event.Signal seat cond result) self.new }
+        ensures choice { result ≡ choice_of K.rules T.meaning (stands_of K.rules T.meaning self.old) (Event.Signal seat cond Next.Stay) entry_known pick }
+    {
+        let next = self.next_signal(seat, cond, entry_known, pick);
+        self.append(Event::Signal(seat, cond, next));
+        next
+    }
+}
+
+impl<K: ImmediateReturn, T: Guarded> Floor<K, T> {
+    /// The active seat signals a condition variable and leaves the monitor: `plain_signal_leave` by the path of the
+    /// mode, past the waiter queue alone.
+    pub fn signal_leave(&mut self, seat: u8, cond: u8, pick: Pick, entry_known: bool) -> Next
+        requires call { MayCall (monitor_of K.rules T.meaning self.old) self.old.history (Event.SignalLeave seat cond Next.Stay) }
+        requires left { 0 < left_of self.old.budget self.old.history seat }
+        ensures grown { IsGrown K.rules T.meaning self.old (Event.SignalLeave seat cond result) self.new }
+        ensures choice { result ≡ choice_of K.rules T.meaning (stands_of K.rules T.meaning self.old) (Event.SignalLeave seat cond Next.Stay) entry_known pick }
+    {
+        let next = self.next_waiter(Event::SignalLeave(seat, cond, Next::Stay), entry_known, pick);
+        self.append(Event::SignalLeave(seat, cond, next));
+        next
+    }
+}
+
+impl<K: Automatic, T: Guarded> Floor<K, T> {
+    /// The active seat waits until a predicate holds: `plain_until` by the path of the mode, past the ready seats
+    /// alone.
+    pub fn until(&mut self, seat: u8, pred: u8, pick: Pick, entry_known: bool) -> Next
+        requires call { MayCall (monitor_of K.rules T.meaning self.old) self.old.history (Event.Until seat pred Next.Stay) }
+        requires left { 0 < left_of self.old.budget self.old.history seat }
+        ensures grown { IsGrown K.rules T.meaning self.old (Event.Until seat pred result) self.new }
+        ensures choice { result ≡ choice_of K.rules T.meaning (stands_of K.rules T.meaning self.old) (Event.Until seat pred Next.Stay) entry_known pick }
+    {
+        let next = self.next_ready(Event::Until(seat, pred, Next::Stay), entry_known, pick);
+        self.append(Event::Until(seat, pred, next));
+        next
+    }
+}

@@ -1,0 +1,88 @@
+-- What a caller knows of the turn lets it call; and who is queued
+use Rattle.std.proofs.Common.{◌≡◌, ℕ, ◌+◌, ◌<◌, Bool, true, false, cond, ◌&&◌, not, ◌==◌, refl, sym, ap, subst, ◌∙◌, arith, eq-eqb, ◌∷◌, [], ◌++◌, List}
+use Rattle.std.specs.Prelude.{nat_lt}
+use Rattle.monk_object.specs.declared.op.Op.{Op}
+use Rattle.monk_history.specs.Meaning.Monitor.{Monitor, data_of}
+use Rattle.monk_history.specs.Meaning.Situation.{Situation, situation}
+use Rattle.monk_history.specs.Meaning.Events.{has_conditions, has_signaller_queue, returns_at_once}
+use Rattle.monk_history.specs.Meaning.Turn.{turn, is_inside}
+use Rattle.monk_history.specs.Meaning.Signallers.{is_empty}
+use Rattle.monk_history.specs.Meaning.Untils.{untils, ready_of}
+use Rattle.monk_history.specs.declared.event.Via.TheVariants.{Free, Handed}
+use Rattle.monk_history.specs.Meaning.Reasons.{is_owned_by, is_open, is_due, is_queue}
+use Rattle.monk_history.specs.Meaning.Standing.{has_turn, in_queues, is_queued, IsPlaced}
+use Rattle.monk_history.specs.Meaning.Release.{MayCallIn, MayCall}
+use Rattle.monk_history.specs.declared.event.Event.{Event}
+use Rattle.monk_history.specs.declared.event.Event.TheVariants.{Enter, Act, Leave, Wait, Signal, SignalLeave, Until, Resume}
+use Rattle.monk_history.specs.declared.event.Next.TheVariants.{Stay}
+use Rattle.monk_history.specs.declared.event.Turn.{Turn}
+use Rattle.monk_history.specs.declared.event.Turn.TheVariants.{Open, Due, Owned}
+
+owned : (s : ℕ) (t : Turn) → t ≡ Owned s → is_owned_by s t ≡ true
+owned s t e = ap (is_owned_by s) e ∙ eq-eqb s s refl
+
+lt_is : (x n : ℕ) → x < n → nat_lt x n ≡ true
+lt_is x n h = grind (arith, h)
+
+one_seat : (a : Bool) → a ≡ true → (a && true && true && true && true) ≡ true
+one_seat true h = refl
+one_seat false h = h
+
+seat_and : (a b : Bool) → a ≡ true → b ≡ true → (a && true && b && true && true) ≡ true
+seat_and true true h k = refl
+seat_and true false h k = k
+seat_and false b h k = h
+
+seat_then : (a b : Bool) → a ≡ true → b ≡ true → (a && true && true && b && true) ≡ true
+seat_then true true h k = refl
+seat_then true false h k = k
+seat_then false b h k = h
+
+seat_last : (a b : Bool) → a ≡ true → b ≡ true → (a && true && true && true && b) ≡ true
+seat_last true true h k = refl
+seat_last true false h k = k
+seat_last false b h k = h
+
+-- the seat that owns the turn may call
+pub may_leave : (m : Monitor) (h : List Event) (s : ℕ) → turn h ≡ Owned s → s < m.seats → MayCall m h (Leave s Stay)
+may_leave m h s t l = record { in_range = one_seat _ (lt_is s m.seats l); offered = refl; in_turn = owned s (turn h) t; in_place = refl }
+
+pub may_wait : (m : Monitor) (h : List Event) (s c : ℕ) → turn h ≡ Owned s → s < m.seats → c < m.conds → has_conditions m.kind.mode ≡ true → MayCall m h (Wait s c Stay)
+may_wait m h s c t l k o = record { in_range = seat_and _ _ (lt_is s m.seats l) (lt_is c m.conds k); offered = o; in_turn = owned s (turn h) t; in_place = refl }
+
+pub may_signal_on : (m : Monitor) (h : List Event) (s c : ℕ) → turn h ≡ Owned s → s < m.seats → c < m.conds → has_signaller_queue m.kind.mode ≡ true → MayCall m h (Signal s c Stay)
+may_signal_on m h s c t l k o = record { in_range = seat_then _ _ (lt_is s m.seats l) (lt_is c m.conds k); offered = o; in_turn = owned s (turn h) t; in_place = refl }
+
+pub may_signal_leave : (m : Monitor) (h : List Event) (s c : ℕ) → turn h ≡ Owned s → s < m.seats → c < m.conds → returns_at_once m.kind.mode ≡ true → MayCall m h (SignalLeave s c Stay)
+may_signal_leave m h s c t l k o = record { in_range = seat_then _ _ (lt_is s m.seats l) (lt_is c m.conds k); offered = o; in_turn = owned s (turn h) t; in_place = refl }
+
+pub may_until : (m : Monitor) (h : List Event) (s p : ℕ) → turn h ≡ Owned s → s < m.seats → p < m.object.predicates → not (has_conditions m.kind.mode) ≡ true → MayCall m h (Until s p Stay)
+may_until m h s p t l k o = record { in_range = seat_last _ _ (lt_is s m.seats l) (lt_is p m.object.predicates k); offered = o; in_turn = owned s (turn h) t; in_place = refl }
+
+pub may_act : (m : Monitor) (h : List Event) (s : ℕ) (op : Op) → turn h ≡ Owned s → s < m.seats → op.code < m.object.codes → MayCall m h (Act s op 0)
+may_act m h s op t l k = record { in_range = seat_last _ _ (lt_is s m.seats l) (lt_is op.code m.object.codes k); offered = refl; in_turn = owned s (turn h) t; in_place = refl }
+
+queued_by : (b : Bool) (x y : ℕ) → x + y ≡ cond b 1 0 → (b && not (nat_lt 0 y)) ≡ nat_lt 0 x
+queued_by true x y h = grind (arith, h)
+queued_by false x y h = grind (arith, h)
+
+-- a seat is in a queue exactly where it is inside and has not the turn
+pub queued_is : (n s : ℕ) (t : Situation) → IsPlaced n t → (t.inside s && not (nat_lt 0 (has_turn s t.turn))) ≡ is_queued n s t
+queued_is n s t p = queued_by (t.inside s) (in_queues n s t) (has_turn s t.turn) (p s)
+
+opened : (t : Turn) → t ≡ Open → is_open t ≡ true
+opened t e = ap is_open e
+
+both_true : (a b : Bool) → a ≡ true → b ≡ true → (a && b) ≡ true
+both_true true b h k = k
+both_true false b h k = h
+
+-- a seat that is outside may enter where the turn is open
+pub may_enter_handed : (m : Monitor) (h : List Event) (s : ℕ) → turn h ≡ Open → s < m.seats → is_inside s h ≡ false → not (is_empty h) ≡ true → MayCall m h (Enter s Handed)
+may_enter_handed m h s t l i b = record { in_range = one_seat _ (lt_is s m.seats l); offered = refl; in_turn = opened (turn h) t; in_place = both_true _ _ (ap not i) b }
+
+pub may_enter_free : (m : Monitor) (h : List Event) (s : ℕ) → turn h ≡ Open → s < m.seats → is_inside s h ≡ false
+  → (situation m h).waiters ≡ [] → (situation m h).signallers ≡ [] → ready_of m.object (data_of m h) (untils h) ≡ [] → MayCall m h (Enter s Free)
+may_enter_free m h s t l i w g r = record {
+  in_range = one_seat _ (lt_is s m.seats l); offered = refl; in_turn = opened (turn h) t;
+  in_place = both_true _ _ (ap not i) (both_true _ _ (both_true _ _ (ap is_empty w) (ap is_empty g)) (ap is_empty r)) }

@@ -1,0 +1,5 @@
+use Rattle.monk_history.proofs.MeaningLaws.EntryLaws.{resumes}
+use Rattle.monk_history.proofs.laws.a_seat_resumes.Goals as goal
+
+pub returns : goal.returns
+returns c = resumes

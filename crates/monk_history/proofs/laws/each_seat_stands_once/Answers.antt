@@ -1,0 +1,9 @@
+use Rattle.monk_history.proofs.MeaningLaws.MoveLaws.{queued_once}
+use Rattle.monk_history.proofs.MeaningLaws.StandingLaws.{legal_placed}
+use Rattle.monk_history.proofs.laws.each_seat_stands_once.Goals as goal
+
+pub returns-clause-placed : goal.returns-clause-placed
+returns-clause-placed c = legal_placed
+
+pub returns-clause-queued_once : goal.returns-clause-queued_once
+returns-clause-queued_once c = queued_once

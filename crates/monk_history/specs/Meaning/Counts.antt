@@ -1,0 +1,45 @@
+-- What is counted of a history seat by seat
+use Rattle.std.specs.Prelude.{ℕ, ◌-◌, ◌==◌, Bool, true, false, Option, Some, None, List, filter, length, count_by}
+use Rattle.monk_history.specs.Meaning.Events.{seat_of, next_of}
+use Rattle.monk_history.specs.declared.event.Event.{Event}
+use Rattle.monk_history.specs.declared.event.Event.TheVariants.{Enter, Act, Leave, Wait, Signal, SignalLeave, Until, Resume}
+use Rattle.monk_history.specs.declared.event.Next.{Next}
+use Rattle.monk_history.specs.declared.event.Next.TheVariants.{Stay, Entry, Waiter, Signaller, Until as UntilSeat}
+
+-- the events of one seat, in order
+unfoldable pub events_of : List Event → ℕ → List Event
+events_of h s = filter (λ e. seat_of e == s) h
+
+-- what a seat has left of its budget
+abbrev pub left_of : ℕ → List Event → ℕ → ℕ
+left_of budget h s = budget - length (events_of h s)
+
+abbrev pub is_enter : Event → Bool
+is_enter (Enter s via) = true
+is_enter (Act s op r) = false
+is_enter (Leave s x) = false
+is_enter (Wait s c x) = false
+is_enter (Signal s c x) = false
+is_enter (SignalLeave s c x) = false
+is_enter (Until s p x) = false
+is_enter (Resume s q) = false
+
+-- how many enters there are
+unfoldable pub enters_of : List Event → ℕ
+enters_of h = count_by is_enter h
+
+-- whether it chose that seat from a queue
+abbrev pub names : ℕ → Option Next → Bool
+names s None = false
+names s (Some Stay) = false
+names s (Some Entry) = false
+names s (Some (Waiter j)) = j == s
+names s (Some (Signaller j)) = j == s
+names s (Some (UntilSeat j)) = j == s
+
+abbrev pub grants : ℕ → Event → Bool
+grants s e = names s (next_of e)
+
+-- how many events chose that seat from a queue
+unfoldable pub granted_of : List Event → ℕ → ℕ
+granted_of h s = count_by (grants s) h

@@ -1,0 +1,28 @@
+-- When a seat may enter or resume
+use Rattle.std.specs.Prelude.{◌≡◌, ◌≢◌, ℕ, ◌<◌, false, List, []}
+use Rattle.monk_history.specs.Meaning.Monitor.{Monitor, data_of}
+use Rattle.monk_history.specs.Meaning.Waiters.{waiters}
+use Rattle.monk_history.specs.Meaning.Signallers.{signallers}
+use Rattle.monk_history.specs.Meaning.Untils.{untils, ready_of}
+use Rattle.monk_history.specs.Meaning.Turn.{turn, is_inside}
+use Rattle.monk_history.specs.declared.event.Event.{Event}
+use Rattle.monk_history.specs.declared.event.From3.{From3}
+use Rattle.monk_history.specs.declared.event.Turn.{Turn}
+use Rattle.monk_history.specs.declared.event.Turn.TheVariants.{Open, Due}
+
+-- nobody could be chosen from a queue
+pub record IsQuiet (m : Monitor) (h : List Event) : Type 0 where
+  pub waiters : waiters h ≡ []
+  pub signallers : signallers h ≡ []
+  pub ready : ready_of m.object (data_of m h) (untils h) ≡ []
+
+-- the seat is outside and the turn is open
+pub record IsAtDoor (m : Monitor) (h : List Event) (s : ℕ) : Type 0 where
+  pub seat : s < m.seats
+  pub free : turn h ≡ Open
+  pub outside : is_inside s h ≡ false
+
+-- the turn is due to the seat from that queue
+pub record IsDueFrom (m : Monitor) (h : List Event) (s : ℕ) (q : From3) : Type 0 where
+  pub seat : s < m.seats
+  pub due : turn h ≡ Due s q
