@@ -1,0 +1,2 @@
+-- What each kind of step keeps
+use Rattle.std.specs.Prelude.{ℕ}
