@@ -5,3 +5,7 @@ pub mod RightLooks
 pub mod RightFloor
 pub mod RightDrops
 pub mod RightGrants
+pub mod TurnLaws
+pub mod QueueingLaws
+pub mod OnePlaceLaws
+pub mod StepLaws

@@ -1,5 +1,5 @@
 -- A seat that chose entry takes itself off the ticket word: the monitor is free, or the next ticket is to be granted
-use Rattle.std.proofs.Common.{◌≡◌, ◌≢◌, ℕ, zero, suc, true, false, ◌+◌, ◌-◌, ◌*◌, ◌%◌, ◌==◌, ◌<◌, ◌≤◌, ◌⊎◌, sym, refl, ap, ◌∙◌, subst, inl, inr, cond, Bool, mod-lt, arith}
+use Rattle.std.proofs.Common.{◌≡◌, ◌≢◌, ℕ, true, false, ◌+◌, ◌-◌, ◌*◌, ◌%◌, ◌==◌, ◌<◌, ◌≤◌, ◌⊎◌, sym, refl, ap, ◌∙◌, subst, inl, inr, cond, Bool, mod-lt, arith}
 use Rattle.std.proofs.lemmas.Bool.Decides.{eqb_tells}
 use Rattle.monk_history.specs.declared.event.Next.{Next}
 use Rattle.monk_world.specs.Places.{stage, ticket, source, chosen, open_turn, due_to, turn_chosen, place_of}
@@ -24,7 +24,7 @@ module _ (seats : ℕ) (s : World) (right : ℕ) (owner : ℕ → ℕ) (r : Keep
       let b : stage (s.place k) ≡ stage (s.place i) = ap (λ (j : ℕ). stage (s.place j)) e in
       omega arith
 
-  drops_last : (home : Home) → stage (s.place i) ≡ 4 → s.unpassed ≡ 1
+  pub drops_last : (home : Home) → stage (s.place i) ≡ 4 → s.unpassed ≡ 1
       → KeepsRight seats (record s { unpassed = s.unpassed - 1; place = put s.place i (place_of home) }) nowhere owner
   drops_last home back one =
       let to : Place = place_of home in
@@ -37,6 +37,7 @@ module _ (seats : ℕ) (s : World) (right : ℕ) (owner : ℕ → ℕ) (r : Keep
       record {
         is_free = λ _. zero;
         not_free = λ _. refl;
+        behind = let a = r.behind in omega arith;
         held = at_put s.place i to (HasRight nowhere) (λ a b. absurd (at_home home (stage to) (omega arith) b refl)) (λ j ne a b. absurd (none j ne a b));
         holds = λ j e. absurd (omega arith);
         is_called = λ j e. absurd (omega arith);
@@ -53,7 +54,7 @@ module _ (seats : ℕ) (s : World) (right : ℕ) (owner : ℕ → ℕ) (r : Keep
         places_free = λ _ p h. let a = r.places p h in omega arith;
       }
 
-  drops_more : (home : Home) → stage (s.place i) ≡ 4 → s.unpassed ≢ 1 → s.unpassed ≤ s.drawn
+  pub drops_more : (home : Home) → stage (s.place i) ≡ 4 → s.unpassed ≢ 1 → s.unpassed ≤ s.drawn
       → KeepsRight seats (record s { unpassed = s.unpassed - 1; place = put s.place i (Passing (s.drawn - s.unpassed + 1) home) }) (with_seat i) owner
   drops_more home back more behind =
       let T : ℕ = s.drawn - s.unpassed + 1 in
@@ -68,6 +69,7 @@ module _ (seats : ℕ) (s : World) (right : ℕ) (owner : ℕ → ℕ) (r : Keep
       record {
         is_free = λ e. absurd (omega arith);
         not_free = λ e. absurd (omega arith);
+        behind = let a = r.behind in omega arith;
         held = at_put s.place i to (HasRight (with_seat i)) (λ _ _. refl) (λ j ne a b. absurd (none j ne a b));
         holds = at_put s.place i to (IsHolder (with_seat i)) (λ _. (omega arith, omega arith)) (λ j ne e. absurd (ne (omega arith)));
         is_called = λ j e. absurd (with_called i j e);
@@ -85,13 +87,3 @@ module _ (seats : ℕ) (s : World) (right : ℕ) (owner : ℕ → ℕ) (r : Keep
         places_low = λ j _ p h. let a = r.places p h in omega arith;
         places_free = λ e. absurd (omega arith);
       }
-
-  pub drops : (home : Home) → stage (s.place i) ≡ 4 → s.unpassed ≤ s.drawn → KeepsRight seats (after_drop s i home) (right_dropped s i) owner
-  drops home back behind = elim (eqb_tells s.unpassed 1) as (λ _. Drops (s.unpassed == 1)) [
-      | inl h ↦ subst Drops (sym h.0) (drops_last home back h.1)
-      | inr h ↦ subst Drops (sym h.0) (drops_more home back h.1 behind)
-    ]
-    where
-      Drops : Bool → Type 0
-      Drops b = KeepsRight seats (record s { unpassed = s.unpassed - 1; place = put s.place i (cond b (place_of home) (Passing (s.drawn - s.unpassed + 1) home)) })
-          (cond b nowhere (with_seat i)) owner

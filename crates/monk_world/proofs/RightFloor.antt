@@ -1,5 +1,5 @@
 -- The floor comes out to the seat that is due, and goes home from the seat that is active
-use Rattle.std.proofs.Common.{◌≡◌, ◌≢◌, ℕ, zero, suc, true, false, ◌+◌, ◌-◌, ◌*◌, ◌%◌, ◌==◌, ◌<◌, ◌≤◌, ◌⊎◌, sym, refl, ap, ◌∙◌, subst, inl, inr, cond, Bool, mod-lt, arith}
+use Rattle.std.proofs.Common.{◌≡◌, ◌≢◌, ℕ, true, false, ◌+◌, ◌-◌, ◌*◌, ◌%◌, ◌==◌, ◌<◌, ◌≤◌, ◌⊎◌, sym, refl, ap, ◌∙◌, subst, inl, inr, cond, Bool, mod-lt, arith}
 use Rattle.std.proofs.lemmas.Bool.Decides.{eqb_tells}
 use Rattle.monk_history.specs.declared.event.Next.{Next}
 use Rattle.monk_world.specs.Places.{stage, ticket, source, chosen, open_turn, due_to, turn_chosen, place_of}
@@ -24,6 +24,7 @@ module _ (seats : ℕ) (s : World) (right : ℕ) (owner : ℕ → ℕ) (r : Keep
       record {
         is_free = r.is_free;
         not_free = r.not_free;
+        behind = r.behind;
         held = at_put s.place i to (HasRight right) (λ _ _. mine) (λ j _. r.held j);
         holds = at_put s.place i to (IsHolder right) (λ _. (omega arith, omega arith)) (λ j _. r.holds j);
         is_called = λ j e. absurd (with_called i j (sym mine ∙ e));
@@ -51,6 +52,7 @@ module _ (seats : ℕ) (s : World) (right : ℕ) (owner : ℕ → ℕ) (r : Keep
       record {
         is_free = r.is_free;
         not_free = r.not_free;
+        behind = r.behind;
         held = at_put s.place i to (HasRight right) (λ _ _. mine) (λ j _. r.held j);
         holds = at_put s.place i to (IsHolder right) (λ _. (omega arith, omega arith)) (λ j _. r.holds j);
         is_called = λ j e. absurd (with_called i j (sym mine ∙ e));

@@ -1,5 +1,5 @@
 -- A seat hands the right on: it grants the next ticket, or calls the seat that it chose
-use Rattle.std.proofs.Common.{◌≡◌, ◌≢◌, ℕ, zero, suc, true, false, ◌+◌, ◌-◌, ◌*◌, ◌%◌, ◌==◌, ◌<◌, ◌≤◌, ◌⊎◌, sym, refl, ap, ◌∙◌, subst, inl, inr, cond, Bool, mod-lt, arith}
+use Rattle.std.proofs.Common.{◌≡◌, ◌≢◌, ℕ, true, false, ◌+◌, ◌-◌, ◌*◌, ◌%◌, ◌==◌, ◌<◌, ◌≤◌, ◌⊎◌, sym, refl, ap, ◌∙◌, subst, inl, inr, cond, Bool, mod-lt, arith}
 use Rattle.std.proofs.lemmas.Bool.Decides.{eqb_tells}
 use Rattle.monk_history.specs.declared.event.Next.{Next}
 use Rattle.monk_world.specs.Places.{stage, ticket, source, chosen, open_turn, due_to, turn_chosen, place_of}
@@ -20,7 +20,7 @@ module _ (seats : ℕ) (s : World) (right : ℕ) (owner : ℕ → ℕ) (r : Keep
   grants_ticket home five some =
       let T : ℕ = ticket (s.place i) in
       let p : ℕ = T % seats in
-      let ps = put s.ticket_place p (suc T) in
+      let ps = put s.ticket_place p (T + 1) in
       let to : Place = place_of home in
       let mine = r.held i (omega arith) (omega arith) in
       let next = r.passing i five in
@@ -30,6 +30,7 @@ module _ (seats : ℕ) (s : World) (right : ℕ) (owner : ℕ → ℕ) (r : Keep
       record {
         is_free = λ e. absurd (omega arith);
         not_free = λ e. absurd (pos e);
+        behind = r.behind;
         held = at_put s.place i to (HasRight granted) (λ a b. absurd (at_home home (stage to) (omega arith) b refl)) (λ j ne a b. absurd (none j ne a b));
         holds = λ j e. absurd (omega arith);
         is_called = λ j e. absurd (omega arith);
@@ -41,9 +42,9 @@ module _ (seats : ℕ) (s : World) (right : ℕ) (owner : ℕ → ℕ) (r : Keep
         granted_at = λ j h e no. refl;
         owned = λ k a b. waiter_stays seats s right owner r i to k (λ e. omega arith) (r.owned k a b);
         grant = λ _ m e. let is : m ≡ T = omega arith in
-            subst (λ (z : ℕ). (ps (z % seats) ≡ suc z) × Waits (put s.place i to) owner z) (sym is)
-            (put_here s.ticket_place p (suc T), waiter_stays seats s right owner r i to T (λ e. omega arith) next.1);
-        places = at_put s.ticket_place p (suc T) (λ q x. q < seats → x + s.unpassed ≤ suc s.drawn) (λ _. omega arith) (λ q _. r.places q);
+            subst (λ (z : ℕ). (ps (z % seats) ≡ z + 1) × Waits (put s.place i to) owner z) (sym is)
+            (put_here s.ticket_place p (T + 1), waiter_stays seats s right owner r i to T (λ e. omega arith) next.1);
+        places = at_put s.ticket_place p (T + 1) (λ q x. q < seats → x + s.unpassed ≤ s.drawn + 1) (λ _. omega arith) (λ q _. r.places q);
         places_low = at_put s.place i to (LeavesLow seats s.drawn s.unpassed ps) (λ a. absurd (at_home home 5 (omega arith) (omega arith) a)) (λ j ne a. absurd (none j ne (omega arith) (omega arith)));
         places_free = λ e. absurd (pos e);
       }
@@ -59,6 +60,7 @@ module _ (seats : ℕ) (s : World) (right : ℕ) (owner : ℕ → ℕ) (r : Keep
       record {
         is_free = λ e. absurd (omega arith);
         not_free = λ e. absurd (pos e);
+        behind = r.behind;
         held = at_put s.place i to (HasRight (called k)) (λ a b. absurd (at_home home (stage to) (omega arith) b refl)) (λ j ne a b. absurd (none j ne a b));
         holds = λ j e. absurd (with_called j k (sym e));
         is_called = λ j e. let same_seat : k ≡ j = omega arith in

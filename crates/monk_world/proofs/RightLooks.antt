@@ -1,5 +1,5 @@
 -- A seat that looks finds the right only where it is, and takes it
-use Rattle.std.proofs.Common.{◌≡◌, ◌≢◌, ℕ, zero, suc, true, false, ◌+◌, ◌-◌, ◌*◌, ◌%◌, ◌==◌, ◌<◌, ◌≤◌, ◌⊎◌, sym, refl, ap, ◌∙◌, subst, inl, inr, cond, Bool, mod-lt, arith}
+use Rattle.std.proofs.Common.{◌≡◌, ◌≢◌, ℕ, true, false, ◌+◌, ◌-◌, ◌*◌, ◌%◌, ◌==◌, ◌<◌, ◌≤◌, ◌⊎◌, sym, refl, ap, ◌∙◌, subst, inl, inr, cond, Bool, mod-lt, arith}
 use Rattle.std.proofs.lemmas.Bool.Decides.{eqb_tells}
 use Rattle.monk_history.specs.declared.event.Next.{Next}
 use Rattle.monk_world.specs.Places.{stage, ticket, source, chosen, open_turn, due_to, turn_chosen, place_of}
@@ -16,23 +16,34 @@ use Rattle.monk_world.proofs.Holders.{with_called, at_home, waiter_stays, others
 use Rattle.monk_world.proofs.PutLaws.{at_put, put_here, put_else, all_back}
 
 module _ (seats : ℕ) (s : World) (right : ℕ) (owner : ℕ → ℕ) (r : KeepsRight seats s right owner) (i : ℕ) where
-  -- it finds its ticket granted
-  pub finds_grant : stage (s.place i) ≡ 1 → s.ticket_place (ticket (s.place i) % seats) ≡ suc (ticket (s.place i)) → 0 < seats
-      → KeepsRight seats (after_ticket_look s i true) (with_seat i) owner
-  finds_grant waits found some =
+  -- where the place of its ticket holds it, the ticket is next and the right is there
+  pub grant_is_there : stage (s.place i) ≡ 1 → s.ticket_place (ticket (s.place i) % seats) ≡ ticket (s.place i) + 1 → 0 < seats
+      → IsNext s.drawn s.unpassed (ticket (s.place i)) × (right ≡ granted)
+  grant_is_there waits found some =
       let T : ℕ = ticket (s.place i) in
-      let to : Place = Due (Granted T) in
       let mine = r.waits i waits in
       let near = mod-lt T some in
       let below = r.places (T % seats) near in
       let least = mine.1 in
       let sum : T + s.unpassed ≡ s.drawn = omega arith in
-      let is : right ≡ granted = r.granted_at i waits sum (λ j five. let low = r.places_low j five (T % seats) near in omega arith) in
+      (sum, r.granted_at i waits sum (λ j five. let low = r.places_low j five (T % seats) near in omega arith))
+
+  -- it finds its ticket granted
+  pub finds_grant : stage (s.place i) ≡ 1 → s.ticket_place (ticket (s.place i) % seats) ≡ ticket (s.place i) + 1 → 0 < seats
+      → KeepsRight seats (after_ticket_look s i (ticket (s.place i)) true) (with_seat i) owner
+  finds_grant waits found some =
+      let T : ℕ = ticket (s.place i) in
+      let to : Place = Due (Granted T) in
+      let mine = r.waits i waits in
+      let there = grant_is_there waits found some in
+      let sum = there.0 in
+      let is = there.1 in
       let nobody : (j : ℕ) → 2 ≤ stage (s.place j) → stage (s.place j) ≤ 5 → ⊥ = λ j a b. let h = r.held j a b in omega arith in
       let other : (j : ℕ) → j ≢ i → stage (s.place j) ≡ 1 → ticket (s.place j) ≢ T = λ j ne h e. ne (sym (r.waits j h).2 ∙ ap owner e ∙ mine.2) in
       record {
         is_free = λ e. absurd (omega arith);
         not_free = λ e. absurd (let a = r.not_free e in omega arith);
+        behind = r.behind;
         held = at_put s.place i to (HasRight (with_seat i)) (λ _ _. refl) (λ j _ a b. absurd (nobody j a b));
         holds = at_put s.place i to (IsHolder (with_seat i)) (λ _. (omega arith, omega arith)) (λ j ne e. absurd (ne (omega arith)));
         is_called = λ j e. absurd (with_called i j e);
@@ -55,9 +66,9 @@ module _ (seats : ℕ) (s : World) (right : ℕ) (owner : ℕ → ℕ) (r : Keep
   -- where its place holds one call more than it has counted, the right is there
   pub call_is_there : s.seat_place i ≡ s.count i + 1 → right ≡ called i
   call_is_there found = elim (eqb_tells right (called i)) as (λ _. right ≡ called i) [
-      | inl h ↦ h.1
-      | inr h ↦ absurd (let a = r.not_called i h.1 in omega arith)
-    ]
+    | inl h ↦ h.1
+    | inr h ↦ absurd (let a = r.not_called i h.1 in omega arith)
+  ]
 
   -- it finds that it was called
   pub finds_call : stage (s.place i) ≡ 6 → s.seat_place i ≡ s.count i + 1 → KeepsRight seats (after_seat_look s i true) (with_seat i) owner
@@ -68,6 +79,7 @@ module _ (seats : ℕ) (s : World) (right : ℕ) (owner : ℕ → ℕ) (r : Keep
       record {
         is_free = λ e. absurd (omega arith);
         not_free = λ e. absurd (let a = r.not_free e in omega arith);
+        behind = r.behind;
         held = at_put s.place i to (HasRight (with_seat i)) (λ _ _. refl) (λ j _ a b. absurd (nobody j a b));
         holds = at_put s.place i to (IsHolder (with_seat i)) (λ _. (omega arith, omega arith)) (λ j ne e. absurd (ne (omega arith)));
         is_called = λ j e. absurd (with_called i j e);

@@ -4,5 +4,7 @@ pub mod World
 pub mod Right
 pub mod Turns
 pub mod Queueing
+pub mod Stands
+pub mod OnePlace
 pub mod Steps
 pub mod Laws

@@ -1,5 +1,5 @@
 -- The right to be active is in one place
-use Rattle.std.specs.Prelude.{◌≡◌, ◌≢◌, ℕ, suc, ◌+◌, ◌*◌, ◌%◌, ◌<◌, ◌≤◌}
+use Rattle.std.specs.Prelude.{◌≡◌, ◌≢◌, ℕ, ◌+◌, ◌*◌, ◌%◌, ◌<◌, ◌≤◌}
 use Rattle.monk_world.specs.Places.{stage, ticket, source, chosen, due_to}
 use Rattle.monk_world.specs.World.{World}
 use Rattle.monk_world.specs.declared.place.Place.{Place}
@@ -64,6 +64,7 @@ LeavesLow seats t n ticket_place j p = stage p ≡ 5 → (i : ℕ) → i < seats
 pub record KeepsRight (seats : ℕ) (w : World) (right : ℕ) (owner : ℕ → ℕ) : Type 0 where
   pub is_free : right ≡ nowhere → w.unpassed ≡ 0
   pub not_free : w.unpassed ≡ 0 → right ≡ nowhere
+  pub behind : w.unpassed ≤ w.drawn
   pub held : (j : ℕ) → HasRight right j (w.place j)
   pub holds : (j : ℕ) → IsHolder right j (w.place j)
   pub is_called : (j : ℕ) → right ≡ called j → (stage (w.place j) ≡ 6) × (w.seat_place j ≡ w.count j + 1)
@@ -74,7 +75,7 @@ pub record KeepsRight (seats : ℕ) (w : World) (right : ℕ) (owner : ℕ → �
   pub waits : (j : ℕ) → OwnsTicket w.drawn w.unpassed owner j (w.place j)
   pub granted_at : (j : ℕ) → WasGranted w.drawn w.unpassed right w.place j (w.place j)
   pub owned : (k : ℕ) → k < w.drawn → w.drawn < k + w.unpassed → Waits w.place owner k
-  pub grant : right ≡ granted → (k : ℕ) → IsNext w.drawn w.unpassed k → (w.ticket_place (k % seats) ≡ suc k) × Waits w.place owner k
-  pub places : (i : ℕ) → i < seats → w.ticket_place i + w.unpassed ≤ suc w.drawn
+  pub grant : right ≡ granted → (k : ℕ) → IsNext w.drawn w.unpassed k → (w.ticket_place (k % seats) ≡ k + 1) × Waits w.place owner k
+  pub places : (i : ℕ) → i < seats → w.ticket_place i + w.unpassed ≤ w.drawn + 1
   pub places_low : (j : ℕ) → LeavesLow seats w.drawn w.unpassed w.ticket_place j (w.place j)
   pub places_free : w.unpassed ≡ 0 → (i : ℕ) → i < seats → w.ticket_place i ≤ w.drawn

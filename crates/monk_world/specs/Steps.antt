@@ -1,7 +1,7 @@
 -- What each kind of step makes of a world, as functions of what it found
-use Rattle.std.specs.Prelude.{ℕ, suc, ◌+◌, ◌-◌, ◌%◌, ◌==◌, Bool, if◌then◌else◌}
+use Rattle.std.specs.Prelude.{ℕ, ◌+◌, ◌-◌, ◌%◌, ◌==◌, Bool, if◌then◌else◌}
 use Rattle.monk_history.specs.declared.event.Next.{Next}
-use Rattle.monk_world.specs.Places.{ticket, place_of}
+use Rattle.monk_world.specs.Places.{place_of}
 use Rattle.monk_world.specs.Put.{put}
 use Rattle.monk_world.specs.Right.{with_seat, nowhere}
 use Rattle.monk_world.specs.World.{World}
@@ -36,11 +36,11 @@ dropped t n home = if n == 1 then place_of home else Passing (t - n + 1) home
 
 -- arrive: one more ticket drawn and not passed on
 abbrev pub after_arrival : World → ℕ → World
-after_arrival w i = record w { drawn = suc w.drawn; unpassed = suc w.unpassed; place = put w.place i (arrived w.drawn w.unpassed) }
+after_arrival w i = record w { drawn = w.drawn + 1; unpassed = w.unpassed + 1; place = put w.place i (arrived w.drawn w.unpassed) }
 
 -- look at the place of its ticket, or at its own place
-abbrev pub after_ticket_look : World → ℕ → Bool → World
-after_ticket_look w i found = record w { place = put w.place i (looked (ticket (w.place i)) found) }
+abbrev pub after_ticket_look : World → ℕ → ℕ → Bool → World
+after_ticket_look w i t found = record w { place = put w.place i (looked t found) }
 
 abbrev pub after_seat_look : World → ℕ → Bool → World
 after_seat_look w i found = record w { place = put w.place i (answered found); count = put w.count i (counted (w.count i) found) }
@@ -59,19 +59,22 @@ after_drop w i home = record w { unpassed = w.unpassed - 1; place = put w.place 
 
 -- grant a ticket, in its place
 abbrev pub after_ticket_grant : ℕ → World → ℕ → ℕ → Home → World
-after_ticket_grant seats w i t home = record w { ticket_place = put w.ticket_place (t % seats) (suc t); place = put w.place i (place_of home) }
+after_ticket_grant seats w i t home = record w { ticket_place = put w.ticket_place (t % seats) (t + 1); place = put w.place i (place_of home) }
 
 -- call seat k, in its place
 abbrev pub after_seat_grant : World → ℕ → ℕ → Home → World
 after_seat_grant w i k home = record w { seat_place = put w.seat_place k (w.seat_place k + 1); place = put w.place i (place_of home) }
 
--- Where the right is after an arrival and a drop, and who owns the ticket that was drawn:
+-- Where the right is after a step that found this, and who owns the ticket that was drawn:
 
 abbrev pub right_arrived : World → ℕ → ℕ → ℕ
 right_arrived w right i = if w.unpassed == 0 then with_seat i else right
 
 abbrev pub owner_arrived : World → (ℕ → ℕ) → ℕ → ℕ → ℕ
 owner_arrived w owner i = if w.unpassed == 0 then owner else put owner w.drawn i
+
+abbrev pub right_looked : ℕ → ℕ → Bool → ℕ
+right_looked right i found = if found then with_seat i else right
 
 abbrev pub right_dropped : World → ℕ → ℕ
 right_dropped w i = if w.unpassed == 1 then nowhere else with_seat i
