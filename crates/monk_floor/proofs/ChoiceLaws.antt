@@ -32,20 +32,20 @@ use Rattle.monk_floor.proofs.KeptLaws.{in_order}
 -- a choice by what it reads of the queues
 abbrev parts : Rules → Bool → Next → Bool → ℕ → ℕ → Bool → Pick → Next
 parts k none next empty first s known WishEntry =
-  if known && (none || nat_le k.waiter k.entry) && (empty || nat_le k.signaller k.entry) then Entry
-  else if none && empty then Entry
-  else if not none && (empty || nat_le k.signaller k.waiter) then next
-  else if first == s then Stay else Signaller first
+    if known && (none || nat_le k.waiter k.entry) && (empty || nat_le k.signaller k.entry) then Entry
+    else if none && empty then Entry
+    else if not none && (empty || nat_le k.signaller k.waiter) then next
+    else if first == s then Stay else Signaller first
 parts k none next empty first s known WishWaiter =
-  if not none && (empty || nat_le k.signaller k.waiter) then next
-  else if none && empty then Entry
-  else if not none && (empty || nat_le k.signaller k.waiter) then next
-  else if first == s then Stay else Signaller first
+    if not none && (empty || nat_le k.signaller k.waiter) then next
+    else if none && empty then Entry
+    else if not none && (empty || nat_le k.signaller k.waiter) then next
+    else if first == s then Stay else Signaller first
 parts k none next empty first s known WishSignaller =
-  if not empty && (none || nat_le k.waiter k.signaller) then (if first == s then Stay else Signaller first)
-  else if none && empty then Entry
-  else if not none && (empty || nat_le k.signaller k.waiter) then next
-  else if first == s then Stay else Signaller first
+    if not empty && (none || nat_le k.waiter k.signaller) then (if first == s then Stay else Signaller first)
+    else if none && empty then Entry
+    else if not none && (empty || nat_le k.signaller k.waiter) then next
+    else if first == s then Stay else Signaller first
 
 parts_are : (k : Rules) (q : Queues) (s : ℕ) (known : Bool) (wish : Pick) → choice_by k q s known wish ≡ parts k (is_empty (inner_waiters k q)) (waiter_choice k q) (is_empty q.signallers) (front q.signallers) s known wish
 parts_are k q s known WishEntry = refl
@@ -84,8 +84,8 @@ chosen_stay : (k : Rules) (o : Object) (t : Situation) (e : Event) (known : Bool
 chosen_stay k o t e known wish b f h = ap (λ z. cond z Stay (choice_by k (queues_at o t e) (seat_of e) known wish)) (sym h ∙ (f ∙ stays_is o t e))
 
 chosen_next : (k : Rules) (o : Object) (t : Situation) (e : Event) (known : Bool) (wish : Pick) (b : Bool) → b ≡ stays_by o t.condition t.state e → b ≡ false
-  → (w s r : Option ℕ) (n : Next) → w ≡ slice_get (t.waiters ++ serves t.condition e) 0 → s ≡ slice_get (t.signallers ++ signals t.condition e) 0 → r ≡ slice_get (ready_of o t.state t.untils) 0
-  → n ≡ choice_by k (record { waiters = just w; signallers = just s; ready = just r }) (seat_of e) known wish → n ≡ choice_of k o t e known wish
+    → (w s r : Option ℕ) (n : Next) → w ≡ slice_get (t.waiters ++ serves t.condition e) 0 → s ≡ slice_get (t.signallers ++ signals t.condition e) 0 → r ≡ slice_get (ready_of o t.state t.untils) 0
+    → n ≡ choice_by k (record { waiters = just w; signallers = just s; ready = just r }) (seat_of e) known wish → n ≡ choice_of k o t e known wish
 chosen_next k o t e known wish b f h w s r n x y z c =
     c
     ∙ (ap (λ q. choice_by k q (seat_of e) known wish) (λ i. record { waiters = just (x i); signallers = just (y i); ready = just (z i) })
@@ -94,27 +94,31 @@ chosen_next k o t e known wish b f h w s r n x y z c =
 
 module _ {m : Monitor} {budget : ℕ} {h : List Event} {capacity : ℕ} {q : QueueLists} {state : List ℕ} {turn : Turn} {inside : List Bool} {spent granted : List ℕ} {entered : ℕ} where
   pub kept_stay : IsKept m budget h capacity q state turn inside spent granted entered → (e : Event) (known : Bool) (wish : Pick) (b : Bool) → b ≡ stays_by m.object (queue_at q.conditions) state e → b ≡ true
-    → Stay ≡ choice_of m.kind m.object (situation m h) e known wish
+      → Stay ≡ choice_of m.kind m.object (situation m h) e known wish
   kept_stay kept e known wish b f g =
       chosen_stay m.kind m.object (shown q state turn inside (not (is_empty h))) e known wish b f g ∙ ap (λ t. choice_of m.kind m.object t e known wish) kept.stands
 
   pub kept_next : IsKept m budget h capacity q state turn inside spent granted entered → (e : Event) (known : Bool) (wish : Pick) (b : Bool) → b ≡ stays_by m.object (queue_at q.conditions) state e → b ≡ false
-    → (w s r : Option ℕ) (n : Next) (k : Rules) (v : ℕ) → w ≡ slice_get (q.waiters ++ serves (queue_at q.conditions) e) 0 → s ≡ slice_get (q.signallers ++ signals (queue_at q.conditions) e) 0 → r ≡ slice_get (ready_of m.object state q.untils) 0
-    → k ≡ m.kind → v ≡ seat_of e → n ≡ choice_by k (record { waiters = just w; signallers = just s; ready = just r }) v known wish
-    → n ≡ choice_of m.kind m.object (situation m h) e known wish
+      → (w s r : Option ℕ) (n : Next) (k : Rules) (v : ℕ) → w ≡ slice_get (q.waiters ++ serves (queue_at q.conditions) e) 0 → s ≡ slice_get (q.signallers ++ signals (queue_at q.conditions) e) 0 → r ≡ slice_get (ready_of m.object state q.untils) 0
+      → k ≡ m.kind → v ≡ seat_of e → n ≡ choice_by k (record { waiters = just w; signallers = just s; ready = just r }) v known wish
+      → n ≡ choice_of m.kind m.object (situation m h) e known wish
   kept_next kept e known wish b f g w s r n k v x y z a c d =
       chosen_next m.kind m.object (shown q state turn inside (not (is_empty h))) e known wish b f g w s r n x y z
-        (d ∙ (ap (λ j. choice_by j (record { waiters = just w; signallers = just s; ready = just r }) v known wish) a ∙ ap (λ j. choice_by m.kind (record { waiters = just w; signallers = just s; ready = just r }) j known wish) c))
+      (d ∙ (ap (λ j. choice_by j (record { waiters = just w; signallers = just s; ready = just r }) v known wish) a ∙ ap (λ j. choice_by m.kind (record { waiters = just w; signallers = just s; ready = just r }) j known wish) c))
       ∙ ap (λ t. choice_of m.kind m.object t e known wish) kept.stands
 
   pub kept_allowed : IsKept m budget h capacity q state turn inside spent granted entered → IsKind m.kind → (e : Event) (known : Bool) (wish : Pick) (n : Next) → MayCall m h e → ((d : List ℕ) → is_right_reply m.object d e ≡ true)
-    → n ≡ choice_of m.kind m.object (situation m h) e known wish → IsAllowed m h (with_next n e)
+      → n ≡ choice_of m.kind m.object (situation m h) e known wish → IsAllowed m h (with_next n e)
   kept_allowed kept k e known wish n c r x =
       subst (λ z. IsAllowed m h (with_next z e)) (sym x) (chosen_allowed m (situation m h) e known wish (in_order kept k) c (r _))
 
   -- an act with the object's reply is allowed
   pub kept_act : IsKept m budget h capacity q state turn inside spent granted entered → (s : ℕ) (op : Op) (reply : ℕ) → MayCall m h (Act s op 0) → reply ≡ m.object.reply state op → IsAllowed m h (Act s op reply)
   kept_act kept s op reply c r = record {
-    in_range = c.in_range; offered = c.offered; in_turn = c.in_turn; in_place = c.in_place;
+    in_range = c.in_range;
+    offered = c.offered;
+    in_turn = c.in_turn;
+    in_place = c.in_place;
     right_reply = eq-eqb reply _ (r ∙ ap (λ t. m.object.reply t.state op) kept.stands);
-    permitted = refl }
+    permitted = refl;
+  }

@@ -95,14 +95,15 @@ module _ {m : Monitor} {budget : ℕ} {h : List Event} {capacity : ℕ} {q : Que
         conditions = λ c l. omega (arith, kept.few, here.conditions c (omega (arith, l, kept.conds)));
         waiters = omega (arith, kept.few, here.waiters);
         signallers = omega (arith, kept.few, here.signallers);
-        untils = omega (arith, kept.few, here.untils) }
+        untils = omega (arith, kept.few, here.untils);
+      }
 
   few_kept : IsKept m budget h capacity q state turn inside spent granted entered → (e : Event) → IsAllowed m h e → length (events_of h (seat_of e)) < budget → length h < 33554432
   few_kept kept e a l =
       let s = seat_in_range m.seats m.conds m.object.codes m.object.predicates e a.in_range in
       let low = kept.low in
       few_events m.seats budget (length h) kept.few (grind (arith, low))
-        (room_left m.seats budget (seat_of e) h s (λ j n. sym (kept.counts j) ∙ past_none spent j (omega (arith, n, kept.spent_seats))) kept.within l)
+      (room_left m.seats budget (seat_of e) h s (λ j n. sym (kept.counts j) ∙ past_none spent j (omega (arith, n, kept.spent_seats))) kept.within l)
 
   pub is_ready : IsKept m budget h capacity q state turn inside spent granted entered → IsKind m.kind → (e : Event) → IsAllowed m h e → length (events_of h (seat_of e)) < budget → IsReady q inside spent granted entered e
   is_ready kept k e a l =
@@ -116,7 +117,8 @@ module _ {m : Monitor} {budget : ℕ} {h : List Event} {capacity : ℕ} {q : Que
         low_entered = let n = few_kept kept e a l in let c = kept.enters_counted in let f = enters_few h in grind (arith, n, c, f);
         waits = ap (λ n. is_condition n (waits_on e)) kept.conds ∙ range_waits m e a.in_range;
         signals = ap (λ n. is_condition n (signals_on e)) kept.conds ∙ range_signals m e a.in_range;
-        places = places_kept kept k e a }
+        places = places_kept kept k e a;
+      }
 
   -- and there is room in the history
   pub has_room : IsKept m budget h capacity q state turn inside spent granted entered → (e : Event) → IsAllowed m h e → length (events_of h (seat_of e)) < budget → length h < capacity
@@ -127,32 +129,33 @@ module _ {m : Monitor} {budget : ℕ} {h : List Event} {capacity : ℕ} {q : Que
 
   -- what is kept after an event that is allowed
   pub kept_push : IsKept m budget h capacity q state turn inside spent granted entered → (e : Event) → IsAllowed m h e → length (events_of h (seat_of e)) < budget
-    → (capacity2 : ℕ) (q2 : QueueLists) (state2 : List ℕ) (turn2 : Turn) (inside2 : List Bool) (spent2 granted2 : List ℕ) (entered2 : ℕ)
-    → capacity2 ≡ capacity → IsMoved q e q2 → state2 ≡ data_after m.object state e → turn2 ≡ turn_by (seat_of e) (next_of e)
-    → ((j : ℕ) → slice_index_or inside2 j false ≡ (slice_index_or inside j false && not (leaves j e)) || enters j e)
-    → ((j : ℕ) → slice_index_or spent2 j 0 ≡ slice_index_or spent j 0 + cond (seat_of e == j) 1 0)
-    → ((j : ℕ) → slice_index_or granted2 j 0 ≡ slice_index_or granted j 0 + cond (grants j e) 1 0) → entered2 ≡ entered + cond (is_enter e) 1 0 → length granted2 ≡ length granted
-    → length inside2 ≡ length inside → length spent2 ≡ length spent
-    → IsKept m budget (h ++ e ∷ []) capacity2 q2 state2 turn2 inside2 spent2 granted2 entered2
+      → (capacity2 : ℕ) (q2 : QueueLists) (state2 : List ℕ) (turn2 : Turn) (inside2 : List Bool) (spent2 granted2 : List ℕ) (entered2 : ℕ)
+      → capacity2 ≡ capacity → IsMoved q e q2 → state2 ≡ data_after m.object state e → turn2 ≡ turn_by (seat_of e) (next_of e)
+      → ((j : ℕ) → slice_index_or inside2 j false ≡ (slice_index_or inside j false && not (leaves j e)) || enters j e)
+      → ((j : ℕ) → slice_index_or spent2 j 0 ≡ slice_index_or spent j 0 + cond (seat_of e == j) 1 0)
+      → ((j : ℕ) → slice_index_or granted2 j 0 ≡ slice_index_or granted j 0 + cond (grants j e) 1 0) → entered2 ≡ entered + cond (is_enter e) 1 0 → length granted2 ≡ length granted
+      → length inside2 ≡ length inside → length spent2 ≡ length spent
+      → IsKept m budget (h ++ e ∷ []) capacity2 q2 state2 turn2 inside2 spent2 granted2 entered2
   kept_push kept e a l capacity2 q2 state2 turn2 inside2 spent2 granted2 entered2 cap moved st tu ins sp gr en lg li ls = record {
     legal = legal-push m h e kept.legal a;
     stands =
-      same_situation (shown q2 state2 turn2 inside2 (not (is_empty (h ++ e ∷ [])))) (after m.object (shown q state turn inside (not (is_empty h))) e)
+        same_situation (shown q2 state2 turn2 inside2 (not (is_empty (h ++ e ∷ [])))) (after m.object (shown q state turn inside (not (is_empty h))) e)
         moved.condition moved.waiters moved.signallers moved.untils st tu ins (begun h)
-      ∙ (ap (λ t. after m.object t e) kept.stands ∙ sym (legal_situation-push m h e kept.legal));
+        ∙ (ap (λ t. after m.object t e) kept.stands ∙ sym (legal_situation-push m h e kept.legal));
     counts = λ s. sp s ∙ (ap (λ n. n + cond (seat_of e == s) 1 0) (kept.counts s) ∙ sym (length-events_of-push h e s));
     grants_counted = λ s. gr s ∙ (ap (λ n. n + cond (grants s e) 1 0) (kept.grants_counted s) ∙ sym (granted_of-push h e s));
     enters_counted = en ∙ (ap (λ n. n + cond (is_enter e) 1 0) kept.enters_counted ∙ sym (enters_of-push h e));
     granted_seats = lg ∙ kept.granted_seats;
     within = λ s. subst (λ n. n ≤ budget) (sym (length-events_of-push h e s))
-      (one_within (seat_of e == s) (length (events_of h s)) budget (λ b. subst (λ j. length (events_of h j) < budget) (eqb-true (seat_of e) s b) l) (kept.within s));
+        (one_within (seat_of e == s) (length (events_of h s)) budget (λ b. subst (λ j. length (events_of h j) < budget) (eqb-true (seat_of e) s b) l) (kept.within s));
     room = subst (λ n. m.seats * budget ≤ n) (sym cap) kept.room;
     inside_seats = li ∙ kept.inside_seats;
     spent_seats = ls ∙ kept.spent_seats;
     conds = moved.conds ∙ kept.conds;
     few = kept.few;
     low = kept.low;
-    predicates = subst (All (λ (w : ℕ × ℕ). w.1 < m.object.predicates)) (sym moved.untils) (joins_in_range m.object.codes m.object.predicates e q.untils (range_object m e a.in_range) kept.predicates) }
+    predicates = subst (All (λ (w : ℕ × ℕ). w.1 < m.object.predicates)) (sym moved.untils) (joins_in_range m.object.codes m.object.predicates e q.untils (range_object m e a.in_range) kept.predicates);
+  }
     where
       begun : (xs : List Event) → not (is_empty (xs ++ e ∷ [])) ≡ true
       begun [] = refl
@@ -180,19 +183,19 @@ no_events s = refl
 
 -- what is kept before any event
 pub kept_none : (m : Monitor) (budget : ℕ) (h : List Event) (capacity : ℕ) (q : QueueLists) (state : List ℕ) (turn : Turn) (inside : List Bool) (spent granted : List ℕ) (entered : ℕ)
-  → h ≡ [] → capacity ≡ m.seats * budget → state ≡ m.opening → m.seats ≤ 32 → budget ≤ 1048576
-  → ((c : ℕ) → queue_at q.conditions c ≡ []) → length q.conditions ≡ m.conds → q.waiters ≡ [] → q.signallers ≡ [] → q.untils ≡ [] → turn ≡ Open
-  → ((j : ℕ) → slice_index_or inside j false ≡ false) → ((j : ℕ) → slice_index_or spent j 0 ≡ 0) → length inside ≡ m.seats → length spent ≡ m.seats
-  → ((j : ℕ) → slice_index_or granted j 0 ≡ 0) → entered ≡ 0 → length granted ≡ m.seats
-  → IsKept m budget h capacity q state turn inside spent granted entered
+    → h ≡ [] → capacity ≡ m.seats * budget → state ≡ m.opening → m.seats ≤ 32 → budget ≤ 1048576
+    → ((c : ℕ) → queue_at q.conditions c ≡ []) → length q.conditions ≡ m.conds → q.waiters ≡ [] → q.signallers ≡ [] → q.untils ≡ [] → turn ≡ Open
+    → ((j : ℕ) → slice_index_or inside j false ≡ false) → ((j : ℕ) → slice_index_or spent j 0 ≡ 0) → length inside ≡ m.seats → length spent ≡ m.seats
+    → ((j : ℕ) → slice_index_or granted j 0 ≡ 0) → entered ≡ 0 → length granted ≡ m.seats
+    → IsKept m budget h capacity q state turn inside spent granted entered
 kept_none m budget h capacity q state turn inside spent granted entered e cap st few low qs cs ws ss us tu ins sp li ls gr en lg = record {
   grants_counted = λ s. gr s ∙ (sym (granted_none s) ∙ ap (λ x. granted_of x s) (sym e));
   enters_counted = en ∙ (sym enters_none ∙ ap enters_of (sym e));
   granted_seats = lg;
   legal = subst (IsLegal m) (sym e) (legal_none m);
   stands =
-    same_situation (shown q state turn inside (not (is_empty h))) (opening_situation m) qs ws ss us st tu ins (none_kept h e)
-    ∙ (sym (situation-none m) ∙ ap (situation m) (sym e));
+      same_situation (shown q state turn inside (not (is_empty h))) (opening_situation m) qs ws ss us st tu ins (none_kept h e)
+      ∙ (sym (situation-none m) ∙ ap (situation m) (sym e));
   counts = λ s. sp s ∙ (sym (no_events s) ∙ ap (λ x. length (events_of x s)) (sym e));
   within = λ s. let n : length (events_of h s) ≡ 0 = ap (λ x. length (events_of x s)) e ∙ no_events s in omega (arith, n);
   room = omega (arith, cap);
@@ -201,4 +204,5 @@ kept_none m budget h capacity q state turn inside spent granted entered e cap st
   conds = cs;
   few = few;
   low = grind (arith, low);
-  predicates = subst (All (λ (w : ℕ × ℕ). w.1 < m.object.predicates)) (sym us) (All-nil (λ (w : ℕ × ℕ). w.1 < m.object.predicates)) }
+  predicates = subst (All (λ (w : ℕ × ℕ). w.1 < m.object.predicates)) (sym us) (All-nil (λ (w : ℕ × ℕ). w.1 < m.object.predicates));
+}

@@ -19,7 +19,8 @@ shown q state turn inside begun = record {
   state = state;
   turn = turn;
   inside = λ j. slice_index_or inside j false;
-  begun = begun }
+  begun = begun;
+}
 
 pub record IsKept (m : Monitor) (budget : ℕ) (h : List Event) (capacity : ℕ) (q : QueueLists) (state : List ℕ) (turn : Turn) (inside : List Bool) (spent granted : List ℕ) (entered : ℕ) : Type 0 where
   pub legal : IsLegal m h

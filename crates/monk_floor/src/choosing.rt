@@ -6,11 +6,10 @@ ghost use Rattle.monk_history.specs.Meaning.Untils.{ready_of};
 ghost use Rattle.monk_floor.specs.Queues.{queue_at};
 ghost use Rattle.monk_floor.specs.Ready.{stays_by};
 
+use crate::queues::Queues;
 use monk_history::{Event, From3, Next};
 use monk_kinds::Pick;
 use monk_object::Guarded;
-
-use crate::queues::Queues;
 
 /// The first of the waits-until whose predicate holds.
 pub fn first_ready<T: Guarded>(object: &T, untils: &[(u8, u8)]) -> Option<u8>

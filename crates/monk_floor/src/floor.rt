@@ -15,21 +15,21 @@ ghost use Rattle.monk_floor.specs.Making.{refusal, IsRefused};
 ghost use Rattle.monk_floor.specs.Silent.{IsReplyless};
 ghost use Rattle.monk_floor.specs.View.{monitor_of, stands_of, fresh};
 
-use std::alloc::{AllocError, Global};
-use std::marker::{Model, PhantomData};
-use std::snapshot::Snapshot;
-
-use monk_history::{Event, From3, Next, Turn, Via};
-use monk_kinds::{Kind, Pick, rules_of};
-use monk_object::{Guarded, Op};
-
 use crate::choosing::{first_ready, must_stay};
 use crate::events::seat_of;
 use crate::fault::MakeFault;
 use crate::fronts::Fronts;
 use crate::ledger::Ledger;
+use monk_history::{Event, From3, Next, Turn, Via};
+use monk_kinds::{Kind, Pick, rules_of};
+use monk_object::{Guarded, Op};
+use std::alloc::{AllocError, Global};
+use std::marker::{Model, PhantomData};
+use std::snapshot::Snapshot;
 
 mod paths;
+#[cfg(test)]
+mod tests;
 
 /// The floor of a monitor of kind `K` over an object `T`: the object, the queues and the history.
 ///
@@ -325,7 +325,11 @@ impl<K: Kind, T: Guarded> Floor<K, T> {
         ensures grown { IsGrown K.rules T.meaning self.old (Event.SignalLeave seat cond result) self.new }
         ensures choice { result ≡ choice_of K.rules T.meaning (stands_of K.rules T.meaning self.old) (Event.SignalLeave seat cond Next.Stay) entry_known pick }
     {
-        let next = self.next_by(Event::SignalLeave(seat, cond, Next::Stay), entry_known, pick);
+        let next = self.next_by(
+            Event::SignalLeave(seat, cond, Next::Stay),
+            entry_known,
+            pick,
+        );
         self.append(Event::SignalLeave(seat, cond, next));
         next
     }

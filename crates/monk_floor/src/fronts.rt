@@ -29,15 +29,13 @@ impl Fronts {
     fn is_waiter_open(self, rules: Rules) -> bool
         ensures { result ≡ wish.is_waiter_open rules (queues self) }
     {
-        self.inner(rules).is_some()
-            && (self.signaller.is_none() || rules.signaller <= rules.waiter)
+        self.inner(rules).is_some() && (self.signaller.is_none() || rules.signaller <= rules.waiter)
     }
 
     fn is_signaller_open(self, rules: Rules) -> bool
         ensures { result ≡ wish.is_signaller_open rules (queues self) }
     {
-        self.signaller.is_some()
-            && (self.inner(rules).is_none() || rules.waiter <= rules.signaller)
+        self.signaller.is_some() && (self.inner(rules).is_none() || rules.waiter <= rules.signaller)
     }
 
     fn is_entry_open(self, rules: Rules, entry_known: bool) -> bool

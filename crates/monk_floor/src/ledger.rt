@@ -6,12 +6,10 @@ ghost use Rattle.monk_history.specs.Meaning.Turn as turns;
 ghost use Rattle.monk_floor.specs.Queues.{IsMoved};
 ghost use Rattle.monk_floor.specs.Ready.{IsReady};
 
-use std::alloc::{AllocError, Global};
-
-use monk_history::{Event, From3, Next, Turn};
-
 use crate::events::{next_of, seat_of};
 use crate::queues::Queues;
+use monk_history::{Event, From3, Next, Turn};
+use std::alloc::{AllocError, Global};
 
 /// Whose turn it is after an event.
 pub fn turn_after(event: Event) -> Turn

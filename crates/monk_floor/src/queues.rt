@@ -4,13 +4,11 @@ ghost use Rattle.monk_history.specs.Meaning.Untils.{chooses, waits_until};
 ghost use Rattle.monk_history.specs.Meaning.Events as events;
 ghost use Rattle.monk_floor.specs.Queues as lists;
 
-use std::alloc::{AllocError, Global};
-use std::marker::Model;
-
-use monk_history::{Event, Next};
-
 use crate::events::next_of;
 use crate::seat_queue::SeatQueue;
+use monk_history::{Event, Next};
+use std::alloc::{AllocError, Global};
+use std::marker::Model;
 
 /// Takes the front of one of the queues.
 pub fn take_front(queues: &mut Vec<SeatQueue>, at: u8) -> Option<u8>

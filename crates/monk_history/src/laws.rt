@@ -1,11 +1,12 @@
 //! What holds of every history, as laws that other crates may cite.
 ghost use Rattle.std.specs.Prelude.{◌≡◌, ◌≢◌, ◌≤◌, ◌↔◌, ℕ, List, [], ◌∷◌, ◌++◌};
+ghost use Rattle.monk_kinds.specs.declared.mode.Pick.{Pick};
 ghost use Rattle.monk_history.specs.declared.event.Event.{Event};
 ghost use Rattle.monk_history.specs.declared.event.From3.{From3};
 ghost use Rattle.monk_history.specs.declared.event.Event.TheVariants.{Enter, Resume};
 ghost use Rattle.monk_history.specs.declared.event.Via.TheVariants.{Free, Handed};
 ghost use Rattle.monk_history.specs.Meaning.Counts.{events_of};
-ghost use Rattle.monk_history.specs.Meaning.Entry.{IsAtDoor, IsDueFrom, IsQuiet};
+ghost use Rattle.monk_history.specs.Meaning.Entry.{AdmitsUnknown, IsAtDoor, IsDueFrom, IsQuiet};
 ghost use Rattle.monk_history.specs.Meaning.Legal.{IsLegal};
 ghost use Rattle.monk_history.specs.Meaning.Monitor.{Monitor};
 ghost use Rattle.monk_history.specs.Meaning.Moves.{CountsAfter, StandsAfter};
@@ -17,51 +18,57 @@ ghost use Rattle.monk_history.specs.Meaning.Turn.{is_inside};
 ghost use Rattle.monk_history.specs.Meaning.Untils.{untils, untils_while_false};
 
 /// Nothing has happened is legal, and a legal history with one allowed event more is legal.
-pub fn a_history_grows()
+pub fn history_grows()
     ensures none { (m : Monitor) → IsLegal m [] }
     ensures more { (m : Monitor) (h : List Event) (e : Event) → IsLegal m h → IsAllowed m h e → IsLegal m (h ++ e ∷ []) }
     ensures front { (m : Monitor) (h more : List Event) → IsLegal m (h ++ more) → IsLegal m h }
 {}
 
 /// What one event more makes of the counts seat by seat, and of the turn.
-pub fn one_event_counts()
+pub fn event_counts()
     ensures { (h : List Event) (e : Event) → CountsAfter h e }
 {}
 
 /// A legal history has each seat inside in exactly one place, a queue or the turn, and no other seat in any.
-pub fn each_seat_stands_once()
+pub fn seats_stand_once()
     ensures placed { (m : Monitor) (h : List Event) → IsLegal m h → IsPlaced m.conds (situation m h) }
     ensures queued_once { (m : Monitor) (h : List Event) → IsLegal m h → (s : ℕ) → in_queues m.conds s (situation m h) ≤ 1 }
 {}
 
 /// What one allowed event more makes of where its own seat, the seat that it chose and every other seat stand.
-pub fn one_event_moves()
+pub fn event_moves_seats()
     ensures { (m : Monitor) (h : List Event) (e : Event) → IsLegal m h → IsAllowed m h e → StandsAfter m (situation m h) e (situation m (h ++ e ∷ [])) }
 {}
 
 /// A seat may enter exactly where it stands at the door: past nobody who could be chosen from a queue if it is let in
 /// by a free monitor, and not as the first if it is let in by another seat.
-pub fn a_seat_enters()
+pub fn seat_enters()
     ensures free { (m : Monitor) (h : List Event) (s : ℕ) → IsAllowed m h (Enter s Free) ↔ (IsAtDoor m h s × IsQuiet m h) }
     ensures handed { (m : Monitor) (h : List Event) (s : ℕ) → IsAllowed m h (Enter s Handed) ↔ (IsAtDoor m h s × (h ≢ [])) }
 {}
 
+/// A release that lets the entry in, with nobody known to wait for it, leaves nobody who could be chosen from a queue:
+/// beside somebody who could be, entry is chosen only where `entry_known` says so.
+pub fn entry_is_quiet()
+    ensures { (m : Monitor) (h : List Event) (e : Event) (wish : Pick) → IsLegal m h → IsAllowed m h e → AdmitsUnknown m (situation m h) e wish → IsQuiet m (h ++ e ∷ []) }
+{}
+
 /// A seat may resume exactly where the turn is due to it from that queue.
-pub fn a_seat_resumes()
+pub fn seat_resumes()
     ensures { (m : Monitor) (h : List Event) (s : ℕ) (q : From3) → IsAllowed m h (Resume s q) ↔ IsDueFrom m h s q }
 {}
 
 /// A seat knows from its own events whether it is inside.
-pub fn a_seat_knows_whether_it_is_inside()
+pub fn inside_by_own_events()
     ensures { (s : ℕ) (h : List Event) → is_inside s (events_of h s) ≡ is_inside s h }
 {}
 
 /// Whatever is allowed may be called, without its choice and its reply.
-pub fn what_is_allowed_may_be_called()
+pub fn allowed_may_be_called()
     ensures { (m : Monitor) (h : List Event) (e : Event) → IsAllowed m h e → MayCall m h (as_called e) }
 {}
 
 /// In a legal history the waits-until are the untils whose predicate was false of the data before them.
-pub fn who_waits_until_found_it_false()
+pub fn untils_were_false()
     ensures { (m : Monitor) (h : List Event) → IsLegal m h → untils_while_false m h ≡ untils h }
 {}

@@ -10,13 +10,12 @@ ghost use Rattle.monk_floor.specs.Grown.{IsGrown};
 ghost use Rattle.monk_floor.specs.Silent.{IsReplyless, MakesNoSignaller, ServesNobody};
 ghost use Rattle.monk_floor.specs.View.{monitor_of, stands_of};
 
-use monk_history::{Event, From3, Next};
-use monk_kinds::{Automatic, Conditional, Explicit, ImmediateReturn, Kind, Mode, Pick, rules_of};
-use monk_object::Guarded;
-
 use crate::choosing::{equal_choice, first_ready, must_stay, served_choice, single_choice};
 use crate::events::seat_of;
 use crate::floor::Floor;
+use monk_history::{Event, From3, Next};
+use monk_kinds::{Automatic, Conditional, Explicit, ImmediateReturn, Kind, Mode, Pick, rules_of};
+use monk_object::Guarded;
 
 impl<K: Kind, T: Guarded> Floor<K, T> {
     /// Past the waiter queue alone, under a kind that keeps nobody in the signaller queue.
@@ -29,7 +28,13 @@ impl<K: Kind, T: Guarded> Floor<K, T> {
     {
         let rules = rules_of::<K>();
         let front = self.ledger.queues.front_waiter(event);
-        single_choice(From3::Waiter, rules.waiter <= rules.entry, front, entry_known, pick)
+        single_choice(
+            From3::Waiter,
+            rules.waiter <= rules.entry,
+            front,
+            entry_known,
+            pick,
+        )
     }
 
     /// Past the signaller queue alone, under a blocking kind: whoever is served is admitted at once.
@@ -41,7 +46,13 @@ impl<K: Kind, T: Guarded> Floor<K, T> {
     {
         let rules = rules_of::<K>();
         let front = self.ledger.queues.front_signaller(event);
-        single_choice(From3::Signaller, rules.signaller <= rules.entry, front, entry_known, pick)
+        single_choice(
+            From3::Signaller,
+            rules.signaller <= rules.entry,
+            front,
+            entry_known,
+            pick,
+        )
     }
 
     /// Past waiters and signallers of one priority, under a quasi-blocking kind.
@@ -57,7 +68,14 @@ impl<K: Kind, T: Guarded> Floor<K, T> {
         let rules = rules_of::<K>();
         let waiter = self.ledger.queues.front_waiter(event);
         let signaller = self.ledger.queues.front_signaller(event);
-        equal_choice(rules.waiter <= rules.entry, waiter, signaller, seat_of(event), entry_known, pick)
+        equal_choice(
+            rules.waiter <= rules.entry,
+            waiter,
+            signaller,
+            seat_of(event),
+            entry_known,
+            pick,
+        )
     }
 
     /// Past the ready seats alone, under an automatic kind.
@@ -72,7 +90,13 @@ impl<K: Kind, T: Guarded> Floor<K, T> {
         }
         let rules = rules_of::<K>();
         let front = first_ready(&self.object, self.ledger.queues.untils());
-        single_choice(From3::Until, rules.waiter <= rules.entry, front, entry_known, pick)
+        single_choice(
+            From3::Until,
+            rules.waiter <= rules.entry,
+            front,
+            entry_known,
+            pick,
+        )
     }
 
     /// A signal under a blocking kind hands over to the seat that it serves, whatever the wish.
@@ -177,7 +201,11 @@ impl<K: ImmediateReturn, T: Guarded> Floor<K, T> {
         ensures grown { IsGrown K.rules T.meaning self.old (Event.SignalLeave seat cond result) self.new }
         ensures choice { result ≡ choice_of K.rules T.meaning (stands_of K.rules T.meaning self.old) (Event.SignalLeave seat cond Next.Stay) entry_known pick }
     {
-        let next = self.next_waiter(Event::SignalLeave(seat, cond, Next::Stay), entry_known, pick);
+        let next = self.next_waiter(
+            Event::SignalLeave(seat, cond, Next::Stay),
+            entry_known,
+            pick,
+        );
         self.append(Event::SignalLeave(seat, cond, next));
         next
     }

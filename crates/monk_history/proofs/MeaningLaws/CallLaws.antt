@@ -82,7 +82,10 @@ pub may_enter_handed : (m : Monitor) (h : List Event) (s : ℕ) → turn h ≡ O
 may_enter_handed m h s t l i b = record { in_range = one_seat _ (lt_is s m.seats l); offered = refl; in_turn = opened (turn h) t; in_place = both_true _ _ (ap not i) b }
 
 pub may_enter_free : (m : Monitor) (h : List Event) (s : ℕ) → turn h ≡ Open → s < m.seats → is_inside s h ≡ false
-  → (situation m h).waiters ≡ [] → (situation m h).signallers ≡ [] → ready_of m.object (data_of m h) (untils h) ≡ [] → MayCall m h (Enter s Free)
+    → (situation m h).waiters ≡ [] → (situation m h).signallers ≡ [] → ready_of m.object (data_of m h) (untils h) ≡ [] → MayCall m h (Enter s Free)
 may_enter_free m h s t l i w g r = record {
-  in_range = one_seat _ (lt_is s m.seats l); offered = refl; in_turn = opened (turn h) t;
-  in_place = both_true _ _ (ap not i) (both_true _ _ (both_true _ _ (ap is_empty w) (ap is_empty g)) (ap is_empty r)) }
+  in_range = one_seat _ (lt_is s m.seats l);
+  offered = refl;
+  in_turn = opened (turn h) t;
+  in_place = both_true _ _ (ap not i) (both_true _ _ (both_true _ _ (ap is_empty w) (ap is_empty g)) (ap is_empty r));
+}

@@ -36,9 +36,9 @@ total_one : (n x : ℕ) (f : ℕ → ℕ) → x < n → total n (λ s. cond (x =
 total_one zero x f l = absurd (omega arith)
 total_one (suc n) x f l =
     ⊎_elim
-      (λ k. omega (arith, total_one n x f k, other (x == n) (λ e. grind (arith, e, k))))
-      (λ k. let e : x ≡ n = omega arith in let b : ◌≡◌ {A = ℕ} (cond (x == n) 1 0) 1 = ap (λ z. cond z 1 0) (eq-eqb x n e) in omega (arith, total_more n x f k, b))
-      (cases_lt x n)
+    (λ k. omega (arith, total_one n x f k, other (x == n) (λ e. grind (arith, e, k))))
+    (λ k. let e : x ≡ n = omega arith in let b : ◌≡◌ {A = ℕ} (cond (x == n) 1 0) 1 = ap (λ z. cond z 1 0) (eq-eqb x n e) in omega (arith, total_more n x f k, b))
+    (cases_lt x n)
   where
     other : (b : Bool) → (b ≡ true → ⊥) → ◌≡◌ {A = ℕ} (cond b 1 0) 0
     other true h = absurd (h refl)
@@ -57,9 +57,9 @@ length_total n [] h = sym (total_none n)
 length_total n (x ∷ xs) h =
     let rest = length_total n xs (λ s l. omega (arith, h s l)) in
     ⊎_elim
-      (λ l. omega (arith, rest, total_one n x (λ s. times s xs) l))
-      (λ l. absurd (omega (arith, h x l, times_self x xs)))
-      (cases_lt x n)
+    (λ l. omega (arith, rest, total_one n x (λ s. times s xs) l))
+    (λ l. absurd (omega (arith, h x l, times_self x xs)))
+    (cases_lt x n)
 
 -- a list in which each seat stands at most once, one of them not at all, is shorter than there are seats
 pub length_few : (n i : ℕ) (xs : List ℕ) → i < n → ((s : ℕ) → n ≤ s → times s xs ≡ 0) → ((s : ℕ) → times s xs ≤ 1) → times i xs ≡ 0 → length xs < n

@@ -57,11 +57,11 @@ enters_free m h s = (
   λ a. (
     record { seat = range_here m h (Enter s Free) a; free = open_is (turn h) a.in_turn; outside = not_is (is_inside s h) (and_left _ _ a.in_place) },
     (let q = and_right (not (is_inside s h)) _ a.in_place in
-    record {
-      waiters = empty_is _ (and_left _ _ (and_left _ (is_empty (ready_of m.object (data_of m h) (untils h))) q));
-      signallers = empty_is _ (and_right _ _ (and_left _ (is_empty (ready_of m.object (data_of m h) (untils h))) q));
-      ready = empty_is _ (and_right _ (is_empty (ready_of m.object (data_of m h) (untils h))) q);
-    }),
+        record {
+          waiters = empty_is _ (and_left _ _ (and_left _ (is_empty (ready_of m.object (data_of m h) (untils h))) q));
+          signallers = empty_is _ (and_right _ _ (and_left _ (is_empty (ready_of m.object (data_of m h) (untils h))) q));
+          ready = empty_is _ (and_right _ (is_empty (ready_of m.object (data_of m h) (untils h))) q);
+        }),
   ),
   λ p. from_call m h s (may_enter_free m h s p.0.free p.0.seat p.0.outside p.1.waiters p.1.signallers p.1.ready),
 )
@@ -74,7 +74,7 @@ enters_handed m h s = (
     some_is h (and_right (not (is_inside s h)) _ a.in_place),
   ),
   λ p. (let c = may_enter_handed m h s p.0.free p.0.seat p.0.outside (is_some h p.1) in
-    record { in_range = c.in_range; offered = c.offered; in_turn = c.in_turn; in_place = c.in_place; right_reply = refl; permitted = refl }),
+      record { in_range = c.in_range; offered = c.offered; in_turn = c.in_turn; in_place = c.in_place; right_reply = refl; permitted = refl }),
 )
 
 queue_is : (r q : From3) → is_queue r q ≡ true → r ≡ q
@@ -164,7 +164,7 @@ leaves_own j [] = refl
 leaves_own j (e ∷ es) = leaves_more j e (filter (λ x. seat_of x == j) es) es (seat_of e == j) refl (leaves_own j es)
 
 inside_more : (j : ℕ) (e : Event) (own es : List Event) (b : Bool) → (seat_of e == j) ≡ b → list_any (leaves j) own ≡ list_any (leaves j) es → inside_of j own ≡ inside_of j es
-  → inside_of j (cond b (e ∷ own) own) ≡ ((enters j e && not (list_any (leaves j) es)) || inside_of j es)
+    → inside_of j (cond b (e ∷ own) own) ≡ ((enters j e && not (list_any (leaves j) es)) || inside_of j es)
 inside_more j e own es true h k i = λ z. (enters j e && not (k z)) || i z
 inside_more j e own es false h k i = i ∙ sym (ap (λ b. (b && not (list_any (leaves j) es)) || inside_of j es) (enters_other j e h))
 

@@ -38,7 +38,8 @@ pub non_blocking : (k : Rules) → IsKind k → k.mode ≡ NonBlocking → IsNon
 non_blocking k i e = record {
   conditions = ap has_conditions e;
   entry_waiter = i.entry_waiter;
-  waiter_signaller = subst (λ x. FitsMode x k.entry k.waiter k.signaller) e i.fits_mode }
+  waiter_signaller = subst (λ x. FitsMode x k.entry k.waiter k.signaller) e i.fits_mode;
+}
 
 not_equal : (x y : ℕ) → y < x → (x == y) ≡ true → ⊥
 not_equal x y l h = let e : x ≡ y = eqb-true x y h in absurd (omega (arith, e, l))
@@ -71,12 +72,12 @@ drop_caller true false xs s h k = ap (λ z. drop 1 (z ++ s ∷ [])) h
 drop_caller false false xs s h k = absurd (false≢true k)
 
 alone_signal : (k : Rules) (o : Object) (t : Situation) (s c : ℕ) (x : Next) (b : Bool) → IsNonBlocking k → t.signallers ≡ []
-  → cond b (is_stay (Some x)) (may_signal k (record (queues_at o t (Signal s c x)) { signallers = t.signallers ++ cond b [] (s ∷ []) }) s x) ≡ true
-  → drop (cond (is_signaller (Some x) || (is_stay (Some x) && not (is_empty (cond b [] (s ∷ []))))) 1 0) (t.signallers ++ cond b [] (s ∷ [])) ≡ []
+    → cond b (is_stay (Some x)) (may_signal k (record (queues_at o t (Signal s c x)) { signallers = t.signallers ++ cond b [] (s ∷ []) }) s x) ≡ true
+    → drop (cond (is_signaller (Some x) || (is_stay (Some x) && not (is_empty (cond b [] (s ∷ []))))) 1 0) (t.signallers ++ cond b [] (s ∷ [])) ≡ []
 alone_signal k o t s c x true n e p = drop_nobody _ t.signallers [] e refl
 alone_signal k o t s c x false n e p =
     drop_caller (is_stay (Some x)) (is_signaller (Some x)) t.signallers s e
-      (only_stay k _ _ s x n (subst (λ ss. may_signal k (record (queues_at o t (Signal s c x)) { signallers = ss ++ s ∷ [] }) s x ≡ true) e p))
+    (only_stay k _ _ s x n (subst (λ ss. may_signal k (record (queues_at o t (Signal s c x)) { signallers = ss ++ s ∷ [] }) s x ≡ true) e p))
 
 alone_after : (m : Monitor) (t : Situation) (e : Event) → IsNonBlocking m.kind → t.signallers ≡ [] → IsAllowedIn m t e → (after m.object t e).signallers ≡ []
 alone_after m t (Enter s via) n h a = drop_nobody false t.signallers [] h refl
@@ -105,7 +106,8 @@ blocking k i e = record {
   conditions = ap has_conditions e;
   returns_not = ap returns_at_once e;
   entry_signaller = i.entry_signaller;
-  signaller_waiter = subst (λ x. FitsMode x k.entry k.waiter k.signaller) e i.fits_mode }
+  signaller_waiter = subst (λ x. FitsMode x k.entry k.waiter k.signaller) e i.fits_mode;
+}
 
 -- with somebody served, a blocking kind admits from the waiter queue
 only_waiter : (k : Rules) (w : ℕ) (ws ss rs : List ℕ) (s : ℕ) (x : Next) → IsBlocking k → may_signal k (record { waiters = w ∷ ws; signallers = ss; ready = rs }) s x ≡ true → is_waiter (Some x) ≡ true
@@ -120,8 +122,8 @@ drop_served true y h = refl
 drop_served false y h = absurd (false≢true h)
 
 emptied_signal : (k : Rules) (ws qs ss rs : List ℕ) (s : ℕ) (x : Next) → IsBlocking k → ws ≡ []
-  → cond (is_empty qs) (is_stay (Some x)) (may_signal k (record { waiters = ws ++ take 1 qs; signallers = ss; ready = rs }) s x) ≡ true
-  → drop (cond (is_waiter (Some x)) 1 0) (ws ++ take 1 qs) ≡ []
+    → cond (is_empty qs) (is_stay (Some x)) (may_signal k (record { waiters = ws ++ take 1 qs; signallers = ss; ready = rs }) s x) ≡ true
+    → drop (cond (is_waiter (Some x)) 1 0) (ws ++ take 1 qs) ≡ []
 emptied_signal k ws [] ss rs s x n e p = drop_nobody (is_waiter (Some x)) ws [] e refl
 emptied_signal k ws (y ∷ ys) ss rs s x n e p =
     ap (λ z. drop (cond (is_waiter (Some x)) 1 0) (z ++ y ∷ [])) e

@@ -148,7 +148,7 @@ turn_grants s j (Some (UntilSeat i)) n = refl
 
 -- a chosen seat stands in a queue that is chosen from, and is not the caller if that is the signaller queue
 chosen_in : (k : Rules) (q : Queues) (s j : ℕ) (x : Next) (n : ℕ) → may_choose k q s x ≡ true → names j (Some x) ≡ true
-  → (1 ≤ times j q.waiters → 1 ≤ n) → (1 ≤ times j q.signallers → j ≢ s → 1 ≤ n) → (1 ≤ times j q.ready → 1 ≤ n) → 1 ≤ n
+    → (1 ≤ times j q.waiters → 1 ≤ n) → (1 ≤ times j q.signallers → j ≢ s → 1 ≤ n) → (1 ≤ times j q.ready → 1 ≤ n) → 1 ≤ n
 chosen_in k q s j Stay n h g w f r = absurd (false≢true g)
 chosen_in k q s j Entry n h g w f r = absurd (false≢true g)
 chosen_in k q s j (Waiter i) n h g w f r =
@@ -157,13 +157,13 @@ chosen_in k q s j (Waiter i) n h g w f r =
 chosen_in k q s j (Signaller i) n h g w f r =
     let e : i ≡ j = eqb-true i j g in
     f (subst (λ z. 1 ≤ times z q.signallers) e (front_times i q.signallers (and_left _ _ (and_left _ _ h))))
-      (λ d. false≢true (sym (ap not (eq-eqb i s (e ∙ d))) ∙ and_right _ _ h))
+    (λ d. false≢true (sym (ap not (eq-eqb i s (e ∙ d))) ∙ and_right _ _ h))
 chosen_in k q s j (UntilSeat i) n h g w f r =
     let e : i ≡ j = eqb-true i j g in
     r (subst (λ z. 1 ≤ times z q.ready) e (front_times i q.ready (and_right (not (has_conditions k.mode)) _ h)))
 
 signalled_in : (k : Rules) (q : Queues) (s j : ℕ) (x : Next) (n : ℕ) → may_signal k q s x ≡ true → names j (Some x) ≡ true
-  → (1 ≤ times j q.waiters → 1 ≤ n) → (1 ≤ times j q.signallers → j ≢ s → 1 ≤ n) → (1 ≤ times j q.ready → 1 ≤ n) → 1 ≤ n
+    → (1 ≤ times j q.waiters → 1 ≤ n) → (1 ≤ times j q.signallers → j ≢ s → 1 ≤ n) → (1 ≤ times j q.ready → 1 ≤ n) → 1 ≤ n
 signalled_in k q s j Stay n h g w f r = absurd (false≢true g)
 signalled_in k q s j Entry n h g w f r = absurd (false≢true g)
 signalled_in k q s j (Waiter i) n h g w f r = chosen_in k q s j (Waiter i) n h g w f r
@@ -172,15 +172,19 @@ signalled_in k q s j (UntilSeat i) n h g w f r = chosen_in k q s j (UntilSeat i)
 
 in_queue_waiters : (m : Monitor) (t : Situation) (e : Event) (j : ℕ) → IsAllowedIn m t e → 1 ≤ times j (queues_at m.object t e).waiters → 1 ≤ in_queues m.conds j t
 in_queue_waiters m t e j a h =
-    omega (arith, h, times-append j t.waiters (serves t.condition e),
-      serves_times m.conds t.condition e j (and_right _ _ (and_left _ (fits_object m.object.codes m.object.predicates e) a.in_range)))
+    omega (
+      arith,
+      h,
+      times-append j t.waiters (serves t.condition e),
+      serves_times m.conds t.condition e j (and_right _ _ (and_left _ (fits_object m.object.codes m.object.predicates e) a.in_range)),
+    )
 
 in_queue_signallers : (m : Monitor) (t : Situation) (e : Event) (j : ℕ) → 1 ≤ times j (queues_at m.object t e).signallers → j ≢ seat_of e → 1 ≤ in_queues m.conds j t
 in_queue_signallers m t e j h n =
     ⊎_elim
-      (λ k. omega (arith, k))
-      (λ k. absurd (n (sym (caller_signals t.condition e j (omega (arith, h, k, times-append j t.signallers (signals t.condition e)))))))
-      (cases_lt 0 (times j t.signallers))
+    (λ k. omega (arith, k))
+    (λ k. absurd (n (sym (caller_signals t.condition e j (omega (arith, h, k, times-append j t.signallers (signals t.condition e)))))))
+    (cases_lt 0 (times j t.signallers))
 
 in_queue_ready : (m : Monitor) (t : Situation) (e : Event) (j : ℕ) → 1 ≤ times j (queues_at m.object t e).ready → 1 ≤ in_queues m.conds j t
 in_queue_ready m t e j h = omega (arith, h, times_filter m.object t.state t.untils j)
@@ -202,21 +206,21 @@ chosen_queued m t (Enter s via) j a g = absurd (false≢true g)
 chosen_queued m t (Act s op r) j a g = absurd (false≢true g)
 chosen_queued m t (Leave s x) j a g =
     chosen_in m.kind (queues_at m.object t (Leave s x)) s j x (in_queues m.conds j t) a.permitted g
-      (in_queue_waiters m t (Leave s x) j a) (in_queue_signallers m t (Leave s x) j) (in_queue_ready m t (Leave s x) j)
+    (in_queue_waiters m t (Leave s x) j a) (in_queue_signallers m t (Leave s x) j) (in_queue_ready m t (Leave s x) j)
 chosen_queued m t (Wait s c x) j a g =
     chosen_in m.kind (queues_at m.object t (Wait s c x)) s j x (in_queues m.conds j t) a.permitted g
-      (in_queue_waiters m t (Wait s c x) j a) (in_queue_signallers m t (Wait s c x) j) (in_queue_ready m t (Wait s c x) j)
+    (in_queue_waiters m t (Wait s c x) j a) (in_queue_signallers m t (Wait s c x) j) (in_queue_ready m t (Wait s c x) j)
 chosen_queued m t (Signal s c x) j a g =
     signalled_in m.kind (queues_at m.object t (Signal s c x)) s j x (in_queues m.conds j t)
-      (unless (is_empty (t.condition c)) (is_stay (Some x)) _ a.permitted (λ h. stay_names j x h g)) g
-      (in_queue_waiters m t (Signal s c x) j a) (in_queue_signallers m t (Signal s c x) j) (in_queue_ready m t (Signal s c x) j)
+    (unless (is_empty (t.condition c)) (is_stay (Some x)) _ a.permitted (λ h. stay_names j x h g)) g
+    (in_queue_waiters m t (Signal s c x) j a) (in_queue_signallers m t (Signal s c x) j) (in_queue_ready m t (Signal s c x) j)
 chosen_queued m t (SignalLeave s c x) j a g =
     chosen_in m.kind (queues_at m.object t (SignalLeave s c x)) s j x (in_queues m.conds j t) a.permitted g
-      (in_queue_waiters m t (SignalLeave s c x) j a) (in_queue_signallers m t (SignalLeave s c x) j) (in_queue_ready m t (SignalLeave s c x) j)
+    (in_queue_waiters m t (SignalLeave s c x) j a) (in_queue_signallers m t (SignalLeave s c x) j) (in_queue_ready m t (SignalLeave s c x) j)
 chosen_queued m t (Until s p x) j a g =
     chosen_in m.kind (queues_at m.object t (Until s p x)) s j x (in_queues m.conds j t)
-      (unless (m.object.holds t.state p) (is_stay (Some x)) _ a.permitted (λ h. stay_names j x h g)) g
-      (in_queue_waiters m t (Until s p x) j a) (in_queue_signallers m t (Until s p x) j) (in_queue_ready m t (Until s p x) j)
+    (unless (m.object.holds t.state p) (is_stay (Some x)) _ a.permitted (λ h. stay_names j x h g)) g
+    (in_queue_waiters m t (Until s p x) j a) (in_queue_signallers m t (Until s p x) j) (in_queue_ready m t (Until s p x) j)
 chosen_queued m t (Resume s q) j a g = absurd (false≢true g)
 
 -- the seat of an allowed event stands in no queue
@@ -292,7 +296,7 @@ stands_after m h e l a =
     let own : is_inside self (h ++ e ∷ []) ≡ not (is_way_out e) = inside-push self h e ∙ caller_inside m.conds t e p a.in_turn in
     let owned : ◌≡◌ {A = ℕ} (cond (is_inside self (h ++ e ∷ [])) 1 0) (cond (not (is_way_out e)) 1 0) = ap (λ b. cond b 1 0) own in
     let kept : has_turn self u.turn ≡ cond (goes_on (next_of e)) 1 0 =
-      ap (has_turn self) (turn-push h e) ∙ keeps_turn self (next_of e) (none_or (names self (next_of e)) (λ g. not_caller m t e self p a g refl)) in
+    ap (has_turn self) (turn-push h e) ∙ keeps_turn self (next_of e) (none_or (names self (next_of e)) (λ g. not_caller m t e self p a g refl)) in
     let same = λ (j : ℕ) (n : j ≢ self). ap (λ b. cond {A = ℕ} b 1 0) (inside-push j h e ∙ other_inside j e (is_inside j h) n) in
     let turns = λ (j : ℕ) (n : j ≢ self). ap (has_turn j) (turn-push h e) ∙ turn_grants self j (next_of e) n in
     let named = λ (j : ℕ) (g : grants j e ≡ true). ap (λ b. cond {A = ℕ} b 1 0) g in
@@ -305,5 +309,5 @@ stands_after m h e l a =
       chosen_other = λ j g. not_caller m t e j p a g;
       chosen_before = λ j g. omega (arith, chosen_queued m t e j a g, queued_once m h l j);
       chosen_after = λ j g. let n = not_caller m t e j p a g in
-        omega (arith, p j, p2 j, same j n, turns j n, other_turn t e j n a.in_turn, named j g, chosen_queued m t e j a g, queued_once m h l j);
+          omega (arith, p j, p2 j, same j n, turns j n, other_turn t e j n a.in_turn, named j g, chosen_queued m t e j a g, queued_once m h l j);
     }

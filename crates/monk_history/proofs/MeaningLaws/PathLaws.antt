@@ -39,23 +39,23 @@ le_yes x y l = grind (arith, l)
 -- a choice by what it reads of the queues
 abbrev pub parts : Bool → Bool → Bool → Bool → Bool → Next → Bool → Next → Bool → Pick → Next
 parts we se sw ws none next empty other known WishEntry =
-  if known && (none || we) && (empty || se) then Entry
-  else if none && empty then Entry
-  else if not none && (empty || sw) then next
-  else other
+    if known && (none || we) && (empty || se) then Entry
+    else if none && empty then Entry
+    else if not none && (empty || sw) then next
+    else other
 parts we se sw ws none next empty other known WishWaiter =
-  if not none && (empty || sw) then next
-  else if none && empty then Entry
-  else if not none && (empty || sw) then next
-  else other
+    if not none && (empty || sw) then next
+    else if none && empty then Entry
+    else if not none && (empty || sw) then next
+    else other
 parts we se sw ws none next empty other known WishSignaller =
-  if not empty && (none || ws) then other
-  else if none && empty then Entry
-  else if not none && (empty || sw) then next
-  else other
+    if not empty && (none || ws) then other
+    else if none && empty then Entry
+    else if not none && (empty || sw) then next
+    else other
 
 pub parts_are : (k : Rules) (q : Queues) (s : ℕ) (known : Bool) (wish : Pick)
-  → choice_by k q s known wish ≡ parts (nat_le k.waiter k.entry) (nat_le k.signaller k.entry) (nat_le k.signaller k.waiter) (nat_le k.waiter k.signaller) (is_empty (inner_waiters k q)) (waiter_choice k q) (is_empty q.signallers) (signaller_choice q s) known wish
+    → choice_by k q s known wish ≡ parts (nat_le k.waiter k.entry) (nat_le k.signaller k.entry) (nat_le k.signaller k.waiter) (nat_le k.waiter k.signaller) (is_empty (inner_waiters k q)) (waiter_choice k q) (is_empty q.signallers) (signaller_choice q s) known wish
 parts_are k q s known WishEntry = refl
 parts_are k q s known WishWaiter = refl
 parts_are k q s known WishSignaller = refl
@@ -92,21 +92,21 @@ not_empty_push [] s = refl
 not_empty_push (x ∷ xs) s = refl
 
 stay_choice : (k : Rules) (ws ss rs : List ℕ) (s : ℕ) (b : Bool) (known : Bool) (wish : Pick) → IsNonBlocking k → ss ≡ []
-  → Stay ≡ cond b Stay (choice_by k (record { waiters = ws; signallers = ss ++ cond b [] (s ∷ []); ready = rs }) s known wish)
+    → Stay ≡ cond b Stay (choice_by k (record { waiters = ws; signallers = ss ++ cond b [] (s ∷ []); ready = rs }) s known wish)
 stay_choice k ws ss rs s true known wish n e = refl
 stay_choice k ws ss rs s false known wish n e =
     sym (signaller_first k (record { waiters = ws; signallers = ss ++ s ∷ []; ready = rs }) s known wish n (not_empty_push ss s) ∙ caller_first ss s e)
 
 -- under a non-blocking kind a signal stays
 pub signal_stays : (m : Monitor) (h : List Event) (s c : ℕ) (x : Next) (known : Bool) (wish : Pick) → IsNonBlocking m.kind → IsLegal m h
-  → Stay ≡ choice_of m.kind m.object (situation m h) (Signal s c x) known wish
+    → Stay ≡ choice_of m.kind m.object (situation m h) (Signal s c x) known wish
 signal_stays m h s c x known wish n l =
     let t = situation m h in
     stay_choice m.kind _ t.signallers _ s (is_empty (t.condition c)) known wish n (legal_alone m h n l)
 
 -- past the one queue of those served or ready
 waiter_single : (we se sw ws : Bool) (queue : From3) (xs : List ℕ) (other : Next) (known : Bool) (wish : Pick)
-  → parts we se sw ws (is_empty xs) (next_from queue (front xs)) true other known wish ≡ single_choice queue we (slice_get xs 0) known wish
+    → parts we se sw ws (is_empty xs) (next_from queue (front xs)) true other known wish ≡ single_choice queue we (slice_get xs 0) known wish
 waiter_single we se sw ws queue [] other true WishEntry = refl
 waiter_single we se sw ws queue [] other false WishEntry = refl
 waiter_single we se sw ws queue [] other known WishWaiter = refl
@@ -118,14 +118,14 @@ waiter_single we se sw ws queue (y ∷ ys) other known WishWaiter = refl
 waiter_single we se sw ws queue (y ∷ ys) other known WishSignaller = refl
 
 single_waiter : (k : Rules) (q : Queues) (s : ℕ) (known : Bool) (wish : Pick) → has_conditions k.mode ≡ true → q.signallers ≡ []
-  → choice_by k q s known wish ≡ single_choice FromWaiter (nat_le k.waiter k.entry) (slice_get q.waiters 0) known wish
+    → choice_by k q s known wish ≡ single_choice FromWaiter (nat_le k.waiter k.entry) (slice_get q.waiters 0) known wish
 single_waiter k q s known wish h e =
     parts_are k q s known wish
     ∙ ((λ i. parts (nat_le k.waiter k.entry) (nat_le k.signaller k.entry) (nat_le k.signaller k.waiter) (nat_le k.waiter k.signaller) (is_empty (cond (h i) q.waiters q.ready)) (cond (h i) (Waiter (front q.waiters)) (UntilSeat (front q.ready))) (is_empty (e i)) (signaller_choice q s) known wish)
     ∙ waiter_single (nat_le k.waiter k.entry) (nat_le k.signaller k.entry) (nat_le k.signaller k.waiter) (nat_le k.waiter k.signaller) FromWaiter q.waiters (signaller_choice q s) known wish)
 
 single_ready : (k : Rules) (q : Queues) (s : ℕ) (known : Bool) (wish : Pick) → has_conditions k.mode ≡ false → q.signallers ≡ []
-  → choice_by k q s known wish ≡ single_choice FromUntil (nat_le k.waiter k.entry) (slice_get q.ready 0) known wish
+    → choice_by k q s known wish ≡ single_choice FromUntil (nat_le k.waiter k.entry) (slice_get q.ready 0) known wish
 single_ready k q s known wish h e =
     parts_are k q s known wish
     ∙ ((λ i. parts (nat_le k.waiter k.entry) (nat_le k.signaller k.entry) (nat_le k.signaller k.waiter) (nat_le k.waiter k.signaller) (is_empty (cond (h i) q.waiters q.ready)) (cond (h i) (Waiter (front q.waiters)) (UntilSeat (front q.ready))) (is_empty (e i)) (signaller_choice q s) known wish)
@@ -133,7 +133,7 @@ single_ready k q s known wish h e =
 
 -- past the signallers alone, the caller not being their front
 signaller_single : (we se sw ws : Bool) (next : Next) (ss : List ℕ) (s : ℕ) (known : Bool) (wish : Pick) → is_front s ss ≡ false
-  → parts we se sw ws true next (is_empty ss) (cond (front ss == s) Stay (Signaller (front ss))) known wish ≡ single_choice FromSignaller se (slice_get ss 0) known wish
+    → parts we se sw ws true next (is_empty ss) (cond (front ss == s) Stay (Signaller (front ss))) known wish ≡ single_choice FromSignaller se (slice_get ss 0) known wish
 signaller_single we se sw ws next [] s true WishEntry h = refl
 signaller_single we se sw ws next [] s false WishEntry h = refl
 signaller_single we se sw ws next [] s known WishWaiter h = refl
@@ -144,7 +144,7 @@ signaller_single we se sw ws next (y ∷ ys) s known WishWaiter h = ap (λ b. co
 signaller_single we se sw ws next (y ∷ ys) s known WishSignaller h = ap (λ b. cond b Stay (Signaller y)) h
 
 single_signaller : (k : Rules) (q : Queues) (s : ℕ) (known : Bool) (wish : Pick) → has_conditions k.mode ≡ true → q.waiters ≡ [] → is_front s q.signallers ≡ false
-  → choice_by k q s known wish ≡ single_choice FromSignaller (nat_le k.signaller k.entry) (slice_get q.signallers 0) known wish
+    → choice_by k q s known wish ≡ single_choice FromSignaller (nat_le k.signaller k.entry) (slice_get q.signallers 0) known wish
 single_signaller k q s known wish h e f =
     parts_are k q s known wish
     ∙ ((λ i. parts (nat_le k.waiter k.entry) (nat_le k.signaller k.entry) (nat_le k.signaller k.waiter) (nat_le k.waiter k.signaller) (is_empty (cond (h i) (e i) q.ready)) (waiter_choice k q) (is_empty q.signallers) (signaller_choice q s) known wish)
@@ -173,7 +173,7 @@ served_first k q s known wish n e =
 
 -- past two queues of one priority
 equal_parts : (we : Bool) (ws ss : List ℕ) (s : ℕ) (known : Bool) (wish : Pick)
-  → parts we we true true (is_empty ws) (Waiter (front ws)) (is_empty ss) (cond (front ss == s) Stay (Signaller (front ss))) known wish ≡ equal_choice we (slice_get ws 0) (slice_get ss 0) s known wish
+    → parts we we true true (is_empty ws) (Waiter (front ws)) (is_empty ss) (cond (front ss == s) Stay (Signaller (front ss))) known wish ≡ equal_choice we (slice_get ws 0) (slice_get ss 0) s known wish
 equal_parts we [] [] s true WishEntry = refl
 equal_parts we [] [] s false WishEntry = refl
 equal_parts we [] [] s known WishWaiter = refl
@@ -206,7 +206,7 @@ le_same : (x : ℕ) → nat_le x x ≡ true
 le_same x = le_yes x x (omega arith)
 
 equal_both : (k : Rules) (q : Queues) (s : ℕ) (known : Bool) (wish : Pick) → IsQuasiBlocking k
-  → choice_by k q s known wish ≡ equal_choice (nat_le k.waiter k.entry) (slice_get q.waiters 0) (slice_get q.signallers 0) s known wish
+    → choice_by k q s known wish ≡ equal_choice (nat_le k.waiter k.entry) (slice_get q.waiters 0) (slice_get q.signallers 0) s known wish
 equal_both k q s known wish n =
     parts_are k q s known wish
     ∙ ((λ i. parts (nat_le k.waiter k.entry) (nat_le (sym n.equal i) k.entry) (nat_le (sym n.equal i) k.waiter) (nat_le k.waiter (sym n.equal i)) (is_empty (cond (n.conditions i) q.waiters q.ready)) (cond (n.conditions i) (Waiter (front q.waiters)) (UntilSeat (front q.ready))) (is_empty q.signallers) (signaller_choice q s) known wish)
@@ -215,7 +215,7 @@ equal_both k q s known wish n =
 
 -- what need not stay chooses by the wish rules
 chosen_by : (m : Monitor) (h : List Event) (e : Event) (known : Bool) (wish : Pick) (n : Next) → must_stay m.object (situation m h) e ≡ false
-  → choice_by m.kind (queues_at m.object (situation m h) e) (seat_of e) known wish ≡ n → n ≡ choice_of m.kind m.object (situation m h) e known wish
+    → choice_by m.kind (queues_at m.object (situation m h) e) (seat_of e) known wish ≡ n → n ≡ choice_of m.kind m.object (situation m h) e known wish
 chosen_by m h e known wish n b c =
     sym (ap (λ z. cond z Stay (choice_by m.kind (queues_at m.object (situation m h) e) (seat_of e) known wish)) b ∙ c)
 
@@ -228,48 +228,48 @@ by_mode m h i l Automatic e f = legal_unsignalled m h (ap has_signaller_queue e)
 
 -- where nobody is kept as a signaller, a release that makes none looks at the waiter queue alone
 pub waiter_path : (m : Monitor) (h : List Event) (e : Event) (known : Bool) (wish : Pick) → IsKind m.kind → IsLegal m h → has_conditions m.kind.mode ≡ true → keeps_signallers m.kind.mode ≡ false
-  → must_stay m.object (situation m h) e ≡ false → signals (situation m h).condition e ≡ []
-  → single_choice FromWaiter (nat_le m.kind.waiter m.kind.entry) (slice_get ((situation m h).waiters ++ serves (situation m h).condition e) 0) known wish ≡ choice_of m.kind m.object (situation m h) e known wish
+    → must_stay m.object (situation m h) e ≡ false → signals (situation m h).condition e ≡ []
+    → single_choice FromWaiter (nat_le m.kind.waiter m.kind.entry) (slice_get ((situation m h).waiters ++ serves (situation m h).condition e) 0) known wish ≡ choice_of m.kind m.object (situation m h) e known wish
 waiter_path m h e known wish i l c f b z =
     chosen_by m h e known wish _ b
-      (single_waiter m.kind (queues_at m.object (situation m h) e) (seat_of e) known wish c
-        (ap (λ xs. xs ++ signals (situation m h).condition e) (by_mode m h i l m.kind.mode refl f) ∙ z))
+    (single_waiter m.kind (queues_at m.object (situation m h) e) (seat_of e) known wish c
+    (ap (λ xs. xs ++ signals (situation m h).condition e) (by_mode m h i l m.kind.mode refl f) ∙ z))
 
 -- under an automatic kind a release looks at the ready seats alone
 pub ready_path : (m : Monitor) (h : List Event) (e : Event) (known : Bool) (wish : Pick) → IsLegal m h → has_conditions m.kind.mode ≡ false → MayCall m h e
-  → must_stay m.object (situation m h) e ≡ false
-  → single_choice FromUntil (nat_le m.kind.waiter m.kind.entry) (slice_get (ready_of m.object (situation m h).state (situation m h).untils) 0) known wish ≡ choice_of m.kind m.object (situation m h) e known wish
+    → must_stay m.object (situation m h) e ≡ false
+    → single_choice FromUntil (nat_le m.kind.waiter m.kind.entry) (slice_get (ready_of m.object (situation m h).state (situation m h).untils) 0) known wish ≡ choice_of m.kind m.object (situation m h) e known wish
 ready_path m h e known wish l c a b =
     chosen_by m h e known wish _ b
-      (single_ready m.kind (queues_at m.object (situation m h) e) (seat_of e) known wish c
-        ((sorted_queues m.kind m.object (situation m h) e (legal_sorted m h l) a.offered).signallers c))
+    (single_ready m.kind (queues_at m.object (situation m h) e) (seat_of e) known wish c
+    ((sorted_queues m.kind m.object (situation m h) e (legal_sorted m h l) a.offered).signallers c))
 
 -- under a blocking kind a release that serves nobody looks at the signallers alone
 pub signaller_path : (m : Monitor) (h : List Event) (e : Event) (known : Bool) (wish : Pick) → IsBlocking m.kind → IsLegal m h → MayCall m h e
-  → must_stay m.object (situation m h) e ≡ false → serves (situation m h).condition e ≡ [] → signals (situation m h).condition e ≡ []
-  → single_choice FromSignaller (nat_le m.kind.signaller m.kind.entry) (slice_get ((situation m h).signallers ++ signals (situation m h).condition e) 0) known wish ≡ choice_of m.kind m.object (situation m h) e known wish
+    → must_stay m.object (situation m h) e ≡ false → serves (situation m h).condition e ≡ [] → signals (situation m h).condition e ≡ []
+    → single_choice FromSignaller (nat_le m.kind.signaller m.kind.entry) (slice_get ((situation m h).signallers ++ signals (situation m h).condition e) 0) known wish ≡ choice_of m.kind m.object (situation m h) e known wish
 signaller_path m h e known wish n l a b y z =
     let t = situation m h in
     chosen_by m h e known wish _ b
-      (single_signaller m.kind (queues_at m.object t e) (seat_of e) known wish n.conditions
-        (ap (λ xs. xs ++ serves t.condition e) (legal_emptied m h n l) ∙ y)
-        (front_absent (seat_of e) (t.signallers ++ signals t.condition e)
-          (omega (arith, times-append (seat_of e) t.signallers (signals t.condition e), ap (times (seat_of e)) z, (caller_apart m t e (legal_placed m h l) a.in_turn a.in_place).signallers))))
+    (single_signaller m.kind (queues_at m.object t e) (seat_of e) known wish n.conditions
+    (ap (λ xs. xs ++ serves t.condition e) (legal_emptied m h n l) ∙ y)
+    (front_absent (seat_of e) (t.signallers ++ signals t.condition e)
+    (omega (arith, times-append (seat_of e) t.signallers (signals t.condition e), ap (times (seat_of e)) z, (caller_apart m t e (legal_placed m h l) a.in_turn a.in_place).signallers))))
 
 served_case : (k : Rules) (ws qs ss rs : List ℕ) (s : ℕ) (known : Bool) (wish : Pick) → IsBlocking k → ws ≡ []
-  → served_choice (slice_get qs 0) ≡ cond (is_empty qs) Stay (choice_by k (record { waiters = ws ++ take 1 qs; signallers = ss ++ cond (is_empty qs) [] (s ∷ []); ready = rs }) s known wish)
+    → served_choice (slice_get qs 0) ≡ cond (is_empty qs) Stay (choice_by k (record { waiters = ws ++ take 1 qs; signallers = ss ++ cond (is_empty qs) [] (s ∷ []); ready = rs }) s known wish)
 served_case k ws [] ss rs s known wish n e = refl
 served_case k ws (y ∷ ys) ss rs s known wish n e =
     sym (served_first k (record { waiters = ws ++ y ∷ []; signallers = ss ++ s ∷ []; ready = rs }) s known wish n (not_empty_push ws y) ∙ ap (λ z. Waiter (front (z ++ y ∷ []))) e)
 
 -- under a blocking kind a signal hands over to the seat that it serves
 pub served_path : (m : Monitor) (h : List Event) (s c : ℕ) (x : Next) (known : Bool) (wish : Pick) → IsBlocking m.kind → IsLegal m h
-  → served_choice (slice_get ((situation m h).condition c) 0) ≡ choice_of m.kind m.object (situation m h) (Signal s c x) known wish
+    → served_choice (slice_get ((situation m h).condition c) 0) ≡ choice_of m.kind m.object (situation m h) (Signal s c x) known wish
 served_path m h s c x known wish n l =
     let t = situation m h in
     served_case m.kind t.waiters (t.condition c) t.signallers (ready_of m.object t.state t.untils) s known wish n (legal_emptied m h n l)
 
 -- under a quasi-blocking kind waiters and signallers are of one priority
 pub equal_path : (m : Monitor) (h : List Event) (e : Event) (known : Bool) (wish : Pick) → IsQuasiBlocking m.kind → must_stay m.object (situation m h) e ≡ false
-  → equal_choice (nat_le m.kind.waiter m.kind.entry) (slice_get ((situation m h).waiters ++ serves (situation m h).condition e) 0) (slice_get ((situation m h).signallers ++ signals (situation m h).condition e) 0) (seat_of e) known wish ≡ choice_of m.kind m.object (situation m h) e known wish
+    → equal_choice (nat_le m.kind.waiter m.kind.entry) (slice_get ((situation m h).waiters ++ serves (situation m h).condition e) 0) (slice_get ((situation m h).signallers ++ signals (situation m h).condition e) 0) (seat_of e) known wish ≡ choice_of m.kind m.object (situation m h) e known wish
 equal_path m h e known wish n b = chosen_by m h e known wish _ b (equal_both m.kind (queues_at m.object (situation m h) e) (seat_of e) known wish n)

@@ -43,7 +43,7 @@ use Rattle.monk_history.proofs.MeaningLaws.CountLaws.{length_few}
 pub legal_induction : (m : Monitor) (P : Situation → Type 0) → P (situation m []) → ((t : Situation) (e : Event) → P t → IsAllowedIn m t e → P (after m.object t e)) → (h : List Event) → IsLegal m h → P (situation m h)
 legal_induction m P none more h = history_induction (λ x. IsLegal m x → P (situation m x)) (λ l. none) (λ x e before l.
     subst P (sym (legal_situation-push m x e (legal_front m x (e ∷ []) l)))
-      (more (situation m x) e (before (legal_front m x (e ∷ []) l)) (legal_last m x e l))) h
+    (more (situation m x) e (before (legal_front m x (e ∷ []) l)) (legal_last m x e l))) h
 
 -- automatic kinds have waits-until alone, the others none
 pub record IsSorted (k : Rules) (t : Situation) : Type 0 where
@@ -114,7 +114,8 @@ sorted_after : (k : Rules) (o : Object) (t : Situation) (e : Event) → IsSorted
 sorted_after k o t e s a = record {
   untils = λ h. ap (λ us. filter (λ w. not (chooses e w)) us ++ waits_until e) (s.untils h) ∙ waits_until_none k.mode e h a;
   waiters = λ h. drop_none (is_waiter (next_of e)) t.waiters (serves t.condition e) (s.waiters h) (serves_none k.mode t.condition e h a);
-  signallers = λ h. drop_none (takes_signaller t.condition e) t.signallers (signals t.condition e) (s.signallers h) (signals_none k.mode t.condition e h a) }
+  signallers = λ h. drop_none (takes_signaller t.condition e) t.signallers (signals t.condition e) (s.signallers h) (signals_none k.mode t.condition e h a);
+}
 
 sorted_none : (m : Monitor) → IsSorted m.kind (situation m [])
 sorted_none m = subst (λ t. IsSorted m.kind t) (sym (situation-none m)) (record { untils = λ h. refl; waiters = λ h. refl; signallers = λ h. refl })
@@ -126,7 +127,8 @@ pub sorted_queues : (k : Rules) (o : Object) (t : Situation) (e : Event) → IsS
 sorted_queues k o t e s a = record {
   ready = λ h. ap (ready_of o t.state) (s.untils h);
   waiters = λ h. ap (λ ws. ws ++ serves t.condition e) (s.waiters h) ∙ serves_none k.mode t.condition e h a;
-  signallers = λ h. ap (λ ws. ws ++ signals t.condition e) (s.signallers h) ∙ signals_none k.mode t.condition e h a }
+  signallers = λ h. ap (λ ws. ws ++ signals t.condition e) (s.signallers h) ∙ signals_none k.mode t.condition e h a;
+}
 
 -- who is inside is a seat
 abbrev pub IsSeated : ℕ → Situation → Type 0
@@ -159,8 +161,8 @@ or_either P false b h f g = g h
 seated_after : (m : Monitor) (t : Situation) (e : Event) → IsSeated m.seats t → IsAllowedIn m t e → IsSeated m.seats (after m.object t e)
 seated_after m t e s a j h =
     or_either (j < m.seats) (t.inside j && not (leaves j e)) (enters j e) h
-      (λ b. s j (and_left _ _ b))
-      (λ b. subst (λ x. x < m.seats) (enters_seat j e b) (seat_in_range m.seats m.conds m.object.codes m.object.predicates e a.in_range))
+    (λ b. s j (and_left _ _ b))
+    (λ b. subst (λ x. x < m.seats) (enters_seat j e b) (seat_in_range m.seats m.conds m.object.codes m.object.predicates e a.in_range))
 
 seated_none : (m : Monitor) → IsSeated m.seats (situation m [])
 seated_none m = subst (λ t. IsSeated m.seats t) (sym (situation-none m)) (λ j h. absurd (false≢true h))
@@ -253,7 +255,8 @@ apart_turn n j t p h = record {
   conditions = omega (arith, p j, h, cond_le_one (t.inside j));
   waiters = omega (arith, p j, h, cond_le_one (t.inside j));
   signallers = omega (arith, p j, h, cond_le_one (t.inside j));
-  untils = omega (arith, p j, h, cond_le_one (t.inside j)) }
+  untils = omega (arith, p j, h, cond_le_one (t.inside j));
+}
 
 not_false : (b : Bool) → not b ≡ true → ◌≡◌ {A = ℕ} (cond b 1 0) 0
 not_false true h = absurd (false≢true h)
@@ -264,7 +267,8 @@ apart_outside n j t p h = record {
   conditions = omega (arith, p j, not_false (t.inside j) h);
   waiters = omega (arith, p j, not_false (t.inside j) h);
   signallers = omega (arith, p j, not_false (t.inside j) h);
-  untils = omega (arith, p j, not_false (t.inside j) h) }
+  untils = omega (arith, p j, not_false (t.inside j) h);
+}
 
 -- the seat of an event that may be called is in no queue
 pub caller_apart : (m : Monitor) (t : Situation) (e : Event) → IsPlaced m.conds t → is_in_turn t e ≡ true → is_in_place m.object t e ≡ true → IsApart m.conds (seat_of e) t
@@ -298,13 +302,14 @@ length_seats (u ∷ us) = ap suc (length_seats us)
 pub room_for : (m : Monitor) (t : Situation) (i : ℕ) → i < m.seats → IsPlaced m.conds t → IsSeated m.seats t → IsApart m.conds i t → HasRoom m.seats m.conds t
 room_for m t i l p s a = record {
   conditions = λ c k. length_few m.seats i (t.condition c) l
-    (λ j n. omega (arith, p j, far_none m.seats j t s n, times_le_conditions m.conds j c t.condition k))
-    (λ j. omega (arith, p j, cond_le_one (t.inside j), times_le_conditions m.conds j c t.condition k))
-    (omega (arith, a.conditions, times_le_conditions m.conds i c t.condition k));
+      (λ j n. omega (arith, p j, far_none m.seats j t s n, times_le_conditions m.conds j c t.condition k))
+      (λ j. omega (arith, p j, cond_le_one (t.inside j), times_le_conditions m.conds j c t.condition k))
+      (omega (arith, a.conditions, times_le_conditions m.conds i c t.condition k));
   waiters = length_few m.seats i t.waiters l (λ j n. omega (arith, p j, far_none m.seats j t s n)) (λ j. omega (arith, p j, cond_le_one (t.inside j))) a.waiters;
   signallers = length_few m.seats i t.signallers l (λ j n. omega (arith, p j, far_none m.seats j t s n)) (λ j. omega (arith, p j, cond_le_one (t.inside j))) a.signallers;
   untils = subst (λ n. n < m.seats) (length_seats t.untils)
-    (length_few m.seats i (map (λ w. w.0) t.untils) l (λ j n. omega (arith, p j, far_none m.seats j t s n)) (λ j. omega (arith, p j, cond_le_one (t.inside j))) a.untils) }
+      (length_few m.seats i (map (λ w. w.0) t.untils) l (λ j n. omega (arith, p j, far_none m.seats j t s n)) (λ j. omega (arith, p j, cond_le_one (t.inside j))) a.untils);
+}
 
 -- whoever stands in a queue of a release is a seat
 pub serves_times : (n : ℕ) (q : ℕ → List ℕ) (e : Event) (j : ℕ) → is_condition n (signals_on e) ≡ true → times j (serves q e) ≤ times_in_conditions n j q
@@ -333,13 +338,19 @@ caller_signals q (Resume s r) j h = absurd (omega (arith, h))
 
 within_queues : (m : Monitor) (t : Situation) (e : Event) → IsPlaced m.conds t → IsSeated m.seats t → is_in_range m.seats m.conds m.object.codes m.object.predicates e ≡ true → IsWithin m.seats (queues_at m.object t e)
 within_queues m t e p s r = record {
-  waiters = λ j h. s j (some_true (t.inside j) (omega (arith, p j, h, times-append j t.waiters (serves t.condition e),
-    serves_times m.conds t.condition e j (and_right _ _ (and_left _ (fits_object m.object.codes m.object.predicates e) r)))));
+  waiters = λ j h. s j (some_true (t.inside j) (omega (
+    arith,
+    p j,
+    h,
+    times-append j t.waiters (serves t.condition e),
+    serves_times m.conds t.condition e j (and_right _ _ (and_left _ (fits_object m.object.codes m.object.predicates e) r)),
+  )));
   signallers = λ j h. ⊎_elim
-    (λ k. s j (some_true (t.inside j) (omega (arith, p j, k))))
-    (λ k. subst (λ x. x < m.seats) (caller_signals t.condition e j (omega (arith, h, k, times-append j t.signallers (signals t.condition e)))) (seat_in_range m.seats m.conds m.object.codes m.object.predicates e r))
-    (cases_lt 0 (times j t.signallers));
-  ready = λ j h. s j (some_true (t.inside j) (omega (arith, p j, h, times_filter m.object t.state t.untils j))) }
+      (λ k. s j (some_true (t.inside j) (omega (arith, p j, k))))
+      (λ k. subst (λ x. x < m.seats) (caller_signals t.condition e j (omega (arith, h, k, times-append j t.signallers (signals t.condition e)))) (seat_in_range m.seats m.conds m.object.codes m.object.predicates e r))
+      (cases_lt 0 (times j t.signallers));
+  ready = λ j h. s j (some_true (t.inside j) (omega (arith, p j, h, times_filter m.object t.state t.untils j)));
+}
 
 -- what is known of how a legal history stands
 pub record IsInOrder (m : Monitor) (t : Situation) : Type 0 where
@@ -353,15 +364,15 @@ legal_order m h k l = record { kind = k; sorted = legal_sorted m h l; placed = l
 
 -- a release that must choose
 must_choose : (m : Monitor) (t : Situation) (e : Event) (known : Bool) (wish : Pick) → IsInOrder m t → MayCallIn m t e → signals t.condition e ≡ []
-  → may_choose m.kind (queues_at m.object t e) (seat_of e) (choice_by m.kind (queues_at m.object t e) (seat_of e) known wish) ≡ true
+    → may_choose m.kind (queues_at m.object t e) (seat_of e) (choice_by m.kind (queues_at m.object t e) (seat_of e) known wish) ≡ true
 must_choose m t e known wish i c z =
     choice_permitted m.kind (queues_at m.object t e) (seat_of e) known wish i.kind (sorted_queues m.kind m.object t e i.sorted c.offered)
-      (front_absent (seat_of e) (t.signallers ++ signals t.condition e)
-        (omega (arith, times-append (seat_of e) t.signallers (signals t.condition e), ap (times (seat_of e)) z, (caller_apart m t e i.placed c.in_turn c.in_place).signallers)))
+    (front_absent (seat_of e) (t.signallers ++ signals t.condition e)
+    (omega (arith, times-append (seat_of e) t.signallers (signals t.condition e), ap (times (seat_of e)) z, (caller_apart m t e i.placed c.in_turn c.in_place).signallers)))
 
 -- the choice of a release that must choose names seats
 must_name : (m : Monitor) (t : Situation) (e : Event) (known : Bool) (wish : Pick) → IsInOrder m t → MayCallIn m t e → signals t.condition e ≡ []
-  → list_all (λ j. nat_lt j m.seats) (named_seat (Some (choice_by m.kind (queues_at m.object t e) (seat_of e) known wish))) ≡ true
+    → list_all (λ j. nat_lt j m.seats) (named_seat (Some (choice_by m.kind (queues_at m.object t e) (seat_of e) known wish))) ≡ true
 must_name m t e known wish i c z =
     named_chosen m.kind (queues_at m.object t e) (seat_of e) m.seats _ (within_queues m t e i.placed i.seated c.in_range) (must_choose m t e known wish i c z)
 
@@ -371,10 +382,10 @@ some_wait [] (q ∷ qs) h = refl
 some_wait (w ∷ ws) qs h = refl
 
 served_choice : (m : Monitor) (t : Situation) (s c : ℕ) (y : Next) (known : Bool) (wish : Pick) → IsInOrder m t → MayCallIn m t (Signal s c y) → is_empty (t.condition c) ≡ false
-  → may_signal m.kind (queues_at m.object t (Signal s c y)) s (choice_by m.kind (queues_at m.object t (Signal s c y)) s known wish) ≡ true
+    → may_signal m.kind (queues_at m.object t (Signal s c y)) s (choice_by m.kind (queues_at m.object t (Signal s c y)) s known wish) ≡ true
 served_choice m t s c y known wish i a z =
     signal_permitted m.kind (queues_at m.object t (Signal s c y)) s known wish i.kind (sorted_queues m.kind m.object t (Signal s c y) i.sorted a.offered)
-      (signal_conditions m.kind.mode a.offered) (some_wait t.waiters (t.condition c) z)
+    (signal_conditions m.kind.mode a.offered) (some_wait t.waiters (t.condition c) z)
 
 stay_or : (f : Next → Bool) (b : Bool) (x : Next) → (b ≡ false → f x ≡ true) → cond b (is_stay (Some (cond b Stay x))) (f (cond b Stay x)) ≡ true
 stay_or f true x g = refl
@@ -386,28 +397,48 @@ named_or seats false x g = g refl
 
 -- a call that may be made is allowed with the choice by the wish rules
 pub chosen_allowed : (m : Monitor) (t : Situation) (e : Event) (known : Bool) (wish : Pick) → IsInOrder m t → MayCallIn m t e → is_right_reply m.object t.state e ≡ true
-  → IsAllowedIn m t (with_next (choice_of m.kind m.object t e known wish) e)
+    → IsAllowedIn m t (with_next (choice_of m.kind m.object t e known wish) e)
 chosen_allowed m t (Enter s via) known wish i c r = record { in_range = c.in_range; offered = c.offered; in_turn = c.in_turn; in_place = c.in_place; right_reply = refl; permitted = refl }
 chosen_allowed m t (Act s op y) known wish i c r = record { in_range = c.in_range; offered = c.offered; in_turn = c.in_turn; in_place = c.in_place; right_reply = r; permitted = refl }
 chosen_allowed m t (Resume s q) known wish i c r = record { in_range = c.in_range; offered = c.offered; in_turn = c.in_turn; in_place = c.in_place; right_reply = refl; permitted = refl }
 chosen_allowed m t (Leave s y) known wish i c r = record {
   in_range = and_named (nat_lt s m.seats) _ _ _ _ _ c.in_range (must_name m t (Leave s y) known wish i c refl);
-  offered = c.offered; in_turn = c.in_turn; in_place = c.in_place; right_reply = refl;
-  permitted = must_choose m t (Leave s y) known wish i c refl }
+  offered = c.offered;
+  in_turn = c.in_turn;
+  in_place = c.in_place;
+  right_reply = refl;
+  permitted = must_choose m t (Leave s y) known wish i c refl;
+}
 chosen_allowed m t (Wait s d y) known wish i c r = record {
   in_range = and_named (nat_lt s m.seats) _ _ _ _ _ c.in_range (must_name m t (Wait s d y) known wish i c refl);
-  offered = c.offered; in_turn = c.in_turn; in_place = c.in_place; right_reply = refl;
-  permitted = must_choose m t (Wait s d y) known wish i c refl }
+  offered = c.offered;
+  in_turn = c.in_turn;
+  in_place = c.in_place;
+  right_reply = refl;
+  permitted = must_choose m t (Wait s d y) known wish i c refl;
+}
 chosen_allowed m t (SignalLeave s d y) known wish i c r = record {
   in_range = and_named (nat_lt s m.seats) _ _ _ _ _ c.in_range (must_name m t (SignalLeave s d y) known wish i c refl);
-  offered = c.offered; in_turn = c.in_turn; in_place = c.in_place; right_reply = refl;
-  permitted = must_choose m t (SignalLeave s d y) known wish i c refl }
+  offered = c.offered;
+  in_turn = c.in_turn;
+  in_place = c.in_place;
+  right_reply = refl;
+  permitted = must_choose m t (SignalLeave s d y) known wish i c refl;
+}
 chosen_allowed m t (Until s p y) known wish i c r = record {
   in_range = and_named (nat_lt s m.seats) _ _ _ _ _ c.in_range (named_or m.seats (m.object.holds t.state p) _ (λ z. must_name m t (Until s p y) known wish i c refl));
-  offered = c.offered; in_turn = c.in_turn; in_place = c.in_place; right_reply = refl;
-  permitted = stay_or (may_choose m.kind (queues_at m.object t (Until s p y)) s) (m.object.holds t.state p) _ (λ z. must_choose m t (Until s p y) known wish i c refl) }
+  offered = c.offered;
+  in_turn = c.in_turn;
+  in_place = c.in_place;
+  right_reply = refl;
+  permitted = stay_or (may_choose m.kind (queues_at m.object t (Until s p y)) s) (m.object.holds t.state p) _ (λ z. must_choose m t (Until s p y) known wish i c refl);
+}
 chosen_allowed m t (Signal s d y) known wish i c r = record {
   in_range = and_named (nat_lt s m.seats) _ _ _ _ _ c.in_range (named_or m.seats (is_empty (t.condition d)) _ (λ z.
-    named_signalled m.kind (queues_at m.object t (Signal s d y)) s m.seats _ (within_queues m t (Signal s d y) i.placed i.seated c.in_range) (served_choice m t s d y known wish i c z)));
-  offered = c.offered; in_turn = c.in_turn; in_place = c.in_place; right_reply = refl;
-  permitted = stay_or (may_signal m.kind (queues_at m.object t (Signal s d y)) s) (is_empty (t.condition d)) _ (λ z. served_choice m t s d y known wish i c z) }
+      named_signalled m.kind (queues_at m.object t (Signal s d y)) s m.seats _ (within_queues m t (Signal s d y) i.placed i.seated c.in_range) (served_choice m t s d y known wish i c z)));
+  offered = c.offered;
+  in_turn = c.in_turn;
+  in_place = c.in_place;
+  right_reply = refl;
+  permitted = stay_or (may_signal m.kind (queues_at m.object t (Signal s d y)) s) (is_empty (t.condition d)) _ (λ z. served_choice m t s d y known wish i c z);
+}

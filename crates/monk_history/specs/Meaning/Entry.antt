@@ -1,5 +1,10 @@
 -- When a seat may enter or resume
-use Rattle.std.specs.Prelude.{◌≡◌, ◌≢◌, ℕ, ◌<◌, false, List, []}
+use Rattle.std.specs.Prelude.{◌≡◌, ◌≢◌, ℕ, ◌<◌, false, Some, List, []}
+use Rattle.monk_kinds.specs.declared.mode.Pick.{Pick}
+use Rattle.monk_history.specs.Meaning.Events.{next_of}
+use Rattle.monk_history.specs.Meaning.Situation.{Situation}
+use Rattle.monk_history.specs.Meaning.Release.{as_called, choice_of}
+use Rattle.monk_history.specs.declared.event.Next.TheVariants.{Entry}
 use Rattle.monk_history.specs.Meaning.Monitor.{Monitor, data_of}
 use Rattle.monk_history.specs.Meaning.Waiters.{waiters}
 use Rattle.monk_history.specs.Meaning.Signallers.{signallers}
@@ -26,3 +31,8 @@ pub record IsAtDoor (m : Monitor) (h : List Event) (s : ℕ) : Type 0 where
 pub record IsDueFrom (m : Monitor) (h : List Event) (s : ℕ) (q : From3) : Type 0 where
   pub seat : s < m.seats
   pub due : turn h ≡ Due s q
+
+-- a release that admits by entry, chosen by the wish rules with nobody known to wait for entry
+pub record AdmitsUnknown (m : Monitor) (t : Situation) (e : Event) (wish : Pick) : Type 0 where
+  pub entry : next_of e ≡ Some Entry
+  pub choice : choice_of m.kind m.object t (as_called e) false wish ≡ Entry

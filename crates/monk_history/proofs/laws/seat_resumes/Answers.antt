@@ -1,5 +1,5 @@
 use Rattle.monk_history.proofs.MeaningLaws.EntryLaws.{resumes}
-use Rattle.monk_history.proofs.laws.a_seat_resumes.Goals as goal
+use Rattle.monk_history.proofs.laws.seat_resumes.Goals as goal
 
 pub returns : goal.returns
 returns c = resumes

@@ -1,5 +1,5 @@
 use Rattle.monk_history.proofs.MeaningLaws.LegalLaws.{legal_none, legal-push, legal_front}
-use Rattle.monk_history.proofs.laws.a_history_grows.Goals as goal
+use Rattle.monk_history.proofs.laws.history_grows.Goals as goal
 
 pub returns-clause-none : goal.returns-clause-none
 returns-clause-none c = legal_none

@@ -1,5 +1,5 @@
 use Rattle.monk_history.proofs.MeaningLaws.MoveLaws.{counts_after}
-use Rattle.monk_history.proofs.laws.one_event_counts.Goals as goal
+use Rattle.monk_history.proofs.laws.event_counts.Goals as goal
 
 pub returns : goal.returns
 returns c = counts_after

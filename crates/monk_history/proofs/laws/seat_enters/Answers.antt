@@ -1,5 +1,5 @@
 use Rattle.monk_history.proofs.MeaningLaws.EntryLaws.{enters_free, enters_handed}
-use Rattle.monk_history.proofs.laws.a_seat_enters.Goals as goal
+use Rattle.monk_history.proofs.laws.seat_enters.Goals as goal
 
 pub returns-clause-free : goal.returns-clause-free
 returns-clause-free c = enters_free
