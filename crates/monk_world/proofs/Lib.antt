@@ -1,0 +1,11 @@
+pub mod PutLaws
+pub mod Holders
+pub mod RightArrives
+pub mod RightLooks
+pub mod RightFloor
+pub mod RightDrops
+pub mod RightGrants
+pub mod TurnLaws
+pub mod QueueingLaws
+pub mod OnePlaceLaws
+pub mod StepLaws

@@ -1,0 +1,181 @@
+-- Each step keeps the queues of the history in agreement with where the seats stand
+use Rattle.std.proofs.Common.{◌≡◌, ◌≢◌, ℕ, true, false, ◌+◌, ◌-◌, ◌*◌, ◌%◌, ◌==◌, ◌<◌, ◌≤◌, ◌⊎◌, sym, refl, ap, ◌∙◌, subst, inl, inr, cond, Bool, arith}
+use Rattle.std.proofs.lemmas.Bool.Decides.{eqb_tells}
+use Rattle.monk_history.specs.declared.event.Next.{Next}
+use Rattle.monk_history.specs.declared.event.Next.TheVariants.{Entry}
+use Rattle.monk_world.specs.Places.{stage, ticket, source, chosen, open_turn, due_to, turn_chosen, place_of, stays_inside, is_queued_at}
+use Rattle.monk_world.specs.Put.{put}
+use Rattle.monk_world.specs.Right.{KeepsRight, nowhere, granted, with_seat, called}
+use Rattle.monk_world.specs.Turns.{FitsTurn, turn_at}
+use Rattle.monk_world.specs.Queueing.{FitsQueues}
+use Rattle.monk_world.specs.Steps.{after_arrival, after_ticket_look, after_seat_look, after_out, after_in, after_drop, after_ticket_grant, after_seat_grant, right_arrived, owner_arrived, right_dropped}
+use Rattle.monk_world.specs.World.{World}
+use Rattle.monk_world.specs.declared.home.Home.{Home}
+use Rattle.monk_world.specs.declared.home.Home.TheVariants as home
+use Rattle.monk_world.specs.declared.place.Place.{Place}
+use Rattle.monk_world.specs.declared.place.Place.TheVariants.{Idle, Ticket, Due, Active, Back, Passing, Inner}
+use Rattle.monk_world.specs.declared.source.Source.{Source}
+use Rattle.monk_world.specs.declared.source.Source.TheVariants.{Free, Granted, Called}
+use Rattle.monk_world.proofs.Holders.{with_called, at_home, others}
+use Rattle.monk_world.proofs.PutLaws.{at_put}
+
+-- a seat that goes home is in a queue exactly where it stays inside
+home_queued : (h : Home) → is_queued_at (place_of h) ≡ stays_inside h
+home_queued home.Idle = refl
+home_queued home.Inner = refl
+
+weaker : (quiet : Bool) (n : ℕ) → (quiet ≡ true) ⊎ (2 ≤ n) → (quiet ≡ true) ⊎ (2 ≤ n + 1)
+weaker quiet n (inl e) = inl e
+weaker quiet n (inr e) = inr (omega arith)
+
+sure : (quiet : Bool) (n : ℕ) → n ≡ 1 → (quiet ≡ true) ⊎ (2 ≤ n) → quiet ≡ true
+sure quiet n one (inl e) = e
+sure quiet n one (inr e) = absurd (omega arith)
+
+abbrev InQueue : (ℕ → Bool) → ℕ → Place → Type 0
+InQueue queued j p = stage p ≢ 3 → queued j ≡ is_queued_at p
+
+abbrev StillFree : Bool → ℕ → Place → Type 0
+StillFree quiet j p = stage p ≡ 2 → source p ≡ 1 → quiet ≡ true
+
+abbrev ToEntry : Bool → ℕ → ℕ → Place → Type 0
+ToEntry quiet n j p = stage p ≡ 4 → chosen p ≡ open_turn → (quiet ≡ true) ⊎ (2 ≤ n)
+
+module _ (seats : ℕ) (s : World) (right : ℕ) (owner : ℕ → ℕ) (r : KeepsRight seats s right owner) (queued : ℕ → Bool) (quiet : Bool) (f : FitsQueues s queued quiet) (i : ℕ) where
+  stage_of : (p : Place) → s.place i ≡ p → stage (s.place i) ≡ stage p
+  stage_of p at = ap stage at
+
+  queued_here : (p : Place) → s.place i ≡ p → stage p ≢ 3 → queued i ≡ is_queued_at p
+  queued_here p at ne = subst (λ (y : Place). stage y ≢ 3 → queued i ≡ is_queued_at y) at (f.in_queue i) ne
+
+  pub arrives_free : s.place i ≡ Idle → s.unpassed ≡ 0
+      → FitsQueues (record s { drawn = s.drawn + 1; unpassed = s.unpassed + 1; place = put s.place i (Due (Free s.drawn)) }) queued quiet
+  arrives_free idle none =
+      let p : Place = Due (Free s.drawn) in
+      record {
+        in_queue = at_put s.place i p (InQueue queued) (λ _. queued_here Idle idle (λ e. omega arith)) (λ j _. f.in_queue j);
+        free = λ e. absurd (omega arith);
+        still_free = at_put s.place i p (StillFree quiet) (λ _ _. f.free none) (λ j _. f.still_free j);
+        back_to_entry = at_put s.place i p (ToEntry quiet (s.unpassed + 1)) (λ a. absurd (omega arith)) (λ j _ a e. weaker quiet s.unpassed (f.back_to_entry j a e));
+      }
+
+  pub arrives_behind : s.place i ≡ Idle → FitsQueues (record s { drawn = s.drawn + 1; unpassed = s.unpassed + 1; place = put s.place i (Ticket s.drawn) }) queued quiet
+  arrives_behind idle =
+      let p : Place = Ticket s.drawn in
+      record {
+        in_queue = at_put s.place i p (InQueue queued) (λ _. queued_here Idle idle (λ e. omega arith)) (λ j _. f.in_queue j);
+        free = λ e. absurd (omega arith);
+        still_free = at_put s.place i p (StillFree quiet) (λ a. absurd (omega arith)) (λ j _. f.still_free j);
+        back_to_entry = at_put s.place i p (ToEntry quiet (s.unpassed + 1)) (λ a. absurd (omega arith)) (λ j _ a e. weaker quiet s.unpassed (f.back_to_entry j a e));
+      }
+
+  pub takes_grant : (t : ℕ) → s.place i ≡ Ticket t → FitsQueues (record s { place = put s.place i (Due (Granted t)) }) queued quiet
+  takes_grant t at =
+      let p : Place = Due (Granted t) in
+      record {
+        in_queue = at_put s.place i p (InQueue queued) (λ _. queued_here (Ticket t) at (λ e. omega arith)) (λ j _. f.in_queue j);
+        free = f.free;
+        still_free = at_put s.place i p (StillFree quiet) (λ _ b. absurd (omega arith)) (λ j _. f.still_free j);
+        back_to_entry = at_put s.place i p (ToEntry quiet s.unpassed) (λ a. absurd (omega arith)) (λ j _. f.back_to_entry j);
+      }
+
+  pub takes_call : (count : ℕ → ℕ) → s.place i ≡ Inner → FitsQueues (record s { place = put s.place i (Due Called); count = count }) queued quiet
+  takes_call count at =
+      let p : Place = Due Called in
+      record {
+        in_queue = at_put s.place i p (InQueue queued) (λ _. queued_here Inner at (λ e. omega arith)) (λ j _. f.in_queue j);
+        free = f.free;
+        still_free = at_put s.place i p (StillFree quiet) (λ _ b. absurd (omega arith)) (λ j _. f.still_free j);
+        back_to_entry = at_put s.place i p (ToEntry quiet s.unpassed) (λ a. absurd (omega arith)) (λ j _. f.back_to_entry j);
+      }
+
+  -- the step of seat i, which has the right
+  holder : (p : Place) (queued_new : ℕ → Bool) (quiet_new : Bool) → 2 ≤ stage (s.place i) → stage (s.place i) ≤ 5 → (stage p ≡ 3) ⊎ (stage p ≡ 4)
+      → ((j : ℕ) → j ≢ i → queued_new j ≡ queued j) → InQueue queued_new i p → ToEntry quiet_new s.unpassed i p
+      → FitsQueues (record s { place = put s.place i p }) queued_new quiet_new
+  holder p queued_new quiet_new low high next alike here entry =
+      let none : (j : ℕ) → j ≢ i → 2 ≤ stage (s.place j) → stage (s.place j) ≤ 5 → ⊥ = others seats s right owner r i low high in
+      let mine = r.held i low high in
+      record {
+        in_queue = at_put s.place i p (InQueue queued_new) here (λ j ne a. alike j ne ∙ f.in_queue j a);
+        free = λ e. absurd (let a = r.not_free e in omega arith);
+        still_free = at_put s.place i p (StillFree quiet_new) (λ a. absurd (later next a)) (λ j ne a. absurd (none j ne (omega arith) (omega arith)));
+        back_to_entry = at_put s.place i p (ToEntry quiet_new s.unpassed) entry (λ j ne a. absurd (none j ne (omega arith) (omega arith)));
+      }
+    where
+      later : (stage p ≡ 3) ⊎ (stage p ≡ 4) → stage p ≡ 2 → ⊥
+      later (inl a) b = omega arith
+      later (inr a) b = omega arith
+
+  pub comes_out : (q : Source) (queued_new : ℕ → Bool) (quiet_new : Bool) → s.place i ≡ Due q → ((j : ℕ) → j ≢ i → queued_new j ≡ queued j)
+      → FitsQueues (after_out s i q) queued_new quiet_new
+  comes_out q queued_new quiet_new due alike =
+      let two : stage (s.place i) ≡ 2 = stage_of (Due q) due in
+      holder (Active q) queued_new quiet_new (omega arith) (omega arith) (inl refl) alike (λ ne. absurd (ne refl)) (λ a. absurd (omega arith))
+
+  pub stays_active : (q : Source) (queued_new : ℕ → Bool) (quiet_new : Bool) → s.place i ≡ Active q → ((j : ℕ) → j ≢ i → queued_new j ≡ queued j)
+      → FitsQueues s queued_new quiet_new
+  stays_active q queued_new quiet_new active alike =
+      let three : stage (s.place i) ≡ 3 = stage_of (Active q) active in
+      let none : (j : ℕ) → j ≢ i → 2 ≤ stage (s.place j) → stage (s.place j) ≤ 5 → ⊥ = others seats s right owner r i (omega arith) (omega arith) in
+      let mine = r.held i (omega arith) (omega arith) in
+      let apart : (j : ℕ) → stage (s.place j) ≢ 3 → j ≢ i = λ j ne e. ne (ap (λ (k : ℕ). stage (s.place k)) e ∙ three) in
+      record {
+        in_queue = λ j ne. alike j (apart j ne) ∙ f.in_queue j ne;
+        free = λ e. absurd (let a = r.not_free e in omega arith);
+        still_free = λ j a. absurd (none j (apart j (λ e. omega arith)) (omega arith) (omega arith));
+        back_to_entry = λ j a. absurd (none j (apart j (λ e. omega arith)) (omega arith) (omega arith));
+      }
+
+  pub goes_home : (q : Source) (next : Next) (home : Home) (queued_new : ℕ → Bool) (quiet_new : Bool) → s.place i ≡ Active q → ((j : ℕ) → j ≢ i → queued_new j ≡ queued j)
+      → queued_new i ≡ stays_inside home → (turn_chosen next ≡ open_turn → (quiet_new ≡ true) ⊎ (2 ≤ s.unpassed)) → FitsQueues (after_in s i next home) queued_new quiet_new
+  goes_home q next home queued_new quiet_new active alike own entry =
+      let three : stage (s.place i) ≡ 3 = stage_of (Active q) active in
+      holder (Back next home) queued_new quiet_new (omega arith) (omega arith) (inr refl) alike (λ _. own) (λ _. entry)
+
+  -- seat i gives the right away and goes home
+  given : (n : ℕ) (home : Home) → queued i ≡ stays_inside home → (n ≡ 0 → quiet ≡ true) → 2 ≤ stage (s.place i) → stage (s.place i) ≤ 5
+      → FitsQueues (record s { unpassed = n; place = put s.place i (place_of home) }) queued quiet
+  given n home own free low high =
+      let p : Place = place_of home in
+      let none : (j : ℕ) → j ≢ i → 2 ≤ stage (s.place j) → stage (s.place j) ≤ 5 → ⊥ = others seats s right owner r i low high in
+      record {
+        in_queue = at_put s.place i p (InQueue queued) (λ _. own ∙ sym (home_queued home)) (λ j _. f.in_queue j);
+        free = free;
+        still_free = at_put s.place i p (StillFree quiet) (λ a. absurd (at_home home 2 (omega arith) (omega arith) a)) (λ j _. f.still_free j);
+        back_to_entry = at_put s.place i p (ToEntry quiet n) (λ a. absurd (at_home home 4 (omega arith) (omega arith) a)) (λ j ne a. absurd (none j ne (omega arith) (omega arith)));
+      }
+
+  pub drops_last : (home : Home) → s.place i ≡ Back Entry home → s.unpassed ≡ 1
+      → FitsQueues (record s { unpassed = s.unpassed - 1; place = put s.place i (place_of home) }) queued quiet
+  drops_last home back one =
+      let four : stage (s.place i) ≡ 4 = stage_of (Back Entry home) back in
+      let entry : chosen (s.place i) ≡ open_turn = ap chosen back in
+      given (s.unpassed - 1) home (queued_here (Back Entry home) back (λ e. omega arith)) (λ _. sure quiet s.unpassed one (f.back_to_entry i four entry)) (omega arith) (omega arith)
+
+  pub drops_more : (t : ℕ) (home : Home) → s.place i ≡ Back Entry home → s.unpassed ≢ 1
+      → FitsQueues (record s { unpassed = s.unpassed - 1; place = put s.place i (Passing t home) }) queued quiet
+  drops_more t home back more =
+      let p : Place = Passing t home in
+      let four : stage (s.place i) ≡ 4 = stage_of (Back Entry home) back in
+      let none : (j : ℕ) → j ≢ i → 2 ≤ stage (s.place j) → stage (s.place j) ≤ 5 → ⊥ = others seats s right owner r i (omega arith) (omega arith) in
+      let mine = r.held i (omega arith) (omega arith) in
+      let some : s.unpassed ≢ 0 = λ e. let a = r.not_free e in omega arith in
+      record {
+        in_queue = at_put s.place i p (InQueue queued) (λ _. queued_here (Back Entry home) back (λ e. omega arith)) (λ j _. f.in_queue j);
+        free = λ e. absurd (omega arith);
+        still_free = at_put s.place i p (StillFree quiet) (λ a. absurd (omega arith)) (λ j _. f.still_free j);
+        back_to_entry = at_put s.place i p (ToEntry quiet (s.unpassed - 1)) (λ a. absurd (omega arith)) (λ j ne a. absurd (none j ne (omega arith) (omega arith)));
+      }
+
+  pub grants_ticket : (t : ℕ) (home : Home) → s.place i ≡ Passing t home → FitsQueues (after_ticket_grant seats s i t home) queued quiet
+  grants_ticket t home five =
+      let z : stage (s.place i) ≡ 5 = stage_of (Passing t home) five in
+      let g = given s.unpassed home (queued_here (Passing t home) five (λ e. omega arith)) f.free (omega arith) (omega arith) in
+      record { in_queue = g.in_queue; free = g.free; still_free = g.still_free; back_to_entry = g.back_to_entry }
+
+  pub calls_seat : (next : Next) (k : ℕ) (home : Home) → s.place i ≡ Back next home → FitsQueues (after_seat_grant s i k home) queued quiet
+  calls_seat next k home back =
+      let z : stage (s.place i) ≡ 4 = stage_of (Back next home) back in
+      let g = given s.unpassed home (queued_here (Back next home) back (λ e. omega arith)) f.free (omega arith) (omega arith) in
+      record { in_queue = g.in_queue; free = g.free; still_free = g.still_free; back_to_entry = g.back_to_entry }

@@ -1,0 +1,84 @@
+-- What each kind of step keeps
+use Rattle.std.specs.Prelude.{◌≡◌, ◌≢◌, ℕ, ◌+◌, ◌%◌, ◌<◌, ◌≤◌, ◌==◌, ◌⊎◌, Bool, true, false}
+use Rattle.monk_history.specs.declared.event.Next.{Next}
+use Rattle.monk_history.specs.declared.event.Next.TheVariants.{Entry}
+use Rattle.monk_world.specs.OnePlace.{IsInOnePlace}
+use Rattle.monk_world.specs.Places.{open_turn, due_to, turn_chosen, stays_inside}
+use Rattle.monk_world.specs.Right.{nowhere, granted, called}
+use Rattle.monk_world.specs.Stands.{Stands, opening_world}
+use Rattle.monk_world.specs.Steps.{after_arrival, after_ticket_look, after_seat_look, after_out, after_in, after_drop, after_ticket_grant, after_seat_grant, right_arrived, owner_arrived, right_looked, right_dropped}
+use Rattle.monk_world.specs.World.{World}
+use Rattle.monk_world.specs.declared.home.Home.{Home}
+use Rattle.monk_world.specs.declared.place.Place.TheVariants.{Idle, Ticket, Due, Active, Back, Passing, Inner}
+use Rattle.monk_world.specs.declared.source.Source.{Source}
+
+-- what a step keeps, of every world that stands
+abbrev pub Kept : (ℕ → World → ℕ → (ℕ → ℕ) → ℕ → (ℕ → Bool) → Bool → ℕ → Type 0) → Type 0
+Kept Step =
+    (seats : ℕ) (w : World) (right : ℕ) (owner : ℕ → ℕ) (turn : ℕ) (queued : ℕ → Bool) (quiet : Bool) (i : ℕ)
+    → Stands seats w right owner turn queued quiet → Step seats w right owner turn queued quiet i
+
+abbrev pub OpeningStands : Type 0
+OpeningStands = (seats : ℕ) → Stands seats opening_world nowhere (λ t. 0) open_turn (λ j. false) true
+
+-- an idle seat draws a ticket
+abbrev pub ArrivalKeeps : Type 0
+ArrivalKeeps = Kept (λ seats w right owner turn queued quiet i.
+    w.place i ≡ Idle → Stands seats (after_arrival w i) (right_arrived w right i) (owner_arrived w owner i) turn queued quiet)
+
+-- a seat with a ticket looks whether the place of its ticket holds it
+abbrev pub TicketLookKeeps : Type 0
+TicketLookKeeps = Kept (λ seats w right owner turn queued quiet i.
+    (t : ℕ) (found : Bool) → 0 < seats → w.place i ≡ Ticket t → (w.ticket_place (t % seats) == t + 1) ≡ found
+    → Stands seats (after_ticket_look w i t found) (right_looked right i found) owner turn queued quiet)
+
+-- a seat inside looks whether its place holds one call more than it has counted
+abbrev pub SeatLookKeeps : Type 0
+SeatLookKeeps = Kept (λ seats w right owner turn queued quiet i.
+    (found : Bool) → w.place i ≡ Inner → (w.seat_place i == w.count i + 1) ≡ found
+    → Stands seats (after_seat_look w i found) (right_looked right i found) owner turn queued quiet)
+
+-- the floor comes out to the seat that is due; the history may grow, which leaves the others in their queues
+abbrev pub OutKeeps : Type 0
+OutKeeps = Kept (λ seats w right owner turn queued quiet i.
+    (q : Source) (turn_new : ℕ) (queued_new : ℕ → Bool) (quiet_new : Bool) → w.place i ≡ Due q → ((j : ℕ) → j ≢ i → queued_new j ≡ queued j)
+    → Stands seats (after_out w i q) right owner turn_new queued_new quiet_new)
+
+-- the active seat lets the history grow, which leaves the others in their queues
+abbrev pub ActiveKeeps : Type 0
+ActiveKeeps = Kept (λ seats w right owner turn queued quiet i.
+    (q : Source) (turn_new : ℕ) (queued_new : ℕ → Bool) (quiet_new : Bool) → w.place i ≡ Active q → ((j : ℕ) → j ≢ i → queued_new j ≡ queued j)
+    → Stands seats w right owner turn_new queued_new quiet_new)
+
+-- the active seat brings the floor home. Whom it has chosen is another, in a queue; it is in one where it stays
+-- inside; and where it chose entry, nobody could be chosen from a queue, or a ticket waits
+abbrev pub InKeeps : Type 0
+InKeeps = Kept (λ seats w right owner turn queued quiet i.
+    (q : Source) (next : Next) (home : Home) (queued_new : ℕ → Bool) (quiet_new : Bool) → w.place i ≡ Active q
+    → ((k : ℕ) → turn_chosen next ≡ due_to k → (k ≢ i) × (queued_new k ≡ true))
+    → ((j : ℕ) → j ≢ i → queued_new j ≡ queued j)
+    → queued_new i ≡ stays_inside home
+    → (turn_chosen next ≡ open_turn → (quiet_new ≡ true) ⊎ (2 ≤ w.unpassed))
+    → Stands seats (after_in w i next home) right owner (turn_chosen next) queued_new quiet_new)
+
+-- a seat that chose entry takes itself off the ticket word
+abbrev pub DropKeeps : Type 0
+DropKeeps = Kept (λ seats w right owner turn queued quiet i.
+    (home : Home) → w.place i ≡ Back Entry home → Stands seats (after_drop w i home) (right_dropped w i) owner turn queued quiet)
+
+-- it grants the next ticket
+abbrev pub TicketGrantKeeps : Type 0
+TicketGrantKeeps = Kept (λ seats w right owner turn queued quiet i.
+    (t : ℕ) (home : Home) → 0 < seats → w.place i ≡ Passing t home → Stands seats (after_ticket_grant seats w i t home) granted owner turn queued quiet)
+
+-- a seat that chose another calls it
+abbrev pub SeatGrantKeeps : Type 0
+SeatGrantKeeps = Kept (λ seats w right owner turn queued quiet i.
+    (next : Next) (k : ℕ) (home : Home) → w.place i ≡ Back next home → turn_chosen next ≡ due_to k
+    → Stands seats (after_seat_grant w i k home) (called k) owner turn queued quiet)
+
+-- so the right is in one place
+abbrev pub StandsInOnePlace : Type 0
+StandsInOnePlace =
+    (seats : ℕ) (w : World) (right : ℕ) (owner : ℕ → ℕ) (turn : ℕ) (queued : ℕ → Bool) (quiet : Bool)
+    → 0 < seats → Stands seats w right owner turn queued quiet → IsInOnePlace seats w

@@ -1,0 +1,10 @@
+pub mod Put
+pub mod Places
+pub mod World
+pub mod Right
+pub mod Turns
+pub mod Queueing
+pub mod Stands
+pub mod OnePlace
+pub mod Steps
+pub mod Laws

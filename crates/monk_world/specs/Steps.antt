@@ -1,0 +1,80 @@
+-- What each kind of step makes of a world, as functions of what it found
+use Rattle.std.specs.Prelude.{ℕ, ◌+◌, ◌-◌, ◌%◌, ◌==◌, Bool, if◌then◌else◌}
+use Rattle.monk_history.specs.declared.event.Next.{Next}
+use Rattle.monk_world.specs.Places.{place_of}
+use Rattle.monk_world.specs.Put.{put}
+use Rattle.monk_world.specs.Right.{with_seat, nowhere}
+use Rattle.monk_world.specs.World.{World}
+use Rattle.monk_world.specs.declared.home.Home.{Home}
+use Rattle.monk_world.specs.declared.place.Place.{Place}
+use Rattle.monk_world.specs.declared.place.Place.TheVariants.{Idle, Ticket, Due, Active, Back, Passing, Inner}
+use Rattle.monk_world.specs.declared.source.Source.{Source}
+use Rattle.monk_world.specs.declared.source.Source.TheVariants.{Free, Granted, Called}
+
+-- Where the seat stands after its step:
+
+-- it drew ticket t, and found n not passed on
+abbrev pub arrived : ℕ → ℕ → Place
+arrived t n = if n == 0 then Due (Free t) else Ticket t
+
+-- it looked whether its ticket was granted
+abbrev pub looked : ℕ → Bool → Place
+looked t found = if found then Due (Granted t) else Ticket t
+
+-- it looked whether it was called, and counts its calls
+abbrev pub answered : Bool → Place
+answered found = if found then Due Called else Inner
+
+abbrev pub counted : ℕ → Bool → ℕ
+counted count found = if found then count + 1 else count
+
+-- it took itself off the ticket word, where t were drawn and n not passed on
+abbrev pub dropped : ℕ → ℕ → Home → Place
+dropped t n home = if n == 1 then place_of home else Passing (t - n + 1) home
+
+-- The world after the step of seat i:
+
+-- arrive: one more ticket drawn and not passed on
+abbrev pub after_arrival : World → ℕ → World
+after_arrival w i = record w { drawn = w.drawn + 1; unpassed = w.unpassed + 1; place = put w.place i (arrived w.drawn w.unpassed) }
+
+-- look at the place of its ticket, or at its own place
+abbrev pub after_ticket_look : World → ℕ → ℕ → Bool → World
+after_ticket_look w i t found = record w { place = put w.place i (looked t found) }
+
+abbrev pub after_seat_look : World → ℕ → Bool → World
+after_seat_look w i found = record w { place = put w.place i (answered found); count = put w.count i (counted (w.count i) found) }
+
+-- the floor comes out to the seat, which is due by q
+abbrev pub after_out : World → ℕ → Source → World
+after_out w i q = record w { place = put w.place i (Active q) }
+
+-- the floor goes home, and has chosen
+abbrev pub after_in : World → ℕ → Next → Home → World
+after_in w i next home = record w { place = put w.place i (Back next home) }
+
+-- drop: one ticket less not passed on
+abbrev pub after_drop : World → ℕ → Home → World
+after_drop w i home = record w { unpassed = w.unpassed - 1; place = put w.place i (dropped w.drawn w.unpassed home) }
+
+-- grant a ticket, in its place
+abbrev pub after_ticket_grant : ℕ → World → ℕ → ℕ → Home → World
+after_ticket_grant seats w i t home = record w { ticket_place = put w.ticket_place (t % seats) (t + 1); place = put w.place i (place_of home) }
+
+-- call seat k, in its place
+abbrev pub after_seat_grant : World → ℕ → ℕ → Home → World
+after_seat_grant w i k home = record w { seat_place = put w.seat_place k (w.seat_place k + 1); place = put w.place i (place_of home) }
+
+-- Where the right is after a step that found this, and who owns the ticket that was drawn:
+
+abbrev pub right_arrived : World → ℕ → ℕ → ℕ
+right_arrived w right i = if w.unpassed == 0 then with_seat i else right
+
+abbrev pub owner_arrived : World → (ℕ → ℕ) → ℕ → ℕ → ℕ
+owner_arrived w owner i = if w.unpassed == 0 then owner else put owner w.drawn i
+
+abbrev pub right_looked : ℕ → ℕ → Bool → ℕ
+right_looked right i found = if found then with_seat i else right
+
+abbrev pub right_dropped : World → ℕ → ℕ
+right_dropped w i = if w.unpassed == 1 then nowhere else with_seat i

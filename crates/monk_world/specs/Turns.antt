@@ -1,0 +1,37 @@
+-- The turn of the history agrees with where the right is
+use Rattle.std.specs.Prelude.{◌≡◌, ◌≢◌, ℕ}
+use Rattle.monk_history.specs.declared.event.Turn.{Turn}
+use Rattle.monk_history.specs.declared.event.Turn.TheVariants.{Open, Due, Owned}
+use Rattle.monk_world.specs.Places.{stage, open_turn, due_to, owned_by, turn_chosen}
+use Rattle.monk_world.specs.Right.{with_seat, called}
+use Rattle.monk_world.specs.World.{World}
+use Rattle.monk_world.specs.declared.place.Place.{Place}
+use Rattle.monk_world.specs.declared.place.Place.TheVariants as at
+use Rattle.monk_world.specs.declared.source.Source.{Source}
+use Rattle.monk_world.specs.declared.source.Source.TheVariants.{Free, Granted, Called}
+
+abbrev pub turn_number : Turn → ℕ
+turn_number Open = open_turn
+turn_number (Due j q) = due_to j
+turn_number (Owned j) = owned_by j
+
+abbrev pub turn_from : ℕ → Source → ℕ
+turn_from j (Free t) = open_turn
+turn_from j (Granted t) = open_turn
+turn_from j Called = due_to j
+
+-- whose turn it is where seat j has the right and stands there, not active
+abbrev pub turn_at : ℕ → Place → ℕ
+turn_at j at.Idle = open_turn
+turn_at j (at.Ticket t) = open_turn
+turn_at j (at.Due q) = turn_from j q
+turn_at j (at.Active q) = open_turn
+turn_at j (at.Back next home) = turn_chosen next
+turn_at j (at.Passing t home) = open_turn
+turn_at j at.Inner = open_turn
+
+-- `turn` is the number of the turn. Of an active seat it says nothing: the history may have grown
+pub record FitsTurn (w : World) (right turn : ℕ) : Type 0 where
+  pub with : (j : ℕ) → right ≡ with_seat j → stage (w.place j) ≢ 3 → turn ≡ turn_at j (w.place j)
+  pub called_seat : (j : ℕ) → right ≡ called j → turn ≡ due_to j
+  pub else_open : ((j : ℕ) → right ≢ with_seat j) → ((j : ℕ) → right ≢ called j) → turn ≡ open_turn

@@ -1,0 +1,8 @@
+/// Where a seat goes once it has handed the right on.
+#[derive(Clone, Copy, Debug, PartialEq, Eq)]
+pub enum Home {
+    /// Outside the monitor: it left.
+    Idle,
+    /// Inside, parked until it is called: it waits on a condition, as a signaller, or until a predicate holds.
+    Inner,
+}

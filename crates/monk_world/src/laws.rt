@@ -1,0 +1,60 @@
+//! What holds of each kind of step, whoever makes it: it keeps the right to be active in one place, in agreement with
+//! the turn and the queues of the history. Each function does nothing: its contract is the law.
+ghost use Rattle.monk_world.specs.Laws.{OpeningStands, ArrivalKeeps, TicketLookKeeps, SeatLookKeeps, OutKeeps, ActiveKeeps, InKeeps, DropKeeps, TicketGrantKeeps, SeatGrantKeeps, StandsInOnePlace};
+
+/// Before any step the monitor is free, every seat is idle, and no queue has anybody.
+pub fn opening_stands()
+    ensures { OpeningStands }
+{}
+
+/// A seat that arrives draws the next ticket; where the monitor was free it has the right.
+pub fn arrival_keeps_the_right()
+    ensures { ArrivalKeeps }
+{}
+
+/// A seat that looks at the place of its ticket takes the right exactly where it finds its own ticket there: no older
+/// grant at the same place is taken for its own.
+pub fn ticket_look_keeps_the_right()
+    ensures { TicketLookKeeps }
+{}
+
+/// A seat that looks at its own place takes the right exactly where it was called once more than it has counted.
+pub fn seat_look_keeps_the_right()
+    ensures { SeatLookKeeps }
+{}
+
+/// The floor comes out to the seat that is due, whatever the event that it records makes of the turn.
+pub fn floor_out_keeps_the_right()
+    ensures { OutKeeps }
+{}
+
+/// While a seat is active the history grows at its will, but for the queues of the others.
+pub fn activity_keeps_the_right()
+    ensures { ActiveKeeps }
+{}
+
+/// The active seat brings the floor home with its choice.
+pub fn floor_in_keeps_the_right()
+    ensures { InKeeps }
+{}
+
+/// A seat that chose entry takes itself off the ticket word: the monitor is free, or the seat has the next ticket to
+/// grant, also one that was drawn while it was on its way.
+pub fn drop_keeps_the_right()
+    ensures { DropKeeps }
+{}
+
+/// The right goes to the next ticket by its place.
+pub fn ticket_grant_keeps_the_right()
+    ensures { TicketGrantKeeps }
+{}
+
+/// The right goes to the seat that was chosen, by its place.
+pub fn seat_grant_keeps_the_right()
+    ensures { SeatGrantKeeps }
+{}
+
+/// The right to be active is in exactly one place, and each ticket behind the one in use has a seat that waits with it.
+pub fn right_is_in_one_place()
+    ensures { StandsInOnePlace }
+{}
