@@ -35,8 +35,10 @@ use Rattle.monk_history.proofs.MeaningLaws.LegalLaws.{legal-push, legal_none}
 use Rattle.monk_history.proofs.MeaningLaws.StepLaws.{same_situation, legal_situation-push, situation-none}
 use Rattle.monk_history.proofs.MeaningLaws.CountLaws.{length-events_of-push, granted_of-push, enters_of-push, granted_few, enters_few, granted_none, enters_none, few_events, room_left}
 use Rattle.monk_history.proofs.MeaningLaws.ReleaseLaws.{IsInOrder, legal_order, HasRoom, room_for, caller_apart, seat_in_range, chosen_allowed}
+use Rattle.monk_history.proofs.MeaningLaws.MoveLaws.{queued_once, caller_unqueued}
+use Rattle.monk_history.specs.Meaning.Standing.{in_queues}
 use Rattle.monk_floor.specs.Just.{just}
-use Rattle.monk_floor.specs.Queues.{QueueLists, queue_at, HasPlaces, IsMoved}
+use Rattle.monk_floor.specs.Queues.{QueueLists, queue_at, HasPlaces, IsOrderly, IsMoved}
 use Rattle.monk_floor.specs.Kept.{shown, IsKept}
 use Rattle.monk_floor.specs.Ready.{IsReady, stays_by}
 
@@ -98,6 +100,15 @@ module _ {m : Monitor} {budget : ℕ} {h : List Event} {capacity : ℕ} {q : Que
         untils = omega (arith, kept.few, here.untils);
       }
 
+  -- each seat stands in one queue at most, and whoever calls in none
+  orderly_kept : IsKept m budget h capacity q state turn inside spent granted entered → IsKind m.kind → (e : Event) → IsAllowed m h e → IsOrderly q e
+  orderly_kept kept k e a = record {
+    once = λ s. subst (λ n. in_queues n s (shown q state turn inside (not (is_empty h))) ≤ 1) (sym kept.conds)
+        (subst (λ t. in_queues m.conds s t ≤ 1) (sym kept.stands) (queued_once m h kept.legal s));
+    apart = subst (λ n. in_queues n (seat_of e) (shown q state turn inside (not (is_empty h))) ≡ 0) (sym kept.conds)
+        (subst (λ t. in_queues m.conds (seat_of e) t ≡ 0) (sym kept.stands) (caller_unqueued m (situation m h) e (in_order kept k).placed a));
+  }
+
   few_kept : IsKept m budget h capacity q state turn inside spent granted entered → (e : Event) → IsAllowed m h e → length (events_of h (seat_of e)) < budget → length h < 33554432
   few_kept kept e a l =
       let s = seat_in_range m.seats m.conds m.object.codes m.object.predicates e a.in_range in
@@ -118,6 +129,7 @@ module _ {m : Monitor} {budget : ℕ} {h : List Event} {capacity : ℕ} {q : Que
         waits = ap (λ n. is_condition n (waits_on e)) kept.conds ∙ range_waits m e a.in_range;
         signals = ap (λ n. is_condition n (signals_on e)) kept.conds ∙ range_signals m e a.in_range;
         places = places_kept kept k e a;
+        orderly = orderly_kept kept k e a;
       }
 
   -- and there is room in the history

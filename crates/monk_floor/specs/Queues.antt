@@ -1,6 +1,7 @@
 -- The queues of a floor as plain lists, and what one event makes of them
-use Rattle.std.specs.Prelude.{◌≡◌, ℕ, ◌<◌, zero, suc, Bool, false, true, not, List, [], ◌∷◌, ◌++◌, length, drop, filter, if◌then◌else◌}
-use Rattle.monk_history.specs.Meaning.Events.{next_of, is_waiter, is_signaller}
+use Rattle.std.specs.Prelude.{◌≡◌, ℕ, ◌<◌, ◌≤◌, ◌+◌, map, zero, suc, Bool, false, true, not, List, [], ◌∷◌, ◌++◌, length, drop, filter, if◌then◌else◌}
+use Rattle.monk_history.specs.Meaning.Standing.{times, times_in_conditions}
+use Rattle.monk_history.specs.Meaning.Events.{seat_of, next_of, is_waiter, is_signaller}
 use Rattle.monk_history.specs.Meaning.Conditions.{served_by, waiting_by}
 use Rattle.monk_history.specs.Meaning.Waiters.{serves}
 use Rattle.monk_history.specs.Meaning.Signallers.{is_empty, signals, takes_signaller}
@@ -28,6 +29,15 @@ pub record HasPlaces (q : QueueLists) : Type 0 where
   pub waiters : length q.waiters < 32
   pub signallers : length q.signallers < 32
   pub untils : length q.untils < 32
+
+-- in how many of the queues a seat stands
+abbrev pub in_lists : ℕ → QueueLists → ℕ
+in_lists s q = times_in_conditions (length q.conditions) s (queue_at q.conditions) + times s q.waiters + times s q.signallers + times s (map (λ w. w.0) q.untils)
+
+-- each seat stands in one queue at most, and the seat of the event in none
+pub record IsOrderly (q : QueueLists) (e : Event) : Type 0 where
+  pub once : (s : ℕ) → in_lists s q ≤ 1
+  pub apart : in_lists (seat_of e) q ≡ 0
 
 -- what an event itself joins and serves
 pub record IsServed (old : QueueLists) (e : Event) (new : QueueLists) : Type 0 where

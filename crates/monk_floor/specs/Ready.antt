@@ -1,3 +1,4 @@
+-- When what a floor keeps can take one event more
 use Rattle.std.specs.Prelude.{◌≡◌, ℕ, ◌<◌, ◌^◌, Bool, false, true, List, length, slice_index_or, nat_lt}
 use Rattle.std.specs.List.{list_all}
 use Rattle.monk_object.specs.Object.{Object}
@@ -6,7 +7,7 @@ use Rattle.monk_history.specs.Meaning.Reasons.{is_condition}
 use Rattle.monk_history.specs.Meaning.Signallers.{is_empty}
 use Rattle.monk_history.specs.declared.event.Event.{Event}
 use Rattle.monk_history.specs.declared.event.Event.TheVariants.{Enter, Act, Leave, Wait, Signal, SignalLeave, Until, Resume}
-use Rattle.monk_floor.specs.Queues.{QueueLists, HasPlaces}
+use Rattle.monk_floor.specs.Queues.{QueueLists, HasPlaces, IsOrderly}
 
 -- an event fits what a floor keeps
 pub record IsReady (q : QueueLists) (inside : List Bool) (spent granted : List ℕ) (entered : ℕ) (e : Event) : Type 0 where
@@ -19,6 +20,7 @@ pub record IsReady (q : QueueLists) (inside : List Bool) (spent granted : List �
   pub waits : is_condition (length q.conditions) (waits_on e) ≡ true
   pub signals : is_condition (length q.conditions) (signals_on e) ≡ true
   pub places : HasPlaces q
+  pub orderly : IsOrderly q e
 
 -- whether an event must stay, by the queues of the conditions and the data
 abbrev pub stays_by : Object → (ℕ → List ℕ) → List ℕ → Event → Bool

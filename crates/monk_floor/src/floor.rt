@@ -20,6 +20,7 @@ use crate::events::seat_of;
 use crate::fault::MakeFault;
 use crate::fronts::Fronts;
 use crate::ledger::Ledger;
+use crate::limits::{LEAST_BUDGET, MOST_BUDGET, MOST_CONDS, MOST_SEATS};
 use monk_history::{Event, From3, Next, Turn, Via};
 use monk_kinds::{Kind, Pick, rules_of};
 use monk_object::{Guarded, Op};
@@ -79,13 +80,13 @@ impl<K: Kind, T: Guarded> Floor<K, T> {
         ensures made { IfOk result (λ f. (refusal seats conds budget ≡ None) × (f ≡ fresh (T.state object) seats conds budget)) }
         ensures refused { IfErr result (λ e. IsRefused seats conds budget e) }
     {
-        if seats < 1 || seats > 32 {
+        if seats < 1 || seats > MOST_SEATS {
             return Err(MakeFault::Seats);
         }
-        if conds > 8 {
+        if conds > MOST_CONDS {
             return Err(MakeFault::Conds);
         }
-        if budget < 2 || budget > 1_048_576 {
+        if budget < LEAST_BUDGET || budget > MOST_BUDGET {
             return Err(MakeFault::Budget);
         }
         Ok(Self::build(alloc, object, seats, conds, budget)?)
@@ -99,8 +100,8 @@ impl<K: Kind, T: Guarded> Floor<K, T> {
         conds: u8,
         budget: u32,
     ) -> Result<Floor<K, T>, AllocError>
-        requires seats { seats ≤ 32 }
-        requires budget { budget ≤ 1048576 }
+        requires seats { seats ≤ MOST_SEATS }
+        requires budget { budget ≤ MOST_BUDGET }
         ensures { IfOk result (λ f. f ≡ fresh (T.state object) seats conds budget) }
     {
         let opening = Snapshot::of(&object);
@@ -280,8 +281,12 @@ fn has_turn(turn: Turn, seat: u8) -> bool
 impl<K: Kind, T: Guarded> Floor<K, T> {
     /// The active seat leaves the monitor, by the general scheduler step.
     ///
-    /// The step takes the wish where it is open, else the waiter queue (under automatic kinds the ready seats) before
-    /// the signaller queue, else entry; `entry_known` says whether somebody is known to wait for entry.
+    /// The step chooses who goes on, among the queues as they are after the release's own moves. The front of the
+    /// waiter queue (under automatic kinds the first ready seat) may be chosen where no signaller of greater priority
+    /// waits, the front of the signaller queue where no waiter of greater priority does, and entry where neither has a
+    /// greater priority than entry. The survey leaves free which of several is chosen: `pick` is taken where it may be
+    /// chosen, entry only if `entry_known` says that somebody waits for it. Otherwise the waiter goes before the
+    /// signaller, and entry is chosen where nobody else could be.
     pub fn plain_leave(&mut self, seat: u8, pick: Pick, entry_known: bool) -> Next
         requires call { MayCall (monitor_of K.rules T.meaning self.old) self.old.history (Event.Leave seat Next.Stay) }
         requires left { 0 < left_of self.old.budget self.old.history seat }
@@ -293,7 +298,8 @@ impl<K: Kind, T: Guarded> Floor<K, T> {
         next
     }
 
-    /// The active seat waits on a condition variable, by the general scheduler step.
+    /// The active seat waits on a condition variable, by the general scheduler step. It joins the back of that
+    /// condition's queue, and somebody else goes on.
     pub fn plain_wait(&mut self, seat: u8, cond: u8, pick: Pick, entry_known: bool) -> Next
         requires call { MayCall (monitor_of K.rules T.meaning self.old) self.old.history (Event.Wait seat cond Next.Stay) }
         requires left { 0 < left_of self.old.budget self.old.history seat }
@@ -305,8 +311,9 @@ impl<K: Kind, T: Guarded> Floor<K, T> {
         next
     }
 
-    /// The active seat signals a condition variable, by the general scheduler step. Where nobody waits on it the seat
-    /// stays, and the signal is forgotten.
+    /// The active seat signals a condition variable, by the general scheduler step. The first that waits on it joins
+    /// the waiter queue and the caller the signaller queue. `Next::Stay` is answered where the caller goes on: it was
+    /// chosen from the signaller queue, or nobody waits on the condition and the signal is forgotten.
     pub fn plain_signal(&mut self, seat: u8, cond: u8, pick: Pick, entry_known: bool) -> Next
         requires call { MayCall (monitor_of K.rules T.meaning self.old) self.old.history (Event.Signal seat cond Next.Stay) }
         requires left { 0 < left_of self.old.budget self.old.history seat }
@@ -318,7 +325,8 @@ impl<K: Kind, T: Guarded> Floor<K, T> {
         next
     }
 
-    /// The active seat signals a condition variable and leaves the monitor, by the general scheduler step.
+    /// The active seat signals a condition variable and leaves the monitor, by the general scheduler step. It leaves
+    /// also where nobody waits on the condition.
     pub fn plain_signal_leave(&mut self, seat: u8, cond: u8, pick: Pick, entry_known: bool) -> Next
         requires call { MayCall (monitor_of K.rules T.meaning self.old) self.old.history (Event.SignalLeave seat cond Next.Stay) }
         requires left { 0 < left_of self.old.budget self.old.history seat }
@@ -334,8 +342,8 @@ impl<K: Kind, T: Guarded> Floor<K, T> {
         next
     }
 
-    /// The active seat waits until a predicate holds, by the general scheduler step. Where it holds at once the seat
-    /// stays.
+    /// The active seat waits until a predicate holds of the data, by the general scheduler step. Where it holds at once
+    /// the seat stays. Costs a judgement of each predicate that somebody waits for.
     pub fn plain_until(&mut self, seat: u8, pred: u8, pick: Pick, entry_known: bool) -> Next
         requires call { MayCall (monitor_of K.rules T.meaning self.old) self.old.history (Event.Until seat pred Next.Stay) }
         requires left { 0 < left_of self.old.budget self.old.history seat }

@@ -5,6 +5,7 @@ ghost use Rattle.monk_history.specs.Meaning.Events as events;
 ghost use Rattle.monk_floor.specs.Queues as lists;
 
 use crate::events::next_of;
+use crate::limits::MOST_SEATS;
 use crate::seat_queue::SeatQueue;
 use monk_history::{Event, Next};
 use std::alloc::{AllocError, Global};
@@ -120,7 +121,7 @@ impl Queues {
             conditions,
             waiters: SeatQueue::make(alloc)?,
             signallers: SeatQueue::make(alloc)?,
-            untils: Vec::with_capacity(alloc, 32)?,
+            untils: Vec::with_capacity(alloc, MOST_SEATS as usize)?,
         })
     }
 
@@ -199,6 +200,7 @@ impl Queues {
         requires waits_in_range { is_condition (length self.old.conditions) (events.waits_on event) ≡ true }
         requires signals_in_range { is_condition (length self.old.conditions) (events.signals_on event) ≡ true }
         requires room { lists.HasPlaces self.old }
+        requires orderly { lists.IsOrderly self.old event }
         ensures { lists.IsMoved self.old event self.new }
     {
         let none = self.finds_none(event);

@@ -111,173 +111,212 @@ fn has_begun(history: &[Event]) -> bool
     history.first().is_some()
 }
 
-impl<K: Kind, T: Guarded> Floor<K, T> {
-    /// Whether the turn, the object and the ranges let an event be called.
-    fn may_call(&self, event: Event) -> bool
-        ensures { IsTrue result → MayCall (monitor_of K.rules T.meaning self.now) self.now.history event }
-    {
-        is_in_range(event, self.seats, self.conds, T::CODES, T::PREDICATES)
-            && is_offered(rules_of::<K>().mode, event)
-            && fits_turn(self.ledger.turn, event)
-            && self.is_in_place(event)
-    }
+/// Whether the turn, the object and the ranges let an event be called.
+fn may_call<K: Kind, T: Guarded>(floor: &Floor<K, T>, event: Event) -> bool
+    ensures { IsTrue result → MayCall (monitor_of K.rules T.meaning floor.now) floor.now.history event }
+{
+    is_in_range(event, floor.seats, floor.conds, T::CODES, T::PREDICATES)
+        && is_offered(rules_of::<K>().mode, event)
+        && fits_turn(floor.ledger.turn, event)
+        && is_in_place(floor, event)
+}
 
-    fn is_in_place(&self, event: Event) -> bool
-        ensures { IsTrue result → IsTrue (reasons.is_in_place T.meaning (stands_of K.rules T.meaning self.now) event) }
-    {
-        match event {
-            Event::Enter(seat, via) => self.is_at_door(seat, via),
-            _ => true,
-        }
-    }
-
-    fn is_at_door(&self, seat: u8, via: Via) -> bool
-        ensures { IsTrue result → IsTrue (reasons.is_in_place T.meaning (stands_of K.rules T.meaning self.now) (Event.Enter seat via)) }
-    {
-        if seat >= self.seats || is_inside(&self.ledger.inside, seat) {
-            return false;
-        }
-        match via {
-            Via::Free => is_quiet(&self.object, &self.ledger.queues),
-            Via::Handed => has_begun(self.history.as_slice()),
-        }
-    }
-
-    /// Makes the call of an event by the general scheduler step, if it may be made, and says whether that very event
-    /// came of it.
-    fn steps_plainly(&mut self, event: Event, pick: Pick, entry_known: bool) -> bool {
-        if !self.may_call(called(event)) || self.left(seat_of(event)) == 0 {
-            return false;
-        }
-        match event {
-            Event::Enter(seat, via) => {
-                self.enter(seat, via);
-                true
-            }
-            Event::Act(seat, op, reply) => self.act(seat, op) == reply,
-            Event::Leave(seat, next) => self.plain_leave(seat, pick, entry_known) == next,
-            Event::Wait(seat, cond, next) => {
-                self.plain_wait(seat, cond, pick, entry_known) == next
-            }
-            Event::Signal(seat, cond, next) => {
-                self.plain_signal(seat, cond, pick, entry_known) == next
-            }
-            Event::SignalLeave(seat, cond, next) => {
-                self.plain_signal_leave(seat, cond, pick, entry_known) == next
-            }
-            Event::Until(seat, pred, next) => {
-                self.plain_until(seat, pred, pick, entry_known) == next
-            }
-            Event::Resume(seat, queue) => self.resume(seat) == queue,
-        }
-    }
-
-    fn runs_plainly(&mut self, events: &[Event], pick: Pick, entry_known: bool) -> bool {
-        for event in events {
-            if !self.steps_plainly(*event, pick, entry_known) {
-                return false;
-            }
-        }
-        true
-    }
-
-    /// The calls that every kind has, by the path of the mode.
-    fn steps(&mut self, event: Event, pick: Pick, entry_known: bool) -> bool {
-        if !self.may_call(called(event)) || self.left(seat_of(event)) == 0 {
-            return false;
-        }
-        match event {
-            Event::Enter(seat, via) => {
-                self.enter(seat, via);
-                true
-            }
-            Event::Act(seat, op, reply) => self.act(seat, op) == reply,
-            Event::Leave(seat, next) => self.leave(seat, pick, entry_known) == next,
-            Event::Resume(seat, queue) => self.resume(seat) == queue,
-            _ => false,
-        }
-    }
-
-    /// What is left to a seat, how often it was granted the monitor, whether it is queued, and who waits on a
-    /// condition.
-    fn looks(&self, seat: u8, cond: u8) -> Option<(u32, u32, bool, u32)> {
-        if seat >= self.seats || cond >= self.conds {
-            return None;
-        }
-        Some((
-            self.left(seat),
-            self.granted(seat),
-            self.queued(seat),
-            self.waiting(cond),
-        ))
+fn is_in_place<K: Kind, T: Guarded>(floor: &Floor<K, T>, event: Event) -> bool
+    ensures { IsTrue result → IsTrue (reasons.is_in_place T.meaning (stands_of K.rules T.meaning floor.now) event) }
+{
+    match event {
+        Event::Enter(seat, via) => is_at_door(floor, seat, via),
+        _ => true,
     }
 }
 
-impl<K: Explicit, T: Guarded> Floor<K, T> {
-    fn steps_explicitly(&mut self, event: Event, pick: Pick, entry_known: bool) -> bool {
-        if !self.may_call(called(event)) || self.left(seat_of(event)) == 0 {
-            return false;
-        }
-        match event {
-            Event::Wait(seat, cond, next) => self.wait(seat, cond, pick, entry_known) == next,
-            Event::Signal(seat, cond, next) => self.signal(seat, cond, pick, entry_known) == next,
-            _ => self.steps(event, pick, entry_known),
-        }
+fn is_at_door<K: Kind, T: Guarded>(floor: &Floor<K, T>, seat: u8, via: Via) -> bool
+    ensures { IsTrue result → IsTrue (reasons.is_in_place T.meaning (stands_of K.rules T.meaning floor.now) (Event.Enter seat via)) }
+{
+    if seat >= floor.seats || is_inside(&floor.ledger.inside, seat) {
+        return false;
     }
-
-    fn runs_explicitly(&mut self, events: &[Event], pick: Pick, entry_known: bool) -> bool {
-        for event in events {
-            if !self.steps_explicitly(*event, pick, entry_known) {
-                return false;
-            }
-        }
-        true
+    match via {
+        Via::Free => is_quiet(&floor.object, &floor.ledger.queues),
+        Via::Handed => has_begun(floor.history.as_slice()),
     }
 }
 
-impl<K: ImmediateReturn, T: Guarded> Floor<K, T> {
-    fn steps_returning(&mut self, event: Event, pick: Pick, entry_known: bool) -> bool {
-        if !self.may_call(called(event)) || self.left(seat_of(event)) == 0 {
-            return false;
-        }
-        match event {
-            Event::Wait(seat, cond, next) => self.wait(seat, cond, pick, entry_known) == next,
-            Event::SignalLeave(seat, cond, next) => {
-                self.signal_leave(seat, cond, pick, entry_known) == next
-            }
-            _ => self.steps(event, pick, entry_known),
-        }
+/// Makes the call of an event by the general scheduler step, if it may be made, and says whether that very event
+/// came of it.
+fn steps_plainly<K: Kind, T: Guarded>(
+    floor: &mut Floor<K, T>,
+    event: Event,
+    pick: Pick,
+    entry_known: bool,
+) -> bool {
+    if !may_call(floor, called(event)) || floor.left(seat_of(event)) == 0 {
+        return false;
     }
-
-    fn runs_returning(&mut self, events: &[Event], pick: Pick, entry_known: bool) -> bool {
-        for event in events {
-            if !self.steps_returning(*event, pick, entry_known) {
-                return false;
-            }
+    match event {
+        Event::Enter(seat, via) => {
+            floor.enter(seat, via);
+            true
         }
-        true
+        Event::Act(seat, op, reply) => floor.act(seat, op) == reply,
+        Event::Leave(seat, next) => floor.plain_leave(seat, pick, entry_known) == next,
+        Event::Wait(seat, cond, next) => { floor.plain_wait(seat, cond, pick, entry_known) == next }
+        Event::Signal(seat, cond, next) => {
+            floor.plain_signal(seat, cond, pick, entry_known) == next
+        }
+        Event::SignalLeave(seat, cond, next) => {
+            floor.plain_signal_leave(seat, cond, pick, entry_known) == next
+        }
+        Event::Until(seat, pred, next) => {
+            floor.plain_until(seat, pred, pick, entry_known) == next
+        }
+        Event::Resume(seat, queue) => floor.resume(seat) == queue,
     }
 }
 
-impl<K: Automatic, T: Guarded> Floor<K, T> {
-    fn steps_automatically(&mut self, event: Event, pick: Pick, entry_known: bool) -> bool {
-        if !self.may_call(called(event)) || self.left(seat_of(event)) == 0 {
+fn runs_plainly<K: Kind, T: Guarded>(
+    floor: &mut Floor<K, T>,
+    events: &[Event],
+    pick: Pick,
+    entry_known: bool,
+) -> bool {
+    for event in events {
+        if !steps_plainly(floor, *event, pick, entry_known) {
             return false;
         }
-        match event {
-            Event::Until(seat, pred, next) => self.until(seat, pred, pick, entry_known) == next,
-            _ => self.steps(event, pick, entry_known),
-        }
     }
+    true
+}
 
-    fn runs_automatically(&mut self, events: &[Event], pick: Pick, entry_known: bool) -> bool {
-        for event in events {
-            if !self.steps_automatically(*event, pick, entry_known) {
-                return false;
-            }
-        }
-        true
+/// The calls that every kind has, by the path of the mode.
+fn steps<K: Kind, T: Guarded>(
+    floor: &mut Floor<K, T>,
+    event: Event,
+    pick: Pick,
+    entry_known: bool,
+) -> bool {
+    if !may_call(floor, called(event)) || floor.left(seat_of(event)) == 0 {
+        return false;
     }
+    match event {
+        Event::Enter(seat, via) => {
+            floor.enter(seat, via);
+            true
+        }
+        Event::Act(seat, op, reply) => floor.act(seat, op) == reply,
+        Event::Leave(seat, next) => floor.leave(seat, pick, entry_known) == next,
+        Event::Resume(seat, queue) => floor.resume(seat) == queue,
+        _ => false,
+    }
+}
+
+/// What is left to a seat, how often it was granted the monitor, whether it is queued, and who waits on a
+/// condition.
+fn looks<K: Kind, T: Guarded>(
+    floor: &Floor<K, T>,
+    seat: u8,
+    cond: u8,
+) -> Option<(u32, u32, bool, u32)> {
+    if seat >= floor.seats || cond >= floor.conds {
+        return None;
+    }
+    Some((
+        floor.left(seat),
+        floor.granted(seat),
+        floor.queued(seat),
+        floor.waiting(cond),
+    ))
+}
+
+fn steps_explicitly<K: Explicit, T: Guarded>(
+    floor: &mut Floor<K, T>,
+    event: Event,
+    pick: Pick,
+    entry_known: bool,
+) -> bool {
+    if !may_call(floor, called(event)) || floor.left(seat_of(event)) == 0 {
+        return false;
+    }
+    match event {
+        Event::Wait(seat, cond, next) => floor.wait(seat, cond, pick, entry_known) == next,
+        Event::Signal(seat, cond, next) => floor.signal(seat, cond, pick, entry_known) == next,
+        _ => steps(floor, event, pick, entry_known),
+    }
+}
+
+fn runs_explicitly<K: Explicit, T: Guarded>(
+    floor: &mut Floor<K, T>,
+    events: &[Event],
+    pick: Pick,
+    entry_known: bool,
+) -> bool {
+    for event in events {
+        if !steps_explicitly(floor, *event, pick, entry_known) {
+            return false;
+        }
+    }
+    true
+}
+
+fn steps_returning<K: ImmediateReturn, T: Guarded>(
+    floor: &mut Floor<K, T>,
+    event: Event,
+    pick: Pick,
+    entry_known: bool,
+) -> bool {
+    if !may_call(floor, called(event)) || floor.left(seat_of(event)) == 0 {
+        return false;
+    }
+    match event {
+        Event::Wait(seat, cond, next) => floor.wait(seat, cond, pick, entry_known) == next,
+        Event::SignalLeave(seat, cond, next) => {
+            floor.signal_leave(seat, cond, pick, entry_known) == next
+        }
+        _ => steps(floor, event, pick, entry_known),
+    }
+}
+
+fn runs_returning<K: ImmediateReturn, T: Guarded>(
+    floor: &mut Floor<K, T>,
+    events: &[Event],
+    pick: Pick,
+    entry_known: bool,
+) -> bool {
+    for event in events {
+        if !steps_returning(floor, *event, pick, entry_known) {
+            return false;
+        }
+    }
+    true
+}
+
+fn steps_automatically<K: Automatic, T: Guarded>(
+    floor: &mut Floor<K, T>,
+    event: Event,
+    pick: Pick,
+    entry_known: bool,
+) -> bool {
+    if !may_call(floor, called(event)) || floor.left(seat_of(event)) == 0 {
+        return false;
+    }
+    match event {
+        Event::Until(seat, pred, next) => floor.until(seat, pred, pick, entry_known) == next,
+        _ => steps(floor, event, pick, entry_known),
+    }
+}
+
+fn runs_automatically<K: Automatic, T: Guarded>(
+    floor: &mut Floor<K, T>,
+    events: &[Event],
+    pick: Pick,
+    entry_known: bool,
+) -> bool {
+    for event in events {
+        if !steps_automatically(floor, *event, pick, entry_known) {
+            return false;
+        }
+    }
+    true
 }
 
 const PUT: Op = Op { code: 0, arg: 7 };
@@ -300,161 +339,210 @@ fn refusal(rt: &HostRuntime, seats: u8, conds: u8, budget: u32) -> Result<Option
 
 #[test]
 fn refusals_in_order(rt: HostRuntime) -> Result<(), Fail> {
-    assert_eq!(rt; refusal(&rt, 0, 9, 1)?, Some(MakeFault::Seats));
-    assert_eq!(rt; refusal(&rt, 33, 9, 1)?, Some(MakeFault::Seats));
-    assert_eq!(rt; refusal(&rt, 32, 9, 1)?, Some(MakeFault::Conds));
-    assert_eq!(rt; refusal(&rt, 32, 8, 1)?, Some(MakeFault::Budget));
-    assert_eq!(rt; refusal(&rt, 1, 0, 1_048_577)?, Some(MakeFault::Budget));
-    assert_eq!(rt; refusal(&rt, 32, 8, 2)?, None);
-    assert_eq!(rt; refusal(&rt, 1, 0, 1_048_576)?, None);
+    let calls = [
+        (0, 9, 1, Some(MakeFault::Seats)),
+        (33, 9, 1, Some(MakeFault::Seats)),
+        (32, 9, 1, Some(MakeFault::Conds)),
+        (32, 8, 1, Some(MakeFault::Budget)),
+        (1, 0, 1_048_577, Some(MakeFault::Budget)),
+        (32, 8, 2, None),
+    ];
+    for (seats, conds, budget, fault) in calls {
+        assert_eq!(rt;
+            refusal(&rt, seats, conds, budget)?,
+            fault,
+            "{seats} {conds} {budget}"
+        );
+    }
     Ok(())
 }
+
+/// Whether both paths make exactly these events.
+fn both_explicit<K: Explicit>(
+    rt: &HostRuntime,
+    seats: u8,
+    events: &[Event],
+    pick: Pick,
+) -> Result<bool, Fail> {
+    let mut plain: Floor<K, Buffer> = room(rt, seats, 2)?;
+    let mut floor: Floor<K, Buffer> = room(rt, seats, 2)?;
+    let known = pick == Pick::Entry;
+    Ok(
+        runs_plainly(&mut plain, events, pick, known)
+            && runs_explicitly(&mut floor, events, pick, known),
+    )
+}
+
+fn both_returning<K: ImmediateReturn>(
+    rt: &HostRuntime,
+    events: &[Event],
+    pick: Pick,
+) -> Result<bool, Fail> {
+    let mut plain: Floor<K, Buffer> = room(rt, 2, 1)?;
+    let mut floor: Floor<K, Buffer> = room(rt, 2, 1)?;
+    let known = pick == Pick::Entry;
+    Ok(
+        runs_plainly(&mut plain, events, pick, known)
+            && runs_returning(&mut floor, events, pick, known),
+    )
+}
+
+fn both_automatic<K: Automatic>(
+    rt: &HostRuntime,
+    events: &[Event],
+    pick: Pick,
+) -> Result<bool, Fail> {
+    let mut plain: Floor<K, Buffer> = room(rt, 2, 0)?;
+    let mut floor: Floor<K, Buffer> = room(rt, 2, 0)?;
+    let known = pick == Pick::Entry;
+    Ok(
+        runs_plainly(&mut plain, events, pick, known)
+            && runs_automatically(&mut floor, events, pick, known),
+    )
+}
+
+const HOARE_HANDOVER: [Event; 11] = [
+    Event::Enter(0, Via::Free),
+    Event::Act(0, TAKE, 0),
+    Event::Wait(0, 1, Next::Entry),
+    Event::Enter(1, Via::Free),
+    Event::Act(1, PUT, 1),
+    Event::Signal(1, 1, Next::Waiter(0)),
+    Event::Resume(0, From3::Waiter),
+    Event::Act(0, TAKE, 8),
+    Event::Leave(0, Next::Signaller(1)),
+    Event::Resume(1, From3::Signaller),
+    Event::Leave(1, Next::Entry),
+];
 
 #[test]
 fn hoare_handover(rt: HostRuntime) -> Result<(), Fail> {
-    let first = [
-        Event::Enter(0, Via::Free),
-        Event::Act(0, TAKE, 0),
-        Event::Wait(0, 1, Next::Entry),
-        Event::Enter(1, Via::Free),
-        Event::Act(1, PUT, 1),
-    ];
-    let rest = [
-        Event::Signal(1, 1, Next::Waiter(0)),
-        Event::Resume(0, From3::Waiter),
-        Event::Act(0, TAKE, 8),
-        Event::Leave(0, Next::Signaller(1)),
-        Event::Resume(1, From3::Signaller),
-        Event::Leave(1, Next::Entry),
-    ];
-    let mut plain: Floor<Pb, Buffer> = room(&rt, 2, 2)?;
-    assert!(rt; plain.runs_plainly(&first, Pick::Waiter, false));
-    assert!(rt; plain.runs_plainly(&rest, Pick::Waiter, false));
-    let mut floor: Floor<Pb, Buffer> = room(&rt, 2, 2)?;
-    assert!(rt; floor.runs_explicitly(&first, Pick::Waiter, false));
-    assert_eq!(rt; floor.looks(0, 1), Some((13, 0, true, 1)));
-    assert_eq!(rt; floor.looks(1, 0), Some((14, 0, false, 0)));
-    assert!(rt; floor.holds(1));
-    assert!(rt; floor.runs_explicitly(&rest, Pick::Waiter, false));
-    assert_eq!(rt; floor.looks(0, 1), Some((10, 1, false, 0)));
-    assert_eq!(rt; floor.looks(1, 1), Some((11, 1, false, 0)));
-    assert_eq!(rt; floor.enters(), 2);
-    assert_eq!(rt; floor.history().len(), 11);
-    let (buffer, history) = floor.close();
-    assert!(rt; buffer.holds(0));
-    assert_eq!(rt; history.as_slice(), plain.history());
+    assert!(rt; both_explicit::<Pb>(&rt, 2, &HOARE_HANDOVER, Pick::Waiter)?);
     Ok(())
 }
+
+const MESA_SIGNAL_AND_CONTINUE: [Event; 9] = [
+    Event::Enter(0, Via::Free),
+    Event::Act(0, TAKE, 0),
+    Event::Wait(0, 1, Next::Entry),
+    Event::Enter(1, Via::Free),
+    Event::Act(1, PUT, 1),
+    Event::Signal(1, 1, Next::Stay),
+    Event::Leave(1, Next::Waiter(0)),
+    Event::Resume(0, From3::Waiter),
+    Event::Leave(0, Next::Entry),
+];
 
 #[test]
 fn mesa_signal_and_continue(rt: HostRuntime) -> Result<(), Fail> {
-    let events = [
-        Event::Enter(0, Via::Free),
-        Event::Act(0, TAKE, 0),
-        Event::Wait(0, 1, Next::Entry),
-        Event::Enter(1, Via::Free),
-        Event::Act(1, PUT, 1),
-        Event::Signal(1, 1, Next::Stay),
-        Event::Leave(1, Next::Waiter(0)),
-        Event::Resume(0, From3::Waiter),
-        Event::Leave(0, Next::Entry),
-    ];
-    let mut plain: Floor<Pnb, Buffer> = room(&rt, 2, 2)?;
-    assert!(rt; plain.runs_plainly(&events, Pick::Waiter, false));
-    let mut floor: Floor<Pnb, Buffer> = room(&rt, 2, 2)?;
-    assert!(rt; floor.runs_explicitly(&events, Pick::Waiter, false));
+    assert!(rt; both_explicit::<Pnb>(&rt, 2, &MESA_SIGNAL_AND_CONTINUE, Pick::Waiter)?);
     Ok(())
 }
+
+const LEAVE_PAST_SIGNALLER: [Event; 7] = [
+    Event::Enter(0, Via::Free),
+    Event::Wait(0, 1, Next::Entry),
+    Event::Enter(1, Via::Free),
+    Event::Signal(1, 1, Next::Waiter(0)),
+    Event::Resume(0, From3::Waiter),
+    Event::Leave(0, Next::Entry),
+    Event::Enter(2, Via::Handed),
+];
 
 #[test]
 fn leave_past_signaller(rt: HostRuntime) -> Result<(), Fail> {
-    let events = [
-        Event::Enter(0, Via::Free),
-        Event::Wait(0, 1, Next::Entry),
-        Event::Enter(1, Via::Free),
-        Event::Signal(1, 1, Next::Waiter(0)),
-        Event::Resume(0, From3::Waiter),
-        Event::Leave(0, Next::Entry),
-        Event::Enter(2, Via::Handed),
-    ];
-    let mut plain: Floor<Npb, Buffer> = room(&rt, 3, 2)?;
-    assert!(rt; plain.runs_plainly(&events, Pick::Entry, true));
-    let mut floor: Floor<Npb, Buffer> = room(&rt, 3, 2)?;
-    assert!(rt; floor.runs_explicitly(&events, Pick::Entry, true));
+    assert!(rt; both_explicit::<Npb>(&rt, 3, &LEAVE_PAST_SIGNALLER, Pick::Entry)?);
     Ok(())
 }
+
+const QUASI_BLOCKING_ORDER: [Event; 10] = [
+    Event::Enter(0, Via::Free),
+    Event::Wait(0, 0, Next::Entry),
+    Event::Enter(1, Via::Free),
+    Event::Wait(1, 0, Next::Entry),
+    Event::Enter(2, Via::Free),
+    Event::Signal(2, 0, Next::Waiter(0)),
+    Event::Resume(0, From3::Waiter),
+    Event::Signal(0, 0, Next::Waiter(1)),
+    Event::Resume(1, From3::Waiter),
+    Event::Leave(1, Next::Signaller(2)),
+];
 
 #[test]
 fn quasi_blocking_order(rt: HostRuntime) -> Result<(), Fail> {
-    let events = [
-        Event::Enter(0, Via::Free),
-        Event::Wait(0, 0, Next::Entry),
-        Event::Enter(1, Via::Free),
-        Event::Wait(1, 0, Next::Entry),
-        Event::Enter(2, Via::Free),
-        Event::Signal(2, 0, Next::Waiter(0)),
-        Event::Resume(0, From3::Waiter),
-        Event::Signal(0, 0, Next::Waiter(1)),
-        Event::Resume(1, From3::Waiter),
-        Event::Leave(1, Next::Signaller(2)),
-    ];
-    let mut plain: Floor<Pqb, Buffer> = room(&rt, 3, 1)?;
-    assert!(rt; plain.runs_plainly(&events, Pick::Waiter, false));
-    let mut floor: Floor<Pqb, Buffer> = room(&rt, 3, 1)?;
-    assert!(rt; floor.runs_explicitly(&events, Pick::Waiter, false));
+    assert!(rt; both_explicit::<Pqb>(&rt, 3, &QUASI_BLOCKING_ORDER, Pick::Waiter)?);
     Ok(())
 }
+
+const SIGNAL_AND_RETURN: [Event; 5] = [
+    Event::Enter(0, Via::Free),
+    Event::Wait(0, 0, Next::Entry),
+    Event::Enter(1, Via::Free),
+    Event::SignalLeave(1, 0, Next::Waiter(0)),
+    Event::Resume(0, From3::Waiter),
+];
+
+/// Entry and the served seat are of one priority.
+const RETURN_PAST_WAITER: [Event; 4] = [
+    Event::Enter(0, Via::Free),
+    Event::Wait(0, 0, Next::Entry),
+    Event::Enter(1, Via::Free),
+    Event::SignalLeave(1, 0, Next::Entry),
+];
 
 #[test]
 fn immediate_return(rt: HostRuntime) -> Result<(), Fail> {
-    let begins = [
-        Event::Enter(0, Via::Free),
-        Event::Wait(0, 0, Next::Entry),
-        Event::Enter(1, Via::Free),
-    ];
-    let mut plain: Floor<Pir, Buffer> = room(&rt, 2, 1)?;
-    let mut floor: Floor<Pir, Buffer> = room(&rt, 2, 1)?;
-    let hands_over = [Event::SignalLeave(1, 0, Next::Waiter(0))];
-    assert!(rt; plain.runs_plainly(&begins, Pick::Entry, true));
-    assert!(rt; plain.runs_plainly(&hands_over, Pick::Entry, true));
-    assert!(rt; floor.runs_returning(&begins, Pick::Entry, true));
-    assert!(rt; floor.runs_returning(&hands_over, Pick::Entry, true));
-    let mut plain: Floor<Npir, Buffer> = room(&rt, 2, 1)?;
-    let mut floor: Floor<Npir, Buffer> = room(&rt, 2, 1)?;
-    let ties = [Event::SignalLeave(1, 0, Next::Entry)];
-    assert!(rt; plain.runs_plainly(&begins, Pick::Entry, true));
-    assert!(rt; plain.runs_plainly(&ties, Pick::Entry, true));
-    assert!(rt; floor.runs_returning(&begins, Pick::Entry, true));
-    assert!(rt; floor.runs_returning(&ties, Pick::Entry, true));
+    assert!(rt; both_returning::<Pir>(&rt, &SIGNAL_AND_RETURN, Pick::Entry)?);
+    assert!(rt; both_returning::<Npir>(&rt, &RETURN_PAST_WAITER, Pick::Entry)?);
+    Ok(())
+}
+
+const AUTOMATIC_SIGNAL: [Event; 8] = [
+    Event::Enter(0, Via::Free),
+    Event::Until(0, 1, Next::Entry),
+    Event::Enter(1, Via::Free),
+    Event::Act(1, PUT, 1),
+    Event::Leave(1, Next::Until(0)),
+    Event::Resume(0, From3::Until),
+    Event::Act(0, TAKE, 8),
+    Event::Leave(0, Next::Entry),
+];
+
+/// Entry and the ready seats are of one priority.
+const LEAVE_PAST_READY: [Event; 5] = [
+    Event::Enter(0, Via::Free),
+    Event::Until(0, 1, Next::Entry),
+    Event::Enter(1, Via::Free),
+    Event::Act(1, PUT, 1),
+    Event::Leave(1, Next::Entry),
+];
+
+#[test]
+fn automatic_signal(rt: HostRuntime) -> Result<(), Fail> {
+    assert!(rt; both_automatic::<Pis>(&rt, &AUTOMATIC_SIGNAL, Pick::Waiter)?);
+    assert!(rt; both_automatic::<Npis>(&rt, &LEAVE_PAST_READY, Pick::Entry)?);
     Ok(())
 }
 
 #[test]
-fn automatic_signal(rt: HostRuntime) -> Result<(), Fail> {
-    let begins = [
-        Event::Enter(0, Via::Free),
-        Event::Until(0, 1, Next::Entry),
-        Event::Enter(1, Via::Free),
-        Event::Act(1, PUT, 1),
-    ];
-    let rest = [
-        Event::Leave(1, Next::Until(0)),
-        Event::Resume(0, From3::Until),
-        Event::Act(0, TAKE, 8),
-        Event::Leave(0, Next::Entry),
-    ];
-    let mut plain: Floor<Pis, Buffer> = room(&rt, 2, 0)?;
-    let mut floor: Floor<Pis, Buffer> = room(&rt, 2, 0)?;
-    assert!(rt; plain.runs_plainly(&begins, Pick::Waiter, false));
-    assert!(rt; plain.runs_plainly(&rest, Pick::Waiter, false));
-    assert!(rt; floor.runs_automatically(&begins, Pick::Waiter, false));
-    assert!(rt; floor.runs_automatically(&rest, Pick::Waiter, false));
-    let mut plain: Floor<Npis, Buffer> = room(&rt, 2, 0)?;
-    let mut floor: Floor<Npis, Buffer> = room(&rt, 2, 0)?;
-    let ties = [Event::Leave(1, Next::Entry)];
-    assert!(rt; plain.runs_plainly(&begins, Pick::Entry, true));
-    assert!(rt; plain.runs_plainly(&ties, Pick::Entry, true));
-    assert!(rt; floor.runs_automatically(&begins, Pick::Entry, true));
-    assert!(rt; floor.runs_automatically(&ties, Pick::Entry, true));
+fn what_a_floor_tells(rt: HostRuntime) -> Result<(), Fail> {
+    let mut floor: Floor<Pb, Buffer> = room(&rt, 2, 2)?;
+    assert!(rt; runs_explicitly(&mut floor, &HOARE_HANDOVER[..5], Pick::Waiter, false));
+    assert_eq!(rt; looks(&floor, 0, 1), Some((13, 0, true, 1)));
+    assert!(rt; floor.holds(1));
+    assert!(rt; runs_explicitly(&mut floor, &HOARE_HANDOVER[5..], Pick::Waiter, false));
+    assert_eq!(rt; looks(&floor, 0, 1), Some((10, 1, false, 0)));
+    assert_eq!(rt; floor.enters(), 2);
+    assert_eq!(rt; floor.history().len(), 11);
+    Ok(())
+}
+
+#[test]
+fn what_is_left_when_it_closes(rt: HostRuntime) -> Result<(), Fail> {
+    let mut floor: Floor<Pb, Buffer> = room(&rt, 2, 2)?;
+    assert!(rt; runs_explicitly(&mut floor, &HOARE_HANDOVER, Pick::Waiter, false));
+    let (buffer, history) = floor.close();
+    assert!(rt; buffer.holds(0));
+    assert_eq!(rt; history.len(), 11);
     Ok(())
 }
