@@ -1,5 +1,5 @@
 -- Which of its words stands next in the line of an event, or none.
-use Rattle.std.proofs.Common.{◌≡◌, true, false, List, [], ◌∷◌, Some, Ok, Err, refl, ap, ◌∙◌}
+use Rattle.std.proofs.Common.{◌≡◌, false, List, [], ◌∷◌, Some, Ok, Err, refl, ap, ◌∙◌}
 use Rattle.std.specs.Prelude.{codes}
 use Rattle.monk_history.specs.declared.event.Via.{Via}
 use Rattle.monk_history.specs.declared.event.From3.{From3}

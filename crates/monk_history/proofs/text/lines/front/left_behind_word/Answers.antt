@@ -1,4 +1,4 @@
-use Rattle.std.proofs.Common.{◌≡◌, List, ℕ, ap, ◌∙◌}
+use Rattle.std.proofs.Common.{List, ℕ, ap, ◌∙◌}
 use Rattle.monk_history.specs.Text.Words.{words_of, is_next}
 use Rattle.monk_history.proofs.TextLaws.NextWords.{is_next-other}
 use Rattle.monk_history.proofs.text.lines.front.left_behind_word.Goals as goal
