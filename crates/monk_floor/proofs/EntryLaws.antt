@@ -1,5 +1,5 @@
 -- Who may enter, by what a floor keeps
-use Rattle.std.proofs.Common.{◌≡◌, ℕ, Bool, true, false, ◌&&◌, not, IsTrue, List, ap, refl, sym, subst, ◌∙◌}
+use Rattle.std.proofs.Common.{◌≡◌, ℕ, Bool, true, false, ◌&&◌, not, List, ap, sym, subst, ◌∙◌}
 use Rattle.std.specs.Prelude.{slice_index_or}
 use Rattle.monk_history.specs.Meaning.Monitor.{Monitor}
 use Rattle.monk_history.specs.Meaning.Situation.{situation}
@@ -11,7 +11,7 @@ use Rattle.monk_history.specs.declared.event.Event.TheVariants.{Enter}
 use Rattle.monk_history.specs.declared.event.Turn.{Turn}
 use Rattle.monk_history.specs.declared.event.Via.{Via}
 use Rattle.monk_history.specs.declared.event.Via.TheVariants.{Free, Handed}
-use Rattle.monk_floor.specs.Kept.{shown, IsKept}
+use Rattle.monk_floor.specs.Kept.{IsKept}
 use Rattle.monk_floor.specs.Queues.{QueueLists}
 use Rattle.monk_floor.specs.View.{FloorView, stands_of}
 use Rattle.monk_floor.proofs.PathLaws.{view}

@@ -1,46 +1,38 @@
 -- What a floor keeps, before an event and after it
-use Rattle.std.proofs.Common.{◌≡◌, ℕ, ◌+◌, ◌-◌, ◌*◌, ◌<◌, ◌≤◌, zero, suc, Bool, true, false, cond, ◌&&◌, ◌||◌, not, ◌==◌, All, Option, Some, List, [], ◌∷◌, ◌++◌, length, refl, sym, ap, subst, ◌∙◌, arith}
-use Rattle.std.specs.Prelude.{filter, nat_lt, slice_get, slice_index_or, ◌^◌}
+use Rattle.std.proofs.Common.{◌≡◌, ℕ, ◌+◌, ◌-◌, ◌*◌, ◌<◌, ◌≤◌, zero, suc, Bool, true, false, cond, ◌&&◌, ◌||◌, not, ◌==◌, All, Some, List, [], ◌∷◌, ◌++◌, length, refl, sym, ap, subst, ◌∙◌, arith}
+use Rattle.std.specs.Prelude.{filter, nat_lt, slice_index_or}
 use Rattle.std.specs.List.{list_all}
-use Rattle.std.proofs.lemmas.Bool.{eqb-true, false≢true}
+use Rattle.std.proofs.lemmas.Bool.{eqb-true}
 use Rattle.std.proofs.lemmas.List.Elements.{All-append, All-filter, All-nil, All-cons}
 use Rattle.monk_kinds.specs.declared.mode.Rules.{Rules}
-use Rattle.monk_kinds.specs.declared.mode.Pick.{Pick}
-use Rattle.monk_kinds.specs.declared.mode.Pick.TheVariants.{Entry as WishEntry, Waiter as WishWaiter, Signaller as WishSignaller}
 use Rattle.monk_kinds.specs.Kind.{IsKind}
 use Rattle.monk_object.specs.Object.{Object}
 use Rattle.monk_history.specs.Meaning.Events.{seat_of, next_of, named_seat, waits_on, signals_on, is_stay}
 use Rattle.monk_history.specs.Meaning.Monitor.{Monitor, data_after}
-use Rattle.monk_history.specs.Meaning.Situation.{Situation, situation}
+use Rattle.monk_history.specs.Meaning.Situation.{situation}
 use Rattle.monk_history.specs.Meaning.Step.{after, opening_situation}
 use Rattle.monk_history.specs.Meaning.Turn.{turn_by, enters, leaves}
-use Rattle.monk_history.specs.Meaning.Waiters.{serves}
-use Rattle.monk_history.specs.Meaning.Signallers.{is_empty, signals}
-use Rattle.monk_history.specs.Meaning.Untils.{waits_until, chooses, ready_of}
-use Rattle.monk_history.specs.Meaning.Choice.{Queues, queues_at, must_stay}
-use Rattle.monk_history.specs.Meaning.Wish.{choice_by}
-use Rattle.monk_history.specs.Meaning.Release.{MayCallIn, MayCall, with_next, choice_of}
-use Rattle.monk_history.specs.Meaning.Reasons.{is_in_range, is_condition, fits_object, IsAllowedIn, IsAllowed}
+use Rattle.monk_history.specs.Meaning.Signallers.{is_empty}
+use Rattle.monk_history.specs.Meaning.Untils.{waits_until, chooses}
+use Rattle.monk_history.specs.Meaning.Release.{MayCall}
+use Rattle.monk_history.specs.Meaning.Reasons.{is_in_range, is_condition, fits_object, IsAllowed}
 use Rattle.monk_history.specs.Meaning.Legal.{IsLegal}
 use Rattle.monk_history.specs.Meaning.Counts.{events_of, left_of, grants, granted_of, is_enter, enters_of}
 use Rattle.monk_floor.specs.View.{FloorView, monitor_of}
 use Rattle.monk_history.specs.declared.event.Event.{Event}
 use Rattle.monk_history.specs.declared.event.Event.TheVariants.{Enter, Act, Leave, Wait, Signal, SignalLeave, Until, Resume}
-use Rattle.monk_history.specs.declared.event.Next.{Next}
-use Rattle.monk_history.specs.declared.event.Next.TheVariants.{Stay, Entry, Waiter, Signaller, Until as UntilSeat}
 use Rattle.monk_history.specs.declared.event.Turn.{Turn}
 use Rattle.monk_history.specs.declared.event.Turn.TheVariants.{Open}
 use Rattle.monk_history.proofs.MeaningLaws.TestLaws.{and_left, and_right}
 use Rattle.monk_history.proofs.MeaningLaws.LegalLaws.{legal-push, legal_none}
 use Rattle.monk_history.proofs.MeaningLaws.StepLaws.{same_situation, legal_situation-push, situation-none}
 use Rattle.monk_history.proofs.MeaningLaws.CountLaws.{length-events_of-push, granted_of-push, enters_of-push, granted_few, enters_few, granted_none, enters_none, few_events, room_left}
-use Rattle.monk_history.proofs.MeaningLaws.ReleaseLaws.{IsInOrder, legal_order, HasRoom, room_for, caller_apart, seat_in_range, chosen_allowed}
+use Rattle.monk_history.proofs.MeaningLaws.ReleaseLaws.{IsInOrder, legal_order, HasRoom, room_for, caller_apart, seat_in_range}
 use Rattle.monk_history.proofs.MeaningLaws.MoveLaws.{queued_once, caller_unqueued}
 use Rattle.monk_history.specs.Meaning.Standing.{in_queues}
-use Rattle.monk_floor.specs.Just.{just}
 use Rattle.monk_floor.specs.Queues.{QueueLists, queue_at, HasPlaces, IsOrderly, IsMoved}
 use Rattle.monk_floor.specs.Kept.{shown, IsKept}
-use Rattle.monk_floor.specs.Ready.{IsReady, stays_by}
+use Rattle.monk_floor.specs.Ready.{IsReady}
 
 range_waits : (m : Monitor) (e : Event) → is_in_range m.seats m.conds m.object.codes m.object.predicates e ≡ true → is_condition m.conds (waits_on e) ≡ true
 range_waits m e h = and_right _ _ (and_left _ (is_condition m.conds (signals_on e)) (and_left _ (fits_object m.object.codes m.object.predicates e) h))

@@ -1,14 +1,13 @@
 -- The choice along the path of a mode, of what a floor keeps
-use Rattle.std.proofs.Common.{◌≡◌, ℕ, Bool, true, false, cond, not, ◌==◌, Option, Some, None, List, [], ◌∷◌, ◌++◌, refl, sym, ap, subst, ◌∙◌}
+use Rattle.std.proofs.Common.{◌≡◌, ℕ, Bool, true, false, not, Option, List, ◌++◌, refl, sym, ap, subst, ◌∙◌}
 use Rattle.std.specs.Prelude.{slice_get, nat_le}
 use Rattle.monk_kinds.specs.declared.mode.Rules.{Rules}
-use Rattle.monk_kinds.specs.declared.mode.Mode.{Mode}
-use Rattle.monk_kinds.specs.declared.mode.Mode.TheVariants.{Blocking, NonBlocking, QuasiBlocking, ImmediateReturn, Automatic}
+use Rattle.monk_kinds.specs.declared.mode.Mode.TheVariants.{Blocking, NonBlocking, QuasiBlocking, Automatic}
 use Rattle.monk_kinds.specs.declared.mode.Pick.{Pick}
 use Rattle.monk_kinds.specs.Kind.{IsKind}
 use Rattle.monk_history.specs.Meaning.Events.{seat_of, has_conditions}
 use Rattle.monk_history.specs.Meaning.Monitor.{Monitor}
-use Rattle.monk_history.specs.Meaning.Situation.{Situation, situation}
+use Rattle.monk_history.specs.Meaning.Situation.{situation}
 use Rattle.monk_history.specs.Meaning.Waiters.{serves}
 use Rattle.monk_history.specs.Meaning.Signallers.{is_empty, signals}
 use Rattle.monk_history.specs.Meaning.Untils.{ready_of}
@@ -27,7 +26,7 @@ use Rattle.monk_floor.specs.Chosen.{IsChosen}
 use Rattle.monk_floor.specs.Kept.{shown, IsKept}
 use Rattle.monk_floor.specs.Queues.{QueueLists, queue_at}
 use Rattle.monk_floor.specs.Ready.{stays_by}
-use Rattle.monk_floor.specs.Silent.{IsReplyless, MakesNoSignaller, ServesNobody}
+use Rattle.monk_floor.specs.Releases.{IsReplyless, MakesNoSignaller, ServesNobody}
 use Rattle.monk_floor.specs.View.{FloorView, monitor_of}
 use Rattle.monk_floor.proofs.ChoiceLaws.{kept_stay, kept_allowed, stays_is}
 

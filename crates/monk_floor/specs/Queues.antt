@@ -1,7 +1,7 @@
 -- The queues of a floor as plain lists, and what one event makes of them
 use Rattle.std.specs.Prelude.{◌≡◌, ℕ, ◌<◌, ◌≤◌, ◌+◌, map, zero, suc, Bool, false, true, not, List, [], ◌∷◌, ◌++◌, length, drop, filter, if◌then◌else◌}
 use Rattle.monk_history.specs.Meaning.Standing.{times, times_in_conditions}
-use Rattle.monk_history.specs.Meaning.Events.{seat_of, next_of, is_waiter, is_signaller}
+use Rattle.monk_history.specs.Meaning.Events.{seat_of, next_of, is_waiter}
 use Rattle.monk_history.specs.Meaning.Conditions.{served_by, waiting_by}
 use Rattle.monk_history.specs.Meaning.Waiters.{serves}
 use Rattle.monk_history.specs.Meaning.Signallers.{is_empty, signals, takes_signaller}

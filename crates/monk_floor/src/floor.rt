@@ -12,7 +12,7 @@ ghost use Rattle.monk_floor.specs.Chosen.{IsChosen};
 ghost use Rattle.monk_floor.specs.Due.{IsDueTo, IsDueSome, due_seat};
 ghost use Rattle.monk_floor.specs.Grown.{IsGrown};
 ghost use Rattle.monk_floor.specs.Making.{refusal, IsRefused};
-ghost use Rattle.monk_floor.specs.Silent.{IsReplyless};
+ghost use Rattle.monk_floor.specs.Releases.{IsReplyless};
 ghost use Rattle.monk_floor.specs.View.{monitor_of, stands_of, fresh};
 
 use crate::choosing::{first_ready, must_stay};

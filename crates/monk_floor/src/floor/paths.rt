@@ -7,7 +7,7 @@ ghost use Rattle.monk_history.specs.Meaning.Paths.{keeps_signallers};
 ghost use Rattle.monk_history.specs.Meaning.Release.{MayCall, choice_of};
 ghost use Rattle.monk_floor.specs.Chosen.{IsChosen};
 ghost use Rattle.monk_floor.specs.Grown.{IsGrown};
-ghost use Rattle.monk_floor.specs.Silent.{IsReplyless, MakesNoSignaller, ServesNobody};
+ghost use Rattle.monk_floor.specs.Releases.{IsReplyless, MakesNoSignaller, ServesNobody};
 ghost use Rattle.monk_floor.specs.View.{monitor_of, stands_of};
 
 use crate::choosing::{equal_choice, first_ready, must_stay, served_choice, single_choice};

@@ -1,7 +1,6 @@
-use Rattle.std.proofs.Common.{◌≡◌, ◌<◌, ◌∙◌, sym, ap, subst, length, ◌++◌, ◌∷◌, []}
-use Rattle.std.specs.Prelude.{vec_len, vec_capacity}
+use Rattle.std.proofs.Common.{◌<◌, sym, subst}
+use Rattle.std.specs.Prelude.{vec_capacity}
 use Rattle.monk_history.specs.Meaning.Events.{seat_of}
-use Rattle.monk_floor.specs.View.{FloorView}
 use Rattle.monk_floor.specs.Kept.{IsKept}
 use Rattle.monk_history.specs.Meaning.Monitor.{monitor}
 use Rattle.monk_floor.proofs.KeptLaws.{is_ready, has_room, kept_push, allowed_here, left_here}

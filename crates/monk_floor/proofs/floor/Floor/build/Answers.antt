@@ -1,4 +1,4 @@
-use Rattle.std.proofs.Common.{◌∙◌, sym, ap}
+use Rattle.std.proofs.Common.{sym, ap}
 use Rattle.monk_history.specs.Meaning.Monitor.{monitor}
 use Rattle.monk_floor.proofs.KeptLaws.{kept_none}
 use Rattle.monk_floor.proofs.floor.Floor.build.Goals as goal

@@ -1,4 +1,4 @@
-use Rattle.std.proofs.Common.{◌≡◌, ◌∙◌, ap, not, ◌&&◌}
+use Rattle.std.proofs.Common.{◌∙◌, ap, not, ◌&&◌}
 use Rattle.std.specs.Prelude.{nat_lt, slice_index_or, false}
 use Rattle.monk_history.specs.Meaning.Monitor.{monitor}
 use Rattle.monk_history.specs.Meaning.Situation.{situation}
