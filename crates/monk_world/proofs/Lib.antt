@@ -13,3 +13,4 @@ pub mod EntersLaws
 pub mod TestLaws
 pub mod SoundWords
 pub mod SoundFloor
+pub mod SoundSteps

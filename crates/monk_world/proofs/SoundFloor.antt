@@ -1,6 +1,6 @@
 -- A step with the floor, which lets the history grow by one event, keeps a state sound
 use Rattle.std.proofs.Common.{◌≡◌, ◌≢◌, ℕ, ◌+◌, ◌-◌, ◌*◌, ◌==◌, ◌<◌, ◌≤◌, ◌⊎◌, true, false, cond, Bool, ◌||◌, List, [], ◌∷◌, ◌++◌, length, sym, refl, ap, ◌∙◌, subst, inl, inr, arith, eq-eqb}
-use Rattle.std.specs.Prelude.{if◌then◌else◌, nat_lt, nat_le, Option, Some, None}
+use Rattle.std.specs.Prelude.{if◌then◌else◌, not, nat_lt, nat_le, Option, Some, None}
 use Rattle.std.proofs.lemmas.Bool.{ne_eqb}
 use Rattle.std.proofs.lemmas.Bool.Decides.{eqb_tells}
 use Rattle.monk_kinds.specs.Kind.{IsKind}
@@ -14,6 +14,7 @@ use Rattle.monk_history.specs.Meaning.Legal.{IsLegal}
 use Rattle.monk_history.specs.Meaning.Monitor.{Monitor}
 use Rattle.monk_history.specs.Meaning.Moves.{StandsAfter, CountsAfter}
 use Rattle.monk_history.specs.Meaning.Reasons.{IsAllowed}
+use Rattle.monk_history.specs.Meaning.Release.{as_called, choice_of}
 use Rattle.monk_history.specs.Meaning.Situation.{situation}
 use Rattle.monk_history.specs.Meaning.Standing.{standing, in_queues}
 use Rattle.monk_history.specs.Meaning.Turn.{turn, turn_by, is_inside}
@@ -28,6 +29,7 @@ use Rattle.monk_history.proofs.MeaningLaws.CountLaws.{enters_none}
 use Rattle.monk_history.proofs.MeaningLaws.EntryLaws.{enters_free, enters_handed, resumes}
 use Rattle.monk_history.proofs.MeaningLaws.LegalLaws.{legal-push}
 use Rattle.monk_history.proofs.MeaningLaws.MoveLaws.{counts_after, stands_after}
+use Rattle.monk_history.proofs.MeaningLaws.QuietLaws.{quiet_after}
 use Rattle.monk_history.proofs.MeaningLaws.StandingLaws.{legal_placed}
 use Rattle.monk_floor.specs.View.{FloorView, monitor_of, stands_of}
 use Rattle.monk_world.specs.Enters.{FitsEnters, used_by, used_at}
@@ -63,6 +65,13 @@ module _ (k : Rules) (o : Object) (s : State) (right : ℕ) (owner : ℕ → ℕ
   none : 2 ≤ stage (s.world.place i) → stage (s.world.place i) ≤ 5 → (j : ℕ) → j ≢ i → 2 ≤ stage (s.world.place j) → stage (s.world.place j) ≤ 5 → ⊥
   none low high = others s.floor.seats s.world right owner h.stands.keeps i low high
 
+abbrev way_number : Bool → ℕ
+way_number b = if b then 0 else 1
+
+at_way : (home : Home) → nat_lt 0 (way_number (not (stays_inside home))) ≡ stays_inside home
+at_way home.Idle = refl
+at_way home.Inner = refl
+
 -- one event more, of seat i
 module _ (k : Rules) (o : Object) (s : State) (right : ℕ) (owner : ℕ → ℕ) (h : IsSound k o s right owner) (i : ℕ)
     (e : Event) (of_seat : seat_of e ≡ i) (allowed : IsAllowed (monitor_of k o s.floor) s.floor.history e) where
@@ -90,14 +99,25 @@ module _ (k : Rules) (o : Object) (s : State) (right : ℕ) (owner : ℕ → ℕ
       let spent = counts.spent j in
       omega arith
 
-  left_own : (least : ℕ) → least + 1 ≤ left_of s.floor.budget past i → least ≤ left_of s.floor.budget (past ++ e ∷ []) i
+  pub left_own : (least : ℕ) → least + 1 ≤ left_of s.floor.budget past i → least ≤ left_of s.floor.budget (past ++ e ∷ []) i
   left_own least enough =
       let yes : number_of (seat_of e == i) ≡ 1 = ap number_of (eq-eqb (seat_of e) i of_seat) in
       let spent = counts.spent i in
       omega arith
 
+  pub own_stands : (home : Home) → is_way_out e ≡ not (stays_inside home) → is_standing k o (grown s.floor e) i ≡ stays_inside home
+  own_stands home way =
+      let c = moved.caller_stands in
+      let stands : standing monitor.conds i (situation monitor (past ++ e ∷ [])) ≡ way_number (is_way_out e) =
+          subst (λ (j : ℕ). standing monitor.conds j (situation monitor (past ++ e ∷ [])) ≡ way_number (is_way_out e)) of_seat c in
+      ap (λ (n : ℕ). nat_lt 0 n) (stands ∙ ap way_number way) ∙ at_way home
+
+  pub quiet_after_entry : (wish : Pick) → next_of e ≡ Some next.Entry → choice_of k o (stands_of k o s.floor) (as_called e) false wish ≡ next.Entry → is_quiet k o (grown s.floor e) ≡ true
+  quiet_after_entry wish entry choice =
+      is_quiet-true k o (grown s.floor e) (quiet_after monitor past e wish h.legal allowed (record { entry = entry; choice = choice }))
+
   -- the active seat goes on
-  stays : (q : Source) → s.world.place i ≡ Active q → is_enter e ≡ false → turn_by (seat_of e) (next_of e) ≡ turn.Owned i → 2 ≤ left_of s.floor.budget past i
+  pub stays : (q : Source) → s.world.place i ≡ Active q → is_enter e ≡ false → turn_by (seat_of e) (next_of e) ≡ turn.Owned i → 2 ≤ left_of s.floor.budget past i
       → Sound k o (record s { floor = grown s.floor e })
   stays q active no_enter owns enough =
       let three : stage (s.world.place i) ≡ 3 = ap stage active in
@@ -129,7 +149,7 @@ module _ (k : Rules) (o : Object) (s : State) (right : ℕ) (owner : ℕ → ℕ
       }
 
   -- the active seat brings the floor home
-  goes_home : (q : Source) (x : Next) (home : Home) → i < s.floor.seats → s.world.place i ≡ Active q → is_enter e ≡ false → next_of e ≡ Some x → is_stay (Some x) ≡ false
+  pub goes_home : (q : Source) (x : Next) (home : Home) → i < s.floor.seats → s.world.place i ≡ Active q → is_enter e ≡ false → next_of e ≡ Some x → is_stay (Some x) ≡ false
       → is_standing k o (grown s.floor e) i ≡ stays_inside home → left_within home ≤ left_of s.floor.budget (past ++ e ∷ []) i
       → (x ≡ next.Entry → (is_quiet k o (grown s.floor e) ≡ true) ⊎ (2 ≤ s.world.unpassed))
       → Sound k o (record s { world = after_in s.world i x home; floor = grown s.floor e })
