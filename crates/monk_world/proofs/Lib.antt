@@ -14,3 +14,4 @@ pub mod TestLaws
 pub mod SoundWords
 pub mod SoundFloor
 pub mod SoundSteps
+pub mod RunLaws

@@ -109,7 +109,7 @@ module _ (k : Rules) (o : Object) (s : State) (right : ℕ) (owner : ℕ → ℕ
   own_stands home way =
       let c = moved.caller_stands in
       let stands : standing monitor.conds i (situation monitor (past ++ e ∷ [])) ≡ way_number (is_way_out e) =
-          subst (λ (j : ℕ). standing monitor.conds j (situation monitor (past ++ e ∷ [])) ≡ way_number (is_way_out e)) of_seat c in
+      subst (λ (j : ℕ). standing monitor.conds j (situation monitor (past ++ e ∷ [])) ≡ way_number (is_way_out e)) of_seat c in
       ap (λ (n : ℕ). nat_lt 0 n) (stands ∙ ap way_number way) ∙ at_way home
 
   pub quiet_after_entry : (wish : Pick) → next_of e ≡ Some next.Entry → choice_of k o (stands_of k o s.floor) (as_called e) false wish ≡ next.Entry → is_quiet k o (grown s.floor e) ≡ true

@@ -72,29 +72,30 @@ module _ (k : Rules) (o : Object) (s : State) (right : ℕ) (owner : ℕ → ℕ
       → (IsAllowed (monitor_of k o s.floor) s.floor.history (with_next next.Stay e) → 2 ≤ left_of s.floor.budget s.floor.history i)
       → left_within to + 1 ≤ left_of s.floor.budget s.floor.history i
       → Sound k o (record s {
-          world = if is_stay (Some (release_next k o s i e wish)) then s.world else after_in s.world i (release_next k o s i e wish) to;
-          floor = grown s.floor (with_next (release_next k o s i e wish) e) })
+        world = if is_stay (Some (release_next k o s i e wish)) then s.world else after_in s.world i (release_next k o s i e wish) to;
+        floor = grown s.floor (with_next (release_next k o s i e wish) e);
+      })
   released e wish to r may stay_left home_left =
       let m = monitor_of k o s.floor in
       let x = release_next k o s i e wish in
       let f = with_next x e in
       let allowed : IsAllowed m s.floor.history f =
-          chosen_allowed m (situation m s.floor.history) e (s.known i) wish (legal_order m s.floor.history kind h.legal) may (r.no_reply o (data_of m s.floor.history)) in
+      chosen_allowed m (situation m s.floor.history) e (s.known i) wish (legal_order m s.floor.history kind h.legal) may (r.no_reply o (data_of m s.floor.history)) in
       let After : Bool → Type 0 = λ b. is_stay (Some x) ≡ b → Sound k o (record s { world = cond b s.world (after_in s.world i x to); floor = grown s.floor f }) in
       let either_way : (b : Bool) → After b = elim [
-          | true ↦ λ e_stay. stays k o s right owner h i f (r.seat x) allowed q active (r.no_enter x)
-              (ap (λ (y : Option Next). turn_by (seat_of f) y) (r.chooses x ∙ ap (λ (y : Next). Some y) (stay_is x e_stay)) ∙ ap turn.Owned (r.seat x))
-              (stay_left (subst (λ (y : Next). IsAllowed m s.floor.history (with_next y e)) (stay_is x e_stay) allowed))
-          | false ↦ λ e_away. goes_home k o s right owner h i f (r.seat x) allowed q x to near active (r.no_enter x) (r.chooses x) e_away
-              (own_stands k o s right owner h i f (r.seat x) allowed to (r.way x))
-              (left_own k o s right owner h i f (r.seat x) allowed (left_within to) home_left)
-              (λ entry. elim (known_or (s.known i)) [
-                | inl known ↦ inr (h.known i (ap stage active) known)
-                | inr unknown ↦ inl (quiet_after_entry k o s right owner h i f (r.seat x) allowed wish (r.chooses x ∙ ap (λ (y : Next). Some y) entry)
-                    (ap (λ (g : Event). choice_of k o (stands_of k o s.floor) g false wish) (r.called x)
-                    ∙ ap (λ (b : Bool). choice_of k o (stands_of k o s.floor) e b wish) (sym unknown) ∙ entry))
-              ])
-        ] in
+        | true ↦ λ e_stay. stays k o s right owner h i f (r.seat x) allowed q active (r.no_enter x)
+            (ap (λ (y : Option Next). turn_by (seat_of f) y) (r.chooses x ∙ ap (λ (y : Next). Some y) (stay_is x e_stay)) ∙ ap turn.Owned (r.seat x))
+            (stay_left (subst (λ (y : Next). IsAllowed m s.floor.history (with_next y e)) (stay_is x e_stay) allowed))
+        | false ↦ λ e_away. goes_home k o s right owner h i f (r.seat x) allowed q x to near active (r.no_enter x) (r.chooses x) e_away
+            (own_stands k o s right owner h i f (r.seat x) allowed to (r.way x))
+            (left_own k o s right owner h i f (r.seat x) allowed (left_within to) home_left)
+            (λ entry. elim (known_or (s.known i)) [
+              | inl known ↦ inr (h.known i (ap stage active) known)
+              | inr unknown ↦ inl (quiet_after_entry k o s right owner h i f (r.seat x) allowed wish (r.chooses x ∙ ap (λ (y : Next). Some y) entry)
+                  (ap (λ (g : Event). choice_of k o (stands_of k o s.floor) g false wish) (r.called x)
+                  ∙ ap (λ (b : Bool). choice_of k o (stands_of k o s.floor) e b wish) (sym unknown) ∙ entry))
+            ])
+      ] in
       either_way (is_stay (Some x)) refl
     where
       known_or : (b : Bool) → (b ≡ true) ⊎ (b ≡ false)
@@ -110,18 +111,22 @@ module _ (k : Rules) (o : Object) (s : State) (right : ℕ) (owner : ℕ → ℕ
       q active refl refl enough
 
   looked_in : Sound k o (record s { known = put s.known i (s.known i || nat_le 2 s.world.unpassed) })
-  looked_in = record { right = right; owner = owner; is_sound = record {
-    legal = h.legal;
-    stands = h.stands;
-    active = h.active;
-    known = λ j. at_put s.known i (s.known i || nat_le 2 s.world.unpassed) (λ m b. stage (s.world.place m) ≡ 3 → b ≡ true → 2 ≤ s.world.unpassed)
-        (λ a e. elim (either (s.known i) (nat_le 2 s.world.unpassed) e) [ inl b ↦ h.known i a b | inr b ↦ seen_two s.world.unpassed b ]) (λ m _. h.known m) j;
-    entered = h.entered;
-    late = h.late;
-    granted_late = h.granted_late;
-    left = h.left;
-    outside = h.outside;
-  } }
+  looked_in = record {
+    right = right;
+    owner = owner;
+    is_sound = record {
+      legal = h.legal;
+      stands = h.stands;
+      active = h.active;
+      known = λ j. at_put s.known i (s.known i || nat_le 2 s.world.unpassed) (λ m b. stage (s.world.place m) ≡ 3 → b ≡ true → 2 ≤ s.world.unpassed)
+          (λ a e. elim (either (s.known i) (nat_le 2 s.world.unpassed) e) [ inl b ↦ h.known i a b | inr b ↦ seen_two s.world.unpassed b ]) (λ m _. h.known m) j;
+      entered = h.entered;
+      late = h.late;
+      granted_late = h.granted_late;
+      left = h.left;
+      outside = h.outside;
+    };
+  }
 
 -- the five calls that release
 leaving : (i : ℕ) → IsRelease (Leave i next.Stay) i home.Idle

@@ -11,4 +11,5 @@ pub mod Steps
 pub mod State
 pub mod StepTable
 pub mod Sound
+pub mod Runs
 pub mod Laws
