@@ -1,5 +1,5 @@
 -- Each step keeps the enters of the history in agreement with the tickets
-use Rattle.std.proofs.Common.{◌≡◌, ◌≢◌, ℕ, ◌+◌, ◌-◌, ◌*◌, ◌<◌, ◌≤◌, sym, refl, ap, ◌∙◌, subst, arith}
+use Rattle.std.proofs.Common.{◌≡◌, ◌≢◌, ℕ, ◌+◌, ◌-◌, sym, refl, ap, ◌∙◌, subst, arith}
 use Rattle.monk_history.specs.declared.event.Next.{Next}
 use Rattle.monk_history.specs.declared.event.Next.TheVariants.{Entry}
 use Rattle.monk_world.specs.Enters.{FitsEnters, used_at, used_by}
@@ -10,7 +10,7 @@ use Rattle.monk_world.specs.Steps.{after_out, after_in, after_ticket_grant, afte
 use Rattle.monk_world.specs.World.{World}
 use Rattle.monk_world.specs.declared.home.Home.{Home}
 use Rattle.monk_world.specs.declared.place.Place.{Place}
-use Rattle.monk_world.specs.declared.place.Place.TheVariants.{Idle, Ticket, Due, Active, Back, Passing, Inner}
+use Rattle.monk_world.specs.declared.place.Place.TheVariants.{Idle, Ticket, Due, Active, Back, Passing}
 use Rattle.monk_world.specs.declared.source.Source.{Source}
 use Rattle.monk_world.specs.declared.source.Source.TheVariants.{Free, Granted, Called}
 use Rattle.monk_world.proofs.Holders.{with_called}

@@ -1,6 +1,5 @@
 -- From the numbers that keep it: the right is in exactly one place
-use Rattle.std.proofs.Common.{◌≡◌, ◌≢◌, ℕ, zero, suc, ◌+◌, ◌-◌, ◌*◌, ◌%◌, ◌<◌, ◌≤◌, ◌⊎◌, sym, refl, ap, ◌∙◌, subst, inl, inr, arith}
-use Rattle.std.specs.Prelude.{◌↔◌}
+use Rattle.std.proofs.Common.{◌≡◌, ℕ, zero, suc, ◌+◌, ◌-◌, ◌*◌, ◌%◌, ◌<◌, ◌≤◌, ◌⊎◌, sym, refl, ap, ◌∙◌, subst, inl, inr, arith}
 use Rattle.monk_world.specs.OnePlace.{Whereabouts, Nowhere, AtTicket, With, AtSeat, HoldsRight, IsInOnePlace}
 use Rattle.monk_world.specs.Places.{stage, ticket}
 use Rattle.monk_world.specs.Right.{KeepsRight, Waits, nowhere, granted, with_seat, called}

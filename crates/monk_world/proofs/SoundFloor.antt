@@ -1,13 +1,12 @@
 -- A step with the floor, which lets the history grow by one event, keeps a state sound
-use Rattle.std.proofs.Common.{◌≡◌, ◌≢◌, ℕ, ◌+◌, ◌-◌, ◌*◌, ◌==◌, ◌<◌, ◌≤◌, ◌⊎◌, true, false, cond, Bool, ◌||◌, List, [], ◌∷◌, ◌++◌, length, sym, refl, ap, ◌∙◌, subst, inl, inr, arith, eq-eqb}
-use Rattle.std.specs.Prelude.{if◌then◌else◌, not, nat_lt, nat_le, Option, Some, None}
+use Rattle.std.proofs.Common.{◌≡◌, ◌≢◌, ℕ, ◌+◌, ◌==◌, ◌<◌, ◌≤◌, ◌⊎◌, true, false, Bool, List, [], ◌∷◌, ◌++◌, sym, refl, ap, ◌∙◌, subst, inl, inr, arith, eq-eqb}
+use Rattle.std.specs.Prelude.{if◌then◌else◌, not, nat_lt, Option, Some}
 use Rattle.std.proofs.lemmas.Bool.{ne_eqb}
 use Rattle.std.proofs.lemmas.Bool.Decides.{eqb_tells}
-use Rattle.monk_kinds.specs.Kind.{IsKind}
 use Rattle.monk_kinds.specs.declared.mode.Pick.{Pick}
 use Rattle.monk_kinds.specs.declared.mode.Rules.{Rules}
 use Rattle.monk_object.specs.Object.{Object}
-use Rattle.monk_history.specs.Meaning.Counts.{events_of, left_of, enters_of, is_enter, grants, names}
+use Rattle.monk_history.specs.Meaning.Counts.{left_of, enters_of, is_enter, grants, names}
 use Rattle.monk_history.specs.Meaning.Entry.{IsAtDoor}
 use Rattle.monk_history.specs.Meaning.Events.{seat_of, next_of, is_stay, is_way_out}
 use Rattle.monk_history.specs.Meaning.Legal.{IsLegal}
@@ -16,7 +15,7 @@ use Rattle.monk_history.specs.Meaning.Moves.{StandsAfter, CountsAfter}
 use Rattle.monk_history.specs.Meaning.Reasons.{IsAllowed}
 use Rattle.monk_history.specs.Meaning.Release.{as_called, choice_of}
 use Rattle.monk_history.specs.Meaning.Situation.{situation}
-use Rattle.monk_history.specs.Meaning.Standing.{standing, in_queues}
+use Rattle.monk_history.specs.Meaning.Standing.{standing}
 use Rattle.monk_history.specs.Meaning.Turn.{turn, turn_by, is_inside}
 use Rattle.monk_history.specs.declared.event.Event.{Event}
 use Rattle.monk_history.specs.declared.event.Event.TheVariants.{Enter, Resume}
@@ -31,18 +30,16 @@ use Rattle.monk_history.proofs.MeaningLaws.LegalLaws.{legal-push}
 use Rattle.monk_history.proofs.MeaningLaws.MoveLaws.{counts_after, stands_after}
 use Rattle.monk_history.proofs.MeaningLaws.QuietLaws.{quiet_after}
 use Rattle.monk_history.proofs.MeaningLaws.StandingLaws.{legal_placed}
-use Rattle.monk_floor.specs.View.{FloorView, monitor_of, stands_of}
+use Rattle.monk_floor.specs.View.{monitor_of, stands_of}
 use Rattle.monk_world.specs.Enters.{FitsEnters, used_by, used_at}
 use Rattle.monk_world.specs.Places.{stage, ticket, source, open_turn, due_to, turn_chosen, stays_inside, comes_from_queue, is_queued_at}
 use Rattle.monk_world.specs.Put.{put}
-use Rattle.monk_world.specs.Right.{with_seat}
 use Rattle.monk_world.specs.Sound.{IsSound, Sound, left_at, left_within}
 use Rattle.monk_world.specs.Stands.{Stands}
 use Rattle.monk_world.specs.State.{State, grown, is_standing, is_quiet}
 use Rattle.monk_world.specs.Steps.{after_out, after_in}
 use Rattle.monk_world.specs.StepTable.{out_event, queue_due}
 use Rattle.monk_world.specs.Turns.{turn_number, turn_at}
-use Rattle.monk_world.specs.World.{World}
 use Rattle.monk_world.specs.declared.home.Home.{Home}
 use Rattle.monk_world.specs.declared.home.Home.TheVariants as home
 use Rattle.monk_world.specs.declared.place.Place.{Place}

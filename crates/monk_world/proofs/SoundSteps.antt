@@ -1,5 +1,5 @@
 -- Every step keeps a state sound
-use Rattle.std.proofs.Common.{◌≡◌, ◌≢◌, ℕ, ◌+◌, ◌-◌, ◌*◌, ◌%◌, ◌==◌, ◌<◌, ◌≤◌, ◌⊎◌, true, false, cond, Bool, ◌&&◌, ◌||◌, List, [], ◌∷◌, ◌++◌, sym, refl, ap, ◌∙◌, subst, inl, inr, arith, eq-eqb, eqb-true}
+use Rattle.std.proofs.Common.{◌≡◌, ℕ, ◌+◌, ◌%◌, ◌==◌, ◌<◌, ◌≤◌, ◌⊎◌, true, false, cond, Bool, ◌&&◌, ◌||◌, List, sym, refl, ap, ◌∙◌, subst, inl, inr, arith, eq-eqb}
 use Rattle.std.specs.Prelude.{if◌then◌else◌, not, nat_lt, nat_le, Option, Some, None}
 use Rattle.std.proofs.lemmas.Bool.{ltb-true}
 use Rattle.monk_kinds.specs.Kind.{IsKind}
@@ -9,25 +9,24 @@ use Rattle.monk_object.specs.Object.{Object}
 use Rattle.monk_object.specs.declared.op.Op.{Op}
 use Rattle.monk_history.specs.Meaning.Counts.{left_of, is_enter}
 use Rattle.monk_history.specs.Meaning.Events.{seat_of, next_of, is_stay, is_way_out}
-use Rattle.monk_history.specs.Meaning.Monitor.{Monitor, data_of}
-use Rattle.monk_history.specs.Meaning.Reasons.{IsAllowed, is_owned_by, is_in_range, is_offered, is_right_reply}
+use Rattle.monk_history.specs.Meaning.Monitor.{data_of}
+use Rattle.monk_history.specs.Meaning.Reasons.{IsAllowed, is_owned_by, is_in_range, is_right_reply}
 use Rattle.monk_history.specs.Meaning.Release.{MayCall, with_next, as_called, choice_of}
 use Rattle.monk_history.specs.Meaning.Situation.{situation}
 use Rattle.monk_history.specs.Meaning.Turn.{turn, turn_by}
 use Rattle.monk_history.specs.declared.event.Event.{Event}
-use Rattle.monk_history.specs.declared.event.Event.TheVariants.{Enter, Act, Leave, Wait, Signal, SignalLeave, Until, Resume}
+use Rattle.monk_history.specs.declared.event.Event.TheVariants.{Act, Leave, Wait, Signal, SignalLeave, Until}
 use Rattle.monk_history.specs.declared.event.Next.{Next}
 use Rattle.monk_history.specs.declared.event.Next.TheVariants as next
 use Rattle.monk_history.specs.declared.event.Turn.TheVariants as turn
 use Rattle.monk_history.proofs.MeaningLaws.ReleaseLaws.{legal_order, chosen_allowed}
-use Rattle.monk_floor.specs.View.{FloorView, monitor_of, stands_of}
-use Rattle.monk_world.specs.Places.{stage, due_to, turn_chosen, stays_inside}
+use Rattle.monk_floor.specs.View.{monitor_of, stands_of}
+use Rattle.monk_world.specs.Places.{stage, stays_inside}
 use Rattle.monk_world.specs.Put.{put}
 use Rattle.monk_world.specs.Sound.{IsSound, Sound, left_within}
 use Rattle.monk_world.specs.State.{State, grown}
 use Rattle.monk_world.specs.Steps.{after_in}
-use Rattle.monk_world.specs.StepTable.{call_of, is_call_in_range, is_call_offered, may_be_told, left_for, refusal, release_next, IsReleased, IsGranted, IsDropped, IsDone, IsAnswered, IsStep}
-use Rattle.monk_world.specs.World.{World}
+use Rattle.monk_world.specs.StepTable.{call_of, is_call_in_range, is_call_offered, may_be_told, left_for, release_next, IsDone, IsAnswered, IsStep}
 use Rattle.monk_world.specs.declared.answer.Answer.{Answer}
 use Rattle.monk_world.specs.declared.answer.Answer.TheVariants as answer
 use Rattle.monk_world.specs.declared.command.Command.{Command}

@@ -1,7 +1,7 @@
 -- From tests to facts, and back
-use Rattle.std.proofs.Common.{◌≡◌, ◌≢◌, ℕ, ◌+◌, ◌*◌, ◌<◌, ◌≤◌, ◌==◌, true, false, cond, Bool, ◌&&◌, List, [], ◌∷◌, sym, refl, ap, ◌∙◌, subst, arith, eq-eqb}
-use Rattle.std.specs.Prelude.{nat_lt, not, Some}
-use Rattle.std.proofs.lemmas.Bool.{lt-ltb, ltb-true}
+use Rattle.std.proofs.Common.{◌≡◌, ◌≢◌, ℕ, true, false, cond, Bool, ◌&&◌, List, [], ◌∷◌, refl, ap, arith, eq-eqb}
+use Rattle.std.specs.Prelude.{nat_lt, Some}
+use Rattle.std.proofs.lemmas.Bool.{lt-ltb}
 use Rattle.monk_kinds.specs.declared.mode.Rules.{Rules}
 use Rattle.monk_object.specs.Object.{Object}
 use Rattle.monk_history.specs.Meaning.Counts.{names}
