@@ -1,5 +1,5 @@
 -- Who has the right, and who waits for it
-use Rattle.std.proofs.Common.{◌≡◌, ◌≢◌, ℕ, ◌+◌, ◌*◌, ◌<◌, ◌≤◌, sym, refl, ap, ◌∙◌, subst, arith}
+use Rattle.std.proofs.Common.{◌≡◌, ◌≢◌, ℕ, ◌≤◌, sym, ap, ◌∙◌, subst, arith}
 use Rattle.monk_world.specs.Places.{stage, ticket, place_of}
 use Rattle.monk_world.specs.Put.{put}
 use Rattle.monk_world.specs.Right.{KeepsRight, Waits, with_seat, called}

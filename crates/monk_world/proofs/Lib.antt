@@ -9,3 +9,9 @@ pub mod TurnLaws
 pub mod QueueingLaws
 pub mod OnePlaceLaws
 pub mod StepLaws
+pub mod EntersLaws
+pub mod TestLaws
+pub mod SoundWords
+pub mod SoundFloor
+pub mod SoundSteps
+pub mod RunLaws

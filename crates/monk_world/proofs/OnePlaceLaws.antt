@@ -1,6 +1,5 @@
 -- From the numbers that keep it: the right is in exactly one place
-use Rattle.std.proofs.Common.{◌≡◌, ◌≢◌, ℕ, zero, suc, ◌+◌, ◌-◌, ◌*◌, ◌%◌, ◌<◌, ◌≤◌, ◌⊎◌, sym, refl, ap, ◌∙◌, subst, inl, inr, arith}
-use Rattle.std.specs.Prelude.{◌↔◌}
+use Rattle.std.proofs.Common.{◌≡◌, ℕ, zero, suc, ◌+◌, ◌-◌, ◌*◌, ◌%◌, ◌<◌, ◌≤◌, ◌⊎◌, sym, refl, ap, ◌∙◌, subst, inl, inr, arith}
 use Rattle.monk_world.specs.OnePlace.{Whereabouts, Nowhere, AtTicket, With, AtSeat, HoldsRight, IsInOnePlace}
 use Rattle.monk_world.specs.Places.{stage, ticket}
 use Rattle.monk_world.specs.Right.{KeepsRight, Waits, nowhere, granted, with_seat, called}
@@ -9,7 +8,7 @@ use Rattle.monk_world.specs.declared.place.Place.{Place}
 use Rattle.monk_world.specs.declared.place.Place.TheVariants.{Idle, Ticket, Due, Active, Back, Passing, Inner}
 use Rattle.monk_world.proofs.RightLooks.{grant_is_there, call_is_there}
 
-abbrev number : Whereabouts → ℕ
+abbrev pub number : Whereabouts → ℕ
 number Nowhere = nowhere
 number (AtTicket t) = granted
 number (With j) = with_seat j
@@ -112,10 +111,10 @@ halves (suc n) = elim (halves n) [
   | inr h ↦ inl (h.0 + 1, let e = h.1 in omega arith)
 ]
 
-abbrev IsNumbered : ℕ → ℕ → Type 0
+abbrev pub IsNumbered : ℕ → ℕ → Type 0
 IsNumbered next n = (x : Whereabouts) × (n ≡ number x) × ((k : ℕ) → x ≡ AtTicket k → k ≡ next)
 
-numbered : (next n : ℕ) → IsNumbered next n
+pub numbered : (next n : ℕ) → IsNumbered next n
 numbered next zero = (Nowhere, refl, λ k e. absurd cc)
 numbered next (suc zero) = (AtTicket next, refl, λ k e. sym (ap ticket_at e))
   where

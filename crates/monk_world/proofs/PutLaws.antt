@@ -1,5 +1,5 @@
 -- One number changes, and the others stay
-use Rattle.std.proofs.Common.{◌≡◌, ◌≢◌, ℕ, ◌==◌, cond, ◌⊎◌, inl, inr, Bool, sym, refl, subst}
+use Rattle.std.proofs.Common.{◌≡◌, ◌≢◌, ℕ, ◌==◌, cond, inl, inr, Bool, sym, refl, subst}
 use Rattle.std.proofs.lemmas.Bool.Decides.{eqb_tells}
 use mathlib.Core.Path.{Path}
 use Rattle.monk_world.specs.Put.{put}

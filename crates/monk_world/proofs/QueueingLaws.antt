@@ -1,14 +1,12 @@
 -- Each step keeps the queues of the history in agreement with where the seats stand
-use Rattle.std.proofs.Common.{◌≡◌, ◌≢◌, ℕ, true, false, ◌+◌, ◌-◌, ◌*◌, ◌%◌, ◌==◌, ◌<◌, ◌≤◌, ◌⊎◌, sym, refl, ap, ◌∙◌, subst, inl, inr, cond, Bool, arith}
-use Rattle.std.proofs.lemmas.Bool.Decides.{eqb_tells}
+use Rattle.std.proofs.Common.{◌≡◌, ◌≢◌, ℕ, true, ◌+◌, ◌-◌, ◌≤◌, ◌⊎◌, sym, refl, ap, ◌∙◌, subst, inl, inr, Bool, arith}
 use Rattle.monk_history.specs.declared.event.Next.{Next}
 use Rattle.monk_history.specs.declared.event.Next.TheVariants.{Entry}
-use Rattle.monk_world.specs.Places.{stage, ticket, source, chosen, open_turn, due_to, turn_chosen, place_of, stays_inside, is_queued_at}
+use Rattle.monk_world.specs.Places.{stage, source, chosen, open_turn, turn_chosen, place_of, stays_inside, is_queued_at}
 use Rattle.monk_world.specs.Put.{put}
-use Rattle.monk_world.specs.Right.{KeepsRight, nowhere, granted, with_seat, called}
-use Rattle.monk_world.specs.Turns.{FitsTurn, turn_at}
+use Rattle.monk_world.specs.Right.{KeepsRight}
 use Rattle.monk_world.specs.Queueing.{FitsQueues}
-use Rattle.monk_world.specs.Steps.{after_arrival, after_ticket_look, after_seat_look, after_out, after_in, after_drop, after_ticket_grant, after_seat_grant, right_arrived, owner_arrived, right_dropped}
+use Rattle.monk_world.specs.Steps.{after_out, after_in, after_ticket_grant, after_seat_grant}
 use Rattle.monk_world.specs.World.{World}
 use Rattle.monk_world.specs.declared.home.Home.{Home}
 use Rattle.monk_world.specs.declared.home.Home.TheVariants as home
@@ -16,7 +14,7 @@ use Rattle.monk_world.specs.declared.place.Place.{Place}
 use Rattle.monk_world.specs.declared.place.Place.TheVariants.{Idle, Ticket, Due, Active, Back, Passing, Inner}
 use Rattle.monk_world.specs.declared.source.Source.{Source}
 use Rattle.monk_world.specs.declared.source.Source.TheVariants.{Free, Granted, Called}
-use Rattle.monk_world.proofs.Holders.{with_called, at_home, others}
+use Rattle.monk_world.proofs.Holders.{at_home, others}
 use Rattle.monk_world.proofs.PutLaws.{at_put}
 
 -- a seat that goes home is in a queue exactly where it stays inside

@@ -1,19 +1,17 @@
 -- The floor comes out to the seat that is due, and goes home from the seat that is active
-use Rattle.std.proofs.Common.{◌≡◌, ◌≢◌, ℕ, true, false, ◌+◌, ◌-◌, ◌*◌, ◌%◌, ◌==◌, ◌<◌, ◌≤◌, ◌⊎◌, sym, refl, ap, ◌∙◌, subst, inl, inr, cond, Bool, mod-lt, arith}
-use Rattle.std.proofs.lemmas.Bool.Decides.{eqb_tells}
+use Rattle.std.proofs.Common.{◌≡◌, ◌≢◌, ℕ, ◌≤◌, sym, ap, ◌∙◌, arith}
 use Rattle.monk_history.specs.declared.event.Next.{Next}
-use Rattle.monk_world.specs.Places.{stage, ticket, source, chosen, open_turn, due_to, turn_chosen, place_of}
+use Rattle.monk_world.specs.Places.{stage, due_to, turn_chosen}
 use Rattle.monk_world.specs.Put.{put}
-use Rattle.monk_world.specs.Right.{KeepsRight, HasRight, IsHolder, IsNext, UsesTicket, ChoseInner, Waits, PassesNext, OwnsTicket, WasGranted, LeavesLow, nowhere, granted, with_seat, called}
-use Rattle.monk_world.specs.Steps.{after_arrival, after_ticket_look, after_seat_look, after_out, after_in, after_drop, after_ticket_grant, after_seat_grant, arrived, dropped, right_arrived, owner_arrived, right_dropped}
+use Rattle.monk_world.specs.Right.{KeepsRight, HasRight, IsHolder, UsesTicket, ChoseInner, PassesNext, OwnsTicket, WasGranted, LeavesLow}
+use Rattle.monk_world.specs.Steps.{after_out, after_in}
 use Rattle.monk_world.specs.World.{World}
 use Rattle.monk_world.specs.declared.home.Home.{Home}
 use Rattle.monk_world.specs.declared.place.Place.{Place}
-use Rattle.monk_world.specs.declared.place.Place.TheVariants.{Ticket, Due, Active, Back, Passing}
+use Rattle.monk_world.specs.declared.place.Place.TheVariants.{Active, Back}
 use Rattle.monk_world.specs.declared.source.Source.{Source}
-use Rattle.monk_world.specs.declared.source.Source.TheVariants.{Free, Granted, Called}
-use Rattle.monk_world.proofs.Holders.{with_called, at_home, waiter_stays, others, other_stage}
-use Rattle.monk_world.proofs.PutLaws.{at_put, put_here, put_else, all_back}
+use Rattle.monk_world.proofs.Holders.{with_called, waiter_stays, others, other_stage}
+use Rattle.monk_world.proofs.PutLaws.{at_put, put_else, all_back}
 
 module _ (seats : ℕ) (s : World) (right : ℕ) (owner : ℕ → ℕ) (r : KeepsRight seats s right owner) (i : ℕ) where
   pub comes_out : (q : Source) → stage (s.place i) ≡ 2 → KeepsRight seats (after_out s i q) right owner

@@ -1,16 +1,15 @@
 -- Each kind of step keeps a world standing
-use Rattle.std.proofs.Common.{◌≡◌, ◌≢◌, ℕ, true, false, ◌+◌, ◌-◌, ◌*◌, ◌%◌, ◌==◌, ◌<◌, ◌≤◌, ◌⊎◌, inl, inr, sym, refl, ap, ◌∙◌, subst, cond, Bool, arith, eqb-true}
+use Rattle.std.proofs.Common.{◌≡◌, ◌≢◌, ℕ, true, false, ◌+◌, ◌-◌, ◌%◌, ◌==◌, ◌≤◌, inl, inr, sym, refl, ap, ◌∙◌, subst, cond, Bool, arith, eqb-true}
 use Rattle.std.proofs.lemmas.Bool.Decides.{eqb_tells}
 use Rattle.monk_world.specs.Laws.{OpeningStands, ArrivalKeeps, TicketLookKeeps, SeatLookKeeps, OutKeeps, ActiveKeeps, InKeeps, DropKeeps, TicketGrantKeeps, SeatGrantKeeps, StandsInOnePlace}
 use Rattle.monk_world.specs.Places.{stage, ticket, chosen, due_to, turn_chosen, place_of, is_queued_at}
 use Rattle.monk_world.specs.Put.{put}
-use Rattle.monk_world.specs.Right.{KeepsRight, nowhere, granted, with_seat, called}
-use Rattle.monk_world.specs.Stands.{Stands, opening_world}
-use Rattle.monk_world.specs.Steps.{after_arrival, after_ticket_look, after_seat_look, after_drop, after_ticket_grant, right_arrived, owner_arrived, right_looked, right_dropped}
-use Rattle.monk_world.specs.World.{World}
+use Rattle.monk_world.specs.Right.{KeepsRight, nowhere, granted, with_seat}
+use Rattle.monk_world.specs.Stands.{Stands}
+use Rattle.monk_world.specs.Steps.{after_ticket_look, after_ticket_grant}
 use Rattle.monk_world.specs.declared.place.Place.{Place}
 use Rattle.monk_world.specs.declared.place.Place.TheVariants.{Idle, Ticket, Due, Active, Back, Passing, Inner}
-use Rattle.monk_world.specs.declared.source.Source.TheVariants.{Free, Granted, Called}
+use Rattle.monk_world.specs.declared.source.Source.TheVariants.{Free}
 use Rattle.monk_world.proofs.OnePlaceLaws.{in_one_place}
 use Rattle.monk_world.proofs.PutLaws.{put_same}
 use Rattle.monk_world.proofs.QueueingLaws as queues

@@ -1,13 +1,22 @@
 -- What each kind of step keeps
-use Rattle.std.specs.Prelude.{◌≡◌, ◌≢◌, ℕ, ◌+◌, ◌%◌, ◌<◌, ◌≤◌, ◌==◌, ◌⊎◌, Bool, true, false}
+use Rattle.std.specs.Prelude.{◌≡◌, ◌≢◌, ℕ, ◌+◌, ◌%◌, ◌<◌, ◌≤◌, ◌==◌, ◌⊎◌, Bool, List, true, false}
+use Rattle.monk_kinds.specs.Kind.{IsKind}
+use Rattle.monk_kinds.specs.declared.mode.Rules.{Rules}
+use Rattle.monk_object.specs.Object.{Object}
 use Rattle.monk_history.specs.declared.event.Next.{Next}
 use Rattle.monk_history.specs.declared.event.Next.TheVariants.{Entry}
 use Rattle.monk_world.specs.OnePlace.{IsInOnePlace}
 use Rattle.monk_world.specs.Places.{open_turn, due_to, turn_chosen, stays_inside}
 use Rattle.monk_world.specs.Right.{nowhere, granted, called}
+use Rattle.monk_world.specs.Runs.{opening_state}
+use Rattle.monk_world.specs.Sound.{Sound}
 use Rattle.monk_world.specs.Stands.{Stands, opening_world}
 use Rattle.monk_world.specs.Steps.{after_arrival, after_ticket_look, after_seat_look, after_out, after_in, after_drop, after_ticket_grant, after_seat_grant, right_arrived, owner_arrived, right_looked, right_dropped}
+use Rattle.monk_world.specs.State.{State}
+use Rattle.monk_world.specs.StepTable.{IsStep}
 use Rattle.monk_world.specs.World.{World}
+use Rattle.monk_world.specs.declared.answer.Answer.{Answer}
+use Rattle.monk_world.specs.declared.command.Command.{Command}
 use Rattle.monk_world.specs.declared.home.Home.{Home}
 use Rattle.monk_world.specs.declared.place.Place.TheVariants.{Idle, Ticket, Due, Active, Back, Passing, Inner}
 use Rattle.monk_world.specs.declared.source.Source.{Source}
@@ -82,3 +91,10 @@ abbrev pub StandsInOnePlace : Type 0
 StandsInOnePlace =
     (seats : ℕ) (w : World) (right : ℕ) (owner : ℕ → ℕ) (turn : ℕ) (queued : ℕ → Bool) (quiet : Bool)
     → 0 < seats → Stands seats w right owner turn queued quiet → IsInOnePlace seats w
+
+-- every step keeps a state sound, and before any step it is
+abbrev pub StepsStaySound : Type 0
+StepsStaySound = (k : Rules) (o : Object) (s : State) (i : ℕ) (c : Command) (a : Answer) (t : State) → IsKind k → Sound k o s → IsStep k o s i c a t → Sound k o t
+
+abbrev pub OpeningIsSound : Type 0
+OpeningIsSound = (k : Rules) (o : Object) (opening : List ℕ) (seats conds budget : ℕ) → Sound k o (opening_state opening seats conds budget)

@@ -4,7 +4,12 @@ pub mod World
 pub mod Right
 pub mod Turns
 pub mod Queueing
+pub mod Enters
 pub mod Stands
 pub mod OnePlace
 pub mod Steps
+pub mod State
+pub mod StepTable
+pub mod Sound
+pub mod Runs
 pub mod Laws

@@ -1,6 +1,5 @@
 -- A world that stands with its history
 use Rattle.std.specs.Prelude.{ℕ, Bool}
-use Rattle.monk_world.specs.Places.{place_of}
 use Rattle.monk_world.specs.Right.{KeepsRight}
 use Rattle.monk_world.specs.Turns.{FitsTurn}
 use Rattle.monk_world.specs.Queueing.{FitsQueues}

@@ -1,6 +1,7 @@
 //! What holds of each kind of step, whoever makes it: it keeps the right to be active in one place, in agreement with
 //! the turn and the queues of the history. Each function does nothing: its contract is the law.
-ghost use Rattle.monk_world.specs.Laws.{OpeningStands, ArrivalKeeps, TicketLookKeeps, SeatLookKeeps, OutKeeps, ActiveKeeps, InKeeps, DropKeeps, TicketGrantKeeps, SeatGrantKeeps, StandsInOnePlace};
+ghost use Rattle.monk_world.specs.Laws.{OpeningStands, ArrivalKeeps, TicketLookKeeps, SeatLookKeeps, OutKeeps, ActiveKeeps, InKeeps, DropKeeps, TicketGrantKeeps, SeatGrantKeeps, StandsInOnePlace, StepsStaySound, OpeningIsSound};
+ghost use Rattle.monk_world.specs.Runs.{RunsAreWellLed};
 
 /// Before any step the monitor is free, every seat is idle, and no queue has anybody.
 pub fn opening_stands()
@@ -57,4 +58,17 @@ pub fn seat_grant_keeps_the_right()
 /// The right to be active is in exactly one place, and each ticket behind the one in use has a seat that waits with it.
 pub fn right_is_in_one_place()
     ensures { StandsInOnePlace }
+{}
+
+/// Every step, also a refused one, keeps a state sound: its history legal, the right in one place, and turn, queues,
+/// enters and what is left to each seat in agreement with where the seats stand.
+pub fn steps_stay_sound()
+    ensures opening { OpeningIsSound }
+    ensures step { StepsStaySound }
+{}
+
+/// For every kind, object, number of seats and list of commands: the right to be active is in exactly one place, the
+/// history is legal, a seat is active exactly where the turn is its own, and tickets enter in their order.
+pub fn runs_are_well_led()
+    ensures { RunsAreWellLed }
 {}

@@ -1,0 +1,161 @@
+-- What every run leads to
+use Rattle.std.proofs.Common.{◌≡◌, ◌≢◌, ℕ, zero, suc, Bool, true, ◌≤◌, ◌⊎◌, inl, inr, false, List, [], ◌∷◌, sym, refl, ap, ◌∙◌, subst, arith}
+use Rattle.std.specs.Prelude.{nat_lt}
+use Rattle.std.proofs.lemmas.Bool.{cases_eq}
+use Rattle.monk_kinds.specs.Kind.{IsKind}
+use Rattle.monk_kinds.specs.declared.mode.Rules.{Rules}
+use Rattle.monk_object.specs.Object.{Object}
+use Rattle.monk_history.specs.Meaning.Counts.{left_of, enters_of}
+use Rattle.monk_history.specs.Meaning.Situation.{Situation, situation}
+use Rattle.monk_history.specs.Meaning.Standing.{standing, times_in_conditions}
+use Rattle.monk_history.specs.Meaning.Step.{opening_situation}
+use Rattle.monk_history.specs.Meaning.Turn.{turn}
+use Rattle.monk_history.specs.Meaning.Untils.{ready_of}
+use Rattle.monk_history.specs.declared.event.Next.TheVariants as next
+use Rattle.monk_history.specs.declared.event.Turn.{Turn}
+use Rattle.monk_history.specs.declared.event.Turn.TheVariants.{Open, Due as DueTurn, Owned}
+use Rattle.monk_history.proofs.MeaningLaws.CountLaws.{enters_none}
+use Rattle.monk_history.proofs.MeaningLaws.LegalLaws.{legal_none}
+use Rattle.monk_history.proofs.MeaningLaws.StepLaws.{situation-none}
+use Rattle.monk_floor.specs.View.{FloorView, monitor_of, fresh}
+use Rattle.monk_world.specs.Enters.{used_at}
+use Rattle.monk_world.specs.Laws.{OpeningIsSound}
+use Rattle.monk_world.specs.OnePlace.{Whereabouts, Nowhere, AtTicket, With, AtSeat}
+use Rattle.monk_world.specs.Places.{stage, ticket, source, owned_by}
+use Rattle.monk_world.specs.Right.{with_seat, called}
+use Rattle.monk_world.specs.Runs.{opening_state, Told, IsRun, IsWellLed, RunsAreWellLed}
+use Rattle.monk_world.specs.Sound.{IsSound, Sound, left_at}
+use Rattle.monk_world.specs.Stands.{Stands, opening_world}
+use Rattle.monk_world.specs.State.{State, is_standing, is_quiet}
+use Rattle.monk_world.specs.Turns.{turn_number, turn_at}
+use Rattle.monk_world.specs.declared.place.Place.{Place}
+use Rattle.monk_world.specs.declared.place.Place.TheVariants.{Idle, Ticket, Due, Active, Back, Passing, Inner}
+use Rattle.monk_world.specs.declared.source.Source.TheVariants.{Free, Granted, Called}
+use Rattle.monk_world.proofs.OnePlaceLaws.{in_one_place, number, numbered}
+use Rattle.monk_world.proofs.SoundSteps.{step_is_sound}
+use Rattle.monk_world.proofs.StepLaws.{opening_stands}
+use Rattle.monk_world.proofs.TestLaws.{is_quiet-true}
+
+no_times : (n j : ℕ) → times_in_conditions n j (λ c. []) ≡ 0
+no_times zero j = refl
+no_times (suc n) j = let e = no_times n j in omega arith
+
+-- with no event there is no queue, and the turn is open
+opening_holds : (k : Rules) (o : Object) (f : FloorView) → f.history ≡ [] → Stands f.seats opening_world 0 (λ t. 0) (turn_number (turn f.history)) (is_standing k o f) (is_quiet k o f)
+opening_holds k o f e =
+    let m = monitor_of k o f in
+    let nothing : situation m f.history ≡ opening_situation m = ap (situation m) e ∙ situation-none m in
+    let open_turn_is : turn f.history ≡ Open = ap (λ (t : Situation). t.turn) nothing in
+    let stands_nowhere : (j : ℕ) → standing m.conds j (situation m f.history) ≡ 0 = λ j. ap (standing m.conds j) nothing ∙ (let z = no_times m.conds j in omega arith) in
+    let quiet : is_quiet k o f ≡ true = is_quiet-true k o f (record {
+      waiters = ap (λ (t : Situation). t.waiters) nothing;
+      signallers = ap (λ (t : Situation). t.signallers) nothing;
+      ready = ap (λ (t : Situation). ready_of o t.state t.untils) nothing;
+    }) in
+    let nobody : (λ (j : ℕ). false) ≡ is_standing k o f = λ i j. sym (ap (λ (n : ℕ). nat_lt 0 n) (stands_nowhere j)) i in
+    subst (λ (q : Bool). Stands f.seats opening_world 0 (λ t. 0) (turn_number (turn f.history)) (is_standing k o f) q) (sym quiet)
+    (subst (λ (b : ℕ → Bool). Stands f.seats opening_world 0 (λ t. 0) (turn_number (turn f.history)) b true) nobody
+    (subst (λ (u : Turn). Stands f.seats opening_world 0 (λ t. 0) (turn_number u) (λ j. false) true) (sym open_turn_is) (opening_stands f.seats)))
+
+pub opening_is_sound : OpeningIsSound
+opening_is_sound k o opening seats conds budget = record {
+  right = 0;
+  owner = λ t. 0;
+  is_sound = record {
+    legal = legal_none (monitor_of k o (fresh opening seats conds budget));
+    stands = opening_holds k o (fresh opening seats conds budget) refl;
+    active = λ j a. absurd (omega arith);
+    known = λ j a. absurd (omega arith);
+    entered = record { with = λ j e. absurd (omega arith); called_seat = λ j e. absurd (omega arith); else_unused = λ _ _. let n = enters_none in omega arith };
+    late = λ j a. absurd (omega arith);
+    granted_late = λ j a. absurd (omega arith);
+    left = λ j. omega arith;
+    outside = λ j _. refl;
+  };
+}
+
+pub run_is_sound : (k : Rules) (o : Object) (s : State) (told : List Told) (t : State) → IsKind k → Sound k o s → IsRun k o s told t → Sound k o t
+run_is_sound k o s [] t kind h run = subst (Sound k o) (sym run) h
+run_is_sound k o s (x ∷ xs) t kind h run =
+    run_is_sound k o run.0 xs t kind (step_is_sound k o s x.seat x.command x.answer run.0 kind h run.1) run.2
+
+inner_left : (p : Place) (n : ℕ) → stage p ≡ 6 → left_at p ≤ n → 2 ≤ n
+inner_left Idle n six a = absurd (omega arith)
+inner_left (Ticket t) n six a = absurd (omega arith)
+inner_left (Due q) n six a = absurd (omega arith)
+inner_left (Active q) n six a = absurd (omega arith)
+inner_left (Back x home) n six a = absurd (omega arith)
+inner_left (Passing t home) n six a = absurd (omega arith)
+inner_left Inner n six a = a
+
+-- the right is with a seat, in a seat's place, or neither
+right_cases : (n : ℕ) → ((j : ℕ) × (n ≡ with_seat j)) ⊎ (((j : ℕ) × (n ≡ called j)) ⊎ (((j : ℕ) → n ≢ with_seat j) × ((j : ℕ) → n ≢ called j)))
+right_cases n = by (numbered 0 n)
+  where
+    by : (x : Whereabouts) × (n ≡ number x) × ((k : ℕ) → x ≡ AtTicket k → k ≡ 0) → ((j : ℕ) × (n ≡ with_seat j)) ⊎ (((j : ℕ) × (n ≡ called j)) ⊎ (((j : ℕ) → n ≢ with_seat j) × ((j : ℕ) → n ≢ called j)))
+    by (Nowhere, e, t) = inr (inr ((λ j a. omega arith), (λ j a. omega arith)))
+    by (AtTicket m, e, t) = inr (inr ((λ j a. omega arith), (λ j a. omega arith)))
+    by (With m, e, t) = inl (m, e)
+    by (AtSeat m, e, t) = inr (inl (m, e))
+
+-- a seat that is not active owns no turn
+not_owned : (j m : ℕ) (p : Place) → turn_at j p ≢ owned_by m
+not_owned j m Idle e = absurd (omega arith)
+not_owned j m (Ticket t) e = absurd (omega arith)
+not_owned j m (Due (Free t)) e = absurd (omega arith)
+not_owned j m (Due (Granted t)) e = absurd (omega arith)
+not_owned j m (Due Called) e = absurd (omega arith)
+not_owned j m (Active q) e = absurd (omega arith)
+not_owned j m (Back next.Stay home) e = absurd (omega arith)
+not_owned j m (Back next.Entry home) e = absurd (omega arith)
+not_owned j m (Back (next.Waiter i) home) e = absurd (omega arith)
+not_owned j m (Back (next.Signaller i) home) e = absurd (omega arith)
+not_owned j m (Back (next.Until i) home) e = absurd (omega arith)
+not_owned j m (Passing t home) e = absurd (omega arith)
+not_owned j m Inner e = absurd (omega arith)
+
+abbrev owner_of : Turn → ℕ
+owner_of Open = 0
+owner_of (DueTurn j q) = 0
+owner_of (Owned j) = j
+
+module _ (k : Rules) (o : Object) (s : State) (right : ℕ) (owner : ℕ → ℕ) (h : IsSound k o s right owner) where
+  -- whoever owns the turn is active
+  owner_stands : (j : ℕ) → turn s.floor.history ≡ Owned j → stage (s.world.place j) ≡ 3
+  owner_stands j own = elim (right_cases right) [
+    | inl a ↦ elim (cases_eq (stage (s.world.place a.0)) 3) [
+      | inl three ↦ let same : a.0 ≡ j = ap owner_of (sym (h.active a.0 three) ∙ own) in subst (λ (m : ℕ). stage (s.world.place m) ≡ 3) same three
+      | inr ne ↦ absurd (not_owned a.0 j (s.world.place a.0) (sym (h.stands.fits_turn.with a.0 a.1 ne) ∙ ap turn_number own))
+    ]
+    | inr b ↦ elim b [
+      | inl a ↦ absurd (let e = h.stands.fits_turn.called_seat a.0 a.1 in let f : turn_number (turn s.floor.history) ≡ owned_by j = ap turn_number own in omega arith)
+      | inr c ↦ absurd (let e = h.stands.fits_turn.else_open c.0 c.1 in let f : turn_number (turn s.floor.history) ≡ owned_by j = ap turn_number own in omega arith)
+    ]
+  ]
+
+  entered_is : (j t : ℕ) (p : Place) → s.world.place j ≡ p → stage p ≡ 2 → ticket p ≡ t → used_at p ≡ 0 → source p ≤ 2 → enters_of s.floor.history ≡ t
+  entered_is j t p at two same unused by_ticket =
+      let stage_is : stage (s.world.place j) ≡ 2 = ap stage at ∙ two in
+      let source_is : source (s.world.place j) ≡ source p = ap source at in
+      let ticket_is : ticket (s.world.place j) ≡ t = ap ticket at ∙ same in
+      let sum = h.stands.keeps.in_use j stage_is (omega arith) in
+      let mine = h.stands.keeps.held j (omega arith) (omega arith) in
+      let used : used_at (s.world.place j) ≡ 0 = ap used_at at ∙ unused in
+      let e = h.entered.with j mine in
+      omega arith
+
+  well_led : IsWellLed k o s
+  well_led = record {
+    legal = h.legal;
+    in_one_place = in_one_place s.floor.seats s.world right owner h.stands.keeps;
+    active = λ j. (h.active j, owner_stands j);
+    queued = h.stands.fits_queues.in_queue;
+    enters_first = λ j t at. entered_is j t (Due (Free t)) at refl refl refl (omega arith);
+    enters_next = λ j t at. entered_is j t (Due (Granted t)) at refl refl refl (omega arith);
+    left = λ j six. inner_left (s.world.place j) (left_of s.floor.budget s.floor.history j) six (h.left j);
+  }
+
+pub runs_are_well_led : RunsAreWellLed
+runs_are_well_led k o opening seats conds budget told s kind run =
+    let h = run_is_sound k o (opening_state opening seats conds budget) told s kind (opening_is_sound k o opening seats conds budget) run in
+    well_led k o s h.right h.owner h.is_sound
