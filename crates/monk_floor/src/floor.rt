@@ -16,7 +16,6 @@ ghost use Rattle.monk_floor.specs.Releases.{IsReplyless};
 ghost use Rattle.monk_floor.specs.View.{monitor_of, stands_of, fresh};
 
 use crate::choosing::{first_ready, must_stay};
-use crate::events::seat_of;
 use crate::fault::MakeFault;
 use crate::fronts::Fronts;
 use crate::ledger::Ledger;
@@ -145,7 +144,7 @@ impl<K: Kind, T: Guarded> Floor<K, T> {
             signaller: self.ledger.queues.front_signaller(event),
             ready: first_ready(&self.object, self.ledger.queues.untils()),
         };
-        fronts.choose(rules_of::<K>(), seat_of(event), entry_known, pick)
+        fronts.choose(rules_of::<K>(), event.seat(), entry_known, pick)
     }
 
     /// A seat that is outside enters where the monitor is free: `Via::Free` past no inner queue, `Via::Handed` after

@@ -6,23 +6,9 @@ ghost use Rattle.monk_history.specs.Meaning.Turn as turns;
 ghost use Rattle.monk_floor.specs.Queues.{IsMoved};
 ghost use Rattle.monk_floor.specs.Ready.{IsReady};
 
-use crate::events::{next_of, seat_of};
 use crate::queues::Queues;
 use monk_history::{Event, From3, Next, Turn};
 use std::alloc::{AllocError, Global};
-
-/// Whose turn it is after an event.
-pub fn turn_after(event: Event) -> Turn
-    ensures { result ≡ turns.turn_by (events.seat_of event) (events.next_of event) }
-{
-    match next_of(event) {
-        None | Some(Next::Stay) => Turn::Owned(seat_of(event)),
-        Some(Next::Entry) => Turn::Open,
-        Some(Next::Waiter(seat)) => Turn::Due(seat, From3::Waiter),
-        Some(Next::Signaller(seat)) => Turn::Due(seat, From3::Signaller),
-        Some(Next::Until(seat)) => Turn::Due(seat, From3::Until),
-    }
-}
 
 /// Notes who is inside after an event.
 pub fn mark_inside(inside: &mut [bool], event: Event)
@@ -58,7 +44,7 @@ fn grant(granted: &mut [u32], event: Event)
     ensures counted { (j : ℕ) → slice_index_or granted.new j 0 ≡ slice_index_or granted.old j 0 + (if counts.grants j event then 1 else 0) }
     ensures count { length granted.new ≡ length granted.old }
 {
-    match next_of(event) {
+    match event.next() {
         Some(Next::Waiter(seat)) | Some(Next::Signaller(seat)) | Some(Next::Until(seat)) => {
             count_one(granted, seat)
         }
@@ -132,9 +118,9 @@ impl Ledger {
         ensures spent_seats { length self.new.spent.items ≡ length self.old.spent.items }
     {
         self.queues.carry_out(event);
-        self.turn = turn_after(event);
+        self.turn = Turn::after(event);
         mark_inside(&mut self.inside, event);
-        count_one(&mut self.spent, seat_of(event));
+        count_one(&mut self.spent, event.seat());
         grant(&mut self.granted, event);
         self.entered = entered_after(self.entered, event);
     }

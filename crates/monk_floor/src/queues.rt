@@ -4,7 +4,6 @@ ghost use Rattle.monk_history.specs.Meaning.Untils.{chooses, waits_until};
 ghost use Rattle.monk_history.specs.Meaning.Events as events;
 ghost use Rattle.monk_floor.specs.Queues as lists;
 
-use crate::events::next_of;
 use crate::limits::MOST_SEATS;
 use crate::seat_queue::SeatQueue;
 use monk_history::{Event, Next};
@@ -51,7 +50,7 @@ pub fn length_at(queues: &[SeatQueue], at: u8) -> u32
 fn is_chosen(event: Event, seat: u8) -> bool
     ensures { result ≡ events.is_until seat (events.next_of event) }
 {
-    match next_of(event) {
+    match event.next() {
         Some(Next::Until(chosen)) => chosen == seat,
         _ => false,
     }
@@ -244,7 +243,7 @@ impl Queues {
         ensures signallers { self.new.signallers ≡ drop (if lists.takes_front none event then 1 else 0) self.old.signallers }
         ensures untils { self.new.untils ≡ filter (λ w. not (chooses event w)) self.old.untils ++ waits_until event }
     {
-        if let Some(Next::Waiter(_)) = next_of(event) {
+        if let Some(Next::Waiter(_)) = event.next() {
             self.waiters.pop();
         }
         if takes_front(event, none) {
@@ -261,6 +260,6 @@ fn takes_front(event: Event, none: bool) -> bool
 {
     match event {
         Event::Signal(_, _, Next::Stay) => !none,
-        _ => matches!(next_of(event), Some(Next::Signaller(_))),
+        _ => matches!(event.next(), Some(Next::Signaller(_))),
     }
 }

@@ -11,7 +11,6 @@ ghost use Rattle.monk_floor.specs.Releases.{IsReplyless, MakesNoSignaller, Serve
 ghost use Rattle.monk_floor.specs.View.{monitor_of, stands_of};
 
 use crate::choosing::{equal_choice, first_ready, must_stay, served_choice, single_choice};
-use crate::events::seat_of;
 use crate::floor::Floor;
 use monk_history::{Event, From3, Next};
 use monk_kinds::{Automatic, Conditional, Explicit, ImmediateReturn, Kind, Mode, Pick, rules_of};
@@ -72,7 +71,7 @@ impl<K: Kind, T: Guarded> Floor<K, T> {
             rules.waiter <= rules.entry,
             waiter,
             signaller,
-            seat_of(event),
+            event.seat(),
             entry_known,
             pick,
         )

@@ -9,7 +9,6 @@ ghost use Rattle.monk_history.specs.Meaning.Untils.{ready_of};
 ghost use Rattle.monk_floor.specs.View.{monitor_of, stands_of};
 
 use crate::choosing::first_ready;
-use crate::events::seat_of;
 use crate::fault::MakeFault;
 use crate::floor::Floor;
 use crate::queues::Queues;
@@ -150,7 +149,7 @@ fn steps_plainly<K: Kind, T: Guarded>(
     pick: Pick,
     entry_known: bool,
 ) -> bool {
-    if !may_call(floor, called(event)) || floor.left(seat_of(event)) == 0 {
+    if !may_call(floor, called(event)) || floor.left(event.seat()) == 0 {
         return false;
     }
     match event {
@@ -195,7 +194,7 @@ fn steps<K: Kind, T: Guarded>(
     pick: Pick,
     entry_known: bool,
 ) -> bool {
-    if !may_call(floor, called(event)) || floor.left(seat_of(event)) == 0 {
+    if !may_call(floor, called(event)) || floor.left(event.seat()) == 0 {
         return false;
     }
     match event {
@@ -234,7 +233,7 @@ fn steps_explicitly<K: Explicit, T: Guarded>(
     pick: Pick,
     entry_known: bool,
 ) -> bool {
-    if !may_call(floor, called(event)) || floor.left(seat_of(event)) == 0 {
+    if !may_call(floor, called(event)) || floor.left(event.seat()) == 0 {
         return false;
     }
     match event {
@@ -264,7 +263,7 @@ fn steps_returning<K: ImmediateReturn, T: Guarded>(
     pick: Pick,
     entry_known: bool,
 ) -> bool {
-    if !may_call(floor, called(event)) || floor.left(seat_of(event)) == 0 {
+    if !may_call(floor, called(event)) || floor.left(event.seat()) == 0 {
         return false;
     }
     match event {
@@ -296,7 +295,7 @@ fn steps_automatically<K: Automatic, T: Guarded>(
     pick: Pick,
     entry_known: bool,
 ) -> bool {
-    if !may_call(floor, called(event)) || floor.left(seat_of(event)) == 0 {
+    if !may_call(floor, called(event)) || floor.left(event.seat()) == 0 {
         return false;
     }
     match event {
