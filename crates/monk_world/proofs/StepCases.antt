@@ -1,14 +1,12 @@
 -- Each command has exactly one answer and one next state
-use Rattle.std.proofs.Common.{◌≡◌, ℕ, ◌+◌, ◌%◌, ◌==◌, true, false, cond, Bool, ◌||◌, ◌++◌, List, [], ◌∷◌, sym, refl, ◌∙◌}
-use Rattle.std.specs.Prelude.{not, nat_lt, Option, Some, None}
+use Rattle.std.proofs.Common.{◌≡◌, ℕ, true, false, cond, Bool, sym, refl, ◌∙◌}
+use Rattle.std.specs.Prelude.{not, Option, Some, None}
 use Rattle.monk_kinds.specs.declared.mode.Rules.{Rules}
 use Rattle.monk_object.specs.Object.{Object}
-use Rattle.monk_history.specs.declared.event.Next.{Next}
 use Rattle.monk_history.specs.declared.event.Next.TheVariants as next
 use Rattle.monk_world.specs.Laws.{StepsAreAnswered, StepsAreDetermined}
 use Rattle.monk_world.specs.State.{State}
-use Rattle.monk_world.specs.StepTable.{may_be_told, refusal, IsDone, IsAnswered, IsStep}
-use Rattle.monk_world.specs.StepTable as table
+use Rattle.monk_world.specs.StepTable.{may_be_told, refusal, IsDone, IsAnswered}
 use Rattle.monk_world.specs.declared.answer.Answer.{Answer}
 use Rattle.monk_world.specs.declared.answer.Answer.TheVariants as answer
 use Rattle.monk_world.specs.declared.command.Command.{Command}

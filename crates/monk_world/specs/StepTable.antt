@@ -19,7 +19,7 @@ use Rattle.monk_history.specs.declared.event.Turn.{Turn}
 use Rattle.monk_history.specs.declared.event.Turn.TheVariants as turn
 use Rattle.monk_history.specs.declared.event.Via.TheVariants as via
 use Rattle.monk_floor.specs.View.{FloorView, monitor_of, stands_of}
-use Rattle.monk_world.specs.Places.{stage, chosen, open_turn}
+use Rattle.monk_world.specs.Places.{stage}
 use Rattle.monk_world.specs.Put.{put}
 use Rattle.monk_world.specs.State.{State, grown}
 use Rattle.monk_world.specs.Steps.{after_arrival, after_ticket_look, after_seat_look, after_out, after_in, after_drop, after_ticket_grant, after_seat_grant}
