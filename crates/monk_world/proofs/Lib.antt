@@ -15,3 +15,4 @@ pub mod SoundWords
 pub mod SoundFloor
 pub mod SoundSteps
 pub mod RunLaws
+pub mod StepCases

@@ -98,3 +98,11 @@ StepsStaySound = (k : Rules) (o : Object) (s : State) (i : ℕ) (c : Command) (a
 
 abbrev pub OpeningIsSound : Type 0
 OpeningIsSound = (k : Rules) (o : Object) (opening : List ℕ) (seats conds budget : ℕ) → Sound k o (opening_state opening seats conds budget)
+
+-- each command of each seat in each state has exactly one answer and one next state
+abbrev pub StepsAreAnswered : Type 0
+StepsAreAnswered = (k : Rules) (o : Object) (s : State) (i : ℕ) (c : Command) → (a : Answer) × (t : State) × IsStep k o s i c a t
+
+abbrev pub StepsAreDetermined : Type 0
+StepsAreDetermined =
+    (k : Rules) (o : Object) (s : State) (i : ℕ) (c : Command) (a b : Answer) (t u : State) → IsStep k o s i c a t → IsStep k o s i c b u → (a ≡ b) × (t ≡ u)

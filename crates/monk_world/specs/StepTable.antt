@@ -19,7 +19,7 @@ use Rattle.monk_history.specs.declared.event.Turn.{Turn}
 use Rattle.monk_history.specs.declared.event.Turn.TheVariants as turn
 use Rattle.monk_history.specs.declared.event.Via.TheVariants as via
 use Rattle.monk_floor.specs.View.{FloorView, monitor_of, stands_of}
-use Rattle.monk_world.specs.Places.{stage, chosen, open_turn}
+use Rattle.monk_world.specs.Places.{stage}
 use Rattle.monk_world.specs.Put.{put}
 use Rattle.monk_world.specs.State.{State, grown}
 use Rattle.monk_world.specs.Steps.{after_arrival, after_ticket_look, after_seat_look, after_out, after_in, after_drop, after_ticket_grant, after_seat_grant}
@@ -57,14 +57,38 @@ abbrev pub is_call_offered : Rules → Option Event → Bool
 is_call_offered k None = true
 is_call_offered k (Some e) = is_offered k e
 
+-- a seat that has the floor back with the choice of entry; with the choice of a seat
+abbrev pub let_entry : Next → Bool
+let_entry next.Stay = false
+let_entry next.Entry = true
+let_entry (next.Waiter j) = false
+let_entry (next.Signaller j) = false
+let_entry (next.Until j) = false
+
+abbrev pub named_seat : Next → Bool
+named_seat next.Stay = false
+named_seat next.Entry = false
+named_seat (next.Waiter j) = true
+named_seat (next.Signaller j) = true
+named_seat (next.Until j) = true
+
+abbrev pub is_back : (Next → Bool) → Place → Bool
+is_back chose Idle = false
+is_back chose (Ticket t) = false
+is_back chose (Due q) = false
+is_back chose (Active q) = false
+is_back chose (Back x home) = chose x
+is_back chose (Passing t home) = false
+is_back chose Inner = false
+
 -- where a seat stands that may be told so
 abbrev pub may_be_told : Place → Command → Bool
 may_be_told p command.Arrive = stage p == 0
 may_be_told p command.Look = stage p == 1 || stage p == 6
 may_be_told p command.Out = stage p == 2
 may_be_told p command.Peek = stage p == 0 || stage p == 3
-may_be_told p command.Drop = stage p == 4 && chosen p == open_turn
-may_be_told p command.Grant = stage p == 5 || (stage p == 4 && not (chosen p == open_turn))
+may_be_told p command.Drop = is_back let_entry p
+may_be_told p command.Grant = stage p == 5 || is_back named_seat p
 may_be_told p (command.Act op) = stage p == 3
 may_be_told p (command.Leave pick) = stage p == 3
 may_be_told p (command.Wait c pick) = stage p == 3

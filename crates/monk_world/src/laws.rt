@@ -1,6 +1,6 @@
 //! What holds of each kind of step, whoever makes it: it keeps the right to be active in one place, in agreement with
 //! the turn and the queues of the history. Each function does nothing: its contract is the law.
-ghost use Rattle.monk_world.specs.Laws.{OpeningStands, ArrivalKeeps, TicketLookKeeps, SeatLookKeeps, OutKeeps, ActiveKeeps, InKeeps, DropKeeps, TicketGrantKeeps, SeatGrantKeeps, StandsInOnePlace, StepsStaySound, OpeningIsSound};
+ghost use Rattle.monk_world.specs.Laws.{OpeningStands, ArrivalKeeps, TicketLookKeeps, SeatLookKeeps, OutKeeps, ActiveKeeps, InKeeps, DropKeeps, TicketGrantKeeps, SeatGrantKeeps, StandsInOnePlace, StepsStaySound, OpeningIsSound, StepsAreAnswered, StepsAreDetermined};
 ghost use Rattle.monk_world.specs.Runs.{RunsAreWellLed};
 
 /// Before any step the monitor is free, every seat is idle, and no queue has anybody.
@@ -58,6 +58,12 @@ pub fn seat_grant_keeps_the_right()
 /// The right to be active is in exactly one place, and each ticket behind the one in use has a seat that waits with it.
 pub fn right_is_in_one_place()
     ensures { StandsInOnePlace }
+{}
+
+/// Each command of each seat has exactly one answer and one next state, in every state.
+pub fn steps_are_a_function()
+    ensures answered { StepsAreAnswered }
+    ensures determined { StepsAreDetermined }
 {}
 
 /// Every step, also a refused one, keeps a state sound: its history legal, the right in one place, and turn, queues,
