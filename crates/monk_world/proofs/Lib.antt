@@ -16,3 +16,7 @@ pub mod SoundFloor
 pub mod SoundSteps
 pub mod RunLaws
 pub mod StepCases
+pub mod StoredLaws
+pub mod BoundLaws
+pub mod DoneLaws
+pub mod WorldLaws

@@ -13,3 +13,6 @@ pub mod StepTable
 pub mod Sound
 pub mod Runs
 pub mod Laws
+pub mod Words
+pub mod Telling
+pub mod Kept

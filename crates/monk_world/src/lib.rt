@@ -11,9 +11,17 @@ mod home;
 pub mod laws;
 mod place;
 mod source;
+mod steps;
+mod telling;
+mod words;
+mod world;
 
 pub use answer::Answer;
 pub use command::Command;
 pub use home::Home;
 pub use place::Place;
 pub use source::Source;
+pub use world::World;
+
+#[cfg(test)]
+mod tests;
