@@ -1,4 +1,4 @@
-use Rattle.std.proofs.Common.{◌≡◌, ℕ, Bool, true, refl, sym, ap, ◌∙◌, subst, arith}
+use Rattle.std.proofs.Common.{rules, ◌≡◌, ℕ, Bool, true, refl, sym, ap, ◌∙◌, subst, arith}
 use Rattle.monk_history.specs.declared.event.Event.TheVariants.{Leave, Wait, Signal, SignalLeave, Until}
 use Rattle.monk_history.specs.declared.event.Next.TheVariants as next
 use Rattle.monk_world.specs.StepTable.{IsDone, may_be_told, release_next}
@@ -9,7 +9,9 @@ use Rattle.monk_world.proofs.WorldLaws as world
 use Rattle.monk_world.proofs.world.World.come_out.Goals as goal
 
 pub record-requires-clause-allowed : goal.record-requires-clause-allowed
-record-requires-clause-allowed g c = world.out_allowed g.K.Kind.rules g.T.Guarded.meaning c.self.inside.words c.self.inside.floor c.args.self.now c.self.view_is c.args.seat c.in-Due.source c.self.inside.conds c.self.invariant c.requires (sym c.place.ensures ∙ c.in-Due.is)
+record-requires-clause-allowed g c =
+    let a = world.out_allowed g.K.Kind.rules g.T.Guarded.meaning c.self.inside.words c.self.inside.floor c.args.self.now c.self.view_is c.args.seat c.in-Due.source c.self.inside.conds c.self.invariant c.requires (sym c.place.ensures ∙ c.in-Due.is) in
+    search (rules, a)
 
 pub invariant_of-self : goal.invariant_of-self
 invariant_of-self g c =

@@ -1,4 +1,4 @@
-use Rattle.std.proofs.Common.{◌≡◌, ℕ, Bool, true, refl, sym, ap, ◌∙◌, subst, arith}
+use Rattle.std.proofs.Common.{rules, ◌≡◌, ℕ, Bool, true, refl, sym, ap, ◌∙◌, subst, arith}
 use Rattle.monk_history.specs.declared.event.Event.TheVariants.{Leave, Wait, Signal, SignalLeave, Until}
 use Rattle.monk_history.specs.declared.event.Next.TheVariants as next
 use Rattle.monk_world.specs.StepTable.{may_be_told, is_call_in_range, is_call_offered, call_of}
@@ -19,7 +19,7 @@ returns-then-not-may_be_told g c =
     c.may_be_told.ensures ∙ ap (λ (p : Place). may_be_told p c.args.command) c.place.ensures in
     let s = state_of c.args.self.now in
     let here : nat_lt c.args.seat s.floor.seats ≡ true = grind arith in
-    let fits : telling.is_in_range s.floor.conds g.T.Guarded.meaning.codes g.T.Guarded.meaning.predicates c.args.command ≡ true = grind arith in
+    let fits : telling.is_in_range s.floor.conds g.T.Guarded.meaning.codes g.T.Guarded.meaning.predicates c.args.command ≡ true = search rules in
     let reach : (nat_lt c.args.seat s.floor.seats && is_call_in_range g.T.Guarded.meaning s.floor (call_of c.args.seat c.args.command)) ≡ true =
     world.reaches g.T.Guarded.meaning s.floor c.args.seat c.args.command here fits in
     let offered : is_call_offered g.K.Kind.rules (call_of c.args.seat c.args.command) ≡ true = grind arith in
