@@ -15,6 +15,7 @@ pub mod SoundWords
 pub mod SoundFloor
 pub mod SoundSteps
 pub mod RunLaws
+pub mod LedLaws
 pub mod StepCases
 pub mod StoredLaws
 pub mod BoundLaws

@@ -19,7 +19,15 @@ returns-then-not-may_be_told g c =
     c.may_be_told.ensures ∙ ap (λ (p : Place). may_be_told p c.args.command) c.place.ensures in
     let s = state_of c.args.self.now in
     let here : nat_lt c.args.seat s.floor.seats ≡ true = grind arith in
-    let fits : telling.is_in_range s.floor.conds g.T.Guarded.meaning.codes g.T.Guarded.meaning.predicates c.args.command ≡ true = search rules in
+    let conds : c.self.inside.conds ≡ s.floor.conds = grind arith in
+    let codes : g.T.Guarded.meaning.codes ≡ c.CODES.result = g.T.Guarded.codes ∙ sym c.CODES.ensures in
+    let predicates : g.T.Guarded.meaning.predicates ≡ c.PREDICATES.result = g.T.Guarded.predicates ∙ sym c.PREDICATES.ensures in
+    let passed : c.is_in_range.result ≡ true = search rules in
+    let fits : telling.is_in_range s.floor.conds g.T.Guarded.meaning.codes g.T.Guarded.meaning.predicates c.args.command ≡ true =
+    ap (λ (n : ℕ). telling.is_in_range n g.T.Guarded.meaning.codes g.T.Guarded.meaning.predicates c.args.command) (sym conds)
+    ∙ (ap (λ (n : ℕ). telling.is_in_range c.self.inside.conds n g.T.Guarded.meaning.predicates c.args.command) codes
+    ∙ (ap (λ (n : ℕ). telling.is_in_range c.self.inside.conds c.CODES.result n c.args.command) predicates
+    ∙ (sym c.is_in_range.ensures ∙ passed))) in
     let reach : (nat_lt c.args.seat s.floor.seats && is_call_in_range g.T.Guarded.meaning s.floor (call_of c.args.seat c.args.command)) ≡ true =
     world.reaches g.T.Guarded.meaning s.floor c.args.seat c.args.command here fits in
     let offered : is_call_offered g.K.Kind.rules (call_of c.args.seat c.args.command) ≡ true = grind arith in
