@@ -9,3 +9,4 @@ pub mod TurnLaws
 pub mod QueueingLaws
 pub mod OnePlaceLaws
 pub mod StepLaws
+pub mod PlayLaws

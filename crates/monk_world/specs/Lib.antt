@@ -8,3 +8,4 @@ pub mod Stands
 pub mod OnePlace
 pub mod Steps
 pub mod Laws
+pub mod Play
