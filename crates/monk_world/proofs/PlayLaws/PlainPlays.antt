@@ -1,5 +1,5 @@
 -- No word of a command or of a play's first line has a byte 32 or 10.
-use Rattle.std.proofs.Common.{ℕ, ◌≤◌, ◌<◌, length, refl, arith}
+use Rattle.std.proofs.Common.{ℕ, refl, arith}
 use Rattle.monk_kinds.specs.declared.mode.Pick.{Pick}
 use Rattle.monk_kinds.specs.declared.mode.Pick.TheVariants as pick
 use Rattle.monk_history.proofs.TextLaws.LineCuts.{AreWords, IsWord, IsWord-decimal}

@@ -1,11 +1,9 @@
 -- The laws of the text of a play: what is read has that text, and what has a text is read from it.
-use Rattle.std.proofs.Common.{◌≡◌, ◌≢◌, ℕ, ◌≤◌, List, length, Result, Ok, Err, refl, sym, ap, subst, ◌∙◌, arith}
-use Rattle.std.specs.Prelude.{IfOk}
+use Rattle.std.proofs.Common.{◌≡◌, ℕ, ◌≤◌, List, length, Result, Ok, Err, ap, subst, ◌∙◌, arith}
 use Rattle.std.specs.Global.{Vec}
 use Rattle.monk_history.specs.declared.text.fault.ReadFault.{ReadFault}
 use Rattle.monk_history.specs.Text.{Heading}
-use Rattle.monk_history.specs.Text.Faults.{memory}
-use Rattle.monk_history.specs.Text.Lines.{Gives, lines_view, lines_of, lines_at}
+use Rattle.monk_history.specs.Text.Lines.{Gives, lines_of, lines_at}
 use Rattle.monk_history.proofs.TextLaws.TextFormats as formats
 use Rattle.monk_history.proofs.TextLaws.TextFormats.{IsFormat}
 use Rattle.monk_world.specs.declared.command.Command.{Command}
