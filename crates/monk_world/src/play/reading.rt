@@ -40,8 +40,7 @@ pub const MOST_COMMANDS: u32 = MOST_LINES;
 /// | [`ReadFault::LONG`] | 2^25 + 2 | that line is finished, whatever it holds |
 /// | [`ReadFault::MEMORY`] | 0 | a growth of the list of commands was refused |
 ///
-/// One pass over the bytes. Memory is taken for the commands alone, 16 bytes each and up to twice that while the list
-/// grows.
+/// One pass over the bytes. Memory is taken for the list of commands alone, up to twice its length while it grows.
 pub fn read_play(
     alloc: Global,
     bytes: &[u8],
