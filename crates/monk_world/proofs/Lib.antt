@@ -16,3 +16,4 @@ pub mod SoundFloor
 pub mod SoundSteps
 pub mod RunLaws
 pub mod StepCases
+pub mod PlayLaws

@@ -13,3 +13,4 @@ pub mod StepTable
 pub mod Sound
 pub mod Runs
 pub mod Laws
+pub mod Play
