@@ -21,3 +21,4 @@ pub mod StoredLaws
 pub mod BoundLaws
 pub mod DoneLaws
 pub mod WorldLaws
+pub mod PlayLaws

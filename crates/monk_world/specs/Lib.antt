@@ -16,3 +16,4 @@ pub mod Laws
 pub mod Words
 pub mod Telling
 pub mod Kept
+pub mod Play

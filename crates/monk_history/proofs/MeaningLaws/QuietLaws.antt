@@ -60,9 +60,9 @@ signaller_not_entry false i e = cc
 chosen_alone : (k : Rules) (q : Queues) (s : ℕ) (wish : Pick) → choice_by k q s false wish ≡ Entry → IsAlone (is_empty (inner_waiters k q)) (is_empty q.signallers)
 chosen_alone k q s wish h =
     alone (nat_le k.waiter k.entry) (nat_le k.signaller k.entry) (nat_le k.signaller k.waiter) (nat_le k.waiter k.signaller) (is_empty (inner_waiters k q)) (is_empty q.signallers) (waiter_choice k q) (signaller_choice q s) wish
-      (sym (parts_are k q s false wish) ∙ h)
-      (waiter_not_entry (has_conditions k.mode) (front q.waiters) (front q.ready))
-      (signaller_not_entry (front q.signallers == s) (front q.signallers))
+    (sym (parts_are k q s false wish) ∙ h)
+    (waiter_not_entry (has_conditions k.mode) (front q.waiters) (front q.ready))
+    (signaller_not_entry (front q.signallers == s) (front q.signallers))
 
 empty_is : {X : Type 0} (xs : List X) → is_empty xs ≡ true → xs ≡ []
 empty_is [] h = refl
@@ -84,9 +84,9 @@ same_queues o t (Resume s q) = refl
 
 -- who was not ready is not ready when nobody is chosen and nobody ready joins
 some_ready : (o : Object) (d : List ℕ) (w : ℕ × ℕ) (us vs : List (ℕ × ℕ)) (b : Bool)
-  → map (λ (u : ℕ × ℕ). u.0) (cond b (w ∷ filter (λ u. o.holds d u.1) us) (filter (λ u. o.holds d u.1) us)) ≡ []
-  → (map (λ (u : ℕ × ℕ). u.0) (filter (λ u. o.holds d u.1) us) ≡ [] → map (λ (u : ℕ × ℕ). u.0) (filter (λ u. o.holds d u.1) vs) ≡ [])
-  → map (λ (u : ℕ × ℕ). u.0) (cond b (w ∷ filter (λ u. o.holds d u.1) vs) (filter (λ u. o.holds d u.1) vs)) ≡ []
+    → map (λ (u : ℕ × ℕ). u.0) (cond b (w ∷ filter (λ u. o.holds d u.1) us) (filter (λ u. o.holds d u.1) us)) ≡ []
+    → (map (λ (u : ℕ × ℕ). u.0) (filter (λ u. o.holds d u.1) us) ≡ [] → map (λ (u : ℕ × ℕ). u.0) (filter (λ u. o.holds d u.1) vs) ≡ [])
+    → map (λ (u : ℕ × ℕ). u.0) (cond b (w ∷ filter (λ u. o.holds d u.1) vs) (filter (λ u. o.holds d u.1) vs)) ≡ []
 some_ready o d w us vs true h f = absurd (false≢true (ap is_empty h))
 some_ready o d w us vs false h f = f h
 
@@ -114,7 +114,7 @@ then_choice false x e = e
 admits_alone : (m : Monitor) (t : Situation) (e : Event) (wish : Pick) → AdmitsUnknown m t e wish → IsAlone (is_empty (inner_waiters m.kind (queues_at m.object t e))) (is_empty (queues_at m.object t e).signallers)
 admits_alone m t e wish a =
     chosen_alone m.kind (queues_at m.object t e) (seat_of (as_called e)) wish
-      (ap (λ q. choice_by m.kind q (seat_of (as_called e)) false wish) (sym (same_queues m.object t e)) ∙ then_choice (must_stay m.object t (as_called e)) _ a.choice)
+    (ap (λ q. choice_by m.kind q (seat_of (as_called e)) false wish) (sym (same_queues m.object t e)) ∙ then_choice (must_stay m.object t (as_called e)) _ a.choice)
 
 ready_after : (o : Object) (t : Situation) (e : Event) → next_of e ≡ Some Entry → must_stay o t (as_called e) ≡ false → ready_of o t.state t.untils ≡ [] → ready_of o (data_after o t.state e) (filter (λ w. not (chooses e w)) t.untils ++ waits_until e) ≡ []
 ready_after o t (Enter s via) n b h = absurd (none_entry n)
@@ -147,8 +147,8 @@ quiet_after m h e wish l a u =
     let inner = empty_is (inner_waiters m.kind q) alone_here.waiters in
     record {
       waiters = ap (λ v. v.waiters) step ∙ drop_empty (is_waiter (next_of e)) q.waiters
-        (by_conditions (has_conditions m.kind.mode) (q.waiters ≡ []) (λ c. ap (λ b. cond b q.waiters q.ready) (sym c) ∙ inner) sorted.waiters);
+          (by_conditions (has_conditions m.kind.mode) (q.waiters ≡ []) (λ c. ap (λ b. cond b q.waiters q.ready) (sym c) ∙ inner) sorted.waiters);
       signallers = ap (λ v. v.signallers) step ∙ drop_empty (takes_signaller t.condition e) q.signallers (empty_is q.signallers alone_here.signallers);
       ready = ap (λ v. ready_of m.object v.state v.untils) step ∙ ready_after m.object t e u.entry goes
-        (by_conditions (has_conditions m.kind.mode) (q.ready ≡ []) sorted.ready (λ c. ap (λ b. cond b q.waiters q.ready) (sym c) ∙ inner));
+          (by_conditions (has_conditions m.kind.mode) (q.ready ≡ []) sorted.ready (λ c. ap (λ b. cond b q.waiters q.ready) (sym c) ∙ inner));
     }

@@ -1,5 +1,5 @@
 -- What is read as a header is how it is written, and a header that is written is read again.
-use Rattle.std.proofs.Common.{lit<, ◌≡◌, ℕ, ◌≤◌, Bool, true, false, cond, List, [], ◌∷◌, Some, None, Ok, refl, sym, subst, arith}
+use Rattle.std.proofs.Common.{lit<, ◌≡◌, ℕ, ◌≤◌, Bool, true, false, cond, List, [], ◌∷◌, ◌++◌, Some, None, Ok, refl, sym, ap, subst, ◌∙◌, arith}
 use Rattle.std.specs.Prelude.{◌&&◌, nat_le, codes}
 use Rattle.std.specs.Fmt.{decimal}
 use Rattle.std.proofs.lemmas.Bool.{leb-true, le-leb}
@@ -9,9 +9,9 @@ use Rattle.monk_object.specs.declared.name.ObjectName.{ObjectName}
 use Rattle.monk_object.specs.declared.name.ObjectName.TheVariants.{Buffer, Book, Shop}
 use Rattle.monk_kinds.specs.Names.{kind_word, written, kinds}
 use Rattle.monk_object.specs.Names.{object_word, objects}
-use Rattle.monk_history.specs.Text.{Heading, most_seats, most_conds, header_words, IsHeading}
+use Rattle.monk_history.specs.Text.{Heading, most_seats, most_conds, part_words, header_words, IsHeading}
 use Rattle.monk_history.specs.Text.Words.{◌>>=◌, Word, Taken, number_at, with_rest, one_of, literal_at, end_at}
-use Rattle.monk_history.specs.Text.Reading.{heading, heading_of, header_at}
+use Rattle.monk_history.specs.Text.Reading.{heading, heading_of, parts_at, header_at}
 use Rattle.monk_history.proofs.TextLaws.LineCuts.{both}
 use Rattle.monk_history.proofs.TextLaws.WordReaders.{bind_ok, ok_is, number_takes, number_again, one_of_takes, one_of_again, literal_takes, end_takes}
 
@@ -44,7 +44,7 @@ heading_fits k s c o z ws x le e =
     let r = both (nat_le 1 s) (nat_le s most_seats) q.0 in
     (h.1, record { some_seat = leb-true _ _ r.0; seats = leb-true _ _ r.1; conds = leb-true _ _ q.1; some_size = leb-true _ _ p.1; size = le })
 
--- the steps of a header, each with those after it
+-- the steps of the parts, each with those after it
 abbrev Numbered : Type 0
 Numbered = ℕ × List Word
 
@@ -54,11 +54,8 @@ Kinded = KindName × List Word
 abbrev Named : Type 0
 Named = ObjectName × List Word
 
-abbrev at_end : Kinded → Numbered → Numbered → Named → Numbered → Unit {0} × List Word → Taken Heading
-at_end k s c o z end = with_rest end.1 (heading_of k.0 s.0 c.0 o.0 z.0)
-
 abbrev at_size : Kinded → Numbered → Numbered → Named → Numbered → Taken Heading
-at_size k s c o z = end_at z.1 >>= at_end k s c o z
+at_size k s c o z = with_rest z.1 (heading_of k.0 s.0 c.0 o.0 z.0)
 
 abbrev at_object : Kinded → Numbered → Numbered → Named → Taken Heading
 at_object k s c o = number_at 255 o.1 >>= at_size k s c o
@@ -72,49 +69,66 @@ at_seats k s = number_at 255 s.1 >>= at_conds k s
 abbrev at_kind : Kinded → Taken Heading
 at_kind k = number_at 255 k.1 >>= at_seats k
 
+five_words : (ws a b c d e : List Word) (t u v w x : Word) → ws ≡ t ∷ a → a ≡ u ∷ b → b ≡ v ∷ c → c ≡ w ∷ d → d ≡ x ∷ e → ws ≡ t ∷ u ∷ v ∷ w ∷ x ∷ e
+five_words ws a b c d e t u v w x e0 e1 e2 e3 e4 = cc
+
+pub parts_take : (ws : List Word) (x : Heading × List Word) → parts_at ws ≡ Ok x → (ws ≡ part_words x.0 ++ x.1) × IsHeading x.0
+unfolding parts_at
+parts_take ws x e =
+    let k = bind_ok (one_of kind_word kinds ws) at_kind x e in
+    let s = bind_ok (number_at 255 k.0.1) (at_seats k.0) x k.2 in
+    let c = bind_ok (number_at 255 s.0.1) (at_conds k.0 s.0) x s.2 in
+    let o = bind_ok (one_of object_word objects c.0.1) (at_object k.0 s.0 c.0) x c.2 in
+    let z = bind_ok (number_at 255 o.0.1) (at_size k.0 s.0 c.0 o.0) x o.2 in
+    let size_is = number_takes 255 o.0.1 z.0 z.1 in
+    let h = heading_fits k.0.0 s.0.0 c.0.0 o.0.0 z.0.0 z.0.1 x size_is.1 z.2 in
+    let e0 : ws ≡ kind_word k.0.0 ∷ k.0.1 = one_of_takes kind_word kinds ws k.0 k.1 in
+    let e1 : k.0.1 ≡ decimal s.0.0 ∷ s.0.1 = (number_takes 255 k.0.1 s.0 s.1).0 in
+    let e2 : s.0.1 ≡ decimal c.0.0 ∷ c.0.1 = (number_takes 255 s.0.1 c.0 c.1).0 in
+    let e3 : c.0.1 ≡ object_word o.0.0 ∷ o.0.1 = one_of_takes object_word objects c.0.1 o.0 o.1 in
+    let e4 : o.0.1 ≡ decimal z.0.0 ∷ z.0.1 = size_is.0 in
+    subst (λ (y : Heading × List Word). (ws ≡ part_words y.0 ++ y.1) × IsHeading y.0) (sym h.0) (five_words ws k.0.1 s.0.1 c.0.1 o.0.1 z.0.1 _ _ _ _ _ e0 e1 e2 e3 e4, h.1)
+
+heading_again : (h : Heading) → IsHeading h → heading_of h.kind h.seats h.conds h.object h.size ≡ Some h
+heading_again h fits = rw (le-leb 1 h.seats fits.some_seat, le-leb h.seats most_seats fits.seats, le-leb h.conds most_conds fits.conds, le-leb 1 h.size fits.some_size) refl
+
+pub parts_again : (h : Heading) (ws : List Word) → IsHeading h → parts_at (part_words h ++ ws) ≡ Ok (h, ws)
+unfolding parts_at
+parts_again h ws fits =
+    rw (
+      one_of_again kind_word kinds h.kind (decimal h.seats ∷ decimal h.conds ∷ object_word h.object ∷ decimal h.size ∷ ws) (kind_again h.kind),
+      number_again 255 h.seats (decimal h.conds ∷ object_word h.object ∷ decimal h.size ∷ ws) (lit< tt) (omega (arith, fits.seats)),
+      number_again 255 h.conds (object_word h.object ∷ decimal h.size ∷ ws) (lit< tt) (omega (arith, fits.conds)),
+      one_of_again object_word objects h.object (decimal h.size ∷ ws) (object_again h.object),
+      number_again 255 h.size ws (lit< tt) fits.size,
+      heading_again h fits,
+    ) refl
+
+-- ---- the whole line
+
+abbrev at_parts : Heading × List Word → Taken Heading
+at_parts h = end_at h.1 >>= λ z. Ok (h.0, z.1)
+
 abbrev at_version : Unit {0} × List Word → Taken Heading
-at_version v = one_of kind_word kinds v.1 >>= at_kind
+at_version v = parts_at v.1 >>= at_parts
 
 abbrev at_name : Unit {0} × List Word → Taken Heading
 at_name m = literal_at (codes "1") m.1 >>= at_version
-
-seven_words : (ws a b c d e f g : List Word) (t u v w x y z : Word) → ws ≡ t ∷ a → a ≡ u ∷ b → b ≡ v ∷ c → c ≡ w ∷ d → d ≡ x ∷ e → e ≡ y ∷ f → f ≡ z ∷ g → g ≡ [] → ws ≡ t ∷ u ∷ v ∷ w ∷ x ∷ y ∷ z ∷ []
-seven_words ws a b c d e f g t u v w x y z e0 e1 e2 e3 e4 e5 e6 e7 = cc
 
 pub header_takes : (ws : List Word) (x : Heading × List Word) → header_at ws ≡ Ok x → (ws ≡ header_words x.0) × IsHeading x.0
 unfolding header_at
 header_takes ws x e =
     let m = bind_ok (literal_at (codes "monk") ws) at_name x e in
     let v = bind_ok (literal_at (codes "1") m.0.1) at_version x m.2 in
-    let k = bind_ok (one_of kind_word kinds v.0.1) at_kind x v.2 in
-    let s = bind_ok (number_at 255 k.0.1) (at_seats k.0) x k.2 in
-    let c = bind_ok (number_at 255 s.0.1) (at_conds k.0 s.0) x s.2 in
-    let o = bind_ok (one_of object_word objects c.0.1) (at_object k.0 s.0 c.0) x c.2 in
-    let z = bind_ok (number_at 255 o.0.1) (at_size k.0 s.0 c.0 o.0) x o.2 in
-    let n = bind_ok (end_at z.0.1) (at_end k.0 s.0 c.0 o.0 z.0) x z.2 in
-    let size_is = number_takes 255 o.0.1 z.0 z.1 in
-    let h = heading_fits k.0.0 s.0.0 c.0.0 o.0.0 z.0.0 n.0.1 x size_is.1 n.2 in
-    let e0 : ws ≡ codes "monk" ∷ m.0.1 = literal_takes (codes "monk") ws m.0 m.1 in
-    let e1 : m.0.1 ≡ codes "1" ∷ v.0.1 = literal_takes (codes "1") m.0.1 v.0 v.1 in
-    let e2 : v.0.1 ≡ kind_word k.0.0 ∷ k.0.1 = one_of_takes kind_word kinds v.0.1 k.0 k.1 in
-    let e3 : k.0.1 ≡ decimal s.0.0 ∷ s.0.1 = (number_takes 255 k.0.1 s.0 s.1).0 in
-    let e4 : s.0.1 ≡ decimal c.0.0 ∷ c.0.1 = (number_takes 255 s.0.1 c.0 c.1).0 in
-    let e5 : c.0.1 ≡ object_word o.0.0 ∷ o.0.1 = one_of_takes object_word objects c.0.1 o.0 o.1 in
-    let e6 : o.0.1 ≡ decimal z.0.0 ∷ z.0.1 = size_is.0 in
-    let e7 : z.0.1 ≡ [] = (end_takes z.0.1 n.0 n.1).0 in
-    subst (λ (y : Heading × List Word). (ws ≡ header_words y.0) × IsHeading y.0) (sym h.0) (seven_words ws m.0.1 v.0.1 k.0.1 s.0.1 c.0.1 o.0.1 z.0.1 _ _ _ _ _ _ _ e0 e1 e2 e3 e4 e5 e6 e7, h.1)
-
-heading_again : (h : Heading) → IsHeading h → heading_of h.kind h.seats h.conds h.object h.size ≡ Some h
-heading_again h fits = rw (le-leb 1 h.seats fits.some_seat, le-leb h.seats most_seats fits.seats, le-leb h.conds most_conds fits.conds, le-leb 1 h.size fits.some_size) refl
+    let h = bind_ok (parts_at v.0.1) at_parts x v.2 in
+    let n = bind_ok (end_at h.0.1) (λ z. Ok (h.0.0, z.1)) x h.2 in
+    let name_is : ws ≡ codes "monk" ∷ m.0.1 = literal_takes (codes "monk") ws m.0 m.1 in
+    let version_is : m.0.1 ≡ codes "1" ∷ v.0.1 = literal_takes (codes "1") m.0.1 v.0 v.1 in
+    let parts_are = parts_take v.0.1 h.0 h.1 in
+    let none : h.0.1 ≡ [] = (end_takes h.0.1 n.0 n.1).0 in
+    let whole : ws ≡ header_words h.0.0 = name_is ∙ ap (λ (w : List Word). codes "monk" ∷ w) (version_is ∙ ap (λ (w : List Word). codes "1" ∷ w) (parts_are.0 ∙ ap (λ (w : List Word). part_words h.0.0 ++ w) none)) in
+    subst (λ (y : Heading × List Word). (ws ≡ header_words y.0) × IsHeading y.0) (ok_is (h.0.0, n.0.1) x n.2) (whole, parts_are.1)
 
 pub header_again : (h : Heading) → IsHeading h → header_at (header_words h) ≡ Ok (h, [])
 unfolding header_at
-header_again h fits =
-    rw (
-      one_of_again kind_word kinds h.kind (decimal h.seats ∷ decimal h.conds ∷ object_word h.object ∷ decimal h.size ∷ []) (kind_again h.kind),
-      number_again 255 h.seats (decimal h.conds ∷ object_word h.object ∷ decimal h.size ∷ []) (lit< tt) (omega (arith, fits.seats)),
-      number_again 255 h.conds (object_word h.object ∷ decimal h.size ∷ []) (lit< tt) (omega (arith, fits.conds)),
-      one_of_again object_word objects h.object (decimal h.size ∷ []) (object_again h.object),
-      number_again 255 h.size [] (lit< tt) fits.size,
-      heading_again h fits,
-    ) refl
+header_again h fits = rw (parts_again h [] fits) refl

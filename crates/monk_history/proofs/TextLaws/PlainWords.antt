@@ -17,7 +17,7 @@ use Rattle.monk_object.specs.Names.{object_word}
 use Rattle.monk_history.specs.Text.{Heading, next_words, event_words, header_words, IsHeading, NextFits, EventFits}
 use Rattle.monk_history.proofs.TextLaws.LineCuts.{AreWords, IsWord, IsWord-decimal}
 
-decimal_word : (n : ℕ) → n ≤ 255 → IsWord (decimal n)
+pub decimal_word : (n : ℕ) → n ≤ 255 → IsWord (decimal n)
 decimal_word n le = IsWord-decimal n (omega arith)
 
 next_are_words : (n : Next) → NextFits n → AreWords (next_words n)
@@ -40,7 +40,7 @@ event_are_words (Resume s from.Waiter) fits = rw (decimal_word s fits) refl
 event_are_words (Resume s from.Signaller) fits = rw (decimal_word s fits) refl
 event_are_words (Resume s from.Until) fits = rw (decimal_word s fits) refl
 
-kind_is_word : (k : KindName) → IsWord (kind_word k)
+pub kind_is_word : (k : KindName) → IsWord (kind_word k)
 kind_is_word Pb = refl
 kind_is_word Npb = refl
 kind_is_word Pnb = refl
@@ -52,7 +52,7 @@ kind_is_word Npir = refl
 kind_is_word Pis = refl
 kind_is_word Npis = refl
 
-object_is_word : (o : ObjectName) → IsWord (object_word o)
+pub object_is_word : (o : ObjectName) → IsWord (object_word o)
 object_is_word Buffer = refl
 object_is_word Book = refl
 object_is_word Shop = refl

@@ -4,7 +4,7 @@ ghost use Rattle.std.specs.Prelude.{◌≡◌};
 ghost use Rattle.monk_kinds.specs.Names.{kind_word, kinds};
 ghost use Rattle.monk_object.specs.Names.{object_word, objects};
 ghost use Rattle.monk_history.specs.Text.Words.{Reads, one_of};
-ghost use Rattle.monk_history.specs.Text.Reading.{header_at};
+ghost use Rattle.monk_history.specs.Text.Reading.{header_at, parts_at};
 
 use crate::text::fault::Flaw;
 use crate::text::header::Header;
@@ -31,12 +31,25 @@ fn header(words: &mut Words<'_>) -> Result<Header, Flaw>
 {
     words.literal(b"monk")?;
     words.literal(b"1")?;
+    let header = header_parts(words)?;
+    words.end()?;
+    Ok(header)
+}
+
+/// Takes the five words `KIND SEATS CONDS OBJECT SIZE`, which stand in the first line of each text that has a header, and
+/// leaves what follows.
+///
+/// [`Flaw::Word`] where one of them is missing, is no name of a kind or of an object, or is a number outside the range of
+/// [`Header::new`]; [`Flaw::Number`] where it is no number from 0 to 255. Takes no memory.
+#[tactic(auto, unfolding(crate::specs::Text::Reading::parts_at))]
+pub fn header_parts(words: &mut Words<'_>) -> Result<Header, Flaw>
+    ensures { Reads result words.new (parts_at words.old) }
+{
     let kind = kind(words)?;
     let seats = words.byte()?;
     let conds = words.byte()?;
     let object = object(words)?;
     let size = words.byte()?;
-    words.end()?;
     Header::new(kind, seats, conds, object, size).ok_or(Flaw::Word)
 }
 

@@ -1,0 +1,14 @@
+use Rattle.std.proofs.Common.{rules, ◌≡◌, ◌∙◌, ap, sym, Some, List, Option, ℕ, codes}
+use Rattle.clap.specs.Words.{found_of, rows_of, subcommand_rows_of}
+use Rattle.clap.proofs.WalkLemmas.{first_value-rows}
+use Rattle.monk.proofs.Requests.{file_in}
+use Rattle.monk.proofs.words.asked.Goals as goal
+
+pub returns-in_ok-file_of-in-Some-audit-default : goal.returns-in_ok-file_of-in-Some-audit-default
+returns-in_ok-file_of-in-Some-audit-default c =
+    let found = found_of c.in-Some-audit-default.audit.now in
+    record {
+      command = search rules;
+      file = file_in (subcommand_rows_of c.args.matches.now) (rows_of found) (sym c.in-Some-audit-default.ensures.rows)
+          ∙ ap (λ (x : Option (List ℕ)). Some x) (sym (first_value-rows found (codes "FILE")) ∙ sym c.in_ok-file_of-in-Some-audit-default.ensures);
+    }

@@ -1,0 +1,4 @@
+pub mod CommandReading
+pub mod PlayHeads
+pub mod PlainPlays
+pub mod PlayText

@@ -1,0 +1,175 @@
+-- What is read as a command is how it is written, and a command that is written is read again.
+use Rattle.std.proofs.Common.{◌-◌, lit<, ◌≡◌, ℕ, ◌≤◌, ◌^◌, List, [], ◌∷◌, ◌++◌, Some, Ok, refl, ap, subst, ◌∙◌}
+use Rattle.std.specs.Fmt.{decimal}
+use Rattle.std.proofs.lemmas.List.{append-nil}
+use Rattle.monk_kinds.specs.Names.{written}
+use Rattle.monk_kinds.specs.declared.mode.Pick.{Pick}
+use Rattle.monk_kinds.specs.declared.mode.Pick.TheVariants as pick
+use Rattle.monk_object.specs.declared.op.Op.{Op}
+use Rattle.monk_history.specs.Text.Words.{◌>>=◌, Word, Taken, number_at, one_of, end_at}
+use Rattle.monk_history.proofs.TextLaws.WordReaders.{bind_ok, ok_is, number_takes, number_again, one_of_takes, one_of_again, end_takes}
+use Rattle.monk_world.specs.declared.command.Command.{Command}
+use Rattle.monk_world.specs.declared.command.Command.TheVariants.{Arrive, Look, Out, Peek, Drop, Grant, Act, Leave, Wait, Signal, SignalLeave, Until}
+use Rattle.monk_world.specs.declared.play.verb.Verb.{Verb}
+use Rattle.monk_world.specs.declared.play.verb.Verb.TheVariants as verb
+use Rattle.monk_world.specs.Play.{pick_word, action_words, command_words, ActionFits, CommandFits}
+use Rattle.monk_world.specs.Play.Reading.{picks, verb_word, verbs, op_at, cond_pick_at, action_after, command_at}
+
+pick_again : (p : Pick) → written pick_word picks (pick_word p) ≡ Some p
+pick_again pick.Entry = refl
+pick_again pick.Waiter = refl
+pick_again pick.Signaller = refl
+
+verb_again : (v : Verb) → written verb_word verbs (verb_word v) ≡ Some v
+verb_again verb.Arrive = refl
+verb_again verb.Look = refl
+verb_again verb.Out = refl
+verb_again verb.Peek = refl
+verb_again verb.Drop = refl
+verb_again verb.Grant = refl
+verb_again verb.Act = refl
+verb_again verb.Leave = refl
+verb_again verb.Wait = refl
+verb_again verb.Signal = refl
+verb_again verb.SignalLeave = refl
+verb_again verb.Until = refl
+
+-- ---- the parts of an action
+
+op_takes : (ws : List Word) (x : Op × List Word) → op_at ws ≡ Ok x → (ws ≡ decimal x.0.code ∷ decimal x.0.arg ∷ x.1) × (x.0.code ≤ 255) × (x.0.arg ≤ 2 ^ 32 - 1)
+unfolding op_at
+op_takes ws x e =
+    let a = bind_ok (number_at 255 ws) (λ c. number_at (2 ^ 32 - 1) c.1 >>= λ a. Ok (record { code = c.0; arg = a.0 }, a.1)) x e in
+    let b = bind_ok (number_at (2 ^ 32 - 1) a.0.1) (λ n. Ok (record { code = a.0.0; arg = n.0 }, n.1)) x a.2 in
+    let t = number_takes 255 ws a.0 a.1 in
+    let u = number_takes (2 ^ 32 - 1) a.0.1 b.0 b.1 in
+    let made : Op × List Word = (record { code = a.0.0; arg = b.0.0 }, b.0.1) in
+    subst (λ (y : Op × List Word). (ws ≡ decimal y.0.code ∷ decimal y.0.arg ∷ y.1) × (y.0.code ≤ 255) × (y.0.arg ≤ 2 ^ 32 - 1)) (ok_is made x b.2)
+    (t.0 ∙ ap (λ (v : List Word). decimal a.0.0 ∷ v) u.0, t.1, u.1)
+
+cond_pick_takes : (ws : List Word) (x : (ℕ × Pick) × List Word) → cond_pick_at ws ≡ Ok x → (ws ≡ decimal x.0.0 ∷ pick_word x.0.1 ∷ x.1) × (x.0.0 ≤ 255)
+unfolding cond_pick_at
+cond_pick_takes ws x e =
+    let a = bind_ok (number_at 255 ws) (λ c. one_of pick_word picks c.1 >>= λ p. Ok ((c.0, p.0), p.1)) x e in
+    let b = bind_ok (one_of pick_word picks a.0.1) (λ p. Ok ((a.0.0, p.0), p.1)) x a.2 in
+    let t = number_takes 255 ws a.0 a.1 in
+    let p = one_of_takes pick_word picks a.0.1 b.0 b.1 in
+    subst (λ (y : (ℕ × Pick) × List Word). (ws ≡ decimal y.0.0 ∷ pick_word y.0.1 ∷ y.1) × (y.0.0 ≤ 255)) (ok_is ((a.0.0, b.0.0), b.0.1) x b.2)
+    (t.0 ∙ ap (λ (v : List Word). decimal a.0.0 ∷ v) p, t.1)
+
+cond_pick_again : (c : ℕ) (p : Pick) → c ≤ 255 → cond_pick_at (decimal c ∷ pick_word p ∷ []) ≡ Ok ((c, p), [])
+unfolding cond_pick_at
+cond_pick_again c p le = rw (number_again 255 c (pick_word p ∷ []) (lit< tt) le, one_of_again pick_word picks p [] (pick_again p)) refl
+
+-- ---- an action
+
+-- what a line is where its verb has been read
+abbrev Ends : Verb → List Word → Command × List Word → Type 0
+Ends v ws y = (verb_word v ∷ ws ≡ action_words y.0 ++ y.1) × ActionFits y.0
+
+abbrev behind : Verb → List Word → List Word
+behind v ws = verb_word v ∷ ws
+
+action_takes : (v : Verb) (ws : List Word) (x : Command × List Word) → action_after v ws ≡ Ok x → Ends v ws x
+unfolding action_after
+action_takes verb.Arrive ws x e = subst (Ends verb.Arrive ws) (ok_is (Arrive, ws) x e) (refl, tt)
+action_takes verb.Look ws x e = subst (Ends verb.Look ws) (ok_is (Look, ws) x e) (refl, tt)
+action_takes verb.Out ws x e = subst (Ends verb.Out ws) (ok_is (Out, ws) x e) (refl, tt)
+action_takes verb.Peek ws x e = subst (Ends verb.Peek ws) (ok_is (Peek, ws) x e) (refl, tt)
+action_takes verb.Drop ws x e = subst (Ends verb.Drop ws) (ok_is (Drop, ws) x e) (refl, tt)
+action_takes verb.Grant ws x e = subst (Ends verb.Grant ws) (ok_is (Grant, ws) x e) (refl, tt)
+action_takes verb.Act ws x e =
+    let b = bind_ok (op_at ws) (λ o. Ok (Act o.0, o.1)) x e in
+    let t = op_takes ws b.0 b.1 in
+    subst (Ends verb.Act ws) (ok_is (Act b.0.0, b.0.1) x b.2) (ap (behind verb.Act) t.0, (t.1, t.2))
+action_takes verb.Leave ws x e =
+    let b = bind_ok (one_of pick_word picks ws) (λ p. Ok (Leave p.0, p.1)) x e in
+    let t = one_of_takes pick_word picks ws b.0 b.1 in
+    subst (Ends verb.Leave ws) (ok_is (Leave b.0.0, b.0.1) x b.2) (ap (behind verb.Leave) t, tt)
+action_takes verb.Wait ws x e =
+    let b = bind_ok (cond_pick_at ws) (λ c. Ok (Wait c.0.0 c.0.1, c.1)) x e in
+    let t = cond_pick_takes ws b.0 b.1 in
+    subst (Ends verb.Wait ws) (ok_is (Wait b.0.0.0 b.0.0.1, b.0.1) x b.2) (ap (behind verb.Wait) t.0, t.1)
+action_takes verb.Signal ws x e =
+    let b = bind_ok (cond_pick_at ws) (λ c. Ok (Signal c.0.0 c.0.1, c.1)) x e in
+    let t = cond_pick_takes ws b.0 b.1 in
+    subst (Ends verb.Signal ws) (ok_is (Signal b.0.0.0 b.0.0.1, b.0.1) x b.2) (ap (behind verb.Signal) t.0, t.1)
+action_takes verb.SignalLeave ws x e =
+    let b = bind_ok (cond_pick_at ws) (λ c. Ok (SignalLeave c.0.0 c.0.1, c.1)) x e in
+    let t = cond_pick_takes ws b.0 b.1 in
+    subst (Ends verb.SignalLeave ws) (ok_is (SignalLeave b.0.0.0 b.0.0.1, b.0.1) x b.2) (ap (behind verb.SignalLeave) t.0, t.1)
+action_takes verb.Until ws x e =
+    let b = bind_ok (cond_pick_at ws) (λ c. Ok (Until c.0.0 c.0.1, c.1)) x e in
+    let t = cond_pick_takes ws b.0 b.1 in
+    subst (Ends verb.Until ws) (ok_is (Until b.0.0.0 b.0.0.1, b.0.1) x b.2) (ap (behind verb.Until) t.0, t.1)
+
+after_act : (op : Op) → op.code ≤ 255 → op.arg ≤ 2 ^ 32 - 1 → action_after verb.Act (decimal op.code ∷ decimal op.arg ∷ []) ≡ Ok (Act op, [])
+unfolding action_after op_at
+after_act op code arg = rw (number_again 255 op.code (decimal op.arg ∷ []) (lit< tt) code, number_again (2 ^ 32 - 1) op.arg [] (lit< tt) arg) refl
+
+after_leave : (p : Pick) → action_after verb.Leave (pick_word p ∷ []) ≡ Ok (Leave p, [])
+unfolding action_after
+after_leave p = rw (one_of_again pick_word picks p [] (pick_again p)) refl
+
+after_wait : (c : ℕ) (p : Pick) → c ≤ 255 → action_after verb.Wait (decimal c ∷ pick_word p ∷ []) ≡ Ok (Wait c p, [])
+unfolding action_after
+after_wait c p le = rw (cond_pick_again c p le) refl
+
+after_signal : (c : ℕ) (p : Pick) → c ≤ 255 → action_after verb.Signal (decimal c ∷ pick_word p ∷ []) ≡ Ok (Signal c p, [])
+unfolding action_after
+after_signal c p le = rw (cond_pick_again c p le) refl
+
+after_signal_leave : (c : ℕ) (p : Pick) → c ≤ 255 → action_after verb.SignalLeave (decimal c ∷ pick_word p ∷ []) ≡ Ok (SignalLeave c p, [])
+unfolding action_after
+after_signal_leave c p le = rw (cond_pick_again c p le) refl
+
+after_until : (c : ℕ) (p : Pick) → c ≤ 255 → action_after verb.Until (decimal c ∷ pick_word p ∷ []) ≡ Ok (Until c p, [])
+unfolding action_after
+after_until c p le = rw (cond_pick_again c p le) refl
+
+-- ---- a command
+
+abbrev at_action : ℕ → Command × List Word → Taken (ℕ × Command)
+at_action s a = end_at a.1 >>= λ z. Ok ((s, a.0), z.1)
+
+abbrev at_verb : ℕ → Verb × List Word → Taken (ℕ × Command)
+at_verb s v = action_after v.0 v.1 >>= at_action s
+
+abbrev at_seat : ℕ × List Word → Taken (ℕ × Command)
+at_seat s = one_of verb_word verbs s.1 >>= at_verb s.0
+
+pub command_takes : (ws : List Word) (x : (ℕ × Command) × List Word) → command_at ws ≡ Ok x → (ws ≡ command_words x.0) × CommandFits x.0
+unfolding command_at
+command_takes ws x e =
+    let a = bind_ok (number_at 255 ws) at_seat x e in
+    let b = bind_ok (one_of verb_word verbs a.0.1) (at_verb a.0.0) x a.2 in
+    let c = bind_ok (action_after b.0.0 b.0.1) (at_action a.0.0) x b.2 in
+    let d = bind_ok (end_at c.0.1) (λ z. Ok ((a.0.0, c.0.0), z.1)) x c.2 in
+    let seat_is = number_takes 255 ws a.0 a.1 in
+    let verb_is = one_of_takes verb_word verbs a.0.1 b.0 b.1 in
+    let action_is = action_takes b.0.0 b.0.1 c.0 c.1 in
+    let none = (end_takes c.0.1 d.0 d.1).0 in
+    let whole : a.0.1 ≡ action_words c.0.0 = verb_is ∙ action_is.0 ∙ ap (λ (v : List Word). action_words c.0.0 ++ v) none ∙ append-nil (action_words c.0.0) in
+    subst (λ (y : (ℕ × Command) × List Word). (ws ≡ command_words y.0) × CommandFits y.0) (ok_is ((a.0.0, c.0.0), d.0.1) x d.2) (seat_is.0 ∙ ap (λ (v : List Word). decimal a.0.0 ∷ v) whole, (seat_is.1, action_is.1))
+
+from_after : (v : Verb) (s : ℕ) (ws : List Word) (c : Command) → s ≤ 255 → action_after v ws ≡ Ok (c, []) → command_at (decimal s ∷ verb_word v ∷ ws) ≡ Ok ((s, c), [])
+unfolding command_at
+from_after v s ws c le h = rw (number_again 255 s (verb_word v ∷ ws) (lit< tt) le, one_of_again verb_word verbs v ws (verb_again v), h) refl
+
+action_again : (s : ℕ) (c : Command) → s ≤ 255 → ActionFits c → command_at (decimal s ∷ action_words c) ≡ Ok ((s, c), [])
+unfolding action_after
+action_again s Arrive le fits = from_after verb.Arrive s [] Arrive le refl
+action_again s Look le fits = from_after verb.Look s [] Look le refl
+action_again s Out le fits = from_after verb.Out s [] Out le refl
+action_again s Peek le fits = from_after verb.Peek s [] Peek le refl
+action_again s Drop le fits = from_after verb.Drop s [] Drop le refl
+action_again s Grant le fits = from_after verb.Grant s [] Grant le refl
+action_again s (Act op) le fits = from_after verb.Act s (decimal op.code ∷ decimal op.arg ∷ []) (Act op) le (after_act op fits.0 fits.1)
+action_again s (Leave p) le fits = from_after verb.Leave s (pick_word p ∷ []) (Leave p) le (after_leave p)
+action_again s (Wait c p) le fits = from_after verb.Wait s (decimal c ∷ pick_word p ∷ []) (Wait c p) le (after_wait c p fits)
+action_again s (Signal c p) le fits = from_after verb.Signal s (decimal c ∷ pick_word p ∷ []) (Signal c p) le (after_signal c p fits)
+action_again s (SignalLeave c p) le fits = from_after verb.SignalLeave s (decimal c ∷ pick_word p ∷ []) (SignalLeave c p) le (after_signal_leave c p fits)
+action_again s (Until c p) le fits = from_after verb.Until s (decimal c ∷ pick_word p ∷ []) (Until c p) le (after_until c p fits)
+
+pub command_again : (m : ℕ × Command) → CommandFits m → command_at (command_words m) ≡ Ok (m, [])
+command_again m fits = action_again m.0 m.1 fits.0 fits.1

@@ -1,0 +1,71 @@
+-- What is read as a play's first line is how it is written, and one that is written is read again.
+use Rattle.std.proofs.Common.{lit<, ◌≡◌, ℕ, ◌≤◌, Bool, true, false, cond, List, [], ◌∷◌, ◌++◌, Some, None, Ok, refl, sym, ap, subst, ◌∙◌}
+use Rattle.std.specs.Prelude.{nat_le, codes}
+use Rattle.std.specs.Fmt.{decimal}
+use Rattle.std.proofs.lemmas.Bool.{leb-true, le-leb}
+use Rattle.monk_history.specs.Text.{Heading, IsHeading, part_words}
+use Rattle.monk_history.specs.Text.Reading.{parts_at}
+use Rattle.monk_history.specs.Text.Words.{◌>>=◌, Word, Taken, number_at, with_rest, literal_at, end_at}
+use Rattle.monk_history.proofs.TextLaws.HeaderReading.{parts_take, parts_again}
+use Rattle.monk_history.proofs.TextLaws.WordReaders.{bind_ok, ok_is, number_takes, number_again, literal_takes, end_takes}
+use Rattle.monk_world.specs.declared.play.head.PlayHead.{PlayHead}
+use Rattle.monk_world.specs.Play.{least_budget, most_budget, play_words}
+use Rattle.monk_world.specs.Play.Reading.{play_head, play_head_of, play_head_at}
+
+pub record HeadFits (h : PlayHead) : Type 0 where
+  pub header_fits : IsHeading h.header
+  pub some_budget : least_budget ≤ h.budget
+  pub budget_fits : h.budget ≤ most_budget
+
+abbrev pub head_words : PlayHead → List Word
+head_words h = play_words h.header h.budget
+
+head_made : (b : Bool) (h : PlayHead) (ws : List Word) (x : PlayHead × List Word) → with_rest ws (cond b (Some h) None) ≡ Ok x → (b ≡ true) × (x ≡ (h, ws))
+head_made true h ws x e = (refl, sym (ok_is (h, ws) x e))
+head_made false h ws x e = absurd cc
+
+-- the steps of a first line, each with those after it
+abbrev at_end : Heading → ℕ → Unit {0} × List Word → Taken PlayHead
+at_end h b end = with_rest end.1 (play_head_of h b)
+
+abbrev at_budget : Heading → ℕ × List Word → Taken PlayHead
+at_budget h b = end_at b.1 >>= at_end h b.0
+
+abbrev at_parts : Heading × List Word → Taken PlayHead
+at_parts h = number_at most_budget h.1 >>= at_budget h.0
+
+abbrev at_version : Unit {0} × List Word → Taken PlayHead
+at_version v = parts_at v.1 >>= at_parts
+
+abbrev at_name : Unit {0} × List Word → Taken PlayHead
+at_name p = literal_at (codes "1") p.1 >>= at_version
+
+pub head_takes : (ws : List Word) (x : PlayHead × List Word) → play_head_at ws ≡ Ok x → (ws ≡ head_words x.0) × HeadFits x.0
+unfolding play_head_at
+head_takes ws x e =
+    let p = bind_ok (literal_at (codes "play") ws) at_name x e in
+    let v = bind_ok (literal_at (codes "1") p.0.1) at_version x p.2 in
+    let h = bind_ok (parts_at v.0.1) at_parts x v.2 in
+    let b = bind_ok (number_at most_budget h.0.1) (at_budget h.0.0) x h.2 in
+    let n = bind_ok (end_at b.0.1) (at_end h.0.0 b.0.0) x b.2 in
+    let name_is : ws ≡ codes "play" ∷ p.0.1 = literal_takes (codes "play") ws p.0 p.1 in
+    let version_is : p.0.1 ≡ codes "1" ∷ v.0.1 = literal_takes (codes "1") p.0.1 v.0 v.1 in
+    let parts_are = parts_take v.0.1 h.0 h.1 in
+    let budget_is = number_takes most_budget h.0.1 b.0 b.1 in
+    let none : b.0.1 ≡ [] = (end_takes b.0.1 n.0 n.1).0 in
+    let made = head_made (nat_le least_budget b.0.0) (play_head h.0.0 b.0.0) n.0.1 x n.2 in
+    let last : h.0.1 ≡ decimal b.0.0 ∷ [] = budget_is.0 ∙ ap (λ (w : List Word). decimal b.0.0 ∷ w) none in
+    let whole : ws ≡ play_words h.0.0 b.0.0 = name_is ∙ ap (λ (w : List Word). codes "play" ∷ w) (version_is ∙ ap (λ (w : List Word). codes "1" ∷ w) (parts_are.0 ∙ ap (λ (w : List Word). part_words h.0.0 ++ w) last)) in
+    subst (λ (y : PlayHead × List Word). (ws ≡ head_words y.0) × HeadFits y.0) (sym made.1) (whole, record { header_fits = parts_are.1; some_budget = leb-true _ _ made.0; budget_fits = budget_is.1 })
+
+head_whole : (h : PlayHead) → least_budget ≤ h.budget → play_head_of h.header h.budget ≡ Some h
+head_whole h some = rw (le-leb least_budget h.budget some) refl
+
+pub head_again : (h : PlayHead) → HeadFits h → play_head_at (head_words h) ≡ Ok (h, [])
+unfolding play_head_at
+head_again h fits =
+    rw (
+      parts_again h.header (decimal h.budget ∷ []) fits.header_fits,
+      number_again most_budget h.budget [] (lit< tt) fits.budget_fits,
+      head_whole h fits.some_budget,
+    ) refl

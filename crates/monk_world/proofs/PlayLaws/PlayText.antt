@@ -1,0 +1,59 @@
+-- The laws of the text of a play: what is read has that text, and what has a text is read from it.
+use Rattle.std.proofs.Common.{◌≡◌, ℕ, ◌≤◌, List, length, Result, Ok, Err, ap, subst, ◌∙◌, arith}
+use Rattle.std.specs.Global.{Vec}
+use Rattle.monk_history.specs.declared.text.fault.ReadFault.{ReadFault}
+use Rattle.monk_history.specs.Text.{Heading}
+use Rattle.monk_history.specs.Text.Lines.{Gives, lines_of, lines_at}
+use Rattle.monk_history.proofs.TextLaws.TextFormats as formats
+use Rattle.monk_history.proofs.TextLaws.TextFormats.{IsFormat}
+use Rattle.monk_world.specs.declared.command.Command.{Command}
+use Rattle.monk_world.specs.declared.play.head.PlayHead.{PlayHead}
+use Rattle.monk_world.specs.Play.{HasPlayText, CommandFits, command_words, playtext}
+use Rattle.monk_world.specs.Play.Reading.{Play, play, play_view, play_head, play_head_at, command_under, played, play_at}
+use Rattle.monk_world.proofs.PlayLaws.CommandReading.{command_takes, command_again}
+use Rattle.monk_world.proofs.PlayLaws.PlayHeads.{HeadFits, head_words, head_takes, head_again}
+use Rattle.monk_world.proofs.PlayLaws.PlainPlays.{command_are_words, head_are_words}
+
+heads : IsFormat head_words play_head_at HeadFits
+heads = record { takes = head_takes; again = head_again; plain = head_are_words; some = λ h. omega arith }
+
+abbrev CommandFitsUnder : PlayHead → ℕ × Command → Type 0
+CommandFitsUnder h = CommandFits
+
+commands : (h : PlayHead) → IsFormat command_words (command_under h) (CommandFitsUnder h)
+commands h = record { takes = command_takes; again = command_again; plain = command_are_words; some = λ m. omega arith }
+
+head_fits : (h : Heading) (budget : ℕ) (cs : List (ℕ × Command)) → HasPlayText h budget cs → HeadFits (play_head h budget)
+head_fits h budget cs has = record { header_fits = has.header_fits; some_budget = has.some_budget; budget_fits = has.budget_fits }
+
+pub play_again : (limit : ℕ) (h : Heading) (budget : ℕ) (cs : List (ℕ × Command)) → HasPlayText h budget cs → length cs ≤ limit → play_at limit (playtext h budget cs) ≡ Ok (play h budget cs)
+play_again limit h budget cs has le =
+    ap played (formats.text_again head_words play_head_at HeadFits heads command_words command_under CommandFitsUnder commands limit (play_head h budget) cs (head_fits h budget cs has) has.commands_fit le)
+
+pub play_one : (h g : Heading) (b c : ℕ) (xs ys : List (ℕ × Command)) → HasPlayText h b xs → HasPlayText g c ys → playtext h b xs ≡ playtext g c ys → play h b xs ≡ play g c ys
+play_one h g b c xs ys one two same =
+    let is = formats.text_one head_words play_head_at HeadFits heads command_words command_under CommandFitsUnder commands (play_head h b) (play_head g c) xs ys (head_fits h b xs one) one.commands_fit (head_fits g c ys two) two.commands_fit same in
+    ap (λ (x : PlayHead). play x.header x.budget xs) is.0 ∙ ap (λ (x : List (ℕ × Command)). play g c x) is.1
+
+-- ---- what a function gives
+
+-- a play that was found in the bytes
+pub record IsPlay (limit : ℕ) (bytes : List ℕ) (h : Heading) (budget : ℕ) (cs : List (ℕ × Command)) : Type 0 where
+  pub has_text : HasPlayText h budget cs
+  pub few : length cs ≤ limit
+  pub whole : bytes ≡ playtext h budget cs
+
+pub play_read : (limit : ℕ) (bytes : List ℕ) (h : PlayHead) (cs : List (ℕ × Command)) → lines_at play_head_at command_under limit (lines_of bytes) ≡ Ok (h, cs) → IsPlay limit bytes h.header h.budget cs
+play_read limit bytes h cs e =
+    let r = formats.text_read head_words play_head_at HeadFits heads command_words command_under CommandFitsUnder commands limit bytes h cs e in
+    record { has_text = record { header_fits = r.head_fits.header_fits; some_budget = r.head_fits.some_budget; budget_fits = r.head_fits.budget_fits; commands_fit = r.fit }; few = r.few; whole = r.whole }
+
+pub is_exact : (limit : ℕ) (bytes : List ℕ) (h : PlayHead) (cs : List (ℕ × Command)) → lines_at play_head_at command_under limit (lines_of bytes) ≡ Ok (h, cs) → play_at limit bytes ≡ Ok (play h.header h.budget cs)
+is_exact limit bytes h cs e = ap played e
+
+pub is_fault : (limit : ℕ) (bytes : List ℕ) (f : ReadFault) → lines_at play_head_at command_under limit (lines_of bytes) ≡ Err f → play_at limit bytes ≡ Err f
+is_fault limit bytes f e = ap played e
+
+pub is_only : (limit : ℕ) (bytes : List ℕ) (r : Result (Heading × ℕ × Vec (ℕ × Command)) ReadFault) (h : Heading) (budget : ℕ) (cs : List (ℕ × Command)) → HasPlayText h budget cs → length cs ≤ limit → bytes ≡ playtext h budget cs
+    → Gives play_view r (play_at limit bytes) → Gives play_view r (Ok (play h budget cs))
+is_only limit bytes r h budget cs has le same given = subst (λ (x : Result Play ReadFault). Gives play_view r x) (ap (play_at limit) same ∙ play_again limit h budget cs has le) given

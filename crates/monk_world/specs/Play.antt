@@ -1,0 +1,79 @@
+-- The text of a play: a line for its header and budget, and a line for each command of a seat.
+pub mod Reading
+pub mod Laws
+use Rattle.std.specs.Prelude.{◌-◌, ℕ, ◌≤◌, ◌^◌, List, [], ◌∷◌, ◌++◌, codes}
+use Rattle.std.specs.List.{flat_map, AllByRecursion}
+use Rattle.std.specs.Fmt.{decimal}
+use Rattle.monk_kinds.specs.declared.mode.Pick.{Pick}
+use Rattle.monk_kinds.specs.declared.mode.Pick.TheVariants as pick
+use Rattle.monk_history.specs.Text.{Heading, IsHeading, part_words}
+use Rattle.monk_history.specs.Text.Lines.{line}
+use Rattle.monk_history.specs.Text.Words.{Word}
+use Rattle.monk_world.specs.declared.command.Command.{Command}
+use Rattle.monk_world.specs.declared.command.Command.TheVariants.{Arrive, Look, Out, Peek, Drop, Grant, Act, Leave, Wait, Signal, SignalLeave, Until}
+
+-- the ends of what a seat's budget may be
+abbrev pub least_budget : ℕ
+least_budget = 2
+
+abbrev pub most_budget : ℕ
+most_budget = 2 ^ 20
+
+-- ---- words
+
+abbrev pub pick_word : Pick → Word
+pick_word pick.Entry = codes "entry"
+pick_word pick.Waiter = codes "waiter"
+pick_word pick.Signaller = codes "signaller"
+
+abbrev pub action_words : Command → List Word
+action_words Arrive = codes "arrive" ∷ []
+action_words Look = codes "look" ∷ []
+action_words Out = codes "out" ∷ []
+action_words Peek = codes "peek" ∷ []
+action_words Drop = codes "drop" ∷ []
+action_words Grant = codes "grant" ∷ []
+action_words (Act op) = codes "act" ∷ decimal op.code ∷ decimal op.arg ∷ []
+action_words (Leave p) = codes "leave" ∷ pick_word p ∷ []
+action_words (Wait c p) = codes "wait" ∷ decimal c ∷ pick_word p ∷ []
+action_words (Signal c p) = codes "signal" ∷ decimal c ∷ pick_word p ∷ []
+action_words (SignalLeave c p) = codes "signal-leave" ∷ decimal c ∷ pick_word p ∷ []
+action_words (Until q p) = codes "until" ∷ decimal q ∷ pick_word p ∷ []
+
+-- a seat and what it is told to do
+abbrev pub command_words : ℕ × Command → List Word
+command_words m = decimal m.0 ∷ action_words m.1
+
+abbrev pub play_words : Heading → ℕ → List Word
+play_words h budget = codes "play" ∷ codes "1" ∷ (part_words h ++ decimal budget ∷ [])
+
+-- ---- the text
+
+abbrev pub playtext : Heading → ℕ → List (ℕ × Command) → List ℕ
+playtext h budget commands = line (play_words h budget) ++ flat_map (λ m. line (command_words m)) commands
+
+-- ---- what has a text
+
+-- each number of the command is in its range
+abbrev pub ActionFits : Command → Type 0
+ActionFits Arrive = Unit {0}
+ActionFits Look = Unit {0}
+ActionFits Out = Unit {0}
+ActionFits Peek = Unit {0}
+ActionFits Drop = Unit {0}
+ActionFits Grant = Unit {0}
+ActionFits (Act op) = (op.code ≤ 255) × (op.arg ≤ 2 ^ 32 - 1)
+ActionFits (Leave p) = Unit {0}
+ActionFits (Wait c p) = c ≤ 255
+ActionFits (Signal c p) = c ≤ 255
+ActionFits (SignalLeave c p) = c ≤ 255
+ActionFits (Until q p) = q ≤ 255
+
+abbrev pub CommandFits : ℕ × Command → Type 0
+CommandFits m = (m.0 ≤ 255) × ActionFits m.1
+
+pub record HasPlayText (h : Heading) (budget : ℕ) (commands : List (ℕ × Command)) : Type 0 where
+  pub header_fits : IsHeading h
+  pub some_budget : least_budget ≤ budget
+  pub budget_fits : budget ≤ most_budget
+  pub commands_fit : AllByRecursion CommandFits commands

@@ -1,0 +1,118 @@
+-- How the first line and the commands of a play are read from the words of their lines, and the whole play from its text.
+use Rattle.std.specs.Prelude.{◌-◌, ◌^◌, ℕ, List, [], ◌∷◌, Option, Some, None, Result, Ok, Err, nat_le, if◌then◌else◌, codes}
+use Rattle.std.specs.Global.{Vec}
+use Rattle.monk_kinds.specs.declared.mode.Pick.{Pick}
+use Rattle.monk_kinds.specs.declared.mode.Pick.TheVariants as pick
+use Rattle.monk_object.specs.declared.op.Op.{Op}
+use Rattle.monk_history.specs.declared.text.fault.ReadFault.{ReadFault}
+use Rattle.monk_history.specs.Text.{Heading}
+use Rattle.monk_history.specs.Text.Lines.{lines_of, lines_at}
+use Rattle.monk_history.specs.Text.Reading.{parts_at}
+use Rattle.monk_history.specs.Text.Words.{◌>>=◌, Word, Taken, number_at, one_of, literal_at, end_at, with_rest}
+use Rattle.monk_world.specs.declared.command.Command.{Command}
+use Rattle.monk_world.specs.declared.command.Command.TheVariants.{Arrive, Look, Out, Peek, Drop, Grant, Act, Leave, Wait, Signal, SignalLeave, Until}
+use Rattle.monk_world.specs.declared.play.head.PlayHead.{PlayHead}
+use Rattle.monk_world.specs.declared.play.verb.Verb.{Verb}
+use Rattle.monk_world.specs.declared.play.verb.Verb.TheVariants as verb
+use Rattle.monk_world.specs.Play.{least_budget, most_budget, pick_word}
+
+-- ---- a command
+
+abbrev pub picks : List Pick
+picks = pick.Entry ∷ pick.Waiter ∷ pick.Signaller ∷ []
+
+abbrev pub verb_word : Verb → Word
+verb_word verb.Arrive = codes "arrive"
+verb_word verb.Look = codes "look"
+verb_word verb.Out = codes "out"
+verb_word verb.Peek = codes "peek"
+verb_word verb.Drop = codes "drop"
+verb_word verb.Grant = codes "grant"
+verb_word verb.Act = codes "act"
+verb_word verb.Leave = codes "leave"
+verb_word verb.Wait = codes "wait"
+verb_word verb.Signal = codes "signal"
+verb_word verb.SignalLeave = codes "signal-leave"
+verb_word verb.Until = codes "until"
+
+abbrev pub verbs : List Verb
+verbs = verb.Arrive ∷ verb.Look ∷ verb.Out ∷ verb.Peek ∷ verb.Drop ∷ verb.Grant ∷ verb.Act ∷ verb.Leave ∷ verb.Wait ∷ verb.Signal ∷ verb.SignalLeave ∷ verb.Until ∷ []
+
+-- a code and an argument
+unfoldable pub op_at : List Word → Taken Op
+op_at ws = do
+  c ← number_at 255 ws
+  a ← number_at (2 ^ 32 - 1) c.1
+  Ok (record { code = c.0; arg = a.0 }, a.1)
+
+-- a condition or a predicate, and a wish
+unfoldable pub cond_pick_at : List Word → Taken (ℕ × Pick)
+cond_pick_at ws = do
+  c ← number_at 255 ws
+  p ← one_of pick_word picks c.1
+  Ok ((c.0, p.0), p.1)
+
+unfoldable pub action_after : Verb → List Word → Taken Command
+action_after verb.Arrive ws = Ok (Arrive, ws)
+action_after verb.Look ws = Ok (Look, ws)
+action_after verb.Out ws = Ok (Out, ws)
+action_after verb.Peek ws = Ok (Peek, ws)
+action_after verb.Drop ws = Ok (Drop, ws)
+action_after verb.Grant ws = Ok (Grant, ws)
+action_after verb.Act ws = op_at ws >>= λ o. Ok (Act o.0, o.1)
+action_after verb.Leave ws = one_of pick_word picks ws >>= λ p. Ok (Leave p.0, p.1)
+action_after verb.Wait ws = cond_pick_at ws >>= λ c. Ok (Wait c.0.0 c.0.1, c.1)
+action_after verb.Signal ws = cond_pick_at ws >>= λ c. Ok (Signal c.0.0 c.0.1, c.1)
+action_after verb.SignalLeave ws = cond_pick_at ws >>= λ c. Ok (SignalLeave c.0.0 c.0.1, c.1)
+action_after verb.Until ws = cond_pick_at ws >>= λ c. Ok (Until c.0.0 c.0.1, c.1)
+
+-- a seat, a verb, what the verb wants, and no word more
+unfoldable pub command_at : List Word → Taken (ℕ × Command)
+command_at ws = do
+  s ← number_at 255 ws
+  v ← one_of verb_word verbs s.1
+  a ← action_after v.0 v.1
+  end ← end_at a.1
+  Ok ((s.0, a.0), end.1)
+
+-- ---- a first line
+
+abbrev pub play_head : Heading → ℕ → PlayHead
+play_head h budget = record { header = h; budget = budget }
+
+abbrev pub play_head_of : Heading → ℕ → Option PlayHead
+play_head_of h budget = if nat_le least_budget budget then Some (play_head h budget) else None
+
+unfoldable pub play_head_at : List Word → Taken PlayHead
+play_head_at ws = do
+  p ← literal_at (codes "play") ws
+  v ← literal_at (codes "1") p.1
+  h ← parts_at v.1
+  b ← number_at most_budget h.1
+  end ← end_at b.1
+  with_rest end.1 (play_head_of h.0 b.0)
+
+-- ---- a text
+
+-- a header, the budget of each seat, and the commands
+abbrev pub Play : Type 0
+Play = Heading × ℕ × List (ℕ × Command)
+
+abbrev pub play : Heading → ℕ → List (ℕ × Command) → Play
+play h budget commands = (h, budget, commands)
+
+-- the same of what a function returned
+abbrev pub play_view : Heading × ℕ × Vec (ℕ × Command) → Play
+play_view r = play r.0 r.1 r.2.items
+
+-- the words of a command are the same under every first line
+abbrev pub command_under : PlayHead → List Word → Taken (ℕ × Command)
+command_under h ws = command_at ws
+
+abbrev pub played : Result (PlayHead × List (ℕ × Command)) ReadFault → Result Play ReadFault
+played (Ok x) = Ok (play x.0.header x.0.budget x.1)
+played (Err e) = Err e
+
+-- the play that the text is of, or its first fault
+abbrev pub play_at : ℕ → List ℕ → Result Play ReadFault
+play_at limit bytes = played (lines_at play_head_at command_under limit (lines_of bytes))

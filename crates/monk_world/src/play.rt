@@ -1,0 +1,11 @@
+//! A play as lines of text: the commands of seats, in the order in which they are told.
+
+mod head;
+mod line;
+mod reading;
+#[cfg(test)]
+mod tests;
+mod verb;
+
+pub use head::{LEAST_BUDGET, MOST_BUDGET};
+pub use reading::{MOST_COMMANDS, one_play_each, read_play};

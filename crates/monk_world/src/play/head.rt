@@ -1,0 +1,49 @@
+//! What stands before the commands of a play, read from the words of its line.
+
+ghost use Rattle.monk_history.specs.Text.Words.{Reads};
+ghost use Rattle.monk_world.specs.Play.Reading.{play_head_at};
+
+use monk_history::Header;
+use monk_history::lines::{Flaw, Head, Words, header_parts};
+
+/// The least budget of a seat.
+pub const LEAST_BUDGET: u32 = 2;
+
+/// The greatest budget of a seat: 2^20.
+pub const MOST_BUDGET: u32 = 1 << 20;
+
+/// The first line of a play.
+#[derive(Clone, Copy)]
+pub(crate) struct PlayHead {
+    pub(crate) header: Header,
+    /// How many events each seat has.
+    pub(crate) budget: u32,
+}
+
+impl Head for PlayHead {
+    ghost use Rattle.monk_history.specs.Text.Words.{Reads};
+    ghost use Rattle.monk_world.specs.Play.Reading.{play_head_at};
+
+    ghost parse = { play_head_at };
+
+    fn parse(words: &mut Words<'_>) -> Result<PlayHead, Flaw>
+        ensures { Reads result words.new (play_head_at words.old) }
+    {
+        play_head(words)
+    }
+}
+
+#[tactic(auto, unfolding(crate::specs::Play::Reading::play_head_at))]
+fn play_head(words: &mut Words<'_>) -> Result<PlayHead, Flaw>
+    ensures { Reads result words.new (play_head_at words.old) }
+{
+    words.literal(b"play")?;
+    words.literal(b"1")?;
+    let header = header_parts(words)?;
+    let budget = words.number(u64::from(MOST_BUDGET))? as u32;
+    words.end()?;
+    if budget < LEAST_BUDGET {
+        return Err(Flaw::Word);
+    }
+    Ok(PlayHead { header, budget })
+}

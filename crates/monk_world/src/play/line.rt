@@ -1,0 +1,120 @@
+//! A command of a seat, read from the words of its line.
+
+ghost use Rattle.std.specs.Prelude.{◌≡◌};
+ghost use Rattle.monk_kinds.specs.Names.{written};
+ghost use Rattle.monk_history.specs.Text.Words.{Reads, one_of};
+ghost use Rattle.monk_world.specs.Play.{pick_word};
+ghost use Rattle.monk_world.specs.Play.Reading.{verb_word, verbs, picks, op_at, cond_pick_at, action_after, command_at};
+
+use crate::command::Command;
+use crate::play::head::PlayHead;
+use crate::play::verb::Verb;
+use monk_history::lines::{Flaw, Record, Words};
+use monk_kinds::Pick;
+use monk_object::Op;
+
+impl Record<PlayHead> for (u8, Command) {
+    ghost use Rattle.monk_history.specs.Text.Words.{Reads};
+    ghost use Rattle.monk_world.specs.Play.Reading.{command_at, command_under};
+
+    ghost parse = { command_under };
+
+    fn parse(_head: &PlayHead, words: &mut Words<'_>) -> Result<(u8, Command), Flaw>
+        ensures { Reads result words.new (command_at words.old) }
+    {
+        seat_command(words)
+    }
+}
+
+#[tactic(auto, unfolding(crate::specs::Play::Reading::command_at))]
+fn seat_command(words: &mut Words<'_>) -> Result<(u8, Command), Flaw>
+    ensures { Reads result words.new (command_at words.old) }
+{
+    let seat = words.byte()?;
+    let verb = verb(words)?;
+    let command = action_after(words, verb)?;
+    words.end()?;
+    Ok((seat, command))
+}
+
+#[tactic(auto, unfolding(crate::specs::Play::Reading::action_after))]
+fn action_after(words: &mut Words<'_>, verb: Verb) -> Result<Command, Flaw>
+    ensures { Reads result words.new (action_after verb words.old) }
+{
+    match verb {
+        Verb::Arrive => Ok(Command::Arrive),
+        Verb::Look => Ok(Command::Look),
+        Verb::Out => Ok(Command::Out),
+        Verb::Peek => Ok(Command::Peek),
+        Verb::Drop => Ok(Command::Drop),
+        Verb::Grant => Ok(Command::Grant),
+        Verb::Act => Ok(Command::Act(op(words)?)),
+        Verb::Leave => Ok(Command::Leave(pick(words)?)),
+        Verb::Wait => {
+            let (cond, pick) = cond_pick(words)?;
+            Ok(Command::Wait(cond, pick))
+        }
+        Verb::Signal => {
+            let (cond, pick) = cond_pick(words)?;
+            Ok(Command::Signal(cond, pick))
+        }
+        Verb::SignalLeave => {
+            let (cond, pick) = cond_pick(words)?;
+            Ok(Command::SignalLeave(cond, pick))
+        }
+        Verb::Until => {
+            let (pred, pick) = cond_pick(words)?;
+            Ok(Command::Until(pred, pick))
+        }
+    }
+}
+
+/// A code and an argument.
+#[tactic(auto, unfolding(crate::specs::Play::Reading::op_at))]
+fn op(words: &mut Words<'_>) -> Result<Op, Flaw>
+    ensures { Reads result words.new (op_at words.old) }
+{
+    let code = words.byte()?;
+    let arg = words.number(u64::from(u32::MAX))? as u32;
+    Ok(Op { code, arg })
+}
+
+/// A condition or a predicate, and a wish.
+#[tactic(auto, unfolding(crate::specs::Play::Reading::cond_pick_at))]
+fn cond_pick(words: &mut Words<'_>) -> Result<(u8, Pick), Flaw>
+    ensures { Reads result words.new (cond_pick_at words.old) }
+{
+    let cond = words.byte()?;
+    let pick = pick(words)?;
+    Ok((cond, pick))
+}
+
+#[tactic(auto, unfolding(monk_history::specs::Text::Words::one_of))]
+fn pick(words: &mut Words<'_>) -> Result<Pick, Flaw>
+    ensures { Reads result words.new (one_of pick_word picks words.old) }
+{
+    let word = words.next().ok_or(Flaw::Word)?;
+    pick_of_text(word).ok_or(Flaw::Word)
+}
+
+fn pick_of_text(word: &[u8]) -> Option<Pick>
+    ensures { result ≡ written pick_word picks word.now }
+{
+    if word == b"entry".as_slice() {
+        Some(Pick::Entry)
+    } else if word == b"waiter".as_slice() {
+        Some(Pick::Waiter)
+    } else if word == b"signaller".as_slice() {
+        Some(Pick::Signaller)
+    } else {
+        None
+    }
+}
+
+#[tactic(auto, unfolding(monk_history::specs::Text::Words::one_of))]
+fn verb(words: &mut Words<'_>) -> Result<Verb, Flaw>
+    ensures { Reads result words.new (one_of verb_word verbs words.old) }
+{
+    let word = words.next().ok_or(Flaw::Word)?;
+    Verb::of_text(word).ok_or(Flaw::Word)
+}

@@ -1,0 +1,57 @@
+//! The first word of an action.
+
+ghost use Rattle.std.specs.Prelude.{◌≡◌};
+ghost use Rattle.monk_kinds.specs.Names.{written};
+ghost use Rattle.monk_world.specs.Play.Reading.{verb_word, verbs};
+
+/// Which command it is.
+#[derive(Clone, Copy)]
+pub(crate) enum Verb {
+    Arrive,
+    Look,
+    Out,
+    Peek,
+    Drop,
+    Grant,
+    Act,
+    Leave,
+    Wait,
+    Signal,
+    SignalLeave,
+    Until,
+}
+
+impl Verb {
+    /// The verb whose word this is, byte for byte.
+    pub(crate) fn of_text(word: &[u8]) -> Option<Verb>
+        ensures { result ≡ written verb_word verbs word.now }
+    {
+        if word == b"arrive".as_slice() {
+            Some(Verb::Arrive)
+        } else if word == b"look".as_slice() {
+            Some(Verb::Look)
+        } else if word == b"out".as_slice() {
+            Some(Verb::Out)
+        } else if word == b"peek".as_slice() {
+            Some(Verb::Peek)
+        } else if word == b"drop".as_slice() {
+            Some(Verb::Drop)
+        } else if word == b"grant".as_slice() {
+            Some(Verb::Grant)
+        } else if word == b"act".as_slice() {
+            Some(Verb::Act)
+        } else if word == b"leave".as_slice() {
+            Some(Verb::Leave)
+        } else if word == b"wait".as_slice() {
+            Some(Verb::Wait)
+        } else if word == b"signal".as_slice() {
+            Some(Verb::Signal)
+        } else if word == b"signal-leave".as_slice() {
+            Some(Verb::SignalLeave)
+        } else if word == b"until".as_slice() {
+            Some(Verb::Until)
+        } else {
+            None
+        }
+    }
+}
