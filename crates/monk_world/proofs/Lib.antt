@@ -15,5 +15,10 @@ pub mod SoundWords
 pub mod SoundFloor
 pub mod SoundSteps
 pub mod RunLaws
+pub mod LedLaws
 pub mod StepCases
+pub mod StoredLaws
+pub mod BoundLaws
+pub mod DoneLaws
+pub mod WorldLaws
 pub mod PlayLaws

@@ -12,6 +12,10 @@ pub mod laws;
 mod place;
 mod play;
 mod source;
+mod steps;
+mod telling;
+mod words;
+mod world;
 
 pub use answer::Answer;
 pub use command::Command;
@@ -19,3 +23,7 @@ pub use home::Home;
 pub use place::Place;
 pub use play::{LEAST_BUDGET, MOST_BUDGET, MOST_COMMANDS, one_play_each, read_play};
 pub use source::Source;
+pub use world::World;
+
+#[cfg(test)]
+mod tests;

@@ -1,0 +1,241 @@
+ghost use Rattle.std.specs.Prelude.{◌≡◌, ℕ, ◌+◌, ◌%◌, ◌^◌, ◌==◌, ◌<◌, ◌≤◌, ◌||◌, Some, false, IfOk, if◌then◌else◌, nat_le, slice_index_or};
+ghost use Rattle.monk_floor.specs.View.{FloorView};
+ghost use Rattle.monk_history.specs.Meaning.Events.{is_stay};
+ghost use Rattle.monk_world.specs.Put.{put};
+ghost use Rattle.monk_world.specs.Stands.{opening_world};
+ghost use Rattle.monk_world.specs.Steps.{after_arrival, after_ticket_look, after_seat_look, after_out, after_in, after_drop, after_ticket_grant, after_seat_grant};
+ghost use Rattle.monk_world.specs.Steps as becomes;
+ghost use Rattle.monk_world.specs.Words.{Shows, ShowsKnown, shown, state_in};
+
+use crate::answer::Answer;
+use crate::home::Home;
+use crate::place::Place;
+use crate::source::Source;
+use crate::words::Words;
+use monk_history::Next;
+use std::alloc::{AllocError, Global};
+
+impl Words {
+    /// The words before any step.
+    pub fn make(alloc: Global, seats: u8) -> Result<Words, AllocError>
+        ensures shows { IfOk result (λ w. (f : FloorView) → state_in w f ≡ record { world = opening_world; known = λ j. false; floor = f }) }
+        ensures seats { IfOk result (λ w. w.seats ≡ seats) }
+    {
+        Ok(Words {
+            seats,
+            drawn: 0,
+            unpassed: 0,
+            ticket_places: vec![in alloc; 0; seats as usize]?,
+            seat_places: vec![in alloc; 0; seats as usize]?,
+            places: vec![in alloc; Place::Idle; seats as usize]?,
+            counts: vec![in alloc; 0; seats as usize]?,
+            known: vec![in alloc; false; seats as usize]?,
+        })
+    }
+
+    /// Where a seat stands.
+    pub fn place(&self, seat: u8) -> Place
+        requires { seat < self.now.seats }
+        ensures { result ≡ (shown self.now).place seat }
+    {
+        self.places[seat as usize]
+    }
+
+    /// Whether a seat knows that somebody waits for entry.
+    pub fn knows(&self, seat: u8) -> bool
+        requires { seat < self.now.seats }
+        ensures { result ≡ slice_index_or self.now.known.items seat false }
+    {
+        self.known[seat as usize]
+    }
+
+    /// Draws a ticket. Where the monitor was free the seat has the right.
+    pub fn arrive(&mut self, seat: u8) -> Answer
+        requires seat { seat < self.old.seats }
+        requires drawn { self.old.drawn < 2 ^ 31 }
+        requires unpassed { self.old.unpassed ≤ self.old.drawn }
+        ensures answer { result ≡ Answer.Arrived self.old.drawn self.old.unpassed }
+        ensures shows { Shows self.old (after_arrival (shown self.old) seat) self.new }
+    {
+        let ticket = self.drawn;
+        let found = self.unpassed;
+        self.drawn = ticket + 1;
+        self.unpassed = found + 1;
+        self.places[seat as usize] = arrived(ticket, found);
+        Answer::Arrived(ticket, found)
+    }
+
+    /// Looks whether the place of a ticket has that ticket: it was granted.
+    pub fn look_for_ticket(&mut self, seat: u8, ticket: u32) -> Answer
+        requires seat { seat < self.old.seats }
+        requires ticket { ticket < 2 ^ 31 }
+        ensures answer { result ≡ Answer.Looked ((shown self.old).ticket_place (ticket % self.old.seats) == ticket + 1) }
+        ensures shows { Shows self.old (after_ticket_look (shown self.old) seat ticket ((shown self.old).ticket_place (ticket % self.old.seats) == ticket + 1)) self.new }
+    {
+        let at = ticket as usize % self.seats as usize;
+        let found = self.ticket_places[at] == ticket + 1;
+        self.places[seat as usize] = looked(ticket, found);
+        Answer::Looked(found)
+    }
+
+    /// Looks whether the seat was called once more than it has counted.
+    pub fn look_for_call(&mut self, seat: u8) -> Answer
+        requires seat { seat < self.old.seats }
+        requires count { (shown self.old).count seat < 2 ^ 31 }
+        ensures answer { result ≡ Answer.Looked ((shown self.old).seat_place seat == (shown self.old).count seat + 1) }
+        ensures shows { Shows self.old (after_seat_look (shown self.old) seat ((shown self.old).seat_place seat == (shown self.old).count seat + 1)) self.new }
+    {
+        let count = self.counts[seat as usize];
+        let found = self.seat_places[seat as usize] == count + 1;
+        self.counts[seat as usize] = counted(count, found);
+        self.places[seat as usize] = answered(found);
+        Answer::Looked(found)
+    }
+
+    /// The active seat looks how many tickets are not passed on: two or more tell it of somebody at the entry.
+    pub fn peek(&mut self, seat: u8) -> Answer
+        requires { seat < self.old.seats }
+        ensures answer { result ≡ Answer.Found self.old.unpassed }
+        ensures shows { ShowsKnown self.old (shown self.old) (put (λ j. slice_index_or self.old.known.items j false) seat (slice_index_or self.old.known.items seat false || nat_le 2 self.old.unpassed)) self.new }
+    {
+        let knew = self.known[seat as usize];
+        self.known[seat as usize] = known_after(knew, self.unpassed);
+        Answer::Found(self.unpassed)
+    }
+
+    /// The floor comes out to the seat, which knows of nobody yet.
+    pub fn come_out(&mut self, seat: u8, source: Source) -> Answer
+        requires { seat < self.old.seats }
+        ensures answer { result ≡ Answer.Now }
+        ensures shows { ShowsKnown self.old (after_out (shown self.old) seat source) (put (λ j. slice_index_or self.old.known.items j false) seat false) self.new }
+    {
+        self.places[seat as usize] = Place::Active(source);
+        self.known[seat as usize] = false;
+        Answer::Now
+    }
+
+    /// The floor goes home with a choice, unless the seat stays.
+    pub fn go_home(&mut self, seat: u8, next: Next, home: Home) -> Answer
+        requires { seat < self.old.seats }
+        ensures answer { result ≡ Answer.Chose next }
+        ensures shows { Shows self.old (if is_stay (Some next) then shown self.old else after_in (shown self.old) seat next home) self.new }
+    {
+        let place = self.places[seat as usize];
+        self.places[seat as usize] = after_choice(place, next, home);
+        Answer::Chose(next)
+    }
+
+    /// Takes the seat off the ticket word: the monitor is free, or the next ticket is to be granted.
+    pub fn take_off(&mut self, seat: u8, home: Home) -> Answer
+        requires seat { seat < self.old.seats }
+        requires some { 0 < self.old.unpassed }
+        requires unpassed { self.old.unpassed ≤ self.old.drawn }
+        requires drawn { self.old.drawn < 2 ^ 31 }
+        ensures answer { result ≡ Answer.Found self.old.unpassed }
+        ensures shows { Shows self.old (after_drop (shown self.old) seat home) self.new }
+    {
+        let found = self.unpassed;
+        self.unpassed = found - 1;
+        self.places[seat as usize] = dropped(self.drawn, found, home);
+        Answer::Found(found)
+    }
+
+    /// Grants a ticket, in its place.
+    pub fn grant_ticket(&mut self, seat: u8, ticket: u32, home: Home) -> Answer
+        requires seat { seat < self.old.seats }
+        requires ticket { ticket < 2 ^ 31 }
+        ensures answer { result ≡ Answer.GrantedTicket ticket }
+        ensures shows { Shows self.old (after_ticket_grant self.old.seats (shown self.old) seat ticket home) self.new }
+    {
+        self.ticket_places[ticket as usize % self.seats as usize] = ticket + 1;
+        self.places[seat as usize] = home.place();
+        Answer::GrantedTicket(ticket)
+    }
+
+    /// Calls a seat, in its place.
+    pub fn grant_seat(&mut self, seat: u8, called: u8, home: Home) -> Answer
+        requires seat { seat < self.old.seats }
+        requires called { called < self.old.seats }
+        requires calls { (shown self.old).seat_place called < 2 ^ 31 }
+        ensures answer { result ≡ Answer.GrantedSeat called }
+        ensures shows { Shows self.old (after_seat_grant (shown self.old) seat called home) self.new }
+    {
+        self.seat_places[called as usize] += 1;
+        self.places[seat as usize] = home.place();
+        Answer::GrantedSeat(called)
+    }
+}
+
+/// Where a seat stands that drew this ticket, and found so many not passed on.
+fn arrived(ticket: u32, found: u32) -> Place
+    ensures { result ≡ becomes.arrived ticket found }
+{
+    if found == 0 {
+        Place::Due(Source::Free(ticket))
+    } else {
+        Place::Ticket(ticket)
+    }
+}
+
+/// Where a seat stands that looked whether its ticket was granted.
+fn looked(ticket: u32, found: bool) -> Place
+    ensures { result ≡ becomes.looked ticket found }
+{
+    if found {
+        Place::Due(Source::Granted(ticket))
+    } else {
+        Place::Ticket(ticket)
+    }
+}
+
+/// Where a seat stands that looked whether it was called.
+fn answered(found: bool) -> Place
+    ensures { result ≡ becomes.answered found }
+{
+    if found {
+        Place::Due(Source::Called)
+    } else {
+        Place::Inner
+    }
+}
+
+/// How often a seat saw itself called after a look.
+fn counted(count: u32, found: bool) -> u32
+    requires { count < 2 ^ 31 }
+    ensures { result ≡ becomes.counted count found }
+{
+    if found { count + 1 } else { count }
+}
+
+/// Where a seat stands that took itself off the ticket word, where so many were drawn, and so many not passed on.
+fn dropped(drawn: u32, found: u32, home: Home) -> Place
+    requires some { 0 < found }
+    requires found { found ≤ drawn }
+    requires drawn { drawn < 2 ^ 31 }
+    ensures { result ≡ becomes.dropped drawn found home }
+{
+    if found == 1 {
+        home.place()
+    } else {
+        Place::Passing(drawn - found + 1, home)
+    }
+}
+
+/// Whether a seat knows of somebody at the entry after it found so many tickets not passed on.
+fn known_after(knew: bool, found: u32) -> bool
+    ensures { result ≡ (knew || nat_le 2 found) }
+{
+    knew || found >= 2
+}
+
+/// Where an active seat stands after a choice.
+fn after_choice(place: Place, next: Next, home: Home) -> Place
+    ensures { result ≡ (if is_stay (Some next) then place else Place.Back next home) }
+{
+    match next {
+        Next::Stay => place,
+        Next::Entry | Next::Waiter(_) | Next::Signaller(_) | Next::Until(_) => {
+            Place::Back(next, home)
+        }
+    }
+}

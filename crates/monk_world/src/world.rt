@@ -1,0 +1,287 @@
+ghost use Rattle.std.specs.Prelude.{◌≡◌, ℕ, ◌<◌, ◌&&◌, Bool, Option, Some, None, not, nat_lt, IfOk, IfErr, List, length, zip};
+ghost use Rattle.monk_floor.specs.Making.{refusal as make_refusal, IsRefused};
+ghost use Rattle.monk_floor.specs.View.{monitor_of};
+ghost use Rattle.monk_history.specs.Meaning.Counts.{left_of};
+ghost use Rattle.monk_history.specs.Meaning.Reasons.{IsAllowed};
+ghost use Rattle.monk_history.specs.Meaning.Turn.{turn};
+ghost use Rattle.monk_world.specs.State.{grown};
+ghost use Rattle.monk_history.specs.Meaning.Events.{is_call_of};
+ghost use Rattle.monk_history.specs.Meaning.Legal.{IsLegal};
+ghost use Rattle.monk_world.specs.Runs.{opening_state};
+ghost use Rattle.monk_world.specs.StepTable.{IsStep, IsDone, out_event, refusal, left_for, may_be_told, is_call_in_range, is_call_offered, call_of};
+ghost use Rattle.monk_world.specs.Telling.{IsLed};
+ghost use Rattle.monk_world.specs.Words.{state_of};
+
+use crate::answer::Answer;
+use crate::command::Command;
+use crate::home::Home;
+use crate::place::Place;
+use crate::source::Source;
+use crate::telling::{is_in_range, is_offered, left_for, may_be_told};
+use crate::words::Words;
+use monk_floor::{Floor, MakeFault};
+use monk_history::{Event, Next, Via};
+use monk_kinds::{Kind, Pick, rules_of};
+use monk_object::{Guarded, Op};
+use std::alloc::Global;
+use std::marker::Model;
+
+/// A monitor of kind `K` over an object `T` as words, places and one floor. Its seats change it by atomic steps, in
+/// whatever order it is told.
+///
+/// To contracts a world is its words, where each seat stands, and the floor's opening state, numbers and history.
+/// Every state that it is in is sound: the right to be active is in exactly one place, and the history is legal.
+#[derive(Drop)]
+pub struct World<K: Kind, T: Guarded> {
+    words: Words,
+    conds: u8,
+    floor: Floor<K, T>,
+}
+
+impl<K: Kind, T: Guarded> Model for World<K, T> {
+    ghost use Rattle.monk_world.specs.Kept.{IsKept};
+    ghost use Rattle.monk_world.specs.Words.{WorldView, view_in, state_of};
+
+    ghost Value = { WorldView };
+
+    ghost view = { λ w. view_in w.words w.floor };
+
+    ghost invariant = { λ w. IsKept K.rules T.meaning w.words.seats w.conds (state_of (view_in w.words w.floor)) };
+}
+
+impl<K: Kind, T: Guarded> World<K, T> {
+    /// A world over an object, before any step: 1 to 32 seats, at most 8 condition variables, and 2 to 2^20 events for
+    /// each seat.
+    ///
+    /// The first fault that applies is answered, want of memory last; the object is dropped with it. Takes memory for
+    /// `seats * budget` events, all queues and all words at once; no later call takes any.
+    pub fn make(
+        alloc: Global,
+        object: T,
+        seats: u8,
+        conds: u8,
+        budget: u32,
+    ) -> Result<World<K, T>, MakeFault>
+        ensures made { IfOk result (λ w. (make_refusal seats conds budget ≡ None) × (state_of w ≡ opening_state (T.state object) seats conds budget)) }
+        ensures refused { IfErr result (λ e. IsRefused seats conds budget e) }
+    {
+        let floor = Floor::make(alloc, object, seats, conds, budget)?;
+        let words = Words::make(alloc, seats)?;
+        Ok(World {
+            words,
+            conds,
+            floor,
+        })
+    }
+
+    /// The history, which is always legal.
+    pub fn history(&self) -> &[Event]
+        ensures history { result.now ≡ self.now.floor.history }
+        ensures legal { IsLegal (monitor_of K.rules T.meaning self.now.floor) self.now.floor.history }
+    {
+        self.floor.history()
+    }
+
+    /// Tells a seat to do this. Where it can't, the first refusal that applies is answered, and nothing has changed:
+    /// `Range` where seat, condition, predicate or code is out of range, `NoCall` where the kind has no such call,
+    /// `NotNow` where the seat stands elsewhere, and `Tired` where too few events are left to it: an arrival and an act
+    /// need 2, a wait, a signal and an until 3; a leave and a signal-leave always have theirs.
+    ///
+    /// Takes no memory. Costs what the floor's call costs, else constant time.
+    pub fn step(&mut self, seat: u8, command: Command) -> Answer
+        ensures { IsStep K.rules T.meaning (state_of self.old) seat command result (state_of self.new) }
+    {
+        if let Some(refused) = self.refusal(seat, command) {
+            return refused;
+        }
+        match command {
+            Command::Arrive => self.arrive(seat),
+            Command::Look => self.look(seat),
+            Command::Out => self.come_out(seat),
+            Command::Peek => self.peek(seat),
+            Command::Drop => self.take_off(seat),
+            Command::Grant => self.grant(seat),
+            Command::Act(op) => self.act(seat, op),
+            Command::Leave(pick) => self.leave(seat, pick),
+            Command::Wait(cond, pick) => self.wait(seat, cond, pick),
+            Command::Signal(cond, pick) => self.signal(seat, cond, pick),
+            Command::SignalLeave(cond, pick) => self.signal_leave(seat, cond, pick),
+            Command::Until(pred, pick) => self.until(seat, pred, pick),
+        }
+    }
+
+    /// Takes these steps in order, and goes on after a refusal.
+    pub fn run(&mut self, commands: &[(u8, Command)])
+        ensures { IsLed K.rules T.meaning (state_of self.old) commands.now (state_of self.new) }
+    {
+        for (seat, command) in commands {
+            self.step(*seat, *command);
+        }
+    }
+
+    /// The first refusal that applies.
+    fn refusal(&self, seat: u8, command: Command) -> Option<Answer>
+        ensures { result ≡ refusal K.rules T.meaning (state_of self.now) seat command }
+    {
+        if seat >= self.words.seats {
+            return Some(Answer::Range);
+        }
+        if !is_in_range(command, self.conds, T::CODES, T::PREDICATES) {
+            return Some(Answer::Range);
+        }
+        if !is_offered(rules_of::<K>().mode, command) {
+            return Some(Answer::NoCall);
+        }
+        if !may_be_told(self.words.place(seat), command) {
+            return Some(Answer::NotNow);
+        }
+        if self.floor.left(seat) < left_for(command) {
+            return Some(Answer::Tired);
+        }
+        None
+    }
+
+    /// Draws a ticket.
+    fn arrive(&mut self, seat: u8) -> Answer
+        requires { refusal K.rules T.meaning (state_of self.old) seat Command.Arrive ≡ None }
+        ensures { IsDone K.rules T.meaning (state_of self.old) seat ((state_of self.old).world.place seat) Command.Arrive result (state_of self.new) }
+    {
+        self.words.arrive(seat)
+    }
+
+    /// Looks whether the right was handed over.
+    fn look(&mut self, seat: u8) -> Answer
+        requires { refusal K.rules T.meaning (state_of self.old) seat Command.Look ≡ None }
+        ensures { IsDone K.rules T.meaning (state_of self.old) seat ((state_of self.old).world.place seat) Command.Look result (state_of self.new) }
+    {
+        match self.words.place(seat) {
+            Place::Ticket(ticket) => self.words.look_for_ticket(seat, ticket),
+            Place::Inner => self.words.look_for_call(seat),
+            _ => unreachable!(),
+        }
+    }
+
+    /// Takes the floor, which records the enter or the resume.
+    fn come_out(&mut self, seat: u8) -> Answer
+        requires { refusal K.rules T.meaning (state_of self.old) seat Command.Out ≡ None }
+        ensures { IsDone K.rules T.meaning (state_of self.old) seat ((state_of self.old).world.place seat) Command.Out result (state_of self.new) }
+    {
+        match self.words.place(seat) {
+            Place::Due(source) => {
+                record(&mut self.floor, seat, source);
+                self.words.come_out(seat, source)
+            }
+            _ => unreachable!(),
+        }
+    }
+
+    /// Looks how many tickets are not passed on.
+    fn peek(&mut self, seat: u8) -> Answer
+        requires { refusal K.rules T.meaning (state_of self.old) seat Command.Peek ≡ None }
+        ensures { IsDone K.rules T.meaning (state_of self.old) seat ((state_of self.old).world.place seat) Command.Peek result (state_of self.new) }
+    {
+        match self.words.place(seat) {
+            Place::Active(_) => self.words.peek(seat),
+            _ => Answer::Found(self.words.unpassed),
+        }
+    }
+
+    /// Takes the seat off the ticket word.
+    fn take_off(&mut self, seat: u8) -> Answer
+        requires { refusal K.rules T.meaning (state_of self.old) seat Command.Drop ≡ None }
+        ensures { IsDone K.rules T.meaning (state_of self.old) seat ((state_of self.old).world.place seat) Command.Drop result (state_of self.new) }
+    {
+        match self.words.place(seat) {
+            Place::Back(_, home) => self.words.take_off(seat, home),
+            _ => unreachable!(),
+        }
+    }
+
+    /// Grants the right to the ticket or the seat that is next.
+    fn grant(&mut self, seat: u8) -> Answer
+        requires { refusal K.rules T.meaning (state_of self.old) seat Command.Grant ≡ None }
+        ensures { IsDone K.rules T.meaning (state_of self.old) seat ((state_of self.old).world.place seat) Command.Grant result (state_of self.new) }
+    {
+        match self.words.place(seat) {
+            Place::Passing(ticket, home) => self.words.grant_ticket(seat, ticket, home),
+            Place::Back(Next::Waiter(called), home) => self.words.grant_seat(seat, called, home),
+            Place::Back(Next::Signaller(called), home) => self.words.grant_seat(seat, called, home),
+            Place::Back(Next::Until(called), home) => self.words.grant_seat(seat, called, home),
+            _ => unreachable!(),
+        }
+    }
+
+    /// Carries an operation out on the object.
+    fn act(&mut self, seat: u8, op: Op) -> Answer
+        requires { refusal K.rules T.meaning (state_of self.old) seat (Command.Act op) ≡ None }
+        ensures { IsDone K.rules T.meaning (state_of self.old) seat ((state_of self.old).world.place seat) (Command.Act op) result (state_of self.new) }
+    {
+        Answer::Reply(self.floor.act(seat, op))
+    }
+
+    /// Leaves the monitor.
+    fn leave(&mut self, seat: u8, pick: Pick) -> Answer
+        requires { refusal K.rules T.meaning (state_of self.old) seat (Command.Leave pick) ≡ None }
+        ensures { IsDone K.rules T.meaning (state_of self.old) seat ((state_of self.old).world.place seat) (Command.Leave pick) result (state_of self.new) }
+    {
+        let known = self.words.knows(seat);
+        let next = self.floor.plain_leave(seat, pick, known);
+        self.words.go_home(seat, next, Home::Idle)
+    }
+
+    /// Waits on a condition.
+    fn wait(&mut self, seat: u8, cond: u8, pick: Pick) -> Answer
+        requires { refusal K.rules T.meaning (state_of self.old) seat (Command.Wait cond pick) ≡ None }
+        ensures { IsDone K.rules T.meaning (state_of self.old) seat ((state_of self.old).world.place seat) (Command.Wait cond pick) result (state_of self.new) }
+    {
+        let known = self.words.knows(seat);
+        let next = self.floor.plain_wait(seat, cond, pick, known);
+        self.words.go_home(seat, next, Home::Inner)
+    }
+
+    /// Signals a condition.
+    fn signal(&mut self, seat: u8, cond: u8, pick: Pick) -> Answer
+        requires { refusal K.rules T.meaning (state_of self.old) seat (Command.Signal cond pick) ≡ None }
+        ensures { IsDone K.rules T.meaning (state_of self.old) seat ((state_of self.old).world.place seat) (Command.Signal cond pick) result (state_of self.new) }
+    {
+        let known = self.words.knows(seat);
+        let next = self.floor.plain_signal(seat, cond, pick, known);
+        self.words.go_home(seat, next, Home::Inner)
+    }
+
+    /// Signals a condition and leaves the monitor.
+    fn signal_leave(&mut self, seat: u8, cond: u8, pick: Pick) -> Answer
+        requires { refusal K.rules T.meaning (state_of self.old) seat (Command.SignalLeave cond pick) ≡ None }
+        ensures { IsDone K.rules T.meaning (state_of self.old) seat ((state_of self.old).world.place seat) (Command.SignalLeave cond pick) result (state_of self.new) }
+    {
+        let known = self.words.knows(seat);
+        let next = self.floor.plain_signal_leave(seat, cond, pick, known);
+        self.words.go_home(seat, next, Home::Idle)
+    }
+
+    /// Waits until a predicate holds.
+    fn until(&mut self, seat: u8, pred: u8, pick: Pick) -> Answer
+        requires { refusal K.rules T.meaning (state_of self.old) seat (Command.Until pred pick) ≡ None }
+        ensures { IsDone K.rules T.meaning (state_of self.old) seat ((state_of self.old).world.place seat) (Command.Until pred pick) result (state_of self.new) }
+    {
+        let known = self.words.knows(seat);
+        let next = self.floor.plain_until(seat, pred, pick, known);
+        self.words.go_home(seat, next, Home::Inner)
+    }
+}
+
+/// The event with which the floor comes out to a seat.
+fn record<K: Kind, T: Guarded>(floor: &mut Floor<K, T>, seat: u8, source: Source)
+    requires allowed { IsAllowed (monitor_of K.rules T.meaning floor.old) floor.old.history (out_event seat source (turn floor.old.history)) }
+    requires seat { seat < floor.old.seats }
+    requires left { 0 < left_of floor.old.budget floor.old.history seat }
+    ensures { floor.new ≡ grown floor.old (out_event seat source (turn floor.old.history)) }
+{
+    match source {
+        Source::Free(_) => floor.enter(seat, Via::Free),
+        Source::Granted(_) => floor.enter(seat, Via::Handed),
+        Source::Called => {
+            floor.resume(seat);
+        }
+    }
+}
