@@ -1,12 +1,11 @@
 //! The line that answers an input, and its status.
 
-ghost use Rattle.std.specs.Prelude.{◌≡◌, ◌≤◌, ◌^◌, length, IfOk, IsErrOf, string_bytes};
-ghost use Rattle.monk_history.specs.Text.Reading.{history};
-ghost use Rattle.monk.specs.Answer.{answer_of, audit_answer, verdict_answer, reason_word, fault_word};
+ghost use Rattle.std.specs.Prelude.{◌≡◌, IfOk, IsErrOf, string_bytes};
+ghost use Rattle.monk.specs.Answer.{answer_of, verdict_answer, unreadable, reason_word, fault_word};
 
 use crate::fault::StreamFault;
-use monk_audit::{AuditFault, Verdict, audit};
-use monk_history::{Event, Header, ReadFault, read};
+use monk_audit::{TextVerdict, Verdict, audit_text};
+use monk_history::ReadFault;
 use std::alloc::Global;
 
 /// A line, and the status that goes with it.
@@ -21,17 +20,24 @@ pub(crate) fn answer_to(alloc: Global, bytes: &[u8]) -> Result<Answer, StreamFau
     ensures answer { IfOk result (λ a. (a.status ≡ (answer_of bytes.now).status) × (string_bytes a.text ≡ (answer_of bytes.now).text)) }
     ensures no_file { IsErrOf result StreamFault.File → ⊥ }
 {
-    match read(alloc, bytes) {
-        Ok((header, events)) => audit_answer(alloc, &header, &events),
-        Err(fault) => {
-            if fault.number == ReadFault::MEMORY {
-                return Err(StreamFault::Memory);
-            }
-            let word = fault_word(fault.number);
-            let text = format!(in alloc; "unreadable {} {} {word}\n", fault.line, fault.number)?;
+    match audit_text(alloc, bytes) {
+        Ok(TextVerdict::Judged(verdict)) => verdict_answer(alloc, verdict),
+        Ok(TextVerdict::TooBig) => {
+            let text = String::from_str(alloc, "object\n")?;
             Ok(Answer { status: 2, text })
         }
+        Err(fault) if fault.number == ReadFault::MEMORY => Err(StreamFault::Memory),
+        Err(fault) => unreadable_answer(alloc, fault),
     }
+}
+
+fn unreadable_answer(alloc: Global, fault: ReadFault) -> Result<Answer, StreamFault>
+    ensures answer { IfOk result (λ a. let j = unreadable fault in (a.status ≡ j.status) × (string_bytes a.text ≡ j.text)) }
+    ensures no_file { IsErrOf result StreamFault.File → ⊥ }
+{
+    let word = fault_word(fault.number);
+    let text = format!(in alloc; "unreadable {} {} {word}\n", fault.line, fault.number)?;
+    Ok(Answer { status: 2, text })
 }
 
 fn fault_word(number: u8) -> &'static str
@@ -56,21 +62,6 @@ fn reason_word(reason: u8) -> &'static str
         Verdict::PLACE => "place",
         Verdict::REPLY => "reply",
         _ => "choice",
-    }
-}
-
-fn audit_answer(alloc: Global, header: &Header, events: &[Event]) -> Result<Answer, StreamFault>
-    requires { length events.now ≤ 2 ^ 25 }
-    ensures answer { IfOk result (λ a. let j = audit_answer (history header.now events.now) in (a.status ≡ j.status) × (string_bytes a.text ≡ j.text)) }
-    ensures no_file { IsErrOf result StreamFault.File → ⊥ }
-{
-    match audit(alloc, header, events) {
-        Ok(verdict) => verdict_answer(alloc, verdict),
-        Err(AuditFault::Object) => {
-            let text = String::from_str(alloc, "object\n")?;
-            Ok(Answer { status: 2, text })
-        }
-        Err(AuditFault::Memory) => Err(StreamFault::Memory),
     }
 }
 

@@ -25,8 +25,8 @@ use std::io::{Read, Write};
 ///
 /// # Cost
 ///
-/// One pass over the text and one over the events, each in time independent of how long the history is; memory for the
-/// text, for 24 bytes an event, and for the queues.
+/// One pass over the text, in which each event takes time independent of how long the history is; memory for the text and
+/// for the queues.
 pub fn audit_stream<R: Read, W: Write>(
     alloc: Global,
     reader: &mut Device<R>,

@@ -1,3 +1,5 @@
+mod refused;
+
 use super::*;
 use std::process::Abort;
 use std::test::Fail;

@@ -9,7 +9,7 @@ use Rattle.monk_history.specs.Text.Faults.{end_fault}
 use Rattle.monk_history.specs.Text.Words.{◌>>=◌, Word, Taken, words_of}
 use Rattle.monk_history.specs.Text.Lines.{line, lines_of, numbered, item_line, headed, header_line, items_at, lines_at}
 use Rattle.monk_history.proofs.TextLaws.LineCuts.{AreWords, words_of-words, lines_of-line}
-use Rattle.monk_history.proofs.TextLaws.LineSteps.{some_part, one_line, too_long, last_part, both_parts}
+use Rattle.monk_history.proofs.TextLaws.LineSteps.{some_part, one_line, too_long, last_part, left_of, some_header, both_parts}
 use Rattle.monk_history.proofs.TextLaws.WordReaders.{bind_ok}
 
 -- how an item is written, and how it is read
@@ -116,7 +116,7 @@ module _ {H A : Type 0} (head_words : H → List Word) (head : List Word → Tak
   text_again limit h es head_fits fit le =
       let rest : List ℕ = flat_map (λ e. line (words e)) es in
       let cut : lines_of (text_with h es) ≡ join_with_byte 32 (head_words h) ∷ lines_of rest = lines_of-line (head_words h) rest (head_format.plain h head_fits) in
-      both_parts head parse limit (text_with h es) (join_with_byte 32 (head_words h)) rest h es cut (sym (header_again h head_fits)) (items_again words (parse h) (Fits h) (formats h) es limit 2 fit le)
+      both_parts head parse limit (lines_of (text_with h es)) h (left_of rest 2 limit) es (some_header head limit (text_with h es) (join_with_byte 32 (head_words h)) rest h cut (sym (header_again h head_fits))) (items_again words (parse h) (Fits h) (formats h) es limit 2 fit le)
 
   header_takes : (l : List ℕ) (h : H) → header_line head l ≡ Ok h → (l ++ 10 ∷ [] ≡ line (head_words h)) × HeadFits h
   header_takes l h e =

@@ -1,0 +1,21 @@
+use Rattle.std.proofs.Common.{◌≡◌, subst, sym, Result, arith}
+use Rattle.std.proofs.lemmas.Result.{err_from_is_err_and}
+use Rattle.monk_history.specs.Text.Lines.{Gives, lines_of}
+use Rattle.monk_history.specs.Text.Reading.{header_at}
+use Rattle.monk_history.specs.declared.text.fault.ReadFault.{ReadFault}
+use Rattle.monk_audit.specs.Reading.{same}
+use Rattle.monk_audit.specs.declared.text_verdict.TextVerdict.{TextVerdict}
+use Rattle.monk_audit.proofs.ReadingLaws.{not_opened_text, opened_text, opened_room}
+use Rattle.monk_audit.proofs.reading.audit_text.Goals as goal
+
+pub returns-in_err-header : goal.returns-in_err-header
+returns-in_err-header c =
+    let p = err_from_is_err_and c.from_residual.result c.from_residual.ensures.1 in
+    rw (p.1, p.2) (λ memory. not_opened_text c.args.bytes.now c.in_err-header.field-0.0 c.in_err-header.ensures)
+
+pub audit_lines-requires : goal.audit_lines-requires
+audit_lines-requires c = omega (arith, opened_room header_at 33554432 (lines_of c.args.bytes.now) (c.in_ok-header.header, c.in_ok-header.lines) c.in_ok-header.ensures)
+
+pub returns : goal.returns
+returns c =
+    subst (λ (r : Result TextVerdict ReadFault). Gives same c.audit_lines.result r) (sym (opened_text c.args.bytes.now c.in_ok-header.header c.in_ok-header.lines c.in_ok-header.ensures)) c.audit_lines.ensures

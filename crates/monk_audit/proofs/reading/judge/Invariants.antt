@@ -1,0 +1,21 @@
+use Rattle.std.proofs.Common.{◌≡◌, ◌≤◌, ◌<◌, ◌+◌, All, length}
+use Rattle.monk_history.specs.Meaning.Monitor.{monitor}
+use Rattle.monk_history.specs.Text.Lines.{items_left}
+use Rattle.monk_history.specs.Text.Reading.{event_at}
+use Rattle.monk_audit.specs.Replay.{shown}
+use Rattle.monk_audit.specs.Reading.{verdict_read, judged}
+use Rattle.monk_audit.proofs.reading.judge.Given as goal
+
+abbrev pub invariant-loop-replay : goal.invariant-loop-replay
+invariant-loop-replay g l =
+    let m = monitor l.rules l.header.seats l.header.conds g.T.Guarded.meaning (g.T.Guarded.state l.fn.object) in
+    record {
+      so_far : verdict_read m l.count (shown l.replay (g.T.Guarded.state l.object)) (items_left event_at l.lines) ≡ judged m (items_left event_at l.fn.lines);
+      room : l.count + l.lines.room ≤ l.fn.lines.room;
+      seats : length l.replay.inside.items ≡ l.header.seats;
+      conds : length l.replay.conditions.items ≡ l.conds;
+      preds : All (λ w. w.1 < g.T.Guarded.PREDICATES) l.replay.untils.items;
+    }
+
+abbrev pub decreases-loop-replay : goal.decreases-loop-replay
+decreases-loop-replay g l = l.lines.room

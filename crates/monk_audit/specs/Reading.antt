@@ -1,0 +1,51 @@
+-- The verdict on a history whose events are judged as they are read
+use Rattle.std.specs.Prelude.{ℕ, ◌+◌, ◌^◌, List, [], ◌∷◌, Result, Ok, nat_lt, ◌==◌, if◌then◌else◌}
+use Rattle.monk_object.specs.Names.{most}
+use Rattle.monk_history.specs.Text.{Heading}
+use Rattle.monk_history.specs.Text.Words.{◌>>=◌}
+use Rattle.monk_history.specs.Text.Reading.{History, history, text_at}
+use Rattle.monk_history.specs.declared.text.fault.ReadFault.{ReadFault}
+use Rattle.monk_history.specs.Meaning.Monitor.{Monitor}
+use Rattle.monk_history.specs.Meaning.Situation.{Situation}
+use Rattle.monk_history.specs.Meaning.Reasons.{reason_in}
+use Rattle.monk_history.specs.Meaning.Step.{after}
+use Rattle.monk_history.specs.Meaning.Named.{monitor_of}
+use Rattle.monk_history.specs.declared.event.Event.{Event}
+use Rattle.monk_audit.specs.Verdict.{verdict_of}
+use Rattle.monk_audit.specs.declared.verdict.Verdict.{Verdict}
+use Rattle.monk_audit.specs.declared.verdict.Verdict.TheVariants.{Legal, Forbidden}
+use Rattle.monk_audit.specs.declared.text_verdict.TextVerdict.{TextVerdict}
+use Rattle.monk_audit.specs.declared.text_verdict.TextVerdict.TheVariants.{Judged, TooBig}
+
+-- the verdict of the events to come, after so many that were found legal, in that situation; that it is the verdict on
+-- the whole history is the law `verdict_at_is`
+unfoldable pub verdict_at : Monitor → ℕ → Situation → List Event → Verdict
+verdict_at m n t [] = Legal n
+verdict_at m n t (e ∷ es) = if reason_in m t e == 0 then verdict_at m (n + 1) (after m.object t e) es else Forbidden (n + 1) (reason_in m t e)
+
+-- the same of events that are still to be read
+abbrev pub verdict_read : Monitor → ℕ → Situation → Result (List Event) ReadFault → Result Verdict ReadFault
+verdict_read m n t read = read >>= λ es. Ok (verdict_at m n t es)
+
+-- the verdict of a monitor on the events that are read, unless a fault is
+abbrev pub judged : Monitor → Result (List Event) ReadFault → Result Verdict ReadFault
+judged m read = read >>= λ es. Ok (verdict_of m es)
+
+-- of a history, for the monitor that its header names
+abbrev pub history_verdict : History → TextVerdict
+history_verdict h = if nat_lt (most h.0.object) h.0.size then TooBig else Judged (verdict_of (monitor_of h.0) h.1)
+
+-- of the events behind a header
+abbrev pub lines_verdict : Heading → Result (List Event) ReadFault → Result TextVerdict ReadFault
+lines_verdict h read = read >>= λ es. Ok (history_verdict (history h es))
+
+abbrev pub text_verdict : List ℕ → Result TextVerdict ReadFault
+text_verdict bytes = text_at (2 ^ 25) bytes >>= λ h. Ok (history_verdict h)
+
+-- whether the events can all be read
+abbrev pub read_through : Result (List Event) ReadFault → Result (Unit {0}) ReadFault
+read_through read = read >>= λ es. Ok tt
+
+-- of what a function returned, as it is
+abbrev pub same : {X : Type 0} → X → X
+same x = x

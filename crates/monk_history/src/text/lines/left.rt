@@ -1,0 +1,104 @@
+//! The lines of a text behind its first, read one after the other.
+
+ghost use Rattle.std.specs.Prelude.{◌≡◌, ◌≤◌, ◌+◌, ◌^◌, IfOk, IfSome};
+ghost use Rattle.monk_history.specs.Text.Lines.{IsNextItem, items_left, opened_at, lines_of, item_line, header_line};
+
+use crate::text::fault::ReadFault;
+use crate::text::lines::record::{Head, Record};
+use crate::text::lines::split::split_once;
+use crate::text::lines::words::Words;
+use std::marker::Model;
+
+/// The most lines behind the header that a limit may allow: 2^25.
+pub const MOST_LINES: u32 = 1 << 25;
+
+/// The lines of a text that are not yet read. Contracts see the lines, the number of the first of them, and for how
+/// many there is room.
+#[derive(Drop)]
+pub struct ItemLines<'a> {
+    rest: &'a [u8],
+    number: u32,
+    room: u32,
+}
+
+impl<'a> Model for ItemLines<'a> {
+    ghost use Rattle.std.specs.Prelude.{◌+◌, ◌≤◌, ◌^◌};
+    ghost use Rattle.monk_history.specs.Text.Lines.{LinesLeft, lines_of};
+
+    ghost Value = { LinesLeft };
+
+    ghost view = { λ l. record { lines = lines_of l.rest.now; number = l.number; room = l.room } };
+
+    ghost invariant = { λ l. l.number + l.room ≤ 2 ^ 25 + 2 };
+}
+
+impl<'a> ItemLines<'a> {
+    /// The header of the text, and its other lines, of which at most `limit` may be read.
+    ///
+    /// A text with no finished line has the fault `END`, or `HEADER` where it is empty.
+    #[tactic(auto, unfolding(crate::specs::Text::Lines::opened_at))]
+    pub fn open<H: Head>(bytes: &'a [u8], limit: u32) -> Result<(H, ItemLines<'a>), ReadFault>
+        requires { limit ≤ MOST_LINES }
+        ensures { result ≡ opened_at H.parse limit (lines_of bytes.entry.now) }
+    {
+        let Some((first, rest)) = split_once(bytes, b'\n') else {
+            let number = if bytes.is_empty() {
+                ReadFault::HEADER
+            } else {
+                ReadFault::END
+            };
+            return Err(ReadFault::at(number, 1));
+        };
+        let header: H = header_of(first)?;
+        let lines = ItemLines {
+            rest,
+            number: 2,
+            room: limit,
+        };
+        Ok((header, lines))
+    }
+
+    /// Reads the next line; `None` where the text has ended. After an error nothing is said of what is left.
+    #[inline(always)]
+    pub fn next<H, A: Record<H>>(&mut self, header: &H) -> Result<Option<A>, ReadFault>
+        ensures item { IsNextItem result (items_left (A.parse header.now) self.old) (items_left (A.parse header.now) self.new) }
+        ensures room { IfOk result (λ x. IfSome x (λ _. self.new.room + 1 ≡ self.old.room)) }
+    {
+        let Some((line, after)) = split_once(self.rest, b'\n') else {
+            return if self.rest.is_empty() {
+                Ok(None)
+            } else {
+                Err(ReadFault::at(ReadFault::END, self.number))
+            };
+        };
+        if self.room == 0 {
+            return Err(ReadFault::at(ReadFault::LONG, self.number));
+        }
+        let item: A = item_of(header, line, self.number)?;
+        self.rest = after;
+        self.number += 1;
+        self.room -= 1;
+        Ok(Some(item))
+    }
+}
+
+fn header_of<H: Head>(line: &[u8]) -> Result<H, ReadFault>
+    ensures { result ≡ header_line H.parse line.now }
+{
+    let mut words = Words::of(line);
+    match H::parse(&mut words) {
+        Ok(header) => Ok(header),
+        Err(_) => Err(ReadFault::at(ReadFault::HEADER, 1)),
+    }
+}
+
+#[inline(always)]
+fn item_of<H, A: Record<H>>(header: &H, line: &[u8], number: u32) -> Result<A, ReadFault>
+    ensures { result ≡ item_line (A.parse header.now) number line.now }
+{
+    let mut words = Words::of(line);
+    match A::parse(header, &mut words) {
+        Ok(item) => Ok(item),
+        Err(flaw) => Err(flaw.at(number)),
+    }
+}
