@@ -1,5 +1,5 @@
 -- What stands at the front of a line is its next word where the line ends behind it, or a byte 32 follows.
-use Rattle.std.proofs.Common.{◌≡◌, ◌==◌, ◌≢◌, ℕ, ◌-◌, ◌≤◌, Bool, true, false, List, [], ◌∷◌, ◌++◌, length, take, drop, refl, sym, ap, ◌∙◌, arith}
+use Rattle.std.proofs.Common.{◌≡◌, ◌==◌, ◌≢◌, ℕ, ◌+◌, ◌-◌, ◌*◌, ◌/◌, ◌%◌, ◌^◌, ◌<◌, ◌≤◌, Bool, true, false, List, [], ◌∷◌, ◌++◌, length, take, drop, refl, sym, ap, ◌∙◌, append_assoc, arith}
 use Rattle.std.specs.Char.{IsAsciiDigit}
 use Rattle.std.specs.Fmt.{decimal}
 use Rattle.std.specs.List.{join_with_byte}
@@ -7,10 +7,10 @@ use Rattle.std.proofs.Math.Seq.{take-append_seam, drop-append_seam}
 use Rattle.std.proofs.lemmas.List.{append-nil}
 use Rattle.std.proofs.lemmas.List.Splits.{join_with_byte-slice_split}
 use Rattle.std.proofs.lemmas.Bool.Decides.{nat_tests}
-use Rattle.std.proofs.lemmas.Fmt.{decimal_digit}
+use Rattle.std.proofs.lemmas.Fmt.{decimal_digit, decimal_step}
 use Rattle.std.proofs.lemmas.Slice.Eq.{bytes_eq-Decides}
 use Rattle.monk_history.specs.Text.Words.{Word, words_of, is_unbroken, is_next}
-use Rattle.monk_history.proofs.TextLaws.LineCuts.{cut_at, cut_none}
+use Rattle.monk_history.proofs.TextLaws.LineCuts.{cut_at, cut_none, no_space, IsWord-decimal}
 
 pub words-last : (word : Word) → is_unbroken word ≡ true → words_of (word ++ []) ≡ word ∷ []
 words-last word plain = ap words_of (append-nil word) ∙ cut_none (λ b. b == 32) word plain
@@ -52,16 +52,33 @@ is_next-longer word rest c ne =
     let first : c ∷ rest ≡ 32 ∷ h2.0 = same ∙ h2.1 in
     ne (cc))
 
--- ---- a word of one digit
-
-digit-unbroken : (d : ℕ) → 48 ≤ d → is_unbroken (d ∷ []) ≡ true
-digit-unbroken d low = grind (arith, nat_tests)
+-- ---- a number, digit by digit
 
 decimal-byte : (d : ℕ) → 48 ≤ d → d ≤ 57 → decimal (d - 48) ≡ d ∷ []
 decimal-byte d low high = decimal_digit (d - 48) (omega arith) ∙ ap (λ n. n ∷ []) (omega arith)
 
-pub digit-first : (d : ℕ) (line behind : List ℕ) (left : List Word) → line ≡ d ∷ behind → IsAsciiDigit d → (is_unbroken (d ∷ []) ≡ true → words_of ((d ∷ []) ++ behind) ≡ (d ∷ []) ∷ left) → (words_of line ≡ decimal (d - 48) ∷ left) × (d - 48 ≤ 9)
-digit-first d line behind left is digit cut =
-    let low : 48 ≤ d = omega arith in
-    let high : d ≤ 57 = omega arith in
-    (ap words_of is ∙ cut (digit-unbroken d low) ∙ ap (λ (w : Word). w ∷ left) (sym (decimal-byte d low high)), omega arith)
+pub digit-first : (d : ℕ) (line behind : List ℕ) → line ≡ d ∷ behind → IsAsciiDigit d → line ≡ decimal (d - 48) ++ behind
+digit-first d line behind is digit = is ∙ ap (λ (w : List ℕ). w ++ behind) (sym (decimal-byte d (omega arith) (omega arith)))
+
+last-digit : (n d : ℕ) → 48 ≤ d → d ≤ 57 → 0 < n → n < 2 ^ 59 → decimal (n * 10 + (d - 48)) ≡ decimal n ++ d ∷ []
+last-digit n d low high some lt =
+    let front : (n * 10 + (d - 48)) / 10 ≡ n = omega arith in
+    let last : 48 + (n * 10 + (d - 48)) % 10 ≡ d = omega arith in
+    decimal_step (n * 10 + (d - 48)) (omega arith) (omega arith)
+    ∙ (ap (λ k. decimal k ++ (48 + (n * 10 + (d - 48)) % 10) ∷ []) front ∙ ap (λ k. decimal n ++ k ∷ []) last)
+
+pub digit-more : (n d : ℕ) (line rest behind : List ℕ) → line ≡ decimal n ++ rest → rest ≡ d ∷ behind → IsAsciiDigit d → n ≢ 0 → n < 2 ^ 59 → line ≡ decimal (n * 10 + (d - 48)) ++ behind
+digit-more n d line rest behind so_far is digit some lt =
+    so_far ∙ (ap (λ (r : List ℕ). decimal n ++ r) is
+    ∙ (sym (append_assoc (decimal n) (d ∷ []) behind)
+    ∙ ap (λ (w : List ℕ). w ++ behind) (sym (last-digit n d (omega arith) (omega arith) (omega arith) lt))))
+
+number-unbroken : (n : ℕ) → n < 2 ^ 64 → is_unbroken (decimal n) ≡ true
+number-unbroken n lt = no_space (decimal n) (IsWord-decimal n lt)
+
+pub number-last : (n : ℕ) (line rest : List ℕ) → line ≡ decimal n ++ rest → rest ≡ [] → n < 2 ^ 64 → words_of line ≡ decimal n ∷ []
+number-last n line rest so_far none lt = ap words_of (so_far ∙ ap (λ (r : List ℕ). decimal n ++ r) none) ∙ words-last (decimal n) (number-unbroken n lt)
+
+pub number-ends : (n d : ℕ) (line rest behind : List ℕ) → line ≡ decimal n ++ rest → rest ≡ d ∷ behind → d ≡ 32 → n < 2 ^ 64 → words_of line ≡ decimal n ∷ words_of behind
+number-ends n d line rest behind so_far is space lt =
+    ap words_of (so_far ∙ (ap (λ (r : List ℕ). decimal n ++ r) is ∙ ap (λ k. decimal n ++ k ∷ behind) space)) ∙ words-more (decimal n) behind (number-unbroken n lt)

@@ -19,6 +19,7 @@ impl Record<Header> for Event {
 
     ghost parse = { event_under };
 
+    #[inline(always)]
     fn parse(_header: &Header, words: &mut Words<'_>) -> Result<Event, Flaw>
         ensures { Reads result words.new (event_at words.old) }
     {

@@ -1,6 +1,6 @@
 //! The front of a line, where what may stand there is known. Words are short, so their bytes are compared one by one.
 
-ghost use Rattle.std.specs.Prelude.{◌≡◌, ◌≢◌, ◌≤◌, ◌∷◌, ◌++◌, true, false, MatchOption, IfSome, length, take, decimal};
+ghost use Rattle.std.specs.Prelude.{◌≡◌, ◌≢◌, ◌∷◌, ◌++◌, true, false, MatchOption, IfSome, length, take, decimal};
 ghost use Rattle.std.specs.Option.{option_copied};
 ghost use Rattle.monk_history.specs.Text.Words.{Word, words_of, words_left, is_unbroken, is_next};
 
@@ -17,17 +17,31 @@ pub(crate) fn left_behind_word<'a>(line: &'a [u8], word: &[u8]) -> Option<Option
     Some(left)
 }
 
-/// The first word of the line where it is a single digit, and what is left of the line behind it.
+/// What a number must be below for one digit more.
+const ROOM_FOR_A_DIGIT: u64 = 1 << 59;
+
+/// The first word of the line where it is a number of no more than seventeen digits, and what is left of the line behind it.
 #[inline(always)]
-pub(crate) fn left_behind_digit(line: &[u8]) -> Option<(u8, Option<&[u8]>)>
-    ensures { IfSome result (λ x. (words_of line.now ≡ decimal x.0 ∷ words_left (option_copied x.1)) × (x.0 ≤ 9)) }
+pub(crate) fn left_behind_number(line: &[u8]) -> Option<(u64, Option<&[u8]>)>
+    ensures { IfSome result (λ x. words_of line.now ≡ decimal x.0 ∷ words_left (option_copied x.1)) }
 {
-    let (digit, behind) = line.split_first()?;
-    if !digit.is_ascii_digit() {
+    let (first, behind) = line.split_first()?;
+    if !first.is_ascii_digit() {
         return None;
     }
-    let left = left_behind(behind)?;
-    Some((*digit - b'0', left))
+    let mut number = u64::from(*first - b'0');
+    let mut rest = behind;
+    while let Some((next, behind)) = rest.split_first() {
+        if *next == b' ' {
+            return Some((number, Some(behind)));
+        }
+        if !next.is_ascii_digit() || number == 0 || number >= ROOM_FOR_A_DIGIT {
+            return None;
+        }
+        number = number * 10 + u64::from(*next - b'0');
+        rest = behind;
+    }
+    Some((number, None))
 }
 
 /// What stands behind the word, where the bytes begin with it.

@@ -5,7 +5,7 @@ ghost use Rattle.std.specs.Option.{option_copied};
 ghost use Rattle.monk_history.specs.Text.Words.{Reads, words_of, words_left, is_unbroken, is_next, number_at, literal_at, end_at};
 
 use crate::text::fault::Flaw;
-use crate::text::lines::front::{left_behind_digit, left_behind_word};
+use crate::text::lines::front::{left_behind_number, left_behind_word};
 use crate::text::lines::numbers::number_of;
 use crate::text::lines::split::split_once;
 use std::marker::Model;
@@ -67,14 +67,14 @@ impl<'a> Words<'a> {
         true
     }
 
-    /// Takes the next word where it is a single digit, and else no word.
+    /// Takes the next word where it is a number of a few digits, and else no word.
     #[inline(always)]
-    fn digit(&mut self) -> Option<u8>
-        ensures { MatchOption result (self.new ≡ self.old) (λ n. (self.old ≡ decimal n ∷ self.new) × (n ≤ 9)) }
+    fn short_number(&mut self) -> Option<u64>
+        ensures { MatchOption result (self.new ≡ self.old) (λ n. self.old ≡ decimal n ∷ self.new) }
     {
-        let (digit, left) = left_behind_digit(self.rest?)?;
+        let (number, left) = left_behind_number(self.rest?)?;
         self.rest = left;
-        Some(digit)
+        Some(number)
     }
 
     /// Takes a number from 0 to `most`. [`Flaw::Word`] where no word is left, [`Flaw::Number`] where it is no such number.
@@ -84,8 +84,7 @@ impl<'a> Words<'a> {
         ensures reads { Reads result self.new (number_at most self.old) }
         ensures within { IfOk result (λ n. n ≤ most) }
     {
-        if let Some(digit) = self.digit() {
-            let number = u64::from(digit);
+        if let Some(number) = self.short_number() {
             return if number <= most {
                 Ok(number)
             } else {
