@@ -1,12 +1,12 @@
 -- Judging events as they are read, one after the other, as a loop does
-use Rattle.std.proofs.Common.{◌≡◌, ◌≢◌, ◌==◌, ◌+◌, ℕ, Bool, true, false, cond, List, [], ◌∷◌, ◌++◌, length, Result, Ok, Err, refl, sym, ap, ◌∙◌, length-append}
+use Rattle.std.proofs.Common.{◌≡◌, ◌≢◌, ◌==◌, ◌+◌, ℕ, Bool, true, false, cond, List, [], ◌∷◌, ◌++◌, length, Option, Some, None, Result, Ok, Err, refl, sym, ap, subst, ◌∙◌, length-append}
 use Rattle.std.proofs.lemmas.Bool.{eqb-true, eqb-false}
 use Rattle.monk_kinds.specs.declared.mode.Rules.{Rules}
 use Rattle.monk_object.specs.Object.{Object}
-use Rattle.std.specs.Prelude.{◌^◌}
+use Rattle.std.specs.Prelude.{◌^◌, IfOk, IfSome}
 use Rattle.monk_history.specs.Text.{Heading}
 use Rattle.monk_history.specs.Text.Words.{◌>>=◌, Word, Taken}
-use Rattle.monk_history.specs.Text.Lines.{LinesLeft, lines_of, header_line, items_left, opened_at}
+use Rattle.monk_history.specs.Text.Lines.{LinesLeft, lines_of, header_line, items_left, opened_at, IsNextItem}
 use Rattle.monk_history.specs.Text.Reading.{header_at, event_at, event_under}
 use Rattle.monk_history.proofs.TextLaws.LineSteps.{behind, lines_behind}
 use Rattle.monk_history.specs.declared.text.fault.ReadFault.{ReadFault}
@@ -132,3 +132,14 @@ opened_room {H = H} head limit (l ∷ next ∷ more) x e = of_header (header_lin
         let same_pair : x ≡ (h, record { lines = next ∷ more; number = 2; room = limit }) = cc in
         ap (λ (y : H × LinesLeft). y.1.room) same_pair
     of_header (Err f) e = absurd cc
+
+-- ---- what the next line gave
+
+pub item_found : (r : Result (Option Event) ReadFault) (old new : Result (List Event) ReadFault) (e : Event) → r ≡ Ok (Some e) → IsNextItem r old new → old ≡ (new >>= λ es. Ok (e ∷ es))
+item_found r old new e is h = subst (λ (x : Result (Option Event) ReadFault). IsNextItem x old new) is h
+
+pub none_found : (r : Result (Option Event) ReadFault) (old new : Result (List Event) ReadFault) → r ≡ Ok None → IsNextItem r old new → old ≡ Ok []
+none_found r old new is h = subst (λ (x : Result (Option Event) ReadFault). IsNextItem x old new) is h
+
+pub room_found : (r : Result (Option Event) ReadFault) (old new : ℕ) (e : Event) → r ≡ Ok (Some e) → IfOk r (λ x. IfSome x (λ _. new + 1 ≡ old)) → new + 1 ≡ old
+room_found r old new e is h = subst (λ (x : Result (Option Event) ReadFault). IfOk x (λ y. IfSome y (λ _. new + 1 ≡ old))) is h

@@ -53,7 +53,13 @@ fn judge<T: Guarded>(
     let conds = header.conds();
     let mut replay = Replay::new(alloc, header.seats(), conds)?;
     let mut count = 0;
-    while let Some(event) = lines.next(header)? {
+    loop {
+        // One match, and no `?` before it: the event then stays where the reader has put it.
+        let event: Event = match lines.next(header) {
+            Ok(Some(event)) => event,
+            Ok(None) => return Ok(Verdict::Legal(count)),
+            Err(fault) => return Err(fault),
+        };
         count += 1;
         let reason = replay.next(rules, &mut object, conds, event)?;
         if reason != ALLOWED {
@@ -64,7 +70,6 @@ fn judge<T: Guarded>(
             });
         }
     }
-    Ok(Verdict::Legal(count))
 }
 
 /// Makes the object that the header names, whose size is not above its greatest, and judges the events that are left.

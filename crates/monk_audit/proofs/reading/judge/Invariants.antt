@@ -6,8 +6,8 @@ use Rattle.monk_audit.specs.Replay.{shown}
 use Rattle.monk_audit.specs.Reading.{verdict_read, judged}
 use Rattle.monk_audit.proofs.reading.judge.Given as goal
 
-abbrev pub invariant-loop-replay : goal.invariant-loop-replay
-invariant-loop-replay g l =
+abbrev pub invariant-loop-event : goal.invariant-loop-event
+invariant-loop-event g l =
     let m = monitor l.rules l.header.seats l.header.conds g.T.Guarded.meaning (g.T.Guarded.state l.fn.object) in
     record {
       so_far : verdict_read m l.count (shown l.replay (g.T.Guarded.state l.object)) (items_left event_at l.lines) ≡ judged m (items_left event_at l.fn.lines);
@@ -17,5 +17,5 @@ invariant-loop-replay g l =
       preds : All (λ w. w.1 < g.T.Guarded.PREDICATES) l.replay.untils.items;
     }
 
-abbrev pub decreases-loop-replay : goal.decreases-loop-replay
-decreases-loop-replay g l = l.lines.room
+abbrev pub decreases-loop-event : goal.decreases-loop-event
+decreases-loop-event g l = l.lines.room
