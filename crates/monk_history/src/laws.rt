@@ -5,10 +5,14 @@ ghost use Rattle.monk_history.specs.declared.event.Event.{Event};
 ghost use Rattle.monk_history.specs.declared.event.From3.{From3};
 ghost use Rattle.monk_history.specs.declared.event.Event.TheVariants.{Enter, Resume};
 ghost use Rattle.monk_history.specs.declared.event.Via.TheVariants.{Free, Handed};
+ghost use Rattle.monk_kinds.specs.declared.mode.Rules.{Rules};
+ghost use Rattle.monk_object.specs.Names.{meaning_named, opening_named};
+ghost use Rattle.monk_object.specs.declared.name.ObjectName.TheVariants.{Buffer, Book, Shop};
+ghost use Rattle.monk_history.specs.Meaning.Acts.{IsRunOf, IsInOrder, ExcludesEachOther, ServesEachOne, acts_in};
 ghost use Rattle.monk_history.specs.Meaning.Counts.{events_of};
 ghost use Rattle.monk_history.specs.Meaning.Entry.{AdmitsUnknown, IsAtDoor, IsDueFrom, IsQuiet};
 ghost use Rattle.monk_history.specs.Meaning.Legal.{IsLegal};
-ghost use Rattle.monk_history.specs.Meaning.Monitor.{Monitor};
+ghost use Rattle.monk_history.specs.Meaning.Monitor.{Monitor, monitor, data_of};
 ghost use Rattle.monk_history.specs.Meaning.Moves.{CountsAfter, StandsAfter};
 ghost use Rattle.monk_history.specs.Meaning.Reasons.{IsAllowed};
 ghost use Rattle.monk_history.specs.Meaning.Release.{MayCall, as_called};
@@ -71,4 +75,26 @@ pub fn allowed_may_be_called()
 /// In a legal history the waits-until are the untils whose predicate was false of the data before them.
 pub fn untils_were_false()
     ensures { (m : Monitor) (h : List Event) → IsLegal m h → untils_while_false m h ≡ untils h }
+{}
+
+/// The acts of a legal history are a run of its object from the opening state: each reply is the object's, and the data
+/// are the state that they lead to.
+pub fn acts_are_a_run()
+    ensures { (m : Monitor) (h : List Event) → IsLegal m h → IsRunOf m h }
+{}
+
+/// In a legal history over a buffer the items that were put are those taken, in order, and then those that are there.
+pub fn legal_buffer_is_in_order()
+    ensures { (rules : Rules) (seats conds size : ℕ) (h : List Event) → let m = monitor rules seats conds (meaning_named Buffer) (opening_named Buffer size) in IsLegal m h → IsInOrder size (data_of m h) (acts_in h) }
+{}
+
+/// In a legal history over a book a writer is never beside another or a reader, and no more read than its size.
+pub fn legal_book_excludes()
+    ensures { (rules : Rules) (seats conds size : ℕ) (h : List Event) → let m = monitor rules seats conds (meaning_named Book) (opening_named Book size) in IsLegal m h → ExcludesEachOther size (data_of m h) (acts_in h) }
+{}
+
+/// In a legal history over a shop no customer is lost: who sat was called or sits, who was called was served or is being
+/// served, who was served departed or is about to.
+pub fn legal_shop_loses_nobody()
+    ensures { (rules : Rules) (seats conds size : ℕ) (h : List Event) → let m = monitor rules seats conds (meaning_named Shop) (opening_named Shop size) in IsLegal m h → ServesEachOne size (data_of m h) (acts_in h) }
 {}

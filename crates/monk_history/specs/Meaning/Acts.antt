@@ -1,0 +1,65 @@
+-- The acts of a history, and what they mean where the monitor guards a buffer, a book or a shop: what a reader of the history sees of
+-- the object, in the words of `monk_object`
+use Rattle.std.specs.Prelude.{◌≡◌, ℕ, ◌+◌, ◌≤◌, ◌==◌, ◌⊎◌, List, [], ◌∷◌, ◌++◌, length, map, if◌then◌else◌}
+use Rattle.std.specs.List.{flat_map}
+use Rattle.monk_object.specs.Book.{START_READ, END_READ, START_WRITE, END_WRITE}
+use Rattle.monk_object.specs.Shop.{SIT, CALL, FINISH, DEPART}
+use Rattle.monk_object.specs.Laws.{items_put, items_taken}
+use Rattle.monk_object.specs.Object.{Object}
+use Rattle.monk_object.specs.Runs.{Answered, answered, state_after, times_done}
+use Rattle.monk_object.specs.declared.op.Op.{Op}
+use Rattle.monk_history.specs.declared.event.Event.{Event}
+use Rattle.monk_history.specs.declared.event.Event.TheVariants.{Enter, Act, Leave, Wait, Signal, SignalLeave, Until, Resume}
+use Rattle.monk_history.specs.Meaning.Monitor.{Monitor, data_of}
+
+-- the act of an event, with the reply that the history has
+abbrev pub act_of : Event → List Answered
+act_of (Enter s via) = []
+act_of (Act s op r) = record { op = op; reply = r } ∷ []
+act_of (Leave s x) = []
+act_of (Wait s c x) = []
+act_of (Signal s c x) = []
+act_of (SignalLeave s c x) = []
+act_of (Until s p x) = []
+act_of (Resume s q) = []
+
+-- the acts of all seats, in order
+abbrev pub acts_in : List Event → List Answered
+acts_in h = flat_map act_of h
+
+abbrev pub ops_in : List Event → List Op
+ops_in h = map (λ act. act.op) (acts_in h)
+
+-- the acts are a run of the object from its opening state: each reply is the object's, and the data are its state
+pub record IsRunOf (m : Monitor) (h : List Event) : Type 0 where
+  pub replies : answered m.object m.opening (ops_in h) ≡ acts_in h
+  pub leads_to : state_after m.object m.opening (ops_in h) ≡ data_of m h
+
+-- a buffer: the items put are those taken and then those that are there, in order, and never more than the size is there
+pub record IsInOrder (size : ℕ) (state : List ℕ) (acts : List Answered) : Type 0 where
+  pub items : List ℕ
+  pub state_is : state ≡ size ∷ items
+  pub in_order : items_put acts ≡ items_taken acts ++ items
+  pub within : length items ≤ size
+
+-- a book: at most one writes, and then nobody reads; whoever started and has not ended is there
+pub record ExcludesEachOther (size : ℕ) (state : List ℕ) (acts : List Answered) : Type 0 where
+  pub readers : ℕ
+  pub writers : ℕ
+  pub state_is : state ≡ size ∷ readers ∷ writers ∷ []
+  pub within : readers ≤ size
+  pub one_writer : writers ≤ 1
+  pub alone : (readers ≡ 0) ⊎ (writers ≡ 0)
+  pub reads : times_done START_READ acts ≡ times_done END_READ acts + readers
+  pub writes : times_done START_WRITE acts ≡ times_done END_WRITE acts + writers
+
+-- a shop: whoever sat down was called or sits, whoever was called was served or is in the chair, and whoever was served
+-- departed or is still in the chair
+pub record ServesEachOne (size : ℕ) (state : List ℕ) (acts : List Answered) : Type 0 where
+  pub sitting : ℕ
+  pub chair : ℕ
+  pub state_is : state ≡ size ∷ sitting ∷ chair ∷ []
+  pub within : sitting ≤ size
+  pub sat : times_done SIT acts ≡ times_done CALL acts + sitting
+  pub called : times_done CALL acts ≡ times_done FINISH acts + (if chair == 1 then 1 else 0)
+  pub finished : times_done FINISH acts ≡ times_done DEPART acts + (if chair == 2 then 1 else 0)
