@@ -7,7 +7,8 @@ ghost use Rattle.monk_history.specs.Meaning.Turn.{turn};
 ghost use Rattle.monk_world.specs.State.{grown};
 ghost use Rattle.monk_history.specs.Meaning.Events.{is_call_of};
 ghost use Rattle.monk_history.specs.Meaning.Legal.{IsLegal};
-ghost use Rattle.monk_world.specs.Runs.{opening_state};
+ghost use Rattle.monk_world.specs.Records.{IsRecordedBy};
+ghost use Rattle.monk_world.specs.Runs.{IsWellLed, opening_state};
 ghost use Rattle.monk_world.specs.StepTable.{IsStep, IsDone, out_event, refusal, left_for, may_be_told, is_call_in_range, is_call_offered, call_of};
 ghost use Rattle.monk_world.specs.Telling.{IsLed};
 ghost use Rattle.monk_world.specs.Words.{state_of};
@@ -78,6 +79,8 @@ impl<K: Kind, T: Guarded> World<K, T> {
     pub fn history(&self) -> &[Event]
         ensures history { result.now ≡ self.now.floor.history }
         ensures legal { IsLegal (monitor_of K.rules T.meaning self.now.floor) self.now.floor.history }
+        // The right is in one place, and active is exactly the seat that owns the history's turn.
+        ensures well_led { IsWellLed K.rules T.meaning (state_of self.now) }
     {
         self.floor.history()
     }
@@ -112,8 +115,12 @@ impl<K: Kind, T: Guarded> World<K, T> {
 
     /// Takes these steps in order, and goes on after a refusal.
     pub fn run(&mut self, commands: &[(u8, Command)])
-        ensures { IsLed K.rules T.meaning (state_of self.old) commands.now (state_of self.new) }
+        ensures led { IsLed K.rules T.meaning (state_of self.old) commands.now (state_of self.new) }
+        // Each seat's events are those that its own commands appended, each once, and tickets enter in their order.
+        ensures recorded { IsRecordedBy K.rules T.meaning (state_of self.old) commands.now (state_of self.new) }
+        ensures well_led { IsWellLed K.rules T.meaning (state_of self.new) }
     {
+        let _ = &self.words; // from here on it is known to be sound
         for (seat, command) in commands {
             self.step(*seat, *command);
         }
