@@ -24,7 +24,7 @@ use Rattle.monk_floor.specs.View.{FloorView, monitor_of}
 use Rattle.monk_world.specs.Places.{stage, chosen}
 use Rattle.monk_world.specs.Put.{put}
 use Rattle.monk_world.specs.Records.{Recorded, IsOwn, EntersWith, IsTaken, IsRecorded, recorded_by, command_recorded, IsRecordedBy, RunsAreRecorded}
-use Rattle.monk_world.specs.Runs.{Told, IsRun}
+use Rattle.monk_world.specs.Runs.{Told, IsRun, IsWellLed}
 use Rattle.monk_world.specs.Sound.{Sound}
 use Rattle.monk_world.specs.State.{State, grown, is_quiet}
 use Rattle.monk_world.specs.Steps.{after_in}
@@ -89,6 +89,9 @@ module _ (k : Rules) (o : Object) (s : State) (kind : IsKind k) (h : Sound k o s
   abbrev Outcome : Command → Answer → State → Type 0
   Outcome c a t = (events : List Event) × IsTaken k o s (recording i c a events) t
 
+  well_after : (c : Command) (a : Answer) (t : State) → IsStep k o s i c a t → IsWellLed k o t
+  well_after c a t step = let after = step_is_sound k o s i c a t kind h step in well_led k o t after.right after.owner after.is_sound
+
   -- nothing is appended
   still : (c : Command) (a : Answer) (t : State) → IsStep k o s i c a t → (r : Answer) → a ≡ r → lets_in r ≡ false → t.floor ≡ s.floor → Outcome c a t
   still c a t step r is differs same = (
@@ -98,6 +101,7 @@ module _ (k : Rules) (o : Object) (s : State) (kind : IsKind k) (h : Sound k o s
       grows = same ∙ ap (λ (past : List Event). record s.floor { history = past }) (sym (append-nil s.floor.history));
       own = tt;
       in_turn = λ v e. absurd cc;
+      well_led = well_after c a t step;
       waited_for = λ e. absurd (another a r is differs e);
     },
   )
@@ -113,6 +117,7 @@ module _ (k : Rules) (o : Object) (s : State) (kind : IsKind k) (h : Sound k o s
       grows = grows;
       own = own;
       in_turn = λ v is. let same : e ≡ Enter i v = cc in turn v same;
+      well_led = well_after c a t step;
       waited_for = waited;
     },
   )

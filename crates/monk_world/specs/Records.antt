@@ -10,7 +10,7 @@ use Rattle.monk_history.specs.declared.event.Event.TheVariants.{Enter}
 use Rattle.monk_history.specs.declared.event.Next.TheVariants as next
 use Rattle.monk_history.specs.declared.event.Via.{Via}
 use Rattle.monk_history.specs.declared.event.Via.TheVariants as via
-use Rattle.monk_world.specs.Runs.{Told, opening_state}
+use Rattle.monk_world.specs.Runs.{Told, IsWellLed, opening_state}
 use Rattle.monk_world.specs.Sound.{Sound}
 use Rattle.monk_world.specs.State.{State, is_quiet}
 use Rattle.monk_world.specs.StepTable.{IsStep}
@@ -51,6 +51,8 @@ pub record IsTaken (k : Rules) (o : Object) (s : State) (x : Recorded) (t : Stat
   pub own : IsOwn x.told.seat x.events
   -- the enter with n enters before it is that of ticket n
   pub in_turn : (v : Via) → x.events ≡ Enter x.told.seat v ∷ [] → EntersWith (s.world.place x.told.seat) v (enters_of s.floor.history)
+  -- the right is in one place again, the history legal, and active exactly the seat that owns its turn
+  pub well_led : IsWellLed k o t
   -- where entry was chosen nobody could have been chosen from a queue, or a ticket waits
   pub waited_for : x.told.answer ≡ answer.Chose next.Entry → (is_quiet k o t.floor ≡ true) ⊎ (2 ≤ s.world.unpassed)
 
