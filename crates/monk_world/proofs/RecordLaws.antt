@@ -23,7 +23,7 @@ use Rattle.monk_history.proofs.MeaningLaws.CountLaws.{events_of-push}
 use Rattle.monk_floor.specs.View.{FloorView, monitor_of}
 use Rattle.monk_world.specs.Places.{stage, chosen}
 use Rattle.monk_world.specs.Put.{put}
-use Rattle.monk_world.specs.Records.{Recorded, IsOwn, EntersWith, IsTaken, IsRecorded, recorded_by, command_recorded, IsRecordedBy, RunsAreRecorded}
+use Rattle.monk_world.specs.Records.{Recorded, IsOwn, EntersWith, IsTaken, IsRecorded, recorded_by, command_recorded, IsRecordedBy, StepsAreTaken, RunsAreRecorded}
 use Rattle.monk_world.specs.Runs.{Told, IsRun, IsWellLed}
 use Rattle.monk_world.specs.Sound.{Sound}
 use Rattle.monk_world.specs.State.{State, grown, is_quiet}
@@ -246,6 +246,9 @@ same_monitor k o s (x ∷ xs) t r =
       conds = more.conds ∙ ap (λ (f : FloorView). f.conds) one;
       budget = more.budget ∙ ap (λ (f : FloorView). f.budget) one;
     }
+
+pub steps_are_taken : StepsAreTaken
+steps_are_taken k o s i c a t kind h step = taken k o s kind h i c a t step
 
 pub runs_are_recorded : RunsAreRecorded
 runs_are_recorded k o s commands t kind h led =

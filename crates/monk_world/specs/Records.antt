@@ -15,6 +15,7 @@ use Rattle.monk_world.specs.Sound.{Sound}
 use Rattle.monk_world.specs.State.{State, is_quiet}
 use Rattle.monk_world.specs.StepTable.{IsStep}
 use Rattle.monk_world.specs.Telling.{command_told, IsLed}
+use Rattle.monk_world.specs.declared.answer.Answer.{Answer}
 use Rattle.monk_world.specs.declared.answer.Answer.TheVariants as answer
 use Rattle.monk_world.specs.declared.command.Command.{Command}
 use Rattle.monk_world.specs.declared.place.Place.{Place}
@@ -56,6 +57,10 @@ pub record IsTaken (k : Rules) (o : Object) (s : State) (x : Recorded) (t : Stat
   -- where entry was chosen nobody could have been chosen from a queue, or a ticket waits
   pub waited_for : x.told.answer ≡ answer.Chose next.Entry → (is_quiet k o t.floor ≡ true) ⊎ (2 ≤ s.world.unpassed)
 
+-- the step of seat i by command c, with its answer
+abbrev pub IsTakenBy : Rules → Object → State → ℕ → Command → Answer → State → Type 0
+IsTakenBy k o s i c a t = (events : List Event) × IsTaken k o s (record { told = record { seat = i; command = c; answer = a }; events = events }) t
+
 abbrev pub IsRecorded : Rules → Object → State → List Recorded → State → Type 0
 IsRecorded k o s [] t = t ≡ s
 IsRecorded k o s (x ∷ xs) t = (u : State) × (IsTaken k o s x u) × (IsRecorded k o u xs t)
@@ -75,6 +80,9 @@ pub record IsRecordedBy (k : Rules) (o : Object) (s : State) (commands : List (�
   pub by_commands : map command_recorded steps ≡ commands
   pub recorded : IsRecorded k o s steps t
   pub own : (j : ℕ) → events_of t.floor.history j ≡ events_of s.floor.history j ++ recorded_by j steps
+
+abbrev pub StepsAreTaken : Type 0
+StepsAreTaken = (k : Rules) (o : Object) (s : State) (i : ℕ) (c : Command) (a : Answer) (t : State) → IsKind k → Sound k o s → IsStep k o s i c a t → IsTakenBy k o s i c a t
 
 abbrev pub RunsAreRecorded : Type 0
 RunsAreRecorded = (k : Rules) (o : Object) (s : State) (commands : List (ℕ × Command)) (t : State) → IsKind k → Sound k o s → IsLed k o s commands t → IsRecordedBy k o s commands t

@@ -1,7 +1,7 @@
 //! What holds of each kind of step, whoever makes it: it keeps the right to be active in one place, in agreement with
 //! the turn and the queues of the history. Each function does nothing: its contract is the law.
 ghost use Rattle.monk_world.specs.Laws.{OpeningStands, ArrivalKeeps, TicketLookKeeps, SeatLookKeeps, OutKeeps, ActiveKeeps, InKeeps, DropKeeps, TicketGrantKeeps, SeatGrantKeeps, StandsInOnePlace, StepsStaySound, OpeningIsSound, StepsAreAnswered, StepsAreDetermined};
-ghost use Rattle.monk_world.specs.Records.{RunsAreRecorded, TicketsEnterInOrder};
+ghost use Rattle.monk_world.specs.Records.{RunsAreRecorded, StepsAreTaken, TicketsEnterInOrder};
 ghost use Rattle.monk_world.specs.Runs.{RunsAreWellLed};
 
 /// Before any step the monitor is free, every seat is idle, and no queue has anybody.
@@ -85,6 +85,7 @@ pub fn runs_are_well_led()
 /// enters before it is that of ticket k, which an arrival of that seat drew; and where entry was chosen, nobody could
 /// have been chosen from a queue, or a ticket was waiting.
 pub fn runs_are_recorded()
+    ensures taken { StepsAreTaken }
     ensures recorded { RunsAreRecorded }
     ensures tickets { TicketsEnterInOrder }
 {}

@@ -18,7 +18,7 @@ loop-seat-preserved g c =
     let last = state_of c.step.new.self in
     let told = get_or commands at (0, Arrive) in
     subst (λ (cs : List (ℕ × Command)). IsLed g.K.Kind.rules g.T.Guarded.meaning first cs last) (sym (take_more commands at (0, Arrive) c.loop-seat-test.true))
-    (led_more g.K.Kind.rules g.T.Guarded.meaning first (state_of c.loop-seat.self) last (take at commands) told.0 told.1 c.step.result c.loop-seat.invariant c.step.ensures)
+    (led_more g.K.Kind.rules g.T.Guarded.meaning first (state_of c.loop-seat.self) last (take at commands) told.0 told.1 c.step.result c.loop-seat.invariant c.step.ensures.by_table)
 
 pub returns-clause-recorded : goal.returns-clause-recorded
 returns-clause-recorded g c =
