@@ -1,12 +1,16 @@
 //! The line that answers an input, and its status.
 
-ghost use Rattle.std.specs.Prelude.{◌≡◌, IfOk, IsErrOf, string_bytes};
-ghost use Rattle.monk.specs.Answer.{answer_of, verdict_answer, unreadable, reason_word, fault_word};
+ghost use Rattle.std.specs.Prelude.{◌≡◌, ◌≢◌, false, true, IfOk, OnErr, Err, IsErrOf, string_bytes};
+ghost use Rattle.std.specs.Io.KnownBytes.{Appends};
+ghost use Rattle.monk_history.specs.Text.Device.{held, has_failed};
+ghost use Rattle.monk_history.specs.Text.Faults.{memory};
+ghost use Rattle.monk.specs.Answer.{answer_of, verdict_answer, reason_word, fault_word, too_big, unreadable};
 
 use crate::fault::StreamFault;
 use monk_audit::{TextVerdict, Verdict, audit_text};
-use monk_history::ReadFault;
+use monk_history::{Device, ReadFault};
 use std::alloc::Global;
+use std::io::Write;
 
 /// A line, and the status that goes with it.
 #[derive(Drop)]
@@ -22,22 +26,43 @@ pub(crate) fn answer_to(alloc: Global, bytes: &[u8]) -> Result<Answer, StreamFau
 {
     match audit_text(alloc, bytes) {
         Ok(TextVerdict::Judged(verdict)) => verdict_answer(alloc, verdict),
-        Ok(TextVerdict::TooBig) => {
-            let text = String::from_str(alloc, "object\n")?;
-            Ok(Answer { status: 2, text })
-        }
-        Err(fault) if fault.number == ReadFault::MEMORY => Err(StreamFault::Memory),
-        Err(fault) => unreadable_answer(alloc, fault),
+        Ok(TextVerdict::TooBig) => too_big(alloc),
+        Err(fault) => unreadable(alloc, fault),
     }
 }
 
-fn unreadable_answer(alloc: Global, fault: ReadFault) -> Result<Answer, StreamFault>
-    ensures answer { IfOk result (λ a. let j = unreadable fault in (a.status ≡ j.status) × (string_bytes a.text ≡ j.text)) }
+/// The answer to a text with a fault; where the fault is want of memory, there is none.
+pub(crate) fn unreadable(alloc: Global, fault: ReadFault) -> Result<Answer, StreamFault>
+    ensures answer { IfOk result (λ a. (fault ≢ memory) × (a.status ≡ (unreadable fault).status) × (string_bytes a.text ≡ (unreadable fault).text)) }
     ensures no_file { IsErrOf result StreamFault.File → ⊥ }
 {
+    if fault.number == ReadFault::MEMORY {
+        return Err(StreamFault::Memory);
+    }
     let word = fault_word(fault.number);
     let text = format!(in alloc; "unreadable {} {} {word}\n", fault.line, fault.number)?;
     Ok(Answer { status: 2, text })
+}
+
+/// The answer to a size above the object's greatest.
+pub(crate) fn too_big(alloc: Global) -> Result<Answer, StreamFault>
+    ensures answer { IfOk result (λ a. (a.status ≡ too_big.status) × (string_bytes a.text ≡ too_big.text)) }
+    ensures no_file { IsErrOf result StreamFault.File → ⊥ }
+{
+    let text = String::from_str(alloc, "object\n")?;
+    Ok(Answer { status: 2, text })
+}
+
+/// Writes the answer's line; the result is its status.
+pub(crate) fn put<W: Write>(answer: &Answer, writer: &mut Device<W>) -> Result<u8, StreamFault>
+    requires { has_failed writer.old ≡ false }
+    ensures line { IfOk result (λ status. (status ≡ answer.now.status) × Appends (W.contents (held writer.old)) (W.contents (held writer.new)) (string_bytes answer.now.text)) }
+    ensures fails { OnErr result ((result ≡ Err StreamFault.File) × (has_failed writer.new ≡ true)) }
+{
+    match writer.write_all(answer.text.as_bytes()) {
+        Ok(()) => Ok(answer.status),
+        Err(_) => Err(StreamFault::File),
+    }
 }
 
 fn fault_word(number: u8) -> &'static str

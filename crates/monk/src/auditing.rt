@@ -7,7 +7,7 @@ ghost use Rattle.monk.specs.Answer.{answer_of};
 ghost use Rattle.monk.specs.Legal.{IsLegalText, IsForbiddenText};
 ghost use Rattle.monk.specs.Streams.{Answers, IsYoung, IsPastBound};
 
-use crate::answer::answer_to;
+use crate::answer::{answer_to, put};
 use crate::fault::StreamFault;
 use crate::input::read_all;
 use monk_history::Device;
@@ -47,8 +47,5 @@ pub fn audit_stream<R: Read, W: Write>(
 {
     let bytes = read_all(alloc, reader)?;
     let answer = answer_to(alloc, &bytes)?;
-    if writer.write_all(answer.text.as_bytes()).is_err() {
-        return Err(StreamFault::File);
-    }
-    Ok(answer.status)
+    put(&answer, writer)
 }

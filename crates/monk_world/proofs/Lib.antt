@@ -22,3 +22,5 @@ pub mod BoundLaws
 pub mod DoneLaws
 pub mod WorldLaws
 pub mod PlayLaws
+pub mod RecordLaws
+pub mod DrawnLaws

@@ -144,7 +144,7 @@ module _ (k : Rules) (o : Object) (s : State) (right : ℕ) (owner : ℕ → ℕ
       let e = h.entered.with j mine in
       omega arith
 
-  well_led : IsWellLed k o s
+  pub well_led : IsWellLed k o s
   well_led = record {
     legal = h.legal;
     in_one_place = in_one_place s.floor.seats s.world right owner h.stands.keeps;

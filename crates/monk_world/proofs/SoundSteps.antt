@@ -40,7 +40,7 @@ use Rattle.monk_world.proofs.PutLaws.{at_put}
 use Rattle.monk_world.proofs.SoundFloor.{stays, goes_home, own_stands, quiet_after_entry, left_own, sound_out}
 use Rattle.monk_world.proofs.SoundWords.{sound_arrival, sound_ticket_look, sound_seat_look, sound_drop, sound_ticket_grant, sound_seat_grant}
 
-stay_is : (x : Next) → is_stay (Some x) ≡ true → x ≡ next.Stay
+pub stay_is : (x : Next) → is_stay (Some x) ≡ true → x ≡ next.Stay
 stay_is next.Stay e = refl
 stay_is next.Entry e = absurd cc
 stay_is (next.Waiter j) e = absurd cc
@@ -55,13 +55,13 @@ either true b e = inl refl
 either false b e = inr e
 
 -- a call that releases
-record IsRelease (e : Event) (i : ℕ) (to : Home) : Type 0 where
-  seat : (x : Next) → seat_of (with_next x e) ≡ i
-  no_enter : (x : Next) → is_enter (with_next x e) ≡ false
-  chooses : (x : Next) → next_of (with_next x e) ≡ Some x
-  called : (x : Next) → as_called (with_next x e) ≡ e
-  way : (x : Next) → is_way_out (with_next x e) ≡ not (stays_inside to)
-  no_reply : (o : Object) (d : List ℕ) → is_right_reply o d e ≡ true
+pub record IsRelease (e : Event) (i : ℕ) (to : Home) : Type 0 where
+  pub seat : (x : Next) → seat_of (with_next x e) ≡ i
+  pub no_enter : (x : Next) → is_enter (with_next x e) ≡ false
+  pub chooses : (x : Next) → next_of (with_next x e) ≡ Some x
+  pub called : (x : Next) → as_called (with_next x e) ≡ e
+  pub way : (x : Next) → is_way_out (with_next x e) ≡ not (stays_inside to)
+  pub no_reply : (o : Object) (d : List ℕ) → is_right_reply o d e ≡ true
 
 module _ (k : Rules) (o : Object) (s : State) (right : ℕ) (owner : ℕ → ℕ) (kind : IsKind k) (h : IsSound k o s right owner) (i : ℕ) (near : i < s.floor.seats) (q : Source) (active : s.world.place i ≡ Active q) where
   owns : is_owned_by i (turn s.floor.history) ≡ true
@@ -128,19 +128,19 @@ module _ (k : Rules) (o : Object) (s : State) (right : ℕ) (owner : ℕ → ℕ
   }
 
 -- the five calls that release
-leaving : (i : ℕ) → IsRelease (Leave i next.Stay) i home.Idle
+pub leaving : (i : ℕ) → IsRelease (Leave i next.Stay) i home.Idle
 leaving i = record { seat = λ x. refl; no_enter = λ x. refl; chooses = λ x. refl; called = λ x. refl; way = λ x. refl; no_reply = λ o d. refl }
 
-waiting : (i c : ℕ) → IsRelease (Wait i c next.Stay) i home.Inner
+pub waiting : (i c : ℕ) → IsRelease (Wait i c next.Stay) i home.Inner
 waiting i c = record { seat = λ x. refl; no_enter = λ x. refl; chooses = λ x. refl; called = λ x. refl; way = λ x. refl; no_reply = λ o d. refl }
 
-signalling : (i c : ℕ) → IsRelease (Signal i c next.Stay) i home.Inner
+pub signalling : (i c : ℕ) → IsRelease (Signal i c next.Stay) i home.Inner
 signalling i c = record { seat = λ x. refl; no_enter = λ x. refl; chooses = λ x. refl; called = λ x. refl; way = λ x. refl; no_reply = λ o d. refl }
 
-signal_leaving : (i c : ℕ) → IsRelease (SignalLeave i c next.Stay) i home.Idle
+pub signal_leaving : (i c : ℕ) → IsRelease (SignalLeave i c next.Stay) i home.Idle
 signal_leaving i c = record { seat = λ x. refl; no_enter = λ x. refl; chooses = λ x. refl; called = λ x. refl; way = λ x. refl; no_reply = λ o d. refl }
 
-waiting_until : (i p : ℕ) → IsRelease (Until i p next.Stay) i home.Inner
+pub waiting_until : (i p : ℕ) → IsRelease (Until i p next.Stay) i home.Inner
 waiting_until i p = record { seat = λ x. refl; no_enter = λ x. refl; chooses = λ x. refl; called = λ x. refl; way = λ x. refl; no_reply = λ o d. refl }
 
 module _ (k : Rules) (o : Object) (s : State) (right : ℕ) (owner : ℕ → ℕ) (kind : IsKind k) (h : IsSound k o s right owner) (i : ℕ) (near : i < s.floor.seats) where
@@ -189,7 +189,7 @@ split k o s i c a t true true true false d = inr (refl, refl, refl, d)
 not_less : (n m : ℕ) → nat_lt n m ≡ false → m ≤ n
 not_less n m e = grind (arith, e)
 
-conjuncts : (a b : Bool) → (a && b) ≡ true → (a ≡ true) × (b ≡ true)
+pub conjuncts : (a b : Bool) → (a && b) ≡ true → (a ≡ true) × (b ≡ true)
 conjuncts true b e = (refl, e)
 conjuncts false b e = absurd cc
 

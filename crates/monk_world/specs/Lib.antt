@@ -17,3 +17,4 @@ pub mod Words
 pub mod Telling
 pub mod Kept
 pub mod Play
+pub mod Records

@@ -1,6 +1,7 @@
 //! What holds of each kind of step, whoever makes it: it keeps the right to be active in one place, in agreement with
 //! the turn and the queues of the history. Each function does nothing: its contract is the law.
 ghost use Rattle.monk_world.specs.Laws.{OpeningStands, ArrivalKeeps, TicketLookKeeps, SeatLookKeeps, OutKeeps, ActiveKeeps, InKeeps, DropKeeps, TicketGrantKeeps, SeatGrantKeeps, StandsInOnePlace, StepsStaySound, OpeningIsSound, StepsAreAnswered, StepsAreDetermined};
+ghost use Rattle.monk_world.specs.Records.{RunsAreRecorded, StepsAreTaken, TicketsEnterInOrder};
 ghost use Rattle.monk_world.specs.Runs.{RunsAreWellLed};
 
 /// Before any step the monitor is free, every seat is idle, and no queue has anybody.
@@ -77,4 +78,14 @@ pub fn steps_stay_sound()
 /// history is legal, a seat is active exactly where the turn is its own, and tickets enter in their order.
 pub fn runs_are_well_led()
     ensures { RunsAreWellLed }
+{}
+
+/// From every sound state, for every list of commands: the history grows by at most one event a step, an event of the
+/// seat that was told, so that each seat's events are those that its own commands appended, each once; the enter with k
+/// enters before it is that of ticket k, which an arrival of that seat drew; and where entry was chosen, nobody could
+/// have been chosen from a queue, or a ticket was waiting.
+pub fn runs_are_recorded()
+    ensures taken { StepsAreTaken }
+    ensures recorded { RunsAreRecorded }
+    ensures tickets { TicketsEnterInOrder }
 {}

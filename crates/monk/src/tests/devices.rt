@@ -1,11 +1,37 @@
-use crate::{StreamFault, audit_stream, classify_stream};
+use crate::task::Task;
+use crate::{StreamFault, classify_stream};
 use monk_history::Device;
 use std::io;
 use std::io::{Read, Write};
+use std::process::Abort;
 use std::test::Fail;
 
 const HAND_OVER: &[u8] =
     b"monk 1 PB 2 2 buffer 1\nenter 0 free\nwait 0 1 entry\nenter 1 free\nsignal 1 1 waiter 0\nresume 0 waiter\nleave 0 signaller 1\nresume 1 signaller\nleave 1 entry\n";
+
+const PLAY: &[u8] =
+    b"play 1 PB 2 2 buffer 1 8\n0 arrive\n0 out\n0 leave waiter\n1 arrive\n0 drop\n0 grant\n1 look\n1 out\n";
+
+/// An input, what is made of it, and how many bytes are written then.
+struct Job {
+    task: Task,
+    input: &'static [u8],
+    written: usize,
+}
+
+/// `legal 8` with its newline; the header and three events, of 23, 13, 14 and 15 bytes.
+static JOBS: [Job; 2] = [
+    Job {
+        task: Task::Audit,
+        input: HAND_OVER,
+        written: 8,
+    },
+    Job {
+        task: Task::Play,
+        input: PLAY,
+        written: 65,
+    },
+];
 
 /// A reader that gives a few bytes at a time and fails at one of its reads.
 #[derive(Drop)]
@@ -60,58 +86,74 @@ impl Write for Tight {
     }
 }
 
+/// How many reads there were until the end, each of which failed in turn.
+fn reads_that_fail<R: Abort + AllocGlobal>(rt: &R, job: &Job, step: usize) -> Result<usize, Fail> {
+    let alloc = rt.alloc();
+    let mut files = 0;
+    for fails_at in 1..300u32 {
+        let mut reader = Device::new(Slow {
+            rest: job.input,
+            step,
+            reads_left: fails_at,
+        });
+        let mut writer = Device::new(Vec::new(alloc));
+        match job.task.stream(alloc, &mut reader, &mut writer) {
+            Ok(status) => assert_eq!(rt; status, 0),
+            Err(StreamFault::File) => {
+                assert!(rt; reader.failed());
+                files = fails_at;
+            }
+            Err(StreamFault::Memory) => assert!(rt; false),
+        }
+    }
+    Ok(files as usize)
+}
+
 #[test]
 fn reads_fail_in_turn(rt: HostRuntime) -> Result<(), Fail> {
-    let alloc = rt.alloc();
-    for step in [1usize, 7, 4096] {
-        let mut files = 0u32;
-        for fails_at in 1..200u32 {
-            let mut reader = Device::new(Slow {
-                rest: HAND_OVER,
-                step,
-                reads_left: fails_at,
-            });
-            let mut writer = Device::new(Vec::new(alloc));
-            match audit_stream(alloc, &mut reader, &mut writer) {
-                Ok(status) => assert_eq!(rt; status, 0),
-                Err(StreamFault::File) => {
-                    assert!(rt; reader.failed());
-                    files = fails_at;
-                }
-                Err(StreamFault::Memory) => assert!(rt; false),
-            }
+    for job in JOBS.iter() {
+        for step in [1usize, 7, 4096] {
+            let wanted = job.input.len().div_ceil(step) + 1;
+            assert_eq!(rt; reads_that_fail(&rt, job, step)?, wanted, "by {step}");
         }
-        assert_eq!(rt;
-            files as usize,
-            HAND_OVER.len().div_ceil(step) + 1,
-            "by {step}"
-        );
     }
     Ok(())
 }
 
-#[test]
-fn writes_fail_in_turn(rt: HostRuntime) -> Result<(), Fail> {
+/// How many writes there were, each of which failed in turn.
+fn writes_that_fail<R: Abort + AllocGlobal>(
+    rt: &R,
+    job: &Job,
+    refuses: bool,
+) -> Result<usize, Fail> {
     let alloc = rt.alloc();
-    for refuses in [false, true] {
-        let mut files = 0u32;
-        for fails_at in 1..20u32 {
-            let mut reader = Device::new(HAND_OVER);
-            let mut writer = Device::new(Tight {
-                taken: Vec::new(alloc),
-                step: 3,
-                writes_left: fails_at,
-                refuses,
-            });
-            match audit_stream(alloc, &mut reader, &mut writer) {
-                Ok(status) => assert_eq!(rt; status, 0),
-                Err(_) => {
-                    assert!(rt; writer.failed());
-                    files = fails_at;
-                }
+    let mut files = 0;
+    for fails_at in 1..40u32 {
+        let mut reader = Device::new(job.input);
+        let mut writer = Device::new(Tight {
+            taken: Vec::new(alloc),
+            step: 3,
+            writes_left: fails_at,
+            refuses,
+        });
+        match job.task.stream(alloc, &mut reader, &mut writer) {
+            Ok(status) => assert_eq!(rt; status, 0),
+            Err(_) => {
+                assert!(rt; writer.failed());
+                files = fails_at;
             }
         }
-        assert_eq!(rt; files, 3);
+    }
+    Ok(files as usize)
+}
+
+#[test]
+fn writes_fail_in_turn(rt: HostRuntime) -> Result<(), Fail> {
+    for job in JOBS.iter() {
+        for refuses in [false, true] {
+            let wanted = job.written.div_ceil(3);
+            assert_eq!(rt; writes_that_fail(&rt, job, refuses)?, wanted);
+        }
     }
     Ok(())
 }

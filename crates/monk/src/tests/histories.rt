@@ -1,3 +1,4 @@
+use super::lines::lines;
 use crate::audit_stream;
 use monk_history::Device;
 use std::alloc::{AllocError, Global};
@@ -14,14 +15,8 @@ struct Story {
 }
 
 fn text_of(alloc: Global, header: &str, events: &str) -> Result<String, AllocError> {
-    let mut text = format!(in alloc; "monk 1 {header}\n")?;
-    if !events.is_empty() {
-        for line in events.split(" / ") {
-            text.push_str(line)?;
-            text.push('\n')?;
-        }
-    }
-    Ok(text)
+    let first = format!(in alloc; "monk 1 {header}")?;
+    lines(alloc, &first, events)
 }
 
 static STORIES: [Story; 42] = [

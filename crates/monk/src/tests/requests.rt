@@ -3,20 +3,32 @@ use monk_history::Device;
 use std::alloc::Global;
 use std::test::Fail;
 
+/// Whether the line is for that task, over that file or standard input.
+fn asks_for(line: &Line, command: &str, file: Option<&str>) -> bool {
+    let (found, name) = match line {
+        Line::Audit(name) => ("audit", name),
+        Line::Play(name) => ("play", name),
+        Line::Classify(..) => return false,
+    };
+    let same = match (name, file) {
+        (Some(name), Some(file)) => name.as_str() == file,
+        (None, None) => true,
+        _ => false,
+    };
+    found == command && same
+}
+
 #[test]
 fn words_that_ask(rt: HostRuntime) -> Result<(), Fail> {
     let alloc = rt.alloc();
-    assert!(rt; matches!(line(alloc, &["monk", "audit"])?, Line::Audit(None)));
-    match line(alloc, &["monk", "audit", "x.history"])? {
-        Line::Audit(Some(name)) => assert!(rt; name.as_str() == "x.history"),
-        _ => assert!(rt; false),
+    for command in ["audit", "play"] {
+        let bare = line(alloc, &["monk", command])?;
+        assert!(rt; asks_for(&bare, command, None), "{command}");
+        let named = line(alloc, &["monk", command, "x.text"])?;
+        assert!(rt; asks_for(&named, command, Some("x.text")), "{command}");
     }
-    assert!(rt;
-        matches!(
-            line(alloc, &["monk", "classify", "3", "0", "255"])?,
-            Line::Classify(3, 0, 255)
-        )
-    );
+    let classify = line(alloc, &["monk", "classify", "3", "0", "255"])?;
+    assert!(rt; matches!(&classify, Line::Classify(3, 0, 255)));
     Ok(())
 }
 
@@ -36,6 +48,7 @@ fn words_that_ask_for_nothing(rt: HostRuntime) {
     assert!(rt; is_refused(alloc, &["monk", "--help"]));
     assert!(rt; is_refused(alloc, &["monk"]));
     assert!(rt; is_refused(alloc, &["monk", "audit", "a", "b"]));
+    assert!(rt; is_refused(alloc, &["monk", "play", "a", "b"]));
     assert!(rt; is_refused(alloc, &["monk", "classify", "1", "2"]));
     assert!(rt; is_refused(alloc, &["monk", "classify", "1", "2", "3", "4"]));
     assert!(rt; is_refused(alloc, &["monk", "classify", "1", "2", "256"]));

@@ -1,5 +1,5 @@
 -- The laws of the text of a play: what is read has that text, and what has a text is read from it.
-use Rattle.std.proofs.Common.{◌≡◌, ℕ, ◌≤◌, List, length, Result, Ok, Err, ap, subst, ◌∙◌, arith}
+use Rattle.std.proofs.Common.{◌≡◌, ℕ, ◌≤◌, List, length, Result, Ok, Err, refl, ap, subst, ◌∙◌, arith}
 use Rattle.std.specs.Global.{Vec}
 use Rattle.monk_history.specs.declared.text.fault.ReadFault.{ReadFault}
 use Rattle.monk_history.specs.Text.{Heading}
@@ -47,6 +47,14 @@ pub play_read : (limit : ℕ) (bytes : List ℕ) (h : PlayHead) (cs : List (ℕ 
 play_read limit bytes h cs e =
     let r = formats.text_read head_words play_head_at HeadFits heads command_words command_under CommandFitsUnder commands limit bytes h cs e in
     record { has_text = record { header_fits = r.head_fits.header_fits; some_budget = r.head_fits.some_budget; budget_fits = r.head_fits.budget_fits; commands_fit = r.fit }; few = r.few; whole = r.whole }
+
+-- the same of the play
+pub play_found : (limit : ℕ) (bytes : List ℕ) (p : Play) → play_at limit bytes ≡ Ok p → IsPlay limit bytes p.0 p.1 p.2
+play_found limit bytes p found = by (lines_at play_head_at command_under limit (lines_of bytes)) refl found
+  where
+    by : (r : Result (PlayHead × List (ℕ × Command)) ReadFault) → lines_at play_head_at command_under limit (lines_of bytes) ≡ r → played r ≡ Ok p → IsPlay limit bytes p.0 p.1 p.2
+    by (Ok x) is e = let same : play x.0.header x.0.budget x.1 ≡ p = cc in subst (λ (y : Play). IsPlay limit bytes y.0 y.1 y.2) same (play_read limit bytes x.0 x.1 is)
+    by (Err f) is e = absurd cc
 
 pub is_exact : (limit : ℕ) (bytes : List ℕ) (h : PlayHead) (cs : List (ℕ × Command)) → lines_at play_head_at command_under limit (lines_of bytes) ≡ Ok (h, cs) → play_at limit bytes ≡ Ok (play h.header h.budget cs)
 is_exact limit bytes h cs e = ap played e

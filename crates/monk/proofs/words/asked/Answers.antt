@@ -12,3 +12,12 @@ returns-in_ok-file_of-in-Some-audit-default c =
       file = file_in (subcommand_rows_of c.args.matches.now) (rows_of found) (sym c.in-Some-audit-default.ensures.rows)
           ∙ ap (λ (x : Option (List ℕ)). Some x) (sym (first_value-rows found (codes "FILE")) ∙ sym c.in_ok-file_of-in-Some-audit-default.ensures);
     }
+
+pub returns-in_ok-file_of-in-Some-play-default : goal.returns-in_ok-file_of-in-Some-play-default
+returns-in_ok-file_of-in-Some-play-default c =
+    let found = found_of c.in-Some-play-default.play.now in
+    record {
+      command = search rules;
+      file = file_in (subcommand_rows_of c.args.matches.now) (rows_of found) (sym c.in-Some-play-default.ensures.rows)
+          ∙ ap (λ (x : Option (List ℕ)). Some x) (sym (first_value-rows found (codes "FILE")) ∙ sym c.in_ok-file_of-in-Some-play-default.ensures);
+    }

@@ -1,0 +1,99 @@
+-- A play is played exactly where the bytes are its text, and what is written then.
+use Rattle.std.proofs.Common.{◌≡◌, ℕ, ◌≤◌, ◌<◌, ◌^◌, ◌⊎◌, inl, inr, List, length, Option, Some, None, Result, Ok, Err, refl, sym, ap, subst, ◌∙◌, arith}
+use Rattle.std.specs.Prelude.{IfSome, OnOk, ◌↔◌}
+use Rattle.monk_kinds.specs.declared.mode.Rules.{Rules}
+use Rattle.monk_object.specs.Object.{Object}
+use Rattle.monk_object.specs.Names.{most}
+use Rattle.monk_history.specs.declared.event.Event.{Event}
+use Rattle.monk_history.specs.declared.text.fault.ReadFault.{ReadFault}
+use Rattle.monk_history.specs.Meaning.Legal.{IsLegal}
+use Rattle.monk_history.specs.Meaning.Monitor.{Monitor, monitor}
+use Rattle.monk_history.specs.Text.{Heading}
+use Rattle.monk_world.specs.declared.command.Command.{Command}
+use Rattle.monk_world.specs.Play.Reading.{Play, play, play_at}
+use Rattle.monk_floor.specs.View.{monitor_of}
+use Rattle.monk_world.specs.Records.{IsRecordedBy}
+use Rattle.monk_world.specs.Runs.{opening_state}
+use Rattle.monk_world.specs.State.{State}
+use Rattle.monk_world.specs.Telling.{IsLed}
+use Rattle.monk_world.proofs.RecordLaws.{same_monitor}
+use Rattle.monk_world.proofs.PlayLaws.PlayText.{play_again, play_found}
+use Rattle.monk.specs.Played.{IsPlayOf, IsPlayText, IsPlayed, IsPlayedBy, IsLedTo, IsAnswer, IsAnswerTo}
+
+found_again : (input : List ℕ) (h : Heading) (budget : ℕ) (cs : List (ℕ × Command)) → IsPlayOf input h budget cs → play_at (2 ^ 25) input ≡ Ok (play h budget cs)
+found_again input h budget cs t = ap (play_at (2 ^ 25)) t.whole ∙ play_again (2 ^ 25) h budget cs t.has_text t.few
+
+module _ (input : List ℕ) (status : ℕ) (Puts : List ℕ → Type 0) where
+  text_is : (p : Play) → play_at (2 ^ 25) input ≡ Ok p → p.0.size ≤ most p.0.object → IsPlayOf input p.0 p.1 p.2
+  text_is p is size =
+      let t = play_found (2 ^ 25) input p is in
+      record { has_text = t.has_text; few = t.few; whole = t.whole; size = size }
+
+  is_text : (r : Result Play ReadFault) → play_at (2 ^ 25) input ≡ r → IsAnswer r status Puts → status ≡ 0 → IsPlayText input
+  is_text (Ok p) is (inl a) none = (p.0, (p.1, (p.2, text_is p is a.0)))
+  is_text (Ok p) is (inr a) none = absurd (omega (arith, a.1, none))
+  is_text (Err f) is a none = absurd (omega (arith, a.0, none))
+
+  -- the answer to the text of a play
+  of_play : (h : Heading) (budget : ℕ) (cs : List (ℕ × Command)) → h.size ≤ most h.object → IsAnswer (Ok (play h budget cs)) status Puts → (status ≡ 0) × IsPlayed h budget cs Puts
+  of_play h budget cs size (inl a) = (a.1, a.2)
+  of_play h budget cs size (inr a) = absurd (omega (arith, size, a.0))
+
+  answer_of : (h : Heading) (budget : ℕ) (cs : List (ℕ × Command)) → IsPlayOf input h budget cs → IsAnswerTo input status Puts → (status ≡ 0) × IsPlayed h budget cs Puts
+  answer_of h budget cs t a = of_play h budget cs t.size (subst (λ (r : Result Play ReadFault). IsAnswer r status Puts) (found_again input h budget cs t) a)
+
+  exactly : IsAnswerTo input status Puts → (status ≡ 0) ↔ IsPlayText input
+  exactly a = (is_text (play_at (2 ^ 25) input) refl a, λ t. (answer_of t.0 t.1.0 t.1.1.0 t.1.1.1 a).0)
+
+  status_is : (r : Result Play ReadFault) → IsAnswer r status Puts → (status ≡ 0) ⊎ (status ≡ 2)
+  status_is (Ok p) (inl a) = inl a.1
+  status_is (Ok p) (inr a) = inr a.1
+  status_is (Err f) a = inr a.0
+
+-- of all that a reader had
+module _ (known : Option (List ℕ)) (bytes : List ℕ) (status : ℕ) (Puts : List ℕ → Type 0) where
+  on_known : (F : List ℕ → Type 0) → IfSome known (λ input. bytes ≡ input) → F bytes → IfSome known F
+  on_known F same x = by known same
+    where
+      by : (o : Option (List ℕ)) → IfSome o (λ input. bytes ≡ input) → IfSome o F
+      by None e = tt
+      by (Some input) e = subst F e x
+
+  pub answer_known : IfSome known (λ input. bytes ≡ input) → IsAnswerTo bytes status Puts → IfSome known (λ input. IsAnswerTo input status Puts)
+  answer_known same a = on_known (λ input. IsAnswerTo input status Puts) same a
+
+  pub zero_exactly : IfSome known (λ input. bytes ≡ input) → IsAnswerTo bytes status Puts → IfSome known (λ input. (status ≡ 0) ↔ IsPlayText input)
+  zero_exactly same a = on_known (λ input. (status ≡ 0) ↔ IsPlayText input) same (exactly bytes status Puts a)
+
+  pub history_known : IfSome known (λ input. bytes ≡ input) → IsAnswerTo bytes status Puts
+      → IfSome known (λ input. (h : Heading) (budget : ℕ) (cs : List (ℕ × Command)) → IsPlayOf input h budget cs → IsPlayed h budget cs Puts)
+  history_known same a =
+      on_known (λ input. (h : Heading) (budget : ℕ) (cs : List (ℕ × Command)) → IsPlayOf input h budget cs → IsPlayed h budget cs Puts) same
+      (λ h budget cs t. (answer_of bytes status Puts h budget cs t a).1)
+
+  pub status_known : IsAnswerTo bytes status Puts → (status ≡ 0) ⊎ (status ≡ 2)
+  status_known a = status_is bytes status Puts (play_at (2 ^ 25) bytes) a
+
+-- the same play under equal rules
+pub by_rules : {A E : Type 0} (result : Result A E) (k l : Rules) (o : Object) (opening : List ℕ) (h : Heading) (budget : ℕ) (cs : List (ℕ × Command)) (Puts : List ℕ → Type 0)
+    → k ≡ l → OnOk result (IsPlayedBy k o opening h budget cs Puts) → OnOk result (IsPlayedBy l o opening h budget cs Puts)
+by_rules result k l o opening h budget cs Puts is = subst (λ (r : Rules). OnOk result (IsPlayedBy r o opening h budget cs Puts)) is
+
+-- what a world that was made and run has come to
+pub led_to : (k : Rules) (o : Object) (opening : List ℕ) (h : Heading) (budget : ℕ) (commands : List (ℕ × Command)) (events : List Event) (seats conds : ℕ) (s t : State)
+    → seats ≡ h.seats → conds ≡ h.conds → s ≡ opening_state opening seats conds budget
+    → IsLed k o s commands t → IsRecordedBy k o s commands t → events ≡ t.floor.history → IsLegal (monitor_of k o t.floor) t.floor.history
+    → IsLedTo k o opening h budget commands events
+led_to k o opening h budget commands events seats conds s t seats_are conds_are opens led recorded is legal =
+    let kept = same_monitor k o s recorded.steps t recorded.recorded in
+    let opening_is : t.floor.opening ≡ opening = kept.opening ∙ ap (λ (u : State). u.floor.opening) opens in
+    let seats_is : t.floor.seats ≡ h.seats = kept.seats ∙ (ap (λ (u : State). u.floor.seats) opens ∙ seats_are) in
+    let conds_is : t.floor.conds ≡ h.conds = kept.conds ∙ (ap (λ (u : State). u.floor.conds) opens ∙ conds_are) in
+    let monitor_is : monitor_of k o t.floor ≡ monitor k h.seats h.conds o opening = rw (opening_is, seats_is, conds_is) refl in
+    let opened : opening_state opening seats conds budget ≡ opening_state opening h.seats h.conds budget = rw (seats_are, conds_are) refl in
+    record {
+      last = t;
+      is_led = subst (λ (u : State). IsLed k o u commands t) (opens ∙ opened) led;
+      is_last = is;
+      legal = subst (λ (m : Monitor). IsLegal m events) monitor_is (subst (λ (es : List Event). IsLegal (monitor_of k o t.floor) es) (sym is) legal);
+    }

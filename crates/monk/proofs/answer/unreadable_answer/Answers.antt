@@ -1,9 +1,0 @@
-use Rattle.std.proofs.Common.{◌∙◌, refl}
-use Rattle.std.specs.Prelude.{codes, decimal}
-use Rattle.monk.specs.Answer.{fault_word}
-use Rattle.monk.proofs.Lines.{four_words}
-use Rattle.monk.proofs.answer.unreadable_answer.Goals as goal
-
-pub returns-clause-answer : goal.returns-clause-answer
-returns-clause-answer c =
-    (refl, (rw c.fault_word-word.ensures at c.in_ok-text.ensures.ok) ∙ four_words (codes "unreadable ") (decimal c.args.fault.line) (decimal c.args.fault.number) (fault_word c.args.fault.number))

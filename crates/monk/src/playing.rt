@@ -1,0 +1,179 @@
+//! The player's stream: the text of a play in, the text of the history that it leads to out.
+
+ghost use Rattle.std.specs.Prelude.{◌≡◌, ◌+◌, ◌≤◌, ◌^◌, ◌⊎◌, false, true, IfOk, OnOk, IfSome, IsErrOf, ◌↔◌, ℕ, List};
+ghost use Rattle.std.specs.Io.KnownBytes.{Appends, IsAtEnd};
+ghost use Rattle.monk_kinds.specs.Names.{rules_named};
+ghost use Rattle.monk_object.specs.Names.{most};
+ghost use Rattle.monk_history.specs.Text.{Heading};
+ghost use Rattle.monk_history.specs.Text.Device.{held, has_failed, reads_of};
+ghost use Rattle.monk_world.specs.declared.command.Command.{Command};
+ghost use Rattle.monk_world.specs.Play.Reading.{play};
+ghost use Rattle.monk.specs.Played.{IsPlayAnswer, IsAnswerTo, IsPlayOf, IsPlayText, IsPlayed, IsPlayedBy};
+ghost use Rattle.monk.specs.Streams.{IsYoung, IsPastBound};
+
+use crate::answer::{put, too_big, unreadable};
+use crate::fault::StreamFault;
+use crate::input::read_all;
+use monk_history::{Device, Header, write};
+use monk_kinds::{Kind, KindName, Npb, Npir, Npis, Npnb, Npqb, Pb, Pir, Pis, Pnb, Pqb};
+use monk_object::{Book, Buffer, Guarded, ObjectName, Shop};
+use monk_world::{Command, World, read_play};
+use std::alloc::Global;
+use std::io::{Read, Write};
+
+/// Plays the commands over the object, by the kind K, and writes the history that they lead to.
+fn play_as<K: Kind, T: Guarded, W: Write>(
+    alloc: Global,
+    object: T,
+    header: &Header,
+    budget: u32,
+    commands: &[(u8, Command)],
+    writer: &mut Device<W>,
+) -> Result<(), StreamFault>
+    requires { has_failed writer.old ≡ false }
+    ensures played { OnOk result (IsPlayedBy K.rules T.meaning (T.state object) header.now budget commands.now (Appends (W.contents (held writer.old)) (W.contents (held writer.new)))) }
+    ensures file { IsErrOf result StreamFault.File → has_failed writer.new ≡ true }
+{
+    // The header's numbers are in range, so only memory can be wanting.
+    let Ok(mut world) = World::<K, T>::make(alloc, object, header.seats(), header.conds(), budget)
+    else {
+        return Err(StreamFault::Memory);
+    };
+    world.run(commands);
+    match write(header, world.history(), writer) {
+        Ok(()) => Ok(()),
+        Err(_) => Err(StreamFault::File),
+    }
+}
+
+/// The same by the kind that the header names.
+fn play_named<T: Guarded, W: Write>(
+    alloc: Global,
+    object: T,
+    header: &Header,
+    budget: u32,
+    commands: &[(u8, Command)],
+    writer: &mut Device<W>,
+) -> Result<(), StreamFault>
+    requires { has_failed writer.old ≡ false }
+    ensures played { OnOk result (IsPlayedBy (rules_named header.now.kind) T.meaning (T.state object) header.now budget commands.now (Appends (W.contents (held writer.old)) (W.contents (held writer.new)))) }
+    ensures file { IsErrOf result StreamFault.File → has_failed writer.new ≡ true }
+{
+    match header.kind() {
+        KindName::Pb => play_as::<Pb, T, W>(alloc, object, header, budget, commands, writer),
+        KindName::Npb => play_as::<Npb, T, W>(alloc, object, header, budget, commands, writer),
+        KindName::Pnb => play_as::<Pnb, T, W>(alloc, object, header, budget, commands, writer),
+        KindName::Npnb => play_as::<Npnb, T, W>(alloc, object, header, budget, commands, writer),
+        KindName::Pqb => play_as::<Pqb, T, W>(alloc, object, header, budget, commands, writer),
+        KindName::Npqb => play_as::<Npqb, T, W>(alloc, object, header, budget, commands, writer),
+        KindName::Pir => play_as::<Pir, T, W>(alloc, object, header, budget, commands, writer),
+        KindName::Npir => play_as::<Npir, T, W>(alloc, object, header, budget, commands, writer),
+        KindName::Pis => play_as::<Pis, T, W>(alloc, object, header, budget, commands, writer),
+        KindName::Npis => play_as::<Npis, T, W>(alloc, object, header, budget, commands, writer),
+    }
+}
+
+/// The same over the object that the header names.
+fn play_object<W: Write>(
+    alloc: Global,
+    header: &Header,
+    budget: u32,
+    commands: &[(u8, Command)],
+    writer: &mut Device<W>,
+) -> Result<(), StreamFault>
+    requires works { has_failed writer.old ≡ false }
+    requires size { header.now.size ≤ most header.now.object }
+    ensures played { OnOk result (IsPlayed header.now budget commands.now (Appends (W.contents (held writer.old)) (W.contents (held writer.new)))) }
+    ensures file { IsErrOf result StreamFault.File → has_failed writer.new ≡ true }
+{
+    // The size is in range, so only memory can be wanting.
+    let size = header.size();
+    match header.object() {
+        ObjectName::Buffer => {
+            let buffer = Buffer::make(alloc, size).map_err(|_| StreamFault::Memory)?;
+            play_named(alloc, buffer, header, budget, commands, writer)
+        }
+        ObjectName::Book => {
+            let book = Book::make(size).map_err(|_| StreamFault::Memory)?;
+            play_named(alloc, book, header, budget, commands, writer)
+        }
+        ObjectName::Shop => {
+            let shop = Shop::make(size).map_err(|_| StreamFault::Memory)?;
+            play_named(alloc, shop, header, budget, commands, writer)
+        }
+    }
+}
+
+/// Answers a play that was read.
+fn play<W: Write>(
+    alloc: Global,
+    header: &Header,
+    budget: u32,
+    commands: &[(u8, Command)],
+    writer: &mut Device<W>,
+) -> Result<u8, StreamFault>
+    requires { has_failed writer.old ≡ false }
+    ensures answer { IfOk result (λ status. IsPlayAnswer (play header.now budget commands.now) status (Appends (W.contents (held writer.old)) (W.contents (held writer.new)))) }
+    ensures file { IsErrOf result StreamFault.File → has_failed writer.new ≡ true }
+{
+    if header.size() > header.object().greatest_size() {
+        return put(&too_big(alloc)?, writer);
+    }
+    play_object(alloc, header, budget, commands, writer)?;
+    Ok(0)
+}
+
+/// Answers a text.
+fn play_text<W: Write>(
+    alloc: Global,
+    bytes: &[u8],
+    writer: &mut Device<W>,
+) -> Result<u8, StreamFault>
+    requires { has_failed writer.old ≡ false }
+    ensures answer { IfOk result (λ status. IsAnswerTo bytes.now status (Appends (W.contents (held writer.old)) (W.contents (held writer.new)))) }
+    ensures file { IsErrOf result StreamFault.File → has_failed writer.new ≡ true }
+{
+    match read_play(alloc, bytes) {
+        Ok((header, budget, commands)) => play(alloc, &header, budget, &commands, writer),
+        Err(fault) => put(&unreadable(alloc, fault)?, writer),
+    }
+}
+
+/// Reads all of the reader, plays its commands in order from the start, and writes the text of the history that they
+/// lead to, with status 0. A command that is refused changes nothing, and the play goes on behind it.
+///
+/// Where the reader has no play, the line `unreadable LINE NUMBER WORD` is written with status 2, and where the size
+/// is above the object's greatest, `object` with status 2.
+///
+/// # Errors
+///
+/// [`StreamFault::File`] where the reader or the writer failed, or where the input has more than 2^31 bytes or takes
+/// more than 2^31 reads. [`StreamFault::Memory`] where a growth was refused.
+///
+/// # Cost
+///
+/// One pass over the text and one over the commands, each taking a time that doesn't grow with the history; memory for
+/// the text, the commands, and as many events as the budget leaves to all seats together.
+pub fn play_stream<R: Read, W: Write>(
+    alloc: Global,
+    reader: &mut Device<R>,
+    writer: &mut Device<W>,
+) -> Result<u8, StreamFault>
+    requires reader_works { has_failed reader.old ≡ false }
+    requires writer_works { has_failed writer.old ≡ false }
+
+    // What is written, and its status, are the answer to what the reader had.
+    ensures answer { IfOk result (λ status. IfSome (R.remaining (held reader.old)) (λ input. IsAnswerTo input status (Appends (W.contents (held writer.old)) (W.contents (held writer.new))))) }
+    // The status is 0 exactly for the text of a play.
+    ensures played { IfOk result (λ status. IfSome (R.remaining (held reader.old)) (λ input. (status ≡ 0) ↔ IsPlayText input)) }
+    // To a play nothing is written but the text of its history, which is legal.
+    ensures history { IfOk result (λ status. IfSome (R.remaining (held reader.old)) (λ input. (h : Heading) (budget : ℕ) (commands : List (ℕ × Command)) → IsPlayOf input h budget commands → IsPlayed h budget commands (Appends (W.contents (held writer.old)) (W.contents (held writer.new))))) }
+    ensures statuses { IfOk result (λ status. (status ≡ 0) ⊎ (status ≡ 2)) }
+    ensures all_read { OnOk result (IsAtEnd (R.remaining (held reader.new))) }
+
+    ensures file { IsErrOf result StreamFault.File → IsYoung reader.old → (has_failed reader.new ≡ true) ⊎ (has_failed writer.new ≡ true) ⊎ IsPastBound reader.old reader.new }
+    ensures reads { reads_of reader.new ≤ reads_of reader.old + 2 ^ 31 }
+{
+    let bytes = read_all(alloc, reader)?;
+    play_text(alloc, &bytes, writer)
+}

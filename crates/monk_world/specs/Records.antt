@@ -1,0 +1,100 @@
+-- What each step of a run adds to the history
+use Rattle.std.specs.Prelude.{◌≡◌, ℕ, ◌≤◌, ◌==◌, ◌⊎◌, true, List, [], ◌∷◌, ◌++◌, map, if◌then◌else◌}
+use Rattle.monk_kinds.specs.Kind.{IsKind}
+use Rattle.monk_kinds.specs.declared.mode.Rules.{Rules}
+use Rattle.monk_object.specs.Object.{Object}
+use Rattle.monk_history.specs.Meaning.Counts.{enters_of, events_of}
+use Rattle.monk_history.specs.Meaning.Events.{seat_of}
+use Rattle.monk_history.specs.declared.event.Event.{Event}
+use Rattle.monk_history.specs.declared.event.Event.TheVariants.{Enter}
+use Rattle.monk_history.specs.declared.event.Next.TheVariants as next
+use Rattle.monk_history.specs.declared.event.Via.{Via}
+use Rattle.monk_history.specs.declared.event.Via.TheVariants as via
+use Rattle.monk_world.specs.Runs.{Told, IsWellLed, opening_state}
+use Rattle.monk_world.specs.Sound.{Sound}
+use Rattle.monk_world.specs.State.{State, is_quiet}
+use Rattle.monk_world.specs.StepTable.{IsStep}
+use Rattle.monk_world.specs.Telling.{command_told, IsLed}
+use Rattle.monk_world.specs.declared.answer.Answer.{Answer}
+use Rattle.monk_world.specs.declared.answer.Answer.TheVariants as answer
+use Rattle.monk_world.specs.declared.command.Command.{Command}
+use Rattle.monk_world.specs.declared.place.Place.{Place}
+use Rattle.monk_world.specs.declared.place.Place.TheVariants.{Idle, Ticket, Due, Active, Back, Passing, Inner}
+use Rattle.monk_world.specs.declared.source.Source.TheVariants.{Free, Granted, Called}
+
+-- a step that was told, and what it appended to the history
+pub record Recorded : Type 0 where
+  pub told : Told
+  pub events : List Event
+
+-- at most one event, and that the seat's
+abbrev pub IsOwn : ℕ → List Event → Type 0
+IsOwn i [] = Unit {0}
+IsOwn i (e ∷ []) = seat_of e ≡ i
+IsOwn i (e ∷ f ∷ more) = ⊥
+
+-- a seat that stands there may enter so, with ticket n
+abbrev pub EntersWith : Place → Via → ℕ → Type 0
+EntersWith (Due (Free t)) v n = (v ≡ via.Free) × (t ≡ n)
+EntersWith (Due (Granted t)) v n = (v ≡ via.Handed) × (t ≡ n)
+EntersWith (Due Called) v n = ⊥
+EntersWith Idle v n = ⊥
+EntersWith (Ticket t) v n = ⊥
+EntersWith (Active q) v n = ⊥
+EntersWith (Back x home) v n = ⊥
+EntersWith (Passing t home) v n = ⊥
+EntersWith Inner v n = ⊥
+
+pub record IsTaken (k : Rules) (o : Object) (s : State) (x : Recorded) (t : State) : Type 0 where
+  pub is_step : IsStep k o s x.told.seat x.told.command x.told.answer t
+  -- the history grows by at most one event, the seat's own; of the floor nothing else changes
+  pub grows : t.floor ≡ record s.floor { history = s.floor.history ++ x.events }
+  pub own : IsOwn x.told.seat x.events
+  -- the enter with n enters before it is that of ticket n
+  pub in_turn : (v : Via) → x.events ≡ Enter x.told.seat v ∷ [] → EntersWith (s.world.place x.told.seat) v (enters_of s.floor.history)
+  -- the right is in one place again, the history legal, and active exactly the seat that owns its turn
+  pub well_led : IsWellLed k o t
+  -- where entry was chosen nobody could have been chosen from a queue, or a ticket waits
+  pub waited_for : x.told.answer ≡ answer.Chose next.Entry → (is_quiet k o t.floor ≡ true) ⊎ (2 ≤ s.world.unpassed)
+
+-- the step of seat i by command c, with its answer
+abbrev pub IsTakenBy : Rules → Object → State → ℕ → Command → Answer → State → Type 0
+IsTakenBy k o s i c a t = (events : List Event) × IsTaken k o s (record { told = record { seat = i; command = c; answer = a }; events = events }) t
+
+abbrev pub IsRecorded : Rules → Object → State → List Recorded → State → Type 0
+IsRecorded k o s [] t = t ≡ s
+IsRecorded k o s (x ∷ xs) t = (u : State) × (IsTaken k o s x u) × (IsRecorded k o u xs t)
+
+-- what the steps of seat j appended, in order
+abbrev pub recorded_by : ℕ → List Recorded → List Event
+recorded_by j [] = []
+recorded_by j (x ∷ xs) = (if x.told.seat == j then x.events else []) ++ recorded_by j xs
+
+abbrev pub command_recorded : Recorded → ℕ × Command
+command_recorded x = command_told x.told
+
+-- a run by these commands, with what each of them appended: the events of each seat are those that its own commands
+-- appended, each once
+pub record IsRecordedBy (k : Rules) (o : Object) (s : State) (commands : List (ℕ × Command)) (t : State) : Type 0 where
+  pub steps : List Recorded
+  pub by_commands : map command_recorded steps ≡ commands
+  pub recorded : IsRecorded k o s steps t
+  pub own : (j : ℕ) → events_of t.floor.history j ≡ events_of s.floor.history j ++ recorded_by j steps
+
+abbrev pub StepsAreTaken : Type 0
+StepsAreTaken = (k : Rules) (o : Object) (s : State) (i : ℕ) (c : Command) (a : Answer) (t : State) → IsKind k → Sound k o s → IsStep k o s i c a t → IsTakenBy k o s i c a t
+
+abbrev pub RunsAreRecorded : Type 0
+RunsAreRecorded = (k : Rules) (o : Object) (s : State) (commands : List (ℕ × Command)) (t : State) → IsKind k → Sound k o s → IsLed k o s commands t → IsRecordedBy k o s commands t
+
+-- seat j drew ticket n in one of these steps
+abbrev pub HasDrawn : ℕ → ℕ → List Recorded → Type 0
+HasDrawn j n [] = ⊥
+HasDrawn j n (x ∷ xs) = ((x.told.seat ≡ j) × ((found : ℕ) × (x.told.answer ≡ answer.Arrived n found))) ⊎ HasDrawn j n xs
+
+-- from before any step, whoever enters with n enters before it has drawn ticket n
+abbrev pub TicketsEnterInOrder : Type 0
+TicketsEnterInOrder =
+    (k : Rules) (o : Object) (opening : List ℕ) (seats conds budget : ℕ) (before : List Recorded) (s : State) (x : Recorded) (t : State) (v : Via)
+    → IsKind k → IsRecorded k o (opening_state opening seats conds budget) before s → IsTaken k o s x t → x.events ≡ Enter x.told.seat v ∷ []
+    → HasDrawn x.told.seat (enters_of s.floor.history) before
