@@ -1,0 +1,6 @@
+pub mod Records
+pub mod Layout
+pub mod Rule
+pub mod Changes
+pub mod Floors
+pub mod Tells

@@ -1,0 +1,14 @@
+//! A monitor for running threads, of every kind, without a lock.
+//!
+//! A hall is a table of atomic words and one slot, which holds the floor while no seat is active. A seat stands for a
+//! task; a thread has it as a token, which says where the seat stands: a `Pass` is idle, a `Parked` waits, an `Active`
+//! has the floor in its hands. Each call is a few atomic steps, and each of these is the step of the same definition as
+//! the step of a `World`.
+#![tactic(auto)]
+
+mod plays;
+mod record;
+mod rule;
+mod setting;
+mod setup;
+mod steps;
