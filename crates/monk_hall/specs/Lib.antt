@@ -4,3 +4,5 @@ pub mod Rule
 pub mod Changes
 pub mod Floors
 pub mod Tells
+pub mod Tokens
+pub mod Calls

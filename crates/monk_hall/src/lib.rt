@@ -6,9 +6,19 @@
 //! the step of a `World`.
 #![tactic(auto)]
 
+mod active;
+mod hall;
+mod parked;
+mod pass;
+mod places;
 mod plays;
 mod record;
 mod rule;
 mod setting;
 mod setup;
 mod steps;
+
+pub use active::Active;
+pub use hall::Hall;
+pub use parked::Parked;
+pub use pass::Pass;
