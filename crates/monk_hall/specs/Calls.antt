@@ -1,5 +1,5 @@
 -- What each call tells, of the token that was handed in and the one that is given back
-use Rattle.std.specs.Prelude.{◌≡◌, ◌≢◌, ℕ, suc, ◌+◌, ◌==◌, ◌≤◌, Bool, true, false, if◌then◌else◌, List, [], ◌∷◌, ◌++◌, Option, Some, None}
+use Rattle.std.specs.Prelude.{◌≡◌, ◌≢◌, ℕ, suc, ◌+◌, ◌==◌, ◌≤◌, ◌&&◌, not, Bool, true, false, if◌then◌else◌, List, [], ◌∷◌, ◌++◌, Option, Some, None}
 use Rattle.monk_kinds.specs.declared.mode.Rules.{Rules}
 use Rattle.monk_kinds.specs.declared.mode.Pick.{Pick}
 use Rattle.monk_kinds.specs.declared.mode.Pick.TheVariants.{Entry as WishEntry, Waiter as WishWaiter, Signaller as WishSignaller}
@@ -96,9 +96,12 @@ knows WishEntry known = known
 knows WishWaiter known = false
 knows WishSignaller known = false
 
--- how often a release looks at the ticket word: a wish for entry once, where the release may choose
-abbrev pub peeks_for : Object → FloorView → Rules → Event → Pick → ℕ
-peeks_for o f k call wish = if must_stay o (stands_of k o f) call then 0 else (if wants_entry wish then 1 else 0)
+-- how often a release looks at the ticket word: a wish for entry once, where there is something to choose
+abbrev pub peeks_of : Bool → Pick → ℕ
+peeks_of chooses wish = if chooses && wants_entry wish then 1 else 0
+
+abbrev pub peeks_for : Rules → Object → FloorView → Event → Pick → ℕ
+peeks_for k o f call wish = peeks_of (not (must_stay o (stands_of k o f) call)) wish
 
 -- the active seat has looked at the ticket word so often
 pub record HasPeeked (peeks : ℕ) (a b : Holder) : Type 0 where
@@ -107,7 +110,7 @@ pub record HasPeeked (peeks : ℕ) (a b : Holder) : Type 0 where
 
 -- the seat has given the floor back with this release, whose next is that of the wish rules; it stands outside or is
 -- parked inside. `known` of the token given back tells whether its look found somebody at the entry
-pub record Released (k : Rules) (o : Object) (a : Holder) (call : Event) (wish : Pick) (to : Home) (p : Token) : Type 0 where
+pub record Released (k : Rules) (o : Object) (a : Holder) (call : Event) (wish : Pick) (to : Home) (peeks : ℕ) (p : Token) : Type 0 where
   pub choice : Next
   pub chosen : choice ≡ choice_of k o (stands_of k o a.floor) call (knows wish p.me.known) wish
   pub away : is_stay (Some choice) ≡ false
@@ -117,16 +120,15 @@ pub record Released (k : Rules) (o : Object) (a : Holder) (call : Event) (wish :
   pub place : p.me.place ≡ place_of to
   pub seen : p.me.seen ≡ a.floor.history ++ with_next choice call ∷ []
   pub mine : p.me.mine ≡ a.me.mine ++ with_next choice call ∷ []
-  pub looks : p.me.looks ≡ a.me.looks + peeks_for o a.floor k call wish
-  pub steps : p.me.steps ≤ a.me.steps + 5
+  pub looks : p.me.looks ≡ a.me.looks + peeks
+  pub steps : p.me.steps ≤ a.me.steps + peeks + 3
   pub told : IsTold k o p.me
 
 -- the seat has stayed active by this release, since the wish rules chose so
-pub record Stayed (k : Rules) (o : Object) (a : Holder) (call : Event) (wish : Pick) (b : Holder) : Type 0 where
-  pub known : Bool
-  pub chosen : next.Stay ≡ choice_of k o (stands_of k o a.floor) call (knows wish known) wish
+pub record Stayed (k : Rules) (o : Object) (a : Holder) (call : Event) (wish : Pick) (peeks : ℕ) (b : Holder) : Type 0 where
+  pub chosen : next.Stay ≡ choice_of k o (stands_of k o a.floor) call (knows wish b.me.known) wish
   pub is : b ≡ record a {
-    me = record a.me { known = known; mine = a.me.mine ++ with_next next.Stay call ∷ []; looks = a.me.looks + peeks_for o a.floor k call wish; steps = a.me.steps + peeks_for o a.floor k call wish };
+    me = record a.me { known = b.me.known; mine = a.me.mine ++ with_next next.Stay call ∷ []; looks = a.me.looks + peeks; steps = a.me.steps + peeks };
     floor = grown a.floor (with_next next.Stay call);
   }
   pub legal : IsLegal (monitor_of k o b.floor) b.floor.history

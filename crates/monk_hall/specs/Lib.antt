@@ -6,3 +6,4 @@ pub mod Floors
 pub mod Tells
 pub mod Tokens
 pub mod Calls
+pub mod Handing

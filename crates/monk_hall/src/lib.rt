@@ -8,6 +8,7 @@
 
 mod active;
 mod hall;
+mod handing;
 mod parked;
 mod pass;
 mod places;
