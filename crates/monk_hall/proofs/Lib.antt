@@ -3,4 +3,7 @@ pub mod Packed
 pub mod Stored
 pub mod Knows
 pub mod Frame
+pub mod Standing
+pub mod Stepping
 pub mod WordSteps
+pub mod GrantSteps
