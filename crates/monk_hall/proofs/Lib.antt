@@ -7,3 +7,4 @@ pub mod Standing
 pub mod Stepping
 pub mod WordSteps
 pub mod GrantSteps
+pub mod FloorOut
