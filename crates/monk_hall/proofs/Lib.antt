@@ -8,3 +8,5 @@ pub mod Stepping
 pub mod WordSteps
 pub mod GrantSteps
 pub mod FloorOut
+pub mod Private
+pub mod Releasing
