@@ -133,17 +133,17 @@ module _ (k : Rules) (o : Object) (c : Setting) (kind : IsKind k) (s : table.Sta
 
   pub takes_at : IsHall k o c (record { words = s.words; homes = set s.homes 0 maybe.none; views = set s.views id (w ∷ []) })
   takes_at = (
-      put h.0 r.seat w,
-      seats.shown_set c s.views h.0 h.1 id r here w refl refl,
-      record {
-        past = past;
-        history = past ++ came ∷ [];
-        some_seat = h.2.some_seat;
-        wide = h.2.wide;
-        kept = subst (IsKept k o c.seats c.conds) same kept_after;
-        told = told_after;
-      },
-    )
+    put h.0 r.seat w,
+    seats.shown_set c s.views h.0 h.1 id r here w refl refl,
+    record {
+      past = past;
+      history = past ++ came ∷ [];
+      some_seat = h.2.some_seat;
+      wide = h.2.wide;
+      kept = subst (IsKept k o c.seats c.conds) same kept_after;
+      told = told_after;
+    },
+  )
 
   entered_is : (t : ℕ) (q : Source) → source_at r.place ≡ q → used_at (Due q) ≡ 0 → ticket (Due q) ≡ t → source (Due q) ≤ 2 → enters_of past ≡ t
   entered_is t q q_is unused number outer =
@@ -181,8 +181,7 @@ module _ (k : Rules) (o : Object) (c : Setting) (kind : IsKind k) (s : table.Sta
 pub takes_floor : (k : Rules) (o : Object) (c : Setting) → IsKind k → (id : ℕ) (me : Me) → IsOne me.0 → me.1 ≡ [] → stage (the me.0).place ≡ 2 → Allows (IsHall k o c) 1 id me 0 (λ n. n) (TakesFloor k o me)
 takes_floor k o c kind id me one none due s h wide view small =
     let here : get_elem? s.views id ≡ maybe.some (the me.0 ∷ []) = view ∙ ap maybe.some one in
-    let r : Record = the me.0 in
-    (
+    let r : Record = the me.0 in (
       took r h.2.past ∷ [],
       takes 0 (Some (floor_of c h.2.past)),
       at_home k o c kind s h id r here due,

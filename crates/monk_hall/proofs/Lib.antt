@@ -10,3 +10,4 @@ pub mod GrantSteps
 pub mod FloorOut
 pub mod Private
 pub mod Releasing
+pub mod FloorIn

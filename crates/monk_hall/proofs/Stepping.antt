@@ -112,17 +112,17 @@ module _ (k : Rules) (o : Object) (c : Setting) (kind : IsKind k) (s : table.Sta
       → AreTold k o c s.homes (put at r.seat w) (shown_world ws (put at r.seat w)) kept_hall.past kept_hall.history
       → IsHall k o c (record { words = ws; homes = s.homes; views = set s.views id (w ∷ []) })
   holds_after w ws moved wide kept told = (
-      put at r.seat w,
-      seats.shown_set c s.views at h.1 id r here w moved.seat moved.setting,
-      record {
-        past = kept_hall.past;
-        history = kept_hall.history;
-        some_seat = kept_hall.some_seat;
-        wide = wide ∙ kept_hall.wide;
-        kept = kept;
-        told = told;
-      },
-    )
+    put at r.seat w,
+    seats.shown_set c s.views at h.1 id r here w moved.seat moved.setting,
+    record {
+      past = kept_hall.past;
+      history = kept_hall.history;
+      some_seat = kept_hall.some_seat;
+      wide = wide ∙ kept_hall.wide;
+      kept = kept;
+      told = told;
+    },
+  )
 
   -- what the seats know after a step of a seat that has neither the floor nor a choice, before and after
   pub knows_after : (w : Record) (ws : List ℕ) → IsMoved w → CountsCalls (shown_world ws (put at r.seat w)) kept_hall.past → stage r.place ≢ 3 → IsApart w.place

@@ -293,6 +293,10 @@ module _ (k : Rules) (o : Object) (c : Setting) (kind : IsKind k) (slots id : �
 
   pub takes_off : (to : Home) → (the me.0).place ≡ Back next.Entry to → Allows (IsHall k o c) slots id me 0 (λ n. (n + 18446744073709551615) % 18446744073709551616) (TakesOff me)
   takes_off to back s h wide view small =
-      let here : get_elem? s.views id ≡ maybe.some (the me.0 ∷ []) = view ∙ ap maybe.some one in
-      (took_off (the me.0) (slice_index s.words 0) ∷ [], keeps, tt, takes_off_at k o c kind s h id (the me.0) here to back _ refl,
-        (refl, some_unpassed k o c kind s h id (the me.0) here (ap stage back), (stepping.sound k o c kind s h id (the me.0) here).stands.keeps.behind))
+      let here : get_elem? s.views id ≡ maybe.some (the me.0 ∷ []) = view ∙ ap maybe.some one in (
+        took_off (the me.0) (slice_index s.words 0) ∷ [],
+        keeps,
+        tt,
+        takes_off_at k o c kind s h id (the me.0) here to back _ refl,
+        (refl, some_unpassed k o c kind s h id (the me.0) here (ap stage back), (stepping.sound k o c kind s h id (the me.0) here).stands.keeps.behind),
+      )

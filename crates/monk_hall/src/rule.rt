@@ -29,4 +29,10 @@ pub(crate) type TableSeat<K, T> = Seat<Option<Floor<K, T>>, View>;
 pub(crate) type Words<K, T> = Shared<Option<Floor<K, T>>, View, Setup<T>, HallRule<K, T>>;
 
 /// The table with its memory.
-pub(crate) type HallTable<K, T> = Table<Option<Floor<K, T>>, View, Setup<T>, HallRule<K, T>, Global>;
+pub(crate) type HallTable<K, T> = Table<
+    Option<Floor<K, T>>,
+    View,
+    Setup<T>,
+    HallRule<K, T>,
+    Global,
+>;

@@ -11,7 +11,9 @@ ghost use Rattle.monk_hall.specs.Layout.{ticket_word, seat_word};
 ghost use Rattle.monk_hall.specs.Records.{IsOne, the};
 ghost use Rattle.monk_hall.specs.Tells.{Arrives, LooksForTicket, LooksForCall, Peeks, TakesOff, Returns, IsSized};
 
-use crate::plays::{Arrive, GiveFloor, HandOn, LookForCall, LookForTicket, Peek, TakeFloor, TakeOff};
+use crate::plays::{
+    Arrive, GiveFloor, HandOn, LookForCall, LookForTicket, Peek, TakeFloor, TakeOff,
+};
 use crate::rule::{TableSeat, Words};
 use monk_floor::Floor;
 use monk_kinds::Kind;
@@ -46,7 +48,12 @@ pub(crate) fn arrive<K: Kind, T: Guarded>(words: &Words<K, T>, seat: &mut TableS
 }
 
 /// Step 2: looks at the place of its ticket. Gives what it found there.
-pub(crate) fn look_for_ticket<K: Kind, T: Guarded>(words: &Words<K, T>, seat: &mut TableSeat<K, T>, seats: u8, number: u32) -> u64
+pub(crate) fn look_for_ticket<K: Kind, T: Guarded>(
+    words: &Words<K, T>,
+    seat: &mut TableSeat<K, T>,
+    seats: u8,
+    number: u32,
+) -> u64
     requires table { (seat.old.table_id ≡ words.now.table_id) × IsSized words.now.table_id words.now.key.seats × (seats ≡ words.now.key.seats) × (0 < seats) }
     requires waits { IsOne seat.old.me.0 × (stage (the seat.old.me.0).place ≡ 1) × (number ≡ ticket (the seat.old.me.0).place) }
     ensures table { (seat.new.table_id ≡ seat.old.table_id) × (seat.new.id ≡ seat.old.id) }
@@ -57,7 +64,11 @@ pub(crate) fn look_for_ticket<K: Kind, T: Guarded>(words: &Words<K, T>, seat: &m
 }
 
 /// Step 3: looks at its own place. Gives what it found there.
-pub(crate) fn look_for_call<K: Kind, T: Guarded>(words: &Words<K, T>, seat: &mut TableSeat<K, T>, number: u8) -> u64
+pub(crate) fn look_for_call<K: Kind, T: Guarded>(
+    words: &Words<K, T>,
+    seat: &mut TableSeat<K, T>,
+    number: u8,
+) -> u64
     requires table { (seat.old.table_id ≡ words.now.table_id) × IsSized words.now.table_id words.now.key.seats × (number < words.now.key.seats) }
     requires parked { IsOne seat.old.me.0 × (stage (the seat.old.me.0).place ≡ 6) × (number ≡ (the seat.old.me.0).seat) }
     ensures table { (seat.new.table_id ≡ seat.old.table_id) × (seat.new.id ≡ seat.old.id) }
@@ -78,7 +89,10 @@ pub(crate) fn peek<K: Kind, T: Guarded>(words: &Words<K, T>, seat: &mut TableSea
 }
 
 /// Step 5, out: the floor comes to the seat that is due.
-pub(crate) fn floor_out<K: Kind, T: Guarded>(words: &Words<K, T>, seat: &mut TableSeat<K, T>) -> Floor<K, T>
+pub(crate) fn floor_out<K: Kind, T: Guarded>(
+    words: &Words<K, T>,
+    seat: &mut TableSeat<K, T>,
+) -> Floor<K, T>
     requires table { (seat.old.table_id ≡ words.now.table_id) × IsSized words.now.table_id words.now.key.seats }
     requires due { IsOne seat.old.me.0 × (seat.old.me.1 ≡ []) × (stage (the seat.old.me.0).place ≡ 2) }
     ensures table { (seat.new.table_id ≡ seat.old.table_id) × (seat.new.id ≡ seat.old.id) }
@@ -90,7 +104,11 @@ pub(crate) fn floor_out<K: Kind, T: Guarded>(words: &Words<K, T>, seat: &mut Tab
 }
 
 /// Step 5, in: the active seat brings the floor home, with the release that it has recorded.
-pub(crate) fn floor_in<K: Kind, T: Guarded>(words: &Words<K, T>, seat: &mut TableSeat<K, T>, floor: Floor<K, T>)
+pub(crate) fn floor_in<K: Kind, T: Guarded>(
+    words: &Words<K, T>,
+    seat: &mut TableSeat<K, T>,
+    floor: Floor<K, T>,
+)
     requires table { (seat.old.table_id ≡ words.now.table_id) × IsSized words.now.table_id words.now.key.seats }
     requires active { IsOne seat.old.me.0 × (seat.old.me.1 ≡ (0, None) ∷ []) × (stage (the seat.old.me.0).place ≡ 3) }
     requires returns { Returns K.rules T.meaning (the seat.old.me.0) floor }
@@ -116,7 +134,12 @@ pub(crate) fn take_off<K: Kind, T: Guarded>(words: &Words<K, T>, seat: &mut Tabl
 }
 
 /// Step 7: grants the ticket that is next, in its place.
-pub(crate) fn grant_ticket<K: Kind, T: Guarded>(words: &Words<K, T>, seat: &mut TableSeat<K, T>, seats: u8, number: u32)
+pub(crate) fn grant_ticket<K: Kind, T: Guarded>(
+    words: &Words<K, T>,
+    seat: &mut TableSeat<K, T>,
+    seats: u8,
+    number: u32,
+)
     requires table { (seat.old.table_id ≡ words.now.table_id) × IsSized words.now.table_id words.now.key.seats × (seats ≡ words.now.key.seats) × (0 < seats) }
     requires passing { IsOne seat.old.me.0 × (stage (the seat.old.me.0).place ≡ 5) × (number ≡ ticket (the seat.old.me.0).place) }
     ensures table { (seat.new.table_id ≡ seat.old.table_id) × (seat.new.id ≡ seat.old.id) }
@@ -129,7 +152,12 @@ pub(crate) fn grant_ticket<K: Kind, T: Guarded>(words: &Words<K, T>, seat: &mut 
 
 /// Step 8: calls the seat that it chose, in that seat's place, which from now on has `calls`: how many events have
 /// chosen that seat from a queue.
-pub(crate) fn call_seat<K: Kind, T: Guarded>(words: &Words<K, T>, seat: &mut TableSeat<K, T>, called: u8, calls: u32)
+pub(crate) fn call_seat<K: Kind, T: Guarded>(
+    words: &Words<K, T>,
+    seat: &mut TableSeat<K, T>,
+    called: u8,
+    calls: u32,
+)
     requires table { (seat.old.table_id ≡ words.now.table_id) × IsSized words.now.table_id words.now.key.seats × (called < words.now.key.seats) }
     requires back { IsOne seat.old.me.0 × (chosen (the seat.old.me.0).place ≡ due_to called) × (calls ≡ granted_of (the seat.old.me.0).seen called) }
     ensures table { (seat.new.table_id ≡ seat.old.table_id) × (seat.new.id ≡ seat.old.id) }
