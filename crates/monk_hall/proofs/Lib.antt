@@ -1,2 +1,15 @@
 pub mod TokenLaws
 pub mod HandingLaws
+pub mod Seats
+pub mod Packed
+pub mod Stored
+pub mod Knows
+pub mod Frame
+pub mod Standing
+pub mod Stepping
+pub mod WordSteps
+pub mod GrantSteps
+pub mod FloorOut
+pub mod Private
+pub mod Releasing
+pub mod FloorIn

@@ -67,13 +67,14 @@ AreOne a b = StartsWith a b ⊎ StartsWith b a
 abbrev pub Compares : Me → ℕ → Me → Type 0
 Compares me found new = (new ≡ (shared me.0, me.1)) × AreOne (the me.0).seen (the (tail me.0)).seen
 
--- which release an event is, and where the seat goes then: `to` is outside after a leave, inside after a wait
+-- a release of seat i as it is called, written with `stay`, and where the seat goes then: outside after a leave,
+-- inside after a wait
 abbrev pub IsReleaseTo : ℕ → Home → Event → Type 0
-IsReleaseTo i home.Idle (Leave s x) = s ≡ i
-IsReleaseTo i home.Idle (SignalLeave s c x) = s ≡ i
-IsReleaseTo i home.Inner (Wait s c x) = s ≡ i
-IsReleaseTo i home.Inner (Signal s c x) = s ≡ i
-IsReleaseTo i home.Inner (Until s p x) = s ≡ i
+IsReleaseTo i home.Idle (Leave s x) = (s ≡ i) × (x ≡ next.Stay)
+IsReleaseTo i home.Idle (SignalLeave s c x) = (s ≡ i) × (x ≡ next.Stay)
+IsReleaseTo i home.Inner (Wait s c x) = (s ≡ i) × (x ≡ next.Stay)
+IsReleaseTo i home.Inner (Signal s c x) = (s ≡ i) × (x ≡ next.Stay)
+IsReleaseTo i home.Inner (Until s p x) = (s ≡ i) × (x ≡ next.Stay)
 IsReleaseTo i to e = ⊥
 
 -- the floor that a seat brings home: the one that it had, with one release more, which chose another by the wish rules
