@@ -13,3 +13,4 @@ pub mod FloorOut
 pub mod Private
 pub mod Releasing
 pub mod FloorIn
+pub mod ReleaseLaws

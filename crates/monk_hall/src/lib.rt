@@ -7,6 +7,7 @@
 #![tactic(auto)]
 
 mod active;
+mod after;
 mod hall;
 mod handing;
 mod parked;
@@ -14,12 +15,14 @@ mod pass;
 mod places;
 mod plays;
 mod record;
+mod releases;
 mod rule;
 mod setting;
 mod setup;
 mod steps;
 
 pub use active::Active;
+pub use after::After;
 pub use hall::Hall;
 pub use parked::Parked;
 pub use pass::Pass;
