@@ -14,3 +14,4 @@ pub mod Private
 pub mod Releasing
 pub mod FloorIn
 pub mod ReleaseLaws
+pub mod KindLaws

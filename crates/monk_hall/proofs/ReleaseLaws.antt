@@ -1,12 +1,14 @@
 -- What a release makes of an active seat
 use Rattle.std.proofs.Common.{◌≡◌, ◌≢◌, ℕ, suc, ◌+◌, ◌-◌, ◌<◌, ◌≤◌, ◌==◌, Bool, true, false, true≢false, not, cond, List, [], ◌∷◌, ◌++◌, length, Option, Some, None, refl, sym, ap, subst, ◌∙◌, arith, inl, inr}
-use Rattle.std.specs.Prelude.{IsTrue}
+use Rattle.std.specs.Prelude.{IsTrue, nat_lt}
 use Rattle.atomic_table.specs.Seated.{TableId}
 use Rattle.monk_kinds.specs.declared.mode.Rules.{Rules}
 use Rattle.monk_kinds.specs.declared.mode.Pick.{Pick}
 use Rattle.monk_kinds.specs.declared.mode.Pick.TheVariants.{Entry as WishEntry, Waiter as WishWaiter, Signaller as WishSignaller}
 use Rattle.monk_object.specs.Object.{Object}
 use Rattle.monk_history.specs.Meaning.Choice.{Queues, must_stay, queues_at}
+use Rattle.monk_history.specs.Meaning.Conditions.{condition}
+use Rattle.monk_history.specs.Meaning.Signallers.{is_empty}
 use Rattle.monk_history.specs.Meaning.Counts.{events_of, left_of, is_enter}
 use Rattle.monk_history.specs.Meaning.Events.{seat_of, is_stay, has_conditions, has_signaller_queue, returns_at_once}
 use Rattle.monk_history.proofs.MeaningLaws.CallLaws.{may_leave, may_wait, may_signal_on, may_signal_leave, may_until}
@@ -28,8 +30,12 @@ use Rattle.monk_world.specs.Places.{stage, place_of}
 use Rattle.monk_world.specs.Sound.{left_within}
 use Rattle.monk_world.specs.State.{grown}
 use Rattle.monk_world.specs.declared.home.Home.{Home}
+use Rattle.monk_world.proofs.TestLaws.{some_above}
 use Rattle.monk_world.specs.declared.home.Home.TheVariants as home
 use Rattle.monk_hall.specs.Calls.{Released, Stayed, HasPeeked, knows}
+use Rattle.monk_hall.specs.AfterCalls.{MatchAfter}
+use Rattle.monk_hall.specs.declared.after.After.{After}
+use Rattle.monk_hall.specs.declared.after.After.TheVariants.{Active, Parked}
 use Rattle.monk_hall.specs.Handing.{HasReleased, HasGone}
 use Rattle.monk_hall.specs.Layout.{word_count}
 use Rattle.monk_hall.specs.Records.{the, IsOne}
@@ -291,3 +297,29 @@ module _ {k : Rules} {o : Object} where
 
 pub peeked_none : (n : ℕ) (a : Holder) → n ≡ 0 → HasPeeked n a a
 peeked_none n a e = subst (λ m. HasPeeked m a a) (sym e) record { known = a.me.known; is = λ i. record a { me = record a.me { looks = plus_none a.me.looks i; steps = plus_none a.me.steps i } } }
+
+module _ {k : Rules} {o : Object} {z : TableId} {me : Me} {number calls : ℕ} {f : FloorView} where
+  pub has_cond : IsHolding k o z me number calls f → (c : ℕ) (a : Holder) → holder z (the me.0) f ≡ a → c < a.me.setting.conds → c < f.conds
+  has_cond h c a is low = let b = ap (λ (y : FloorView). y.conds) h.goes.is_floor in let here = subst (λ (x : Holder). c < x.me.setting.conds) (sym is) low in omega arith
+
+  pub has_room : IsHolding k o z me number calls f → (a : Holder) → holder z (the me.0) f ≡ a → length a.me.mine + 3 ≤ a.me.setting.budget → length (events_of f.history (the me.0).seat) + 2 ≤ (the me.0).setting.budget
+  has_room h a is more = let here = subst (λ (x : Holder). length x.me.mine + 3 ≤ x.me.setting.budget) (sym is) more in omega arith
+
+-- what is known where there is something to choose, of the floor in its hands
+pub must_known : {k : Rules} {o : Object} {z : TableId} {me : Me} {number calls : ℕ} {f : FloorView} → IsHolding k o z me number calls f → (a : Holder) → holder z (the me.0) f ≡ a → (call : ℕ → Event) {R : Type 0}
+    → (must_stay o (stands_of k o a.floor) (call a.me.seat) ≡ false → R) → must_stay o (stands_of k o f) (call number) ≡ false → R
+must_known {k} {o} {f = f} h a is call told free = told ((λ i. must_stay o (stands_of k o (sym is i).floor) (call (sym is i).me.seat)) ∙ ap (λ n. must_stay o (stands_of k o f) (call n)) h.seated.is_seat ∙ free)
+
+-- a call that may stay, after a look at the ticket word
+pub after_peeked : {K T : Type 0} (k : Rules) (o : Object) (call : ℕ → Event) (wish : Pick) (to : Home) (peeks : ℕ) (a b : Holder) → HasPeeked peeks a b → (r : After K T)
+    → MatchAfter r (λ x. Stayed k o b (call b.me.seat) wish 0 x) (λ p. Released k o b (call b.me.seat) wish to 0 p)
+    → MatchAfter r (λ x. Stayed k o a (call a.me.seat) wish peeks x) (λ p. Released k o a (call a.me.seat) wish to peeks p)
+after_peeked k o call wish to peeks a b x (Active y) m = stayed_peeked peeks a b x (call a.me.seat) wish y (subst (λ e. Stayed k o b e wish 0 y) (ap (λ (h : Holder). call h.me.seat) x.is) m)
+after_peeked k o call wish to peeks a b x (Parked p) m = released_peeked peeks a b x (call a.me.seat) wish to p (subst (λ e. Released k o b e wish to 0 p) (ap (λ (h : Holder). call h.me.seat) x.is) m)
+
+some_there : (xs : List ℕ) → not (is_empty xs) ≡ nat_lt 0 (length xs)
+some_there [] = refl
+some_there (x ∷ xs) = sym (some_above (suc (length xs)) (λ e. absurd (omega arith)))
+
+pub serves_some : (k : Rules) (o : Object) (f : FloorView) (s c n : ℕ) → n ≡ length (condition c f.history) → nat_lt 0 n ≡ not (must_stay o (stands_of k o f) (Signal s c next.Stay))
+serves_some k o f s c n e = ap (λ m. nat_lt 0 m) e ∙ sym (some_there (condition c f.history))
