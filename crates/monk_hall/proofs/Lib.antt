@@ -13,3 +13,5 @@ pub mod FloorOut
 pub mod Private
 pub mod Releasing
 pub mod FloorIn
+pub mod Dealing
+pub mod Meeting
