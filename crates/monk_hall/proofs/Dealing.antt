@@ -151,10 +151,11 @@ module _ (c : Setting) (views : List View) (at : ℕ → Record) (sh : AreShown 
 
   there_after : (j : ℕ) → j < c.seats → (u : View) × (get_elem? (left_views ++ (x ∷ []) ∷ []) (moved_desk j) ≡ maybe.some u) × In (at j) u
   there_after j near = elim (eqb_tells j x.seat) [
-    | inl h ↦
-        (x ∷ [],
-          ap (λ (n : ℕ). get_elem? (left_views ++ (x ∷ []) ∷ []) n) (ap moved_desk h.1 ∙ put_here sh.desk x.seat (length left_views)) ∙ at_last left_views (x ∷ []) (length left_views) refl,
-          inl (ap at h.1 ∙ (sh.each id v view x there_x).0))
+    | inl h ↦ (
+      x ∷ [],
+      ap (λ (n : ℕ). get_elem? (left_views ++ (x ∷ []) ∷ []) n) (ap moved_desk h.1 ∙ put_here sh.desk x.seat (length left_views)) ∙ at_last left_views (x ∷ []) (length left_views) refl,
+      inl (ap at h.1 ∙ (sh.each id v view x there_x).0),
+    )
     | inr h ↦
         let old = sh.there j near in
         elim (eqb_tells (sh.desk j) id) [
@@ -162,14 +163,18 @@ module _ (c : Setting) (views : List View) (at : ℕ → Record) (sh : AreShown 
               let is_v : old.0 ≡ v = some-injective old.0 v (sym old.1 ∙ ap (λ (n : ℕ). get_elem? views n) d.1 ∙ view) in
               elim (either (at j) (subst (λ (z : View). In (at j) z) is_v old.2)) [
                 | inl e ↦ absurd (h.1 (sym (sh.seats j) ∙ ap (λ (z : Record). z.seat) e))
-                | inr e ↦ (ys,
-                    ap (λ (n : ℕ). get_elem? (left_views ++ (x ∷ []) ∷ []) n) (desk_else j h.1 ∙ d.1) ∙ at_longer left_views ((x ∷ []) ∷ []) id ys (set_here views id ys (long views id v view)),
-                    e)
+                | inr e ↦ (
+                  ys,
+                  ap (λ (n : ℕ). get_elem? (left_views ++ (x ∷ []) ∷ []) n) (desk_else j h.1 ∙ d.1) ∙ at_longer left_views ((x ∷ []) ∷ []) id ys (set_here views id ys (long views id v view)),
+                  e,
+                )
               ]
-          | inr d ↦ (old.0,
-              ap (λ (n : ℕ). get_elem? (left_views ++ (x ∷ []) ∷ []) n) (desk_else j h.1)
-              ∙ at_longer left_views ((x ∷ []) ∷ []) (sh.desk j) old.0 (set_else views id (sh.desk j) ys d.1 ∙ old.1),
-              old.2)
+          | inr d ↦ (
+            old.0,
+            ap (λ (n : ℕ). get_elem? (left_views ++ (x ∷ []) ∷ []) n) (desk_else j h.1)
+                ∙ at_longer left_views ((x ∷ []) ∷ []) (sh.desk j) old.0 (set_else views id (sh.desk j) ys d.1 ∙ old.1),
+            old.2,
+          )
         ]
   ]
 

@@ -14,4 +14,4 @@ pub mod Private
 pub mod Releasing
 pub mod FloorIn
 pub mod Dealing
-pub mod Meeting
+pub mod MeetLaws

@@ -9,6 +9,8 @@
 mod active;
 mod hall;
 mod handing;
+mod making;
+mod meeting;
 mod parked;
 mod pass;
 mod places;
@@ -21,5 +23,6 @@ mod steps;
 
 pub use active::Active;
 pub use hall::Hall;
+pub use meeting::meet;
 pub use parked::Parked;
 pub use pass::Pass;

@@ -259,15 +259,14 @@ compares k o c slots id me two idle_a idle_b s h wide view small =
     let all_a : events_of both a.seat ≡ a.mine = events_between kh.past both a.seen a.seat part long_both.first (mine_a ∙ sym own_a) ∙ own_a in
     let all_b : events_of both b.seat ≡ b.mine = events_between kh.past both b.seen b.seat part long_both.second (mine_b ∙ sym own_b) ∙ own_b in
     let first = learns k o c s.words s.homes at kh a.seat a2 (ap (λ (x : Record). x.place) (sym ia.0)) (ap (λ (x : Record). x.count) (sym ia.0)) (ap (λ (x : Record). x.known) (sym ia.0)) (ap (λ (x : Record). x.mine) (sym ia.0))
-        (ap (λ (x : Record). stage x.place) ia.0 ∙ ap stage idle_a) part all_a in
+    (ap (λ (x : Record). stage x.place) ia.0 ∙ ap stage idle_a) part all_a in
     let both_kept = learns k o c s.words s.homes (put at a.seat a2) first b.seat b2 (ap (λ (x : Record). x.place) (sym still)) (ap (λ (x : Record). x.count) (sym still)) (ap (λ (x : Record). x.known) (sym still)) (ap (λ (x : Record). x.mine) (sym still))
-        (ap (λ (x : Record). stage x.place) still ∙ ap stage idle_b) part all_b in
-    (
+    (ap (λ (x : Record). stage x.place) still ∙ ap stage idle_b) part all_b in (
       a2 ∷ b2 ∷ [],
       keeps,
       tt,
       subst (λ (ws : List ℕ). IsHall k o c record { words = ws; homes = s.homes; views = set s.views id (a2 ∷ b2 ∷ []) }) (sym (set-get_or s.words 0 0))
-        (put (put at a.seat a2) b.seat b2, shown_two c s.views at h.1 id a b a2 b2 here refl refl refl refl, both_kept),
+          (put (put at a.seat a2) b.seat b2, shown_two c s.views at h.1 id a b a2 b2 here refl refl refl refl, both_kept),
       (refl, one),
     )
   where
@@ -303,9 +302,8 @@ meets k o c id v other w one_v one_w idle s h view ne_id view_w =
     let views_two : List View = set (set s.views id (met v w)) other [] in
     let at_id : get_elem? views_two id ≡ maybe.some (met v w) = set_else (set s.views id (met v w)) other id [] (λ e. ne_id (sym e)) ∙ set_here s.views id (met v w) (long s.views id (a ∷ []) here) in
     let kept = learns k o c s.words s.homes at kh a.seat a2 (ap (λ (x : Record). x.place) (sym is_a)) (ap (λ (x : Record). x.count) (sym is_a)) (ap (λ (x : Record). x.known) (sym is_a)) (ap (λ (x : Record). x.mine) (sym is_a))
-        (ap (λ (x : Record). stage x.place) is_a ∙ ap stage idle) (subst (λ (x : Record). StartsWith kh.past x.seen) is_a (kh.told.starts a.seat))
-        (ap (λ (x : Record). events_of x.seen a.seat) (sym is_a) ∙ kh.told.own a.seat ∙ ap (λ (x : Record). x.mine) is_a) in
-    (
+    (ap (λ (x : Record). stage x.place) is_a ∙ ap stage idle) (subst (λ (x : Record). StartsWith kh.past x.seen) is_a (kh.told.starts a.seat))
+    (ap (λ (x : Record). events_of x.seen a.seat) (sym is_a) ∙ kh.told.own a.seat ∙ ap (λ (x : Record). x.mine) is_a) in (
       at_one,
       record {
         desk = desk_two;
@@ -332,8 +330,7 @@ meets k o c id v other w one_v one_w idle s h view ne_id view_w =
                 let old = sh.there j near in
                 let desk_is : desk_two j ≡ sh.desk j = put_else sh.desk b.seat id j nb.1 in
                 let off_id : sh.desk j ≢ id = λ d. na.1 (alone s.views at sh j old.0 id a old.1 d here old.2) in
-                let off_other : sh.desk j ≢ other = λ d. nb.1 (alone s.views at sh j old.0 other b old.1 d there old.2) in
-                (
+                let off_other : sh.desk j ≢ other = λ d. nb.1 (alone s.views at sh j old.0 other b old.1 d there old.2) in (
                   old.0,
                   ap (λ (n : ℕ). get_elem? views_two n) desk_is ∙ set_else (set s.views id (met v w)) other (sh.desk j) [] off_other ∙ set_else s.views id (sh.desk j) (met v w) off_id ∙ old.1,
                   subst (λ (x : Record). In x old.0) (sym (put_else at a.seat a2 j na.1)) old.2,
@@ -354,8 +351,7 @@ meets k o c id v other w one_v one_w idle s h view ne_id view_w =
 -- the second of two records goes to a seat of its own
 parted : (k : Rules) (o : Object) (c : Setting) (id : ℕ) (a b : Record) → Splits {S = Option FloorView} (IsHall k o c) id (a ∷ b ∷ []) (a ∷ []) (b ∷ [])
 parted k o c id a b s h view =
-    let distinct = h.1.apart id (a ∷ b ∷ []) view in
-    (
+    let distinct = h.1.apart id (a ∷ b ∷ []) view in (
       h.0,
       shown_moved c s.views h.0 h.1 id (a ∷ b ∷ []) (a ∷ []) b view (inr (inl refl)) first_stays either (λ z i e. distinct.0 b (inl refl) (sym e ∙ same_seat a z i)) ((λ y none. absurd none), tt),
       h.2,
