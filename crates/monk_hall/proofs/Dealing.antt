@@ -27,7 +27,7 @@ use Rattle.monk_world.proofs.WorldLaws.{opening_kept}
 use Rattle.monk_hall.specs.Layout.{tickets, unpassed, word_count, place_word, seat_word, floor_of, shown, shown_world}
 use Rattle.monk_hall.specs.Records.{View, In, Distinct, fresh, fresh_from, first_view, head, tail}
 use Rattle.monk_hall.specs.Rule.{AreShown, IsHall}
-use Rattle.monk_hall.specs.Tokens.{Token, tokens}
+use Rattle.monk_hall.specs.Tokens.{Token, IsResting, tokens}
 use Rattle.monk_hall.specs.declared.record.Record.{Record}
 use Rattle.monk_hall.specs.declared.setting.Setting.{Setting}
 use Rattle.monk_hall.proofs.Seats.{long, only}
@@ -230,3 +230,13 @@ pub zero_words : (n i : ℕ) → slice_index (replicate n 0) i ≡ 0
 zero_words zero i = refl
 zero_words (suc n) zero = refl
 zero_words (suc n) (suc i) = zero_words n i
+
+-- a seat that has its record rests
+pub fresh_rests : (k : Rules) (o : Object) (z : TableId) (c : Setting) (number budget : ℕ) → number < c.seats → z.words ≡ word_count c.seats → budget ≡ c.budget → IsResting k o z (fresh c number ∷ [], []) number budget 0
+fresh_rests k o z c number budget near sized enough = record {
+  one = refl;
+  free = refl;
+  seated = record { is_seat = refl; near = near; sized = sized; counted = refl };
+  spent = omega arith;
+  told = record { legal = legal_none (monitor_of k o (floor_of c [])); own = none_of number };
+}

@@ -1,5 +1,5 @@
 -- A release goes home with the floor, and the right is handed on
-use Rattle.std.proofs.Common.{◌≡◌, ◌≢◌, ℕ, suc, ◌+◌, ◌-◌, ◌*◌, ◌<◌, ◌≤◌, ◌==◌, Bool, true, false, cond, List, [], ◌∷◌, ◌++◌, length, length-append, append-nil, append_assoc, Option, Some, None, refl, sym, ap, subst, ◌∙◌, arith, eq-eqb, inl, inr}
+use Rattle.std.proofs.Common.{◌≡◌, ◌≢◌, ℕ, suc, ◌+◌, ◌-◌, ◌*◌, ◌<◌, ◌≤◌, ◌==◌, Bool, true, false, true≢false, cond, List, [], ◌∷◌, ◌++◌, length, length-append, append-nil, append_assoc, Option, Some, None, refl, sym, ap, subst, ◌∙◌, arith, eq-eqb, inl, inr}
 use Rattle.std.specs.List.{last_or, list_all}
 use Rattle.std.specs.Prelude.{nat_lt, IsTrue, ◌&&◌}
 use Rattle.atomic_table.specs.Seated.{TableId}
@@ -31,99 +31,34 @@ use Rattle.monk_hall.specs.Records.{the, IsOne}
 use Rattle.monk_hall.specs.Tells.{Me, Returns, IsReleaseTo}
 use Rattle.monk_hall.specs.Tokens.{IsSeated, IsResting, IsTold, IsWaiting}
 use Rattle.monk_hall.specs.declared.record.Record.{Record}
-use Rattle.monk_hall.proofs.TokenLaws.{own_push, own_longer}
+use Rattle.monk_hall.proofs.Releasing.{back_is, said}
+use Rattle.monk_hall.proofs.TokenLaws.{own_longer}
 
 last_is : (o : Option Event) (h : List Event) (e : Event) → last_or o (h ++ e ∷ []) ≡ Some e
 last_is o [] e = refl
 last_is o (d ∷ ds) e = last_is (Some d) ds e
 
-back_is : (i : ℕ) (to : Home) (e : Event) (x : Next) → IsReleaseTo i to e → back_after (Some (with_next x e)) ≡ Back x to
-back_is i home.Idle (Enter s via) x h = absurd h
-back_is i home.Idle (Act s op r) x h = absurd h
-back_is i home.Idle (Leave s y) x h = refl
-back_is i home.Idle (Wait s c y) x h = absurd h
-back_is i home.Idle (Signal s c y) x h = absurd h
-back_is i home.Idle (SignalLeave s c y) x h = refl
-back_is i home.Idle (Until s p y) x h = absurd h
-back_is i home.Idle (Resume s q) x h = absurd h
-back_is i home.Inner (Enter s via) x h = absurd h
-back_is i home.Inner (Act s op r) x h = absurd h
-back_is i home.Inner (Leave s y) x h = absurd h
-back_is i home.Inner (Wait s c y) x h = refl
-back_is i home.Inner (Signal s c y) x h = refl
-back_is i home.Inner (SignalLeave s c y) x h = absurd h
-back_is i home.Inner (Until s p y) x h = refl
-back_is i home.Inner (Resume s q) x h = absurd h
+abbrev is_some : Option ℕ → Type 0
+is_some None = ⊥
+is_some (Some n) = Unit {0}
 
-pub release_seat : (i : ℕ) (to : Home) (e : Event) (x : Next) → IsReleaseTo i to e → seat_of (with_next x e) ≡ i
-release_seat i home.Idle (Enter s via) x h = absurd h
-release_seat i home.Idle (Act s op r) x h = absurd h
-release_seat i home.Idle (Leave s y) x h = h
-release_seat i home.Idle (Wait s c y) x h = absurd h
-release_seat i home.Idle (Signal s c y) x h = absurd h
-release_seat i home.Idle (SignalLeave s c y) x h = h
-release_seat i home.Idle (Until s p y) x h = absurd h
-release_seat i home.Idle (Resume s q) x h = absurd h
-release_seat i home.Inner (Enter s via) x h = absurd h
-release_seat i home.Inner (Act s op r) x h = absurd h
-release_seat i home.Inner (Leave s y) x h = absurd h
-release_seat i home.Inner (Wait s c y) x h = h
-release_seat i home.Inner (Signal s c y) x h = h
-release_seat i home.Inner (SignalLeave s c y) x h = absurd h
-release_seat i home.Inner (Until s p y) x h = h
-release_seat i home.Inner (Resume s q) x h = absurd h
+abbrev due_in : Option ℕ → ℕ
+due_in None = 0
+due_in (Some n) = due_to n
 
 called_due : (x : Next) (j : ℕ) → called_by x ≡ Some j → turn_chosen x ≡ due_to j
-called_due next.Stay j e = absurd (none_some j e)
-  where
-    is_some : Option ℕ → Type 0
-    is_some None = ⊥
-    is_some (Some n) = Unit {0}
-
-    none_some : (n : ℕ) → None ≡ Some n → ⊥
-    none_some n e = subst is_some (sym e) tt
-called_due next.Entry j e = absurd (none_some j e)
-  where
-    is_some : Option ℕ → Type 0
-    is_some None = ⊥
-    is_some (Some n) = Unit {0}
-
-    none_some : (n : ℕ) → None ≡ Some n → ⊥
-    none_some n e = subst is_some (sym e) tt
+called_due next.Stay j e = absurd (subst is_some (sym e) tt)
+called_due next.Entry j e = absurd (subst is_some (sym e) tt)
 called_due (next.Waiter i) j e = ap due_in e
-  where
-    due_in : Option ℕ → ℕ
-    due_in None = 0
-    due_in (Some n) = due_to n
 called_due (next.Signaller i) j e = ap due_in e
-  where
-    due_in : Option ℕ → ℕ
-    due_in None = 0
-    due_in (Some n) = due_to n
 called_due (next.Until i) j e = ap due_in e
-  where
-    due_in : Option ℕ → ℕ
-    due_in None = 0
-    due_in (Some n) = due_to n
 
 entry_is : (x : Next) → is_stay (Some x) ≡ false → called_by x ≡ None → x ≡ next.Entry
-entry_is next.Stay s e = absurd (subst (λ (b : Bool). cond b (Unit {0}) ⊥) s tt)
+entry_is next.Stay s e = absurd (true≢false s)
 entry_is next.Entry s e = refl
 entry_is (next.Waiter j) s e = absurd (subst is_some e tt)
-  where
-    is_some : Option ℕ → Type 0
-    is_some None = ⊥
-    is_some (Some n) = Unit {0}
 entry_is (next.Signaller j) s e = absurd (subst is_some e tt)
-  where
-    is_some : Option ℕ → Type 0
-    is_some None = ⊥
-    is_some (Some n) = Unit {0}
 entry_is (next.Until j) s e = absurd (subst is_some e tt)
-  where
-    is_some : Option ℕ → Type 0
-    is_some None = ⊥
-    is_some (Some n) = Unit {0}
 
 module _ {k : Rules} {o : Object} {z : TableId} {me : Me} {choice : Next} {to : Home} {f : FloorView} where
   -- where the seat stands that has brought the floor home
@@ -149,7 +84,7 @@ module _ {k : Rules} {o : Object} {z : TableId} {me : Me} {choice : Next} {to : 
       → (y : TableId) (new : Me) → y ≡ z → HasGone (the me.0) f.history to (the new.0) → new ≡ (the new.0 ∷ [], []) → IsResting k o y new number left calls × ((the new.0).place ≡ place_of to) × (left_within to ≤ left)
   gone_rests x {number} {calls} {left} s rest y new same gone is =
       let r = the me.0 in let ret = x.returns in let e = with_next ret.choice ret.call in let w = record (gave r f.history) { place = place_of to; steps = gone.steps } in
-      let seat = release_seat r.seat ret.to ret.call ret.choice ret.release in
+      let seat = (said r.seat ret.to ret.call ret.choice ret.release).seat in
       let history = ap (λ (g : FloorView). g.history) ret.grows in
       let is_floor = ret.grows ∙ ap (λ g. grown g e) ret.goes_on.is_floor in
       let h = f.history in let mine = events_of h r.seat in

@@ -15,3 +15,4 @@ pub mod Releasing
 pub mod FloorIn
 pub mod Dealing
 pub mod MeetLaws
+pub mod ReleaseLaws

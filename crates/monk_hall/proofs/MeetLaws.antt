@@ -17,7 +17,9 @@ use Rattle.monk_history.specs.Meaning.Counts.{events_of}
 use Rattle.monk_history.specs.Meaning.Events.{seat_of}
 use Rattle.monk_history.specs.Meaning.Turn.{turn}
 use Rattle.monk_history.specs.declared.event.Event.{Event}
-use Rattle.monk_floor.specs.View.{FloorView}
+use Rattle.monk_history.specs.Meaning.Legal.{IsLegal}
+use Rattle.monk_history.proofs.MeaningLaws.LegalLaws.{legal_front}
+use Rattle.monk_floor.specs.View.{FloorView, monitor_of}
 use Rattle.monk_world.specs.Kept.{IsKept}
 use Rattle.monk_world.specs.Places.{stage}
 use Rattle.monk_world.specs.Put.{put}
@@ -233,7 +235,7 @@ module _ (c : Setting) (views : List View) (at : ℕ → Record) (sh : AreShown 
           (λ q. na (sym (sh.seats j) ∙ ap (λ (x : Record). x.seat) (sym q))) (λ q. nb (sym (sh.seats j) ∙ ap (λ (x : Record). x.seat) (sym q))) refl
 
 -- the telling load
-pub compares : (k : Rules) (o : Object) (c : Setting) (slots id : ℕ) (me : Me) → IsTwo me.0 → (the me.0).place ≡ Idle → (the (tail me.0)).place ≡ Idle → Allows (IsHall k o c) slots id me 0 (λ n. n) (Compares me)
+pub compares : (k : Rules) (o : Object) (c : Setting) (slots id : ℕ) (me : Me) → IsTwo me.0 → (the me.0).place ≡ Idle → (the (tail me.0)).place ≡ Idle → Allows (IsHall k o c) slots id me 0 (λ n. n) (Compares k o me)
 unfolding learns
 compares k o c slots id me two idle_a idle_b s h wide view small =
     let a : Record = the me.0 in
@@ -267,9 +269,13 @@ compares k o c slots id me two idle_a idle_b s h wide view small =
       tt,
       subst (λ (ws : List ℕ). IsHall k o c record { words = ws; homes = s.homes; views = set s.views id (a2 ∷ b2 ∷ []) }) (sym (set-get_or s.words 0 0))
           (put (put at a.seat a2) b.seat b2, shown_two c s.views at h.1 id a b a2 b2 here refl refl refl refl, both_kept),
-      (refl, one),
+      (refl, one, truly both part a (ap (λ (x : Record). x.setting) (sym ia.0) ∙ h.1.settings a.seat) all_a, truly both part b (ap (λ (x : Record). x.setting) (sym ib.0) ∙ h.1.settings b.seat) all_b),
     )
   where
+    truly : (g : List Event) → StartsWith h.2.past g → (r : Record) → r.setting ≡ c → events_of g r.seat ≡ r.mine → IsLegal (monitor_of k o (floor_of r.setting g)) g × (events_of g r.seat ≡ r.mine)
+    truly g part r is own =
+        (subst (λ (y : Setting). IsLegal (monitor_of k o (floor_of y g)) g) (sym is) (legal_front (monitor_of k o (floor_of c g)) g part.0 (subst (IsLegal (monitor_of k o (floor_of c h.2.past))) part.1 h.2.told.legal)), own)
+
     longer_part : (past a b : List Event) → StartsWith past a → StartsWith past b → StartsWith past (longer a b)
     longer_part past a b p q = go (nat_le (length a) (length b))
       where

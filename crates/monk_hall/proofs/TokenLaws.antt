@@ -23,6 +23,7 @@ use Rattle.monk_world.specs.declared.place.Place.{Place}
 use Rattle.monk_world.specs.declared.place.Place.TheVariants.{Idle, Ticket, Due, Active, Back, Passing, Inner}
 use Rattle.monk_world.specs.declared.source.Source.{Source}
 use Rattle.monk_world.specs.declared.source.Source.TheVariants.{Free, Granted, Called}
+use Rattle.monk_hall.proofs.Private.{own_event}
 use Rattle.monk_hall.specs.Calls.{Arrived, Entered, HasDone, Looked, StillWaits, came_by, looked_from}
 use Rattle.monk_hall.specs.Changes.{drew, looked_for_ticket, looked_for_call, source_at, took}
 use Rattle.monk_hall.specs.Floors.{Finds, GoesOn, IsOwn, AreOwn}
@@ -33,11 +34,8 @@ use Rattle.monk_hall.specs.Tokens.{Token, Holder, IsSeated, IsTold, IsResting, I
 use Rattle.monk_hall.specs.declared.record.Record.{Record}
 
 -- a seat's own event is one more of its own
-pub own_push : (h : List Event) (e : Event) (s : ℕ) → seat_of e ≡ s → events_of (h ++ e ∷ []) s ≡ events_of h s ++ e ∷ []
-own_push h e s is = events_of-push h e s ∙ ap (λ (b : Bool). events_of h s ++ cond b (e ∷ []) []) (eq-eqb (seat_of e) s is)
-
 pub own_longer : (h : List Event) (e : Event) (s : ℕ) → seat_of e ≡ s → length (events_of (h ++ e ∷ []) s) ≡ length (events_of h s) + 1
-own_longer h e s is = ap length (own_push h e s is) ∙ length-append (events_of h s) (e ∷ [])
+own_longer h e s is = ap length (own_event h e s is) ∙ length-append (events_of h s) (e ∷ [])
 
 pub out_seat : (i : ℕ) (q : Source) (u : Turn) → seat_of (out_event i q u) ≡ i
 out_seat i (Free t) u = refl
@@ -103,7 +101,7 @@ module _ {k : Rules} {o : Object} where
     goes = sym (append-nil (f.history ++ e ∷ []));
     own = tt;
     owned = turn-push f.history e ∙ out_owns r.seat (source_at r.place) (turn f.history);
-    mine = own_push f.history e r.seat (out_seat r.seat (source_at r.place) (turn f.history)) ∙ ap (λ es. es ++ e ∷ []) x.mine;
+    mine = own_event f.history e r.seat (out_seat r.seat (source_at r.place) (turn f.history)) ∙ ap (λ es. es ++ e ∷ []) x.mine;
     within = let more = own_longer f.history e r.seat (out_seat r.seat (source_at r.place) (turn f.history)) in let two = x.left in let b = ap (λ y. y.budget) x.is_floor in omega arith;
   }
 
@@ -269,7 +267,7 @@ module _ {k : Rules} {o : Object} where
     goes = ap (λ h. h ++ e ∷ []) x.goes ∙ append_assoc (r.seen ++ out_event r.seat (source_at r.place) (turn r.seen) ∷ []) x.since (e ∷ []);
     own = own_more r.seat x.since e x.own (record { seat = seat; keeps = keeps; enters = enters });
     owned = turn-push f.history e ∙ keeps;
-    mine = own_push f.history e r.seat seat ∙ ap (λ h. h ++ e ∷ []) x.mine ∙ append_assoc r.mine (out_event r.seat (source_at r.place) (turn r.seen) ∷ x.since) (e ∷ []);
+    mine = own_event f.history e r.seat seat ∙ ap (λ h. h ++ e ∷ []) x.mine ∙ append_assoc r.mine (out_event r.seat (source_at r.place) (turn r.seen) ∷ x.since) (e ∷ []);
     within = let more = own_longer f.history e r.seat seat in omega arith;
   }
 
@@ -288,6 +286,6 @@ module _ {k : Rules} {o : Object} where
   pub grown_does : (z : TableId) (r : Record) (f g : FloorView) (e : Event) → seat_of e ≡ r.seat → IsLegal (monitor_of k o f) f.history → IsAllowed (monitor_of k o f) f.history e → g ≡ grown f e
       → HasDone k o (holder z r f) e (holder z r g)
   grown_does z r f g e seat legal allowed grows = record {
-    is = ap (holder z r) grows ∙ (λ i. record { hall = z; me = record r { mine = own_push f.history e r.seat seat i }; floor = grown f e });
+    is = ap (holder z r) grows ∙ (λ i. record { hall = z; me = record r { mine = own_event f.history e r.seat seat i }; floor = grown f e });
     legal = subst (λ y. IsLegal (monitor_of k o y) y.history) (sym grows) (legal-push (monitor_of k o f) f.history e legal allowed);
   }

@@ -7,3 +7,4 @@ pub mod Tells
 pub mod Tokens
 pub mod Calls
 pub mod Handing
+pub mod AfterCalls

@@ -9,7 +9,7 @@ ghost use Rattle.monk_hall.specs.Changes.{gave, home_at};
 ghost use Rattle.monk_hall.specs.Handing.{called_by, HasReleased, HandsOnWithin, HasGone};
 ghost use Rattle.monk_hall.specs.Records.{IsOne, the};
 ghost use Rattle.monk_hall.specs.Tells.{IsSized};
-ghost use Rattle.monk_hall.specs.Tokens.{IsSeated};
+ghost use Rattle.monk_hall.specs.Tokens.{IsSeated, IsTold};
 
 use crate::hall::Hall;
 use crate::parked::Parked;
@@ -108,6 +108,7 @@ pub(crate) fn go_outside<K: Kind, T: Guarded>(
     requires released { HasReleased K.rules T.meaning seat.table_id seat.me choice home.Idle floor }
     ensures hall { result.hall ≡ seat.table_id }
     ensures gone { HasGone (the seat.me.0) floor.history home.Idle result.me }
+    ensures told { IsTold K.rules T.meaning result.me }
 {
     let left = floor.left(number);
     go_home(hall, &mut seat, floor, choice);
@@ -135,6 +136,7 @@ pub(crate) fn go_inside<K: Kind, T: Guarded>(
     requires released { HasReleased K.rules T.meaning seat.table_id seat.me choice home.Inner floor }
     ensures hall { result.hall ≡ seat.table_id }
     ensures gone { HasGone (the seat.me.0) floor.history home.Inner result.me }
+    ensures told { IsTold K.rules T.meaning result.me }
 {
     let left = floor.left(number);
     go_home(hall, &mut seat, floor, choice);

@@ -7,6 +7,7 @@
 #![tactic(auto)]
 
 mod active;
+mod after;
 mod hall;
 mod handing;
 mod making;
@@ -16,12 +17,14 @@ mod pass;
 mod places;
 mod plays;
 mod record;
+mod releases;
 mod rule;
 mod setting;
 mod setup;
 mod steps;
 
 pub use active::Active;
+pub use after::After;
 pub use hall::Hall;
 pub use meeting::meet;
 pub use parked::Parked;
