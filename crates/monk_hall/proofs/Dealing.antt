@@ -1,5 +1,5 @@
 -- The table at the start, and how a record goes from one view to a seat of its own
-use Rattle.std.proofs.Common.{◌≡◌, ◌≢◌, ℕ, zero, suc, ◌+◌, ◌-◌, ◌*◌, ◌<◌, ◌≤◌, ◌⊎◌, List, [], ◌∷◌, ◌++◌, length, set, replicate, sym, refl, ap, ◌∙◌, subst, inl, inr, ⊎_elim, arith}
+use Rattle.std.proofs.Common.{◌≡◌, ◌≢◌, ℕ, zero, suc, ◌+◌, ◌-◌, ◌*◌, ◌<◌, ◌≤◌, ◌⊎◌, cond, Bool, true, false, ◌||◌, nat_lt, List, [], ◌∷◌, ◌++◌, length, set, replicate, sym, refl, ap, ◌∙◌, subst, inl, inr, ⊎_elim, arith}
 use Rattle.std.specs.Prelude.{Option, Some, None, slice_index}
 use Rattle.std.proofs.Math.Option.{some-injective}
 use Rattle.std.proofs.lemmas.Bool.Decides.{eqb_tells}
@@ -17,6 +17,7 @@ use Rattle.monk_history.specs.declared.event.Event.{Event}
 use Rattle.monk_history.proofs.MeaningLaws.CountLaws.{granted_none}
 use Rattle.monk_history.proofs.MeaningLaws.LegalLaws.{legal_none}
 use Rattle.monk_floor.specs.Making.{refusal}
+use Rattle.monk_floor.specs.declared.fault.MakeFault.TheVariants as fault
 use Rattle.monk_floor.specs.View.{FloorView, monitor_of}
 use Rattle.monk_world.specs.Kept.{IsKept}
 use Rattle.monk_world.specs.Put.{put}
@@ -240,3 +241,14 @@ fresh_rests k o z c number budget near sized enough = record {
   spent = omega arith;
   told = record { legal = legal_none (monitor_of k o (floor_of c [])); own = none_of number };
 }
+
+-- a hall that is made has a seat
+pub some_seat : (seats conds budget : ℕ) → refusal seats conds budget ≡ None → 0 < seats
+some_seat seats conds budget made = not_below (first_test (nat_lt seats 1) (nat_lt 32 seats) (nat_lt 8 conds) (nat_lt budget 2 || nat_lt 1048576 budget) made)
+  where
+    first_test : (a b c d : Bool) → cond (a || b) (Some fault.Seats) (cond c (Some fault.Conds) (cond d (Some fault.Budget) None)) ≡ None → a ≡ false
+    first_test false b c d e = refl
+    first_test true b c d e = absurd cc
+
+    not_below : nat_lt seats 1 ≡ false → 0 < seats
+    not_below e = grind (arith, e)

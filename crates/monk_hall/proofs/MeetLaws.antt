@@ -31,10 +31,12 @@ use Rattle.monk_world.specs.declared.source.Source.{Source}
 use Rattle.monk_world.proofs.PutLaws.{at_put, put_here, put_else, all_back}
 use Rattle.monk_hall.specs.Changes.{longer, met, shared}
 use Rattle.monk_hall.specs.Floors.{StartsWith}
-use Rattle.monk_hall.specs.Layout.{floor_of, shown, shown_world}
+use Rattle.monk_hall.specs.Layout.{floor_of, shown, shown_world, word_count}
 use Rattle.monk_hall.specs.Records.{View, In, Distinct, IsOne, IsTwo, the, head, tail}
 use Rattle.monk_hall.specs.Rule.{AreShown, AreTold, CountsCalls, Homes, IsHall, IsKeptHall}
-use Rattle.monk_hall.specs.Tells.{Me, AreOne, Compares}
+use Rattle.atomic_table.specs.Seated.{TableId}
+use Rattle.monk_hall.specs.Tells.{Me, AreOne, Compares, SeesTruly}
+use Rattle.monk_hall.specs.Tokens.{IsResting, top}
 use Rattle.monk_hall.specs.declared.record.Record.{Record}
 use Rattle.monk_hall.specs.declared.setting.Setting.{Setting}
 use Rattle.monk_hall.proofs.Dealing.{shown_moved}
@@ -375,3 +377,25 @@ parted k o c id a b s h view =
 pub parts_again : (k : Rules) (o : Object) (c : Setting) (id : ℕ) (v m : View) → v ≡ shared m → Splits {S = Option FloorView} (IsHall k o c) id v (head v) (tail v)
 parts_again k o c id v m e =
     subst (λ (x : View). Splits {S = Option FloorView} (IsHall k o c) id x (head x) (tail x)) (sym e) (parted k o c id (the (shared m)) (the (tail (shared m))))
+
+-- a seat that has met another rests as before
+pub met_rests : (k : Rules) (o : Object) (y z : TableId) (v : View) (number left calls : ℕ) (r : Record) (views : List View) → IsResting k o z (v, []) number left calls → (the v).place ≡ Idle → y ≡ z
+    → r.seat ≡ (the v).seat → r.setting ≡ (the v).setting → r.place ≡ (the v).place → r.count ≡ (the v).count → r.mine ≡ (the v).mine → SeesTruly k o r → views ≡ (r ∷ []) ∷ []
+    → (views ≡ top views ∷ []) × IsResting k o y (top views, []) number left calls × ((the (top views)).place ≡ Idle)
+met_rests k o y z v number left calls r views old idle table seat setting place count mine truly are =
+    subst (λ (vs : List View). (vs ≡ top vs ∷ []) × IsResting k o y (top vs, []) number left calls × ((the (top vs)).place ≡ Idle)) (sym are) (
+      refl,
+      record {
+        one = refl;
+        free = refl;
+        seated = record {
+          is_seat = seat ∙ old.seated.is_seat;
+          near = subst (λ (x : Setting). number < x.seats) (sym setting) old.seated.near;
+          sized = ap (λ (x : TableId). x.words) table ∙ old.seated.sized ∙ ap (λ (x : Setting). word_count x.seats) (sym setting);
+          counted = old.seated.counted ∙ sym count;
+        };
+        spent = ap (λ (es : List Event). left + length es) mine ∙ old.spent ∙ ap (λ (x : Setting). x.budget) (sym setting);
+        told = record { legal = truly.0; own = truly.1 };
+      },
+      place ∙ idle,
+    )

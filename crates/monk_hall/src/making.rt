@@ -1,5 +1,5 @@
 //! How a hall is made: the table, and a pass for each seat.
-ghost use Rattle.std.specs.Prelude.{◌≡◌, ℕ, ◌<◌, Option, Some, None, [], ◌∷◌, IfOk, IfErr};
+ghost use Rattle.std.specs.Prelude.{◌≡◌, ℕ, ◌<◌, Option, Some, None, [], ◌∷◌, IfOk, IfErr, replicate};
 ghost use Rattle.monk_floor.specs.Making.{refusal, IsRefused};
 ghost use Rattle.monk_hall.specs.Layout.{floor_of, word_count};
 ghost use Rattle.monk_hall.specs.Records.{the, fresh, first_view};
@@ -63,13 +63,20 @@ fn open<K: Kind, T: Guarded>(
     let budget = setup.budget;
     let mut slots = Vec::new(alloc);
     slots.push(Some(floor))?;
-    let words = vec![in alloc; 0; 2 * seats as usize + 1]?;
+    let words = zeros(alloc, 2 * seats as usize + 1)?;
     let (table, first) = match Table::new(alloc, &words, slots, &setup) {
         Ok(made) => made,
         Err(Refused { slots: _ }) => return Err(AllocError),
     };
     let passes = deal(alloc, &table.shared, first, seats, budget)?;
     Ok((Hall { table, seats }, passes))
+}
+
+/// So many words that are 0.
+fn zeros(alloc: Global, count: usize) -> Result<Vec<u64>, AllocError>
+    ensures { IfOk result (λ v. v.items ≡ replicate count 0) }
+{
+    Ok(vec![in alloc; 0; count]?)
 }
 
 /// Gives each seat its record, from the view that has them all.

@@ -98,13 +98,7 @@ impl<K: Conditional, T: Guarded> Active<K, T> {
         active.wait_knowing(hall, cond, pick, known)
     }
 
-    fn wait_knowing(
-        self,
-        hall: &Hall<K, T>,
-        cond: u8,
-        pick: Pick,
-        known: bool,
-    ) -> Parked<K, T>
+    fn wait_knowing(self, hall: &Hall<K, T>, cond: u8, pick: Pick, known: bool) -> Parked<K, T>
         requires hall { self.hall ≡ hall.now.id }
         requires cond { cond < self.me.setting.conds }
         requires left { length self.me.mine + 3 ≤ self.me.setting.budget }

@@ -20,16 +20,15 @@ loop-dealt-preserved g c =
     let below = c.loop-dealt-test.true in
     let split = c.split_seat-seat.ensures in
     let d : ℕ = c.loop-dealt.dealt in
-    let z = c.args.words.now.table_id in
-    (
+    let z = c.args.words.now.table_id in (
       split.0 ∙ inv.0,
       omega arith,
       ap (λ m. m.0) split.2 ∙ ap tail next,
       ap (λ m. m.1) split.2 ∙ inv.3,
       (let p = split.3 ∙ inv.0 in
-      let mine = ap (λ m. m.0) split.4 ∙ ap head next in
-      let q = ap (λ (v : View). (the v).setting) mine in
-      let zero_d : d ≡ 0 + d = omega arith in
-      c.in_ok-push.ensures.items ∙ (λ i. inv.4 i ++ c.fresh_pass.ensures i ∷ [])
-      ∙ (λ i. tokens z (fresh_from (setting_of (g.T.Guarded.state c.args.words.now.key.opening.value) c.args.seats c.args.words.now.key.conds c.args.budget) d 0) ++ record { hall = p i; me = fresh (q i) (zero_d i) } ∷ []) ∙ sym (tokens_more z (setting_of (g.T.Guarded.state c.args.words.now.key.opening.value) c.args.seats c.args.words.now.key.conds c.args.budget) d 0)),
+          let mine = ap (λ m. m.0) split.4 ∙ ap head next in
+          let q = ap (λ (v : View). (the v).setting) mine in
+          let zero_d : d ≡ 0 + d = omega arith in
+          c.in_ok-push.ensures.items ∙ (λ i. inv.4 i ++ c.fresh_pass.ensures i ∷ [])
+          ∙ (λ i. tokens z (fresh_from (setting_of (g.T.Guarded.state c.args.words.now.key.opening.value) c.args.seats c.args.words.now.key.conds c.args.budget) d 0) ++ record { hall = p i; me = fresh (q i) (zero_d i) } ∷ []) ∙ sym (tokens_more z (setting_of (g.T.Guarded.state c.args.words.now.key.opening.value) c.args.seats c.args.words.now.key.conds c.args.budget) d 0)),
     )
