@@ -13,5 +13,7 @@ pub mod FloorOut
 pub mod Private
 pub mod Releasing
 pub mod FloorIn
+pub mod Dealing
+pub mod MeetLaws
 pub mod ReleaseLaws
 pub mod KindLaws

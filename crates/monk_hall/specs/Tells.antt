@@ -5,8 +5,9 @@ use Rattle.atomic_table.specs.Table as table
 use Rattle.monk_kinds.specs.declared.mode.Rules.{Rules}
 use Rattle.monk_kinds.specs.declared.Pick.{Pick}
 use Rattle.monk_object.specs.Object.{Object}
-use Rattle.monk_history.specs.Meaning.Counts.{enters_of, left_of}
+use Rattle.monk_history.specs.Meaning.Counts.{events_of, enters_of, left_of}
 use Rattle.monk_history.specs.Meaning.Events.{is_stay}
+use Rattle.monk_history.specs.Meaning.Legal.{IsLegal}
 use Rattle.monk_history.specs.Meaning.Release.{MayCall, with_next, choice_of}
 use Rattle.monk_history.specs.declared.event.Event.{Event}
 use Rattle.monk_history.specs.declared.event.Event.TheVariants.{Leave, Wait, Signal, SignalLeave, Until}
@@ -19,7 +20,7 @@ use Rattle.monk_world.specs.declared.home.Home.{Home}
 use Rattle.monk_world.specs.declared.home.Home.TheVariants as home
 use Rattle.monk_hall.specs.Changes.{drew, looked_for_ticket, looked_for_call, peeked, took, gave, took_off, handed_on, shared}
 use Rattle.monk_hall.specs.Floors.{StartsWith, Finds, GoesOn}
-use Rattle.monk_hall.specs.Layout.{tickets, unpassed, word_count}
+use Rattle.monk_hall.specs.Layout.{tickets, unpassed, word_count, floor_of}
 use Rattle.monk_hall.specs.Records.{View, the, tail}
 use Rattle.monk_hall.specs.declared.record.Record.{Record}
 
@@ -64,8 +65,12 @@ HandsOn me found new = new ≡ (handed_on (the me.0) ∷ [], me.1)
 abbrev pub AreOne : List Event → List Event → Type 0
 AreOne a b = StartsWith a b ⊎ StartsWith b a
 
-abbrev pub Compares : Me → ℕ → Me → Type 0
-Compares me found new = (new ≡ (shared me.0, me.1)) × AreOne (the me.0).seen (the (tail me.0)).seen
+-- what a seat has seen is legal, and its own events there are those that it knows as its own
+abbrev pub SeesTruly : Rules → Object → Record → Type 0
+SeesTruly k o r = IsLegal (monitor_of k o (floor_of r.setting r.seen)) r.seen × (events_of r.seen r.seat ≡ r.mine)
+
+abbrev pub Compares : Rules → Object → Me → ℕ → Me → Type 0
+Compares k o me found new = (new ≡ (shared me.0, me.1)) × AreOne (the me.0).seen (the (tail me.0)).seen × SeesTruly k o (the new.0) × SeesTruly k o (the (tail new.0))
 
 -- a release of seat i as it is called, written with `stay`, and where the seat goes then: outside after a leave,
 -- inside after a wait

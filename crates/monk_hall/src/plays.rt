@@ -88,7 +88,7 @@ impl Join<View> for Meet {
 pub(crate) struct Compare;
 
 impl<K: Kind, T: Guarded> Play<Option<Floor<K, T>>, View> for Compare {
-    ghost then = { λ step me found new. Compares me found new };
+    ghost then = { λ step me found new. Compares K.rules T.meaning me found new };
 }
 
 /// And part.

@@ -2,6 +2,7 @@
 use std::snapshot::Snapshot;
 
 /// The object as it was, and the hall's numbers.
+#[derive(Drop)]
 pub struct Setup<T> {
     pub(crate) opening: Snapshot<T>,
     pub(crate) seats: u8,
