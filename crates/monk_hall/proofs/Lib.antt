@@ -17,3 +17,5 @@ pub mod Dealing
 pub mod MeetLaws
 pub mod ReleaseLaws
 pub mod KindLaws
+pub mod ClosingLaws
+pub mod ResumeLaws

@@ -8,3 +8,4 @@ pub mod Tokens
 pub mod Calls
 pub mod Handing
 pub mod AfterCalls
+pub mod Closing

@@ -8,6 +8,9 @@
 
 mod active;
 mod after;
+mod busy;
+mod closed;
+mod closing;
 mod hall;
 mod handing;
 mod making;
@@ -18,6 +21,7 @@ mod places;
 mod plays;
 mod record;
 mod releases;
+mod resuming;
 mod rule;
 mod setting;
 mod setup;
@@ -25,6 +29,9 @@ mod steps;
 
 pub use active::Active;
 pub use after::After;
+pub use busy::Busy;
+pub use closed::Closed;
+pub use closing::close;
 pub use hall::Hall;
 pub use meeting::meet;
 pub use parked::Parked;

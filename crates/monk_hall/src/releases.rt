@@ -29,7 +29,7 @@ fn asks_for_entry(chooses: bool, pick: Pick) -> bool
 
 impl<K: Kind, T: Guarded> Active<K, T> {
     /// Looks at the ticket word. Tells whether somebody waits for entry.
-    fn peek(&mut self, hall: &Hall<K, T>) -> bool
+    pub(crate) fn peek(&mut self, hall: &Hall<K, T>) -> bool
         requires { self.old.hall ≡ hall.now.id }
         ensures peeked { HasPeeked 1 self.old self.new }
         ensures known { result ≡ self.new.me.known }
