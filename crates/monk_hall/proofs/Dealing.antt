@@ -28,7 +28,7 @@ use Rattle.monk_world.proofs.WorldLaws.{opening_kept}
 use Rattle.monk_hall.specs.Layout.{tickets, unpassed, word_count, place_word, seat_word, floor_of, shown, shown_world}
 use Rattle.monk_hall.specs.Records.{View, In, Distinct, fresh, fresh_from, first_view, head, tail}
 use Rattle.monk_hall.specs.Rule.{AreShown, IsHall}
-use Rattle.monk_hall.specs.Tokens.{Token, IsResting, tokens}
+use Rattle.monk_hall.specs.Tokens.{Token, IsResting, AreOf, tokens}
 use Rattle.monk_hall.specs.declared.record.Record.{Record}
 use Rattle.monk_hall.specs.declared.setting.Setting.{Setting}
 use Rattle.monk_hall.proofs.Seats.{long, only}
@@ -252,3 +252,11 @@ some_seat seats conds budget made = not_below (first_test (nat_lt seats 1) (nat_
 
     not_below : nat_lt seats 1 ≡ false → 0 < seats
     not_below e = grind (arith, e)
+
+pub tokens_are_of : (z : TableId) (v : View) → AreOf z (tokens z v)
+tokens_are_of z [] = tt
+tokens_are_of z (r ∷ rs) = (refl, tokens_are_of z rs)
+
+pub last_is_of : (z : TableId) (ps : List Token) (p : Token) → AreOf z (ps ++ p ∷ []) → (p.hall ≡ z) × AreOf z ps
+last_is_of z [] p h = (h.0, tt)
+last_is_of z (q ∷ ps) p h = let rest = last_is_of z ps p h.1 in (rest.0, (h.0, rest.1))

@@ -85,3 +85,8 @@ IsWaiting (Active q) = ⊥
 IsWaiting (Back x to) = ⊥
 IsWaiting (Passing t to) = ⊥
 IsWaiting Inner = Unit {0}
+
+-- all these are tokens of that hall
+abbrev pub AreOf : TableId → List Token → Type 0
+AreOf z [] = Unit {0}
+AreOf z (p ∷ ps) = (p.hall ≡ z) × AreOf z ps

@@ -36,3 +36,6 @@ pub use hall::Hall;
 pub use meeting::meet;
 pub use parked::Parked;
 pub use pass::Pass;
+
+#[cfg(test)]
+mod tests;
