@@ -1,7 +1,7 @@
 ghost use Rattle.std.specs.Prelude.{◌≡◌, ◌≢◌, ℕ, suc, ◌+◌, ◌≤◌, ◌^◌, Option, Some, None, IfOk, IfErr, length};
 ghost use Rattle.monk_world.specs.Places.{stage};
 ghost use Rattle.monk_world.specs.declared.place.Place.TheVariants as at;
-ghost use Rattle.monk_hall.specs.Calls.{Looked, Entered, StillWaits};
+ghost use Rattle.monk_hall.specs.Calls.{Looked, Entered, StillWaits, ticket_held};
 
 use crate::active::Active;
 use crate::hall::Hall;
@@ -48,6 +48,18 @@ impl<K: Kind, T: Guarded> Parked<K, T> {
         ensures { result + length self.now.me.mine ≡ self.now.me.setting.budget }
     {
         self.left
+    }
+
+    /// The number of the ticket with which it waits for entry, or with which it found the monitor free.
+    pub fn ticket(&self) -> Option<u32>
+        ensures { result ≡ ticket_held self.now.me.place }
+    {
+        match self.place {
+            Place::Ticket(ticket) => Some(ticket),
+            Place::Due(Source::Free(ticket)) => Some(ticket),
+            Place::Due(Source::Granted(ticket)) => Some(ticket),
+            _ => None,
+        }
     }
 
     /// Becomes active if the right was handed over, in at most two steps: a look where it waits, and the floor comes.
