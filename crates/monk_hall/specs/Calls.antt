@@ -47,6 +47,18 @@ came_by (Back x to) = Called
 came_by (Passing t to) = Called
 came_by Inner = Called
 
+-- the ticket with which a seat waits for entry, or came to the right
+abbrev pub ticket_held : Place → Option ℕ
+ticket_held Idle = None
+ticket_held (Ticket t) = Some t
+ticket_held (Due (Free t)) = Some t
+ticket_held (Due (Granted t)) = Some t
+ticket_held (Due Called) = None
+ticket_held (Active q) = None
+ticket_held (Back x to) = None
+ticket_held (Passing t to) = None
+ticket_held Inner = None
+
 -- a waiting seat looked, and found this: a seat that is due needs no look
 abbrev pub looked_from : Place → Record → ℕ → Record
 looked_from Idle r found = r
