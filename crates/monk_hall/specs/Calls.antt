@@ -149,18 +149,3 @@ pub record Stayed (k : Rules) (o : Object) (a : Holder) (call : Event) (wish : P
 pub record HasDone (k : Rules) (o : Object) (a : Holder) (e : Event) (b : Holder) : Type 0 where
   pub is : b ≡ record a { me = record a.me { mine = a.me.mine ++ e ∷ [] }; floor = grown a.floor e }
   pub legal : IsLegal (monitor_of k o b.floor) b.floor.history
-
--- the ticket with which a seat waits for entry, or with which it found the monitor free
-abbrev pub ticket_by : Source → Option ℕ
-ticket_by (Free t) = Some t
-ticket_by (Granted t) = Some t
-ticket_by Called = None
-
-abbrev pub ticket_held : Place → Option ℕ
-ticket_held Idle = None
-ticket_held (Ticket t) = Some t
-ticket_held (Due q) = ticket_by q
-ticket_held (Active q) = None
-ticket_held (Back x to) = None
-ticket_held (Passing t to) = None
-ticket_held Inner = None
