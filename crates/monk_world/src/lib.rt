@@ -23,7 +23,7 @@ pub use home::Home;
 pub use place::Place;
 pub use play::{LEAST_BUDGET, MOST_BUDGET, MOST_COMMANDS, one_play_each, read_play};
 pub use source::Source;
-pub use world::World;
+pub use world::{World, record_entry};
 
 #[cfg(test)]
 mod tests;

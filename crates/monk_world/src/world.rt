@@ -185,7 +185,7 @@ impl<K: Kind, T: Guarded> World<K, T> {
     {
         match self.words.place(seat) {
             Place::Due(source) => {
-                record(&mut self.floor, seat, source);
+                record_entry(&mut self.floor, seat, source);
                 self.words.come_out(seat, source)
             }
             _ => unreachable!(),
@@ -287,8 +287,8 @@ impl<K: Kind, T: Guarded> World<K, T> {
     }
 }
 
-/// The event with which the floor comes out to a seat.
-fn record<K: Kind, T: Guarded>(floor: &mut Floor<K, T>, seat: u8, source: Source)
+/// Records the event with which the floor comes out to a seat: its enter, or its resume.
+pub fn record_entry<K: Kind, T: Guarded>(floor: &mut Floor<K, T>, seat: u8, source: Source)
     requires allowed { IsAllowed (monitor_of K.rules T.meaning floor.old) floor.old.history (out_event seat source (turn floor.old.history)) }
     requires seat { seat < floor.old.seats }
     requires left { 0 < left_of floor.old.budget floor.old.history seat }

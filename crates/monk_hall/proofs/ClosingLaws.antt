@@ -1,0 +1,125 @@
+-- Where no seat is in a queue, every queue is empty, and a leave lets the entry in
+use Rattle.std.proofs.Common.{◌≡◌, ◌≢◌, ℕ, zero, suc, ◌+◌, ◌==◌, ◌<◌, ◌≤◌, ◌⊎◌, cond, Bool, true, false, not, nat_lt, ◌&&◌, List, [], ◌∷◌, ◌++◌, map, length, sym, refl, ap, ◌∙◌, subst, inl, inr, arith, eq-eqb}
+use Rattle.std.proofs.lemmas.List.{nil_from_length}
+use Rattle.monk_kinds.specs.declared.mode.Pick.TheVariants.{Entry as WishEntry}
+use Rattle.monk_kinds.specs.declared.mode.Rules.{Rules}
+use Rattle.monk_object.specs.Object.{Object}
+use Rattle.monk_history.specs.Meaning.Choice.{Queues}
+use Rattle.monk_history.specs.Meaning.Conditions.{condition}
+use Rattle.monk_history.specs.Meaning.Events.{has_conditions}
+use Rattle.monk_history.specs.Meaning.Legal.{IsLegal}
+use Rattle.monk_history.specs.Meaning.Monitor.{Monitor, data_of}
+use Rattle.monk_history.specs.declared.event.Event.{Event}
+use Rattle.monk_history.specs.declared.event.Next.{Next}
+use Rattle.monk_floor.specs.Grown.{IsGrown}
+use Rattle.monk_history.specs.Meaning.Release.{choice_of}
+use Rattle.monk_history.specs.Meaning.Situation.{Situation, situation}
+use Rattle.monk_history.specs.Meaning.Standing.{times, times_in_conditions, in_queues, is_queued, standing, IsPlaced, has_turn}
+use Rattle.monk_history.specs.Meaning.Signallers.{signals, is_empty}
+use Rattle.monk_history.specs.Meaning.Untils.{ready_of}
+use Rattle.monk_history.specs.Meaning.Waiters.{serves}
+use Rattle.monk_history.specs.Meaning.Wish.{choice_by, is_waiter_open, waiter_choice, signaller_choice}
+use Rattle.monk_history.specs.declared.event.Event.TheVariants.{Leave}
+use Rattle.monk_history.specs.declared.event.Next.TheVariants as next
+use Rattle.monk_history.proofs.MeaningLaws.ReleaseLaws.{legal_seated, IsSeated, times_le_conditions}
+use Rattle.monk_history.proofs.MeaningLaws.StandingLaws.{legal_placed}
+use Rattle.monk_floor.specs.View.{FloorView, monitor_of, stands_of}
+use Rattle.monk_hall.specs.Closing.{HasNobody, IsUnqueued, IsEnded}
+use Rattle.monk_hall.specs.Tokens.{Holder}
+
+empty_of : (xs : List ℕ) → ((j : ℕ) → times j xs ≡ 0) → xs ≡ []
+empty_of [] none = refl
+empty_of (x ∷ xs) none =
+    let one : ◌≡◌ {A = ℕ} (cond (x == x) 1 0) 1 = ap (λ (b : Bool). cond b 1 0) (eq-eqb x x refl) in
+    let n = none x in
+    absurd (omega arith)
+
+none_queued : (n : ℕ) → nat_lt 0 n ≡ false → n ≡ 0
+none_queued n e = grind (arith, e)
+
+length_seats : (us : List (ℕ × ℕ)) → length (map (λ w. w.0) us) ≡ length us
+length_seats [] = refl
+length_seats (u ∷ us) = ap suc (length_seats us)
+
+-- a seat that isn't one of the monitor's is in no queue
+far_unqueued : (m : Monitor) (t : Situation) (j : ℕ) → IsPlaced m.conds t → IsSeated m.seats t → m.seats ≤ j → in_queues m.conds j t ≡ 0
+far_unqueued m t j placed seated far = by_inside (t.inside j) refl
+  where
+    by_inside : (b : Bool) → t.inside j ≡ b → in_queues m.conds j t ≡ 0
+    by_inside true e = let low = seated j e in absurd (omega arith)
+    by_inside false e = let p = placed j in let z : ◌≡◌ {A = ℕ} (cond (t.inside j) 1 0) 0 = ap (λ (b : Bool). cond b 1 0) e in omega arith
+
+pub nobody : (k : Rules) (o : Object) (f : FloorView) → IsLegal (monitor_of k o f) f.history → IsUnqueued k o f f.seats → HasNobody f
+nobody k o f legal unqueued =
+    let m = monitor_of k o f in
+    let t = situation m f.history in
+    let placed = legal_placed m f.history legal in
+    let seated = legal_seated m f.history legal in
+    let none : (j : ℕ) → in_queues f.conds j t ≡ 0 = λ j. elim (cases_le f.seats j) [
+      | inl far ↦ far_unqueued m t j placed seated far
+      | inr near ↦ none_queued (in_queues f.conds j t) (unqueued j near)
+    ] in
+    record {
+      conditions = λ c low. empty_of (condition c f.history) (λ j. let n = none j in let l = times_le_conditions f.conds j c t.condition low in omega arith);
+      waiters = empty_of t.waiters (λ j. let n = none j in omega arith);
+      signallers = empty_of t.signallers (λ j. let n = none j in omega arith);
+      untils =
+          let seats = empty_of (map (λ w. w.0) t.untils) (λ j. let n = none j in omega arith) in
+          nil_from_length t.untils (sym (length_seats t.untils) ∙ ap length seats);
+    }
+  where
+    cases_le : (a b : ℕ) → (a ≤ b) ⊎ (b < a)
+    cases_le zero b = inl (omega arith)
+    cases_le (suc a) zero = inr (omega arith)
+    cases_le (suc a) (suc b) = elim (cases_le a b) [ inl l ↦ inl (omega arith) | inr l ↦ inr (omega arith) ]
+
+both_empty : (b : Bool) → (is_empty {X = ℕ} (cond b [] []) && true) ≡ true
+both_empty true = refl
+both_empty false = refl
+
+entry_by : (k : Rules) (ws ss rs : List ℕ) (s : ℕ) → ws ≡ [] → ss ≡ [] → rs ≡ [] → choice_by k (record { waiters = ws; signallers = ss; ready = rs }) s false WishEntry ≡ next.Entry
+entry_by k ws ss rs s w z r =
+    subst (λ (x : List ℕ). choice_by k (record { waiters = x; signallers = ss; ready = rs }) s false WishEntry ≡ next.Entry) (sym w)
+    (subst (λ (x : List ℕ). choice_by k (record { waiters = []; signallers = x; ready = rs }) s false WishEntry ≡ next.Entry) (sym z)
+    (subst (λ (x : List ℕ). choice_by k (record { waiters = []; signallers = []; ready = x }) s false WishEntry ≡ next.Entry) (sym r)
+    (ap (λ (b : Bool). cond b next.Entry (cond (is_waiter_open k none) (waiter_choice k none) (signaller_choice none s))) (both_empty (has_conditions k.mode)))))
+  where
+    none : Queues
+    none = record { waiters = []; signallers = []; ready = [] }
+
+pub leaves_last : (k : Rules) (o : Object) (f : FloorView) (s : ℕ) → HasNobody f → choice_of k o (stands_of k o f) (Leave s next.Stay) false WishEntry ≡ next.Entry
+leaves_last k o f s none =
+    let t = stands_of k o f in
+    let call = Leave s next.Stay in
+    entry_by k (t.waiters ++ serves t.condition call) (t.signallers ++ signals t.condition call) (ready_of o t.state t.untils) s
+    (ap (λ (x : List ℕ). x ++ serves t.condition call) none.waiters) (ap (λ (x : List ℕ). x ++ signals t.condition call) none.signallers) (ap (ready_of o t.state) none.untils)
+
+-- the active seat has left, where no seat was in a queue
+pub ended : (k : Rules) (o : Object) (a : Holder) (f : FloorView) (number : ℕ) (choice : Next) (g : FloorView) (history : List Event) (state : List ℕ) → a.floor ≡ f → a.me.seat ≡ number → IsLegal (monitor_of k o f) f.history
+    → IsUnqueued k o a.floor a.floor.seats → IsGrown k o f (Leave number choice) g → choice ≡ choice_of k o (stands_of k o f) (Leave number next.Stay) false WishEntry
+    → history ≡ g.history → IsLegal (monitor_of k o g) g.history → state ≡ data_of (monitor_of k o g) g.history → IsEnded k o a history state
+ended k o a f number choice g history state floor seat legal unqueued grows chosen is_history all_legal is_state =
+    let none : HasNobody f = nobody k o f legal (subst (λ (x : FloorView). IsUnqueued k o x x.seats) floor unqueued) in
+    let entry : choice ≡ next.Entry = chosen ∙ leaves_last k o f number none in
+    let past : g.history ≡ a.floor.history ++ Leave a.me.seat next.Entry ∷ [] =
+    ap (λ (x : FloorView). x.history) grows.grown ∙ (λ i. (sym floor i).history ++ Leave (sym seat i) (entry i) ∷ []) in
+    let same : monitor_of k o g ≡ monitor_of k o a.floor = ap (monitor_of k o) grows.grown ∙ ap (monitor_of k o) (sym floor) in
+    record {
+      nobody = subst HasNobody (sym floor) none;
+      leaves = is_history ∙ past;
+      legal = subst (λ (m : Monitor). IsLegal m history) same (subst (IsLegal (monitor_of k o g)) (sym is_history) all_legal);
+      contents = is_state ∙ (λ i. data_of (same i) (sym is_history i));
+    }
+
+-- what holds of all seats of the hall holds of all seats of the floor, which a look at the ticket word leaves
+pub unqueued_all : (k : Rules) (o : Object) (f g : FloorView) (seats : ℕ) → IsUnqueued k o f seats → seats ≡ f.seats → g ≡ f → IsUnqueued k o g g.seats
+unqueued_all k o f g seats none all same = subst (λ (x : FloorView). IsUnqueued k o x x.seats) (sym same) (subst (IsUnqueued k o f) all none)
+
+-- the hall has ended for a seat that has looked at the ticket word
+pub ended_peeked : (k : Rules) (o : Object) (a b : Holder) (history : List Event) (state : List ℕ) → b.floor ≡ a.floor → b.me.seat ≡ a.me.seat → IsEnded k o b history state → IsEnded k o a history state
+ended_peeked k o a b history state floor seat e = record {
+  nobody = subst HasNobody floor e.nobody;
+  leaves = e.leaves ∙ (λ i. (floor i).history ++ Leave (seat i) next.Entry ∷ []);
+  legal = subst (λ (f : FloorView). IsLegal (monitor_of k o f) history) floor e.legal;
+  contents = e.contents ∙ ap (λ (f : FloorView). data_of (monitor_of k o f) history) floor;
+}

@@ -1,0 +1,299 @@
+-- The active seat brings the floor home
+use Rattle.std.proofs.Common.{◌≡◌, ◌≢◌, ℕ, zero, suc, ◌+◌, ◌-◌, ◌==◌, ◌<◌, ◌≤◌, cond, Bool, true, false, List, [], ◌∷◌, ◌++◌, length, set, sym, refl, ap, ◌∙◌, subst, inl, inr, arith, eq-eqb, ne_eqb, append-nil, append_assoc, length-append, length-set}
+use Rattle.std.specs.List.{last_or}
+use Rattle.std.specs.Prelude.{Option, Some, None, slice_index}
+use Rattle.std.proofs.lemmas.Bool.Decides.{eqb_tells}
+use Rattle.std.proofs.lemmas.List.{set-get_or}
+use mathlib.Core.Option as maybe
+use mathlib.Core.Path.{Path}
+use lib.ListN.{get_elem?}
+use Rattle.atomic_table.proofs.Lists.{set_here}
+use Rattle.atomic_table.specs.Table.{gives, Allows}
+use Rattle.atomic_table.specs.Table as table
+use Rattle.monk_kinds.specs.Kind.{IsKind}
+use Rattle.monk_kinds.specs.declared.mode.Rules.{Rules}
+use Rattle.monk_object.specs.Object.{Object}
+use Rattle.monk_history.specs.Meaning.Counts.{events_of, granted_of, grants, names, left_of}
+use Rattle.monk_history.specs.Meaning.Events.{seat_of, next_of, is_stay}
+use Rattle.monk_history.specs.Meaning.Legal.{IsLegal}
+use Rattle.monk_history.specs.Meaning.Release.{MayCall, with_next, choice_of}
+use Rattle.monk_history.specs.Meaning.Turn.{turn, turn_by}
+use Rattle.monk_history.specs.declared.event.Event.{Event}
+use Rattle.monk_history.specs.declared.event.Next.{Next}
+use Rattle.monk_history.specs.declared.event.Next.TheVariants as next
+use Rattle.monk_history.specs.declared.event.Turn.TheVariants.{Owned}
+use Rattle.monk_history.proofs.MeaningLaws.CountLaws.{granted_of-push}
+use Rattle.monk_floor.specs.View.{FloorView, monitor_of, stands_of}
+use Rattle.monk_world.specs.Kept.{IsKept}
+use Rattle.monk_world.specs.Places.{stage, chosen, open_turn, due_to, turn_chosen}
+use Rattle.monk_world.specs.Put.{put}
+use Rattle.monk_world.specs.Sound.{left_within}
+use Rattle.monk_world.specs.State.{State, grown}
+use Rattle.monk_world.specs.StepTable.{out_event, release_next}
+use Rattle.monk_world.specs.Steps.{after_in}
+use Rattle.monk_world.specs.World.{World}
+use Rattle.monk_world.specs.declared.home.Home.{Home}
+use Rattle.monk_world.specs.declared.place.Place.{Place}
+use Rattle.monk_world.specs.declared.place.Place.TheVariants.{Idle, Ticket, Due, Active, Back, Passing, Inner}
+use Rattle.monk_world.specs.declared.source.Source.{Source}
+use Rattle.monk_world.specs.declared.source.Source.TheVariants.{Free, Granted, Called}
+use Rattle.monk_world.proofs.PutLaws.{at_put, put_here}
+use Rattle.monk_world.proofs.TestLaws.{names_chosen}
+use Rattle.monk_hall.specs.Changes.{gave, source_at, back_after}
+use Rattle.monk_hall.specs.Floors.{StartsWith, GoesOn, IsOwn, AreOwn}
+use Rattle.monk_hall.specs.Layout.{floor_of, shown, shown_world}
+use Rattle.monk_hall.specs.Records.{View, IsOne, the}
+use Rattle.monk_hall.specs.Rule.{IsHall, AreTold, CountsCalls}
+use Rattle.monk_hall.specs.Tells.{Me, GivesFloor, Returns, held_history}
+use Rattle.monk_hall.specs.declared.record.Record.{Record}
+use Rattle.monk_hall.specs.declared.setting.Setting.{Setting}
+use Rattle.monk_hall.proofs.Frame as frame
+use Rattle.monk_hall.proofs.Private as private
+use Rattle.monk_hall.proofs.Releasing as releasing
+use Rattle.monk_hall.proofs.Seats as seats
+use Rattle.monk_hall.proofs.Standing as standing
+use Rattle.monk_hall.proofs.Stepping as stepping
+
+last_more : (o : Option Event) (es : List Event) (e : Event) → last_or o (es ++ e ∷ []) ≡ Some e
+last_more o [] e = refl
+last_more o (x ∷ xs) e = last_more (Some x) xs e
+
+starts_on : (h g f : List Event) → StartsWith h g → StartsWith g f → StartsWith h f
+starts_on h g f a b = (b.0 ++ a.0, a.1 ∙ ap (λ (x : List Event). x ++ a.0) b.1 ∙ append_assoc f b.0 a.0)
+
+-- a choice that names a seat chose it, and no other choice does
+chosen_counts : (h : List Event) (e : Event) (x : Next) (m : ℕ) → next_of e ≡ Some x → turn_chosen x ≡ due_to m → granted_of (h ++ e ∷ []) m ≡ granted_of h m + 1
+chosen_counts h e x m chose names_m =
+    granted_of-push h e m ∙ ap (λ (b : Bool). granted_of h m + cond b 1 0) (ap (names m) chose ∙ names_chosen x m names_m)
+
+names_not : (x : Next) (m : ℕ) → turn_chosen x ≢ due_to m → names m (Some x) ≡ false
+names_not next.Stay m ne = refl
+names_not next.Entry m ne = refl
+names_not (next.Waiter j) m ne = ne_eqb j m (λ e. ne (ap due_to e))
+names_not (next.Signaller j) m ne = ne_eqb j m (λ e. ne (ap due_to e))
+names_not (next.Until j) m ne = ne_eqb j m (λ e. ne (ap due_to e))
+
+not_counts : (h : List Event) (e : Event) (x : Next) (m : ℕ) → next_of e ≡ Some x → turn_chosen x ≢ due_to m → granted_of (h ++ e ∷ []) m ≡ granted_of h m
+not_counts h e x m chose ne =
+    granted_of-push h e m ∙ ap (λ (b : Bool). granted_of h m + cond b 1 0) (ap (names m) chose ∙ names_not x m ne) ∙ (let z : granted_of h m + 0 ≡ granted_of h m = omega arith in z)
+
+-- an event that keeps the turn chose nobody
+keeps_names : (i m : ℕ) (e : Event) → turn_by (seat_of e) (next_of e) ≡ Owned i → grants m e ≡ false
+keeps_names i m e own = by_next (next_of e) own
+  where
+    by_next : (x : Option Next) → turn_by (seat_of e) x ≡ Owned i → names m x ≡ false
+    by_next None own = refl
+    by_next (Some next.Stay) own = refl
+    by_next (Some next.Entry) own = absurd cc
+    by_next (Some (next.Waiter j)) own = absurd cc
+    by_next (Some (next.Signaller j)) own = absurd cc
+    by_next (Some (next.Until j)) own = absurd cc
+
+own_counts : (i m : ℕ) (h es : List Event) → AreOwn i es → granted_of (h ++ es) m ≡ granted_of h m
+own_counts i m h [] own = ap (λ (g : List Event). granted_of g m) (append-nil h)
+own_counts i m h (e ∷ es) own =
+    ap (λ (g : List Event). granted_of g m) (sym (append_assoc h (e ∷ []) es))
+    ∙ own_counts i m (h ++ e ∷ []) es own.1
+    ∙ granted_of-push h e m ∙ ap (λ (b : Bool). granted_of h m + cond b 1 0) (keeps_names i m e own.0.keeps) ∙ (let z : granted_of h m + 0 ≡ granted_of h m = omega arith in z)
+
+out_counts : (h : List Event) (i m : ℕ) (q : Source) → granted_of (h ++ out_event i q (turn h) ∷ []) m ≡ granted_of h m
+out_counts h i m q =
+    granted_of-push h (out_event i q (turn h)) m ∙ ap (λ (b : Bool). granted_of h m + cond b 1 0) (none q) ∙ (let z : granted_of h m + 0 ≡ granted_of h m = omega arith in z)
+  where
+    none : (q : Source) → grants m (out_event i q (turn h)) ≡ false
+    none (Free t) = refl
+    none (Granted t) = refl
+    none Called = refl
+
+-- only a seat that has the floor back has chosen
+chosen_low : (p : Place) (m : ℕ) → chosen p ≡ due_to m → stage p ≡ 4
+chosen_low Idle m e = absurd (omega arith)
+chosen_low (Ticket t) m e = absurd (omega arith)
+chosen_low (Due y) m e = absurd (omega arith)
+chosen_low (Active y) m e = absurd (omega arith)
+chosen_low (Back x to) m e = refl
+chosen_low (Passing t to) m e = absurd (omega arith)
+chosen_low Inner m e = absurd (omega arith)
+
+module _ (k : Rules) (o : Object) (c : Setting) (kind : IsKind k) (s : table.State (Option FloorView) View) (h : IsHall k o c s) (id : ℕ) (r : Record) (here : get_elem? s.views id ≡ maybe.some (r ∷ []))
+    (active : stage r.place ≡ 3) (f : FloorView) (ret : Returns k o r f) where
+  abbrev q : Source
+  q = source_at r.place
+
+  abbrev past : List Event
+  past = h.2.past
+
+  abbrev before : List Event
+  before = ret.before.history
+
+  abbrev last : Event
+  last = with_next ret.choice ret.call
+
+  abbrev w : Record
+  w = gave r f.history
+
+  at_active : (h.0 r.seat).place ≡ Active q
+  at_active = stepping.stands_at k o c kind s h id r here (Active q) (standing.active_at r.place active)
+
+  seen_past : r.seen ≡ past
+  seen_past = sym (ap (λ (y : Record). y.seen) (stepping.is k o c kind s h id r here)) ∙ (h.2.told.lent r.seat q at_active).0
+
+  history_is : h.2.history ≡ past ++ out_event r.seat q (turn past) ∷ []
+  history_is = (h.2.told.lent r.seat q at_active).1
+
+  -- the history before the release is the shown one and the seat's own events
+  goes_is : before ≡ h.2.history ++ ret.goes_on.since
+  goes_is = ret.goes_on.goes ∙ ap (λ (g : List Event). (g ++ out_event r.seat q (turn g) ∷ []) ++ ret.goes_on.since) seen_past ∙ ap (λ (g : List Event). g ++ ret.goes_on.since) (sym history_is)
+
+  before_is : ret.before ≡ floor_of c before
+  before_is = ret.goes_on.is_floor ∙ ap (λ (y : Setting). floor_of y before) (stepping.setting k o c kind s h id r here)
+
+  grown_is : f ≡ floor_of c (before ++ last ∷ [])
+  grown_is = ret.grows ∙ ap (λ (g : FloorView). grown g last) before_is
+
+  f_history : f.history ≡ before ++ last ∷ []
+  f_history = ap (λ (g : FloorView). g.history) grown_is
+
+  mine_long : events_of before r.seat ≡ events_of h.2.history r.seat ++ ret.goes_on.since
+  mine_long = ap (λ (g : List Event). events_of g r.seat) goes_is ∙ private.own_more r.seat h.2.history ret.goes_on.since ret.goes_on.own
+
+  kept_before : IsKept k o c.seats c.conds (shown c s.words h.0 before)
+  kept_before =
+      let long = ap length mine_long ∙ length-append (events_of h.2.history r.seat) ret.goes_on.since in
+      let room : left_of ret.before.budget before r.seat ≡ left_of c.budget before r.seat = ap (λ (g : FloorView). left_of g.budget before r.seat) before_is in
+      let some = ret.left in
+      let legal : IsLegal (monitor_of k o (floor_of c before)) before = subst (λ (g : FloorView). IsLegal (monitor_of k o g) before) before_is ret.goes_on.legal in
+      subst (λ (g : List Event). IsKept k o c.seats c.conds (shown c s.words h.0 g)) (sym goes_is)
+      (private.more_kept k o (stepping.state k o c kind s h id r here) c.seats c.conds r.seat q ret.goes_on.since h.2.kept (stepping.near k o c kind s h id r here) at_active ret.goes_on.own
+      (subst (IsLegal (monitor_of k o (floor_of c before))) goes_is legal) (omega arith))
+
+  abbrev old : State
+  old = shown c s.words h.0 before
+
+  kept_after : IsKept k o c.seats c.conds (record old { world = after_in old.world r.seat ret.choice ret.to; floor = grown (floor_of c before) last })
+  kept_after =
+      releasing.release_kept k o old c.seats c.conds r.seat q kind kept_before (stepping.near k o c kind s h id r here) at_active ret.to ret.call ret.wish ret.choice ret.release
+      (subst (λ (g : FloorView). MayCall (monitor_of k o g) before ret.call) before_is ret.may)
+      (subst (λ (g : FloorView). left_within ret.to < left_of g.budget before r.seat) before_is ret.left)
+      (ret.chosen ∙ ap (λ (g : FloorView). choice_of k o (stands_of k o g) ret.call r.known ret.wish) before_is
+      ∙ ap (λ (y : Record). choice_of k o (stands_of k o (floor_of c before)) ret.call y.known ret.wish) (sym (stepping.is k o c kind s h id r here)))
+      ret.away
+
+  -- where the seat stands now
+  back_is : w.place ≡ Back ret.choice ret.to
+  back_is = ap (λ (g : List Event). back_after (last_or None g)) f_history ∙ ap back_after (last_more None before last) ∙ releasing.back_is r.seat ret.to ret.call ret.choice ret.release
+
+  same : Path State (record old { world = after_in old.world r.seat ret.choice ret.to; floor = grown (floor_of c before) last }) (shown c s.words (put h.0 r.seat w) f.history)
+  same = λ z. record {
+    world = record old.world {
+      place = (ap (put old.world.place r.seat) (sym back_is) ∙ stepping.places_after k o c kind s h id r here w) z;
+      count = stepping.counts_stay k o c kind s h id r here w refl z;
+    };
+    known = stepping.known_stays k o c kind s h id r here w refl z;
+    floor = floor_of c (sym f_history z);
+  }
+
+  -- nobody else has the right
+  alone : (j : ℕ) → j ≢ r.seat → 2 ≤ stage (h.0 j).place → stage (h.0 j).place ≤ 5 → ⊥
+  alone j ne low high =
+      let keeps = (stepping.sound k o c kind s h id r here).stands.keeps in
+      let three = ap stage at_active in
+      let mine = keeps.held r.seat (omega arith) (omega arith) in
+      let other = keeps.held j low high in
+      ne (omega arith)
+
+  -- who was chosen how often, by the history that comes home
+  before_counts : (m : ℕ) → granted_of before m ≡ granted_of past m
+  before_counts m =
+      ap (λ (g : List Event). granted_of g m) goes_is
+      ∙ own_counts r.seat m h.2.history ret.goes_on.since ret.goes_on.own
+      ∙ ap (λ (g : List Event). granted_of g m) history_is
+      ∙ out_counts past r.seat m q
+
+  nobody_chose : (j m : ℕ) → chosen (h.0 j).place ≢ due_to m
+  nobody_chose j m e =
+      let four = chosen_low (h.0 j).place m e in
+      elim (eqb_tells j r.seat) [
+        | inl b ↦ let z = ap (λ (n : ℕ). stage (h.0 n).place) b.1 in let y = ap stage at_active in absurd (omega arith)
+        | inr b ↦ absurd (alone j b.1 (omega arith) (omega arith))
+      ]
+
+  chose_is : next_of last ≡ Some ret.choice
+  chose_is = (releasing.said r.seat ret.to ret.call ret.choice ret.release).chose
+
+  calls_after : CountsCalls (shown_world s.words (put h.0 r.seat w)) f.history
+  calls_after =
+      let at = h.0 in
+      let world : World = shown_world s.words at in
+      let settled : (m : ℕ) → granted_of before m ≡ world.seat_place m = λ m. before_counts m ∙ h.2.told.calls.settled m (λ j. nobody_chose j m) in
+      record {
+        choosing = λ j m. at_put at r.seat w (λ n x. chosen x.place ≡ due_to m → granted_of f.history m ≡ world.seat_place m + 1)
+            (λ e. ap (λ (g : List Event). granted_of g m) f_history ∙ chosen_counts before last ret.choice m chose_is (sym (ap chosen back_is) ∙ e) ∙ ap (λ (n : ℕ). n + 1) (settled m))
+            (λ n _ e. absurd (nobody_chose n m e)) j;
+        settled = λ m none.
+            ap (λ (g : List Event). granted_of g m) f_history
+            ∙ not_counts before last ret.choice m chose_is (λ e. none r.seat (ap (λ (y : Record). chosen y.place) (put_here at r.seat w) ∙ ap chosen back_is ∙ e)) ∙ settled m;
+      }
+
+  past_starts : StartsWith f.history past
+  past_starts = (
+    out_event r.seat q (turn past) ∷ (ret.goes_on.since ++ last ∷ []),
+    f_history ∙ ap (λ (g : List Event). g ++ last ∷ []) goes_is ∙ ap (λ (g : List Event). (g ++ ret.goes_on.since) ++ last ∷ []) history_is
+        ∙ append_assoc (past ++ out_event r.seat q (turn past) ∷ []) ret.goes_on.since (last ∷ []) ∙ append_assoc past (out_event r.seat q (turn past) ∷ []) (ret.goes_on.since ++ last ∷ []),
+  )
+
+  others_mine : (j : ℕ) → j ≢ r.seat → events_of f.history j ≡ (h.0 j).mine
+  others_mine j ne =
+      ap (λ (g : List Event). events_of g j) f_history
+      ∙ frame.other_event before last j (λ e. ne (sym e ∙ (releasing.said r.seat ret.to ret.call ret.choice ret.release).seat))
+      ∙ ap (λ (g : List Event). events_of g j) goes_is
+      ∙ private.others_same r.seat j ne h.2.history ret.goes_on.since ret.goes_on.own
+      ∙ ap (λ (g : List Event). events_of g j) history_is
+      ∙ frame.other_event past (out_event r.seat q (turn past)) j (λ e. ne (sym e ∙ frame.out_seat r.seat q past))
+      ∙ h.2.told.mine j
+
+  told_after : AreTold k o c (set s.homes 0 (maybe.some (Some f))) (put h.0 r.seat w) (shown_world s.words (put h.0 r.seat w)) f.history f.history
+  told_after =
+      let at = h.0 in
+      let told = h.2.told in
+      let four : stage w.place ≡ 4 = ap stage back_is in
+      record {
+        one_slot = length-set s.homes 0 (maybe.some (Some f)) ∙ told.one_slot;
+        legal = (subst (IsKept k o c.seats c.conds) same kept_after).sound.is_sound.legal;
+        starts = at_put at r.seat w (λ j x. StartsWith f.history x.seen) (frame.starts_self f.history) (λ j _. starts_on f.history past (at j).seen past_starts (told.starts j));
+        mine = at_put at r.seat w (λ j x. events_of f.history j ≡ x.mine) refl (λ j ne. others_mine j ne);
+        own = at_put at r.seat w (λ j x. events_of x.seen j ≡ x.mine) refl (λ j _. told.own j);
+        back = at_put at r.seat w (λ j x. stage x.place ≡ 4 → x.seen ≡ f.history) (λ _. refl) (λ j ne e. absurd (alone j ne (omega arith) (omega arith)));
+        lent = at_put at r.seat w (λ j x. (p : Source) → x.place ≡ Active p → (x.seen ≡ f.history) × (f.history ≡ f.history ++ out_event j p (turn f.history) ∷ []) × (get_elem? (set s.homes 0 (maybe.some (Some f))) 0 ≡ maybe.some maybe.none))
+            (λ p e. absurd (let z = ap stage e in omega arith))
+            (λ j ne p e. absurd (let z = ap stage e in alone j ne (omega arith) (omega arith)));
+        home = λ none. (refl, set_here s.homes 0 (maybe.some (Some f)) (let z = told.one_slot in omega arith) ∙ ap (λ (g : FloorView). maybe.some (maybe.some (Some g))) (grown_is ∙ ap (floor_of c) (sym f_history)));
+        calls = calls_after;
+      }
+
+  pub gives_at : IsHall k o c (record { words = s.words; homes = set s.homes 0 (maybe.some (Some f)); views = set s.views id (w ∷ []) })
+  gives_at = (
+    put h.0 r.seat w,
+    seats.shown_set c s.views h.0 h.1 id r here w refl refl,
+    record {
+      past = f.history;
+      history = f.history;
+      some_seat = h.2.some_seat;
+      wide = h.2.wide;
+      kept = subst (IsKept k o c.seats c.conds) same kept_after;
+      told = told_after;
+    },
+  )
+
+pub gives_floor : (k : Rules) (o : Object) (c : Setting) → IsKind k → (slots id : ℕ) (me : Me) (f : FloorView) → IsOne me.0 → me.1 ≡ (0, Some f) ∷ [] → stage (the me.0).place ≡ 3 → Returns k o (the me.0) f
+    → Allows (IsHall k o c) slots id me 0 (λ n. n) (GivesFloor (held_history me.1) me)
+gives_floor k o c kind slots id me f one holds active ret =
+    subst (λ (g : List (ℕ × Option FloorView)). Allows (IsHall k o c) slots id (me.0, g) 0 (λ n. n) (GivesFloor (held_history g) (me.0, g))) (sym holds) (λ s h wide view small.
+    let here : get_elem? s.views id ≡ maybe.some (the me.0 ∷ []) = view ∙ ap maybe.some one in
+    let r : Record = the me.0 in (
+      gave r f.history ∷ [],
+      gives,
+      tt,
+      subst (λ (ws : List ℕ). IsHall k o c (record { words = ws; homes = set s.homes 0 (maybe.some (Some f)); views = set s.views id (gave r f.history ∷ []) })) (sym (set-get_or s.words 0 0)) (gives_at k o c kind s h id r here active f ret),
+      refl,
+    ))

@@ -1,0 +1,190 @@
+-- The floor comes out to the seat that is due
+use Rattle.std.proofs.Common.{◌≡◌, ◌≢◌, ℕ, zero, suc, ◌+◌, ◌-◌, ◌<◌, ◌≤◌, Bool, true, false, List, [], ◌∷◌, ◌++◌, length, set, sym, refl, ap, ◌∙◌, subst, inl, inr, arith, length-set}
+use Rattle.std.specs.Prelude.{Option, Some, None, slice_index}
+use Rattle.std.proofs.lemmas.Bool.Decides.{eqb_tells}
+use Rattle.std.proofs.lemmas.List.{set-get_or}
+use mathlib.Core.Option as maybe
+use mathlib.Core.Path.{Path}
+use lib.ListN.{get_elem?}
+use Rattle.atomic_table.proofs.Lists.{set_here}
+use Rattle.atomic_table.specs.Table.{takes, Allows}
+use Rattle.atomic_table.specs.Table as table
+use Rattle.monk_kinds.specs.Kind.{IsKind}
+use Rattle.monk_kinds.specs.declared.mode.Rules.{Rules}
+use Rattle.monk_object.specs.Object.{Object}
+use Rattle.monk_history.specs.Meaning.Counts.{events_of, enters_of, left_of}
+use Rattle.monk_history.specs.Meaning.Turn.{turn}
+use Rattle.monk_history.specs.declared.event.Event.{Event}
+use Rattle.monk_history.proofs.MeaningLaws.LegalLaws.{legal_last}
+use Rattle.monk_floor.specs.View.{FloorView, monitor_of}
+use Rattle.monk_world.specs.Enters.{used_at}
+use Rattle.monk_world.specs.Kept.{IsKept}
+use Rattle.monk_world.specs.Places.{stage, ticket, source, chosen}
+use Rattle.monk_world.specs.Put.{put}
+use Rattle.monk_world.specs.Sound.{left_at}
+use Rattle.monk_world.specs.State.{State, grown}
+use Rattle.monk_world.specs.StepTable.{IsDone, may_be_told, out_event}
+use Rattle.monk_world.specs.Steps.{after_out}
+use Rattle.monk_world.specs.World.{World}
+use Rattle.monk_world.specs.declared.answer.Answer.TheVariants as answer
+use Rattle.monk_world.specs.declared.command.Command.TheVariants as command
+use Rattle.monk_world.specs.declared.place.Place.{Place}
+use Rattle.monk_world.specs.declared.place.Place.TheVariants.{Due, Active}
+use Rattle.monk_world.specs.declared.source.Source.{Source}
+use Rattle.monk_world.specs.declared.source.Source.TheVariants.{Free, Granted, Called}
+use Rattle.monk_world.proofs.DoneLaws.{IsReady}
+use Rattle.monk_world.proofs.PutLaws.{at_put, put_here}
+use Rattle.monk_hall.specs.Changes.{took, source_at}
+use Rattle.monk_hall.specs.Floors.{StartsWith, Finds}
+use Rattle.monk_hall.specs.Layout.{floor_of, shown, shown_world}
+use Rattle.monk_hall.specs.Records.{View, IsOne, the}
+use Rattle.monk_hall.specs.Rule.{IsHall, AreTold}
+use Rattle.monk_hall.specs.Tells.{Me, TakesFloor}
+use Rattle.monk_hall.specs.declared.record.Record.{Record}
+use Rattle.monk_hall.specs.declared.setting.Setting.{Setting}
+use Rattle.monk_hall.proofs.Frame as frame
+use Rattle.monk_hall.proofs.Knows.{calls_stay}
+use Rattle.monk_hall.proofs.Seats as seats
+use Rattle.monk_hall.proofs.Standing as standing
+use Rattle.monk_hall.proofs.Stepping as stepping
+
+module _ (k : Rules) (o : Object) (c : Setting) (kind : IsKind k) (s : table.State (Option FloorView) View) (h : IsHall k o c s) (id : ℕ) (r : Record) (here : get_elem? s.views id ≡ maybe.some (r ∷ []))
+    (due : stage r.place ≡ 2) where
+  abbrev past : List Event
+  past = h.2.past
+
+  abbrev came : Event
+  came = out_event r.seat (source_at r.place) (turn past)
+
+  abbrev floor : FloorView
+  floor = floor_of c past
+
+  abbrev old : State
+  old = shown c s.words h.0 past
+
+  abbrev w : Record
+  w = took r past
+
+  at_due : (h.0 r.seat).place ≡ Due (source_at r.place)
+  at_due = stepping.stands_at k o c kind s h id r here (Due (source_at r.place)) (standing.due_at r.place due)
+
+  -- nobody is active: the seat that is due has the right
+  nobody : (j : ℕ) → stage (h.0 j).place ≢ 3
+  nobody j three =
+      let keeps = (stepping.sound k o c kind s h id r here).stands.keeps in
+      let two = ap stage at_due in
+      let mine = keeps.held r.seat (omega arith) (omega arith) in
+      let other = keeps.held j (omega arith) (omega arith) in
+      let same : j ≡ r.seat = omega arith in
+      let e = ap (λ (n : ℕ). stage (h.0 n).place) same in
+      absurd (omega arith)
+
+  -- so the floor is at home
+  pub at_home : get_elem? s.homes 0 ≡ maybe.some (maybe.some (Some floor))
+  at_home = (h.2.told.home nobody).1
+
+  kept_old : IsKept k o c.seats c.conds old
+  kept_old = subst (λ (g : List Event). IsKept k o c.seats c.conds (shown c s.words h.0 g)) (h.2.told.home nobody).0 h.2.kept
+
+  after : State
+  after = record { world = after_out old.world r.seat (source_at r.place); known = put old.known r.seat false; floor = grown floor came }
+
+  kept_after : IsKept k o c.seats c.conds after
+  unfolding after
+  kept_after =
+      frame.step_kept k o old r.seat command.Out answer.Now after c.seats c.conds (Due (source_at r.place)) kind kept_old
+      (record {
+        near = stepping.near k o c kind s h id r here;
+        range = refl;
+        offered = refl;
+        told = ap (λ (p : Place). may_be_told p command.Out) at_due;
+        left = omega arith;
+      })
+      at_due (refl, refl)
+
+  same : Path State after (shown c s.words (put h.0 r.seat w) (past ++ came ∷ []))
+  unfolding after
+  same = λ z. record {
+    world = record old.world { place = stepping.places_after k o c kind s h id r here w z; count = stepping.counts_stay k o c kind s h id r here w refl z };
+    known = stepping.known_after k o c kind s h id r here w false refl z;
+    floor = floor_of c (past ++ came ∷ []);
+  }
+
+  told_after : AreTold k o c (set s.homes 0 maybe.none) (put h.0 r.seat w) (shown_world s.words (put h.0 r.seat w)) past (past ++ came ∷ [])
+  told_after =
+      let told = h.2.told in
+      let is = stepping.is k o c kind s h id r here in
+      let at = h.0 in
+      let mine : w.mine ≡ (at r.seat).mine = ap (λ (y : Record). y.mine) (sym is) in
+      let world : World = shown_world s.words at in
+      record {
+        one_slot = length-set s.homes 0 maybe.none ∙ told.one_slot;
+        legal = told.legal;
+        starts = at_put at r.seat w (λ j x. StartsWith past x.seen) (frame.starts_self past) (λ j _. told.starts j);
+        mine = at_put at r.seat w (λ j x. events_of past j ≡ x.mine) (told.mine r.seat ∙ sym mine) (λ j _. told.mine j);
+        own = at_put at r.seat w (λ j x. events_of x.seen j ≡ x.mine) (told.mine r.seat ∙ sym mine) (λ j _. told.own j);
+        back = at_put at r.seat w (λ j x. stage x.place ≡ 4 → x.seen ≡ past) (λ e. absurd (omega arith)) (λ j _. told.back j);
+        lent = at_put at r.seat w (λ j x. (q : Source) → x.place ≡ Active q → (x.seen ≡ past) × (past ++ came ∷ [] ≡ past ++ out_event j q (turn past) ∷ []) × (get_elem? (set s.homes 0 maybe.none) 0 ≡ maybe.some maybe.none))
+            (λ q e. (refl, ap (λ (p : Place). past ++ out_event r.seat (source_at p) (turn past) ∷ []) e, set_here s.homes 0 maybe.none (let z = told.one_slot in omega arith)))
+            (λ j _ q e. absurd (nobody j (ap stage e)));
+        home = λ none. absurd (none r.seat (ap (λ (y : Record). stage y.place) (put_here at r.seat w)));
+        calls = calls_stay world (shown_world s.words (put at r.seat w)) past r.seat w.place told.calls (sym (stepping.places_after k o c kind s h id r here w)) refl (ap chosen at_due) refl;
+      }
+
+  pub takes_at : IsHall k o c (record { words = s.words; homes = set s.homes 0 maybe.none; views = set s.views id (w ∷ []) })
+  takes_at = (
+    put h.0 r.seat w,
+    seats.shown_set c s.views h.0 h.1 id r here w refl refl,
+    record {
+      past = past;
+      history = past ++ came ∷ [];
+      some_seat = h.2.some_seat;
+      wide = h.2.wide;
+      kept = subst (IsKept k o c.seats c.conds) same kept_after;
+      told = told_after;
+    },
+  )
+
+  entered_is : (t : ℕ) (q : Source) → source_at r.place ≡ q → used_at (Due q) ≡ 0 → ticket (Due q) ≡ t → source (Due q) ≤ 2 → enters_of past ≡ t
+  entered_is t q q_is unused number outer =
+      let sound = kept_old.sound.is_sound in
+      let at_q : (h.0 r.seat).place ≡ Due q = at_due ∙ ap Due q_is in
+      let two = ap stage at_q in
+      let mine = sound.stands.keeps.held r.seat (omega arith) (omega arith) in
+      let e = sound.entered.with r.seat mine in
+      let u : used_at (h.0 r.seat).place ≡ 0 = ap used_at at_q ∙ unused in
+      let s_is = ap source at_q in
+      let n = sound.stands.keeps.in_use r.seat two (omega arith) in
+      let t_is = ap ticket at_q ∙ number in
+      omega arith
+
+  pub finds : Finds k o r floor
+  finds =
+      let told = h.2.told in
+      let is = stepping.is k o c kind s h id r here in
+      let setting = stepping.setting k o c kind s h id r here in
+      let sound = kept_old.sound.is_sound in
+      let mine : events_of past r.seat ≡ r.mine = told.mine r.seat ∙ ap (λ (y : Record). y.mine) is in
+      record {
+        is_floor = ap (λ (y : Setting). floor_of y past) (sym setting);
+        near = stepping.near k o c kind s h id r here;
+        legal = told.legal;
+        starts = subst (λ (y : Record). StartsWith past y.seen) is (told.starts r.seat);
+        mine = mine;
+        allowed = legal_last (monitor_of k o floor) past came (subst (IsKept k o c.seats c.conds) same kept_after).sound.is_sound.legal;
+        left = let l = sound.left r.seat in let p = ap left_at at_due in omega arith;
+        within = let b = kept_old.bounded.within r.seat in let l = ap length mine in let y = ap (λ (x : Setting). x.budget) setting in omega arith;
+        first = λ t e. entered_is t (Free t) e refl refl (omega arith);
+        next = λ t e. entered_is t (Granted t) e refl refl (omega arith);
+      }
+
+pub takes_floor : (k : Rules) (o : Object) (c : Setting) → IsKind k → (id : ℕ) (me : Me) → IsOne me.0 → me.1 ≡ [] → stage (the me.0).place ≡ 2 → Allows (IsHall k o c) 1 id me 0 (λ n. n) (TakesFloor k o me)
+takes_floor k o c kind id me one none due s h wide view small =
+    let here : get_elem? s.views id ≡ maybe.some (the me.0 ∷ []) = view ∙ ap maybe.some one in
+    let r : Record = the me.0 in (
+      took r h.2.past ∷ [],
+      takes 0 (Some (floor_of c h.2.past)),
+      at_home k o c kind s h id r here due,
+      subst (λ (ws : List ℕ). IsHall k o c (record { words = ws; homes = set s.homes 0 maybe.none; views = set s.views id (took r h.2.past ∷ []) })) (sym (set-get_or s.words 0 0)) (takes_at k o c kind s h id r here due),
+      (floor_of c h.2.past, refl, finds k o c kind s h id r here due),
+    )

@@ -1,0 +1,160 @@
+-- What every step of the table uses: the shown world takes a step of a world, and what its history holds
+use Rattle.std.proofs.Common.{◌≡◌, ◌≢◌, ℕ, zero, suc, ◌+◌, ◌-◌, ◌==◌, ◌<◌, ◌≤◌, ◌⊎◌, cond, Bool, true, false, ◌&&◌, not, nat_lt, List, [], ◌∷◌, ◌++◌, length, sym, refl, ap, ◌∙◌, subst, inl, inr, arith, ne_eqb, append-nil, append_assoc}
+use Rattle.std.specs.Prelude.{Option, Some, None}
+use Rattle.std.proofs.lemmas.Bool.Decides.{eqb_tells}
+use Rattle.monk_kinds.specs.Kind.{IsKind}
+use Rattle.monk_kinds.specs.declared.mode.Rules.{Rules}
+use Rattle.monk_object.specs.Object.{Object}
+use Rattle.monk_history.specs.Meaning.Counts.{events_of, enters_of, left_of, is_enter}
+use Rattle.monk_history.specs.Meaning.Events.{seat_of}
+use Rattle.monk_history.specs.Meaning.Turn.{turn}
+use Rattle.monk_history.specs.declared.event.Event.{Event}
+use Rattle.monk_history.proofs.MeaningLaws.CountLaws.{events_of-push, enters_of-push}
+use Rattle.monk_world.specs.Enters.{FitsEnters, used_at}
+use Rattle.monk_world.specs.Kept.{IsKept}
+use Rattle.monk_world.specs.OnePlace.{Whereabouts, Nowhere, AtTicket, With, AtSeat}
+use Rattle.monk_world.specs.Places.{stage}
+use Rattle.monk_world.specs.Right.{KeepsRight, with_seat, called}
+use Rattle.monk_world.specs.Sound.{IsSound}
+use Rattle.monk_world.specs.State.{State}
+use Rattle.monk_world.specs.StepTable.{IsDone, refusal, out_event, call_of, is_call_in_range, is_call_offered, may_be_told, left_for}
+use Rattle.monk_world.specs.World.{World}
+use Rattle.monk_world.specs.declared.answer.Answer.{Answer}
+use Rattle.monk_world.specs.declared.answer.Answer.TheVariants as answer
+use Rattle.monk_world.specs.declared.command.Command.{Command}
+use Rattle.monk_world.specs.declared.place.Place.{Place}
+use Rattle.monk_world.specs.declared.place.Place.TheVariants.{Idle, Ticket, Due, Active, Back, Passing, Inner}
+use Rattle.monk_world.specs.declared.source.Source.{Source}
+use Rattle.monk_world.specs.declared.source.Source.TheVariants.{Free, Granted, Called}
+use Rattle.monk_world.proofs.DoneLaws.{IsReady, kept_done}
+use Rattle.monk_world.proofs.OnePlaceLaws.{numbered, number}
+use Rattle.monk_world.proofs.WorldLaws.{active_is}
+use Rattle.monk_hall.specs.Floors.{StartsWith}
+use Rattle.monk_hall.specs.Layout.{shown_world}
+use Rattle.monk_hall.specs.Rule.{AreTold, Homes}
+use Rattle.monk_hall.specs.declared.record.Record.{Record}
+use Rattle.monk_hall.specs.declared.setting.Setting.{Setting}
+
+passes : (reach offered told tired : Bool) → reach ≡ true → offered ≡ true → told ≡ true → tired ≡ false
+    → cond (not reach) (Some answer.Range) (cond (not offered) (Some answer.NoCall) (cond (not told) (Some answer.NotNow) (cond tired (Some answer.Tired) None))) ≡ None
+passes false offered told tired a b c d = absurd cc
+passes true false told tired a b c d = absurd cc
+passes true true false tired a b c d = absurd cc
+passes true true true true a b c d = absurd cc
+passes true true true false a b c d = refl
+
+both : (a b : Bool) → a ≡ true → b ≡ true → (a && b) ≡ true
+both true b x y = y
+both false b x y = absurd cc
+
+below : (n m : ℕ) → n < m → nat_lt n m ≡ true
+below n m l = grind (arith, l)
+
+not_below : (n m : ℕ) → m ≤ n → nat_lt n m ≡ false
+not_below n m l = grind (arith, l)
+
+pub not_refused : (k : Rules) (o : Object) (s : State) (i : ℕ) (c : Command) → IsReady k o s i c → refusal k o s i c ≡ None
+not_refused k o s i c r =
+    passes (nat_lt i s.floor.seats && is_call_in_range o s.floor (call_of i c)) (is_call_offered k (call_of i c)) (may_be_told (s.world.place i) c)
+    (nat_lt (left_of s.floor.budget s.floor.history i) (left_for c))
+    (both (nat_lt i s.floor.seats) (is_call_in_range o s.floor (call_of i c)) (below i s.floor.seats r.near) r.range) r.offered r.told
+    (not_below (left_of s.floor.budget s.floor.history i) (left_for c) r.left)
+
+-- the shown world takes a step, by its definition
+pub step_kept : (k : Rules) (o : Object) (s : State) (i : ℕ) (c : Command) (a : Answer) (t : State) (seats conds : ℕ) (p : Place) → IsKind k → IsKept k o seats conds s → IsReady k o s i c
+    → s.world.place i ≡ p → IsDone k o s i p c a t → IsKept k o seats conds t
+step_kept k o s i c a t seats conds p kind kept ready at done =
+    kept_done k o s i c a t seats conds kind kept (not_refused k o s i c ready) (subst (λ (q : Place). IsDone k o s i q c a t) (sym at) done)
+
+-- a seat that is active, or none is
+pub record IsActiveAt (w : World) (j : ℕ) : Type 0 where
+  pub source : Source
+  pub at : w.place j ≡ Active source
+
+pub who : (seats : ℕ) (w : World) (right : ℕ) (owner : ℕ → ℕ) → KeepsRight seats w right owner → ((j : ℕ) × IsActiveAt w j) ⊎ ((j : ℕ) → stage (w.place j) ≢ 3)
+who seats w right owner r = by_number (numbered 0 right).0 (numbered 0 right).1
+  where
+    held_by : (x : Whereabouts) → right ≡ number x → ((j : ℕ) → stage (w.place j) ≡ 3 → number x ≡ with_seat j)
+    held_by x is j three = sym is ∙ r.held j (omega arith) (omega arith)
+
+    active_at : (j : ℕ) → (stage (w.place j) == 3) ≡ true → IsActiveAt w j
+    active_at j e = let a = active_is (w.place j) e in record { source = a.source; at = a.is }
+
+    by_number : (x : Whereabouts) → right ≡ number x → ((j : ℕ) × IsActiveAt w j) ⊎ ((j : ℕ) → stage (w.place j) ≢ 3)
+    by_number Nowhere is = inr (λ j three. let e = held_by Nowhere is j three in absurd (omega arith))
+    by_number (AtTicket t) is = inr (λ j three. let e = held_by (AtTicket t) is j three in absurd (omega arith))
+    by_number (AtSeat m) is = inr (λ j three. let e = held_by (AtSeat m) is j three in absurd (omega arith))
+    by_number (With m) is = elim (eqb_tells (stage (w.place m)) 3) [
+      | inl h ↦ inl (m, active_at m h.0)
+      | inr h ↦ inr (λ j three. let e = held_by (With m) is j three in let same : j ≡ m = omega arith in h.1 (sym (ap (λ (n : ℕ). stage (w.place n)) same) ∙ three))
+    ]
+
+pub out_seat : (i : ℕ) (q : Source) (h : List Event) → seat_of (out_event i q (turn h)) ≡ i
+out_seat i (Free t) h = refl
+out_seat i (Granted t) h = refl
+out_seat i Called h = refl
+
+pub other_event : (h : List Event) (e : Event) (j : ℕ) → seat_of e ≢ j → events_of (h ++ e ∷ []) j ≡ events_of h j
+other_event h e j ne = events_of-push h e j ∙ ap (λ (b : Bool). events_of h j ++ cond b (e ∷ []) []) (ne_eqb (seat_of e) j ne) ∙ append-nil (events_of h j)
+
+more_enters : (g more : List Event) → enters_of g ≤ enters_of (g ++ more)
+more_enters g [] = let e = ap enters_of (append-nil g) in omega arith
+more_enters g (e ∷ es) =
+    let a = more_enters (g ++ e ∷ []) es in
+    let b = enters_of-push g e in
+    let same = ap enters_of (append_assoc g (e ∷ []) es) in
+    omega arith
+
+pub starts_enters : (h g : List Event) → StartsWith h g → enters_of g ≤ enters_of h
+starts_enters h g s = let a = more_enters g s.0 in let e = ap enters_of s.1 in omega arith
+
+pub starts_self : (h : List Event) → StartsWith h h
+starts_self h = ([], sym (append-nil h))
+
+-- no more entered than drew tickets
+pub entered_few : (k : Rules) (o : Object) (s : State) (right : ℕ) (owner : ℕ → ℕ) → IsSound k o s right owner → enters_of s.floor.history ≤ s.world.drawn
+entered_few k o s right owner h = by_number (numbered 0 right).0 (numbered 0 right).1
+  where
+    once : (p : Place) → used_at p ≤ 1
+    once Idle = omega arith
+    once (Ticket t) = omega arith
+    once (Due (Free t)) = omega arith
+    once (Due (Granted t)) = omega arith
+    once (Due Called) = omega arith
+    once (Active q) = omega arith
+    once (Back x to) = omega arith
+    once (Passing t to) = omega arith
+    once Inner = omega arith
+
+    by_number : (x : Whereabouts) → right ≡ number x → enters_of s.floor.history ≤ s.world.drawn
+    by_number Nowhere is = let e = h.entered.else_unused (λ j a. absurd (omega arith)) (λ j a. absurd (omega arith)) in omega arith
+    by_number (AtTicket t) is = let e = h.entered.else_unused (λ j a. absurd (omega arith)) (λ j a. absurd (omega arith)) in omega arith
+    by_number (With m) is =
+        let e = h.entered.with m is in
+        let one = once (s.world.place m) in
+        let some : s.world.unpassed ≢ 0 = λ z. let f = h.stands.keeps.not_free z in absurd (omega arith) in
+        omega arith
+    by_number (AtSeat m) is =
+        let e = h.entered.called_seat m is in
+        let some : s.world.unpassed ≢ 0 = λ z. let f = h.stands.keeps.not_free z in absurd (omega arith) in
+        omega arith
+
+module _ (k : Rules) (o : Object) (c : Setting) (homes : Homes) (at : ℕ → Record) (words : List ℕ) (past history : List Event)
+    (told : AreTold k o c homes at (shown_world words at) past history) (right : ℕ) (owner : ℕ → ℕ) (keeps : KeepsRight c.seats (shown_world words at) right owner) where
+  -- what is shown is what the floor at home has, and perhaps the event of the active seat
+  pub shows_past : StartsWith history past
+  shows_past = elim (who c.seats (shown_world words at) right owner keeps) [
+    | inl a ↦ let l = told.lent a.0 a.1.source a.1.at in (out_event a.0 a.1.source (turn past) ∷ [], l.1)
+    | inr none ↦ subst (λ (h : List Event). StartsWith h past) (sym (told.home none).0) (starts_self past)
+  ]
+
+  -- the events of a seat that isn't active
+  pub shows_mine : (i : ℕ) → stage (at i).place ≢ 3 → events_of history i ≡ (at i).mine
+  shows_mine i not_active = elim (who c.seats (shown_world words at) right owner keeps) [
+    | inl a ↦
+        let l = told.lent a.0 a.1.source a.1.at in
+        let e = out_event a.0 a.1.source (turn past) in
+        ap (λ (h : List Event). events_of h i) l.1
+        ∙ other_event past e i (λ same. not_active (ap (λ (n : ℕ). stage (at n).place) (sym same ∙ out_seat a.0 a.1.source past) ∙ ap stage a.1.at)) ∙ told.mine i
+    | inr none ↦ ap (λ (h : List Event). events_of h i) (told.home none).0 ∙ told.mine i
+  ]

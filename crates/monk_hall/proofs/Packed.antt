@@ -1,0 +1,51 @@
+-- The two halves of the ticket word
+use Rattle.std.proofs.Common.{◌≡◌, ℕ, zero, suc, ◌+◌, ◌-◌, ◌*◌, ◌/◌, ◌%◌, ◌^◌, ◌<◌, ◌≤◌, refl, sym, ap, ◌∙◌, arith}
+use Rattle.std.proofs.lemmas.Nat.{mod-mul-add, div-mul-add}
+use Rattle.std.proofs.Math.Nat.{mod-add-div'}
+use Rattle.monk_hall.specs.Layout.{tickets, unpassed}
+
+abbrev pub packed : ℕ → ℕ → ℕ
+packed t n = t * 4294967296 + n
+
+pub tickets_of : (t n : ℕ) → n < 4294967296 → tickets (packed t n) ≡ t
+tickets_of t n h = div-mul-add t 4294967296 n h
+
+pub unpassed_of : (t n : ℕ) → n < 4294967296 → unpassed (packed t n) ≡ n
+unpassed_of t n h = mod-mul-add t 4294967296 n h
+
+pub word_is : (x : ℕ) → x ≡ packed (tickets x) (unpassed x)
+word_is x = let e = mod-add-div' x 4294967296 in omega arith
+
+reduced : (x : ℕ) → x < 18446744073709551616 → x % 18446744073709551616 ≡ x
+reduced x h =
+    let e : 0 * 18446744073709551616 + x ≡ x = omega arith in
+    sym (ap (λ (y : ℕ). y % 18446744073709551616) e) ∙ mod-mul-add 0 18446744073709551616 x h
+
+drawn_word : (t n : ℕ) → t < 2147483648 → n < 2147483648 → (packed t n + 4294967297) % 18446744073709551616 ≡ packed (suc t) (suc n)
+drawn_word t n a b =
+    let e : packed t n + 4294967297 ≡ packed (suc t) (suc n) = omega arith in
+    ap (λ (x : ℕ). x % 18446744073709551616) e ∙ reduced (packed (suc t) (suc n)) (omega arith)
+
+dropped_word : (t n : ℕ) → t < 2147483648 → n < 2147483648 → (packed t (suc n) + 18446744073709551615) % 18446744073709551616 ≡ packed t n
+dropped_word t n a b =
+    let e : packed t (suc n) + 18446744073709551615 ≡ 1 * 18446744073709551616 + packed t n = omega arith in
+    ap (λ (x : ℕ). x % 18446744073709551616) e ∙ mod-mul-add 1 18446744073709551616 (packed t n) (omega arith)
+
+-- the word after an arrival, and after a seat took itself off
+pub record HasHalves (x t n : ℕ) : Type 0 where
+  pub drawn : tickets x ≡ t
+  pub waiting : unpassed x ≡ n
+
+halves : (x t n : ℕ) → n < 4294967296 → x ≡ packed t n → HasHalves x t n
+halves x t n h e = record { drawn = ap tickets e ∙ tickets_of t n h; waiting = ap unpassed e ∙ unpassed_of t n h }
+
+pub after_draw : (x : ℕ) → tickets x < 2147483648 → unpassed x < 2147483648 → HasHalves ((x + 4294967297) % 18446744073709551616) (tickets x + 1) (unpassed x + 1)
+after_draw x a b =
+    halves ((x + 4294967297) % 18446744073709551616) (tickets x + 1) (unpassed x + 1) (omega arith)
+    (ap (λ (y : ℕ). (y + 4294967297) % 18446744073709551616) (word_is x) ∙ drawn_word (tickets x) (unpassed x) a b ∙ (let e : packed (suc (tickets x)) (suc (unpassed x)) ≡ packed (tickets x + 1) (unpassed x + 1) = omega arith in e))
+
+pub after_take_off : (x : ℕ) → tickets x < 2147483648 → unpassed x < 2147483648 → 0 < unpassed x → HasHalves ((x + 18446744073709551615) % 18446744073709551616) (tickets x) (unpassed x - 1)
+after_take_off x a b some =
+    let more : unpassed x ≡ suc (unpassed x - 1) = omega arith in
+    halves ((x + 18446744073709551615) % 18446744073709551616) (tickets x) (unpassed x - 1) (omega arith)
+    (ap (λ (y : ℕ). (y + 18446744073709551615) % 18446744073709551616) (word_is x ∙ ap (packed (tickets x)) more) ∙ dropped_word (tickets x) (unpassed x - 1) a (omega arith))

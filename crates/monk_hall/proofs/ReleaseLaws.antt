@@ -1,0 +1,325 @@
+-- What a release makes of an active seat
+use Rattle.std.proofs.Common.{◌≡◌, ◌≢◌, ℕ, suc, ◌+◌, ◌-◌, ◌<◌, ◌≤◌, ◌==◌, Bool, true, false, true≢false, not, cond, List, [], ◌∷◌, ◌++◌, length, Option, Some, None, refl, sym, ap, subst, ◌∙◌, arith, inl, inr}
+use Rattle.std.specs.Prelude.{IsTrue, nat_lt}
+use Rattle.atomic_table.specs.Seated.{TableId}
+use Rattle.monk_kinds.specs.declared.mode.Rules.{Rules}
+use Rattle.monk_kinds.specs.declared.mode.Pick.{Pick}
+use Rattle.monk_kinds.specs.declared.mode.Pick.TheVariants.{Entry as WishEntry, Waiter as WishWaiter, Signaller as WishSignaller}
+use Rattle.monk_object.specs.Object.{Object}
+use Rattle.monk_history.specs.Meaning.Choice.{Queues, must_stay, queues_at}
+use Rattle.monk_history.specs.Meaning.Conditions.{condition}
+use Rattle.monk_history.specs.Meaning.Signallers.{is_empty}
+use Rattle.monk_history.specs.Meaning.Counts.{events_of, left_of, is_enter}
+use Rattle.monk_history.specs.Meaning.Events.{seat_of, is_stay, has_conditions, has_signaller_queue, returns_at_once}
+use Rattle.monk_history.proofs.MeaningLaws.CallLaws.{may_leave, may_wait, may_signal_on, may_signal_leave, may_until}
+use Rattle.monk_history.proofs.MeaningLaws.LegalLaws.{legal-push}
+use Rattle.monk_history.specs.Meaning.Legal.{IsLegal}
+use Rattle.monk_history.specs.Meaning.Monitor.{Monitor}
+use Rattle.monk_history.specs.Meaning.Reasons.{IsAllowed}
+use Rattle.monk_history.specs.Meaning.Release.{MayCall, with_next, choice_of}
+use Rattle.monk_history.specs.Meaning.Wish.{choice_by}
+use Rattle.monk_history.specs.declared.event.Event.{Event}
+use Rattle.monk_history.specs.declared.event.Event.TheVariants.{Enter, Act, Leave, Wait, Signal, SignalLeave, Until, Resume}
+use Rattle.monk_history.specs.declared.event.Next.{Next}
+use Rattle.monk_history.specs.declared.event.Next.TheVariants as next
+use Rattle.monk_history.specs.Meaning.Turn.{turn, turn_by}
+use Rattle.monk_history.specs.declared.event.Turn.TheVariants.{Owned}
+use Rattle.monk_floor.specs.Grown.{IsGrown}
+use Rattle.monk_floor.specs.View.{FloorView, monitor_of, stands_of}
+use Rattle.monk_world.specs.Places.{stage, place_of}
+use Rattle.monk_world.specs.Sound.{left_within}
+use Rattle.monk_world.specs.State.{grown}
+use Rattle.monk_world.specs.declared.home.Home.{Home}
+use Rattle.monk_world.proofs.TestLaws.{some_above}
+use Rattle.monk_world.specs.declared.home.Home.TheVariants as home
+use Rattle.monk_hall.specs.Calls.{Released, Stayed, HasPeeked, knows}
+use Rattle.monk_hall.specs.AfterCalls.{MatchAfter}
+use Rattle.monk_hall.specs.declared.after.After.{After}
+use Rattle.monk_hall.specs.declared.after.After.TheVariants.{Active, Parked}
+use Rattle.monk_hall.specs.Handing.{HasReleased, HasGone}
+use Rattle.monk_hall.specs.Layout.{word_count}
+use Rattle.monk_hall.specs.Records.{the, IsOne}
+use Rattle.monk_hall.specs.Tells.{Me, Returns, IsReleaseTo}
+use Rattle.monk_hall.specs.Tokens.{Token, Holder, IsSeated, IsHolding, IsTold}
+use Rattle.monk_hall.specs.declared.record.Record.{Record}
+use Rattle.monk_hall.proofs.Private.{own_event}
+use Rattle.monk_hall.proofs.Releasing.{said}
+use Rattle.monk_hall.proofs.TokenLaws.{holder, grown_holds}
+
+-- the wish rules ask who is known to wait for entry only for a wish of entry
+knows_reads : (k : Rules) (q : Queues) (s : ℕ) (known : Bool) (wish : Pick) → choice_by k q s known wish ≡ choice_by k q s (knows wish known) wish
+knows_reads k q s known WishEntry = refl
+knows_reads k q s known WishWaiter = refl
+knows_reads k q s known WishSignaller = refl
+
+-- and where there is something to choose
+choice_knows : (b : Bool) (kept : Next) (by : Bool → Next) (x y : Bool) → (b ≡ false → by x ≡ by y) → cond b kept (by x) ≡ cond b kept (by y)
+choice_knows true kept by x y e = refl
+choice_knows false kept by x y e = e refl
+
+-- a leave, a wait and a signal and leave never stay
+pub leave_goes : (m : Monitor) (h : List Event) (s : ℕ) (x : Next) → IsAllowed m h (Leave s x) → is_stay (Some x) ≡ false
+leave_goes m h s next.Stay a = absurd (true≢false (sym a.permitted))
+leave_goes m h s next.Entry a = refl
+leave_goes m h s (next.Waiter j) a = refl
+leave_goes m h s (next.Signaller j) a = refl
+leave_goes m h s (next.Until j) a = refl
+
+pub wait_goes : (m : Monitor) (h : List Event) (s c : ℕ) (x : Next) → IsAllowed m h (Wait s c x) → is_stay (Some x) ≡ false
+wait_goes m h s c next.Stay a = absurd (true≢false (sym a.permitted))
+wait_goes m h s c next.Entry a = refl
+wait_goes m h s c (next.Waiter j) a = refl
+wait_goes m h s c (next.Signaller j) a = refl
+wait_goes m h s c (next.Until j) a = refl
+
+pub signal_leave_goes : (m : Monitor) (h : List Event) (s c : ℕ) (x : Next) → IsAllowed m h (SignalLeave s c x) → is_stay (Some x) ≡ false
+signal_leave_goes m h s c next.Stay a = absurd (true≢false (sym a.permitted))
+signal_leave_goes m h s c next.Entry a = refl
+signal_leave_goes m h s c (next.Waiter j) a = refl
+signal_leave_goes m h s c (next.Signaller j) a = refl
+signal_leave_goes m h s c (next.Until j) a = refl
+
+plus_none : (n : ℕ) → n ≡ n + 0
+plus_none n = omega arith
+
+stay_is : (x : Next) → is_stay (Some x) ≡ true → x ≡ next.Stay
+stay_is next.Stay e = refl
+stay_is next.Entry e = absurd (true≢false (sym e))
+stay_is (next.Waiter j) e = absurd (true≢false (sym e))
+stay_is (next.Signaller j) e = absurd (true≢false (sym e))
+stay_is (next.Until j) e = absurd (true≢false (sym e))
+
+stay_keeps : (i : ℕ) (x : Next) → is_stay (Some x) ≡ true → turn_by i (Some x) ≡ Owned i
+stay_keeps i x e = ap (λ y. turn_by i (Some y)) (stay_is x e)
+
+never_enters : (i : ℕ) (to : Home) (e : Event) (x : Next) → IsReleaseTo i to e → is_enter (with_next x e) ≡ false
+never_enters i home.Idle (Enter s via) x h = absurd h
+never_enters i home.Idle (Act s op r) x h = refl
+never_enters i home.Idle (Leave s y) x h = refl
+never_enters i home.Idle (Wait s c y) x h = refl
+never_enters i home.Idle (Signal s c y) x h = refl
+never_enters i home.Idle (SignalLeave s c y) x h = refl
+never_enters i home.Idle (Until s p y) x h = refl
+never_enters i home.Idle (Resume s q) x h = refl
+never_enters i home.Inner (Enter s via) x h = absurd h
+never_enters i home.Inner (Act s op r) x h = refl
+never_enters i home.Inner (Leave s y) x h = refl
+never_enters i home.Inner (Wait s c y) x h = refl
+never_enters i home.Inner (Signal s c y) x h = refl
+never_enters i home.Inner (SignalLeave s c y) x h = refl
+never_enters i home.Inner (Until s p y) x h = refl
+never_enters i home.Inner (Resume s q) x h = refl
+
+-- a release that the floor has recorded
+pub record IsRelease (k : Rules) (o : Object) (r : Record) (f : FloorView) (call : Event) (wish : Pick) (known : Bool) (choice : Next) (to : Home) (g : FloorView) : Type 0 where
+  pub release : IsReleaseTo r.seat to call
+  pub may : MayCall (monitor_of k o f) f.history call
+  pub left : left_within to < left_of f.budget f.history r.seat
+  pub known_is : must_stay o (stands_of k o f) call ≡ false → known ≡ knows wish r.known
+  pub chosen : choice ≡ choice_of k o (stands_of k o f) call known wish
+  pub is_grown : IsGrown k o f (with_next choice call) g
+
+chosen_as_known : {k : Rules} {o : Object} {r : Record} {f : FloorView} {call : Event} {wish : Pick} {known : Bool} {choice : Next} {to : Home} {g : FloorView}
+    → IsRelease k o r f call wish known choice to g → choice ≡ choice_of k o (stands_of k o f) call (knows wish r.known) wish
+chosen_as_known {k} {o} {r} {f} {call} {wish} {known} x = let t = stands_of k o f in x.chosen ∙ choice_knows (must_stay o t call) next.Stay (λ b. choice_by k (queues_at o t call) (seat_of call) b wish) known (knows wish r.known)
+    (λ free. ap (λ b. choice_by k (queues_at o t call) (seat_of call) b wish) (x.known_is free))
+
+module _ {k : Rules} {o : Object} {z : TableId} {me : Me} {number calls : ℕ} {f : FloorView} {call : Event} {wish : Pick} {known : Bool} {choice : Next} {to : Home} {g : FloorView} where
+  pub has_released : IsHolding k o z me number calls f → IsRelease k o (the me.0) f call wish known choice to g → is_stay (Some choice) ≡ false → HasReleased k o z me choice to g
+  has_released h x away = record {
+    one = h.one;
+    active = h.active;
+    sized = h.seated.sized;
+    returns = record {
+      before = f;
+      goes_on = h.goes;
+      call = call;
+      wish = wish;
+      to = to;
+      choice = choice;
+      release = x.release;
+      may = x.may;
+      chosen = chosen_as_known x ∙ choice_knows (must_stay o (stands_of k o f) call) next.Stay (λ b. choice_by k (queues_at o (stands_of k o f) call) (seat_of call) b wish) (knows wish (the me.0).known) (the me.0).known
+          (λ _. sym (knows_reads k (queues_at o (stands_of k o f) call) (seat_of call) (the me.0).known wish));
+      away = away;
+      left = x.left;
+      grows = x.is_grown.grown;
+    };
+    is_choice = refl;
+    is_to = refl;
+    allowed = x.is_grown.allowed;
+  }
+
+  pub released : IsHolding k o z me number calls f → IsRelease k o (the me.0) f call wish known choice to g → is_stay (Some choice) ≡ false
+      → (p : Token) → p.hall ≡ z → HasGone (the me.0) g.history to p.me → IsTold k o p.me → Released k o (holder z (the me.0) f) call wish to 0 p
+  released h x away p hall gone told =
+      let r = the me.0 in let history = ap (λ (y : FloorView). y.history) x.is_grown.grown in let is_known = ap (λ w. w.known) gone.is in let few = gone.few in let steps = ap (λ w. w.steps) gone.is in record {
+        choice = choice;
+        chosen = chosen_as_known x ∙ ap (λ b. choice_of k o (stands_of k o f) call (knows wish b) wish) (sym is_known);
+        away = away;
+        hall = hall;
+        seat = ap (λ w. w.seat) gone.is;
+        setting = ap (λ w. w.setting) gone.is;
+        place = ap (λ w. w.place) gone.is;
+        seen = ap (λ w. w.seen) gone.is ∙ history;
+        mine = ap (λ w. w.mine) gone.is ∙ ap (λ h. events_of h r.seat) history ∙ own_event f.history (with_next choice call) r.seat (said r.seat to call choice x.release).seat;
+        looks = ap (λ w. w.looks) gone.is ∙ omega arith;
+        steps = omega arith;
+        told = told;
+      }
+
+-- a look at the ticket word before the release
+module _ {k : Rules} {o : Object} where
+  pub released_peeked : (peeks : ℕ) (a b : Holder) → HasPeeked peeks a b → (call : Event) (wish : Pick) (to : Home) (p : Token) → Released k o b call wish to 0 p → Released k o a call wish to peeks p
+  released_peeked peeks a b x call wish to p y = let is = x.is in let few = y.steps in let steps = ap (λ (h : Holder). h.me.steps) is in record {
+    choice = y.choice;
+    chosen = y.chosen ∙ ap (λ (h : Holder). choice_of k o (stands_of k o h.floor) call (knows wish p.me.known) wish) is;
+    away = y.away;
+    hall = y.hall ∙ ap (λ (h : Holder). h.hall) is;
+    seat = y.seat ∙ ap (λ (h : Holder). h.me.seat) is;
+    setting = y.setting ∙ ap (λ (h : Holder). h.me.setting) is;
+    place = y.place;
+    seen = y.seen ∙ ap (λ (h : Holder). h.floor.history ++ with_next y.choice call ∷ []) is;
+    mine = y.mine ∙ ap (λ (h : Holder). h.me.mine ++ with_next y.choice call ∷ []) is;
+    looks = y.looks ∙ ap (λ (h : Holder). h.me.looks + 0) is ∙ omega arith;
+    steps = omega arith;
+    told = y.told;
+  }
+
+-- what the active seat may do
+module _ {k : Rules} {o : Object} {z : TableId} {me : Me} {number calls : ℕ} {f : FloorView} where
+  pub owns : IsHolding k o z me number calls f → turn f.history ≡ Owned number
+  owns h = h.goes.owned ∙ ap Owned h.seated.is_seat
+
+  pub is_near : IsHolding k o z me number calls f → number < f.seats
+  is_near h = subst (λ n. n < f.seats) h.seated.is_seat h.goes.near
+
+  pub has_left : IsHolding k o z me number calls f → (n : ℕ) → length (events_of f.history (the me.0).seat) + n < (the me.0).setting.budget → n < left_of f.budget f.history (the me.0).seat
+  has_left h n more = let b = ap (λ (y : FloorView). y.budget) h.goes.is_floor in omega arith
+
+  -- what is told of a release with the active seat's own number
+  pub released_of : {wish : Pick} {known : Bool} {choice : Next} {to : Home} {g : FloorView} → (call : ℕ → Event) → IsHolding k o z me number calls f → IsRelease k o (the me.0) f (call number) wish known choice to g → is_stay (Some choice) ≡ false
+      → (p : Token) → p.hall ≡ z → HasGone (the me.0) g.history to p.me → IsTold k o p.me → (a : Holder) → holder z (the me.0) f ≡ a → Released k o a (call a.me.seat) wish to 0 p
+  released_of {wish} {known} {choice} {to} {g} call h x away p hall gone told a is =
+      subst (λ (b : Holder). Released k o b (call b.me.seat) wish to 0 p) is
+      (subst (λ n. Released k o (holder z (the me.0) f) (call n) wish to 0 p) (sym h.seated.is_seat) (released h x away p hall gone told))
+
+  pub leaves : IsHolding k o z me number calls f → (wish : Pick) (known : Bool) (choice : Next) (g : FloorView) → (a : Holder) → holder z (the me.0) f ≡ a → known ≡ knows wish a.me.known
+      → choice ≡ choice_of k o (stands_of k o f) (Leave number next.Stay) known wish → IsGrown k o f (Leave number choice) g → IsRelease k o (the me.0) f (Leave number next.Stay) wish known choice home.Idle g
+  leaves h wish known choice g a is reads chosen grows = record {
+    release = (sym h.seated.is_seat, refl);
+    may = may_leave (monitor_of k o f) f.history number (owns h) (is_near h);
+    left = has_left h 0 (let l = h.left in omega arith);
+    known_is = λ _. reads ∙ ap (λ (b : Holder). knows wish b.me.known) (sym is);
+    chosen = chosen;
+    is_grown = grows;
+  }
+
+  pub waits : IsHolding k o z me number calls f → (c : ℕ) → c < f.conds → has_conditions k.mode ≡ true → (wish : Pick) (known : Bool) (choice : Next) (g : FloorView) → (a : Holder) → holder z (the me.0) f ≡ a
+      → length a.me.mine + 3 ≤ a.me.setting.budget → known ≡ knows wish a.me.known
+      → choice ≡ choice_of k o (stands_of k o f) (Wait number c next.Stay) known wish → IsGrown k o f (Wait number c choice) g → IsRelease k o (the me.0) f (Wait number c next.Stay) wish known choice home.Inner g
+  waits h c low has wish known choice g a is room reads chosen grows = record {
+    release = (sym h.seated.is_seat, refl);
+    may = may_wait (monitor_of k o f) f.history number c (owns h) (is_near h) low has;
+    left = has_left h 2 (let more = subst (λ (b : Holder). length b.me.mine + 3 ≤ b.me.setting.budget) (sym is) room in omega arith);
+    known_is = λ _. reads ∙ ap (λ (b : Holder). knows wish b.me.known) (sym is);
+    chosen = chosen;
+    is_grown = grows;
+  }
+
+  pub signals : IsHolding k o z me number calls f → (c : ℕ) → c < f.conds → has_signaller_queue k.mode ≡ true → (wish : Pick) (known : Bool) (choice : Next) (g : FloorView) → (a : Holder) → holder z (the me.0) f ≡ a
+      → length a.me.mine + 3 ≤ a.me.setting.budget → (must_stay o (stands_of k o f) (Signal number c next.Stay) ≡ false → known ≡ knows wish a.me.known)
+      → choice ≡ choice_of k o (stands_of k o f) (Signal number c next.Stay) known wish → IsGrown k o f (Signal number c choice) g → IsRelease k o (the me.0) f (Signal number c next.Stay) wish known choice home.Inner g
+  signals h c low has wish known choice g a is room reads chosen grows = record {
+    release = (sym h.seated.is_seat, refl);
+    may = may_signal_on (monitor_of k o f) f.history number c (owns h) (is_near h) low has;
+    left = has_left h 2 (let more = subst (λ (b : Holder). length b.me.mine + 3 ≤ b.me.setting.budget) (sym is) room in omega arith);
+    known_is = λ free. reads free ∙ ap (λ (b : Holder). knows wish b.me.known) (sym is);
+    chosen = chosen;
+    is_grown = grows;
+  }
+
+  pub signals_and_leaves : IsHolding k o z me number calls f → (c : ℕ) → c < f.conds → returns_at_once k.mode ≡ true → (wish : Pick) (known : Bool) (choice : Next) (g : FloorView) → (a : Holder) → holder z (the me.0) f ≡ a
+      → known ≡ knows wish a.me.known → choice ≡ choice_of k o (stands_of k o f) (SignalLeave number c next.Stay) known wish → IsGrown k o f (SignalLeave number c choice) g
+      → IsRelease k o (the me.0) f (SignalLeave number c next.Stay) wish known choice home.Idle g
+  signals_and_leaves h c low has wish known choice g a is reads chosen grows = record {
+    release = (sym h.seated.is_seat, refl);
+    may = may_signal_leave (monitor_of k o f) f.history number c (owns h) (is_near h) low has;
+    left = has_left h 0 (let l = h.left in omega arith);
+    known_is = λ _. reads ∙ ap (λ (b : Holder). knows wish b.me.known) (sym is);
+    chosen = chosen;
+    is_grown = grows;
+  }
+
+  pub waits_until : IsHolding k o z me number calls f → (p : ℕ) → p < o.predicates → not (has_conditions k.mode) ≡ true → (wish : Pick) (known : Bool) (choice : Next) (g : FloorView) → (a : Holder) → holder z (the me.0) f ≡ a
+      → length a.me.mine + 3 ≤ a.me.setting.budget → (must_stay o (stands_of k o f) (Until number p next.Stay) ≡ false → known ≡ knows wish a.me.known)
+      → choice ≡ choice_of k o (stands_of k o f) (Until number p next.Stay) known wish → IsGrown k o f (Until number p choice) g → IsRelease k o (the me.0) f (Until number p next.Stay) wish known choice home.Inner g
+  waits_until h p low has wish known choice g a is room reads chosen grows = record {
+    release = (sym h.seated.is_seat, refl);
+    may = may_until (monitor_of k o f) f.history number p (owns h) (is_near h) low has;
+    left = has_left h 2 (let more = subst (λ (b : Holder). length b.me.mine + 3 ≤ b.me.setting.budget) (sym is) room in omega arith);
+    known_is = λ free. reads free ∙ ap (λ (b : Holder). knows wish b.me.known) (sym is);
+    chosen = chosen;
+    is_grown = grows;
+  }
+
+  -- a release that stays
+  pub stays_holding : (call : Event) {wish : Pick} {known : Bool} {choice : Next} {to : Home} {g : FloorView} → IsHolding k o z me number calls f → IsRelease k o (the me.0) f call wish known choice to g → is_stay (Some choice) ≡ true
+      → length (events_of f.history (the me.0).seat) + 2 ≤ (the me.0).setting.budget → IsHolding k o z me number calls g
+  stays_holding call {wish} {known} {choice} {to} {g} h x stays room =
+      let s = said (the me.0).seat to call choice x.release in let n = h.seated.is_seat in
+      grown_holds h (with_next choice call) (s.seat ∙ n)
+      ((λ i. turn_by (s.seat i) (s.chose i)) ∙ stay_keeps (the me.0).seat choice stays ∙ ap Owned n)
+      (never_enters (the me.0).seat to call choice x.release) x.is_grown.allowed room g x.is_grown.grown
+
+  pub stayed : (call : ℕ → Event) {wish : Pick} {known : Bool} {choice : Next} {to : Home} {g : FloorView} → IsHolding k o z me number calls f → IsRelease k o (the me.0) f (call number) wish known choice to g → is_stay (Some choice) ≡ true
+      → (a : Holder) → holder z (the me.0) f ≡ a → Stayed k o a (call a.me.seat) wish 0 (holder z (the me.0) g)
+  stayed call {wish} {known} {choice} {to} {g} h x stays a is =
+      let r = the me.0 in let same = stay_is choice stays in let e = with_next next.Stay (call number) in
+      let grows = x.is_grown.grown ∙ ap (λ y. grown f (with_next y (call number))) same in
+      let seat = (said r.seat to (call number) next.Stay x.release).seat in
+      subst (λ (b : Holder). Stayed k o b (call b.me.seat) wish 0 (holder z r g)) is
+      (subst (λ n. Stayed k o (holder z r f) (call n) wish 0 (holder z r g)) (sym h.seated.is_seat) record {
+        chosen = sym same ∙ chosen_as_known x;
+        is = ap (holder z r) grows ∙ (λ i. record { hall = z; me = record r { mine = own_event f.history e r.seat seat i; looks = plus_none r.looks i; steps = plus_none r.steps i }; floor = grown f e });
+        legal = subst (λ (y : FloorView). IsLegal (monitor_of k o y) y.history) (sym x.is_grown.grown) (legal-push (monitor_of k o f) f.history (with_next choice (call number)) h.goes.legal x.is_grown.allowed);
+      })
+
+module _ {k : Rules} {o : Object} where
+  pub stayed_peeked : (peeks : ℕ) (a b : Holder) → HasPeeked peeks a b → (call : Event) (wish : Pick) (c : Holder) → Stayed k o b call wish 0 c → Stayed k o a call wish peeks c
+  stayed_peeked peeks a b x call wish c y = let is = x.is in record {
+    chosen = y.chosen ∙ ap (λ (h : Holder). choice_of k o (stands_of k o h.floor) call (knows wish c.me.known) wish) is;
+    is = y.is
+        ∙ ap (λ (h : Holder). let z : Holder = record h { me = record h.me { known = c.me.known; mine = h.me.mine ++ with_next next.Stay call ∷ []; looks = h.me.looks + 0; steps = h.me.steps + 0 }; floor = grown h.floor (with_next next.Stay call) } in z) is
+        ∙ (λ i. record a { me = record a.me { known = c.me.known; mine = a.me.mine ++ with_next next.Stay call ∷ []; looks = sym (plus_none (a.me.looks + peeks)) i; steps = sym (plus_none (a.me.steps + peeks)) i }; floor = grown a.floor (with_next next.Stay call) });
+    legal = y.legal;
+  }
+
+pub peeked_none : (n : ℕ) (a : Holder) → n ≡ 0 → HasPeeked n a a
+peeked_none n a e = subst (λ m. HasPeeked m a a) (sym e) record { known = a.me.known; is = λ i. record a { me = record a.me { looks = plus_none a.me.looks i; steps = plus_none a.me.steps i } } }
+
+module _ {k : Rules} {o : Object} {z : TableId} {me : Me} {number calls : ℕ} {f : FloorView} where
+  pub has_cond : IsHolding k o z me number calls f → (c : ℕ) (a : Holder) → holder z (the me.0) f ≡ a → c < a.me.setting.conds → c < f.conds
+  has_cond h c a is low = let b = ap (λ (y : FloorView). y.conds) h.goes.is_floor in let here = subst (λ (x : Holder). c < x.me.setting.conds) (sym is) low in omega arith
+
+  pub has_room : IsHolding k o z me number calls f → (a : Holder) → holder z (the me.0) f ≡ a → length a.me.mine + 3 ≤ a.me.setting.budget → length (events_of f.history (the me.0).seat) + 2 ≤ (the me.0).setting.budget
+  has_room h a is more = let here = subst (λ (x : Holder). length x.me.mine + 3 ≤ x.me.setting.budget) (sym is) more in omega arith
+
+-- what is known where there is something to choose, of the floor in its hands
+pub must_known : {k : Rules} {o : Object} {z : TableId} {me : Me} {number calls : ℕ} {f : FloorView} → IsHolding k o z me number calls f → (a : Holder) → holder z (the me.0) f ≡ a → (call : ℕ → Event) {R : Type 0}
+    → (must_stay o (stands_of k o a.floor) (call a.me.seat) ≡ false → R) → must_stay o (stands_of k o f) (call number) ≡ false → R
+must_known {k} {o} {f = f} h a is call told free = told ((λ i. must_stay o (stands_of k o (sym is i).floor) (call (sym is i).me.seat)) ∙ ap (λ n. must_stay o (stands_of k o f) (call n)) h.seated.is_seat ∙ free)
+
+-- a call that may stay, after a look at the ticket word
+pub after_peeked : {K T : Type 0} (k : Rules) (o : Object) (call : ℕ → Event) (wish : Pick) (to : Home) (peeks : ℕ) (a b : Holder) → HasPeeked peeks a b → (r : After K T)
+    → MatchAfter r (λ x. Stayed k o b (call b.me.seat) wish 0 x) (λ p. Released k o b (call b.me.seat) wish to 0 p)
+    → MatchAfter r (λ x. Stayed k o a (call a.me.seat) wish peeks x) (λ p. Released k o a (call a.me.seat) wish to peeks p)
+after_peeked k o call wish to peeks a b x (Active y) m = stayed_peeked peeks a b x (call a.me.seat) wish y (subst (λ e. Stayed k o b e wish 0 y) (ap (λ (h : Holder). call h.me.seat) x.is) m)
+after_peeked k o call wish to peeks a b x (Parked p) m = released_peeked peeks a b x (call a.me.seat) wish to p (subst (λ e. Released k o b e wish to 0 p) (ap (λ (h : Holder). call h.me.seat) x.is) m)
+
+some_there : (xs : List ℕ) → not (is_empty xs) ≡ nat_lt 0 (length xs)
+some_there [] = refl
+some_there (x ∷ xs) = sym (some_above (suc (length xs)) (λ e. absurd (omega arith)))
+
+pub serves_some : (k : Rules) (o : Object) (f : FloorView) (s c n : ℕ) → n ≡ length (condition c f.history) → nat_lt 0 n ≡ not (must_stay o (stands_of k o f) (Signal s c next.Stay))
+serves_some k o f s c n e = ap (λ m. nat_lt 0 m) e ∙ sym (some_there (condition c f.history))

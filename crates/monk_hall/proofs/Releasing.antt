@@ -1,0 +1,131 @@
+-- A release as the step of a world
+use Rattle.std.proofs.Common.{◌≡◌, ◌≢◌, ℕ, ◌+◌, ◌<◌, ◌≤◌, cond, Bool, true, false, not, List, [], ◌∷◌, ◌++◌, sym, refl, ap, ◌∙◌, subst, arith}
+use Rattle.std.specs.Prelude.{Option, Some, None}
+use Rattle.monk_kinds.specs.Kind.{IsKind}
+use Rattle.monk_kinds.specs.declared.mode.Pick.{Pick}
+use Rattle.monk_kinds.specs.declared.mode.Rules.{Rules}
+use Rattle.monk_object.specs.Object.{Object}
+use Rattle.monk_history.specs.Meaning.Counts.{left_of}
+use Rattle.monk_history.specs.Meaning.Events.{seat_of, next_of, is_stay, is_way_out}
+use Rattle.monk_history.specs.Meaning.Release.{MayCall, with_next}
+use Rattle.monk_history.specs.declared.event.Event.{Event}
+use Rattle.monk_history.specs.declared.event.Event.TheVariants.{Enter, Act, Leave, Wait, Signal, SignalLeave, Until, Resume}
+use Rattle.monk_history.specs.declared.event.Next.{Next}
+use Rattle.monk_history.specs.declared.event.Next.TheVariants as next
+use Rattle.monk_floor.specs.View.{monitor_of}
+use Rattle.monk_world.specs.Kept.{IsKept}
+use Rattle.monk_world.specs.Places.{stage}
+use Rattle.monk_world.specs.Sound.{left_within}
+use Rattle.monk_world.specs.State.{State, grown}
+use Rattle.monk_world.specs.StepTable.{IsDone, release_next, call_of, left_for, may_be_told, is_call_in_range, is_call_offered}
+use Rattle.monk_world.specs.Steps.{after_in}
+use Rattle.monk_world.specs.declared.answer.Answer.TheVariants as answer
+use Rattle.monk_world.specs.declared.command.Command.{Command}
+use Rattle.monk_world.specs.declared.command.Command.TheVariants as command
+use Rattle.monk_world.specs.declared.home.Home.{Home}
+use Rattle.monk_world.specs.declared.home.Home.TheVariants as home
+use Rattle.monk_world.specs.declared.place.Place.{Place}
+use Rattle.monk_world.specs.declared.place.Place.TheVariants.{Active, Back}
+use Rattle.monk_world.specs.declared.source.Source.{Source}
+use Rattle.monk_hall.specs.Changes.{back_after, choice_in}
+use Rattle.monk_hall.specs.Tells.{IsReleaseTo}
+use Rattle.monk_hall.proofs.Frame.{step_kept}
+
+-- where the seat stands after its release
+pub back_is : (i : ℕ) (to : Home) (call : Event) (x : Next) → IsReleaseTo i to call → back_after (Some (with_next x call)) ≡ Back x to
+back_is i home.Idle (Enter s via) x r = absurd r
+back_is i home.Idle (Act s op n) x r = absurd r
+back_is i home.Idle (Leave s y) x r = refl
+back_is i home.Idle (Wait s c y) x r = absurd r
+back_is i home.Idle (Signal s c y) x r = absurd r
+back_is i home.Idle (SignalLeave s c y) x r = refl
+back_is i home.Idle (Until s p y) x r = absurd r
+back_is i home.Idle (Resume s q) x r = absurd r
+back_is i home.Inner (Enter s via) x r = absurd r
+back_is i home.Inner (Act s op n) x r = absurd r
+back_is i home.Inner (Leave s y) x r = absurd r
+back_is i home.Inner (Wait s c y) x r = refl
+back_is i home.Inner (Signal s c y) x r = refl
+back_is i home.Inner (SignalLeave s c y) x r = absurd r
+back_is i home.Inner (Until s p y) x r = refl
+back_is i home.Inner (Resume s q) x r = absurd r
+
+-- whose it is, and whom it names
+pub record IsSaid (i : ℕ) (call : Event) (x : Next) : Type 0 where
+  pub seat : seat_of (with_next x call) ≡ i
+  pub chose : next_of (with_next x call) ≡ Some x
+
+pub said : (i : ℕ) (to : Home) (call : Event) (x : Next) → IsReleaseTo i to call → IsSaid i call x
+said i home.Idle (Enter s via) x r = absurd r
+said i home.Idle (Act s op n) x r = absurd r
+said i home.Idle (Leave s y) x r = record { seat = r.0; chose = refl }
+said i home.Idle (Wait s c y) x r = absurd r
+said i home.Idle (Signal s c y) x r = absurd r
+said i home.Idle (SignalLeave s c y) x r = record { seat = r.0; chose = refl }
+said i home.Idle (Until s p y) x r = absurd r
+said i home.Idle (Resume s q) x r = absurd r
+said i home.Inner (Enter s via) x r = absurd r
+said i home.Inner (Act s op n) x r = absurd r
+said i home.Inner (Leave s y) x r = absurd r
+said i home.Inner (Wait s c y) x r = record { seat = r.0; chose = refl }
+said i home.Inner (Signal s c y) x r = record { seat = r.0; chose = refl }
+said i home.Inner (SignalLeave s c y) x r = absurd r
+said i home.Inner (Until s p y) x r = record { seat = r.0; chose = refl }
+said i home.Inner (Resume s q) x r = absurd r
+
+module _ (k : Rules) (o : Object) (s : State) (seats conds : ℕ) (i : ℕ) (q : Source) (kind : IsKind k) (kept : IsKept k o seats conds s) (near : i < s.floor.seats) (active : s.world.place i ≡ Active q) where
+  abbrev released : Next → Home → Event → State
+  released x to e = record s { world = after_in s.world i x to; floor = grown s.floor (with_next x e) }
+
+  -- a release of the world's table that doesn't stay
+  abbrev by_table : Next → Home → Event → State
+  by_table x to e = record s { world = cond (is_stay (Some x)) s.world (after_in s.world i x to); floor = grown s.floor (with_next x e) }
+
+  away : (x y : Next) (to : Home) (e : Event) → x ≡ y → is_stay (Some x) ≡ false → IsKept k o seats conds (by_table y to e) → IsKept k o seats conds (released x to e)
+  away x y to e same stay h =
+      subst (λ (b : Bool). IsKept k o seats conds (record s { world = cond b s.world (after_in s.world i x to); floor = grown s.floor (with_next x e) })) stay
+      (subst (λ (z : Next). IsKept k o seats conds (by_table z to e)) (sym same) h)
+
+  -- what a release keeps, as it is called
+  abbrev Keeps : Home → Pick → Next → Event → Type 0
+  Keeps to wish x e =
+      MayCall (monitor_of k o s.floor) s.floor.history e → left_within to < left_of s.floor.budget s.floor.history i → x ≡ release_next k o s i e wish → is_stay (Some x) ≡ false
+      → IsKept k o seats conds (released x to e)
+
+  by_command : (m : Command) (wish : Pick) (to : Home) (e : Event) → call_of i m ≡ Some e → may_be_told (Active q) m ≡ true → left_for m ≡ left_within to + 1
+      → IsDone k o s i (Active q) m (answer.Chose (release_next k o s i e wish)) (by_table (release_next k o s i e wish) to e) → (x : Next) → Keeps to wish x e
+  by_command m wish to e call told left_is done x may left chosen stay =
+      away x (release_next k o s i e wish) to e chosen stay
+      (step_kept k o s i m (answer.Chose (release_next k o s i e wish)) (by_table (release_next k o s i e wish) to e) seats conds (Active q) kind kept
+      (record {
+        near = near;
+        range = subst (λ (y : Option Event). is_call_in_range o s.floor y ≡ true) (sym call) may.in_range;
+        offered = subst (λ (y : Option Event). is_call_offered k y ≡ true) (sym call) may.offered;
+        told = ap (λ (p : Place). may_be_told p m) active ∙ told;
+        left = omega arith;
+      })
+      active done)
+
+  -- each of the five
+  pub release_kept : (to : Home) (call : Event) (wish : Pick) (x : Next) → IsReleaseTo i to call → Keeps to wish x call
+  release_kept home.Idle (Leave j y) wish x r =
+      subst (Keeps home.Idle wish x) (λ z. Leave (sym r.0 z) (sym r.1 z)) (by_command (command.Leave wish) wish home.Idle (Leave i next.Stay) refl refl refl (refl, refl) x)
+  release_kept home.Idle (SignalLeave j c y) wish x r =
+      subst (Keeps home.Idle wish x) (λ z. SignalLeave (sym r.0 z) c (sym r.1 z)) (by_command (command.SignalLeave c wish) wish home.Idle (SignalLeave i c next.Stay) refl refl refl (refl, refl) x)
+  release_kept home.Inner (Wait j c y) wish x r =
+      subst (Keeps home.Inner wish x) (λ z. Wait (sym r.0 z) c (sym r.1 z)) (by_command (command.Wait c wish) wish home.Inner (Wait i c next.Stay) refl refl refl (refl, refl) x)
+  release_kept home.Inner (Signal j c y) wish x r =
+      subst (Keeps home.Inner wish x) (λ z. Signal (sym r.0 z) c (sym r.1 z)) (by_command (command.Signal c wish) wish home.Inner (Signal i c next.Stay) refl refl refl (refl, refl) x)
+  release_kept home.Inner (Until j p y) wish x r =
+      subst (Keeps home.Inner wish x) (λ z. Until (sym r.0 z) p (sym r.1 z)) (by_command (command.Until p wish) wish home.Inner (Until i p next.Stay) refl refl refl (refl, refl) x)
+  release_kept home.Idle (Enter j via) wish x r = absurd r
+  release_kept home.Idle (Act j op n) wish x r = absurd r
+  release_kept home.Idle (Wait j c y) wish x r = absurd r
+  release_kept home.Idle (Signal j c y) wish x r = absurd r
+  release_kept home.Idle (Until j p y) wish x r = absurd r
+  release_kept home.Idle (Resume j q2) wish x r = absurd r
+  release_kept home.Inner (Enter j via) wish x r = absurd r
+  release_kept home.Inner (Act j op n) wish x r = absurd r
+  release_kept home.Inner (Leave j y) wish x r = absurd r
+  release_kept home.Inner (SignalLeave j c y) wish x r = absurd r
+  release_kept home.Inner (Resume j q2) wish x r = absurd r

@@ -1,0 +1,34 @@
+use Rattle.std.proofs.Common.{rules, arith, ◌≡◌, ℕ, suc, ◌+◌, ◌-◌, ◌<◌, ◌≤◌, ◌++◌, ◌∷◌, [], List, refl, sym, ap, ◌∙◌}
+use Rattle.monk_hall.specs.Records.{View, fresh, fresh_from, the, head, tail}
+use Rattle.monk_hall.specs.Rule.{setting_of}
+use Rattle.monk_hall.specs.Tokens.{Token, tokens}
+use Rattle.monk_hall.specs.declared.setting.Setting.{Setting}
+use Rattle.monk_hall.proofs.Dealing.{fresh_next, deals_next, tokens_more}
+use Rattle.monk_hall.proofs.making.deal.Goals as goal
+
+pub split_seat-seat-requires : goal.split_seat-seat-requires
+split_seat-seat-requires g c =
+    let inv = c.loop-dealt.invariant in
+    let next = fresh_next (setting_of (g.T.Guarded.state c.args.words.now.key.opening.value) c.args.seats c.args.words.now.key.conds c.args.budget) c.loop-dealt.first.me.0 c.args.seats c.loop-dealt.dealt c.loop-dealt-test.true inv.2 in
+    let sized = c.requires.table.1.0 in
+    (inv.0, omega arith, deals_next g.K.Kind.rules g.T.Guarded.meaning (setting_of (g.T.Guarded.state c.args.words.now.key.opening.value) c.args.words.now.key.seats c.args.words.now.key.conds c.args.words.now.key.budget) _ c.loop-dealt.first.me.0 _ _ next)
+
+pub loop-dealt-preserved : goal.loop-dealt-preserved
+loop-dealt-preserved g c =
+    let inv = c.loop-dealt.invariant in
+    let next = fresh_next (setting_of (g.T.Guarded.state c.args.words.now.key.opening.value) c.args.seats c.args.words.now.key.conds c.args.budget) c.loop-dealt.first.me.0 c.args.seats c.loop-dealt.dealt c.loop-dealt-test.true inv.2 in
+    let below = c.loop-dealt-test.true in
+    let split = c.split_seat-seat.ensures in
+    let d : ℕ = c.loop-dealt.dealt in
+    let z = c.args.words.now.table_id in (
+      split.0 ∙ inv.0,
+      omega arith,
+      ap (λ m. m.0) split.2 ∙ ap tail next,
+      ap (λ m. m.1) split.2 ∙ inv.3,
+      (let p = split.3 ∙ inv.0 in
+          let mine = ap (λ m. m.0) split.4 ∙ ap head next in
+          let q = ap (λ (v : View). (the v).setting) mine in
+          let zero_d : d ≡ 0 + d = omega arith in
+          c.in_ok-push.ensures.items ∙ (λ i. inv.4 i ++ c.fresh_pass.ensures i ∷ [])
+          ∙ (λ i. tokens z (fresh_from (setting_of (g.T.Guarded.state c.args.words.now.key.opening.value) c.args.seats c.args.words.now.key.conds c.args.budget) d 0) ++ record { hall = p i; me = fresh (q i) (zero_d i) } ∷ []) ∙ sym (tokens_more z (setting_of (g.T.Guarded.state c.args.words.now.key.opening.value) c.args.seats c.args.words.now.key.conds c.args.budget) d 0)),
+    )

@@ -1,0 +1,14 @@
+use Rattle.std.proofs.Common.{rules, arith}
+use Rattle.monk_hall.specs.Rule.{setting_of}
+use Rattle.monk_hall.proofs.WordSteps.{arrives}
+use Rattle.monk_hall.proofs.steps.arrive.Goals as goal
+
+pub fetch_add-requires : goal.fetch_add-requires
+fetch_add-requires g c =
+    let idle = c.requires.idle in
+    let sized = c.requires.table.1 in
+    let key = c.args.words.now.key in (
+      c.requires.table.0,
+      (let w = sized.0 in omega arith),
+      arrives g.K.Kind.rules g.T.Guarded.meaning (setting_of (g.T.Guarded.state key.opening.value) key.seats key.conds key.budget) g.K.Kind.is_kind _ _ c.args.seat.now.me idle.0 idle.1 idle.2,
+    )

@@ -1,0 +1,151 @@
+-- What each call tells, of the token that was handed in and the one that is given back
+use Rattle.std.specs.Prelude.{◌≡◌, ◌≢◌, ℕ, suc, ◌+◌, ◌==◌, ◌≤◌, ◌&&◌, not, Bool, true, false, if◌then◌else◌, List, [], ◌∷◌, ◌++◌, Option, Some, None}
+use Rattle.monk_kinds.specs.declared.mode.Rules.{Rules}
+use Rattle.monk_kinds.specs.declared.mode.Pick.{Pick}
+use Rattle.monk_kinds.specs.declared.mode.Pick.TheVariants.{Entry as WishEntry, Waiter as WishWaiter, Signaller as WishSignaller}
+use Rattle.monk_object.specs.Object.{Object}
+use Rattle.monk_history.specs.Meaning.Choice.{must_stay}
+use Rattle.monk_history.specs.Meaning.Counts.{enters_of}
+use Rattle.monk_history.specs.Meaning.Events.{is_stay}
+use Rattle.monk_history.specs.Meaning.Legal.{IsLegal}
+use Rattle.monk_history.specs.Meaning.Release.{with_next, choice_of}
+use Rattle.monk_history.specs.Meaning.Turn.{turn}
+use Rattle.monk_history.specs.declared.event.Event.{Event}
+use Rattle.monk_history.specs.declared.event.Next.{Next}
+use Rattle.monk_history.specs.declared.event.Next.TheVariants as next
+use Rattle.monk_floor.specs.View.{FloorView, monitor_of, stands_of}
+use Rattle.monk_world.specs.Places.{place_of}
+use Rattle.monk_world.specs.State.{grown}
+use Rattle.monk_world.specs.StepTable.{out_event}
+use Rattle.monk_world.specs.Steps.{looked, answered, counted}
+use Rattle.monk_world.specs.declared.home.Home.{Home}
+use Rattle.monk_world.specs.declared.place.Place.{Place}
+use Rattle.monk_world.specs.declared.place.Place.TheVariants.{Idle, Ticket, Due, Active, Back, Passing, Inner}
+use Rattle.monk_world.specs.declared.source.Source.{Source}
+use Rattle.monk_world.specs.declared.source.Source.TheVariants.{Free, Granted, Called}
+use Rattle.monk_hall.specs.Changes.{drew}
+use Rattle.monk_hall.specs.Floors.{StartsWith}
+use Rattle.monk_hall.specs.Layout.{tickets, floor_of}
+use Rattle.monk_hall.specs.Tokens.{Token, Holder, IsTold}
+use Rattle.monk_hall.specs.declared.record.Record.{Record}
+
+-- it draws a ticket, with a number not below the enters that it has seen
+pub record Arrived (k : Rules) (o : Object) (p q : Token) : Type 0 where
+  pub found : ℕ
+  pub hall : q.hall ≡ p.hall
+  pub me : q.me ≡ drew p.me found
+  pub enters : enters_of p.me.seen ≤ tickets found
+  pub told : IsTold k o q.me
+
+-- how a seat comes to the right that waits there
+abbrev pub came_by : Place → Source
+came_by Idle = Called
+came_by (Ticket t) = Granted t
+came_by (Due q) = q
+came_by (Active q) = q
+came_by (Back x to) = Called
+came_by (Passing t to) = Called
+came_by Inner = Called
+
+-- the ticket with which a seat waits for entry, or came to the right
+abbrev pub ticket_held : Place → Option ℕ
+ticket_held Idle = None
+ticket_held (Ticket t) = Some t
+ticket_held (Due (Free t)) = Some t
+ticket_held (Due (Granted t)) = Some t
+ticket_held (Due Called) = None
+ticket_held (Active q) = None
+ticket_held (Back x to) = None
+ticket_held (Passing t to) = None
+ticket_held Inner = None
+
+-- a waiting seat looked, and found this: a seat that is due needs no look
+abbrev pub looked_from : Place → Record → ℕ → Record
+looked_from Idle r found = r
+looked_from (Ticket t) r found = record r { place = looked t (found == t + 1); looks = suc r.looks; steps = suc r.steps }
+looked_from (Due q) r found = r
+looked_from (Active q) r found = r
+looked_from (Back x to) r found = r
+looked_from (Passing t to) r found = r
+looked_from Inner r found = record r { place = answered (found == r.count + 1); count = counted r.count (found == r.count + 1); looks = suc r.looks; steps = suc r.steps }
+
+pub record Looked (k : Rules) (o : Object) (p q : Token) : Type 0 where
+  pub found : ℕ
+  pub hall : q.hall ≡ p.hall
+  pub me : q.me ≡ looked_from p.me.place p.me found
+
+-- the seat is active. Its history is what came before, which begins with all that the seat had seen, and the event
+-- with which it came; that event is also the last of its own. A seat that came by a ticket finds as many enters as
+-- that ticket's number
+pub record Entered (k : Rules) (o : Object) (p : Token) (a : Holder) : Type 0 where
+  pub hall : a.hall ≡ p.hall
+  pub seat : a.me.seat ≡ p.me.seat
+  pub setting : a.me.setting ≡ p.me.setting
+  pub place : a.me.place ≡ Active (came_by p.me.place)
+  pub known : a.me.known ≡ false
+  pub starts : StartsWith a.me.seen p.me.seen
+  pub floor : a.floor ≡ floor_of p.me.setting (a.me.seen ++ out_event p.me.seat (came_by p.me.place) (turn a.me.seen) ∷ [])
+  pub mine : a.me.mine ≡ p.me.mine ++ out_event p.me.seat (came_by p.me.place) (turn a.me.seen) ∷ []
+  pub first : (t : ℕ) → came_by p.me.place ≡ Free t → enters_of a.me.seen ≡ t
+  pub next : (t : ℕ) → came_by p.me.place ≡ Granted t → enters_of a.me.seen ≡ t
+  pub legal : IsLegal (monitor_of k o a.floor) a.floor.history
+
+-- the right was not there; the seat has looked once more
+pub record StillWaits (k : Rules) (o : Object) (p q : Token) : Type 0 where
+  pub hall : q.hall ≡ p.hall
+  pub me : q.me ≡ record p.me { looks = suc p.me.looks; steps = suc p.me.steps }
+  pub told : IsTold k o q.me
+
+-- a wish for entry wants to know whether somebody waits for it
+abbrev pub wants_entry : Pick → Bool
+wants_entry WishEntry = true
+wants_entry WishWaiter = false
+wants_entry WishSignaller = false
+
+-- what a release knows of the entry: only a wish for entry asks
+abbrev pub knows : Pick → Bool → Bool
+knows WishEntry known = known
+knows WishWaiter known = false
+knows WishSignaller known = false
+
+-- how often a release looks at the ticket word: a wish for entry once, where there is something to choose
+abbrev pub peeks_of : Bool → Pick → ℕ
+peeks_of chooses wish = if chooses && wants_entry wish then 1 else 0
+
+abbrev pub peeks_for : Rules → Object → FloorView → Event → Pick → ℕ
+peeks_for k o f call wish = peeks_of (not (must_stay o (stands_of k o f) call)) wish
+
+-- the active seat has looked at the ticket word so often
+pub record HasPeeked (peeks : ℕ) (a b : Holder) : Type 0 where
+  pub known : Bool
+  pub is : b ≡ record a { me = record a.me { known = known; looks = a.me.looks + peeks; steps = a.me.steps + peeks } }
+
+-- the seat has given the floor back with this release, whose next is that of the wish rules; it stands outside or is
+-- parked inside. `known` of the token given back tells whether its look found somebody at the entry
+pub record Released (k : Rules) (o : Object) (a : Holder) (call : Event) (wish : Pick) (to : Home) (peeks : ℕ) (p : Token) : Type 0 where
+  pub choice : Next
+  pub chosen : choice ≡ choice_of k o (stands_of k o a.floor) call (knows wish p.me.known) wish
+  pub away : is_stay (Some choice) ≡ false
+  pub hall : p.hall ≡ a.hall
+  pub seat : p.me.seat ≡ a.me.seat
+  pub setting : p.me.setting ≡ a.me.setting
+  pub place : p.me.place ≡ place_of to
+  pub seen : p.me.seen ≡ a.floor.history ++ with_next choice call ∷ []
+  pub mine : p.me.mine ≡ a.me.mine ++ with_next choice call ∷ []
+  pub looks : p.me.looks ≡ a.me.looks + peeks
+  pub steps : p.me.steps ≤ a.me.steps + peeks + 3
+  pub told : IsTold k o p.me
+
+-- the seat has stayed active by this release, since the wish rules chose so
+pub record Stayed (k : Rules) (o : Object) (a : Holder) (call : Event) (wish : Pick) (peeks : ℕ) (b : Holder) : Type 0 where
+  pub chosen : next.Stay ≡ choice_of k o (stands_of k o a.floor) call (knows wish b.me.known) wish
+  pub is : b ≡ record a {
+    me = record a.me { known = b.me.known; mine = a.me.mine ++ with_next next.Stay call ∷ []; looks = a.me.looks + peeks; steps = a.me.steps + peeks };
+    floor = grown a.floor (with_next next.Stay call);
+  }
+  pub legal : IsLegal (monitor_of k o b.floor) b.floor.history
+
+-- the history has grown by an event of the active seat, and nothing else has changed
+pub record HasDone (k : Rules) (o : Object) (a : Holder) (e : Event) (b : Holder) : Type 0 where
+  pub is : b ≡ record a { me = record a.me { mine = a.me.mine ++ e ∷ [] }; floor = grown a.floor e }
+  pub legal : IsLegal (monitor_of k o b.floor) b.floor.history

@@ -1,0 +1,94 @@
+-- What each step makes of the record of the seat that takes it, by what it found
+use Rattle.std.specs.Prelude.{ℕ, suc, ◌+◌, ◌==◌, nat_le, if◌then◌else◌, Bool, true, false, List, [], ◌∷◌, length, Option, Some, None}
+use Rattle.std.specs.List.{last_or}
+use Rattle.monk_history.specs.Meaning.Counts.{events_of}
+use Rattle.monk_history.specs.Meaning.Events.{next_of, is_way_out}
+use Rattle.monk_history.specs.declared.event.Event.{Event}
+use Rattle.monk_history.specs.declared.event.Next.{Next}
+use Rattle.monk_history.specs.declared.event.Next.TheVariants as next
+use Rattle.monk_world.specs.Places.{ticket, place_of}
+use Rattle.monk_world.specs.Steps.{arrived, looked, answered, counted, dropped}
+use Rattle.monk_world.specs.declared.home.Home.{Home}
+use Rattle.monk_world.specs.declared.home.Home.TheVariants as home
+use Rattle.monk_world.specs.declared.place.Place.{Place}
+use Rattle.monk_world.specs.declared.place.Place.TheVariants.{Idle, Ticket, Due, Active, Back, Passing, Inner}
+use Rattle.monk_world.specs.declared.source.Source.{Source}
+use Rattle.monk_world.specs.declared.source.Source.TheVariants.{Free, Granted, Called}
+use Rattle.monk_hall.specs.Layout.{tickets, unpassed}
+use Rattle.monk_hall.specs.Records.{View, the, tail}
+use Rattle.monk_hall.specs.declared.record.Record.{Record}
+
+-- how a seat that is due or active came to the right
+abbrev pub source_at : Place → Source
+source_at Idle = Called
+source_at (Ticket t) = Called
+source_at (Due q) = q
+source_at (Active q) = q
+source_at (Back x to) = Called
+source_at (Passing t to) = Called
+source_at Inner = Called
+
+-- where a seat goes that has the floor back
+abbrev pub home_at : Place → Home
+home_at Idle = home.Idle
+home_at (Ticket t) = home.Idle
+home_at (Due q) = home.Idle
+home_at (Active q) = home.Idle
+home_at (Back x to) = to
+home_at (Passing t to) = to
+home_at Inner = home.Idle
+
+abbrev pub choice_in : Option Next → Next
+choice_in None = next.Stay
+choice_in (Some x) = x
+
+-- where a seat stands that has brought the floor back after this release
+abbrev pub back_after : Option Event → Place
+back_after None = Idle
+back_after (Some e) = Back (choice_in (next_of e)) (if is_way_out e then home.Idle else home.Inner)
+
+-- it drew a ticket
+abbrev pub drew : Record → ℕ → Record
+drew r found = record r { place = arrived (tickets found) (unpassed found); steps = suc r.steps }
+
+-- it looked at the place of its ticket
+abbrev pub looked_for_ticket : Record → ℕ → Record
+looked_for_ticket r found = record r { place = looked (ticket r.place) (found == ticket r.place + 1); looks = suc r.looks; steps = suc r.steps }
+
+-- it looked at its own place
+abbrev pub looked_for_call : Record → ℕ → Record
+looked_for_call r found = record r { place = answered (found == r.count + 1); count = counted r.count (found == r.count + 1); looks = suc r.looks; steps = suc r.steps }
+
+-- active, it looked whether somebody waits for entry
+abbrev pub peeked : Record → ℕ → Record
+peeked r found = record r { known = nat_le 2 (unpassed found); looks = suc r.looks; steps = suc r.steps }
+
+-- the floor came out to it, with this history
+abbrev pub took : Record → List Event → Record
+took r history = record r { place = Active (source_at r.place); known = false; seen = history; steps = suc r.steps }
+
+-- it brought the floor back, with this history
+abbrev pub gave : Record → List Event → Record
+gave r history = record r { place = back_after (last_or None history); seen = history; mine = events_of history r.seat; steps = suc r.steps }
+
+-- it took itself off the ticket word
+abbrev pub took_off : Record → ℕ → Record
+took_off r found = record r { place = dropped (tickets found) (unpassed found) (home_at r.place); steps = suc r.steps }
+
+-- it handed the right on
+abbrev pub handed_on : Record → Record
+handed_on r = record r { place = place_of (home_at r.place); steps = suc r.steps }
+
+-- of two histories the longer
+abbrev pub longer : List Event → List Event → List Event
+longer a b = if nat_le (length a) (length b) then b else a
+
+-- two views in one, which costs the first a step
+abbrev pub met : View → View → View
+met v w = record (the v) { steps = suc (the v).steps } ∷ the w ∷ []
+
+-- both have seen as much, which costs the second a step
+abbrev pub shared : View → View
+shared v =
+    record (the v) { seen = longer (the v).seen (the (tail v)).seen }
+    ∷ record (the (tail v)) { seen = longer (the v).seen (the (tail v)).seen; steps = suc (the (tail v)).steps } ∷ []

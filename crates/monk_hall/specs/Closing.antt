@@ -1,0 +1,48 @@
+-- How a hall ends
+use Rattle.std.specs.Prelude.{◌≡◌, ℕ, ◌+◌, ◌≤◌, ◌<◌, ◌⊎◌, Bool, true, false, List, [], ◌∷◌, ◌++◌}
+use Rattle.monk_kinds.specs.declared.mode.Rules.{Rules}
+use Rattle.monk_object.specs.Object.{Object}
+use Rattle.monk_history.specs.Meaning.Conditions.{condition}
+use Rattle.monk_history.specs.Meaning.Legal.{IsLegal}
+use Rattle.monk_history.specs.Meaning.Monitor.{data_of}
+use Rattle.monk_history.specs.Meaning.Signallers.{signallers}
+use Rattle.monk_history.specs.Meaning.Standing.{is_queued}
+use Rattle.monk_history.specs.Meaning.Untils.{untils}
+use Rattle.monk_history.specs.Meaning.Waiters.{waiters}
+use Rattle.monk_history.specs.declared.event.Event.{Event}
+use Rattle.monk_history.specs.declared.event.Event.TheVariants.{Leave}
+use Rattle.monk_history.specs.declared.event.Next.TheVariants.{Entry}
+use Rattle.monk_floor.specs.View.{FloorView, monitor_of, stands_of}
+use Rattle.monk_hall.specs.Tokens.{Holder}
+
+-- every queue is empty
+pub record HasNobody (f : FloorView) : Type 0 where
+  pub conditions : (c : ℕ) → c < f.conds → condition c f.history ≡ []
+  pub waiters : waiters f.history ≡ []
+  pub signallers : signallers f.history ≡ []
+  pub untils : untils f.history ≡ []
+
+-- a queue has some seat
+pub record HasSomebody (k : Rules) (o : Object) (f : FloorView) : Type 0 where
+  pub seat : ℕ
+  pub queued : is_queued f.conds seat (stands_of k o f) ≡ true
+
+-- no seat below this number is in a queue
+abbrev pub IsUnqueued : Rules → Object → FloorView → ℕ → Type 0
+IsUnqueued k o f seats = (j : ℕ) → j < seats → is_queued f.conds j (stands_of k o f) ≡ false
+
+-- the hall has ended: nobody was in a queue, and the active seat has left. The history is legal, and the object has its
+-- data
+pub record IsEnded (k : Rules) (o : Object) (a : Holder) (history : List Event) (state : List ℕ) : Type 0 where
+  pub nobody : HasNobody a.floor
+  pub leaves : history ≡ a.floor.history ++ Leave a.me.seat Entry ∷ []
+  pub legal : IsLegal (monitor_of k o a.floor) history
+  pub contents : state ≡ data_of (monitor_of k o a.floor) history
+
+-- the hall goes on: somebody is in a queue, or a look at the ticket word found somebody at the entry. Nothing else has
+-- changed
+pub record IsBusy (k : Rules) (o : Object) (a b : Holder) : Type 0 where
+  pub some : HasSomebody k o a.floor ⊎ (b.me.known ≡ true)
+  pub is : b ≡ record a { me = record a.me { known = b.me.known; looks = b.me.looks; steps = b.me.steps } }
+  pub looks : b.me.looks ≤ a.me.looks + 1
+  pub steps : b.me.steps ≤ a.me.steps + 1

@@ -1,0 +1,48 @@
+-- How the right is handed on
+use Rattle.std.specs.Prelude.{◌≡◌, ℕ, ◌+◌, ◌≤◌, List, [], ◌∷◌, Option, Some, None}
+use Rattle.atomic_table.specs.Seated.{TableId}
+use Rattle.monk_kinds.specs.declared.mode.Rules.{Rules}
+use Rattle.monk_object.specs.Object.{Object}
+use Rattle.monk_history.specs.Meaning.Reasons.{IsAllowed}
+use Rattle.monk_history.specs.Meaning.Release.{with_next}
+use Rattle.monk_history.specs.declared.event.Event.{Event}
+use Rattle.monk_history.specs.declared.event.Next.{Next}
+use Rattle.monk_history.specs.declared.event.Next.TheVariants.{Stay, Entry, Waiter, Signaller, Until}
+use Rattle.monk_floor.specs.View.{FloorView, monitor_of}
+use Rattle.monk_world.specs.Places.{stage, place_of}
+use Rattle.monk_world.specs.declared.home.Home.{Home}
+use Rattle.monk_hall.specs.Changes.{gave, home_at}
+use Rattle.monk_hall.specs.Layout.{word_count}
+use Rattle.monk_hall.specs.Records.{IsOne, the}
+use Rattle.monk_hall.specs.Tells.{Me, Returns}
+use Rattle.monk_hall.specs.declared.record.Record.{Record}
+
+-- the seat that a choice names
+abbrev pub called_by : Next → Option ℕ
+called_by Stay = None
+called_by Entry = None
+called_by (Waiter j) = Some j
+called_by (Signaller j) = Some j
+called_by (Until j) = Some j
+
+-- the active seat has recorded a release in its floor, which chose `choice` and leads to `to`
+pub record HasReleased (k : Rules) (o : Object) (z : TableId) (me : Me) (choice : Next) (to : Home) (f : FloorView) : Type 0 where
+  pub one : IsOne me.0
+  pub active : stage (the me.0).place ≡ 3
+  pub sized : z.words ≡ word_count (the me.0).setting.seats
+  pub returns : Returns k o (the me.0) f
+  pub is_choice : returns.choice ≡ choice
+  pub is_to : returns.to ≡ to
+  pub allowed : IsAllowed (monitor_of k o returns.before) returns.before.history (with_next returns.choice returns.call)
+
+-- a seat that has the floor back hands the right on in so many steps, and goes where it was going
+pub record HandsOnWithin (most : ℕ) (me new : Me) : Type 0 where
+  pub steps : ℕ
+  pub few : steps ≤ (the me.0).steps + most
+  pub is : new ≡ (record (the me.0) { place = place_of (home_at (the me.0).place); steps = steps } ∷ [], me.1)
+
+-- the floor is home with this history, the right is handed on, and the seat stands there
+pub record HasGone (r : Record) (h : List Event) (to : Home) (w : Record) : Type 0 where
+  pub steps : ℕ
+  pub few : steps ≤ r.steps + 3
+  pub is : w ≡ record (gave r h) { place = place_of to; steps = steps }

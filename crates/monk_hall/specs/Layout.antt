@@ -1,0 +1,46 @@
+-- How the table's words and the seats' records show a world
+use Rattle.std.specs.Prelude.{ℕ, ◌+◌, ◌*◌, ◌/◌, ◌%◌, List, slice_index}
+use Rattle.monk_history.specs.declared.event.Event.{Event}
+use Rattle.monk_floor.specs.View.{FloorView}
+use Rattle.monk_world.specs.State.{State}
+use Rattle.monk_world.specs.World.{World}
+use Rattle.monk_hall.specs.declared.record.Record.{Record}
+use Rattle.monk_hall.specs.declared.setting.Setting.{Setting}
+
+-- word 0 has the tickets drawn above its low 32 bits, and those not passed on in them
+abbrev pub tickets : ℕ → ℕ
+tickets word = word / 4294967296
+
+abbrev pub unpassed : ℕ → ℕ
+unpassed word = word % 4294967296
+
+-- where the place of ticket t is, among so many seats; and where that of seat j
+abbrev pub place_word : ℕ → ℕ
+place_word i = 2 * i + 1
+
+abbrev pub ticket_word : ℕ → ℕ → ℕ
+ticket_word seats t = place_word (t % seats)
+
+abbrev pub seat_word : ℕ → ℕ
+seat_word j = 2 * j + 2
+
+abbrev pub word_count : ℕ → ℕ
+word_count seats = 2 * seats + 1
+
+-- the world that the words and the records show
+abbrev pub shown_world : List ℕ → (ℕ → Record) → World
+shown_world words at = record {
+  drawn = tickets (slice_index words 0);
+  unpassed = unpassed (slice_index words 0);
+  ticket_place = λ i. slice_index words (place_word i);
+  seat_place = λ j. slice_index words (seat_word j);
+  place = λ j. (at j).place;
+  count = λ j. (at j).count;
+}
+
+-- a floor of this hall with this history
+abbrev pub floor_of : Setting → List Event → FloorView
+floor_of c h = record { opening = c.opening; seats = c.seats; conds = c.conds; budget = c.budget; history = h }
+
+abbrev pub shown : Setting → List ℕ → (ℕ → Record) → List Event → State
+shown c words at h = record { world = shown_world words at; known = λ j. (at j).known; floor = floor_of c h }

@@ -1,0 +1,101 @@
+-- What each step tells the seat that takes it
+use Rattle.std.specs.Prelude.{◌≡◌, ℕ, ◌<◌, ◌≤◌, ◌⊎◌, Bool, false, List, [], ◌∷◌, ◌++◌, Option, Some, None}
+use Rattle.atomic_table.specs.Seated.{TableId}
+use Rattle.atomic_table.specs.Table as table
+use Rattle.monk_kinds.specs.declared.mode.Rules.{Rules}
+use Rattle.monk_kinds.specs.declared.Pick.{Pick}
+use Rattle.monk_object.specs.Object.{Object}
+use Rattle.monk_history.specs.Meaning.Counts.{events_of, enters_of, left_of}
+use Rattle.monk_history.specs.Meaning.Events.{is_stay}
+use Rattle.monk_history.specs.Meaning.Legal.{IsLegal}
+use Rattle.monk_history.specs.Meaning.Release.{MayCall, with_next, choice_of}
+use Rattle.monk_history.specs.declared.event.Event.{Event}
+use Rattle.monk_history.specs.declared.event.Event.TheVariants.{Leave, Wait, Signal, SignalLeave, Until}
+use Rattle.monk_history.specs.declared.event.Next.{Next}
+use Rattle.monk_history.specs.declared.event.Next.TheVariants as next
+use Rattle.monk_floor.specs.View.{FloorView, monitor_of, stands_of}
+use Rattle.monk_world.specs.Sound.{left_within}
+use Rattle.monk_world.specs.State.{grown}
+use Rattle.monk_world.specs.declared.home.Home.{Home}
+use Rattle.monk_world.specs.declared.home.Home.TheVariants as home
+use Rattle.monk_hall.specs.Changes.{drew, looked_for_ticket, looked_for_call, peeked, took, gave, took_off, handed_on, shared}
+use Rattle.monk_hall.specs.Floors.{StartsWith, Finds, GoesOn}
+use Rattle.monk_hall.specs.Layout.{tickets, unpassed, word_count, floor_of}
+use Rattle.monk_hall.specs.Records.{View, the, tail}
+use Rattle.monk_hall.specs.declared.record.Record.{Record}
+
+-- a seat's view, and the slots that it has in its hands
+abbrev pub Me : Type 0
+Me = table.Me (Option FloorView) View
+
+-- it draws a ticket, with a number not below the enters that it has seen
+abbrev pub Arrives : Me → ℕ → Me → Type 0
+Arrives me found new = (new ≡ (drew (the me.0) found ∷ [], me.1)) × (enters_of (the me.0).seen ≤ tickets found)
+
+abbrev pub LooksForTicket : Me → ℕ → Me → Type 0
+LooksForTicket me found new = new ≡ (looked_for_ticket (the me.0) found ∷ [], me.1)
+
+abbrev pub LooksForCall : Me → ℕ → Me → Type 0
+LooksForCall me found new = new ≡ (looked_for_call (the me.0) found ∷ [], me.1)
+
+abbrev pub Peeks : Me → ℕ → Me → Type 0
+Peeks me found new = new ≡ (peeked (the me.0) found ∷ [], me.1)
+
+-- the floor comes out
+abbrev pub TakesFloor : Rules → Object → Me → ℕ → Me → Type 0
+TakesFloor k o me found new = (f : FloorView) × (new ≡ (took (the me.0) f.history ∷ [], (0, Some f) ∷ me.1)) × Finds k o (the me.0) f
+
+-- the floor goes home
+abbrev pub GivesFloor : List Event → Me → ℕ → Me → Type 0
+GivesFloor history me found new = new ≡ (gave (the me.0) history ∷ [], [])
+
+-- the history of the floor in its hands
+abbrev pub held_history : List (ℕ × Option FloorView) → List Event
+held_history [] = []
+held_history ((k, None) ∷ xs) = []
+held_history ((k, Some f) ∷ xs) = f.history
+
+abbrev pub TakesOff : Me → ℕ → Me → Type 0
+TakesOff me found new = (new ≡ (took_off (the me.0) found ∷ [], me.1)) × (0 < unpassed found) × (unpassed found ≤ tickets found)
+
+abbrev pub HandsOn : Me → ℕ → Me → Type 0
+HandsOn me found new = new ≡ (handed_on (the me.0) ∷ [], me.1)
+
+-- of two histories one begins the other
+abbrev pub AreOne : List Event → List Event → Type 0
+AreOne a b = StartsWith a b ⊎ StartsWith b a
+
+-- what a seat has seen is legal, and its own events there are those that it knows as its own
+abbrev pub SeesTruly : Rules → Object → Record → Type 0
+SeesTruly k o r = IsLegal (monitor_of k o (floor_of r.setting r.seen)) r.seen × (events_of r.seen r.seat ≡ r.mine)
+
+abbrev pub Compares : Rules → Object → Me → ℕ → Me → Type 0
+Compares k o me found new = (new ≡ (shared me.0, me.1)) × AreOne (the me.0).seen (the (tail me.0)).seen × SeesTruly k o (the new.0) × SeesTruly k o (the (tail new.0))
+
+-- a release of seat i as it is called, written with `stay`, and where the seat goes then: outside after a leave,
+-- inside after a wait
+abbrev pub IsReleaseTo : ℕ → Home → Event → Type 0
+IsReleaseTo i home.Idle (Leave s x) = (s ≡ i) × (x ≡ next.Stay)
+IsReleaseTo i home.Idle (SignalLeave s c x) = (s ≡ i) × (x ≡ next.Stay)
+IsReleaseTo i home.Inner (Wait s c x) = (s ≡ i) × (x ≡ next.Stay)
+IsReleaseTo i home.Inner (Signal s c x) = (s ≡ i) × (x ≡ next.Stay)
+IsReleaseTo i home.Inner (Until s p x) = (s ≡ i) × (x ≡ next.Stay)
+IsReleaseTo i to e = ⊥
+
+-- the floor that a seat brings home: the one that it had, with one release more, which chose another by the wish rules
+pub record Returns (k : Rules) (o : Object) (r : Record) (f : FloorView) : Type 0 where
+  pub before : FloorView
+  pub goes_on : GoesOn k o r before
+  pub call : Event
+  pub wish : Pick
+  pub to : Home
+  pub choice : Next
+  pub release : IsReleaseTo r.seat to call
+  pub may : MayCall (monitor_of k o before) before.history call
+  pub chosen : choice ≡ choice_of k o (stands_of k o before) call r.known wish
+  pub away : is_stay (Some choice) ≡ false
+  pub left : left_within to < left_of before.budget before.history r.seat
+  pub grows : f ≡ grown before (with_next choice call)
+
+abbrev pub IsSized : TableId → ℕ → Type 0
+IsSized z seats = (z.words ≡ word_count seats) × (z.slots ≡ 1)

@@ -1,0 +1,92 @@
+-- What contracts see of a hall and of its tokens
+use Rattle.std.specs.Prelude.{◌≡◌, ℕ, ◌+◌, ◌<◌, List, [], ◌∷◌, length, Option, Some, None}
+use Rattle.atomic_table.specs.Seated.{TableId}
+use Rattle.atomic_table.specs.Table as table
+use Rattle.monk_kinds.specs.declared.mode.Rules.{Rules}
+use Rattle.monk_object.specs.Object.{Object}
+use Rattle.monk_history.specs.Meaning.Counts.{events_of}
+use Rattle.monk_history.specs.Meaning.Legal.{IsLegal}
+use Rattle.monk_floor.specs.View.{FloorView, monitor_of}
+use Rattle.monk_world.specs.Places.{stage}
+use Rattle.monk_world.specs.declared.place.Place.{Place}
+use Rattle.monk_world.specs.declared.place.Place.TheVariants.{Idle, Ticket, Due, Active, Back, Passing, Inner}
+use Rattle.monk_hall.specs.Floors.{GoesOn}
+use Rattle.monk_hall.specs.Layout.{word_count, floor_of}
+use Rattle.monk_hall.specs.Records.{View, IsOne, the, first_view}
+use Rattle.monk_hall.specs.Tells.{Me}
+use Rattle.monk_hall.specs.declared.record.Record.{Record}
+use Rattle.monk_hall.specs.declared.setting.Setting.{Setting}
+
+-- a hall: which table it is, and what was fixed when it was made
+pub record House : Type 0 where
+  pub id : TableId
+  pub setting : Setting
+
+-- a token of a seat that is idle or waits: of which hall, and what the seat knows
+pub record Token : Type 0 where
+  pub hall : TableId
+  pub me : Record
+
+-- a token of the active seat: it has the floor too, and `me.mine` has the seat's events in the floor's history
+pub record Holder : Type 0 where
+  pub hall : TableId
+  pub me : Record
+  pub floor : FloorView
+
+-- the tokens of these records
+abbrev pub tokens : TableId → View → List Token
+tokens z [] = []
+tokens z (r ∷ rs) = record { hall = z; me = r } ∷ tokens z rs
+
+-- the view in a badge that has one
+abbrev pub top : List View → View
+top [] = []
+top (v ∷ vs) = v
+
+-- the record with the events that the seat has in the history of its floor
+abbrev pub with_own : Record → FloorView → Record
+with_own r f = record r { mine = events_of f.history r.seat }
+
+-- the numbers that a token stores are those of its seat
+pub record IsSeated (z : TableId) (r : Record) (number calls : ℕ) : Type 0 where
+  pub is_seat : r.seat ≡ number
+  pub near : number < r.setting.seats
+  pub sized : z.words ≡ word_count r.setting.seats
+  pub counted : calls ≡ r.count
+
+-- what a seat has seen is legal, and its own events there are those that it knows as its own
+pub record IsTold (k : Rules) (o : Object) (r : Record) : Type 0 where
+  pub legal : IsLegal (monitor_of k o (floor_of r.setting r.seen)) r.seen
+  pub own : events_of r.seen r.seat ≡ r.mine
+
+-- a seat without the floor, and with so many events left
+pub record IsResting (k : Rules) (o : Object) (z : TableId) (me : Me) (number left calls : ℕ) : Type 0 where
+  pub one : IsOne me.0
+  pub free : me.1 ≡ []
+  pub seated : IsSeated z (the me.0) number calls
+  pub spent : left + length (the me.0).mine ≡ (the me.0).setting.budget
+  pub told : IsTold k o (the me.0)
+
+-- a seat with the floor, from which it can still go out
+pub record IsHolding (k : Rules) (o : Object) (z : TableId) (me : Me) (number calls : ℕ) (f : FloorView) : Type 0 where
+  pub one : IsOne me.0
+  pub out : me.1 ≡ (0, None) ∷ []
+  pub active : stage (the me.0).place ≡ 3
+  pub seated : IsSeated z (the me.0) number calls
+  pub goes : GoesOn k o (the me.0) f
+  pub left : length (events_of f.history (the me.0).seat) < (the me.0).setting.budget
+
+-- where a seat stands that waits, or has the right and not yet the floor
+abbrev pub IsWaiting : Place → Type 0
+IsWaiting Idle = ⊥
+IsWaiting (Ticket t) = Unit {0}
+IsWaiting (Due q) = Unit {0}
+IsWaiting (Active q) = ⊥
+IsWaiting (Back x to) = ⊥
+IsWaiting (Passing t to) = ⊥
+IsWaiting Inner = Unit {0}
+
+-- all these are tokens of that hall
+abbrev pub AreOf : TableId → List Token → Type 0
+AreOf z [] = Unit {0}
+AreOf z (p ∷ ps) = (p.hall ≡ z) × AreOf z ps

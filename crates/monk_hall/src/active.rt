@@ -1,0 +1,83 @@
+ghost use Rattle.std.specs.Prelude.{◌≡◌, ℕ, suc, ◌+◌, ◌<◌, ◌≤◌, Bool, length};
+ghost use Rattle.monk_history.specs.Meaning.Conditions.{condition};
+ghost use Rattle.monk_history.specs.Meaning.Legal.{IsLegal};
+ghost use Rattle.monk_history.specs.Meaning.Monitor.{data_of};
+ghost use Rattle.monk_floor.specs.View.{monitor_of};
+ghost use Rattle.monk_hall.specs.Calls.{HasDone};
+
+use crate::rule::TableSeat;
+use monk_floor::Floor;
+use monk_history::Event;
+use monk_kinds::Kind;
+use monk_object::{Guarded, Op};
+use std::marker::Model;
+
+/// The token of the active seat. It can't be dropped: it leaves, waits, or goes on in another of the calls that
+/// release.
+pub struct Active<K: Kind, T: Guarded> {
+    pub(crate) seat: TableSeat<K, T>,
+    pub(crate) number: u8,
+    pub(crate) calls: u64,
+    pub(crate) floor: Floor<K, T>,
+}
+
+impl<K: Kind, T: Guarded> Model for Active<K, T> {
+    ghost use Rattle.monk_hall.specs.Records.{the};
+    ghost use Rattle.monk_hall.specs.Tokens.{Holder, IsHolding, with_own};
+
+    ghost Value = { Holder };
+
+    ghost view = { λ a. record { hall = a.seat.table_id; me = with_own (the a.seat.me.0) a.floor; floor = a.floor } };
+
+    ghost invariant = { λ a. IsHolding K.rules T.meaning a.seat.table_id a.seat.me a.number a.calls a.floor };
+}
+
+impl<K: Kind, T: Guarded> Active<K, T> {
+    /// The number of its seat.
+    pub fn seat(&self) -> u8
+        ensures { result ≡ self.now.me.seat }
+    {
+        self.number
+    }
+
+    /// How many events its seat has left of its budget: one at least.
+    pub fn left(&self) -> u32
+        ensures left { result + length self.now.me.mine ≡ self.now.me.setting.budget }
+        ensures some { 1 ≤ result }
+    {
+        self.floor.left(self.number)
+    }
+
+    /// The history up to now, which is legal.
+    pub fn history(&self) -> &[Event]
+        ensures history { result.now ≡ self.now.floor.history }
+        ensures legal { IsLegal (monitor_of K.rules T.meaning self.now.floor) self.now.floor.history }
+    {
+        self.floor.history()
+    }
+
+    /// Whether a predicate holds of the data.
+    pub fn holds(&self, pred: u8) -> bool
+        requires { pred < T.PREDICATES }
+        ensures { result ≡ T.meaning.holds (data_of (monitor_of K.rules T.meaning self.now.floor) self.now.floor.history) pred }
+    {
+        self.floor.holds(pred)
+    }
+
+    /// How many seats wait on a condition variable.
+    pub fn waiting(&self, cond: u8) -> u32
+        requires { cond < self.now.me.setting.conds }
+        ensures { result ≡ length (condition cond self.now.floor.history) }
+    {
+        self.floor.waiting(cond)
+    }
+
+    /// Carries an operation out on the object, and gives its reply. No step is taken.
+    pub fn act(&mut self, op: Op) -> u64
+        requires code { op.code < T.CODES }
+        requires left { length self.old.me.mine + 2 ≤ self.old.me.setting.budget }
+        ensures { HasDone K.rules T.meaning self.old (Event.Act self.old.me.seat op result) self.new }
+    {
+        self.floor.act(self.number, op)
+    }
+}

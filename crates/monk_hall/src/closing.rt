@@ -1,0 +1,66 @@
+//! How a hall ends.
+ghost use Rattle.std.specs.Prelude.{◌≡◌, ℕ, true, false, IfOk, IfErr};
+ghost use Rattle.monk_hall.specs.Closing.{HasSomebody, IsUnqueued, IsEnded, IsBusy};
+
+use crate::active::Active;
+use crate::busy::Busy;
+use crate::closed::Closed;
+use crate::hall::Hall;
+use monk_floor::Floor;
+use monk_kinds::{Kind, Pick};
+use monk_object::Guarded;
+
+/// Whether a queue has any of these seats.
+fn has_queued<K: Kind, T: Guarded>(floor: &Floor<K, T>, seats: u8) -> bool
+    requires { seats ≡ floor.now.seats }
+    ensures found { result ≡ true → HasSomebody K.rules T.meaning floor.now }
+    ensures none { result ≡ false → IsUnqueued K.rules T.meaning floor.now seats }
+{
+    for seat in 0..seats {
+        if floor.queued(seat) {
+            return true;
+        }
+    }
+    false
+}
+
+/// Ends the hall where nobody else is in it: the active seat leaves, and the object and the whole history are given
+/// out. Otherwise, where a queue has somebody or a look at the ticket word finds somebody at the entry, both are handed
+/// back, and nothing that a program can read has changed.
+///
+/// Takes no memory, at most one step, and a look at each seat.
+pub fn close<K: Kind, T: Guarded>(
+    hall: Hall<K, T>,
+    active: Active<K, T>,
+) -> Result<Closed<T>, Busy<K, T>>
+    requires { active.hall ≡ hall.id }
+    ensures ended { IfOk result (λ c. IsEnded K.rules T.meaning active c.history.items (T.state c.object)) }
+    ensures busy { IfErr result (λ b. (b.hall ≡ hall) × IsBusy K.rules T.meaning active b.active) }
+{
+    if has_queued(&active.floor, hall.seats) {
+        return Err(Busy { hall, active });
+    }
+    let mut active = active;
+    if active.peek(&hall) {
+        return Err(Busy { hall, active });
+    }
+    Ok(active.end())
+}
+
+impl<K: Kind, T: Guarded> Active<K, T> {
+    /// The last seat leaves, and takes the object and the history with it.
+    fn end(self) -> Closed<T>
+        requires { IsUnqueued K.rules T.meaning self.floor self.floor.seats }
+        ensures { IsEnded K.rules T.meaning self result.history.items (T.state result.object) }
+    {
+        let Active {
+            seat: _,
+            number,
+            calls: _,
+            mut floor,
+        } = self;
+        floor.leave(number, Pick::Entry, false);
+        let (object, history) = floor.close();
+        Closed { object, history }
+    }
+}

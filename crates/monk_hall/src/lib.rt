@@ -1,0 +1,41 @@
+//! A monitor for running threads, of every kind, without a lock.
+//!
+//! A hall is a table of atomic words and one slot, which holds the floor while no seat is active. A seat stands for a
+//! task; a thread has it as a token, which says where the seat stands: a `Pass` is idle, a `Parked` waits, an `Active`
+//! has the floor in its hands. Each call is a few atomic steps, and each of these is the step of the same definition as
+//! the step of a `World`.
+#![tactic(auto)]
+
+mod active;
+mod after;
+mod busy;
+mod closed;
+mod closing;
+mod hall;
+mod handing;
+mod making;
+mod meeting;
+mod parked;
+mod pass;
+mod places;
+mod plays;
+mod record;
+mod releases;
+mod resuming;
+mod rule;
+mod setting;
+mod setup;
+mod steps;
+
+pub use active::Active;
+pub use after::After;
+pub use busy::Busy;
+pub use closed::Closed;
+pub use closing::close;
+pub use hall::Hall;
+pub use meeting::meet;
+pub use parked::Parked;
+pub use pass::Pass;
+
+#[cfg(test)]
+mod tests;

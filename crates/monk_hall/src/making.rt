@@ -1,0 +1,119 @@
+//! How a hall is made: the table, and a pass for each seat.
+ghost use Rattle.std.specs.Prelude.{◌≡◌, ℕ, ◌<◌, Option, Some, None, [], ◌∷◌, IfOk, IfErr, replicate};
+ghost use Rattle.monk_floor.specs.Making.{refusal, IsRefused};
+ghost use Rattle.monk_hall.specs.Layout.{floor_of, word_count};
+ghost use Rattle.monk_hall.specs.Records.{the, fresh, first_view};
+ghost use Rattle.monk_hall.specs.Rule.{setting_of};
+ghost use Rattle.monk_hall.specs.Tells.{IsSized};
+ghost use Rattle.monk_hall.specs.Tokens.{tokens};
+
+use crate::hall::Hall;
+use crate::pass::Pass;
+use crate::plays::Deal;
+use crate::rule::{TableSeat, Words};
+use crate::setup::Setup;
+use atomic_table::{Refused, Table};
+use monk_floor::{Floor, MakeFault};
+use monk_kinds::Kind;
+use monk_object::Guarded;
+use std::alloc::{AllocError, Global};
+use std::marker::PhantomData;
+use std::snapshot::Snapshot;
+
+impl<K: Kind, T: Guarded> Hall<K, T> {
+    /// A hall over an object, and a pass for each of its seats in order: 1 to 32 seats, at most 8 condition variables,
+    /// and 2 to 2^20 events for each seat.
+    ///
+    /// The first fault that applies is answered, want of memory last; the object is dropped with it. Takes memory for
+    /// `seats * budget` events, all queues, the table and the passes at once; no call of the hall or of its tokens
+    /// takes any.
+    pub fn make(
+        alloc: Global,
+        object: T,
+        seats: u8,
+        conds: u8,
+        budget: u32,
+    ) -> Result<(Hall<K, T>, Vec<Pass<K, T>>), MakeFault>
+        ensures made { IfOk result (λ r. (refusal seats conds budget ≡ None) × (r.0.setting ≡ setting_of (T.state object) seats conds budget) × (r.1.items ≡ tokens r.0.id (first_view r.0.setting))) }
+        ensures refused { IfErr result (λ e. IsRefused seats conds budget e) }
+    {
+        let opening = Snapshot::of(&object);
+        let floor = Floor::make(alloc, object, seats, conds, budget)?;
+        let setup = Setup {
+            opening,
+            seats,
+            conds,
+            budget,
+        };
+        Ok(open(alloc, floor, setup)?)
+    }
+}
+
+/// A hall with this floor at home.
+fn open<K: Kind, T: Guarded>(
+    alloc: Global,
+    floor: Floor<K, T>,
+    setup: Setup<T>,
+) -> Result<(Hall<K, T>, Vec<Pass<K, T>>), AllocError>
+    requires made { refusal setup.seats setup.conds setup.budget ≡ None }
+    requires floor { floor ≡ floor_of (setting_of (T.state setup.opening.value) setup.seats setup.conds setup.budget) [] }
+    ensures { IfOk result (λ r. (r.0.setting ≡ setting_of (T.state setup.opening.value) setup.seats setup.conds setup.budget) × (r.1.items ≡ tokens r.0.id (first_view r.0.setting))) }
+{
+    let seats = setup.seats;
+    let budget = setup.budget;
+    let mut slots = Vec::new(alloc);
+    slots.push(Some(floor))?;
+    let words = zeros(alloc, 2 * seats as usize + 1)?;
+    let (table, first) = match Table::new(alloc, &words, slots, &setup) {
+        Ok(made) => made,
+        Err(Refused { slots: _ }) => return Err(AllocError),
+    };
+    let passes = deal(alloc, &table.shared, first, seats, budget)?;
+    Ok((Hall { table, seats }, passes))
+}
+
+/// So many words that are 0.
+fn zeros(alloc: Global, count: usize) -> Result<Vec<u64>, AllocError>
+    ensures { IfOk result (λ v. v.items ≡ replicate count 0) }
+{
+    Ok(vec![in alloc; 0; count]?)
+}
+
+/// Gives each seat its record, from the view that has them all.
+fn deal<K: Kind, T: Guarded>(
+    alloc: Global,
+    words: &Words<K, T>,
+    mut first: TableSeat<K, T>,
+    seats: u8,
+    budget: u32,
+) -> Result<Vec<Pass<K, T>>, AllocError>
+    requires table { (first.table_id ≡ words.now.table_id) × IsSized words.now.table_id words.now.key.seats }
+    requires numbers { (seats ≡ words.now.key.seats) × (budget ≡ words.now.key.budget) }
+    requires view { first.me ≡ (first_view (setting_of (T.state words.now.key.opening.value) seats words.now.key.conds budget), []) }
+    ensures { IfOk result (λ v. v.items ≡ tokens words.now.table_id (first_view (setting_of (T.state words.now.key.opening.value) seats words.now.key.conds budget))) }
+{
+    let mut passes = Vec::new(alloc);
+    let mut dealt = 0;
+    while dealt < seats {
+        let seat = words.split_seat::<Deal>(&mut first);
+        passes.push(fresh_pass(seat, dealt, budget))?;
+        dealt += 1;
+    }
+    Ok(passes)
+}
+
+/// The pass of a seat that has its record, before any step.
+fn fresh_pass<K: Kind, T: Guarded>(seat: TableSeat<K, T>, number: u8, budget: u32) -> Pass<K, T>
+    requires table { seat.table_id.words ≡ word_count (the seat.me.0).setting.seats }
+    requires fresh { seat.me ≡ (fresh (the seat.me.0).setting number ∷ [], []) }
+    requires numbers { (number < (the seat.me.0).setting.seats) × (budget ≡ (the seat.me.0).setting.budget) }
+    ensures { result ≡ record { hall = seat.table_id; me = fresh (the seat.me.0).setting number } }
+{
+    Pass {
+        badge: seat.into_badge(),
+        of: PhantomData,
+        number,
+        left: budget,
+        calls: 0,
+    }
+}

@@ -1,0 +1,42 @@
+//! How two seats tell each other what they have seen.
+ghost use Rattle.std.specs.Prelude.{◌≡◌, ℕ, suc, [], ◌∷◌};
+ghost use Rattle.monk_hall.specs.Changes.{longer};
+ghost use Rattle.monk_hall.specs.Tells.{AreOne};
+ghost use Rattle.monk_hall.specs.Tokens.{top, IsTold};
+
+use crate::hall::Hall;
+use crate::pass::Pass;
+use crate::plays::{Compare, Meet, Part};
+use crate::record::View;
+use crate::rule::TableSeat;
+use atomic_table::Badge;
+use monk_kinds::Kind;
+use monk_object::Guarded;
+use std::mem;
+
+/// Takes the seat out of its place, which is left blank.
+fn lift<K: Kind, T: Guarded>(badge: &mut Badge<View>) -> TableSeat<K, T>
+    requires { badge.old.views ≡ top badge.old.views ∷ [] }
+    ensures { (result.table_id ≡ badge.old.table_id) × (result.me ≡ (top badge.old.views, [])) }
+{
+    mem::replace(badge, Badge::blank()).into_seat()
+}
+
+/// Two seats that are outside tell each other what they have seen of the history: of the two one begins the other, and
+/// both know the longer from now on. Nothing that a program can read changes; each takes one step.
+pub fn meet<K: Kind, T: Guarded>(hall: &Hall<K, T>, a: &mut Pass<K, T>, b: &mut Pass<K, T>)
+    requires { (a.old.hall ≡ hall.now.id) × (b.old.hall ≡ hall.now.id) }
+    ensures one { AreOne a.old.me.seen b.old.me.seen }
+    ensures first { a.new ≡ record a.old { me = record a.old.me { seen = longer a.old.me.seen b.old.me.seen; steps = suc a.old.me.steps } } }
+    ensures second { b.new ≡ record b.old { me = record b.old.me { seen = longer a.old.me.seen b.old.me.seen; steps = suc b.old.me.steps } } }
+    ensures told { IsTold K.rules T.meaning a.new.me × IsTold K.rules T.meaning b.new.me }
+{
+    let words = &hall.table.shared;
+    let mut first: TableSeat<K, T> = lift::<K, T>(&mut a.badge);
+    let other: TableSeat<K, T> = lift::<K, T>(&mut b.badge);
+    words.join_seat::<Meet>(&mut first, other);
+    words.load::<Compare>(&mut first, 0);
+    let second = words.split_seat::<Part>(&mut first);
+    a.badge = first.into_badge();
+    b.badge = second.into_badge();
+}

@@ -1,0 +1,171 @@
+ghost use Rattle.std.specs.Prelude.{◌≡◌, ◌≢◌, ℕ, suc, ◌+◌, ◌≤◌, ◌^◌, Option, Some, None, IfOk, IfErr, length};
+ghost use Rattle.monk_world.specs.Places.{stage};
+ghost use Rattle.monk_world.specs.declared.place.Place.TheVariants as at;
+ghost use Rattle.monk_hall.specs.Calls.{Looked, Entered, StillWaits, ticket_held};
+
+use crate::active::Active;
+use crate::hall::Hall;
+use crate::places::{answered, counted, is_called, looked};
+use crate::rule::TableSeat;
+use crate::steps;
+use monk_kinds::Kind;
+use monk_object::Guarded;
+use monk_world::{Place, Source, record_entry};
+use std::marker::Model;
+
+/// The token of a seat that waits to become active, outside with a ticket or inside on a queue; or that may become
+/// active now. It can't be dropped: it is polled or resumed, or given up.
+pub struct Parked<K: Kind, T: Guarded> {
+    pub(crate) seat: TableSeat<K, T>,
+    pub(crate) number: u8,
+    pub(crate) left: u32,
+    pub(crate) calls: u64,
+    pub(crate) place: Place,
+}
+
+impl<K: Kind, T: Guarded> Model for Parked<K, T> {
+    ghost use Rattle.std.specs.Prelude.{◌≡◌, ◌≤◌};
+    ghost use Rattle.monk_hall.specs.Records.{the};
+    ghost use Rattle.monk_hall.specs.Tokens.{Token, IsResting, IsWaiting};
+
+    ghost Value = { Token };
+
+    ghost view = { λ p. record { hall = p.seat.table_id; me = the p.seat.me.0 } };
+
+    ghost invariant = { λ p. IsResting K.rules T.meaning p.seat.table_id p.seat.me p.number p.left p.calls × (2 ≤ p.left) × (p.place ≡ (the p.seat.me.0).place) × IsWaiting p.place };
+}
+
+impl<K: Kind, T: Guarded> Parked<K, T> {
+    /// The number of its seat.
+    pub fn seat(&self) -> u8
+        ensures { result ≡ self.now.me.seat }
+    {
+        self.number
+    }
+
+    /// How many events its seat has left of its budget.
+    pub fn left(&self) -> u32
+        ensures { result + length self.now.me.mine ≡ self.now.me.setting.budget }
+    {
+        self.left
+    }
+
+    /// The number of the ticket with which it waits for entry, or with which it found the monitor free.
+    pub fn ticket(&self) -> Option<u32>
+        ensures { result ≡ ticket_held self.now.me.place }
+    {
+        match self.place {
+            Place::Ticket(ticket) => Some(ticket),
+            Place::Due(Source::Free(ticket)) => Some(ticket),
+            Place::Due(Source::Granted(ticket)) => Some(ticket),
+            _ => None,
+        }
+    }
+
+    /// Becomes active if the right was handed over, in at most two steps: a look where it waits, and the floor comes.
+    /// Otherwise it gives itself back.
+    pub fn poll(self, hall: &Hall<K, T>) -> Result<Active<K, T>, Parked<K, T>>
+        requires { self.hall ≡ hall.now.id }
+        ensures active { IfOk result (λ a. Entered K.rules T.meaning self a × (a.me.steps ≤ self.me.steps + 3)) }
+        ensures parked { IfErr result (λ p. StillWaits K.rules T.meaning self p × (stage self.me.place ≢ 2)) }
+    {
+        let looked = self.look(hall);
+        match looked.place {
+            Place::Due(source) => Ok(looked.come_in(hall, source)),
+            _ => Err(looked),
+        }
+    }
+
+    /// Looks where it waits. A seat that is due needs no look.
+    fn look(self, hall: &Hall<K, T>) -> Parked<K, T>
+        requires { self.hall ≡ hall.now.id }
+        ensures { Looked K.rules T.meaning self result }
+    {
+        match self.place {
+            Place::Ticket(ticket) => self.look_for_ticket(hall, ticket),
+            Place::Inner => self.look_for_call(hall),
+            _ => self,
+        }
+    }
+
+    /// Looks whether its ticket was granted.
+    fn look_for_ticket(self, hall: &Hall<K, T>, ticket: u32) -> Parked<K, T>
+        requires hall { self.hall ≡ hall.now.id }
+        requires waits { self.me.place ≡ at.Ticket ticket }
+        ensures { Looked K.rules T.meaning self result }
+    {
+        let Parked {
+            mut seat,
+            number,
+            left,
+            calls,
+            place: _,
+        } = self;
+        let found = steps::look_for_ticket(&hall.table.shared, &mut seat, hall.seats, ticket);
+        Parked {
+            seat,
+            number,
+            left,
+            calls,
+            place: looked(ticket, found),
+        }
+    }
+
+    /// Looks whether it was called.
+    fn look_for_call(self, hall: &Hall<K, T>) -> Parked<K, T>
+        requires hall { self.hall ≡ hall.now.id }
+        requires parked { self.me.place ≡ at.Inner }
+        ensures { Looked K.rules T.meaning self result }
+    {
+        let Parked {
+            mut seat,
+            number,
+            left,
+            calls,
+            place: _,
+        } = self;
+        let found = steps::look_for_call(&hall.table.shared, &mut seat, number);
+        Parked {
+            seat,
+            number,
+            left,
+            calls: counted(calls, found),
+            place: answered(is_called(calls, found)),
+        }
+    }
+
+    /// The floor comes to the seat, which is due, and its enter or resume is recorded.
+    fn come_in(self, hall: &Hall<K, T>, source: Source) -> Active<K, T>
+        requires hall { self.hall ≡ hall.now.id }
+        requires due { self.me.place ≡ at.Due source }
+        ensures entered { Entered K.rules T.meaning self result }
+        ensures counts { (result.me.looks ≡ self.me.looks) × (result.me.steps ≡ suc self.me.steps) }
+    {
+        let Parked {
+            mut seat,
+            number,
+            left: _,
+            calls,
+            place: _,
+        } = self;
+        let mut floor = steps::floor_out(&hall.table.shared, &mut seat);
+        record_entry(&mut floor, number, source);
+        Active {
+            seat,
+            number,
+            calls,
+            floor,
+        }
+    }
+
+    /// Abandons the seat. Its place in a queue stays, and once its turn has come the monitor stays with it for good.
+    pub fn give_up(self) {
+        let Parked {
+            seat: _,
+            number: _,
+            left: _,
+            calls: _,
+            place: _,
+        } = self;
+    }
+}

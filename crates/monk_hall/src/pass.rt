@@ -1,0 +1,77 @@
+ghost use Rattle.std.specs.Prelude.{◌≡◌, ℕ, ◌+◌, ◌≤◌, length};
+ghost use Rattle.monk_hall.specs.Calls.{Arrived};
+
+use crate::hall::Hall;
+use crate::parked::Parked;
+use crate::places::arrived;
+use crate::record::View;
+use crate::rule::TableSeat;
+use crate::steps;
+use atomic_table::Badge;
+use monk_kinds::Kind;
+use monk_object::Guarded;
+use std::marker::{Model, PhantomData};
+
+/// The token of a seat that is outside the monitor.
+#[derive(Drop)]
+pub struct Pass<K: Kind, T: Guarded> {
+    pub(crate) badge: Badge<View>,
+    pub(crate) of: PhantomData<(K, T)>,
+    pub(crate) number: u8,
+    pub(crate) left: u32,
+    pub(crate) calls: u64,
+}
+
+impl<K: Kind, T: Guarded> Model for Pass<K, T> {
+    ghost use Rattle.std.specs.Prelude.{◌≡◌, ◌∷◌, []};
+    ghost use Rattle.monk_world.specs.declared.place.Place.TheVariants.{Idle};
+    ghost use Rattle.monk_hall.specs.Records.{the};
+    ghost use Rattle.monk_hall.specs.Tokens.{Token, IsResting, top};
+
+    ghost Value = { Token };
+
+    ghost view = { λ p. record { hall = p.badge.table_id; me = the (top p.badge.views) } };
+
+    ghost invariant = { λ p. (p.badge.views ≡ top p.badge.views ∷ []) × IsResting K.rules T.meaning p.badge.table_id (top p.badge.views, []) p.number p.left p.calls × ((the (top p.badge.views)).place ≡ Idle) };
+}
+
+impl<K: Kind, T: Guarded> Pass<K, T> {
+    /// The number of its seat.
+    pub fn seat(&self) -> u8
+        ensures { result ≡ self.now.me.seat }
+    {
+        self.number
+    }
+
+    /// How many events its seat has left of its budget.
+    pub fn left(&self) -> u32
+        ensures { result + length self.now.me.mine ≡ self.now.me.setting.budget }
+    {
+        self.left
+    }
+
+    /// Comes to the monitor: draws a ticket, in one step. The event of the enter is recorded when the seat becomes
+    /// active.
+    pub fn arrive(self, hall: &Hall<K, T>) -> Parked<K, T>
+        requires hall { self.hall ≡ hall.now.id }
+        requires left { length self.me.mine + 2 ≤ self.me.setting.budget }
+        ensures { Arrived K.rules T.meaning self result }
+    {
+        let Pass {
+            badge,
+            of: _,
+            number,
+            left,
+            calls,
+        } = self;
+        let mut seat: TableSeat<K, T> = badge.into_seat();
+        let found = steps::arrive(&hall.table.shared, &mut seat);
+        Parked {
+            seat,
+            number,
+            left,
+            calls,
+            place: arrived(found),
+        }
+    }
+}

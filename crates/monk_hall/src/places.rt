@@ -1,0 +1,75 @@
+//! Where a seat stands after a step, by what it found.
+ghost use Rattle.std.specs.Prelude.{◌≡◌, ℕ, ◌+◌, ◌==◌};
+ghost use Rattle.monk_world.specs.Steps.{arrived, looked, answered, counted};
+ghost use Rattle.monk_hall.specs.Layout.{tickets, unpassed};
+
+use monk_world::{Place, Source};
+
+/// The tickets drawn stand above the low 32 bits of the ticket word.
+const TICKET: u64 = 1 << 32;
+
+/// How many tickets the ticket word has as drawn.
+pub(crate) fn tickets(word: u64) -> u32
+    ensures { result ≡ tickets word }
+{
+    (word / TICKET) as u32
+}
+
+/// How many it has as not passed on.
+pub(crate) fn unpassed(word: u64) -> u32
+    ensures { result ≡ unpassed word }
+{
+    (word % TICKET) as u32
+}
+
+/// It drew a ticket, and found this ticket word.
+pub(crate) fn arrived(word: u64) -> Place
+    ensures { result ≡ arrived (tickets word) (unpassed word) }
+{
+    let ticket = tickets(word);
+    if unpassed(word) == 0 {
+        Place::Due(Source::Free(ticket))
+    } else {
+        Place::Ticket(ticket)
+    }
+}
+
+/// It looked for its ticket, and found this in the ticket's place.
+pub(crate) fn looked(ticket: u32, found: u64) -> Place
+    ensures { result ≡ looked ticket (found == ticket + 1) }
+{
+    if found == ticket as u64 + 1 {
+        Place::Due(Source::Granted(ticket))
+    } else {
+        Place::Ticket(ticket)
+    }
+}
+
+/// Whether it was called once more.
+pub(crate) fn is_called(calls: u64, found: u64) -> bool
+    ensures { result ≡ (found == calls + 1) }
+{
+    found != 0 && found - 1 == calls
+}
+
+/// It looked for a call.
+pub(crate) fn answered(called: bool) -> Place
+    ensures { result ≡ answered called }
+{
+    if called {
+        Place::Due(Source::Called)
+    } else {
+        Place::Inner
+    }
+}
+
+/// How often it was called now, where it found this in its place.
+pub(crate) fn counted(calls: u64, found: u64) -> u64
+    ensures { result ≡ counted calls (found == calls + 1) }
+{
+    if is_called(calls, found) {
+        found
+    } else {
+        calls
+    }
+}

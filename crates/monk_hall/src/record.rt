@@ -1,0 +1,23 @@
+//! What a seat of the table knows.
+use crate::setting::Setting;
+use monk_history::Event;
+use monk_world::Place;
+use std::collections::LinkedList;
+
+/// One seat: its number, the hall's setting, where it stands, how often it was called, whether it knows of somebody at
+/// the entry, the longest history it has seen, its own events, and how many looks and steps it has taken. For
+/// contracts: no value of it is made.
+pub struct Record {
+    pub seat: u8,
+    pub setting: Setting,
+    pub place: Place,
+    pub count: u64,
+    pub known: bool,
+    pub seen: LinkedList<Event>,
+    pub mine: LinkedList<Event>,
+    pub looks: u64,
+    pub steps: u64,
+}
+
+/// What a thread's seat of the table knows: the record of one seat, of all before they are dealt, or of two that meet.
+pub type View = LinkedList<Record>;

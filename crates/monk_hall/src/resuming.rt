@@ -1,0 +1,58 @@
+//! How a thread waits until its seat is active.
+ghost use Rattle.std.specs.Prelude.{◌≡◌, ℕ, ◌<◌};
+ghost use Rattle.monk_hall.specs.Calls.{Entered};
+
+use crate::active::Active;
+use crate::hall::Hall;
+use crate::parked::Parked;
+use crate::steps::{seat_word, ticket_word};
+use monk_kinds::Kind;
+use monk_object::Guarded;
+use monk_world::Place;
+use std::hint::spin_loop;
+use std::sync::Wait;
+
+/// How often a seat polls before its thread sleeps.
+const MOST_SPINS: u32 = 64;
+
+impl<K: Kind, T: Guarded> Parked<K, T> {
+    /// Becomes active, and waits as long as that takes: the only call that waits. It polls, spins briefly, and then
+    /// sleeps on the word where its grant will come. What it found there before the poll is what it sleeps on, so a
+    /// grant that came after the poll keeps it awake.
+    ///
+    /// Nothing says that a grant ever comes.
+    pub fn resume<R: Wait>(self, rt: &R, hall: &Hall<K, T>) -> Active<K, T>
+        requires { self.hall ≡ hall.now.id }
+        ensures { Entered K.rules T.meaning self result }
+    {
+        let words = &hall.table.shared;
+        let word = self.granting_word(hall);
+        let mut parked = self;
+        let mut spins = 0;
+        for _ in rt.forever() {
+            let seen = words.peek(word);
+            match parked.poll(hall) {
+                Ok(active) => return active,
+                Err(back) => parked = back,
+            }
+            if spins < MOST_SPINS {
+                spins += 1;
+                spin_loop();
+            } else {
+                words.park(rt, word, (seen % (1 << 32)) as u32);
+            }
+        }
+        unreachable!()
+    }
+
+    /// The word where the seat will find its grant. A seat that is due needs none.
+    fn granting_word(&self, hall: &Hall<K, T>) -> usize
+        requires { self.now.hall ≡ hall.now.id }
+        ensures { result < hall.now.id.words }
+    {
+        match self.place {
+            Place::Ticket(ticket) => ticket_word(hall.seats, ticket),
+            _ => seat_word(self.number),
+        }
+    }
+}
