@@ -26,7 +26,7 @@ use Rattle.monk_history.specs.declared.event.Turn.TheVariants.{Open}
 use Rattle.monk_history.proofs.MeaningLaws.TestLaws.{and_left, and_right}
 use Rattle.monk_history.proofs.MeaningLaws.LegalLaws.{legal-push, legal_none}
 use Rattle.monk_history.proofs.MeaningLaws.StepLaws.{same_situation, legal_situation-push, situation-none}
-use Rattle.monk_history.proofs.MeaningLaws.CountLaws.{length-events_of-push, granted_of-push, enters_of-push, granted_few, enters_few, granted_none, enters_none, few_events, room_left}
+use Rattle.monk_history.proofs.MeaningLaws.CountLaws.{length-events_of-push, granted_of-push, enters_of-push, granted_few, enters_few, granted_none, enters_none, few_events, room_left, history_few}
 use Rattle.monk_history.proofs.MeaningLaws.ReleaseLaws.{IsInOrder, legal_order, HasRoom, room_for, caller_apart, seat_in_range}
 use Rattle.monk_history.proofs.MeaningLaws.MoveLaws.{queued_once, caller_unqueued}
 use Rattle.monk_history.specs.Meaning.Standing.{in_queues}
@@ -123,6 +123,10 @@ module _ {m : Monitor} {budget : ℕ} {h : List Event} {capacity : ℕ} {q : Que
         places = places_kept kept k e a;
         orderly = orderly_kept kept k e a;
       }
+
+  -- the history is no longer than the budgets of all seats
+  pub within_budgets : IsKept m budget h capacity q state turn inside spent granted entered → length h ≤ m.seats * budget
+  within_budgets kept = history_few m.seats budget h (λ j n. sym (kept.counts j) ∙ past_none spent j (omega (arith, n, kept.spent_seats))) kept.within
 
   -- and there is room in the history
   pub has_room : IsKept m budget h capacity q state turn inside spent granted entered → (e : Event) → IsAllowed m h e → length (events_of h (seat_of e)) < budget → length h < capacity

@@ -1,4 +1,4 @@
-ghost use Rattle.std.specs.Prelude.{◌≡◌, ℕ, ◌<◌, ◌≤◌, ◌^◌, Bool, Option, Some, None, true, false, not, ◌&&◌, IfOk, IfErr, nat_lt, slice_index_or, List, [], ◌∷◌, ◌++◌, length};
+ghost use Rattle.std.specs.Prelude.{◌≡◌, ℕ, ◌*◌, ◌<◌, ◌≤◌, ◌^◌, Bool, Option, Some, None, true, false, not, ◌&&◌, IfOk, IfErr, nat_lt, slice_index_or, List, [], ◌∷◌, ◌++◌, length};
 ghost use Rattle.monk_history.specs.Meaning.Conditions.{condition};
 ghost use Rattle.monk_history.specs.Meaning.Counts.{left_of, granted_of, enters_of};
 ghost use Rattle.monk_history.specs.Meaning.Events as events;
@@ -248,11 +248,13 @@ impl<K: Kind, T: Guarded> Floor<K, T> {
         is_parked(&self.ledger.inside, self.ledger.turn, seat)
     }
 
-    /// Gives the object and the history out. The object's state is the data of that history.
+    /// Gives the object and the history out. The object's state is the data of that history, which is legal and has
+    /// at most a budget of events for each seat.
     pub fn close(self) -> (T, Vec<Event>)
         ensures object { T.state result.0 ≡ data_of (monitor_of K.rules T.meaning self) self.history }
         ensures history { result.1.items ≡ self.history }
         ensures legal { IsLegal (monitor_of K.rules T.meaning self) self.history }
+        ensures few { length self.history ≤ self.seats * self.budget }
     {
         (self.object, self.history)
     }

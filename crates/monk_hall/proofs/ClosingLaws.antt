@@ -1,5 +1,5 @@
 -- Where no seat is in a queue, every queue is empty, and a leave lets the entry in
-use Rattle.std.proofs.Common.{◌≡◌, ◌≢◌, ℕ, zero, suc, ◌+◌, ◌==◌, ◌<◌, ◌≤◌, ◌⊎◌, cond, Bool, true, false, not, nat_lt, ◌&&◌, List, [], ◌∷◌, ◌++◌, map, length, sym, refl, ap, ◌∙◌, subst, inl, inr, arith, eq-eqb}
+use Rattle.std.proofs.Common.{◌≡◌, ◌≢◌, ℕ, zero, suc, ◌+◌, ◌*◌, ◌==◌, ◌<◌, ◌≤◌, ◌⊎◌, cond, Bool, true, false, not, nat_lt, ◌&&◌, List, [], ◌∷◌, ◌++◌, map, length, sym, refl, ap, ◌∙◌, subst, inl, inr, arith, eq-eqb}
 use Rattle.std.proofs.lemmas.List.{nil_from_length}
 use Rattle.monk_kinds.specs.declared.mode.Pick.TheVariants.{Entry as WishEntry}
 use Rattle.monk_kinds.specs.declared.mode.Rules.{Rules}
@@ -94,11 +94,14 @@ leaves_last k o f s none =
     entry_by k (t.waiters ++ serves t.condition call) (t.signallers ++ signals t.condition call) (ready_of o t.state t.untils) s
     (ap (λ (x : List ℕ). x ++ serves t.condition call) none.waiters) (ap (λ (x : List ℕ). x ++ signals t.condition call) none.signallers) (ap (ready_of o t.state) none.untils)
 
+few_of : (h g : List Event) (m b n c : ℕ) → h ≡ g → m ≡ n → b ≡ c → length g ≤ m * b → length h ≤ n * c
+few_of h g m b n c same seats budget within = subst (λ (x : List Event). length x ≤ n * c) (sym same) (subst (λ (x : ℕ). length g ≤ n * x) budget (subst (λ (x : ℕ). length g ≤ x * b) seats within))
+
 -- the active seat has left, where no seat was in a queue
 pub ended : (k : Rules) (o : Object) (a : Holder) (f : FloorView) (number : ℕ) (choice : Next) (g : FloorView) (history : List Event) (state : List ℕ) → a.floor ≡ f → a.me.seat ≡ number → IsLegal (monitor_of k o f) f.history
     → IsUnqueued k o a.floor a.floor.seats → IsGrown k o f (Leave number choice) g → choice ≡ choice_of k o (stands_of k o f) (Leave number next.Stay) false WishEntry
-    → history ≡ g.history → IsLegal (monitor_of k o g) g.history → state ≡ data_of (monitor_of k o g) g.history → IsEnded k o a history state
-ended k o a f number choice g history state floor seat legal unqueued grows chosen is_history all_legal is_state =
+    → history ≡ g.history → IsLegal (monitor_of k o g) g.history → state ≡ data_of (monitor_of k o g) g.history → length g.history ≤ g.seats * g.budget → IsEnded k o a history state
+ended k o a f number choice g history state floor seat legal unqueued grows chosen is_history all_legal is_state within =
     let none : HasNobody f = nobody k o f legal (subst (λ (x : FloorView). IsUnqueued k o x x.seats) floor unqueued) in
     let entry : choice ≡ next.Entry = chosen ∙ leaves_last k o f number none in
     let past : g.history ≡ a.floor.history ++ Leave a.me.seat next.Entry ∷ [] =
@@ -109,6 +112,10 @@ ended k o a f number choice g history state floor seat legal unqueued grows chos
       leaves = is_history ∙ past;
       legal = subst (λ (m : Monitor). IsLegal m history) same (subst (IsLegal (monitor_of k o g)) (sym is_history) all_legal);
       contents = is_state ∙ (λ i. data_of (same i) (sym is_history i));
+      few =
+          let seats = ap (λ (x : FloorView). x.seats) grows.grown ∙ ap (λ (x : FloorView). x.seats) (sym floor) in
+          let budget = ap (λ (x : FloorView). x.budget) grows.grown ∙ ap (λ (x : FloorView). x.budget) (sym floor) in
+          few_of history g.history g.seats g.budget a.floor.seats a.floor.budget is_history seats budget within;
     }
 
 -- what holds of all seats of the hall holds of all seats of the floor, which a look at the ticket word leaves
@@ -122,4 +129,5 @@ ended_peeked k o a b history state floor seat e = record {
   leaves = e.leaves ∙ (λ i. (floor i).history ++ Leave (seat i) next.Entry ∷ []);
   legal = subst (λ (f : FloorView). IsLegal (monitor_of k o f) history) floor e.legal;
   contents = e.contents ∙ ap (λ (f : FloorView). data_of (monitor_of k o f) history) floor;
+  few = subst (λ (f : FloorView). length history ≤ f.seats * f.budget) floor e.few;
 }

@@ -253,10 +253,10 @@ some_seat seats conds budget made = not_below (first_test (nat_lt seats 1) (nat_
     not_below : nat_lt seats 1 ≡ false → 0 < seats
     not_below e = grind (arith, e)
 
-pub tokens_are_of : (z : TableId) (v : View) → AreOf z (tokens z v)
-tokens_are_of z [] = tt
-tokens_are_of z (r ∷ rs) = (refl, tokens_are_of z rs)
+pub tokens_are_of : (z : TableId) (c : Setting) (n i : ℕ) → AreOf z c (tokens z (fresh_from c n i))
+tokens_are_of z c zero i = tt
+tokens_are_of z c (suc n) i = (refl, refl, tokens_are_of z c n (suc i))
 
-pub last_is_of : (z : TableId) (ps : List Token) (p : Token) → AreOf z (ps ++ p ∷ []) → (p.hall ≡ z) × AreOf z ps
-last_is_of z [] p h = (h.0, tt)
-last_is_of z (q ∷ ps) p h = let rest = last_is_of z ps p h.1 in (rest.0, (h.0, rest.1))
+pub last_is_of : (z : TableId) (c : Setting) (ps : List Token) (p : Token) → AreOf z c (ps ++ p ∷ []) → ((p.hall ≡ z) × (p.me.setting ≡ c)) × AreOf z c ps
+last_is_of z c [] p h = ((h.0, h.1), tt)
+last_is_of z c (q ∷ ps) p h = let rest = last_is_of z c ps p h.2 in (rest.0, (h.0, h.1, rest.1))

@@ -19,3 +19,4 @@ pub mod ReleaseLaws
 pub mod KindLaws
 pub mod ClosingLaws
 pub mod ResumeLaws
+pub mod Crossing

@@ -1,5 +1,5 @@
 -- How a hall ends
-use Rattle.std.specs.Prelude.{◌≡◌, ℕ, ◌+◌, ◌≤◌, ◌<◌, ◌⊎◌, Bool, true, false, List, [], ◌∷◌, ◌++◌}
+use Rattle.std.specs.Prelude.{◌≡◌, ℕ, ◌+◌, ◌*◌, length, ◌≤◌, ◌<◌, ◌⊎◌, Bool, true, false, List, [], ◌∷◌, ◌++◌}
 use Rattle.monk_kinds.specs.declared.mode.Rules.{Rules}
 use Rattle.monk_object.specs.Object.{Object}
 use Rattle.monk_history.specs.Meaning.Conditions.{condition}
@@ -31,13 +31,14 @@ pub record HasSomebody (k : Rules) (o : Object) (f : FloorView) : Type 0 where
 abbrev pub IsUnqueued : Rules → Object → FloorView → ℕ → Type 0
 IsUnqueued k o f seats = (j : ℕ) → j < seats → is_queued f.conds j (stands_of k o f) ≡ false
 
--- the hall has ended: nobody was in a queue, and the active seat has left. The history is legal, and the object has its
--- data
+-- the hall has ended: nobody was in a queue, and the active seat has left. The history is legal and within the budgets
+-- of all seats, and the object has its data
 pub record IsEnded (k : Rules) (o : Object) (a : Holder) (history : List Event) (state : List ℕ) : Type 0 where
   pub nobody : HasNobody a.floor
   pub leaves : history ≡ a.floor.history ++ Leave a.me.seat Entry ∷ []
   pub legal : IsLegal (monitor_of k o a.floor) history
   pub contents : state ≡ data_of (monitor_of k o a.floor) history
+  pub few : length history ≤ a.floor.seats * a.floor.budget
 
 -- the hall goes on: somebody is in a queue, or a look at the ticket word found somebody at the entry. Nothing else has
 -- changed

@@ -86,7 +86,7 @@ IsWaiting (Back x to) = ⊥
 IsWaiting (Passing t to) = ⊥
 IsWaiting Inner = Unit {0}
 
--- all these are tokens of that hall
-abbrev pub AreOf : TableId → List Token → Type 0
-AreOf z [] = Unit {0}
-AreOf z (p ∷ ps) = (p.hall ≡ z) × AreOf z ps
+-- all these are tokens of a hall with this table and this setting
+abbrev pub AreOf : TableId → Setting → List Token → Type 0
+AreOf z c [] = Unit {0}
+AreOf z c (p ∷ ps) = (p.hall ≡ z) × (p.me.setting ≡ c) × AreOf z c ps

@@ -18,6 +18,7 @@ mod meeting;
 mod parked;
 mod pass;
 mod places;
+mod plain;
 mod plays;
 mod record;
 mod releases;

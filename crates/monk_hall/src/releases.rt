@@ -40,7 +40,7 @@ impl<K: Kind, T: Guarded> Active<K, T> {
 
     /// Looks at the ticket word where the wish is for entry and there is something to choose. Tells whether somebody is
     /// known to wait for entry.
-    fn look_for_entry(&mut self, hall: &Hall<K, T>, chooses: bool, pick: Pick) -> bool
+    pub(crate) fn look_for_entry(&mut self, hall: &Hall<K, T>, chooses: bool, pick: Pick) -> bool
         requires { self.old.hall ≡ hall.now.id }
         ensures peeked { HasPeeked (peeks_of chooses pick) self.old self.new }
         ensures known { chooses ≡ true → result ≡ knows pick self.new.me.known }
@@ -117,7 +117,7 @@ impl<K: Conditional, T: Guarded> Active<K, T> {
 }
 
 impl<K: Explicit, T: Guarded> Active<K, T> {
-    ghost use Rattle.std.specs.Prelude.{◌≡◌, ◌+◌, ◌<◌, ◌≤◌, true, false, not, length};
+    ghost use Rattle.std.specs.Prelude.{◌≡◌, ◌+◌, ◌<◌, ◌≤◌, true, false, length};
     ghost use Rattle.monk_history.specs.Meaning.Choice.{must_stay};
     ghost use Rattle.monk_floor.specs.View.{stands_of};
     ghost use Rattle.monk_world.specs.declared.home.Home.TheVariants as home;
@@ -138,14 +138,6 @@ impl<K: Explicit, T: Guarded> Active<K, T> {
         let mut active = self;
         let known = active.look_for_entry(hall, serves, pick);
         active.signal_knowing(hall, cond, pick, known)
-    }
-
-    /// Whether a signal on it serves somebody.
-    fn serves(&self, cond: u8) -> bool
-        requires { cond < self.now.me.setting.conds }
-        ensures { result ≡ not (must_stay T.meaning (stands_of K.rules T.meaning self.now.floor) (Event.Signal self.now.me.seat cond Next.Stay)) }
-    {
-        self.waiting(cond) > 0
     }
 
     fn signal_knowing(self, hall: &Hall<K, T>, cond: u8, pick: Pick, known: bool) -> After<K, T>

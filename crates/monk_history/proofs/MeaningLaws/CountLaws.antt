@@ -113,6 +113,13 @@ room_left seats budget i h l none within less =
     let rest = total_rest seats budget i (λ s. times s (map seat_of h)) l (λ s. omega (arith, within s, length-events_of h s)) in
     omega (arith, long, rest, length_map h, length-events_of h i)
 
+-- where each seat has at most its budget, the history is no longer than the budgets of all
+pub history_few : (seats budget : ℕ) (h : List Event) → ((s : ℕ) → seats ≤ s → length (events_of h s) ≡ 0) → ((s : ℕ) → length (events_of h s) ≤ budget) → length h ≤ seats * budget
+history_few seats budget h none within =
+    let long = length_total seats (map seat_of h) (λ s k. sym (length-events_of h s) ∙ none s k) in
+    let most = total_le seats budget (λ s. times s (map seat_of h)) (λ s. omega (arith, within s, length-events_of h s)) in
+    omega (arith, long, most, length_map h)
+
 pub enters_few : (h : List Event) → enters_of h ≤ length h
 unfolding enters_of
 enters_few h = count_by-le-length is_enter h

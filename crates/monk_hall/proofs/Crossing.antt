@@ -1,0 +1,69 @@
+-- Threads may share a hall, and a pass may go to another thread, where the object may
+use denote.RattleType.{RattleType}
+use denote.Param.Send.{IsSend, IsSync, AllSend, AllSync, sendable, part_keyless, struct_send, struct_sync, recorded_send, recorded_sync, view_send, view_sync}
+use denote.Struct.Declared.{shape}
+use denote.Struct.Owning as owning
+use denote.Struct.Struct.{Struct}
+use Rattle.std.proofs.Crossing.{crosses, frees, sync as heap_sync, send as heap_send}
+use Rattle.std.specs.contracts.alloc.Global as Heap
+use Rattle.std.specs.contracts.impls.GlobalAllocator.TheImpl.{ghosts}
+use Rattle.std.specs.contracts.option.Option as Option
+use Rattle.atomic_table.proofs.Sent.{shares_keyless, badge_keyless}
+use Rattle.atomic_table.proofs.Rights.{right_send}
+use Rattle.atomic_table.specs.contracts.badge.Badge as Badge
+use Rattle.atomic_table.specs.contracts.owned.Table as Table
+use Rattle.atomic_table.specs.contracts.send_lease.SendLease as SendLease
+use Rattle.atomic_table.specs.contracts.shared.Shared as Shared
+use Rattle.atomic_table.specs.declared.shared.TableRule as TableRule
+use Rattle.monk_kinds.specs.declared.kind.Kind as Kind
+use Rattle.monk_object.specs.declared.guarded.Guarded as Guarded
+use Rattle.monk_floor.proofs.Crossing.{floor_send}
+use Rattle.std.specs.contracts.collections.LinkedList as LinkedList
+use Rattle.monk_floor.specs.contracts.floor.Floor as Floor
+use Rattle.monk_hall.specs.contracts.record.Record as Record
+use Rattle.monk_hall.specs.contracts.rule.HallRule as HallRule
+use Rattle.monk_hall.specs.contracts.rule.HallRuleTableRuleOptionFloorViewSetup.TheImpl as RuleImpl
+use Rattle.monk_hall.specs.contracts.setup.Setup as Setup
+use Rattle.monk_hall.specs.contracts.hall.Hall as Hall
+use Rattle.monk_hall.specs.contracts.hall.Hall.TheInside as HallInside
+use Rattle.monk_hall.specs.contracts.pass.Pass as Pass
+use Rattle.monk_hall.specs.contracts.pass.Pass.TheInside as PassInside
+
+shared_sync : (S V K P : RattleType) (g : TableRule.Ghosts P.Denot S.Denot V.Denot K.Denot) → IsSend S → IsSync (Shared.the_row S V K P g)
+shared_sync S V K P g s =
+    let fields : IsSync (Struct (owning.shape (Shared.the_type S V K P g))) = search sendable depth 20 in
+    record { shared = λ d b o ν. (fields.shared (d.words, (d.slots, (tt, tt))) b o ν, shares_keyless S s V.coded.code d.table_id (g.holds d.key) d.words d.slots ν) }
+
+lease_sync : (S : RattleType) → IsSync (SendLease.the_row S Heap.the_row ghosts)
+lease_sync S = record { shared = λ d b o ν q. part_keyless (SendLease.the_row S Heap.the_row ghosts) (right_send S Heap.the_row ghosts frees) q d b o }
+
+badge_send : (V : RattleType) → IsSend (Badge.the_row V)
+badge_send V = record { owned = λ d vs. ((λ vss. (tt, ((λ uss. (tt, tt)), tt))), badge_keyless V.coded.code d.table_id d.id d.views); leaving = λ k f vs. tt }
+
+option_send : (R : RattleType) → IsSend R → IsSend (Option.the_row R)
+option_send R s = search sendable depth 12
+
+table_sync : (S V K P : RattleType) (g : TableRule.Ghosts P.Denot S.Denot V.Denot K.Denot) → IsSend S → IsSync (Table.the_field S V K P Heap.the_row g ghosts).row
+table_sync S V K P g s =
+    let all : AllSync (shape (Table.the_type S V K P Heap.the_row g ghosts)).fields = (shared_sync S V K P g s, (search sendable, (search sendable, (lease_sync _, (lease_sync S, (heap_sync, tt)))))) in
+    struct_sync (shape (Table.the_type S V K P Heap.the_row g ghosts)) all
+
+hall_inside : (K T : RattleType) (k : Kind.Ghosts K.Denot) (t : Guarded.Ghosts T.Denot) → IsSend K → IsSend T → IsSync (HallInside.the_row K T k t)
+hall_inside K T k t sk st =
+    let all : AllSync (shape (HallInside.the_type K T k t)).fields = (
+      table_sync (Option.the_row (Floor.the_row K T k t)) (LinkedList.the_row Record.the_row Heap.the_row ghosts) (Setup.the_row T) (HallRule.the_row K T)
+      (RuleImpl.ghosts K T k RuleImpl.no_dict t RuleImpl.no_dict RuleImpl.no_dict RuleImpl.no_dict) (option_send (Floor.the_row K T k t) (floor_send K T k t sk st)),
+      (search sendable, tt),
+    ) in
+    recorded_sync _ _ _ ((HallInside.the_type K T k t).to_one) (struct_sync (shape (HallInside.the_type K T k t)) all)
+
+pub hall_sync : (K T : RattleType) (k : Kind.Ghosts K.Denot) (t : Guarded.Ghosts T.Denot) → IsSend K → IsSend T → IsSync (Hall.the_row K T k t)
+hall_sync K T k t sk st = view_sync (HallInside.the_row K T k t) _ _ _ _ (hall_inside K T k t sk st)
+
+pass_inside : (K T : RattleType) (k : Kind.Ghosts K.Denot) (t : Guarded.Ghosts T.Denot) → IsSend K → IsSend T → IsSend (PassInside.the_row K T k t)
+pass_inside K T k t sk st =
+    let all : AllSend (shape (PassInside.the_type K T k t)).fields = (badge_send _, (search sendable, (search sendable, (search sendable, (search sendable, tt))))) in
+    recorded_send _ _ _ ((PassInside.the_type K T k t).to_one) (struct_send (shape (PassInside.the_type K T k t)) all)
+
+pub pass_send : (K T : RattleType) (k : Kind.Ghosts K.Denot) (t : Guarded.Ghosts T.Denot) → IsSend K → IsSend T → IsSend (Pass.the_row K T k t)
+pass_send K T k t sk st = view_send (PassInside.the_row K T k t) _ _ _ _ (pass_inside K T k t sk st)

@@ -1,0 +1,194 @@
+//! The releases that not every kind has, for code that is generic over every kind: whether the kind has a call is a
+//! condition of the call in place of a bound, and the floor takes the general scheduler step. Each has the contract of
+//! the call without `plain_`.
+ghost use Rattle.std.specs.Prelude.{◌≡◌, ℕ, ◌+◌, ◌<◌, ◌≤◌, true, false, not, length};
+ghost use Rattle.monk_history.specs.Meaning.Choice.{must_stay};
+ghost use Rattle.monk_history.specs.Meaning.Events.{has_conditions, has_signaller_queue, returns_at_once};
+ghost use Rattle.monk_floor.specs.View.{stands_of};
+ghost use Rattle.monk_world.specs.declared.home.Home.TheVariants as home;
+ghost use Rattle.monk_hall.specs.AfterCalls.{MatchAfter};
+ghost use Rattle.monk_hall.specs.Calls.{Released, Stayed, knows, peeks_of, peeks_for};
+
+use crate::active::Active;
+use crate::after::After;
+use crate::hall::Hall;
+use crate::handing::{go_inside, go_outside, is_stay};
+use crate::parked::Parked;
+use crate::pass::Pass;
+use monk_history::{Event, Next};
+use monk_kinds::{Kind, Pick};
+use monk_object::Guarded;
+
+impl<K: Kind, T: Guarded> Active<K, T> {
+    /// Whether a signal on it serves somebody.
+    pub(crate) fn serves(&self, cond: u8) -> bool
+        requires { cond < self.now.me.setting.conds }
+        ensures { result ≡ not (must_stay T.meaning (stands_of K.rules T.meaning self.now.floor) (Event.Signal self.now.me.seat cond Next.Stay)) }
+    {
+        self.waiting(cond) > 0
+    }
+
+    /// Waits on a condition variable until it is signalled, under a kind with conditions.
+    pub fn plain_wait(self, hall: &Hall<K, T>, cond: u8, pick: Pick) -> Parked<K, T>
+        requires mode { has_conditions K.rules.mode ≡ true }
+        requires hall { self.hall ≡ hall.now.id }
+        requires cond { cond < self.me.setting.conds }
+        requires left { length self.me.mine + 3 ≤ self.me.setting.budget }
+        ensures { Released K.rules T.meaning self (Event.Wait self.me.seat cond Next.Stay) pick home.Inner (peeks_of true pick) result }
+    {
+        let mut active = self;
+        let known = active.look_for_entry(hall, true, pick);
+        active.plain_wait_knowing(hall, cond, pick, known)
+    }
+
+    fn plain_wait_knowing(
+        self,
+        hall: &Hall<K, T>,
+        cond: u8,
+        pick: Pick,
+        known: bool,
+    ) -> Parked<K, T>
+        requires mode { has_conditions K.rules.mode ≡ true }
+        requires hall { self.hall ≡ hall.now.id }
+        requires cond { cond < self.me.setting.conds }
+        requires left { length self.me.mine + 3 ≤ self.me.setting.budget }
+        requires known { known ≡ knows pick self.me.known }
+        ensures { Released K.rules T.meaning self (Event.Wait self.me.seat cond Next.Stay) pick home.Inner 0 result }
+    {
+        let Active {
+            seat,
+            number,
+            calls,
+            mut floor,
+        } = self;
+        let choice = floor.plain_wait(number, cond, pick, known);
+        go_inside(hall, seat, number, calls, floor, choice)
+    }
+
+    /// Signals a condition variable, under a kind with a signaller queue.
+    pub fn plain_signal(self, hall: &Hall<K, T>, cond: u8, pick: Pick) -> After<K, T>
+        requires mode { has_signaller_queue K.rules.mode ≡ true }
+        requires hall { self.hall ≡ hall.now.id }
+        requires cond { cond < self.me.setting.conds }
+        requires left { length self.me.mine + 3 ≤ self.me.setting.budget }
+        ensures { MatchAfter result (λ a. Stayed K.rules T.meaning self (Event.Signal self.me.seat cond Next.Stay) pick (peeks_for K.rules T.meaning self.floor (Event.Signal self.me.seat cond Next.Stay) pick) a) (λ p. Released K.rules T.meaning self (Event.Signal self.me.seat cond Next.Stay) pick home.Inner (peeks_for K.rules T.meaning self.floor (Event.Signal self.me.seat cond Next.Stay) pick) p) }
+    {
+        let chooses = self.serves(cond);
+        let mut active = self;
+        let known = active.look_for_entry(hall, chooses, pick);
+        active.plain_signal_knowing(hall, cond, pick, known)
+    }
+
+    fn plain_signal_knowing(
+        self,
+        hall: &Hall<K, T>,
+        cond: u8,
+        pick: Pick,
+        known: bool,
+    ) -> After<K, T>
+        requires mode { has_signaller_queue K.rules.mode ≡ true }
+        requires hall { self.hall ≡ hall.now.id }
+        requires cond { cond < self.me.setting.conds }
+        requires left { length self.me.mine + 3 ≤ self.me.setting.budget }
+        requires known { must_stay T.meaning (stands_of K.rules T.meaning self.floor) (Event.Signal self.me.seat cond Next.Stay) ≡ false → known ≡ knows pick self.me.known }
+        ensures { MatchAfter result (λ a. Stayed K.rules T.meaning self (Event.Signal self.me.seat cond Next.Stay) pick 0 a) (λ p. Released K.rules T.meaning self (Event.Signal self.me.seat cond Next.Stay) pick home.Inner 0 p) }
+    {
+        let Active {
+            seat,
+            number,
+            calls,
+            mut floor,
+        } = self;
+        let choice = floor.plain_signal(number, cond, pick, known);
+        if is_stay(choice) {
+            return After::Active(Active {
+                seat,
+                number,
+                calls,
+                floor,
+            });
+        }
+        After::Parked(go_inside(hall, seat, number, calls, floor, choice))
+    }
+
+    /// Signals a condition variable and leaves, under a kind of immediate return.
+    pub fn plain_signal_leave(self, hall: &Hall<K, T>, cond: u8, pick: Pick) -> Pass<K, T>
+        requires mode { returns_at_once K.rules.mode ≡ true }
+        requires hall { self.hall ≡ hall.now.id }
+        requires cond { cond < self.me.setting.conds }
+        ensures { Released K.rules T.meaning self (Event.SignalLeave self.me.seat cond Next.Stay) pick home.Idle (peeks_of true pick) result }
+    {
+        let mut active = self;
+        let known = active.look_for_entry(hall, true, pick);
+        active.plain_signal_leave_knowing(hall, cond, pick, known)
+    }
+
+    fn plain_signal_leave_knowing(
+        self,
+        hall: &Hall<K, T>,
+        cond: u8,
+        pick: Pick,
+        known: bool,
+    ) -> Pass<K, T>
+        requires mode { returns_at_once K.rules.mode ≡ true }
+        requires hall { self.hall ≡ hall.now.id }
+        requires cond { cond < self.me.setting.conds }
+        requires known { known ≡ knows pick self.me.known }
+        ensures { Released K.rules T.meaning self (Event.SignalLeave self.me.seat cond Next.Stay) pick home.Idle 0 result }
+    {
+        let Active {
+            seat,
+            number,
+            calls,
+            mut floor,
+        } = self;
+        let choice = floor.plain_signal_leave(number, cond, pick, known);
+        go_outside(hall, seat, number, calls, floor, choice)
+    }
+
+    /// Waits until a predicate holds of the data, under an automatic kind.
+    pub fn plain_until(self, hall: &Hall<K, T>, pred: u8, pick: Pick) -> After<K, T>
+        requires mode { has_conditions K.rules.mode ≡ false }
+        requires hall { self.hall ≡ hall.now.id }
+        requires pred { pred < T.PREDICATES }
+        requires left { length self.me.mine + 3 ≤ self.me.setting.budget }
+        ensures { MatchAfter result (λ a. Stayed K.rules T.meaning self (Event.Until self.me.seat pred Next.Stay) pick (peeks_for K.rules T.meaning self.floor (Event.Until self.me.seat pred Next.Stay) pick) a) (λ p. Released K.rules T.meaning self (Event.Until self.me.seat pred Next.Stay) pick home.Inner (peeks_for K.rules T.meaning self.floor (Event.Until self.me.seat pred Next.Stay) pick) p) }
+    {
+        let chooses = !self.holds(pred);
+        let mut active = self;
+        let known = active.look_for_entry(hall, chooses, pick);
+        active.plain_until_knowing(hall, pred, pick, known)
+    }
+
+    fn plain_until_knowing(
+        self,
+        hall: &Hall<K, T>,
+        pred: u8,
+        pick: Pick,
+        known: bool,
+    ) -> After<K, T>
+        requires mode { has_conditions K.rules.mode ≡ false }
+        requires hall { self.hall ≡ hall.now.id }
+        requires pred { pred < T.PREDICATES }
+        requires left { length self.me.mine + 3 ≤ self.me.setting.budget }
+        requires known { must_stay T.meaning (stands_of K.rules T.meaning self.floor) (Event.Until self.me.seat pred Next.Stay) ≡ false → known ≡ knows pick self.me.known }
+        ensures { MatchAfter result (λ a. Stayed K.rules T.meaning self (Event.Until self.me.seat pred Next.Stay) pick 0 a) (λ p. Released K.rules T.meaning self (Event.Until self.me.seat pred Next.Stay) pick home.Inner 0 p) }
+    {
+        let Active {
+            seat,
+            number,
+            calls,
+            mut floor,
+        } = self;
+        let choice = floor.plain_until(number, pred, pick, known);
+        if is_stay(choice) {
+            return After::Active(Active {
+                seat,
+                number,
+                calls,
+                floor,
+            });
+        }
+        After::Parked(go_inside(hall, seat, number, calls, floor, choice))
+    }
+}

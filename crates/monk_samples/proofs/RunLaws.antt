@@ -1,0 +1,133 @@
+-- What a run rests on: lists of workers and threads, a hall's passes, and the header of a closed hall
+use Rattle.std.proofs.Common.{◌≡◌, ℕ, zero, suc, ◌+◌, ◌*◌, ◌^◌, ◌≤◌, ◌<◌, Bool, true, false, cond, All, Result, Ok, Err, IfOk, Option, Some, None, nat_le, ◌&&◌, List, [], ◌∷◌, ◌++◌, length, refl, sym, ap, subst, ◌∙◌, arith}
+use Rattle.std.proofs.lemmas.Bool.{false≢true}
+use Rattle.std.proofs.Math.Nat.{mul-le-mul_right}
+use Rattle.std.proofs.lemmas.List.Elements.{All-append, All-cons, All-head, All-nil, All-push, All-rest, All-same}
+use Rattle.atomic_table.specs.Seated.{TableId}
+use Rattle.monk_kinds.specs.declared.mode.Rules.{Rules}
+use Rattle.monk_kinds.specs.declared.mode.Mode.{Mode}
+use Rattle.monk_kinds.specs.declared.mode.Mode.TheVariants.{Blocking, NonBlocking, QuasiBlocking, ImmediateReturn, Automatic}
+use Rattle.monk_history.specs.Meaning.Events.{has_conditions}
+use Rattle.monk_hall.specs.Records.{fresh_from}
+use Rattle.monk_hall.specs.Tokens.{House, Token, Holder, tokens}
+use Rattle.monk_hall.specs.declared.setting.Setting.{Setting}
+use Rattle.monk_kinds.specs.Names.{rules_named}
+use Rattle.monk_kinds.specs.declared.name.KindName.{KindName}
+use Rattle.monk_object.specs.Names.{meaning_named, opening_named}
+use Rattle.monk_object.specs.Object.{Object}
+use Rattle.monk_history.proofs.MeaningLaws.ActLaws.{in_order, excludes, serves_each}
+use Rattle.monk_history.specs.Meaning.Legal.{IsLegal}
+use Rattle.monk_history.specs.Meaning.Monitor.{Monitor, monitor, data_of}
+use Rattle.monk_history.specs.Meaning.Named.{monitor_of as named_monitor}
+use Rattle.monk_history.specs.Text.{Heading, most_seats, most_conds}
+use Rattle.monk_history.specs.Text.Reading.{heading_of as read_heading}
+use Rattle.monk_history.specs.declared.event.Event.{Event}
+use Rattle.monk_floor.specs.View.{FloorView, monitor_of}
+use Rattle.monk_hall.specs.Closing.{IsEnded}
+use Rattle.monk_hall.specs.Layout.{floor_of}
+use Rattle.monk_hall.specs.Rule.{setting_of}
+use Rattle.monk_samples.specs.Crews.{IsReady, AreReady, IsClosed}
+use Rattle.monk_samples.specs.Samples.{object_of, size, conds_of, budget_of, heading_of, KeepsLaw, IsHistoryOf, IsOutcome}
+use Rattle.monk_samples.specs.Totals.{totals_of}
+use Rattle.monk_samples.specs.declared.sample.Sample.{Sample}
+use Rattle.monk_samples.specs.declared.sample.Sample.TheVariants.{Buffer, Book, Shop}
+use Rattle.monk_samples.specs.Styles.{Offers}
+
+pub one_more : {X : Type 0} (xs ys : List X) (x : X) (P : X → Type 0) → ys ≡ xs ++ x ∷ [] → All P xs → P x → All P ys
+one_more xs ys x P e h p = All-same P ys (xs ++ x ∷ []) e (All-push P xs x h p)
+
+pub first_of : {X : Type 0} (xs ys : List X) (x : X) (P : X → Type 0) → ys ≡ x ∷ xs → All P ys → P x
+first_of xs ys x P e h = All-head P x xs (subst (All P) e h)
+
+pub rest_of : {X : Type 0} (xs ys : List X) (x : X) (P : X → Type 0) → ys ≡ x ∷ xs → All P ys → All P xs
+rest_of xs ys x P e h = All-rest P x xs ys e h
+
+pub same_all : {X : Type 0} (xs ys : List X) (P : X → Type 0) → xs ≡ ys → All P ys → All P xs
+same_all xs ys P e h = All-same P xs ys e h
+
+pub none_yet : {X : Type 0} (xs : List X) (P : X → Type 0) → xs ≡ [] → All P xs
+none_yet xs P e = All-same P xs [] e (All-nil P)
+
+pub offers_all : (k : Rules) → Offers k (conds_of k) 3
+offers_all k = by_mode k.mode
+  where
+    by_mode : (m : Mode) → has_conditions m ≡ true → 3 ≤ cond (has_conditions m) 3 0
+    by_mode Blocking e = omega arith
+    by_mode NonBlocking e = omega arith
+    by_mode QuasiBlocking e = omega arith
+    by_mode ImmediateReturn e = omega arith
+    by_mode Automatic e = absurd (false≢true e)
+
+ready_from : (k : Rules) (z : TableId) (c : Setting) → Offers k c.conds 3 → (n i : ℕ) → AreReady k (record { id = z; setting = c }) (tokens z (fresh_from c n i))
+ready_from k z c o zero i = All-nil (IsReady k (record { id = z; setting = c }))
+ready_from k z c o (suc n) i = All-cons (IsReady k (record { id = z; setting = c })) _ _ ((refl, refl), o) (ready_from k z c o n (suc i))
+
+-- the passes of a hall with a run's conditions
+pub passes_ready : (k : Rules) (h : House) (ps : List Token) → h.setting.conds ≡ conds_of k → ps ≡ tokens h.id (fresh_from h.setting h.setting.seats 0) → AreReady k h ps
+passes_ready k h ps conds e =
+    All-same (IsReady k h) ps _ e (ready_from k h.id h.setting (subst (λ (n : ℕ). Offers k n 3) (sym conds) (offers_all k)) h.setting.seats 0)
+
+-- a run's history is short
+pub few_events : (seats rounds n : ℕ) → seats ≤ 16 → rounds ≤ 1000 → n ≤ seats * budget_of seats rounds → n ≤ 2 ^ 24
+few_events seats rounds n s r l =
+    let a : rounds * (40 + 32 * seats) ≤ 1000 * (40 + 32 * seats) = mul-le-mul_right (40 + 32 * seats) r in
+    let b : seats * budget_of seats rounds ≤ 16 * budget_of seats rounds = mul-le-mul_right (budget_of seats rounds) s in
+    omega (arith, a, b, l, s)
+
+-- a hall was closed by a seat whose floor is the hall's
+pub closed_by : (k : Rules) (o : Object) (b c : Setting) (a : Holder) (before h : List Event) (state : List ℕ) → b ≡ c → a.floor ≡ floor_of b before → IsEnded k o a h state → IsClosed k o c h
+closed_by k o b c a before h state s f e =
+    let floor : a.floor ≡ floor_of c before = f ∙ ap (λ (x : Setting). floor_of x before) s in record {
+      legal = subst (λ (x : FloorView). IsLegal (monitor_of k o x) h) floor e.legal;
+      few = subst (λ (x : FloorView). length h ≤ x.seats * x.budget) floor e.few;
+    }
+
+pub history_of : (k : Rules) (sample : Sample) (seats rounds : ℕ) (c : Setting) (h : List Event) → c ≡ setting_of (opening_named (object_of sample) size) seats (conds_of k) (budget_of seats rounds)
+    → IsClosed k (meaning_named (object_of sample)) c h → IsHistoryOf k sample seats rounds h
+history_of k sample seats rounds c h e closed =
+    let z = subst (λ (x : Setting). IsClosed k (meaning_named (object_of sample)) x h) e closed in record { legal = z.legal; few = z.few }
+
+pub law_of : (k : Rules) (sample : Sample) (seats : ℕ) (h : List Event) → let m = monitor k seats (conds_of k) (meaning_named (object_of sample)) (opening_named (object_of sample) size) in IsLegal m h → KeepsLaw sample (data_of m h) h
+law_of k Buffer seats h legal = in_order k seats (conds_of k) size h legal
+law_of k Book seats h legal = excludes k seats (conds_of k) size h legal
+law_of k Shop seats h legal = serves_each k seats (conds_of k) size h legal
+
+there : {X : Type 0} → X → Option X → X
+there d None = d
+there d (Some x) = x
+
+is_there : {X : Type 0} → Option X → Bool
+is_there None = false
+is_there (Some x) = true
+
+some_is : {X : Type 0} (b : Bool) (x y : X) → Some y ≡ cond b (Some x) None → y ≡ x
+unfolding is_there there
+some_is true x y e = ap (there x) e
+some_is false x y e = absurd (false≢true (sym (ap is_there e)))
+
+pub header_is : (k : KindName) (sample : Sample) (seats conds : ℕ) (h : Heading) → Some h ≡ read_heading k seats conds (object_of sample) size → conds ≡ conds_of (rules_named k) → h ≡ heading_of k sample seats
+header_is k sample seats conds h e c =
+    some_is (nat_le 1 seats && nat_le seats most_seats && nat_le conds most_conds && nat_le 1 size) (record { kind = k; seats = seats; conds = conds; object = object_of sample; size = size }) h e
+    ∙ ap (λ n. record { kind = k; seats = seats; conds = n; object = object_of sample; size = size }) c
+
+pub outcome_of : (k : Rules) (name : KindName) (sample : Sample) (seats rounds : ℕ) (h : Heading) (history : List Event) (totals : List ℕ) → seats ≤ 16 → rounds ≤ 1000 → k ≡ rules_named name → IsHistoryOf k sample seats rounds history → h ≡ heading_of name sample seats → totals ≡ totals_of sample history → IsOutcome name sample seats h history totals
+outcome_of k name sample seats rounds h history totals near short named of header same =
+    let m : Rules → Monitor = λ r. monitor r seats (conds_of r) (meaning_named (object_of sample)) (opening_named (object_of sample) size) in
+    let legal = subst (λ (r : Rules). IsLegal (m r) history) named of.legal in
+    record {
+      header = header;
+      legal = subst (λ (x : Heading). IsLegal (named_monitor x) history) (sym header) legal;
+      few = few_events seats rounds (length history) near short of.few;
+      law = subst (λ (x : Heading). KeepsLaw sample (data_of (named_monitor x) history) history) (sym header) (law_of (rules_named name) sample seats history legal);
+      totals_are = same;
+    }
+
+-- the law of a run's history, where it is lent
+pub law_here : (k : Rules) (sample : Sample) (seats rounds : ℕ) (h lent : List Event) → lent ≡ h → IsHistoryOf k sample seats rounds h → (state : List ℕ) × KeepsLaw sample state lent
+law_here k sample seats rounds h lent e of =
+    let m = monitor k seats (conds_of k) (meaning_named (object_of sample)) (opening_named (object_of sample) size) in
+    (data_of m h, subst (λ (x : List Event). KeepsLaw sample (data_of m h) x) (sym e) (law_of k sample seats h of.legal))
+
+pub if_ok : {A E : Type 0} (r : Result A E) (P Q : A → Type 0) → ((a : A) → P a → Q a) → IfOk r P → IfOk r Q
+if_ok (Ok a) P Q f h = f a h
+if_ok (Err e) P Q f h = h

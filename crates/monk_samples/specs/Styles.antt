@@ -1,0 +1,70 @@
+-- How a seat waits and signals under each mode
+use Rattle.std.specs.Prelude.{◌≡◌, ℕ, ◌+◌, ◌<◌, ◌≤◌, ◌&&◌, not, Bool, true, List, [], ◌∷◌, length, if◌then◌else◌}
+use Rattle.atomic_table.specs.Seated.{TableId}
+use Rattle.monk_kinds.specs.declared.mode.Rules.{Rules}
+use Rattle.monk_object.specs.Object.{Object}
+use Rattle.monk_history.specs.Meaning.Conditions.{condition}
+use Rattle.monk_history.specs.Meaning.Events.{has_conditions, has_signaller_queue, returns_at_once}
+use Rattle.monk_history.specs.Meaning.Signallers.{is_empty}
+use Rattle.monk_history.specs.declared.event.Event.{Event}
+use Rattle.monk_history.specs.declared.event.Event.TheVariants.{Leave, Wait, Signal, SignalLeave, Until}
+use Rattle.monk_history.specs.declared.event.Next.TheVariants.{Stay}
+use Rattle.monk_hall.specs.Tokens.{Token, Holder, IsTold}
+use Rattle.monk_hall.specs.declared.setting.Setting.{Setting}
+use Rattle.monk_samples.specs.Trails.{HasCalled, inside, outside}
+use Rattle.monk_samples.specs.declared.end.End.{End}
+use Rattle.monk_samples.specs.declared.end.End.TheVariants.{Done, Tired, Late}
+
+-- a hall has so many conditions, where its kind has any
+abbrev pub Offers : Rules → ℕ → ℕ → Type 0
+Offers k conds most = has_conditions k.mode ≡ true → most ≤ conds
+
+-- the active seat of this hall may name the condition to go out with; and the predicate too, to pause
+abbrev pub MayFinish : Rules → TableId → Holder → ℕ → Type 0
+MayFinish k hall a c = (a.hall ≡ hall) × Offers k a.me.setting.conds (c + 1)
+
+abbrev pub MayPause : Rules → TableId → Holder → ℕ → ℕ → ℕ → Type 0
+MayPause k hall a c predicates p = MayFinish k hall a c × (p < predicates)
+
+-- whether somebody waits on a condition: nobody, under a kind that has none
+abbrev pub has_waiting : Rules → ℕ → List Event → Bool
+has_waiting k c h = has_conditions k.mode && not (is_empty (condition c h))
+
+-- the call by which a seat pauses
+abbrev pub pause_call : Rules → ℕ → ℕ → ℕ → Event
+pause_call k s c p = if has_conditions k.mode then Wait s c Stay else Until s p Stay
+
+-- the calls by which it goes out and lets a seat of the condition go on
+abbrev pub way_out : Rules → ℕ → ℕ → List Event
+way_out k s c =
+    if has_signaller_queue k.mode then Signal s c Stay ∷ Leave s Stay ∷ []
+    else if returns_at_once k.mode then SignalLeave s c Stay ∷ []
+    else Leave s Stay ∷ []
+
+-- at most one event is left to the seat of a token
+abbrev pub IsSpent : Token → Type 0
+IsSpent p = p.me.setting.budget ≤ length p.me.mine + 1
+
+-- the seat had three events left, has paused by this call, and is active again
+pub record HasPaused (a : Holder) (call : Event) (b : Holder) : Type 0 where
+  pub room : length a.me.mine + 3 ≤ a.me.setting.budget
+  pub called : HasCalled (inside a) (inside b) (call ∷ [])
+
+-- the seat had fewer than three events left, and has left
+pub record HasGivenUp (k : Rules) (o : Object) (a : Holder) (p : Token) : Type 0 where
+  pub short : a.me.setting.budget < length a.me.mine + 3
+  pub called : HasCalled (inside a) (outside p) (Leave a.me.seat Stay ∷ [])
+  pub spent : IsSpent p
+  pub told : IsTold k o p.me
+
+-- the seat is out by these calls
+pub record HasGoneBy (k : Rules) (o : Object) (a : Holder) (calls : List Event) (p : Token) : Type 0 where
+  pub called : HasCalled (inside a) (outside p) calls
+  pub told : IsTold k o p.me
+
+-- the seat is out by these calls, or tired without them: only a kind with a signaller queue wants more than the event
+-- that is always kept for the way out
+abbrev pub HasFinished : Rules → Object → Holder → List Event → Token → End → Type 0
+HasFinished k o a calls p Done = HasGoneBy k o a calls p
+HasFinished k o a calls p Tired = (has_signaller_queue k.mode ≡ true) × HasGivenUp k o a p
+HasFinished k o a calls p Late = ⊥

@@ -1,0 +1,27 @@
+-- The totals of a run, as its history has them
+use Rattle.std.specs.Prelude.{ℕ, List, [], ◌∷◌, sum}
+use Rattle.monk_object.specs.Book.{START_READ, END_READ, START_WRITE, END_WRITE}
+use Rattle.monk_object.specs.Buffer.{PUT, TAKE}
+use Rattle.monk_object.specs.Laws.{items_put, items_taken}
+use Rattle.monk_object.specs.Runs.{times_done}
+use Rattle.monk_object.specs.Shop.{SIT, CALL, FINISH, DEPART}
+use Rattle.monk_history.specs.Meaning.Acts.{acts_in}
+use Rattle.monk_history.specs.declared.event.Event.{Event}
+use Rattle.monk_samples.specs.declared.sample.Sample.{Sample}
+use Rattle.monk_samples.specs.declared.sample.Sample.TheVariants.{Buffer, Book, Shop}
+
+-- how often that operation was done
+abbrev pub done : ℕ → List Event → ℕ
+done code h = times_done code (acts_in h)
+
+-- the items put, and those taken, added up
+abbrev pub sum_put : List Event → ℕ
+sum_put h = sum (items_put (acts_in h))
+
+abbrev pub sum_taken : List Event → ℕ
+sum_taken h = sum (items_taken (acts_in h))
+
+abbrev pub totals_of : Sample → List Event → List ℕ
+totals_of Buffer h = done PUT h ∷ sum_put h ∷ done TAKE h ∷ sum_taken h ∷ []
+totals_of Book h = done START_READ h ∷ done END_READ h ∷ done START_WRITE h ∷ done END_WRITE h ∷ []
+totals_of Shop h = done SIT h ∷ done CALL h ∷ done FINISH h ∷ done DEPART h ∷ []

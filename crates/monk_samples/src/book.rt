@@ -1,0 +1,111 @@
+//! Readers and writers: several read at once, one writes alone. A reader begins and ends with two visits of its own, as a
+//! writer does, and reads or writes outside the monitor between them.
+ghost use Rattle.std.specs.Prelude.{◌≡◌, ℕ, [], ◌∷◌};
+ghost use Rattle.monk_object.specs.Book.{book_meaning, START_READ, END_READ, START_WRITE, END_WRITE};
+ghost use Rattle.monk_samples.specs.Styles.{Offers};
+ghost use Rattle.monk_samples.specs.Visits.{HasVisited, must, may};
+
+use crate::end::End;
+use crate::style::Style;
+use crate::visit::{act_now, act_when};
+use monk_hall::{Hall, Pass};
+use monk_kinds::Pick;
+use monk_object::{Book, Op};
+use std::sync::Wait;
+
+/// The condition that a read may start.
+const CAN_READ: u8 = 0;
+
+/// The condition that a write may start.
+const CAN_WRITE: u8 = 1;
+
+/// Begins to read, once nobody writes, and lets the next reader go on.
+pub fn read_begin<K: Style, R: Wait>(
+    pass: Pass<K, Book>,
+    rt: &R,
+    hall: &Hall<K, Book>,
+) -> (Pass<K, Book>, End)
+    requires hall { pass.hall ≡ hall.now.id }
+    requires conds { Offers K.rules pass.me.setting.conds 2 }
+    ensures { HasVisited K.rules book_meaning pass (must START_READ 0 ∷ []) result.0 result.1 }
+{
+    let start = Op {
+        code: Book::START_READ,
+        arg: 0,
+    };
+    match act_when(pass, rt, hall, CAN_READ, Book::CAN_READ, start) {
+        Ok((active, _)) => K::finish(active, rt, hall, CAN_READ),
+        Err(pass) => (pass, End::Tired),
+    }
+}
+
+/// Ends its read. The last reader lets a writer go on if one waits, others let a reader go on.
+pub fn read_end<K: Style, R: Wait>(
+    pass: Pass<K, Book>,
+    rt: &R,
+    hall: &Hall<K, Book>,
+) -> (Pass<K, Book>, End)
+    requires hall { pass.hall ≡ hall.now.id }
+    requires conds { Offers K.rules pass.me.setting.conds 2 }
+    ensures { HasVisited K.rules book_meaning pass (may END_READ ∷ []) result.0 result.1 }
+{
+    let end = Op {
+        code: Book::END_READ,
+        arg: 0,
+    };
+    match act_now(pass, rt, hall, end) {
+        Ok((active, _)) => {
+            let writes = active.holds(Book::CAN_WRITE) && K::waits(&active, CAN_WRITE);
+            let next = if writes { CAN_WRITE } else { CAN_READ };
+            K::finish(active, rt, hall, next)
+        }
+        Err(pass) => (pass, End::Tired),
+    }
+}
+
+/// Begins to write, once nobody reads or writes. It lets nobody go on.
+pub fn write_begin<K: Style, R: Wait>(
+    pass: Pass<K, Book>,
+    rt: &R,
+    hall: &Hall<K, Book>,
+) -> (Pass<K, Book>, End)
+    requires hall { pass.hall ≡ hall.now.id }
+    requires conds { Offers K.rules pass.me.setting.conds 2 }
+    ensures { HasVisited K.rules book_meaning pass (must START_WRITE 0 ∷ []) result.0 result.1 }
+{
+    let start = Op {
+        code: Book::START_WRITE,
+        arg: 0,
+    };
+    match act_when(pass, rt, hall, CAN_WRITE, Book::CAN_WRITE, start) {
+        Ok((active, _)) => (active.leave(hall, Pick::Waiter), End::Done),
+        Err(pass) => (pass, End::Tired),
+    }
+}
+
+/// Ends its write. It lets a reader go on if one waits, else a writer.
+pub fn write_end<K: Style, R: Wait>(
+    pass: Pass<K, Book>,
+    rt: &R,
+    hall: &Hall<K, Book>,
+) -> (Pass<K, Book>, End)
+    requires hall { pass.hall ≡ hall.now.id }
+    requires conds { Offers K.rules pass.me.setting.conds 2 }
+    ensures { HasVisited K.rules book_meaning pass (may END_WRITE ∷ []) result.0 result.1 }
+{
+    let end = Op {
+        code: Book::END_WRITE,
+        arg: 0,
+    };
+    match act_now(pass, rt, hall, end) {
+        Ok((active, _)) => {
+            let next = if K::waits(&active, CAN_READ) {
+                CAN_READ
+            } else {
+                CAN_WRITE
+            };
+            K::finish(active, rt, hall, next)
+        }
+        Err(pass) => (pass, End::Tired),
+    }
+}

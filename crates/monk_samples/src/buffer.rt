@@ -1,0 +1,71 @@
+//! A bounded buffer: one task puts items, another takes them.
+ghost use Rattle.std.specs.Prelude.{◌≡◌, ℕ, ◌<◌, [], ◌∷◌};
+ghost use Rattle.monk_object.specs.Buffer.{buffer_meaning, PUT, TAKE};
+ghost use Rattle.monk_samples.specs.Styles.{Offers};
+ghost use Rattle.monk_samples.specs.Visits.{HasVisited, must, item_of, item_told};
+
+use crate::end::End;
+use crate::style::Style;
+use crate::visit::act_when;
+use monk_hall::{Hall, Pass};
+use monk_object::{Buffer, Op};
+use std::sync::Wait;
+
+/// The condition that there is room for an item.
+const NOT_FULL: u8 = 0;
+
+/// The condition that an item is there.
+const NOT_EMPTY: u8 = 1;
+
+/// Puts an item into the buffer, once there is room, and lets a taker go on.
+pub fn put<K: Style, R: Wait>(
+    pass: Pass<K, Buffer>,
+    rt: &R,
+    hall: &Hall<K, Buffer>,
+    item: u32,
+) -> (Pass<K, Buffer>, End)
+    requires hall { pass.hall ≡ hall.now.id }
+    requires conds { Offers K.rules pass.me.setting.conds 2 }
+    ensures { HasVisited K.rules buffer_meaning pass (must PUT item ∷ []) result.0 result.1 }
+{
+    let put = Op {
+        code: Buffer::PUT,
+        arg: item,
+    };
+    match act_when(pass, rt, hall, NOT_FULL, Buffer::HAS_ROOM, put) {
+        Ok((active, _)) => K::finish(active, rt, hall, NOT_EMPTY),
+        Err(pass) => (pass, End::Tired),
+    }
+}
+
+/// Takes the oldest item out of the buffer, once one is there, and lets a putter go on. Gives the item also where it was
+/// tired after that.
+pub fn take<K: Style, R: Wait>(
+    pass: Pass<K, Buffer>,
+    rt: &R,
+    hall: &Hall<K, Buffer>,
+) -> (Pass<K, Buffer>, Option<u32>, End)
+    requires hall { pass.hall ≡ hall.now.id }
+    requires conds { Offers K.rules pass.me.setting.conds 2 }
+    ensures { (visit : HasVisited K.rules buffer_meaning pass (must TAKE 0 ∷ []) result.0 result.2) × (result.1 ≡ item_told visit.acts) }
+{
+    let take = Op {
+        code: Buffer::TAKE,
+        arg: 0,
+    };
+    match act_when(pass, rt, hall, NOT_EMPTY, Buffer::HAS_ITEM, take) {
+        Ok((active, reply)) => {
+            let (pass, end) = K::finish(active, rt, hall, NOT_FULL);
+            (pass, item_of(reply), end)
+        }
+        Err(pass) => (pass, None, End::Tired),
+    }
+}
+
+/// The item that a reply to a take above 0 tells. Each item of a buffer is a `u32`, so there is one.
+fn item_of(reply: u64) -> Option<u32>
+    requires { 0 < reply }
+    ensures { result ≡ item_of reply }
+{
+    u32::try_from(reply - 1).ok()
+}

@@ -1,0 +1,38 @@
+//! Sample monitors, each written once for all ten kinds: a bounded buffer, a book of readers and writers, a barber's
+//! shop.
+//!
+//! A member is a function that a task calls with its pass: it comes in, pauses while its predicate is false, does its
+//! operation, and goes out in a way that lets the next one go on. How a seat pauses and goes out is the kind's `Style`,
+//! so that a member is the same text for a monitor of Hoare, of Mesa, or without signals.
+#![tactic(auto)]
+
+mod book;
+mod buffer;
+mod crew;
+mod end;
+mod gate;
+mod outcome;
+mod rota;
+mod run_fault;
+mod running;
+mod sample;
+mod shop;
+mod style;
+mod styles;
+mod totals;
+mod visit;
+mod worker;
+
+pub use book::{read_begin, read_end, write_begin, write_end};
+pub use buffer::{put, take};
+pub use end::End;
+pub use gate::{Gate, OpenGate};
+pub use outcome::Outcome;
+pub use run_fault::RunFault;
+pub use running::run;
+pub use sample::Sample;
+pub use shop::{barber_turn, sit_and_cut};
+pub use style::Style;
+
+#[cfg(test)]
+mod tests;

@@ -1,0 +1,189 @@
+//! A run: a hall over the object of a sample, with a thread for each seat that works, closed when all have ended.
+ghost use Rattle.std.specs.Prelude.{◌≡◌, ◌≤◌, ◌⊎◌, ◌<◌, ◌^◌, length, IfOk, OnOk, IsErrOf};
+ghost use Rattle.monk_object.specs.declared.name.ObjectName.TheVariants as object;
+ghost use Rattle.monk_object.specs.Names.{opening_named};
+ghost use Rattle.monk_hall.specs.Rule.{setting_of};
+ghost use Rattle.monk_samples.specs.Crews.{AreReady, IsOf, IsClosed};
+ghost use Rattle.monk_samples.specs.Samples.{IsHistoryOf, IsInRange, IsOutcome, budget_of, conds_of, size};
+ghost use Rattle.monk_samples.specs.declared.sample.Sample.TheVariants as sample;
+
+use crate::crew::{work_book, work_buffer, work_shop};
+use crate::gate::Gate;
+use crate::outcome::Outcome;
+use crate::rota::Rota;
+use crate::run_fault::RunFault;
+use crate::sample::Sample;
+use crate::style::Style;
+use crate::totals::totals_of;
+use monk_hall::{Busy, Hall, Pass, close};
+use monk_history::{Event, Header};
+use monk_kinds::{Kind, Mode, Pick, rules_of};
+use monk_object::{Book, Buffer, Guarded, Shop};
+use std::alloc::Global;
+use std::sync::Wait;
+use std::thread::Threads;
+
+/// The size of each sample's object.
+const SIZE: u8 = 4;
+
+/// Runs a sample under the kind K with 2 to 16 seats, each at work for 1 to 1000 rounds in a thread of its own, and reads
+/// the totals from its history.
+///
+/// Of a buffer and a book one half of the seats does the one thing and as many do the other; an odd last seat stays
+/// idle. In a shop the first seat is the barber, who has a turn for each visit of the other seats. No worker waits for
+/// another to end before it starts. When all have ended, the first seat comes in once more and closes the hall.
+///
+/// # Errors
+///
+/// `Range`, and nothing is started; `Memory` where a growth was refused; `Thread` where a thread was not started; the end
+/// of the lowest seat that did not end well, `Tired` or `Late`; `Tired` where the first seat has too little left to
+/// come in once more; `Busy` where the hall can't be closed. A worker that ends early, or was not started, may leave
+/// others waiting for good: then this does not return.
+///
+/// # Cost
+///
+/// Memory for the budgets of all seats, `64 + rounds * (40 + 32 * seats)` events each, at once; two to four passes over
+/// the history for the totals.
+pub fn run<K: Style, R: Threads + Wait + Sync, G: Gate>(
+    rt: &R,
+    alloc: Global,
+    sample: Sample,
+    seats: u8,
+    rounds: u32,
+    gate: &G,
+) -> Result<Outcome, RunFault>
+    ensures outcome { IfOk result (λ o. IsOutcome K.NAME sample seats o.header o.history.items o.totals) }
+    ensures range { ((seats < 2) ⊎ (16 < seats) ⊎ (rounds < 1) ⊎ (1000 < rounds)) → IsErrOf result RunFault.Range }
+    ensures in_range { OnOk result (IsInRange seats rounds) }
+{
+    if !(2..=16).contains(&seats) || !(1..=1000).contains(&rounds) {
+        return Err(RunFault::Range);
+    }
+    let rota = Rota {
+        sample,
+        seats,
+        rounds,
+    };
+    match sample {
+        Sample::Buffer => outcome::<K>(rota, run_buffer::<K, R, G>(rt, alloc, rota, gate)?),
+        Sample::Book => outcome::<K>(rota, run_book::<K, R, G>(rt, alloc, rota, gate)?),
+        Sample::Shop => outcome::<K>(rota, run_shop::<K, R, G>(rt, alloc, rota, gate)?),
+    }
+}
+
+/// The history of a run over a buffer.
+fn run_buffer<K: Style, R: Threads + Wait + Sync, G: Gate>(
+    rt: &R,
+    alloc: Global,
+    rota: Rota,
+    gate: &G,
+) -> Result<Vec<Event>, RunFault>
+    ensures { IfOk result (λ v. IsHistoryOf K.rules sample.Buffer rota.seats rota.rounds v.items) }
+{
+    let Ok(buffer) = Buffer::make(alloc, SIZE) else {
+        return Err(RunFault::Memory);
+    };
+    let (hall, passes) = open::<K, Buffer>(alloc, buffer, rota)?;
+    let first = work_buffer(rt, alloc, &hall, passes, gate, rota)?;
+    close_by(rt, hall, first)
+}
+
+/// The history of a run over a book.
+fn run_book<K: Style, R: Threads + Wait + Sync, G: Gate>(
+    rt: &R,
+    alloc: Global,
+    rota: Rota,
+    gate: &G,
+) -> Result<Vec<Event>, RunFault>
+    ensures { IfOk result (λ v. IsHistoryOf K.rules sample.Book rota.seats rota.rounds v.items) }
+{
+    let Ok(book) = Book::make(SIZE) else {
+        return Err(RunFault::Memory);
+    };
+    let (hall, passes) = open::<K, Book>(alloc, book, rota)?;
+    let first = work_book(rt, alloc, &hall, passes, gate, rota)?;
+    close_by(rt, hall, first)
+}
+
+/// The history of a run over a shop.
+fn run_shop<K: Style, R: Threads + Wait + Sync, G: Gate>(
+    rt: &R,
+    alloc: Global,
+    rota: Rota,
+    gate: &G,
+) -> Result<Vec<Event>, RunFault>
+    ensures { IfOk result (λ v. IsHistoryOf K.rules sample.Shop rota.seats rota.rounds v.items) }
+{
+    let Ok(shop) = Shop::make(SIZE) else {
+        return Err(RunFault::Memory);
+    };
+    let (hall, passes) = open::<K, Shop>(alloc, shop, rota)?;
+    let first = work_shop(rt, alloc, &hall, passes, gate, rota)?;
+    close_by(rt, hall, first)
+}
+
+/// A hall for the run, with all its passes.
+fn open<K: Kind, T: Guarded>(
+    alloc: Global,
+    object: T,
+    rota: Rota,
+) -> Result<(Hall<K, T>, Vec<Pass<K, T>>), RunFault>
+    ensures setting { IfOk result (λ r. r.0.setting ≡ setting_of (T.state object) rota.seats (conds_of K.rules) (budget_of rota.seats rota.rounds)) }
+    ensures passes { IfOk result (λ r. AreReady K.rules r.0 r.1.items) }
+{
+    let budget = 64 + rota.rounds * (40 + 32 * u32::from(rota.seats));
+    // The numbers are in range, so only memory can be wanting.
+    match Hall::make(alloc, object, rota.seats, conds_of::<K>(), budget) {
+        Ok(made) => Ok(made),
+        Err(_) => Err(RunFault::Memory),
+    }
+}
+
+/// How many conditions a run has under the kind.
+fn conds_of<K: Kind>() -> u8
+    ensures { result ≡ conds_of K.rules }
+{
+    match rules_of::<K>().mode {
+        Mode::Automatic => 0,
+        _ => 3,
+    }
+}
+
+/// The seat comes in once more and closes the hall, and its history is given out.
+fn close_by<K: Kind, T: Guarded, R: Wait>(
+    rt: &R,
+    hall: Hall<K, T>,
+    pass: Pass<K, T>,
+) -> Result<Vec<Event>, RunFault>
+    requires { IsOf hall pass }
+    ensures { IfOk result (λ v. IsClosed K.rules T.meaning hall.setting v.items) }
+{
+    if pass.left() < 2 {
+        return Err(RunFault::Tired);
+    }
+    let active = pass.arrive(&hall).resume(rt, &hall);
+    match close(hall, active) {
+        Ok(closed) => Ok(closed.history),
+        Err(Busy { hall, active }) => {
+            active.leave(&hall, Pick::Waiter);
+            Err(RunFault::Busy)
+        }
+    }
+}
+
+/// What the run leaves, of which this is the history.
+fn outcome<K: Kind>(rota: Rota, history: Vec<Event>) -> Result<Outcome, RunFault>
+    requires { IsHistoryOf K.rules rota.sample rota.seats rota.rounds history.items }
+    ensures { IfOk result (λ o. IsOutcome K.NAME rota.sample rota.seats o.header o.history.items o.totals) }
+{
+    let object = rota.sample.object();
+    let Some(header) = Header::new(K::NAME, rota.seats, conds_of::<K>(), object, SIZE) else {
+        return Err(RunFault::Range);
+    };
+    let totals = totals_of(rota.sample, &history);
+    Ok(Outcome {
+        totals,
+        header,
+        history,
+    })
+}

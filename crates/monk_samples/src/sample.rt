@@ -1,0 +1,28 @@
+ghost use Rattle.std.specs.Prelude.{◌≡◌};
+ghost use Rattle.monk_samples.specs.Samples.{object_of};
+
+use monk_object::ObjectName;
+
+/// A sample: which object its monitor guards, and what its seats do.
+#[derive(Clone, Copy, Debug, PartialEq, Eq)]
+pub enum Sample {
+    /// Half of the seats put items into a bounded buffer, and as many take them.
+    Buffer,
+    /// Half of the seats read a book, and as many write in it.
+    Book,
+    /// The first seat is the barber of a shop, and every other a customer.
+    Shop,
+}
+
+impl Sample {
+    /// The object that the sample's monitor guards.
+    pub fn object(self) -> ObjectName
+        ensures { result ≡ object_of self }
+    {
+        match self {
+            Sample::Buffer => ObjectName::Buffer,
+            Sample::Book => ObjectName::Book,
+            Sample::Shop => ObjectName::Shop,
+        }
+    }
+}

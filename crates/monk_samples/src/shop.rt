@@ -1,0 +1,134 @@
+//! A barber's shop: a customer comes in, sits, has its hair cut and departs; the barber calls one after the other. Each
+//! goes to the shop's monitor twice.
+ghost use Rattle.std.specs.Prelude.{◌≡◌, ℕ, [], ◌∷◌};
+ghost use Rattle.monk_object.specs.Shop.{shop_meaning, SIT, CALL, FINISH, DEPART};
+ghost use Rattle.monk_samples.specs.Styles.{Offers};
+ghost use Rattle.monk_samples.specs.Visits.{HasVisited, must, may};
+
+use crate::end::End;
+use crate::style::Style;
+use crate::visit::{act_now, act_when};
+use monk_hall::{Hall, Pass};
+use monk_object::{Op, Shop};
+use std::sync::Wait;
+
+/// The condition that a seat is free.
+const SEAT_FREE: u8 = 0;
+
+/// The condition that a customer may be called.
+const CUSTOMER_SITS: u8 = 1;
+
+/// The condition that a cut is done.
+const CUT_DONE: u8 = 2;
+
+/// Has its hair cut: sits down once a seat is free, and departs once its hair is cut. Customers are not told apart, so
+/// whoever comes first takes the cut that is done.
+pub fn sit_and_cut<K: Style, R: Wait>(
+    pass: Pass<K, Shop>,
+    rt: &R,
+    hall: &Hall<K, Shop>,
+) -> (Pass<K, Shop>, End)
+    requires hall { pass.hall ≡ hall.now.id }
+    requires conds { Offers K.rules pass.me.setting.conds 3 }
+    ensures { HasVisited K.rules shop_meaning pass (must SIT 0 ∷ must DEPART 0 ∷ []) result.0 result.1 }
+{
+    let (pass, end) = sit(pass, rt, hall);
+    match end {
+        End::Done => depart(pass, rt, hall),
+        _ => (pass, end),
+    }
+}
+
+/// The customer's first visit.
+fn sit<K: Style, R: Wait>(pass: Pass<K, Shop>, rt: &R, hall: &Hall<K, Shop>) -> (Pass<K, Shop>, End)
+    requires hall { pass.hall ≡ hall.now.id }
+    requires conds { Offers K.rules pass.me.setting.conds 3 }
+    ensures { HasVisited K.rules shop_meaning pass (must SIT 0 ∷ []) result.0 result.1 }
+{
+    let sit = Op {
+        code: Shop::SIT,
+        arg: 0,
+    };
+    match act_when(pass, rt, hall, SEAT_FREE, Shop::HAS_SEAT, sit) {
+        Ok((active, _)) => K::finish(active, rt, hall, CUSTOMER_SITS),
+        Err(pass) => (pass, End::Tired),
+    }
+}
+
+/// The customer's second visit.
+fn depart<K: Style, R: Wait>(
+    pass: Pass<K, Shop>,
+    rt: &R,
+    hall: &Hall<K, Shop>,
+) -> (Pass<K, Shop>, End)
+    requires hall { pass.hall ≡ hall.now.id }
+    requires conds { Offers K.rules pass.me.setting.conds 3 }
+    ensures { HasVisited K.rules shop_meaning pass (must DEPART 0 ∷ []) result.0 result.1 }
+{
+    let depart = Op {
+        code: Shop::DEPART,
+        arg: 0,
+    };
+    match act_when(pass, rt, hall, CUT_DONE, Shop::IS_DONE, depart) {
+        Ok((active, _)) => K::finish(active, rt, hall, CUSTOMER_SITS),
+        Err(pass) => (pass, End::Tired),
+    }
+}
+
+/// A turn of the barber: calls the next customer once one sits and the chair is empty, and finishes the cut. Nothing
+/// says that the cut is his to finish, so that call may be answered 0.
+pub fn barber_turn<K: Style, R: Wait>(
+    pass: Pass<K, Shop>,
+    rt: &R,
+    hall: &Hall<K, Shop>,
+) -> (Pass<K, Shop>, End)
+    requires hall { pass.hall ≡ hall.now.id }
+    requires conds { Offers K.rules pass.me.setting.conds 3 }
+    ensures { HasVisited K.rules shop_meaning pass (must CALL 0 ∷ may FINISH ∷ []) result.0 result.1 }
+{
+    let (pass, end) = call(pass, rt, hall);
+    match end {
+        End::Done => finish_cut(pass, rt, hall),
+        _ => (pass, end),
+    }
+}
+
+/// The barber's first visit.
+fn call<K: Style, R: Wait>(
+    pass: Pass<K, Shop>,
+    rt: &R,
+    hall: &Hall<K, Shop>,
+) -> (Pass<K, Shop>, End)
+    requires hall { pass.hall ≡ hall.now.id }
+    requires conds { Offers K.rules pass.me.setting.conds 3 }
+    ensures { HasVisited K.rules shop_meaning pass (must CALL 0 ∷ []) result.0 result.1 }
+{
+    let call = Op {
+        code: Shop::CALL,
+        arg: 0,
+    };
+    match act_when(pass, rt, hall, CUSTOMER_SITS, Shop::CAN_CALL, call) {
+        Ok((active, _)) => K::finish(active, rt, hall, SEAT_FREE),
+        Err(pass) => (pass, End::Tired),
+    }
+}
+
+/// The barber's second visit.
+fn finish_cut<K: Style, R: Wait>(
+    pass: Pass<K, Shop>,
+    rt: &R,
+    hall: &Hall<K, Shop>,
+) -> (Pass<K, Shop>, End)
+    requires hall { pass.hall ≡ hall.now.id }
+    requires conds { Offers K.rules pass.me.setting.conds 3 }
+    ensures { HasVisited K.rules shop_meaning pass (may FINISH ∷ []) result.0 result.1 }
+{
+    let finish = Op {
+        code: Shop::FINISH,
+        arg: 0,
+    };
+    match act_now(pass, rt, hall, finish) {
+        Ok((active, _)) => K::finish(active, rt, hall, CUT_DONE),
+        Err(pass) => (pass, End::Tired),
+    }
+}

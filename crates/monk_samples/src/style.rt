@@ -1,0 +1,93 @@
+ghost use Rattle.std.specs.Prelude.{◌≡◌, ℕ, ◌+◌, MatchResult};
+ghost use Rattle.monk_samples.specs.Styles.{MayFinish, MayPause, Offers, HasPaused, HasGivenUp, HasFinished, has_waiting, pause_call, way_out};
+
+use crate::end::End;
+use crate::styles::{automatic, conditional, explicit};
+use monk_hall::{Active, Hall, Pass};
+use monk_kinds::{Kind, Mode, Npb, Npir, Npis, Npnb, Npqb, Pb, Pick, Pir, Pis, Pnb, Pqb, rules_of};
+use monk_object::Guarded;
+use std::sync::Wait;
+
+/// How a seat waits for others and lets them go on, under a kind of monitor. A member that is generic over `K: Style`
+/// serves all ten kinds.
+///
+/// A member names a condition variable and the predicate that goes with it; a kind uses the one that it has. Every wish
+/// is for a waiter, so that whoever was signalled goes on where the priorities leave it open.
+pub trait Style: Kind {
+    /// Pauses: waits on the condition until it is signalled, or under an automatic kind until the predicate holds. The
+    /// predicate need not hold afterwards where others may come in between, so a caller looks again.
+    ///
+    /// With fewer than three events left it leaves in place of that, and gives the pass.
+    final fn pause<T: Guarded, R: Wait>(
+        active: Active<Self, T>,
+        rt: &R,
+        hall: &Hall<Self, T>,
+        cond: u8,
+        pred: u8,
+    ) -> Result<Active<Self, T>, Pass<Self, T>>
+        requires { MayPause Self.rules hall.now.id active cond T.PREDICATES pred }
+        ensures { MatchResult result (λ a. HasPaused active (pause_call Self.rules active.me.seat cond pred) a) (λ p. HasGivenUp Self.rules T.meaning active p) }
+    {
+        match rules_of::<Self>().mode {
+            Mode::Automatic => automatic::pause(active, rt, hall, pred),
+            _ => conditional::pause(active, rt, hall, cond),
+        }
+    }
+
+    /// Goes out, and signals the condition on the way: a signal and a leave, or one that does both. Under an automatic
+    /// kind it leaves, which lets a task go on whose predicate holds.
+    ///
+    /// `Tired` where a kind with a signaller queue finds fewer than three events left: then it has left without a
+    /// signal. Never `Late`.
+    final fn finish<T: Guarded, R: Wait>(
+        active: Active<Self, T>,
+        rt: &R,
+        hall: &Hall<Self, T>,
+        cond: u8,
+    ) -> (Pass<Self, T>, End)
+        requires { MayFinish Self.rules hall.now.id active cond }
+        ensures { HasFinished Self.rules T.meaning active (way_out Self.rules active.me.seat cond) result.0 result.1 }
+    {
+        match rules_of::<Self>().mode {
+            Mode::Automatic => (active.leave(hall, Pick::Waiter), End::Done),
+            Mode::ImmediateReturn => {
+                (
+                    active.plain_signal_leave(hall, cond, Pick::Waiter),
+                    End::Done,
+                )
+            }
+            _ => explicit::finish(active, rt, hall, cond),
+        }
+    }
+
+    /// Whether somebody waits on the condition. Under an automatic kind nobody does.
+    final fn waits<T: Guarded>(active: &Active<Self, T>, cond: u8) -> bool
+        requires { Offers Self.rules active.now.me.setting.conds (cond + 1) }
+        ensures { result ≡ has_waiting Self.rules cond active.now.floor.history }
+    {
+        match rules_of::<Self>().mode {
+            Mode::Automatic => false,
+            _ => conditional::waits(active, cond),
+        }
+    }
+}
+
+impl Style for Pb {}
+
+impl Style for Npb {}
+
+impl Style for Pnb {}
+
+impl Style for Npnb {}
+
+impl Style for Pqb {}
+
+impl Style for Npqb {}
+
+impl Style for Pir {}
+
+impl Style for Npir {}
+
+impl Style for Pis {}
+
+impl Style for Npis {}

@@ -1,0 +1,6 @@
+//! How each mode pauses and goes out, where that is more than one call.
+
+pub(crate) mod automatic;
+pub(crate) mod conditional;
+pub(crate) mod explicit;
+mod going_on;

@@ -1,0 +1,29 @@
+//! The kinds whose tasks wait until a predicate holds.
+ghost use Rattle.std.specs.Prelude.{◌≡◌, ℕ, ◌<◌, false, MatchResult};
+ghost use Rattle.monk_history.specs.Meaning.Events.{has_conditions};
+ghost use Rattle.monk_samples.specs.Styles.{HasPaused, HasGivenUp};
+
+use crate::styles::going_on::go_on;
+use monk_hall::{Active, Hall, Pass};
+use monk_history::{Event, Next};
+use monk_kinds::{Kind, Pick};
+use monk_object::Guarded;
+use std::sync::Wait;
+
+/// Waits until the predicate holds, and resumes if that parked it; or leaves with fewer than three events left.
+pub(crate) fn pause<K: Kind, T: Guarded, R: Wait>(
+    active: Active<K, T>,
+    rt: &R,
+    hall: &Hall<K, T>,
+    pred: u8,
+) -> Result<Active<K, T>, Pass<K, T>>
+    requires mode { has_conditions K.rules.mode ≡ false }
+    requires hall { active.hall ≡ hall.now.id }
+    requires pred { pred < T.PREDICATES }
+    ensures { MatchResult result (λ a. HasPaused active (Event.Until active.me.seat pred Next.Stay) a) (λ p. HasGivenUp K.rules T.meaning active p) }
+{
+    if active.left() < 3 {
+        return Err(active.leave(hall, Pick::Waiter));
+    }
+    Ok(go_on(active.plain_until(hall, pred, Pick::Waiter), rt, hall))
+}

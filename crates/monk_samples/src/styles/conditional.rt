@@ -1,0 +1,38 @@
+//! The kinds with condition variables.
+ghost use Rattle.std.specs.Prelude.{◌≡◌, ℕ, ◌<◌, true, not, MatchResult};
+ghost use Rattle.monk_history.specs.Meaning.Conditions.{condition};
+ghost use Rattle.monk_history.specs.Meaning.Events.{has_conditions};
+ghost use Rattle.monk_history.specs.Meaning.Signallers.{is_empty};
+ghost use Rattle.monk_samples.specs.Styles.{HasPaused, HasGivenUp};
+
+use monk_hall::{Active, Hall, Pass};
+use monk_history::{Event, Next};
+use monk_kinds::{Kind, Pick};
+use monk_object::Guarded;
+use std::sync::Wait;
+
+/// Waits on the condition, and resumes; or leaves with fewer than three events left.
+pub(crate) fn pause<K: Kind, T: Guarded, R: Wait>(
+    active: Active<K, T>,
+    rt: &R,
+    hall: &Hall<K, T>,
+    cond: u8,
+) -> Result<Active<K, T>, Pass<K, T>>
+    requires mode { has_conditions K.rules.mode ≡ true }
+    requires hall { active.hall ≡ hall.now.id }
+    requires cond { cond < active.me.setting.conds }
+    ensures { MatchResult result (λ a. HasPaused active (Event.Wait active.me.seat cond Next.Stay) a) (λ p. HasGivenUp K.rules T.meaning active p) }
+{
+    if active.left() < 3 {
+        return Err(active.leave(hall, Pick::Waiter));
+    }
+    Ok(active.plain_wait(hall, cond, Pick::Waiter).resume(rt, hall))
+}
+
+/// Whether the condition's queue has somebody.
+pub(crate) fn waits<K: Kind, T: Guarded>(active: &Active<K, T>, cond: u8) -> bool
+    requires { cond < active.now.me.setting.conds }
+    ensures { result ≡ not (is_empty (condition cond active.now.floor.history)) }
+{
+    active.waiting(cond) > 0
+}

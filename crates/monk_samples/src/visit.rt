@@ -1,0 +1,128 @@
+//! What members share: coming in, pausing while a predicate is false, and an operation. Each step gives the pass back
+//! where the seat has too few events left for it; then it is outside the monitor.
+ghost use Rattle.std.specs.Prelude.{◌≡◌, ℕ, ◌+◌, ◌<◌, true, [], ◌∷◌, MatchResult};
+ghost use Rattle.monk_history.specs.Meaning.Monitor.{data_of};
+ghost use Rattle.monk_floor.specs.View.{monitor_of};
+ghost use Rattle.monk_samples.specs.Styles.{Offers};
+ghost use Rattle.monk_samples.specs.Trails.{HasActed, inside, outside};
+ghost use Rattle.monk_samples.specs.Visits.{HasTired, HasLeftTired, Promises};
+
+use crate::style::Style;
+use monk_hall::{Active, Hall, Pass};
+use monk_kinds::{Kind, Pick};
+use monk_object::{Guarded, Op};
+use std::sync::Wait;
+
+/// Comes in.
+pub(crate) fn come_in<K: Kind, T: Guarded, R: Wait>(
+    pass: Pass<K, T>,
+    rt: &R,
+    hall: &Hall<K, T>,
+) -> Result<Active<K, T>, Pass<K, T>>
+    requires { pass.hall ≡ hall.now.id }
+    ensures { MatchResult result (λ a. HasActed (outside pass) (inside a) []) (λ q. HasTired K.rules T.meaning pass q) }
+{
+    if pass.left() < 2 {
+        return Err(pass);
+    }
+    Ok(pass.arrive(hall).resume(rt, hall))
+}
+
+/// Pauses while the predicate is false.
+pub(crate) fn pause_until<K: Style, T: Guarded, R: Wait>(
+    active: Active<K, T>,
+    rt: &R,
+    hall: &Hall<K, T>,
+    cond: u8,
+    pred: u8,
+) -> Result<Active<K, T>, Pass<K, T>>
+    requires hall { active.hall ≡ hall.now.id }
+    requires cond { Offers K.rules active.me.setting.conds (cond + 1) }
+    requires pred { pred < T.PREDICATES }
+    ensures { MatchResult result (λ a. HasActed (inside active) (inside a) [] × (T.meaning.holds (data_of (monitor_of K.rules T.meaning a.floor) a.floor.history) pred ≡ true)) (λ q. HasLeftTired K.rules T.meaning active q) }
+{
+    let mut active = active;
+    while !active.holds(pred) {
+        match K::pause(active, rt, hall, cond, pred) {
+            Ok(back) => active = back,
+            Err(pass) => return Err(pass),
+        }
+    }
+    Ok(active)
+}
+
+/// Does an operation, and gives its reply.
+pub(crate) fn act<K: Kind, T: Guarded>(
+    active: Active<K, T>,
+    hall: &Hall<K, T>,
+    op: Op,
+) -> Result<(Active<K, T>, u64), Pass<K, T>>
+    requires hall { active.hall ≡ hall.now.id }
+    requires code { op.code < T.CODES }
+    ensures { MatchResult result (λ r. HasActed (inside active) (inside r.0) (record { op = op; reply = r.1 } ∷ []) × (r.1 ≡ T.meaning.reply (data_of (monitor_of K.rules T.meaning active.floor) active.floor.history) op)) (λ q. HasLeftTired K.rules T.meaning active q) }
+{
+    let mut active = active;
+    if active.left() < 2 {
+        return Err(active.leave(hall, Pick::Waiter));
+    }
+    let reply = active.act(op);
+    Ok((active, reply))
+}
+
+/// Comes in, and does an operation at once.
+pub(crate) fn act_now<K: Kind, T: Guarded, R: Wait>(
+    pass: Pass<K, T>,
+    rt: &R,
+    hall: &Hall<K, T>,
+    op: Op,
+) -> Result<(Active<K, T>, u64), Pass<K, T>>
+    requires hall { pass.hall ≡ hall.now.id }
+    requires code { op.code < T.CODES }
+    ensures { MatchResult result (λ r. HasActed (outside pass) (inside r.0) (record { op = op; reply = r.1 } ∷ [])) (λ q. HasTired K.rules T.meaning pass q) }
+{
+    match come_in(pass, rt, hall) {
+        Ok(active) => act(active, hall, op),
+        Err(pass) => Err(pass),
+    }
+}
+
+/// Comes in, and pauses while the predicate is false.
+fn come_in_when<K: Style, T: Guarded, R: Wait>(
+    pass: Pass<K, T>,
+    rt: &R,
+    hall: &Hall<K, T>,
+    cond: u8,
+    pred: u8,
+) -> Result<Active<K, T>, Pass<K, T>>
+    requires hall { pass.hall ≡ hall.now.id }
+    requires cond { Offers K.rules pass.me.setting.conds (cond + 1) }
+    requires pred { pred < T.PREDICATES }
+    ensures { MatchResult result (λ a. HasActed (outside pass) (inside a) [] × (T.meaning.holds (data_of (monitor_of K.rules T.meaning a.floor) a.floor.history) pred ≡ true)) (λ q. HasTired K.rules T.meaning pass q) }
+{
+    match come_in(pass, rt, hall) {
+        Ok(active) => pause_until(active, rt, hall, cond, pred),
+        Err(pass) => Err(pass),
+    }
+}
+
+/// Comes in, pauses while the predicate is false, and does an operation, which gets done then.
+pub(crate) fn act_when<K: Style, T: Guarded, R: Wait>(
+    pass: Pass<K, T>,
+    rt: &R,
+    hall: &Hall<K, T>,
+    cond: u8,
+    pred: u8,
+    op: Op,
+) -> Result<(Active<K, T>, u64), Pass<K, T>>
+    requires hall { pass.hall ≡ hall.now.id }
+    requires cond { Offers K.rules pass.me.setting.conds (cond + 1) }
+    requires pred { pred < T.PREDICATES }
+    requires code { op.code < T.CODES }
+    requires promise { Promises T.meaning pred op }
+    ensures { MatchResult result (λ r. HasActed (outside pass) (inside r.0) (record { op = op; reply = r.1 } ∷ []) × (0 < r.1)) (λ q. HasTired K.rules T.meaning pass q) }
+{
+    match come_in_when(pass, rt, hall, cond, pred) {
+        Ok(active) => act(active, hall, op),
+        Err(pass) => Err(pass),
+    }
+}
