@@ -52,7 +52,7 @@ hall_inside : (K T : RattleType) (k : Kind.Ghosts K.Denot) (t : Guarded.Ghosts T
 hall_inside K T k t sk st =
     let all : AllSync (shape (HallInside.the_type K T k t)).fields = (
       table_sync (Option.the_row (Floor.the_row K T k t)) (LinkedList.the_row Record.the_row Heap.the_row ghosts) (Setup.the_row T) (HallRule.the_row K T)
-      (RuleImpl.ghosts K T k RuleImpl.no_dict t RuleImpl.no_dict RuleImpl.no_dict RuleImpl.no_dict) (option_send (Floor.the_row K T k t) (floor_send K T k t sk st)),
+          (RuleImpl.ghosts K T k RuleImpl.no_dict t RuleImpl.no_dict RuleImpl.no_dict RuleImpl.no_dict) (option_send (Floor.the_row K T k t) (floor_send K T k t sk st)),
       (search sendable, tt),
     ) in
     recorded_sync _ _ _ ((HallInside.the_type K T k t).to_one) (struct_sync (shape (HallInside.the_type K T k t)) all)
