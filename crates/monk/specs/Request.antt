@@ -1,17 +1,51 @@
 -- The command line of the program, as clap sees it, and what a line asks for
-use Rattle.std.specs.Prelude.{◌≡◌, ℕ, List, Option, Some, true, option_map, codes, pos, string_bytes}
+use Rattle.std.specs.Prelude.{◌≡◌, ℕ, ◌≤◌, List, [], ◌∷◌, Option, Some, true, map, option_map, codes, pos, string_bytes}
+use Rattle.std.specs.Borrow.{Bor}
 use Rattle.clap.specs.Words.{AddsSubcommand, App, Row, Rule, Text, app_of, first_of, new_app, new_rule, with_rule, with_subcommand}
 use Rattle.clap.specs.declared.builder.command.Command.{Command}
-use Rattle.clap.specs.declared.builder.value_parser.ValueParser.TheVariants.{Signed}
+use Rattle.clap.specs.declared.builder.value_parser.ValueParser.TheVariants.{Signed, Names}
+use Rattle.clap.specs.declared.builder.value_parser.ValueParser.{ValueParser}
+use Rattle.monk_kinds.specs.Names.{kind_word, kinds}
+use Rattle.monk_object.specs.Names.{object_word}
+use Rattle.monk_samples.specs.Samples.{IsInRange, object_of}
+use Rattle.monk_samples.specs.declared.sample.Sample.{Sample}
+use Rattle.monk_samples.specs.declared.sample.Sample.TheVariants.{Buffer, Book, Shop}
 use Rattle.monk.specs.declared.request.Line.{Line}
-use Rattle.monk.specs.declared.request.Line.TheVariants.{Classify, Audit, Play}
+use Rattle.monk.specs.declared.request.Line.TheVariants.{Classify, Audit, Play, Run}
+
+-- a word that must stand there, and that the parser takes
+abbrev pub required_rule : Text → ValueParser → Rule
+required_rule name parser = record (new_rule name) { required = true; parser = Some parser }
 
 -- a priority: a whole number from 0 to 255
-abbrev pub priority_rule : Text → Rule
-priority_rule name = record (new_rule name) { required = true; parser = Some (Signed (pos 0) (pos 255)) }
+abbrev pub priority : ValueParser
+priority = Signed (pos 0) (pos 255)
 
 abbrev pub classify_app : App
-classify_app = with_rule (with_rule (with_rule (new_app (codes "classify")) (priority_rule (codes "ENTRY"))) (priority_rule (codes "WAITER"))) (priority_rule (codes "SIGNALLER"))
+classify_app = with_rule (with_rule (with_rule (new_app (codes "classify")) (required_rule (codes "ENTRY") priority)) (required_rule (codes "WAITER") priority)) (required_rule (codes "SIGNALLER") priority)
+
+-- a list of names, as clap holds it
+abbrev pub NameList : Type 0
+NameList = Bor (List (Bor Text))
+
+abbrev pub words_in : NameList → List Text
+words_in w = map (λ x. x.now) w.now
+
+-- a sample is called as its object is
+abbrev pub sample_word : Sample → Text
+sample_word s = object_word (object_of s)
+
+abbrev pub samples : List Sample
+samples = Buffer ∷ Book ∷ Shop ∷ []
+
+abbrev pub run_app : NameList → NameList → App
+run_app k s =
+    with_rule (with_rule (with_rule (with_rule (new_app (codes "run")) (required_rule (codes "KIND") (Names k))) (required_rule (codes "SAMPLE") (Names s)))
+    (required_rule (codes "SEATS") (Signed (pos 2) (pos 16)))) (required_rule (codes "ROUNDS") (Signed (pos 1) (pos 1000)))
+
+-- the lists have exactly the names of the kinds and of the samples
+abbrev pub AreNames : NameList → NameList → Type 0
+AreNames k s = (words_in k ≡ map kind_word kinds) × (words_in s ≡ map sample_word samples)
 
 -- a command of that name that takes a file
 abbrev pub file_app : Text → App
@@ -24,29 +58,64 @@ IsSubcommand c a = (old new : Command) → AddsSubcommand old c new → app_of n
 abbrev pub bare_app : App
 bare_app = record (new_app (codes "monk")) { top = record (new_app (codes "monk")).top { subcommand_required = true } }
 
-abbrev pub monk_app : App
-monk_app = with_subcommand (with_subcommand (with_subcommand bare_app classify_app.top) (file_app (codes "audit")).top) (file_app (codes "play")).top
+abbrev pub monk_app : NameList → NameList → App
+monk_app k s =
+    with_subcommand (with_subcommand (with_subcommand (with_subcommand bare_app classify_app.top) (file_app (codes "audit")).top) (file_app (codes "play")).top) (run_app k s).top
+
+-- the command line of the program
+pub record IsMonk (a : App) : Type 0 where
+  pub kinds : NameList
+  pub samples : NameList
+  pub names : AreNames kinds samples
+  pub is : a ≡ monk_app kinds samples
+
+pub record IsRunCommand (c : Command) : Type 0 where
+  pub kinds : NameList
+  pub samples : NameList
+  pub names : AreNames kinds samples
+  pub is : IsSubcommand c (run_app kinds samples)
 
 -- the command that a line is for
 abbrev pub command_word : Line → Text
 command_word (Classify e w s) = codes "classify"
 command_word (Audit file) = codes "audit"
 command_word (Play file) = codes "play"
+command_word (Run kind sample seats rounds) = codes "run"
+
+-- the value that clap has found for a name, in the rows of a command
+abbrev pub found_in : Text → Option (Text × List Row) → Option (Option Text)
+found_in name found = option_map (λ p. first_of name p.1) found
 
 abbrev pub IsClassify : Line → Type 0
 IsClassify (Classify e w s) = Unit {0}
 IsClassify (Audit file) = ⊥
 IsClassify (Play file) = ⊥
+IsClassify (Run kind sample seats rounds) = ⊥
 
-abbrev pub first_file : Text × List Row → Option Text
-first_file p = first_of (codes "FILE") p.1
+abbrev pub IsRun : Line → List Row → Type 0
+IsRun (Classify e w s) rows = ⊥
+IsRun (Audit file) rows = ⊥
+IsRun (Play file) rows = ⊥
+IsRun (Run kind sample seats rounds) rows =
+    (first_of (codes "KIND") rows ≡ Some (kind_word kind)) × (first_of (codes "SAMPLE") rows ≡ Some (sample_word sample)) × IsInRange seats rounds
 
-abbrev pub FileIs : Line → Option (Text × List Row) → Type 0
-FileIs (Classify e w s) found = Unit {0}
-FileIs (Audit file) found = option_map first_file found ≡ Some (option_map string_bytes file)
-FileIs (Play file) found = option_map first_file found ≡ Some (option_map string_bytes file)
+-- the values are those that clap has found
+abbrev pub ValuesAre : Line → Option (Text × List Row) → Type 0
+ValuesAre (Classify e w s) found = Unit {0}
+ValuesAre (Audit file) found = found_in (codes "FILE") found ≡ Some (option_map string_bytes file)
+ValuesAre (Play file) found = found_in (codes "FILE") found ≡ Some (option_map string_bytes file)
+ValuesAre (Run kind sample seats rounds) found =
+    (found_in (codes "KIND") found ≡ Some (Some (kind_word kind))) × (found_in (codes "SAMPLE") found ≡ Some (Some (sample_word sample)))
 
--- the line is for the command that clap finds in the words, and its file is the one that clap finds there
+-- a run is asked for within its ranges alone
+abbrev pub RunIsInRange : Line → Type 0
+RunIsInRange (Classify e w s) = Unit {0}
+RunIsInRange (Audit file) = Unit {0}
+RunIsInRange (Play file) = Unit {0}
+RunIsInRange (Run kind sample seats rounds) = IsInRange seats rounds
+
+-- the line is for the command that clap has found in the words, with the values that it has found there
 pub record IsAsked (l : Line) (found : Option (Text × List Row)) : Type 0 where
   pub command : option_map (λ p. p.0) found ≡ Some (command_word l)
-  pub file : FileIs l found
+  pub values : ValuesAre l found
+  pub in_range : RunIsInRange l

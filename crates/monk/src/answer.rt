@@ -90,7 +90,7 @@ fn reason_word(reason: u8) -> &'static str
     }
 }
 
-fn verdict_answer(alloc: Global, verdict: Verdict) -> Result<Answer, StreamFault>
+pub(crate) fn verdict_answer(alloc: Global, verdict: Verdict) -> Result<Answer, StreamFault>
     ensures answer { IfOk result (λ a. let j = verdict_answer verdict in (a.status ≡ j.status) × (string_bytes a.text ≡ j.text)) }
     ensures no_file { IsErrOf result StreamFault.File → ⊥ }
 {

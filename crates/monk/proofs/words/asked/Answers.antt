@@ -1,7 +1,7 @@
 use Rattle.std.proofs.Common.{rules, ◌≡◌, ◌∙◌, ap, sym, Some, List, Option, ℕ, codes}
 use Rattle.clap.specs.Words.{found_of, rows_of, subcommand_rows_of}
 use Rattle.clap.proofs.WalkLemmas.{first_value-rows}
-use Rattle.monk.proofs.Requests.{file_in}
+use Rattle.monk.proofs.Requests.{value_in}
 use Rattle.monk.proofs.words.asked.Goals as goal
 
 pub returns-in_ok-file_of-in-Some-audit-default : goal.returns-in_ok-file_of-in-Some-audit-default
@@ -9,8 +9,9 @@ returns-in_ok-file_of-in-Some-audit-default c =
     let found = found_of c.in-Some-audit-default.audit.now in
     record {
       command = search rules;
-      file = file_in (subcommand_rows_of c.args.matches.now) (rows_of found) (sym c.in-Some-audit-default.ensures.rows)
+      values = value_in (subcommand_rows_of c.args.matches.now) (rows_of found) (codes "FILE") (sym c.in-Some-audit-default.ensures.rows)
           ∙ ap (λ (x : Option (List ℕ)). Some x) (sym (first_value-rows found (codes "FILE")) ∙ sym c.in_ok-file_of-in-Some-audit-default.ensures);
+      in_range = tt;
     }
 
 pub returns-in_ok-file_of-in-Some-play-default : goal.returns-in_ok-file_of-in-Some-play-default
@@ -18,6 +19,7 @@ returns-in_ok-file_of-in-Some-play-default c =
     let found = found_of c.in-Some-play-default.play.now in
     record {
       command = search rules;
-      file = file_in (subcommand_rows_of c.args.matches.now) (rows_of found) (sym c.in-Some-play-default.ensures.rows)
+      values = value_in (subcommand_rows_of c.args.matches.now) (rows_of found) (codes "FILE") (sym c.in-Some-play-default.ensures.rows)
           ∙ ap (λ (x : Option (List ℕ)). Some x) (sym (first_value-rows found (codes "FILE")) ∙ sym c.in_ok-file_of-in-Some-play-default.ensures);
+      in_range = tt;
     }

@@ -2,7 +2,7 @@ use Rattle.std.proofs.Common.{◌≡◌, ◌∙◌, ap, codes, true}
 use Rattle.std.proofs.lemmas.Result.{IfOk-weaker}
 use Rattle.clap.specs.Simple.{app_of_fields}
 use Rattle.clap.specs.Words.{App, app_of, with_subcommand}
-use Rattle.monk.specs.Request.{bare_app, classify_app, file_app}
+use Rattle.monk.specs.Request.{bare_app, classify_app, file_app, run_app}
 use Rattle.monk.proofs.words.command.Goals as goal
 
 pub returns : goal.returns
@@ -10,4 +10,11 @@ returns c =
     let bare_is : app_of c.subcommand_required.result ≡ bare_app = ap app_of_fields c.subcommand_required.ensures ∙ ap (λ (a : App). record a { top = record a.top { subcommand_required = true } }) c.new.ensures.app in
     let classify_is = c.in_ok-classify.ensures _ _ c.in_ok-subcommand.ensures ∙ ap (λ (a : App). with_subcommand a classify_app.top) bare_is in
     let audit_is = c.in_ok-audit.ensures _ _ c.in_ok-subcommand-2.ensures ∙ ap (λ (a : App). with_subcommand a (file_app (codes "audit")).top) classify_is in
-    IfOk-weaker c.subcommand-3.result _ _ (λ r h. c.in_ok-play.ensures _ _ h ∙ ap (λ (a : App). with_subcommand a (file_app (codes "play")).top) audit_is) c.subcommand-3.ensures
+    let play_is = c.in_ok-play.ensures _ _ c.in_ok-subcommand-3.ensures ∙ ap (λ (a : App). with_subcommand a (file_app (codes "play")).top) audit_is in
+    let run = c.in_ok-run.ensures in
+    IfOk-weaker c.subcommand-4.result _ _ (λ r h. record {
+      kinds = run.kinds;
+      samples = run.samples;
+      names = run.names;
+      is = run.is _ _ h ∙ ap (λ (a : App). with_subcommand a (run_app run.kinds run.samples).top) play_is;
+    }) c.subcommand-4.ensures

@@ -1,0 +1,39 @@
+-- What is answered to a run of a sample
+use Rattle.std.specs.Prelude.{◌≡◌, ℕ, ◌⊎◌, List, ◌++◌, codes, slice_index}
+use Rattle.std.specs.Fmt.{decimal}
+use Rattle.monk_kinds.specs.declared.name.KindName.{KindName}
+use Rattle.monk_history.specs.Text.{Heading}
+use Rattle.monk_history.specs.declared.event.Event.{Event}
+use Rattle.monk_samples.specs.Samples.{IsOutcome}
+use Rattle.monk_samples.specs.declared.sample.Sample.{Sample}
+use Rattle.monk_samples.specs.declared.sample.Sample.TheVariants.{Buffer, Book, Shop}
+
+-- a word and a number, or two
+abbrev pub count_line : List ℕ → ℕ → List ℕ
+count_line word n = word ++ codes " " ++ decimal n ++ codes "\n"
+
+abbrev pub pair_line : List ℕ → ℕ → ℕ → List ℕ
+pair_line word n m = word ++ codes " " ++ decimal n ++ codes " " ++ decimal m ++ codes "\n"
+
+-- the lines that tell the totals of a legal run
+abbrev pub totals_text : Sample → List ℕ → List ℕ
+totals_text Buffer t = pair_line (codes "put") (slice_index t 0) (slice_index t 1) ++ pair_line (codes "taken") (slice_index t 2) (slice_index t 3) ++ codes "legal\n"
+totals_text Book t = pair_line (codes "reads") (slice_index t 0) (slice_index t 1) ++ pair_line (codes "writes") (slice_index t 2) (slice_index t 3) ++ codes "legal\n"
+totals_text Shop t =
+    count_line (codes "sat") (slice_index t 0) ++ count_line (codes "called") (slice_index t 1)
+    ++ count_line (codes "finished") (slice_index t 2) ++ count_line (codes "departed") (slice_index t 3) ++ codes "legal\n"
+
+-- a run has left a legal history, and its totals are told
+pub record IsTold (k : KindName) (sample : Sample) (seats : ℕ) (Puts : List ℕ → Type 0) : Type 0 where
+  pub heading : Heading
+  pub history : List Event
+  pub totals : List ℕ
+  pub outcome : IsOutcome k sample seats heading history totals
+  pub told : Puts (totals_text sample totals)
+
+-- why a run has no totals
+abbrev pub IsEnd : (List ℕ → Type 0) → Type 0
+IsEnd Puts = Puts (codes "tired\n") ⊎ Puts (codes "late\n") ⊎ Puts (codes "busy\n")
+
+abbrev pub IsRunAnswer : KindName → Sample → ℕ → ℕ → (List ℕ → Type 0) → Type 0
+IsRunAnswer k sample seats status Puts = ((status ≡ 0) × IsTold k sample seats Puts) ⊎ ((status ≡ 1) × IsEnd Puts)
