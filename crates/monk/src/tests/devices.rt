@@ -1,6 +1,8 @@
 use crate::task::Task;
-use crate::{StreamFault, classify_stream};
+use crate::{StreamFault, classify_stream, run_stream};
 use monk_history::Device;
+use monk_kinds::KindName;
+use monk_samples::Sample;
 use std::io;
 use std::io::{Read, Write};
 use std::process::Abort;
@@ -175,5 +177,31 @@ fn two_lines_fail_in_turn(rt: HostRuntime) -> Result<(), Fail> {
             assert_eq!(rt; writer.failed(), fails_at <= 12, "at {fails_at}");
         }
     }
+    Ok(())
+}
+
+/// How many writes of a run's totals there were, each of which failed in turn.
+#[test]
+fn writes_of_totals_fail_in_turn(rt: HostRuntime) -> Result<(), Fail> {
+    let alloc = rt.alloc();
+    let mut files = 0;
+    for fails_at in 1..20u32 {
+        let mut writer = Device::new(Tight {
+            taken: Vec::new(alloc),
+            step: 3,
+            writes_left: fails_at,
+            refuses: false,
+        });
+        match run_stream(&rt, alloc, KindName::Pir, Sample::Buffer, 2, 1, &mut writer) {
+            Ok(status) => assert_eq!(rt; status, 0),
+            Err(StreamFault::File) => {
+                assert!(rt; writer.failed());
+                files = fails_at;
+            }
+            Err(StreamFault::Memory) => assert!(rt; false),
+        }
+    }
+    // `put 1 1`, `taken 1 1` and `legal` with their newlines, 24 bytes by threes
+    assert_eq!(rt; files, 8);
     Ok(())
 }

@@ -1,5 +1,7 @@
 use crate::{Line, LineFault, classify_stream, line};
 use monk_history::Device;
+use monk_kinds::KindName;
+use monk_samples::Sample;
 use std::alloc::Global;
 use std::test::Fail;
 
@@ -8,7 +10,7 @@ fn asks_for(line: &Line, command: &str, file: Option<&str>) -> bool {
     let (found, name) = match line {
         Line::Audit(name) => ("audit", name),
         Line::Play(name) => ("play", name),
-        Line::Classify(..) => return false,
+        Line::Classify(..) | Line::Run(..) => return false,
     };
     let same = match (name, file) {
         (Some(name), Some(file)) => name.as_str() == file,
@@ -29,6 +31,21 @@ fn words_that_ask(rt: HostRuntime) -> Result<(), Fail> {
     }
     let classify = line(alloc, &["monk", "classify", "3", "0", "255"])?;
     assert!(rt; matches!(&classify, Line::Classify(3, 0, 255)));
+    Ok(())
+}
+
+#[test]
+fn words_that_ask_for_a_run(rt: HostRuntime) -> Result<(), Fail> {
+    let alloc = rt.alloc();
+    for kind in KindName::ALL {
+        let name = str::from_utf8(kind.text())?;
+        let least = line(alloc, &["monk", "run", name, "book", "2", "1"])?;
+        assert!(rt; matches!(&least, Line::Run(found, Sample::Book, 2, 1) if *found == kind));
+    }
+    let most = line(alloc, &["monk", "run", "PIR", "shop", "16", "1000"])?;
+    assert!(rt; matches!(&most, Line::Run(KindName::Pir, Sample::Shop, 16, 1000)));
+    let buffer = line(alloc, &["monk", "run", "NPQB", "buffer", "8", "100"])?;
+    assert!(rt; matches!(&buffer, Line::Run(KindName::Npqb, Sample::Buffer, 8, 100)));
     Ok(())
 }
 
@@ -53,6 +70,22 @@ fn words_that_ask_for_nothing(rt: HostRuntime) {
     assert!(rt; is_refused(alloc, &["monk", "classify", "1", "2", "3", "4"]));
     assert!(rt; is_refused(alloc, &["monk", "classify", "1", "2", "256"]));
     assert!(rt; is_refused(alloc, &["monk", "classify", "1", "2", "x"]));
+}
+
+#[test]
+fn words_that_ask_for_no_run(rt: HostRuntime) {
+    let alloc = rt.alloc();
+    assert!(rt; is_refused(alloc, &["monk", "run", "ABC", "buffer", "8", "100"]));
+    assert!(rt; is_refused(alloc, &["monk", "run", "pb", "buffer", "8", "100"]));
+    assert!(rt; is_refused(alloc, &["monk", "run", "PB", "Buffer", "8", "100"]));
+    assert!(rt; is_refused(alloc, &["monk", "run", "PB", "queue", "8", "100"]));
+    assert!(rt; is_refused(alloc, &["monk", "run", "PB", "buffer", "1", "100"]));
+    assert!(rt; is_refused(alloc, &["monk", "run", "PB", "buffer", "17", "100"]));
+    assert!(rt; is_refused(alloc, &["monk", "run", "PB", "buffer", "258", "100"]));
+    assert!(rt; is_refused(alloc, &["monk", "run", "PB", "buffer", "8", "0"]));
+    assert!(rt; is_refused(alloc, &["monk", "run", "PB", "buffer", "8", "1001"]));
+    assert!(rt; is_refused(alloc, &["monk", "run", "PB", "buffer", "8"]));
+    assert!(rt; is_refused(alloc, &["monk", "run", "PB", "buffer", "8", "100", "1"]));
 }
 
 #[test]
