@@ -2,9 +2,9 @@
 ghost use Rattle.std.specs.Prelude.{◌≡◌, All, IfOk};
 ghost use Rattle.monk_samples.specs.Crews.{AreReady, IsOf, IsReady};
 
+use crate::crew_fault::CrewFault;
 use crate::end::End;
 use crate::rota::Rota;
-use crate::run_fault::RunFault;
 use crate::worker::Worker;
 use monk_hall::{Hall, Pass};
 use monk_kinds::Kind;
@@ -40,7 +40,7 @@ pub(crate) fn workers<'a, K: Kind, T: Guarded, R, G>(
     gate: &'a G,
     passes: Vec<Pass<K, T>>,
     rota: Rota,
-) -> Result<Vec<Worker<'a, K, T, R, G>>, RunFault>
+) -> Result<Vec<Worker<'a, K, T, R, G>>, CrewFault>
     requires { AreReady K.rules hall.now passes.items }
     ensures { IfOk result (λ v. All (λ w. (w.hall.now ≡ hall.now) × IsReady K.rules hall.now w.pass) v.items) }
 {
@@ -64,13 +64,13 @@ pub(crate) fn join_all<K: Kind, T: Guarded, R: Threads>(
     rt: &R,
     hall: &Hall<K, T>,
     crew: Vec<Shift<K, T>>,
-) -> Result<Pass<K, T>, RunFault>
+) -> Result<Pass<K, T>, CrewFault>
     requires { All (λ s. s.promise.0.value ≡ hall.now) crew.items }
     ensures { IfOk result (λ p. IsOf hall.now p) }
 {
     let mut shifts = crew.into_iter();
     let Some(first) = shifts.next() else {
-        return Err(RunFault::Thread);
+        return Err(CrewFault::Thread);
     };
     let (pass, end) = first.join(rt);
     let mut fault = fault_of(end);
@@ -86,10 +86,10 @@ pub(crate) fn join_all<K: Kind, T: Guarded, R: Threads>(
     }
 }
 
-fn fault_of(end: End) -> Option<RunFault> {
+fn fault_of(end: End) -> Option<CrewFault> {
     match end {
         End::Done => None,
-        End::Tired => Some(RunFault::Tired),
-        End::Late => Some(RunFault::Late),
+        End::Tired => Some(CrewFault::Tired),
+        End::Late => Some(CrewFault::Late),
     }
 }

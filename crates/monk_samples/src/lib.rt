@@ -9,6 +9,7 @@
 mod book;
 mod buffer;
 mod crew;
+mod crew_fault;
 mod end;
 mod gate;
 mod outcome;

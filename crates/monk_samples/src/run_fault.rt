@@ -1,4 +1,3 @@
-use std::alloc::{AllocError, AllocFailed};
 use thiserror::Error;
 
 /// Why a run has no outcome.
@@ -22,16 +21,4 @@ pub enum RunFault {
     /// A thread could not be started.
     #[error("thread")]
     Thread,
-}
-
-impl From<AllocError> for RunFault {
-    fn from(_error: AllocError) -> RunFault {
-        RunFault::Memory
-    }
-}
-
-impl<T: Drop> From<AllocFailed<T>> for RunFault {
-    fn from(_refused: AllocFailed<T>) -> RunFault {
-        RunFault::Memory
-    }
 }

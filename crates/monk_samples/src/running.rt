@@ -1,5 +1,5 @@
 //! A run: a hall over the object of a sample, with a thread for each seat that works, closed when all have ended.
-ghost use Rattle.std.specs.Prelude.{◌≡◌, ◌≤◌, ◌⊎◌, ◌<◌, ◌^◌, length, IfOk, OnOk, IsErrOf};
+ghost use Rattle.std.specs.Prelude.{◌≡◌, ◌↔◌, ◌≤◌, ◌⊎◌, ◌<◌, ◌^◌, length, IfOk, OnOk, IsErrOf};
 ghost use Rattle.monk_object.specs.declared.name.ObjectName.TheVariants as object;
 ghost use Rattle.monk_object.specs.Names.{opening_named};
 ghost use Rattle.monk_hall.specs.Rule.{setting_of};
@@ -8,6 +8,7 @@ ghost use Rattle.monk_samples.specs.Samples.{IsHistoryOf, IsInRange, IsOutcome, 
 ghost use Rattle.monk_samples.specs.declared.sample.Sample.TheVariants as sample;
 
 use crate::crew::{work_book, work_buffer, work_shop};
+use crate::crew_fault::CrewFault;
 use crate::gate::Gate;
 use crate::outcome::Outcome;
 use crate::rota::Rota;
@@ -53,7 +54,8 @@ pub fn run<K: Style, R: Threads + Wait + Sync, G: Gate>(
     gate: &G,
 ) -> Result<Outcome, RunFault>
     ensures outcome { IfOk result (λ o. IsOutcome K.NAME sample seats o.header o.history.items o.totals) }
-    ensures range { ((seats < 2) ⊎ (16 < seats) ⊎ (rounds < 1) ⊎ (1000 < rounds)) → IsErrOf result RunFault.Range }
+    // The range is refused exactly where a number is out of it.
+    ensures range { IsErrOf result RunFault.Range ↔ ((seats < 2) ⊎ (16 < seats) ⊎ (rounds < 1) ⊎ (1000 < rounds)) }
     ensures in_range { OnOk result (IsInRange seats rounds) }
 {
     if !(2..=16).contains(&seats) || !(1..=1000).contains(&rounds) {
@@ -65,9 +67,9 @@ pub fn run<K: Style, R: Threads + Wait + Sync, G: Gate>(
         rounds,
     };
     match sample {
-        Sample::Buffer => outcome::<K>(rota, run_buffer::<K, R, G>(rt, alloc, rota, gate)?),
-        Sample::Book => outcome::<K>(rota, run_book::<K, R, G>(rt, alloc, rota, gate)?),
-        Sample::Shop => outcome::<K>(rota, run_shop::<K, R, G>(rt, alloc, rota, gate)?),
+        Sample::Buffer => of_run::<K>(rota, run_buffer::<K, R, G>(rt, alloc, rota, gate)),
+        Sample::Book => of_run::<K>(rota, run_book::<K, R, G>(rt, alloc, rota, gate)),
+        Sample::Shop => of_run::<K>(rota, run_shop::<K, R, G>(rt, alloc, rota, gate)),
     }
 }
 
@@ -77,11 +79,11 @@ fn run_buffer<K: Style, R: Threads + Wait + Sync, G: Gate>(
     alloc: Global,
     rota: Rota,
     gate: &G,
-) -> Result<Vec<Event>, RunFault>
+) -> Result<Vec<Event>, CrewFault>
     ensures { IfOk result (λ v. IsHistoryOf K.rules sample.Buffer rota.seats rota.rounds v.items) }
 {
     let Ok(buffer) = Buffer::make(alloc, SIZE) else {
-        return Err(RunFault::Memory);
+        return Err(CrewFault::Memory);
     };
     let (hall, passes) = open::<K, Buffer>(alloc, buffer, rota)?;
     let first = work_buffer(rt, alloc, &hall, passes, gate, rota)?;
@@ -94,11 +96,11 @@ fn run_book<K: Style, R: Threads + Wait + Sync, G: Gate>(
     alloc: Global,
     rota: Rota,
     gate: &G,
-) -> Result<Vec<Event>, RunFault>
+) -> Result<Vec<Event>, CrewFault>
     ensures { IfOk result (λ v. IsHistoryOf K.rules sample.Book rota.seats rota.rounds v.items) }
 {
     let Ok(book) = Book::make(SIZE) else {
-        return Err(RunFault::Memory);
+        return Err(CrewFault::Memory);
     };
     let (hall, passes) = open::<K, Book>(alloc, book, rota)?;
     let first = work_book(rt, alloc, &hall, passes, gate, rota)?;
@@ -111,11 +113,11 @@ fn run_shop<K: Style, R: Threads + Wait + Sync, G: Gate>(
     alloc: Global,
     rota: Rota,
     gate: &G,
-) -> Result<Vec<Event>, RunFault>
+) -> Result<Vec<Event>, CrewFault>
     ensures { IfOk result (λ v. IsHistoryOf K.rules sample.Shop rota.seats rota.rounds v.items) }
 {
     let Ok(shop) = Shop::make(SIZE) else {
-        return Err(RunFault::Memory);
+        return Err(CrewFault::Memory);
     };
     let (hall, passes) = open::<K, Shop>(alloc, shop, rota)?;
     let first = work_shop(rt, alloc, &hall, passes, gate, rota)?;
@@ -127,7 +129,7 @@ fn open<K: Kind, T: Guarded>(
     alloc: Global,
     object: T,
     rota: Rota,
-) -> Result<(Hall<K, T>, Vec<Pass<K, T>>), RunFault>
+) -> Result<(Hall<K, T>, Vec<Pass<K, T>>), CrewFault>
     ensures setting { IfOk result (λ r. r.0.setting ≡ setting_of (T.state object) rota.seats (conds_of K.rules) (budget_of rota.seats rota.rounds)) }
     ensures passes { IfOk result (λ r. AreReady K.rules r.0 r.1.items) }
 {
@@ -135,7 +137,7 @@ fn open<K: Kind, T: Guarded>(
     // The numbers are in range, so only memory can be wanting.
     match Hall::make(alloc, object, rota.seats, conds_of::<K>(), budget) {
         Ok(made) => Ok(made),
-        Err(_) => Err(RunFault::Memory),
+        Err(_) => Err(CrewFault::Memory),
     }
 }
 
@@ -154,36 +156,48 @@ fn close_by<K: Kind, T: Guarded, R: Wait>(
     rt: &R,
     hall: Hall<K, T>,
     pass: Pass<K, T>,
-) -> Result<Vec<Event>, RunFault>
+) -> Result<Vec<Event>, CrewFault>
     requires { IsOf hall pass }
     ensures { IfOk result (λ v. IsClosed K.rules T.meaning hall.setting v.items) }
 {
     if pass.left() < 2 {
-        return Err(RunFault::Tired);
+        return Err(CrewFault::Tired);
     }
     let active = pass.arrive(&hall).resume(rt, &hall);
     match close(hall, active) {
         Ok(closed) => Ok(closed.history),
         Err(Busy { hall, active }) => {
             active.leave(&hall, Pick::Waiter);
-            Err(RunFault::Busy)
+            Err(CrewFault::Busy)
         }
     }
 }
 
+/// What the run leaves, or why it leaves nothing.
+fn of_run<K: Kind>(rota: Rota, history: Result<Vec<Event>, CrewFault>) -> Result<Outcome, RunFault>
+    requires { IfOk history (λ v. IsHistoryOf K.rules rota.sample rota.seats rota.rounds v.items) }
+    ensures outcome { IfOk result (λ o. IsOutcome K.NAME rota.sample rota.seats o.header o.history.items o.totals) }
+    ensures in_range { IsErrOf result RunFault.Range → ⊥ }
+{
+    match history {
+        Ok(history) => Ok(outcome::<K>(rota, history)),
+        Err(fault) => Err(fault.of_run()),
+    }
+}
+
 /// What the run leaves, of which this is the history.
-fn outcome<K: Kind>(rota: Rota, history: Vec<Event>) -> Result<Outcome, RunFault>
+fn outcome<K: Kind>(rota: Rota, history: Vec<Event>) -> Outcome
     requires { IsHistoryOf K.rules rota.sample rota.seats rota.rounds history.items }
-    ensures { IfOk result (λ o. IsOutcome K.NAME rota.sample rota.seats o.header o.history.items o.totals) }
+    ensures { IsOutcome K.NAME rota.sample rota.seats result.header result.history.items result.totals }
 {
     let object = rota.sample.object();
     let Some(header) = Header::new(K::NAME, rota.seats, conds_of::<K>(), object, SIZE) else {
-        return Err(RunFault::Range);
+        unreachable!();
     };
     let totals = totals_of(rota.sample, &history);
-    Ok(Outcome {
+    Outcome {
         totals,
         header,
         history,
-    })
+    }
 }

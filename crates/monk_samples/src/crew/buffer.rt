@@ -4,10 +4,10 @@ ghost use Rattle.monk_samples.specs.Crews.{AreReady, IsOf, IsReady};
 
 use crate::buffer::{put, take};
 use crate::crew::{OfHall, Shift, join_all, workers};
+use crate::crew_fault::CrewFault;
 use crate::end::End;
 use crate::gate::Gate;
 use crate::rota::Rota;
-use crate::run_fault::RunFault;
 use crate::style::Style;
 use crate::worker::Worker;
 use monk_hall::{Hall, Pass};
@@ -26,7 +26,7 @@ pub(crate) fn work_buffer<K: Style, R: Threads + Wait + Sync, G: Gate>(
     passes: Vec<Pass<K, Buffer>>,
     gate: &G,
     rota: Rota,
-) -> Result<Pass<K, Buffer>, RunFault>
+) -> Result<Pass<K, Buffer>, CrewFault>
     requires { AreReady K.rules hall.now passes.items }
     ensures { IfOk result (λ p. IsOf hall.now p) }
 {
@@ -34,7 +34,7 @@ pub(crate) fn work_buffer<K: Style, R: Threads + Wait + Sync, G: Gate>(
     thread::scope(
         thread::scope_env(),
         rt,
-        |scope| -> Result<Pass<K, Buffer>, RunFault>
+        |scope| -> Result<Pass<K, Buffer>, CrewFault>
             requires { All (λ w. (w.hall.now ≡ hall.now) × IsReady K.rules hall.now w.pass) workers.items }
             ensures { IfOk result (λ p. IsOf hall.entry.now p) }
         {
@@ -50,7 +50,7 @@ fn start_all<'s, E, K: Style, R: Wait + Sync, G: Gate>(
     alloc: Global,
     hall: &Hall<K, Buffer>,
     workers: Vec<Worker<'s, K, Buffer, R, G>>,
-) -> Result<Vec<Shift<K, Buffer>>, RunFault>
+) -> Result<Vec<Shift<K, Buffer>>, CrewFault>
     requires { All (λ w. (w.hall.now ≡ hall.now) × IsReady K.rules hall.now w.pass) workers.items }
     ensures { IfOk result (λ v. All (λ s. s.promise.0.value ≡ hall.now) v.items) }
 {
@@ -65,7 +65,7 @@ fn start_all<'s, E, K: Style, R: Wait + Sync, G: Gate>(
 fn start<'s, E, K: Style, R: Wait + Sync, G: Gate>(
     scope: &Scope<'s, E>,
     worker: Worker<'s, K, Buffer, R, G>,
-) -> Result<Shift<K, Buffer>, RunFault>
+) -> Result<Shift<K, Buffer>, CrewFault>
     requires { IsReady K.rules worker.hall.now worker.pass }
     ensures { IfOk result (λ s. s.promise.0.value ≡ worker.entry.hall.now) }
 {
@@ -79,7 +79,7 @@ fn start<'s, E, K: Style, R: Wait + Sync, G: Gate>(
     );
     match started {
         Ok(shift) => Ok(shift),
-        Err(_) => Err(RunFault::Thread),
+        Err(_) => Err(CrewFault::Thread),
     }
 }
 

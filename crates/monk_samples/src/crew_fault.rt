@@ -1,0 +1,41 @@
+ghost use Rattle.std.specs.Prelude.{◌≢◌};
+
+use crate::run_fault::RunFault;
+use std::alloc::{AllocError, AllocFailed};
+
+/// Why the crew of a run has left no history. What was asked for was in range.
+#[derive(Drop)]
+pub(crate) enum CrewFault {
+    Memory,
+    Tired,
+    Late,
+    Busy,
+    Thread,
+}
+
+impl CrewFault {
+    /// The same, of the run.
+    pub(crate) fn of_run(self) -> RunFault
+        ensures { result ≢ RunFault.Range }
+    {
+        match self {
+            CrewFault::Memory => RunFault::Memory,
+            CrewFault::Tired => RunFault::Tired,
+            CrewFault::Late => RunFault::Late,
+            CrewFault::Busy => RunFault::Busy,
+            CrewFault::Thread => RunFault::Thread,
+        }
+    }
+}
+
+impl From<AllocError> for CrewFault {
+    fn from(_error: AllocError) -> CrewFault {
+        CrewFault::Memory
+    }
+}
+
+impl<T: Drop> From<AllocFailed<T>> for CrewFault {
+    fn from(_refused: AllocFailed<T>) -> CrewFault {
+        CrewFault::Memory
+    }
+}
