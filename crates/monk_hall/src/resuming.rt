@@ -12,11 +12,12 @@ use monk_world::Place;
 use std::hint::spin_loop;
 use std::sync::Wait;
 
-/// How often a seat polls before its thread sleeps.
-const MOST_SPINS: u32 = 64;
+/// How often each of two seats looks before its thread sleeps; of more seats each looks less often by the square of their
+/// number, since its turn comes after those of the others, and threads that spin keep others from their processor.
+const SPINS: u32 = 1024;
 
 impl<K: Kind, T: Guarded> Parked<K, T> {
-    /// Becomes active, and waits as long as that takes: the only call that waits. It polls, spins briefly, and then
+    /// Becomes active, and waits as long as that takes: the only call that waits. It polls, and then spins briefly and
     /// sleeps on the word where its grant will come. What it found there before the poll is what it sleeps on, so a
     /// grant that came after the poll keeps it awake.
     ///
@@ -28,19 +29,13 @@ impl<K: Kind, T: Guarded> Parked<K, T> {
         let words = &hall.table.shared;
         let word = self.granting_word(hall);
         let mut parked = self;
-        let mut spins = 0;
         for _ in rt.forever() {
             let seen = words.peek(word);
             match parked.poll(hall) {
                 Ok(active) => return active,
                 Err(back) => parked = back,
             }
-            if spins < MOST_SPINS {
-                spins += 1;
-                spin_loop();
-            } else {
-                words.park(rt, word, (seen % (1 << 32)) as u32);
-            }
+            hall.await_change(rt, word, seen);
         }
         unreachable!()
     }
@@ -54,5 +49,22 @@ impl<K: Kind, T: Guarded> Parked<K, T> {
             Place::Ticket(ticket) => ticket_word(hall.seats, ticket),
             _ => seat_word(self.number),
         }
+    }
+}
+
+impl<K: Kind, T: Guarded> Hall<K, T> {
+    /// Returns when the word is no longer what was seen there, or earlier: it spins, and then sleeps.
+    fn await_change<R: Wait>(&self, rt: &R, word: usize, seen: u64)
+        requires { word < self.now.id.words }
+    {
+        let words = &self.table.shared;
+        let seats = u32::from(self.seats);
+        for _ in 0..SPINS / (seats * seats).max(1) {
+            if words.peek(word) != seen {
+                return;
+            }
+            spin_loop();
+        }
+        words.park(rt, word, (seen % (1 << 32)) as u32);
     }
 }
