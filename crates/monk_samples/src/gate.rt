@@ -1,3 +1,5 @@
+ghost use Rattle.std.specs.Prelude.{◌≡◌, true};
+
 /// What each worker asks before each of its rounds.
 pub trait Gate: Sync {
     /// Whether the seat may begin the round, counted from 1. Where not, its worker ends late.
@@ -9,7 +11,9 @@ pub trait Gate: Sync {
 pub struct OpenGate;
 
 impl Gate for OpenGate {
-    fn pass(&self, _seat: u8, _round: u32) -> bool {
+    fn pass(&self, _seat: u8, _round: u32) -> bool
+        ensures { result ≡ true }
+    {
         true
     }
 }
