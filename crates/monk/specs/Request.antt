@@ -1,7 +1,8 @@
 -- The command line of the program, as clap sees it, and what a line asks for
-use Rattle.std.specs.Prelude.{◌≡◌, ℕ, ◌≤◌, List, [], ◌∷◌, Option, Some, true, map, option_map, codes, pos, string_bytes}
+use Rattle.std.specs.Prelude.{◌≡◌, ℕ, ◌≤◌, List, [], ◌∷◌, Option, Some, IsSomeAnd, true, map, option_map, codes, pos, string_bytes}
+use Rattle.std.specs.Str.Parse.{IsNumeral, digits_value, without_leading_plus}
 use Rattle.std.specs.Borrow.{Bor}
-use Rattle.clap.specs.Words.{AddsSubcommand, App, Row, Rule, Text, app_of, first_of, new_app, new_rule, with_rule, with_subcommand}
+use Rattle.clap.specs.Words.{AddsSubcommand, App, Row, Rule, Text, app_of, first_of, one_of, new_app, new_rule, with_rule, with_subcommand}
 use Rattle.clap.specs.declared.builder.command.Command.{Command}
 use Rattle.clap.specs.declared.builder.value_parser.ValueParser.TheVariants.{Signed, Names}
 use Rattle.clap.specs.declared.builder.value_parser.ValueParser.{ValueParser}
@@ -82,30 +83,21 @@ command_word (Audit file) = codes "audit"
 command_word (Play file) = codes "play"
 command_word (Run kind sample seats rounds) = codes "run"
 
--- the value that clap has found for a name, in the rows of a command
-abbrev pub found_in : Text → Option (Text × List Row) → Option (Option Text)
-found_in name found = option_map (λ p. first_of name p.1) found
+-- a whole number in digits that clap has found for a name, in the rows of a command
+pub record HasNumber (name : Text) (n : ℕ) (rows : List Row) : Type 0 where
+  pub text : Text
+  pub found : one_of name rows ≡ Some text
+  pub digits : IsNumeral 10 (without_leading_plus text)
+  pub number : n ≡ digits_value 10 (without_leading_plus text)
 
-abbrev pub IsClassify : Line → Type 0
-IsClassify (Classify e w s) = Unit {0}
-IsClassify (Audit file) = ⊥
-IsClassify (Play file) = ⊥
-IsClassify (Run kind sample seats rounds) = ⊥
-
-abbrev pub IsRun : Line → List Row → Type 0
-IsRun (Classify e w s) rows = ⊥
-IsRun (Audit file) rows = ⊥
-IsRun (Play file) rows = ⊥
-IsRun (Run kind sample seats rounds) rows =
-    (first_of (codes "KIND") rows ≡ Some (kind_word kind)) × (first_of (codes "SAMPLE") rows ≡ Some (sample_word sample)) × IsInRange seats rounds
-
--- the values are those that clap has found
-abbrev pub ValuesAre : Line → Option (Text × List Row) → Type 0
-ValuesAre (Classify e w s) found = Unit {0}
-ValuesAre (Audit file) found = found_in (codes "FILE") found ≡ Some (option_map string_bytes file)
-ValuesAre (Play file) found = found_in (codes "FILE") found ≡ Some (option_map string_bytes file)
-ValuesAre (Run kind sample seats rounds) found =
-    (found_in (codes "KIND") found ≡ Some (Some (kind_word kind))) × (found_in (codes "SAMPLE") found ≡ Some (Some (sample_word sample)))
+-- the values of the line are those that clap has found, in the rows of its command
+abbrev pub ValuesAre : Line → List Row → Type 0
+ValuesAre (Classify e w s) rows = HasNumber (codes "ENTRY") e rows × HasNumber (codes "WAITER") w rows × HasNumber (codes "SIGNALLER") s rows
+ValuesAre (Audit file) rows = first_of (codes "FILE") rows ≡ option_map string_bytes file
+ValuesAre (Play file) rows = first_of (codes "FILE") rows ≡ option_map string_bytes file
+ValuesAre (Run kind sample seats rounds) rows =
+    (first_of (codes "KIND") rows ≡ Some (kind_word kind)) × (first_of (codes "SAMPLE") rows ≡ Some (sample_word sample))
+    × HasNumber (codes "SEATS") seats rows × HasNumber (codes "ROUNDS") rounds rows
 
 -- a run is asked for within its ranges alone
 abbrev pub RunIsInRange : Line → Type 0
@@ -114,8 +106,12 @@ RunIsInRange (Audit file) = Unit {0}
 RunIsInRange (Play file) = Unit {0}
 RunIsInRange (Run kind sample seats rounds) = IsInRange seats rounds
 
--- the line is for the command that clap has found in the words, with the values that it has found there
-pub record IsAsked (l : Line) (found : Option (Text × List Row)) : Type 0 where
-  pub command : option_map (λ p. p.0) found ≡ Some (command_word l)
-  pub values : ValuesAre l found
+-- the line is what the rows of this command ask for
+pub record IsRead (word : Text) (l : Line) (rows : List Row) : Type 0 where
+  pub command : command_word l ≡ word
+  pub values : ValuesAre l rows
   pub in_range : RunIsInRange l
+
+-- the line is for the command that clap has found in the words, with the values that it has found there
+abbrev pub IsAsked : Line → Option (Text × List Row) → Type 0
+IsAsked l found = IsSomeAnd found (λ p. IsRead p.0 l p.1)

@@ -1,25 +1,23 @@
-use Rattle.std.proofs.Common.{rules, ◌≡◌, ◌∙◌, ap, sym, Some, List, Option, ℕ, codes}
+use Rattle.std.proofs.Common.{rules, ◌≡◌, ◌∙◌, refl, sym, codes}
 use Rattle.clap.specs.Words.{found_of, rows_of, subcommand_rows_of}
 use Rattle.clap.proofs.WalkLemmas.{first_value-rows}
-use Rattle.monk.proofs.Requests.{value_in}
+use Rattle.monk.proofs.Requests.{asked_in}
 use Rattle.monk.proofs.words.asked.Goals as goal
 
 pub returns-in_ok-file_of-in-Some-audit-default : goal.returns-in_ok-file_of-in-Some-audit-default
 returns-in_ok-file_of-in-Some-audit-default c =
     let found = found_of c.in-Some-audit-default.audit.now in
-    record {
-      command = search rules;
-      values = value_in (subcommand_rows_of c.args.matches.now) (rows_of found) (codes "FILE") (sym c.in-Some-audit-default.ensures.rows)
-          ∙ ap (λ (x : Option (List ℕ)). Some x) (sym (first_value-rows found (codes "FILE")) ∙ sym c.in_ok-file_of-in-Some-audit-default.ensures);
+    asked_in (subcommand_rows_of c.args.matches.now) (codes "audit") (rows_of found) _ (search rules) (sym c.in-Some-audit-default.ensures.rows) (record {
+      command = refl;
+      values = sym (first_value-rows found (codes "FILE")) ∙ sym c.in_ok-file_of-in-Some-audit-default.ensures;
       in_range = tt;
-    }
+    })
 
 pub returns-in_ok-file_of-in-Some-play-default : goal.returns-in_ok-file_of-in-Some-play-default
 returns-in_ok-file_of-in-Some-play-default c =
     let found = found_of c.in-Some-play-default.play.now in
-    record {
-      command = search rules;
-      values = value_in (subcommand_rows_of c.args.matches.now) (rows_of found) (codes "FILE") (sym c.in-Some-play-default.ensures.rows)
-          ∙ ap (λ (x : Option (List ℕ)). Some x) (sym (first_value-rows found (codes "FILE")) ∙ sym c.in_ok-file_of-in-Some-play-default.ensures);
+    asked_in (subcommand_rows_of c.args.matches.now) (codes "play") (rows_of found) _ (search rules) (sym c.in-Some-play-default.ensures.rows) (record {
+      command = refl;
+      values = sym (first_value-rows found (codes "FILE")) ∙ sym c.in_ok-file_of-in-Some-play-default.ensures;
       in_range = tt;
-    }
+    })
