@@ -1,12 +1,14 @@
 /* Loaded before the C library: refuses the Nth request for memory, N being the number in REFUSE, and writes
-   to the file descriptor in TELL how many there were. */
+   to the file descriptor in TELL how many there were. A program that may start threads ends by `_exit`, which runs no
+   destructor, so that is met too. */
 #define _GNU_SOURCE
 #include <dlfcn.h>
 #include <stddef.h>
 #include <stdio.h>
 #include <stdlib.h>
+#include <unistd.h>
 
-static long seen;
+static _Atomic long seen;
 
 static int is_refused(void)
 {
@@ -36,4 +38,13 @@ __attribute__((destructor)) static void tell(void)
 {
     const char *text = getenv("TELL");
     if (text) dprintf(atoi(text), "%ld\n", seen);
+}
+
+void _exit(int status)
+{
+    static void (*real)(int);
+    if (!real) real = (void (*)(int)) dlsym(RTLD_NEXT, "_exit");
+    tell();
+    real(status);
+    abort();
 }
