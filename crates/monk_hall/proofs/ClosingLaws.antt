@@ -6,6 +6,7 @@ use Rattle.monk_kinds.specs.declared.mode.Rules.{Rules}
 use Rattle.monk_object.specs.Object.{Object}
 use Rattle.monk_history.specs.Meaning.Choice.{Queues}
 use Rattle.monk_history.specs.Meaning.Conditions.{condition}
+use Rattle.monk_history.specs.Meaning.Counts.{events_of}
 use Rattle.monk_history.specs.Meaning.Events.{has_conditions}
 use Rattle.monk_history.specs.Meaning.Legal.{IsLegal}
 use Rattle.monk_history.specs.Meaning.Monitor.{Monitor, data_of}
@@ -24,7 +25,8 @@ use Rattle.monk_history.specs.declared.event.Next.TheVariants as next
 use Rattle.monk_history.proofs.MeaningLaws.ReleaseLaws.{legal_seated, IsSeated, times_le_conditions}
 use Rattle.monk_history.proofs.MeaningLaws.StandingLaws.{legal_placed}
 use Rattle.monk_floor.specs.View.{FloorView, monitor_of, stands_of}
-use Rattle.monk_hall.specs.Closing.{HasNobody, IsUnqueued, IsEnded}
+use Rattle.monk_hall.proofs.Private.{own_event}
+use Rattle.monk_hall.specs.Closing.{HasNobody, HasSomebody, IsUnqueued, IsEnded, IsBusy}
 use Rattle.monk_hall.specs.Tokens.{Holder}
 
 empty_of : (xs : List ℕ) → ((j : ℕ) → times j xs ≡ 0) → xs ≡ []
@@ -98,10 +100,10 @@ few_of : (h g : List Event) (m b n c : ℕ) → h ≡ g → m ≡ n → b ≡ c 
 few_of h g m b n c same seats budget within = subst (λ (x : List Event). length x ≤ n * c) (sym same) (subst (λ (x : ℕ). length g ≤ n * x) budget (subst (λ (x : ℕ). length g ≤ x * b) seats within))
 
 -- the active seat has left, where no seat was in a queue
-pub ended : (k : Rules) (o : Object) (a : Holder) (f : FloorView) (number : ℕ) (choice : Next) (g : FloorView) (history : List Event) (state : List ℕ) → a.floor ≡ f → a.me.seat ≡ number → IsLegal (monitor_of k o f) f.history
+pub ended : (k : Rules) (o : Object) (a : Holder) (f : FloorView) (number : ℕ) (choice : Next) (g : FloorView) (history : List Event) (state : List ℕ) → a.floor ≡ f → a.me.seat ≡ number → events_of a.floor.history a.me.seat ≡ a.me.mine → IsLegal (monitor_of k o f) f.history
     → IsUnqueued k o a.floor a.floor.seats → IsGrown k o f (Leave number choice) g → choice ≡ choice_of k o (stands_of k o f) (Leave number next.Stay) false WishEntry
     → history ≡ g.history → IsLegal (monitor_of k o g) g.history → state ≡ data_of (monitor_of k o g) g.history → length g.history ≤ g.seats * g.budget → IsEnded k o a history state
-ended k o a f number choice g history state floor seat legal unqueued grows chosen is_history all_legal is_state within =
+ended k o a f number choice g history state floor seat own legal unqueued grows chosen is_history all_legal is_state within =
     let none : HasNobody f = nobody k o f legal (subst (λ (x : FloorView). IsUnqueued k o x x.seats) floor unqueued) in
     let entry : choice ≡ next.Entry = chosen ∙ leaves_last k o f number none in
     let past : g.history ≡ a.floor.history ++ Leave a.me.seat next.Entry ∷ [] =
@@ -110,6 +112,10 @@ ended k o a f number choice g history state floor seat legal unqueued grows chos
     record {
       nobody = subst HasNobody (sym floor) none;
       leaves = is_history ∙ past;
+      own =
+          ap (λ (x : List Event). events_of x a.me.seat) (is_history ∙ past)
+          ∙ own_event a.floor.history (Leave a.me.seat next.Entry) a.me.seat refl
+          ∙ ap (λ (x : List Event). x ++ Leave a.me.seat next.Entry ∷ []) own;
       legal = subst (λ (m : Monitor). IsLegal m history) same (subst (IsLegal (monitor_of k o g)) (sym is_history) all_legal);
       contents = is_state ∙ (λ i. data_of (same i) (sym is_history i));
       few =
@@ -123,11 +129,16 @@ pub unqueued_all : (k : Rules) (o : Object) (f g : FloorView) (seats : ℕ) → 
 unqueued_all k o f g seats none all same = subst (λ (x : FloorView). IsUnqueued k o x x.seats) (sym same) (subst (IsUnqueued k o f) all none)
 
 -- the hall has ended for a seat that has looked at the ticket word
-pub ended_peeked : (k : Rules) (o : Object) (a b : Holder) (history : List Event) (state : List ℕ) → b.floor ≡ a.floor → b.me.seat ≡ a.me.seat → IsEnded k o b history state → IsEnded k o a history state
-ended_peeked k o a b history state floor seat e = record {
+pub ended_peeked : (k : Rules) (o : Object) (a b : Holder) (history : List Event) (state : List ℕ) → b.floor ≡ a.floor → b.me.seat ≡ a.me.seat → b.me.mine ≡ a.me.mine → IsEnded k o b history state → IsEnded k o a history state
+ended_peeked k o a b history state floor seat mine e = record {
   nobody = subst HasNobody floor e.nobody;
   leaves = e.leaves ∙ (λ i. (floor i).history ++ Leave (seat i) next.Entry ∷ []);
+  own = ap (λ (j : ℕ). events_of history j) (sym seat) ∙ e.own ∙ (λ i. mine i ++ Leave (seat i) next.Entry ∷ []);
   legal = subst (λ (f : FloorView). IsLegal (monitor_of k o f) history) floor e.legal;
   contents = e.contents ∙ ap (λ (f : FloorView). data_of (monitor_of k o f) history) floor;
   few = subst (λ (f : FloorView). length history ≤ f.seats * f.budget) floor e.few;
 }
+
+-- somebody is in a queue, so there was no look
+pub busy_unlooked : (k : Rules) (o : Object) (a : Holder) → HasSomebody k o a.floor → IsBusy k o a a
+busy_unlooked k o a x = record { some = inl x; is = refl; looks = omega arith; steps = omega arith; remembers = record { knew = λ knew. knew; unlooked = λ _. refl } }

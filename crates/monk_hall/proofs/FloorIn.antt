@@ -29,9 +29,10 @@ use Rattle.monk_world.specs.Places.{stage, chosen, open_turn, due_to, turn_chose
 use Rattle.monk_world.specs.Put.{put}
 use Rattle.monk_world.specs.Sound.{left_within}
 use Rattle.monk_world.specs.State.{State, grown}
-use Rattle.monk_world.specs.StepTable.{out_event, release_next}
+use Rattle.monk_world.specs.StepTable.{IsStep, out_event, release_next}
 use Rattle.monk_world.specs.Steps.{after_in}
 use Rattle.monk_world.specs.World.{World}
+use Rattle.monk_world.specs.declared.answer.Answer.TheVariants as answer
 use Rattle.monk_world.specs.declared.home.Home.{Home}
 use Rattle.monk_world.specs.declared.place.Place.{Place}
 use Rattle.monk_world.specs.declared.place.Place.TheVariants.{Idle, Ticket, Due, Active, Back, Passing, Inner}
@@ -41,6 +42,7 @@ use Rattle.monk_world.proofs.PutLaws.{at_put, put_here}
 use Rattle.monk_world.proofs.TestLaws.{names_chosen}
 use Rattle.monk_hall.specs.Changes.{gave, source_at, back_after}
 use Rattle.monk_hall.specs.Floors.{StartsWith, GoesOn, IsOwn, AreOwn}
+use Rattle.monk_hall.specs.Laws.{BringsHome}
 use Rattle.monk_hall.specs.Layout.{floor_of, shown, shown_world}
 use Rattle.monk_hall.specs.Records.{View, IsOne, the}
 use Rattle.monk_hall.specs.Rule.{IsHall, AreTold, CountsCalls}
@@ -157,27 +159,32 @@ module _ (k : Rules) (o : Object) (c : Setting) (kind : IsKind k) (s : table.Sta
   mine_long : events_of before r.seat ≡ events_of h.2.history r.seat ++ ret.goes_on.since
   mine_long = ap (λ (g : List Event). events_of g r.seat) goes_is ∙ private.own_more r.seat h.2.history ret.goes_on.since ret.goes_on.own
 
+  legal_before : IsLegal (monitor_of k o (floor_of c before)) before
+  legal_before = subst (λ (g : FloorView). IsLegal (monitor_of k o g) before) before_is ret.goes_on.legal
+
   kept_before : IsKept k o c.seats c.conds (shown c s.words h.0 before)
   kept_before =
       let long = ap length mine_long ∙ length-append (events_of h.2.history r.seat) ret.goes_on.since in
       let room : left_of ret.before.budget before r.seat ≡ left_of c.budget before r.seat = ap (λ (g : FloorView). left_of g.budget before r.seat) before_is in
       let some = ret.left in
-      let legal : IsLegal (monitor_of k o (floor_of c before)) before = subst (λ (g : FloorView). IsLegal (monitor_of k o g) before) before_is ret.goes_on.legal in
       subst (λ (g : List Event). IsKept k o c.seats c.conds (shown c s.words h.0 g)) (sym goes_is)
       (private.more_kept k o (stepping.state k o c kind s h id r here) c.seats c.conds r.seat q ret.goes_on.since h.2.kept (stepping.near k o c kind s h id r here) at_active ret.goes_on.own
-      (subst (IsLegal (monitor_of k o (floor_of c before))) goes_is legal) (omega arith))
+      (subst (IsLegal (monitor_of k o (floor_of c before))) goes_is legal_before) (omega arith))
 
   abbrev old : State
   old = shown c s.words h.0 before
 
-  kept_after : IsKept k o c.seats c.conds (record old { world = after_in old.world r.seat ret.choice ret.to; floor = grown (floor_of c before) last })
-  kept_after =
+  taken : releasing.IsTaken k o old c.seats c.conds r.seat q kind kept_before (stepping.near k o c kind s h id r here) at_active ret.to ret.choice ret.call
+  taken =
       releasing.release_kept k o old c.seats c.conds r.seat q kind kept_before (stepping.near k o c kind s h id r here) at_active ret.to ret.call ret.wish ret.choice ret.release
       (subst (λ (g : FloorView). MayCall (monitor_of k o g) before ret.call) before_is ret.may)
       (subst (λ (g : FloorView). left_within ret.to < left_of g.budget before r.seat) before_is ret.left)
       (ret.chosen ∙ ap (λ (g : FloorView). choice_of k o (stands_of k o g) ret.call r.known ret.wish) before_is
       ∙ ap (λ (y : Record). choice_of k o (stands_of k o (floor_of c before)) ret.call y.known ret.wish) (sym (stepping.is k o c kind s h id r here)))
       ret.away
+
+  kept_after : IsKept k o c.seats c.conds (record old { world = after_in old.world r.seat ret.choice ret.to; floor = grown (floor_of c before) last })
+  kept_after = taken.is_kept
 
   -- where the seat stands now
   back_is : w.place ≡ Back ret.choice ret.to
@@ -271,19 +278,29 @@ module _ (k : Rules) (o : Object) (c : Setting) (kind : IsKind k) (s : table.Sta
         calls = calls_after;
       }
 
-  pub gives_at : IsHall k o c (record { words = s.words; homes = set s.homes 0 (maybe.some (Some f)); views = set s.views id (w ∷ []) })
-  gives_at = (
-    put h.0 r.seat w,
-    seats.shown_set c s.views h.0 h.1 id r here w refl refl,
-    record {
-      past = f.history;
-      history = f.history;
-      some_seat = h.2.some_seat;
-      wide = h.2.wide;
-      kept = subst (IsKept k o c.seats c.conds) same kept_after;
-      told = told_after;
-    },
-  )
+  pub gives_at : BringsHome k o c s h r.seat (record { words = s.words; homes = set s.homes 0 (maybe.some (Some f)); views = set s.views id (w ∷ []) })
+  gives_at = record {
+    hall = (
+      put h.0 r.seat w,
+      seats.shown_set c s.views h.0 h.1 id r here w refl refl,
+      record {
+        past = f.history;
+        history = f.history;
+        some_seat = h.2.some_seat;
+        wide = h.2.wide;
+        kept = subst (IsKept k o c.seats c.conds) same kept_after;
+        told = told_after;
+      },
+    );
+    since = ret.goes_on.since;
+    own = ret.goes_on.own;
+    legal = subst (λ (g : List Event). IsLegal (monitor_of k o (floor_of c g)) g) goes_is legal_before;
+    command = taken.command;
+    choice = ret.choice;
+    away = ret.away;
+    step = subst (λ (g : List Event). IsStep k o (shown c s.words h.0 g) r.seat taken.command (answer.Chose ret.choice) (shown c s.words (put h.0 r.seat w) f.history)) goes_is
+        (subst (λ (t : State). IsStep k o old r.seat taken.command (answer.Chose ret.choice) t) same taken.step);
+  }
 
 pub gives_floor : (k : Rules) (o : Object) (c : Setting) → IsKind k → (slots id : ℕ) (me : Me) (f : FloorView) → IsOne me.0 → me.1 ≡ (0, Some f) ∷ [] → stage (the me.0).place ≡ 3 → Returns k o (the me.0) f
     → Allows (IsHall k o c) slots id me 0 (λ n. n) (GivesFloor (held_history me.1) me)
@@ -294,6 +311,6 @@ gives_floor k o c kind slots id me f one holds active ret =
       gave r f.history ∷ [],
       gives,
       tt,
-      subst (λ (ws : List ℕ). IsHall k o c (record { words = ws; homes = set s.homes 0 (maybe.some (Some f)); views = set s.views id (gave r f.history ∷ []) })) (sym (set-get_or s.words 0 0)) (gives_at k o c kind s h id r here active f ret),
+      subst (λ (ws : List ℕ). IsHall k o c (record { words = ws; homes = set s.homes 0 (maybe.some (Some f)); views = set s.views id (gave r f.history ∷ []) })) (sym (set-get_or s.words 0 0)) (gives_at k o c kind s h id r here active f ret).hall,
       refl,
     ))

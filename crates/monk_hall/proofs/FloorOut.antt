@@ -23,7 +23,7 @@ use Rattle.monk_world.specs.Places.{stage, ticket, source, chosen}
 use Rattle.monk_world.specs.Put.{put}
 use Rattle.monk_world.specs.Sound.{left_at}
 use Rattle.monk_world.specs.State.{State, grown}
-use Rattle.monk_world.specs.StepTable.{IsDone, may_be_told, out_event}
+use Rattle.monk_world.specs.StepTable.{IsStep, IsDone, may_be_told, out_event}
 use Rattle.monk_world.specs.Steps.{after_out}
 use Rattle.monk_world.specs.World.{World}
 use Rattle.monk_world.specs.declared.answer.Answer.TheVariants as answer
@@ -36,6 +36,7 @@ use Rattle.monk_world.proofs.DoneLaws.{IsReady}
 use Rattle.monk_world.proofs.PutLaws.{at_put, put_here}
 use Rattle.monk_hall.specs.Changes.{took, source_at}
 use Rattle.monk_hall.specs.Floors.{StartsWith, Finds}
+use Rattle.monk_hall.specs.Laws.{Takes}
 use Rattle.monk_hall.specs.Layout.{floor_of, shown, shown_world}
 use Rattle.monk_hall.specs.Records.{View, IsOne, the}
 use Rattle.monk_hall.specs.Rule.{IsHall, AreTold}
@@ -89,18 +90,22 @@ module _ (k : Rules) (o : Object) (c : Setting) (kind : IsKind k) (s : table.Sta
   after : State
   after = record { world = after_out old.world r.seat (source_at r.place); known = put old.known r.seat false; floor = grown floor came }
 
+  ready : IsReady k o old r.seat command.Out
+  ready = record {
+    near = stepping.near k o c kind s h id r here;
+    range = refl;
+    offered = refl;
+    told = ap (λ (p : Place). may_be_told p command.Out) at_due;
+    left = omega arith;
+  }
+
   kept_after : IsKept k o c.seats c.conds after
   unfolding after
-  kept_after =
-      frame.step_kept k o old r.seat command.Out answer.Now after c.seats c.conds (Due (source_at r.place)) kind kept_old
-      (record {
-        near = stepping.near k o c kind s h id r here;
-        range = refl;
-        offered = refl;
-        told = ap (λ (p : Place). may_be_told p command.Out) at_due;
-        left = omega arith;
-      })
-      at_due (refl, refl)
+  kept_after = frame.step_kept k o old r.seat command.Out answer.Now after c.seats c.conds (Due (source_at r.place)) kind kept_old ready at_due (refl, refl)
+
+  step_after : IsStep k o old r.seat command.Out answer.Now after
+  unfolding after
+  step_after = frame.step_is k o old r.seat command.Out answer.Now after (Due (source_at r.place)) ready at_due (refl, refl)
 
   same : Path State after (shown c s.words (put h.0 r.seat w) (past ++ came ∷ []))
   unfolding after
@@ -131,19 +136,23 @@ module _ (k : Rules) (o : Object) (c : Setting) (kind : IsKind k) (s : table.Sta
         calls = calls_stay world (shown_world s.words (put at r.seat w)) past r.seat w.place told.calls (sym (stepping.places_after k o c kind s h id r here w)) refl (ap chosen at_due) refl;
       }
 
-  pub takes_at : IsHall k o c (record { words = s.words; homes = set s.homes 0 maybe.none; views = set s.views id (w ∷ []) })
-  takes_at = (
-    put h.0 r.seat w,
-    seats.shown_set c s.views h.0 h.1 id r here w refl refl,
-    record {
-      past = past;
-      history = past ++ came ∷ [];
-      some_seat = h.2.some_seat;
-      wide = h.2.wide;
-      kept = subst (IsKept k o c.seats c.conds) same kept_after;
-      told = told_after;
-    },
-  )
+  pub takes_at : Takes k o c s h r.seat command.Out answer.Now (record { words = s.words; homes = set s.homes 0 maybe.none; views = set s.views id (w ∷ []) })
+  takes_at = record {
+    hall = (
+      put h.0 r.seat w,
+      seats.shown_set c s.views h.0 h.1 id r here w refl refl,
+      record {
+        past = past;
+        history = past ++ came ∷ [];
+        some_seat = h.2.some_seat;
+        wide = h.2.wide;
+        kept = subst (IsKept k o c.seats c.conds) same kept_after;
+        told = told_after;
+      },
+    );
+    step = subst (λ (g : List Event). IsStep k o (shown c s.words h.0 g) r.seat command.Out answer.Now (shown c s.words (put h.0 r.seat w) (past ++ came ∷ []))) (sym (h.2.told.home nobody).0)
+        (subst (λ (t : State). IsStep k o old r.seat command.Out answer.Now t) same step_after);
+  }
 
   entered_is : (t : ℕ) (q : Source) → source_at r.place ≡ q → used_at (Due q) ≡ 0 → ticket (Due q) ≡ t → source (Due q) ≤ 2 → enters_of past ≡ t
   entered_is t q q_is unused number outer =
@@ -185,6 +194,6 @@ takes_floor k o c kind id me one none due s h wide view small =
       took r h.2.past ∷ [],
       takes 0 (Some (floor_of c h.2.past)),
       at_home k o c kind s h id r here due,
-      subst (λ (ws : List ℕ). IsHall k o c (record { words = ws; homes = set s.homes 0 maybe.none; views = set s.views id (took r h.2.past ∷ []) })) (sym (set-get_or s.words 0 0)) (takes_at k o c kind s h id r here due),
+      subst (λ (ws : List ℕ). IsHall k o c (record { words = ws; homes = set s.homes 0 maybe.none; views = set s.views id (took r h.2.past ∷ []) })) (sym (set-get_or s.words 0 0)) (takes_at k o c kind s h id r here due).hall,
       (floor_of c h.2.past, refl, finds k o c kind s h id r here due),
     )

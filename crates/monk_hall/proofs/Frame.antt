@@ -17,7 +17,7 @@ use Rattle.monk_world.specs.Places.{stage}
 use Rattle.monk_world.specs.Right.{KeepsRight, with_seat, called}
 use Rattle.monk_world.specs.Sound.{IsSound}
 use Rattle.monk_world.specs.State.{State}
-use Rattle.monk_world.specs.StepTable.{IsDone, refusal, out_event, call_of, is_call_in_range, is_call_offered, may_be_told, left_for}
+use Rattle.monk_world.specs.StepTable.{IsDone, IsStep, IsAnswered, refusal, out_event, call_of, is_call_in_range, is_call_offered, may_be_told, left_for}
 use Rattle.monk_world.specs.World.{World}
 use Rattle.monk_world.specs.declared.answer.Answer.{Answer}
 use Rattle.monk_world.specs.declared.answer.Answer.TheVariants as answer
@@ -59,6 +59,11 @@ not_refused k o s i c r =
     (nat_lt (left_of s.floor.budget s.floor.history i) (left_for c))
     (both (nat_lt i s.floor.seats) (is_call_in_range o s.floor (call_of i c)) (below i s.floor.seats r.near) r.range) r.offered r.told
     (not_below (left_of s.floor.budget s.floor.history i) (left_for c) r.left)
+
+-- it is a step of the world
+pub step_is : (k : Rules) (o : Object) (s : State) (i : ℕ) (c : Command) (a : Answer) (t : State) (p : Place) → IsReady k o s i c → s.world.place i ≡ p → IsDone k o s i p c a t → IsStep k o s i c a t
+step_is k o s i c a t p ready at done =
+    subst (λ (x : Option Answer). IsAnswered k o s i c x a t) (sym (not_refused k o s i c ready)) (subst (λ (q : Place). IsDone k o s i q c a t) (sym at) done)
 
 -- the shown world takes a step, by its definition
 pub step_kept : (k : Rules) (o : Object) (s : State) (i : ℕ) (c : Command) (a : Answer) (t : State) (seats conds : ℕ) (p : Place) → IsKind k → IsKept k o seats conds s → IsReady k o s i c

@@ -30,6 +30,7 @@ use Rattle.monk_world.specs.declared.place.Place.TheVariants.{Idle, Ticket, Due,
 use Rattle.monk_world.proofs.DoneLaws.{IsReady}
 use Rattle.monk_world.proofs.PutLaws.{at_put, put_here, put_else, all_back}
 use Rattle.monk_hall.specs.Changes.{handed_on, home_at, source_at}
+use Rattle.monk_hall.specs.Laws.{Takes}
 use Rattle.monk_hall.specs.Layout.{tickets, unpassed, shown, shown_world, place_word, seat_word}
 use Rattle.monk_hall.specs.Records.{View, IsOne, the}
 use Rattle.monk_hall.specs.Rule.{IsHall, IsKeptHall, CountsCalls}
@@ -81,8 +82,8 @@ told_to_grant x m to e = names_seat x m e
 
 module _ (k : Rules) (o : Object) (c : Setting) (kind : IsKind k) (s : table.State (Option FloorView) View) (h : IsHall k o c s) (id : ℕ) (r : Record) (here : get_elem? s.views id ≡ maybe.some (r ∷ [])) where
   -- step 7
-  grants_ticket_at : stage r.place ≡ 5
-      → IsHall k o c (record { words = set s.words (place_word (ticket r.place % c.seats)) (ticket r.place + 1); homes = s.homes; views = set s.views id (handed_on r ∷ []) })
+  pub grants_ticket_at : stage r.place ≡ 5
+      → Takes k o c s h r.seat command.Grant (answer.GrantedTicket (ticket r.place)) (record { words = set s.words (place_word (ticket r.place % c.seats)) (ticket r.place + 1); homes = s.homes; views = set s.views id (handed_on r ∷ []) })
   grants_ticket_at passing =
       let at = h.0 in
       let kh = h.2 in
@@ -119,7 +120,7 @@ module _ (k : Rules) (o : Object) (c : Setting) (kind : IsKind k) (s : table.Sta
       let moved : stepping.IsMoved k o c kind s h id r here w = record { seat = refl; setting = refl; seen = refl; mine = refl } in
       let apart = standing.apart_home to in
       let calls = calls_stay world (shown_world ws (put at r.seat w)) kh.past r.seat w.place kh.told.calls (sym places) (sym seat_places) (ap chosen stands) apart.chose in
-      stepping.holds_after k o c kind s h id r here w ws moved (length-set s.words (place_word q) (n + 1)) (subst (IsKept k o c.seats c.conds) same kept)
+      stepping.holds_after k o c kind s h id r here w ws moved (length-set s.words (place_word q) (n + 1)) kept same
       (stepping.knows_after k o c kind s h id r here w ws moved calls (λ e. absurd (omega arith)) apart)
 
   -- the seat that is called stands inside
@@ -173,8 +174,8 @@ module _ (k : Rules) (o : Object) (c : Setting) (kind : IsKind k) (s : table.Sta
       }
 
   -- step 8
-  calls_seat_at : (m : ℕ) → chosen r.place ≡ due_to m → (calls : ℕ) → calls ≡ granted_of r.seen m
-      → IsHall k o c (record { words = set s.words (seat_word m) calls; homes = s.homes; views = set s.views id (handed_on r ∷ []) })
+  pub calls_seat_at : (m : ℕ) → chosen r.place ≡ due_to m → (calls : ℕ) → calls ≡ granted_of r.seen m
+      → Takes k o c s h r.seat command.Grant (answer.GrantedSeat m) (record { words = set s.words (seat_word m) calls; homes = s.homes; views = set s.views id (handed_on r ∷ []) })
   calls_seat_at m names calls calls_are =
       let at = h.0 in
       let kh = h.2 in
@@ -210,16 +211,16 @@ module _ (k : Rules) (o : Object) (c : Setting) (kind : IsKind k) (s : table.Sta
         floor = old.floor;
       } in
       let moved : stepping.IsMoved k o c kind s h id r here w = record { seat = refl; setting = refl; seen = refl; mine = refl } in
-      stepping.holds_after k o c kind s h id r here w ws moved (length-set s.words (seat_word m) calls) (subst (IsKept k o c.seats c.conds) same kept)
+      stepping.holds_after k o c kind s h id r here w ws moved (length-set s.words (seat_word m) calls) kept same
       (stepping.knows_after k o c kind s h id r here w ws moved (calls_counted m ws names seat_places) (λ e. let z = ap stage x.is in absurd (omega arith)) (standing.apart_home (home_at r.place)))
 
 module _ (k : Rules) (o : Object) (c : Setting) (kind : IsKind k) (slots id : ℕ) (me : Me) (one : IsOne me.0) where
   pub grants_ticket : stage (the me.0).place ≡ 5 → Allows (IsHall k o c) slots id me (place_word (ticket (the me.0).place % c.seats)) (λ _. ticket (the me.0).place + 1) (λ _. HandsOn me (ticket (the me.0).place + 1))
   grants_ticket passing s h wide view small =
       let here : get_elem? s.views id ≡ maybe.some (the me.0 ∷ []) = view ∙ ap maybe.some one in
-      (handed_on (the me.0) ∷ [], keeps, tt, grants_ticket_at k o c kind s h id (the me.0) here passing, refl)
+      (handed_on (the me.0) ∷ [], keeps, tt, (grants_ticket_at k o c kind s h id (the me.0) here passing).hall, refl)
 
   pub calls_seat : (m calls : ℕ) → chosen (the me.0).place ≡ due_to m → calls ≡ granted_of (the me.0).seen m → Allows (IsHall k o c) slots id me (seat_word m) (λ _. calls) (λ _. HandsOn me calls)
   calls_seat m calls names calls_are s h wide view small =
       let here : get_elem? s.views id ≡ maybe.some (the me.0 ∷ []) = view ∙ ap maybe.some one in
-      (handed_on (the me.0) ∷ [], keeps, tt, calls_seat_at k o c kind s h id (the me.0) here m names calls calls_are, refl)
+      (handed_on (the me.0) ∷ [], keeps, tt, (calls_seat_at k o c kind s h id (the me.0) here m names calls calls_are).hall, refl)

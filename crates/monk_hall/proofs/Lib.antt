@@ -20,3 +20,4 @@ pub mod KindLaws
 pub mod ClosingLaws
 pub mod ResumeLaws
 pub mod Crossing
+pub mod RuleLaws

@@ -32,15 +32,16 @@ use Rattle.monk_world.specs.State.{grown}
 use Rattle.monk_world.specs.declared.home.Home.{Home}
 use Rattle.monk_world.proofs.TestLaws.{some_above}
 use Rattle.monk_world.specs.declared.home.Home.TheVariants as home
-use Rattle.monk_hall.specs.Calls.{Released, Stayed, HasPeeked, knows}
+use Rattle.monk_hall.specs.Calls.{Released, Stayed, HasPeeked, Remembers, knows}
 use Rattle.monk_hall.specs.AfterCalls.{MatchAfter}
 use Rattle.monk_hall.specs.declared.after.After.{After}
 use Rattle.monk_hall.specs.declared.after.After.TheVariants.{Active, Parked}
+use Rattle.monk_hall.specs.Changes.{peeked}
 use Rattle.monk_hall.specs.Handing.{HasReleased, HasGone}
 use Rattle.monk_hall.specs.Layout.{word_count}
 use Rattle.monk_hall.specs.Records.{the, IsOne}
-use Rattle.monk_hall.specs.Tells.{Me, Returns, IsReleaseTo}
-use Rattle.monk_hall.specs.Tokens.{Token, Holder, IsSeated, IsHolding, IsTold}
+use Rattle.monk_hall.specs.Tells.{Me, Peeks, Returns, IsReleaseTo}
+use Rattle.monk_hall.specs.Tokens.{Token, Holder, IsSeated, IsHolding, IsTold, with_own}
 use Rattle.monk_hall.specs.declared.record.Record.{Record}
 use Rattle.monk_hall.proofs.Private.{own_event}
 use Rattle.monk_hall.proofs.Releasing.{said}
@@ -165,8 +166,15 @@ module _ {k : Rules} {o : Object} {z : TableId} {me : Me} {number calls : ℕ} {
         mine = ap (λ w. w.mine) gone.is ∙ ap (λ h. events_of h r.seat) history ∙ own_event f.history (with_next choice call) r.seat (said r.seat to call choice x.release).seat;
         looks = ap (λ w. w.looks) gone.is ∙ omega arith;
         steps = omega arith;
+        remembers = record { knew = λ knew. is_known ∙ knew; unlooked = λ _. is_known };
         told = told;
       }
+
+remembers_twice : (peeks : ℕ) (a b : Holder) → HasPeeked peeks a b → (w : Record) → Remembers b.me w → b.me.looks ≤ w.looks → Remembers a.me w
+remembers_twice peeks a b x w y more = record {
+  knew = λ knew. y.knew (x.remembers.knew knew);
+  unlooked = λ same. let n = ap (λ (h : Holder). h.me.looks) x.is in y.unlooked (omega arith) ∙ x.remembers.unlooked (omega arith);
+}
 
 -- a look at the ticket word before the release
 module _ {k : Rules} {o : Object} where
@@ -183,6 +191,7 @@ module _ {k : Rules} {o : Object} where
     mine = y.mine ∙ ap (λ (h : Holder). h.me.mine ++ with_next y.choice call ∷ []) is;
     looks = y.looks ∙ ap (λ (h : Holder). h.me.looks + 0) is ∙ omega arith;
     steps = omega arith;
+    remembers = remembers_twice peeks a b x p.me y.remembers (let n = y.looks in omega arith);
     told = y.told;
   }
 
@@ -282,7 +291,9 @@ module _ {k : Rules} {o : Object} {z : TableId} {me : Me} {number calls : ℕ} {
       (subst (λ n. Stayed k o (holder z r f) (call n) wish 0 (holder z r g)) (sym h.seated.is_seat) record {
         chosen = sym same ∙ chosen_as_known x;
         is = ap (holder z r) grows ∙ (λ i. record { hall = z; me = record r { mine = own_event f.history e r.seat seat i; looks = plus_none r.looks i; steps = plus_none r.steps i }; floor = grown f e });
+        remembers = record { knew = λ knew. knew; unlooked = λ _. refl };
         legal = subst (λ (y : FloorView). IsLegal (monitor_of k o y) y.history) (sym x.is_grown.grown) (legal-push (monitor_of k o f) f.history (with_next choice (call number)) h.goes.legal x.is_grown.allowed);
+        own = refl;
       })
 
 module _ {k : Rules} {o : Object} where
@@ -292,11 +303,23 @@ module _ {k : Rules} {o : Object} where
     is = y.is
         ∙ ap (λ (h : Holder). let z : Holder = record h { me = record h.me { known = c.me.known; mine = h.me.mine ++ with_next next.Stay call ∷ []; looks = h.me.looks + 0; steps = h.me.steps + 0 }; floor = grown h.floor (with_next next.Stay call) } in z) is
         ∙ (λ i. record a { me = record a.me { known = c.me.known; mine = a.me.mine ++ with_next next.Stay call ∷ []; looks = sym (plus_none (a.me.looks + peeks)) i; steps = sym (plus_none (a.me.steps + peeks)) i }; floor = grown a.floor (with_next next.Stay call) });
+    remembers = remembers_twice peeks a b x c.me y.remembers (let n = ap (λ (h : Holder). h.me.looks) y.is in omega arith);
     legal = y.legal;
+    own = y.own;
   }
 
+-- the active seat has looked at the ticket word
+pub peeked_once : (z y : TableId) (me new : Me) (f : FloorView) (found : ℕ) → y ≡ z → Peeks me found new → (a : Holder) → holder z (the me.0) f ≡ a → HasPeeked 1 a (holder y (the new.0) f)
+peeked_once z y me new f found same step a is =
+    let r = the me.0 in let w = peeked r found in let one : (n : ℕ) → suc n ≡ n + 1 = λ n. omega arith in
+    subst (λ (b : Holder). HasPeeked 1 b (holder y (the new.0) f)) is record {
+      remembers = record { knew = step.1; unlooked = λ e. let more = ap (λ (m : Me). (the m.0).looks) step.0 in absurd (omega arith) };
+      known = w.known;
+      is = (λ i. holder (same i) (the (step.0 i).0) f) ∙ (λ i. record { hall = z; me = record (with_own r f) { known = w.known; looks = one r.looks i; steps = one r.steps i }; floor = f });
+    }
+
 pub peeked_none : (n : ℕ) (a : Holder) → n ≡ 0 → HasPeeked n a a
-peeked_none n a e = subst (λ m. HasPeeked m a a) (sym e) record { known = a.me.known; is = λ i. record a { me = record a.me { looks = plus_none a.me.looks i; steps = plus_none a.me.steps i } } }
+peeked_none n a e = subst (λ m. HasPeeked m a a) (sym e) record { remembers = record { knew = λ knew. knew; unlooked = λ _. refl }; known = a.me.known; is = λ i. record a { me = record a.me { looks = plus_none a.me.looks i; steps = plus_none a.me.steps i } } }
 
 module _ {k : Rules} {o : Object} {z : TableId} {me : Me} {number calls : ℕ} {f : FloorView} where
   pub has_cond : IsHolding k o z me number calls f → (c : ℕ) (a : Holder) → holder z (the me.0) f ≡ a → c < a.me.setting.conds → c < f.conds

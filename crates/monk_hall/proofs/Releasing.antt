@@ -17,7 +17,7 @@ use Rattle.monk_world.specs.Kept.{IsKept}
 use Rattle.monk_world.specs.Places.{stage}
 use Rattle.monk_world.specs.Sound.{left_within}
 use Rattle.monk_world.specs.State.{State, grown}
-use Rattle.monk_world.specs.StepTable.{IsDone, release_next, call_of, left_for, may_be_told, is_call_in_range, is_call_offered}
+use Rattle.monk_world.specs.StepTable.{IsDone, IsStep, release_next, call_of, left_for, may_be_told, is_call_in_range, is_call_offered}
 use Rattle.monk_world.specs.Steps.{after_in}
 use Rattle.monk_world.specs.declared.answer.Answer.TheVariants as answer
 use Rattle.monk_world.specs.declared.command.Command.{Command}
@@ -27,9 +27,10 @@ use Rattle.monk_world.specs.declared.home.Home.TheVariants as home
 use Rattle.monk_world.specs.declared.place.Place.{Place}
 use Rattle.monk_world.specs.declared.place.Place.TheVariants.{Active, Back}
 use Rattle.monk_world.specs.declared.source.Source.{Source}
+use Rattle.monk_world.proofs.DoneLaws.{IsReady}
 use Rattle.monk_hall.specs.Changes.{back_after, choice_in}
 use Rattle.monk_hall.specs.Tells.{IsReleaseTo}
-use Rattle.monk_hall.proofs.Frame.{step_kept}
+use Rattle.monk_hall.proofs.Frame.{step_kept, step_is}
 
 -- where the seat stands after its release
 pub back_is : (i : ℕ) (to : Home) (call : Event) (x : Next) → IsReleaseTo i to call → back_after (Some (with_next x call)) ≡ Back x to
@@ -86,25 +87,40 @@ module _ (k : Rules) (o : Object) (s : State) (seats conds : ℕ) (i : ℕ) (q :
       subst (λ (b : Bool). IsKept k o seats conds (record s { world = cond b s.world (after_in s.world i x to); floor = grown s.floor (with_next x e) })) stay
       (subst (λ (z : Next). IsKept k o seats conds (by_table z to e)) (sym same) h)
 
+  away_step : (m : Command) (x y : Next) (to : Home) (e : Event) → x ≡ y → is_stay (Some x) ≡ false → IsStep k o s i m (answer.Chose y) (by_table y to e) → IsStep k o s i m (answer.Chose x) (released x to e)
+  away_step m x y to e same stay h =
+      subst (λ (b : Bool). IsStep k o s i m (answer.Chose x) (record s { world = cond b s.world (after_in s.world i x to); floor = grown s.floor (with_next x e) })) stay
+      (subst (λ (z : Next). IsStep k o s i m (answer.Chose z) (by_table z to e)) (sym same) h)
+
+  -- a release is a step of the world
+  pub record IsTaken (to : Home) (x : Next) (e : Event) : Type 0 where
+    pub command : Command
+    pub is_kept : IsKept k o seats conds (released x to e)
+    pub step : IsStep k o s i command (answer.Chose x) (released x to e)
+
   -- what a release keeps, as it is called
   abbrev Keeps : Home → Pick → Next → Event → Type 0
   Keeps to wish x e =
       MayCall (monitor_of k o s.floor) s.floor.history e → left_within to < left_of s.floor.budget s.floor.history i → x ≡ release_next k o s i e wish → is_stay (Some x) ≡ false
-      → IsKept k o seats conds (released x to e)
+      → IsTaken to x e
 
   by_command : (m : Command) (wish : Pick) (to : Home) (e : Event) → call_of i m ≡ Some e → may_be_told (Active q) m ≡ true → left_for m ≡ left_within to + 1
       → IsDone k o s i (Active q) m (answer.Chose (release_next k o s i e wish)) (by_table (release_next k o s i e wish) to e) → (x : Next) → Keeps to wish x e
   by_command m wish to e call told left_is done x may left chosen stay =
-      away x (release_next k o s i e wish) to e chosen stay
-      (step_kept k o s i m (answer.Chose (release_next k o s i e wish)) (by_table (release_next k o s i e wish) to e) seats conds (Active q) kind kept
-      (record {
+      let ready : IsReady k o s i m = record {
         near = near;
         range = subst (λ (y : Option Event). is_call_in_range o s.floor y ≡ true) (sym call) may.in_range;
         offered = subst (λ (y : Option Event). is_call_offered k y ≡ true) (sym call) may.offered;
         told = ap (λ (p : Place). may_be_told p m) active ∙ told;
         left = omega arith;
-      })
-      active done)
+      } in
+      let table = by_table (release_next k o s i e wish) to e in
+      let chose = answer.Chose (release_next k o s i e wish) in
+      record {
+        command = m;
+        is_kept = away x (release_next k o s i e wish) to e chosen stay (step_kept k o s i m chose table seats conds (Active q) kind kept ready active done);
+        step = away_step m x (release_next k o s i e wish) to e chosen stay (step_is k o s i m chose table (Active q) ready active done);
+      }
 
   -- each of the five
   pub release_kept : (to : Home) (call : Event) (wish : Pick) (x : Next) → IsReleaseTo i to call → Keeps to wish x call

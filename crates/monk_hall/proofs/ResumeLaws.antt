@@ -20,4 +20,5 @@ entered_same k o p q a hall me e =
       first = f.first;
       next = f.next;
       legal = f.legal;
+      own = f.own;
     }

@@ -17,12 +17,13 @@ use Rattle.monk_world.specs.Put.{put}
 use Rattle.monk_world.specs.Sound.{IsSound}
 use Rattle.monk_world.specs.State.{State}
 use Rattle.monk_world.specs.World.{World}
-use Rattle.monk_world.specs.StepTable.{IsDone}
+use Rattle.monk_world.specs.StepTable.{IsDone, IsStep}
 use Rattle.monk_world.specs.declared.answer.Answer.{Answer}
 use Rattle.monk_world.specs.declared.command.Command.{Command}
 use Rattle.monk_world.specs.declared.place.Place.{Place}
 use Rattle.monk_world.proofs.DoneLaws.{IsReady}
 use Rattle.monk_hall.specs.Floors.{StartsWith}
+use Rattle.monk_hall.specs.Laws.{Takes}
 use Rattle.monk_hall.specs.Layout.{shown, shown_world}
 use Rattle.monk_hall.specs.Records.{View}
 use Rattle.monk_hall.specs.Rule.{IsHall, IsKeptHall, AreTold, CountsCalls}
@@ -82,8 +83,15 @@ module _ (k : Rules) (o : Object) (c : Setting) (kind : IsKind k) (s : table.Sta
       omega arith
 
   -- the shown world takes a step of its definition
-  pub takes_step : (m : Command) (a : Answer) (t : State) (p : Place) → IsReady k o state r.seat m → r.place ≡ p → IsDone k o state r.seat p m a t → IsKept k o c.seats c.conds t
-  takes_step m a t p ready at_p done = frame.step_kept k o state r.seat m a t c.seats c.conds p kind kept_hall.kept ready (stands_at p at_p) done
+  pub record IsTaken (m : Command) (a : Answer) (t : State) : Type 0 where
+    pub kept : IsKept k o c.seats c.conds t
+    pub step : IsStep k o state r.seat m a t
+
+  pub takes_step : (m : Command) (a : Answer) (t : State) (p : Place) → IsReady k o state r.seat m → r.place ≡ p → IsDone k o state r.seat p m a t → IsTaken m a t
+  takes_step m a t p ready at_p done = record {
+    kept = frame.step_kept k o state r.seat m a t c.seats c.conds p kind kept_hall.kept ready (stands_at p at_p) done;
+    step = frame.step_is k o state r.seat m a t p ready (stands_at p at_p) done;
+  }
 
   -- the seat's record has changed, as its own step may change it that leaves the history
   pub record IsMoved (w : Record) : Type 0 where
@@ -107,22 +115,25 @@ module _ (k : Rules) (o : Object) (c : Setting) (kind : IsKind k) (s : table.Sta
   pub known_stays : (w : Record) → w.known ≡ r.known → Path (ℕ → Bool) state.known (λ j. (put at r.seat w j).known)
   known_stays w e = sym (field_stays (λ (y : Record). y.known) at r.seat w (ap (λ (y : Record). y.known) is ∙ sym e))
 
-  -- the rule holds after a step that leaves the history and the floor where they are
-  pub holds_after : (w : Record) (ws : List ℕ) → IsMoved w → length ws ≡ length s.words → IsKept k o c.seats c.conds (shown c ws (put at r.seat w) kept_hall.history)
+  -- the rule holds after a step that leaves the history and the floor where they are, and it is a step of the world
+  pub holds_after : (w : Record) (ws : List ℕ) → IsMoved w → length ws ≡ length s.words → {m : Command} {a : Answer} {t : State} → IsTaken m a t → Path State t (shown c ws (put at r.seat w) kept_hall.history)
       → AreTold k o c s.homes (put at r.seat w) (shown_world ws (put at r.seat w)) kept_hall.past kept_hall.history
-      → IsHall k o c (record { words = ws; homes = s.homes; views = set s.views id (w ∷ []) })
-  holds_after w ws moved wide kept told = (
-    put at r.seat w,
-    seats.shown_set c s.views at h.1 id r here w moved.seat moved.setting,
-    record {
-      past = kept_hall.past;
-      history = kept_hall.history;
-      some_seat = kept_hall.some_seat;
-      wide = wide ∙ kept_hall.wide;
-      kept = kept;
-      told = told;
-    },
-  )
+      → Takes k o c s h r.seat m a (record { words = ws; homes = s.homes; views = set s.views id (w ∷ []) })
+  holds_after w ws moved wide {m} {a} {t} taken same told = record {
+    hall = (
+      put at r.seat w,
+      seats.shown_set c s.views at h.1 id r here w moved.seat moved.setting,
+      record {
+        past = kept_hall.past;
+        history = kept_hall.history;
+        some_seat = kept_hall.some_seat;
+        wide = wide ∙ kept_hall.wide;
+        kept = subst (IsKept k o c.seats c.conds) same taken.kept;
+        told = told;
+      },
+    );
+    step = subst (λ (z : State). IsStep k o state r.seat m a z) same taken.step;
+  }
 
   -- what the seats know after a step of a seat that has neither the floor nor a choice, before and after
   pub knows_after : (w : Record) (ws : List ℕ) → IsMoved w → CountsCalls (shown_world ws (put at r.seat w)) kept_hall.past → stage r.place ≢ 3 → IsApart w.place

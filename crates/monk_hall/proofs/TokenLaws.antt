@@ -132,6 +132,7 @@ module _ {k : Rules} {o : Object} where
     first = λ t is. x.first t (same ∙ is);
     next = λ t is. x.next t (same ∙ is);
     legal = goes.legal;
+    own = refl;
   }
 
   -- a step leaves the seat of the same table, and its view is this
@@ -205,16 +206,17 @@ pub record IsAsBefore (r w : Record) : Type 0 where
   pub setting : w.setting ≡ r.setting
   pub seen : w.seen ≡ r.seen
   pub mine : w.mine ≡ r.mine
+  pub looks : w.looks ≤ r.looks + 1
   pub steps : w.steps ≤ r.steps + 1
 
 look_leaves : (p : Place) (r : Record) (found : ℕ) → IsAsBefore r (looked_from p r found)
-look_leaves Idle r found = record { seat = refl; setting = refl; seen = refl; mine = refl; steps = omega arith }
-look_leaves (Ticket t) r found = record { seat = refl; setting = refl; seen = refl; mine = refl; steps = omega arith }
-look_leaves (Due q) r found = record { seat = refl; setting = refl; seen = refl; mine = refl; steps = omega arith }
-look_leaves (Active q) r found = record { seat = refl; setting = refl; seen = refl; mine = refl; steps = omega arith }
-look_leaves (Back x to) r found = record { seat = refl; setting = refl; seen = refl; mine = refl; steps = omega arith }
-look_leaves (Passing t to) r found = record { seat = refl; setting = refl; seen = refl; mine = refl; steps = omega arith }
-look_leaves Inner r found = record { seat = refl; setting = refl; seen = refl; mine = refl; steps = omega arith }
+look_leaves Idle r found = record { seat = refl; setting = refl; seen = refl; mine = refl; looks = omega arith; steps = omega arith }
+look_leaves (Ticket t) r found = record { seat = refl; setting = refl; seen = refl; mine = refl; looks = omega arith; steps = omega arith }
+look_leaves (Due q) r found = record { seat = refl; setting = refl; seen = refl; mine = refl; looks = omega arith; steps = omega arith }
+look_leaves (Active q) r found = record { seat = refl; setting = refl; seen = refl; mine = refl; looks = omega arith; steps = omega arith }
+look_leaves (Back x to) r found = record { seat = refl; setting = refl; seen = refl; mine = refl; looks = omega arith; steps = omega arith }
+look_leaves (Passing t to) r found = record { seat = refl; setting = refl; seen = refl; mine = refl; looks = omega arith; steps = omega arith }
+look_leaves Inner r found = record { seat = refl; setting = refl; seen = refl; mine = refl; looks = omega arith; steps = omega arith }
 
 came_looked : (t : ℕ) (b : Bool) → came_by (looked t b) ≡ Granted t
 came_looked t true = refl
@@ -251,10 +253,13 @@ module _ {k : Rules} {o : Object} where
         first = λ t is. x.first t (came ∙ is);
         next = λ t is. x.next t (came ∙ is);
         legal = x.legal;
+        own = x.own;
       }
 
-  pub steps_looked : (p q : Token) → Looked k o p q → q.me.steps ≤ p.me.steps + 1
-  steps_looked p q l = let s = (look_leaves p.me.place p.me l.found).steps in let e = ap (λ w. w.steps) l.me in omega arith
+  pub few_looked : (p q : Token) → Looked k o p q → (q.me.looks ≤ p.me.looks + 1) × (q.me.steps ≤ p.me.steps + 1)
+  few_looked p q l =
+      let s = look_leaves p.me.place p.me l.found in let looks = s.looks in let steps = s.steps in let same_looks = ap (λ w. w.looks) l.me in let same_steps = ap (λ w. w.steps) l.me in
+      (omega arith, omega arith)
 
   -- an event of the active seat that keeps the turn with it
   pub grown_goes : (r : Record) (f : FloorView) (e : Event) → GoesOn k o r f → seat_of e ≡ r.seat → turn_by (seat_of e) (next_of e) ≡ Owned r.seat → is_enter e ≡ false → IsAllowed (monitor_of k o f) f.history e
@@ -288,4 +293,5 @@ module _ {k : Rules} {o : Object} where
   grown_does z r f g e seat legal allowed grows = record {
     is = ap (holder z r) grows ∙ (λ i. record { hall = z; me = record r { mine = own_event f.history e r.seat seat i }; floor = grown f e });
     legal = subst (λ y. IsLegal (monitor_of k o y) y.history) (sym grows) (legal-push (monitor_of k o f) f.history e legal allowed);
+    own = refl;
   }

@@ -31,6 +31,7 @@ use Rattle.monk_world.proofs.BoundLaws.{few_drawn}
 use Rattle.monk_world.proofs.DoneLaws.{IsReady}
 use Rattle.monk_hall.specs.Changes.{drew, looked_for_ticket, looked_for_call, peeked, took_off, home_at, source_at}
 use Rattle.monk_hall.specs.Floors.{StartsWith}
+use Rattle.monk_hall.specs.Laws.{Takes}
 use Rattle.monk_hall.specs.Layout.{tickets, unpassed, shown, shown_world, place_word, seat_word}
 use Rattle.monk_hall.specs.Records.{View, IsOne, the}
 use Rattle.monk_hall.specs.Rule.{IsHall, IsKeptHall}
@@ -48,8 +49,8 @@ use Rattle.monk_hall.specs.Rule.{CountsCalls}
 -- a step of a seat that leaves the history and the floor where they are
 module _ (k : Rules) (o : Object) (c : Setting) (kind : IsKind k) (s : table.State (Option FloorView) View) (h : IsHall k o c s) (id : ℕ) (r : Record) (here : get_elem? s.views id ≡ maybe.some (r ∷ [])) where
   -- step 1
-  arrives_at : r.place ≡ Idle → length r.mine + 2 ≤ r.setting.budget → (x : ℕ) → x ≡ (slice_index s.words 0 + 4294967297) % 18446744073709551616
-      → IsHall k o c (record { words = set s.words 0 x; homes = s.homes; views = set s.views id (drew r (slice_index s.words 0) ∷ []) })
+  pub arrives_at : r.place ≡ Idle → length r.mine + 2 ≤ r.setting.budget → (x : ℕ) → x ≡ (slice_index s.words 0 + 4294967297) % 18446744073709551616
+      → Takes k o c s h r.seat command.Arrive (answer.Arrived (tickets (slice_index s.words 0)) (unpassed (slice_index s.words 0))) (record { words = set s.words 0 x; homes = s.homes; views = set s.views id (drew r (slice_index s.words 0) ∷ []) })
   arrives_at idle room x x_is =
       let at = h.0 in
       let kh = h.2 in
@@ -88,11 +89,12 @@ module _ (k : Rules) (o : Object) (c : Setting) (kind : IsKind k) (s : table.Sta
       let moved : stepping.IsMoved k o c kind s h id r here w = record { seat = refl; setting = refl; seen = refl; mine = refl } in
       let apart = standing.apart_arrived (tickets found) (unpassed found) in
       let calls = calls_stay world (shown_world ws (put at r.seat w)) kh.past r.seat w.place kh.told.calls (sym places) (sym seat_places) (ap chosen (stepping.stands_at k o c kind s h id r here Idle idle)) apart.chose in
-      stepping.holds_after k o c kind s h id r here w ws moved (length-set s.words 0 x) (subst (IsKept k o c.seats c.conds) same kept)
+      stepping.holds_after k o c kind s h id r here w ws moved (length-set s.words 0 x) kept same
       (stepping.knows_after k o c kind s h id r here w ws moved calls (λ e. let z = ap stage idle in absurd (omega arith)) apart)
 
   -- step 2
-  looks_for_ticket_at : stage r.place ≡ 1 → IsHall k o c (record s { views = set s.views id (looked_for_ticket r (slice_index s.words (place_word (ticket r.place % c.seats))) ∷ []) })
+  pub looks_for_ticket_at : stage r.place ≡ 1
+      → Takes k o c s h r.seat command.Look (answer.Looked (slice_index s.words (place_word (ticket r.place % c.seats)) == ticket r.place + 1)) (record s { views = set s.views id (looked_for_ticket r (slice_index s.words (place_word (ticket r.place % c.seats))) ∷ []) })
   looks_for_ticket_at waits =
       let at = h.0 in
       let kh = h.2 in
@@ -123,11 +125,12 @@ module _ (k : Rules) (o : Object) (c : Setting) (kind : IsKind k) (s : table.Sta
       let moved : stepping.IsMoved k o c kind s h id r here w = record { seat = refl; setting = refl; seen = refl; mine = refl } in
       let apart = standing.apart_looked n (found == n + 1) in
       let calls = calls_stay world (shown_world s.words (put at r.seat w)) kh.past r.seat w.place kh.told.calls (sym places) refl (ap chosen stands) apart.chose in
-      stepping.holds_after k o c kind s h id r here w s.words moved refl (subst (IsKept k o c.seats c.conds) same kept)
+      stepping.holds_after k o c kind s h id r here w s.words moved refl kept same
       (stepping.knows_after k o c kind s h id r here w s.words moved calls (λ e. absurd (omega arith)) apart)
 
   -- step 3
-  looks_for_call_at : stage r.place ≡ 6 → IsHall k o c (record s { views = set s.views id (looked_for_call r (slice_index s.words (seat_word r.seat)) ∷ []) })
+  pub looks_for_call_at : stage r.place ≡ 6
+      → Takes k o c s h r.seat command.Look (answer.Looked (slice_index s.words (seat_word r.seat) == r.count + 1)) (record s { views = set s.views id (looked_for_call r (slice_index s.words (seat_word r.seat)) ∷ []) })
   looks_for_call_at parked =
       let at = h.0 in
       let kh = h.2 in
@@ -139,6 +142,7 @@ module _ (k : Rules) (o : Object) (c : Setting) (kind : IsKind k) (s : table.Sta
       let place_is : r.place ≡ Inner = standing.inner_at r.place parked in
       let stands = stepping.stands_at k o c kind s h id r here Inner place_is in
       let n : ℕ = world.count r.seat in
+      let counted_is : n ≡ r.count = ap (λ (y : Record). y.count) is in
       let ready : IsReady k o old r.seat command.Look = record {
         near = stepping.near k o c kind s h id r here;
         range = refl;
@@ -159,11 +163,12 @@ module _ (k : Rules) (o : Object) (c : Setting) (kind : IsKind k) (s : table.Sta
       let moved : stepping.IsMoved k o c kind s h id r here w = record { seat = refl; setting = refl; seen = refl; mine = refl } in
       let apart = standing.apart_answered (found == r.count + 1) in
       let calls = calls_stay world (shown_world s.words (put at r.seat w)) kh.past r.seat w.place kh.told.calls (sym (stepping.places_after k o c kind s h id r here w)) refl (ap chosen stands) apart.chose in
-      stepping.holds_after k o c kind s h id r here w s.words moved refl (subst (IsKept k o c.seats c.conds) same kept)
-      (stepping.knows_after k o c kind s h id r here w s.words moved calls (λ e. absurd (omega arith)) apart)
+      subst (λ (x : ℕ). Takes k o c s h r.seat command.Look (answer.Looked (found == x + 1)) (record s { views = set s.views id (w ∷ []) })) counted_is
+      (stepping.holds_after k o c kind s h id r here w s.words moved refl kept same
+      (stepping.knows_after k o c kind s h id r here w s.words moved calls (λ e. absurd (omega arith)) apart))
 
   -- step 4
-  peeks_at : stage r.place ≡ 3 → IsHall k o c (record s { views = set s.views id (peeked r (slice_index s.words 0) ∷ []) })
+  pub peeks_at : stage r.place ≡ 3 → Takes k o c s h r.seat command.Peek (answer.Found (unpassed (slice_index s.words 0))) (record s { views = set s.views id (peeked r (slice_index s.words 0) ∷ []) })
   peeks_at active =
       let at = h.0 in
       let kh = h.2 in
@@ -195,7 +200,7 @@ module _ (k : Rules) (o : Object) (c : Setting) (kind : IsKind k) (s : table.Sta
       } in
       let moved : stepping.IsMoved k o c kind s h id r here w = record { seat = refl; setting = refl; seen = refl; mine = refl } in
       let calls = subst (λ (p : ℕ → Place). CountsCalls (record world { place = p; count = λ j. (put at r.seat w j).count }) kh.past) places (recount kh.told.calls) in
-      stepping.holds_after k o c kind s h id r here w s.words moved refl (subst (IsKept k o c.seats c.conds) same kept)
+      stepping.holds_after k o c kind s h id r here w s.words moved refl kept same
       (told_stays k o c s.homes at world kh.past kh.history kh.told r.seat w (ap (λ (y : Record). y.seen) (sym is)) (ap (λ (y : Record). y.mine) (sym is))
       (shown_world s.words (put at r.seat w)) calls (ap (λ (y : Record). y.place) (sym is)))
     where
@@ -209,6 +214,16 @@ module _ (k : Rules) (o : Object) (c : Setting) (kind : IsKind k) (s : table.Sta
       recount : {w : World} {past : List Event} → CountsCalls w past → {count : ℕ → ℕ} → CountsCalls (record w { count = count }) past
       recount x = record { choosing = x.choosing; settled = x.settled }
 
+  -- what it knew it finds again
+  knew_still : stage r.place ≡ 3 → r.known ≡ true → nat_le 2 (unpassed (slice_index s.words 0)) ≡ true
+  knew_still active known =
+      let is = stepping.is k o c kind s h id r here in
+      two_or_more (unpassed (slice_index s.words 0))
+      ((stepping.sound k o c kind s h id r here).known r.seat (ap (λ (y : Record). stage y.place) is ∙ active) (ap (λ (y : Record). y.known) is ∙ known))
+    where
+      two_or_more : (m : ℕ) → 2 ≤ m → nat_le 2 m ≡ true
+      two_or_more m l = grind (arith, l)
+
   -- while a seat has the floor back, not all tickets are passed on
   some_unpassed : stage r.place ≡ 4 → 0 < unpassed (slice_index s.words 0)
   some_unpassed back =
@@ -219,8 +234,8 @@ module _ (k : Rules) (o : Object) (c : Setting) (kind : IsKind k) (s : table.Sta
       omega arith
 
   -- step 6
-  takes_off_at : (to : Home) → r.place ≡ Back next.Entry to → (x : ℕ) → x ≡ (slice_index s.words 0 + 18446744073709551615) % 18446744073709551616
-      → IsHall k o c (record { words = set s.words 0 x; homes = s.homes; views = set s.views id (took_off r (slice_index s.words 0) ∷ []) })
+  pub takes_off_at : (to : Home) → r.place ≡ Back next.Entry to → (x : ℕ) → x ≡ (slice_index s.words 0 + 18446744073709551615) % 18446744073709551616
+      → Takes k o c s h r.seat command.Drop (answer.Found (unpassed (slice_index s.words 0))) (record { words = set s.words 0 x; homes = s.homes; views = set s.views id (took_off r (slice_index s.words 0) ∷ []) })
   takes_off_at to back x x_is =
       let at = h.0 in
       let kh = h.2 in
@@ -260,7 +275,7 @@ module _ (k : Rules) (o : Object) (c : Setting) (kind : IsKind k) (s : table.Sta
       let moved : stepping.IsMoved k o c kind s h id r here w = record { seat = refl; setting = refl; seen = refl; mine = refl } in
       let apart = standing.apart_dropped (tickets found) (unpassed found) (home_at r.place) in
       let calls = calls_stay world (shown_world ws (put at r.seat w)) kh.past r.seat w.place kh.told.calls (sym (stepping.places_after k o c kind s h id r here w)) (sym seat_places) (ap chosen stands) apart.chose in
-      stepping.holds_after k o c kind s h id r here w ws moved (length-set s.words 0 x) (subst (IsKept k o c.seats c.conds) same kept)
+      stepping.holds_after k o c kind s h id r here w ws moved (length-set s.words 0 x) kept same
       (stepping.knows_after k o c kind s h id r here w ws moved calls (λ e. let z = ap stage back in absurd (omega arith)) apart)
 
 module _ (k : Rules) (o : Object) (c : Setting) (kind : IsKind k) (slots id : ℕ) (me : Me) (one : IsOne me.0) where
@@ -271,25 +286,25 @@ module _ (k : Rules) (o : Object) (c : Setting) (kind : IsKind k) (slots id : �
   pub arrives : (the me.0).place ≡ Idle → length (the me.0).mine + 2 ≤ (the me.0).setting.budget → Allows (IsHall k o c) slots id me 0 (λ n. (n + 4294967297) % 18446744073709551616) (Arrives me)
   arrives idle room s h wide view small =
       let here : get_elem? s.views id ≡ maybe.some (the me.0 ∷ []) = view ∙ ap maybe.some one in
-      (drew (the me.0) (slice_index s.words 0) ∷ [], keeps, tt, arrives_at k o c kind s h id (the me.0) here idle room _ refl, (refl, stepping.seen_few k o c kind s h id (the me.0) here))
+      (drew (the me.0) (slice_index s.words 0) ∷ [], keeps, tt, (arrives_at k o c kind s h id (the me.0) here idle room _ refl).hall, (refl, stepping.seen_few k o c kind s h id (the me.0) here))
 
   pub looks_for_ticket : stage (the me.0).place ≡ 1 → Allows (IsHall k o c) slots id me (place_word (ticket (the me.0).place % c.seats)) (λ n. n) (LooksForTicket me)
   looks_for_ticket waits s h wide view small =
       let here : get_elem? s.views id ≡ maybe.some (the me.0 ∷ []) = view ∙ ap maybe.some one in
       let w = looked_for_ticket (the me.0) (slice_index s.words (place_word (ticket (the me.0).place % c.seats))) in
-      (w ∷ [], keeps, tt, loaded s (place_word (ticket (the me.0).place % c.seats)) (w ∷ []) (looks_for_ticket_at k o c kind s h id (the me.0) here waits), refl)
+      (w ∷ [], keeps, tt, loaded s (place_word (ticket (the me.0).place % c.seats)) (w ∷ []) (looks_for_ticket_at k o c kind s h id (the me.0) here waits).hall, refl)
 
   pub looks_for_call : stage (the me.0).place ≡ 6 → Allows (IsHall k o c) slots id me (seat_word (the me.0).seat) (λ n. n) (LooksForCall me)
   looks_for_call parked s h wide view small =
       let here : get_elem? s.views id ≡ maybe.some (the me.0 ∷ []) = view ∙ ap maybe.some one in
       let w = looked_for_call (the me.0) (slice_index s.words (seat_word (the me.0).seat)) in
-      (w ∷ [], keeps, tt, loaded s (seat_word (the me.0).seat) (w ∷ []) (looks_for_call_at k o c kind s h id (the me.0) here parked), refl)
+      (w ∷ [], keeps, tt, loaded s (seat_word (the me.0).seat) (w ∷ []) (looks_for_call_at k o c kind s h id (the me.0) here parked).hall, refl)
 
   pub peeks : stage (the me.0).place ≡ 3 → Allows (IsHall k o c) slots id me 0 (λ n. n) (Peeks me)
   peeks active s h wide view small =
       let here : get_elem? s.views id ≡ maybe.some (the me.0 ∷ []) = view ∙ ap maybe.some one in
       let w = peeked (the me.0) (slice_index s.words 0) in
-      (w ∷ [], keeps, tt, loaded s 0 (w ∷ []) (peeks_at k o c kind s h id (the me.0) here active), refl)
+      (w ∷ [], keeps, tt, loaded s 0 (w ∷ []) (peeks_at k o c kind s h id (the me.0) here active).hall, (refl, knew_still k o c kind s h id (the me.0) here active))
 
   pub takes_off : (to : Home) → (the me.0).place ≡ Back next.Entry to → Allows (IsHall k o c) slots id me 0 (λ n. (n + 18446744073709551615) % 18446744073709551616) (TakesOff me)
   takes_off to back s h wide view small =
@@ -297,6 +312,6 @@ module _ (k : Rules) (o : Object) (c : Setting) (kind : IsKind k) (slots id : �
         took_off (the me.0) (slice_index s.words 0) ∷ [],
         keeps,
         tt,
-        takes_off_at k o c kind s h id (the me.0) here to back _ refl,
+        (takes_off_at k o c kind s h id (the me.0) here to back _ refl).hall,
         (refl, some_unpassed k o c kind s h id (the me.0) here (ap stage back), (stepping.sound k o c kind s h id (the me.0) here).stands.keeps.behind),
       )

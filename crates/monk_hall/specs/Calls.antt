@@ -5,7 +5,7 @@ use Rattle.monk_kinds.specs.declared.mode.Pick.{Pick}
 use Rattle.monk_kinds.specs.declared.mode.Pick.TheVariants.{Entry as WishEntry, Waiter as WishWaiter, Signaller as WishSignaller}
 use Rattle.monk_object.specs.Object.{Object}
 use Rattle.monk_history.specs.Meaning.Choice.{must_stay}
-use Rattle.monk_history.specs.Meaning.Counts.{enters_of}
+use Rattle.monk_history.specs.Meaning.Counts.{enters_of, events_of}
 use Rattle.monk_history.specs.Meaning.Events.{is_stay}
 use Rattle.monk_history.specs.Meaning.Legal.{IsLegal}
 use Rattle.monk_history.specs.Meaning.Release.{with_next, choice_of}
@@ -76,7 +76,7 @@ pub record Looked (k : Rules) (o : Object) (p q : Token) : Type 0 where
 
 -- the seat is active. Its history is what came before, which begins with all that the seat had seen, and the event
 -- with which it came; that event is also the last of its own. A seat that came by a ticket finds as many enters as
--- that ticket's number
+-- that ticket's number. The seat's events in the history are its own
 pub record Entered (k : Rules) (o : Object) (p : Token) (a : Holder) : Type 0 where
   pub hall : a.hall ≡ p.hall
   pub seat : a.me.seat ≡ p.me.seat
@@ -89,6 +89,7 @@ pub record Entered (k : Rules) (o : Object) (p : Token) (a : Holder) : Type 0 wh
   pub first : (t : ℕ) → came_by p.me.place ≡ Free t → enters_of a.me.seen ≡ t
   pub next : (t : ℕ) → came_by p.me.place ≡ Granted t → enters_of a.me.seen ≡ t
   pub legal : IsLegal (monitor_of k o a.floor) a.floor.history
+  pub own : events_of a.floor.history a.me.seat ≡ a.me.mine
 
 -- the right was not there; the seat has looked once more
 pub record StillWaits (k : Rules) (o : Object) (p q : Token) : Type 0 where
@@ -115,8 +116,14 @@ peeks_of chooses wish = if chooses && wants_entry wish then 1 else 0
 abbrev pub peeks_for : Rules → Object → FloorView → Event → Pick → ℕ
 peeks_for k o f call wish = peeks_of (not (must_stay o (stands_of k o f) call)) wish
 
+-- what a seat knew of the entry it still knows, and with no look it learns nothing
+pub record Remembers (r w : Record) : Type 0 where
+  pub knew : r.known ≡ true → w.known ≡ true
+  pub unlooked : w.looks ≡ r.looks → w.known ≡ r.known
+
 -- the active seat has looked at the ticket word so often
 pub record HasPeeked (peeks : ℕ) (a b : Holder) : Type 0 where
+  pub remembers : Remembers a.me b.me
   pub known : Bool
   pub is : b ≡ record a { me = record a.me { known = known; looks = a.me.looks + peeks; steps = a.me.steps + peeks } }
 
@@ -134,6 +141,7 @@ pub record Released (k : Rules) (o : Object) (a : Holder) (call : Event) (wish :
   pub mine : p.me.mine ≡ a.me.mine ++ with_next choice call ∷ []
   pub looks : p.me.looks ≡ a.me.looks + peeks
   pub steps : p.me.steps ≤ a.me.steps + peeks + 3
+  pub remembers : Remembers a.me p.me
   pub told : IsTold k o p.me
 
 -- the seat has stayed active by this release, since the wish rules chose so
@@ -143,9 +151,12 @@ pub record Stayed (k : Rules) (o : Object) (a : Holder) (call : Event) (wish : P
     me = record a.me { known = b.me.known; mine = a.me.mine ++ with_next next.Stay call ∷ []; looks = a.me.looks + peeks; steps = a.me.steps + peeks };
     floor = grown a.floor (with_next next.Stay call);
   }
+  pub remembers : Remembers a.me b.me
   pub legal : IsLegal (monitor_of k o b.floor) b.floor.history
+  pub own : events_of b.floor.history b.me.seat ≡ b.me.mine
 
 -- the history has grown by an event of the active seat, and nothing else has changed
 pub record HasDone (k : Rules) (o : Object) (a : Holder) (e : Event) (b : Holder) : Type 0 where
   pub is : b ≡ record a { me = record a.me { mine = a.me.mine ++ e ∷ [] }; floor = grown a.floor e }
   pub legal : IsLegal (monitor_of k o b.floor) b.floor.history
+  pub own : events_of b.floor.history b.me.seat ≡ b.me.mine

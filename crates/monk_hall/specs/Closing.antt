@@ -3,6 +3,7 @@ use Rattle.std.specs.Prelude.{◌≡◌, ℕ, ◌+◌, ◌*◌, length, ◌≤�
 use Rattle.monk_kinds.specs.declared.mode.Rules.{Rules}
 use Rattle.monk_object.specs.Object.{Object}
 use Rattle.monk_history.specs.Meaning.Conditions.{condition}
+use Rattle.monk_history.specs.Meaning.Counts.{events_of}
 use Rattle.monk_history.specs.Meaning.Legal.{IsLegal}
 use Rattle.monk_history.specs.Meaning.Monitor.{data_of}
 use Rattle.monk_history.specs.Meaning.Signallers.{signallers}
@@ -13,6 +14,7 @@ use Rattle.monk_history.specs.declared.event.Event.{Event}
 use Rattle.monk_history.specs.declared.event.Event.TheVariants.{Leave}
 use Rattle.monk_history.specs.declared.event.Next.TheVariants.{Entry}
 use Rattle.monk_floor.specs.View.{FloorView, monitor_of, stands_of}
+use Rattle.monk_hall.specs.Calls.{Remembers}
 use Rattle.monk_hall.specs.Tokens.{Holder}
 
 -- every queue is empty
@@ -32,10 +34,11 @@ abbrev pub IsUnqueued : Rules → Object → FloorView → ℕ → Type 0
 IsUnqueued k o f seats = (j : ℕ) → j < seats → is_queued f.conds j (stands_of k o f) ≡ false
 
 -- the hall has ended: nobody was in a queue, and the active seat has left. The history is legal and within the budgets
--- of all seats, and the object has its data
+-- of all seats, its events of the seat are its own, and the object has its data
 pub record IsEnded (k : Rules) (o : Object) (a : Holder) (history : List Event) (state : List ℕ) : Type 0 where
   pub nobody : HasNobody a.floor
   pub leaves : history ≡ a.floor.history ++ Leave a.me.seat Entry ∷ []
+  pub own : events_of history a.me.seat ≡ a.me.mine ++ Leave a.me.seat Entry ∷ []
   pub legal : IsLegal (monitor_of k o a.floor) history
   pub contents : state ≡ data_of (monitor_of k o a.floor) history
   pub few : length history ≤ a.floor.seats * a.floor.budget
@@ -47,3 +50,4 @@ pub record IsBusy (k : Rules) (o : Object) (a b : Holder) : Type 0 where
   pub is : b ≡ record a { me = record a.me { known = b.me.known; looks = b.me.looks; steps = b.me.steps } }
   pub looks : b.me.looks ≤ a.me.looks + 1
   pub steps : b.me.steps ≤ a.me.steps + 1
+  pub remembers : Remembers a.me b.me

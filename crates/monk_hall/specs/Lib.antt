@@ -9,3 +9,4 @@ pub mod Calls
 pub mod Handing
 pub mod AfterCalls
 pub mod Closing
+pub mod Laws

@@ -1,5 +1,5 @@
 -- What each step tells the seat that takes it
-use Rattle.std.specs.Prelude.{◌≡◌, ℕ, ◌<◌, ◌≤◌, ◌⊎◌, Bool, false, List, [], ◌∷◌, ◌++◌, Option, Some, None}
+use Rattle.std.specs.Prelude.{◌≡◌, ℕ, ◌<◌, ◌≤◌, ◌⊎◌, Bool, true, false, List, [], ◌∷◌, ◌++◌, Option, Some, None}
 use Rattle.atomic_table.specs.Seated.{TableId}
 use Rattle.atomic_table.specs.Table as table
 use Rattle.monk_kinds.specs.declared.mode.Rules.{Rules}
@@ -38,8 +38,9 @@ LooksForTicket me found new = new ≡ (looked_for_ticket (the me.0) found ∷ []
 abbrev pub LooksForCall : Me → ℕ → Me → Type 0
 LooksForCall me found new = new ≡ (looked_for_call (the me.0) found ∷ [], me.1)
 
+-- what it knew it finds again: while it is active no ticket is passed on
 abbrev pub Peeks : Me → ℕ → Me → Type 0
-Peeks me found new = new ≡ (peeked (the me.0) found ∷ [], me.1)
+Peeks me found new = (new ≡ (peeked (the me.0) found ∷ [], me.1)) × ((the me.0).known ≡ true → (the new.0).known ≡ true)
 
 -- the floor comes out
 abbrev pub TakesFloor : Rules → Object → Me → ℕ → Me → Type 0

@@ -1,5 +1,6 @@
 ghost use Rattle.std.specs.Prelude.{◌≡◌, ℕ, suc, ◌+◌, ◌<◌, ◌≤◌, Bool, length};
 ghost use Rattle.monk_history.specs.Meaning.Conditions.{condition};
+ghost use Rattle.monk_history.specs.Meaning.Counts.{events_of};
 ghost use Rattle.monk_history.specs.Meaning.Legal.{IsLegal};
 ghost use Rattle.monk_history.specs.Meaning.Monitor.{data_of};
 ghost use Rattle.monk_floor.specs.View.{monitor_of};
@@ -48,10 +49,11 @@ impl<K: Kind, T: Guarded> Active<K, T> {
         self.floor.left(self.number)
     }
 
-    /// The history up to now, which is legal.
+    /// The history up to now, which is legal. The seat's events in it are its own.
     pub fn history(&self) -> &[Event]
         ensures history { result.now ≡ self.now.floor.history }
         ensures legal { IsLegal (monitor_of K.rules T.meaning self.now.floor) self.now.floor.history }
+        ensures own { events_of self.now.floor.history self.now.me.seat ≡ self.now.me.mine }
     {
         self.floor.history()
     }

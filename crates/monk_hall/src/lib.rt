@@ -13,6 +13,7 @@ mod closed;
 mod closing;
 mod hall;
 mod handing;
+pub mod laws;
 mod making;
 mod meeting;
 mod parked;

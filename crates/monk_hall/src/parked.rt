@@ -66,7 +66,7 @@ impl<K: Kind, T: Guarded> Parked<K, T> {
     /// Otherwise it gives itself back.
     pub fn poll(self, hall: &Hall<K, T>) -> Result<Active<K, T>, Parked<K, T>>
         requires { self.hall ≡ hall.now.id }
-        ensures active { IfOk result (λ a. Entered K.rules T.meaning self a × (a.me.steps ≤ self.me.steps + 3)) }
+        ensures active { IfOk result (λ a. Entered K.rules T.meaning self a × (a.me.looks ≤ self.me.looks + 1) × (a.me.steps ≤ self.me.steps + 2)) }
         ensures parked { IfErr result (λ p. StillWaits K.rules T.meaning self p × (stage self.me.place ≢ 2)) }
     {
         let looked = self.look(hall);

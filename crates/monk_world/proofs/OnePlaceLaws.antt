@@ -78,6 +78,10 @@ module _ (seats : ℕ) (s : World) (right : ℕ) (owner : ℕ → ℕ) (r : Keep
   taker : (t : ℕ) → Waits s.place owner t → (j : ℕ) × (s.place j ≡ Ticket t)
   taker t h = (owner t, is_ticket (s.place (owner t)) t h.0 h.1)
 
+  -- a seat that waits with a ticket is its owner
+  owner_is : (j t : ℕ) → s.place j ≡ Ticket t → owner t ≡ j
+  owner_is j t e = let own = r.waits j (ap stage e) in ap owner (sym (ap ticket e)) ∙ own.2
+
   -- where x has the number of the right, and its ticket is the next
   at : (x : Whereabouts) → right ≡ number x → ((k : ℕ) → x ≡ AtTicket k → k + s.unpassed ≡ s.drawn) → 0 < seats → IsInOnePlace seats s
   at x is next some = record {
@@ -96,6 +100,7 @@ module _ (seats : ℕ) (s : World) (right : ℕ) (owner : ℕ → ℕ) (r : Keep
       λ f. (r.grant (is ∙ ap number f) t (next t f)).0,
     );
     has_taker = λ t f. taker t (r.grant (is ∙ ap number f) t (next t f)).1;
+    alone = λ j m t here there. sym (owner_is j t here) ∙ owner_is m t there;
     at_seat = λ j. (
       λ h. from_seat x j (sym is ∙ call_is_there seats s right owner r j h.1),
       λ e. let a = r.is_called j (is ∙ ap number e) in (is_inner (s.place j) a.0, a.1),

@@ -1,8 +1,9 @@
-use Rattle.std.proofs.Common.{◌≡◌, ℕ, ◌+◌, ◌*◌, arith, sym, ap, ◌∙◌}
+use Rattle.std.proofs.Common.{◌≡◌, ℕ, ◌+◌, ◌*◌, arith, refl, sym, ap, subst, ◌∙◌}
 use Rattle.atomic_table.specs.Seated.{TableId}
 use Rattle.monk_floor.specs.View.{FloorView}
+use Rattle.monk_hall.specs.Closing.{HasSomebody}
 use Rattle.monk_hall.specs.Tokens.{Holder, House}
-use Rattle.monk_hall.proofs.ClosingLaws.{unqueued_all, ended_peeked}
+use Rattle.monk_hall.proofs.ClosingLaws.{unqueued_all, ended_peeked, busy_unlooked}
 use Rattle.monk_hall.proofs.closing.close.Goals as goal
 
 pub end-requires-after_bounds : goal.end-requires-after_bounds
@@ -20,4 +21,11 @@ end-requires-after_bounds g c κs within =
 pub returns-clause-ended : goal.returns-clause-ended
 returns-clause-ended g c =
     ended_peeked g.K.Kind.rules g.T.Guarded.meaning c.args.active c.peek.new.self c.end.result.history.items (g.T.Guarded.state c.end.result.object)
-    (ap (λ (a : Holder). a.floor) c.peek.ensures.peeked.is) (ap (λ (a : Holder). a.me.seat) c.peek.ensures.peeked.is) c.end.ensures
+    (ap (λ (a : Holder). a.floor) c.peek.ensures.peeked.is) (ap (λ (a : Holder). a.me.seat) c.peek.ensures.peeked.is) (ap (λ (a : Holder). a.me.mine) c.peek.ensures.peeked.is) c.end.ensures
+
+pub returns-then-has_queued-clause-busy : goal.returns-then-has_queued-clause-busy
+returns-then-has_queued-clause-busy g c = (
+  refl,
+  busy_unlooked g.K.Kind.rules g.T.Guarded.meaning c.args.active
+      (subst (λ (a : Holder). HasSomebody g.K.Kind.rules g.T.Guarded.meaning a.floor) c.active.view_is (c.has_queued.ensures.found c.if-has_queued.true)),
+)

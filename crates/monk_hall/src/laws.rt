@@ -1,0 +1,40 @@
+//! What holds of a hall's table whenever the rule holds that every step keeps, and so at every moment. Each function
+//! does nothing: its contract is the law.
+ghost use Rattle.monk_hall.specs.Laws.{RightInOnePlace, ShowsWellLed, OneHasTheRight, OneIsActive, KnownWaits, EntryWaits, ArrivalSteps, TicketLookSteps, CallLookSteps, PeekSteps, FloorOutSteps, FloorInSteps, DropSteps, TicketGrantSteps, SeatGrantSteps};
+
+/// The words, the records of the seats and the floor show a state of a world that is well led: the right to be active is
+/// in exactly one place, the history is legal, and turn and queues agree with where the seats stand.
+pub fn hall_is_well_led()
+    ensures right { RightInOnePlace }
+    ensures led { ShowsWellLed }
+{}
+
+/// At most one seat is active, and at most one has the right: two records that say so are one.
+pub fn one_is_active()
+    ensures active { OneIsActive }
+    ensures right { OneHasTheRight }
+{}
+
+/// An active seat that knows of somebody at the entry is right: besides the ticket in use another is not passed on.
+pub fn known_entry_waits()
+    ensures { KnownWaits }
+{}
+
+/// A seat goes out by entry beside somebody who could be chosen from a queue only while a ticket waits.
+pub fn chosen_entry_waits()
+    ensures { EntryWaits }
+{}
+
+/// Each step of the table, from one under the rule, leads to one under the rule, and is the step of the world by the same
+/// command and with the same answer; a floor comes home with what its seat has done and the step that released it.
+pub fn table_steps_are_the_worlds()
+    ensures arrival { ArrivalSteps }
+    ensures ticket_look { TicketLookSteps }
+    ensures call_look { CallLookSteps }
+    ensures peek { PeekSteps }
+    ensures floor_out { FloorOutSteps }
+    ensures floor_in { FloorInSteps }
+    ensures drop { DropSteps }
+    ensures ticket_grant { TicketGrantSteps }
+    ensures seat_grant { SeatGrantSteps }
+{}
