@@ -10,7 +10,7 @@ use Rattle.monk_audit.specs.Reading.{history_verdict, text_verdict}
 use Rattle.monk_audit.specs.declared.verdict.Verdict.{Verdict}
 use Rattle.monk_audit.specs.declared.text_verdict.TextVerdict.{TextVerdict}
 use Rattle.monk_audit.specs.declared.text_verdict.TextVerdict.TheVariants.{Judged, TooBig}
-use Rattle.monk.specs.Answer.{Answer, answered, answer_of, too_big, verdict_answer, unreadable}
+use Rattle.monk.specs.Answer.{Answer, reading_answer, answer_of, too_big, verdict_answer, unreadable}
 
 abbrev found : TextVerdict → Answer
 found (Judged v) = verdict_answer v
@@ -20,7 +20,7 @@ found_by : (b : Bool) (v : Verdict) → found (cond b TooBig (Judged v)) ≡ con
 found_by true v = refl
 found_by false v = refl
 
-found_is : (r : Result History ReadFault) (t : TextVerdict) → (r >>= λ h. Ok (history_verdict h)) ≡ Ok t → answered r ≡ found t
+found_is : (r : Result History ReadFault) (t : TextVerdict) → (r >>= λ h. Ok (history_verdict h)) ≡ Ok t → reading_answer r ≡ found t
 found_is (Ok h) t is =
     let told : history_verdict h ≡ t = cc in
     sym (found_by (ltb (most h.0.object) h.0.size) (verdict_of (monitor_of h.0) h.1)) ∙ ap found told
@@ -32,7 +32,7 @@ judged_answer bytes v is = found_is (text_at (2 ^ 25) bytes) (Judged v) is
 pub too_big_answer : (bytes : List ℕ) → text_verdict bytes ≡ Ok TooBig → answer_of bytes ≡ too_big
 too_big_answer bytes is = found_is (text_at (2 ^ 25) bytes) TooBig is
 
-fault_is : (r : Result History ReadFault) (f : ReadFault) → (r >>= λ h. Ok (history_verdict h)) ≡ Err f → answered r ≡ unreadable f
+fault_is : (r : Result History ReadFault) (f : ReadFault) → (r >>= λ h. Ok (history_verdict h)) ≡ Err f → reading_answer r ≡ unreadable f
 fault_is (Ok h) f is = absurd cc
 fault_is (Err g) f is =
     let same_fault : g ≡ f = cc in

@@ -19,7 +19,7 @@ use Rattle.monk_history.specs.declared.event.Event.{Event}
 use Rattle.monk_history.proofs.MeaningLaws.LegalLaws.{legal_none, legal-push, allowed_from_reason}
 use Rattle.monk_history.proofs.MeaningLaws.StepLaws.{legal_situation-push, situation-none}
 use Rattle.monk_audit.specs.Verdict.{verdict_from, verdict_of}
-use Rattle.monk_audit.specs.Reading.{verdict_at, verdict_read, judged, read_through, history_verdict, lines_verdict, text_verdict}
+use Rattle.monk_audit.specs.Reading.{verdict_at, verdict_read, verdict_of_reading, read_through, history_verdict, lines_verdict, text_verdict}
 use Rattle.monk_audit.specs.declared.verdict.Verdict.{Verdict}
 use Rattle.monk_audit.specs.declared.verdict.Verdict.TheVariants.{Legal, Forbidden}
 use Rattle.monk_audit.proofs.AuditLaws.{reason_opening}
@@ -45,13 +45,13 @@ from_here m past (e ∷ es) l =
 pub verdict_at_is : (m : Monitor) (h : List Event) → verdict_of m h ≡ verdict_at m 0 (opening_situation m) h
 verdict_at_is m h = from_here m [] h (legal_none m) ∙ ap (λ t. verdict_at m 0 t h) (situation-none m)
 
-pub judged_is : (m : Monitor) (read : Result (List Event) ReadFault) → verdict_read m 0 (opening_situation m) read ≡ judged m read
+pub judged_is : (m : Monitor) (read : Result (List Event) ReadFault) → verdict_read m 0 (opening_situation m) read ≡ verdict_of_reading m read
 judged_is m (Ok es) = ap (λ v. Ok v) (sym (verdict_at_is m es))
 judged_is m (Err f) = refl
 
 -- ---- the turns and the ends of the loop; what is to be judged is `total`
 
-pub judged_start : (m : Monitor) (t : Situation) (read : Result (List Event) ReadFault) → t ≡ opening_situation m → verdict_read m 0 t read ≡ judged m read
+pub judged_start : (m : Monitor) (t : Situation) (read : Result (List Event) ReadFault) → t ≡ opening_situation m → verdict_read m 0 t read ≡ verdict_of_reading m read
 judged_start m t read is = ap (λ x. verdict_read m 0 x read) is ∙ judged_is m read
 
 pub judged_end : (m : Monitor) (n : ℕ) (t : Situation) (read : Result (List Event) ReadFault) (total : Result Verdict ReadFault) → read ≡ Ok [] → verdict_read m n t read ≡ total → total ≡ Ok (Legal n)

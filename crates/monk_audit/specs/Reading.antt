@@ -28,8 +28,8 @@ abbrev pub verdict_read : Monitor → ℕ → Situation → Result (List Event) 
 verdict_read m n t read = read >>= λ es. Ok (verdict_at m n t es)
 
 -- the verdict of a monitor on the events that are read, unless a fault is
-abbrev pub judged : Monitor → Result (List Event) ReadFault → Result Verdict ReadFault
-judged m read = read >>= λ es. Ok (verdict_of m es)
+abbrev pub verdict_of_reading : Monitor → Result (List Event) ReadFault → Result Verdict ReadFault
+verdict_of_reading m read = read >>= λ es. Ok (verdict_of m es)
 
 -- of a history, for the monitor that its header names
 abbrev pub history_verdict : History → TextVerdict

@@ -6,7 +6,7 @@ ghost use Rattle.monk_history.specs.Meaning.Monitor.{monitor};
 ghost use Rattle.monk_history.specs.Meaning.Named.{monitor_of};
 ghost use Rattle.monk_history.specs.Text.Lines.{Gives, items_left};
 ghost use Rattle.monk_history.specs.Text.Reading.{event_at};
-ghost use Rattle.monk_audit.specs.Reading.{judged, lines_verdict, text_verdict, read_through, same};
+ghost use Rattle.monk_audit.specs.Reading.{verdict_of_reading, lines_verdict, text_verdict, read_through, same};
 
 use crate::kinds::rules_by_name;
 use crate::replay::{ALLOWED, Replay};
@@ -46,7 +46,7 @@ fn judge<T: Guarded>(
     lines: ItemLines<'_>,
 ) -> Result<Verdict, ReadFault>
     requires { lines.room ≤ 2 ^ 25 }
-    ensures { Gives same result (judged (monitor rules header.now.seats header.now.conds T.meaning (T.state object)) (items_left event_at lines.entry)) }
+    ensures { Gives same result (verdict_of_reading (monitor rules header.now.seats header.now.conds T.meaning (T.state object)) (items_left event_at lines.entry)) }
 {
     let mut object = object;
     let mut lines = lines;
@@ -75,7 +75,7 @@ fn judge<T: Guarded>(
 /// Makes the object that the header names, whose size is not above its greatest, and judges the events that are left.
 fn judge_object(alloc: Global, header: &Header, lines: ItemLines<'_>) -> Result<Verdict, ReadFault>
     requires { lines.room ≤ 2 ^ 25 }
-    ensures { Gives same result (judged (monitor_of header.now) (items_left event_at lines.entry)) }
+    ensures { Gives same result (verdict_of_reading (monitor_of header.now) (items_left event_at lines.entry)) }
 {
     let rules = rules_by_name(header.kind());
     let size = header.size();

@@ -25,7 +25,7 @@ use Rattle.monk_history.specs.declared.event.Turn.{Turn}
 use Rattle.monk_history.proofs.MeaningLaws.ReleaseLaws.{chosen_allowed}
 use Rattle.monk_floor.specs.Just.{just}
 use Rattle.monk_floor.specs.Queues.{QueueLists, queue_at}
-use Rattle.monk_floor.specs.Kept.{shown, IsKept}
+use Rattle.monk_floor.specs.Kept.{shown_situation, KeepsHistory}
 use Rattle.monk_floor.specs.Ready.{stays_by}
 use Rattle.monk_floor.proofs.KeptLaws.{in_order}
 
@@ -93,27 +93,27 @@ chosen_next k o t e known wish b f h w s r n x y z c =
     ∙ ap (λ v. cond v Stay (choice_by k (queues_at o t e) (seat_of e) known wish)) (sym h ∙ (f ∙ stays_is o t e))))
 
 module _ {m : Monitor} {budget : ℕ} {h : List Event} {capacity : ℕ} {q : QueueLists} {state : List ℕ} {turn : Turn} {inside : List Bool} {spent granted : List ℕ} {entered : ℕ} where
-  pub kept_stay : IsKept m budget h capacity q state turn inside spent granted entered → (e : Event) (known : Bool) (wish : Pick) (b : Bool) → b ≡ stays_by m.object (queue_at q.conditions) state e → b ≡ true
+  pub kept_stay : KeepsHistory m budget h capacity q state turn inside spent granted entered → (e : Event) (known : Bool) (wish : Pick) (b : Bool) → b ≡ stays_by m.object (queue_at q.conditions) state e → b ≡ true
       → Stay ≡ choice_of m.kind m.object (situation m h) e known wish
   kept_stay kept e known wish b f g =
-      chosen_stay m.kind m.object (shown q state turn inside (not (is_empty h))) e known wish b f g ∙ ap (λ t. choice_of m.kind m.object t e known wish) kept.stands
+      chosen_stay m.kind m.object (shown_situation q state turn inside (not (is_empty h))) e known wish b f g ∙ ap (λ t. choice_of m.kind m.object t e known wish) kept.stands
 
-  pub kept_next : IsKept m budget h capacity q state turn inside spent granted entered → (e : Event) (known : Bool) (wish : Pick) (b : Bool) → b ≡ stays_by m.object (queue_at q.conditions) state e → b ≡ false
+  pub kept_next : KeepsHistory m budget h capacity q state turn inside spent granted entered → (e : Event) (known : Bool) (wish : Pick) (b : Bool) → b ≡ stays_by m.object (queue_at q.conditions) state e → b ≡ false
       → (w s r : Option ℕ) (n : Next) (k : Rules) (v : ℕ) → w ≡ slice_get (q.waiters ++ serves (queue_at q.conditions) e) 0 → s ≡ slice_get (q.signallers ++ signals (queue_at q.conditions) e) 0 → r ≡ slice_get (ready_of m.object state q.untils) 0
       → k ≡ m.kind → v ≡ seat_of e → n ≡ choice_by k (record { waiters = just w; signallers = just s; ready = just r }) v known wish
       → n ≡ choice_of m.kind m.object (situation m h) e known wish
   kept_next kept e known wish b f g w s r n k v x y z a c d =
-      chosen_next m.kind m.object (shown q state turn inside (not (is_empty h))) e known wish b f g w s r n x y z
+      chosen_next m.kind m.object (shown_situation q state turn inside (not (is_empty h))) e known wish b f g w s r n x y z
       (d ∙ (ap (λ j. choice_by j (record { waiters = just w; signallers = just s; ready = just r }) v known wish) a ∙ ap (λ j. choice_by m.kind (record { waiters = just w; signallers = just s; ready = just r }) j known wish) c))
       ∙ ap (λ t. choice_of m.kind m.object t e known wish) kept.stands
 
-  pub kept_allowed : IsKept m budget h capacity q state turn inside spent granted entered → IsKind m.kind → (e : Event) (known : Bool) (wish : Pick) (n : Next) → MayCall m h e → ((d : List ℕ) → is_right_reply m.object d e ≡ true)
+  pub kept_allowed : KeepsHistory m budget h capacity q state turn inside spent granted entered → IsKind m.kind → (e : Event) (known : Bool) (wish : Pick) (n : Next) → MayCall m h e → ((d : List ℕ) → is_right_reply m.object d e ≡ true)
       → n ≡ choice_of m.kind m.object (situation m h) e known wish → IsAllowed m h (with_next n e)
   kept_allowed kept k e known wish n c r x =
       subst (λ z. IsAllowed m h (with_next z e)) (sym x) (chosen_allowed m (situation m h) e known wish (in_order kept k) c (r _))
 
   -- an act with the object's reply is allowed
-  pub kept_act : IsKept m budget h capacity q state turn inside spent granted entered → (s : ℕ) (op : Op) (reply : ℕ) → MayCall m h (Act s op 0) → reply ≡ m.object.reply state op → IsAllowed m h (Act s op reply)
+  pub kept_act : KeepsHistory m budget h capacity q state turn inside spent granted entered → (s : ℕ) (op : Op) (reply : ℕ) → MayCall m h (Act s op 0) → reply ≡ m.object.reply state op → IsAllowed m h (Act s op reply)
   kept_act kept s op reply c r = record {
     in_range = c.in_range;
     offered = c.offered;

@@ -11,7 +11,7 @@ use Rattle.monk_history.specs.Meaning.Events.{seat_of, next_of, named_seat, wait
 use Rattle.monk_history.specs.Meaning.Monitor.{Monitor, data_after}
 use Rattle.monk_history.specs.Meaning.Situation.{situation}
 use Rattle.monk_history.specs.Meaning.Step.{after, opening_situation}
-use Rattle.monk_history.specs.Meaning.Turn.{turn_by, enters, leaves}
+use Rattle.monk_history.specs.Meaning.Turn.{turn_by, is_enter_of, is_exit_of}
 use Rattle.monk_history.specs.Meaning.Signallers.{is_empty}
 use Rattle.monk_history.specs.Meaning.Untils.{waits_until, chooses}
 use Rattle.monk_history.specs.Meaning.Release.{MayCall}
@@ -31,8 +31,8 @@ use Rattle.monk_history.proofs.MeaningLaws.ReleaseLaws.{IsInOrder, legal_order, 
 use Rattle.monk_history.proofs.MeaningLaws.MoveLaws.{queued_once, caller_unqueued}
 use Rattle.monk_history.specs.Meaning.Standing.{in_queues}
 use Rattle.monk_floor.specs.Queues.{QueueLists, queue_at, HasPlaces, IsOrderly, IsMoved}
-use Rattle.monk_floor.specs.Kept.{shown, IsKept}
-use Rattle.monk_floor.specs.Ready.{IsReady}
+use Rattle.monk_floor.specs.Kept.{shown_situation, KeepsHistory}
+use Rattle.monk_floor.specs.Ready.{HasRoomFor}
 
 range_waits : (m : Monitor) (e : Event) → is_in_range m.seats m.conds m.object.codes m.object.predicates e ≡ true → is_condition m.conds (waits_on e) ≡ true
 range_waits m e h = and_right _ _ (and_left _ (is_condition m.conds (signals_on e)) (and_left _ (fits_object m.object.codes m.object.predicates e) h))
@@ -76,11 +76,11 @@ past_none (x ∷ xs) zero l = absurd (omega (arith, l))
 past_none (x ∷ xs) (suc i) l = past_none xs i (omega (arith, l))
 
 module _ {m : Monitor} {budget : ℕ} {h : List Event} {capacity : ℕ} {q : QueueLists} {state : List ℕ} {turn : Turn} {inside : List Bool} {spent granted : List ℕ} {entered : ℕ} where
-  pub in_order : IsKept m budget h capacity q state turn inside spent granted entered → IsKind m.kind → IsInOrder m (situation m h)
+  pub in_order : KeepsHistory m budget h capacity q state turn inside spent granted entered → IsKind m.kind → IsInOrder m (situation m h)
   in_order kept k = legal_order m h k kept.legal
 
   -- an event that is allowed finds a place in each queue
-  pub places_kept : IsKept m budget h capacity q state turn inside spent granted entered → IsKind m.kind → (e : Event) → IsAllowed m h e → HasPlaces q
+  pub places_kept : KeepsHistory m budget h capacity q state turn inside spent granted entered → IsKind m.kind → (e : Event) → IsAllowed m h e → HasPlaces q
   places_kept kept k e a =
       let o = in_order kept k in
       let room = room_for m (situation m h) (seat_of e) (seat_in_range m.seats m.conds m.object.codes m.object.predicates e a.in_range) o.placed o.seated (caller_apart m (situation m h) e o.placed a.in_turn a.in_place) in
@@ -93,22 +93,22 @@ module _ {m : Monitor} {budget : ℕ} {h : List Event} {capacity : ℕ} {q : Que
       }
 
   -- each seat stands in one queue at most, and whoever calls in none
-  orderly_kept : IsKept m budget h capacity q state turn inside spent granted entered → IsKind m.kind → (e : Event) → IsAllowed m h e → IsOrderly q e
+  orderly_kept : KeepsHistory m budget h capacity q state turn inside spent granted entered → IsKind m.kind → (e : Event) → IsAllowed m h e → IsOrderly q e
   orderly_kept kept k e a = record {
-    once = λ s. subst (λ n. in_queues n s (shown q state turn inside (not (is_empty h))) ≤ 1) (sym kept.conds)
+    once = λ s. subst (λ n. in_queues n s (shown_situation q state turn inside (not (is_empty h))) ≤ 1) (sym kept.conds)
         (subst (λ t. in_queues m.conds s t ≤ 1) (sym kept.stands) (queued_once m h kept.legal s));
-    apart = subst (λ n. in_queues n (seat_of e) (shown q state turn inside (not (is_empty h))) ≡ 0) (sym kept.conds)
+    apart = subst (λ n. in_queues n (seat_of e) (shown_situation q state turn inside (not (is_empty h))) ≡ 0) (sym kept.conds)
         (subst (λ t. in_queues m.conds (seat_of e) t ≡ 0) (sym kept.stands) (caller_unqueued m (situation m h) e (in_order kept k).placed a));
   }
 
-  few_kept : IsKept m budget h capacity q state turn inside spent granted entered → (e : Event) → IsAllowed m h e → length (events_of h (seat_of e)) < budget → length h < 33554432
+  few_kept : KeepsHistory m budget h capacity q state turn inside spent granted entered → (e : Event) → IsAllowed m h e → length (events_of h (seat_of e)) < budget → length h < 33554432
   few_kept kept e a l =
       let s = seat_in_range m.seats m.conds m.object.codes m.object.predicates e a.in_range in
       let low = kept.low in
       few_events m.seats budget (length h) kept.few (grind (arith, low))
       (room_left m.seats budget (seat_of e) h s (λ j n. sym (kept.counts j) ∙ past_none spent j (omega (arith, n, kept.spent_seats))) kept.within l)
 
-  pub is_ready : IsKept m budget h capacity q state turn inside spent granted entered → IsKind m.kind → (e : Event) → IsAllowed m h e → length (events_of h (seat_of e)) < budget → IsReady q inside spent granted entered e
+  pub is_ready : KeepsHistory m budget h capacity q state turn inside spent granted entered → IsKind m.kind → (e : Event) → IsAllowed m h e → length (events_of h (seat_of e)) < budget → HasRoomFor q inside spent granted entered e
   is_ready kept k e a l =
       let s = seat_in_range m.seats m.conds m.object.codes m.object.predicates e a.in_range in
       record {
@@ -125,29 +125,29 @@ module _ {m : Monitor} {budget : ℕ} {h : List Event} {capacity : ℕ} {q : Que
       }
 
   -- the history is no longer than the budgets of all seats
-  pub within_budgets : IsKept m budget h capacity q state turn inside spent granted entered → length h ≤ m.seats * budget
+  pub within_budgets : KeepsHistory m budget h capacity q state turn inside spent granted entered → length h ≤ m.seats * budget
   within_budgets kept = history_few m.seats budget h (λ j n. sym (kept.counts j) ∙ past_none spent j (omega (arith, n, kept.spent_seats))) kept.within
 
   -- and there is room in the history
-  pub has_room : IsKept m budget h capacity q state turn inside spent granted entered → (e : Event) → IsAllowed m h e → length (events_of h (seat_of e)) < budget → length h < capacity
+  pub has_room : KeepsHistory m budget h capacity q state turn inside spent granted entered → (e : Event) → IsAllowed m h e → length (events_of h (seat_of e)) < budget → length h < capacity
   has_room kept e a l =
       let s = seat_in_range m.seats m.conds m.object.codes m.object.predicates e a.in_range in
       let r = room_left m.seats budget (seat_of e) h s (λ j n. sym (kept.counts j) ∙ past_none spent j (omega (arith, n, kept.spent_seats))) kept.within l in
       let c = kept.room in omega (arith, r, c)
 
   -- what is kept after an event that is allowed
-  pub kept_push : IsKept m budget h capacity q state turn inside spent granted entered → (e : Event) → IsAllowed m h e → length (events_of h (seat_of e)) < budget
+  pub kept_push : KeepsHistory m budget h capacity q state turn inside spent granted entered → (e : Event) → IsAllowed m h e → length (events_of h (seat_of e)) < budget
       → (capacity2 : ℕ) (q2 : QueueLists) (state2 : List ℕ) (turn2 : Turn) (inside2 : List Bool) (spent2 granted2 : List ℕ) (entered2 : ℕ)
       → capacity2 ≡ capacity → IsMoved q e q2 → state2 ≡ data_after m.object state e → turn2 ≡ turn_by (seat_of e) (next_of e)
-      → ((j : ℕ) → slice_index_or inside2 j false ≡ (slice_index_or inside j false && not (leaves j e)) || enters j e)
+      → ((j : ℕ) → slice_index_or inside2 j false ≡ (slice_index_or inside j false && not (is_exit_of j e)) || is_enter_of j e)
       → ((j : ℕ) → slice_index_or spent2 j 0 ≡ slice_index_or spent j 0 + cond (seat_of e == j) 1 0)
       → ((j : ℕ) → slice_index_or granted2 j 0 ≡ slice_index_or granted j 0 + cond (grants j e) 1 0) → entered2 ≡ entered + cond (is_enter e) 1 0 → length granted2 ≡ length granted
       → length inside2 ≡ length inside → length spent2 ≡ length spent
-      → IsKept m budget (h ++ e ∷ []) capacity2 q2 state2 turn2 inside2 spent2 granted2 entered2
+      → KeepsHistory m budget (h ++ e ∷ []) capacity2 q2 state2 turn2 inside2 spent2 granted2 entered2
   kept_push kept e a l capacity2 q2 state2 turn2 inside2 spent2 granted2 entered2 cap moved st tu ins sp gr en lg li ls = record {
     legal = legal-push m h e kept.legal a;
     stands =
-        same_situation (shown q2 state2 turn2 inside2 (not (is_empty (h ++ e ∷ [])))) (after m.object (shown q state turn inside (not (is_empty h))) e)
+        same_situation (shown_situation q2 state2 turn2 inside2 (not (is_empty (h ++ e ∷ [])))) (after m.object (shown_situation q state turn inside (not (is_empty h))) e)
         moved.condition moved.waiters moved.signallers moved.untils st tu ins (begun h)
         ∙ (ap (λ t. after m.object t e) kept.stands ∙ sym (legal_situation-push m h e kept.legal));
     counts = λ s. sp s ∙ (ap (λ n. n + cond (seat_of e == s) 1 0) (kept.counts s) ∙ sym (length-events_of-push h e s));
@@ -195,14 +195,14 @@ pub kept_none : (m : Monitor) (budget : ℕ) (h : List Event) (capacity : ℕ) (
     → ((c : ℕ) → queue_at q.conditions c ≡ []) → length q.conditions ≡ m.conds → q.waiters ≡ [] → q.signallers ≡ [] → q.untils ≡ [] → turn ≡ Open
     → ((j : ℕ) → slice_index_or inside j false ≡ false) → ((j : ℕ) → slice_index_or spent j 0 ≡ 0) → length inside ≡ m.seats → length spent ≡ m.seats
     → ((j : ℕ) → slice_index_or granted j 0 ≡ 0) → entered ≡ 0 → length granted ≡ m.seats
-    → IsKept m budget h capacity q state turn inside spent granted entered
+    → KeepsHistory m budget h capacity q state turn inside spent granted entered
 kept_none m budget h capacity q state turn inside spent granted entered e cap st few low qs cs ws ss us tu ins sp li ls gr en lg = record {
   grants_counted = λ s. gr s ∙ (sym (granted_none s) ∙ ap (λ x. granted_of x s) (sym e));
   enters_counted = en ∙ (sym enters_none ∙ ap enters_of (sym e));
   granted_seats = lg;
   legal = subst (IsLegal m) (sym e) (legal_none m);
   stands =
-      same_situation (shown q state turn inside (not (is_empty h))) (opening_situation m) qs ws ss us st tu ins (none_kept h e)
+      same_situation (shown_situation q state turn inside (not (is_empty h))) (opening_situation m) qs ws ss us st tu ins (none_kept h e)
       ∙ (sym (situation-none m) ∙ ap (situation m) (sym e));
   counts = λ s. sp s ∙ (sym (no_events s) ∙ ap (λ x. length (events_of x s)) (sym e));
   within = λ s. let n : length (events_of h s) ≡ 0 = ap (λ x. length (events_of x s)) e ∙ no_events s in omega (arith, n);

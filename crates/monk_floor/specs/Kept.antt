@@ -10,8 +10,8 @@ use Rattle.monk_history.specs.declared.event.Turn.{Turn}
 use Rattle.monk_floor.specs.Queues.{QueueLists, queue_at}
 
 -- the situation that the fields show
-abbrev pub shown : QueueLists → List ℕ → Turn → List Bool → Bool → Situation
-shown q state turn inside begun = record {
+abbrev pub shown_situation : QueueLists → List ℕ → Turn → List Bool → Bool → Situation
+shown_situation q state turn inside begun = record {
   condition = queue_at q.conditions;
   waiters = q.waiters;
   signallers = q.signallers;
@@ -22,9 +22,9 @@ shown q state turn inside begun = record {
   begun = begun;
 }
 
-pub record IsKept (m : Monitor) (budget : ℕ) (h : List Event) (capacity : ℕ) (q : QueueLists) (state : List ℕ) (turn : Turn) (inside : List Bool) (spent granted : List ℕ) (entered : ℕ) : Type 0 where
+pub record KeepsHistory (m : Monitor) (budget : ℕ) (h : List Event) (capacity : ℕ) (q : QueueLists) (state : List ℕ) (turn : Turn) (inside : List Bool) (spent granted : List ℕ) (entered : ℕ) : Type 0 where
   pub legal : IsLegal m h
-  pub stands : shown q state turn inside (not (is_empty h)) ≡ situation m h
+  pub stands : shown_situation q state turn inside (not (is_empty h)) ≡ situation m h
   pub counts : (s : ℕ) → slice_index_or spent s 0 ≡ length (events_of h s)
   pub grants_counted : (s : ℕ) → slice_index_or granted s 0 ≡ granted_of h s
   pub enters_counted : entered ≡ enters_of h

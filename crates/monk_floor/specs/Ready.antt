@@ -10,7 +10,7 @@ use Rattle.monk_history.specs.declared.event.Event.TheVariants.{Enter, Act, Leav
 use Rattle.monk_floor.specs.Queues.{QueueLists, HasPlaces, IsOrderly}
 
 -- an event fits what a floor keeps
-pub record IsReady (q : QueueLists) (inside : List Bool) (spent granted : List ℕ) (entered : ℕ) (e : Event) : Type 0 where
+pub record HasRoomFor (q : QueueLists) (inside : List Bool) (spent granted : List ℕ) (entered : ℕ) (e : Event) : Type 0 where
   pub seat : seat_of e < length inside
   pub counted : seat_of e < length spent
   pub low : slice_index_or spent (seat_of e) 0 < 2 ^ 25

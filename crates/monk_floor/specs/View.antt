@@ -23,5 +23,5 @@ abbrev pub stands_of : Rules → Object → FloorView → Situation
 stands_of k o f = situation (monitor_of k o f) f.history
 
 -- a floor before any event
-abbrev pub fresh : List ℕ → ℕ → ℕ → ℕ → FloorView
-fresh opening seats conds budget = record { opening = opening; seats = seats; conds = conds; budget = budget; history = [] }
+abbrev pub empty_floor : List ℕ → ℕ → ℕ → ℕ → FloorView
+empty_floor opening seats conds budget = record { opening = opening; seats = seats; conds = conds; budget = budget; history = [] }

@@ -11,9 +11,9 @@ ghost use Rattle.monk_history.specs.Meaning.Turn.{turn};
 ghost use Rattle.monk_floor.specs.Chosen.{IsChosen};
 ghost use Rattle.monk_floor.specs.Due.{IsDueTo, IsDueSome, due_seat};
 ghost use Rattle.monk_floor.specs.Grown.{IsGrown};
-ghost use Rattle.monk_floor.specs.Making.{refusal, IsRefused};
+ghost use Rattle.monk_floor.specs.Making.{make_refusal, IsRefused};
 ghost use Rattle.monk_floor.specs.Releases.{IsReplyless};
-ghost use Rattle.monk_floor.specs.View.{monitor_of, stands_of, fresh};
+ghost use Rattle.monk_floor.specs.View.{monitor_of, stands_of, empty_floor};
 
 use crate::choosing::{first_ready, must_stay};
 use crate::fault::MakeFault;
@@ -54,13 +54,13 @@ impl<K: Kind, T: Guarded> Model for Floor<K, T> {
     ghost use Rattle.std.specs.Prelude.{ℕ, List, vec_capacity};
     ghost use Rattle.monk_history.specs.Meaning.Monitor.{monitor};
     ghost use Rattle.monk_floor.specs.View.{FloorView};
-    ghost use Rattle.monk_floor.specs.Kept.{IsKept};
+    ghost use Rattle.monk_floor.specs.Kept.{KeepsHistory};
 
     ghost Value = { FloorView };
 
     ghost view = { λ f. record { opening = T.state f.opening.value; seats = f.seats; conds = f.conds; budget = f.budget; history = f.history.items } };
 
-    ghost invariant = { λ f. IsKept (monitor K.rules f.seats f.conds T.meaning (T.state f.opening.value)) f.budget f.history.items (vec_capacity f.history) f.ledger.queues (T.state f.object) f.ledger.turn f.ledger.inside.items f.ledger.spent.items f.ledger.granted.items f.ledger.entered };
+    ghost invariant = { λ f. KeepsHistory (monitor K.rules f.seats f.conds T.meaning (T.state f.opening.value)) f.budget f.history.items (vec_capacity f.history) f.ledger.queues (T.state f.object) f.ledger.turn f.ledger.inside.items f.ledger.spent.items f.ledger.granted.items f.ledger.entered };
 }
 
 impl<K: Kind, T: Guarded> Floor<K, T> {
@@ -76,7 +76,7 @@ impl<K: Kind, T: Guarded> Floor<K, T> {
         conds: u8,
         budget: u32,
     ) -> Result<Floor<K, T>, MakeFault>
-        ensures made { IfOk result (λ f. (refusal seats conds budget ≡ None) × (f ≡ fresh (T.state object) seats conds budget)) }
+        ensures made { IfOk result (λ f. (make_refusal seats conds budget ≡ None) × (f ≡ empty_floor (T.state object) seats conds budget)) }
         ensures refused { IfErr result (λ e. IsRefused seats conds budget e) }
     {
         if seats < 1 || seats > MOST_SEATS {
@@ -101,7 +101,7 @@ impl<K: Kind, T: Guarded> Floor<K, T> {
     ) -> Result<Floor<K, T>, AllocError>
         requires seats { seats ≤ MOST_SEATS }
         requires budget { budget ≤ MOST_BUDGET }
-        ensures { IfOk result (λ f. f ≡ fresh (T.state object) seats conds budget) }
+        ensures { IfOk result (λ f. f ≡ empty_floor (T.state object) seats conds budget) }
     {
         let opening = Snapshot::of(&object);
         let history = Vec::with_capacity(alloc, seats as usize * budget as usize)?;

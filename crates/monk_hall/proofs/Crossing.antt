@@ -20,7 +20,7 @@ use Rattle.monk_object.specs.declared.guarded.Guarded as Guarded
 use Rattle.monk_floor.proofs.Crossing.{floor_send}
 use Rattle.std.specs.contracts.collections.LinkedList as LinkedList
 use Rattle.monk_floor.specs.contracts.floor.Floor as Floor
-use Rattle.monk_hall.specs.contracts.record.Record as Record
+use Rattle.monk_hall.specs.contracts.record.SeatRecord as SeatRecord
 use Rattle.monk_hall.specs.contracts.rule.HallRule as HallRule
 use Rattle.monk_hall.specs.contracts.rule.HallRuleTableRuleOptionFloorViewSetup.TheImpl as RuleImpl
 use Rattle.monk_hall.specs.contracts.setup.Setup as Setup
@@ -51,7 +51,7 @@ table_sync S V K P g s =
 hall_inside : (K T : RattleType) (k : Kind.Ghosts K.Denot) (t : Guarded.Ghosts T.Denot) → IsSend K → IsSend T → IsSync (HallInside.the_row K T k t)
 hall_inside K T k t sk st =
     let all : AllSync (shape (HallInside.the_type K T k t)).fields = (
-      table_sync (Option.the_row (Floor.the_row K T k t)) (LinkedList.the_row Record.the_row Heap.the_row ghosts) (Setup.the_row T) (HallRule.the_row K T)
+      table_sync (Option.the_row (Floor.the_row K T k t)) (LinkedList.the_row SeatRecord.the_row Heap.the_row ghosts) (Setup.the_row T) (HallRule.the_row K T)
           (RuleImpl.ghosts K T k RuleImpl.no_dict t RuleImpl.no_dict RuleImpl.no_dict RuleImpl.no_dict) (option_send (Floor.the_row K T k t) (floor_send K T k t sk st)),
       (search sendable, tt),
     ) in

@@ -16,7 +16,7 @@ use Rattle.monk_history.specs.Meaning.Counts.{events_of}
 use Rattle.monk_history.specs.declared.event.Event.{Event}
 use Rattle.monk_history.proofs.MeaningLaws.CountLaws.{granted_none}
 use Rattle.monk_history.proofs.MeaningLaws.LegalLaws.{legal_none}
-use Rattle.monk_floor.specs.Making.{refusal}
+use Rattle.monk_floor.specs.Making.{make_refusal}
 use Rattle.monk_floor.specs.declared.fault.MakeFault.TheVariants as fault
 use Rattle.monk_floor.specs.View.{FloorView, monitor_of}
 use Rattle.monk_world.specs.Kept.{IsKept}
@@ -25,33 +25,33 @@ use Rattle.monk_world.specs.Runs.{opening_state}
 use Rattle.monk_world.specs.State.{State}
 use Rattle.monk_world.proofs.PutLaws.{put_here, put_else}
 use Rattle.monk_world.proofs.WorldLaws.{opening_kept}
-use Rattle.monk_hall.specs.Layout.{tickets, unpassed, word_count, place_word, seat_word, floor_of, shown, shown_world}
-use Rattle.monk_hall.specs.Records.{View, In, Distinct, fresh, fresh_from, first_view, head, tail}
+use Rattle.monk_hall.specs.Layout.{tickets, unpassed, word_count, place_word, seat_word, floor_of, shown_state, shown_world}
+use Rattle.monk_hall.specs.Records.{View, In, Distinct, opening_record, opening_records, first_view, head, tail}
 use Rattle.monk_hall.specs.Rule.{AreShown, IsHall}
 use Rattle.monk_hall.specs.Tokens.{Token, IsResting, AreOf, tokens}
-use Rattle.monk_hall.specs.declared.record.Record.{Record}
+use Rattle.monk_hall.specs.declared.record.SeatRecord.{SeatRecord}
 use Rattle.monk_hall.specs.declared.setting.Setting.{Setting}
 use Rattle.monk_hall.proofs.Seats.{long, only}
 
 -- a record of those of n seats from i on
-record IsFresh (c : Setting) (n i : ℕ) (r : Record) : Type 0 where
-  is : r ≡ fresh c r.seat
+record IsFresh (c : Setting) (n i : ℕ) (r : SeatRecord) : Type 0 where
+  is : r ≡ opening_record c r.seat
   low : i ≤ r.seat
   high : r.seat < i + n
 
-in_fresh : (c : Setting) (n i : ℕ) (r : Record) → In r (fresh_from c n i) → IsFresh c n i r
+in_fresh : (c : Setting) (n i : ℕ) (r : SeatRecord) → In r (opening_records c n i) → IsFresh c n i r
 in_fresh c zero i r h = absurd h
-in_fresh c (suc n) i r (inl e) = let s : r.seat ≡ i = ap (λ (x : Record). x.seat) e in record { is = e ∙ ap (fresh c) (sym s); low = omega arith; high = omega arith }
+in_fresh c (suc n) i r (inl e) = let s : r.seat ≡ i = ap (λ (x : SeatRecord). x.seat) e in record { is = e ∙ ap (opening_record c) (sym s); low = omega arith; high = omega arith }
 in_fresh c (suc n) i r (inr h) = let a = in_fresh c n (suc i) r h in let l = a.low in let m = a.high in record { is = a.is; low = omega arith; high = omega arith }
 
-fresh_in : (c : Setting) (n i j : ℕ) → i ≤ j → j < i + n → In (fresh c j) (fresh_from c n i)
+fresh_in : (c : Setting) (n i j : ℕ) → i ≤ j → j < i + n → In (opening_record c j) (opening_records c n i)
 fresh_in c zero i j low high = absurd (omega arith)
 fresh_in c (suc n) i j low high = elim (eqb_tells j i) [
-  | inl e ↦ inl (ap (fresh c) e.1)
+  | inl e ↦ inl (ap (opening_record c) e.1)
   | inr ne ↦ let apart = ne.1 in inr (fresh_in c n (suc i) j (let z : j ≢ i = apart in omega arith) (omega arith))
 ]
 
-distinct_fresh : (c : Setting) (n i : ℕ) → Distinct (fresh_from c n i)
+distinct_fresh : (c : Setting) (n i : ℕ) → Distinct (opening_records c n i)
 distinct_fresh c zero i = tt
 distinct_fresh c (suc n) i = ((λ y h e. let l = (in_fresh c n (suc i) y h).low in omega arith), distinct_fresh c n (suc i))
 
@@ -64,10 +64,10 @@ only_at a b zero e = (some-injective a b e, refl)
 only_at a b (suc j) e = absurd cc
 
 -- a table with no ticket drawn, every seat idle and the floor at home
-pub opens : (k : Rules) (o : Object) (c : Setting) (words : List ℕ) → refusal c.seats c.conds c.budget ≡ None → 0 < c.seats → length words ≡ word_count c.seats → ((i : ℕ) → slice_index words i ≡ 0)
+pub opens : (k : Rules) (o : Object) (c : Setting) (words : List ℕ) → make_refusal c.seats c.conds c.budget ≡ None → 0 < c.seats → length words ≡ word_count c.seats → ((i : ℕ) → slice_index words i ≡ 0)
     → IsHall k o c (opening words (Some (floor_of c []) ∷ []) (first_view c))
 opens k o c words made some wide zeros = (
-  fresh c,
+  opening_record c,
   record {
     desk = λ _. 0;
     each = λ id v e r h.
@@ -100,17 +100,17 @@ opens k o c words made some wide zeros = (
   },
 )
   where
-    shows : Path State (opening_state c.opening c.seats c.conds c.budget) (shown c words (fresh c) [])
+    shows : Path State (opening_state c.opening c.seats c.conds c.budget) (shown_state c words (opening_record c) [])
     shows = λ z. record {
       world = record {
         drawn = tickets (sym (zeros 0) z);
         unpassed = unpassed (sym (zeros 0) z);
         ticket_place = λ i. sym (zeros (place_word i)) z;
         seat_place = λ j. sym (zeros (seat_word j)) z;
-        place = λ j. (fresh c j).place;
+        place = λ j. (opening_record c j).place;
         count = λ j. 0;
       };
-      known = λ j. (fresh c j).known;
+      known = λ j. (opening_record c j).known;
       floor = floor_of c [];
     }
 
@@ -121,8 +121,8 @@ at_end (x ∷ xs) a b zero e = inl e
 at_end (x ∷ xs) a b (suc j) e = ⊎_elim (λ h. inl h) (λ h. inr (h.0, ap suc h.1)) (at_end xs a b j e)
 
 -- the record x goes from the view v to a new seat, and ys stay
-module _ (c : Setting) (views : List View) (at : ℕ → Record) (sh : AreShown c views at) (id : ℕ) (v ys : View) (x : Record) (view : get_elem? views id ≡ maybe.some v)
-    (there_x : In x v) (there_ys : (z : Record) → In z ys → In z v) (either : (z : Record) → In z v → (z ≡ x) ⊎ In z ys) (apart : (z : Record) → In z ys → z.seat ≢ x.seat) (distinct : Distinct ys) where
+module _ (c : Setting) (views : List View) (at : ℕ → SeatRecord) (sh : AreShown c views at) (id : ℕ) (v ys : View) (x : SeatRecord) (view : get_elem? views id ≡ maybe.some v)
+    (there_x : In x v) (there_ys : (z : SeatRecord) → In z ys → In z v) (either : (z : SeatRecord) → In z v → (z ≡ x) ⊎ In z ys) (apart : (z : SeatRecord) → In z ys → z.seat ≢ x.seat) (distinct : Distinct ys) where
   abbrev left_views : List View
   left_views = set views id ys
 
@@ -132,7 +132,7 @@ module _ (c : Setting) (views : List View) (at : ℕ → Record) (sh : AreShown 
   desk_else : (j : ℕ) → j ≢ x.seat → moved_desk j ≡ sh.desk j
   desk_else j ne = put_else sh.desk x.seat (length left_views) j ne
 
-  each_after : (j : ℕ) (u : View) → get_elem? (left_views ++ (x ∷ []) ∷ []) j ≡ maybe.some u → (r : Record) → In r u → (at r.seat ≡ r) × (moved_desk r.seat ≡ j) × (r.seat < c.seats)
+  each_after : (j : ℕ) (u : View) → get_elem? (left_views ++ (x ∷ []) ∷ []) j ≡ maybe.some u → (r : SeatRecord) → In r u → (at r.seat ≡ r) × (moved_desk r.seat ≡ j) × (r.seat < c.seats)
   each_after j u e r in_u = ⊎_elim
       (λ old. ⊎_elim
       (λ t.
@@ -146,7 +146,7 @@ module _ (c : Setting) (views : List View) (at : ℕ → Record) (sh : AreShown 
       (λ new.
       let is_x = only r x (subst (λ (z : View). In r z) (sym new.0) in_u) in
       let old = sh.each id v view x there_x in
-      let seat : r.seat ≡ x.seat = ap (λ (z : Record). z.seat) is_x in
+      let seat : r.seat ≡ x.seat = ap (λ (z : SeatRecord). z.seat) is_x in
       (ap at seat ∙ old.0 ∙ sym is_x, ap moved_desk seat ∙ put_here sh.desk x.seat (length left_views) ∙ sym new.1, subst (λ (z : ℕ). z < c.seats) (sym seat) old.2))
       (at_end left_views (x ∷ []) u j e)
 
@@ -163,7 +163,7 @@ module _ (c : Setting) (views : List View) (at : ℕ → Record) (sh : AreShown 
           | inl d ↦
               let is_v : old.0 ≡ v = some-injective old.0 v (sym old.1 ∙ ap (λ (n : ℕ). get_elem? views n) d.1 ∙ view) in
               elim (either (at j) (subst (λ (z : View). In (at j) z) is_v old.2)) [
-                | inl e ↦ absurd (h.1 (sym (sh.seats j) ∙ ap (λ (z : Record). z.seat) e))
+                | inl e ↦ absurd (h.1 (sym (sh.seats j) ∙ ap (λ (z : SeatRecord). z.seat) e))
                 | inr e ↦ (
                   ys,
                   ap (λ (n : ℕ). get_elem? (left_views ++ (x ∷ []) ∷ []) n) (desk_else j h.1 ∙ d.1) ∙ at_longer left_views ((x ∷ []) ∷ []) id ys (set_here views id ys (long views id v view)),
@@ -192,40 +192,40 @@ module _ (c : Setting) (views : List View) (at : ℕ → Record) (sh : AreShown 
   }
 
 -- the first record of a view goes to a seat of its own
-deals : (k : Rules) (o : Object) (c : Setting) (id : ℕ) (r : Record) (rs : View) → Splits {S = Option FloorView} (IsHall k o c) id (r ∷ rs) (tail (r ∷ rs)) (head (r ∷ rs))
+deals : (k : Rules) (o : Object) (c : Setting) (id : ℕ) (r : SeatRecord) (rs : View) → Splits {S = Option FloorView} (IsHall k o c) id (r ∷ rs) (tail (r ∷ rs)) (head (r ∷ rs))
 deals k o c id r rs s h view =
     let distinct = h.1.apart id (r ∷ rs) view in
     (h.0, shown_moved c s.views h.0 h.1 id (r ∷ rs) rs r view (inl refl) (λ z i. inr i) (λ z i. i) distinct.0 distinct.1, h.2)
 
-pub deals_next : (k : Rules) (o : Object) (c : Setting) (id : ℕ) (v : View) (r : Record) (rs : View) → v ≡ r ∷ rs → Splits {S = Option FloorView} (IsHall k o c) id v (tail v) (head v)
+pub deals_next : (k : Rules) (o : Object) (c : Setting) (id : ℕ) (v : View) (r : SeatRecord) (rs : View) → v ≡ r ∷ rs → Splits {S = Option FloorView} (IsHall k o c) id v (tail v) (head v)
 deals_next k o c id v r rs e = subst (λ (x : View). Splits {S = Option FloorView} (IsHall k o c) id x (tail x) (head x)) (sym e) (deals k o c id r rs)
 
-fresh_step : (c : Setting) (n d : ℕ) → 0 < n → fresh_from c n d ≡ fresh c d ∷ fresh_from c (n - 1) (suc d)
+fresh_step : (c : Setting) (n d : ℕ) → 0 < n → opening_records c n d ≡ opening_record c d ∷ opening_records c (n - 1) (suc d)
 fresh_step c zero d h = absurd (omega arith)
-fresh_step c (suc n) d h = let e : n ≡ suc n - 1 = omega arith in ap (λ (m : ℕ). fresh c d ∷ fresh_from c m (suc d)) e
+fresh_step c (suc n) d h = let e : n ≡ suc n - 1 = omega arith in ap (λ (m : ℕ). opening_record c d ∷ opening_records c m (suc d)) e
 
 -- the view of the seats from d on, of m in all
-pub fresh_next : (c : Setting) (v : View) (m d : ℕ) → d < m → v ≡ fresh_from c (m - d) d → v ≡ fresh c d ∷ fresh_from c (m - (d + 1)) (d + 1)
+pub fresh_next : (c : Setting) (v : View) (m d : ℕ) → d < m → v ≡ opening_records c (m - d) d → v ≡ opening_record c d ∷ opening_records c (m - (d + 1)) (d + 1)
 fresh_next c v m d h e =
     e ∙ fresh_step c (m - d) d (omega arith)
-    ∙ (let a : m - d - 1 ≡ m - (d + 1) = omega arith in let b : suc d ≡ d + 1 = omega arith in λ i. fresh c d ∷ fresh_from c (a i) (b i))
+    ∙ (let a : m - d - 1 ≡ m - (d + 1) = omega arith in let b : suc d ≡ d + 1 = omega arith in λ i. opening_record c d ∷ opening_records c (a i) (b i))
 
 -- the tokens of one seat more
-pub tokens_more : (z : TableId) (c : Setting) (n i : ℕ) → tokens z (fresh_from c (n + 1) i) ≡ tokens z (fresh_from c n i) ++ record { hall = z; me = fresh c (i + n) } ∷ []
+pub tokens_more : (z : TableId) (c : Setting) (n i : ℕ) → tokens z (opening_records c (n + 1) i) ≡ tokens z (opening_records c n i) ++ record { hall = z; me = opening_record c (i + n) } ∷ []
 tokens_more z c zero i =
     let e : i ≡ i + 0 = omega arith in
     ap (λ (m : ℕ). token m ∷ []) e
   where
     token : ℕ → Token
-    token m = record { hall = z; me = fresh c m }
+    token m = record { hall = z; me = opening_record c m }
 tokens_more z c (suc n) i =
     let e : suc n + 1 ≡ suc (n + 1) = omega arith in
     let a : suc i + n ≡ i + suc n = omega arith in
-    ap (λ (m : ℕ). tokens z (fresh_from c m i)) e
-    ∙ ap (λ (l : List Token). token i ∷ l) (tokens_more z c n (suc i) ∙ ap (λ (m : ℕ). tokens z (fresh_from c n (suc i)) ++ token m ∷ []) a)
+    ap (λ (m : ℕ). tokens z (opening_records c m i)) e
+    ∙ ap (λ (l : List Token). token i ∷ l) (tokens_more z c n (suc i) ∙ ap (λ (m : ℕ). tokens z (opening_records c n (suc i)) ++ token m ∷ []) a)
   where
     token : ℕ → Token
-    token m = record { hall = z; me = fresh c m }
+    token m = record { hall = z; me = opening_record c m }
 
 pub zero_words : (n i : ℕ) → slice_index (replicate n 0) i ≡ 0
 zero_words zero i = refl
@@ -233,7 +233,7 @@ zero_words (suc n) zero = refl
 zero_words (suc n) (suc i) = zero_words n i
 
 -- a seat that has its record rests
-pub fresh_rests : (k : Rules) (o : Object) (z : TableId) (c : Setting) (number budget : ℕ) → number < c.seats → z.words ≡ word_count c.seats → budget ≡ c.budget → IsResting k o z (fresh c number ∷ [], []) number budget 0
+pub fresh_rests : (k : Rules) (o : Object) (z : TableId) (c : Setting) (number budget : ℕ) → number < c.seats → z.words ≡ word_count c.seats → budget ≡ c.budget → IsResting k o z (opening_record c number ∷ [], []) number budget 0
 fresh_rests k o z c number budget near sized enough = record {
   one = refl;
   free = refl;
@@ -243,7 +243,7 @@ fresh_rests k o z c number budget near sized enough = record {
 }
 
 -- a hall that is made has a seat
-pub some_seat : (seats conds budget : ℕ) → refusal seats conds budget ≡ None → 0 < seats
+pub some_seat : (seats conds budget : ℕ) → make_refusal seats conds budget ≡ None → 0 < seats
 some_seat seats conds budget made = not_below (first_test (nat_lt seats 1) (nat_lt 32 seats) (nat_lt 8 conds) (nat_lt budget 2 || nat_lt 1048576 budget) made)
   where
     first_test : (a b c d : Bool) → cond (a || b) (Some fault.Seats) (cond c (Some fault.Conds) (cond d (Some fault.Budget) None)) ≡ None → a ≡ false
@@ -253,7 +253,7 @@ some_seat seats conds budget made = not_below (first_test (nat_lt seats 1) (nat_
     not_below : nat_lt seats 1 ≡ false → 0 < seats
     not_below e = grind (arith, e)
 
-pub tokens_are_of : (z : TableId) (c : Setting) (n i : ℕ) → AreOf z c (tokens z (fresh_from c n i))
+pub tokens_are_of : (z : TableId) (c : Setting) (n i : ℕ) → AreOf z c (tokens z (opening_records c n i))
 tokens_are_of z c zero i = tt
 tokens_are_of z c (suc n) i = (refl, refl, tokens_are_of z c n (suc i))
 

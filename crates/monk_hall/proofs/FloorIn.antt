@@ -13,7 +13,7 @@ use Rattle.atomic_table.specs.Table as table
 use Rattle.monk_kinds.specs.Kind.{IsKind}
 use Rattle.monk_kinds.specs.declared.mode.Rules.{Rules}
 use Rattle.monk_object.specs.Object.{Object}
-use Rattle.monk_history.specs.Meaning.Counts.{events_of, granted_of, grants, names, left_of}
+use Rattle.monk_history.specs.Meaning.Counts.{events_of, granted_of, grants, chooses_seat, left_of}
 use Rattle.monk_history.specs.Meaning.Events.{seat_of, next_of, is_stay}
 use Rattle.monk_history.specs.Meaning.Legal.{IsLegal}
 use Rattle.monk_history.specs.Meaning.Release.{MayCall, with_next, choice_of}
@@ -25,12 +25,12 @@ use Rattle.monk_history.specs.declared.event.Turn.TheVariants.{Owned}
 use Rattle.monk_history.proofs.MeaningLaws.CountLaws.{granted_of-push}
 use Rattle.monk_floor.specs.View.{FloorView, monitor_of, stands_of}
 use Rattle.monk_world.specs.Kept.{IsKept}
-use Rattle.monk_world.specs.Places.{stage, chosen, open_turn, due_to, turn_chosen}
+use Rattle.monk_world.specs.Places.{stage, back_turn, open_turn, due_to, turn_of_next, due_stage, active_stage, back_stage, passing_stage}
 use Rattle.monk_world.specs.Put.{put}
 use Rattle.monk_world.specs.Sound.{left_within}
-use Rattle.monk_world.specs.State.{State, grown}
+use Rattle.monk_world.specs.State.{State, with_event}
 use Rattle.monk_world.specs.StepTable.{IsStep, out_event, release_next}
-use Rattle.monk_world.specs.Steps.{after_in}
+use Rattle.monk_world.specs.Steps.{after_floor_in}
 use Rattle.monk_world.specs.World.{World}
 use Rattle.monk_world.specs.declared.answer.Answer.TheVariants as answer
 use Rattle.monk_world.specs.declared.home.Home.{Home}
@@ -40,14 +40,14 @@ use Rattle.monk_world.specs.declared.source.Source.{Source}
 use Rattle.monk_world.specs.declared.source.Source.TheVariants.{Free, Granted, Called}
 use Rattle.monk_world.proofs.PutLaws.{at_put, put_here}
 use Rattle.monk_world.proofs.TestLaws.{names_chosen}
-use Rattle.monk_hall.specs.Changes.{gave, source_at, back_after}
-use Rattle.monk_hall.specs.Floors.{StartsWith, GoesOn, IsOwn, AreOwn}
+use Rattle.monk_hall.specs.Changes.{record_after_floor_in, source_at, back_after}
+use Rattle.monk_hall.specs.Floors.{StartsWith, GoesOn, IsPrivate, ArePrivate}
 use Rattle.monk_hall.specs.Laws.{BringsHome}
-use Rattle.monk_hall.specs.Layout.{floor_of, shown, shown_world}
+use Rattle.monk_hall.specs.Layout.{floor_of, shown_state, shown_world}
 use Rattle.monk_hall.specs.Records.{View, IsOne, the}
 use Rattle.monk_hall.specs.Rule.{IsHall, AreTold, CountsCalls}
-use Rattle.monk_hall.specs.Tells.{Me, GivesFloor, Returns, held_history}
-use Rattle.monk_hall.specs.declared.record.Record.{Record}
+use Rattle.monk_hall.specs.Tells.{Me, TellsFloorIn, Returns, held_history}
+use Rattle.monk_hall.specs.declared.record.SeatRecord.{SeatRecord}
 use Rattle.monk_hall.specs.declared.setting.Setting.{Setting}
 use Rattle.monk_hall.proofs.Frame as frame
 use Rattle.monk_hall.proofs.Private as private
@@ -64,26 +64,26 @@ starts_on : (h g f : List Event) → StartsWith h g → StartsWith g f → Start
 starts_on h g f a b = (b.0 ++ a.0, a.1 ∙ ap (λ (x : List Event). x ++ a.0) b.1 ∙ append_assoc f b.0 a.0)
 
 -- a choice that names a seat chose it, and no other choice does
-chosen_counts : (h : List Event) (e : Event) (x : Next) (m : ℕ) → next_of e ≡ Some x → turn_chosen x ≡ due_to m → granted_of (h ++ e ∷ []) m ≡ granted_of h m + 1
+chosen_counts : (h : List Event) (e : Event) (x : Next) (m : ℕ) → next_of e ≡ Some x → turn_of_next x ≡ due_to m → granted_of (h ++ e ∷ []) m ≡ granted_of h m + 1
 chosen_counts h e x m chose names_m =
-    granted_of-push h e m ∙ ap (λ (b : Bool). granted_of h m + cond b 1 0) (ap (names m) chose ∙ names_chosen x m names_m)
+    granted_of-push h e m ∙ ap (λ (b : Bool). granted_of h m + cond b 1 0) (ap (chooses_seat m) chose ∙ names_chosen x m names_m)
 
-names_not : (x : Next) (m : ℕ) → turn_chosen x ≢ due_to m → names m (Some x) ≡ false
+names_not : (x : Next) (m : ℕ) → turn_of_next x ≢ due_to m → chooses_seat m (Some x) ≡ false
 names_not next.Stay m ne = refl
 names_not next.Entry m ne = refl
 names_not (next.Waiter j) m ne = ne_eqb j m (λ e. ne (ap due_to e))
 names_not (next.Signaller j) m ne = ne_eqb j m (λ e. ne (ap due_to e))
 names_not (next.Until j) m ne = ne_eqb j m (λ e. ne (ap due_to e))
 
-not_counts : (h : List Event) (e : Event) (x : Next) (m : ℕ) → next_of e ≡ Some x → turn_chosen x ≢ due_to m → granted_of (h ++ e ∷ []) m ≡ granted_of h m
+not_counts : (h : List Event) (e : Event) (x : Next) (m : ℕ) → next_of e ≡ Some x → turn_of_next x ≢ due_to m → granted_of (h ++ e ∷ []) m ≡ granted_of h m
 not_counts h e x m chose ne =
-    granted_of-push h e m ∙ ap (λ (b : Bool). granted_of h m + cond b 1 0) (ap (names m) chose ∙ names_not x m ne) ∙ (let z : granted_of h m + 0 ≡ granted_of h m = omega arith in z)
+    granted_of-push h e m ∙ ap (λ (b : Bool). granted_of h m + cond b 1 0) (ap (chooses_seat m) chose ∙ names_not x m ne) ∙ (let z : granted_of h m + 0 ≡ granted_of h m = omega arith in z)
 
 -- an event that keeps the turn chose nobody
 keeps_names : (i m : ℕ) (e : Event) → turn_by (seat_of e) (next_of e) ≡ Owned i → grants m e ≡ false
 keeps_names i m e own = by_next (next_of e) own
   where
-    by_next : (x : Option Next) → turn_by (seat_of e) x ≡ Owned i → names m x ≡ false
+    by_next : (x : Option Next) → turn_by (seat_of e) x ≡ Owned i → chooses_seat m x ≡ false
     by_next None own = refl
     by_next (Some next.Stay) own = refl
     by_next (Some next.Entry) own = absurd cc
@@ -91,7 +91,7 @@ keeps_names i m e own = by_next (next_of e) own
     by_next (Some (next.Signaller j)) own = absurd cc
     by_next (Some (next.Until j)) own = absurd cc
 
-own_counts : (i m : ℕ) (h es : List Event) → AreOwn i es → granted_of (h ++ es) m ≡ granted_of h m
+own_counts : (i m : ℕ) (h es : List Event) → ArePrivate i es → granted_of (h ++ es) m ≡ granted_of h m
 own_counts i m h [] own = ap (λ (g : List Event). granted_of g m) (append-nil h)
 own_counts i m h (e ∷ es) own =
     ap (λ (g : List Event). granted_of g m) (sym (append_assoc h (e ∷ []) es))
@@ -108,7 +108,7 @@ out_counts h i m q =
     none Called = refl
 
 -- only a seat that has the floor back has chosen
-chosen_low : (p : Place) (m : ℕ) → chosen p ≡ due_to m → stage p ≡ 4
+chosen_low : (p : Place) (m : ℕ) → back_turn p ≡ due_to m → stage p ≡ back_stage
 chosen_low Idle m e = absurd (omega arith)
 chosen_low (Ticket t) m e = absurd (omega arith)
 chosen_low (Due y) m e = absurd (omega arith)
@@ -117,8 +117,8 @@ chosen_low (Back x to) m e = refl
 chosen_low (Passing t to) m e = absurd (omega arith)
 chosen_low Inner m e = absurd (omega arith)
 
-module _ (k : Rules) (o : Object) (c : Setting) (kind : IsKind k) (s : table.State (Option FloorView) View) (h : IsHall k o c s) (id : ℕ) (r : Record) (here : get_elem? s.views id ≡ maybe.some (r ∷ []))
-    (active : stage r.place ≡ 3) (f : FloorView) (ret : Returns k o r f) where
+module _ (k : Rules) (o : Object) (c : Setting) (kind : IsKind k) (s : table.State (Option FloorView) View) (h : IsHall k o c s) (id : ℕ) (r : SeatRecord) (here : get_elem? s.views id ≡ maybe.some (r ∷ []))
+    (active : stage r.place ≡ active_stage) (f : FloorView) (ret : Returns k o r f) where
   abbrev q : Source
   q = source_at r.place
 
@@ -131,14 +131,14 @@ module _ (k : Rules) (o : Object) (c : Setting) (kind : IsKind k) (s : table.Sta
   abbrev last : Event
   last = with_next ret.choice ret.call
 
-  abbrev w : Record
-  w = gave r f.history
+  abbrev w : SeatRecord
+  w = record_after_floor_in r f.history
 
   at_active : (h.0 r.seat).place ≡ Active q
   at_active = stepping.stands_at k o c kind s h id r here (Active q) (standing.active_at r.place active)
 
   seen_past : r.seen ≡ past
-  seen_past = sym (ap (λ (y : Record). y.seen) (stepping.is k o c kind s h id r here)) ∙ (h.2.told.lent r.seat q at_active).0
+  seen_past = sym (ap (λ (y : SeatRecord). y.seen) (stepping.is k o c kind s h id r here)) ∙ (h.2.told.lent r.seat q at_active).0
 
   history_is : h.2.history ≡ past ++ out_event r.seat q (turn past) ∷ []
   history_is = (h.2.told.lent r.seat q at_active).1
@@ -151,7 +151,7 @@ module _ (k : Rules) (o : Object) (c : Setting) (kind : IsKind k) (s : table.Sta
   before_is = ret.goes_on.is_floor ∙ ap (λ (y : Setting). floor_of y before) (stepping.setting k o c kind s h id r here)
 
   grown_is : f ≡ floor_of c (before ++ last ∷ [])
-  grown_is = ret.grows ∙ ap (λ (g : FloorView). grown g last) before_is
+  grown_is = ret.grows ∙ ap (λ (g : FloorView). with_event g last) before_is
 
   f_history : f.history ≡ before ++ last ∷ []
   f_history = ap (λ (g : FloorView). g.history) grown_is
@@ -162,17 +162,17 @@ module _ (k : Rules) (o : Object) (c : Setting) (kind : IsKind k) (s : table.Sta
   legal_before : IsLegal (monitor_of k o (floor_of c before)) before
   legal_before = subst (λ (g : FloorView). IsLegal (monitor_of k o g) before) before_is ret.goes_on.legal
 
-  kept_before : IsKept k o c.seats c.conds (shown c s.words h.0 before)
+  kept_before : IsKept k o c.seats c.conds (shown_state c s.words h.0 before)
   kept_before =
       let long = ap length mine_long ∙ length-append (events_of h.2.history r.seat) ret.goes_on.since in
       let room : left_of ret.before.budget before r.seat ≡ left_of c.budget before r.seat = ap (λ (g : FloorView). left_of g.budget before r.seat) before_is in
       let some = ret.left in
-      subst (λ (g : List Event). IsKept k o c.seats c.conds (shown c s.words h.0 g)) (sym goes_is)
+      subst (λ (g : List Event). IsKept k o c.seats c.conds (shown_state c s.words h.0 g)) (sym goes_is)
       (private.more_kept k o (stepping.state k o c kind s h id r here) c.seats c.conds r.seat q ret.goes_on.since h.2.kept (stepping.near k o c kind s h id r here) at_active ret.goes_on.own
       (subst (IsLegal (monitor_of k o (floor_of c before))) goes_is legal_before) (omega arith))
 
   abbrev old : State
-  old = shown c s.words h.0 before
+  old = shown_state c s.words h.0 before
 
   taken : releasing.IsTaken k o old c.seats c.conds r.seat q kind kept_before (stepping.near k o c kind s h id r here) at_active ret.to ret.choice ret.call
   taken =
@@ -180,17 +180,17 @@ module _ (k : Rules) (o : Object) (c : Setting) (kind : IsKind k) (s : table.Sta
       (subst (λ (g : FloorView). MayCall (monitor_of k o g) before ret.call) before_is ret.may)
       (subst (λ (g : FloorView). left_within ret.to < left_of g.budget before r.seat) before_is ret.left)
       (ret.chosen ∙ ap (λ (g : FloorView). choice_of k o (stands_of k o g) ret.call r.known ret.wish) before_is
-      ∙ ap (λ (y : Record). choice_of k o (stands_of k o (floor_of c before)) ret.call y.known ret.wish) (sym (stepping.is k o c kind s h id r here)))
+      ∙ ap (λ (y : SeatRecord). choice_of k o (stands_of k o (floor_of c before)) ret.call y.known ret.wish) (sym (stepping.is k o c kind s h id r here)))
       ret.away
 
-  kept_after : IsKept k o c.seats c.conds (record old { world = after_in old.world r.seat ret.choice ret.to; floor = grown (floor_of c before) last })
+  kept_after : IsKept k o c.seats c.conds (record old { world = after_floor_in old.world r.seat ret.choice ret.to; floor = with_event (floor_of c before) last })
   kept_after = taken.is_kept
 
   -- where the seat stands now
   back_is : w.place ≡ Back ret.choice ret.to
   back_is = ap (λ (g : List Event). back_after (last_or None g)) f_history ∙ ap back_after (last_more None before last) ∙ releasing.back_is r.seat ret.to ret.call ret.choice ret.release
 
-  same : Path State (record old { world = after_in old.world r.seat ret.choice ret.to; floor = grown (floor_of c before) last }) (shown c s.words (put h.0 r.seat w) f.history)
+  same : Path State (record old { world = after_floor_in old.world r.seat ret.choice ret.to; floor = with_event (floor_of c before) last }) (shown_state c s.words (put h.0 r.seat w) f.history)
   same = λ z. record {
     world = record old.world {
       place = (ap (put old.world.place r.seat) (sym back_is) ∙ stepping.places_after k o c kind s h id r here w) z;
@@ -201,7 +201,7 @@ module _ (k : Rules) (o : Object) (c : Setting) (kind : IsKind k) (s : table.Sta
   }
 
   -- nobody else has the right
-  alone : (j : ℕ) → j ≢ r.seat → 2 ≤ stage (h.0 j).place → stage (h.0 j).place ≤ 5 → ⊥
+  alone : (j : ℕ) → j ≢ r.seat → due_stage ≤ stage (h.0 j).place → stage (h.0 j).place ≤ passing_stage → ⊥
   alone j ne low high =
       let keeps = (stepping.sound k o c kind s h id r here).stands.keeps in
       let three = ap stage at_active in
@@ -217,7 +217,7 @@ module _ (k : Rules) (o : Object) (c : Setting) (kind : IsKind k) (s : table.Sta
       ∙ ap (λ (g : List Event). granted_of g m) history_is
       ∙ out_counts past r.seat m q
 
-  nobody_chose : (j m : ℕ) → chosen (h.0 j).place ≢ due_to m
+  nobody_chose : (j m : ℕ) → back_turn (h.0 j).place ≢ due_to m
   nobody_chose j m e =
       let four = chosen_low (h.0 j).place m e in
       elim (eqb_tells j r.seat) [
@@ -234,12 +234,12 @@ module _ (k : Rules) (o : Object) (c : Setting) (kind : IsKind k) (s : table.Sta
       let world : World = shown_world s.words at in
       let settled : (m : ℕ) → granted_of before m ≡ world.seat_place m = λ m. before_counts m ∙ h.2.told.calls.settled m (λ j. nobody_chose j m) in
       record {
-        choosing = λ j m. at_put at r.seat w (λ n x. chosen x.place ≡ due_to m → granted_of f.history m ≡ world.seat_place m + 1)
-            (λ e. ap (λ (g : List Event). granted_of g m) f_history ∙ chosen_counts before last ret.choice m chose_is (sym (ap chosen back_is) ∙ e) ∙ ap (λ (n : ℕ). n + 1) (settled m))
+        choosing = λ j m. at_put at r.seat w (λ n x. back_turn x.place ≡ due_to m → granted_of f.history m ≡ world.seat_place m + 1)
+            (λ e. ap (λ (g : List Event). granted_of g m) f_history ∙ chosen_counts before last ret.choice m chose_is (sym (ap back_turn back_is) ∙ e) ∙ ap (λ (n : ℕ). n + 1) (settled m))
             (λ n _ e. absurd (nobody_chose n m e)) j;
         settled = λ m none.
             ap (λ (g : List Event). granted_of g m) f_history
-            ∙ not_counts before last ret.choice m chose_is (λ e. none r.seat (ap (λ (y : Record). chosen y.place) (put_here at r.seat w) ∙ ap chosen back_is ∙ e)) ∙ settled m;
+            ∙ not_counts before last ret.choice m chose_is (λ e. none r.seat (ap (λ (y : SeatRecord). back_turn y.place) (put_here at r.seat w) ∙ ap back_turn back_is ∙ e)) ∙ settled m;
       }
 
   past_starts : StartsWith f.history past
@@ -263,14 +263,14 @@ module _ (k : Rules) (o : Object) (c : Setting) (kind : IsKind k) (s : table.Sta
   told_after =
       let at = h.0 in
       let told = h.2.told in
-      let four : stage w.place ≡ 4 = ap stage back_is in
+      let four : stage w.place ≡ back_stage = ap stage back_is in
       record {
         one_slot = length-set s.homes 0 (maybe.some (Some f)) ∙ told.one_slot;
         legal = (subst (IsKept k o c.seats c.conds) same kept_after).sound.is_sound.legal;
         starts = at_put at r.seat w (λ j x. StartsWith f.history x.seen) (frame.starts_self f.history) (λ j _. starts_on f.history past (at j).seen past_starts (told.starts j));
         mine = at_put at r.seat w (λ j x. events_of f.history j ≡ x.mine) refl (λ j ne. others_mine j ne);
         own = at_put at r.seat w (λ j x. events_of x.seen j ≡ x.mine) refl (λ j _. told.own j);
-        back = at_put at r.seat w (λ j x. stage x.place ≡ 4 → x.seen ≡ f.history) (λ _. refl) (λ j ne e. absurd (alone j ne (omega arith) (omega arith)));
+        back = at_put at r.seat w (λ j x. stage x.place ≡ back_stage → x.seen ≡ f.history) (λ _. refl) (λ j ne e. absurd (alone j ne (omega arith) (omega arith)));
         lent = at_put at r.seat w (λ j x. (p : Source) → x.place ≡ Active p → (x.seen ≡ f.history) × (f.history ≡ f.history ++ out_event j p (turn f.history) ∷ []) × (get_elem? (set s.homes 0 (maybe.some (Some f))) 0 ≡ maybe.some maybe.none))
             (λ p e. absurd (let z = ap stage e in omega arith))
             (λ j ne p e. absurd (let z = ap stage e in alone j ne (omega arith) (omega arith)));
@@ -298,19 +298,19 @@ module _ (k : Rules) (o : Object) (c : Setting) (kind : IsKind k) (s : table.Sta
     command = taken.command;
     choice = ret.choice;
     away = ret.away;
-    step = subst (λ (g : List Event). IsStep k o (shown c s.words h.0 g) r.seat taken.command (answer.Chose ret.choice) (shown c s.words (put h.0 r.seat w) f.history)) goes_is
+    step = subst (λ (g : List Event). IsStep k o (shown_state c s.words h.0 g) r.seat taken.command (answer.Chose ret.choice) (shown_state c s.words (put h.0 r.seat w) f.history)) goes_is
         (subst (λ (t : State). IsStep k o old r.seat taken.command (answer.Chose ret.choice) t) same taken.step);
   }
 
-pub gives_floor : (k : Rules) (o : Object) (c : Setting) → IsKind k → (slots id : ℕ) (me : Me) (f : FloorView) → IsOne me.0 → me.1 ≡ (0, Some f) ∷ [] → stage (the me.0).place ≡ 3 → Returns k o (the me.0) f
-    → Allows (IsHall k o c) slots id me 0 (λ n. n) (GivesFloor (held_history me.1) me)
+pub gives_floor : (k : Rules) (o : Object) (c : Setting) → IsKind k → (slots id : ℕ) (me : Me) (f : FloorView) → IsOne me.0 → me.1 ≡ (0, Some f) ∷ [] → stage (the me.0).place ≡ active_stage → Returns k o (the me.0) f
+    → Allows (IsHall k o c) slots id me 0 (λ n. n) (TellsFloorIn (held_history me.1) me)
 gives_floor k o c kind slots id me f one holds active ret =
-    subst (λ (g : List (ℕ × Option FloorView)). Allows (IsHall k o c) slots id (me.0, g) 0 (λ n. n) (GivesFloor (held_history g) (me.0, g))) (sym holds) (λ s h wide view small.
+    subst (λ (g : List (ℕ × Option FloorView)). Allows (IsHall k o c) slots id (me.0, g) 0 (λ n. n) (TellsFloorIn (held_history g) (me.0, g))) (sym holds) (λ s h wide view small.
     let here : get_elem? s.views id ≡ maybe.some (the me.0 ∷ []) = view ∙ ap maybe.some one in
-    let r : Record = the me.0 in (
-      gave r f.history ∷ [],
+    let r : SeatRecord = the me.0 in (
+      record_after_floor_in r f.history ∷ [],
       gives,
       tt,
-      subst (λ (ws : List ℕ). IsHall k o c (record { words = ws; homes = set s.homes 0 (maybe.some (Some f)); views = set s.views id (gave r f.history ∷ []) })) (sym (set-get_or s.words 0 0)) (gives_at k o c kind s h id r here active f ret).hall,
+      subst (λ (ws : List ℕ). IsHall k o c (record { words = ws; homes = set s.homes 0 (maybe.some (Some f)); views = set s.views id (record_after_floor_in r f.history ∷ []) })) (sym (set-get_or s.words 0 0)) (gives_at k o c kind s h id r here active f ret).hall,
       refl,
     ))

@@ -19,12 +19,12 @@ use Rattle.monk_history.proofs.MeaningLaws.LegalLaws.{legal_last}
 use Rattle.monk_floor.specs.View.{FloorView, monitor_of}
 use Rattle.monk_world.specs.Enters.{used_at}
 use Rattle.monk_world.specs.Kept.{IsKept}
-use Rattle.monk_world.specs.Places.{stage, ticket, source, chosen}
+use Rattle.monk_world.specs.Places.{stage, ticket, source, back_turn, due_stage, active_stage, back_stage, granted_source}
 use Rattle.monk_world.specs.Put.{put}
 use Rattle.monk_world.specs.Sound.{left_at}
-use Rattle.monk_world.specs.State.{State, grown}
+use Rattle.monk_world.specs.State.{State, with_event}
 use Rattle.monk_world.specs.StepTable.{IsStep, IsDone, may_be_told, out_event}
-use Rattle.monk_world.specs.Steps.{after_out}
+use Rattle.monk_world.specs.Steps.{after_floor_out}
 use Rattle.monk_world.specs.World.{World}
 use Rattle.monk_world.specs.declared.answer.Answer.TheVariants as answer
 use Rattle.monk_world.specs.declared.command.Command.TheVariants as command
@@ -34,14 +34,14 @@ use Rattle.monk_world.specs.declared.source.Source.{Source}
 use Rattle.monk_world.specs.declared.source.Source.TheVariants.{Free, Granted, Called}
 use Rattle.monk_world.proofs.DoneLaws.{IsReady}
 use Rattle.monk_world.proofs.PutLaws.{at_put, put_here}
-use Rattle.monk_hall.specs.Changes.{took, source_at}
+use Rattle.monk_hall.specs.Changes.{record_after_floor_out, source_at}
 use Rattle.monk_hall.specs.Floors.{StartsWith, Finds}
 use Rattle.monk_hall.specs.Laws.{Takes}
-use Rattle.monk_hall.specs.Layout.{floor_of, shown, shown_world}
+use Rattle.monk_hall.specs.Layout.{floor_of, shown_state, shown_world}
 use Rattle.monk_hall.specs.Records.{View, IsOne, the}
 use Rattle.monk_hall.specs.Rule.{IsHall, AreTold}
-use Rattle.monk_hall.specs.Tells.{Me, TakesFloor}
-use Rattle.monk_hall.specs.declared.record.Record.{Record}
+use Rattle.monk_hall.specs.Tells.{Me, TellsFloorOut}
+use Rattle.monk_hall.specs.declared.record.SeatRecord.{SeatRecord}
 use Rattle.monk_hall.specs.declared.setting.Setting.{Setting}
 use Rattle.monk_hall.proofs.Frame as frame
 use Rattle.monk_hall.proofs.Knows.{calls_stay}
@@ -49,8 +49,8 @@ use Rattle.monk_hall.proofs.Seats as seats
 use Rattle.monk_hall.proofs.Standing as standing
 use Rattle.monk_hall.proofs.Stepping as stepping
 
-module _ (k : Rules) (o : Object) (c : Setting) (kind : IsKind k) (s : table.State (Option FloorView) View) (h : IsHall k o c s) (id : ℕ) (r : Record) (here : get_elem? s.views id ≡ maybe.some (r ∷ []))
-    (due : stage r.place ≡ 2) where
+module _ (k : Rules) (o : Object) (c : Setting) (kind : IsKind k) (s : table.State (Option FloorView) View) (h : IsHall k o c s) (id : ℕ) (r : SeatRecord) (here : get_elem? s.views id ≡ maybe.some (r ∷ []))
+    (due : stage r.place ≡ due_stage) where
   abbrev past : List Event
   past = h.2.past
 
@@ -61,16 +61,16 @@ module _ (k : Rules) (o : Object) (c : Setting) (kind : IsKind k) (s : table.Sta
   floor = floor_of c past
 
   abbrev old : State
-  old = shown c s.words h.0 past
+  old = shown_state c s.words h.0 past
 
-  abbrev w : Record
-  w = took r past
+  abbrev w : SeatRecord
+  w = record_after_floor_out r past
 
   at_due : (h.0 r.seat).place ≡ Due (source_at r.place)
   at_due = stepping.stands_at k o c kind s h id r here (Due (source_at r.place)) (standing.due_at r.place due)
 
   -- nobody is active: the seat that is due has the right
-  nobody : (j : ℕ) → stage (h.0 j).place ≢ 3
+  nobody : (j : ℕ) → stage (h.0 j).place ≢ active_stage
   nobody j three =
       let keeps = (stepping.sound k o c kind s h id r here).stands.keeps in
       let two = ap stage at_due in
@@ -85,10 +85,10 @@ module _ (k : Rules) (o : Object) (c : Setting) (kind : IsKind k) (s : table.Sta
   at_home = (h.2.told.home nobody).1
 
   kept_old : IsKept k o c.seats c.conds old
-  kept_old = subst (λ (g : List Event). IsKept k o c.seats c.conds (shown c s.words h.0 g)) (h.2.told.home nobody).0 h.2.kept
+  kept_old = subst (λ (g : List Event). IsKept k o c.seats c.conds (shown_state c s.words h.0 g)) (h.2.told.home nobody).0 h.2.kept
 
   after : State
-  after = record { world = after_out old.world r.seat (source_at r.place); known = put old.known r.seat false; floor = grown floor came }
+  after = record { world = after_floor_out old.world r.seat (source_at r.place); known = put old.known r.seat false; floor = with_event floor came }
 
   ready : IsReady k o old r.seat command.Out
   ready = record {
@@ -107,7 +107,7 @@ module _ (k : Rules) (o : Object) (c : Setting) (kind : IsKind k) (s : table.Sta
   unfolding after
   step_after = frame.step_is k o old r.seat command.Out answer.Now after (Due (source_at r.place)) ready at_due (refl, refl)
 
-  same : Path State after (shown c s.words (put h.0 r.seat w) (past ++ came ∷ []))
+  same : Path State after (shown_state c s.words (put h.0 r.seat w) (past ++ came ∷ []))
   unfolding after
   same = λ z. record {
     world = record old.world { place = stepping.places_after k o c kind s h id r here w z; count = stepping.counts_stay k o c kind s h id r here w refl z };
@@ -120,7 +120,7 @@ module _ (k : Rules) (o : Object) (c : Setting) (kind : IsKind k) (s : table.Sta
       let told = h.2.told in
       let is = stepping.is k o c kind s h id r here in
       let at = h.0 in
-      let mine : w.mine ≡ (at r.seat).mine = ap (λ (y : Record). y.mine) (sym is) in
+      let mine : w.mine ≡ (at r.seat).mine = ap (λ (y : SeatRecord). y.mine) (sym is) in
       let world : World = shown_world s.words at in
       record {
         one_slot = length-set s.homes 0 maybe.none ∙ told.one_slot;
@@ -128,12 +128,12 @@ module _ (k : Rules) (o : Object) (c : Setting) (kind : IsKind k) (s : table.Sta
         starts = at_put at r.seat w (λ j x. StartsWith past x.seen) (frame.starts_self past) (λ j _. told.starts j);
         mine = at_put at r.seat w (λ j x. events_of past j ≡ x.mine) (told.mine r.seat ∙ sym mine) (λ j _. told.mine j);
         own = at_put at r.seat w (λ j x. events_of x.seen j ≡ x.mine) (told.mine r.seat ∙ sym mine) (λ j _. told.own j);
-        back = at_put at r.seat w (λ j x. stage x.place ≡ 4 → x.seen ≡ past) (λ e. absurd (omega arith)) (λ j _. told.back j);
+        back = at_put at r.seat w (λ j x. stage x.place ≡ back_stage → x.seen ≡ past) (λ e. absurd (omega arith)) (λ j _. told.back j);
         lent = at_put at r.seat w (λ j x. (q : Source) → x.place ≡ Active q → (x.seen ≡ past) × (past ++ came ∷ [] ≡ past ++ out_event j q (turn past) ∷ []) × (get_elem? (set s.homes 0 maybe.none) 0 ≡ maybe.some maybe.none))
             (λ q e. (refl, ap (λ (p : Place). past ++ out_event r.seat (source_at p) (turn past) ∷ []) e, set_here s.homes 0 maybe.none (let z = told.one_slot in omega arith)))
             (λ j _ q e. absurd (nobody j (ap stage e)));
-        home = λ none. absurd (none r.seat (ap (λ (y : Record). stage y.place) (put_here at r.seat w)));
-        calls = calls_stay world (shown_world s.words (put at r.seat w)) past r.seat w.place told.calls (sym (stepping.places_after k o c kind s h id r here w)) refl (ap chosen at_due) refl;
+        home = λ none. absurd (none r.seat (ap (λ (y : SeatRecord). stage y.place) (put_here at r.seat w)));
+        calls = calls_stay world (shown_world s.words (put at r.seat w)) past r.seat w.place told.calls (sym (stepping.places_after k o c kind s h id r here w)) refl (ap back_turn at_due) refl;
       }
 
   pub takes_at : Takes k o c s h r.seat command.Out answer.Now (record { words = s.words; homes = set s.homes 0 maybe.none; views = set s.views id (w ∷ []) })
@@ -150,11 +150,11 @@ module _ (k : Rules) (o : Object) (c : Setting) (kind : IsKind k) (s : table.Sta
         told = told_after;
       },
     );
-    step = subst (λ (g : List Event). IsStep k o (shown c s.words h.0 g) r.seat command.Out answer.Now (shown c s.words (put h.0 r.seat w) (past ++ came ∷ []))) (sym (h.2.told.home nobody).0)
+    step = subst (λ (g : List Event). IsStep k o (shown_state c s.words h.0 g) r.seat command.Out answer.Now (shown_state c s.words (put h.0 r.seat w) (past ++ came ∷ []))) (sym (h.2.told.home nobody).0)
         (subst (λ (t : State). IsStep k o old r.seat command.Out answer.Now t) same step_after);
   }
 
-  entered_is : (t : ℕ) (q : Source) → source_at r.place ≡ q → used_at (Due q) ≡ 0 → ticket (Due q) ≡ t → source (Due q) ≤ 2 → enters_of past ≡ t
+  entered_is : (t : ℕ) (q : Source) → source_at r.place ≡ q → used_at (Due q) ≡ 0 → ticket (Due q) ≡ t → source (Due q) ≤ granted_source → enters_of past ≡ t
   entered_is t q q_is unused number outer =
       let sound = kept_old.sound.is_sound in
       let at_q : (h.0 r.seat).place ≡ Due q = at_due ∙ ap Due q_is in
@@ -173,12 +173,12 @@ module _ (k : Rules) (o : Object) (c : Setting) (kind : IsKind k) (s : table.Sta
       let is = stepping.is k o c kind s h id r here in
       let setting = stepping.setting k o c kind s h id r here in
       let sound = kept_old.sound.is_sound in
-      let mine : events_of past r.seat ≡ r.mine = told.mine r.seat ∙ ap (λ (y : Record). y.mine) is in
+      let mine : events_of past r.seat ≡ r.mine = told.mine r.seat ∙ ap (λ (y : SeatRecord). y.mine) is in
       record {
         is_floor = ap (λ (y : Setting). floor_of y past) (sym setting);
         near = stepping.near k o c kind s h id r here;
         legal = told.legal;
-        starts = subst (λ (y : Record). StartsWith past y.seen) is (told.starts r.seat);
+        starts = subst (λ (y : SeatRecord). StartsWith past y.seen) is (told.starts r.seat);
         mine = mine;
         allowed = legal_last (monitor_of k o floor) past came (subst (IsKept k o c.seats c.conds) same kept_after).sound.is_sound.legal;
         left = let l = sound.left r.seat in let p = ap left_at at_due in omega arith;
@@ -187,13 +187,13 @@ module _ (k : Rules) (o : Object) (c : Setting) (kind : IsKind k) (s : table.Sta
         next = λ t e. entered_is t (Granted t) e refl refl (omega arith);
       }
 
-pub takes_floor : (k : Rules) (o : Object) (c : Setting) → IsKind k → (id : ℕ) (me : Me) → IsOne me.0 → me.1 ≡ [] → stage (the me.0).place ≡ 2 → Allows (IsHall k o c) 1 id me 0 (λ n. n) (TakesFloor k o me)
+pub takes_floor : (k : Rules) (o : Object) (c : Setting) → IsKind k → (id : ℕ) (me : Me) → IsOne me.0 → me.1 ≡ [] → stage (the me.0).place ≡ due_stage → Allows (IsHall k o c) 1 id me 0 (λ n. n) (TellsFloorOut k o me)
 takes_floor k o c kind id me one none due s h wide view small =
     let here : get_elem? s.views id ≡ maybe.some (the me.0 ∷ []) = view ∙ ap maybe.some one in
-    let r : Record = the me.0 in (
-      took r h.2.past ∷ [],
+    let r : SeatRecord = the me.0 in (
+      record_after_floor_out r h.2.past ∷ [],
       takes 0 (Some (floor_of c h.2.past)),
       at_home k o c kind s h id r here due,
-      subst (λ (ws : List ℕ). IsHall k o c (record { words = ws; homes = set s.homes 0 maybe.none; views = set s.views id (took r h.2.past ∷ []) })) (sym (set-get_or s.words 0 0)) (takes_at k o c kind s h id r here due).hall,
+      subst (λ (ws : List ℕ). IsHall k o c (record { words = ws; homes = set s.homes 0 maybe.none; views = set s.views id (record_after_floor_out r h.2.past ∷ []) })) (sym (set-get_or s.words 0 0)) (takes_at k o c kind s h id r here due).hall,
       (floor_of c h.2.past, refl, finds k o c kind s h id r here due),
     )

@@ -13,7 +13,7 @@ use Rattle.monk_history.proofs.MeaningLaws.CountLaws.{events_of-push, enters_of-
 use Rattle.monk_world.specs.Enters.{FitsEnters, used_at}
 use Rattle.monk_world.specs.Kept.{IsKept}
 use Rattle.monk_world.specs.OnePlace.{Whereabouts, Nowhere, AtTicket, With, AtSeat}
-use Rattle.monk_world.specs.Places.{stage}
+use Rattle.monk_world.specs.Places.{stage, active_stage}
 use Rattle.monk_world.specs.Right.{KeepsRight, with_seat, called}
 use Rattle.monk_world.specs.Sound.{IsSound}
 use Rattle.monk_world.specs.State.{State}
@@ -32,7 +32,7 @@ use Rattle.monk_world.proofs.WorldLaws.{active_is}
 use Rattle.monk_hall.specs.Floors.{StartsWith}
 use Rattle.monk_hall.specs.Layout.{shown_world}
 use Rattle.monk_hall.specs.Rule.{AreTold, Homes}
-use Rattle.monk_hall.specs.declared.record.Record.{Record}
+use Rattle.monk_hall.specs.declared.record.SeatRecord.{SeatRecord}
 use Rattle.monk_hall.specs.declared.setting.Setting.{Setting}
 
 passes : (reach offered told tired : Bool) → reach ≡ true → offered ≡ true → told ≡ true → tired ≡ false
@@ -76,20 +76,20 @@ pub record IsActiveAt (w : World) (j : ℕ) : Type 0 where
   pub source : Source
   pub at : w.place j ≡ Active source
 
-pub who : (seats : ℕ) (w : World) (right : ℕ) (owner : ℕ → ℕ) → KeepsRight seats w right owner → ((j : ℕ) × IsActiveAt w j) ⊎ ((j : ℕ) → stage (w.place j) ≢ 3)
+pub who : (seats : ℕ) (w : World) (right : ℕ) (owner : ℕ → ℕ) → KeepsRight seats w right owner → ((j : ℕ) × IsActiveAt w j) ⊎ ((j : ℕ) → stage (w.place j) ≢ active_stage)
 who seats w right owner r = by_number (numbered 0 right).0 (numbered 0 right).1
   where
-    held_by : (x : Whereabouts) → right ≡ number x → ((j : ℕ) → stage (w.place j) ≡ 3 → number x ≡ with_seat j)
+    held_by : (x : Whereabouts) → right ≡ number x → ((j : ℕ) → stage (w.place j) ≡ active_stage → number x ≡ with_seat j)
     held_by x is j three = sym is ∙ r.held j (omega arith) (omega arith)
 
-    active_at : (j : ℕ) → (stage (w.place j) == 3) ≡ true → IsActiveAt w j
+    active_at : (j : ℕ) → (stage (w.place j) == active_stage) ≡ true → IsActiveAt w j
     active_at j e = let a = active_is (w.place j) e in record { source = a.source; at = a.is }
 
-    by_number : (x : Whereabouts) → right ≡ number x → ((j : ℕ) × IsActiveAt w j) ⊎ ((j : ℕ) → stage (w.place j) ≢ 3)
+    by_number : (x : Whereabouts) → right ≡ number x → ((j : ℕ) × IsActiveAt w j) ⊎ ((j : ℕ) → stage (w.place j) ≢ active_stage)
     by_number Nowhere is = inr (λ j three. let e = held_by Nowhere is j three in absurd (omega arith))
     by_number (AtTicket t) is = inr (λ j three. let e = held_by (AtTicket t) is j three in absurd (omega arith))
     by_number (AtSeat m) is = inr (λ j three. let e = held_by (AtSeat m) is j three in absurd (omega arith))
-    by_number (With m) is = elim (eqb_tells (stage (w.place m)) 3) [
+    by_number (With m) is = elim (eqb_tells (stage (w.place m)) active_stage) [
       | inl h ↦ inl (m, active_at m h.0)
       | inr h ↦ inr (λ j three. let e = held_by (With m) is j three in let same : j ≡ m = omega arith in h.1 (sym (ap (λ (n : ℕ). stage (w.place n)) same) ∙ three))
     ]
@@ -144,7 +144,7 @@ entered_few k o s right owner h = by_number (numbered 0 right).0 (numbered 0 rig
         let some : s.world.unpassed ≢ 0 = λ z. let f = h.stands.keeps.not_free z in absurd (omega arith) in
         omega arith
 
-module _ (k : Rules) (o : Object) (c : Setting) (homes : Homes) (at : ℕ → Record) (words : List ℕ) (past history : List Event)
+module _ (k : Rules) (o : Object) (c : Setting) (homes : Homes) (at : ℕ → SeatRecord) (words : List ℕ) (past history : List Event)
     (told : AreTold k o c homes at (shown_world words at) past history) (right : ℕ) (owner : ℕ → ℕ) (keeps : KeepsRight c.seats (shown_world words at) right owner) where
   -- what is shown is what the floor at home has, and perhaps the event of the active seat
   pub shows_past : StartsWith history past
@@ -154,7 +154,7 @@ module _ (k : Rules) (o : Object) (c : Setting) (homes : Homes) (at : ℕ → Re
   ]
 
   -- the events of a seat that isn't active
-  pub shows_mine : (i : ℕ) → stage (at i).place ≢ 3 → events_of history i ≡ (at i).mine
+  pub shows_mine : (i : ℕ) → stage (at i).place ≢ active_stage → events_of history i ≡ (at i).mine
   shows_mine i not_active = elim (who c.seats (shown_world words at) right owner keeps) [
     | inl a ↦
         let l = told.lent a.0 a.1.source a.1.at in

@@ -16,10 +16,10 @@ use Rattle.monk_history.specs.declared.event.Next.{Next}
 use Rattle.monk_history.specs.declared.event.Next.TheVariants as next
 use Rattle.monk_floor.specs.View.{FloorView}
 use Rattle.monk_world.specs.Kept.{IsKept}
-use Rattle.monk_world.specs.Places.{stage, ticket, chosen, open_turn, due_to, turn_chosen, place_of}
+use Rattle.monk_world.specs.Places.{stage, ticket, back_turn, open_turn, due_to, turn_of_next, place_of, outside_stage, back_stage, passing_stage, inside_stage}
 use Rattle.monk_world.specs.Put.{put}
 use Rattle.monk_world.specs.State.{State}
-use Rattle.monk_world.specs.StepTable.{IsDone, IsGranted, may_be_told, named_seat}
+use Rattle.monk_world.specs.StepTable.{IsDone, IsGranted, may_be_told, names_seat}
 use Rattle.monk_world.specs.Steps.{after_ticket_grant, after_seat_grant}
 use Rattle.monk_world.specs.World.{World}
 use Rattle.monk_world.specs.declared.answer.Answer.TheVariants as answer
@@ -29,13 +29,13 @@ use Rattle.monk_world.specs.declared.place.Place.{Place}
 use Rattle.monk_world.specs.declared.place.Place.TheVariants.{Idle, Ticket, Due, Active, Back, Passing, Inner}
 use Rattle.monk_world.proofs.DoneLaws.{IsReady}
 use Rattle.monk_world.proofs.PutLaws.{at_put, put_here, put_else, all_back}
-use Rattle.monk_hall.specs.Changes.{handed_on, home_at, source_at}
+use Rattle.monk_hall.specs.Changes.{record_after_grant, home_at, source_at}
 use Rattle.monk_hall.specs.Laws.{Takes}
-use Rattle.monk_hall.specs.Layout.{tickets, unpassed, shown, shown_world, place_word, seat_word}
+use Rattle.monk_hall.specs.Layout.{tickets, unpassed, shown_state, shown_world, place_word, seat_word}
 use Rattle.monk_hall.specs.Records.{View, IsOne, the}
 use Rattle.monk_hall.specs.Rule.{IsHall, IsKeptHall, CountsCalls}
-use Rattle.monk_hall.specs.Tells.{Me, HandsOn}
-use Rattle.monk_hall.specs.declared.record.Record.{Record}
+use Rattle.monk_hall.specs.Tells.{Me, TellsGrant}
+use Rattle.monk_hall.specs.declared.record.SeatRecord.{SeatRecord}
 use Rattle.monk_hall.specs.declared.setting.Setting.{Setting}
 use Rattle.monk_hall.proofs.Knows.{calls_stay}
 use Rattle.monk_hall.proofs.Standing as standing
@@ -47,9 +47,9 @@ record IsChoosing (p : Place) (m : ℕ) : Type 0 where
   choice : Next
   to : Home
   is : p ≡ Back choice to
-  names : turn_chosen choice ≡ due_to m
+  names : turn_of_next choice ≡ due_to m
 
-choosing_at : (p : Place) (m : ℕ) → chosen p ≡ due_to m → IsChoosing p m
+choosing_at : (p : Place) (m : ℕ) → back_turn p ≡ due_to m → IsChoosing p m
 choosing_at Idle m e = absurd (omega arith)
 choosing_at (Ticket t) m e = absurd (omega arith)
 choosing_at (Due q) m e = absurd (omega arith)
@@ -59,41 +59,41 @@ choosing_at (Passing t to) m e = absurd (omega arith)
 choosing_at Inner m e = absurd (omega arith)
 
 -- the step of a world that calls the chosen seat
-calls_chosen : (s : State) (i : ℕ) (x : Next) (m : ℕ) (to : Home) → turn_chosen x ≡ due_to m → IsGranted s i x to (answer.GrantedSeat m) (record s { world = after_seat_grant s.world i m to })
+calls_chosen : (s : State) (i : ℕ) (x : Next) (m : ℕ) (to : Home) → turn_of_next x ≡ due_to m → IsGranted s i x to (answer.GrantedSeat m) (record s { world = after_seat_grant s.world i m to })
 calls_chosen s i next.Stay m to e = absurd (omega arith)
 calls_chosen s i next.Entry m to e = absurd (omega arith)
 calls_chosen s i (next.Waiter j) m to e = let same : m ≡ j = omega arith in (ap answer.GrantedSeat same, λ z. record s { world = after_seat_grant s.world i (same z) to })
 calls_chosen s i (next.Signaller j) m to e = let same : m ≡ j = omega arith in (ap answer.GrantedSeat same, λ z. record s { world = after_seat_grant s.world i (same z) to })
 calls_chosen s i (next.Until j) m to e = let same : m ≡ j = omega arith in (ap answer.GrantedSeat same, λ z. record s { world = after_seat_grant s.world i (same z) to })
 
-calls_done : (k : Rules) (o : Object) (s : State) (i : ℕ) (x : Next) (m : ℕ) (to : Home) → turn_chosen x ≡ due_to m
+calls_done : (k : Rules) (o : Object) (s : State) (i : ℕ) (x : Next) (m : ℕ) (to : Home) → turn_of_next x ≡ due_to m
     → IsDone k o s i (Back x to) command.Grant (answer.GrantedSeat m) (record s { world = after_seat_grant s.world i m to })
 calls_done k o s i x m to e = calls_chosen s i x m to e
 
-names_seat : (x : Next) (m : ℕ) → turn_chosen x ≡ due_to m → named_seat x ≡ true
+names_seat : (x : Next) (m : ℕ) → turn_of_next x ≡ due_to m → names_seat x ≡ true
 names_seat next.Stay m e = absurd (omega arith)
 names_seat next.Entry m e = absurd (omega arith)
 names_seat (next.Waiter j) m e = refl
 names_seat (next.Signaller j) m e = refl
 names_seat (next.Until j) m e = refl
 
-told_to_grant : (x : Next) (m : ℕ) (to : Home) → turn_chosen x ≡ due_to m → may_be_told (Back x to) command.Grant ≡ true
+told_to_grant : (x : Next) (m : ℕ) (to : Home) → turn_of_next x ≡ due_to m → may_be_told (Back x to) command.Grant ≡ true
 told_to_grant x m to e = names_seat x m e
 
-module _ (k : Rules) (o : Object) (c : Setting) (kind : IsKind k) (s : table.State (Option FloorView) View) (h : IsHall k o c s) (id : ℕ) (r : Record) (here : get_elem? s.views id ≡ maybe.some (r ∷ [])) where
+module _ (k : Rules) (o : Object) (c : Setting) (kind : IsKind k) (s : table.State (Option FloorView) View) (h : IsHall k o c s) (id : ℕ) (r : SeatRecord) (here : get_elem? s.views id ≡ maybe.some (r ∷ [])) where
   -- step 7
-  pub grants_ticket_at : stage r.place ≡ 5
-      → Takes k o c s h r.seat command.Grant (answer.GrantedTicket (ticket r.place)) (record { words = set s.words (place_word (ticket r.place % c.seats)) (ticket r.place + 1); homes = s.homes; views = set s.views id (handed_on r ∷ []) })
+  pub grants_ticket_at : stage r.place ≡ passing_stage
+      → Takes k o c s h r.seat command.Grant (answer.GrantedTicket (ticket r.place)) (record { words = set s.words (place_word (ticket r.place % c.seats)) (ticket r.place + 1); homes = s.homes; views = set s.views id (record_after_grant r ∷ []) })
   grants_ticket_at passing =
       let at = h.0 in
       let kh = h.2 in
       let n : ℕ = ticket r.place in
       let q : ℕ = n % c.seats in
       let to : Home = home_at r.place in
-      let w = handed_on r in
+      let w = record_after_grant r in
       let ws : List ℕ = set s.words (place_word q) (n + 1) in
       let world : World = shown_world s.words at in
-      let old : State = shown c s.words at kh.history in
+      let old : State = shown_state c s.words at kh.history in
       let place_is : r.place ≡ Passing n to = standing.passing_at r.place passing in
       let stands = stepping.stands_at k o c kind s h id r here (Passing n to) place_is in
       let low : q < c.seats = mod-lt n kh.some_seat in
@@ -112,25 +112,25 @@ module _ (k : Rules) (o : Object) (c : Setting) (kind : IsKind k) (s : table.Sta
       let seat_places = sym (stored.seats_stay s.words (place_word q) (n + 1) (λ m e. omega arith)) in
       let counts = stepping.counts_stay k o c kind s h id r here w refl in
       let knows = stepping.known_stays k o c kind s h id r here w refl in
-      let same : Path State after (shown c ws (put at r.seat w) kh.history) = λ z. record {
+      let same : Path State after (shown_state c ws (put at r.seat w) kh.history) = λ z. record {
         world = record { drawn = tickets (word z); unpassed = unpassed (word z); ticket_place = ticket_places z; seat_place = seat_places z; place = places z; count = counts z };
         known = knows z;
         floor = old.floor;
       } in
       let moved : stepping.IsMoved k o c kind s h id r here w = record { seat = refl; setting = refl; seen = refl; mine = refl } in
       let apart = standing.apart_home to in
-      let calls = calls_stay world (shown_world ws (put at r.seat w)) kh.past r.seat w.place kh.told.calls (sym places) (sym seat_places) (ap chosen stands) apart.chose in
+      let calls = calls_stay world (shown_world ws (put at r.seat w)) kh.past r.seat w.place kh.told.calls (sym places) (sym seat_places) (ap back_turn stands) apart.chose in
       stepping.holds_after k o c kind s h id r here w ws moved (length-set s.words (place_word q) (n + 1)) kept same
       (stepping.knows_after k o c kind s h id r here w ws moved calls (λ e. absurd (omega arith)) apart)
 
   -- the seat that is called stands inside
-  called_near : (m : ℕ) → chosen r.place ≡ due_to m → m < c.seats
+  called_near : (m : ℕ) → back_turn r.place ≡ due_to m → m < c.seats
   called_near m names =
       let x = choosing_at r.place m names in
       let sound = stepping.sound k o c kind s h id r here in
       let stands = stepping.stands_at k o c kind s h id r here (Back x.choice x.to) x.is in
       let world : World = shown_world s.words h.0 in
-      let six = sound.stands.keeps.chose r.seat (ap stage stands) m (ap chosen stands ∙ x.names) in
+      let six = sound.stands.keeps.chose r.seat (ap stage stands) m (ap back_turn stands ∙ x.names) in
       by_range (cases_le c.seats m) (sound.outside m) six
     where
       cases_le : (a b : ℕ) → (a ≤ b) ⊎ (b < a)
@@ -138,56 +138,56 @@ module _ (k : Rules) (o : Object) (c : Setting) (kind : IsKind k) (s : table.Sta
       cases_le (suc a) zero = inr (omega arith)
       cases_le (suc a) (suc b) = elim (cases_le a b) [ inl l ↦ inl (omega arith) | inr l ↦ inr (omega arith) ]
 
-      by_range : (c.seats ≤ m) ⊎ (m < c.seats) → (c.seats ≤ m → stage (h.0 m).place ≡ 0) → stage (h.0 m).place ≡ 6 → m < c.seats
+      by_range : (c.seats ≤ m) ⊎ (m < c.seats) → (c.seats ≤ m → stage (h.0 m).place ≡ outside_stage) → stage (h.0 m).place ≡ inside_stage → m < c.seats
       by_range (inl l) none six = let z = none l in absurd (omega arith)
       by_range (inr l) none six = l
 
   -- the calls are counted once the seat is called
-  calls_counted : (m : ℕ) (ws : List ℕ) → chosen r.place ≡ due_to m → Path (ℕ → ℕ) (put (shown_world s.words h.0).seat_place m ((shown_world s.words h.0).seat_place m + 1)) (shown_world ws (put h.0 r.seat (handed_on r))).seat_place
-      → CountsCalls (shown_world ws (put h.0 r.seat (handed_on r))) h.2.past
+  calls_counted : (m : ℕ) (ws : List ℕ) → back_turn r.place ≡ due_to m → Path (ℕ → ℕ) (put (shown_world s.words h.0).seat_place m ((shown_world s.words h.0).seat_place m + 1)) (shown_world ws (put h.0 r.seat (record_after_grant r))).seat_place
+      → CountsCalls (shown_world ws (put h.0 r.seat (record_after_grant r))) h.2.past
   calls_counted m ws names places =
       let at = h.0 in
       let kh = h.2 in
       let world : World = shown_world s.words at in
-      let w = handed_on r in
+      let w = record_after_grant r in
       let x = choosing_at r.place m names in
       let sound = stepping.sound k o c kind s h id r here in
       let stands = stepping.stands_at k o c kind s h id r here (Back x.choice x.to) x.is in
-      let four : stage (at r.seat).place ≡ 4 = ap stage stands in
+      let four : stage (at r.seat).place ≡ back_stage = ap stage stands in
       let mine = sound.stands.keeps.held r.seat (omega arith) (omega arith) in
-      let alone : (j n : ℕ) → j ≢ r.seat → chosen (at j).place ≢ due_to n = λ j n ne e.
+      let alone : (j n : ℕ) → j ≢ r.seat → back_turn (at j).place ≢ due_to n = λ j n ne e.
       let y = choosing_at (at j).place n e in
-      let back : stage (at j).place ≡ 4 = ap stage y.is in
+      let back : stage (at j).place ≡ back_stage = ap stage y.is in
       let held = sound.stands.keeps.held j (omega arith) (omega arith) in
       absurd (ne (omega arith)) in
       let apart = standing.apart_home (home_at r.place) in
-      let nobody : (j n : ℕ) → chosen (put at r.seat w j).place ≢ due_to n = λ j n.
-      at_put at r.seat w (λ i y. chosen y.place ≢ due_to n) (λ e. let z = apart.chose in absurd (omega arith)) (λ i ne. alone i n ne) j in
+      let nobody : (j n : ℕ) → back_turn (put at r.seat w j).place ≢ due_to n = λ j n.
+      at_put at r.seat w (λ i y. back_turn y.place ≢ due_to n) (λ e. let z = apart.chose in absurd (omega arith)) (λ i ne. alone i n ne) j in
       record {
         choosing = λ j n e. absurd (nobody j n e);
         settled = λ n none. subst (λ (f : ℕ → ℕ). granted_of kh.past n ≡ f n) places
-            (at_put world.seat_place m (world.seat_place m + 1) (λ i y. granted_of kh.past i ≡ y) (kh.told.calls.choosing r.seat m (ap chosen stands ∙ x.names))
+            (at_put world.seat_place m (world.seat_place m + 1) (λ i y. granted_of kh.past i ≡ y) (kh.told.calls.choosing r.seat m (ap back_turn stands ∙ x.names))
             (λ i ne. kh.told.calls.settled i (λ j e. elim (eqb_tells j r.seat) [
-              | inl b ↦ absurd (ne (let z = ap (λ (a : ℕ). chosen (at a).place) b.1 in let y = ap chosen stands ∙ x.names in omega arith))
+              | inl b ↦ absurd (ne (let z = ap (λ (a : ℕ). back_turn (at a).place) b.1 in let y = ap back_turn stands ∙ x.names in omega arith))
               | inr b ↦ absurd (alone j i b.1 e)
             ])) n);
       }
 
   -- step 8
-  pub calls_seat_at : (m : ℕ) → chosen r.place ≡ due_to m → (calls : ℕ) → calls ≡ granted_of r.seen m
-      → Takes k o c s h r.seat command.Grant (answer.GrantedSeat m) (record { words = set s.words (seat_word m) calls; homes = s.homes; views = set s.views id (handed_on r ∷ []) })
+  pub calls_seat_at : (m : ℕ) → back_turn r.place ≡ due_to m → (calls : ℕ) → calls ≡ granted_of r.seen m
+      → Takes k o c s h r.seat command.Grant (answer.GrantedSeat m) (record { words = set s.words (seat_word m) calls; homes = s.homes; views = set s.views id (record_after_grant r ∷ []) })
   calls_seat_at m names calls calls_are =
       let at = h.0 in
       let kh = h.2 in
-      let w = handed_on r in
+      let w = record_after_grant r in
       let ws : List ℕ = set s.words (seat_word m) calls in
       let world : World = shown_world s.words at in
-      let old : State = shown c s.words at kh.history in
+      let old : State = shown_state c s.words at kh.history in
       let is = stepping.is k o c kind s h id r here in
       let x = choosing_at r.place m names in
       let stands = stepping.stands_at k o c kind s h id r here (Back x.choice x.to) x.is in
-      let seen : r.seen ≡ kh.past = sym (ap (λ (y : Record). y.seen) is) ∙ kh.told.back r.seat (ap stage stands) in
-      let grown : world.seat_place m + 1 ≡ calls = sym (calls_are ∙ ap (λ (g : List Event). granted_of g m) seen ∙ kh.told.calls.choosing r.seat m (ap chosen stands ∙ x.names)) in
+      let seen : r.seen ≡ kh.past = sym (ap (λ (y : SeatRecord). y.seen) is) ∙ kh.told.back r.seat (ap stage stands) in
+      let grown : world.seat_place m + 1 ≡ calls = sym (calls_are ∙ ap (λ (g : List Event). granted_of g m) seen ∙ kh.told.calls.choosing r.seat m (ap back_turn stands ∙ x.names)) in
       let low = called_near m names in
       let ready : IsReady k o old r.seat command.Grant = record {
         near = stepping.near k o c kind s h id r here;
@@ -205,7 +205,7 @@ module _ (k : Rules) (o : Object) (c : Setting) (kind : IsKind k) (s : table.Sta
       let seat_places = ap (put world.seat_place m) grown ∙ sym (stored.seat_stored s.words m calls (let z = kh.wide in omega arith)) in
       let counts = stepping.counts_stay k o c kind s h id r here w refl in
       let knows = stepping.known_stays k o c kind s h id r here w refl in
-      let same : Path State after (shown c ws (put at r.seat w) kh.history) = λ z. record {
+      let same : Path State after (shown_state c ws (put at r.seat w) kh.history) = λ z. record {
         world = record { drawn = tickets (word z); unpassed = unpassed (word z); ticket_place = ticket_places z; seat_place = seat_places z; place = places z; count = counts z };
         known = knows z;
         floor = old.floor;
@@ -215,12 +215,12 @@ module _ (k : Rules) (o : Object) (c : Setting) (kind : IsKind k) (s : table.Sta
       (stepping.knows_after k o c kind s h id r here w ws moved (calls_counted m ws names seat_places) (λ e. let z = ap stage x.is in absurd (omega arith)) (standing.apart_home (home_at r.place)))
 
 module _ (k : Rules) (o : Object) (c : Setting) (kind : IsKind k) (slots id : ℕ) (me : Me) (one : IsOne me.0) where
-  pub grants_ticket : stage (the me.0).place ≡ 5 → Allows (IsHall k o c) slots id me (place_word (ticket (the me.0).place % c.seats)) (λ _. ticket (the me.0).place + 1) (λ _. HandsOn me (ticket (the me.0).place + 1))
+  pub grants_ticket : stage (the me.0).place ≡ passing_stage → Allows (IsHall k o c) slots id me (place_word (ticket (the me.0).place % c.seats)) (λ _. ticket (the me.0).place + 1) (λ _. TellsGrant me (ticket (the me.0).place + 1))
   grants_ticket passing s h wide view small =
       let here : get_elem? s.views id ≡ maybe.some (the me.0 ∷ []) = view ∙ ap maybe.some one in
-      (handed_on (the me.0) ∷ [], keeps, tt, (grants_ticket_at k o c kind s h id (the me.0) here passing).hall, refl)
+      (record_after_grant (the me.0) ∷ [], keeps, tt, (grants_ticket_at k o c kind s h id (the me.0) here passing).hall, refl)
 
-  pub calls_seat : (m calls : ℕ) → chosen (the me.0).place ≡ due_to m → calls ≡ granted_of (the me.0).seen m → Allows (IsHall k o c) slots id me (seat_word m) (λ _. calls) (λ _. HandsOn me calls)
+  pub calls_seat : (m calls : ℕ) → back_turn (the me.0).place ≡ due_to m → calls ≡ granted_of (the me.0).seen m → Allows (IsHall k o c) slots id me (seat_word m) (λ _. calls) (λ _. TellsGrant me calls)
   calls_seat m calls names calls_are s h wide view small =
       let here : get_elem? s.views id ≡ maybe.some (the me.0 ∷ []) = view ∙ ap maybe.some one in
-      (handed_on (the me.0) ∷ [], keeps, tt, (calls_seat_at k o c kind s h id (the me.0) here m names calls calls_are).hall, refl)
+      (record_after_grant (the me.0) ∷ [], keeps, tt, (calls_seat_at k o c kind s h id (the me.0) here m names calls calls_are).hall, refl)

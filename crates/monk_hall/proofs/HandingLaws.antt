@@ -17,20 +17,20 @@ use Rattle.monk_history.specs.declared.event.Next.TheVariants as next
 use Rattle.monk_history.proofs.MeaningLaws.LegalLaws.{legal-push}
 use Rattle.monk_history.proofs.MeaningLaws.TestLaws.{and_left, and_right}
 use Rattle.monk_floor.specs.View.{FloorView, monitor_of}
-use Rattle.monk_world.specs.Places.{stage, chosen, turn_chosen, due_to, place_of}
+use Rattle.monk_world.specs.Places.{stage, back_turn, turn_of_next, due_to, place_of}
 use Rattle.monk_world.specs.Sound.{left_within}
-use Rattle.monk_world.specs.State.{grown}
+use Rattle.monk_world.specs.State.{with_event}
 use Rattle.monk_world.specs.declared.home.Home.{Home}
 use Rattle.monk_world.specs.declared.home.Home.TheVariants as home
 use Rattle.monk_world.specs.declared.place.Place.{Place}
 use Rattle.monk_world.specs.declared.place.Place.TheVariants.{Idle, Ticket, Due, Active, Back, Passing, Inner}
-use Rattle.monk_hall.specs.Changes.{gave, back_after, home_at, choice_in}
-use Rattle.monk_hall.specs.Handing.{called_by, HasReleased, HasGone}
+use Rattle.monk_hall.specs.Changes.{record_after_floor_in, back_after, home_at, choice_in}
+use Rattle.monk_hall.specs.Handing.{seat_called_by, HasRecordedRelease, HasGone}
 use Rattle.monk_hall.specs.Layout.{floor_of, word_count}
 use Rattle.monk_hall.specs.Records.{the, IsOne}
 use Rattle.monk_hall.specs.Tells.{Me, Returns, IsReleaseTo}
 use Rattle.monk_hall.specs.Tokens.{IsSeated, IsResting, IsTold, IsWaiting}
-use Rattle.monk_hall.specs.declared.record.Record.{Record}
+use Rattle.monk_hall.specs.declared.record.SeatRecord.{SeatRecord}
 use Rattle.monk_hall.proofs.Releasing.{back_is, said}
 use Rattle.monk_hall.proofs.TokenLaws.{own_longer}
 
@@ -46,14 +46,14 @@ abbrev due_in : Option ℕ → ℕ
 due_in None = 0
 due_in (Some n) = due_to n
 
-called_due : (x : Next) (j : ℕ) → called_by x ≡ Some j → turn_chosen x ≡ due_to j
+called_due : (x : Next) (j : ℕ) → seat_called_by x ≡ Some j → turn_of_next x ≡ due_to j
 called_due next.Stay j e = absurd (subst is_some (sym e) tt)
 called_due next.Entry j e = absurd (subst is_some (sym e) tt)
 called_due (next.Waiter i) j e = ap due_in e
 called_due (next.Signaller i) j e = ap due_in e
 called_due (next.Until i) j e = ap due_in e
 
-entry_is : (x : Next) → is_stay (Some x) ≡ false → called_by x ≡ None → x ≡ next.Entry
+entry_is : (x : Next) → is_stay (Some x) ≡ false → seat_called_by x ≡ None → x ≡ next.Entry
 entry_is next.Stay s e = absurd (true≢false s)
 entry_is next.Entry s e = refl
 entry_is (next.Waiter j) s e = absurd (subst is_some e tt)
@@ -62,31 +62,31 @@ entry_is (next.Until j) s e = absurd (subst is_some e tt)
 
 module _ {k : Rules} {o : Object} {z : TableId} {me : Me} {choice : Next} {to : Home} {f : FloorView} where
   -- where the seat stands that has brought the floor home
-  pub back_place : HasReleased k o z me choice to f → (gave (the me.0) f.history).place ≡ Back choice to
+  pub back_place : HasRecordedRelease k o z me choice to f → (record_after_floor_in (the me.0) f.history).place ≡ Back choice to
   back_place x = let r = x.returns in
       ap (λ (y : FloorView). back_after (last_or None y.history)) r.grows
       ∙ ap back_after (last_is None r.before.history (with_next r.choice r.call))
       ∙ back_is (the me.0).seat r.to r.call r.choice r.release
       ∙ (λ i. Back (x.is_choice i) (x.is_to i))
 
-  pub chosen_due : HasReleased k o z me choice to f → (j : ℕ) → called_by choice ≡ Some j → chosen (gave (the me.0) f.history).place ≡ due_to j
-  chosen_due x j e = ap chosen (back_place x) ∙ called_due choice j e
+  pub chosen_due : HasRecordedRelease k o z me choice to f → (j : ℕ) → seat_called_by choice ≡ Some j → back_turn (record_after_floor_in (the me.0) f.history).place ≡ due_to j
+  chosen_due x j e = ap back_turn (back_place x) ∙ called_due choice j e
 
-  pub chosen_entry : HasReleased k o z me choice to f → called_by choice ≡ None → (gave (the me.0) f.history).place ≡ Back next.Entry (home_at (gave (the me.0) f.history).place)
+  pub chosen_entry : HasRecordedRelease k o z me choice to f → seat_called_by choice ≡ None → (record_after_floor_in (the me.0) f.history).place ≡ Back next.Entry (home_at (record_after_floor_in (the me.0) f.history).place)
   chosen_entry x e = let b = back_place x in
       b ∙ (λ i. Back (entry_is choice (ap (λ n. is_stay (Some n)) (sym x.is_choice) ∙ x.returns.away) e i) (sym (ap home_at b) i))
 
-  pub home_is : HasReleased k o z me choice to f → home_at (gave (the me.0) f.history).place ≡ to
+  pub home_is : HasRecordedRelease k o z me choice to f → home_at (record_after_floor_in (the me.0) f.history).place ≡ to
   home_is x = ap home_at (back_place x)
 
   -- what the seat knows then
-  pub gone_rests : (x : HasReleased k o z me choice to f) → {number calls left : ℕ} → IsSeated z (the me.0) number calls → left ≡ left_of f.budget f.history number
+  pub gone_rests : (x : HasRecordedRelease k o z me choice to f) → {number calls left : ℕ} → IsSeated z (the me.0) number calls → left ≡ left_of f.budget f.history number
       → (y : TableId) (new : Me) → y ≡ z → HasGone (the me.0) f.history to (the new.0) → new ≡ (the new.0 ∷ [], []) → IsResting k o y new number left calls × ((the new.0).place ≡ place_of to) × (left_within to ≤ left)
   gone_rests x {number} {calls} {left} s rest y new same gone is =
-      let r = the me.0 in let ret = x.returns in let e = with_next ret.choice ret.call in let w = record (gave r f.history) { place = place_of to; steps = gone.steps } in
+      let r = the me.0 in let ret = x.returns in let e = with_next ret.choice ret.call in let w = record (record_after_floor_in r f.history) { place = place_of to; steps = gone.steps } in
       let seat = (said r.seat ret.to ret.call ret.choice ret.release).seat in
       let history = ap (λ (g : FloorView). g.history) ret.grows in
-      let is_floor = ret.grows ∙ ap (λ g. grown g e) ret.goes_on.is_floor in
+      let is_floor = ret.grows ∙ ap (λ g. with_event g e) ret.goes_on.is_floor in
       let h = f.history in let mine = events_of h r.seat in
       let more = ap (λ g. length (events_of g r.seat)) history ∙ own_longer ret.before.history e r.seat seat in
       let low = ret.left in let budget = ap (λ (g : FloorView). g.budget) ret.goes_on.is_floor in
@@ -99,7 +99,7 @@ module _ {k : Rules} {o : Object} {z : TableId} {me : Me} {choice : Next} {to : 
         seated = record { is_seat = s.is_seat; near = s.near; sized = s.sized; counted = s.counted };
         spent = omega arith;
         told = record {
-          legal = subst (λ (g : FloorView). IsLegal (monitor_of k o g) g.history) (ret.grows ∙ ap (λ g. grown g e) ret.goes_on.is_floor ∙ ap (λ g. floor_of r.setting g) (sym history))
+          legal = subst (λ (g : FloorView). IsLegal (monitor_of k o g) g.history) (ret.grows ∙ ap (λ g. with_event g e) ret.goes_on.is_floor ∙ ap (λ g. floor_of r.setting g) (sym history))
               (subst (λ (g : FloorView). IsLegal (monitor_of k o g) g.history) (sym ret.grows) (legal-push (monitor_of k o ret.before) ret.before.history e ret.goes_on.legal x.allowed));
           own = refl;
         };

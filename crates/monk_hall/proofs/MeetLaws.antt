@@ -21,7 +21,7 @@ use Rattle.monk_history.specs.Meaning.Legal.{IsLegal}
 use Rattle.monk_history.proofs.MeaningLaws.LegalLaws.{legal_front}
 use Rattle.monk_floor.specs.View.{FloorView, monitor_of}
 use Rattle.monk_world.specs.Kept.{IsKept}
-use Rattle.monk_world.specs.Places.{stage}
+use Rattle.monk_world.specs.Places.{stage, outside_stage, active_stage, back_stage}
 use Rattle.monk_world.specs.Put.{put}
 use Rattle.monk_world.specs.State.{State}
 use Rattle.monk_world.specs.StepTable.{out_event}
@@ -29,15 +29,15 @@ use Rattle.monk_world.specs.declared.place.Place.{Place}
 use Rattle.monk_world.specs.declared.place.Place.TheVariants.{Idle, Active}
 use Rattle.monk_world.specs.declared.source.Source.{Source}
 use Rattle.monk_world.proofs.PutLaws.{at_put, put_here, put_else, all_back}
-use Rattle.monk_hall.specs.Changes.{longer, met, shared}
+use Rattle.monk_hall.specs.Changes.{longer, view_after_join, view_after_compare}
 use Rattle.monk_hall.specs.Floors.{StartsWith}
-use Rattle.monk_hall.specs.Layout.{floor_of, shown, shown_world, word_count}
+use Rattle.monk_hall.specs.Layout.{floor_of, shown_state, shown_world, word_count}
 use Rattle.monk_hall.specs.Records.{View, In, Distinct, IsOne, IsTwo, the, head, tail}
 use Rattle.monk_hall.specs.Rule.{AreShown, AreTold, CountsCalls, Homes, IsHall, IsKeptHall}
 use Rattle.atomic_table.specs.Seated.{TableId}
-use Rattle.monk_hall.specs.Tells.{Me, AreOne, Compares, SeesTruly}
+use Rattle.monk_hall.specs.Tells.{Me, AreOne, TellsCompare, SeesTruly}
 use Rattle.monk_hall.specs.Tokens.{IsResting, top}
-use Rattle.monk_hall.specs.declared.record.Record.{Record}
+use Rattle.monk_hall.specs.declared.record.SeatRecord.{SeatRecord}
 use Rattle.monk_hall.specs.declared.setting.Setting.{Setting}
 use Rattle.monk_hall.proofs.Dealing.{shown_moved}
 use Rattle.monk_hall.proofs.Seats.{is_at, is_desk, is_near, is_setting, shown_set, long, only}
@@ -119,27 +119,27 @@ longer_both a b one = by_length (nat_le (length a) (length b)) refl one
     by_length false e (inr s) = record { first = self a; second = equal b a s (at_most e) }
 
 -- an idle seat takes steps of no kind, or learns more of the history
-module _ (k : Rules) (o : Object) (c : Setting) (words : List ℕ) (homes : Homes) (at : ℕ → Record) (kh : IsKeptHall k o c words homes at) (i : ℕ) (w : Record)
-    (place : w.place ≡ (at i).place) (count : w.count ≡ (at i).count) (known : w.known ≡ (at i).known) (mine : w.mine ≡ (at i).mine) (idle : stage (at i).place ≡ 0)
+module _ (k : Rules) (o : Object) (c : Setting) (words : List ℕ) (homes : Homes) (at : ℕ → SeatRecord) (kh : IsKeptHall k o c words homes at) (i : ℕ) (w : SeatRecord)
+    (place : w.place ≡ (at i).place) (count : w.count ≡ (at i).count) (known : w.known ≡ (at i).known) (mine : w.mine ≡ (at i).mine) (idle : stage (at i).place ≡ outside_stage)
     (part : StartsWith kh.past w.seen) (own : events_of w.seen i ≡ w.mine) where
-  same : Path State (shown c words at kh.history) (shown c words (put at i w) kh.history)
+  same : Path State (shown_state c words at kh.history) (shown_state c words (put at i w) kh.history)
   same = λ z. record {
     world = record (shown_world words at) {
-      place = sym (field_stays (λ (y : Record). y.place) at i w (sym place)) z;
-      count = sym (field_stays (λ (y : Record). y.count) at i w (sym count)) z;
+      place = sym (field_stays (λ (y : SeatRecord). y.place) at i w (sym place)) z;
+      count = sym (field_stays (λ (y : SeatRecord). y.count) at i w (sym count)) z;
     };
-    known = sym (field_stays (λ (y : Record). y.known) at i w (sym known)) z;
+    known = sym (field_stays (λ (y : SeatRecord). y.known) at i w (sym known)) z;
     floor = floor_of c kh.history;
   }
 
   recount : CountsCalls (shown_world words (put at i w)) kh.past
-  recount = subst (λ (p : ℕ → Place). CountsCalls (record (shown_world words at) { place = p; count = λ j. (put at i w j).count }) kh.past) (sym (field_stays (λ (y : Record). y.place) at i w (sym place)))
+  recount = subst (λ (p : ℕ → Place). CountsCalls (record (shown_world words at) { place = p; count = λ j. (put at i w j).count }) kh.past) (sym (field_stays (λ (y : SeatRecord). y.place) at i w (sym place)))
       (record { choosing = kh.told.calls.choosing; settled = kh.told.calls.settled })
 
   pub learns : IsKeptHall k o c words homes (put at i w)
   learns =
       let told = kh.told in
-      let not_at : (n : ℕ) → n ≢ 0 → stage w.place ≢ n = λ n ne e. ne (sym e ∙ ap stage place ∙ idle) in
+      let not_at : (n : ℕ) → n ≢ outside_stage → stage w.place ≢ n = λ n ne e. ne (sym e ∙ ap stage place ∙ idle) in
       record {
         past = kh.past;
         history = kh.history;
@@ -152,25 +152,25 @@ module _ (k : Rules) (o : Object) (c : Setting) (words : List ℕ) (homes : Home
           starts = at_put at i w (λ j x. StartsWith kh.past x.seen) part (λ j _. told.starts j);
           mine = at_put at i w (λ j x. events_of kh.past j ≡ x.mine) (told.mine i ∙ sym mine) (λ j _. told.mine j);
           own = at_put at i w (λ j x. events_of x.seen j ≡ x.mine) own (λ j _. told.own j);
-          back = at_put at i w (λ j x. stage x.place ≡ 4 → x.seen ≡ kh.past) (λ e. absurd (not_at 4 (λ z. absurd (omega arith)) e)) (λ j _. told.back j);
+          back = at_put at i w (λ j x. stage x.place ≡ back_stage → x.seen ≡ kh.past) (λ e. absurd (not_at back_stage (λ z. absurd (omega arith)) e)) (λ j _. told.back j);
           lent = λ j. at_put at i w (λ n x. (q : Source) → x.place ≡ Active q → (x.seen ≡ kh.past) × (kh.history ≡ kh.past ++ out_event n q (turn kh.past) ∷ []) × (get_elem? homes 0 ≡ maybe.some maybe.none))
-              (λ q e. absurd (not_at 3 (λ z. absurd (omega arith)) (ap stage e))) (λ n _. told.lent n) j;
-          home = λ none. told.home (all_back at i w (λ j x. stage x.place ≢ 3) none (λ e. absurd (omega arith)));
+              (λ q e. absurd (not_at active_stage (λ z. absurd (omega arith)) (ap stage e))) (λ n _. told.lent n) j;
+          home = λ none. told.home (all_back at i w (λ j x. stage x.place ≢ active_stage) none (λ e. absurd (omega arith)));
           calls = recount;
         };
       }
 
-two_of : (x y r : Record) → In r (x ∷ y ∷ []) → (F : Record → Type 0) → F x → F y → F r
+two_of : (x y r : SeatRecord) → In r (x ∷ y ∷ []) → (F : SeatRecord → Type 0) → F x → F y → F r
 two_of x y r (inl e) F p q = subst F (sym e) p
 two_of x y r (inr (inl e)) F p q = subst F (sym e) q
 two_of x y r (inr (inr h)) F p q = absurd h
 
-same_seat : (x r : Record) → In r (x ∷ []) → r.seat ≡ x.seat
-same_seat x r (inl e) = ap (λ (z : Record). z.seat) e
+same_seat : (x r : SeatRecord) → In r (x ∷ []) → r.seat ≡ x.seat
+same_seat x r (inl e) = ap (λ (z : SeatRecord). z.seat) e
 same_seat x r (inr h) = absurd h
 
 -- both records of one view change, and no other's
-module _ (c : Setting) (views : List View) (at : ℕ → Record) (sh : AreShown c views at) (id : ℕ) (a b a2 b2 : Record) (view : get_elem? views id ≡ maybe.some (a ∷ b ∷ []))
+module _ (c : Setting) (views : List View) (at : ℕ → SeatRecord) (sh : AreShown c views at) (id : ℕ) (a b a2 b2 : SeatRecord) (view : get_elem? views id ≡ maybe.some (a ∷ b ∷ []))
     (seat_a : a2.seat ≡ a.seat) (seat_b : b2.seat ≡ b.seat) (set_a : a2.setting ≡ a.setting) (set_b : b2.setting ≡ b.setting) where
   pub in_a : (at a.seat ≡ a) × (sh.desk a.seat ≡ id) × (a.seat < c.seats)
   in_a = sh.each id (a ∷ b ∷ []) view a (inl refl)
@@ -181,10 +181,10 @@ module _ (c : Setting) (views : List View) (at : ℕ → Record) (sh : AreShown 
   pub apart : b.seat ≢ a.seat
   apart = (sh.apart id (a ∷ b ∷ []) view).0 b (inl refl)
 
-  abbrev pub at_one : ℕ → Record
+  abbrev pub at_one : ℕ → SeatRecord
   at_one = put at a.seat a2
 
-  abbrev pub at_two : ℕ → Record
+  abbrev pub at_two : ℕ → SeatRecord
   at_two = put at_one b.seat b2
 
   pub still_b : at_one b.seat ≡ b
@@ -219,11 +219,11 @@ module _ (c : Setting) (views : List View) (at : ℕ → Record) (sh : AreShown 
         | inl h ↦ (a2 ∷ b2 ∷ [], here j (ap sh.desk h.1 ∙ in_b.1), inr (inl (ap at_two h.1 ∙ is_b)))
         | inr nb ↦
             let old = sh.there j near in
-            (old.0, set_else views id (sh.desk j) (a2 ∷ b2 ∷ []) (away j old.0 old.1 old.2 na.1 nb.1) ∙ old.1, subst (λ (x : Record). In x old.0) (sym (other j na.1 nb.1)) old.2)
+            (old.0, set_else views id (sh.desk j) (a2 ∷ b2 ∷ []) (away j old.0 old.1 old.2 na.1 nb.1) ∙ old.1, subst (λ (x : SeatRecord). In x old.0) (sym (other j na.1 nb.1)) old.2)
       ]
     ];
-    settings = at_put at_one b.seat b2 (λ j x. x.setting ≡ c) (set_b ∙ ap (λ (x : Record). x.setting) (sym in_b.0) ∙ sh.settings b.seat)
-        (λ j _. at_put at a.seat a2 (λ m x. x.setting ≡ c) (set_a ∙ ap (λ (x : Record). x.setting) (sym in_a.0) ∙ sh.settings a.seat) (λ m _. sh.settings m) j);
+    settings = at_put at_one b.seat b2 (λ j x. x.setting ≡ c) (set_b ∙ ap (λ (x : SeatRecord). x.setting) (sym in_b.0) ∙ sh.settings b.seat)
+        (λ j _. at_put at a.seat a2 (λ m x. x.setting ≡ c) (set_a ∙ ap (λ (x : SeatRecord). x.setting) (sym in_a.0) ∙ sh.settings a.seat) (λ m _. sh.settings m) j);
     seats = at_put at_one b.seat b2 (λ j x. x.seat ≡ j) seat_b (λ j _. at_put at a.seat a2 (λ m x. x.seat ≡ m) seat_a (λ m _. sh.seats m) j);
   }
     where
@@ -234,47 +234,47 @@ module _ (c : Setting) (views : List View) (at : ℕ → Record) (sh : AreShown 
       away j v e i na nb d =
           let is_v : v ≡ a ∷ b ∷ [] = some-injective v (a ∷ b ∷ []) (sym e ∙ ap (λ (n : ℕ). get_elem? views n) d ∙ view) in
           two_of a b (at j) (subst (λ (z : View). In (at j) z) is_v i) (λ r. r ≡ at j → ⊥)
-          (λ q. na (sym (sh.seats j) ∙ ap (λ (x : Record). x.seat) (sym q))) (λ q. nb (sym (sh.seats j) ∙ ap (λ (x : Record). x.seat) (sym q))) refl
+          (λ q. na (sym (sh.seats j) ∙ ap (λ (x : SeatRecord). x.seat) (sym q))) (λ q. nb (sym (sh.seats j) ∙ ap (λ (x : SeatRecord). x.seat) (sym q))) refl
 
 -- the telling load
-pub compares : (k : Rules) (o : Object) (c : Setting) (slots id : ℕ) (me : Me) → IsTwo me.0 → (the me.0).place ≡ Idle → (the (tail me.0)).place ≡ Idle → Allows (IsHall k o c) slots id me 0 (λ n. n) (Compares k o me)
+pub compares : (k : Rules) (o : Object) (c : Setting) (slots id : ℕ) (me : Me) → IsTwo me.0 → (the me.0).place ≡ Idle → (the (tail me.0)).place ≡ Idle → Allows (IsHall k o c) slots id me 0 (λ n. n) (TellsCompare k o me)
 unfolding learns
 compares k o c slots id me two idle_a idle_b s h wide view small =
-    let a : Record = the me.0 in
-    let b : Record = the (tail me.0) in
+    let a : SeatRecord = the me.0 in
+    let b : SeatRecord = the (tail me.0) in
     let at = h.0 in
     let kh = h.2 in
     let here : get_elem? s.views id ≡ maybe.some (a ∷ b ∷ []) = view ∙ ap maybe.some two in
     let both : List Event = longer a.seen b.seen in
-    let a2 : Record = record a { seen = both } in
-    let b2 : Record = record b { seen = both; steps = suc b.steps } in
+    let a2 : SeatRecord = record a { seen = both } in
+    let b2 : SeatRecord = record b { seen = both; steps = suc b.steps } in
     let ia = in_a c s.views at h.1 id a b a2 b2 here refl refl refl refl in
     let ib = in_b c s.views at h.1 id a b a2 b2 here refl refl refl refl in
     let still = still_b c s.views at h.1 id a b a2 b2 here refl refl refl refl in
-    let begins_a : StartsWith kh.past a.seen = subst (λ (x : Record). StartsWith kh.past x.seen) ia.0 (kh.told.starts a.seat) in
-    let begins_b : StartsWith kh.past b.seen = subst (λ (x : Record). StartsWith kh.past x.seen) ib.0 (kh.told.starts b.seat) in
+    let begins_a : StartsWith kh.past a.seen = subst (λ (x : SeatRecord). StartsWith kh.past x.seen) ia.0 (kh.told.starts a.seat) in
+    let begins_b : StartsWith kh.past b.seen = subst (λ (x : SeatRecord). StartsWith kh.past x.seen) ib.0 (kh.told.starts b.seat) in
     let one : AreOne a.seen b.seen = parts kh.past a.seen b.seen begins_a.0 begins_b.0 begins_a.1 begins_b.1 in
     let long_both = longer_both a.seen b.seen one in
     let part : StartsWith kh.past both = longer_part kh.past a.seen b.seen begins_a begins_b in
-    let mine_a : events_of kh.past a.seat ≡ a.mine = kh.told.mine a.seat ∙ ap (λ (x : Record). x.mine) ia.0 in
-    let mine_b : events_of kh.past b.seat ≡ b.mine = kh.told.mine b.seat ∙ ap (λ (x : Record). x.mine) ib.0 in
-    let own_a : events_of a.seen a.seat ≡ a.mine = ap (λ (x : Record). events_of x.seen a.seat) (sym ia.0) ∙ kh.told.own a.seat ∙ ap (λ (x : Record). x.mine) ia.0 in
-    let own_b : events_of b.seen b.seat ≡ b.mine = ap (λ (x : Record). events_of x.seen b.seat) (sym ib.0) ∙ kh.told.own b.seat ∙ ap (λ (x : Record). x.mine) ib.0 in
+    let mine_a : events_of kh.past a.seat ≡ a.mine = kh.told.mine a.seat ∙ ap (λ (x : SeatRecord). x.mine) ia.0 in
+    let mine_b : events_of kh.past b.seat ≡ b.mine = kh.told.mine b.seat ∙ ap (λ (x : SeatRecord). x.mine) ib.0 in
+    let own_a : events_of a.seen a.seat ≡ a.mine = ap (λ (x : SeatRecord). events_of x.seen a.seat) (sym ia.0) ∙ kh.told.own a.seat ∙ ap (λ (x : SeatRecord). x.mine) ia.0 in
+    let own_b : events_of b.seen b.seat ≡ b.mine = ap (λ (x : SeatRecord). events_of x.seen b.seat) (sym ib.0) ∙ kh.told.own b.seat ∙ ap (λ (x : SeatRecord). x.mine) ib.0 in
     let all_a : events_of both a.seat ≡ a.mine = events_between kh.past both a.seen a.seat part long_both.first (mine_a ∙ sym own_a) ∙ own_a in
     let all_b : events_of both b.seat ≡ b.mine = events_between kh.past both b.seen b.seat part long_both.second (mine_b ∙ sym own_b) ∙ own_b in
-    let first = learns k o c s.words s.homes at kh a.seat a2 (ap (λ (x : Record). x.place) (sym ia.0)) (ap (λ (x : Record). x.count) (sym ia.0)) (ap (λ (x : Record). x.known) (sym ia.0)) (ap (λ (x : Record). x.mine) (sym ia.0))
-    (ap (λ (x : Record). stage x.place) ia.0 ∙ ap stage idle_a) part all_a in
-    let both_kept = learns k o c s.words s.homes (put at a.seat a2) first b.seat b2 (ap (λ (x : Record). x.place) (sym still)) (ap (λ (x : Record). x.count) (sym still)) (ap (λ (x : Record). x.known) (sym still)) (ap (λ (x : Record). x.mine) (sym still))
-    (ap (λ (x : Record). stage x.place) still ∙ ap stage idle_b) part all_b in (
+    let first = learns k o c s.words s.homes at kh a.seat a2 (ap (λ (x : SeatRecord). x.place) (sym ia.0)) (ap (λ (x : SeatRecord). x.count) (sym ia.0)) (ap (λ (x : SeatRecord). x.known) (sym ia.0)) (ap (λ (x : SeatRecord). x.mine) (sym ia.0))
+    (ap (λ (x : SeatRecord). stage x.place) ia.0 ∙ ap stage idle_a) part all_a in
+    let both_kept = learns k o c s.words s.homes (put at a.seat a2) first b.seat b2 (ap (λ (x : SeatRecord). x.place) (sym still)) (ap (λ (x : SeatRecord). x.count) (sym still)) (ap (λ (x : SeatRecord). x.known) (sym still)) (ap (λ (x : SeatRecord). x.mine) (sym still))
+    (ap (λ (x : SeatRecord). stage x.place) still ∙ ap stage idle_b) part all_b in (
       a2 ∷ b2 ∷ [],
       keeps,
       tt,
       subst (λ (ws : List ℕ). IsHall k o c record { words = ws; homes = s.homes; views = set s.views id (a2 ∷ b2 ∷ []) }) (sym (set-get_or s.words 0 0))
           (put (put at a.seat a2) b.seat b2, shown_two c s.views at h.1 id a b a2 b2 here refl refl refl refl, both_kept),
-      (refl, one, truly both part a (ap (λ (x : Record). x.setting) (sym ia.0) ∙ h.1.settings a.seat) all_a, truly both part b (ap (λ (x : Record). x.setting) (sym ib.0) ∙ h.1.settings b.seat) all_b),
+      (refl, one, truly both part a (ap (λ (x : SeatRecord). x.setting) (sym ia.0) ∙ h.1.settings a.seat) all_a, truly both part b (ap (λ (x : SeatRecord). x.setting) (sym ib.0) ∙ h.1.settings b.seat) all_b),
     )
   where
-    truly : (g : List Event) → StartsWith h.2.past g → (r : Record) → r.setting ≡ c → events_of g r.seat ≡ r.mine → IsLegal (monitor_of k o (floor_of r.setting g)) g × (events_of g r.seat ≡ r.mine)
+    truly : (g : List Event) → StartsWith h.2.past g → (r : SeatRecord) → r.setting ≡ c → events_of g r.seat ≡ r.mine → IsLegal (monitor_of k o (floor_of r.setting g)) g × (events_of g r.seat ≡ r.mine)
     truly g part r is own =
         (subst (λ (y : Setting). IsLegal (monitor_of k o (floor_of y g)) g) (sym is) (legal_front (monitor_of k o (floor_of c g)) g part.0 (subst (IsLegal (monitor_of k o (floor_of c h.2.past))) part.1 h.2.told.legal)), own)
 
@@ -286,16 +286,16 @@ compares k o c slots id me two idle_a idle_b s h wide view small =
         go false = p
 
 -- two views become one
-pub meets : (k : Rules) (o : Object) (c : Setting) (id : ℕ) (v : View) (other : ℕ) (w : View) → IsOne v → IsOne w → (the v).place ≡ Idle → Joins {S = Option FloorView} (IsHall k o c) id v other w (met v w) []
+pub meets : (k : Rules) (o : Object) (c : Setting) (id : ℕ) (v : View) (other : ℕ) (w : View) → IsOne v → IsOne w → (the v).place ≡ Idle → Joins {S = Option FloorView} (IsHall k o c) id v other w (view_after_join v w) []
 meets k o c id v other w one_v one_w idle s h view ne_id view_w =
     let at = h.0 in
     let sh = h.1 in
     let kh = h.2 in
-    let a : Record = the v in
-    let b : Record = the w in
-    let a2 : Record = record a { steps = suc a.steps } in
+    let a : SeatRecord = the v in
+    let b : SeatRecord = the w in
+    let a2 : SeatRecord = record a { steps = suc a.steps } in
     let here : get_elem? s.views id ≡ maybe.some (a ∷ []) = view ∙ ap maybe.some one_v in
-    let there : get_elem? s.views other ≡ maybe.some (b ∷ []) = sym (set_else s.views id other (met v w) ne_id) ∙ view_w ∙ ap maybe.some one_w in
+    let there : get_elem? s.views other ≡ maybe.some (b ∷ []) = sym (set_else s.views id other (view_after_join v w) ne_id) ∙ view_w ∙ ap maybe.some one_w in
     let is_a = is_at c s.views at sh id a here in
     let is_b = is_at c s.views at sh other b there in
     let desk_a = is_desk c s.views at sh id a here in
@@ -303,15 +303,15 @@ meets k o c id v other w one_v one_w idle s h view ne_id view_w =
     let near_a = is_near c s.views at sh id a here in
     let near_b = is_near c s.views at sh other b there in
     let ne : b.seat ≢ a.seat = λ e. ne_id (sym desk_b ∙ ap sh.desk e ∙ desk_a) in
-    let at_one : ℕ → Record = put at a.seat a2 in
+    let at_one : ℕ → SeatRecord = put at a.seat a2 in
     let still : at_one b.seat ≡ b = put_else at a.seat a2 b.seat ne ∙ is_b in
     let desk_two : ℕ → ℕ = put sh.desk b.seat id in
     let desk_first : desk_two a.seat ≡ id = put_else sh.desk b.seat id a.seat (λ e. ne (sym e)) ∙ desk_a in
-    let views_two : List View = set (set s.views id (met v w)) other [] in
-    let at_id : get_elem? views_two id ≡ maybe.some (met v w) = set_else (set s.views id (met v w)) other id [] (λ e. ne_id (sym e)) ∙ set_here s.views id (met v w) (long s.views id (a ∷ []) here) in
-    let kept = learns k o c s.words s.homes at kh a.seat a2 (ap (λ (x : Record). x.place) (sym is_a)) (ap (λ (x : Record). x.count) (sym is_a)) (ap (λ (x : Record). x.known) (sym is_a)) (ap (λ (x : Record). x.mine) (sym is_a))
-    (ap (λ (x : Record). stage x.place) is_a ∙ ap stage idle) (subst (λ (x : Record). StartsWith kh.past x.seen) is_a (kh.told.starts a.seat))
-    (ap (λ (x : Record). events_of x.seen a.seat) (sym is_a) ∙ kh.told.own a.seat ∙ ap (λ (x : Record). x.mine) is_a) in (
+    let views_two : List View = set (set s.views id (view_after_join v w)) other [] in
+    let at_id : get_elem? views_two id ≡ maybe.some (view_after_join v w) = set_else (set s.views id (view_after_join v w)) other id [] (λ e. ne_id (sym e)) ∙ set_here s.views id (view_after_join v w) (long s.views id (a ∷ []) here) in
+    let kept = learns k o c s.words s.homes at kh a.seat a2 (ap (λ (x : SeatRecord). x.place) (sym is_a)) (ap (λ (x : SeatRecord). x.count) (sym is_a)) (ap (λ (x : SeatRecord). x.known) (sym is_a)) (ap (λ (x : SeatRecord). x.mine) (sym is_a))
+    (ap (λ (x : SeatRecord). stage x.place) is_a ∙ ap stage idle) (subst (λ (x : SeatRecord). StartsWith kh.past x.seen) is_a (kh.told.starts a.seat))
+    (ap (λ (x : SeatRecord). events_of x.seen a.seat) (sym is_a) ∙ kh.told.own a.seat ∙ ap (λ (x : SeatRecord). x.mine) is_a) in (
       at_one,
       record {
         desk = desk_two;
@@ -325,23 +325,23 @@ meets k o c id v other w one_v one_w idle s h view ne_id view_w =
             let na : x.seat ≢ a.seat = λ q. z.0 (sym old.1 ∙ ap sh.desk q ∙ desk_a) in
             let nb : x.seat ≢ b.seat = λ q. t.0 (sym old.1 ∙ ap sh.desk q ∙ desk_b) in
             (put_else at a.seat a2 x.seat na ∙ old.0, put_else sh.desk b.seat id x.seat nb ∙ old.1, old.2))
-            (at_set s.views id j (met v w) u t.1))
-            (at_set (set s.views id (met v w)) other j [] u e);
+            (at_set s.views id j (view_after_join v w) u t.1))
+            (at_set (set s.views id (view_after_join v w)) other j [] u e);
         apart = λ j u e. ⊎_elim (λ t. subst Distinct t.1 tt)
-            (λ t. ⊎_elim (λ z. subst Distinct z.1 ((λ y in_y q. ne (sym (same_seat b y in_y) ∙ q)), ((λ y none. absurd none), tt))) (λ z. sh.apart j u z.1) (at_set s.views id j (met v w) u t.1))
-            (at_set (set s.views id (met v w)) other j [] u e);
+            (λ t. ⊎_elim (λ z. subst Distinct z.1 ((λ y in_y q. ne (sym (same_seat b y in_y) ∙ q)), ((λ y none. absurd none), tt))) (λ z. sh.apart j u z.1) (at_set s.views id j (view_after_join v w) u t.1))
+            (at_set (set s.views id (view_after_join v w)) other j [] u e);
         there = λ j near. elim (eqb_tells j a.seat) [
-          | inl h ↦ (met v w, ap (λ (n : ℕ). get_elem? views_two n) (ap desk_two h.1 ∙ desk_first) ∙ at_id, inl (ap at_one h.1 ∙ put_here at a.seat a2))
+          | inl h ↦ (view_after_join v w, ap (λ (n : ℕ). get_elem? views_two n) (ap desk_two h.1 ∙ desk_first) ∙ at_id, inl (ap at_one h.1 ∙ put_here at a.seat a2))
           | inr na ↦ elim (eqb_tells j b.seat) [
-            | inl h ↦ (met v w, ap (λ (n : ℕ). get_elem? views_two n) (ap desk_two h.1 ∙ put_here sh.desk b.seat id) ∙ at_id, inr (inl (ap at_one h.1 ∙ still)))
+            | inl h ↦ (view_after_join v w, ap (λ (n : ℕ). get_elem? views_two n) (ap desk_two h.1 ∙ put_here sh.desk b.seat id) ∙ at_id, inr (inl (ap at_one h.1 ∙ still)))
             | inr nb ↦
                 let old = sh.there j near in
                 let desk_is : desk_two j ≡ sh.desk j = put_else sh.desk b.seat id j nb.1 in
                 let off_id : sh.desk j ≢ id = λ d. na.1 (alone s.views at sh j old.0 id a old.1 d here old.2) in
                 let off_other : sh.desk j ≢ other = λ d. nb.1 (alone s.views at sh j old.0 other b old.1 d there old.2) in (
                   old.0,
-                  ap (λ (n : ℕ). get_elem? views_two n) desk_is ∙ set_else (set s.views id (met v w)) other (sh.desk j) [] off_other ∙ set_else s.views id (sh.desk j) (met v w) off_id ∙ old.1,
-                  subst (λ (x : Record). In x old.0) (sym (put_else at a.seat a2 j na.1)) old.2,
+                  ap (λ (n : ℕ). get_elem? views_two n) desk_is ∙ set_else (set s.views id (view_after_join v w)) other (sh.desk j) [] off_other ∙ set_else s.views id (sh.desk j) (view_after_join v w) off_id ∙ old.1,
+                  subst (λ (x : SeatRecord). In x old.0) (sym (put_else at a.seat a2 j na.1)) old.2,
                 )
           ]
         ];
@@ -351,13 +351,13 @@ meets k o c id v other w one_v one_w idle s h view ne_id view_w =
       kept,
     )
   where
-    alone : (views : List View) (at : ℕ → Record) (sh : AreShown c views at) (j : ℕ) (u : View) (d : ℕ) (x : Record) → get_elem? views (sh.desk j) ≡ maybe.some u → sh.desk j ≡ d → get_elem? views d ≡ maybe.some (x ∷ []) → In (at j) u → j ≡ x.seat
+    alone : (views : List View) (at : ℕ → SeatRecord) (sh : AreShown c views at) (j : ℕ) (u : View) (d : ℕ) (x : SeatRecord) → get_elem? views (sh.desk j) ≡ maybe.some u → sh.desk j ≡ d → get_elem? views d ≡ maybe.some (x ∷ []) → In (at j) u → j ≡ x.seat
     alone views at sh j u d x e is_d there i =
         let is_u : u ≡ x ∷ [] = some-injective u (x ∷ []) (sym e ∙ ap (λ (n : ℕ). get_elem? views n) is_d ∙ there) in
-        sym (sh.seats j) ∙ ap (λ (y : Record). y.seat) (only (at j) x (subst (λ (z : View). In (at j) z) is_u i))
+        sym (sh.seats j) ∙ ap (λ (y : SeatRecord). y.seat) (only (at j) x (subst (λ (z : View). In (at j) z) is_u i))
 
 -- the second of two records goes to a seat of its own
-parted : (k : Rules) (o : Object) (c : Setting) (id : ℕ) (a b : Record) → Splits {S = Option FloorView} (IsHall k o c) id (a ∷ b ∷ []) (a ∷ []) (b ∷ [])
+parted : (k : Rules) (o : Object) (c : Setting) (id : ℕ) (a b : SeatRecord) → Splits {S = Option FloorView} (IsHall k o c) id (a ∷ b ∷ []) (a ∷ []) (b ∷ [])
 parted k o c id a b s h view =
     let distinct = h.1.apart id (a ∷ b ∷ []) view in (
       h.0,
@@ -365,21 +365,21 @@ parted k o c id a b s h view =
       h.2,
     )
   where
-    first_stays : (z : Record) → In z (a ∷ []) → In z (a ∷ b ∷ [])
+    first_stays : (z : SeatRecord) → In z (a ∷ []) → In z (a ∷ b ∷ [])
     first_stays z (inl e) = inl e
     first_stays z (inr none) = absurd none
 
-    either : (z : Record) → In z (a ∷ b ∷ []) → (z ≡ b) ⊎ In z (a ∷ [])
+    either : (z : SeatRecord) → In z (a ∷ b ∷ []) → (z ≡ b) ⊎ In z (a ∷ [])
     either z (inl e) = inr (inl e)
     either z (inr (inl e)) = inl e
     either z (inr (inr none)) = absurd none
 
-pub parts_again : (k : Rules) (o : Object) (c : Setting) (id : ℕ) (v m : View) → v ≡ shared m → Splits {S = Option FloorView} (IsHall k o c) id v (head v) (tail v)
+pub parts_again : (k : Rules) (o : Object) (c : Setting) (id : ℕ) (v m : View) → v ≡ view_after_compare m → Splits {S = Option FloorView} (IsHall k o c) id v (head v) (tail v)
 parts_again k o c id v m e =
-    subst (λ (x : View). Splits {S = Option FloorView} (IsHall k o c) id x (head x) (tail x)) (sym e) (parted k o c id (the (shared m)) (the (tail (shared m))))
+    subst (λ (x : View). Splits {S = Option FloorView} (IsHall k o c) id x (head x) (tail x)) (sym e) (parted k o c id (the (view_after_compare m)) (the (tail (view_after_compare m))))
 
 -- a seat that has met another rests as before
-pub met_rests : (k : Rules) (o : Object) (y z : TableId) (v : View) (number left calls : ℕ) (r : Record) (views : List View) → IsResting k o z (v, []) number left calls → (the v).place ≡ Idle → y ≡ z
+pub met_rests : (k : Rules) (o : Object) (y z : TableId) (v : View) (number left calls : ℕ) (r : SeatRecord) (views : List View) → IsResting k o z (v, []) number left calls → (the v).place ≡ Idle → y ≡ z
     → r.seat ≡ (the v).seat → r.setting ≡ (the v).setting → r.place ≡ (the v).place → r.count ≡ (the v).count → r.mine ≡ (the v).mine → SeesTruly k o r → views ≡ (r ∷ []) ∷ []
     → (views ≡ top views ∷ []) × IsResting k o y (top views, []) number left calls × ((the (top views)).place ≡ Idle)
 met_rests k o y z v number left calls r views old idle table seat setting place count mine truly are =

@@ -12,20 +12,20 @@ use Rattle.monk_history.proofs.MeaningLaws.CountLaws.{events_of-push}
 use Rattle.monk_history.proofs.MeaningLaws.LegalLaws.{legal_front, legal_last}
 use Rattle.monk_floor.specs.View.{FloorView, monitor_of}
 use Rattle.monk_world.specs.Kept.{IsKept}
-use Rattle.monk_world.specs.State.{State, grown}
+use Rattle.monk_world.specs.State.{State, with_event}
 use Rattle.monk_world.specs.declared.place.Place.TheVariants.{Active}
 use Rattle.monk_world.specs.declared.source.Source.{Source}
 use Rattle.monk_world.proofs.BoundLaws.{bounded_floor, no_less}
 use Rattle.monk_world.proofs.PutLaws.{put_same}
 use Rattle.monk_world.proofs.SoundFloor.{stays}
-use Rattle.monk_hall.specs.Floors.{IsOwn, AreOwn}
+use Rattle.monk_hall.specs.Floors.{IsPrivate, ArePrivate}
 use Rattle.monk_hall.proofs.Frame.{other_event}
 
 pub own_event : (h : List Event) (e : Event) (i : ℕ) → seat_of e ≡ i → events_of (h ++ e ∷ []) i ≡ events_of h i ++ e ∷ []
 own_event h e i same = events_of-push h e i ∙ ap (λ (b : Bool). events_of h i ++ cond b (e ∷ []) []) (eq-eqb (seat_of e) i same)
 
 -- its own events are all that is more
-pub own_more : (i : ℕ) (h es : List Event) → AreOwn i es → events_of (h ++ es) i ≡ events_of h i ++ es
+pub own_more : (i : ℕ) (h es : List Event) → ArePrivate i es → events_of (h ++ es) i ≡ events_of h i ++ es
 own_more i h [] own = ap (λ (g : List Event). events_of g i) (append-nil h) ∙ sym (append-nil (events_of h i))
 own_more i h (e ∷ es) own =
     ap (λ (g : List Event). events_of g i) (sym (append_assoc h (e ∷ []) es))
@@ -34,7 +34,7 @@ own_more i h (e ∷ es) own =
     ∙ append_assoc (events_of h i) (e ∷ []) es
 
 -- and nobody else has more
-pub others_same : (i j : ℕ) → j ≢ i → (h es : List Event) → AreOwn i es → events_of (h ++ es) j ≡ events_of h j
+pub others_same : (i j : ℕ) → j ≢ i → (h es : List Event) → ArePrivate i es → events_of (h ++ es) j ≡ events_of h j
 others_same i j ne h [] own = ap (λ (g : List Event). events_of g j) (append-nil h)
 others_same i j ne h (e ∷ es) own =
     ap (λ (g : List Event). events_of g j) (sym (append_assoc h (e ∷ []) es))
@@ -44,8 +44,8 @@ others_same i j ne h (e ∷ es) own =
 abbrev pub with_more : State → List Event → State
 with_more s es = record s { floor = record s.floor { history = s.floor.history ++ es } }
 
-one_kept : (k : Rules) (o : Object) (s : State) (seats conds i : ℕ) (q : Source) (e : Event) → IsKept k o seats conds s → i < s.floor.seats → s.world.place i ≡ Active q → IsOwn i e
-    → IsLegal (monitor_of k o s.floor) (s.floor.history ++ e ∷ []) → 2 ≤ left_of s.floor.budget s.floor.history i → IsKept k o seats conds (record s { floor = grown s.floor e })
+one_kept : (k : Rules) (o : Object) (s : State) (seats conds i : ℕ) (q : Source) (e : Event) → IsKept k o seats conds s → i < s.floor.seats → s.world.place i ≡ Active q → IsPrivate i e
+    → IsLegal (monitor_of k o s.floor) (s.floor.history ++ e ∷ []) → 2 ≤ left_of s.floor.budget s.floor.history i → IsKept k o seats conds (record s { floor = with_event s.floor e })
 one_kept k o s seats conds i q e kept near active own legal enough = record {
   sound = stays k o s kept.sound.right kept.sound.owner kept.sound.is_sound i e own.seat (legal_last (monitor_of k o s.floor) s.floor.history e legal) q active own.enters own.keeps enough;
   bounded = bounded_floor s kept.bounded i near s.world s.known (s.world.place i) (sym (put_same s.world.place i (s.world.place i) refl)) e own.seat (omega arith) (omega arith)
@@ -55,7 +55,7 @@ one_kept k o s seats conds i q e kept near active own legal enough = record {
 }
 
 -- events of the active seat that keep the turn with it keep the world kept, while one event more is left to it
-pub more_kept : (k : Rules) (o : Object) (s : State) (seats conds i : ℕ) (q : Source) (es : List Event) → IsKept k o seats conds s → i < s.floor.seats → s.world.place i ≡ Active q → AreOwn i es
+pub more_kept : (k : Rules) (o : Object) (s : State) (seats conds i : ℕ) (q : Source) (es : List Event) → IsKept k o seats conds s → i < s.floor.seats → s.world.place i ≡ Active q → ArePrivate i es
     → IsLegal (monitor_of k o s.floor) (s.floor.history ++ es) → length (events_of s.floor.history i) + length es < s.floor.budget → IsKept k o seats conds (with_more s es)
 more_kept k o s seats conds i q [] kept near active own legal room =
     subst (λ (g : List Event). IsKept k o seats conds (record s { floor = record s.floor { history = g } })) (sym (append-nil s.floor.history)) kept
@@ -67,4 +67,4 @@ more_kept k o s seats conds i q (e ∷ es) kept near active own legal room =
     let one = one_kept k o s seats conds i q e kept near active own.0 (legal_front m (past ++ e ∷ []) es legal_all) (omega arith) in
     let long = ap length (own_event past e i own.0.seat) ∙ length-append (events_of past i) (e ∷ []) in
     subst (λ (g : List Event). IsKept k o seats conds (record s { floor = record s.floor { history = g } })) (sym split)
-    (more_kept k o (record s { floor = grown s.floor e }) seats conds i q es one near active own.1 legal_all (omega arith))
+    (more_kept k o (record s { floor = with_event s.floor e }) seats conds i q es one near active own.1 legal_all (omega arith))

@@ -28,27 +28,27 @@ use Rattle.monk_floor.specs.Grown.{IsGrown}
 use Rattle.monk_floor.specs.View.{FloorView, monitor_of, stands_of}
 use Rattle.monk_world.specs.Places.{stage, place_of}
 use Rattle.monk_world.specs.Sound.{left_within}
-use Rattle.monk_world.specs.State.{grown}
+use Rattle.monk_world.specs.State.{with_event}
 use Rattle.monk_world.specs.declared.home.Home.{Home}
 use Rattle.monk_world.proofs.TestLaws.{some_above}
 use Rattle.monk_world.specs.declared.home.Home.TheVariants as home
-use Rattle.monk_hall.specs.Calls.{Released, Stayed, HasPeeked, Remembers, knows}
+use Rattle.monk_hall.specs.Calls.{HasReleased, HasStayed, HasPeeked, Remembers, is_entry_known}
 use Rattle.monk_hall.specs.AfterCalls.{MatchAfter}
 use Rattle.monk_hall.specs.declared.after.After.{After}
 use Rattle.monk_hall.specs.declared.after.After.TheVariants.{Active, Parked}
-use Rattle.monk_hall.specs.Changes.{peeked}
-use Rattle.monk_hall.specs.Handing.{HasReleased, HasGone}
+use Rattle.monk_hall.specs.Changes.{record_after_peek}
+use Rattle.monk_hall.specs.Handing.{HasRecordedRelease, HasGone}
 use Rattle.monk_hall.specs.Layout.{word_count}
 use Rattle.monk_hall.specs.Records.{the, IsOne}
-use Rattle.monk_hall.specs.Tells.{Me, Peeks, Returns, IsReleaseTo}
+use Rattle.monk_hall.specs.Tells.{Me, TellsPeek, Returns, IsReleaseTo}
 use Rattle.monk_hall.specs.Tokens.{Token, Holder, IsSeated, IsHolding, IsTold, with_own}
-use Rattle.monk_hall.specs.declared.record.Record.{Record}
+use Rattle.monk_hall.specs.declared.record.SeatRecord.{SeatRecord}
 use Rattle.monk_hall.proofs.Private.{own_event}
 use Rattle.monk_hall.proofs.Releasing.{said}
 use Rattle.monk_hall.proofs.TokenLaws.{holder, grown_holds}
 
 -- the wish rules ask who is known to wait for entry only for a wish of entry
-knows_reads : (k : Rules) (q : Queues) (s : ℕ) (known : Bool) (wish : Pick) → choice_by k q s known wish ≡ choice_by k q s (knows wish known) wish
+knows_reads : (k : Rules) (q : Queues) (s : ℕ) (known : Bool) (wish : Pick) → choice_by k q s known wish ≡ choice_by k q s (is_entry_known wish known) wish
 knows_reads k q s known WishEntry = refl
 knows_reads k q s known WishWaiter = refl
 knows_reads k q s known WishSignaller = refl
@@ -112,21 +112,21 @@ never_enters i home.Inner (Until s p y) x h = refl
 never_enters i home.Inner (Resume s q) x h = refl
 
 -- a release that the floor has recorded
-pub record IsRelease (k : Rules) (o : Object) (r : Record) (f : FloorView) (call : Event) (wish : Pick) (known : Bool) (choice : Next) (to : Home) (g : FloorView) : Type 0 where
+pub record IsRelease (k : Rules) (o : Object) (r : SeatRecord) (f : FloorView) (call : Event) (wish : Pick) (known : Bool) (choice : Next) (to : Home) (g : FloorView) : Type 0 where
   pub release : IsReleaseTo r.seat to call
   pub may : MayCall (monitor_of k o f) f.history call
   pub left : left_within to < left_of f.budget f.history r.seat
-  pub known_is : must_stay o (stands_of k o f) call ≡ false → known ≡ knows wish r.known
+  pub known_is : must_stay o (stands_of k o f) call ≡ false → known ≡ is_entry_known wish r.known
   pub chosen : choice ≡ choice_of k o (stands_of k o f) call known wish
   pub is_grown : IsGrown k o f (with_next choice call) g
 
-chosen_as_known : {k : Rules} {o : Object} {r : Record} {f : FloorView} {call : Event} {wish : Pick} {known : Bool} {choice : Next} {to : Home} {g : FloorView}
-    → IsRelease k o r f call wish known choice to g → choice ≡ choice_of k o (stands_of k o f) call (knows wish r.known) wish
-chosen_as_known {k} {o} {r} {f} {call} {wish} {known} x = let t = stands_of k o f in x.chosen ∙ choice_knows (must_stay o t call) next.Stay (λ b. choice_by k (queues_at o t call) (seat_of call) b wish) known (knows wish r.known)
+chosen_as_known : {k : Rules} {o : Object} {r : SeatRecord} {f : FloorView} {call : Event} {wish : Pick} {known : Bool} {choice : Next} {to : Home} {g : FloorView}
+    → IsRelease k o r f call wish known choice to g → choice ≡ choice_of k o (stands_of k o f) call (is_entry_known wish r.known) wish
+chosen_as_known {k} {o} {r} {f} {call} {wish} {known} x = let t = stands_of k o f in x.chosen ∙ choice_knows (must_stay o t call) next.Stay (λ b. choice_by k (queues_at o t call) (seat_of call) b wish) known (is_entry_known wish r.known)
     (λ free. ap (λ b. choice_by k (queues_at o t call) (seat_of call) b wish) (x.known_is free))
 
 module _ {k : Rules} {o : Object} {z : TableId} {me : Me} {number calls : ℕ} {f : FloorView} {call : Event} {wish : Pick} {known : Bool} {choice : Next} {to : Home} {g : FloorView} where
-  pub has_released : IsHolding k o z me number calls f → IsRelease k o (the me.0) f call wish known choice to g → is_stay (Some choice) ≡ false → HasReleased k o z me choice to g
+  pub has_released : IsHolding k o z me number calls f → IsRelease k o (the me.0) f call wish known choice to g → is_stay (Some choice) ≡ false → HasRecordedRelease k o z me choice to g
   has_released h x away = record {
     one = h.one;
     active = h.active;
@@ -140,7 +140,7 @@ module _ {k : Rules} {o : Object} {z : TableId} {me : Me} {number calls : ℕ} {
       choice = choice;
       release = x.release;
       may = x.may;
-      chosen = chosen_as_known x ∙ choice_knows (must_stay o (stands_of k o f) call) next.Stay (λ b. choice_by k (queues_at o (stands_of k o f) call) (seat_of call) b wish) (knows wish (the me.0).known) (the me.0).known
+      chosen = chosen_as_known x ∙ choice_knows (must_stay o (stands_of k o f) call) next.Stay (λ b. choice_by k (queues_at o (stands_of k o f) call) (seat_of call) b wish) (is_entry_known wish (the me.0).known) (the me.0).known
           (λ _. sym (knows_reads k (queues_at o (stands_of k o f) call) (seat_of call) (the me.0).known wish));
       away = away;
       left = x.left;
@@ -152,11 +152,11 @@ module _ {k : Rules} {o : Object} {z : TableId} {me : Me} {number calls : ℕ} {
   }
 
   pub released : IsHolding k o z me number calls f → IsRelease k o (the me.0) f call wish known choice to g → is_stay (Some choice) ≡ false
-      → (p : Token) → p.hall ≡ z → HasGone (the me.0) g.history to p.me → IsTold k o p.me → Released k o (holder z (the me.0) f) call wish to 0 p
+      → (p : Token) → p.hall ≡ z → HasGone (the me.0) g.history to p.me → IsTold k o p.me → HasReleased k o (holder z (the me.0) f) call wish to 0 p
   released h x away p hall gone told =
       let r = the me.0 in let history = ap (λ (y : FloorView). y.history) x.is_grown.grown in let is_known = ap (λ w. w.known) gone.is in let few = gone.few in let steps = ap (λ w. w.steps) gone.is in record {
         choice = choice;
-        chosen = chosen_as_known x ∙ ap (λ b. choice_of k o (stands_of k o f) call (knows wish b) wish) (sym is_known);
+        chosen = chosen_as_known x ∙ ap (λ b. choice_of k o (stands_of k o f) call (is_entry_known wish b) wish) (sym is_known);
         away = away;
         hall = hall;
         seat = ap (λ w. w.seat) gone.is;
@@ -170,7 +170,7 @@ module _ {k : Rules} {o : Object} {z : TableId} {me : Me} {number calls : ℕ} {
         told = told;
       }
 
-remembers_twice : (peeks : ℕ) (a b : Holder) → HasPeeked peeks a b → (w : Record) → Remembers b.me w → b.me.looks ≤ w.looks → Remembers a.me w
+remembers_twice : (peeks : ℕ) (a b : Holder) → HasPeeked peeks a b → (w : SeatRecord) → Remembers b.me w → b.me.looks ≤ w.looks → Remembers a.me w
 remembers_twice peeks a b x w y more = record {
   knew = λ knew. y.knew (x.remembers.knew knew);
   unlooked = λ same. let n = ap (λ (h : Holder). h.me.looks) x.is in y.unlooked (omega arith) ∙ x.remembers.unlooked (omega arith);
@@ -178,10 +178,10 @@ remembers_twice peeks a b x w y more = record {
 
 -- a look at the ticket word before the release
 module _ {k : Rules} {o : Object} where
-  pub released_peeked : (peeks : ℕ) (a b : Holder) → HasPeeked peeks a b → (call : Event) (wish : Pick) (to : Home) (p : Token) → Released k o b call wish to 0 p → Released k o a call wish to peeks p
+  pub released_peeked : (peeks : ℕ) (a b : Holder) → HasPeeked peeks a b → (call : Event) (wish : Pick) (to : Home) (p : Token) → HasReleased k o b call wish to 0 p → HasReleased k o a call wish to peeks p
   released_peeked peeks a b x call wish to p y = let is = x.is in let few = y.steps in let steps = ap (λ (h : Holder). h.me.steps) is in record {
     choice = y.choice;
-    chosen = y.chosen ∙ ap (λ (h : Holder). choice_of k o (stands_of k o h.floor) call (knows wish p.me.known) wish) is;
+    chosen = y.chosen ∙ ap (λ (h : Holder). choice_of k o (stands_of k o h.floor) call (is_entry_known wish p.me.known) wish) is;
     away = y.away;
     hall = y.hall ∙ ap (λ (h : Holder). h.hall) is;
     seat = y.seat ∙ ap (λ (h : Holder). h.me.seat) is;
@@ -208,66 +208,66 @@ module _ {k : Rules} {o : Object} {z : TableId} {me : Me} {number calls : ℕ} {
 
   -- what is told of a release with the active seat's own number
   pub released_of : {wish : Pick} {known : Bool} {choice : Next} {to : Home} {g : FloorView} → (call : ℕ → Event) → IsHolding k o z me number calls f → IsRelease k o (the me.0) f (call number) wish known choice to g → is_stay (Some choice) ≡ false
-      → (p : Token) → p.hall ≡ z → HasGone (the me.0) g.history to p.me → IsTold k o p.me → (a : Holder) → holder z (the me.0) f ≡ a → Released k o a (call a.me.seat) wish to 0 p
+      → (p : Token) → p.hall ≡ z → HasGone (the me.0) g.history to p.me → IsTold k o p.me → (a : Holder) → holder z (the me.0) f ≡ a → HasReleased k o a (call a.me.seat) wish to 0 p
   released_of {wish} {known} {choice} {to} {g} call h x away p hall gone told a is =
-      subst (λ (b : Holder). Released k o b (call b.me.seat) wish to 0 p) is
-      (subst (λ n. Released k o (holder z (the me.0) f) (call n) wish to 0 p) (sym h.seated.is_seat) (released h x away p hall gone told))
+      subst (λ (b : Holder). HasReleased k o b (call b.me.seat) wish to 0 p) is
+      (subst (λ n. HasReleased k o (holder z (the me.0) f) (call n) wish to 0 p) (sym h.seated.is_seat) (released h x away p hall gone told))
 
-  pub leaves : IsHolding k o z me number calls f → (wish : Pick) (known : Bool) (choice : Next) (g : FloorView) → (a : Holder) → holder z (the me.0) f ≡ a → known ≡ knows wish a.me.known
+  pub leaves : IsHolding k o z me number calls f → (wish : Pick) (known : Bool) (choice : Next) (g : FloorView) → (a : Holder) → holder z (the me.0) f ≡ a → known ≡ is_entry_known wish a.me.known
       → choice ≡ choice_of k o (stands_of k o f) (Leave number next.Stay) known wish → IsGrown k o f (Leave number choice) g → IsRelease k o (the me.0) f (Leave number next.Stay) wish known choice home.Idle g
   leaves h wish known choice g a is reads chosen grows = record {
     release = (sym h.seated.is_seat, refl);
     may = may_leave (monitor_of k o f) f.history number (owns h) (is_near h);
     left = has_left h 0 (let l = h.left in omega arith);
-    known_is = λ _. reads ∙ ap (λ (b : Holder). knows wish b.me.known) (sym is);
+    known_is = λ _. reads ∙ ap (λ (b : Holder). is_entry_known wish b.me.known) (sym is);
     chosen = chosen;
     is_grown = grows;
   }
 
   pub waits : IsHolding k o z me number calls f → (c : ℕ) → c < f.conds → has_conditions k.mode ≡ true → (wish : Pick) (known : Bool) (choice : Next) (g : FloorView) → (a : Holder) → holder z (the me.0) f ≡ a
-      → length a.me.mine + 3 ≤ a.me.setting.budget → known ≡ knows wish a.me.known
+      → length a.me.mine + 3 ≤ a.me.setting.budget → known ≡ is_entry_known wish a.me.known
       → choice ≡ choice_of k o (stands_of k o f) (Wait number c next.Stay) known wish → IsGrown k o f (Wait number c choice) g → IsRelease k o (the me.0) f (Wait number c next.Stay) wish known choice home.Inner g
   waits h c low has wish known choice g a is room reads chosen grows = record {
     release = (sym h.seated.is_seat, refl);
     may = may_wait (monitor_of k o f) f.history number c (owns h) (is_near h) low has;
     left = has_left h 2 (let more = subst (λ (b : Holder). length b.me.mine + 3 ≤ b.me.setting.budget) (sym is) room in omega arith);
-    known_is = λ _. reads ∙ ap (λ (b : Holder). knows wish b.me.known) (sym is);
+    known_is = λ _. reads ∙ ap (λ (b : Holder). is_entry_known wish b.me.known) (sym is);
     chosen = chosen;
     is_grown = grows;
   }
 
   pub signals : IsHolding k o z me number calls f → (c : ℕ) → c < f.conds → has_signaller_queue k.mode ≡ true → (wish : Pick) (known : Bool) (choice : Next) (g : FloorView) → (a : Holder) → holder z (the me.0) f ≡ a
-      → length a.me.mine + 3 ≤ a.me.setting.budget → (must_stay o (stands_of k o f) (Signal number c next.Stay) ≡ false → known ≡ knows wish a.me.known)
+      → length a.me.mine + 3 ≤ a.me.setting.budget → (must_stay o (stands_of k o f) (Signal number c next.Stay) ≡ false → known ≡ is_entry_known wish a.me.known)
       → choice ≡ choice_of k o (stands_of k o f) (Signal number c next.Stay) known wish → IsGrown k o f (Signal number c choice) g → IsRelease k o (the me.0) f (Signal number c next.Stay) wish known choice home.Inner g
   signals h c low has wish known choice g a is room reads chosen grows = record {
     release = (sym h.seated.is_seat, refl);
     may = may_signal_on (monitor_of k o f) f.history number c (owns h) (is_near h) low has;
     left = has_left h 2 (let more = subst (λ (b : Holder). length b.me.mine + 3 ≤ b.me.setting.budget) (sym is) room in omega arith);
-    known_is = λ free. reads free ∙ ap (λ (b : Holder). knows wish b.me.known) (sym is);
+    known_is = λ free. reads free ∙ ap (λ (b : Holder). is_entry_known wish b.me.known) (sym is);
     chosen = chosen;
     is_grown = grows;
   }
 
   pub signals_and_leaves : IsHolding k o z me number calls f → (c : ℕ) → c < f.conds → returns_at_once k.mode ≡ true → (wish : Pick) (known : Bool) (choice : Next) (g : FloorView) → (a : Holder) → holder z (the me.0) f ≡ a
-      → known ≡ knows wish a.me.known → choice ≡ choice_of k o (stands_of k o f) (SignalLeave number c next.Stay) known wish → IsGrown k o f (SignalLeave number c choice) g
+      → known ≡ is_entry_known wish a.me.known → choice ≡ choice_of k o (stands_of k o f) (SignalLeave number c next.Stay) known wish → IsGrown k o f (SignalLeave number c choice) g
       → IsRelease k o (the me.0) f (SignalLeave number c next.Stay) wish known choice home.Idle g
   signals_and_leaves h c low has wish known choice g a is reads chosen grows = record {
     release = (sym h.seated.is_seat, refl);
     may = may_signal_leave (monitor_of k o f) f.history number c (owns h) (is_near h) low has;
     left = has_left h 0 (let l = h.left in omega arith);
-    known_is = λ _. reads ∙ ap (λ (b : Holder). knows wish b.me.known) (sym is);
+    known_is = λ _. reads ∙ ap (λ (b : Holder). is_entry_known wish b.me.known) (sym is);
     chosen = chosen;
     is_grown = grows;
   }
 
   pub waits_until : IsHolding k o z me number calls f → (p : ℕ) → p < o.predicates → not (has_conditions k.mode) ≡ true → (wish : Pick) (known : Bool) (choice : Next) (g : FloorView) → (a : Holder) → holder z (the me.0) f ≡ a
-      → length a.me.mine + 3 ≤ a.me.setting.budget → (must_stay o (stands_of k o f) (Until number p next.Stay) ≡ false → known ≡ knows wish a.me.known)
+      → length a.me.mine + 3 ≤ a.me.setting.budget → (must_stay o (stands_of k o f) (Until number p next.Stay) ≡ false → known ≡ is_entry_known wish a.me.known)
       → choice ≡ choice_of k o (stands_of k o f) (Until number p next.Stay) known wish → IsGrown k o f (Until number p choice) g → IsRelease k o (the me.0) f (Until number p next.Stay) wish known choice home.Inner g
   waits_until h p low has wish known choice g a is room reads chosen grows = record {
     release = (sym h.seated.is_seat, refl);
     may = may_until (monitor_of k o f) f.history number p (owns h) (is_near h) low has;
     left = has_left h 2 (let more = subst (λ (b : Holder). length b.me.mine + 3 ≤ b.me.setting.budget) (sym is) room in omega arith);
-    known_is = λ free. reads free ∙ ap (λ (b : Holder). knows wish b.me.known) (sym is);
+    known_is = λ free. reads free ∙ ap (λ (b : Holder). is_entry_known wish b.me.known) (sym is);
     chosen = chosen;
     is_grown = grows;
   }
@@ -282,36 +282,36 @@ module _ {k : Rules} {o : Object} {z : TableId} {me : Me} {number calls : ℕ} {
       (never_enters (the me.0).seat to call choice x.release) x.is_grown.allowed room g x.is_grown.grown
 
   pub stayed : (call : ℕ → Event) {wish : Pick} {known : Bool} {choice : Next} {to : Home} {g : FloorView} → IsHolding k o z me number calls f → IsRelease k o (the me.0) f (call number) wish known choice to g → is_stay (Some choice) ≡ true
-      → (a : Holder) → holder z (the me.0) f ≡ a → Stayed k o a (call a.me.seat) wish 0 (holder z (the me.0) g)
+      → (a : Holder) → holder z (the me.0) f ≡ a → HasStayed k o a (call a.me.seat) wish 0 (holder z (the me.0) g)
   stayed call {wish} {known} {choice} {to} {g} h x stays a is =
       let r = the me.0 in let same = stay_is choice stays in let e = with_next next.Stay (call number) in
-      let grows = x.is_grown.grown ∙ ap (λ y. grown f (with_next y (call number))) same in
+      let grows = x.is_grown.grown ∙ ap (λ y. with_event f (with_next y (call number))) same in
       let seat = (said r.seat to (call number) next.Stay x.release).seat in
-      subst (λ (b : Holder). Stayed k o b (call b.me.seat) wish 0 (holder z r g)) is
-      (subst (λ n. Stayed k o (holder z r f) (call n) wish 0 (holder z r g)) (sym h.seated.is_seat) record {
+      subst (λ (b : Holder). HasStayed k o b (call b.me.seat) wish 0 (holder z r g)) is
+      (subst (λ n. HasStayed k o (holder z r f) (call n) wish 0 (holder z r g)) (sym h.seated.is_seat) record {
         chosen = sym same ∙ chosen_as_known x;
-        is = ap (holder z r) grows ∙ (λ i. record { hall = z; me = record r { mine = own_event f.history e r.seat seat i; looks = plus_none r.looks i; steps = plus_none r.steps i }; floor = grown f e });
+        is = ap (holder z r) grows ∙ (λ i. record { hall = z; me = record r { mine = own_event f.history e r.seat seat i; looks = plus_none r.looks i; steps = plus_none r.steps i }; floor = with_event f e });
         remembers = record { knew = λ knew. knew; unlooked = λ _. refl };
         legal = subst (λ (y : FloorView). IsLegal (monitor_of k o y) y.history) (sym x.is_grown.grown) (legal-push (monitor_of k o f) f.history (with_next choice (call number)) h.goes.legal x.is_grown.allowed);
         own = refl;
       })
 
 module _ {k : Rules} {o : Object} where
-  pub stayed_peeked : (peeks : ℕ) (a b : Holder) → HasPeeked peeks a b → (call : Event) (wish : Pick) (c : Holder) → Stayed k o b call wish 0 c → Stayed k o a call wish peeks c
+  pub stayed_peeked : (peeks : ℕ) (a b : Holder) → HasPeeked peeks a b → (call : Event) (wish : Pick) (c : Holder) → HasStayed k o b call wish 0 c → HasStayed k o a call wish peeks c
   stayed_peeked peeks a b x call wish c y = let is = x.is in record {
-    chosen = y.chosen ∙ ap (λ (h : Holder). choice_of k o (stands_of k o h.floor) call (knows wish c.me.known) wish) is;
+    chosen = y.chosen ∙ ap (λ (h : Holder). choice_of k o (stands_of k o h.floor) call (is_entry_known wish c.me.known) wish) is;
     is = y.is
-        ∙ ap (λ (h : Holder). let z : Holder = record h { me = record h.me { known = c.me.known; mine = h.me.mine ++ with_next next.Stay call ∷ []; looks = h.me.looks + 0; steps = h.me.steps + 0 }; floor = grown h.floor (with_next next.Stay call) } in z) is
-        ∙ (λ i. record a { me = record a.me { known = c.me.known; mine = a.me.mine ++ with_next next.Stay call ∷ []; looks = sym (plus_none (a.me.looks + peeks)) i; steps = sym (plus_none (a.me.steps + peeks)) i }; floor = grown a.floor (with_next next.Stay call) });
+        ∙ ap (λ (h : Holder). let z : Holder = record h { me = record h.me { known = c.me.known; mine = h.me.mine ++ with_next next.Stay call ∷ []; looks = h.me.looks + 0; steps = h.me.steps + 0 }; floor = with_event h.floor (with_next next.Stay call) } in z) is
+        ∙ (λ i. record a { me = record a.me { known = c.me.known; mine = a.me.mine ++ with_next next.Stay call ∷ []; looks = sym (plus_none (a.me.looks + peeks)) i; steps = sym (plus_none (a.me.steps + peeks)) i }; floor = with_event a.floor (with_next next.Stay call) });
     remembers = remembers_twice peeks a b x c.me y.remembers (let n = ap (λ (h : Holder). h.me.looks) y.is in omega arith);
     legal = y.legal;
     own = y.own;
   }
 
 -- the active seat has looked at the ticket word
-pub peeked_once : (z y : TableId) (me new : Me) (f : FloorView) (found : ℕ) → y ≡ z → Peeks me found new → (a : Holder) → holder z (the me.0) f ≡ a → HasPeeked 1 a (holder y (the new.0) f)
+pub peeked_once : (z y : TableId) (me new : Me) (f : FloorView) (found : ℕ) → y ≡ z → TellsPeek me found new → (a : Holder) → holder z (the me.0) f ≡ a → HasPeeked 1 a (holder y (the new.0) f)
 peeked_once z y me new f found same step a is =
-    let r = the me.0 in let w = peeked r found in let one : (n : ℕ) → suc n ≡ n + 1 = λ n. omega arith in
+    let r = the me.0 in let w = record_after_peek r found in let one : (n : ℕ) → suc n ≡ n + 1 = λ n. omega arith in
     subst (λ (b : Holder). HasPeeked 1 b (holder y (the new.0) f)) is record {
       remembers = record { knew = step.1; unlooked = λ e. let more = ap (λ (m : Me). (the m.0).looks) step.0 in absurd (omega arith) };
       known = w.known;
@@ -335,10 +335,10 @@ must_known {k} {o} {f = f} h a is call told free = told ((λ i. must_stay o (sta
 
 -- a call that may stay, after a look at the ticket word
 pub after_peeked : {K T : Type 0} (k : Rules) (o : Object) (call : ℕ → Event) (wish : Pick) (to : Home) (peeks : ℕ) (a b : Holder) → HasPeeked peeks a b → (r : After K T)
-    → MatchAfter r (λ x. Stayed k o b (call b.me.seat) wish 0 x) (λ p. Released k o b (call b.me.seat) wish to 0 p)
-    → MatchAfter r (λ x. Stayed k o a (call a.me.seat) wish peeks x) (λ p. Released k o a (call a.me.seat) wish to peeks p)
-after_peeked k o call wish to peeks a b x (Active y) m = stayed_peeked peeks a b x (call a.me.seat) wish y (subst (λ e. Stayed k o b e wish 0 y) (ap (λ (h : Holder). call h.me.seat) x.is) m)
-after_peeked k o call wish to peeks a b x (Parked p) m = released_peeked peeks a b x (call a.me.seat) wish to p (subst (λ e. Released k o b e wish to 0 p) (ap (λ (h : Holder). call h.me.seat) x.is) m)
+    → MatchAfter r (λ x. HasStayed k o b (call b.me.seat) wish 0 x) (λ p. HasReleased k o b (call b.me.seat) wish to 0 p)
+    → MatchAfter r (λ x. HasStayed k o a (call a.me.seat) wish peeks x) (λ p. HasReleased k o a (call a.me.seat) wish to peeks p)
+after_peeked k o call wish to peeks a b x (Active y) m = stayed_peeked peeks a b x (call a.me.seat) wish y (subst (λ e. HasStayed k o b e wish 0 y) (ap (λ (h : Holder). call h.me.seat) x.is) m)
+after_peeked k o call wish to peeks a b x (Parked p) m = released_peeked peeks a b x (call a.me.seat) wish to p (subst (λ e. HasReleased k o b e wish to 0 p) (ap (λ (h : Holder). call h.me.seat) x.is) m)
 
 some_there : (xs : List ℕ) → not (is_empty xs) ≡ nat_lt 0 (length xs)
 some_there [] = refl

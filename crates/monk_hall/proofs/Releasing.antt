@@ -16,9 +16,9 @@ use Rattle.monk_floor.specs.View.{monitor_of}
 use Rattle.monk_world.specs.Kept.{IsKept}
 use Rattle.monk_world.specs.Places.{stage}
 use Rattle.monk_world.specs.Sound.{left_within}
-use Rattle.monk_world.specs.State.{State, grown}
+use Rattle.monk_world.specs.State.{State, with_event}
 use Rattle.monk_world.specs.StepTable.{IsDone, IsStep, release_next, call_of, left_for, may_be_told, is_call_in_range, is_call_offered}
-use Rattle.monk_world.specs.Steps.{after_in}
+use Rattle.monk_world.specs.Steps.{after_floor_in}
 use Rattle.monk_world.specs.declared.answer.Answer.TheVariants as answer
 use Rattle.monk_world.specs.declared.command.Command.{Command}
 use Rattle.monk_world.specs.declared.command.Command.TheVariants as command
@@ -76,20 +76,20 @@ said i home.Inner (Resume s q) x r = absurd r
 
 module _ (k : Rules) (o : Object) (s : State) (seats conds : ℕ) (i : ℕ) (q : Source) (kind : IsKind k) (kept : IsKept k o seats conds s) (near : i < s.floor.seats) (active : s.world.place i ≡ Active q) where
   abbrev released : Next → Home → Event → State
-  released x to e = record s { world = after_in s.world i x to; floor = grown s.floor (with_next x e) }
+  released x to e = record s { world = after_floor_in s.world i x to; floor = with_event s.floor (with_next x e) }
 
   -- a release of the world's table that doesn't stay
   abbrev by_table : Next → Home → Event → State
-  by_table x to e = record s { world = cond (is_stay (Some x)) s.world (after_in s.world i x to); floor = grown s.floor (with_next x e) }
+  by_table x to e = record s { world = cond (is_stay (Some x)) s.world (after_floor_in s.world i x to); floor = with_event s.floor (with_next x e) }
 
   away : (x y : Next) (to : Home) (e : Event) → x ≡ y → is_stay (Some x) ≡ false → IsKept k o seats conds (by_table y to e) → IsKept k o seats conds (released x to e)
   away x y to e same stay h =
-      subst (λ (b : Bool). IsKept k o seats conds (record s { world = cond b s.world (after_in s.world i x to); floor = grown s.floor (with_next x e) })) stay
+      subst (λ (b : Bool). IsKept k o seats conds (record s { world = cond b s.world (after_floor_in s.world i x to); floor = with_event s.floor (with_next x e) })) stay
       (subst (λ (z : Next). IsKept k o seats conds (by_table z to e)) (sym same) h)
 
   away_step : (m : Command) (x y : Next) (to : Home) (e : Event) → x ≡ y → is_stay (Some x) ≡ false → IsStep k o s i m (answer.Chose y) (by_table y to e) → IsStep k o s i m (answer.Chose x) (released x to e)
   away_step m x y to e same stay h =
-      subst (λ (b : Bool). IsStep k o s i m (answer.Chose x) (record s { world = cond b s.world (after_in s.world i x to); floor = grown s.floor (with_next x e) })) stay
+      subst (λ (b : Bool). IsStep k o s i m (answer.Chose x) (record s { world = cond b s.world (after_floor_in s.world i x to); floor = with_event s.floor (with_next x e) })) stay
       (subst (λ (z : Next). IsStep k o s i m (answer.Chose z) (by_table z to e)) (sym same) h)
 
   -- a release is a step of the world

@@ -5,7 +5,7 @@ use Rattle.monk_object.specs.Object.{Object}
 use Rattle.monk_history.specs.declared.event.Event.{Event}
 use Rattle.std.specs.Prelude.{List}
 use Rattle.monk_world.specs.OnePlace.{HoldsRight}
-use Rattle.monk_world.specs.Places.{stage, chosen}
+use Rattle.monk_world.specs.Places.{stage, back_turn, due_stage, active_stage, back_stage, passing_stage}
 use Rattle.monk_world.specs.Right.{with_seat}
 use Rattle.monk_world.specs.State.{is_quiet}
 use Rattle.monk_world.specs.declared.place.Place.{Place}
@@ -16,19 +16,19 @@ use Rattle.monk_hall.proofs.FloorIn.{gives_at}
 use Rattle.monk_hall.proofs.FloorOut.{takes_at}
 use Rattle.monk_hall.proofs.GrantSteps.{grants_ticket_at, calls_seat_at}
 use Rattle.monk_hall.proofs.WordSteps.{arrives_at, looks_for_ticket_at, looks_for_call_at, peeks_at, takes_off_at}
-use Rattle.monk_hall.specs.Laws.{HallState, IsRecord, RightInOnePlace, ShowsWellLed, OneHasTheRight, OneIsActive, KnownWaits, EntryWaits, ArrivalSteps, TicketLookSteps, CallLookSteps, PeekSteps, FloorOutSteps, FloorInSteps, DropSteps, TicketGrantSteps, SeatGrantSteps}
-use Rattle.monk_hall.specs.Layout.{floor_of, shown, shown_world}
+use Rattle.monk_hall.specs.Laws.{HallState, IsRecord, RightInOnePlace, ShowsWellLed, OneHasTheRight, OneIsActive, KnownWaits, EntryWaits, ArriveSteps, TicketLookSteps, SeatLookSteps, PeekSteps, FloorOutSteps, FloorInSteps, DropSteps, TicketGrantSteps, SeatGrantSteps}
+use Rattle.monk_hall.specs.Layout.{floor_of, shown_state, shown_world}
 use Rattle.monk_hall.specs.Rule.{IsHall}
-use Rattle.monk_hall.specs.declared.record.Record.{Record}
+use Rattle.monk_hall.specs.declared.record.SeatRecord.{SeatRecord}
 use Rattle.monk_hall.specs.declared.setting.Setting.{Setting}
 
 pub shows_well_led : ShowsWellLed
-shows_well_led k o c s h = let kept = h.2.kept in well_led k o (shown c s.words h.0 h.2.history) kept.sound.right kept.sound.owner kept.sound.is_sound
+shows_well_led k o c s h = let kept = h.2.kept in well_led k o (shown_state c s.words h.0 h.2.history) kept.sound.right kept.sound.owner kept.sound.is_sound
 
 pub right_in_one_place : RightInOnePlace
 right_in_one_place k o c s h = in_one_place c.seats (shown_world s.words h.0) h.2.kept.sound.right h.2.kept.sound.owner h.2.kept.sound.is_sound.stands.keeps h.2.some_seat
 
-module _ (k : Rules) (o : Object) (c : Setting) (s : HallState) (h : IsHall k o c s) (r : Record) (x : IsRecord s r) where
+module _ (k : Rules) (o : Object) (c : Setting) (s : HallState) (h : IsHall k o c s) (r : SeatRecord) (x : IsRecord s r) where
   is : h.0 r.seat ≡ r
   is = (h.1.each x.id x.view x.at r x.there).0
 
@@ -36,20 +36,20 @@ module _ (k : Rules) (o : Object) (c : Setting) (s : HallState) (h : IsHall k o 
   desk = (h.1.each x.id x.view x.at r x.there).1
 
   place : (h.0 r.seat).place ≡ r.place
-  place = ap (λ (y : Record). y.place) is
+  place = ap (λ (y : SeatRecord). y.place) is
 
   -- the right is with a seat that stands where it has it
-  with : 2 ≤ stage r.place → stage r.place ≤ 5 → h.2.kept.sound.right ≡ with_seat r.seat
+  with : due_stage ≤ stage r.place → stage r.place ≤ passing_stage → h.2.kept.sound.right ≡ with_seat r.seat
   with low high = let at = ap stage place in h.2.kept.sound.is_sound.stands.keeps.held r.seat (omega arith) (omega arith)
 
   -- while it has the floor back, what it has seen is the history
-  back : stage r.place ≡ 4 → h.2.history ≡ r.seen
+  back : stage r.place ≡ back_stage → h.2.history ≡ r.seen
   back four =
       let mine = with (omega arith) (omega arith) in
-      let none : (j : ℕ) → stage (h.0 j).place ≢ 3 = λ j three. alone j three mine in
-      (h.2.told.home none).0 ∙ sym (h.2.told.back r.seat (ap stage place ∙ four)) ∙ ap (λ (y : Record). y.seen) is
+      let none : (j : ℕ) → stage (h.0 j).place ≢ active_stage = λ j three. alone j three mine in
+      (h.2.told.home none).0 ∙ sym (h.2.told.back r.seat (ap stage place ∙ four)) ∙ ap (λ (y : SeatRecord). y.seen) is
     where
-      alone : (j : ℕ) → stage (h.0 j).place ≡ 3 → h.2.kept.sound.right ≡ with_seat r.seat → ⊥
+      alone : (j : ℕ) → stage (h.0 j).place ≡ active_stage → h.2.kept.sound.right ≡ with_seat r.seat → ⊥
       alone j three mine =
           let theirs = h.2.kept.sound.is_sound.stands.keeps.held j (omega arith) (omega arith) in
           let same : j ≡ r.seat = omega arith in
@@ -57,7 +57,7 @@ module _ (k : Rules) (o : Object) (c : Setting) (s : HallState) (h : IsHall k o 
           let here = ap stage place in
           omega arith
 
-has_right : (p : Place) → HoldsRight p → (2 ≤ stage p) × (stage p ≤ 5)
+has_right : (p : Place) → HoldsRight p → (due_stage ≤ stage p) × (stage p ≤ passing_stage)
 has_right Idle h = absurd h
 has_right (Ticket t) h = absurd h
 has_right (Due q) h = (omega arith, omega arith)
@@ -67,8 +67,8 @@ has_right (Passing t to) h = (omega arith, omega arith)
 has_right Inner h = absurd h
 
 -- two with the right are one
-one : (k : Rules) (o : Object) (c : Setting) (s : HallState) → IsHall k o c s → (r q : Record) → (x : IsRecord s r) → (y : IsRecord s q)
-    → (2 ≤ stage r.place) × (stage r.place ≤ 5) → (2 ≤ stage q.place) × (stage q.place ≤ 5) → (r ≡ q) × (x.id ≡ y.id)
+one : (k : Rules) (o : Object) (c : Setting) (s : HallState) → IsHall k o c s → (r q : SeatRecord) → (x : IsRecord s r) → (y : IsRecord s q)
+    → (due_stage ≤ stage r.place) × (stage r.place ≤ passing_stage) → (due_stage ≤ stage q.place) × (stage q.place ≤ passing_stage) → (r ≡ q) × (x.id ≡ y.id)
 one k o c s h r q x y a b =
     let mine = with k o c s h r x a.0 a.1 in
     let theirs = with k o c s h q y b.0 b.1 in
@@ -84,25 +84,25 @@ one_is_active k o c s h r q x y a b = one k o c s h r q x y (omega arith, omega 
 pub known_waits : KnownWaits
 known_waits k o c s h r x active known =
     let at = is k o c s h r x in
-    h.2.kept.sound.is_sound.known r.seat (ap (λ (y : Record). stage y.place) at ∙ active) (ap (λ (y : Record). y.known) at ∙ known)
+    h.2.kept.sound.is_sound.known r.seat (ap (λ (y : SeatRecord). stage y.place) at ∙ active) (ap (λ (y : SeatRecord). y.known) at ∙ known)
 
 pub entry_waits : EntryWaits
 entry_waits k o c s h r to x back_at some =
     let at = place k o c s h r x ∙ back_at in
     let history = back k o c s h r x (ap stage back_at) in
     let loud : is_quiet k o (floor_of c h.2.history) ≡ false = ap (λ (past : List Event). is_quiet k o (floor_of c past)) history ∙ some in
-    elim (h.2.kept.sound.is_sound.stands.fits_queues.back_to_entry r.seat (ap stage at) (ap chosen at)) [
+    elim (h.2.kept.sound.is_sound.stands.fits_queues.back_to_entry r.seat (ap stage at) (ap back_turn at)) [
       | inl quiet ↦ absurd (true≢false (sym quiet ∙ loud))
       | inr two ↦ two
     ]
 
-pub arrival_steps : ArrivalSteps
+pub arrival_steps : ArriveSteps
 arrival_steps k o c kind s h id r here idle room = arrives_at k o c kind s h id r here idle room _ refl
 
 pub ticket_look_steps : TicketLookSteps
 ticket_look_steps k o c kind s h id r here waits = looks_for_ticket_at k o c kind s h id r here waits
 
-pub call_look_steps : CallLookSteps
+pub call_look_steps : SeatLookSteps
 call_look_steps k o c kind s h id r here parked = looks_for_call_at k o c kind s h id r here parked
 
 pub peek_steps : PeekSteps

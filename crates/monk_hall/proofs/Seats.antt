@@ -9,7 +9,7 @@ use Rattle.monk_world.specs.Put.{put}
 use Rattle.monk_world.proofs.PutLaws.{at_put, put_here, put_else}
 use Rattle.monk_hall.specs.Records.{View, In, Distinct}
 use Rattle.monk_hall.specs.Rule.{AreShown}
-use Rattle.monk_hall.specs.declared.record.Record.{Record}
+use Rattle.monk_hall.specs.declared.record.SeatRecord.{SeatRecord}
 use Rattle.monk_hall.specs.declared.setting.Setting.{Setting}
 
 pub long : {A : Type 0} (l : List A) (i : ℕ) (a : A) → get_elem? l i ≡ some a → i < length l
@@ -17,11 +17,11 @@ long [] i a e = absurd cc
 long (x ∷ xs) zero a e = omega arith
 long (x ∷ xs) (suc i) a e = let l = long xs i a e in omega arith
 
-pub only : (x w : Record) → In x (w ∷ []) → x ≡ w
+pub only : (x w : SeatRecord) → In x (w ∷ []) → x ≡ w
 only x w (inl e) = e
 only x w (inr h) = absurd h
 
-module _ (c : Setting) (views : List View) (at : ℕ → Record) (s : AreShown c views at) (id : ℕ) (r : Record) (here : get_elem? views id ≡ some (r ∷ [])) where
+module _ (c : Setting) (views : List View) (at : ℕ → SeatRecord) (s : AreShown c views at) (id : ℕ) (r : SeatRecord) (here : get_elem? views id ≡ some (r ∷ [])) where
   pub is_at : at r.seat ≡ r
   is_at = (s.each id (r ∷ []) here r (inl refl)).0
 
@@ -32,16 +32,16 @@ module _ (c : Setting) (views : List View) (at : ℕ → Record) (s : AreShown c
   is_near = (s.each id (r ∷ []) here r (inl refl)).2
 
   pub is_setting : r.setting ≡ c
-  is_setting = ap (λ (x : Record). x.setting) (sym is_at) ∙ s.settings r.seat
+  is_setting = ap (λ (x : SeatRecord). x.setting) (sym is_at) ∙ s.settings r.seat
 
   -- the record of the seat whose view has it alone changes
-  pub shown_set : (w : Record) → w.seat ≡ r.seat → w.setting ≡ r.setting → AreShown c (set views id (w ∷ [])) (put at r.seat w)
+  pub shown_set : (w : SeatRecord) → w.seat ≡ r.seat → w.setting ≡ r.setting → AreShown c (set views id (w ∷ [])) (put at r.seat w)
   shown_set w same kept = record {
     desk = s.desk;
     each = λ j v e x in_v. ⊎_elim
         (λ t.
         let is_w : x ≡ w = only x w (subst (λ (z : View). In x z) (sym t.1) in_v) in
-        let seat : x.seat ≡ r.seat = ap (λ (z : Record). z.seat) is_w ∙ same in
+        let seat : x.seat ≡ r.seat = ap (λ (z : SeatRecord). z.seat) is_w ∙ same in
         (ap (put at r.seat w) seat ∙ put_here at r.seat w ∙ sym is_w, ap s.desk seat ∙ is_desk ∙ sym t.0, subst (λ (z : ℕ). z < c.seats) (sym seat) is_near))
         (λ t.
         let old = s.each j v t.1 x in_v in
@@ -58,7 +58,7 @@ module _ (c : Setting) (views : List View) (at : ℕ → Record) (s : AreShown c
           let old = s.there j near in
           elim (eqb_tells (s.desk j) id) [
             | inl d ↦ absurd (h.1 (alone j old.0 (sym (ap (λ (n : ℕ). get_elem? views n) d.1) ∙ old.1) old.2))
-            | inr d ↦ (old.0, set_else views id (s.desk j) (w ∷ []) d.1 ∙ old.1, subst (λ (x : Record). In x old.0) (sym (put_else at r.seat w j h.1)) old.2)
+            | inr d ↦ (old.0, set_else views id (s.desk j) (w ∷ []) d.1 ∙ old.1, subst (λ (x : SeatRecord). In x old.0) (sym (put_else at r.seat w j h.1)) old.2)
           ]
     ];
     settings = at_put at r.seat w (λ j x. x.setting ≡ c) (kept ∙ is_setting) (λ j n. s.settings j);
@@ -66,4 +66,4 @@ module _ (c : Setting) (views : List View) (at : ℕ → Record) (s : AreShown c
   }
     where
       alone : (j : ℕ) (v : View) → get_elem? views id ≡ some v → In (at j) v → j ≡ r.seat
-      alone j v e i = sym (s.seats j) ∙ ap (λ (x : Record). x.seat) (only (at j) r (subst (λ (z : View). In (at j) z) (some-injective v (r ∷ []) (sym e ∙ here)) i))
+      alone j v e i = sym (s.seats j) ∙ ap (λ (x : SeatRecord). x.seat) (only (at j) r (subst (λ (z : View). In (at j) z) (some-injective v (r ∷ []) (sym e ∙ here)) i))

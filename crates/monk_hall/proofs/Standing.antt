@@ -1,7 +1,7 @@
 -- Where a seat stands, told by its stage
 use Rattle.std.proofs.Common.{◌≡◌, ◌≢◌, ℕ, ◌+◌, ◌-◌, ◌==◌, ◌<◌, ◌≤◌, cond, Bool, true, false, refl, ap, arith}
-use Rattle.monk_world.specs.Places.{stage, ticket, chosen, open_turn, place_of}
-use Rattle.monk_world.specs.Steps.{arrived, looked, answered, dropped}
+use Rattle.monk_world.specs.Places.{stage, ticket, back_turn, open_turn, place_of, ticketed_stage, due_stage, active_stage, back_stage, passing_stage, inside_stage}
+use Rattle.monk_world.specs.Steps.{place_after_arrive, place_after_ticket_look, place_after_seat_look, place_after_drop}
 use Rattle.monk_world.specs.declared.home.Home.{Home}
 use Rattle.monk_world.specs.declared.home.Home.TheVariants as home
 use Rattle.monk_world.specs.declared.place.Place.{Place}
@@ -9,7 +9,7 @@ use Rattle.monk_world.specs.declared.place.Place.TheVariants.{Idle, Ticket, Due,
 use Rattle.monk_world.specs.declared.source.Source.TheVariants.{Free, Granted, Called}
 use Rattle.monk_hall.specs.Changes.{source_at, home_at}
 
-pub ticket_at : (p : Place) → stage p ≡ 1 → p ≡ Ticket (ticket p)
+pub ticket_at : (p : Place) → stage p ≡ ticketed_stage → p ≡ Ticket (ticket p)
 ticket_at Idle e = absurd (omega arith)
 ticket_at (Ticket t) e = refl
 ticket_at (Due q) e = absurd (omega arith)
@@ -18,7 +18,7 @@ ticket_at (Back x to) e = absurd (omega arith)
 ticket_at (Passing t to) e = absurd (omega arith)
 ticket_at Inner e = absurd (omega arith)
 
-pub due_at : (p : Place) → stage p ≡ 2 → p ≡ Due (source_at p)
+pub due_at : (p : Place) → stage p ≡ due_stage → p ≡ Due (source_at p)
 due_at Idle e = absurd (omega arith)
 due_at (Ticket t) e = absurd (omega arith)
 due_at (Due q) e = refl
@@ -27,7 +27,7 @@ due_at (Back x to) e = absurd (omega arith)
 due_at (Passing t to) e = absurd (omega arith)
 due_at Inner e = absurd (omega arith)
 
-pub active_at : (p : Place) → stage p ≡ 3 → p ≡ Active (source_at p)
+pub active_at : (p : Place) → stage p ≡ active_stage → p ≡ Active (source_at p)
 active_at Idle e = absurd (omega arith)
 active_at (Ticket t) e = absurd (omega arith)
 active_at (Due q) e = absurd (omega arith)
@@ -36,7 +36,7 @@ active_at (Back x to) e = absurd (omega arith)
 active_at (Passing t to) e = absurd (omega arith)
 active_at Inner e = absurd (omega arith)
 
-pub passing_at : (p : Place) → stage p ≡ 5 → p ≡ Passing (ticket p) (home_at p)
+pub passing_at : (p : Place) → stage p ≡ passing_stage → p ≡ Passing (ticket p) (home_at p)
 passing_at Idle e = absurd (omega arith)
 passing_at (Ticket t) e = absurd (omega arith)
 passing_at (Due q) e = absurd (omega arith)
@@ -45,7 +45,7 @@ passing_at (Back x to) e = absurd (omega arith)
 passing_at (Passing t to) e = refl
 passing_at Inner e = absurd (omega arith)
 
-pub inner_at : (p : Place) → stage p ≡ 6 → p ≡ Inner
+pub inner_at : (p : Place) → stage p ≡ inside_stage → p ≡ Inner
 inner_at Idle e = absurd (omega arith)
 inner_at (Ticket t) e = absurd (omega arith)
 inner_at (Due q) e = absurd (omega arith)
@@ -56,9 +56,9 @@ inner_at Inner e = refl
 
 -- a place that has neither the floor nor a choice that is not handed on
 pub record IsApart (p : Place) : Type 0 where
-  pub not_active : stage p ≢ 3
-  pub not_back : stage p ≢ 4
-  pub chose : chosen p ≡ open_turn
+  pub not_active : stage p ≢ active_stage
+  pub not_back : stage p ≢ back_stage
+  pub chose : back_turn p ≡ open_turn
 
 pub apart_idle : IsApart Idle
 apart_idle = record { not_active = λ e. absurd (omega arith); not_back = λ e. absurd (omega arith); chose = refl }
@@ -76,22 +76,22 @@ pub apart_home : (to : Home) → IsApart (place_of to)
 apart_home home.Idle = apart_idle
 apart_home home.Inner = apart_inner
 
-pub apart_arrived : (t n : ℕ) → IsApart (arrived t n)
+pub apart_arrived : (t n : ℕ) → IsApart (place_after_arrive t n)
 apart_arrived t n = by_free (n == 0)
   where
     by_free : (b : Bool) → IsApart (cond b (Due (Free t)) (Ticket t))
     by_free true = record { not_active = λ e. absurd (omega arith); not_back = λ e. absurd (omega arith); chose = refl }
     by_free false = apart_ticket t
 
-pub apart_looked : (t : ℕ) (found : Bool) → IsApart (looked t found)
+pub apart_looked : (t : ℕ) (found : Bool) → IsApart (place_after_ticket_look t found)
 apart_looked t true = record { not_active = λ e. absurd (omega arith); not_back = λ e. absurd (omega arith); chose = refl }
 apart_looked t false = apart_ticket t
 
-pub apart_answered : (found : Bool) → IsApart (answered found)
+pub apart_answered : (found : Bool) → IsApart (place_after_seat_look found)
 apart_answered true = record { not_active = λ e. absurd (omega arith); not_back = λ e. absurd (omega arith); chose = refl }
 apart_answered false = apart_inner
 
-pub apart_dropped : (t n : ℕ) (to : Home) → IsApart (dropped t n to)
+pub apart_dropped : (t n : ℕ) (to : Home) → IsApart (place_after_drop t n to)
 apart_dropped t n to = by_last (n == 1)
   where
     by_last : (b : Bool) → IsApart (cond b (place_of to) (Passing (t - n + 1) to))

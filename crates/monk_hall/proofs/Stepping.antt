@@ -12,7 +12,7 @@ use Rattle.monk_history.specs.Meaning.Counts.{events_of, enters_of, left_of}
 use Rattle.monk_history.specs.declared.event.Event.{Event}
 use Rattle.monk_floor.specs.View.{FloorView}
 use Rattle.monk_world.specs.Kept.{IsKept}
-use Rattle.monk_world.specs.Places.{stage}
+use Rattle.monk_world.specs.Places.{stage, active_stage}
 use Rattle.monk_world.specs.Put.{put}
 use Rattle.monk_world.specs.Sound.{IsSound}
 use Rattle.monk_world.specs.State.{State}
@@ -24,10 +24,10 @@ use Rattle.monk_world.specs.declared.place.Place.{Place}
 use Rattle.monk_world.proofs.DoneLaws.{IsReady}
 use Rattle.monk_hall.specs.Floors.{StartsWith}
 use Rattle.monk_hall.specs.Laws.{Takes}
-use Rattle.monk_hall.specs.Layout.{shown, shown_world}
+use Rattle.monk_hall.specs.Layout.{shown_state, shown_world}
 use Rattle.monk_hall.specs.Records.{View}
 use Rattle.monk_hall.specs.Rule.{IsHall, IsKeptHall, AreTold, CountsCalls}
-use Rattle.monk_hall.specs.declared.record.Record.{Record}
+use Rattle.monk_hall.specs.declared.record.SeatRecord.{SeatRecord}
 use Rattle.monk_hall.specs.declared.setting.Setting.{Setting}
 use Rattle.monk_hall.proofs.Frame as frame
 use Rattle.monk_hall.proofs.Knows.{calls_stay, told_moves}
@@ -35,9 +35,9 @@ use Rattle.monk_hall.proofs.Seats as seats
 use Rattle.monk_hall.proofs.Standing.{IsApart}
 use Rattle.monk_hall.proofs.Stored.{field_put, field_stays}
 
-module _ (k : Rules) (o : Object) (c : Setting) (kind : IsKind k) (s : table.State (Option FloorView) View) (h : IsHall k o c s) (id : ℕ) (r : Record)
+module _ (k : Rules) (o : Object) (c : Setting) (kind : IsKind k) (s : table.State (Option FloorView) View) (h : IsHall k o c s) (id : ℕ) (r : SeatRecord)
     (here : get_elem? s.views id ≡ maybe.some (r ∷ [])) where
-  abbrev pub at : ℕ → Record
+  abbrev pub at : ℕ → SeatRecord
   at = h.0
 
   abbrev pub kept_hall : IsKeptHall k o c s.words s.homes at
@@ -47,7 +47,7 @@ module _ (k : Rules) (o : Object) (c : Setting) (kind : IsKind k) (s : table.Sta
   world = shown_world s.words at
 
   abbrev pub state : State
-  state = shown c s.words at kept_hall.history
+  state = shown_state c s.words at kept_hall.history
 
   pub is : at r.seat ≡ r
   is = seats.is_at c s.views at h.1 id r here
@@ -62,13 +62,13 @@ module _ (k : Rules) (o : Object) (c : Setting) (kind : IsKind k) (s : table.Sta
   sound = kept_hall.kept.sound.is_sound
 
   pub stands_at : (p : Place) → r.place ≡ p → world.place r.seat ≡ p
-  stands_at p e = ap (λ (y : Record). y.place) is ∙ e
+  stands_at p e = ap (λ (y : SeatRecord). y.place) is ∙ e
 
   -- what a seat has left that isn't active
-  pub left_is : stage r.place ≢ 3 → left_of c.budget kept_hall.history r.seat ≡ r.setting.budget - length r.mine
+  pub left_is : stage r.place ≢ active_stage → left_of c.budget kept_hall.history r.seat ≡ r.setting.budget - length r.mine
   left_is not_active =
       let mine = frame.shows_mine k o c s.homes at s.words kept_hall.past kept_hall.history kept_hall.told kept_hall.kept.sound.right kept_hall.kept.sound.owner sound.stands.keeps
-      r.seat (λ e. not_active (sym (ap (λ (y : Record). stage y.place) is) ∙ e)) ∙ ap (λ (y : Record). y.mine) is in
+      r.seat (λ e. not_active (sym (ap (λ (y : SeatRecord). stage y.place) is) ∙ e)) ∙ ap (λ (y : SeatRecord). y.mine) is in
       let long = ap length mine in
       let budget : r.setting.budget ≡ c.budget = ap (λ (y : Setting). y.budget) setting in
       omega arith
@@ -77,7 +77,7 @@ module _ (k : Rules) (o : Object) (c : Setting) (kind : IsKind k) (s : table.Sta
   pub seen_few : enters_of r.seen ≤ world.drawn
   seen_few =
       let kh = kept_hall in
-      let seen = frame.starts_enters kh.past r.seen (subst (λ (y : Record). StartsWith kh.past y.seen) is (kh.told.starts r.seat)) in
+      let seen = frame.starts_enters kh.past r.seen (subst (λ (y : SeatRecord). StartsWith kh.past y.seen) is (kh.told.starts r.seat)) in
       let shows = frame.starts_enters kh.history kh.past (frame.shows_past k o c s.homes at s.words kh.past kh.history kh.told kh.kept.sound.right kh.kept.sound.owner sound.stands.keeps) in
       let entered = frame.entered_few k o state kh.kept.sound.right kh.kept.sound.owner sound in
       omega arith
@@ -94,29 +94,29 @@ module _ (k : Rules) (o : Object) (c : Setting) (kind : IsKind k) (s : table.Sta
   }
 
   -- the seat's record has changed, as its own step may change it that leaves the history
-  pub record IsMoved (w : Record) : Type 0 where
+  pub record IsMoved (w : SeatRecord) : Type 0 where
     pub seat : w.seat ≡ r.seat
     pub setting : w.setting ≡ r.setting
     pub seen : w.seen ≡ r.seen
     pub mine : w.mine ≡ r.mine
 
-  pub places_after : (w : Record) → Path (ℕ → Place) (put world.place r.seat w.place) (λ j. (put at r.seat w j).place)
-  places_after w = sym (field_put (λ (y : Record). y.place) at r.seat w)
+  pub places_after : (w : SeatRecord) → Path (ℕ → Place) (put world.place r.seat w.place) (λ j. (put at r.seat w j).place)
+  places_after w = sym (field_put (λ (y : SeatRecord). y.place) at r.seat w)
 
-  pub counts_after : (w : Record) (n : ℕ) → n ≡ w.count → Path (ℕ → ℕ) (put world.count r.seat n) (λ j. (put at r.seat w j).count)
-  counts_after w n e = ap (put world.count r.seat) e ∙ sym (field_put (λ (y : Record). y.count) at r.seat w)
+  pub counts_after : (w : SeatRecord) (n : ℕ) → n ≡ w.count → Path (ℕ → ℕ) (put world.count r.seat n) (λ j. (put at r.seat w j).count)
+  counts_after w n e = ap (put world.count r.seat) e ∙ sym (field_put (λ (y : SeatRecord). y.count) at r.seat w)
 
-  pub counts_stay : (w : Record) → w.count ≡ r.count → Path (ℕ → ℕ) world.count (λ j. (put at r.seat w j).count)
-  counts_stay w e = sym (field_stays (λ (y : Record). y.count) at r.seat w (ap (λ (y : Record). y.count) is ∙ sym e))
+  pub counts_stay : (w : SeatRecord) → w.count ≡ r.count → Path (ℕ → ℕ) world.count (λ j. (put at r.seat w j).count)
+  counts_stay w e = sym (field_stays (λ (y : SeatRecord). y.count) at r.seat w (ap (λ (y : SeatRecord). y.count) is ∙ sym e))
 
-  pub known_after : (w : Record) (b : Bool) → b ≡ w.known → Path (ℕ → Bool) (put state.known r.seat b) (λ j. (put at r.seat w j).known)
-  known_after w b e = ap (put state.known r.seat) e ∙ sym (field_put (λ (y : Record). y.known) at r.seat w)
+  pub known_after : (w : SeatRecord) (b : Bool) → b ≡ w.known → Path (ℕ → Bool) (put state.known r.seat b) (λ j. (put at r.seat w j).known)
+  known_after w b e = ap (put state.known r.seat) e ∙ sym (field_put (λ (y : SeatRecord). y.known) at r.seat w)
 
-  pub known_stays : (w : Record) → w.known ≡ r.known → Path (ℕ → Bool) state.known (λ j. (put at r.seat w j).known)
-  known_stays w e = sym (field_stays (λ (y : Record). y.known) at r.seat w (ap (λ (y : Record). y.known) is ∙ sym e))
+  pub known_stays : (w : SeatRecord) → w.known ≡ r.known → Path (ℕ → Bool) state.known (λ j. (put at r.seat w j).known)
+  known_stays w e = sym (field_stays (λ (y : SeatRecord). y.known) at r.seat w (ap (λ (y : SeatRecord). y.known) is ∙ sym e))
 
   -- the rule holds after a step that leaves the history and the floor where they are, and it is a step of the world
-  pub holds_after : (w : Record) (ws : List ℕ) → IsMoved w → length ws ≡ length s.words → {m : Command} {a : Answer} {t : State} → IsTaken m a t → Path State t (shown c ws (put at r.seat w) kept_hall.history)
+  pub holds_after : (w : SeatRecord) (ws : List ℕ) → IsMoved w → length ws ≡ length s.words → {m : Command} {a : Answer} {t : State} → IsTaken m a t → Path State t (shown_state c ws (put at r.seat w) kept_hall.history)
       → AreTold k o c s.homes (put at r.seat w) (shown_world ws (put at r.seat w)) kept_hall.past kept_hall.history
       → Takes k o c s h r.seat m a (record { words = ws; homes = s.homes; views = set s.views id (w ∷ []) })
   holds_after w ws moved wide {m} {a} {t} taken same told = record {
@@ -136,8 +136,8 @@ module _ (k : Rules) (o : Object) (c : Setting) (kind : IsKind k) (s : table.Sta
   }
 
   -- what the seats know after a step of a seat that has neither the floor nor a choice, before and after
-  pub knows_after : (w : Record) (ws : List ℕ) → IsMoved w → CountsCalls (shown_world ws (put at r.seat w)) kept_hall.past → stage r.place ≢ 3 → IsApart w.place
+  pub knows_after : (w : SeatRecord) (ws : List ℕ) → IsMoved w → CountsCalls (shown_world ws (put at r.seat w)) kept_hall.past → stage r.place ≢ active_stage → IsApart w.place
       → AreTold k o c s.homes (put at r.seat w) (shown_world ws (put at r.seat w)) kept_hall.past kept_hall.history
   knows_after w ws moved calls was apart =
-      told_moves k o c s.homes at world kept_hall.past kept_hall.history kept_hall.told r.seat w (moved.seen ∙ ap (λ (y : Record). y.seen) (sym is)) (moved.mine ∙ ap (λ (y : Record). y.mine) (sym is))
-      (shown_world ws (put at r.seat w)) calls (λ e. was (sym (ap (λ (y : Record). stage y.place) is) ∙ e)) apart.not_active apart.not_back
+      told_moves k o c s.homes at world kept_hall.past kept_hall.history kept_hall.told r.seat w (moved.seen ∙ ap (λ (y : SeatRecord). y.seen) (sym is)) (moved.mine ∙ ap (λ (y : SeatRecord). y.mine) (sym is))
+      (shown_world ws (put at r.seat w)) calls (λ e. was (sym (ap (λ (y : SeatRecord). stage y.place) is) ∙ e)) apart.not_active apart.not_back

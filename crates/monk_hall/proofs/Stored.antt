@@ -5,16 +5,16 @@ use Rattle.monk_world.specs.Put.{put}
 use Rattle.monk_world.proofs.PutLaws.{at_put, put_same}
 use mathlib.Core.Path.{Path}
 use Rattle.monk_hall.specs.Layout.{place_word, seat_word}
-use Rattle.monk_hall.specs.declared.record.Record.{Record}
+use Rattle.monk_hall.specs.declared.record.SeatRecord.{SeatRecord}
 
 -- a field of the records, where one record changes
-pub field_put : {X : Type 0} (f : Record → X) (at : ℕ → Record) (i : ℕ) (w : Record) → Path (ℕ → X) (λ j. f (put at i w j)) (put (λ j. f (at j)) i (f w))
+pub field_put : {X : Type 0} (f : SeatRecord → X) (at : ℕ → SeatRecord) (i : ℕ) (w : SeatRecord) → Path (ℕ → X) (λ j. f (put at i w j)) (put (λ j. f (at j)) i (f w))
 field_put {X} f at i w = λ m j.
     at_put at i w (λ n y. Path X (f y) (put (λ k. f (at k)) i (f w) n))
     (sym (at_put (λ k. f (at k)) i (f w) (λ n y. n ≡ i → Path X y (f w)) (λ _. refl) (λ n ne e. absurd (ne e)) i refl))
     (λ n ne. sym (at_put (λ k. f (at k)) i (f w) (λ k y. k ≢ i → Path X y (f (at k))) (λ no. absurd (no refl)) (λ k _ _. refl) n ne)) j m
 
-pub field_stays : {X : Type 0} (f : Record → X) (at : ℕ → Record) (i : ℕ) (w : Record) → Path X (f (at i)) (f w) → Path (ℕ → X) (λ j. f (put at i w j)) (λ j. f (at j))
+pub field_stays : {X : Type 0} (f : SeatRecord → X) (at : ℕ → SeatRecord) (i : ℕ) (w : SeatRecord) → Path X (f (at i)) (f w) → Path (ℕ → X) (λ j. f (put at i w j)) (λ j. f (at j))
 field_stays {X} f at i w same = λ m j. at_put at i w (λ n y. Path X (f y) (f (at n))) (sym same) (λ n _. refl) j m
 
 -- the place of another ticket, or of a seat, keeps its word

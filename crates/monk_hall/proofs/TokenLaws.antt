@@ -16,22 +16,22 @@ use Rattle.monk_history.proofs.MeaningLaws.LegalLaws.{legal-push}
 use Rattle.monk_history.proofs.MeaningLaws.TurnLaws.{turn-push}
 use Rattle.monk_floor.specs.View.{FloorView, monitor_of}
 use Rattle.monk_world.specs.Places.{stage}
-use Rattle.monk_world.specs.State.{grown}
+use Rattle.monk_world.specs.State.{with_event}
 use Rattle.monk_world.specs.StepTable.{out_event}
-use Rattle.monk_world.specs.Steps.{arrived, looked, answered, counted}
+use Rattle.monk_world.specs.Steps.{place_after_arrive, place_after_ticket_look, place_after_seat_look, count_after_seat_look}
 use Rattle.monk_world.specs.declared.place.Place.{Place}
 use Rattle.monk_world.specs.declared.place.Place.TheVariants.{Idle, Ticket, Due, Active, Back, Passing, Inner}
 use Rattle.monk_world.specs.declared.source.Source.{Source}
 use Rattle.monk_world.specs.declared.source.Source.TheVariants.{Free, Granted, Called}
 use Rattle.monk_hall.proofs.Private.{own_event}
-use Rattle.monk_hall.specs.Calls.{Arrived, Entered, HasDone, Looked, StillWaits, came_by, looked_from}
-use Rattle.monk_hall.specs.Changes.{drew, looked_for_ticket, looked_for_call, source_at, took}
-use Rattle.monk_hall.specs.Floors.{Finds, GoesOn, IsOwn, AreOwn}
+use Rattle.monk_hall.specs.Calls.{HasArrived, HasEntered, HasDone, HasLooked, StillWaits, source_from, record_after_look}
+use Rattle.monk_hall.specs.Changes.{record_after_arrive, record_after_ticket_look, record_after_seat_look, source_at, record_after_floor_out}
+use Rattle.monk_hall.specs.Floors.{Finds, GoesOn, IsPrivate, ArePrivate}
 use Rattle.monk_hall.specs.Layout.{floor_of, tickets, unpassed}
 use Rattle.monk_hall.specs.Records.{View, the, IsOne}
-use Rattle.monk_hall.specs.Tells.{Me, Arrives}
+use Rattle.monk_hall.specs.Tells.{Me, TellsArrive}
 use Rattle.monk_hall.specs.Tokens.{Token, Holder, IsSeated, IsTold, IsResting, IsHolding, IsWaiting, with_own}
-use Rattle.monk_hall.specs.declared.record.Record.{Record}
+use Rattle.monk_hall.specs.declared.record.SeatRecord.{SeatRecord}
 
 -- a seat's own event is one more of its own
 pub own_longer : (h : List Event) (e : Event) (s : ℕ) → seat_of e ≡ s → length (events_of (h ++ e ∷ []) s) ≡ length (events_of h s) + 1
@@ -48,34 +48,34 @@ out_owns i (Granted t) u = refl
 out_owns i Called u = refl
 
 -- the token of an active seat with this floor
-abbrev pub holder : TableId → Record → FloorView → Holder
+abbrev pub holder : TableId → SeatRecord → FloorView → Holder
 holder z r f = record { hall = z; me = with_own r f; floor = f }
 
-abbrev pub token : TableId → Record → Token
+abbrev pub token : TableId → SeatRecord → Token
 token z r = record { hall = z; me = r }
 
-own_more : (i : ℕ) (es : List Event) (e : Event) → AreOwn i es → IsOwn i e → AreOwn i (es ++ e ∷ [])
+own_more : (i : ℕ) (es : List Event) (e : Event) → ArePrivate i es → IsPrivate i e → ArePrivate i (es ++ e ∷ [])
 own_more i [] e x y = (y, tt)
 own_more i (d ∷ ds) e x y = (x.0, own_more i ds e x.1 y)
 
-pub arrived_waits : (t n : ℕ) → IsWaiting (arrived t n)
+pub arrived_waits : (t n : ℕ) → IsWaiting (place_after_arrive t n)
 arrived_waits t n = either (n == 0)
   where
     either : (b : Bool) → IsWaiting (cond b (Due (Free t)) (Ticket t))
     either true = tt
     either false = tt
 
-pub looked_waits : (t : ℕ) (b : Bool) → IsWaiting (looked t b)
+pub looked_waits : (t : ℕ) (b : Bool) → IsWaiting (place_after_ticket_look t b)
 looked_waits t true = tt
 looked_waits t false = tt
 
-pub answered_waits : (b : Bool) → IsWaiting (answered b)
+pub answered_waits : (b : Bool) → IsWaiting (place_after_seat_look b)
 answered_waits true = tt
 answered_waits false = tt
 
 module _ {k : Rules} {o : Object} where
   -- a record that differs where it stands, and in what it has counted
-  pub told_moved : (r w : Record) → IsTold k o r → w.seat ≡ r.seat → w.setting ≡ r.setting → w.seen ≡ r.seen → w.mine ≡ r.mine → IsTold k o w
+  pub told_moved : (r w : SeatRecord) → IsTold k o r → w.seat ≡ r.seat → w.setting ≡ r.setting → w.seen ≡ r.seen → w.mine ≡ r.mine → IsTold k o w
   told_moved r w t seat setting seen mine = record {
     legal = subst (λ z. IsLegal (monitor_of k o (floor_of z w.seen)) w.seen) (sym setting) (subst (λ h. IsLegal (monitor_of k o (floor_of r.setting h)) h) (sym seen) t.legal);
     own = (λ i. events_of (seen i) (seat i)) ∙ (t.own ∙ sym mine);
@@ -92,9 +92,9 @@ module _ {k : Rules} {o : Object} where
   }
 
   -- the floor has come out to a seat that was due, with the event that it records
-  abbrev came_goes : (r : Record) (f : FloorView) → Finds k o r f → GoesOn k o (took r f.history) (grown f (out_event r.seat (source_at r.place) (turn f.history)))
+  abbrev came_goes : (r : SeatRecord) (f : FloorView) → Finds k o r f → GoesOn k o (record_after_floor_out r f.history) (with_event f (out_event r.seat (source_at r.place) (turn f.history)))
   came_goes r f x = let e = out_event r.seat (source_at r.place) (turn f.history) in record {
-    is_floor = ap (λ y. grown y e) x.is_floor;
+    is_floor = ap (λ y. with_event y e) x.is_floor;
     near = x.near;
     legal = legal-push (monitor_of k o f) f.history e x.legal x.allowed;
     since = [];
@@ -106,10 +106,10 @@ module _ {k : Rules} {o : Object} where
   }
 
   pub came_in : {z : TableId} {me : Me} {number left calls : ℕ} → IsResting k o z me number left calls → (f g : FloorView) → Finds k o (the me.0) f
-      → g ≡ grown f (out_event (the me.0).seat (source_at (the me.0).place) (turn f.history)) → IsHolding k o z (took (the me.0) f.history ∷ [], (0, None) ∷ []) number calls g
+      → g ≡ with_event f (out_event (the me.0).seat (source_at (the me.0).place) (turn f.history)) → IsHolding k o z (record_after_floor_out (the me.0) f.history ∷ [], (0, None) ∷ []) number calls g
   came_in {z} {me} {number} {left} {calls} x f g finds grows =
       let r = the me.0 in let e = out_event r.seat (source_at r.place) (turn f.history) in
-      subst (λ y. IsHolding k o z (took r f.history ∷ [], (0, None) ∷ []) number calls y) (sym grows) record {
+      subst (λ y. IsHolding k o z (record_after_floor_out r f.history ∷ [], (0, None) ∷ []) number calls y) (sym grows) record {
         one = refl;
         out = refl;
         active = refl;
@@ -118,16 +118,16 @@ module _ {k : Rules} {o : Object} where
         left = let more = own_longer f.history e r.seat (out_seat r.seat (source_at r.place) (turn f.history)) in let two = finds.left in let b = ap (λ y. y.budget) finds.is_floor in omega arith;
       }
 
-  pub entered : (z : TableId) (r : Record) (q : Source) (f : FloorView) → r.place ≡ Due q → Finds k o r f
-      → Entered k o (record { hall = z; me = r }) (record { hall = z; me = with_own (took r f.history) (grown f (out_event r.seat (source_at r.place) (turn f.history))); floor = grown f (out_event r.seat (source_at r.place) (turn f.history)) })
-  entered z r q f at x = let e = out_event r.seat (source_at r.place) (turn f.history) in let same : source_at r.place ≡ came_by r.place = ap source_at at ∙ sym (ap came_by at) in let goes = came_goes r f x in record {
+  pub entered : (z : TableId) (r : SeatRecord) (q : Source) (f : FloorView) → r.place ≡ Due q → Finds k o r f
+      → HasEntered k o (record { hall = z; me = r }) (record { hall = z; me = with_own (record_after_floor_out r f.history) (with_event f (out_event r.seat (source_at r.place) (turn f.history))); floor = with_event f (out_event r.seat (source_at r.place) (turn f.history)) })
+  entered z r q f at x = let e = out_event r.seat (source_at r.place) (turn f.history) in let same : source_at r.place ≡ source_from r.place = ap source_at at ∙ sym (ap source_from at) in let goes = came_goes r f x in record {
     hall = refl;
     seat = refl;
     setting = refl;
     place = ap Active same;
     known = refl;
     starts = x.starts;
-    floor = ap (λ y. grown y e) x.is_floor ∙ ap (λ y. floor_of r.setting (f.history ++ out_event r.seat y (turn f.history) ∷ [])) same;
+    floor = ap (λ y. with_event y e) x.is_floor ∙ ap (λ y. floor_of r.setting (f.history ++ out_event r.seat y (turn f.history) ∷ [])) same;
     mine = goes.mine ∙ ap (λ y. r.mine ++ out_event r.seat y (turn f.history) ∷ []) same;
     first = λ t is. x.first t (same ∙ is);
     next = λ t is. x.next t (same ∙ is);
@@ -141,21 +141,21 @@ module _ {k : Rules} {o : Object} where
 
   -- an idle seat has drawn a ticket
   pub arrival_rests : {z : TableId} {v : View} {number left calls : ℕ} → IsResting k o z (v, []) number left calls → (me : Me) → me.0 ≡ v → me.1 ≡ []
-      → (y : TableId) (new : Me) (found : ℕ) (p : Place) → y ≡ z → new ≡ (drew (the me.0) found ∷ [], me.1) → length (the v).mine + 2 ≤ (the v).setting.budget → p ≡ arrived (tickets found) (unpassed found)
+      → (y : TableId) (new : Me) (found : ℕ) (p : Place) → y ≡ z → new ≡ (record_after_arrive (the me.0) found ∷ [], me.1) → length (the v).mine + 2 ≤ (the v).setting.budget → p ≡ place_after_arrive (tickets found) (unpassed found)
       → IsResting k o y new number left calls × (2 ≤ left) × (p ≡ (the new.0).place) × IsWaiting p
   arrival_rests {z} {v} {number} {left} {calls} x me view free y new found p same is two at =
       let r = the v in let spent = x.spent in
-      let drawn : new ≡ (drew r found ∷ [], []) = is ∙ (λ i. (drew (the (view i)) found ∷ [], free i)) in (
-        rests_at (rests_moved x (arrived (tickets found) (unpassed found)) r.known r.count r.looks (suc r.steps) calls x.seated.counted) y new same drawn,
+      let drawn : new ≡ (record_after_arrive r found ∷ [], []) = is ∙ (λ i. (record_after_arrive (the (view i)) found ∷ [], free i)) in (
+        rests_at (rests_moved x (place_after_arrive (tickets found) (unpassed found)) r.known r.count r.looks (suc r.steps) calls x.seated.counted) y new same drawn,
         omega arith,
         at ∙ sym (ap (λ m. (the m.0).place) drawn),
         subst IsWaiting (sym at) (arrived_waits (tickets found) (unpassed found)),
       )
 
   pub arrival : {z : TableId} {v : View} {number left calls : ℕ} → IsResting k o z (v, []) number left calls → (me : Me) → me.0 ≡ v → me.1 ≡ []
-      → (y : TableId) (new : Me) (found : ℕ) → y ≡ z → Arrives me found new → Arrived k o (token z (the v)) (token y (the new.0))
+      → (y : TableId) (new : Me) (found : ℕ) → y ≡ z → TellsArrive me found new → HasArrived k o (token z (the v)) (token y (the new.0))
   arrival {z} {v} x me view free y new found same step =
-      let r = the v in let drawn = ap (λ m. the m.0) step.0 ∙ ap (λ w. drew (the w) found) view in record {
+      let r = the v in let drawn = ap (λ m. the m.0) step.0 ∙ ap (λ w. record_after_arrive (the w) found) view in record {
         found = found;
         hall = same;
         me = drawn;
@@ -165,43 +165,43 @@ module _ {k : Rules} {o : Object} where
 
   -- a seat with a ticket has looked for it
   pub ticket_look_rests : {z : TableId} {me : Me} {number left calls : ℕ} → IsResting k o z me number left calls → (t found : ℕ) → (the me.0).place ≡ Ticket t → (y : TableId) (new : Me) (p : Place)
-      → y ≡ z → new ≡ (looked_for_ticket (the me.0) found ∷ [], me.1) → p ≡ looked t (found == t + 1)
+      → y ≡ z → new ≡ (record_after_ticket_look (the me.0) found ∷ [], me.1) → p ≡ place_after_ticket_look t (found == t + 1)
       → IsResting k o y new number left calls × (p ≡ (the new.0).place) × IsWaiting p
   ticket_look_rests {z} {me} {number} {left} {calls} x t found at y new p same is looks =
       let r = the me.0 in let n = Rattle.monk_world.specs.Places.ticket r.place in (
-        rests_at (rests_moved x (looked n (found == n + 1)) r.known r.count (suc r.looks) (suc r.steps) calls x.seated.counted) y new same is,
-        looks ∙ sym (ap (λ q. looked (Rattle.monk_world.specs.Places.ticket q) (found == Rattle.monk_world.specs.Places.ticket q + 1)) at) ∙ sym (ap (λ m. (the m.0).place) is),
+        rests_at (rests_moved x (place_after_ticket_look n (found == n + 1)) r.known r.count (suc r.looks) (suc r.steps) calls x.seated.counted) y new same is,
+        looks ∙ sym (ap (λ q. place_after_ticket_look (Rattle.monk_world.specs.Places.ticket q) (found == Rattle.monk_world.specs.Places.ticket q + 1)) at) ∙ sym (ap (λ m. (the m.0).place) is),
         subst IsWaiting (sym looks) (looked_waits t (found == t + 1)),
       )
 
   -- a parked seat has looked for its call
   pub call_look_rests : {z : TableId} {me : Me} {number left calls : ℕ} → IsResting k o z me number left calls → (found : ℕ) → (y : TableId) (new : Me) (p : Place) (b : Bool) (now : ℕ)
-      → y ≡ z → new ≡ (looked_for_call (the me.0) found ∷ [], me.1) → b ≡ (found == calls + 1) → p ≡ answered b → now ≡ counted calls (found == calls + 1)
+      → y ≡ z → new ≡ (record_after_seat_look (the me.0) found ∷ [], me.1) → b ≡ (found == calls + 1) → p ≡ place_after_seat_look b → now ≡ count_after_seat_look calls (found == calls + 1)
       → IsResting k o y new number left now × (p ≡ (the new.0).place) × IsWaiting p
   call_look_rests {z} {me} {number} {left} {calls} x found y new p b now same is says looks counts =
       let r = the me.0 in let e = x.seated.counted in (
-        rests_at (rests_moved x (answered (found == r.count + 1)) r.known (counted r.count (found == r.count + 1)) (suc r.looks) (suc r.steps) now (counts ∙ ap (λ n. counted n (found == n + 1)) e)) y new same is,
-        looks ∙ ap answered (says ∙ ap (λ n. found == n + 1) e) ∙ sym (ap (λ m. (the m.0).place) is),
+        rests_at (rests_moved x (place_after_seat_look (found == r.count + 1)) r.known (count_after_seat_look r.count (found == r.count + 1)) (suc r.looks) (suc r.steps) now (counts ∙ ap (λ n. count_after_seat_look n (found == n + 1)) e)) y new same is,
+        looks ∙ ap place_after_seat_look (says ∙ ap (λ n. found == n + 1) e) ∙ sym (ap (λ m. (the m.0).place) is),
         subst IsWaiting (sym looks) (answered_waits b),
       )
 
   -- the floor has come out to a seat that was due, and its event is recorded
-  out_is : {z : TableId} {me : Me} {number left calls : ℕ} → IsResting k o z me number left calls → (f g : FloorView) (q : Source) → (the me.0).place ≡ Due q → g ≡ grown f (out_event number q (turn f.history))
-      → g ≡ grown f (out_event (the me.0).seat (source_at (the me.0).place) (turn f.history))
-  out_is x f g q at grows = grows ∙ (λ i. grown f (out_event (sym x.seated.is_seat i) (sym (ap source_at at) i) (turn f.history)))
+  out_is : {z : TableId} {me : Me} {number left calls : ℕ} → IsResting k o z me number left calls → (f g : FloorView) (q : Source) → (the me.0).place ≡ Due q → g ≡ with_event f (out_event number q (turn f.history))
+      → g ≡ with_event f (out_event (the me.0).seat (source_at (the me.0).place) (turn f.history))
+  out_is x f g q at grows = grows ∙ (λ i. with_event f (out_event (sym x.seated.is_seat i) (sym (ap source_at at) i) (turn f.history)))
 
   pub entry_holds : {z : TableId} {me : Me} {number left calls : ℕ} → IsResting k o z me number left calls → (f g : FloorView) (q : Source) → Finds k o (the me.0) f → (the me.0).place ≡ Due q
-      → g ≡ grown f (out_event number q (turn f.history)) → (y : TableId) (new : Me) → y ≡ z → new ≡ (took (the me.0) f.history ∷ [], (0, None) ∷ []) → IsHolding k o y new number calls g
+      → g ≡ with_event f (out_event number q (turn f.history)) → (y : TableId) (new : Me) → y ≡ z → new ≡ (record_after_floor_out (the me.0) f.history ∷ [], (0, None) ∷ []) → IsHolding k o y new number calls g
   entry_holds {z} {me} {number} {left} {calls} x f g q finds at grows y new same is =
       subst (λ a. IsHolding k o a new number calls g) (sym same) (subst (λ m. IsHolding k o z m number calls g) (sym is) (came_in x f g finds (out_is x f g q at grows)))
 
   pub entry : {z : TableId} {me : Me} {number left calls : ℕ} → IsResting k o z me number left calls → (f g : FloorView) (q : Source) → Finds k o (the me.0) f → (the me.0).place ≡ Due q
-      → g ≡ grown f (out_event number q (turn f.history)) → (y : TableId) (new : Me) → y ≡ z → new ≡ (took (the me.0) f.history ∷ [], (0, None) ∷ []) → Entered k o (token z (the me.0)) (holder y (the new.0) g)
+      → g ≡ with_event f (out_event number q (turn f.history)) → (y : TableId) (new : Me) → y ≡ z → new ≡ (record_after_floor_out (the me.0) f.history ∷ [], (0, None) ∷ []) → HasEntered k o (token z (the me.0)) (holder y (the new.0) g)
   entry {z} {me} x f g q finds at grows y new same is =
-      subst (Entered k o (token z (the me.0))) (λ i. holder (sym same i) (sym (ap (λ m. the m.0) is) i) (sym (out_is x f g q at grows) i)) (entered z (the me.0) q f at finds)
+      subst (HasEntered k o (token z (the me.0))) (λ i. holder (sym same i) (sym (ap (λ m. the m.0) is) i) (sym (out_is x f g q at grows) i)) (entered z (the me.0) q f at finds)
 
 -- what a look leaves as it was
-pub record IsAsBefore (r w : Record) : Type 0 where
+pub record IsAsBefore (r w : SeatRecord) : Type 0 where
   pub seat : w.seat ≡ r.seat
   pub setting : w.setting ≡ r.setting
   pub seen : w.seen ≡ r.seen
@@ -209,7 +209,7 @@ pub record IsAsBefore (r w : Record) : Type 0 where
   pub looks : w.looks ≤ r.looks + 1
   pub steps : w.steps ≤ r.steps + 1
 
-look_leaves : (p : Place) (r : Record) (found : ℕ) → IsAsBefore r (looked_from p r found)
+look_leaves : (p : Place) (r : SeatRecord) (found : ℕ) → IsAsBefore r (record_after_look p r found)
 look_leaves Idle r found = record { seat = refl; setting = refl; seen = refl; mine = refl; looks = omega arith; steps = omega arith }
 look_leaves (Ticket t) r found = record { seat = refl; setting = refl; seen = refl; mine = refl; looks = omega arith; steps = omega arith }
 look_leaves (Due q) r found = record { seat = refl; setting = refl; seen = refl; mine = refl; looks = omega arith; steps = omega arith }
@@ -218,30 +218,30 @@ look_leaves (Back x to) r found = record { seat = refl; setting = refl; seen = r
 look_leaves (Passing t to) r found = record { seat = refl; setting = refl; seen = refl; mine = refl; looks = omega arith; steps = omega arith }
 look_leaves Inner r found = record { seat = refl; setting = refl; seen = refl; mine = refl; looks = omega arith; steps = omega arith }
 
-came_looked : (t : ℕ) (b : Bool) → came_by (looked t b) ≡ Granted t
+came_looked : (t : ℕ) (b : Bool) → source_from (place_after_ticket_look t b) ≡ Granted t
 came_looked t true = refl
 came_looked t false = refl
 
-came_answered : (b : Bool) → came_by (answered b) ≡ Called
+came_answered : (b : Bool) → source_from (place_after_seat_look b) ≡ Called
 came_answered true = refl
 came_answered false = refl
 
-came_same : (p : Place) (r : Record) (found : ℕ) → r.place ≡ p → came_by (looked_from p r found).place ≡ came_by p
-came_same Idle r found at = ap came_by at
+came_same : (p : Place) (r : SeatRecord) (found : ℕ) → r.place ≡ p → source_from (record_after_look p r found).place ≡ source_from p
+came_same Idle r found at = ap source_from at
 came_same (Ticket t) r found at = came_looked t (found == t + 1)
-came_same (Due q) r found at = ap came_by at
-came_same (Active q) r found at = ap came_by at
-came_same (Back x to) r found at = ap came_by at
-came_same (Passing t to) r found at = ap came_by at
+came_same (Due q) r found at = ap source_from at
+came_same (Active q) r found at = ap source_from at
+came_same (Back x to) r found at = ap source_from at
+came_same (Passing t to) r found at = ap source_from at
 came_same Inner r found at = came_answered (found == r.count + 1)
 
 module _ {k : Rules} {o : Object} where
   -- a seat that looked and became active
-  pub entry_looked : (p q : Token) (a : Holder) → Looked k o p q → Entered k o q a → Entered k o p a
+  pub entry_looked : (p q : Token) (a : Holder) → HasLooked k o p q → HasEntered k o q a → HasEntered k o p a
   entry_looked p q a l x =
       let s = look_leaves p.me.place p.me l.found in
       let seat = ap (λ w. w.seat) l.me ∙ s.seat in let setting = ap (λ w. w.setting) l.me ∙ s.setting in
-      let came = ap (λ w. came_by w.place) l.me ∙ came_same p.me.place p.me l.found refl in record {
+      let came = ap (λ w. source_from w.place) l.me ∙ came_same p.me.place p.me l.found refl in record {
         hall = x.hall ∙ l.hall;
         seat = x.seat ∙ seat;
         setting = x.setting ∙ setting;
@@ -256,16 +256,16 @@ module _ {k : Rules} {o : Object} where
         own = x.own;
       }
 
-  pub few_looked : (p q : Token) → Looked k o p q → (q.me.looks ≤ p.me.looks + 1) × (q.me.steps ≤ p.me.steps + 1)
+  pub few_looked : (p q : Token) → HasLooked k o p q → (q.me.looks ≤ p.me.looks + 1) × (q.me.steps ≤ p.me.steps + 1)
   few_looked p q l =
       let s = look_leaves p.me.place p.me l.found in let looks = s.looks in let steps = s.steps in let same_looks = ap (λ w. w.looks) l.me in let same_steps = ap (λ w. w.steps) l.me in
       (omega arith, omega arith)
 
   -- an event of the active seat that keeps the turn with it
-  pub grown_goes : (r : Record) (f : FloorView) (e : Event) → GoesOn k o r f → seat_of e ≡ r.seat → turn_by (seat_of e) (next_of e) ≡ Owned r.seat → is_enter e ≡ false → IsAllowed (monitor_of k o f) f.history e
-      → length (events_of f.history r.seat) < r.setting.budget → GoesOn k o r (grown f e)
+  pub grown_goes : (r : SeatRecord) (f : FloorView) (e : Event) → GoesOn k o r f → seat_of e ≡ r.seat → turn_by (seat_of e) (next_of e) ≡ Owned r.seat → is_enter e ≡ false → IsAllowed (monitor_of k o f) f.history e
+      → length (events_of f.history r.seat) < r.setting.budget → GoesOn k o r (with_event f e)
   grown_goes r f e x seat keeps enters allowed room = record {
-    is_floor = ap (λ y. grown y e) x.is_floor;
+    is_floor = ap (λ y. with_event y e) x.is_floor;
     near = x.near;
     legal = legal-push (monitor_of k o f) f.history e x.legal allowed;
     since = x.since ++ e ∷ [];
@@ -277,7 +277,7 @@ module _ {k : Rules} {o : Object} where
   }
 
   pub grown_holds : {z : TableId} {me : Me} {number calls : ℕ} {f : FloorView} → IsHolding k o z me number calls f → (e : Event) → seat_of e ≡ number → turn_by (seat_of e) (next_of e) ≡ Owned number
-      → is_enter e ≡ false → IsAllowed (monitor_of k o f) f.history e → length (events_of f.history (the me.0).seat) + 2 ≤ (the me.0).setting.budget → (g : FloorView) → g ≡ grown f e → IsHolding k o z me number calls g
+      → is_enter e ≡ false → IsAllowed (monitor_of k o f) f.history e → length (events_of f.history (the me.0).seat) + 2 ≤ (the me.0).setting.budget → (g : FloorView) → g ≡ with_event f e → IsHolding k o z me number calls g
   grown_holds {z} {me} {number} {calls} {f} x e seat keeps enters allowed room g grows = let n = x.seated.is_seat in
       subst (λ y. IsHolding k o z me number calls y) (sym grows) record {
         one = x.one;
@@ -288,10 +288,10 @@ module _ {k : Rules} {o : Object} where
         left = let more = own_longer f.history e (the me.0).seat (seat ∙ sym n) in omega arith;
       }
 
-  pub grown_does : (z : TableId) (r : Record) (f g : FloorView) (e : Event) → seat_of e ≡ r.seat → IsLegal (monitor_of k o f) f.history → IsAllowed (monitor_of k o f) f.history e → g ≡ grown f e
+  pub grown_does : (z : TableId) (r : SeatRecord) (f g : FloorView) (e : Event) → seat_of e ≡ r.seat → IsLegal (monitor_of k o f) f.history → IsAllowed (monitor_of k o f) f.history e → g ≡ with_event f e
       → HasDone k o (holder z r f) e (holder z r g)
   grown_does z r f g e seat legal allowed grows = record {
-    is = ap (holder z r) grows ∙ (λ i. record { hall = z; me = record r { mine = own_event f.history e r.seat seat i }; floor = grown f e });
+    is = ap (holder z r) grows ∙ (λ i. record { hall = z; me = record r { mine = own_event f.history e r.seat seat i }; floor = with_event f e });
     legal = subst (λ y. IsLegal (monitor_of k o y) y.history) (sym grows) (legal-push (monitor_of k o f) f.history e legal allowed);
     own = refl;
   }

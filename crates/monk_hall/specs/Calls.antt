@@ -15,79 +15,79 @@ use Rattle.monk_history.specs.declared.event.Next.{Next}
 use Rattle.monk_history.specs.declared.event.Next.TheVariants as next
 use Rattle.monk_floor.specs.View.{FloorView, monitor_of, stands_of}
 use Rattle.monk_world.specs.Places.{place_of}
-use Rattle.monk_world.specs.State.{grown}
+use Rattle.monk_world.specs.State.{with_event}
 use Rattle.monk_world.specs.StepTable.{out_event}
-use Rattle.monk_world.specs.Steps.{looked, answered, counted}
+use Rattle.monk_world.specs.Steps.{place_after_ticket_look, place_after_seat_look, count_after_seat_look}
 use Rattle.monk_world.specs.declared.home.Home.{Home}
 use Rattle.monk_world.specs.declared.place.Place.{Place}
 use Rattle.monk_world.specs.declared.place.Place.TheVariants.{Idle, Ticket, Due, Active, Back, Passing, Inner}
 use Rattle.monk_world.specs.declared.source.Source.{Source}
 use Rattle.monk_world.specs.declared.source.Source.TheVariants.{Free, Granted, Called}
-use Rattle.monk_hall.specs.Changes.{drew}
+use Rattle.monk_hall.specs.Changes.{record_after_arrive}
 use Rattle.monk_hall.specs.Floors.{StartsWith}
 use Rattle.monk_hall.specs.Layout.{tickets, floor_of}
 use Rattle.monk_hall.specs.Tokens.{Token, Holder, IsTold}
-use Rattle.monk_hall.specs.declared.record.Record.{Record}
+use Rattle.monk_hall.specs.declared.record.SeatRecord.{SeatRecord}
 
 -- it draws a ticket, with a number not below the enters that it has seen
-pub record Arrived (k : Rules) (o : Object) (p q : Token) : Type 0 where
+pub record HasArrived (k : Rules) (o : Object) (p q : Token) : Type 0 where
   pub found : ℕ
   pub hall : q.hall ≡ p.hall
-  pub me : q.me ≡ drew p.me found
+  pub me : q.me ≡ record_after_arrive p.me found
   pub enters : enters_of p.me.seen ≤ tickets found
   pub told : IsTold k o q.me
 
 -- how a seat comes to the right that waits there
-abbrev pub came_by : Place → Source
-came_by Idle = Called
-came_by (Ticket t) = Granted t
-came_by (Due q) = q
-came_by (Active q) = q
-came_by (Back x to) = Called
-came_by (Passing t to) = Called
-came_by Inner = Called
+abbrev pub source_from : Place → Source
+source_from Idle = Called
+source_from (Ticket t) = Granted t
+source_from (Due q) = q
+source_from (Active q) = q
+source_from (Back x to) = Called
+source_from (Passing t to) = Called
+source_from Inner = Called
 
 -- the ticket with which a seat waits for entry, or came to the right
-abbrev pub ticket_held : Place → Option ℕ
-ticket_held Idle = None
-ticket_held (Ticket t) = Some t
-ticket_held (Due (Free t)) = Some t
-ticket_held (Due (Granted t)) = Some t
-ticket_held (Due Called) = None
-ticket_held (Active q) = None
-ticket_held (Back x to) = None
-ticket_held (Passing t to) = None
-ticket_held Inner = None
+abbrev pub held_ticket : Place → Option ℕ
+held_ticket Idle = None
+held_ticket (Ticket t) = Some t
+held_ticket (Due (Free t)) = Some t
+held_ticket (Due (Granted t)) = Some t
+held_ticket (Due Called) = None
+held_ticket (Active q) = None
+held_ticket (Back x to) = None
+held_ticket (Passing t to) = None
+held_ticket Inner = None
 
 -- a waiting seat looked, and found this: a seat that is due needs no look
-abbrev pub looked_from : Place → Record → ℕ → Record
-looked_from Idle r found = r
-looked_from (Ticket t) r found = record r { place = looked t (found == t + 1); looks = suc r.looks; steps = suc r.steps }
-looked_from (Due q) r found = r
-looked_from (Active q) r found = r
-looked_from (Back x to) r found = r
-looked_from (Passing t to) r found = r
-looked_from Inner r found = record r { place = answered (found == r.count + 1); count = counted r.count (found == r.count + 1); looks = suc r.looks; steps = suc r.steps }
+abbrev pub record_after_look : Place → SeatRecord → ℕ → SeatRecord
+record_after_look Idle r found = r
+record_after_look (Ticket t) r found = record r { place = place_after_ticket_look t (found == t + 1); looks = suc r.looks; steps = suc r.steps }
+record_after_look (Due q) r found = r
+record_after_look (Active q) r found = r
+record_after_look (Back x to) r found = r
+record_after_look (Passing t to) r found = r
+record_after_look Inner r found = record r { place = place_after_seat_look (found == r.count + 1); count = count_after_seat_look r.count (found == r.count + 1); looks = suc r.looks; steps = suc r.steps }
 
-pub record Looked (k : Rules) (o : Object) (p q : Token) : Type 0 where
+pub record HasLooked (k : Rules) (o : Object) (p q : Token) : Type 0 where
   pub found : ℕ
   pub hall : q.hall ≡ p.hall
-  pub me : q.me ≡ looked_from p.me.place p.me found
+  pub me : q.me ≡ record_after_look p.me.place p.me found
 
 -- the seat is active. Its history is what came before, which begins with all that the seat had seen, and the event
 -- with which it came; that event is also the last of its own. A seat that came by a ticket finds as many enters as
 -- that ticket's number. The seat's events in the history are its own
-pub record Entered (k : Rules) (o : Object) (p : Token) (a : Holder) : Type 0 where
+pub record HasEntered (k : Rules) (o : Object) (p : Token) (a : Holder) : Type 0 where
   pub hall : a.hall ≡ p.hall
   pub seat : a.me.seat ≡ p.me.seat
   pub setting : a.me.setting ≡ p.me.setting
-  pub place : a.me.place ≡ Active (came_by p.me.place)
+  pub place : a.me.place ≡ Active (source_from p.me.place)
   pub known : a.me.known ≡ false
   pub starts : StartsWith a.me.seen p.me.seen
-  pub floor : a.floor ≡ floor_of p.me.setting (a.me.seen ++ out_event p.me.seat (came_by p.me.place) (turn a.me.seen) ∷ [])
-  pub mine : a.me.mine ≡ p.me.mine ++ out_event p.me.seat (came_by p.me.place) (turn a.me.seen) ∷ []
-  pub first : (t : ℕ) → came_by p.me.place ≡ Free t → enters_of a.me.seen ≡ t
-  pub next : (t : ℕ) → came_by p.me.place ≡ Granted t → enters_of a.me.seen ≡ t
+  pub floor : a.floor ≡ floor_of p.me.setting (a.me.seen ++ out_event p.me.seat (source_from p.me.place) (turn a.me.seen) ∷ [])
+  pub mine : a.me.mine ≡ p.me.mine ++ out_event p.me.seat (source_from p.me.place) (turn a.me.seen) ∷ []
+  pub first : (t : ℕ) → source_from p.me.place ≡ Free t → enters_of a.me.seen ≡ t
+  pub next : (t : ℕ) → source_from p.me.place ≡ Granted t → enters_of a.me.seen ≡ t
   pub legal : IsLegal (monitor_of k o a.floor) a.floor.history
   pub own : events_of a.floor.history a.me.seat ≡ a.me.mine
 
@@ -104,10 +104,10 @@ wants_entry WishWaiter = false
 wants_entry WishSignaller = false
 
 -- what a release knows of the entry: only a wish for entry asks
-abbrev pub knows : Pick → Bool → Bool
-knows WishEntry known = known
-knows WishWaiter known = false
-knows WishSignaller known = false
+abbrev pub is_entry_known : Pick → Bool → Bool
+is_entry_known WishEntry known = known
+is_entry_known WishWaiter known = false
+is_entry_known WishSignaller known = false
 
 -- how often a release looks at the ticket word: a wish for entry once, where there is something to choose
 abbrev pub peeks_of : Bool → Pick → ℕ
@@ -117,7 +117,7 @@ abbrev pub peeks_for : Rules → Object → FloorView → Event → Pick → ℕ
 peeks_for k o f call wish = peeks_of (not (must_stay o (stands_of k o f) call)) wish
 
 -- what a seat knew of the entry it still knows, and with no look it learns nothing
-pub record Remembers (r w : Record) : Type 0 where
+pub record Remembers (r w : SeatRecord) : Type 0 where
   pub knew : r.known ≡ true → w.known ≡ true
   pub unlooked : w.looks ≡ r.looks → w.known ≡ r.known
 
@@ -129,9 +129,9 @@ pub record HasPeeked (peeks : ℕ) (a b : Holder) : Type 0 where
 
 -- the seat has given the floor back with this release, whose next is that of the wish rules; it stands outside or is
 -- parked inside. `known` of the token given back tells whether its look found somebody at the entry
-pub record Released (k : Rules) (o : Object) (a : Holder) (call : Event) (wish : Pick) (to : Home) (peeks : ℕ) (p : Token) : Type 0 where
+pub record HasReleased (k : Rules) (o : Object) (a : Holder) (call : Event) (wish : Pick) (to : Home) (peeks : ℕ) (p : Token) : Type 0 where
   pub choice : Next
-  pub chosen : choice ≡ choice_of k o (stands_of k o a.floor) call (knows wish p.me.known) wish
+  pub chosen : choice ≡ choice_of k o (stands_of k o a.floor) call (is_entry_known wish p.me.known) wish
   pub away : is_stay (Some choice) ≡ false
   pub hall : p.hall ≡ a.hall
   pub seat : p.me.seat ≡ a.me.seat
@@ -145,11 +145,11 @@ pub record Released (k : Rules) (o : Object) (a : Holder) (call : Event) (wish :
   pub told : IsTold k o p.me
 
 -- the seat has stayed active by this release, since the wish rules chose so
-pub record Stayed (k : Rules) (o : Object) (a : Holder) (call : Event) (wish : Pick) (peeks : ℕ) (b : Holder) : Type 0 where
-  pub chosen : next.Stay ≡ choice_of k o (stands_of k o a.floor) call (knows wish b.me.known) wish
+pub record HasStayed (k : Rules) (o : Object) (a : Holder) (call : Event) (wish : Pick) (peeks : ℕ) (b : Holder) : Type 0 where
+  pub chosen : next.Stay ≡ choice_of k o (stands_of k o a.floor) call (is_entry_known wish b.me.known) wish
   pub is : b ≡ record a {
     me = record a.me { known = b.me.known; mine = a.me.mine ++ with_next next.Stay call ∷ []; looks = a.me.looks + peeks; steps = a.me.steps + peeks };
-    floor = grown a.floor (with_next next.Stay call);
+    floor = with_event a.floor (with_next next.Stay call);
   }
   pub remembers : Remembers a.me b.me
   pub legal : IsLegal (monitor_of k o b.floor) b.floor.history
@@ -157,6 +157,6 @@ pub record Stayed (k : Rules) (o : Object) (a : Holder) (call : Event) (wish : P
 
 -- the history has grown by an event of the active seat, and nothing else has changed
 pub record HasDone (k : Rules) (o : Object) (a : Holder) (e : Event) (b : Holder) : Type 0 where
-  pub is : b ≡ record a { me = record a.me { mine = a.me.mine ++ e ∷ [] }; floor = grown a.floor e }
+  pub is : b ≡ record a { me = record a.me { mine = a.me.mine ++ e ∷ [] }; floor = with_event a.floor e }
   pub legal : IsLegal (monitor_of k o b.floor) b.floor.history
   pub own : events_of b.floor.history b.me.seat ≡ b.me.mine

@@ -7,7 +7,7 @@ use Rattle.monk_history.specs.declared.event.Event.{Event}
 use Rattle.monk_history.specs.declared.event.Next.{Next}
 use Rattle.monk_history.specs.declared.event.Next.TheVariants as next
 use Rattle.monk_world.specs.Places.{ticket, place_of}
-use Rattle.monk_world.specs.Steps.{arrived, looked, answered, counted, dropped}
+use Rattle.monk_world.specs.Steps.{place_after_arrive, place_after_ticket_look, place_after_seat_look, count_after_seat_look, place_after_drop}
 use Rattle.monk_world.specs.declared.home.Home.{Home}
 use Rattle.monk_world.specs.declared.home.Home.TheVariants as home
 use Rattle.monk_world.specs.declared.place.Place.{Place}
@@ -16,7 +16,7 @@ use Rattle.monk_world.specs.declared.source.Source.{Source}
 use Rattle.monk_world.specs.declared.source.Source.TheVariants.{Free, Granted, Called}
 use Rattle.monk_hall.specs.Layout.{tickets, unpassed}
 use Rattle.monk_hall.specs.Records.{View, the, tail}
-use Rattle.monk_hall.specs.declared.record.Record.{Record}
+use Rattle.monk_hall.specs.declared.record.SeatRecord.{SeatRecord}
 
 -- how a seat that is due or active came to the right
 abbrev pub source_at : Place → Source
@@ -48,47 +48,47 @@ back_after None = Idle
 back_after (Some e) = Back (choice_in (next_of e)) (if is_way_out e then home.Idle else home.Inner)
 
 -- it drew a ticket
-abbrev pub drew : Record → ℕ → Record
-drew r found = record r { place = arrived (tickets found) (unpassed found); steps = suc r.steps }
+abbrev pub record_after_arrive : SeatRecord → ℕ → SeatRecord
+record_after_arrive r found = record r { place = place_after_arrive (tickets found) (unpassed found); steps = suc r.steps }
 
 -- it looked at the place of its ticket
-abbrev pub looked_for_ticket : Record → ℕ → Record
-looked_for_ticket r found = record r { place = looked (ticket r.place) (found == ticket r.place + 1); looks = suc r.looks; steps = suc r.steps }
+abbrev pub record_after_ticket_look : SeatRecord → ℕ → SeatRecord
+record_after_ticket_look r found = record r { place = place_after_ticket_look (ticket r.place) (found == ticket r.place + 1); looks = suc r.looks; steps = suc r.steps }
 
 -- it looked at its own place
-abbrev pub looked_for_call : Record → ℕ → Record
-looked_for_call r found = record r { place = answered (found == r.count + 1); count = counted r.count (found == r.count + 1); looks = suc r.looks; steps = suc r.steps }
+abbrev pub record_after_seat_look : SeatRecord → ℕ → SeatRecord
+record_after_seat_look r found = record r { place = place_after_seat_look (found == r.count + 1); count = count_after_seat_look r.count (found == r.count + 1); looks = suc r.looks; steps = suc r.steps }
 
 -- active, it looked whether somebody waits for entry
-abbrev pub peeked : Record → ℕ → Record
-peeked r found = record r { known = nat_le 2 (unpassed found); looks = suc r.looks; steps = suc r.steps }
+abbrev pub record_after_peek : SeatRecord → ℕ → SeatRecord
+record_after_peek r found = record r { known = nat_le 2 (unpassed found); looks = suc r.looks; steps = suc r.steps }
 
 -- the floor came out to it, with this history
-abbrev pub took : Record → List Event → Record
-took r history = record r { place = Active (source_at r.place); known = false; seen = history; steps = suc r.steps }
+abbrev pub record_after_floor_out : SeatRecord → List Event → SeatRecord
+record_after_floor_out r history = record r { place = Active (source_at r.place); known = false; seen = history; steps = suc r.steps }
 
 -- it brought the floor back, with this history
-abbrev pub gave : Record → List Event → Record
-gave r history = record r { place = back_after (last_or None history); seen = history; mine = events_of history r.seat; steps = suc r.steps }
+abbrev pub record_after_floor_in : SeatRecord → List Event → SeatRecord
+record_after_floor_in r history = record r { place = back_after (last_or None history); seen = history; mine = events_of history r.seat; steps = suc r.steps }
 
 -- it took itself off the ticket word
-abbrev pub took_off : Record → ℕ → Record
-took_off r found = record r { place = dropped (tickets found) (unpassed found) (home_at r.place); steps = suc r.steps }
+abbrev pub record_after_drop : SeatRecord → ℕ → SeatRecord
+record_after_drop r found = record r { place = place_after_drop (tickets found) (unpassed found) (home_at r.place); steps = suc r.steps }
 
 -- it handed the right on
-abbrev pub handed_on : Record → Record
-handed_on r = record r { place = place_of (home_at r.place); steps = suc r.steps }
+abbrev pub record_after_grant : SeatRecord → SeatRecord
+record_after_grant r = record r { place = place_of (home_at r.place); steps = suc r.steps }
 
 -- of two histories the longer
 abbrev pub longer : List Event → List Event → List Event
 longer a b = if nat_le (length a) (length b) then b else a
 
 -- two views in one, which costs the first a step
-abbrev pub met : View → View → View
-met v w = record (the v) { steps = suc (the v).steps } ∷ the w ∷ []
+abbrev pub view_after_join : View → View → View
+view_after_join v w = record (the v) { steps = suc (the v).steps } ∷ the w ∷ []
 
 -- both have seen as much, which costs the second a step
-abbrev pub shared : View → View
-shared v =
+abbrev pub view_after_compare : View → View
+view_after_compare v =
     record (the v) { seen = longer (the v).seen (the (tail v)).seen }
     ∷ record (the (tail v)) { seen = longer (the v).seen (the (tail v)).seen; steps = suc (the (tail v)).steps } ∷ []

@@ -13,12 +13,12 @@ use Rattle.monk_history.specs.declared.event.Event.{Event}
 use Rattle.monk_history.specs.declared.event.Next.{Next}
 use Rattle.monk_history.specs.declared.event.Turn.TheVariants.{Owned}
 use Rattle.monk_floor.specs.View.{FloorView, monitor_of, stands_of}
-use Rattle.monk_world.specs.State.{grown}
+use Rattle.monk_world.specs.State.{with_event}
 use Rattle.monk_world.specs.StepTable.{out_event}
 use Rattle.monk_world.specs.declared.source.Source.TheVariants.{Free, Granted}
 use Rattle.monk_hall.specs.Changes.{source_at}
 use Rattle.monk_hall.specs.Layout.{floor_of}
-use Rattle.monk_hall.specs.declared.record.Record.{Record}
+use Rattle.monk_hall.specs.declared.record.SeatRecord.{SeatRecord}
 
 -- h begins with g
 abbrev pub StartsWith : List Event → List Event → Type 0
@@ -27,7 +27,7 @@ StartsWith h g = (more : List Event) × (h ≡ g ++ more)
 -- what a seat that is due finds when the floor comes out: a floor of this hall with a legal history, which begins with
 -- all that the seat has seen and has exactly its own events as the seat's; its enter or resume is allowed there, and
 -- it comes in turn by its ticket
-pub record Finds (k : Rules) (o : Object) (r : Record) (f : FloorView) : Type 0 where
+pub record Finds (k : Rules) (o : Object) (r : SeatRecord) (f : FloorView) : Type 0 where
   pub is_floor : f ≡ floor_of r.setting f.history
   pub near : r.seat < f.seats
   pub legal : IsLegal (monitor_of k o f) f.history
@@ -40,24 +40,24 @@ pub record Finds (k : Rules) (o : Object) (r : Record) (f : FloorView) : Type 0 
   pub next : (t : ℕ) → source_at r.place ≡ Granted t → enters_of f.history ≡ t
 
 -- an event of the seat that keeps the turn with it
-pub record IsOwn (i : ℕ) (e : Event) : Type 0 where
+pub record IsPrivate (i : ℕ) (e : Event) : Type 0 where
   pub seat : seat_of e ≡ i
   pub keeps : turn_by (seat_of e) (next_of e) ≡ Owned i
   pub enters : is_enter e ≡ false
 
-abbrev pub AreOwn : ℕ → List Event → Type 0
-AreOwn i [] = Unit {0}
-AreOwn i (e ∷ es) = IsOwn i e × AreOwn i es
+abbrev pub ArePrivate : ℕ → List Event → Type 0
+ArePrivate i [] = Unit {0}
+ArePrivate i (e ∷ es) = IsPrivate i e × ArePrivate i es
 
 -- the floor in the hands of an active seat: its history is what the seat found, the event with which it came, and
 -- events of the seat alone
-pub record GoesOn (k : Rules) (o : Object) (r : Record) (f : FloorView) : Type 0 where
+pub record GoesOn (k : Rules) (o : Object) (r : SeatRecord) (f : FloorView) : Type 0 where
   pub is_floor : f ≡ floor_of r.setting f.history
   pub near : r.seat < f.seats
   pub legal : IsLegal (monitor_of k o f) f.history
   pub since : List Event
   pub goes : f.history ≡ (r.seen ++ out_event r.seat (source_at r.place) (turn r.seen) ∷ []) ++ since
-  pub own : AreOwn r.seat since
+  pub own : ArePrivate r.seat since
   pub owned : turn f.history ≡ Owned r.seat
   pub mine : events_of f.history r.seat ≡ r.mine ++ out_event r.seat (source_at r.place) (turn r.seen) ∷ since
   pub within : length (events_of f.history r.seat) ≤ r.setting.budget

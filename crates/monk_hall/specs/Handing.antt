@@ -9,26 +9,26 @@ use Rattle.monk_history.specs.declared.event.Event.{Event}
 use Rattle.monk_history.specs.declared.event.Next.{Next}
 use Rattle.monk_history.specs.declared.event.Next.TheVariants.{Stay, Entry, Waiter, Signaller, Until}
 use Rattle.monk_floor.specs.View.{FloorView, monitor_of}
-use Rattle.monk_world.specs.Places.{stage, place_of}
+use Rattle.monk_world.specs.Places.{stage, place_of, active_stage}
 use Rattle.monk_world.specs.declared.home.Home.{Home}
-use Rattle.monk_hall.specs.Changes.{gave, home_at}
+use Rattle.monk_hall.specs.Changes.{record_after_floor_in, home_at}
 use Rattle.monk_hall.specs.Layout.{word_count}
 use Rattle.monk_hall.specs.Records.{IsOne, the}
 use Rattle.monk_hall.specs.Tells.{Me, Returns}
-use Rattle.monk_hall.specs.declared.record.Record.{Record}
+use Rattle.monk_hall.specs.declared.record.SeatRecord.{SeatRecord}
 
 -- the seat that a choice names
-abbrev pub called_by : Next → Option ℕ
-called_by Stay = None
-called_by Entry = None
-called_by (Waiter j) = Some j
-called_by (Signaller j) = Some j
-called_by (Until j) = Some j
+abbrev pub seat_called_by : Next → Option ℕ
+seat_called_by Stay = None
+seat_called_by Entry = None
+seat_called_by (Waiter j) = Some j
+seat_called_by (Signaller j) = Some j
+seat_called_by (Until j) = Some j
 
 -- the active seat has recorded a release in its floor, which chose `choice` and leads to `to`
-pub record HasReleased (k : Rules) (o : Object) (z : TableId) (me : Me) (choice : Next) (to : Home) (f : FloorView) : Type 0 where
+pub record HasRecordedRelease (k : Rules) (o : Object) (z : TableId) (me : Me) (choice : Next) (to : Home) (f : FloorView) : Type 0 where
   pub one : IsOne me.0
-  pub active : stage (the me.0).place ≡ 3
+  pub active : stage (the me.0).place ≡ active_stage
   pub sized : z.words ≡ word_count (the me.0).setting.seats
   pub returns : Returns k o (the me.0) f
   pub is_choice : returns.choice ≡ choice
@@ -42,7 +42,7 @@ pub record HandsOnWithin (most : ℕ) (me new : Me) : Type 0 where
   pub is : new ≡ (record (the me.0) { place = place_of (home_at (the me.0).place); steps = steps } ∷ [], me.1)
 
 -- the floor is home with this history, the right is handed on, and the seat stands there
-pub record HasGone (r : Record) (h : List Event) (to : Home) (w : Record) : Type 0 where
+pub record HasGone (r : SeatRecord) (h : List Event) (to : Home) (w : SeatRecord) : Type 0 where
   pub steps : ℕ
   pub few : steps ≤ r.steps + 3
-  pub is : w ≡ record (gave r h) { place = place_of to; steps = steps }
+  pub is : w ≡ record (record_after_floor_in r h) { place = place_of to; steps = steps }

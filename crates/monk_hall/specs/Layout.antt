@@ -4,7 +4,7 @@ use Rattle.monk_history.specs.declared.event.Event.{Event}
 use Rattle.monk_floor.specs.View.{FloorView}
 use Rattle.monk_world.specs.State.{State}
 use Rattle.monk_world.specs.World.{World}
-use Rattle.monk_hall.specs.declared.record.Record.{Record}
+use Rattle.monk_hall.specs.declared.record.SeatRecord.{SeatRecord}
 use Rattle.monk_hall.specs.declared.setting.Setting.{Setting}
 
 -- word 0 has the tickets drawn above its low 32 bits, and those not passed on in them
@@ -28,7 +28,7 @@ abbrev pub word_count : ℕ → ℕ
 word_count seats = 2 * seats + 1
 
 -- the world that the words and the records show
-abbrev pub shown_world : List ℕ → (ℕ → Record) → World
+abbrev pub shown_world : List ℕ → (ℕ → SeatRecord) → World
 shown_world words at = record {
   drawn = tickets (slice_index words 0);
   unpassed = unpassed (slice_index words 0);
@@ -42,5 +42,5 @@ shown_world words at = record {
 abbrev pub floor_of : Setting → List Event → FloorView
 floor_of c h = record { opening = c.opening; seats = c.seats; conds = c.conds; budget = c.budget; history = h }
 
-abbrev pub shown : Setting → List ℕ → (ℕ → Record) → List Event → State
-shown c words at h = record { world = shown_world words at; known = λ j. (at j).known; floor = floor_of c h }
+abbrev pub shown_state : Setting → List ℕ → (ℕ → SeatRecord) → List Event → State
+shown_state c words at h = record { world = shown_world words at; known = λ j. (at j).known; floor = floor_of c h }

@@ -1,39 +1,39 @@
 -- What the seats of the table know: views, each a list of records
 use Rattle.std.specs.Prelude.{◌≡◌, ◌≢◌, ℕ, zero, suc, ◌⊎◌, false, List, [], ◌∷◌}
 use Rattle.monk_world.specs.declared.place.Place.TheVariants.{Idle}
-use Rattle.monk_hall.specs.declared.record.Record.{Record}
+use Rattle.monk_hall.specs.declared.record.SeatRecord.{SeatRecord}
 use Rattle.monk_hall.specs.declared.setting.Setting.{Setting}
 
 abbrev pub View : Type 0
-View = List Record
+View = List SeatRecord
 
-abbrev pub In : Record → View → Type 0
+abbrev pub In : SeatRecord → View → Type 0
 In r [] = ⊥
 In r (x ∷ xs) = (r ≡ x) ⊎ In r xs
 
 -- no two of its records are of one seat
 abbrev pub Distinct : View → Type 0
 Distinct [] = Unit {0}
-Distinct (x ∷ xs) = ((y : Record) → In y xs → y.seat ≢ x.seat) × Distinct xs
+Distinct (x ∷ xs) = ((y : SeatRecord) → In y xs → y.seat ≢ x.seat) × Distinct xs
 
 -- a seat before any step
-abbrev pub fresh : Setting → ℕ → Record
-fresh c j = record { seat = j; setting = c; place = Idle; count = 0; known = false; seen = []; mine = []; looks = 0; steps = 0 }
+abbrev pub opening_record : Setting → ℕ → SeatRecord
+opening_record c j = record { seat = j; setting = c; place = Idle; count = 0; known = false; seen = []; mine = []; looks = 0; steps = 0 }
 
 -- the records of n seats from i on
-abbrev pub fresh_from : Setting → ℕ → ℕ → View
-fresh_from c zero i = []
-fresh_from c (suc n) i = fresh c i ∷ fresh_from c n (suc i)
+abbrev pub opening_records : Setting → ℕ → ℕ → View
+opening_records c zero i = []
+opening_records c (suc n) i = opening_record c i ∷ opening_records c n (suc i)
 
 abbrev pub first_view : Setting → View
-first_view c = fresh_from c c.seats 0
+first_view c = opening_records c c.seats 0
 
 abbrev pub no_setting : Setting
 no_setting = record { opening = []; seats = 0; conds = 0; budget = 0 }
 
 -- the record of a view that has one
-abbrev pub the : View → Record
-the [] = fresh no_setting 0
+abbrev pub the : View → SeatRecord
+the [] = opening_record no_setting 0
 the (r ∷ rs) = r
 
 abbrev pub IsOne : View → Type 0

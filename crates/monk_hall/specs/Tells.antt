@@ -15,40 +15,40 @@ use Rattle.monk_history.specs.declared.event.Next.{Next}
 use Rattle.monk_history.specs.declared.event.Next.TheVariants as next
 use Rattle.monk_floor.specs.View.{FloorView, monitor_of, stands_of}
 use Rattle.monk_world.specs.Sound.{left_within}
-use Rattle.monk_world.specs.State.{grown}
+use Rattle.monk_world.specs.State.{with_event}
 use Rattle.monk_world.specs.declared.home.Home.{Home}
 use Rattle.monk_world.specs.declared.home.Home.TheVariants as home
-use Rattle.monk_hall.specs.Changes.{drew, looked_for_ticket, looked_for_call, peeked, took, gave, took_off, handed_on, shared}
+use Rattle.monk_hall.specs.Changes.{record_after_arrive, record_after_ticket_look, record_after_seat_look, record_after_peek, record_after_floor_out, record_after_floor_in, record_after_drop, record_after_grant, view_after_compare}
 use Rattle.monk_hall.specs.Floors.{StartsWith, Finds, GoesOn}
 use Rattle.monk_hall.specs.Layout.{tickets, unpassed, word_count, floor_of}
 use Rattle.monk_hall.specs.Records.{View, the, tail}
-use Rattle.monk_hall.specs.declared.record.Record.{Record}
+use Rattle.monk_hall.specs.declared.record.SeatRecord.{SeatRecord}
 
 -- a seat's view, and the slots that it has in its hands
 abbrev pub Me : Type 0
 Me = table.Me (Option FloorView) View
 
 -- it draws a ticket, with a number not below the enters that it has seen
-abbrev pub Arrives : Me → ℕ → Me → Type 0
-Arrives me found new = (new ≡ (drew (the me.0) found ∷ [], me.1)) × (enters_of (the me.0).seen ≤ tickets found)
+abbrev pub TellsArrive : Me → ℕ → Me → Type 0
+TellsArrive me found new = (new ≡ (record_after_arrive (the me.0) found ∷ [], me.1)) × (enters_of (the me.0).seen ≤ tickets found)
 
-abbrev pub LooksForTicket : Me → ℕ → Me → Type 0
-LooksForTicket me found new = new ≡ (looked_for_ticket (the me.0) found ∷ [], me.1)
+abbrev pub TellsTicketLook : Me → ℕ → Me → Type 0
+TellsTicketLook me found new = new ≡ (record_after_ticket_look (the me.0) found ∷ [], me.1)
 
-abbrev pub LooksForCall : Me → ℕ → Me → Type 0
-LooksForCall me found new = new ≡ (looked_for_call (the me.0) found ∷ [], me.1)
+abbrev pub TellsSeatLook : Me → ℕ → Me → Type 0
+TellsSeatLook me found new = new ≡ (record_after_seat_look (the me.0) found ∷ [], me.1)
 
 -- what it knew it finds again: while it is active no ticket is passed on
-abbrev pub Peeks : Me → ℕ → Me → Type 0
-Peeks me found new = (new ≡ (peeked (the me.0) found ∷ [], me.1)) × ((the me.0).known ≡ true → (the new.0).known ≡ true)
+abbrev pub TellsPeek : Me → ℕ → Me → Type 0
+TellsPeek me found new = (new ≡ (record_after_peek (the me.0) found ∷ [], me.1)) × ((the me.0).known ≡ true → (the new.0).known ≡ true)
 
 -- the floor comes out
-abbrev pub TakesFloor : Rules → Object → Me → ℕ → Me → Type 0
-TakesFloor k o me found new = (f : FloorView) × (new ≡ (took (the me.0) f.history ∷ [], (0, Some f) ∷ me.1)) × Finds k o (the me.0) f
+abbrev pub TellsFloorOut : Rules → Object → Me → ℕ → Me → Type 0
+TellsFloorOut k o me found new = (f : FloorView) × (new ≡ (record_after_floor_out (the me.0) f.history ∷ [], (0, Some f) ∷ me.1)) × Finds k o (the me.0) f
 
 -- the floor goes home
-abbrev pub GivesFloor : List Event → Me → ℕ → Me → Type 0
-GivesFloor history me found new = new ≡ (gave (the me.0) history ∷ [], [])
+abbrev pub TellsFloorIn : List Event → Me → ℕ → Me → Type 0
+TellsFloorIn history me found new = new ≡ (record_after_floor_in (the me.0) history ∷ [], [])
 
 -- the history of the floor in its hands
 abbrev pub held_history : List (ℕ × Option FloorView) → List Event
@@ -56,22 +56,22 @@ held_history [] = []
 held_history ((k, None) ∷ xs) = []
 held_history ((k, Some f) ∷ xs) = f.history
 
-abbrev pub TakesOff : Me → ℕ → Me → Type 0
-TakesOff me found new = (new ≡ (took_off (the me.0) found ∷ [], me.1)) × (0 < unpassed found) × (unpassed found ≤ tickets found)
+abbrev pub TellsDrop : Me → ℕ → Me → Type 0
+TellsDrop me found new = (new ≡ (record_after_drop (the me.0) found ∷ [], me.1)) × (0 < unpassed found) × (unpassed found ≤ tickets found)
 
-abbrev pub HandsOn : Me → ℕ → Me → Type 0
-HandsOn me found new = new ≡ (handed_on (the me.0) ∷ [], me.1)
+abbrev pub TellsGrant : Me → ℕ → Me → Type 0
+TellsGrant me found new = new ≡ (record_after_grant (the me.0) ∷ [], me.1)
 
 -- of two histories one begins the other
 abbrev pub AreOne : List Event → List Event → Type 0
 AreOne a b = StartsWith a b ⊎ StartsWith b a
 
 -- what a seat has seen is legal, and its own events there are those that it knows as its own
-abbrev pub SeesTruly : Rules → Object → Record → Type 0
+abbrev pub SeesTruly : Rules → Object → SeatRecord → Type 0
 SeesTruly k o r = IsLegal (monitor_of k o (floor_of r.setting r.seen)) r.seen × (events_of r.seen r.seat ≡ r.mine)
 
-abbrev pub Compares : Rules → Object → Me → ℕ → Me → Type 0
-Compares k o me found new = (new ≡ (shared me.0, me.1)) × AreOne (the me.0).seen (the (tail me.0)).seen × SeesTruly k o (the new.0) × SeesTruly k o (the (tail new.0))
+abbrev pub TellsCompare : Rules → Object → Me → ℕ → Me → Type 0
+TellsCompare k o me found new = (new ≡ (view_after_compare me.0, me.1)) × AreOne (the me.0).seen (the (tail me.0)).seen × SeesTruly k o (the new.0) × SeesTruly k o (the (tail new.0))
 
 -- a release of seat i as it is called, written with `stay`, and where the seat goes then: outside after a leave,
 -- inside after a wait
@@ -84,7 +84,7 @@ IsReleaseTo i home.Inner (Until s p x) = (s ≡ i) × (x ≡ next.Stay)
 IsReleaseTo i to e = ⊥
 
 -- the floor that a seat brings home: the one that it had, with one release more, which chose another by the wish rules
-pub record Returns (k : Rules) (o : Object) (r : Record) (f : FloorView) : Type 0 where
+pub record Returns (k : Rules) (o : Object) (r : SeatRecord) (f : FloorView) : Type 0 where
   pub before : FloorView
   pub goes_on : GoesOn k o r before
   pub call : Event
@@ -96,7 +96,7 @@ pub record Returns (k : Rules) (o : Object) (r : Record) (f : FloorView) : Type 
   pub chosen : choice ≡ choice_of k o (stands_of k o before) call r.known wish
   pub away : is_stay (Some choice) ≡ false
   pub left : left_within to < left_of before.budget before.history r.seat
-  pub grows : f ≡ grown before (with_next choice call)
+  pub grows : f ≡ with_event before (with_next choice call)
 
 abbrev pub IsSized : TableId → ℕ → Type 0
 IsSized z seats = (z.words ≡ word_count seats) × (z.slots ≡ 1)

@@ -7,14 +7,14 @@ use Rattle.monk_object.specs.Object.{Object}
 use Rattle.monk_history.specs.Meaning.Counts.{events_of}
 use Rattle.monk_history.specs.Meaning.Legal.{IsLegal}
 use Rattle.monk_floor.specs.View.{FloorView, monitor_of}
-use Rattle.monk_world.specs.Places.{stage}
+use Rattle.monk_world.specs.Places.{stage, active_stage}
 use Rattle.monk_world.specs.declared.place.Place.{Place}
 use Rattle.monk_world.specs.declared.place.Place.TheVariants.{Idle, Ticket, Due, Active, Back, Passing, Inner}
 use Rattle.monk_hall.specs.Floors.{GoesOn}
 use Rattle.monk_hall.specs.Layout.{word_count, floor_of}
 use Rattle.monk_hall.specs.Records.{View, IsOne, the, first_view}
 use Rattle.monk_hall.specs.Tells.{Me}
-use Rattle.monk_hall.specs.declared.record.Record.{Record}
+use Rattle.monk_hall.specs.declared.record.SeatRecord.{SeatRecord}
 use Rattle.monk_hall.specs.declared.setting.Setting.{Setting}
 
 -- a hall: which table it is, and what was fixed when it was made
@@ -25,12 +25,12 @@ pub record House : Type 0 where
 -- a token of a seat that is idle or waits: of which hall, and what the seat knows
 pub record Token : Type 0 where
   pub hall : TableId
-  pub me : Record
+  pub me : SeatRecord
 
 -- a token of the active seat: it has the floor too, and `me.mine` has the seat's events in the floor's history
 pub record Holder : Type 0 where
   pub hall : TableId
-  pub me : Record
+  pub me : SeatRecord
   pub floor : FloorView
 
 -- the tokens of these records
@@ -44,18 +44,18 @@ top [] = []
 top (v ∷ vs) = v
 
 -- the record with the events that the seat has in the history of its floor
-abbrev pub with_own : Record → FloorView → Record
+abbrev pub with_own : SeatRecord → FloorView → SeatRecord
 with_own r f = record r { mine = events_of f.history r.seat }
 
 -- the numbers that a token stores are those of its seat
-pub record IsSeated (z : TableId) (r : Record) (number calls : ℕ) : Type 0 where
+pub record IsSeated (z : TableId) (r : SeatRecord) (number calls : ℕ) : Type 0 where
   pub is_seat : r.seat ≡ number
   pub near : number < r.setting.seats
   pub sized : z.words ≡ word_count r.setting.seats
   pub counted : calls ≡ r.count
 
 -- what a seat has seen is legal, and its own events there are those that it knows as its own
-pub record IsTold (k : Rules) (o : Object) (r : Record) : Type 0 where
+pub record IsTold (k : Rules) (o : Object) (r : SeatRecord) : Type 0 where
   pub legal : IsLegal (monitor_of k o (floor_of r.setting r.seen)) r.seen
   pub own : events_of r.seen r.seat ≡ r.mine
 
@@ -71,7 +71,7 @@ pub record IsResting (k : Rules) (o : Object) (z : TableId) (me : Me) (number le
 pub record IsHolding (k : Rules) (o : Object) (z : TableId) (me : Me) (number calls : ℕ) (f : FloorView) : Type 0 where
   pub one : IsOne me.0
   pub out : me.1 ≡ (0, None) ∷ []
-  pub active : stage (the me.0).place ≡ 3
+  pub active : stage (the me.0).place ≡ active_stage
   pub seated : IsSeated z (the me.0) number calls
   pub goes : GoesOn k o (the me.0) f
   pub left : length (events_of f.history (the me.0).seat) < (the me.0).setting.budget

@@ -5,8 +5,8 @@ ghost use Rattle.monk_history.specs.declared.event.Next.{Next};
 ghost use Rattle.monk_world.specs.declared.home.Home.{Home};
 ghost use Rattle.monk_world.specs.declared.home.Home.TheVariants as home;
 ghost use Rattle.monk_world.specs.declared.place.Place.TheVariants as at;
-ghost use Rattle.monk_hall.specs.Changes.{gave, home_at};
-ghost use Rattle.monk_hall.specs.Handing.{called_by, HasReleased, HandsOnWithin, HasGone};
+ghost use Rattle.monk_hall.specs.Changes.{record_after_floor_in, home_at};
+ghost use Rattle.monk_hall.specs.Handing.{seat_called_by, HasRecordedRelease, HandsOnWithin, HasGone};
 ghost use Rattle.monk_hall.specs.Records.{IsOne, the};
 ghost use Rattle.monk_hall.specs.Tells.{IsSized};
 ghost use Rattle.monk_hall.specs.Tokens.{IsSeated, IsTold};
@@ -15,7 +15,7 @@ use crate::hall::Hall;
 use crate::parked::Parked;
 use crate::pass::Pass;
 use crate::places::{tickets, unpassed};
-use crate::rule::{TableSeat, Words};
+use crate::rule::{SharedTable, TableSeat};
 use crate::steps;
 use monk_floor::Floor;
 use monk_history::Next;
@@ -25,8 +25,8 @@ use monk_world::Place;
 use std::marker::PhantomData;
 
 /// The seat that a choice names.
-fn called_by(choice: Next) -> Option<u8>
-    ensures { result ≡ called_by choice }
+fn seat_called_by(choice: Next) -> Option<u8>
+    ensures { result ≡ seat_called_by choice }
 {
     match choice {
         Next::Stay => None,
@@ -51,18 +51,18 @@ pub(crate) fn is_stay(choice: Next) -> bool
 }
 
 /// After the choice of entry: takes the seat off the ticket word, and grants the next ticket if there is one.
-fn let_in<K: Kind, T: Guarded>(words: &Words<K, T>, seat: &mut TableSeat<K, T>, seats: u8)
+fn let_in<K: Kind, T: Guarded>(words: &SharedTable<K, T>, seat: &mut TableSeat<K, T>, seats: u8)
     requires table { (seat.old.table_id ≡ words.now.table_id) × IsSized words.now.table_id words.now.key.seats × (seats ≡ words.now.key.seats) × (0 < seats) }
     requires back { IsOne seat.old.me.0 × ((the seat.old.me.0).place ≡ at.Back Next.Entry (home_at (the seat.old.me.0).place)) }
     ensures table { (seat.new.table_id ≡ seat.old.table_id) × (seat.new.id ≡ seat.old.id) }
     ensures step { HandsOnWithin 2 seat.old.me seat.new.me }
 {
-    let found = steps::take_off(words, seat);
+    let found = steps::drop_ticket(words, seat);
     let waiting = unpassed(found);
     if waiting == 1 {
         return;
     }
-    steps::grant_ticket(words, seat, seats, tickets(found) - waiting + 1);
+    steps::ticket_grant(words, seat, seats, tickets(found) - waiting + 1);
 }
 
 /// Brings the floor home with the release that it has recorded, and hands the right on to whom the release chose.
@@ -74,17 +74,17 @@ fn go_home<K: Kind, T: Guarded>(
 )
     requires table { seat.old.table_id ≡ hall.now.id }
     requires out { seat.old.me.1 ≡ (0, None) ∷ [] }
-    requires released { (to : Home) × HasReleased K.rules T.meaning seat.old.table_id seat.old.me choice to floor }
+    requires released { (to : Home) × HasRecordedRelease K.rules T.meaning seat.old.table_id seat.old.me choice to floor }
     ensures table { seat.new.table_id ≡ seat.old.table_id }
-    ensures gone { HasGone (the seat.old.me.0) floor.history (home_at (gave (the seat.old.me.0) floor.history).place) (the seat.new.me.0) }
+    ensures gone { HasGone (the seat.old.me.0) floor.history (home_at (record_after_floor_in (the seat.old.me.0) floor.history).place) (the seat.new.me.0) }
     ensures view { seat.new.me ≡ (the seat.new.me.0 ∷ [], []) }
 {
     let words = &hall.table.shared;
-    match called_by(choice) {
+    match seat_called_by(choice) {
         Some(called) => {
             let calls = floor.granted(called);
             steps::floor_in(words, seat, floor);
-            steps::call_seat(words, seat, called, calls);
+            steps::seat_grant(words, seat, called, calls);
         }
         None => {
             steps::floor_in(words, seat, floor);
@@ -105,7 +105,7 @@ pub(crate) fn go_outside<K: Kind, T: Guarded>(
     requires table { seat.table_id ≡ hall.now.id }
     requires out { seat.me.1 ≡ (0, None) ∷ [] }
     requires seated { IsSeated seat.table_id (the seat.me.0) number calls }
-    requires released { HasReleased K.rules T.meaning seat.table_id seat.me choice home.Idle floor }
+    requires released { HasRecordedRelease K.rules T.meaning seat.table_id seat.me choice home.Idle floor }
     ensures hall { result.hall ≡ seat.table_id }
     ensures gone { HasGone (the seat.me.0) floor.history home.Idle result.me }
     ensures told { IsTold K.rules T.meaning result.me }
@@ -133,7 +133,7 @@ pub(crate) fn go_inside<K: Kind, T: Guarded>(
     requires table { seat.table_id ≡ hall.now.id }
     requires out { seat.me.1 ≡ (0, None) ∷ [] }
     requires seated { IsSeated seat.table_id (the seat.me.0) number calls }
-    requires released { HasReleased K.rules T.meaning seat.table_id seat.me choice home.Inner floor }
+    requires released { HasRecordedRelease K.rules T.meaning seat.table_id seat.me choice home.Inner floor }
     ensures hall { result.hall ≡ seat.table_id }
     ensures gone { HasGone (the seat.me.0) floor.history home.Inner result.me }
     ensures told { IsTold K.rules T.meaning result.me }

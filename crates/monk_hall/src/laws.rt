@@ -1,6 +1,6 @@
 //! What holds of a hall's table whenever the rule holds that every step keeps, and so at every moment. Each function
 //! does nothing: its contract is the law.
-ghost use Rattle.monk_hall.specs.Laws.{RightInOnePlace, ShowsWellLed, OneHasTheRight, OneIsActive, KnownWaits, EntryWaits, ArrivalSteps, TicketLookSteps, CallLookSteps, PeekSteps, FloorOutSteps, FloorInSteps, DropSteps, TicketGrantSteps, SeatGrantSteps};
+ghost use Rattle.monk_hall.specs.Laws.{RightInOnePlace, ShowsWellLed, OneHasTheRight, OneIsActive, KnownWaits, EntryWaits, ArriveSteps, TicketLookSteps, SeatLookSteps, PeekSteps, FloorOutSteps, FloorInSteps, DropSteps, TicketGrantSteps, SeatGrantSteps};
 
 /// The words, the records of the seats and the floor show a state of a world that is well led: the right to be active is
 /// in exactly one place, the history is legal, and turn and queues agree with where the seats stand.
@@ -28,9 +28,9 @@ pub fn chosen_entry_waits()
 /// Each step of the table, from one under the rule, leads to one under the rule, and is the step of the world by the same
 /// command and with the same answer; a floor comes home with what its seat has done and the step that released it.
 pub fn table_steps_are_the_worlds()
-    ensures arrival { ArrivalSteps }
+    ensures arrival { ArriveSteps }
     ensures ticket_look { TicketLookSteps }
-    ensures call_look { CallLookSteps }
+    ensures call_look { SeatLookSteps }
     ensures peek { PeekSteps }
     ensures floor_out { FloorOutSteps }
     ensures floor_in { FloorInSteps }

@@ -1,8 +1,8 @@
 //! How a hall is made: the table, and a pass for each seat.
 ghost use Rattle.std.specs.Prelude.{◌≡◌, ℕ, ◌<◌, Option, Some, None, [], ◌∷◌, IfOk, IfErr, replicate};
-ghost use Rattle.monk_floor.specs.Making.{refusal, IsRefused};
+ghost use Rattle.monk_floor.specs.Making.{make_refusal, IsRefused};
 ghost use Rattle.monk_hall.specs.Layout.{floor_of, word_count};
-ghost use Rattle.monk_hall.specs.Records.{the, fresh, first_view};
+ghost use Rattle.monk_hall.specs.Records.{the, opening_record, first_view};
 ghost use Rattle.monk_hall.specs.Rule.{setting_of};
 ghost use Rattle.monk_hall.specs.Tells.{IsSized};
 ghost use Rattle.monk_hall.specs.Tokens.{tokens};
@@ -10,7 +10,7 @@ ghost use Rattle.monk_hall.specs.Tokens.{tokens};
 use crate::hall::Hall;
 use crate::pass::Pass;
 use crate::plays::Deal;
-use crate::rule::{TableSeat, Words};
+use crate::rule::{SharedTable, TableSeat};
 use crate::setup::Setup;
 use atomic_table::{Refused, Table};
 use monk_floor::{Floor, MakeFault};
@@ -34,7 +34,7 @@ impl<K: Kind, T: Guarded> Hall<K, T> {
         conds: u8,
         budget: u32,
     ) -> Result<(Hall<K, T>, Vec<Pass<K, T>>), MakeFault>
-        ensures made { IfOk result (λ r. (refusal seats conds budget ≡ None) × (r.0.setting ≡ setting_of (T.state object) seats conds budget) × (r.1.items ≡ tokens r.0.id (first_view r.0.setting))) }
+        ensures made { IfOk result (λ r. (make_refusal seats conds budget ≡ None) × (r.0.setting ≡ setting_of (T.state object) seats conds budget) × (r.1.items ≡ tokens r.0.id (first_view r.0.setting))) }
         ensures refused { IfErr result (λ e. IsRefused seats conds budget e) }
     {
         let opening = Snapshot::of(&object);
@@ -55,7 +55,7 @@ fn open<K: Kind, T: Guarded>(
     floor: Floor<K, T>,
     setup: Setup<T>,
 ) -> Result<(Hall<K, T>, Vec<Pass<K, T>>), AllocError>
-    requires made { refusal setup.seats setup.conds setup.budget ≡ None }
+    requires made { make_refusal setup.seats setup.conds setup.budget ≡ None }
     requires floor { floor ≡ floor_of (setting_of (T.state setup.opening.value) setup.seats setup.conds setup.budget) [] }
     ensures { IfOk result (λ r. (r.0.setting ≡ setting_of (T.state setup.opening.value) setup.seats setup.conds setup.budget) × (r.1.items ≡ tokens r.0.id (first_view r.0.setting))) }
 {
@@ -82,7 +82,7 @@ fn zeros(alloc: Global, count: usize) -> Result<Vec<u64>, AllocError>
 /// Gives each seat its record, from the view that has them all.
 fn deal<K: Kind, T: Guarded>(
     alloc: Global,
-    words: &Words<K, T>,
+    words: &SharedTable<K, T>,
     mut first: TableSeat<K, T>,
     seats: u8,
     budget: u32,
@@ -105,9 +105,9 @@ fn deal<K: Kind, T: Guarded>(
 /// The pass of a seat that has its record, before any step.
 fn fresh_pass<K: Kind, T: Guarded>(seat: TableSeat<K, T>, number: u8, budget: u32) -> Pass<K, T>
     requires table { seat.table_id.words ≡ word_count (the seat.me.0).setting.seats }
-    requires fresh { seat.me ≡ (fresh (the seat.me.0).setting number ∷ [], []) }
+    requires opening_record { seat.me ≡ (opening_record (the seat.me.0).setting number ∷ [], []) }
     requires numbers { (number < (the seat.me.0).setting.seats) × (budget ≡ (the seat.me.0).setting.budget) }
-    ensures { result ≡ record { hall = seat.table_id; me = fresh (the seat.me.0).setting number } }
+    ensures { result ≡ record { hall = seat.table_id; me = opening_record (the seat.me.0).setting number } }
 {
     Pass {
         badge: seat.into_badge(),

@@ -6,7 +6,7 @@ ghost use Rattle.monk_hall.specs.Tokens.{top, IsTold};
 
 use crate::hall::Hall;
 use crate::pass::Pass;
-use crate::plays::{Compare, Meet, Part};
+use crate::plays::{CompareStep, Meet, Part};
 use crate::record::View;
 use crate::rule::TableSeat;
 use atomic_table::Badge;
@@ -35,7 +35,7 @@ pub fn meet<K: Kind, T: Guarded>(hall: &Hall<K, T>, a: &mut Pass<K, T>, b: &mut 
     let mut first: TableSeat<K, T> = lift::<K, T>(&mut a.badge);
     let other: TableSeat<K, T> = lift::<K, T>(&mut b.badge);
     words.join_seat::<Meet>(&mut first, other);
-    words.load::<Compare>(&mut first, 0);
+    words.load::<CompareStep>(&mut first, 0);
     let second = words.split_seat::<Part>(&mut first);
     a.badge = first.into_badge();
     b.badge = second.into_badge();

@@ -1,11 +1,13 @@
 ghost use Rattle.std.specs.Prelude.{◌≡◌, ◌≢◌, ℕ, suc, ◌+◌, ◌≤◌, ◌^◌, Option, Some, None, IfOk, IfErr, length};
-ghost use Rattle.monk_world.specs.Places.{stage};
+ghost use Rattle.monk_world.specs.Places.{stage, due_stage};
 ghost use Rattle.monk_world.specs.declared.place.Place.TheVariants as at;
-ghost use Rattle.monk_hall.specs.Calls.{Looked, Entered, StillWaits, ticket_held};
+ghost use Rattle.monk_hall.specs.Calls.{HasLooked, HasEntered, StillWaits, held_ticket};
 
 use crate::active::Active;
 use crate::hall::Hall;
-use crate::places::{answered, counted, is_called, looked};
+use crate::places::{
+    count_after_seat_look, is_called, place_after_seat_look, place_after_ticket_look,
+};
 use crate::rule::TableSeat;
 use crate::steps;
 use monk_kinds::Kind;
@@ -52,7 +54,7 @@ impl<K: Kind, T: Guarded> Parked<K, T> {
 
     /// The number of the ticket with which it waits for entry, or with which it found the monitor free.
     pub fn ticket(&self) -> Option<u32>
-        ensures { result ≡ ticket_held self.now.me.place }
+        ensures { result ≡ held_ticket self.now.me.place }
     {
         match self.place {
             Place::Ticket(ticket) => Some(ticket),
@@ -66,8 +68,8 @@ impl<K: Kind, T: Guarded> Parked<K, T> {
     /// Otherwise it gives itself back.
     pub fn poll(self, hall: &Hall<K, T>) -> Result<Active<K, T>, Parked<K, T>>
         requires { self.hall ≡ hall.now.id }
-        ensures active { IfOk result (λ a. Entered K.rules T.meaning self a × (a.me.looks ≤ self.me.looks + 1) × (a.me.steps ≤ self.me.steps + 2)) }
-        ensures parked { IfErr result (λ p. StillWaits K.rules T.meaning self p × (stage self.me.place ≢ 2)) }
+        ensures active { IfOk result (λ a. HasEntered K.rules T.meaning self a × (a.me.looks ≤ self.me.looks + 1) × (a.me.steps ≤ self.me.steps + 2)) }
+        ensures parked { IfErr result (λ p. StillWaits K.rules T.meaning self p × (stage self.me.place ≢ due_stage)) }
     {
         let looked = self.look(hall);
         match looked.place {
@@ -79,20 +81,20 @@ impl<K: Kind, T: Guarded> Parked<K, T> {
     /// Looks where it waits. A seat that is due needs no look.
     fn look(self, hall: &Hall<K, T>) -> Parked<K, T>
         requires { self.hall ≡ hall.now.id }
-        ensures { Looked K.rules T.meaning self result }
+        ensures { HasLooked K.rules T.meaning self result }
     {
         match self.place {
-            Place::Ticket(ticket) => self.look_for_ticket(hall, ticket),
-            Place::Inner => self.look_for_call(hall),
+            Place::Ticket(ticket) => self.ticket_look(hall, ticket),
+            Place::Inner => self.seat_look(hall),
             _ => self,
         }
     }
 
     /// Looks whether its ticket was granted.
-    fn look_for_ticket(self, hall: &Hall<K, T>, ticket: u32) -> Parked<K, T>
+    fn ticket_look(self, hall: &Hall<K, T>, ticket: u32) -> Parked<K, T>
         requires hall { self.hall ≡ hall.now.id }
         requires waits { self.me.place ≡ at.Ticket ticket }
-        ensures { Looked K.rules T.meaning self result }
+        ensures { HasLooked K.rules T.meaning self result }
     {
         let Parked {
             mut seat,
@@ -101,21 +103,21 @@ impl<K: Kind, T: Guarded> Parked<K, T> {
             calls,
             place: _,
         } = self;
-        let found = steps::look_for_ticket(&hall.table.shared, &mut seat, hall.seats, ticket);
+        let found = steps::ticket_look(&hall.table.shared, &mut seat, hall.seats, ticket);
         Parked {
             seat,
             number,
             left,
             calls,
-            place: looked(ticket, found),
+            place: place_after_ticket_look(ticket, found),
         }
     }
 
     /// Looks whether it was called.
-    fn look_for_call(self, hall: &Hall<K, T>) -> Parked<K, T>
+    fn seat_look(self, hall: &Hall<K, T>) -> Parked<K, T>
         requires hall { self.hall ≡ hall.now.id }
         requires parked { self.me.place ≡ at.Inner }
-        ensures { Looked K.rules T.meaning self result }
+        ensures { HasLooked K.rules T.meaning self result }
     {
         let Parked {
             mut seat,
@@ -124,13 +126,13 @@ impl<K: Kind, T: Guarded> Parked<K, T> {
             calls,
             place: _,
         } = self;
-        let found = steps::look_for_call(&hall.table.shared, &mut seat, number);
+        let found = steps::seat_look(&hall.table.shared, &mut seat, number);
         Parked {
             seat,
             number,
             left,
-            calls: counted(calls, found),
-            place: answered(is_called(calls, found)),
+            calls: count_after_seat_look(calls, found),
+            place: place_after_seat_look(is_called(calls, found)),
         }
     }
 
@@ -138,7 +140,7 @@ impl<K: Kind, T: Guarded> Parked<K, T> {
     fn come_in(self, hall: &Hall<K, T>, source: Source) -> Active<K, T>
         requires hall { self.hall ≡ hall.now.id }
         requires due { self.me.place ≡ at.Due source }
-        ensures entered { Entered K.rules T.meaning self result }
+        ensures entered { HasEntered K.rules T.meaning self result }
         ensures counts { (result.me.looks ≡ self.me.looks) × (result.me.steps ≡ suc self.me.steps) }
     {
         let Parked {

@@ -1,9 +1,9 @@
 ghost use Rattle.std.specs.Prelude.{◌≡◌, ℕ, ◌+◌, ◌≤◌, length};
-ghost use Rattle.monk_hall.specs.Calls.{Arrived};
+ghost use Rattle.monk_hall.specs.Calls.{HasArrived};
 
 use crate::hall::Hall;
 use crate::parked::Parked;
-use crate::places::arrived;
+use crate::places::place_after_arrive;
 use crate::record::View;
 use crate::rule::TableSeat;
 use crate::steps;
@@ -55,7 +55,7 @@ impl<K: Kind, T: Guarded> Pass<K, T> {
     pub fn arrive(self, hall: &Hall<K, T>) -> Parked<K, T>
         requires hall { self.hall ≡ hall.now.id }
         requires left { length self.me.mine + 2 ≤ self.me.setting.budget }
-        ensures { Arrived K.rules T.meaning self result }
+        ensures { HasArrived K.rules T.meaning self result }
     {
         let Pass {
             badge,
@@ -71,7 +71,7 @@ impl<K: Kind, T: Guarded> Pass<K, T> {
             number,
             left,
             calls,
-            place: arrived(found),
+            place: place_after_arrive(found),
         }
     }
 }

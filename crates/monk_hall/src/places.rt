@@ -1,6 +1,6 @@
 //! Where a seat stands after a step, by what it found.
 ghost use Rattle.std.specs.Prelude.{◌≡◌, ℕ, ◌+◌, ◌==◌};
-ghost use Rattle.monk_world.specs.Steps.{arrived, looked, answered, counted};
+ghost use Rattle.monk_world.specs.Steps.{place_after_arrive, place_after_ticket_look, place_after_seat_look, count_after_seat_look};
 ghost use Rattle.monk_hall.specs.Layout.{tickets, unpassed};
 
 use monk_world::{Place, Source};
@@ -23,8 +23,8 @@ pub(crate) fn unpassed(word: u64) -> u32
 }
 
 /// It drew a ticket, and found this ticket word.
-pub(crate) fn arrived(word: u64) -> Place
-    ensures { result ≡ arrived (tickets word) (unpassed word) }
+pub(crate) fn place_after_arrive(word: u64) -> Place
+    ensures { result ≡ place_after_arrive (tickets word) (unpassed word) }
 {
     let ticket = tickets(word);
     if unpassed(word) == 0 {
@@ -35,8 +35,8 @@ pub(crate) fn arrived(word: u64) -> Place
 }
 
 /// It looked for its ticket, and found this in the ticket's place.
-pub(crate) fn looked(ticket: u32, found: u64) -> Place
-    ensures { result ≡ looked ticket (found == ticket + 1) }
+pub(crate) fn place_after_ticket_look(ticket: u32, found: u64) -> Place
+    ensures { result ≡ place_after_ticket_look ticket (found == ticket + 1) }
 {
     if found == ticket as u64 + 1 {
         Place::Due(Source::Granted(ticket))
@@ -53,8 +53,8 @@ pub(crate) fn is_called(calls: u64, found: u64) -> bool
 }
 
 /// It looked for a call.
-pub(crate) fn answered(called: bool) -> Place
-    ensures { result ≡ answered called }
+pub(crate) fn place_after_seat_look(called: bool) -> Place
+    ensures { result ≡ place_after_seat_look called }
 {
     if called {
         Place::Due(Source::Called)
@@ -64,8 +64,8 @@ pub(crate) fn answered(called: bool) -> Place
 }
 
 /// How often it was called now, where it found this in its place.
-pub(crate) fn counted(calls: u64, found: u64) -> u64
-    ensures { result ≡ counted calls (found == calls + 1) }
+pub(crate) fn count_after_seat_look(calls: u64, found: u64) -> u64
+    ensures { result ≡ count_after_seat_look calls (found == calls + 1) }
 {
     if is_called(calls, found) {
         found

@@ -7,7 +7,7 @@ ghost use Rattle.monk_history.specs.Meaning.Events.{has_conditions, has_signalle
 ghost use Rattle.monk_floor.specs.View.{stands_of};
 ghost use Rattle.monk_world.specs.declared.home.Home.TheVariants as home;
 ghost use Rattle.monk_hall.specs.AfterCalls.{MatchAfter};
-ghost use Rattle.monk_hall.specs.Calls.{Released, Stayed, knows, peeks_of, peeks_for};
+ghost use Rattle.monk_hall.specs.Calls.{HasReleased, HasStayed, is_entry_known, peeks_of, peeks_for};
 
 use crate::active::Active;
 use crate::after::After;
@@ -34,7 +34,7 @@ impl<K: Kind, T: Guarded> Active<K, T> {
         requires hall { self.hall ≡ hall.now.id }
         requires cond { cond < self.me.setting.conds }
         requires left { length self.me.mine + 3 ≤ self.me.setting.budget }
-        ensures { Released K.rules T.meaning self (Event.Wait self.me.seat cond Next.Stay) pick home.Inner (peeks_of true pick) result }
+        ensures { HasReleased K.rules T.meaning self (Event.Wait self.me.seat cond Next.Stay) pick home.Inner (peeks_of true pick) result }
     {
         let mut active = self;
         let known = active.look_for_entry(hall, true, pick);
@@ -52,8 +52,8 @@ impl<K: Kind, T: Guarded> Active<K, T> {
         requires hall { self.hall ≡ hall.now.id }
         requires cond { cond < self.me.setting.conds }
         requires left { length self.me.mine + 3 ≤ self.me.setting.budget }
-        requires known { known ≡ knows pick self.me.known }
-        ensures { Released K.rules T.meaning self (Event.Wait self.me.seat cond Next.Stay) pick home.Inner 0 result }
+        requires known { known ≡ is_entry_known pick self.me.known }
+        ensures { HasReleased K.rules T.meaning self (Event.Wait self.me.seat cond Next.Stay) pick home.Inner 0 result }
     {
         let Active {
             seat,
@@ -71,7 +71,7 @@ impl<K: Kind, T: Guarded> Active<K, T> {
         requires hall { self.hall ≡ hall.now.id }
         requires cond { cond < self.me.setting.conds }
         requires left { length self.me.mine + 3 ≤ self.me.setting.budget }
-        ensures { MatchAfter result (λ a. Stayed K.rules T.meaning self (Event.Signal self.me.seat cond Next.Stay) pick (peeks_for K.rules T.meaning self.floor (Event.Signal self.me.seat cond Next.Stay) pick) a) (λ p. Released K.rules T.meaning self (Event.Signal self.me.seat cond Next.Stay) pick home.Inner (peeks_for K.rules T.meaning self.floor (Event.Signal self.me.seat cond Next.Stay) pick) p) }
+        ensures { MatchAfter result (λ a. HasStayed K.rules T.meaning self (Event.Signal self.me.seat cond Next.Stay) pick (peeks_for K.rules T.meaning self.floor (Event.Signal self.me.seat cond Next.Stay) pick) a) (λ p. HasReleased K.rules T.meaning self (Event.Signal self.me.seat cond Next.Stay) pick home.Inner (peeks_for K.rules T.meaning self.floor (Event.Signal self.me.seat cond Next.Stay) pick) p) }
     {
         let chooses = self.serves(cond);
         let mut active = self;
@@ -90,8 +90,8 @@ impl<K: Kind, T: Guarded> Active<K, T> {
         requires hall { self.hall ≡ hall.now.id }
         requires cond { cond < self.me.setting.conds }
         requires left { length self.me.mine + 3 ≤ self.me.setting.budget }
-        requires known { must_stay T.meaning (stands_of K.rules T.meaning self.floor) (Event.Signal self.me.seat cond Next.Stay) ≡ false → known ≡ knows pick self.me.known }
-        ensures { MatchAfter result (λ a. Stayed K.rules T.meaning self (Event.Signal self.me.seat cond Next.Stay) pick 0 a) (λ p. Released K.rules T.meaning self (Event.Signal self.me.seat cond Next.Stay) pick home.Inner 0 p) }
+        requires known { must_stay T.meaning (stands_of K.rules T.meaning self.floor) (Event.Signal self.me.seat cond Next.Stay) ≡ false → known ≡ is_entry_known pick self.me.known }
+        ensures { MatchAfter result (λ a. HasStayed K.rules T.meaning self (Event.Signal self.me.seat cond Next.Stay) pick 0 a) (λ p. HasReleased K.rules T.meaning self (Event.Signal self.me.seat cond Next.Stay) pick home.Inner 0 p) }
     {
         let Active {
             seat,
@@ -116,7 +116,7 @@ impl<K: Kind, T: Guarded> Active<K, T> {
         requires mode { returns_at_once K.rules.mode ≡ true }
         requires hall { self.hall ≡ hall.now.id }
         requires cond { cond < self.me.setting.conds }
-        ensures { Released K.rules T.meaning self (Event.SignalLeave self.me.seat cond Next.Stay) pick home.Idle (peeks_of true pick) result }
+        ensures { HasReleased K.rules T.meaning self (Event.SignalLeave self.me.seat cond Next.Stay) pick home.Idle (peeks_of true pick) result }
     {
         let mut active = self;
         let known = active.look_for_entry(hall, true, pick);
@@ -133,8 +133,8 @@ impl<K: Kind, T: Guarded> Active<K, T> {
         requires mode { returns_at_once K.rules.mode ≡ true }
         requires hall { self.hall ≡ hall.now.id }
         requires cond { cond < self.me.setting.conds }
-        requires known { known ≡ knows pick self.me.known }
-        ensures { Released K.rules T.meaning self (Event.SignalLeave self.me.seat cond Next.Stay) pick home.Idle 0 result }
+        requires known { known ≡ is_entry_known pick self.me.known }
+        ensures { HasReleased K.rules T.meaning self (Event.SignalLeave self.me.seat cond Next.Stay) pick home.Idle 0 result }
     {
         let Active {
             seat,
@@ -152,7 +152,7 @@ impl<K: Kind, T: Guarded> Active<K, T> {
         requires hall { self.hall ≡ hall.now.id }
         requires pred { pred < T.PREDICATES }
         requires left { length self.me.mine + 3 ≤ self.me.setting.budget }
-        ensures { MatchAfter result (λ a. Stayed K.rules T.meaning self (Event.Until self.me.seat pred Next.Stay) pick (peeks_for K.rules T.meaning self.floor (Event.Until self.me.seat pred Next.Stay) pick) a) (λ p. Released K.rules T.meaning self (Event.Until self.me.seat pred Next.Stay) pick home.Inner (peeks_for K.rules T.meaning self.floor (Event.Until self.me.seat pred Next.Stay) pick) p) }
+        ensures { MatchAfter result (λ a. HasStayed K.rules T.meaning self (Event.Until self.me.seat pred Next.Stay) pick (peeks_for K.rules T.meaning self.floor (Event.Until self.me.seat pred Next.Stay) pick) a) (λ p. HasReleased K.rules T.meaning self (Event.Until self.me.seat pred Next.Stay) pick home.Inner (peeks_for K.rules T.meaning self.floor (Event.Until self.me.seat pred Next.Stay) pick) p) }
     {
         let chooses = !self.holds(pred);
         let mut active = self;
@@ -171,8 +171,8 @@ impl<K: Kind, T: Guarded> Active<K, T> {
         requires hall { self.hall ≡ hall.now.id }
         requires pred { pred < T.PREDICATES }
         requires left { length self.me.mine + 3 ≤ self.me.setting.budget }
-        requires known { must_stay T.meaning (stands_of K.rules T.meaning self.floor) (Event.Until self.me.seat pred Next.Stay) ≡ false → known ≡ knows pick self.me.known }
-        ensures { MatchAfter result (λ a. Stayed K.rules T.meaning self (Event.Until self.me.seat pred Next.Stay) pick 0 a) (λ p. Released K.rules T.meaning self (Event.Until self.me.seat pred Next.Stay) pick home.Inner 0 p) }
+        requires known { must_stay T.meaning (stands_of K.rules T.meaning self.floor) (Event.Until self.me.seat pred Next.Stay) ≡ false → known ≡ is_entry_known pick self.me.known }
+        ensures { MatchAfter result (λ a. HasStayed K.rules T.meaning self (Event.Until self.me.seat pred Next.Stay) pick 0 a) (λ p. HasReleased K.rules T.meaning self (Event.Until self.me.seat pred Next.Stay) pick home.Inner 0 p) }
     {
         let Active {
             seat,

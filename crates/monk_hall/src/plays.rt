@@ -1,8 +1,8 @@
 //! The kinds of step, each as what it tells the seat that takes it, and the two moves of seats.
 ghost use Rattle.std.specs.Prelude.{[]};
-ghost use Rattle.monk_hall.specs.Changes.{met};
+ghost use Rattle.monk_hall.specs.Changes.{view_after_join};
 ghost use Rattle.monk_hall.specs.Records.{head, tail};
-ghost use Rattle.monk_hall.specs.Tells.{Arrives, LooksForTicket, LooksForCall, Peeks, TakesFloor, GivesFloor, held_history, TakesOff, HandsOn, Compares};
+ghost use Rattle.monk_hall.specs.Tells.{TellsArrive, TellsTicketLook, TellsSeatLook, TellsPeek, TellsFloorOut, TellsFloorIn, held_history, TellsDrop, TellsGrant, TellsCompare};
 
 use crate::record::View;
 use atomic_table::{Join, Play, Split};
@@ -11,59 +11,59 @@ use monk_kinds::Kind;
 use monk_object::Guarded;
 
 /// Step 1: an idle seat draws a ticket.
-pub(crate) struct Arrive;
+pub(crate) struct ArriveStep;
 
-impl<K: Kind, T: Guarded> Play<Option<Floor<K, T>>, View> for Arrive {
-    ghost then = { λ step me found new. Arrives me found new };
+impl<K: Kind, T: Guarded> Play<Option<Floor<K, T>>, View> for ArriveStep {
+    ghost then = { λ step me found new. TellsArrive me found new };
 }
 
 /// Step 2: a seat looks at the place of its ticket.
-pub(crate) struct LookForTicket;
+pub(crate) struct TicketLookStep;
 
-impl<K: Kind, T: Guarded> Play<Option<Floor<K, T>>, View> for LookForTicket {
-    ghost then = { λ step me found new. LooksForTicket me found new };
+impl<K: Kind, T: Guarded> Play<Option<Floor<K, T>>, View> for TicketLookStep {
+    ghost then = { λ step me found new. TellsTicketLook me found new };
 }
 
 /// Step 3: a seat that is parked inside looks at its own place.
-pub(crate) struct LookForCall;
+pub(crate) struct SeatLookStep;
 
-impl<K: Kind, T: Guarded> Play<Option<Floor<K, T>>, View> for LookForCall {
-    ghost then = { λ step me found new. LooksForCall me found new };
+impl<K: Kind, T: Guarded> Play<Option<Floor<K, T>>, View> for SeatLookStep {
+    ghost then = { λ step me found new. TellsSeatLook me found new };
 }
 
 /// Step 4: the active seat looks whether somebody waits for entry.
-pub(crate) struct Peek;
+pub(crate) struct PeekStep;
 
-impl<K: Kind, T: Guarded> Play<Option<Floor<K, T>>, View> for Peek {
-    ghost then = { λ step me found new. Peeks me found new };
+impl<K: Kind, T: Guarded> Play<Option<Floor<K, T>>, View> for PeekStep {
+    ghost then = { λ step me found new. TellsPeek me found new };
 }
 
 /// Step 5, out: the floor comes to the seat that is due.
-pub(crate) struct TakeFloor;
+pub(crate) struct FloorOutStep;
 
-impl<K: Kind, T: Guarded> Play<Option<Floor<K, T>>, View> for TakeFloor {
-    ghost then = { λ step me found new. TakesFloor K.rules T.meaning me found new };
+impl<K: Kind, T: Guarded> Play<Option<Floor<K, T>>, View> for FloorOutStep {
+    ghost then = { λ step me found new. TellsFloorOut K.rules T.meaning me found new };
 }
 
 /// Step 5, in: the active seat brings the floor home.
-pub(crate) struct GiveFloor;
+pub(crate) struct FloorInStep;
 
-impl<K: Kind, T: Guarded> Play<Option<Floor<K, T>>, View> for GiveFloor {
-    ghost then = { λ step me found new. GivesFloor (held_history me.1) me found new };
+impl<K: Kind, T: Guarded> Play<Option<Floor<K, T>>, View> for FloorInStep {
+    ghost then = { λ step me found new. TellsFloorIn (held_history me.1) me found new };
 }
 
 /// Step 6: a seat that chose entry takes itself off the ticket word.
-pub(crate) struct TakeOff;
+pub(crate) struct DropStep;
 
-impl<K: Kind, T: Guarded> Play<Option<Floor<K, T>>, View> for TakeOff {
-    ghost then = { λ step me found new. TakesOff me found new };
+impl<K: Kind, T: Guarded> Play<Option<Floor<K, T>>, View> for DropStep {
+    ghost then = { λ step me found new. TellsDrop me found new };
 }
 
 /// Steps 7 and 8: a seat grants the next ticket, or calls the seat that it chose.
-pub(crate) struct HandOn;
+pub(crate) struct GrantStep;
 
-impl<K: Kind, T: Guarded> Play<Option<Floor<K, T>>, View> for HandOn {
-    ghost then = { λ step me found new. HandsOn me found new };
+impl<K: Kind, T: Guarded> Play<Option<Floor<K, T>>, View> for GrantStep {
+    ghost then = { λ step me found new. TellsGrant me found new };
 }
 
 /// Each seat gets its record from the view that has them all.
@@ -79,16 +79,16 @@ impl Split<View> for Deal {
 pub(crate) struct Meet;
 
 impl Join<View> for Meet {
-    ghost both = { met };
+    ghost both = { view_after_join };
 
     ghost spent = { [] };
 }
 
 /// In one view they tell each other what they have seen.
-pub(crate) struct Compare;
+pub(crate) struct CompareStep;
 
-impl<K: Kind, T: Guarded> Play<Option<Floor<K, T>>, View> for Compare {
-    ghost then = { λ step me found new. Compares K.rules T.meaning me found new };
+impl<K: Kind, T: Guarded> Play<Option<Floor<K, T>>, View> for CompareStep {
+    ghost then = { λ step me found new. TellsCompare K.rules T.meaning me found new };
 }
 
 /// And part.

@@ -7,7 +7,7 @@ use std::collections::LinkedList;
 /// One seat: its number, the hall's setting, where it stands, how often it was called, whether it knows of somebody at
 /// the entry, the longest history it has seen, its own events, and how many looks and steps it has taken. For
 /// contracts: no value of it is made.
-pub struct Record {
+pub struct SeatRecord {
     pub seat: u8,
     pub setting: Setting,
     pub place: Place,
@@ -20,4 +20,4 @@ pub struct Record {
 }
 
 /// What a thread's seat of the table knows: the record of one seat, of all before they are dealt, or of two that meet.
-pub type View = LinkedList<Record>;
+pub type View = LinkedList<SeatRecord>;

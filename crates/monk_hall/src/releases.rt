@@ -2,7 +2,7 @@
 //! for entry; brings the floor home unless the seat stays; and hands the right on.
 ghost use Rattle.std.specs.Prelude.{◌≡◌, ℕ, ◌+◌, ◌<◌, ◌≤◌, ◌&&◌, Bool, true, length};
 ghost use Rattle.monk_world.specs.declared.home.Home.TheVariants as home;
-ghost use Rattle.monk_hall.specs.Calls.{HasDone, HasPeeked, Released, Stayed, knows, peeks_of, peeks_for, wants_entry};
+ghost use Rattle.monk_hall.specs.Calls.{HasDone, HasPeeked, HasReleased, HasStayed, is_entry_known, peeks_of, peeks_for, wants_entry};
 
 use crate::active::Active;
 use crate::after::After;
@@ -43,7 +43,7 @@ impl<K: Kind, T: Guarded> Active<K, T> {
     pub(crate) fn look_for_entry(&mut self, hall: &Hall<K, T>, chooses: bool, pick: Pick) -> bool
         requires { self.old.hall ≡ hall.now.id }
         ensures peeked { HasPeeked (peeks_of chooses pick) self.old self.new }
-        ensures known { chooses ≡ true → result ≡ knows pick self.new.me.known }
+        ensures known { chooses ≡ true → result ≡ is_entry_known pick self.new.me.known }
     {
         if asks_for_entry(chooses, pick) {
             return self.peek(hall);
@@ -57,7 +57,7 @@ impl<K: Kind, T: Guarded> Active<K, T> {
     /// a wish for entry is taken only where a look at the ticket word finds somebody there.
     pub fn leave(self, hall: &Hall<K, T>, pick: Pick) -> Pass<K, T>
         requires { self.hall ≡ hall.now.id }
-        ensures { Released K.rules T.meaning self (Event.Leave self.me.seat Next.Stay) pick home.Idle (peeks_of true pick) result }
+        ensures { HasReleased K.rules T.meaning self (Event.Leave self.me.seat Next.Stay) pick home.Idle (peeks_of true pick) result }
     {
         let mut active = self;
         let known = active.look_for_entry(hall, true, pick);
@@ -66,8 +66,8 @@ impl<K: Kind, T: Guarded> Active<K, T> {
 
     fn leave_knowing(self, hall: &Hall<K, T>, pick: Pick, known: bool) -> Pass<K, T>
         requires hall { self.hall ≡ hall.now.id }
-        requires known { known ≡ knows pick self.me.known }
-        ensures { Released K.rules T.meaning self (Event.Leave self.me.seat Next.Stay) pick home.Idle 0 result }
+        requires known { known ≡ is_entry_known pick self.me.known }
+        ensures { HasReleased K.rules T.meaning self (Event.Leave self.me.seat Next.Stay) pick home.Idle 0 result }
     {
         let Active {
             seat,
@@ -83,7 +83,7 @@ impl<K: Kind, T: Guarded> Active<K, T> {
 impl<K: Conditional, T: Guarded> Active<K, T> {
     ghost use Rattle.std.specs.Prelude.{◌≡◌, ◌+◌, ◌<◌, ◌≤◌, true, length};
     ghost use Rattle.monk_world.specs.declared.home.Home.TheVariants as home;
-    ghost use Rattle.monk_hall.specs.Calls.{Released, knows, peeks_of};
+    ghost use Rattle.monk_hall.specs.Calls.{HasReleased, is_entry_known, peeks_of};
 
     /// Waits on a condition variable until it is signalled, in at most four steps. The seat is parked inside. The
     /// scheduler step and the wish are as at `leave`.
@@ -91,7 +91,7 @@ impl<K: Conditional, T: Guarded> Active<K, T> {
         requires hall { self.hall ≡ hall.now.id }
         requires cond { cond < self.me.setting.conds }
         requires left { length self.me.mine + 3 ≤ self.me.setting.budget }
-        ensures { Released K.rules T.meaning self (Event.Wait self.me.seat cond Next.Stay) pick home.Inner (peeks_of true pick) result }
+        ensures { HasReleased K.rules T.meaning self (Event.Wait self.me.seat cond Next.Stay) pick home.Inner (peeks_of true pick) result }
     {
         let mut active = self;
         let known = active.look_for_entry(hall, true, pick);
@@ -102,8 +102,8 @@ impl<K: Conditional, T: Guarded> Active<K, T> {
         requires hall { self.hall ≡ hall.now.id }
         requires cond { cond < self.me.setting.conds }
         requires left { length self.me.mine + 3 ≤ self.me.setting.budget }
-        requires known { known ≡ knows pick self.me.known }
-        ensures { Released K.rules T.meaning self (Event.Wait self.me.seat cond Next.Stay) pick home.Inner 0 result }
+        requires known { known ≡ is_entry_known pick self.me.known }
+        ensures { HasReleased K.rules T.meaning self (Event.Wait self.me.seat cond Next.Stay) pick home.Inner 0 result }
     {
         let Active {
             seat,
@@ -122,7 +122,7 @@ impl<K: Explicit, T: Guarded> Active<K, T> {
     ghost use Rattle.monk_floor.specs.View.{stands_of};
     ghost use Rattle.monk_world.specs.declared.home.Home.TheVariants as home;
     ghost use Rattle.monk_hall.specs.AfterCalls.{MatchAfter};
-    ghost use Rattle.monk_hall.specs.Calls.{Released, Stayed, knows, peeks_for};
+    ghost use Rattle.monk_hall.specs.Calls.{HasReleased, HasStayed, is_entry_known, peeks_for};
 
     /// Signals a condition variable, in at most four steps. The first that waits on it becomes a waiter and the caller
     /// a signaller, and the scheduler step chooses among all of them; the wish is as at `leave`. Where the caller itself
@@ -132,7 +132,7 @@ impl<K: Explicit, T: Guarded> Active<K, T> {
         requires hall { self.hall ≡ hall.now.id }
         requires cond { cond < self.me.setting.conds }
         requires left { length self.me.mine + 3 ≤ self.me.setting.budget }
-        ensures { MatchAfter result (λ a. Stayed K.rules T.meaning self (Event.Signal self.me.seat cond Next.Stay) pick (peeks_for K.rules T.meaning self.floor (Event.Signal self.me.seat cond Next.Stay) pick) a) (λ p. Released K.rules T.meaning self (Event.Signal self.me.seat cond Next.Stay) pick home.Inner (peeks_for K.rules T.meaning self.floor (Event.Signal self.me.seat cond Next.Stay) pick) p) }
+        ensures { MatchAfter result (λ a. HasStayed K.rules T.meaning self (Event.Signal self.me.seat cond Next.Stay) pick (peeks_for K.rules T.meaning self.floor (Event.Signal self.me.seat cond Next.Stay) pick) a) (λ p. HasReleased K.rules T.meaning self (Event.Signal self.me.seat cond Next.Stay) pick home.Inner (peeks_for K.rules T.meaning self.floor (Event.Signal self.me.seat cond Next.Stay) pick) p) }
     {
         let serves = self.serves(cond);
         let mut active = self;
@@ -144,8 +144,8 @@ impl<K: Explicit, T: Guarded> Active<K, T> {
         requires hall { self.hall ≡ hall.now.id }
         requires cond { cond < self.me.setting.conds }
         requires left { length self.me.mine + 3 ≤ self.me.setting.budget }
-        requires known { must_stay T.meaning (stands_of K.rules T.meaning self.floor) (Event.Signal self.me.seat cond Next.Stay) ≡ false → known ≡ knows pick self.me.known }
-        ensures { MatchAfter result (λ a. Stayed K.rules T.meaning self (Event.Signal self.me.seat cond Next.Stay) pick 0 a) (λ p. Released K.rules T.meaning self (Event.Signal self.me.seat cond Next.Stay) pick home.Inner 0 p) }
+        requires known { must_stay T.meaning (stands_of K.rules T.meaning self.floor) (Event.Signal self.me.seat cond Next.Stay) ≡ false → known ≡ is_entry_known pick self.me.known }
+        ensures { MatchAfter result (λ a. HasStayed K.rules T.meaning self (Event.Signal self.me.seat cond Next.Stay) pick 0 a) (λ p. HasReleased K.rules T.meaning self (Event.Signal self.me.seat cond Next.Stay) pick home.Inner 0 p) }
     {
         let Active {
             seat,
@@ -183,14 +183,14 @@ impl<K: NonBlocking, T: Guarded> Active<K, T> {
 impl<K: ImmediateReturn, T: Guarded> Active<K, T> {
     ghost use Rattle.std.specs.Prelude.{◌≡◌, ◌<◌, true};
     ghost use Rattle.monk_world.specs.declared.home.Home.TheVariants as home;
-    ghost use Rattle.monk_hall.specs.Calls.{Released, knows, peeks_of};
+    ghost use Rattle.monk_hall.specs.Calls.{HasReleased, is_entry_known, peeks_of};
 
     /// Signals a condition variable and leaves the monitor, in at most four steps. It leaves also where nobody waits on
     /// the condition. The scheduler step and the wish are as at `leave`.
     pub fn signal_leave(self, hall: &Hall<K, T>, cond: u8, pick: Pick) -> Pass<K, T>
         requires hall { self.hall ≡ hall.now.id }
         requires cond { cond < self.me.setting.conds }
-        ensures { Released K.rules T.meaning self (Event.SignalLeave self.me.seat cond Next.Stay) pick home.Idle (peeks_of true pick) result }
+        ensures { HasReleased K.rules T.meaning self (Event.SignalLeave self.me.seat cond Next.Stay) pick home.Idle (peeks_of true pick) result }
     {
         let mut active = self;
         let known = active.look_for_entry(hall, true, pick);
@@ -206,8 +206,8 @@ impl<K: ImmediateReturn, T: Guarded> Active<K, T> {
     ) -> Pass<K, T>
         requires hall { self.hall ≡ hall.now.id }
         requires cond { cond < self.me.setting.conds }
-        requires known { known ≡ knows pick self.me.known }
-        ensures { Released K.rules T.meaning self (Event.SignalLeave self.me.seat cond Next.Stay) pick home.Idle 0 result }
+        requires known { known ≡ is_entry_known pick self.me.known }
+        ensures { HasReleased K.rules T.meaning self (Event.SignalLeave self.me.seat cond Next.Stay) pick home.Idle 0 result }
     {
         let Active {
             seat,
@@ -226,7 +226,7 @@ impl<K: Automatic, T: Guarded> Active<K, T> {
     ghost use Rattle.monk_floor.specs.View.{stands_of};
     ghost use Rattle.monk_world.specs.declared.home.Home.TheVariants as home;
     ghost use Rattle.monk_hall.specs.AfterCalls.{MatchAfter};
-    ghost use Rattle.monk_hall.specs.Calls.{Released, Stayed, knows, peeks_for};
+    ghost use Rattle.monk_hall.specs.Calls.{HasReleased, HasStayed, is_entry_known, peeks_for};
 
     /// Waits until a predicate holds of the data, in at most four steps. Where it holds at once the seat stays active
     /// and takes no step; else it is parked inside until it is chosen among those whose predicate holds. The scheduler
@@ -235,7 +235,7 @@ impl<K: Automatic, T: Guarded> Active<K, T> {
         requires hall { self.hall ≡ hall.now.id }
         requires pred { pred < T.PREDICATES }
         requires left { length self.me.mine + 3 ≤ self.me.setting.budget }
-        ensures { MatchAfter result (λ a. Stayed K.rules T.meaning self (Event.Until self.me.seat pred Next.Stay) pick (peeks_for K.rules T.meaning self.floor (Event.Until self.me.seat pred Next.Stay) pick) a) (λ p. Released K.rules T.meaning self (Event.Until self.me.seat pred Next.Stay) pick home.Inner (peeks_for K.rules T.meaning self.floor (Event.Until self.me.seat pred Next.Stay) pick) p) }
+        ensures { MatchAfter result (λ a. HasStayed K.rules T.meaning self (Event.Until self.me.seat pred Next.Stay) pick (peeks_for K.rules T.meaning self.floor (Event.Until self.me.seat pred Next.Stay) pick) a) (λ p. HasReleased K.rules T.meaning self (Event.Until self.me.seat pred Next.Stay) pick home.Inner (peeks_for K.rules T.meaning self.floor (Event.Until self.me.seat pred Next.Stay) pick) p) }
     {
         let waits = !self.holds(pred);
         let mut active = self;
@@ -247,8 +247,8 @@ impl<K: Automatic, T: Guarded> Active<K, T> {
         requires hall { self.hall ≡ hall.now.id }
         requires pred { pred < T.PREDICATES }
         requires left { length self.me.mine + 3 ≤ self.me.setting.budget }
-        requires known { must_stay T.meaning (stands_of K.rules T.meaning self.floor) (Event.Until self.me.seat pred Next.Stay) ≡ false → known ≡ knows pick self.me.known }
-        ensures { MatchAfter result (λ a. Stayed K.rules T.meaning self (Event.Until self.me.seat pred Next.Stay) pick 0 a) (λ p. Released K.rules T.meaning self (Event.Until self.me.seat pred Next.Stay) pick home.Inner 0 p) }
+        requires known { must_stay T.meaning (stands_of K.rules T.meaning self.floor) (Event.Until self.me.seat pred Next.Stay) ≡ false → known ≡ is_entry_known pick self.me.known }
+        ensures { MatchAfter result (λ a. HasStayed K.rules T.meaning self (Event.Until self.me.seat pred Next.Stay) pick 0 a) (λ p. HasReleased K.rules T.meaning self (Event.Until self.me.seat pred Next.Stay) pick home.Inner 0 p) }
     {
         let Active {
             seat,

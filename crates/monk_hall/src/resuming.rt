@@ -1,6 +1,6 @@
 //! How a thread waits until its seat is active.
 ghost use Rattle.std.specs.Prelude.{◌≡◌, ℕ, ◌<◌};
-ghost use Rattle.monk_hall.specs.Calls.{Entered};
+ghost use Rattle.monk_hall.specs.Calls.{HasEntered};
 
 use crate::active::Active;
 use crate::hall::Hall;
@@ -24,7 +24,7 @@ impl<K: Kind, T: Guarded> Parked<K, T> {
     /// Nothing says that a grant ever comes.
     pub fn resume<R: Wait>(self, rt: &R, hall: &Hall<K, T>) -> Active<K, T>
         requires { self.hall ≡ hall.now.id }
-        ensures { Entered K.rules T.meaning self result }
+        ensures { HasEntered K.rules T.meaning self result }
     {
         let words = &hall.table.shared;
         let word = self.granting_word(hall);

@@ -26,7 +26,7 @@ impl<K: Kind, T: Guarded> TableRule<Option<Floor<K, T>>, View, Setup<T>> for Hal
 pub(crate) type TableSeat<K, T> = Seat<Option<Floor<K, T>>, View>;
 
 /// The table as threads share it.
-pub(crate) type Words<K, T> = Shared<Option<Floor<K, T>>, View, Setup<T>, HallRule<K, T>>;
+pub(crate) type SharedTable<K, T> = Shared<Option<Floor<K, T>>, View, Setup<T>, HallRule<K, T>>;
 
 /// The table with its memory.
 pub(crate) type HallTable<K, T> = Table<

@@ -1,20 +1,21 @@
 //! One function for each kind of step, and nothing else in it. The calls of the tokens are made of these.
 ghost use Rattle.std.specs.Prelude.{◌≡◌, ℕ, ◌+◌, ◌^◌, ◌<◌, ◌≤◌, [], ◌∷◌, Some, None, length};
 ghost use Rattle.monk_history.specs.Meaning.Counts.{granted_of};
-ghost use Rattle.monk_world.specs.Places.{stage, ticket, chosen, due_to};
+ghost use Rattle.monk_world.specs.Places.{stage, ticket, back_turn, due_to, ticketed_stage, due_stage, active_stage, passing_stage, inside_stage};
 ghost use Rattle.monk_world.specs.declared.home.Home.TheVariants as home;
 ghost use Rattle.monk_history.specs.declared.event.Next.{Next};
 ghost use Rattle.monk_world.specs.declared.place.Place.TheVariants.{Idle, Back};
-ghost use Rattle.monk_hall.specs.Changes.{took, gave, home_at, handed_on};
+ghost use Rattle.monk_hall.specs.Changes.{record_after_floor_out, record_after_floor_in, home_at, record_after_grant};
 ghost use Rattle.monk_hall.specs.Floors.{Finds};
 ghost use Rattle.monk_hall.specs.Layout.{ticket_word, seat_word};
 ghost use Rattle.monk_hall.specs.Records.{IsOne, the};
-ghost use Rattle.monk_hall.specs.Tells.{Arrives, LooksForTicket, LooksForCall, Peeks, TakesOff, Returns, IsSized};
+ghost use Rattle.monk_hall.specs.Tells.{TellsArrive, TellsTicketLook, TellsSeatLook, TellsPeek, TellsDrop, Returns, IsSized};
 
 use crate::plays::{
-    Arrive, GiveFloor, HandOn, LookForCall, LookForTicket, Peek, TakeFloor, TakeOff,
+    ArriveStep, DropStep, FloorInStep, FloorOutStep, GrantStep, PeekStep, SeatLookStep,
+    TicketLookStep,
 };
-use crate::rule::{TableSeat, Words};
+use crate::rule::{SharedTable, TableSeat};
 use monk_floor::Floor;
 use monk_kinds::Kind;
 use monk_object::Guarded;
@@ -38,132 +39,141 @@ pub(crate) fn seat_word(seat: u8) -> usize
 }
 
 /// Step 1: draws a ticket. Gives the ticket word as it was.
-pub(crate) fn arrive<K: Kind, T: Guarded>(words: &Words<K, T>, seat: &mut TableSeat<K, T>) -> u64
+pub(crate) fn arrive<K: Kind, T: Guarded>(
+    words: &SharedTable<K, T>,
+    seat: &mut TableSeat<K, T>,
+) -> u64
     requires table { (seat.old.table_id ≡ words.now.table_id) × IsSized words.now.table_id words.now.key.seats }
     requires idle { IsOne seat.old.me.0 × ((the seat.old.me.0).place ≡ Idle) × (length (the seat.old.me.0).mine + 2 ≤ (the seat.old.me.0).setting.budget) }
     ensures table { (seat.new.table_id ≡ seat.old.table_id) × (seat.new.id ≡ seat.old.id) }
-    ensures step { Arrives seat.old.me result seat.new.me }
+    ensures step { TellsArrive seat.old.me result seat.new.me }
 {
-    words.fetch_add::<Arrive>(seat, 0, ARRIVAL)
+    words.fetch_add::<ArriveStep>(seat, 0, ARRIVAL)
 }
 
 /// Step 2: looks at the place of its ticket. Gives what it found there.
-pub(crate) fn look_for_ticket<K: Kind, T: Guarded>(
-    words: &Words<K, T>,
+pub(crate) fn ticket_look<K: Kind, T: Guarded>(
+    words: &SharedTable<K, T>,
     seat: &mut TableSeat<K, T>,
     seats: u8,
     number: u32,
 ) -> u64
     requires table { (seat.old.table_id ≡ words.now.table_id) × IsSized words.now.table_id words.now.key.seats × (seats ≡ words.now.key.seats) × (0 < seats) }
-    requires waits { IsOne seat.old.me.0 × (stage (the seat.old.me.0).place ≡ 1) × (number ≡ ticket (the seat.old.me.0).place) }
+    requires waits { IsOne seat.old.me.0 × (stage (the seat.old.me.0).place ≡ ticketed_stage) × (number ≡ ticket (the seat.old.me.0).place) }
     ensures table { (seat.new.table_id ≡ seat.old.table_id) × (seat.new.id ≡ seat.old.id) }
-    ensures step { LooksForTicket seat.old.me result seat.new.me }
+    ensures step { TellsTicketLook seat.old.me result seat.new.me }
 {
     let place = ticket_word(seats, number);
-    words.load::<LookForTicket>(seat, place)
+    words.load::<TicketLookStep>(seat, place)
 }
 
 /// Step 3: looks at its own place. Gives what it found there.
-pub(crate) fn look_for_call<K: Kind, T: Guarded>(
-    words: &Words<K, T>,
+pub(crate) fn seat_look<K: Kind, T: Guarded>(
+    words: &SharedTable<K, T>,
     seat: &mut TableSeat<K, T>,
     number: u8,
 ) -> u64
     requires table { (seat.old.table_id ≡ words.now.table_id) × IsSized words.now.table_id words.now.key.seats × (number < words.now.key.seats) }
-    requires parked { IsOne seat.old.me.0 × (stage (the seat.old.me.0).place ≡ 6) × (number ≡ (the seat.old.me.0).seat) }
+    requires parked { IsOne seat.old.me.0 × (stage (the seat.old.me.0).place ≡ inside_stage) × (number ≡ (the seat.old.me.0).seat) }
     ensures table { (seat.new.table_id ≡ seat.old.table_id) × (seat.new.id ≡ seat.old.id) }
-    ensures step { LooksForCall seat.old.me result seat.new.me }
+    ensures step { TellsSeatLook seat.old.me result seat.new.me }
 {
     let place = seat_word(number);
-    words.load::<LookForCall>(seat, place)
+    words.load::<SeatLookStep>(seat, place)
 }
 
 /// Step 4: looks at the ticket word while active. Gives what it found there.
-pub(crate) fn peek<K: Kind, T: Guarded>(words: &Words<K, T>, seat: &mut TableSeat<K, T>) -> u64
+pub(crate) fn peek<K: Kind, T: Guarded>(
+    words: &SharedTable<K, T>,
+    seat: &mut TableSeat<K, T>,
+) -> u64
     requires table { (seat.old.table_id ≡ words.now.table_id) × IsSized words.now.table_id words.now.key.seats }
-    requires active { IsOne seat.old.me.0 × (stage (the seat.old.me.0).place ≡ 3) }
+    requires active { IsOne seat.old.me.0 × (stage (the seat.old.me.0).place ≡ active_stage) }
     ensures table { (seat.new.table_id ≡ seat.old.table_id) × (seat.new.id ≡ seat.old.id) }
-    ensures step { Peeks seat.old.me result seat.new.me }
+    ensures step { TellsPeek seat.old.me result seat.new.me }
 {
-    words.load::<Peek>(seat, 0)
+    words.load::<PeekStep>(seat, 0)
 }
 
 /// Step 5, out: the floor comes to the seat that is due.
 pub(crate) fn floor_out<K: Kind, T: Guarded>(
-    words: &Words<K, T>,
+    words: &SharedTable<K, T>,
     seat: &mut TableSeat<K, T>,
 ) -> Floor<K, T>
     requires table { (seat.old.table_id ≡ words.now.table_id) × IsSized words.now.table_id words.now.key.seats }
-    requires due { IsOne seat.old.me.0 × (seat.old.me.1 ≡ []) × (stage (the seat.old.me.0).place ≡ 2) }
+    requires due { IsOne seat.old.me.0 × (seat.old.me.1 ≡ []) × (stage (the seat.old.me.0).place ≡ due_stage) }
     ensures table { (seat.new.table_id ≡ seat.old.table_id) × (seat.new.id ≡ seat.old.id) }
-    ensures seat { seat.new.me ≡ (took (the seat.old.me.0) result.history ∷ [], (0, None) ∷ []) }
+    ensures seat { seat.new.me ≡ (record_after_floor_out (the seat.old.me.0) result.history ∷ [], (0, None) ∷ []) }
     ensures finds { Finds K.rules T.meaning (the seat.old.me.0) result }
 {
-    words.load::<TakeFloor>(seat, 0);
+    words.load::<FloorOutStep>(seat, 0);
     words.exchange(seat, 0, None).unwrap()
 }
 
 /// Step 5, in: the active seat brings the floor home, with the release that it has recorded.
 pub(crate) fn floor_in<K: Kind, T: Guarded>(
-    words: &Words<K, T>,
+    words: &SharedTable<K, T>,
     seat: &mut TableSeat<K, T>,
     floor: Floor<K, T>,
 )
     requires table { (seat.old.table_id ≡ words.now.table_id) × IsSized words.now.table_id words.now.key.seats }
-    requires active { IsOne seat.old.me.0 × (seat.old.me.1 ≡ (0, None) ∷ []) × (stage (the seat.old.me.0).place ≡ 3) }
+    requires active { IsOne seat.old.me.0 × (seat.old.me.1 ≡ (0, None) ∷ []) × (stage (the seat.old.me.0).place ≡ active_stage) }
     requires returns { Returns K.rules T.meaning (the seat.old.me.0) floor }
     ensures table { (seat.new.table_id ≡ seat.old.table_id) × (seat.new.id ≡ seat.old.id) }
-    ensures step { seat.new.me ≡ (gave (the seat.old.me.0) floor.history ∷ [], []) }
+    ensures step { seat.new.me ≡ (record_after_floor_in (the seat.old.me.0) floor.history ∷ [], []) }
 {
     let spare = words.exchange(seat, 0, Some(floor));
     match spare {
         None => {}
         Some(_) => unreachable!(),
     }
-    words.load::<GiveFloor>(seat, 0);
+    words.load::<FloorInStep>(seat, 0);
 }
 
 /// Step 6: takes itself off the ticket word. Gives the word as it was.
-pub(crate) fn take_off<K: Kind, T: Guarded>(words: &Words<K, T>, seat: &mut TableSeat<K, T>) -> u64
+pub(crate) fn drop_ticket<K: Kind, T: Guarded>(
+    words: &SharedTable<K, T>,
+    seat: &mut TableSeat<K, T>,
+) -> u64
     requires table { (seat.old.table_id ≡ words.now.table_id) × IsSized words.now.table_id words.now.key.seats }
     requires back { IsOne seat.old.me.0 × ((the seat.old.me.0).place ≡ Back Next.Entry (home_at (the seat.old.me.0).place)) }
     ensures table { (seat.new.table_id ≡ seat.old.table_id) × (seat.new.id ≡ seat.old.id) }
-    ensures step { TakesOff seat.old.me result seat.new.me }
+    ensures step { TellsDrop seat.old.me result seat.new.me }
 {
-    words.fetch_sub::<TakeOff>(seat, 0, 1)
+    words.fetch_sub::<DropStep>(seat, 0, 1)
 }
 
 /// Step 7: grants the ticket that is next, in its place.
-pub(crate) fn grant_ticket<K: Kind, T: Guarded>(
-    words: &Words<K, T>,
+pub(crate) fn ticket_grant<K: Kind, T: Guarded>(
+    words: &SharedTable<K, T>,
     seat: &mut TableSeat<K, T>,
     seats: u8,
     number: u32,
 )
     requires table { (seat.old.table_id ≡ words.now.table_id) × IsSized words.now.table_id words.now.key.seats × (seats ≡ words.now.key.seats) × (0 < seats) }
-    requires passing { IsOne seat.old.me.0 × (stage (the seat.old.me.0).place ≡ 5) × (number ≡ ticket (the seat.old.me.0).place) }
+    requires passing { IsOne seat.old.me.0 × (stage (the seat.old.me.0).place ≡ passing_stage) × (number ≡ ticket (the seat.old.me.0).place) }
     ensures table { (seat.new.table_id ≡ seat.old.table_id) × (seat.new.id ≡ seat.old.id) }
-    ensures step { seat.new.me ≡ (handed_on (the seat.old.me.0) ∷ [], seat.old.me.1) }
+    ensures step { seat.new.me ≡ (record_after_grant (the seat.old.me.0) ∷ [], seat.old.me.1) }
 {
     let place = ticket_word(seats, number);
-    words.store::<HandOn>(seat, place, number as u64 + 1);
+    words.store::<GrantStep>(seat, place, number as u64 + 1);
     words.wake_one(place);
 }
 
 /// Step 8: calls the seat that it chose, in that seat's place, which from now on has `calls`: how many events have
 /// chosen that seat from a queue.
-pub(crate) fn call_seat<K: Kind, T: Guarded>(
-    words: &Words<K, T>,
+pub(crate) fn seat_grant<K: Kind, T: Guarded>(
+    words: &SharedTable<K, T>,
     seat: &mut TableSeat<K, T>,
     called: u8,
     calls: u32,
 )
     requires table { (seat.old.table_id ≡ words.now.table_id) × IsSized words.now.table_id words.now.key.seats × (called < words.now.key.seats) }
-    requires back { IsOne seat.old.me.0 × (chosen (the seat.old.me.0).place ≡ due_to called) × (calls ≡ granted_of (the seat.old.me.0).seen called) }
+    requires back { IsOne seat.old.me.0 × (back_turn (the seat.old.me.0).place ≡ due_to called) × (calls ≡ granted_of (the seat.old.me.0).seen called) }
     ensures table { (seat.new.table_id ≡ seat.old.table_id) × (seat.new.id ≡ seat.old.id) }
-    ensures step { seat.new.me ≡ (handed_on (the seat.old.me.0) ∷ [], seat.old.me.1) }
+    ensures step { seat.new.me ≡ (record_after_grant (the seat.old.me.0) ∷ [], seat.old.me.1) }
 {
     let place = seat_word(called);
-    words.store::<HandOn>(seat, place, calls as u64);
+    words.store::<GrantStep>(seat, place, calls as u64);
     words.wake_one(place);
 }

@@ -4,7 +4,7 @@ use Rattle.std.specs.Prelude.{nat_lt}
 use Rattle.std.proofs.lemmas.Bool.{eqb-true, ltb-true}
 use Rattle.monk_object.specs.Shop.{SIT, CALL, FINISH, DEPART, shop_meaning, shop_after, shop_reply, shop_serves, shop_served}
 use Rattle.monk_object.specs.Laws.{LosesNoCustomer}
-use Rattle.monk_object.specs.Runs.{Answered, state_after, answered, times_done}
+use Rattle.monk_object.specs.Runs.{Answered, state_after, answers_of, times_done}
 use Rattle.monk_object.specs.declared.op.Op.{Op}
 use Rattle.monk_object.proofs.Codes.{both, by_code, once, once-false, counted}
 
@@ -58,9 +58,9 @@ record Run (size sitting chair : ℕ) (start : List ℕ) (ops : List Op) : Type 
   chair_last : ℕ
   state : state_after shop_meaning start ops ≡ size ∷ sitting_last ∷ chair_last ∷ []
   within : sitting_last ≤ size
-  sat : times_done SIT (answered shop_meaning start ops) + sitting ≡ times_done CALL (answered shop_meaning start ops) + sitting_last
-  called : times_done CALL (answered shop_meaning start ops) + where_it_is 1 chair ≡ times_done FINISH (answered shop_meaning start ops) + where_it_is 1 chair_last
-  finished : times_done FINISH (answered shop_meaning start ops) + where_it_is 2 chair ≡ times_done DEPART (answered shop_meaning start ops) + where_it_is 2 chair_last
+  sat : times_done SIT (answers_of shop_meaning start ops) + sitting ≡ times_done CALL (answers_of shop_meaning start ops) + sitting_last
+  called : times_done CALL (answers_of shop_meaning start ops) + where_it_is 1 chair ≡ times_done FINISH (answers_of shop_meaning start ops) + where_it_is 1 chair_last
+  finished : times_done FINISH (answers_of shop_meaning start ops) + where_it_is 2 chair ≡ times_done DEPART (answers_of shop_meaning start ops) + where_it_is 2 chair_last
 
 run : (size sitting chair : ℕ) → sitting ≤ size → (ops : List Op) → Run size sitting chair (size ∷ sitting ∷ chair ∷ []) ops
 run size sitting chair within [] =
@@ -69,7 +69,7 @@ run size sitting chair within (op ∷ ops) =
     let s = step size sitting chair within op.code (shop_serves size sitting chair op.code) refl in
     let r = subst (λ start. Run size s.sitting_next s.chair_next start ops) (sym s.state) (run size s.sitting_next s.chair_next s.within ops) in
     let act : Answered = record { op = op; reply = shop_reply (size ∷ sitting ∷ chair ∷ []) op } in
-    let acts = answered shop_meaning (shop_after (size ∷ sitting ∷ chair ∷ []) op) ops in
+    let acts = answers_of shop_meaning (shop_after (size ∷ sitting ∷ chair ∷ []) op) ops in
     record {
       sitting_last = r.sitting_last;
       chair_last = r.chair_last;

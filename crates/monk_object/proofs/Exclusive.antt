@@ -4,7 +4,7 @@ use Rattle.std.specs.Prelude.{nat_lt}
 use Rattle.std.proofs.lemmas.Bool.{eqb-true, ltb-true}
 use Rattle.monk_object.specs.Book.{START_READ, END_READ, START_WRITE, END_WRITE, book_meaning, book_after, book_reply, book_serves, book_served}
 use Rattle.monk_object.specs.Laws.{IsExclusive}
-use Rattle.monk_object.specs.Runs.{Answered, state_after, answered, times_done}
+use Rattle.monk_object.specs.Runs.{Answered, state_after, answers_of, times_done}
 use Rattle.monk_object.specs.declared.op.Op.{Op}
 use Rattle.monk_object.proofs.Codes.{both, by_code, once, once-false, counted}
 
@@ -72,8 +72,8 @@ record Run (size readers writers : ℕ) (start : List ℕ) (ops : List Op) : Typ
   within : readers_last ≤ size
   one_writer : writers_last ≤ 1
   alone : (readers_last ≡ 0) ⊎ (writers_last ≡ 0)
-  reads : times_done START_READ (answered book_meaning start ops) + readers ≡ times_done END_READ (answered book_meaning start ops) + readers_last
-  writes : times_done START_WRITE (answered book_meaning start ops) + writers ≡ times_done END_WRITE (answered book_meaning start ops) + writers_last
+  reads : times_done START_READ (answers_of book_meaning start ops) + readers ≡ times_done END_READ (answers_of book_meaning start ops) + readers_last
+  writes : times_done START_WRITE (answers_of book_meaning start ops) + writers ≡ times_done END_WRITE (answers_of book_meaning start ops) + writers_last
 
 run : (size readers writers : ℕ) → readers ≤ size → writers ≤ 1 → (readers ≡ 0) ⊎ (writers ≡ 0) → (ops : List Op)
     → Run size readers writers (size ∷ readers ∷ writers ∷ []) ops
@@ -83,7 +83,7 @@ run size readers writers within one alone (op ∷ ops) =
     let s = step size readers writers within one alone op.code (book_serves size readers writers op.code) refl in
     let r = subst (λ start. Run size s.readers_next s.writers_next start ops) (sym s.state) (run size s.readers_next s.writers_next s.within s.one_writer s.alone ops) in
     let act : Answered = record { op = op; reply = book_reply (size ∷ readers ∷ writers ∷ []) op } in
-    let acts = answered book_meaning (book_after (size ∷ readers ∷ writers ∷ []) op) ops in
+    let acts = answers_of book_meaning (book_after (size ∷ readers ∷ writers ∷ []) op) ops in
     record {
       readers_last = r.readers_last;
       writers_last = r.writers_last;

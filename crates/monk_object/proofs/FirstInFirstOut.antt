@@ -3,14 +3,14 @@ use Rattle.std.proofs.Common.{◌≡◌, ℕ, ◌+◌, ◌-◌, ◌<◌, ◌≤�
 use Rattle.std.specs.Prelude.{nat_lt, filter}
 use Rattle.std.proofs.lemmas.Bool.{eqb-true, ne_eqb, lt-ltb}
 use Rattle.std.proofs.lemmas.List.{append-nil}
-use Rattle.monk_object.specs.Buffer.{PUT, TAKE, buffer_meaning, items_after, items_reply, taken}
+use Rattle.monk_object.specs.Buffer.{PUT, TAKE, buffer_meaning, items_after, items_reply, take_reply}
 use Rattle.monk_object.specs.Laws.{IsFirstInFirstOut, items_put, items_taken}
-use Rattle.monk_object.specs.Runs.{Answered, state_after, answered, is_done}
+use Rattle.monk_object.specs.Runs.{Answered, state_after, answers_of, is_done}
 use Rattle.monk_object.specs.declared.op.Op.{Op}
 
 -- of tests for a put, for a take and for room: the reply, the items after, the items that were put and taken
 abbrev reply_by : Bool → Bool → Bool → List ℕ → ℕ
-reply_by put take room items = cond put (cond room 1 0) (cond take (taken items) 0)
+reply_by put take room items = cond put (cond room 1 0) (cond take (take_reply items) 0)
 
 abbrev after_by : Bool → Bool → Bool → List ℕ → ℕ → List ℕ
 after_by put take room items arg = cond put (cond room (items ++ arg ∷ []) items) (cond take (drop 1 items) items)
@@ -53,7 +53,7 @@ not_both code e = ne_eqb code TAKE (λ h. let z : code ≡ 0 = eqb-true code 0 e
 record Run (size : ℕ) (items : List ℕ) (ops : List Op) : Type 0 where
   left : List ℕ
   state : state_after buffer_meaning (size ∷ items) ops ≡ size ∷ left
-  in_order : items ++ items_put (answered buffer_meaning (size ∷ items) ops) ≡ items_taken (answered buffer_meaning (size ∷ items) ops) ++ left
+  in_order : items ++ items_put (answers_of buffer_meaning (size ∷ items) ops) ≡ items_taken (answers_of buffer_meaning (size ∷ items) ops) ++ left
   within : length left ≤ size
 
 run : (size : ℕ) (items : List ℕ) (ops : List Op) → length items ≤ size → Run size items ops
@@ -66,7 +66,7 @@ run size items (op ∷ ops) fits =
     let next = items_after size items op in
     let rest = run size next ops (fits_by size put take room items op.arg fits (λ h. grind (arith, h))) in
     let act : Answered = record { op = op; reply = reply } in
-    let acts = answered buffer_meaning (size ∷ next) ops in
+    let acts = answers_of buffer_meaning (size ∷ next) ops in
     record {
       left = rest.left;
       state = rest.state;

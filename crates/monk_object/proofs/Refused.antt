@@ -1,7 +1,7 @@
 -- An operation that is answered 0 changes nothing
 use Rattle.std.proofs.Common.{◌≡◌, ℕ, ◌==◌, Bool, true, false, cond, List, [], ◌∷◌, ◌++◌, length, drop, refl, ap, arith}
 use Rattle.std.specs.Prelude.{nat_lt}
-use Rattle.monk_object.specs.Buffer.{PUT, TAKE, taken}
+use Rattle.monk_object.specs.Buffer.{PUT, TAKE, take_reply}
 use Rattle.monk_object.specs.Book.{book_serves, book_served}
 use Rattle.monk_object.specs.Shop.{shop_serves, shop_served}
 use Rattle.monk_object.specs.Laws.{IsUnchangedByRefusal}
@@ -9,7 +9,7 @@ use Rattle.monk_object.specs.declared.name.ObjectName.{ObjectName}
 use Rattle.monk_object.specs.declared.name.ObjectName.TheVariants.{Buffer, Book, Shop}
 use Rattle.monk_object.specs.declared.op.Op.{Op}
 
-items_stay : (put take room : Bool) (items : List ℕ) (arg : ℕ) → ◌≡◌ {A = ℕ} (cond put (cond room 1 0) (cond take (taken items) 0)) 0
+items_stay : (put take room : Bool) (items : List ℕ) (arg : ℕ) → ◌≡◌ {A = ℕ} (cond put (cond room 1 0) (cond take (take_reply items) 0)) 0
     → cond put (cond room (items ++ arg ∷ []) items) (cond take (drop 1 items) items) ≡ items
 items_stay true take true items arg e = absurd (omega (arith, e))
 items_stay true take false items arg e = refl

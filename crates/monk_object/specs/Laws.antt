@@ -4,7 +4,7 @@ use Rattle.monk_object.specs.Buffer.{PUT, TAKE}
 use Rattle.monk_object.specs.Book.{START_READ, END_READ, START_WRITE, END_WRITE}
 use Rattle.monk_object.specs.Shop.{SIT, CALL, FINISH, DEPART}
 use Rattle.monk_object.specs.Names.{meaning_named, opening_named}
-use Rattle.monk_object.specs.Runs.{Answered, state_after, answered, is_done, times_done}
+use Rattle.monk_object.specs.Runs.{Answered, state_after, answers_of, is_done, times_done}
 use Rattle.monk_object.specs.declared.name.ObjectName.{ObjectName}
 use Rattle.monk_object.specs.declared.name.ObjectName.TheVariants.{Buffer, Book, Shop}
 use Rattle.monk_object.specs.declared.op.Op.{Op}
@@ -14,7 +14,7 @@ abbrev pub state_of : ObjectName → ℕ → List Op → List ℕ
 state_of o size ops = state_after (meaning_named o) (opening_named o size) ops
 
 abbrev pub acts_of : ObjectName → ℕ → List Op → List Answered
-acts_of o size ops = answered (meaning_named o) (opening_named o size) ops
+acts_of o size ops = answers_of (meaning_named o) (opening_named o size) ops
 
 abbrev pub items_put : List Answered → List ℕ
 items_put acts = map (λ act. act.op.arg) (filter (is_done PUT) acts)

@@ -14,9 +14,9 @@ abbrev pub state_after : Object → List ℕ → List Op → List ℕ
 state_after o state ops = fold o.after state ops
 
 -- from a state, the operations with their replies
-abbrev pub answered : Object → List ℕ → List Op → List Answered
-answered o state [] = []
-answered o state (op ∷ ops) = record { op = op; reply = o.reply state op } ∷ answered o (o.after state op) ops
+abbrev pub answers_of : Object → List ℕ → List Op → List Answered
+answers_of o state [] = []
+answers_of o state (op ∷ ops) = record { op = op; reply = o.reply state op } ∷ answers_of o (o.after state op) ops
 
 -- it is of that code and was done
 abbrev pub is_done : ℕ → Answered → Bool

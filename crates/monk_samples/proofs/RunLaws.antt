@@ -8,7 +8,7 @@ use Rattle.monk_kinds.specs.declared.mode.Rules.{Rules}
 use Rattle.monk_kinds.specs.declared.mode.Mode.{Mode}
 use Rattle.monk_kinds.specs.declared.mode.Mode.TheVariants.{Blocking, NonBlocking, QuasiBlocking, ImmediateReturn, Automatic}
 use Rattle.monk_history.specs.Meaning.Events.{has_conditions}
-use Rattle.monk_hall.specs.Records.{fresh_from}
+use Rattle.monk_hall.specs.Records.{opening_records}
 use Rattle.monk_hall.specs.Tokens.{House, Token, Holder, tokens}
 use Rattle.monk_hall.specs.declared.setting.Setting.{Setting}
 use Rattle.monk_kinds.specs.Names.{rules_named}
@@ -58,12 +58,12 @@ offers_all k = by_mode k.mode
     by_mode ImmediateReturn e = omega arith
     by_mode Automatic e = absurd (false≢true e)
 
-ready_from : (k : Rules) (z : TableId) (c : Setting) → Offers k c.conds 3 → (n i : ℕ) → AreReady k (record { id = z; setting = c }) (tokens z (fresh_from c n i))
+ready_from : (k : Rules) (z : TableId) (c : Setting) → Offers k c.conds 3 → (n i : ℕ) → AreReady k (record { id = z; setting = c }) (tokens z (opening_records c n i))
 ready_from k z c o zero i = All-nil (IsReady k (record { id = z; setting = c }))
 ready_from k z c o (suc n) i = All-cons (IsReady k (record { id = z; setting = c })) _ _ ((refl, refl), o) (ready_from k z c o n (suc i))
 
 -- the passes of a hall with a run's conditions
-pub passes_ready : (k : Rules) (h : House) (ps : List Token) → h.setting.conds ≡ conds_of k → ps ≡ tokens h.id (fresh_from h.setting h.setting.seats 0) → AreReady k h ps
+pub passes_ready : (k : Rules) (h : House) (ps : List Token) → h.setting.conds ≡ conds_of k → ps ≡ tokens h.id (opening_records h.setting h.setting.seats 0) → AreReady k h ps
 passes_ready k h ps conds e =
     All-same (IsReady k h) ps _ e (ready_from k h.id h.setting (subst (λ (n : ℕ). Offers k n 3) (sym conds) (offers_all k)) h.setting.seats 0)
 

@@ -1,12 +1,12 @@
 -- The passes of a hall are its seats
 use Rattle.std.proofs.Common.{◌≡◌, ℕ, zero, suc, List, [], ◌∷◌, ◌++◌}
 use Rattle.atomic_table.specs.Seated.{TableId}
-use Rattle.monk_hall.specs.Records.{fresh_from}
+use Rattle.monk_hall.specs.Records.{opening_records}
 use Rattle.monk_hall.specs.Tokens.{Token, tokens}
 use Rattle.monk_hall.specs.declared.setting.Setting.{Setting}
 use Rattle.monk_samples.specs.Tests.{IsSeat, AreSeats}
 
-pub tokens_are_seats : (z : TableId) (c : Setting) (n i : ℕ) → c.conds ≡ 3 → AreSeats z (tokens z (fresh_from c n i))
+pub tokens_are_seats : (z : TableId) (c : Setting) (n i : ℕ) → c.conds ≡ 3 → AreSeats z (tokens z (opening_records c n i))
 tokens_are_seats z c zero i e = tt
 tokens_are_seats z c (suc n) i e = ((Rattle.std.proofs.Common.refl, e), tokens_are_seats z c n (suc i) e)
 

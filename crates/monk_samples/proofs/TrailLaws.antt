@@ -23,7 +23,7 @@ use Rattle.monk_world.specs.StepTable.{out_event}
 use Rattle.monk_world.specs.declared.home.Home.{Home}
 use Rattle.monk_world.specs.declared.source.Source.{Source}
 use Rattle.monk_world.specs.declared.source.Source.TheVariants.{Free, Granted, Called}
-use Rattle.monk_hall.specs.Calls.{Entered, Released, Stayed, HasDone, came_by}
+use Rattle.monk_hall.specs.Calls.{HasEntered, HasReleased, HasStayed, HasDone, source_from}
 use Rattle.monk_hall.specs.Floors.{StartsWith}
 use Rattle.monk_hall.specs.Tokens.{Token, Holder}
 use Rattle.monk_samples.specs.Trails.{Trail, Went, HasCalled, HasActed, call_of, calls_in, inside, outside}
@@ -95,8 +95,8 @@ next_calls x (Resume s q) = refl
 
 module _ (k : Rules) (o : Object) where
   -- to come in is no call
-  pub came : (p : Token) (a : Holder) → Entered k o p a → HasCalled (outside p) (inside a) []
-  came p a e = let own = out_event p.me.seat (came_by p.me.place) (turn a.me.seen) ∷ [] in record {
+  pub came : (p : Token) (a : Holder) → HasEntered k o p a → HasCalled (outside p) (inside a) []
+  came p a e = let own = out_event p.me.seat (source_from p.me.place) (turn a.me.seen) ∷ [] in record {
     own = own;
     went = record {
       hall = e.hall;
@@ -105,18 +105,18 @@ module _ (k : Rules) (o : Object) where
       seen = starts_then p.me.seen a.me.seen a.floor.history e.starts (own, ap (λ f. f.history) e.floor);
       mine = e.mine;
     };
-    called = out_calls p.me.seat (came_by p.me.place) (turn a.me.seen);
+    called = out_calls p.me.seat (source_from p.me.place) (turn a.me.seen);
   }
 
   -- a release is its call
-  pub released : (a : Holder) (call : Event) (wish : Pick) (to : Home) (peeks : ℕ) (p : Token) → Released k o a call wish to peeks p → HasCalled (inside a) (outside p) (call_of call ++ [])
+  pub released : (a : Holder) (call : Event) (wish : Pick) (to : Home) (peeks : ℕ) (p : Token) → HasReleased k o a call wish to peeks p → HasCalled (inside a) (outside p) (call_of call ++ [])
   released a call wish to peeks p r = record {
     own = with_next r.choice call ∷ [];
     went = record { hall = r.hall; seat = r.seat; setting = r.setting; seen = (with_next r.choice call ∷ [], r.seen); mine = r.mine };
     called = next_calls r.choice call;
   }
 
-  pub stayed : (a : Holder) (call : Event) (wish : Pick) (peeks : ℕ) (b : Holder) → Stayed k o a call wish peeks b → HasCalled (inside a) (inside b) (call_of call ++ [])
+  pub stayed : (a : Holder) (call : Event) (wish : Pick) (peeks : ℕ) (b : Holder) → HasStayed k o a call wish peeks b → HasCalled (inside a) (inside b) (call_of call ++ [])
   stayed a call wish peeks b s = let own = with_next Stay call ∷ [] in record {
     own = own;
     went = record { hall = ap (λ h. h.hall) s.is; seat = ap (λ h. h.me.seat) s.is; setting = ap (λ h. h.me.setting) s.is; seen = (own, ap (λ h. h.floor.history) s.is); mine = ap (λ h. h.me.mine) s.is };

@@ -10,7 +10,7 @@ use Rattle.monk_history.specs.declared.event.Event.{Event}
 use Rattle.monk_history.specs.declared.event.Event.TheVariants.{Leave, Wait, Signal, SignalLeave, Until}
 use Rattle.monk_history.specs.declared.event.Next.TheVariants.{Stay}
 use Rattle.monk_world.specs.declared.home.Home.{Home}
-use Rattle.monk_hall.specs.Calls.{Released}
+use Rattle.monk_hall.specs.Calls.{HasReleased}
 use Rattle.monk_hall.specs.Tokens.{Token, Holder, IsTold}
 use Rattle.monk_samples.specs.Styles.{HasFinished, HasGivenUp, HasPaused, IsSpent, pause_call, way_out}
 use Rattle.monk_samples.specs.Trails.{Trail, HasActed, HasCalled, inside, outside}
@@ -90,7 +90,7 @@ module _ (k : Rules) (o : Object) where
   }
 
   -- a visit that did its duties and left
-  pub visited_left : (p : Token) (a : Holder) (wish : Pick) (to : Home) (peeks : ℕ) (q : Token) (ts : List Duty) (acts : List Answered) → HasActed (outside p) (inside a) acts → AreActsOf ts acts → Released k o a (Leave a.me.seat Stay) wish to peeks q → HasVisited k o p ts q Done
+  pub visited_left : (p : Token) (a : Holder) (wish : Pick) (to : Home) (peeks : ℕ) (q : Token) (ts : List Duty) (acts : List Answered) → HasActed (outside p) (inside a) acts → AreActsOf ts acts → HasReleased k o a (Leave a.me.seat Stay) wish to peeks q → HasVisited k o p ts q Done
   visited_left p a wish to peeks q ts acts s made r = record {
     acts = acts;
     acted = then_nothing (outside p) (inside a) (outside q) acts s (acted_by (inside a) (outside q) (Leave a.me.seat Stay ∷ []) (released k o a (Leave a.me.seat Stay) wish to peeks q r));

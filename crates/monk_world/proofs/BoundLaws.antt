@@ -10,7 +10,7 @@ use Rattle.monk_history.specs.declared.event.Event.{Event}
 use Rattle.monk_history.proofs.MeaningLaws.CountLaws.{total, total_le, length_total, length-events_of, length-events_of-push}
 use Rattle.monk_world.specs.Kept.{comes_in, comes_back, sum_below, IsBounded}
 use Rattle.monk_world.specs.Put.{put}
-use Rattle.monk_world.specs.State.{State, grown}
+use Rattle.monk_world.specs.State.{State, with_event}
 use Rattle.monk_world.specs.World.{World}
 use Rattle.monk_world.specs.declared.place.Place.{Place}
 use Rattle.monk_world.specs.declared.place.Place.TheVariants.{Idle, Ticket, Due, Active, Back, Passing, Inner}
@@ -116,7 +116,7 @@ module _ (s : State) (b : IsBounded s) where
       → (e : Event) → seat_of e ≡ i → 1 ≤ left_of s.floor.budget s.floor.history i
       → w.drawn + comes_in (s.world.place i) ≤ s.world.drawn + comes_in p + 1
       → ((j : ℕ) → w.count j ≤ length (events_of (s.floor.history ++ e ∷ []) j) + comes_back (w.place j))
-      → IsBounded (record { world = w; known = known; floor = grown s.floor e })
+      → IsBounded (record { world = w; known = known; floor = with_event s.floor e })
   bounded_floor i near w known p is e seat left drawn counted = record {
     few = b.few;
     low = b.low;

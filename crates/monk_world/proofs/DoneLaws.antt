@@ -20,8 +20,8 @@ use Rattle.monk_world.specs.Kept.{comes_in, comes_back, IsBounded, IsKept}
 use Rattle.monk_world.specs.Places.{place_of}
 use Rattle.monk_world.specs.Put.{put}
 use Rattle.monk_world.specs.Sound.{IsSound, left_at}
-use Rattle.monk_world.specs.State.{State, grown}
-use Rattle.monk_world.specs.Steps.{arrived, looked, answered, counted, dropped, after_arrival, after_ticket_look, after_seat_look, after_out, after_in, after_drop, after_ticket_grant, after_seat_grant}
+use Rattle.monk_world.specs.State.{State, with_event}
+use Rattle.monk_world.specs.Steps.{place_after_arrive, place_after_ticket_look, place_after_seat_look, count_after_seat_look, place_after_drop, after_arrive, after_ticket_look, after_seat_look, after_floor_out, after_floor_in, after_drop, after_ticket_grant, after_seat_grant}
 use Rattle.monk_world.specs.StepTable.{call_of, is_call_in_range, is_call_offered, may_be_told, left_for, refusal, release_next, out_event, IsDone, IsAnswered}
 use Rattle.monk_world.specs.declared.answer.Answer.{Answer}
 use Rattle.monk_world.specs.declared.answer.Answer.TheVariants as answer
@@ -86,11 +86,11 @@ arrives_in : (b : Bool) (t : ℕ) → comes_in (cond b (Due (Free t)) (Ticket t)
 arrives_in true t = refl
 arrives_in false t = refl
 
-looks_in : (b : Bool) (t : ℕ) → comes_in (looked t b) ≡ 1
+looks_in : (b : Bool) (t : ℕ) → comes_in (place_after_ticket_look t b) ≡ 1
 looks_in true t = refl
 looks_in false t = refl
 
-looks_back : (b : Bool) (n m : ℕ) → n ≤ m → counted n b ≤ m + comes_back (answered b)
+looks_back : (b : Bool) (n m : ℕ) → n ≤ m → count_after_seat_look n b ≤ m + comes_back (place_after_seat_look b)
 looks_back true n m l = omega (arith, l)
 looks_back false n m l = omega (arith, l)
 
@@ -100,38 +100,38 @@ out_seat i (Granted t) u = refl
 out_seat i Called u = refl
 
 module _ (k : Rules) (o : Object) (s : State) (right : ℕ) (owner : ℕ → ℕ) (h : IsSound k o s right owner) (b : IsBounded s) (i : ℕ) (near : i < s.floor.seats) where
-  stays_bounded : (e : Event) → seat_of e ≡ i → 1 ≤ left_of s.floor.budget s.floor.history i → IsBounded (record s { floor = grown s.floor e })
+  stays_bounded : (e : Event) → seat_of e ≡ i → 1 ≤ left_of s.floor.budget s.floor.history i → IsBounded (record s { floor = with_event s.floor e })
   stays_bounded e seat left =
       bounded_floor s b i near s.world s.known (s.world.place i) (sym (put_same s.world.place i (s.world.place i) refl)) e seat left (omega arith)
       (λ j. omega (arith, b.counted j, no_less s b e j))
 
   released : (e : Event) → seat_of e ≡ i → 1 ≤ left_of s.floor.budget s.floor.history i → (q : Source) → s.world.place i ≡ Active q → (x : Next) (to : Home) (stay : Bool)
-      → IsBounded (record s { world = cond stay s.world (after_in s.world i x to); floor = grown s.floor e })
+      → IsBounded (record s { world = cond stay s.world (after_floor_in s.world i x to); floor = with_event s.floor e })
   released e seat left q at x to true = stays_bounded e seat left
   released e seat left q at x to false =
-      bounded_floor s b i near (after_in s.world i x to) s.known (Back x to) refl e seat left (omega (arith, ap comes_in at)) (count_grows s b i (Back x to) e seat)
+      bounded_floor s b i near (after_floor_in s.world i x to) s.known (Back x to) refl e seat left (omega (arith, ap comes_in at)) (count_grows s b i (Back x to) e seat)
 
   bounded_done : (c : Command) (a : Answer) (t : State) (p : Place) → s.world.place i ≡ p → left_for c ≤ left_of s.floor.budget s.floor.history i → IsDone k o s i p c a t → IsBounded t
   bounded_done command.Arrive a t Idle at left d =
-      subst IsBounded (sym d.1) (bounded_words s b i near (after_arrival s.world i) s.known (arrived s.world.drawn s.world.unpassed) refl
-      (omega (arith, ap comes_in at, arrives_in (s.world.unpassed == 0) s.world.drawn)) (count_stays s b i (arrived s.world.drawn s.world.unpassed) (ap comes_back at)))
+      subst IsBounded (sym d.1) (bounded_words s b i near (after_arrive s.world i) s.known (place_after_arrive s.world.drawn s.world.unpassed) refl
+      (omega (arith, ap comes_in at, arrives_in (s.world.unpassed == 0) s.world.drawn)) (count_stays s b i (place_after_arrive s.world.drawn s.world.unpassed) (ap comes_back at)))
   bounded_done command.Look a t (Ticket n) at left d =
       let found = s.world.ticket_place (n % s.floor.seats) == n + 1 in
-      subst IsBounded (sym d.1) (bounded_words s b i near (after_ticket_look s.world i n found) s.known (looked n found) refl
-      (omega (arith, ap comes_in at, looks_in found n)) (count_stays s b i (looked n found) (ap comes_back at)))
+      subst IsBounded (sym d.1) (bounded_words s b i near (after_ticket_look s.world i n found) s.known (place_after_ticket_look n found) refl
+      (omega (arith, ap comes_in at, looks_in found n)) (count_stays s b i (place_after_ticket_look n found) (ap comes_back at)))
   bounded_done command.Look a t Inner at left d =
       let found = s.world.seat_place i == s.world.count i + 1 in
-      subst IsBounded (sym d.1) (bounded_words s b i near (after_seat_look s.world i found) s.known (answered found) refl
-      (omega (arith, ap comes_in at)) (count_looks s b i (counted (s.world.count i) found) (answered found) (looks_back found (s.world.count i) (length (events_of s.floor.history i)) (omega (arith, b.counted i, ap comes_back at)))))
+      subst IsBounded (sym d.1) (bounded_words s b i near (after_seat_look s.world i found) s.known (place_after_seat_look found) refl
+      (omega (arith, ap comes_in at)) (count_looks s b i (count_after_seat_look (s.world.count i) found) (place_after_seat_look found) (looks_back found (s.world.count i) (length (events_of s.floor.history i)) (omega (arith, b.counted i, ap comes_back at)))))
   bounded_done command.Out a t (Due q) at left d =
       let e = out_event i q (turn s.floor.history) in
-      subst IsBounded (sym d.1) (bounded_floor s b i near (after_out s.world i q) (put s.known i false) (Active q) refl e (out_seat i q (turn s.floor.history))
+      subst IsBounded (sym d.1) (bounded_floor s b i near (after_floor_out s.world i q) (put s.known i false) (Active q) refl e (out_seat i q (turn s.floor.history))
       (omega (arith, h.left i, ap left_at at)) (omega (arith, ap comes_in at)) (count_grows s b i (Active q) e (out_seat i q (turn s.floor.history))))
   bounded_done command.Peek a t Idle at left d = subst IsBounded (sym d.1) b
   bounded_done command.Peek a t (Active q) at left d = subst IsBounded (sym d.1) (record { few = b.few; low = b.low; within = b.within; outside = b.outside; drawn = b.drawn; counted = b.counted })
   bounded_done command.Drop a t (Back next.Entry to) at left d =
-      subst IsBounded (sym d.1) (bounded_words s b i near (after_drop s.world i to) s.known (dropped s.world.drawn s.world.unpassed to) refl
-      (omega (arith, ap comes_in at)) (count_stays s b i (dropped s.world.drawn s.world.unpassed to) (ap comes_back at)))
+      subst IsBounded (sym d.1) (bounded_words s b i near (after_drop s.world i to) s.known (place_after_drop s.world.drawn s.world.unpassed to) refl
+      (omega (arith, ap comes_in at)) (count_stays s b i (place_after_drop s.world.drawn s.world.unpassed to) (ap comes_back at)))
   bounded_done command.Grant a t (Back (next.Waiter j) to) at left d =
       subst IsBounded (sym d.1) (bounded_words s b i near (after_seat_grant s.world i j to) s.known (place_of to) refl (omega (arith, ap comes_in at)) (count_stays s b i (place_of to) (ap comes_back at)))
   bounded_done command.Grant a t (Back (next.Signaller j) to) at left d =

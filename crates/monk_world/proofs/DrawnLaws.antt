@@ -18,7 +18,7 @@ use Rattle.monk_world.specs.Put.{put}
 use Rattle.monk_world.specs.Records.{Recorded, EntersWith, IsTaken, IsRecorded, HasDrawn, TicketsEnterInOrder}
 use Rattle.monk_world.specs.Runs.{opening_state}
 use Rattle.monk_world.specs.State.{State}
-use Rattle.monk_world.specs.Steps.{arrived, looked, answered, dropped, after_in}
+use Rattle.monk_world.specs.Steps.{place_after_arrive, place_after_ticket_look, place_after_seat_look, place_after_drop, after_floor_in}
 use Rattle.monk_world.specs.StepTable.{call_of, is_call_in_range, is_call_offered, may_be_told, left_for, IsDone, IsAnswered, IsStep}
 use Rattle.monk_world.specs.World.{World}
 use Rattle.monk_world.specs.declared.answer.Answer.{Answer}
@@ -65,25 +65,25 @@ no_ticket_home : (n : ℕ) (to : Home) → HasTicket n (place_of to) → ⊥
 no_ticket_home n home.Idle e = e
 no_ticket_home n home.Inner e = e
 
-no_ticket_dropped : (n t m : ℕ) (to : Home) → HasTicket n (dropped t m to) → ⊥
+no_ticket_dropped : (n t m : ℕ) (to : Home) → HasTicket n (place_after_drop t m to) → ⊥
 no_ticket_dropped n t m to = by (m == 1)
   where
     by : (b : Bool) → HasTicket n (cond b (place_of to) (Passing (t - m + 1) to)) → ⊥
     by true e = no_ticket_home n to e
     by false e = e
 
-drawn_at : (n t m : ℕ) → HasTicket n (arrived t m) → t ≡ n
+drawn_at : (n t m : ℕ) → HasTicket n (place_after_arrive t m) → t ≡ n
 drawn_at n t m = by (m == 0)
   where
     by : (b : Bool) → HasTicket n (cond b (Due (Free t)) (Ticket t)) → t ≡ n
     by true e = e
     by false e = e
 
-looked_at : (n t : ℕ) (found : Bool) → HasTicket n (looked t found) → t ≡ n
+looked_at : (n t : ℕ) (found : Bool) → HasTicket n (place_after_ticket_look t found) → t ≡ n
 looked_at n t true e = e
 looked_at n t false e = e
 
-no_ticket_called : (n : ℕ) (found : Bool) → HasTicket n (answered found) → ⊥
+no_ticket_called : (n : ℕ) (found : Bool) → HasTicket n (place_after_seat_look found) → ⊥
 no_ticket_called n true e = e
 no_ticket_called n false e = e
 
@@ -102,25 +102,25 @@ module _ (k : Rules) (o : Object) (s : State) (i j n : ℕ) where
   unmoved a t is has = inl (subst (λ (w : World). HasTicket n (w.place j)) is has)
 
   -- a call that releases
-  released : (a : Answer) (t : State) (x : Next) (to : Home) → t.world ≡ (if is_stay (Some x) then s.world else after_in s.world i x to) → HasTicket n (t.world.place j) → Before a
+  released : (a : Answer) (t : State) (x : Next) (to : Home) → t.world ≡ (if is_stay (Some x) then s.world else after_floor_in s.world i x to) → HasTicket n (t.world.place j) → Before a
   released a t x to is has = by (is_stay (Some x)) is
     where
-      by : (b : Bool) → t.world ≡ cond b s.world (after_in s.world i x to) → Before a
+      by : (b : Bool) → t.world ≡ cond b s.world (after_floor_in s.world i x to) → Before a
       by true e = unmoved a t e has
       by false e = moved a t (Back x to) (ap (λ (w : World). w.place) e) (λ h e. absurd h) has
 
   done : (c : Command) (a : Answer) (t : State) (p : Place) → s.world.place i ≡ p → IsDone k o s i p c a t → HasTicket n (t.world.place j) → Before a
   done command.Arrive a t Idle at d =
-      moved a t (arrived s.world.drawn s.world.unpassed) (ap (λ (u : State). u.world.place) d.1)
+      moved a t (place_after_arrive s.world.drawn s.world.unpassed) (ap (λ (u : State). u.world.place) d.1)
       (λ h e. inr (e, (s.world.unpassed, d.0 ∙ ap (λ (m : ℕ). answer.Arrived m s.world.unpassed) (drawn_at n s.world.drawn s.world.unpassed h))))
   done command.Look a t (Ticket m) at d =
-      moved a t (looked m _) (ap (λ (u : State). u.world.place) d.1)
+      moved a t (place_after_ticket_look m _) (ap (λ (u : State). u.world.place) d.1)
       (λ h e. inl (subst (λ (z : ℕ). HasTicket n (s.world.place z)) e (subst (HasTicket n) (sym at) (looked_at n m _ h))))
-  done command.Look a t Inner at d = moved a t (answered _) (ap (λ (u : State). u.world.place) d.1) (λ h e. absurd (no_ticket_called n _ h))
+  done command.Look a t Inner at d = moved a t (place_after_seat_look _) (ap (λ (u : State). u.world.place) d.1) (λ h e. absurd (no_ticket_called n _ h))
   done command.Out a t (Due q) at d = moved a t (Active q) (ap (λ (u : State). u.world.place) d.1) (λ h e. absurd h)
   done command.Peek a t Idle at d = unmoved a t (ap (λ (u : State). u.world) d.1)
   done command.Peek a t (Active q) at d = unmoved a t (ap (λ (u : State). u.world) d.1)
-  done command.Drop a t (Back next.Entry to) at d = moved a t (dropped s.world.drawn s.world.unpassed to) (ap (λ (u : State). u.world.place) d.1) (λ h e. absurd (no_ticket_dropped n _ _ to h))
+  done command.Drop a t (Back next.Entry to) at d = moved a t (place_after_drop s.world.drawn s.world.unpassed to) (ap (λ (u : State). u.world.place) d.1) (λ h e. absurd (no_ticket_dropped n _ _ to h))
   done command.Grant a t (Back (next.Waiter m) to) at d = moved a t (place_of to) (ap (λ (u : State). u.world.place) d.1) (λ h e. absurd (no_ticket_home n to h))
   done command.Grant a t (Back (next.Signaller m) to) at d = moved a t (place_of to) (ap (λ (u : State). u.world.place) d.1) (λ h e. absurd (no_ticket_home n to h))
   done command.Grant a t (Back (next.Until m) to) at d = moved a t (place_of to) (ap (λ (u : State). u.world.place) d.1) (λ h e. absurd (no_ticket_home n to h))

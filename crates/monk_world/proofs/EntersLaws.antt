@@ -6,7 +6,7 @@ use Rattle.monk_world.specs.Enters.{FitsEnters, used_at, used_by}
 use Rattle.monk_world.specs.Places.{stage, place_of}
 use Rattle.monk_world.specs.Put.{put}
 use Rattle.monk_world.specs.Right.{KeepsRight, nowhere, granted, with_seat, called}
-use Rattle.monk_world.specs.Steps.{after_out, after_in, after_ticket_grant, after_seat_grant}
+use Rattle.monk_world.specs.Steps.{after_floor_out, after_floor_in, after_ticket_grant, after_seat_grant}
 use Rattle.monk_world.specs.World.{World}
 use Rattle.monk_world.specs.declared.home.Home.{Home}
 use Rattle.monk_world.specs.declared.place.Place.{Place}
@@ -76,14 +76,14 @@ module _ (seats : ℕ) (s : World) (right : ℕ) (owner : ℕ → ℕ) (r : Keep
     else_unused = λ a b. absurd (a i mine);
   }
 
-  pub comes_out : (q : Source) (entered_new : ℕ) → s.place i ≡ Due q → entered_new + used_by q ≡ entered + 1 → FitsEnters (after_out s i q) right entered_new
+  pub comes_out : (q : Source) (entered_new : ℕ) → s.place i ≡ Due q → entered_new + used_by q ≡ entered + 1 → FitsEnters (after_floor_out s i q) right entered_new
   comes_out q entered_new due more =
       let z = stage_of (Due q) due in
       let mine = r.held i (omega arith) (omega arith) in
       let u = used_here (Due q) due mine in
       holder (Active q) entered_new mine (omega arith)
 
-  pub goes_home : (q : Source) (next : Next) (home : Home) → s.place i ≡ Active q → FitsEnters (after_in s i next home) right entered
+  pub goes_home : (q : Source) (next : Next) (home : Home) → s.place i ≡ Active q → FitsEnters (after_floor_in s i next home) right entered
   goes_home q next home active =
       let z = stage_of (Active q) active in
       let mine = r.held i (omega arith) (omega arith) in

@@ -1,6 +1,6 @@
 -- Who has the right, and who waits for it
 use Rattle.std.proofs.Common.{◌≡◌, ◌≢◌, ℕ, ◌≤◌, sym, ap, ◌∙◌, subst, arith}
-use Rattle.monk_world.specs.Places.{stage, ticket, place_of}
+use Rattle.monk_world.specs.Places.{stage, ticket, place_of, ticketed_stage, due_stage, passing_stage}
 use Rattle.monk_world.specs.Put.{put}
 use Rattle.monk_world.specs.Right.{KeepsRight, Waits, with_seat, called}
 use Rattle.monk_world.specs.World.{World}
@@ -21,11 +21,11 @@ other_stage place i j ne e = ne (sym (ap (λ (k : ℕ). stage (place k)) e))
 
 module _ (seats : ℕ) (s : World) (right : ℕ) (owner : ℕ → ℕ) (r : KeepsRight seats s right owner) (i : ℕ) where
   -- who waits with a ticket goes on waiting where another steps
-  pub waiter_stays : (to : Place) (k : ℕ) → stage (s.place i) ≢ 1 → Waits s.place owner k → Waits (put s.place i to) owner k
+  pub waiter_stays : (to : Place) (k : ℕ) → stage (s.place i) ≢ ticketed_stage → Waits s.place owner k → Waits (put s.place i to) owner k
   waiter_stays to k other h =
-      subst (λ (y : Place). (stage y ≡ 1) × (ticket y ≡ k))
+      subst (λ (y : Place). (stage y ≡ ticketed_stage) × (ticket y ≡ k))
       (sym (put_else s.place i to (owner k) (λ e. other (sym (ap (λ (j : ℕ). stage (s.place j)) e) ∙ h.0)))) h
 
   -- who has the right has it alone
-  pub others : 2 ≤ stage (s.place i) → stage (s.place i) ≤ 5 → (j : ℕ) → j ≢ i → 2 ≤ stage (s.place j) → stage (s.place j) ≤ 5 → ⊥
+  pub others : due_stage ≤ stage (s.place i) → stage (s.place i) ≤ passing_stage → (j : ℕ) → j ≢ i → due_stage ≤ stage (s.place j) → stage (s.place j) ≤ passing_stage → ⊥
   others a b j ne c d = ne (let h = r.held j c d in let m = r.held i a b in omega arith)

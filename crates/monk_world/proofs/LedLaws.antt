@@ -7,7 +7,7 @@ use Rattle.monk_object.specs.Object.{Object}
 use Rattle.monk_world.specs.Runs.{Told, IsRun}
 use Rattle.monk_world.specs.State.{State}
 use Rattle.monk_world.specs.StepTable.{IsStep}
-use Rattle.monk_world.specs.Telling.{command_told, IsLed}
+use Rattle.monk_world.specs.Telling.{command_of, IsLed}
 use Rattle.monk_world.specs.declared.answer.Answer.{Answer}
 use Rattle.monk_world.specs.declared.command.Command.{Command}
 
@@ -23,6 +23,6 @@ led_more k o s t u commands seat command answer led step =
     let x : Told = record { seat = seat; command = command; answer = answer } in
     record {
       told = led.told ++ x ∷ [];
-      by_commands = map-append command_told led.told (x ∷ []) ∙ ap (λ cs. cs ++ (seat, command) ∷ []) led.by_commands;
+      by_commands = map-append command_of led.told (x ∷ []) ∙ ap (λ cs. cs ++ (seat, command) ∷ []) led.by_commands;
       is_run = run-push k o s t u led.told x led.is_run step;
     }

@@ -1,7 +1,7 @@
 -- From the numbers that keep it: the right is in exactly one place
 use Rattle.std.proofs.Common.{◌≡◌, ℕ, zero, suc, ◌+◌, ◌-◌, ◌*◌, ◌%◌, ◌<◌, ◌≤◌, ◌⊎◌, sym, refl, ap, ◌∙◌, subst, inl, inr, arith}
 use Rattle.monk_world.specs.OnePlace.{Whereabouts, Nowhere, AtTicket, With, AtSeat, HoldsRight, IsInOnePlace}
-use Rattle.monk_world.specs.Places.{stage, ticket}
+use Rattle.monk_world.specs.Places.{stage, ticket, ticketed_stage, due_stage, passing_stage, inside_stage}
 use Rattle.monk_world.specs.Right.{KeepsRight, Waits, nowhere, granted, with_seat, called}
 use Rattle.monk_world.specs.World.{World}
 use Rattle.monk_world.specs.declared.place.Place.{Place}
@@ -38,7 +38,7 @@ from_seat (AtTicket t) j e = absurd (omega arith)
 from_seat (With k) j e = absurd (omega arith)
 from_seat (AtSeat k) j e = let same : k ≡ j = omega arith in ap AtSeat same
 
-has_right : (p : Place) → HoldsRight p → (2 ≤ stage p) × (stage p ≤ 5)
+has_right : (p : Place) → HoldsRight p → (due_stage ≤ stage p) × (stage p ≤ passing_stage)
 has_right Idle h = absurd h
 has_right (Ticket t) h = absurd h
 has_right (Due q) h = (omega arith, omega arith)
@@ -47,7 +47,7 @@ has_right (Back next home) h = (omega arith, omega arith)
 has_right (Passing t home) h = (omega arith, omega arith)
 has_right Inner h = absurd h
 
-holds_right : (p : Place) → 2 ≤ stage p → stage p ≤ 5 → HoldsRight p
+holds_right : (p : Place) → due_stage ≤ stage p → stage p ≤ passing_stage → HoldsRight p
 holds_right Idle a b = absurd (omega arith)
 holds_right (Ticket t) a b = absurd (omega arith)
 holds_right (Due q) a b = tt
@@ -56,7 +56,7 @@ holds_right (Back next home) a b = tt
 holds_right (Passing t home) a b = tt
 holds_right Inner a b = absurd (omega arith)
 
-is_ticket : (p : Place) (t : ℕ) → stage p ≡ 1 → ticket p ≡ t → p ≡ Ticket t
+is_ticket : (p : Place) (t : ℕ) → stage p ≡ ticketed_stage → ticket p ≡ t → p ≡ Ticket t
 is_ticket Idle t a b = absurd (omega arith)
 is_ticket (Ticket k) t a b = ap Ticket b
 is_ticket (Due q) t a b = absurd (omega arith)
@@ -65,7 +65,7 @@ is_ticket (Back next home) t a b = absurd (omega arith)
 is_ticket (Passing k home) t a b = absurd (omega arith)
 is_ticket Inner t a b = absurd (omega arith)
 
-is_inner : (p : Place) → stage p ≡ 6 → p ≡ Inner
+is_inner : (p : Place) → stage p ≡ inside_stage → p ≡ Inner
 is_inner Idle a = absurd (omega arith)
 is_inner (Ticket k) a = absurd (omega arith)
 is_inner (Due q) a = absurd (omega arith)
@@ -92,7 +92,7 @@ module _ (seats : ℕ) (s : World) (right : ℕ) (owner : ℕ → ℕ) (r : Keep
       λ e. let a = r.holds j (is ∙ ap number e) in holds_right (s.place j) a.0 a.1,
     );
     at_ticket = λ j t e. (
-      λ found. let one : stage (s.place j) ≡ 1 = ap stage e in
+      λ found. let one : stage (s.place j) ≡ ticketed_stage = ap stage e in
           let same : ticket (s.place j) ≡ t = ap ticket e in
           let there = grant_is_there seats s right owner r j one (subst (λ (k : ℕ). s.ticket_place (k % seats) ≡ k + 1) (sym same) found) some in
           let sum = there.0 in

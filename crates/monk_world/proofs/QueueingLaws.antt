@@ -2,11 +2,11 @@
 use Rattle.std.proofs.Common.{◌≡◌, ◌≢◌, ℕ, true, ◌+◌, ◌-◌, ◌≤◌, ◌⊎◌, sym, refl, ap, ◌∙◌, subst, inl, inr, Bool, arith}
 use Rattle.monk_history.specs.declared.event.Next.{Next}
 use Rattle.monk_history.specs.declared.event.Next.TheVariants.{Entry}
-use Rattle.monk_world.specs.Places.{stage, source, chosen, open_turn, turn_chosen, place_of, stays_inside, is_queued_at}
+use Rattle.monk_world.specs.Places.{stage, source, back_turn, open_turn, turn_of_next, place_of, stays_inside, is_queued_at, due_stage, active_stage, back_stage, passing_stage, free_source}
 use Rattle.monk_world.specs.Put.{put}
 use Rattle.monk_world.specs.Right.{KeepsRight}
 use Rattle.monk_world.specs.Queueing.{FitsQueues}
-use Rattle.monk_world.specs.Steps.{after_out, after_in, after_ticket_grant, after_seat_grant}
+use Rattle.monk_world.specs.Steps.{after_floor_out, after_floor_in, after_ticket_grant, after_seat_grant}
 use Rattle.monk_world.specs.World.{World}
 use Rattle.monk_world.specs.declared.home.Home.{Home}
 use Rattle.monk_world.specs.declared.home.Home.TheVariants as home
@@ -31,20 +31,20 @@ sure quiet n one (inl e) = e
 sure quiet n one (inr e) = absurd (omega arith)
 
 abbrev InQueue : (ℕ → Bool) → ℕ → Place → Type 0
-InQueue queued j p = stage p ≢ 3 → queued j ≡ is_queued_at p
+InQueue queued j p = stage p ≢ active_stage → queued j ≡ is_queued_at p
 
 abbrev StillFree : Bool → ℕ → Place → Type 0
-StillFree quiet j p = stage p ≡ 2 → source p ≡ 1 → quiet ≡ true
+StillFree quiet j p = stage p ≡ due_stage → source p ≡ free_source → quiet ≡ true
 
 abbrev ToEntry : Bool → ℕ → ℕ → Place → Type 0
-ToEntry quiet n j p = stage p ≡ 4 → chosen p ≡ open_turn → (quiet ≡ true) ⊎ (2 ≤ n)
+ToEntry quiet n j p = stage p ≡ back_stage → back_turn p ≡ open_turn → (quiet ≡ true) ⊎ (2 ≤ n)
 
 module _ (seats : ℕ) (s : World) (right : ℕ) (owner : ℕ → ℕ) (r : KeepsRight seats s right owner) (queued : ℕ → Bool) (quiet : Bool) (f : FitsQueues s queued quiet) (i : ℕ) where
   stage_of : (p : Place) → s.place i ≡ p → stage (s.place i) ≡ stage p
   stage_of p at = ap stage at
 
-  queued_here : (p : Place) → s.place i ≡ p → stage p ≢ 3 → queued i ≡ is_queued_at p
-  queued_here p at ne = subst (λ (y : Place). stage y ≢ 3 → queued i ≡ is_queued_at y) at (f.in_queue i) ne
+  queued_here : (p : Place) → s.place i ≡ p → stage p ≢ active_stage → queued i ≡ is_queued_at p
+  queued_here p at ne = subst (λ (y : Place). stage y ≢ active_stage → queued i ≡ is_queued_at y) at (f.in_queue i) ne
 
   pub arrives_free : s.place i ≡ Idle → s.unpassed ≡ 0
       → FitsQueues (record s { drawn = s.drawn + 1; unpassed = s.unpassed + 1; place = put s.place i (Due (Free s.drawn)) }) queued quiet
@@ -88,11 +88,11 @@ module _ (seats : ℕ) (s : World) (right : ℕ) (owner : ℕ → ℕ) (r : Keep
       }
 
   -- the step of seat i, which has the right
-  holder : (p : Place) (queued_new : ℕ → Bool) (quiet_new : Bool) → 2 ≤ stage (s.place i) → stage (s.place i) ≤ 5 → (stage p ≡ 3) ⊎ (stage p ≡ 4)
+  holder : (p : Place) (queued_new : ℕ → Bool) (quiet_new : Bool) → due_stage ≤ stage (s.place i) → stage (s.place i) ≤ passing_stage → (stage p ≡ active_stage) ⊎ (stage p ≡ back_stage)
       → ((j : ℕ) → j ≢ i → queued_new j ≡ queued j) → InQueue queued_new i p → ToEntry quiet_new s.unpassed i p
       → FitsQueues (record s { place = put s.place i p }) queued_new quiet_new
   holder p queued_new quiet_new low high next alike here entry =
-      let none : (j : ℕ) → j ≢ i → 2 ≤ stage (s.place j) → stage (s.place j) ≤ 5 → ⊥ = others seats s right owner r i low high in
+      let none : (j : ℕ) → j ≢ i → due_stage ≤ stage (s.place j) → stage (s.place j) ≤ passing_stage → ⊥ = others seats s right owner r i low high in
       let mine = r.held i low high in
       record {
         in_queue = at_put s.place i p (InQueue queued_new) here (λ j ne a. alike j ne ∙ f.in_queue j a);
@@ -101,23 +101,23 @@ module _ (seats : ℕ) (s : World) (right : ℕ) (owner : ℕ → ℕ) (r : Keep
         back_to_entry = at_put s.place i p (ToEntry quiet_new s.unpassed) entry (λ j ne a. absurd (none j ne (omega arith) (omega arith)));
       }
     where
-      later : (stage p ≡ 3) ⊎ (stage p ≡ 4) → stage p ≡ 2 → ⊥
+      later : (stage p ≡ active_stage) ⊎ (stage p ≡ back_stage) → stage p ≡ due_stage → ⊥
       later (inl a) b = omega arith
       later (inr a) b = omega arith
 
   pub comes_out : (q : Source) (queued_new : ℕ → Bool) (quiet_new : Bool) → s.place i ≡ Due q → ((j : ℕ) → j ≢ i → queued_new j ≡ queued j)
-      → FitsQueues (after_out s i q) queued_new quiet_new
+      → FitsQueues (after_floor_out s i q) queued_new quiet_new
   comes_out q queued_new quiet_new due alike =
-      let two : stage (s.place i) ≡ 2 = stage_of (Due q) due in
+      let two : stage (s.place i) ≡ due_stage = stage_of (Due q) due in
       holder (Active q) queued_new quiet_new (omega arith) (omega arith) (inl refl) alike (λ ne. absurd (ne refl)) (λ a. absurd (omega arith))
 
   pub stays_active : (q : Source) (queued_new : ℕ → Bool) (quiet_new : Bool) → s.place i ≡ Active q → ((j : ℕ) → j ≢ i → queued_new j ≡ queued j)
       → FitsQueues s queued_new quiet_new
   stays_active q queued_new quiet_new active alike =
-      let three : stage (s.place i) ≡ 3 = stage_of (Active q) active in
-      let none : (j : ℕ) → j ≢ i → 2 ≤ stage (s.place j) → stage (s.place j) ≤ 5 → ⊥ = others seats s right owner r i (omega arith) (omega arith) in
+      let three : stage (s.place i) ≡ active_stage = stage_of (Active q) active in
+      let none : (j : ℕ) → j ≢ i → due_stage ≤ stage (s.place j) → stage (s.place j) ≤ passing_stage → ⊥ = others seats s right owner r i (omega arith) (omega arith) in
       let mine = r.held i (omega arith) (omega arith) in
-      let apart : (j : ℕ) → stage (s.place j) ≢ 3 → j ≢ i = λ j ne e. ne (ap (λ (k : ℕ). stage (s.place k)) e ∙ three) in
+      let apart : (j : ℕ) → stage (s.place j) ≢ active_stage → j ≢ i = λ j ne e. ne (ap (λ (k : ℕ). stage (s.place k)) e ∙ three) in
       record {
         in_queue = λ j ne. alike j (apart j ne) ∙ f.in_queue j ne;
         free = λ e. absurd (let a = r.not_free e in omega arith);
@@ -126,17 +126,17 @@ module _ (seats : ℕ) (s : World) (right : ℕ) (owner : ℕ → ℕ) (r : Keep
       }
 
   pub goes_home : (q : Source) (next : Next) (home : Home) (queued_new : ℕ → Bool) (quiet_new : Bool) → s.place i ≡ Active q → ((j : ℕ) → j ≢ i → queued_new j ≡ queued j)
-      → queued_new i ≡ stays_inside home → (turn_chosen next ≡ open_turn → (quiet_new ≡ true) ⊎ (2 ≤ s.unpassed)) → FitsQueues (after_in s i next home) queued_new quiet_new
+      → queued_new i ≡ stays_inside home → (turn_of_next next ≡ open_turn → (quiet_new ≡ true) ⊎ (2 ≤ s.unpassed)) → FitsQueues (after_floor_in s i next home) queued_new quiet_new
   goes_home q next home queued_new quiet_new active alike own entry =
-      let three : stage (s.place i) ≡ 3 = stage_of (Active q) active in
+      let three : stage (s.place i) ≡ active_stage = stage_of (Active q) active in
       holder (Back next home) queued_new quiet_new (omega arith) (omega arith) (inr refl) alike (λ _. own) (λ _. entry)
 
   -- seat i gives the right away and goes home
-  given : (n : ℕ) (home : Home) → queued i ≡ stays_inside home → (n ≡ 0 → quiet ≡ true) → 2 ≤ stage (s.place i) → stage (s.place i) ≤ 5
+  given : (n : ℕ) (home : Home) → queued i ≡ stays_inside home → (n ≡ 0 → quiet ≡ true) → due_stage ≤ stage (s.place i) → stage (s.place i) ≤ passing_stage
       → FitsQueues (record s { unpassed = n; place = put s.place i (place_of home) }) queued quiet
   given n home own free low high =
       let p : Place = place_of home in
-      let none : (j : ℕ) → j ≢ i → 2 ≤ stage (s.place j) → stage (s.place j) ≤ 5 → ⊥ = others seats s right owner r i low high in
+      let none : (j : ℕ) → j ≢ i → due_stage ≤ stage (s.place j) → stage (s.place j) ≤ passing_stage → ⊥ = others seats s right owner r i low high in
       record {
         in_queue = at_put s.place i p (InQueue queued) (λ _. own ∙ sym (home_queued home)) (λ j _. f.in_queue j);
         free = free;
@@ -147,16 +147,16 @@ module _ (seats : ℕ) (s : World) (right : ℕ) (owner : ℕ → ℕ) (r : Keep
   pub drops_last : (home : Home) → s.place i ≡ Back Entry home → s.unpassed ≡ 1
       → FitsQueues (record s { unpassed = s.unpassed - 1; place = put s.place i (place_of home) }) queued quiet
   drops_last home back one =
-      let four : stage (s.place i) ≡ 4 = stage_of (Back Entry home) back in
-      let entry : chosen (s.place i) ≡ open_turn = ap chosen back in
+      let four : stage (s.place i) ≡ back_stage = stage_of (Back Entry home) back in
+      let entry : back_turn (s.place i) ≡ open_turn = ap back_turn back in
       given (s.unpassed - 1) home (queued_here (Back Entry home) back (λ e. omega arith)) (λ _. sure quiet s.unpassed one (f.back_to_entry i four entry)) (omega arith) (omega arith)
 
   pub drops_more : (t : ℕ) (home : Home) → s.place i ≡ Back Entry home → s.unpassed ≢ 1
       → FitsQueues (record s { unpassed = s.unpassed - 1; place = put s.place i (Passing t home) }) queued quiet
   drops_more t home back more =
       let p : Place = Passing t home in
-      let four : stage (s.place i) ≡ 4 = stage_of (Back Entry home) back in
-      let none : (j : ℕ) → j ≢ i → 2 ≤ stage (s.place j) → stage (s.place j) ≤ 5 → ⊥ = others seats s right owner r i (omega arith) (omega arith) in
+      let four : stage (s.place i) ≡ back_stage = stage_of (Back Entry home) back in
+      let none : (j : ℕ) → j ≢ i → due_stage ≤ stage (s.place j) → stage (s.place j) ≤ passing_stage → ⊥ = others seats s right owner r i (omega arith) (omega arith) in
       let mine = r.held i (omega arith) (omega arith) in
       let some : s.unpassed ≢ 0 = λ e. let a = r.not_free e in omega arith in
       record {
@@ -168,12 +168,12 @@ module _ (seats : ℕ) (s : World) (right : ℕ) (owner : ℕ → ℕ) (r : Keep
 
   pub grants_ticket : (t : ℕ) (home : Home) → s.place i ≡ Passing t home → FitsQueues (after_ticket_grant seats s i t home) queued quiet
   grants_ticket t home five =
-      let z : stage (s.place i) ≡ 5 = stage_of (Passing t home) five in
+      let z : stage (s.place i) ≡ passing_stage = stage_of (Passing t home) five in
       let g = given s.unpassed home (queued_here (Passing t home) five (λ e. omega arith)) f.free (omega arith) (omega arith) in
       record { in_queue = g.in_queue; free = g.free; still_free = g.still_free; back_to_entry = g.back_to_entry }
 
   pub calls_seat : (next : Next) (k : ℕ) (home : Home) → s.place i ≡ Back next home → FitsQueues (after_seat_grant s i k home) queued quiet
   calls_seat next k home back =
-      let z : stage (s.place i) ≡ 4 = stage_of (Back next home) back in
+      let z : stage (s.place i) ≡ back_stage = stage_of (Back next home) back in
       let g = given s.unpassed home (queued_here (Back next home) back (λ e. omega arith)) f.free (omega arith) (omega arith) in
       record { in_queue = g.in_queue; free = g.free; still_free = g.still_free; back_to_entry = g.back_to_entry }

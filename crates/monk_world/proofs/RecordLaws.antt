@@ -21,15 +21,15 @@ use Rattle.monk_history.specs.declared.event.Via.{Via}
 use Rattle.monk_history.specs.declared.event.Via.TheVariants as via
 use Rattle.monk_history.proofs.MeaningLaws.CountLaws.{events_of-push}
 use Rattle.monk_floor.specs.View.{FloorView, monitor_of}
-use Rattle.monk_world.specs.Places.{stage, chosen}
+use Rattle.monk_world.specs.Places.{stage, back_turn}
 use Rattle.monk_world.specs.Put.{put}
-use Rattle.monk_world.specs.Records.{Recorded, IsOwn, EntersWith, IsTaken, IsRecorded, recorded_by, command_recorded, IsRecordedBy, StepsAreTaken, RunsAreRecorded}
+use Rattle.monk_world.specs.Records.{Recorded, IsOwn, EntersWith, IsTaken, IsRecorded, recorded_by, recorded_command, IsRecordedBy, StepsAreTaken, RunsAreRecorded}
 use Rattle.monk_world.specs.Runs.{Told, IsRun, IsWellLed}
 use Rattle.monk_world.specs.Sound.{Sound}
-use Rattle.monk_world.specs.State.{State, grown, is_quiet}
-use Rattle.monk_world.specs.Steps.{after_in}
+use Rattle.monk_world.specs.State.{State, with_event, is_quiet}
+use Rattle.monk_world.specs.Steps.{after_floor_in}
 use Rattle.monk_world.specs.StepTable.{call_of, is_call_in_range, is_call_offered, may_be_told, left_for, out_event, release_next, IsReleased, IsDone, IsAnswered, IsStep}
-use Rattle.monk_world.specs.Telling.{command_told, IsLed}
+use Rattle.monk_world.specs.Telling.{command_of, IsLed}
 use Rattle.monk_world.specs.World.{World}
 use Rattle.monk_world.specs.declared.answer.Answer.{Answer}
 use Rattle.monk_world.specs.declared.answer.Answer.TheVariants as answer
@@ -107,7 +107,7 @@ module _ (k : Rules) (o : Object) (s : State) (kind : IsKind k) (h : Sound k o s
   )
 
   -- one event is
-  grew : (c : Command) (a : Answer) (t : State) → IsStep k o s i c a t → (e : Event) → t.floor ≡ grown s.floor e → seat_of e ≡ i
+  grew : (c : Command) (a : Answer) (t : State) → IsStep k o s i c a t → (e : Event) → t.floor ≡ with_event s.floor e → seat_of e ≡ i
       → ((v : Via) → e ≡ Enter i v → EntersWith (s.world.place i) v (enters_of s.floor.history))
       → (a ≡ answer.Chose next.Entry → (is_quiet k o t.floor ≡ true) ⊎ (2 ≤ s.world.unpassed)) → Outcome c a t
   grew c a t step e grows own turn waited = (
@@ -124,14 +124,14 @@ module _ (k : Rules) (o : Object) (s : State) (kind : IsKind k) (h : Sound k o s
 
   -- the floor goes home with entry
   entry_waits : (c : Command) (a : Answer) (t : State) → IsStep k o s i c a t → (x : Next) (to : Home) → x ≡ next.Entry
-      → t.world ≡ (if is_stay (Some x) then s.world else after_in s.world i x to) → (is_quiet k o t.floor ≡ true) ⊎ (2 ≤ s.world.unpassed)
+      → t.world ≡ (if is_stay (Some x) then s.world else after_floor_in s.world i x to) → (is_quiet k o t.floor ≡ true) ⊎ (2 ≤ s.world.unpassed)
   entry_waits c a t step x to is world_is =
       let after = step_is_sound k o s i c a t kind h step in
-      let went : t.world ≡ after_in s.world i next.Entry to =
-      world_is ∙ ap (λ (y : Next). if is_stay (Some y) then s.world else after_in s.world i y to) is in
+      let went : t.world ≡ after_floor_in s.world i next.Entry to =
+      world_is ∙ ap (λ (y : Next). if is_stay (Some y) then s.world else after_floor_in s.world i y to) is in
       let place : t.world.place i ≡ Back next.Entry to = ap (λ (w : World). w.place i) went ∙ put_here s.world.place i (Back next.Entry to) in
       let unpassed : t.world.unpassed ≡ s.world.unpassed = ap (λ (w : World). w.unpassed) went in
-      elim (after.is_sound.stands.fits_queues.back_to_entry i (ap stage place) (ap chosen place)) [
+      elim (after.is_sound.stands.fits_queues.back_to_entry i (ap stage place) (ap back_turn place)) [
         | inl quiet ↦ inl quiet
         | inr two ↦ inr (omega arith)
       ]
@@ -215,13 +215,13 @@ own_events k o s (x ∷ xs) t r j =
     ∙ append_assoc (events_of s.floor.history j) (cond (x.told.seat == j) x.events []) (recorded_by j xs))
 
 run_recorded : (k : Rules) (o : Object) (s : State) (told : List Told) (t : State) → IsKind k → Sound k o s → IsRun k o s told t
-    → (steps : List Recorded) × ((map command_recorded steps ≡ map command_told told) × IsRecorded k o s steps t)
+    → (steps : List Recorded) × ((map recorded_command steps ≡ map command_of told) × IsRecorded k o s steps t)
 run_recorded k o s [] t kind h run = ([], (refl, run))
 run_recorded k o s (x ∷ xs) t kind h run =
     let u = run.0 in
     let one = taken k o s kind h x.seat x.command x.answer u run.1 in
     let more = run_recorded k o u xs t kind (step_is_sound k o s x.seat x.command x.answer u kind h run.1) run.2 in
-    (recording x.seat x.command x.answer one.0 ∷ more.0, (ap (λ cs. command_told x ∷ cs) more.1.0, (u, one.1, more.1.1)))
+    (recording x.seat x.command x.answer one.0 ∷ more.0, (ap (λ cs. command_of x ∷ cs) more.1.0, (u, one.1, more.1.1)))
 
 -- of the floor the history alone changes
 pub record IsSameMonitor (f g : FloorView) : Type 0 where

@@ -1,6 +1,6 @@
 -- A seat that draws a ticket has the right where the monitor was free, and else waits
 use Rattle.std.proofs.Common.{◌≡◌, ◌≢◌, ℕ, ◌+◌, ◌<◌, ◌≤◌, sym, refl, ap, ◌∙◌, subst, arith}
-use Rattle.monk_world.specs.Places.{stage, ticket}
+use Rattle.monk_world.specs.Places.{stage, ticket, outside_stage, ticketed_stage, due_stage, passing_stage, inside_stage}
 use Rattle.monk_world.specs.Put.{put}
 use Rattle.monk_world.specs.Right.{KeepsRight, HasRight, IsHolder, UsesTicket, ChoseInner, Waits, PassesNext, OwnsTicket, WasGranted, LeavesLow, with_seat}
 use Rattle.monk_world.specs.World.{World}
@@ -11,13 +11,13 @@ use Rattle.monk_world.proofs.Holders.{with_called, waiter_stays, other_stage}
 use Rattle.monk_world.proofs.PutLaws.{at_put, put_here, put_else, all_back}
 
 module _ (seats : ℕ) (s : World) (right : ℕ) (owner : ℕ → ℕ) (r : KeepsRight seats s right owner) (i : ℕ) where
-  pub draws_free : stage (s.place i) ≡ 0 → s.unpassed ≡ 0
+  pub draws_free : stage (s.place i) ≡ outside_stage → s.unpassed ≡ 0
       → KeepsRight seats (record s { drawn = s.drawn + 1; unpassed = s.unpassed + 1; place = put s.place i (Due (Free s.drawn)) }) (with_seat i) owner
   draws_free idle none =
       let to : Place = Due (Free s.drawn) in
       let free = r.not_free none in
-      let nobody : (j : ℕ) → 2 ≤ stage (s.place j) → stage (s.place j) ≤ 5 → ⊥ = λ j a b. let h = r.held j a b in omega arith in
-      let alone : (j : ℕ) → stage (s.place j) ≡ 1 → ⊥ = λ j h. let a = r.waits j h in let b = a.0 in let d = a.1 in omega arith in
+      let nobody : (j : ℕ) → due_stage ≤ stage (s.place j) → stage (s.place j) ≤ passing_stage → ⊥ = λ j a b. let h = r.held j a b in omega arith in
+      let alone : (j : ℕ) → stage (s.place j) ≡ ticketed_stage → ⊥ = λ j h. let a = r.waits j h in let b = a.0 in let d = a.1 in omega arith in
       record {
         is_free = λ e. absurd (omega arith);
         not_free = λ e. absurd (omega arith);
@@ -38,15 +38,15 @@ module _ (seats : ℕ) (s : World) (right : ℕ) (owner : ℕ → ℕ) (r : Keep
         places_free = λ e. absurd (omega arith);
       }
 
-  pub draws_wait : stage (s.place i) ≡ 0 → s.unpassed ≢ 0
+  pub draws_wait : stage (s.place i) ≡ outside_stage → s.unpassed ≢ 0
       → KeepsRight seats (record s { drawn = s.drawn + 1; unpassed = s.unpassed + 1; place = put s.place i (Ticket s.drawn) }) right (put owner s.drawn i)
   draws_wait idle some =
       let to : Place = Ticket s.drawn in
       let owners = put owner s.drawn i in
       let keeps : (k : ℕ) → Waits s.place owner k → Waits (put s.place i to) owner k = λ k h. waiter_stays seats s right owner r i to k (λ e. omega arith) h in
       let moves : (k : ℕ) → k ≢ s.drawn → Waits s.place owner k → Waits (put s.place i to) owners k =
-      λ k ne h. subst (λ (j : ℕ). (stage (put s.place i to j) ≡ 1) × (ticket (put s.place i to j) ≡ k)) (sym (put_else owner s.drawn i k ne)) (keeps k h) in
-      let stays : (j : ℕ) → stage (s.place j) ≡ 6 → stage (put s.place i to j) ≡ 6 =
+      λ k ne h. subst (λ (j : ℕ). (stage (put s.place i to j) ≡ ticketed_stage) × (ticket (put s.place i to j) ≡ k)) (sym (put_else owner s.drawn i k ne)) (keeps k h) in
+      let stays : (j : ℕ) → stage (s.place j) ≡ inside_stage → stage (put s.place i to j) ≡ inside_stage =
       λ j six. ap stage (put_else s.place i to j (other_stage s.place i j (λ e. omega arith))) ∙ six in
       record {
         is_free = λ e. absurd (some (r.is_free e));
@@ -63,9 +63,9 @@ module _ (seats : ℕ) (s : World) (right : ℕ) (owner : ℕ → ℕ) (r : Keep
         waits = at_put s.place i to (OwnsTicket (s.drawn + 1) (s.unpassed + 1) owners) (λ _. (omega arith, omega arith, put_here owner s.drawn i))
             (λ j _ a. let b = r.waits j a in let c = b.0 in let d = b.1 in (omega arith, omega arith, put_else owner s.drawn i (ticket (s.place j)) (λ e. omega arith) ∙ b.2));
         granted_at = at_put s.place i to (WasGranted (s.drawn + 1) (s.unpassed + 1) right (put s.place i to)) (λ _ e. absurd (some (omega arith)))
-            (λ j _ a e none. r.granted_at j a (omega arith) (all_back s.place i to (λ k y. stage y ≢ 5) none (λ z. omega arith)));
-        owned = at_put owner s.drawn i (λ k j. k < s.drawn + 1 → s.drawn + 1 < k + (s.unpassed + 1) → (stage (put s.place i to j) ≡ 1) × (ticket (put s.place i to j) ≡ k))
-            (λ _ _. subst (λ (y : Place). (stage y ≡ 1) × (ticket y ≡ s.drawn)) (sym (put_here s.place i to)) (refl, refl))
+            (λ j _ a e none. r.granted_at j a (omega arith) (all_back s.place i to (λ k y. stage y ≢ passing_stage) none (λ z. omega arith)));
+        owned = at_put owner s.drawn i (λ k j. k < s.drawn + 1 → s.drawn + 1 < k + (s.unpassed + 1) → (stage (put s.place i to j) ≡ ticketed_stage) × (ticket (put s.place i to j) ≡ k))
+            (λ _ _. subst (λ (y : Place). (stage y ≡ ticketed_stage) × (ticket y ≡ s.drawn)) (sym (put_here s.place i to)) (refl, refl))
             (λ k other a b. let lower : k < s.drawn = omega arith in keeps k (r.owned k lower (omega arith)));
         grant = λ e k sum. let old = r.grant e k (omega arith) in (old.0, moves k (λ z. some (omega arith)) old.1);
         places = λ p h. let a = r.places p h in omega arith;

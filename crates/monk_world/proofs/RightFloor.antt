@@ -1,10 +1,10 @@
 -- The floor comes out to the seat that is due, and goes home from the seat that is active
 use Rattle.std.proofs.Common.{◌≡◌, ◌≢◌, ℕ, ◌≤◌, sym, ap, ◌∙◌, arith}
 use Rattle.monk_history.specs.declared.event.Next.{Next}
-use Rattle.monk_world.specs.Places.{stage, due_to, turn_chosen}
+use Rattle.monk_world.specs.Places.{stage, due_to, turn_of_next, due_stage, active_stage, passing_stage, inside_stage}
 use Rattle.monk_world.specs.Put.{put}
 use Rattle.monk_world.specs.Right.{KeepsRight, HasRight, IsHolder, UsesTicket, ChoseInner, PassesNext, OwnsTicket, WasGranted, LeavesLow}
-use Rattle.monk_world.specs.Steps.{after_out, after_in}
+use Rattle.monk_world.specs.Steps.{after_floor_out, after_floor_in}
 use Rattle.monk_world.specs.World.{World}
 use Rattle.monk_world.specs.declared.home.Home.{Home}
 use Rattle.monk_world.specs.declared.place.Place.{Place}
@@ -14,11 +14,11 @@ use Rattle.monk_world.proofs.Holders.{with_called, waiter_stays, others, other_s
 use Rattle.monk_world.proofs.PutLaws.{at_put, put_else, all_back}
 
 module _ (seats : ℕ) (s : World) (right : ℕ) (owner : ℕ → ℕ) (r : KeepsRight seats s right owner) (i : ℕ) where
-  pub comes_out : (q : Source) → stage (s.place i) ≡ 2 → KeepsRight seats (after_out s i q) right owner
+  pub comes_out : (q : Source) → stage (s.place i) ≡ due_stage → KeepsRight seats (after_floor_out s i q) right owner
   comes_out q two =
       let to : Place = Active q in
       let mine = r.held i (omega arith) (omega arith) in
-      let none : (j : ℕ) → j ≢ i → 2 ≤ stage (s.place j) → stage (s.place j) ≤ 5 → ⊥ = others seats s right owner r i (omega arith) (omega arith) in
+      let none : (j : ℕ) → j ≢ i → due_stage ≤ stage (s.place j) → stage (s.place j) ≤ passing_stage → ⊥ = others seats s right owner r i (omega arith) (omega arith) in
       record {
         is_free = r.is_free;
         not_free = r.not_free;
@@ -32,7 +32,7 @@ module _ (seats : ℕ) (s : World) (right : ℕ) (owner : ℕ → ℕ) (r : Keep
         passing = at_put s.place i to (PassesNext s.drawn s.unpassed (put s.place i to) owner) (λ a. absurd (omega arith)) (λ j ne a. absurd (none j ne (omega arith) (omega arith)));
         waits = at_put s.place i to (OwnsTicket s.drawn s.unpassed owner) (λ a. absurd (omega arith)) (λ j _. r.waits j);
         granted_at = at_put s.place i to (WasGranted s.drawn s.unpassed right (put s.place i to)) (λ a. absurd (omega arith))
-            (λ j _ a e no. r.granted_at j a e (all_back s.place i to (λ k y. stage y ≢ 5) no (λ z. omega arith)));
+            (λ j _ a e no. r.granted_at j a e (all_back s.place i to (λ k y. stage y ≢ passing_stage) no (λ z. omega arith)));
         owned = λ k a b. waiter_stays seats s right owner r i to k (λ e. omega arith) (r.owned k a b);
         grant = λ e. absurd (omega arith);
         places = r.places;
@@ -41,12 +41,12 @@ module _ (seats : ℕ) (s : World) (right : ℕ) (owner : ℕ → ℕ) (r : Keep
       }
 
   -- whom it has chosen is another, and parked inside
-  pub goes_home : (next : Next) (home : Home) → stage (s.place i) ≡ 3 → ((k : ℕ) → turn_chosen next ≡ due_to k → stage (s.place k) ≡ 6)
-      → KeepsRight seats (after_in s i next home) right owner
+  pub goes_home : (next : Next) (home : Home) → stage (s.place i) ≡ active_stage → ((k : ℕ) → turn_of_next next ≡ due_to k → stage (s.place k) ≡ inside_stage)
+      → KeepsRight seats (after_floor_in s i next home) right owner
   goes_home next home active inner =
       let to : Place = Back next home in
       let mine = r.held i (omega arith) (omega arith) in
-      let none : (j : ℕ) → j ≢ i → 2 ≤ stage (s.place j) → stage (s.place j) ≤ 5 → ⊥ = others seats s right owner r i (omega arith) (omega arith) in
+      let none : (j : ℕ) → j ≢ i → due_stage ≤ stage (s.place j) → stage (s.place j) ≤ passing_stage → ⊥ = others seats s right owner r i (omega arith) (omega arith) in
       record {
         is_free = r.is_free;
         not_free = r.not_free;
@@ -62,7 +62,7 @@ module _ (seats : ℕ) (s : World) (right : ℕ) (owner : ℕ → ℕ) (r : Keep
         passing = at_put s.place i to (PassesNext s.drawn s.unpassed (put s.place i to) owner) (λ a. absurd (omega arith)) (λ j ne a. absurd (none j ne (omega arith) (omega arith)));
         waits = at_put s.place i to (OwnsTicket s.drawn s.unpassed owner) (λ a. absurd (omega arith)) (λ j _. r.waits j);
         granted_at = at_put s.place i to (WasGranted s.drawn s.unpassed right (put s.place i to)) (λ a. absurd (omega arith))
-            (λ j _ a e no. r.granted_at j a e (all_back s.place i to (λ k y. stage y ≢ 5) no (λ z. omega arith)));
+            (λ j _ a e no. r.granted_at j a e (all_back s.place i to (λ k y. stage y ≢ passing_stage) no (λ z. omega arith)));
         owned = λ k a b. waiter_stays seats s right owner r i to k (λ e. omega arith) (r.owned k a b);
         grant = λ e. absurd (omega arith);
         places = r.places;

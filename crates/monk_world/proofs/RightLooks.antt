@@ -1,7 +1,7 @@
 -- A seat that looks finds the right only where it is, and takes it
 use Rattle.std.proofs.Common.{◌≡◌, ◌≢◌, ℕ, true, ◌+◌, ◌%◌, ◌<◌, ◌≤◌, sym, refl, ap, ◌∙◌, subst, inl, inr, mod-lt, arith}
 use Rattle.std.proofs.lemmas.Bool.Decides.{eqb_tells}
-use Rattle.monk_world.specs.Places.{stage, ticket}
+use Rattle.monk_world.specs.Places.{stage, ticket, ticketed_stage, due_stage, passing_stage, inside_stage}
 use Rattle.monk_world.specs.Put.{put}
 use Rattle.monk_world.specs.Right.{KeepsRight, HasRight, IsHolder, IsNext, UsesTicket, ChoseInner, PassesNext, OwnsTicket, WasGranted, LeavesLow, granted, with_seat, called}
 use Rattle.monk_world.specs.Steps.{after_ticket_look, after_seat_look}
@@ -14,7 +14,7 @@ use Rattle.monk_world.proofs.PutLaws.{at_put, put_else, all_back}
 
 module _ (seats : ℕ) (s : World) (right : ℕ) (owner : ℕ → ℕ) (r : KeepsRight seats s right owner) (i : ℕ) where
   -- where the place of its ticket holds it, the ticket is next and the right is there
-  pub grant_is_there : stage (s.place i) ≡ 1 → s.ticket_place (ticket (s.place i) % seats) ≡ ticket (s.place i) + 1 → 0 < seats
+  pub grant_is_there : stage (s.place i) ≡ ticketed_stage → s.ticket_place (ticket (s.place i) % seats) ≡ ticket (s.place i) + 1 → 0 < seats
       → IsNext s.drawn s.unpassed (ticket (s.place i)) × (right ≡ granted)
   grant_is_there waits found some =
       let T : ℕ = ticket (s.place i) in
@@ -26,7 +26,7 @@ module _ (seats : ℕ) (s : World) (right : ℕ) (owner : ℕ → ℕ) (r : Keep
       (sum, r.granted_at i waits sum (λ j five. let low = r.places_low j five (T % seats) near in omega arith))
 
   -- it finds its ticket granted
-  pub finds_grant : stage (s.place i) ≡ 1 → s.ticket_place (ticket (s.place i) % seats) ≡ ticket (s.place i) + 1 → 0 < seats
+  pub finds_grant : stage (s.place i) ≡ ticketed_stage → s.ticket_place (ticket (s.place i) % seats) ≡ ticket (s.place i) + 1 → 0 < seats
       → KeepsRight seats (after_ticket_look s i (ticket (s.place i)) true) (with_seat i) owner
   finds_grant waits found some =
       let T : ℕ = ticket (s.place i) in
@@ -35,8 +35,8 @@ module _ (seats : ℕ) (s : World) (right : ℕ) (owner : ℕ → ℕ) (r : Keep
       let there = grant_is_there waits found some in
       let sum = there.0 in
       let is = there.1 in
-      let nobody : (j : ℕ) → 2 ≤ stage (s.place j) → stage (s.place j) ≤ 5 → ⊥ = λ j a b. let h = r.held j a b in omega arith in
-      let other : (j : ℕ) → j ≢ i → stage (s.place j) ≡ 1 → ticket (s.place j) ≢ T = λ j ne h e. ne (sym (r.waits j h).2 ∙ ap owner e ∙ mine.2) in
+      let nobody : (j : ℕ) → due_stage ≤ stage (s.place j) → stage (s.place j) ≤ passing_stage → ⊥ = λ j a b. let h = r.held j a b in omega arith in
+      let other : (j : ℕ) → j ≢ i → stage (s.place j) ≡ ticketed_stage → ticket (s.place j) ≢ T = λ j ne h e. ne (sym (r.waits j h).2 ∙ ap owner e ∙ mine.2) in
       record {
         is_free = λ e. absurd (omega arith);
         not_free = λ e. absurd (let a = r.not_free e in omega arith);
@@ -52,7 +52,7 @@ module _ (seats : ℕ) (s : World) (right : ℕ) (owner : ℕ → ℕ) (r : Keep
         granted_at = at_put s.place i to (WasGranted s.drawn s.unpassed (with_seat i) (put s.place i to)) (λ a. absurd (omega arith))
             (λ j ne h e. absurd (other j ne h (omega arith)));
         owned = λ k a b. let o = r.owned k a b in let tk = o.1 in
-            subst (λ (y : Place). (stage y ≡ 1) × (ticket y ≡ k))
+            subst (λ (y : Place). (stage y ≡ ticketed_stage) × (ticket y ≡ k))
             (sym (put_else s.place i to (owner k) (λ e. let c : ticket (s.place (owner k)) ≡ T = ap (λ (j : ℕ). ticket (s.place j)) e in omega arith))) o;
         grant = λ e. absurd (omega arith);
         places = r.places;
@@ -68,11 +68,11 @@ module _ (seats : ℕ) (s : World) (right : ℕ) (owner : ℕ → ℕ) (r : Keep
   ]
 
   -- it finds that it was called
-  pub finds_call : stage (s.place i) ≡ 6 → s.seat_place i ≡ s.count i + 1 → KeepsRight seats (after_seat_look s i true) (with_seat i) owner
+  pub finds_call : stage (s.place i) ≡ inside_stage → s.seat_place i ≡ s.count i + 1 → KeepsRight seats (after_seat_look s i true) (with_seat i) owner
   finds_call six found =
       let to : Place = Due Called in
       let is : right ≡ called i = call_is_there found in
-      let nobody : (j : ℕ) → 2 ≤ stage (s.place j) → stage (s.place j) ≤ 5 → ⊥ = λ j a b. with_called j i (sym (r.held j a b) ∙ is) in
+      let nobody : (j : ℕ) → due_stage ≤ stage (s.place j) → stage (s.place j) ≤ passing_stage → ⊥ = λ j a b. with_called j i (sym (r.held j a b) ∙ is) in
       record {
         is_free = λ e. absurd (omega arith);
         not_free = λ e. absurd (let a = r.not_free e in omega arith);
@@ -86,7 +86,7 @@ module _ (seats : ℕ) (s : World) (right : ℕ) (owner : ℕ → ℕ) (r : Keep
         passing = at_put s.place i to (PassesNext s.drawn s.unpassed (put s.place i to) owner) (λ a. absurd (omega arith)) (λ j _ a. absurd (nobody j (omega arith) (omega arith)));
         waits = at_put s.place i to (OwnsTicket s.drawn s.unpassed owner) (λ a. absurd (omega arith)) (λ j _. r.waits j);
         granted_at = at_put s.place i to (WasGranted s.drawn s.unpassed (with_seat i) (put s.place i to)) (λ a. absurd (omega arith))
-            (λ j _ a e none. absurd (let g = r.granted_at j a e (all_back s.place i to (λ k y. stage y ≢ 5) none (λ z. omega arith)) in omega arith));
+            (λ j _ a e none. absurd (let g = r.granted_at j a e (all_back s.place i to (λ k y. stage y ≢ passing_stage) none (λ z. omega arith)) in omega arith));
         owned = λ k a b. waiter_stays seats s right owner r i to k (λ e. omega arith) (r.owned k a b);
         grant = λ e. absurd (omega arith);
         places = r.places;

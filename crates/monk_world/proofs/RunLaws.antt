@@ -17,11 +17,11 @@ use Rattle.monk_history.specs.declared.event.Turn.TheVariants.{Open, Due as DueT
 use Rattle.monk_history.proofs.MeaningLaws.CountLaws.{enters_none}
 use Rattle.monk_history.proofs.MeaningLaws.LegalLaws.{legal_none}
 use Rattle.monk_history.proofs.MeaningLaws.StepLaws.{situation-none}
-use Rattle.monk_floor.specs.View.{FloorView, monitor_of, fresh}
+use Rattle.monk_floor.specs.View.{FloorView, monitor_of, empty_floor}
 use Rattle.monk_world.specs.Enters.{used_at}
 use Rattle.monk_world.specs.Laws.{OpeningIsSound}
 use Rattle.monk_world.specs.OnePlace.{Whereabouts, Nowhere, AtTicket, With, AtSeat}
-use Rattle.monk_world.specs.Places.{stage, ticket, source, owned_by}
+use Rattle.monk_world.specs.Places.{stage, ticket, source, owned_by, due_stage, active_stage, inside_stage, granted_source}
 use Rattle.monk_world.specs.Right.{with_seat, called}
 use Rattle.monk_world.specs.Runs.{opening_state, Told, IsRun, IsWellLed, RunsAreWellLed}
 use Rattle.monk_world.specs.Sound.{IsSound, Sound, left_at}
@@ -62,8 +62,8 @@ opening_is_sound k o opening seats conds budget = record {
   right = 0;
   owner = λ t. 0;
   is_sound = record {
-    legal = legal_none (monitor_of k o (fresh opening seats conds budget));
-    stands = opening_holds k o (fresh opening seats conds budget) refl;
+    legal = legal_none (monitor_of k o (empty_floor opening seats conds budget));
+    stands = opening_holds k o (empty_floor opening seats conds budget) refl;
     active = λ j a. absurd (omega arith);
     known = λ j a. absurd (omega arith);
     entered = record { with = λ j e. absurd (omega arith); called_seat = λ j e. absurd (omega arith); else_unused = λ _ _. let n = enters_none in omega arith };
@@ -79,7 +79,7 @@ run_is_sound k o s [] t kind h run = subst (Sound k o) (sym run) h
 run_is_sound k o s (x ∷ xs) t kind h run =
     run_is_sound k o run.0 xs t kind (step_is_sound k o s x.seat x.command x.answer run.0 kind h run.1) run.2
 
-inner_left : (p : Place) (n : ℕ) → stage p ≡ 6 → left_at p ≤ n → 2 ≤ n
+inner_left : (p : Place) (n : ℕ) → stage p ≡ inside_stage → left_at p ≤ n → 2 ≤ n
 inner_left Idle n six a = absurd (omega arith)
 inner_left (Ticket t) n six a = absurd (omega arith)
 inner_left (Due q) n six a = absurd (omega arith)
@@ -121,10 +121,10 @@ owner_of (Owned j) = j
 
 module _ (k : Rules) (o : Object) (s : State) (right : ℕ) (owner : ℕ → ℕ) (h : IsSound k o s right owner) where
   -- whoever owns the turn is active
-  owner_stands : (j : ℕ) → turn s.floor.history ≡ Owned j → stage (s.world.place j) ≡ 3
+  owner_stands : (j : ℕ) → turn s.floor.history ≡ Owned j → stage (s.world.place j) ≡ active_stage
   owner_stands j own = elim (right_cases right) [
-    | inl a ↦ elim (cases_eq (stage (s.world.place a.0)) 3) [
-      | inl three ↦ let same : a.0 ≡ j = ap owner_of (sym (h.active a.0 three) ∙ own) in subst (λ (m : ℕ). stage (s.world.place m) ≡ 3) same three
+    | inl a ↦ elim (cases_eq (stage (s.world.place a.0)) active_stage) [
+      | inl three ↦ let same : a.0 ≡ j = ap owner_of (sym (h.active a.0 three) ∙ own) in subst (λ (m : ℕ). stage (s.world.place m) ≡ active_stage) same three
       | inr ne ↦ absurd (not_owned a.0 j (s.world.place a.0) (sym (h.stands.fits_turn.with a.0 a.1 ne) ∙ ap turn_number own))
     ]
     | inr b ↦ elim b [
@@ -133,9 +133,9 @@ module _ (k : Rules) (o : Object) (s : State) (right : ℕ) (owner : ℕ → ℕ
     ]
   ]
 
-  entered_is : (j t : ℕ) (p : Place) → s.world.place j ≡ p → stage p ≡ 2 → ticket p ≡ t → used_at p ≡ 0 → source p ≤ 2 → enters_of s.floor.history ≡ t
+  entered_is : (j t : ℕ) (p : Place) → s.world.place j ≡ p → stage p ≡ due_stage → ticket p ≡ t → used_at p ≡ 0 → source p ≤ granted_source → enters_of s.floor.history ≡ t
   entered_is j t p at two same unused by_ticket =
-      let stage_is : stage (s.world.place j) ≡ 2 = ap stage at ∙ two in
+      let stage_is : stage (s.world.place j) ≡ due_stage = ap stage at ∙ two in
       let source_is : source (s.world.place j) ≡ source p = ap source at in
       let ticket_is : ticket (s.world.place j) ≡ t = ap ticket at ∙ same in
       let sum = h.stands.keeps.in_use j stage_is (omega arith) in

@@ -21,11 +21,11 @@ use Rattle.monk_history.specs.declared.event.Next.TheVariants as next
 use Rattle.monk_history.specs.declared.event.Turn.TheVariants as turn
 use Rattle.monk_history.proofs.MeaningLaws.ReleaseLaws.{legal_order, chosen_allowed}
 use Rattle.monk_floor.specs.View.{monitor_of, stands_of}
-use Rattle.monk_world.specs.Places.{stage, stays_inside}
+use Rattle.monk_world.specs.Places.{stage, stays_inside, active_stage}
 use Rattle.monk_world.specs.Put.{put}
 use Rattle.monk_world.specs.Sound.{IsSound, Sound, left_within}
-use Rattle.monk_world.specs.State.{State, grown}
-use Rattle.monk_world.specs.Steps.{after_in}
+use Rattle.monk_world.specs.State.{State, with_event}
+use Rattle.monk_world.specs.Steps.{after_floor_in}
 use Rattle.monk_world.specs.StepTable.{call_of, is_call_in_range, is_call_offered, may_be_told, left_for, release_next, IsDone, IsAnswered, IsStep}
 use Rattle.monk_world.specs.declared.answer.Answer.{Answer}
 use Rattle.monk_world.specs.declared.answer.Answer.TheVariants as answer
@@ -71,8 +71,8 @@ module _ (k : Rules) (o : Object) (s : State) (right : ℕ) (owner : ℕ → ℕ
       → (IsAllowed (monitor_of k o s.floor) s.floor.history (with_next next.Stay e) → 2 ≤ left_of s.floor.budget s.floor.history i)
       → left_within to + 1 ≤ left_of s.floor.budget s.floor.history i
       → Sound k o (record s {
-        world = if is_stay (Some (release_next k o s i e wish)) then s.world else after_in s.world i (release_next k o s i e wish) to;
-        floor = grown s.floor (with_next (release_next k o s i e wish) e);
+        world = if is_stay (Some (release_next k o s i e wish)) then s.world else after_floor_in s.world i (release_next k o s i e wish) to;
+        floor = with_event s.floor (with_next (release_next k o s i e wish) e);
       })
   released e wish to r may stay_left home_left =
       let m = monitor_of k o s.floor in
@@ -80,7 +80,7 @@ module _ (k : Rules) (o : Object) (s : State) (right : ℕ) (owner : ℕ → ℕ
       let f = with_next x e in
       let allowed : IsAllowed m s.floor.history f =
       chosen_allowed m (situation m s.floor.history) e (s.known i) wish (legal_order m s.floor.history kind h.legal) may (r.no_reply o (data_of m s.floor.history)) in
-      let After : Bool → Type 0 = λ b. is_stay (Some x) ≡ b → Sound k o (record s { world = cond b s.world (after_in s.world i x to); floor = grown s.floor f }) in
+      let After : Bool → Type 0 = λ b. is_stay (Some x) ≡ b → Sound k o (record s { world = cond b s.world (after_floor_in s.world i x to); floor = with_event s.floor f }) in
       let either_way : (b : Bool) → After b = elim [
         | true ↦ λ e_stay. stays k o s right owner h i f (r.seat x) allowed q active (r.no_enter x)
             (ap (λ (y : Option Next). turn_by (seat_of f) y) (r.chooses x ∙ ap (λ (y : Next). Some y) (stay_is x e_stay)) ∙ ap turn.Owned (r.seat x))
@@ -103,7 +103,7 @@ module _ (k : Rules) (o : Object) (s : State) (right : ℕ) (owner : ℕ → ℕ
 
   acted : (op : Op) (reply : ℕ) → reply ≡ o.reply (data_of (monitor_of k o s.floor) s.floor.history) op
       → is_in_range s.floor.seats s.floor.conds o.codes o.predicates (Act i op 0) ≡ true → 2 ≤ left_of s.floor.budget s.floor.history i
-      → Sound k o (record s { floor = grown s.floor (Act i op reply) })
+      → Sound k o (record s { floor = with_event s.floor (Act i op reply) })
   acted op reply is range enough =
       stays k o s right owner h i (Act i op reply) refl
       (record { in_range = range; offered = refl; in_turn = owns; in_place = refl; right_reply = eq-eqb reply (o.reply (data_of (monitor_of k o s.floor) s.floor.history) op) is; permitted = refl })
@@ -117,7 +117,7 @@ module _ (k : Rules) (o : Object) (s : State) (right : ℕ) (owner : ℕ → ℕ
       legal = h.legal;
       stands = h.stands;
       active = h.active;
-      known = λ j. at_put s.known i (s.known i || nat_le 2 s.world.unpassed) (λ m b. stage (s.world.place m) ≡ 3 → b ≡ true → 2 ≤ s.world.unpassed)
+      known = λ j. at_put s.known i (s.known i || nat_le 2 s.world.unpassed) (λ m b. stage (s.world.place m) ≡ active_stage → b ≡ true → 2 ≤ s.world.unpassed)
           (λ a e. elim (either (s.known i) (nat_le 2 s.world.unpassed) e) [ inl b ↦ h.known i a b | inr b ↦ seen_two s.world.unpassed b ]) (λ m _. h.known m) j;
       entered = h.entered;
       late = h.late;

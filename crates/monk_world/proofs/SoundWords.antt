@@ -9,13 +9,13 @@ use Rattle.monk_history.specs.declared.event.Next.{Next}
 use Rattle.monk_history.specs.declared.event.Next.TheVariants.{Entry}
 use Rattle.monk_history.specs.declared.event.Turn.TheVariants.{Owned}
 use Rattle.monk_world.specs.Enters.{FitsEnters}
-use Rattle.monk_world.specs.Places.{stage, ticket, source, due_to, turn_chosen, place_of}
+use Rattle.monk_world.specs.Places.{stage, ticket, source, due_to, turn_of_next, place_of, outside_stage, ticketed_stage, due_stage, active_stage, back_stage, passing_stage, granted_source}
 use Rattle.monk_world.specs.Put.{put}
 use Rattle.monk_world.specs.Right.{nowhere, granted, with_seat, called}
 use Rattle.monk_world.specs.Sound.{IsSound, Sound, left_at, left_within}
 use Rattle.monk_world.specs.Stands.{Stands}
 use Rattle.monk_world.specs.State.{State, is_standing, is_quiet}
-use Rattle.monk_world.specs.Steps.{after_arrival, after_ticket_look, after_seat_look, after_drop, after_ticket_grant, after_seat_grant}
+use Rattle.monk_world.specs.Steps.{after_arrive, after_ticket_look, after_seat_look, after_drop, after_ticket_grant, after_seat_grant}
 use Rattle.monk_world.specs.Turns.{turn_number}
 use Rattle.monk_world.specs.World.{World}
 use Rattle.monk_world.specs.declared.home.Home.{Home}
@@ -27,7 +27,7 @@ use Rattle.monk_world.proofs.EntersLaws as enters
 use Rattle.monk_world.proofs.Holders.{at_home, others}
 use Rattle.monk_world.proofs.PutLaws.{at_put, put_same}
 use Rattle.monk_world.proofs.RightLooks.{grant_is_there, call_is_there}
-use Rattle.monk_world.proofs.StepLaws.{arrival_keeps_the_right, ticket_look_keeps_the_right, seat_look_keeps_the_right, drop_keeps_the_right, ticket_grant_keeps_the_right, seat_grant_keeps_the_right}
+use Rattle.monk_world.proofs.StepLaws.{arrive_keeps_the_right, ticket_look_keeps_the_right, seat_look_keeps_the_right, drop_keeps_the_right, ticket_grant_keeps_the_right, seat_grant_keeps_the_right}
 
 home_left : (h : Home) → left_at (place_of h) ≡ left_within h
 home_left home.Idle = refl
@@ -43,27 +43,27 @@ module _ (k : Rules) (o : Object) (s : State) (right : ℕ) (owner : ℕ → ℕ
   -- seat i goes to p, and the words become these
   word_step : (t n : ℕ) (tickets seats_called counts : ℕ → ℕ) (p : Place) (right_new : ℕ) (owner_new : ℕ → ℕ)
       → let w : World = record { drawn = t; unpassed = n; ticket_place = tickets; seat_place = seats_called; place = put s.world.place i p; count = counts } in
-      StandsSo w right_new owner_new → FitsEnters w right_new (enters_of s.floor.history) → stage p ≢ 3 → (stage p ≡ 1 → 1 ≤ ticket p) → (stage p ≡ 2 → source p ≡ 2 → 1 ≤ ticket p)
-      → left_at p ≤ left_of s.floor.budget s.floor.history i → ((j : ℕ) → j ≢ i → stage (s.world.place j) ≡ 3 → 2 ≤ s.world.unpassed → 2 ≤ n)
+      StandsSo w right_new owner_new → FitsEnters w right_new (enters_of s.floor.history) → stage p ≢ active_stage → (stage p ≡ ticketed_stage → 1 ≤ ticket p) → (stage p ≡ due_stage → source p ≡ granted_source → 1 ≤ ticket p)
+      → left_at p ≤ left_of s.floor.budget s.floor.history i → ((j : ℕ) → j ≢ i → stage (s.world.place j) ≡ active_stage → 2 ≤ s.world.unpassed → 2 ≤ n)
       → IsSound k o (record s { world = w }) right_new owner_new
   word_step t n tickets seats_called counts p right_new owner_new stands entered away late granted_late left more = record {
     legal = h.legal;
     stands = stands;
-    active = at_put s.world.place i p (λ j y. stage y ≡ 3 → turn s.floor.history ≡ Owned j) (λ e. absurd (away e)) (λ j _. h.active j);
-    known = at_put s.world.place i p (λ j y. stage y ≡ 3 → s.known j ≡ true → 2 ≤ n) (λ e. absurd (away e)) (λ j ne a b. more j ne a (h.known j a b));
+    active = at_put s.world.place i p (λ j y. stage y ≡ active_stage → turn s.floor.history ≡ Owned j) (λ e. absurd (away e)) (λ j _. h.active j);
+    known = at_put s.world.place i p (λ j y. stage y ≡ active_stage → s.known j ≡ true → 2 ≤ n) (λ e. absurd (away e)) (λ j ne a b. more j ne a (h.known j a b));
     entered = entered;
-    late = at_put s.world.place i p (λ j y. stage y ≡ 1 → 1 ≤ ticket y) late (λ j _. h.late j);
-    granted_late = at_put s.world.place i p (λ j y. stage y ≡ 2 → source y ≡ 2 → 1 ≤ ticket y) granted_late (λ j _. h.granted_late j);
+    late = at_put s.world.place i p (λ j y. stage y ≡ ticketed_stage → 1 ≤ ticket y) late (λ j _. h.late j);
+    granted_late = at_put s.world.place i p (λ j y. stage y ≡ due_stage → source y ≡ granted_source → 1 ≤ ticket y) granted_late (λ j _. h.granted_late j);
     left = at_put s.world.place i p (λ j y. left_at y ≤ left_of s.floor.budget s.floor.history j) left (λ j _. h.left j);
-    outside = at_put s.world.place i p (λ j y. s.floor.seats ≤ j → stage y ≡ 0) (λ e. absurd (omega arith)) (λ j _. h.outside j);
+    outside = at_put s.world.place i p (λ j y. s.floor.seats ≤ j → stage y ≡ outside_stage) (λ e. absurd (omega arith)) (λ j _. h.outside j);
   }
 
-  pub sound_arrival : s.world.place i ≡ Idle → 2 ≤ left_of s.floor.budget s.floor.history i → Sound k o (record s { world = after_arrival s.world i })
+  pub sound_arrival : s.world.place i ≡ Idle → 2 ≤ left_of s.floor.budget s.floor.history i → Sound k o (record s { world = after_arrive s.world i })
   sound_arrival idle enough =
       let w = s.world in
       let r = h.stands.keeps in
       let behind = r.behind in
-      let stands = arrival_keeps_the_right s.floor.seats w right owner (turn_number (turn s.floor.history)) (is_standing k o s.floor) (is_quiet k o s.floor) i h.stands idle in
+      let stands = arrive_keeps_the_right s.floor.seats w right owner (turn_number (turn s.floor.history)) (is_standing k o s.floor) (is_quiet k o s.floor) i h.stands idle in
       let After : Bool → Type 0 = λ b.
       let v : World = record w { drawn = w.drawn + 1; unpassed = w.unpassed + 1; place = put w.place i (cond b (Due (Free w.drawn)) (Ticket w.drawn)) } in
       StandsSo v (cond b (with_seat i) right) (cond b owner (put owner w.drawn i)) → Sound k o (record s { world = v }) in
@@ -91,7 +91,7 @@ module _ (k : Rules) (o : Object) (s : State) (right : ℕ) (owner : ℕ → ℕ
   sound_ticket_look t true at test =
       let w = s.world in
       let r = h.stands.keeps in
-      let one : stage (w.place i) ≡ 1 = ap stage at in
+      let one : stage (w.place i) ≡ ticketed_stage = ap stage at in
       let same : ticket (w.place i) ≡ t = ap ticket at in
       let some : 0 < s.floor.seats = omega arith in
       let late = h.late i one in
@@ -133,14 +133,14 @@ module _ (k : Rules) (o : Object) (s : State) (right : ℕ) (owner : ℕ → ℕ
       (record { right = right; owner = owner; is_sound = h }))
 
   -- nobody else is active where seat i has the right
-  alone : 2 ≤ stage (s.world.place i) → stage (s.world.place i) ≤ 5 → (n : ℕ) (j : ℕ) → j ≢ i → stage (s.world.place j) ≡ 3 → 2 ≤ s.world.unpassed → 2 ≤ n
+  alone : due_stage ≤ stage (s.world.place i) → stage (s.world.place i) ≤ passing_stage → (n : ℕ) (j : ℕ) → j ≢ i → stage (s.world.place j) ≡ active_stage → 2 ≤ s.world.unpassed → 2 ≤ n
   alone low high n j ne a b = absurd (others s.floor.seats s.world right owner h.stands.keeps i low high j ne (omega arith) (omega arith))
 
   pub sound_drop : (home : Home) → s.world.place i ≡ Back Entry home → Sound k o (record s { world = after_drop s.world i home })
   sound_drop home back =
       let w = s.world in
       let r = h.stands.keeps in
-      let four : stage (w.place i) ≡ 4 = ap stage back in
+      let four : stage (w.place i) ≡ back_stage = ap stage back in
       let next : ℕ = w.drawn - w.unpassed + 1 in
       let enough = subst (λ (p : Place). left_at p ≤ left_of s.floor.budget s.floor.history i) back (h.left i) in
       let stands = drop_keeps_the_right s.floor.seats w right owner (turn_number (turn s.floor.history)) (is_standing k o s.floor) (is_quiet k o s.floor) i h.stands home back in
@@ -170,7 +170,7 @@ module _ (k : Rules) (o : Object) (s : State) (right : ℕ) (owner : ℕ → ℕ
   pub sound_ticket_grant : (t : ℕ) (home : Home) → s.world.place i ≡ Passing t home → Sound k o (record s { world = after_ticket_grant s.floor.seats s.world i t home })
   sound_ticket_grant t home at =
       let w = s.world in
-      let five : stage (w.place i) ≡ 5 = ap stage at in
+      let five : stage (w.place i) ≡ passing_stage = ap stage at in
       let enough = subst (λ (p : Place). left_at p ≤ left_of s.floor.budget s.floor.history i) at (h.left i) in
       record {
         right = granted;
@@ -183,10 +183,10 @@ module _ (k : Rules) (o : Object) (s : State) (right : ℕ) (owner : ℕ → ℕ
             (rw (home_left home) enough) (alone (omega arith) (omega arith) w.unpassed);
       }
 
-  pub sound_seat_grant : (next : Next) (m : ℕ) (home : Home) → s.world.place i ≡ Back next home → turn_chosen next ≡ due_to m → Sound k o (record s { world = after_seat_grant s.world i m home })
+  pub sound_seat_grant : (next : Next) (m : ℕ) (home : Home) → s.world.place i ≡ Back next home → turn_of_next next ≡ due_to m → Sound k o (record s { world = after_seat_grant s.world i m home })
   sound_seat_grant next m home at is =
       let w = s.world in
-      let four : stage (w.place i) ≡ 4 = ap stage at in
+      let four : stage (w.place i) ≡ back_stage = ap stage at in
       let enough = subst (λ (p : Place). left_at p ≤ left_of s.floor.budget s.floor.history i) at (h.left i) in
       record {
         right = called m;

@@ -1,8 +1,8 @@
 -- Each kind of step keeps a world standing
 use Rattle.std.proofs.Common.{◌≡◌, ◌≢◌, ℕ, true, false, ◌+◌, ◌-◌, ◌%◌, ◌==◌, ◌≤◌, inl, inr, sym, refl, ap, ◌∙◌, subst, cond, Bool, arith, eqb-true}
 use Rattle.std.proofs.lemmas.Bool.Decides.{eqb_tells}
-use Rattle.monk_world.specs.Laws.{OpeningStands, ArrivalKeeps, TicketLookKeeps, SeatLookKeeps, OutKeeps, ActiveKeeps, InKeeps, DropKeeps, TicketGrantKeeps, SeatGrantKeeps, StandsInOnePlace}
-use Rattle.monk_world.specs.Places.{stage, ticket, chosen, due_to, turn_chosen, place_of, is_queued_at}
+use Rattle.monk_world.specs.Laws.{OpeningStands, ArriveKeeps, TicketLookKeeps, SeatLookKeeps, FloorOutKeeps, ActiveKeeps, FloorInKeeps, DropKeeps, TicketGrantKeeps, SeatGrantKeeps, StandsInOnePlace}
+use Rattle.monk_world.specs.Places.{stage, ticket, back_turn, due_to, turn_of_next, place_of, is_queued_at, outside_stage, ticketed_stage, due_stage, active_stage, back_stage, passing_stage, inside_stage}
 use Rattle.monk_world.specs.Put.{put}
 use Rattle.monk_world.specs.Right.{KeepsRight, nowhere, granted, with_seat}
 use Rattle.monk_world.specs.Stands.{Stands}
@@ -45,10 +45,10 @@ opening_stands seats = record {
   fits_queues = record { in_queue = λ j _. refl; free = λ _. refl; still_free = λ j a. absurd (omega arith); back_to_entry = λ j a. absurd (omega arith) };
 }
 
-pub arrival_keeps_the_right : ArrivalKeeps
-arrival_keeps_the_right seats w right owner turn queued quiet i h idle =
+pub arrive_keeps_the_right : ArriveKeeps
+arrive_keeps_the_right seats w right owner turn queued quiet i h idle =
     let r = h.keeps in
-    let zero : stage (w.place i) ≡ 0 = ap stage idle in
+    let zero : stage (w.place i) ≡ outside_stage = ap stage idle in
     let After : Bool → Type 0 = λ b. Stands seats (record w { drawn = w.drawn + 1; unpassed = w.unpassed + 1; place = put w.place i (cond b (Due (Free w.drawn)) (Ticket w.drawn)) })
     (cond b (with_seat i) right) (cond b owner (put owner w.drawn i)) turn queued quiet in
     elim (eqb_tells w.unpassed 0) as (λ _. After (w.unpassed == 0)) [
@@ -67,7 +67,7 @@ arrival_keeps_the_right seats w right owner turn queued quiet i h idle =
 pub ticket_look_keeps_the_right : TicketLookKeeps
 ticket_look_keeps_the_right seats w right owner turn queued quiet i h t true some at test =
     let r = h.keeps in
-    let one : stage (w.place i) ≡ 1 = ap stage at in
+    let one : stage (w.place i) ≡ ticketed_stage = ap stage at in
     let same : ticket (w.place i) ≡ t = ap ticket at in
     let found : w.ticket_place (t % seats) ≡ t + 1 = eqb-true _ _ test in
     let here = subst (λ (k : ℕ). w.ticket_place (k % seats) ≡ k + 1) (sym same) found in
@@ -82,7 +82,7 @@ ticket_look_keeps_the_right seats w right owner turn queued quiet i h t false so
 pub seat_look_keeps_the_right : SeatLookKeeps
 seat_look_keeps_the_right seats w right owner turn queued quiet i h true at test =
     let r = h.keeps in
-    let six : stage (w.place i) ≡ 6 = ap stage at in
+    let six : stage (w.place i) ≡ inside_stage = ap stage at in
     let found : w.seat_place i ≡ w.count i + 1 = eqb-true _ _ test in
     let count = put w.count i (w.count i + 1) in
     record {
@@ -94,7 +94,7 @@ seat_look_keeps_the_right seats w right owner turn queued quiet i h false at tes
     subst (λ (place : ℕ → Place). Stands seats (record w { place = place; count = put w.count i (w.count i) }) right owner turn queued quiet) (sym (put_same w.place i Inner at))
     (subst (λ (count : ℕ → ℕ). Stands seats (record w { count = count }) right owner turn queued quiet) (sym (put_same w.count i (w.count i) refl)) h)
 
-pub floor_out_keeps_the_right : OutKeeps
+pub floor_out_keeps_the_right : FloorOutKeeps
 floor_out_keeps_the_right seats w right owner turn queued quiet i h q turn_new queued_new quiet_new due alike =
     let r = h.keeps in
     record {
@@ -113,7 +113,7 @@ activity_keeps_the_right seats w right owner turn queued quiet i h q turn_new qu
     }
 
 -- a seat in a queue that has not the right is parked inside
-parked : (p : Place) → is_queued_at p ≡ true → (2 ≤ stage p → stage p ≤ 5 → ⊥) → stage p ≡ 6
+parked : (p : Place) → is_queued_at p ≡ true → (due_stage ≤ stage p → stage p ≤ passing_stage → ⊥) → stage p ≡ inside_stage
 parked Idle e none = absurd cc
 parked (Ticket t) e none = absurd cc
 parked (Due q) e none = absurd (none (omega arith) (omega arith))
@@ -122,13 +122,13 @@ parked (Back next home) e none = absurd (none (omega arith) (omega arith))
 parked (Passing t home) e none = absurd (none (omega arith) (omega arith))
 parked Inner e none = refl
 
-pub floor_in_keeps_the_right : InKeeps
+pub floor_in_keeps_the_right : FloorInKeeps
 floor_in_keeps_the_right seats w right owner turn queued quiet i h q next home queued_new quiet_new active chosen_seat alike own entry =
     let r = h.keeps in
-    let three : stage (w.place i) ≡ 3 = ap stage active in
+    let three : stage (w.place i) ≡ active_stage = ap stage active in
     let mine = r.held i (omega arith) (omega arith) in
-    let none : (j : ℕ) → j ≢ i → 2 ≤ stage (w.place j) → stage (w.place j) ≤ 5 → ⊥ = λ j ne a b. ne (let e = r.held j a b in omega arith) in
-    let inner : (k : ℕ) → turn_chosen next ≡ due_to k → stage (w.place k) ≡ 6 = λ k e.
+    let none : (j : ℕ) → j ≢ i → due_stage ≤ stage (w.place j) → stage (w.place j) ≤ passing_stage → ⊥ = λ j ne a b. ne (let e = r.held j a b in omega arith) in
+    let inner : (k : ℕ) → turn_of_next next ≡ due_to k → stage (w.place k) ≡ inside_stage = λ k e.
     let c = chosen_seat k e in
     parked (w.place k) (sym (h.fits_queues.in_queue k (λ z. none k c.0 (omega arith) (omega arith))) ∙ sym (alike k c.0) ∙ c.1) (none k c.0) in
     record {
@@ -140,7 +140,7 @@ floor_in_keeps_the_right seats w right owner turn queued quiet i h q next home q
 pub drop_keeps_the_right : DropKeeps
 drop_keeps_the_right seats w right owner turn queued quiet i h home back =
     let r = h.keeps in
-    let four : stage (w.place i) ≡ 4 = ap stage back in
+    let four : stage (w.place i) ≡ back_stage = ap stage back in
     let next : ℕ = w.drawn - w.unpassed + 1 in
     let After : Bool → Type 0 = λ b. Stands seats (record w { unpassed = w.unpassed - 1; place = put w.place i (cond b (place_of home) (Passing next home)) })
     (cond b nowhere (with_seat i)) owner turn queued quiet in
@@ -171,7 +171,7 @@ pub seat_grant_keeps_the_right : SeatGrantKeeps
 seat_grant_keeps_the_right seats w right owner turn queued quiet i h next k home at is =
     let r = h.keeps in
     record {
-      keeps = calls_seat seats w right owner r i k home (ap stage at) (ap chosen at ∙ is);
+      keeps = calls_seat seats w right owner r i k home (ap stage at) (ap back_turn at ∙ is);
       fits_turn = turns.calls_seat seats w right owner r turn h.fits_turn i next k home at is;
       fits_queues = queues.calls_seat seats w right owner r queued quiet h.fits_queues i next k home at;
     }

@@ -4,7 +4,7 @@ use Rattle.std.specs.Prelude.{nat_lt, Some}
 use Rattle.std.proofs.lemmas.Bool.{lt-ltb}
 use Rattle.monk_kinds.specs.declared.mode.Rules.{Rules}
 use Rattle.monk_object.specs.Object.{Object}
-use Rattle.monk_history.specs.Meaning.Counts.{names}
+use Rattle.monk_history.specs.Meaning.Counts.{chooses_seat}
 use Rattle.monk_history.specs.Meaning.Entry.{IsQuiet}
 use Rattle.monk_history.specs.Meaning.Events.{is_stay}
 use Rattle.monk_history.specs.Meaning.Signallers.{is_empty}
@@ -15,7 +15,7 @@ use Rattle.monk_history.specs.declared.event.Next.TheVariants as next
 use Rattle.monk_history.specs.declared.event.Turn.{Turn}
 use Rattle.monk_history.specs.declared.event.Turn.TheVariants.{Open, Due, Owned}
 use Rattle.monk_floor.specs.View.{FloorView, monitor_of}
-use Rattle.monk_world.specs.Places.{open_turn, due_to, turn_chosen}
+use Rattle.monk_world.specs.Places.{open_turn, due_to, turn_of_next}
 use Rattle.monk_world.specs.State.{is_quiet}
 use Rattle.monk_world.specs.Turns.{turn_number}
 
@@ -52,21 +52,21 @@ due_is Open i e = absurd (omega arith)
 due_is (Due j q) i e = let same : j ≡ i = omega arith in (q, ap (λ (k : ℕ). Due k q) same)
 due_is (Owned j) i e = absurd (omega arith)
 
-pub number_chosen : (i : ℕ) (x : Next) → is_stay (Some x) ≡ false → turn_number (turn_by i (Some x)) ≡ turn_chosen x
+pub number_chosen : (i : ℕ) (x : Next) → is_stay (Some x) ≡ false → turn_number (turn_by i (Some x)) ≡ turn_of_next x
 number_chosen i next.Stay e = absurd cc
 number_chosen i next.Entry e = refl
 number_chosen i (next.Waiter j) e = refl
 number_chosen i (next.Signaller j) e = refl
 number_chosen i (next.Until j) e = refl
 
-pub names_chosen : (x : Next) (k : ℕ) → turn_chosen x ≡ due_to k → names k (Some x) ≡ true
+pub names_chosen : (x : Next) (k : ℕ) → turn_of_next x ≡ due_to k → chooses_seat k (Some x) ≡ true
 names_chosen next.Stay k e = absurd (omega arith)
 names_chosen next.Entry k e = absurd (omega arith)
 names_chosen (next.Waiter j) k e = eq-eqb j k (omega arith)
 names_chosen (next.Signaller j) k e = eq-eqb j k (omega arith)
 names_chosen (next.Until j) k e = eq-eqb j k (omega arith)
 
-pub entry_chosen : (x : Next) → is_stay (Some x) ≡ false → turn_chosen x ≡ open_turn → x ≡ next.Entry
+pub entry_chosen : (x : Next) → is_stay (Some x) ≡ false → turn_of_next x ≡ open_turn → x ≡ next.Entry
 entry_chosen next.Stay s e = absurd cc
 entry_chosen next.Entry s e = refl
 entry_chosen (next.Waiter j) s e = absurd (omega arith)

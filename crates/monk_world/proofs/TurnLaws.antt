@@ -2,11 +2,11 @@
 use Rattle.std.proofs.Common.{◌≡◌, ◌≢◌, ℕ, ◌+◌, ◌-◌, sym, refl, ap, ◌∙◌, subst, arith}
 use Rattle.monk_history.specs.declared.event.Next.{Next}
 use Rattle.monk_history.specs.declared.event.Next.TheVariants.{Entry}
-use Rattle.monk_world.specs.Places.{stage, open_turn, due_to, turn_chosen, place_of}
+use Rattle.monk_world.specs.Places.{stage, open_turn, due_to, turn_of_next, place_of, active_stage}
 use Rattle.monk_world.specs.Put.{put}
 use Rattle.monk_world.specs.Right.{KeepsRight, nowhere, granted, with_seat, called}
 use Rattle.monk_world.specs.Turns.{FitsTurn, turn_at}
-use Rattle.monk_world.specs.Steps.{after_out, after_in, after_ticket_grant, after_seat_grant}
+use Rattle.monk_world.specs.Steps.{after_floor_out, after_floor_in, after_ticket_grant, after_seat_grant}
 use Rattle.monk_world.specs.World.{World}
 use Rattle.monk_world.specs.declared.home.Home.{Home}
 use Rattle.monk_world.specs.declared.place.Place.{Place}
@@ -21,9 +21,9 @@ module _ (seats : ℕ) (s : World) (right : ℕ) (owner : ℕ → ℕ) (r : Keep
   stage_of p at = ap stage at
 
   -- the step of seat i, which has the right before and after it
-  holder : (p : Place) (turn_new : ℕ) → right ≡ with_seat i → (stage p ≢ 3 → turn_new ≡ turn_at i p) → FitsTurn (record s { place = put s.place i p }) right turn_new
+  holder : (p : Place) (turn_new : ℕ) → right ≡ with_seat i → (stage p ≢ active_stage → turn_new ≡ turn_at i p) → FitsTurn (record s { place = put s.place i p }) right turn_new
   holder p turn_new mine agrees = record {
-    with = at_put s.place i p (λ j y. right ≡ with_seat j → stage y ≢ 3 → turn_new ≡ turn_at j y) (λ _ ne. agrees ne) (λ j ne e. absurd (ne (omega arith)));
+    with = at_put s.place i p (λ j y. right ≡ with_seat j → stage y ≢ active_stage → turn_new ≡ turn_at j y) (λ _ ne. agrees ne) (λ j ne e. absurd (ne (omega arith)));
     called_seat = λ j e. absurd (with_called i j (sym mine ∙ e));
     else_open = λ a b. absurd (a i mine);
   }
@@ -31,7 +31,7 @@ module _ (seats : ℕ) (s : World) (right : ℕ) (owner : ℕ → ℕ) (r : Keep
   -- seat i takes the right
   taken : (p : Place) → turn ≡ turn_at i p → FitsTurn (record s { place = put s.place i p }) (with_seat i) turn
   taken p agrees = record {
-    with = at_put s.place i p (λ j y. with_seat i ≡ with_seat j → stage y ≢ 3 → turn ≡ turn_at j y) (λ _ _. agrees) (λ j ne e. absurd (ne (omega arith)));
+    with = at_put s.place i p (λ j y. with_seat i ≡ with_seat j → stage y ≢ active_stage → turn ≡ turn_at j y) (λ _ _. agrees) (λ j ne e. absurd (ne (omega arith)));
     called_seat = λ j e. absurd (with_called i j e);
     else_open = λ a b. absurd (a i refl);
   }
@@ -48,8 +48,8 @@ module _ (seats : ℕ) (s : World) (right : ℕ) (owner : ℕ → ℕ) (r : Keep
   turn_granted e = f.else_open (λ j a. absurd (omega arith)) (λ j a. absurd (omega arith))
 
   -- whose turn it is where seat i has the right and is not active
-  turn_here : (p : Place) → s.place i ≡ p → right ≡ with_seat i → stage p ≢ 3 → turn ≡ turn_at i p
-  turn_here p at mine ne = subst (λ (y : Place). stage y ≢ 3 → turn ≡ turn_at i y) at (f.with i mine) ne
+  turn_here : (p : Place) → s.place i ≡ p → right ≡ with_seat i → stage p ≢ active_stage → turn ≡ turn_at i p
+  turn_here p at mine ne = subst (λ (y : Place). stage y ≢ active_stage → turn ≡ turn_at i y) at (f.with i mine) ne
 
   pub arrives_free : s.unpassed ≡ 0 → FitsTurn (record s { drawn = s.drawn + 1; unpassed = s.unpassed + 1; place = put s.place i (Due (Free s.drawn)) }) (with_seat i) turn
   arrives_free none =
@@ -58,7 +58,7 @@ module _ (seats : ℕ) (s : World) (right : ℕ) (owner : ℕ → ℕ) (r : Keep
 
   pub arrives_behind : s.place i ≡ Idle → FitsTurn (record s { drawn = s.drawn + 1; unpassed = s.unpassed + 1; place = put s.place i (Ticket s.drawn) }) right turn
   arrives_behind idle = record {
-    with = at_put s.place i (Ticket s.drawn) (λ j y. right ≡ with_seat j → stage y ≢ 3 → turn ≡ turn_at j y)
+    with = at_put s.place i (Ticket s.drawn) (λ j y. right ≡ with_seat j → stage y ≢ active_stage → turn ≡ turn_at j y)
         (λ e. let z = stage_of Idle idle in let a = r.holds i e in let b = a.0 in absurd (omega arith)) (λ j _. f.with j);
     called_seat = f.called_seat;
     else_open = f.else_open;
@@ -72,14 +72,14 @@ module _ (seats : ℕ) (s : World) (right : ℕ) (owner : ℕ → ℕ) (r : Keep
       let t = taken (Due Called) (f.called_seat i is) in
       record { with = t.with; called_seat = t.called_seat; else_open = t.else_open }
 
-  pub comes_out : (q : Source) (turn_new : ℕ) → s.place i ≡ Due q → FitsTurn (after_out s i q) right turn_new
+  pub comes_out : (q : Source) (turn_new : ℕ) → s.place i ≡ Due q → FitsTurn (after_floor_out s i q) right turn_new
   comes_out q turn_new due =
       let z = stage_of (Due q) due in
       holder (Active q) turn_new (r.held i (omega arith) (omega arith)) (λ ne. absurd (ne refl))
 
   pub stays_active : (q : Source) (turn_new : ℕ) → s.place i ≡ Active q → FitsTurn s right turn_new
   stays_active q turn_new active =
-      let three : stage (s.place i) ≡ 3 = stage_of (Active q) active in
+      let three : stage (s.place i) ≡ active_stage = stage_of (Active q) active in
       let mine = r.held i (omega arith) (omega arith) in
       record {
         with = λ j e ne. let same : j ≡ i = omega arith in absurd (ne (ap (λ (k : ℕ). stage (s.place k)) same ∙ three));
@@ -87,10 +87,10 @@ module _ (seats : ℕ) (s : World) (right : ℕ) (owner : ℕ → ℕ) (r : Keep
         else_open = λ a b. absurd (a i mine);
       }
 
-  pub goes_home : (q : Source) (next : Next) (home : Home) → s.place i ≡ Active q → FitsTurn (after_in s i next home) right (turn_chosen next)
+  pub goes_home : (q : Source) (next : Next) (home : Home) → s.place i ≡ Active q → FitsTurn (after_floor_in s i next home) right (turn_of_next next)
   goes_home q next home active =
       let z = stage_of (Active q) active in
-      holder (Back next home) (turn_chosen next) (r.held i (omega arith) (omega arith)) (λ _. refl)
+      holder (Back next home) (turn_of_next next) (r.held i (omega arith) (omega arith)) (λ _. refl)
 
   pub drops_last : (home : Home) → s.place i ≡ Back Entry home → FitsTurn (record s { unpassed = s.unpassed - 1; place = put s.place i (place_of home) }) nowhere turn
   drops_last home back =
@@ -112,7 +112,7 @@ module _ (seats : ℕ) (s : World) (right : ℕ) (owner : ℕ → ℕ) (r : Keep
       let turn_open = turn_here (Passing t home) five (r.held i (omega arith) (omega arith)) (λ e. omega arith) in
       record { with = λ j e. absurd (omega arith); called_seat = λ j e. absurd (omega arith); else_open = λ _ _. turn_open }
 
-  pub calls_seat : (next : Next) (k : ℕ) (home : Home) → s.place i ≡ Back next home → turn_chosen next ≡ due_to k → FitsTurn (after_seat_grant s i k home) (called k) turn
+  pub calls_seat : (next : Next) (k : ℕ) (home : Home) → s.place i ≡ Back next home → turn_of_next next ≡ due_to k → FitsTurn (after_seat_grant s i k home) (called k) turn
   calls_seat next k home back is =
       let z = stage_of (Back next home) back in
       let due : turn ≡ due_to k = turn_here (Back next home) back (r.held i (omega arith) (omega arith)) (λ e. omega arith) ∙ is in

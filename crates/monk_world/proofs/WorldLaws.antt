@@ -30,17 +30,17 @@ use Rattle.monk_history.specs.declared.event.Turn.TheVariants as turn
 use Rattle.monk_history.proofs.MeaningLaws.LegalLaws.{legal_last}
 use Rattle.monk_floor.specs.Due.{IsDueTo}
 use Rattle.monk_floor.specs.Grown.{IsGrown}
-use Rattle.monk_floor.specs.View.{FloorView, monitor_of, fresh}
+use Rattle.monk_floor.specs.View.{FloorView, monitor_of, empty_floor}
 use Rattle.monk_world.specs.Kept.{IsKept}
-use Rattle.monk_world.specs.Places.{stage, ticket, chosen, turn_chosen, due_to}
+use Rattle.monk_world.specs.Places.{stage, ticket, back_turn, turn_of_next, due_to, outside_stage, active_stage, back_stage}
 use Rattle.monk_world.specs.Right.{with_seat, called}
 use Rattle.monk_world.specs.Put.{put}
 use Rattle.monk_world.specs.Sound.{IsSound, Sound, left_at}
-use Rattle.monk_world.specs.State.{State, grown}
-use Rattle.monk_world.specs.Steps.{after_arrival, after_ticket_look, after_seat_look, after_out, after_in, after_drop, after_ticket_grant, after_seat_grant}
-use Rattle.monk_world.specs.StepTable.{may_be_told, is_call_in_range, is_call_offered, call_of, left_for, let_entry, is_back, refusal, release_next, out_event, queue_due, IsDone, IsReleased}
+use Rattle.monk_world.specs.State.{State, with_event}
+use Rattle.monk_world.specs.Steps.{after_arrive, after_ticket_look, after_seat_look, after_floor_out, after_floor_in, after_drop, after_ticket_grant, after_seat_grant}
+use Rattle.monk_world.specs.StepTable.{may_be_told, is_call_in_range, is_call_offered, call_of, left_for, names_entry, is_back, refusal, release_next, out_event, queue_due, IsDone, IsReleased}
 use Rattle.monk_world.specs.Telling as telling
-use Rattle.monk_world.specs.Words.{WorldView, state_of, view_in, state_in, shown, Shows, ShowsKnown}
+use Rattle.monk_world.specs.Board.{WorldView, state_of, view_in, state_in, world_on, Shows, ShowsKnown}
 use Rattle.monk_world.specs.declared.answer.Answer.{Answer}
 use Rattle.monk_world.specs.declared.answer.Answer.TheVariants as answer
 use Rattle.monk_world.specs.declared.command.Command.{Command}
@@ -49,12 +49,12 @@ use Rattle.monk_world.specs.declared.home.Home.{Home}
 use Rattle.monk_world.specs.declared.place.Place.{Place}
 use Rattle.monk_world.specs.declared.place.Place.TheVariants.{Idle, Ticket, Due, Active, Back, Passing, Inner}
 use Rattle.monk_world.specs.declared.source.Source.{Source}
-use Rattle.monk_world.specs.declared.words.Words.{Words}
+use Rattle.monk_world.specs.declared.board.Board.{Board}
 use Rattle.monk_world.proofs.BoundLaws.{few_drawn, few_calls}
 use Rattle.monk_world.proofs.DoneLaws.{IsReady, ready, kept_done}
 use Rattle.monk_world.proofs.SoundFloor.{sound_out}
 
-idle_is : (p : Place) → (stage p == 0) ≡ true → p ≡ Idle
+idle_is : (p : Place) → (stage p == outside_stage) ≡ true → p ≡ Idle
 idle_is Idle e = refl
 idle_is (Ticket t) e = absurd cc
 idle_is (Due q) e = absurd cc
@@ -67,7 +67,7 @@ pub record IsActive (p : Place) : Type 0 where
   pub source : Source
   pub is : p ≡ Active source
 
-pub active_is : (p : Place) → (stage p == 3) ≡ true → IsActive p
+pub active_is : (p : Place) → (stage p == active_stage) ≡ true → IsActive p
 active_is Idle e = absurd cc
 active_is (Ticket t) e = absurd cc
 active_is (Due q) e = absurd cc
@@ -76,7 +76,7 @@ active_is (Back x to) e = absurd cc
 active_is (Passing t to) e = absurd cc
 active_is Inner e = absurd cc
 
-entry_of : (x : Next) (to : Home) → let_entry x ≡ true → Back x to ≡ Back next.Entry to
+entry_of : (x : Next) (to : Home) → names_entry x ≡ true → Back x to ≡ Back next.Entry to
 entry_of next.Stay to e = absurd cc
 entry_of next.Entry to e = refl
 entry_of (next.Waiter j) to e = absurd cc
@@ -84,11 +84,11 @@ entry_of (next.Signaller j) to e = absurd cc
 entry_of (next.Until j) to e = absurd cc
 
 -- where it may drop, it chose entry
-pub entry_is : (p : Place) (x : Next) (to : Home) → p ≡ Back x to → is_back let_entry p ≡ true → p ≡ Back next.Entry to
-entry_is p x to is e = is ∙ entry_of x to (sym (ap (λ (q : Place). is_back let_entry q) is) ∙ e)
+pub entry_is : (p : Place) (x : Next) (to : Home) → p ≡ Back x to → is_back names_entry p ≡ true → p ≡ Back next.Entry to
+entry_is p x to is e = is ∙ entry_of x to (sym (ap (λ (q : Place). is_back names_entry q) is) ∙ e)
 
 -- of a world with these words and this floor, seen as v
-module _ (k : Rules) (o : Object) (w : Words) (f : FloorView) (v : WorldView) (is : view_in w f ≡ v) (i : ℕ) where
+module _ (k : Rules) (o : Object) (w : Board) (f : FloorView) (v : WorldView) (is : view_in w f ≡ v) (i : ℕ) where
   abbrev s : State
   s = state_in w f
 
@@ -98,7 +98,7 @@ module _ (k : Rules) (o : Object) (w : Words) (f : FloorView) (v : WorldView) (i
   pub returned : (c : Command) (a : Answer) (t : State) → IsDone k o s i (s.world.place i) c a t → IsDone k o (state_of v) i ((state_of v).world.place i) c a t
   returned c a t d = subst (λ (u : WorldView). IsDone k o (state_of u) i ((state_of u).world.place i) c a t) is d
 
-  pub kept : (c : Command) (a : Answer) (new : Words) (g : FloorView) (conds : ℕ) → IsKind k → IsKept k o w.seats conds s → refusal k o (state_of v) i c ≡ None → new.seats ≡ w.seats
+  pub kept : (c : Command) (a : Answer) (new : Board) (g : FloorView) (conds : ℕ) → IsKind k → IsKept k o w.seats conds s → refusal k o (state_of v) i c ≡ None → new.seats ≡ w.seats
       → IsDone k o s i (s.world.place i) c a (state_in new g) → IsKept k o new.seats conds (state_in new g)
   kept c a new g conds kind old free same d =
       subst (λ (n : ℕ). IsKept k o n conds (state_in new g)) (sym same) (kept_done k o s i c a (state_in new g) w.seats conds kind old (free_here c free) d)
@@ -115,59 +115,59 @@ module _ (k : Rules) (o : Object) (w : Words) (f : FloorView) (v : WorldView) (i
   at_place : (p : Place) (c : Command) (a : Answer) (t : State) → s.world.place i ≡ p → IsDone k o s i p c a t → Goes c a t
   at_place p c a t at d = subst (λ (q : Place). IsDone k o s i q c a t) (sym at) d
 
-  pub arrive_goes : (a : Answer) (new : Words) → refusal k o (state_of v) i command.Arrive ≡ None → a ≡ answer.Arrived w.drawn w.unpassed → Shows w (after_arrival (shown w) i) new → Goes command.Arrive a (state_in new f)
+  pub arrive_goes : (a : Answer) (new : Board) → refusal k o (state_of v) i command.Arrive ≡ None → a ≡ answer.Arrived w.drawn w.unpassed → Shows w (after_arrive (world_on w) i) new → Goes command.Arrive a (state_in new f)
   arrive_goes a new free is_a shows = at_place Idle command.Arrive a (state_in new f) (idle_is (s.world.place i) ((ready_here command.Arrive free).told)) (is_a, shows.state f)
 
-  pub ticket_look_goes : (n : ℕ) (a : Answer) (new : Words) (conds : ℕ) → IsKept k o w.seats conds s → s.world.place i ≡ Ticket n
-      → a ≡ answer.Looked ((shown w).ticket_place (n % w.seats) == n + 1) → Shows w (after_ticket_look (shown w) i n ((shown w).ticket_place (n % w.seats) == n + 1)) new → Goes command.Look a (state_in new f)
+  pub ticket_look_goes : (n : ℕ) (a : Answer) (new : Board) (conds : ℕ) → IsKept k o w.seats conds s → s.world.place i ≡ Ticket n
+      → a ≡ answer.Looked ((world_on w).ticket_place (n % w.seats) == n + 1) → Shows w (after_ticket_look (world_on w) i n ((world_on w).ticket_place (n % w.seats) == n + 1)) new → Goes command.Look a (state_in new f)
   ticket_look_goes n a new conds old at is_a shows =
       at_place (Ticket n) command.Look a (state_in new f) at
-      (subst (λ (m : ℕ). (a ≡ answer.Looked ((shown w).ticket_place (n % m) == n + 1)) × (state_in new f ≡ record s { world = after_ticket_look (shown w) i n ((shown w).ticket_place (n % m) == n + 1) })) old.seats_are (is_a, shows.state f))
+      (subst (λ (m : ℕ). (a ≡ answer.Looked ((world_on w).ticket_place (n % m) == n + 1)) × (state_in new f ≡ record s { world = after_ticket_look (world_on w) i n ((world_on w).ticket_place (n % m) == n + 1) })) old.seats_are (is_a, shows.state f))
 
-  pub seat_look_goes : (a : Answer) (new : Words) → s.world.place i ≡ Inner
-      → a ≡ answer.Looked ((shown w).seat_place i == (shown w).count i + 1) → Shows w (after_seat_look (shown w) i ((shown w).seat_place i == (shown w).count i + 1)) new → Goes command.Look a (state_in new f)
+  pub seat_look_goes : (a : Answer) (new : Board) → s.world.place i ≡ Inner
+      → a ≡ answer.Looked ((world_on w).seat_place i == (world_on w).count i + 1) → Shows w (after_seat_look (world_on w) i ((world_on w).seat_place i == (world_on w).count i + 1)) new → Goes command.Look a (state_in new f)
   seat_look_goes a new at is_a shows = at_place Inner command.Look a (state_in new f) at (is_a, shows.state f)
 
   pub idle_peek_goes : (a : Answer) → s.world.place i ≡ Idle → a ≡ answer.Found w.unpassed → Goes command.Peek a s
   idle_peek_goes a at is_a = at_place Idle command.Peek a s at (is_a, refl)
 
-  pub active_peek_goes : (q : Source) (a : Answer) (new : Words) → s.world.place i ≡ Active q → a ≡ answer.Found w.unpassed
-      → ShowsKnown w (shown w) (put (λ j. slice_index_or w.known.items j false) i (slice_index_or w.known.items i false || nat_le 2 w.unpassed)) new → Goes command.Peek a (state_in new f)
+  pub active_peek_goes : (q : Source) (a : Answer) (new : Board) → s.world.place i ≡ Active q → a ≡ answer.Found w.unpassed
+      → ShowsKnown w (world_on w) (put (λ j. slice_index_or w.known.items j false) i (slice_index_or w.known.items i false || nat_le 2 w.unpassed)) new → Goes command.Peek a (state_in new f)
   active_peek_goes q a new at is_a shows = at_place (Active q) command.Peek a (state_in new f) at (is_a, shows.state f)
 
-  pub drop_goes : (to : Home) (a : Answer) (new : Words) → s.world.place i ≡ Back next.Entry to → a ≡ answer.Found w.unpassed → Shows w (after_drop (shown w) i to) new → Goes command.Drop a (state_in new f)
+  pub drop_goes : (to : Home) (a : Answer) (new : Board) → s.world.place i ≡ Back next.Entry to → a ≡ answer.Found w.unpassed → Shows w (after_drop (world_on w) i to) new → Goes command.Drop a (state_in new f)
   drop_goes to a new at is_a shows = at_place (Back next.Entry to) command.Drop a (state_in new f) at (is_a, shows.state f)
 
-  pub ticket_grant_goes : (n : ℕ) (to : Home) (a : Answer) (new : Words) (conds : ℕ) → IsKept k o w.seats conds s → s.world.place i ≡ Passing n to
-      → a ≡ answer.GrantedTicket n → Shows w (after_ticket_grant w.seats (shown w) i n to) new → Goes command.Grant a (state_in new f)
+  pub ticket_grant_goes : (n : ℕ) (to : Home) (a : Answer) (new : Board) (conds : ℕ) → IsKept k o w.seats conds s → s.world.place i ≡ Passing n to
+      → a ≡ answer.GrantedTicket n → Shows w (after_ticket_grant w.seats (world_on w) i n to) new → Goes command.Grant a (state_in new f)
   ticket_grant_goes n to a new conds old at is_a shows =
       at_place (Passing n to) command.Grant a (state_in new f) at
-      (is_a, subst (λ (m : ℕ). state_in new f ≡ record s { world = after_ticket_grant m (shown w) i n to }) old.seats_are (shows.state f))
+      (is_a, subst (λ (m : ℕ). state_in new f ≡ record s { world = after_ticket_grant m (world_on w) i n to }) old.seats_are (shows.state f))
 
-  pub waiter_grant_goes : (j : ℕ) (to : Home) (a : Answer) (new : Words) → s.world.place i ≡ Back (next.Waiter j) to → a ≡ answer.GrantedSeat j → Shows w (after_seat_grant (shown w) i j to) new → Goes command.Grant a (state_in new f)
+  pub waiter_grant_goes : (j : ℕ) (to : Home) (a : Answer) (new : Board) → s.world.place i ≡ Back (next.Waiter j) to → a ≡ answer.GrantedSeat j → Shows w (after_seat_grant (world_on w) i j to) new → Goes command.Grant a (state_in new f)
   waiter_grant_goes j to a new at is_a shows = at_place (Back (next.Waiter j) to) command.Grant a (state_in new f) at (is_a, shows.state f)
 
-  pub signaller_grant_goes : (j : ℕ) (to : Home) (a : Answer) (new : Words) → s.world.place i ≡ Back (next.Signaller j) to → a ≡ answer.GrantedSeat j → Shows w (after_seat_grant (shown w) i j to) new → Goes command.Grant a (state_in new f)
+  pub signaller_grant_goes : (j : ℕ) (to : Home) (a : Answer) (new : Board) → s.world.place i ≡ Back (next.Signaller j) to → a ≡ answer.GrantedSeat j → Shows w (after_seat_grant (world_on w) i j to) new → Goes command.Grant a (state_in new f)
   signaller_grant_goes j to a new at is_a shows = at_place (Back (next.Signaller j) to) command.Grant a (state_in new f) at (is_a, shows.state f)
 
-  pub until_grant_goes : (j : ℕ) (to : Home) (a : Answer) (new : Words) → s.world.place i ≡ Back (next.Until j) to → a ≡ answer.GrantedSeat j → Shows w (after_seat_grant (shown w) i j to) new → Goes command.Grant a (state_in new f)
+  pub until_grant_goes : (j : ℕ) (to : Home) (a : Answer) (new : Board) → s.world.place i ≡ Back (next.Until j) to → a ≡ answer.GrantedSeat j → Shows w (after_seat_grant (world_on w) i j to) new → Goes command.Grant a (state_in new f)
   until_grant_goes j to a new at is_a shows = at_place (Back (next.Until j) to) command.Grant a (state_in new f) at (is_a, shows.state f)
 
-  pub out_goes : (q : Source) (a : Answer) (new : Words) (g : FloorView) → s.world.place i ≡ Due q → g ≡ grown f (out_event i q (turn f.history)) → a ≡ answer.Now
-      → ShowsKnown w (after_out (shown w) i q) (put (λ j. slice_index_or w.known.items j false) i false) new → Goes command.Out a (state_in new g)
+  pub out_goes : (q : Source) (a : Answer) (new : Board) (g : FloorView) → s.world.place i ≡ Due q → g ≡ with_event f (out_event i q (turn f.history)) → a ≡ answer.Now
+      → ShowsKnown w (after_floor_out (world_on w) i q) (put (λ j. slice_index_or w.known.items j false) i false) new → Goes command.Out a (state_in new g)
   out_goes q a new g at grows is_a shows =
       at_place (Due q) command.Out a (state_in new g) at
-      (is_a, shows.state g ∙ ap (λ (x : FloorView). record (state_in w x) { world = after_out (shown w) i q; known = put (λ j. slice_index_or w.known.items j false) i false }) grows)
+      (is_a, shows.state g ∙ ap (λ (x : FloorView). record (state_in w x) { world = after_floor_out (world_on w) i q; known = put (λ j. slice_index_or w.known.items j false) i false }) grows)
 
-  pub release_goes : (e : Event) (pick : Pick) (to : Home) (x : Next) (known : Bool) (a : Answer) (new : Words) (g : FloorView) → known ≡ slice_index_or w.known.items i false
-      → x ≡ release_next k o (record s { known = λ j. known }) i e pick → g ≡ grown f (with_next x e) → a ≡ answer.Chose x → Shows w (cond (is_stay (Some x)) (shown w) (after_in (shown w) i x to)) new
+  pub release_goes : (e : Event) (pick : Pick) (to : Home) (x : Next) (known : Bool) (a : Answer) (new : Board) (g : FloorView) → known ≡ slice_index_or w.known.items i false
+      → x ≡ release_next k o (record s { known = λ j. known }) i e pick → g ≡ with_event f (with_next x e) → a ≡ answer.Chose x → Shows w (cond (is_stay (Some x)) (world_on w) (after_floor_in (world_on w) i x to)) new
       → IsReleased k o s i e pick to a (state_in new g)
   release_goes e pick to x known a new g knows chooses grows is_a shows =
       let same : x ≡ release_next k o s i e pick = chooses ∙ ap (λ (b : Bool). release_next k o (record s { known = λ j. b }) i e pick) knows in (
         is_a ∙ ap answer.Chose same,
         shows.state g
-            ∙ (ap (λ (y : FloorView). record (state_in w y) { world = cond (is_stay (Some x)) (shown w) (after_in (shown w) i x to) }) grows
-            ∙ ap (λ (y : Next). record s { world = cond (is_stay (Some y)) (shown w) (after_in (shown w) i y to); floor = grown f (with_next y e) }) same),
+            ∙ (ap (λ (y : FloorView). record (state_in w y) { world = cond (is_stay (Some x)) (world_on w) (after_floor_in (world_on w) i x to) }) grows
+            ∙ ap (λ (y : Next). record s { world = cond (is_stay (Some y)) (world_on w) (after_floor_in (world_on w) i y to); floor = with_event f (with_next y e) }) same),
       )
 
   pub act_goes : (op : Op) (reply : ℕ) (a : Answer) (g : FloorView) → refusal k o (state_of v) i (command.Act op) ≡ None → IsGrown k o f (Act i op reply) g → a ≡ answer.Reply reply → Goes (command.Act op) a (state_in w g)
@@ -175,9 +175,9 @@ module _ (k : Rules) (o : Object) (w : Words) (f : FloorView) (v : WorldView) (i
       let at = active_is (s.world.place i) ((ready_here (command.Act op) free).told) in
       let same : reply ≡ o.reply (data_of (monitor_of k o f) f.history) op = eqb-true _ _ (grows.allowed.right_reply) in
       at_place (Active at.source) (command.Act op) a (state_in w g) at.is
-      (is_a ∙ ap answer.Reply same, ap (λ (y : FloorView). state_in w y) grows.grown ∙ ap (λ (r : ℕ). record s { floor = grown f (Act i op r) }) same)
+      (is_a ∙ ap answer.Reply same, ap (λ (y : FloorView). state_in w y) grows.grown ∙ ap (λ (r : ℕ). record s { floor = with_event f (Act i op r) }) same)
 
-  pub owns_here : (c : Command) (conds : ℕ) → IsKept k o w.seats conds s → (stage (s.world.place i) == 3) ≡ true → is_owned_by i (turn f.history) ≡ true
+  pub owns_here : (c : Command) (conds : ℕ) → IsKept k o w.seats conds s → (stage (s.world.place i) == active_stage) ≡ true → is_owned_by i (turn f.history) ≡ true
   owns_here c conds old three = ap (is_owned_by i) (old.sound.is_sound.active i (eqb-true _ _ three)) ∙ eq-eqb i i refl
 
   pub out_allowed : (q : Source) (conds : ℕ) → IsKept k o w.seats conds s → refusal k o (state_of v) i command.Out ≡ None → s.world.place i ≡ Due q
@@ -189,7 +189,7 @@ module _ (k : Rules) (o : Object) (w : Words) (f : FloorView) (v : WorldView) (i
   pub out_left : (q : Source) (conds : ℕ) → IsKept k o w.seats conds s → s.world.place i ≡ Due q → 0 < left_of f.budget f.history i
   out_left q conds old at = omega (arith, old.sound.is_sound.left i, ap left_at at)
 
-  pub at_active : (c : Command) (a : Answer) (t : State) → refusal k o (state_of v) i c ≡ None → may_be_told (s.world.place i) c ≡ (stage (s.world.place i) == 3) → ((q : Source) → IsDone k o s i (Active q) c a t) → Goes c a t
+  pub at_active : (c : Command) (a : Answer) (t : State) → refusal k o (state_of v) i c ≡ None → may_be_told (s.world.place i) c ≡ (stage (s.world.place i) == active_stage) → ((q : Source) → IsDone k o s i (Active q) c a t) → Goes c a t
   at_active c a t free active d =
       let at = active_is (s.world.place i) (sym active ∙ (ready_here c free).told) in
       at_place (Active at.source) c a t at.is (d at.source)
@@ -213,10 +213,10 @@ module _ (k : Rules) (o : Object) (w : Words) (f : FloorView) (v : WorldView) (i
       let mine = r.passing i (ap stage at) in
       omega (arith, mine.0, ap ticket at, drawn_here conds old)
 
-  pub count_here : (conds : ℕ) → IsKept k o w.seats conds s → (j : ℕ) → (shown w).count j < 2147483648
+  pub count_here : (conds : ℕ) → IsKept k o w.seats conds s → (j : ℕ) → (world_on w).count j < 2147483648
   count_here conds old j = omega (arith, few_calls s old.bounded j)
 
-  pub calls_here : (conds : ℕ) → IsKept k o w.seats conds s → (j : ℕ) → (shown w).seat_place j < 2147483648
+  pub calls_here : (conds : ℕ) → IsKept k o w.seats conds s → (j : ℕ) → (world_on w).seat_place j < 2147483648
   calls_here conds old j =
       let r = old.sound.is_sound.stands.keeps in
       elim (eqb_tells old.sound.right (called j)) [
@@ -227,17 +227,17 @@ module _ (k : Rules) (o : Object) (w : Words) (f : FloorView) (v : WorldView) (i
   pub some_here : (x : Next) (to : Home) (conds : ℕ) → IsKept k o w.seats conds s → s.world.place i ≡ Back x to → 0 < w.unpassed
   some_here x to conds old at =
       let r = old.sound.is_sound.stands.keeps in
-      let four : stage (s.world.place i) ≡ 4 = ap stage at in
+      let four : stage (s.world.place i) ≡ back_stage = ap stage at in
       let mine = r.held i (omega arith) (omega arith) in
       elim (eqb_tells w.unpassed 0) [
         | inl e ↦ absurd (omega (arith, r.not_free e.1, mine))
         | inr e ↦ omega (arith, e.1)
       ]
 
-  pub called_here : (x : Next) (to : Home) (j conds : ℕ) → IsKept k o w.seats conds s → s.world.place i ≡ Back x to → turn_chosen x ≡ due_to j → j < w.seats
+  pub called_here : (x : Next) (to : Home) (j conds : ℕ) → IsKept k o w.seats conds s → s.world.place i ≡ Back x to → turn_of_next x ≡ due_to j → j < w.seats
   called_here x to j conds old at names =
       let r = old.sound.is_sound.stands.keeps in
-      let six = r.chose i (ap stage at) j (subst (λ (p : Place). chosen p ≡ due_to j) (sym at) names) in
+      let six = r.chose i (ap stage at) j (subst (λ (p : Place). back_turn p ≡ due_to j) (sym at) names) in
       ⊎_elim (λ l. subst (λ (n : ℕ). j < n) (sym old.seats_are) l) (λ l. absurd (omega (arith, six, old.sound.is_sound.outside j l))) (cases_lt j f.seats)
 
 -- the floor comes out
@@ -296,7 +296,7 @@ few_are false false false false true e = absurd cc
 not_more : (n m : ℕ) → nat_lt n m ≡ false → m ≤ n
 not_more n m e = grind (arith, e)
 
-pub opening_kept : (k : Rules) (o : Object) (opening : List ℕ) (seats conds budget : ℕ) → make.refusal seats conds budget ≡ None → IsKept k o seats conds (opening_state opening seats conds budget)
+pub opening_kept : (k : Rules) (o : Object) (opening : List ℕ) (seats conds budget : ℕ) → make.make_refusal seats conds budget ≡ None → IsKept k o seats conds (opening_state opening seats conds budget)
 opening_kept k o opening seats conds budget free =
     let r = few_are (nat_lt seats 1) (nat_lt 32 seats) (nat_lt 8 conds) (nat_lt budget 2) (nat_lt 1048576 budget) free in
     record {
@@ -313,8 +313,8 @@ opening_kept k o opening seats conds budget free =
       conds_are = refl;
     }
 
-pub made_state : (w : Words) (f : FloorView) (opening : List ℕ) (seats conds budget : ℕ) → ((g : FloorView) → state_in w g ≡ record { world = opening_world; known = λ j. false; floor = g })
-    → f ≡ fresh opening seats conds budget → state_in w f ≡ opening_state opening seats conds budget
+pub made_state : (w : Board) (f : FloorView) (opening : List ℕ) (seats conds budget : ℕ) → ((g : FloorView) → state_in w g ≡ record { world = opening_world; known = λ j. false; floor = g })
+    → f ≡ empty_floor opening seats conds budget → state_in w f ≡ opening_state opening seats conds budget
 made_state w f opening seats conds budget shows is = shows f ∙ ap (λ (g : FloorView). record (opening_state opening seats conds budget) { floor = g }) is
 
 -- the tests for a refusal, of a command that the seat is not where it may be told

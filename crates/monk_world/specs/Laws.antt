@@ -6,12 +6,12 @@ use Rattle.monk_object.specs.Object.{Object}
 use Rattle.monk_history.specs.declared.event.Next.{Next}
 use Rattle.monk_history.specs.declared.event.Next.TheVariants.{Entry}
 use Rattle.monk_world.specs.OnePlace.{IsInOnePlace}
-use Rattle.monk_world.specs.Places.{open_turn, due_to, turn_chosen, stays_inside}
+use Rattle.monk_world.specs.Places.{open_turn, due_to, turn_of_next, stays_inside}
 use Rattle.monk_world.specs.Right.{nowhere, granted, called}
 use Rattle.monk_world.specs.Runs.{opening_state}
 use Rattle.monk_world.specs.Sound.{Sound}
 use Rattle.monk_world.specs.Stands.{Stands, opening_world}
-use Rattle.monk_world.specs.Steps.{after_arrival, after_ticket_look, after_seat_look, after_out, after_in, after_drop, after_ticket_grant, after_seat_grant, right_arrived, owner_arrived, right_looked, right_dropped}
+use Rattle.monk_world.specs.Steps.{after_arrive, after_ticket_look, after_seat_look, after_floor_out, after_floor_in, after_drop, after_ticket_grant, after_seat_grant, right_after_arrive, owner_after_arrive, right_after_look, right_after_drop}
 use Rattle.monk_world.specs.State.{State}
 use Rattle.monk_world.specs.StepTable.{IsStep}
 use Rattle.monk_world.specs.World.{World}
@@ -31,27 +31,27 @@ abbrev pub OpeningStands : Type 0
 OpeningStands = (seats : ℕ) → Stands seats opening_world nowhere (λ t. 0) open_turn (λ j. false) true
 
 -- an idle seat draws a ticket
-abbrev pub ArrivalKeeps : Type 0
-ArrivalKeeps = Kept (λ seats w right owner turn queued quiet i.
-    w.place i ≡ Idle → Stands seats (after_arrival w i) (right_arrived w right i) (owner_arrived w owner i) turn queued quiet)
+abbrev pub ArriveKeeps : Type 0
+ArriveKeeps = Kept (λ seats w right owner turn queued quiet i.
+    w.place i ≡ Idle → Stands seats (after_arrive w i) (right_after_arrive w right i) (owner_after_arrive w owner i) turn queued quiet)
 
 -- a seat with a ticket looks whether the place of its ticket holds it
 abbrev pub TicketLookKeeps : Type 0
 TicketLookKeeps = Kept (λ seats w right owner turn queued quiet i.
     (t : ℕ) (found : Bool) → 0 < seats → w.place i ≡ Ticket t → (w.ticket_place (t % seats) == t + 1) ≡ found
-    → Stands seats (after_ticket_look w i t found) (right_looked right i found) owner turn queued quiet)
+    → Stands seats (after_ticket_look w i t found) (right_after_look right i found) owner turn queued quiet)
 
 -- a seat inside looks whether its place holds one call more than it has counted
 abbrev pub SeatLookKeeps : Type 0
 SeatLookKeeps = Kept (λ seats w right owner turn queued quiet i.
     (found : Bool) → w.place i ≡ Inner → (w.seat_place i == w.count i + 1) ≡ found
-    → Stands seats (after_seat_look w i found) (right_looked right i found) owner turn queued quiet)
+    → Stands seats (after_seat_look w i found) (right_after_look right i found) owner turn queued quiet)
 
 -- the floor comes out to the seat that is due; the history may grow, which leaves the others in their queues
-abbrev pub OutKeeps : Type 0
-OutKeeps = Kept (λ seats w right owner turn queued quiet i.
+abbrev pub FloorOutKeeps : Type 0
+FloorOutKeeps = Kept (λ seats w right owner turn queued quiet i.
     (q : Source) (turn_new : ℕ) (queued_new : ℕ → Bool) (quiet_new : Bool) → w.place i ≡ Due q → ((j : ℕ) → j ≢ i → queued_new j ≡ queued j)
-    → Stands seats (after_out w i q) right owner turn_new queued_new quiet_new)
+    → Stands seats (after_floor_out w i q) right owner turn_new queued_new quiet_new)
 
 -- the active seat lets the history grow, which leaves the others in their queues
 abbrev pub ActiveKeeps : Type 0
@@ -61,19 +61,19 @@ ActiveKeeps = Kept (λ seats w right owner turn queued quiet i.
 
 -- the active seat brings the floor home. Whom it has chosen is another, in a queue; it is in one where it stays
 -- inside; and where it chose entry, nobody could be chosen from a queue, or a ticket waits
-abbrev pub InKeeps : Type 0
-InKeeps = Kept (λ seats w right owner turn queued quiet i.
+abbrev pub FloorInKeeps : Type 0
+FloorInKeeps = Kept (λ seats w right owner turn queued quiet i.
     (q : Source) (next : Next) (home : Home) (queued_new : ℕ → Bool) (quiet_new : Bool) → w.place i ≡ Active q
-    → ((k : ℕ) → turn_chosen next ≡ due_to k → (k ≢ i) × (queued_new k ≡ true))
+    → ((k : ℕ) → turn_of_next next ≡ due_to k → (k ≢ i) × (queued_new k ≡ true))
     → ((j : ℕ) → j ≢ i → queued_new j ≡ queued j)
     → queued_new i ≡ stays_inside home
-    → (turn_chosen next ≡ open_turn → (quiet_new ≡ true) ⊎ (2 ≤ w.unpassed))
-    → Stands seats (after_in w i next home) right owner (turn_chosen next) queued_new quiet_new)
+    → (turn_of_next next ≡ open_turn → (quiet_new ≡ true) ⊎ (2 ≤ w.unpassed))
+    → Stands seats (after_floor_in w i next home) right owner (turn_of_next next) queued_new quiet_new)
 
 -- a seat that chose entry takes itself off the ticket word
 abbrev pub DropKeeps : Type 0
 DropKeeps = Kept (λ seats w right owner turn queued quiet i.
-    (home : Home) → w.place i ≡ Back Entry home → Stands seats (after_drop w i home) (right_dropped w i) owner turn queued quiet)
+    (home : Home) → w.place i ≡ Back Entry home → Stands seats (after_drop w i home) (right_after_drop w i) owner turn queued quiet)
 
 -- it grants the next ticket
 abbrev pub TicketGrantKeeps : Type 0
@@ -83,7 +83,7 @@ TicketGrantKeeps = Kept (λ seats w right owner turn queued quiet i.
 -- a seat that chose another calls it
 abbrev pub SeatGrantKeeps : Type 0
 SeatGrantKeeps = Kept (λ seats w right owner turn queued quiet i.
-    (next : Next) (k : ℕ) (home : Home) → w.place i ≡ Back next home → turn_chosen next ≡ due_to k
+    (next : Next) (k : ℕ) (home : Home) → w.place i ≡ Back next home → turn_of_next next ≡ due_to k
     → Stands seats (after_seat_grant w i k home) (called k) owner turn queued quiet)
 
 -- so the right is in one place

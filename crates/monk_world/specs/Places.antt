@@ -9,15 +9,36 @@ use Rattle.monk_world.specs.declared.place.Place.TheVariants.{Idle, Ticket, Due,
 use Rattle.monk_world.specs.declared.source.Source.{Source}
 use Rattle.monk_world.specs.declared.source.Source.TheVariants.{Free, Granted, Called}
 
--- the stages of a seat's way through the monitor: from 2 to 5 it has the right
+-- the stages of a seat's way through the monitor, in order: from due to passing it has the right
+abbrev pub outside_stage : ℕ
+outside_stage = 0
+
+abbrev pub ticketed_stage : ℕ
+ticketed_stage = 1
+
+abbrev pub due_stage : ℕ
+due_stage = 2
+
+abbrev pub active_stage : ℕ
+active_stage = 3
+
+abbrev pub back_stage : ℕ
+back_stage = 4
+
+abbrev pub passing_stage : ℕ
+passing_stage = 5
+
+abbrev pub inside_stage : ℕ
+inside_stage = 6
+
 abbrev pub stage : Place → ℕ
-stage Idle = 0
-stage (Ticket ticket) = 1
-stage (Due source) = 2
-stage (Active source) = 3
-stage (Back next home) = 4
-stage (Passing ticket home) = 5
-stage Inner = 6
+stage Idle = outside_stage
+stage (Ticket ticket) = ticketed_stage
+stage (Due source) = due_stage
+stage (Active source) = active_stage
+stage (Back next home) = back_stage
+stage (Passing ticket home) = passing_stage
+stage Inner = inside_stage
 
 abbrev pub ticket_of : Source → ℕ
 ticket_of (Free ticket) = ticket
@@ -34,11 +55,20 @@ ticket (Back next home) = 0
 ticket (Passing t home) = t
 ticket Inner = 0
 
--- 1 where it found the monitor free, 2 by its ticket, 3 from a queue
+-- how a seat came to the right: it found the monitor free, by its ticket, or from a queue
+abbrev pub free_source : ℕ
+free_source = 1
+
+abbrev pub granted_source : ℕ
+granted_source = 2
+
+abbrev pub called_source : ℕ
+called_source = 3
+
 abbrev pub source_number : Source → ℕ
-source_number (Free ticket) = 1
-source_number (Granted ticket) = 2
-source_number Called = 3
+source_number (Free ticket) = free_source
+source_number (Granted ticket) = granted_source
+source_number Called = called_source
 
 -- how a seat that is due or active came to the right; 0 elsewhere
 abbrev pub source : Place → ℕ
@@ -61,22 +91,22 @@ abbrev pub owned_by : ℕ → ℕ
 owned_by j = 2 * j + 2
 
 -- the turn after a choice
-abbrev pub turn_chosen : Next → ℕ
-turn_chosen Stay = 0
-turn_chosen Entry = 0
-turn_chosen (Waiter j) = due_to j
-turn_chosen (Signaller j) = due_to j
-turn_chosen (Until j) = due_to j
+abbrev pub turn_of_next : Next → ℕ
+turn_of_next Stay = 0
+turn_of_next Entry = 0
+turn_of_next (Waiter j) = due_to j
+turn_of_next (Signaller j) = due_to j
+turn_of_next (Until j) = due_to j
 
 -- the turn that a seat with the floor back has chosen; open elsewhere
-abbrev pub chosen : Place → ℕ
-chosen Idle = 0
-chosen (Ticket t) = 0
-chosen (Due q) = 0
-chosen (Active q) = 0
-chosen (Back next home) = turn_chosen next
-chosen (Passing t home) = 0
-chosen Inner = 0
+abbrev pub back_turn : Place → ℕ
+back_turn Idle = 0
+back_turn (Ticket t) = 0
+back_turn (Due q) = 0
+back_turn (Active q) = 0
+back_turn (Back next home) = turn_of_next next
+back_turn (Passing t home) = 0
+back_turn Inner = 0
 
 abbrev pub stays_inside : Home → Bool
 stays_inside home.Idle = false

@@ -14,7 +14,7 @@ use Rattle.monk_world.specs.Runs.{Told, IsWellLed, opening_state}
 use Rattle.monk_world.specs.Sound.{Sound}
 use Rattle.monk_world.specs.State.{State, is_quiet}
 use Rattle.monk_world.specs.StepTable.{IsStep}
-use Rattle.monk_world.specs.Telling.{command_told, IsLed}
+use Rattle.monk_world.specs.Telling.{command_of, IsLed}
 use Rattle.monk_world.specs.declared.answer.Answer.{Answer}
 use Rattle.monk_world.specs.declared.answer.Answer.TheVariants as answer
 use Rattle.monk_world.specs.declared.command.Command.{Command}
@@ -70,14 +70,14 @@ abbrev pub recorded_by : ℕ → List Recorded → List Event
 recorded_by j [] = []
 recorded_by j (x ∷ xs) = (if x.told.seat == j then x.events else []) ++ recorded_by j xs
 
-abbrev pub command_recorded : Recorded → ℕ × Command
-command_recorded x = command_told x.told
+abbrev pub recorded_command : Recorded → ℕ × Command
+recorded_command x = command_of x.told
 
 -- a run by these commands, with what each of them appended: the events of each seat are those that its own commands
 -- appended, each once
 pub record IsRecordedBy (k : Rules) (o : Object) (s : State) (commands : List (ℕ × Command)) (t : State) : Type 0 where
   pub steps : List Recorded
-  pub by_commands : map command_recorded steps ≡ commands
+  pub by_commands : map recorded_command steps ≡ commands
   pub recorded : IsRecorded k o s steps t
   pub own : (j : ℕ) → events_of t.floor.history j ≡ events_of s.floor.history j ++ recorded_by j steps
 

@@ -1,6 +1,6 @@
 -- The right to be active is in one place
 use Rattle.std.specs.Prelude.{◌≡◌, ◌≢◌, ℕ, ◌+◌, ◌*◌, ◌%◌, ◌<◌, ◌≤◌}
-use Rattle.monk_world.specs.Places.{stage, ticket, source, chosen, due_to}
+use Rattle.monk_world.specs.Places.{stage, ticket, source, back_turn, due_to, ticketed_stage, due_stage, back_stage, passing_stage, inside_stage, granted_source}
 use Rattle.monk_world.specs.World.{World}
 use Rattle.monk_world.specs.declared.place.Place.{Place}
 
@@ -22,11 +22,11 @@ called j = 2 * j + 3
 
 -- at Due, Active, Back or Passing it has the right
 abbrev pub HasRight : ℕ → ℕ → Place → Type 0
-HasRight right j p = 2 ≤ stage p → stage p ≤ 5 → right ≡ with_seat j
+HasRight right j p = due_stage ≤ stage p → stage p ≤ passing_stage → right ≡ with_seat j
 
 -- nowhere else does it have it
 abbrev pub IsHolder : ℕ → ℕ → Place → Type 0
-IsHolder right j p = right ≡ with_seat j → (2 ≤ stage p) × (stage p ≤ 5)
+IsHolder right j p = right ≡ with_seat j → (due_stage ≤ stage p) × (stage p ≤ passing_stage)
 
 -- with t drawn and n not passed on, the ticket in use is t - n
 abbrev pub IsNext : ℕ → ℕ → ℕ → Type 0
@@ -34,31 +34,31 @@ IsNext t n k = k + n ≡ t
 
 -- where it came to the right by a ticket, that one is in use
 abbrev pub UsesTicket : ℕ → ℕ → ℕ → Place → Type 0
-UsesTicket t n j p = stage p ≡ 2 → source p ≤ 2 → IsNext t n (ticket p)
+UsesTicket t n j p = stage p ≡ due_stage → source p ≤ granted_source → IsNext t n (ticket p)
 
 -- whom it has chosen is parked inside
 abbrev pub ChoseInner : (ℕ → Place) → ℕ → Place → Type 0
-ChoseInner place j p = stage p ≡ 4 → (k : ℕ) → chosen p ≡ due_to k → stage (place k) ≡ 6
+ChoseInner place j p = stage p ≡ back_stage → (k : ℕ) → back_turn p ≡ due_to k → stage (place k) ≡ inside_stage
 
 -- the owner of a ticket waits with it
 abbrev pub Waits : (ℕ → Place) → (ℕ → ℕ) → ℕ → Type 0
-Waits place owner k = (stage (place (owner k)) ≡ 1) × (ticket (place (owner k)) ≡ k)
+Waits place owner k = (stage (place (owner k)) ≡ ticketed_stage) × (ticket (place (owner k)) ≡ k)
 
 -- the ticket that it has to grant is next, and its owner waits
 abbrev pub PassesNext : ℕ → ℕ → (ℕ → Place) → (ℕ → ℕ) → ℕ → Place → Type 0
-PassesNext t n place owner j p = stage p ≡ 5 → IsNext t n (ticket p) × Waits place owner (ticket p)
+PassesNext t n place owner j p = stage p ≡ passing_stage → IsNext t n (ticket p) × Waits place owner (ticket p)
 
 -- the ticket that it waits with was drawn, is not passed on, and is its own
 abbrev pub OwnsTicket : ℕ → ℕ → (ℕ → ℕ) → ℕ → Place → Type 0
-OwnsTicket t n owner j p = stage p ≡ 1 → (ticket p < t) × (t ≤ ticket p + n) × (owner (ticket p) ≡ j)
+OwnsTicket t n owner j p = stage p ≡ ticketed_stage → (ticket p < t) × (t ≤ ticket p + n) × (owner (ticket p) ≡ j)
 
 -- where it waits with the next ticket, and nobody has yet to grant it, it was granted
 abbrev pub WasGranted : ℕ → ℕ → ℕ → (ℕ → Place) → ℕ → Place → Type 0
-WasGranted t n right place j p = stage p ≡ 1 → IsNext t n (ticket p) → ((k : ℕ) → stage (place k) ≢ 5) → right ≡ granted
+WasGranted t n right place j p = stage p ≡ ticketed_stage → IsNext t n (ticket p) → ((k : ℕ) → stage (place k) ≢ passing_stage) → right ≡ granted
 
 -- while it has yet to grant, no ticket's place holds the next one
 abbrev pub LeavesLow : ℕ → ℕ → ℕ → (ℕ → ℕ) → ℕ → Place → Type 0
-LeavesLow seats t n ticket_place j p = stage p ≡ 5 → (i : ℕ) → i < seats → ticket_place i + n ≤ t
+LeavesLow seats t n ticket_place j p = stage p ≡ passing_stage → (i : ℕ) → i < seats → ticket_place i + n ≤ t
 
 -- the right is where `right` says, and the ticket k that is not passed on belongs to the seat `owner k`
 pub record KeepsRight (seats : ℕ) (w : World) (right : ℕ) (owner : ℕ → ℕ) : Type 0 where
@@ -67,7 +67,7 @@ pub record KeepsRight (seats : ℕ) (w : World) (right : ℕ) (owner : ℕ → �
   pub behind : w.unpassed ≤ w.drawn
   pub held : (j : ℕ) → HasRight right j (w.place j)
   pub holds : (j : ℕ) → IsHolder right j (w.place j)
-  pub is_called : (j : ℕ) → right ≡ called j → (stage (w.place j) ≡ 6) × (w.seat_place j ≡ w.count j + 1)
+  pub is_called : (j : ℕ) → right ≡ called j → (stage (w.place j) ≡ inside_stage) × (w.seat_place j ≡ w.count j + 1)
   pub not_called : (j : ℕ) → right ≢ called j → w.seat_place j ≡ w.count j
   pub in_use : (j : ℕ) → UsesTicket w.drawn w.unpassed j (w.place j)
   pub chose : (j : ℕ) → ChoseInner w.place j (w.place j)

@@ -7,9 +7,9 @@ use Rattle.monk_history.specs.Meaning.Counts.{left_of, enters_of}
 use Rattle.monk_history.specs.Meaning.Legal.{IsLegal}
 use Rattle.monk_history.specs.Meaning.Turn.{turn}
 use Rattle.monk_history.specs.declared.event.Turn.TheVariants.{Owned}
-use Rattle.monk_floor.specs.View.{monitor_of, fresh}
+use Rattle.monk_floor.specs.View.{monitor_of, empty_floor}
 use Rattle.monk_world.specs.OnePlace.{IsInOnePlace}
-use Rattle.monk_world.specs.Places.{stage, is_queued_at}
+use Rattle.monk_world.specs.Places.{stage, is_queued_at, active_stage, inside_stage}
 use Rattle.monk_world.specs.Stands.{opening_world}
 use Rattle.monk_world.specs.State.{State, is_standing}
 use Rattle.monk_world.specs.StepTable.{IsStep}
@@ -21,7 +21,7 @@ use Rattle.std.specs.Prelude.{false}
 
 -- a world before any step, over an object with this opening state
 abbrev pub opening_state : List ℕ → ℕ → ℕ → ℕ → State
-opening_state opening seats conds budget = record { world = opening_world; known = λ j. false; floor = fresh opening seats conds budget }
+opening_state opening seats conds budget = record { world = opening_world; known = λ j. false; floor = empty_floor opening seats conds budget }
 
 -- a step of seat `seat` by this command, with its answer
 pub record Told : Type 0 where
@@ -41,15 +41,15 @@ pub record IsWellLed (k : Rules) (o : Object) (s : State) : Type 0 where
   -- the right to be active is in exactly one place, and each ticket behind the one in use has a seat that waits
   pub in_one_place : 0 < s.floor.seats → IsInOnePlace s.floor.seats s.world
   -- a seat is active exactly where the turn is owned by it
-  pub active : (j : ℕ) → (stage (s.world.place j) ≡ 3) ↔ (turn s.floor.history ≡ Owned j)
+  pub active : (j : ℕ) → (stage (s.world.place j) ≡ active_stage) ↔ (turn s.floor.history ≡ Owned j)
   -- any other seat is in a queue of the history, or due from one, exactly where it is parked inside or on its way there,
   -- or called back from there
-  pub queued : (j : ℕ) → stage (s.world.place j) ≢ 3 → is_standing k o s.floor j ≡ is_queued_at (s.world.place j)
+  pub queued : (j : ℕ) → stage (s.world.place j) ≢ active_stage → is_standing k o s.floor j ≡ is_queued_at (s.world.place j)
   -- the enter with t enters before it is that of ticket t
   pub enters_first : (j t : ℕ) → s.world.place j ≡ Due (Free t) → enters_of s.floor.history ≡ t
   pub enters_next : (j t : ℕ) → s.world.place j ≡ Due (Granted t) → enters_of s.floor.history ≡ t
   -- whoever is due or parked can still come to the floor and leave
-  pub left : (j : ℕ) → stage (s.world.place j) ≡ 6 → 2 ≤ left_of s.floor.budget s.floor.history j
+  pub left : (j : ℕ) → stage (s.world.place j) ≡ inside_stage → 2 ≤ left_of s.floor.budget s.floor.history j
 
 abbrev pub RunsAreWellLed : Type 0
 RunsAreWellLed =

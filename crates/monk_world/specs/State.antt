@@ -18,8 +18,8 @@ pub record State : Type 0 where
   pub known : ℕ → Bool
   pub floor : FloorView
 
-abbrev pub grown : FloorView → Event → FloorView
-grown f e = record f { history = f.history ++ e ∷ [] }
+abbrev pub with_event : FloorView → Event → FloorView
+with_event f e = record f { history = f.history ++ e ∷ [] }
 
 -- of a seat that is not active: whether it is in a queue of the history, or due from one
 abbrev pub is_standing : Rules → Object → FloorView → ℕ → Bool

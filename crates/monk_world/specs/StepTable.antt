@@ -19,10 +19,10 @@ use Rattle.monk_history.specs.declared.event.Turn.{Turn}
 use Rattle.monk_history.specs.declared.event.Turn.TheVariants as turn
 use Rattle.monk_history.specs.declared.event.Via.TheVariants as via
 use Rattle.monk_floor.specs.View.{FloorView, monitor_of, stands_of}
-use Rattle.monk_world.specs.Places.{stage}
+use Rattle.monk_world.specs.Places.{stage, outside_stage, ticketed_stage, due_stage, active_stage, passing_stage, inside_stage}
 use Rattle.monk_world.specs.Put.{put}
-use Rattle.monk_world.specs.State.{State, grown}
-use Rattle.monk_world.specs.Steps.{after_arrival, after_ticket_look, after_seat_look, after_out, after_in, after_drop, after_ticket_grant, after_seat_grant}
+use Rattle.monk_world.specs.State.{State, with_event}
+use Rattle.monk_world.specs.Steps.{after_arrive, after_ticket_look, after_seat_look, after_floor_out, after_floor_in, after_drop, after_ticket_grant, after_seat_grant}
 use Rattle.monk_world.specs.declared.answer.Answer.{Answer}
 use Rattle.monk_world.specs.declared.answer.Answer.TheVariants as answer
 use Rattle.monk_world.specs.declared.command.Command.{Command}
@@ -58,19 +58,19 @@ is_call_offered k None = true
 is_call_offered k (Some e) = is_offered k e
 
 -- a seat that has the floor back with the choice of entry; with the choice of a seat
-abbrev pub let_entry : Next → Bool
-let_entry next.Stay = false
-let_entry next.Entry = true
-let_entry (next.Waiter j) = false
-let_entry (next.Signaller j) = false
-let_entry (next.Until j) = false
+abbrev pub names_entry : Next → Bool
+names_entry next.Stay = false
+names_entry next.Entry = true
+names_entry (next.Waiter j) = false
+names_entry (next.Signaller j) = false
+names_entry (next.Until j) = false
 
-abbrev pub named_seat : Next → Bool
-named_seat next.Stay = false
-named_seat next.Entry = false
-named_seat (next.Waiter j) = true
-named_seat (next.Signaller j) = true
-named_seat (next.Until j) = true
+abbrev pub names_seat : Next → Bool
+names_seat next.Stay = false
+names_seat next.Entry = false
+names_seat (next.Waiter j) = true
+names_seat (next.Signaller j) = true
+names_seat (next.Until j) = true
 
 abbrev pub is_back : (Next → Bool) → Place → Bool
 is_back chose Idle = false
@@ -83,18 +83,18 @@ is_back chose Inner = false
 
 -- where a seat stands that may be told so
 abbrev pub may_be_told : Place → Command → Bool
-may_be_told p command.Arrive = stage p == 0
-may_be_told p command.Look = stage p == 1 || stage p == 6
-may_be_told p command.Out = stage p == 2
-may_be_told p command.Peek = stage p == 0 || stage p == 3
-may_be_told p command.Drop = is_back let_entry p
-may_be_told p command.Grant = stage p == 5 || is_back named_seat p
-may_be_told p (command.Act op) = stage p == 3
-may_be_told p (command.Leave pick) = stage p == 3
-may_be_told p (command.Wait c pick) = stage p == 3
-may_be_told p (command.Signal c pick) = stage p == 3
-may_be_told p (command.SignalLeave c pick) = stage p == 3
-may_be_told p (command.Until q pick) = stage p == 3
+may_be_told p command.Arrive = stage p == outside_stage
+may_be_told p command.Look = stage p == ticketed_stage || stage p == inside_stage
+may_be_told p command.Out = stage p == due_stage
+may_be_told p command.Peek = stage p == outside_stage || stage p == active_stage
+may_be_told p command.Drop = is_back names_entry p
+may_be_told p command.Grant = stage p == passing_stage || is_back names_seat p
+may_be_told p (command.Act op) = stage p == active_stage
+may_be_told p (command.Leave pick) = stage p == active_stage
+may_be_told p (command.Wait c pick) = stage p == active_stage
+may_be_told p (command.Signal c pick) = stage p == active_stage
+may_be_told p (command.SignalLeave c pick) = stage p == active_stage
+may_be_told p (command.Until q pick) = stage p == active_stage
 
 -- how many events must be left to a seat for a command, so that it can still resume and leave after it
 abbrev pub left_for : Command → ℕ
@@ -139,8 +139,8 @@ abbrev pub IsReleased : Rules → Object → State → ℕ → Event → Pick �
 IsReleased k o s i e pick home a t =
     (a ≡ answer.Chose (release_next k o s i e pick))
     × (t ≡ record s {
-      world = if is_stay (Some (release_next k o s i e pick)) then s.world else after_in s.world i (release_next k o s i e pick) home;
-      floor = grown s.floor (with_next (release_next k o s i e pick) e);
+      world = if is_stay (Some (release_next k o s i e pick)) then s.world else after_floor_in s.world i (release_next k o s i e pick) home;
+      floor = with_event s.floor (with_next (release_next k o s i e pick) e);
     })
 
 -- whom a choice names
@@ -160,7 +160,7 @@ IsDropped s i (next.Until j) home a t = ⊥
 
 -- of seat i, which stands at p: a step that is not refused. Where no line fits, there is none
 abbrev pub IsDone : Rules → Object → State → ℕ → Place → Command → Answer → State → Type 0
-IsDone k o s i Idle command.Arrive a t = (a ≡ answer.Arrived s.world.drawn s.world.unpassed) × (t ≡ record s { world = after_arrival s.world i })
+IsDone k o s i Idle command.Arrive a t = (a ≡ answer.Arrived s.world.drawn s.world.unpassed) × (t ≡ record s { world = after_arrive s.world i })
 IsDone k o s i (Ticket n) command.Look a t =
     (a ≡ answer.Looked (s.world.ticket_place (n % s.floor.seats) == n + 1))
     × (t ≡ record s { world = after_ticket_look s.world i n (s.world.ticket_place (n % s.floor.seats) == n + 1) })
@@ -169,7 +169,7 @@ IsDone k o s i Inner command.Look a t =
     × (t ≡ record s { world = after_seat_look s.world i (s.world.seat_place i == s.world.count i + 1) })
 IsDone k o s i (Due q) command.Out a t =
     (a ≡ answer.Now)
-    × (t ≡ record { world = after_out s.world i q; known = put s.known i false; floor = grown s.floor (out_event i q (turn s.floor.history)) })
+    × (t ≡ record { world = after_floor_out s.world i q; known = put s.known i false; floor = with_event s.floor (out_event i q (turn s.floor.history)) })
 IsDone k o s i Idle command.Peek a t = (a ≡ answer.Found s.world.unpassed) × (t ≡ s)
 IsDone k o s i (Active q) command.Peek a t =
     (a ≡ answer.Found s.world.unpassed) × (t ≡ record s { known = put s.known i (s.known i || nat_le 2 s.world.unpassed) })
@@ -178,7 +178,7 @@ IsDone k o s i (Back x home) command.Grant a t = IsGranted s i x home a t
 IsDone k o s i (Passing n home) command.Grant a t = (a ≡ answer.GrantedTicket n) × (t ≡ record s { world = after_ticket_grant s.floor.seats s.world i n home })
 IsDone k o s i (Active q) (command.Act op) a t =
     (a ≡ answer.Reply (o.reply (data_of (monitor_of k o s.floor) s.floor.history) op))
-    × (t ≡ record s { floor = grown s.floor (Act i op (o.reply (data_of (monitor_of k o s.floor) s.floor.history) op)) })
+    × (t ≡ record s { floor = with_event s.floor (Act i op (o.reply (data_of (monitor_of k o s.floor) s.floor.history) op)) })
 IsDone k o s i (Active q) (command.Leave pick) a t = IsReleased k o s i (Leave i next.Stay) pick home.Idle a t
 IsDone k o s i (Active q) (command.Wait c pick) a t = IsReleased k o s i (Wait i c next.Stay) pick home.Inner a t
 IsDone k o s i (Active q) (command.Signal c pick) a t = IsReleased k o s i (Signal i c next.Stay) pick home.Inner a t

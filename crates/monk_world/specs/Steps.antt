@@ -14,48 +14,48 @@ use Rattle.monk_world.specs.declared.source.Source.TheVariants.{Free, Granted, C
 -- Where the seat stands after its step:
 
 -- it drew ticket t, and found n not passed on
-abbrev pub arrived : ℕ → ℕ → Place
-arrived t n = if n == 0 then Due (Free t) else Ticket t
+abbrev pub place_after_arrive : ℕ → ℕ → Place
+place_after_arrive t n = if n == 0 then Due (Free t) else Ticket t
 
 -- it looked whether its ticket was granted
-abbrev pub looked : ℕ → Bool → Place
-looked t found = if found then Due (Granted t) else Ticket t
+abbrev pub place_after_ticket_look : ℕ → Bool → Place
+place_after_ticket_look t found = if found then Due (Granted t) else Ticket t
 
 -- it looked whether it was called, and counts its calls
-abbrev pub answered : Bool → Place
-answered found = if found then Due Called else Inner
+abbrev pub place_after_seat_look : Bool → Place
+place_after_seat_look found = if found then Due Called else Inner
 
-abbrev pub counted : ℕ → Bool → ℕ
-counted count found = if found then count + 1 else count
+abbrev pub count_after_seat_look : ℕ → Bool → ℕ
+count_after_seat_look count found = if found then count + 1 else count
 
 -- it took itself off the ticket word, where t were drawn and n not passed on
-abbrev pub dropped : ℕ → ℕ → Home → Place
-dropped t n home = if n == 1 then place_of home else Passing (t - n + 1) home
+abbrev pub place_after_drop : ℕ → ℕ → Home → Place
+place_after_drop t n home = if n == 1 then place_of home else Passing (t - n + 1) home
 
 -- The world after the step of seat i:
 
 -- arrive: one more ticket drawn and not passed on
-abbrev pub after_arrival : World → ℕ → World
-after_arrival w i = record w { drawn = w.drawn + 1; unpassed = w.unpassed + 1; place = put w.place i (arrived w.drawn w.unpassed) }
+abbrev pub after_arrive : World → ℕ → World
+after_arrive w i = record w { drawn = w.drawn + 1; unpassed = w.unpassed + 1; place = put w.place i (place_after_arrive w.drawn w.unpassed) }
 
 -- look at the place of its ticket, or at its own place
 abbrev pub after_ticket_look : World → ℕ → ℕ → Bool → World
-after_ticket_look w i t found = record w { place = put w.place i (looked t found) }
+after_ticket_look w i t found = record w { place = put w.place i (place_after_ticket_look t found) }
 
 abbrev pub after_seat_look : World → ℕ → Bool → World
-after_seat_look w i found = record w { place = put w.place i (answered found); count = put w.count i (counted (w.count i) found) }
+after_seat_look w i found = record w { place = put w.place i (place_after_seat_look found); count = put w.count i (count_after_seat_look (w.count i) found) }
 
 -- the floor comes out to the seat, which is due by q
-abbrev pub after_out : World → ℕ → Source → World
-after_out w i q = record w { place = put w.place i (Active q) }
+abbrev pub after_floor_out : World → ℕ → Source → World
+after_floor_out w i q = record w { place = put w.place i (Active q) }
 
 -- the floor goes home, and has chosen
-abbrev pub after_in : World → ℕ → Next → Home → World
-after_in w i next home = record w { place = put w.place i (Back next home) }
+abbrev pub after_floor_in : World → ℕ → Next → Home → World
+after_floor_in w i next home = record w { place = put w.place i (Back next home) }
 
 -- drop: one ticket less not passed on
 abbrev pub after_drop : World → ℕ → Home → World
-after_drop w i home = record w { unpassed = w.unpassed - 1; place = put w.place i (dropped w.drawn w.unpassed home) }
+after_drop w i home = record w { unpassed = w.unpassed - 1; place = put w.place i (place_after_drop w.drawn w.unpassed home) }
 
 -- grant a ticket, in its place
 abbrev pub after_ticket_grant : ℕ → World → ℕ → ℕ → Home → World
@@ -67,14 +67,14 @@ after_seat_grant w i k home = record w { seat_place = put w.seat_place k (w.seat
 
 -- Where the right is after a step that found this, and who owns the ticket that was drawn:
 
-abbrev pub right_arrived : World → ℕ → ℕ → ℕ
-right_arrived w right i = if w.unpassed == 0 then with_seat i else right
+abbrev pub right_after_arrive : World → ℕ → ℕ → ℕ
+right_after_arrive w right i = if w.unpassed == 0 then with_seat i else right
 
-abbrev pub owner_arrived : World → (ℕ → ℕ) → ℕ → ℕ → ℕ
-owner_arrived w owner i = if w.unpassed == 0 then owner else put owner w.drawn i
+abbrev pub owner_after_arrive : World → (ℕ → ℕ) → ℕ → ℕ → ℕ
+owner_after_arrive w owner i = if w.unpassed == 0 then owner else put owner w.drawn i
 
-abbrev pub right_looked : ℕ → ℕ → Bool → ℕ
-right_looked right i found = if found then with_seat i else right
+abbrev pub right_after_look : ℕ → ℕ → Bool → ℕ
+right_after_look right i found = if found then with_seat i else right
 
-abbrev pub right_dropped : World → ℕ → ℕ
-right_dropped w i = if w.unpassed == 1 then nowhere else with_seat i
+abbrev pub right_after_drop : World → ℕ → ℕ
+right_after_drop w i = if w.unpassed == 1 then nowhere else with_seat i

@@ -40,11 +40,11 @@ is_offered mode (SignalLeave c pick) = returns_at_once mode
 is_offered mode (Until p pick) = not (has_conditions mode)
 
 -- what a step was told
-abbrev pub command_told : Told → ℕ × Command
-command_told x = (x.seat, x.command)
+abbrev pub command_of : Told → ℕ × Command
+command_of x = (x.seat, x.command)
 
 -- a run by these commands, each with some answer
 pub record IsLed (k : Rules) (o : Object) (s : State) (commands : List (ℕ × Command)) (t : State) : Type 0 where
   pub told : List Told
-  pub by_commands : map command_told told ≡ commands
+  pub by_commands : map command_of told ≡ commands
   pub is_run : IsRun k o s told t

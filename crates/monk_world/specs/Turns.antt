@@ -2,7 +2,7 @@
 use Rattle.std.specs.Prelude.{◌≡◌, ◌≢◌, ℕ}
 use Rattle.monk_history.specs.declared.event.Turn.{Turn}
 use Rattle.monk_history.specs.declared.event.Turn.TheVariants.{Open, Due, Owned}
-use Rattle.monk_world.specs.Places.{stage, open_turn, due_to, owned_by, turn_chosen}
+use Rattle.monk_world.specs.Places.{stage, open_turn, due_to, owned_by, turn_of_next, active_stage}
 use Rattle.monk_world.specs.Right.{with_seat, called}
 use Rattle.monk_world.specs.World.{World}
 use Rattle.monk_world.specs.declared.place.Place.{Place}
@@ -26,12 +26,12 @@ turn_at j at.Idle = open_turn
 turn_at j (at.Ticket t) = open_turn
 turn_at j (at.Due q) = turn_from j q
 turn_at j (at.Active q) = open_turn
-turn_at j (at.Back next home) = turn_chosen next
+turn_at j (at.Back next home) = turn_of_next next
 turn_at j (at.Passing t home) = open_turn
 turn_at j at.Inner = open_turn
 
 -- `turn` is the number of the turn. Of an active seat it says nothing: the history may have grown
 pub record FitsTurn (w : World) (right turn : ℕ) : Type 0 where
-  pub with : (j : ℕ) → right ≡ with_seat j → stage (w.place j) ≢ 3 → turn ≡ turn_at j (w.place j)
+  pub with : (j : ℕ) → right ≡ with_seat j → stage (w.place j) ≢ active_stage → turn ≡ turn_at j (w.place j)
   pub called_seat : (j : ℕ) → right ≡ called j → turn ≡ due_to j
   pub else_open : ((j : ℕ) → right ≢ with_seat j) → ((j : ℕ) → right ≢ called j) → turn ≡ open_turn

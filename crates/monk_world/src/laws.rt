@@ -1,6 +1,6 @@
 //! What holds of each kind of step, whoever makes it: it keeps the right to be active in one place, in agreement with
 //! the turn and the queues of the history. Each function does nothing: its contract is the law.
-ghost use Rattle.monk_world.specs.Laws.{OpeningStands, ArrivalKeeps, TicketLookKeeps, SeatLookKeeps, OutKeeps, ActiveKeeps, InKeeps, DropKeeps, TicketGrantKeeps, SeatGrantKeeps, StandsInOnePlace, StepsStaySound, OpeningIsSound, StepsAreAnswered, StepsAreDetermined};
+ghost use Rattle.monk_world.specs.Laws.{OpeningStands, ArriveKeeps, TicketLookKeeps, SeatLookKeeps, FloorOutKeeps, ActiveKeeps, FloorInKeeps, DropKeeps, TicketGrantKeeps, SeatGrantKeeps, StandsInOnePlace, StepsStaySound, OpeningIsSound, StepsAreAnswered, StepsAreDetermined};
 ghost use Rattle.monk_world.specs.Records.{RunsAreRecorded, StepsAreTaken, TicketsEnterInOrder};
 ghost use Rattle.monk_world.specs.Runs.{RunsAreWellLed};
 
@@ -10,8 +10,8 @@ pub fn opening_stands()
 {}
 
 /// A seat that arrives draws the next ticket; where the monitor was free it has the right.
-pub fn arrival_keeps_the_right()
-    ensures { ArrivalKeeps }
+pub fn arrive_keeps_the_right()
+    ensures { ArriveKeeps }
 {}
 
 /// A seat that looks at the place of its ticket takes the right exactly where it finds its own ticket there: no older
@@ -27,7 +27,7 @@ pub fn seat_look_keeps_the_right()
 
 /// The floor comes out to the seat that is due, whatever the event that it records makes of the turn.
 pub fn floor_out_keeps_the_right()
-    ensures { OutKeeps }
+    ensures { FloorOutKeeps }
 {}
 
 /// While a seat is active the history grows at its will, but for the queues of the others.
@@ -37,7 +37,7 @@ pub fn activity_keeps_the_right()
 
 /// The active seat brings the floor home with its choice.
 pub fn floor_in_keeps_the_right()
-    ensures { InKeeps }
+    ensures { FloorInKeeps }
 {}
 
 /// A seat that chose entry takes itself off the ticket word: the monitor is free, or the seat has the next ticket to

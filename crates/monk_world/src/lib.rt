@@ -6,6 +6,7 @@
 #![tactic(auto)]
 
 mod answer;
+mod board;
 mod command;
 mod home;
 pub mod laws;
@@ -14,7 +15,6 @@ mod play;
 mod source;
 mod steps;
 mod telling;
-mod words;
 mod world;
 
 pub use answer::Answer;

@@ -3,25 +3,25 @@ ghost use Rattle.monk_floor.specs.View.{FloorView};
 ghost use Rattle.monk_history.specs.Meaning.Events.{is_stay};
 ghost use Rattle.monk_world.specs.Put.{put};
 ghost use Rattle.monk_world.specs.Stands.{opening_world};
-ghost use Rattle.monk_world.specs.Steps.{after_arrival, after_ticket_look, after_seat_look, after_out, after_in, after_drop, after_ticket_grant, after_seat_grant};
+ghost use Rattle.monk_world.specs.Steps.{after_arrive, after_ticket_look, after_seat_look, after_floor_out, after_floor_in, after_drop, after_ticket_grant, after_seat_grant};
 ghost use Rattle.monk_world.specs.Steps as becomes;
-ghost use Rattle.monk_world.specs.Words.{Shows, ShowsKnown, shown, state_in};
+ghost use Rattle.monk_world.specs.Board.{Shows, ShowsKnown, world_on, state_in};
 
 use crate::answer::Answer;
+use crate::board::Board;
 use crate::home::Home;
 use crate::place::Place;
 use crate::source::Source;
-use crate::words::Words;
 use monk_history::Next;
 use std::alloc::{AllocError, Global};
 
-impl Words {
+impl Board {
     /// The words before any step.
-    pub fn make(alloc: Global, seats: u8) -> Result<Words, AllocError>
+    pub fn make(alloc: Global, seats: u8) -> Result<Board, AllocError>
         ensures shows { IfOk result (λ w. (f : FloorView) → state_in w f ≡ record { world = opening_world; known = λ j. false; floor = f }) }
         ensures seats { IfOk result (λ w. w.seats ≡ seats) }
     {
-        Ok(Words {
+        Ok(Board {
             seats,
             drawn: 0,
             unpassed: 0,
@@ -36,7 +36,7 @@ impl Words {
     /// Where a seat stands.
     pub fn place(&self, seat: u8) -> Place
         requires { seat < self.now.seats }
-        ensures { result ≡ (shown self.now).place seat }
+        ensures { result ≡ (world_on self.now).place seat }
     {
         self.places[seat as usize]
     }
@@ -55,40 +55,40 @@ impl Words {
         requires drawn { self.old.drawn < 2 ^ 31 }
         requires unpassed { self.old.unpassed ≤ self.old.drawn }
         ensures answer { result ≡ Answer.Arrived self.old.drawn self.old.unpassed }
-        ensures shows { Shows self.old (after_arrival (shown self.old) seat) self.new }
+        ensures shows { Shows self.old (after_arrive (world_on self.old) seat) self.new }
     {
         let ticket = self.drawn;
         let found = self.unpassed;
         self.drawn = ticket + 1;
         self.unpassed = found + 1;
-        self.places[seat as usize] = arrived(ticket, found);
+        self.places[seat as usize] = place_after_arrive(ticket, found);
         Answer::Arrived(ticket, found)
     }
 
     /// Looks whether the place of a ticket has that ticket: it was granted.
-    pub fn look_for_ticket(&mut self, seat: u8, ticket: u32) -> Answer
+    pub fn ticket_look(&mut self, seat: u8, ticket: u32) -> Answer
         requires seat { seat < self.old.seats }
         requires ticket { ticket < 2 ^ 31 }
-        ensures answer { result ≡ Answer.Looked ((shown self.old).ticket_place (ticket % self.old.seats) == ticket + 1) }
-        ensures shows { Shows self.old (after_ticket_look (shown self.old) seat ticket ((shown self.old).ticket_place (ticket % self.old.seats) == ticket + 1)) self.new }
+        ensures answer { result ≡ Answer.Looked ((world_on self.old).ticket_place (ticket % self.old.seats) == ticket + 1) }
+        ensures shows { Shows self.old (after_ticket_look (world_on self.old) seat ticket ((world_on self.old).ticket_place (ticket % self.old.seats) == ticket + 1)) self.new }
     {
         let at = ticket as usize % self.seats as usize;
         let found = self.ticket_places[at] == ticket + 1;
-        self.places[seat as usize] = looked(ticket, found);
+        self.places[seat as usize] = place_after_ticket_look(ticket, found);
         Answer::Looked(found)
     }
 
     /// Looks whether the seat was called once more than it has counted.
-    pub fn look_for_call(&mut self, seat: u8) -> Answer
+    pub fn seat_look(&mut self, seat: u8) -> Answer
         requires seat { seat < self.old.seats }
-        requires count { (shown self.old).count seat < 2 ^ 31 }
-        ensures answer { result ≡ Answer.Looked ((shown self.old).seat_place seat == (shown self.old).count seat + 1) }
-        ensures shows { Shows self.old (after_seat_look (shown self.old) seat ((shown self.old).seat_place seat == (shown self.old).count seat + 1)) self.new }
+        requires count { (world_on self.old).count seat < 2 ^ 31 }
+        ensures answer { result ≡ Answer.Looked ((world_on self.old).seat_place seat == (world_on self.old).count seat + 1) }
+        ensures shows { Shows self.old (after_seat_look (world_on self.old) seat ((world_on self.old).seat_place seat == (world_on self.old).count seat + 1)) self.new }
     {
         let count = self.counts[seat as usize];
         let found = self.seat_places[seat as usize] == count + 1;
-        self.counts[seat as usize] = counted(count, found);
-        self.places[seat as usize] = answered(found);
+        self.counts[seat as usize] = count_after_seat_look(count, found);
+        self.places[seat as usize] = place_after_seat_look(found);
         Answer::Looked(found)
     }
 
@@ -96,7 +96,7 @@ impl Words {
     pub fn peek(&mut self, seat: u8) -> Answer
         requires { seat < self.old.seats }
         ensures answer { result ≡ Answer.Found self.old.unpassed }
-        ensures shows { ShowsKnown self.old (shown self.old) (put (λ j. slice_index_or self.old.known.items j false) seat (slice_index_or self.old.known.items seat false || nat_le 2 self.old.unpassed)) self.new }
+        ensures shows { ShowsKnown self.old (world_on self.old) (put (λ j. slice_index_or self.old.known.items j false) seat (slice_index_or self.old.known.items seat false || nat_le 2 self.old.unpassed)) self.new }
     {
         let knew = self.known[seat as usize];
         self.known[seat as usize] = known_after(knew, self.unpassed);
@@ -104,10 +104,10 @@ impl Words {
     }
 
     /// The floor comes out to the seat, which knows of nobody yet.
-    pub fn come_out(&mut self, seat: u8, source: Source) -> Answer
+    pub fn floor_out(&mut self, seat: u8, source: Source) -> Answer
         requires { seat < self.old.seats }
         ensures answer { result ≡ Answer.Now }
-        ensures shows { ShowsKnown self.old (after_out (shown self.old) seat source) (put (λ j. slice_index_or self.old.known.items j false) seat false) self.new }
+        ensures shows { ShowsKnown self.old (after_floor_out (world_on self.old) seat source) (put (λ j. slice_index_or self.old.known.items j false) seat false) self.new }
     {
         self.places[seat as usize] = Place::Active(source);
         self.known[seat as usize] = false;
@@ -115,10 +115,10 @@ impl Words {
     }
 
     /// The floor goes home with a choice, unless the seat stays.
-    pub fn go_home(&mut self, seat: u8, next: Next, home: Home) -> Answer
+    pub fn floor_in(&mut self, seat: u8, next: Next, home: Home) -> Answer
         requires { seat < self.old.seats }
         ensures answer { result ≡ Answer.Chose next }
-        ensures shows { Shows self.old (if is_stay (Some next) then shown self.old else after_in (shown self.old) seat next home) self.new }
+        ensures shows { Shows self.old (if is_stay (Some next) then world_on self.old else after_floor_in (world_on self.old) seat next home) self.new }
     {
         let place = self.places[seat as usize];
         self.places[seat as usize] = after_choice(place, next, home);
@@ -126,26 +126,26 @@ impl Words {
     }
 
     /// Takes the seat off the ticket word: the monitor is free, or the next ticket is to be granted.
-    pub fn take_off(&mut self, seat: u8, home: Home) -> Answer
+    pub fn drop_ticket(&mut self, seat: u8, home: Home) -> Answer
         requires seat { seat < self.old.seats }
         requires some { 0 < self.old.unpassed }
         requires unpassed { self.old.unpassed ≤ self.old.drawn }
         requires drawn { self.old.drawn < 2 ^ 31 }
         ensures answer { result ≡ Answer.Found self.old.unpassed }
-        ensures shows { Shows self.old (after_drop (shown self.old) seat home) self.new }
+        ensures shows { Shows self.old (after_drop (world_on self.old) seat home) self.new }
     {
         let found = self.unpassed;
         self.unpassed = found - 1;
-        self.places[seat as usize] = dropped(self.drawn, found, home);
+        self.places[seat as usize] = place_after_drop(self.drawn, found, home);
         Answer::Found(found)
     }
 
     /// Grants a ticket, in its place.
-    pub fn grant_ticket(&mut self, seat: u8, ticket: u32, home: Home) -> Answer
+    pub fn ticket_grant(&mut self, seat: u8, ticket: u32, home: Home) -> Answer
         requires seat { seat < self.old.seats }
         requires ticket { ticket < 2 ^ 31 }
         ensures answer { result ≡ Answer.GrantedTicket ticket }
-        ensures shows { Shows self.old (after_ticket_grant self.old.seats (shown self.old) seat ticket home) self.new }
+        ensures shows { Shows self.old (after_ticket_grant self.old.seats (world_on self.old) seat ticket home) self.new }
     {
         self.ticket_places[ticket as usize % self.seats as usize] = ticket + 1;
         self.places[seat as usize] = home.place();
@@ -153,12 +153,12 @@ impl Words {
     }
 
     /// Calls a seat, in its place.
-    pub fn grant_seat(&mut self, seat: u8, called: u8, home: Home) -> Answer
+    pub fn seat_grant(&mut self, seat: u8, called: u8, home: Home) -> Answer
         requires seat { seat < self.old.seats }
         requires called { called < self.old.seats }
-        requires calls { (shown self.old).seat_place called < 2 ^ 31 }
+        requires calls { (world_on self.old).seat_place called < 2 ^ 31 }
         ensures answer { result ≡ Answer.GrantedSeat called }
-        ensures shows { Shows self.old (after_seat_grant (shown self.old) seat called home) self.new }
+        ensures shows { Shows self.old (after_seat_grant (world_on self.old) seat called home) self.new }
     {
         self.seat_places[called as usize] += 1;
         self.places[seat as usize] = home.place();
@@ -167,8 +167,8 @@ impl Words {
 }
 
 /// Where a seat stands that drew this ticket, and found so many not passed on.
-fn arrived(ticket: u32, found: u32) -> Place
-    ensures { result ≡ becomes.arrived ticket found }
+fn place_after_arrive(ticket: u32, found: u32) -> Place
+    ensures { result ≡ becomes.place_after_arrive ticket found }
 {
     if found == 0 {
         Place::Due(Source::Free(ticket))
@@ -178,8 +178,8 @@ fn arrived(ticket: u32, found: u32) -> Place
 }
 
 /// Where a seat stands that looked whether its ticket was granted.
-fn looked(ticket: u32, found: bool) -> Place
-    ensures { result ≡ becomes.looked ticket found }
+fn place_after_ticket_look(ticket: u32, found: bool) -> Place
+    ensures { result ≡ becomes.place_after_ticket_look ticket found }
 {
     if found {
         Place::Due(Source::Granted(ticket))
@@ -189,8 +189,8 @@ fn looked(ticket: u32, found: bool) -> Place
 }
 
 /// Where a seat stands that looked whether it was called.
-fn answered(found: bool) -> Place
-    ensures { result ≡ becomes.answered found }
+fn place_after_seat_look(found: bool) -> Place
+    ensures { result ≡ becomes.place_after_seat_look found }
 {
     if found {
         Place::Due(Source::Called)
@@ -200,19 +200,19 @@ fn answered(found: bool) -> Place
 }
 
 /// How often a seat saw itself called after a look.
-fn counted(count: u32, found: bool) -> u32
+fn count_after_seat_look(count: u32, found: bool) -> u32
     requires { count < 2 ^ 31 }
-    ensures { result ≡ becomes.counted count found }
+    ensures { result ≡ becomes.count_after_seat_look count found }
 {
     if found { count + 1 } else { count }
 }
 
 /// Where a seat stands that took itself off the ticket word, where so many were drawn, and so many not passed on.
-fn dropped(drawn: u32, found: u32, home: Home) -> Place
+fn place_after_drop(drawn: u32, found: u32, home: Home) -> Place
     requires some { 0 < found }
     requires found { found ≤ drawn }
     requires drawn { drawn < 2 ^ 31 }
-    ensures { result ≡ becomes.dropped drawn found home }
+    ensures { result ≡ becomes.place_after_drop drawn found home }
 {
     if found == 1 {
         home.place()

@@ -1,25 +1,25 @@
 ghost use Rattle.std.specs.Prelude.{◌≡◌, ℕ, ◌<◌, ◌&&◌, Bool, Option, Some, None, not, nat_lt, IfOk, IfErr, List, length, zip};
-ghost use Rattle.monk_floor.specs.Making.{refusal as make_refusal, IsRefused};
+ghost use Rattle.monk_floor.specs.Making.{make_refusal, IsRefused};
 ghost use Rattle.monk_floor.specs.View.{monitor_of};
 ghost use Rattle.monk_history.specs.Meaning.Counts.{left_of};
 ghost use Rattle.monk_history.specs.Meaning.Reasons.{IsAllowed};
 ghost use Rattle.monk_history.specs.Meaning.Turn.{turn};
-ghost use Rattle.monk_world.specs.State.{grown};
+ghost use Rattle.monk_world.specs.State.{with_event};
 ghost use Rattle.monk_history.specs.Meaning.Events.{is_call_of};
 ghost use Rattle.monk_history.specs.Meaning.Legal.{IsLegal};
 ghost use Rattle.monk_world.specs.Records.{IsRecordedBy, IsTakenBy};
 ghost use Rattle.monk_world.specs.Runs.{IsWellLed, opening_state};
 ghost use Rattle.monk_world.specs.StepTable.{IsStep, IsDone, out_event, refusal, left_for, may_be_told, is_call_in_range, is_call_offered, call_of};
 ghost use Rattle.monk_world.specs.Telling.{IsLed};
-ghost use Rattle.monk_world.specs.Words.{state_of};
+ghost use Rattle.monk_world.specs.Board.{state_of};
 
 use crate::answer::Answer;
+use crate::board::Board;
 use crate::command::Command;
 use crate::home::Home;
 use crate::place::Place;
 use crate::source::Source;
 use crate::telling::{is_in_range, is_offered, left_for, may_be_told};
-use crate::words::Words;
 use monk_floor::{Floor, MakeFault};
 use monk_history::{Event, Next, Via};
 use monk_kinds::{Kind, Pick, rules_of};
@@ -34,14 +34,14 @@ use std::marker::Model;
 /// Every state that it is in is sound: the right to be active is in exactly one place, and the history is legal.
 #[derive(Drop)]
 pub struct World<K: Kind, T: Guarded> {
-    words: Words,
+    words: Board,
     conds: u8,
     floor: Floor<K, T>,
 }
 
 impl<K: Kind, T: Guarded> Model for World<K, T> {
     ghost use Rattle.monk_world.specs.Kept.{IsKept};
-    ghost use Rattle.monk_world.specs.Words.{WorldView, view_in, state_of};
+    ghost use Rattle.monk_world.specs.Board.{WorldView, view_in, state_of};
 
     ghost Value = { WorldView };
 
@@ -67,7 +67,7 @@ impl<K: Kind, T: Guarded> World<K, T> {
         ensures refused { IfErr result (λ e. IsRefused seats conds budget e) }
     {
         let floor = Floor::make(alloc, object, seats, conds, budget)?;
-        let words = Words::make(alloc, seats)?;
+        let words = Board::make(alloc, seats)?;
         Ok(World {
             words,
             conds,
@@ -123,9 +123,9 @@ impl<K: Kind, T: Guarded> World<K, T> {
         match command {
             Command::Arrive => self.arrive(seat),
             Command::Look => self.look(seat),
-            Command::Out => self.come_out(seat),
+            Command::Out => self.floor_out(seat),
             Command::Peek => self.peek(seat),
-            Command::Drop => self.take_off(seat),
+            Command::Drop => self.drop_ticket(seat),
             Command::Grant => self.grant(seat),
             Command::Act(op) => self.act(seat, op),
             Command::Leave(pick) => self.leave(seat, pick),
@@ -172,21 +172,21 @@ impl<K: Kind, T: Guarded> World<K, T> {
         ensures { IsDone K.rules T.meaning (state_of self.old) seat ((state_of self.old).world.place seat) Command.Look result (state_of self.new) }
     {
         match self.words.place(seat) {
-            Place::Ticket(ticket) => self.words.look_for_ticket(seat, ticket),
-            Place::Inner => self.words.look_for_call(seat),
+            Place::Ticket(ticket) => self.words.ticket_look(seat, ticket),
+            Place::Inner => self.words.seat_look(seat),
             _ => unreachable!(),
         }
     }
 
     /// Takes the floor, which records the enter or the resume.
-    fn come_out(&mut self, seat: u8) -> Answer
+    fn floor_out(&mut self, seat: u8) -> Answer
         requires { refusal K.rules T.meaning (state_of self.old) seat Command.Out ≡ None }
         ensures { IsDone K.rules T.meaning (state_of self.old) seat ((state_of self.old).world.place seat) Command.Out result (state_of self.new) }
     {
         match self.words.place(seat) {
             Place::Due(source) => {
                 record_entry(&mut self.floor, seat, source);
-                self.words.come_out(seat, source)
+                self.words.floor_out(seat, source)
             }
             _ => unreachable!(),
         }
@@ -204,12 +204,12 @@ impl<K: Kind, T: Guarded> World<K, T> {
     }
 
     /// Takes the seat off the ticket word.
-    fn take_off(&mut self, seat: u8) -> Answer
+    fn drop_ticket(&mut self, seat: u8) -> Answer
         requires { refusal K.rules T.meaning (state_of self.old) seat Command.Drop ≡ None }
         ensures { IsDone K.rules T.meaning (state_of self.old) seat ((state_of self.old).world.place seat) Command.Drop result (state_of self.new) }
     {
         match self.words.place(seat) {
-            Place::Back(_, home) => self.words.take_off(seat, home),
+            Place::Back(_, home) => self.words.drop_ticket(seat, home),
             _ => unreachable!(),
         }
     }
@@ -220,10 +220,10 @@ impl<K: Kind, T: Guarded> World<K, T> {
         ensures { IsDone K.rules T.meaning (state_of self.old) seat ((state_of self.old).world.place seat) Command.Grant result (state_of self.new) }
     {
         match self.words.place(seat) {
-            Place::Passing(ticket, home) => self.words.grant_ticket(seat, ticket, home),
-            Place::Back(Next::Waiter(called), home) => self.words.grant_seat(seat, called, home),
-            Place::Back(Next::Signaller(called), home) => self.words.grant_seat(seat, called, home),
-            Place::Back(Next::Until(called), home) => self.words.grant_seat(seat, called, home),
+            Place::Passing(ticket, home) => self.words.ticket_grant(seat, ticket, home),
+            Place::Back(Next::Waiter(called), home) => self.words.seat_grant(seat, called, home),
+            Place::Back(Next::Signaller(called), home) => self.words.seat_grant(seat, called, home),
+            Place::Back(Next::Until(called), home) => self.words.seat_grant(seat, called, home),
             _ => unreachable!(),
         }
     }
@@ -243,7 +243,7 @@ impl<K: Kind, T: Guarded> World<K, T> {
     {
         let known = self.words.knows(seat);
         let next = self.floor.plain_leave(seat, pick, known);
-        self.words.go_home(seat, next, Home::Idle)
+        self.words.floor_in(seat, next, Home::Idle)
     }
 
     /// Waits on a condition.
@@ -253,7 +253,7 @@ impl<K: Kind, T: Guarded> World<K, T> {
     {
         let known = self.words.knows(seat);
         let next = self.floor.plain_wait(seat, cond, pick, known);
-        self.words.go_home(seat, next, Home::Inner)
+        self.words.floor_in(seat, next, Home::Inner)
     }
 
     /// Signals a condition.
@@ -263,7 +263,7 @@ impl<K: Kind, T: Guarded> World<K, T> {
     {
         let known = self.words.knows(seat);
         let next = self.floor.plain_signal(seat, cond, pick, known);
-        self.words.go_home(seat, next, Home::Inner)
+        self.words.floor_in(seat, next, Home::Inner)
     }
 
     /// Signals a condition and leaves the monitor.
@@ -273,7 +273,7 @@ impl<K: Kind, T: Guarded> World<K, T> {
     {
         let known = self.words.knows(seat);
         let next = self.floor.plain_signal_leave(seat, cond, pick, known);
-        self.words.go_home(seat, next, Home::Idle)
+        self.words.floor_in(seat, next, Home::Idle)
     }
 
     /// Waits until a predicate holds.
@@ -283,7 +283,7 @@ impl<K: Kind, T: Guarded> World<K, T> {
     {
         let known = self.words.knows(seat);
         let next = self.floor.plain_until(seat, pred, pick, known);
-        self.words.go_home(seat, next, Home::Inner)
+        self.words.floor_in(seat, next, Home::Inner)
     }
 }
 
@@ -292,7 +292,7 @@ pub fn record_entry<K: Kind, T: Guarded>(floor: &mut Floor<K, T>, seat: u8, sour
     requires allowed { IsAllowed (monitor_of K.rules T.meaning floor.old) floor.old.history (out_event seat source (turn floor.old.history)) }
     requires seat { seat < floor.old.seats }
     requires left { 0 < left_of floor.old.budget floor.old.history seat }
-    ensures { floor.new ≡ grown floor.old (out_event seat source (turn floor.old.history)) }
+    ensures { floor.new ≡ with_event floor.old (out_event seat source (turn floor.old.history)) }
 {
     match source {
         Source::Free(_) => floor.enter(seat, Via::Free),

@@ -9,7 +9,7 @@ use Rattle.monk_kinds.specs.declared.mode.Rules.{Rules}
 use Rattle.monk_object.specs.Object.{Object}
 use Rattle.monk_object.specs.Names.{meaning_named, opening_named}
 use Rattle.monk_object.specs.Laws.{state_of, acts_of}
-use Rattle.monk_object.specs.Runs.{Answered, answered, state_after}
+use Rattle.monk_object.specs.Runs.{Answered, answers_of, state_after}
 use Rattle.monk_object.specs.declared.name.ObjectName.{ObjectName}
 use Rattle.monk_object.specs.declared.name.ObjectName.TheVariants.{Buffer, Book, Shop}
 use Rattle.monk_object.specs.declared.op.Op.{Op}
@@ -29,7 +29,7 @@ use Rattle.monk_history.proofs.MeaningLaws.TurnLaws.{data-push}
 abbrev ops : List Answered → List Op
 ops acts = map (λ act. act.op) acts
 
-answered-append : (o : Object) (d : List ℕ) (xs ys : List Op) → answered o d (xs ++ ys) ≡ answered o d xs ++ answered o (state_after o d xs) ys
+answered-append : (o : Object) (d : List ℕ) (xs ys : List Op) → answers_of o d (xs ++ ys) ≡ answers_of o d xs ++ answers_of o (state_after o d xs) ys
 answered-append o d [] ys = refl
 answered-append o d (x ∷ xs) ys = ap (λ acts. record { op = x; reply = o.reply d x } ∷ acts) (answered-append o (o.after d x) xs ys)
 
@@ -49,7 +49,7 @@ data_by o d (SignalLeave s c x) = refl
 data_by o d (Until s p x) = refl
 data_by o d (Resume s q) = refl
 
-reply_by : (o : Object) (d : List ℕ) (e : Event) → is_right_reply o d e ≡ true → answered o d (ops_in (e ∷ [])) ≡ acts_in (e ∷ [])
+reply_by : (o : Object) (d : List ℕ) (e : Event) → is_right_reply o d e ≡ true → answers_of o d (ops_in (e ∷ [])) ≡ acts_in (e ∷ [])
 reply_by o d (Enter s via) h = refl
 reply_by o d (Act s op r) h = ap (λ n. record { op = op; reply = n } ∷ []) (sym (eqb-true r (o.reply d op) h))
 reply_by o d (Leave s x) h = refl
@@ -72,12 +72,12 @@ data_is m h = history_induction (λ x. state_after m.object m.opening (ops_in x)
     ∙ (ap (λ d. data_after m.object d e) more
     ∙ sym (data-push m x e))))) h
 
-replies_are : (m : Monitor) (h : List Event) → IsLegal m h → answered m.object m.opening (ops_in h) ≡ acts_in h
-replies_are m h = history_induction (λ x. IsLegal m x → answered m.object m.opening (ops_in x) ≡ acts_in x) (λ l. refl) (λ x e more l.
-    ap (λ xs. answered m.object m.opening xs) (ops-push x e)
+replies_are : (m : Monitor) (h : List Event) → IsLegal m h → answers_of m.object m.opening (ops_in h) ≡ acts_in h
+replies_are m h = history_induction (λ x. IsLegal m x → answers_of m.object m.opening (ops_in x) ≡ acts_in x) (λ l. refl) (λ x e more l.
+    ap (λ xs. answers_of m.object m.opening xs) (ops-push x e)
     ∙ (answered-append m.object m.opening (ops_in x) (ops_in (e ∷ []))
-    ∙ (ap (λ acts. acts ++ answered m.object (state_after m.object m.opening (ops_in x)) (ops_in (e ∷ []))) (more (legal_front m x (e ∷ []) l))
-    ∙ (ap (λ d. acts_in x ++ answered m.object d (ops_in (e ∷ []))) (data_is m x)
+    ∙ (ap (λ acts. acts ++ answers_of m.object (state_after m.object m.opening (ops_in x)) (ops_in (e ∷ []))) (more (legal_front m x (e ∷ []) l))
+    ∙ (ap (λ d. acts_in x ++ answers_of m.object d (ops_in (e ∷ []))) (data_is m x)
     ∙ (ap (λ acts. acts_in x ++ acts) (reply_by m.object (data_of m x) e ((legal_last m x e l).right_reply))
     ∙ sym (acts-push x e)))))) h
 

@@ -8,7 +8,7 @@ use Rattle.monk_history.specs.Meaning.Monitor.{Monitor, data_of}
 use Rattle.monk_history.specs.Meaning.Situation.{Situation, situation}
 use Rattle.monk_history.specs.Meaning.Signallers.{is_empty}
 use Rattle.monk_history.specs.Meaning.Untils.{untils, ready_of}
-use Rattle.monk_history.specs.Meaning.Turn.{turn, enters, leaves, inside_of, is_inside}
+use Rattle.monk_history.specs.Meaning.Turn.{turn, is_enter_of, is_exit_of, inside_of, is_inside}
 use Rattle.monk_history.specs.Meaning.Reasons.{is_in_range, is_condition, fits_object, is_open, is_due, is_queue, IsAllowed, IsAllowedIn}
 use Rattle.monk_history.specs.Meaning.Counts.{events_of}
 use Rattle.monk_history.specs.Meaning.Release.{MayCallIn, MayCall, as_called}
@@ -142,10 +142,10 @@ not_theirs true w h = absurd (false≢true (sym h))
 not_theirs false true h = refl
 not_theirs false false h = refl
 
-leaves_other : (j : ℕ) (e : Event) → (seat_of e == j) ≡ false → leaves j e ≡ false
+leaves_other : (j : ℕ) (e : Event) → (seat_of e == j) ≡ false → is_exit_of j e ≡ false
 leaves_other j e h = not_theirs (seat_of e == j) (is_way_out e) h
 
-enters_other : (j : ℕ) (e : Event) → (seat_of e == j) ≡ false → enters j e ≡ false
+enters_other : (j : ℕ) (e : Event) → (seat_of e == j) ≡ false → is_enter_of j e ≡ false
 enters_other j (Enter s via) h = h
 enters_other j (Act s op r) h = refl
 enters_other j (Leave s x) h = refl
@@ -155,18 +155,18 @@ enters_other j (SignalLeave s c x) h = refl
 enters_other j (Until s p x) h = refl
 enters_other j (Resume s q) h = refl
 
-leaves_more : (j : ℕ) (e : Event) (own es : List Event) (b : Bool) → (seat_of e == j) ≡ b → list_any (leaves j) own ≡ list_any (leaves j) es → list_any (leaves j) (cond b (e ∷ own) own) ≡ (leaves j e || list_any (leaves j) es)
-leaves_more j e own es true h k = ap (λ b. leaves j e || b) k
-leaves_more j e own es false h k = k ∙ sym (ap (λ b. b || list_any (leaves j) es) (leaves_other j e h))
+leaves_more : (j : ℕ) (e : Event) (own es : List Event) (b : Bool) → (seat_of e == j) ≡ b → list_any (is_exit_of j) own ≡ list_any (is_exit_of j) es → list_any (is_exit_of j) (cond b (e ∷ own) own) ≡ (is_exit_of j e || list_any (is_exit_of j) es)
+leaves_more j e own es true h k = ap (λ b. is_exit_of j e || b) k
+leaves_more j e own es false h k = k ∙ sym (ap (λ b. b || list_any (is_exit_of j) es) (leaves_other j e h))
 
-leaves_own : (j : ℕ) (h : List Event) → list_any (leaves j) (filter (λ e. seat_of e == j) h) ≡ list_any (leaves j) h
+leaves_own : (j : ℕ) (h : List Event) → list_any (is_exit_of j) (filter (λ e. seat_of e == j) h) ≡ list_any (is_exit_of j) h
 leaves_own j [] = refl
 leaves_own j (e ∷ es) = leaves_more j e (filter (λ x. seat_of x == j) es) es (seat_of e == j) refl (leaves_own j es)
 
-inside_more : (j : ℕ) (e : Event) (own es : List Event) (b : Bool) → (seat_of e == j) ≡ b → list_any (leaves j) own ≡ list_any (leaves j) es → inside_of j own ≡ inside_of j es
-    → inside_of j (cond b (e ∷ own) own) ≡ ((enters j e && not (list_any (leaves j) es)) || inside_of j es)
-inside_more j e own es true h k i = λ z. (enters j e && not (k z)) || i z
-inside_more j e own es false h k i = i ∙ sym (ap (λ b. (b && not (list_any (leaves j) es)) || inside_of j es) (enters_other j e h))
+inside_more : (j : ℕ) (e : Event) (own es : List Event) (b : Bool) → (seat_of e == j) ≡ b → list_any (is_exit_of j) own ≡ list_any (is_exit_of j) es → inside_of j own ≡ inside_of j es
+    → inside_of j (cond b (e ∷ own) own) ≡ ((is_enter_of j e && not (list_any (is_exit_of j) es)) || inside_of j es)
+inside_more j e own es true h k i = λ z. (is_enter_of j e && not (k z)) || i z
+inside_more j e own es false h k i = i ∙ sym (ap (λ b. (b && not (list_any (is_exit_of j) es)) || inside_of j es) (enters_other j e h))
 
 inside_own : (j : ℕ) (h : List Event) → inside_of j (filter (λ e. seat_of e == j) h) ≡ inside_of j h
 inside_own j [] = refl

@@ -9,10 +9,10 @@ use Rattle.monk_history.specs.Meaning.Situation.{Situation, situation}
 use Rattle.monk_history.specs.Meaning.Waiters.{serves}
 use Rattle.monk_history.specs.Meaning.Signallers.{is_empty, signals}
 use Rattle.monk_history.specs.Meaning.Choice.{Queues, queues_at, may_choose, may_signal, must_stay, chooses_well}
-use Rattle.monk_history.specs.Meaning.Turn.{turn_by, enters, leaves, is_inside}
+use Rattle.monk_history.specs.Meaning.Turn.{turn_by, is_enter_of, is_exit_of, is_inside}
 use Rattle.monk_history.specs.Meaning.Reasons.{is_in_turn, is_owned_by, is_open, is_due, fits_object, IsAllowedIn, IsAllowed}
 use Rattle.monk_history.specs.Meaning.Legal.{IsLegal}
-use Rattle.monk_history.specs.Meaning.Counts.{names, grants}
+use Rattle.monk_history.specs.Meaning.Counts.{chooses_seat, grants}
 use Rattle.monk_history.specs.Meaning.Standing.{times, times_in_conditions, has_turn, in_queues, standing, IsPlaced}
 use Rattle.monk_history.specs.Meaning.Moves.{parks, StandsAfter, CountsAfter}
 use Rattle.monk_history.specs.declared.event.Event.{Event}
@@ -59,7 +59,7 @@ comes_in true false h = refl
 comes_in false false h = refl
 comes_in i true h = absurd (false≢true (sym h))
 
-other_inside : (j : ℕ) (e : Event) (i : Bool) → j ≢ seat_of e → ((i && not (leaves j e)) || enters j e) ≡ i
+other_inside : (j : ℕ) (e : Event) (i : Bool) → j ≢ seat_of e → ((i && not (is_exit_of j e)) || is_enter_of j e) ≡ i
 other_inside j (Enter s via) i n = comes_in i (s == j) (not_same j s n)
 other_inside j (Act s op r) i n = stays_in i false (s == j) (not_same j s n)
 other_inside j (Leave s x) i n = stays_in i true (s == j) (not_same j s n)
@@ -101,7 +101,7 @@ due_one s q (Owned j) h = absurd (false≢true h)
 with_turn : (n s : ℕ) (t : Situation) → IsPlaced n t → has_turn s t.turn ≡ 1 → t.inside s ≡ true
 with_turn n s t p h = inside_true (t.inside s) (in_queues n s t) (omega (arith, p s, h))
 
-caller_inside : (n : ℕ) (t : Situation) (e : Event) → IsPlaced n t → is_in_turn t e ≡ true → ((t.inside (seat_of e) && not (leaves (seat_of e) e)) || enters (seat_of e) e) ≡ not (is_way_out e)
+caller_inside : (n : ℕ) (t : Situation) (e : Event) → IsPlaced n t → is_in_turn t e ≡ true → ((t.inside (seat_of e) && not (is_exit_of (seat_of e) e)) || is_enter_of (seat_of e) e) ≡ not (is_way_out e)
 caller_inside n t (Enter s via) p h = goes_in (t.inside s) (s == s) (eq-eqb s s refl)
 caller_inside n t (Act s op r) p h = stays_there (t.inside s) (s == s) (with_turn n s t p (owned_one s t.turn h))
 caller_inside n t (Leave s x) p h = goes_out (t.inside s) (s == s) (eq-eqb s s refl)
@@ -138,7 +138,7 @@ other_turn t (Until s q x) j n h = not_owned s j t.turn n h
 other_turn t (Resume s q) j n h = not_due s j q t.turn n h
 
 -- after an event another seat has the turn where it was chosen
-turn_grants : (s j : ℕ) (x : Option Next) → j ≢ s → has_turn j (turn_by s x) ≡ cond (names j x) 1 0
+turn_grants : (s j : ℕ) (x : Option Next) → j ≢ s → has_turn j (turn_by s x) ≡ cond (chooses_seat j x) 1 0
 turn_grants s j None n = ap (λ b. cond b 1 0) (not_same j s n)
 turn_grants s j (Some Stay) n = ap (λ b. cond b 1 0) (not_same j s n)
 turn_grants s j (Some Entry) n = refl
@@ -147,7 +147,7 @@ turn_grants s j (Some (Signaller i)) n = refl
 turn_grants s j (Some (UntilSeat i)) n = refl
 
 -- a chosen seat stands in a queue that is chosen from, and is not the caller if that is the signaller queue
-chosen_in : (k : Rules) (q : Queues) (s j : ℕ) (x : Next) (n : ℕ) → may_choose k q s x ≡ true → names j (Some x) ≡ true
+chosen_in : (k : Rules) (q : Queues) (s j : ℕ) (x : Next) (n : ℕ) → may_choose k q s x ≡ true → chooses_seat j (Some x) ≡ true
     → (1 ≤ times j q.waiters → 1 ≤ n) → (1 ≤ times j q.signallers → j ≢ s → 1 ≤ n) → (1 ≤ times j q.ready → 1 ≤ n) → 1 ≤ n
 chosen_in k q s j Stay n h g w f r = absurd (false≢true g)
 chosen_in k q s j Entry n h g w f r = absurd (false≢true g)
@@ -162,7 +162,7 @@ chosen_in k q s j (UntilSeat i) n h g w f r =
     let e : i ≡ j = eqb-true i j g in
     r (subst (λ z. 1 ≤ times z q.ready) e (front_times i q.ready (and_right (not (has_conditions k.mode)) _ h)))
 
-signalled_in : (k : Rules) (q : Queues) (s j : ℕ) (x : Next) (n : ℕ) → may_signal k q s x ≡ true → names j (Some x) ≡ true
+signalled_in : (k : Rules) (q : Queues) (s j : ℕ) (x : Next) (n : ℕ) → may_signal k q s x ≡ true → chooses_seat j (Some x) ≡ true
     → (1 ≤ times j q.waiters → 1 ≤ n) → (1 ≤ times j q.signallers → j ≢ s → 1 ≤ n) → (1 ≤ times j q.ready → 1 ≤ n) → 1 ≤ n
 signalled_in k q s j Stay n h g w f r = absurd (false≢true g)
 signalled_in k q s j Entry n h g w f r = absurd (false≢true g)
@@ -190,7 +190,7 @@ in_queue_ready : (m : Monitor) (t : Situation) (e : Event) (j : ℕ) → 1 ≤ t
 in_queue_ready m t e j h = omega (arith, h, times_filter m.object t.state t.untils j)
 
 -- what stays names nobody
-stay_names : (j : ℕ) (x : Next) → is_stay (Some x) ≡ true → names j (Some x) ≡ true → ⊥
+stay_names : (j : ℕ) (x : Next) → is_stay (Some x) ≡ true → chooses_seat j (Some x) ≡ true → ⊥
 stay_names j Stay h g = false≢true g
 stay_names j Entry h g = false≢true h
 stay_names j (Waiter i) h g = false≢true h
@@ -252,7 +252,7 @@ abbrev goes_on : Option Next → Bool
 goes_on None = true
 goes_on (Some x) = is_stay (Some x)
 
-keeps_turn : (s : ℕ) (x : Option Next) → names s x ≡ false → has_turn s (turn_by s x) ≡ cond (goes_on x) 1 0
+keeps_turn : (s : ℕ) (x : Option Next) → chooses_seat s x ≡ false → has_turn s (turn_by s x) ≡ cond (goes_on x) 1 0
 keeps_turn s None n = ap (λ b. cond b 1 0) (eq-eqb s s refl)
 keeps_turn s (Some Stay) n = ap (λ b. cond b 1 0) (eq-eqb s s refl)
 keeps_turn s (Some Entry) n = refl
@@ -296,7 +296,7 @@ stands_after m h e l a =
     let own : is_inside self (h ++ e ∷ []) ≡ not (is_way_out e) = inside-push self h e ∙ caller_inside m.conds t e p a.in_turn in
     let owned : ◌≡◌ {A = ℕ} (cond (is_inside self (h ++ e ∷ [])) 1 0) (cond (not (is_way_out e)) 1 0) = ap (λ b. cond b 1 0) own in
     let kept : has_turn self u.turn ≡ cond (goes_on (next_of e)) 1 0 =
-    ap (has_turn self) (turn-push h e) ∙ keeps_turn self (next_of e) (none_or (names self (next_of e)) (λ g. not_caller m t e self p a g refl)) in
+    ap (has_turn self) (turn-push h e) ∙ keeps_turn self (next_of e) (none_or (chooses_seat self (next_of e)) (λ g. not_caller m t e self p a g refl)) in
     let same = λ (j : ℕ) (n : j ≢ self). ap (λ b. cond {A = ℕ} b 1 0) (inside-push j h e ∙ other_inside j e (is_inside j h) n) in
     let turns = λ (j : ℕ) (n : j ≢ self). ap (has_turn j) (turn-push h e) ∙ turn_grants self j (next_of e) n in
     let named = λ (j : ℕ) (g : grants j e ≡ true). ap (λ b. cond {A = ℕ} b 1 0) g in

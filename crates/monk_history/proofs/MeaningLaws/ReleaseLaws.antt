@@ -19,7 +19,7 @@ use Rattle.monk_history.specs.Meaning.Signallers.{is_empty, signals, takes_signa
 use Rattle.monk_history.specs.Meaning.Untils.{waits_until, chooses, ready_of}
 use Rattle.monk_history.specs.Meaning.Choice.{Queues, queues_at, is_front, may_choose, may_signal, must_stay}
 use Rattle.monk_history.specs.Meaning.Wish.{choice_by}
-use Rattle.monk_history.specs.Meaning.Turn.{enters, leaves}
+use Rattle.monk_history.specs.Meaning.Turn.{is_enter_of, is_exit_of}
 use Rattle.monk_history.specs.Meaning.Reasons.{is_in_range, is_condition, fits_object, is_offered, is_open, is_due, is_queue, is_owned_by, fits_turn, is_in_turn, is_in_place, is_right_reply, may_enter, IsAllowedIn, IsAllowed}
 use Rattle.monk_history.specs.Meaning.Legal.{IsLegal}
 use Rattle.monk_history.specs.Meaning.Standing.{times, times_in_conditions, has_turn, IsPlaced}
@@ -144,7 +144,7 @@ pub seat_in_range : (seats conds codes predicates : ℕ) (e : Event) → is_in_r
 seat_in_range seats conds codes predicates e h =
     lt_of (seat_of e) seats (and_left (nat_lt (seat_of e) seats) _ (and_left _ (is_condition conds (waits_on e)) (and_left _ (is_condition conds (signals_on e)) (and_left _ (fits_object codes predicates e) h))))
 
-enters_seat : (j : ℕ) (e : Event) → enters j e ≡ true → seat_of e ≡ j
+enters_seat : (j : ℕ) (e : Event) → is_enter_of j e ≡ true → seat_of e ≡ j
 enters_seat j (Enter s via) h = eqb-true s j h
 enters_seat j (Act s op r) h = absurd (false≢true h)
 enters_seat j (Leave s x) h = absurd (false≢true h)
@@ -160,7 +160,7 @@ or_either P false b h f g = g h
 
 seated_after : (m : Monitor) (t : Situation) (e : Event) → IsSeated m.seats t → IsAllowedIn m t e → IsSeated m.seats (after m.object t e)
 seated_after m t e s a j h =
-    or_either (j < m.seats) (t.inside j && not (leaves j e)) (enters j e) h
+    or_either (j < m.seats) (t.inside j && not (is_exit_of j e)) (is_enter_of j e) h
     (λ b. s j (and_left _ _ b))
     (λ b. subst (λ x. x < m.seats) (enters_seat j e b) (seat_in_range m.seats m.conds m.object.codes m.object.predicates e a.in_range))
 

@@ -16,29 +16,29 @@ use Rattle.monk_history.specs.declared.text.next_word.NextWord.{NextWord}
 use Rattle.monk_history.specs.declared.text.next_word.NextWord.TheVariants as word
 use Rattle.monk_history.specs.declared.text.verb.Verb.{Verb}
 use Rattle.monk_history.specs.declared.text.verb.Verb.TheVariants as verb
-use Rattle.monk_kinds.specs.Names.{written}
+use Rattle.monk_kinds.specs.Names.{with_text}
 use Rattle.monk_history.specs.Text.{via_word, from_word, next_words, event_words, NextFits, EventFits}
 use Rattle.monk_history.specs.Text.Words.{◌>>=◌, Word, number_at, one_of, end_at}
 use Rattle.monk_history.specs.Text.Reading.{vias, froms, next_word, all_next_words, next_after, next_at, verb_word, verbs, cond_next_at, act_at, event_after, event_at}
 use Rattle.monk_history.proofs.TextLaws.WordReaders.{bind_ok, ok_is, number_takes, number_again, one_of_takes, one_of_again, end_takes}
 
-pub via_again : (v : Via) → written via_word vias (via_word v) ≡ Some v
+pub via_again : (v : Via) → with_text via_word vias (via_word v) ≡ Some v
 via_again Free = refl
 via_again Handed = refl
 
-pub from_again : (q : From3) → written from_word froms (from_word q) ≡ Some q
+pub from_again : (q : From3) → with_text from_word froms (from_word q) ≡ Some q
 from_again from.Waiter = refl
 from_again from.Signaller = refl
 from_again from.Until = refl
 
-pub next_word_again : (c : NextWord) → written next_word all_next_words (next_word c) ≡ Some c
+pub next_word_again : (c : NextWord) → with_text next_word all_next_words (next_word c) ≡ Some c
 next_word_again word.Stay = refl
 next_word_again word.Entry = refl
 next_word_again word.Waiter = refl
 next_word_again word.Signaller = refl
 next_word_again word.Until = refl
 
-pub verb_again : (v : Verb) → written verb_word verbs (verb_word v) ≡ Some v
+pub verb_again : (v : Verb) → with_text verb_word verbs (verb_word v) ≡ Some v
 verb_again verb.Enter = refl
 verb_again verb.Act = refl
 verb_again verb.Leave = refl

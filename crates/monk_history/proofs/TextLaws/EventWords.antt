@@ -6,14 +6,14 @@ use Rattle.monk_history.specs.declared.event.From3.{From3}
 use Rattle.monk_history.specs.declared.text.fault.Flaw.TheVariants as flaw
 use Rattle.monk_history.specs.declared.text.next_word.NextWord.{NextWord}
 use Rattle.monk_history.specs.declared.text.verb.Verb.{Verb}
-use Rattle.monk_kinds.specs.Names.{written}
+use Rattle.monk_kinds.specs.Names.{with_text}
 use Rattle.monk_history.specs.Text.{via_word, from_word}
 use Rattle.monk_history.specs.Text.Words.{Word, one_of, is_next}
 use Rattle.monk_history.specs.Text.Reading.{vias, froms, next_word, all_next_words, verb_word, verbs}
 use Rattle.monk_history.proofs.TextLaws.WordReaders.{one_of_again}
 use Rattle.monk_history.proofs.TextLaws.EventReading.{via_again, from_again, next_word_again, verb_again}
 
-one_of-next : {A : Type 0} (word : A → Word) (values : List A) (x : A) (ws rest : List Word) → written word values (word x) ≡ Some x → ws ≡ word x ∷ rest → one_of word values ws ≡ Ok (x, rest)
+one_of-next : {A : Type 0} (word : A → Word) (values : List A) (x : A) (ws rest : List Word) → with_text word values (word x) ≡ Some x → ws ≡ word x ∷ rest → one_of word values ws ≡ Ok (x, rest)
 one_of-next word values x ws rest found is = ap (one_of word values) is ∙ one_of_again word values x rest found
 
 pub verb-next : (v : Verb) (ws rest : List Word) → ws ≡ verb_word v ∷ rest → one_of verb_word verbs ws ≡ Ok (v, rest)

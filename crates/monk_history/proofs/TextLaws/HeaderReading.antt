@@ -7,7 +7,7 @@ use Rattle.monk_kinds.specs.declared.name.KindName.{KindName}
 use Rattle.monk_kinds.specs.declared.name.KindName.TheVariants.{Pb, Npb, Pnb, Npnb, Pqb, Npqb, Pir, Npir, Pis, Npis}
 use Rattle.monk_object.specs.declared.name.ObjectName.{ObjectName}
 use Rattle.monk_object.specs.declared.name.ObjectName.TheVariants.{Buffer, Book, Shop}
-use Rattle.monk_kinds.specs.Names.{kind_word, written, kinds}
+use Rattle.monk_kinds.specs.Names.{kind_word, with_text, kinds}
 use Rattle.monk_object.specs.Names.{object_word, objects}
 use Rattle.monk_history.specs.Text.{Heading, most_seats, most_conds, part_words, header_words, IsHeading}
 use Rattle.monk_history.specs.Text.Words.{◌>>=◌, Word, Taken, number_at, with_rest, one_of, literal_at, end_at}
@@ -15,7 +15,7 @@ use Rattle.monk_history.specs.Text.Reading.{heading, heading_of, parts_at, heade
 use Rattle.monk_history.proofs.TextLaws.LineCuts.{both}
 use Rattle.monk_history.proofs.TextLaws.WordReaders.{bind_ok, ok_is, number_takes, number_again, one_of_takes, one_of_again, literal_takes, end_takes}
 
-kind_again : (k : KindName) → written kind_word kinds (kind_word k) ≡ Some k
+kind_again : (k : KindName) → with_text kind_word kinds (kind_word k) ≡ Some k
 kind_again Pb = refl
 kind_again Npb = refl
 kind_again Pnb = refl
@@ -27,7 +27,7 @@ kind_again Npir = refl
 kind_again Pis = refl
 kind_again Npis = refl
 
-object_again : (o : ObjectName) → written object_word objects (object_word o) ≡ Some o
+object_again : (o : ObjectName) → with_text object_word objects (object_word o) ≡ Some o
 object_again Buffer = refl
 object_again Book = refl
 object_again Shop = refl

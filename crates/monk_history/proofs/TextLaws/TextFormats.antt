@@ -7,7 +7,7 @@ use Rattle.std.proofs.lemmas.List.Splits.{join_with_byte-slice_split}
 use Rattle.monk_history.specs.declared.text.fault.ReadFault.{ReadFault}
 use Rattle.monk_history.specs.Text.Faults.{end_fault}
 use Rattle.monk_history.specs.Text.Words.{◌>>=◌, Word, Taken, words_of}
-use Rattle.monk_history.specs.Text.Lines.{line, lines_of, numbered, item_line, headed, header_line, items_at, lines_at}
+use Rattle.monk_history.specs.Text.Lines.{line, lines_of, with_line_number, item_line, after_header, header_line, items_at, lines_at}
 use Rattle.monk_history.proofs.TextLaws.LineCuts.{AreWords, words_of-words, lines_of-line}
 use Rattle.monk_history.proofs.TextLaws.LineSteps.{some_part, one_line, too_long, last_part, left_of, some_header, both_parts}
 use Rattle.monk_history.proofs.TextLaws.WordReaders.{bind_ok}
@@ -28,7 +28,7 @@ item_made e = Ok e
 item_is : {A : Type 0} (a b : A) → item_made a ≡ item_made b → a ≡ b
 item_is a b h = cc
 
-numbered_ok : {A : Type 0} (n : ℕ) (r : Taken A) (e : A) → numbered n r ≡ Ok e → (ws : List Word) × (r ≡ Ok (e, ws))
+numbered_ok : {A : Type 0} (n : ℕ) (r : Taken A) (e : A) → with_line_number n r ≡ Ok e → (ws : List Word) × (r ≡ Ok (e, ws))
 numbered_ok {A = A} n (Ok x) e h = (x.1, ap (λ (y : A). taken_made y x.1) (item_is x.0 e h))
 numbered_ok n (Err f) e h = absurd cc
 
@@ -89,7 +89,7 @@ module _ {A : Type 0} (words : A → List Word) (parse : List Word → Taken A) 
 
 -- ---- the whole text
 
-headed_ok : {H : Type 0} (r : Taken H) (h : H) → headed r ≡ Ok h → (ws : List Word) × (r ≡ Ok (h, ws))
+headed_ok : {H : Type 0} (r : Taken H) (h : H) → after_header r ≡ Ok h → (ws : List Word) × (r ≡ Ok (h, ws))
 headed_ok {H = H} (Ok x) h e = (x.1, ap (λ (y : H). taken_made y x.1) (item_is x.0 h e))
 headed_ok (Err f) h e = absurd cc
 

@@ -8,7 +8,7 @@ use Rattle.std.proofs.lemmas.Bool.{leb-true}
 use Rattle.std.proofs.lemmas.Slice.Eq.{bytes_eq-Decides}
 use Rattle.monk_history.specs.declared.text.fault.Flaw.{Flaw}
 use Rattle.monk_history.specs.declared.text.fault.Flaw.TheVariants as flaw
-use Rattle.monk_kinds.specs.Names.{written}
+use Rattle.monk_kinds.specs.Names.{with_text}
 use Rattle.monk_history.specs.Text.Words.{◌>>=◌, Word, is_number, number_at, with_rest, one_of, literal_at, end_at}
 use Rattle.monk_history.proofs.TextLaws.NumberWords.{is_number_decimal, is_number_too_great}
 use Rattle.monk_history.proofs.TextLaws.LineCuts.{both}
@@ -60,9 +60,9 @@ test_found : {A : Type 0} (b : Bool) (w u : Word) (v x : A) (rest : Option A) (w
 test_found true w u v x rest word same other e = same refl ∙ ap word (some_is v x e)
 test_found false w u v x rest word same other e = other e
 
-found_is : {A : Type 0} (word : A → Word) (values : List A) (w : Word) (x : A) → written word values w ≡ Some x → w ≡ word x
+found_is : {A : Type 0} (word : A → Word) (values : List A) (w : Word) (x : A) → with_text word values w ≡ Some x → w ≡ word x
 found_is word [] w x e = absurd cc
-found_is word (v ∷ vs) w x e = test_found (bytes_eq w (word v)) w w v x (written word vs w) word (λ b. (bytes_eq-Decides w (word v)).0 b) (found_is word vs w x) e
+found_is word (v ∷ vs) w x e = test_found (bytes_eq w (word v)) w w v x (with_text word vs w) word (λ b. (bytes_eq-Decides w (word v)).0 b) (found_is word vs w x) e
 
 rest_taken : {A : Type 0} (o : Option A) (word : A → Word) (w : Word) (ws : List Word) (x : A × List Word) → ((y : A) → o ≡ Some y → w ≡ word y) → with_rest ws o ≡ Ok x → w ∷ ws ≡ word x.0 ∷ x.1
 rest_taken None word w ws x h e = absurd cc
@@ -71,9 +71,9 @@ rest_taken {A = A} (Some y) word w ws x h e = subst (λ (z : A × List Word). w 
 pub one_of_takes : {A : Type 0} (word : A → Word) (values : List A) (ws : List Word) (x : A × List Word) → one_of word values ws ≡ Ok x → ws ≡ word x.0 ∷ x.1
 unfolding one_of
 one_of_takes word values [] x e = absurd cc
-one_of_takes word values (w ∷ ws) x e = rest_taken (written word values w) word w ws x (found_is word values w) e
+one_of_takes word values (w ∷ ws) x e = rest_taken (with_text word values w) word w ws x (found_is word values w) e
 
-pub one_of_again : {A : Type 0} (word : A → Word) (values : List A) (x : A) (ws : List Word) → written word values (word x) ≡ Some x → one_of word values (word x ∷ ws) ≡ Ok (x, ws)
+pub one_of_again : {A : Type 0} (word : A → Word) (values : List A) (x : A) (ws : List Word) → with_text word values (word x) ≡ Some x → one_of word values (word x ∷ ws) ≡ Ok (x, ws)
 unfolding one_of
 one_of_again word values x ws e = rw e refl
 

@@ -6,7 +6,7 @@ use Rattle.monk_object.specs.Book.{START_READ, END_READ, START_WRITE, END_WRITE}
 use Rattle.monk_object.specs.Shop.{SIT, CALL, FINISH, DEPART}
 use Rattle.monk_object.specs.Laws.{items_put, items_taken}
 use Rattle.monk_object.specs.Object.{Object}
-use Rattle.monk_object.specs.Runs.{Answered, answered, state_after, times_done}
+use Rattle.monk_object.specs.Runs.{Answered, answers_of, state_after, times_done}
 use Rattle.monk_object.specs.declared.op.Op.{Op}
 use Rattle.monk_history.specs.declared.event.Event.{Event}
 use Rattle.monk_history.specs.declared.event.Event.TheVariants.{Enter, Act, Leave, Wait, Signal, SignalLeave, Until, Resume}
@@ -32,7 +32,7 @@ ops_in h = map (λ act. act.op) (acts_in h)
 
 -- the acts are a run of the object from its opening state: each reply is the object's, and the data are its state
 pub record IsRunOf (m : Monitor) (h : List Event) : Type 0 where
-  pub replies : answered m.object m.opening (ops_in h) ≡ acts_in h
+  pub replies : answers_of m.object m.opening (ops_in h) ≡ acts_in h
   pub leads_to : state_after m.object m.opening (ops_in h) ≡ data_of m h
 
 -- a buffer: the items put are those taken and then those that are there, in order, and never more than the size is there

@@ -29,16 +29,16 @@ unfoldable pub enters_of : List Event → ℕ
 enters_of h = count_by is_enter h
 
 -- whether it chose that seat from a queue
-abbrev pub names : ℕ → Option Next → Bool
-names s None = false
-names s (Some Stay) = false
-names s (Some Entry) = false
-names s (Some (Waiter j)) = j == s
-names s (Some (Signaller j)) = j == s
-names s (Some (UntilSeat j)) = j == s
+abbrev pub chooses_seat : ℕ → Option Next → Bool
+chooses_seat s None = false
+chooses_seat s (Some Stay) = false
+chooses_seat s (Some Entry) = false
+chooses_seat s (Some (Waiter j)) = j == s
+chooses_seat s (Some (Signaller j)) = j == s
+chooses_seat s (Some (UntilSeat j)) = j == s
 
 abbrev pub grants : ℕ → Event → Bool
-grants s e = names s (next_of e)
+grants s e = chooses_seat s (next_of e)
 
 -- how many events chose that seat from a queue
 unfoldable pub granted_of : List Event → ℕ → ℕ

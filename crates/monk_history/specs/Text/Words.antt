@@ -6,7 +6,7 @@ use Rattle.std.specs.Str.Parse.{digits_value}
 use Rattle.std.specs.Fmt.{decimal}
 use Rattle.monk_history.specs.declared.text.fault.Flaw.{Flaw}
 use Rattle.monk_history.specs.declared.text.fault.Flaw.TheVariants as flaw
-use Rattle.monk_kinds.specs.Names.{written}
+use Rattle.monk_kinds.specs.Names.{with_text}
 
 -- a word's bytes
 abbrev pub Word : Type 0
@@ -43,7 +43,7 @@ with_rest ws (Some x) = Ok (x, ws)
 -- one of the values, by its word
 unfoldable pub one_of : {A : Type 0} → (A → Word) → List A → List Word → Taken A
 one_of word values [] = Err flaw.Word
-one_of word values (w ∷ ws) = with_rest ws (written word values w)
+one_of word values (w ∷ ws) = with_rest ws (with_text word values w)
 
 -- that word and no other
 abbrev pub literal_at : Word → List Word → Taken (Unit {0})

@@ -8,7 +8,7 @@ ghost use Rattle.monk_history.specs.Text.Reading.{vias, froms, next_word, all_ne
 use crate::event::{Event, From3, Next, Via};
 use crate::text::fault::Flaw;
 use crate::text::header::Header;
-use crate::text::lines::{Record, Words};
+use crate::text::lines::{LineWords, Record};
 use crate::text::next_word::NextWord;
 use crate::text::verb::Verb;
 use monk_object::Op;
@@ -20,7 +20,7 @@ impl Record<Header> for Event {
     ghost parse = { event_under };
 
     #[inline(always)]
-    fn parse(_header: &Header, words: &mut Words<'_>) -> Result<Event, Flaw>
+    fn parse(_header: &Header, words: &mut LineWords<'_>) -> Result<Event, Flaw>
         ensures { Reads result words.new (event_at words.old) }
     {
         event(words)
@@ -29,7 +29,7 @@ impl Record<Header> for Event {
 
 #[tactic(auto, unfolding(crate::specs::Text::Reading::event_at))]
 #[inline(always)]
-fn event(words: &mut Words<'_>) -> Result<Event, Flaw>
+fn event(words: &mut LineWords<'_>) -> Result<Event, Flaw>
     ensures { Reads result words.new (event_at words.old) }
 {
     let verb = verb(words)?;
@@ -41,7 +41,7 @@ fn event(words: &mut Words<'_>) -> Result<Event, Flaw>
 
 #[tactic(auto, unfolding(crate::specs::Text::Reading::event_after))]
 #[inline(always)]
-fn event_after(words: &mut Words<'_>, verb: Verb, seat: u8) -> Result<Event, Flaw>
+fn event_after(words: &mut LineWords<'_>, verb: Verb, seat: u8) -> Result<Event, Flaw>
     ensures { Reads result words.new (event_after verb seat words.old) }
 {
     match verb {
@@ -74,7 +74,7 @@ fn event_after(words: &mut Words<'_>, verb: Verb, seat: u8) -> Result<Event, Fla
 /// A code, an argument and a reply.
 #[tactic(auto, unfolding(crate::specs::Text::Reading::act_at))]
 #[inline(always)]
-fn act(words: &mut Words<'_>) -> Result<(Op, u64), Flaw>
+fn act(words: &mut LineWords<'_>) -> Result<(Op, u64), Flaw>
     ensures { Reads result words.new (act_at words.old) }
 {
     let code = words.byte()?;
@@ -86,7 +86,7 @@ fn act(words: &mut Words<'_>) -> Result<(Op, u64), Flaw>
 /// A condition or a predicate, and a next.
 #[tactic(auto, unfolding(crate::specs::Text::Reading::cond_next_at))]
 #[inline(always)]
-fn cond_next(words: &mut Words<'_>) -> Result<(u8, Next), Flaw>
+fn cond_next(words: &mut LineWords<'_>) -> Result<(u8, Next), Flaw>
     ensures { Reads result words.new (cond_next_at words.old) }
 {
     let cond = words.byte()?;
@@ -96,7 +96,7 @@ fn cond_next(words: &mut Words<'_>) -> Result<(u8, Next), Flaw>
 
 #[tactic(auto, unfolding(crate::specs::Text::Reading::next_at))]
 #[inline(always)]
-fn next(words: &mut Words<'_>) -> Result<Next, Flaw>
+fn next(words: &mut LineWords<'_>) -> Result<Next, Flaw>
     ensures { Reads result words.new (next_at words.old) }
 {
     Ok(match next_word(words)? {
@@ -110,7 +110,7 @@ fn next(words: &mut Words<'_>) -> Result<Next, Flaw>
 
 #[tactic(auto, using(crate::proofs::TextLaws::EventWords::verb_words))]
 #[inline(always)]
-fn verb(words: &mut Words<'_>) -> Result<Verb, Flaw>
+fn verb(words: &mut LineWords<'_>) -> Result<Verb, Flaw>
     ensures { Reads result words.new (one_of verb_word verbs words.old) }
 {
     if words.takes(b"enter") {
@@ -136,7 +136,7 @@ fn verb(words: &mut Words<'_>) -> Result<Verb, Flaw>
 
 #[tactic(auto, using(crate::proofs::TextLaws::EventWords::next_words))]
 #[inline(always)]
-fn next_word(words: &mut Words<'_>) -> Result<NextWord, Flaw>
+fn next_word(words: &mut LineWords<'_>) -> Result<NextWord, Flaw>
     ensures { Reads result words.new (one_of next_word all_next_words words.old) }
 {
     if words.takes(b"stay") {
@@ -156,7 +156,7 @@ fn next_word(words: &mut Words<'_>) -> Result<NextWord, Flaw>
 
 #[tactic(auto, using(crate::proofs::TextLaws::EventWords::via_words))]
 #[inline(always)]
-fn via(words: &mut Words<'_>) -> Result<Via, Flaw>
+fn via(words: &mut LineWords<'_>) -> Result<Via, Flaw>
     ensures { Reads result words.new (one_of via_word vias words.old) }
 {
     if words.takes(b"free") {
@@ -170,7 +170,7 @@ fn via(words: &mut Words<'_>) -> Result<Via, Flaw>
 
 #[tactic(auto, using(crate::proofs::TextLaws::EventWords::from_words))]
 #[inline(always)]
-fn from(words: &mut Words<'_>) -> Result<From3, Flaw>
+fn from(words: &mut LineWords<'_>) -> Result<From3, Flaw>
     ensures { Reads result words.new (one_of from_word froms words.old) }
 {
     if words.takes(b"waiter") {

@@ -8,7 +8,7 @@ ghost use Rattle.monk_history.specs.Text.Reading.{header_at, parts_at};
 
 use crate::text::fault::Flaw;
 use crate::text::header::Header;
-use crate::text::lines::{Head, Words};
+use crate::text::lines::{Head, LineWords};
 use monk_kinds::KindName;
 use monk_object::ObjectName;
 
@@ -18,7 +18,7 @@ impl Head for Header {
 
     ghost parse = { header_at };
 
-    fn parse(words: &mut Words<'_>) -> Result<Header, Flaw>
+    fn parse(words: &mut LineWords<'_>) -> Result<Header, Flaw>
         ensures { Reads result words.new (header_at words.old) }
     {
         header(words)
@@ -26,7 +26,7 @@ impl Head for Header {
 }
 
 #[tactic(auto, unfolding(crate::specs::Text::Reading::header_at))]
-fn header(words: &mut Words<'_>) -> Result<Header, Flaw>
+fn header(words: &mut LineWords<'_>) -> Result<Header, Flaw>
     ensures { Reads result words.new (header_at words.old) }
 {
     words.literal(b"monk")?;
@@ -42,7 +42,7 @@ fn header(words: &mut Words<'_>) -> Result<Header, Flaw>
 /// [`Flaw::Word`] where one of them is missing, is no name of a kind or of an object, or is a number outside the range of
 /// [`Header::new`]; [`Flaw::Number`] where it is no number from 0 to 255. Takes no memory.
 #[tactic(auto, unfolding(crate::specs::Text::Reading::parts_at))]
-pub fn header_parts(words: &mut Words<'_>) -> Result<Header, Flaw>
+pub fn header_parts(words: &mut LineWords<'_>) -> Result<Header, Flaw>
     ensures { Reads result words.new (parts_at words.old) }
 {
     let kind = kind(words)?;
@@ -54,7 +54,7 @@ pub fn header_parts(words: &mut Words<'_>) -> Result<Header, Flaw>
 }
 
 #[tactic(auto, unfolding(crate::specs::Text::Words::one_of))]
-fn kind(words: &mut Words<'_>) -> Result<KindName, Flaw>
+fn kind(words: &mut LineWords<'_>) -> Result<KindName, Flaw>
     ensures { Reads result words.new (one_of kind_word kinds words.old) }
 {
     let word = words.next().ok_or(Flaw::Word)?;
@@ -62,7 +62,7 @@ fn kind(words: &mut Words<'_>) -> Result<KindName, Flaw>
 }
 
 #[tactic(auto, unfolding(crate::specs::Text::Words::one_of))]
-fn object(words: &mut Words<'_>) -> Result<ObjectName, Flaw>
+fn object(words: &mut LineWords<'_>) -> Result<ObjectName, Flaw>
     ensures { Reads result words.new (one_of object_word objects words.old) }
 {
     let word = words.next().ok_or(Flaw::Word)?;

@@ -1,6 +1,6 @@
 ghost use Rattle.std.specs.Prelude.{◌≡◌};
 ghost use Rattle.monk_hall.specs.AfterCalls.{MatchAfter};
-ghost use Rattle.monk_hall.specs.Calls.{Entered};
+ghost use Rattle.monk_hall.specs.Calls.{HasEntered};
 
 use monk_hall::{Active, After, Hall};
 use monk_kinds::Kind;
@@ -14,7 +14,7 @@ pub(crate) fn go_on<K: Kind, T: Guarded, R: Wait>(
     hall: &Hall<K, T>,
 ) -> Active<K, T>
     requires { MatchAfter after (λ a. a.hall ≡ hall.now.id) (λ p. p.hall ≡ hall.now.id) }
-    ensures { MatchAfter after (λ a. result ≡ a) (λ p. Entered K.rules T.meaning p result) }
+    ensures { MatchAfter after (λ a. result ≡ a) (λ p. HasEntered K.rules T.meaning p result) }
 {
     match after {
         After::Active(active) => active,

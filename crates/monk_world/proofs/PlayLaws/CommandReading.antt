@@ -2,7 +2,7 @@
 use Rattle.std.proofs.Common.{◌-◌, lit<, ◌≡◌, ℕ, ◌≤◌, ◌^◌, List, [], ◌∷◌, ◌++◌, Some, Ok, refl, ap, subst, ◌∙◌}
 use Rattle.std.specs.Fmt.{decimal}
 use Rattle.std.proofs.lemmas.List.{append-nil}
-use Rattle.monk_kinds.specs.Names.{written}
+use Rattle.monk_kinds.specs.Names.{with_text}
 use Rattle.monk_kinds.specs.declared.mode.Pick.{Pick}
 use Rattle.monk_kinds.specs.declared.mode.Pick.TheVariants as pick
 use Rattle.monk_object.specs.declared.op.Op.{Op}
@@ -15,12 +15,12 @@ use Rattle.monk_world.specs.declared.play.verb.Verb.TheVariants as verb
 use Rattle.monk_world.specs.Play.{pick_word, action_words, command_words, ActionFits, CommandFits}
 use Rattle.monk_world.specs.Play.Reading.{picks, verb_word, verbs, op_at, cond_pick_at, action_after, command_at}
 
-pick_again : (p : Pick) → written pick_word picks (pick_word p) ≡ Some p
+pick_again : (p : Pick) → with_text pick_word picks (pick_word p) ≡ Some p
 pick_again pick.Entry = refl
 pick_again pick.Waiter = refl
 pick_again pick.Signaller = refl
 
-verb_again : (v : Verb) → written verb_word verbs (verb_word v) ≡ Some v
+verb_again : (v : Verb) → with_text verb_word verbs (verb_word v) ≡ Some v
 verb_again verb.Arrive = refl
 verb_again verb.Look = refl
 verb_again verb.Out = refl

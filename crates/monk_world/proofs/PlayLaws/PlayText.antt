@@ -9,7 +9,7 @@ use Rattle.monk_history.proofs.TextLaws.TextFormats.{IsFormat}
 use Rattle.monk_world.specs.declared.command.Command.{Command}
 use Rattle.monk_world.specs.declared.play.head.PlayHead.{PlayHead}
 use Rattle.monk_world.specs.Play.{HasPlayText, CommandFits, command_words, playtext}
-use Rattle.monk_world.specs.Play.Reading.{Play, play, play_view, play_head, play_head_at, command_under, played, play_at}
+use Rattle.monk_world.specs.Play.Reading.{Play, play, play_view, play_head, play_head_at, command_under, play_of_reading, play_at}
 use Rattle.monk_world.proofs.PlayLaws.CommandReading.{command_takes, command_again}
 use Rattle.monk_world.proofs.PlayLaws.PlayHeads.{HeadFits, head_words, head_takes, head_again}
 use Rattle.monk_world.proofs.PlayLaws.PlainPlays.{command_are_words, head_are_words}
@@ -28,7 +28,7 @@ head_fits h budget cs has = record { header_fits = has.header_fits; some_budget 
 
 pub play_again : (limit : ℕ) (h : Heading) (budget : ℕ) (cs : List (ℕ × Command)) → HasPlayText h budget cs → length cs ≤ limit → play_at limit (playtext h budget cs) ≡ Ok (play h budget cs)
 play_again limit h budget cs has le =
-    ap played (formats.text_again head_words play_head_at HeadFits heads command_words command_under CommandFitsUnder commands limit (play_head h budget) cs (head_fits h budget cs has) has.commands_fit le)
+    ap play_of_reading (formats.text_again head_words play_head_at HeadFits heads command_words command_under CommandFitsUnder commands limit (play_head h budget) cs (head_fits h budget cs has) has.commands_fit le)
 
 pub play_one : (h g : Heading) (b c : ℕ) (xs ys : List (ℕ × Command)) → HasPlayText h b xs → HasPlayText g c ys → playtext h b xs ≡ playtext g c ys → play h b xs ≡ play g c ys
 play_one h g b c xs ys one two same =
@@ -52,15 +52,15 @@ play_read limit bytes h cs e =
 pub play_found : (limit : ℕ) (bytes : List ℕ) (p : Play) → play_at limit bytes ≡ Ok p → IsPlay limit bytes p.0 p.1 p.2
 play_found limit bytes p found = by (lines_at play_head_at command_under limit (lines_of bytes)) refl found
   where
-    by : (r : Result (PlayHead × List (ℕ × Command)) ReadFault) → lines_at play_head_at command_under limit (lines_of bytes) ≡ r → played r ≡ Ok p → IsPlay limit bytes p.0 p.1 p.2
+    by : (r : Result (PlayHead × List (ℕ × Command)) ReadFault) → lines_at play_head_at command_under limit (lines_of bytes) ≡ r → play_of_reading r ≡ Ok p → IsPlay limit bytes p.0 p.1 p.2
     by (Ok x) is e = let same : play x.0.header x.0.budget x.1 ≡ p = cc in subst (λ (y : Play). IsPlay limit bytes y.0 y.1 y.2) same (play_read limit bytes x.0 x.1 is)
     by (Err f) is e = absurd cc
 
 pub is_exact : (limit : ℕ) (bytes : List ℕ) (h : PlayHead) (cs : List (ℕ × Command)) → lines_at play_head_at command_under limit (lines_of bytes) ≡ Ok (h, cs) → play_at limit bytes ≡ Ok (play h.header h.budget cs)
-is_exact limit bytes h cs e = ap played e
+is_exact limit bytes h cs e = ap play_of_reading e
 
 pub is_fault : (limit : ℕ) (bytes : List ℕ) (f : ReadFault) → lines_at play_head_at command_under limit (lines_of bytes) ≡ Err f → play_at limit bytes ≡ Err f
-is_fault limit bytes f e = ap played e
+is_fault limit bytes f e = ap play_of_reading e
 
 pub is_only : (limit : ℕ) (bytes : List ℕ) (r : Result (Heading × ℕ × Vec (ℕ × Command)) ReadFault) (h : Heading) (budget : ℕ) (cs : List (ℕ × Command)) → HasPlayText h budget cs → length cs ≤ limit → bytes ≡ playtext h budget cs
     → Gives play_view r (play_at limit bytes) → Gives play_view r (Ok (play h budget cs))

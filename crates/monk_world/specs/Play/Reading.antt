@@ -109,10 +109,10 @@ play_view r = play r.0 r.1 r.2.items
 abbrev pub command_under : PlayHead → List Word → Taken (ℕ × Command)
 command_under h ws = command_at ws
 
-abbrev pub played : Result (PlayHead × List (ℕ × Command)) ReadFault → Result Play ReadFault
-played (Ok x) = Ok (play x.0.header x.0.budget x.1)
-played (Err e) = Err e
+abbrev pub play_of_reading : Result (PlayHead × List (ℕ × Command)) ReadFault → Result Play ReadFault
+play_of_reading (Ok x) = Ok (play x.0.header x.0.budget x.1)
+play_of_reading (Err e) = Err e
 
 -- the play that the text is of, or its first fault
 abbrev pub play_at : ℕ → List ℕ → Result Play ReadFault
-play_at limit bytes = played (lines_at play_head_at command_under limit (lines_of bytes))
+play_at limit bytes = play_of_reading (lines_at play_head_at command_under limit (lines_of bytes))

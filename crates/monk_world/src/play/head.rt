@@ -4,7 +4,7 @@ ghost use Rattle.monk_history.specs.Text.Words.{Reads};
 ghost use Rattle.monk_world.specs.Play.Reading.{play_head_at};
 
 use monk_history::Header;
-use monk_history::lines::{Flaw, Head, Words, header_parts};
+use monk_history::lines::{Flaw, Head, LineWords, header_parts};
 
 /// The least budget of a seat.
 pub const LEAST_BUDGET: u32 = 2;
@@ -26,7 +26,7 @@ impl Head for PlayHead {
 
     ghost parse = { play_head_at };
 
-    fn parse(words: &mut Words<'_>) -> Result<PlayHead, Flaw>
+    fn parse(words: &mut LineWords<'_>) -> Result<PlayHead, Flaw>
         ensures { Reads result words.new (play_head_at words.old) }
     {
         play_head(words)
@@ -34,7 +34,7 @@ impl Head for PlayHead {
 }
 
 #[tactic(auto, unfolding(crate::specs::Play::Reading::play_head_at))]
-fn play_head(words: &mut Words<'_>) -> Result<PlayHead, Flaw>
+fn play_head(words: &mut LineWords<'_>) -> Result<PlayHead, Flaw>
     ensures { Reads result words.new (play_head_at words.old) }
 {
     words.literal(b"play")?;

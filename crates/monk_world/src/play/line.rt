@@ -1,7 +1,7 @@
 //! A command of a seat, read from the words of its line.
 
 ghost use Rattle.std.specs.Prelude.{◌≡◌};
-ghost use Rattle.monk_kinds.specs.Names.{written};
+ghost use Rattle.monk_kinds.specs.Names.{with_text};
 ghost use Rattle.monk_history.specs.Text.Words.{Reads, one_of};
 ghost use Rattle.monk_world.specs.Play.{pick_word};
 ghost use Rattle.monk_world.specs.Play.Reading.{verb_word, verbs, picks, op_at, cond_pick_at, action_after, command_at};
@@ -9,7 +9,7 @@ ghost use Rattle.monk_world.specs.Play.Reading.{verb_word, verbs, picks, op_at, 
 use crate::command::Command;
 use crate::play::head::PlayHead;
 use crate::play::verb::Verb;
-use monk_history::lines::{Flaw, Record, Words};
+use monk_history::lines::{Flaw, LineWords, Record};
 use monk_kinds::Pick;
 use monk_object::Op;
 
@@ -19,7 +19,7 @@ impl Record<PlayHead> for (u8, Command) {
 
     ghost parse = { command_under };
 
-    fn parse(_head: &PlayHead, words: &mut Words<'_>) -> Result<(u8, Command), Flaw>
+    fn parse(_head: &PlayHead, words: &mut LineWords<'_>) -> Result<(u8, Command), Flaw>
         ensures { Reads result words.new (command_at words.old) }
     {
         seat_command(words)
@@ -27,7 +27,7 @@ impl Record<PlayHead> for (u8, Command) {
 }
 
 #[tactic(auto, unfolding(crate::specs::Play::Reading::command_at))]
-fn seat_command(words: &mut Words<'_>) -> Result<(u8, Command), Flaw>
+fn seat_command(words: &mut LineWords<'_>) -> Result<(u8, Command), Flaw>
     ensures { Reads result words.new (command_at words.old) }
 {
     let seat = words.byte()?;
@@ -38,7 +38,7 @@ fn seat_command(words: &mut Words<'_>) -> Result<(u8, Command), Flaw>
 }
 
 #[tactic(auto, unfolding(crate::specs::Play::Reading::action_after))]
-fn action_after(words: &mut Words<'_>, verb: Verb) -> Result<Command, Flaw>
+fn action_after(words: &mut LineWords<'_>, verb: Verb) -> Result<Command, Flaw>
     ensures { Reads result words.new (action_after verb words.old) }
 {
     match verb {
@@ -71,7 +71,7 @@ fn action_after(words: &mut Words<'_>, verb: Verb) -> Result<Command, Flaw>
 
 /// A code and an argument.
 #[tactic(auto, unfolding(crate::specs::Play::Reading::op_at))]
-fn op(words: &mut Words<'_>) -> Result<Op, Flaw>
+fn op(words: &mut LineWords<'_>) -> Result<Op, Flaw>
     ensures { Reads result words.new (op_at words.old) }
 {
     let code = words.byte()?;
@@ -81,7 +81,7 @@ fn op(words: &mut Words<'_>) -> Result<Op, Flaw>
 
 /// A condition or a predicate, and a wish.
 #[tactic(auto, unfolding(crate::specs::Play::Reading::cond_pick_at))]
-fn cond_pick(words: &mut Words<'_>) -> Result<(u8, Pick), Flaw>
+fn cond_pick(words: &mut LineWords<'_>) -> Result<(u8, Pick), Flaw>
     ensures { Reads result words.new (cond_pick_at words.old) }
 {
     let cond = words.byte()?;
@@ -90,7 +90,7 @@ fn cond_pick(words: &mut Words<'_>) -> Result<(u8, Pick), Flaw>
 }
 
 #[tactic(auto, unfolding(monk_history::specs::Text::Words::one_of))]
-fn pick(words: &mut Words<'_>) -> Result<Pick, Flaw>
+fn pick(words: &mut LineWords<'_>) -> Result<Pick, Flaw>
     ensures { Reads result words.new (one_of pick_word picks words.old) }
 {
     let word = words.next().ok_or(Flaw::Word)?;
@@ -98,7 +98,7 @@ fn pick(words: &mut Words<'_>) -> Result<Pick, Flaw>
 }
 
 fn pick_of_text(word: &[u8]) -> Option<Pick>
-    ensures { result ≡ written pick_word picks word.now }
+    ensures { result ≡ with_text pick_word picks word.now }
 {
     if word == b"entry".as_slice() {
         Some(Pick::Entry)
@@ -112,7 +112,7 @@ fn pick_of_text(word: &[u8]) -> Option<Pick>
 }
 
 #[tactic(auto, unfolding(monk_history::specs::Text::Words::one_of))]
-fn verb(words: &mut Words<'_>) -> Result<Verb, Flaw>
+fn verb(words: &mut LineWords<'_>) -> Result<Verb, Flaw>
     ensures { Reads result words.new (one_of verb_word verbs words.old) }
 {
     let word = words.next().ok_or(Flaw::Word)?;

@@ -1,7 +1,7 @@
 use Rattle.std.proofs.Common.{rules, arith, ◌≡◌, ℕ, suc, ◌+◌, ◌≤◌, ◌++◌, ◌∷◌, [], None, List, length, refl, sym, ap, subst, ◌∙◌}
 use Rattle.monk_history.specs.Meaning.Counts.{granted_of}
 use Rattle.monk_history.specs.declared.event.Next.TheVariants as next
-use Rattle.monk_world.specs.Places.{chosen, due_to}
+use Rattle.monk_world.specs.Places.{back_turn, due_to}
 use Rattle.monk_world.specs.declared.place.Place.TheVariants.{Back}
 use Rattle.monk_hall.specs.Changes.{home_at}
 use Rattle.monk_hall.specs.Records.{IsOne, the}
@@ -9,10 +9,10 @@ use Rattle.monk_hall.specs.Tells.{Me}
 use Rattle.monk_hall.proofs.HandingLaws.{chosen_due, chosen_entry}
 use Rattle.monk_hall.proofs.handing.go_home.Goals as goal
 
-pub call_seat-requires-clause-back : goal.call_seat-requires-clause-back
-call_seat-requires-clause-back g c κs within =
+pub seat_grant-requires-clause-back : goal.seat_grant-requires-clause-back
+seat_grant-requires-clause-back g c κs within =
     let j = c.in-Some.called in
-    subst (λ (m : Me). IsOne m.0 × (chosen (the m.0).place ≡ due_to j) × (c.granted-calls.result ≡ granted_of (the m.0).seen j)) (sym c.floor_in.ensures.step)
+    subst (λ (m : Me). IsOne m.0 × (back_turn (the m.0).place ≡ due_to j) × (c.granted-calls.result ≡ granted_of (the m.0).seen j)) (sym c.floor_in.ensures.step)
     (refl, chosen_due c.requires.released.1 j (sym c.called_by.ensures ∙ c.in-Some.is), c.granted-calls.ensures)
 
 pub let_in-requires-clause-back : goal.let_in-requires-clause-back

@@ -1,5 +1,5 @@
 use Rattle.std.proofs.Common.{rules, arith, ◌≡◌, ℕ, suc, ◌+◌, ◌-◌, ◌<◌, ◌≤◌, ◌++◌, ◌∷◌, [], List, refl, sym, ap, ◌∙◌}
-use Rattle.monk_hall.specs.Records.{View, fresh, fresh_from, the, head, tail}
+use Rattle.monk_hall.specs.Records.{View, opening_record, opening_records, the, head, tail}
 use Rattle.monk_hall.specs.Rule.{setting_of}
 use Rattle.monk_hall.specs.Tokens.{Token, tokens}
 use Rattle.monk_hall.specs.declared.setting.Setting.{Setting}
@@ -30,5 +30,5 @@ loop-dealt-preserved g c =
           let q = ap (λ (v : View). (the v).setting) mine in
           let zero_d : d ≡ 0 + d = omega arith in
           c.in_ok-push.ensures.items ∙ (λ i. inv.4 i ++ c.fresh_pass.ensures i ∷ [])
-          ∙ (λ i. tokens z (fresh_from (setting_of (g.T.Guarded.state c.args.words.now.key.opening.value) c.args.seats c.args.words.now.key.conds c.args.budget) d 0) ++ record { hall = p i; me = fresh (q i) (zero_d i) } ∷ []) ∙ sym (tokens_more z (setting_of (g.T.Guarded.state c.args.words.now.key.opening.value) c.args.seats c.args.words.now.key.conds c.args.budget) d 0)),
+          ∙ (λ i. tokens z (opening_records (setting_of (g.T.Guarded.state c.args.words.now.key.opening.value) c.args.seats c.args.words.now.key.conds c.args.budget) d 0) ++ record { hall = p i; me = opening_record (q i) (zero_d i) } ∷ []) ∙ sym (tokens_more z (setting_of (g.T.Guarded.state c.args.words.now.key.opening.value) c.args.seats c.args.words.now.key.conds c.args.budget) d 0)),
     )

@@ -1,11 +1,11 @@
 use Rattle.std.proofs.Common.{rules, arith, ◌≡◌, ℕ, suc, ◌∷◌, [], List, refl, sym, ap, subst, ◌∙◌}
 use Rattle.monk_world.specs.declared.place.Place.TheVariants.{Idle}
-use Rattle.monk_hall.specs.Changes.{met, shared}
+use Rattle.monk_hall.specs.Changes.{view_after_join, view_after_compare}
 use Rattle.monk_hall.specs.Records.{View, IsOne, IsTwo, the, head, tail}
 use Rattle.monk_hall.specs.Rule.{setting_of}
 use Rattle.monk_hall.specs.Tells.{SeesTruly}
 use Rattle.monk_hall.specs.Tokens.{top, IsTold}
-use Rattle.monk_hall.specs.declared.record.Record.{Record}
+use Rattle.monk_hall.specs.declared.record.SeatRecord.{SeatRecord}
 use Rattle.monk_hall.proofs.MeetLaws.{meets, compares, parts_again, met_rests}
 use Rattle.monk_hall.proofs.meeting.meet.Goals as goal
 
@@ -58,13 +58,13 @@ pub invariant_of-a : goal.invariant_of-a
 invariant_of-a g c =
     let ia = c.a.invariant in
     let m : View = c.join_seat.new.seat.me.0 in
-    let both : m ≡ met c.lift-first.result.me.0 c.lift-other.result.me.0 = ap (λ m. m.0) c.join_seat.ensures.2 in
+    let both : m ≡ view_after_join c.lift-first.result.me.0 c.lift-other.result.me.0 = ap (λ m. m.0) c.join_seat.ensures.2 in
     let va = ap (λ m. m.0) c.lift-first.ensures.1 in
-    let loaded : c.load.new.seat.me.0 ≡ shared m = ap (λ m. m.0) c.load.ensures.2.0 in
+    let loaded : c.load.new.seat.me.0 ≡ view_after_compare m = ap (λ m. m.0) c.load.ensures.2.0 in
     let from_a : the m ≡ record (the (top c.a.inside.badge.views)) { steps = suc (the (top c.a.inside.badge.views)).steps } = ap the both ∙ ap (λ (v : View). record (the v) { steps = suc (the v).steps }) va in
-    met_rests g.K.Kind.rules g.T.Guarded.meaning c.into_badge.result.table_id c.a.inside.badge.table_id (top c.a.inside.badge.views) c.a.inside.number c.a.inside.left c.a.inside.calls (the (shared m)) c.into_badge.result.views
+    met_rests g.K.Kind.rules g.T.Guarded.meaning c.into_badge.result.table_id c.a.inside.badge.table_id (top c.a.inside.badge.views) c.a.inside.number c.a.inside.left c.a.inside.calls (the (view_after_compare m)) c.into_badge.result.views
     ia.1 ia.2 (c.into_badge.ensures.0 ∙ c.split_seat-second.ensures.0 ∙ c.load.ensures.0 ∙ c.join_seat.ensures.0 ∙ c.lift-first.ensures.0)
-    (ap (λ (r : Record). r.seat) from_a) (ap (λ (r : Record). r.setting) from_a) (ap (λ (r : Record). r.place) from_a) (ap (λ (r : Record). r.count) from_a) (ap (λ (r : Record). r.mine) from_a)
+    (ap (λ (r : SeatRecord). r.seat) from_a) (ap (λ (r : SeatRecord). r.setting) from_a) (ap (λ (r : SeatRecord). r.place) from_a) (ap (λ (r : SeatRecord). r.count) from_a) (ap (λ (r : SeatRecord). r.mine) from_a)
     (subst (λ (v : View). SeesTruly g.K.Kind.rules g.T.Guarded.meaning (the v)) loaded c.load.ensures.2.2)
     (c.into_badge.ensures.2 ∙ ap (λ (v : View). v ∷ []) (ap (λ m. m.0) c.split_seat-second.ensures.2 ∙ ap head loaded))
 
@@ -72,13 +72,13 @@ pub invariant_of-b : goal.invariant_of-b
 invariant_of-b g c =
     let ib = c.b.invariant in
     let m : View = c.join_seat.new.seat.me.0 in
-    let both : m ≡ met c.lift-first.result.me.0 c.lift-other.result.me.0 = ap (λ m. m.0) c.join_seat.ensures.2 in
+    let both : m ≡ view_after_join c.lift-first.result.me.0 c.lift-other.result.me.0 = ap (λ m. m.0) c.join_seat.ensures.2 in
     let vb = ap (λ m. m.0) c.lift-other.ensures.1 in
-    let loaded : c.load.new.seat.me.0 ≡ shared m = ap (λ m. m.0) c.load.ensures.2.0 in
+    let loaded : c.load.new.seat.me.0 ≡ view_after_compare m = ap (λ m. m.0) c.load.ensures.2.0 in
     let from_b : the (tail m) ≡ the (top c.b.inside.badge.views) = ap (λ (v : View). the (tail v)) both ∙ ap the vb in
-    met_rests g.K.Kind.rules g.T.Guarded.meaning c.into_badge-2.result.table_id c.b.inside.badge.table_id (top c.b.inside.badge.views) c.b.inside.number c.b.inside.left c.b.inside.calls (the (tail (shared m))) c.into_badge-2.result.views
+    met_rests g.K.Kind.rules g.T.Guarded.meaning c.into_badge-2.result.table_id c.b.inside.badge.table_id (top c.b.inside.badge.views) c.b.inside.number c.b.inside.left c.b.inside.calls (the (tail (view_after_compare m))) c.into_badge-2.result.views
     ib.1 ib.2 (c.into_badge-2.ensures.0 ∙ c.split_seat-second.ensures.3 ∙ c.load.ensures.0 ∙ c.join_seat.ensures.0 ∙ c.lift-first.ensures.0 ∙ same_table)
-    (ap (λ (r : Record). r.seat) from_b) (ap (λ (r : Record). r.setting) from_b) (ap (λ (r : Record). r.place) from_b) (ap (λ (r : Record). r.count) from_b) (ap (λ (r : Record). r.mine) from_b)
+    (ap (λ (r : SeatRecord). r.seat) from_b) (ap (λ (r : SeatRecord). r.setting) from_b) (ap (λ (r : SeatRecord). r.place) from_b) (ap (λ (r : SeatRecord). r.count) from_b) (ap (λ (r : SeatRecord). r.mine) from_b)
     (subst (λ (v : View). SeesTruly g.K.Kind.rules g.T.Guarded.meaning (the (tail v))) loaded c.load.ensures.2.3)
     (c.into_badge-2.ensures.2 ∙ ap (λ (v : View). v ∷ []) (ap (λ m. m.0) c.split_seat-second.ensures.4 ∙ ap tail loaded))
   where

@@ -1,7 +1,7 @@
 use Rattle.std.proofs.Common.{arith, ◌≡◌, ℕ, sym, subst, ap, ◌∙◌, Some, ◌∷◌, []}
 use Rattle.atomic_table.specs.Table.{rest, Allows}
 use Rattle.monk_hall.specs.Rule.{IsHall, setting_of}
-use Rattle.monk_hall.specs.Tells.{TakesFloor}
+use Rattle.monk_hall.specs.Tells.{TellsFloorOut}
 use Rattle.monk_hall.proofs.FloorOut.{takes_floor}
 use Rattle.monk_hall.proofs.steps.floor_out.Goals as goal
 
@@ -12,7 +12,7 @@ load-requires g c =
     let key = c.args.words.now.key in (
       c.requires.table.0,
       omega arith,
-      subst (λ (z : ℕ). Allows (IsHall g.K.Kind.rules g.T.Guarded.meaning (setting_of (g.T.Guarded.state key.opening.value) key.seats key.conds key.budget)) z c.args.seat.now.id c.args.seat.now.me 0 (λ n. n) (TakesFloor g.K.Kind.rules g.T.Guarded.meaning c.args.seat.now.me)) (sym c.requires.table.1.1)
+      subst (λ (z : ℕ). Allows (IsHall g.K.Kind.rules g.T.Guarded.meaning (setting_of (g.T.Guarded.state key.opening.value) key.seats key.conds key.budget)) z c.args.seat.now.id c.args.seat.now.me 0 (λ n. n) (TellsFloorOut g.K.Kind.rules g.T.Guarded.meaning c.args.seat.now.me)) (sym c.requires.table.1.1)
           (takes_floor g.K.Kind.rules g.T.Guarded.meaning (setting_of (g.T.Guarded.state key.opening.value) key.seats key.conds key.budget) g.K.Kind.is_kind _ c.args.seat.now.me due.0 due.1 due.2),
     )
 

@@ -6,7 +6,7 @@ ghost use Rattle.monk_history.specs.Text.Lines.{IsNextItem, items_left, opened_a
 use crate::text::fault::ReadFault;
 use crate::text::lines::record::{Head, Record};
 use crate::text::lines::split::split_once;
-use crate::text::lines::words::Words;
+use crate::text::lines::words::LineWords;
 use std::marker::Model;
 
 /// The most lines behind the header that a limit may allow: 2^25.
@@ -85,7 +85,7 @@ impl<'a> ItemLines<'a> {
 fn header_of<H: Head>(line: &[u8]) -> Result<H, ReadFault>
     ensures { result ≡ header_line H.parse line.now }
 {
-    let mut words = Words::of(line);
+    let mut words = LineWords::of(line);
     match H::parse(&mut words) {
         Ok(header) => Ok(header),
         Err(_) => Err(ReadFault::at(ReadFault::HEADER, 1)),
@@ -96,7 +96,7 @@ fn header_of<H: Head>(line: &[u8]) -> Result<H, ReadFault>
 fn item_of<H, A: Record<H>>(header: &H, line: &[u8], number: u32) -> Result<A, ReadFault>
     ensures { result ≡ item_line (A.parse header.now) number line.now }
 {
-    let mut words = Words::of(line);
+    let mut words = LineWords::of(line);
     match A::parse(header, &mut words) {
         Ok(item) => Ok(item),
         Err(flaw) => Err(flaw.at(number)),

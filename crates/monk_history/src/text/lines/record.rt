@@ -1,7 +1,7 @@
 //! What the lines of a text hold.
 
 use crate::text::fault::Flaw;
-use crate::text::lines::words::Words;
+use crate::text::lines::words::LineWords;
 
 /// What the first line of a text holds.
 pub trait Head: Copy {
@@ -12,7 +12,7 @@ pub trait Head: Copy {
     ghost parse: { List Word → Taken Self };
 
     /// Reads it from all the words of the line.
-    fn parse(words: &mut Words<'_>) -> Result<Self, Flaw>
+    fn parse(words: &mut LineWords<'_>) -> Result<Self, Flaw>
         ensures { Reads result words.new (parse words.old) };
 }
 
@@ -25,6 +25,6 @@ pub trait Record<H>: Copy {
     ghost parse: { H → List Word → Taken Self };
 
     /// Reads it from all the words of the line.
-    fn parse(header: &H, words: &mut Words<'_>) -> Result<Self, Flaw>
+    fn parse(header: &H, words: &mut LineWords<'_>) -> Result<Self, Flaw>
         ensures { Reads result words.new (parse header.now words.old) };
 }

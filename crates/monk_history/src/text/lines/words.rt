@@ -14,22 +14,22 @@ use std::marker::Model;
 ///
 /// A line of no bytes is one empty word. Each call takes at most one word, and copies none.
 #[derive(Drop)]
-pub struct Words<'a> {
+pub struct LineWords<'a> {
     rest: Option<&'a [u8]>,
 }
 
-impl<'a> Model for Words<'a> {
+impl<'a> Model for LineWords<'a> {
     ghost Value = { List (List ℕ) };
 
     ghost view = { λ w. words_left (option_copied w.rest) };
 }
 
-impl<'a> Words<'a> {
+impl<'a> LineWords<'a> {
     /// All words of the line, which is given without its byte 10.
-    pub fn of(line: &'a [u8]) -> Words<'a>
+    pub fn of(line: &'a [u8]) -> LineWords<'a>
         ensures { result ≡ words_of line.entry.now }
     {
-        Words { rest: Some(line) }
+        LineWords { rest: Some(line) }
     }
 
     /// Takes the next word, if one is left.
@@ -96,7 +96,7 @@ impl<'a> Words<'a> {
         number
     }
 
-    /// Takes a number from 0 to 255, with the flaws of [`Words::number`].
+    /// Takes a number from 0 to 255, with the flaws of [`LineWords::number`].
     #[inline(always)]
     pub fn byte(&mut self) -> Result<u8, Flaw>
         ensures { Reads result self.new (number_at 255 self.old) }
@@ -137,7 +137,7 @@ fn any_number(line: Option<&[u8]>, most: u64) -> (Result<u64, Flaw>, Option<&[u8
     ensures reads { Reads result.0 (words_left (option_copied result.1)) (number_at most (words_left (option_copied line.entry))) }
     ensures within { IfOk result.0 (λ n. n ≤ most) }
 {
-    let mut words = Words { rest: line };
+    let mut words = LineWords { rest: line };
     let Some(word) = words.next() else {
         return (Err(Flaw::Word), None);
     };

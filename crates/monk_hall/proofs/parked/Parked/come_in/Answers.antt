@@ -1,5 +1,5 @@
 use Rattle.std.proofs.Common.{rules, arith, ◌≡◌, ℕ, suc, ◌+◌, ◌≤◌, ◌++◌, ◌∷◌, [], None, List, length, refl, sym, ap, subst, ◌∙◌}
-use Rattle.monk_hall.specs.Calls.{Entered}
+use Rattle.monk_hall.specs.Calls.{HasEntered}
 use Rattle.monk_hall.specs.Records.{the}
 use Rattle.monk_hall.specs.Tokens.{Token}
 use Rattle.monk_hall.proofs.TokenLaws.{holder, entry, entry_holds}
@@ -13,5 +13,5 @@ invariant_of-result g c =
 pub returns-clause-entered : goal.returns-clause-entered
 returns-clause-entered g c =
     let out = c.floor_out-floor in
-    subst (λ (p : Token). Entered g.K.Kind.rules g.T.Guarded.meaning p (holder out.new.seat.table_id (the out.new.seat.me.0) c.record_entry.new.floor)) c.self.view_is
+    subst (λ (p : Token). HasEntered g.K.Kind.rules g.T.Guarded.meaning p (holder out.new.seat.table_id (the out.new.seat.me.0) c.record_entry.new.floor)) c.self.view_is
     (entry c.self.invariant.0 out.result c.record_entry.new.floor c.args.source out.ensures.finds (ap (λ (p : Token). p.me.place) c.self.view_is ∙ c.requires.due) c.record_entry.ensures out.new.seat.table_id out.new.seat.me out.ensures.table.0 out.ensures.seat)

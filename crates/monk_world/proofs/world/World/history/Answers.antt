@@ -10,7 +10,7 @@ use Rattle.monk_world.proofs.world.World.history.Goals as goal
 use Rattle.monk_history.specs.Meaning.Legal.{IsLegal}
 use Rattle.monk_floor.specs.View.{monitor_of}
 use Rattle.monk_world.specs.Runs.{IsWellLed}
-use Rattle.monk_world.specs.Words.{WorldView, state_of, view_in}
+use Rattle.monk_world.specs.Board.{WorldView, state_of, view_in}
 use Rattle.monk_world.proofs.RunLaws.{well_led}
 
 pub returns-clause-legal : goal.returns-clause-legal

@@ -10,7 +10,7 @@ use Rattle.monk_world.proofs.world.World.refusal.Goals as goal
 use Rattle.monk_world.specs.Telling as telling
 use Rattle.std.proofs.lemmas.Grind.{common_steps}
 use Rattle.std.specs.Prelude.{slice_index_or, nat_lt, ◌&&◌, false}
-use Rattle.monk_world.specs.Words.{state_of}
+use Rattle.monk_world.specs.Board.{state_of}
 use Rattle.monk_world.specs.declared.place.Place.{Place}
 
 pub returns-then-not-may_be_told : goal.returns-then-not-may_be_told

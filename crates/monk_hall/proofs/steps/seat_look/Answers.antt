@@ -1,0 +1,21 @@
+use Rattle.std.proofs.Common.{rules, arith, ℕ, ◌+◌, ◌*◌, ◌<◌, ◌≡◌, sym, ap, subst, ◌∙◌}
+use Rattle.atomic_table.specs.Table.{Allows}
+use Rattle.monk_hall.specs.Layout.{seat_word}
+use Rattle.monk_hall.specs.Records.{the}
+use Rattle.monk_hall.specs.Rule.{IsHall, setting_of}
+use Rattle.monk_hall.specs.Tells.{TellsSeatLook}
+use Rattle.monk_hall.proofs.WordSteps.{looks_for_call}
+use Rattle.monk_hall.proofs.steps.seat_look.Goals as goal
+
+pub load-requires : goal.load-requires
+load-requires g c =
+    let parked = c.requires.parked in
+    let sized = c.requires.table.1.0 in
+    let key = c.args.words.now.key in
+    let low = c.requires.table.2 in
+    let word : seat_word (the c.args.seat.now.me.0).seat ≡ c.seat_word-place.result = sym (c.seat_word-place.ensures ∙ ap seat_word parked.2) in (
+      c.requires.table.0,
+      (let e = c.seat_word-place.ensures in omega arith),
+      subst (λ (p : ℕ). Allows (IsHall g.K.Kind.rules g.T.Guarded.meaning (setting_of (g.T.Guarded.state key.opening.value) key.seats key.conds key.budget)) c.args.words.now.table_id.slots c.args.seat.now.id c.args.seat.now.me p (λ n. n) (TellsSeatLook c.args.seat.now.me)) word
+          (looks_for_call g.K.Kind.rules g.T.Guarded.meaning (setting_of (g.T.Guarded.state key.opening.value) key.seats key.conds key.budget) g.K.Kind.is_kind _ _ c.args.seat.now.me parked.0 parked.1),
+    )

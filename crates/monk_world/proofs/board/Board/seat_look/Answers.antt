@@ -1,0 +1,35 @@
+use Rattle.std.proofs.Common.{rules, ◌≡◌, ℕ, ◌+◌, ◌-◌, ◌%◌, ◌==◌, ◌<◌, ◌≤◌, ◌||◌, cond, set, Bool, true, false, [], ◌∷◌, ◌++◌, sym, refl, ap, ◌∙◌, subst, arith}
+use Rattle.std.specs.Prelude.{nat_le, slice_index_or}
+use Rattle.std.proofs.lemmas.Nat.{mod_below}
+use Rattle.monk_history.specs.declared.event.Next.TheVariants as next
+use Rattle.monk_floor.specs.View.{FloorView}
+use Rattle.monk_world.specs.Put.{put}
+use Rattle.monk_world.specs.State.{State}
+use Rattle.monk_world.specs.Steps.{place_after_arrive, place_after_ticket_look, place_after_seat_look, count_after_seat_look, place_after_drop}
+use Rattle.monk_world.specs.Places.{place_of}
+use Rattle.monk_world.specs.Board.{Shows, ShowsKnown, world_on, state_in}
+use Rattle.monk_world.specs.declared.place.Place.{Place}
+use Rattle.monk_world.specs.declared.place.Place.TheVariants.{Idle, Active, Back}
+use Rattle.monk_world.proofs.StoredLaws.{place_stored, count_stored, call_stored, ticket_stored, known_stored, settled, ticket_read, call_read, count_read, known_read, place_read}
+use Rattle.monk_world.proofs.board.Board.seat_look.Goals as goal
+
+pub returns-clause-shows : goal.returns-clause-shows
+returns-clause-shows c =
+    let w = c.args.self.now in
+    let i = c.args.seat in
+    let near = c.requires.seat in
+    let calls = call_read w i near c.index.result.now c.index.ensures in
+    let count = count_read w i near c.index-count.result.now c.index-count.ensures in
+    let found = (world_on w).seat_place i == (world_on w).count i + 1 in
+    let same : (c.index.result.now == c.index-count.result.now + 1) ≡ found =
+    ap (λ (n : ℕ). n == c.index-count.result.now + 1) calls ∙ ap (λ (n : ℕ). (world_on w).seat_place i == n + 1) count in
+    let counts : c.count_after_seat_look.result ≡ count_after_seat_look ((world_on w).count i) found =
+    c.count_after_seat_look.ensures ∙ (ap (λ (b : Bool). count_after_seat_look c.index-count.result.now b) same ∙ ap (λ (n : ℕ). count_after_seat_look n found) count) in
+    record {
+      state = λ f.
+          ap (λ (place : ℕ → Place). record (state_in w f) { world = record (world_on w) { place = place; count = λ j. slice_index_or (set w.counts.items i c.count_after_seat_look.result) j 0 } })
+          (place_stored w i near _ (place_after_seat_look found) (c.place_after_seat_look.ensures ∙ ap (λ (b : Bool). place_after_seat_look b) same))
+          ∙ ap (λ (counts : ℕ → ℕ). record (state_in w f) { world = record (world_on w) { place = put (world_on w).place i (place_after_seat_look found); count = counts } })
+          (count_stored w i near c.count_after_seat_look.result (count_after_seat_look ((world_on w).count i) found) counts);
+      seats = refl;
+    }

@@ -1,5 +1,0 @@
-use Rattle.monk_world.proofs.StepLaws.{arrival_keeps_the_right as law}
-use Rattle.monk_world.proofs.laws.arrival_keeps_the_right.Goals as goal
-
-pub returns : goal.returns
-returns c = law
