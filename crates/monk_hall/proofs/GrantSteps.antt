@@ -70,15 +70,15 @@ calls_done : (k : Rules) (o : Object) (s : State) (i : ℕ) (x : Next) (m : ℕ)
     → IsDone k o s i (Back x to) command.Grant (answer.GrantedSeat m) (record s { world = after_seat_grant s.world i m to })
 calls_done k o s i x m to e = calls_chosen s i x m to e
 
-names_seat : (x : Next) (m : ℕ) → turn_of_next x ≡ due_to m → names_seat x ≡ true
-names_seat next.Stay m e = absurd (omega arith)
-names_seat next.Entry m e = absurd (omega arith)
-names_seat (next.Waiter j) m e = refl
-names_seat (next.Signaller j) m e = refl
-names_seat (next.Until j) m e = refl
+names_seat_due : (x : Next) (m : ℕ) → turn_of_next x ≡ due_to m → names_seat x ≡ true
+names_seat_due next.Stay m e = absurd (omega arith)
+names_seat_due next.Entry m e = absurd (omega arith)
+names_seat_due (next.Waiter j) m e = refl
+names_seat_due (next.Signaller j) m e = refl
+names_seat_due (next.Until j) m e = refl
 
 told_to_grant : (x : Next) (m : ℕ) (to : Home) → turn_of_next x ≡ due_to m → may_be_told (Back x to) command.Grant ≡ true
-told_to_grant x m to e = names_seat x m e
+told_to_grant x m to e = names_seat_due x m e
 
 module _ (k : Rules) (o : Object) (c : Setting) (kind : IsKind k) (s : table.State (Option FloorView) View) (h : IsHall k o c s) (id : ℕ) (r : SeatRecord) (here : get_elem? s.views id ≡ maybe.some (r ∷ [])) where
   -- step 7

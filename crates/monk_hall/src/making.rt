@@ -105,7 +105,7 @@ fn deal<K: Kind, T: Guarded>(
 /// The pass of a seat that has its record, before any step.
 fn fresh_pass<K: Kind, T: Guarded>(seat: TableSeat<K, T>, number: u8, budget: u32) -> Pass<K, T>
     requires table { seat.table_id.words ≡ word_count (the seat.me.0).setting.seats }
-    requires opening_record { seat.me ≡ (opening_record (the seat.me.0).setting number ∷ [], []) }
+    requires fresh { seat.me ≡ (opening_record (the seat.me.0).setting number ∷ [], []) }
     requires numbers { (number < (the seat.me.0).setting.seats) × (budget ≡ (the seat.me.0).setting.budget) }
     ensures { result ≡ record { hall = seat.table_id; me = opening_record (the seat.me.0).setting number } }
 {

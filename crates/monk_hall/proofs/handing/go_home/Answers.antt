@@ -13,9 +13,9 @@ pub seat_grant-requires-clause-back : goal.seat_grant-requires-clause-back
 seat_grant-requires-clause-back g c κs within =
     let j = c.in-Some.called in
     subst (λ (m : Me). IsOne m.0 × (back_turn (the m.0).place ≡ due_to j) × (c.granted-calls.result ≡ granted_of (the m.0).seen j)) (sym c.floor_in.ensures.step)
-    (refl, chosen_due c.requires.released.1 j (sym c.called_by.ensures ∙ c.in-Some.is), c.granted-calls.ensures)
+    (refl, chosen_due c.requires.released.1 j (sym c.seat_called_by.ensures ∙ c.in-Some.is), c.granted-calls.ensures)
 
 pub let_in-requires-clause-back : goal.let_in-requires-clause-back
 let_in-requires-clause-back g c κs within =
     subst (λ (m : Me). IsOne m.0 × ((the m.0).place ≡ Back next.Entry (home_at (the m.0).place))) (sym c.floor_in-in-None.ensures.step)
-    (refl, chosen_entry c.requires.released.1 (sym c.called_by.ensures ∙ c.in-None.is))
+    (refl, chosen_entry c.requires.released.1 (sym c.seat_called_by.ensures ∙ c.in-None.is))
