@@ -38,14 +38,15 @@ use Rattle.monk_hall.specs.declared.after.After.{After}
 use Rattle.monk_hall.specs.declared.after.After.TheVariants.{Active, Parked}
 use Rattle.monk_hall.specs.Changes.{record_after_peek}
 use Rattle.monk_hall.specs.Handing.{HasRecordedRelease, HasGone}
+use Rattle.monk_hall.specs.Recorded.{IsRelease, HasRecorded}
 use Rattle.monk_hall.specs.Layout.{word_count}
 use Rattle.monk_hall.specs.Records.{the, IsOne}
 use Rattle.monk_hall.specs.Tells.{Me, TellsPeek, Returns, IsReleaseTo}
-use Rattle.monk_hall.specs.Tokens.{Token, Holder, IsSeated, IsHolding, IsTold, with_own}
+use Rattle.monk_hall.specs.Tokens.{Token, Holder, IsSeated, IsHolding, IsTold, with_own, holder}
 use Rattle.monk_hall.specs.declared.record.SeatRecord.{SeatRecord}
 use Rattle.monk_hall.proofs.Private.{own_event}
 use Rattle.monk_hall.proofs.Releasing.{said}
-use Rattle.monk_hall.proofs.TokenLaws.{holder, grown_holds}
+use Rattle.monk_hall.proofs.TokenLaws.{grown_holds}
 
 -- the wish rules ask who is known to wait for entry only for a wish of entry
 knows_reads : (k : Rules) (q : Queues) (s : ℕ) (known : Bool) (wish : Pick) → choice_by k q s known wish ≡ choice_by k q s (is_entry_known wish known) wish
@@ -110,15 +111,6 @@ never_enters i home.Inner (Signal s c y) x h = refl
 never_enters i home.Inner (SignalLeave s c y) x h = refl
 never_enters i home.Inner (Until s p y) x h = refl
 never_enters i home.Inner (Resume s q) x h = refl
-
--- a release that the floor has recorded
-pub record IsRelease (k : Rules) (o : Object) (r : SeatRecord) (f : FloorView) (call : Event) (wish : Pick) (known : Bool) (choice : Next) (to : Home) (g : FloorView) : Type 0 where
-  pub release : IsReleaseTo r.seat to call
-  pub may : MayCall (monitor_of k o f) f.history call
-  pub left : left_within to < left_of f.budget f.history r.seat
-  pub known_is : must_stay o (stands_of k o f) call ≡ false → known ≡ is_entry_known wish r.known
-  pub chosen : choice ≡ choice_of k o (stands_of k o f) call known wish
-  pub is_grown : IsGrown k o f (with_next choice call) g
 
 chosen_as_known : {k : Rules} {o : Object} {r : SeatRecord} {f : FloorView} {call : Event} {wish : Pick} {known : Bool} {choice : Next} {to : Home} {g : FloorView}
     → IsRelease k o r f call wish known choice to g → choice ≡ choice_of k o (stands_of k o f) call (is_entry_known wish r.known) wish
@@ -272,6 +264,11 @@ module _ {k : Rules} {o : Object} {z : TableId} {me : Me} {number calls : ℕ} {
     is_grown = grows;
   }
 
+  -- whoever may park inside has room for the way back
+  pub room_inside : {call : Event} {wish : Pick} {known : Bool} {choice : Next} {g : FloorView} → IsHolding k o z me number calls f → IsRelease k o (the me.0) f call wish known choice home.Inner g
+      → length (events_of f.history (the me.0).seat) + 2 ≤ (the me.0).setting.budget
+  room_inside h x = let b = ap (λ (y : FloorView). y.budget) h.goes.is_floor in let l = x.left in omega arith
+
   -- a release that stays
   pub stays_holding : (call : Event) {wish : Pick} {known : Bool} {choice : Next} {to : Home} {g : FloorView} → IsHolding k o z me number calls f → IsRelease k o (the me.0) f call wish known choice to g → is_stay (Some choice) ≡ true
       → length (events_of f.history (the me.0).seat) + 2 ≤ (the me.0).setting.budget → IsHolding k o z me number calls g
@@ -325,20 +322,22 @@ module _ {k : Rules} {o : Object} {z : TableId} {me : Me} {number calls : ℕ} {
   pub has_cond : IsHolding k o z me number calls f → (c : ℕ) (a : Holder) → holder z (the me.0) f ≡ a → c < a.me.setting.conds → c < f.conds
   has_cond h c a is low = let b = ap (λ (y : FloorView). y.conds) h.goes.is_floor in let here = subst (λ (x : Holder). c < x.me.setting.conds) (sym is) low in omega arith
 
-  pub has_room : IsHolding k o z me number calls f → (a : Holder) → holder z (the me.0) f ≡ a → length a.me.mine + 3 ≤ a.me.setting.budget → length (events_of f.history (the me.0).seat) + 2 ≤ (the me.0).setting.budget
-  has_room h a is more = let here = subst (λ (x : Holder). length x.me.mine + 3 ≤ x.me.setting.budget) (sym is) more in omega arith
-
 -- what is known where there is something to choose, of the floor in its hands
 pub must_known : {k : Rules} {o : Object} {z : TableId} {me : Me} {number calls : ℕ} {f : FloorView} → IsHolding k o z me number calls f → (a : Holder) → holder z (the me.0) f ≡ a → (call : ℕ → Event) {R : Type 0}
     → (must_stay o (stands_of k o a.floor) (call a.me.seat) ≡ false → R) → must_stay o (stands_of k o f) (call number) ≡ false → R
 must_known {k} {o} {f = f} h a is call told free = told ((λ i. must_stay o (stands_of k o (sym is i).floor) (call (sym is i).me.seat)) ∙ ap (λ n. must_stay o (stands_of k o f) (call n)) h.seated.is_seat ∙ free)
 
--- a call that may stay, after a look at the ticket word
+-- a call after a look at the ticket word: one that gives the floor back, and one that may stay
+pub released_after : (k : Rules) (o : Object) (call : ℕ → Event) (wish : Pick) (to : Home) (peeks : ℕ) (a b : Holder) → HasPeeked peeks a b → (p : Token)
+    → HasReleased k o b (call b.me.seat) wish to 0 p → HasReleased k o a (call a.me.seat) wish to peeks p
+released_after k o call wish to peeks a b x p m =
+    released_peeked peeks a b x (call a.me.seat) wish to p (subst (λ e. HasReleased k o b e wish to 0 p) (ap (λ (h : Holder). call h.me.seat) x.is) m)
+
 pub after_peeked : {K T : Type 0} (k : Rules) (o : Object) (call : ℕ → Event) (wish : Pick) (to : Home) (peeks : ℕ) (a b : Holder) → HasPeeked peeks a b → (r : After K T)
     → MatchAfter r (λ x. HasStayed k o b (call b.me.seat) wish 0 x) (λ p. HasReleased k o b (call b.me.seat) wish to 0 p)
     → MatchAfter r (λ x. HasStayed k o a (call a.me.seat) wish peeks x) (λ p. HasReleased k o a (call a.me.seat) wish to peeks p)
 after_peeked k o call wish to peeks a b x (Active y) m = stayed_peeked peeks a b x (call a.me.seat) wish y (subst (λ e. HasStayed k o b e wish 0 y) (ap (λ (h : Holder). call h.me.seat) x.is) m)
-after_peeked k o call wish to peeks a b x (Parked p) m = released_peeked peeks a b x (call a.me.seat) wish to p (subst (λ e. HasReleased k o b e wish to 0 p) (ap (λ (h : Holder). call h.me.seat) x.is) m)
+after_peeked k o call wish to peeks a b x (Parked p) m = released_after k o call wish to peeks a b x p m
 
 some_there : (xs : List ℕ) → not (is_empty xs) ≡ nat_lt 0 (length xs)
 some_there [] = refl

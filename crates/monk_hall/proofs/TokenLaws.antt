@@ -30,7 +30,7 @@ use Rattle.monk_hall.specs.Floors.{Finds, GoesOn, IsPrivate, ArePrivate}
 use Rattle.monk_hall.specs.Layout.{floor_of, tickets, unpassed}
 use Rattle.monk_hall.specs.Records.{View, the, IsOne}
 use Rattle.monk_hall.specs.Tells.{Me, TellsArrive}
-use Rattle.monk_hall.specs.Tokens.{Token, Holder, IsSeated, IsTold, IsResting, IsHolding, IsWaiting, with_own}
+use Rattle.monk_hall.specs.Tokens.{Token, Holder, IsSeated, IsTold, IsResting, IsHolding, IsWaiting, with_own, holder}
 use Rattle.monk_hall.specs.declared.record.SeatRecord.{SeatRecord}
 
 -- a seat's own event is one more of its own
@@ -46,10 +46,6 @@ pub out_owns : (i : ℕ) (q : Source) (u : Turn) → turn_by (seat_of (out_event
 out_owns i (Free t) u = refl
 out_owns i (Granted t) u = refl
 out_owns i Called u = refl
-
--- the token of an active seat with this floor
-abbrev pub holder : TableId → SeatRecord → FloorView → Holder
-holder z r f = record { hall = z; me = with_own r f; floor = f }
 
 abbrev pub token : TableId → SeatRecord → Token
 token z r = record { hall = z; me = r }

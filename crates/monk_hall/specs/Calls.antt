@@ -19,6 +19,7 @@ use Rattle.monk_world.specs.State.{with_event}
 use Rattle.monk_world.specs.StepTable.{out_event}
 use Rattle.monk_world.specs.Steps.{place_after_ticket_look, place_after_seat_look, count_after_seat_look}
 use Rattle.monk_world.specs.declared.home.Home.{Home}
+use Rattle.monk_world.specs.declared.home.Home.TheVariants as home
 use Rattle.monk_world.specs.declared.place.Place.{Place}
 use Rattle.monk_world.specs.declared.place.Place.TheVariants.{Idle, Ticket, Due, Active, Back, Passing, Inner}
 use Rattle.monk_world.specs.declared.source.Source.{Source}
@@ -160,3 +161,15 @@ pub record HasDone (k : Rules) (o : Object) (a : Holder) (e : Event) (b : Holder
   pub is : b ≡ record a { me = record a.me { mine = a.me.mine ++ e ∷ [] }; floor = with_event a.floor e }
   pub legal : IsLegal (monitor_of k o b.floor) b.floor.history
   pub own : events_of b.floor.history b.me.seat ≡ b.me.mine
+
+-- a release that always leads outside, and one that always parks inside: each looks at the ticket word where its wish is
+-- for entry
+abbrev pub GoesOut : Rules → Object → Holder → Event → Pick → Token → Type 0
+GoesOut k o a call wish p = HasReleased k o a call wish home.Idle (peeks_of true wish) p
+
+abbrev pub ParksInside : Rules → Object → Holder → Event → Pick → Token → Type 0
+ParksInside k o a call wish p = HasReleased k o a call wish home.Inner (peeks_of true wish) p
+
+-- what a release must know of the entry where it has something to choose
+abbrev pub KnowsForChoice : Rules → Object → Holder → Event → Pick → Bool → Type 0
+KnowsForChoice k o a call wish known = must_stay o (stands_of k o a.floor) call ≡ false → known ≡ is_entry_known wish a.me.known

@@ -8,5 +8,6 @@ pub mod Tokens
 pub mod Calls
 pub mod Handing
 pub mod AfterCalls
+pub mod Recorded
 pub mod Closing
 pub mod Laws

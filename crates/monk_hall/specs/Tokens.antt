@@ -47,6 +47,10 @@ top (v ∷ vs) = v
 abbrev pub with_own : SeatRecord → FloorView → SeatRecord
 with_own r f = record r { mine = events_of f.history r.seat }
 
+-- the token of an active seat with this record and this floor
+abbrev pub holder : TableId → SeatRecord → FloorView → Holder
+holder z r f = record { hall = z; me = with_own r f; floor = f }
+
 -- the numbers that a token stores are those of its seat
 pub record IsSeated (z : TableId) (r : SeatRecord) (number calls : ℕ) : Type 0 where
   pub is_seat : r.seat ≡ number

@@ -3,17 +3,13 @@ ghost use Rattle.std.specs.Prelude.{◌≡◌, ℕ, ◌+◌, ◌<◌, Bool, Opti
 ghost use Rattle.monk_history.specs.Meaning.Events.{is_stay};
 ghost use Rattle.monk_history.specs.declared.event.Next.{Next};
 ghost use Rattle.monk_world.specs.declared.home.Home.{Home};
-ghost use Rattle.monk_world.specs.declared.home.Home.TheVariants as home;
 ghost use Rattle.monk_world.specs.declared.place.Place.TheVariants as at;
 ghost use Rattle.monk_hall.specs.Changes.{record_after_floor_in, home_at};
 ghost use Rattle.monk_hall.specs.Handing.{seat_called_by, HasRecordedRelease, HandsOnWithin, HasGone};
 ghost use Rattle.monk_hall.specs.Records.{IsOne, the};
 ghost use Rattle.monk_hall.specs.Tells.{IsSized};
-ghost use Rattle.monk_hall.specs.Tokens.{IsSeated, IsTold};
 
 use crate::hall::Hall;
-use crate::parked::Parked;
-use crate::pass::Pass;
 use crate::places::{tickets, unpassed};
 use crate::rule::{SharedTable, TableSeat};
 use crate::steps;
@@ -21,8 +17,6 @@ use monk_floor::Floor;
 use monk_history::Next;
 use monk_kinds::Kind;
 use monk_object::Guarded;
-use monk_world::Place;
-use std::marker::PhantomData;
 
 /// The seat that a choice names.
 fn seat_called_by(choice: Next) -> Option<u8>
@@ -66,7 +60,7 @@ fn let_in<K: Kind, T: Guarded>(words: &SharedTable<K, T>, seat: &mut TableSeat<K
 }
 
 /// Brings the floor home with the release that it has recorded, and hands the right on to whom the release chose.
-fn go_home<K: Kind, T: Guarded>(
+pub(crate) fn go_home<K: Kind, T: Guarded>(
     hall: &Hall<K, T>,
     seat: &mut TableSeat<K, T>,
     floor: Floor<K, T>,
@@ -90,61 +84,5 @@ fn go_home<K: Kind, T: Guarded>(
             steps::floor_in(words, seat, floor);
             let_in(words, seat, hall.seats);
         }
-    }
-}
-
-/// The seat leaves the monitor with the release that its floor has recorded.
-pub(crate) fn go_outside<K: Kind, T: Guarded>(
-    hall: &Hall<K, T>,
-    mut seat: TableSeat<K, T>,
-    number: u8,
-    calls: u64,
-    floor: Floor<K, T>,
-    choice: Next,
-) -> Pass<K, T>
-    requires table { seat.table_id ≡ hall.now.id }
-    requires out { seat.me.1 ≡ (0, None) ∷ [] }
-    requires seated { IsSeated seat.table_id (the seat.me.0) number calls }
-    requires released { HasRecordedRelease K.rules T.meaning seat.table_id seat.me choice home.Idle floor }
-    ensures hall { result.hall ≡ seat.table_id }
-    ensures gone { HasGone (the seat.me.0) floor.history home.Idle result.me }
-    ensures told { IsTold K.rules T.meaning result.me }
-{
-    let left = floor.left(number);
-    go_home(hall, &mut seat, floor, choice);
-    Pass {
-        badge: seat.into_badge(),
-        of: PhantomData,
-        number,
-        left,
-        calls,
-    }
-}
-
-/// The seat is parked inside the monitor with the release that its floor has recorded.
-pub(crate) fn go_inside<K: Kind, T: Guarded>(
-    hall: &Hall<K, T>,
-    mut seat: TableSeat<K, T>,
-    number: u8,
-    calls: u64,
-    floor: Floor<K, T>,
-    choice: Next,
-) -> Parked<K, T>
-    requires table { seat.table_id ≡ hall.now.id }
-    requires out { seat.me.1 ≡ (0, None) ∷ [] }
-    requires seated { IsSeated seat.table_id (the seat.me.0) number calls }
-    requires released { HasRecordedRelease K.rules T.meaning seat.table_id seat.me choice home.Inner floor }
-    ensures hall { result.hall ≡ seat.table_id }
-    ensures gone { HasGone (the seat.me.0) floor.history home.Inner result.me }
-    ensures told { IsTold K.rules T.meaning result.me }
-{
-    let left = floor.left(number);
-    go_home(hall, &mut seat, floor, choice);
-    Parked {
-        seat,
-        number,
-        left,
-        calls,
-        place: Place::Inner,
     }
 }

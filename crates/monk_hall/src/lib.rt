@@ -22,6 +22,7 @@ mod places;
 mod plain;
 mod plays;
 mod record;
+mod release;
 mod releases;
 mod resuming;
 mod rule;

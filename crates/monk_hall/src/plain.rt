@@ -1,20 +1,21 @@
 //! The releases that not every kind has, for code that is generic over every kind: whether the kind has a call is a
 //! condition of the call in place of a bound, and the floor takes the general scheduler step. Each has the contract of
 //! the call without `plain_`.
-ghost use Rattle.std.specs.Prelude.{◌≡◌, ℕ, ◌+◌, ◌<◌, ◌≤◌, true, false, not, length};
+ghost use Rattle.std.specs.Prelude.{◌≡◌, ℕ, ◌+◌, ◌<◌, ◌≤◌, true, false, not, length, Some};
 ghost use Rattle.monk_history.specs.Meaning.Choice.{must_stay};
-ghost use Rattle.monk_history.specs.Meaning.Events.{has_conditions, has_signaller_queue, returns_at_once};
+ghost use Rattle.monk_history.specs.Meaning.Events.{has_conditions, has_signaller_queue, is_stay, returns_at_once};
 ghost use Rattle.monk_floor.specs.View.{stands_of};
 ghost use Rattle.monk_world.specs.declared.home.Home.TheVariants as home;
-ghost use Rattle.monk_hall.specs.AfterCalls.{MatchAfter};
-ghost use Rattle.monk_hall.specs.Calls.{HasReleased, HasStayed, is_entry_known, peeks_of, peeks_for};
+ghost use Rattle.monk_hall.specs.AfterCalls.{StaysOrParks};
+ghost use Rattle.monk_hall.specs.Calls.{GoesOut, KnowsForChoice, ParksInside, is_entry_known};
+ghost use Rattle.monk_hall.specs.Recorded.{HasRecorded};
 
 use crate::active::Active;
 use crate::after::After;
 use crate::hall::Hall;
-use crate::handing::{go_inside, go_outside, is_stay};
 use crate::parked::Parked;
 use crate::pass::Pass;
+use crate::release::Release;
 use monk_history::{Event, Next};
 use monk_kinds::{Kind, Pick};
 use monk_object::Guarded;
@@ -34,26 +35,21 @@ impl<K: Kind, T: Guarded> Active<K, T> {
         requires hall { self.hall ≡ hall.now.id }
         requires cond { cond < self.me.setting.conds }
         requires left { length self.me.mine + 3 ≤ self.me.setting.budget }
-        ensures { HasReleased K.rules T.meaning self (Event.Wait self.me.seat cond Next.Stay) pick home.Inner (peeks_of true pick) result }
+        ensures { ParksInside K.rules T.meaning self (Event.Wait self.me.seat cond Next.Stay) pick result }
     {
         let mut active = self;
         let known = active.look_for_entry(hall, true, pick);
-        active.plain_wait_knowing(hall, cond, pick, known)
+        active.record_plain_wait(cond, pick, known).go_inside(hall)
     }
 
-    fn plain_wait_knowing(
-        self,
-        hall: &Hall<K, T>,
-        cond: u8,
-        pick: Pick,
-        known: bool,
-    ) -> Parked<K, T>
+    fn record_plain_wait(self, cond: u8, pick: Pick, known: bool) -> Release<K, T>
         requires mode { has_conditions K.rules.mode ≡ true }
-        requires hall { self.hall ≡ hall.now.id }
         requires cond { cond < self.me.setting.conds }
         requires left { length self.me.mine + 3 ≤ self.me.setting.budget }
         requires known { known ≡ is_entry_known pick self.me.known }
-        ensures { HasReleased K.rules T.meaning self (Event.Wait self.me.seat cond Next.Stay) pick home.Inner 0 result }
+        ensures table { result.seat.table_id ≡ self.hall }
+        ensures recorded { HasRecorded K.rules T.meaning self (λ n. Event.Wait n cond Next.Stay) pick known home.Inner result }
+        ensures away { is_stay (Some result.choice) ≡ false }
     {
         let Active {
             seat,
@@ -62,7 +58,13 @@ impl<K: Kind, T: Guarded> Active<K, T> {
             mut floor,
         } = self;
         let choice = floor.plain_wait(number, cond, pick, known);
-        go_inside(hall, seat, number, calls, floor, choice)
+        Release {
+            seat,
+            number,
+            calls,
+            floor,
+            choice,
+        }
     }
 
     /// Signals a condition variable, under a kind with a signaller queue.
@@ -71,27 +73,21 @@ impl<K: Kind, T: Guarded> Active<K, T> {
         requires hall { self.hall ≡ hall.now.id }
         requires cond { cond < self.me.setting.conds }
         requires left { length self.me.mine + 3 ≤ self.me.setting.budget }
-        ensures { MatchAfter result (λ a. HasStayed K.rules T.meaning self (Event.Signal self.me.seat cond Next.Stay) pick (peeks_for K.rules T.meaning self.floor (Event.Signal self.me.seat cond Next.Stay) pick) a) (λ p. HasReleased K.rules T.meaning self (Event.Signal self.me.seat cond Next.Stay) pick home.Inner (peeks_for K.rules T.meaning self.floor (Event.Signal self.me.seat cond Next.Stay) pick) p) }
+        ensures { StaysOrParks K.rules T.meaning self (Event.Signal self.me.seat cond Next.Stay) pick result }
     {
         let chooses = self.serves(cond);
         let mut active = self;
         let known = active.look_for_entry(hall, chooses, pick);
-        active.plain_signal_knowing(hall, cond, pick, known)
+        active.record_plain_signal(cond, pick, known).go_on(hall)
     }
 
-    fn plain_signal_knowing(
-        self,
-        hall: &Hall<K, T>,
-        cond: u8,
-        pick: Pick,
-        known: bool,
-    ) -> After<K, T>
+    fn record_plain_signal(self, cond: u8, pick: Pick, known: bool) -> Release<K, T>
         requires mode { has_signaller_queue K.rules.mode ≡ true }
-        requires hall { self.hall ≡ hall.now.id }
         requires cond { cond < self.me.setting.conds }
         requires left { length self.me.mine + 3 ≤ self.me.setting.budget }
-        requires known { must_stay T.meaning (stands_of K.rules T.meaning self.floor) (Event.Signal self.me.seat cond Next.Stay) ≡ false → known ≡ is_entry_known pick self.me.known }
-        ensures { MatchAfter result (λ a. HasStayed K.rules T.meaning self (Event.Signal self.me.seat cond Next.Stay) pick 0 a) (λ p. HasReleased K.rules T.meaning self (Event.Signal self.me.seat cond Next.Stay) pick home.Inner 0 p) }
+        requires known { KnowsForChoice K.rules T.meaning self (Event.Signal self.me.seat cond Next.Stay) pick known }
+        ensures table { result.seat.table_id ≡ self.hall }
+        ensures recorded { HasRecorded K.rules T.meaning self (λ n. Event.Signal n cond Next.Stay) pick known home.Inner result }
     {
         let Active {
             seat,
@@ -100,15 +96,13 @@ impl<K: Kind, T: Guarded> Active<K, T> {
             mut floor,
         } = self;
         let choice = floor.plain_signal(number, cond, pick, known);
-        if is_stay(choice) {
-            return After::Active(Active {
-                seat,
-                number,
-                calls,
-                floor,
-            });
+        Release {
+            seat,
+            number,
+            calls,
+            floor,
+            choice,
         }
-        After::Parked(go_inside(hall, seat, number, calls, floor, choice))
     }
 
     /// Signals a condition variable and leaves, under a kind of immediate return.
@@ -116,25 +110,22 @@ impl<K: Kind, T: Guarded> Active<K, T> {
         requires mode { returns_at_once K.rules.mode ≡ true }
         requires hall { self.hall ≡ hall.now.id }
         requires cond { cond < self.me.setting.conds }
-        ensures { HasReleased K.rules T.meaning self (Event.SignalLeave self.me.seat cond Next.Stay) pick home.Idle (peeks_of true pick) result }
+        ensures { GoesOut K.rules T.meaning self (Event.SignalLeave self.me.seat cond Next.Stay) pick result }
     {
         let mut active = self;
         let known = active.look_for_entry(hall, true, pick);
-        active.plain_signal_leave_knowing(hall, cond, pick, known)
+        active
+            .record_plain_signal_leave(cond, pick, known)
+            .go_outside(hall)
     }
 
-    fn plain_signal_leave_knowing(
-        self,
-        hall: &Hall<K, T>,
-        cond: u8,
-        pick: Pick,
-        known: bool,
-    ) -> Pass<K, T>
+    fn record_plain_signal_leave(self, cond: u8, pick: Pick, known: bool) -> Release<K, T>
         requires mode { returns_at_once K.rules.mode ≡ true }
-        requires hall { self.hall ≡ hall.now.id }
         requires cond { cond < self.me.setting.conds }
         requires known { known ≡ is_entry_known pick self.me.known }
-        ensures { HasReleased K.rules T.meaning self (Event.SignalLeave self.me.seat cond Next.Stay) pick home.Idle 0 result }
+        ensures table { result.seat.table_id ≡ self.hall }
+        ensures recorded { HasRecorded K.rules T.meaning self (λ n. Event.SignalLeave n cond Next.Stay) pick known home.Idle result }
+        ensures away { is_stay (Some result.choice) ≡ false }
     {
         let Active {
             seat,
@@ -143,7 +134,13 @@ impl<K: Kind, T: Guarded> Active<K, T> {
             mut floor,
         } = self;
         let choice = floor.plain_signal_leave(number, cond, pick, known);
-        go_outside(hall, seat, number, calls, floor, choice)
+        Release {
+            seat,
+            number,
+            calls,
+            floor,
+            choice,
+        }
     }
 
     /// Waits until a predicate holds of the data, under an automatic kind.
@@ -152,27 +149,21 @@ impl<K: Kind, T: Guarded> Active<K, T> {
         requires hall { self.hall ≡ hall.now.id }
         requires pred { pred < T.PREDICATES }
         requires left { length self.me.mine + 3 ≤ self.me.setting.budget }
-        ensures { MatchAfter result (λ a. HasStayed K.rules T.meaning self (Event.Until self.me.seat pred Next.Stay) pick (peeks_for K.rules T.meaning self.floor (Event.Until self.me.seat pred Next.Stay) pick) a) (λ p. HasReleased K.rules T.meaning self (Event.Until self.me.seat pred Next.Stay) pick home.Inner (peeks_for K.rules T.meaning self.floor (Event.Until self.me.seat pred Next.Stay) pick) p) }
+        ensures { StaysOrParks K.rules T.meaning self (Event.Until self.me.seat pred Next.Stay) pick result }
     {
         let chooses = !self.holds(pred);
         let mut active = self;
         let known = active.look_for_entry(hall, chooses, pick);
-        active.plain_until_knowing(hall, pred, pick, known)
+        active.record_plain_until(pred, pick, known).go_on(hall)
     }
 
-    fn plain_until_knowing(
-        self,
-        hall: &Hall<K, T>,
-        pred: u8,
-        pick: Pick,
-        known: bool,
-    ) -> After<K, T>
+    fn record_plain_until(self, pred: u8, pick: Pick, known: bool) -> Release<K, T>
         requires mode { has_conditions K.rules.mode ≡ false }
-        requires hall { self.hall ≡ hall.now.id }
         requires pred { pred < T.PREDICATES }
         requires left { length self.me.mine + 3 ≤ self.me.setting.budget }
-        requires known { must_stay T.meaning (stands_of K.rules T.meaning self.floor) (Event.Until self.me.seat pred Next.Stay) ≡ false → known ≡ is_entry_known pick self.me.known }
-        ensures { MatchAfter result (λ a. HasStayed K.rules T.meaning self (Event.Until self.me.seat pred Next.Stay) pick 0 a) (λ p. HasReleased K.rules T.meaning self (Event.Until self.me.seat pred Next.Stay) pick home.Inner 0 p) }
+        requires known { KnowsForChoice K.rules T.meaning self (Event.Until self.me.seat pred Next.Stay) pick known }
+        ensures table { result.seat.table_id ≡ self.hall }
+        ensures recorded { HasRecorded K.rules T.meaning self (λ n. Event.Until n pred Next.Stay) pick known home.Inner result }
     {
         let Active {
             seat,
@@ -181,14 +172,12 @@ impl<K: Kind, T: Guarded> Active<K, T> {
             mut floor,
         } = self;
         let choice = floor.plain_until(number, pred, pick, known);
-        if is_stay(choice) {
-            return After::Active(Active {
-                seat,
-                number,
-                calls,
-                floor,
-            });
+        Release {
+            seat,
+            number,
+            calls,
+            floor,
+            choice,
         }
-        After::Parked(go_inside(hall, seat, number, calls, floor, choice))
     }
 }

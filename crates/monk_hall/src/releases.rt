@@ -1,16 +1,18 @@
 //! The calls by which the active seat releases the monitor. Each may take a look at the ticket word, where the wish is
 //! for entry; brings the floor home unless the seat stays; and hands the right on.
-ghost use Rattle.std.specs.Prelude.{◌≡◌, ℕ, ◌+◌, ◌<◌, ◌≤◌, ◌&&◌, Bool, true, length};
+ghost use Rattle.std.specs.Prelude.{◌≡◌, ℕ, ◌&&◌, Bool, false, true, Some};
+ghost use Rattle.monk_history.specs.Meaning.Events.{is_stay};
 ghost use Rattle.monk_world.specs.declared.home.Home.TheVariants as home;
-ghost use Rattle.monk_hall.specs.Calls.{HasDone, HasPeeked, HasReleased, HasStayed, is_entry_known, peeks_of, peeks_for, wants_entry};
+ghost use Rattle.monk_hall.specs.Calls.{GoesOut, HasPeeked, is_entry_known, peeks_of, wants_entry};
+ghost use Rattle.monk_hall.specs.Recorded.{HasRecorded};
 
 use crate::active::Active;
 use crate::after::After;
 use crate::hall::Hall;
-use crate::handing::{go_inside, go_outside, is_stay};
 use crate::parked::Parked;
 use crate::pass::Pass;
 use crate::places::unpassed;
+use crate::release::Release;
 use crate::steps;
 use monk_history::{Event, Next};
 use monk_kinds::{Automatic, Conditional, Explicit, ImmediateReturn, Kind, NonBlocking, Pick};
@@ -57,17 +59,18 @@ impl<K: Kind, T: Guarded> Active<K, T> {
     /// a wish for entry is taken only where a look at the ticket word finds somebody there.
     pub fn leave(self, hall: &Hall<K, T>, pick: Pick) -> Pass<K, T>
         requires { self.hall ≡ hall.now.id }
-        ensures { HasReleased K.rules T.meaning self (Event.Leave self.me.seat Next.Stay) pick home.Idle (peeks_of true pick) result }
+        ensures { GoesOut K.rules T.meaning self (Event.Leave self.me.seat Next.Stay) pick result }
     {
         let mut active = self;
         let known = active.look_for_entry(hall, true, pick);
-        active.leave_knowing(hall, pick, known)
+        active.record_leave(pick, known).go_outside(hall)
     }
 
-    fn leave_knowing(self, hall: &Hall<K, T>, pick: Pick, known: bool) -> Pass<K, T>
-        requires hall { self.hall ≡ hall.now.id }
+    fn record_leave(self, pick: Pick, known: bool) -> Release<K, T>
         requires known { known ≡ is_entry_known pick self.me.known }
-        ensures { HasReleased K.rules T.meaning self (Event.Leave self.me.seat Next.Stay) pick home.Idle 0 result }
+        ensures table { result.seat.table_id ≡ self.hall }
+        ensures recorded { HasRecorded K.rules T.meaning self (λ n. Event.Leave n Next.Stay) pick known home.Idle result }
+        ensures away { is_stay (Some result.choice) ≡ false }
     {
         let Active {
             seat,
@@ -76,14 +79,22 @@ impl<K: Kind, T: Guarded> Active<K, T> {
             mut floor,
         } = self;
         let choice = floor.leave(number, pick, known);
-        go_outside(hall, seat, number, calls, floor, choice)
+        Release {
+            seat,
+            number,
+            calls,
+            floor,
+            choice,
+        }
     }
 }
 
 impl<K: Conditional, T: Guarded> Active<K, T> {
-    ghost use Rattle.std.specs.Prelude.{◌≡◌, ◌+◌, ◌<◌, ◌≤◌, true, length};
+    ghost use Rattle.std.specs.Prelude.{◌≡◌, ◌+◌, ◌<◌, ◌≤◌, false, Some, length};
+    ghost use Rattle.monk_history.specs.Meaning.Events.{is_stay};
     ghost use Rattle.monk_world.specs.declared.home.Home.TheVariants as home;
-    ghost use Rattle.monk_hall.specs.Calls.{HasReleased, is_entry_known, peeks_of};
+    ghost use Rattle.monk_hall.specs.Calls.{ParksInside, is_entry_known};
+    ghost use Rattle.monk_hall.specs.Recorded.{HasRecorded};
 
     /// Waits on a condition variable until it is signalled, in at most four steps. The seat is parked inside. The
     /// scheduler step and the wish are as at `leave`.
@@ -91,19 +102,20 @@ impl<K: Conditional, T: Guarded> Active<K, T> {
         requires hall { self.hall ≡ hall.now.id }
         requires cond { cond < self.me.setting.conds }
         requires left { length self.me.mine + 3 ≤ self.me.setting.budget }
-        ensures { HasReleased K.rules T.meaning self (Event.Wait self.me.seat cond Next.Stay) pick home.Inner (peeks_of true pick) result }
+        ensures { ParksInside K.rules T.meaning self (Event.Wait self.me.seat cond Next.Stay) pick result }
     {
         let mut active = self;
         let known = active.look_for_entry(hall, true, pick);
-        active.wait_knowing(hall, cond, pick, known)
+        active.record_wait(cond, pick, known).go_inside(hall)
     }
 
-    fn wait_knowing(self, hall: &Hall<K, T>, cond: u8, pick: Pick, known: bool) -> Parked<K, T>
-        requires hall { self.hall ≡ hall.now.id }
+    fn record_wait(self, cond: u8, pick: Pick, known: bool) -> Release<K, T>
         requires cond { cond < self.me.setting.conds }
         requires left { length self.me.mine + 3 ≤ self.me.setting.budget }
         requires known { known ≡ is_entry_known pick self.me.known }
-        ensures { HasReleased K.rules T.meaning self (Event.Wait self.me.seat cond Next.Stay) pick home.Inner 0 result }
+        ensures table { result.seat.table_id ≡ self.hall }
+        ensures recorded { HasRecorded K.rules T.meaning self (λ n. Event.Wait n cond Next.Stay) pick known home.Inner result }
+        ensures away { is_stay (Some result.choice) ≡ false }
     {
         let Active {
             seat,
@@ -112,17 +124,22 @@ impl<K: Conditional, T: Guarded> Active<K, T> {
             mut floor,
         } = self;
         let choice = floor.wait(number, cond, pick, known);
-        go_inside(hall, seat, number, calls, floor, choice)
+        Release {
+            seat,
+            number,
+            calls,
+            floor,
+            choice,
+        }
     }
 }
 
 impl<K: Explicit, T: Guarded> Active<K, T> {
-    ghost use Rattle.std.specs.Prelude.{◌≡◌, ◌+◌, ◌<◌, ◌≤◌, true, false, length};
-    ghost use Rattle.monk_history.specs.Meaning.Choice.{must_stay};
-    ghost use Rattle.monk_floor.specs.View.{stands_of};
+    ghost use Rattle.std.specs.Prelude.{◌≡◌, ◌+◌, ◌<◌, ◌≤◌, length};
     ghost use Rattle.monk_world.specs.declared.home.Home.TheVariants as home;
-    ghost use Rattle.monk_hall.specs.AfterCalls.{MatchAfter};
-    ghost use Rattle.monk_hall.specs.Calls.{HasReleased, HasStayed, is_entry_known, peeks_for};
+    ghost use Rattle.monk_hall.specs.AfterCalls.{StaysOrParks};
+    ghost use Rattle.monk_hall.specs.Calls.{KnowsForChoice};
+    ghost use Rattle.monk_hall.specs.Recorded.{HasRecorded};
 
     /// Signals a condition variable, in at most four steps. The first that waits on it becomes a waiter and the caller
     /// a signaller, and the scheduler step chooses among all of them; the wish is as at `leave`. Where the caller itself
@@ -132,20 +149,20 @@ impl<K: Explicit, T: Guarded> Active<K, T> {
         requires hall { self.hall ≡ hall.now.id }
         requires cond { cond < self.me.setting.conds }
         requires left { length self.me.mine + 3 ≤ self.me.setting.budget }
-        ensures { MatchAfter result (λ a. HasStayed K.rules T.meaning self (Event.Signal self.me.seat cond Next.Stay) pick (peeks_for K.rules T.meaning self.floor (Event.Signal self.me.seat cond Next.Stay) pick) a) (λ p. HasReleased K.rules T.meaning self (Event.Signal self.me.seat cond Next.Stay) pick home.Inner (peeks_for K.rules T.meaning self.floor (Event.Signal self.me.seat cond Next.Stay) pick) p) }
+        ensures { StaysOrParks K.rules T.meaning self (Event.Signal self.me.seat cond Next.Stay) pick result }
     {
-        let serves = self.serves(cond);
+        let chooses = self.serves(cond);
         let mut active = self;
-        let known = active.look_for_entry(hall, serves, pick);
-        active.signal_knowing(hall, cond, pick, known)
+        let known = active.look_for_entry(hall, chooses, pick);
+        active.record_signal(cond, pick, known).go_on(hall)
     }
 
-    fn signal_knowing(self, hall: &Hall<K, T>, cond: u8, pick: Pick, known: bool) -> After<K, T>
-        requires hall { self.hall ≡ hall.now.id }
+    fn record_signal(self, cond: u8, pick: Pick, known: bool) -> Release<K, T>
         requires cond { cond < self.me.setting.conds }
         requires left { length self.me.mine + 3 ≤ self.me.setting.budget }
-        requires known { must_stay T.meaning (stands_of K.rules T.meaning self.floor) (Event.Signal self.me.seat cond Next.Stay) ≡ false → known ≡ is_entry_known pick self.me.known }
-        ensures { MatchAfter result (λ a. HasStayed K.rules T.meaning self (Event.Signal self.me.seat cond Next.Stay) pick 0 a) (λ p. HasReleased K.rules T.meaning self (Event.Signal self.me.seat cond Next.Stay) pick home.Inner 0 p) }
+        requires known { KnowsForChoice K.rules T.meaning self (Event.Signal self.me.seat cond Next.Stay) pick known }
+        ensures table { result.seat.table_id ≡ self.hall }
+        ensures recorded { HasRecorded K.rules T.meaning self (λ n. Event.Signal n cond Next.Stay) pick known home.Inner result }
     {
         let Active {
             seat,
@@ -154,15 +171,13 @@ impl<K: Explicit, T: Guarded> Active<K, T> {
             mut floor,
         } = self;
         let choice = floor.signal(number, cond, pick, known);
-        if is_stay(choice) {
-            return After::Active(Active {
-                seat,
-                number,
-                calls,
-                floor,
-            });
+        Release {
+            seat,
+            number,
+            calls,
+            floor,
+            choice,
         }
-        After::Parked(go_inside(hall, seat, number, calls, floor, choice))
     }
 }
 
@@ -181,33 +196,32 @@ impl<K: NonBlocking, T: Guarded> Active<K, T> {
 }
 
 impl<K: ImmediateReturn, T: Guarded> Active<K, T> {
-    ghost use Rattle.std.specs.Prelude.{◌≡◌, ◌<◌, true};
+    ghost use Rattle.std.specs.Prelude.{◌≡◌, ◌<◌, false, Some};
+    ghost use Rattle.monk_history.specs.Meaning.Events.{is_stay};
     ghost use Rattle.monk_world.specs.declared.home.Home.TheVariants as home;
-    ghost use Rattle.monk_hall.specs.Calls.{HasReleased, is_entry_known, peeks_of};
+    ghost use Rattle.monk_hall.specs.Calls.{GoesOut, is_entry_known};
+    ghost use Rattle.monk_hall.specs.Recorded.{HasRecorded};
 
     /// Signals a condition variable and leaves the monitor, in at most four steps. It leaves also where nobody waits on
     /// the condition. The scheduler step and the wish are as at `leave`.
     pub fn signal_leave(self, hall: &Hall<K, T>, cond: u8, pick: Pick) -> Pass<K, T>
         requires hall { self.hall ≡ hall.now.id }
         requires cond { cond < self.me.setting.conds }
-        ensures { HasReleased K.rules T.meaning self (Event.SignalLeave self.me.seat cond Next.Stay) pick home.Idle (peeks_of true pick) result }
+        ensures { GoesOut K.rules T.meaning self (Event.SignalLeave self.me.seat cond Next.Stay) pick result }
     {
         let mut active = self;
         let known = active.look_for_entry(hall, true, pick);
-        active.signal_leave_knowing(hall, cond, pick, known)
+        active
+            .record_signal_leave(cond, pick, known)
+            .go_outside(hall)
     }
 
-    fn signal_leave_knowing(
-        self,
-        hall: &Hall<K, T>,
-        cond: u8,
-        pick: Pick,
-        known: bool,
-    ) -> Pass<K, T>
-        requires hall { self.hall ≡ hall.now.id }
+    fn record_signal_leave(self, cond: u8, pick: Pick, known: bool) -> Release<K, T>
         requires cond { cond < self.me.setting.conds }
         requires known { known ≡ is_entry_known pick self.me.known }
-        ensures { HasReleased K.rules T.meaning self (Event.SignalLeave self.me.seat cond Next.Stay) pick home.Idle 0 result }
+        ensures table { result.seat.table_id ≡ self.hall }
+        ensures recorded { HasRecorded K.rules T.meaning self (λ n. Event.SignalLeave n cond Next.Stay) pick known home.Idle result }
+        ensures away { is_stay (Some result.choice) ≡ false }
     {
         let Active {
             seat,
@@ -216,17 +230,22 @@ impl<K: ImmediateReturn, T: Guarded> Active<K, T> {
             mut floor,
         } = self;
         let choice = floor.signal_leave(number, cond, pick, known);
-        go_outside(hall, seat, number, calls, floor, choice)
+        Release {
+            seat,
+            number,
+            calls,
+            floor,
+            choice,
+        }
     }
 }
 
 impl<K: Automatic, T: Guarded> Active<K, T> {
-    ghost use Rattle.std.specs.Prelude.{◌≡◌, ◌+◌, ◌<◌, ◌≤◌, true, false, length};
-    ghost use Rattle.monk_history.specs.Meaning.Choice.{must_stay};
-    ghost use Rattle.monk_floor.specs.View.{stands_of};
+    ghost use Rattle.std.specs.Prelude.{◌≡◌, ◌+◌, ◌<◌, ◌≤◌, length};
     ghost use Rattle.monk_world.specs.declared.home.Home.TheVariants as home;
-    ghost use Rattle.monk_hall.specs.AfterCalls.{MatchAfter};
-    ghost use Rattle.monk_hall.specs.Calls.{HasReleased, HasStayed, is_entry_known, peeks_for};
+    ghost use Rattle.monk_hall.specs.AfterCalls.{StaysOrParks};
+    ghost use Rattle.monk_hall.specs.Calls.{KnowsForChoice};
+    ghost use Rattle.monk_hall.specs.Recorded.{HasRecorded};
 
     /// Waits until a predicate holds of the data, in at most four steps. Where it holds at once the seat stays active
     /// and takes no step; else it is parked inside until it is chosen among those whose predicate holds. The scheduler
@@ -235,20 +254,20 @@ impl<K: Automatic, T: Guarded> Active<K, T> {
         requires hall { self.hall ≡ hall.now.id }
         requires pred { pred < T.PREDICATES }
         requires left { length self.me.mine + 3 ≤ self.me.setting.budget }
-        ensures { MatchAfter result (λ a. HasStayed K.rules T.meaning self (Event.Until self.me.seat pred Next.Stay) pick (peeks_for K.rules T.meaning self.floor (Event.Until self.me.seat pred Next.Stay) pick) a) (λ p. HasReleased K.rules T.meaning self (Event.Until self.me.seat pred Next.Stay) pick home.Inner (peeks_for K.rules T.meaning self.floor (Event.Until self.me.seat pred Next.Stay) pick) p) }
+        ensures { StaysOrParks K.rules T.meaning self (Event.Until self.me.seat pred Next.Stay) pick result }
     {
-        let waits = !self.holds(pred);
+        let chooses = !self.holds(pred);
         let mut active = self;
-        let known = active.look_for_entry(hall, waits, pick);
-        active.until_knowing(hall, pred, pick, known)
+        let known = active.look_for_entry(hall, chooses, pick);
+        active.record_until(pred, pick, known).go_on(hall)
     }
 
-    fn until_knowing(self, hall: &Hall<K, T>, pred: u8, pick: Pick, known: bool) -> After<K, T>
-        requires hall { self.hall ≡ hall.now.id }
+    fn record_until(self, pred: u8, pick: Pick, known: bool) -> Release<K, T>
         requires pred { pred < T.PREDICATES }
         requires left { length self.me.mine + 3 ≤ self.me.setting.budget }
-        requires known { must_stay T.meaning (stands_of K.rules T.meaning self.floor) (Event.Until self.me.seat pred Next.Stay) ≡ false → known ≡ is_entry_known pick self.me.known }
-        ensures { MatchAfter result (λ a. HasStayed K.rules T.meaning self (Event.Until self.me.seat pred Next.Stay) pick 0 a) (λ p. HasReleased K.rules T.meaning self (Event.Until self.me.seat pred Next.Stay) pick home.Inner 0 p) }
+        requires known { KnowsForChoice K.rules T.meaning self (Event.Until self.me.seat pred Next.Stay) pick known }
+        ensures table { result.seat.table_id ≡ self.hall }
+        ensures recorded { HasRecorded K.rules T.meaning self (λ n. Event.Until n pred Next.Stay) pick known home.Inner result }
     {
         let Active {
             seat,
@@ -257,14 +276,12 @@ impl<K: Automatic, T: Guarded> Active<K, T> {
             mut floor,
         } = self;
         let choice = floor.until(number, pred, pick, known);
-        if is_stay(choice) {
-            return After::Active(Active {
-                seat,
-                number,
-                calls,
-                floor,
-            });
+        Release {
+            seat,
+            number,
+            calls,
+            floor,
+            choice,
         }
-        After::Parked(go_inside(hall, seat, number, calls, floor, choice))
     }
 }

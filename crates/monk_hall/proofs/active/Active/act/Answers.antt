@@ -5,8 +5,8 @@ use Rattle.monk_floor.specs.View.{monitor_of}
 use Rattle.monk_floor.specs.Grown.{IsGrown}
 use Rattle.monk_hall.specs.Calls.{HasDone}
 use Rattle.monk_hall.specs.Records.{the}
-use Rattle.monk_hall.specs.Tokens.{Holder}
-use Rattle.monk_hall.proofs.TokenLaws.{holder, grown_holds, grown_does}
+use Rattle.monk_hall.specs.Tokens.{Holder, holder}
+use Rattle.monk_hall.proofs.TokenLaws.{grown_holds, grown_does}
 use Rattle.monk_hall.proofs.active.Active.act.Goals as goal
 
 pub invariant_of-self : goal.invariant_of-self

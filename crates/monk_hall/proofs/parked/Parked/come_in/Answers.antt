@@ -1,8 +1,8 @@
 use Rattle.std.proofs.Common.{rules, arith, ◌≡◌, ℕ, suc, ◌+◌, ◌≤◌, ◌++◌, ◌∷◌, [], None, List, length, refl, sym, ap, subst, ◌∙◌}
 use Rattle.monk_hall.specs.Calls.{HasEntered}
 use Rattle.monk_hall.specs.Records.{the}
-use Rattle.monk_hall.specs.Tokens.{Token}
-use Rattle.monk_hall.proofs.TokenLaws.{holder, entry, entry_holds}
+use Rattle.monk_hall.specs.Tokens.{Token, holder}
+use Rattle.monk_hall.proofs.TokenLaws.{entry, entry_holds}
 use Rattle.monk_hall.proofs.parked.Parked.come_in.Goals as goal
 
 pub invariant_of-result : goal.invariant_of-result

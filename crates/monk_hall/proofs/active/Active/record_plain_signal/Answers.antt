@@ -1,0 +1,30 @@
+use Rattle.std.proofs.Common.{◌≡◌, ◌<◌, Bool, not, sym, ap, subst, ◌∙◌}
+use Rattle.monk_history.specs.Meaning.Events.{has_conditions, has_signaller_queue, returns_at_once}
+use Rattle.monk_history.specs.declared.event.Event.TheVariants.{Signal}
+use Rattle.monk_history.specs.declared.event.Next.TheVariants.{Stay}
+use Rattle.monk_history.proofs.MeaningLaws.CallLaws.{may_signal_on}
+use Rattle.monk_floor.specs.View.{monitor_of}
+use Rattle.monk_hall.proofs.ReleaseLaws.{has_cond, is_near, must_known, owns, signals}
+use Rattle.monk_hall.proofs.active.Active.record_plain_signal.Goals as goal
+
+pub plain_signal-choice-requires-clause-call : goal.plain_signal-choice-requires-clause-call
+plain_signal-choice-requires-clause-call g c κs within =
+    let h = c.self.invariant in
+    let f = c.self.inside.floor in
+    may_signal_on (monitor_of g.K.Kind.rules g.T.Guarded.meaning f) f.history c.self.inside.number c.args.cond (owns h) (is_near h)
+    (has_cond h c.args.cond c.args.self c.self.view_is c.requires.cond)
+    (c.requires.mode)
+
+pub returns-clause-recorded : goal.returns-clause-recorded
+returns-clause-recorded g c =
+    let h = c.self.invariant in
+    let call = c.plain_signal-choice in
+    record {
+      before = c.self.inside.floor;
+      holds = h;
+      was = c.self.view_is;
+      release = signals h c.args.cond (has_cond h c.args.cond c.args.self c.self.view_is c.requires.cond)
+          (c.requires.mode)
+          c.args.pick c.args.known call.result call.new.self c.args.self c.self.view_is c.requires.left (must_known h c.args.self c.self.view_is (λ n. Signal n c.args.cond Stay) c.requires.known)
+          call.ensures.choice call.ensures.grown;
+    }

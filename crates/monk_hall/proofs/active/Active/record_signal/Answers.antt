@@ -1,0 +1,31 @@
+use Rattle.std.proofs.Common.{◌≡◌, ◌<◌, Bool, not, sym, ap, subst, ◌∙◌}
+use Rattle.monk_history.specs.Meaning.Events.{has_conditions, has_signaller_queue, returns_at_once}
+use Rattle.monk_history.specs.declared.event.Event.TheVariants.{Signal}
+use Rattle.monk_history.specs.declared.event.Next.TheVariants.{Stay}
+use Rattle.monk_history.proofs.MeaningLaws.CallLaws.{may_signal_on}
+use Rattle.monk_floor.specs.View.{monitor_of}
+use Rattle.monk_hall.proofs.KindLaws.{explicit}
+use Rattle.monk_hall.proofs.ReleaseLaws.{has_cond, is_near, must_known, owns, signals}
+use Rattle.monk_hall.proofs.active.Active.record_signal.Goals as goal
+
+pub signal-choice-requires-clause-call : goal.signal-choice-requires-clause-call
+signal-choice-requires-clause-call g c κs within =
+    let h = c.self.invariant in
+    let f = c.self.inside.floor in
+    may_signal_on (monitor_of g.K.Kind.rules g.T.Guarded.meaning f) f.history c.self.inside.number c.args.cond (owns h) (is_near h)
+    (has_cond h c.args.cond c.args.self c.self.view_is c.requires.cond)
+    (ap has_signaller_queue (sym (ap (λ r. r.mode) g.K.Kind.are_rules)) ∙ explicit g.K.Kind.MODE (g.met.K.Conditional g.world.𝓛 g.world.𝓜 g.world.𝓡 ((λ s x. x), (λ x. x), (λ x. x), λ x. x)).not_automatic (g.met.K.Explicit g.world.𝓛 g.world.𝓜 g.world.𝓡 ((λ s x. x), (λ x. x), (λ x. x), λ x. x)).not_immediate)
+
+pub returns-clause-recorded : goal.returns-clause-recorded
+returns-clause-recorded g c =
+    let h = c.self.invariant in
+    let call = c.signal-choice in
+    record {
+      before = c.self.inside.floor;
+      holds = h;
+      was = c.self.view_is;
+      release = signals h c.args.cond (has_cond h c.args.cond c.args.self c.self.view_is c.requires.cond)
+          (ap has_signaller_queue (sym (ap (λ r. r.mode) g.K.Kind.are_rules)) ∙ explicit g.K.Kind.MODE (g.met.K.Conditional g.world.𝓛 g.world.𝓜 g.world.𝓡 ((λ s x. x), (λ x. x), (λ x. x), λ x. x)).not_automatic (g.met.K.Explicit g.world.𝓛 g.world.𝓜 g.world.𝓡 ((λ s x. x), (λ x. x), (λ x. x), λ x. x)).not_immediate)
+          c.args.pick c.args.known call.result call.new.self c.args.self c.self.view_is c.requires.left (must_known h c.args.self c.self.view_is (λ n. Signal n c.args.cond Stay) c.requires.known)
+          call.ensures.choice call.ensures.grown;
+    }

@@ -1,0 +1,35 @@
+use Rattle.std.proofs.Common.{◌≡◌, ◌<◌, Bool, not, sym, ap, subst, ◌∙◌}
+use Rattle.monk_history.specs.Meaning.Events.{has_conditions, has_signaller_queue, returns_at_once}
+use Rattle.monk_history.proofs.MeaningLaws.CallLaws.{may_wait}
+use Rattle.monk_floor.specs.View.{monitor_of}
+use Rattle.monk_hall.proofs.KindLaws.{conditional}
+use Rattle.monk_hall.proofs.ReleaseLaws.{has_cond, is_near, owns, wait_goes, waits}
+use Rattle.monk_hall.proofs.active.Active.record_wait.Goals as goal
+
+pub wait-choice-requires-clause-call : goal.wait-choice-requires-clause-call
+wait-choice-requires-clause-call g c κs within =
+    let h = c.self.invariant in
+    let f = c.self.inside.floor in
+    may_wait (monitor_of g.K.Kind.rules g.T.Guarded.meaning f) f.history c.self.inside.number c.args.cond (owns h) (is_near h)
+    (has_cond h c.args.cond c.args.self c.self.view_is c.requires.cond)
+    (ap has_conditions (sym (ap (λ r. r.mode) g.K.Kind.are_rules)) ∙ conditional g.K.Kind.MODE (g.met.K.Conditional g.world.𝓛 g.world.𝓜 g.world.𝓡 ((λ s x. x), (λ x. x), (λ x. x), λ x. x)).not_automatic)
+
+pub returns-clause-recorded : goal.returns-clause-recorded
+returns-clause-recorded g c =
+    let h = c.self.invariant in
+    let call = c.wait-choice in
+    record {
+      before = c.self.inside.floor;
+      holds = h;
+      was = c.self.view_is;
+      release = waits h c.args.cond (has_cond h c.args.cond c.args.self c.self.view_is c.requires.cond)
+          (ap has_conditions (sym (ap (λ r. r.mode) g.K.Kind.are_rules)) ∙ conditional g.K.Kind.MODE (g.met.K.Conditional g.world.𝓛 g.world.𝓜 g.world.𝓡 ((λ s x. x), (λ x. x), (λ x. x), λ x. x)).not_automatic)
+          c.args.pick c.args.known call.result call.new.self c.args.self c.self.view_is c.requires.left (c.requires.known)
+          call.ensures.choice call.ensures.grown;
+    }
+
+pub returns-clause-away : goal.returns-clause-away
+returns-clause-away g c =
+    let f = c.self.inside.floor in
+    let call = c.wait-choice in
+    wait_goes (monitor_of g.K.Kind.rules g.T.Guarded.meaning f) f.history c.self.inside.number c.args.cond call.result call.ensures.grown.allowed

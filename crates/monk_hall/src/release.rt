@@ -1,0 +1,105 @@
+//! A release on its way: what all releases share once the floor has recorded them.
+ghost use Rattle.std.specs.Prelude.{◌≡◌, false, Some};
+ghost use Rattle.monk_history.specs.Meaning.Events.{is_stay};
+ghost use Rattle.monk_world.specs.declared.home.Home.TheVariants as home;
+ghost use Rattle.monk_hall.specs.Recorded.{IsRecorded, GoesOutside, GoesInside, GoesOnOrInside};
+
+use crate::active::Active;
+use crate::after::After;
+use crate::hall::Hall;
+use crate::handing::{go_home, is_stay};
+use crate::parked::Parked;
+use crate::pass::Pass;
+use crate::rule::TableSeat;
+use monk_floor::Floor;
+use monk_history::Next;
+use monk_kinds::Kind;
+use monk_object::Guarded;
+use monk_world::Place;
+use std::marker::PhantomData;
+
+/// The active seat, taken apart, with a release recorded in its floor, which has chosen who goes on. The floor has yet to
+/// go home, unless the seat stays.
+pub struct Release<K: Kind, T: Guarded> {
+    pub(crate) seat: TableSeat<K, T>,
+    pub(crate) number: u8,
+    pub(crate) calls: u64,
+    pub(crate) floor: Floor<K, T>,
+    pub(crate) choice: Next,
+}
+
+impl<K: Kind, T: Guarded> Release<K, T> {
+    /// The seat leaves the monitor.
+    pub(crate) fn go_outside(self, hall: &Hall<K, T>) -> Pass<K, T>
+        requires table { self.seat.table_id ≡ hall.now.id }
+        requires recorded { IsRecorded K.rules T.meaning home.Idle self }
+        requires away { is_stay (Some self.choice) ≡ false }
+        ensures { GoesOutside K.rules T.meaning self result }
+    {
+        let Release {
+            mut seat,
+            number,
+            calls,
+            floor,
+            choice,
+        } = self;
+        let left = floor.left(number);
+        go_home(hall, &mut seat, floor, choice);
+        Pass {
+            badge: seat.into_badge(),
+            of: PhantomData,
+            number,
+            left,
+            calls,
+        }
+    }
+
+    /// The seat is parked inside the monitor.
+    pub(crate) fn go_inside(self, hall: &Hall<K, T>) -> Parked<K, T>
+        requires table { self.seat.table_id ≡ hall.now.id }
+        requires recorded { IsRecorded K.rules T.meaning home.Inner self }
+        requires away { is_stay (Some self.choice) ≡ false }
+        ensures { GoesInside K.rules T.meaning self result }
+    {
+        let Release {
+            mut seat,
+            number,
+            calls,
+            floor,
+            choice,
+        } = self;
+        let left = floor.left(number);
+        go_home(hall, &mut seat, floor, choice);
+        Parked {
+            seat,
+            number,
+            left,
+            calls,
+            place: Place::Inner,
+        }
+    }
+
+    /// The seat stays active where it was chosen itself, and else is parked inside.
+    pub(crate) fn go_on(self, hall: &Hall<K, T>) -> After<K, T>
+        requires table { self.seat.table_id ≡ hall.now.id }
+        requires recorded { IsRecorded K.rules T.meaning home.Inner self }
+        ensures { GoesOnOrInside K.rules T.meaning self result }
+    {
+        if is_stay(self.choice) {
+            let Release {
+                seat,
+                number,
+                calls,
+                floor,
+                choice: _,
+            } = self;
+            return After::Active(Active {
+                seat,
+                number,
+                calls,
+                floor,
+            });
+        }
+        After::Parked(self.go_inside(hall))
+    }
+}
