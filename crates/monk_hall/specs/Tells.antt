@@ -2,6 +2,7 @@
 use Rattle.std.specs.Prelude.{◌≡◌, ℕ, ◌<◌, ◌≤◌, ◌⊎◌, Bool, true, false, List, [], ◌∷◌, ◌++◌, Option, Some, None}
 use Rattle.atomic_table.specs.Seated.{TableId}
 use Rattle.atomic_table.specs.Table as table
+use Rattle.atomic_table.specs.declared.shared.Seat.{Seat}
 use Rattle.monk_kinds.specs.declared.mode.Rules.{Rules}
 use Rattle.monk_kinds.specs.declared.Pick.{Pick}
 use Rattle.monk_object.specs.Object.{Object}
@@ -100,3 +101,11 @@ pub record Returns (k : Rules) (o : Object) (r : SeatRecord) (f : FloorView) : T
 
 abbrev pub IsSized : TableId → ℕ → Type 0
 IsSized z seats = (z.words ≡ word_count seats) × (z.slots ≡ 1)
+
+-- a seat of this table, which has the words of so many seats
+abbrev pub IsOfTable : {S V : Type 0} → Seat S V → TableId → ℕ → Type 0
+IsOfTable seat z seats = (seat.table_id ≡ z) × IsSized z seats
+
+-- it is the seat that it was
+abbrev pub IsSameSeat : {S V : Type 0} → Seat S V → Seat S V → Type 0
+IsSameSeat old new = (new.table_id ≡ old.table_id) × (new.id ≡ old.id)

@@ -7,7 +7,7 @@ ghost use Rattle.monk_world.specs.declared.place.Place.TheVariants as at;
 ghost use Rattle.monk_hall.specs.Changes.{record_after_floor_in, home_at};
 ghost use Rattle.monk_hall.specs.Handing.{seat_called_by, HasRecordedRelease, HandsOnWithin, HasGone};
 ghost use Rattle.monk_hall.specs.Records.{IsOne, the};
-ghost use Rattle.monk_hall.specs.Tells.{IsSized};
+ghost use Rattle.monk_hall.specs.Tells.{IsOfTable, IsSameSeat};
 
 use crate::hall::Hall;
 use crate::places::{tickets, unpassed};
@@ -46,9 +46,10 @@ pub(crate) fn is_stay(choice: Next) -> bool
 
 /// After the choice of entry: takes the seat off the ticket word, and grants the next ticket if there is one.
 fn let_in<K: Kind, T: Guarded>(words: &SharedTable<K, T>, seat: &mut TableSeat<K, T>, seats: u8)
-    requires table { (seat.old.table_id ≡ words.now.table_id) × IsSized words.now.table_id words.now.key.seats × (seats ≡ words.now.key.seats) × (0 < seats) }
+    requires table { IsOfTable seat.old words.now.table_id words.now.key.seats }
+    requires seats { (seats ≡ words.now.key.seats) × (0 < seats) }
     requires back { IsOne seat.old.me.0 × ((the seat.old.me.0).place ≡ at.Back Next.Entry (home_at (the seat.old.me.0).place)) }
-    ensures table { (seat.new.table_id ≡ seat.old.table_id) × (seat.new.id ≡ seat.old.id) }
+    ensures table { IsSameSeat seat.old seat.new }
     ensures step { HandsOnWithin 2 seat.old.me seat.new.me }
 {
     let found = steps::drop_ticket(words, seat);

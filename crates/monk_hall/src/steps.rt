@@ -9,7 +9,7 @@ ghost use Rattle.monk_hall.specs.Changes.{record_after_floor_out, record_after_f
 ghost use Rattle.monk_hall.specs.Floors.{Finds};
 ghost use Rattle.monk_hall.specs.Layout.{ticket_word, seat_word};
 ghost use Rattle.monk_hall.specs.Records.{IsOne, the};
-ghost use Rattle.monk_hall.specs.Tells.{TellsArrive, TellsTicketLook, TellsSeatLook, TellsPeek, TellsDrop, Returns, IsSized};
+ghost use Rattle.monk_hall.specs.Tells.{TellsArrive, TellsTicketLook, TellsSeatLook, TellsPeek, TellsDrop, Returns, IsOfTable, IsSameSeat};
 
 use crate::plays::{
     ArriveStep, DropStep, FloorInStep, FloorOutStep, GrantStep, PeekStep, SeatLookStep,
@@ -43,9 +43,9 @@ pub(crate) fn arrive<K: Kind, T: Guarded>(
     words: &SharedTable<K, T>,
     seat: &mut TableSeat<K, T>,
 ) -> u64
-    requires table { (seat.old.table_id ≡ words.now.table_id) × IsSized words.now.table_id words.now.key.seats }
+    requires table { IsOfTable seat.old words.now.table_id words.now.key.seats }
     requires idle { IsOne seat.old.me.0 × ((the seat.old.me.0).place ≡ Idle) × (length (the seat.old.me.0).mine + 2 ≤ (the seat.old.me.0).setting.budget) }
-    ensures table { (seat.new.table_id ≡ seat.old.table_id) × (seat.new.id ≡ seat.old.id) }
+    ensures table { IsSameSeat seat.old seat.new }
     ensures step { TellsArrive seat.old.me result seat.new.me }
 {
     words.fetch_add::<ArriveStep>(seat, 0, ARRIVAL)
@@ -58,9 +58,10 @@ pub(crate) fn ticket_look<K: Kind, T: Guarded>(
     seats: u8,
     number: u32,
 ) -> u64
-    requires table { (seat.old.table_id ≡ words.now.table_id) × IsSized words.now.table_id words.now.key.seats × (seats ≡ words.now.key.seats) × (0 < seats) }
+    requires table { IsOfTable seat.old words.now.table_id words.now.key.seats }
+    requires seats { (seats ≡ words.now.key.seats) × (0 < seats) }
     requires waits { IsOne seat.old.me.0 × (stage (the seat.old.me.0).place ≡ ticketed_stage) × (number ≡ ticket (the seat.old.me.0).place) }
-    ensures table { (seat.new.table_id ≡ seat.old.table_id) × (seat.new.id ≡ seat.old.id) }
+    ensures table { IsSameSeat seat.old seat.new }
     ensures step { TellsTicketLook seat.old.me result seat.new.me }
 {
     let place = ticket_word(seats, number);
@@ -73,9 +74,10 @@ pub(crate) fn seat_look<K: Kind, T: Guarded>(
     seat: &mut TableSeat<K, T>,
     number: u8,
 ) -> u64
-    requires table { (seat.old.table_id ≡ words.now.table_id) × IsSized words.now.table_id words.now.key.seats × (number < words.now.key.seats) }
+    requires table { IsOfTable seat.old words.now.table_id words.now.key.seats }
+    requires near { number < words.now.key.seats }
     requires parked { IsOne seat.old.me.0 × (stage (the seat.old.me.0).place ≡ inside_stage) × (number ≡ (the seat.old.me.0).seat) }
-    ensures table { (seat.new.table_id ≡ seat.old.table_id) × (seat.new.id ≡ seat.old.id) }
+    ensures table { IsSameSeat seat.old seat.new }
     ensures step { TellsSeatLook seat.old.me result seat.new.me }
 {
     let place = seat_word(number);
@@ -87,9 +89,9 @@ pub(crate) fn peek<K: Kind, T: Guarded>(
     words: &SharedTable<K, T>,
     seat: &mut TableSeat<K, T>,
 ) -> u64
-    requires table { (seat.old.table_id ≡ words.now.table_id) × IsSized words.now.table_id words.now.key.seats }
+    requires table { IsOfTable seat.old words.now.table_id words.now.key.seats }
     requires active { IsOne seat.old.me.0 × (stage (the seat.old.me.0).place ≡ active_stage) }
-    ensures table { (seat.new.table_id ≡ seat.old.table_id) × (seat.new.id ≡ seat.old.id) }
+    ensures table { IsSameSeat seat.old seat.new }
     ensures step { TellsPeek seat.old.me result seat.new.me }
 {
     words.load::<PeekStep>(seat, 0)
@@ -100,9 +102,9 @@ pub(crate) fn floor_out<K: Kind, T: Guarded>(
     words: &SharedTable<K, T>,
     seat: &mut TableSeat<K, T>,
 ) -> Floor<K, T>
-    requires table { (seat.old.table_id ≡ words.now.table_id) × IsSized words.now.table_id words.now.key.seats }
+    requires table { IsOfTable seat.old words.now.table_id words.now.key.seats }
     requires due { IsOne seat.old.me.0 × (seat.old.me.1 ≡ []) × (stage (the seat.old.me.0).place ≡ due_stage) }
-    ensures table { (seat.new.table_id ≡ seat.old.table_id) × (seat.new.id ≡ seat.old.id) }
+    ensures table { IsSameSeat seat.old seat.new }
     ensures seat { seat.new.me ≡ (record_after_floor_out (the seat.old.me.0) result.history ∷ [], (0, None) ∷ []) }
     ensures finds { Finds K.rules T.meaning (the seat.old.me.0) result }
 {
@@ -116,10 +118,10 @@ pub(crate) fn floor_in<K: Kind, T: Guarded>(
     seat: &mut TableSeat<K, T>,
     floor: Floor<K, T>,
 )
-    requires table { (seat.old.table_id ≡ words.now.table_id) × IsSized words.now.table_id words.now.key.seats }
+    requires table { IsOfTable seat.old words.now.table_id words.now.key.seats }
     requires active { IsOne seat.old.me.0 × (seat.old.me.1 ≡ (0, None) ∷ []) × (stage (the seat.old.me.0).place ≡ active_stage) }
     requires returns { Returns K.rules T.meaning (the seat.old.me.0) floor }
-    ensures table { (seat.new.table_id ≡ seat.old.table_id) × (seat.new.id ≡ seat.old.id) }
+    ensures table { IsSameSeat seat.old seat.new }
     ensures step { seat.new.me ≡ (record_after_floor_in (the seat.old.me.0) floor.history ∷ [], []) }
 {
     let spare = words.exchange(seat, 0, Some(floor));
@@ -135,9 +137,9 @@ pub(crate) fn drop_ticket<K: Kind, T: Guarded>(
     words: &SharedTable<K, T>,
     seat: &mut TableSeat<K, T>,
 ) -> u64
-    requires table { (seat.old.table_id ≡ words.now.table_id) × IsSized words.now.table_id words.now.key.seats }
+    requires table { IsOfTable seat.old words.now.table_id words.now.key.seats }
     requires back { IsOne seat.old.me.0 × ((the seat.old.me.0).place ≡ Back Next.Entry (home_at (the seat.old.me.0).place)) }
-    ensures table { (seat.new.table_id ≡ seat.old.table_id) × (seat.new.id ≡ seat.old.id) }
+    ensures table { IsSameSeat seat.old seat.new }
     ensures step { TellsDrop seat.old.me result seat.new.me }
 {
     words.fetch_sub::<DropStep>(seat, 0, 1)
@@ -150,9 +152,10 @@ pub(crate) fn ticket_grant<K: Kind, T: Guarded>(
     seats: u8,
     number: u32,
 )
-    requires table { (seat.old.table_id ≡ words.now.table_id) × IsSized words.now.table_id words.now.key.seats × (seats ≡ words.now.key.seats) × (0 < seats) }
+    requires table { IsOfTable seat.old words.now.table_id words.now.key.seats }
+    requires seats { (seats ≡ words.now.key.seats) × (0 < seats) }
     requires passing { IsOne seat.old.me.0 × (stage (the seat.old.me.0).place ≡ passing_stage) × (number ≡ ticket (the seat.old.me.0).place) }
-    ensures table { (seat.new.table_id ≡ seat.old.table_id) × (seat.new.id ≡ seat.old.id) }
+    ensures table { IsSameSeat seat.old seat.new }
     ensures step { seat.new.me ≡ (record_after_grant (the seat.old.me.0) ∷ [], seat.old.me.1) }
 {
     let place = ticket_word(seats, number);
@@ -168,9 +171,10 @@ pub(crate) fn seat_grant<K: Kind, T: Guarded>(
     called: u8,
     calls: u32,
 )
-    requires table { (seat.old.table_id ≡ words.now.table_id) × IsSized words.now.table_id words.now.key.seats × (called < words.now.key.seats) }
+    requires table { IsOfTable seat.old words.now.table_id words.now.key.seats }
+    requires near { called < words.now.key.seats }
     requires back { IsOne seat.old.me.0 × (back_turn (the seat.old.me.0).place ≡ due_to called) × (calls ≡ granted_of (the seat.old.me.0).seen called) }
-    ensures table { (seat.new.table_id ≡ seat.old.table_id) × (seat.new.id ≡ seat.old.id) }
+    ensures table { IsSameSeat seat.old seat.new }
     ensures step { seat.new.me ≡ (record_after_grant (the seat.old.me.0) ∷ [], seat.old.me.1) }
 {
     let place = seat_word(called);

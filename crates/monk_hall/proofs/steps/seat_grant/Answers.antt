@@ -11,7 +11,7 @@ store-requires g c =
     let back = c.requires.back in
     let sized = c.requires.table.1.0 in
     let key = c.args.words.now.key in
-    let low = c.requires.table.2 in (
+    let low = c.requires.near in (
       c.requires.table.0,
       (let e = c.seat_word-place.ensures in omega arith),
       subst (λ (p : ℕ). Allows (IsHall g.K.Kind.rules g.T.Guarded.meaning (setting_of (g.T.Guarded.state key.opening.value) key.seats key.conds key.budget)) c.args.words.now.table_id.slots c.args.seat.now.id c.args.seat.now.me p (λ _. c.args.calls) (λ _. TellsGrant c.args.seat.now.me c.args.calls)) (sym c.seat_word-place.ensures)

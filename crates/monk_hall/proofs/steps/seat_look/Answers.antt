@@ -12,7 +12,7 @@ load-requires g c =
     let parked = c.requires.parked in
     let sized = c.requires.table.1.0 in
     let key = c.args.words.now.key in
-    let low = c.requires.table.2 in
+    let low = c.requires.near in
     let word : seat_word (the c.args.seat.now.me.0).seat ≡ c.seat_word-place.result = sym (c.seat_word-place.ensures ∙ ap seat_word parked.2) in (
       c.requires.table.0,
       (let e = c.seat_word-place.ensures in omega arith),

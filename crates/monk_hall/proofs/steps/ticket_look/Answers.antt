@@ -13,8 +13,8 @@ load-requires g c =
     let waits = c.requires.waits in
     let sized = c.requires.table.1.0 in
     let key = c.args.words.now.key in
-    let seats : c.args.seats ≡ key.seats = c.requires.table.2 in
-    let some = c.requires.table.3 in
+    let seats : c.args.seats ≡ key.seats = c.requires.seats.0 in
+    let some = c.requires.seats.1 in
     let low : c.args.number % c.args.seats < c.args.seats = mod-lt c.args.number some in
     let word : place_word (ticket (the c.args.seat.now.me.0).place % key.seats) ≡ c.ticket_word-place.result = sym (c.ticket_word-place.ensures ∙ (λ i. place_word (waits.2 i % seats i))) in (
       c.requires.table.0,
