@@ -13,7 +13,8 @@ use Rattle.first_monitor.proofs.audited.Goals as goal
 
 -- what is legal for a floor is legal for the monitor that a header of its kind, object and numbers names
 as_headed : (h : Heading) (f : FloorView) (history : List Event) → f.opening ≡ opening_named h.object h.size → f.seats ≡ h.seats
-    → f.conds ≡ h.conds → IsLegal (monitor_of (rules_named h.kind) (meaning_named h.object) f) history → IsLegal (named.monitor_of h) history
+    → f.conds ≡ h.conds → IsLegal (monitor_of (rules_named h.kind) (meaning_named h.object) f) history
+    → IsLegal (named.monitor_of h) history
 as_headed h f history opening seats conds legal = rw (opening, seats, conds) at legal
 
 pub returns : goal.returns
