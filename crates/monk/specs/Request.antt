@@ -57,7 +57,7 @@ abbrev pub IsSubcommand : Command → App → Type 0
 IsSubcommand c a = (old new : Command) → AddsSubcommand old c new → app_of new ≡ with_subcommand (app_of old) a.top
 
 abbrev pub bare_app : App
-bare_app = record (new_app (codes "monk")) { top = record (new_app (codes "monk")).top { subcommand_required = true } }
+bare_app = record (new_app (codes "monk")) { top = record (new_app (codes "monk")).top { has_version = true; subcommand_required = true } }
 
 abbrev pub monk_app : NameList → NameList → App
 monk_app k s =

@@ -63,6 +63,7 @@ fn words_that_ask_for_nothing(rt: HostRuntime) {
     assert!(rt; is_refused(alloc, &["monk", "adit"]));
     assert!(rt; is_refused(alloc, &["monk", "help"]));
     assert!(rt; is_refused(alloc, &["monk", "--help"]));
+    assert!(rt; is_refused(alloc, &["monk", "--version"]));
     assert!(rt; is_refused(alloc, &["monk"]));
     assert!(rt; is_refused(alloc, &["monk", "audit", "a", "b"]));
     assert!(rt; is_refused(alloc, &["monk", "play", "a", "b"]));

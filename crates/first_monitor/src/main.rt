@@ -1,0 +1,85 @@
+//! Your first monitor: two threads share a buffer, and an auditor judges what they did.
+//!
+//! A hall is a monitor for running threads. It guards an object, here a buffer of one item, and has a seat for each thread. A
+//! thread holds its seat by a pass: `put` and `take` go in by it, wait until they can do their work, and give it back.
+//! When the threads have ended, a pass comes in a last time and closes the hall, which gives the history of all that was done.
+#![tactic(auto)]
+
+ghost use Rattle.std.specs.Prelude.{◌≡◌, ℕ, IfOk, [], ◌∷◌};
+ghost use Rattle.monk_audit.specs.declared.verdict.Verdict.TheVariants.{Legal};
+ghost use Rattle.monk_hall.specs.Rule.{setting_of};
+
+use anyhow::anyhow;
+use monk_audit::{Verdict, audit};
+use monk_hall::{Busy, Hall, Pass, close};
+use monk_history::Header;
+use monk_kinds::{KindName, Pb, Pick};
+use monk_object::{Buffer, ObjectName};
+use monk_samples::{put, take};
+use std::alloc::Global;
+use std::thread;
+
+/// How many items the buffer holds.
+const SIZE: u8 = 1;
+
+/// The threads that may come in.
+const SEATS: u8 = 2;
+
+/// What a thread can wait for: that there is room, and that an item is there.
+const CONDITIONS: u8 = 2;
+
+/// How many events the history has room for.
+const BUDGET: u32 = 64;
+
+fn main(rt: HostRuntime) -> anyhow::Result<()> {
+    let alloc = rt.alloc();
+    let buffer = Buffer::make(alloc, SIZE)?;
+    let (hall, mut passes) = Hall::<Pb, Buffer>::make(alloc, buffer, SEATS, CONDITIONS, BUDGET)?;
+    // There is a pass for each seat.
+    let (Some(taker), Some(putter)) = (passes.pop(), passes.pop()) else {
+        unreachable!()
+    };
+    let ((pass, _), (_, item, _)) = thread::join(
+        &rt,
+        || put(putter, &rt, &hall, 7),
+        || take(taker, &rt, &hall),
+    );
+    let item = item.ok_or_else(|| anyhow!("the buffer gave no item"))?;
+    println!(rt; "item {item}")?;
+    match audited(alloc, hall, pass)? {
+        Verdict::Legal(_) => println!(rt; "legal")?,
+        // What `audited` ensures is that this can't be.
+        Verdict::Forbidden { .. } => unreachable!(),
+    }
+    Ok(())
+}
+
+/// Closes the hall by this pass, and audits its history under the same kind: it is legal, whatever the threads did.
+fn audited(alloc: Global, hall: Hall<Pb, Buffer>, pass: Pass<Pb, Buffer>) -> anyhow::Result<Verdict>
+    requires hall { pass.hall ≡ hall.id }
+    requires setting { pass.me.setting ≡ setting_of (1 ∷ []) 2 2 64 }
+    ensures { IfOk result (λ v. (n : ℕ) × (v ≡ Legal n)) }
+{
+    // To come in and to leave are two events.
+    if pass.left() < 2 {
+        return Err(anyhow!("tired"));
+    }
+    // A seat that is inside or waits can't be dropped: it leaves, or gives up its place.
+    let active = match pass.arrive(&hall).poll(&hall) {
+        Ok(active) => active,
+        Err(parked) => {
+            parked.give_up();
+            return Err(anyhow!("late"));
+        }
+    };
+    let closed = match close(hall, active) {
+        Ok(closed) => closed,
+        Err(Busy { hall, active }) => {
+            active.leave(&hall, Pick::Entry);
+            return Err(anyhow!("busy"));
+        }
+    };
+    let header = Header::new(KindName::Pb, SEATS, CONDITIONS, ObjectName::Buffer, SIZE);
+    let Some(header) = header else { unreachable!() };
+    Ok(audit(alloc, &header, &closed.history)?)
+}
