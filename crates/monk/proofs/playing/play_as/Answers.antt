@@ -1,4 +1,4 @@
-use Rattle.monk_world.specs.Words.{state_of}
+use Rattle.monk_world.specs.Board.{state_of}
 use Rattle.monk.proofs.PlayExact.{led_to}
 use Rattle.monk.proofs.playing.play_as.Goals as goal
 
