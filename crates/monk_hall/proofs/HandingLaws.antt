@@ -28,8 +28,8 @@ use Rattle.monk_hall.specs.Changes.{record_after_floor_in, back_after, home_at, 
 use Rattle.monk_hall.specs.Handing.{seat_called_by, HasRecordedRelease, HasGone}
 use Rattle.monk_hall.specs.Layout.{floor_of, word_count}
 use Rattle.monk_hall.specs.Records.{the, IsOne}
-use Rattle.monk_hall.specs.Tells.{Me, Returns, IsReleaseTo}
-use Rattle.monk_hall.specs.Tokens.{IsSeated, IsResting, IsTold, IsWaiting}
+use Rattle.monk_hall.specs.Tells.{Me, Returns, IsReleaseTo, SeesTruly}
+use Rattle.monk_hall.specs.Tokens.{IsSeated, IsResting, IsWaiting}
 use Rattle.monk_hall.specs.declared.record.SeatRecord.{SeatRecord}
 use Rattle.monk_hall.proofs.Releasing.{back_is, said}
 use Rattle.monk_hall.proofs.TokenLaws.{own_longer}

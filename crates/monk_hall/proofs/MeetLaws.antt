@@ -271,7 +271,12 @@ compares k o c slots id me two idle_a idle_b s h wide view small =
       tt,
       subst (λ (ws : List ℕ). IsHall k o c record { words = ws; homes = s.homes; views = set s.views id (a2 ∷ b2 ∷ []) }) (sym (set-get_or s.words 0 0))
           (put (put at a.seat a2) b.seat b2, shown_two c s.views at h.1 id a b a2 b2 here refl refl refl refl, both_kept),
-      (refl, one, truly both part a (ap (λ (x : SeatRecord). x.setting) (sym ia.0) ∙ h.1.settings a.seat) all_a, truly both part b (ap (λ (x : SeatRecord). x.setting) (sym ib.0) ∙ h.1.settings b.seat) all_b),
+      (
+        refl,
+        one,
+        (let t = truly both part a (ap (λ (x : SeatRecord). x.setting) (sym ia.0) ∙ h.1.settings a.seat) all_a in record { legal = t.0; own = t.1 }),
+        (let t = truly both part b (ap (λ (x : SeatRecord). x.setting) (sym ib.0) ∙ h.1.settings b.seat) all_b in record { legal = t.0; own = t.1 }),
+      ),
     )
   where
     truly : (g : List Event) → StartsWith h.2.past g → (r : SeatRecord) → r.setting ≡ c → events_of g r.seat ≡ r.mine → IsLegal (monitor_of k o (floor_of r.setting g)) g × (events_of g r.seat ≡ r.mine)
@@ -395,7 +400,7 @@ met_rests k o y z v number left calls r views old idle table seat setting place 
           counted = old.seated.counted ∙ sym count;
         };
         spent = ap (λ (es : List Event). left + length es) mine ∙ old.spent ∙ ap (λ (x : Setting). x.budget) (sym setting);
-        told = record { legal = truly.0; own = truly.1 };
+        told = truly;
       },
       place ∙ idle,
     )

@@ -41,8 +41,8 @@ use Rattle.monk_hall.specs.Handing.{HasRecordedRelease, HasGone}
 use Rattle.monk_hall.specs.Recorded.{IsRelease, HasRecorded}
 use Rattle.monk_hall.specs.Layout.{word_count}
 use Rattle.monk_hall.specs.Records.{the, IsOne}
-use Rattle.monk_hall.specs.Tells.{Me, TellsPeek, Returns, IsReleaseTo}
-use Rattle.monk_hall.specs.Tokens.{Token, Holder, IsSeated, IsHolding, IsTold, with_own, holder}
+use Rattle.monk_hall.specs.Tells.{Me, TellsPeek, Returns, IsReleaseTo, SeesTruly}
+use Rattle.monk_hall.specs.Tokens.{Token, Holder, IsSeated, IsHolding, with_own, holder}
 use Rattle.monk_hall.specs.declared.record.SeatRecord.{SeatRecord}
 use Rattle.monk_hall.proofs.Private.{own_event}
 use Rattle.monk_hall.proofs.Releasing.{said}
@@ -144,7 +144,7 @@ module _ {k : Rules} {o : Object} {z : TableId} {me : Me} {number calls : ℕ} {
   }
 
   pub released : IsHolding k o z me number calls f → IsRelease k o (the me.0) f call wish known choice to g → is_stay (Some choice) ≡ false
-      → (p : Token) → p.hall ≡ z → HasGone (the me.0) g.history to p.me → IsTold k o p.me → HasReleased k o (holder z (the me.0) f) call wish to 0 p
+      → (p : Token) → p.hall ≡ z → HasGone (the me.0) g.history to p.me → SeesTruly k o p.me → HasReleased k o (holder z (the me.0) f) call wish to 0 p
   released h x away p hall gone told =
       let r = the me.0 in let history = ap (λ (y : FloorView). y.history) x.is_grown.grown in let is_known = ap (λ w. w.known) gone.is in let few = gone.few in let steps = ap (λ w. w.steps) gone.is in record {
         choice = choice;
@@ -200,7 +200,7 @@ module _ {k : Rules} {o : Object} {z : TableId} {me : Me} {number calls : ℕ} {
 
   -- what is told of a release with the active seat's own number
   pub released_of : {wish : Pick} {known : Bool} {choice : Next} {to : Home} {g : FloorView} → (call : ℕ → Event) → IsHolding k o z me number calls f → IsRelease k o (the me.0) f (call number) wish known choice to g → is_stay (Some choice) ≡ false
-      → (p : Token) → p.hall ≡ z → HasGone (the me.0) g.history to p.me → IsTold k o p.me → (a : Holder) → holder z (the me.0) f ≡ a → HasReleased k o a (call a.me.seat) wish to 0 p
+      → (p : Token) → p.hall ≡ z → HasGone (the me.0) g.history to p.me → SeesTruly k o p.me → (a : Holder) → holder z (the me.0) f ≡ a → HasReleased k o a (call a.me.seat) wish to 0 p
   released_of {wish} {known} {choice} {to} {g} call h x away p hall gone told a is =
       subst (λ (b : Holder). HasReleased k o b (call b.me.seat) wish to 0 p) is
       (subst (λ n. HasReleased k o (holder z (the me.0) f) (call n) wish to 0 p) (sym h.seated.is_seat) (released h x away p hall gone told))

@@ -29,8 +29,8 @@ use Rattle.monk_hall.specs.Changes.{record_after_arrive, record_after_ticket_loo
 use Rattle.monk_hall.specs.Floors.{Finds, GoesOn, IsPrivate, ArePrivate}
 use Rattle.monk_hall.specs.Layout.{floor_of, tickets, unpassed}
 use Rattle.monk_hall.specs.Records.{View, the, IsOne}
-use Rattle.monk_hall.specs.Tells.{Me, TellsArrive}
-use Rattle.monk_hall.specs.Tokens.{Token, Holder, IsSeated, IsTold, IsResting, IsHolding, IsWaiting, with_own, holder}
+use Rattle.monk_hall.specs.Tells.{Me, TellsArrive, SeesTruly}
+use Rattle.monk_hall.specs.Tokens.{Token, Holder, IsSeated, IsResting, IsHolding, IsWaiting, with_own, holder}
 use Rattle.monk_hall.specs.declared.record.SeatRecord.{SeatRecord}
 
 -- a seat's own event is one more of its own
@@ -71,7 +71,7 @@ answered_waits false = tt
 
 module _ {k : Rules} {o : Object} where
   -- a record that differs where it stands, and in what it has counted
-  pub told_moved : (r w : SeatRecord) → IsTold k o r → w.seat ≡ r.seat → w.setting ≡ r.setting → w.seen ≡ r.seen → w.mine ≡ r.mine → IsTold k o w
+  pub told_moved : (r w : SeatRecord) → SeesTruly k o r → w.seat ≡ r.seat → w.setting ≡ r.setting → w.seen ≡ r.seen → w.mine ≡ r.mine → SeesTruly k o w
   told_moved r w t seat setting seen mine = record {
     legal = subst (λ z. IsLegal (monitor_of k o (floor_of z w.seen)) w.seen) (sym setting) (subst (λ h. IsLegal (monitor_of k o (floor_of r.setting h)) h) (sym seen) t.legal);
     own = (λ i. events_of (seen i) (seat i)) ∙ (t.own ∙ sym mine);

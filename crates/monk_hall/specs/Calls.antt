@@ -27,7 +27,8 @@ use Rattle.monk_world.specs.declared.source.Source.TheVariants.{Free, Granted, C
 use Rattle.monk_hall.specs.Changes.{record_after_arrive}
 use Rattle.monk_hall.specs.Floors.{StartsWith}
 use Rattle.monk_hall.specs.Layout.{tickets, floor_of}
-use Rattle.monk_hall.specs.Tokens.{Token, Holder, IsTold}
+use Rattle.monk_hall.specs.Tells.{SeesTruly}
+use Rattle.monk_hall.specs.Tokens.{Token, Holder}
 use Rattle.monk_hall.specs.declared.record.SeatRecord.{SeatRecord}
 
 -- it draws a ticket, with a number not below the enters that it has seen
@@ -36,7 +37,7 @@ pub record HasArrived (k : Rules) (o : Object) (p q : Token) : Type 0 where
   pub hall : q.hall ≡ p.hall
   pub me : q.me ≡ record_after_arrive p.me found
   pub enters : enters_of p.me.seen ≤ tickets found
-  pub told : IsTold k o q.me
+  pub told : SeesTruly k o q.me
 
 -- how a seat comes to the right that waits there
 abbrev pub source_from : Place → Source
@@ -96,7 +97,7 @@ pub record HasEntered (k : Rules) (o : Object) (p : Token) (a : Holder) : Type 0
 pub record StillWaits (k : Rules) (o : Object) (p q : Token) : Type 0 where
   pub hall : q.hall ≡ p.hall
   pub me : q.me ≡ record p.me { looks = suc p.me.looks; steps = suc p.me.steps }
-  pub told : IsTold k o q.me
+  pub told : SeesTruly k o q.me
 
 -- a wish for entry wants to know whether somebody waits for it
 abbrev pub wants_entry : Pick → Bool
@@ -143,7 +144,7 @@ pub record HasReleased (k : Rules) (o : Object) (a : Holder) (call : Event) (wis
   pub looks : p.me.looks ≡ a.me.looks + peeks
   pub steps : p.me.steps ≤ a.me.steps + peeks + 3
   pub remembers : Remembers a.me p.me
-  pub told : IsTold k o p.me
+  pub told : SeesTruly k o p.me
 
 -- the seat has stayed active by this release, since the wish rules chose so
 pub record HasStayed (k : Rules) (o : Object) (a : Holder) (call : Event) (wish : Pick) (peeks : ℕ) (b : Holder) : Type 0 where

@@ -68,8 +68,9 @@ abbrev pub AreOne : List Event → List Event → Type 0
 AreOne a b = StartsWith a b ⊎ StartsWith b a
 
 -- what a seat has seen is legal, and its own events there are those that it knows as its own
-abbrev pub SeesTruly : Rules → Object → SeatRecord → Type 0
-SeesTruly k o r = IsLegal (monitor_of k o (floor_of r.setting r.seen)) r.seen × (events_of r.seen r.seat ≡ r.mine)
+pub record SeesTruly (k : Rules) (o : Object) (r : SeatRecord) : Type 0 where
+  pub legal : IsLegal (monitor_of k o (floor_of r.setting r.seen)) r.seen
+  pub own : events_of r.seen r.seat ≡ r.mine
 
 abbrev pub TellsCompare : Rules → Object → Me → ℕ → Me → Type 0
 TellsCompare k o me found new = (new ≡ (view_after_compare me.0, me.1)) × AreOne (the me.0).seen (the (tail me.0)).seen × SeesTruly k o (the new.0) × SeesTruly k o (the (tail new.0))

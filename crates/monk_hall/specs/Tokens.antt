@@ -13,7 +13,7 @@ use Rattle.monk_world.specs.declared.place.Place.TheVariants.{Idle, Ticket, Due,
 use Rattle.monk_hall.specs.Floors.{GoesOn}
 use Rattle.monk_hall.specs.Layout.{word_count, floor_of}
 use Rattle.monk_hall.specs.Records.{View, IsOne, the, first_view}
-use Rattle.monk_hall.specs.Tells.{Me}
+use Rattle.monk_hall.specs.Tells.{Me, SeesTruly}
 use Rattle.monk_hall.specs.declared.record.SeatRecord.{SeatRecord}
 use Rattle.monk_hall.specs.declared.setting.Setting.{Setting}
 
@@ -58,18 +58,13 @@ pub record IsSeated (z : TableId) (r : SeatRecord) (number calls : ℕ) : Type 0
   pub sized : z.words ≡ word_count r.setting.seats
   pub counted : calls ≡ r.count
 
--- what a seat has seen is legal, and its own events there are those that it knows as its own
-pub record IsTold (k : Rules) (o : Object) (r : SeatRecord) : Type 0 where
-  pub legal : IsLegal (monitor_of k o (floor_of r.setting r.seen)) r.seen
-  pub own : events_of r.seen r.seat ≡ r.mine
-
 -- a seat without the floor, and with so many events left
 pub record IsResting (k : Rules) (o : Object) (z : TableId) (me : Me) (number left calls : ℕ) : Type 0 where
   pub one : IsOne me.0
   pub free : me.1 ≡ []
   pub seated : IsSeated z (the me.0) number calls
   pub spent : left + length (the me.0).mine ≡ (the me.0).setting.budget
-  pub told : IsTold k o (the me.0)
+  pub told : SeesTruly k o (the me.0)
 
 -- a seat with the floor, from which it can still go out
 pub record IsHolding (k : Rules) (o : Object) (z : TableId) (me : Me) (number calls : ℕ) (f : FloorView) : Type 0 where

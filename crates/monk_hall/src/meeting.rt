@@ -1,8 +1,8 @@
 //! How two seats tell each other what they have seen.
 ghost use Rattle.std.specs.Prelude.{◌≡◌, ℕ, suc, [], ◌∷◌};
 ghost use Rattle.monk_hall.specs.Changes.{longer};
-ghost use Rattle.monk_hall.specs.Tells.{AreOne};
-ghost use Rattle.monk_hall.specs.Tokens.{top, IsTold};
+ghost use Rattle.monk_hall.specs.Tells.{AreOne, SeesTruly};
+ghost use Rattle.monk_hall.specs.Tokens.{top};
 
 use crate::hall::Hall;
 use crate::pass::Pass;
@@ -29,7 +29,7 @@ pub fn meet<K: Kind, T: Guarded>(hall: &Hall<K, T>, a: &mut Pass<K, T>, b: &mut 
     ensures one { AreOne a.old.me.seen b.old.me.seen }
     ensures first { a.new ≡ record a.old { me = record a.old.me { seen = longer a.old.me.seen b.old.me.seen; steps = suc a.old.me.steps } } }
     ensures second { b.new ≡ record b.old { me = record b.old.me { seen = longer a.old.me.seen b.old.me.seen; steps = suc b.old.me.steps } } }
-    ensures told { IsTold K.rules T.meaning a.new.me × IsTold K.rules T.meaning b.new.me }
+    ensures told { SeesTruly K.rules T.meaning a.new.me × SeesTruly K.rules T.meaning b.new.me }
 {
     let words = &hall.table.shared;
     let mut first: TableSeat<K, T> = lift::<K, T>(&mut a.badge);

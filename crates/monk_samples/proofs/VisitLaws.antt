@@ -11,7 +11,8 @@ use Rattle.monk_history.specs.declared.event.Event.TheVariants.{Leave, Wait, Sig
 use Rattle.monk_history.specs.declared.event.Next.TheVariants.{Stay}
 use Rattle.monk_world.specs.declared.home.Home.{Home}
 use Rattle.monk_hall.specs.Calls.{HasReleased}
-use Rattle.monk_hall.specs.Tokens.{Token, Holder, IsTold}
+use Rattle.monk_hall.specs.Tells.{SeesTruly}
+use Rattle.monk_hall.specs.Tokens.{Token, Holder}
 use Rattle.monk_samples.specs.Styles.{HasFinished, HasGivenUp, HasPaused, IsSpent, pause_call, way_out}
 use Rattle.monk_samples.specs.Trails.{Trail, HasActed, HasCalled, inside, outside}
 use Rattle.monk_samples.specs.Visits.{Duty, AreActsOf, AreActsBy, HasVisited, HasTired, HasLeftTired}
@@ -74,7 +75,7 @@ module _ (k : Rules) (o : Object) where
   finished_spent a calls q Tired out e = out.1.spent
   finished_spent a calls q Late out e = absurd out
 
-  pub finished_told : (a : Holder) (calls : List Event) (q : Token) (end : End) → HasFinished k o a calls q end → IsTold k o q.me
+  pub finished_told : (a : Holder) (calls : List Event) (q : Token) (end : End) → HasFinished k o a calls q end → SeesTruly k o q.me
   finished_told a calls q Done out = out.told
   finished_told a calls q Tired out = out.1.told
   finished_told a calls q Late out = absurd out

@@ -9,7 +9,8 @@ use Rattle.monk_history.specs.Meaning.Signallers.{is_empty}
 use Rattle.monk_history.specs.declared.event.Event.{Event}
 use Rattle.monk_history.specs.declared.event.Event.TheVariants.{Leave, Wait, Signal, SignalLeave, Until}
 use Rattle.monk_history.specs.declared.event.Next.TheVariants.{Stay}
-use Rattle.monk_hall.specs.Tokens.{Token, Holder, IsTold}
+use Rattle.monk_hall.specs.Tells.{SeesTruly}
+use Rattle.monk_hall.specs.Tokens.{Token, Holder}
 use Rattle.monk_hall.specs.declared.setting.Setting.{Setting}
 use Rattle.monk_samples.specs.Trails.{HasCalled, inside, outside}
 use Rattle.monk_samples.specs.declared.end.End.{End}
@@ -55,12 +56,12 @@ pub record HasGivenUp (k : Rules) (o : Object) (a : Holder) (p : Token) : Type 0
   pub short : a.me.setting.budget < length a.me.mine + 3
   pub called : HasCalled (inside a) (outside p) (Leave a.me.seat Stay ∷ [])
   pub spent : IsSpent p
-  pub told : IsTold k o p.me
+  pub told : SeesTruly k o p.me
 
 -- the seat is out by these calls
 pub record HasGoneBy (k : Rules) (o : Object) (a : Holder) (calls : List Event) (p : Token) : Type 0 where
   pub called : HasCalled (inside a) (outside p) calls
-  pub told : IsTold k o p.me
+  pub told : SeesTruly k o p.me
 
 -- the seat is out by these calls, or tired without them: only a kind with a signaller queue wants more than the event
 -- that is always kept for the way out

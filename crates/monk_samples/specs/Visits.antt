@@ -4,7 +4,8 @@ use Rattle.monk_kinds.specs.declared.mode.Rules.{Rules}
 use Rattle.monk_object.specs.Object.{Object}
 use Rattle.monk_object.specs.Runs.{Answered}
 use Rattle.monk_object.specs.declared.op.Op.{Op}
-use Rattle.monk_hall.specs.Tokens.{Token, Holder, IsTold}
+use Rattle.monk_hall.specs.Tells.{SeesTruly}
+use Rattle.monk_hall.specs.Tokens.{Token, Holder}
 use Rattle.monk_samples.specs.Styles.{IsSpent}
 use Rattle.monk_samples.specs.Trails.{HasActed, inside, outside}
 use Rattle.monk_samples.specs.declared.end.End.{End}
@@ -41,19 +42,19 @@ pub record HasVisited (k : Rules) (o : Object) (p : Token) (duties : List Duty) 
   pub acted : HasActed (outside p) (outside q) acts
   pub made : AreActsBy end duties acts
   pub spent : end ≡ Tired → IsSpent q
-  pub told : IsTold k o p.me → IsTold k o q.me
+  pub told : SeesTruly k o p.me → SeesTruly k o q.me
 
 -- the seat was too tired to do anything, and is out
 pub record HasTired (k : Rules) (o : Object) (p q : Token) : Type 0 where
   pub acted : HasActed (outside p) (outside q) []
   pub spent : IsSpent q
-  pub told : IsTold k o p.me → IsTold k o q.me
+  pub told : SeesTruly k o p.me → SeesTruly k o q.me
 
 -- the active seat was too tired to do anything, and has left
 pub record HasLeftTired (k : Rules) (o : Object) (a : Holder) (q : Token) : Type 0 where
   pub acted : HasActed (inside a) (outside q) []
   pub spent : IsSpent q
-  pub told : IsTold k o q.me
+  pub told : SeesTruly k o q.me
 
 -- the item that a buffer's reply tells: one less than the reply, where that is an item
 abbrev pub item_of : ℕ → Option ℕ

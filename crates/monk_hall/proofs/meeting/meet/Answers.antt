@@ -4,7 +4,7 @@ use Rattle.monk_hall.specs.Changes.{view_after_join, view_after_compare}
 use Rattle.monk_hall.specs.Records.{View, IsOne, IsTwo, the, head, tail}
 use Rattle.monk_hall.specs.Rule.{setting_of}
 use Rattle.monk_hall.specs.Tells.{SeesTruly}
-use Rattle.monk_hall.specs.Tokens.{top, IsTold}
+use Rattle.monk_hall.specs.Tokens.{top}
 use Rattle.monk_hall.specs.declared.record.SeatRecord.{SeatRecord}
 use Rattle.monk_hall.proofs.MeetLaws.{meets, compares, parts_again, met_rests}
 use Rattle.monk_hall.proofs.meeting.meet.Goals as goal

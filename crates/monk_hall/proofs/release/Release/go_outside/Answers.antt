@@ -4,7 +4,8 @@ use Rattle.monk_world.specs.declared.home.Home.TheVariants as home
 use Rattle.monk_world.specs.declared.place.Place.TheVariants.{Idle}
 use Rattle.monk_hall.specs.Handing.{HasGone}
 use Rattle.monk_hall.specs.Records.{View, the}
-use Rattle.monk_hall.specs.Tokens.{IsResting, IsTold, top}
+use Rattle.monk_hall.specs.Tells.{SeesTruly}
+use Rattle.monk_hall.specs.Tokens.{IsResting, top}
 use Rattle.monk_hall.proofs.HandingLaws.{gone_rests, home_is}
 use Rattle.monk_hall.proofs.ReleaseLaws.{has_released, released_of}
 use Rattle.monk_hall.proofs.release.Release.go_outside.Goals as goal
@@ -34,6 +35,6 @@ returns g c a call wish known rec =
     let now = c.go_home.new.seat in let view = c.into_badge.ensures in
     let gone = subst (λ (to : Home). HasGone r c.args.self.floor.history to (the now.me.0)) (home_is x) c.go_home.ensures.gone in
     let rests = gone_rests x rec.holds.seated c.left-left.ensures c.into_badge.result.table_id now.me (view.0 ∙ c.go_home.ensures.table) gone c.go_home.ensures.view in
-    let told = subst (λ (vs : List View). IsTold g.K.Kind.rules g.T.Guarded.meaning (the (top vs))) (sym view.2) rests.0.told in
+    let told = subst (λ (vs : List View). SeesTruly g.K.Kind.rules g.T.Guarded.meaning (the (top vs))) (sym view.2) rests.0.told in
     let at_home = subst (λ (vs : List View). HasGone r c.args.self.floor.history home.Idle (the (top vs))) (sym view.2) gone in
     released_of call rec.holds rec.release c.requires.away _ (view.0 ∙ c.go_home.ensures.table) at_home told a rec.was
