@@ -7,8 +7,6 @@ use Rattle.std.specs.Prelude.{List}
 use Rattle.monk_world.specs.Places.{stage, back_turn, due_stage, active_stage, back_stage, passing_stage}
 use Rattle.monk_world.specs.Right.{With}
 use Rattle.monk_world.specs.State.{is_quiet}
-use Rattle.monk_world.specs.declared.place.Place.{Place}
-use Rattle.monk_world.specs.declared.place.Place.TheVariants.{Idle, Ticket, Due, Active, Back, Passing, Inner}
 use Rattle.monk_world.proofs.Holders.{held, has_right}
 use Rattle.monk_world.proofs.OnePlaceLaws.{in_one_place}
 use Rattle.monk_world.proofs.RunLaws.{well_led}
