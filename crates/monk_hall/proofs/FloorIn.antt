@@ -38,6 +38,7 @@ use Rattle.monk_world.specs.declared.place.Place.{Place}
 use Rattle.monk_world.specs.declared.place.Place.TheVariants.{Idle, Ticket, Due, Active, Back, Passing, Inner}
 use Rattle.monk_world.specs.declared.source.Source.{Source}
 use Rattle.monk_world.specs.declared.source.Source.TheVariants.{Free, Granted, Called}
+use Rattle.monk_world.proofs.Holders.{held}
 use Rattle.monk_world.proofs.PutLaws.{at_put, put_here}
 use Rattle.monk_world.proofs.TestLaws.{names_chosen}
 use Rattle.monk_hall.specs.Changes.{record_after_floor_in, source_at, back_after}
@@ -205,9 +206,9 @@ module _ (k : Rules) (o : Object) (c : Setting) (kind : IsKind k) (s : table.Sta
   alone j ne low high =
       let keeps = (stepping.sound k o c kind s h id r here).stands.keeps in
       let three = ap stage at_active in
-      let mine = keeps.held r.seat (omega arith) (omega arith) in
-      let other = keeps.held j low high in
-      ne (omega arith)
+      let mine = held keeps r.seat (omega arith) (omega arith) in
+      let other = held keeps j low high in
+      ne cc
 
   -- who was chosen how often, by the history that comes home
   before_counts : (m : ℕ) → granted_of before m ≡ granted_of past m

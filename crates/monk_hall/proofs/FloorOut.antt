@@ -33,6 +33,8 @@ use Rattle.monk_world.specs.declared.place.Place.TheVariants.{Due, Active}
 use Rattle.monk_world.specs.declared.source.Source.{Source}
 use Rattle.monk_world.specs.declared.source.Source.TheVariants.{Free, Granted, Called}
 use Rattle.monk_world.proofs.DoneLaws.{IsReady}
+use Rattle.monk_world.proofs.EntersLaws.{entered_here}
+use Rattle.monk_world.proofs.Holders.{held}
 use Rattle.monk_world.proofs.PutLaws.{at_put, put_here}
 use Rattle.monk_hall.specs.Changes.{record_after_floor_out, source_at}
 use Rattle.monk_hall.specs.Floors.{StartsWith, Finds}
@@ -74,9 +76,9 @@ module _ (k : Rules) (o : Object) (c : Setting) (kind : IsKind k) (s : table.Sta
   nobody j three =
       let keeps = (stepping.sound k o c kind s h id r here).stands.keeps in
       let two = ap stage at_due in
-      let mine = keeps.held r.seat (omega arith) (omega arith) in
-      let other = keeps.held j (omega arith) (omega arith) in
-      let same : j ≡ r.seat = omega arith in
+      let mine = held keeps r.seat (omega arith) (omega arith) in
+      let other = held keeps j (omega arith) (omega arith) in
+      let same : j ≡ r.seat = cc in
       let e = ap (λ (n : ℕ). stage (h.0 n).place) same in
       absurd (omega arith)
 
@@ -159,11 +161,9 @@ module _ (k : Rules) (o : Object) (c : Setting) (kind : IsKind k) (s : table.Sta
       let sound = kept_old.sound.is_sound in
       let at_q : (h.0 r.seat).place ≡ Due q = at_due ∙ ap Due q_is in
       let two = ap stage at_q in
-      let mine = sound.stands.keeps.held r.seat (omega arith) (omega arith) in
-      let e = sound.entered.with r.seat mine in
-      let u : used_at (h.0 r.seat).place ≡ 0 = ap used_at at_q ∙ unused in
+      let e = entered_here c.seats old.world kept_old.sound.right kept_old.sound.owner sound.stands.keeps (enters_of past) sound.entered r.seat (Due q) at_q (omega arith) (omega arith) in
       let s_is = ap source at_q in
-      let n = sound.stands.keeps.in_use r.seat two (omega arith) in
+      let n = sound.stands.keeps.tickets.in_use r.seat two (omega arith) in
       let t_is = ap ticket at_q ∙ number in
       omega arith
 

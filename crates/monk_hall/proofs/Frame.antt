@@ -12,9 +12,8 @@ use Rattle.monk_history.specs.declared.event.Event.{Event}
 use Rattle.monk_history.proofs.MeaningLaws.CountLaws.{events_of-push, enters_of-push}
 use Rattle.monk_world.specs.Enters.{FitsEnters, used_at}
 use Rattle.monk_world.specs.Kept.{IsKept}
-use Rattle.monk_world.specs.OnePlace.{Whereabouts, Nowhere, AtTicket, With, AtSeat}
 use Rattle.monk_world.specs.Places.{stage, active_stage}
-use Rattle.monk_world.specs.Right.{KeepsRight, with_seat, called}
+use Rattle.monk_world.specs.Right.{Whereabouts, Nowhere, AtTicket, With, AtSeat, KeepsRight}
 use Rattle.monk_world.specs.Sound.{IsSound}
 use Rattle.monk_world.specs.State.{State}
 use Rattle.monk_world.specs.StepTable.{IsDone, IsStep, IsAnswered, refusal, out_event, call_of, is_call_in_range, is_call_offered, may_be_told, left_for}
@@ -27,7 +26,7 @@ use Rattle.monk_world.specs.declared.place.Place.TheVariants.{Idle, Ticket, Due,
 use Rattle.monk_world.specs.declared.source.Source.{Source}
 use Rattle.monk_world.specs.declared.source.Source.TheVariants.{Free, Granted, Called}
 use Rattle.monk_world.proofs.DoneLaws.{IsReady, kept_done}
-use Rattle.monk_world.proofs.OnePlaceLaws.{numbered, number}
+use Rattle.monk_world.proofs.Holders.{held}
 use Rattle.monk_world.proofs.WorldLaws.{active_is}
 use Rattle.monk_hall.specs.Floors.{StartsWith}
 use Rattle.monk_hall.specs.Layout.{shown_world}
@@ -76,22 +75,19 @@ pub record IsActiveAt (w : World) (j : ℕ) : Type 0 where
   pub source : Source
   pub at : w.place j ≡ Active source
 
-pub who : (seats : ℕ) (w : World) (right : ℕ) (owner : ℕ → ℕ) → KeepsRight seats w right owner → ((j : ℕ) × IsActiveAt w j) ⊎ ((j : ℕ) → stage (w.place j) ≢ active_stage)
-who seats w right owner r = by_number (numbered 0 right).0 (numbered 0 right).1
+pub who : (seats : ℕ) (w : World) (right : Whereabouts) (owner : ℕ → ℕ) → KeepsRight seats w right owner → ((j : ℕ) × IsActiveAt w j) ⊎ ((j : ℕ) → stage (w.place j) ≢ active_stage)
+who seats w right owner r = by right (λ j three. held r j (omega arith) (omega arith))
   where
-    held_by : (x : Whereabouts) → right ≡ number x → ((j : ℕ) → stage (w.place j) ≡ active_stage → number x ≡ with_seat j)
-    held_by x is j three = sym is ∙ r.held j (omega arith) (omega arith)
-
     active_at : (j : ℕ) → (stage (w.place j) == active_stage) ≡ true → IsActiveAt w j
     active_at j e = let a = active_is (w.place j) e in record { source = a.source; at = a.is }
 
-    by_number : (x : Whereabouts) → right ≡ number x → ((j : ℕ) × IsActiveAt w j) ⊎ ((j : ℕ) → stage (w.place j) ≢ active_stage)
-    by_number Nowhere is = inr (λ j three. let e = held_by Nowhere is j three in absurd (omega arith))
-    by_number (AtTicket t) is = inr (λ j three. let e = held_by (AtTicket t) is j three in absurd (omega arith))
-    by_number (AtSeat m) is = inr (λ j three. let e = held_by (AtSeat m) is j three in absurd (omega arith))
-    by_number (With m) is = elim (eqb_tells (stage (w.place m)) active_stage) [
+    by : (x : Whereabouts) → ((j : ℕ) → stage (w.place j) ≡ active_stage → x ≡ With j) → ((j : ℕ) × IsActiveAt w j) ⊎ ((j : ℕ) → stage (w.place j) ≢ active_stage)
+    by Nowhere is = inr (λ j three. let e = is j three in cc)
+    by (AtTicket t) is = inr (λ j three. let e = is j three in cc)
+    by (AtSeat m) is = inr (λ j three. let e = is j three in cc)
+    by (With m) is = elim (eqb_tells (stage (w.place m)) active_stage) [
       | inl h ↦ inl (m, active_at m h.0)
-      | inr h ↦ inr (λ j three. let e = held_by (With m) is j three in let same : j ≡ m = omega arith in h.1 (sym (ap (λ (n : ℕ). stage (w.place n)) same) ∙ three))
+      | inr h ↦ inr (λ j three. let e = is j three in let same : j ≡ m = cc in h.1 (sym (ap (λ (n : ℕ). stage (w.place n)) same) ∙ three))
     ]
 
 pub out_seat : (i : ℕ) (q : Source) (h : List Event) → seat_of (out_event i q (turn h)) ≡ i
@@ -117,8 +113,8 @@ pub starts_self : (h : List Event) → StartsWith h h
 starts_self h = ([], sym (append-nil h))
 
 -- no more entered than drew tickets
-pub entered_few : (k : Rules) (o : Object) (s : State) (right : ℕ) (owner : ℕ → ℕ) → IsSound k o s right owner → enters_of s.floor.history ≤ s.world.drawn
-entered_few k o s right owner h = by_number (numbered 0 right).0 (numbered 0 right).1
+pub entered_few : (k : Rules) (o : Object) (s : State) (right : Whereabouts) (owner : ℕ → ℕ) → IsSound k o s right owner → enters_of s.floor.history ≤ s.world.drawn
+entered_few k o s right owner h = by right h.entered h.stands.keeps.holder.free.0
   where
     once : (p : Place) → used_at p ≤ 1
     once Idle = omega arith
@@ -131,21 +127,17 @@ entered_few k o s right owner h = by_number (numbered 0 right).0 (numbered 0 rig
     once (Passing t to) = omega arith
     once Inner = omega arith
 
-    by_number : (x : Whereabouts) → right ≡ number x → enters_of s.floor.history ≤ s.world.drawn
-    by_number Nowhere is = let e = h.entered.else_unused (λ j a. absurd (omega arith)) (λ j a. absurd (omega arith)) in omega arith
-    by_number (AtTicket t) is = let e = h.entered.else_unused (λ j a. absurd (omega arith)) (λ j a. absurd (omega arith)) in omega arith
-    by_number (With m) is =
-        let e = h.entered.with m is in
+    by : (x : Whereabouts) → FitsEnters s.world x (enters_of s.floor.history) → (s.world.unpassed ≡ 0 → x ≡ Nowhere) → enters_of s.floor.history ≤ s.world.drawn
+    by Nowhere e free = omega arith
+    by (AtTicket t) e free = omega arith
+    by (With m) e free =
         let one = once (s.world.place m) in
-        let some : s.world.unpassed ≢ 0 = λ z. let f = h.stands.keeps.not_free z in absurd (omega arith) in
+        let some : s.world.unpassed ≢ 0 = λ z. let f = free z in cc in
         omega arith
-    by_number (AtSeat m) is =
-        let e = h.entered.called_seat m is in
-        let some : s.world.unpassed ≢ 0 = λ z. let f = h.stands.keeps.not_free z in absurd (omega arith) in
-        omega arith
+    by (AtSeat m) e free = let some : s.world.unpassed ≢ 0 = λ z. let f = free z in cc in omega arith
 
 module _ (k : Rules) (o : Object) (c : Setting) (homes : Homes) (at : ℕ → SeatRecord) (words : List ℕ) (past history : List Event)
-    (told : AreTold k o c homes at (shown_world words at) past history) (right : ℕ) (owner : ℕ → ℕ) (keeps : KeepsRight c.seats (shown_world words at) right owner) where
+    (told : AreTold k o c homes at (shown_world words at) past history) (right : Whereabouts) (owner : ℕ → ℕ) (keeps : KeepsRight c.seats (shown_world words at) right owner) where
   -- what is shown is what the floor at home has, and perhaps the event of the active seat
   pub shows_past : StartsWith history past
   shows_past = elim (who c.seats (shown_world words at) right owner keeps) [

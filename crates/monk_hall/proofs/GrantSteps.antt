@@ -28,6 +28,7 @@ use Rattle.monk_world.specs.declared.home.Home.{Home}
 use Rattle.monk_world.specs.declared.place.Place.{Place}
 use Rattle.monk_world.specs.declared.place.Place.TheVariants.{Idle, Ticket, Due, Active, Back, Passing, Inner}
 use Rattle.monk_world.proofs.DoneLaws.{IsReady}
+use Rattle.monk_world.proofs.Holders.{held}
 use Rattle.monk_world.proofs.PutLaws.{at_put, put_here, put_else, all_back}
 use Rattle.monk_hall.specs.Changes.{record_after_grant, home_at, source_at}
 use Rattle.monk_hall.specs.Laws.{Takes}
@@ -130,7 +131,7 @@ module _ (k : Rules) (o : Object) (c : Setting) (kind : IsKind k) (s : table.Sta
       let sound = stepping.sound k o c kind s h id r here in
       let stands = stepping.stands_at k o c kind s h id r here (Back x.choice x.to) x.is in
       let world : World = shown_world s.words h.0 in
-      let six = sound.stands.keeps.chose r.seat (ap stage stands) m (ap back_turn stands ∙ x.names) in
+      let six = sound.stands.keeps.calls.chose r.seat (ap stage stands) m (ap back_turn stands ∙ x.names) in
       by_range (cases_le c.seats m) (sound.outside m) six
     where
       cases_le : (a b : ℕ) → (a ≤ b) ⊎ (b < a)
@@ -154,12 +155,12 @@ module _ (k : Rules) (o : Object) (c : Setting) (kind : IsKind k) (s : table.Sta
       let sound = stepping.sound k o c kind s h id r here in
       let stands = stepping.stands_at k o c kind s h id r here (Back x.choice x.to) x.is in
       let four : stage (at r.seat).place ≡ back_stage = ap stage stands in
-      let mine = sound.stands.keeps.held r.seat (omega arith) (omega arith) in
+      let mine = held sound.stands.keeps r.seat (omega arith) (omega arith) in
       let alone : (j n : ℕ) → j ≢ r.seat → back_turn (at j).place ≢ due_to n = λ j n ne e.
       let y = choosing_at (at j).place n e in
       let back : stage (at j).place ≡ back_stage = ap stage y.is in
-      let held = sound.stands.keeps.held j (omega arith) (omega arith) in
-      absurd (ne (omega arith)) in
+      let theirs = held sound.stands.keeps j (omega arith) (omega arith) in
+      absurd (ne cc) in
       let apart = standing.apart_home (home_at r.place) in
       let nobody : (j n : ℕ) → back_turn (put at r.seat w j).place ≢ due_to n = λ j n.
       at_put at r.seat w (λ i y. back_turn y.place ≢ due_to n) (λ e. let z = apart.chose in absurd (omega arith)) (λ i ne. alone i n ne) j in

@@ -4,12 +4,10 @@ use Rattle.monk_kinds.specs.declared.mode.Rules.{Rules}
 use Rattle.monk_object.specs.Object.{Object}
 use Rattle.monk_history.specs.declared.event.Event.{Event}
 use Rattle.std.specs.Prelude.{List}
-use Rattle.monk_world.specs.OnePlace.{HoldsRight}
 use Rattle.monk_world.specs.Places.{stage, back_turn, due_stage, active_stage, back_stage, passing_stage}
-use Rattle.monk_world.specs.Right.{with_seat}
+use Rattle.monk_world.specs.Right.{With}
 use Rattle.monk_world.specs.State.{is_quiet}
-use Rattle.monk_world.specs.declared.place.Place.{Place}
-use Rattle.monk_world.specs.declared.place.Place.TheVariants.{Idle, Ticket, Due, Active, Back, Passing, Inner}
+use Rattle.monk_world.proofs.Holders.{held, has_right}
 use Rattle.monk_world.proofs.OnePlaceLaws.{in_one_place}
 use Rattle.monk_world.proofs.RunLaws.{well_led}
 use Rattle.monk_hall.proofs.FloorIn.{gives_at}
@@ -39,8 +37,8 @@ module _ (k : Rules) (o : Object) (c : Setting) (s : HallState) (h : IsHall k o 
   place = ap (λ (y : SeatRecord). y.place) is
 
   -- the right is with a seat that stands where it has it
-  with : due_stage ≤ stage r.place → stage r.place ≤ passing_stage → h.2.kept.sound.right ≡ with_seat r.seat
-  with low high = let at = ap stage place in h.2.kept.sound.is_sound.stands.keeps.held r.seat (omega arith) (omega arith)
+  with : due_stage ≤ stage r.place → stage r.place ≤ passing_stage → h.2.kept.sound.right ≡ With r.seat
+  with low high = let at = ap stage place in held h.2.kept.sound.is_sound.stands.keeps r.seat (omega arith) (omega arith)
 
   -- while it has the floor back, what it has seen is the history
   back : stage r.place ≡ back_stage → h.2.history ≡ r.seen
@@ -49,22 +47,13 @@ module _ (k : Rules) (o : Object) (c : Setting) (s : HallState) (h : IsHall k o 
       let none : (j : ℕ) → stage (h.0 j).place ≢ active_stage = λ j three. alone j three mine in
       (h.2.told.home none).0 ∙ sym (h.2.told.back r.seat (ap stage place ∙ four)) ∙ ap (λ (y : SeatRecord). y.seen) is
     where
-      alone : (j : ℕ) → stage (h.0 j).place ≡ active_stage → h.2.kept.sound.right ≡ with_seat r.seat → ⊥
+      alone : (j : ℕ) → stage (h.0 j).place ≡ active_stage → h.2.kept.sound.right ≡ With r.seat → ⊥
       alone j three mine =
-          let theirs = h.2.kept.sound.is_sound.stands.keeps.held j (omega arith) (omega arith) in
-          let same : j ≡ r.seat = omega arith in
+          let theirs = held h.2.kept.sound.is_sound.stands.keeps j (omega arith) (omega arith) in
+          let same : j ≡ r.seat = cc in
           let at = ap (λ (n : ℕ). stage (h.0 n).place) same in
           let here = ap stage place in
           omega arith
-
-has_right : (p : Place) → HoldsRight p → (due_stage ≤ stage p) × (stage p ≤ passing_stage)
-has_right Idle h = absurd h
-has_right (Ticket t) h = absurd h
-has_right (Due q) h = (omega arith, omega arith)
-has_right (Active q) h = (omega arith, omega arith)
-has_right (Back x to) h = (omega arith, omega arith)
-has_right (Passing t to) h = (omega arith, omega arith)
-has_right Inner h = absurd h
 
 -- two with the right are one
 one : (k : Rules) (o : Object) (c : Setting) (s : HallState) → IsHall k o c s → (r q : SeatRecord) → (x : IsRecord s r) → (y : IsRecord s q)
@@ -72,7 +61,7 @@ one : (k : Rules) (o : Object) (c : Setting) (s : HallState) → IsHall k o c s 
 one k o c s h r q x y a b =
     let mine = with k o c s h r x a.0 a.1 in
     let theirs = with k o c s h q y b.0 b.1 in
-    let same : r.seat ≡ q.seat = omega arith in
+    let same : r.seat ≡ q.seat = cc in
     (sym (is k o c s h r x) ∙ ap h.0 same ∙ is k o c s h q y, sym (desk k o c s h r x) ∙ ap h.1.desk same ∙ desk k o c s h q y)
 
 pub one_has_the_right : OneHasTheRight

@@ -29,6 +29,7 @@ use Rattle.monk_world.specs.declared.place.Place.TheVariants.{Idle, Ticket, Due,
 use Rattle.monk_world.specs.declared.source.Source.TheVariants.{Free, Granted, Called}
 use Rattle.monk_world.proofs.BoundLaws.{few_drawn}
 use Rattle.monk_world.proofs.DoneLaws.{IsReady}
+use Rattle.monk_world.proofs.Holders.{held}
 use Rattle.monk_hall.specs.Changes.{record_after_arrive, record_after_ticket_look, record_after_seat_look, record_after_peek, record_after_drop, home_at, source_at}
 use Rattle.monk_hall.specs.Floors.{StartsWith}
 use Rattle.monk_hall.specs.Laws.{Takes}
@@ -71,7 +72,7 @@ module _ (k : Rules) (o : Object) (c : Setting) (kind : IsKind k) (s : table.Sta
       let after : State = record old { world = after_arrive world r.seat } in
       let kept = stepping.takes_step k o c kind s h id r here command.Arrive (answer.Arrived world.drawn world.unpassed) after Idle ready idle (refl, refl) in
       let few = few_drawn old kh.kept.bounded in
-      let behind = sound.stands.keeps.behind in
+      let behind = sound.stands.keeps.tickets.behind in
       let halves = after_draw found few (omega arith) in
       let word : slice_index ws 0 ≡ (found + 4294967297) % 18446744073709551616 = get_or-set_same s.words 0 x 0 (let z = kh.wide in omega arith) ∙ x_is in
       let drawn : world.drawn + 1 ≡ tickets (slice_index ws 0) = sym (ap tickets word ∙ halves.drawn) in
@@ -229,8 +230,8 @@ module _ (k : Rules) (o : Object) (c : Setting) (kind : IsKind k) (s : table.Sta
   some_unpassed back =
       let sound = stepping.sound k o c kind s h id r here in
       let at_back = ap (λ (y : SeatRecord). stage y.place) (stepping.is k o c kind s h id r here) ∙ back in
-      let mine = sound.stands.keeps.held r.seat (omega arith) (omega arith) in
-      let some : unpassed (slice_index s.words 0) ≢ 0 = λ z. let f = sound.stands.keeps.not_free z in absurd (omega arith) in
+      let mine = held sound.stands.keeps r.seat (omega arith) (omega arith) in
+      let some : unpassed (slice_index s.words 0) ≢ 0 = λ z. let f = sound.stands.keeps.holder.free.0 z in cc in
       omega arith
 
   -- step 6
@@ -256,7 +257,7 @@ module _ (k : Rules) (o : Object) (c : Setting) (kind : IsKind k) (s : table.Sta
       let after : State = record old { world = after_drop world r.seat to } in
       let kept = stepping.takes_step k o c kind s h id r here command.Drop (answer.Found world.unpassed) after (Back next.Entry to) ready back (refl, refl) in
       let few = few_drawn old kh.kept.bounded in
-      let behind = sound.stands.keeps.behind in
+      let behind = sound.stands.keeps.tickets.behind in
       let halves = after_take_off found few (omega arith) (some_unpassed (ap stage back)) in
       let word : slice_index ws 0 ≡ (found + 18446744073709551615) % 18446744073709551616 = get_or-set_same s.words 0 x 0 (let z = kh.wide in omega arith) ∙ x_is in
       let drawn : world.drawn ≡ tickets (slice_index ws 0) = sym (ap tickets word ∙ halves.drawn) in
@@ -313,5 +314,5 @@ module _ (k : Rules) (o : Object) (c : Setting) (kind : IsKind k) (slots id : �
         keeps,
         tt,
         (takes_off_at k o c kind s h id (the me.0) here to back _ refl).hall,
-        (refl, some_unpassed k o c kind s h id (the me.0) here (ap stage back), (stepping.sound k o c kind s h id (the me.0) here).stands.keeps.behind),
+        (refl, some_unpassed k o c kind s h id (the me.0) here (ap stage back), (stepping.sound k o c kind s h id (the me.0) here).stands.keeps.tickets.behind),
       )

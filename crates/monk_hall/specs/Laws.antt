@@ -13,8 +13,8 @@ use Rattle.monk_history.specs.declared.event.Event.{Event}
 use Rattle.monk_history.specs.declared.event.Next.{Next}
 use Rattle.monk_history.specs.declared.event.Next.TheVariants.{Entry}
 use Rattle.monk_floor.specs.View.{FloorView, monitor_of}
-use Rattle.monk_world.specs.OnePlace.{HoldsRight, IsInOnePlace}
-use Rattle.monk_world.specs.Places.{stage, ticket, back_turn, due_to, ticketed_stage, due_stage, active_stage, passing_stage, inside_stage}
+use Rattle.monk_world.specs.OnePlace.{IsInOnePlace}
+use Rattle.monk_world.specs.Places.{HoldsRight, stage, ticket, back_turn, due_to, ticketed_stage, due_stage, active_stage, passing_stage, inside_stage}
 use Rattle.monk_world.specs.Runs.{IsWellLed}
 use Rattle.monk_world.specs.State.{is_quiet}
 use Rattle.monk_world.specs.StepTable.{IsStep}

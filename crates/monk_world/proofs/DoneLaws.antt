@@ -1,6 +1,6 @@
 -- A step that is carried out keeps what a world keeps
-use Rattle.std.proofs.Common.{◌≡◌, ℕ, ◌+◌, ◌%◌, ◌==◌, ◌<◌, ◌≤◌, cond, Bool, true, false, ◌∷◌, [], ◌++◌, ◌&&◌, length, sym, refl, ap, ◌∙◌, subst, arith}
-use Rattle.std.specs.Prelude.{not, nat_lt, Option, Some, None, if◌then◌else◌}
+use Rattle.std.proofs.Common.{◌≡◌, ℕ, ◌+◌, ◌%◌, ◌==◌, ◌<◌, ◌≤◌, cond, Bool, true, false, ◌&&◌, length, sym, refl, ap, ◌∙◌, subst, arith}
+use Rattle.std.specs.Prelude.{not, nat_lt, Option, Some, None}
 use Rattle.std.proofs.lemmas.Bool.{ltb-true}
 use Rattle.monk_kinds.specs.Kind.{IsKind}
 use Rattle.monk_kinds.specs.declared.mode.Rules.{Rules}
@@ -8,7 +8,6 @@ use Rattle.monk_object.specs.Object.{Object}
 use Rattle.monk_history.specs.Meaning.Counts.{events_of, left_of}
 use Rattle.monk_history.specs.Meaning.Events.{seat_of, is_stay}
 use Rattle.monk_history.specs.Meaning.Monitor.{data_of}
-use Rattle.monk_history.specs.Meaning.Release.{with_next}
 use Rattle.monk_history.specs.Meaning.Turn.{turn}
 use Rattle.monk_history.specs.declared.event.Event.{Event}
 use Rattle.monk_history.specs.declared.event.Event.TheVariants.{Act, Leave, Wait, Signal, SignalLeave, Until}
@@ -19,6 +18,7 @@ use Rattle.monk_floor.specs.View.{monitor_of}
 use Rattle.monk_world.specs.Kept.{comes_in, comes_back, IsBounded, IsKept}
 use Rattle.monk_world.specs.Places.{place_of}
 use Rattle.monk_world.specs.Put.{put}
+use Rattle.monk_world.specs.Right.{Whereabouts}
 use Rattle.monk_world.specs.Sound.{IsSound, left_at}
 use Rattle.monk_world.specs.State.{State, with_event}
 use Rattle.monk_world.specs.Steps.{place_after_arrive, place_after_ticket_look, place_after_seat_look, count_after_seat_look, place_after_drop, after_arrive, after_ticket_look, after_seat_look, after_floor_out, after_floor_in, after_drop, after_ticket_grant, after_seat_grant}
@@ -99,7 +99,7 @@ out_seat i (Free t) u = refl
 out_seat i (Granted t) u = refl
 out_seat i Called u = refl
 
-module _ (k : Rules) (o : Object) (s : State) (right : ℕ) (owner : ℕ → ℕ) (h : IsSound k o s right owner) (b : IsBounded s) (i : ℕ) (near : i < s.floor.seats) where
+module _ (k : Rules) (o : Object) (s : State) (right : Whereabouts) (owner : ℕ → ℕ) (h : IsSound k o s right owner) (b : IsBounded s) (i : ℕ) (near : i < s.floor.seats) where
   stays_bounded : (e : Event) → seat_of e ≡ i → 1 ≤ left_of s.floor.budget s.floor.history i → IsBounded (record s { floor = with_event s.floor e })
   stays_bounded e seat left =
       bounded_floor s b i near s.world s.known (s.world.place i) (sym (put_same s.world.place i (s.world.place i) refl)) e seat left (omega arith)

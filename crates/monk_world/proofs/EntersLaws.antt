@@ -1,11 +1,11 @@
 -- Each step keeps the enters of the history in agreement with the tickets
-use Rattle.std.proofs.Common.{◌≡◌, ◌≢◌, ℕ, ◌+◌, ◌-◌, sym, refl, ap, ◌∙◌, subst, arith}
+use Rattle.std.proofs.Common.{◌≡◌, ◌≢◌, ℕ, ◌+◌, ◌-◌, ◌≤◌, sym, refl, ap, subst, arith}
 use Rattle.monk_history.specs.declared.event.Next.{Next}
 use Rattle.monk_history.specs.declared.event.Next.TheVariants.{Entry}
-use Rattle.monk_world.specs.Enters.{FitsEnters, used_at, used_by}
-use Rattle.monk_world.specs.Places.{stage, place_of}
+use Rattle.monk_world.specs.Enters.{FitsEnters, used_at, used_by, used_in}
+use Rattle.monk_world.specs.Places.{stage, place_of, due_stage, active_stage, passing_stage}
 use Rattle.monk_world.specs.Put.{put}
-use Rattle.monk_world.specs.Right.{KeepsRight, nowhere, granted, with_seat, called}
+use Rattle.monk_world.specs.Right.{Whereabouts, Nowhere, AtTicket, With, AtSeat, KeepsRight}
 use Rattle.monk_world.specs.Steps.{after_floor_out, after_floor_in, after_ticket_grant, after_seat_grant}
 use Rattle.monk_world.specs.World.{World}
 use Rattle.monk_world.specs.declared.home.Home.{Home}
@@ -13,113 +13,86 @@ use Rattle.monk_world.specs.declared.place.Place.{Place}
 use Rattle.monk_world.specs.declared.place.Place.TheVariants.{Idle, Ticket, Due, Active, Back, Passing}
 use Rattle.monk_world.specs.declared.source.Source.{Source}
 use Rattle.monk_world.specs.declared.source.Source.TheVariants.{Free, Granted, Called}
-use Rattle.monk_world.proofs.Holders.{with_called}
-use Rattle.monk_world.proofs.PutLaws.{at_put}
+use Rattle.monk_world.proofs.Holders.{held, holds}
+use Rattle.monk_world.proofs.PutLaws.{put_here, put_else}
 
-module _ (seats : ℕ) (s : World) (right : ℕ) (owner : ℕ → ℕ) (r : KeepsRight seats s right owner) (entered : ℕ) (f : FitsEnters s right entered) (i : ℕ) where
-  used_here : (p : Place) → s.place i ≡ p → right ≡ with_seat i → entered + s.unpassed ≡ s.drawn + used_at p
-  used_here p at mine = subst (λ (y : Place). entered + s.unpassed ≡ s.drawn + used_at y) at (f.with i mine)
+module _ (seats : ℕ) (s : World) (right : Whereabouts) (owner : ℕ → ℕ) (r : KeepsRight seats s right owner) (entered : ℕ) (f : FitsEnters s right entered) (i : ℕ) where
+  -- where the right is
+  entered_where : (x : Whereabouts) → right ≡ x → FitsEnters s x entered
+  entered_where x is = subst (λ (y : Whereabouts). FitsEnters s y entered) is f
 
-  stage_of : (p : Place) → s.place i ≡ p → stage (s.place i) ≡ stage p
-  stage_of p at = ap stage at
+  -- where seat i has the right
+  pub entered_here : (p : Place) → s.place i ≡ p → due_stage ≤ stage p → stage p ≤ passing_stage → entered + s.unpassed ≡ s.drawn + used_at p
+  entered_here p at low high =
+      let z : stage (s.place i) ≡ stage p = ap stage at in
+      subst (λ (y : Place). entered + s.unpassed ≡ s.drawn + used_at y) at (entered_where (With i) (held r i (omega arith) (omega arith)))
 
-  unused : (right ≡ nowhere → entered + s.unpassed ≡ s.drawn) × (right ≡ granted → entered + s.unpassed ≡ s.drawn)
-  unused = (
-    λ e. f.else_unused (λ j a. absurd (omega arith)) (λ j a. absurd (omega arith)),
-    λ e. f.else_unused (λ j a. absurd (omega arith)) (λ j a. absurd (omega arith)),
-  )
+  -- some ticket is not passed on where seat i has the right
+  some_left : (p : Place) → s.place i ≡ p → due_stage ≤ stage p → stage p ≤ passing_stage → s.unpassed ≢ 0
+  some_left p at low high e =
+      let z : stage (s.place i) ≡ stage p = ap stage at in
+      let mine = held r i (omega arith) (omega arith) in
+      let a = r.holder.free.0 e in
+      cc
 
   -- seat i has the right after its step
-  taken : (t n entered_new : ℕ) (p : Place) → entered_new + n ≡ t + used_at p → (j : ℕ) → with_seat i ≡ with_seat j → entered_new + n ≡ t + used_at (put s.place i p j)
-  taken t n entered_new p agrees = at_put s.place i p (λ j y. with_seat i ≡ with_seat j → entered_new + n ≡ t + used_at y) (λ _. agrees) (λ j ne e. absurd (ne (omega arith)))
+  taken : (t n entered_new : ℕ) (p : Place) → entered_new + n ≡ t + used_at p → entered_new + n ≡ t + used_at (put s.place i p i)
+  taken t n entered_new p agrees = subst (λ (y : Place). entered_new + n ≡ t + used_at y) (sym (put_here s.place i p)) agrees
 
-  pub arrives_free : s.unpassed ≡ 0 → FitsEnters (record s { drawn = s.drawn + 1; unpassed = s.unpassed + 1; place = put s.place i (Due (Free s.drawn)) }) (with_seat i) entered
+  pub arrives_free : s.unpassed ≡ 0 → FitsEnters (record s { drawn = s.drawn + 1; unpassed = s.unpassed + 1; place = put s.place i (Due (Free s.drawn)) }) (With i) entered
   arrives_free none =
-      let u = unused.0 (r.not_free none) in
-      record {
-        with = taken (s.drawn + 1) (s.unpassed + 1) entered (Due (Free s.drawn)) (omega arith);
-        called_seat = λ j e. absurd (with_called i j e);
-        else_unused = λ a b. absurd (a i refl);
-      }
+      let u : entered + s.unpassed ≡ s.drawn + 0 = entered_where Nowhere (r.holder.free.0 none) in
+      taken (s.drawn + 1) (s.unpassed + 1) entered (Due (Free s.drawn)) (omega arith)
 
   pub arrives_behind : s.place i ≡ Idle → FitsEnters (record s { drawn = s.drawn + 1; unpassed = s.unpassed + 1; place = put s.place i (Ticket s.drawn) }) right entered
-  arrives_behind idle = record {
-    with = at_put s.place i (Ticket s.drawn) (λ j y. right ≡ with_seat j → entered + (s.unpassed + 1) ≡ s.drawn + 1 + used_at y)
-        (λ e. let z = stage_of Idle idle in let a = r.holds i e in let b = a.0 in absurd (omega arith)) (λ j _ e. let a = f.with j e in omega arith);
-    called_seat = λ j e. let a = f.called_seat j e in omega arith;
-    else_unused = λ a b. let c = f.else_unused a b in omega arith;
-  }
+  arrives_behind idle = let same = elsewhere right (λ e. let z = ap stage idle in let a = holds r i e in let b = a.0 in omega arith) in omega arith
+    where
+      after : World
+      after = record s { drawn = s.drawn + 1; unpassed = s.unpassed + 1; place = put s.place i (Ticket s.drawn) }
 
-  pub takes_grant : (t : ℕ) → right ≡ granted → FitsEnters (record s { place = put s.place i (Due (Granted t)) }) (with_seat i) entered
-  takes_grant t is =
-      let u = unused.1 is in
-      record {
-        with = taken s.drawn s.unpassed entered (Due (Granted t)) (omega arith);
-        called_seat = λ j e. absurd (with_called i j e);
-        else_unused = λ a b. absurd (a i refl);
-      }
+      elsewhere : (x : Whereabouts) → x ≢ With i → used_in after x ≡ used_in s x
+      elsewhere Nowhere ne = refl
+      elsewhere (AtTicket t) ne = refl
+      elsewhere (With j) ne = ap used_at (put_else s.place i (Ticket s.drawn) j (λ e. ne (ap With e)))
+      elsewhere (AtSeat j) ne = refl
 
-  pub takes_call : (count : ℕ → ℕ) → right ≡ called i → FitsEnters (record s { place = put s.place i (Due Called); count = count }) (with_seat i) entered
-  takes_call count is =
-      let u = f.called_seat i is in
-      record {
-        with = taken s.drawn s.unpassed entered (Due Called) (omega arith);
-        called_seat = λ j e. absurd (with_called i j e);
-        else_unused = λ a b. absurd (a i refl);
-      }
+  pub takes_grant : (t : ℕ) → right ≡ AtTicket t → FitsEnters (record s { place = put s.place i (Due (Granted t)) }) (With i) entered
+  takes_grant t is = taken s.drawn s.unpassed entered (Due (Granted t)) (entered_where (AtTicket t) is)
 
-  -- the step of seat i, which has the right before and after it
-  holder : (p : Place) (entered_new : ℕ) → right ≡ with_seat i → entered_new + s.unpassed ≡ s.drawn + used_at p → FitsEnters (record s { place = put s.place i p }) right entered_new
-  holder p entered_new mine agrees = record {
-    with = at_put s.place i p (λ j y. right ≡ with_seat j → entered_new + s.unpassed ≡ s.drawn + used_at y) (λ _. agrees) (λ j ne e. absurd (ne (omega arith)));
-    called_seat = λ j e. absurd (with_called i j (sym mine ∙ e));
-    else_unused = λ a b. absurd (a i mine);
-  }
+  pub takes_call : (count : ℕ → ℕ) → right ≡ AtSeat i → FitsEnters (record s { place = put s.place i (Due Called); count = count }) (With i) entered
+  takes_call count is = taken s.drawn s.unpassed entered (Due Called) (entered_where (AtSeat i) is)
+
+  -- seat i has the right before and after its step
+  holder : (p : Place) (entered_new : ℕ) → right ≡ With i → entered_new + s.unpassed ≡ s.drawn + used_at p → FitsEnters (record s { place = put s.place i p }) right entered_new
+  holder p entered_new mine agrees =
+      subst (λ (x : Whereabouts). FitsEnters (record s { place = put s.place i p }) x entered_new) (sym mine) (taken s.drawn s.unpassed entered_new p agrees)
 
   pub comes_out : (q : Source) (entered_new : ℕ) → s.place i ≡ Due q → entered_new + used_by q ≡ entered + 1 → FitsEnters (after_floor_out s i q) right entered_new
   comes_out q entered_new due more =
-      let z = stage_of (Due q) due in
-      let mine = r.held i (omega arith) (omega arith) in
-      let u = used_here (Due q) due mine in
-      holder (Active q) entered_new mine (omega arith)
+      let z : stage (s.place i) ≡ due_stage = ap stage due in
+      let u : entered + s.unpassed ≡ s.drawn + used_by q = entered_here (Due q) due (omega arith) (omega arith) in
+      holder (Active q) entered_new (held r i (omega arith) (omega arith)) (omega arith)
 
   pub goes_home : (q : Source) (next : Next) (home : Home) → s.place i ≡ Active q → FitsEnters (after_floor_in s i next home) right entered
   goes_home q next home active =
-      let z = stage_of (Active q) active in
-      let mine = r.held i (omega arith) (omega arith) in
-      holder (Back next home) entered mine (used_here (Active q) active mine)
+      let z : stage (s.place i) ≡ active_stage = ap stage active in
+      holder (Back next home) entered (held r i (omega arith) (omega arith)) (entered_here (Active q) active (omega arith) (omega arith))
 
-  pub drops_last : (home : Home) → s.place i ≡ Back Entry home → FitsEnters (record s { unpassed = s.unpassed - 1; place = put s.place i (place_of home) }) nowhere entered
+  pub drops_last : (home : Home) → s.place i ≡ Back Entry home → FitsEnters (record s { unpassed = s.unpassed - 1; place = put s.place i (place_of home) }) Nowhere entered
   drops_last home back =
-      let z = stage_of (Back Entry home) back in
-      let mine = r.held i (omega arith) (omega arith) in
-      let u = used_here (Back Entry home) back mine in
-      let some : s.unpassed ≢ 0 = λ e. let a = r.not_free e in omega arith in
-      let sum : entered + (s.unpassed - 1) ≡ s.drawn = omega arith in
-      record { with = λ j e. absurd (omega arith); called_seat = λ j e. absurd (omega arith); else_unused = λ _ _. sum }
+      let u : entered + s.unpassed ≡ s.drawn + 1 = entered_here (Back Entry home) back (omega arith) (omega arith) in
+      let some = some_left (Back Entry home) back (omega arith) (omega arith) in
+      omega arith
 
   pub drops_more : (t : ℕ) (home : Home) → s.place i ≡ Back Entry home
-      → FitsEnters (record s { unpassed = s.unpassed - 1; place = put s.place i (Passing t home) }) (with_seat i) entered
+      → FitsEnters (record s { unpassed = s.unpassed - 1; place = put s.place i (Passing t home) }) (With i) entered
   drops_more t home back =
-      let z = stage_of (Back Entry home) back in
-      let mine = r.held i (omega arith) (omega arith) in
-      let u = used_here (Back Entry home) back mine in
-      let some : s.unpassed ≢ 0 = λ e. let a = r.not_free e in omega arith in
-      record {
-        with = taken s.drawn (s.unpassed - 1) entered (Passing t home) (omega arith);
-        called_seat = λ j e. absurd (with_called i j e);
-        else_unused = λ a b. absurd (a i refl);
-      }
+      let u : entered + s.unpassed ≡ s.drawn + 1 = entered_here (Back Entry home) back (omega arith) (omega arith) in
+      let some = some_left (Back Entry home) back (omega arith) (omega arith) in
+      taken s.drawn (s.unpassed - 1) entered (Passing t home) (omega arith)
 
-  pub grants_ticket : (t : ℕ) (home : Home) → s.place i ≡ Passing t home → FitsEnters (after_ticket_grant seats s i t home) granted entered
-  grants_ticket t home five =
-      let z = stage_of (Passing t home) five in
-      let u = used_here (Passing t home) five (r.held i (omega arith) (omega arith)) in
-      let sum : entered + s.unpassed ≡ s.drawn = omega arith in
-      record { with = λ j e. absurd (omega arith); called_seat = λ j e. absurd (omega arith); else_unused = λ _ _. sum }
+  pub grants_ticket : (t : ℕ) (home : Home) → s.place i ≡ Passing t home → FitsEnters (after_ticket_grant seats s i t home) (AtTicket t) entered
+  grants_ticket t home five = entered_here (Passing t home) five (omega arith) (omega arith)
 
-  pub calls_seat : (next : Next) (k : ℕ) (home : Home) → s.place i ≡ Back next home → FitsEnters (after_seat_grant s i k home) (called k) entered
-  calls_seat next k home back =
-      let z = stage_of (Back next home) back in
-      let u = used_here (Back next home) back (r.held i (omega arith) (omega arith)) in
-      record { with = λ j e. absurd (with_called j k (sym e)); called_seat = λ j e. u; else_unused = λ _ b. absurd (b k refl) }
+  pub calls_seat : (next : Next) (k : ℕ) (home : Home) → s.place i ≡ Back next home → FitsEnters (after_seat_grant s i k home) (AtSeat k) entered
+  calls_seat next k home back = entered_here (Back next home) back (omega arith) (omega arith)

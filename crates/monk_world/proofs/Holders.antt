@@ -1,25 +1,78 @@
 -- Who has the right, and who waits for it
-use Rattle.std.proofs.Common.{◌≡◌, ◌≢◌, ℕ, ◌≤◌, sym, ap, ◌∙◌, subst, arith}
-use Rattle.monk_world.specs.Places.{stage, ticket, place_of, ticketed_stage, due_stage, passing_stage}
+use Rattle.std.proofs.Common.{◌≡◌, ◌≢◌, ℕ, ◌≤◌, ◌⊎◌, ◌↔◌, sym, refl, ap, ◌∙◌, subst, inl, inr, arith}
+use Rattle.std.proofs.lemmas.Bool.Decides.{eqb_tells}
+use Rattle.monk_world.specs.Places.{HoldsRight, stage, ticket, place_of, ticketed_stage, due_stage, passing_stage}
 use Rattle.monk_world.specs.Put.{put}
-use Rattle.monk_world.specs.Right.{KeepsRight, Waits, with_seat, called}
+use Rattle.monk_world.specs.Right.{Whereabouts, Nowhere, AtTicket, With, AtSeat, KeepsRight, Waits}
 use Rattle.monk_world.specs.World.{World}
 use Rattle.monk_world.specs.declared.home.Home.{Home}
 use Rattle.monk_world.specs.declared.home.Home.TheVariants as home
 use Rattle.monk_world.specs.declared.place.Place.{Place}
-use Rattle.monk_world.proofs.PutLaws.{put_else}
+use Rattle.monk_world.specs.declared.place.Place.TheVariants.{Idle, Ticket, Due, Active, Back, Passing, Inner}
+use Rattle.monk_world.proofs.PutLaws.{at_put, put_else}
 
-pub with_called : (i j : ℕ) → with_seat i ≢ called j
-with_called i j e = absurd (omega arith)
+-- who has the right stands between due and passing, and nobody else does
+pub has_right : (p : Place) → HoldsRight p → (due_stage ≤ stage p) × (stage p ≤ passing_stage)
+has_right Idle h = absurd h
+has_right (Ticket t) h = absurd h
+has_right (Due q) h = (omega arith, omega arith)
+has_right (Active q) h = (omega arith, omega arith)
+has_right (Back next home) h = (omega arith, omega arith)
+has_right (Passing t home) h = (omega arith, omega arith)
+has_right Inner h = absurd h
+
+pub holds_right : (p : Place) → due_stage ≤ stage p → stage p ≤ passing_stage → HoldsRight p
+holds_right Idle a b = absurd (omega arith)
+holds_right (Ticket t) a b = absurd (omega arith)
+holds_right (Due q) a b = tt
+holds_right (Active q) a b = tt
+holds_right (Back next home) a b = tt
+holds_right (Passing t home) a b = tt
+holds_right Inner a b = absurd (omega arith)
 
 pub at_home : (h : Home) (m : ℕ) → 1 ≤ m → m ≤ 5 → stage (place_of h) ≢ m
 at_home home.Idle m a b e = absurd (omega arith)
 at_home home.Inner m a b e = absurd (omega arith)
 
+pub home_has_none : (h : Home) → HoldsRight (place_of h) → ⊥
+home_has_none home.Idle a = a
+home_has_none home.Inner a = a
+
 pub other_stage : (place : ℕ → Place) (i j : ℕ) → stage (place i) ≢ stage (place j) → j ≢ i
 other_stage place i j ne e = ne (sym (ap (λ (k : ℕ). stage (place k)) e))
 
-module _ (seats : ℕ) (s : World) (right : ℕ) (owner : ℕ → ℕ) (r : KeepsRight seats s right owner) (i : ℕ) where
+-- the right is in the place of a seat, or not
+pub called_tells : (x : Whereabouts) (j : ℕ) → (x ≡ AtSeat j) ⊎ (x ≢ AtSeat j)
+called_tells Nowhere j = inr (λ e. cc)
+called_tells (AtTicket t) j = inr (λ e. cc)
+called_tells (With k) j = inr (λ e. cc)
+called_tells (AtSeat k) j = elim (eqb_tells k j) [
+  | inl h ↦ inl (ap AtSeat h.1)
+  | inr h ↦ inr (λ e. h.1 cc)
+]
+
+module _ (place : ℕ → Place) (i : ℕ) (to : Place) (none : (j : ℕ) → j ≢ i → due_stage ≤ stage (place j) → stage (place j) ≤ passing_stage → ⊥) where
+  nobody_else : (j : ℕ) → j ≢ i → HoldsRight (place j) → ⊥
+  nobody_else j ne a = let b = has_right (place j) a in none j ne b.0 b.1
+
+  -- after its step seat i alone has the right
+  pub alone_with : HoldsRight to → (j : ℕ) → HoldsRight (put place i to j) ↔ (With i ≡ With j)
+  alone_with here =
+      at_put place i to (λ j p. HoldsRight p ↔ (With i ≡ With j)) ((λ _. refl), (λ _. here)) (λ j ne. ((λ a. absurd (nobody_else j ne a)), (λ e. absurd (ne cc))))
+
+  -- after its step no seat has it
+  pub with_none : (x : Whereabouts) → (HoldsRight to → ⊥) → ((j : ℕ) → x ≢ With j) → (j : ℕ) → HoldsRight (put place i to j) ↔ (x ≡ With j)
+  with_none x here gone =
+      at_put place i to (λ j p. HoldsRight p ↔ (x ≡ With j)) ((λ a. absurd (here a)), (λ e. absurd (gone i e))) (λ j ne. ((λ a. absurd (nobody_else j ne a)), (λ e. absurd (gone j e))))
+
+-- who stands between due and passing has the right, and who has the right stands there
+pub held : {seats : ℕ} {s : World} {right : Whereabouts} {owner : ℕ → ℕ} → KeepsRight seats s right owner → (j : ℕ) → due_stage ≤ stage (s.place j) → stage (s.place j) ≤ passing_stage → right ≡ With j
+held {s = s} r j low high = (r.holder.with_seat j).0 (holds_right (s.place j) low high)
+
+pub holds : {seats : ℕ} {s : World} {right : Whereabouts} {owner : ℕ → ℕ} → KeepsRight seats s right owner → (j : ℕ) → right ≡ With j → (due_stage ≤ stage (s.place j)) × (stage (s.place j) ≤ passing_stage)
+holds {s = s} r j e = has_right (s.place j) ((r.holder.with_seat j).1 e)
+
+module _ (seats : ℕ) (s : World) (right : Whereabouts) (owner : ℕ → ℕ) (r : KeepsRight seats s right owner) (i : ℕ) where
   -- who waits with a ticket goes on waiting where another steps
   pub waiter_stays : (to : Place) (k : ℕ) → stage (s.place i) ≢ ticketed_stage → Waits s.place owner k → Waits (put s.place i to) owner k
   waiter_stays to k other h =
@@ -28,4 +81,4 @@ module _ (seats : ℕ) (s : World) (right : ℕ) (owner : ℕ → ℕ) (r : Keep
 
   -- who has the right has it alone
   pub others : due_stage ≤ stage (s.place i) → stage (s.place i) ≤ passing_stage → (j : ℕ) → j ≢ i → due_stage ≤ stage (s.place j) → stage (s.place j) ≤ passing_stage → ⊥
-  others a b j ne c d = ne (let h = r.held j c d in let m = r.held i a b in omega arith)
+  others a b j ne c d = ne (let h = held r j c d in let m = held r i a b in cc)

@@ -4,7 +4,7 @@ use Rattle.monk_history.specs.declared.event.Next.{Next}
 use Rattle.monk_history.specs.declared.event.Next.TheVariants.{Entry}
 use Rattle.monk_world.specs.Places.{stage, source, back_turn, open_turn, turn_of_next, place_of, stays_inside, is_queued_at, due_stage, active_stage, back_stage, passing_stage, free_source}
 use Rattle.monk_world.specs.Put.{put}
-use Rattle.monk_world.specs.Right.{KeepsRight}
+use Rattle.monk_world.specs.Right.{Whereabouts, KeepsRight}
 use Rattle.monk_world.specs.Queueing.{FitsQueues}
 use Rattle.monk_world.specs.Steps.{after_floor_out, after_floor_in, after_ticket_grant, after_seat_grant}
 use Rattle.monk_world.specs.World.{World}
@@ -14,7 +14,7 @@ use Rattle.monk_world.specs.declared.place.Place.{Place}
 use Rattle.monk_world.specs.declared.place.Place.TheVariants.{Idle, Ticket, Due, Active, Back, Passing, Inner}
 use Rattle.monk_world.specs.declared.source.Source.{Source}
 use Rattle.monk_world.specs.declared.source.Source.TheVariants.{Free, Granted, Called}
-use Rattle.monk_world.proofs.Holders.{at_home, others}
+use Rattle.monk_world.proofs.Holders.{held, at_home, others}
 use Rattle.monk_world.proofs.PutLaws.{at_put}
 
 -- a seat that goes home is in a queue exactly where it stays inside
@@ -39,7 +39,7 @@ StillFree quiet j p = stage p ≡ due_stage → source p ≡ free_source → qui
 abbrev ToEntry : Bool → ℕ → ℕ → Place → Type 0
 ToEntry quiet n j p = stage p ≡ back_stage → back_turn p ≡ open_turn → (quiet ≡ true) ⊎ (2 ≤ n)
 
-module _ (seats : ℕ) (s : World) (right : ℕ) (owner : ℕ → ℕ) (r : KeepsRight seats s right owner) (queued : ℕ → Bool) (quiet : Bool) (f : FitsQueues s queued quiet) (i : ℕ) where
+module _ (seats : ℕ) (s : World) (right : Whereabouts) (owner : ℕ → ℕ) (r : KeepsRight seats s right owner) (queued : ℕ → Bool) (quiet : Bool) (f : FitsQueues s queued quiet) (i : ℕ) where
   stage_of : (p : Place) → s.place i ≡ p → stage (s.place i) ≡ stage p
   stage_of p at = ap stage at
 
@@ -93,10 +93,10 @@ module _ (seats : ℕ) (s : World) (right : ℕ) (owner : ℕ → ℕ) (r : Keep
       → FitsQueues (record s { place = put s.place i p }) queued_new quiet_new
   holder p queued_new quiet_new low high next alike here entry =
       let none : (j : ℕ) → j ≢ i → due_stage ≤ stage (s.place j) → stage (s.place j) ≤ passing_stage → ⊥ = others seats s right owner r i low high in
-      let mine = r.held i low high in
+      let mine = held r i low high in
       record {
         in_queue = at_put s.place i p (InQueue queued_new) here (λ j ne a. alike j ne ∙ f.in_queue j a);
-        free = λ e. absurd (let a = r.not_free e in omega arith);
+        free = λ e. absurd (let a = r.holder.free.0 e in cc);
         still_free = at_put s.place i p (StillFree quiet_new) (λ a. absurd (later next a)) (λ j ne a. absurd (none j ne (omega arith) (omega arith)));
         back_to_entry = at_put s.place i p (ToEntry quiet_new s.unpassed) entry (λ j ne a. absurd (none j ne (omega arith) (omega arith)));
       }
@@ -116,11 +116,11 @@ module _ (seats : ℕ) (s : World) (right : ℕ) (owner : ℕ → ℕ) (r : Keep
   stays_active q queued_new quiet_new active alike =
       let three : stage (s.place i) ≡ active_stage = stage_of (Active q) active in
       let none : (j : ℕ) → j ≢ i → due_stage ≤ stage (s.place j) → stage (s.place j) ≤ passing_stage → ⊥ = others seats s right owner r i (omega arith) (omega arith) in
-      let mine = r.held i (omega arith) (omega arith) in
+      let mine = held r i (omega arith) (omega arith) in
       let apart : (j : ℕ) → stage (s.place j) ≢ active_stage → j ≢ i = λ j ne e. ne (ap (λ (k : ℕ). stage (s.place k)) e ∙ three) in
       record {
         in_queue = λ j ne. alike j (apart j ne) ∙ f.in_queue j ne;
-        free = λ e. absurd (let a = r.not_free e in omega arith);
+        free = λ e. absurd (let a = r.holder.free.0 e in cc);
         still_free = λ j a. absurd (none j (apart j (λ e. omega arith)) (omega arith) (omega arith));
         back_to_entry = λ j a. absurd (none j (apart j (λ e. omega arith)) (omega arith) (omega arith));
       }
@@ -157,8 +157,8 @@ module _ (seats : ℕ) (s : World) (right : ℕ) (owner : ℕ → ℕ) (r : Keep
       let p : Place = Passing t home in
       let four : stage (s.place i) ≡ back_stage = stage_of (Back Entry home) back in
       let none : (j : ℕ) → j ≢ i → due_stage ≤ stage (s.place j) → stage (s.place j) ≤ passing_stage → ⊥ = others seats s right owner r i (omega arith) (omega arith) in
-      let mine = r.held i (omega arith) (omega arith) in
-      let some : s.unpassed ≢ 0 = λ e. let a = r.not_free e in omega arith in
+      let mine = held r i (omega arith) (omega arith) in
+      let some : s.unpassed ≢ 0 = λ e. let a = r.holder.free.0 e in cc in
       record {
         in_queue = at_put s.place i p (InQueue queued) (λ _. queued_here (Back Entry home) back (λ e. omega arith)) (λ j _. f.in_queue j);
         free = λ e. absurd (omega arith);

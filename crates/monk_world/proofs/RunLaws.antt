@@ -1,5 +1,5 @@
 -- What every run leads to
-use Rattle.std.proofs.Common.{◌≡◌, ◌≢◌, ℕ, zero, suc, Bool, true, ◌≤◌, ◌⊎◌, inl, inr, false, List, [], ◌∷◌, sym, refl, ap, ◌∙◌, subst, arith}
+use Rattle.std.proofs.Common.{◌≡◌, ◌≢◌, ℕ, zero, suc, Bool, true, ◌≤◌, inl, inr, false, List, [], ◌∷◌, sym, refl, ap, ◌∙◌, subst, arith}
 use Rattle.std.specs.Prelude.{nat_lt}
 use Rattle.std.proofs.lemmas.Bool.{cases_eq}
 use Rattle.monk_kinds.specs.Kind.{IsKind}
@@ -20,18 +20,18 @@ use Rattle.monk_history.proofs.MeaningLaws.StepLaws.{situation-none}
 use Rattle.monk_floor.specs.View.{FloorView, monitor_of, empty_floor}
 use Rattle.monk_world.specs.Enters.{used_at}
 use Rattle.monk_world.specs.Laws.{OpeningIsSound}
-use Rattle.monk_world.specs.OnePlace.{Whereabouts, Nowhere, AtTicket, With, AtSeat}
 use Rattle.monk_world.specs.Places.{stage, ticket, source, owned_by, due_stage, active_stage, inside_stage, granted_source}
-use Rattle.monk_world.specs.Right.{with_seat, called}
+use Rattle.monk_world.specs.Right.{Whereabouts, Nowhere, AtTicket, With, AtSeat}
 use Rattle.monk_world.specs.Runs.{opening_state, Told, IsRun, IsWellLed, RunsAreWellLed}
 use Rattle.monk_world.specs.Sound.{IsSound, Sound, left_at}
 use Rattle.monk_world.specs.Stands.{Stands, opening_world}
 use Rattle.monk_world.specs.State.{State, is_standing, is_quiet}
-use Rattle.monk_world.specs.Turns.{turn_number, turn_at}
+use Rattle.monk_world.specs.Turns.{FitsTurn, turn_number, turn_at}
 use Rattle.monk_world.specs.declared.place.Place.{Place}
 use Rattle.monk_world.specs.declared.place.Place.TheVariants.{Idle, Ticket, Due, Active, Back, Passing, Inner}
 use Rattle.monk_world.specs.declared.source.Source.TheVariants.{Free, Granted, Called}
-use Rattle.monk_world.proofs.OnePlaceLaws.{in_one_place, number, numbered}
+use Rattle.monk_world.proofs.EntersLaws as enters
+use Rattle.monk_world.proofs.OnePlaceLaws.{in_one_place}
 use Rattle.monk_world.proofs.SoundSteps.{step_is_sound}
 use Rattle.monk_world.proofs.StepLaws.{opening_stands}
 use Rattle.monk_world.proofs.TestLaws.{is_quiet-true}
@@ -41,7 +41,7 @@ no_times zero j = refl
 no_times (suc n) j = let e = no_times n j in omega arith
 
 -- with no event there is no queue, and the turn is open
-opening_holds : (k : Rules) (o : Object) (f : FloorView) → f.history ≡ [] → Stands f.seats opening_world 0 (λ t. 0) (turn_number (turn f.history)) (is_standing k o f) (is_quiet k o f)
+opening_holds : (k : Rules) (o : Object) (f : FloorView) → f.history ≡ [] → Stands f.seats opening_world Nowhere (λ t. 0) (turn_number (turn f.history)) (is_standing k o f) (is_quiet k o f)
 opening_holds k o f e =
     let m = monitor_of k o f in
     let nothing : situation m f.history ≡ opening_situation m = ap (situation m) e ∙ situation-none m in
@@ -53,20 +53,20 @@ opening_holds k o f e =
       ready = ap (λ (t : Situation). ready_of o t.state t.untils) nothing;
     }) in
     let nobody : (λ (j : ℕ). false) ≡ is_standing k o f = λ i j. sym (ap (λ (n : ℕ). nat_lt 0 n) (stands_nowhere j)) i in
-    subst (λ (q : Bool). Stands f.seats opening_world 0 (λ t. 0) (turn_number (turn f.history)) (is_standing k o f) q) (sym quiet)
-    (subst (λ (b : ℕ → Bool). Stands f.seats opening_world 0 (λ t. 0) (turn_number (turn f.history)) b true) nobody
-    (subst (λ (u : Turn). Stands f.seats opening_world 0 (λ t. 0) (turn_number u) (λ j. false) true) (sym open_turn_is) (opening_stands f.seats)))
+    subst (λ (q : Bool). Stands f.seats opening_world Nowhere (λ t. 0) (turn_number (turn f.history)) (is_standing k o f) q) (sym quiet)
+    (subst (λ (b : ℕ → Bool). Stands f.seats opening_world Nowhere (λ t. 0) (turn_number (turn f.history)) b true) nobody
+    (subst (λ (u : Turn). Stands f.seats opening_world Nowhere (λ t. 0) (turn_number u) (λ j. false) true) (sym open_turn_is) (opening_stands f.seats)))
 
 pub opening_is_sound : OpeningIsSound
 opening_is_sound k o opening seats conds budget = record {
-  right = 0;
+  right = Nowhere;
   owner = λ t. 0;
   is_sound = record {
     legal = legal_none (monitor_of k o (empty_floor opening seats conds budget));
     stands = opening_holds k o (empty_floor opening seats conds budget) refl;
     active = λ j a. absurd (omega arith);
     known = λ j a. absurd (omega arith);
-    entered = record { with = λ j e. absurd (omega arith); called_seat = λ j e. absurd (omega arith); else_unused = λ _ _. let n = enters_none in omega arith };
+    entered = let n = enters_none in omega arith;
     late = λ j a. absurd (omega arith);
     granted_late = λ j a. absurd (omega arith);
     left = λ j. omega arith;
@@ -87,16 +87,6 @@ inner_left (Active q) n six a = absurd (omega arith)
 inner_left (Back x home) n six a = absurd (omega arith)
 inner_left (Passing t home) n six a = absurd (omega arith)
 inner_left Inner n six a = a
-
--- the right is with a seat, in a seat's place, or neither
-right_cases : (n : ℕ) → ((j : ℕ) × (n ≡ with_seat j)) ⊎ (((j : ℕ) × (n ≡ called j)) ⊎ (((j : ℕ) → n ≢ with_seat j) × ((j : ℕ) → n ≢ called j)))
-right_cases n = by (numbered 0 n)
-  where
-    by : (x : Whereabouts) × (n ≡ number x) × ((k : ℕ) → x ≡ AtTicket k → k ≡ 0) → ((j : ℕ) × (n ≡ with_seat j)) ⊎ (((j : ℕ) × (n ≡ called j)) ⊎ (((j : ℕ) → n ≢ with_seat j) × ((j : ℕ) → n ≢ called j)))
-    by (Nowhere, e, t) = inr (inr ((λ j a. omega arith), (λ j a. omega arith)))
-    by (AtTicket m, e, t) = inr (inr ((λ j a. omega arith), (λ j a. omega arith)))
-    by (With m, e, t) = inl (m, e)
-    by (AtSeat m, e, t) = inr (inl (m, e))
 
 -- a seat that is not active owns no turn
 not_owned : (j m : ℕ) (p : Place) → turn_at j p ≢ owned_by m
@@ -119,29 +109,30 @@ owner_of Open = 0
 owner_of (DueTurn j q) = 0
 owner_of (Owned j) = j
 
-module _ (k : Rules) (o : Object) (s : State) (right : ℕ) (owner : ℕ → ℕ) (h : IsSound k o s right owner) where
+module _ (k : Rules) (o : Object) (s : State) (right : Whereabouts) (owner : ℕ → ℕ) (h : IsSound k o s right owner) where
   -- whoever owns the turn is active
   owner_stands : (j : ℕ) → turn s.floor.history ≡ Owned j → stage (s.world.place j) ≡ active_stage
-  owner_stands j own = elim (right_cases right) [
-    | inl a ↦ elim (cases_eq (stage (s.world.place a.0)) active_stage) [
-      | inl three ↦ let same : a.0 ≡ j = ap owner_of (sym (h.active a.0 three) ∙ own) in subst (λ (m : ℕ). stage (s.world.place m) ≡ active_stage) same three
-      | inr ne ↦ absurd (not_owned a.0 j (s.world.place a.0) (sym (h.stands.fits_turn.with a.0 a.1 ne) ∙ ap turn_number own))
-    ]
-    | inr b ↦ elim b [
-      | inl a ↦ absurd (let e = h.stands.fits_turn.called_seat a.0 a.1 in let f : turn_number (turn s.floor.history) ≡ owned_by j = ap turn_number own in omega arith)
-      | inr c ↦ absurd (let e = h.stands.fits_turn.else_open c.0 c.1 in let f : turn_number (turn s.floor.history) ≡ owned_by j = ap turn_number own in omega arith)
-    ]
-  ]
+  owner_stands j own = by right h.stands.fits_turn
+    where
+      number : turn_number (turn s.floor.history) ≡ owned_by j
+      number = ap turn_number own
+
+      by : (x : Whereabouts) → FitsTurn s.world x (turn_number (turn s.floor.history)) → stage (s.world.place j) ≡ active_stage
+      by Nowhere f = absurd (let n = number in omega arith)
+      by (AtTicket t) f = absurd (let n = number in omega arith)
+      by (With m) f = elim (cases_eq (stage (s.world.place m)) active_stage) [
+        | inl three ↦ let same : m ≡ j = ap owner_of (sym (h.active m three) ∙ own) in subst (λ (i : ℕ). stage (s.world.place i) ≡ active_stage) same three
+        | inr ne ↦ absurd (not_owned m j (s.world.place m) (sym (f ne) ∙ number))
+      ]
+      by (AtSeat m) f = absurd (let n = number in omega arith)
 
   entered_is : (j t : ℕ) (p : Place) → s.world.place j ≡ p → stage p ≡ due_stage → ticket p ≡ t → used_at p ≡ 0 → source p ≤ granted_source → enters_of s.floor.history ≡ t
   entered_is j t p at two same unused by_ticket =
       let stage_is : stage (s.world.place j) ≡ due_stage = ap stage at ∙ two in
       let source_is : source (s.world.place j) ≡ source p = ap source at in
       let ticket_is : ticket (s.world.place j) ≡ t = ap ticket at ∙ same in
-      let sum = h.stands.keeps.in_use j stage_is (omega arith) in
-      let mine = h.stands.keeps.held j (omega arith) (omega arith) in
-      let used : used_at (s.world.place j) ≡ 0 = ap used_at at ∙ unused in
-      let e = h.entered.with j mine in
+      let sum = h.stands.keeps.tickets.in_use j stage_is (omega arith) in
+      let e = enters.entered_here s.floor.seats s.world right owner h.stands.keeps (enters_of s.floor.history) h.entered j p at (omega arith) (omega arith) in
       omega arith
 
   pub well_led : IsWellLed k o s

@@ -31,9 +31,10 @@ use Rattle.monk_history.proofs.MeaningLaws.MoveLaws.{counts_after, stands_after}
 use Rattle.monk_history.proofs.MeaningLaws.QuietLaws.{quiet_after}
 use Rattle.monk_history.proofs.MeaningLaws.StandingLaws.{legal_placed}
 use Rattle.monk_floor.specs.View.{monitor_of, stands_of}
-use Rattle.monk_world.specs.Enters.{FitsEnters, used_by, used_at}
+use Rattle.monk_world.specs.Enters.{FitsEnters, used_by}
 use Rattle.monk_world.specs.Places.{stage, ticket, source, open_turn, due_to, turn_of_next, stays_inside, comes_from_queue, is_queued_at, outside_stage, ticketed_stage, due_stage, active_stage, passing_stage, free_source, granted_source}
 use Rattle.monk_world.specs.Put.{put}
+use Rattle.monk_world.specs.Right.{Whereabouts}
 use Rattle.monk_world.specs.Sound.{IsSound, Sound, left_at, left_within}
 use Rattle.monk_world.specs.Stands.{Stands}
 use Rattle.monk_world.specs.State.{State, with_event, is_standing, is_quiet}
@@ -47,6 +48,7 @@ use Rattle.monk_world.specs.declared.place.Place.TheVariants.{Due, Active, Back}
 use Rattle.monk_world.specs.declared.source.Source.{Source}
 use Rattle.monk_world.specs.declared.source.Source.TheVariants.{Free, Granted, Called}
 use Rattle.monk_world.proofs.EntersLaws as enters
+use Rattle.monk_world.proofs.TurnLaws as turns
 use Rattle.monk_world.proofs.Holders.{others}
 use Rattle.monk_world.proofs.PutLaws.{at_put, put_here}
 use Rattle.monk_world.proofs.StepLaws.{floor_out_keeps_the_right, activity_keeps_the_right, floor_in_keeps_the_right}
@@ -58,7 +60,7 @@ number_of b = if b then 1 else 0
 false_is : false ≡ true → ⊥
 false_is e = absurd cc
 
-module _ (k : Rules) (o : Object) (s : State) (right : ℕ) (owner : ℕ → ℕ) (h : IsSound k o s right owner) (i : ℕ) where
+module _ (k : Rules) (o : Object) (s : State) (right : Whereabouts) (owner : ℕ → ℕ) (h : IsSound k o s right owner) (i : ℕ) where
   none : due_stage ≤ stage (s.world.place i) → stage (s.world.place i) ≤ passing_stage → (j : ℕ) → j ≢ i → due_stage ≤ stage (s.world.place j) → stage (s.world.place j) ≤ passing_stage → ⊥
   none low high = others s.floor.seats s.world right owner h.stands.keeps i low high
 
@@ -70,7 +72,7 @@ at_way home.Idle = refl
 at_way home.Inner = refl
 
 -- one event more, of seat i
-module _ (k : Rules) (o : Object) (s : State) (right : ℕ) (owner : ℕ → ℕ) (h : IsSound k o s right owner) (i : ℕ)
+module _ (k : Rules) (o : Object) (s : State) (right : Whereabouts) (owner : ℕ → ℕ) (h : IsSound k o s right owner) (i : ℕ)
     (e : Event) (of_seat : seat_of e ≡ i) (allowed : IsAllowed (monitor_of k o s.floor) s.floor.history e) where
   abbrev past : List Event
   past = s.floor.history
@@ -210,12 +212,11 @@ module _ (k : Rules) (o : Object) (s : State) (right : ℕ) (owner : ℕ → ℕ
       }
 
 -- the event with which the floor comes out is allowed
-module _ (k : Rules) (o : Object) (s : State) (right : ℕ) (owner : ℕ → ℕ) (h : IsSound k o s right owner) (i : ℕ) (near : i < s.floor.seats) where
+module _ (k : Rules) (o : Object) (s : State) (right : Whereabouts) (owner : ℕ → ℕ) (h : IsSound k o s right owner) (i : ℕ) (near : i < s.floor.seats) where
   turn_due : (q : Source) → s.world.place i ≡ Due q → turn_number (turn s.floor.history) ≡ turn_at i (Due q)
   turn_due q due =
       let two : stage (s.world.place i) ≡ due_stage = ap stage due in
-      let mine = h.stands.keeps.held i (omega arith) (omega arith) in
-      subst (λ (p : Place). stage p ≢ active_stage → turn_number (turn s.floor.history) ≡ turn_at i p) due (h.stands.fits_turn.with i mine) (λ a. omega arith)
+      turns.turn_here s.floor.seats s.world right owner h.stands.keeps (turn_number (turn s.floor.history)) h.stands.fits_turn i (Due q) due (omega arith) (omega arith) (λ a. omega arith)
 
   -- a seat that comes from outside stands at the door
   at_door : (q : Source) → s.world.place i ≡ Due q → turn_at i (Due q) ≡ open_turn → comes_from_queue q ≡ false → IsAtDoor (monitor_of k o s.floor) s.floor.history i
@@ -244,9 +245,9 @@ module _ (k : Rules) (o : Object) (s : State) (right : ℕ) (owner : ℕ → ℕ
       let same : ticket (s.world.place i) ≡ t = ap ticket due in
       let late = h.granted_late i two by_ticket in
       let r = h.stands.keeps in
-      let mine = r.held i (omega arith) (omega arith) in
-      let sum = r.in_use i two (omega arith) in
-      let used = subst (λ (p : Place). enters_of s.floor.history + s.world.unpassed ≡ s.world.drawn + used_at p) due (h.entered.with i mine) in
+      let sum = r.tickets.in_use i two (omega arith) in
+      let used : enters_of s.floor.history + s.world.unpassed ≡ s.world.drawn + 0 =
+      enters.entered_here s.floor.seats s.world right owner r (enters_of s.floor.history) h.entered i (Due (Granted t)) due (omega arith) (omega arith) in
       let begun : s.floor.history ≢ [] = λ z. let n : enters_of s.floor.history ≡ 0 = ap enters_of z ∙ enters_none in omega arith in
       comes_out k o s right owner h i (Enter i via.Handed) refl ((enters_handed (monitor_of k o s.floor) s.floor.history i).1 (at_door (Granted t) due refl refl, begun)) (Granted t) near due refl refl
   sound_out Called due =

@@ -23,6 +23,7 @@ use Rattle.monk_history.proofs.MeaningLaws.ReleaseLaws.{legal_order, chosen_allo
 use Rattle.monk_floor.specs.View.{monitor_of, stands_of}
 use Rattle.monk_world.specs.Places.{stage, stays_inside, active_stage}
 use Rattle.monk_world.specs.Put.{put}
+use Rattle.monk_world.specs.Right.{Whereabouts}
 use Rattle.monk_world.specs.Sound.{IsSound, Sound, left_within}
 use Rattle.monk_world.specs.State.{State, with_event}
 use Rattle.monk_world.specs.Steps.{after_floor_in}
@@ -63,7 +64,7 @@ pub record IsRelease (e : Event) (i : ℕ) (to : Home) : Type 0 where
   pub way : (x : Next) → is_way_out (with_next x e) ≡ not (stays_inside to)
   pub no_reply : (o : Object) (d : List ℕ) → is_right_reply o d e ≡ true
 
-module _ (k : Rules) (o : Object) (s : State) (right : ℕ) (owner : ℕ → ℕ) (kind : IsKind k) (h : IsSound k o s right owner) (i : ℕ) (near : i < s.floor.seats) (q : Source) (active : s.world.place i ≡ Active q) where
+module _ (k : Rules) (o : Object) (s : State) (right : Whereabouts) (owner : ℕ → ℕ) (kind : IsKind k) (h : IsSound k o s right owner) (i : ℕ) (near : i < s.floor.seats) (q : Source) (active : s.world.place i ≡ Active q) where
   owns : is_owned_by i (turn s.floor.history) ≡ true
   owns = ap (is_owned_by i) (h.active i (ap stage active)) ∙ eq-eqb i i refl
 
@@ -143,7 +144,7 @@ signal_leaving i c = record { seat = λ x. refl; no_enter = λ x. refl; chooses 
 pub waiting_until : (i p : ℕ) → IsRelease (Until i p next.Stay) i home.Inner
 waiting_until i p = record { seat = λ x. refl; no_enter = λ x. refl; chooses = λ x. refl; called = λ x. refl; way = λ x. refl; no_reply = λ o d. refl }
 
-module _ (k : Rules) (o : Object) (s : State) (right : ℕ) (owner : ℕ → ℕ) (kind : IsKind k) (h : IsSound k o s right owner) (i : ℕ) (near : i < s.floor.seats) where
+module _ (k : Rules) (o : Object) (s : State) (right : Whereabouts) (owner : ℕ → ℕ) (kind : IsKind k) (h : IsSound k o s right owner) (i : ℕ) (near : i < s.floor.seats) where
   done : (c : Command) (a : Answer) (t : State) (p : Place) → s.world.place i ≡ p → is_call_in_range o s.floor (call_of i c) ≡ true → is_call_offered k (call_of i c) ≡ true
       → left_for c ≤ left_of s.floor.budget s.floor.history i → IsDone k o s i p c a t → Sound k o t
   done command.Arrive a t Idle at range offered left d = subst (Sound k o) (sym d.1) (sound_arrival k o s right owner h i near at left)

@@ -1,5 +1,5 @@
 -- A word step of a seat, which leaves the floor alone, keeps a state sound
-use Rattle.std.proofs.Common.{◌≡◌, ◌≢◌, ℕ, ◌+◌, ◌-◌, ◌%◌, ◌==◌, ◌<◌, ◌≤◌, true, false, cond, Bool, sym, refl, ap, subst, inl, inr, arith, eqb-true}
+use Rattle.std.proofs.Common.{◌≡◌, ◌≢◌, ℕ, ◌+◌, ◌-◌, ◌%◌, ◌==◌, ◌<◌, ◌≤◌, true, false, cond, Bool, sym, refl, ap, ◌∙◌, subst, inl, inr, arith, eqb-true}
 use Rattle.std.proofs.lemmas.Bool.Decides.{eqb_tells}
 use Rattle.monk_kinds.specs.declared.mode.Rules.{Rules}
 use Rattle.monk_object.specs.Object.{Object}
@@ -11,7 +11,7 @@ use Rattle.monk_history.specs.declared.event.Turn.TheVariants.{Owned}
 use Rattle.monk_world.specs.Enters.{FitsEnters}
 use Rattle.monk_world.specs.Places.{stage, ticket, source, due_to, turn_of_next, place_of, outside_stage, ticketed_stage, due_stage, active_stage, back_stage, passing_stage, granted_source}
 use Rattle.monk_world.specs.Put.{put}
-use Rattle.monk_world.specs.Right.{nowhere, granted, with_seat, called}
+use Rattle.monk_world.specs.Right.{Whereabouts, Nowhere, AtTicket, With, AtSeat}
 use Rattle.monk_world.specs.Sound.{IsSound, Sound, left_at, left_within}
 use Rattle.monk_world.specs.Stands.{Stands}
 use Rattle.monk_world.specs.State.{State, is_standing, is_quiet}
@@ -33,15 +33,15 @@ home_left : (h : Home) → left_at (place_of h) ≡ left_within h
 home_left home.Idle = refl
 home_left home.Inner = refl
 
-module _ (k : Rules) (o : Object) (s : State) (right : ℕ) (owner : ℕ → ℕ) (h : IsSound k o s right owner) (i : ℕ) (near : i < s.floor.seats) where
-  abbrev StandsSo : World → ℕ → (ℕ → ℕ) → Type 0
+module _ (k : Rules) (o : Object) (s : State) (right : Whereabouts) (owner : ℕ → ℕ) (h : IsSound k o s right owner) (i : ℕ) (near : i < s.floor.seats) where
+  abbrev StandsSo : World → Whereabouts → (ℕ → ℕ) → Type 0
   StandsSo w right_new owner_new = Stands s.floor.seats w right_new owner_new (turn_number (turn s.floor.history)) (is_standing k o s.floor) (is_quiet k o s.floor)
 
   left_here : ℕ
   left_here = left_of s.floor.budget s.floor.history i
 
   -- seat i goes to p, and the words become these
-  word_step : (t n : ℕ) (tickets seats_called counts : ℕ → ℕ) (p : Place) (right_new : ℕ) (owner_new : ℕ → ℕ)
+  word_step : (t n : ℕ) (tickets seats_called counts : ℕ → ℕ) (p : Place) (right_new : Whereabouts) (owner_new : ℕ → ℕ)
       → let w : World = record { drawn = t; unpassed = n; ticket_place = tickets; seat_place = seats_called; place = put s.world.place i p; count = counts } in
       StandsSo w right_new owner_new → FitsEnters w right_new (enters_of s.floor.history) → stage p ≢ active_stage → (stage p ≡ ticketed_stage → 1 ≤ ticket p) → (stage p ≡ due_stage → source p ≡ granted_source → 1 ≤ ticket p)
       → left_at p ≤ left_of s.floor.budget s.floor.history i → ((j : ℕ) → j ≢ i → stage (s.world.place j) ≡ active_stage → 2 ≤ s.world.unpassed → 2 ≤ n)
@@ -62,17 +62,17 @@ module _ (k : Rules) (o : Object) (s : State) (right : ℕ) (owner : ℕ → ℕ
   sound_arrival idle enough =
       let w = s.world in
       let r = h.stands.keeps in
-      let behind = r.behind in
+      let behind = r.tickets.behind in
       let stands = arrive_keeps_the_right s.floor.seats w right owner (turn_number (turn s.floor.history)) (is_standing k o s.floor) (is_quiet k o s.floor) i h.stands idle in
       let After : Bool → Type 0 = λ b.
       let v : World = record w { drawn = w.drawn + 1; unpassed = w.unpassed + 1; place = put w.place i (cond b (Due (Free w.drawn)) (Ticket w.drawn)) } in
-      StandsSo v (cond b (with_seat i) right) (cond b owner (put owner w.drawn i)) → Sound k o (record s { world = v }) in
+      StandsSo v (cond b (With i) right) (cond b owner (put owner w.drawn i)) → Sound k o (record s { world = v }) in
       elim (eqb_tells w.unpassed 0) as (λ _. After (w.unpassed == 0)) [
         | inl e ↦ subst After (sym e.0) (λ st. record {
-          right = with_seat i;
+          right = With i;
           owner = owner;
           is_sound =
-              word_step (w.drawn + 1) (w.unpassed + 1) w.ticket_place w.seat_place w.count (Due (Free w.drawn)) (with_seat i) owner st
+              word_step (w.drawn + 1) (w.unpassed + 1) w.ticket_place w.seat_place w.count (Due (Free w.drawn)) (With i) owner st
               (enters.arrives_free s.floor.seats w right owner r (enters_of s.floor.history) h.entered i e.1)
               (λ a. omega arith) (λ a. absurd (omega arith)) (λ a b. absurd (omega arith)) enough (λ j _ _ a. omega arith);
         })
@@ -99,12 +99,12 @@ module _ (k : Rules) (o : Object) (s : State) (right : ℕ) (owner : ℕ → ℕ
       let here = subst (λ (m : ℕ). w.ticket_place (m % s.floor.seats) ≡ m + 1) (sym same) (eqb-true _ _ test) in
       let there = grant_is_there s.floor.seats w right owner r i one here some in
       record {
-        right = with_seat i;
+        right = With i;
         owner = owner;
         is_sound =
-            word_step w.drawn w.unpassed w.ticket_place w.seat_place w.count (Due (Granted t)) (with_seat i) owner
+            word_step w.drawn w.unpassed w.ticket_place w.seat_place w.count (Due (Granted t)) (With i) owner
             (ticket_look_keeps_the_right s.floor.seats w right owner (turn_number (turn s.floor.history)) (is_standing k o s.floor) (is_quiet k o s.floor) i h.stands t true some at test)
-            (enters.takes_grant s.floor.seats w right owner r (enters_of s.floor.history) h.entered i t there.1)
+            (enters.takes_grant s.floor.seats w right owner r (enters_of s.floor.history) h.entered i t (there.1 ∙ ap AtTicket same))
             (λ a. omega arith) (λ a. absurd (omega arith)) (λ a b. omega arith) enough (λ j _ _ a. a);
       }
   sound_ticket_look t false at test =
@@ -119,10 +119,10 @@ module _ (k : Rules) (o : Object) (s : State) (right : ℕ) (owner : ℕ → ℕ
       let enough = subst (λ (p : Place). left_at p ≤ left_of s.floor.budget s.floor.history i) at (h.left i) in
       let is = call_is_there s.floor.seats w right owner r i (eqb-true _ _ test) in
       record {
-        right = with_seat i;
+        right = With i;
         owner = owner;
         is_sound =
-            word_step w.drawn w.unpassed w.ticket_place w.seat_place count (Due Called) (with_seat i) owner
+            word_step w.drawn w.unpassed w.ticket_place w.seat_place count (Due Called) (With i) owner
             (seat_look_keeps_the_right s.floor.seats w right owner (turn_number (turn s.floor.history)) (is_standing k o s.floor) (is_quiet k o s.floor) i h.stands true at test)
             (enters.takes_call s.floor.seats w right owner r (enters_of s.floor.history) h.entered i count is)
             (λ a. omega arith) (λ a. absurd (omega arith)) (λ a b. absurd (omega arith)) enough (λ j _ _ a. a);
@@ -146,22 +146,22 @@ module _ (k : Rules) (o : Object) (s : State) (right : ℕ) (owner : ℕ → ℕ
       let stands = drop_keeps_the_right s.floor.seats w right owner (turn_number (turn s.floor.history)) (is_standing k o s.floor) (is_quiet k o s.floor) i h.stands home back in
       let After : Bool → Type 0 = λ b.
       let v : World = record w { unpassed = w.unpassed - 1; place = put w.place i (cond b (place_of home) (Passing next home)) } in
-      StandsSo v (cond b nowhere (with_seat i)) owner → Sound k o (record s { world = v }) in
+      StandsSo v (cond b Nowhere (With i)) owner → Sound k o (record s { world = v }) in
       elim (eqb_tells w.unpassed 1) as (λ _. After (w.unpassed == 1)) [
         | inl e ↦ subst After (sym e.0) (λ st. record {
-          right = nowhere;
+          right = Nowhere;
           owner = owner;
           is_sound =
-              word_step w.drawn (w.unpassed - 1) w.ticket_place w.seat_place w.count (place_of home) nowhere owner st
+              word_step w.drawn (w.unpassed - 1) w.ticket_place w.seat_place w.count (place_of home) Nowhere owner st
               (enters.drops_last s.floor.seats w right owner r (enters_of s.floor.history) h.entered i home back)
               (at_home home 3 (omega arith) (omega arith)) (λ a. absurd (at_home home 1 (omega arith) (omega arith) a)) (λ a b. absurd (at_home home 2 (omega arith) (omega arith) a))
               (rw (home_left home) enough) (alone (omega arith) (omega arith) (w.unpassed - 1));
         })
         | inr e ↦ subst After (sym e.0) (λ st. record {
-          right = with_seat i;
+          right = With i;
           owner = owner;
           is_sound =
-              word_step w.drawn (w.unpassed - 1) w.ticket_place w.seat_place w.count (Passing next home) (with_seat i) owner st
+              word_step w.drawn (w.unpassed - 1) w.ticket_place w.seat_place w.count (Passing next home) (With i) owner st
               (enters.drops_more s.floor.seats w right owner r (enters_of s.floor.history) h.entered i next home back)
               (λ a. omega arith) (λ a. absurd (omega arith)) (λ a b. absurd (omega arith)) enough (alone (omega arith) (omega arith) (w.unpassed - 1));
         })
@@ -173,10 +173,10 @@ module _ (k : Rules) (o : Object) (s : State) (right : ℕ) (owner : ℕ → ℕ
       let five : stage (w.place i) ≡ passing_stage = ap stage at in
       let enough = subst (λ (p : Place). left_at p ≤ left_of s.floor.budget s.floor.history i) at (h.left i) in
       record {
-        right = granted;
+        right = AtTicket t;
         owner = owner;
         is_sound =
-            word_step w.drawn w.unpassed (put w.ticket_place (t % s.floor.seats) (t + 1)) w.seat_place w.count (place_of home) granted owner
+            word_step w.drawn w.unpassed (put w.ticket_place (t % s.floor.seats) (t + 1)) w.seat_place w.count (place_of home) (AtTicket t) owner
             (ticket_grant_keeps_the_right s.floor.seats w right owner (turn_number (turn s.floor.history)) (is_standing k o s.floor) (is_quiet k o s.floor) i h.stands t home (omega arith) at)
             (enters.grants_ticket s.floor.seats w right owner h.stands.keeps (enters_of s.floor.history) h.entered i t home at)
             (at_home home 3 (omega arith) (omega arith)) (λ a. absurd (at_home home 1 (omega arith) (omega arith) a)) (λ a b. absurd (at_home home 2 (omega arith) (omega arith) a))
@@ -189,10 +189,10 @@ module _ (k : Rules) (o : Object) (s : State) (right : ℕ) (owner : ℕ → ℕ
       let four : stage (w.place i) ≡ back_stage = ap stage at in
       let enough = subst (λ (p : Place). left_at p ≤ left_of s.floor.budget s.floor.history i) at (h.left i) in
       record {
-        right = called m;
+        right = AtSeat m;
         owner = owner;
         is_sound =
-            word_step w.drawn w.unpassed w.ticket_place (put w.seat_place m (w.seat_place m + 1)) w.count (place_of home) (called m) owner
+            word_step w.drawn w.unpassed w.ticket_place (put w.seat_place m (w.seat_place m + 1)) w.count (place_of home) (AtSeat m) owner
             (seat_grant_keeps_the_right s.floor.seats w right owner (turn_number (turn s.floor.history)) (is_standing k o s.floor) (is_quiet k o s.floor) i h.stands next m home at is)
             (enters.calls_seat s.floor.seats w right owner h.stands.keeps (enters_of s.floor.history) h.entered i next m home at)
             (at_home home 3 (omega arith) (omega arith)) (λ a. absurd (at_home home 1 (omega arith) (omega arith) a)) (λ a b. absurd (at_home home 2 (omega arith) (omega arith) a))

@@ -4,12 +4,13 @@ use Rattle.std.proofs.lemmas.Bool.Decides.{eqb_tells}
 use Rattle.monk_world.specs.Laws.{OpeningStands, ArriveKeeps, TicketLookKeeps, SeatLookKeeps, FloorOutKeeps, ActiveKeeps, FloorInKeeps, DropKeeps, TicketGrantKeeps, SeatGrantKeeps, StandsInOnePlace}
 use Rattle.monk_world.specs.Places.{stage, ticket, back_turn, due_to, turn_of_next, place_of, is_queued_at, outside_stage, ticketed_stage, due_stage, active_stage, back_stage, passing_stage, inside_stage}
 use Rattle.monk_world.specs.Put.{put}
-use Rattle.monk_world.specs.Right.{KeepsRight, nowhere, granted, with_seat}
+use Rattle.monk_world.specs.Right.{KeepsRight, Nowhere, AtTicket, With}
 use Rattle.monk_world.specs.Stands.{Stands}
 use Rattle.monk_world.specs.Steps.{after_ticket_look, after_ticket_grant}
 use Rattle.monk_world.specs.declared.place.Place.{Place}
 use Rattle.monk_world.specs.declared.place.Place.TheVariants.{Idle, Ticket, Due, Active, Back, Passing, Inner}
 use Rattle.monk_world.specs.declared.source.Source.TheVariants.{Free}
+use Rattle.monk_world.proofs.Holders.{held}
 use Rattle.monk_world.proofs.OnePlaceLaws.{in_one_place}
 use Rattle.monk_world.proofs.PutLaws.{put_same}
 use Rattle.monk_world.proofs.QueueingLaws as queues
@@ -23,25 +24,32 @@ use Rattle.monk_world.proofs.TurnLaws as turns
 pub opening_stands : OpeningStands
 opening_stands seats = record {
   keeps = record {
-    is_free = λ _. refl;
-    not_free = λ _. refl;
-    behind = omega arith;
-    held = λ j a. absurd (omega arith);
-    holds = λ j e. absurd (omega arith);
-    is_called = λ j e. absurd (omega arith);
-    not_called = λ j _. refl;
-    in_use = λ j a. absurd (omega arith);
-    chose = λ j a. absurd (omega arith);
-    passing = λ j a. absurd (omega arith);
-    waits = λ j a. absurd (omega arith);
-    granted_at = λ j a. absurd (omega arith);
-    owned = λ k a. absurd (omega arith);
-    grant = λ e. absurd (omega arith);
-    places = λ i _. omega arith;
-    places_low = λ j a. absurd (omega arith);
-    places_free = λ _ i _. omega arith;
+    holder = record {
+      free = ((λ _. refl), (λ _. refl));
+      with_seat = λ j. ((λ a. absurd a), (λ e. absurd cc));
+    };
+    tickets = record {
+      behind = omega arith;
+      in_use = λ j a. absurd (omega arith);
+      waits = λ j a. absurd (omega arith);
+      owned = λ k a. absurd (omega arith);
+      passing = λ j a. absurd (omega arith);
+      granted = λ j a. absurd (omega arith);
+      grant = λ t e. absurd cc;
+    };
+    places = record {
+      granted = λ t e. absurd cc;
+      low = λ i _. omega arith;
+      low_passing = λ j a. absurd (omega arith);
+      low_free = λ _ i _. omega arith;
+    };
+    calls = record {
+      called = λ j e. absurd cc;
+      not_called = λ j _. refl;
+      chose = λ j a. absurd (omega arith);
+    };
   };
-  fits_turn = record { with = λ j e. absurd (omega arith); called_seat = λ j e. absurd (omega arith); else_open = λ _ _. refl };
+  fits_turn = refl;
   fits_queues = record { in_queue = λ j _. refl; free = λ _. refl; still_free = λ j a. absurd (omega arith); back_to_entry = λ j a. absurd (omega arith) };
 }
 
@@ -50,7 +58,7 @@ arrive_keeps_the_right seats w right owner turn queued quiet i h idle =
     let r = h.keeps in
     let zero : stage (w.place i) ≡ outside_stage = ap stage idle in
     let After : Bool → Type 0 = λ b. Stands seats (record w { drawn = w.drawn + 1; unpassed = w.unpassed + 1; place = put w.place i (cond b (Due (Free w.drawn)) (Ticket w.drawn)) })
-    (cond b (with_seat i) right) (cond b owner (put owner w.drawn i)) turn queued quiet in
+    (cond b (With i) right) (cond b owner (put owner w.drawn i)) turn queued quiet in
     elim (eqb_tells w.unpassed 0) as (λ _. After (w.unpassed == 0)) [
       | inl e ↦ subst After (sym e.0) (record {
         keeps = draws_free seats w right owner r i zero e.1;
@@ -72,8 +80,8 @@ ticket_look_keeps_the_right seats w right owner turn queued quiet i h t true som
     let found : w.ticket_place (t % seats) ≡ t + 1 = eqb-true _ _ test in
     let here = subst (λ (k : ℕ). w.ticket_place (k % seats) ≡ k + 1) (sym same) found in
     record {
-      keeps = subst (λ (k : ℕ). KeepsRight seats (after_ticket_look w i k true) (with_seat i) owner) same (finds_grant seats w right owner r i one here some);
-      fits_turn = turns.takes_grant seats w right owner r turn h.fits_turn i t (grant_is_there seats w right owner r i one here some).1;
+      keeps = subst (λ (k : ℕ). KeepsRight seats (after_ticket_look w i k true) (With i) owner) same (finds_grant seats w right owner r i one here some);
+      fits_turn = turns.takes_grant seats w right owner r turn h.fits_turn i t ((grant_is_there seats w right owner r i one here some).1 ∙ ap AtTicket same);
       fits_queues = queues.takes_grant seats w right owner r queued quiet h.fits_queues i t at;
     }
 ticket_look_keeps_the_right seats w right owner turn queued quiet i h t false some at test =
@@ -126,8 +134,8 @@ pub floor_in_keeps_the_right : FloorInKeeps
 floor_in_keeps_the_right seats w right owner turn queued quiet i h q next home queued_new quiet_new active chosen_seat alike own entry =
     let r = h.keeps in
     let three : stage (w.place i) ≡ active_stage = ap stage active in
-    let mine = r.held i (omega arith) (omega arith) in
-    let none : (j : ℕ) → j ≢ i → due_stage ≤ stage (w.place j) → stage (w.place j) ≤ passing_stage → ⊥ = λ j ne a b. ne (let e = r.held j a b in omega arith) in
+    let mine = held r i (omega arith) (omega arith) in
+    let none : (j : ℕ) → j ≢ i → due_stage ≤ stage (w.place j) → stage (w.place j) ≤ passing_stage → ⊥ = λ j ne a b. ne (let e = held r j a b in cc) in
     let inner : (k : ℕ) → turn_of_next next ≡ due_to k → stage (w.place k) ≡ inside_stage = λ k e.
     let c = chosen_seat k e in
     parked (w.place k) (sym (h.fits_queues.in_queue k (λ z. none k c.0 (omega arith) (omega arith))) ∙ sym (alike k c.0) ∙ c.1) (none k c.0) in
@@ -143,7 +151,7 @@ drop_keeps_the_right seats w right owner turn queued quiet i h home back =
     let four : stage (w.place i) ≡ back_stage = ap stage back in
     let next : ℕ = w.drawn - w.unpassed + 1 in
     let After : Bool → Type 0 = λ b. Stands seats (record w { unpassed = w.unpassed - 1; place = put w.place i (cond b (place_of home) (Passing next home)) })
-    (cond b nowhere (with_seat i)) owner turn queued quiet in
+    (cond b Nowhere (With i)) owner turn queued quiet in
     elim (eqb_tells w.unpassed 1) as (λ _. After (w.unpassed == 1)) [
       | inl e ↦ subst After (sym e.0) (record {
         keeps = drops_last seats w right owner r i home four e.1;
@@ -151,7 +159,7 @@ drop_keeps_the_right seats w right owner turn queued quiet i h home back =
         fits_queues = queues.drops_last seats w right owner r queued quiet h.fits_queues i home back e.1;
       })
       | inr e ↦ subst After (sym e.0) (record {
-        keeps = drops_more seats w right owner r i home four e.1 r.behind;
+        keeps = drops_more seats w right owner r i home four e.1 r.tickets.behind;
         fits_turn = turns.drops_more seats w right owner r turn h.fits_turn i next home back;
         fits_queues = queues.drops_more seats w right owner r queued quiet h.fits_queues i next home back e.1;
       })
@@ -162,7 +170,7 @@ ticket_grant_keeps_the_right seats w right owner turn queued quiet i h t home so
     let r = h.keeps in
     let same : ticket (w.place i) ≡ t = ap ticket at in
     record {
-      keeps = subst (λ (k : ℕ). KeepsRight seats (after_ticket_grant seats w i k home) granted owner) same (grants_ticket seats w right owner r i home (ap stage at) some);
+      keeps = subst (λ (k : ℕ). KeepsRight seats (after_ticket_grant seats w i k home) (AtTicket k) owner) same (grants_ticket seats w right owner r i home (ap stage at) some);
       fits_turn = turns.grants_ticket seats w right owner r turn h.fits_turn i t home at;
       fits_queues = queues.grants_ticket seats w right owner r queued quiet h.fits_queues i t home at;
     }

@@ -1,6 +1,6 @@
 -- From what the words and the floor did to a step of the state
-use Rattle.std.proofs.Common.{◌≡◌, ◌≢◌, ℕ, ◌+◌, ◌%◌, ◌==◌, ◌<◌, ◌≤◌, cond, Bool, true, false, List, length, ◌∷◌, [], ◌++◌, ◌||◌, ◌&&◌, ⊎_elim, sym, refl, ap, ◌∙◌, subst, inl, inr, arith, eq-eqb}
-use Rattle.std.specs.Prelude.{not, nat_lt, nat_le, slice_index_or, Option, Some, None}
+use Rattle.std.proofs.Common.{◌≡◌, ℕ, ◌+◌, ◌%◌, ◌==◌, ◌<◌, ◌≤◌, cond, Bool, true, false, List, length, [], ◌||◌, ◌&&◌, ⊎_elim, sym, refl, ap, ◌∙◌, subst, inl, inr, arith, eq-eqb}
+use Rattle.std.specs.Prelude.{not, nat_lt, nat_le, slice_index_or, Some, None}
 use Rattle.std.proofs.lemmas.Bool.{eqb-true, cases_lt}
 use Rattle.std.proofs.lemmas.Bool.Decides.{eqb_tells}
 use Rattle.monk_kinds.specs.Kind.{IsKind}
@@ -13,6 +13,7 @@ use Rattle.monk_floor.specs.Making as make
 use Rattle.monk_floor.specs.declared.fault.MakeFault.TheVariants as fault
 use Rattle.monk_world.specs.Runs.{opening_state}
 use Rattle.monk_world.specs.Stands.{opening_world}
+use Rattle.monk_world.proofs.Holders.{held, called_tells}
 use Rattle.monk_world.proofs.RunLaws.{opening_is_sound}
 use Rattle.monk_history.specs.Meaning.Events.{is_stay}
 use Rattle.monk_history.specs.Meaning.Monitor.{data_of}
@@ -33,9 +34,8 @@ use Rattle.monk_floor.specs.Grown.{IsGrown}
 use Rattle.monk_floor.specs.View.{FloorView, monitor_of, empty_floor}
 use Rattle.monk_world.specs.Kept.{IsKept}
 use Rattle.monk_world.specs.Places.{stage, ticket, back_turn, turn_of_next, due_to, outside_stage, active_stage, back_stage}
-use Rattle.monk_world.specs.Right.{with_seat, called}
 use Rattle.monk_world.specs.Put.{put}
-use Rattle.monk_world.specs.Sound.{IsSound, Sound, left_at}
+use Rattle.monk_world.specs.Sound.{left_at}
 use Rattle.monk_world.specs.State.{State, with_event}
 use Rattle.monk_world.specs.Steps.{after_arrive, after_ticket_look, after_seat_look, after_floor_out, after_floor_in, after_drop, after_ticket_grant, after_seat_grant}
 use Rattle.monk_world.specs.StepTable.{may_be_told, is_call_in_range, is_call_offered, call_of, left_for, names_entry, is_back, refusal, release_next, out_event, queue_due, IsDone, IsReleased}
@@ -199,18 +199,18 @@ module _ (k : Rules) (o : Object) (w : Board) (f : FloorView) (v : WorldView) (i
   drawn_here conds old = few_drawn s old.bounded
 
   pub behind_here : (conds : ℕ) → IsKept k o w.seats conds s → w.unpassed ≤ w.drawn
-  behind_here conds old = old.sound.is_sound.stands.keeps.behind
+  behind_here conds old = old.sound.is_sound.stands.keeps.tickets.behind
 
   pub ticket_here : (n conds : ℕ) → IsKept k o w.seats conds s → s.world.place i ≡ Ticket n → n < 2147483648
   ticket_here n conds old at =
       let r = old.sound.is_sound.stands.keeps in
-      let mine = r.waits i (ap stage at) in
+      let mine = r.tickets.waits i (ap stage at) in
       omega (arith, mine.0, ap ticket at, drawn_here conds old)
 
   pub passing_here : (n : ℕ) (to : Home) (conds : ℕ) → IsKept k o w.seats conds s → s.world.place i ≡ Passing n to → n < 2147483648
   passing_here n to conds old at =
       let r = old.sound.is_sound.stands.keeps in
-      let mine = r.passing i (ap stage at) in
+      let mine = r.tickets.passing i (ap stage at) in
       omega (arith, mine.0, ap ticket at, drawn_here conds old)
 
   pub count_here : (conds : ℕ) → IsKept k o w.seats conds s → (j : ℕ) → (world_on w).count j < 2147483648
@@ -219,25 +219,25 @@ module _ (k : Rules) (o : Object) (w : Board) (f : FloorView) (v : WorldView) (i
   pub calls_here : (conds : ℕ) → IsKept k o w.seats conds s → (j : ℕ) → (world_on w).seat_place j < 2147483648
   calls_here conds old j =
       let r = old.sound.is_sound.stands.keeps in
-      elim (eqb_tells old.sound.right (called j)) [
-        | inl e ↦ omega (arith, (r.is_called j e.1).1, few_calls s old.bounded j)
-        | inr e ↦ omega (arith, r.not_called j e.1, few_calls s old.bounded j)
+      elim (called_tells old.sound.right j) [
+        | inl e ↦ omega (arith, (r.calls.called j e).1, few_calls s old.bounded j)
+        | inr e ↦ omega (arith, r.calls.not_called j e, few_calls s old.bounded j)
       ]
 
   pub some_here : (x : Next) (to : Home) (conds : ℕ) → IsKept k o w.seats conds s → s.world.place i ≡ Back x to → 0 < w.unpassed
   some_here x to conds old at =
       let r = old.sound.is_sound.stands.keeps in
       let four : stage (s.world.place i) ≡ back_stage = ap stage at in
-      let mine = r.held i (omega arith) (omega arith) in
+      let mine = held r i (omega arith) (omega arith) in
       elim (eqb_tells w.unpassed 0) [
-        | inl e ↦ absurd (omega (arith, r.not_free e.1, mine))
+        | inl e ↦ absurd (let a = r.holder.free.0 e.1 in cc)
         | inr e ↦ omega (arith, e.1)
       ]
 
   pub called_here : (x : Next) (to : Home) (j conds : ℕ) → IsKept k o w.seats conds s → s.world.place i ≡ Back x to → turn_of_next x ≡ due_to j → j < w.seats
   called_here x to j conds old at names =
       let r = old.sound.is_sound.stands.keeps in
-      let six = r.chose i (ap stage at) j (subst (λ (p : Place). back_turn p ≡ due_to j) (sym at) names) in
+      let six = r.calls.chose i (ap stage at) j (subst (λ (p : Place). back_turn p ≡ due_to j) (sym at) names) in
       ⊎_elim (λ l. subst (λ (n : ℕ). j < n) (sym old.seats_are) l) (λ l. absurd (omega (arith, six, old.sound.is_sound.outside j l))) (cases_lt j f.seats)
 
 -- the floor comes out
@@ -317,8 +317,7 @@ pub made_state : (w : Board) (f : FloorView) (opening : List ℕ) (seats conds b
     → f ≡ empty_floor opening seats conds budget → state_in w f ≡ opening_state opening seats conds budget
 made_state w f opening seats conds budget shows is = shows f ∙ ap (λ (g : FloorView). record (opening_state opening seats conds budget) { floor = g }) is
 
--- the tests for a refusal, of a command that the seat is not where it may be told
-
+-- the tests for a refusal: of a command that the seat is not where it may be told, and of one that passes them all
 pub not_now : (k : Rules) (o : Object) (s : State) (i : ℕ) (c : Command) → (nat_lt i s.floor.seats && is_call_in_range o s.floor (call_of i c)) ≡ true → is_call_offered k (call_of i c) ≡ true
     → may_be_told (s.world.place i) c ≡ false → Some answer.NotNow ≡ refusal k o s i c
 not_now k o s i c reach offered told =
@@ -330,6 +329,23 @@ not_now k o s i c reach offered told =
     by_tests false b d e x y z = absurd cc
     by_tests true false d e x y z = absurd cc
     by_tests true true true e x y z = absurd cc
+
+pub not_refused : (k : Rules) (o : Object) (s : State) (i : ℕ) (c : Command) → (nat_lt i s.floor.seats && is_call_in_range o s.floor (call_of i c)) ≡ true → is_call_offered k (call_of i c) ≡ true
+    → may_be_told (s.world.place i) c ≡ true → left_for c ≤ left_of s.floor.budget s.floor.history i → None ≡ refusal k o s i c
+not_refused k o s i c reach offered told enough =
+    by_tests (nat_lt i s.floor.seats && is_call_in_range o s.floor (call_of i c)) (is_call_offered k (call_of i c)) (may_be_told (s.world.place i) c) (nat_lt (left_of s.floor.budget s.floor.history i) (left_for c)) reach offered told
+    (not_below (left_of s.floor.budget s.floor.history i) (left_for c) enough)
+  where
+    not_below : (n m : ℕ) → m ≤ n → nat_lt n m ≡ false
+    not_below n m l = grind (arith, l)
+
+    by_tests : (a b d e : Bool) → a ≡ true → b ≡ true → d ≡ true → e ≡ false
+        → None ≡ cond (not a) (Some answer.Range) (cond (not b) (Some answer.NoCall) (cond (not d) (Some answer.NotNow) (cond e (Some answer.Tired) None)))
+    by_tests true true true false x y z u = refl
+    by_tests false b d e x y z u = absurd cc
+    by_tests true false d e x y z u = absurd cc
+    by_tests true true false e x y z u = absurd cc
+    by_tests true true true true x y z u = absurd cc
 
 both : (a b : Bool) → a ≡ true → b ≡ true → (a && b) ≡ true
 both true b e x = x

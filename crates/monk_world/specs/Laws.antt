@@ -7,7 +7,7 @@ use Rattle.monk_history.specs.declared.event.Next.{Next}
 use Rattle.monk_history.specs.declared.event.Next.TheVariants.{Entry}
 use Rattle.monk_world.specs.OnePlace.{IsInOnePlace}
 use Rattle.monk_world.specs.Places.{open_turn, due_to, turn_of_next, stays_inside}
-use Rattle.monk_world.specs.Right.{nowhere, granted, called}
+use Rattle.monk_world.specs.Right.{Whereabouts, Nowhere, AtTicket, AtSeat}
 use Rattle.monk_world.specs.Runs.{opening_state}
 use Rattle.monk_world.specs.Sound.{Sound}
 use Rattle.monk_world.specs.Stands.{Stands, opening_world}
@@ -22,13 +22,13 @@ use Rattle.monk_world.specs.declared.place.Place.TheVariants.{Idle, Ticket, Due,
 use Rattle.monk_world.specs.declared.source.Source.{Source}
 
 -- what a step keeps, of every world that stands
-abbrev pub Kept : (ℕ → World → ℕ → (ℕ → ℕ) → ℕ → (ℕ → Bool) → Bool → ℕ → Type 0) → Type 0
+abbrev pub Kept : (ℕ → World → Whereabouts → (ℕ → ℕ) → ℕ → (ℕ → Bool) → Bool → ℕ → Type 0) → Type 0
 Kept Step =
-    (seats : ℕ) (w : World) (right : ℕ) (owner : ℕ → ℕ) (turn : ℕ) (queued : ℕ → Bool) (quiet : Bool) (i : ℕ)
+    (seats : ℕ) (w : World) (right : Whereabouts) (owner : ℕ → ℕ) (turn : ℕ) (queued : ℕ → Bool) (quiet : Bool) (i : ℕ)
     → Stands seats w right owner turn queued quiet → Step seats w right owner turn queued quiet i
 
 abbrev pub OpeningStands : Type 0
-OpeningStands = (seats : ℕ) → Stands seats opening_world nowhere (λ t. 0) open_turn (λ j. false) true
+OpeningStands = (seats : ℕ) → Stands seats opening_world Nowhere (λ t. 0) open_turn (λ j. false) true
 
 -- an idle seat draws a ticket
 abbrev pub ArriveKeeps : Type 0
@@ -78,18 +78,18 @@ DropKeeps = Kept (λ seats w right owner turn queued quiet i.
 -- it grants the next ticket
 abbrev pub TicketGrantKeeps : Type 0
 TicketGrantKeeps = Kept (λ seats w right owner turn queued quiet i.
-    (t : ℕ) (home : Home) → 0 < seats → w.place i ≡ Passing t home → Stands seats (after_ticket_grant seats w i t home) granted owner turn queued quiet)
+    (t : ℕ) (home : Home) → 0 < seats → w.place i ≡ Passing t home → Stands seats (after_ticket_grant seats w i t home) (AtTicket t) owner turn queued quiet)
 
 -- a seat that chose another calls it
 abbrev pub SeatGrantKeeps : Type 0
 SeatGrantKeeps = Kept (λ seats w right owner turn queued quiet i.
     (next : Next) (k : ℕ) (home : Home) → w.place i ≡ Back next home → turn_of_next next ≡ due_to k
-    → Stands seats (after_seat_grant w i k home) (called k) owner turn queued quiet)
+    → Stands seats (after_seat_grant w i k home) (AtSeat k) owner turn queued quiet)
 
 -- so the right is in one place
 abbrev pub StandsInOnePlace : Type 0
 StandsInOnePlace =
-    (seats : ℕ) (w : World) (right : ℕ) (owner : ℕ → ℕ) (turn : ℕ) (queued : ℕ → Bool) (quiet : Bool)
+    (seats : ℕ) (w : World) (right : Whereabouts) (owner : ℕ → ℕ) (turn : ℕ) (queued : ℕ → Bool) (quiet : Bool)
     → 0 < seats → Stands seats w right owner turn queued quiet → IsInOnePlace seats w
 
 -- every step keeps a state sound, and before any step it is

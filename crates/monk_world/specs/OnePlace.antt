@@ -1,29 +1,9 @@
 -- The right to be active is in exactly one place: the statement without the numbers that keep it
 use Rattle.std.specs.Prelude.{◌≡◌, ℕ, ◌+◌, ◌%◌, ◌<◌, ◌↔◌}
+use Rattle.monk_world.specs.Places.{HoldsRight}
+use Rattle.monk_world.specs.Right.{Whereabouts, Nowhere, AtTicket, With, AtSeat}
 use Rattle.monk_world.specs.World.{World}
-use Rattle.monk_world.specs.declared.place.Place.{Place}
-use Rattle.monk_world.specs.declared.place.Place.TheVariants.{Idle, Ticket, Due, Active, Back, Passing, Inner}
-
--- the places that the right may be in
-pub data Whereabouts : Type 0 where
-  -- the monitor is free
-  Nowhere : Whereabouts
-  -- in the place of this ticket, granted
-  AtTicket : ℕ → Whereabouts
-  -- with this seat
-  With : ℕ → Whereabouts
-  -- in the place of this seat, called
-  AtSeat : ℕ → Whereabouts
-
--- a seat that stands there has the right
-abbrev pub HoldsRight : Place → Type 0
-HoldsRight Idle = ⊥
-HoldsRight (Ticket t) = ⊥
-HoldsRight (Due q) = Unit {0}
-HoldsRight (Active q) = Unit {0}
-HoldsRight (Back next home) = Unit {0}
-HoldsRight (Passing t home) = Unit {0}
-HoldsRight Inner = ⊥
+use Rattle.monk_world.specs.declared.place.Place.TheVariants.{Ticket, Inner}
 
 -- the one place is `right`; each ticket behind the one in use has a seat that waits with it, and no two seats wait with
 -- the same

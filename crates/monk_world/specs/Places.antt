@@ -40,6 +40,16 @@ stage (Back next home) = back_stage
 stage (Passing ticket home) = passing_stage
 stage Inner = inside_stage
 
+-- a seat that stands there has the right
+abbrev pub HoldsRight : Place → Type 0
+HoldsRight Idle = ⊥
+HoldsRight (Ticket t) = ⊥
+HoldsRight (Due q) = Unit {0}
+HoldsRight (Active q) = Unit {0}
+HoldsRight (Back next home) = Unit {0}
+HoldsRight (Passing t home) = Unit {0}
+HoldsRight Inner = ⊥
+
 abbrev pub ticket_of : Source → ℕ
 ticket_of (Free ticket) = ticket
 ticket_of (Granted ticket) = ticket

@@ -9,6 +9,7 @@ use Rattle.monk_history.specs.declared.event.Turn.TheVariants.{Owned}
 use Rattle.monk_floor.specs.View.{monitor_of}
 use Rattle.monk_world.specs.Enters.{FitsEnters}
 use Rattle.monk_world.specs.Places.{stage, ticket, source, outside_stage, ticketed_stage, due_stage, active_stage, granted_source}
+use Rattle.monk_world.specs.Right.{Whereabouts}
 use Rattle.monk_world.specs.Stands.{Stands}
 use Rattle.monk_world.specs.State.{State, is_standing, is_quiet}
 use Rattle.monk_world.specs.Turns.{turn_number}
@@ -31,7 +32,7 @@ left_at (Back next home) = left_within home
 left_at (Passing t home) = left_within home
 left_at Inner = 2
 
-pub record IsSound (k : Rules) (o : Object) (s : State) (right : ℕ) (owner : ℕ → ℕ) : Type 0 where
+pub record IsSound (k : Rules) (o : Object) (s : State) (right : Whereabouts) (owner : ℕ → ℕ) : Type 0 where
   pub legal : IsLegal (monitor_of k o s.floor) s.floor.history
   pub stands : Stands s.floor.seats s.world right owner (turn_number (turn s.floor.history)) (is_standing k o s.floor) (is_quiet k o s.floor)
   -- the active seat owns the turn, and knows of somebody only where a ticket waits
@@ -45,6 +46,6 @@ pub record IsSound (k : Rules) (o : Object) (s : State) (right : ℕ) (owner : �
   pub outside : (j : ℕ) → s.floor.seats ≤ j → stage (s.world.place j) ≡ outside_stage
 
 pub record Sound (k : Rules) (o : Object) (s : State) : Type 0 where
-  pub right : ℕ
+  pub right : Whereabouts
   pub owner : ℕ → ℕ
   pub is_sound : IsSound k o s right owner

@@ -1,13 +1,13 @@
 -- A world that stands with its history
 use Rattle.std.specs.Prelude.{ℕ, Bool}
-use Rattle.monk_world.specs.Right.{KeepsRight}
+use Rattle.monk_world.specs.Right.{Whereabouts, KeepsRight}
 use Rattle.monk_world.specs.Turns.{FitsTurn}
 use Rattle.monk_world.specs.Queueing.{FitsQueues}
 use Rattle.monk_world.specs.World.{World}
 use Rattle.monk_world.specs.declared.place.Place.TheVariants.{Idle}
 
 -- the right is in one place, and turn and queues agree with it
-pub record Stands (seats : ℕ) (w : World) (right : ℕ) (owner : ℕ → ℕ) (turn : ℕ) (queued : ℕ → Bool) (quiet : Bool) : Type 0 where
+pub record Stands (seats : ℕ) (w : World) (right : Whereabouts) (owner : ℕ → ℕ) (turn : ℕ) (queued : ℕ → Bool) (quiet : Bool) : Type 0 where
   pub keeps : KeepsRight seats w right owner
   pub fits_turn : FitsTurn w right turn
   pub fits_queues : FitsQueues w queued quiet

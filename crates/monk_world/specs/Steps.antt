@@ -3,7 +3,7 @@ use Rattle.std.specs.Prelude.{ℕ, ◌+◌, ◌-◌, ◌%◌, ◌==◌, Bool, if
 use Rattle.monk_history.specs.declared.event.Next.{Next}
 use Rattle.monk_world.specs.Places.{place_of}
 use Rattle.monk_world.specs.Put.{put}
-use Rattle.monk_world.specs.Right.{with_seat, nowhere}
+use Rattle.monk_world.specs.Right.{Whereabouts, Nowhere, With}
 use Rattle.monk_world.specs.World.{World}
 use Rattle.monk_world.specs.declared.home.Home.{Home}
 use Rattle.monk_world.specs.declared.place.Place.{Place}
@@ -67,14 +67,14 @@ after_seat_grant w i k home = record w { seat_place = put w.seat_place k (w.seat
 
 -- Where the right is after a step that found this, and who owns the ticket that was drawn:
 
-abbrev pub right_after_arrive : World → ℕ → ℕ → ℕ
-right_after_arrive w right i = if w.unpassed == 0 then with_seat i else right
+abbrev pub right_after_arrive : World → Whereabouts → ℕ → Whereabouts
+right_after_arrive w right i = if w.unpassed == 0 then With i else right
 
 abbrev pub owner_after_arrive : World → (ℕ → ℕ) → ℕ → ℕ → ℕ
 owner_after_arrive w owner i = if w.unpassed == 0 then owner else put owner w.drawn i
 
-abbrev pub right_after_look : ℕ → ℕ → Bool → ℕ
-right_after_look right i found = if found then with_seat i else right
+abbrev pub right_after_look : Whereabouts → ℕ → Bool → Whereabouts
+right_after_look right i found = if found then With i else right
 
-abbrev pub right_after_drop : World → ℕ → ℕ
-right_after_drop w i = if w.unpassed == 1 then nowhere else with_seat i
+abbrev pub right_after_drop : World → ℕ → Whereabouts
+right_after_drop w i = if w.unpassed == 1 then Nowhere else With i

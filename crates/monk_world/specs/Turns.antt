@@ -3,7 +3,7 @@ use Rattle.std.specs.Prelude.{◌≡◌, ◌≢◌, ℕ}
 use Rattle.monk_history.specs.declared.event.Turn.{Turn}
 use Rattle.monk_history.specs.declared.event.Turn.TheVariants.{Open, Due, Owned}
 use Rattle.monk_world.specs.Places.{stage, open_turn, due_to, owned_by, turn_of_next, active_stage}
-use Rattle.monk_world.specs.Right.{with_seat, called}
+use Rattle.monk_world.specs.Right.{Whereabouts, Nowhere, AtTicket, With, AtSeat}
 use Rattle.monk_world.specs.World.{World}
 use Rattle.monk_world.specs.declared.place.Place.{Place}
 use Rattle.monk_world.specs.declared.place.Place.TheVariants as at
@@ -30,8 +30,9 @@ turn_at j (at.Back next home) = turn_of_next next
 turn_at j (at.Passing t home) = open_turn
 turn_at j at.Inner = open_turn
 
--- `turn` is the number of the turn. Of an active seat it says nothing: the history may have grown
-pub record FitsTurn (w : World) (right turn : ℕ) : Type 0 where
-  pub with : (j : ℕ) → right ≡ with_seat j → stage (w.place j) ≢ active_stage → turn ≡ turn_at j (w.place j)
-  pub called_seat : (j : ℕ) → right ≡ called j → turn ≡ due_to j
-  pub else_open : ((j : ℕ) → right ≢ with_seat j) → ((j : ℕ) → right ≢ called j) → turn ≡ open_turn
+-- `turn` is the number of the turn, by where the right is. Of an active seat it says nothing: the history may have grown
+abbrev pub FitsTurn : World → Whereabouts → ℕ → Type 0
+FitsTurn w Nowhere turn = turn ≡ open_turn
+FitsTurn w (AtTicket t) turn = turn ≡ open_turn
+FitsTurn w (With j) turn = stage (w.place j) ≢ active_stage → turn ≡ turn_at j (w.place j)
+FitsTurn w (AtSeat j) turn = turn ≡ due_to j

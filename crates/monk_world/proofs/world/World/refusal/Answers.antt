@@ -1,17 +1,38 @@
-use Rattle.std.proofs.Common.{rules, ◌≡◌, ℕ, Bool, true, refl, sym, ap, ◌∙◌, subst, arith}
-use Rattle.monk_history.specs.declared.event.Event.TheVariants.{Leave, Wait, Signal, SignalLeave, Until}
-use Rattle.monk_history.specs.declared.event.Next.TheVariants as next
-use Rattle.monk_world.specs.StepTable.{may_be_told, is_call_in_range, is_call_offered, call_of}
+use Rattle.std.proofs.Common.{rules, ◌≡◌, ℕ, ◌≤◌, true, refl, sym, ap, ◌∙◌, arith}
+use Rattle.monk_kinds.specs.declared.mode.Rules.{Rules}
+use Rattle.monk_object.specs.Object.{Object}
+use Rattle.monk_floor.specs.View.{FloorView}
+use Rattle.monk_history.specs.Meaning.Counts.{left_of}
+use Rattle.monk_world.specs.declared.command.Command.{Command}
+use Rattle.monk_world.specs.StepTable.{may_be_told, is_call_in_range, is_call_offered, call_of, left_for}
 use Rattle.monk_world.specs.declared.command.Command.TheVariants as command
-use Rattle.monk_world.specs.declared.home.Home.TheVariants as home
 use Rattle.monk_world.specs.declared.place.Place.TheVariants as place
 use Rattle.monk_world.proofs.WorldLaws as world
 use Rattle.monk_world.proofs.world.World.refusal.Goals as goal
 use Rattle.monk_world.specs.Telling as telling
-use Rattle.std.proofs.lemmas.Grind.{common_steps}
 use Rattle.std.specs.Prelude.{slice_index_or, nat_lt, ◌&&◌, false}
 use Rattle.monk_world.specs.Board.{state_of}
 use Rattle.monk_world.specs.declared.place.Place.{Place}
+
+reach : (o : Object) (f : FloorView) (seat : ℕ) (c : Command) (conds codes predicates : ℕ) → nat_lt seat f.seats ≡ true → conds ≡ f.conds → o.codes ≡ codes → o.predicates ≡ predicates
+    → telling.is_in_range conds codes predicates c ≡ true → (nat_lt seat f.seats && is_call_in_range o f (call_of seat c)) ≡ true
+reach o f seat c conds codes predicates here same_conds same_codes same_predicates fits =
+    world.reaches o f seat c here (ap (λ (n : ℕ). telling.is_in_range n o.codes o.predicates c) (sym same_conds)
+    ∙ (ap (λ (n : ℕ). telling.is_in_range conds n o.predicates c) same_codes ∙ (ap (λ (n : ℕ). telling.is_in_range conds codes n c) same_predicates ∙ fits)))
+
+offers : (k : Rules) (i : ℕ) (c : Command) → telling.is_offered k.mode c ≡ true → is_call_offered k (call_of i c) ≡ true
+offers k i command.Arrive e = refl
+offers k i command.Look e = refl
+offers k i command.Out e = refl
+offers k i command.Peek e = refl
+offers k i command.Drop e = refl
+offers k i command.Grant e = refl
+offers k i (command.Act op) e = refl
+offers k i (command.Leave pick) e = refl
+offers k i (command.Wait cond pick) e = e
+offers k i (command.Signal cond pick) e = e
+offers k i (command.SignalLeave cond pick) e = e
+offers k i (command.Until pred pick) e = e
 
 pub returns-then-not-may_be_told : goal.returns-then-not-may_be_told
 returns-then-not-may_be_told g c =
@@ -20,16 +41,26 @@ returns-then-not-may_be_told g c =
     let s = state_of c.args.self.now in
     let here : nat_lt c.args.seat s.floor.seats ≡ true = grind arith in
     let conds : c.self.inside.conds ≡ s.floor.conds = grind arith in
-    let codes : g.T.Guarded.meaning.codes ≡ c.CODES.result = g.T.Guarded.codes ∙ sym c.CODES.ensures in
-    let predicates : g.T.Guarded.meaning.predicates ≡ c.PREDICATES.result = g.T.Guarded.predicates ∙ sym c.PREDICATES.ensures in
     let passed : c.is_in_range.result ≡ true = search rules in
-    let fits : telling.is_in_range s.floor.conds g.T.Guarded.meaning.codes g.T.Guarded.meaning.predicates c.args.command ≡ true =
-    ap (λ (n : ℕ). telling.is_in_range n g.T.Guarded.meaning.codes g.T.Guarded.meaning.predicates c.args.command) (sym conds)
-    ∙ (ap (λ (n : ℕ). telling.is_in_range c.self.inside.conds n g.T.Guarded.meaning.predicates c.args.command) codes
-    ∙ (ap (λ (n : ℕ). telling.is_in_range c.self.inside.conds c.CODES.result n c.args.command) predicates
-    ∙ (sym c.is_in_range.ensures ∙ passed))) in
-    let reach : (nat_lt c.args.seat s.floor.seats && is_call_in_range g.T.Guarded.meaning s.floor (call_of c.args.seat c.args.command)) ≡ true =
-    world.reaches g.T.Guarded.meaning s.floor c.args.seat c.args.command here fits in
     let offered : is_call_offered g.K.Kind.rules (call_of c.args.seat c.args.command) ≡ true = grind arith in
     let no : may_be_told (s.world.place c.args.seat) c.args.command ≡ false = grind (arith, told) in
-    world.not_now g.K.Kind.rules g.T.Guarded.meaning s c.args.seat c.args.command reach offered no
+    world.not_now g.K.Kind.rules g.T.Guarded.meaning s c.args.seat c.args.command
+    (reach g.T.Guarded.meaning s.floor c.args.seat c.args.command c.self.inside.conds c.CODES.result c.PREDICATES.result here conds (g.T.Guarded.codes ∙ sym c.CODES.ensures) (g.T.Guarded.predicates ∙ sym c.PREDICATES.ensures) (sym c.is_in_range.ensures ∙ passed))
+    offered no
+
+pub returns : goal.returns
+returns g c =
+    let told : c.may_be_told.result ≡ may_be_told (slice_index_or c.self.inside.words.places.items c.args.seat place.Idle) c.args.command =
+    c.may_be_told.ensures ∙ ap (λ (p : Place). may_be_told p c.args.command) c.place.ensures in
+    let s = state_of c.args.self.now in
+    let here : nat_lt c.args.seat s.floor.seats ≡ true = grind arith in
+    let conds : c.self.inside.conds ≡ s.floor.conds = grind arith in
+    let passed : c.is_in_range.result ≡ true = search rules in
+    let open_to : c.is_offered.result ≡ true = search rules in
+    let offered : is_call_offered g.K.Kind.rules (call_of c.args.seat c.args.command) ≡ true =
+    offers g.K.Kind.rules c.args.seat c.args.command (ap (λ (k : Rules). telling.is_offered k.mode c.args.command) (sym c.rules_of.ensures) ∙ (sym c.is_offered.ensures ∙ open_to)) in
+    let yes : may_be_told (s.world.place c.args.seat) c.args.command ≡ true = grind (arith, told) in
+    let enough : left_for c.args.command ≤ left_of s.floor.budget s.floor.history c.args.seat = grind arith in
+    world.not_refused g.K.Kind.rules g.T.Guarded.meaning s c.args.seat c.args.command
+    (reach g.T.Guarded.meaning s.floor c.args.seat c.args.command c.self.inside.conds c.CODES.result c.PREDICATES.result here conds (g.T.Guarded.codes ∙ sym c.CODES.ensures) (g.T.Guarded.predicates ∙ sym c.PREDICATES.ensures) (sym c.is_in_range.ensures ∙ passed))
+    offered yes enough
