@@ -1,5 +1,6 @@
 -- The queues of a floor as plain lists, and what one event makes of them
 use Rattle.std.specs.Prelude.{◌≡◌, ℕ, ◌<◌, ◌≤◌, ◌+◌, map, zero, suc, Bool, false, true, not, List, [], ◌∷◌, ◌++◌, length, drop, filter, if◌then◌else◌}
+use Rattle.monk_history.specs.Limits.{most_seats}
 use Rattle.monk_history.specs.Meaning.Standing.{times, times_in_conditions}
 use Rattle.monk_history.specs.Meaning.Events.{seat_of, next_of, is_waiter}
 use Rattle.monk_history.specs.Meaning.Conditions.{served_by, waiting_by}
@@ -25,10 +26,10 @@ queue_at (q ∷ qs) (suc c) = queue_at qs c
 
 -- each queue has a place left
 pub record HasPlaces (q : QueueLists) : Type 0 where
-  pub conditions : (c : ℕ) → c < length q.conditions → length (queue_at q.conditions c) < 32
-  pub waiters : length q.waiters < 32
-  pub signallers : length q.signallers < 32
-  pub untils : length q.untils < 32
+  pub conditions : (c : ℕ) → c < length q.conditions → length (queue_at q.conditions c) < most_seats
+  pub waiters : length q.waiters < most_seats
+  pub signallers : length q.signallers < most_seats
+  pub untils : length q.untils < most_seats
 
 -- in how many of the queues a seat stands
 abbrev pub in_lists : ℕ → QueueLists → ℕ

@@ -18,8 +18,9 @@ use crate::choosing::{first_ready, must_stay};
 use crate::fault::MakeFault;
 use crate::fronts::Fronts;
 use crate::ledger::Ledger;
-use crate::limits::{LEAST_BUDGET, MOST_BUDGET, MOST_CONDS, MOST_SEATS};
-use monk_history::{Event, From3, Next, Turn, Via};
+use monk_history::{
+    Event, From3, LEAST_BUDGET, MOST_BUDGET, MOST_CONDS, MOST_SEATS, Next, Turn, Via,
+};
 use monk_kinds::{Kind, Pick, rules_of};
 use monk_object::{Guarded, Op};
 use std::alloc::{AllocError, Global};
