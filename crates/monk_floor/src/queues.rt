@@ -1,5 +1,5 @@
 ghost use Rattle.std.specs.Prelude.{◌≡◌, ℕ, ◌<◌, ◌==◌, ◌≤◌, IfOk, All, Option, List, [], ◌∷◌, ◌++◌, drop, filter, not, true, slice_get, length, vec_len, vec_capacity, if◌then◌else◌};
-ghost use Rattle.monk_history.specs.Meaning.Signallers.{is_empty};
+ghost use Rattle.monk_history.specs.Meaning.Signallers.{is_empty, takes_front};
 ghost use Rattle.monk_history.specs.Meaning.Untils.{chooses, waits_until};
 ghost use Rattle.monk_history.specs.Meaning.Events as events;
 ghost use Rattle.monk_floor.specs.Queues as lists;
@@ -240,7 +240,7 @@ impl Queues {
         requires { length self.old.untils < MOST_SEATS }
         ensures conditions { self.new.conditions ≡ self.old.conditions }
         ensures waiters { self.new.waiters ≡ drop (if events.is_waiter (events.next_of event) then 1 else 0) self.old.waiters }
-        ensures signallers { self.new.signallers ≡ drop (if lists.takes_front none event then 1 else 0) self.old.signallers }
+        ensures signallers { self.new.signallers ≡ drop (if takes_front none event then 1 else 0) self.old.signallers }
         ensures untils { self.new.untils ≡ filter (λ w. not (chooses event w)) self.old.untils ++ waits_until event }
     {
         if let Some(Next::Waiter(_)) = event.next() {
@@ -256,7 +256,7 @@ impl Queues {
 
 /// Whether an event takes the front of the signaller queue: it chose it, or stays in a served signal.
 fn takes_front(event: Event, none: bool) -> bool
-    ensures { result ≡ lists.takes_front none event }
+    ensures { result ≡ takes_front none event }
 {
     match event {
         Event::Signal(_, _, Next::Stay) => !none,
