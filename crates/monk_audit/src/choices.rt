@@ -2,7 +2,7 @@
 
 ghost use Rattle.std.specs.Prelude.{◌≡◌};
 ghost use Rattle.monk_history.specs.Meaning.Choice as choice;
-ghost use Rattle.monk_audit.specs.Just.{just};
+ghost use Rattle.monk_history.specs.Just.{just};
 ghost use Rattle.monk_audit.specs.Settled.{permits};
 
 use monk_history::{Event, Next};

@@ -23,7 +23,7 @@ use Rattle.monk_history.specs.declared.event.Next.{Next}
 use Rattle.monk_history.specs.declared.event.Next.TheVariants.{Stay, Entry, Waiter, Signaller, Until as UntilSeat}
 use Rattle.monk_history.specs.declared.event.Turn.{Turn}
 use Rattle.monk_history.proofs.MeaningLaws.ReleaseLaws.{chosen_allowed}
-use Rattle.monk_floor.specs.Just.{just}
+use Rattle.monk_history.specs.Just.{just}
 use Rattle.monk_floor.specs.Queues.{QueueLists, queue_at}
 use Rattle.monk_floor.specs.Kept.{shown_situation, KeepsHistory}
 use Rattle.monk_floor.specs.Ready.{stays_by}

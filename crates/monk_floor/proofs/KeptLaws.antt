@@ -7,6 +7,7 @@ use Rattle.std.proofs.lemmas.List.Elements.{All-append, All-filter, All-nil, All
 use Rattle.monk_kinds.specs.declared.mode.Rules.{Rules}
 use Rattle.monk_kinds.specs.Kind.{IsKind}
 use Rattle.monk_object.specs.Object.{Object}
+use Rattle.monk_history.specs.Limits.{most_seats, most_budget}
 use Rattle.monk_history.specs.Meaning.Events.{seat_of, next_of, named_seat, waits_on, signals_on, is_stay}
 use Rattle.monk_history.specs.Meaning.Monitor.{Monitor, data_after}
 use Rattle.monk_history.specs.Meaning.Situation.{situation}
@@ -191,7 +192,7 @@ no_events s = refl
 
 -- what is kept before any event
 pub kept_none : (m : Monitor) (budget : ℕ) (h : List Event) (capacity : ℕ) (q : QueueLists) (state : List ℕ) (turn : Turn) (inside : List Bool) (spent granted : List ℕ) (entered : ℕ)
-    → h ≡ [] → capacity ≡ m.seats * budget → state ≡ m.opening → m.seats ≤ 32 → budget ≤ 1048576
+    → h ≡ [] → capacity ≡ m.seats * budget → state ≡ m.opening → m.seats ≤ most_seats → budget ≤ most_budget
     → ((c : ℕ) → queue_at q.conditions c ≡ []) → length q.conditions ≡ m.conds → q.waiters ≡ [] → q.signallers ≡ [] → q.untils ≡ [] → turn ≡ Open
     → ((j : ℕ) → slice_index_or inside j false ≡ false) → ((j : ℕ) → slice_index_or spent j 0 ≡ 0) → length inside ≡ m.seats → length spent ≡ m.seats
     → ((j : ℕ) → slice_index_or granted j 0 ≡ 0) → entered ≡ 0 → length granted ≡ m.seats

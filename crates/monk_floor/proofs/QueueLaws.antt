@@ -4,12 +4,12 @@ use Rattle.std.specs.Prelude.{slice_set, Bool}
 use Rattle.std.proofs.lemmas.List.{append-nil}
 use Rattle.std.proofs.Math.Dec.{eqb-suc-zero, eqb-zero-suc, eqb-suc-suc}
 use Rattle.monk_history.specs.Meaning.Events.{next_of, is_waiter}
-use Rattle.monk_history.specs.Meaning.Signallers.{is_empty, signals, takes_signaller}
+use Rattle.monk_history.specs.Meaning.Signallers.{is_empty, signals, takes_signaller, takes_front}
 use Rattle.monk_history.specs.Meaning.Untils.{chooses, waits_until}
 use Rattle.monk_history.specs.declared.event.Event.{Event}
 use Rattle.monk_history.specs.declared.event.Event.TheVariants.{Enter, Act, Leave, Wait, Signal, SignalLeave, Until, Resume}
 use Rattle.monk_history.specs.declared.event.Next.TheVariants.{Stay, Entry, Waiter, Signaller, Until as UntilSeat}
-use Rattle.monk_floor.specs.Queues.{QueueLists, queue_at, finds_none, takes_front, IsServed, IsMoved}
+use Rattle.monk_floor.specs.Queues.{QueueLists, queue_at, finds_none, IsServed, IsMoved}
 
 pub queue_at-get : (vs : List (List ℕ)) (i : ℕ) (d : List ℕ) → i < length vs → queue_at vs i ≡ get_or vs i d
 queue_at-get [] i d l = absurd (omega arith)

@@ -1,6 +1,6 @@
 -- The queues of which only the fronts are known
 use Rattle.monk_history.specs.Meaning.Choice.{Queues}
-use Rattle.monk_floor.specs.Just.{just}
+use Rattle.monk_history.specs.Just.{just}
 use Rattle.monk_floor.specs.declared.fronts.Fronts.{Fronts}
 
 -- queues with these fronts and nobody behind them

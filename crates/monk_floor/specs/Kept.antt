@@ -1,5 +1,6 @@
 -- What a floor's fields are of its history
-use Rattle.std.specs.Prelude.{◌≡◌, ℕ, ◌≤◌, ◌<◌, ◌*◌, ◌^◌, Bool, false, not, All, List, length, slice_index_or}
+use Rattle.std.specs.Prelude.{◌≡◌, ℕ, ◌≤◌, ◌<◌, ◌*◌, Bool, false, not, All, List, length, slice_index_or}
+use Rattle.monk_history.specs.Limits.{most_seats, most_budget}
 use Rattle.monk_history.specs.Meaning.Monitor.{Monitor}
 use Rattle.monk_history.specs.Meaning.Situation.{Situation, situation}
 use Rattle.monk_history.specs.Meaning.Signallers.{is_empty}
@@ -34,6 +35,6 @@ pub record KeepsHistory (m : Monitor) (budget : ℕ) (h : List Event) (capacity 
   pub inside_seats : length inside ≡ m.seats
   pub spent_seats : length spent ≡ m.seats
   pub conds : length q.conditions ≡ m.conds
-  pub few : m.seats ≤ 32
-  pub low : budget ≤ 2 ^ 20
+  pub few : m.seats ≤ most_seats
+  pub low : budget ≤ most_budget
   pub predicates : All (λ w. w.1 < m.object.predicates) q.untils

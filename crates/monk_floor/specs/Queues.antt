@@ -1,5 +1,6 @@
 -- The queues of a floor as plain lists, and what one event makes of them
 use Rattle.std.specs.Prelude.{◌≡◌, ℕ, ◌<◌, ◌≤◌, ◌+◌, map, zero, suc, Bool, false, true, not, List, [], ◌∷◌, ◌++◌, length, drop, filter, if◌then◌else◌}
+use Rattle.monk_history.specs.Limits.{most_seats}
 use Rattle.monk_history.specs.Meaning.Standing.{times, times_in_conditions}
 use Rattle.monk_history.specs.Meaning.Events.{seat_of, next_of, is_waiter}
 use Rattle.monk_history.specs.Meaning.Conditions.{served_by, waiting_by}
@@ -8,8 +9,6 @@ use Rattle.monk_history.specs.Meaning.Signallers.{is_empty, signals, takes_signa
 use Rattle.monk_history.specs.Meaning.Untils.{chooses, waits_until}
 use Rattle.monk_history.specs.declared.event.Event.{Event}
 use Rattle.monk_history.specs.declared.event.Event.TheVariants.{Enter, Act, Leave, Wait, Signal, SignalLeave, Until, Resume}
-use Rattle.monk_history.specs.declared.event.Next.{Next}
-use Rattle.monk_history.specs.declared.event.Next.TheVariants.{Stay, Entry, Waiter, Signaller, Until as UntilSeat}
 
 pub record QueueLists : Type 0 where
   pub conditions : List (List ℕ)
@@ -25,10 +24,10 @@ queue_at (q ∷ qs) (suc c) = queue_at qs c
 
 -- each queue has a place left
 pub record HasPlaces (q : QueueLists) : Type 0 where
-  pub conditions : (c : ℕ) → c < length q.conditions → length (queue_at q.conditions c) < 32
-  pub waiters : length q.waiters < 32
-  pub signallers : length q.signallers < 32
-  pub untils : length q.untils < 32
+  pub conditions : (c : ℕ) → c < length q.conditions → length (queue_at q.conditions c) < most_seats
+  pub waiters : length q.waiters < most_seats
+  pub signallers : length q.signallers < most_seats
+  pub untils : length q.untils < most_seats
 
 -- in how many of the queues a seat stands
 abbrev pub in_lists : ℕ → QueueLists → ℕ
@@ -57,28 +56,6 @@ finds_none queue (Signal s c x) = is_empty (queue c)
 finds_none queue (SignalLeave s c x) = false
 finds_none queue (Until s p x) = false
 finds_none queue (Resume s q) = false
-
-abbrev pub takes_other : Next → Bool
-takes_other Stay = false
-takes_other Entry = false
-takes_other (Waiter j) = false
-takes_other (Signaller j) = true
-takes_other (UntilSeat j) = false
-
--- whether an event takes the front of the signaller queue, by whether it found none to serve
-abbrev pub takes_front : Bool → Event → Bool
-takes_front none (Enter s via) = false
-takes_front none (Act s op r) = false
-takes_front none (Leave s x) = takes_other x
-takes_front none (Wait s c x) = takes_other x
-takes_front none (Signal s c Stay) = not none
-takes_front none (Signal s c Entry) = false
-takes_front none (Signal s c (Waiter j)) = false
-takes_front none (Signal s c (Signaller j)) = true
-takes_front none (Signal s c (UntilSeat j)) = false
-takes_front none (SignalLeave s c x) = takes_other x
-takes_front none (Until s p x) = takes_other x
-takes_front none (Resume s q) = false
 
 -- what an event makes of the queues
 pub record IsMoved (old : QueueLists) (e : Event) (new : QueueLists) : Type 0 where

@@ -1,12 +1,19 @@
 -- Releases by what they do to the queues before they choose
 use Rattle.std.specs.Prelude.{◌≡◌, ℕ, List, [], true, false}
+use Rattle.monk_kinds.specs.declared.mode.Rules.{Rules}
 use Rattle.monk_object.specs.Object.{Object}
 use Rattle.monk_history.specs.Meaning.Situation.{Situation}
 use Rattle.monk_history.specs.Meaning.Waiters.{serves}
 use Rattle.monk_history.specs.Meaning.Signallers.{signals}
 use Rattle.monk_history.specs.Meaning.Choice.{must_stay}
 use Rattle.monk_history.specs.Meaning.Reasons.{is_right_reply}
+use Rattle.monk_history.specs.Meaning.Release.{MayCall}
 use Rattle.monk_history.specs.declared.event.Event.{Event}
+use Rattle.monk_floor.specs.View.{FloorView, monitor_of}
+
+-- a floor may be called so, as it stands: the event is allowed apart from its choice and its reply
+abbrev pub MayCallOn : Rules → Object → FloorView → Event → Type 0
+MayCallOn k o f e = MayCall (monitor_of k o f) f.history e
 
 -- it has no reply
 abbrev pub IsReplyless : Object → Event → Type 0

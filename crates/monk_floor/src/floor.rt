@@ -5,22 +5,22 @@ ghost use Rattle.monk_history.specs.Meaning.Events as events;
 ghost use Rattle.monk_history.specs.Meaning.Legal.{IsLegal};
 ghost use Rattle.monk_history.specs.Meaning.Monitor.{data_of, data_after};
 ghost use Rattle.monk_history.specs.Meaning.Reasons.{IsAllowed};
-ghost use Rattle.monk_history.specs.Meaning.Release.{MayCall, choice_of};
 ghost use Rattle.monk_history.specs.Meaning.Standing.{has_turn, is_queued};
 ghost use Rattle.monk_history.specs.Meaning.Turn.{turn};
-ghost use Rattle.monk_floor.specs.Chosen.{IsChosen};
+ghost use Rattle.monk_floor.specs.Chosen.{IsChosen, HasChosen};
 ghost use Rattle.monk_floor.specs.Due.{IsDueTo, IsDueSome, due_seat};
 ghost use Rattle.monk_floor.specs.Grown.{IsGrown};
 ghost use Rattle.monk_floor.specs.Making.{make_refusal, IsRefused};
-ghost use Rattle.monk_floor.specs.Releases.{IsReplyless};
+ghost use Rattle.monk_floor.specs.Releases.{MayCallOn, IsReplyless};
 ghost use Rattle.monk_floor.specs.View.{monitor_of, stands_of, empty_floor};
 
 use crate::choosing::{first_ready, must_stay};
 use crate::fault::MakeFault;
 use crate::fronts::Fronts;
 use crate::ledger::Ledger;
-use crate::limits::{LEAST_BUDGET, MOST_BUDGET, MOST_CONDS, MOST_SEATS};
-use monk_history::{Event, From3, Next, Turn, Via};
+use monk_history::{
+    Event, From3, LEAST_BUDGET, MOST_BUDGET, MOST_CONDS, MOST_SEATS, Next, Turn, Via,
+};
 use monk_kinds::{Kind, Pick, rules_of};
 use monk_object::{Guarded, Op};
 use std::alloc::{AllocError, Global};
@@ -132,7 +132,7 @@ impl<K: Kind, T: Guarded> Floor<K, T> {
     /// What a release chooses by the wish rules, over all queues as they are after its own moves. Any next may stand
     /// in the event.
     fn next_by(&self, event: Event, entry_known: bool, pick: Pick) -> Next
-        requires call { MayCall (monitor_of K.rules T.meaning self.now) self.now.history event }
+        requires call { MayCallOn K.rules T.meaning self.now event }
         requires release { IsReplyless T.meaning event }
         ensures { IsChosen K.rules T.meaning self.now event entry_known pick result }
     {
@@ -150,7 +150,7 @@ impl<K: Kind, T: Guarded> Floor<K, T> {
     /// A seat that is outside enters where the monitor is free: `Via::Free` past no inner queue, `Via::Handed` after
     /// somebody let it in.
     pub fn enter(&mut self, seat: u8, via: Via)
-        requires call { MayCall (monitor_of K.rules T.meaning self.old) self.old.history (Event.Enter seat via) }
+        requires call { MayCallOn K.rules T.meaning self.old (Event.Enter seat via) }
         requires left { 0 < left_of self.old.budget self.old.history seat }
         ensures { IsGrown K.rules T.meaning self.old (Event.Enter seat via) self.new }
     {
@@ -182,7 +182,7 @@ impl<K: Kind, T: Guarded> Floor<K, T> {
 
     /// The active seat carries an operation out on the object, and gets its reply. Costs what the object's `act` costs.
     pub fn act(&mut self, seat: u8, op: Op) -> u64
-        requires call { MayCall (monitor_of K.rules T.meaning self.old) self.old.history (Event.Act seat op 0) }
+        requires call { MayCallOn K.rules T.meaning self.old (Event.Act seat op 0) }
         requires left { 0 < left_of self.old.budget self.old.history seat }
         ensures { IsGrown K.rules T.meaning self.old (Event.Act seat op result) self.new }
     {
@@ -289,10 +289,9 @@ impl<K: Kind, T: Guarded> Floor<K, T> {
     /// chosen, entry only if `entry_known` says that somebody waits for it. Otherwise the waiter goes before the
     /// signaller, and entry is chosen where nobody else could be.
     pub fn plain_leave(&mut self, seat: u8, pick: Pick, entry_known: bool) -> Next
-        requires call { MayCall (monitor_of K.rules T.meaning self.old) self.old.history (Event.Leave seat Next.Stay) }
+        requires call { MayCallOn K.rules T.meaning self.old (Event.Leave seat Next.Stay) }
         requires left { 0 < left_of self.old.budget self.old.history seat }
-        ensures grown { IsGrown K.rules T.meaning self.old (Event.Leave seat result) self.new }
-        ensures choice { result ≡ choice_of K.rules T.meaning (stands_of K.rules T.meaning self.old) (Event.Leave seat Next.Stay) entry_known pick }
+        ensures { HasChosen K.rules T.meaning self.old (Event.Leave seat) entry_known pick result self.new }
     {
         let next = self.next_by(Event::Leave(seat, Next::Stay), entry_known, pick);
         self.append(Event::Leave(seat, next));
@@ -302,10 +301,9 @@ impl<K: Kind, T: Guarded> Floor<K, T> {
     /// The active seat waits on a condition variable, by the general scheduler step. It joins the back of that
     /// condition's queue, and somebody else goes on.
     pub fn plain_wait(&mut self, seat: u8, cond: u8, pick: Pick, entry_known: bool) -> Next
-        requires call { MayCall (monitor_of K.rules T.meaning self.old) self.old.history (Event.Wait seat cond Next.Stay) }
+        requires call { MayCallOn K.rules T.meaning self.old (Event.Wait seat cond Next.Stay) }
         requires left { 0 < left_of self.old.budget self.old.history seat }
-        ensures grown { IsGrown K.rules T.meaning self.old (Event.Wait seat cond result) self.new }
-        ensures choice { result ≡ choice_of K.rules T.meaning (stands_of K.rules T.meaning self.old) (Event.Wait seat cond Next.Stay) entry_known pick }
+        ensures { HasChosen K.rules T.meaning self.old (Event.Wait seat cond) entry_known pick result self.new }
     {
         let next = self.next_by(Event::Wait(seat, cond, Next::Stay), entry_known, pick);
         self.append(Event::Wait(seat, cond, next));
@@ -316,10 +314,9 @@ impl<K: Kind, T: Guarded> Floor<K, T> {
     /// the waiter queue and the caller the signaller queue. `Next::Stay` is answered where the caller goes on: it was
     /// chosen from the signaller queue, or nobody waits on the condition and the signal is forgotten.
     pub fn plain_signal(&mut self, seat: u8, cond: u8, pick: Pick, entry_known: bool) -> Next
-        requires call { MayCall (monitor_of K.rules T.meaning self.old) self.old.history (Event.Signal seat cond Next.Stay) }
+        requires call { MayCallOn K.rules T.meaning self.old (Event.Signal seat cond Next.Stay) }
         requires left { 0 < left_of self.old.budget self.old.history seat }
-        ensures grown { IsGrown K.rules T.meaning self.old (Event.Signal seat cond result) self.new }
-        ensures choice { result ≡ choice_of K.rules T.meaning (stands_of K.rules T.meaning self.old) (Event.Signal seat cond Next.Stay) entry_known pick }
+        ensures { HasChosen K.rules T.meaning self.old (Event.Signal seat cond) entry_known pick result self.new }
     {
         let next = self.next_by(Event::Signal(seat, cond, Next::Stay), entry_known, pick);
         self.append(Event::Signal(seat, cond, next));
@@ -329,10 +326,9 @@ impl<K: Kind, T: Guarded> Floor<K, T> {
     /// The active seat signals a condition variable and leaves the monitor, by the general scheduler step. It leaves
     /// also where nobody waits on the condition.
     pub fn plain_signal_leave(&mut self, seat: u8, cond: u8, pick: Pick, entry_known: bool) -> Next
-        requires call { MayCall (monitor_of K.rules T.meaning self.old) self.old.history (Event.SignalLeave seat cond Next.Stay) }
+        requires call { MayCallOn K.rules T.meaning self.old (Event.SignalLeave seat cond Next.Stay) }
         requires left { 0 < left_of self.old.budget self.old.history seat }
-        ensures grown { IsGrown K.rules T.meaning self.old (Event.SignalLeave seat cond result) self.new }
-        ensures choice { result ≡ choice_of K.rules T.meaning (stands_of K.rules T.meaning self.old) (Event.SignalLeave seat cond Next.Stay) entry_known pick }
+        ensures { HasChosen K.rules T.meaning self.old (Event.SignalLeave seat cond) entry_known pick result self.new }
     {
         let next = self.next_by(
             Event::SignalLeave(seat, cond, Next::Stay),
@@ -346,10 +342,9 @@ impl<K: Kind, T: Guarded> Floor<K, T> {
     /// The active seat waits until a predicate holds of the data, by the general scheduler step. Where it holds at once
     /// the seat stays. Costs a judgement of each predicate that somebody waits for.
     pub fn plain_until(&mut self, seat: u8, pred: u8, pick: Pick, entry_known: bool) -> Next
-        requires call { MayCall (monitor_of K.rules T.meaning self.old) self.old.history (Event.Until seat pred Next.Stay) }
+        requires call { MayCallOn K.rules T.meaning self.old (Event.Until seat pred Next.Stay) }
         requires left { 0 < left_of self.old.budget self.old.history seat }
-        ensures grown { IsGrown K.rules T.meaning self.old (Event.Until seat pred result) self.new }
-        ensures choice { result ≡ choice_of K.rules T.meaning (stands_of K.rules T.meaning self.old) (Event.Until seat pred Next.Stay) entry_known pick }
+        ensures { HasChosen K.rules T.meaning self.old (Event.Until seat pred) entry_known pick result self.new }
     {
         let next = self.next_by(Event::Until(seat, pred, Next::Stay), entry_known, pick);
         self.append(Event::Until(seat, pred, next));

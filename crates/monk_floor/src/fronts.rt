@@ -1,6 +1,6 @@
 ghost use Rattle.std.specs.Prelude.{◌≡◌};
 ghost use Rattle.monk_history.specs.Meaning.Wish as wish;
-ghost use Rattle.monk_floor.specs.Just.{just};
+ghost use Rattle.monk_history.specs.Just.{just};
 
 use monk_history::Next;
 use monk_kinds::{Mode, Pick, Rules};

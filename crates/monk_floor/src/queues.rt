@@ -1,12 +1,11 @@
 ghost use Rattle.std.specs.Prelude.{◌≡◌, ℕ, ◌<◌, ◌==◌, ◌≤◌, IfOk, All, Option, List, [], ◌∷◌, ◌++◌, drop, filter, not, true, slice_get, length, vec_len, vec_capacity, if◌then◌else◌};
-ghost use Rattle.monk_history.specs.Meaning.Signallers.{is_empty};
+ghost use Rattle.monk_history.specs.Meaning.Signallers.{is_empty, takes_front};
 ghost use Rattle.monk_history.specs.Meaning.Untils.{chooses, waits_until};
 ghost use Rattle.monk_history.specs.Meaning.Events as events;
 ghost use Rattle.monk_floor.specs.Queues as lists;
 
-use crate::limits::MOST_SEATS;
 use crate::seat_queue::SeatQueue;
-use monk_history::{Event, Next};
+use monk_history::{Event, MOST_SEATS, Next};
 use std::alloc::{AllocError, Global};
 use std::marker::Model;
 
@@ -23,7 +22,7 @@ pub fn take_front(queues: &mut Vec<SeatQueue>, at: u8) -> Option<u8>
 /// Puts a seat at the back of one of the queues.
 pub fn join_back(queues: &mut Vec<SeatQueue>, at: u8, seat: u8)
     requires at { at < length queues.old.items }
-    requires room { length (lists.queue_at queues.old.items at) < 32 }
+    requires room { length (lists.queue_at queues.old.items at) < MOST_SEATS }
     ensures joined { (c : ℕ) → lists.queue_at queues.new.items c ≡ lists.queue_at queues.old.items c ++ (if at == c then seat ∷ [] else []) }
     ensures count { length queues.new.items ≡ length queues.old.items }
 {
@@ -89,13 +88,14 @@ pub struct Queues {
 
 impl Model for Queues {
     ghost use Rattle.std.specs.Prelude.{◌≡◌, ℕ, ◌≤◌, List, vec_capacity};
+    ghost use Rattle.monk_history.specs.Limits.{most_seats};
     ghost use Rattle.monk_floor.specs.Queues.{QueueLists};
 
     ghost Value = { QueueLists };
 
     ghost view = { λ q. record { conditions = q.conditions.items; waiters = q.waiters; signallers = q.signallers; untils = q.untils.items } };
 
-    ghost invariant = { λ q. 32 ≤ vec_capacity q.untils };
+    ghost invariant = { λ q. most_seats ≤ vec_capacity q.untils };
 }
 
 impl Queues {
@@ -237,10 +237,10 @@ impl Queues {
 
     /// Carries out what an event chose, once it has served.
     fn settle(&mut self, event: Event, none: bool)
-        requires { length self.old.untils < 32 }
+        requires { length self.old.untils < MOST_SEATS }
         ensures conditions { self.new.conditions ≡ self.old.conditions }
         ensures waiters { self.new.waiters ≡ drop (if events.is_waiter (events.next_of event) then 1 else 0) self.old.waiters }
-        ensures signallers { self.new.signallers ≡ drop (if lists.takes_front none event then 1 else 0) self.old.signallers }
+        ensures signallers { self.new.signallers ≡ drop (if takes_front none event then 1 else 0) self.old.signallers }
         ensures untils { self.new.untils ≡ filter (λ w. not (chooses event w)) self.old.untils ++ waits_until event }
     {
         if let Some(Next::Waiter(_)) = event.next() {
@@ -256,7 +256,7 @@ impl Queues {
 
 /// Whether an event takes the front of the signaller queue: it chose it, or stays in a served signal.
 fn takes_front(event: Event, none: bool) -> bool
-    ensures { result ≡ lists.takes_front none event }
+    ensures { result ≡ takes_front none event }
 {
     match event {
         Event::Signal(_, _, Next::Stay) => !none,

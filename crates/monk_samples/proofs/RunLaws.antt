@@ -19,7 +19,8 @@ use Rattle.monk_history.proofs.MeaningLaws.ActLaws.{in_order, excludes, serves_e
 use Rattle.monk_history.specs.Meaning.Legal.{IsLegal}
 use Rattle.monk_history.specs.Meaning.Monitor.{Monitor, monitor, data_of}
 use Rattle.monk_history.specs.Meaning.Named.{monitor_of as named_monitor}
-use Rattle.monk_history.specs.Text.{Heading, most_seats, most_conds}
+use Rattle.monk_history.specs.Limits.{most_seats, most_conds}
+use Rattle.monk_history.specs.Text.{Heading}
 use Rattle.monk_history.specs.Text.Reading.{heading_of as read_heading}
 use Rattle.monk_history.specs.declared.event.Event.{Event}
 use Rattle.monk_floor.specs.View.{FloorView, monitor_of}

@@ -8,6 +8,7 @@ use Rattle.monk_kinds.specs.declared.mode.Pick.{Pick}
 use Rattle.monk_kinds.specs.declared.mode.Rules.{Rules}
 use Rattle.monk_object.specs.Object.{Object}
 use Rattle.monk_object.specs.declared.op.Op.{Op}
+use Rattle.monk_history.specs.Limits.{most_seats, most_conds, least_budget, most_budget}
 use Rattle.monk_history.specs.Meaning.Counts.{left_of, events_of}
 use Rattle.monk_floor.specs.Making as make
 use Rattle.monk_floor.specs.declared.fault.MakeFault.TheVariants as fault
@@ -298,12 +299,12 @@ not_more n m e = grind (arith, e)
 
 pub opening_kept : (k : Rules) (o : Object) (opening : List ℕ) (seats conds budget : ℕ) → make.make_refusal seats conds budget ≡ None → IsKept k o seats conds (opening_state opening seats conds budget)
 opening_kept k o opening seats conds budget free =
-    let r = few_are (nat_lt seats 1) (nat_lt 32 seats) (nat_lt 8 conds) (nat_lt budget 2) (nat_lt 1048576 budget) free in
+    let r = few_are (nat_lt seats 1) (nat_lt most_seats seats) (nat_lt most_conds conds) (nat_lt budget least_budget) (nat_lt most_budget budget) free in
     record {
       sound = opening_is_sound k o opening seats conds budget;
       bounded = record {
-        few = not_more 32 seats r.few;
-        low = not_more 1048576 budget r.low;
+        few = not_more most_seats seats r.few;
+        low = not_more most_budget budget r.low;
         within = λ j. omega (arith, ap length (none_of j));
         outside = λ j _. ap length (none_of j);
         drawn = omega arith;

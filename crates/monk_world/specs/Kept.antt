@@ -2,6 +2,7 @@
 use Rattle.std.specs.Prelude.{◌≡◌, ℕ, zero, suc, ◌+◌, ◌≤◌, length}
 use Rattle.monk_kinds.specs.declared.mode.Rules.{Rules}
 use Rattle.monk_object.specs.Object.{Object}
+use Rattle.monk_history.specs.Limits.{most_seats, most_budget}
 use Rattle.monk_history.specs.Meaning.Counts.{events_of}
 use Rattle.monk_world.specs.Sound.{Sound}
 use Rattle.monk_world.specs.State.{State}
@@ -38,8 +39,8 @@ sum_below (suc n) f = f n + sum_below n f
 
 -- no word is greater than there are events for
 pub record IsBounded (s : State) : Type 0 where
-  pub few : s.floor.seats ≤ 32
-  pub low : s.floor.budget ≤ 1048576
+  pub few : s.floor.seats ≤ most_seats
+  pub low : s.floor.budget ≤ most_budget
   pub within : (j : ℕ) → length (events_of s.floor.history j) ≤ s.floor.budget
   pub outside : (j : ℕ) → s.floor.seats ≤ j → length (events_of s.floor.history j) ≡ 0
   pub drawn : s.world.drawn ≤ length s.floor.history + sum_below s.floor.seats (λ j. comes_in (s.world.place j))

@@ -6,18 +6,12 @@ use Rattle.std.specs.List.{flat_map, AllByRecursion}
 use Rattle.std.specs.Fmt.{decimal}
 use Rattle.monk_kinds.specs.declared.mode.Pick.{Pick}
 use Rattle.monk_kinds.specs.declared.mode.Pick.TheVariants as pick
+use Rattle.monk_history.specs.Limits.{least_budget, most_budget}
 use Rattle.monk_history.specs.Text.{Heading, IsHeading, part_words}
 use Rattle.monk_history.specs.Text.Lines.{line}
 use Rattle.monk_history.specs.Text.Words.{Word}
 use Rattle.monk_world.specs.declared.command.Command.{Command}
 use Rattle.monk_world.specs.declared.command.Command.TheVariants.{Arrive, Look, Out, Peek, Drop, Grant, Act, Leave, Wait, Signal, SignalLeave, Until}
-
--- the ends of what a seat's budget may be
-abbrev pub least_budget : ℕ
-least_budget = 2
-
-abbrev pub most_budget : ℕ
-most_budget = 2 ^ 20
 
 -- ---- words
 

@@ -21,7 +21,7 @@ pub use answer::Answer;
 pub use command::Command;
 pub use home::Home;
 pub use place::Place;
-pub use play::{LEAST_BUDGET, MOST_BUDGET, MOST_COMMANDS, one_play_each, read_play};
+pub use play::{MOST_COMMANDS, one_play_each, read_play};
 pub use source::Source;
 pub use world::{World, record_entry};
 

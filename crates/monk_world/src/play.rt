@@ -7,5 +7,4 @@ mod reading;
 mod tests;
 mod verb;
 
-pub use head::{LEAST_BUDGET, MOST_BUDGET};
 pub use reading::{MOST_COMMANDS, one_play_each, read_play};

@@ -4,11 +4,8 @@ ghost use Rattle.monk_kinds.specs.declared.mode.Pick.{Pick};
 ghost use Rattle.monk_history.specs.Meaning.Counts.{left_of};
 ghost use Rattle.monk_history.specs.Meaning.Events.{has_conditions};
 ghost use Rattle.monk_history.specs.Meaning.Paths.{keeps_signallers};
-ghost use Rattle.monk_history.specs.Meaning.Release.{MayCall, choice_of};
-ghost use Rattle.monk_floor.specs.Chosen.{IsChosen};
-ghost use Rattle.monk_floor.specs.Grown.{IsGrown};
-ghost use Rattle.monk_floor.specs.Releases.{IsReplyless, MakesNoSignaller, ServesNobody};
-ghost use Rattle.monk_floor.specs.View.{monitor_of, stands_of};
+ghost use Rattle.monk_floor.specs.Chosen.{IsChosen, HasChosen};
+ghost use Rattle.monk_floor.specs.Releases.{MayCallOn, IsReplyless, MakesNoSignaller, ServesNobody};
 
 use crate::choosing::{equal_choice, first_ready, must_stay, served_choice, single_choice};
 use crate::floor::Floor;
@@ -21,7 +18,7 @@ impl<K: Kind, T: Guarded> Floor<K, T> {
     fn next_waiter(&self, event: Event, entry_known: bool, pick: Pick) -> Next
         requires conditions { has_conditions K.rules.mode ≡ true }
         requires signallers { keeps_signallers K.rules.mode ≡ false }
-        requires call { MayCall (monitor_of K.rules T.meaning self.now) self.now.history event }
+        requires call { MayCallOn K.rules T.meaning self.now event }
         requires release { MakesNoSignaller T.meaning event }
         ensures { IsChosen K.rules T.meaning self.now event entry_known pick result }
     {
@@ -39,7 +36,7 @@ impl<K: Kind, T: Guarded> Floor<K, T> {
     /// Past the signaller queue alone, under a blocking kind: whoever is served is admitted at once.
     fn next_signaller(&self, event: Event, entry_known: bool, pick: Pick) -> Next
         requires mode { K.rules.mode ≡ Mode.Blocking }
-        requires call { MayCall (monitor_of K.rules T.meaning self.now) self.now.history event }
+        requires call { MayCallOn K.rules T.meaning self.now event }
         requires release { ServesNobody T.meaning event }
         ensures { IsChosen K.rules T.meaning self.now event entry_known pick result }
     {
@@ -57,7 +54,7 @@ impl<K: Kind, T: Guarded> Floor<K, T> {
     /// Past waiters and signallers of one priority, under a quasi-blocking kind.
     fn next_equal(&self, event: Event, entry_known: bool, pick: Pick) -> Next
         requires mode { K.rules.mode ≡ Mode.QuasiBlocking }
-        requires call { MayCall (monitor_of K.rules T.meaning self.now) self.now.history event }
+        requires call { MayCallOn K.rules T.meaning self.now event }
         requires release { IsReplyless T.meaning event }
         ensures { IsChosen K.rules T.meaning self.now event entry_known pick result }
     {
@@ -80,7 +77,7 @@ impl<K: Kind, T: Guarded> Floor<K, T> {
     /// Past the ready seats alone, under an automatic kind.
     fn next_ready(&self, event: Event, entry_known: bool, pick: Pick) -> Next
         requires mode { K.rules.mode ≡ Mode.Automatic }
-        requires call { MayCall (monitor_of K.rules T.meaning self.now) self.now.history event }
+        requires call { MayCallOn K.rules T.meaning self.now event }
         requires release { IsReplyless T.meaning event }
         ensures { IsChosen K.rules T.meaning self.now event entry_known pick result }
     {
@@ -101,7 +98,7 @@ impl<K: Kind, T: Guarded> Floor<K, T> {
     /// A signal under a blocking kind hands over to the seat that it serves, whatever the wish.
     fn next_served(&self, seat: u8, cond: u8) -> Next
         requires mode { K.rules.mode ≡ Mode.Blocking }
-        requires call { MayCall (monitor_of K.rules T.meaning self.now) self.now.history (Event.Signal seat cond Next.Stay) }
+        requires call { MayCallOn K.rules T.meaning self.now (Event.Signal seat cond Next.Stay) }
         ensures { (known : Bool) (pick : Pick) → IsChosen K.rules T.meaning self.now (Event.Signal seat cond Next.Stay) known pick result }
     {
         served_choice(self.ledger.queues.front_of(cond))
@@ -110,7 +107,7 @@ impl<K: Kind, T: Guarded> Floor<K, T> {
     /// A signal under a non-blocking kind stays, whatever the wish, and no queue is asked.
     fn next_staying(&self, seat: u8, cond: u8) -> Next
         requires mode { K.rules.mode ≡ Mode.NonBlocking }
-        requires call { MayCall (monitor_of K.rules T.meaning self.now) self.now.history (Event.Signal seat cond Next.Stay) }
+        requires call { MayCallOn K.rules T.meaning self.now (Event.Signal seat cond Next.Stay) }
         ensures { (known : Bool) (pick : Pick) → IsChosen K.rules T.meaning self.now (Event.Signal seat cond Next.Stay) known pick result }
     {
         let _ = &self.history;
@@ -119,7 +116,7 @@ impl<K: Kind, T: Guarded> Floor<K, T> {
 
     /// What a leave or a wait chooses, by the path of the mode.
     fn next_past(&self, event: Event, entry_known: bool, pick: Pick) -> Next
-        requires call { MayCall (monitor_of K.rules T.meaning self.now) self.now.history event }
+        requires call { MayCallOn K.rules T.meaning self.now event }
         requires release { ServesNobody T.meaning event }
         ensures { IsChosen K.rules T.meaning self.now event entry_known pick result }
     {
@@ -134,10 +131,9 @@ impl<K: Kind, T: Guarded> Floor<K, T> {
 
     /// The active seat leaves the monitor: `plain_leave` by the path of the mode.
     pub fn leave(&mut self, seat: u8, pick: Pick, entry_known: bool) -> Next
-        requires call { MayCall (monitor_of K.rules T.meaning self.old) self.old.history (Event.Leave seat Next.Stay) }
+        requires call { MayCallOn K.rules T.meaning self.old (Event.Leave seat Next.Stay) }
         requires left { 0 < left_of self.old.budget self.old.history seat }
-        ensures grown { IsGrown K.rules T.meaning self.old (Event.Leave seat result) self.new }
-        ensures choice { result ≡ choice_of K.rules T.meaning (stands_of K.rules T.meaning self.old) (Event.Leave seat Next.Stay) entry_known pick }
+        ensures { HasChosen K.rules T.meaning self.old (Event.Leave seat) entry_known pick result self.new }
     {
         let next = self.next_past(Event::Leave(seat, Next::Stay), entry_known, pick);
         self.append(Event::Leave(seat, next));
@@ -148,10 +144,9 @@ impl<K: Kind, T: Guarded> Floor<K, T> {
 impl<K: Conditional, T: Guarded> Floor<K, T> {
     /// The active seat waits on a condition variable: `plain_wait` by the path of the mode.
     pub fn wait(&mut self, seat: u8, cond: u8, pick: Pick, entry_known: bool) -> Next
-        requires call { MayCall (monitor_of K.rules T.meaning self.old) self.old.history (Event.Wait seat cond Next.Stay) }
+        requires call { MayCallOn K.rules T.meaning self.old (Event.Wait seat cond Next.Stay) }
         requires left { 0 < left_of self.old.budget self.old.history seat }
-        ensures grown { IsGrown K.rules T.meaning self.old (Event.Wait seat cond result) self.new }
-        ensures choice { result ≡ choice_of K.rules T.meaning (stands_of K.rules T.meaning self.old) (Event.Wait seat cond Next.Stay) entry_known pick }
+        ensures { HasChosen K.rules T.meaning self.old (Event.Wait seat cond) entry_known pick result self.new }
     {
         let next = self.next_past(Event::Wait(seat, cond, Next::Stay), entry_known, pick);
         self.append(Event::Wait(seat, cond, next));
@@ -162,7 +157,7 @@ impl<K: Conditional, T: Guarded> Floor<K, T> {
 impl<K: Explicit, T: Guarded> Floor<K, T> {
     /// What a signal chooses, by the path of the mode.
     fn next_signal(&self, seat: u8, cond: u8, entry_known: bool, pick: Pick) -> Next
-        requires call { MayCall (monitor_of K.rules T.meaning self.now) self.now.history (Event.Signal seat cond Next.Stay) }
+        requires call { MayCallOn K.rules T.meaning self.now (Event.Signal seat cond Next.Stay) }
         ensures { IsChosen K.rules T.meaning self.now (Event.Signal seat cond Next.Stay) entry_known pick result }
     {
         match rules_of::<K>().mode {
@@ -180,10 +175,9 @@ impl<K: Explicit, T: Guarded> Floor<K, T> {
     /// Under a non-blocking kind it stays, and no queue is asked. Under a blocking kind it hands over to the seat that
     /// it serves, and no priority is compared.
     pub fn signal(&mut self, seat: u8, cond: u8, pick: Pick, entry_known: bool) -> Next
-        requires call { MayCall (monitor_of K.rules T.meaning self.old) self.old.history (Event.Signal seat cond Next.Stay) }
+        requires call { MayCallOn K.rules T.meaning self.old (Event.Signal seat cond Next.Stay) }
         requires left { 0 < left_of self.old.budget self.old.history seat }
-        ensures grown { IsGrown K.rules T.meaning self.old (Event.Signal seat cond result) self.new }
-        ensures choice { result ≡ choice_of K.rules T.meaning (stands_of K.rules T.meaning self.old) (Event.Signal seat cond Next.Stay) entry_known pick }
+        ensures { HasChosen K.rules T.meaning self.old (Event.Signal seat cond) entry_known pick result self.new }
     {
         let next = self.next_signal(seat, cond, entry_known, pick);
         self.append(Event::Signal(seat, cond, next));
@@ -195,10 +189,9 @@ impl<K: ImmediateReturn, T: Guarded> Floor<K, T> {
     /// The active seat signals a condition variable and leaves the monitor: `plain_signal_leave` by the path of the
     /// mode, past the waiter queue alone.
     pub fn signal_leave(&mut self, seat: u8, cond: u8, pick: Pick, entry_known: bool) -> Next
-        requires call { MayCall (monitor_of K.rules T.meaning self.old) self.old.history (Event.SignalLeave seat cond Next.Stay) }
+        requires call { MayCallOn K.rules T.meaning self.old (Event.SignalLeave seat cond Next.Stay) }
         requires left { 0 < left_of self.old.budget self.old.history seat }
-        ensures grown { IsGrown K.rules T.meaning self.old (Event.SignalLeave seat cond result) self.new }
-        ensures choice { result ≡ choice_of K.rules T.meaning (stands_of K.rules T.meaning self.old) (Event.SignalLeave seat cond Next.Stay) entry_known pick }
+        ensures { HasChosen K.rules T.meaning self.old (Event.SignalLeave seat cond) entry_known pick result self.new }
     {
         let next = self.next_waiter(
             Event::SignalLeave(seat, cond, Next::Stay),
@@ -214,10 +207,9 @@ impl<K: Automatic, T: Guarded> Floor<K, T> {
     /// The active seat waits until a predicate holds: `plain_until` by the path of the mode, past the ready seats
     /// alone.
     pub fn until(&mut self, seat: u8, pred: u8, pick: Pick, entry_known: bool) -> Next
-        requires call { MayCall (monitor_of K.rules T.meaning self.old) self.old.history (Event.Until seat pred Next.Stay) }
+        requires call { MayCallOn K.rules T.meaning self.old (Event.Until seat pred Next.Stay) }
         requires left { 0 < left_of self.old.budget self.old.history seat }
-        ensures grown { IsGrown K.rules T.meaning self.old (Event.Until seat pred result) self.new }
-        ensures choice { result ≡ choice_of K.rules T.meaning (stands_of K.rules T.meaning self.old) (Event.Until seat pred Next.Stay) entry_known pick }
+        ensures { HasChosen K.rules T.meaning self.old (Event.Until seat pred) entry_known pick result self.new }
     {
         let next = self.next_ready(Event::Until(seat, pred, Next::Stay), entry_known, pick);
         self.append(Event::Until(seat, pred, next));

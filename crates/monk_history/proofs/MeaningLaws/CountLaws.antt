@@ -4,6 +4,7 @@ use Rattle.std.specs.Prelude.{filter, count_by}
 use Rattle.std.proofs.lemmas.Bool.{cases_lt, false≢true}
 use Rattle.std.proofs.lemmas.List.Sums.{sum_by-append, count_by-le-length}
 use Rattle.std.proofs.Math.Nat.{mul-le-mul_right}
+use Rattle.monk_history.specs.Limits.{most_seats, most_budget, most_lines}
 use Rattle.monk_history.specs.Meaning.Events.{seat_of}
 use Rattle.monk_history.specs.Meaning.Standing.{times}
 use Rattle.monk_history.specs.Meaning.Counts.{events_of, is_enter, enters_of, grants, granted_of}
@@ -137,5 +138,5 @@ unfolding granted_of
 granted_none s = refl
 
 -- no more events than there are budgets for
-pub few_events : (seats budget n : ℕ) → seats ≤ 32 → budget ≤ 1048576 → n < seats * budget → n < 33554432
+pub few_events : (seats budget n : ℕ) → seats ≤ most_seats → budget ≤ most_budget → n < seats * budget → n < most_lines
 few_events seats budget n a b l = let c = mul-le-mul_right budget a in omega (arith, b, l, c)

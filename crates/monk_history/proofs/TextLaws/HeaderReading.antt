@@ -9,7 +9,8 @@ use Rattle.monk_object.specs.declared.name.ObjectName.{ObjectName}
 use Rattle.monk_object.specs.declared.name.ObjectName.TheVariants.{Buffer, Book, Shop}
 use Rattle.monk_kinds.specs.Names.{kind_word, with_text, kinds}
 use Rattle.monk_object.specs.Names.{object_word, objects}
-use Rattle.monk_history.specs.Text.{Heading, most_seats, most_conds, part_words, header_words, IsHeading}
+use Rattle.monk_history.specs.Limits.{most_seats, most_conds}
+use Rattle.monk_history.specs.Text.{Heading, part_words, header_words, IsHeading}
 use Rattle.monk_history.specs.Text.Words.{◌>>=◌, Word, Taken, number_at, with_rest, one_of, literal_at, end_at}
 use Rattle.monk_history.specs.Text.Reading.{heading, heading_of, parts_at, header_at}
 use Rattle.monk_history.proofs.TextLaws.LineCuts.{both}

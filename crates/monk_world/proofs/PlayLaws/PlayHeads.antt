@@ -9,7 +9,8 @@ use Rattle.monk_history.specs.Text.Words.{◌>>=◌, Word, Taken, number_at, wit
 use Rattle.monk_history.proofs.TextLaws.HeaderReading.{parts_take, parts_again}
 use Rattle.monk_history.proofs.TextLaws.WordReaders.{bind_ok, ok_is, number_takes, number_again, literal_takes, end_takes}
 use Rattle.monk_world.specs.declared.play.head.PlayHead.{PlayHead}
-use Rattle.monk_world.specs.Play.{least_budget, most_budget, play_words}
+use Rattle.monk_history.specs.Limits.{least_budget, most_budget}
+use Rattle.monk_world.specs.Play.{play_words}
 use Rattle.monk_world.specs.Play.Reading.{play_head, play_head_of, play_head_at}
 
 pub record HeadFits (h : PlayHead) : Type 0 where

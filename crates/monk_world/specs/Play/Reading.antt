@@ -14,7 +14,8 @@ use Rattle.monk_world.specs.declared.command.Command.TheVariants.{Arrive, Look, 
 use Rattle.monk_world.specs.declared.play.head.PlayHead.{PlayHead}
 use Rattle.monk_world.specs.declared.play.verb.Verb.{Verb}
 use Rattle.monk_world.specs.declared.play.verb.Verb.TheVariants as verb
-use Rattle.monk_world.specs.Play.{least_budget, most_budget, pick_word}
+use Rattle.monk_history.specs.Limits.{least_budget, most_budget}
+use Rattle.monk_world.specs.Play.{pick_word}
 
 -- ---- a command
 

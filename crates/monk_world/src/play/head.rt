@@ -3,14 +3,8 @@
 ghost use Rattle.monk_history.specs.Text.Words.{Reads};
 ghost use Rattle.monk_world.specs.Play.Reading.{play_head_at};
 
-use monk_history::Header;
 use monk_history::lines::{Flaw, Head, LineWords, header_parts};
-
-/// The least budget of a seat.
-pub const LEAST_BUDGET: u32 = 2;
-
-/// The greatest budget of a seat: 2^20.
-pub const MOST_BUDGET: u32 = 1 << 20;
+use monk_history::{Header, LEAST_BUDGET, MOST_BUDGET};
 
 /// The first line of a play.
 #[derive(Clone, Copy)]

@@ -10,8 +10,8 @@ ghost use Rattle.monk_world.specs.Play.Reading.{play, play_view, play_at};
 
 use crate::command::Command;
 use crate::play::head::PlayHead;
-use monk_history::Header;
-use monk_history::lines::{MOST_LINES, ReadFault, read_lines};
+use monk_history::lines::{ReadFault, read_lines};
+use monk_history::{Header, MOST_LINES};
 use std::alloc::Global;
 
 /// The most commands of a play: 2^25.
@@ -21,7 +21,7 @@ pub const MOST_COMMANDS: u32 = MOST_LINES;
 ///
 /// Each line ends by one byte 10, and exactly one byte 32 separates the words of a line. The first line is
 /// `play 1 KIND SEATS CONDS OBJECT SIZE BUDGET`: what stands in the header of a history, and a budget from
-/// [`LEAST_BUDGET`] to [`MOST_BUDGET`]. Each further line is a seat and an action, which is one of
+/// [`monk_history::LEAST_BUDGET`] to [`monk_history::MOST_BUDGET`]. Each further line is a seat and an action, which is one of
 ///
 /// - `arrive`, `look`, `out`, `peek`, `drop`, `grant`;
 /// - `act CODE ARG`;

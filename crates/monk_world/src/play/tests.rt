@@ -1,5 +1,6 @@
 use super::*;
 use crate::command::Command;
+use monk_history::MOST_BUDGET;
 use monk_kinds::{KindName, Pick};
 use monk_object::{ObjectName, Op};
 use std::test::*;

@@ -3,14 +3,12 @@
 ghost use Rattle.std.specs.Prelude.{◌≡◌, ◌≤◌, ◌+◌, ◌^◌, IfOk, IfSome};
 ghost use Rattle.monk_history.specs.Text.Lines.{IsNextItem, items_left, opened_at, lines_of, item_line, header_line};
 
+use crate::limits::MOST_LINES;
 use crate::text::fault::ReadFault;
 use crate::text::lines::record::{Head, Record};
 use crate::text::lines::split::split_once;
 use crate::text::lines::words::LineWords;
 use std::marker::Model;
-
-/// The most lines behind the header that a limit may allow: 2^25.
-pub const MOST_LINES: u32 = 1 << 25;
 
 /// The lines of a text that are not yet read. Contracts see the lines, the number of the first of them, and for how
 /// many there is room.
@@ -22,14 +20,15 @@ pub struct ItemLines<'a> {
 }
 
 impl<'a> Model for ItemLines<'a> {
-    ghost use Rattle.std.specs.Prelude.{◌+◌, ◌≤◌, ◌^◌};
+    ghost use Rattle.std.specs.Prelude.{◌+◌, ◌≤◌};
+    ghost use Rattle.monk_history.specs.Limits.{most_lines};
     ghost use Rattle.monk_history.specs.Text.Lines.{LinesLeft, lines_of};
 
     ghost Value = { LinesLeft };
 
     ghost view = { λ l. record { lines = lines_of l.rest.now; number = l.number; room = l.room } };
 
-    ghost invariant = { λ l. l.number + l.room ≤ 2 ^ 25 + 2 };
+    ghost invariant = { λ l. l.number + l.room ≤ most_lines + 2 };
 }
 
 impl<'a> ItemLines<'a> {

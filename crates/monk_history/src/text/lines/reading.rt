@@ -3,8 +3,9 @@
 ghost use Rattle.std.specs.Prelude.{◌≡◌, ◌≤◌};
 ghost use Rattle.monk_history.specs.Text.Lines.{Gives, items_view, items_left, lines_view, lines_of, lines_at};
 
+use crate::limits::MOST_LINES;
 use crate::text::fault::ReadFault;
-use crate::text::lines::left::{ItemLines, MOST_LINES};
+use crate::text::lines::left::ItemLines;
 use crate::text::lines::record::{Head, Record};
 use std::alloc::Global;
 

@@ -1,0 +1,19 @@
+-- The limits: of a monitor, of the events of a seat, and of a text
+use Rattle.std.specs.Prelude.{ℕ, ◌^◌}
+
+abbrev pub most_seats : ℕ
+most_seats = 32
+
+abbrev pub most_conds : ℕ
+most_conds = 8
+
+-- of the events of one seat: 2 to 2 ^ 20
+abbrev pub least_budget : ℕ
+least_budget = 2
+
+abbrev pub most_budget : ℕ
+most_budget = 1048576
+
+-- of the lines of a text behind its first: the events of a history, the commands of a play
+abbrev pub most_lines : ℕ
+most_lines = 2 ^ 25

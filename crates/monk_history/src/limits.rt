@@ -1,0 +1,19 @@
+//! The limits of a monitor and of a text, which the crates above keep too.
+
+/// The most seats of a monitor.
+pub const MOST_SEATS: u8 = 32;
+
+/// The most condition variables of a monitor.
+pub const MOST_CONDS: u8 = 8;
+
+/// The least number of events of one seat.
+pub const LEAST_BUDGET: u32 = 2;
+
+/// The greatest number of events of one seat: 2^20.
+pub const MOST_BUDGET: u32 = 1 << 20;
+
+/// The most lines of a text behind its first: 2^25.
+pub const MOST_LINES: u32 = 1 << 25;
+
+/// The most events of a text.
+pub const MOST_EVENTS: u32 = MOST_LINES;
