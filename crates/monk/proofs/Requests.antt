@@ -4,11 +4,8 @@ use Rattle.std.specs.Str.Parse.{ParsesUnsigned}
 use Rattle.clap.specs.declared.parser.matches.Found.{Found}
 use Rattle.clap.proofs.WalkLemmas.{one_text-rows}
 use Rattle.monk.specs.declared.request.Line.{Line}
-use Rattle.std.specs.Prelude.{option_map, codes, string_bytes}
-use Rattle.clap.specs.Words.{App, Row, Text, one_text, first_of, first_value, found_of, rows_of, is_simple, subcommand_of, subcommand_rows_of, subcommand_name_of}
-use Rattle.clap.specs.Simple.{subcommand_rows}
-use Rattle.clap.specs.declared.parser.matches.ArgMatches.{ArgMatches}
-use Rattle.clap.specs.declared.parser.matches.ArgMatches.TheViews.{out-ArgMatches}
+use Rattle.std.specs.Prelude.{option_map}
+use Rattle.clap.specs.Words.{Row, Text, one_text, rows_of, is_simple}
 use Rattle.clap.proofs.OnLiterals.{clap_on_literals}
 use Rattle.monk.specs.Request.{HasNumber, IsAsked, IsRead, NameList, monk_app}
 

@@ -1,5 +1,5 @@
 -- The lines of a run's totals, and that a legal history is never found forbidden.
-use Rattle.std.proofs.Common.{◌≡◌, ℕ, List, [], ◌∷◌, ◌++◌, append_assoc, sym, ◌∙◌, codes}
+use Rattle.std.proofs.Common.{◌≡◌, ℕ, List, ◌∷◌, ◌++◌, append_assoc, sym, ◌∙◌, codes}
 use Rattle.monk_audit.specs.declared.verdict.Verdict.{Verdict}
 use Rattle.monk_audit.specs.declared.verdict.Verdict.TheVariants.{Legal, Forbidden}
 

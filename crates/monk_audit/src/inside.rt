@@ -1,6 +1,6 @@
 //! Who is inside after an event.
 
-ghost use Rattle.std.specs.Prelude.{◌≡◌, ℕ, ◌<◌, OnOk, Bool, false, true, ◌&&◌, ◌||◌, not, List, [], ◌∷◌, ◌++◌, drop, length, slice_index_or, if◌then◌else◌};
+ghost use Rattle.std.specs.Prelude.{◌≡◌, ℕ, ◌<◌, false, true, ◌&&◌, ◌||◌, not, length, slice_index_or};
 ghost use Rattle.monk_history.specs.Meaning.Events as events;
 ghost use Rattle.monk_history.specs.Meaning.Turn as turns;
 

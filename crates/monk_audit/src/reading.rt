@@ -1,7 +1,6 @@
 //! The audit of a text: each event is judged when its line is read, so that no list of events is held.
 
 ghost use Rattle.std.specs.Prelude.{◌≡◌, ◌≤◌, ◌^◌};
-ghost use Rattle.monk_object.specs.Names.{most};
 ghost use Rattle.monk_history.specs.Meaning.Monitor.{monitor};
 ghost use Rattle.monk_history.specs.Meaning.Named.{monitor_of};
 ghost use Rattle.monk_history.specs.Text.Lines.{Gives, items_left};
@@ -61,7 +60,7 @@ fn judge<T: Guarded>(
             Err(fault) => return Err(fault),
         };
         count += 1;
-        let reason = replay.next(rules, &mut object, conds, event)?;
+        let reason = replay.judge(rules, &mut object, conds, event)?;
         if reason != ALLOWED {
             read_through(header, lines)?;
             return Ok(Verdict::Forbidden {

@@ -4,7 +4,6 @@ use denote.Param.Send.{IsSend, sendable, view_send, struct_send, recorded_send, 
 use denote.Struct.Declared.{shape}
 use Rattle.std.proofs.Crossing.{crosses, Vec-send}
 use Rattle.circular_buffer.proofs.Crosses.{Cells-send, Deed-send}
-use Rattle.circular_buffer.specs.contracts.heap.HeapCircularBuffer as Ring
 use Rattle.monk_kinds.specs.declared.kind.Kind as Kind
 use Rattle.monk_object.specs.declared.guarded.Guarded as Guarded
 use Rattle.std.specs.contracts.snapshot.Snapshot as Snapshot

@@ -1,5 +1,5 @@
 -- The queues of a floor as plain lists, and what one event makes of them
-use Rattle.std.specs.Prelude.{◌≡◌, ℕ, ◌<◌, ◌≤◌, ◌+◌, map, zero, suc, Bool, false, true, not, List, [], ◌∷◌, ◌++◌, length, drop, filter, if◌then◌else◌}
+use Rattle.std.specs.Prelude.{◌≡◌, ℕ, ◌<◌, ◌≤◌, ◌+◌, map, zero, suc, Bool, false, not, List, [], ◌∷◌, ◌++◌, length, drop, filter, if◌then◌else◌}
 use Rattle.monk_history.specs.Limits.{most_seats}
 use Rattle.monk_history.specs.Meaning.Standing.{times, times_in_conditions}
 use Rattle.monk_history.specs.Meaning.Events.{seat_of, next_of, is_waiter}

@@ -1,4 +1,4 @@
-ghost use Rattle.std.specs.Prelude.{◌≡◌, ℕ, ◌*◌, ◌<◌, ◌≤◌, ◌^◌, Bool, Option, Some, None, true, false, not, ◌&&◌, IfOk, IfErr, nat_lt, slice_index_or, List, [], ◌∷◌, ◌++◌, length};
+ghost use Rattle.std.specs.Prelude.{◌≡◌, ℕ, ◌*◌, ◌<◌, ◌≤◌, None, false, not, ◌&&◌, IfOk, IfErr, nat_lt, slice_index_or, List, [], ◌∷◌, ◌++◌, length};
 ghost use Rattle.monk_history.specs.Meaning.Conditions.{condition};
 ghost use Rattle.monk_history.specs.Meaning.Counts.{left_of, granted_of, enters_of};
 ghost use Rattle.monk_history.specs.Meaning.Events as events;

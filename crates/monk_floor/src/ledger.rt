@@ -1,4 +1,4 @@
-ghost use Rattle.std.specs.Prelude.{◌≡◌, ℕ, ◌<◌, ◌+◌, ◌^◌, ◌==◌, Bool, false, true, ◌&&◌, ◌||◌, not, List, [], IfOk, length, nat_lt, slice_index_or, if◌then◌else◌};
+ghost use Rattle.std.specs.Prelude.{◌≡◌, ℕ, ◌<◌, ◌+◌, ◌^◌, ◌==◌, false, true, ◌&&◌, ◌||◌, not, [], IfOk, length, nat_lt, slice_index_or, if◌then◌else◌};
 ghost use Rattle.monk_history.specs.Meaning.Events as events;
 ghost use Rattle.std.specs.List.{list_all};
 ghost use Rattle.monk_history.specs.Meaning.Counts as counts;

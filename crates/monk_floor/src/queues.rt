@@ -1,5 +1,5 @@
-ghost use Rattle.std.specs.Prelude.{◌≡◌, ℕ, ◌<◌, ◌==◌, ◌≤◌, IfOk, All, Option, List, [], ◌∷◌, ◌++◌, drop, filter, not, true, slice_get, length, vec_len, vec_capacity, if◌then◌else◌};
-ghost use Rattle.monk_history.specs.Meaning.Signallers.{is_empty, takes_front};
+ghost use Rattle.std.specs.Prelude.{◌≡◌, ℕ, ◌<◌, ◌==◌, ◌≤◌, IfOk, Option, [], ◌∷◌, ◌++◌, drop, filter, not, true, slice_get, length, vec_len, vec_capacity, if◌then◌else◌};
+ghost use Rattle.monk_history.specs.Meaning.Signallers.{takes_front};
 ghost use Rattle.monk_history.specs.Meaning.Untils.{chooses, waits_until};
 ghost use Rattle.monk_history.specs.Meaning.Events as events;
 ghost use Rattle.monk_floor.specs.Queues as lists;
@@ -87,7 +87,7 @@ pub struct Queues {
 }
 
 impl Model for Queues {
-    ghost use Rattle.std.specs.Prelude.{◌≡◌, ℕ, ◌≤◌, List, vec_capacity};
+    ghost use Rattle.std.specs.Prelude.{◌≡◌, ℕ, ◌≤◌, vec_capacity};
     ghost use Rattle.monk_history.specs.Limits.{most_seats};
     ghost use Rattle.monk_floor.specs.Queues.{QueueLists};
 

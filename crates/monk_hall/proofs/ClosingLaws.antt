@@ -1,5 +1,5 @@
 -- Where no seat is in a queue, every queue is empty, and a leave lets the entry in
-use Rattle.std.proofs.Common.{◌≡◌, ◌≢◌, ℕ, zero, suc, ◌+◌, ◌*◌, ◌==◌, ◌<◌, ◌≤◌, ◌⊎◌, cond, Bool, true, false, not, nat_lt, ◌&&◌, List, [], ◌∷◌, ◌++◌, map, length, sym, refl, ap, ◌∙◌, subst, inl, inr, arith, eq-eqb}
+use Rattle.std.proofs.Common.{◌≡◌, ℕ, zero, suc, ◌+◌, ◌*◌, ◌==◌, ◌<◌, ◌≤◌, ◌⊎◌, cond, Bool, true, false, nat_lt, ◌&&◌, List, [], ◌∷◌, ◌++◌, map, length, sym, refl, ap, ◌∙◌, subst, inl, inr, arith, eq-eqb}
 use Rattle.std.proofs.lemmas.List.{nil_from_length}
 use Rattle.monk_kinds.specs.declared.mode.Pick.TheVariants.{Entry as WishEntry}
 use Rattle.monk_kinds.specs.declared.mode.Rules.{Rules}
@@ -15,7 +15,7 @@ use Rattle.monk_history.specs.declared.event.Next.{Next}
 use Rattle.monk_floor.specs.Grown.{IsGrown}
 use Rattle.monk_history.specs.Meaning.Release.{choice_of}
 use Rattle.monk_history.specs.Meaning.Situation.{Situation, situation}
-use Rattle.monk_history.specs.Meaning.Standing.{times, times_in_conditions, in_queues, is_queued, standing, IsPlaced, has_turn}
+use Rattle.monk_history.specs.Meaning.Standing.{times, in_queues, IsPlaced}
 use Rattle.monk_history.specs.Meaning.Signallers.{signals, is_empty}
 use Rattle.monk_history.specs.Meaning.Untils.{ready_of}
 use Rattle.monk_history.specs.Meaning.Waiters.{serves}

@@ -4,7 +4,7 @@ use denote.Param.Send.{IsSend, IsSync, AllSend, AllSync, sendable, part_keyless,
 use denote.Struct.Declared.{shape}
 use denote.Struct.Owning as owning
 use denote.Struct.Struct.{Struct}
-use Rattle.std.proofs.Crossing.{crosses, frees, sync as heap_sync, send as heap_send}
+use Rattle.std.proofs.Crossing.{frees, sync as heap_sync}
 use Rattle.std.specs.contracts.alloc.Global as Heap
 use Rattle.std.specs.contracts.impls.GlobalAllocator.TheImpl.{ghosts}
 use Rattle.std.specs.contracts.option.Option as Option

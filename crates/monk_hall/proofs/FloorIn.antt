@@ -1,7 +1,7 @@
 -- The active seat brings the floor home
-use Rattle.std.proofs.Common.{◌≡◌, ◌≢◌, ℕ, zero, suc, ◌+◌, ◌-◌, ◌==◌, ◌<◌, ◌≤◌, cond, Bool, true, false, List, [], ◌∷◌, ◌++◌, length, set, sym, refl, ap, ◌∙◌, subst, inl, inr, arith, eq-eqb, ne_eqb, append-nil, append_assoc, length-append, length-set}
+use Rattle.std.proofs.Common.{◌≡◌, ◌≢◌, ℕ, ◌+◌, ◌-◌, ◌<◌, ◌≤◌, cond, Bool, false, List, [], ◌∷◌, ◌++◌, length, set, sym, refl, ap, ◌∙◌, subst, inl, inr, arith, ne_eqb, append-nil, append_assoc, length-append, length-set}
 use Rattle.std.specs.List.{last_or}
-use Rattle.std.specs.Prelude.{Option, Some, None, slice_index}
+use Rattle.std.specs.Prelude.{Option, Some, None}
 use Rattle.std.proofs.lemmas.Bool.Decides.{eqb_tells}
 use Rattle.std.proofs.lemmas.List.{set-get_or}
 use mathlib.Core.Option as maybe
@@ -14,7 +14,7 @@ use Rattle.monk_kinds.specs.Kind.{IsKind}
 use Rattle.monk_kinds.specs.declared.mode.Rules.{Rules}
 use Rattle.monk_object.specs.Object.{Object}
 use Rattle.monk_history.specs.Meaning.Counts.{events_of, granted_of, grants, chooses_seat, left_of}
-use Rattle.monk_history.specs.Meaning.Events.{seat_of, next_of, is_stay}
+use Rattle.monk_history.specs.Meaning.Events.{seat_of, next_of}
 use Rattle.monk_history.specs.Meaning.Legal.{IsLegal}
 use Rattle.monk_history.specs.Meaning.Release.{MayCall, with_next, choice_of}
 use Rattle.monk_history.specs.Meaning.Turn.{turn, turn_by}
@@ -25,15 +25,14 @@ use Rattle.monk_history.specs.declared.event.Turn.TheVariants.{Owned}
 use Rattle.monk_history.proofs.MeaningLaws.CountLaws.{granted_of-push}
 use Rattle.monk_floor.specs.View.{FloorView, monitor_of, stands_of}
 use Rattle.monk_world.specs.Kept.{IsKept}
-use Rattle.monk_world.specs.Places.{stage, back_turn, open_turn, due_to, turn_of_next, due_stage, active_stage, back_stage, passing_stage}
+use Rattle.monk_world.specs.Places.{stage, back_turn, due_to, turn_of_next, due_stage, active_stage, back_stage, passing_stage}
 use Rattle.monk_world.specs.Put.{put}
 use Rattle.monk_world.specs.Sound.{left_within}
 use Rattle.monk_world.specs.State.{State, with_event}
-use Rattle.monk_world.specs.StepTable.{IsStep, out_event, release_next}
+use Rattle.monk_world.specs.StepTable.{IsStep, out_event}
 use Rattle.monk_world.specs.Steps.{after_floor_in}
 use Rattle.monk_world.specs.World.{World}
 use Rattle.monk_world.specs.declared.answer.Answer.TheVariants as answer
-use Rattle.monk_world.specs.declared.home.Home.{Home}
 use Rattle.monk_world.specs.declared.place.Place.{Place}
 use Rattle.monk_world.specs.declared.place.Place.TheVariants.{Idle, Ticket, Due, Active, Back, Passing, Inner}
 use Rattle.monk_world.specs.declared.source.Source.{Source}
@@ -42,7 +41,7 @@ use Rattle.monk_world.proofs.Holders.{held}
 use Rattle.monk_world.proofs.PutLaws.{at_put, put_here}
 use Rattle.monk_world.proofs.TestLaws.{names_chosen}
 use Rattle.monk_hall.specs.Changes.{record_after_floor_in, source_at, back_after}
-use Rattle.monk_hall.specs.Floors.{StartsWith, GoesOn, IsPrivate, ArePrivate}
+use Rattle.monk_hall.specs.Floors.{StartsWith, ArePrivate}
 use Rattle.monk_hall.specs.Laws.{BringsHome}
 use Rattle.monk_hall.specs.Layout.{floor_of, shown_state, shown_world}
 use Rattle.monk_hall.specs.Records.{View, IsOne, the}

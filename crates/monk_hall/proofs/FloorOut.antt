@@ -1,7 +1,6 @@
 -- The floor comes out to the seat that is due
-use Rattle.std.proofs.Common.{◌≡◌, ◌≢◌, ℕ, zero, suc, ◌+◌, ◌-◌, ◌<◌, ◌≤◌, Bool, true, false, List, [], ◌∷◌, ◌++◌, length, set, sym, refl, ap, ◌∙◌, subst, inl, inr, arith, length-set}
-use Rattle.std.specs.Prelude.{Option, Some, None, slice_index}
-use Rattle.std.proofs.lemmas.Bool.Decides.{eqb_tells}
+use Rattle.std.proofs.Common.{◌≡◌, ◌≢◌, ℕ, ◌+◌, ◌-◌, ◌≤◌, false, List, [], ◌∷◌, ◌++◌, length, set, sym, refl, ap, ◌∙◌, subst, arith, length-set}
+use Rattle.std.specs.Prelude.{Option, Some}
 use Rattle.std.proofs.lemmas.List.{set-get_or}
 use mathlib.Core.Option as maybe
 use mathlib.Core.Path.{Path}
@@ -12,7 +11,7 @@ use Rattle.atomic_table.specs.Table as table
 use Rattle.monk_kinds.specs.Kind.{IsKind}
 use Rattle.monk_kinds.specs.declared.mode.Rules.{Rules}
 use Rattle.monk_object.specs.Object.{Object}
-use Rattle.monk_history.specs.Meaning.Counts.{events_of, enters_of, left_of}
+use Rattle.monk_history.specs.Meaning.Counts.{events_of, enters_of}
 use Rattle.monk_history.specs.Meaning.Turn.{turn}
 use Rattle.monk_history.specs.declared.event.Event.{Event}
 use Rattle.monk_history.proofs.MeaningLaws.LegalLaws.{legal_last}
@@ -23,7 +22,7 @@ use Rattle.monk_world.specs.Places.{stage, ticket, source, back_turn, due_stage,
 use Rattle.monk_world.specs.Put.{put}
 use Rattle.monk_world.specs.Sound.{left_at}
 use Rattle.monk_world.specs.State.{State, with_event}
-use Rattle.monk_world.specs.StepTable.{IsStep, IsDone, may_be_told, out_event}
+use Rattle.monk_world.specs.StepTable.{IsStep, may_be_told, out_event}
 use Rattle.monk_world.specs.Steps.{after_floor_out}
 use Rattle.monk_world.specs.World.{World}
 use Rattle.monk_world.specs.declared.answer.Answer.TheVariants as answer
@@ -31,7 +30,7 @@ use Rattle.monk_world.specs.declared.command.Command.TheVariants as command
 use Rattle.monk_world.specs.declared.place.Place.{Place}
 use Rattle.monk_world.specs.declared.place.Place.TheVariants.{Due, Active}
 use Rattle.monk_world.specs.declared.source.Source.{Source}
-use Rattle.monk_world.specs.declared.source.Source.TheVariants.{Free, Granted, Called}
+use Rattle.monk_world.specs.declared.source.Source.TheVariants.{Free, Granted}
 use Rattle.monk_world.proofs.DoneLaws.{IsReady}
 use Rattle.monk_world.proofs.EntersLaws.{entered_here}
 use Rattle.monk_world.proofs.Holders.{held}

@@ -1,6 +1,6 @@
 -- Each step that hands the right on keeps the rule
-use Rattle.std.proofs.Common.{◌≡◌, ◌≢◌, ℕ, zero, suc, ◌+◌, ◌-◌, ◌*◌, ◌%◌, ◌==◌, ◌<◌, ◌≤◌, ◌⊎◌, cond, Bool, true, false, List, [], ◌∷◌, length, set, sym, refl, ap, ◌∙◌, subst, inl, inr, arith, length-set, get_or-set_same, get_or-set_other, mod-lt}
-use Rattle.std.specs.Prelude.{Option, Some, None, slice_index}
+use Rattle.std.proofs.Common.{◌≡◌, ◌≢◌, ℕ, zero, suc, ◌+◌, ◌-◌, ◌%◌, ◌<◌, ◌≤◌, ◌⊎◌, true, List, [], ◌∷◌, set, sym, refl, ap, ◌∙◌, subst, inl, inr, arith, length-set, get_or-set_other, mod-lt}
+use Rattle.std.specs.Prelude.{Option, slice_index}
 use Rattle.std.proofs.lemmas.Bool.Decides.{eqb_tells}
 use mathlib.Core.Option as maybe
 use mathlib.Core.Path.{Path}
@@ -15,8 +15,7 @@ use Rattle.monk_history.specs.declared.event.Event.{Event}
 use Rattle.monk_history.specs.declared.event.Next.{Next}
 use Rattle.monk_history.specs.declared.event.Next.TheVariants as next
 use Rattle.monk_floor.specs.View.{FloorView}
-use Rattle.monk_world.specs.Kept.{IsKept}
-use Rattle.monk_world.specs.Places.{stage, ticket, back_turn, open_turn, due_to, turn_of_next, place_of, outside_stage, back_stage, passing_stage, inside_stage}
+use Rattle.monk_world.specs.Places.{stage, ticket, back_turn, due_to, turn_of_next, place_of, outside_stage, back_stage, passing_stage, inside_stage}
 use Rattle.monk_world.specs.Put.{put}
 use Rattle.monk_world.specs.State.{State}
 use Rattle.monk_world.specs.StepTable.{IsDone, IsGranted, may_be_told, names_seat}
@@ -29,12 +28,12 @@ use Rattle.monk_world.specs.declared.place.Place.{Place}
 use Rattle.monk_world.specs.declared.place.Place.TheVariants.{Idle, Ticket, Due, Active, Back, Passing, Inner}
 use Rattle.monk_world.proofs.DoneLaws.{IsReady}
 use Rattle.monk_world.proofs.Holders.{held}
-use Rattle.monk_world.proofs.PutLaws.{at_put, put_here, put_else, all_back}
-use Rattle.monk_hall.specs.Changes.{record_after_grant, home_at, source_at}
+use Rattle.monk_world.proofs.PutLaws.{at_put}
+use Rattle.monk_hall.specs.Changes.{record_after_grant, home_at}
 use Rattle.monk_hall.specs.Laws.{Takes}
 use Rattle.monk_hall.specs.Layout.{tickets, unpassed, shown_state, shown_world, place_word, seat_word}
 use Rattle.monk_hall.specs.Records.{View, IsOne, the}
-use Rattle.monk_hall.specs.Rule.{IsHall, IsKeptHall, CountsCalls}
+use Rattle.monk_hall.specs.Rule.{IsHall, CountsCalls}
 use Rattle.monk_hall.specs.Tells.{Me, TellsGrant}
 use Rattle.monk_hall.specs.declared.record.SeatRecord.{SeatRecord}
 use Rattle.monk_hall.specs.declared.setting.Setting.{Setting}

@@ -1,36 +1,29 @@
 -- A release goes home with the floor, and the right is handed on
-use Rattle.std.proofs.Common.{◌≡◌, ◌≢◌, ℕ, suc, ◌+◌, ◌-◌, ◌*◌, ◌<◌, ◌≤◌, ◌==◌, Bool, true, false, true≢false, cond, List, [], ◌∷◌, ◌++◌, length, length-append, append-nil, append_assoc, Option, Some, None, refl, sym, ap, subst, ◌∙◌, arith, eq-eqb, inl, inr}
-use Rattle.std.specs.List.{last_or, list_all}
-use Rattle.std.specs.Prelude.{nat_lt, IsTrue, ◌&&◌}
+use Rattle.std.proofs.Common.{◌≡◌, ◌≢◌, ℕ, ◌+◌, ◌-◌, ◌≤◌, true, false, true≢false, List, [], ◌∷◌, ◌++◌, length, Option, Some, None, refl, sym, ap, subst, ◌∙◌, arith}
+use Rattle.std.specs.List.{last_or}
 use Rattle.atomic_table.specs.Seated.{TableId}
 use Rattle.monk_kinds.specs.declared.mode.Rules.{Rules}
 use Rattle.monk_object.specs.Object.{Object}
 use Rattle.monk_history.specs.Meaning.Counts.{events_of, left_of}
-use Rattle.monk_history.specs.Meaning.Events.{seat_of, next_of, is_stay, is_way_out, named_seat}
+use Rattle.monk_history.specs.Meaning.Events.{is_stay}
 use Rattle.monk_history.specs.Meaning.Legal.{IsLegal}
-use Rattle.monk_history.specs.Meaning.Reasons.{IsAllowed}
 use Rattle.monk_history.specs.Meaning.Release.{with_next}
 use Rattle.monk_history.specs.declared.event.Event.{Event}
-use Rattle.monk_history.specs.declared.event.Event.TheVariants.{Enter, Act, Leave, Wait, Signal, SignalLeave, Until, Resume}
 use Rattle.monk_history.specs.declared.event.Next.{Next}
 use Rattle.monk_history.specs.declared.event.Next.TheVariants as next
 use Rattle.monk_history.proofs.MeaningLaws.LegalLaws.{legal-push}
-use Rattle.monk_history.proofs.MeaningLaws.TestLaws.{and_left, and_right}
 use Rattle.monk_floor.specs.View.{FloorView, monitor_of}
-use Rattle.monk_world.specs.Places.{stage, back_turn, turn_of_next, due_to, place_of}
+use Rattle.monk_world.specs.Places.{back_turn, turn_of_next, due_to, place_of}
 use Rattle.monk_world.specs.Sound.{left_within}
 use Rattle.monk_world.specs.State.{with_event}
 use Rattle.monk_world.specs.declared.home.Home.{Home}
-use Rattle.monk_world.specs.declared.home.Home.TheVariants as home
-use Rattle.monk_world.specs.declared.place.Place.{Place}
-use Rattle.monk_world.specs.declared.place.Place.TheVariants.{Idle, Ticket, Due, Active, Back, Passing, Inner}
-use Rattle.monk_hall.specs.Changes.{record_after_floor_in, back_after, home_at, choice_in}
+use Rattle.monk_world.specs.declared.place.Place.TheVariants.{Back}
+use Rattle.monk_hall.specs.Changes.{record_after_floor_in, back_after, home_at}
 use Rattle.monk_hall.specs.Handing.{seat_called_by, HasRecordedRelease, HasGone}
-use Rattle.monk_hall.specs.Layout.{floor_of, word_count}
-use Rattle.monk_hall.specs.Records.{the, IsOne}
-use Rattle.monk_hall.specs.Tells.{Me, Returns, IsReleaseTo, SeesTruly}
-use Rattle.monk_hall.specs.Tokens.{IsSeated, IsResting, IsWaiting}
-use Rattle.monk_hall.specs.declared.record.SeatRecord.{SeatRecord}
+use Rattle.monk_hall.specs.Layout.{floor_of}
+use Rattle.monk_hall.specs.Records.{the}
+use Rattle.monk_hall.specs.Tells.{Me}
+use Rattle.monk_hall.specs.Tokens.{IsSeated, IsResting}
 use Rattle.monk_hall.proofs.Releasing.{back_is, said}
 use Rattle.monk_hall.proofs.TokenLaws.{own_longer}
 

@@ -1,6 +1,5 @@
 -- What the seats know of the history, where one seat's record changes
-use Rattle.std.proofs.Common.{◌≡◌, ◌≢◌, ℕ, ◌+◌, ◌<◌, ◌≤◌, List, [], ◌∷◌, ◌++◌, length, sym, refl, ap, ◌∙◌, subst, inl, inr, arith}
-use Rattle.std.specs.Prelude.{Option, Some, None}
+use Rattle.std.proofs.Common.{◌≡◌, ◌≢◌, ℕ, ◌+◌, List, [], ◌∷◌, ◌++◌, sym, refl, ap, ◌∙◌, subst, arith}
 use mathlib.Core.Option.{none, some}
 use lib.ListN.{get_elem?}
 use Rattle.monk_kinds.specs.declared.mode.Rules.{Rules}
@@ -15,7 +14,7 @@ use Rattle.monk_world.specs.World.{World}
 use Rattle.monk_world.specs.declared.place.Place.{Place}
 use Rattle.monk_world.specs.declared.place.Place.TheVariants.{Active}
 use Rattle.monk_world.specs.declared.source.Source.{Source}
-use Rattle.monk_world.proofs.PutLaws.{at_put, put_here, put_else, all_back}
+use Rattle.monk_world.proofs.PutLaws.{at_put, all_back}
 use Rattle.monk_hall.specs.Floors.{StartsWith}
 use Rattle.monk_hall.specs.Rule.{AreTold, CountsCalls, Homes}
 use Rattle.monk_hall.specs.declared.record.SeatRecord.{SeatRecord}

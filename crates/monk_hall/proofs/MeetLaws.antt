@@ -1,6 +1,6 @@
 -- Two idle seats' views are put together, and both records learn the longer history
-use Rattle.std.proofs.Common.{◌≡◌, ◌≢◌, ℕ, zero, suc, ◌+◌, ◌-◌, ◌<◌, ◌≤◌, ◌⊎◌, ◌==◌, Bool, true, false, cond, nat_le, List, [], ◌∷◌, ◌++◌, length, set, sym, refl, ap, ◌∙◌, subst, inl, inr, ⊎_elim, arith, append-nil, append_assoc, length-append}
-use Rattle.std.specs.Prelude.{Option, Some, None, slice_index}
+use Rattle.std.proofs.Common.{◌≡◌, ◌≢◌, ℕ, suc, ◌+◌, ◌-◌, ◌<◌, ◌≤◌, ◌⊎◌, ◌==◌, Bool, true, false, cond, nat_le, List, [], ◌∷◌, ◌++◌, length, set, sym, refl, ap, ◌∙◌, subst, inl, inr, ⊎_elim, arith, append-nil, length-append}
+use Rattle.std.specs.Prelude.{Option}
 use Rattle.std.proofs.Math.Option.{some-injective}
 use Rattle.std.proofs.lemmas.Bool.Decides.{eqb_tells}
 use Rattle.std.proofs.lemmas.List.{set-get_or, nil_from_length}
@@ -33,14 +33,14 @@ use Rattle.monk_hall.specs.Changes.{longer, view_after_join, view_after_compare}
 use Rattle.monk_hall.specs.Floors.{StartsWith}
 use Rattle.monk_hall.specs.Layout.{floor_of, shown_state, shown_world, word_count}
 use Rattle.monk_hall.specs.Records.{View, In, Distinct, IsOne, IsTwo, the, head, tail}
-use Rattle.monk_hall.specs.Rule.{AreShown, AreTold, CountsCalls, Homes, IsHall, IsKeptHall}
+use Rattle.monk_hall.specs.Rule.{AreShown, CountsCalls, Homes, IsHall, IsKeptHall}
 use Rattle.atomic_table.specs.Seated.{TableId}
 use Rattle.monk_hall.specs.Tells.{Me, AreOne, TellsCompare, SeesTruly}
 use Rattle.monk_hall.specs.Tokens.{IsResting, top}
 use Rattle.monk_hall.specs.declared.record.SeatRecord.{SeatRecord}
 use Rattle.monk_hall.specs.declared.setting.Setting.{Setting}
 use Rattle.monk_hall.proofs.Dealing.{shown_moved}
-use Rattle.monk_hall.proofs.Seats.{is_at, is_desk, is_near, is_setting, shown_set, long, only}
+use Rattle.monk_hall.proofs.Seats.{is_at, is_desk, is_near, is_setting, long, only}
 use Rattle.monk_hall.proofs.Stored.{field_stays}
 
 hd : Event → List Event → Event

@@ -1,16 +1,14 @@
 -- What an active seat does between its steps keeps a world kept
-use Rattle.std.proofs.Common.{◌≡◌, ◌≢◌, ℕ, zero, suc, ◌+◌, ◌-◌, ◌==◌, ◌<◌, ◌≤◌, cond, Bool, true, false, List, [], ◌∷◌, ◌++◌, length, sym, refl, ap, ◌∙◌, subst, inl, inr, arith, eq-eqb, ne_eqb, append-nil, append_assoc, length-append}
-use Rattle.std.specs.Prelude.{Option, Some, None}
-use Rattle.monk_kinds.specs.Kind.{IsKind}
+use Rattle.std.proofs.Common.{◌≡◌, ◌≢◌, ℕ, ◌+◌, ◌-◌, ◌<◌, ◌≤◌, cond, Bool, List, [], ◌∷◌, ◌++◌, length, sym, refl, ap, ◌∙◌, subst, arith, eq-eqb, append-nil, append_assoc, length-append}
 use Rattle.monk_kinds.specs.declared.mode.Rules.{Rules}
 use Rattle.monk_object.specs.Object.{Object}
 use Rattle.monk_history.specs.Meaning.Counts.{events_of, left_of}
-use Rattle.monk_history.specs.Meaning.Events.{seat_of, next_of}
+use Rattle.monk_history.specs.Meaning.Events.{seat_of}
 use Rattle.monk_history.specs.Meaning.Legal.{IsLegal}
 use Rattle.monk_history.specs.declared.event.Event.{Event}
 use Rattle.monk_history.proofs.MeaningLaws.CountLaws.{events_of-push}
 use Rattle.monk_history.proofs.MeaningLaws.LegalLaws.{legal_front, legal_last}
-use Rattle.monk_floor.specs.View.{FloorView, monitor_of}
+use Rattle.monk_floor.specs.View.{monitor_of}
 use Rattle.monk_world.specs.Kept.{IsKept}
 use Rattle.monk_world.specs.State.{State, with_event}
 use Rattle.monk_world.specs.declared.place.Place.TheVariants.{Active}

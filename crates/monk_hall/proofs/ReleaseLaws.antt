@@ -1,6 +1,6 @@
 -- What a release makes of an active seat
-use Rattle.std.proofs.Common.{◌≡◌, ◌≢◌, ℕ, suc, ◌+◌, ◌-◌, ◌<◌, ◌≤◌, ◌==◌, Bool, true, false, true≢false, not, cond, List, [], ◌∷◌, ◌++◌, length, Option, Some, None, refl, sym, ap, subst, ◌∙◌, arith, inl, inr}
-use Rattle.std.specs.Prelude.{IsTrue, nat_lt}
+use Rattle.std.proofs.Common.{◌≡◌, ◌≢◌, ℕ, suc, ◌+◌, ◌-◌, ◌<◌, ◌≤◌, Bool, true, false, true≢false, not, cond, List, [], ◌∷◌, ◌++◌, length, Some, refl, sym, ap, subst, ◌∙◌, arith}
+use Rattle.std.specs.Prelude.{nat_lt}
 use Rattle.atomic_table.specs.Seated.{TableId}
 use Rattle.monk_kinds.specs.declared.mode.Rules.{Rules}
 use Rattle.monk_kinds.specs.declared.mode.Pick.{Pick}
@@ -16,7 +16,7 @@ use Rattle.monk_history.proofs.MeaningLaws.LegalLaws.{legal-push}
 use Rattle.monk_history.specs.Meaning.Legal.{IsLegal}
 use Rattle.monk_history.specs.Meaning.Monitor.{Monitor}
 use Rattle.monk_history.specs.Meaning.Reasons.{IsAllowed}
-use Rattle.monk_history.specs.Meaning.Release.{MayCall, with_next, choice_of}
+use Rattle.monk_history.specs.Meaning.Release.{with_next, choice_of}
 use Rattle.monk_history.specs.Meaning.Wish.{choice_by}
 use Rattle.monk_history.specs.declared.event.Event.{Event}
 use Rattle.monk_history.specs.declared.event.Event.TheVariants.{Enter, Act, Leave, Wait, Signal, SignalLeave, Until, Resume}
@@ -26,8 +26,6 @@ use Rattle.monk_history.specs.Meaning.Turn.{turn, turn_by}
 use Rattle.monk_history.specs.declared.event.Turn.TheVariants.{Owned}
 use Rattle.monk_floor.specs.Grown.{IsGrown}
 use Rattle.monk_floor.specs.View.{FloorView, monitor_of, stands_of}
-use Rattle.monk_world.specs.Places.{stage, place_of}
-use Rattle.monk_world.specs.Sound.{left_within}
 use Rattle.monk_world.specs.State.{with_event}
 use Rattle.monk_world.specs.declared.home.Home.{Home}
 use Rattle.monk_world.proofs.TestLaws.{some_above}
@@ -38,11 +36,10 @@ use Rattle.monk_hall.specs.declared.after.After.{After}
 use Rattle.monk_hall.specs.declared.after.After.TheVariants.{Active, Parked}
 use Rattle.monk_hall.specs.Changes.{record_after_peek}
 use Rattle.monk_hall.specs.Handing.{HasRecordedRelease, HasGone}
-use Rattle.monk_hall.specs.Recorded.{IsRelease, HasRecorded}
-use Rattle.monk_hall.specs.Layout.{word_count}
-use Rattle.monk_hall.specs.Records.{the, IsOne}
-use Rattle.monk_hall.specs.Tells.{Me, TellsPeek, Returns, IsReleaseTo, SeesTruly}
-use Rattle.monk_hall.specs.Tokens.{Token, Holder, IsSeated, IsHolding, with_own, holder}
+use Rattle.monk_hall.specs.Recorded.{IsRelease}
+use Rattle.monk_hall.specs.Records.{the}
+use Rattle.monk_hall.specs.Tells.{Me, TellsPeek, IsReleaseTo, SeesTruly}
+use Rattle.monk_hall.specs.Tokens.{Token, Holder, IsHolding, with_own, holder}
 use Rattle.monk_hall.specs.declared.record.SeatRecord.{SeatRecord}
 use Rattle.monk_hall.proofs.Private.{own_event}
 use Rattle.monk_hall.proofs.Releasing.{said}

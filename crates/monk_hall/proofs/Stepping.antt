@@ -1,6 +1,6 @@
 -- A table that meets the rule, as a seat finds it that has its view alone
-use Rattle.std.proofs.Common.{◌≡◌, ◌≢◌, ℕ, ◌+◌, ◌-◌, ◌<◌, ◌≤◌, Bool, List, [], ◌∷◌, length, set, sym, refl, ap, ◌∙◌, subst, arith}
-use Rattle.std.specs.Prelude.{Option, Some, None, slice_index}
+use Rattle.std.proofs.Common.{◌≡◌, ◌≢◌, ℕ, ◌-◌, ◌<◌, ◌≤◌, Bool, List, [], ◌∷◌, length, set, sym, ap, ◌∙◌, subst, arith}
+use Rattle.std.specs.Prelude.{Option}
 use mathlib.Core.Option as maybe
 use mathlib.Core.Path.{Path}
 use lib.ListN.{get_elem?}
@@ -8,8 +8,7 @@ use Rattle.atomic_table.specs.Table as table
 use Rattle.monk_kinds.specs.Kind.{IsKind}
 use Rattle.monk_kinds.specs.declared.mode.Rules.{Rules}
 use Rattle.monk_object.specs.Object.{Object}
-use Rattle.monk_history.specs.Meaning.Counts.{events_of, enters_of, left_of}
-use Rattle.monk_history.specs.declared.event.Event.{Event}
+use Rattle.monk_history.specs.Meaning.Counts.{enters_of, left_of}
 use Rattle.monk_floor.specs.View.{FloorView}
 use Rattle.monk_world.specs.Kept.{IsKept}
 use Rattle.monk_world.specs.Places.{stage, active_stage}
@@ -30,7 +29,7 @@ use Rattle.monk_hall.specs.Rule.{IsHall, IsKeptHall, AreTold, CountsCalls}
 use Rattle.monk_hall.specs.declared.record.SeatRecord.{SeatRecord}
 use Rattle.monk_hall.specs.declared.setting.Setting.{Setting}
 use Rattle.monk_hall.proofs.Frame as frame
-use Rattle.monk_hall.proofs.Knows.{calls_stay, told_moves}
+use Rattle.monk_hall.proofs.Knows.{told_moves}
 use Rattle.monk_hall.proofs.Seats as seats
 use Rattle.monk_hall.proofs.Standing.{IsApart}
 use Rattle.monk_hall.proofs.Stored.{field_put, field_stays}

@@ -1,8 +1,8 @@
 -- The world that is shown after a store of one word, or a change of one record
-use Rattle.std.proofs.Common.{◌≡◌, ◌≢◌, ℕ, ◌<◌, ◌+◌, ◌*◌, ◌%◌, cond, List, length, set, sym, refl, ap, ◌∙◌, subst, arith, get_or-set_same, get_or-set_other}
+use Rattle.std.proofs.Common.{◌≡◌, ◌≢◌, ℕ, ◌<◌, List, length, set, sym, refl, arith, get_or-set_same, get_or-set_other}
 use Rattle.std.specs.Prelude.{slice_index}
 use Rattle.monk_world.specs.Put.{put}
-use Rattle.monk_world.proofs.PutLaws.{at_put, put_same}
+use Rattle.monk_world.proofs.PutLaws.{at_put}
 use mathlib.Core.Path.{Path}
 use Rattle.monk_hall.specs.Layout.{place_word, seat_word}
 use Rattle.monk_hall.specs.declared.record.SeatRecord.{SeatRecord}

@@ -1,9 +1,9 @@
 -- What tokens keep from step to step
-use Rattle.std.proofs.Common.{◌≡◌, ◌≢◌, ℕ, suc, ◌+◌, ◌-◌, ◌<◌, ◌≤◌, ◌==◌, Bool, true, false, cond, List, [], ◌∷◌, ◌++◌, length, length-append, append-nil, append_assoc, None, Option, refl, sym, ap, subst, ◌∙◌, arith, eq-eqb, inl, inr}
+use Rattle.std.proofs.Common.{◌≡◌, ℕ, suc, ◌+◌, ◌-◌, ◌<◌, ◌≤◌, ◌==◌, Bool, true, false, cond, List, [], ◌∷◌, ◌++◌, length, length-append, append-nil, append_assoc, None, refl, sym, ap, subst, ◌∙◌, arith}
 use Rattle.atomic_table.specs.Seated.{TableId}
 use Rattle.monk_kinds.specs.declared.mode.Rules.{Rules}
 use Rattle.monk_object.specs.Object.{Object}
-use Rattle.monk_history.specs.Meaning.Counts.{events_of, left_of, enters_of, is_enter}
+use Rattle.monk_history.specs.Meaning.Counts.{events_of, enters_of, is_enter}
 use Rattle.monk_history.specs.Meaning.Events.{seat_of, next_of}
 use Rattle.monk_history.specs.Meaning.Legal.{IsLegal}
 use Rattle.monk_history.specs.Meaning.Reasons.{IsAllowed}
@@ -11,11 +11,9 @@ use Rattle.monk_history.specs.Meaning.Turn.{turn, turn_by}
 use Rattle.monk_history.specs.declared.event.Event.{Event}
 use Rattle.monk_history.specs.declared.event.Turn.{Turn}
 use Rattle.monk_history.specs.declared.event.Turn.TheVariants.{Owned}
-use Rattle.monk_history.proofs.MeaningLaws.CountLaws.{events_of-push, length-events_of-push}
 use Rattle.monk_history.proofs.MeaningLaws.LegalLaws.{legal-push}
 use Rattle.monk_history.proofs.MeaningLaws.TurnLaws.{turn-push}
 use Rattle.monk_floor.specs.View.{FloorView, monitor_of}
-use Rattle.monk_world.specs.Places.{stage}
 use Rattle.monk_world.specs.State.{with_event}
 use Rattle.monk_world.specs.StepTable.{out_event}
 use Rattle.monk_world.specs.Steps.{place_after_arrive, place_after_ticket_look, place_after_seat_look, count_after_seat_look}
@@ -24,13 +22,13 @@ use Rattle.monk_world.specs.declared.place.Place.TheVariants.{Idle, Ticket, Due,
 use Rattle.monk_world.specs.declared.source.Source.{Source}
 use Rattle.monk_world.specs.declared.source.Source.TheVariants.{Free, Granted, Called}
 use Rattle.monk_hall.proofs.Private.{own_event}
-use Rattle.monk_hall.specs.Calls.{HasArrived, HasEntered, HasDone, HasLooked, StillWaits, source_from, record_after_look}
+use Rattle.monk_hall.specs.Calls.{HasArrived, HasEntered, HasDone, HasLooked, source_from, record_after_look}
 use Rattle.monk_hall.specs.Changes.{record_after_arrive, record_after_ticket_look, record_after_seat_look, source_at, record_after_floor_out}
 use Rattle.monk_hall.specs.Floors.{Finds, GoesOn, IsPrivate, ArePrivate}
 use Rattle.monk_hall.specs.Layout.{floor_of, tickets, unpassed}
-use Rattle.monk_hall.specs.Records.{View, the, IsOne}
+use Rattle.monk_hall.specs.Records.{View, the}
 use Rattle.monk_hall.specs.Tells.{Me, TellsArrive, SeesTruly}
-use Rattle.monk_hall.specs.Tokens.{Token, Holder, IsSeated, IsResting, IsHolding, IsWaiting, with_own, holder}
+use Rattle.monk_hall.specs.Tokens.{Token, Holder, IsResting, IsHolding, IsWaiting, with_own, holder}
 use Rattle.monk_hall.specs.declared.record.SeatRecord.{SeatRecord}
 
 -- a seat's own event is one more of its own

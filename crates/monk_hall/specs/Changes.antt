@@ -1,5 +1,5 @@
 -- What each step makes of the record of the seat that takes it, by what it found
-use Rattle.std.specs.Prelude.{ℕ, suc, ◌+◌, ◌==◌, nat_le, if◌then◌else◌, Bool, true, false, List, [], ◌∷◌, length, Option, Some, None}
+use Rattle.std.specs.Prelude.{ℕ, suc, ◌+◌, ◌==◌, nat_le, if◌then◌else◌, false, List, [], ◌∷◌, length, Option, Some, None}
 use Rattle.std.specs.List.{last_or}
 use Rattle.monk_history.specs.Meaning.Counts.{events_of}
 use Rattle.monk_history.specs.Meaning.Events.{next_of, is_way_out}
@@ -13,7 +13,7 @@ use Rattle.monk_world.specs.declared.home.Home.TheVariants as home
 use Rattle.monk_world.specs.declared.place.Place.{Place}
 use Rattle.monk_world.specs.declared.place.Place.TheVariants.{Idle, Ticket, Due, Active, Back, Passing, Inner}
 use Rattle.monk_world.specs.declared.source.Source.{Source}
-use Rattle.monk_world.specs.declared.source.Source.TheVariants.{Free, Granted, Called}
+use Rattle.monk_world.specs.declared.source.Source.TheVariants.{Called}
 use Rattle.monk_hall.specs.Layout.{tickets, unpassed}
 use Rattle.monk_hall.specs.Records.{View, the, tail}
 use Rattle.monk_hall.specs.declared.record.SeatRecord.{SeatRecord}

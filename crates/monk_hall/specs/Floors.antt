@@ -1,19 +1,15 @@
 -- A floor in the hands of a seat
-use Rattle.std.specs.Prelude.{◌≡◌, ℕ, ◌+◌, ◌≤◌, ◌<◌, Bool, true, false, not, List, [], ◌∷◌, ◌++◌, length, Some, None, Option}
+use Rattle.std.specs.Prelude.{◌≡◌, ℕ, ◌+◌, ◌≤◌, ◌<◌, false, List, [], ◌∷◌, ◌++◌, length}
 use Rattle.monk_kinds.specs.declared.mode.Rules.{Rules}
-use Rattle.monk_kinds.specs.declared.Pick.{Pick}
 use Rattle.monk_object.specs.Object.{Object}
 use Rattle.monk_history.specs.Meaning.Counts.{events_of, enters_of, left_of, is_enter}
-use Rattle.monk_history.specs.Meaning.Events.{seat_of, next_of, is_stay}
+use Rattle.monk_history.specs.Meaning.Events.{seat_of, next_of}
 use Rattle.monk_history.specs.Meaning.Legal.{IsLegal}
 use Rattle.monk_history.specs.Meaning.Reasons.{IsAllowed}
-use Rattle.monk_history.specs.Meaning.Release.{MayCall, with_next, choice_of}
 use Rattle.monk_history.specs.Meaning.Turn.{turn, turn_by}
 use Rattle.monk_history.specs.declared.event.Event.{Event}
-use Rattle.monk_history.specs.declared.event.Next.{Next}
 use Rattle.monk_history.specs.declared.event.Turn.TheVariants.{Owned}
-use Rattle.monk_floor.specs.View.{FloorView, monitor_of, stands_of}
-use Rattle.monk_world.specs.State.{with_event}
+use Rattle.monk_floor.specs.View.{FloorView, monitor_of}
 use Rattle.monk_world.specs.StepTable.{out_event}
 use Rattle.monk_world.specs.declared.source.Source.TheVariants.{Free, Granted}
 use Rattle.monk_hall.specs.Changes.{source_at}

@@ -1,5 +1,5 @@
 //! How a hall ends.
-ghost use Rattle.std.specs.Prelude.{◌≡◌, ℕ, true, false, IfOk, IfErr};
+ghost use Rattle.std.specs.Prelude.{◌≡◌, true, false, IfOk, IfErr};
 ghost use Rattle.monk_hall.specs.Closing.{HasSomebody, IsUnqueued, IsEnded, IsBusy};
 
 use crate::active::Active;

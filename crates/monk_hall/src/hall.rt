@@ -1,4 +1,4 @@
-ghost use Rattle.std.specs.Prelude.{◌≡◌, ℕ, Option, None, IfOk, IfErr};
+ghost use Rattle.std.specs.Prelude.{◌≡◌};
 
 use crate::rule::HallTable;
 use monk_kinds::Kind;

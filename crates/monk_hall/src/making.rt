@@ -1,5 +1,5 @@
 //! How a hall is made: the table, and a pass for each seat.
-ghost use Rattle.std.specs.Prelude.{◌≡◌, ℕ, ◌<◌, Option, Some, None, [], ◌∷◌, IfOk, IfErr, replicate};
+ghost use Rattle.std.specs.Prelude.{◌≡◌, ◌<◌, Some, None, [], ◌∷◌, IfOk, IfErr, replicate};
 ghost use Rattle.monk_floor.specs.Making.{make_refusal, IsRefused};
 ghost use Rattle.monk_hall.specs.Layout.{floor_of, word_count};
 ghost use Rattle.monk_hall.specs.Records.{the, opening_record, first_view};

@@ -1,5 +1,5 @@
 //! How two seats tell each other what they have seen.
-ghost use Rattle.std.specs.Prelude.{◌≡◌, ℕ, suc, [], ◌∷◌};
+ghost use Rattle.std.specs.Prelude.{◌≡◌, suc, [], ◌∷◌};
 ghost use Rattle.monk_hall.specs.Changes.{longer};
 ghost use Rattle.monk_hall.specs.Tells.{AreOne, SeesTruly};
 ghost use Rattle.monk_hall.specs.Tokens.{top};

@@ -1,4 +1,4 @@
-ghost use Rattle.std.specs.Prelude.{◌≡◌, ◌≢◌, ℕ, suc, ◌+◌, ◌≤◌, ◌^◌, Option, Some, None, IfOk, IfErr, length};
+ghost use Rattle.std.specs.Prelude.{◌≡◌, ◌≢◌, suc, ◌+◌, ◌≤◌, Option, Some, None, IfOk, IfErr, length};
 ghost use Rattle.monk_world.specs.Places.{stage, due_stage};
 ghost use Rattle.monk_world.specs.declared.place.Place.TheVariants as at;
 ghost use Rattle.monk_hall.specs.Calls.{HasLooked, HasEntered, StillWaits, held_ticket};

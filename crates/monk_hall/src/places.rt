@@ -1,5 +1,5 @@
 //! Where a seat stands after a step, by what it found.
-ghost use Rattle.std.specs.Prelude.{◌≡◌, ℕ, ◌+◌, ◌==◌};
+ghost use Rattle.std.specs.Prelude.{◌≡◌, ◌+◌, ◌==◌};
 ghost use Rattle.monk_world.specs.Steps.{place_after_arrive, place_after_ticket_look, place_after_seat_look, count_after_seat_look};
 ghost use Rattle.monk_hall.specs.Layout.{tickets, unpassed};
 

@@ -1,7 +1,7 @@
 //! The releases that not every kind has, for code that is generic over every kind: whether the kind has a call is a
 //! condition of the call in place of a bound, and the floor takes the general scheduler step. Each has the contract of
 //! the call without `plain_`.
-ghost use Rattle.std.specs.Prelude.{◌≡◌, ℕ, ◌+◌, ◌<◌, ◌≤◌, true, false, not, length, Some};
+ghost use Rattle.std.specs.Prelude.{◌≡◌, ◌+◌, ◌<◌, ◌≤◌, true, false, not, length, Some};
 ghost use Rattle.monk_history.specs.Meaning.Choice.{must_stay};
 ghost use Rattle.monk_history.specs.Meaning.Events.{has_conditions, has_signaller_queue, is_stay, returns_at_once};
 ghost use Rattle.monk_floor.specs.View.{stands_of};

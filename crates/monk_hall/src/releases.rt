@@ -1,6 +1,6 @@
 //! The calls by which the active seat releases the monitor. Each may take a look at the ticket word, where the wish is
 //! for entry; brings the floor home unless the seat stays; and hands the right on.
-ghost use Rattle.std.specs.Prelude.{◌≡◌, ℕ, ◌&&◌, Bool, false, true, Some};
+ghost use Rattle.std.specs.Prelude.{◌≡◌, ◌&&◌, false, true, Some};
 ghost use Rattle.monk_history.specs.Meaning.Events.{is_stay};
 ghost use Rattle.monk_world.specs.declared.home.Home.TheVariants as home;
 ghost use Rattle.monk_hall.specs.Calls.{GoesOut, HasPeeked, is_entry_known, peeks_of, wants_entry};

@@ -1,5 +1,5 @@
 //! How a thread waits until its seat is active.
-ghost use Rattle.std.specs.Prelude.{◌≡◌, ℕ, ◌<◌};
+ghost use Rattle.std.specs.Prelude.{◌≡◌, ◌<◌};
 ghost use Rattle.monk_hall.specs.Calls.{HasEntered};
 
 use crate::active::Active;

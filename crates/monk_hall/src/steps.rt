@@ -1,8 +1,7 @@
 //! One function for each kind of step, and nothing else in it. The calls of the tokens are made of these.
-ghost use Rattle.std.specs.Prelude.{◌≡◌, ℕ, ◌+◌, ◌^◌, ◌<◌, ◌≤◌, [], ◌∷◌, Some, None, length};
+ghost use Rattle.std.specs.Prelude.{◌≡◌, ◌+◌, ◌<◌, ◌≤◌, [], ◌∷◌, Some, None, length};
 ghost use Rattle.monk_history.specs.Meaning.Counts.{granted_of};
 ghost use Rattle.monk_world.specs.Places.{stage, ticket, back_turn, due_to, ticketed_stage, due_stage, active_stage, passing_stage, inside_stage};
-ghost use Rattle.monk_world.specs.declared.home.Home.TheVariants as home;
 ghost use Rattle.monk_history.specs.declared.event.Next.{Next};
 ghost use Rattle.monk_world.specs.declared.place.Place.TheVariants.{Idle, Back};
 ghost use Rattle.monk_hall.specs.Changes.{record_after_floor_out, record_after_floor_in, home_at, record_after_grant};

@@ -1,16 +1,11 @@
 -- What the calls of each style come to
-use Rattle.std.proofs.Common.{◌≡◌, ℕ, ◌+◌, ◌<◌, ◌≤◌, ◌&&◌, not, Bool, true, false, cond, List, [], ◌∷◌, ◌++◌, length, length-append, refl, sym, ap, subst, ◌∙◌, arith}
-use Rattle.std.specs.Prelude.{nat_lt}
-use Rattle.monk_kinds.specs.declared.mode.Mode.{Mode}
-use Rattle.monk_kinds.specs.declared.mode.Mode.TheVariants.{ImmediateReturn, Automatic}
+use Rattle.std.proofs.Common.{◌≡◌, ℕ, ◌+◌, ◌<◌, [], ◌∷◌, ◌++◌, length, length-append, refl, sym, ap, subst, ◌∙◌, arith}
 use Rattle.monk_kinds.specs.declared.mode.Pick.{Pick}
 use Rattle.monk_kinds.specs.declared.mode.Rules.{Rules}
 use Rattle.monk_object.specs.Object.{Object}
-use Rattle.monk_history.specs.Meaning.Events.{has_conditions, has_signaller_queue, returns_at_once}
 use Rattle.monk_history.specs.Meaning.Release.{with_next}
-use Rattle.monk_history.specs.Meaning.Signallers.{is_empty}
 use Rattle.monk_history.specs.declared.event.Event.{Event}
-use Rattle.monk_history.specs.declared.event.Event.TheVariants.{Leave, Wait, Signal, SignalLeave, Until}
+use Rattle.monk_history.specs.declared.event.Event.TheVariants.{Leave, Signal}
 use Rattle.monk_history.specs.declared.event.Next.TheVariants.{Stay}
 use Rattle.monk_world.specs.declared.home.Home.{Home}
 use Rattle.monk_hall.specs.AfterCalls.{MatchAfter}
@@ -18,9 +13,8 @@ use Rattle.monk_hall.specs.Calls.{HasEntered, HasReleased, HasStayed}
 use Rattle.monk_hall.specs.Tokens.{Token, Holder}
 use Rattle.monk_hall.specs.declared.after.After.{After}
 use Rattle.monk_hall.specs.declared.after.After.TheVariants.{Active, Parked}
-use Rattle.monk_samples.specs.Styles.{HasPaused, HasGivenUp, HasGoneBy, HasFinished, pause_call, way_out}
+use Rattle.monk_samples.specs.Styles.{HasGivenUp, HasGoneBy}
 use Rattle.monk_samples.specs.Trails.{HasCalled, call_of, inside, outside}
-use Rattle.monk_samples.specs.declared.end.End.{End}
 use Rattle.monk_samples.proofs.TrailLaws.{called_then, went_nowhere, came, released, stayed}
 
 module _ (k : Rules) (o : Object) where

@@ -1,5 +1,5 @@
 -- What a visit of a member comes to
-use Rattle.std.proofs.Common.{◌≡◌, ℕ, zero, suc, ◌+◌, ◌<◌, ◌≤◌, Bool, true, false, cond, List, [], ◌∷◌, ◌++◌, length, take, append-nil, zero-add, refl, sym, ap, subst, ◌∙◌, arith}
+use Rattle.std.proofs.Common.{◌≡◌, ℕ, zero, suc, ◌+◌, Bool, true, false, cond, List, [], ◌∷◌, ◌++◌, length, take, append-nil, zero-add, refl, sym, ap, subst, ◌∙◌, arith}
 use Rattle.monk_kinds.specs.declared.mode.Pick.{Pick}
 use Rattle.monk_kinds.specs.declared.mode.Rules.{Rules}
 use Rattle.monk_object.specs.Object.{Object}
@@ -14,11 +14,11 @@ use Rattle.monk_hall.specs.Calls.{HasReleased}
 use Rattle.monk_hall.specs.Tells.{SeesTruly}
 use Rattle.monk_hall.specs.Tokens.{Token, Holder}
 use Rattle.monk_samples.specs.Styles.{HasFinished, HasGivenUp, HasPaused, IsSpent, pause_call, way_out}
-use Rattle.monk_samples.specs.Trails.{Trail, HasActed, HasCalled, inside, outside}
+use Rattle.monk_samples.specs.Trails.{Trail, HasActed, inside, outside}
 use Rattle.monk_samples.specs.Visits.{Duty, AreActsOf, AreActsBy, HasVisited, HasTired, HasLeftTired}
 use Rattle.monk_samples.specs.declared.end.End.{End}
 use Rattle.monk_samples.specs.declared.end.End.TheVariants.{Done, Tired, Late}
-use Rattle.monk_samples.proofs.TrailLaws.{acted_then, acted_none, acted_by, released}
+use Rattle.monk_samples.proofs.TrailLaws.{acted_then, acted_by, released}
 
 -- a way out does no operation
 out_acts : (b d : Bool) (s c : ℕ) → acts_in (cond b (Signal s c Stay ∷ Leave s Stay ∷ []) (cond d (SignalLeave s c Stay ∷ []) (Leave s Stay ∷ []))) ≡ []

@@ -11,7 +11,6 @@ use Rattle.monk_history.specs.declared.event.Event.TheVariants.{Leave, Wait, Sig
 use Rattle.monk_history.specs.declared.event.Next.TheVariants.{Stay}
 use Rattle.monk_hall.specs.Tells.{SeesTruly}
 use Rattle.monk_hall.specs.Tokens.{Token, Holder}
-use Rattle.monk_hall.specs.declared.setting.Setting.{Setting}
 use Rattle.monk_samples.specs.Trails.{HasCalled, inside, outside}
 use Rattle.monk_samples.specs.declared.end.End.{End}
 use Rattle.monk_samples.specs.declared.end.End.TheVariants.{Done, Tired, Late}

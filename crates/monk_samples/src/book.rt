@@ -1,6 +1,6 @@
 //! Readers and writers: several read at once, one writes alone. A reader begins and ends with two visits of its own, as a
 //! writer does, and reads or writes outside the monitor between them.
-ghost use Rattle.std.specs.Prelude.{◌≡◌, ℕ, [], ◌∷◌};
+ghost use Rattle.std.specs.Prelude.{◌≡◌, [], ◌∷◌};
 ghost use Rattle.monk_object.specs.Book.{book_meaning, START_READ, END_READ, START_WRITE, END_WRITE};
 ghost use Rattle.monk_samples.specs.Styles.{Offers};
 ghost use Rattle.monk_samples.specs.Visits.{HasVisited, must, may};

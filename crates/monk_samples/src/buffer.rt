@@ -1,5 +1,5 @@
 //! A bounded buffer: one task puts items, another takes them.
-ghost use Rattle.std.specs.Prelude.{◌≡◌, ℕ, ◌<◌, [], ◌∷◌};
+ghost use Rattle.std.specs.Prelude.{◌≡◌, ◌<◌, [], ◌∷◌};
 ghost use Rattle.monk_object.specs.Buffer.{buffer_meaning, PUT, TAKE};
 ghost use Rattle.monk_samples.specs.Styles.{Offers};
 ghost use Rattle.monk_samples.specs.Visits.{HasVisited, must, item_of, item_told};

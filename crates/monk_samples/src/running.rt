@@ -1,10 +1,9 @@
 //! A run: a hall over the object of a sample, with a thread for each seat that works, closed when all have ended.
-ghost use Rattle.std.specs.Prelude.{◌≡◌, ◌↔◌, ◌≤◌, ◌⊎◌, ◌<◌, ◌^◌, length, IfOk, OnOk, IsErrOf};
+ghost use Rattle.std.specs.Prelude.{◌≡◌, ◌↔◌, ◌⊎◌, ◌<◌, IfOk, OnOk, IsErrOf};
 ghost use Rattle.monk_object.specs.declared.name.ObjectName.TheVariants as object;
-ghost use Rattle.monk_object.specs.Names.{opening_named};
 ghost use Rattle.monk_hall.specs.Rule.{setting_of};
 ghost use Rattle.monk_samples.specs.Crews.{AreReady, IsOf, IsClosed};
-ghost use Rattle.monk_samples.specs.Samples.{IsHistoryOf, IsInRange, IsOutcome, budget_of, conds_of, size};
+ghost use Rattle.monk_samples.specs.Samples.{IsHistoryOf, IsInRange, IsOutcome, budget_of, conds_of};
 ghost use Rattle.monk_samples.specs.declared.sample.Sample.TheVariants as sample;
 
 use crate::crew::{work_book, work_buffer, work_shop};

@@ -1,6 +1,6 @@
 //! A barber's shop: a customer comes in, sits, has its hair cut and departs; the barber calls one after the other. Each
 //! goes to the shop's monitor twice.
-ghost use Rattle.std.specs.Prelude.{◌≡◌, ℕ, [], ◌∷◌};
+ghost use Rattle.std.specs.Prelude.{◌≡◌, [], ◌∷◌};
 ghost use Rattle.monk_object.specs.Shop.{shop_meaning, SIT, CALL, FINISH, DEPART};
 ghost use Rattle.monk_samples.specs.Styles.{Offers};
 ghost use Rattle.monk_samples.specs.Visits.{HasVisited, must, may};

@@ -1,4 +1,4 @@
-ghost use Rattle.std.specs.Prelude.{◌≡◌, ℕ, ◌+◌, MatchResult};
+ghost use Rattle.std.specs.Prelude.{◌≡◌, ◌+◌, MatchResult};
 ghost use Rattle.monk_samples.specs.Styles.{MayFinish, MayPause, Offers, HasPaused, HasGivenUp, HasFinished, has_waiting, pause_call, way_out};
 
 use crate::end::End;

@@ -1,5 +1,5 @@
 //! Members at work in one thread, where nobody has to wait.
-ghost use Rattle.std.specs.Prelude.{◌≡◌, ℕ, IfOk};
+ghost use Rattle.std.specs.Prelude.{IfOk};
 ghost use Rattle.monk_samples.specs.Tests.{AreSeats, IsSeat};
 
 mod runs;

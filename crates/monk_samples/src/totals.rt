@@ -1,5 +1,5 @@
 //! The totals of a run, read from its history.
-ghost use Rattle.std.specs.Prelude.{◌≡◌, ◌≤◌, ◌<◌, ◌^◌, [], ◌∷◌, length, sum, if◌then◌else◌};
+ghost use Rattle.std.specs.Prelude.{◌≡◌, ◌≤◌, ◌<◌, ◌^◌, length, sum, if◌then◌else◌};
 ghost use Rattle.monk_object.specs.Laws.{items_put, items_taken};
 ghost use Rattle.monk_object.specs.Runs.{times_done};
 ghost use Rattle.monk_history.specs.Meaning.Acts.{act_of};

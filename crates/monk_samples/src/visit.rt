@@ -1,6 +1,6 @@
 //! What members share: coming in, pausing while a predicate is false, and an operation. Each step gives the pass back
 //! where the seat has too few events left for it; then it is outside the monitor.
-ghost use Rattle.std.specs.Prelude.{◌≡◌, ℕ, ◌+◌, ◌<◌, true, [], ◌∷◌, MatchResult};
+ghost use Rattle.std.specs.Prelude.{◌≡◌, ◌+◌, ◌<◌, true, [], ◌∷◌, MatchResult};
 ghost use Rattle.monk_history.specs.Meaning.Monitor.{data_of};
 ghost use Rattle.monk_floor.specs.View.{monitor_of};
 ghost use Rattle.monk_samples.specs.Styles.{Offers};

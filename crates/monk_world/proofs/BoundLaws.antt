@@ -1,5 +1,5 @@
 -- No word grows beyond the events that there are
-use Rattle.std.proofs.Common.{◌≡◌, ◌≢◌, ℕ, zero, suc, ◌+◌, ◌-◌, ◌*◌, ◌==◌, ◌<◌, ◌≤◌, cond, Bool, true, false, List, [], ◌∷◌, ◌++◌, length, map, ⊎_elim, sym, refl, ap, ◌∙◌, subst, inl, inr, arith, eq-eqb, length-append}
+use Rattle.std.proofs.Common.{◌≡◌, ◌≢◌, ℕ, zero, suc, ◌+◌, ◌-◌, ◌==◌, ◌<◌, ◌≤◌, cond, Bool, true, false, List, [], ◌∷◌, ◌++◌, length, map, ⊎_elim, sym, refl, ap, ◌∙◌, subst, inl, inr, arith, eq-eqb, length-append}
 use Rattle.std.proofs.lemmas.Bool.{cases_lt}
 use Rattle.std.proofs.lemmas.Bool.Decides.{eqb_tells}
 use Rattle.std.proofs.Math.Nat.{mul-le-mul_right}
@@ -7,14 +7,13 @@ use Rattle.monk_history.specs.Meaning.Counts.{events_of, left_of}
 use Rattle.monk_history.specs.Meaning.Events.{seat_of}
 use Rattle.monk_history.specs.Meaning.Standing.{times}
 use Rattle.monk_history.specs.declared.event.Event.{Event}
-use Rattle.monk_history.proofs.MeaningLaws.CountLaws.{total, total_le, length_total, length-events_of, length-events_of-push}
+use Rattle.monk_history.proofs.MeaningLaws.CountLaws.{total_le, length_total, length-events_of, length-events_of-push}
 use Rattle.monk_world.specs.Kept.{comes_in, comes_back, sum_below, IsBounded}
 use Rattle.monk_world.specs.Put.{put}
 use Rattle.monk_world.specs.State.{State, with_event}
 use Rattle.monk_world.specs.World.{World}
 use Rattle.monk_world.specs.declared.place.Place.{Place}
 use Rattle.monk_world.specs.declared.place.Place.TheVariants.{Idle, Ticket, Due, Active, Back, Passing, Inner}
-use Rattle.monk_world.specs.declared.source.Source.{Source}
 use Rattle.monk_world.specs.declared.source.Source.TheVariants.{Free, Granted, Called}
 use Rattle.monk_world.proofs.PutLaws.{at_put, put_here, put_else}
 

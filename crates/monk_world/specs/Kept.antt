@@ -8,7 +8,6 @@ use Rattle.monk_world.specs.Sound.{Sound}
 use Rattle.monk_world.specs.State.{State}
 use Rattle.monk_world.specs.declared.place.Place.{Place}
 use Rattle.monk_world.specs.declared.place.Place.TheVariants.{Idle, Ticket, Due, Active, Back, Passing, Inner}
-use Rattle.monk_world.specs.declared.source.Source.{Source}
 use Rattle.monk_world.specs.declared.source.Source.TheVariants.{Free, Granted, Called}
 
 -- 1 where a seat that has drawn a ticket has not yet the floor

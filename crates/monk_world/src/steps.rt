@@ -1,4 +1,4 @@
-ghost use Rattle.std.specs.Prelude.{◌≡◌, ℕ, ◌+◌, ◌%◌, ◌^◌, ◌==◌, ◌<◌, ◌≤◌, ◌||◌, Some, false, IfOk, if◌then◌else◌, nat_le, slice_index_or};
+ghost use Rattle.std.specs.Prelude.{◌≡◌, ◌+◌, ◌%◌, ◌^◌, ◌==◌, ◌<◌, ◌≤◌, ◌||◌, Some, false, IfOk, if◌then◌else◌, nat_le, slice_index_or};
 ghost use Rattle.monk_floor.specs.View.{FloorView};
 ghost use Rattle.monk_history.specs.Meaning.Events.{is_stay};
 ghost use Rattle.monk_world.specs.Put.{put};

@@ -1,6 +1,5 @@
 //! What is tested before a command is carried out, of the command and the place alone.
-ghost use Rattle.std.specs.Prelude.{◌≡◌, Option, Some};
-ghost use Rattle.monk_history.specs.Meaning.Events.{is_call_of};
+ghost use Rattle.std.specs.Prelude.{◌≡◌};
 ghost use Rattle.monk_world.specs.StepTable as table;
 ghost use Rattle.monk_world.specs.Telling as telling;
 

@@ -1,15 +1,14 @@
-ghost use Rattle.std.specs.Prelude.{◌≡◌, ℕ, ◌<◌, ◌&&◌, Bool, Option, Some, None, not, nat_lt, IfOk, IfErr, List, length, zip};
+ghost use Rattle.std.specs.Prelude.{◌≡◌, ◌<◌, Option, Some, None, IfOk, IfErr};
 ghost use Rattle.monk_floor.specs.Making.{make_refusal, IsRefused};
 ghost use Rattle.monk_floor.specs.View.{monitor_of};
 ghost use Rattle.monk_history.specs.Meaning.Counts.{left_of};
 ghost use Rattle.monk_history.specs.Meaning.Reasons.{IsAllowed};
 ghost use Rattle.monk_history.specs.Meaning.Turn.{turn};
 ghost use Rattle.monk_world.specs.State.{with_event};
-ghost use Rattle.monk_history.specs.Meaning.Events.{is_call_of};
 ghost use Rattle.monk_history.specs.Meaning.Legal.{IsLegal};
 ghost use Rattle.monk_world.specs.Records.{IsRecordedBy, IsTakenBy};
 ghost use Rattle.monk_world.specs.Runs.{IsWellLed, opening_state};
-ghost use Rattle.monk_world.specs.StepTable.{IsStep, IsDone, out_event, refusal, left_for, may_be_told, is_call_in_range, is_call_offered, call_of};
+ghost use Rattle.monk_world.specs.StepTable.{IsStep, IsDone, out_event, refusal, left_for, may_be_told};
 ghost use Rattle.monk_world.specs.Telling.{IsLed};
 ghost use Rattle.monk_world.specs.Board.{state_of};
 

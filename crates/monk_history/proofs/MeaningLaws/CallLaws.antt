@@ -1,5 +1,5 @@
 -- What a caller knows of the turn lets it call; and who is queued
-use Rattle.std.proofs.Common.{◌≡◌, ℕ, ◌+◌, ◌<◌, Bool, true, false, cond, ◌&&◌, not, ◌==◌, refl, sym, ap, subst, ◌∙◌, arith, eq-eqb, ◌∷◌, [], ◌++◌, List}
+use Rattle.std.proofs.Common.{◌≡◌, ℕ, ◌+◌, ◌<◌, Bool, true, false, cond, ◌&&◌, not, refl, ap, ◌∙◌, arith, eq-eqb, [], List}
 use Rattle.std.specs.Prelude.{nat_lt}
 use Rattle.monk_object.specs.declared.op.Op.{Op}
 use Rattle.monk_history.specs.Meaning.Monitor.{Monitor, data_of}
@@ -9,14 +9,14 @@ use Rattle.monk_history.specs.Meaning.Turn.{turn, is_inside}
 use Rattle.monk_history.specs.Meaning.Signallers.{is_empty}
 use Rattle.monk_history.specs.Meaning.Untils.{untils, ready_of}
 use Rattle.monk_history.specs.declared.event.Via.TheVariants.{Free, Handed}
-use Rattle.monk_history.specs.Meaning.Reasons.{is_owned_by, is_open, is_due, is_queue}
+use Rattle.monk_history.specs.Meaning.Reasons.{is_owned_by, is_open}
 use Rattle.monk_history.specs.Meaning.Standing.{has_turn, in_queues, is_queued, IsPlaced}
-use Rattle.monk_history.specs.Meaning.Release.{MayCallIn, MayCall}
+use Rattle.monk_history.specs.Meaning.Release.{MayCall}
 use Rattle.monk_history.specs.declared.event.Event.{Event}
-use Rattle.monk_history.specs.declared.event.Event.TheVariants.{Enter, Act, Leave, Wait, Signal, SignalLeave, Until, Resume}
+use Rattle.monk_history.specs.declared.event.Event.TheVariants.{Enter, Act, Leave, Wait, Signal, SignalLeave, Until}
 use Rattle.monk_history.specs.declared.event.Next.TheVariants.{Stay}
 use Rattle.monk_history.specs.declared.event.Turn.{Turn}
-use Rattle.monk_history.specs.declared.event.Turn.TheVariants.{Open, Due, Owned}
+use Rattle.monk_history.specs.declared.event.Turn.TheVariants.{Open, Owned}
 
 owned : (s : ℕ) (t : Turn) → t ≡ Owned s → is_owned_by s t ≡ true
 owned s t e = ap (is_owned_by s) e ∙ eq-eqb s s refl

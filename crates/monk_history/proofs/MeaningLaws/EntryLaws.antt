@@ -1,15 +1,15 @@
 -- When a seat may enter or resume; what may be called; what a seat knows of itself
-use Rattle.std.proofs.Common.{◌≡◌, ◌≢◌, ℕ, ◌<◌, Bool, true, false, cond, ◌&&◌, ◌||◌, not, ◌==◌, Option, Some, None, List, [], ◌∷◌, refl, sym, ap, subst, ◌∙◌, arith, eq-eqb}
+use Rattle.std.proofs.Common.{◌≡◌, ◌≢◌, ℕ, ◌<◌, Bool, true, false, cond, ◌&&◌, ◌||◌, not, ◌==◌, List, [], ◌∷◌, refl, sym, ap, ◌∙◌, arith, eq-eqb}
 use Rattle.std.specs.Prelude.{◌↔◌, filter, nat_lt}
-use Rattle.std.specs.List.{list_all, list_any}
+use Rattle.std.specs.List.{list_any}
 use Rattle.std.proofs.lemmas.Bool.{false≢true, eqb-true}
-use Rattle.monk_history.specs.Meaning.Events.{seat_of, named_seat, next_of, waits_on, signals_on, is_way_out}
+use Rattle.monk_history.specs.Meaning.Events.{seat_of, is_way_out}
 use Rattle.monk_history.specs.Meaning.Monitor.{Monitor, data_of}
-use Rattle.monk_history.specs.Meaning.Situation.{Situation, situation}
+use Rattle.monk_history.specs.Meaning.Situation.{Situation}
 use Rattle.monk_history.specs.Meaning.Signallers.{is_empty}
 use Rattle.monk_history.specs.Meaning.Untils.{untils, ready_of}
 use Rattle.monk_history.specs.Meaning.Turn.{turn, is_enter_of, is_exit_of, inside_of, is_inside}
-use Rattle.monk_history.specs.Meaning.Reasons.{is_in_range, is_condition, fits_object, is_open, is_due, is_queue, IsAllowed, IsAllowedIn}
+use Rattle.monk_history.specs.Meaning.Reasons.{is_open, is_due, is_queue, IsAllowed, IsAllowedIn}
 use Rattle.monk_history.specs.Meaning.Counts.{events_of}
 use Rattle.monk_history.specs.Meaning.Release.{MayCallIn, MayCall, as_called}
 use Rattle.monk_history.specs.Meaning.Entry.{IsQuiet, IsAtDoor, IsDueFrom}

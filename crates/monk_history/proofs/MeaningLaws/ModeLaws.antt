@@ -1,22 +1,17 @@
 -- What a mode does to the choice
 use Rattle.std.proofs.Common.{◌≡◌, ℕ, ◌<◌, ◌≤◌, Bool, true, false, cond, ◌&&◌, ◌||◌, not, ◌==◌, Some, List, [], ◌∷◌, ◌++◌, take, drop, refl, sym, ap, subst, ◌∙◌, arith, eq-eqb}
-use Rattle.std.specs.Prelude.{nat_le, slice_get, if◌then◌else◌}
+use Rattle.std.specs.Prelude.{nat_le}
 use Rattle.std.proofs.lemmas.Bool.{false≢true, eqb-true}
 use Rattle.monk_kinds.specs.declared.mode.Rules.{Rules}
-use Rattle.monk_kinds.specs.declared.mode.Mode.{Mode}
 use Rattle.monk_kinds.specs.declared.mode.Mode.TheVariants.{Blocking, NonBlocking}
-use Rattle.monk_kinds.specs.declared.mode.Pick.{Pick}
-use Rattle.monk_kinds.specs.declared.mode.Pick.TheVariants.{Entry as WishEntry, Waiter as WishWaiter, Signaller as WishSignaller}
 use Rattle.monk_kinds.specs.Kind.{IsKind, FitsMode}
 use Rattle.monk_object.specs.Object.{Object}
-use Rattle.monk_history.specs.Meaning.Events.{seat_of, next_of, is_stay, is_waiter, is_signaller, has_conditions, has_signaller_queue, returns_at_once}
+use Rattle.monk_history.specs.Meaning.Events.{is_stay, is_waiter, is_signaller, has_conditions, has_signaller_queue, returns_at_once}
 use Rattle.monk_history.specs.Meaning.Monitor.{Monitor}
 use Rattle.monk_history.specs.Meaning.Situation.{Situation, situation}
 use Rattle.monk_history.specs.Meaning.Step.{after}
-use Rattle.monk_history.specs.Meaning.Signallers.{is_empty, signallers, signals, takes_signaller}
-use Rattle.monk_history.specs.Meaning.Choice.{Queues, queues_at, is_front, may_choose, may_signal, must_stay}
-use Rattle.monk_history.specs.Meaning.Wish.{inner_waiters, front, waiter_choice, signaller_choice, choice_by}
-use Rattle.monk_history.specs.Meaning.Release.{MayCall, choice_of}
+use Rattle.monk_history.specs.Meaning.Signallers.{is_empty, signallers}
+use Rattle.monk_history.specs.Meaning.Choice.{queues_at, may_signal}
 use Rattle.monk_history.specs.Meaning.Reasons.{IsAllowedIn}
 use Rattle.monk_history.specs.Meaning.Legal.{IsLegal}
 use Rattle.monk_history.specs.declared.event.Event.{Event}
@@ -25,8 +20,7 @@ use Rattle.monk_history.specs.declared.event.Next.{Next}
 use Rattle.monk_history.specs.declared.event.Next.TheVariants.{Stay, Entry, Waiter, Signaller, Until as UntilSeat}
 use Rattle.monk_history.proofs.MeaningLaws.TestLaws.{and_left, and_right}
 use Rattle.monk_history.proofs.MeaningLaws.StepLaws.{situation-none}
-use Rattle.monk_history.proofs.MeaningLaws.ReleaseLaws.{legal_induction, front_absent, caller_apart}
-use Rattle.monk_history.proofs.MeaningLaws.StandingLaws.{times-append, legal_placed}
+use Rattle.monk_history.proofs.MeaningLaws.ReleaseLaws.{legal_induction}
 
 -- the rules of a non-blocking kind
 pub record IsNonBlocking (k : Rules) : Type 0 where

@@ -1,19 +1,18 @@
 -- Where seats stand after one event more, and what is counted
-use Rattle.std.proofs.Common.{◌≡◌, ◌≢◌, ℕ, ◌+◌, ◌<◌, ◌≤◌, Bool, true, false, cond, ◌&&◌, ◌||◌, not, ◌==◌, Option, Some, None, List, [], ◌∷◌, ◌++◌, refl, sym, ap, subst, ◌∙◌, arith, map, eq-eqb, ⊎_elim}
+use Rattle.std.proofs.Common.{◌≡◌, ◌≢◌, ℕ, ◌+◌, ◌≤◌, Bool, true, false, cond, ◌&&◌, ◌||◌, not, ◌==◌, Option, Some, None, List, [], ◌∷◌, ◌++◌, refl, sym, ap, subst, ◌∙◌, arith, eq-eqb, ⊎_elim}
 use Rattle.std.proofs.lemmas.Bool.{false≢true, eqb-true, cases_lt}
 use Rattle.monk_kinds.specs.declared.mode.Rules.{Rules}
-use Rattle.monk_object.specs.Object.{Object}
-use Rattle.monk_history.specs.Meaning.Events.{seat_of, next_of, signals_on, is_stay, is_way_out, has_conditions}
+use Rattle.monk_history.specs.Meaning.Events.{seat_of, next_of, is_stay, is_way_out, has_conditions}
 use Rattle.monk_history.specs.Meaning.Monitor.{Monitor}
 use Rattle.monk_history.specs.Meaning.Situation.{Situation, situation}
 use Rattle.monk_history.specs.Meaning.Waiters.{serves}
 use Rattle.monk_history.specs.Meaning.Signallers.{is_empty, signals}
-use Rattle.monk_history.specs.Meaning.Choice.{Queues, queues_at, may_choose, may_signal, must_stay, chooses_well}
+use Rattle.monk_history.specs.Meaning.Choice.{Queues, queues_at, may_choose, may_signal}
 use Rattle.monk_history.specs.Meaning.Turn.{turn_by, is_enter_of, is_exit_of, is_inside}
 use Rattle.monk_history.specs.Meaning.Reasons.{is_in_turn, is_owned_by, is_open, is_due, fits_object, IsAllowedIn, IsAllowed}
 use Rattle.monk_history.specs.Meaning.Legal.{IsLegal}
 use Rattle.monk_history.specs.Meaning.Counts.{chooses_seat, grants}
-use Rattle.monk_history.specs.Meaning.Standing.{times, times_in_conditions, has_turn, in_queues, standing, IsPlaced}
+use Rattle.monk_history.specs.Meaning.Standing.{times, has_turn, in_queues, IsPlaced}
 use Rattle.monk_history.specs.Meaning.Moves.{parks, StandsAfter, CountsAfter}
 use Rattle.monk_history.specs.declared.event.Event.{Event}
 use Rattle.monk_history.specs.declared.event.Event.TheVariants.{Enter, Act, Leave, Wait, Signal, SignalLeave, Until, Resume}

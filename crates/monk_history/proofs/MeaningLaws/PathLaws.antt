@@ -1,5 +1,5 @@
 -- The choice along the path of a mode is the choice by the wish rules
-use Rattle.std.proofs.Common.{◌≡◌, ℕ, ◌<◌, ◌≤◌, Bool, true, false, cond, ◌&&◌, ◌||◌, not, ◌==◌, Option, Some, None, List, [], ◌∷◌, ◌++◌, take, refl, sym, ap, subst, ◌∙◌, arith, eq-eqb}
+use Rattle.std.proofs.Common.{◌≡◌, ℕ, ◌<◌, ◌≤◌, Bool, true, false, cond, ◌&&◌, ◌||◌, not, ◌==◌, List, [], ◌∷◌, ◌++◌, take, refl, sym, ap, subst, ◌∙◌, arith, eq-eqb}
 use Rattle.std.specs.Prelude.{nat_le, slice_get, if◌then◌else◌}
 use Rattle.std.proofs.lemmas.Bool.{false≢true}
 use Rattle.monk_kinds.specs.declared.mode.Rules.{Rules}
@@ -10,13 +10,13 @@ use Rattle.monk_kinds.specs.declared.mode.Pick.TheVariants.{Entry as WishEntry, 
 use Rattle.monk_kinds.specs.Kind.{IsKind, FitsMode}
 use Rattle.monk_history.specs.Meaning.Events.{seat_of, has_conditions, has_signaller_queue}
 use Rattle.monk_history.specs.Meaning.Monitor.{Monitor}
-use Rattle.monk_history.specs.Meaning.Situation.{Situation, situation}
+use Rattle.monk_history.specs.Meaning.Situation.{situation}
 use Rattle.monk_history.specs.Meaning.Waiters.{serves}
 use Rattle.monk_history.specs.Meaning.Signallers.{is_empty, signals}
 use Rattle.monk_history.specs.Meaning.Untils.{ready_of}
 use Rattle.monk_history.specs.Meaning.Choice.{Queues, queues_at, is_front, must_stay}
 use Rattle.monk_history.specs.Meaning.Wish.{inner_waiters, front, waiter_choice, signaller_choice, choice_by}
-use Rattle.monk_history.specs.Meaning.Paths.{keeps_signallers, next_from, single_choice, staying, equal_choice, served_choice}
+use Rattle.monk_history.specs.Meaning.Paths.{keeps_signallers, next_from, single_choice, equal_choice, served_choice}
 use Rattle.monk_history.specs.Meaning.Standing.{times}
 use Rattle.monk_history.specs.Meaning.Release.{MayCall, choice_of}
 use Rattle.monk_history.specs.Meaning.Legal.{IsLegal}

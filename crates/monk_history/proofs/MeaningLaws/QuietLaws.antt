@@ -1,5 +1,5 @@
 -- Entry is chosen past nobody, unless somebody is known to wait for it
-use Rattle.std.proofs.Common.{◌≡◌, ◌≢◌, ℕ, Bool, true, false, cond, ◌&&◌, ◌||◌, not, ◌==◌, Option, Some, None, List, [], ◌∷◌, ◌++◌, drop, map, refl, sym, ap, subst, ◌∙◌}
+use Rattle.std.proofs.Common.{◌≡◌, ◌≢◌, ℕ, Bool, true, false, cond, not, ◌==◌, Option, Some, None, List, [], ◌∷◌, ◌++◌, drop, map, refl, sym, ap, ◌∙◌}
 use Rattle.std.specs.Prelude.{filter, nat_le}
 use Rattle.std.proofs.lemmas.Bool.{false≢true}
 use Rattle.monk_kinds.specs.declared.mode.Rules.{Rules}
@@ -7,25 +7,22 @@ use Rattle.monk_kinds.specs.declared.mode.Pick.{Pick}
 use Rattle.monk_kinds.specs.declared.mode.Pick.TheVariants.{Entry as WishEntry, Waiter as WishWaiter, Signaller as WishSignaller}
 use Rattle.monk_object.specs.Object.{Object}
 use Rattle.monk_history.specs.Meaning.Events.{seat_of, next_of, is_waiter, is_until, is_stay, has_conditions}
-use Rattle.monk_history.specs.Meaning.Monitor.{Monitor, data_of, data_after}
+use Rattle.monk_history.specs.Meaning.Monitor.{Monitor, data_after}
 use Rattle.monk_history.specs.Meaning.Situation.{Situation, situation}
-use Rattle.monk_history.specs.Meaning.Step.{after}
-use Rattle.monk_history.specs.Meaning.Waiters.{serves}
-use Rattle.monk_history.specs.Meaning.Signallers.{is_empty, signals, takes_signaller}
+use Rattle.monk_history.specs.Meaning.Signallers.{is_empty, takes_signaller}
 use Rattle.monk_history.specs.Meaning.Untils.{waits_until, chooses, ready_of}
 use Rattle.monk_history.specs.Meaning.Choice.{Queues, queues_at, must_stay}
 use Rattle.monk_history.specs.Meaning.Wish.{inner_waiters, front, waiter_choice, signaller_choice, choice_by}
 use Rattle.monk_history.specs.Meaning.Reasons.{IsAllowed}
 use Rattle.monk_history.specs.Meaning.Legal.{IsLegal}
-use Rattle.monk_history.specs.Meaning.Release.{as_called, choice_of}
+use Rattle.monk_history.specs.Meaning.Release.{as_called}
 use Rattle.monk_history.specs.Meaning.Entry.{IsQuiet, AdmitsUnknown}
 use Rattle.monk_history.specs.declared.event.Event.{Event}
 use Rattle.monk_history.specs.declared.event.Event.TheVariants.{Enter, Act, Leave, Wait, Signal, SignalLeave, Until, Resume}
 use Rattle.monk_history.specs.declared.event.Next.{Next}
 use Rattle.monk_history.specs.declared.event.Next.TheVariants.{Stay, Entry, Waiter, Signaller, Until as UntilSeat}
-use Rattle.monk_history.proofs.MeaningLaws.LegalLaws.{legal-push}
 use Rattle.monk_history.proofs.MeaningLaws.StepLaws.{legal_situation-push}
-use Rattle.monk_history.proofs.MeaningLaws.ReleaseLaws.{IsSorted, legal_sorted, sorted_queues}
+use Rattle.monk_history.proofs.MeaningLaws.ReleaseLaws.{legal_sorted, sorted_queues}
 use Rattle.monk_history.proofs.MeaningLaws.PathLaws.{parts, parts_are}
 
 -- both inner queues are empty

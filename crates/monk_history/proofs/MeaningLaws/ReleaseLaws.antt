@@ -2,7 +2,6 @@
 use Rattle.std.proofs.Common.{◌≡◌, ℕ, ◌+◌, ◌<◌, ◌≤◌, zero, suc, Bool, true, false, cond, ◌&&◌, ◌||◌, not, ◌==◌, Some, List, [], ◌∷◌, ◌++◌, length, take, drop, refl, sym, ap, subst, ◌∙◌, arith, map, ⊎_elim}
 use Rattle.std.specs.Prelude.{filter, nat_lt}
 use Rattle.std.specs.List.{list_all}
-use Rattle.std.proofs.lemmas.List.{append-nil}
 use Rattle.std.proofs.lemmas.Bool.{false≢true, cases_lt, eqb-true}
 use Rattle.monk_kinds.specs.declared.mode.Mode.{Mode}
 use Rattle.monk_kinds.specs.declared.mode.Mode.TheVariants.{Blocking, NonBlocking, QuasiBlocking, ImmediateReturn, Automatic}
@@ -10,20 +9,20 @@ use Rattle.monk_kinds.specs.declared.mode.Rules.{Rules}
 use Rattle.monk_kinds.specs.declared.mode.Pick.{Pick}
 use Rattle.monk_kinds.specs.Kind.{IsKind}
 use Rattle.monk_object.specs.Object.{Object}
-use Rattle.monk_history.specs.Meaning.Events.{seat_of, next_of, named_seat, waits_on, signals_on, is_call_of, has_conditions, has_signaller_queue, returns_at_once, is_waiter, is_until, is_stay}
+use Rattle.monk_history.specs.Meaning.Events.{seat_of, next_of, named_seat, waits_on, signals_on, is_call_of, has_conditions, has_signaller_queue, returns_at_once, is_waiter, is_stay}
 use Rattle.monk_history.specs.Meaning.Monitor.{Monitor}
 use Rattle.monk_history.specs.Meaning.Situation.{Situation, situation}
 use Rattle.monk_history.specs.Meaning.Step.{after}
 use Rattle.monk_history.specs.Meaning.Waiters.{serves}
 use Rattle.monk_history.specs.Meaning.Signallers.{is_empty, signals, takes_signaller}
 use Rattle.monk_history.specs.Meaning.Untils.{waits_until, chooses, ready_of}
-use Rattle.monk_history.specs.Meaning.Choice.{Queues, queues_at, is_front, may_choose, may_signal, must_stay}
+use Rattle.monk_history.specs.Meaning.Choice.{Queues, queues_at, is_front, may_choose, may_signal}
 use Rattle.monk_history.specs.Meaning.Wish.{choice_by}
 use Rattle.monk_history.specs.Meaning.Turn.{is_enter_of, is_exit_of}
-use Rattle.monk_history.specs.Meaning.Reasons.{is_in_range, is_condition, fits_object, is_offered, is_open, is_due, is_queue, is_owned_by, fits_turn, is_in_turn, is_in_place, is_right_reply, may_enter, IsAllowedIn, IsAllowed}
+use Rattle.monk_history.specs.Meaning.Reasons.{is_in_range, is_condition, fits_object, is_offered, is_due, is_queue, is_owned_by, is_in_turn, is_in_place, is_right_reply, IsAllowedIn}
 use Rattle.monk_history.specs.Meaning.Legal.{IsLegal}
 use Rattle.monk_history.specs.Meaning.Standing.{times, times_in_conditions, has_turn, IsPlaced}
-use Rattle.monk_history.specs.Meaning.Release.{MayCallIn, MayCall, with_next, choice_of}
+use Rattle.monk_history.specs.Meaning.Release.{MayCallIn, with_next, choice_of}
 use Rattle.monk_history.specs.declared.event.Event.{Event}
 use Rattle.monk_history.specs.declared.event.Event.TheVariants.{Enter, Act, Leave, Wait, Signal, SignalLeave, Until, Resume}
 use Rattle.monk_history.specs.declared.event.Next.{Next}

@@ -1,9 +1,9 @@
 -- Reading a text line after line, as a loop does, whatever its lines hold.
-use Rattle.std.proofs.Common.{◌≡◌, ◌==◌, ◌≢◌, ℕ, zero, suc, ◌-◌, ◌+◌, ◌≤◌, Bool, true, false, cond, List, [], ◌∷◌, ◌++◌, length, Result, Ok, Err, refl, sym, ap, ◌∙◌, append_assoc, arith}
+use Rattle.std.proofs.Common.{◌≡◌, ◌==◌, ◌≢◌, ℕ, zero, suc, ◌-◌, ◌+◌, Bool, true, false, cond, List, [], ◌∷◌, ◌++◌, length, Result, Ok, Err, refl, sym, ap, ◌∙◌, append_assoc, arith}
 use Rattle.std.specs.List.{slice_split, onto_first}
 use Rattle.std.proofs.lemmas.List.{append-nil}
 use Rattle.monk_history.specs.declared.text.fault.ReadFault.{ReadFault}
-use Rattle.monk_history.specs.Text.Faults.{header_fault, end_fault, long_fault}
+use Rattle.monk_history.specs.Text.Faults.{end_fault, long_fault}
 use Rattle.monk_history.specs.Text.Words.{◌>>=◌, Word, Taken}
 use Rattle.monk_history.specs.Text.Lines.{LinesLeft, lines_of, item_line, header_line, items_at, items_left, lines_at, opened_at}
 

@@ -5,7 +5,6 @@ use Rattle.std.specs.List.{flat_map}
 use Rattle.monk_object.specs.Book.{START_READ, END_READ, START_WRITE, END_WRITE}
 use Rattle.monk_object.specs.Shop.{SIT, CALL, FINISH, DEPART}
 use Rattle.monk_object.specs.Laws.{items_put, items_taken}
-use Rattle.monk_object.specs.Object.{Object}
 use Rattle.monk_object.specs.Runs.{Answered, answers_of, state_after, times_done}
 use Rattle.monk_object.specs.declared.op.Op.{Op}
 use Rattle.monk_history.specs.declared.event.Event.{Event}

@@ -1,5 +1,5 @@
 -- When a seat may enter or resume
-use Rattle.std.specs.Prelude.{◌≡◌, ◌≢◌, ℕ, ◌<◌, false, Some, List, []}
+use Rattle.std.specs.Prelude.{◌≡◌, ℕ, ◌<◌, false, Some, List, []}
 use Rattle.monk_kinds.specs.declared.mode.Pick.{Pick}
 use Rattle.monk_history.specs.Meaning.Events.{next_of}
 use Rattle.monk_history.specs.Meaning.Situation.{Situation}
@@ -12,7 +12,6 @@ use Rattle.monk_history.specs.Meaning.Untils.{untils, ready_of}
 use Rattle.monk_history.specs.Meaning.Turn.{turn, is_inside}
 use Rattle.monk_history.specs.declared.event.Event.{Event}
 use Rattle.monk_history.specs.declared.event.From3.{From3}
-use Rattle.monk_history.specs.declared.event.Turn.{Turn}
 use Rattle.monk_history.specs.declared.event.Turn.TheVariants.{Open, Due}
 
 -- nobody could be chosen from a queue

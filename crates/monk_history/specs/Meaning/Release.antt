@@ -1,5 +1,5 @@
 -- What a call asks for, before the choice and the reply are known
-use Rattle.std.specs.Prelude.{ℕ, Bool, true, false, IsTrue, if◌then◌else◌}
+use Rattle.std.specs.Prelude.{Bool, IsTrue, if◌then◌else◌}
 use Rattle.monk_kinds.specs.declared.mode.Rules.{Rules}
 use Rattle.monk_kinds.specs.declared.mode.Pick.{Pick}
 use Rattle.monk_object.specs.Object.{Object}
@@ -12,7 +12,7 @@ use Rattle.monk_history.specs.Meaning.Reasons.{is_in_range, is_offered, is_in_tu
 use Rattle.monk_history.specs.declared.event.Event.{Event}
 use Rattle.monk_history.specs.declared.event.Event.TheVariants.{Enter, Act, Leave, Wait, Signal, SignalLeave, Until, Resume}
 use Rattle.monk_history.specs.declared.event.Next.{Next}
-use Rattle.monk_history.specs.declared.event.Next.TheVariants.{Stay, Entry, Waiter, Signaller, Until as UntilSeat}
+use Rattle.monk_history.specs.declared.event.Next.TheVariants.{Stay}
 use Rattle.std.specs.Prelude.{List}
 
 -- an event is allowed apart from its choice and its reply, if it is written with `stay`

@@ -1,6 +1,5 @@
 //! A header, read from the words of its line.
 
-ghost use Rattle.std.specs.Prelude.{◌≡◌};
 ghost use Rattle.monk_kinds.specs.Names.{kind_word, kinds};
 ghost use Rattle.monk_object.specs.Names.{object_word, objects};
 ghost use Rattle.monk_history.specs.Text.Words.{Reads, one_of};

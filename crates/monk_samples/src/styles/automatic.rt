@@ -1,5 +1,5 @@
 //! The kinds whose tasks wait until a predicate holds.
-ghost use Rattle.std.specs.Prelude.{◌≡◌, ℕ, ◌<◌, false, MatchResult};
+ghost use Rattle.std.specs.Prelude.{◌≡◌, ◌<◌, false, MatchResult};
 ghost use Rattle.monk_history.specs.Meaning.Events.{has_conditions};
 ghost use Rattle.monk_samples.specs.Styles.{HasPaused, HasGivenUp};
 

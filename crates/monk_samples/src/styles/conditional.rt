@@ -1,5 +1,5 @@
 //! The kinds with condition variables.
-ghost use Rattle.std.specs.Prelude.{◌≡◌, ℕ, ◌<◌, true, not, MatchResult};
+ghost use Rattle.std.specs.Prelude.{◌≡◌, ◌<◌, true, not, MatchResult};
 ghost use Rattle.monk_history.specs.Meaning.Conditions.{condition};
 ghost use Rattle.monk_history.specs.Meaning.Events.{has_conditions};
 ghost use Rattle.monk_history.specs.Meaning.Signallers.{is_empty};

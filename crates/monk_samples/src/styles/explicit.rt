@@ -1,5 +1,5 @@
 //! The kinds whose signaller stays inside the monitor.
-ghost use Rattle.std.specs.Prelude.{◌≡◌, ℕ, ◌<◌, true, [], ◌∷◌};
+ghost use Rattle.std.specs.Prelude.{◌≡◌, ◌<◌, true, [], ◌∷◌};
 ghost use Rattle.monk_history.specs.Meaning.Events.{has_signaller_queue};
 ghost use Rattle.monk_samples.specs.Styles.{HasFinished};
 

@@ -1,4 +1,4 @@
-use Rattle.std.proofs.Common.{◌≡◌, ◌∙◌, ℕ, List, codes}
+use Rattle.std.proofs.Common.{◌∙◌, ℕ, List, codes}
 use Rattle.std.specs.Prelude.{slice_index, decimal}
 use Rattle.std.proofs.lemmas.Result.{IfOk-weaker}
 use Rattle.monk.proofs.Totals.{two_pairs}

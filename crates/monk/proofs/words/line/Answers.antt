@@ -1,5 +1,5 @@
-use Rattle.std.proofs.Common.{rules, ◌≡◌, ◌∙◌, ap, sym, subst, codes}
-use Rattle.clap.specs.Words.{app_of, is_simple, subcommand_of}
+use Rattle.std.proofs.Common.{◌∙◌, ap, subst}
+use Rattle.clap.specs.Words.{app_of, is_simple}
 use Rattle.monk.specs.Request.{IsAsked}
 use Rattle.monk.proofs.Requests.{monk_is_simple}
 use Rattle.monk.proofs.words.line.Goals as goal

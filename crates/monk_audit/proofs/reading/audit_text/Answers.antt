@@ -1,4 +1,4 @@
-use Rattle.std.proofs.Common.{◌≡◌, subst, sym, Result, arith}
+use Rattle.std.proofs.Common.{subst, sym, Result, arith}
 use Rattle.std.proofs.lemmas.Result.{err_from_is_err_and}
 use Rattle.monk_history.specs.Text.Lines.{Gives, lines_of}
 use Rattle.monk_history.specs.Text.Reading.{header_at}

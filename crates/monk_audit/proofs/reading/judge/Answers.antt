@@ -1,4 +1,4 @@
-use Rattle.std.proofs.Common.{◌≡◌, ◌<◌, ◌∙◌, ◌∷◌, Option, Some, None, Ok, sym, subst, refl, arith, All}
+use Rattle.std.proofs.Common.{◌≡◌, ◌<◌, ◌∙◌, ◌∷◌, Some, None, Ok, sym, subst, refl, arith, All}
 use Rattle.std.proofs.lemmas.List.Elements.{All-nil}
 use Rattle.monk_history.specs.Meaning.Monitor.{monitor}
 use Rattle.monk_history.specs.Meaning.Reasons.{reason_in}
@@ -51,7 +51,7 @@ pub loop-event-preserved : goal.loop-event-preserved
 loop-event-preserved g c =
     record {
       so_far =
-          judged_more _ c.loop-event.count c.in_ok-reason.reason _ (replay_situation c.next-in-loop-event.new.self (g.T.Guarded.state c.next-in-loop-event.new.object)) c.in-Ok-Some.event (items_left event_at c.loop-event.lines) (items_left event_at c.next.new.self) _ (item_is g (goal.at.loop-event-preserved g c).In-Ok-Some)
+          judged_more _ c.loop-event.count c.in_ok-reason.reason _ (replay_situation c.judge.new.self (g.T.Guarded.state c.judge.new.object)) c.in-Ok-Some.event (items_left event_at c.loop-event.lines) (items_left event_at c.next.new.self) _ (item_is g (goal.at.loop-event-preserved g c).In-Ok-Some)
           (reason_is g (goal.at.loop-event-preserved g c).In_ok-reason) c.if-reason-ne-ALLOWED.false (c.in_ok-reason.ensures.after c.if-reason-ne-ALLOWED.false) c.loop-event.invariant.so_far;
       room = omega (arith, c.loop-event.invariant.room, room_found c.next.result _ _ c.in-Ok-Some.event (result_is g (goal.at.loop-event-preserved g c).In-Ok-Some) c.next.ensures.room);
       seats = c.in_ok-reason.ensures.seats ∙ c.loop-event.invariant.seats;

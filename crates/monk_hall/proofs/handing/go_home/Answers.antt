@@ -1,4 +1,4 @@
-use Rattle.std.proofs.Common.{rules, arith, ◌≡◌, ℕ, suc, ◌+◌, ◌≤◌, ◌++◌, ◌∷◌, [], None, List, length, refl, sym, ap, subst, ◌∙◌}
+use Rattle.std.proofs.Common.{◌≡◌, refl, sym, subst, ◌∙◌}
 use Rattle.monk_history.specs.Meaning.Counts.{granted_of}
 use Rattle.monk_history.specs.declared.event.Next.TheVariants as next
 use Rattle.monk_world.specs.Places.{back_turn, due_to}

@@ -1,8 +1,7 @@
-use Rattle.std.proofs.Common.{rules, arith, ◌≡◌, ℕ, suc, ◌+◌, ◌-◌, ◌<◌, ◌≤◌, ◌++◌, ◌∷◌, [], List, refl, sym, ap, ◌∙◌}
+use Rattle.std.proofs.Common.{arith, ◌≡◌, ℕ, ◌+◌, ◌-◌, ◌++◌, ◌∷◌, [], sym, ap, ◌∙◌}
 use Rattle.monk_hall.specs.Records.{View, opening_record, opening_records, the, head, tail}
 use Rattle.monk_hall.specs.Rule.{setting_of}
-use Rattle.monk_hall.specs.Tokens.{Token, tokens}
-use Rattle.monk_hall.specs.declared.setting.Setting.{Setting}
+use Rattle.monk_hall.specs.Tokens.{tokens}
 use Rattle.monk_hall.proofs.Dealing.{fresh_next, deals_next, tokens_more}
 use Rattle.monk_hall.proofs.making.deal.Goals as goal
 

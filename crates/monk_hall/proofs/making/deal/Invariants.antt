@@ -1,4 +1,4 @@
-use Rattle.std.proofs.Common.{◌-◌, ◌≡◌, ℕ, ◌≤◌, []}
+use Rattle.std.proofs.Common.{◌-◌, ◌≡◌, ◌≤◌, []}
 use Rattle.monk_hall.specs.Records.{opening_records}
 use Rattle.monk_hall.specs.Rule.{setting_of}
 use Rattle.monk_hall.specs.Tokens.{tokens}

@@ -1,7 +1,7 @@
 use Rattle.std.proofs.Common.{◌≡◌, ◌∷◌, [], List, refl, sym, ap, subst, ◌∙◌}
 use Rattle.atomic_table.specs.Seated.{TableId}
 use Rattle.monk_world.specs.declared.place.Place.TheVariants.{Idle}
-use Rattle.monk_hall.specs.Records.{View, the, opening_record}
+use Rattle.monk_hall.specs.Records.{View, the}
 use Rattle.monk_hall.specs.Tokens.{IsResting, top}
 use Rattle.monk_hall.proofs.Dealing.{fresh_rests}
 use Rattle.monk_hall.proofs.making.fresh_pass.Goals as goal

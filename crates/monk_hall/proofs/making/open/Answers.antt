@@ -1,9 +1,9 @@
-use Rattle.std.proofs.Common.{rules, arith, ◌≡◌, ℕ, suc, ◌+◌, ◌*◌, ◌<◌, ◌++◌, ◌∷◌, [], List, Some, length, replicate, refl, sym, ap, subst, ◌∙◌}
+use Rattle.std.proofs.Common.{◌≡◌, ℕ, ◌+◌, ◌*◌, ◌++◌, ◌∷◌, [], List, Some, length, replicate, sym, ap, subst, ◌∙◌}
 use Rattle.std.proofs.lemmas.List.{length-replicate}
 use Rattle.std.specs.Prelude.{Option, slice_index}
 use Rattle.atomic_table.specs.Table.{opening}
 use Rattle.monk_floor.specs.View.{FloorView}
-use Rattle.monk_hall.specs.Layout.{floor_of, word_count}
+use Rattle.monk_hall.specs.Layout.{floor_of}
 use Rattle.monk_hall.specs.Records.{first_view}
 use Rattle.monk_hall.specs.Rule.{IsHall, setting_of}
 use Rattle.monk_hall.specs.declared.setting.Setting.{Setting}

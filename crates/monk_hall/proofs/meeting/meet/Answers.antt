@@ -1,5 +1,4 @@
-use Rattle.std.proofs.Common.{rules, arith, ◌≡◌, ℕ, suc, ◌∷◌, [], List, refl, sym, ap, subst, ◌∙◌}
-use Rattle.monk_world.specs.declared.place.Place.TheVariants.{Idle}
+use Rattle.std.proofs.Common.{arith, ◌≡◌, suc, ◌∷◌, [], refl, sym, ap, subst, ◌∙◌}
 use Rattle.monk_hall.specs.Changes.{view_after_join, view_after_compare}
 use Rattle.monk_hall.specs.Records.{View, IsOne, IsTwo, the, head, tail}
 use Rattle.monk_hall.specs.Rule.{setting_of}

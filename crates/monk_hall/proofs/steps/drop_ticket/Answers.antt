@@ -1,4 +1,4 @@
-use Rattle.std.proofs.Common.{rules, arith}
+use Rattle.std.proofs.Common.{arith}
 use Rattle.monk_hall.specs.Rule.{setting_of}
 use Rattle.monk_hall.proofs.WordSteps.{takes_off}
 use Rattle.monk_hall.proofs.steps.drop_ticket.Goals as goal

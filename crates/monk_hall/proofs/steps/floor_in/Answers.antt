@@ -1,4 +1,4 @@
-use Rattle.std.proofs.Common.{arith, ◌≡◌, ℕ, sym, subst, ap, ◌∙◌, Some, ◌∷◌, []}
+use Rattle.std.proofs.Common.{arith, sym, subst, ap, ◌∙◌, Some, ◌∷◌}
 use Rattle.atomic_table.specs.Table.{rest}
 use Rattle.monk_world.specs.Places.{stage}
 use Rattle.monk_hall.specs.Records.{IsOne, the}

@@ -1,4 +1,4 @@
-use Rattle.std.proofs.Common.{arith, ◌≡◌, ℕ, sym, subst, ap, ◌∙◌, Some, ◌∷◌, []}
+use Rattle.std.proofs.Common.{arith, ℕ, sym, subst, ap, ◌∙◌, Some, ◌∷◌}
 use Rattle.atomic_table.specs.Table.{rest, Allows}
 use Rattle.monk_hall.specs.Rule.{IsHall, setting_of}
 use Rattle.monk_hall.specs.Tells.{TellsFloorOut}

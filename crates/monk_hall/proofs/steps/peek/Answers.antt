@@ -1,4 +1,4 @@
-use Rattle.std.proofs.Common.{rules, arith}
+use Rattle.std.proofs.Common.{arith}
 use Rattle.monk_hall.specs.Rule.{setting_of}
 use Rattle.monk_hall.proofs.WordSteps.{peeks}
 use Rattle.monk_hall.proofs.steps.peek.Goals as goal

@@ -1,6 +1,5 @@
-use Rattle.std.proofs.Common.{rules, arith, ℕ, ◌+◌, ◌*◌, ◌<◌, ◌≡◌, sym, ap, subst, ◌∙◌}
+use Rattle.std.proofs.Common.{arith, ℕ, sym, subst}
 use Rattle.atomic_table.specs.Table.{Allows}
-use Rattle.monk_hall.specs.Layout.{seat_word}
 use Rattle.monk_hall.specs.Rule.{IsHall, setting_of}
 use Rattle.monk_hall.specs.Tells.{TellsGrant}
 use Rattle.monk_hall.proofs.GrantSteps.{calls_seat}

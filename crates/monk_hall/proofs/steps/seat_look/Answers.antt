@@ -1,4 +1,4 @@
-use Rattle.std.proofs.Common.{rules, arith, ℕ, ◌+◌, ◌*◌, ◌<◌, ◌≡◌, sym, ap, subst, ◌∙◌}
+use Rattle.std.proofs.Common.{arith, ℕ, ◌≡◌, sym, ap, subst, ◌∙◌}
 use Rattle.atomic_table.specs.Table.{Allows}
 use Rattle.monk_hall.specs.Layout.{seat_word}
 use Rattle.monk_hall.specs.Records.{the}

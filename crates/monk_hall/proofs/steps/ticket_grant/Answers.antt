@@ -1,7 +1,7 @@
-use Rattle.std.proofs.Common.{rules, arith, ℕ, ◌+◌, ◌*◌, ◌%◌, ◌<◌, ◌≡◌, sym, ap, subst, ◌∙◌, mod-lt}
+use Rattle.std.proofs.Common.{arith, ℕ, ◌+◌, ◌%◌, ◌<◌, ◌≡◌, sym, ap, subst, ◌∙◌, mod-lt}
 use Rattle.atomic_table.specs.Table.{Allows}
 use Rattle.monk_world.specs.Places.{ticket}
-use Rattle.monk_hall.specs.Layout.{ticket_word, place_word}
+use Rattle.monk_hall.specs.Layout.{place_word}
 use Rattle.monk_hall.specs.Records.{the}
 use Rattle.monk_hall.specs.Rule.{IsHall, setting_of}
 use Rattle.monk_hall.specs.Tells.{TellsGrant}

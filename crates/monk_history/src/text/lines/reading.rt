@@ -1,6 +1,6 @@
 //! A text's header and items, or its first fault.
 
-ghost use Rattle.std.specs.Prelude.{◌≡◌, ◌≤◌};
+ghost use Rattle.std.specs.Prelude.{◌≤◌};
 ghost use Rattle.monk_history.specs.Text.Lines.{Gives, items_view, items_left, lines_view, lines_of, lines_at};
 
 use crate::limits::MOST_LINES;

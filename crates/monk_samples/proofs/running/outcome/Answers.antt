@@ -1,11 +1,8 @@
-use Rattle.std.proofs.Common.{◌≡◌, sym, ap, subst, ◌∙◌}
-use Rattle.std.specs.Prelude.{List}
-use Rattle.monk_kinds.specs.declared.mode.Rules.{Rules}
+use Rattle.std.proofs.Common.{sym, ap, ◌∙◌}
 use Rattle.monk_history.specs.Text.Reading.{heading_of as read_heading}
-use Rattle.monk_history.specs.declared.event.Event.{Event}
 use Rattle.monk_samples.specs.Samples.{conds_of, size}
 use Rattle.monk_samples.specs.Totals.{totals_of}
-use Rattle.monk_samples.proofs.RunLaws.{header_is, law_here, few_events, outcome_of}
+use Rattle.monk_samples.proofs.RunLaws.{header_is, law_here, outcome_of}
 use Rattle.monk_samples.proofs.running.outcome.Goals as goal
 
 pub totals_of-totals-requires-clause-law : goal.totals_of-totals-requires-clause-law

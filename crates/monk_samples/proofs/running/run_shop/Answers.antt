@@ -1,4 +1,4 @@
-use Rattle.std.proofs.Common.{◌≡◌, ap, ◌∙◌, List, ℕ}
+use Rattle.std.proofs.Common.{ap, ◌∙◌, List, ℕ}
 use Rattle.monk_hall.specs.Rule.{setting_of}
 use Rattle.monk_samples.specs.Samples.{conds_of, budget_of}
 use Rattle.monk_samples.specs.declared.sample.Sample.TheVariants.{Shop}

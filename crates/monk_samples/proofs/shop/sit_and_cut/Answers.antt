@@ -1,6 +1,6 @@
 use Rattle.std.proofs.Common.{[], ◌∷◌, subst}
 use Rattle.monk_object.specs.Shop.{shop_meaning, SIT, DEPART}
-use Rattle.monk_samples.specs.Visits.{HasVisited, must, may}
+use Rattle.monk_samples.specs.Visits.{HasVisited, must}
 use Rattle.monk_samples.specs.declared.end.End.{End}
 use Rattle.monk_samples.proofs.VisitLaws.{visited_once, visited_twice}
 use Rattle.monk_samples.proofs.shop.sit_and_cut.Goals as goal

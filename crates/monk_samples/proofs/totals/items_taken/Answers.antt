@@ -1,4 +1,4 @@
-use Rattle.std.proofs.Common.{◌≡◌, ◌+◌, arith}
+use Rattle.std.proofs.Common.{◌+◌, arith}
 use Rattle.monk_samples.proofs.TotalLaws.{taken_next, taken_first}
 use Rattle.monk_samples.proofs.totals.items_taken.Goals as goal
 

@@ -1,4 +1,4 @@
-use Rattle.std.proofs.Common.{◌≡◌, ℕ, ◌+◌, cond, arith, ap, ◌∙◌}
+use Rattle.std.proofs.Common.{cond, arith, ap, ◌∙◌}
 use Rattle.monk_samples.proofs.TotalLaws.{done_next}
 use Rattle.monk_samples.proofs.totals.times.Goals.{then-is_done, else-is_done}
 use Rattle.monk_samples.proofs.totals.times.Goals as goal

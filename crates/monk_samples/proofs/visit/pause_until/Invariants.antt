@@ -1,4 +1,4 @@
-use Rattle.std.proofs.Common.{ℕ, ◌-◌, [], length}
+use Rattle.std.proofs.Common.{◌-◌, [], length}
 use Rattle.monk_samples.specs.Trails.{HasActed, inside}
 use Rattle.monk_samples.proofs.visit.pause_until.Given as goal
 

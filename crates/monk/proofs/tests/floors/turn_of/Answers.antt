@@ -1,4 +1,4 @@
-use Rattle.std.proofs.Common.{◌∙◌, ap, sym}
+use Rattle.std.proofs.Common.{◌∙◌, ap}
 use Rattle.monk_history.specs.Meaning.Turn.{turn_after}
 use Rattle.monk.proofs.Calls.{turn_at_last}
 use Rattle.monk.proofs.tests.floors.turn_of.Goals as goal

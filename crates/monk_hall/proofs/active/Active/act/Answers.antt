@@ -1,7 +1,5 @@
-use Rattle.std.proofs.Common.{rules, arith, ◌≡◌, ℕ, suc, ◌+◌, ◌≤◌, ◌++◌, ◌∷◌, [], None, List, length, refl, sym, ap, subst, ◌∙◌}
+use Rattle.std.proofs.Common.{ℕ, ◌+◌, ◌≤◌, length, refl, sym, subst}
 use Rattle.monk_history.specs.declared.event.Event.TheVariants.{Act}
-use Rattle.monk_history.specs.Meaning.Reasons.{IsAllowed}
-use Rattle.monk_floor.specs.View.{monitor_of}
 use Rattle.monk_floor.specs.Grown.{IsGrown}
 use Rattle.monk_hall.specs.Calls.{HasDone}
 use Rattle.monk_hall.specs.Records.{the}

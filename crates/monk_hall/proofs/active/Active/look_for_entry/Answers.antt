@@ -1,4 +1,4 @@
-use Rattle.std.proofs.Common.{rules, arith, ◌≡◌, ℕ, suc, ◌+◌, ◌<◌, ◌≤◌, ◌++◌, ◌∷◌, [], None, List, Bool, true, false, not, length, refl, sym, ap, subst, ◌∙◌}
+use Rattle.std.proofs.Common.{Bool, sym, ap, ◌∙◌}
 use Rattle.monk_hall.proofs.ReleaseLaws.{peeked_none}
 use Rattle.monk_hall.proofs.active.Active.look_for_entry.Goals as goal
 

@@ -1,5 +1,3 @@
-use Rattle.std.proofs.Common.{◌≡◌, ◌<◌, Bool, not, sym, ap, subst, ◌∙◌}
-use Rattle.monk_history.specs.Meaning.Events.{has_conditions, has_signaller_queue, returns_at_once}
 use Rattle.monk_history.specs.declared.event.Event.TheVariants.{Signal}
 use Rattle.monk_history.specs.declared.event.Next.TheVariants.{Stay}
 use Rattle.monk_history.proofs.MeaningLaws.CallLaws.{may_signal_on}

@@ -1,5 +1,5 @@
-use Rattle.std.proofs.Common.{◌≡◌, ◌<◌, Bool, not, sym, ap, subst, ◌∙◌}
-use Rattle.monk_history.specs.Meaning.Events.{has_conditions, has_signaller_queue, returns_at_once}
+use Rattle.std.proofs.Common.{sym, ap, ◌∙◌}
+use Rattle.monk_history.specs.Meaning.Events.{has_signaller_queue}
 use Rattle.monk_history.specs.declared.event.Event.TheVariants.{Signal}
 use Rattle.monk_history.specs.declared.event.Next.TheVariants.{Stay}
 use Rattle.monk_history.proofs.MeaningLaws.CallLaws.{may_signal_on}

@@ -1,5 +1,5 @@
-use Rattle.std.proofs.Common.{◌≡◌, ◌<◌, Bool, not, sym, ap, subst, ◌∙◌}
-use Rattle.monk_history.specs.Meaning.Events.{has_conditions, has_signaller_queue, returns_at_once}
+use Rattle.std.proofs.Common.{sym, ap, ◌∙◌}
+use Rattle.monk_history.specs.Meaning.Events.{has_conditions}
 use Rattle.monk_history.proofs.MeaningLaws.CallLaws.{may_wait}
 use Rattle.monk_floor.specs.View.{monitor_of}
 use Rattle.monk_hall.proofs.KindLaws.{conditional}

@@ -1,4 +1,4 @@
-use Rattle.std.proofs.Common.{rules, arith, ◌≡◌, ℕ, suc, ◌+◌, ◌≤◌, ◌++◌, ◌∷◌, [], None, List, length, refl, sym, ap, subst, ◌∙◌}
+use Rattle.std.proofs.Common.{ap, subst, ◌∙◌}
 use Rattle.monk_hall.specs.Calls.{HasEntered}
 use Rattle.monk_hall.specs.Records.{the}
 use Rattle.monk_hall.specs.Tokens.{Token, holder}

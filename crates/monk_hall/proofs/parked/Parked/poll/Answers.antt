@@ -1,4 +1,4 @@
-use Rattle.std.proofs.Common.{rules, arith, ◌≡◌, ℕ, suc, ◌+◌, ◌≤◌, ◌++◌, ◌∷◌, [], None, List, length, refl, sym, ap, subst, ◌∙◌}
+use Rattle.std.proofs.Common.{arith}
 use Rattle.monk_hall.proofs.TokenLaws.{entry_looked, few_looked}
 use Rattle.monk_hall.proofs.parked.Parked.poll.Goals as goal
 

@@ -1,4 +1,3 @@
-use Rattle.std.proofs.Common.{rules, arith, ◌≡◌, ℕ, suc, ◌+◌, ◌≤◌, ◌++◌, ◌∷◌, [], None, List, length, refl, sym, ap, subst, ◌∙◌}
 use Rattle.monk_hall.proofs.TokenLaws.{call_look_rests}
 use Rattle.monk_hall.proofs.parked.Parked.seat_look.Goals as goal
 

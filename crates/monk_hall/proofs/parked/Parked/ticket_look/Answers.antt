@@ -1,4 +1,4 @@
-use Rattle.std.proofs.Common.{rules, arith, ◌≡◌, ℕ, suc, ◌+◌, ◌≤◌, ◌++◌, ◌∷◌, [], None, List, length, refl, sym, ap, subst, ◌∙◌}
+use Rattle.std.proofs.Common.{ap, ◌∙◌}
 use Rattle.monk_hall.specs.Tokens.{Token}
 use Rattle.monk_hall.proofs.TokenLaws.{ticket_look_rests}
 use Rattle.monk_hall.proofs.parked.Parked.ticket_look.Goals as goal

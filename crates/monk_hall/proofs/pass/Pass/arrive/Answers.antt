@@ -1,7 +1,6 @@
-use Rattle.std.proofs.Common.{rules, arith, ◌≡◌, ℕ, suc, ◌+◌, ◌≤◌, ◌++◌, ◌∷◌, [], None, List, length, refl, sym, ap, subst, ◌∙◌}
+use Rattle.std.proofs.Common.{◌+◌, ◌≤◌, length, sym, ap, subst, ◌∙◌}
 use Rattle.monk_hall.specs.Calls.{HasArrived}
-use Rattle.monk_hall.specs.Tells.{TellsArrive}
-use Rattle.monk_hall.specs.Records.{the, View}
+use Rattle.monk_hall.specs.Records.{the}
 use Rattle.monk_hall.specs.Tokens.{Token, top}
 use Rattle.monk_hall.proofs.TokenLaws.{token, arrival, arrival_rests}
 use Rattle.monk_hall.proofs.pass.Pass.arrive.Goals as goal

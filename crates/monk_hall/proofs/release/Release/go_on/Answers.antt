@@ -1,4 +1,4 @@
-use Rattle.std.proofs.Common.{◌≡◌, sym, ap, subst, ◌∙◌}
+use Rattle.std.proofs.Common.{sym, ◌∙◌}
 use Rattle.monk_hall.proofs.ReleaseLaws.{stayed, stays_holding, room_inside}
 use Rattle.monk_hall.proofs.release.Release.go_on.Goals as goal
 

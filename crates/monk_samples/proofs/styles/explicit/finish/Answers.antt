@@ -1,4 +1,4 @@
-use Rattle.std.proofs.Common.{arith, ◌<◌, ◌+◌, ◌≤◌, length}
+use Rattle.std.proofs.Common.{arith, ◌<◌, ◌+◌, length}
 use Rattle.monk_history.specs.declared.event.Event.TheVariants.{Signal}
 use Rattle.monk_history.specs.declared.event.Next.TheVariants.{Stay}
 use Rattle.monk_samples.proofs.StyleLaws.{went_on, given_up, signalled_out}

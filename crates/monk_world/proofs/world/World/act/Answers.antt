@@ -1,10 +1,5 @@
-use Rattle.std.proofs.Common.{◌≡◌, ℕ, Bool, true, refl, sym, ap, ◌∙◌, subst, arith}
-use Rattle.monk_history.specs.declared.event.Event.TheVariants.{Leave, Wait, Signal, SignalLeave, Until}
-use Rattle.monk_history.specs.declared.event.Next.TheVariants as next
-use Rattle.monk_world.specs.StepTable.{IsDone, may_be_told, release_next}
+use Rattle.std.proofs.Common.{refl}
 use Rattle.monk_world.specs.declared.command.Command.TheVariants as command
-use Rattle.monk_world.specs.declared.home.Home.TheVariants as home
-use Rattle.monk_world.specs.declared.place.Place.TheVariants as place
 use Rattle.monk_world.proofs.WorldLaws as world
 use Rattle.monk_world.proofs.world.World.act.Goals as goal
 

@@ -1,4 +1,4 @@
-use Rattle.std.proofs.Common.{◌≡◌, ℕ, List, sym, subst, take, get_or}
+use Rattle.std.proofs.Common.{ℕ, List, sym, subst, take, get_or}
 use Rattle.std.proofs.lemmas.List.{take_all, take_more}
 use Rattle.monk_world.specs.Telling.{IsLed}
 use Rattle.monk_world.specs.Sound.{Sound}
