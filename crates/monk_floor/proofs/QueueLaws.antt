@@ -1,12 +1,11 @@
 -- What an event makes of the queues
-use Rattle.std.proofs.Common.{◌≡◌, ℕ, true, false, cond, not, List, [], ◌∷◌, ◌++◌, length, drop, filter, refl, ap, ◌∙◌}
+use Rattle.std.proofs.Common.{◌≡◌, ℕ, cond, not, List, [], ◌∷◌, ◌++◌, length, drop, filter, ap, ◌∙◌}
 use Rattle.std.specs.Prelude.{Bool}
 use Rattle.monk_history.specs.Meaning.Events.{next_of, is_waiter}
-use Rattle.monk_history.specs.Meaning.Signallers.{is_empty, signals, takes_signaller, takes_front}
+use Rattle.monk_history.specs.Meaning.Signallers.{signals, takes_signaller, takes_front}
 use Rattle.monk_history.specs.Meaning.Untils.{chooses, waits_until}
 use Rattle.monk_history.specs.declared.event.Event.{Event}
-use Rattle.monk_history.specs.declared.event.Event.TheVariants.{Enter, Act, Leave, Wait, Signal, SignalLeave, Until, Resume}
-use Rattle.monk_history.specs.declared.event.Next.TheVariants.{Stay, Entry, Waiter, Signaller, Until as UntilSeat}
+use Rattle.monk_history.proofs.MeaningLaws.SignallerLaws.{front_is_taken}
 use Rattle.monk_history.proofs.QueueAtLaws as at
 use Rattle.monk_floor.specs.Queues.{QueueLists, queue_at, finds_none, IsServed, IsMoved}
 
@@ -14,40 +13,9 @@ use Rattle.monk_floor.specs.Queues.{QueueLists, queue_at, finds_none, IsServed, 
 pub all_empty_push : (vs : List (List ℕ)) (v : List ℕ) → v ≡ [] → ((c : ℕ) → queue_at vs c ≡ []) → (c : ℕ) → queue_at (vs ++ v ∷ []) c ≡ []
 all_empty_push = at.all_empty_push (λ q. q)
 
-signal_takes : (s : ℕ) (b : Bool) → not b ≡ not (is_empty (cond b [] (s ∷ [])))
-signal_takes s true = refl
-signal_takes s false = refl
-
 -- what takes the front of the signaller queue
 pub takes_is : (q : ℕ → List ℕ) (e : Event) → takes_front (finds_none q e) e ≡ takes_signaller q e
-takes_is q (Enter s via) = refl
-takes_is q (Act s op r) = refl
-takes_is q (Leave s Stay) = refl
-takes_is q (Leave s Entry) = refl
-takes_is q (Leave s (Waiter j)) = refl
-takes_is q (Leave s (Signaller j)) = refl
-takes_is q (Leave s (UntilSeat j)) = refl
-takes_is q (Wait s c Stay) = refl
-takes_is q (Wait s c Entry) = refl
-takes_is q (Wait s c (Waiter j)) = refl
-takes_is q (Wait s c (Signaller j)) = refl
-takes_is q (Wait s c (UntilSeat j)) = refl
-takes_is q (Signal s c Stay) = signal_takes s (is_empty (q c))
-takes_is q (Signal s c Entry) = refl
-takes_is q (Signal s c (Waiter j)) = refl
-takes_is q (Signal s c (Signaller j)) = refl
-takes_is q (Signal s c (UntilSeat j)) = refl
-takes_is q (SignalLeave s c Stay) = refl
-takes_is q (SignalLeave s c Entry) = refl
-takes_is q (SignalLeave s c (Waiter j)) = refl
-takes_is q (SignalLeave s c (Signaller j)) = refl
-takes_is q (SignalLeave s c (UntilSeat j)) = refl
-takes_is q (Until s p Stay) = refl
-takes_is q (Until s p Entry) = refl
-takes_is q (Until s p (Waiter j)) = refl
-takes_is q (Until s p (Signaller j)) = refl
-takes_is q (Until s p (UntilSeat j)) = refl
-takes_is q (Resume s r) = refl
+takes_is q e = front_is_taken q e (finds_none q e) (λ s c x is. ap (finds_none q) is)
 
 -- what is served and then chosen is what an event makes of the queues
 pub moved : (old mid new : QueueLists) (e : Event) (none : Bool) → none ≡ finds_none (queue_at old.conditions) e → IsServed old e mid
