@@ -1,7 +1,7 @@
 -- What is answered to a text, by what an audit found of it
 use Rattle.std.proofs.Common.{◌≡◌, ◌^◌, ltb, ℕ, Bool, true, false, cond, List, Result, Ok, Err, refl, sym, ap, ◌∙◌}
 use Rattle.monk_object.specs.Names.{most}
-use Rattle.monk_history.specs.Meaning.Named.{monitor_of}
+use Rattle.monk_history.specs.Meaning.Named.{named_monitor}
 use Rattle.monk_history.specs.Text.Words.{◌>>=◌}
 use Rattle.monk_history.specs.Text.Reading.{History, text_at}
 use Rattle.monk_history.specs.declared.text.fault.ReadFault.{ReadFault}
@@ -23,7 +23,7 @@ found_by false v = refl
 found_is : (r : Result History ReadFault) (t : TextVerdict) → (r >>= λ h. Ok (history_verdict h)) ≡ Ok t → reading_answer r ≡ found t
 found_is (Ok h) t is =
     let told : history_verdict h ≡ t = cc in
-    sym (found_by (ltb (most h.0.object) h.0.size) (verdict_of (monitor_of h.0) h.1)) ∙ ap found told
+    sym (found_by (ltb (most h.0.object) h.0.size) (verdict_of (named_monitor h.0) h.1)) ∙ ap found told
 found_is (Err f) t is = absurd cc
 
 pub judged_answer : (bytes : List ℕ) (v : Verdict) → text_verdict bytes ≡ Ok (Judged v) → answer_of bytes ≡ verdict_answer v

@@ -8,7 +8,7 @@ use Rattle.clap.specs.declared.builder.value_parser.ValueParser.TheVariants.{Sig
 use Rattle.clap.specs.declared.builder.value_parser.ValueParser.{ValueParser}
 use Rattle.monk_kinds.specs.Names.{kind_word, kinds}
 use Rattle.monk_object.specs.Names.{object_word}
-use Rattle.monk_samples.specs.Samples.{IsInRange, object_of}
+use Rattle.monk_samples.specs.Samples.{IsInRange, sample_object}
 use Rattle.monk_samples.specs.declared.sample.Sample.{Sample}
 use Rattle.monk_samples.specs.declared.sample.Sample.TheVariants.{Buffer, Book, Shop}
 use Rattle.monk.specs.declared.request.Line.{Line}
@@ -34,7 +34,7 @@ words_in w = map (λ x. x.now) w.now
 
 -- a sample is called as its object is
 abbrev pub sample_word : Sample → Text
-sample_word s = object_word (object_of s)
+sample_word s = object_word (sample_object s)
 
 abbrev pub samples : List Sample
 samples = Buffer ∷ Book ∷ Shop ∷ []

@@ -9,7 +9,7 @@ use Rattle.monk_history.specs.Meaning.Monitor.{Monitor}
 use Rattle.monk_history.specs.Meaning.Situation.{Situation}
 use Rattle.monk_history.specs.Meaning.Reasons.{reason_in}
 use Rattle.monk_history.specs.Meaning.Step.{after}
-use Rattle.monk_history.specs.Meaning.Named.{monitor_of}
+use Rattle.monk_history.specs.Meaning.Named.{named_monitor}
 use Rattle.monk_history.specs.declared.event.Event.{Event}
 use Rattle.monk_audit.specs.Verdict.{verdict_of}
 use Rattle.monk_audit.specs.declared.verdict.Verdict.{Verdict}
@@ -33,7 +33,7 @@ verdict_of_reading m read = read >>= λ es. Ok (verdict_of m es)
 
 -- of a history, for the monitor that its header names
 abbrev pub history_verdict : History → TextVerdict
-history_verdict h = if nat_lt (most h.0.object) h.0.size then TooBig else Judged (verdict_of (monitor_of h.0) h.1)
+history_verdict h = if nat_lt (most h.0.object) h.0.size then TooBig else Judged (verdict_of (named_monitor h.0) h.1)
 
 -- of the events behind a header
 abbrev pub lines_verdict : Heading → Result (List Event) ReadFault → Result TextVerdict ReadFault

@@ -2,7 +2,7 @@
 
 ghost use Rattle.std.specs.Prelude.{◌≡◌, ◌≤◌, ◌^◌};
 ghost use Rattle.monk_history.specs.Meaning.Monitor.{monitor};
-ghost use Rattle.monk_history.specs.Meaning.Named.{monitor_of};
+ghost use Rattle.monk_history.specs.Meaning.Named.{named_monitor};
 ghost use Rattle.monk_history.specs.Text.Lines.{Gives, items_left};
 ghost use Rattle.monk_history.specs.Text.Reading.{event_at};
 ghost use Rattle.monk_audit.specs.Reading.{verdict_of_reading, lines_verdict, text_verdict, read_through, same};
@@ -74,7 +74,7 @@ fn judge<T: Guarded>(
 /// Makes the object that the header names, whose size is not above its greatest, and judges the events that are left.
 fn judge_object(alloc: Global, header: &Header, lines: ItemLines<'_>) -> Result<Verdict, ReadFault>
     requires { lines.room ≤ 2 ^ 25 }
-    ensures { Gives same result (verdict_of_reading (monitor_of header.now) (items_left event_at lines.entry)) }
+    ensures { Gives same result (verdict_of_reading (named_monitor header.now) (items_left event_at lines.entry)) }
 {
     let rules = rules_by_name(header.kind());
     let size = header.size();

@@ -1,6 +1,7 @@
 -- The queues of a floor as plain lists, and what one event makes of them
-use Rattle.std.specs.Prelude.{◌≡◌, ℕ, ◌<◌, ◌≤◌, ◌+◌, map, zero, suc, Bool, false, not, List, [], ◌∷◌, ◌++◌, length, drop, filter, if◌then◌else◌}
+use Rattle.std.specs.Prelude.{◌≡◌, ℕ, ◌<◌, ◌≤◌, ◌+◌, map, Bool, false, not, List, ◌++◌, length, drop, filter, if◌then◌else◌}
 use Rattle.monk_history.specs.Limits.{most_seats}
+use Rattle.monk_history.specs.QueueAt.{seats_at}
 use Rattle.monk_history.specs.Meaning.Standing.{times, times_in_conditions}
 use Rattle.monk_history.specs.Meaning.Events.{seat_of, next_of, is_waiter}
 use Rattle.monk_history.specs.Meaning.Conditions.{served_by, waiting_by}
@@ -18,9 +19,7 @@ pub record QueueLists : Type 0 where
 
 -- the queue at c, empty past the end
 abbrev pub queue_at : List (List ℕ) → ℕ → List ℕ
-queue_at [] c = []
-queue_at (q ∷ qs) zero = q
-queue_at (q ∷ qs) (suc c) = queue_at qs c
+queue_at = seats_at (λ q. q)
 
 -- each queue has a place left
 pub record HasPlaces (q : QueueLists) : Type 0 where

@@ -18,17 +18,17 @@ use Rattle.monk_object.specs.Object.{Object}
 use Rattle.monk_history.proofs.MeaningLaws.ActLaws.{in_order, excludes, serves_each}
 use Rattle.monk_history.specs.Meaning.Legal.{IsLegal}
 use Rattle.monk_history.specs.Meaning.Monitor.{Monitor, monitor, data_of}
-use Rattle.monk_history.specs.Meaning.Named.{monitor_of as named_monitor}
+use Rattle.monk_history.specs.Meaning.Named.{named_monitor}
 use Rattle.monk_history.specs.Limits.{most_seats, most_conds}
 use Rattle.monk_history.specs.Text.{Heading}
-use Rattle.monk_history.specs.Text.Reading.{heading_of as read_heading}
+use Rattle.monk_history.specs.Text.Reading.{run_heading as read_heading}
 use Rattle.monk_history.specs.declared.event.Event.{Event}
-use Rattle.monk_floor.specs.View.{FloorView, monitor_of}
+use Rattle.monk_floor.specs.View.{FloorView, named_monitor}
 use Rattle.monk_hall.specs.Closing.{IsEnded}
 use Rattle.monk_hall.specs.Layout.{floor_of}
 use Rattle.monk_hall.specs.Rule.{setting_of}
 use Rattle.monk_samples.specs.Crews.{IsReady, AreReady, IsClosed}
-use Rattle.monk_samples.specs.Samples.{object_of, size, conds_of, budget_of, heading_of, KeepsLaw, IsHistoryOf, IsOutcome}
+use Rattle.monk_samples.specs.Samples.{sample_object, size, conds_of, budget_of, run_heading, KeepsLaw, IsHistoryOf, IsOutcome}
 use Rattle.monk_samples.specs.Totals.{totals_of}
 use Rattle.monk_samples.specs.declared.sample.Sample.{Sample}
 use Rattle.monk_samples.specs.declared.sample.Sample.TheVariants.{Buffer, Book, Shop}
@@ -79,16 +79,16 @@ few_events seats rounds n s r l =
 pub closed_by : (k : Rules) (o : Object) (b c : Setting) (a : Holder) (before h : List Event) (state : List ℕ) → b ≡ c → a.floor ≡ floor_of b before → IsEnded k o a h state → IsClosed k o c h
 closed_by k o b c a before h state s f e =
     let floor : a.floor ≡ floor_of c before = f ∙ ap (λ (x : Setting). floor_of x before) s in record {
-      legal = subst (λ (x : FloorView). IsLegal (monitor_of k o x) h) floor e.legal;
+      legal = subst (λ (x : FloorView). IsLegal (named_monitor k o x) h) floor e.legal;
       few = subst (λ (x : FloorView). length h ≤ x.seats * x.budget) floor e.few;
     }
 
-pub history_of : (k : Rules) (sample : Sample) (seats rounds : ℕ) (c : Setting) (h : List Event) → c ≡ setting_of (opening_named (object_of sample) size) seats (conds_of k) (budget_of seats rounds)
-    → IsClosed k (meaning_named (object_of sample)) c h → IsHistoryOf k sample seats rounds h
+pub history_of : (k : Rules) (sample : Sample) (seats rounds : ℕ) (c : Setting) (h : List Event) → c ≡ setting_of (opening_named (sample_object sample) size) seats (conds_of k) (budget_of seats rounds)
+    → IsClosed k (meaning_named (sample_object sample)) c h → IsHistoryOf k sample seats rounds h
 history_of k sample seats rounds c h e closed =
-    let z = subst (λ (x : Setting). IsClosed k (meaning_named (object_of sample)) x h) e closed in record { legal = z.legal; few = z.few }
+    let z = subst (λ (x : Setting). IsClosed k (meaning_named (sample_object sample)) x h) e closed in record { legal = z.legal; few = z.few }
 
-pub law_of : (k : Rules) (sample : Sample) (seats : ℕ) (h : List Event) → let m = monitor k seats (conds_of k) (meaning_named (object_of sample)) (opening_named (object_of sample) size) in IsLegal m h → KeepsLaw sample (data_of m h) h
+pub law_of : (k : Rules) (sample : Sample) (seats : ℕ) (h : List Event) → let m = monitor k seats (conds_of k) (meaning_named (sample_object sample)) (opening_named (sample_object sample) size) in IsLegal m h → KeepsLaw sample (data_of m h) h
 law_of k Buffer seats h legal = in_order k seats (conds_of k) size h legal
 law_of k Book seats h legal = excludes k seats (conds_of k) size h legal
 law_of k Shop seats h legal = serves_each k seats (conds_of k) size h legal
@@ -106,14 +106,14 @@ unfolding is_there there
 some_is true x y e = ap (there x) e
 some_is false x y e = absurd (false≢true (sym (ap is_there e)))
 
-pub header_is : (k : KindName) (sample : Sample) (seats conds : ℕ) (h : Heading) → Some h ≡ read_heading k seats conds (object_of sample) size → conds ≡ conds_of (rules_named k) → h ≡ heading_of k sample seats
+pub header_is : (k : KindName) (sample : Sample) (seats conds : ℕ) (h : Heading) → Some h ≡ read_heading k seats conds (sample_object sample) size → conds ≡ conds_of (rules_named k) → h ≡ run_heading k sample seats
 header_is k sample seats conds h e c =
-    some_is (nat_le 1 seats && nat_le seats most_seats && nat_le conds most_conds && nat_le 1 size) (record { kind = k; seats = seats; conds = conds; object = object_of sample; size = size }) h e
-    ∙ ap (λ n. record { kind = k; seats = seats; conds = n; object = object_of sample; size = size }) c
+    some_is (nat_le 1 seats && nat_le seats most_seats && nat_le conds most_conds && nat_le 1 size) (record { kind = k; seats = seats; conds = conds; object = sample_object sample; size = size }) h e
+    ∙ ap (λ n. record { kind = k; seats = seats; conds = n; object = sample_object sample; size = size }) c
 
-pub outcome_of : (k : Rules) (name : KindName) (sample : Sample) (seats rounds : ℕ) (h : Heading) (history : List Event) (totals : List ℕ) → seats ≤ 16 → rounds ≤ 1000 → k ≡ rules_named name → IsHistoryOf k sample seats rounds history → h ≡ heading_of name sample seats → totals ≡ totals_of sample history → IsOutcome name sample seats h history totals
+pub outcome_of : (k : Rules) (name : KindName) (sample : Sample) (seats rounds : ℕ) (h : Heading) (history : List Event) (totals : List ℕ) → seats ≤ 16 → rounds ≤ 1000 → k ≡ rules_named name → IsHistoryOf k sample seats rounds history → h ≡ run_heading name sample seats → totals ≡ totals_of sample history → IsOutcome name sample seats h history totals
 outcome_of k name sample seats rounds h history totals near short named of header same =
-    let m : Rules → Monitor = λ r. monitor r seats (conds_of r) (meaning_named (object_of sample)) (opening_named (object_of sample) size) in
+    let m : Rules → Monitor = λ r. monitor r seats (conds_of r) (meaning_named (sample_object sample)) (opening_named (sample_object sample) size) in
     let legal = subst (λ (r : Rules). IsLegal (m r) history) named of.legal in
     record {
       header = header;
@@ -126,7 +126,7 @@ outcome_of k name sample seats rounds h history totals near short named of heade
 -- the law of a run's history, where it is lent
 pub law_here : (k : Rules) (sample : Sample) (seats rounds : ℕ) (h lent : List Event) → lent ≡ h → IsHistoryOf k sample seats rounds h → (state : List ℕ) × KeepsLaw sample state lent
 law_here k sample seats rounds h lent e of =
-    let m = monitor k seats (conds_of k) (meaning_named (object_of sample)) (opening_named (object_of sample) size) in
+    let m = monitor k seats (conds_of k) (meaning_named (sample_object sample)) (opening_named (sample_object sample) size) in
     (data_of m h, subst (λ (x : List Event). KeepsLaw sample (data_of m h) x) (sym e) (law_of k sample seats h of.legal))
 
 pub if_ok : {A E : Type 0} (r : Result A E) (P Q : A → Type 0) → ((a : A) → P a → Q a) → IfOk r P → IfOk r Q

@@ -14,19 +14,19 @@ use Rattle.monk_hall.specs.Tokens.{Token, Holder}
 use Rattle.monk_hall.specs.declared.after.After.{After}
 use Rattle.monk_hall.specs.declared.after.After.TheVariants.{Active, Parked}
 use Rattle.monk_samples.specs.Styles.{HasGivenUp, HasGoneBy}
-use Rattle.monk_samples.specs.Trails.{HasCalled, call_of, inside, outside}
+use Rattle.monk_samples.specs.Trails.{HasCalled, call_in, inside, outside}
 use Rattle.monk_samples.proofs.TrailLaws.{called_then, went_nowhere, came, released, stayed}
 
 module _ (k : Rules) (o : Object) where
   -- a seat that released inside, and came in again
-  pub came_back : (a : Holder) (call : Event) (wish : Pick) (to : Home) (peeks : ℕ) (q : Token) (b : Holder) → HasReleased k o a call wish to peeks q → HasEntered k o q b → HasCalled (inside a) (inside b) ((call_of call ++ []) ++ [])
-  came_back a call wish to peeks q b r e = called_then (inside a) (outside q) (inside b) (call_of call ++ []) [] (released k o a call wish to peeks q r) (came k o q b e)
+  pub came_back : (a : Holder) (call : Event) (wish : Pick) (to : Home) (peeks : ℕ) (q : Token) (b : Holder) → HasReleased k o a call wish to peeks q → HasEntered k o q b → HasCalled (inside a) (inside b) ((call_in call ++ []) ++ [])
+  came_back a call wish to peeks q b r e = called_then (inside a) (outside q) (inside b) (call_in call ++ []) [] (released k o a call wish to peeks q r) (came k o q b e)
 
   -- a seat that stayed, or came in again
   pub went_on : {K T : Type 0} (x : After K T) (a : Holder) (call : Event) (wish : Pick) (to : Home) (peeks : ℕ) (b : Holder)
-      → MatchAfter x (λ y. HasStayed k o a call wish peeks y) (λ p. HasReleased k o a call wish to peeks p) → MatchAfter x (λ y. b ≡ y) (λ p. HasEntered k o p b) → HasCalled (inside a) (inside b) ((call_of call ++ []) ++ [])
-  went_on (Active y) a call wish to peeks b s same = subst (λ (h : Holder). HasCalled (inside a) (inside h) ((call_of call ++ []) ++ [])) (sym same)
-      (called_then (inside a) (inside y) (inside y) (call_of call ++ []) [] (stayed k o a call wish peeks y s) record { own = []; went = went_nowhere (inside y); called = refl })
+      → MatchAfter x (λ y. HasStayed k o a call wish peeks y) (λ p. HasReleased k o a call wish to peeks p) → MatchAfter x (λ y. b ≡ y) (λ p. HasEntered k o p b) → HasCalled (inside a) (inside b) ((call_in call ++ []) ++ [])
+  went_on (Active y) a call wish to peeks b s same = subst (λ (h : Holder). HasCalled (inside a) (inside h) ((call_in call ++ []) ++ [])) (sym same)
+      (called_then (inside a) (inside y) (inside y) (call_in call ++ []) [] (stayed k o a call wish peeks y s) record { own = []; went = went_nowhere (inside y); called = refl })
   went_on (Parked p) a call wish to peeks b r e = came_back a call wish to peeks p b r e
 
   pub given_up : (a : Holder) (wish : Pick) (to : Home) (peeks : ℕ) (p : Token) → HasReleased k o a (Leave a.me.seat Stay) wish to peeks p → a.me.setting.budget < length a.me.mine + 3 → HasGivenUp k o a p

@@ -26,7 +26,7 @@ use Rattle.monk_world.specs.declared.source.Source.TheVariants.{Free, Granted, C
 use Rattle.monk_hall.specs.Calls.{HasEntered, HasReleased, HasStayed, HasDone, source_from}
 use Rattle.monk_hall.specs.Floors.{StartsWith}
 use Rattle.monk_hall.specs.Tokens.{Token, Holder}
-use Rattle.monk_samples.specs.Trails.{Trail, Went, HasCalled, HasActed, call_of, calls_in, inside, outside}
+use Rattle.monk_samples.specs.Trails.{Trail, Went, HasCalled, HasActed, call_in, calls_in, inside, outside}
 
 starts_then : (a b c : List Event) → StartsWith b a → StartsWith c b → StartsWith c a
 starts_then a b c s t = (s.0 ++ t.0, t.1 ∙ (ap (λ h. h ++ t.0) s.1 ∙ append_assoc a s.0 t.0))
@@ -47,7 +47,7 @@ pub called_then : (x y z : Trail) (cs ds : List Event) → HasCalled x y cs → 
 called_then x y z cs ds s t = record {
   own = s.own ++ t.own;
   went = went_then x y z s.own t.own s.went t.went;
-  called = flat_map-append call_of s.own t.own ∙ (λ i. s.called i ++ t.called i);
+  called = flat_map-append call_in s.own t.own ∙ (λ i. s.called i ++ t.called i);
 }
 
 pub acted_then : (x y z : Trail) (cs ds : List Answered) → HasActed x y cs → HasActed y z ds → HasActed x z (cs ++ ds)
@@ -60,7 +60,7 @@ acted_then x y z cs ds s t = record {
 pub acted_none : (x : Trail) → HasActed x x []
 acted_none x = record { own = []; went = went_nowhere x; acted = refl }
 
-call_acts : (e : Event) → acts_in (call_of e) ≡ act_of e
+call_acts : (e : Event) → acts_in (call_in e) ≡ act_of e
 call_acts (Enter s via) = refl
 call_acts (Act s op r) = refl
 call_acts (Leave s x) = refl
@@ -72,18 +72,18 @@ call_acts (Resume s q) = refl
 
 calls_acts : (own : List Event) → acts_in (calls_in own) ≡ acts_in own
 calls_acts [] = refl
-calls_acts (e ∷ es) = flat_map-append act_of (call_of e) (calls_in es) ∙ (λ i. call_acts e i ++ calls_acts es i)
+calls_acts (e ∷ es) = flat_map-append act_of (call_in e) (calls_in es) ∙ (λ i. call_acts e i ++ calls_acts es i)
 
 -- what a seat did is among what it called
 pub acted_by : (x y : Trail) (cs : List Event) → HasCalled x y cs → HasActed x y (acts_in cs)
 acted_by x y cs s = record { own = s.own; went = s.went; acted = sym (calls_acts s.own) ∙ ap acts_in s.called }
 
-out_calls : (i : ℕ) (q : Source) (u : Turn) → call_of (out_event i q u) ++ [] ≡ []
+out_calls : (i : ℕ) (q : Source) (u : Turn) → call_in (out_event i q u) ++ [] ≡ []
 out_calls i (Free t) u = refl
 out_calls i (Granted t) u = refl
 out_calls i Called u = refl
 
-next_calls : (x : Next) (e : Event) → call_of (with_next x e) ++ [] ≡ call_of e ++ []
+next_calls : (x : Next) (e : Event) → call_in (with_next x e) ++ [] ≡ call_in e ++ []
 next_calls x (Enter s via) = refl
 next_calls x (Act s op r) = refl
 next_calls x (Leave s y) = refl
@@ -109,14 +109,14 @@ module _ (k : Rules) (o : Object) where
   }
 
   -- a release is its call
-  pub released : (a : Holder) (call : Event) (wish : Pick) (to : Home) (peeks : ℕ) (p : Token) → HasReleased k o a call wish to peeks p → HasCalled (inside a) (outside p) (call_of call ++ [])
+  pub released : (a : Holder) (call : Event) (wish : Pick) (to : Home) (peeks : ℕ) (p : Token) → HasReleased k o a call wish to peeks p → HasCalled (inside a) (outside p) (call_in call ++ [])
   released a call wish to peeks p r = record {
     own = with_next r.choice call ∷ [];
     went = record { hall = r.hall; seat = r.seat; setting = r.setting; seen = (with_next r.choice call ∷ [], r.seen); mine = r.mine };
     called = next_calls r.choice call;
   }
 
-  pub stayed : (a : Holder) (call : Event) (wish : Pick) (peeks : ℕ) (b : Holder) → HasStayed k o a call wish peeks b → HasCalled (inside a) (inside b) (call_of call ++ [])
+  pub stayed : (a : Holder) (call : Event) (wish : Pick) (peeks : ℕ) (b : Holder) → HasStayed k o a call wish peeks b → HasCalled (inside a) (inside b) (call_in call ++ [])
   stayed a call wish peeks b s = let own = with_next Stay call ∷ [] in record {
     own = own;
     went = record { hall = ap (λ h. h.hall) s.is; seat = ap (λ h. h.me.seat) s.is; setting = ap (λ h. h.me.setting) s.is; seen = (own, ap (λ h. h.floor.history) s.is); mine = ap (λ h. h.me.mine) s.is };

@@ -10,17 +10,17 @@ use Rattle.monk_history.specs.Meaning.Acts.{IsInOrder, ExcludesEachOther, Serves
 use Rattle.monk_history.specs.Meaning.Events.{has_conditions}
 use Rattle.monk_history.specs.Meaning.Legal.{IsLegal}
 use Rattle.monk_history.specs.Meaning.Monitor.{monitor, data_of}
-use Rattle.monk_history.specs.Meaning.Named.{monitor_of}
+use Rattle.monk_history.specs.Meaning.Named.{named_monitor}
 use Rattle.monk_history.specs.Text.{Heading}
 use Rattle.monk_history.specs.declared.event.Event.{Event}
 use Rattle.monk_samples.specs.Totals.{totals_of}
 use Rattle.monk_samples.specs.declared.sample.Sample.{Sample}
 use Rattle.monk_samples.specs.declared.sample.Sample.TheVariants.{Buffer, Book, Shop}
 
-abbrev pub object_of : Sample → ObjectName
-object_of Buffer = object.Buffer
-object_of Book = object.Book
-object_of Shop = object.Shop
+abbrev pub sample_object : Sample → ObjectName
+sample_object Buffer = object.Buffer
+sample_object Book = object.Book
+sample_object Shop = object.Shop
 
 -- the size of each sample's object
 abbrev pub size : ℕ
@@ -37,8 +37,8 @@ budget_of seats rounds = 64 + rounds * (40 + 32 * seats)
 abbrev pub IsInRange : ℕ → ℕ → Type 0
 IsInRange seats rounds = (2 ≤ seats) × (seats ≤ 16) × (1 ≤ rounds) × (rounds ≤ 1000)
 
-abbrev pub heading_of : KindName → Sample → ℕ → Heading
-heading_of k sample seats = record { kind = k; seats = seats; conds = conds_of (rules_named k); object = object_of sample; size = size }
+abbrev pub run_heading : KindName → Sample → ℕ → Heading
+run_heading k sample seats = record { kind = k; seats = seats; conds = conds_of (rules_named k); object = sample_object sample; size = size }
 
 -- the law of the sample's object holds of the acts of the history
 abbrev pub KeepsLaw : Sample → List ℕ → List Event → Type 0
@@ -48,14 +48,14 @@ KeepsLaw Shop state h = ServesEachOne size state (acts_in h)
 
 -- the history of a run: legal, and within the budgets of all seats
 pub record IsHistoryOf (k : Rules) (sample : Sample) (seats rounds : ℕ) (h : List Event) : Type 0 where
-  pub legal : IsLegal (monitor k seats (conds_of k) (meaning_named (object_of sample)) (opening_named (object_of sample) size)) h
+  pub legal : IsLegal (monitor k seats (conds_of k) (meaning_named (sample_object sample)) (opening_named (sample_object sample) size)) h
   pub few : length h ≤ seats * budget_of seats rounds
 
 -- a run has left this history, which is legal for the monitor that its header names, and not too long for an audit. The sample's law holds of it, and
 -- the totals are its own
 pub record IsOutcome (k : KindName) (sample : Sample) (seats : ℕ) (h : Heading) (history : List Event) (totals : List ℕ) : Type 0 where
-  pub header : h ≡ heading_of k sample seats
-  pub legal : IsLegal (monitor_of h) history
+  pub header : h ≡ run_heading k sample seats
+  pub legal : IsLegal (named_monitor h) history
   pub few : length history ≤ 2 ^ 24
-  pub law : KeepsLaw sample (data_of (monitor_of h) history) history
+  pub law : KeepsLaw sample (data_of (named_monitor h) history) history
   pub totals_are : totals ≡ totals_of sample history

@@ -35,18 +35,18 @@ pub record Went (x y : Trail) (own : List Event) : Type 0 where
   pub mine : y.mine ≡ x.mine ++ own
 
 -- what a seat asked for by an event of its own, written with `stay` where it released: coming in is no call
-abbrev pub call_of : Event → List Event
-call_of (Enter s via) = []
-call_of (Act s op r) = Act s op r ∷ []
-call_of (Leave s x) = Leave s Stay ∷ []
-call_of (Wait s c x) = Wait s c Stay ∷ []
-call_of (Signal s c x) = Signal s c Stay ∷ []
-call_of (SignalLeave s c x) = SignalLeave s c Stay ∷ []
-call_of (Until s p x) = Until s p Stay ∷ []
-call_of (Resume s q) = []
+abbrev pub call_in : Event → List Event
+call_in (Enter s via) = []
+call_in (Act s op r) = Act s op r ∷ []
+call_in (Leave s x) = Leave s Stay ∷ []
+call_in (Wait s c x) = Wait s c Stay ∷ []
+call_in (Signal s c x) = Signal s c Stay ∷ []
+call_in (SignalLeave s c x) = SignalLeave s c Stay ∷ []
+call_in (Until s p x) = Until s p Stay ∷ []
+call_in (Resume s q) = []
 
 abbrev pub calls_in : List Event → List Event
-calls_in own = flat_map call_of own
+calls_in own = flat_map call_in own
 
 -- the seat has made these calls and no other, in this order
 pub record HasCalled (x y : Trail) (calls : List Event) : Type 0 where

@@ -1,5 +1,5 @@
 ghost use Rattle.std.specs.Prelude.{◌≡◌};
-ghost use Rattle.monk_samples.specs.Samples.{object_of};
+ghost use Rattle.monk_samples.specs.Samples.{sample_object};
 
 use monk_object::ObjectName;
 
@@ -17,7 +17,7 @@ pub enum Sample {
 impl Sample {
     /// The object that the sample's monitor guards.
     pub fn object(self) -> ObjectName
-        ensures { result ≡ object_of self }
+        ensures { result ≡ sample_object self }
     {
         match self {
             Sample::Buffer => ObjectName::Buffer,

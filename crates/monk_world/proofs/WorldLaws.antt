@@ -41,7 +41,7 @@ use Rattle.monk_world.specs.State.{State, with_event}
 use Rattle.monk_world.specs.Steps.{after_arrive, after_ticket_look, after_seat_look, after_floor_out, after_floor_in, after_drop, after_ticket_grant, after_seat_grant}
 use Rattle.monk_world.specs.StepTable.{may_be_told, is_call_in_range, is_call_offered, call_of, left_for, names_entry, is_back, refusal, release_next, out_event, queue_due, IsDone, IsReleased}
 use Rattle.monk_world.specs.Telling as telling
-use Rattle.monk_world.specs.Board.{WorldView, state_of, view_in, state_in, world_on, Shows, ShowsKnown}
+use Rattle.monk_world.specs.Board.{WorldView, state_of_view, view_in, state_in, world_on, Shows, ShowsKnown}
 use Rattle.monk_world.specs.declared.answer.Answer.{Answer}
 use Rattle.monk_world.specs.declared.answer.Answer.TheVariants as answer
 use Rattle.monk_world.specs.declared.command.Command.{Command}
@@ -93,21 +93,21 @@ module _ (k : Rules) (o : Object) (w : Board) (f : FloorView) (v : WorldView) (i
   abbrev s : State
   s = state_in w f
 
-  pub free_here : (c : Command) → refusal k o (state_of v) i c ≡ None → refusal k o s i c ≡ None
-  free_here c e = subst (λ (u : WorldView). refusal k o (state_of u) i c ≡ None) (sym is) e
+  pub free_here : (c : Command) → refusal k o (state_of_view v) i c ≡ None → refusal k o s i c ≡ None
+  free_here c e = subst (λ (u : WorldView). refusal k o (state_of_view u) i c ≡ None) (sym is) e
 
-  pub returned : (c : Command) (a : Answer) (t : State) → IsDone k o s i (s.world.place i) c a t → IsDone k o (state_of v) i ((state_of v).world.place i) c a t
-  returned c a t d = subst (λ (u : WorldView). IsDone k o (state_of u) i ((state_of u).world.place i) c a t) is d
+  pub returned : (c : Command) (a : Answer) (t : State) → IsDone k o s i (s.world.place i) c a t → IsDone k o (state_of_view v) i ((state_of_view v).world.place i) c a t
+  returned c a t d = subst (λ (u : WorldView). IsDone k o (state_of_view u) i ((state_of_view u).world.place i) c a t) is d
 
-  pub kept : (c : Command) (a : Answer) (new : Board) (g : FloorView) (conds : ℕ) → IsKind k → IsKept k o w.seats conds s → refusal k o (state_of v) i c ≡ None → new.seats ≡ w.seats
+  pub kept : (c : Command) (a : Answer) (new : Board) (g : FloorView) (conds : ℕ) → IsKind k → IsKept k o w.seats conds s → refusal k o (state_of_view v) i c ≡ None → new.seats ≡ w.seats
       → IsDone k o s i (s.world.place i) c a (state_in new g) → IsKept k o new.seats conds (state_in new g)
   kept c a new g conds kind old free same d =
       subst (λ (n : ℕ). IsKept k o n conds (state_in new g)) (sym same) (kept_done k o s i c a (state_in new g) w.seats conds kind old (free_here c free) d)
 
-  pub ready_here : (c : Command) → refusal k o (state_of v) i c ≡ None → IsReady k o s i c
+  pub ready_here : (c : Command) → refusal k o (state_of_view v) i c ≡ None → IsReady k o s i c
   ready_here c free = ready k o s i c (free_here c free)
 
-  pub near_here : (c : Command) (conds : ℕ) → IsKept k o w.seats conds s → refusal k o (state_of v) i c ≡ None → i < w.seats
+  pub near_here : (c : Command) (conds : ℕ) → IsKept k o w.seats conds s → refusal k o (state_of_view v) i c ≡ None → i < w.seats
   near_here c conds old free = subst (λ (n : ℕ). i < n) (sym old.seats_are) ((ready_here c free).near)
 
   abbrev Goes : Command → Answer → State → Type 0
@@ -116,7 +116,7 @@ module _ (k : Rules) (o : Object) (w : Board) (f : FloorView) (v : WorldView) (i
   at_place : (p : Place) (c : Command) (a : Answer) (t : State) → s.world.place i ≡ p → IsDone k o s i p c a t → Goes c a t
   at_place p c a t at d = subst (λ (q : Place). IsDone k o s i q c a t) (sym at) d
 
-  pub arrive_goes : (a : Answer) (new : Board) → refusal k o (state_of v) i command.Arrive ≡ None → a ≡ answer.Arrived w.drawn w.unpassed → Shows w (after_arrive (world_on w) i) new → Goes command.Arrive a (state_in new f)
+  pub arrive_goes : (a : Answer) (new : Board) → refusal k o (state_of_view v) i command.Arrive ≡ None → a ≡ answer.Arrived w.drawn w.unpassed → Shows w (after_arrive (world_on w) i) new → Goes command.Arrive a (state_in new f)
   arrive_goes a new free is_a shows = at_place Idle command.Arrive a (state_in new f) (idle_is (s.world.place i) ((ready_here command.Arrive free).told)) (is_a, shows.state f)
 
   pub ticket_look_goes : (n : ℕ) (a : Answer) (new : Board) (conds : ℕ) → IsKept k o w.seats conds s → s.world.place i ≡ Ticket n
@@ -171,7 +171,7 @@ module _ (k : Rules) (o : Object) (w : Board) (f : FloorView) (v : WorldView) (i
             ∙ ap (λ (y : Next). record s { world = cond (is_stay (Some y)) (world_on w) (after_floor_in (world_on w) i y to); floor = with_event f (with_next y e) }) same),
       )
 
-  pub act_goes : (op : Op) (reply : ℕ) (a : Answer) (g : FloorView) → refusal k o (state_of v) i (command.Act op) ≡ None → IsGrown k o f (Act i op reply) g → a ≡ answer.Reply reply → Goes (command.Act op) a (state_in w g)
+  pub act_goes : (op : Op) (reply : ℕ) (a : Answer) (g : FloorView) → refusal k o (state_of_view v) i (command.Act op) ≡ None → IsGrown k o f (Act i op reply) g → a ≡ answer.Reply reply → Goes (command.Act op) a (state_in w g)
   act_goes op reply a g free grows is_a =
       let at = active_is (s.world.place i) ((ready_here (command.Act op) free).told) in
       let same : reply ≡ o.reply (data_of (monitor_of k o f) f.history) op = eqb-true _ _ (grows.allowed.right_reply) in
@@ -181,7 +181,7 @@ module _ (k : Rules) (o : Object) (w : Board) (f : FloorView) (v : WorldView) (i
   pub owns_here : (c : Command) (conds : ℕ) → IsKept k o w.seats conds s → (stage (s.world.place i) == active_stage) ≡ true → is_owned_by i (turn f.history) ≡ true
   owns_here c conds old three = ap (is_owned_by i) (old.sound.is_sound.active i (eqb-true _ _ three)) ∙ eq-eqb i i refl
 
-  pub out_allowed : (q : Source) (conds : ℕ) → IsKept k o w.seats conds s → refusal k o (state_of v) i command.Out ≡ None → s.world.place i ≡ Due q
+  pub out_allowed : (q : Source) (conds : ℕ) → IsKept k o w.seats conds s → refusal k o (state_of_view v) i command.Out ≡ None → s.world.place i ≡ Due q
       → IsAllowed (monitor_of k o f) f.history (out_event i q (turn f.history))
   out_allowed q conds old free at =
       let out = sound_out k o s old.sound.right old.sound.owner old.sound.is_sound i ((ready_here command.Out free).near) q at in
@@ -190,7 +190,7 @@ module _ (k : Rules) (o : Object) (w : Board) (f : FloorView) (v : WorldView) (i
   pub out_left : (q : Source) (conds : ℕ) → IsKept k o w.seats conds s → s.world.place i ≡ Due q → 0 < left_of f.budget f.history i
   out_left q conds old at = omega (arith, old.sound.is_sound.left i, ap left_at at)
 
-  pub at_active : (c : Command) (a : Answer) (t : State) → refusal k o (state_of v) i c ≡ None → may_be_told (s.world.place i) c ≡ (stage (s.world.place i) == active_stage) → ((q : Source) → IsDone k o s i (Active q) c a t) → Goes c a t
+  pub at_active : (c : Command) (a : Answer) (t : State) → refusal k o (state_of_view v) i c ≡ None → may_be_told (s.world.place i) c ≡ (stage (s.world.place i) == active_stage) → ((q : Source) → IsDone k o s i (Active q) c a t) → Goes c a t
   at_active c a t free active d =
       let at = active_is (s.world.place i) (sym active ∙ (ready_here c free).told) in
       at_place (Active at.source) c a t at.is (d at.source)
@@ -371,7 +371,7 @@ both_fourth true true e f = refl
 both_fourth false x e f = absurd cc
 both_fourth true false e f = absurd cc
 
-pub reaches : (o : Object) (f : FloorView) (i : ℕ) (c : Command) → nat_lt i f.seats ≡ true → telling.is_in_range f.conds o.codes o.predicates c ≡ true → (nat_lt i f.seats && is_call_in_range o f (call_of i c)) ≡ true
+pub reaches : (o : Object) (f : FloorView) (i : ℕ) (c : Command) → nat_lt i f.seats ≡ true → telling.is_command_in_range f.conds o.codes o.predicates c ≡ true → (nat_lt i f.seats && is_call_in_range o f (call_of i c)) ≡ true
 reaches o f i command.Arrive here fits = both (nat_lt i f.seats) true here refl
 reaches o f i command.Look here fits = both (nat_lt i f.seats) true here refl
 reaches o f i command.Out here fits = both (nat_lt i f.seats) true here refl

@@ -18,8 +18,8 @@ pub record WorldView : Type 0 where
   pub known : List Bool
   pub floor : FloorView
 
-abbrev pub state_of : WorldView → State
-state_of v = record {
+abbrev pub state_of_view : WorldView → State
+state_of_view v = record {
   world = record {
     drawn = v.drawn;
     unpassed = v.unpassed;
@@ -45,7 +45,7 @@ view_in w f = record {
 }
 
 abbrev pub state_in : Board → FloorView → State
-state_in w f = state_of (view_in w f)
+state_in w f = state_of_view (view_in w f)
 
 -- the world that the words show
 abbrev pub world_on : Board → World

@@ -10,34 +10,34 @@ use Rattle.monk_world.specs.declared.command.Command.{Command}
 use Rattle.monk_world.specs.declared.command.Command.TheVariants.{Arrive, Look, Out, Peek, Drop, Grant, Act, Leave, Wait, Signal, SignalLeave, Until}
 
 -- the condition, the predicate and the code are in range
-abbrev pub is_in_range : ℕ → ℕ → ℕ → Command → Bool
-is_in_range conds codes predicates Arrive = true
-is_in_range conds codes predicates Look = true
-is_in_range conds codes predicates Out = true
-is_in_range conds codes predicates Peek = true
-is_in_range conds codes predicates Drop = true
-is_in_range conds codes predicates Grant = true
-is_in_range conds codes predicates (Act op) = nat_lt op.code codes
-is_in_range conds codes predicates (Leave pick) = true
-is_in_range conds codes predicates (Wait c pick) = nat_lt c conds
-is_in_range conds codes predicates (Signal c pick) = nat_lt c conds
-is_in_range conds codes predicates (SignalLeave c pick) = nat_lt c conds
-is_in_range conds codes predicates (Until p pick) = nat_lt p predicates
+abbrev pub is_command_in_range : ℕ → ℕ → ℕ → Command → Bool
+is_command_in_range conds codes predicates Arrive = true
+is_command_in_range conds codes predicates Look = true
+is_command_in_range conds codes predicates Out = true
+is_command_in_range conds codes predicates Peek = true
+is_command_in_range conds codes predicates Drop = true
+is_command_in_range conds codes predicates Grant = true
+is_command_in_range conds codes predicates (Act op) = nat_lt op.code codes
+is_command_in_range conds codes predicates (Leave pick) = true
+is_command_in_range conds codes predicates (Wait c pick) = nat_lt c conds
+is_command_in_range conds codes predicates (Signal c pick) = nat_lt c conds
+is_command_in_range conds codes predicates (SignalLeave c pick) = nat_lt c conds
+is_command_in_range conds codes predicates (Until p pick) = nat_lt p predicates
 
 -- the mode has the call
-abbrev pub is_offered : Mode → Command → Bool
-is_offered mode Arrive = true
-is_offered mode Look = true
-is_offered mode Out = true
-is_offered mode Peek = true
-is_offered mode Drop = true
-is_offered mode Grant = true
-is_offered mode (Act op) = true
-is_offered mode (Leave pick) = true
-is_offered mode (Wait c pick) = has_conditions mode
-is_offered mode (Signal c pick) = has_signaller_queue mode
-is_offered mode (SignalLeave c pick) = returns_at_once mode
-is_offered mode (Until p pick) = not (has_conditions mode)
+abbrev pub is_command_offered : Mode → Command → Bool
+is_command_offered mode Arrive = true
+is_command_offered mode Look = true
+is_command_offered mode Out = true
+is_command_offered mode Peek = true
+is_command_offered mode Drop = true
+is_command_offered mode Grant = true
+is_command_offered mode (Act op) = true
+is_command_offered mode (Leave pick) = true
+is_command_offered mode (Wait c pick) = has_conditions mode
+is_command_offered mode (Signal c pick) = has_signaller_queue mode
+is_command_offered mode (SignalLeave c pick) = returns_at_once mode
+is_command_offered mode (Until p pick) = not (has_conditions mode)
 
 -- what a step was told
 abbrev pub command_of : Told → ℕ × Command

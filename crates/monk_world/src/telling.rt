@@ -10,7 +10,7 @@ use monk_kinds::Mode;
 
 /// Whether the condition, the predicate and the code of a command are in range.
 pub fn is_in_range(command: Command, conds: u8, codes: u8, predicates: u8) -> bool
-    ensures { result ≡ telling.is_in_range conds codes predicates command }
+    ensures { result ≡ telling.is_command_in_range conds codes predicates command }
 {
     match command {
         Command::Arrive
@@ -30,7 +30,7 @@ pub fn is_in_range(command: Command, conds: u8, codes: u8, predicates: u8) -> bo
 
 /// Whether the monitors of a mode have a call.
 pub fn is_offered(mode: Mode, command: Command) -> bool
-    ensures { result ≡ telling.is_offered mode command }
+    ensures { result ≡ telling.is_command_offered mode command }
 {
     match command {
         Command::Arrive

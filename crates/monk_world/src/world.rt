@@ -10,7 +10,7 @@ ghost use Rattle.monk_world.specs.Records.{IsRecordedBy, IsTakenBy};
 ghost use Rattle.monk_world.specs.Runs.{IsWellLed, opening_state};
 ghost use Rattle.monk_world.specs.StepTable.{IsStep, IsDone, out_event, refusal, left_for, may_be_told};
 ghost use Rattle.monk_world.specs.Telling.{IsLed};
-ghost use Rattle.monk_world.specs.Board.{state_of};
+ghost use Rattle.monk_world.specs.Board.{state_of_view};
 
 use crate::answer::Answer;
 use crate::board::Board;
@@ -40,13 +40,13 @@ pub struct World<K: Kind, T: Guarded> {
 
 impl<K: Kind, T: Guarded> Model for World<K, T> {
     ghost use Rattle.monk_world.specs.Kept.{IsKept};
-    ghost use Rattle.monk_world.specs.Board.{WorldView, view_in, state_of};
+    ghost use Rattle.monk_world.specs.Board.{WorldView, view_in, state_of_view};
 
     ghost Value = { WorldView };
 
     ghost view = { λ w. view_in w.words w.floor };
 
-    ghost invariant = { λ w. IsKept K.rules T.meaning w.words.seats w.conds (state_of (view_in w.words w.floor)) };
+    ghost invariant = { λ w. IsKept K.rules T.meaning w.words.seats w.conds (state_of_view (view_in w.words w.floor)) };
 }
 
 impl<K: Kind, T: Guarded> World<K, T> {
@@ -62,7 +62,7 @@ impl<K: Kind, T: Guarded> World<K, T> {
         conds: u8,
         budget: u32,
     ) -> Result<World<K, T>, MakeFault>
-        ensures made { IfOk result (λ w. (make_refusal seats conds budget ≡ None) × (state_of w ≡ opening_state (T.state object) seats conds budget)) }
+        ensures made { IfOk result (λ w. (make_refusal seats conds budget ≡ None) × (state_of_view w ≡ opening_state (T.state object) seats conds budget)) }
         ensures refused { IfErr result (λ e. IsRefused seats conds budget e) }
     {
         let floor = Floor::make(alloc, object, seats, conds, budget)?;
@@ -79,7 +79,7 @@ impl<K: Kind, T: Guarded> World<K, T> {
         ensures history { result.now ≡ self.now.floor.history }
         ensures legal { IsLegal (monitor_of K.rules T.meaning self.now.floor) self.now.floor.history }
         // The right is in one place, and active is exactly the seat that owns the history's turn.
-        ensures well_led { IsWellLed K.rules T.meaning (state_of self.now) }
+        ensures well_led { IsWellLed K.rules T.meaning (state_of_view self.now) }
     {
         self.floor.history()
     }
@@ -91,9 +91,9 @@ impl<K: Kind, T: Guarded> World<K, T> {
     ///
     /// Takes no memory. Costs what the floor's call costs, else constant time.
     pub fn step(&mut self, seat: u8, command: Command) -> Answer
-        ensures by_table { IsStep K.rules T.meaning (state_of self.old) seat command result (state_of self.new) }
+        ensures by_table { IsStep K.rules T.meaning (state_of_view self.old) seat command result (state_of_view self.new) }
         // The history grows by at most one event, the seat's own, and the right is in one place as before.
-        ensures taken { IsTakenBy K.rules T.meaning (state_of self.old) seat command result (state_of self.new) }
+        ensures taken { IsTakenBy K.rules T.meaning (state_of_view self.old) seat command result (state_of_view self.new) }
     {
         let _ = &self.words; // from here on it is known to be sound
         self.tell(seat, command)
@@ -101,10 +101,10 @@ impl<K: Kind, T: Guarded> World<K, T> {
 
     /// Takes these steps in order, and goes on after a refusal.
     pub fn run(&mut self, commands: &[(u8, Command)])
-        ensures led { IsLed K.rules T.meaning (state_of self.old) commands.now (state_of self.new) }
+        ensures led { IsLed K.rules T.meaning (state_of_view self.old) commands.now (state_of_view self.new) }
         // Each seat's events are those that its own commands appended, each once, and tickets enter in their order.
-        ensures recorded { IsRecordedBy K.rules T.meaning (state_of self.old) commands.now (state_of self.new) }
-        ensures well_led { IsWellLed K.rules T.meaning (state_of self.new) }
+        ensures recorded { IsRecordedBy K.rules T.meaning (state_of_view self.old) commands.now (state_of_view self.new) }
+        ensures well_led { IsWellLed K.rules T.meaning (state_of_view self.new) }
     {
         let _ = &self.words; // from here on it is known to be sound
         for (seat, command) in commands {
@@ -114,7 +114,7 @@ impl<K: Kind, T: Guarded> World<K, T> {
 
     /// The first refusal that applies, or what the command comes to.
     fn tell(&mut self, seat: u8, command: Command) -> Answer
-        ensures { IsStep K.rules T.meaning (state_of self.old) seat command result (state_of self.new) }
+        ensures { IsStep K.rules T.meaning (state_of_view self.old) seat command result (state_of_view self.new) }
     {
         if let Some(refused) = self.refusal(seat, command) {
             return refused;
@@ -137,7 +137,7 @@ impl<K: Kind, T: Guarded> World<K, T> {
 
     /// The first refusal that applies.
     fn refusal(&self, seat: u8, command: Command) -> Option<Answer>
-        ensures { result ≡ refusal K.rules T.meaning (state_of self.now) seat command }
+        ensures { result ≡ refusal K.rules T.meaning (state_of_view self.now) seat command }
     {
         if seat >= self.words.seats {
             return Some(Answer::Range);
@@ -159,16 +159,16 @@ impl<K: Kind, T: Guarded> World<K, T> {
 
     /// Draws a ticket.
     fn arrive(&mut self, seat: u8) -> Answer
-        requires { refusal K.rules T.meaning (state_of self.old) seat Command.Arrive ≡ None }
-        ensures { IsDone K.rules T.meaning (state_of self.old) seat ((state_of self.old).world.place seat) Command.Arrive result (state_of self.new) }
+        requires { refusal K.rules T.meaning (state_of_view self.old) seat Command.Arrive ≡ None }
+        ensures { IsDone K.rules T.meaning (state_of_view self.old) seat ((state_of_view self.old).world.place seat) Command.Arrive result (state_of_view self.new) }
     {
         self.words.arrive(seat)
     }
 
     /// Looks whether the right was handed over.
     fn look(&mut self, seat: u8) -> Answer
-        requires { refusal K.rules T.meaning (state_of self.old) seat Command.Look ≡ None }
-        ensures { IsDone K.rules T.meaning (state_of self.old) seat ((state_of self.old).world.place seat) Command.Look result (state_of self.new) }
+        requires { refusal K.rules T.meaning (state_of_view self.old) seat Command.Look ≡ None }
+        ensures { IsDone K.rules T.meaning (state_of_view self.old) seat ((state_of_view self.old).world.place seat) Command.Look result (state_of_view self.new) }
     {
         match self.words.place(seat) {
             Place::Ticket(ticket) => self.words.ticket_look(seat, ticket),
@@ -179,8 +179,8 @@ impl<K: Kind, T: Guarded> World<K, T> {
 
     /// Takes the floor, which records the enter or the resume.
     fn floor_out(&mut self, seat: u8) -> Answer
-        requires { refusal K.rules T.meaning (state_of self.old) seat Command.Out ≡ None }
-        ensures { IsDone K.rules T.meaning (state_of self.old) seat ((state_of self.old).world.place seat) Command.Out result (state_of self.new) }
+        requires { refusal K.rules T.meaning (state_of_view self.old) seat Command.Out ≡ None }
+        ensures { IsDone K.rules T.meaning (state_of_view self.old) seat ((state_of_view self.old).world.place seat) Command.Out result (state_of_view self.new) }
     {
         match self.words.place(seat) {
             Place::Due(source) => {
@@ -193,8 +193,8 @@ impl<K: Kind, T: Guarded> World<K, T> {
 
     /// Looks how many tickets are not passed on.
     fn peek(&mut self, seat: u8) -> Answer
-        requires { refusal K.rules T.meaning (state_of self.old) seat Command.Peek ≡ None }
-        ensures { IsDone K.rules T.meaning (state_of self.old) seat ((state_of self.old).world.place seat) Command.Peek result (state_of self.new) }
+        requires { refusal K.rules T.meaning (state_of_view self.old) seat Command.Peek ≡ None }
+        ensures { IsDone K.rules T.meaning (state_of_view self.old) seat ((state_of_view self.old).world.place seat) Command.Peek result (state_of_view self.new) }
     {
         match self.words.place(seat) {
             Place::Active(_) => self.words.peek(seat),
@@ -204,8 +204,8 @@ impl<K: Kind, T: Guarded> World<K, T> {
 
     /// Takes the seat off the ticket word.
     fn drop_ticket(&mut self, seat: u8) -> Answer
-        requires { refusal K.rules T.meaning (state_of self.old) seat Command.Drop ≡ None }
-        ensures { IsDone K.rules T.meaning (state_of self.old) seat ((state_of self.old).world.place seat) Command.Drop result (state_of self.new) }
+        requires { refusal K.rules T.meaning (state_of_view self.old) seat Command.Drop ≡ None }
+        ensures { IsDone K.rules T.meaning (state_of_view self.old) seat ((state_of_view self.old).world.place seat) Command.Drop result (state_of_view self.new) }
     {
         match self.words.place(seat) {
             Place::Back(_, home) => self.words.drop_ticket(seat, home),
@@ -215,8 +215,8 @@ impl<K: Kind, T: Guarded> World<K, T> {
 
     /// Grants the right to the ticket or the seat that is next.
     fn grant(&mut self, seat: u8) -> Answer
-        requires { refusal K.rules T.meaning (state_of self.old) seat Command.Grant ≡ None }
-        ensures { IsDone K.rules T.meaning (state_of self.old) seat ((state_of self.old).world.place seat) Command.Grant result (state_of self.new) }
+        requires { refusal K.rules T.meaning (state_of_view self.old) seat Command.Grant ≡ None }
+        ensures { IsDone K.rules T.meaning (state_of_view self.old) seat ((state_of_view self.old).world.place seat) Command.Grant result (state_of_view self.new) }
     {
         match self.words.place(seat) {
             Place::Passing(ticket, home) => self.words.ticket_grant(seat, ticket, home),
@@ -229,16 +229,16 @@ impl<K: Kind, T: Guarded> World<K, T> {
 
     /// Carries an operation out on the object.
     fn act(&mut self, seat: u8, op: Op) -> Answer
-        requires { refusal K.rules T.meaning (state_of self.old) seat (Command.Act op) ≡ None }
-        ensures { IsDone K.rules T.meaning (state_of self.old) seat ((state_of self.old).world.place seat) (Command.Act op) result (state_of self.new) }
+        requires { refusal K.rules T.meaning (state_of_view self.old) seat (Command.Act op) ≡ None }
+        ensures { IsDone K.rules T.meaning (state_of_view self.old) seat ((state_of_view self.old).world.place seat) (Command.Act op) result (state_of_view self.new) }
     {
         Answer::Reply(self.floor.act(seat, op))
     }
 
     /// Leaves the monitor.
     fn leave(&mut self, seat: u8, pick: Pick) -> Answer
-        requires { refusal K.rules T.meaning (state_of self.old) seat (Command.Leave pick) ≡ None }
-        ensures { IsDone K.rules T.meaning (state_of self.old) seat ((state_of self.old).world.place seat) (Command.Leave pick) result (state_of self.new) }
+        requires { refusal K.rules T.meaning (state_of_view self.old) seat (Command.Leave pick) ≡ None }
+        ensures { IsDone K.rules T.meaning (state_of_view self.old) seat ((state_of_view self.old).world.place seat) (Command.Leave pick) result (state_of_view self.new) }
     {
         let known = self.words.knows(seat);
         let next = self.floor.plain_leave(seat, pick, known);
@@ -247,8 +247,8 @@ impl<K: Kind, T: Guarded> World<K, T> {
 
     /// Waits on a condition.
     fn wait(&mut self, seat: u8, cond: u8, pick: Pick) -> Answer
-        requires { refusal K.rules T.meaning (state_of self.old) seat (Command.Wait cond pick) ≡ None }
-        ensures { IsDone K.rules T.meaning (state_of self.old) seat ((state_of self.old).world.place seat) (Command.Wait cond pick) result (state_of self.new) }
+        requires { refusal K.rules T.meaning (state_of_view self.old) seat (Command.Wait cond pick) ≡ None }
+        ensures { IsDone K.rules T.meaning (state_of_view self.old) seat ((state_of_view self.old).world.place seat) (Command.Wait cond pick) result (state_of_view self.new) }
     {
         let known = self.words.knows(seat);
         let next = self.floor.plain_wait(seat, cond, pick, known);
@@ -257,8 +257,8 @@ impl<K: Kind, T: Guarded> World<K, T> {
 
     /// Signals a condition.
     fn signal(&mut self, seat: u8, cond: u8, pick: Pick) -> Answer
-        requires { refusal K.rules T.meaning (state_of self.old) seat (Command.Signal cond pick) ≡ None }
-        ensures { IsDone K.rules T.meaning (state_of self.old) seat ((state_of self.old).world.place seat) (Command.Signal cond pick) result (state_of self.new) }
+        requires { refusal K.rules T.meaning (state_of_view self.old) seat (Command.Signal cond pick) ≡ None }
+        ensures { IsDone K.rules T.meaning (state_of_view self.old) seat ((state_of_view self.old).world.place seat) (Command.Signal cond pick) result (state_of_view self.new) }
     {
         let known = self.words.knows(seat);
         let next = self.floor.plain_signal(seat, cond, pick, known);
@@ -267,8 +267,8 @@ impl<K: Kind, T: Guarded> World<K, T> {
 
     /// Signals a condition and leaves the monitor.
     fn signal_leave(&mut self, seat: u8, cond: u8, pick: Pick) -> Answer
-        requires { refusal K.rules T.meaning (state_of self.old) seat (Command.SignalLeave cond pick) ≡ None }
-        ensures { IsDone K.rules T.meaning (state_of self.old) seat ((state_of self.old).world.place seat) (Command.SignalLeave cond pick) result (state_of self.new) }
+        requires { refusal K.rules T.meaning (state_of_view self.old) seat (Command.SignalLeave cond pick) ≡ None }
+        ensures { IsDone K.rules T.meaning (state_of_view self.old) seat ((state_of_view self.old).world.place seat) (Command.SignalLeave cond pick) result (state_of_view self.new) }
     {
         let known = self.words.knows(seat);
         let next = self.floor.plain_signal_leave(seat, cond, pick, known);
@@ -277,8 +277,8 @@ impl<K: Kind, T: Guarded> World<K, T> {
 
     /// Waits until a predicate holds.
     fn until(&mut self, seat: u8, pred: u8, pick: Pick) -> Answer
-        requires { refusal K.rules T.meaning (state_of self.old) seat (Command.Until pred pick) ≡ None }
-        ensures { IsDone K.rules T.meaning (state_of self.old) seat ((state_of self.old).world.place seat) (Command.Until pred pick) result (state_of self.new) }
+        requires { refusal K.rules T.meaning (state_of_view self.old) seat (Command.Until pred pick) ≡ None }
+        ensures { IsDone K.rules T.meaning (state_of_view self.old) seat ((state_of_view self.old).world.place seat) (Command.Until pred pick) result (state_of_view self.new) }
     {
         let known = self.words.knows(seat);
         let next = self.floor.plain_until(seat, pred, pick, known);

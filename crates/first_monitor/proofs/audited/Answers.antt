@@ -14,7 +14,7 @@ use Rattle.first_monitor.proofs.audited.Goals as goal
 -- what is legal for a floor is legal for the monitor that a header of its kind, object and numbers names
 as_headed : (h : Heading) (f : FloorView) (history : List Event) → f.opening ≡ opening_named h.object h.size → f.seats ≡ h.seats
     → f.conds ≡ h.conds → IsLegal (monitor_of (rules_named h.kind) (meaning_named h.object) f) history
-    → IsLegal (named.monitor_of h) history
+    → IsLegal (named.named_monitor h) history
 as_headed h f history opening seats conds legal = rw (opening, seats, conds) at legal
 
 pub returns : goal.returns
@@ -27,5 +27,5 @@ returns c =
     let header : c.in-Some.header ≡ heading Pb 2 2 Buffer 1 = cc in
     let history = c.in-Ok-close.closed.history.items in
     let legal = as_headed (heading Pb 2 2 Buffer 1) c.in-Ok.active.floor history opening seats conds c.in-Ok-close.ensures.ended.legal in
-    let is_legal = subst (λ h. IsLegal (named.monitor_of h) history) (sym header) legal in
+    let is_legal = subst (λ h. IsLegal (named.named_monitor h) history) (sym header) legal in
     (length history, (rw c.deref.ensures.value at c.in_ok-audit.ensures.legal).1 is_legal)

@@ -13,14 +13,14 @@ use Rattle.monk_world.specs.declared.command.Command.TheVariants.{Arrive, Look, 
 use Rattle.monk_world.specs.declared.play.verb.Verb.{Verb}
 use Rattle.monk_world.specs.declared.play.verb.Verb.TheVariants as verb
 use Rattle.monk_world.specs.Play.{pick_word, action_words, command_words, ActionFits, CommandFits}
-use Rattle.monk_world.specs.Play.Reading.{picks, verb_word, verbs, op_at, cond_pick_at, action_after, command_at}
+use Rattle.monk_world.specs.Play.Reading.{picks, play_verb_word, play_verbs, op_at, cond_pick_at, action_after, command_at}
 
 pick_again : (p : Pick) → with_text pick_word picks (pick_word p) ≡ Some p
 pick_again pick.Entry = refl
 pick_again pick.Waiter = refl
 pick_again pick.Signaller = refl
 
-verb_again : (v : Verb) → with_text verb_word verbs (verb_word v) ≡ Some v
+verb_again : (v : Verb) → with_text play_verb_word play_verbs (play_verb_word v) ≡ Some v
 verb_again verb.Arrive = refl
 verb_again verb.Look = refl
 verb_again verb.Out = refl
@@ -65,10 +65,10 @@ cond_pick_again c p le = rw (number_again 255 c (pick_word p ∷ []) (lit< tt) l
 
 -- what a line is where its verb has been read
 abbrev Ends : Verb → List Word → Command × List Word → Type 0
-Ends v ws y = (verb_word v ∷ ws ≡ action_words y.0 ++ y.1) × ActionFits y.0
+Ends v ws y = (play_verb_word v ∷ ws ≡ action_words y.0 ++ y.1) × ActionFits y.0
 
 abbrev behind : Verb → List Word → List Word
-behind v ws = verb_word v ∷ ws
+behind v ws = play_verb_word v ∷ ws
 
 action_takes : (v : Verb) (ws : List Word) (x : Command × List Word) → action_after v ws ≡ Ok x → Ends v ws x
 unfolding action_after
@@ -136,25 +136,25 @@ abbrev at_verb : ℕ → Verb × List Word → Taken (ℕ × Command)
 at_verb s v = action_after v.0 v.1 >>= at_action s
 
 abbrev at_seat : ℕ × List Word → Taken (ℕ × Command)
-at_seat s = one_of verb_word verbs s.1 >>= at_verb s.0
+at_seat s = one_of play_verb_word play_verbs s.1 >>= at_verb s.0
 
 pub command_takes : (ws : List Word) (x : (ℕ × Command) × List Word) → command_at ws ≡ Ok x → (ws ≡ command_words x.0) × CommandFits x.0
 unfolding command_at
 command_takes ws x e =
     let a = bind_ok (number_at 255 ws) at_seat x e in
-    let b = bind_ok (one_of verb_word verbs a.0.1) (at_verb a.0.0) x a.2 in
+    let b = bind_ok (one_of play_verb_word play_verbs a.0.1) (at_verb a.0.0) x a.2 in
     let c = bind_ok (action_after b.0.0 b.0.1) (at_action a.0.0) x b.2 in
     let d = bind_ok (end_at c.0.1) (λ z. Ok ((a.0.0, c.0.0), z.1)) x c.2 in
     let seat_is = number_takes 255 ws a.0 a.1 in
-    let verb_is = one_of_takes verb_word verbs a.0.1 b.0 b.1 in
+    let verb_is = one_of_takes play_verb_word play_verbs a.0.1 b.0 b.1 in
     let action_is = action_takes b.0.0 b.0.1 c.0 c.1 in
     let none = (end_takes c.0.1 d.0 d.1).0 in
     let whole : a.0.1 ≡ action_words c.0.0 = verb_is ∙ action_is.0 ∙ ap (λ (v : List Word). action_words c.0.0 ++ v) none ∙ append-nil (action_words c.0.0) in
     subst (λ (y : (ℕ × Command) × List Word). (ws ≡ command_words y.0) × CommandFits y.0) (ok_is ((a.0.0, c.0.0), d.0.1) x d.2) (seat_is.0 ∙ ap (λ (v : List Word). decimal a.0.0 ∷ v) whole, (seat_is.1, action_is.1))
 
-from_after : (v : Verb) (s : ℕ) (ws : List Word) (c : Command) → s ≤ 255 → action_after v ws ≡ Ok (c, []) → command_at (decimal s ∷ verb_word v ∷ ws) ≡ Ok ((s, c), [])
+from_after : (v : Verb) (s : ℕ) (ws : List Word) (c : Command) → s ≤ 255 → action_after v ws ≡ Ok (c, []) → command_at (decimal s ∷ play_verb_word v ∷ ws) ≡ Ok ((s, c), [])
 unfolding command_at
-from_after v s ws c le h = rw (number_again 255 s (verb_word v ∷ ws) (lit< tt) le, one_of_again verb_word verbs v ws (verb_again v), h) refl
+from_after v s ws c le h = rw (number_again 255 s (play_verb_word v ∷ ws) (lit< tt) le, one_of_again play_verb_word play_verbs v ws (verb_again v), h) refl
 
 action_again : (s : ℕ) (c : Command) → s ≤ 255 → ActionFits c → command_at (decimal s ∷ action_words c) ≡ Ok ((s, c), [])
 unfolding action_after

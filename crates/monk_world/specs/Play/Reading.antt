@@ -22,22 +22,22 @@ use Rattle.monk_world.specs.Play.{pick_word}
 abbrev pub picks : List Pick
 picks = pick.Entry ∷ pick.Waiter ∷ pick.Signaller ∷ []
 
-abbrev pub verb_word : Verb → Word
-verb_word verb.Arrive = codes "arrive"
-verb_word verb.Look = codes "look"
-verb_word verb.Out = codes "out"
-verb_word verb.Peek = codes "peek"
-verb_word verb.Drop = codes "drop"
-verb_word verb.Grant = codes "grant"
-verb_word verb.Act = codes "act"
-verb_word verb.Leave = codes "leave"
-verb_word verb.Wait = codes "wait"
-verb_word verb.Signal = codes "signal"
-verb_word verb.SignalLeave = codes "signal-leave"
-verb_word verb.Until = codes "until"
+abbrev pub play_verb_word : Verb → Word
+play_verb_word verb.Arrive = codes "arrive"
+play_verb_word verb.Look = codes "look"
+play_verb_word verb.Out = codes "out"
+play_verb_word verb.Peek = codes "peek"
+play_verb_word verb.Drop = codes "drop"
+play_verb_word verb.Grant = codes "grant"
+play_verb_word verb.Act = codes "act"
+play_verb_word verb.Leave = codes "leave"
+play_verb_word verb.Wait = codes "wait"
+play_verb_word verb.Signal = codes "signal"
+play_verb_word verb.SignalLeave = codes "signal-leave"
+play_verb_word verb.Until = codes "until"
 
-abbrev pub verbs : List Verb
-verbs = verb.Arrive ∷ verb.Look ∷ verb.Out ∷ verb.Peek ∷ verb.Drop ∷ verb.Grant ∷ verb.Act ∷ verb.Leave ∷ verb.Wait ∷ verb.Signal ∷ verb.SignalLeave ∷ verb.Until ∷ []
+abbrev pub play_verbs : List Verb
+play_verbs = verb.Arrive ∷ verb.Look ∷ verb.Out ∷ verb.Peek ∷ verb.Drop ∷ verb.Grant ∷ verb.Act ∷ verb.Leave ∷ verb.Wait ∷ verb.Signal ∷ verb.SignalLeave ∷ verb.Until ∷ []
 
 -- a code and an argument
 unfoldable pub op_at : List Word → Taken Op
@@ -71,7 +71,7 @@ action_after verb.Until ws = cond_pick_at ws >>= λ c. Ok (Until c.0.0 c.0.1, c.
 unfoldable pub command_at : List Word → Taken (ℕ × Command)
 command_at ws = do
   s ← number_at 255 ws
-  v ← one_of verb_word verbs s.1
+  v ← one_of play_verb_word play_verbs s.1
   a ← action_after v.0 v.1
   end ← end_at a.1
   Ok ((s.0, a.0), end.1)

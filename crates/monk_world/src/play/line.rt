@@ -4,7 +4,7 @@ ghost use Rattle.std.specs.Prelude.{◌≡◌};
 ghost use Rattle.monk_kinds.specs.Names.{with_text};
 ghost use Rattle.monk_history.specs.Text.Words.{Reads, one_of};
 ghost use Rattle.monk_world.specs.Play.{pick_word};
-ghost use Rattle.monk_world.specs.Play.Reading.{verb_word, verbs, picks, op_at, cond_pick_at, action_after, command_at};
+ghost use Rattle.monk_world.specs.Play.Reading.{play_verb_word, play_verbs, picks, op_at, cond_pick_at, action_after, command_at};
 
 use crate::command::Command;
 use crate::play::head::PlayHead;
@@ -113,7 +113,7 @@ fn pick_of_text(word: &[u8]) -> Option<Pick>
 
 #[tactic(auto, unfolding(monk_history::specs::Text::Words::one_of))]
 fn verb(words: &mut LineWords<'_>) -> Result<Verb, Flaw>
-    ensures { Reads result words.new (one_of verb_word verbs words.old) }
+    ensures { Reads result words.new (one_of play_verb_word play_verbs words.old) }
 {
     let word = words.next().ok_or(Flaw::Word)?;
     Verb::of_text(word).ok_or(Flaw::Word)

@@ -2,7 +2,7 @@
 
 ghost use Rattle.std.specs.Prelude.{◌≡◌};
 ghost use Rattle.monk_kinds.specs.Names.{with_text};
-ghost use Rattle.monk_world.specs.Play.Reading.{verb_word, verbs};
+ghost use Rattle.monk_world.specs.Play.Reading.{play_verb_word, play_verbs};
 
 /// Which command it is.
 #[derive(Clone, Copy)]
@@ -24,7 +24,7 @@ pub(crate) enum Verb {
 impl Verb {
     /// The verb whose word this is, byte for byte.
     pub(crate) fn of_text(word: &[u8]) -> Option<Verb>
-        ensures { result ≡ with_text verb_word verbs word.now }
+        ensures { result ≡ with_text play_verb_word play_verbs word.now }
     {
         if word == b"arrive".as_slice() {
             Some(Verb::Arrive)

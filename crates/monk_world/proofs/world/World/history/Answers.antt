@@ -3,7 +3,7 @@ use Rattle.monk_world.proofs.world.World.history.Goals as goal
 use Rattle.monk_history.specs.Meaning.Legal.{IsLegal}
 use Rattle.monk_floor.specs.View.{monitor_of}
 use Rattle.monk_world.specs.Runs.{IsWellLed}
-use Rattle.monk_world.specs.Board.{WorldView, state_of, view_in}
+use Rattle.monk_world.specs.Board.{WorldView, state_of_view, view_in}
 use Rattle.monk_world.proofs.RunLaws.{well_led}
 
 pub returns-clause-legal : goal.returns-clause-legal
@@ -12,5 +12,5 @@ returns-clause-legal g c = subst (λ (v : WorldView). IsLegal (monitor_of g.K.Ki
 pub returns-clause-well_led : goal.returns-clause-well_led
 returns-clause-well_led g c =
     let h = c.self.invariant.sound in
-    subst (λ (v : WorldView). IsWellLed g.K.Kind.rules g.T.Guarded.meaning (state_of v)) c.self.view_is
-    (well_led g.K.Kind.rules g.T.Guarded.meaning (state_of (view_in c.self.inside.words c.self.inside.floor)) h.right h.owner h.is_sound)
+    subst (λ (v : WorldView). IsWellLed g.K.Kind.rules g.T.Guarded.meaning (state_of_view v)) c.self.view_is
+    (well_led g.K.Kind.rules g.T.Guarded.meaning (state_of_view (view_in c.self.inside.words c.self.inside.floor)) h.right h.owner h.is_sound)

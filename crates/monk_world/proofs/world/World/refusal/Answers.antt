@@ -11,16 +11,16 @@ use Rattle.monk_world.proofs.WorldLaws as world
 use Rattle.monk_world.proofs.world.World.refusal.Goals as goal
 use Rattle.monk_world.specs.Telling as telling
 use Rattle.std.specs.Prelude.{slice_index_or, nat_lt, ◌&&◌, false}
-use Rattle.monk_world.specs.Board.{state_of}
+use Rattle.monk_world.specs.Board.{state_of_view}
 use Rattle.monk_world.specs.declared.place.Place.{Place}
 
 reach : (o : Object) (f : FloorView) (seat : ℕ) (c : Command) (conds codes predicates : ℕ) → nat_lt seat f.seats ≡ true → conds ≡ f.conds → o.codes ≡ codes → o.predicates ≡ predicates
-    → telling.is_in_range conds codes predicates c ≡ true → (nat_lt seat f.seats && is_call_in_range o f (call_of seat c)) ≡ true
+    → telling.is_command_in_range conds codes predicates c ≡ true → (nat_lt seat f.seats && is_call_in_range o f (call_of seat c)) ≡ true
 reach o f seat c conds codes predicates here same_conds same_codes same_predicates fits =
-    world.reaches o f seat c here (ap (λ (n : ℕ). telling.is_in_range n o.codes o.predicates c) (sym same_conds)
-    ∙ (ap (λ (n : ℕ). telling.is_in_range conds n o.predicates c) same_codes ∙ (ap (λ (n : ℕ). telling.is_in_range conds codes n c) same_predicates ∙ fits)))
+    world.reaches o f seat c here (ap (λ (n : ℕ). telling.is_command_in_range n o.codes o.predicates c) (sym same_conds)
+    ∙ (ap (λ (n : ℕ). telling.is_command_in_range conds n o.predicates c) same_codes ∙ (ap (λ (n : ℕ). telling.is_command_in_range conds codes n c) same_predicates ∙ fits)))
 
-offers : (k : Rules) (i : ℕ) (c : Command) → telling.is_offered k.mode c ≡ true → is_call_offered k (call_of i c) ≡ true
+offers : (k : Rules) (i : ℕ) (c : Command) → telling.is_command_offered k.mode c ≡ true → is_call_offered k (call_of i c) ≡ true
 offers k i command.Arrive e = refl
 offers k i command.Look e = refl
 offers k i command.Out e = refl
@@ -38,7 +38,7 @@ pub returns-then-not-may_be_told : goal.returns-then-not-may_be_told
 returns-then-not-may_be_told g c =
     let told : c.may_be_told.result ≡ may_be_told (slice_index_or c.self.inside.words.places.items c.args.seat place.Idle) c.args.command =
     c.may_be_told.ensures ∙ ap (λ (p : Place). may_be_told p c.args.command) c.place.ensures in
-    let s = state_of c.args.self.now in
+    let s = state_of_view c.args.self.now in
     let here : nat_lt c.args.seat s.floor.seats ≡ true = grind arith in
     let conds : c.self.inside.conds ≡ s.floor.conds = grind arith in
     let passed : c.is_in_range.result ≡ true = search rules in
@@ -52,13 +52,13 @@ pub returns : goal.returns
 returns g c =
     let told : c.may_be_told.result ≡ may_be_told (slice_index_or c.self.inside.words.places.items c.args.seat place.Idle) c.args.command =
     c.may_be_told.ensures ∙ ap (λ (p : Place). may_be_told p c.args.command) c.place.ensures in
-    let s = state_of c.args.self.now in
+    let s = state_of_view c.args.self.now in
     let here : nat_lt c.args.seat s.floor.seats ≡ true = grind arith in
     let conds : c.self.inside.conds ≡ s.floor.conds = grind arith in
     let passed : c.is_in_range.result ≡ true = search rules in
     let open_to : c.is_offered.result ≡ true = search rules in
     let offered : is_call_offered g.K.Kind.rules (call_of c.args.seat c.args.command) ≡ true =
-    offers g.K.Kind.rules c.args.seat c.args.command (ap (λ (k : Rules). telling.is_offered k.mode c.args.command) (sym c.rules_of.ensures) ∙ (sym c.is_offered.ensures ∙ open_to)) in
+    offers g.K.Kind.rules c.args.seat c.args.command (ap (λ (k : Rules). telling.is_command_offered k.mode c.args.command) (sym c.rules_of.ensures) ∙ (sym c.is_offered.ensures ∙ open_to)) in
     let yes : may_be_told (s.world.place c.args.seat) c.args.command ≡ true = grind (arith, told) in
     let enough : left_for c.args.command ≤ left_of s.floor.budget s.floor.history c.args.seat = grind arith in
     world.not_refused g.K.Kind.rules g.T.Guarded.meaning s c.args.seat c.args.command
