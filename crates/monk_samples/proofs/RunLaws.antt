@@ -21,9 +21,9 @@ use Rattle.monk_history.specs.Meaning.Monitor.{Monitor, monitor, data_of}
 use Rattle.monk_history.specs.Meaning.Named.{named_monitor}
 use Rattle.monk_history.specs.Limits.{most_seats, most_conds}
 use Rattle.monk_history.specs.Text.{Heading}
-use Rattle.monk_history.specs.Text.Reading.{run_heading as read_heading}
+use Rattle.monk_history.specs.Text.Reading.{heading_of}
 use Rattle.monk_history.specs.declared.event.Event.{Event}
-use Rattle.monk_floor.specs.View.{FloorView, named_monitor}
+use Rattle.monk_floor.specs.View.{FloorView, monitor_of}
 use Rattle.monk_hall.specs.Closing.{IsEnded}
 use Rattle.monk_hall.specs.Layout.{floor_of}
 use Rattle.monk_hall.specs.Rule.{setting_of}
@@ -79,7 +79,7 @@ few_events seats rounds n s r l =
 pub closed_by : (k : Rules) (o : Object) (b c : Setting) (a : Holder) (before h : List Event) (state : List ℕ) → b ≡ c → a.floor ≡ floor_of b before → IsEnded k o a h state → IsClosed k o c h
 closed_by k o b c a before h state s f e =
     let floor : a.floor ≡ floor_of c before = f ∙ ap (λ (x : Setting). floor_of x before) s in record {
-      legal = subst (λ (x : FloorView). IsLegal (named_monitor k o x) h) floor e.legal;
+      legal = subst (λ (x : FloorView). IsLegal (monitor_of k o x) h) floor e.legal;
       few = subst (λ (x : FloorView). length h ≤ x.seats * x.budget) floor e.few;
     }
 
@@ -106,7 +106,7 @@ unfolding is_there there
 some_is true x y e = ap (there x) e
 some_is false x y e = absurd (false≢true (sym (ap is_there e)))
 
-pub header_is : (k : KindName) (sample : Sample) (seats conds : ℕ) (h : Heading) → Some h ≡ read_heading k seats conds (sample_object sample) size → conds ≡ conds_of (rules_named k) → h ≡ run_heading k sample seats
+pub header_is : (k : KindName) (sample : Sample) (seats conds : ℕ) (h : Heading) → Some h ≡ heading_of k seats conds (sample_object sample) size → conds ≡ conds_of (rules_named k) → h ≡ run_heading k sample seats
 header_is k sample seats conds h e c =
     some_is (nat_le 1 seats && nat_le seats most_seats && nat_le conds most_conds && nat_le 1 size) (record { kind = k; seats = seats; conds = conds; object = sample_object sample; size = size }) h e
     ∙ ap (λ n. record { kind = k; seats = seats; conds = n; object = sample_object sample; size = size }) c
