@@ -31,6 +31,11 @@ pub record IsRelease (k : Rules) (o : Object) (r : SeatRecord) (f : FloorView) (
   pub chosen : choice ≡ choice_of k o (stands_of k o f) call known wish
   pub is_grown : IsGrown k o f (with_next choice call) g
 
+-- the active seat `a`, taken apart, with nothing recorded yet
+pub record IsApart {K T : Type 0} (k : Rules) (o : Object) (a : Holder) (r : Release K T) : Type 0 where
+  pub holds : IsHolding k o r.seat.table_id r.seat.me r.number r.calls r.floor
+  pub was : holder r.seat.table_id (the r.seat.me.0) r.floor ≡ a
+
 -- the active seat `a`, taken apart, with this call recorded in its floor
 pub record HasRecorded {K T : Type 0} (k : Rules) (o : Object) (a : Holder) (call : ℕ → Event) (wish : Pick) (known : Bool) (to : Home) (r : Release K T) : Type 0 where
   pub before : FloorView

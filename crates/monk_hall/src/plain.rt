@@ -51,20 +51,9 @@ impl<K: Kind, T: Guarded> Active<K, T> {
         ensures recorded { HasRecorded K.rules T.meaning self (λ n. Event.Wait n cond Next.Stay) pick known home.Inner result }
         ensures away { is_stay (Some result.choice) ≡ false }
     {
-        let Active {
-            seat,
-            number,
-            calls,
-            mut floor,
-        } = self;
-        let choice = floor.plain_wait(number, cond, pick, known);
-        Release {
-            seat,
-            number,
-            calls,
-            floor,
-            choice,
-        }
+        let mut release = Release::of(self);
+        release.choice = release.floor.plain_wait(release.number, cond, pick, known);
+        release
     }
 
     /// Signals a condition variable, under a kind with a signaller queue.
@@ -89,20 +78,11 @@ impl<K: Kind, T: Guarded> Active<K, T> {
         ensures table { result.seat.table_id ≡ self.hall }
         ensures recorded { HasRecorded K.rules T.meaning self (λ n. Event.Signal n cond Next.Stay) pick known home.Inner result }
     {
-        let Active {
-            seat,
-            number,
-            calls,
-            mut floor,
-        } = self;
-        let choice = floor.plain_signal(number, cond, pick, known);
-        Release {
-            seat,
-            number,
-            calls,
-            floor,
-            choice,
-        }
+        let mut release = Release::of(self);
+        release.choice = release
+            .floor
+            .plain_signal(release.number, cond, pick, known);
+        release
     }
 
     /// Signals a condition variable and leaves, under a kind of immediate return.
@@ -127,20 +107,11 @@ impl<K: Kind, T: Guarded> Active<K, T> {
         ensures recorded { HasRecorded K.rules T.meaning self (λ n. Event.SignalLeave n cond Next.Stay) pick known home.Idle result }
         ensures away { is_stay (Some result.choice) ≡ false }
     {
-        let Active {
-            seat,
-            number,
-            calls,
-            mut floor,
-        } = self;
-        let choice = floor.plain_signal_leave(number, cond, pick, known);
-        Release {
-            seat,
-            number,
-            calls,
-            floor,
-            choice,
-        }
+        let mut release = Release::of(self);
+        release.choice = release
+            .floor
+            .plain_signal_leave(release.number, cond, pick, known);
+        release
     }
 
     /// Waits until a predicate holds of the data, under an automatic kind.
@@ -165,19 +136,8 @@ impl<K: Kind, T: Guarded> Active<K, T> {
         ensures table { result.seat.table_id ≡ self.hall }
         ensures recorded { HasRecorded K.rules T.meaning self (λ n. Event.Until n pred Next.Stay) pick known home.Inner result }
     {
-        let Active {
-            seat,
-            number,
-            calls,
-            mut floor,
-        } = self;
-        let choice = floor.plain_until(number, pred, pick, known);
-        Release {
-            seat,
-            number,
-            calls,
-            floor,
-            choice,
-        }
+        let mut release = Release::of(self);
+        release.choice = release.floor.plain_until(release.number, pred, pick, known);
+        release
     }
 }

@@ -2,7 +2,7 @@
 ghost use Rattle.std.specs.Prelude.{◌≡◌, false, Some};
 ghost use Rattle.monk_history.specs.Meaning.Events.{is_stay};
 ghost use Rattle.monk_world.specs.declared.home.Home.TheVariants as home;
-ghost use Rattle.monk_hall.specs.Recorded.{IsRecorded, GoesOutside, GoesInside, GoesOnOrInside};
+ghost use Rattle.monk_hall.specs.Recorded.{IsApart, IsRecorded, GoesOutside, GoesInside, GoesOnOrInside};
 
 use crate::active::Active;
 use crate::after::After;
@@ -29,6 +29,25 @@ pub struct Release<K: Kind, T: Guarded> {
 }
 
 impl<K: Kind, T: Guarded> Release<K, T> {
+    /// The active seat, taken apart, before its release.
+    pub(crate) fn of(active: Active<K, T>) -> Release<K, T>
+        ensures { IsApart K.rules T.meaning active result }
+    {
+        let Active {
+            seat,
+            number,
+            calls,
+            floor,
+        } = active;
+        Release {
+            seat,
+            number,
+            calls,
+            floor,
+            choice: Next::Stay,
+        }
+    }
+
     /// The seat leaves the monitor.
     pub(crate) fn go_outside(self, hall: &Hall<K, T>) -> Pass<K, T>
         requires table { self.seat.table_id ≡ hall.now.id }

@@ -72,20 +72,9 @@ impl<K: Kind, T: Guarded> Active<K, T> {
         ensures recorded { HasRecorded K.rules T.meaning self (λ n. Event.Leave n Next.Stay) pick known home.Idle result }
         ensures away { is_stay (Some result.choice) ≡ false }
     {
-        let Active {
-            seat,
-            number,
-            calls,
-            mut floor,
-        } = self;
-        let choice = floor.leave(number, pick, known);
-        Release {
-            seat,
-            number,
-            calls,
-            floor,
-            choice,
-        }
+        let mut release = Release::of(self);
+        release.choice = release.floor.leave(release.number, pick, known);
+        release
     }
 }
 
@@ -117,20 +106,9 @@ impl<K: Conditional, T: Guarded> Active<K, T> {
         ensures recorded { HasRecorded K.rules T.meaning self (λ n. Event.Wait n cond Next.Stay) pick known home.Inner result }
         ensures away { is_stay (Some result.choice) ≡ false }
     {
-        let Active {
-            seat,
-            number,
-            calls,
-            mut floor,
-        } = self;
-        let choice = floor.wait(number, cond, pick, known);
-        Release {
-            seat,
-            number,
-            calls,
-            floor,
-            choice,
-        }
+        let mut release = Release::of(self);
+        release.choice = release.floor.wait(release.number, cond, pick, known);
+        release
     }
 }
 
@@ -164,20 +142,9 @@ impl<K: Explicit, T: Guarded> Active<K, T> {
         ensures table { result.seat.table_id ≡ self.hall }
         ensures recorded { HasRecorded K.rules T.meaning self (λ n. Event.Signal n cond Next.Stay) pick known home.Inner result }
     {
-        let Active {
-            seat,
-            number,
-            calls,
-            mut floor,
-        } = self;
-        let choice = floor.signal(number, cond, pick, known);
-        Release {
-            seat,
-            number,
-            calls,
-            floor,
-            choice,
-        }
+        let mut release = Release::of(self);
+        release.choice = release.floor.signal(release.number, cond, pick, known);
+        release
     }
 }
 
@@ -223,20 +190,11 @@ impl<K: ImmediateReturn, T: Guarded> Active<K, T> {
         ensures recorded { HasRecorded K.rules T.meaning self (λ n. Event.SignalLeave n cond Next.Stay) pick known home.Idle result }
         ensures away { is_stay (Some result.choice) ≡ false }
     {
-        let Active {
-            seat,
-            number,
-            calls,
-            mut floor,
-        } = self;
-        let choice = floor.signal_leave(number, cond, pick, known);
-        Release {
-            seat,
-            number,
-            calls,
-            floor,
-            choice,
-        }
+        let mut release = Release::of(self);
+        release.choice = release
+            .floor
+            .signal_leave(release.number, cond, pick, known);
+        release
     }
 }
 
@@ -269,19 +227,8 @@ impl<K: Automatic, T: Guarded> Active<K, T> {
         ensures table { result.seat.table_id ≡ self.hall }
         ensures recorded { HasRecorded K.rules T.meaning self (λ n. Event.Until n pred Next.Stay) pick known home.Inner result }
     {
-        let Active {
-            seat,
-            number,
-            calls,
-            mut floor,
-        } = self;
-        let choice = floor.until(number, pred, pick, known);
-        Release {
-            seat,
-            number,
-            calls,
-            floor,
-            choice,
-        }
+        let mut release = Release::of(self);
+        release.choice = release.floor.until(release.number, pred, pick, known);
+        release
     }
 }

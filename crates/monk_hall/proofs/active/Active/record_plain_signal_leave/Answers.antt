@@ -3,30 +3,30 @@ use Rattle.monk_floor.specs.View.{monitor_of}
 use Rattle.monk_hall.proofs.ReleaseLaws.{has_cond, is_near, owns, signal_leave_goes, signals_and_leaves}
 use Rattle.monk_hall.proofs.active.Active.record_plain_signal_leave.Goals as goal
 
-pub plain_signal_leave-choice-requires-clause-call : goal.plain_signal_leave-choice-requires-clause-call
-plain_signal_leave-choice-requires-clause-call g c κs within =
-    let h = c.self.invariant in
-    let f = c.self.inside.floor in
-    may_signal_leave (monitor_of g.K.Kind.rules g.T.Guarded.meaning f) f.history c.self.inside.number c.args.cond (owns h) (is_near h)
-    (has_cond h c.args.cond c.args.self c.self.view_is c.requires.cond)
+pub plain_signal_leave-release-requires-clause-call : goal.plain_signal_leave-release-requires-clause-call
+plain_signal_leave-release-requires-clause-call g c κs within =
+    let h = c.of-release.ensures.holds in
+    let f = c.of-release.result.floor in
+    may_signal_leave (monitor_of g.K.Kind.rules g.T.Guarded.meaning f) f.history c.of-release.result.number c.args.cond (owns h) (is_near h)
+    (has_cond h c.args.cond c.args.self c.of-release.ensures.was c.requires.cond)
     (c.requires.mode)
 
 pub returns-clause-recorded : goal.returns-clause-recorded
 returns-clause-recorded g c =
-    let h = c.self.invariant in
-    let call = c.plain_signal_leave-choice in
+    let h = c.of-release.ensures.holds in
+    let call = c.plain_signal_leave-release in
     record {
-      before = c.self.inside.floor;
+      before = c.of-release.result.floor;
       holds = h;
-      was = c.self.view_is;
-      release = signals_and_leaves h c.args.cond (has_cond h c.args.cond c.args.self c.self.view_is c.requires.cond)
+      was = c.of-release.ensures.was;
+      release = signals_and_leaves h c.args.cond (has_cond h c.args.cond c.args.self c.of-release.ensures.was c.requires.cond)
           (c.requires.mode)
-          c.args.pick c.args.known call.result call.new.self c.args.self c.self.view_is (c.requires.known)
+          c.args.pick c.args.known call.result call.new.self c.args.self c.of-release.ensures.was (c.requires.known)
           call.ensures.choice call.ensures.grown;
     }
 
 pub returns-clause-away : goal.returns-clause-away
 returns-clause-away g c =
-    let f = c.self.inside.floor in
-    let call = c.plain_signal_leave-choice in
-    signal_leave_goes (monitor_of g.K.Kind.rules g.T.Guarded.meaning f) f.history c.self.inside.number c.args.cond call.result call.ensures.grown.allowed
+    let f = c.of-release.result.floor in
+    let call = c.plain_signal_leave-release in
+    signal_leave_goes (monitor_of g.K.Kind.rules g.T.Guarded.meaning f) f.history c.of-release.result.number c.args.cond call.result call.ensures.grown.allowed

@@ -6,24 +6,24 @@ use Rattle.monk_floor.specs.View.{monitor_of}
 use Rattle.monk_hall.proofs.ReleaseLaws.{is_near, must_known, owns, waits_until}
 use Rattle.monk_hall.proofs.active.Active.record_plain_until.Goals as goal
 
-pub plain_until-choice-requires-clause-call : goal.plain_until-choice-requires-clause-call
-plain_until-choice-requires-clause-call g c κs within =
-    let h = c.self.invariant in
-    let f = c.self.inside.floor in
-    may_until (monitor_of g.K.Kind.rules g.T.Guarded.meaning f) f.history c.self.inside.number c.args.pred (owns h) (is_near h)
+pub plain_until-release-requires-clause-call : goal.plain_until-release-requires-clause-call
+plain_until-release-requires-clause-call g c κs within =
+    let h = c.of-release.ensures.holds in
+    let f = c.of-release.result.floor in
+    may_until (monitor_of g.K.Kind.rules g.T.Guarded.meaning f) f.history c.of-release.result.number c.args.pred (owns h) (is_near h)
     (subst (λ n. c.args.pred < n) (sym g.T.Guarded.predicates) c.requires.pred)
     (ap not c.requires.mode)
 
 pub returns-clause-recorded : goal.returns-clause-recorded
 returns-clause-recorded g c =
-    let h = c.self.invariant in
-    let call = c.plain_until-choice in
+    let h = c.of-release.ensures.holds in
+    let call = c.plain_until-release in
     record {
-      before = c.self.inside.floor;
+      before = c.of-release.result.floor;
       holds = h;
-      was = c.self.view_is;
+      was = c.of-release.ensures.was;
       release = waits_until h c.args.pred (subst (λ n. c.args.pred < n) (sym g.T.Guarded.predicates) c.requires.pred)
           (ap not c.requires.mode)
-          c.args.pick c.args.known call.result call.new.self c.args.self c.self.view_is c.requires.left (must_known h c.args.self c.self.view_is (λ n. Until n c.args.pred Stay) c.requires.known)
+          c.args.pick c.args.known call.result call.new.self c.args.self c.of-release.ensures.was c.requires.left (must_known h c.args.self c.of-release.ensures.was (λ n. Until n c.args.pred Stay) c.requires.known)
           call.ensures.choice call.ensures.grown;
     }

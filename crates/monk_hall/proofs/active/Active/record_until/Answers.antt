@@ -7,24 +7,24 @@ use Rattle.monk_floor.specs.View.{monitor_of}
 use Rattle.monk_hall.proofs.ReleaseLaws.{is_near, must_known, owns, waits_until}
 use Rattle.monk_hall.proofs.active.Active.record_until.Goals as goal
 
-pub until-choice-requires-clause-call : goal.until-choice-requires-clause-call
-until-choice-requires-clause-call g c κs within =
-    let h = c.self.invariant in
-    let f = c.self.inside.floor in
-    may_until (monitor_of g.K.Kind.rules g.T.Guarded.meaning f) f.history c.self.inside.number c.args.pred (owns h) (is_near h)
+pub until-release-requires-clause-call : goal.until-release-requires-clause-call
+until-release-requires-clause-call g c κs within =
+    let h = c.of-release.ensures.holds in
+    let f = c.of-release.result.floor in
+    may_until (monitor_of g.K.Kind.rules g.T.Guarded.meaning f) f.history c.of-release.result.number c.args.pred (owns h) (is_near h)
     (subst (λ n. c.args.pred < n) (sym g.T.Guarded.predicates) c.requires.pred)
     (ap (λ m. not (has_conditions m)) (sym (ap (λ r. r.mode) g.K.Kind.are_rules) ∙ (g.met.K.Automatic g.world.𝓛 g.world.𝓜 g.world.𝓡 ((λ s x. x), (λ x. x), (λ x. x), λ x. x)).mode))
 
 pub returns-clause-recorded : goal.returns-clause-recorded
 returns-clause-recorded g c =
-    let h = c.self.invariant in
-    let call = c.until-choice in
+    let h = c.of-release.ensures.holds in
+    let call = c.until-release in
     record {
-      before = c.self.inside.floor;
+      before = c.of-release.result.floor;
       holds = h;
-      was = c.self.view_is;
+      was = c.of-release.ensures.was;
       release = waits_until h c.args.pred (subst (λ n. c.args.pred < n) (sym g.T.Guarded.predicates) c.requires.pred)
           (ap (λ m. not (has_conditions m)) (sym (ap (λ r. r.mode) g.K.Kind.are_rules) ∙ (g.met.K.Automatic g.world.𝓛 g.world.𝓜 g.world.𝓡 ((λ s x. x), (λ x. x), (λ x. x), λ x. x)).mode))
-          c.args.pick c.args.known call.result call.new.self c.args.self c.self.view_is c.requires.left (must_known h c.args.self c.self.view_is (λ n. Until n c.args.pred Stay) c.requires.known)
+          c.args.pick c.args.known call.result call.new.self c.args.self c.of-release.ensures.was c.requires.left (must_known h c.args.self c.of-release.ensures.was (λ n. Until n c.args.pred Stay) c.requires.known)
           call.ensures.choice call.ensures.grown;
     }
