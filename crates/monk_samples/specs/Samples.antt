@@ -38,7 +38,8 @@ abbrev pub IsInRange : ℕ → ℕ → Type 0
 IsInRange seats rounds = (2 ≤ seats) × (seats ≤ 16) × (1 ≤ rounds) × (rounds ≤ 1000)
 
 abbrev pub run_heading : KindName → Sample → ℕ → Heading
-run_heading k sample seats = record { kind = k; seats = seats; conds = conds_of (rules_named k); object = sample_object sample; size = size }
+run_heading k sample seats =
+    record { kind = k; seats = seats; conds = conds_of (rules_named k); object = sample_object sample; size = size }
 
 -- the law of the sample's object holds of the acts of the history
 abbrev pub KeepsLaw : Sample → List ℕ → List Event → Type 0
