@@ -30,7 +30,7 @@ outside : (m : Monitor) (h : List Event) (s : ℕ) → IsLegal m h → turn h �
 outside m h s l t q =
     inside_by (is_inside s h) (is_queued m.conds s (situation m h))
     (subst (λ (u : Turn). (is_inside s h && not (nat_lt 0 (has_turn s u))) ≡ is_queued m.conds s (situation m h)) t
-        (queued_is m.conds s (situation m h) (legal_placed m h l))) q
+    (queued_is m.conds s (situation m h) (legal_placed m h l))) q
 
 pub may_be_handed : (m : Monitor) (h : List Event) (s : ℕ) → IsLegal m h → turn h ≡ Open → s < m.seats
     → is_queued m.conds s (situation m h) ≡ false → not (is_empty h) ≡ true → MayCall m h (Enter s Handed)

@@ -74,7 +74,7 @@ module _ (known : Option (List ℕ)) (bytes : List ℕ) (status : ℕ) (Puts : L
 
   pub history_known : IfSome known (λ input. bytes ≡ input) → IsAnswerTo bytes status Puts
       → IfSome known (λ input. (h : Heading) (budget : ℕ) (cs : List (ℕ × Command)) → IsPlayOf input h budget cs
-          → IsPlayed h budget cs Puts)
+      → IsPlayed h budget cs Puts)
   history_known same a =
       on_known (λ input. (h : Heading) (budget : ℕ) (cs : List (ℕ × Command)) → IsPlayOf input h budget cs → IsPlayed h budget cs Puts) same
       (λ h budget cs t. (answer_of bytes status Puts h budget cs t a).1)

@@ -22,7 +22,7 @@ asked_in (Some p) word rows l w r is =
 -- the number that is read by `get_one`
 pub number_read : (E : Type 0) (G : List ℕ → Result ℕ E → Type 0) (bits v : ℕ) (name : Text) (f : Found)
     → ((u : List ℕ) (x : Result ℕ E) → G u x → ParsesUnsigned bits 10 u x) → (one_text f name ≡ None → Some v ≡ None)
-        → ((t : List ℕ) → one_text f name ≡ Some t → G t (Ok v))
+    → ((t : List ℕ) → one_text f name ≡ Some t → G t (Ok v))
     → HasNumber name v (rows_of f)
 number_read E G bits v name f only none value = go (one_text f name) refl
   where

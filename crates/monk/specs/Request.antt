@@ -44,7 +44,7 @@ samples = Buffer ∷ Book ∷ Shop ∷ []
 abbrev pub run_app : NameList → NameList → App
 run_app k s =
     with_rule (with_rule (with_rule (with_rule (new_app (codes "run")) (required_rule (codes "KIND") (Names k)))
-        (required_rule (codes "SAMPLE") (Names s)))
+    (required_rule (codes "SAMPLE") (Names s)))
     (required_rule (codes "SEATS") (Signed (pos 2) (pos 16)))) (required_rule (codes "ROUNDS") (Signed (pos 1) (pos 1000)))
 
 -- the lists have exactly the names of the kinds and of the samples
@@ -65,8 +65,8 @@ bare_app = record (new_app (codes "monk")) { top = record (new_app (codes "monk"
 abbrev pub monk_app : NameList → NameList → App
 monk_app k s =
     with_subcommand (with_subcommand
-        (with_subcommand (with_subcommand bare_app classify_app.top) (file_app (codes "audit")).top)
-        (file_app (codes "play")).top) (run_app k s).top
+    (with_subcommand (with_subcommand bare_app classify_app.top) (file_app (codes "audit")).top)
+    (file_app (codes "play")).top) (run_app k s).top
 
 -- the command line of the program
 pub record IsMonk (a : App) : Type 0 where

@@ -41,7 +41,7 @@ unfolding verdict_from verdict_at
 from_here m past [] l = refl
 from_here m past (e ∷ es) l =
     by_reason m past es e (reason_of m past e == 0) (verdict_from m (past ++ e ∷ []) es)
-        (verdict_at m (length past + 1) (after m.object (situation m past) e) es) refl
+    (verdict_at m (length past + 1) (after m.object (situation m past) e) es) refl
     (λ z. from_here m (past ++ e ∷ []) es (legal-push m past e l (allowed_from_reason m (situation m past) e z))
     ∙ (ap (λ n. verdict_at m n (situation m (past ++ e ∷ [])) es) (sym (more_count past e))
     ∙ ap (λ t. verdict_at m (length past + 1) t es) (legal_situation-push m past e l)))
@@ -87,7 +87,7 @@ pub judged_more : (m : Monitor) (n r : ℕ) (t u : Situation) (e : Event) (read 
     → verdict_read m n t read ≡ total → verdict_read m (n + 1) u new ≡ total
 judged_more m n r t u e read new total more is zero_is step so_far =
     ap (λ x. verdict_read m (n + 1) x new) step
-        ∙ (sym (allowed_read m n t e new (sym is ∙ zero_is)) ∙ (ap (verdict_read m n t) (sym more) ∙ so_far))
+    ∙ (sym (allowed_read m n t e new (sym is ∙ zero_is)) ∙ (ap (verdict_read m n t) (sym more) ∙ so_far))
 
 forbidden_verdict : (m : Monitor) (n : ℕ) (t : Situation) (e : Event) (es : List Event) (b : Bool)
     → (reason_in m t e == 0) ≡ b → reason_in m t e ≢ 0
@@ -109,15 +109,15 @@ forbidden_then : (m : Monitor) (n r : ℕ) (t : Situation) (e : Event) (read new
     → verdict_read m n t read ≡ total → total ≡ (read_through new >>= λ _. Ok (Forbidden (n + 1) r))
 forbidden_then m n r t e read new total more is some so_far =
     sym so_far ∙ (ap (verdict_read m n t) more
-        ∙ (forbidden_read m n t e new (λ z. some (is ∙ z))
-        ∙ ap (λ x. read_through new >>= λ _. Ok (Forbidden (n + 1) x)) (sym is)))
+    ∙ (forbidden_read m n t e new (λ z. some (is ∙ z))
+    ∙ ap (λ x. read_through new >>= λ _. Ok (Forbidden (n + 1) x)) (sym is)))
 
 pub judged_forbidden : (m : Monitor) (n r : ℕ) (t : Situation) (e : Event) (read new : Result (List Event) ReadFault)
     (total : Result Verdict ReadFault) → read ≡ (new >>= λ es. Ok (e ∷ es)) → r ≡ reason_in m t e → r ≢ 0
     → verdict_read m n t read ≡ total → Ok tt ≡ read_through new → total ≡ Ok (Forbidden (n + 1) r)
 judged_forbidden m n r t e read new total more is some so_far through =
     forbidden_then m n r t e read new total more is some so_far
-        ∙ ap (λ (x : Result (Unit {0}) ReadFault). x >>= λ _. Ok (Forbidden (n + 1) r)) (sym through)
+    ∙ ap (λ (x : Result (Unit {0}) ReadFault). x >>= λ _. Ok (Forbidden (n + 1) r)) (sym through)
 
 pub judged_unreadable : (m : Monitor) (n r : ℕ) (t : Situation) (e : Event) (read new : Result (List Event) ReadFault)
     (total : Result Verdict ReadFault) (f : ReadFault) → read ≡ (new >>= λ es. Ok (e ∷ es)) → r ≡ reason_in m t e
@@ -125,7 +125,7 @@ pub judged_unreadable : (m : Monitor) (n r : ℕ) (t : Situation) (e : Event) (r
     → verdict_read m n t read ≡ total → Err f ≡ read_through new → total ≡ Err f
 judged_unreadable m n r t e read new total f more is some so_far through =
     forbidden_then m n r t e read new total more is some so_far
-        ∙ ap (λ (x : Result (Unit {0}) ReadFault). x >>= λ _. Ok (Forbidden (n + 1) r)) (sym through)
+    ∙ ap (λ (x : Result (Unit {0}) ReadFault). x >>= λ _. Ok (Forbidden (n + 1) r)) (sym through)
 
 -- the reason that a replay gives is that of the monitor
 pub reason_there : (k : Rules) (seats n conds : ℕ) (o : Object) (d : List ℕ) (t : Situation) (e : Event) (r : ℕ)
@@ -151,7 +151,7 @@ pub opened_text : (bytes : List ℕ) (h : Heading) (left : LinesLeft)
     → text_verdict bytes ≡ lines_verdict h (items_left event_at left)
 opened_text bytes h left opened =
     ap (λ r. r >>= λ x. Ok (history_verdict x)) (lines_behind header_at event_under (2 ^ 25) (lines_of bytes)
-        ∙ ap (behind event_under) (sym opened)) ∙ behind_verdict h (items_left event_at left)
+    ∙ ap (behind event_under) (sym opened)) ∙ behind_verdict h (items_left event_at left)
 
 pub not_opened_text : (bytes : List ℕ) (f : ReadFault) → Err f ≡ opened_at header_at (2 ^ 25) (lines_of bytes) → text_verdict bytes ≡ Err f
 not_opened_text bytes f bad =

@@ -104,8 +104,8 @@ module _ {m : Monitor} {budget : ℕ} {h : List Event} {capacity : ℕ} {q : Que
   places_kept kept k e a =
       let o = in_order kept k in
       let room = room_for m (situation m h) (seat_of e)
-          (seat_in_range m.seats m.conds m.object.codes m.object.predicates e a.in_range) o.placed o.seated
-          (caller_apart m (situation m h) e o.placed a.in_turn a.in_place) in
+      (seat_in_range m.seats m.conds m.object.codes m.object.predicates e a.in_range) o.placed o.seated
+      (caller_apart m (situation m h) e o.placed a.in_turn a.in_place) in
       let here = subst (HasRoom m.seats m.conds) (sym kept.stands) room in
       record {
         conditions = λ c l. omega (arith, kept.few, here.conditions c (omega (arith, l, kept.conds)));
@@ -122,7 +122,7 @@ module _ {m : Monitor} {budget : ℕ} {h : List Event} {capacity : ℕ} {q : Que
         (subst (λ t. in_queues m.conds s t ≤ 1) (sym kept.stands) (queued_once m h kept.legal s));
     apart = subst (λ n. in_queues n (seat_of e) (shown_situation q state turn inside (not (is_empty h))) ≡ 0) (sym kept.conds)
         (subst (λ t. in_queues m.conds (seat_of e) t ≡ 0) (sym kept.stands)
-            (caller_unqueued m (situation m h) e (in_order kept k).placed a));
+        (caller_unqueued m (situation m h) e (in_order kept k).placed a));
   }
 
   few_kept : KeepsHistory m budget h capacity q state turn inside spent granted entered → (e : Event) → IsAllowed m h e
@@ -132,7 +132,7 @@ module _ {m : Monitor} {budget : ℕ} {h : List Event} {capacity : ℕ} {q : Que
       let low = kept.low in
       few_events m.seats budget (length h) kept.few (grind (arith, low))
       (room_left m.seats budget (seat_of e) h s
-          (λ j n. sym (kept.counts j) ∙ past_none spent j (omega (arith, n, kept.spent_seats))) kept.within l)
+      (λ j n. sym (kept.counts j) ∙ past_none spent j (omega (arith, n, kept.spent_seats))) kept.within l)
 
   pub is_ready : KeepsHistory m budget h capacity q state turn inside spent granted entered → IsKind m.kind
       → (e : Event) → IsAllowed m h e → length (events_of h (seat_of e)) < budget
@@ -166,7 +166,7 @@ module _ {m : Monitor} {budget : ℕ} {h : List Event} {capacity : ℕ} {q : Que
   has_room kept e a l =
       let s = seat_in_range m.seats m.conds m.object.codes m.object.predicates e a.in_range in
       let r = room_left m.seats budget (seat_of e) h s
-          (λ j n. sym (kept.counts j) ∙ past_none spent j (omega (arith, n, kept.spent_seats))) kept.within l in
+      (λ j n. sym (kept.counts j) ∙ past_none spent j (omega (arith, n, kept.spent_seats))) kept.within l in
       let c = kept.room in omega (arith, r, c)
 
   -- what is kept after an event that is allowed
@@ -177,14 +177,14 @@ module _ {m : Monitor} {budget : ℕ} {h : List Event} {capacity : ℕ} {q : Que
       → ((j : ℕ) → slice_index_or inside2 j false ≡ (slice_index_or inside j false && not (is_exit_of j e)) || is_enter_of j e)
       → ((j : ℕ) → slice_index_or spent2 j 0 ≡ slice_index_or spent j 0 + cond (seat_of e == j) 1 0)
       → ((j : ℕ) → slice_index_or granted2 j 0 ≡ slice_index_or granted j 0 + cond (grants j e) 1 0)
-          → entered2 ≡ entered + cond (is_enter e) 1 0 → length granted2 ≡ length granted
+      → entered2 ≡ entered + cond (is_enter e) 1 0 → length granted2 ≡ length granted
       → length inside2 ≡ length inside → length spent2 ≡ length spent
       → KeepsHistory m budget (h ++ e ∷ []) capacity2 q2 state2 turn2 inside2 spent2 granted2 entered2
   kept_push kept e a l capacity2 q2 state2 turn2 inside2 spent2 granted2 entered2 cap moved st tu ins sp gr en lg li ls = record {
     legal = legal-push m h e kept.legal a;
     stands =
         same_situation (shown_situation q2 state2 turn2 inside2 (not (is_empty (h ++ e ∷ []))))
-            (after m.object (shown_situation q state turn inside (not (is_empty h))) e)
+        (after m.object (shown_situation q state turn inside (not (is_empty h))) e)
         moved.condition moved.waiters moved.signallers moved.untils st tu ins (begun h)
         ∙ (ap (λ t. after m.object t e) kept.stands ∙ sym (legal_situation-push m h e kept.legal));
     counts = λ s. sp s ∙ (ap (λ n. n + cond (seat_of e == s) 1 0) (kept.counts s) ∙ sym (length-events_of-push h e s));
@@ -193,7 +193,7 @@ module _ {m : Monitor} {budget : ℕ} {h : List Event} {capacity : ℕ} {q : Que
     granted_seats = lg ∙ kept.granted_seats;
     within = λ s. subst (λ n. n ≤ budget) (sym (length-events_of-push h e s))
         (one_within (seat_of e == s) (length (events_of h s)) budget
-            (λ b. subst (λ j. length (events_of h j) < budget) (eqb-true (seat_of e) s b) l) (kept.within s));
+        (λ b. subst (λ j. length (events_of h j) < budget) (eqb-true (seat_of e) s b) l) (kept.within s));
     room = subst (λ n. m.seats * budget ≤ n) (sym cap) kept.room;
     inside_seats = li ∙ kept.inside_seats;
     spent_seats = ls ∙ kept.spent_seats;
@@ -236,9 +236,9 @@ pub kept_none : (m : Monitor) (budget : ℕ) (h : List Event) (capacity : ℕ) (
     (turn : Turn) (inside : List Bool) (spent granted : List ℕ) (entered : ℕ)
     → h ≡ [] → capacity ≡ m.seats * budget → state ≡ m.opening → m.seats ≤ most_seats → budget ≤ most_budget
     → ((c : ℕ) → queue_at q.conditions c ≡ []) → length q.conditions ≡ m.conds → q.waiters ≡ [] → q.signallers ≡ []
-        → q.untils ≡ [] → turn ≡ Open
+    → q.untils ≡ [] → turn ≡ Open
     → ((j : ℕ) → slice_index_or inside j false ≡ false) → ((j : ℕ) → slice_index_or spent j 0 ≡ 0)
-        → length inside ≡ m.seats → length spent ≡ m.seats
+    → length inside ≡ m.seats → length spent ≡ m.seats
     → ((j : ℕ) → slice_index_or granted j 0 ≡ 0) → entered ≡ 0 → length granted ≡ m.seats
     → KeepsHistory m budget h capacity q state turn inside spent granted entered
 kept_none m budget h capacity q state turn inside spent granted entered e cap st few low qs cs ws ss us tu ins sp li ls gr en lg = record {

@@ -88,8 +88,8 @@ entry_by k ws ss rs s w z r =
     (subst (λ (x : List ℕ). choice_by k (record { waiters = []; signallers = x; ready = rs }) s false WishEntry ≡ next.Entry) (sym z)
     (subst (λ (x : List ℕ). choice_by k (record { waiters = []; signallers = []; ready = x }) s false WishEntry ≡ next.Entry) (sym r)
     (ap (λ (b : Bool). cond b next.Entry
-        (cond (is_waiter_open k none) (waiter_choice k none) (signaller_choice none s)))
-        (both_empty (has_conditions k.mode)))))
+    (cond (is_waiter_open k none) (waiter_choice k none) (signaller_choice none s)))
+    (both_empty (has_conditions k.mode)))))
   where
     none : Queues
     none = record { waiters = []; signallers = []; ready = [] }
@@ -101,7 +101,7 @@ leaves_last k o f s none =
     let call = Leave s next.Stay in
     entry_by k (t.waiters ++ serves t.condition call) (t.signallers ++ signals t.condition call) (ready_of o t.state t.untils) s
     (ap (λ (x : List ℕ). x ++ serves t.condition call) none.waiters)
-        (ap (λ (x : List ℕ). x ++ signals t.condition call) none.signallers) (ap (ready_of o t.state) none.untils)
+    (ap (λ (x : List ℕ). x ++ signals t.condition call) none.signallers) (ap (ready_of o t.state) none.untils)
 
 few_of : (h g : List Event) (m b n c : ℕ) → h ≡ g → m ≡ n → b ≡ c → length g ≤ m * b → length h ≤ n * c
 few_of h g m b n c same seats budget within =
@@ -113,9 +113,9 @@ pub ended : (k : Rules) (o : Object) (a : Holder) (f : FloorView) (number : ℕ)
     (history : List Event) (state : List ℕ) → a.floor ≡ f → a.me.seat ≡ number
     → events_of a.floor.history a.me.seat ≡ a.me.mine → IsLegal (monitor_of k o f) f.history
     → IsUnqueued k o a.floor a.floor.seats → IsGrown k o f (Leave number choice) g
-        → choice ≡ choice_of k o (stands_of k o f) (Leave number next.Stay) false WishEntry
+    → choice ≡ choice_of k o (stands_of k o f) (Leave number next.Stay) false WishEntry
     → history ≡ g.history → IsLegal (monitor_of k o g) g.history → state ≡ data_of (monitor_of k o g) g.history
-        → length g.history ≤ g.seats * g.budget → IsEnded k o a history state
+    → length g.history ≤ g.seats * g.budget → IsEnded k o a history state
 ended k o a f number choice g history state floor seat own legal unqueued grows chosen is_history all_legal is_state within =
     let none : HasNobody f = nobody k o f legal (subst (λ (x : FloorView). IsUnqueued k o x x.seats) floor unqueued) in
     let entry : choice ≡ next.Entry = chosen ∙ leaves_last k o f number none in
@@ -158,5 +158,11 @@ ended_peeked k o a b history state floor seat mine e = record {
 -- somebody is in a queue, so there was no look
 pub busy_unlooked : (k : Rules) (o : Object) (a : Holder) → HasSomebody k o a.floor → IsBusy k o a a
 busy_unlooked k o a x =
-    record { some = inl x; is = refl; looks = omega arith; steps = omega arith; remembers =
-    record { knew = λ knew. knew; unlooked = λ _. refl } }
+    record {
+      some = inl x;
+      is = refl;
+      looks = omega arith;
+      steps = omega arith;
+      remembers =
+          record { knew = λ knew. knew; unlooked = λ _. refl };
+    }

@@ -128,8 +128,8 @@ at_end (x ∷ xs) a b (suc j) e = ⊎_elim (λ h. inl h) (λ h. inr (h.0, ap suc
 module _ (c : Setting) (views : List View) (at : ℕ → SeatRecord) (sh : AreShown c views at) (id : ℕ) (v ys : View)
     (x : SeatRecord) (view : get_elem? views id ≡ maybe.some v)
     (there_x : In x v) (there_ys : (z : SeatRecord) → In z ys → In z v)
-        (either : (z : SeatRecord) → In z v → (z ≡ x) ⊎ In z ys) (apart : (z : SeatRecord) → In z ys → z.seat ≢ x.seat)
-        (distinct : Distinct ys) where
+    (either : (z : SeatRecord) → In z v → (z ≡ x) ⊎ In z ys) (apart : (z : SeatRecord) → In z ys → z.seat ≢ x.seat)
+    (distinct : Distinct ys) where
   abbrev left_views : List View
   left_views = set views id ys
 
@@ -154,9 +154,11 @@ module _ (c : Setting) (views : List View) (at : ℕ → SeatRecord) (sh : AreSh
       (λ new.
       let is_x = only r x (subst (λ (z : View). In r z) (sym new.0) in_u) in
       let old = sh.each id v view x there_x in
-      let seat : r.seat ≡ x.seat = ap (λ (z : SeatRecord). z.seat) is_x in
-      (ap at seat ∙ old.0 ∙ sym is_x, ap moved_desk seat ∙ put_here sh.desk x.seat (length left_views) ∙ sym new.1,
-          subst (λ (z : ℕ). z < c.seats) (sym seat) old.2))
+      let seat : r.seat ≡ x.seat = ap (λ (z : SeatRecord). z.seat) is_x in (
+        ap at seat ∙ old.0 ∙ sym is_x,
+        ap moved_desk seat ∙ put_here sh.desk x.seat (length left_views) ∙ sym new.1,
+        subst (λ (z : ℕ). z < c.seats) (sym seat) old.2,
+      ))
       (at_end left_views (x ∷ []) u j e)
 
   there_after : (j : ℕ) → j < c.seats → (u : View) × (get_elem? (left_views ++ (x ∷ []) ∷ []) (moved_desk j) ≡ maybe.some u) × In (at j) u
@@ -225,7 +227,7 @@ pub fresh_next : (c : Setting) (v : View) (m d : ℕ) → d < m → v ≡ openin
 fresh_next c v m d h e =
     e ∙ fresh_step c (m - d) d (omega arith)
     ∙ (let a : m - d - 1 ≡ m - (d + 1) = omega arith in let b : suc d ≡ d + 1 = omega arith in
-        λ i. opening_record c d ∷ opening_records c (a i) (b i))
+    λ i. opening_record c d ∷ opening_records c (a i) (b i))
 
 -- the tokens of one seat more
 pub tokens_more : (z : TableId) (c : Setting) (n i : ℕ)
@@ -242,7 +244,7 @@ tokens_more z c (suc n) i =
     let a : suc i + n ≡ i + suc n = omega arith in
     ap (λ (m : ℕ). tokens z (opening_records c m i)) e
     ∙ ap (λ (l : List Token). token i ∷ l)
-        (tokens_more z c n (suc i) ∙ ap (λ (m : ℕ). tokens z (opening_records c n (suc i)) ++ token m ∷ []) a)
+    (tokens_more z c n (suc i) ∙ ap (λ (m : ℕ). tokens z (opening_records c n (suc i)) ++ token m ∷ []) a)
   where
     token : ℕ → Token
     token m = record { hall = z; me = opening_record c m }

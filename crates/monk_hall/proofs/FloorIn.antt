@@ -82,8 +82,8 @@ not_counts : (h : List Event) (e : Event) (x : Next) (m : ℕ) → next_of e ≡
     → granted_of (h ++ e ∷ []) m ≡ granted_of h m
 not_counts h e x m chose ne =
     granted_of-push h e m
-        ∙ ap (λ (b : Bool). granted_of h m + cond b 1 0) (ap (chooses_seat m) chose ∙ names_not x m ne)
-        ∙ (let z : granted_of h m + 0 ≡ granted_of h m = omega arith in z)
+    ∙ ap (λ (b : Bool). granted_of h m + cond b 1 0) (ap (chooses_seat m) chose ∙ names_not x m ne)
+    ∙ (let z : granted_of h m + 0 ≡ granted_of h m = omega arith in z)
 
 -- an event that keeps the turn chose nobody
 keeps_names : (i m : ℕ) (e : Event) → turn_by (seat_of e) (next_of e) ≡ Owned i → grants m e ≡ false
@@ -103,12 +103,12 @@ own_counts i m h (e ∷ es) own =
     ap (λ (g : List Event). granted_of g m) (sym (append_assoc h (e ∷ []) es))
     ∙ own_counts i m (h ++ e ∷ []) es own.1
     ∙ granted_of-push h e m ∙ ap (λ (b : Bool). granted_of h m + cond b 1 0) (keeps_names i m e own.0.keeps)
-        ∙ (let z : granted_of h m + 0 ≡ granted_of h m = omega arith in z)
+    ∙ (let z : granted_of h m + 0 ≡ granted_of h m = omega arith in z)
 
 out_counts : (h : List Event) (i m : ℕ) (q : Source) → granted_of (h ++ out_event i q (turn h) ∷ []) m ≡ granted_of h m
 out_counts h i m q =
     granted_of-push h (out_event i q (turn h)) m ∙ ap (λ (b : Bool). granted_of h m + cond b 1 0) (none q)
-        ∙ (let z : granted_of h m + 0 ≡ granted_of h m = omega arith in z)
+    ∙ (let z : granted_of h m + 0 ≡ granted_of h m = omega arith in z)
   where
     none : (q : Source) → grants m (out_event i q (turn h)) ≡ false
     none (Free t) = refl
@@ -176,11 +176,11 @@ module _ (k : Rules) (o : Object) (c : Setting) (kind : IsKind k) (s : table.Sta
   kept_before =
       let long = ap length mine_long ∙ length-append (events_of h.2.history r.seat) ret.goes_on.since in
       let room : left_of ret.before.budget before r.seat ≡ left_of c.budget before r.seat =
-          ap (λ (g : FloorView). left_of g.budget before r.seat) before_is in
+      ap (λ (g : FloorView). left_of g.budget before r.seat) before_is in
       let some = ret.left in
       subst (λ (g : List Event). IsKept k o c.seats c.conds (shown_state c s.words h.0 g)) (sym goes_is)
       (private.more_kept k o (stepping.state k o c kind s h id r here) c.seats c.conds r.seat q ret.goes_on.since
-          h.2.kept (stepping.near k o c kind s h id r here) at_active ret.goes_on.own
+      h.2.kept (stepping.near k o c kind s h id r here) at_active ret.goes_on.own
       (subst (IsLegal (monitor_of k o (floor_of c before))) goes_is legal_before) (omega arith))
 
   abbrev old : State
@@ -190,17 +190,20 @@ module _ (k : Rules) (o : Object) (c : Setting) (kind : IsKind k) (s : table.Sta
       at_active ret.to ret.choice ret.call
   taken =
       releasing.release_kept k o old c.seats c.conds r.seat q kind kept_before (stepping.near k o c kind s h id r here)
-          at_active ret.to ret.call ret.wish ret.choice ret.release
+      at_active ret.to ret.call ret.wish ret.choice ret.release
       (subst (λ (g : FloorView). MayCall (monitor_of k o g) before ret.call) before_is ret.may)
       (subst (λ (g : FloorView). left_within ret.to < left_of g.budget before r.seat) before_is ret.left)
       (ret.chosen ∙ ap (λ (g : FloorView). choice_of k o (stands_of k o g) ret.call r.known ret.wish) before_is
       ∙ ap (λ (y : SeatRecord). choice_of k o (stands_of k o (floor_of c before)) ret.call y.known ret.wish)
-          (sym (stepping.is k o c kind s h id r here)))
+      (sym (stepping.is k o c kind s h id r here)))
       ret.away
 
   kept_after : IsKept k o c.seats c.conds
-      (record old { world = after_floor_in old.world r.seat ret.choice ret.to; floor =
-      with_event (floor_of c before) last })
+      (record old {
+        world = after_floor_in old.world r.seat ret.choice ret.to;
+        floor =
+            with_event (floor_of c before) last;
+      })
   kept_after = taken.is_kept
 
   -- where the seat stands now
@@ -208,8 +211,11 @@ module _ (k : Rules) (o : Object) (c : Setting) (kind : IsKind k) (s : table.Sta
   back_is = ap (λ (g : List Event). back_after (last_or None g)) f_history ∙ ap back_after (last_more None before last)
       ∙ releasing.back_is r.seat ret.to ret.call ret.choice ret.release
 
-  same : Path State (record old { world = after_floor_in old.world r.seat ret.choice ret.to; floor =
-      with_event (floor_of c before) last }) (shown_state c s.words (put h.0 r.seat w) f.history)
+  same : Path State (record old {
+    world = after_floor_in old.world r.seat ret.choice ret.to;
+    floor =
+        with_event (floor_of c before) last;
+  }) (shown_state c s.words (put h.0 r.seat w) f.history)
   same = λ z. record {
     world = record old.world {
       place = (ap (put old.world.place r.seat) (sym back_is) ∙ stepping.places_after k o c kind s h id r here w) z;
@@ -252,18 +258,18 @@ module _ (k : Rules) (o : Object) (c : Setting) (kind : IsKind k) (s : table.Sta
       let at = h.0 in
       let world : World = shown_world s.words at in
       let settled : (m : ℕ) → granted_of before m ≡ world.seat_place m = λ m. before_counts m
-          ∙ h.2.told.calls.settled m (λ j. nobody_chose j m) in
+      ∙ h.2.told.calls.settled m (λ j. nobody_chose j m) in
       record {
         choosing = λ j m. at_put at r.seat w (λ n x. back_turn x.place ≡ due_to m → granted_of f.history m ≡ world.seat_place m + 1)
             (λ e. ap (λ (g : List Event). granted_of g m) f_history
-                ∙ chosen_counts before last ret.choice m chose_is (sym (ap back_turn back_is) ∙ e)
-                ∙ ap (λ (n : ℕ). n + 1) (settled m))
+            ∙ chosen_counts before last ret.choice m chose_is (sym (ap back_turn back_is) ∙ e)
+            ∙ ap (λ (n : ℕ). n + 1) (settled m))
             (λ n _ e. absurd (nobody_chose n m e)) j;
         settled = λ m none.
             ap (λ (g : List Event). granted_of g m) f_history
             ∙ not_counts before last ret.choice m chose_is
-                (λ e. none r.seat (ap (λ (y : SeatRecord). back_turn y.place) (put_here at r.seat w)
-                ∙ ap back_turn back_is ∙ e)) ∙ settled m;
+            (λ e. none r.seat (ap (λ (y : SeatRecord). back_turn y.place) (put_here at r.seat w)
+            ∙ ap back_turn back_is ∙ e)) ∙ settled m;
       }
 
   past_starts : StartsWith f.history past
@@ -271,7 +277,7 @@ module _ (k : Rules) (o : Object) (c : Setting) (kind : IsKind k) (s : table.Sta
     out_event r.seat q (turn past) ∷ (ret.goes_on.since ++ last ∷ []),
     f_history ∙ ap (λ (g : List Event). g ++ last ∷ []) goes_is ∙ ap (λ (g : List Event). (g ++ ret.goes_on.since) ++ last ∷ []) history_is
         ∙ append_assoc (past ++ out_event r.seat q (turn past) ∷ []) ret.goes_on.since (last ∷ [])
-            ∙ append_assoc past (out_event r.seat q (turn past) ∷ []) (ret.goes_on.since ++ last ∷ []),
+        ∙ append_assoc past (out_event r.seat q (turn past) ∷ []) (ret.goes_on.since ++ last ∷ []),
   )
 
   others_mine : (j : ℕ) → j ≢ r.seat → events_of f.history j ≡ (h.0 j).mine
@@ -305,8 +311,11 @@ module _ (k : Rules) (o : Object) (c : Setting) (kind : IsKind k) (s : table.Sta
             × (get_elem? (set s.homes 0 (maybe.some (Some f))) 0 ≡ maybe.some maybe.none))
             (λ p e. absurd (let z = ap stage e in omega arith))
             (λ j ne p e. absurd (let z = ap stage e in alone j ne (omega arith) (omega arith)));
-        home = λ none. (refl, set_here s.homes 0 (maybe.some (Some f)) (let z = told.one_slot in omega arith)
-            ∙ ap (λ (g : FloorView). maybe.some (maybe.some (Some g))) (grown_is ∙ ap (floor_of c) (sym f_history)));
+        home = λ none. (
+          refl,
+          set_here s.homes 0 (maybe.some (Some f)) (let z = told.one_slot in omega arith)
+              ∙ ap (λ (g : FloorView). maybe.some (maybe.some (Some g))) (grown_is ∙ ap (floor_of c) (sym f_history)),
+        );
         calls = calls_after;
       }
 
@@ -341,15 +350,19 @@ pub gives_floor : (k : Rules) (o : Object) (c : Setting) → IsKind k → (slots
     → Allows (IsHall k o c) slots id me 0 (λ n. n) (TellsFloorIn (held_history me.1) me)
 gives_floor k o c kind slots id me f one holds active ret =
     subst (λ (g : List (ℕ × Option FloorView)). Allows (IsHall k o c) slots id (me.0, g) 0 (λ n. n)
-        (TellsFloorIn (held_history g) (me.0, g))) (sym holds) (λ s h wide view small.
+    (TellsFloorIn (held_history g) (me.0, g))) (sym holds) (λ s h wide view small.
     let here : get_elem? s.views id ≡ maybe.some (the me.0 ∷ []) = view ∙ ap maybe.some one in
     let r : SeatRecord = the me.0 in (
       record_after_floor_in r f.history ∷ [],
       gives,
       tt,
       subst (λ (ws : List ℕ). IsHall k o c
-          (record { words = ws; homes = set s.homes 0 (maybe.some (Some f)); views =
-          set s.views id (record_after_floor_in r f.history ∷ []) })) (sym (set-get_or s.words 0 0))
+          (record {
+            words = ws;
+            homes = set s.homes 0 (maybe.some (Some f));
+            views =
+                set s.views id (record_after_floor_in r f.history ∷ []);
+          })) (sym (set-get_or s.words 0 0))
           (gives_at k o c kind s h id r here active f ret).hall,
       refl,
     ))

@@ -91,8 +91,11 @@ module _ (k : Rules) (o : Object) (c : Setting) (kind : IsKind k) (s : table.Sta
   kept_old = subst (λ (g : List Event). IsKept k o c.seats c.conds (shown_state c s.words h.0 g)) (h.2.told.home nobody).0 h.2.kept
 
   after : State
-  after = record { world = after_floor_out old.world r.seat (source_from r.place); known = put old.known r.seat false;
-      floor = with_event floor came }
+  after = record {
+    world = after_floor_out old.world r.seat (source_from r.place);
+    known = put old.known r.seat false;
+    floor = with_event floor came;
+  }
 
   ready : IsReady k o old r.seat command.Out
   ready = record {
@@ -115,8 +118,11 @@ module _ (k : Rules) (o : Object) (c : Setting) (kind : IsKind k) (s : table.Sta
   same : Path State after (shown_state c s.words (put h.0 r.seat w) (past ++ came ∷ []))
   unfolding after
   same = λ z. record {
-    world = record old.world { place = stepping.places_after k o c kind s h id r here w z; count =
-        stepping.counts_stay k o c kind s h id r here w refl z };
+    world = record old.world {
+      place = stepping.places_after k o c kind s h id r here w z;
+      count =
+          stepping.counts_stay k o c kind s h id r here w refl z;
+    };
     known = stepping.known_after k o c kind s h id r here w false refl z;
     floor = floor_of c (past ++ came ∷ []);
   }
@@ -139,8 +145,11 @@ module _ (k : Rules) (o : Object) (c : Setting) (kind : IsKind k) (s : table.Sta
             (λ j x. (q : Source) → x.place ≡ Active q
             → (x.seen ≡ past) × (past ++ came ∷ [] ≡ past ++ out_event j q (turn past) ∷ [])
             × (get_elem? (set s.homes 0 maybe.none) 0 ≡ maybe.some maybe.none))
-            (λ q e. (refl, ap (λ (p : Place). past ++ out_event r.seat (source_from p) (turn past) ∷ []) e,
-                set_here s.homes 0 maybe.none (let z = told.one_slot in omega arith)))
+            (λ q e. (
+              refl,
+              ap (λ (p : Place). past ++ out_event r.seat (source_from p) (turn past) ∷ []) e,
+              set_here s.homes 0 maybe.none (let z = told.one_slot in omega arith),
+            ))
             (λ j _ q e. absurd (nobody j (ap stage e)));
         home = λ none. absurd (none r.seat (ap (λ (y : SeatRecord). stage y.place) (put_here at r.seat w)));
         calls = calls_stay world (shown_world s.words (put at r.seat w)) past r.seat w.place told.calls
@@ -174,7 +183,7 @@ module _ (k : Rules) (o : Object) (c : Setting) (kind : IsKind k) (s : table.Sta
       let at_q : (h.0 r.seat).place ≡ Due q = at_due ∙ ap Due q_is in
       let two = ap stage at_q in
       let e = entered_here c.seats old.world kept_old.sound.right kept_old.sound.owner sound.stands.keeps
-          (enters_of past) sound.entered r.seat (Due q) at_q (omega arith) (omega arith) in
+      (enters_of past) sound.entered r.seat (Due q) at_q (omega arith) (omega arith) in
       let s_is = ap source at_q in
       let n = sound.stands.keeps.tickets.in_use r.seat two (omega arith) in
       let t_is = ap ticket at_q ∙ number in
@@ -210,8 +219,12 @@ takes_floor k o c kind id me one none due s h wide view small =
       takes 0 (Some (floor_of c h.2.past)),
       at_home k o c kind s h id r here due,
       subst (λ (ws : List ℕ). IsHall k o c
-          (record { words = ws; homes = set s.homes 0 maybe.none; views =
-          set s.views id (record_after_floor_out r h.2.past ∷ []) })) (sym (set-get_or s.words 0 0))
+          (record {
+            words = ws;
+            homes = set s.homes 0 maybe.none;
+            views =
+                set s.views id (record_after_floor_out r h.2.past ∷ []);
+          })) (sym (set-get_or s.words 0 0))
           (takes_at k o c kind s h id r here due).hall,
       (floor_of c h.2.past, refl, finds k o c kind s h id r here due),
     )

@@ -39,8 +39,8 @@ use Rattle.monk_hall.specs.declared.setting.Setting.{Setting}
 
 passes : (reach offered told tired : Bool) → reach ≡ true → offered ≡ true → told ≡ true → tired ≡ false
     → cond (not reach) (Some answer.Range)
-        (cond (not offered) (Some answer.NoCall)
-        (cond (not told) (Some answer.NotNow) (cond tired (Some answer.Tired) None))) ≡ None
+    (cond (not offered) (Some answer.NoCall)
+    (cond (not told) (Some answer.NotNow) (cond tired (Some answer.Tired) None))) ≡ None
 passes false offered told tired a b c d = absurd cc
 passes true false told tired a b c d = absurd cc
 passes true true false tired a b c d = absurd cc
@@ -60,7 +60,7 @@ not_below n m l = grind (arith, l)
 pub not_refused : (k : Rules) (o : Object) (s : State) (i : ℕ) (c : Command) → IsReady k o s i c → refusal k o s i c ≡ None
 not_refused k o s i c r =
     passes (nat_lt i s.floor.seats && is_call_in_range o s.floor (call_of i c)) (is_call_offered k (call_of i c))
-        (may_be_told (s.world.place i) c)
+    (may_be_told (s.world.place i) c)
     (nat_lt (left_of s.floor.budget s.floor.history i) (left_for c))
     (both (nat_lt i s.floor.seats) (is_call_in_range o s.floor (call_of i c)) (below i s.floor.seats r.near) r.range) r.offered r.told
     (not_below (left_of s.floor.budget s.floor.history i) (left_for c) r.left)
@@ -70,7 +70,7 @@ pub step_is : (k : Rules) (o : Object) (s : State) (i : ℕ) (c : Command) (a : 
     → IsReady k o s i c → s.world.place i ≡ p → IsDone k o s i p c a t → IsStep k o s i c a t
 step_is k o s i c a t p ready at done =
     subst (λ (x : Option Answer). IsAnswered k o s i c x a t) (sym (not_refused k o s i c ready))
-        (subst (λ (q : Place). IsDone k o s i q c a t) (sym at) done)
+    (subst (λ (q : Place). IsDone k o s i q c a t) (sym at) done)
 
 -- the shown world takes a step, by its definition
 pub step_kept : (k : Rules) (o : Object) (s : State) (i : ℕ) (c : Command) (a : Answer) (t : State) (seats conds : ℕ)
@@ -78,7 +78,7 @@ pub step_kept : (k : Rules) (o : Object) (s : State) (i : ℕ) (c : Command) (a 
     → s.world.place i ≡ p → IsDone k o s i p c a t → IsKept k o seats conds t
 step_kept k o s i c a t seats conds p kind kept ready at done =
     kept_done k o s i c a t seats conds kind kept (not_refused k o s i c ready)
-        (subst (λ (q : Place). IsDone k o s i q c a t) (sym at) done)
+    (subst (λ (q : Place). IsDone k o s i q c a t) (sym at) done)
 
 -- a seat that is active, or none is
 pub record IsActiveAt (w : World) (j : ℕ) : Type 0 where
@@ -153,7 +153,7 @@ entered_few k o s right owner h = by right h.entered h.stands.keeps.holder.free.
 
 module _ (k : Rules) (o : Object) (c : Setting) (homes : Homes) (at : ℕ → SeatRecord) (words : List ℕ) (past history : List Event)
     (told : AreTold k o c homes at (shown_world words at) past history) (right : Whereabouts) (owner : ℕ → ℕ)
-        (keeps : KeepsRight c.seats (shown_world words at) right owner) where
+    (keeps : KeepsRight c.seats (shown_world words at) right owner) where
   -- what is shown is what the floor at home has, and perhaps the event of the active seat
   pub shows_past : StartsWith history past
   shows_past = elim (who c.seats (shown_world words at) right owner keeps) [
@@ -169,7 +169,7 @@ module _ (k : Rules) (o : Object) (c : Setting) (homes : Homes) (at : ℕ → Se
         let e = out_event a.0 a.1.source (turn past) in
         ap (λ (h : List Event). events_of h i) l.1
         ∙ other_event past e i
-            (λ same. not_active (ap (λ (n : ℕ). stage (at n).place) (sym same ∙ out_seat a.0 a.1.source past)
-            ∙ ap stage a.1.at)) ∙ told.mine i
+        (λ same. not_active (ap (λ (n : ℕ). stage (at n).place) (sym same ∙ out_seat a.0 a.1.source past)
+        ∙ ap stage a.1.at)) ∙ told.mine i
     | inr none ↦ ap (λ (h : List Event). events_of h i) (told.home none).0 ∙ told.mine i
   ]

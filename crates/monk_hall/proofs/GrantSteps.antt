@@ -91,8 +91,12 @@ module _ (k : Rules) (o : Object) (c : Setting) (kind : IsKind k) (s : table.Sta
   -- step 7
   pub grants_ticket_at : stage r.place ≡ passing_stage
       → Takes k o c s h r.seat command.Grant (answer.GrantedTicket (ticket r.place))
-          (record { words = set s.words (place_word (ticket r.place % c.seats)) (ticket r.place + 1); homes =
-          s.homes; views = set s.views id (record_after_grant r ∷ []) })
+      (record {
+        words = set s.words (place_word (ticket r.place % c.seats)) (ticket r.place + 1);
+        homes =
+            s.homes;
+        views = set s.views id (record_after_grant r ∷ []);
+      })
   grants_ticket_at passing =
       let at = h.0 in
       let kh = h.2 in
@@ -115,7 +119,7 @@ module _ (k : Rules) (o : Object) (c : Setting) (kind : IsKind k) (s : table.Sta
       } in
       let after : State = record old { world = after_ticket_grant c.seats world r.seat n to } in
       let kept = stepping.takes_step k o c kind s h id r here command.Grant (answer.GrantedTicket n) after
-          (Passing n to) ready place_is (refl, refl) in
+      (Passing n to) ready place_is (refl, refl) in
       let word : slice_index s.words 0 ≡ slice_index ws 0 = sym (get_or-set_other s.words (place_word q) 0 (n + 1) 0 (λ e. omega arith)) in
       let places = stepping.places_after k o c kind s h id r here w in
       let ticket_places = sym (stored.place_stored s.words q (n + 1) (let z = kh.wide in omega arith)) in
@@ -123,15 +127,21 @@ module _ (k : Rules) (o : Object) (c : Setting) (kind : IsKind k) (s : table.Sta
       let counts = stepping.counts_stay k o c kind s h id r here w refl in
       let knows = stepping.known_stays k o c kind s h id r here w refl in
       let same : Path State after (shown_state c ws (put at r.seat w) kh.history) = λ z. record {
-        world = record { drawn = tickets (word z); unpassed = unpassed (word z); ticket_place = ticket_places z;
-            seat_place = seat_places z; place = places z; count = counts z };
+        world = record {
+          drawn = tickets (word z);
+          unpassed = unpassed (word z);
+          ticket_place = ticket_places z;
+          seat_place = seat_places z;
+          place = places z;
+          count = counts z;
+        };
         known = knows z;
         floor = old.floor;
       } in
       let moved : stepping.IsMoved k o c kind s h id r here w = record { seat = refl; setting = refl; seen = refl; mine = refl } in
       let apart = standing.apart_home to in
       let calls = calls_stay world (shown_world ws (put at r.seat w)) kh.past r.seat w.place kh.told.calls (sym places)
-          (sym seat_places) (ap back_turn stands) apart.chose in
+      (sym seat_places) (ap back_turn stands) apart.chose in
       stepping.holds_after k o c kind s h id r here w ws moved (length-set s.words (place_word q) (n + 1)) kept same
       (stepping.knows_after k o c kind s h id r here w ws moved calls (λ e. absurd (omega arith)) apart)
 
@@ -178,12 +188,12 @@ module _ (k : Rules) (o : Object) (c : Setting) (kind : IsKind k) (s : table.Sta
       let apart = standing.apart_home (home_at r.place) in
       let nobody : (j n : ℕ) → back_turn (put at r.seat w j).place ≢ due_to n = λ j n.
       at_put at r.seat w (λ i y. back_turn y.place ≢ due_to n) (λ e. let z = apart.chose in absurd (omega arith))
-          (λ i ne. alone i n ne) j in
+      (λ i ne. alone i n ne) j in
       record {
         choosing = λ j n e. absurd (nobody j n e);
         settled = λ n none. subst (λ (f : ℕ → ℕ). granted_of kh.past n ≡ f n) places
             (at_put world.seat_place m (world.seat_place m + 1) (λ i y. granted_of kh.past i ≡ y)
-                (kh.told.calls.choosing r.seat m (ap back_turn stands ∙ x.names))
+            (kh.told.calls.choosing r.seat m (ap back_turn stands ∙ x.names))
             (λ i ne. kh.told.calls.settled i (λ j e. elim (eqb_tells j r.seat) [
               | inl b ↦ absurd (ne (let z = ap (λ (a : ℕ). back_turn (at a).place) b.1 in let y = ap back_turn stands
                   ∙ x.names in omega arith))
@@ -194,8 +204,12 @@ module _ (k : Rules) (o : Object) (c : Setting) (kind : IsKind k) (s : table.Sta
   -- step 8
   pub calls_seat_at : (m : ℕ) → back_turn r.place ≡ due_to m → (calls : ℕ) → calls ≡ granted_of r.seen m
       → Takes k o c s h r.seat command.Grant (answer.GrantedSeat m)
-          (record { words = set s.words (seat_word m) calls; homes = s.homes; views =
-          set s.views id (record_after_grant r ∷ []) })
+      (record {
+        words = set s.words (seat_word m) calls;
+        homes = s.homes;
+        views =
+            set s.views id (record_after_grant r ∷ []);
+      })
   calls_seat_at m names calls calls_are =
       let at = h.0 in
       let kh = h.2 in
@@ -208,8 +222,8 @@ module _ (k : Rules) (o : Object) (c : Setting) (kind : IsKind k) (s : table.Sta
       let stands = stepping.stands_at k o c kind s h id r here (Back x.choice x.to) x.is in
       let seen : r.seen ≡ kh.past = sym (ap (λ (y : SeatRecord). y.seen) is) ∙ kh.told.back r.seat (ap stage stands) in
       let grown : world.seat_place m + 1 ≡ calls =
-          sym (calls_are ∙ ap (λ (g : List Event). granted_of g m) seen
-          ∙ kh.told.calls.choosing r.seat m (ap back_turn stands ∙ x.names)) in
+      sym (calls_are ∙ ap (λ (g : List Event). granted_of g m) seen
+      ∙ kh.told.calls.choosing r.seat m (ap back_turn stands ∙ x.names)) in
       let low = called_near m names in
       let ready : IsReady k o old r.seat command.Grant = record {
         near = stepping.near k o c kind s h id r here;
@@ -220,7 +234,7 @@ module _ (k : Rules) (o : Object) (c : Setting) (kind : IsKind k) (s : table.Sta
       } in
       let after : State = record old { world = after_seat_grant world r.seat m x.to } in
       let kept = stepping.takes_step k o c kind s h id r here command.Grant (answer.GrantedSeat m) after
-          (Back x.choice x.to) ready x.is (calls_done k o old r.seat x.choice m x.to x.names) in
+      (Back x.choice x.to) ready x.is (calls_done k o old r.seat x.choice m x.to x.names) in
       let word : slice_index s.words 0 ≡ slice_index ws 0 = sym (get_or-set_other s.words (seat_word m) 0 calls 0 (λ e. omega arith)) in
       let home_is : x.to ≡ home_at r.place = sym (ap home_at x.is) in
       let places = ap (λ (y : Home). put world.place r.seat (place_of y)) home_is ∙ stepping.places_after k o c kind s h id r here w in
@@ -229,15 +243,21 @@ module _ (k : Rules) (o : Object) (c : Setting) (kind : IsKind k) (s : table.Sta
       let counts = stepping.counts_stay k o c kind s h id r here w refl in
       let knows = stepping.known_stays k o c kind s h id r here w refl in
       let same : Path State after (shown_state c ws (put at r.seat w) kh.history) = λ z. record {
-        world = record { drawn = tickets (word z); unpassed = unpassed (word z); ticket_place = ticket_places z;
-            seat_place = seat_places z; place = places z; count = counts z };
+        world = record {
+          drawn = tickets (word z);
+          unpassed = unpassed (word z);
+          ticket_place = ticket_places z;
+          seat_place = seat_places z;
+          place = places z;
+          count = counts z;
+        };
         known = knows z;
         floor = old.floor;
       } in
       let moved : stepping.IsMoved k o c kind s h id r here w = record { seat = refl; setting = refl; seen = refl; mine = refl } in
       stepping.holds_after k o c kind s h id r here w ws moved (length-set s.words (seat_word m) calls) kept same
       (stepping.knows_after k o c kind s h id r here w ws moved (calls_counted m ws names seat_places)
-          (λ e. let z = ap stage x.is in absurd (omega arith)) (standing.apart_home (home_at r.place)))
+      (λ e. let z = ap stage x.is in absurd (omega arith)) (standing.apart_home (home_at r.place)))
 
 module _ (k : Rules) (o : Object) (c : Setting) (kind : IsKind k) (slots id : ℕ) (me : Me) (one : IsOne me.0) where
   pub grants_ticket : stage (the me.0).place ≡ passing_stage

@@ -80,10 +80,10 @@ module _ {k : Rules} {o : Object} {z : TableId} {me : Me} {choice : Next} {to : 
   pub gone_rests : (x : HasRecordedRelease k o z me choice to f) → {number calls left : ℕ}
       → IsSeated z (the me.0) number calls → left ≡ left_of f.budget f.history number
       → (y : TableId) (new : Me) → y ≡ z → HasGone (the me.0) f.history to (the new.0) → new ≡ (the new.0 ∷ [], [])
-          → IsResting k o y new number left calls × ((the new.0).place ≡ place_of to) × (left_within to ≤ left)
+      → IsResting k o y new number left calls × ((the new.0).place ≡ place_of to) × (left_within to ≤ left)
   gone_rests x {number} {calls} {left} s rest y new same gone is =
       let r = the me.0 in let ret = x.returns in let e = with_next ret.choice ret.call in let w =
-          record (record_after_floor_in r f.history) { place = place_of to; steps = gone.steps } in
+      record (record_after_floor_in r f.history) { place = place_of to; steps = gone.steps } in
       let seat = (said r.seat ret.to ret.call ret.choice ret.release).seat in
       let history = ap (λ (g : FloorView). g.history) ret.grows in
       let is_floor = ret.grows ∙ ap (λ g. with_event g e) ret.goes_on.is_floor in
@@ -102,7 +102,7 @@ module _ {k : Rules} {o : Object} {z : TableId} {me : Me} {choice : Next} {to : 
           legal = subst (λ (g : FloorView). IsLegal (monitor_of k o g) g.history)
               (ret.grows ∙ ap (λ g. with_event g e) ret.goes_on.is_floor ∙ ap (λ g. floor_of r.setting g) (sym history))
               (subst (λ (g : FloorView). IsLegal (monitor_of k o g) g.history) (sym ret.grows)
-                  (legal-push (monitor_of k o ret.before) ret.before.history e ret.goes_on.legal x.allowed));
+              (legal-push (monitor_of k o ret.before) ret.before.history e ret.goes_on.legal x.allowed));
           own = refl;
         };
       } in (

@@ -29,14 +29,14 @@ calls_stay s t h i p c place seat_place old new = record {
       (λ n ne e. c.choosing n m e ∙ ap (λ (f : ℕ → ℕ). f m + 1) (sym seat_place)) j);
   settled = λ m none.
       c.settled m (all_back s.place i p (λ n y. back_turn y ≢ due_to m)
-          (λ n. subst (λ (at : ℕ → Place). back_turn (at n) ≢ due_to m) place (none n)) (λ e. absurd (omega arith)))
+      (λ n. subst (λ (at : ℕ → Place). back_turn (at n) ≢ due_to m) place (none n)) (λ e. absurd (omega arith)))
       ∙ ap (λ (f : ℕ → ℕ). f m) (sym seat_place);
 }
 
 module _ (k : Rules) (o : Object) (c : Setting) (homes : Homes) (at : ℕ → SeatRecord) (s : World)
     (past history : List Event) (told : AreTold k o c homes at s past history)
     (i : ℕ) (w : SeatRecord) (same_seen : w.seen ≡ (at i).seen) (same_mine : w.mine ≡ (at i).mine) (t : World)
-        (calls : CountsCalls t past) where
+    (calls : CountsCalls t past) where
   starts : (j : ℕ) → StartsWith past (put at i w j).seen
   starts = at_put at i w (λ j x. StartsWith past x.seen) (subst (StartsWith past) (sym same_seen) (told.starts i)) (λ j _. told.starts j)
 

@@ -84,9 +84,9 @@ events_between : (h g f : List Event) (i : ℕ) → StartsWith h g → StartsWit
     → events_of g i ≡ events_of f i
 events_between h g f i above below same =
     let g_is : events_of g i ≡ events_of f i ++ events_of below.0 i = ap (λ (x : List Event). events_of x i) below.1
-        ∙ events_of-append f below.0 i in
+    ∙ events_of-append f below.0 i in
     let h_is : events_of h i ≡ events_of g i ++ events_of above.0 i = ap (λ (x : List Event). events_of x i) above.1
-        ∙ events_of-append g above.0 i in
+    ∙ events_of-append g above.0 i in
     let long_g = ap length g_is ∙ length-append (events_of f i) (events_of below.0 i) in
     let long_h = ap length h_is ∙ length-append (events_of g i) (events_of above.0 i) in
     let long_f = ap length same in
@@ -127,7 +127,7 @@ longer_both a b one = by_length (nat_le (length a) (length b)) refl one
 module _ (k : Rules) (o : Object) (c : Setting) (words : List ℕ) (homes : Homes) (at : ℕ → SeatRecord)
     (kh : IsKeptHall k o c words homes at) (i : ℕ) (w : SeatRecord)
     (place : w.place ≡ (at i).place) (count : w.count ≡ (at i).count) (known : w.known ≡ (at i).known)
-        (mine : w.mine ≡ (at i).mine) (idle : stage (at i).place ≡ outside_stage)
+    (mine : w.mine ≡ (at i).mine) (idle : stage (at i).place ≡ outside_stage)
     (part : StartsWith kh.past w.seen) (own : events_of w.seen i ≡ w.mine) where
   same : Path State (shown_state c words at kh.history) (shown_state c words (put at i w) kh.history)
   same = λ z. record {
@@ -232,14 +232,17 @@ module _ (c : Setting) (views : List View) (at : ℕ → SeatRecord) (sh : AreSh
       | inr na ↦ elim (eqb_tells j b.seat) [
         | inl h ↦ (a2 ∷ b2 ∷ [], here j (ap sh.desk h.1 ∙ in_b.1), inr (inl (ap at_two h.1 ∙ is_b)))
         | inr nb ↦
-            let old = sh.there j near in
-            (old.0, set_else views id (sh.desk j) (a2 ∷ b2 ∷ []) (away j old.0 old.1 old.2 na.1 nb.1)
-                ∙ old.1, subst (λ (x : SeatRecord). In x old.0) (sym (other j na.1 nb.1)) old.2)
+            let old = sh.there j near in (
+              old.0,
+              set_else views id (sh.desk j) (a2 ∷ b2 ∷ []) (away j old.0 old.1 old.2 na.1 nb.1)
+                  ∙ old.1,
+              subst (λ (x : SeatRecord). In x old.0) (sym (other j na.1 nb.1)) old.2,
+            )
       ]
     ];
     settings = at_put at_one b.seat b2 (λ j x. x.setting ≡ c) (set_b ∙ ap (λ (x : SeatRecord). x.setting) (sym in_b.0) ∙ sh.settings b.seat)
         (λ j _. at_put at a.seat a2 (λ m x. x.setting ≡ c) (set_a ∙ ap (λ (x : SeatRecord). x.setting) (sym in_a.0)
-            ∙ sh.settings a.seat) (λ m _. sh.settings m) j);
+        ∙ sh.settings a.seat) (λ m _. sh.settings m) j);
     seats = at_put at_one b.seat b2 (λ j x. x.seat ≡ j) seat_b
         (λ j _. at_put at a.seat a2 (λ m x. x.seat ≡ m) seat_a (λ m _. sh.seats m) j);
   }
@@ -253,7 +256,7 @@ module _ (c : Setting) (views : List View) (at : ℕ → SeatRecord) (sh : AreSh
           let is_v : v ≡ a ∷ b ∷ [] = some-injective v (a ∷ b ∷ []) (sym e ∙ ap (λ (n : ℕ). get_elem? views n) d ∙ view) in
           two_of a b (at j) (subst (λ (z : View). In (at j) z) is_v i) (λ r. r ≡ at j → ⊥)
           (λ q. na (sym (sh.seats j) ∙ ap (λ (x : SeatRecord). x.seat) (sym q)))
-              (λ q. nb (sym (sh.seats j) ∙ ap (λ (x : SeatRecord). x.seat) (sym q))) refl
+          (λ q. nb (sym (sh.seats j) ∙ ap (λ (x : SeatRecord). x.seat) (sym q))) refl
 
 -- the telling load
 pub compares : (k : Rules) (o : Object) (c : Setting) (slots id : ℕ) (me : Me) → IsTwo me.0 → (the me.0).place ≡ Idle
@@ -279,20 +282,20 @@ compares k o c slots id me two idle_a idle_b s h wide view small =
     let mine_a : events_of kh.past a.seat ≡ a.mine = kh.told.mine a.seat ∙ ap (λ (x : SeatRecord). x.mine) ia.0 in
     let mine_b : events_of kh.past b.seat ≡ b.mine = kh.told.mine b.seat ∙ ap (λ (x : SeatRecord). x.mine) ib.0 in
     let own_a : events_of a.seen a.seat ≡ a.mine = ap (λ (x : SeatRecord). events_of x.seen a.seat) (sym ia.0)
-        ∙ kh.told.own a.seat ∙ ap (λ (x : SeatRecord). x.mine) ia.0 in
+    ∙ kh.told.own a.seat ∙ ap (λ (x : SeatRecord). x.mine) ia.0 in
     let own_b : events_of b.seen b.seat ≡ b.mine = ap (λ (x : SeatRecord). events_of x.seen b.seat) (sym ib.0)
-        ∙ kh.told.own b.seat ∙ ap (λ (x : SeatRecord). x.mine) ib.0 in
+    ∙ kh.told.own b.seat ∙ ap (λ (x : SeatRecord). x.mine) ib.0 in
     let all_a : events_of both a.seat ≡ a.mine =
-        events_between kh.past both a.seen a.seat part long_both.first (mine_a ∙ sym own_a) ∙ own_a in
+    events_between kh.past both a.seen a.seat part long_both.first (mine_a ∙ sym own_a) ∙ own_a in
     let all_b : events_of both b.seat ≡ b.mine =
-        events_between kh.past both b.seen b.seat part long_both.second (mine_b ∙ sym own_b) ∙ own_b in
+    events_between kh.past both b.seen b.seat part long_both.second (mine_b ∙ sym own_b) ∙ own_b in
     let first = learns k o c s.words s.homes at kh a.seat a2 (ap (λ (x : SeatRecord). x.place) (sym ia.0))
-        (ap (λ (x : SeatRecord). x.count) (sym ia.0)) (ap (λ (x : SeatRecord). x.known) (sym ia.0))
-        (ap (λ (x : SeatRecord). x.mine) (sym ia.0))
+    (ap (λ (x : SeatRecord). x.count) (sym ia.0)) (ap (λ (x : SeatRecord). x.known) (sym ia.0))
+    (ap (λ (x : SeatRecord). x.mine) (sym ia.0))
     (ap (λ (x : SeatRecord). stage x.place) ia.0 ∙ ap stage idle_a) part all_a in
     let both_kept = learns k o c s.words s.homes (put at a.seat a2) first b.seat b2
-        (ap (λ (x : SeatRecord). x.place) (sym still)) (ap (λ (x : SeatRecord). x.count) (sym still))
-        (ap (λ (x : SeatRecord). x.known) (sym still)) (ap (λ (x : SeatRecord). x.mine) (sym still))
+    (ap (λ (x : SeatRecord). x.place) (sym still)) (ap (λ (x : SeatRecord). x.count) (sym still))
+    (ap (λ (x : SeatRecord). x.known) (sym still)) (ap (λ (x : SeatRecord). x.mine) (sym still))
     (ap (λ (x : SeatRecord). stage x.place) still ∙ ap stage idle_b) part all_b in (
       a2 ∷ b2 ∷ [],
       keeps,
@@ -312,10 +315,12 @@ compares k o c slots id me two idle_a idle_b s h wide view small =
   where
     truly : (g : List Event) → StartsWith h.2.past g → (r : SeatRecord) → r.setting ≡ c → events_of g r.seat ≡ r.mine
         → IsLegal (monitor_of k o (floor_of r.setting g)) g × (events_of g r.seat ≡ r.mine)
-    truly g part r is own =
-        (subst (λ (y : Setting). IsLegal (monitor_of k o (floor_of y g)) g) (sym is)
-            (legal_front (monitor_of k o (floor_of c g)) g part.0
-            (subst (IsLegal (monitor_of k o (floor_of c h.2.past))) part.1 h.2.told.legal)), own)
+    truly g part r is own = (
+      subst (λ (y : Setting). IsLegal (monitor_of k o (floor_of y g)) g) (sym is)
+          (legal_front (monitor_of k o (floor_of c g)) g part.0
+          (subst (IsLegal (monitor_of k o (floor_of c h.2.past))) part.1 h.2.told.legal)),
+      own,
+    )
 
     longer_part : (past a b : List Event) → StartsWith past a → StartsWith past b → StartsWith past (longer a b)
     longer_part past a b p q = go (nat_le (length a) (length b))
@@ -336,7 +341,7 @@ meets k o c id v other w one_v one_w idle s h view ne_id view_w =
     let a2 : SeatRecord = record a { steps = suc a.steps } in
     let here : get_elem? s.views id ≡ maybe.some (a ∷ []) = view ∙ ap maybe.some one_v in
     let there : get_elem? s.views other ≡ maybe.some (b ∷ []) =
-        sym (set_else s.views id other (view_after_join v w) ne_id) ∙ view_w ∙ ap maybe.some one_w in
+    sym (set_else s.views id other (view_after_join v w) ne_id) ∙ view_w ∙ ap maybe.some one_w in
     let is_a = is_at c s.views at sh id a here in
     let is_b = is_at c s.views at sh other b there in
     let desk_a = is_desk c s.views at sh id a here in
@@ -350,13 +355,13 @@ meets k o c id v other w one_v one_w idle s h view ne_id view_w =
     let desk_first : desk_two a.seat ≡ id = put_else sh.desk b.seat id a.seat (λ e. ne (sym e)) ∙ desk_a in
     let views_two : List View = set (set s.views id (view_after_join v w)) other [] in
     let at_id : get_elem? views_two id ≡ maybe.some (view_after_join v w) =
-        set_else (set s.views id (view_after_join v w)) other id [] (λ e. ne_id (sym e))
-        ∙ set_here s.views id (view_after_join v w) (long s.views id (a ∷ []) here) in
+    set_else (set s.views id (view_after_join v w)) other id [] (λ e. ne_id (sym e))
+    ∙ set_here s.views id (view_after_join v w) (long s.views id (a ∷ []) here) in
     let kept = learns k o c s.words s.homes at kh a.seat a2 (ap (λ (x : SeatRecord). x.place) (sym is_a))
-        (ap (λ (x : SeatRecord). x.count) (sym is_a)) (ap (λ (x : SeatRecord). x.known) (sym is_a))
-        (ap (λ (x : SeatRecord). x.mine) (sym is_a))
+    (ap (λ (x : SeatRecord). x.count) (sym is_a)) (ap (λ (x : SeatRecord). x.known) (sym is_a))
+    (ap (λ (x : SeatRecord). x.mine) (sym is_a))
     (ap (λ (x : SeatRecord). stage x.place) is_a ∙ ap stage idle)
-        (subst (λ (x : SeatRecord). StartsWith kh.past x.seen) is_a (kh.told.starts a.seat))
+    (subst (λ (x : SeatRecord). StartsWith kh.past x.seen) is_a (kh.told.starts a.seat))
     (ap (λ (x : SeatRecord). events_of x.seen a.seat) (sym is_a) ∙ kh.told.own a.seat ∙ ap (λ (x : SeatRecord). x.mine) is_a) in (
       at_one,
       record {
@@ -375,16 +380,23 @@ meets k o c id v other w one_v one_w idle s h view ne_id view_w =
             (at_set (set s.views id (view_after_join v w)) other j [] u e);
         apart = λ j u e. ⊎_elim (λ t. subst Distinct t.1 tt)
             (λ t. ⊎_elim (λ z. subst Distinct z.1
-                ((λ y in_y q. ne (sym (same_seat b y in_y) ∙ q)), ((λ y none. absurd none), tt)))
-                (λ z. sh.apart j u z.1) (at_set s.views id j (view_after_join v w) u t.1))
+            ((λ y in_y q. ne (sym (same_seat b y in_y) ∙ q)), ((λ y none. absurd none), tt)))
+            (λ z. sh.apart j u z.1) (at_set s.views id j (view_after_join v w) u t.1))
             (at_set (set s.views id (view_after_join v w)) other j [] u e);
         there = λ j near. elim (eqb_tells j a.seat) [
-          | inl h ↦ (view_after_join v w, ap (λ (n : ℕ). get_elem? views_two n) (ap desk_two h.1 ∙ desk_first)
-              ∙ at_id, inl (ap at_one h.1 ∙ put_here at a.seat a2))
+          | inl h ↦ (
+            view_after_join v w,
+            ap (λ (n : ℕ). get_elem? views_two n) (ap desk_two h.1 ∙ desk_first)
+                ∙ at_id,
+            inl (ap at_one h.1 ∙ put_here at a.seat a2),
+          )
           | inr na ↦ elim (eqb_tells j b.seat) [
-            | inl h ↦ (view_after_join v w,
-                ap (λ (n : ℕ). get_elem? views_two n) (ap desk_two h.1 ∙ put_here sh.desk b.seat id)
-                ∙ at_id, inr (inl (ap at_one h.1 ∙ still)))
+            | inl h ↦ (
+              view_after_join v w,
+              ap (λ (n : ℕ). get_elem? views_two n) (ap desk_two h.1 ∙ put_here sh.desk b.seat id)
+                  ∙ at_id,
+              inr (inl (ap at_one h.1 ∙ still)),
+            )
             | inr nb ↦
                 let old = sh.there j near in
                 let desk_is : desk_two j ≡ sh.desk j = put_else sh.desk b.seat id j nb.1 in
@@ -435,17 +447,17 @@ pub parts_again : (k : Rules) (o : Object) (c : Setting) (id : ℕ) (v m : View)
     → Splits {S = Option FloorView} (IsHall k o c) id v (head v) (tail v)
 parts_again k o c id v m e =
     subst (λ (x : View). Splits {S = Option FloorView} (IsHall k o c) id x (head x) (tail x)) (sym e)
-        (parted k o c id (the (view_after_compare m)) (the (tail (view_after_compare m))))
+    (parted k o c id (the (view_after_compare m)) (the (tail (view_after_compare m))))
 
 -- a seat that has met another rests as before
 pub met_rests : (k : Rules) (o : Object) (y z : TableId) (v : View) (number left calls : ℕ) (r : SeatRecord)
     (views : List View) → IsResting k o z (v, []) number left calls → (the v).place ≡ Idle → y ≡ z
     → r.seat ≡ (the v).seat → r.setting ≡ (the v).setting → r.place ≡ (the v).place → r.count ≡ (the v).count
-        → r.mine ≡ (the v).mine → SeesTruly k o r → views ≡ (r ∷ []) ∷ []
+    → r.mine ≡ (the v).mine → SeesTruly k o r → views ≡ (r ∷ []) ∷ []
     → (views ≡ top views ∷ []) × IsResting k o y (top views, []) number left calls × ((the (top views)).place ≡ Idle)
 met_rests k o y z v number left calls r views old idle table seat setting place count mine truly are =
     subst (λ (vs : List View). (vs ≡ top vs ∷ []) × IsResting k o y (top vs, []) number left calls
-        × ((the (top vs)).place ≡ Idle)) (sym are) (
+    × ((the (top vs)).place ≡ Idle)) (sym are) (
       refl,
       record {
         one = refl;

@@ -46,7 +46,7 @@ with_more s es = record s { floor = record s.floor { history = s.floor.history +
 one_kept : (k : Rules) (o : Object) (s : State) (seats conds i : ℕ) (q : Source) (e : Event) → IsKept k o seats conds s
     → i < s.floor.seats → s.world.place i ≡ Active q → IsPrivate i e
     → IsLegal (monitor_of k o s.floor) (s.floor.history ++ e ∷ []) → 2 ≤ left_of s.floor.budget s.floor.history i
-        → IsKept k o seats conds (record s { floor = with_event s.floor e })
+    → IsKept k o seats conds (record s { floor = with_event s.floor e })
 one_kept k o s seats conds i q e kept near active own legal enough = record {
   sound = stays k o s kept.sound.right kept.sound.owner kept.sound.is_sound i e own.seat
       (legal_last (monitor_of k o s.floor) s.floor.history e legal) q active own.enters own.keeps enough;
@@ -61,10 +61,10 @@ one_kept k o s seats conds i q e kept near active own legal enough = record {
 pub more_kept : (k : Rules) (o : Object) (s : State) (seats conds i : ℕ) (q : Source) (es : List Event)
     → IsKept k o seats conds s → i < s.floor.seats → s.world.place i ≡ Active q → ArePrivate i es
     → IsLegal (monitor_of k o s.floor) (s.floor.history ++ es)
-        → length (events_of s.floor.history i) + length es < s.floor.budget → IsKept k o seats conds (with_more s es)
+    → length (events_of s.floor.history i) + length es < s.floor.budget → IsKept k o seats conds (with_more s es)
 more_kept k o s seats conds i q [] kept near active own legal room =
     subst (λ (g : List Event). IsKept k o seats conds (record s { floor = record s.floor { history = g } }))
-        (sym (append-nil s.floor.history)) kept
+    (sym (append-nil s.floor.history)) kept
 more_kept k o s seats conds i q (e ∷ es) kept near active own legal room =
     let past = s.floor.history in
     let m = monitor_of k o s.floor in

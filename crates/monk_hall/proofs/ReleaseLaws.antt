@@ -153,10 +153,10 @@ module _ {k : Rules} {o : Object} {z : TableId} {me : Me} {number calls : ℕ} {
 
   pub released : IsHolding k o z me number calls f → IsRelease k o (the me.0) f call wish known choice to g → is_stay (Some choice) ≡ false
       → (p : Token) → p.hall ≡ z → HasGone (the me.0) g.history to p.me → SeesTruly k o p.me
-          → HasReleased k o (holder z (the me.0) f) call wish to 0 p
+      → HasReleased k o (holder z (the me.0) f) call wish to 0 p
   released h x away p hall gone told =
       let r = the me.0 in let history = ap (λ (y : FloorView). y.history) x.is_grown.grown in let is_known =
-          ap (λ w. w.known) gone.is in let few = gone.few in let steps = ap (λ w. w.steps) gone.is in record {
+      ap (λ w. w.known) gone.is in let few = gone.few in let steps = ap (λ w. w.steps) gone.is in record {
         choice = choice;
         chosen = chosen_as_known x ∙ ap (λ b. choice_of k o (stands_of k o f) call (is_entry_known wish b) wish) (sym is_known);
         away = away;
@@ -187,20 +187,20 @@ module _ {k : Rules} {o : Object} where
       → HasReleased k o a call wish to peeks p
   released_peeked peeks a b x call wish to p y = let is = x.is in let few = y.steps in let steps =
       ap (λ (h : Holder). h.me.steps) is in record {
-    choice = y.choice;
-    chosen = y.chosen ∙ ap (λ (h : Holder). choice_of k o (stands_of k o h.floor) call (is_entry_known wish p.me.known) wish) is;
-    away = y.away;
-    hall = y.hall ∙ ap (λ (h : Holder). h.hall) is;
-    seat = y.seat ∙ ap (λ (h : Holder). h.me.seat) is;
-    setting = y.setting ∙ ap (λ (h : Holder). h.me.setting) is;
-    place = y.place;
-    seen = y.seen ∙ ap (λ (h : Holder). h.floor.history ++ with_next y.choice call ∷ []) is;
-    mine = y.mine ∙ ap (λ (h : Holder). h.me.mine ++ with_next y.choice call ∷ []) is;
-    looks = y.looks ∙ ap (λ (h : Holder). h.me.looks + 0) is ∙ omega arith;
-    steps = omega arith;
-    remembers = remembers_twice peeks a b x p.me y.remembers (let n = y.looks in omega arith);
-    told = y.told;
-  }
+        choice = y.choice;
+        chosen = y.chosen ∙ ap (λ (h : Holder). choice_of k o (stands_of k o h.floor) call (is_entry_known wish p.me.known) wish) is;
+        away = y.away;
+        hall = y.hall ∙ ap (λ (h : Holder). h.hall) is;
+        seat = y.seat ∙ ap (λ (h : Holder). h.me.seat) is;
+        setting = y.setting ∙ ap (λ (h : Holder). h.me.setting) is;
+        place = y.place;
+        seen = y.seen ∙ ap (λ (h : Holder). h.floor.history ++ with_next y.choice call ∷ []) is;
+        mine = y.mine ∙ ap (λ (h : Holder). h.me.mine ++ with_next y.choice call ∷ []) is;
+        looks = y.looks ∙ ap (λ (h : Holder). h.me.looks + 0) is ∙ omega arith;
+        steps = omega arith;
+        remembers = remembers_twice peeks a b x p.me y.remembers (let n = y.looks in omega arith);
+        told = y.told;
+      }
 
 -- what the active seat may do
 module _ {k : Rules} {o : Object} {z : TableId} {me : Me} {number calls : ℕ} {f : FloorView} where
@@ -220,17 +220,17 @@ module _ {k : Rules} {o : Object} {z : TableId} {me : Me} {number calls : ℕ} {
       → IsHolding k o z me number calls f → IsRelease k o (the me.0) f (call number) wish known choice to g
       → is_stay (Some choice) ≡ false
       → (p : Token) → p.hall ≡ z → HasGone (the me.0) g.history to p.me → SeesTruly k o p.me → (a : Holder)
-          → holder z (the me.0) f ≡ a → HasReleased k o a (call a.me.seat) wish to 0 p
+      → holder z (the me.0) f ≡ a → HasReleased k o a (call a.me.seat) wish to 0 p
   released_of {wish} {known} {choice} {to} {g} call h x away p hall gone told a is =
       subst (λ (b : Holder). HasReleased k o b (call b.me.seat) wish to 0 p) is
       (subst (λ n. HasReleased k o (holder z (the me.0) f) (call n) wish to 0 p) (sym h.seated.is_seat)
-          (released h x away p hall gone told))
+      (released h x away p hall gone told))
 
   pub leaves : IsHolding k o z me number calls f → (wish : Pick) (known : Bool) (choice : Next) (g : FloorView)
       → (a : Holder) → holder z (the me.0) f ≡ a → known ≡ is_entry_known wish a.me.known
       → choice ≡ choice_of k o (stands_of k o f) (Leave number next.Stay) known wish
-          → IsGrown k o f (Leave number choice) g
-          → IsRelease k o (the me.0) f (Leave number next.Stay) wish known choice home.Idle g
+      → IsGrown k o f (Leave number choice) g
+      → IsRelease k o (the me.0) f (Leave number next.Stay) wish known choice home.Idle g
   leaves h wish known choice g a is reads chosen grows = record {
     release = (sym h.seated.is_seat, refl);
     may = may_leave (monitor_of k o f) f.history number (owns h) (is_near h);
@@ -244,8 +244,8 @@ module _ {k : Rules} {o : Object} {z : TableId} {me : Me} {number calls : ℕ} {
       → (wish : Pick) (known : Bool) (choice : Next) (g : FloorView) → (a : Holder) → holder z (the me.0) f ≡ a
       → length a.me.mine + 3 ≤ a.me.setting.budget → known ≡ is_entry_known wish a.me.known
       → choice ≡ choice_of k o (stands_of k o f) (Wait number c next.Stay) known wish
-          → IsGrown k o f (Wait number c choice) g
-          → IsRelease k o (the me.0) f (Wait number c next.Stay) wish known choice home.Inner g
+      → IsGrown k o f (Wait number c choice) g
+      → IsRelease k o (the me.0) f (Wait number c next.Stay) wish known choice home.Inner g
   waits h c low has wish known choice g a is room reads chosen grows = record {
     release = (sym h.seated.is_seat, refl);
     may = may_wait (monitor_of k o f) f.history number c (owns h) (is_near h) low has;
@@ -258,10 +258,10 @@ module _ {k : Rules} {o : Object} {z : TableId} {me : Me} {number calls : ℕ} {
   pub signals : IsHolding k o z me number calls f → (c : ℕ) → c < f.conds → has_signaller_queue k.mode ≡ true
       → (wish : Pick) (known : Bool) (choice : Next) (g : FloorView) → (a : Holder) → holder z (the me.0) f ≡ a
       → length a.me.mine + 3 ≤ a.me.setting.budget
-          → (must_stay o (stands_of k o f) (Signal number c next.Stay) ≡ false → known ≡ is_entry_known wish a.me.known)
+      → (must_stay o (stands_of k o f) (Signal number c next.Stay) ≡ false → known ≡ is_entry_known wish a.me.known)
       → choice ≡ choice_of k o (stands_of k o f) (Signal number c next.Stay) known wish
-          → IsGrown k o f (Signal number c choice) g
-          → IsRelease k o (the me.0) f (Signal number c next.Stay) wish known choice home.Inner g
+      → IsGrown k o f (Signal number c choice) g
+      → IsRelease k o (the me.0) f (Signal number c next.Stay) wish known choice home.Inner g
   signals h c low has wish known choice g a is room reads chosen grows = record {
     release = (sym h.seated.is_seat, refl);
     may = may_signal_on (monitor_of k o f) f.history number c (owns h) (is_near h) low has;
@@ -274,8 +274,8 @@ module _ {k : Rules} {o : Object} {z : TableId} {me : Me} {number calls : ℕ} {
   pub signals_and_leaves : IsHolding k o z me number calls f → (c : ℕ) → c < f.conds → returns_at_once k.mode ≡ true
       → (wish : Pick) (known : Bool) (choice : Next) (g : FloorView) → (a : Holder) → holder z (the me.0) f ≡ a
       → known ≡ is_entry_known wish a.me.known
-          → choice ≡ choice_of k o (stands_of k o f) (SignalLeave number c next.Stay) known wish
-          → IsGrown k o f (SignalLeave number c choice) g
+      → choice ≡ choice_of k o (stands_of k o f) (SignalLeave number c next.Stay) known wish
+      → IsGrown k o f (SignalLeave number c choice) g
       → IsRelease k o (the me.0) f (SignalLeave number c next.Stay) wish known choice home.Idle g
   signals_and_leaves h c low has wish known choice g a is reads chosen grows = record {
     release = (sym h.seated.is_seat, refl);
@@ -289,10 +289,10 @@ module _ {k : Rules} {o : Object} {z : TableId} {me : Me} {number calls : ℕ} {
   pub waits_until : IsHolding k o z me number calls f → (p : ℕ) → p < o.predicates → not (has_conditions k.mode) ≡ true
       → (wish : Pick) (known : Bool) (choice : Next) (g : FloorView) → (a : Holder) → holder z (the me.0) f ≡ a
       → length a.me.mine + 3 ≤ a.me.setting.budget
-          → (must_stay o (stands_of k o f) (Until number p next.Stay) ≡ false → known ≡ is_entry_known wish a.me.known)
+      → (must_stay o (stands_of k o f) (Until number p next.Stay) ≡ false → known ≡ is_entry_known wish a.me.known)
       → choice ≡ choice_of k o (stands_of k o f) (Until number p next.Stay) known wish
-          → IsGrown k o f (Until number p choice) g
-          → IsRelease k o (the me.0) f (Until number p next.Stay) wish known choice home.Inner g
+      → IsGrown k o f (Until number p choice) g
+      → IsRelease k o (the me.0) f (Until number p next.Stay) wish known choice home.Inner g
   waits_until h p low has wish known choice g a is room reads chosen grows = record {
     release = (sym h.seated.is_seat, refl);
     may = may_until (monitor_of k o f) f.history number p (owns h) (is_near h) low has;
@@ -331,9 +331,17 @@ module _ {k : Rules} {o : Object} {z : TableId} {me : Me} {number calls : ℕ} {
       (subst (λ n. HasStayed k o (holder z r f) (call n) wish 0 (holder z r g)) (sym h.seated.is_seat) record {
         chosen = sym same ∙ chosen_as_known x;
         is = ap (holder z r) grows
-            ∙ (λ i. record { hall = z; me =
-            record r { mine = own_event f.history e r.seat seat i; looks = plus_none r.looks i; steps =
-            plus_none r.steps i }; floor = with_event f e });
+            ∙ (λ i. record {
+              hall = z;
+              me =
+                  record r {
+                    mine = own_event f.history e r.seat seat i;
+                    looks = plus_none r.looks i;
+                    steps =
+                        plus_none r.steps i;
+                  };
+              floor = with_event f e;
+            });
         remembers = record { knew = λ knew. knew; unlooked = λ _. refl };
         legal = subst (λ (y : FloorView). IsLegal (monitor_of k o y) y.history) (sym x.is_grown.grown)
             (legal-push (monitor_of k o f) f.history (with_next choice (call number)) h.goes.legal x.is_grown.allowed);
@@ -347,12 +355,28 @@ module _ {k : Rules} {o : Object} where
     chosen = y.chosen ∙ ap (λ (h : Holder). choice_of k o (stands_of k o h.floor) call (is_entry_known wish c.me.known) wish) is;
     is = y.is
         ∙ ap (λ (h : Holder). let z : Holder =
-            record h { me = record h.me { known = c.me.known; mine = h.me.mine ++ with_next next.Stay call ∷ []; looks =
-            h.me.looks + 0; steps = h.me.steps + 0 }; floor = with_event h.floor (with_next next.Stay call) } in z) is
-        ∙ (λ i. record a { me =
-            record a.me { known = c.me.known; mine = a.me.mine ++ with_next next.Stay call ∷ []; looks =
-            sym (plus_none (a.me.looks + peeks)) i; steps = sym (plus_none (a.me.steps + peeks)) i }; floor =
-            with_event a.floor (with_next next.Stay call) });
+        record h {
+          me = record h.me {
+            known = c.me.known;
+            mine = h.me.mine ++ with_next next.Stay call ∷ [];
+            looks =
+                h.me.looks + 0;
+            steps = h.me.steps + 0;
+          };
+          floor = with_event h.floor (with_next next.Stay call);
+        } in z) is
+        ∙ (λ i. record a {
+          me =
+              record a.me {
+                known = c.me.known;
+                mine = a.me.mine ++ with_next next.Stay call ∷ [];
+                looks =
+                    sym (plus_none (a.me.looks + peeks)) i;
+                steps = sym (plus_none (a.me.steps + peeks)) i;
+              };
+          floor =
+              with_event a.floor (with_next next.Stay call);
+        });
     remembers = remembers_twice peeks a b x c.me y.remembers (let n = ap (λ (h : Holder). h.me.looks) y.is in omega arith);
     legal = y.legal;
     own = y.own;
@@ -367,14 +391,22 @@ peeked_once z y me new f found same step a is =
       remembers = record { knew = step.1; unlooked = λ e. let more = ap (λ (m : Me). (the m.0).looks) step.0 in absurd (omega arith) };
       known = w.known;
       is = (λ i. holder (same i) (the (step.0 i).0) f)
-          ∙ (λ i. record { hall = z; me =
-          record (with_own r f) { known = w.known; looks = one r.looks i; steps = one r.steps i }; floor = f });
+          ∙ (λ i. record {
+            hall = z;
+            me =
+                record (with_own r f) { known = w.known; looks = one r.looks i; steps = one r.steps i };
+            floor = f;
+          });
     }
 
 pub peeked_none : (n : ℕ) (a : Holder) → n ≡ 0 → HasPeeked n a a
 peeked_none n a e = subst (λ m. HasPeeked m a a) (sym e)
-    record { remembers = record { knew = λ knew. knew; unlooked = λ _. refl }; known = a.me.known; is =
-    λ i. record a { me = record a.me { looks = plus_none a.me.looks i; steps = plus_none a.me.steps i } } }
+    record {
+      remembers = record { knew = λ knew. knew; unlooked = λ _. refl };
+      known = a.me.known;
+      is =
+          λ i. record a { me = record a.me { looks = plus_none a.me.looks i; steps = plus_none a.me.steps i } };
+    }
 
 module _ {k : Rules} {o : Object} {z : TableId} {me : Me} {number calls : ℕ} {f : FloorView} where
   pub has_cond : IsHolding k o z me number calls f → (c : ℕ) (a : Holder) → holder z (the me.0) f ≡ a → c < a.me.setting.conds → c < f.conds
@@ -395,7 +427,7 @@ pub released_after : (k : Rules) (o : Object) (call : ℕ → Event) (wish : Pic
     → HasReleased k o b (call b.me.seat) wish to 0 p → HasReleased k o a (call a.me.seat) wish to peeks p
 released_after k o call wish to peeks a b x p m =
     released_peeked peeks a b x (call a.me.seat) wish to p
-        (subst (λ e. HasReleased k o b e wish to 0 p) (ap (λ (h : Holder). call h.me.seat) x.is) m)
+    (subst (λ e. HasReleased k o b e wish to 0 p) (ap (λ (h : Holder). call h.me.seat) x.is) m)
 
 pub after_peeked : {K T : Type 0} (k : Rules) (o : Object) (call : ℕ → Event) (wish : Pick) (to : Home) (peeks : ℕ)
     (a b : Holder) → HasPeeked peeks a b → (r : After K T)

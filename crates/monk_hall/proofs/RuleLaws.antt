@@ -62,7 +62,7 @@ module _ (k : Rules) (o : Object) (c : Setting) (s : HallState) (h : IsHall k o 
 -- two with the right are one
 one : (k : Rules) (o : Object) (c : Setting) (s : HallState) → IsHall k o c s → (r q : SeatRecord) → (x : IsRecord s r) → (y : IsRecord s q)
     → (due_stage ≤ stage r.place) × (stage r.place ≤ passing_stage) → (due_stage ≤ stage q.place)
-        × (stage q.place ≤ passing_stage) → (r ≡ q) × (x.id ≡ y.id)
+    × (stage q.place ≤ passing_stage) → (r ≡ q) × (x.id ≡ y.id)
 one k o c s h r q x y a b =
     let mine = with k o c s h r x a.0 a.1 in
     let theirs = with k o c s h q y b.0 b.1 in

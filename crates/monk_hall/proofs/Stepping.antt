@@ -68,7 +68,7 @@ module _ (k : Rules) (o : Object) (c : Setting) (kind : IsKind k) (s : table.Sta
   pub left_is : stage r.place ≢ active_stage → left_of c.budget kept_hall.history r.seat ≡ r.setting.budget - length r.mine
   left_is not_active =
       let mine = frame.shows_mine k o c s.homes at s.words kept_hall.past kept_hall.history kept_hall.told
-          kept_hall.kept.sound.right kept_hall.kept.sound.owner sound.stands.keeps
+      kept_hall.kept.sound.right kept_hall.kept.sound.owner sound.stands.keeps
       r.seat (λ e. not_active (sym (ap (λ (y : SeatRecord). stage y.place) is) ∙ e)) ∙ ap (λ (y : SeatRecord). y.mine) is in
       let long = ap length mine in
       let budget : r.setting.budget ≡ c.budget = ap (λ (y : Setting). y.budget) setting in
@@ -80,8 +80,8 @@ module _ (k : Rules) (o : Object) (c : Setting) (kind : IsKind k) (s : table.Sta
       let kh = kept_hall in
       let seen = frame.starts_enters kh.past r.seen (subst (λ (y : SeatRecord). StartsWith kh.past y.seen) is (kh.told.starts r.seat)) in
       let shows = frame.starts_enters kh.history kh.past
-          (frame.shows_past k o c s.homes at s.words kh.past kh.history kh.told kh.kept.sound.right kh.kept.sound.owner
-          sound.stands.keeps) in
+      (frame.shows_past k o c s.homes at s.words kh.past kh.history kh.told kh.kept.sound.right kh.kept.sound.owner
+      sound.stands.keeps) in
       let entered = frame.entered_few k o state kh.kept.sound.right kh.kept.sound.owner sound in
       omega arith
 
@@ -147,7 +147,7 @@ module _ (k : Rules) (o : Object) (c : Setting) (kind : IsKind k) (s : table.Sta
       → AreTold k o c s.homes (put at r.seat w) (shown_world ws (put at r.seat w)) kept_hall.past kept_hall.history
   knows_after w ws moved calls was apart =
       told_moves k o c s.homes at world kept_hall.past kept_hall.history kept_hall.told r.seat w
-          (moved.seen ∙ ap (λ (y : SeatRecord). y.seen) (sym is))
-          (moved.mine ∙ ap (λ (y : SeatRecord). y.mine) (sym is))
+      (moved.seen ∙ ap (λ (y : SeatRecord). y.seen) (sym is))
+      (moved.mine ∙ ap (λ (y : SeatRecord). y.mine) (sym is))
       (shown_world ws (put at r.seat w)) calls (λ e. was (sym (ap (λ (y : SeatRecord). stage y.place) is) ∙ e))
-          apart.not_active apart.not_back
+      apart.not_active apart.not_back

@@ -33,11 +33,11 @@ pub place_stored : (words : List ℕ) (q x : ℕ) → place_word q < length word
 place_stored words q x near = λ m i.
     at_put (λ n. slice_index words (place_word n)) q x (λ n y. Path ℕ (slice_index (set words (place_word q) x) (place_word n)) y)
     (get_or-set_same words (place_word q) x 0 near)
-        (λ n ne. get_or-set_other words (place_word q) (place_word n) x 0 (λ e. ne (omega arith))) i m
+    (λ n ne. get_or-set_other words (place_word q) (place_word n) x 0 (λ e. ne (omega arith))) i m
 
 pub seat_stored : (words : List ℕ) (q x : ℕ) → seat_word q < length words
     → Path (ℕ → ℕ) (λ j. slice_index (set words (seat_word q) x) (seat_word j)) (put (λ j. slice_index words (seat_word j)) q x)
 seat_stored words q x near = λ m j.
     at_put (λ n. slice_index words (seat_word n)) q x (λ n y. Path ℕ (slice_index (set words (seat_word q) x) (seat_word n)) y)
     (get_or-set_same words (seat_word q) x 0 near)
-        (λ n ne. get_or-set_other words (seat_word q) (seat_word n) x 0 (λ e. ne (omega arith))) j m
+    (λ n ne. get_or-set_other words (seat_word q) (seat_word n) x 0 (λ e. ne (omega arith))) j m

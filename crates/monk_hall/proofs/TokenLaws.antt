@@ -81,8 +81,17 @@ module _ {k : Rules} {o : Object} where
 
   pub rests_moved : {z : TableId} {me : Me} {number left calls : ℕ} → IsResting k o z me number left calls
       → (p : Place) (known : Bool) (count looks steps now : ℕ) → now ≡ count
-      → IsResting k o z (record (the me.0) { place = p; known = known; count = count; looks = looks; steps =
-          steps } ∷ [], me.1) number left now
+      → IsResting k o z (
+        record (the me.0) {
+          place = p;
+          known = known;
+          count = count;
+          looks = looks;
+          steps =
+              steps;
+        } ∷ [],
+        me.1,
+      ) number left now
   rests_moved {z} {me} x p known count looks steps now counts = record {
     one = refl;
     free = x.free;
@@ -113,7 +122,7 @@ module _ {k : Rules} {o : Object} where
   pub came_in : {z : TableId} {me : Me} {number left calls : ℕ} → IsResting k o z me number left calls
       → (f g : FloorView) → Finds k o (the me.0) f
       → g ≡ with_event f (out_event (the me.0).seat (source_from (the me.0).place) (turn f.history))
-          → IsHolding k o z (record_after_floor_out (the me.0) f.history ∷ [], (0, None) ∷ []) number calls g
+      → IsHolding k o z (record_after_floor_out (the me.0) f.history ∷ [], (0, None) ∷ []) number calls g
   came_in {z} {me} {number} {left} {calls} x f g finds grows =
       let r = the me.0 in let e = out_event r.seat (source_from r.place) (turn f.history) in
       subst (λ y. IsHolding k o z (record_after_floor_out r f.history ∷ [], (0, None) ∷ []) number calls y) (sym grows) record {
@@ -128,26 +137,31 @@ module _ {k : Rules} {o : Object} where
 
   pub entered : (z : TableId) (r : SeatRecord) (q : Source) (f : FloorView) → r.place ≡ Due q → Finds k o r f
       → HasEntered k o (record { hall = z; me = r })
-          (record { hall = z; me =
-          with_own (record_after_floor_out r f.history)
-          (with_event f (out_event r.seat (source_from r.place) (turn f.history))); floor =
-          with_event f (out_event r.seat (source_from r.place) (turn f.history)) })
+      (record {
+        hall = z;
+        me =
+            with_own (record_after_floor_out r f.history)
+            (with_event f (out_event r.seat (source_from r.place) (turn f.history)));
+        floor =
+            with_event f (out_event r.seat (source_from r.place) (turn f.history));
+      })
   entered z r q f at x = let e = out_event r.seat (source_from r.place) (turn f.history) in
       let same : source_from r.place ≡ source_from r.place = ap source_from at ∙ sym (ap source_from at) in let goes =
       came_goes r f x in record {
-    hall = refl;
-    seat = refl;
-    setting = refl;
-    place = ap Active same;
-    known = refl;
-    starts = x.starts;
-    floor = ap (λ y. with_event y e) x.is_floor ∙ ap (λ y. floor_of r.setting (f.history ++ out_event r.seat y (turn f.history) ∷ [])) same;
-    mine = goes.mine ∙ ap (λ y. r.mine ++ out_event r.seat y (turn f.history) ∷ []) same;
-    first = λ t is. x.first t (same ∙ is);
-    next = λ t is. x.next t (same ∙ is);
-    legal = goes.legal;
-    own = refl;
-  }
+        hall = refl;
+        seat = refl;
+        setting = refl;
+        place = ap Active same;
+        known = refl;
+        starts = x.starts;
+        floor = ap (λ y. with_event y e) x.is_floor
+            ∙ ap (λ y. floor_of r.setting (f.history ++ out_event r.seat y (turn f.history) ∷ [])) same;
+        mine = goes.mine ∙ ap (λ y. r.mine ++ out_event r.seat y (turn f.history) ∷ []) same;
+        first = λ t is. x.first t (same ∙ is);
+        next = λ t is. x.next t (same ∙ is);
+        legal = goes.legal;
+        own = refl;
+      }
 
   -- a step leaves the seat of the same table, and its view is this
   pub rests_at : {z : TableId} {me : Me} {number left calls : ℕ} → IsResting k o z me number left calls
@@ -160,8 +174,8 @@ module _ {k : Rules} {o : Object} where
   pub arrival_rests : {z : TableId} {v : View} {number left calls : ℕ} → IsResting k o z (v, []) number left calls
       → (me : Me) → me.0 ≡ v → me.1 ≡ []
       → (y : TableId) (new : Me) (found : ℕ) (p : Place) → y ≡ z
-          → new ≡ (record_after_arrive (the me.0) found ∷ [], me.1) → length (the v).mine + 2 ≤ (the v).setting.budget
-          → p ≡ place_after_arrive (tickets found) (unpassed found)
+      → new ≡ (record_after_arrive (the me.0) found ∷ [], me.1) → length (the v).mine + 2 ≤ (the v).setting.budget
+      → p ≡ place_after_arrive (tickets found) (unpassed found)
       → IsResting k o y new number left calls × (2 ≤ left) × (p ≡ (the new.0).place) × IsWaiting p
   arrival_rests {z} {v} {number} {left} {calls} x me view free y new found p same is two at =
       let r = the v in let spent = x.spent in
@@ -204,7 +218,7 @@ module _ {k : Rules} {o : Object} where
   pub call_look_rests : {z : TableId} {me : Me} {number left calls : ℕ} → IsResting k o z me number left calls
       → (found : ℕ) → (y : TableId) (new : Me) (p : Place) (b : Bool) (now : ℕ)
       → y ≡ z → new ≡ (record_after_seat_look (the me.0) found ∷ [], me.1) → b ≡ (found == calls + 1)
-          → p ≡ place_after_seat_look b → now ≡ count_after_seat_look calls (found == calls + 1)
+      → p ≡ place_after_seat_look b → now ≡ count_after_seat_look calls (found == calls + 1)
       → IsResting k o y new number left now × (p ≡ (the new.0).place) × IsWaiting p
   call_look_rests {z} {me} {number} {left} {calls} x found y new p b now same is says looks counts =
       let r = the me.0 in let e = x.seated.counted in (
@@ -225,21 +239,21 @@ module _ {k : Rules} {o : Object} where
   pub entry_holds : {z : TableId} {me : Me} {number left calls : ℕ} → IsResting k o z me number left calls
       → (f g : FloorView) (q : Source) → Finds k o (the me.0) f → (the me.0).place ≡ Due q
       → g ≡ with_event f (out_event number q (turn f.history)) → (y : TableId) (new : Me) → y ≡ z
-          → new ≡ (record_after_floor_out (the me.0) f.history ∷ [], (0, None) ∷ [])
-          → IsHolding k o y new number calls g
+      → new ≡ (record_after_floor_out (the me.0) f.history ∷ [], (0, None) ∷ [])
+      → IsHolding k o y new number calls g
   entry_holds {z} {me} {number} {left} {calls} x f g q finds at grows y new same is =
       subst (λ a. IsHolding k o a new number calls g) (sym same)
-          (subst (λ m. IsHolding k o z m number calls g) (sym is) (came_in x f g finds (out_is x f g q at grows)))
+      (subst (λ m. IsHolding k o z m number calls g) (sym is) (came_in x f g finds (out_is x f g q at grows)))
 
   pub entry : {z : TableId} {me : Me} {number left calls : ℕ} → IsResting k o z me number left calls
       → (f g : FloorView) (q : Source) → Finds k o (the me.0) f → (the me.0).place ≡ Due q
       → g ≡ with_event f (out_event number q (turn f.history)) → (y : TableId) (new : Me) → y ≡ z
-          → new ≡ (record_after_floor_out (the me.0) f.history ∷ [], (0, None) ∷ [])
-          → HasEntered k o (token z (the me.0)) (holder y (the new.0) g)
+      → new ≡ (record_after_floor_out (the me.0) f.history ∷ [], (0, None) ∷ [])
+      → HasEntered k o (token z (the me.0)) (holder y (the new.0) g)
   entry {z} {me} x f g q finds at grows y new same is =
       subst (HasEntered k o (token z (the me.0)))
-          (λ i. holder (sym same i) (sym (ap (λ m. the m.0) is) i) (sym (out_is x f g q at grows) i))
-          (entered z (the me.0) q f at finds)
+      (λ i. holder (sym same i) (sym (ap (λ m. the m.0) is) i) (sym (out_is x f g q at grows) i))
+      (entered z (the me.0) q f at finds)
 
 -- what a look leaves as it was
 pub record IsAsBefore (r w : SeatRecord) : Type 0 where
@@ -301,7 +315,7 @@ module _ {k : Rules} {o : Object} where
   pub few_looked : (p q : Token) → HasLooked k o p q → (q.me.looks ≤ p.me.looks + 1) × (q.me.steps ≤ p.me.steps + 1)
   few_looked p q l =
       let s = look_leaves p.me.place p.me l.found in let looks = s.looks in let steps = s.steps in let same_looks =
-          ap (λ w. w.looks) l.me in let same_steps = ap (λ w. w.steps) l.me in
+      ap (λ w. w.looks) l.me in let same_steps = ap (λ w. w.steps) l.me in
       (omega arith, omega arith)
 
   -- an event of the active seat that keeps the turn with it
@@ -313,7 +327,8 @@ module _ {k : Rules} {o : Object} where
     near = x.near;
     legal = legal-push (monitor_of k o f) f.history e x.legal allowed;
     since = x.since ++ e ∷ [];
-    goes = ap (λ h. h ++ e ∷ []) x.goes ∙ append_assoc (r.seen ++ out_event r.seat (source_from r.place) (turn r.seen) ∷ []) x.since (e ∷ []);
+    goes = ap (λ h. h ++ e ∷ []) x.goes
+        ∙ append_assoc (r.seen ++ out_event r.seat (source_from r.place) (turn r.seen) ∷ []) x.since (e ∷ []);
     own = own_more r.seat x.since e x.own (record { seat = seat; keeps = keeps; enters = enters });
     owned = turn-push f.history e ∙ keeps;
     mine = own_event f.history e r.seat seat ∙ ap (λ h. h ++ e ∷ []) x.mine
@@ -324,8 +339,8 @@ module _ {k : Rules} {o : Object} where
   pub grown_holds : {z : TableId} {me : Me} {number calls : ℕ} {f : FloorView} → IsHolding k o z me number calls f
       → (e : Event) → seat_of e ≡ number → turn_by (seat_of e) (next_of e) ≡ Owned number
       → is_enter e ≡ false → IsAllowed (monitor_of k o f) f.history e
-          → length (events_of f.history (the me.0).seat) + 2 ≤ (the me.0).setting.budget → (g : FloorView)
-          → g ≡ with_event f e → IsHolding k o z me number calls g
+      → length (events_of f.history (the me.0).seat) + 2 ≤ (the me.0).setting.budget → (g : FloorView)
+      → g ≡ with_event f e → IsHolding k o z me number calls g
   grown_holds {z} {me} {number} {calls} {f} x e seat keeps enters allowed room g grows = let n = x.seated.is_seat in
       subst (λ y. IsHolding k o z me number calls y) (sym grows) record {
         one = x.one;
@@ -341,8 +356,12 @@ module _ {k : Rules} {o : Object} where
       → HasDone k o (holder z r f) e (holder z r g)
   grown_does z r f g e seat legal allowed grows = record {
     is = ap (holder z r) grows
-        ∙ (λ i. record { hall = z; me = record r { mine = own_event f.history e r.seat seat i }; floor =
-        with_event f e });
+        ∙ (λ i. record {
+          hall = z;
+          me = record r { mine = own_event f.history e r.seat seat i };
+          floor =
+              with_event f e;
+        });
     legal = subst (λ y. IsLegal (monitor_of k o y) y.history) (sym grows) (legal-push (monitor_of k o f) f.history e legal allowed);
     own = refl;
   }

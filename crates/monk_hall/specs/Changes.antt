@@ -55,14 +55,22 @@ record_after_arrive r found = record r { place = place_after_arrive (tickets fou
 -- it looked at the place of its ticket
 abbrev pub record_after_ticket_look : SeatRecord → ℕ → SeatRecord
 record_after_ticket_look r found =
-    record r { place = place_after_ticket_look (ticket r.place) (found == ticket r.place + 1); looks = suc r.looks;
-    steps = suc r.steps }
+    record r {
+      place = place_after_ticket_look (ticket r.place) (found == ticket r.place + 1);
+      looks = suc r.looks;
+      steps = suc r.steps;
+    }
 
 -- it looked at its own place
 abbrev pub record_after_seat_look : SeatRecord → ℕ → SeatRecord
 record_after_seat_look r found =
-    record r { place = place_after_seat_look (found == r.count + 1); count =
-    count_after_seat_look r.count (found == r.count + 1); looks = suc r.looks; steps = suc r.steps }
+    record r {
+      place = place_after_seat_look (found == r.count + 1);
+      count =
+          count_after_seat_look r.count (found == r.count + 1);
+      looks = suc r.looks;
+      steps = suc r.steps;
+    }
 
 -- active, it looked whether somebody waits for entry
 abbrev pub record_after_peek : SeatRecord → ℕ → SeatRecord
@@ -75,8 +83,13 @@ record_after_floor_out r history = record r { place = Active (source_from r.plac
 -- it brought the floor back, with this history
 abbrev pub record_after_floor_in : SeatRecord → List Event → SeatRecord
 record_after_floor_in r history =
-    record r { place = back_after (last_or None history); seen = history; mine = events_of history r.seat; steps =
-    suc r.steps }
+    record r {
+      place = back_after (last_or None history);
+      seen = history;
+      mine = events_of history r.seat;
+      steps =
+          suc r.steps;
+    }
 
 -- it took itself off the ticket word
 abbrev pub record_after_drop : SeatRecord → ℕ → SeatRecord

@@ -68,8 +68,12 @@ abbrev pub ArriveSteps : Type 0
 ArriveSteps = OfASeat (λ k o c s h id r.
     r.place ≡ Idle → length r.mine + 2 ≤ r.setting.budget
     → Takes k o c s h r.seat command.Arrive (answer.Arrived (tickets (first_word s)) (unpassed (first_word s)))
-    (record { words = set s.words 0 ((first_word s + 4294967297) % 18446744073709551616); homes = s.homes; views =
-        set s.views id (record_after_arrive r (first_word s) ∷ []) }))
+    (record {
+      words = set s.words 0 ((first_word s + 4294967297) % 18446744073709551616);
+      homes = s.homes;
+      views =
+          set s.views id (record_after_arrive r (first_word s) ∷ []);
+    }))
 
 -- step 2
 abbrev pub TicketLookSteps : Type 0
@@ -90,15 +94,19 @@ abbrev pub PeekSteps : Type 0
 PeekSteps = OfASeat (λ k o c s h id r.
     stage r.place ≡ active_stage
     → Takes k o c s h r.seat command.Peek (answer.Found (unpassed (first_word s)))
-        (record s { views = set s.views id (record_after_peek r (first_word s) ∷ []) }))
+    (record s { views = set s.views id (record_after_peek r (first_word s) ∷ []) }))
 
 -- step 5, out
 abbrev pub FloorOutSteps : Type 0
 FloorOutSteps = OfASeat (λ k o c s h id r.
     stage r.place ≡ due_stage
     → Takes k o c s h r.seat command.Out answer.Now
-        (record { words = s.words; homes = set s.homes 0 none; views =
-        set s.views id (record_after_floor_out r h.2.past ∷ []) }))
+    (record {
+      words = s.words;
+      homes = set s.homes 0 none;
+      views =
+          set s.views id (record_after_floor_out r h.2.past ∷ []);
+    }))
 
 -- the active seat brings a floor home: what is shown, events of the seat alone that keep the turn with it, and then a
 -- step of the world, a release that chose another
@@ -118,32 +126,48 @@ abbrev pub FloorInSteps : Type 0
 FloorInSteps = OfASeat (λ k o c s h id r.
     (f : FloorView) → stage r.place ≡ active_stage → Returns k o r f
     → BringsHome k o c s h r.seat
-        (record { words = s.words; homes = set s.homes 0 (some (Some f)); views =
-        set s.views id (record_after_floor_in r f.history ∷ []) }))
+    (record {
+      words = s.words;
+      homes = set s.homes 0 (some (Some f));
+      views =
+          set s.views id (record_after_floor_in r f.history ∷ []);
+    }))
 
 -- step 6
 abbrev pub DropSteps : Type 0
 DropSteps = OfASeat (λ k o c s h id r.
     (to : Home) → r.place ≡ Back Entry to
     → Takes k o c s h r.seat command.Drop (answer.Found (unpassed (first_word s)))
-    (record { words = set s.words 0 ((first_word s + 18446744073709551615) % 18446744073709551616); homes =
-        s.homes; views = set s.views id (record_after_drop r (first_word s) ∷ []) }))
+    (record {
+      words = set s.words 0 ((first_word s + 18446744073709551615) % 18446744073709551616);
+      homes =
+          s.homes;
+      views = set s.views id (record_after_drop r (first_word s) ∷ []);
+    }))
 
 -- step 7
 abbrev pub TicketGrantSteps : Type 0
 TicketGrantSteps = OfASeat (λ k o c s h id r.
     stage r.place ≡ passing_stage
     → Takes k o c s h r.seat command.Grant (answer.GrantedTicket (ticket r.place))
-    (record { words = set s.words (ticket_word c.seats (ticket r.place)) (ticket r.place + 1); homes = s.homes; views =
-        set s.views id (record_after_grant r ∷ []) }))
+    (record {
+      words = set s.words (ticket_word c.seats (ticket r.place)) (ticket r.place + 1);
+      homes = s.homes;
+      views =
+          set s.views id (record_after_grant r ∷ []);
+    }))
 
 -- step 8
 abbrev pub SeatGrantSteps : Type 0
 SeatGrantSteps = OfASeat (λ k o c s h id r.
     (m : ℕ) → back_turn r.place ≡ due_to m
     → Takes k o c s h r.seat command.Grant (answer.GrantedSeat m)
-    (record { words = set s.words (seat_word m) (granted_of r.seen m); homes = s.homes; views =
-        set s.views id (record_after_grant r ∷ []) }))
+    (record {
+      words = set s.words (seat_word m) (granted_of r.seen m);
+      homes = s.homes;
+      views =
+          set s.views id (record_after_grant r ∷ []);
+    }))
 
 -- the right to be active is in exactly one place
 abbrev pub RightInOnePlace : Type 0
@@ -166,7 +190,7 @@ abbrev pub OneIsActive : Type 0
 OneIsActive =
     (k : Rules) (o : Object) (c : Setting) (s : HallState) → IsHall k o c s
     → (r q : SeatRecord) → (x : IsRecord s r) → (y : IsRecord s q) → stage r.place ≡ active_stage
-        → stage q.place ≡ active_stage → (r ≡ q) × (x.id ≡ y.id)
+    → stage q.place ≡ active_stage → (r ≡ q) × (x.id ≡ y.id)
 
 -- an active seat knows of somebody at the entry only while two tickets are not passed on: its own, and one that waits
 abbrev pub KnownWaits : Type 0
@@ -179,4 +203,4 @@ abbrev pub EntryWaits : Type 0
 EntryWaits =
     (k : Rules) (o : Object) (c : Setting) (s : HallState) → IsHall k o c s
     → (r : SeatRecord) (to : Home) → IsRecord s r → r.place ≡ Back Entry to → is_quiet k o (floor_of c r.seen) ≡ false
-        → 2 ≤ unpassed (slice_index s.words 0)
+    → 2 ≤ unpassed (slice_index s.words 0)

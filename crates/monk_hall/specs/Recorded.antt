@@ -57,13 +57,13 @@ pub record IsRecorded {K T : Type 0} (k : Rules) (o : Object) (to : Home) (r : R
 abbrev pub GoesOutside : {K T : Type 0} → Rules → Object → Release K T → Token → Type 0
 GoesOutside k o r p =
     (a : Holder) (call : ℕ → Event) (wish : Pick) (known : Bool) → HasRecorded k o a call wish known home.Idle r
-        → HasReleased k o a (call a.me.seat) wish home.Idle 0 p
+    → HasReleased k o a (call a.me.seat) wish home.Idle 0 p
 
 -- it is parked inside
 abbrev pub GoesInside : {K T : Type 0} → Rules → Object → Release K T → Token → Type 0
 GoesInside k o r p =
     (a : Holder) (call : ℕ → Event) (wish : Pick) (known : Bool) → HasRecorded k o a call wish known home.Inner r
-        → HasReleased k o a (call a.me.seat) wish home.Inner 0 p
+    → HasReleased k o a (call a.me.seat) wish home.Inner 0 p
 
 -- it stays active where it was chosen itself, and else is parked inside
 abbrev pub GoesOnOrInside : {K T K2 T2 : Type 0} → Rules → Object → Release K T → After K2 T2 → Type 0

@@ -46,4 +46,4 @@ pub counted : (came went : ℕ) (act : Answered) (acts : List Answered) (before 
 counted came went act acts before between after one more =
     rw (times_done-cons came act acts, times_done-cons went act acts)
     (joined (cond (is_done came act) 1 0) (cond (is_done went act) 1 0) (times_done came acts) (times_done went acts)
-        before between after one more)
+    before between after one more)

@@ -25,19 +25,48 @@ done : (size sitting chair : ℕ) → sitting ≤ size → (code : ℕ)
 done size sitting chair within = by_code
     (λ code. shop_serves size sitting chair code ≡ true → Step size sitting chair code true (shop_served size sitting chair code))
     (λ e. let less : sitting < size = ltb-true _ _ e in
-    record { sitting_next = sitting + 1; chair_next = chair; state = refl; within = omega arith; sat = omega arith;
-        called = refl; finished = refl })
+    record {
+      sitting_next = sitting + 1;
+      chair_next = chair;
+      state = refl;
+      within = omega arith;
+      sat = omega arith;
+      called = refl;
+      finished = refl;
+    })
     (λ e. let parts = both (nat_lt 0 sitting) (chair == 0) e in
     let some : 0 < sitting = ltb-true _ _ parts.0 in
     let there : chair ≡ 0 = eqb-true _ _ parts.1 in
-    record { sitting_next = sitting - 1; chair_next = 1; state = refl; within = omega arith; sat = omega arith; called =
-        rw there refl; finished = rw there refl })
+    record {
+      sitting_next = sitting - 1;
+      chair_next = 1;
+      state = refl;
+      within = omega arith;
+      sat = omega arith;
+      called =
+          rw there refl;
+      finished = rw there refl;
+    })
     (λ e. let there : chair ≡ 1 = eqb-true _ _ e in
-    record { sitting_next = sitting; chair_next = 2; state = refl; within = within; sat = refl; called = rw there refl;
-        finished = rw there refl })
+    record {
+      sitting_next = sitting;
+      chair_next = 2;
+      state = refl;
+      within = within;
+      sat = refl;
+      called = rw there refl;
+      finished = rw there refl;
+    })
     (λ e. let there : chair ≡ 2 = eqb-true _ _ e in
-    record { sitting_next = sitting; chair_next = 0; state = refl; within = within; sat = refl; called = rw there refl;
-        finished = rw there refl })
+    record {
+      sitting_next = sitting;
+      chair_next = 0;
+      state = refl;
+      within = within;
+      sat = refl;
+      called = rw there refl;
+      finished = rw there refl;
+    })
     (λ code n0 n1 n2 n3 e. absurd (none code n0 n1 n2 n3 e))
   where
     none : (code : ℕ) → (code == 0) ≡ false → (code == 1) ≡ false → (code == 2) ≡ false → (code == 3) ≡ false
@@ -75,7 +104,7 @@ run size sitting chair within [] =
 run size sitting chair within (op ∷ ops) =
     let s = step size sitting chair within op.code (shop_serves size sitting chair op.code) refl in
     let r = subst (λ start. Run size s.sitting_next s.chair_next start ops) (sym s.state)
-        (run size s.sitting_next s.chair_next s.within ops) in
+    (run size s.sitting_next s.chair_next s.within ops) in
     let act : Answered = record { op = op; reply = shop_reply (size ∷ sitting ∷ chair ∷ []) op } in
     let acts = answers_of shop_meaning (shop_after (size ∷ sitting ∷ chair ∷ []) op) ops in
     record {

@@ -24,7 +24,7 @@ taken_by take reply = cond (take && nat_lt 0 reply) ((reply - 1) ∷ []) []
 
 step_by : (put take room : Bool) (items : List ℕ) (arg : ℕ) → (put ≡ true → take ≡ false)
     → items ++ put_by put (reply_by put take room items) arg ≡ taken_by take (reply_by put take room items)
-        ++ after_by put take room items arg
+    ++ after_by put take room items arg
 step_by true true room items arg one = let f : true ≡ false = one refl in absurd cc
 step_by true false true items arg one = refl
 step_by true false false items arg one = append-nil items

@@ -71,7 +71,7 @@ pub passes_ready : (k : Rules) (h : House) (ps : List Token) → h.setting.conds
     → ps ≡ tokens h.id (opening_records h.setting h.setting.seats 0) → AreReady k h ps
 passes_ready k h ps conds e =
     All-same (IsReady k h) ps _ e
-        (ready_from k h.id h.setting (subst (λ (n : ℕ). Offers k n 3) (sym conds) (offers_all k)) h.setting.seats 0)
+    (ready_from k h.id h.setting (subst (λ (n : ℕ). Offers k n 3) (sym conds) (offers_all k)) h.setting.seats 0)
 
 -- a run's history is short
 pub few_events : (seats rounds n : ℕ) → seats ≤ 16 → rounds ≤ 1000 → n ≤ seats * budget_of seats rounds → n ≤ 2 ^ 24
@@ -94,7 +94,7 @@ pub history_of : (k : Rules) (sample : Sample) (seats rounds : ℕ) (c : Setting
     → IsClosed k (meaning_named (sample_object sample)) c h → IsHistoryOf k sample seats rounds h
 history_of k sample seats rounds c h e closed =
     let z = subst (λ (x : Setting). IsClosed k (meaning_named (sample_object sample)) x h) e closed in
-        record { legal = z.legal; few = z.few }
+    record { legal = z.legal; few = z.few }
 
 pub law_of : (k : Rules) (sample : Sample) (seats : ℕ) (h : List Event) → let m =
     monitor k seats (conds_of k) (meaning_named (sample_object sample)) (opening_named (sample_object sample) size) in
@@ -121,7 +121,7 @@ pub header_is : (k : KindName) (sample : Sample) (seats conds : ℕ) (h : Headin
     → h ≡ run_heading k sample seats
 header_is k sample seats conds h e c =
     some_is (nat_le 1 seats && nat_le seats most_seats && nat_le conds most_conds && nat_le 1 size)
-        (record { kind = k; seats = seats; conds = conds; object = sample_object sample; size = size }) h e
+    (record { kind = k; seats = seats; conds = conds; object = sample_object sample; size = size }) h e
     ∙ ap (λ n. record { kind = k; seats = seats; conds = n; object = sample_object sample; size = size }) c
 
 pub outcome_of : (k : Rules) (name : KindName) (sample : Sample) (seats rounds : ℕ) (h : Heading) (history : List Event)
@@ -130,7 +130,7 @@ pub outcome_of : (k : Rules) (name : KindName) (sample : Sample) (seats rounds :
     → IsOutcome name sample seats h history totals
 outcome_of k name sample seats rounds h history totals near short named of header same =
     let m : Rules → Monitor = λ r. monitor r seats (conds_of r) (meaning_named (sample_object sample))
-        (opening_named (sample_object sample) size) in
+    (opening_named (sample_object sample) size) in
     let legal = subst (λ (r : Rules). IsLegal (m r) history) named of.legal in
     record {
       header = header;

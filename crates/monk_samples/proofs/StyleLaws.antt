@@ -29,12 +29,12 @@ module _ (k : Rules) (o : Object) where
   -- a seat that stayed, or came in again
   pub went_on : {K T : Type 0} (x : After K T) (a : Holder) (call : Event) (wish : Pick) (to : Home) (peeks : ℕ) (b : Holder)
       → MatchAfter x (λ y. HasStayed k o a call wish peeks y) (λ p. HasReleased k o a call wish to peeks p)
-          → MatchAfter x (λ y. b ≡ y) (λ p. HasEntered k o p b)
-          → HasCalled (inside a) (inside b) ((call_in call ++ []) ++ [])
+      → MatchAfter x (λ y. b ≡ y) (λ p. HasEntered k o p b)
+      → HasCalled (inside a) (inside b) ((call_in call ++ []) ++ [])
   went_on (Active y) a call wish to peeks b s same =
       subst (λ (h : Holder). HasCalled (inside a) (inside h) ((call_in call ++ []) ++ [])) (sym same)
       (called_then (inside a) (inside y) (inside y) (call_in call ++ []) [] (stayed k o a call wish peeks y s)
-          record { own = []; went = went_nowhere (inside y); called = refl })
+      record { own = []; went = went_nowhere (inside y); called = refl })
   went_on (Parked p) a call wish to peeks b r e = came_back a call wish to peeks p b r e
 
   pub given_up : (a : Holder) (wish : Pick) (to : Home) (peeks : ℕ) (p : Token)
@@ -51,11 +51,11 @@ module _ (k : Rules) (o : Object) where
   -- a signal and a leave
   pub signalled_out : (a : Holder) (c : ℕ) (b : Holder) (wish : Pick) (to : Home) (peeks : ℕ) (p : Token)
       → HasCalled (inside a) (inside b) (Signal a.me.seat c Stay ∷ [])
-          → HasReleased k o b (Leave b.me.seat Stay) wish to peeks p
-          → HasGoneBy k o a (Signal a.me.seat c Stay ∷ Leave a.me.seat Stay ∷ []) p
+      → HasReleased k o b (Leave b.me.seat Stay) wish to peeks p
+      → HasGoneBy k o a (Signal a.me.seat c Stay ∷ Leave a.me.seat Stay ∷ []) p
   signalled_out a c b wish to peeks p called r = record {
     called = subst (λ (s : ℕ). HasCalled (inside a) (outside p) (Signal a.me.seat c Stay ∷ Leave s Stay ∷ [])) called.went.seat
         (called_then (inside a) (inside b) (outside p) (Signal a.me.seat c Stay ∷ []) (Leave b.me.seat Stay ∷ []) called
-            (released k o b (Leave b.me.seat Stay) wish to peeks p r));
+        (released k o b (Leave b.me.seat Stay) wish to peeks p r));
     told = r.told;
   }

@@ -43,20 +43,20 @@ items_taken_append us vs =
 pub sum_put_more : (h : List Event) (e : Event) → sum_put (h ++ e ∷ []) ≡ sum_put h + sum (items_put (act_of e))
 sum_put_more h e =
     ap (λ (xs : List Answered). sum (items_put xs)) (acts_more h e) ∙ ap sum (items_put_append (acts_in h) (act_of e))
-        ∙ sum_by-append (λ n. n) (items_put (acts_in h)) (items_put (act_of e))
+    ∙ sum_by-append (λ n. n) (items_put (acts_in h)) (items_put (act_of e))
 
 pub sum_taken_more : (h : List Event) (e : Event) → sum_taken (h ++ e ∷ []) ≡ sum_taken h + sum (items_taken (act_of e))
 sum_taken_more h e =
     ap (λ (xs : List Answered). sum (items_taken xs)) (acts_more h e)
-        ∙ ap sum (items_taken_append (acts_in h) (act_of e))
-        ∙ sum_by-append (λ n. n) (items_taken (acts_in h)) (items_taken (act_of e))
+    ∙ ap sum (items_taken_append (acts_in h) (act_of e))
+    ∙ sum_by-append (λ n. n) (items_taken (acts_in h)) (items_taken (act_of e))
 
 -- what is taken of all is no more than of the whole
 pub taken_within : (h more : List Event) → sum_taken h ≤ sum_taken (h ++ more)
 taken_within h more =
     let e = ap (λ (xs : List Answered). sum (items_taken xs)) (flat_map-append act_of h more)
-        ∙ ap sum (items_taken_append (acts_in h) (acts_in more))
-        ∙ sum_by-append (λ n. n) (items_taken (acts_in h)) (items_taken (acts_in more)) in
+    ∙ ap sum (items_taken_append (acts_in h) (acts_in more))
+    ∙ sum_by-append (λ n. n) (items_taken (acts_in h)) (items_taken (acts_in more)) in
     omega (arith, e)
 
 -- what was taken adds up to no more than what was put

@@ -122,8 +122,14 @@ module _ (k : Rules) (o : Object) where
       → HasCalled (inside a) (inside b) (call_in call ++ [])
   stayed a call wish peeks b s = let own = with_next Stay call ∷ [] in record {
     own = own;
-    went = record { hall = ap (λ h. h.hall) s.is; seat = ap (λ h. h.me.seat) s.is; setting =
-        ap (λ h. h.me.setting) s.is; seen = (own, ap (λ h. h.floor.history) s.is); mine = ap (λ h. h.me.mine) s.is };
+    went = record {
+      hall = ap (λ h. h.hall) s.is;
+      seat = ap (λ h. h.me.seat) s.is;
+      setting =
+          ap (λ h. h.me.setting) s.is;
+      seen = (own, ap (λ h. h.floor.history) s.is);
+      mine = ap (λ h. h.me.mine) s.is;
+    };
     called = next_calls Stay call;
   }
 
@@ -132,9 +138,15 @@ module _ (k : Rules) (o : Object) where
       → HasActed (inside a) (inside b) (record { op = op; reply = r } ∷ [])
   did a s op r b d = record {
     own = Act s op r ∷ [];
-    went = record { hall = ap (λ h. h.hall) d.is; seat = ap (λ h. h.me.seat) d.is; setting =
-        ap (λ h. h.me.setting) d.is; seen = (Act s op r ∷ [], ap (λ h. h.floor.history) d.is); mine =
-        ap (λ h. h.me.mine) d.is };
+    went = record {
+      hall = ap (λ h. h.hall) d.is;
+      seat = ap (λ h. h.me.seat) d.is;
+      setting =
+          ap (λ h. h.me.setting) d.is;
+      seen = (Act s op r ∷ [], ap (λ h. h.floor.history) d.is);
+      mine =
+          ap (λ h. h.me.mine) d.is;
+    };
     acted = refl;
   }
 
@@ -143,5 +155,5 @@ module _ (k : Rules) (o : Object) where
   replied a s op r b d =
       let m = monitor_of k o a.floor in
       let legal : IsLegal m (a.floor.history ++ Act s op r ∷ []) =
-          subst (λ (h : Holder). IsLegal (monitor_of k o h.floor) h.floor.history) d.is d.legal in
+      subst (λ (h : Holder). IsLegal (monitor_of k o h.floor) h.floor.history) d.is d.legal in
       eqb-true r (o.reply (data_of m a.floor.history) op) ((legal_last m a.floor.history (Act s op r) legal).right_reply)

@@ -66,8 +66,8 @@ module _ (k : Rules) (o : Object) where
       → HasActed (inside a) (outside q) []
   finished_acts a c q Done out =
       subst (λ (xs : List Answered). HasActed (inside a) (outside q) xs)
-          (out_acts (has_signaller_queue k.mode) (returns_at_once k.mode) a.me.seat c)
-          (acted_by (inside a) (outside q) (way_out k a.me.seat c) out.called)
+      (out_acts (has_signaller_queue k.mode) (returns_at_once k.mode) a.me.seat c)
+      (acted_by (inside a) (outside q) (way_out k a.me.seat c) out.called)
   finished_acts a c q Tired out = acted_by (inside a) (outside q) (Leave a.me.seat Stay ∷ []) out.1.called
   finished_acts a c q Late out = absurd out
 
@@ -126,8 +126,12 @@ module _ (k : Rules) (o : Object) where
   -- tired inside
   pub tired_inside : (p : Token) (a : Holder) (q : Token) → HasActed (outside p) (inside a) [] → HasLeftTired k o a q → HasTired k o p q
   tired_inside p a q s t =
-      record { acted = acted_then (outside p) (inside a) (outside q) [] [] s t.acted; spent = t.spent; told =
-      λ h. t.told }
+      record {
+        acted = acted_then (outside p) (inside a) (outside q) [] [] s t.acted;
+        spent = t.spent;
+        told =
+            λ h. t.told;
+      }
 
   pub gave_up_tired : (a b : Holder) (q : Token) → HasActed (inside a) (inside b) [] → HasGivenUp k o b q → HasLeftTired k o a q
   gave_up_tired a b q s t = record {
@@ -139,9 +143,11 @@ module _ (k : Rules) (o : Object) where
   join_made : (end : End) (ts us : List Duty) (xs ys : List Answered) → AreActsOf ts xs → AreActsBy end us ys
       → AreActsBy end (ts ++ us) (xs ++ ys)
   join_made Done ts us xs ys h m = acts_append ts us xs ys h m
-  join_made Tired ts us xs ys h m =
-      (length ts + m.0, subst (λ (ds : List Duty). AreActsOf ds (xs ++ ys))
-      (sym (take_past ts us m.0 (length ts + m.0) refl)) (acts_append ts (take m.0 us) xs ys h m.1))
+  join_made Tired ts us xs ys h m = (
+    length ts + m.0,
+    subst (λ (ds : List Duty). AreActsOf ds (xs ++ ys))
+        (sym (take_past ts us m.0 (length ts + m.0) refl)) (acts_append ts (take m.0 us) xs ys h m.1),
+  )
   join_made Late ts us xs ys h m = absurd m
 
   -- two visits, the first of which was done
@@ -160,6 +166,12 @@ module _ (k : Rules) (o : Object) where
       → HasVisited k o p (ts ++ us) q end
   visited_once p q Done ts us undone s = absurd (undone refl)
   visited_once p q Tired ts us undone s =
-      record { acts = s.acts; acted = s.acted; made = (length s.acts, first_few ts us s.made.0 s.acts s.made.1); spent =
-      s.spent; told = s.told }
+      record {
+        acts = s.acts;
+        acted = s.acted;
+        made = (length s.acts, first_few ts us s.made.0 s.acts s.made.1);
+        spent =
+            s.spent;
+        told = s.told;
+      }
   visited_once p q Late ts us undone s = absurd s.made

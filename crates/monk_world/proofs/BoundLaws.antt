@@ -73,13 +73,18 @@ module _ (s : State) (b : IsBounded s) where
       let h = s.floor.history in
       let long = length_total s.floor.seats (map seat_of h) (λ j l. sym (length-events_of h j) ∙ b.outside j l) in
       let most = total_le s.floor.seats s.floor.budget (λ j. times j (map seat_of h))
-          (λ j. omega (arith, b.within j, length-events_of h j)) in
+      (λ j. omega (arith, b.within j, length-events_of h j)) in
       let product = mul-le-mul_right s.floor.budget b.few in
       omega (arith, long, most, product, length_seats h, b.low)
 
   pub few_drawn : s.world.drawn < 2147483648
-  few_drawn = omega (arith, few_events, b.drawn, b.few,
-      sum_few s.floor.seats (λ j. comes_in (s.world.place j)) (λ j. comes_once (s.world.place j)))
+  few_drawn = omega (
+    arith,
+    few_events,
+    b.drawn,
+    b.few,
+    sum_few s.floor.seats (λ j. comes_in (s.world.place j)) (λ j. comes_once (s.world.place j)),
+  )
 
   pub few_calls : (j : ℕ) → s.world.count j < 1073741824
   few_calls j = omega (arith, b.counted j, b.within j, b.low, called_once (s.world.place j))
@@ -128,9 +133,9 @@ module _ (s : State) (b : IsBounded s) where
       | inl h ↦
           let own : length (events_of (s.floor.history ++ e ∷ []) j) ≡ length (events_of s.floor.history j) + 1 =
           subst (λ (m : ℕ). length (events_of (s.floor.history ++ e ∷ []) m) ≡ length (events_of s.floor.history m) + 1)
-              (seat ∙ sym h.1) (own_more e) in
+          (seat ∙ sym h.1) (own_more e) in
           let same : length (events_of s.floor.history j) ≡ length (events_of s.floor.history i) =
-              ap (λ (m : ℕ). length (events_of s.floor.history m)) h.1 in
+          ap (λ (m : ℕ). length (events_of s.floor.history m)) h.1 in
           omega (arith, own, same, left)
       | inr h ↦ omega (arith, b.within j, one_more e j (λ z. h.1 (z ∙ seat)))
     ];

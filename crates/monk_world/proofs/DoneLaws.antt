@@ -57,8 +57,8 @@ record AreTold (reach offered told tired : Bool) : Type 0 where
 
 none_applies : (reach offered told tired : Bool)
     → cond (not reach) (Some answer.Range)
-        (cond (not offered) (Some answer.NoCall)
-        (cond (not told) (Some answer.NotNow) (cond tired (Some answer.Tired) None))) ≡ None
+    (cond (not offered) (Some answer.NoCall)
+    (cond (not told) (Some answer.NotNow) (cond tired (Some answer.Tired) None))) ≡ None
     → AreTold reach offered told tired
 none_applies false offered told tired e = absurd cc
 none_applies true false told tired e = absurd cc
@@ -80,8 +80,8 @@ not_less n m e = grind (arith, e)
 pub ready : (k : Rules) (o : Object) (s : State) (i : ℕ) (c : Command) → refusal k o s i c ≡ None → IsReady k o s i c
 ready k o s i c e =
     let r = none_applies (nat_lt i s.floor.seats && is_call_in_range o s.floor (call_of i c))
-        (is_call_offered k (call_of i c)) (may_be_told (s.world.place i) c)
-        (nat_lt (left_of s.floor.budget s.floor.history i) (left_for c)) e in
+    (is_call_offered k (call_of i c)) (may_be_told (s.world.place i) c)
+    (nat_lt (left_of s.floor.budget s.floor.history i) (left_for c)) e in
     record {
       near = ltb-true _ _ (left_conjunct (nat_lt i s.floor.seats) (is_call_in_range o s.floor (call_of i c)) r.reaches);
       range = right_conjunct (nat_lt i s.floor.seats) (is_call_in_range o s.floor (call_of i c)) r.reaches;
@@ -113,7 +113,7 @@ module _ (k : Rules) (o : Object) (s : State) (right : Whereabouts) (owner : ℕ
       → IsBounded (record s { floor = with_event s.floor e })
   stays_bounded e seat left =
       bounded_floor s b i near s.world s.known (s.world.place i) (sym (put_same s.world.place i (s.world.place i) refl))
-          e seat left (omega arith)
+      e seat left (omega arith)
       (λ j. omega (arith, b.counted j, no_less s b e j))
 
   released : (e : Event) → seat_of e ≡ i → 1 ≤ left_of s.floor.budget s.floor.history i → (q : Source)
@@ -122,65 +122,72 @@ module _ (k : Rules) (o : Object) (s : State) (right : Whereabouts) (owner : ℕ
   released e seat left q at x to true = stays_bounded e seat left
   released e seat left q at x to false =
       bounded_floor s b i near (after_floor_in s.world i x to) s.known (Back x to) refl e seat left
-          (omega (arith, ap comes_in at)) (count_grows s b i (Back x to) e seat)
+      (omega (arith, ap comes_in at)) (count_grows s b i (Back x to) e seat)
 
   bounded_done : (c : Command) (a : Answer) (t : State) (p : Place) → s.world.place i ≡ p
       → left_for c ≤ left_of s.floor.budget s.floor.history i → IsDone k o s i p c a t → IsBounded t
   bounded_done command.Arrive a t Idle at left d =
       subst IsBounded (sym d.1)
-          (bounded_words s b i near (after_arrive s.world i) s.known (place_after_arrive s.world.drawn s.world.unpassed)
-          refl
+      (bounded_words s b i near (after_arrive s.world i) s.known (place_after_arrive s.world.drawn s.world.unpassed)
+      refl
       (omega (arith, ap comes_in at, arrives_in (s.world.unpassed == 0) s.world.drawn))
-          (count_stays s b i (place_after_arrive s.world.drawn s.world.unpassed) (ap comes_back at)))
+      (count_stays s b i (place_after_arrive s.world.drawn s.world.unpassed) (ap comes_back at)))
   bounded_done command.Look a t (Ticket n) at left d =
       let found = s.world.ticket_place (n % s.floor.seats) == n + 1 in
       subst IsBounded (sym d.1)
-          (bounded_words s b i near (after_ticket_look s.world i n found) s.known (place_after_ticket_look n found) refl
+      (bounded_words s b i near (after_ticket_look s.world i n found) s.known (place_after_ticket_look n found) refl
       (omega (arith, ap comes_in at, looks_in found n)) (count_stays s b i (place_after_ticket_look n found) (ap comes_back at)))
   bounded_done command.Look a t Inner at left d =
       let found = s.world.seat_place i == s.world.count i + 1 in
       subst IsBounded (sym d.1) (bounded_words s b i near (after_seat_look s.world i found) s.known (place_after_seat_look found) refl
       (omega (arith, ap comes_in at))
-          (count_looks s b i (count_after_seat_look (s.world.count i) found) (place_after_seat_look found)
-          (looks_back found (s.world.count i) (length (events_of s.floor.history i))
-          (omega (arith, b.counted i, ap comes_back at)))))
+      (count_looks s b i (count_after_seat_look (s.world.count i) found) (place_after_seat_look found)
+      (looks_back found (s.world.count i) (length (events_of s.floor.history i))
+      (omega (arith, b.counted i, ap comes_back at)))))
   bounded_done command.Out a t (Due q) at left d =
       let e = out_event i q (turn s.floor.history) in
       subst IsBounded (sym d.1)
-          (bounded_floor s b i near (after_floor_out s.world i q) (put s.known i false) (Active q) refl e
-          (out_seat i q (turn s.floor.history))
+      (bounded_floor s b i near (after_floor_out s.world i q) (put s.known i false) (Active q) refl e
+      (out_seat i q (turn s.floor.history))
       (omega (arith, h.left i, ap left_at at)) (omega (arith, ap comes_in at))
-          (count_grows s b i (Active q) e (out_seat i q (turn s.floor.history))))
+      (count_grows s b i (Active q) e (out_seat i q (turn s.floor.history))))
   bounded_done command.Peek a t Idle at left d = subst IsBounded (sym d.1) b
   bounded_done command.Peek a t (Active q) at left d =
       subst IsBounded (sym d.1)
-      (record { few = b.few; low = b.low; within = b.within; outside = b.outside; drawn = b.drawn; counted =
-      b.counted })
+      (record {
+        few = b.few;
+        low = b.low;
+        within = b.within;
+        outside = b.outside;
+        drawn = b.drawn;
+        counted =
+            b.counted;
+      })
   bounded_done command.Drop a t (Back next.Entry to) at left d =
       subst IsBounded (sym d.1)
-          (bounded_words s b i near (after_drop s.world i to) s.known
-          (place_after_drop s.world.drawn s.world.unpassed to) refl
+      (bounded_words s b i near (after_drop s.world i to) s.known
+      (place_after_drop s.world.drawn s.world.unpassed to) refl
       (omega (arith, ap comes_in at)) (count_stays s b i (place_after_drop s.world.drawn s.world.unpassed to) (ap comes_back at)))
   bounded_done command.Grant a t (Back (next.Waiter j) to) at left d =
       subst IsBounded (sym d.1)
-          (bounded_words s b i near (after_seat_grant s.world i j to) s.known (place_of to) refl
-          (omega (arith, ap comes_in at)) (count_stays s b i (place_of to) (ap comes_back at)))
+      (bounded_words s b i near (after_seat_grant s.world i j to) s.known (place_of to) refl
+      (omega (arith, ap comes_in at)) (count_stays s b i (place_of to) (ap comes_back at)))
   bounded_done command.Grant a t (Back (next.Signaller j) to) at left d =
       subst IsBounded (sym d.1)
-          (bounded_words s b i near (after_seat_grant s.world i j to) s.known (place_of to) refl
-          (omega (arith, ap comes_in at)) (count_stays s b i (place_of to) (ap comes_back at)))
+      (bounded_words s b i near (after_seat_grant s.world i j to) s.known (place_of to) refl
+      (omega (arith, ap comes_in at)) (count_stays s b i (place_of to) (ap comes_back at)))
   bounded_done command.Grant a t (Back (next.Until j) to) at left d =
       subst IsBounded (sym d.1)
-          (bounded_words s b i near (after_seat_grant s.world i j to) s.known (place_of to) refl
-          (omega (arith, ap comes_in at)) (count_stays s b i (place_of to) (ap comes_back at)))
+      (bounded_words s b i near (after_seat_grant s.world i j to) s.known (place_of to) refl
+      (omega (arith, ap comes_in at)) (count_stays s b i (place_of to) (ap comes_back at)))
   bounded_done command.Grant a t (Passing n to) at left d =
       subst IsBounded (sym d.1)
-          (bounded_words s b i near (after_ticket_grant s.floor.seats s.world i n to) s.known (place_of to) refl
-          (omega (arith, ap comes_in at)) (count_stays s b i (place_of to) (ap comes_back at)))
+      (bounded_words s b i near (after_ticket_grant s.floor.seats s.world i n to) s.known (place_of to) refl
+      (omega (arith, ap comes_in at)) (count_stays s b i (place_of to) (ap comes_back at)))
   bounded_done (command.Act op) a t (Active q) at left d =
       subst IsBounded (sym d.1)
-          (stays_bounded (Act i op (o.reply (data_of (monitor_of k o s.floor) s.floor.history) op)) refl
-          (omega (arith, left)))
+      (stays_bounded (Act i op (o.reply (data_of (monitor_of k o s.floor) s.floor.history) op)) refl
+      (omega (arith, left)))
   bounded_done (command.Leave pick) a t (Active q) at left d =
       let x = release_next k o s i (Leave i next.Stay) pick in
       subst IsBounded (sym d.1) (released (Leave i x) refl (omega (arith, left)) q at x home.Idle (is_stay (Some x)))
@@ -204,8 +211,11 @@ record HasNumbers (s t : State) : Type 0 where
 
 numbers_of : (s t u : State) → u.floor.seats ≡ s.floor.seats → u.floor.conds ≡ s.floor.conds → t ≡ u → HasNumbers s t
 numbers_of s t u a b e =
-    record { seats = sym (ap (λ (v : State). v.floor.seats) e ∙ a); conds =
-    sym (ap (λ (v : State). v.floor.conds) e ∙ b) }
+    record {
+      seats = sym (ap (λ (v : State). v.floor.seats) e ∙ a);
+      conds =
+          sym (ap (λ (v : State). v.floor.conds) e ∙ b);
+    }
 
 numbers_stay : (k : Rules) (o : Object) (s : State) (i : ℕ) (c : Command) (a : Answer) (t : State) (p : Place)
     → IsDone k o s i p c a t → HasNumbers s t

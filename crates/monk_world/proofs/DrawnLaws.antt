@@ -112,8 +112,14 @@ module _ (k : Rules) (o : Object) (s : State) (i j n : ℕ) where
       → HasTicket n (t.world.place j) → Before a
   done command.Arrive a t Idle at d =
       moved a t (place_after_arrive s.world.drawn s.world.unpassed) (ap (λ (u : State). u.world.place) d.1)
-      (λ h e. inr (e, (s.world.unpassed, d.0
-          ∙ ap (λ (m : ℕ). answer.Arrived m s.world.unpassed) (drawn_at n s.world.drawn s.world.unpassed h))))
+      (λ h e. inr (
+        e,
+        (
+          s.world.unpassed,
+          d.0
+              ∙ ap (λ (m : ℕ). answer.Arrived m s.world.unpassed) (drawn_at n s.world.drawn s.world.unpassed h),
+        ),
+      ))
   done command.Look a t (Ticket m) at d =
       moved a t (place_after_ticket_look m _) (ap (λ (u : State). u.world.place) d.1)
       (λ h e. inl (subst (λ (z : ℕ). HasTicket n (s.world.place z)) e (subst (HasTicket n) (sym at) (looked_at n m _ h))))
@@ -145,7 +151,7 @@ module _ (k : Rules) (o : Object) (s : State) (i j n : ℕ) where
   stepped c a t step has =
       let reach = nat_lt i s.floor.seats && is_call_in_range o s.floor (call_of i c) in
       elim (refused_or_done k o s i c a t reach (is_call_offered k (call_of i c)) (may_be_told (s.world.place i) c)
-          (nat_lt (left_of s.floor.budget s.floor.history i) (left_for c)) step) [
+      (nat_lt (left_of s.floor.budget s.floor.history i) (left_for c)) step) [
         | inl r ↦ unmoved a t (ap (λ (u : State). u.world) r.1.2) has
         | inr d ↦ done c a t (s.world.place i) refl d has
       ]
@@ -176,7 +182,7 @@ drawn_in k o s (x ∷ xs) t r past all j n has =
       | inr h ↦ drawn_last m t past x h
     ] in
     subst (λ (steps : List Recorded). HasDrawn j n steps) (append_assoc past (x ∷ []) xs)
-        (drawn_in k o r.0 xs t r.2 (past ++ x ∷ []) more j n has)
+    (drawn_in k o r.0 xs t r.2 (past ++ x ∷ []) more j n has)
 
 pub tickets_enter_in_order : TicketsEnterInOrder
 tickets_enter_in_order k o opening seats conds budget before s x t v kind r taken is =

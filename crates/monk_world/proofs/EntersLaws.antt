@@ -42,8 +42,12 @@ module _ (seats : ℕ) (s : World) (right : Whereabouts) (owner : ℕ → ℕ) (
   taken t n entered_new p agrees = subst (λ (y : Place). entered_new + n ≡ t + used_at y) (sym (put_here s.place i p)) agrees
 
   pub arrives_free : s.unpassed ≡ 0
-      → FitsEnters (record s { drawn = s.drawn + 1; unpassed = s.unpassed + 1; place =
-      put s.place i (Due (Free s.drawn)) }) (With i) entered
+      → FitsEnters (record s {
+        drawn = s.drawn + 1;
+        unpassed = s.unpassed + 1;
+        place =
+            put s.place i (Due (Free s.drawn));
+      }) (With i) entered
   arrives_free none =
       let u : entered + s.unpassed ≡ s.drawn + 0 = entered_where Nowhere (r.holder.free.0 none) in
       taken (s.drawn + 1) (s.unpassed + 1) entered (Due (Free s.drawn)) (omega arith)
@@ -75,7 +79,7 @@ module _ (seats : ℕ) (s : World) (right : Whereabouts) (owner : ℕ → ℕ) (
       → FitsEnters (record s { place = put s.place i p }) right entered_new
   holder p entered_new mine agrees =
       subst (λ (x : Whereabouts). FitsEnters (record s { place = put s.place i p }) x entered_new) (sym mine)
-          (taken s.drawn s.unpassed entered_new p agrees)
+      (taken s.drawn s.unpassed entered_new p agrees)
 
   pub comes_out : (q : Source) (entered_new : ℕ) → s.place i ≡ Due q → entered_new + used_by q ≡ entered + 1
       → FitsEnters (after_floor_out s i q) right entered_new

@@ -60,13 +60,13 @@ module _ (place : ℕ → Place) (i : ℕ) (to : Place) (none : (j : ℕ) → j 
   pub alone_with : HoldsRight to → (j : ℕ) → HoldsRight (put place i to j) ↔ (With i ≡ With j)
   alone_with here =
       at_put place i to (λ j p. HoldsRight p ↔ (With i ≡ With j)) ((λ _. refl), (λ _. here))
-          (λ j ne. ((λ a. absurd (nobody_else j ne a)), (λ e. absurd (ne cc))))
+      (λ j ne. ((λ a. absurd (nobody_else j ne a)), (λ e. absurd (ne cc))))
 
   -- after its step no seat has it
   pub with_none : (x : Whereabouts) → (HoldsRight to → ⊥) → ((j : ℕ) → x ≢ With j) → (j : ℕ) → HoldsRight (put place i to j) ↔ (x ≡ With j)
   with_none x here gone =
       at_put place i to (λ j p. HoldsRight p ↔ (x ≡ With j)) ((λ a. absurd (here a)), (λ e. absurd (gone i e)))
-          (λ j ne. ((λ a. absurd (nobody_else j ne a)), (λ e. absurd (gone j e))))
+      (λ j ne. ((λ a. absurd (nobody_else j ne a)), (λ e. absurd (gone j e))))
 
 -- who stands between due and passing has the right, and who has the right stands there
 pub held : {seats : ℕ} {s : World} {right : Whereabouts} {owner : ℕ → ℕ} → KeepsRight seats s right owner → (j : ℕ)

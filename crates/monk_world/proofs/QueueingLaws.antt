@@ -101,7 +101,7 @@ module _ (seats : ℕ) (s : World) (right : Whereabouts) (owner : ℕ → ℕ) (
       → FitsQueues (record s { place = put s.place i p }) queued_new quiet_new
   holder p queued_new quiet_new low high next alike here entry =
       let none : (j : ℕ) → j ≢ i → due_stage ≤ stage (s.place j) → stage (s.place j) ≤ passing_stage → ⊥ =
-          others seats s right owner r i low high in
+      others seats s right owner r i low high in
       let mine = held r i low high in
       record {
         in_queue = at_put s.place i p (InQueue queued_new) here (λ j ne a. alike j ne ∙ f.in_queue j a);
@@ -120,7 +120,7 @@ module _ (seats : ℕ) (s : World) (right : Whereabouts) (owner : ℕ → ℕ) (
   comes_out q queued_new quiet_new due alike =
       let two : stage (s.place i) ≡ due_stage = stage_of (Due q) due in
       holder (Active q) queued_new quiet_new (omega arith) (omega arith) (inl refl) alike (λ ne. absurd (ne refl))
-          (λ a. absurd (omega arith))
+      (λ a. absurd (omega arith))
 
   pub stays_active : (q : Source) (queued_new : ℕ → Bool) (quiet_new : Bool) → s.place i ≡ Active q
       → ((j : ℕ) → j ≢ i → queued_new j ≡ queued j)
@@ -128,7 +128,7 @@ module _ (seats : ℕ) (s : World) (right : Whereabouts) (owner : ℕ → ℕ) (
   stays_active q queued_new quiet_new active alike =
       let three : stage (s.place i) ≡ active_stage = stage_of (Active q) active in
       let none : (j : ℕ) → j ≢ i → due_stage ≤ stage (s.place j) → stage (s.place j) ≤ passing_stage → ⊥ =
-          others seats s right owner r i (omega arith) (omega arith) in
+      others seats s right owner r i (omega arith) (omega arith) in
       let mine = held r i (omega arith) (omega arith) in
       let apart : (j : ℕ) → stage (s.place j) ≢ active_stage → j ≢ i = λ j ne e. ne (ap (λ (k : ℕ). stage (s.place k)) e ∙ three) in
       record {
@@ -141,7 +141,7 @@ module _ (seats : ℕ) (s : World) (right : Whereabouts) (owner : ℕ → ℕ) (
   pub goes_home : (q : Source) (next : Next) (home : Home) (queued_new : ℕ → Bool) (quiet_new : Bool)
       → s.place i ≡ Active q → ((j : ℕ) → j ≢ i → queued_new j ≡ queued j)
       → queued_new i ≡ stays_inside home → (turn_of_next next ≡ open_turn → (quiet_new ≡ true) ⊎ (2 ≤ s.unpassed))
-          → FitsQueues (after_floor_in s i next home) queued_new quiet_new
+      → FitsQueues (after_floor_in s i next home) queued_new quiet_new
   goes_home q next home queued_new quiet_new active alike own entry =
       let three : stage (s.place i) ≡ active_stage = stage_of (Active q) active in
       holder (Back next home) queued_new quiet_new (omega arith) (omega arith) (inr refl) alike (λ _. own) (λ _. entry)
@@ -153,7 +153,7 @@ module _ (seats : ℕ) (s : World) (right : Whereabouts) (owner : ℕ → ℕ) (
   given n home own free low high =
       let p : Place = place_of home in
       let none : (j : ℕ) → j ≢ i → due_stage ≤ stage (s.place j) → stage (s.place j) ≤ passing_stage → ⊥ =
-          others seats s right owner r i low high in
+      others seats s right owner r i low high in
       record {
         in_queue = at_put s.place i p (InQueue queued) (λ _. own ∙ sym (home_queued home)) (λ j _. f.in_queue j);
         free = free;
@@ -170,7 +170,7 @@ module _ (seats : ℕ) (s : World) (right : Whereabouts) (owner : ℕ → ℕ) (
       let four : stage (s.place i) ≡ back_stage = stage_of (Back Entry home) back in
       let entry : back_turn (s.place i) ≡ open_turn = ap back_turn back in
       given (s.unpassed - 1) home (queued_here (Back Entry home) back (λ e. omega arith))
-          (λ _. sure quiet s.unpassed one (f.back_to_entry i four entry)) (omega arith) (omega arith)
+      (λ _. sure quiet s.unpassed one (f.back_to_entry i four entry)) (omega arith) (omega arith)
 
   pub drops_more : (t : ℕ) (home : Home) → s.place i ≡ Back Entry home → s.unpassed ≢ 1
       → FitsQueues (record s { unpassed = s.unpassed - 1; place = put s.place i (Passing t home) }) queued quiet
@@ -178,7 +178,7 @@ module _ (seats : ℕ) (s : World) (right : Whereabouts) (owner : ℕ → ℕ) (
       let p : Place = Passing t home in
       let four : stage (s.place i) ≡ back_stage = stage_of (Back Entry home) back in
       let none : (j : ℕ) → j ≢ i → due_stage ≤ stage (s.place j) → stage (s.place j) ≤ passing_stage → ⊥ =
-          others seats s right owner r i (omega arith) (omega arith) in
+      others seats s right owner r i (omega arith) (omega arith) in
       let mine = held r i (omega arith) (omega arith) in
       let some : s.unpassed ≢ 0 = λ e. let a = r.holder.free.0 e in cc in
       record {

@@ -72,9 +72,9 @@ another a r is differs entry = let z : false ≡ true = sym differs ∙ (ap lets
 pub refused_or_done : (k : Rules) (o : Object) (s : State) (i : ℕ) (c : Command) (a : Answer) (t : State)
     (in_reach offered told tired : Bool)
     → IsAnswered k o s i c
-        (cond (not in_reach) (Some answer.Range)
-        (cond (not offered) (Some answer.NoCall)
-        (cond (not told) (Some answer.NotNow) (cond tired (Some answer.Tired) None)))) a t
+    (cond (not in_reach) (Some answer.Range)
+    (cond (not offered) (Some answer.NoCall)
+    (cond (not told) (Some answer.NotNow) (cond tired (Some answer.Tired) None)))) a t
     → ((r : Answer) × ((a ≡ r) × (lets_in r ≡ false) × (t ≡ s))) ⊎ IsDone k o s i (s.world.place i) c a t
 refused_or_done k o s i c a t false offered told tired d = inl (answer.Range, (d.0, refl, d.1))
 refused_or_done k o s i c a t true false told tired d = inl (answer.NoCall, (d.0, refl, d.1))
@@ -131,13 +131,13 @@ module _ (k : Rules) (o : Object) (s : State) (kind : IsKind k) (h : Sound k o s
   -- the floor goes home with entry
   entry_waits : (c : Command) (a : Answer) (t : State) → IsStep k o s i c a t → (x : Next) (to : Home) → x ≡ next.Entry
       → t.world ≡ (if is_stay (Some x) then s.world else after_floor_in s.world i x to) → (is_quiet k o t.floor ≡ true)
-          ⊎ (2 ≤ s.world.unpassed)
+      ⊎ (2 ≤ s.world.unpassed)
   entry_waits c a t step x to is world_is =
       let after = step_is_sound k o s i c a t kind h step in
       let went : t.world ≡ after_floor_in s.world i next.Entry to =
       world_is ∙ ap (λ (y : Next). if is_stay (Some y) then s.world else after_floor_in s.world i y to) is in
       let place : t.world.place i ≡ Back next.Entry to = ap (λ (w : World). w.place i) went
-          ∙ put_here s.world.place i (Back next.Entry to) in
+      ∙ put_here s.world.place i (Back next.Entry to) in
       let unpassed : t.world.unpassed ≡ s.world.unpassed = ap (λ (w : World). w.unpassed) went in
       elim (after.is_sound.stands.fits_queues.back_to_entry i (ap stage place) (ap back_turn place)) [
         | inl quiet ↦ inl quiet
@@ -158,11 +158,11 @@ module _ (k : Rules) (o : Object) (s : State) (kind : IsKind k) (h : Sound k o s
   enters_so (Free t) u at v is =
       let by : v ≡ via.Free = cc in
       subst (λ (p : Place). EntersWith p v (enters_of s.floor.history)) (sym at)
-          (by, sym ((well_led k o s h.right h.owner h.is_sound).enters_first i t at))
+      (by, sym ((well_led k o s h.right h.owner h.is_sound).enters_first i t at))
   enters_so (Granted t) u at v is =
       let by : v ≡ via.Handed = cc in
       subst (λ (p : Place). EntersWith p v (enters_of s.floor.history)) (sym at)
-          (by, sym ((well_led k o s h.right h.owner h.is_sound).enters_next i t at))
+      (by, sym ((well_led k o s h.right h.owner h.is_sound).enters_next i t at))
   enters_so Called u at v is = absurd cc
 
   done : (c : Command) (a : Answer) (t : State) (p : Place) → IsStep k o s i c a t → s.world.place i ≡ p
@@ -172,7 +172,7 @@ module _ (k : Rules) (o : Object) (s : State) (kind : IsKind k) (h : Sound k o s
   done command.Look a t Inner step at d = still command.Look a t step _ d.0 refl (ap (λ (u : State). u.floor) d.1)
   done command.Out a t (Due q) step at d =
       grew command.Out a t step (out_event i q (turn s.floor.history)) (ap (λ (u : State). u.floor) d.1)
-          (out_seat i q (turn s.floor.history))
+      (out_seat i q (turn s.floor.history))
       (enters_so q (turn s.floor.history) at) (λ e. absurd (another a answer.Now d.0 refl e))
   done command.Peek a t Idle step at d = still command.Peek a t step _ d.0 refl (ap (λ (u : State). u.floor) d.1)
   done command.Peek a t (Active q) step at d = still command.Peek a t step _ d.0 refl (ap (λ (u : State). u.floor) d.1)
@@ -199,7 +199,7 @@ module _ (k : Rules) (o : Object) (s : State) (kind : IsKind k) (h : Sound k o s
   taken c a t step =
       let reach = nat_lt i s.floor.seats && is_call_in_range o s.floor (call_of i c) in
       elim (refused_or_done k o s i c a t reach (is_call_offered k (call_of i c)) (may_be_told (s.world.place i) c)
-          (nat_lt (left_of s.floor.budget s.floor.history i) (left_for c)) step) [
+      (nat_lt (left_of s.floor.budget s.floor.history i) (left_for c)) step) [
         | inl r ↦ still c a t step r.0 r.1.0 r.1.1 (ap (λ (u : State). u.floor) r.1.2)
         | inr d ↦ done c a t (s.world.place i) step refl d
       ]
@@ -218,7 +218,7 @@ own_are : (i j : ℕ) (events : List Event) → IsOwn i events → events_of eve
 own_are i j [] own = none_of j ∙ nothing_either_way (i == j)
 own_are i j (e ∷ []) own =
     subst (λ (m : ℕ). events_of (e ∷ []) j ≡ cond (m == j) (e ∷ []) []) own
-        (events_of-push [] e j ∙ ap (λ xs. xs ++ cond (seat_of e == j) (e ∷ []) []) (none_of j))
+    (events_of-push [] e j ∙ ap (λ xs. xs ++ cond (seat_of e == j) (e ∷ []) []) (none_of j))
 own_are i j (e ∷ f ∷ more) own = absurd own
 
 events_of-append : (past more : List Event) (j : ℕ) → events_of (past ++ more) j ≡ events_of past j ++ events_of more j

@@ -13,14 +13,18 @@ use Rattle.monk_world.proofs.PutLaws.{at_put, put_here, put_else, all_back}
 
 module _ (seats : ℕ) (s : World) (right : Whereabouts) (owner : ℕ → ℕ) (r : KeepsRight seats s right owner) (i : ℕ) where
   pub draws_free : stage (s.place i) ≡ outside_stage → s.unpassed ≡ 0
-      → KeepsRight seats (record s { drawn = s.drawn + 1; unpassed = s.unpassed + 1; place =
-          put s.place i (Due (Free s.drawn)) }) (With i) owner
+      → KeepsRight seats (record s {
+        drawn = s.drawn + 1;
+        unpassed = s.unpassed + 1;
+        place =
+            put s.place i (Due (Free s.drawn));
+      }) (With i) owner
   draws_free idle none =
       let to : Place = Due (Free s.drawn) in
       let free = r.holder.free.0 none in
       let nobody : (j : ℕ) → due_stage ≤ stage (s.place j) → stage (s.place j) ≤ passing_stage → ⊥ = λ j a b. let h = held r j a b in cc in
       let alone : (j : ℕ) → stage (s.place j) ≡ ticketed_stage → ⊥ = λ j h. let a = r.tickets.waits j h in let b = a.0
-          in let d = a.1 in omega arith in
+      in let d = a.1 in omega arith in
       record {
         holder = record {
           free = ((λ e. absurd (omega arith)), (λ e. absurd cc));
@@ -55,16 +59,20 @@ module _ (seats : ℕ) (s : World) (right : Whereabouts) (owner : ℕ → ℕ) (
       }
 
   pub draws_wait : stage (s.place i) ≡ outside_stage → s.unpassed ≢ 0
-      → KeepsRight seats (record s { drawn = s.drawn + 1; unpassed = s.unpassed + 1; place =
-          put s.place i (Ticket s.drawn) }) right (put owner s.drawn i)
+      → KeepsRight seats (record s {
+        drawn = s.drawn + 1;
+        unpassed = s.unpassed + 1;
+        place =
+            put s.place i (Ticket s.drawn);
+      }) right (put owner s.drawn i)
   draws_wait idle some =
       let to : Place = Ticket s.drawn in
       let owners = put owner s.drawn i in
       let keeps : (k : ℕ) → Waits s.place owner k → Waits (put s.place i to) owner k =
-          λ k h. waiter_stays seats s right owner r i to k (λ e. omega arith) h in
+      λ k h. waiter_stays seats s right owner r i to k (λ e. omega arith) h in
       let moves : (k : ℕ) → k ≢ s.drawn → Waits s.place owner k → Waits (put s.place i to) owners k =
       λ k ne h. subst (λ (j : ℕ). (stage (put s.place i to j) ≡ ticketed_stage) × (ticket (put s.place i to j) ≡ k))
-          (sym (put_else owner s.drawn i k ne)) (keeps k h) in
+      (sym (put_else owner s.drawn i k ne)) (keeps k h) in
       let stays : (j : ℕ) → stage (s.place j) ≡ inside_stage → stage (put s.place i to j) ≡ inside_stage =
       λ j six. ap stage (put_else s.place i to j (other_stage s.place i j (λ e. omega arith))) ∙ six in
       record {
@@ -81,7 +89,7 @@ module _ (seats : ℕ) (s : World) (right : Whereabouts) (owner : ℕ → ℕ) (
           waits = at_put s.place i to (OwnsTicket (s.drawn + 1) (s.unpassed + 1) owners)
               (λ _. (omega arith, omega arith, put_here owner s.drawn i))
               (λ j _ a. let b = r.tickets.waits j a in let c = b.0 in let d = b.1 in
-                  (omega arith, omega arith, put_else owner s.drawn i (ticket (s.place j)) (λ e. omega arith) ∙ b.2));
+              (omega arith, omega arith, put_else owner s.drawn i (ticket (s.place j)) (λ e. omega arith) ∙ b.2));
           owned = at_put owner s.drawn i (λ k j. k < s.drawn + 1 → s.drawn + 1 < k + (s.unpassed + 1)
               → (stage (put s.place i to j) ≡ ticketed_stage) × (ticket (put s.place i to j) ≡ k))
               (λ _ _. subst (λ (y : Place). (stage y ≡ ticketed_stage) × (ticket y ≡ s.drawn)) (sym (put_here s.place i to)) (refl, refl))
@@ -89,11 +97,11 @@ module _ (seats : ℕ) (s : World) (right : Whereabouts) (owner : ℕ → ℕ) (
           passing = at_put s.place i to (λ _. PassesNext (s.drawn + 1) (s.unpassed + 1) (put s.place i to) owners)
               (λ a. absurd (omega arith))
               (λ j _ a. let p = r.tickets.passing j a in let sum = p.0 in
-                  (omega arith, moves (ticket (s.place j)) (λ z. some (omega arith)) p.1));
+              (omega arith, moves (ticket (s.place j)) (λ z. some (omega arith)) p.1));
           granted = at_put s.place i to (λ _. WasGranted (s.drawn + 1) (s.unpassed + 1) right (put s.place i to))
               (λ _ e. absurd (some (omega arith)))
               (λ j _ a e none. r.tickets.granted j a (omega arith)
-                  (all_back s.place i to (λ k y. stage y ≢ passing_stage) none (λ z. omega arith)));
+              (all_back s.place i to (λ k y. stage y ≢ passing_stage) none (λ z. omega arith)));
           grant = λ t e. let old = r.tickets.grant t e in let sum = old.0 in (omega arith, moves t (λ z. some (omega arith)) old.1);
         };
         places = record {

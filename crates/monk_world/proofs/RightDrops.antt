@@ -26,12 +26,12 @@ module _ (seats : ℕ) (s : World) (right : Whereabouts) (owner : ℕ → ℕ) (
       let to : Place = place_of home in
       let mine = held r i (omega arith) (omega arith) in
       let none : (j : ℕ) → j ≢ i → due_stage ≤ stage (s.place j) → stage (s.place j) ≤ passing_stage → ⊥ =
-          others seats s right owner r i (omega arith) (omega arith) in
+      others seats s right owner r i (omega arith) (omega arith) in
       let five = nobody_passes back in
       let n = s.unpassed - 1 in
       let zero : n ≡ 0 = omega arith in
       let alone : (j : ℕ) → stage (s.place j) ≡ ticketed_stage → ⊥ = λ j h. let a = r.tickets.waits j h in let b = a.0
-          in let c = a.1 in let d = r.tickets.granted j h (omega arith) five in cc in
+      in let c = a.1 in let d = r.tickets.granted j h (omega arith) five in cc in
       record {
         holder = record {
           free = ((λ _. refl), (λ _. zero));
@@ -69,14 +69,14 @@ module _ (seats : ℕ) (s : World) (right : Whereabouts) (owner : ℕ → ℕ) (
 
   pub drops_more : (home : Home) → stage (s.place i) ≡ back_stage → s.unpassed ≢ 1 → s.unpassed ≤ s.drawn
       → KeepsRight seats (record s
-          { unpassed = s.unpassed - 1; place = put s.place i (Passing (s.drawn - s.unpassed + 1) home) }) (With i) owner
+      { unpassed = s.unpassed - 1; place = put s.place i (Passing (s.drawn - s.unpassed + 1) home) }) (With i) owner
   drops_more home back more behind =
       let T : ℕ = s.drawn - s.unpassed + 1 in
       let to : Place = Passing T home in
       let mine = held r i (omega arith) (omega arith) in
       let some : s.unpassed ≢ 0 = λ e. let a = r.holder.free.0 e in cc in
       let none : (j : ℕ) → j ≢ i → due_stage ≤ stage (s.place j) → stage (s.place j) ≤ passing_stage → ⊥ =
-          others seats s right owner r i (omega arith) (omega arith) in
+      others seats s right owner r i (omega arith) (omega arith) in
       let five = nobody_passes back in
       let n = s.unpassed - 1 in
       let sum : T + n ≡ s.drawn = omega arith in
@@ -92,12 +92,15 @@ module _ (seats : ℕ) (s : World) (right : Whereabouts) (owner : ℕ → ℕ) (
               (λ j ne a. absurd (none j ne (omega arith) (omega arith)));
           waits = at_put s.place i to (OwnsTicket s.drawn n owner) (λ a. absurd (omega arith))
               (λ j _ h. let a = r.tickets.waits j h in let b = a.1 in
-                  let ne : ticket (s.place j) + s.unpassed ≢ s.drawn = λ e. let d = r.tickets.granted j h e five in cc
-                  in (a.0, omega arith, a.2));
+              let ne : ticket (s.place j) + s.unpassed ≢ s.drawn = λ e. let d = r.tickets.granted j h e five in cc
+              in (a.0, omega arith, a.2));
           owned = λ k a b. waiter_stays seats s right owner r i to k (λ e. omega arith) (r.tickets.owned k a (omega arith));
           passing = at_put s.place i to (λ _. PassesNext s.drawn n (put s.place i to) owner)
-              (λ _. (sum, waiter_stays seats s right owner r i to T (λ e. omega arith)
-                  (r.tickets.owned T (omega arith) (omega arith)))) (λ j _ a. absurd (five j a));
+              (λ _. (
+                sum,
+                waiter_stays seats s right owner r i to T (λ e. omega arith)
+                    (r.tickets.owned T (omega arith) (omega arith)),
+              )) (λ j _ a. absurd (five j a));
           granted = λ j h e no. absurd (no i (ap stage (put_here s.place i to)));
           grant = λ t e. absurd cc;
         };

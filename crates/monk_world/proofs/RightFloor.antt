@@ -19,7 +19,7 @@ module _ (seats : ℕ) (s : World) (right : Whereabouts) (owner : ℕ → ℕ) (
       let to : Place = Active q in
       let mine = held r i (omega arith) (omega arith) in
       let none : (j : ℕ) → j ≢ i → due_stage ≤ stage (s.place j) → stage (s.place j) ≤ passing_stage → ⊥ =
-          others seats s right owner r i (omega arith) (omega arith) in
+      others seats s right owner r i (omega arith) (omega arith) in
       record {
         holder = record {
           free = r.holder.free;
@@ -60,7 +60,7 @@ module _ (seats : ℕ) (s : World) (right : Whereabouts) (owner : ℕ → ℕ) (
       let to : Place = Back next home in
       let mine = held r i (omega arith) (omega arith) in
       let none : (j : ℕ) → j ≢ i → due_stage ≤ stage (s.place j) → stage (s.place j) ≤ passing_stage → ⊥ =
-          others seats s right owner r i (omega arith) (omega arith) in
+      others seats s right owner r i (omega arith) (omega arith) in
       record {
         holder = record {
           free = r.holder.free;

@@ -24,7 +24,7 @@ module _ (seats : ℕ) (s : World) (right : Whereabouts) (owner : ℕ → ℕ) (
       let next = r.tickets.passing i five in
       let sum = next.0 in
       let none : (j : ℕ) → j ≢ i → due_stage ≤ stage (s.place j) → stage (s.place j) ≤ passing_stage → ⊥ =
-          others seats s right owner r i (omega arith) (omega arith) in
+      others seats s right owner r i (omega arith) (omega arith) in
       let pos : s.unpassed ≢ 0 = λ e. let a = r.holder.free.0 e in cc in
       record {
         holder = record {
@@ -73,7 +73,7 @@ module _ (seats : ℕ) (s : World) (right : Whereabouts) (owner : ℕ → ℕ) (
       let six : stage (s.place k) ≡ inside_stage = r.calls.chose i back k is in
       let apart : k ≢ i = other_stage s.place i k (λ e. omega arith) in
       let none : (j : ℕ) → j ≢ i → due_stage ≤ stage (s.place j) → stage (s.place j) ≤ passing_stage → ⊥ =
-          others seats s right owner r i (omega arith) (omega arith) in
+      others seats s right owner r i (omega arith) (omega arith) in
       let pos : s.unpassed ≢ 0 = λ e. let a = r.holder.free.0 e in cc in
       record {
         holder = record {
@@ -94,8 +94,8 @@ module _ (seats : ℕ) (s : World) (right : Whereabouts) (owner : ℕ → ℕ) (
           granted = at_put s.place i to (λ _. WasGranted s.drawn s.unpassed (AtSeat k) (put s.place i to))
               (λ a. absurd (at_home home ticketed_stage (omega arith) (omega arith) a))
               (λ j _ a e no. absurd
-                  (let g = r.tickets.granted j a e
-                  (all_back s.place i to (λ m y. stage y ≢ passing_stage) no (λ z. omega arith)) in cc));
+              (let g = r.tickets.granted j a e
+              (all_back s.place i to (λ m y. stage y ≢ passing_stage) no (λ z. omega arith)) in cc));
           grant = λ t e. absurd cc;
         };
         places = record {
@@ -108,9 +108,11 @@ module _ (seats : ℕ) (s : World) (right : Whereabouts) (owner : ℕ → ℕ) (
         calls = record {
           called = λ j e. let same_seat : k ≡ j = cc in
               subst (λ (m : ℕ). (stage (put s.place i to m) ≡ inside_stage)
-                  × (put s.seat_place k (s.seat_place k + 1) m ≡ s.count m + 1)) same_seat
-              (ap stage (put_else s.place i to k apart) ∙ six, put_here s.seat_place k (s.seat_place k + 1)
-                  ∙ ap (λ (m : ℕ). m + 1) (r.calls.not_called k (λ e. cc)));
+              × (put s.seat_place k (s.seat_place k + 1) m ≡ s.count m + 1)) same_seat (
+                ap stage (put_else s.place i to k apart) ∙ six,
+                put_here s.seat_place k (s.seat_place k + 1)
+                    ∙ ap (λ (m : ℕ). m + 1) (r.calls.not_called k (λ e. cc)),
+              );
           not_called = at_put s.seat_place k (s.seat_place k + 1) (λ j x. AtSeat k ≢ AtSeat j → x ≡ s.count j)
               (λ ne. absurd (ne refl)) (λ j ne _. r.calls.not_called j (λ e. cc));
           chose = at_put s.place i to (λ _. ChoseInner (put s.place i to))

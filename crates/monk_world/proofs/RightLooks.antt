@@ -37,7 +37,7 @@ module _ (seats : ℕ) (s : World) (right : Whereabouts) (owner : ℕ → ℕ) (
       let is = there.1 in
       let nobody : (j : ℕ) → due_stage ≤ stage (s.place j) → stage (s.place j) ≤ passing_stage → ⊥ = λ j a b. let h = held r j a b in cc in
       let other : (j : ℕ) → j ≢ i → stage (s.place j) ≡ ticketed_stage → ticket (s.place j) ≢ T =
-          λ j ne h e. ne (sym (r.tickets.waits j h).2 ∙ ap owner e ∙ mine.2) in
+      λ j ne h e. ne (sym (r.tickets.waits j h).2 ∙ ap owner e ∙ mine.2) in
       record {
         holder = record {
           free = ((λ e. absurd (let a = r.holder.free.0 e in cc)), (λ e. absurd cc));
@@ -51,8 +51,8 @@ module _ (seats : ℕ) (s : World) (right : Whereabouts) (owner : ℕ → ℕ) (
           owned = λ k a b. let o = r.tickets.owned k a b in let tk = o.1 in
               subst (λ (y : Place). (stage y ≡ ticketed_stage) × (ticket y ≡ k))
               (sym (put_else s.place i to (owner k)
-                  (λ e. let c : ticket (s.place (owner k)) ≡ T = ap (λ (j : ℕ). ticket (s.place j)) e in omega arith)))
-                  o;
+              (λ e. let c : ticket (s.place (owner k)) ≡ T = ap (λ (j : ℕ). ticket (s.place j)) e in omega arith)))
+              o;
           passing = at_put s.place i to (λ _. PassesNext s.drawn s.unpassed (put s.place i to) owner)
               (λ a. absurd (omega arith)) (λ j _ a. absurd (nobody j (omega arith) (omega arith)));
           granted = at_put s.place i to (λ _. WasGranted s.drawn s.unpassed (With i) (put s.place i to)) (λ a. absurd (omega arith))
@@ -103,8 +103,8 @@ module _ (seats : ℕ) (s : World) (right : Whereabouts) (owner : ℕ → ℕ) (
               (λ a. absurd (omega arith)) (λ j _ a. absurd (nobody j (omega arith) (omega arith)));
           granted = at_put s.place i to (λ _. WasGranted s.drawn s.unpassed (With i) (put s.place i to)) (λ a. absurd (omega arith))
               (λ j _ a e none. absurd
-                  (let g = r.tickets.granted j a e
-                  (all_back s.place i to (λ k y. stage y ≢ passing_stage) none (λ z. omega arith)) in cc));
+              (let g = r.tickets.granted j a e
+              (all_back s.place i to (λ k y. stage y ≢ passing_stage) none (λ z. omega arith)) in cc));
           grant = λ t e. absurd cc;
         };
         places = record {

@@ -48,7 +48,7 @@ opening_holds k o f e =
     let nothing : situation m f.history ≡ opening_situation m = ap (situation m) e ∙ situation-none m in
     let open_turn_is : turn f.history ≡ Open = ap (λ (t : Situation). t.turn) nothing in
     let stands_nowhere : (j : ℕ) → standing m.conds j (situation m f.history) ≡ 0 = λ j. ap (standing m.conds j) nothing
-        ∙ (let z = no_times m.conds j in omega arith) in
+    ∙ (let z = no_times m.conds j in omega arith) in
     let quiet : is_quiet k o f ≡ true = is_quiet-true k o f (record {
       waiters = ap (λ (t : Situation). t.waiters) nothing;
       signallers = ap (λ (t : Situation). t.signallers) nothing;
@@ -58,7 +58,7 @@ opening_holds k o f e =
     subst (λ (q : Bool). Stands f.seats opening_world Nowhere (λ t. 0) (turn_number (turn f.history)) (is_standing k o f) q) (sym quiet)
     (subst (λ (b : ℕ → Bool). Stands f.seats opening_world Nowhere (λ t. 0) (turn_number (turn f.history)) b true) nobody
     (subst (λ (u : Turn). Stands f.seats opening_world Nowhere (λ t. 0) (turn_number u) (λ j. false) true)
-        (sym open_turn_is) (opening_stands f.seats)))
+    (sym open_turn_is) (opening_stands f.seats)))
 
 pub opening_is_sound : OpeningIsSound
 opening_is_sound k o opening seats conds budget = record {
@@ -139,7 +139,7 @@ module _ (k : Rules) (o : Object) (s : State) (right : Whereabouts) (owner : ℕ
       let ticket_is : ticket (s.world.place j) ≡ t = ap ticket at ∙ same in
       let sum = h.stands.keeps.tickets.in_use j stage_is (omega arith) in
       let e = enters.entered_here s.floor.seats s.world right owner h.stands.keeps (enters_of s.floor.history) h.entered
-          j p at (omega arith) (omega arith) in
+      j p at (omega arith) (omega arith) in
       omega arith
 
   pub well_led : IsWellLed k o s

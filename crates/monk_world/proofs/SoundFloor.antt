@@ -139,7 +139,7 @@ module _ (k : Rules) (o : Object) (s : State) (right : Whereabouts) (owner : ℕ
           stands = activity_keeps_the_right s.floor.seats s.world right owner (turn_number (turn past))
               (is_standing k o s.floor) (is_quiet k o s.floor) i h.stands
               q (turn_number (turn (past ++ e ∷ []))) (is_standing k o (with_event s.floor e))
-                  (is_quiet k o (with_event s.floor e)) active others_stand;
+              (is_quiet k o (with_event s.floor e)) active others_stand;
           active = λ j a. elim (eqb_tells j i) [
             | inl c ↦ turn_new ∙ ap turn.Owned (sym c.1)
             | inr c ↦ absurd (none k o s right owner h i (omega arith) (omega arith) j c.1 (omega arith) (omega arith))
@@ -169,7 +169,7 @@ module _ (k : Rules) (o : Object) (s : State) (right : Whereabouts) (owner : ℕ
       let turned : turn_number (turn (past ++ e ∷ [])) ≡ turn_of_next x =
       ap turn_number (counts.turn ∙ ap (λ (y : Option Next). turn_by (seat_of e) y) chose) ∙ number_chosen (seat_of e) x away in
       let named : (m : ℕ) → turn_of_next x ≡ due_to m → grants m e ≡ true =
-          λ m a. ap (λ (y : Option Next). chooses_seat m y) chose ∙ names_chosen x m a in
+      λ m a. ap (λ (y : Option Next). chooses_seat m y) chose ∙ names_chosen x m a in
       let same : enters_of (past ++ e ∷ []) ≡ enters_of past =
       let c = counts.enters in let z : number_of (is_enter e) ≡ 0 = ap number_of no_enter in omega arith in
       record {
@@ -180,11 +180,13 @@ module _ (k : Rules) (o : Object) (s : State) (right : Whereabouts) (owner : ℕ
           stands = subst (λ (n : ℕ). Stands s.floor.seats (after_floor_in s.world i x home) right owner n
               (is_standing k o (with_event s.floor e)) (is_quiet k o (with_event s.floor e))) (sym turned)
               (floor_in_keeps_the_right s.floor.seats s.world right owner (turn_number (turn past))
-                  (is_standing k o s.floor) (is_quiet k o s.floor) i h.stands
+              (is_standing k o s.floor) (is_quiet k o s.floor) i h.stands
               q x home (is_standing k o (with_event s.floor e)) (is_quiet k o (with_event s.floor e)) active
-              (λ m a. let g = named m a in let other = moved.chosen_other m g in let ne : m ≢ i = λ z. other (z ∙ sym of_seat) in
-              (ne, let before = moved.chosen_before m g in let stand = moved.others_stand m other in
-                  some_above (standing monitor.conds m (situation monitor (past ++ e ∷ []))) (λ z. omega arith)))
+              (λ m a. let g = named m a in let other = moved.chosen_other m g in let ne : m ≢ i = λ z. other (z ∙ sym of_seat) in (
+                ne,
+                let before = moved.chosen_before m g in let stand = moved.others_stand m other in
+                    some_above (standing monitor.conds m (situation monitor (past ++ e ∷ []))) (λ z. omega arith),
+              ))
               others_stand own (λ a. entry (entry_chosen x away a)));
           active = at_put s.world.place i p (λ j y. stage y ≡ active_stage → turn (past ++ e ∷ []) ≡ turn.Owned j)
               (λ a. absurd (omega arith))
@@ -221,7 +223,7 @@ module _ (k : Rules) (o : Object) (s : State) (right : Whereabouts) (owner : ℕ
           stands = floor_out_keeps_the_right s.floor.seats s.world right owner (turn_number (turn past))
               (is_standing k o s.floor) (is_quiet k o s.floor) i h.stands
               q (turn_number (turn (past ++ e ∷ []))) (is_standing k o (with_event s.floor e))
-                  (is_quiet k o (with_event s.floor e)) due others_stand;
+              (is_quiet k o (with_event s.floor e)) due others_stand;
           active = at_put s.world.place i p (λ j y. stage y ≡ active_stage → turn (past ++ e ∷ []) ≡ turn.Owned j) (λ _. turn_new)
               (λ j ne a. absurd (none k o s right owner h i (omega arith) (omega arith) j ne (omega arith) (omega arith)));
           known = at_put s.world.place i p (λ j y. stage y ≡ active_stage → put s.known i false j ≡ true
@@ -246,7 +248,7 @@ module _ (k : Rules) (o : Object) (s : State) (right : Whereabouts) (owner : ℕ
   turn_due q due =
       let two : stage (s.world.place i) ≡ due_stage = ap stage due in
       turns.turn_here s.floor.seats s.world right owner h.stands.keeps (turn_number (turn s.floor.history))
-          h.stands.fits_turn i (Due q) due (omega arith) (omega arith) (λ a. omega arith)
+      h.stands.fits_turn i (Due q) due (omega arith) (omega arith) (λ a. omega arith)
 
   -- a seat that comes from outside stands at the door
   at_door : (q : Source) → s.world.place i ≡ Due q → turn_at i (Due q) ≡ open_turn → comes_from_queue q ≡ false
@@ -257,7 +259,7 @@ module _ (k : Rules) (o : Object) (s : State) (right : Whereabouts) (owner : ℕ
       let t = situation m s.floor.history in
       let no : is_standing k o s.floor i ≡ false =
       subst (λ (p : Place). stage p ≢ active_stage → is_standing k o s.floor i ≡ is_queued_at p) due
-          (h.stands.fits_queues.in_queue i) (λ a. omega arith) ∙ outer in
+      (h.stands.fits_queues.in_queue i) (λ a. omega arith) ∙ outer in
       record {
         seat = near;
         free = open_is (turn s.floor.history) (turn_due q due ∙ opens);
@@ -266,15 +268,19 @@ module _ (k : Rules) (o : Object) (s : State) (right : Whereabouts) (owner : ℕ
       }
 
   pub sound_out : (q : Source) → s.world.place i ≡ Due q
-      → Sound k o (record { world = after_floor_out s.world i q; known = put s.known i false; floor =
-          with_event s.floor (out_event i q (turn s.floor.history)) })
+      → Sound k o (record {
+        world = after_floor_out s.world i q;
+        known = put s.known i false;
+        floor =
+            with_event s.floor (out_event i q (turn s.floor.history));
+      })
   sound_out (Free t) due =
       let two : stage (s.world.place i) ≡ due_stage = ap stage due in
       let one : source (s.world.place i) ≡ free_source = ap source due in
       let quiet = quiet_is k o s.floor (h.stands.fits_queues.still_free i two one) in
       comes_out k o s right owner h i (Enter i via.Free) refl
-          ((enters_free (monitor_of k o s.floor) s.floor.history i).1 (at_door (Free t) due refl refl, quiet)) (Free t)
-          near due refl refl
+      ((enters_free (monitor_of k o s.floor) s.floor.history i).1 (at_door (Free t) due refl refl, quiet)) (Free t)
+      near due refl refl
   sound_out (Granted t) due =
       let two : stage (s.world.place i) ≡ due_stage = ap stage due in
       let by_ticket : source (s.world.place i) ≡ granted_source = ap source due in
@@ -284,15 +290,15 @@ module _ (k : Rules) (o : Object) (s : State) (right : Whereabouts) (owner : ℕ
       let sum = r.tickets.in_use i two (omega arith) in
       let used : enters_of s.floor.history + s.world.unpassed ≡ s.world.drawn + 0 =
       enters.entered_here s.floor.seats s.world right owner r (enters_of s.floor.history) h.entered i (Due (Granted t))
-          due (omega arith) (omega arith) in
+      due (omega arith) (omega arith) in
       let begun : s.floor.history ≢ [] = λ z. let n : enters_of s.floor.history ≡ 0 = ap enters_of z ∙ enters_none in omega arith in
       comes_out k o s right owner h i (Enter i via.Handed) refl
-          ((enters_handed (monitor_of k o s.floor) s.floor.history i).1 (at_door (Granted t) due refl refl, begun))
-          (Granted t) near due refl refl
+      ((enters_handed (monitor_of k o s.floor) s.floor.history i).1 (at_door (Granted t) due refl refl, begun))
+      (Granted t) near due refl refl
   sound_out Called due =
       let d = due_is (turn s.floor.history) i (turn_due Called due) in
       let is : turn s.floor.history ≡ turn.Due i (queue_due (turn s.floor.history)) = d.1
-          ∙ ap (λ (q : From3). turn.Due i q) (sym (ap queue_due d.1)) in
+      ∙ ap (λ (q : From3). turn.Due i q) (sym (ap queue_due d.1)) in
       comes_out k o s right owner h i (Resume i (queue_due (turn s.floor.history))) refl
       ((resumes (monitor_of k o s.floor) s.floor.history i (queue_due (turn s.floor.history))).1
-          (record { seat = near; due = is })) Called near due refl refl
+      (record { seat = near; due = is })) Called near due refl refl

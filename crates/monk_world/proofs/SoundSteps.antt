@@ -86,14 +86,17 @@ module _ (k : Rules) (o : Object) (s : State) (right : Whereabouts) (owner : ℕ
       let f = with_next x e in
       let allowed : IsAllowed m s.floor.history f =
       chosen_allowed m (situation m s.floor.history) e (s.known i) wish (legal_order m s.floor.history kind h.legal) may
-          (r.no_reply o (data_of m s.floor.history)) in
+      (r.no_reply o (data_of m s.floor.history)) in
       let After : Bool → Type 0 = λ b. is_stay (Some x) ≡ b
-          → Sound k o (record s { world = cond b s.world (after_floor_in s.world i x to); floor =
-          with_event s.floor f }) in
+      → Sound k o (record s {
+        world = cond b s.world (after_floor_in s.world i x to);
+        floor =
+            with_event s.floor f;
+      }) in
       let either_way : (b : Bool) → After b = elim [
         | true ↦ λ e_stay. stays k o s right owner h i f (r.seat x) allowed q active (r.no_enter x)
             (ap (λ (y : Option Next). turn_by (seat_of f) y)
-                (r.chooses x ∙ ap (λ (y : Next). Some y) (stay_is x e_stay)) ∙ ap turn.Owned (r.seat x))
+            (r.chooses x ∙ ap (λ (y : Next). Some y) (stay_is x e_stay)) ∙ ap turn.Owned (r.seat x))
             (stay_left (subst (λ (y : Next). IsAllowed m s.floor.history (with_next y e)) (stay_is x e_stay) allowed))
         | false ↦ λ e_away. goes_home k o s right owner h i f (r.seat x) allowed q x to near active (r.no_enter x) (r.chooses x) e_away
             (own_stands k o s right owner h i f (r.seat x) allowed to (r.way x))
@@ -117,8 +120,15 @@ module _ (k : Rules) (o : Object) (s : State) (right : Whereabouts) (owner : ℕ
       → Sound k o (record s { floor = with_event s.floor (Act i op reply) })
   acted op reply is range enough =
       stays k o s right owner h i (Act i op reply) refl
-      (record { in_range = range; offered = refl; in_turn = owns; in_place = refl; right_reply =
-          eq-eqb reply (o.reply (data_of (monitor_of k o s.floor) s.floor.history) op) is; permitted = refl })
+      (record {
+        in_range = range;
+        offered = refl;
+        in_turn = owns;
+        in_place = refl;
+        right_reply =
+            eq-eqb reply (o.reply (data_of (monitor_of k o s.floor) s.floor.history) op) is;
+        permitted = refl;
+      })
       q active refl refl enough
 
   looked_in : Sound k o (record s { known = put s.known i (s.known i || nat_le 2 s.world.unpassed) })
@@ -132,7 +142,7 @@ module _ (k : Rules) (o : Object) (s : State) (right : Whereabouts) (owner : ℕ
       known = λ j. at_put s.known i (s.known i || nat_le 2 s.world.unpassed)
           (λ m b. stage (s.world.place m) ≡ active_stage → b ≡ true → 2 ≤ s.world.unpassed)
           (λ a e. elim (either (s.known i) (nat_le 2 s.world.unpassed) e)
-              [ inl b ↦ h.known i a b | inr b ↦ seen_two s.world.unpassed b ]) (λ m _. h.known m) j;
+          [ inl b ↦ h.known i a b | inr b ↦ seen_two s.world.unpassed b ]) (λ m _. h.known m) j;
       entered = h.entered;
       late = h.late;
       granted_late = h.granted_late;
@@ -143,24 +153,59 @@ module _ (k : Rules) (o : Object) (s : State) (right : Whereabouts) (owner : ℕ
 
 -- the five calls that release
 pub leaving : (i : ℕ) → IsRelease (Leave i next.Stay) i home.Idle
-leaving i = record { seat = λ x. refl; no_enter = λ x. refl; chooses = λ x. refl; called = λ x. refl; way =
-    λ x. refl; no_reply = λ o d. refl }
+leaving i = record {
+  seat = λ x. refl;
+  no_enter = λ x. refl;
+  chooses = λ x. refl;
+  called = λ x. refl;
+  way =
+      λ x. refl;
+  no_reply = λ o d. refl;
+}
 
 pub waiting : (i c : ℕ) → IsRelease (Wait i c next.Stay) i home.Inner
-waiting i c = record { seat = λ x. refl; no_enter = λ x. refl; chooses = λ x. refl; called = λ x. refl; way =
-    λ x. refl; no_reply = λ o d. refl }
+waiting i c = record {
+  seat = λ x. refl;
+  no_enter = λ x. refl;
+  chooses = λ x. refl;
+  called = λ x. refl;
+  way =
+      λ x. refl;
+  no_reply = λ o d. refl;
+}
 
 pub signalling : (i c : ℕ) → IsRelease (Signal i c next.Stay) i home.Inner
-signalling i c = record { seat = λ x. refl; no_enter = λ x. refl; chooses = λ x. refl; called = λ x. refl; way =
-    λ x. refl; no_reply = λ o d. refl }
+signalling i c = record {
+  seat = λ x. refl;
+  no_enter = λ x. refl;
+  chooses = λ x. refl;
+  called = λ x. refl;
+  way =
+      λ x. refl;
+  no_reply = λ o d. refl;
+}
 
 pub signal_leaving : (i c : ℕ) → IsRelease (SignalLeave i c next.Stay) i home.Idle
-signal_leaving i c = record { seat = λ x. refl; no_enter = λ x. refl; chooses = λ x. refl; called = λ x. refl; way =
-    λ x. refl; no_reply = λ o d. refl }
+signal_leaving i c = record {
+  seat = λ x. refl;
+  no_enter = λ x. refl;
+  chooses = λ x. refl;
+  called = λ x. refl;
+  way =
+      λ x. refl;
+  no_reply = λ o d. refl;
+}
 
 pub waiting_until : (i p : ℕ) → IsRelease (Until i p next.Stay) i home.Inner
-waiting_until i p = record { seat = λ x. refl; no_enter = λ x. refl; chooses = λ x. refl; called = λ x. refl; way =
-    λ x. refl; no_reply = λ o d. refl }
+waiting_until i p = record {
+  seat = λ x. refl;
+  no_enter = λ x. refl;
+  chooses = λ x. refl;
+  called = λ x. refl;
+  way =
+      λ x. refl;
+  no_reply = λ o d. refl;
+}
 
 module _ (k : Rules) (o : Object) (s : State) (right : Whereabouts) (owner : ℕ → ℕ) (kind : IsKind k)
     (h : IsSound k o s right owner) (i : ℕ) (near : i < s.floor.seats) where
@@ -189,37 +234,62 @@ module _ (k : Rules) (o : Object) (s : State) (right : Whereabouts) (owner : ℕ
       subst (Sound k o) (sym d.1) (sound_ticket_grant k o s right owner h i near n to at)
   done (command.Act op) a t (Active q) at range offered left d =
       subst (Sound k o) (sym d.1)
-          (acted k o s right owner kind h i near q at op (o.reply (data_of (monitor_of k o s.floor) s.floor.history) op)
-          refl range left)
+      (acted k o s right owner kind h i near q at op (o.reply (data_of (monitor_of k o s.floor) s.floor.history) op)
+      refl range left)
   done (command.Leave pick) a t (Active q) at range offered left d =
       subst (Sound k o) (sym d.1) (released k o s right owner kind h i near q at (Leave i next.Stay) pick home.Idle (leaving i)
-      (record { in_range = range; offered = offered; in_turn = owns k o s right owner kind h i near q at; in_place =
-          refl }) (λ e. let z : false ≡ true = e.permitted in absurd cc) left)
+      (record {
+        in_range = range;
+        offered = offered;
+        in_turn = owns k o s right owner kind h i near q at;
+        in_place =
+            refl;
+      }) (λ e. let z : false ≡ true = e.permitted in absurd cc) left)
   done (command.Wait c pick) a t (Active q) at range offered left d =
       subst (Sound k o) (sym d.1) (released k o s right owner kind h i near q at (Wait i c next.Stay) pick home.Inner (waiting i c)
-      (record { in_range = range; offered = offered; in_turn = owns k o s right owner kind h i near q at; in_place =
-          refl }) (λ e. omega arith) left)
+      (record {
+        in_range = range;
+        offered = offered;
+        in_turn = owns k o s right owner kind h i near q at;
+        in_place =
+            refl;
+      }) (λ e. omega arith) left)
   done (command.Signal c pick) a t (Active q) at range offered left d =
       subst (Sound k o) (sym d.1) (released k o s right owner kind h i near q at (Signal i c next.Stay) pick home.Inner (signalling i c)
-      (record { in_range = range; offered = offered; in_turn = owns k o s right owner kind h i near q at; in_place =
-          refl }) (λ e. omega arith) left)
+      (record {
+        in_range = range;
+        offered = offered;
+        in_turn = owns k o s right owner kind h i near q at;
+        in_place =
+            refl;
+      }) (λ e. omega arith) left)
   done (command.SignalLeave c pick) a t (Active q) at range offered left d =
       subst (Sound k o) (sym d.1)
-          (released k o s right owner kind h i near q at (SignalLeave i c next.Stay) pick home.Idle (signal_leaving i c)
-      (record { in_range = range; offered = offered; in_turn = owns k o s right owner kind h i near q at; in_place =
-          refl }) (λ e. let z : false ≡ true = e.permitted in absurd cc) left)
+      (released k o s right owner kind h i near q at (SignalLeave i c next.Stay) pick home.Idle (signal_leaving i c)
+      (record {
+        in_range = range;
+        offered = offered;
+        in_turn = owns k o s right owner kind h i near q at;
+        in_place =
+            refl;
+      }) (λ e. let z : false ≡ true = e.permitted in absurd cc) left)
   done (command.Until p pick) a t (Active q) at range offered left d =
       subst (Sound k o) (sym d.1) (released k o s right owner kind h i near q at (Until i p next.Stay) pick home.Inner (waiting_until i p)
-      (record { in_range = range; offered = offered; in_turn = owns k o s right owner kind h i near q at; in_place =
-          refl }) (λ e. omega arith) left)
+      (record {
+        in_range = range;
+        offered = offered;
+        in_turn = owns k o s right owner kind h i near q at;
+        in_place =
+            refl;
+      }) (λ e. omega arith) left)
   done c a t p at range offered left d = absurd d
 
 -- by what the tests for a refusal say
 split : (k : Rules) (o : Object) (s : State) (i : ℕ) (c : Command) (a : Answer) (t : State) (in_reach offered told tired : Bool)
     → IsAnswered k o s i c
-        (cond (not in_reach) (Some answer.Range)
-        (cond (not offered) (Some answer.NoCall)
-        (cond (not told) (Some answer.NotNow) (cond tired (Some answer.Tired) None)))) a t
+    (cond (not in_reach) (Some answer.Range)
+    (cond (not offered) (Some answer.NoCall)
+    (cond (not told) (Some answer.NotNow) (cond tired (Some answer.Tired) None)))) a t
     → (t ≡ s) ⊎ ((in_reach ≡ true) × (offered ≡ true) × (tired ≡ false) × IsDone k o s i (s.world.place i) c a t)
 split k o s i c a t false offered told tired d = inl d.1
 split k o s i c a t true false told tired d = inl d.1
@@ -239,7 +309,7 @@ pub step_is_sound : (k : Rules) (o : Object) (s : State) (i : ℕ) (c : Command)
 step_is_sound k o s i c a t kind h step =
     let reach = nat_lt i s.floor.seats && is_call_in_range o s.floor (call_of i c) in
     elim (split k o s i c a t reach (is_call_offered k (call_of i c)) (may_be_told (s.world.place i) c)
-        (nat_lt (left_of s.floor.budget s.floor.history i) (left_for c)) step) [
+    (nat_lt (left_of s.floor.budget s.floor.history i) (left_for c)) step) [
       | inl same ↦ subst (Sound k o) (sym same) h
       | inr d ↦
           let parts = conjuncts (nat_lt i s.floor.seats) (is_call_in_range o s.floor (call_of i c)) d.0 in

@@ -47,12 +47,19 @@ module _ (k : Rules) (o : Object) (s : State) (right : Whereabouts) (owner : ℕ
 
   -- seat i goes to p, and the words become these
   word_step : (t n : ℕ) (tickets seats_called counts : ℕ → ℕ) (p : Place) (right_new : Whereabouts) (owner_new : ℕ → ℕ)
-      → let w : World = record { drawn = t; unpassed = n; ticket_place = tickets; seat_place = seats_called; place =
-          put s.world.place i p; count = counts } in
+      → let w : World = record {
+        drawn = t;
+        unpassed = n;
+        ticket_place = tickets;
+        seat_place = seats_called;
+        place =
+            put s.world.place i p;
+        count = counts;
+      } in
       StandsSo w right_new owner_new → FitsEnters w right_new (enters_of s.floor.history) → stage p ≢ active_stage
-          → (stage p ≡ ticketed_stage → 1 ≤ ticket p) → (stage p ≡ due_stage → source p ≡ granted_source → 1 ≤ ticket p)
+      → (stage p ≡ ticketed_stage → 1 ≤ ticket p) → (stage p ≡ due_stage → source p ≡ granted_source → 1 ≤ ticket p)
       → left_at p ≤ left_of s.floor.budget s.floor.history i
-          → ((j : ℕ) → j ≢ i → stage (s.world.place j) ≡ active_stage → 2 ≤ s.world.unpassed → 2 ≤ n)
+      → ((j : ℕ) → j ≢ i → stage (s.world.place j) ≡ active_stage → 2 ≤ s.world.unpassed → 2 ≤ n)
       → IsSound k o (record s { world = w }) right_new owner_new
   word_step t n tickets seats_called counts p right_new owner_new stands entered away late granted_late left more = record {
     legal = h.legal;
@@ -77,10 +84,14 @@ module _ (k : Rules) (o : Object) (s : State) (right : Whereabouts) (owner : ℕ
       let r = h.stands.keeps in
       let behind = r.tickets.behind in
       let stands = arrive_keeps_the_right s.floor.seats w right owner (turn_number (turn s.floor.history))
-          (is_standing k o s.floor) (is_quiet k o s.floor) i h.stands idle in
+      (is_standing k o s.floor) (is_quiet k o s.floor) i h.stands idle in
       let After : Bool → Type 0 = λ b.
-      let v : World = record w { drawn = w.drawn + 1; unpassed = w.unpassed + 1; place =
-          put w.place i (cond b (Due (Free w.drawn)) (Ticket w.drawn)) } in
+      let v : World = record w {
+        drawn = w.drawn + 1;
+        unpassed = w.unpassed + 1;
+        place =
+            put w.place i (cond b (Due (Free w.drawn)) (Ticket w.drawn));
+      } in
       StandsSo v (cond b (With i) right) (cond b owner (put owner w.drawn i)) → Sound k o (record s { world = v }) in
       elim (eqb_tells w.unpassed 0) as (λ _. After (w.unpassed == 0)) [
         | inl e ↦ subst After (sym e.0) (λ st. record {
@@ -119,13 +130,13 @@ module _ (k : Rules) (o : Object) (s : State) (right : Whereabouts) (owner : ℕ
         is_sound =
             word_step w.drawn w.unpassed w.ticket_place w.seat_place w.count (Due (Granted t)) (With i) owner
             (ticket_look_keeps_the_right s.floor.seats w right owner (turn_number (turn s.floor.history))
-                (is_standing k o s.floor) (is_quiet k o s.floor) i h.stands t true some at test)
+            (is_standing k o s.floor) (is_quiet k o s.floor) i h.stands t true some at test)
             (enters.takes_grant s.floor.seats w right owner r (enters_of s.floor.history) h.entered i t (there.1 ∙ ap AtTicket same))
             (λ a. omega arith) (λ a. absurd (omega arith)) (λ a b. omega arith) enough (λ j _ _ a. a);
       }
   sound_ticket_look t false at test =
       subst (λ (place : ℕ → Place). Sound k o (record s { world = record s.world { place = place } }))
-          (sym (put_same s.world.place i (Ticket t) at))
+      (sym (put_same s.world.place i (Ticket t) at))
       (record { right = right; owner = owner; is_sound = h })
 
   pub sound_seat_look : (found : Bool) → s.world.place i ≡ Inner → (s.world.seat_place i == s.world.count i + 1) ≡ found
@@ -142,16 +153,16 @@ module _ (k : Rules) (o : Object) (s : State) (right : Whereabouts) (owner : ℕ
         is_sound =
             word_step w.drawn w.unpassed w.ticket_place w.seat_place count (Due Called) (With i) owner
             (seat_look_keeps_the_right s.floor.seats w right owner (turn_number (turn s.floor.history))
-                (is_standing k o s.floor) (is_quiet k o s.floor) i h.stands true at test)
+            (is_standing k o s.floor) (is_quiet k o s.floor) i h.stands true at test)
             (enters.takes_call s.floor.seats w right owner r (enters_of s.floor.history) h.entered i count is)
             (λ a. omega arith) (λ a. absurd (omega arith)) (λ a b. absurd (omega arith)) enough (λ j _ _ a. a);
       }
   sound_seat_look false at test =
       subst (λ (place : ℕ → Place). Sound k o
-          (record s { world = record s.world { place = place; count = put s.world.count i (s.world.count i) } }))
-          (sym (put_same s.world.place i Inner at))
+      (record s { world = record s.world { place = place; count = put s.world.count i (s.world.count i) } }))
+      (sym (put_same s.world.place i Inner at))
       (subst (λ (count : ℕ → ℕ). Sound k o (record s { world = record s.world { count = count } }))
-          (sym (put_same s.world.count i (s.world.count i) refl))
+      (sym (put_same s.world.count i (s.world.count i) refl))
       (record { right = right; owner = owner; is_sound = h }))
 
   -- nobody else is active where seat i has the right
@@ -167,7 +178,7 @@ module _ (k : Rules) (o : Object) (s : State) (right : Whereabouts) (owner : ℕ
       let next : ℕ = w.drawn - w.unpassed + 1 in
       let enough = subst (λ (p : Place). left_at p ≤ left_of s.floor.budget s.floor.history i) back (h.left i) in
       let stands = drop_keeps_the_right s.floor.seats w right owner (turn_number (turn s.floor.history))
-          (is_standing k o s.floor) (is_quiet k o s.floor) i h.stands home back in
+      (is_standing k o s.floor) (is_quiet k o s.floor) i h.stands home back in
       let After : Bool → Type 0 = λ b.
       let v : World = record w { unpassed = w.unpassed - 1; place = put w.place i (cond b (place_of home) (Passing next home)) } in
       StandsSo v (cond b Nowhere (With i)) owner → Sound k o (record s { world = v }) in
@@ -179,7 +190,7 @@ module _ (k : Rules) (o : Object) (s : State) (right : Whereabouts) (owner : ℕ
               word_step w.drawn (w.unpassed - 1) w.ticket_place w.seat_place w.count (place_of home) Nowhere owner st
               (enters.drops_last s.floor.seats w right owner r (enters_of s.floor.history) h.entered i home back)
               (at_home home 3 (omega arith) (omega arith)) (λ a. absurd (at_home home 1 (omega arith) (omega arith) a))
-                  (λ a b. absurd (at_home home 2 (omega arith) (omega arith) a))
+              (λ a b. absurd (at_home home 2 (omega arith) (omega arith) a))
               (rw (home_left home) enough) (alone (omega arith) (omega arith) (w.unpassed - 1));
         })
         | inr e ↦ subst After (sym e.0) (λ st. record {
@@ -189,7 +200,7 @@ module _ (k : Rules) (o : Object) (s : State) (right : Whereabouts) (owner : ℕ
               word_step w.drawn (w.unpassed - 1) w.ticket_place w.seat_place w.count (Passing next home) (With i) owner st
               (enters.drops_more s.floor.seats w right owner r (enters_of s.floor.history) h.entered i next home back)
               (λ a. omega arith) (λ a. absurd (omega arith)) (λ a b. absurd (omega arith)) enough
-                  (alone (omega arith) (omega arith) (w.unpassed - 1));
+              (alone (omega arith) (omega arith) (w.unpassed - 1));
         })
       ] stands
 
@@ -204,12 +215,12 @@ module _ (k : Rules) (o : Object) (s : State) (right : Whereabouts) (owner : ℕ
         owner = owner;
         is_sound =
             word_step w.drawn w.unpassed (put w.ticket_place (t % s.floor.seats) (t + 1)) w.seat_place w.count
-                (place_of home) (AtTicket t) owner
+            (place_of home) (AtTicket t) owner
             (ticket_grant_keeps_the_right s.floor.seats w right owner (turn_number (turn s.floor.history))
-                (is_standing k o s.floor) (is_quiet k o s.floor) i h.stands t home (omega arith) at)
+            (is_standing k o s.floor) (is_quiet k o s.floor) i h.stands t home (omega arith) at)
             (enters.grants_ticket s.floor.seats w right owner h.stands.keeps (enters_of s.floor.history) h.entered i t home at)
             (at_home home 3 (omega arith) (omega arith)) (λ a. absurd (at_home home 1 (omega arith) (omega arith) a))
-                (λ a b. absurd (at_home home 2 (omega arith) (omega arith) a))
+            (λ a b. absurd (at_home home 2 (omega arith) (omega arith) a))
             (rw (home_left home) enough) (alone (omega arith) (omega arith) w.unpassed);
       }
 
@@ -225,9 +236,9 @@ module _ (k : Rules) (o : Object) (s : State) (right : Whereabouts) (owner : ℕ
         is_sound =
             word_step w.drawn w.unpassed w.ticket_place (put w.seat_place m (w.seat_place m + 1)) w.count (place_of home) (AtSeat m) owner
             (seat_grant_keeps_the_right s.floor.seats w right owner (turn_number (turn s.floor.history))
-                (is_standing k o s.floor) (is_quiet k o s.floor) i h.stands next m home at is)
+            (is_standing k o s.floor) (is_quiet k o s.floor) i h.stands next m home at is)
             (enters.calls_seat s.floor.seats w right owner h.stands.keeps (enters_of s.floor.history) h.entered i next m home at)
             (at_home home 3 (omega arith) (omega arith)) (λ a. absurd (at_home home 1 (omega arith) (omega arith) a))
-                (λ a b. absurd (at_home home 2 (omega arith) (omega arith) a))
+            (λ a b. absurd (at_home home 2 (omega arith) (omega arith) a))
             (rw (home_left home) enough) (alone (omega arith) (omega arith) w.unpassed);
       }

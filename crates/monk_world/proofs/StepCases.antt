@@ -42,10 +42,10 @@ module _ (k : Rules) (o : Object) (s : State) (i : ℕ) where
   -- by what the tests for a refusal say
   answered : (c : Command) (in_reach offered told tired : Bool) → may_be_told (s.world.place i) c ≡ told
       → (a : Answer) × (t : State)
-          × IsAnswered k o s i c
-          (cond (not in_reach) (Some answer.Range)
-          (cond (not offered) (Some answer.NoCall)
-          (cond (not told) (Some answer.NotNow) (cond tired (Some answer.Tired) None)))) a t
+      × IsAnswered k o s i c
+      (cond (not in_reach) (Some answer.Range)
+      (cond (not offered) (Some answer.NoCall)
+      (cond (not told) (Some answer.NotNow) (cond tired (Some answer.Tired) None)))) a t
   answered c false offered told tired e = (_, _, (refl, refl))
   answered c true false told tired e = (_, _, (refl, refl))
   answered c true true false tired e = (_, _, (refl, refl))

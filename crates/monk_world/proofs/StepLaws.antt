@@ -55,8 +55,12 @@ opening_stands seats = record {
     };
   };
   fits_turn = refl;
-  fits_queues = record { in_queue = λ j _. refl; free = λ _. refl; still_free = λ j a. absurd (omega arith);
-      back_to_entry = λ j a. absurd (omega arith) };
+  fits_queues = record {
+    in_queue = λ j _. refl;
+    free = λ _. refl;
+    still_free = λ j a. absurd (omega arith);
+    back_to_entry = λ j a. absurd (omega arith);
+  };
 }
 
 pub arrive_keeps_the_right : ArriveKeeps
@@ -64,8 +68,12 @@ arrive_keeps_the_right seats w right owner turn queued quiet i h idle =
     let r = h.keeps in
     let zero : stage (w.place i) ≡ outside_stage = ap stage idle in
     let After : Bool → Type 0 =
-        λ b. Stands seats (record w { drawn = w.drawn + 1; unpassed = w.unpassed + 1; place =
-        put w.place i (cond b (Due (Free w.drawn)) (Ticket w.drawn)) })
+    λ b. Stands seats (record w {
+      drawn = w.drawn + 1;
+      unpassed = w.unpassed + 1;
+      place =
+          put w.place i (cond b (Due (Free w.drawn)) (Ticket w.drawn));
+    })
     (cond b (With i) right) (cond b owner (put owner w.drawn i)) turn queued quiet in
     elim (eqb_tells w.unpassed 0) as (λ _. After (w.unpassed == 0)) [
       | inl e ↦ subst After (sym e.0) (record {
@@ -96,7 +104,7 @@ ticket_look_keeps_the_right seats w right owner turn queued quiet i h t true som
     }
 ticket_look_keeps_the_right seats w right owner turn queued quiet i h t false some at test =
     subst (λ (place : ℕ → Place). Stands seats (record w { place = place }) right owner turn queued quiet)
-        (sym (put_same w.place i (Ticket t) at)) h
+    (sym (put_same w.place i (Ticket t) at)) h
 
 pub seat_look_keeps_the_right : SeatLookKeeps
 seat_look_keeps_the_right seats w right owner turn queued quiet i h true at test =
@@ -111,9 +119,9 @@ seat_look_keeps_the_right seats w right owner turn queued quiet i h true at test
     }
 seat_look_keeps_the_right seats w right owner turn queued quiet i h false at test =
     subst (λ (place : ℕ → Place). Stands seats (record w { place = place; count = put w.count i (w.count i) }) right
-        owner turn queued quiet) (sym (put_same w.place i Inner at))
+    owner turn queued quiet) (sym (put_same w.place i Inner at))
     (subst (λ (count : ℕ → ℕ). Stands seats (record w { count = count }) right owner turn queued quiet)
-        (sym (put_same w.count i (w.count i) refl)) h)
+    (sym (put_same w.count i (w.count i) refl)) h)
 
 pub floor_out_keeps_the_right : FloorOutKeeps
 floor_out_keeps_the_right seats w right owner turn queued quiet i h q turn_new queued_new quiet_new due alike =
@@ -149,11 +157,11 @@ floor_in_keeps_the_right seats w right owner turn queued quiet i h q next home q
     let three : stage (w.place i) ≡ active_stage = ap stage active in
     let mine = held r i (omega arith) (omega arith) in
     let none : (j : ℕ) → j ≢ i → due_stage ≤ stage (w.place j) → stage (w.place j) ≤ passing_stage → ⊥ =
-        λ j ne a b. ne (let e = held r j a b in cc) in
+    λ j ne a b. ne (let e = held r j a b in cc) in
     let inner : (k : ℕ) → turn_of_next next ≡ due_to k → stage (w.place k) ≡ inside_stage = λ k e.
     let c = chosen_seat k e in
     parked (w.place k) (sym (h.fits_queues.in_queue k (λ z. none k c.0 (omega arith) (omega arith))) ∙ sym (alike k c.0)
-        ∙ c.1) (none k c.0) in
+    ∙ c.1) (none k c.0) in
     record {
       keeps = goes_home seats w right owner r i next home three inner;
       fits_turn = turns.goes_home seats w right owner r turn h.fits_turn i q next home active;
@@ -167,8 +175,8 @@ drop_keeps_the_right seats w right owner turn queued quiet i h home back =
     let four : stage (w.place i) ≡ back_stage = ap stage back in
     let next : ℕ = w.drawn - w.unpassed + 1 in
     let After : Bool → Type 0 =
-        λ b. Stands seats (record w
-        { unpassed = w.unpassed - 1; place = put w.place i (cond b (place_of home) (Passing next home)) })
+    λ b. Stands seats (record w
+    { unpassed = w.unpassed - 1; place = put w.place i (cond b (place_of home) (Passing next home)) })
     (cond b Nowhere (With i)) owner turn queued quiet in
     elim (eqb_tells w.unpassed 1) as (λ _. After (w.unpassed == 1)) [
       | inl e ↦ subst After (sym e.0) (record {

@@ -21,7 +21,7 @@ pub stored : {X : Type 0} (xs : List X) (i : ℕ) (x d : X) → i < length xs
     → Path (ℕ → X) (λ j. slice_index_or (set xs i x) j d) (put (λ j. slice_index_or xs j d) i x)
 stored {X} xs i x d near = λ m j.
     at_put (λ n. slice_index_or xs n d) i x (λ n y. Path X (slice_index_or (set xs i x) n d) y)
-        (get_or-set_same xs i x d near) (λ n ne. get_or-set_other xs i n x d ne) j m
+    (get_or-set_same xs i x d near) (λ n ne. get_or-set_other xs i n x d ne) j m
 
 module _ (w : Board) (i : ℕ) (near : i < w.seats) where
   pub place_stored : (p q : Place) → p ≡ q → Path (ℕ → Place) (λ j. slice_index_or (set w.places.items i p) j Idle)
@@ -55,12 +55,12 @@ module _ (w : Board) (i : ℕ) (near : i < w.seats) where
       (record (state_in w f) { world = cond (is_stay (Some x)) (world_on w) (after_floor_in (world_on w) i x to) })
   settled x to p e f =
       ap (λ (place : ℕ → Place). record (state_in w f) { world = record (world_on w) { place = place } })
-          (place_stored p (cond (is_stay (Some x)) ((world_on w).place i) (Back x to)) e)
+      (place_stored p (cond (is_stay (Some x)) ((world_on w).place i) (Back x to)) e)
       ∙ same_world (is_stay (Some x))
     where
       same_world : (b : Bool)
-          → Path State (record (state_in w f)
-          { world = record (world_on w) { place = put (world_on w).place i (cond b ((world_on w).place i) (Back x to)) }
+          → Path State (record (state_in w f) {
+            world = record (world_on w) { place = put (world_on w).place i (cond b ((world_on w).place i) (Back x to)) };
           })
           (record (state_in w f) { world = cond b (world_on w) (after_floor_in (world_on w) i x to) })
       same_world true = ap (λ (place : ℕ → Place). record (state_in w f)

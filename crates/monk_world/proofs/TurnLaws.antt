@@ -41,8 +41,12 @@ module _ (seats : ℕ) (s : World) (right : Whereabouts) (owner : ℕ → ℕ) (
       (taken p turn_new agrees)
 
   pub arrives_free : s.unpassed ≡ 0
-      → FitsTurn (record s { drawn = s.drawn + 1; unpassed = s.unpassed + 1; place =
-      put s.place i (Due (Free s.drawn)) }) (With i) turn
+      → FitsTurn (record s {
+        drawn = s.drawn + 1;
+        unpassed = s.unpassed + 1;
+        place =
+            put s.place i (Due (Free s.drawn));
+      }) (With i) turn
   arrives_free none = taken (Due (Free s.drawn)) turn (λ _. turn_where Nowhere (r.holder.free.0 none))
 
   pub arrives_behind : s.place i ≡ Idle
@@ -51,8 +55,12 @@ module _ (seats : ℕ) (s : World) (right : Whereabouts) (owner : ℕ → ℕ) (
   arrives_behind idle = elsewhere right f (λ e. let z = ap stage idle in let a = holds r i e in let b = a.0 in omega arith)
     where
       elsewhere : (x : Whereabouts) → FitsTurn s x turn → x ≢ With i
-          → FitsTurn (record s { drawn = s.drawn + 1; unpassed = s.unpassed + 1; place =
-          put s.place i (Ticket s.drawn) }) x turn
+          → FitsTurn (record s {
+            drawn = s.drawn + 1;
+            unpassed = s.unpassed + 1;
+            place =
+                put s.place i (Ticket s.drawn);
+          }) x turn
       elsewhere Nowhere g ne = g
       elsewhere (AtTicket t) g ne = g
       elsewhere (With j) g ne =

@@ -108,7 +108,7 @@ module _ (k : Rules) (o : Object) (w : Board) (f : FloorView) (v : WorldView) (i
       → IsDone k o s i (s.world.place i) c a (state_in new g) → IsKept k o new.seats conds (state_in new g)
   kept c a new g conds kind old free same d =
       subst (λ (n : ℕ). IsKept k o n conds (state_in new g)) (sym same)
-          (kept_done k o s i c a (state_in new g) w.seats conds kind old (free_here c free) d)
+      (kept_done k o s i c a (state_in new g) w.seats conds kind old (free_here c free) d)
 
   pub ready_here : (c : Command) → refusal k o (state_of_view v) i c ≡ None → IsReady k o s i c
   ready_here c free = ready k o s i c (free_here c free)
@@ -131,19 +131,19 @@ module _ (k : Rules) (o : Object) (w : Board) (f : FloorView) (v : WorldView) (i
 
   pub ticket_look_goes : (n : ℕ) (a : Answer) (new : Board) (conds : ℕ) → IsKept k o w.seats conds s → s.world.place i ≡ Ticket n
       → a ≡ answer.Looked ((world_on w).ticket_place (n % w.seats) == n + 1)
-          → Shows w (after_ticket_look (world_on w) i n ((world_on w).ticket_place (n % w.seats) == n + 1)) new
-          → Goes command.Look a (state_in new f)
+      → Shows w (after_ticket_look (world_on w) i n ((world_on w).ticket_place (n % w.seats) == n + 1)) new
+      → Goes command.Look a (state_in new f)
   ticket_look_goes n a new conds old at is_a shows =
       at_place (Ticket n) command.Look a (state_in new f) at
       (subst (λ (m : ℕ). (a ≡ answer.Looked ((world_on w).ticket_place (n % m) == n + 1))
-          × (state_in new f ≡ record s
-          { world = after_ticket_look (world_on w) i n ((world_on w).ticket_place (n % m) == n + 1) })) old.seats_are
-          (is_a, shows.state f))
+      × (state_in new f ≡ record s
+      { world = after_ticket_look (world_on w) i n ((world_on w).ticket_place (n % m) == n + 1) })) old.seats_are
+      (is_a, shows.state f))
 
   pub seat_look_goes : (a : Answer) (new : Board) → s.world.place i ≡ Inner
       → a ≡ answer.Looked ((world_on w).seat_place i == (world_on w).count i + 1)
-          → Shows w (after_seat_look (world_on w) i ((world_on w).seat_place i == (world_on w).count i + 1)) new
-          → Goes command.Look a (state_in new f)
+      → Shows w (after_seat_look (world_on w) i ((world_on w).seat_place i == (world_on w).count i + 1)) new
+      → Goes command.Look a (state_in new f)
   seat_look_goes a new at is_a shows = at_place Inner command.Look a (state_in new f) at (is_a, shows.state f)
 
   pub idle_peek_goes : (a : Answer) → s.world.place i ≡ Idle → a ≡ answer.Found w.unpassed → Goes command.Peek a s
@@ -151,8 +151,8 @@ module _ (k : Rules) (o : Object) (w : Board) (f : FloorView) (v : WorldView) (i
 
   pub active_peek_goes : (q : Source) (a : Answer) (new : Board) → s.world.place i ≡ Active q → a ≡ answer.Found w.unpassed
       → ShowsKnown w (world_on w)
-          (put (λ j. slice_index_or w.known.items j false) i
-          (slice_index_or w.known.items i false || nat_le 2 w.unpassed)) new → Goes command.Peek a (state_in new f)
+      (put (λ j. slice_index_or w.known.items j false) i
+      (slice_index_or w.known.items i false || nat_le 2 w.unpassed)) new → Goes command.Peek a (state_in new f)
   active_peek_goes q a new at is_a shows = at_place (Active q) command.Peek a (state_in new f) at (is_a, shows.state f)
 
   pub drop_goes : (to : Home) (a : Answer) (new : Board) → s.world.place i ≡ Back next.Entry to
@@ -163,9 +163,11 @@ module _ (k : Rules) (o : Object) (w : Board) (f : FloorView) (v : WorldView) (i
       → s.world.place i ≡ Passing n to
       → a ≡ answer.GrantedTicket n → Shows w (after_ticket_grant w.seats (world_on w) i n to) new → Goes command.Grant a (state_in new f)
   ticket_grant_goes n to a new conds old at is_a shows =
-      at_place (Passing n to) command.Grant a (state_in new f) at
-      (is_a, subst (λ (m : ℕ). state_in new f ≡ record s { world = after_ticket_grant m (world_on w) i n to })
-          old.seats_are (shows.state f))
+      at_place (Passing n to) command.Grant a (state_in new f) at (
+        is_a,
+        subst (λ (m : ℕ). state_in new f ≡ record s { world = after_ticket_grant m (world_on w) i n to })
+            old.seats_are (shows.state f),
+      )
 
   pub waiter_grant_goes : (j : ℕ) (to : Home) (a : Answer) (new : Board) → s.world.place i ≡ Back (next.Waiter j) to
       → a ≡ answer.GrantedSeat j → Shows w (after_seat_grant (world_on w) i j to) new
@@ -186,28 +188,35 @@ module _ (k : Rules) (o : Object) (w : Board) (f : FloorView) (v : WorldView) (i
   pub out_goes : (q : Source) (a : Answer) (new : Board) (g : FloorView) → s.world.place i ≡ Due q
       → g ≡ with_event f (out_event i q (turn f.history)) → a ≡ answer.Now
       → ShowsKnown w (after_floor_out (world_on w) i q) (put (λ j. slice_index_or w.known.items j false) i false) new
-          → Goes command.Out a (state_in new g)
+      → Goes command.Out a (state_in new g)
   out_goes q a new g at grows is_a shows =
-      at_place (Due q) command.Out a (state_in new g) at
-      (is_a, shows.state g ∙ ap
-          (λ (x : FloorView). record (state_in w x) { world = after_floor_out (world_on w) i q; known =
-          put (λ j. slice_index_or w.known.items j false) i false }) grows)
+      at_place (Due q) command.Out a (state_in new g) at (
+        is_a,
+        shows.state g ∙ ap
+            (λ (x : FloorView). record (state_in w x) {
+              world = after_floor_out (world_on w) i q;
+              known =
+                  put (λ j. slice_index_or w.known.items j false) i false;
+            }) grows,
+      )
 
   pub release_goes : (e : Event) (pick : Pick) (to : Home) (x : Next) (known : Bool) (a : Answer) (new : Board)
       (g : FloorView) → known ≡ slice_index_or w.known.items i false
       → x ≡ release_next k o (record s { known = λ j. known }) i e pick → g ≡ with_event f (with_next x e)
-          → a ≡ answer.Chose x → Shows w (cond (is_stay (Some x)) (world_on w) (after_floor_in (world_on w) i x to)) new
+      → a ≡ answer.Chose x → Shows w (cond (is_stay (Some x)) (world_on w) (after_floor_in (world_on w) i x to)) new
       → IsReleased k o s i e pick to a (state_in new g)
   release_goes e pick to x known a new g knows chooses grows is_a shows =
       let same : x ≡ release_next k o s i e pick = chooses
-          ∙ ap (λ (b : Bool). release_next k o (record s { known = λ j. b }) i e pick) knows in (
+      ∙ ap (λ (b : Bool). release_next k o (record s { known = λ j. b }) i e pick) knows in (
         is_a ∙ ap answer.Chose same,
         shows.state g
             ∙ (ap (λ (y : FloorView). record (state_in w y)
-                { world = cond (is_stay (Some x)) (world_on w) (after_floor_in (world_on w) i x to) }) grows
-            ∙ ap (λ (y : Next). record s
-                { world = cond (is_stay (Some y)) (world_on w) (after_floor_in (world_on w) i y to); floor =
-                with_event f (with_next y e) }) same),
+            { world = cond (is_stay (Some x)) (world_on w) (after_floor_in (world_on w) i x to) }) grows
+            ∙ ap (λ (y : Next). record s {
+              world = cond (is_stay (Some y)) (world_on w) (after_floor_in (world_on w) i y to);
+              floor =
+                  with_event f (with_next y e);
+            }) same),
       )
 
   pub act_goes : (op : Op) (reply : ℕ) (a : Answer) (g : FloorView)
@@ -216,9 +225,11 @@ module _ (k : Rules) (o : Object) (w : Board) (f : FloorView) (v : WorldView) (i
   act_goes op reply a g free grows is_a =
       let at = active_is (s.world.place i) ((ready_here (command.Act op) free).told) in
       let same : reply ≡ o.reply (data_of (monitor_of k o f) f.history) op = eqb-true _ _ (grows.allowed.right_reply) in
-      at_place (Active at.source) (command.Act op) a (state_in w g) at.is
-      (is_a ∙ ap answer.Reply same, ap (λ (y : FloorView). state_in w y) grows.grown
-          ∙ ap (λ (r : ℕ). record s { floor = with_event f (Act i op r) }) same)
+      at_place (Active at.source) (command.Act op) a (state_in w g) at.is (
+        is_a ∙ ap answer.Reply same,
+        ap (λ (y : FloorView). state_in w y) grows.grown
+            ∙ ap (λ (r : ℕ). record s { floor = with_event f (Act i op r) }) same,
+      )
 
   pub owns_here : (c : Command) (conds : ℕ) → IsKept k o w.seats conds s
       → (stage (s.world.place i) == active_stage) ≡ true → is_owned_by i (turn f.history) ≡ true
@@ -287,7 +298,7 @@ module _ (k : Rules) (o : Object) (w : Board) (f : FloorView) (v : WorldView) (i
       let r = old.sound.is_sound.stands.keeps in
       let six = r.calls.chose i (ap stage at) j (subst (λ (p : Place). back_turn p ≡ due_to j) (sym at) names) in
       ⊎_elim (λ l. subst (λ (n : ℕ). j < n) (sym old.seats_are) l)
-          (λ l. absurd (omega (arith, six, old.sound.is_sound.outside j l))) (cases_lt j f.seats)
+      (λ l. absurd (omega (arith, six, old.sound.is_sound.outside j l))) (cases_lt j f.seats)
 
 -- the floor comes out
 
@@ -335,7 +346,7 @@ record AreFew (high large : Bool) : Type 0 where
 
 few_are : (low_seats high conds small large : Bool)
     → cond (low_seats || high) (Some fault.Seats)
-        (cond conds (Some fault.Conds) (cond (small || large) (Some fault.Budget) None)) ≡ None → AreFew high large
+    (cond conds (Some fault.Conds) (cond (small || large) (Some fault.Budget) None)) ≡ None → AreFew high large
 few_are false false false false false e = record { few = refl; low = refl }
 few_are true high conds small large e = absurd cc
 few_are false true conds small large e = absurd cc
@@ -350,7 +361,7 @@ pub opening_kept : (k : Rules) (o : Object) (opening : List ℕ) (seats conds bu
     → make.make_refusal seats conds budget ≡ None → IsKept k o seats conds (opening_state opening seats conds budget)
 opening_kept k o opening seats conds budget free =
     let r = few_are (nat_lt seats 1) (nat_lt most_seats seats) (nat_lt most_conds conds) (nat_lt budget least_budget)
-        (nat_lt most_budget budget) free in
+    (nat_lt most_budget budget) free in
     record {
       sound = opening_is_sound k o opening seats conds budget;
       bounded = record {
@@ -378,12 +389,12 @@ pub not_now : (k : Rules) (o : Object) (s : State) (i : ℕ) (c : Command)
     → may_be_told (s.world.place i) c ≡ false → Some answer.NotNow ≡ refusal k o s i c
 not_now k o s i c reach offered told =
     by_tests (nat_lt i s.floor.seats && is_call_in_range o s.floor (call_of i c)) (is_call_offered k (call_of i c))
-        (may_be_told (s.world.place i) c) (nat_lt (left_of s.floor.budget s.floor.history i) (left_for c)) reach offered
-        told
+    (may_be_told (s.world.place i) c) (nat_lt (left_of s.floor.budget s.floor.history i) (left_for c)) reach offered
+    told
   where
     by_tests : (a b d e : Bool) → a ≡ true → b ≡ true → d ≡ false
         → Some answer.NotNow ≡ cond (not a) (Some answer.Range)
-            (cond (not b) (Some answer.NoCall) (cond (not d) (Some answer.NotNow) (cond e (Some answer.Tired) None)))
+        (cond (not b) (Some answer.NoCall) (cond (not d) (Some answer.NotNow) (cond e (Some answer.Tired) None)))
     by_tests true true false e x y z = refl
     by_tests false b d e x y z = absurd cc
     by_tests true false d e x y z = absurd cc
@@ -395,8 +406,8 @@ pub not_refused : (k : Rules) (o : Object) (s : State) (i : ℕ) (c : Command)
     → may_be_told (s.world.place i) c ≡ true → left_for c ≤ left_of s.floor.budget s.floor.history i → None ≡ refusal k o s i c
 not_refused k o s i c reach offered told enough =
     by_tests (nat_lt i s.floor.seats && is_call_in_range o s.floor (call_of i c)) (is_call_offered k (call_of i c))
-        (may_be_told (s.world.place i) c) (nat_lt (left_of s.floor.budget s.floor.history i) (left_for c)) reach offered
-        told
+    (may_be_told (s.world.place i) c) (nat_lt (left_of s.floor.budget s.floor.history i) (left_for c)) reach offered
+    told
     (not_below (left_of s.floor.budget s.floor.history i) (left_for c) enough)
   where
     not_below : (n m : ℕ) → m ≤ n → nat_lt n m ≡ false
@@ -404,7 +415,7 @@ not_refused k o s i c reach offered told enough =
 
     by_tests : (a b d e : Bool) → a ≡ true → b ≡ true → d ≡ true → e ≡ false
         → None ≡ cond (not a) (Some answer.Range)
-            (cond (not b) (Some answer.NoCall) (cond (not d) (Some answer.NotNow) (cond e (Some answer.Tired) None)))
+        (cond (not b) (Some answer.NoCall) (cond (not d) (Some answer.NotNow) (cond e (Some answer.Tired) None)))
     by_tests true true true false x y z u = refl
     by_tests false b d e x y z u = absurd cc
     by_tests true false d e x y z u = absurd cc

@@ -59,7 +59,7 @@ FloorOutKeeps = Kept (λ seats w right owner turn queued quiet i.
 abbrev pub ActiveKeeps : Type 0
 ActiveKeeps = Kept (λ seats w right owner turn queued quiet i.
     (q : Source) (turn_new : ℕ) (queued_new : ℕ → Bool) (quiet_new : Bool) → w.place i ≡ Active q
-        → ((j : ℕ) → j ≢ i → queued_new j ≡ queued j)
+    → ((j : ℕ) → j ≢ i → queued_new j ≡ queued j)
     → Stands seats w right owner turn_new queued_new quiet_new)
 
 -- the active seat brings the floor home. Whom it has chosen is another, in a queue; it is in one where it stays
@@ -82,7 +82,7 @@ DropKeeps = Kept (λ seats w right owner turn queued quiet i.
 abbrev pub TicketGrantKeeps : Type 0
 TicketGrantKeeps = Kept (λ seats w right owner turn queued quiet i.
     (t : ℕ) (home : Home) → 0 < seats → w.place i ≡ Passing t home
-        → Stands seats (after_ticket_grant seats w i t home) (AtTicket t) owner turn queued quiet)
+    → Stands seats (after_ticket_grant seats w i t home) (AtTicket t) owner turn queued quiet)
 
 -- a seat that chose another calls it
 abbrev pub SeatGrantKeeps : Type 0
@@ -111,4 +111,4 @@ StepsAreAnswered = (k : Rules) (o : Object) (s : State) (i : ℕ) (c : Command) 
 abbrev pub StepsAreDetermined : Type 0
 StepsAreDetermined =
     (k : Rules) (o : Object) (s : State) (i : ℕ) (c : Command) (a b : Answer) (t u : State) → IsStep k o s i c a t
-        → IsStep k o s i c b u → (a ≡ b) × (t ≡ u)
+    → IsStep k o s i c b u → (a ≡ b) × (t ≡ u)

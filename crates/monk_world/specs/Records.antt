@@ -100,7 +100,7 @@ HasDrawn j n (x ∷ xs) = ((x.told.seat ≡ j) × ((found : ℕ) × (x.told.answ
 abbrev pub TicketsEnterInOrder : Type 0
 TicketsEnterInOrder =
     (k : Rules) (o : Object) (opening : List ℕ) (seats conds budget : ℕ) (before : List Recorded) (s : State)
-        (x : Recorded) (t : State) (v : Via)
+    (x : Recorded) (t : State) (v : Via)
     → IsKind k → IsRecorded k o (opening_state opening seats conds budget) before s → IsTaken k o s x t
-        → x.events ≡ Enter x.told.seat v ∷ []
+    → x.events ≡ Enter x.told.seat v ∷ []
     → HasDrawn x.told.seat (enters_of s.floor.history) before

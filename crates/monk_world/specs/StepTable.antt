@@ -171,8 +171,12 @@ IsDone k o s i Inner command.Look a t =
     × (t ≡ record s { world = after_seat_look s.world i (s.world.seat_place i == s.world.count i + 1) })
 IsDone k o s i (Due q) command.Out a t =
     (a ≡ answer.Now)
-    × (t ≡ record { world = after_floor_out s.world i q; known = put s.known i false; floor =
-        with_event s.floor (out_event i q (turn s.floor.history)) })
+    × (t ≡ record {
+      world = after_floor_out s.world i q;
+      known = put s.known i false;
+      floor =
+          with_event s.floor (out_event i q (turn s.floor.history));
+    })
 IsDone k o s i Idle command.Peek a t = (a ≡ answer.Found s.world.unpassed) × (t ≡ s)
 IsDone k o s i (Active q) command.Peek a t =
     (a ≡ answer.Found s.world.unpassed) × (t ≡ record s { known = put s.known i (s.known i || nat_le 2 s.world.unpassed) })

@@ -36,8 +36,12 @@ place_after_drop t n home = if n == 1 then place_of home else Passing (t - n + 1
 
 -- arrive: one more ticket drawn and not passed on
 abbrev pub after_arrive : World → ℕ → World
-after_arrive w i = record w { drawn = w.drawn + 1; unpassed = w.unpassed + 1; place =
-    put w.place i (place_after_arrive w.drawn w.unpassed) }
+after_arrive w i = record w {
+  drawn = w.drawn + 1;
+  unpassed = w.unpassed + 1;
+  place =
+      put w.place i (place_after_arrive w.drawn w.unpassed);
+}
 
 -- look at the place of its ticket, or at its own place
 abbrev pub after_ticket_look : World → ℕ → ℕ → Bool → World
@@ -45,8 +49,11 @@ after_ticket_look w i t found = record w { place = put w.place i (place_after_ti
 
 abbrev pub after_seat_look : World → ℕ → Bool → World
 after_seat_look w i found =
-    record w { place = put w.place i (place_after_seat_look found); count =
-    put w.count i (count_after_seat_look (w.count i) found) }
+    record w {
+      place = put w.place i (place_after_seat_look found);
+      count =
+          put w.count i (count_after_seat_look (w.count i) found);
+    }
 
 -- the floor comes out to the seat, which is due by q
 abbrev pub after_floor_out : World → ℕ → Source → World

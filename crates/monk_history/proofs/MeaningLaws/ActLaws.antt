@@ -76,7 +76,7 @@ replies_are m h = history_induction (λ x. IsLegal m x → answers_of m.object m
     ap (λ xs. answers_of m.object m.opening xs) (ops-push x e)
     ∙ (answered-append m.object m.opening (ops_in x) (ops_in (e ∷ []))
     ∙ (ap (λ acts. acts ++ answers_of m.object (state_after m.object m.opening (ops_in x)) (ops_in (e ∷ [])))
-        (more (legal_front m x (e ∷ []) l))
+    (more (legal_front m x (e ∷ []) l))
     ∙ (ap (λ d. acts_in x ++ answers_of m.object d (ops_in (e ∷ []))) (data_is m x)
     ∙ (ap (λ acts. acts_in x ++ acts) (reply_by m.object (data_of m x) e ((legal_last m x e l).right_reply))
     ∙ sym (acts-push x e)))))) h
@@ -96,8 +96,13 @@ in_order rules seats conds size h l =
     let run = acts_are_run (over rules seats conds Buffer size) h l in
     let law = first_in_first_out size (ops_in h) in
     subst (λ (acts : List Answered). IsInOrder size (data_of (over rules seats conds Buffer size) h) acts) run.replies
-        (record { items = law.items; state_is = sym run.leads_to ∙ law.state; in_order = law.in_order; within =
-        law.within })
+    (record {
+      items = law.items;
+      state_is = sym run.leads_to ∙ law.state;
+      in_order = law.in_order;
+      within =
+          law.within;
+    })
 
 pub excludes : (rules : Rules) (seats conds size : ℕ) (h : List Event)
     → IsLegal (monitor rules seats conds (meaning_named Book) (opening_named Book size)) h
@@ -107,8 +112,17 @@ excludes rules seats conds size h l =
     let run = acts_are_run (over rules seats conds Book size) h l in
     let law = exclusive size (ops_in h) in
     subst (λ (acts : List Answered). ExcludesEachOther size (data_of (over rules seats conds Book size) h) acts) run.replies
-    (record { readers = law.readers; writers = law.writers; state_is = sym run.leads_to ∙ law.state; within =
-        law.within; one_writer = law.one_writer; alone = law.alone; reads = law.reads; writes = law.writes })
+    (record {
+      readers = law.readers;
+      writers = law.writers;
+      state_is = sym run.leads_to ∙ law.state;
+      within =
+          law.within;
+      one_writer = law.one_writer;
+      alone = law.alone;
+      reads = law.reads;
+      writes = law.writes;
+    })
 
 pub serves_each : (rules : Rules) (seats conds size : ℕ) (h : List Event)
     → IsLegal (monitor rules seats conds (meaning_named Shop) (opening_named Shop size)) h
@@ -118,5 +132,13 @@ serves_each rules seats conds size h l =
     let run = acts_are_run (over rules seats conds Shop size) h l in
     let law = customers size (ops_in h) in
     subst (λ (acts : List Answered). ServesEachOne size (data_of (over rules seats conds Shop size) h) acts) run.replies
-    (record { sitting = law.sitting; chair = law.chair; state_is = sym run.leads_to ∙ law.state; within =
-        law.within; sat = law.sat; called = law.called; finished = law.finished })
+    (record {
+      sitting = law.sitting;
+      chair = law.chair;
+      state_is = sym run.leads_to ∙ law.state;
+      within =
+          law.within;
+      sat = law.sat;
+      called = law.called;
+      finished = law.finished;
+    })

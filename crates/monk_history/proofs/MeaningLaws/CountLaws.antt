@@ -24,7 +24,7 @@ pub total_rest : (m b i : ℕ) (f : ℕ → ℕ) → i < m → ((j : ℕ) → f 
 total_rest zero b i f k h = absurd (omega arith)
 total_rest (suc m) b i f k h =
     ⊎_elim (λ l. omega (arith, total_rest m b i f l h, h m))
-        (λ l. let e : i ≡ m = omega arith in omega (arith, total_le m b f h, ap f e)) (cases_lt i m)
+    (λ l. let e : i ≡ m = omega arith in omega (arith, total_le m b f h, ap f e)) (cases_lt i m)
 
 total_more : (n x : ℕ) (f : ℕ → ℕ) → n ≤ x → total n (λ s. cond (x == s) 1 0 + f s) ≡ total n f
 total_more zero x f l = refl
@@ -40,7 +40,7 @@ total_one (suc n) x f l =
     ⊎_elim
     (λ k. omega (arith, total_one n x f k, other (x == n) (λ e. grind (arith, e, k))))
     (λ k. let e : x ≡ n = omega arith in let b : ◌≡◌ {A = ℕ} (cond (x == n) 1 0) 1 = ap (λ z. cond z 1 0) (eq-eqb x n e)
-        in omega (arith, total_more n x f k, b))
+    in omega (arith, total_more n x f k, b))
     (cases_lt x n)
   where
     other : (b : Bool) → (b ≡ true → ⊥) → ◌≡◌ {A = ℕ} (cond b 1 0) 0

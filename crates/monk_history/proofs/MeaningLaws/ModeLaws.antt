@@ -70,16 +70,16 @@ drop_caller false false xs s h k = absurd (false≢true k)
 
 alone_signal : (k : Rules) (o : Object) (t : Situation) (s c : ℕ) (x : Next) (b : Bool) → IsNonBlocking k → t.signallers ≡ []
     → cond b (is_stay (Some x))
-        (may_signal k (record (queues_at o t (Signal s c x)) { signallers = t.signallers ++ cond b [] (s ∷ []) }) s x)
-        ≡ true
+    (may_signal k (record (queues_at o t (Signal s c x)) { signallers = t.signallers ++ cond b [] (s ∷ []) }) s x)
+    ≡ true
     → drop (cond (is_signaller (Some x) || (is_stay (Some x) && not (is_empty (cond b [] (s ∷ []))))) 1 0)
-        (t.signallers ++ cond b [] (s ∷ [])) ≡ []
+    (t.signallers ++ cond b [] (s ∷ [])) ≡ []
 alone_signal k o t s c x true n e p = drop_nobody _ t.signallers [] e refl
 alone_signal k o t s c x false n e p =
     drop_caller (is_stay (Some x)) (is_signaller (Some x)) t.signallers s e
     (only_stay k _ _ s x n
-        (subst (λ ss. may_signal k (record (queues_at o t (Signal s c x)) { signallers = ss ++ s ∷ [] }) s x ≡ true) e
-        p))
+    (subst (λ ss. may_signal k (record (queues_at o t (Signal s c x)) { signallers = ss ++ s ∷ [] }) s x ≡ true) e
+    p))
 
 alone_after : (m : Monitor) (t : Situation) (e : Event) → IsNonBlocking m.kind → t.signallers ≡ [] → IsAllowedIn m t e
     → (after m.object t e).signallers ≡ []
@@ -133,8 +133,8 @@ emptied_signal k ws [] ss rs s x n e p = drop_nobody (is_waiter (Some x)) ws [] 
 emptied_signal k ws (y ∷ ys) ss rs s x n e p =
     ap (λ z. drop (cond (is_waiter (Some x)) 1 0) (z ++ y ∷ [])) e
     ∙ drop_served (is_waiter (Some x)) y
-        (only_waiter k y [] ss rs s x n
-        (subst (λ z. may_signal k (record { waiters = z ++ y ∷ []; signallers = ss; ready = rs }) s x ≡ true) e p))
+    (only_waiter k y [] ss rs s x n
+    (subst (λ z. may_signal k (record { waiters = z ++ y ∷ []; signallers = ss; ready = rs }) s x ≡ true) e p))
 
 emptied_after : (m : Monitor) (t : Situation) (e : Event) → IsBlocking m.kind → t.waiters ≡ [] → IsAllowedIn m t e
     → (after m.object t e).waiters ≡ []

@@ -220,7 +220,7 @@ chosen_queued m t (Signal s c x) j a g =
 chosen_queued m t (SignalLeave s c x) j a g =
     chosen_in m.kind (queues_at m.object t (SignalLeave s c x)) s j x (in_queues m.conds j t) a.permitted g
     (in_queue_waiters m t (SignalLeave s c x) j a) (in_queue_signallers m t (SignalLeave s c x) j)
-        (in_queue_ready m t (SignalLeave s c x) j)
+    (in_queue_ready m t (SignalLeave s c x) j)
 chosen_queued m t (Until s p x) j a g =
     chosen_in m.kind (queues_at m.object t (Until s p x)) s j x (in_queues m.conds j t)
     (unless (m.object.holds t.state p) (is_stay (Some x)) _ a.permitted (λ h. stay_names j x h g)) g
@@ -305,8 +305,8 @@ stands_after m h e l a =
     let owned : ◌≡◌ {A = ℕ} (cond (is_inside self (h ++ e ∷ [])) 1 0) (cond (not (is_way_out e)) 1 0) = ap (λ b. cond b 1 0) own in
     let kept : has_turn self u.turn ≡ cond (goes_on (next_of e)) 1 0 =
     ap (has_turn self) (turn-push h e)
-        ∙ keeps_turn self (next_of e) (none_or (chooses_seat self (next_of e)) (λ g. not_caller m t e self p a g refl))
-        in
+    ∙ keeps_turn self (next_of e) (none_or (chooses_seat self (next_of e)) (λ g. not_caller m t e self p a g refl))
+    in
     let same = λ (j : ℕ) (n : j ≢ self). ap (λ b. cond {A = ℕ} b 1 0) (inside-push j h e ∙ other_inside j e (is_inside j h) n) in
     let turns = λ (j : ℕ) (n : j ≢ self). ap (has_turn j) (turn-push h e) ∙ turn_grants self j (next_of e) n in
     let named = λ (j : ℕ) (g : grants j e ≡ true). ap (λ b. cond {A = ℕ} b 1 0) g in
@@ -319,6 +319,15 @@ stands_after m h e l a =
       chosen_other = λ j g. not_caller m t e j p a g;
       chosen_before = λ j g. omega (arith, chosen_queued m t e j a g, queued_once m h l j);
       chosen_after = λ j g. let n = not_caller m t e j p a g in
-          omega (arith, p j, p2 j, same j n, turns j n, other_turn t e j n a.in_turn, named j g,
-              chosen_queued m t e j a g, queued_once m h l j);
+          omega (
+            arith,
+            p j,
+            p2 j,
+            same j n,
+            turns j n,
+            other_turn t e j n a.in_turn,
+            named j g,
+            chosen_queued m t e j a g,
+            queued_once m h l j,
+          );
     }

@@ -60,8 +60,8 @@ chosen_alone : (k : Rules) (q : Queues) (s : ℕ) (wish : Pick) → choice_by k 
     → IsAlone (is_empty (inner_waiters k q)) (is_empty q.signallers)
 chosen_alone k q s wish h =
     alone (nat_le k.waiter k.entry) (nat_le k.signaller k.entry) (nat_le k.signaller k.waiter)
-        (nat_le k.waiter k.signaller) (is_empty (inner_waiters k q)) (is_empty q.signallers) (waiter_choice k q)
-        (signaller_choice q s) wish
+    (nat_le k.waiter k.signaller) (is_empty (inner_waiters k q)) (is_empty q.signallers) (waiter_choice k q)
+    (signaller_choice q s) wish
     (sym (parts_are k q s false wish) ∙ h)
     (waiter_not_entry (has_conditions k.mode) (front q.waiters) (front q.ready))
     (signaller_not_entry (front q.signallers == s) (front q.signallers))
@@ -119,7 +119,7 @@ admits_alone : (m : Monitor) (t : Situation) (e : Event) (wish : Pick) → Admit
 admits_alone m t e wish a =
     chosen_alone m.kind (queues_at m.object t e) (seat_of (as_called e)) wish
     (ap (λ q. choice_by m.kind q (seat_of (as_called e)) false wish) (sym (same_queues m.object t e))
-        ∙ then_choice (must_stay m.object t (as_called e)) _ a.choice)
+    ∙ then_choice (must_stay m.object t (as_called e)) _ a.choice)
 
 ready_after : (o : Object) (t : Situation) (e : Event) → next_of e ≡ Some Entry → must_stay o t (as_called e) ≡ false
     → ready_of o t.state t.untils ≡ []
@@ -137,7 +137,7 @@ ready_after o t (SignalLeave s c x) n b h =
     ap (λ y. ready_of o t.state (filter (λ w. not (is_until w.0 y)) t.untils ++ [])) n ∙ none_ready o t.state t.untils [] h refl
 ready_after o t (Until s p x) n b h =
     ap (λ y. ready_of o t.state (filter (λ w. not (is_until w.0 y)) t.untils ++ cond (is_stay y) [] ((s, p) ∷ []))) n
-        ∙ none_ready o t.state t.untils ((s, p) ∷ []) h (joins_unready o t.state s p b)
+    ∙ none_ready o t.state t.untils ((s, p) ∷ []) h (joins_unready o t.state s p b)
 
 by_conditions : (b : Bool) (P : Type 0) → (b ≡ true → P) → (b ≡ false → P) → P
 by_conditions true P f g = f refl
@@ -157,10 +157,10 @@ quiet_after m h e wish l a u =
     record {
       waiters = ap (λ v. v.waiters) step ∙ drop_empty (is_waiter (next_of e)) q.waiters
           (by_conditions (has_conditions m.kind.mode) (q.waiters ≡ []) (λ c. ap (λ b. cond b q.waiters q.ready) (sym c)
-              ∙ inner) sorted.waiters);
+          ∙ inner) sorted.waiters);
       signallers = ap (λ v. v.signallers) step
           ∙ drop_empty (takes_signaller t.condition e) q.signallers (empty_is q.signallers alone_here.signallers);
       ready = ap (λ v. ready_of m.object v.state v.untils) step ∙ ready_after m.object t e u.entry goes
           (by_conditions (has_conditions m.kind.mode) (q.ready ≡ []) sorted.ready
-              (λ c. ap (λ b. cond b q.waiters q.ready) (sym c) ∙ inner));
+          (λ c. ap (λ b. cond b q.waiters q.ready) (sym c) ∙ inner));
     }

@@ -150,9 +150,9 @@ lt_to x n h = grind (arith, h)
 pub seat_in_range : (seats conds codes predicates : ℕ) (e : Event) → is_in_range seats conds codes predicates e ≡ true → seat_of e < seats
 seat_in_range seats conds codes predicates e h =
     lt_of (seat_of e) seats
-        (and_left (nat_lt (seat_of e) seats) _
-        (and_left _ (is_condition conds (waits_on e))
-        (and_left _ (is_condition conds (signals_on e)) (and_left _ (fits_object codes predicates e) h))))
+    (and_left (nat_lt (seat_of e) seats) _
+    (and_left _ (is_condition conds (waits_on e))
+    (and_left _ (is_condition conds (signals_on e)) (and_left _ (fits_object codes predicates e) h))))
 
 enters_seat : (j : ℕ) (e : Event) → is_enter_of j e ≡ true → seat_of e ≡ j
 enters_seat j (Enter s via) h = eqb-true s j h
@@ -197,7 +197,7 @@ pub times_le_conditions : (n s c : ℕ) (q : ℕ → List ℕ) → c < n → tim
 times_le_conditions zero s c q l = absurd (omega arith)
 times_le_conditions (suc n) s c q l =
     ⊎_elim (λ k. omega (arith, times_le_conditions n s c q k))
-        (λ k. let e : c ≡ n = omega arith in omega (arith, ap (λ x. times s (q x)) e)) (cases_lt c n)
+    (λ k. let e : c ≡ n = omega arith in omega (arith, ap (λ x. times s (q x)) e)) (cases_lt c n)
 
 some_true : (b : Bool) → 1 ≤ cond b 1 0 → b ≡ true
 some_true true h = refl
@@ -329,7 +329,7 @@ room_for m t i l p s a = record {
       (λ j. omega (arith, p j, cond_le_one (t.inside j))) a.signallers;
   untils = subst (λ n. n < m.seats) (length_seats t.untils)
       (length_few m.seats i (map (λ w. w.0) t.untils) l (λ j n. omega (arith, p j, far_none m.seats j t s n))
-          (λ j. omega (arith, p j, cond_le_one (t.inside j))) a.untils);
+      (λ j. omega (arith, p j, cond_le_one (t.inside j))) a.untils);
 }
 
 -- whoever stands in a queue of a release is a seat
@@ -372,8 +372,8 @@ within_queues m t e p s r = record {
   signallers = λ j h. ⊎_elim
       (λ k. s j (some_true (t.inside j) (omega (arith, p j, k))))
       (λ k. subst (λ x. x < m.seats)
-          (caller_signals t.condition e j (omega (arith, h, k, times-append j t.signallers (signals t.condition e))))
-          (seat_in_range m.seats m.conds m.object.codes m.object.predicates e r))
+      (caller_signals t.condition e j (omega (arith, h, k, times-append j t.signallers (signals t.condition e))))
+      (seat_in_range m.seats m.conds m.object.codes m.object.predicates e r))
       (cases_lt 0 (times j t.signallers));
   ready = λ j h. s j (some_true (t.inside j) (omega (arith, p j, h, times_filter m.object t.state t.untils j)));
 }
@@ -395,8 +395,12 @@ must_choose : (m : Monitor) (t : Situation) (e : Event) (known : Bool) (wish : P
 must_choose m t e known wish i c z =
     choice_permitted m.kind (queues_at m.object t e) (seat_of e) known wish i.kind (sorted_queues m.kind m.object t e i.sorted c.offered)
     (front_absent (seat_of e) (t.signallers ++ signals t.condition e)
-    (omega (arith, times-append (seat_of e) t.signallers (signals t.condition e), ap (times (seat_of e)) z,
-        (caller_apart m t e i.placed c.in_turn c.in_place).signallers)))
+    (omega (
+      arith,
+      times-append (seat_of e) t.signallers (signals t.condition e),
+      ap (times (seat_of e)) z,
+      (caller_apart m t e i.placed c.in_turn c.in_place).signallers,
+    )))
 
 -- the choice of a release that must choose names seats
 must_name : (m : Monitor) (t : Situation) (e : Event) (known : Bool) (wish : Pick) → IsInOrder m t → MayCallIn m t e
@@ -404,7 +408,7 @@ must_name : (m : Monitor) (t : Situation) (e : Event) (known : Bool) (wish : Pic
     → list_all (λ j. nat_lt j m.seats) (named_seat (Some (choice_by m.kind (queues_at m.object t e) (seat_of e) known wish))) ≡ true
 must_name m t e known wish i c z =
     named_chosen m.kind (queues_at m.object t e) (seat_of e) m.seats _
-        (within_queues m t e i.placed i.seated c.in_range) (must_choose m t e known wish i c z)
+    (within_queues m t e i.placed i.seated c.in_range) (must_choose m t e known wish i c z)
 
 some_wait : (ws qs : List ℕ) → is_empty qs ≡ false → is_empty (ws ++ take 1 qs) ≡ false
 some_wait [] [] h = h
@@ -416,7 +420,7 @@ served_choice : (m : Monitor) (t : Situation) (s c : ℕ) (y : Next) (known : Bo
     → may_signal m.kind (queues_at m.object t (Signal s c y)) s (choice_by m.kind (queues_at m.object t (Signal s c y)) s known wish) ≡ true
 served_choice m t s c y known wish i a z =
     signal_permitted m.kind (queues_at m.object t (Signal s c y)) s known wish i.kind
-        (sorted_queues m.kind m.object t (Signal s c y) i.sorted a.offered)
+    (sorted_queues m.kind m.object t (Signal s c y) i.sorted a.offered)
     (signal_conditions m.kind.mode a.offered) (some_wait t.waiters (t.condition c) z)
 
 stay_or : (f : Next → Bool) (b : Bool) (x : Next) → (b ≡ false → f x ≡ true)
@@ -434,14 +438,35 @@ pub chosen_allowed : (m : Monitor) (t : Situation) (e : Event) (known : Bool) (w
     → MayCallIn m t e → is_right_reply m.object t.state e ≡ true
     → IsAllowedIn m t (with_next (choice_of m.kind m.object t e known wish) e)
 chosen_allowed m t (Enter s via) known wish i c r =
-    record { in_range = c.in_range; offered = c.offered; in_turn = c.in_turn; in_place = c.in_place; right_reply =
-    refl; permitted = refl }
+    record {
+      in_range = c.in_range;
+      offered = c.offered;
+      in_turn = c.in_turn;
+      in_place = c.in_place;
+      right_reply =
+          refl;
+      permitted = refl;
+    }
 chosen_allowed m t (Act s op y) known wish i c r =
-    record { in_range = c.in_range; offered = c.offered; in_turn = c.in_turn; in_place = c.in_place; right_reply =
-    r; permitted = refl }
+    record {
+      in_range = c.in_range;
+      offered = c.offered;
+      in_turn = c.in_turn;
+      in_place = c.in_place;
+      right_reply =
+          r;
+      permitted = refl;
+    }
 chosen_allowed m t (Resume s q) known wish i c r =
-    record { in_range = c.in_range; offered = c.offered; in_turn = c.in_turn; in_place = c.in_place; right_reply =
-    refl; permitted = refl }
+    record {
+      in_range = c.in_range;
+      offered = c.offered;
+      in_turn = c.in_turn;
+      in_place = c.in_place;
+      right_reply =
+          refl;
+      permitted = refl;
+    }
 chosen_allowed m t (Leave s y) known wish i c r = record {
   in_range = and_named (nat_lt s m.seats) _ _ _ _ _ c.in_range (must_name m t (Leave s y) known wish i c refl);
   offered = c.offered;
@@ -479,7 +504,7 @@ chosen_allowed m t (Until s p y) known wish i c r = record {
 chosen_allowed m t (Signal s d y) known wish i c r = record {
   in_range = and_named (nat_lt s m.seats) _ _ _ _ _ c.in_range (named_or m.seats (is_empty (t.condition d)) _ (λ z.
       named_signalled m.kind (queues_at m.object t (Signal s d y)) s m.seats _
-          (within_queues m t (Signal s d y) i.placed i.seated c.in_range) (served_choice m t s d y known wish i c z)));
+      (within_queues m t (Signal s d y) i.placed i.seated c.in_range) (served_choice m t s d y known wish i c z)));
   offered = c.offered;
   in_turn = c.in_turn;
   in_place = c.in_place;

@@ -63,17 +63,17 @@ next_after_takes word.Waiter ws x e =
     let b = bind_ok (number_at 255 ws) (λ j. Ok (Waiter j.0, j.1)) x e in
     let t = number_takes 255 ws b.0 b.1 in
     subst (λ (y : Next × List Word). (next_word word.Waiter ∷ ws ≡ next_words y.0 ++ y.1) × NextFits y.0)
-        (ok_is (Waiter b.0.0, b.0.1) x b.2) (ap (λ (v : List Word). next_word word.Waiter ∷ v) t.0, t.1)
+    (ok_is (Waiter b.0.0, b.0.1) x b.2) (ap (λ (v : List Word). next_word word.Waiter ∷ v) t.0, t.1)
 next_after_takes word.Signaller ws x e =
     let b = bind_ok (number_at 255 ws) (λ j. Ok (Signaller j.0, j.1)) x e in
     let t = number_takes 255 ws b.0 b.1 in
     subst (λ (y : Next × List Word). (next_word word.Signaller ∷ ws ≡ next_words y.0 ++ y.1) × NextFits y.0)
-        (ok_is (Signaller b.0.0, b.0.1) x b.2) (ap (λ (v : List Word). next_word word.Signaller ∷ v) t.0, t.1)
+    (ok_is (Signaller b.0.0, b.0.1) x b.2) (ap (λ (v : List Word). next_word word.Signaller ∷ v) t.0, t.1)
 next_after_takes word.Until ws x e =
     let b = bind_ok (number_at 255 ws) (λ j. Ok (next.Until j.0, j.1)) x e in
     let t = number_takes 255 ws b.0 b.1 in
     subst (λ (y : Next × List Word). (next_word word.Until ∷ ws ≡ next_words y.0 ++ y.1) × NextFits y.0)
-        (ok_is (next.Until b.0.0, b.0.1) x b.2) (ap (λ (v : List Word). next_word word.Until ∷ v) t.0, t.1)
+    (ok_is (next.Until b.0.0, b.0.1) x b.2) (ap (λ (v : List Word). next_word word.Until ∷ v) t.0, t.1)
 
 next_takes : (ws : List Word) (x : Next × List Word) → next_at ws ≡ Ok x → (ws ≡ next_words x.0 ++ x.1) × NextFits x.0
 unfolding next_at
@@ -91,8 +91,10 @@ next_again (Waiter j) ws fits =
     rw (one_of_again next_word all_next_words word.Waiter (decimal j ∷ ws) refl, number_again 255 j ws (lit< tt) fits)
     refl
 next_again (Signaller j) ws fits =
-    rw (one_of_again next_word all_next_words word.Signaller (decimal j ∷ ws) refl,
-    number_again 255 j ws (lit< tt) fits) refl
+    rw (
+      one_of_again next_word all_next_words word.Signaller (decimal j ∷ ws) refl,
+      number_again 255 j ws (lit< tt) fits,
+    ) refl
 next_again (next.Until j) ws fits =
     rw (one_of_again next_word all_next_words word.Until (decimal j ∷ ws) refl, number_again 255 j ws (lit< tt) fits)
     refl
@@ -106,7 +108,7 @@ cond_next_takes ws x e =
     let t = number_takes 255 ws a.0 a.1 in
     let n = next_takes a.0.1 b.0 b.1 in
     subst (λ (y : (ℕ × Next) × List Word). (ws ≡ decimal y.0.0 ∷ (next_words y.0.1 ++ y.1)) × (y.0.0 ≤ 255)
-        × NextFits y.0.1) (ok_is ((a.0.0, b.0.0), b.0.1) x b.2)
+    × NextFits y.0.1) (ok_is ((a.0.0, b.0.0), b.0.1) x b.2)
     (t.0 ∙ ap (λ (v : List Word). decimal a.0.0 ∷ v) n.0, t.1, n.1)
 
 cond_next_again : (c : ℕ) (n : Next) (ws : List Word) → c ≤ 255 → NextFits n
@@ -125,26 +127,28 @@ act_takes : (ws : List Word) (x : (Op × ℕ) × List Word) → act_at ws ≡ Ok
 unfolding act_at
 act_takes ws x e =
     let a = bind_ok (number_at 255 ws)
-        (λ c. number_at (2 ^ 32 - 1) c.1 >>= λ a. number_at (2 ^ 64 - 1) a.1 >>= λ r. Ok
-        ((record { code = c.0; arg = a.0 }, r.0), r.1)) x e in
+    (λ c. number_at (2 ^ 32 - 1) c.1 >>= λ a. number_at (2 ^ 64 - 1) a.1 >>= λ r. Ok
+    ((record { code = c.0; arg = a.0 }, r.0), r.1)) x e in
     let b = bind_ok (number_at (2 ^ 32 - 1) a.0.1)
-        (λ n. number_at (2 ^ 64 - 1) n.1 >>= λ r. Ok ((record { code = a.0.0; arg = n.0 }, r.0), r.1)) x a.2 in
+    (λ n. number_at (2 ^ 64 - 1) n.1 >>= λ r. Ok ((record { code = a.0.0; arg = n.0 }, r.0), r.1)) x a.2 in
     let c = bind_ok (number_at (2 ^ 64 - 1) b.0.1) (λ r. Ok ((record { code = a.0.0; arg = b.0.0 }, r.0), r.1)) x b.2 in
     let t = number_takes 255 ws a.0 a.1 in
     let u = number_takes (2 ^ 32 - 1) a.0.1 b.0 b.1 in
     let v = number_takes (2 ^ 64 - 1) b.0.1 c.0 c.1 in
     let made : (Op × ℕ) × List Word = ((record { code = a.0.0; arg = b.0.0 }, c.0.0), c.0.1) in
     subst (λ (y : (Op × ℕ) × List Word). (ws ≡ acted y.0 y.1) × (y.0.0.code ≤ 255) × (y.0.0.arg ≤ 2 ^ 32 - 1)
-        × (y.0.1 ≤ 2 ^ 64 - 1)) (ok_is made x c.2)
+    × (y.0.1 ≤ 2 ^ 64 - 1)) (ok_is made x c.2)
     (three_words ws a.0.1 b.0.1 c.0.1 _ _ _ t.0 u.0 v.0, t.1, u.1, v.1)
 
 after_act : (s : ℕ) (op : Op) (reply : ℕ) → op.code ≤ 255 → op.arg ≤ 2 ^ 32 - 1 → reply ≤ 2 ^ 64 - 1
     → event_after verb.Act s (decimal op.code ∷ decimal op.arg ∷ decimal reply ∷ []) ≡ Ok (Act s op reply, [])
 unfolding event_after act_at
 after_act s op reply code arg fits =
-    rw (number_again 255 op.code (decimal op.arg ∷ decimal reply ∷ []) (lit< tt) code,
-        number_again (2 ^ 32 - 1) op.arg (decimal reply ∷ []) (lit< tt) arg,
-        number_again (2 ^ 64 - 1) reply [] (lit< tt) fits) refl
+    rw (
+      number_again 255 op.code (decimal op.arg ∷ decimal reply ∷ []) (lit< tt) code,
+      number_again (2 ^ 32 - 1) op.arg (decimal reply ∷ []) (lit< tt) arg,
+      number_again (2 ^ 64 - 1) reply [] (lit< tt) fits,
+    ) refl
 
 -- ---- an event
 
@@ -177,7 +181,7 @@ event_after_takes verb.SignalLeave s ws x le e =
     let b = bind_ok (cond_next_at ws) (λ n. Ok (SignalLeave s n.0.0 n.0.1, n.1)) x e in
     let t = cond_next_takes ws b.0 b.1 in
     subst (Ends verb.SignalLeave s ws) (ok_is (SignalLeave s b.0.0.0 b.0.0.1, b.0.1) x b.2)
-        (ap (behind verb.SignalLeave s) t.0, (le, t.1, t.2))
+    (ap (behind verb.SignalLeave s) t.0, (le, t.1, t.2))
 event_after_takes verb.Until s ws x le e =
     let b = bind_ok (cond_next_at ws) (λ n. Ok (Until s n.0.0 n.0.1, n.1)) x e in
     let t = cond_next_takes ws b.0 b.1 in
@@ -195,7 +199,7 @@ pub event_takes : (ws : List Word) (x : Event × List Word) → event_at ws ≡ 
 unfolding event_at
 event_takes ws x e =
     let a = bind_ok (one_of verb_word verbs ws)
-        (λ v. number_at 255 v.1 >>= λ s. event_after v.0 s.0 s.1 >>= λ e. end_at e.1 >>= λ z. Ok (e.0, z.1)) x e in
+    (λ v. number_at 255 v.1 >>= λ s. event_after v.0 s.0 s.1 >>= λ e. end_at e.1 >>= λ z. Ok (e.0, z.1)) x e in
     let b = bind_ok (number_at 255 a.0.1) (λ s. event_after a.0.0 s.0 s.1 >>= λ e. end_at e.1 >>= λ z. Ok (e.0, z.1)) x a.2 in
     let c = bind_ok (event_after a.0.0 b.0.0 b.0.1) (λ e. end_at e.1 >>= λ z. Ok (e.0, z.1)) x b.2 in
     let d = bind_ok (end_at c.0.1) (λ z. Ok (c.0.0, z.1)) x c.2 in
@@ -204,7 +208,7 @@ event_takes ws x e =
     let event_is = event_after_takes a.0.0 b.0.0 b.0.1 c.0 seat_is.1 c.1 in
     let none = (end_takes c.0.1 d.0 d.1).0 in
     let whole : ws ≡ event_words c.0.0 = verb_is ∙ ap (λ (v : List Word). verb_word a.0.0 ∷ v) seat_is.0 ∙ event_is.0
-        ∙ ap (λ (v : List Word). event_words c.0.0 ++ v) none ∙ append-nil (event_words c.0.0) in
+    ∙ ap (λ (v : List Word). event_words c.0.0 ++ v) none ∙ append-nil (event_words c.0.0) in
     subst (λ (y : Event × List Word). (ws ≡ event_words y.0) × EventFits y.0) (ok_is (c.0.0, d.0.1) x d.2) (whole, event_is.1)
 
 next_again_last : (n : Next) → NextFits n → next_at (next_words n) ≡ Ok (n, [])

@@ -46,9 +46,17 @@ heading_fits k s c o z ws x le e =
     let h = heading_made (nat_le 1 s && nat_le s most_seats && nat_le c most_conds && nat_le 1 z) (heading k s c o z) ws x e in
     let p = both (nat_le 1 s && nat_le s most_seats && nat_le c most_conds) (nat_le 1 z) h.0 in
     let q = both (nat_le 1 s && nat_le s most_seats) (nat_le c most_conds) p.0 in
-    let r = both (nat_le 1 s) (nat_le s most_seats) q.0 in
-    (h.1, record { some_seat = leb-true _ _ r.0; seats = leb-true _ _ r.1; conds = leb-true _ _ q.1; some_size =
-        leb-true _ _ p.1; size = le })
+    let r = both (nat_le 1 s) (nat_le s most_seats) q.0 in (
+      h.1,
+      record {
+        some_seat = leb-true _ _ r.0;
+        seats = leb-true _ _ r.1;
+        conds = leb-true _ _ q.1;
+        some_size =
+            leb-true _ _ p.1;
+        size = le;
+      },
+    )
 
 -- the steps of the parts, each with those after it
 abbrev Numbered : Type 0
@@ -95,12 +103,16 @@ parts_take ws x e =
     let e3 : c.0.1 ≡ object_word o.0.0 ∷ o.0.1 = one_of_takes object_word objects c.0.1 o.0 o.1 in
     let e4 : o.0.1 ≡ decimal z.0.0 ∷ z.0.1 = size_is.0 in
     subst (λ (y : Heading × List Word). (ws ≡ part_words y.0 ++ y.1) × IsHeading y.0) (sym h.0)
-        (five_words ws k.0.1 s.0.1 c.0.1 o.0.1 z.0.1 _ _ _ _ _ e0 e1 e2 e3 e4, h.1)
+    (five_words ws k.0.1 s.0.1 c.0.1 o.0.1 z.0.1 _ _ _ _ _ e0 e1 e2 e3 e4, h.1)
 
 heading_again : (h : Heading) → IsHeading h → heading_of h.kind h.seats h.conds h.object h.size ≡ Some h
 heading_again h fits =
-    rw (le-leb 1 h.seats fits.some_seat, le-leb h.seats most_seats fits.seats, le-leb h.conds most_conds fits.conds,
-    le-leb 1 h.size fits.some_size) refl
+    rw (
+      le-leb 1 h.seats fits.some_seat,
+      le-leb h.seats most_seats fits.seats,
+      le-leb h.conds most_conds fits.conds,
+      le-leb 1 h.size fits.some_size,
+    ) refl
 
 pub parts_again : (h : Heading) (ws : List Word) → IsHeading h → parts_at (part_words h ++ ws) ≡ Ok (h, ws)
 unfolding parts_at
@@ -138,9 +150,9 @@ header_takes ws x e =
     let parts_are = parts_take v.0.1 h.0 h.1 in
     let none : h.0.1 ≡ [] = (end_takes h.0.1 n.0 n.1).0 in
     let whole : ws ≡ header_words h.0.0 = name_is
-        ∙ ap (λ (w : List Word). codes "monk" ∷ w)
-        (version_is ∙ ap (λ (w : List Word). codes "1" ∷ w)
-        (parts_are.0 ∙ ap (λ (w : List Word). part_words h.0.0 ++ w) none)) in
+    ∙ ap (λ (w : List Word). codes "monk" ∷ w)
+    (version_is ∙ ap (λ (w : List Word). codes "1" ∷ w)
+    (parts_are.0 ∙ ap (λ (w : List Word). part_words h.0.0 ++ w) none)) in
     subst (λ (y : Heading × List Word). (ws ≡ header_words y.0) × IsHeading y.0) (ok_is (h.0.0, n.0.1) x n.2) (whole, parts_are.1)
 
 pub header_again : (h : Heading) → IsHeading h → header_at (header_words h) ≡ Ok (h, [])

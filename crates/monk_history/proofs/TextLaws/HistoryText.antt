@@ -26,7 +26,7 @@ pub text_again : (limit : ℕ) (h : Heading) (es : List Event) → HasText h es 
     → text_at limit (text h es) ≡ Ok (history h es)
 text_again limit h es has le =
     formats.text_again header_words header_at IsHeading headers event_words event_under EventFitsUnder events limit h es
-        has.header_fits has.events_fit le
+    has.header_fits has.events_fit le
 
 -- a history that was found in the bytes
 pub record IsRead (limit : ℕ) (bytes : List ℕ) (h : Heading) (es : List Event) : Type 0 where
@@ -37,13 +37,13 @@ pub record IsRead (limit : ℕ) (bytes : List ℕ) (h : Heading) (es : List Even
 pub text_read : (limit : ℕ) (bytes : List ℕ) (x : History) → text_at limit bytes ≡ Ok x → IsRead limit bytes x.0 x.1
 text_read limit bytes x e =
     let h = formats.text_read header_words header_at IsHeading headers event_words event_under EventFitsUnder events
-        limit bytes x.0 x.1 e in
+    limit bytes x.0 x.1 e in
     record { has_text = record { header_fits = h.head_fits; events_fit = h.fit }; few = h.few; whole = h.whole }
 
 pub text_one : (h g : Heading) (es fs : List Event) → HasText h es → HasText g fs → text h es ≡ text g fs → history h es ≡ history g fs
 text_one h g es fs one two same =
     let is = formats.text_one header_words header_at IsHeading headers event_words event_under EventFitsUnder events h g
-        es fs one.header_fits one.events_fit two.header_fits two.events_fit same in
+    es fs one.header_fits one.events_fit two.header_fits two.events_fit same in
     ap (λ (x : Heading). history x es) is.0 ∙ ap (λ (x : List Event). history g x) is.1
 
 -- ---- what a function gives

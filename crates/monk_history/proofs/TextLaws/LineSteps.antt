@@ -68,8 +68,8 @@ is_long {A = A} parse l rest line after n room view parts none =
 step : {A : Type 0} → (parse : List Word → Taken A) (rest line after : List ℕ) (n room : ℕ)
     → lines_of rest ≡ line ∷ lines_of after → room ≢ 0
     → items_at parse room n
-        (lines_of rest) ≡ (item_line parse n line >>= λ e. items_at parse (room - 1) (n + 1) (lines_of after) >>= λ es.
-        Ok (e ∷ es))
+    (lines_of rest) ≡ (item_line parse n line >>= λ e. items_at parse (room - 1) (n + 1) (lines_of after) >>= λ es.
+    Ok (e ∷ es))
 step {A = A} parse rest line after n room parts some =
     let p = some_part (λ b. b == 10) after in
     let more : room ≡ suc (room - 1) = omega arith in
@@ -128,7 +128,7 @@ behind parse opened = opened >>= λ x. items_left (parse x.0) x.1 >>= λ es. Ok 
 
 headed : {H A : Type 0} → (parse : H → List Word → Taken A) (r : Result H ReadFault) (lines : List (List ℕ)) (limit : ℕ)
     → (r >>= λ h. items_at (parse h) limit 2 lines >>= λ es. Ok (h, es)) ≡ behind parse
-        (r >>= λ h. Ok (h, record { lines = lines; number = 2; room = limit }))
+    (r >>= λ h. Ok (h, record { lines = lines; number = 2; room = limit }))
 headed {H = H} {A = A} parse (Ok h) lines limit = refl
 headed {H = H} {A = A} parse (Err f) lines limit = refl
 

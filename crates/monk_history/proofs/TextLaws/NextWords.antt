@@ -34,9 +34,11 @@ begins word (v ∷ []) bytes same is =
     let e : v ≡ word = (bytes_eq-Decides v word).0 is in
     ([], sym same ∙ e ∙ sym (append-nil word), λ some. absurd (some refl))
 begins word (v ∷ w ∷ ws) bytes same is =
-    let e : v ≡ word = (bytes_eq-Decides v word).0 is in
-    (32 ∷ join_with_byte 32 (w ∷ ws), sym same ∙ ap (λ (x : List ℕ). x ++ 32 ∷ join_with_byte 32 (w ∷ ws)) e,
-        λ some. (join_with_byte 32 (w ∷ ws), refl))
+    let e : v ≡ word = (bytes_eq-Decides v word).0 is in (
+      32 ∷ join_with_byte 32 (w ∷ ws),
+      sym same ∙ ap (λ (x : List ℕ). x ++ 32 ∷ join_with_byte 32 (w ∷ ws)) e,
+      λ some. (join_with_byte 32 (w ∷ ws), refl),
+    )
 
 begins_with : (word bytes : List ℕ) → is_next word (words_of bytes) ≡ true → (rest : List ℕ) × (bytes ≡ word ++ rest)
     × (rest ≢ [] → (after : List ℕ) × (rest ≡ 32 ∷ after))
@@ -89,4 +91,4 @@ pub number-ends : (n d : ℕ) (line rest behind : List ℕ) → line ≡ decimal
     → n < 2 ^ 64 → words_of line ≡ decimal n ∷ words_of behind
 number-ends n d line rest behind so_far is space lt =
     ap words_of (so_far ∙ (ap (λ (r : List ℕ). decimal n ++ r) is ∙ ap (λ k. decimal n ++ k ∷ behind) space))
-        ∙ words-more (decimal n) behind (number-unbroken n lt)
+    ∙ words-more (decimal n) behind (number-unbroken n lt)

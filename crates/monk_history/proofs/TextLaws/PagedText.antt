@@ -26,7 +26,7 @@ flat_map-more : {A : Type 0} (f : A → List ℕ) (es : List A) (i : ℕ) (d : A
     → flat_map f (take (i + 1) es) ≡ flat_map f (take i es) ++ f (get_or es i d)
 flat_map-more f es i d lt =
     rw (take_more es i d lt, flat_map-append f (take i es) (get_or es i d ∷ []))
-        (ap (λ (y : List ℕ). flat_map f (take i es) ++ y) (append-nil (f (get_or es i d))))
+    (ap (λ (y : List ℕ). flat_map f (take i es) ++ y) (append-nil (f (get_or es i d))))
 
 -- the text of one event more
 pub text-more : (h : Heading) (es : List Event) (i : ℕ) (d : Event) → i < length es
@@ -34,7 +34,7 @@ pub text-more : (h : Heading) (es : List Event) (i : ℕ) (d : Event) → i < le
 text-more h es i d lt =
     let f : Event → List ℕ = λ e. line (event_words e) in
     ap (λ (y : List ℕ). line (header_words h) ++ y) (flat_map-more f es i d lt)
-        ∙ sym (append_assoc (line (header_words h)) (flat_map f (take i es)) (f (get_or es i d)))
+    ∙ sym (append_assoc (line (header_words h)) (flat_map f (take i es)) (f (get_or es i d)))
 
 pub sends : (before now later : Option (List ℕ)) (page text : List ℕ) → IsOnItsWay before now page text
     → Appends now later page → IsOnItsWay before later [] text

@@ -47,7 +47,7 @@ op_takes ws x e =
     let u = number_takes (2 ^ 32 - 1) a.0.1 b.0 b.1 in
     let made : Op × List Word = (record { code = a.0.0; arg = b.0.0 }, b.0.1) in
     subst (λ (y : Op × List Word). (ws ≡ decimal y.0.code ∷ decimal y.0.arg ∷ y.1) × (y.0.code ≤ 255)
-        × (y.0.arg ≤ 2 ^ 32 - 1)) (ok_is made x b.2)
+    × (y.0.arg ≤ 2 ^ 32 - 1)) (ok_is made x b.2)
     (t.0 ∙ ap (λ (v : List Word). decimal a.0.0 ∷ v) u.0, t.1, u.1)
 
 cond_pick_takes : (ws : List Word) (x : (ℕ × Pick) × List Word) → cond_pick_at ws ≡ Ok x
@@ -59,7 +59,7 @@ cond_pick_takes ws x e =
     let t = number_takes 255 ws a.0 a.1 in
     let p = one_of_takes pick_word picks a.0.1 b.0 b.1 in
     subst (λ (y : (ℕ × Pick) × List Word). (ws ≡ decimal y.0.0 ∷ pick_word y.0.1 ∷ y.1) × (y.0.0 ≤ 255))
-        (ok_is ((a.0.0, b.0.0), b.0.1) x b.2)
+    (ok_is ((a.0.0, b.0.0), b.0.1) x b.2)
     (t.0 ∙ ap (λ (v : List Word). decimal a.0.0 ∷ v) p, t.1)
 
 cond_pick_again : (c : ℕ) (p : Pick) → c ≤ 255 → cond_pick_at (decimal c ∷ pick_word p ∷ []) ≡ Ok ((c, p), [])
@@ -112,8 +112,10 @@ after_act : (op : Op) → op.code ≤ 255 → op.arg ≤ 2 ^ 32 - 1
     → action_after verb.Act (decimal op.code ∷ decimal op.arg ∷ []) ≡ Ok (Act op, [])
 unfolding action_after op_at
 after_act op code arg =
-    rw (number_again 255 op.code (decimal op.arg ∷ []) (lit< tt) code,
-    number_again (2 ^ 32 - 1) op.arg [] (lit< tt) arg) refl
+    rw (
+      number_again 255 op.code (decimal op.arg ∷ []) (lit< tt) code,
+      number_again (2 ^ 32 - 1) op.arg [] (lit< tt) arg,
+    ) refl
 
 after_leave : (p : Pick) → action_after verb.Leave (pick_word p ∷ []) ≡ Ok (Leave p, [])
 unfolding action_after
@@ -158,17 +160,22 @@ command_takes ws x e =
     let action_is = action_takes b.0.0 b.0.1 c.0 c.1 in
     let none = (end_takes c.0.1 d.0 d.1).0 in
     let whole : a.0.1 ≡ action_words c.0.0 = verb_is ∙ action_is.0
-        ∙ ap (λ (v : List Word). action_words c.0.0 ++ v) none ∙ append-nil (action_words c.0.0) in
+    ∙ ap (λ (v : List Word). action_words c.0.0 ++ v) none ∙ append-nil (action_words c.0.0) in
     subst (λ (y : (ℕ × Command) × List Word). (ws ≡ command_words y.0) × CommandFits y.0)
-        (ok_is ((a.0.0, c.0.0), d.0.1) x d.2) (seat_is.0 ∙ ap (λ (v : List Word). decimal a.0.0 ∷ v) whole,
-        (seat_is.1, action_is.1))
+    (ok_is ((a.0.0, c.0.0), d.0.1) x d.2) (
+      seat_is.0 ∙ ap (λ (v : List Word). decimal a.0.0 ∷ v) whole,
+      (seat_is.1, action_is.1),
+    )
 
 from_after : (v : Verb) (s : ℕ) (ws : List Word) (c : Command) → s ≤ 255 → action_after v ws ≡ Ok (c, [])
     → command_at (decimal s ∷ play_verb_word v ∷ ws) ≡ Ok ((s, c), [])
 unfolding command_at
 from_after v s ws c le h =
-    rw (number_again 255 s (play_verb_word v ∷ ws) (lit< tt) le,
-    one_of_again play_verb_word play_verbs v ws (verb_again v), h) refl
+    rw (
+      number_again 255 s (play_verb_word v ∷ ws) (lit< tt) le,
+      one_of_again play_verb_word play_verbs v ws (verb_again v),
+      h,
+    ) refl
 
 action_again : (s : ℕ) (c : Command) → s ≤ 255 → ActionFits c → command_at (decimal s ∷ action_words c) ≡ Ok ((s, c), [])
 unfolding action_after

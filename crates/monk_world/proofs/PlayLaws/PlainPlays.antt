@@ -36,6 +36,11 @@ command_are_words m fits = rw (decimal_word m.0 fits.0) (action_are_words m.1 fi
 pub head_are_words : (h : PlayHead) → HeadFits h → AreWords (head_words h)
 head_are_words h fits =
     let parts = fits.header_fits in
-    rw (kind_is_word h.header.kind, decimal_word h.header.seats (omega (arith, parts.seats)),
-        decimal_word h.header.conds (omega (arith, parts.conds)), object_is_word h.header.object,
-        decimal_word h.header.size parts.size, IsWord-decimal h.budget (omega (arith, fits.budget_fits))) refl
+    rw (
+      kind_is_word h.header.kind,
+      decimal_word h.header.seats (omega (arith, parts.seats)),
+      decimal_word h.header.conds (omega (arith, parts.conds)),
+      object_is_word h.header.object,
+      decimal_word h.header.size parts.size,
+      IsWord-decimal h.budget (omega (arith, fits.budget_fits)),
+    ) refl

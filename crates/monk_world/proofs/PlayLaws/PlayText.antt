@@ -30,14 +30,14 @@ pub play_again : (limit : ℕ) (h : Heading) (budget : ℕ) (cs : List (ℕ × C
     → length cs ≤ limit → play_at limit (playtext h budget cs) ≡ Ok (play h budget cs)
 play_again limit h budget cs has le =
     ap play_of_reading (formats.text_again head_words play_head_at HeadFits heads command_words command_under
-        CommandFitsUnder commands limit (play_head h budget) cs (head_fits h budget cs has) has.commands_fit le)
+    CommandFitsUnder commands limit (play_head h budget) cs (head_fits h budget cs has) has.commands_fit le)
 
 pub play_one : (h g : Heading) (b c : ℕ) (xs ys : List (ℕ × Command)) → HasPlayText h b xs → HasPlayText g c ys
     → playtext h b xs ≡ playtext g c ys → play h b xs ≡ play g c ys
 play_one h g b c xs ys one two same =
     let is = formats.text_one head_words play_head_at HeadFits heads command_words command_under CommandFitsUnder
-        commands (play_head h b) (play_head g c) xs ys (head_fits h b xs one) one.commands_fit (head_fits g c ys two)
-        two.commands_fit same in
+    commands (play_head h b) (play_head g c) xs ys (head_fits h b xs one) one.commands_fit (head_fits g c ys two)
+    two.commands_fit same in
     ap (λ (x : PlayHead). play x.header x.budget xs) is.0 ∙ ap (λ (x : List (ℕ × Command)). play g c x) is.1
 
 -- ---- what a function gives
@@ -52,9 +52,17 @@ pub play_read : (limit : ℕ) (bytes : List ℕ) (h : PlayHead) (cs : List (ℕ 
     → lines_at play_head_at command_under limit (lines_of bytes) ≡ Ok (h, cs) → IsPlay limit bytes h.header h.budget cs
 play_read limit bytes h cs e =
     let r = formats.text_read head_words play_head_at HeadFits heads command_words command_under CommandFitsUnder
-        commands limit bytes h cs e in
-    record { has_text = record { header_fits = r.head_fits.header_fits; some_budget = r.head_fits.some_budget;
-        budget_fits = r.head_fits.budget_fits; commands_fit = r.fit }; few = r.few; whole = r.whole }
+    commands limit bytes h cs e in
+    record {
+      has_text = record {
+        header_fits = r.head_fits.header_fits;
+        some_budget = r.head_fits.some_budget;
+        budget_fits = r.head_fits.budget_fits;
+        commands_fit = r.fit;
+      };
+      few = r.few;
+      whole = r.whole;
+    }
 
 -- the same of the play
 pub play_found : (limit : ℕ) (bytes : List ℕ) (p : Play) → play_at limit bytes ≡ Ok p → IsPlay limit bytes p.0 p.1 p.2

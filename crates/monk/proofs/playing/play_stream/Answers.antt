@@ -12,8 +12,8 @@ returns-clause-played g c =
     let puts = Appends (g.W.Write.contents (held c.args.writer.now)) (g.W.Write.contents (held c.play_text.new.writer)) in
     IfOk-weaker c.play_text.result _ _ (λ status a.
     zero_exactly known c.deref.result.now status puts
-        (subst (λ (bytes : List ℕ). IfSome known (λ input. bytes ≡ input)) (sym c.deref.ensures.value)
-        c.in_ok-bytes.ensures.bytes) a)
+    (subst (λ (bytes : List ℕ). IfSome known (λ input. bytes ≡ input)) (sym c.deref.ensures.value)
+    c.in_ok-bytes.ensures.bytes) a)
     c.play_text.ensures.answer
 
 pub returns-clause-history : goal.returns-clause-history
@@ -22,6 +22,6 @@ returns-clause-history g c =
     let puts = Appends (g.W.Write.contents (held c.args.writer.now)) (g.W.Write.contents (held c.play_text.new.writer)) in
     IfOk-weaker c.play_text.result _ _ (λ status a.
     history_known known c.deref.result.now status puts
-        (subst (λ (bytes : List ℕ). IfSome known (λ input. bytes ≡ input)) (sym c.deref.ensures.value)
-        c.in_ok-bytes.ensures.bytes) a)
+    (subst (λ (bytes : List ℕ). IfSome known (λ input. bytes ≡ input)) (sym c.deref.ensures.value)
+    c.in_ok-bytes.ensures.bytes) a)
     c.play_text.ensures.answer

@@ -19,7 +19,7 @@ loop-event-init g c =
     let m = monitor c.args.rules c.args.header.now.seats c.args.header.now.conds g.T.Guarded.meaning (g.T.Guarded.state c.args.object) in
     let stands : replay_situation c.in_ok-replay.replay (g.T.Guarded.state c.args.object) ≡ opening_situation m =
     same_situation (replay_situation c.in_ok-replay.replay (g.T.Guarded.state c.args.object)) (opening_situation m)
-        new.condition new.waiters new.signallers new.untils refl new.turn new.inside new.begun
+    new.condition new.waiters new.signallers new.untils refl new.turn new.inside new.begun
     in
     record {
       so_far = judged_start m (replay_situation c.in_ok-replay.replay (g.T.Guarded.state c.args.object))
@@ -49,31 +49,34 @@ reason_is : (g : _) (c : In_ok-reason g)
     c.in-Ok-Some.event
 reason_is g c =
     reason_there c.args.rules c.args.header.now.seats _ c.args.header.now.conds g.T.Guarded.meaning
-        (g.T.Guarded.state c.args.object) (replay_situation c.loop-event.replay (g.T.Guarded.state c.loop-event.object))
-        c.in-Ok-Some.event c.in_ok-reason.reason c.loop-event.invariant.seats
+    (g.T.Guarded.state c.args.object) (replay_situation c.loop-event.replay (g.T.Guarded.state c.loop-event.object))
+    c.in-Ok-Some.event c.in_ok-reason.reason c.loop-event.invariant.seats
     (rw c.conds-conds.ensures at c.in_ok-reason.ensures.reason)
 
 pub returns-then-reason-ne-ALLOWED : goal.returns-then-reason-ne-ALLOWED
 returns-then-reason-ne-ALLOWED g c =
     judged_forbidden _ c.loop-event.count c.in_ok-reason.reason _ c.in-Ok-Some.event
-        (items_left event_at c.loop-event.lines) (items_left event_at c.next.new.self) _
-        (item_is g (goal.at.returns-then-reason-ne-ALLOWED g c).In-Ok-Some)
+    (items_left event_at c.loop-event.lines) (items_left event_at c.next.new.self) _
+    (item_is g (goal.at.returns-then-reason-ne-ALLOWED g c).In-Ok-Some)
     (reason_is g (goal.at.returns-then-reason-ne-ALLOWED g c).In_ok-reason) c.if-reason-ne-ALLOWED.true
-        c.loop-event.invariant.so_far c.in_ok-read_through.ensures
+    c.loop-event.invariant.so_far c.in_ok-read_through.ensures
 
 pub loop-event-preserved : goal.loop-event-preserved
 loop-event-preserved g c =
     record {
       so_far =
           judged_more _ c.loop-event.count c.in_ok-reason.reason _
-              (replay_situation c.judge.new.self (g.T.Guarded.state c.judge.new.object)) c.in-Ok-Some.event
-              (items_left event_at c.loop-event.lines) (items_left event_at c.next.new.self) _
-              (item_is g (goal.at.loop-event-preserved g c).In-Ok-Some)
+          (replay_situation c.judge.new.self (g.T.Guarded.state c.judge.new.object)) c.in-Ok-Some.event
+          (items_left event_at c.loop-event.lines) (items_left event_at c.next.new.self) _
+          (item_is g (goal.at.loop-event-preserved g c).In-Ok-Some)
           (reason_is g (goal.at.loop-event-preserved g c).In_ok-reason) c.if-reason-ne-ALLOWED.false
-              (c.in_ok-reason.ensures.after c.if-reason-ne-ALLOWED.false) c.loop-event.invariant.so_far;
-      room = omega (arith, c.loop-event.invariant.room,
-          room_found c.next.result _ _ c.in-Ok-Some.event (result_is g (goal.at.loop-event-preserved g c).In-Ok-Some)
-          c.next.ensures.room);
+          (c.in_ok-reason.ensures.after c.if-reason-ne-ALLOWED.false) c.loop-event.invariant.so_far;
+      room = omega (
+        arith,
+        c.loop-event.invariant.room,
+        room_found c.next.result _ _ c.in-Ok-Some.event (result_is g (goal.at.loop-event-preserved g c).In-Ok-Some)
+            c.next.ensures.room,
+      );
       seats = c.in_ok-reason.ensures.seats ∙ c.loop-event.invariant.seats;
       conds = c.in_ok-reason.ensures.conds ∙ c.loop-event.invariant.conds;
       preds = c.in_ok-reason.ensures.preds;
@@ -85,5 +88,5 @@ returns-in-Ok-None g c =
     let b = c.in-Ok-None.field-0-is in
     let nothing : c.next.result ≡ Ok None = cc in
     judged_end _ c.loop-event.count _ (items_left event_at c.loop-event.lines) _
-        (none_found c.next.result _ (items_left event_at c.next.new.self) nothing c.next.ensures.item)
-        c.loop-event.invariant.so_far
+    (none_found c.next.result _ (items_left event_at c.next.new.self) nothing c.next.ensures.item)
+    c.loop-event.invariant.so_far

@@ -19,6 +19,6 @@ store-requires g c =
           c.args.words.now.table_id.slots c.args.seat.now.id c.args.seat.now.me p (λ _. c.args.calls)
           (λ _. TellsGrant c.args.seat.now.me c.args.calls)) (sym c.seat_word-place.ensures)
           (calls_seat g.K.Kind.rules g.T.Guarded.meaning
-              (setting_of (g.T.Guarded.state key.opening.value) key.seats key.conds key.budget) g.K.Kind.is_kind _ _
-              c.args.seat.now.me back.0 c.args.called c.args.calls back.1 back.2),
+          (setting_of (g.T.Guarded.state key.opening.value) key.seats key.conds key.budget) g.K.Kind.is_kind _ _
+          c.args.seat.now.me back.0 c.args.called c.args.calls back.1 back.2),
     )

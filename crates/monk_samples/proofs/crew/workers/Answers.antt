@@ -19,7 +19,7 @@ pub loop-pass-preserved-in-Continue-branch-2 : goal.loop-pass-preserved-in-Conti
 loop-pass-preserved-in-Continue-branch-2 g c =
     let inv = c.loop-pass.invariant in
     let here = first_of (into_iter_items c.next.new.self) (into_iter_items c.loop-pass.pass-iterator) c.in-Some.pass
-        (IsReady g.K.Kind.rules c.args.hall.now) c.in-Some.ensures.steps.0 inv.1 in (
+    (IsReady g.K.Kind.rules c.args.hall.now) c.in-Some.ensures.steps.0 inv.1 in (
       one_more (vec_items c.loop-pass.workers) (vec_items c.push.new.self) _
           (λ w. (w.hall.now ≡ c.args.hall.now) × IsReady g.K.Kind.rules c.args.hall.now w.pass)
           c.in_ok-push.ensures.items inv.0 (refl, here),
@@ -29,6 +29,8 @@ loop-pass-preserved-in-Continue-branch-2 g c =
 
 pub loop-pass-preserved : goal.loop-pass-preserved
 loop-pass-preserved g c =
-    let inv = c.loop-pass.invariant in
-    (inv.0, rest_of (into_iter_items c.next.new.self) (into_iter_items c.loop-pass.pass-iterator) c.in-Some.pass
-        (IsReady g.K.Kind.rules c.args.hall.now) c.in-Some.ensures.steps.0 inv.1)
+    let inv = c.loop-pass.invariant in (
+      inv.0,
+      rest_of (into_iter_items c.next.new.self) (into_iter_items c.loop-pass.pass-iterator) c.in-Some.pass
+          (IsReady g.K.Kind.rules c.args.hall.now) c.in-Some.ensures.steps.0 inv.1,
+    )

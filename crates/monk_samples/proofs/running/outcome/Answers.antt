@@ -14,10 +14,10 @@ pub returns : goal.returns
 returns g c =
     let named = g.K.Kind.are_named in
     let found = sym c.in-Some.is ∙ c.new.ensures
-        ∙ (λ i. read_heading (c.NAME.ensures i) c.args.rota.seats c.conds_of.result (c.object-object.ensures i) size) in
+    ∙ (λ i. read_heading (c.NAME.ensures i) c.args.rota.seats c.conds_of.result (c.object-object.ensures i) size) in
     let conds = c.conds_of.ensures ∙ ap conds_of named in
     let header = header_is g.K.Kind.NAME c.args.rota.sample c.args.rota.seats c.conds_of.result c.in-Some.header found conds in
     outcome_of g.K.Kind.rules g.K.Kind.NAME c.args.rota.sample c.args.rota.seats c.args.rota.rounds c.in-Some.header
-        c.args.history.items c.totals_of-totals.result c.args.rota.seats_in_range.1 c.args.rota.rounds_in_range.1 named
-        c.requires header
+    c.args.history.items c.totals_of-totals.result c.args.rota.seats_in_range.1 c.args.rota.rounds_in_range.1 named
+    c.requires header
     (c.totals_of-totals.ensures ∙ ap (totals_of c.args.rota.sample) c.deref.ensures.value)

@@ -12,7 +12,7 @@ signal_leave-release-requires-clause-call g c κs within =
     may_signal_leave (monitor_of g.K.Kind.rules g.T.Guarded.meaning f) f.history c.of-release.result.number c.args.cond (owns h) (is_near h)
     (has_cond h c.args.cond c.args.self c.of-release.ensures.was c.requires.cond)
     (ap returns_at_once (sym (ap (λ r. r.mode) g.K.Kind.are_rules)
-        ∙ (g.met.K.ImmediateReturn g.world.𝓛 g.world.𝓜 g.world.𝓡 ((λ s x. x), (λ x. x), (λ x. x), λ x. x)).mode))
+    ∙ (g.met.K.ImmediateReturn g.world.𝓛 g.world.𝓜 g.world.𝓡 ((λ s x. x), (λ x. x), (λ x. x), λ x. x)).mode))
 
 pub returns-clause-recorded : goal.returns-clause-recorded
 returns-clause-recorded g c =
@@ -24,7 +24,7 @@ returns-clause-recorded g c =
       was = c.of-release.ensures.was;
       release = signals_and_leaves h c.args.cond (has_cond h c.args.cond c.args.self c.of-release.ensures.was c.requires.cond)
           (ap returns_at_once (sym (ap (λ r. r.mode) g.K.Kind.are_rules)
-              ∙ (g.met.K.ImmediateReturn g.world.𝓛 g.world.𝓜 g.world.𝓡 ((λ s x. x), (λ x. x), (λ x. x), λ x. x)).mode))
+          ∙ (g.met.K.ImmediateReturn g.world.𝓛 g.world.𝓜 g.world.𝓡 ((λ s x. x), (λ x. x), (λ x. x), λ x. x)).mode))
           c.args.pick c.args.known call.result call.new.self c.args.self c.of-release.ensures.was (c.requires.known)
           call.ensures.choice call.ensures.grown;
     }
@@ -34,4 +34,4 @@ returns-clause-away g c =
     let f = c.of-release.result.floor in
     let call = c.signal_leave-release in
     signal_leave_goes (monitor_of g.K.Kind.rules g.T.Guarded.meaning f) f.history c.of-release.result.number c.args.cond
-        call.result call.ensures.grown.allowed
+    call.result call.ensures.grown.allowed

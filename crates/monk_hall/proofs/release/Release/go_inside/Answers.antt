@@ -20,7 +20,7 @@ invariant_of-result g c =
     let x = has_released rec.holds rec.release c.requires.away in
     let now = c.go_home.new.seat in
     let gone = subst (λ (to : Home). HasGone (the c.args.self.seat.me.0) c.args.self.floor.history to (the now.me.0))
-        (home_is x) c.go_home.ensures.gone in
+    (home_is x) c.go_home.ensures.gone in
     let rests = gone_rests x rec.holds.seated c.left-left.ensures now.table_id now.me c.go_home.ensures.table gone c.go_home.ensures.view in
     (rests.0, rests.2, sym rests.1, tt)
 
@@ -29,7 +29,7 @@ returns g c a call wish known rec =
     let x = has_released rec.holds rec.release c.requires.away in
     let now = c.go_home.new.seat in
     let gone = subst (λ (to : Home). HasGone (the c.args.self.seat.me.0) c.args.self.floor.history to (the now.me.0))
-        (home_is x) c.go_home.ensures.gone in
+    (home_is x) c.go_home.ensures.gone in
     let told = (gone_rests x rec.holds.seated c.left-left.ensures now.table_id now.me c.go_home.ensures.table gone
-        c.go_home.ensures.view).0.told in
+    c.go_home.ensures.view).0.told in
     released_of call rec.holds rec.release c.requires.away _ c.go_home.ensures.table gone told a rec.was

@@ -23,15 +23,15 @@ invariant_of-result g c =
     let x = has_released rec.holds rec.release c.requires.away in
     let now = c.go_home.new.seat in let view = c.into_badge.ensures in
     let gone = subst (λ (to : Home). HasGone (the c.args.self.seat.me.0) c.args.self.floor.history to (the now.me.0))
-        (home_is x) c.go_home.ensures.gone in
+    (home_is x) c.go_home.ensures.gone in
     let rests = gone_rests x rec.holds.seated c.left-left.ensures c.into_badge.result.table_id now.me
-        (view.0 ∙ c.go_home.ensures.table) gone c.go_home.ensures.view in
+    (view.0 ∙ c.go_home.ensures.table) gone c.go_home.ensures.view in
     let views : c.into_badge.result.views ≡ (the now.me.0 ∷ []) ∷ [] = view.2 ∙ ap (λ m. m.0 ∷ []) c.go_home.ensures.view in
     let has = subst (λ m. IsResting g.K.Kind.rules g.T.Guarded.meaning c.into_badge.result.table_id m c.args.self.number
-        c.left-left.result c.args.self.calls) c.go_home.ensures.view rests.0 in
+    c.left-left.result c.args.self.calls) c.go_home.ensures.view rests.0 in
     subst (λ (vs : List View). (vs ≡ top vs ∷ [])
-        × IsResting g.K.Kind.rules g.T.Guarded.meaning c.into_badge.result.table_id (top vs, []) c.args.self.number
-        c.left-left.result c.args.self.calls × ((the (top vs)).place ≡ Idle)) (sym views)
+    × IsResting g.K.Kind.rules g.T.Guarded.meaning c.into_badge.result.table_id (top vs, []) c.args.self.number
+    c.left-left.result c.args.self.calls × ((the (top vs)).place ≡ Idle)) (sym views)
     (refl, has, rests.1)
 
 pub returns : goal.returns
@@ -41,7 +41,7 @@ returns g c a call wish known rec =
     let now = c.go_home.new.seat in let view = c.into_badge.ensures in
     let gone = subst (λ (to : Home). HasGone r c.args.self.floor.history to (the now.me.0)) (home_is x) c.go_home.ensures.gone in
     let rests = gone_rests x rec.holds.seated c.left-left.ensures c.into_badge.result.table_id now.me
-        (view.0 ∙ c.go_home.ensures.table) gone c.go_home.ensures.view in
+    (view.0 ∙ c.go_home.ensures.table) gone c.go_home.ensures.view in
     let told = subst (λ (vs : List View). SeesTruly g.K.Kind.rules g.T.Guarded.meaning (the (top vs))) (sym view.2) rests.0.told in
     let at_home = subst (λ (vs : List View). HasGone r c.args.self.floor.history home.Idle (the (top vs))) (sym view.2) gone in
     released_of call rec.holds rec.release c.requires.away _ (view.0 ∙ c.go_home.ensures.table) at_home told a rec.was

@@ -14,9 +14,9 @@ returns-clause-shows c =
     record {
       state = λ f. ap (λ (place : ℕ → Place). record (state_in w f) { world = record (world_on w) { place = place } })
           (place_stored w c.args.seat c.requires.seat _
-              (place_after_ticket_look c.args.ticket ((world_on w).ticket_place at == c.args.ticket + 1))
+          (place_after_ticket_look c.args.ticket ((world_on w).ticket_place at == c.args.ticket + 1))
           (c.place_after_ticket_look.ensures
-              ∙ ap (λ (n : ℕ). place_after_ticket_look c.args.ticket (n == c.args.ticket + 1))
-              (ticket_read w at near c.index.result.now c.index.ensures)));
+          ∙ ap (λ (n : ℕ). place_after_ticket_look c.args.ticket (n == c.args.ticket + 1))
+          (ticket_read w at near c.index.result.now c.index.ensures)));
       seats = refl;
     }

@@ -16,4 +16,4 @@ returns-clause-well_led g c =
     let h = c.self.invariant.sound in
     subst (λ (v : WorldView). IsWellLed g.K.Kind.rules g.T.Guarded.meaning (state_of_view v)) c.self.view_is
     (well_led g.K.Kind.rules g.T.Guarded.meaning (state_of_view (view_in c.self.inside.words c.self.inside.floor))
-        h.right h.owner h.is_sound)
+    h.right h.owner h.is_sound)

@@ -27,10 +27,10 @@ loop-next-preserved c =
 pub returns-then-next-eq32 : goal.returns-then-next-eq32
 returns-then-next-eq32 c =
     number-ends c.loop-next.number c.in-Some.next.now c.args.line.now c.loop-next.rest.now c.in-Some.behind.now
-        c.loop-next.invariant.so_far c.in-Some.ensures.cases.0 c.if-next-eq32.true
-        (omega (arith, c.loop-next.invariant.within))
+    c.loop-next.invariant.so_far c.in-Some.ensures.cases.0 c.if-next-eq32.true
+    (omega (arith, c.loop-next.invariant.within))
 
 pub returns : goal.returns
 returns c =
     number-last c.loop-next.number c.args.line.now c.loop-next.rest.now c.loop-next.invariant.so_far
-        (nil_from_length _ c.in_default.ensures.cases) (omega (arith, c.loop-next.invariant.within))
+    (nil_from_length _ c.in_default.ensures.cases) (omega (arith, c.loop-next.invariant.within))
