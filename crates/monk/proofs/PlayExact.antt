@@ -20,7 +20,8 @@ use Rattle.monk_world.proofs.RecordLaws.{same_monitor}
 use Rattle.monk_world.proofs.PlayLaws.PlayText.{play_again, play_found}
 use Rattle.monk.specs.Played.{IsPlayOf, IsPlayText, IsPlayed, IsPlayedBy, IsLedTo, IsAnswer, IsAnswerTo}
 
-found_again : (input : List ℕ) (h : Heading) (budget : ℕ) (cs : List (ℕ × Command)) → IsPlayOf input h budget cs → play_at (2 ^ 25) input ≡ Ok (play h budget cs)
+found_again : (input : List ℕ) (h : Heading) (budget : ℕ) (cs : List (ℕ × Command)) → IsPlayOf input h budget cs
+    → play_at (2 ^ 25) input ≡ Ok (play h budget cs)
 found_again input h budget cs t = ap (play_at (2 ^ 25)) t.whole ∙ play_again (2 ^ 25) h budget cs t.has_text t.few
 
 module _ (input : List ℕ) (status : ℕ) (Puts : List ℕ → Type 0) where
@@ -35,12 +36,16 @@ module _ (input : List ℕ) (status : ℕ) (Puts : List ℕ → Type 0) where
   is_text (Err f) is a none = absurd (omega (arith, a.0, none))
 
   -- the answer to the text of a play
-  of_play : (h : Heading) (budget : ℕ) (cs : List (ℕ × Command)) → h.size ≤ most h.object → IsAnswer (Ok (play h budget cs)) status Puts → (status ≡ 0) × IsPlayed h budget cs Puts
+  of_play : (h : Heading) (budget : ℕ) (cs : List (ℕ × Command)) → h.size ≤ most h.object
+      → IsAnswer (Ok (play h budget cs)) status Puts → (status ≡ 0) × IsPlayed h budget cs Puts
   of_play h budget cs size (inl a) = (a.1, a.2)
   of_play h budget cs size (inr a) = absurd (omega (arith, size, a.0))
 
-  answer_of : (h : Heading) (budget : ℕ) (cs : List (ℕ × Command)) → IsPlayOf input h budget cs → IsAnswerTo input status Puts → (status ≡ 0) × IsPlayed h budget cs Puts
-  answer_of h budget cs t a = of_play h budget cs t.size (subst (λ (r : Result Play ReadFault). IsAnswer r status Puts) (found_again input h budget cs t) a)
+  answer_of : (h : Heading) (budget : ℕ) (cs : List (ℕ × Command)) → IsPlayOf input h budget cs
+      → IsAnswerTo input status Puts → (status ≡ 0) × IsPlayed h budget cs Puts
+  answer_of h budget cs t a =
+      of_play h budget cs t.size
+      (subst (λ (r : Result Play ReadFault). IsAnswer r status Puts) (found_again input h budget cs t) a)
 
   exactly : IsAnswerTo input status Puts → (status ≡ 0) ↔ IsPlayText input
   exactly a = (is_text (play_at (2 ^ 25) input) refl a, λ t. (answer_of t.0 t.1.0 t.1.1.0 t.1.1.1 a).0)
@@ -59,14 +64,17 @@ module _ (known : Option (List ℕ)) (bytes : List ℕ) (status : ℕ) (Puts : L
       by None e = tt
       by (Some input) e = subst F e x
 
-  pub answer_known : IfSome known (λ input. bytes ≡ input) → IsAnswerTo bytes status Puts → IfSome known (λ input. IsAnswerTo input status Puts)
+  pub answer_known : IfSome known (λ input. bytes ≡ input) → IsAnswerTo bytes status Puts
+      → IfSome known (λ input. IsAnswerTo input status Puts)
   answer_known same a = on_known (λ input. IsAnswerTo input status Puts) same a
 
-  pub zero_exactly : IfSome known (λ input. bytes ≡ input) → IsAnswerTo bytes status Puts → IfSome known (λ input. (status ≡ 0) ↔ IsPlayText input)
+  pub zero_exactly : IfSome known (λ input. bytes ≡ input) → IsAnswerTo bytes status Puts
+      → IfSome known (λ input. (status ≡ 0) ↔ IsPlayText input)
   zero_exactly same a = on_known (λ input. (status ≡ 0) ↔ IsPlayText input) same (exactly bytes status Puts a)
 
   pub history_known : IfSome known (λ input. bytes ≡ input) → IsAnswerTo bytes status Puts
-      → IfSome known (λ input. (h : Heading) (budget : ℕ) (cs : List (ℕ × Command)) → IsPlayOf input h budget cs → IsPlayed h budget cs Puts)
+      → IfSome known (λ input. (h : Heading) (budget : ℕ) (cs : List (ℕ × Command)) → IsPlayOf input h budget cs
+      → IsPlayed h budget cs Puts)
   history_known same a =
       on_known (λ input. (h : Heading) (budget : ℕ) (cs : List (ℕ × Command)) → IsPlayOf input h budget cs → IsPlayed h budget cs Puts) same
       (λ h budget cs t. (answer_of bytes status Puts h budget cs t a).1)
@@ -75,12 +83,14 @@ module _ (known : Option (List ℕ)) (bytes : List ℕ) (status : ℕ) (Puts : L
   status_known a = status_is bytes status Puts (play_at (2 ^ 25) bytes) a
 
 -- the same play under equal rules
-pub by_rules : {A E : Type 0} (result : Result A E) (k l : Rules) (o : Object) (opening : List ℕ) (h : Heading) (budget : ℕ) (cs : List (ℕ × Command)) (Puts : List ℕ → Type 0)
+pub by_rules : {A E : Type 0} (result : Result A E) (k l : Rules) (o : Object) (opening : List ℕ) (h : Heading)
+    (budget : ℕ) (cs : List (ℕ × Command)) (Puts : List ℕ → Type 0)
     → k ≡ l → OnOk result (IsPlayedBy k o opening h budget cs Puts) → OnOk result (IsPlayedBy l o opening h budget cs Puts)
 by_rules result k l o opening h budget cs Puts is = subst (λ (r : Rules). OnOk result (IsPlayedBy r o opening h budget cs Puts)) is
 
 -- what a world that was made and run has come to
-pub led_to : (k : Rules) (o : Object) (opening : List ℕ) (h : Heading) (budget : ℕ) (commands : List (ℕ × Command)) (events : List Event) (seats conds : ℕ) (s t : State)
+pub led_to : (k : Rules) (o : Object) (opening : List ℕ) (h : Heading) (budget : ℕ) (commands : List (ℕ × Command))
+    (events : List Event) (seats conds : ℕ) (s t : State)
     → seats ≡ h.seats → conds ≡ h.conds → s ≡ opening_state opening seats conds budget
     → IsLed k o s commands t → IsRecordedBy k o s commands t → events ≡ t.floor.history → IsLegal (monitor_of k o t.floor) t.floor.history
     → IsLedTo k o opening h budget commands events
@@ -95,5 +105,6 @@ led_to k o opening h budget commands events seats conds s t seats_are conds_are 
       last = t;
       is_led = subst (λ (u : State). IsLed k o u commands t) (opens ∙ opened) led;
       is_last = is;
-      legal = subst (λ (m : Monitor). IsLegal m events) monitor_is (subst (λ (es : List Event). IsLegal (monitor_of k o t.floor) es) (sym is) legal);
+      legal = subst (λ (m : Monitor). IsLegal m events) monitor_is
+          (subst (λ (es : List Event). IsLegal (monitor_of k o t.floor) es) (sym is) legal);
     }

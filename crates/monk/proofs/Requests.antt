@@ -10,7 +10,8 @@ use Rattle.clap.proofs.OnLiterals.{clap_on_literals}
 use Rattle.monk.specs.Request.{HasNumber, IsAsked, IsRead, NameList, monk_app}
 
 -- what is read in the rows of a command is asked for where that command was found
-pub asked_in : (o : Option (Text × List Row)) (word : Text) (rows : List Row) (l : Line) → option_map (λ p. p.0) o ≡ Some word → option_map (λ p. p.1) o ≡ Some rows
+pub asked_in : (o : Option (Text × List Row)) (word : Text) (rows : List Row) (l : Line)
+    → option_map (λ p. p.0) o ≡ Some word → option_map (λ p. p.1) o ≡ Some rows
     → IsRead word l rows → IsAsked l o
 asked_in None word rows l w r is = absurd cc
 asked_in (Some p) word rows l w r is =
@@ -20,7 +21,8 @@ asked_in (Some p) word rows l w r is =
 
 -- the number that is read by `get_one`
 pub number_read : (E : Type 0) (G : List ℕ → Result ℕ E → Type 0) (bits v : ℕ) (name : Text) (f : Found)
-    → ((u : List ℕ) (x : Result ℕ E) → G u x → ParsesUnsigned bits 10 u x) → (one_text f name ≡ None → Some v ≡ None) → ((t : List ℕ) → one_text f name ≡ Some t → G t (Ok v))
+    → ((u : List ℕ) (x : Result ℕ E) → G u x → ParsesUnsigned bits 10 u x) → (one_text f name ≡ None → Some v ≡ None)
+    → ((t : List ℕ) → one_text f name ≡ Some t → G t (Ok v))
     → HasNumber name v (rows_of f)
 number_read E G bits v name f only none value = go (one_text f name) refl
   where

@@ -17,7 +17,8 @@ never_forbidden v n step reason legal forbidden =
 
 -- two lines of a word and two numbers, and the line that ends them
 pub two_pairs : (w v a b c d : List ℕ)
-    → w ++ (32 ∷ (a ++ (32 ∷ (b ++ (10 ∷ (v ++ (32 ∷ (c ++ (32 ∷ (d ++ (10 ∷ codes "legal\n"))))))))))) ≡ pair_text w a b ++ pair_text v c d ++ codes "legal\n"
+    → w ++ (32 ∷ (a ++ (32 ∷ (b ++ (10 ∷ (v ++ (32 ∷ (c ++ (32 ∷ (d ++ (10 ∷ codes "legal\n"))))))))))) ≡ pair_text w a
+    b ++ pair_text v c d ++ codes "legal\n"
 two_pairs w v a b c d = simp append_assoc
 
 -- four lines of a word and a number, and the line that ends them

@@ -28,7 +28,8 @@ abbrev pub IsPlayText : List ℕ → Type 0
 IsPlayText input = (h : Heading) × ((budget : ℕ) × ((commands : List (ℕ × Command)) × IsPlayOf input h budget commands))
 
 -- these commands in turn, from the opening state, lead a monitor of these rules to this history, which is legal
-pub record IsLedTo (k : Rules) (o : Object) (opening : List ℕ) (h : Heading) (budget : ℕ) (commands : List (ℕ × Command)) (events : List Event) : Type 0 where
+pub record IsLedTo (k : Rules) (o : Object) (opening : List ℕ) (h : Heading) (budget : ℕ)
+    (commands : List (ℕ × Command)) (events : List Event) : Type 0 where
   pub last : State
   pub is_led : IsLed k o (opening_state opening h.seats h.conds budget) commands last
   pub is_last : events ≡ last.floor.history
@@ -36,11 +37,13 @@ pub record IsLedTo (k : Rules) (o : Object) (opening : List ℕ) (h : Heading) (
 
 -- with what writing these bytes means: the text of such a history is written
 abbrev pub IsPlayedBy : Rules → Object → List ℕ → Heading → ℕ → List (ℕ × Command) → (List ℕ → Type 0) → Type 0
-IsPlayedBy k o opening h budget commands Puts = (events : List Event) × (IsLedTo k o opening h budget commands events × Puts (text h events))
+IsPlayedBy k o opening h budget commands Puts =
+    (events : List Event) × (IsLedTo k o opening h budget commands events × Puts (text h events))
 
 -- the same by the kind and over the object that the header names
 abbrev pub IsPlayed : Heading → ℕ → List (ℕ × Command) → (List ℕ → Type 0) → Type 0
-IsPlayed h budget commands Puts = IsPlayedBy (rules_named h.kind) (meaning_named h.object) (opening_named h.object h.size) h budget commands Puts
+IsPlayed h budget commands Puts =
+    IsPlayedBy (rules_named h.kind) (meaning_named h.object) (opening_named h.object h.size) h budget commands Puts
 
 -- the answer to a play that was read
 abbrev pub IsPlayAnswer : Play → ℕ → (List ℕ → Type 0) → Type 0

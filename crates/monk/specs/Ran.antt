@@ -17,8 +17,10 @@ pair_line word n m = word ++ codes " " ++ decimal n ++ codes " " ++ decimal m ++
 
 -- the lines that tell the totals of a legal run
 abbrev pub totals_text : Sample → List ℕ → List ℕ
-totals_text Buffer t = pair_line (codes "put") (slice_index t 0) (slice_index t 1) ++ pair_line (codes "taken") (slice_index t 2) (slice_index t 3) ++ codes "legal\n"
-totals_text Book t = pair_line (codes "reads") (slice_index t 0) (slice_index t 1) ++ pair_line (codes "writes") (slice_index t 2) (slice_index t 3) ++ codes "legal\n"
+totals_text Buffer t = pair_line (codes "put") (slice_index t 0) (slice_index t 1)
+    ++ pair_line (codes "taken") (slice_index t 2) (slice_index t 3) ++ codes "legal\n"
+totals_text Book t = pair_line (codes "reads") (slice_index t 0) (slice_index t 1)
+    ++ pair_line (codes "writes") (slice_index t 2) (slice_index t 3) ++ codes "legal\n"
 totals_text Shop t =
     count_line (codes "sat") (slice_index t 0) ++ count_line (codes "called") (slice_index t 1)
     ++ count_line (codes "finished") (slice_index t 2) ++ count_line (codes "departed") (slice_index t 3) ++ codes "legal\n"

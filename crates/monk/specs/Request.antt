@@ -23,7 +23,9 @@ abbrev pub priority : ValueParser
 priority = Signed (pos 0) (pos 255)
 
 abbrev pub classify_app : App
-classify_app = with_rule (with_rule (with_rule (new_app (codes "classify")) (required_rule (codes "ENTRY") priority)) (required_rule (codes "WAITER") priority)) (required_rule (codes "SIGNALLER") priority)
+classify_app = with_rule
+    (with_rule (with_rule (new_app (codes "classify")) (required_rule (codes "ENTRY") priority))
+    (required_rule (codes "WAITER") priority)) (required_rule (codes "SIGNALLER") priority)
 
 -- a list of names, as clap holds it
 abbrev pub NameList : Type 0
@@ -41,7 +43,8 @@ samples = Buffer ∷ Book ∷ Shop ∷ []
 
 abbrev pub run_app : NameList → NameList → App
 run_app k s =
-    with_rule (with_rule (with_rule (with_rule (new_app (codes "run")) (required_rule (codes "KIND") (Names k))) (required_rule (codes "SAMPLE") (Names s)))
+    with_rule (with_rule (with_rule (with_rule (new_app (codes "run")) (required_rule (codes "KIND") (Names k)))
+    (required_rule (codes "SAMPLE") (Names s)))
     (required_rule (codes "SEATS") (Signed (pos 2) (pos 16)))) (required_rule (codes "ROUNDS") (Signed (pos 1) (pos 1000)))
 
 -- the lists have exactly the names of the kinds and of the samples
@@ -61,7 +64,9 @@ bare_app = record (new_app (codes "monk")) { top = record (new_app (codes "monk"
 
 abbrev pub monk_app : NameList → NameList → App
 monk_app k s =
-    with_subcommand (with_subcommand (with_subcommand (with_subcommand bare_app classify_app.top) (file_app (codes "audit")).top) (file_app (codes "play")).top) (run_app k s).top
+    with_subcommand (with_subcommand
+    (with_subcommand (with_subcommand bare_app classify_app.top) (file_app (codes "audit")).top)
+    (file_app (codes "play")).top) (run_app k s).top
 
 -- the command line of the program
 pub record IsMonk (a : App) : Type 0 where
@@ -92,7 +97,8 @@ pub record HasNumber (name : Text) (n : ℕ) (rows : List Row) : Type 0 where
 
 -- the values of the line are those that clap has found, in the rows of its command
 abbrev pub ValuesAre : Line → List Row → Type 0
-ValuesAre (Classify e w s) rows = HasNumber (codes "ENTRY") e rows × HasNumber (codes "WAITER") w rows × HasNumber (codes "SIGNALLER") s rows
+ValuesAre (Classify e w s) rows = HasNumber (codes "ENTRY") e rows × HasNumber (codes "WAITER") w rows
+    × HasNumber (codes "SIGNALLER") s rows
 ValuesAre (Audit file) rows = first_of (codes "FILE") rows ≡ option_map string_bytes file
 ValuesAre (Play file) rows = first_of (codes "FILE") rows ≡ option_map string_bytes file
 ValuesAre (Run kind sample seats rounds) rows =

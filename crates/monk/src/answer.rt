@@ -33,7 +33,9 @@ pub(crate) fn answer_to(alloc: Global, bytes: &[u8]) -> Result<Answer, StreamFau
 
 /// The answer to a text with a fault; where the fault is want of memory, there is none.
 pub(crate) fn unreadable(alloc: Global, fault: ReadFault) -> Result<Answer, StreamFault>
-    ensures answer { IfOk result (λ a. (fault ≢ memory) × (a.status ≡ (unreadable fault).status) × (string_bytes a.text ≡ (unreadable fault).text)) }
+    ensures answer { IfOk result
+        (λ a. (fault ≢ memory) × (a.status ≡ (unreadable fault).status)
+        × (string_bytes a.text ≡ (unreadable fault).text)) }
     ensures no_file { IsErrOf result StreamFault.File → ⊥ }
 {
     if fault.number == ReadFault::MEMORY {
@@ -56,7 +58,9 @@ pub(crate) fn too_big(alloc: Global) -> Result<Answer, StreamFault>
 /// Writes the answer's line; the result is its status.
 pub(crate) fn put<W: Write>(answer: &Answer, writer: &mut Device<W>) -> Result<u8, StreamFault>
     requires { has_failed writer.old ≡ false }
-    ensures line { IfOk result (λ status. (status ≡ answer.now.status) × Appends (W.contents (held writer.old)) (W.contents (held writer.new)) (string_bytes answer.now.text)) }
+    ensures line { IfOk result
+        (λ status. (status ≡ answer.now.status) × Appends (W.contents (held writer.old)) (W.contents (held writer.new))
+        (string_bytes answer.now.text)) }
     ensures fails { OnErr result ((result ≡ Err StreamFault.File) × (has_failed writer.new ≡ true)) }
 {
     match writer.write_all(answer.text.as_bytes()) {

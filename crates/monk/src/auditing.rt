@@ -36,13 +36,16 @@ pub fn audit_stream<R: Read, W: Write>(
     requires writer_works { has_failed writer.old ≡ false }
 
     // The one line, and its status, are the answer to what the reader had.
-    ensures answer { IfOk result (Answers answer_of (R.remaining (held reader.old)) (W.contents (held writer.old)) (W.contents (held writer.new))) }
+    ensures answer { IfOk result
+        (Answers answer_of (R.remaining (held reader.old)) (W.contents (held writer.old))
+        (W.contents (held writer.new))) }
     ensures legal { IfOk result (λ status. IfSome (R.remaining (held reader.old)) (λ input. (status ≡ 0) ↔ IsLegalText input)) }
     ensures forbidden { IfOk result (λ status. IfSome (R.remaining (held reader.old)) (λ input. (status ≡ 1) ↔ IsForbiddenText input)) }
     ensures statuses { IfOk result (λ status. status ≤ 2) }
     ensures all_read { OnOk result (IsAtEnd (R.remaining (held reader.new))) }
 
-    ensures file { IsErrOf result StreamFault.File → IsYoung reader.old → (has_failed reader.new ≡ true) ⊎ (has_failed writer.new ≡ true) ⊎ IsPastBound reader.old reader.new }
+    ensures file { IsErrOf result StreamFault.File → IsYoung reader.old → (has_failed reader.new ≡ true)
+        ⊎ (has_failed writer.new ≡ true) ⊎ IsPastBound reader.old reader.new }
     ensures reads { reads_of reader.new ≤ reads_of reader.old + 2 ^ 31 }
 {
     let bytes = read_all(alloc, reader)?;

@@ -30,7 +30,8 @@ pub(crate) fn read_all<R: Read>(
     requires { has_failed reader.old ≡ false }
     ensures bytes { IfOk result (λ v. IfSome (R.remaining (held reader.old)) (λ input. v.items ≡ input)) }
     ensures end { OnOk result (IsAtEnd (R.remaining (held reader.new))) }
-    ensures file { IsErrOf result StreamFault.File → IsYoung reader.old → (has_failed reader.new ≡ true) ⊎ IsPastBound reader.old reader.new }
+    ensures file { IsErrOf result StreamFault.File → IsYoung reader.old → (has_failed reader.new ≡ true)
+        ⊎ IsPastBound reader.old reader.new }
     ensures reads { reads_of reader.new ≤ reads_of reader.old + 2 ^ 31 }
 {
     let mut bytes = Vec::new(alloc);

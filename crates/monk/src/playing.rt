@@ -31,7 +31,9 @@ fn play_as<K: Kind, T: Guarded, W: Write>(
     writer: &mut Device<W>,
 ) -> Result<(), StreamFault>
     requires { has_failed writer.old ≡ false }
-    ensures played { OnOk result (IsPlayedBy K.rules T.meaning (T.state object) header.now budget commands.now (Appends (W.contents (held writer.old)) (W.contents (held writer.new)))) }
+    ensures played { OnOk result
+        (IsPlayedBy K.rules T.meaning (T.state object) header.now budget commands.now
+        (Appends (W.contents (held writer.old)) (W.contents (held writer.new)))) }
     ensures file { IsErrOf result StreamFault.File → has_failed writer.new ≡ true }
 {
     // The header's numbers are in range, so only memory can be wanting.
@@ -56,7 +58,9 @@ fn play_named<T: Guarded, W: Write>(
     writer: &mut Device<W>,
 ) -> Result<(), StreamFault>
     requires { has_failed writer.old ≡ false }
-    ensures played { OnOk result (IsPlayedBy (rules_named header.now.kind) T.meaning (T.state object) header.now budget commands.now (Appends (W.contents (held writer.old)) (W.contents (held writer.new)))) }
+    ensures played { OnOk result
+        (IsPlayedBy (rules_named header.now.kind) T.meaning (T.state object) header.now budget commands.now
+        (Appends (W.contents (held writer.old)) (W.contents (held writer.new)))) }
     ensures file { IsErrOf result StreamFault.File → has_failed writer.new ≡ true }
 {
     match header.kind() {
@@ -83,7 +87,9 @@ fn play_object<W: Write>(
 ) -> Result<(), StreamFault>
     requires works { has_failed writer.old ≡ false }
     requires size { header.now.size ≤ most header.now.object }
-    ensures played { OnOk result (IsPlayed header.now budget commands.now (Appends (W.contents (held writer.old)) (W.contents (held writer.new)))) }
+    ensures played { OnOk result
+        (IsPlayed header.now budget commands.now
+        (Appends (W.contents (held writer.old)) (W.contents (held writer.new)))) }
     ensures file { IsErrOf result StreamFault.File → has_failed writer.new ≡ true }
 {
     // The size is in range, so only memory can be wanting.
@@ -113,7 +119,9 @@ fn play<W: Write>(
     writer: &mut Device<W>,
 ) -> Result<u8, StreamFault>
     requires { has_failed writer.old ≡ false }
-    ensures answer { IfOk result (λ status. IsPlayAnswer (play header.now budget commands.now) status (Appends (W.contents (held writer.old)) (W.contents (held writer.new)))) }
+    ensures answer { IfOk result
+        (λ status. IsPlayAnswer (play header.now budget commands.now) status
+        (Appends (W.contents (held writer.old)) (W.contents (held writer.new)))) }
     ensures file { IsErrOf result StreamFault.File → has_failed writer.new ≡ true }
 {
     if header.size() > header.object().greatest_size() {
@@ -130,7 +138,8 @@ fn play_text<W: Write>(
     writer: &mut Device<W>,
 ) -> Result<u8, StreamFault>
     requires { has_failed writer.old ≡ false }
-    ensures answer { IfOk result (λ status. IsAnswerTo bytes.now status (Appends (W.contents (held writer.old)) (W.contents (held writer.new)))) }
+    ensures answer { IfOk result
+        (λ status. IsAnswerTo bytes.now status (Appends (W.contents (held writer.old)) (W.contents (held writer.new)))) }
     ensures file { IsErrOf result StreamFault.File → has_failed writer.new ≡ true }
 {
     match read_play(alloc, bytes) {
@@ -163,15 +172,21 @@ pub fn play_stream<R: Read, W: Write>(
     requires writer_works { has_failed writer.old ≡ false }
 
     // What is written, and its status, are the answer to what the reader had.
-    ensures answer { IfOk result (λ status. IfSome (R.remaining (held reader.old)) (λ input. IsAnswerTo input status (Appends (W.contents (held writer.old)) (W.contents (held writer.new))))) }
+    ensures answer { IfOk result
+        (λ status. IfSome (R.remaining (held reader.old))
+        (λ input. IsAnswerTo input status (Appends (W.contents (held writer.old)) (W.contents (held writer.new))))) }
     // The status is 0 exactly for the text of a play.
     ensures played { IfOk result (λ status. IfSome (R.remaining (held reader.old)) (λ input. (status ≡ 0) ↔ IsPlayText input)) }
     // To a play nothing is written but the text of its history, which is legal.
-    ensures history { IfOk result (λ status. IfSome (R.remaining (held reader.old)) (λ input. (h : Heading) (budget : ℕ) (commands : List (ℕ × Command)) → IsPlayOf input h budget commands → IsPlayed h budget commands (Appends (W.contents (held writer.old)) (W.contents (held writer.new))))) }
+    ensures history { IfOk result
+        (λ status. IfSome (R.remaining (held reader.old))
+        (λ input. (h : Heading) (budget : ℕ) (commands : List (ℕ × Command)) → IsPlayOf input h budget commands
+        → IsPlayed h budget commands (Appends (W.contents (held writer.old)) (W.contents (held writer.new))))) }
     ensures statuses { IfOk result (λ status. (status ≡ 0) ⊎ (status ≡ 2)) }
     ensures all_read { OnOk result (IsAtEnd (R.remaining (held reader.new))) }
 
-    ensures file { IsErrOf result StreamFault.File → IsYoung reader.old → (has_failed reader.new ≡ true) ⊎ (has_failed writer.new ≡ true) ⊎ IsPastBound reader.old reader.new }
+    ensures file { IsErrOf result StreamFault.File → IsYoung reader.old → (has_failed reader.new ≡ true)
+        ⊎ (has_failed writer.new ≡ true) ⊎ IsPastBound reader.old reader.new }
     ensures reads { reads_of reader.new ≤ reads_of reader.old + 2 ^ 31 }
 {
     let bytes = read_all(alloc, reader)?;

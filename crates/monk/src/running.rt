@@ -47,7 +47,8 @@ fn run_named<R: Threads + Wait + Sync>(
 
 /// The answer to a run that left this: its totals, once its history was found legal.
 fn audited(alloc: Global, sample: Sample, outcome: &Outcome) -> Result<Answer, StreamFault>
-    requires { IsOutcome outcome.now.header.kind sample outcome.now.header.seats outcome.now.header outcome.now.history.items outcome.now.totals }
+    requires { IsOutcome outcome.now.header.kind sample outcome.now.header.seats outcome.now.header
+        outcome.now.history.items outcome.now.totals }
     ensures answer { IfOk result (λ a. (a.status ≡ 0) × (string_bytes a.text ≡ totals_text sample outcome.now.totals)) }
     ensures no_file { IsErrOf result StreamFault.File → ⊥ }
 {
@@ -141,7 +142,9 @@ pub fn run_stream<R: Threads + Wait + Sync, W: Write>(
     requires works { has_failed writer.old ≡ false }
 
     // The totals that are told are those of a legal history of this kind and sample, in which the sample's law holds.
-    ensures answer { IfOk result (λ status. IsRunAnswer kind sample seats status (Appends (W.contents (held writer.old)) (W.contents (held writer.new)))) }
+    ensures answer { IfOk result
+        (λ status. IsRunAnswer kind sample seats status
+        (Appends (W.contents (held writer.old)) (W.contents (held writer.new)))) }
     ensures file { IsErrOf result StreamFault.File → (has_failed writer.new ≡ true) ⊎ (writer.new ≡ writer.old) }
     ensures memory { IsErrOf result StreamFault.Memory → writer.new ≡ writer.old }
 {

@@ -1,5 +1,6 @@
 -- Judging events as they are read, one after the other, as a loop does
-use Rattle.std.proofs.Common.{◌≡◌, ◌≢◌, ◌==◌, ◌+◌, ℕ, Bool, true, false, cond, List, [], ◌∷◌, ◌++◌, length, Option, Some, None, Result, Ok, Err, refl, sym, ap, subst, ◌∙◌, length-append}
+use Rattle.std.proofs.Common.{◌≡◌, ◌≢◌, ◌==◌, ◌+◌, ℕ, Bool, true, false, cond, List, [], ◌∷◌, ◌++◌, length, Option}
+use Rattle.std.proofs.Common.{Some, None, Result, Ok, Err, refl, sym, ap, subst, ◌∙◌, length-append}
 use Rattle.std.proofs.lemmas.Bool.{eqb-true}
 use Rattle.monk_kinds.specs.declared.mode.Rules.{Rules}
 use Rattle.monk_object.specs.Object.{Object}
@@ -19,7 +20,8 @@ use Rattle.monk_history.specs.declared.event.Event.{Event}
 use Rattle.monk_history.proofs.MeaningLaws.LegalLaws.{legal_none, legal-push, allowed_from_reason}
 use Rattle.monk_history.proofs.MeaningLaws.StepLaws.{legal_situation-push, situation-none}
 use Rattle.monk_audit.specs.Verdict.{verdict_from, verdict_of}
-use Rattle.monk_audit.specs.Reading.{verdict_at, verdict_read, verdict_of_reading, read_through, history_verdict, lines_verdict, text_verdict}
+use Rattle.monk_audit.specs.Reading.{verdict_at, verdict_read, verdict_of_reading, read_through, history_verdict}
+use Rattle.monk_audit.specs.Reading.{lines_verdict, text_verdict}
 use Rattle.monk_audit.specs.declared.verdict.Verdict.{Verdict}
 use Rattle.monk_audit.specs.declared.verdict.Verdict.TheVariants.{Legal, Forbidden}
 use Rattle.monk_audit.proofs.AuditLaws.{reason_opening}
@@ -27,16 +29,19 @@ use Rattle.monk_audit.proofs.AuditLaws.{reason_opening}
 more_count : (past : List Event) (e : Event) → length past + 1 ≡ length (past ++ e ∷ [])
 more_count past e = sym (length-append past (e ∷ []))
 
-by_reason : (m : Monitor) (past es : List Event) (e : Event) (b : Bool) (u v : Verdict) → (reason_of m past e == 0) ≡ b → (reason_of m past e ≡ 0 → u ≡ v)
+by_reason : (m : Monitor) (past es : List Event) (e : Event) (b : Bool) (u v : Verdict) → (reason_of m past e == 0) ≡ b
+    → (reason_of m past e ≡ 0 → u ≡ v)
     → cond b u (Forbidden (length past + 1) (reason_of m past e)) ≡ cond b v (Forbidden (length past + 1) (reason_of m past e))
 by_reason m past es e true u v is f = f (eqb-true _ _ is)
 by_reason m past es e false u v is f = refl
 
-from_here : (m : Monitor) (past es : List Event) → IsLegal m past → verdict_from m past es ≡ verdict_at m (length past) (situation m past) es
+from_here : (m : Monitor) (past es : List Event) → IsLegal m past
+    → verdict_from m past es ≡ verdict_at m (length past) (situation m past) es
 unfolding verdict_from verdict_at
 from_here m past [] l = refl
 from_here m past (e ∷ es) l =
-    by_reason m past es e (reason_of m past e == 0) (verdict_from m (past ++ e ∷ []) es) (verdict_at m (length past + 1) (after m.object (situation m past) e) es) refl
+    by_reason m past es e (reason_of m past e == 0) (verdict_from m (past ++ e ∷ []) es)
+    (verdict_at m (length past + 1) (after m.object (situation m past) e) es) refl
     (λ z. from_here m (past ++ e ∷ []) es (legal-push m past e l (allowed_from_reason m (situation m past) e z))
     ∙ (ap (λ n. verdict_at m n (situation m (past ++ e ∷ [])) es) (sym (more_count past e))
     ∙ ap (λ t. verdict_at m (length past + 1) t es) (legal_situation-push m past e l)))
@@ -45,89 +50,123 @@ from_here m past (e ∷ es) l =
 pub verdict_at_is : (m : Monitor) (h : List Event) → verdict_of m h ≡ verdict_at m 0 (opening_situation m) h
 verdict_at_is m h = from_here m [] h (legal_none m) ∙ ap (λ t. verdict_at m 0 t h) (situation-none m)
 
-pub judged_is : (m : Monitor) (read : Result (List Event) ReadFault) → verdict_read m 0 (opening_situation m) read ≡ verdict_of_reading m read
+pub judged_is : (m : Monitor) (read : Result (List Event) ReadFault)
+    → verdict_read m 0 (opening_situation m) read ≡ verdict_of_reading m read
 judged_is m (Ok es) = ap (λ v. Ok v) (sym (verdict_at_is m es))
 judged_is m (Err f) = refl
 
 -- ---- the turns and the ends of the loop; what is to be judged is `total`
 
-pub judged_start : (m : Monitor) (t : Situation) (read : Result (List Event) ReadFault) → t ≡ opening_situation m → verdict_read m 0 t read ≡ verdict_of_reading m read
+pub judged_start : (m : Monitor) (t : Situation) (read : Result (List Event) ReadFault) → t ≡ opening_situation m
+    → verdict_read m 0 t read ≡ verdict_of_reading m read
 judged_start m t read is = ap (λ x. verdict_read m 0 x read) is ∙ judged_is m read
 
-pub judged_end : (m : Monitor) (n : ℕ) (t : Situation) (read : Result (List Event) ReadFault) (total : Result Verdict ReadFault) → read ≡ Ok [] → verdict_read m n t read ≡ total → total ≡ Ok (Legal n)
+pub judged_end : (m : Monitor) (n : ℕ) (t : Situation) (read : Result (List Event) ReadFault)
+    (total : Result Verdict ReadFault) → read ≡ Ok [] → verdict_read m n t read ≡ total → total ≡ Ok (Legal n)
 unfolding verdict_at
 judged_end m n t read total none so_far = sym so_far ∙ ap (verdict_read m n t) none
 
-pub judged_fault : (m : Monitor) (n : ℕ) (t : Situation) (read : Result (List Event) ReadFault) (total : Result Verdict ReadFault) (f : ReadFault) → read ≡ Err f → verdict_read m n t read ≡ total → total ≡ Err f
+pub judged_fault : (m : Monitor) (n : ℕ) (t : Situation) (read : Result (List Event) ReadFault)
+    (total : Result Verdict ReadFault) (f : ReadFault) → read ≡ Err f → verdict_read m n t read ≡ total → total ≡ Err f
 judged_fault m n t read total f bad so_far = sym so_far ∙ ap (verdict_read m n t) bad
 
-allowed_verdict : (m : Monitor) (n : ℕ) (t : Situation) (e : Event) (es : List Event) → reason_in m t e ≡ 0 → verdict_at m n t (e ∷ es) ≡ verdict_at m (n + 1) (after m.object t e) es
+allowed_verdict : (m : Monitor) (n : ℕ) (t : Situation) (e : Event) (es : List Event) → reason_in m t e ≡ 0
+    → verdict_at m n t (e ∷ es) ≡ verdict_at m (n + 1) (after m.object t e) es
 unfolding verdict_at
 allowed_verdict m n t e es zero_is = rw zero_is refl
 
-allowed_read : (m : Monitor) (n : ℕ) (t : Situation) (e : Event) (new : Result (List Event) ReadFault) → reason_in m t e ≡ 0 → verdict_read m n t (new >>= λ es. Ok (e ∷ es)) ≡ verdict_read m (n + 1) (after m.object t e) new
+allowed_read : (m : Monitor) (n : ℕ) (t : Situation) (e : Event) (new : Result (List Event) ReadFault)
+    → reason_in m t e ≡ 0 → verdict_read m n t (new >>= λ es. Ok (e ∷ es)) ≡ verdict_read m (n + 1) (after m.object t e)
+    new
 allowed_read m n t e (Ok es) zero_is = ap (λ v. Ok v) (allowed_verdict m n t e es zero_is)
 allowed_read m n t e (Err f) zero_is = refl
 
-pub judged_more : (m : Monitor) (n r : ℕ) (t u : Situation) (e : Event) (read new : Result (List Event) ReadFault) (total : Result Verdict ReadFault) → read ≡ (new >>= λ es. Ok (e ∷ es)) → r ≡ reason_in m t e → r ≡ 0 → u ≡ after m.object t e
+pub judged_more : (m : Monitor) (n r : ℕ) (t u : Situation) (e : Event) (read new : Result (List Event) ReadFault)
+    (total : Result Verdict ReadFault) → read ≡ (new >>= λ es. Ok (e ∷ es)) → r ≡ reason_in m t e → r ≡ 0
+    → u ≡ after m.object t e
     → verdict_read m n t read ≡ total → verdict_read m (n + 1) u new ≡ total
 judged_more m n r t u e read new total more is zero_is step so_far =
-    ap (λ x. verdict_read m (n + 1) x new) step ∙ (sym (allowed_read m n t e new (sym is ∙ zero_is)) ∙ (ap (verdict_read m n t) (sym more) ∙ so_far))
+    ap (λ x. verdict_read m (n + 1) x new) step
+    ∙ (sym (allowed_read m n t e new (sym is ∙ zero_is)) ∙ (ap (verdict_read m n t) (sym more) ∙ so_far))
 
-forbidden_verdict : (m : Monitor) (n : ℕ) (t : Situation) (e : Event) (es : List Event) (b : Bool) → (reason_in m t e == 0) ≡ b → reason_in m t e ≢ 0 → cond b (verdict_at m (n + 1) (after m.object t e) es) (Forbidden (n + 1) (reason_in m t e)) ≡ Forbidden (n + 1) (reason_in m t e)
+forbidden_verdict : (m : Monitor) (n : ℕ) (t : Situation) (e : Event) (es : List Event) (b : Bool)
+    → (reason_in m t e == 0) ≡ b → reason_in m t e ≢ 0
+    → cond b (verdict_at m (n + 1) (after m.object t e) es) (Forbidden (n + 1) (reason_in m t e)) ≡ Forbidden (n + 1)
+    (reason_in m t e)
 forbidden_verdict m n t e es true is some = absurd (some (eqb-true _ _ is))
 forbidden_verdict m n t e es false is some = refl
 
-forbidden_read : (m : Monitor) (n : ℕ) (t : Situation) (e : Event) (new : Result (List Event) ReadFault) → reason_in m t e ≢ 0 → verdict_read m n t (new >>= λ es. Ok (e ∷ es)) ≡ (read_through new >>= λ _. Ok (Forbidden (n + 1) (reason_in m t e)))
+forbidden_read : (m : Monitor) (n : ℕ) (t : Situation) (e : Event) (new : Result (List Event) ReadFault)
+    → reason_in m t e ≢ 0
+    → verdict_read m n t (new >>= λ es. Ok (e ∷ es)) ≡ (read_through new >>= λ _. Ok
+    (Forbidden (n + 1) (reason_in m t e)))
 unfolding verdict_at
 forbidden_read m n t e (Ok es) some = ap (λ v. Ok v) (forbidden_verdict m n t e es (reason_in m t e == 0) refl some)
 forbidden_read m n t e (Err f) some = refl
 
-forbidden_then : (m : Monitor) (n r : ℕ) (t : Situation) (e : Event) (read new : Result (List Event) ReadFault) (total : Result Verdict ReadFault) → read ≡ (new >>= λ es. Ok (e ∷ es)) → r ≡ reason_in m t e → r ≢ 0
+forbidden_then : (m : Monitor) (n r : ℕ) (t : Situation) (e : Event) (read new : Result (List Event) ReadFault)
+    (total : Result Verdict ReadFault) → read ≡ (new >>= λ es. Ok (e ∷ es)) → r ≡ reason_in m t e → r ≢ 0
     → verdict_read m n t read ≡ total → total ≡ (read_through new >>= λ _. Ok (Forbidden (n + 1) r))
 forbidden_then m n r t e read new total more is some so_far =
-    sym so_far ∙ (ap (verdict_read m n t) more ∙ (forbidden_read m n t e new (λ z. some (is ∙ z)) ∙ ap (λ x. read_through new >>= λ _. Ok (Forbidden (n + 1) x)) (sym is)))
+    sym so_far ∙ (ap (verdict_read m n t) more
+    ∙ (forbidden_read m n t e new (λ z. some (is ∙ z))
+    ∙ ap (λ x. read_through new >>= λ _. Ok (Forbidden (n + 1) x)) (sym is)))
 
-pub judged_forbidden : (m : Monitor) (n r : ℕ) (t : Situation) (e : Event) (read new : Result (List Event) ReadFault) (total : Result Verdict ReadFault) → read ≡ (new >>= λ es. Ok (e ∷ es)) → r ≡ reason_in m t e → r ≢ 0
+pub judged_forbidden : (m : Monitor) (n r : ℕ) (t : Situation) (e : Event) (read new : Result (List Event) ReadFault)
+    (total : Result Verdict ReadFault) → read ≡ (new >>= λ es. Ok (e ∷ es)) → r ≡ reason_in m t e → r ≢ 0
     → verdict_read m n t read ≡ total → Ok tt ≡ read_through new → total ≡ Ok (Forbidden (n + 1) r)
 judged_forbidden m n r t e read new total more is some so_far through =
-    forbidden_then m n r t e read new total more is some so_far ∙ ap (λ (x : Result (Unit {0}) ReadFault). x >>= λ _. Ok (Forbidden (n + 1) r)) (sym through)
+    forbidden_then m n r t e read new total more is some so_far
+    ∙ ap (λ (x : Result (Unit {0}) ReadFault). x >>= λ _. Ok (Forbidden (n + 1) r)) (sym through)
 
-pub judged_unreadable : (m : Monitor) (n r : ℕ) (t : Situation) (e : Event) (read new : Result (List Event) ReadFault) (total : Result Verdict ReadFault) (f : ReadFault) → read ≡ (new >>= λ es. Ok (e ∷ es)) → r ≡ reason_in m t e → r ≢ 0
+pub judged_unreadable : (m : Monitor) (n r : ℕ) (t : Situation) (e : Event) (read new : Result (List Event) ReadFault)
+    (total : Result Verdict ReadFault) (f : ReadFault) → read ≡ (new >>= λ es. Ok (e ∷ es)) → r ≡ reason_in m t e
+    → r ≢ 0
     → verdict_read m n t read ≡ total → Err f ≡ read_through new → total ≡ Err f
 judged_unreadable m n r t e read new total f more is some so_far through =
-    forbidden_then m n r t e read new total more is some so_far ∙ ap (λ (x : Result (Unit {0}) ReadFault). x >>= λ _. Ok (Forbidden (n + 1) r)) (sym through)
+    forbidden_then m n r t e read new total more is some so_far
+    ∙ ap (λ (x : Result (Unit {0}) ReadFault). x >>= λ _. Ok (Forbidden (n + 1) r)) (sym through)
 
 -- the reason that a replay gives is that of the monitor
-pub reason_there : (k : Rules) (seats n conds : ℕ) (o : Object) (d : List ℕ) (t : Situation) (e : Event) (r : ℕ) → n ≡ seats → r ≡ reason_in (monitor k n conds o []) t e → r ≡ reason_in (monitor k seats conds o d) t e
+pub reason_there : (k : Rules) (seats n conds : ℕ) (o : Object) (d : List ℕ) (t : Situation) (e : Event) (r : ℕ)
+    → n ≡ seats → r ≡ reason_in (monitor k n conds o []) t e → r ≡ reason_in (monitor k seats conds o d) t e
 reason_there k seats n conds o d t e r a b = b ∙ (ap (λ x. reason_in (monitor k x conds o []) t e) a ∙ reason_opening k seats conds o d t e)
 
 -- ---- reading on, and keeping nothing
 
-pub through_more : (read new total : Result (List Event) ReadFault) (e : Event) → read ≡ (new >>= λ es. Ok (e ∷ es)) → read_through read ≡ read_through total → read_through new ≡ read_through total
+pub through_more : (read new total : Result (List Event) ReadFault) (e : Event) → read ≡ (new >>= λ es. Ok (e ∷ es))
+    → read_through read ≡ read_through total → read_through new ≡ read_through total
 through_more read (Ok es) total e more so_far = ap read_through (sym more) ∙ so_far
 through_more read (Err f) total e more so_far = ap read_through (sym more) ∙ so_far
 
 -- ---- the whole text
 
-behind_verdict : (h : Heading) (read : Result (List Event) ReadFault) → ((read >>= λ es. Ok (h, es)) >>= λ x. Ok (history_verdict x)) ≡ lines_verdict h read
+behind_verdict : (h : Heading) (read : Result (List Event) ReadFault)
+    → ((read >>= λ es. Ok (h, es)) >>= λ x. Ok (history_verdict x)) ≡ lines_verdict h read
 behind_verdict h (Ok es) = refl
 behind_verdict h (Err f) = refl
 
-pub opened_text : (bytes : List ℕ) (h : Heading) (left : LinesLeft) → Ok (h, left) ≡ opened_at header_at (2 ^ 25) (lines_of bytes) → text_verdict bytes ≡ lines_verdict h (items_left event_at left)
+pub opened_text : (bytes : List ℕ) (h : Heading) (left : LinesLeft)
+    → Ok (h, left) ≡ opened_at header_at (2 ^ 25) (lines_of bytes)
+    → text_verdict bytes ≡ lines_verdict h (items_left event_at left)
 opened_text bytes h left opened =
-    ap (λ r. r >>= λ x. Ok (history_verdict x)) (lines_behind header_at event_under (2 ^ 25) (lines_of bytes) ∙ ap (behind event_under) (sym opened)) ∙ behind_verdict h (items_left event_at left)
+    ap (λ r. r >>= λ x. Ok (history_verdict x)) (lines_behind header_at event_under (2 ^ 25) (lines_of bytes)
+    ∙ ap (behind event_under) (sym opened)) ∙ behind_verdict h (items_left event_at left)
 
 pub not_opened_text : (bytes : List ℕ) (f : ReadFault) → Err f ≡ opened_at header_at (2 ^ 25) (lines_of bytes) → text_verdict bytes ≡ Err f
-not_opened_text bytes f bad = ap (λ r. r >>= λ x. Ok (history_verdict x)) (lines_behind header_at event_under (2 ^ 25) (lines_of bytes) ∙ ap (behind event_under) (sym bad))
+not_opened_text bytes f bad =
+    ap (λ r. r >>= λ x. Ok (history_verdict x)) (lines_behind header_at event_under (2 ^ 25) (lines_of bytes)
+    ∙ ap (behind event_under) (sym bad))
 
-pub opened_room : {H : Type 0} → (head : List Word → Taken H) (limit : ℕ) (lines : List (List ℕ)) (x : H × LinesLeft) → Ok x ≡ opened_at head limit lines → x.1.room ≡ limit
+pub opened_room : {H : Type 0} → (head : List Word → Taken H) (limit : ℕ) (lines : List (List ℕ)) (x : H × LinesLeft)
+    → Ok x ≡ opened_at head limit lines → x.1.room ≡ limit
 unfolding opened_at
 opened_room {H = H} head limit [] x e = absurd cc
 opened_room {H = H} head limit (rest ∷ []) x e = absurd cc
 opened_room {H = H} head limit (l ∷ next ∷ more) x e = of_header (header_line head l) e
   where
-    of_header : (r : Result H ReadFault) → Ok x ≡ (r >>= λ h. Ok (h, record { lines = next ∷ more; number = 2; room = limit })) → x.1.room ≡ limit
+    of_header : (r : Result H ReadFault)
+        → Ok x ≡ (r >>= λ h. Ok (h, record { lines = next ∷ more; number = 2; room = limit })) → x.1.room ≡ limit
     of_header (Ok h) e =
         let same_pair : x ≡ (h, record { lines = next ∷ more; number = 2; room = limit }) = cc in
         ap (λ (y : H × LinesLeft). y.1.room) same_pair
@@ -135,11 +174,14 @@ opened_room {H = H} head limit (l ∷ next ∷ more) x e = of_header (header_lin
 
 -- ---- what the next line gave
 
-pub item_found : (r : Result (Option Event) ReadFault) (old new : Result (List Event) ReadFault) (e : Event) → r ≡ Ok (Some e) → IsNextItem r old new → old ≡ (new >>= λ es. Ok (e ∷ es))
+pub item_found : (r : Result (Option Event) ReadFault) (old new : Result (List Event) ReadFault) (e : Event)
+    → r ≡ Ok (Some e) → IsNextItem r old new → old ≡ (new >>= λ es. Ok (e ∷ es))
 item_found r old new e is h = subst (λ (x : Result (Option Event) ReadFault). IsNextItem x old new) is h
 
-pub none_found : (r : Result (Option Event) ReadFault) (old new : Result (List Event) ReadFault) → r ≡ Ok None → IsNextItem r old new → old ≡ Ok []
+pub none_found : (r : Result (Option Event) ReadFault) (old new : Result (List Event) ReadFault) → r ≡ Ok None
+    → IsNextItem r old new → old ≡ Ok []
 none_found r old new is h = subst (λ (x : Result (Option Event) ReadFault). IsNextItem x old new) is h
 
-pub room_found : (r : Result (Option Event) ReadFault) (old new : ℕ) (e : Event) → r ≡ Ok (Some e) → IfOk r (λ x. IfSome x (λ _. new + 1 ≡ old)) → new + 1 ≡ old
+pub room_found : (r : Result (Option Event) ReadFault) (old new : ℕ) (e : Event) → r ≡ Ok (Some e)
+    → IfOk r (λ x. IfSome x (λ _. new + 1 ≡ old)) → new + 1 ≡ old
 room_found r old new e is h = subst (λ (x : Result (Option Event) ReadFault). IfOk x (λ y. IfSome y (λ _. new + 1 ≡ old))) is h

@@ -21,7 +21,8 @@ use Rattle.monk_audit.specs.declared.text_verdict.TextVerdict.TheVariants.{Judge
 -- the whole history is the law `verdict_at_is`
 unfoldable pub verdict_at : Monitor → ℕ → Situation → List Event → Verdict
 verdict_at m n t [] = Legal n
-verdict_at m n t (e ∷ es) = if reason_in m t e == 0 then verdict_at m (n + 1) (after m.object t e) es else Forbidden (n + 1) (reason_in m t e)
+verdict_at m n t (e ∷ es) = if reason_in m t e == 0 then verdict_at m (n + 1) (after m.object t e) es
+    else Forbidden (n + 1) (reason_in m t e)
 
 -- the same of events that are still to be read
 abbrev pub verdict_read : Monitor → ℕ → Situation → Result (List Event) ReadFault → Result Verdict ReadFault

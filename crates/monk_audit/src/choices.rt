@@ -60,7 +60,8 @@ pub fn may_choose(
     seat: u8,
     next: Next,
 ) -> bool
-    ensures { result ≡ choice.may_choose rules (record { waiters = waiters.now; signallers = signallers.now; ready = just ready }) seat next }
+    ensures { result ≡ choice.may_choose rules
+        (record { waiters = waiters.now; signallers = signallers.now; ready = just ready }) seat next }
 {
     match next {
         Next::Stay => false,
@@ -91,7 +92,8 @@ pub fn may_signal(
     seat: u8,
     next: Next,
 ) -> bool
-    ensures { result ≡ choice.may_signal rules (record { waiters = waiters.now; signallers = signallers.now; ready = just ready }) seat next }
+    ensures { result ≡ choice.may_signal rules
+        (record { waiters = waiters.now; signallers = signallers.now; ready = just ready }) seat next }
 {
     match next {
         Next::Stay => signallers.first() == Some(&seat) && rules.waiter <= rules.signaller,

@@ -10,7 +10,8 @@ use monk_history::Event;
 #[inline(always)]
 pub fn mark_inside(inside: &mut [bool], event: Event)
     requires { events.seat_of event < length inside.old }
-    ensures { (j : ℕ) → slice_index_or inside.new j false ≡ (slice_index_or inside.old j false && not (turns.is_exit_of j event)) || turns.is_enter_of j event }
+    ensures { (j : ℕ) → slice_index_or inside.new j
+        false ≡ (slice_index_or inside.old j false && not (turns.is_exit_of j event)) || turns.is_enter_of j event }
 {
     match event {
         Event::Enter(seat, _) => inside[seat as usize] = true,

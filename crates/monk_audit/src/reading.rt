@@ -45,7 +45,9 @@ fn judge<T: Guarded>(
     lines: ItemLines<'_>,
 ) -> Result<Verdict, ReadFault>
     requires { lines.room ≤ 2 ^ 25 }
-    ensures { Gives same result (verdict_of_reading (monitor rules header.now.seats header.now.conds T.meaning (T.state object)) (items_left event_at lines.entry)) }
+    ensures { Gives same result
+        (verdict_of_reading (monitor rules header.now.seats header.now.conds T.meaning (T.state object))
+        (items_left event_at lines.entry)) }
 {
     let mut object = object;
     let mut lines = lines;

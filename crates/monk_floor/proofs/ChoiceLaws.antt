@@ -1,5 +1,6 @@
 -- The choice by the fronts of the queues is the choice
-use Rattle.std.proofs.Common.{◌≡◌, ℕ, Bool, true, false, cond, not, ◌&&◌, ◌||◌, ◌==◌, Option, List, [], ◌∷◌, ◌++◌, refl, sym, ap, subst, ◌∙◌, eq-eqb}
+use Rattle.std.proofs.Common.{◌≡◌, ℕ, Bool, true, false, cond, not, ◌&&◌, ◌||◌, ◌==◌, Option, List, [], ◌∷◌, ◌++◌, refl}
+use Rattle.std.proofs.Common.{sym, ap, subst, ◌∙◌, eq-eqb}
 use Rattle.std.specs.Prelude.{slice_get, nat_le, if◌then◌else◌}
 use Rattle.monk_kinds.specs.declared.mode.Rules.{Rules}
 use Rattle.monk_kinds.specs.declared.mode.Pick.{Pick}
@@ -47,7 +48,9 @@ parts k none next empty first s known WishSignaller =
     else if not none && (empty || nat_le k.signaller k.waiter) then next
     else if first == s then Stay else Signaller first
 
-parts_are : (k : Rules) (q : Queues) (s : ℕ) (known : Bool) (wish : Pick) → choice_by k q s known wish ≡ parts k (is_empty (inner_waiters k q)) (waiter_choice k q) (is_empty q.signallers) (front q.signallers) s known wish
+parts_are : (k : Rules) (q : Queues) (s : ℕ) (known : Bool) (wish : Pick)
+    → choice_by k q s known wish ≡ parts k (is_empty (inner_waiters k q)) (waiter_choice k q) (is_empty q.signallers)
+    (front q.signallers) s known wish
 parts_are k q s known WishEntry = refl
 parts_are k q s known WishWaiter = refl
 parts_are k q s known WishSignaller = refl
@@ -64,10 +67,19 @@ inner_first : (b : Bool) (ws rs : List ℕ) → is_empty (cond b (just (slice_ge
 inner_first true ws rs = empty_first ws
 inner_first false ws rs = empty_first rs
 
-choice_first : (k : Rules) (ws ss rs : List ℕ) (s : ℕ) (known : Bool) (wish : Pick) → choice_by k (record { waiters = just (slice_get ws 0); signallers = just (slice_get ss 0); ready = just (slice_get rs 0) }) s known wish ≡ choice_by k (record { waiters = ws; signallers = ss; ready = rs }) s known wish
+choice_first : (k : Rules) (ws ss rs : List ℕ) (s : ℕ) (known : Bool) (wish : Pick)
+    → choice_by k (record {
+      waiters = just (slice_get ws 0);
+      signallers = just (slice_get ss 0);
+      ready =
+          just (slice_get rs 0);
+    }) s known wish ≡ choice_by k (record { waiters = ws; signallers = ss; ready = rs }) s known
+    wish
 choice_first k ws ss rs s known wish =
     parts_are k (record { waiters = just (slice_get ws 0); signallers = just (slice_get ss 0); ready = just (slice_get rs 0) }) s known wish
-    ∙ ((λ i. parts k (inner_first (has_conditions k.mode) ws rs i) (cond (has_conditions k.mode) (Waiter (front_first ws i)) (UntilSeat (front_first rs i))) (empty_first ss i) (front_first ss i) s known wish)
+    ∙ ((λ i. parts k (inner_first (has_conditions k.mode) ws rs i)
+    (cond (has_conditions k.mode) (Waiter (front_first ws i)) (UntilSeat (front_first rs i))) (empty_first ss i)
+    (front_first ss i) s known wish)
     ∙ sym (parts_are k (record { waiters = ws; signallers = ss; ready = rs }) s known wish))
 
 pub stays_is : (o : Object) (t : Situation) (e : Event) → stays_by o t.condition t.state e ≡ must_stay o t e
@@ -80,40 +92,61 @@ stays_is o t (SignalLeave s c x) = refl
 stays_is o t (Until s p x) = refl
 stays_is o t (Resume s q) = refl
 
-chosen_stay : (k : Rules) (o : Object) (t : Situation) (e : Event) (known : Bool) (wish : Pick) (b : Bool) → b ≡ stays_by o t.condition t.state e → b ≡ true → Stay ≡ choice_of k o t e known wish
-chosen_stay k o t e known wish b f h = ap (λ z. cond z Stay (choice_by k (queues_at o t e) (seat_of e) known wish)) (sym h ∙ (f ∙ stays_is o t e))
+chosen_stay : (k : Rules) (o : Object) (t : Situation) (e : Event) (known : Bool) (wish : Pick) (b : Bool)
+    → b ≡ stays_by o t.condition t.state e → b ≡ true → Stay ≡ choice_of k o t e known wish
+chosen_stay k o t e known wish b f h = ap (λ z. cond z Stay (choice_by k (queues_at o t e) (seat_of e) known wish))
+    (sym h ∙ (f ∙ stays_is o t e))
 
-chosen_next : (k : Rules) (o : Object) (t : Situation) (e : Event) (known : Bool) (wish : Pick) (b : Bool) → b ≡ stays_by o t.condition t.state e → b ≡ false
-    → (w s r : Option ℕ) (n : Next) → w ≡ slice_get (t.waiters ++ serves t.condition e) 0 → s ≡ slice_get (t.signallers ++ signals t.condition e) 0 → r ≡ slice_get (ready_of o t.state t.untils) 0
-    → n ≡ choice_by k (record { waiters = just w; signallers = just s; ready = just r }) (seat_of e) known wish → n ≡ choice_of k o t e known wish
+chosen_next : (k : Rules) (o : Object) (t : Situation) (e : Event) (known : Bool) (wish : Pick) (b : Bool)
+    → b ≡ stays_by o t.condition t.state e → b ≡ false
+    → (w s r : Option ℕ) (n : Next) → w ≡ slice_get (t.waiters ++ serves t.condition e) 0
+    → s ≡ slice_get (t.signallers ++ signals t.condition e) 0 → r ≡ slice_get (ready_of o t.state t.untils) 0
+    → n ≡ choice_by k (record { waiters = just w; signallers = just s; ready = just r }) (seat_of e) known wish
+    → n ≡ choice_of k o t e known wish
 chosen_next k o t e known wish b f h w s r n x y z c =
     c
     ∙ (ap (λ q. choice_by k q (seat_of e) known wish) (λ i. record { waiters = just (x i); signallers = just (y i); ready = just (z i) })
-    ∙ (choice_first k (t.waiters ++ serves t.condition e) (t.signallers ++ signals t.condition e) (ready_of o t.state t.untils) (seat_of e) known wish
+    ∙ (choice_first k (t.waiters ++ serves t.condition e) (t.signallers ++ signals t.condition e)
+    (ready_of o t.state t.untils) (seat_of e) known wish
     ∙ ap (λ v. cond v Stay (choice_by k (queues_at o t e) (seat_of e) known wish)) (sym h ∙ (f ∙ stays_is o t e))))
 
-module _ {m : Monitor} {budget : ℕ} {h : List Event} {capacity : ℕ} {q : QueueLists} {state : List ℕ} {turn : Turn} {inside : List Bool} {spent granted : List ℕ} {entered : ℕ} where
-  pub kept_stay : KeepsHistory m budget h capacity q state turn inside spent granted entered → (e : Event) (known : Bool) (wish : Pick) (b : Bool) → b ≡ stays_by m.object (queue_at q.conditions) state e → b ≡ true
+module _ {m : Monitor} {budget : ℕ} {h : List Event} {capacity : ℕ} {q : QueueLists} {state : List ℕ} {turn : Turn}
+    {inside : List Bool} {spent granted : List ℕ} {entered : ℕ} where
+  pub kept_stay : KeepsHistory m budget h capacity q state turn inside spent granted entered
+      → (e : Event) (known : Bool) (wish : Pick) (b : Bool) → b ≡ stays_by m.object (queue_at q.conditions) state e
+      → b ≡ true
       → Stay ≡ choice_of m.kind m.object (situation m h) e known wish
   kept_stay kept e known wish b f g =
-      chosen_stay m.kind m.object (shown_situation q state turn inside (not (is_empty h))) e known wish b f g ∙ ap (λ t. choice_of m.kind m.object t e known wish) kept.stands
+      chosen_stay m.kind m.object (shown_situation q state turn inside (not (is_empty h))) e known wish b f g
+      ∙ ap (λ t. choice_of m.kind m.object t e known wish) kept.stands
 
-  pub kept_next : KeepsHistory m budget h capacity q state turn inside spent granted entered → (e : Event) (known : Bool) (wish : Pick) (b : Bool) → b ≡ stays_by m.object (queue_at q.conditions) state e → b ≡ false
-      → (w s r : Option ℕ) (n : Next) (k : Rules) (v : ℕ) → w ≡ slice_get (q.waiters ++ serves (queue_at q.conditions) e) 0 → s ≡ slice_get (q.signallers ++ signals (queue_at q.conditions) e) 0 → r ≡ slice_get (ready_of m.object state q.untils) 0
+  pub kept_next : KeepsHistory m budget h capacity q state turn inside spent granted entered
+      → (e : Event) (known : Bool) (wish : Pick) (b : Bool) → b ≡ stays_by m.object (queue_at q.conditions) state e
+      → b ≡ false
+      → (w s r : Option ℕ) (n : Next) (k : Rules) (v : ℕ)
+      → w ≡ slice_get (q.waiters ++ serves (queue_at q.conditions) e) 0
+      → s ≡ slice_get (q.signallers ++ signals (queue_at q.conditions) e) 0
+      → r ≡ slice_get (ready_of m.object state q.untils) 0
       → k ≡ m.kind → v ≡ seat_of e → n ≡ choice_by k (record { waiters = just w; signallers = just s; ready = just r }) v known wish
       → n ≡ choice_of m.kind m.object (situation m h) e known wish
   kept_next kept e known wish b f g w s r n k v x y z a c d =
       chosen_next m.kind m.object (shown_situation q state turn inside (not (is_empty h))) e known wish b f g w s r n x y z
-      (d ∙ (ap (λ j. choice_by j (record { waiters = just w; signallers = just s; ready = just r }) v known wish) a ∙ ap (λ j. choice_by m.kind (record { waiters = just w; signallers = just s; ready = just r }) j known wish) c))
+      (d ∙ (ap (λ j. choice_by j (record { waiters = just w; signallers = just s; ready = just r }) v known wish) a
+      ∙ ap (λ j. choice_by m.kind (record { waiters = just w; signallers = just s; ready = just r }) j known wish)
+      c))
       ∙ ap (λ t. choice_of m.kind m.object t e known wish) kept.stands
 
-  pub kept_allowed : KeepsHistory m budget h capacity q state turn inside spent granted entered → IsKind m.kind → (e : Event) (known : Bool) (wish : Pick) (n : Next) → MayCall m h e → ((d : List ℕ) → is_right_reply m.object d e ≡ true)
+  pub kept_allowed : KeepsHistory m budget h capacity q state turn inside spent granted entered → IsKind m.kind
+      → (e : Event) (known : Bool) (wish : Pick) (n : Next) → MayCall m h e
+      → ((d : List ℕ) → is_right_reply m.object d e ≡ true)
       → n ≡ choice_of m.kind m.object (situation m h) e known wish → IsAllowed m h (with_next n e)
   kept_allowed kept k e known wish n c r x =
       subst (λ z. IsAllowed m h (with_next z e)) (sym x) (chosen_allowed m (situation m h) e known wish (in_order kept k) c (r _))
 
   -- an act with the object's reply is allowed
-  pub kept_act : KeepsHistory m budget h capacity q state turn inside spent granted entered → (s : ℕ) (op : Op) (reply : ℕ) → MayCall m h (Act s op 0) → reply ≡ m.object.reply state op → IsAllowed m h (Act s op reply)
+  pub kept_act : KeepsHistory m budget h capacity q state turn inside spent granted entered
+      → (s : ℕ) (op : Op) (reply : ℕ) → MayCall m h (Act s op 0) → reply ≡ m.object.reply state op
+      → IsAllowed m h (Act s op reply)
   kept_act kept s op reply c r = record {
     in_range = c.in_range;
     offered = c.offered;

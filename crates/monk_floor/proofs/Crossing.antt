@@ -29,10 +29,21 @@ event_send = search sendable depth 40 fits 100000
 snapshot_send : (T : RattleType) → IsSend (Snapshot.the_row T)
 snapshot_send T = search sendable depth 40
 
-inside_send : (K T : RattleType) (k : Kind.Ghosts K.Denot) (t : Guarded.Ghosts T.Denot) → IsSend K → IsSend T → IsSend (Inside.the_row K T k t)
+inside_send : (K T : RattleType) (k : Kind.Ghosts K.Denot) (t : Guarded.Ghosts T.Denot) → IsSend K → IsSend T
+    → IsSend (Inside.the_row K T k t)
 inside_send K T k t sk st =
-    let all : AllSend (shape (Inside.the_type K T k t)).fields = (st, (snapshot_send T, (Vec-send Event.the_row event_send, (ledger_send, (search sendable, (search sendable, (search sendable, (search sendable, tt)))))))) in
+    let all : AllSend (shape (Inside.the_type K T k t)).fields = (
+      st,
+      (
+        snapshot_send T,
+        (
+          Vec-send Event.the_row event_send,
+          (ledger_send, (search sendable, (search sendable, (search sendable, (search sendable, tt))))),
+        ),
+      ),
+    ) in
     recorded_send _ _ _ ((Inside.the_type K T k t).to_one) (struct_send (shape (Inside.the_type K T k t)) all)
 
-pub floor_send : (K T : RattleType) (k : Kind.Ghosts K.Denot) (t : Guarded.Ghosts T.Denot) → IsSend K → IsSend T → IsSend (Floor.the_row K T k t)
+pub floor_send : (K T : RattleType) (k : Kind.Ghosts K.Denot) (t : Guarded.Ghosts T.Denot) → IsSend K → IsSend T
+    → IsSend (Floor.the_row K T k t)
 floor_send K T k t sk st = view_send (Inside.the_row K T k t) _ _ _ _ (inside_send K T k t sk st)

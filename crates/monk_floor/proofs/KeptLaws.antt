@@ -1,5 +1,6 @@
 -- What a floor keeps, before an event and after it
-use Rattle.std.proofs.Common.{◌≡◌, ℕ, ◌+◌, ◌-◌, ◌*◌, ◌<◌, ◌≤◌, zero, suc, Bool, true, false, cond, ◌&&◌, ◌||◌, not, ◌==◌, All, Some, List, [], ◌∷◌, ◌++◌, length, refl, sym, ap, subst, ◌∙◌, arith}
+use Rattle.std.proofs.Common.{◌≡◌, ℕ, ◌+◌, ◌-◌, ◌*◌, ◌<◌, ◌≤◌, zero, suc, Bool, true, false, cond, ◌&&◌, ◌||◌, not}
+use Rattle.std.proofs.Common.{◌==◌, All, Some, List, [], ◌∷◌, ◌++◌, length, refl, sym, ap, subst, ◌∙◌, arith}
 use Rattle.std.specs.Prelude.{filter, nat_lt, slice_index_or}
 use Rattle.std.specs.List.{list_all}
 use Rattle.std.proofs.lemmas.Bool.{eqb-true}
@@ -27,7 +28,9 @@ use Rattle.monk_history.specs.declared.event.Turn.TheVariants.{Open}
 use Rattle.monk_history.proofs.MeaningLaws.TestLaws.{and_left, and_right}
 use Rattle.monk_history.proofs.MeaningLaws.LegalLaws.{legal-push, legal_none}
 use Rattle.monk_history.proofs.MeaningLaws.StepLaws.{same_situation, legal_situation-push, situation-none}
-use Rattle.monk_history.proofs.MeaningLaws.CountLaws.{length-events_of-push, granted_of-push, enters_of-push, granted_few, enters_few, granted_none, enters_none, few_events, room_left, history_few}
+use Rattle.monk_history.proofs.MeaningLaws.CountLaws.{length-events_of-push, granted_of-push, enters_of-push}
+use Rattle.monk_history.proofs.MeaningLaws.CountLaws.{granted_few, enters_few, granted_none, enters_none, few_events}
+use Rattle.monk_history.proofs.MeaningLaws.CountLaws.{room_left, history_few}
 use Rattle.monk_history.proofs.MeaningLaws.ReleaseLaws.{IsInOrder, legal_order, HasRoom, room_for, caller_apart, seat_in_range}
 use Rattle.monk_history.proofs.MeaningLaws.MoveLaws.{queued_once, caller_unqueued}
 use Rattle.monk_history.specs.Meaning.Standing.{in_queues}
@@ -35,29 +38,43 @@ use Rattle.monk_floor.specs.Queues.{QueueLists, queue_at, HasPlaces, IsOrderly, 
 use Rattle.monk_floor.specs.Kept.{shown_situation, KeepsHistory}
 use Rattle.monk_floor.specs.Ready.{HasRoomFor}
 
-range_waits : (m : Monitor) (e : Event) → is_in_range m.seats m.conds m.object.codes m.object.predicates e ≡ true → is_condition m.conds (waits_on e) ≡ true
-range_waits m e h = and_right _ _ (and_left _ (is_condition m.conds (signals_on e)) (and_left _ (fits_object m.object.codes m.object.predicates e) h))
+range_waits : (m : Monitor) (e : Event) → is_in_range m.seats m.conds m.object.codes m.object.predicates e ≡ true
+    → is_condition m.conds (waits_on e) ≡ true
+range_waits m e h = and_right _ _
+    (and_left _ (is_condition m.conds (signals_on e)) (and_left _ (fits_object m.object.codes m.object.predicates e) h))
 
-range_signals : (m : Monitor) (e : Event) → is_in_range m.seats m.conds m.object.codes m.object.predicates e ≡ true → is_condition m.conds (signals_on e) ≡ true
+range_signals : (m : Monitor) (e : Event) → is_in_range m.seats m.conds m.object.codes m.object.predicates e ≡ true
+    → is_condition m.conds (signals_on e) ≡ true
 range_signals m e h = and_right _ _ (and_left _ (fits_object m.object.codes m.object.predicates e) h)
 
-named_in_range : (m : Monitor) (e : Event) → is_in_range m.seats m.conds m.object.codes m.object.predicates e ≡ true → list_all (λ j. nat_lt j m.seats) (named_seat (next_of e)) ≡ true
-named_in_range m e h = and_right (nat_lt (seat_of e) m.seats) _ (and_left _ (is_condition m.conds (waits_on e)) (and_left _ (is_condition m.conds (signals_on e)) (and_left _ (fits_object m.object.codes m.object.predicates e) h)))
+named_in_range : (m : Monitor) (e : Event) → is_in_range m.seats m.conds m.object.codes m.object.predicates e ≡ true
+    → list_all (λ j. nat_lt j m.seats) (named_seat (next_of e)) ≡ true
+named_in_range m e h =
+    and_right (nat_lt (seat_of e) m.seats) _
+    (and_left _ (is_condition m.conds (waits_on e))
+    (and_left _ (is_condition m.conds (signals_on e))
+    (and_left _ (fits_object m.object.codes m.object.predicates e) h)))
 
-range_object : (m : Monitor) (e : Event) → is_in_range m.seats m.conds m.object.codes m.object.predicates e ≡ true → fits_object m.object.codes m.object.predicates e ≡ true
+range_object : (m : Monitor) (e : Event) → is_in_range m.seats m.conds m.object.codes m.object.predicates e ≡ true
+    → fits_object m.object.codes m.object.predicates e ≡ true
 range_object m e h = and_right _ _ h
 
 -- whoever joins the waits-until has a predicate in range
-joins_in_range : (codes predicates : ℕ) (e : Event) (ws : List (ℕ × ℕ)) → fits_object codes predicates e ≡ true → All (λ (w : ℕ × ℕ). w.1 < predicates) ws → All (λ (w : ℕ × ℕ). w.1 < predicates) (filter (λ w. not (chooses e w)) ws ++ waits_until e)
+joins_in_range : (codes predicates : ℕ) (e : Event) (ws : List (ℕ × ℕ)) → fits_object codes predicates e ≡ true
+    → All (λ (w : ℕ × ℕ). w.1 < predicates) ws
+    → All (λ (w : ℕ × ℕ). w.1 < predicates) (filter (λ w. not (chooses e w)) ws ++ waits_until e)
 joins_in_range codes predicates e ws h a =
     All-append (λ (w : ℕ × ℕ). w.1 < predicates) (filter (λ w. not (chooses e w)) ws) (waits_until e)
     (All-filter (λ w. not (chooses e w)) (λ (w : ℕ × ℕ). w.1 < predicates) ws a) (joined codes predicates e h)
   where
     one : (predicates s p : ℕ) (b : Bool) → nat_lt p predicates ≡ true → All (λ (w : ℕ × ℕ). w.1 < predicates) (cond b [] ((s, p) ∷ []))
     one predicates s p true h = All-nil (λ (w : ℕ × ℕ). w.1 < predicates)
-    one predicates s p false h = All-cons (λ (w : ℕ × ℕ). w.1 < predicates) (s, p) [] (grind (arith, h)) (All-nil (λ (w : ℕ × ℕ). w.1 < predicates))
+    one predicates s p false h =
+        All-cons (λ (w : ℕ × ℕ). w.1 < predicates) (s, p) [] (grind (arith, h))
+        (All-nil (λ (w : ℕ × ℕ). w.1 < predicates))
 
-    joined : (codes predicates : ℕ) (e : Event) → fits_object codes predicates e ≡ true → All (λ (w : ℕ × ℕ). w.1 < predicates) (waits_until e)
+    joined : (codes predicates : ℕ) (e : Event) → fits_object codes predicates e ≡ true
+        → All (λ (w : ℕ × ℕ). w.1 < predicates) (waits_until e)
     joined codes predicates (Enter s via) h = All-nil (λ (w : ℕ × ℕ). w.1 < predicates)
     joined codes predicates (Act s op r) h = All-nil (λ (w : ℕ × ℕ). w.1 < predicates)
     joined codes predicates (Leave s x) h = All-nil (λ (w : ℕ × ℕ). w.1 < predicates)
@@ -76,15 +93,19 @@ past_none [] i l = refl
 past_none (x ∷ xs) zero l = absurd (omega (arith, l))
 past_none (x ∷ xs) (suc i) l = past_none xs i (omega (arith, l))
 
-module _ {m : Monitor} {budget : ℕ} {h : List Event} {capacity : ℕ} {q : QueueLists} {state : List ℕ} {turn : Turn} {inside : List Bool} {spent granted : List ℕ} {entered : ℕ} where
+module _ {m : Monitor} {budget : ℕ} {h : List Event} {capacity : ℕ} {q : QueueLists} {state : List ℕ} {turn : Turn}
+    {inside : List Bool} {spent granted : List ℕ} {entered : ℕ} where
   pub in_order : KeepsHistory m budget h capacity q state turn inside spent granted entered → IsKind m.kind → IsInOrder m (situation m h)
   in_order kept k = legal_order m h k kept.legal
 
   -- an event that is allowed finds a place in each queue
-  pub places_kept : KeepsHistory m budget h capacity q state turn inside spent granted entered → IsKind m.kind → (e : Event) → IsAllowed m h e → HasPlaces q
+  pub places_kept : KeepsHistory m budget h capacity q state turn inside spent granted entered → IsKind m.kind
+      → (e : Event) → IsAllowed m h e → HasPlaces q
   places_kept kept k e a =
       let o = in_order kept k in
-      let room = room_for m (situation m h) (seat_of e) (seat_in_range m.seats m.conds m.object.codes m.object.predicates e a.in_range) o.placed o.seated (caller_apart m (situation m h) e o.placed a.in_turn a.in_place) in
+      let room = room_for m (situation m h) (seat_of e)
+      (seat_in_range m.seats m.conds m.object.codes m.object.predicates e a.in_range) o.placed o.seated
+      (caller_apart m (situation m h) e o.placed a.in_turn a.in_place) in
       let here = subst (HasRoom m.seats m.conds) (sym kept.stands) room in
       record {
         conditions = λ c l. omega (arith, kept.few, here.conditions c (omega (arith, l, kept.conds)));
@@ -94,30 +115,38 @@ module _ {m : Monitor} {budget : ℕ} {h : List Event} {capacity : ℕ} {q : Que
       }
 
   -- each seat stands in one queue at most, and whoever calls in none
-  orderly_kept : KeepsHistory m budget h capacity q state turn inside spent granted entered → IsKind m.kind → (e : Event) → IsAllowed m h e → IsOrderly q e
+  orderly_kept : KeepsHistory m budget h capacity q state turn inside spent granted entered → IsKind m.kind
+      → (e : Event) → IsAllowed m h e → IsOrderly q e
   orderly_kept kept k e a = record {
     once = λ s. subst (λ n. in_queues n s (shown_situation q state turn inside (not (is_empty h))) ≤ 1) (sym kept.conds)
         (subst (λ t. in_queues m.conds s t ≤ 1) (sym kept.stands) (queued_once m h kept.legal s));
     apart = subst (λ n. in_queues n (seat_of e) (shown_situation q state turn inside (not (is_empty h))) ≡ 0) (sym kept.conds)
-        (subst (λ t. in_queues m.conds (seat_of e) t ≡ 0) (sym kept.stands) (caller_unqueued m (situation m h) e (in_order kept k).placed a));
+        (subst (λ t. in_queues m.conds (seat_of e) t ≡ 0) (sym kept.stands)
+        (caller_unqueued m (situation m h) e (in_order kept k).placed a));
   }
 
-  few_kept : KeepsHistory m budget h capacity q state turn inside spent granted entered → (e : Event) → IsAllowed m h e → length (events_of h (seat_of e)) < budget → length h < 33554432
+  few_kept : KeepsHistory m budget h capacity q state turn inside spent granted entered → (e : Event) → IsAllowed m h e
+      → length (events_of h (seat_of e)) < budget → length h < 33554432
   few_kept kept e a l =
       let s = seat_in_range m.seats m.conds m.object.codes m.object.predicates e a.in_range in
       let low = kept.low in
       few_events m.seats budget (length h) kept.few (grind (arith, low))
-      (room_left m.seats budget (seat_of e) h s (λ j n. sym (kept.counts j) ∙ past_none spent j (omega (arith, n, kept.spent_seats))) kept.within l)
+      (room_left m.seats budget (seat_of e) h s
+      (λ j n. sym (kept.counts j) ∙ past_none spent j (omega (arith, n, kept.spent_seats))) kept.within l)
 
-  pub is_ready : KeepsHistory m budget h capacity q state turn inside spent granted entered → IsKind m.kind → (e : Event) → IsAllowed m h e → length (events_of h (seat_of e)) < budget → HasRoomFor q inside spent granted entered e
+  pub is_ready : KeepsHistory m budget h capacity q state turn inside spent granted entered → IsKind m.kind
+      → (e : Event) → IsAllowed m h e → length (events_of h (seat_of e)) < budget
+      → HasRoomFor q inside spent granted entered e
   is_ready kept k e a l =
       let s = seat_in_range m.seats m.conds m.object.codes m.object.predicates e a.in_range in
       record {
         seat = omega (arith, s, kept.inside_seats);
         counted = omega (arith, s, kept.spent_seats);
         low = let c = kept.counts (seat_of e) in let w = kept.low in grind (arith, c, w, l);
-        named = subst (λ n. list_all (λ j. nat_lt j n) (named_seat (next_of e)) ≡ true) (sym kept.granted_seats) (named_in_range m e a.in_range);
-        low_granted = λ j. let n = few_kept kept e a l in let c = kept.grants_counted j in let f = granted_few h j in grind (arith, n, c, f);
+        named = subst (λ n. list_all (λ j. nat_lt j n) (named_seat (next_of e)) ≡ true) (sym kept.granted_seats)
+            (named_in_range m e a.in_range);
+        low_granted = λ j. let n = few_kept kept e a l in let c = kept.grants_counted j in let f = granted_few h j in
+            grind (arith, n, c, f);
         low_entered = let n = few_kept kept e a l in let c = kept.enters_counted in let f = enters_few h in grind (arith, n, c, f);
         waits = ap (λ n. is_condition n (waits_on e)) kept.conds ∙ range_waits m e a.in_range;
         signals = ap (λ n. is_condition n (signals_on e)) kept.conds ∙ range_signals m e a.in_range;
@@ -127,28 +156,35 @@ module _ {m : Monitor} {budget : ℕ} {h : List Event} {capacity : ℕ} {q : Que
 
   -- the history is no longer than the budgets of all seats
   pub within_budgets : KeepsHistory m budget h capacity q state turn inside spent granted entered → length h ≤ m.seats * budget
-  within_budgets kept = history_few m.seats budget h (λ j n. sym (kept.counts j) ∙ past_none spent j (omega (arith, n, kept.spent_seats))) kept.within
+  within_budgets kept =
+      history_few m.seats budget h (λ j n. sym (kept.counts j) ∙ past_none spent j (omega (arith, n, kept.spent_seats)))
+      kept.within
 
   -- and there is room in the history
-  pub has_room : KeepsHistory m budget h capacity q state turn inside spent granted entered → (e : Event) → IsAllowed m h e → length (events_of h (seat_of e)) < budget → length h < capacity
+  pub has_room : KeepsHistory m budget h capacity q state turn inside spent granted entered → (e : Event)
+      → IsAllowed m h e → length (events_of h (seat_of e)) < budget → length h < capacity
   has_room kept e a l =
       let s = seat_in_range m.seats m.conds m.object.codes m.object.predicates e a.in_range in
-      let r = room_left m.seats budget (seat_of e) h s (λ j n. sym (kept.counts j) ∙ past_none spent j (omega (arith, n, kept.spent_seats))) kept.within l in
+      let r = room_left m.seats budget (seat_of e) h s
+      (λ j n. sym (kept.counts j) ∙ past_none spent j (omega (arith, n, kept.spent_seats))) kept.within l in
       let c = kept.room in omega (arith, r, c)
 
   -- what is kept after an event that is allowed
-  pub kept_push : KeepsHistory m budget h capacity q state turn inside spent granted entered → (e : Event) → IsAllowed m h e → length (events_of h (seat_of e)) < budget
+  pub kept_push : KeepsHistory m budget h capacity q state turn inside spent granted entered → (e : Event)
+      → IsAllowed m h e → length (events_of h (seat_of e)) < budget
       → (capacity2 : ℕ) (q2 : QueueLists) (state2 : List ℕ) (turn2 : Turn) (inside2 : List Bool) (spent2 granted2 : List ℕ) (entered2 : ℕ)
       → capacity2 ≡ capacity → IsMoved q e q2 → state2 ≡ data_after m.object state e → turn2 ≡ turn_by (seat_of e) (next_of e)
       → ((j : ℕ) → slice_index_or inside2 j false ≡ (slice_index_or inside j false && not (is_exit_of j e)) || is_enter_of j e)
       → ((j : ℕ) → slice_index_or spent2 j 0 ≡ slice_index_or spent j 0 + cond (seat_of e == j) 1 0)
-      → ((j : ℕ) → slice_index_or granted2 j 0 ≡ slice_index_or granted j 0 + cond (grants j e) 1 0) → entered2 ≡ entered + cond (is_enter e) 1 0 → length granted2 ≡ length granted
+      → ((j : ℕ) → slice_index_or granted2 j 0 ≡ slice_index_or granted j 0 + cond (grants j e) 1 0)
+      → entered2 ≡ entered + cond (is_enter e) 1 0 → length granted2 ≡ length granted
       → length inside2 ≡ length inside → length spent2 ≡ length spent
       → KeepsHistory m budget (h ++ e ∷ []) capacity2 q2 state2 turn2 inside2 spent2 granted2 entered2
   kept_push kept e a l capacity2 q2 state2 turn2 inside2 spent2 granted2 entered2 cap moved st tu ins sp gr en lg li ls = record {
     legal = legal-push m h e kept.legal a;
     stands =
-        same_situation (shown_situation q2 state2 turn2 inside2 (not (is_empty (h ++ e ∷ [])))) (after m.object (shown_situation q state turn inside (not (is_empty h))) e)
+        same_situation (shown_situation q2 state2 turn2 inside2 (not (is_empty (h ++ e ∷ []))))
+        (after m.object (shown_situation q state turn inside (not (is_empty h))) e)
         moved.condition moved.waiters moved.signallers moved.untils st tu ins (begun h)
         ∙ (ap (λ t. after m.object t e) kept.stands ∙ sym (legal_situation-push m h e kept.legal));
     counts = λ s. sp s ∙ (ap (λ n. n + cond (seat_of e == s) 1 0) (kept.counts s) ∙ sym (length-events_of-push h e s));
@@ -156,14 +192,16 @@ module _ {m : Monitor} {budget : ℕ} {h : List Event} {capacity : ℕ} {q : Que
     enters_counted = en ∙ (ap (λ n. n + cond (is_enter e) 1 0) kept.enters_counted ∙ sym (enters_of-push h e));
     granted_seats = lg ∙ kept.granted_seats;
     within = λ s. subst (λ n. n ≤ budget) (sym (length-events_of-push h e s))
-        (one_within (seat_of e == s) (length (events_of h s)) budget (λ b. subst (λ j. length (events_of h j) < budget) (eqb-true (seat_of e) s b) l) (kept.within s));
+        (one_within (seat_of e == s) (length (events_of h s)) budget
+        (λ b. subst (λ j. length (events_of h j) < budget) (eqb-true (seat_of e) s b) l) (kept.within s));
     room = subst (λ n. m.seats * budget ≤ n) (sym cap) kept.room;
     inside_seats = li ∙ kept.inside_seats;
     spent_seats = ls ∙ kept.spent_seats;
     conds = moved.conds ∙ kept.conds;
     few = kept.few;
     low = kept.low;
-    predicates = subst (All (λ (w : ℕ × ℕ). w.1 < m.object.predicates)) (sym moved.untils) (joins_in_range m.object.codes m.object.predicates e q.untils (range_object m e a.in_range) kept.predicates);
+    predicates = subst (All (λ (w : ℕ × ℕ). w.1 < m.object.predicates)) (sym moved.untils)
+        (joins_in_range m.object.codes m.object.predicates e q.untils (range_object m e a.in_range) kept.predicates);
   }
     where
       begun : (xs : List Event) → not (is_empty (xs ++ e ∷ [])) ≡ true
@@ -174,14 +212,17 @@ pub some_left : (n b : ℕ) → 0 < b - n → n < b
 some_left n b h = omega (arith, h)
 
 -- what is said of a floor's value is said of what it was before
-pub allowed_here : (k : Rules) (o : Object) (f g : FloorView) (e : Event) → g ≡ f → IsAllowed (monitor_of k o f) f.history e → IsAllowed (monitor_of k o g) g.history e
+pub allowed_here : (k : Rules) (o : Object) (f g : FloorView) (e : Event) → g ≡ f
+    → IsAllowed (monitor_of k o f) f.history e → IsAllowed (monitor_of k o g) g.history e
 allowed_here k o f g e s a = subst (λ x. IsAllowed (monitor_of k o x) x.history e) (sym s) a
 
-pub call_here : (k : Rules) (o : Object) (f g : FloorView) (e : Event) → g ≡ f → MayCall (monitor_of k o f) f.history e → MayCall (monitor_of k o g) g.history e
+pub call_here : (k : Rules) (o : Object) (f g : FloorView) (e : Event) → g ≡ f → MayCall (monitor_of k o f) f.history e
+    → MayCall (monitor_of k o g) g.history e
 call_here k o f g e s a = subst (λ x. MayCall (monitor_of k o x) x.history e) (sym s) a
 
 pub left_here : (f g : FloorView) (s : ℕ) → g ≡ f → 0 < left_of f.budget f.history s → length (events_of g.history s) < g.budget
-left_here f g s e l = subst (λ (x : FloorView). length (events_of x.history s) < x.budget) (sym e) (some_left (length (events_of f.history s)) f.budget l)
+left_here f g s e l = subst (λ (x : FloorView). length (events_of x.history s) < x.budget) (sym e)
+    (some_left (length (events_of f.history s)) f.budget l)
 
 none_kept : (h : List Event) → h ≡ [] → not (is_empty h) ≡ false
 none_kept h e = ap (λ x. not (is_empty x)) e
@@ -191,10 +232,13 @@ unfolding events_of
 no_events s = refl
 
 -- what is kept before any event
-pub kept_none : (m : Monitor) (budget : ℕ) (h : List Event) (capacity : ℕ) (q : QueueLists) (state : List ℕ) (turn : Turn) (inside : List Bool) (spent granted : List ℕ) (entered : ℕ)
+pub kept_none : (m : Monitor) (budget : ℕ) (h : List Event) (capacity : ℕ) (q : QueueLists) (state : List ℕ)
+    (turn : Turn) (inside : List Bool) (spent granted : List ℕ) (entered : ℕ)
     → h ≡ [] → capacity ≡ m.seats * budget → state ≡ m.opening → m.seats ≤ most_seats → budget ≤ most_budget
-    → ((c : ℕ) → queue_at q.conditions c ≡ []) → length q.conditions ≡ m.conds → q.waiters ≡ [] → q.signallers ≡ [] → q.untils ≡ [] → turn ≡ Open
-    → ((j : ℕ) → slice_index_or inside j false ≡ false) → ((j : ℕ) → slice_index_or spent j 0 ≡ 0) → length inside ≡ m.seats → length spent ≡ m.seats
+    → ((c : ℕ) → queue_at q.conditions c ≡ []) → length q.conditions ≡ m.conds → q.waiters ≡ [] → q.signallers ≡ []
+    → q.untils ≡ [] → turn ≡ Open
+    → ((j : ℕ) → slice_index_or inside j false ≡ false) → ((j : ℕ) → slice_index_or spent j 0 ≡ 0)
+    → length inside ≡ m.seats → length spent ≡ m.seats
     → ((j : ℕ) → slice_index_or granted j 0 ≡ 0) → entered ≡ 0 → length granted ≡ m.seats
     → KeepsHistory m budget h capacity q state turn inside spent granted entered
 kept_none m budget h capacity q state turn inside spent granted entered e cap st few low qs cs ws ss us tu ins sp li ls gr en lg = record {

@@ -19,12 +19,15 @@ takes_is q e = front_is_taken q e (finds_none q e) (λ s c x is. ap (finds_none 
 
 -- what is served and then chosen is what an event makes of the queues
 pub moved : (old mid new : QueueLists) (e : Event) (none : Bool) → none ≡ finds_none (queue_at old.conditions) e → IsServed old e mid
-    → new.conditions ≡ mid.conditions → new.waiters ≡ drop (cond (is_waiter (next_of e)) 1 0) mid.waiters → new.signallers ≡ drop (cond (takes_front none e) 1 0) mid.signallers
+    → new.conditions ≡ mid.conditions → new.waiters ≡ drop (cond (is_waiter (next_of e)) 1 0) mid.waiters
+    → new.signallers ≡ drop (cond (takes_front none e) 1 0) mid.signallers
     → new.untils ≡ filter (λ w. not (chooses e w)) mid.untils ++ waits_until e → IsMoved old e new
 moved old mid new e none n s a b c d = record {
   condition = λ x. ap (λ qs. queue_at qs x) a ∙ s.condition x;
   waiters = b ∙ ap (drop (cond (is_waiter (next_of e)) 1 0)) s.waiters;
-  signallers = c ∙ (ap (drop (cond (takes_front none e) 1 0)) s.signallers ∙ ap (λ z. drop (cond z 1 0) (old.signallers ++ signals (queue_at old.conditions) e)) (ap (λ z. takes_front z e) n ∙ takes_is (queue_at old.conditions) e));
+  signallers = c ∙ (ap (drop (cond (takes_front none e) 1 0)) s.signallers
+      ∙ ap (λ z. drop (cond z 1 0) (old.signallers ++ signals (queue_at old.conditions) e))
+      (ap (λ z. takes_front z e) n ∙ takes_is (queue_at old.conditions) e));
   untils = d ∙ ap (λ us. filter (λ w. not (chooses e w)) us ++ waits_until e) s.untils;
   conds = ap length a ∙ s.conds;
 }

@@ -18,6 +18,7 @@ pub record IsChosen (k : Rules) (o : Object) (f : FloorView) (e : Event) (known 
 
 -- the floor has taken this release: the wish rules choose who goes on, and the history has grown by exactly the event
 -- with that choice
-pub record HasChosen (k : Rules) (o : Object) (old : FloorView) (release : Next → Event) (known : Bool) (pick : Pick) (next : Next) (new : FloorView) : Type 0 where
+pub record HasChosen (k : Rules) (o : Object) (old : FloorView) (release : Next → Event) (known : Bool) (pick : Pick)
+    (next : Next) (new : FloorView) : Type 0 where
   pub choice : next ≡ choice_of k o (stands_of k o old) (release Stay) known pick
   pub grown : IsGrown k o old (release next) new

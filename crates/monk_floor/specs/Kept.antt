@@ -23,7 +23,8 @@ shown_situation q state turn inside begun = record {
   begun = begun;
 }
 
-pub record KeepsHistory (m : Monitor) (budget : ℕ) (h : List Event) (capacity : ℕ) (q : QueueLists) (state : List ℕ) (turn : Turn) (inside : List Bool) (spent granted : List ℕ) (entered : ℕ) : Type 0 where
+pub record KeepsHistory (m : Monitor) (budget : ℕ) (h : List Event) (capacity : ℕ) (q : QueueLists) (state : List ℕ)
+    (turn : Turn) (inside : List Bool) (spent granted : List ℕ) (entered : ℕ) : Type 0 where
   pub legal : IsLegal m h
   pub stands : shown_situation q state turn inside (not (is_empty h)) ≡ situation m h
   pub counts : (s : ℕ) → slice_index_or spent s 0 ≡ length (events_of h s)

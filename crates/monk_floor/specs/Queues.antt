@@ -30,7 +30,8 @@ pub record HasPlaces (q : QueueLists) : Type 0 where
 
 -- in how many of the queues a seat stands
 abbrev pub in_lists : ℕ → QueueLists → ℕ
-in_lists s q = times_in_conditions (length q.conditions) s (queue_at q.conditions) + times s q.waiters + times s q.signallers + times s (map (λ w. w.0) q.untils)
+in_lists s q = times_in_conditions (length q.conditions) s (queue_at q.conditions) + times s q.waiters + times s
+    q.signallers + times s (map (λ w. w.0) q.untils)
 
 -- each seat stands in one queue at most, and the seat of the event in none
 pub record IsOrderly (q : QueueLists) (e : Event) : Type 0 where
@@ -39,7 +40,8 @@ pub record IsOrderly (q : QueueLists) (e : Event) : Type 0 where
 
 -- what an event itself joins and serves
 pub record IsServed (old : QueueLists) (e : Event) (new : QueueLists) : Type 0 where
-  pub condition : (c : ℕ) → queue_at new.conditions c ≡ drop (length (served_by c e (queue_at old.conditions c))) (queue_at old.conditions c) ++ waiting_by c e
+  pub condition : (c : ℕ) → queue_at new.conditions c ≡ drop (length (served_by c e (queue_at old.conditions c)))
+      (queue_at old.conditions c) ++ waiting_by c e
   pub waiters : new.waiters ≡ old.waiters ++ serves (queue_at old.conditions) e
   pub signallers : new.signallers ≡ old.signallers ++ signals (queue_at old.conditions) e
   pub untils : new.untils ≡ old.untils
@@ -58,8 +60,10 @@ finds_none queue (Resume s q) = false
 
 -- what an event makes of the queues
 pub record IsMoved (old : QueueLists) (e : Event) (new : QueueLists) : Type 0 where
-  pub condition : (c : ℕ) → queue_at new.conditions c ≡ drop (length (served_by c e (queue_at old.conditions c))) (queue_at old.conditions c) ++ waiting_by c e
+  pub condition : (c : ℕ) → queue_at new.conditions c ≡ drop (length (served_by c e (queue_at old.conditions c)))
+      (queue_at old.conditions c) ++ waiting_by c e
   pub waiters : new.waiters ≡ drop (if is_waiter (next_of e) then 1 else 0) (old.waiters ++ serves (queue_at old.conditions) e)
-  pub signallers : new.signallers ≡ drop (if takes_signaller (queue_at old.conditions) e then 1 else 0) (old.signallers ++ signals (queue_at old.conditions) e)
+  pub signallers : new.signallers ≡ drop (if takes_signaller (queue_at old.conditions) e then 1 else 0)
+      (old.signallers ++ signals (queue_at old.conditions) e)
   pub untils : new.untils ≡ filter (λ w. not (chooses e w)) old.untils ++ waits_until e
   pub conds : length new.conditions ≡ length old.conditions

@@ -1,4 +1,5 @@
-ghost use Rattle.std.specs.Prelude.{◌≡◌, ℕ, ◌*◌, ◌<◌, ◌≤◌, None, false, not, ◌&&◌, IfOk, IfErr, nat_lt, slice_index_or, List, [], ◌∷◌, ◌++◌, length};
+ghost use Rattle.std.specs.Prelude.{◌≡◌, ℕ, ◌*◌, ◌<◌, ◌≤◌, None, false, not, ◌&&◌, IfOk, IfErr, nat_lt, slice_index_or};
+ghost use Rattle.std.specs.Prelude.{List, [], ◌∷◌, ◌++◌, length};
 ghost use Rattle.monk_history.specs.Meaning.Conditions.{condition};
 ghost use Rattle.monk_history.specs.Meaning.Counts.{left_of, granted_of, enters_of};
 ghost use Rattle.monk_history.specs.Meaning.Events as events;
@@ -58,9 +59,18 @@ impl<K: Kind, T: Guarded> Model for Floor<K, T> {
 
     ghost Value = { FloorView };
 
-    ghost view = { λ f. record { opening = T.state f.opening.value; seats = f.seats; conds = f.conds; budget = f.budget; history = f.history.items } };
+    ghost view = { λ f. record {
+      opening = T.state f.opening.value;
+      seats = f.seats;
+      conds = f.conds;
+      budget =
+          f.budget;
+      history = f.history.items;
+    } };
 
-    ghost invariant = { λ f. KeepsHistory (monitor K.rules f.seats f.conds T.meaning (T.state f.opening.value)) f.budget f.history.items (vec_capacity f.history) f.ledger.queues (T.state f.object) f.ledger.turn f.ledger.inside.items f.ledger.spent.items f.ledger.granted.items f.ledger.entered };
+    ghost invariant = { λ f. KeepsHistory (monitor K.rules f.seats f.conds T.meaning (T.state f.opening.value)) f.budget
+        f.history.items (vec_capacity f.history) f.ledger.queues (T.state f.object) f.ledger.turn f.ledger.inside.items
+        f.ledger.spent.items f.ledger.granted.items f.ledger.entered };
 }
 
 impl<K: Kind, T: Guarded> Floor<K, T> {

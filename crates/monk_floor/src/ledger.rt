@@ -1,4 +1,5 @@
-ghost use Rattle.std.specs.Prelude.{◌≡◌, ℕ, ◌<◌, ◌+◌, ◌^◌, ◌==◌, false, true, ◌&&◌, ◌||◌, not, [], IfOk, length, nat_lt, slice_index_or, if◌then◌else◌};
+ghost use Rattle.std.specs.Prelude.{◌≡◌, ℕ, ◌<◌, ◌+◌, ◌^◌, ◌==◌, false, true, ◌&&◌, ◌||◌, not, [], IfOk, length};
+ghost use Rattle.std.specs.Prelude.{nat_lt, slice_index_or, if◌then◌else◌};
 ghost use Rattle.monk_history.specs.Meaning.Events as events;
 ghost use Rattle.std.specs.List.{list_all};
 ghost use Rattle.monk_history.specs.Meaning.Counts as counts;
@@ -13,7 +14,9 @@ use std::alloc::{AllocError, Global};
 /// Notes who is inside after an event.
 pub fn mark_inside(inside: &mut [bool], event: Event)
     requires { events.seat_of event < length inside.old }
-    ensures marked { (j : ℕ) → slice_index_or inside.new j false ≡ (slice_index_or inside.old j false && not (turns.is_exit_of j event)) || turns.is_enter_of j event }
+    ensures marked { (j : ℕ)
+        → slice_index_or inside.new j
+        false ≡ (slice_index_or inside.old j false && not (turns.is_exit_of j event)) || turns.is_enter_of j event }
     ensures count { length inside.new ≡ length inside.old }
 {
     match event {
@@ -109,9 +112,14 @@ impl Ledger {
         requires { HasRoomFor self.old.queues self.old.inside.items self.old.spent.items self.old.granted.items self.old.entered event }
         ensures queues { IsMoved self.old.queues event self.new.queues }
         ensures turn { self.new.turn ≡ turns.turn_by (events.seat_of event) (events.next_of event) }
-        ensures inside { (j : ℕ) → slice_index_or self.new.inside.items j false ≡ (slice_index_or self.old.inside.items j false && not (turns.is_exit_of j event)) || turns.is_enter_of j event }
-        ensures spent { (j : ℕ) → slice_index_or self.new.spent.items j 0 ≡ slice_index_or self.old.spent.items j 0 + (if events.seat_of event == j then 1 else 0) }
-        ensures granted { (j : ℕ) → slice_index_or self.new.granted.items j 0 ≡ slice_index_or self.old.granted.items j 0 + (if counts.grants j event then 1 else 0) }
+        ensures inside { (j : ℕ)
+            → slice_index_or self.new.inside.items j
+            false ≡ (slice_index_or self.old.inside.items j false && not (turns.is_exit_of j event))
+            || turns.is_enter_of j event }
+        ensures spent { (j : ℕ) → slice_index_or self.new.spent.items j 0 ≡ slice_index_or self.old.spent.items j
+            0 + (if events.seat_of event == j then 1 else 0) }
+        ensures granted { (j : ℕ) → slice_index_or self.new.granted.items j 0 ≡ slice_index_or self.old.granted.items j
+            0 + (if counts.grants j event then 1 else 0) }
         ensures entered { self.new.entered ≡ self.old.entered + (if counts.is_enter event then 1 else 0) }
         ensures granted_seats { length self.new.granted.items ≡ length self.old.granted.items }
         ensures inside_seats { length self.new.inside.items ≡ length self.old.inside.items }

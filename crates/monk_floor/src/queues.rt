@@ -1,4 +1,5 @@
-ghost use Rattle.std.specs.Prelude.{◌≡◌, ℕ, ◌<◌, ◌==◌, ◌≤◌, IfOk, Option, [], ◌∷◌, ◌++◌, drop, filter, not, true, slice_get, length, vec_len, vec_capacity, if◌then◌else◌};
+ghost use Rattle.std.specs.Prelude.{◌≡◌, ℕ, ◌<◌, ◌==◌, ◌≤◌, IfOk, Option, [], ◌∷◌, ◌++◌, drop, filter, not, true};
+ghost use Rattle.std.specs.Prelude.{slice_get, length, vec_len, vec_capacity, if◌then◌else◌};
 ghost use Rattle.monk_history.specs.Meaning.Signallers.{takes_front};
 ghost use Rattle.monk_history.specs.Meaning.Untils.{chooses, waits_until};
 ghost use Rattle.monk_history.specs.Meaning.Events as events;
@@ -13,7 +14,9 @@ use std::marker::Model;
 pub fn take_front(queues: &mut Vec<SeatQueue>, at: u8) -> Option<u8>
     requires { at < length queues.old.items }
     ensures front { result ≡ slice_get (lists.queue_at queues.old.items at) 0 }
-    ensures rest { (c : ℕ) → lists.queue_at queues.new.items c ≡ (if at == c then drop 1 (lists.queue_at queues.old.items c) else lists.queue_at queues.old.items c) }
+    ensures rest { (c : ℕ)
+        → lists.queue_at queues.new.items c ≡ (if at == c then drop 1 (lists.queue_at queues.old.items c)
+        else lists.queue_at queues.old.items c) }
     ensures count { length queues.new.items ≡ length queues.old.items }
 {
     queues[at as usize].pop()
@@ -23,7 +26,8 @@ pub fn take_front(queues: &mut Vec<SeatQueue>, at: u8) -> Option<u8>
 pub fn join_back(queues: &mut Vec<SeatQueue>, at: u8, seat: u8)
     requires at { at < length queues.old.items }
     requires room { length (lists.queue_at queues.old.items at) < MOST_SEATS }
-    ensures joined { (c : ℕ) → lists.queue_at queues.new.items c ≡ lists.queue_at queues.old.items c ++ (if at == c then seat ∷ [] else []) }
+    ensures joined { (c : ℕ) → lists.queue_at queues.new.items c ≡ lists.queue_at queues.old.items c
+        ++ (if at == c then seat ∷ [] else []) }
     ensures count { length queues.new.items ≡ length queues.old.items }
 {
     queues[at as usize].push(seat);
@@ -93,7 +97,12 @@ impl Model for Queues {
 
     ghost Value = { QueueLists };
 
-    ghost view = { λ q. record { conditions = q.conditions.items; waiters = q.waiters; signallers = q.signallers; untils = q.untils.items } };
+    ghost view = { λ q. record {
+      conditions = q.conditions.items;
+      waiters = q.waiters;
+      signallers = q.signallers;
+      untils = q.untils.items;
+    } };
 
     ghost invariant = { λ q. most_seats ≤ vec_capacity q.untils };
 }

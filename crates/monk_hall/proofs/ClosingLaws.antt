@@ -1,5 +1,6 @@
 -- Where no seat is in a queue, every queue is empty, and a leave lets the entry in
-use Rattle.std.proofs.Common.{◌≡◌, ℕ, zero, suc, ◌+◌, ◌*◌, ◌==◌, ◌<◌, ◌≤◌, ◌⊎◌, cond, Bool, true, false, nat_lt, ◌&&◌, List, [], ◌∷◌, ◌++◌, map, length, sym, refl, ap, ◌∙◌, subst, inl, inr, arith, eq-eqb}
+use Rattle.std.proofs.Common.{◌≡◌, ℕ, zero, suc, ◌+◌, ◌*◌, ◌==◌, ◌<◌, ◌≤◌, ◌⊎◌, cond, Bool, true, false, nat_lt, ◌&&◌}
+use Rattle.std.proofs.Common.{List, [], ◌∷◌, ◌++◌, map, length, sym, refl, ap, ◌∙◌, subst, inl, inr, arith, eq-eqb}
 use Rattle.std.proofs.lemmas.List.{nil_from_length}
 use Rattle.monk_kinds.specs.declared.mode.Pick.TheVariants.{Entry as WishEntry}
 use Rattle.monk_kinds.specs.declared.mode.Rules.{Rules}
@@ -62,7 +63,8 @@ nobody k o f legal unqueued =
       | inr near ↦ none_queued (in_queues f.conds j t) (unqueued j near)
     ] in
     record {
-      conditions = λ c low. empty_of (condition c f.history) (λ j. let n = none j in let l = times_le_conditions f.conds j c t.condition low in omega arith);
+      conditions = λ c low. empty_of (condition c f.history)
+          (λ j. let n = none j in let l = times_le_conditions f.conds j c t.condition low in omega arith);
       waiters = empty_of t.waiters (λ j. let n = none j in omega arith);
       signallers = empty_of t.signallers (λ j. let n = none j in omega arith);
       untils =
@@ -79,30 +81,41 @@ both_empty : (b : Bool) → (is_empty {X = ℕ} (cond b [] []) && true) ≡ true
 both_empty true = refl
 both_empty false = refl
 
-entry_by : (k : Rules) (ws ss rs : List ℕ) (s : ℕ) → ws ≡ [] → ss ≡ [] → rs ≡ [] → choice_by k (record { waiters = ws; signallers = ss; ready = rs }) s false WishEntry ≡ next.Entry
+entry_by : (k : Rules) (ws ss rs : List ℕ) (s : ℕ) → ws ≡ [] → ss ≡ [] → rs ≡ []
+    → choice_by k (record { waiters = ws; signallers = ss; ready = rs }) s false WishEntry ≡ next.Entry
 entry_by k ws ss rs s w z r =
     subst (λ (x : List ℕ). choice_by k (record { waiters = x; signallers = ss; ready = rs }) s false WishEntry ≡ next.Entry) (sym w)
     (subst (λ (x : List ℕ). choice_by k (record { waiters = []; signallers = x; ready = rs }) s false WishEntry ≡ next.Entry) (sym z)
     (subst (λ (x : List ℕ). choice_by k (record { waiters = []; signallers = []; ready = x }) s false WishEntry ≡ next.Entry) (sym r)
-    (ap (λ (b : Bool). cond b next.Entry (cond (is_waiter_open k none) (waiter_choice k none) (signaller_choice none s))) (both_empty (has_conditions k.mode)))))
+    (ap (λ (b : Bool). cond b next.Entry
+    (cond (is_waiter_open k none) (waiter_choice k none) (signaller_choice none s)))
+    (both_empty (has_conditions k.mode)))))
   where
     none : Queues
     none = record { waiters = []; signallers = []; ready = [] }
 
-pub leaves_last : (k : Rules) (o : Object) (f : FloorView) (s : ℕ) → HasNobody f → choice_of k o (stands_of k o f) (Leave s next.Stay) false WishEntry ≡ next.Entry
+pub leaves_last : (k : Rules) (o : Object) (f : FloorView) (s : ℕ) → HasNobody f
+    → choice_of k o (stands_of k o f) (Leave s next.Stay) false WishEntry ≡ next.Entry
 leaves_last k o f s none =
     let t = stands_of k o f in
     let call = Leave s next.Stay in
     entry_by k (t.waiters ++ serves t.condition call) (t.signallers ++ signals t.condition call) (ready_of o t.state t.untils) s
-    (ap (λ (x : List ℕ). x ++ serves t.condition call) none.waiters) (ap (λ (x : List ℕ). x ++ signals t.condition call) none.signallers) (ap (ready_of o t.state) none.untils)
+    (ap (λ (x : List ℕ). x ++ serves t.condition call) none.waiters)
+    (ap (λ (x : List ℕ). x ++ signals t.condition call) none.signallers) (ap (ready_of o t.state) none.untils)
 
 few_of : (h g : List Event) (m b n c : ℕ) → h ≡ g → m ≡ n → b ≡ c → length g ≤ m * b → length h ≤ n * c
-few_of h g m b n c same seats budget within = subst (λ (x : List Event). length x ≤ n * c) (sym same) (subst (λ (x : ℕ). length g ≤ n * x) budget (subst (λ (x : ℕ). length g ≤ x * b) seats within))
+few_of h g m b n c same seats budget within =
+    subst (λ (x : List Event). length x ≤ n * c) (sym same)
+    (subst (λ (x : ℕ). length g ≤ n * x) budget (subst (λ (x : ℕ). length g ≤ x * b) seats within))
 
 -- the active seat has left, where no seat was in a queue
-pub ended : (k : Rules) (o : Object) (a : Holder) (f : FloorView) (number : ℕ) (choice : Next) (g : FloorView) (history : List Event) (state : List ℕ) → a.floor ≡ f → a.me.seat ≡ number → events_of a.floor.history a.me.seat ≡ a.me.mine → IsLegal (monitor_of k o f) f.history
-    → IsUnqueued k o a.floor a.floor.seats → IsGrown k o f (Leave number choice) g → choice ≡ choice_of k o (stands_of k o f) (Leave number next.Stay) false WishEntry
-    → history ≡ g.history → IsLegal (monitor_of k o g) g.history → state ≡ data_of (monitor_of k o g) g.history → length g.history ≤ g.seats * g.budget → IsEnded k o a history state
+pub ended : (k : Rules) (o : Object) (a : Holder) (f : FloorView) (number : ℕ) (choice : Next) (g : FloorView)
+    (history : List Event) (state : List ℕ) → a.floor ≡ f → a.me.seat ≡ number
+    → events_of a.floor.history a.me.seat ≡ a.me.mine → IsLegal (monitor_of k o f) f.history
+    → IsUnqueued k o a.floor a.floor.seats → IsGrown k o f (Leave number choice) g
+    → choice ≡ choice_of k o (stands_of k o f) (Leave number next.Stay) false WishEntry
+    → history ≡ g.history → IsLegal (monitor_of k o g) g.history → state ≡ data_of (monitor_of k o g) g.history
+    → length g.history ≤ g.seats * g.budget → IsEnded k o a history state
 ended k o a f number choice g history state floor seat own legal unqueued grows chosen is_history all_legal is_state within =
     let none : HasNobody f = nobody k o f legal (subst (λ (x : FloorView). IsUnqueued k o x x.seats) floor unqueued) in
     let entry : choice ≡ next.Entry = chosen ∙ leaves_last k o f number none in
@@ -125,11 +138,14 @@ ended k o a f number choice g history state floor seat own legal unqueued grows 
     }
 
 -- what holds of all seats of the hall holds of all seats of the floor, which a look at the ticket word leaves
-pub unqueued_all : (k : Rules) (o : Object) (f g : FloorView) (seats : ℕ) → IsUnqueued k o f seats → seats ≡ f.seats → g ≡ f → IsUnqueued k o g g.seats
-unqueued_all k o f g seats none all same = subst (λ (x : FloorView). IsUnqueued k o x x.seats) (sym same) (subst (IsUnqueued k o f) all none)
+pub unqueued_all : (k : Rules) (o : Object) (f g : FloorView) (seats : ℕ) → IsUnqueued k o f seats → seats ≡ f.seats
+    → g ≡ f → IsUnqueued k o g g.seats
+unqueued_all k o f g seats none all same =
+    subst (λ (x : FloorView). IsUnqueued k o x x.seats) (sym same) (subst (IsUnqueued k o f) all none)
 
 -- the hall has ended for a seat that has looked at the ticket word
-pub ended_peeked : (k : Rules) (o : Object) (a b : Holder) (history : List Event) (state : List ℕ) → b.floor ≡ a.floor → b.me.seat ≡ a.me.seat → b.me.mine ≡ a.me.mine → IsEnded k o b history state → IsEnded k o a history state
+pub ended_peeked : (k : Rules) (o : Object) (a b : Holder) (history : List Event) (state : List ℕ) → b.floor ≡ a.floor
+    → b.me.seat ≡ a.me.seat → b.me.mine ≡ a.me.mine → IsEnded k o b history state → IsEnded k o a history state
 ended_peeked k o a b history state floor seat mine e = record {
   nobody = subst HasNobody floor e.nobody;
   leaves = e.leaves ∙ (λ i. (floor i).history ++ Leave (seat i) next.Entry ∷ []);
@@ -141,4 +157,12 @@ ended_peeked k o a b history state floor seat mine e = record {
 
 -- somebody is in a queue, so there was no look
 pub busy_unlooked : (k : Rules) (o : Object) (a : Holder) → HasSomebody k o a.floor → IsBusy k o a a
-busy_unlooked k o a x = record { some = inl x; is = refl; looks = omega arith; steps = omega arith; remembers = record { knew = λ knew. knew; unlooked = λ _. refl } }
+busy_unlooked k o a x =
+    record {
+      some = inl x;
+      is = refl;
+      looks = omega arith;
+      steps = omega arith;
+      remembers =
+          record { knew = λ knew. knew; unlooked = λ _. refl };
+    }

@@ -1,6 +1,7 @@
 -- Threads may share a hall, and a pass may go to another thread, where the object may
 use denote.RattleType.{RattleType}
-use denote.Param.Send.{IsSend, IsSync, AllSend, AllSync, sendable, part_keyless, struct_send, struct_sync, recorded_send, recorded_sync, view_send, view_sync}
+use denote.Param.Send.{IsSend, IsSync, AllSend, AllSync, sendable, part_keyless, struct_send, struct_sync}
+use denote.Param.Send.{recorded_send, recorded_sync, view_send, view_sync}
 use denote.Struct.Declared.{shape}
 use denote.Struct.Owning as owning
 use denote.Struct.Struct.{Struct}
@@ -32,38 +33,61 @@ use Rattle.monk_hall.specs.contracts.pass.Pass.TheInside as PassInside
 shared_sync : (S V K P : RattleType) (g : TableRule.Ghosts P.Denot S.Denot V.Denot K.Denot) → IsSend S → IsSync (Shared.the_row S V K P g)
 shared_sync S V K P g s =
     let fields : IsSync (Struct (owning.shape (Shared.the_type S V K P g))) = search sendable depth 20 in
-    record { shared = λ d b o ν. (fields.shared (d.words, (d.slots, (tt, tt))) b o ν, shares_keyless S s V.coded.code d.table_id (g.holds d.key) d.words d.slots ν) }
+    record {
+      shared = λ d b o ν. (
+        fields.shared (d.words, (d.slots, (tt, tt))) b o ν,
+        shares_keyless S s V.coded.code d.table_id (g.holds d.key) d.words d.slots ν,
+      );
+    }
 
 lease_sync : (S : RattleType) → IsSync (SendLease.the_row S Heap.the_row ghosts)
-lease_sync S = record { shared = λ d b o ν q. part_keyless (SendLease.the_row S Heap.the_row ghosts) (right_send S Heap.the_row ghosts frees) q d b o }
+lease_sync S = record {
+  shared =
+      λ d b o ν q. part_keyless (SendLease.the_row S Heap.the_row ghosts) (right_send S Heap.the_row ghosts frees) q d b o;
+}
 
 badge_send : (V : RattleType) → IsSend (Badge.the_row V)
-badge_send V = record { owned = λ d vs. ((λ vss. (tt, ((λ uss. (tt, tt)), tt))), badge_keyless V.coded.code d.table_id d.id d.views); leaving = λ k f vs. tt }
+badge_send V = record {
+  owned =
+      λ d vs. ((λ vss. (tt, ((λ uss. (tt, tt)), tt))), badge_keyless V.coded.code d.table_id d.id d.views);
+  leaving =
+      λ k f vs. tt;
+}
 
 option_send : (R : RattleType) → IsSend R → IsSend (Option.the_row R)
 option_send R s = search sendable depth 12
 
-table_sync : (S V K P : RattleType) (g : TableRule.Ghosts P.Denot S.Denot V.Denot K.Denot) → IsSend S → IsSync (Table.the_field S V K P Heap.the_row g ghosts).row
+table_sync : (S V K P : RattleType) (g : TableRule.Ghosts P.Denot S.Denot V.Denot K.Denot) → IsSend S
+    → IsSync (Table.the_field S V K P Heap.the_row g ghosts).row
 table_sync S V K P g s =
-    let all : AllSync (shape (Table.the_type S V K P Heap.the_row g ghosts)).fields = (shared_sync S V K P g s, (search sendable, (search sendable, (lease_sync _, (lease_sync S, (heap_sync, tt)))))) in
+    let all : AllSync (shape (Table.the_type S V K P Heap.the_row g ghosts)).fields =
+    (shared_sync S V K P g s, (search sendable, (search sendable, (lease_sync _, (lease_sync S, (heap_sync, tt))))))
+    in
     struct_sync (shape (Table.the_type S V K P Heap.the_row g ghosts)) all
 
-hall_inside : (K T : RattleType) (k : Kind.Ghosts K.Denot) (t : Guarded.Ghosts T.Denot) → IsSend K → IsSend T → IsSync (HallInside.the_row K T k t)
+hall_inside : (K T : RattleType) (k : Kind.Ghosts K.Denot) (t : Guarded.Ghosts T.Denot) → IsSend K → IsSend T
+    → IsSync (HallInside.the_row K T k t)
 hall_inside K T k t sk st =
     let all : AllSync (shape (HallInside.the_type K T k t)).fields = (
-      table_sync (Option.the_row (Floor.the_row K T k t)) (LinkedList.the_row SeatRecord.the_row Heap.the_row ghosts) (Setup.the_row T) (HallRule.the_row K T)
-          (RuleImpl.ghosts K T k RuleImpl.no_dict t RuleImpl.no_dict RuleImpl.no_dict RuleImpl.no_dict) (option_send (Floor.the_row K T k t) (floor_send K T k t sk st)),
+      table_sync (Option.the_row (Floor.the_row K T k t)) (LinkedList.the_row SeatRecord.the_row Heap.the_row ghosts)
+          (Setup.the_row T) (HallRule.the_row K T)
+          (RuleImpl.ghosts K T k RuleImpl.no_dict t RuleImpl.no_dict RuleImpl.no_dict RuleImpl.no_dict)
+          (option_send (Floor.the_row K T k t) (floor_send K T k t sk st)),
       (search sendable, tt),
     ) in
     recorded_sync _ _ _ ((HallInside.the_type K T k t).to_one) (struct_sync (shape (HallInside.the_type K T k t)) all)
 
-pub hall_sync : (K T : RattleType) (k : Kind.Ghosts K.Denot) (t : Guarded.Ghosts T.Denot) → IsSend K → IsSend T → IsSync (Hall.the_row K T k t)
+pub hall_sync : (K T : RattleType) (k : Kind.Ghosts K.Denot) (t : Guarded.Ghosts T.Denot) → IsSend K → IsSend T
+    → IsSync (Hall.the_row K T k t)
 hall_sync K T k t sk st = view_sync (HallInside.the_row K T k t) _ _ _ _ (hall_inside K T k t sk st)
 
-pass_inside : (K T : RattleType) (k : Kind.Ghosts K.Denot) (t : Guarded.Ghosts T.Denot) → IsSend K → IsSend T → IsSend (PassInside.the_row K T k t)
+pass_inside : (K T : RattleType) (k : Kind.Ghosts K.Denot) (t : Guarded.Ghosts T.Denot) → IsSend K → IsSend T
+    → IsSend (PassInside.the_row K T k t)
 pass_inside K T k t sk st =
-    let all : AllSend (shape (PassInside.the_type K T k t)).fields = (badge_send _, (search sendable, (search sendable, (search sendable, (search sendable, tt))))) in
+    let all : AllSend (shape (PassInside.the_type K T k t)).fields =
+    (badge_send _, (search sendable, (search sendable, (search sendable, (search sendable, tt))))) in
     recorded_send _ _ _ ((PassInside.the_type K T k t).to_one) (struct_send (shape (PassInside.the_type K T k t)) all)
 
-pub pass_send : (K T : RattleType) (k : Kind.Ghosts K.Denot) (t : Guarded.Ghosts T.Denot) → IsSend K → IsSend T → IsSend (Pass.the_row K T k t)
+pub pass_send : (K T : RattleType) (k : Kind.Ghosts K.Denot) (t : Guarded.Ghosts T.Denot) → IsSend K → IsSend T
+    → IsSend (Pass.the_row K T k t)
 pass_send K T k t sk st = view_send (PassInside.the_row K T k t) _ _ _ _ (pass_inside K T k t sk st)

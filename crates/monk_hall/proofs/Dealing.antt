@@ -1,5 +1,7 @@
 -- The table at the start, and how a record goes from one view to a seat of its own
-use Rattle.std.proofs.Common.{◌≡◌, ◌≢◌, ℕ, zero, suc, ◌+◌, ◌-◌, ◌<◌, ◌≤◌, ◌⊎◌, cond, Bool, true, false, ◌||◌, nat_lt, List, [], ◌∷◌, ◌++◌, length, set, replicate, sym, refl, ap, ◌∙◌, subst, inl, inr, ⊎_elim, arith}
+use Rattle.std.proofs.Common.{◌≡◌, ◌≢◌, ℕ, zero, suc, ◌+◌, ◌-◌, ◌<◌, ◌≤◌, ◌⊎◌, cond, Bool, true, false, ◌||◌, nat_lt}
+use Rattle.std.proofs.Common.{List, [], ◌∷◌, ◌++◌, length, set, replicate, sym, refl, ap, ◌∙◌, subst, inl, inr, ⊎_elim}
+use Rattle.std.proofs.Common.{arith}
 use Rattle.std.specs.Prelude.{Option, Some, None, slice_index}
 use Rattle.std.proofs.Math.Option.{some-injective}
 use Rattle.std.proofs.lemmas.Bool.Decides.{eqb_tells}
@@ -39,8 +41,10 @@ record IsFresh (c : Setting) (n i : ℕ) (r : SeatRecord) : Type 0 where
 
 in_fresh : (c : Setting) (n i : ℕ) (r : SeatRecord) → In r (opening_records c n i) → IsFresh c n i r
 in_fresh c zero i r h = absurd h
-in_fresh c (suc n) i r (inl e) = let s : r.seat ≡ i = ap (λ (x : SeatRecord). x.seat) e in record { is = e ∙ ap (opening_record c) (sym s); low = omega arith; high = omega arith }
-in_fresh c (suc n) i r (inr h) = let a = in_fresh c n (suc i) r h in let l = a.low in let m = a.high in record { is = a.is; low = omega arith; high = omega arith }
+in_fresh c (suc n) i r (inl e) = let s : r.seat ≡ i = ap (λ (x : SeatRecord). x.seat) e in
+    record { is = e ∙ ap (opening_record c) (sym s); low = omega arith; high = omega arith }
+in_fresh c (suc n) i r (inr h) = let a = in_fresh c n (suc i) r h in let l = a.low in let m = a.high in
+    record { is = a.is; low = omega arith; high = omega arith }
 
 fresh_in : (c : Setting) (n i j : ℕ) → i ≤ j → j < i + n → In (opening_record c j) (opening_records c n i)
 fresh_in c zero i j low high = absurd (omega arith)
@@ -62,7 +66,8 @@ only_at a b zero e = (some-injective a b e, refl)
 only_at a b (suc j) e = absurd cc
 
 -- a table with no ticket drawn, every seat idle and the floor at home
-pub opens : (k : Rules) (o : Object) (c : Setting) (words : List ℕ) → make_refusal c.seats c.conds c.budget ≡ None → 0 < c.seats → length words ≡ word_count c.seats → ((i : ℕ) → slice_index words i ≡ 0)
+pub opens : (k : Rules) (o : Object) (c : Setting) (words : List ℕ) → make_refusal c.seats c.conds c.budget ≡ None
+    → 0 < c.seats → length words ≡ word_count c.seats → ((i : ℕ) → slice_index words i ≡ 0)
     → IsHall k o c (opening words (Some (floor_of c []) ∷ []) (first_view c))
 opens k o c words made some wide zeros = (
   opening_record c,
@@ -112,15 +117,19 @@ opens k o c words made some wide zeros = (
       floor = floor_of c [];
     }
 
-pub at_end : (l : List View) (a b : View) (j : ℕ) → get_elem? (l ++ a ∷ []) j ≡ maybe.some b → (get_elem? l j ≡ maybe.some b) ⊎ ((a ≡ b) × (j ≡ length l))
+pub at_end : (l : List View) (a b : View) (j : ℕ) → get_elem? (l ++ a ∷ []) j ≡ maybe.some b
+    → (get_elem? l j ≡ maybe.some b) ⊎ ((a ≡ b) × (j ≡ length l))
 at_end [] a b zero e = inr (some-injective a b e, refl)
 at_end [] a b (suc j) e = absurd cc
 at_end (x ∷ xs) a b zero e = inl e
 at_end (x ∷ xs) a b (suc j) e = ⊎_elim (λ h. inl h) (λ h. inr (h.0, ap suc h.1)) (at_end xs a b j e)
 
 -- the record x goes from the view v to a new seat, and ys stay
-module _ (c : Setting) (views : List View) (at : ℕ → SeatRecord) (sh : AreShown c views at) (id : ℕ) (v ys : View) (x : SeatRecord) (view : get_elem? views id ≡ maybe.some v)
-    (there_x : In x v) (there_ys : (z : SeatRecord) → In z ys → In z v) (either : (z : SeatRecord) → In z v → (z ≡ x) ⊎ In z ys) (apart : (z : SeatRecord) → In z ys → z.seat ≢ x.seat) (distinct : Distinct ys) where
+module _ (c : Setting) (views : List View) (at : ℕ → SeatRecord) (sh : AreShown c views at) (id : ℕ) (v ys : View)
+    (x : SeatRecord) (view : get_elem? views id ≡ maybe.some v)
+    (there_x : In x v) (there_ys : (z : SeatRecord) → In z ys → In z v)
+    (either : (z : SeatRecord) → In z v → (z ≡ x) ⊎ In z ys) (apart : (z : SeatRecord) → In z ys → z.seat ≢ x.seat)
+    (distinct : Distinct ys) where
   abbrev left_views : List View
   left_views = set views id ys
 
@@ -130,7 +139,8 @@ module _ (c : Setting) (views : List View) (at : ℕ → SeatRecord) (sh : AreSh
   desk_else : (j : ℕ) → j ≢ x.seat → moved_desk j ≡ sh.desk j
   desk_else j ne = put_else sh.desk x.seat (length left_views) j ne
 
-  each_after : (j : ℕ) (u : View) → get_elem? (left_views ++ (x ∷ []) ∷ []) j ≡ maybe.some u → (r : SeatRecord) → In r u → (at r.seat ≡ r) × (moved_desk r.seat ≡ j) × (r.seat < c.seats)
+  each_after : (j : ℕ) (u : View) → get_elem? (left_views ++ (x ∷ []) ∷ []) j ≡ maybe.some u → (r : SeatRecord) → In r u
+      → (at r.seat ≡ r) × (moved_desk r.seat ≡ j) × (r.seat < c.seats)
   each_after j u e r in_u = ⊎_elim
       (λ old. ⊎_elim
       (λ t.
@@ -144,15 +154,20 @@ module _ (c : Setting) (views : List View) (at : ℕ → SeatRecord) (sh : AreSh
       (λ new.
       let is_x = only r x (subst (λ (z : View). In r z) (sym new.0) in_u) in
       let old = sh.each id v view x there_x in
-      let seat : r.seat ≡ x.seat = ap (λ (z : SeatRecord). z.seat) is_x in
-      (ap at seat ∙ old.0 ∙ sym is_x, ap moved_desk seat ∙ put_here sh.desk x.seat (length left_views) ∙ sym new.1, subst (λ (z : ℕ). z < c.seats) (sym seat) old.2))
+      let seat : r.seat ≡ x.seat = ap (λ (z : SeatRecord). z.seat) is_x in (
+        ap at seat ∙ old.0 ∙ sym is_x,
+        ap moved_desk seat ∙ put_here sh.desk x.seat (length left_views) ∙ sym new.1,
+        subst (λ (z : ℕ). z < c.seats) (sym seat) old.2,
+      ))
       (at_end left_views (x ∷ []) u j e)
 
   there_after : (j : ℕ) → j < c.seats → (u : View) × (get_elem? (left_views ++ (x ∷ []) ∷ []) (moved_desk j) ≡ maybe.some u) × In (at j) u
   there_after j near = elim (eqb_tells j x.seat) [
     | inl h ↦ (
       x ∷ [],
-      ap (λ (n : ℕ). get_elem? (left_views ++ (x ∷ []) ∷ []) n) (ap moved_desk h.1 ∙ put_here sh.desk x.seat (length left_views)) ∙ at_last left_views (x ∷ []) (length left_views) refl,
+      ap (λ (n : ℕ). get_elem? (left_views ++ (x ∷ []) ∷ []) n)
+          (ap moved_desk h.1 ∙ put_here sh.desk x.seat (length left_views))
+          ∙ at_last left_views (x ∷ []) (length left_views) refl,
       inl (ap at h.1 ∙ (sh.each id v view x there_x).0),
     )
     | inr h ↦
@@ -164,7 +179,8 @@ module _ (c : Setting) (views : List View) (at : ℕ → SeatRecord) (sh : AreSh
                 | inl e ↦ absurd (h.1 (sym (sh.seats j) ∙ ap (λ (z : SeatRecord). z.seat) e))
                 | inr e ↦ (
                   ys,
-                  ap (λ (n : ℕ). get_elem? (left_views ++ (x ∷ []) ∷ []) n) (desk_else j h.1 ∙ d.1) ∙ at_longer left_views ((x ∷ []) ∷ []) id ys (set_here views id ys (long views id v view)),
+                  ap (λ (n : ℕ). get_elem? (left_views ++ (x ∷ []) ∷ []) n) (desk_else j h.1 ∙ d.1)
+                      ∙ at_longer left_views ((x ∷ []) ∷ []) id ys (set_here views id ys (long views id v view)),
                   e,
                 )
               ]
@@ -190,26 +206,33 @@ module _ (c : Setting) (views : List View) (at : ℕ → SeatRecord) (sh : AreSh
   }
 
 -- the first record of a view goes to a seat of its own
-deals : (k : Rules) (o : Object) (c : Setting) (id : ℕ) (r : SeatRecord) (rs : View) → Splits {S = Option FloorView} (IsHall k o c) id (r ∷ rs) (tail (r ∷ rs)) (head (r ∷ rs))
+deals : (k : Rules) (o : Object) (c : Setting) (id : ℕ) (r : SeatRecord) (rs : View)
+    → Splits {S = Option FloorView} (IsHall k o c) id (r ∷ rs) (tail (r ∷ rs)) (head (r ∷ rs))
 deals k o c id r rs s h view =
     let distinct = h.1.apart id (r ∷ rs) view in
     (h.0, shown_moved c s.views h.0 h.1 id (r ∷ rs) rs r view (inl refl) (λ z i. inr i) (λ z i. i) distinct.0 distinct.1, h.2)
 
-pub deals_next : (k : Rules) (o : Object) (c : Setting) (id : ℕ) (v : View) (r : SeatRecord) (rs : View) → v ≡ r ∷ rs → Splits {S = Option FloorView} (IsHall k o c) id v (tail v) (head v)
-deals_next k o c id v r rs e = subst (λ (x : View). Splits {S = Option FloorView} (IsHall k o c) id x (tail x) (head x)) (sym e) (deals k o c id r rs)
+pub deals_next : (k : Rules) (o : Object) (c : Setting) (id : ℕ) (v : View) (r : SeatRecord) (rs : View) → v ≡ r ∷ rs
+    → Splits {S = Option FloorView} (IsHall k o c) id v (tail v) (head v)
+deals_next k o c id v r rs e = subst (λ (x : View). Splits {S = Option FloorView} (IsHall k o c) id x (tail x) (head x))
+    (sym e) (deals k o c id r rs)
 
 fresh_step : (c : Setting) (n d : ℕ) → 0 < n → opening_records c n d ≡ opening_record c d ∷ opening_records c (n - 1) (suc d)
 fresh_step c zero d h = absurd (omega arith)
 fresh_step c (suc n) d h = let e : n ≡ suc n - 1 = omega arith in ap (λ (m : ℕ). opening_record c d ∷ opening_records c m (suc d)) e
 
 -- the view of the seats from d on, of m in all
-pub fresh_next : (c : Setting) (v : View) (m d : ℕ) → d < m → v ≡ opening_records c (m - d) d → v ≡ opening_record c d ∷ opening_records c (m - (d + 1)) (d + 1)
+pub fresh_next : (c : Setting) (v : View) (m d : ℕ) → d < m → v ≡ opening_records c (m - d) d
+    → v ≡ opening_record c d ∷ opening_records c (m - (d + 1)) (d + 1)
 fresh_next c v m d h e =
     e ∙ fresh_step c (m - d) d (omega arith)
-    ∙ (let a : m - d - 1 ≡ m - (d + 1) = omega arith in let b : suc d ≡ d + 1 = omega arith in λ i. opening_record c d ∷ opening_records c (a i) (b i))
+    ∙ (let a : m - d - 1 ≡ m - (d + 1) = omega arith in let b : suc d ≡ d + 1 = omega arith in
+    λ i. opening_record c d ∷ opening_records c (a i) (b i))
 
 -- the tokens of one seat more
-pub tokens_more : (z : TableId) (c : Setting) (n i : ℕ) → tokens z (opening_records c (n + 1) i) ≡ tokens z (opening_records c n i) ++ record { hall = z; me = opening_record c (i + n) } ∷ []
+pub tokens_more : (z : TableId) (c : Setting) (n i : ℕ)
+    → tokens z (opening_records c (n + 1) i) ≡ tokens z (opening_records c n i)
+    ++ record { hall = z; me = opening_record c (i + n) } ∷ []
 tokens_more z c zero i =
     let e : i ≡ i + 0 = omega arith in
     ap (λ (m : ℕ). token m ∷ []) e
@@ -220,7 +243,8 @@ tokens_more z c (suc n) i =
     let e : suc n + 1 ≡ suc (n + 1) = omega arith in
     let a : suc i + n ≡ i + suc n = omega arith in
     ap (λ (m : ℕ). tokens z (opening_records c m i)) e
-    ∙ ap (λ (l : List Token). token i ∷ l) (tokens_more z c n (suc i) ∙ ap (λ (m : ℕ). tokens z (opening_records c n (suc i)) ++ token m ∷ []) a)
+    ∙ ap (λ (l : List Token). token i ∷ l)
+    (tokens_more z c n (suc i) ∙ ap (λ (m : ℕ). tokens z (opening_records c n (suc i)) ++ token m ∷ []) a)
   where
     token : ℕ → Token
     token m = record { hall = z; me = opening_record c m }
@@ -231,7 +255,9 @@ zero_words (suc n) zero = refl
 zero_words (suc n) (suc i) = zero_words n i
 
 -- a seat that has its record rests
-pub fresh_rests : (k : Rules) (o : Object) (z : TableId) (c : Setting) (number budget : ℕ) → number < c.seats → z.words ≡ word_count c.seats → budget ≡ c.budget → IsResting k o z (opening_record c number ∷ [], []) number budget 0
+pub fresh_rests : (k : Rules) (o : Object) (z : TableId) (c : Setting) (number budget : ℕ) → number < c.seats
+    → z.words ≡ word_count c.seats → budget ≡ c.budget
+    → IsResting k o z (opening_record c number ∷ [], []) number budget 0
 fresh_rests k o z c number budget near sized enough = record {
   one = refl;
   free = refl;
@@ -242,9 +268,13 @@ fresh_rests k o z c number budget near sized enough = record {
 
 -- a hall that is made has a seat
 pub some_seat : (seats conds budget : ℕ) → make_refusal seats conds budget ≡ None → 0 < seats
-some_seat seats conds budget made = not_below (first_test (nat_lt seats 1) (nat_lt 32 seats) (nat_lt 8 conds) (nat_lt budget 2 || nat_lt 1048576 budget) made)
+some_seat seats conds budget made =
+    not_below (first_test (nat_lt seats 1) (nat_lt 32 seats) (nat_lt 8 conds) (nat_lt budget 2 || nat_lt 1048576 budget)
+    made)
   where
-    first_test : (a b c d : Bool) → cond (a || b) (Some fault.Seats) (cond c (Some fault.Conds) (cond d (Some fault.Budget) None)) ≡ None → a ≡ false
+    first_test : (a b c d : Bool)
+        → cond (a || b) (Some fault.Seats) (cond c (Some fault.Conds) (cond d (Some fault.Budget) None)) ≡ None
+        → a ≡ false
     first_test false b c d e = refl
     first_test true b c d e = absurd cc
 
@@ -255,6 +285,7 @@ pub tokens_are_of : (z : TableId) (c : Setting) (n i : ℕ) → AreOf z c (token
 tokens_are_of z c zero i = tt
 tokens_are_of z c (suc n) i = (refl, refl, tokens_are_of z c n (suc i))
 
-pub last_is_of : (z : TableId) (c : Setting) (ps : List Token) (p : Token) → AreOf z c (ps ++ p ∷ []) → ((p.hall ≡ z) × (p.me.setting ≡ c)) × AreOf z c ps
+pub last_is_of : (z : TableId) (c : Setting) (ps : List Token) (p : Token) → AreOf z c (ps ++ p ∷ [])
+    → ((p.hall ≡ z) × (p.me.setting ≡ c)) × AreOf z c ps
 last_is_of z c [] p h = ((h.0, h.1), tt)
 last_is_of z c (q ∷ ps) p h = let rest = last_is_of z c ps p h.2 in (rest.0, (h.0, h.1, rest.1))

@@ -1,5 +1,7 @@
 -- The active seat brings the floor home
-use Rattle.std.proofs.Common.{◌≡◌, ◌≢◌, ℕ, ◌+◌, ◌-◌, ◌<◌, ◌≤◌, cond, Bool, false, List, [], ◌∷◌, ◌++◌, length, set, sym, refl, ap, ◌∙◌, subst, inl, inr, arith, ne_eqb, append-nil, append_assoc, length-append, length-set}
+use Rattle.std.proofs.Common.{◌≡◌, ◌≢◌, ℕ, ◌+◌, ◌-◌, ◌<◌, ◌≤◌, cond, Bool, false, List, [], ◌∷◌, ◌++◌, length, set, sym}
+use Rattle.std.proofs.Common.{refl, ap, ◌∙◌, subst, inl, inr, arith, ne_eqb, append-nil, append_assoc, length-append}
+use Rattle.std.proofs.Common.{length-set}
 use Rattle.std.specs.List.{last_or}
 use Rattle.std.specs.Prelude.{Option, Some, None}
 use Rattle.std.proofs.lemmas.Bool.Decides.{eqb_tells}
@@ -40,7 +42,7 @@ use Rattle.monk_world.specs.declared.source.Source.TheVariants.{Free, Granted, C
 use Rattle.monk_world.proofs.Holders.{held}
 use Rattle.monk_world.proofs.PutLaws.{at_put, put_here}
 use Rattle.monk_world.proofs.TestLaws.{names_chosen}
-use Rattle.monk_hall.specs.Changes.{record_after_floor_in, source_at, back_after}
+use Rattle.monk_hall.specs.Changes.{record_after_floor_in, source_from, back_after}
 use Rattle.monk_hall.specs.Floors.{StartsWith, ArePrivate}
 use Rattle.monk_hall.specs.Laws.{BringsHome}
 use Rattle.monk_hall.specs.Layout.{floor_of, shown_state, shown_world}
@@ -64,7 +66,8 @@ starts_on : (h g f : List Event) → StartsWith h g → StartsWith g f → Start
 starts_on h g f a b = (b.0 ++ a.0, a.1 ∙ ap (λ (x : List Event). x ++ a.0) b.1 ∙ append_assoc f b.0 a.0)
 
 -- a choice that names a seat chose it, and no other choice does
-chosen_counts : (h : List Event) (e : Event) (x : Next) (m : ℕ) → next_of e ≡ Some x → turn_of_next x ≡ due_to m → granted_of (h ++ e ∷ []) m ≡ granted_of h m + 1
+chosen_counts : (h : List Event) (e : Event) (x : Next) (m : ℕ) → next_of e ≡ Some x → turn_of_next x ≡ due_to m
+    → granted_of (h ++ e ∷ []) m ≡ granted_of h m + 1
 chosen_counts h e x m chose names_m =
     granted_of-push h e m ∙ ap (λ (b : Bool). granted_of h m + cond b 1 0) (ap (chooses_seat m) chose ∙ names_chosen x m names_m)
 
@@ -75,9 +78,12 @@ names_not (next.Waiter j) m ne = ne_eqb j m (λ e. ne (ap due_to e))
 names_not (next.Signaller j) m ne = ne_eqb j m (λ e. ne (ap due_to e))
 names_not (next.Until j) m ne = ne_eqb j m (λ e. ne (ap due_to e))
 
-not_counts : (h : List Event) (e : Event) (x : Next) (m : ℕ) → next_of e ≡ Some x → turn_of_next x ≢ due_to m → granted_of (h ++ e ∷ []) m ≡ granted_of h m
+not_counts : (h : List Event) (e : Event) (x : Next) (m : ℕ) → next_of e ≡ Some x → turn_of_next x ≢ due_to m
+    → granted_of (h ++ e ∷ []) m ≡ granted_of h m
 not_counts h e x m chose ne =
-    granted_of-push h e m ∙ ap (λ (b : Bool). granted_of h m + cond b 1 0) (ap (chooses_seat m) chose ∙ names_not x m ne) ∙ (let z : granted_of h m + 0 ≡ granted_of h m = omega arith in z)
+    granted_of-push h e m
+    ∙ ap (λ (b : Bool). granted_of h m + cond b 1 0) (ap (chooses_seat m) chose ∙ names_not x m ne)
+    ∙ (let z : granted_of h m + 0 ≡ granted_of h m = omega arith in z)
 
 -- an event that keeps the turn chose nobody
 keeps_names : (i m : ℕ) (e : Event) → turn_by (seat_of e) (next_of e) ≡ Owned i → grants m e ≡ false
@@ -96,11 +102,13 @@ own_counts i m h [] own = ap (λ (g : List Event). granted_of g m) (append-nil h
 own_counts i m h (e ∷ es) own =
     ap (λ (g : List Event). granted_of g m) (sym (append_assoc h (e ∷ []) es))
     ∙ own_counts i m (h ++ e ∷ []) es own.1
-    ∙ granted_of-push h e m ∙ ap (λ (b : Bool). granted_of h m + cond b 1 0) (keeps_names i m e own.0.keeps) ∙ (let z : granted_of h m + 0 ≡ granted_of h m = omega arith in z)
+    ∙ granted_of-push h e m ∙ ap (λ (b : Bool). granted_of h m + cond b 1 0) (keeps_names i m e own.0.keeps)
+    ∙ (let z : granted_of h m + 0 ≡ granted_of h m = omega arith in z)
 
 out_counts : (h : List Event) (i m : ℕ) (q : Source) → granted_of (h ++ out_event i q (turn h) ∷ []) m ≡ granted_of h m
 out_counts h i m q =
-    granted_of-push h (out_event i q (turn h)) m ∙ ap (λ (b : Bool). granted_of h m + cond b 1 0) (none q) ∙ (let z : granted_of h m + 0 ≡ granted_of h m = omega arith in z)
+    granted_of-push h (out_event i q (turn h)) m ∙ ap (λ (b : Bool). granted_of h m + cond b 1 0) (none q)
+    ∙ (let z : granted_of h m + 0 ≡ granted_of h m = omega arith in z)
   where
     none : (q : Source) → grants m (out_event i q (turn h)) ≡ false
     none (Free t) = refl
@@ -117,10 +125,11 @@ chosen_low (Back x to) m e = refl
 chosen_low (Passing t to) m e = absurd (omega arith)
 chosen_low Inner m e = absurd (omega arith)
 
-module _ (k : Rules) (o : Object) (c : Setting) (kind : IsKind k) (s : table.State (Option FloorView) View) (h : IsHall k o c s) (id : ℕ) (r : SeatRecord) (here : get_elem? s.views id ≡ maybe.some (r ∷ []))
+module _ (k : Rules) (o : Object) (c : Setting) (kind : IsKind k) (s : table.State (Option FloorView) View)
+    (h : IsHall k o c s) (id : ℕ) (r : SeatRecord) (here : get_elem? s.views id ≡ maybe.some (r ∷ []))
     (active : stage r.place ≡ active_stage) (f : FloorView) (ret : Returns k o r f) where
   abbrev q : Source
-  q = source_at r.place
+  q = source_from r.place
 
   abbrev past : List Event
   past = h.2.past
@@ -145,7 +154,8 @@ module _ (k : Rules) (o : Object) (c : Setting) (kind : IsKind k) (s : table.Sta
 
   -- the history before the release is the shown one and the seat's own events
   goes_is : before ≡ h.2.history ++ ret.goes_on.since
-  goes_is = ret.goes_on.goes ∙ ap (λ (g : List Event). (g ++ out_event r.seat q (turn g) ∷ []) ++ ret.goes_on.since) seen_past ∙ ap (λ (g : List Event). g ++ ret.goes_on.since) (sym history_is)
+  goes_is = ret.goes_on.goes ∙ ap (λ (g : List Event). (g ++ out_event r.seat q (turn g) ∷ []) ++ ret.goes_on.since)
+      seen_past ∙ ap (λ (g : List Event). g ++ ret.goes_on.since) (sym history_is)
 
   before_is : ret.before ≡ floor_of c before
   before_is = ret.goes_on.is_floor ∙ ap (λ (y : Setting). floor_of y before) (stepping.setting k o c kind s h id r here)
@@ -165,32 +175,47 @@ module _ (k : Rules) (o : Object) (c : Setting) (kind : IsKind k) (s : table.Sta
   kept_before : IsKept k o c.seats c.conds (shown_state c s.words h.0 before)
   kept_before =
       let long = ap length mine_long ∙ length-append (events_of h.2.history r.seat) ret.goes_on.since in
-      let room : left_of ret.before.budget before r.seat ≡ left_of c.budget before r.seat = ap (λ (g : FloorView). left_of g.budget before r.seat) before_is in
+      let room : left_of ret.before.budget before r.seat ≡ left_of c.budget before r.seat =
+      ap (λ (g : FloorView). left_of g.budget before r.seat) before_is in
       let some = ret.left in
       subst (λ (g : List Event). IsKept k o c.seats c.conds (shown_state c s.words h.0 g)) (sym goes_is)
-      (private.more_kept k o (stepping.state k o c kind s h id r here) c.seats c.conds r.seat q ret.goes_on.since h.2.kept (stepping.near k o c kind s h id r here) at_active ret.goes_on.own
+      (private.more_kept k o (stepping.state k o c kind s h id r here) c.seats c.conds r.seat q ret.goes_on.since
+      h.2.kept (stepping.near k o c kind s h id r here) at_active ret.goes_on.own
       (subst (IsLegal (monitor_of k o (floor_of c before))) goes_is legal_before) (omega arith))
 
   abbrev old : State
   old = shown_state c s.words h.0 before
 
-  taken : releasing.IsTaken k o old c.seats c.conds r.seat q kind kept_before (stepping.near k o c kind s h id r here) at_active ret.to ret.choice ret.call
+  taken : releasing.IsTaken k o old c.seats c.conds r.seat q kind kept_before (stepping.near k o c kind s h id r here)
+      at_active ret.to ret.choice ret.call
   taken =
-      releasing.release_kept k o old c.seats c.conds r.seat q kind kept_before (stepping.near k o c kind s h id r here) at_active ret.to ret.call ret.wish ret.choice ret.release
+      releasing.release_kept k o old c.seats c.conds r.seat q kind kept_before (stepping.near k o c kind s h id r here)
+      at_active ret.to ret.call ret.wish ret.choice ret.release
       (subst (λ (g : FloorView). MayCall (monitor_of k o g) before ret.call) before_is ret.may)
       (subst (λ (g : FloorView). left_within ret.to < left_of g.budget before r.seat) before_is ret.left)
       (ret.chosen ∙ ap (λ (g : FloorView). choice_of k o (stands_of k o g) ret.call r.known ret.wish) before_is
-      ∙ ap (λ (y : SeatRecord). choice_of k o (stands_of k o (floor_of c before)) ret.call y.known ret.wish) (sym (stepping.is k o c kind s h id r here)))
+      ∙ ap (λ (y : SeatRecord). choice_of k o (stands_of k o (floor_of c before)) ret.call y.known ret.wish)
+      (sym (stepping.is k o c kind s h id r here)))
       ret.away
 
-  kept_after : IsKept k o c.seats c.conds (record old { world = after_floor_in old.world r.seat ret.choice ret.to; floor = with_event (floor_of c before) last })
+  kept_after : IsKept k o c.seats c.conds
+      (record old {
+        world = after_floor_in old.world r.seat ret.choice ret.to;
+        floor =
+            with_event (floor_of c before) last;
+      })
   kept_after = taken.is_kept
 
   -- where the seat stands now
   back_is : w.place ≡ Back ret.choice ret.to
-  back_is = ap (λ (g : List Event). back_after (last_or None g)) f_history ∙ ap back_after (last_more None before last) ∙ releasing.back_is r.seat ret.to ret.call ret.choice ret.release
+  back_is = ap (λ (g : List Event). back_after (last_or None g)) f_history ∙ ap back_after (last_more None before last)
+      ∙ releasing.back_is r.seat ret.to ret.call ret.choice ret.release
 
-  same : Path State (record old { world = after_floor_in old.world r.seat ret.choice ret.to; floor = with_event (floor_of c before) last }) (shown_state c s.words (put h.0 r.seat w) f.history)
+  same : Path State (record old {
+    world = after_floor_in old.world r.seat ret.choice ret.to;
+    floor =
+        with_event (floor_of c before) last;
+  }) (shown_state c s.words (put h.0 r.seat w) f.history)
   same = λ z. record {
     world = record old.world {
       place = (ap (put old.world.place r.seat) (sym back_is) ∙ stepping.places_after k o c kind s h id r here w) z;
@@ -232,21 +257,27 @@ module _ (k : Rules) (o : Object) (c : Setting) (kind : IsKind k) (s : table.Sta
   calls_after =
       let at = h.0 in
       let world : World = shown_world s.words at in
-      let settled : (m : ℕ) → granted_of before m ≡ world.seat_place m = λ m. before_counts m ∙ h.2.told.calls.settled m (λ j. nobody_chose j m) in
+      let settled : (m : ℕ) → granted_of before m ≡ world.seat_place m = λ m. before_counts m
+      ∙ h.2.told.calls.settled m (λ j. nobody_chose j m) in
       record {
         choosing = λ j m. at_put at r.seat w (λ n x. back_turn x.place ≡ due_to m → granted_of f.history m ≡ world.seat_place m + 1)
-            (λ e. ap (λ (g : List Event). granted_of g m) f_history ∙ chosen_counts before last ret.choice m chose_is (sym (ap back_turn back_is) ∙ e) ∙ ap (λ (n : ℕ). n + 1) (settled m))
+            (λ e. ap (λ (g : List Event). granted_of g m) f_history
+            ∙ chosen_counts before last ret.choice m chose_is (sym (ap back_turn back_is) ∙ e)
+            ∙ ap (λ (n : ℕ). n + 1) (settled m))
             (λ n _ e. absurd (nobody_chose n m e)) j;
         settled = λ m none.
             ap (λ (g : List Event). granted_of g m) f_history
-            ∙ not_counts before last ret.choice m chose_is (λ e. none r.seat (ap (λ (y : SeatRecord). back_turn y.place) (put_here at r.seat w) ∙ ap back_turn back_is ∙ e)) ∙ settled m;
+            ∙ not_counts before last ret.choice m chose_is
+            (λ e. none r.seat (ap (λ (y : SeatRecord). back_turn y.place) (put_here at r.seat w)
+            ∙ ap back_turn back_is ∙ e)) ∙ settled m;
       }
 
   past_starts : StartsWith f.history past
   past_starts = (
     out_event r.seat q (turn past) ∷ (ret.goes_on.since ++ last ∷ []),
     f_history ∙ ap (λ (g : List Event). g ++ last ∷ []) goes_is ∙ ap (λ (g : List Event). (g ++ ret.goes_on.since) ++ last ∷ []) history_is
-        ∙ append_assoc (past ++ out_event r.seat q (turn past) ∷ []) ret.goes_on.since (last ∷ []) ∙ append_assoc past (out_event r.seat q (turn past) ∷ []) (ret.goes_on.since ++ last ∷ []),
+        ∙ append_assoc (past ++ out_event r.seat q (turn past) ∷ []) ret.goes_on.since (last ∷ [])
+        ∙ append_assoc past (out_event r.seat q (turn past) ∷ []) (ret.goes_on.since ++ last ∷ []),
   )
 
   others_mine : (j : ℕ) → j ≢ r.seat → events_of f.history j ≡ (h.0 j).mine
@@ -259,7 +290,8 @@ module _ (k : Rules) (o : Object) (c : Setting) (kind : IsKind k) (s : table.Sta
       ∙ frame.other_event past (out_event r.seat q (turn past)) j (λ e. ne (sym e ∙ frame.out_seat r.seat q past))
       ∙ h.2.told.mine j
 
-  told_after : AreTold k o c (set s.homes 0 (maybe.some (Some f))) (put h.0 r.seat w) (shown_world s.words (put h.0 r.seat w)) f.history f.history
+  told_after : AreTold k o c (set s.homes 0 (maybe.some (Some f))) (put h.0 r.seat w)
+      (shown_world s.words (put h.0 r.seat w)) f.history f.history
   told_after =
       let at = h.0 in
       let told = h.2.told in
@@ -267,18 +299,28 @@ module _ (k : Rules) (o : Object) (c : Setting) (kind : IsKind k) (s : table.Sta
       record {
         one_slot = length-set s.homes 0 (maybe.some (Some f)) ∙ told.one_slot;
         legal = (subst (IsKept k o c.seats c.conds) same kept_after).sound.is_sound.legal;
-        starts = at_put at r.seat w (λ j x. StartsWith f.history x.seen) (frame.starts_self f.history) (λ j _. starts_on f.history past (at j).seen past_starts (told.starts j));
+        starts = at_put at r.seat w (λ j x. StartsWith f.history x.seen) (frame.starts_self f.history)
+            (λ j _. starts_on f.history past (at j).seen past_starts (told.starts j));
         mine = at_put at r.seat w (λ j x. events_of f.history j ≡ x.mine) refl (λ j ne. others_mine j ne);
         own = at_put at r.seat w (λ j x. events_of x.seen j ≡ x.mine) refl (λ j _. told.own j);
-        back = at_put at r.seat w (λ j x. stage x.place ≡ back_stage → x.seen ≡ f.history) (λ _. refl) (λ j ne e. absurd (alone j ne (omega arith) (omega arith)));
-        lent = at_put at r.seat w (λ j x. (p : Source) → x.place ≡ Active p → (x.seen ≡ f.history) × (f.history ≡ f.history ++ out_event j p (turn f.history) ∷ []) × (get_elem? (set s.homes 0 (maybe.some (Some f))) 0 ≡ maybe.some maybe.none))
+        back = at_put at r.seat w (λ j x. stage x.place ≡ back_stage → x.seen ≡ f.history) (λ _. refl)
+            (λ j ne e. absurd (alone j ne (omega arith) (omega arith)));
+        lent = at_put at r.seat w
+            (λ j x. (p : Source) → x.place ≡ Active p
+            → (x.seen ≡ f.history) × (f.history ≡ f.history ++ out_event j p (turn f.history) ∷ [])
+            × (get_elem? (set s.homes 0 (maybe.some (Some f))) 0 ≡ maybe.some maybe.none))
             (λ p e. absurd (let z = ap stage e in omega arith))
             (λ j ne p e. absurd (let z = ap stage e in alone j ne (omega arith) (omega arith)));
-        home = λ none. (refl, set_here s.homes 0 (maybe.some (Some f)) (let z = told.one_slot in omega arith) ∙ ap (λ (g : FloorView). maybe.some (maybe.some (Some g))) (grown_is ∙ ap (floor_of c) (sym f_history)));
+        home = λ none. (
+          refl,
+          set_here s.homes 0 (maybe.some (Some f)) (let z = told.one_slot in omega arith)
+              ∙ ap (λ (g : FloorView). maybe.some (maybe.some (Some g))) (grown_is ∙ ap (floor_of c) (sym f_history)),
+        );
         calls = calls_after;
       }
 
-  pub gives_at : BringsHome k o c s h r.seat (record { words = s.words; homes = set s.homes 0 (maybe.some (Some f)); views = set s.views id (w ∷ []) })
+  pub gives_at : BringsHome k o c s h r.seat
+      (record { words = s.words; homes = set s.homes 0 (maybe.some (Some f)); views = set s.views id (w ∷ []) })
   gives_at = record {
     hall = (
       put h.0 r.seat w,
@@ -298,19 +340,29 @@ module _ (k : Rules) (o : Object) (c : Setting) (kind : IsKind k) (s : table.Sta
     command = taken.command;
     choice = ret.choice;
     away = ret.away;
-    step = subst (λ (g : List Event). IsStep k o (shown_state c s.words h.0 g) r.seat taken.command (answer.Chose ret.choice) (shown_state c s.words (put h.0 r.seat w) f.history)) goes_is
+    step = subst (λ (g : List Event). IsStep k o (shown_state c s.words h.0 g) r.seat taken.command
+        (answer.Chose ret.choice) (shown_state c s.words (put h.0 r.seat w) f.history)) goes_is
         (subst (λ (t : State). IsStep k o old r.seat taken.command (answer.Chose ret.choice) t) same taken.step);
   }
 
-pub gives_floor : (k : Rules) (o : Object) (c : Setting) → IsKind k → (slots id : ℕ) (me : Me) (f : FloorView) → IsOne me.0 → me.1 ≡ (0, Some f) ∷ [] → stage (the me.0).place ≡ active_stage → Returns k o (the me.0) f
+pub gives_floor : (k : Rules) (o : Object) (c : Setting) → IsKind k → (slots id : ℕ) (me : Me) (f : FloorView)
+    → IsOne me.0 → me.1 ≡ (0, Some f) ∷ [] → stage (the me.0).place ≡ active_stage → Returns k o (the me.0) f
     → Allows (IsHall k o c) slots id me 0 (λ n. n) (TellsFloorIn (held_history me.1) me)
 gives_floor k o c kind slots id me f one holds active ret =
-    subst (λ (g : List (ℕ × Option FloorView)). Allows (IsHall k o c) slots id (me.0, g) 0 (λ n. n) (TellsFloorIn (held_history g) (me.0, g))) (sym holds) (λ s h wide view small.
+    subst (λ (g : List (ℕ × Option FloorView)). Allows (IsHall k o c) slots id (me.0, g) 0 (λ n. n)
+    (TellsFloorIn (held_history g) (me.0, g))) (sym holds) (λ s h wide view small.
     let here : get_elem? s.views id ≡ maybe.some (the me.0 ∷ []) = view ∙ ap maybe.some one in
     let r : SeatRecord = the me.0 in (
       record_after_floor_in r f.history ∷ [],
       gives,
       tt,
-      subst (λ (ws : List ℕ). IsHall k o c (record { words = ws; homes = set s.homes 0 (maybe.some (Some f)); views = set s.views id (record_after_floor_in r f.history ∷ []) })) (sym (set-get_or s.words 0 0)) (gives_at k o c kind s h id r here active f ret).hall,
+      subst (λ (ws : List ℕ). IsHall k o c
+          (record {
+            words = ws;
+            homes = set s.homes 0 (maybe.some (Some f));
+            views =
+                set s.views id (record_after_floor_in r f.history ∷ []);
+          })) (sym (set-get_or s.words 0 0))
+          (gives_at k o c kind s h id r here active f ret).hall,
       refl,
     ))

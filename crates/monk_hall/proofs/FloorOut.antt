@@ -1,5 +1,6 @@
 -- The floor comes out to the seat that is due
-use Rattle.std.proofs.Common.{◌≡◌, ◌≢◌, ℕ, ◌+◌, ◌-◌, ◌≤◌, false, List, [], ◌∷◌, ◌++◌, length, set, sym, refl, ap, ◌∙◌, subst, arith, length-set}
+use Rattle.std.proofs.Common.{◌≡◌, ◌≢◌, ℕ, ◌+◌, ◌-◌, ◌≤◌, false, List, [], ◌∷◌, ◌++◌, length, set, sym, refl, ap, ◌∙◌}
+use Rattle.std.proofs.Common.{subst, arith, length-set}
 use Rattle.std.specs.Prelude.{Option, Some}
 use Rattle.std.proofs.lemmas.List.{set-get_or}
 use mathlib.Core.Option as maybe
@@ -35,7 +36,7 @@ use Rattle.monk_world.proofs.DoneLaws.{IsReady}
 use Rattle.monk_world.proofs.EntersLaws.{entered_here}
 use Rattle.monk_world.proofs.Holders.{held}
 use Rattle.monk_world.proofs.PutLaws.{at_put, put_here}
-use Rattle.monk_hall.specs.Changes.{record_after_floor_out, source_at}
+use Rattle.monk_hall.specs.Changes.{record_after_floor_out, source_from}
 use Rattle.monk_hall.specs.Floors.{StartsWith, Finds}
 use Rattle.monk_hall.specs.Laws.{Takes}
 use Rattle.monk_hall.specs.Layout.{floor_of, shown_state, shown_world}
@@ -50,13 +51,14 @@ use Rattle.monk_hall.proofs.Seats as seats
 use Rattle.monk_hall.proofs.Standing as standing
 use Rattle.monk_hall.proofs.Stepping as stepping
 
-module _ (k : Rules) (o : Object) (c : Setting) (kind : IsKind k) (s : table.State (Option FloorView) View) (h : IsHall k o c s) (id : ℕ) (r : SeatRecord) (here : get_elem? s.views id ≡ maybe.some (r ∷ []))
+module _ (k : Rules) (o : Object) (c : Setting) (kind : IsKind k) (s : table.State (Option FloorView) View)
+    (h : IsHall k o c s) (id : ℕ) (r : SeatRecord) (here : get_elem? s.views id ≡ maybe.some (r ∷ []))
     (due : stage r.place ≡ due_stage) where
   abbrev past : List Event
   past = h.2.past
 
   abbrev came : Event
-  came = out_event r.seat (source_at r.place) (turn past)
+  came = out_event r.seat (source_from r.place) (turn past)
 
   abbrev floor : FloorView
   floor = floor_of c past
@@ -67,8 +69,8 @@ module _ (k : Rules) (o : Object) (c : Setting) (kind : IsKind k) (s : table.Sta
   abbrev w : SeatRecord
   w = record_after_floor_out r past
 
-  at_due : (h.0 r.seat).place ≡ Due (source_at r.place)
-  at_due = stepping.stands_at k o c kind s h id r here (Due (source_at r.place)) (standing.due_at r.place due)
+  at_due : (h.0 r.seat).place ≡ Due (source_from r.place)
+  at_due = stepping.stands_at k o c kind s h id r here (Due (source_from r.place)) (standing.due_at r.place due)
 
   -- nobody is active: the seat that is due has the right
   nobody : (j : ℕ) → stage (h.0 j).place ≢ active_stage
@@ -89,7 +91,11 @@ module _ (k : Rules) (o : Object) (c : Setting) (kind : IsKind k) (s : table.Sta
   kept_old = subst (λ (g : List Event). IsKept k o c.seats c.conds (shown_state c s.words h.0 g)) (h.2.told.home nobody).0 h.2.kept
 
   after : State
-  after = record { world = after_floor_out old.world r.seat (source_at r.place); known = put old.known r.seat false; floor = with_event floor came }
+  after = record {
+    world = after_floor_out old.world r.seat (source_from r.place);
+    known = put old.known r.seat false;
+    floor = with_event floor came;
+  }
 
   ready : IsReady k o old r.seat command.Out
   ready = record {
@@ -102,16 +108,21 @@ module _ (k : Rules) (o : Object) (c : Setting) (kind : IsKind k) (s : table.Sta
 
   kept_after : IsKept k o c.seats c.conds after
   unfolding after
-  kept_after = frame.step_kept k o old r.seat command.Out answer.Now after c.seats c.conds (Due (source_at r.place)) kind kept_old ready at_due (refl, refl)
+  kept_after = frame.step_kept k o old r.seat command.Out answer.Now after c.seats c.conds (Due (source_from r.place))
+      kind kept_old ready at_due (refl, refl)
 
   step_after : IsStep k o old r.seat command.Out answer.Now after
   unfolding after
-  step_after = frame.step_is k o old r.seat command.Out answer.Now after (Due (source_at r.place)) ready at_due (refl, refl)
+  step_after = frame.step_is k o old r.seat command.Out answer.Now after (Due (source_from r.place)) ready at_due (refl, refl)
 
   same : Path State after (shown_state c s.words (put h.0 r.seat w) (past ++ came ∷ []))
   unfolding after
   same = λ z. record {
-    world = record old.world { place = stepping.places_after k o c kind s h id r here w z; count = stepping.counts_stay k o c kind s h id r here w refl z };
+    world = record old.world {
+      place = stepping.places_after k o c kind s h id r here w z;
+      count =
+          stepping.counts_stay k o c kind s h id r here w refl z;
+    };
     known = stepping.known_after k o c kind s h id r here w false refl z;
     floor = floor_of c (past ++ came ∷ []);
   }
@@ -130,14 +141,23 @@ module _ (k : Rules) (o : Object) (c : Setting) (kind : IsKind k) (s : table.Sta
         mine = at_put at r.seat w (λ j x. events_of past j ≡ x.mine) (told.mine r.seat ∙ sym mine) (λ j _. told.mine j);
         own = at_put at r.seat w (λ j x. events_of x.seen j ≡ x.mine) (told.mine r.seat ∙ sym mine) (λ j _. told.own j);
         back = at_put at r.seat w (λ j x. stage x.place ≡ back_stage → x.seen ≡ past) (λ e. absurd (omega arith)) (λ j _. told.back j);
-        lent = at_put at r.seat w (λ j x. (q : Source) → x.place ≡ Active q → (x.seen ≡ past) × (past ++ came ∷ [] ≡ past ++ out_event j q (turn past) ∷ []) × (get_elem? (set s.homes 0 maybe.none) 0 ≡ maybe.some maybe.none))
-            (λ q e. (refl, ap (λ (p : Place). past ++ out_event r.seat (source_at p) (turn past) ∷ []) e, set_here s.homes 0 maybe.none (let z = told.one_slot in omega arith)))
+        lent = at_put at r.seat w
+            (λ j x. (q : Source) → x.place ≡ Active q
+            → (x.seen ≡ past) × (past ++ came ∷ [] ≡ past ++ out_event j q (turn past) ∷ [])
+            × (get_elem? (set s.homes 0 maybe.none) 0 ≡ maybe.some maybe.none))
+            (λ q e. (
+              refl,
+              ap (λ (p : Place). past ++ out_event r.seat (source_from p) (turn past) ∷ []) e,
+              set_here s.homes 0 maybe.none (let z = told.one_slot in omega arith),
+            ))
             (λ j _ q e. absurd (nobody j (ap stage e)));
         home = λ none. absurd (none r.seat (ap (λ (y : SeatRecord). stage y.place) (put_here at r.seat w)));
-        calls = calls_stay world (shown_world s.words (put at r.seat w)) past r.seat w.place told.calls (sym (stepping.places_after k o c kind s h id r here w)) refl (ap back_turn at_due) refl;
+        calls = calls_stay world (shown_world s.words (put at r.seat w)) past r.seat w.place told.calls
+            (sym (stepping.places_after k o c kind s h id r here w)) refl (ap back_turn at_due) refl;
       }
 
-  pub takes_at : Takes k o c s h r.seat command.Out answer.Now (record { words = s.words; homes = set s.homes 0 maybe.none; views = set s.views id (w ∷ []) })
+  pub takes_at : Takes k o c s h r.seat command.Out answer.Now
+      (record { words = s.words; homes = set s.homes 0 maybe.none; views = set s.views id (w ∷ []) })
   takes_at = record {
     hall = (
       put h.0 r.seat w,
@@ -151,16 +171,19 @@ module _ (k : Rules) (o : Object) (c : Setting) (kind : IsKind k) (s : table.Sta
         told = told_after;
       },
     );
-    step = subst (λ (g : List Event). IsStep k o (shown_state c s.words h.0 g) r.seat command.Out answer.Now (shown_state c s.words (put h.0 r.seat w) (past ++ came ∷ []))) (sym (h.2.told.home nobody).0)
+    step = subst (λ (g : List Event). IsStep k o (shown_state c s.words h.0 g) r.seat command.Out answer.Now
+        (shown_state c s.words (put h.0 r.seat w) (past ++ came ∷ []))) (sym (h.2.told.home nobody).0)
         (subst (λ (t : State). IsStep k o old r.seat command.Out answer.Now t) same step_after);
   }
 
-  entered_is : (t : ℕ) (q : Source) → source_at r.place ≡ q → used_at (Due q) ≡ 0 → ticket (Due q) ≡ t → source (Due q) ≤ granted_source → enters_of past ≡ t
+  entered_is : (t : ℕ) (q : Source) → source_from r.place ≡ q → used_at (Due q) ≡ 0 → ticket (Due q) ≡ t
+      → source (Due q) ≤ granted_source → enters_of past ≡ t
   entered_is t q q_is unused number outer =
       let sound = kept_old.sound.is_sound in
       let at_q : (h.0 r.seat).place ≡ Due q = at_due ∙ ap Due q_is in
       let two = ap stage at_q in
-      let e = entered_here c.seats old.world kept_old.sound.right kept_old.sound.owner sound.stands.keeps (enters_of past) sound.entered r.seat (Due q) at_q (omega arith) (omega arith) in
+      let e = entered_here c.seats old.world kept_old.sound.right kept_old.sound.owner sound.stands.keeps
+      (enters_of past) sound.entered r.seat (Due q) at_q (omega arith) (omega arith) in
       let s_is = ap source at_q in
       let n = sound.stands.keeps.tickets.in_use r.seat two (omega arith) in
       let t_is = ap ticket at_q ∙ number in
@@ -181,18 +204,27 @@ module _ (k : Rules) (o : Object) (c : Setting) (kind : IsKind k) (s : table.Sta
         mine = mine;
         allowed = legal_last (monitor_of k o floor) past came (subst (IsKept k o c.seats c.conds) same kept_after).sound.is_sound.legal;
         left = let l = sound.left r.seat in let p = ap left_at at_due in omega arith;
-        within = let b = kept_old.bounded.within r.seat in let l = ap length mine in let y = ap (λ (x : Setting). x.budget) setting in omega arith;
+        within = let b = kept_old.bounded.within r.seat in let l = ap length mine in let y =
+            ap (λ (x : Setting). x.budget) setting in omega arith;
         first = λ t e. entered_is t (Free t) e refl refl (omega arith);
         next = λ t e. entered_is t (Granted t) e refl refl (omega arith);
       }
 
-pub takes_floor : (k : Rules) (o : Object) (c : Setting) → IsKind k → (id : ℕ) (me : Me) → IsOne me.0 → me.1 ≡ [] → stage (the me.0).place ≡ due_stage → Allows (IsHall k o c) 1 id me 0 (λ n. n) (TellsFloorOut k o me)
+pub takes_floor : (k : Rules) (o : Object) (c : Setting) → IsKind k → (id : ℕ) (me : Me) → IsOne me.0 → me.1 ≡ []
+    → stage (the me.0).place ≡ due_stage → Allows (IsHall k o c) 1 id me 0 (λ n. n) (TellsFloorOut k o me)
 takes_floor k o c kind id me one none due s h wide view small =
     let here : get_elem? s.views id ≡ maybe.some (the me.0 ∷ []) = view ∙ ap maybe.some one in
     let r : SeatRecord = the me.0 in (
       record_after_floor_out r h.2.past ∷ [],
       takes 0 (Some (floor_of c h.2.past)),
       at_home k o c kind s h id r here due,
-      subst (λ (ws : List ℕ). IsHall k o c (record { words = ws; homes = set s.homes 0 maybe.none; views = set s.views id (record_after_floor_out r h.2.past ∷ []) })) (sym (set-get_or s.words 0 0)) (takes_at k o c kind s h id r here due).hall,
+      subst (λ (ws : List ℕ). IsHall k o c
+          (record {
+            words = ws;
+            homes = set s.homes 0 maybe.none;
+            views =
+                set s.views id (record_after_floor_out r h.2.past ∷ []);
+          })) (sym (set-get_or s.words 0 0))
+          (takes_at k o c kind s h id r here due).hall,
       (floor_of c h.2.past, refl, finds k o c kind s h id r here due),
     )

@@ -1,5 +1,7 @@
 -- What every step of the table uses: the shown world takes a step of a world, and what its history holds
-use Rattle.std.proofs.Common.{◌≡◌, ◌≢◌, ℕ, ◌+◌, ◌-◌, ◌==◌, ◌<◌, ◌≤◌, ◌⊎◌, cond, Bool, true, false, ◌&&◌, not, nat_lt, List, [], ◌∷◌, ◌++◌, sym, refl, ap, ◌∙◌, subst, inl, inr, arith, ne_eqb, append-nil, append_assoc}
+use Rattle.std.proofs.Common.{◌≡◌, ◌≢◌, ℕ, ◌+◌, ◌-◌, ◌==◌, ◌<◌, ◌≤◌, ◌⊎◌, cond, Bool, true, false, ◌&&◌, not, nat_lt}
+use Rattle.std.proofs.Common.{List, [], ◌∷◌, ◌++◌, sym, refl, ap, ◌∙◌, subst, inl, inr, arith, ne_eqb, append-nil}
+use Rattle.std.proofs.Common.{append_assoc}
 use Rattle.std.specs.Prelude.{Option, Some, None}
 use Rattle.std.proofs.lemmas.Bool.Decides.{eqb_tells}
 use Rattle.monk_kinds.specs.Kind.{IsKind}
@@ -16,7 +18,8 @@ use Rattle.monk_world.specs.Places.{stage, active_stage}
 use Rattle.monk_world.specs.Right.{Whereabouts, Nowhere, AtTicket, With, AtSeat, KeepsRight}
 use Rattle.monk_world.specs.Sound.{IsSound}
 use Rattle.monk_world.specs.State.{State}
-use Rattle.monk_world.specs.StepTable.{IsDone, IsStep, IsAnswered, refusal, out_event, call_of, is_call_in_range, is_call_offered, may_be_told, left_for}
+use Rattle.monk_world.specs.StepTable.{IsDone, IsStep, IsAnswered, refusal, out_event, call_of, is_call_in_range}
+use Rattle.monk_world.specs.StepTable.{is_call_offered, may_be_told, left_for}
 use Rattle.monk_world.specs.World.{World}
 use Rattle.monk_world.specs.declared.answer.Answer.{Answer}
 use Rattle.monk_world.specs.declared.answer.Answer.TheVariants as answer
@@ -35,7 +38,9 @@ use Rattle.monk_hall.specs.declared.record.SeatRecord.{SeatRecord}
 use Rattle.monk_hall.specs.declared.setting.Setting.{Setting}
 
 passes : (reach offered told tired : Bool) → reach ≡ true → offered ≡ true → told ≡ true → tired ≡ false
-    → cond (not reach) (Some answer.Range) (cond (not offered) (Some answer.NoCall) (cond (not told) (Some answer.NotNow) (cond tired (Some answer.Tired) None))) ≡ None
+    → cond (not reach) (Some answer.Range)
+    (cond (not offered) (Some answer.NoCall)
+    (cond (not told) (Some answer.NotNow) (cond tired (Some answer.Tired) None))) ≡ None
 passes false offered told tired a b c d = absurd cc
 passes true false told tired a b c d = absurd cc
 passes true true false tired a b c d = absurd cc
@@ -54,34 +59,41 @@ not_below n m l = grind (arith, l)
 
 pub not_refused : (k : Rules) (o : Object) (s : State) (i : ℕ) (c : Command) → IsReady k o s i c → refusal k o s i c ≡ None
 not_refused k o s i c r =
-    passes (nat_lt i s.floor.seats && is_call_in_range o s.floor (call_of i c)) (is_call_offered k (call_of i c)) (may_be_told (s.world.place i) c)
+    passes (nat_lt i s.floor.seats && is_call_in_range o s.floor (call_of i c)) (is_call_offered k (call_of i c))
+    (may_be_told (s.world.place i) c)
     (nat_lt (left_of s.floor.budget s.floor.history i) (left_for c))
     (both (nat_lt i s.floor.seats) (is_call_in_range o s.floor (call_of i c)) (below i s.floor.seats r.near) r.range) r.offered r.told
     (not_below (left_of s.floor.budget s.floor.history i) (left_for c) r.left)
 
 -- it is a step of the world
-pub step_is : (k : Rules) (o : Object) (s : State) (i : ℕ) (c : Command) (a : Answer) (t : State) (p : Place) → IsReady k o s i c → s.world.place i ≡ p → IsDone k o s i p c a t → IsStep k o s i c a t
+pub step_is : (k : Rules) (o : Object) (s : State) (i : ℕ) (c : Command) (a : Answer) (t : State) (p : Place)
+    → IsReady k o s i c → s.world.place i ≡ p → IsDone k o s i p c a t → IsStep k o s i c a t
 step_is k o s i c a t p ready at done =
-    subst (λ (x : Option Answer). IsAnswered k o s i c x a t) (sym (not_refused k o s i c ready)) (subst (λ (q : Place). IsDone k o s i q c a t) (sym at) done)
+    subst (λ (x : Option Answer). IsAnswered k o s i c x a t) (sym (not_refused k o s i c ready))
+    (subst (λ (q : Place). IsDone k o s i q c a t) (sym at) done)
 
 -- the shown world takes a step, by its definition
-pub step_kept : (k : Rules) (o : Object) (s : State) (i : ℕ) (c : Command) (a : Answer) (t : State) (seats conds : ℕ) (p : Place) → IsKind k → IsKept k o seats conds s → IsReady k o s i c
+pub step_kept : (k : Rules) (o : Object) (s : State) (i : ℕ) (c : Command) (a : Answer) (t : State) (seats conds : ℕ)
+    (p : Place) → IsKind k → IsKept k o seats conds s → IsReady k o s i c
     → s.world.place i ≡ p → IsDone k o s i p c a t → IsKept k o seats conds t
 step_kept k o s i c a t seats conds p kind kept ready at done =
-    kept_done k o s i c a t seats conds kind kept (not_refused k o s i c ready) (subst (λ (q : Place). IsDone k o s i q c a t) (sym at) done)
+    kept_done k o s i c a t seats conds kind kept (not_refused k o s i c ready)
+    (subst (λ (q : Place). IsDone k o s i q c a t) (sym at) done)
 
 -- a seat that is active, or none is
 pub record IsActiveAt (w : World) (j : ℕ) : Type 0 where
   pub source : Source
   pub at : w.place j ≡ Active source
 
-pub who : (seats : ℕ) (w : World) (right : Whereabouts) (owner : ℕ → ℕ) → KeepsRight seats w right owner → ((j : ℕ) × IsActiveAt w j) ⊎ ((j : ℕ) → stage (w.place j) ≢ active_stage)
+pub who : (seats : ℕ) (w : World) (right : Whereabouts) (owner : ℕ → ℕ) → KeepsRight seats w right owner
+    → ((j : ℕ) × IsActiveAt w j) ⊎ ((j : ℕ) → stage (w.place j) ≢ active_stage)
 who seats w right owner r = by right (λ j three. held r j (omega arith) (omega arith))
   where
     active_at : (j : ℕ) → (stage (w.place j) == active_stage) ≡ true → IsActiveAt w j
     active_at j e = let a = active_is (w.place j) e in record { source = a.source; at = a.is }
 
-    by : (x : Whereabouts) → ((j : ℕ) → stage (w.place j) ≡ active_stage → x ≡ With j) → ((j : ℕ) × IsActiveAt w j) ⊎ ((j : ℕ) → stage (w.place j) ≢ active_stage)
+    by : (x : Whereabouts) → ((j : ℕ) → stage (w.place j) ≡ active_stage → x ≡ With j) → ((j : ℕ) × IsActiveAt w j)
+        ⊎ ((j : ℕ) → stage (w.place j) ≢ active_stage)
     by Nowhere is = inr (λ j three. let e = is j three in cc)
     by (AtTicket t) is = inr (λ j three. let e = is j three in cc)
     by (AtSeat m) is = inr (λ j three. let e = is j three in cc)
@@ -96,7 +108,8 @@ out_seat i (Granted t) h = refl
 out_seat i Called h = refl
 
 pub other_event : (h : List Event) (e : Event) (j : ℕ) → seat_of e ≢ j → events_of (h ++ e ∷ []) j ≡ events_of h j
-other_event h e j ne = events_of-push h e j ∙ ap (λ (b : Bool). events_of h j ++ cond b (e ∷ []) []) (ne_eqb (seat_of e) j ne) ∙ append-nil (events_of h j)
+other_event h e j ne = events_of-push h e j
+    ∙ ap (λ (b : Bool). events_of h j ++ cond b (e ∷ []) []) (ne_eqb (seat_of e) j ne) ∙ append-nil (events_of h j)
 
 more_enters : (g more : List Event) → enters_of g ≤ enters_of (g ++ more)
 more_enters g [] = let e = ap enters_of (append-nil g) in omega arith
@@ -113,7 +126,8 @@ pub starts_self : (h : List Event) → StartsWith h h
 starts_self h = ([], sym (append-nil h))
 
 -- no more entered than drew tickets
-pub entered_few : (k : Rules) (o : Object) (s : State) (right : Whereabouts) (owner : ℕ → ℕ) → IsSound k o s right owner → enters_of s.floor.history ≤ s.world.drawn
+pub entered_few : (k : Rules) (o : Object) (s : State) (right : Whereabouts) (owner : ℕ → ℕ) → IsSound k o s right owner
+    → enters_of s.floor.history ≤ s.world.drawn
 entered_few k o s right owner h = by right h.entered h.stands.keeps.holder.free.0
   where
     once : (p : Place) → used_at p ≤ 1
@@ -127,7 +141,8 @@ entered_few k o s right owner h = by right h.entered h.stands.keeps.holder.free.
     once (Passing t to) = omega arith
     once Inner = omega arith
 
-    by : (x : Whereabouts) → FitsEnters s.world x (enters_of s.floor.history) → (s.world.unpassed ≡ 0 → x ≡ Nowhere) → enters_of s.floor.history ≤ s.world.drawn
+    by : (x : Whereabouts) → FitsEnters s.world x (enters_of s.floor.history) → (s.world.unpassed ≡ 0 → x ≡ Nowhere)
+        → enters_of s.floor.history ≤ s.world.drawn
     by Nowhere e free = omega arith
     by (AtTicket t) e free = omega arith
     by (With m) e free =
@@ -137,7 +152,8 @@ entered_few k o s right owner h = by right h.entered h.stands.keeps.holder.free.
     by (AtSeat m) e free = let some : s.world.unpassed ≢ 0 = λ z. let f = free z in cc in omega arith
 
 module _ (k : Rules) (o : Object) (c : Setting) (homes : Homes) (at : ℕ → SeatRecord) (words : List ℕ) (past history : List Event)
-    (told : AreTold k o c homes at (shown_world words at) past history) (right : Whereabouts) (owner : ℕ → ℕ) (keeps : KeepsRight c.seats (shown_world words at) right owner) where
+    (told : AreTold k o c homes at (shown_world words at) past history) (right : Whereabouts) (owner : ℕ → ℕ)
+    (keeps : KeepsRight c.seats (shown_world words at) right owner) where
   -- what is shown is what the floor at home has, and perhaps the event of the active seat
   pub shows_past : StartsWith history past
   shows_past = elim (who c.seats (shown_world words at) right owner keeps) [
@@ -152,6 +168,8 @@ module _ (k : Rules) (o : Object) (c : Setting) (homes : Homes) (at : ℕ → Se
         let l = told.lent a.0 a.1.source a.1.at in
         let e = out_event a.0 a.1.source (turn past) in
         ap (λ (h : List Event). events_of h i) l.1
-        ∙ other_event past e i (λ same. not_active (ap (λ (n : ℕ). stage (at n).place) (sym same ∙ out_seat a.0 a.1.source past) ∙ ap stage a.1.at)) ∙ told.mine i
+        ∙ other_event past e i
+        (λ same. not_active (ap (λ (n : ℕ). stage (at n).place) (sym same ∙ out_seat a.0 a.1.source past)
+        ∙ ap stage a.1.at)) ∙ told.mine i
     | inr none ↦ ap (λ (h : List Event). events_of h i) (told.home none).0 ∙ told.mine i
   ]

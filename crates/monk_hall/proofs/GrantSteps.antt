@@ -1,5 +1,6 @@
 -- Each step that hands the right on keeps the rule
-use Rattle.std.proofs.Common.{◌≡◌, ◌≢◌, ℕ, zero, suc, ◌+◌, ◌-◌, ◌%◌, ◌<◌, ◌≤◌, ◌⊎◌, true, List, [], ◌∷◌, set, sym, refl, ap, ◌∙◌, subst, inl, inr, arith, length-set, get_or-set_other, mod-lt}
+use Rattle.std.proofs.Common.{◌≡◌, ◌≢◌, ℕ, zero, suc, ◌+◌, ◌-◌, ◌%◌, ◌<◌, ◌≤◌, ◌⊎◌, true, List, [], ◌∷◌, set, sym, refl}
+use Rattle.std.proofs.Common.{ap, ◌∙◌, subst, inl, inr, arith, length-set, get_or-set_other, mod-lt}
 use Rattle.std.specs.Prelude.{Option, slice_index}
 use Rattle.std.proofs.lemmas.Bool.Decides.{eqb_tells}
 use mathlib.Core.Option as maybe
@@ -15,7 +16,8 @@ use Rattle.monk_history.specs.declared.event.Event.{Event}
 use Rattle.monk_history.specs.declared.event.Next.{Next}
 use Rattle.monk_history.specs.declared.event.Next.TheVariants as next
 use Rattle.monk_floor.specs.View.{FloorView}
-use Rattle.monk_world.specs.Places.{stage, ticket, back_turn, due_to, turn_of_next, place_of, outside_stage, back_stage, passing_stage, inside_stage}
+use Rattle.monk_world.specs.Places.{stage, ticket, back_turn, due_to, turn_of_next, place_of, outside_stage, back_stage}
+use Rattle.monk_world.specs.Places.{passing_stage, inside_stage}
 use Rattle.monk_world.specs.Put.{put}
 use Rattle.monk_world.specs.State.{State}
 use Rattle.monk_world.specs.StepTable.{IsDone, IsGranted, may_be_told, names_seat}
@@ -59,12 +61,16 @@ choosing_at (Passing t to) m e = absurd (omega arith)
 choosing_at Inner m e = absurd (omega arith)
 
 -- the step of a world that calls the chosen seat
-calls_chosen : (s : State) (i : ℕ) (x : Next) (m : ℕ) (to : Home) → turn_of_next x ≡ due_to m → IsGranted s i x to (answer.GrantedSeat m) (record s { world = after_seat_grant s.world i m to })
+calls_chosen : (s : State) (i : ℕ) (x : Next) (m : ℕ) (to : Home) → turn_of_next x ≡ due_to m
+    → IsGranted s i x to (answer.GrantedSeat m) (record s { world = after_seat_grant s.world i m to })
 calls_chosen s i next.Stay m to e = absurd (omega arith)
 calls_chosen s i next.Entry m to e = absurd (omega arith)
-calls_chosen s i (next.Waiter j) m to e = let same : m ≡ j = omega arith in (ap answer.GrantedSeat same, λ z. record s { world = after_seat_grant s.world i (same z) to })
-calls_chosen s i (next.Signaller j) m to e = let same : m ≡ j = omega arith in (ap answer.GrantedSeat same, λ z. record s { world = after_seat_grant s.world i (same z) to })
-calls_chosen s i (next.Until j) m to e = let same : m ≡ j = omega arith in (ap answer.GrantedSeat same, λ z. record s { world = after_seat_grant s.world i (same z) to })
+calls_chosen s i (next.Waiter j) m to e = let same : m ≡ j = omega arith in
+    (ap answer.GrantedSeat same, λ z. record s { world = after_seat_grant s.world i (same z) to })
+calls_chosen s i (next.Signaller j) m to e = let same : m ≡ j = omega arith in
+    (ap answer.GrantedSeat same, λ z. record s { world = after_seat_grant s.world i (same z) to })
+calls_chosen s i (next.Until j) m to e = let same : m ≡ j = omega arith in
+    (ap answer.GrantedSeat same, λ z. record s { world = after_seat_grant s.world i (same z) to })
 
 calls_done : (k : Rules) (o : Object) (s : State) (i : ℕ) (x : Next) (m : ℕ) (to : Home) → turn_of_next x ≡ due_to m
     → IsDone k o s i (Back x to) command.Grant (answer.GrantedSeat m) (record s { world = after_seat_grant s.world i m to })
@@ -80,10 +86,17 @@ names_seat_due (next.Until j) m e = refl
 told_to_grant : (x : Next) (m : ℕ) (to : Home) → turn_of_next x ≡ due_to m → may_be_told (Back x to) command.Grant ≡ true
 told_to_grant x m to e = names_seat_due x m e
 
-module _ (k : Rules) (o : Object) (c : Setting) (kind : IsKind k) (s : table.State (Option FloorView) View) (h : IsHall k o c s) (id : ℕ) (r : SeatRecord) (here : get_elem? s.views id ≡ maybe.some (r ∷ [])) where
+module _ (k : Rules) (o : Object) (c : Setting) (kind : IsKind k) (s : table.State (Option FloorView) View)
+    (h : IsHall k o c s) (id : ℕ) (r : SeatRecord) (here : get_elem? s.views id ≡ maybe.some (r ∷ [])) where
   -- step 7
   pub grants_ticket_at : stage r.place ≡ passing_stage
-      → Takes k o c s h r.seat command.Grant (answer.GrantedTicket (ticket r.place)) (record { words = set s.words (place_word (ticket r.place % c.seats)) (ticket r.place + 1); homes = s.homes; views = set s.views id (record_after_grant r ∷ []) })
+      → Takes k o c s h r.seat command.Grant (answer.GrantedTicket (ticket r.place))
+      (record {
+        words = set s.words (place_word (ticket r.place % c.seats)) (ticket r.place + 1);
+        homes =
+            s.homes;
+        views = set s.views id (record_after_grant r ∷ []);
+      })
   grants_ticket_at passing =
       let at = h.0 in
       let kh = h.2 in
@@ -105,7 +118,8 @@ module _ (k : Rules) (o : Object) (c : Setting) (kind : IsKind k) (s : table.Sta
         left = omega arith;
       } in
       let after : State = record old { world = after_ticket_grant c.seats world r.seat n to } in
-      let kept = stepping.takes_step k o c kind s h id r here command.Grant (answer.GrantedTicket n) after (Passing n to) ready place_is (refl, refl) in
+      let kept = stepping.takes_step k o c kind s h id r here command.Grant (answer.GrantedTicket n) after
+      (Passing n to) ready place_is (refl, refl) in
       let word : slice_index s.words 0 ≡ slice_index ws 0 = sym (get_or-set_other s.words (place_word q) 0 (n + 1) 0 (λ e. omega arith)) in
       let places = stepping.places_after k o c kind s h id r here w in
       let ticket_places = sym (stored.place_stored s.words q (n + 1) (let z = kh.wide in omega arith)) in
@@ -113,13 +127,21 @@ module _ (k : Rules) (o : Object) (c : Setting) (kind : IsKind k) (s : table.Sta
       let counts = stepping.counts_stay k o c kind s h id r here w refl in
       let knows = stepping.known_stays k o c kind s h id r here w refl in
       let same : Path State after (shown_state c ws (put at r.seat w) kh.history) = λ z. record {
-        world = record { drawn = tickets (word z); unpassed = unpassed (word z); ticket_place = ticket_places z; seat_place = seat_places z; place = places z; count = counts z };
+        world = record {
+          drawn = tickets (word z);
+          unpassed = unpassed (word z);
+          ticket_place = ticket_places z;
+          seat_place = seat_places z;
+          place = places z;
+          count = counts z;
+        };
         known = knows z;
         floor = old.floor;
       } in
       let moved : stepping.IsMoved k o c kind s h id r here w = record { seat = refl; setting = refl; seen = refl; mine = refl } in
       let apart = standing.apart_home to in
-      let calls = calls_stay world (shown_world ws (put at r.seat w)) kh.past r.seat w.place kh.told.calls (sym places) (sym seat_places) (ap back_turn stands) apart.chose in
+      let calls = calls_stay world (shown_world ws (put at r.seat w)) kh.past r.seat w.place kh.told.calls (sym places)
+      (sym seat_places) (ap back_turn stands) apart.chose in
       stepping.holds_after k o c kind s h id r here w ws moved (length-set s.words (place_word q) (n + 1)) kept same
       (stepping.knows_after k o c kind s h id r here w ws moved calls (λ e. absurd (omega arith)) apart)
 
@@ -138,12 +160,15 @@ module _ (k : Rules) (o : Object) (c : Setting) (kind : IsKind k) (s : table.Sta
       cases_le (suc a) zero = inr (omega arith)
       cases_le (suc a) (suc b) = elim (cases_le a b) [ inl l ↦ inl (omega arith) | inr l ↦ inr (omega arith) ]
 
-      by_range : (c.seats ≤ m) ⊎ (m < c.seats) → (c.seats ≤ m → stage (h.0 m).place ≡ outside_stage) → stage (h.0 m).place ≡ inside_stage → m < c.seats
+      by_range : (c.seats ≤ m) ⊎ (m < c.seats) → (c.seats ≤ m → stage (h.0 m).place ≡ outside_stage)
+          → stage (h.0 m).place ≡ inside_stage → m < c.seats
       by_range (inl l) none six = let z = none l in absurd (omega arith)
       by_range (inr l) none six = l
 
   -- the calls are counted once the seat is called
-  calls_counted : (m : ℕ) (ws : List ℕ) → back_turn r.place ≡ due_to m → Path (ℕ → ℕ) (put (shown_world s.words h.0).seat_place m ((shown_world s.words h.0).seat_place m + 1)) (shown_world ws (put h.0 r.seat (record_after_grant r))).seat_place
+  calls_counted : (m : ℕ) (ws : List ℕ) → back_turn r.place ≡ due_to m
+      → Path (ℕ → ℕ) (put (shown_world s.words h.0).seat_place m ((shown_world s.words h.0).seat_place m + 1))
+      (shown_world ws (put h.0 r.seat (record_after_grant r))).seat_place
       → CountsCalls (shown_world ws (put h.0 r.seat (record_after_grant r))) h.2.past
   calls_counted m ws names places =
       let at = h.0 in
@@ -162,20 +187,29 @@ module _ (k : Rules) (o : Object) (c : Setting) (kind : IsKind k) (s : table.Sta
       absurd (ne cc) in
       let apart = standing.apart_home (home_at r.place) in
       let nobody : (j n : ℕ) → back_turn (put at r.seat w j).place ≢ due_to n = λ j n.
-      at_put at r.seat w (λ i y. back_turn y.place ≢ due_to n) (λ e. let z = apart.chose in absurd (omega arith)) (λ i ne. alone i n ne) j in
+      at_put at r.seat w (λ i y. back_turn y.place ≢ due_to n) (λ e. let z = apart.chose in absurd (omega arith))
+      (λ i ne. alone i n ne) j in
       record {
         choosing = λ j n e. absurd (nobody j n e);
         settled = λ n none. subst (λ (f : ℕ → ℕ). granted_of kh.past n ≡ f n) places
-            (at_put world.seat_place m (world.seat_place m + 1) (λ i y. granted_of kh.past i ≡ y) (kh.told.calls.choosing r.seat m (ap back_turn stands ∙ x.names))
+            (at_put world.seat_place m (world.seat_place m + 1) (λ i y. granted_of kh.past i ≡ y)
+            (kh.told.calls.choosing r.seat m (ap back_turn stands ∙ x.names))
             (λ i ne. kh.told.calls.settled i (λ j e. elim (eqb_tells j r.seat) [
-              | inl b ↦ absurd (ne (let z = ap (λ (a : ℕ). back_turn (at a).place) b.1 in let y = ap back_turn stands ∙ x.names in omega arith))
+              | inl b ↦ absurd (ne (let z = ap (λ (a : ℕ). back_turn (at a).place) b.1 in let y = ap back_turn stands
+                  ∙ x.names in omega arith))
               | inr b ↦ absurd (alone j i b.1 e)
             ])) n);
       }
 
   -- step 8
   pub calls_seat_at : (m : ℕ) → back_turn r.place ≡ due_to m → (calls : ℕ) → calls ≡ granted_of r.seen m
-      → Takes k o c s h r.seat command.Grant (answer.GrantedSeat m) (record { words = set s.words (seat_word m) calls; homes = s.homes; views = set s.views id (record_after_grant r ∷ []) })
+      → Takes k o c s h r.seat command.Grant (answer.GrantedSeat m)
+      (record {
+        words = set s.words (seat_word m) calls;
+        homes = s.homes;
+        views =
+            set s.views id (record_after_grant r ∷ []);
+      })
   calls_seat_at m names calls calls_are =
       let at = h.0 in
       let kh = h.2 in
@@ -187,7 +221,9 @@ module _ (k : Rules) (o : Object) (c : Setting) (kind : IsKind k) (s : table.Sta
       let x = choosing_at r.place m names in
       let stands = stepping.stands_at k o c kind s h id r here (Back x.choice x.to) x.is in
       let seen : r.seen ≡ kh.past = sym (ap (λ (y : SeatRecord). y.seen) is) ∙ kh.told.back r.seat (ap stage stands) in
-      let grown : world.seat_place m + 1 ≡ calls = sym (calls_are ∙ ap (λ (g : List Event). granted_of g m) seen ∙ kh.told.calls.choosing r.seat m (ap back_turn stands ∙ x.names)) in
+      let grown : world.seat_place m + 1 ≡ calls =
+      sym (calls_are ∙ ap (λ (g : List Event). granted_of g m) seen
+      ∙ kh.told.calls.choosing r.seat m (ap back_turn stands ∙ x.names)) in
       let low = called_near m names in
       let ready : IsReady k o old r.seat command.Grant = record {
         near = stepping.near k o c kind s h id r here;
@@ -197,7 +233,8 @@ module _ (k : Rules) (o : Object) (c : Setting) (kind : IsKind k) (s : table.Sta
         left = omega arith;
       } in
       let after : State = record old { world = after_seat_grant world r.seat m x.to } in
-      let kept = stepping.takes_step k o c kind s h id r here command.Grant (answer.GrantedSeat m) after (Back x.choice x.to) ready x.is (calls_done k o old r.seat x.choice m x.to x.names) in
+      let kept = stepping.takes_step k o c kind s h id r here command.Grant (answer.GrantedSeat m) after
+      (Back x.choice x.to) ready x.is (calls_done k o old r.seat x.choice m x.to x.names) in
       let word : slice_index s.words 0 ≡ slice_index ws 0 = sym (get_or-set_other s.words (seat_word m) 0 calls 0 (λ e. omega arith)) in
       let home_is : x.to ≡ home_at r.place = sym (ap home_at x.is) in
       let places = ap (λ (y : Home). put world.place r.seat (place_of y)) home_is ∙ stepping.places_after k o c kind s h id r here w in
@@ -206,21 +243,32 @@ module _ (k : Rules) (o : Object) (c : Setting) (kind : IsKind k) (s : table.Sta
       let counts = stepping.counts_stay k o c kind s h id r here w refl in
       let knows = stepping.known_stays k o c kind s h id r here w refl in
       let same : Path State after (shown_state c ws (put at r.seat w) kh.history) = λ z. record {
-        world = record { drawn = tickets (word z); unpassed = unpassed (word z); ticket_place = ticket_places z; seat_place = seat_places z; place = places z; count = counts z };
+        world = record {
+          drawn = tickets (word z);
+          unpassed = unpassed (word z);
+          ticket_place = ticket_places z;
+          seat_place = seat_places z;
+          place = places z;
+          count = counts z;
+        };
         known = knows z;
         floor = old.floor;
       } in
       let moved : stepping.IsMoved k o c kind s h id r here w = record { seat = refl; setting = refl; seen = refl; mine = refl } in
       stepping.holds_after k o c kind s h id r here w ws moved (length-set s.words (seat_word m) calls) kept same
-      (stepping.knows_after k o c kind s h id r here w ws moved (calls_counted m ws names seat_places) (λ e. let z = ap stage x.is in absurd (omega arith)) (standing.apart_home (home_at r.place)))
+      (stepping.knows_after k o c kind s h id r here w ws moved (calls_counted m ws names seat_places)
+      (λ e. let z = ap stage x.is in absurd (omega arith)) (standing.apart_home (home_at r.place)))
 
 module _ (k : Rules) (o : Object) (c : Setting) (kind : IsKind k) (slots id : ℕ) (me : Me) (one : IsOne me.0) where
-  pub grants_ticket : stage (the me.0).place ≡ passing_stage → Allows (IsHall k o c) slots id me (place_word (ticket (the me.0).place % c.seats)) (λ _. ticket (the me.0).place + 1) (λ _. TellsGrant me (ticket (the me.0).place + 1))
+  pub grants_ticket : stage (the me.0).place ≡ passing_stage
+      → Allows (IsHall k o c) slots id me (place_word (ticket (the me.0).place % c.seats))
+      (λ _. ticket (the me.0).place + 1) (λ _. TellsGrant me (ticket (the me.0).place + 1))
   grants_ticket passing s h wide view small =
       let here : get_elem? s.views id ≡ maybe.some (the me.0 ∷ []) = view ∙ ap maybe.some one in
       (record_after_grant (the me.0) ∷ [], keeps, tt, (grants_ticket_at k o c kind s h id (the me.0) here passing).hall, refl)
 
-  pub calls_seat : (m calls : ℕ) → back_turn (the me.0).place ≡ due_to m → calls ≡ granted_of (the me.0).seen m → Allows (IsHall k o c) slots id me (seat_word m) (λ _. calls) (λ _. TellsGrant me calls)
+  pub calls_seat : (m calls : ℕ) → back_turn (the me.0).place ≡ due_to m → calls ≡ granted_of (the me.0).seen m
+      → Allows (IsHall k o c) slots id me (seat_word m) (λ _. calls) (λ _. TellsGrant me calls)
   calls_seat m calls names calls_are s h wide view small =
       let here : get_elem? s.views id ≡ maybe.some (the me.0 ∷ []) = view ∙ ap maybe.some one in
       (record_after_grant (the me.0) ∷ [], keeps, tt, (calls_seat_at k o c kind s h id (the me.0) here m names calls calls_are).hall, refl)

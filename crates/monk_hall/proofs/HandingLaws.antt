@@ -1,5 +1,6 @@
 -- A release goes home with the floor, and the right is handed on
-use Rattle.std.proofs.Common.{◌≡◌, ◌≢◌, ℕ, ◌+◌, ◌-◌, ◌≤◌, true, false, true≢false, List, [], ◌∷◌, ◌++◌, length, Option, Some, None, refl, sym, ap, subst, ◌∙◌, arith}
+use Rattle.std.proofs.Common.{◌≡◌, ◌≢◌, ℕ, ◌+◌, ◌-◌, ◌≤◌, true, false, true≢false, List, [], ◌∷◌, ◌++◌, length, Option}
+use Rattle.std.proofs.Common.{Some, None, refl, sym, ap, subst, ◌∙◌, arith}
 use Rattle.std.specs.List.{last_or}
 use Rattle.atomic_table.specs.Seated.{TableId}
 use Rattle.monk_kinds.specs.declared.mode.Rules.{Rules}
@@ -62,10 +63,13 @@ module _ {k : Rules} {o : Object} {z : TableId} {me : Me} {choice : Next} {to : 
       ∙ back_is (the me.0).seat r.to r.call r.choice r.release
       ∙ (λ i. Back (x.is_choice i) (x.is_to i))
 
-  pub chosen_due : HasRecordedRelease k o z me choice to f → (j : ℕ) → seat_called_by choice ≡ Some j → back_turn (record_after_floor_in (the me.0) f.history).place ≡ due_to j
+  pub chosen_due : HasRecordedRelease k o z me choice to f → (j : ℕ) → seat_called_by choice ≡ Some j
+      → back_turn (record_after_floor_in (the me.0) f.history).place ≡ due_to j
   chosen_due x j e = ap back_turn (back_place x) ∙ called_due choice j e
 
-  pub chosen_entry : HasRecordedRelease k o z me choice to f → seat_called_by choice ≡ None → (record_after_floor_in (the me.0) f.history).place ≡ Back next.Entry (home_at (record_after_floor_in (the me.0) f.history).place)
+  pub chosen_entry : HasRecordedRelease k o z me choice to f → seat_called_by choice ≡ None
+      → (record_after_floor_in (the me.0) f.history).place ≡ Back next.Entry
+      (home_at (record_after_floor_in (the me.0) f.history).place)
   chosen_entry x e = let b = back_place x in
       b ∙ (λ i. Back (entry_is choice (ap (λ n. is_stay (Some n)) (sym x.is_choice) ∙ x.returns.away) e i) (sym (ap home_at b) i))
 
@@ -73,10 +77,13 @@ module _ {k : Rules} {o : Object} {z : TableId} {me : Me} {choice : Next} {to : 
   home_is x = ap home_at (back_place x)
 
   -- what the seat knows then
-  pub gone_rests : (x : HasRecordedRelease k o z me choice to f) → {number calls left : ℕ} → IsSeated z (the me.0) number calls → left ≡ left_of f.budget f.history number
-      → (y : TableId) (new : Me) → y ≡ z → HasGone (the me.0) f.history to (the new.0) → new ≡ (the new.0 ∷ [], []) → IsResting k o y new number left calls × ((the new.0).place ≡ place_of to) × (left_within to ≤ left)
+  pub gone_rests : (x : HasRecordedRelease k o z me choice to f) → {number calls left : ℕ}
+      → IsSeated z (the me.0) number calls → left ≡ left_of f.budget f.history number
+      → (y : TableId) (new : Me) → y ≡ z → HasGone (the me.0) f.history to (the new.0) → new ≡ (the new.0 ∷ [], [])
+      → IsResting k o y new number left calls × ((the new.0).place ≡ place_of to) × (left_within to ≤ left)
   gone_rests x {number} {calls} {left} s rest y new same gone is =
-      let r = the me.0 in let ret = x.returns in let e = with_next ret.choice ret.call in let w = record (record_after_floor_in r f.history) { place = place_of to; steps = gone.steps } in
+      let r = the me.0 in let ret = x.returns in let e = with_next ret.choice ret.call in let w =
+      record (record_after_floor_in r f.history) { place = place_of to; steps = gone.steps } in
       let seat = (said r.seat ret.to ret.call ret.choice ret.release).seat in
       let history = ap (λ (g : FloorView). g.history) ret.grows in
       let is_floor = ret.grows ∙ ap (λ g. with_event g e) ret.goes_on.is_floor in
@@ -92,12 +99,15 @@ module _ {k : Rules} {o : Object} {z : TableId} {me : Me} {choice : Next} {to : 
         seated = record { is_seat = s.is_seat; near = s.near; sized = s.sized; counted = s.counted };
         spent = omega arith;
         told = record {
-          legal = subst (λ (g : FloorView). IsLegal (monitor_of k o g) g.history) (ret.grows ∙ ap (λ g. with_event g e) ret.goes_on.is_floor ∙ ap (λ g. floor_of r.setting g) (sym history))
-              (subst (λ (g : FloorView). IsLegal (monitor_of k o g) g.history) (sym ret.grows) (legal-push (monitor_of k o ret.before) ret.before.history e ret.goes_on.legal x.allowed));
+          legal = subst (λ (g : FloorView). IsLegal (monitor_of k o g) g.history)
+              (ret.grows ∙ ap (λ g. with_event g e) ret.goes_on.is_floor ∙ ap (λ g. floor_of r.setting g) (sym history))
+              (subst (λ (g : FloorView). IsLegal (monitor_of k o g) g.history) (sym ret.grows)
+              (legal-push (monitor_of k o ret.before) ret.before.history e ret.goes_on.legal x.allowed));
           own = refl;
         };
       } in (
-        subst (λ a. IsResting k o a new number left calls) (sym same) (subst (λ m. IsResting k o z m number left calls) (sym (is ∙ ap (λ v. (v ∷ [], [])) gone.is)) rests),
+        subst (λ a. IsResting k o a new number left calls) (sym same)
+            (subst (λ m. IsResting k o z m number left calls) (sym (is ∙ ap (λ v. (v ∷ [], [])) gone.is)) rests),
         ap (λ v. v.place) gone.is,
         omega arith,
       )

@@ -1,5 +1,7 @@
 -- Two idle seats' views are put together, and both records learn the longer history
-use Rattle.std.proofs.Common.{◌≡◌, ◌≢◌, ℕ, suc, ◌+◌, ◌-◌, ◌<◌, ◌≤◌, ◌⊎◌, ◌==◌, Bool, true, false, cond, nat_le, List, [], ◌∷◌, ◌++◌, length, set, sym, refl, ap, ◌∙◌, subst, inl, inr, ⊎_elim, arith, append-nil, length-append}
+use Rattle.std.proofs.Common.{◌≡◌, ◌≢◌, ℕ, suc, ◌+◌, ◌-◌, ◌<◌, ◌≤◌, ◌⊎◌, ◌==◌, Bool, true, false, cond, nat_le, List}
+use Rattle.std.proofs.Common.{[], ◌∷◌, ◌++◌, length, set, sym, refl, ap, ◌∙◌, subst, inl, inr, ⊎_elim, arith}
+use Rattle.std.proofs.Common.{append-nil, length-append}
 use Rattle.std.specs.Prelude.{Option}
 use Rattle.std.proofs.Math.Option.{some-injective}
 use Rattle.std.proofs.lemmas.Bool.Decides.{eqb_tells}
@@ -78,10 +80,13 @@ unfolding events_of
 events_of-append g h i = filter-append (λ e. seat_of e == i) g h
 
 -- what begins a history, and is begun by another that has all of a seat's events there, has them all
-events_between : (h g f : List Event) (i : ℕ) → StartsWith h g → StartsWith g f → events_of h i ≡ events_of f i → events_of g i ≡ events_of f i
+events_between : (h g f : List Event) (i : ℕ) → StartsWith h g → StartsWith g f → events_of h i ≡ events_of f i
+    → events_of g i ≡ events_of f i
 events_between h g f i above below same =
-    let g_is : events_of g i ≡ events_of f i ++ events_of below.0 i = ap (λ (x : List Event). events_of x i) below.1 ∙ events_of-append f below.0 i in
-    let h_is : events_of h i ≡ events_of g i ++ events_of above.0 i = ap (λ (x : List Event). events_of x i) above.1 ∙ events_of-append g above.0 i in
+    let g_is : events_of g i ≡ events_of f i ++ events_of below.0 i = ap (λ (x : List Event). events_of x i) below.1
+    ∙ events_of-append f below.0 i in
+    let h_is : events_of h i ≡ events_of g i ++ events_of above.0 i = ap (λ (x : List Event). events_of x i) above.1
+    ∙ events_of-append g above.0 i in
     let long_g = ap length g_is ∙ length-append (events_of f i) (events_of below.0 i) in
     let long_h = ap length h_is ∙ length-append (events_of g i) (events_of above.0 i) in
     let long_f = ap length same in
@@ -119,8 +124,10 @@ longer_both a b one = by_length (nat_le (length a) (length b)) refl one
     by_length false e (inr s) = record { first = self a; second = equal b a s (at_most e) }
 
 -- an idle seat takes steps of no kind, or learns more of the history
-module _ (k : Rules) (o : Object) (c : Setting) (words : List ℕ) (homes : Homes) (at : ℕ → SeatRecord) (kh : IsKeptHall k o c words homes at) (i : ℕ) (w : SeatRecord)
-    (place : w.place ≡ (at i).place) (count : w.count ≡ (at i).count) (known : w.known ≡ (at i).known) (mine : w.mine ≡ (at i).mine) (idle : stage (at i).place ≡ outside_stage)
+module _ (k : Rules) (o : Object) (c : Setting) (words : List ℕ) (homes : Homes) (at : ℕ → SeatRecord)
+    (kh : IsKeptHall k o c words homes at) (i : ℕ) (w : SeatRecord)
+    (place : w.place ≡ (at i).place) (count : w.count ≡ (at i).count) (known : w.known ≡ (at i).known)
+    (mine : w.mine ≡ (at i).mine) (idle : stage (at i).place ≡ outside_stage)
     (part : StartsWith kh.past w.seen) (own : events_of w.seen i ≡ w.mine) where
   same : Path State (shown_state c words at kh.history) (shown_state c words (put at i w) kh.history)
   same = λ z. record {
@@ -133,7 +140,9 @@ module _ (k : Rules) (o : Object) (c : Setting) (words : List ℕ) (homes : Home
   }
 
   recount : CountsCalls (shown_world words (put at i w)) kh.past
-  recount = subst (λ (p : ℕ → Place). CountsCalls (record (shown_world words at) { place = p; count = λ j. (put at i w j).count }) kh.past) (sym (field_stays (λ (y : SeatRecord). y.place) at i w (sym place)))
+  recount = subst (λ (p : ℕ → Place). CountsCalls
+      (record (shown_world words at) { place = p; count = λ j. (put at i w j).count }) kh.past)
+      (sym (field_stays (λ (y : SeatRecord). y.place) at i w (sym place)))
       (record { choosing = kh.told.calls.choosing; settled = kh.told.calls.settled })
 
   pub learns : IsKeptHall k o c words homes (put at i w)
@@ -152,8 +161,12 @@ module _ (k : Rules) (o : Object) (c : Setting) (words : List ℕ) (homes : Home
           starts = at_put at i w (λ j x. StartsWith kh.past x.seen) part (λ j _. told.starts j);
           mine = at_put at i w (λ j x. events_of kh.past j ≡ x.mine) (told.mine i ∙ sym mine) (λ j _. told.mine j);
           own = at_put at i w (λ j x. events_of x.seen j ≡ x.mine) own (λ j _. told.own j);
-          back = at_put at i w (λ j x. stage x.place ≡ back_stage → x.seen ≡ kh.past) (λ e. absurd (not_at back_stage (λ z. absurd (omega arith)) e)) (λ j _. told.back j);
-          lent = λ j. at_put at i w (λ n x. (q : Source) → x.place ≡ Active q → (x.seen ≡ kh.past) × (kh.history ≡ kh.past ++ out_event n q (turn kh.past) ∷ []) × (get_elem? homes 0 ≡ maybe.some maybe.none))
+          back = at_put at i w (λ j x. stage x.place ≡ back_stage → x.seen ≡ kh.past)
+              (λ e. absurd (not_at back_stage (λ z. absurd (omega arith)) e)) (λ j _. told.back j);
+          lent = λ j. at_put at i w
+              (λ n x. (q : Source) → x.place ≡ Active q
+              → (x.seen ≡ kh.past) × (kh.history ≡ kh.past ++ out_event n q (turn kh.past) ∷ [])
+              × (get_elem? homes 0 ≡ maybe.some maybe.none))
               (λ q e. absurd (not_at active_stage (λ z. absurd (omega arith)) (ap stage e))) (λ n _. told.lent n) j;
           home = λ none. told.home (all_back at i w (λ j x. stage x.place ≢ active_stage) none (λ e. absurd (omega arith)));
           calls = recount;
@@ -170,7 +183,8 @@ same_seat x r (inl e) = ap (λ (z : SeatRecord). z.seat) e
 same_seat x r (inr h) = absurd h
 
 -- both records of one view change, and no other's
-module _ (c : Setting) (views : List View) (at : ℕ → SeatRecord) (sh : AreShown c views at) (id : ℕ) (a b a2 b2 : SeatRecord) (view : get_elem? views id ≡ maybe.some (a ∷ b ∷ []))
+module _ (c : Setting) (views : List View) (at : ℕ → SeatRecord) (sh : AreShown c views at) (id : ℕ)
+    (a b a2 b2 : SeatRecord) (view : get_elem? views id ≡ maybe.some (a ∷ b ∷ []))
     (seat_a : a2.seat ≡ a.seat) (seat_b : b2.seat ≡ b.seat) (set_a : a2.setting ≡ a.setting) (set_b : b2.setting ≡ b.setting) where
   pub in_a : (at a.seat ≡ a) × (sh.desk a.seat ≡ id) × (a.seat < c.seats)
   in_a = sh.each id (a ∷ b ∷ []) view a (inl refl)
@@ -218,26 +232,35 @@ module _ (c : Setting) (views : List View) (at : ℕ → SeatRecord) (sh : AreSh
       | inr na ↦ elim (eqb_tells j b.seat) [
         | inl h ↦ (a2 ∷ b2 ∷ [], here j (ap sh.desk h.1 ∙ in_b.1), inr (inl (ap at_two h.1 ∙ is_b)))
         | inr nb ↦
-            let old = sh.there j near in
-            (old.0, set_else views id (sh.desk j) (a2 ∷ b2 ∷ []) (away j old.0 old.1 old.2 na.1 nb.1) ∙ old.1, subst (λ (x : SeatRecord). In x old.0) (sym (other j na.1 nb.1)) old.2)
+            let old = sh.there j near in (
+              old.0,
+              set_else views id (sh.desk j) (a2 ∷ b2 ∷ []) (away j old.0 old.1 old.2 na.1 nb.1)
+                  ∙ old.1,
+              subst (λ (x : SeatRecord). In x old.0) (sym (other j na.1 nb.1)) old.2,
+            )
       ]
     ];
     settings = at_put at_one b.seat b2 (λ j x. x.setting ≡ c) (set_b ∙ ap (λ (x : SeatRecord). x.setting) (sym in_b.0) ∙ sh.settings b.seat)
-        (λ j _. at_put at a.seat a2 (λ m x. x.setting ≡ c) (set_a ∙ ap (λ (x : SeatRecord). x.setting) (sym in_a.0) ∙ sh.settings a.seat) (λ m _. sh.settings m) j);
-    seats = at_put at_one b.seat b2 (λ j x. x.seat ≡ j) seat_b (λ j _. at_put at a.seat a2 (λ m x. x.seat ≡ m) seat_a (λ m _. sh.seats m) j);
+        (λ j _. at_put at a.seat a2 (λ m x. x.setting ≡ c) (set_a ∙ ap (λ (x : SeatRecord). x.setting) (sym in_a.0)
+        ∙ sh.settings a.seat) (λ m _. sh.settings m) j);
+    seats = at_put at_one b.seat b2 (λ j x. x.seat ≡ j) seat_b
+        (λ j _. at_put at a.seat a2 (λ m x. x.seat ≡ m) seat_a (λ m _. sh.seats m) j);
   }
     where
       here : (j : ℕ) → sh.desk j ≡ id → get_elem? (set views id (a2 ∷ b2 ∷ [])) (sh.desk j) ≡ maybe.some (a2 ∷ b2 ∷ [])
-      here j e = ap (λ (n : ℕ). get_elem? (set views id (a2 ∷ b2 ∷ [])) n) e ∙ set_here views id (a2 ∷ b2 ∷ []) (long views id (a ∷ b ∷ []) view)
+      here j e = ap (λ (n : ℕ). get_elem? (set views id (a2 ∷ b2 ∷ [])) n) e
+          ∙ set_here views id (a2 ∷ b2 ∷ []) (long views id (a ∷ b ∷ []) view)
 
       away : (j : ℕ) (v : View) → get_elem? views (sh.desk j) ≡ maybe.some v → In (at j) v → j ≢ a.seat → j ≢ b.seat → sh.desk j ≢ id
       away j v e i na nb d =
           let is_v : v ≡ a ∷ b ∷ [] = some-injective v (a ∷ b ∷ []) (sym e ∙ ap (λ (n : ℕ). get_elem? views n) d ∙ view) in
           two_of a b (at j) (subst (λ (z : View). In (at j) z) is_v i) (λ r. r ≡ at j → ⊥)
-          (λ q. na (sym (sh.seats j) ∙ ap (λ (x : SeatRecord). x.seat) (sym q))) (λ q. nb (sym (sh.seats j) ∙ ap (λ (x : SeatRecord). x.seat) (sym q))) refl
+          (λ q. na (sym (sh.seats j) ∙ ap (λ (x : SeatRecord). x.seat) (sym q)))
+          (λ q. nb (sym (sh.seats j) ∙ ap (λ (x : SeatRecord). x.seat) (sym q))) refl
 
 -- the telling load
-pub compares : (k : Rules) (o : Object) (c : Setting) (slots id : ℕ) (me : Me) → IsTwo me.0 → (the me.0).place ≡ Idle → (the (tail me.0)).place ≡ Idle → Allows (IsHall k o c) slots id me 0 (λ n. n) (TellsCompare k o me)
+pub compares : (k : Rules) (o : Object) (c : Setting) (slots id : ℕ) (me : Me) → IsTwo me.0 → (the me.0).place ≡ Idle
+    → (the (tail me.0)).place ≡ Idle → Allows (IsHall k o c) slots id me 0 (λ n. n) (TellsCompare k o me)
 unfolding learns
 compares k o c slots id me two idle_a idle_b s h wide view small =
     let a : SeatRecord = the me.0 in
@@ -258,30 +281,46 @@ compares k o c slots id me two idle_a idle_b s h wide view small =
     let part : StartsWith kh.past both = longer_part kh.past a.seen b.seen begins_a begins_b in
     let mine_a : events_of kh.past a.seat ≡ a.mine = kh.told.mine a.seat ∙ ap (λ (x : SeatRecord). x.mine) ia.0 in
     let mine_b : events_of kh.past b.seat ≡ b.mine = kh.told.mine b.seat ∙ ap (λ (x : SeatRecord). x.mine) ib.0 in
-    let own_a : events_of a.seen a.seat ≡ a.mine = ap (λ (x : SeatRecord). events_of x.seen a.seat) (sym ia.0) ∙ kh.told.own a.seat ∙ ap (λ (x : SeatRecord). x.mine) ia.0 in
-    let own_b : events_of b.seen b.seat ≡ b.mine = ap (λ (x : SeatRecord). events_of x.seen b.seat) (sym ib.0) ∙ kh.told.own b.seat ∙ ap (λ (x : SeatRecord). x.mine) ib.0 in
-    let all_a : events_of both a.seat ≡ a.mine = events_between kh.past both a.seen a.seat part long_both.first (mine_a ∙ sym own_a) ∙ own_a in
-    let all_b : events_of both b.seat ≡ b.mine = events_between kh.past both b.seen b.seat part long_both.second (mine_b ∙ sym own_b) ∙ own_b in
-    let first = learns k o c s.words s.homes at kh a.seat a2 (ap (λ (x : SeatRecord). x.place) (sym ia.0)) (ap (λ (x : SeatRecord). x.count) (sym ia.0)) (ap (λ (x : SeatRecord). x.known) (sym ia.0)) (ap (λ (x : SeatRecord). x.mine) (sym ia.0))
+    let own_a : events_of a.seen a.seat ≡ a.mine = ap (λ (x : SeatRecord). events_of x.seen a.seat) (sym ia.0)
+    ∙ kh.told.own a.seat ∙ ap (λ (x : SeatRecord). x.mine) ia.0 in
+    let own_b : events_of b.seen b.seat ≡ b.mine = ap (λ (x : SeatRecord). events_of x.seen b.seat) (sym ib.0)
+    ∙ kh.told.own b.seat ∙ ap (λ (x : SeatRecord). x.mine) ib.0 in
+    let all_a : events_of both a.seat ≡ a.mine =
+    events_between kh.past both a.seen a.seat part long_both.first (mine_a ∙ sym own_a) ∙ own_a in
+    let all_b : events_of both b.seat ≡ b.mine =
+    events_between kh.past both b.seen b.seat part long_both.second (mine_b ∙ sym own_b) ∙ own_b in
+    let first = learns k o c s.words s.homes at kh a.seat a2 (ap (λ (x : SeatRecord). x.place) (sym ia.0))
+    (ap (λ (x : SeatRecord). x.count) (sym ia.0)) (ap (λ (x : SeatRecord). x.known) (sym ia.0))
+    (ap (λ (x : SeatRecord). x.mine) (sym ia.0))
     (ap (λ (x : SeatRecord). stage x.place) ia.0 ∙ ap stage idle_a) part all_a in
-    let both_kept = learns k o c s.words s.homes (put at a.seat a2) first b.seat b2 (ap (λ (x : SeatRecord). x.place) (sym still)) (ap (λ (x : SeatRecord). x.count) (sym still)) (ap (λ (x : SeatRecord). x.known) (sym still)) (ap (λ (x : SeatRecord). x.mine) (sym still))
+    let both_kept = learns k o c s.words s.homes (put at a.seat a2) first b.seat b2
+    (ap (λ (x : SeatRecord). x.place) (sym still)) (ap (λ (x : SeatRecord). x.count) (sym still))
+    (ap (λ (x : SeatRecord). x.known) (sym still)) (ap (λ (x : SeatRecord). x.mine) (sym still))
     (ap (λ (x : SeatRecord). stage x.place) still ∙ ap stage idle_b) part all_b in (
       a2 ∷ b2 ∷ [],
       keeps,
       tt,
-      subst (λ (ws : List ℕ). IsHall k o c record { words = ws; homes = s.homes; views = set s.views id (a2 ∷ b2 ∷ []) }) (sym (set-get_or s.words 0 0))
+      subst (λ (ws : List ℕ). IsHall k o c
+          record { words = ws; homes = s.homes; views = set s.views id (a2 ∷ b2 ∷ []) }) (sym (set-get_or s.words 0 0))
           (put (put at a.seat a2) b.seat b2, shown_two c s.views at h.1 id a b a2 b2 here refl refl refl refl, both_kept),
       (
         refl,
         one,
-        (let t = truly both part a (ap (λ (x : SeatRecord). x.setting) (sym ia.0) ∙ h.1.settings a.seat) all_a in record { legal = t.0; own = t.1 }),
-        (let t = truly both part b (ap (λ (x : SeatRecord). x.setting) (sym ib.0) ∙ h.1.settings b.seat) all_b in record { legal = t.0; own = t.1 }),
+        (let t = truly both part a (ap (λ (x : SeatRecord). x.setting) (sym ia.0) ∙ h.1.settings a.seat) all_a in
+            record { legal = t.0; own = t.1 }),
+        (let t = truly both part b (ap (λ (x : SeatRecord). x.setting) (sym ib.0) ∙ h.1.settings b.seat) all_b in
+            record { legal = t.0; own = t.1 }),
       ),
     )
   where
-    truly : (g : List Event) → StartsWith h.2.past g → (r : SeatRecord) → r.setting ≡ c → events_of g r.seat ≡ r.mine → IsLegal (monitor_of k o (floor_of r.setting g)) g × (events_of g r.seat ≡ r.mine)
-    truly g part r is own =
-        (subst (λ (y : Setting). IsLegal (monitor_of k o (floor_of y g)) g) (sym is) (legal_front (monitor_of k o (floor_of c g)) g part.0 (subst (IsLegal (monitor_of k o (floor_of c h.2.past))) part.1 h.2.told.legal)), own)
+    truly : (g : List Event) → StartsWith h.2.past g → (r : SeatRecord) → r.setting ≡ c → events_of g r.seat ≡ r.mine
+        → IsLegal (monitor_of k o (floor_of r.setting g)) g × (events_of g r.seat ≡ r.mine)
+    truly g part r is own = (
+      subst (λ (y : Setting). IsLegal (monitor_of k o (floor_of y g)) g) (sym is)
+          (legal_front (monitor_of k o (floor_of c g)) g part.0
+          (subst (IsLegal (monitor_of k o (floor_of c h.2.past))) part.1 h.2.told.legal)),
+      own,
+    )
 
     longer_part : (past a b : List Event) → StartsWith past a → StartsWith past b → StartsWith past (longer a b)
     longer_part past a b p q = go (nat_le (length a) (length b))
@@ -291,7 +330,8 @@ compares k o c slots id me two idle_a idle_b s h wide view small =
         go false = p
 
 -- two views become one
-pub meets : (k : Rules) (o : Object) (c : Setting) (id : ℕ) (v : View) (other : ℕ) (w : View) → IsOne v → IsOne w → (the v).place ≡ Idle → Joins {S = Option FloorView} (IsHall k o c) id v other w (view_after_join v w) []
+pub meets : (k : Rules) (o : Object) (c : Setting) (id : ℕ) (v : View) (other : ℕ) (w : View) → IsOne v → IsOne w
+    → (the v).place ≡ Idle → Joins {S = Option FloorView} (IsHall k o c) id v other w (view_after_join v w) []
 meets k o c id v other w one_v one_w idle s h view ne_id view_w =
     let at = h.0 in
     let sh = h.1 in
@@ -300,7 +340,8 @@ meets k o c id v other w one_v one_w idle s h view ne_id view_w =
     let b : SeatRecord = the w in
     let a2 : SeatRecord = record a { steps = suc a.steps } in
     let here : get_elem? s.views id ≡ maybe.some (a ∷ []) = view ∙ ap maybe.some one_v in
-    let there : get_elem? s.views other ≡ maybe.some (b ∷ []) = sym (set_else s.views id other (view_after_join v w) ne_id) ∙ view_w ∙ ap maybe.some one_w in
+    let there : get_elem? s.views other ≡ maybe.some (b ∷ []) =
+    sym (set_else s.views id other (view_after_join v w) ne_id) ∙ view_w ∙ ap maybe.some one_w in
     let is_a = is_at c s.views at sh id a here in
     let is_b = is_at c s.views at sh other b there in
     let desk_a = is_desk c s.views at sh id a here in
@@ -313,9 +354,14 @@ meets k o c id v other w one_v one_w idle s h view ne_id view_w =
     let desk_two : ℕ → ℕ = put sh.desk b.seat id in
     let desk_first : desk_two a.seat ≡ id = put_else sh.desk b.seat id a.seat (λ e. ne (sym e)) ∙ desk_a in
     let views_two : List View = set (set s.views id (view_after_join v w)) other [] in
-    let at_id : get_elem? views_two id ≡ maybe.some (view_after_join v w) = set_else (set s.views id (view_after_join v w)) other id [] (λ e. ne_id (sym e)) ∙ set_here s.views id (view_after_join v w) (long s.views id (a ∷ []) here) in
-    let kept = learns k o c s.words s.homes at kh a.seat a2 (ap (λ (x : SeatRecord). x.place) (sym is_a)) (ap (λ (x : SeatRecord). x.count) (sym is_a)) (ap (λ (x : SeatRecord). x.known) (sym is_a)) (ap (λ (x : SeatRecord). x.mine) (sym is_a))
-    (ap (λ (x : SeatRecord). stage x.place) is_a ∙ ap stage idle) (subst (λ (x : SeatRecord). StartsWith kh.past x.seen) is_a (kh.told.starts a.seat))
+    let at_id : get_elem? views_two id ≡ maybe.some (view_after_join v w) =
+    set_else (set s.views id (view_after_join v w)) other id [] (λ e. ne_id (sym e))
+    ∙ set_here s.views id (view_after_join v w) (long s.views id (a ∷ []) here) in
+    let kept = learns k o c s.words s.homes at kh a.seat a2 (ap (λ (x : SeatRecord). x.place) (sym is_a))
+    (ap (λ (x : SeatRecord). x.count) (sym is_a)) (ap (λ (x : SeatRecord). x.known) (sym is_a))
+    (ap (λ (x : SeatRecord). x.mine) (sym is_a))
+    (ap (λ (x : SeatRecord). stage x.place) is_a ∙ ap stage idle)
+    (subst (λ (x : SeatRecord). StartsWith kh.past x.seen) is_a (kh.told.starts a.seat))
     (ap (λ (x : SeatRecord). events_of x.seen a.seat) (sym is_a) ∙ kh.told.own a.seat ∙ ap (λ (x : SeatRecord). x.mine) is_a) in (
       at_one,
       record {
@@ -333,19 +379,33 @@ meets k o c id v other w one_v one_w idle s h view ne_id view_w =
             (at_set s.views id j (view_after_join v w) u t.1))
             (at_set (set s.views id (view_after_join v w)) other j [] u e);
         apart = λ j u e. ⊎_elim (λ t. subst Distinct t.1 tt)
-            (λ t. ⊎_elim (λ z. subst Distinct z.1 ((λ y in_y q. ne (sym (same_seat b y in_y) ∙ q)), ((λ y none. absurd none), tt))) (λ z. sh.apart j u z.1) (at_set s.views id j (view_after_join v w) u t.1))
+            (λ t. ⊎_elim (λ z. subst Distinct z.1
+            ((λ y in_y q. ne (sym (same_seat b y in_y) ∙ q)), ((λ y none. absurd none), tt)))
+            (λ z. sh.apart j u z.1) (at_set s.views id j (view_after_join v w) u t.1))
             (at_set (set s.views id (view_after_join v w)) other j [] u e);
         there = λ j near. elim (eqb_tells j a.seat) [
-          | inl h ↦ (view_after_join v w, ap (λ (n : ℕ). get_elem? views_two n) (ap desk_two h.1 ∙ desk_first) ∙ at_id, inl (ap at_one h.1 ∙ put_here at a.seat a2))
+          | inl h ↦ (
+            view_after_join v w,
+            ap (λ (n : ℕ). get_elem? views_two n) (ap desk_two h.1 ∙ desk_first)
+                ∙ at_id,
+            inl (ap at_one h.1 ∙ put_here at a.seat a2),
+          )
           | inr na ↦ elim (eqb_tells j b.seat) [
-            | inl h ↦ (view_after_join v w, ap (λ (n : ℕ). get_elem? views_two n) (ap desk_two h.1 ∙ put_here sh.desk b.seat id) ∙ at_id, inr (inl (ap at_one h.1 ∙ still)))
+            | inl h ↦ (
+              view_after_join v w,
+              ap (λ (n : ℕ). get_elem? views_two n) (ap desk_two h.1 ∙ put_here sh.desk b.seat id)
+                  ∙ at_id,
+              inr (inl (ap at_one h.1 ∙ still)),
+            )
             | inr nb ↦
                 let old = sh.there j near in
                 let desk_is : desk_two j ≡ sh.desk j = put_else sh.desk b.seat id j nb.1 in
                 let off_id : sh.desk j ≢ id = λ d. na.1 (alone s.views at sh j old.0 id a old.1 d here old.2) in
                 let off_other : sh.desk j ≢ other = λ d. nb.1 (alone s.views at sh j old.0 other b old.1 d there old.2) in (
                   old.0,
-                  ap (λ (n : ℕ). get_elem? views_two n) desk_is ∙ set_else (set s.views id (view_after_join v w)) other (sh.desk j) [] off_other ∙ set_else s.views id (sh.desk j) (view_after_join v w) off_id ∙ old.1,
+                  ap (λ (n : ℕ). get_elem? views_two n) desk_is
+                      ∙ set_else (set s.views id (view_after_join v w)) other (sh.desk j) [] off_other
+                      ∙ set_else s.views id (sh.desk j) (view_after_join v w) off_id ∙ old.1,
                   subst (λ (x : SeatRecord). In x old.0) (sym (put_else at a.seat a2 j na.1)) old.2,
                 )
           ]
@@ -356,17 +416,21 @@ meets k o c id v other w one_v one_w idle s h view ne_id view_w =
       kept,
     )
   where
-    alone : (views : List View) (at : ℕ → SeatRecord) (sh : AreShown c views at) (j : ℕ) (u : View) (d : ℕ) (x : SeatRecord) → get_elem? views (sh.desk j) ≡ maybe.some u → sh.desk j ≡ d → get_elem? views d ≡ maybe.some (x ∷ []) → In (at j) u → j ≡ x.seat
+    alone : (views : List View) (at : ℕ → SeatRecord) (sh : AreShown c views at) (j : ℕ) (u : View) (d : ℕ)
+        (x : SeatRecord) → get_elem? views (sh.desk j) ≡ maybe.some u → sh.desk j ≡ d
+        → get_elem? views d ≡ maybe.some (x ∷ []) → In (at j) u → j ≡ x.seat
     alone views at sh j u d x e is_d there i =
         let is_u : u ≡ x ∷ [] = some-injective u (x ∷ []) (sym e ∙ ap (λ (n : ℕ). get_elem? views n) is_d ∙ there) in
         sym (sh.seats j) ∙ ap (λ (y : SeatRecord). y.seat) (only (at j) x (subst (λ (z : View). In (at j) z) is_u i))
 
 -- the second of two records goes to a seat of its own
-parted : (k : Rules) (o : Object) (c : Setting) (id : ℕ) (a b : SeatRecord) → Splits {S = Option FloorView} (IsHall k o c) id (a ∷ b ∷ []) (a ∷ []) (b ∷ [])
+parted : (k : Rules) (o : Object) (c : Setting) (id : ℕ) (a b : SeatRecord)
+    → Splits {S = Option FloorView} (IsHall k o c) id (a ∷ b ∷ []) (a ∷ []) (b ∷ [])
 parted k o c id a b s h view =
     let distinct = h.1.apart id (a ∷ b ∷ []) view in (
       h.0,
-      shown_moved c s.views h.0 h.1 id (a ∷ b ∷ []) (a ∷ []) b view (inr (inl refl)) first_stays either (λ z i e. distinct.0 b (inl refl) (sym e ∙ same_seat a z i)) ((λ y none. absurd none), tt),
+      shown_moved c s.views h.0 h.1 id (a ∷ b ∷ []) (a ∷ []) b view (inr (inl refl)) first_stays either
+          (λ z i e. distinct.0 b (inl refl) (sym e ∙ same_seat a z i)) ((λ y none. absurd none), tt),
       h.2,
     )
   where
@@ -379,16 +443,21 @@ parted k o c id a b s h view =
     either z (inr (inl e)) = inl e
     either z (inr (inr none)) = absurd none
 
-pub parts_again : (k : Rules) (o : Object) (c : Setting) (id : ℕ) (v m : View) → v ≡ view_after_compare m → Splits {S = Option FloorView} (IsHall k o c) id v (head v) (tail v)
+pub parts_again : (k : Rules) (o : Object) (c : Setting) (id : ℕ) (v m : View) → v ≡ view_after_compare m
+    → Splits {S = Option FloorView} (IsHall k o c) id v (head v) (tail v)
 parts_again k o c id v m e =
-    subst (λ (x : View). Splits {S = Option FloorView} (IsHall k o c) id x (head x) (tail x)) (sym e) (parted k o c id (the (view_after_compare m)) (the (tail (view_after_compare m))))
+    subst (λ (x : View). Splits {S = Option FloorView} (IsHall k o c) id x (head x) (tail x)) (sym e)
+    (parted k o c id (the (view_after_compare m)) (the (tail (view_after_compare m))))
 
 -- a seat that has met another rests as before
-pub met_rests : (k : Rules) (o : Object) (y z : TableId) (v : View) (number left calls : ℕ) (r : SeatRecord) (views : List View) → IsResting k o z (v, []) number left calls → (the v).place ≡ Idle → y ≡ z
-    → r.seat ≡ (the v).seat → r.setting ≡ (the v).setting → r.place ≡ (the v).place → r.count ≡ (the v).count → r.mine ≡ (the v).mine → SeesTruly k o r → views ≡ (r ∷ []) ∷ []
+pub met_rests : (k : Rules) (o : Object) (y z : TableId) (v : View) (number left calls : ℕ) (r : SeatRecord)
+    (views : List View) → IsResting k o z (v, []) number left calls → (the v).place ≡ Idle → y ≡ z
+    → r.seat ≡ (the v).seat → r.setting ≡ (the v).setting → r.place ≡ (the v).place → r.count ≡ (the v).count
+    → r.mine ≡ (the v).mine → SeesTruly k o r → views ≡ (r ∷ []) ∷ []
     → (views ≡ top views ∷ []) × IsResting k o y (top views, []) number left calls × ((the (top views)).place ≡ Idle)
 met_rests k o y z v number left calls r views old idle table seat setting place count mine truly are =
-    subst (λ (vs : List View). (vs ≡ top vs ∷ []) × IsResting k o y (top vs, []) number left calls × ((the (top vs)).place ≡ Idle)) (sym are) (
+    subst (λ (vs : List View). (vs ≡ top vs ∷ []) × IsResting k o y (top vs, []) number left calls
+    × ((the (top vs)).place ≡ Idle)) (sym are) (
       refl,
       record {
         one = refl;

@@ -39,13 +39,18 @@ pub record HasHalves (x t n : ℕ) : Type 0 where
 halves : (x t n : ℕ) → n < 4294967296 → x ≡ packed t n → HasHalves x t n
 halves x t n h e = record { drawn = ap tickets e ∙ tickets_of t n h; waiting = ap unpassed e ∙ unpassed_of t n h }
 
-pub after_draw : (x : ℕ) → tickets x < 2147483648 → unpassed x < 2147483648 → HasHalves ((x + 4294967297) % 18446744073709551616) (tickets x + 1) (unpassed x + 1)
+pub after_draw : (x : ℕ) → tickets x < 2147483648 → unpassed x < 2147483648
+    → HasHalves ((x + 4294967297) % 18446744073709551616) (tickets x + 1) (unpassed x + 1)
 after_draw x a b =
     halves ((x + 4294967297) % 18446744073709551616) (tickets x + 1) (unpassed x + 1) (omega arith)
-    (ap (λ (y : ℕ). (y + 4294967297) % 18446744073709551616) (word_is x) ∙ drawn_word (tickets x) (unpassed x) a b ∙ (let e : packed (suc (tickets x)) (suc (unpassed x)) ≡ packed (tickets x + 1) (unpassed x + 1) = omega arith in e))
+    (ap (λ (y : ℕ). (y + 4294967297) % 18446744073709551616) (word_is x) ∙ drawn_word (tickets x) (unpassed x) a b
+    ∙ (let e : packed (suc (tickets x)) (suc (unpassed x)) ≡ packed (tickets x + 1) (unpassed x + 1) = omega arith
+    in e))
 
-pub after_take_off : (x : ℕ) → tickets x < 2147483648 → unpassed x < 2147483648 → 0 < unpassed x → HasHalves ((x + 18446744073709551615) % 18446744073709551616) (tickets x) (unpassed x - 1)
+pub after_take_off : (x : ℕ) → tickets x < 2147483648 → unpassed x < 2147483648 → 0 < unpassed x
+    → HasHalves ((x + 18446744073709551615) % 18446744073709551616) (tickets x) (unpassed x - 1)
 after_take_off x a b some =
     let more : unpassed x ≡ suc (unpassed x - 1) = omega arith in
     halves ((x + 18446744073709551615) % 18446744073709551616) (tickets x) (unpassed x - 1) (omega arith)
-    (ap (λ (y : ℕ). (y + 18446744073709551615) % 18446744073709551616) (word_is x ∙ ap (packed (tickets x)) more) ∙ dropped_word (tickets x) (unpassed x - 1) a (omega arith))
+    (ap (λ (y : ℕ). (y + 18446744073709551615) % 18446744073709551616) (word_is x ∙ ap (packed (tickets x)) more)
+    ∙ dropped_word (tickets x) (unpassed x - 1) a (omega arith))

@@ -1,5 +1,6 @@
 -- What an active seat does between its steps keeps a world kept
-use Rattle.std.proofs.Common.{◌≡◌, ◌≢◌, ℕ, ◌+◌, ◌-◌, ◌<◌, ◌≤◌, cond, Bool, List, [], ◌∷◌, ◌++◌, length, sym, refl, ap, ◌∙◌, subst, arith, eq-eqb, append-nil, append_assoc, length-append}
+use Rattle.std.proofs.Common.{◌≡◌, ◌≢◌, ℕ, ◌+◌, ◌-◌, ◌<◌, ◌≤◌, cond, Bool, List, [], ◌∷◌, ◌++◌, length, sym, refl, ap}
+use Rattle.std.proofs.Common.{◌∙◌, subst, arith, eq-eqb, append-nil, append_assoc, length-append}
 use Rattle.monk_kinds.specs.declared.mode.Rules.{Rules}
 use Rattle.monk_object.specs.Object.{Object}
 use Rattle.monk_history.specs.Meaning.Counts.{events_of, left_of}
@@ -42,21 +43,28 @@ others_same i j ne h (e ∷ es) own =
 abbrev pub with_more : State → List Event → State
 with_more s es = record s { floor = record s.floor { history = s.floor.history ++ es } }
 
-one_kept : (k : Rules) (o : Object) (s : State) (seats conds i : ℕ) (q : Source) (e : Event) → IsKept k o seats conds s → i < s.floor.seats → s.world.place i ≡ Active q → IsPrivate i e
-    → IsLegal (monitor_of k o s.floor) (s.floor.history ++ e ∷ []) → 2 ≤ left_of s.floor.budget s.floor.history i → IsKept k o seats conds (record s { floor = with_event s.floor e })
+one_kept : (k : Rules) (o : Object) (s : State) (seats conds i : ℕ) (q : Source) (e : Event) → IsKept k o seats conds s
+    → i < s.floor.seats → s.world.place i ≡ Active q → IsPrivate i e
+    → IsLegal (monitor_of k o s.floor) (s.floor.history ++ e ∷ []) → 2 ≤ left_of s.floor.budget s.floor.history i
+    → IsKept k o seats conds (record s { floor = with_event s.floor e })
 one_kept k o s seats conds i q e kept near active own legal enough = record {
-  sound = stays k o s kept.sound.right kept.sound.owner kept.sound.is_sound i e own.seat (legal_last (monitor_of k o s.floor) s.floor.history e legal) q active own.enters own.keeps enough;
-  bounded = bounded_floor s kept.bounded i near s.world s.known (s.world.place i) (sym (put_same s.world.place i (s.world.place i) refl)) e own.seat (omega arith) (omega arith)
+  sound = stays k o s kept.sound.right kept.sound.owner kept.sound.is_sound i e own.seat
+      (legal_last (monitor_of k o s.floor) s.floor.history e legal) q active own.enters own.keeps enough;
+  bounded = bounded_floor s kept.bounded i near s.world s.known (s.world.place i)
+      (sym (put_same s.world.place i (s.world.place i) refl)) e own.seat (omega arith) (omega arith)
       (λ j. let a = kept.bounded.counted j in let b = no_less s kept.bounded e j in omega arith);
   seats_are = kept.seats_are;
   conds_are = kept.conds_are;
 }
 
 -- events of the active seat that keep the turn with it keep the world kept, while one event more is left to it
-pub more_kept : (k : Rules) (o : Object) (s : State) (seats conds i : ℕ) (q : Source) (es : List Event) → IsKept k o seats conds s → i < s.floor.seats → s.world.place i ≡ Active q → ArePrivate i es
-    → IsLegal (monitor_of k o s.floor) (s.floor.history ++ es) → length (events_of s.floor.history i) + length es < s.floor.budget → IsKept k o seats conds (with_more s es)
+pub more_kept : (k : Rules) (o : Object) (s : State) (seats conds i : ℕ) (q : Source) (es : List Event)
+    → IsKept k o seats conds s → i < s.floor.seats → s.world.place i ≡ Active q → ArePrivate i es
+    → IsLegal (monitor_of k o s.floor) (s.floor.history ++ es)
+    → length (events_of s.floor.history i) + length es < s.floor.budget → IsKept k o seats conds (with_more s es)
 more_kept k o s seats conds i q [] kept near active own legal room =
-    subst (λ (g : List Event). IsKept k o seats conds (record s { floor = record s.floor { history = g } })) (sym (append-nil s.floor.history)) kept
+    subst (λ (g : List Event). IsKept k o seats conds (record s { floor = record s.floor { history = g } }))
+    (sym (append-nil s.floor.history)) kept
 more_kept k o s seats conds i q (e ∷ es) kept near active own legal room =
     let past = s.floor.history in
     let m = monitor_of k o s.floor in

@@ -1,5 +1,6 @@
 -- What a release makes of an active seat
-use Rattle.std.proofs.Common.{◌≡◌, ◌≢◌, ℕ, suc, ◌+◌, ◌-◌, ◌<◌, ◌≤◌, Bool, true, false, true≢false, not, cond, List, [], ◌∷◌, ◌++◌, length, Some, refl, sym, ap, subst, ◌∙◌, arith}
+use Rattle.std.proofs.Common.{◌≡◌, ◌≢◌, ℕ, suc, ◌+◌, ◌-◌, ◌<◌, ◌≤◌, Bool, true, false, true≢false, not, cond, List, []}
+use Rattle.std.proofs.Common.{◌∷◌, ◌++◌, length, Some, refl, sym, ap, subst, ◌∙◌, arith}
 use Rattle.std.specs.Prelude.{nat_lt}
 use Rattle.atomic_table.specs.Seated.{TableId}
 use Rattle.monk_kinds.specs.declared.mode.Rules.{Rules}
@@ -46,13 +47,15 @@ use Rattle.monk_hall.proofs.Releasing.{said}
 use Rattle.monk_hall.proofs.TokenLaws.{grown_holds}
 
 -- the wish rules ask who is known to wait for entry only for a wish of entry
-knows_reads : (k : Rules) (q : Queues) (s : ℕ) (known : Bool) (wish : Pick) → choice_by k q s known wish ≡ choice_by k q s (is_entry_known wish known) wish
+knows_reads : (k : Rules) (q : Queues) (s : ℕ) (known : Bool) (wish : Pick)
+    → choice_by k q s known wish ≡ choice_by k q s (is_entry_known wish known) wish
 knows_reads k q s known WishEntry = refl
 knows_reads k q s known WishWaiter = refl
 knows_reads k q s known WishSignaller = refl
 
 -- and where there is something to choose
-choice_knows : (b : Bool) (kept : Next) (by : Bool → Next) (x y : Bool) → (b ≡ false → by x ≡ by y) → cond b kept (by x) ≡ cond b kept (by y)
+choice_knows : (b : Bool) (kept : Next) (by : Bool → Next) (x y : Bool) → (b ≡ false → by x ≡ by y)
+    → cond b kept (by x) ≡ cond b kept (by y)
 choice_knows true kept by x y e = refl
 choice_knows false kept by x y e = e refl
 
@@ -109,13 +112,18 @@ never_enters i home.Inner (SignalLeave s c y) x h = refl
 never_enters i home.Inner (Until s p y) x h = refl
 never_enters i home.Inner (Resume s q) x h = refl
 
-chosen_as_known : {k : Rules} {o : Object} {r : SeatRecord} {f : FloorView} {call : Event} {wish : Pick} {known : Bool} {choice : Next} {to : Home} {g : FloorView}
+chosen_as_known : {k : Rules} {o : Object} {r : SeatRecord} {f : FloorView} {call : Event} {wish : Pick} {known : Bool}
+    {choice : Next} {to : Home} {g : FloorView}
     → IsRelease k o r f call wish known choice to g → choice ≡ choice_of k o (stands_of k o f) call (is_entry_known wish r.known) wish
-chosen_as_known {k} {o} {r} {f} {call} {wish} {known} x = let t = stands_of k o f in x.chosen ∙ choice_knows (must_stay o t call) next.Stay (λ b. choice_by k (queues_at o t call) (seat_of call) b wish) known (is_entry_known wish r.known)
+chosen_as_known {k} {o} {r} {f} {call} {wish} {known} x = let t = stands_of k o f in x.chosen
+    ∙ choice_knows (must_stay o t call) next.Stay (λ b. choice_by k (queues_at o t call) (seat_of call) b wish) known
+    (is_entry_known wish r.known)
     (λ free. ap (λ b. choice_by k (queues_at o t call) (seat_of call) b wish) (x.known_is free))
 
-module _ {k : Rules} {o : Object} {z : TableId} {me : Me} {number calls : ℕ} {f : FloorView} {call : Event} {wish : Pick} {known : Bool} {choice : Next} {to : Home} {g : FloorView} where
-  pub has_released : IsHolding k o z me number calls f → IsRelease k o (the me.0) f call wish known choice to g → is_stay (Some choice) ≡ false → HasRecordedRelease k o z me choice to g
+module _ {k : Rules} {o : Object} {z : TableId} {me : Me} {number calls : ℕ} {f : FloorView} {call : Event}
+    {wish : Pick} {known : Bool} {choice : Next} {to : Home} {g : FloorView} where
+  pub has_released : IsHolding k o z me number calls f → IsRelease k o (the me.0) f call wish known choice to g
+      → is_stay (Some choice) ≡ false → HasRecordedRelease k o z me choice to g
   has_released h x away = record {
     one = h.one;
     active = h.active;
@@ -129,7 +137,10 @@ module _ {k : Rules} {o : Object} {z : TableId} {me : Me} {number calls : ℕ} {
       choice = choice;
       release = x.release;
       may = x.may;
-      chosen = chosen_as_known x ∙ choice_knows (must_stay o (stands_of k o f) call) next.Stay (λ b. choice_by k (queues_at o (stands_of k o f) call) (seat_of call) b wish) (is_entry_known wish (the me.0).known) (the me.0).known
+      chosen = chosen_as_known x
+          ∙ choice_knows (must_stay o (stands_of k o f) call) next.Stay
+          (λ b. choice_by k (queues_at o (stands_of k o f) call) (seat_of call) b wish)
+          (is_entry_known wish (the me.0).known) (the me.0).known
           (λ _. sym (knows_reads k (queues_at o (stands_of k o f) call) (seat_of call) (the me.0).known wish));
       away = away;
       left = x.left;
@@ -141,9 +152,11 @@ module _ {k : Rules} {o : Object} {z : TableId} {me : Me} {number calls : ℕ} {
   }
 
   pub released : IsHolding k o z me number calls f → IsRelease k o (the me.0) f call wish known choice to g → is_stay (Some choice) ≡ false
-      → (p : Token) → p.hall ≡ z → HasGone (the me.0) g.history to p.me → SeesTruly k o p.me → HasReleased k o (holder z (the me.0) f) call wish to 0 p
+      → (p : Token) → p.hall ≡ z → HasGone (the me.0) g.history to p.me → SeesTruly k o p.me
+      → HasReleased k o (holder z (the me.0) f) call wish to 0 p
   released h x away p hall gone told =
-      let r = the me.0 in let history = ap (λ (y : FloorView). y.history) x.is_grown.grown in let is_known = ap (λ w. w.known) gone.is in let few = gone.few in let steps = ap (λ w. w.steps) gone.is in record {
+      let r = the me.0 in let history = ap (λ (y : FloorView). y.history) x.is_grown.grown in let is_known =
+      ap (λ w. w.known) gone.is in let few = gone.few in let steps = ap (λ w. w.steps) gone.is in record {
         choice = choice;
         chosen = chosen_as_known x ∙ ap (λ b. choice_of k o (stands_of k o f) call (is_entry_known wish b) wish) (sym is_known);
         away = away;
@@ -152,14 +165,16 @@ module _ {k : Rules} {o : Object} {z : TableId} {me : Me} {number calls : ℕ} {
         setting = ap (λ w. w.setting) gone.is;
         place = ap (λ w. w.place) gone.is;
         seen = ap (λ w. w.seen) gone.is ∙ history;
-        mine = ap (λ w. w.mine) gone.is ∙ ap (λ h. events_of h r.seat) history ∙ own_event f.history (with_next choice call) r.seat (said r.seat to call choice x.release).seat;
+        mine = ap (λ w. w.mine) gone.is ∙ ap (λ h. events_of h r.seat) history
+            ∙ own_event f.history (with_next choice call) r.seat (said r.seat to call choice x.release).seat;
         looks = ap (λ w. w.looks) gone.is ∙ omega arith;
         steps = omega arith;
         remembers = record { knew = λ knew. is_known ∙ knew; unlooked = λ _. is_known };
         told = told;
       }
 
-remembers_twice : (peeks : ℕ) (a b : Holder) → HasPeeked peeks a b → (w : SeatRecord) → Remembers b.me w → b.me.looks ≤ w.looks → Remembers a.me w
+remembers_twice : (peeks : ℕ) (a b : Holder) → HasPeeked peeks a b → (w : SeatRecord) → Remembers b.me w
+    → b.me.looks ≤ w.looks → Remembers a.me w
 remembers_twice peeks a b x w y more = record {
   knew = λ knew. y.knew (x.remembers.knew knew);
   unlooked = λ same. let n = ap (λ (h : Holder). h.me.looks) x.is in y.unlooked (omega arith) ∙ x.remembers.unlooked (omega arith);
@@ -167,22 +182,25 @@ remembers_twice peeks a b x w y more = record {
 
 -- a look at the ticket word before the release
 module _ {k : Rules} {o : Object} where
-  pub released_peeked : (peeks : ℕ) (a b : Holder) → HasPeeked peeks a b → (call : Event) (wish : Pick) (to : Home) (p : Token) → HasReleased k o b call wish to 0 p → HasReleased k o a call wish to peeks p
-  released_peeked peeks a b x call wish to p y = let is = x.is in let few = y.steps in let steps = ap (λ (h : Holder). h.me.steps) is in record {
-    choice = y.choice;
-    chosen = y.chosen ∙ ap (λ (h : Holder). choice_of k o (stands_of k o h.floor) call (is_entry_known wish p.me.known) wish) is;
-    away = y.away;
-    hall = y.hall ∙ ap (λ (h : Holder). h.hall) is;
-    seat = y.seat ∙ ap (λ (h : Holder). h.me.seat) is;
-    setting = y.setting ∙ ap (λ (h : Holder). h.me.setting) is;
-    place = y.place;
-    seen = y.seen ∙ ap (λ (h : Holder). h.floor.history ++ with_next y.choice call ∷ []) is;
-    mine = y.mine ∙ ap (λ (h : Holder). h.me.mine ++ with_next y.choice call ∷ []) is;
-    looks = y.looks ∙ ap (λ (h : Holder). h.me.looks + 0) is ∙ omega arith;
-    steps = omega arith;
-    remembers = remembers_twice peeks a b x p.me y.remembers (let n = y.looks in omega arith);
-    told = y.told;
-  }
+  pub released_peeked : (peeks : ℕ) (a b : Holder) → HasPeeked peeks a b
+      → (call : Event) (wish : Pick) (to : Home) (p : Token) → HasReleased k o b call wish to 0 p
+      → HasReleased k o a call wish to peeks p
+  released_peeked peeks a b x call wish to p y = let is = x.is in let few = y.steps in let steps =
+      ap (λ (h : Holder). h.me.steps) is in record {
+        choice = y.choice;
+        chosen = y.chosen ∙ ap (λ (h : Holder). choice_of k o (stands_of k o h.floor) call (is_entry_known wish p.me.known) wish) is;
+        away = y.away;
+        hall = y.hall ∙ ap (λ (h : Holder). h.hall) is;
+        seat = y.seat ∙ ap (λ (h : Holder). h.me.seat) is;
+        setting = y.setting ∙ ap (λ (h : Holder). h.me.setting) is;
+        place = y.place;
+        seen = y.seen ∙ ap (λ (h : Holder). h.floor.history ++ with_next y.choice call ∷ []) is;
+        mine = y.mine ∙ ap (λ (h : Holder). h.me.mine ++ with_next y.choice call ∷ []) is;
+        looks = y.looks ∙ ap (λ (h : Holder). h.me.looks + 0) is ∙ omega arith;
+        steps = omega arith;
+        remembers = remembers_twice peeks a b x p.me y.remembers (let n = y.looks in omega arith);
+        told = y.told;
+      }
 
 -- what the active seat may do
 module _ {k : Rules} {o : Object} {z : TableId} {me : Me} {number calls : ℕ} {f : FloorView} where
@@ -192,18 +210,27 @@ module _ {k : Rules} {o : Object} {z : TableId} {me : Me} {number calls : ℕ} {
   pub is_near : IsHolding k o z me number calls f → number < f.seats
   is_near h = subst (λ n. n < f.seats) h.seated.is_seat h.goes.near
 
-  pub has_left : IsHolding k o z me number calls f → (n : ℕ) → length (events_of f.history (the me.0).seat) + n < (the me.0).setting.budget → n < left_of f.budget f.history (the me.0).seat
+  pub has_left : IsHolding k o z me number calls f → (n : ℕ)
+      → length (events_of f.history (the me.0).seat) + n < (the me.0).setting.budget
+      → n < left_of f.budget f.history (the me.0).seat
   has_left h n more = let b = ap (λ (y : FloorView). y.budget) h.goes.is_floor in omega arith
 
   -- what is told of a release with the active seat's own number
-  pub released_of : {wish : Pick} {known : Bool} {choice : Next} {to : Home} {g : FloorView} → (call : ℕ → Event) → IsHolding k o z me number calls f → IsRelease k o (the me.0) f (call number) wish known choice to g → is_stay (Some choice) ≡ false
-      → (p : Token) → p.hall ≡ z → HasGone (the me.0) g.history to p.me → SeesTruly k o p.me → (a : Holder) → holder z (the me.0) f ≡ a → HasReleased k o a (call a.me.seat) wish to 0 p
+  pub released_of : {wish : Pick} {known : Bool} {choice : Next} {to : Home} {g : FloorView} → (call : ℕ → Event)
+      → IsHolding k o z me number calls f → IsRelease k o (the me.0) f (call number) wish known choice to g
+      → is_stay (Some choice) ≡ false
+      → (p : Token) → p.hall ≡ z → HasGone (the me.0) g.history to p.me → SeesTruly k o p.me → (a : Holder)
+      → holder z (the me.0) f ≡ a → HasReleased k o a (call a.me.seat) wish to 0 p
   released_of {wish} {known} {choice} {to} {g} call h x away p hall gone told a is =
       subst (λ (b : Holder). HasReleased k o b (call b.me.seat) wish to 0 p) is
-      (subst (λ n. HasReleased k o (holder z (the me.0) f) (call n) wish to 0 p) (sym h.seated.is_seat) (released h x away p hall gone told))
+      (subst (λ n. HasReleased k o (holder z (the me.0) f) (call n) wish to 0 p) (sym h.seated.is_seat)
+      (released h x away p hall gone told))
 
-  pub leaves : IsHolding k o z me number calls f → (wish : Pick) (known : Bool) (choice : Next) (g : FloorView) → (a : Holder) → holder z (the me.0) f ≡ a → known ≡ is_entry_known wish a.me.known
-      → choice ≡ choice_of k o (stands_of k o f) (Leave number next.Stay) known wish → IsGrown k o f (Leave number choice) g → IsRelease k o (the me.0) f (Leave number next.Stay) wish known choice home.Idle g
+  pub leaves : IsHolding k o z me number calls f → (wish : Pick) (known : Bool) (choice : Next) (g : FloorView)
+      → (a : Holder) → holder z (the me.0) f ≡ a → known ≡ is_entry_known wish a.me.known
+      → choice ≡ choice_of k o (stands_of k o f) (Leave number next.Stay) known wish
+      → IsGrown k o f (Leave number choice) g
+      → IsRelease k o (the me.0) f (Leave number next.Stay) wish known choice home.Idle g
   leaves h wish known choice g a is reads chosen grows = record {
     release = (sym h.seated.is_seat, refl);
     may = may_leave (monitor_of k o f) f.history number (owns h) (is_near h);
@@ -213,9 +240,12 @@ module _ {k : Rules} {o : Object} {z : TableId} {me : Me} {number calls : ℕ} {
     is_grown = grows;
   }
 
-  pub waits : IsHolding k o z me number calls f → (c : ℕ) → c < f.conds → has_conditions k.mode ≡ true → (wish : Pick) (known : Bool) (choice : Next) (g : FloorView) → (a : Holder) → holder z (the me.0) f ≡ a
+  pub waits : IsHolding k o z me number calls f → (c : ℕ) → c < f.conds → has_conditions k.mode ≡ true
+      → (wish : Pick) (known : Bool) (choice : Next) (g : FloorView) → (a : Holder) → holder z (the me.0) f ≡ a
       → length a.me.mine + 3 ≤ a.me.setting.budget → known ≡ is_entry_known wish a.me.known
-      → choice ≡ choice_of k o (stands_of k o f) (Wait number c next.Stay) known wish → IsGrown k o f (Wait number c choice) g → IsRelease k o (the me.0) f (Wait number c next.Stay) wish known choice home.Inner g
+      → choice ≡ choice_of k o (stands_of k o f) (Wait number c next.Stay) known wish
+      → IsGrown k o f (Wait number c choice) g
+      → IsRelease k o (the me.0) f (Wait number c next.Stay) wish known choice home.Inner g
   waits h c low has wish known choice g a is room reads chosen grows = record {
     release = (sym h.seated.is_seat, refl);
     may = may_wait (monitor_of k o f) f.history number c (owns h) (is_near h) low has;
@@ -225,9 +255,13 @@ module _ {k : Rules} {o : Object} {z : TableId} {me : Me} {number calls : ℕ} {
     is_grown = grows;
   }
 
-  pub signals : IsHolding k o z me number calls f → (c : ℕ) → c < f.conds → has_signaller_queue k.mode ≡ true → (wish : Pick) (known : Bool) (choice : Next) (g : FloorView) → (a : Holder) → holder z (the me.0) f ≡ a
-      → length a.me.mine + 3 ≤ a.me.setting.budget → (must_stay o (stands_of k o f) (Signal number c next.Stay) ≡ false → known ≡ is_entry_known wish a.me.known)
-      → choice ≡ choice_of k o (stands_of k o f) (Signal number c next.Stay) known wish → IsGrown k o f (Signal number c choice) g → IsRelease k o (the me.0) f (Signal number c next.Stay) wish known choice home.Inner g
+  pub signals : IsHolding k o z me number calls f → (c : ℕ) → c < f.conds → has_signaller_queue k.mode ≡ true
+      → (wish : Pick) (known : Bool) (choice : Next) (g : FloorView) → (a : Holder) → holder z (the me.0) f ≡ a
+      → length a.me.mine + 3 ≤ a.me.setting.budget
+      → (must_stay o (stands_of k o f) (Signal number c next.Stay) ≡ false → known ≡ is_entry_known wish a.me.known)
+      → choice ≡ choice_of k o (stands_of k o f) (Signal number c next.Stay) known wish
+      → IsGrown k o f (Signal number c choice) g
+      → IsRelease k o (the me.0) f (Signal number c next.Stay) wish known choice home.Inner g
   signals h c low has wish known choice g a is room reads chosen grows = record {
     release = (sym h.seated.is_seat, refl);
     may = may_signal_on (monitor_of k o f) f.history number c (owns h) (is_near h) low has;
@@ -237,8 +271,11 @@ module _ {k : Rules} {o : Object} {z : TableId} {me : Me} {number calls : ℕ} {
     is_grown = grows;
   }
 
-  pub signals_and_leaves : IsHolding k o z me number calls f → (c : ℕ) → c < f.conds → returns_at_once k.mode ≡ true → (wish : Pick) (known : Bool) (choice : Next) (g : FloorView) → (a : Holder) → holder z (the me.0) f ≡ a
-      → known ≡ is_entry_known wish a.me.known → choice ≡ choice_of k o (stands_of k o f) (SignalLeave number c next.Stay) known wish → IsGrown k o f (SignalLeave number c choice) g
+  pub signals_and_leaves : IsHolding k o z me number calls f → (c : ℕ) → c < f.conds → returns_at_once k.mode ≡ true
+      → (wish : Pick) (known : Bool) (choice : Next) (g : FloorView) → (a : Holder) → holder z (the me.0) f ≡ a
+      → known ≡ is_entry_known wish a.me.known
+      → choice ≡ choice_of k o (stands_of k o f) (SignalLeave number c next.Stay) known wish
+      → IsGrown k o f (SignalLeave number c choice) g
       → IsRelease k o (the me.0) f (SignalLeave number c next.Stay) wish known choice home.Idle g
   signals_and_leaves h c low has wish known choice g a is reads chosen grows = record {
     release = (sym h.seated.is_seat, refl);
@@ -249,9 +286,13 @@ module _ {k : Rules} {o : Object} {z : TableId} {me : Me} {number calls : ℕ} {
     is_grown = grows;
   }
 
-  pub waits_until : IsHolding k o z me number calls f → (p : ℕ) → p < o.predicates → not (has_conditions k.mode) ≡ true → (wish : Pick) (known : Bool) (choice : Next) (g : FloorView) → (a : Holder) → holder z (the me.0) f ≡ a
-      → length a.me.mine + 3 ≤ a.me.setting.budget → (must_stay o (stands_of k o f) (Until number p next.Stay) ≡ false → known ≡ is_entry_known wish a.me.known)
-      → choice ≡ choice_of k o (stands_of k o f) (Until number p next.Stay) known wish → IsGrown k o f (Until number p choice) g → IsRelease k o (the me.0) f (Until number p next.Stay) wish known choice home.Inner g
+  pub waits_until : IsHolding k o z me number calls f → (p : ℕ) → p < o.predicates → not (has_conditions k.mode) ≡ true
+      → (wish : Pick) (known : Bool) (choice : Next) (g : FloorView) → (a : Holder) → holder z (the me.0) f ≡ a
+      → length a.me.mine + 3 ≤ a.me.setting.budget
+      → (must_stay o (stands_of k o f) (Until number p next.Stay) ≡ false → known ≡ is_entry_known wish a.me.known)
+      → choice ≡ choice_of k o (stands_of k o f) (Until number p next.Stay) known wish
+      → IsGrown k o f (Until number p choice) g
+      → IsRelease k o (the me.0) f (Until number p next.Stay) wish known choice home.Inner g
   waits_until h p low has wish known choice g a is room reads chosen grows = record {
     release = (sym h.seated.is_seat, refl);
     may = may_until (monitor_of k o f) f.history number p (owns h) (is_near h) low has;
@@ -262,12 +303,15 @@ module _ {k : Rules} {o : Object} {z : TableId} {me : Me} {number calls : ℕ} {
   }
 
   -- whoever may park inside has room for the way back
-  pub room_inside : {call : Event} {wish : Pick} {known : Bool} {choice : Next} {g : FloorView} → IsHolding k o z me number calls f → IsRelease k o (the me.0) f call wish known choice home.Inner g
+  pub room_inside : {call : Event} {wish : Pick} {known : Bool} {choice : Next} {g : FloorView}
+      → IsHolding k o z me number calls f → IsRelease k o (the me.0) f call wish known choice home.Inner g
       → length (events_of f.history (the me.0).seat) + 2 ≤ (the me.0).setting.budget
   room_inside h x = let b = ap (λ (y : FloorView). y.budget) h.goes.is_floor in let l = x.left in omega arith
 
   -- a release that stays
-  pub stays_holding : (call : Event) {wish : Pick} {known : Bool} {choice : Next} {to : Home} {g : FloorView} → IsHolding k o z me number calls f → IsRelease k o (the me.0) f call wish known choice to g → is_stay (Some choice) ≡ true
+  pub stays_holding : (call : Event) {wish : Pick} {known : Bool} {choice : Next} {to : Home} {g : FloorView}
+      → IsHolding k o z me number calls f → IsRelease k o (the me.0) f call wish known choice to g
+      → is_stay (Some choice) ≡ true
       → length (events_of f.history (the me.0).seat) + 2 ≤ (the me.0).setting.budget → IsHolding k o z me number calls g
   stays_holding call {wish} {known} {choice} {to} {g} h x stays room =
       let s = said (the me.0).seat to call choice x.release in let n = h.seated.is_seat in
@@ -275,7 +319,9 @@ module _ {k : Rules} {o : Object} {z : TableId} {me : Me} {number calls : ℕ} {
       ((λ i. turn_by (s.seat i) (s.chose i)) ∙ stay_keeps (the me.0).seat choice stays ∙ ap Owned n)
       (never_enters (the me.0).seat to call choice x.release) x.is_grown.allowed room g x.is_grown.grown
 
-  pub stayed : (call : ℕ → Event) {wish : Pick} {known : Bool} {choice : Next} {to : Home} {g : FloorView} → IsHolding k o z me number calls f → IsRelease k o (the me.0) f (call number) wish known choice to g → is_stay (Some choice) ≡ true
+  pub stayed : (call : ℕ → Event) {wish : Pick} {known : Bool} {choice : Next} {to : Home} {g : FloorView}
+      → IsHolding k o z me number calls f → IsRelease k o (the me.0) f (call number) wish known choice to g
+      → is_stay (Some choice) ≡ true
       → (a : Holder) → holder z (the me.0) f ≡ a → HasStayed k o a (call a.me.seat) wish 0 (holder z (the me.0) g)
   stayed call {wish} {known} {choice} {to} {g} h x stays a is =
       let r = the me.0 in let same = stay_is choice stays in let e = with_next next.Stay (call number) in
@@ -284,61 +330,118 @@ module _ {k : Rules} {o : Object} {z : TableId} {me : Me} {number calls : ℕ} {
       subst (λ (b : Holder). HasStayed k o b (call b.me.seat) wish 0 (holder z r g)) is
       (subst (λ n. HasStayed k o (holder z r f) (call n) wish 0 (holder z r g)) (sym h.seated.is_seat) record {
         chosen = sym same ∙ chosen_as_known x;
-        is = ap (holder z r) grows ∙ (λ i. record { hall = z; me = record r { mine = own_event f.history e r.seat seat i; looks = plus_none r.looks i; steps = plus_none r.steps i }; floor = with_event f e });
+        is = ap (holder z r) grows
+            ∙ (λ i. record {
+              hall = z;
+              me =
+                  record r {
+                    mine = own_event f.history e r.seat seat i;
+                    looks = plus_none r.looks i;
+                    steps =
+                        plus_none r.steps i;
+                  };
+              floor = with_event f e;
+            });
         remembers = record { knew = λ knew. knew; unlooked = λ _. refl };
-        legal = subst (λ (y : FloorView). IsLegal (monitor_of k o y) y.history) (sym x.is_grown.grown) (legal-push (monitor_of k o f) f.history (with_next choice (call number)) h.goes.legal x.is_grown.allowed);
+        legal = subst (λ (y : FloorView). IsLegal (monitor_of k o y) y.history) (sym x.is_grown.grown)
+            (legal-push (monitor_of k o f) f.history (with_next choice (call number)) h.goes.legal x.is_grown.allowed);
         own = refl;
       })
 
 module _ {k : Rules} {o : Object} where
-  pub stayed_peeked : (peeks : ℕ) (a b : Holder) → HasPeeked peeks a b → (call : Event) (wish : Pick) (c : Holder) → HasStayed k o b call wish 0 c → HasStayed k o a call wish peeks c
+  pub stayed_peeked : (peeks : ℕ) (a b : Holder) → HasPeeked peeks a b → (call : Event) (wish : Pick) (c : Holder)
+      → HasStayed k o b call wish 0 c → HasStayed k o a call wish peeks c
   stayed_peeked peeks a b x call wish c y = let is = x.is in record {
     chosen = y.chosen ∙ ap (λ (h : Holder). choice_of k o (stands_of k o h.floor) call (is_entry_known wish c.me.known) wish) is;
     is = y.is
-        ∙ ap (λ (h : Holder). let z : Holder = record h { me = record h.me { known = c.me.known; mine = h.me.mine ++ with_next next.Stay call ∷ []; looks = h.me.looks + 0; steps = h.me.steps + 0 }; floor = with_event h.floor (with_next next.Stay call) } in z) is
-        ∙ (λ i. record a { me = record a.me { known = c.me.known; mine = a.me.mine ++ with_next next.Stay call ∷ []; looks = sym (plus_none (a.me.looks + peeks)) i; steps = sym (plus_none (a.me.steps + peeks)) i }; floor = with_event a.floor (with_next next.Stay call) });
+        ∙ ap (λ (h : Holder). let z : Holder =
+        record h {
+          me = record h.me {
+            known = c.me.known;
+            mine = h.me.mine ++ with_next next.Stay call ∷ [];
+            looks =
+                h.me.looks + 0;
+            steps = h.me.steps + 0;
+          };
+          floor = with_event h.floor (with_next next.Stay call);
+        } in z) is
+        ∙ (λ i. record a {
+          me =
+              record a.me {
+                known = c.me.known;
+                mine = a.me.mine ++ with_next next.Stay call ∷ [];
+                looks =
+                    sym (plus_none (a.me.looks + peeks)) i;
+                steps = sym (plus_none (a.me.steps + peeks)) i;
+              };
+          floor =
+              with_event a.floor (with_next next.Stay call);
+        });
     remembers = remembers_twice peeks a b x c.me y.remembers (let n = ap (λ (h : Holder). h.me.looks) y.is in omega arith);
     legal = y.legal;
     own = y.own;
   }
 
 -- the active seat has looked at the ticket word
-pub peeked_once : (z y : TableId) (me new : Me) (f : FloorView) (found : ℕ) → y ≡ z → TellsPeek me found new → (a : Holder) → holder z (the me.0) f ≡ a → HasPeeked 1 a (holder y (the new.0) f)
+pub peeked_once : (z y : TableId) (me new : Me) (f : FloorView) (found : ℕ) → y ≡ z → TellsPeek me found new
+    → (a : Holder) → holder z (the me.0) f ≡ a → HasPeeked 1 a (holder y (the new.0) f)
 peeked_once z y me new f found same step a is =
     let r = the me.0 in let w = record_after_peek r found in let one : (n : ℕ) → suc n ≡ n + 1 = λ n. omega arith in
     subst (λ (b : Holder). HasPeeked 1 b (holder y (the new.0) f)) is record {
       remembers = record { knew = step.1; unlooked = λ e. let more = ap (λ (m : Me). (the m.0).looks) step.0 in absurd (omega arith) };
       known = w.known;
-      is = (λ i. holder (same i) (the (step.0 i).0) f) ∙ (λ i. record { hall = z; me = record (with_own r f) { known = w.known; looks = one r.looks i; steps = one r.steps i }; floor = f });
+      is = (λ i. holder (same i) (the (step.0 i).0) f)
+          ∙ (λ i. record {
+            hall = z;
+            me =
+                record (with_own r f) { known = w.known; looks = one r.looks i; steps = one r.steps i };
+            floor = f;
+          });
     }
 
 pub peeked_none : (n : ℕ) (a : Holder) → n ≡ 0 → HasPeeked n a a
-peeked_none n a e = subst (λ m. HasPeeked m a a) (sym e) record { remembers = record { knew = λ knew. knew; unlooked = λ _. refl }; known = a.me.known; is = λ i. record a { me = record a.me { looks = plus_none a.me.looks i; steps = plus_none a.me.steps i } } }
+peeked_none n a e = subst (λ m. HasPeeked m a a) (sym e)
+    record {
+      remembers = record { knew = λ knew. knew; unlooked = λ _. refl };
+      known = a.me.known;
+      is =
+          λ i. record a { me = record a.me { looks = plus_none a.me.looks i; steps = plus_none a.me.steps i } };
+    }
 
 module _ {k : Rules} {o : Object} {z : TableId} {me : Me} {number calls : ℕ} {f : FloorView} where
   pub has_cond : IsHolding k o z me number calls f → (c : ℕ) (a : Holder) → holder z (the me.0) f ≡ a → c < a.me.setting.conds → c < f.conds
-  has_cond h c a is low = let b = ap (λ (y : FloorView). y.conds) h.goes.is_floor in let here = subst (λ (x : Holder). c < x.me.setting.conds) (sym is) low in omega arith
+  has_cond h c a is low = let b = ap (λ (y : FloorView). y.conds) h.goes.is_floor in let here =
+      subst (λ (x : Holder). c < x.me.setting.conds) (sym is) low in omega arith
 
 -- what is known where there is something to choose, of the floor in its hands
-pub must_known : {k : Rules} {o : Object} {z : TableId} {me : Me} {number calls : ℕ} {f : FloorView} → IsHolding k o z me number calls f → (a : Holder) → holder z (the me.0) f ≡ a → (call : ℕ → Event) {R : Type 0}
+pub must_known : {k : Rules} {o : Object} {z : TableId} {me : Me} {number calls : ℕ} {f : FloorView}
+    → IsHolding k o z me number calls f → (a : Holder) → holder z (the me.0) f ≡ a → (call : ℕ → Event) {R : Type 0}
     → (must_stay o (stands_of k o a.floor) (call a.me.seat) ≡ false → R) → must_stay o (stands_of k o f) (call number) ≡ false → R
-must_known {k} {o} {f = f} h a is call told free = told ((λ i. must_stay o (stands_of k o (sym is i).floor) (call (sym is i).me.seat)) ∙ ap (λ n. must_stay o (stands_of k o f) (call n)) h.seated.is_seat ∙ free)
+must_known {k} {o} {f = f} h a is call told free =
+    told ((λ i. must_stay o (stands_of k o (sym is i).floor) (call (sym is i).me.seat))
+    ∙ ap (λ n. must_stay o (stands_of k o f) (call n)) h.seated.is_seat ∙ free)
 
 -- a call after a look at the ticket word: one that gives the floor back, and one that may stay
-pub released_after : (k : Rules) (o : Object) (call : ℕ → Event) (wish : Pick) (to : Home) (peeks : ℕ) (a b : Holder) → HasPeeked peeks a b → (p : Token)
+pub released_after : (k : Rules) (o : Object) (call : ℕ → Event) (wish : Pick) (to : Home) (peeks : ℕ) (a b : Holder)
+    → HasPeeked peeks a b → (p : Token)
     → HasReleased k o b (call b.me.seat) wish to 0 p → HasReleased k o a (call a.me.seat) wish to peeks p
 released_after k o call wish to peeks a b x p m =
-    released_peeked peeks a b x (call a.me.seat) wish to p (subst (λ e. HasReleased k o b e wish to 0 p) (ap (λ (h : Holder). call h.me.seat) x.is) m)
+    released_peeked peeks a b x (call a.me.seat) wish to p
+    (subst (λ e. HasReleased k o b e wish to 0 p) (ap (λ (h : Holder). call h.me.seat) x.is) m)
 
-pub after_peeked : {K T : Type 0} (k : Rules) (o : Object) (call : ℕ → Event) (wish : Pick) (to : Home) (peeks : ℕ) (a b : Holder) → HasPeeked peeks a b → (r : After K T)
+pub after_peeked : {K T : Type 0} (k : Rules) (o : Object) (call : ℕ → Event) (wish : Pick) (to : Home) (peeks : ℕ)
+    (a b : Holder) → HasPeeked peeks a b → (r : After K T)
     → MatchAfter r (λ x. HasStayed k o b (call b.me.seat) wish 0 x) (λ p. HasReleased k o b (call b.me.seat) wish to 0 p)
     → MatchAfter r (λ x. HasStayed k o a (call a.me.seat) wish peeks x) (λ p. HasReleased k o a (call a.me.seat) wish to peeks p)
-after_peeked k o call wish to peeks a b x (Active y) m = stayed_peeked peeks a b x (call a.me.seat) wish y (subst (λ e. HasStayed k o b e wish 0 y) (ap (λ (h : Holder). call h.me.seat) x.is) m)
+after_peeked k o call wish to peeks a b x (Active y) m =
+    stayed_peeked peeks a b x (call a.me.seat) wish y
+    (subst (λ e. HasStayed k o b e wish 0 y) (ap (λ (h : Holder). call h.me.seat) x.is) m)
 after_peeked k o call wish to peeks a b x (Parked p) m = released_after k o call wish to peeks a b x p m
 
 some_there : (xs : List ℕ) → not (is_empty xs) ≡ nat_lt 0 (length xs)
 some_there [] = refl
 some_there (x ∷ xs) = sym (some_above (suc (length xs)) (λ e. absurd (omega arith)))
 
-pub serves_some : (k : Rules) (o : Object) (f : FloorView) (s c n : ℕ) → n ≡ length (condition c f.history) → nat_lt 0 n ≡ not (must_stay o (stands_of k o f) (Signal s c next.Stay))
+pub serves_some : (k : Rules) (o : Object) (f : FloorView) (s c n : ℕ) → n ≡ length (condition c f.history)
+    → nat_lt 0 n ≡ not (must_stay o (stands_of k o f) (Signal s c next.Stay))
 serves_some k o f s c n e = ap (λ m. nat_lt 0 m) e ∙ sym (some_there (condition c f.history))

@@ -73,22 +73,39 @@ said i home.Inner (SignalLeave s c y) x r = absurd r
 said i home.Inner (Until s p y) x r = record { seat = r.0; chose = refl }
 said i home.Inner (Resume s q) x r = absurd r
 
-module _ (k : Rules) (o : Object) (s : State) (seats conds : ℕ) (i : ℕ) (q : Source) (kind : IsKind k) (kept : IsKept k o seats conds s) (near : i < s.floor.seats) (active : s.world.place i ≡ Active q) where
+module _ (k : Rules) (o : Object) (s : State) (seats conds : ℕ) (i : ℕ) (q : Source) (kind : IsKind k)
+    (kept : IsKept k o seats conds s) (near : i < s.floor.seats) (active : s.world.place i ≡ Active q) where
   abbrev released : Next → Home → Event → State
   released x to e = record s { world = after_floor_in s.world i x to; floor = with_event s.floor (with_next x e) }
 
   -- a release of the world's table that doesn't stay
   abbrev by_table : Next → Home → Event → State
-  by_table x to e = record s { world = cond (is_stay (Some x)) s.world (after_floor_in s.world i x to); floor = with_event s.floor (with_next x e) }
+  by_table x to e = record s {
+    world = cond (is_stay (Some x)) s.world (after_floor_in s.world i x to);
+    floor =
+        with_event s.floor (with_next x e);
+  }
 
-  away : (x y : Next) (to : Home) (e : Event) → x ≡ y → is_stay (Some x) ≡ false → IsKept k o seats conds (by_table y to e) → IsKept k o seats conds (released x to e)
+  away : (x y : Next) (to : Home) (e : Event) → x ≡ y → is_stay (Some x) ≡ false
+      → IsKept k o seats conds (by_table y to e) → IsKept k o seats conds (released x to e)
   away x y to e same stay h =
-      subst (λ (b : Bool). IsKept k o seats conds (record s { world = cond b s.world (after_floor_in s.world i x to); floor = with_event s.floor (with_next x e) })) stay
+      subst (λ (b : Bool). IsKept k o seats conds
+      (record s {
+        world = cond b s.world (after_floor_in s.world i x to);
+        floor =
+            with_event s.floor (with_next x e);
+      })) stay
       (subst (λ (z : Next). IsKept k o seats conds (by_table z to e)) (sym same) h)
 
-  away_step : (m : Command) (x y : Next) (to : Home) (e : Event) → x ≡ y → is_stay (Some x) ≡ false → IsStep k o s i m (answer.Chose y) (by_table y to e) → IsStep k o s i m (answer.Chose x) (released x to e)
+  away_step : (m : Command) (x y : Next) (to : Home) (e : Event) → x ≡ y → is_stay (Some x) ≡ false
+      → IsStep k o s i m (answer.Chose y) (by_table y to e) → IsStep k o s i m (answer.Chose x) (released x to e)
   away_step m x y to e same stay h =
-      subst (λ (b : Bool). IsStep k o s i m (answer.Chose x) (record s { world = cond b s.world (after_floor_in s.world i x to); floor = with_event s.floor (with_next x e) })) stay
+      subst (λ (b : Bool). IsStep k o s i m (answer.Chose x)
+      (record s {
+        world = cond b s.world (after_floor_in s.world i x to);
+        floor =
+            with_event s.floor (with_next x e);
+      })) stay
       (subst (λ (z : Next). IsStep k o s i m (answer.Chose z) (by_table z to e)) (sym same) h)
 
   -- a release is a step of the world
@@ -100,11 +117,14 @@ module _ (k : Rules) (o : Object) (s : State) (seats conds : ℕ) (i : ℕ) (q :
   -- what a release keeps, as it is called
   abbrev Keeps : Home → Pick → Next → Event → Type 0
   Keeps to wish x e =
-      MayCall (monitor_of k o s.floor) s.floor.history e → left_within to < left_of s.floor.budget s.floor.history i → x ≡ release_next k o s i e wish → is_stay (Some x) ≡ false
+      MayCall (monitor_of k o s.floor) s.floor.history e → left_within to < left_of s.floor.budget s.floor.history i
+      → x ≡ release_next k o s i e wish → is_stay (Some x) ≡ false
       → IsTaken to x e
 
-  by_command : (m : Command) (wish : Pick) (to : Home) (e : Event) → call_of i m ≡ Some e → may_be_told (Active q) m ≡ true → left_for m ≡ left_within to + 1
-      → IsDone k o s i (Active q) m (answer.Chose (release_next k o s i e wish)) (by_table (release_next k o s i e wish) to e) → (x : Next) → Keeps to wish x e
+  by_command : (m : Command) (wish : Pick) (to : Home) (e : Event) → call_of i m ≡ Some e
+      → may_be_told (Active q) m ≡ true → left_for m ≡ left_within to + 1
+      → IsDone k o s i (Active q) m (answer.Chose (release_next k o s i e wish))
+      (by_table (release_next k o s i e wish) to e) → (x : Next) → Keeps to wish x e
   by_command m wish to e call told left_is done x may left chosen stay =
       let ready : IsReady k o s i m = record {
         near = near;
@@ -117,22 +137,29 @@ module _ (k : Rules) (o : Object) (s : State) (seats conds : ℕ) (i : ℕ) (q :
       let chose = answer.Chose (release_next k o s i e wish) in
       record {
         command = m;
-        is_kept = away x (release_next k o s i e wish) to e chosen stay (step_kept k o s i m chose table seats conds (Active q) kind kept ready active done);
+        is_kept = away x (release_next k o s i e wish) to e chosen stay
+            (step_kept k o s i m chose table seats conds (Active q) kind kept ready active done);
         step = away_step m x (release_next k o s i e wish) to e chosen stay (step_is k o s i m chose table (Active q) ready active done);
       }
 
   -- each of the five
   pub release_kept : (to : Home) (call : Event) (wish : Pick) (x : Next) → IsReleaseTo i to call → Keeps to wish x call
   release_kept home.Idle (Leave j y) wish x r =
-      subst (Keeps home.Idle wish x) (λ z. Leave (sym r.0 z) (sym r.1 z)) (by_command (command.Leave wish) wish home.Idle (Leave i next.Stay) refl refl refl (refl, refl) x)
+      subst (Keeps home.Idle wish x) (λ z. Leave (sym r.0 z) (sym r.1 z))
+      (by_command (command.Leave wish) wish home.Idle (Leave i next.Stay) refl refl refl (refl, refl) x)
   release_kept home.Idle (SignalLeave j c y) wish x r =
-      subst (Keeps home.Idle wish x) (λ z. SignalLeave (sym r.0 z) c (sym r.1 z)) (by_command (command.SignalLeave c wish) wish home.Idle (SignalLeave i c next.Stay) refl refl refl (refl, refl) x)
+      subst (Keeps home.Idle wish x) (λ z. SignalLeave (sym r.0 z) c (sym r.1 z))
+      (by_command (command.SignalLeave c wish) wish home.Idle (SignalLeave i c next.Stay) refl refl refl
+      (refl, refl) x)
   release_kept home.Inner (Wait j c y) wish x r =
-      subst (Keeps home.Inner wish x) (λ z. Wait (sym r.0 z) c (sym r.1 z)) (by_command (command.Wait c wish) wish home.Inner (Wait i c next.Stay) refl refl refl (refl, refl) x)
+      subst (Keeps home.Inner wish x) (λ z. Wait (sym r.0 z) c (sym r.1 z))
+      (by_command (command.Wait c wish) wish home.Inner (Wait i c next.Stay) refl refl refl (refl, refl) x)
   release_kept home.Inner (Signal j c y) wish x r =
-      subst (Keeps home.Inner wish x) (λ z. Signal (sym r.0 z) c (sym r.1 z)) (by_command (command.Signal c wish) wish home.Inner (Signal i c next.Stay) refl refl refl (refl, refl) x)
+      subst (Keeps home.Inner wish x) (λ z. Signal (sym r.0 z) c (sym r.1 z))
+      (by_command (command.Signal c wish) wish home.Inner (Signal i c next.Stay) refl refl refl (refl, refl) x)
   release_kept home.Inner (Until j p y) wish x r =
-      subst (Keeps home.Inner wish x) (λ z. Until (sym r.0 z) p (sym r.1 z)) (by_command (command.Until p wish) wish home.Inner (Until i p next.Stay) refl refl refl (refl, refl) x)
+      subst (Keeps home.Inner wish x) (λ z. Until (sym r.0 z) p (sym r.1 z))
+      (by_command (command.Until p wish) wish home.Inner (Until i p next.Stay) refl refl refl (refl, refl) x)
   release_kept home.Idle (Enter j via) wish x r = absurd r
   release_kept home.Idle (Act j op n) wish x r = absurd r
   release_kept home.Idle (Wait j c y) wish x r = absurd r

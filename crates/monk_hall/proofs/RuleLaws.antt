@@ -14,17 +14,21 @@ use Rattle.monk_hall.proofs.FloorIn.{gives_at}
 use Rattle.monk_hall.proofs.FloorOut.{takes_at}
 use Rattle.monk_hall.proofs.GrantSteps.{grants_ticket_at, calls_seat_at}
 use Rattle.monk_hall.proofs.WordSteps.{arrives_at, looks_for_ticket_at, looks_for_call_at, peeks_at, takes_off_at}
-use Rattle.monk_hall.specs.Laws.{HallState, IsRecord, RightInOnePlace, ShowsWellLed, OneHasTheRight, OneIsActive, KnownWaits, EntryWaits, ArriveSteps, TicketLookSteps, SeatLookSteps, PeekSteps, FloorOutSteps, FloorInSteps, DropSteps, TicketGrantSteps, SeatGrantSteps}
+use Rattle.monk_hall.specs.Laws.{HallState, IsRecord, RightInOnePlace, ShowsWellLed, OneHasTheRight, OneIsActive}
+use Rattle.monk_hall.specs.Laws.{KnownWaits, EntryWaits, ArriveSteps, TicketLookSteps, SeatLookSteps, PeekSteps}
+use Rattle.monk_hall.specs.Laws.{FloorOutSteps, FloorInSteps, DropSteps, TicketGrantSteps, SeatGrantSteps}
 use Rattle.monk_hall.specs.Layout.{floor_of, shown_state, shown_world}
 use Rattle.monk_hall.specs.Rule.{IsHall}
 use Rattle.monk_hall.specs.declared.record.SeatRecord.{SeatRecord}
 use Rattle.monk_hall.specs.declared.setting.Setting.{Setting}
 
 pub shows_well_led : ShowsWellLed
-shows_well_led k o c s h = let kept = h.2.kept in well_led k o (shown_state c s.words h.0 h.2.history) kept.sound.right kept.sound.owner kept.sound.is_sound
+shows_well_led k o c s h = let kept = h.2.kept in
+    well_led k o (shown_state c s.words h.0 h.2.history) kept.sound.right kept.sound.owner kept.sound.is_sound
 
 pub right_in_one_place : RightInOnePlace
-right_in_one_place k o c s h = in_one_place c.seats (shown_world s.words h.0) h.2.kept.sound.right h.2.kept.sound.owner h.2.kept.sound.is_sound.stands.keeps h.2.some_seat
+right_in_one_place k o c s h = in_one_place c.seats (shown_world s.words h.0) h.2.kept.sound.right h.2.kept.sound.owner
+    h.2.kept.sound.is_sound.stands.keeps h.2.some_seat
 
 module _ (k : Rules) (o : Object) (c : Setting) (s : HallState) (h : IsHall k o c s) (r : SeatRecord) (x : IsRecord s r) where
   is : h.0 r.seat ≡ r
@@ -57,7 +61,8 @@ module _ (k : Rules) (o : Object) (c : Setting) (s : HallState) (h : IsHall k o 
 
 -- two with the right are one
 one : (k : Rules) (o : Object) (c : Setting) (s : HallState) → IsHall k o c s → (r q : SeatRecord) → (x : IsRecord s r) → (y : IsRecord s q)
-    → (due_stage ≤ stage r.place) × (stage r.place ≤ passing_stage) → (due_stage ≤ stage q.place) × (stage q.place ≤ passing_stage) → (r ≡ q) × (x.id ≡ y.id)
+    → (due_stage ≤ stage r.place) × (stage r.place ≤ passing_stage) → (due_stage ≤ stage q.place)
+    × (stage q.place ≤ passing_stage) → (r ≡ q) × (x.id ≡ y.id)
 one k o c s h r q x y a b =
     let mine = with k o c s h r x a.0 a.1 in
     let theirs = with k o c s h q y b.0 b.1 in

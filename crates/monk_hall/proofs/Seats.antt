@@ -21,7 +21,8 @@ pub only : (x w : SeatRecord) → In x (w ∷ []) → x ≡ w
 only x w (inl e) = e
 only x w (inr h) = absurd h
 
-module _ (c : Setting) (views : List View) (at : ℕ → SeatRecord) (s : AreShown c views at) (id : ℕ) (r : SeatRecord) (here : get_elem? views id ≡ some (r ∷ [])) where
+module _ (c : Setting) (views : List View) (at : ℕ → SeatRecord) (s : AreShown c views at) (id : ℕ) (r : SeatRecord)
+    (here : get_elem? views id ≡ some (r ∷ [])) where
   pub is_at : at r.seat ≡ r
   is_at = (s.each id (r ∷ []) here r (inl refl)).0
 
@@ -41,8 +42,12 @@ module _ (c : Setting) (views : List View) (at : ℕ → SeatRecord) (s : AreSho
     each = λ j v e x in_v. ⊎_elim
         (λ t.
         let is_w : x ≡ w = only x w (subst (λ (z : View). In x z) (sym t.1) in_v) in
-        let seat : x.seat ≡ r.seat = ap (λ (z : SeatRecord). z.seat) is_w ∙ same in
-        (ap (put at r.seat w) seat ∙ put_here at r.seat w ∙ sym is_w, ap s.desk seat ∙ is_desk ∙ sym t.0, subst (λ (z : ℕ). z < c.seats) (sym seat) is_near))
+        let seat : x.seat ≡ r.seat = ap (λ (z : SeatRecord). z.seat) is_w ∙ same in (
+          ap (put at r.seat w) seat ∙ put_here at r.seat w ∙ sym is_w,
+          ap s.desk seat ∙ is_desk
+              ∙ sym t.0,
+          subst (λ (z : ℕ). z < c.seats) (sym seat) is_near,
+        ))
         (λ t.
         let old = s.each j v t.1 x in_v in
         (put_else at r.seat w x.seat (λ eq. t.0 (sym old.1 ∙ ap s.desk eq ∙ is_desk)) ∙ old.0, old.1, old.2))
@@ -51,14 +56,20 @@ module _ (c : Setting) (views : List View) (at : ℕ → SeatRecord) (s : AreSho
     there = λ j near. elim (eqb_tells j r.seat) [
       | inl h ↦ (
         w ∷ [],
-        ap (λ (n : ℕ). get_elem? (set views id (w ∷ [])) n) (ap s.desk h.1 ∙ is_desk) ∙ set_here views id (w ∷ []) (long views id (r ∷ []) here),
+        ap (λ (n : ℕ). get_elem? (set views id (w ∷ [])) n) (ap s.desk h.1 ∙ is_desk)
+            ∙ set_here views id (w ∷ []) (long views id (r ∷ []) here),
         inl (ap (put at r.seat w) h.1 ∙ put_here at r.seat w),
       )
       | inr h ↦
           let old = s.there j near in
           elim (eqb_tells (s.desk j) id) [
             | inl d ↦ absurd (h.1 (alone j old.0 (sym (ap (λ (n : ℕ). get_elem? views n) d.1) ∙ old.1) old.2))
-            | inr d ↦ (old.0, set_else views id (s.desk j) (w ∷ []) d.1 ∙ old.1, subst (λ (x : SeatRecord). In x old.0) (sym (put_else at r.seat w j h.1)) old.2)
+            | inr d ↦ (
+              old.0,
+              set_else views id (s.desk j) (w ∷ []) d.1
+                  ∙ old.1,
+              subst (λ (x : SeatRecord). In x old.0) (sym (put_else at r.seat w j h.1)) old.2,
+            )
           ]
     ];
     settings = at_put at r.seat w (λ j x. x.setting ≡ c) (kept ∙ is_setting) (λ j n. s.settings j);
@@ -66,4 +77,6 @@ module _ (c : Setting) (views : List View) (at : ℕ → SeatRecord) (s : AreSho
   }
     where
       alone : (j : ℕ) (v : View) → get_elem? views id ≡ some v → In (at j) v → j ≡ r.seat
-      alone j v e i = sym (s.seats j) ∙ ap (λ (x : SeatRecord). x.seat) (only (at j) r (subst (λ (z : View). In (at j) z) (some-injective v (r ∷ []) (sym e ∙ here)) i))
+      alone j v e i = sym (s.seats j)
+          ∙ ap (λ (x : SeatRecord). x.seat)
+          (only (at j) r (subst (λ (z : View). In (at j) z) (some-injective v (r ∷ []) (sym e ∙ here)) i))

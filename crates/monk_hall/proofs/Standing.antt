@@ -1,13 +1,14 @@
 -- Where a seat stands, told by its stage
 use Rattle.std.proofs.Common.{◌≡◌, ◌≢◌, ℕ, ◌+◌, ◌-◌, ◌==◌, cond, Bool, true, false, refl, arith}
-use Rattle.monk_world.specs.Places.{stage, ticket, back_turn, open_turn, place_of, ticketed_stage, due_stage, active_stage, back_stage, passing_stage, inside_stage}
+use Rattle.monk_world.specs.Places.{stage, ticket, back_turn, open_turn, place_of, ticketed_stage, due_stage}
+use Rattle.monk_world.specs.Places.{active_stage, back_stage, passing_stage, inside_stage}
 use Rattle.monk_world.specs.Steps.{place_after_arrive, place_after_ticket_look, place_after_seat_look, place_after_drop}
 use Rattle.monk_world.specs.declared.home.Home.{Home}
 use Rattle.monk_world.specs.declared.home.Home.TheVariants as home
 use Rattle.monk_world.specs.declared.place.Place.{Place}
 use Rattle.monk_world.specs.declared.place.Place.TheVariants.{Idle, Ticket, Due, Active, Back, Passing, Inner}
 use Rattle.monk_world.specs.declared.source.Source.TheVariants.{Free}
-use Rattle.monk_hall.specs.Changes.{source_at, home_at}
+use Rattle.monk_hall.specs.Changes.{source_from, home_at}
 
 pub ticket_at : (p : Place) → stage p ≡ ticketed_stage → p ≡ Ticket (ticket p)
 ticket_at Idle e = absurd (omega arith)
@@ -18,7 +19,7 @@ ticket_at (Back x to) e = absurd (omega arith)
 ticket_at (Passing t to) e = absurd (omega arith)
 ticket_at Inner e = absurd (omega arith)
 
-pub due_at : (p : Place) → stage p ≡ due_stage → p ≡ Due (source_at p)
+pub due_at : (p : Place) → stage p ≡ due_stage → p ≡ Due (source_from p)
 due_at Idle e = absurd (omega arith)
 due_at (Ticket t) e = absurd (omega arith)
 due_at (Due q) e = refl
@@ -27,7 +28,7 @@ due_at (Back x to) e = absurd (omega arith)
 due_at (Passing t to) e = absurd (omega arith)
 due_at Inner e = absurd (omega arith)
 
-pub active_at : (p : Place) → stage p ≡ active_stage → p ≡ Active (source_at p)
+pub active_at : (p : Place) → stage p ≡ active_stage → p ≡ Active (source_from p)
 active_at Idle e = absurd (omega arith)
 active_at (Ticket t) e = absurd (omega arith)
 active_at (Due q) e = absurd (omega arith)

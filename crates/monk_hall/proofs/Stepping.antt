@@ -34,7 +34,8 @@ use Rattle.monk_hall.proofs.Seats as seats
 use Rattle.monk_hall.proofs.Standing.{IsApart}
 use Rattle.monk_hall.proofs.Stored.{field_put, field_stays}
 
-module _ (k : Rules) (o : Object) (c : Setting) (kind : IsKind k) (s : table.State (Option FloorView) View) (h : IsHall k o c s) (id : ℕ) (r : SeatRecord)
+module _ (k : Rules) (o : Object) (c : Setting) (kind : IsKind k) (s : table.State (Option FloorView) View)
+    (h : IsHall k o c s) (id : ℕ) (r : SeatRecord)
     (here : get_elem? s.views id ≡ maybe.some (r ∷ [])) where
   abbrev pub at : ℕ → SeatRecord
   at = h.0
@@ -66,7 +67,8 @@ module _ (k : Rules) (o : Object) (c : Setting) (kind : IsKind k) (s : table.Sta
   -- what a seat has left that isn't active
   pub left_is : stage r.place ≢ active_stage → left_of c.budget kept_hall.history r.seat ≡ r.setting.budget - length r.mine
   left_is not_active =
-      let mine = frame.shows_mine k o c s.homes at s.words kept_hall.past kept_hall.history kept_hall.told kept_hall.kept.sound.right kept_hall.kept.sound.owner sound.stands.keeps
+      let mine = frame.shows_mine k o c s.homes at s.words kept_hall.past kept_hall.history kept_hall.told
+      kept_hall.kept.sound.right kept_hall.kept.sound.owner sound.stands.keeps
       r.seat (λ e. not_active (sym (ap (λ (y : SeatRecord). stage y.place) is) ∙ e)) ∙ ap (λ (y : SeatRecord). y.mine) is in
       let long = ap length mine in
       let budget : r.setting.budget ≡ c.budget = ap (λ (y : Setting). y.budget) setting in
@@ -77,7 +79,9 @@ module _ (k : Rules) (o : Object) (c : Setting) (kind : IsKind k) (s : table.Sta
   seen_few =
       let kh = kept_hall in
       let seen = frame.starts_enters kh.past r.seen (subst (λ (y : SeatRecord). StartsWith kh.past y.seen) is (kh.told.starts r.seat)) in
-      let shows = frame.starts_enters kh.history kh.past (frame.shows_past k o c s.homes at s.words kh.past kh.history kh.told kh.kept.sound.right kh.kept.sound.owner sound.stands.keeps) in
+      let shows = frame.starts_enters kh.history kh.past
+      (frame.shows_past k o c s.homes at s.words kh.past kh.history kh.told kh.kept.sound.right kh.kept.sound.owner
+      sound.stands.keeps) in
       let entered = frame.entered_few k o state kh.kept.sound.right kh.kept.sound.owner sound in
       omega arith
 
@@ -86,7 +90,8 @@ module _ (k : Rules) (o : Object) (c : Setting) (kind : IsKind k) (s : table.Sta
     pub kept : IsKept k o c.seats c.conds t
     pub step : IsStep k o state r.seat m a t
 
-  pub takes_step : (m : Command) (a : Answer) (t : State) (p : Place) → IsReady k o state r.seat m → r.place ≡ p → IsDone k o state r.seat p m a t → IsTaken m a t
+  pub takes_step : (m : Command) (a : Answer) (t : State) (p : Place) → IsReady k o state r.seat m → r.place ≡ p
+      → IsDone k o state r.seat p m a t → IsTaken m a t
   takes_step m a t p ready at_p done = record {
     kept = frame.step_kept k o state r.seat m a t c.seats c.conds p kind kept_hall.kept ready (stands_at p at_p) done;
     step = frame.step_is k o state r.seat m a t p ready (stands_at p at_p) done;
@@ -115,7 +120,9 @@ module _ (k : Rules) (o : Object) (c : Setting) (kind : IsKind k) (s : table.Sta
   known_stays w e = sym (field_stays (λ (y : SeatRecord). y.known) at r.seat w (ap (λ (y : SeatRecord). y.known) is ∙ sym e))
 
   -- the rule holds after a step that leaves the history and the floor where they are, and it is a step of the world
-  pub holds_after : (w : SeatRecord) (ws : List ℕ) → IsMoved w → length ws ≡ length s.words → {m : Command} {a : Answer} {t : State} → IsTaken m a t → Path State t (shown_state c ws (put at r.seat w) kept_hall.history)
+  pub holds_after : (w : SeatRecord) (ws : List ℕ) → IsMoved w → length ws ≡ length s.words
+      → {m : Command} {a : Answer} {t : State} → IsTaken m a t
+      → Path State t (shown_state c ws (put at r.seat w) kept_hall.history)
       → AreTold k o c s.homes (put at r.seat w) (shown_world ws (put at r.seat w)) kept_hall.past kept_hall.history
       → Takes k o c s h r.seat m a (record { words = ws; homes = s.homes; views = set s.views id (w ∷ []) })
   holds_after w ws moved wide {m} {a} {t} taken same told = record {
@@ -135,8 +142,12 @@ module _ (k : Rules) (o : Object) (c : Setting) (kind : IsKind k) (s : table.Sta
   }
 
   -- what the seats know after a step of a seat that has neither the floor nor a choice, before and after
-  pub knows_after : (w : SeatRecord) (ws : List ℕ) → IsMoved w → CountsCalls (shown_world ws (put at r.seat w)) kept_hall.past → stage r.place ≢ active_stage → IsApart w.place
+  pub knows_after : (w : SeatRecord) (ws : List ℕ) → IsMoved w
+      → CountsCalls (shown_world ws (put at r.seat w)) kept_hall.past → stage r.place ≢ active_stage → IsApart w.place
       → AreTold k o c s.homes (put at r.seat w) (shown_world ws (put at r.seat w)) kept_hall.past kept_hall.history
   knows_after w ws moved calls was apart =
-      told_moves k o c s.homes at world kept_hall.past kept_hall.history kept_hall.told r.seat w (moved.seen ∙ ap (λ (y : SeatRecord). y.seen) (sym is)) (moved.mine ∙ ap (λ (y : SeatRecord). y.mine) (sym is))
-      (shown_world ws (put at r.seat w)) calls (λ e. was (sym (ap (λ (y : SeatRecord). stage y.place) is) ∙ e)) apart.not_active apart.not_back
+      told_moves k o c s.homes at world kept_hall.past kept_hall.history kept_hall.told r.seat w
+      (moved.seen ∙ ap (λ (y : SeatRecord). y.seen) (sym is))
+      (moved.mine ∙ ap (λ (y : SeatRecord). y.mine) (sym is))
+      (shown_world ws (put at r.seat w)) calls (λ e. was (sym (ap (λ (y : SeatRecord). stage y.place) is) ∙ e))
+      apart.not_active apart.not_back

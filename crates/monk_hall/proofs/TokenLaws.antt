@@ -1,5 +1,6 @@
 -- What tokens keep from step to step
-use Rattle.std.proofs.Common.{◌≡◌, ℕ, suc, ◌+◌, ◌-◌, ◌<◌, ◌≤◌, ◌==◌, Bool, true, false, cond, List, [], ◌∷◌, ◌++◌, length, length-append, append-nil, append_assoc, None, refl, sym, ap, subst, ◌∙◌, arith}
+use Rattle.std.proofs.Common.{◌≡◌, ℕ, suc, ◌+◌, ◌-◌, ◌<◌, ◌≤◌, ◌==◌, Bool, true, false, cond, List, [], ◌∷◌, ◌++◌}
+use Rattle.std.proofs.Common.{length, length-append, append-nil, append_assoc, None, refl, sym, ap, subst, ◌∙◌, arith}
 use Rattle.atomic_table.specs.Seated.{TableId}
 use Rattle.monk_kinds.specs.declared.mode.Rules.{Rules}
 use Rattle.monk_object.specs.Object.{Object}
@@ -22,8 +23,9 @@ use Rattle.monk_world.specs.declared.place.Place.TheVariants.{Idle, Ticket, Due,
 use Rattle.monk_world.specs.declared.source.Source.{Source}
 use Rattle.monk_world.specs.declared.source.Source.TheVariants.{Free, Granted, Called}
 use Rattle.monk_hall.proofs.Private.{own_event}
-use Rattle.monk_hall.specs.Calls.{HasArrived, HasEntered, HasDone, HasLooked, source_from, record_after_look}
-use Rattle.monk_hall.specs.Changes.{record_after_arrive, record_after_ticket_look, record_after_seat_look, source_at, record_after_floor_out}
+use Rattle.monk_hall.specs.Calls.{HasArrived, HasEntered, HasDone, HasLooked, record_after_look}
+use Rattle.monk_hall.specs.Changes.{record_after_arrive, record_after_ticket_look, record_after_seat_look, source_from}
+use Rattle.monk_hall.specs.Changes.{record_after_floor_out}
 use Rattle.monk_hall.specs.Floors.{Finds, GoesOn, IsPrivate, ArePrivate}
 use Rattle.monk_hall.specs.Layout.{floor_of, tickets, unpassed}
 use Rattle.monk_hall.specs.Records.{View, the}
@@ -69,84 +71,124 @@ answered_waits false = tt
 
 module _ {k : Rules} {o : Object} where
   -- a record that differs where it stands, and in what it has counted
-  pub told_moved : (r w : SeatRecord) → SeesTruly k o r → w.seat ≡ r.seat → w.setting ≡ r.setting → w.seen ≡ r.seen → w.mine ≡ r.mine → SeesTruly k o w
+  pub told_moved : (r w : SeatRecord) → SeesTruly k o r → w.seat ≡ r.seat → w.setting ≡ r.setting → w.seen ≡ r.seen
+      → w.mine ≡ r.mine → SeesTruly k o w
   told_moved r w t seat setting seen mine = record {
-    legal = subst (λ z. IsLegal (monitor_of k o (floor_of z w.seen)) w.seen) (sym setting) (subst (λ h. IsLegal (monitor_of k o (floor_of r.setting h)) h) (sym seen) t.legal);
+    legal = subst (λ z. IsLegal (monitor_of k o (floor_of z w.seen)) w.seen) (sym setting)
+        (subst (λ h. IsLegal (monitor_of k o (floor_of r.setting h)) h) (sym seen) t.legal);
     own = (λ i. events_of (seen i) (seat i)) ∙ (t.own ∙ sym mine);
   }
 
-  pub rests_moved : {z : TableId} {me : Me} {number left calls : ℕ} → IsResting k o z me number left calls → (p : Place) (known : Bool) (count looks steps now : ℕ) → now ≡ count
-      → IsResting k o z (record (the me.0) { place = p; known = known; count = count; looks = looks; steps = steps } ∷ [], me.1) number left now
+  pub rests_moved : {z : TableId} {me : Me} {number left calls : ℕ} → IsResting k o z me number left calls
+      → (p : Place) (known : Bool) (count looks steps now : ℕ) → now ≡ count
+      → IsResting k o z (
+        record (the me.0) {
+          place = p;
+          known = known;
+          count = count;
+          looks = looks;
+          steps =
+              steps;
+        } ∷ [],
+        me.1,
+      ) number left now
   rests_moved {z} {me} x p known count looks steps now counts = record {
     one = refl;
     free = x.free;
     seated = record { is_seat = x.seated.is_seat; near = x.seated.near; sized = x.seated.sized; counted = counts };
     spent = x.spent;
-    told = told_moved (the me.0) (record (the me.0) { place = p; known = known; count = count; looks = looks; steps = steps }) x.told refl refl refl refl;
+    told = told_moved (the me.0)
+        (record (the me.0) { place = p; known = known; count = count; looks = looks; steps = steps }) x.told refl refl
+        refl refl;
   }
 
   -- the floor has come out to a seat that was due, with the event that it records
-  abbrev came_goes : (r : SeatRecord) (f : FloorView) → Finds k o r f → GoesOn k o (record_after_floor_out r f.history) (with_event f (out_event r.seat (source_at r.place) (turn f.history)))
-  came_goes r f x = let e = out_event r.seat (source_at r.place) (turn f.history) in record {
+  abbrev came_goes : (r : SeatRecord) (f : FloorView) → Finds k o r f
+      → GoesOn k o (record_after_floor_out r f.history)
+      (with_event f (out_event r.seat (source_from r.place) (turn f.history)))
+  came_goes r f x = let e = out_event r.seat (source_from r.place) (turn f.history) in record {
     is_floor = ap (λ y. with_event y e) x.is_floor;
     near = x.near;
     legal = legal-push (monitor_of k o f) f.history e x.legal x.allowed;
     since = [];
     goes = sym (append-nil (f.history ++ e ∷ []));
     own = tt;
-    owned = turn-push f.history e ∙ out_owns r.seat (source_at r.place) (turn f.history);
-    mine = own_event f.history e r.seat (out_seat r.seat (source_at r.place) (turn f.history)) ∙ ap (λ es. es ++ e ∷ []) x.mine;
-    within = let more = own_longer f.history e r.seat (out_seat r.seat (source_at r.place) (turn f.history)) in let two = x.left in let b = ap (λ y. y.budget) x.is_floor in omega arith;
+    owned = turn-push f.history e ∙ out_owns r.seat (source_from r.place) (turn f.history);
+    mine = own_event f.history e r.seat (out_seat r.seat (source_from r.place) (turn f.history)) ∙ ap (λ es. es ++ e ∷ []) x.mine;
+    within = let more = own_longer f.history e r.seat (out_seat r.seat (source_from r.place) (turn f.history)) in
+        let two = x.left in let b = ap (λ y. y.budget) x.is_floor in omega arith;
   }
 
-  pub came_in : {z : TableId} {me : Me} {number left calls : ℕ} → IsResting k o z me number left calls → (f g : FloorView) → Finds k o (the me.0) f
-      → g ≡ with_event f (out_event (the me.0).seat (source_at (the me.0).place) (turn f.history)) → IsHolding k o z (record_after_floor_out (the me.0) f.history ∷ [], (0, None) ∷ []) number calls g
+  pub came_in : {z : TableId} {me : Me} {number left calls : ℕ} → IsResting k o z me number left calls
+      → (f g : FloorView) → Finds k o (the me.0) f
+      → g ≡ with_event f (out_event (the me.0).seat (source_from (the me.0).place) (turn f.history))
+      → IsHolding k o z (record_after_floor_out (the me.0) f.history ∷ [], (0, None) ∷ []) number calls g
   came_in {z} {me} {number} {left} {calls} x f g finds grows =
-      let r = the me.0 in let e = out_event r.seat (source_at r.place) (turn f.history) in
+      let r = the me.0 in let e = out_event r.seat (source_from r.place) (turn f.history) in
       subst (λ y. IsHolding k o z (record_after_floor_out r f.history ∷ [], (0, None) ∷ []) number calls y) (sym grows) record {
         one = refl;
         out = refl;
         active = refl;
         seated = record { is_seat = x.seated.is_seat; near = x.seated.near; sized = x.seated.sized; counted = x.seated.counted };
         goes = came_goes r f finds;
-        left = let more = own_longer f.history e r.seat (out_seat r.seat (source_at r.place) (turn f.history)) in let two = finds.left in let b = ap (λ y. y.budget) finds.is_floor in omega arith;
+        left = let more = own_longer f.history e r.seat (out_seat r.seat (source_from r.place) (turn f.history)) in
+            let two = finds.left in let b = ap (λ y. y.budget) finds.is_floor in omega arith;
       }
 
   pub entered : (z : TableId) (r : SeatRecord) (q : Source) (f : FloorView) → r.place ≡ Due q → Finds k o r f
-      → HasEntered k o (record { hall = z; me = r }) (record { hall = z; me = with_own (record_after_floor_out r f.history) (with_event f (out_event r.seat (source_at r.place) (turn f.history))); floor = with_event f (out_event r.seat (source_at r.place) (turn f.history)) })
-  entered z r q f at x = let e = out_event r.seat (source_at r.place) (turn f.history) in let same : source_at r.place ≡ source_from r.place = ap source_at at ∙ sym (ap source_from at) in let goes = came_goes r f x in record {
-    hall = refl;
-    seat = refl;
-    setting = refl;
-    place = ap Active same;
-    known = refl;
-    starts = x.starts;
-    floor = ap (λ y. with_event y e) x.is_floor ∙ ap (λ y. floor_of r.setting (f.history ++ out_event r.seat y (turn f.history) ∷ [])) same;
-    mine = goes.mine ∙ ap (λ y. r.mine ++ out_event r.seat y (turn f.history) ∷ []) same;
-    first = λ t is. x.first t (same ∙ is);
-    next = λ t is. x.next t (same ∙ is);
-    legal = goes.legal;
-    own = refl;
-  }
+      → HasEntered k o (record { hall = z; me = r })
+      (record {
+        hall = z;
+        me =
+            with_own (record_after_floor_out r f.history)
+            (with_event f (out_event r.seat (source_from r.place) (turn f.history)));
+        floor =
+            with_event f (out_event r.seat (source_from r.place) (turn f.history));
+      })
+  entered z r q f at x = let e = out_event r.seat (source_from r.place) (turn f.history) in
+      let same : source_from r.place ≡ source_from r.place = ap source_from at ∙ sym (ap source_from at) in let goes =
+      came_goes r f x in record {
+        hall = refl;
+        seat = refl;
+        setting = refl;
+        place = ap Active same;
+        known = refl;
+        starts = x.starts;
+        floor = ap (λ y. with_event y e) x.is_floor
+            ∙ ap (λ y. floor_of r.setting (f.history ++ out_event r.seat y (turn f.history) ∷ [])) same;
+        mine = goes.mine ∙ ap (λ y. r.mine ++ out_event r.seat y (turn f.history) ∷ []) same;
+        first = λ t is. x.first t (same ∙ is);
+        next = λ t is. x.next t (same ∙ is);
+        legal = goes.legal;
+        own = refl;
+      }
 
   -- a step leaves the seat of the same table, and its view is this
-  pub rests_at : {z : TableId} {me : Me} {number left calls : ℕ} → IsResting k o z me number left calls → (y : TableId) (new : Me) → y ≡ z → new ≡ me → IsResting k o y new number left calls
-  rests_at {z} {me} {number} {left} {calls} x y new same is = subst (λ a. IsResting k o a new number left calls) (sym same) (subst (λ m. IsResting k o z m number left calls) (sym is) x)
+  pub rests_at : {z : TableId} {me : Me} {number left calls : ℕ} → IsResting k o z me number left calls
+      → (y : TableId) (new : Me) → y ≡ z → new ≡ me → IsResting k o y new number left calls
+  rests_at {z} {me} {number} {left} {calls} x y new same is =
+      subst (λ a. IsResting k o a new number left calls) (sym same)
+      (subst (λ m. IsResting k o z m number left calls) (sym is) x)
 
   -- an idle seat has drawn a ticket
-  pub arrival_rests : {z : TableId} {v : View} {number left calls : ℕ} → IsResting k o z (v, []) number left calls → (me : Me) → me.0 ≡ v → me.1 ≡ []
-      → (y : TableId) (new : Me) (found : ℕ) (p : Place) → y ≡ z → new ≡ (record_after_arrive (the me.0) found ∷ [], me.1) → length (the v).mine + 2 ≤ (the v).setting.budget → p ≡ place_after_arrive (tickets found) (unpassed found)
+  pub arrival_rests : {z : TableId} {v : View} {number left calls : ℕ} → IsResting k o z (v, []) number left calls
+      → (me : Me) → me.0 ≡ v → me.1 ≡ []
+      → (y : TableId) (new : Me) (found : ℕ) (p : Place) → y ≡ z
+      → new ≡ (record_after_arrive (the me.0) found ∷ [], me.1) → length (the v).mine + 2 ≤ (the v).setting.budget
+      → p ≡ place_after_arrive (tickets found) (unpassed found)
       → IsResting k o y new number left calls × (2 ≤ left) × (p ≡ (the new.0).place) × IsWaiting p
   arrival_rests {z} {v} {number} {left} {calls} x me view free y new found p same is two at =
       let r = the v in let spent = x.spent in
       let drawn : new ≡ (record_after_arrive r found ∷ [], []) = is ∙ (λ i. (record_after_arrive (the (view i)) found ∷ [], free i)) in (
-        rests_at (rests_moved x (place_after_arrive (tickets found) (unpassed found)) r.known r.count r.looks (suc r.steps) calls x.seated.counted) y new same drawn,
+        rests_at (rests_moved x (place_after_arrive (tickets found) (unpassed found)) r.known r.count r.looks
+            (suc r.steps) calls x.seated.counted) y new same drawn,
         omega arith,
         at ∙ sym (ap (λ m. (the m.0).place) drawn),
         subst IsWaiting (sym at) (arrived_waits (tickets found) (unpassed found)),
       )
 
-  pub arrival : {z : TableId} {v : View} {number left calls : ℕ} → IsResting k o z (v, []) number left calls → (me : Me) → me.0 ≡ v → me.1 ≡ []
+  pub arrival : {z : TableId} {v : View} {number left calls : ℕ} → IsResting k o z (v, []) number left calls → (me : Me)
+      → me.0 ≡ v → me.1 ≡ []
       → (y : TableId) (new : Me) (found : ℕ) → y ≡ z → TellsArrive me found new → HasArrived k o (token z (the v)) (token y (the new.0))
   arrival {z} {v} x me view free y new found same step =
       let r = the v in let drawn = ap (λ m. the m.0) step.0 ∙ ap (λ w. record_after_arrive (the w) found) view in record {
@@ -154,45 +196,64 @@ module _ {k : Rules} {o : Object} where
         hall = same;
         me = drawn;
         enters = subst (λ w. enters_of (the w).seen ≤ tickets found) view step.1;
-        told = told_moved r (the new.0) x.told (ap (λ w. w.seat) drawn) (ap (λ w. w.setting) drawn) (ap (λ w. w.seen) drawn) (ap (λ w. w.mine) drawn);
+        told = told_moved r (the new.0) x.told (ap (λ w. w.seat) drawn) (ap (λ w. w.setting) drawn)
+            (ap (λ w. w.seen) drawn) (ap (λ w. w.mine) drawn);
       }
 
   -- a seat with a ticket has looked for it
-  pub ticket_look_rests : {z : TableId} {me : Me} {number left calls : ℕ} → IsResting k o z me number left calls → (t found : ℕ) → (the me.0).place ≡ Ticket t → (y : TableId) (new : Me) (p : Place)
+  pub ticket_look_rests : {z : TableId} {me : Me} {number left calls : ℕ} → IsResting k o z me number left calls
+      → (t found : ℕ) → (the me.0).place ≡ Ticket t → (y : TableId) (new : Me) (p : Place)
       → y ≡ z → new ≡ (record_after_ticket_look (the me.0) found ∷ [], me.1) → p ≡ place_after_ticket_look t (found == t + 1)
       → IsResting k o y new number left calls × (p ≡ (the new.0).place) × IsWaiting p
   ticket_look_rests {z} {me} {number} {left} {calls} x t found at y new p same is looks =
       let r = the me.0 in let n = Rattle.monk_world.specs.Places.ticket r.place in (
-        rests_at (rests_moved x (place_after_ticket_look n (found == n + 1)) r.known r.count (suc r.looks) (suc r.steps) calls x.seated.counted) y new same is,
-        looks ∙ sym (ap (λ q. place_after_ticket_look (Rattle.monk_world.specs.Places.ticket q) (found == Rattle.monk_world.specs.Places.ticket q + 1)) at) ∙ sym (ap (λ m. (the m.0).place) is),
+        rests_at (rests_moved x (place_after_ticket_look n (found == n + 1)) r.known r.count (suc r.looks) (suc r.steps)
+            calls x.seated.counted) y new same is,
+        looks ∙ sym (ap (λ q. place_after_ticket_look (Rattle.monk_world.specs.Places.ticket q)
+            (found == Rattle.monk_world.specs.Places.ticket q + 1)) at) ∙ sym (ap (λ m. (the m.0).place) is),
         subst IsWaiting (sym looks) (looked_waits t (found == t + 1)),
       )
 
   -- a parked seat has looked for its call
-  pub call_look_rests : {z : TableId} {me : Me} {number left calls : ℕ} → IsResting k o z me number left calls → (found : ℕ) → (y : TableId) (new : Me) (p : Place) (b : Bool) (now : ℕ)
-      → y ≡ z → new ≡ (record_after_seat_look (the me.0) found ∷ [], me.1) → b ≡ (found == calls + 1) → p ≡ place_after_seat_look b → now ≡ count_after_seat_look calls (found == calls + 1)
+  pub call_look_rests : {z : TableId} {me : Me} {number left calls : ℕ} → IsResting k o z me number left calls
+      → (found : ℕ) → (y : TableId) (new : Me) (p : Place) (b : Bool) (now : ℕ)
+      → y ≡ z → new ≡ (record_after_seat_look (the me.0) found ∷ [], me.1) → b ≡ (found == calls + 1)
+      → p ≡ place_after_seat_look b → now ≡ count_after_seat_look calls (found == calls + 1)
       → IsResting k o y new number left now × (p ≡ (the new.0).place) × IsWaiting p
   call_look_rests {z} {me} {number} {left} {calls} x found y new p b now same is says looks counts =
       let r = the me.0 in let e = x.seated.counted in (
-        rests_at (rests_moved x (place_after_seat_look (found == r.count + 1)) r.known (count_after_seat_look r.count (found == r.count + 1)) (suc r.looks) (suc r.steps) now (counts ∙ ap (λ n. count_after_seat_look n (found == n + 1)) e)) y new same is,
+        rests_at (rests_moved x (place_after_seat_look (found == r.count + 1)) r.known
+            (count_after_seat_look r.count (found == r.count + 1)) (suc r.looks) (suc r.steps) now
+            (counts ∙ ap (λ n. count_after_seat_look n (found == n + 1)) e)) y new same is,
         looks ∙ ap place_after_seat_look (says ∙ ap (λ n. found == n + 1) e) ∙ sym (ap (λ m. (the m.0).place) is),
         subst IsWaiting (sym looks) (answered_waits b),
       )
 
   -- the floor has come out to a seat that was due, and its event is recorded
-  out_is : {z : TableId} {me : Me} {number left calls : ℕ} → IsResting k o z me number left calls → (f g : FloorView) (q : Source) → (the me.0).place ≡ Due q → g ≡ with_event f (out_event number q (turn f.history))
-      → g ≡ with_event f (out_event (the me.0).seat (source_at (the me.0).place) (turn f.history))
-  out_is x f g q at grows = grows ∙ (λ i. with_event f (out_event (sym x.seated.is_seat i) (sym (ap source_at at) i) (turn f.history)))
+  out_is : {z : TableId} {me : Me} {number left calls : ℕ} → IsResting k o z me number left calls
+      → (f g : FloorView) (q : Source) → (the me.0).place ≡ Due q
+      → g ≡ with_event f (out_event number q (turn f.history))
+      → g ≡ with_event f (out_event (the me.0).seat (source_from (the me.0).place) (turn f.history))
+  out_is x f g q at grows = grows ∙ (λ i. with_event f (out_event (sym x.seated.is_seat i) (sym (ap source_from at) i) (turn f.history)))
 
-  pub entry_holds : {z : TableId} {me : Me} {number left calls : ℕ} → IsResting k o z me number left calls → (f g : FloorView) (q : Source) → Finds k o (the me.0) f → (the me.0).place ≡ Due q
-      → g ≡ with_event f (out_event number q (turn f.history)) → (y : TableId) (new : Me) → y ≡ z → new ≡ (record_after_floor_out (the me.0) f.history ∷ [], (0, None) ∷ []) → IsHolding k o y new number calls g
+  pub entry_holds : {z : TableId} {me : Me} {number left calls : ℕ} → IsResting k o z me number left calls
+      → (f g : FloorView) (q : Source) → Finds k o (the me.0) f → (the me.0).place ≡ Due q
+      → g ≡ with_event f (out_event number q (turn f.history)) → (y : TableId) (new : Me) → y ≡ z
+      → new ≡ (record_after_floor_out (the me.0) f.history ∷ [], (0, None) ∷ [])
+      → IsHolding k o y new number calls g
   entry_holds {z} {me} {number} {left} {calls} x f g q finds at grows y new same is =
-      subst (λ a. IsHolding k o a new number calls g) (sym same) (subst (λ m. IsHolding k o z m number calls g) (sym is) (came_in x f g finds (out_is x f g q at grows)))
+      subst (λ a. IsHolding k o a new number calls g) (sym same)
+      (subst (λ m. IsHolding k o z m number calls g) (sym is) (came_in x f g finds (out_is x f g q at grows)))
 
-  pub entry : {z : TableId} {me : Me} {number left calls : ℕ} → IsResting k o z me number left calls → (f g : FloorView) (q : Source) → Finds k o (the me.0) f → (the me.0).place ≡ Due q
-      → g ≡ with_event f (out_event number q (turn f.history)) → (y : TableId) (new : Me) → y ≡ z → new ≡ (record_after_floor_out (the me.0) f.history ∷ [], (0, None) ∷ []) → HasEntered k o (token z (the me.0)) (holder y (the new.0) g)
+  pub entry : {z : TableId} {me : Me} {number left calls : ℕ} → IsResting k o z me number left calls
+      → (f g : FloorView) (q : Source) → Finds k o (the me.0) f → (the me.0).place ≡ Due q
+      → g ≡ with_event f (out_event number q (turn f.history)) → (y : TableId) (new : Me) → y ≡ z
+      → new ≡ (record_after_floor_out (the me.0) f.history ∷ [], (0, None) ∷ [])
+      → HasEntered k o (token z (the me.0)) (holder y (the new.0) g)
   entry {z} {me} x f g q finds at grows y new same is =
-      subst (HasEntered k o (token z (the me.0))) (λ i. holder (sym same i) (sym (ap (λ m. the m.0) is) i) (sym (out_is x f g q at grows) i)) (entered z (the me.0) q f at finds)
+      subst (HasEntered k o (token z (the me.0)))
+      (λ i. holder (sym same i) (sym (ap (λ m. the m.0) is) i) (sym (out_is x f g q at grows) i))
+      (entered z (the me.0) q f at finds)
 
 -- what a look leaves as it was
 pub record IsAsBefore (r w : SeatRecord) : Type 0 where
@@ -209,7 +270,8 @@ look_leaves (Ticket t) r found = record { seat = refl; setting = refl; seen = re
 look_leaves (Due q) r found = record { seat = refl; setting = refl; seen = refl; mine = refl; looks = omega arith; steps = omega arith }
 look_leaves (Active q) r found = record { seat = refl; setting = refl; seen = refl; mine = refl; looks = omega arith; steps = omega arith }
 look_leaves (Back x to) r found = record { seat = refl; setting = refl; seen = refl; mine = refl; looks = omega arith; steps = omega arith }
-look_leaves (Passing t to) r found = record { seat = refl; setting = refl; seen = refl; mine = refl; looks = omega arith; steps = omega arith }
+look_leaves (Passing t to) r found =
+    record { seat = refl; setting = refl; seen = refl; mine = refl; looks = omega arith; steps = omega arith }
 look_leaves Inner r found = record { seat = refl; setting = refl; seen = refl; mine = refl; looks = omega arith; steps = omega arith }
 
 came_looked : (t : ℕ) (b : Bool) → source_from (place_after_ticket_look t b) ≡ Granted t
@@ -252,26 +314,33 @@ module _ {k : Rules} {o : Object} where
 
   pub few_looked : (p q : Token) → HasLooked k o p q → (q.me.looks ≤ p.me.looks + 1) × (q.me.steps ≤ p.me.steps + 1)
   few_looked p q l =
-      let s = look_leaves p.me.place p.me l.found in let looks = s.looks in let steps = s.steps in let same_looks = ap (λ w. w.looks) l.me in let same_steps = ap (λ w. w.steps) l.me in
+      let s = look_leaves p.me.place p.me l.found in let looks = s.looks in let steps = s.steps in let same_looks =
+      ap (λ w. w.looks) l.me in let same_steps = ap (λ w. w.steps) l.me in
       (omega arith, omega arith)
 
   -- an event of the active seat that keeps the turn with it
-  pub grown_goes : (r : SeatRecord) (f : FloorView) (e : Event) → GoesOn k o r f → seat_of e ≡ r.seat → turn_by (seat_of e) (next_of e) ≡ Owned r.seat → is_enter e ≡ false → IsAllowed (monitor_of k o f) f.history e
+  pub grown_goes : (r : SeatRecord) (f : FloorView) (e : Event) → GoesOn k o r f → seat_of e ≡ r.seat
+      → turn_by (seat_of e) (next_of e) ≡ Owned r.seat → is_enter e ≡ false → IsAllowed (monitor_of k o f) f.history e
       → length (events_of f.history r.seat) < r.setting.budget → GoesOn k o r (with_event f e)
   grown_goes r f e x seat keeps enters allowed room = record {
     is_floor = ap (λ y. with_event y e) x.is_floor;
     near = x.near;
     legal = legal-push (monitor_of k o f) f.history e x.legal allowed;
     since = x.since ++ e ∷ [];
-    goes = ap (λ h. h ++ e ∷ []) x.goes ∙ append_assoc (r.seen ++ out_event r.seat (source_at r.place) (turn r.seen) ∷ []) x.since (e ∷ []);
+    goes = ap (λ h. h ++ e ∷ []) x.goes
+        ∙ append_assoc (r.seen ++ out_event r.seat (source_from r.place) (turn r.seen) ∷ []) x.since (e ∷ []);
     own = own_more r.seat x.since e x.own (record { seat = seat; keeps = keeps; enters = enters });
     owned = turn-push f.history e ∙ keeps;
-    mine = own_event f.history e r.seat seat ∙ ap (λ h. h ++ e ∷ []) x.mine ∙ append_assoc r.mine (out_event r.seat (source_at r.place) (turn r.seen) ∷ x.since) (e ∷ []);
+    mine = own_event f.history e r.seat seat ∙ ap (λ h. h ++ e ∷ []) x.mine
+        ∙ append_assoc r.mine (out_event r.seat (source_from r.place) (turn r.seen) ∷ x.since) (e ∷ []);
     within = let more = own_longer f.history e r.seat seat in omega arith;
   }
 
-  pub grown_holds : {z : TableId} {me : Me} {number calls : ℕ} {f : FloorView} → IsHolding k o z me number calls f → (e : Event) → seat_of e ≡ number → turn_by (seat_of e) (next_of e) ≡ Owned number
-      → is_enter e ≡ false → IsAllowed (monitor_of k o f) f.history e → length (events_of f.history (the me.0).seat) + 2 ≤ (the me.0).setting.budget → (g : FloorView) → g ≡ with_event f e → IsHolding k o z me number calls g
+  pub grown_holds : {z : TableId} {me : Me} {number calls : ℕ} {f : FloorView} → IsHolding k o z me number calls f
+      → (e : Event) → seat_of e ≡ number → turn_by (seat_of e) (next_of e) ≡ Owned number
+      → is_enter e ≡ false → IsAllowed (monitor_of k o f) f.history e
+      → length (events_of f.history (the me.0).seat) + 2 ≤ (the me.0).setting.budget → (g : FloorView)
+      → g ≡ with_event f e → IsHolding k o z me number calls g
   grown_holds {z} {me} {number} {calls} {f} x e seat keeps enters allowed room g grows = let n = x.seated.is_seat in
       subst (λ y. IsHolding k o z me number calls y) (sym grows) record {
         one = x.one;
@@ -282,10 +351,17 @@ module _ {k : Rules} {o : Object} where
         left = let more = own_longer f.history e (the me.0).seat (seat ∙ sym n) in omega arith;
       }
 
-  pub grown_does : (z : TableId) (r : SeatRecord) (f g : FloorView) (e : Event) → seat_of e ≡ r.seat → IsLegal (monitor_of k o f) f.history → IsAllowed (monitor_of k o f) f.history e → g ≡ with_event f e
+  pub grown_does : (z : TableId) (r : SeatRecord) (f g : FloorView) (e : Event) → seat_of e ≡ r.seat
+      → IsLegal (monitor_of k o f) f.history → IsAllowed (monitor_of k o f) f.history e → g ≡ with_event f e
       → HasDone k o (holder z r f) e (holder z r g)
   grown_does z r f g e seat legal allowed grows = record {
-    is = ap (holder z r) grows ∙ (λ i. record { hall = z; me = record r { mine = own_event f.history e r.seat seat i }; floor = with_event f e });
+    is = ap (holder z r) grows
+        ∙ (λ i. record {
+          hall = z;
+          me = record r { mine = own_event f.history e r.seat seat i };
+          floor =
+              with_event f e;
+        });
     legal = subst (λ y. IsLegal (monitor_of k o y) y.history) (sym grows) (legal-push (monitor_of k o f) f.history e legal allowed);
     own = refl;
   }

@@ -1,5 +1,6 @@
 -- Each step that changes or looks at a word keeps the rule
-use Rattle.std.proofs.Common.{◌≡◌, ◌≢◌, ℕ, ◌+◌, ◌-◌, ◌%◌, ◌==◌, ◌<◌, ◌≤◌, Bool, true, false, nat_le, List, [], ◌∷◌, length, set, sym, refl, ap, ◌∙◌, subst, arith, length-set, get_or-set_same}
+use Rattle.std.proofs.Common.{◌≡◌, ◌≢◌, ℕ, ◌+◌, ◌-◌, ◌%◌, ◌==◌, ◌<◌, ◌≤◌, Bool, true, false, nat_le, List, [], ◌∷◌}
+use Rattle.std.proofs.Common.{length, set, sym, refl, ap, ◌∙◌, subst, arith, length-set, get_or-set_same}
 use Rattle.std.specs.Prelude.{Option, slice_index, ◌||◌}
 use Rattle.std.proofs.lemmas.List.{set-get_or}
 use mathlib.Core.Option as maybe
@@ -16,7 +17,8 @@ use Rattle.monk_world.specs.Places.{stage, ticket, back_turn, ticketed_stage, ac
 use Rattle.monk_world.specs.Put.{put}
 use Rattle.monk_world.specs.State.{State}
 use Rattle.monk_world.specs.StepTable.{may_be_told}
-use Rattle.monk_world.specs.Steps.{place_after_seat_look, count_after_seat_look, place_after_drop, after_arrive, after_ticket_look, after_seat_look, after_drop}
+use Rattle.monk_world.specs.Steps.{place_after_seat_look, count_after_seat_look, place_after_drop, after_arrive}
+use Rattle.monk_world.specs.Steps.{after_ticket_look, after_seat_look, after_drop}
 use Rattle.monk_world.specs.World.{World}
 use Rattle.monk_world.specs.declared.answer.Answer.TheVariants as answer
 use Rattle.monk_world.specs.declared.command.Command.TheVariants as command
@@ -27,7 +29,8 @@ use Rattle.monk_world.specs.declared.place.Place.TheVariants.{Idle, Ticket, Acti
 use Rattle.monk_world.proofs.BoundLaws.{few_drawn}
 use Rattle.monk_world.proofs.DoneLaws.{IsReady}
 use Rattle.monk_world.proofs.Holders.{held}
-use Rattle.monk_hall.specs.Changes.{record_after_arrive, record_after_ticket_look, record_after_seat_look, record_after_peek, record_after_drop, home_at, source_at}
+use Rattle.monk_hall.specs.Changes.{record_after_arrive, record_after_ticket_look, record_after_seat_look}
+use Rattle.monk_hall.specs.Changes.{record_after_peek, record_after_drop, home_at, source_from}
 use Rattle.monk_hall.specs.Laws.{Takes}
 use Rattle.monk_hall.specs.Layout.{tickets, unpassed, shown_state, shown_world, place_word, seat_word}
 use Rattle.monk_hall.specs.Records.{View, IsOne, the}
@@ -44,10 +47,19 @@ use Rattle.monk_hall.proofs.Stored.{places_stay, seats_stay}
 use Rattle.monk_hall.specs.Rule.{CountsCalls}
 
 -- a step of a seat that leaves the history and the floor where they are
-module _ (k : Rules) (o : Object) (c : Setting) (kind : IsKind k) (s : table.State (Option FloorView) View) (h : IsHall k o c s) (id : ℕ) (r : SeatRecord) (here : get_elem? s.views id ≡ maybe.some (r ∷ [])) where
+module _ (k : Rules) (o : Object) (c : Setting) (kind : IsKind k) (s : table.State (Option FloorView) View)
+    (h : IsHall k o c s) (id : ℕ) (r : SeatRecord) (here : get_elem? s.views id ≡ maybe.some (r ∷ [])) where
   -- step 1
-  pub arrives_at : r.place ≡ Idle → length r.mine + 2 ≤ r.setting.budget → (x : ℕ) → x ≡ (slice_index s.words 0 + 4294967297) % 18446744073709551616
-      → Takes k o c s h r.seat command.Arrive (answer.Arrived (tickets (slice_index s.words 0)) (unpassed (slice_index s.words 0))) (record { words = set s.words 0 x; homes = s.homes; views = set s.views id (record_after_arrive r (slice_index s.words 0) ∷ []) })
+  pub arrives_at : r.place ≡ Idle → length r.mine + 2 ≤ r.setting.budget → (x : ℕ)
+      → x ≡ (slice_index s.words 0 + 4294967297) % 18446744073709551616
+      → Takes k o c s h r.seat command.Arrive
+      (answer.Arrived (tickets (slice_index s.words 0)) (unpassed (slice_index s.words 0)))
+      (record {
+        words = set s.words 0 x;
+        homes = s.homes;
+        views =
+            set s.views id (record_after_arrive r (slice_index s.words 0) ∷ []);
+      })
   arrives_at idle room x x_is =
       let at = h.0 in
       let kh = h.2 in
@@ -66,11 +78,13 @@ module _ (k : Rules) (o : Object) (c : Setting) (kind : IsKind k) (s : table.Sta
         left = omega arith;
       } in
       let after : State = record old { world = after_arrive world r.seat } in
-      let kept = stepping.takes_step k o c kind s h id r here command.Arrive (answer.Arrived world.drawn world.unpassed) after Idle ready idle (refl, refl) in
+      let kept = stepping.takes_step k o c kind s h id r here command.Arrive (answer.Arrived world.drawn world.unpassed)
+      after Idle ready idle (refl, refl) in
       let few = few_drawn old kh.kept.bounded in
       let behind = sound.stands.keeps.tickets.behind in
       let halves = after_draw found few (omega arith) in
-      let word : slice_index ws 0 ≡ (found + 4294967297) % 18446744073709551616 = get_or-set_same s.words 0 x 0 (let z = kh.wide in omega arith) ∙ x_is in
+      let word : slice_index ws 0 ≡ (found + 4294967297) % 18446744073709551616 =
+      get_or-set_same s.words 0 x 0 (let z = kh.wide in omega arith) ∙ x_is in
       let drawn : world.drawn + 1 ≡ tickets (slice_index ws 0) = sym (ap tickets word ∙ halves.drawn) in
       let waiting : world.unpassed + 1 ≡ unpassed (slice_index ws 0) = sym (ap unpassed word ∙ halves.waiting) in
       let places = stepping.places_after k o c kind s h id r here w in
@@ -79,19 +93,33 @@ module _ (k : Rules) (o : Object) (c : Setting) (kind : IsKind k) (s : table.Sta
       let counts = stepping.counts_stay k o c kind s h id r here w refl in
       let knows = stepping.known_stays k o c kind s h id r here w refl in
       let same : Path State after (shown_state c ws (put at r.seat w) kh.history) = λ z. record {
-        world = record { drawn = drawn z; unpassed = waiting z; ticket_place = ticket_places z; seat_place = seat_places z; place = places z; count = counts z };
+        world = record {
+          drawn = drawn z;
+          unpassed = waiting z;
+          ticket_place = ticket_places z;
+          seat_place =
+              seat_places z;
+          place = places z;
+          count = counts z;
+        };
         known = knows z;
         floor = old.floor;
       } in
       let moved : stepping.IsMoved k o c kind s h id r here w = record { seat = refl; setting = refl; seen = refl; mine = refl } in
       let apart = standing.apart_arrived (tickets found) (unpassed found) in
-      let calls = calls_stay world (shown_world ws (put at r.seat w)) kh.past r.seat w.place kh.told.calls (sym places) (sym seat_places) (ap back_turn (stepping.stands_at k o c kind s h id r here Idle idle)) apart.chose in
+      let calls = calls_stay world (shown_world ws (put at r.seat w)) kh.past r.seat w.place kh.told.calls (sym places)
+      (sym seat_places) (ap back_turn (stepping.stands_at k o c kind s h id r here Idle idle)) apart.chose in
       stepping.holds_after k o c kind s h id r here w ws moved (length-set s.words 0 x) kept same
       (stepping.knows_after k o c kind s h id r here w ws moved calls (λ e. let z = ap stage idle in absurd (omega arith)) apart)
 
   -- step 2
   pub looks_for_ticket_at : stage r.place ≡ ticketed_stage
-      → Takes k o c s h r.seat command.Look (answer.Looked (slice_index s.words (place_word (ticket r.place % c.seats)) == ticket r.place + 1)) (record s { views = set s.views id (record_after_ticket_look r (slice_index s.words (place_word (ticket r.place % c.seats))) ∷ []) })
+      → Takes k o c s h r.seat command.Look
+      (answer.Looked (slice_index s.words (place_word (ticket r.place % c.seats)) == ticket r.place + 1))
+      (record s {
+        views = set s.views id
+            (record_after_ticket_look r (slice_index s.words (place_word (ticket r.place % c.seats))) ∷ []);
+      })
   looks_for_ticket_at waits =
       let at = h.0 in
       let kh = h.2 in
@@ -110,7 +138,8 @@ module _ (k : Rules) (o : Object) (c : Setting) (kind : IsKind k) (s : table.Sta
         left = omega arith;
       } in
       let after : State = record old { world = after_ticket_look world r.seat n (found == n + 1) } in
-      let kept = stepping.takes_step k o c kind s h id r here command.Look (answer.Looked (found == n + 1)) after (Ticket n) ready place_is (refl, refl) in
+      let kept = stepping.takes_step k o c kind s h id r here command.Look (answer.Looked (found == n + 1)) after
+      (Ticket n) ready place_is (refl, refl) in
       let places = stepping.places_after k o c kind s h id r here w in
       let counts = stepping.counts_stay k o c kind s h id r here w refl in
       let knows = stepping.known_stays k o c kind s h id r here w refl in
@@ -121,13 +150,15 @@ module _ (k : Rules) (o : Object) (c : Setting) (kind : IsKind k) (s : table.Sta
       } in
       let moved : stepping.IsMoved k o c kind s h id r here w = record { seat = refl; setting = refl; seen = refl; mine = refl } in
       let apart = standing.apart_looked n (found == n + 1) in
-      let calls = calls_stay world (shown_world s.words (put at r.seat w)) kh.past r.seat w.place kh.told.calls (sym places) refl (ap back_turn stands) apart.chose in
+      let calls = calls_stay world (shown_world s.words (put at r.seat w)) kh.past r.seat w.place kh.told.calls
+      (sym places) refl (ap back_turn stands) apart.chose in
       stepping.holds_after k o c kind s h id r here w s.words moved refl kept same
       (stepping.knows_after k o c kind s h id r here w s.words moved calls (λ e. absurd (omega arith)) apart)
 
   -- step 3
   pub looks_for_call_at : stage r.place ≡ inside_stage
-      → Takes k o c s h r.seat command.Look (answer.Looked (slice_index s.words (seat_word r.seat) == r.count + 1)) (record s { views = set s.views id (record_after_seat_look r (slice_index s.words (seat_word r.seat)) ∷ []) })
+      → Takes k o c s h r.seat command.Look (answer.Looked (slice_index s.words (seat_word r.seat) == r.count + 1))
+      (record s { views = set s.views id (record_after_seat_look r (slice_index s.words (seat_word r.seat)) ∷ []) })
   looks_for_call_at parked =
       let at = h.0 in
       let kh = h.2 in
@@ -148,9 +179,12 @@ module _ (k : Rules) (o : Object) (c : Setting) (kind : IsKind k) (s : table.Sta
         left = omega arith;
       } in
       let after : State = record old { world = after_seat_look world r.seat (found == n + 1) } in
-      let kept = stepping.takes_step k o c kind s h id r here command.Look (answer.Looked (found == n + 1)) after Inner ready place_is (refl, refl) in
-      let places = ap (λ (y : SeatRecord). put world.place r.seat (place_after_seat_look (found == y.count + 1))) is ∙ stepping.places_after k o c kind s h id r here w in
-      let counts = stepping.counts_after k o c kind s h id r here w (count_after_seat_look n (found == n + 1)) (ap (λ (y : SeatRecord). count_after_seat_look y.count (found == y.count + 1)) is) in
+      let kept = stepping.takes_step k o c kind s h id r here command.Look (answer.Looked (found == n + 1)) after Inner
+      ready place_is (refl, refl) in
+      let places = ap (λ (y : SeatRecord). put world.place r.seat (place_after_seat_look (found == y.count + 1))) is
+      ∙ stepping.places_after k o c kind s h id r here w in
+      let counts = stepping.counts_after k o c kind s h id r here w (count_after_seat_look n (found == n + 1))
+      (ap (λ (y : SeatRecord). count_after_seat_look y.count (found == y.count + 1)) is) in
       let knows = stepping.known_stays k o c kind s h id r here w refl in
       let same : Path State after (shown_state c s.words (put at r.seat w) kh.history) = λ z. record {
         world = record world { place = places z; count = counts z };
@@ -159,13 +193,17 @@ module _ (k : Rules) (o : Object) (c : Setting) (kind : IsKind k) (s : table.Sta
       } in
       let moved : stepping.IsMoved k o c kind s h id r here w = record { seat = refl; setting = refl; seen = refl; mine = refl } in
       let apart = standing.apart_answered (found == r.count + 1) in
-      let calls = calls_stay world (shown_world s.words (put at r.seat w)) kh.past r.seat w.place kh.told.calls (sym (stepping.places_after k o c kind s h id r here w)) refl (ap back_turn stands) apart.chose in
-      subst (λ (x : ℕ). Takes k o c s h r.seat command.Look (answer.Looked (found == x + 1)) (record s { views = set s.views id (w ∷ []) })) counted_is
+      let calls = calls_stay world (shown_world s.words (put at r.seat w)) kh.past r.seat w.place kh.told.calls
+      (sym (stepping.places_after k o c kind s h id r here w)) refl (ap back_turn stands) apart.chose in
+      subst (λ (x : ℕ). Takes k o c s h r.seat command.Look (answer.Looked (found == x + 1))
+      (record s { views = set s.views id (w ∷ []) })) counted_is
       (stepping.holds_after k o c kind s h id r here w s.words moved refl kept same
       (stepping.knows_after k o c kind s h id r here w s.words moved calls (λ e. absurd (omega arith)) apart))
 
   -- step 4
-  pub peeks_at : stage r.place ≡ active_stage → Takes k o c s h r.seat command.Peek (answer.Found (unpassed (slice_index s.words 0))) (record s { views = set s.views id (record_after_peek r (slice_index s.words 0) ∷ []) })
+  pub peeks_at : stage r.place ≡ active_stage
+      → Takes k o c s h r.seat command.Peek (answer.Found (unpassed (slice_index s.words 0)))
+      (record s { views = set s.views id (record_after_peek r (slice_index s.words 0) ∷ []) })
   peeks_at active =
       let at = h.0 in
       let kh = h.2 in
@@ -175,8 +213,8 @@ module _ (k : Rules) (o : Object) (c : Setting) (kind : IsKind k) (s : table.Sta
       let old : State = shown_state c s.words at kh.history in
       let is = stepping.is k o c kind s h id r here in
       let sound = stepping.sound k o c kind s h id r here in
-      let place_is : r.place ≡ Active (source_at r.place) = standing.active_at r.place active in
-      let stands = stepping.stands_at k o c kind s h id r here (Active (source_at r.place)) place_is in
+      let place_is : r.place ≡ Active (source_from r.place) = standing.active_at r.place active in
+      let stands = stepping.stands_at k o c kind s h id r here (Active (source_from r.place)) place_is in
       let ready : IsReady k o old r.seat command.Peek = record {
         near = stepping.near k o c kind s h id r here;
         range = refl;
@@ -185,8 +223,10 @@ module _ (k : Rules) (o : Object) (c : Setting) (kind : IsKind k) (s : table.Sta
         left = omega arith;
       } in
       let after : State = record old { known = put old.known r.seat (old.known r.seat || nat_le 2 world.unpassed) } in
-      let kept = stepping.takes_step k o c kind s h id r here command.Peek (answer.Found world.unpassed) after (Active (source_at r.place)) ready place_is (refl, refl) in
-      let learnt : (old.known r.seat || nat_le 2 world.unpassed) ≡ w.known = knew (old.known r.seat) world.unpassed (sound.known r.seat (ap stage stands)) in
+      let kept = stepping.takes_step k o c kind s h id r here command.Peek (answer.Found world.unpassed) after
+      (Active (source_from r.place)) ready place_is (refl, refl) in
+      let learnt : (old.known r.seat || nat_le 2 world.unpassed) ≡ w.known =
+      knew (old.known r.seat) world.unpassed (sound.known r.seat (ap stage stands)) in
       let places = sym (stored.field_stays (λ (y : SeatRecord). y.place) at r.seat w (ap (λ (y : SeatRecord). y.place) is)) in
       let counts = stepping.counts_stay k o c kind s h id r here w refl in
       let knows = stepping.known_after k o c kind s h id r here w (old.known r.seat || nat_le 2 world.unpassed) learnt in
@@ -196,9 +236,12 @@ module _ (k : Rules) (o : Object) (c : Setting) (kind : IsKind k) (s : table.Sta
         floor = old.floor;
       } in
       let moved : stepping.IsMoved k o c kind s h id r here w = record { seat = refl; setting = refl; seen = refl; mine = refl } in
-      let calls = subst (λ (p : ℕ → Place). CountsCalls (record world { place = p; count = λ j. (put at r.seat w j).count }) kh.past) places (recount kh.told.calls) in
+      let calls = subst (λ (p : ℕ → Place). CountsCalls
+      (record world { place = p; count = λ j. (put at r.seat w j).count }) kh.past) places (recount kh.told.calls)
+      in
       stepping.holds_after k o c kind s h id r here w s.words moved refl kept same
-      (told_stays k o c s.homes at world kh.past kh.history kh.told r.seat w (ap (λ (y : SeatRecord). y.seen) (sym is)) (ap (λ (y : SeatRecord). y.mine) (sym is))
+      (told_stays k o c s.homes at world kh.past kh.history kh.told r.seat w (ap (λ (y : SeatRecord). y.seen) (sym is))
+      (ap (λ (y : SeatRecord). y.mine) (sym is))
       (shown_world s.words (put at r.seat w)) calls (ap (λ (y : SeatRecord). y.place) (sym is)))
     where
       knew : (b : Bool) (n : ℕ) → (b ≡ true → 2 ≤ n) → (b || nat_le 2 n) ≡ nat_le 2 n
@@ -216,7 +259,8 @@ module _ (k : Rules) (o : Object) (c : Setting) (kind : IsKind k) (s : table.Sta
   knew_still active known =
       let is = stepping.is k o c kind s h id r here in
       two_or_more (unpassed (slice_index s.words 0))
-      ((stepping.sound k o c kind s h id r here).known r.seat (ap (λ (y : SeatRecord). stage y.place) is ∙ active) (ap (λ (y : SeatRecord). y.known) is ∙ known))
+      ((stepping.sound k o c kind s h id r here).known r.seat (ap (λ (y : SeatRecord). stage y.place) is ∙ active)
+      (ap (λ (y : SeatRecord). y.known) is ∙ known))
     where
       two_or_more : (m : ℕ) → 2 ≤ m → nat_le 2 m ≡ true
       two_or_more m l = grind (arith, l)
@@ -231,8 +275,15 @@ module _ (k : Rules) (o : Object) (c : Setting) (kind : IsKind k) (s : table.Sta
       omega arith
 
   -- step 6
-  pub takes_off_at : (to : Home) → r.place ≡ Back next.Entry to → (x : ℕ) → x ≡ (slice_index s.words 0 + 18446744073709551615) % 18446744073709551616
-      → Takes k o c s h r.seat command.Drop (answer.Found (unpassed (slice_index s.words 0))) (record { words = set s.words 0 x; homes = s.homes; views = set s.views id (record_after_drop r (slice_index s.words 0) ∷ []) })
+  pub takes_off_at : (to : Home) → r.place ≡ Back next.Entry to → (x : ℕ)
+      → x ≡ (slice_index s.words 0 + 18446744073709551615) % 18446744073709551616
+      → Takes k o c s h r.seat command.Drop (answer.Found (unpassed (slice_index s.words 0)))
+      (record {
+        words = set s.words 0 x;
+        homes = s.homes;
+        views =
+            set s.views id (record_after_drop r (slice_index s.words 0) ∷ []);
+      })
   takes_off_at to back x x_is =
       let at = h.0 in
       let kh = h.2 in
@@ -251,64 +302,116 @@ module _ (k : Rules) (o : Object) (c : Setting) (kind : IsKind k) (s : table.Sta
         left = omega arith;
       } in
       let after : State = record old { world = after_drop world r.seat to } in
-      let kept = stepping.takes_step k o c kind s h id r here command.Drop (answer.Found world.unpassed) after (Back next.Entry to) ready back (refl, refl) in
+      let kept = stepping.takes_step k o c kind s h id r here command.Drop (answer.Found world.unpassed) after
+      (Back next.Entry to) ready back (refl, refl) in
       let few = few_drawn old kh.kept.bounded in
       let behind = sound.stands.keeps.tickets.behind in
       let halves = after_take_off found few (omega arith) (some_unpassed (ap stage back)) in
-      let word : slice_index ws 0 ≡ (found + 18446744073709551615) % 18446744073709551616 = get_or-set_same s.words 0 x 0 (let z = kh.wide in omega arith) ∙ x_is in
+      let word : slice_index ws 0 ≡ (found + 18446744073709551615) % 18446744073709551616 =
+      get_or-set_same s.words 0 x 0 (let z = kh.wide in omega arith) ∙ x_is in
       let drawn : world.drawn ≡ tickets (slice_index ws 0) = sym (ap tickets word ∙ halves.drawn) in
       let waiting : world.unpassed - 1 ≡ unpassed (slice_index ws 0) = sym (ap unpassed word ∙ halves.waiting) in
       let home_is : to ≡ home_at r.place = sym (ap home_at back) in
-      let places = ap (λ (y : Home). put world.place r.seat (place_after_drop (tickets found) (unpassed found) y)) home_is ∙ stepping.places_after k o c kind s h id r here w in
+      let places = ap (λ (y : Home). put world.place r.seat (place_after_drop (tickets found) (unpassed found) y))
+      home_is ∙ stepping.places_after k o c kind s h id r here w in
       let ticket_places = sym (places_stay s.words 0 x (λ m e. omega arith)) in
       let seat_places = sym (seats_stay s.words 0 x (λ m e. omega arith)) in
       let counts = stepping.counts_stay k o c kind s h id r here w refl in
       let knows = stepping.known_stays k o c kind s h id r here w refl in
       let same : Path State after (shown_state c ws (put at r.seat w) kh.history) = λ z. record {
-        world = record { drawn = drawn z; unpassed = waiting z; ticket_place = ticket_places z; seat_place = seat_places z; place = places z; count = counts z };
+        world = record {
+          drawn = drawn z;
+          unpassed = waiting z;
+          ticket_place = ticket_places z;
+          seat_place =
+              seat_places z;
+          place = places z;
+          count = counts z;
+        };
         known = knows z;
         floor = old.floor;
       } in
       let moved : stepping.IsMoved k o c kind s h id r here w = record { seat = refl; setting = refl; seen = refl; mine = refl } in
       let apart = standing.apart_dropped (tickets found) (unpassed found) (home_at r.place) in
-      let calls = calls_stay world (shown_world ws (put at r.seat w)) kh.past r.seat w.place kh.told.calls (sym (stepping.places_after k o c kind s h id r here w)) (sym seat_places) (ap back_turn stands) apart.chose in
+      let calls = calls_stay world (shown_world ws (put at r.seat w)) kh.past r.seat w.place kh.told.calls
+      (sym (stepping.places_after k o c kind s h id r here w)) (sym seat_places) (ap back_turn stands) apart.chose
+      in
       stepping.holds_after k o c kind s h id r here w ws moved (length-set s.words 0 x) kept same
       (stepping.knows_after k o c kind s h id r here w ws moved calls (λ e. let z = ap stage back in absurd (omega arith)) apart)
 
 module _ (k : Rules) (o : Object) (c : Setting) (kind : IsKind k) (slots id : ℕ) (me : Me) (one : IsOne me.0) where
   -- a load leaves the words
-  loaded : (s : table.State (Option FloorView) View) (p : ℕ) (v : View) → IsHall k o c (record s { views = set s.views id v }) → IsHall k o c (record { words = set s.words p (slice_index s.words p); homes = s.homes; views = set s.views id v })
-  loaded s p v h = subst (λ (ws : List ℕ). IsHall k o c (record { words = ws; homes = s.homes; views = set s.views id v })) (sym (set-get_or s.words p 0)) h
+  loaded : (s : table.State (Option FloorView) View) (p : ℕ) (v : View)
+      → IsHall k o c (record s { views = set s.views id v })
+      → IsHall k o c (record {
+        words = set s.words p (slice_index s.words p);
+        homes = s.homes;
+        views =
+            set s.views id v;
+      })
+  loaded s p v h = subst
+      (λ (ws : List ℕ). IsHall k o c (record { words = ws; homes = s.homes; views = set s.views id v }))
+      (sym (set-get_or s.words p 0)) h
 
-  pub arrives : (the me.0).place ≡ Idle → length (the me.0).mine + 2 ≤ (the me.0).setting.budget → Allows (IsHall k o c) slots id me 0 (λ n. (n + 4294967297) % 18446744073709551616) (TellsArrive me)
+  pub arrives : (the me.0).place ≡ Idle → length (the me.0).mine + 2 ≤ (the me.0).setting.budget
+      → Allows (IsHall k o c) slots id me 0 (λ n. (n + 4294967297) % 18446744073709551616) (TellsArrive me)
   arrives idle room s h wide view small =
-      let here : get_elem? s.views id ≡ maybe.some (the me.0 ∷ []) = view ∙ ap maybe.some one in
-      (record_after_arrive (the me.0) (slice_index s.words 0) ∷ [], keeps, tt, (arrives_at k o c kind s h id (the me.0) here idle room _ refl).hall, (refl, stepping.seen_few k o c kind s h id (the me.0) here))
+      let here : get_elem? s.views id ≡ maybe.some (the me.0 ∷ []) = view ∙ ap maybe.some one in (
+        record_after_arrive (the me.0) (slice_index s.words 0) ∷ [],
+        keeps,
+        tt,
+        (arrives_at k o c kind s h id (the me.0) here idle room _ refl).hall,
+        (refl, stepping.seen_few k o c kind s h id (the me.0) here),
+      )
 
-  pub looks_for_ticket : stage (the me.0).place ≡ ticketed_stage → Allows (IsHall k o c) slots id me (place_word (ticket (the me.0).place % c.seats)) (λ n. n) (TellsTicketLook me)
+  pub looks_for_ticket : stage (the me.0).place ≡ ticketed_stage
+      → Allows (IsHall k o c) slots id me (place_word (ticket (the me.0).place % c.seats)) (λ n. n) (TellsTicketLook me)
   looks_for_ticket waits s h wide view small =
       let here : get_elem? s.views id ≡ maybe.some (the me.0 ∷ []) = view ∙ ap maybe.some one in
-      let w = record_after_ticket_look (the me.0) (slice_index s.words (place_word (ticket (the me.0).place % c.seats))) in
-      (w ∷ [], keeps, tt, loaded s (place_word (ticket (the me.0).place % c.seats)) (w ∷ []) (looks_for_ticket_at k o c kind s h id (the me.0) here waits).hall, refl)
+      let w = record_after_ticket_look (the me.0) (slice_index s.words (place_word (ticket (the me.0).place % c.seats))) in (
+        w ∷ [],
+        keeps,
+        tt,
+        loaded s (place_word (ticket (the me.0).place % c.seats)) (w ∷ [])
+            (looks_for_ticket_at k o c kind s h id (the me.0) here waits).hall,
+        refl,
+      )
 
-  pub looks_for_call : stage (the me.0).place ≡ inside_stage → Allows (IsHall k o c) slots id me (seat_word (the me.0).seat) (λ n. n) (TellsSeatLook me)
+  pub looks_for_call : stage (the me.0).place ≡ inside_stage
+      → Allows (IsHall k o c) slots id me (seat_word (the me.0).seat) (λ n. n) (TellsSeatLook me)
   looks_for_call parked s h wide view small =
       let here : get_elem? s.views id ≡ maybe.some (the me.0 ∷ []) = view ∙ ap maybe.some one in
-      let w = record_after_seat_look (the me.0) (slice_index s.words (seat_word (the me.0).seat)) in
-      (w ∷ [], keeps, tt, loaded s (seat_word (the me.0).seat) (w ∷ []) (looks_for_call_at k o c kind s h id (the me.0) here parked).hall, refl)
+      let w = record_after_seat_look (the me.0) (slice_index s.words (seat_word (the me.0).seat)) in (
+        w ∷ [],
+        keeps,
+        tt,
+        loaded s (seat_word (the me.0).seat) (w ∷ [])
+            (looks_for_call_at k o c kind s h id (the me.0) here parked).hall,
+        refl,
+      )
 
   pub peeks : stage (the me.0).place ≡ active_stage → Allows (IsHall k o c) slots id me 0 (λ n. n) (TellsPeek me)
   peeks active s h wide view small =
       let here : get_elem? s.views id ≡ maybe.some (the me.0 ∷ []) = view ∙ ap maybe.some one in
-      let w = record_after_peek (the me.0) (slice_index s.words 0) in
-      (w ∷ [], keeps, tt, loaded s 0 (w ∷ []) (peeks_at k o c kind s h id (the me.0) here active).hall, (refl, knew_still k o c kind s h id (the me.0) here active))
+      let w = record_after_peek (the me.0) (slice_index s.words 0) in (
+        w ∷ [],
+        keeps,
+        tt,
+        loaded s 0 (w ∷ []) (peeks_at k o c kind s h id (the me.0) here active).hall,
+        (refl, knew_still k o c kind s h id (the me.0) here active),
+      )
 
-  pub takes_off : (to : Home) → (the me.0).place ≡ Back next.Entry to → Allows (IsHall k o c) slots id me 0 (λ n. (n + 18446744073709551615) % 18446744073709551616) (TellsDrop me)
+  pub takes_off : (to : Home) → (the me.0).place ≡ Back next.Entry to
+      → Allows (IsHall k o c) slots id me 0 (λ n. (n + 18446744073709551615) % 18446744073709551616) (TellsDrop me)
   takes_off to back s h wide view small =
       let here : get_elem? s.views id ≡ maybe.some (the me.0 ∷ []) = view ∙ ap maybe.some one in (
         record_after_drop (the me.0) (slice_index s.words 0) ∷ [],
         keeps,
         tt,
         (takes_off_at k o c kind s h id (the me.0) here to back _ refl).hall,
-        (refl, some_unpassed k o c kind s h id (the me.0) here (ap stage back), (stepping.sound k o c kind s h id (the me.0) here).stands.keeps.tickets.behind),
+        (
+          refl,
+          some_unpassed k o c kind s h id (the me.0) here (ap stage back),
+          (stepping.sound k o c kind s h id (the me.0) here).stands.keeps.tickets.behind,
+        ),
       )

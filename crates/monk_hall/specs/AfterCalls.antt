@@ -18,4 +18,5 @@ MatchAfter (Parked p) f g = g p
 -- at the ticket word where its wish is for entry and there is something to choose
 abbrev pub StaysOrParks : {K T : Type 0} → Rules → Object → Holder → Event → Pick → After K T → Type 0
 StaysOrParks k o a call wish to =
-    MatchAfter to (λ b. HasStayed k o a call wish (peeks_for k o a.floor call wish) b) (λ p. HasReleased k o a call wish home.Inner (peeks_for k o a.floor call wish) p)
+    MatchAfter to (λ b. HasStayed k o a call wish (peeks_for k o a.floor call wish) b)
+    (λ p. HasReleased k o a call wish home.Inner (peeks_for k o a.floor call wish) p)

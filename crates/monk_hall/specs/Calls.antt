@@ -22,9 +22,8 @@ use Rattle.monk_world.specs.declared.home.Home.{Home}
 use Rattle.monk_world.specs.declared.home.Home.TheVariants as home
 use Rattle.monk_world.specs.declared.place.Place.{Place}
 use Rattle.monk_world.specs.declared.place.Place.TheVariants.{Idle, Ticket, Due, Active, Back, Passing, Inner}
-use Rattle.monk_world.specs.declared.source.Source.{Source}
 use Rattle.monk_world.specs.declared.source.Source.TheVariants.{Free, Granted, Called}
-use Rattle.monk_hall.specs.Changes.{record_after_arrive}
+use Rattle.monk_hall.specs.Changes.{record_after_arrive, source_from}
 use Rattle.monk_hall.specs.Floors.{StartsWith}
 use Rattle.monk_hall.specs.Layout.{tickets, floor_of}
 use Rattle.monk_hall.specs.Tells.{SeesTruly}
@@ -38,16 +37,6 @@ pub record HasArrived (k : Rules) (o : Object) (p q : Token) : Type 0 where
   pub me : q.me ≡ record_after_arrive p.me found
   pub enters : enters_of p.me.seen ≤ tickets found
   pub told : SeesTruly k o q.me
-
--- how a seat comes to the right that waits there
-abbrev pub source_from : Place → Source
-source_from Idle = Called
-source_from (Ticket t) = Granted t
-source_from (Due q) = q
-source_from (Active q) = q
-source_from (Back x to) = Called
-source_from (Passing t to) = Called
-source_from Inner = Called
 
 -- the ticket with which a seat waits for entry, or came to the right
 abbrev pub held_ticket : Place → Option ℕ
@@ -64,12 +53,20 @@ held_ticket Inner = None
 -- a waiting seat looked, and found this: a seat that is due needs no look
 abbrev pub record_after_look : Place → SeatRecord → ℕ → SeatRecord
 record_after_look Idle r found = r
-record_after_look (Ticket t) r found = record r { place = place_after_ticket_look t (found == t + 1); looks = suc r.looks; steps = suc r.steps }
+record_after_look (Ticket t) r found =
+    record r { place = place_after_ticket_look t (found == t + 1); looks = suc r.looks; steps = suc r.steps }
 record_after_look (Due q) r found = r
 record_after_look (Active q) r found = r
 record_after_look (Back x to) r found = r
 record_after_look (Passing t to) r found = r
-record_after_look Inner r found = record r { place = place_after_seat_look (found == r.count + 1); count = count_after_seat_look r.count (found == r.count + 1); looks = suc r.looks; steps = suc r.steps }
+record_after_look Inner r found =
+    record r {
+      place = place_after_seat_look (found == r.count + 1);
+      count =
+          count_after_seat_look r.count (found == r.count + 1);
+      looks = suc r.looks;
+      steps = suc r.steps;
+    }
 
 pub record HasLooked (k : Rules) (o : Object) (p q : Token) : Type 0 where
   pub found : ℕ
@@ -150,7 +147,13 @@ pub record HasReleased (k : Rules) (o : Object) (a : Holder) (call : Event) (wis
 pub record HasStayed (k : Rules) (o : Object) (a : Holder) (call : Event) (wish : Pick) (peeks : ℕ) (b : Holder) : Type 0 where
   pub chosen : next.Stay ≡ choice_of k o (stands_of k o a.floor) call (is_entry_known wish b.me.known) wish
   pub is : b ≡ record a {
-    me = record a.me { known = b.me.known; mine = a.me.mine ++ with_next next.Stay call ∷ []; looks = a.me.looks + peeks; steps = a.me.steps + peeks };
+    me = record a.me {
+      known = b.me.known;
+      mine = a.me.mine ++ with_next next.Stay call ∷ [];
+      looks =
+          a.me.looks + peeks;
+      steps = a.me.steps + peeks;
+    };
     floor = with_event a.floor (with_next next.Stay call);
   }
   pub remembers : Remembers a.me b.me

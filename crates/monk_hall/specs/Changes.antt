@@ -7,26 +7,27 @@ use Rattle.monk_history.specs.declared.event.Event.{Event}
 use Rattle.monk_history.specs.declared.event.Next.{Next}
 use Rattle.monk_history.specs.declared.event.Next.TheVariants as next
 use Rattle.monk_world.specs.Places.{ticket, place_of}
-use Rattle.monk_world.specs.Steps.{place_after_arrive, place_after_ticket_look, place_after_seat_look, count_after_seat_look, place_after_drop}
+use Rattle.monk_world.specs.Steps.{place_after_arrive, place_after_ticket_look, place_after_seat_look}
+use Rattle.monk_world.specs.Steps.{count_after_seat_look, place_after_drop}
 use Rattle.monk_world.specs.declared.home.Home.{Home}
 use Rattle.monk_world.specs.declared.home.Home.TheVariants as home
 use Rattle.monk_world.specs.declared.place.Place.{Place}
 use Rattle.monk_world.specs.declared.place.Place.TheVariants.{Idle, Ticket, Due, Active, Back, Passing, Inner}
 use Rattle.monk_world.specs.declared.source.Source.{Source}
-use Rattle.monk_world.specs.declared.source.Source.TheVariants.{Called}
+use Rattle.monk_world.specs.declared.source.Source.TheVariants.{Granted, Called}
 use Rattle.monk_hall.specs.Layout.{tickets, unpassed}
 use Rattle.monk_hall.specs.Records.{View, the, tail}
 use Rattle.monk_hall.specs.declared.record.SeatRecord.{SeatRecord}
 
--- how a seat that is due or active came to the right
-abbrev pub source_at : Place → Source
-source_at Idle = Called
-source_at (Ticket t) = Called
-source_at (Due q) = q
-source_at (Active q) = q
-source_at (Back x to) = Called
-source_at (Passing t to) = Called
-source_at Inner = Called
+-- how a seat comes to the right that waits there, or has come to it that is due or active
+abbrev pub source_from : Place → Source
+source_from Idle = Called
+source_from (Ticket t) = Granted t
+source_from (Due q) = q
+source_from (Active q) = q
+source_from (Back x to) = Called
+source_from (Passing t to) = Called
+source_from Inner = Called
 
 -- where a seat goes that has the floor back
 abbrev pub home_at : Place → Home
@@ -53,11 +54,23 @@ record_after_arrive r found = record r { place = place_after_arrive (tickets fou
 
 -- it looked at the place of its ticket
 abbrev pub record_after_ticket_look : SeatRecord → ℕ → SeatRecord
-record_after_ticket_look r found = record r { place = place_after_ticket_look (ticket r.place) (found == ticket r.place + 1); looks = suc r.looks; steps = suc r.steps }
+record_after_ticket_look r found =
+    record r {
+      place = place_after_ticket_look (ticket r.place) (found == ticket r.place + 1);
+      looks = suc r.looks;
+      steps = suc r.steps;
+    }
 
 -- it looked at its own place
 abbrev pub record_after_seat_look : SeatRecord → ℕ → SeatRecord
-record_after_seat_look r found = record r { place = place_after_seat_look (found == r.count + 1); count = count_after_seat_look r.count (found == r.count + 1); looks = suc r.looks; steps = suc r.steps }
+record_after_seat_look r found =
+    record r {
+      place = place_after_seat_look (found == r.count + 1);
+      count =
+          count_after_seat_look r.count (found == r.count + 1);
+      looks = suc r.looks;
+      steps = suc r.steps;
+    }
 
 -- active, it looked whether somebody waits for entry
 abbrev pub record_after_peek : SeatRecord → ℕ → SeatRecord
@@ -65,11 +78,18 @@ record_after_peek r found = record r { known = nat_le 2 (unpassed found); looks 
 
 -- the floor came out to it, with this history
 abbrev pub record_after_floor_out : SeatRecord → List Event → SeatRecord
-record_after_floor_out r history = record r { place = Active (source_at r.place); known = false; seen = history; steps = suc r.steps }
+record_after_floor_out r history = record r { place = Active (source_from r.place); known = false; seen = history; steps = suc r.steps }
 
 -- it brought the floor back, with this history
 abbrev pub record_after_floor_in : SeatRecord → List Event → SeatRecord
-record_after_floor_in r history = record r { place = back_after (last_or None history); seen = history; mine = events_of history r.seat; steps = suc r.steps }
+record_after_floor_in r history =
+    record r {
+      place = back_after (last_or None history);
+      seen = history;
+      mine = events_of history r.seat;
+      steps =
+          suc r.steps;
+    }
 
 -- it took itself off the ticket word
 abbrev pub record_after_drop : SeatRecord → ℕ → SeatRecord

@@ -12,7 +12,7 @@ use Rattle.monk_history.specs.declared.event.Turn.TheVariants.{Owned}
 use Rattle.monk_floor.specs.View.{FloorView, monitor_of}
 use Rattle.monk_world.specs.StepTable.{out_event}
 use Rattle.monk_world.specs.declared.source.Source.TheVariants.{Free, Granted}
-use Rattle.monk_hall.specs.Changes.{source_at}
+use Rattle.monk_hall.specs.Changes.{source_from}
 use Rattle.monk_hall.specs.Layout.{floor_of}
 use Rattle.monk_hall.specs.declared.record.SeatRecord.{SeatRecord}
 
@@ -29,11 +29,11 @@ pub record Finds (k : Rules) (o : Object) (r : SeatRecord) (f : FloorView) : Typ
   pub legal : IsLegal (monitor_of k o f) f.history
   pub starts : StartsWith f.history r.seen
   pub mine : events_of f.history r.seat ≡ r.mine
-  pub allowed : IsAllowed (monitor_of k o f) f.history (out_event r.seat (source_at r.place) (turn f.history))
+  pub allowed : IsAllowed (monitor_of k o f) f.history (out_event r.seat (source_from r.place) (turn f.history))
   pub left : 2 ≤ left_of f.budget f.history r.seat
   pub within : length r.mine ≤ r.setting.budget
-  pub first : (t : ℕ) → source_at r.place ≡ Free t → enters_of f.history ≡ t
-  pub next : (t : ℕ) → source_at r.place ≡ Granted t → enters_of f.history ≡ t
+  pub first : (t : ℕ) → source_from r.place ≡ Free t → enters_of f.history ≡ t
+  pub next : (t : ℕ) → source_from r.place ≡ Granted t → enters_of f.history ≡ t
 
 -- an event of the seat that keeps the turn with it
 pub record IsPrivate (i : ℕ) (e : Event) : Type 0 where
@@ -52,8 +52,8 @@ pub record GoesOn (k : Rules) (o : Object) (r : SeatRecord) (f : FloorView) : Ty
   pub near : r.seat < f.seats
   pub legal : IsLegal (monitor_of k o f) f.history
   pub since : List Event
-  pub goes : f.history ≡ (r.seen ++ out_event r.seat (source_at r.place) (turn r.seen) ∷ []) ++ since
+  pub goes : f.history ≡ (r.seen ++ out_event r.seat (source_from r.place) (turn r.seen) ∷ []) ++ since
   pub own : ArePrivate r.seat since
   pub owned : turn f.history ≡ Owned r.seat
-  pub mine : events_of f.history r.seat ≡ r.mine ++ out_event r.seat (source_at r.place) (turn r.seen) ∷ since
+  pub mine : events_of f.history r.seat ≡ r.mine ++ out_event r.seat (source_from r.place) (turn r.seen) ∷ since
   pub within : length (events_of f.history r.seat) ≤ r.setting.budget

@@ -14,7 +14,8 @@ use Rattle.monk_history.specs.declared.event.Next.{Next}
 use Rattle.monk_history.specs.declared.event.Next.TheVariants.{Entry}
 use Rattle.monk_floor.specs.View.{FloorView, monitor_of}
 use Rattle.monk_world.specs.OnePlace.{IsInOnePlace}
-use Rattle.monk_world.specs.Places.{HoldsRight, stage, ticket, back_turn, due_to, ticketed_stage, due_stage, active_stage, passing_stage, inside_stage}
+use Rattle.monk_world.specs.Places.{HoldsRight, stage, ticket, back_turn, due_to, ticketed_stage, due_stage}
+use Rattle.monk_world.specs.Places.{active_stage, passing_stage, inside_stage}
 use Rattle.monk_world.specs.Runs.{IsWellLed}
 use Rattle.monk_world.specs.State.{is_quiet}
 use Rattle.monk_world.specs.StepTable.{IsStep}
@@ -24,7 +25,9 @@ use Rattle.monk_world.specs.declared.command.Command.{Command}
 use Rattle.monk_world.specs.declared.command.Command.TheVariants as command
 use Rattle.monk_world.specs.declared.home.Home.{Home}
 use Rattle.monk_world.specs.declared.place.Place.TheVariants.{Idle, Back}
-use Rattle.monk_hall.specs.Changes.{record_after_arrive, record_after_ticket_look, record_after_seat_look, record_after_peek, record_after_floor_out, record_after_floor_in, record_after_drop, record_after_grant}
+use Rattle.monk_hall.specs.Changes.{record_after_arrive, record_after_ticket_look, record_after_seat_look}
+use Rattle.monk_hall.specs.Changes.{record_after_peek, record_after_floor_out, record_after_floor_in, record_after_drop}
+use Rattle.monk_hall.specs.Changes.{record_after_grant}
 use Rattle.monk_hall.specs.Floors.{ArePrivate}
 use Rattle.monk_hall.specs.Layout.{tickets, unpassed, ticket_word, seat_word, floor_of, shown_state, shown_world}
 use Rattle.monk_hall.specs.Records.{View, In}
@@ -45,13 +48,16 @@ pub record IsRecord (s : HallState) (r : SeatRecord) : Type 0 where
 
 -- a step of seat i leads from a table under the rule to another, and what they show is a step of the world, by this
 -- command and with this answer
-pub record Takes (k : Rules) (o : Object) (c : Setting) (s : HallState) (h : IsHall k o c s) (i : ℕ) (m : Command) (a : Answer) (t : HallState) : Type 0 where
+pub record Takes (k : Rules) (o : Object) (c : Setting) (s : HallState) (h : IsHall k o c s) (i : ℕ) (m : Command)
+    (a : Answer) (t : HallState) : Type 0 where
   pub hall : IsHall k o c t
   pub step : IsStep k o (shown_state c s.words h.0 h.2.history) i m a (shown_state c t.words hall.0 hall.2.history)
 
 -- a seat whose view has it alone
 abbrev pub OfASeat : ((k : Rules) (o : Object) (c : Setting) (s : HallState) → IsHall k o c s → ℕ → SeatRecord → Type 0) → Type 0
-OfASeat Step = (k : Rules) (o : Object) (c : Setting) → IsKind k → (s : HallState) (h : IsHall k o c s) (id : ℕ) (r : SeatRecord) → get_elem? s.views id ≡ some (r ∷ []) → Step k o c s h id r
+OfASeat Step = (k : Rules) (o : Object) (c : Setting) → IsKind k
+    → (s : HallState) (h : IsHall k o c s) (id : ℕ) (r : SeatRecord) → get_elem? s.views id ≡ some (r ∷ [])
+    → Step k o c s h id r
 
 -- the ticket word
 abbrev pub first_word : HallState → ℕ
@@ -62,7 +68,12 @@ abbrev pub ArriveSteps : Type 0
 ArriveSteps = OfASeat (λ k o c s h id r.
     r.place ≡ Idle → length r.mine + 2 ≤ r.setting.budget
     → Takes k o c s h r.seat command.Arrive (answer.Arrived (tickets (first_word s)) (unpassed (first_word s)))
-    (record { words = set s.words 0 ((first_word s + 4294967297) % 18446744073709551616); homes = s.homes; views = set s.views id (record_after_arrive r (first_word s) ∷ []) }))
+    (record {
+      words = set s.words 0 ((first_word s + 4294967297) % 18446744073709551616);
+      homes = s.homes;
+      views =
+          set s.views id (record_after_arrive r (first_word s) ∷ []);
+    }))
 
 -- step 2
 abbrev pub TicketLookSteps : Type 0
@@ -82,13 +93,20 @@ SeatLookSteps = OfASeat (λ k o c s h id r.
 abbrev pub PeekSteps : Type 0
 PeekSteps = OfASeat (λ k o c s h id r.
     stage r.place ≡ active_stage
-    → Takes k o c s h r.seat command.Peek (answer.Found (unpassed (first_word s))) (record s { views = set s.views id (record_after_peek r (first_word s) ∷ []) }))
+    → Takes k o c s h r.seat command.Peek (answer.Found (unpassed (first_word s)))
+    (record s { views = set s.views id (record_after_peek r (first_word s) ∷ []) }))
 
 -- step 5, out
 abbrev pub FloorOutSteps : Type 0
 FloorOutSteps = OfASeat (λ k o c s h id r.
     stage r.place ≡ due_stage
-    → Takes k o c s h r.seat command.Out answer.Now (record { words = s.words; homes = set s.homes 0 none; views = set s.views id (record_after_floor_out r h.2.past ∷ []) }))
+    → Takes k o c s h r.seat command.Out answer.Now
+    (record {
+      words = s.words;
+      homes = set s.homes 0 none;
+      views =
+          set s.views id (record_after_floor_out r h.2.past ∷ []);
+    }))
 
 -- the active seat brings a floor home: what is shown, events of the seat alone that keep the turn with it, and then a
 -- step of the world, a release that chose another
@@ -100,42 +118,66 @@ pub record BringsHome (k : Rules) (o : Object) (c : Setting) (s : HallState) (h 
   pub command : Command
   pub choice : Next
   pub away : is_stay (Some choice) ≡ false
-  pub step : IsStep k o (shown_state c s.words h.0 (h.2.history ++ since)) i command (answer.Chose choice) (shown_state c t.words hall.0 hall.2.history)
+  pub step : IsStep k o (shown_state c s.words h.0 (h.2.history ++ since)) i command (answer.Chose choice)
+      (shown_state c t.words hall.0 hall.2.history)
 
 -- step 5, in
 abbrev pub FloorInSteps : Type 0
 FloorInSteps = OfASeat (λ k o c s h id r.
     (f : FloorView) → stage r.place ≡ active_stage → Returns k o r f
-    → BringsHome k o c s h r.seat (record { words = s.words; homes = set s.homes 0 (some (Some f)); views = set s.views id (record_after_floor_in r f.history ∷ []) }))
+    → BringsHome k o c s h r.seat
+    (record {
+      words = s.words;
+      homes = set s.homes 0 (some (Some f));
+      views =
+          set s.views id (record_after_floor_in r f.history ∷ []);
+    }))
 
 -- step 6
 abbrev pub DropSteps : Type 0
 DropSteps = OfASeat (λ k o c s h id r.
     (to : Home) → r.place ≡ Back Entry to
     → Takes k o c s h r.seat command.Drop (answer.Found (unpassed (first_word s)))
-    (record { words = set s.words 0 ((first_word s + 18446744073709551615) % 18446744073709551616); homes = s.homes; views = set s.views id (record_after_drop r (first_word s) ∷ []) }))
+    (record {
+      words = set s.words 0 ((first_word s + 18446744073709551615) % 18446744073709551616);
+      homes =
+          s.homes;
+      views = set s.views id (record_after_drop r (first_word s) ∷ []);
+    }))
 
 -- step 7
 abbrev pub TicketGrantSteps : Type 0
 TicketGrantSteps = OfASeat (λ k o c s h id r.
     stage r.place ≡ passing_stage
     → Takes k o c s h r.seat command.Grant (answer.GrantedTicket (ticket r.place))
-    (record { words = set s.words (ticket_word c.seats (ticket r.place)) (ticket r.place + 1); homes = s.homes; views = set s.views id (record_after_grant r ∷ []) }))
+    (record {
+      words = set s.words (ticket_word c.seats (ticket r.place)) (ticket r.place + 1);
+      homes = s.homes;
+      views =
+          set s.views id (record_after_grant r ∷ []);
+    }))
 
 -- step 8
 abbrev pub SeatGrantSteps : Type 0
 SeatGrantSteps = OfASeat (λ k o c s h id r.
     (m : ℕ) → back_turn r.place ≡ due_to m
     → Takes k o c s h r.seat command.Grant (answer.GrantedSeat m)
-    (record { words = set s.words (seat_word m) (granted_of r.seen m); homes = s.homes; views = set s.views id (record_after_grant r ∷ []) }))
+    (record {
+      words = set s.words (seat_word m) (granted_of r.seen m);
+      homes = s.homes;
+      views =
+          set s.views id (record_after_grant r ∷ []);
+    }))
 
 -- the right to be active is in exactly one place
 abbrev pub RightInOnePlace : Type 0
-RightInOnePlace = (k : Rules) (o : Object) (c : Setting) (s : HallState) → (h : IsHall k o c s) → IsInOnePlace c.seats (shown_world s.words h.0)
+RightInOnePlace = (k : Rules) (o : Object) (c : Setting) (s : HallState) → (h : IsHall k o c s)
+    → IsInOnePlace c.seats (shown_world s.words h.0)
 
 -- the state that words and records show is well led: its history legal, turn and queues as the seats stand
 abbrev pub ShowsWellLed : Type 0
-ShowsWellLed = (k : Rules) (o : Object) (c : Setting) (s : HallState) → (h : IsHall k o c s) → IsWellLed k o (shown_state c s.words h.0 h.2.history)
+ShowsWellLed = (k : Rules) (o : Object) (c : Setting) (s : HallState) → (h : IsHall k o c s)
+    → IsWellLed k o (shown_state c s.words h.0 h.2.history)
 
 -- two seats that have the right are one, in one view
 abbrev pub OneHasTheRight : Type 0
@@ -147,7 +189,8 @@ OneHasTheRight =
 abbrev pub OneIsActive : Type 0
 OneIsActive =
     (k : Rules) (o : Object) (c : Setting) (s : HallState) → IsHall k o c s
-    → (r q : SeatRecord) → (x : IsRecord s r) → (y : IsRecord s q) → stage r.place ≡ active_stage → stage q.place ≡ active_stage → (r ≡ q) × (x.id ≡ y.id)
+    → (r q : SeatRecord) → (x : IsRecord s r) → (y : IsRecord s q) → stage r.place ≡ active_stage
+    → stage q.place ≡ active_stage → (r ≡ q) × (x.id ≡ y.id)
 
 -- an active seat knows of somebody at the entry only while two tickets are not passed on: its own, and one that waits
 abbrev pub KnownWaits : Type 0
@@ -159,4 +202,5 @@ KnownWaits =
 abbrev pub EntryWaits : Type 0
 EntryWaits =
     (k : Rules) (o : Object) (c : Setting) (s : HallState) → IsHall k o c s
-    → (r : SeatRecord) (to : Home) → IsRecord s r → r.place ≡ Back Entry to → is_quiet k o (floor_of c r.seen) ≡ false → 2 ≤ unpassed (slice_index s.words 0)
+    → (r : SeatRecord) (to : Home) → IsRecord s r → r.place ≡ Back Entry to → is_quiet k o (floor_of c r.seen) ≡ false
+    → 2 ≤ unpassed (slice_index s.words 0)

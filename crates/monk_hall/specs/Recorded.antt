@@ -23,7 +23,8 @@ use Rattle.monk_hall.specs.declared.record.SeatRecord.{SeatRecord}
 use Rattle.monk_hall.specs.declared.release.Release.{Release}
 
 -- a release that a seat made, as it was called, and its floor recorded: the wish rules chose
-pub record IsRelease (k : Rules) (o : Object) (r : SeatRecord) (f : FloorView) (call : Event) (wish : Pick) (known : Bool) (choice : Next) (to : Home) (g : FloorView) : Type 0 where
+pub record IsRelease (k : Rules) (o : Object) (r : SeatRecord) (f : FloorView) (call : Event) (wish : Pick)
+    (known : Bool) (choice : Next) (to : Home) (g : FloorView) : Type 0 where
   pub release : IsReleaseTo r.seat to call
   pub may : MayCall (monitor_of k o f) f.history call
   pub left : left_within to < left_of f.budget f.history r.seat
@@ -37,7 +38,8 @@ pub record IsApart {K T : Type 0} (k : Rules) (o : Object) (a : Holder) (r : Rel
   pub was : holder r.seat.table_id (the r.seat.me.0) r.floor ≡ a
 
 -- the active seat `a`, taken apart, with this call recorded in its floor
-pub record HasRecorded {K T : Type 0} (k : Rules) (o : Object) (a : Holder) (call : ℕ → Event) (wish : Pick) (known : Bool) (to : Home) (r : Release K T) : Type 0 where
+pub record HasRecorded {K T : Type 0} (k : Rules) (o : Object) (a : Holder) (call : ℕ → Event) (wish : Pick)
+    (known : Bool) (to : Home) (r : Release K T) : Type 0 where
   pub before : FloorView
   pub holds : IsHolding k o r.seat.table_id r.seat.me r.number r.calls before
   pub was : holder r.seat.table_id (the r.seat.me.0) before ≡ a
@@ -54,12 +56,14 @@ pub record IsRecorded {K T : Type 0} (k : Rules) (o : Object) (to : Home) (r : R
 -- whatever release was recorded, the seat is outside with it
 abbrev pub GoesOutside : {K T : Type 0} → Rules → Object → Release K T → Token → Type 0
 GoesOutside k o r p =
-    (a : Holder) (call : ℕ → Event) (wish : Pick) (known : Bool) → HasRecorded k o a call wish known home.Idle r → HasReleased k o a (call a.me.seat) wish home.Idle 0 p
+    (a : Holder) (call : ℕ → Event) (wish : Pick) (known : Bool) → HasRecorded k o a call wish known home.Idle r
+    → HasReleased k o a (call a.me.seat) wish home.Idle 0 p
 
 -- it is parked inside
 abbrev pub GoesInside : {K T : Type 0} → Rules → Object → Release K T → Token → Type 0
 GoesInside k o r p =
-    (a : Holder) (call : ℕ → Event) (wish : Pick) (known : Bool) → HasRecorded k o a call wish known home.Inner r → HasReleased k o a (call a.me.seat) wish home.Inner 0 p
+    (a : Holder) (call : ℕ → Event) (wish : Pick) (known : Bool) → HasRecorded k o a call wish known home.Inner r
+    → HasReleased k o a (call a.me.seat) wish home.Inner 0 p
 
 -- it stays active where it was chosen itself, and else is parked inside
 abbrev pub GoesOnOrInside : {K T K2 T2 : Type 0} → Rules → Object → Release K T → After K2 T2 → Type 0

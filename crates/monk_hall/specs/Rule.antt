@@ -29,7 +29,8 @@ setting_of opening seats conds budget = record { opening = opening; seats = seat
 -- `at j` is the record of seat j, which lies in the view number `desk j`
 pub record AreShown (c : Setting) (views : List View) (at : ℕ → SeatRecord) : Type 0 where
   pub desk : ℕ → ℕ
-  pub each : (id : ℕ) (v : View) → get_elem? views id ≡ some v → (r : SeatRecord) → In r v → (at r.seat ≡ r) × (desk r.seat ≡ id) × (r.seat < c.seats)
+  pub each : (id : ℕ) (v : View) → get_elem? views id ≡ some v → (r : SeatRecord) → In r v
+      → (at r.seat ≡ r) × (desk r.seat ≡ id) × (r.seat < c.seats)
   pub apart : (id : ℕ) (v : View) → get_elem? views id ≡ some v → Distinct v
   pub there : (j : ℕ) → j < c.seats → (v : View) × (get_elem? views (desk j) ≡ some v) × In (at j) v
   pub settings : (j : ℕ) → (at j).setting ≡ c
@@ -45,14 +46,16 @@ Homes = List (maybe.Option (Option FloorView))
 
 -- what each seat knows of the history. `past` is that of the floor at home or, while a seat is active, that which it
 -- found; `history` has then also the event with which it came
-pub record AreTold (k : Rules) (o : Object) (c : Setting) (homes : Homes) (at : ℕ → SeatRecord) (w : World) (past history : List Event) : Type 0 where
+pub record AreTold (k : Rules) (o : Object) (c : Setting) (homes : Homes) (at : ℕ → SeatRecord) (w : World)
+    (past history : List Event) : Type 0 where
   pub one_slot : length homes ≡ 1
   pub legal : IsLegal (monitor_of k o (floor_of c past)) past
   pub starts : (j : ℕ) → StartsWith past (at j).seen
   pub mine : (j : ℕ) → events_of past j ≡ (at j).mine
   pub own : (j : ℕ) → events_of (at j).seen j ≡ (at j).mine
   pub back : (j : ℕ) → stage (at j).place ≡ back_stage → (at j).seen ≡ past
-  pub lent : (j : ℕ) (q : Source) → (at j).place ≡ Active q → ((at j).seen ≡ past) × (history ≡ past ++ out_event j q (turn past) ∷ []) × (get_elem? homes 0 ≡ some none)
+  pub lent : (j : ℕ) (q : Source) → (at j).place ≡ Active q
+      → ((at j).seen ≡ past) × (history ≡ past ++ out_event j q (turn past) ∷ []) × (get_elem? homes 0 ≡ some none)
   pub home : ((j : ℕ) → stage (at j).place ≢ active_stage) → (history ≡ past) × (get_elem? homes 0 ≡ some (some (Some (floor_of c past))))
   pub calls : CountsCalls w past
 

@@ -19,7 +19,9 @@ use Rattle.monk_world.specs.Sound.{left_within}
 use Rattle.monk_world.specs.State.{with_event}
 use Rattle.monk_world.specs.declared.home.Home.{Home}
 use Rattle.monk_world.specs.declared.home.Home.TheVariants as home
-use Rattle.monk_hall.specs.Changes.{record_after_arrive, record_after_ticket_look, record_after_seat_look, record_after_peek, record_after_floor_out, record_after_floor_in, record_after_drop, record_after_grant, view_after_compare}
+use Rattle.monk_hall.specs.Changes.{record_after_arrive, record_after_ticket_look, record_after_seat_look}
+use Rattle.monk_hall.specs.Changes.{record_after_peek, record_after_floor_out, record_after_floor_in, record_after_drop}
+use Rattle.monk_hall.specs.Changes.{record_after_grant, view_after_compare}
 use Rattle.monk_hall.specs.Floors.{StartsWith, Finds, GoesOn}
 use Rattle.monk_hall.specs.Layout.{tickets, unpassed, word_count, floor_of}
 use Rattle.monk_hall.specs.Records.{View, the, tail}
@@ -45,7 +47,9 @@ TellsPeek me found new = (new ≡ (record_after_peek (the me.0) found ∷ [], me
 
 -- the floor comes out
 abbrev pub TellsFloorOut : Rules → Object → Me → ℕ → Me → Type 0
-TellsFloorOut k o me found new = (f : FloorView) × (new ≡ (record_after_floor_out (the me.0) f.history ∷ [], (0, Some f) ∷ me.1)) × Finds k o (the me.0) f
+TellsFloorOut k o me found new =
+    (f : FloorView) × (new ≡ (record_after_floor_out (the me.0) f.history ∷ [], (0, Some f) ∷ me.1))
+    × Finds k o (the me.0) f
 
 -- the floor goes home
 abbrev pub TellsFloorIn : List Event → Me → ℕ → Me → Type 0
@@ -73,7 +77,8 @@ pub record SeesTruly (k : Rules) (o : Object) (r : SeatRecord) : Type 0 where
   pub own : events_of r.seen r.seat ≡ r.mine
 
 abbrev pub TellsCompare : Rules → Object → Me → ℕ → Me → Type 0
-TellsCompare k o me found new = (new ≡ (view_after_compare me.0, me.1)) × AreOne (the me.0).seen (the (tail me.0)).seen × SeesTruly k o (the new.0) × SeesTruly k o (the (tail new.0))
+TellsCompare k o me found new = (new ≡ (view_after_compare me.0, me.1)) × AreOne (the me.0).seen (the (tail me.0)).seen
+    × SeesTruly k o (the new.0) × SeesTruly k o (the (tail new.0))
 
 -- a release of seat i as it is called, written with `stay`, and where the seat goes then: outside after a leave,
 -- inside after a wait

@@ -23,7 +23,13 @@ impl<K: Kind, T: Guarded> Model for Hall<K, T> {
 
     ghost Value = { House };
 
-    ghost view = { λ h. record { id = h.table.shared.table_id; setting = setting_of (T.state h.table.shared.key.opening.value) h.table.shared.key.seats h.table.shared.key.conds h.table.shared.key.budget } };
+    ghost view = { λ h. record {
+      id = h.table.shared.table_id;
+      setting =
+          setting_of (T.state h.table.shared.key.opening.value) h.table.shared.key.seats h.table.shared.key.conds
+          h.table.shared.key.budget;
+    } };
 
-    ghost invariant = { λ h. IsSized h.table.shared.table_id h.table.shared.key.seats × (h.seats ≡ h.table.shared.key.seats) × (0 < h.seats) };
+    ghost invariant = { λ h. IsSized h.table.shared.table_id h.table.shared.key.seats
+        × (h.seats ≡ h.table.shared.key.seats) × (0 < h.seats) };
 }

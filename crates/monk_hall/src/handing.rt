@@ -71,7 +71,8 @@ pub(crate) fn go_home<K: Kind, T: Guarded>(
     requires out { seat.old.me.1 ≡ (0, None) ∷ [] }
     requires released { (to : Home) × HasRecordedRelease K.rules T.meaning seat.old.table_id seat.old.me choice to floor }
     ensures table { seat.new.table_id ≡ seat.old.table_id }
-    ensures gone { HasGone (the seat.old.me.0) floor.history (home_at (record_after_floor_in (the seat.old.me.0) floor.history).place) (the seat.new.me.0) }
+    ensures gone { HasGone (the seat.old.me.0) floor.history
+        (home_at (record_after_floor_in (the seat.old.me.0) floor.history).place) (the seat.new.me.0) }
     ensures view { seat.new.me ≡ (the seat.new.me.0 ∷ [], []) }
 {
     let words = &hall.table.shared;

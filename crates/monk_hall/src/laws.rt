@@ -1,6 +1,8 @@
 //! What holds of a hall's table whenever the rule holds that every step keeps, and so at every moment. Each function
 //! does nothing: its contract is the law.
-ghost use Rattle.monk_hall.specs.Laws.{RightInOnePlace, ShowsWellLed, OneHasTheRight, OneIsActive, KnownWaits, EntryWaits, ArriveSteps, TicketLookSteps, SeatLookSteps, PeekSteps, FloorOutSteps, FloorInSteps, DropSteps, TicketGrantSteps, SeatGrantSteps};
+ghost use Rattle.monk_hall.specs.Laws.{RightInOnePlace, ShowsWellLed, OneHasTheRight, OneIsActive, KnownWaits};
+ghost use Rattle.monk_hall.specs.Laws.{EntryWaits, ArriveSteps, TicketLookSteps, SeatLookSteps, PeekSteps};
+ghost use Rattle.monk_hall.specs.Laws.{FloorOutSteps, FloorInSteps, DropSteps, TicketGrantSteps, SeatGrantSteps};
 
 /// The words, the records of the seats and the floor show a state of a world that is well led: the right to be active is
 /// in exactly one place, the history is legal, and turn and queues agree with where the seats stand.

@@ -34,7 +34,10 @@ impl<K: Kind, T: Guarded> Hall<K, T> {
         conds: u8,
         budget: u32,
     ) -> Result<(Hall<K, T>, Vec<Pass<K, T>>), MakeFault>
-        ensures made { IfOk result (λ r. (make_refusal seats conds budget ≡ None) × (r.0.setting ≡ setting_of (T.state object) seats conds budget) × (r.1.items ≡ tokens r.0.id (first_view r.0.setting))) }
+        ensures made { IfOk result
+            (λ r. (make_refusal seats conds budget ≡ None)
+            × (r.0.setting ≡ setting_of (T.state object) seats conds budget)
+            × (r.1.items ≡ tokens r.0.id (first_view r.0.setting))) }
         ensures refused { IfErr result (λ e. IsRefused seats conds budget e) }
     {
         let opening = Snapshot::of(&object);
@@ -57,7 +60,9 @@ fn open<K: Kind, T: Guarded>(
 ) -> Result<(Hall<K, T>, Vec<Pass<K, T>>), AllocError>
     requires made { make_refusal setup.seats setup.conds setup.budget ≡ None }
     requires floor { floor ≡ floor_of (setting_of (T.state setup.opening.value) setup.seats setup.conds setup.budget) [] }
-    ensures { IfOk result (λ r. (r.0.setting ≡ setting_of (T.state setup.opening.value) setup.seats setup.conds setup.budget) × (r.1.items ≡ tokens r.0.id (first_view r.0.setting))) }
+    ensures { IfOk result
+        (λ r. (r.0.setting ≡ setting_of (T.state setup.opening.value) setup.seats setup.conds setup.budget)
+        × (r.1.items ≡ tokens r.0.id (first_view r.0.setting))) }
 {
     let seats = setup.seats;
     let budget = setup.budget;
@@ -90,7 +95,9 @@ fn deal<K: Kind, T: Guarded>(
     requires table { (first.table_id ≡ words.now.table_id) × IsSized words.now.table_id words.now.key.seats }
     requires numbers { (seats ≡ words.now.key.seats) × (budget ≡ words.now.key.budget) }
     requires view { first.me ≡ (first_view (setting_of (T.state words.now.key.opening.value) seats words.now.key.conds budget), []) }
-    ensures { IfOk result (λ v. v.items ≡ tokens words.now.table_id (first_view (setting_of (T.state words.now.key.opening.value) seats words.now.key.conds budget))) }
+    ensures { IfOk result
+        (λ v. v.items ≡ tokens words.now.table_id
+        (first_view (setting_of (T.state words.now.key.opening.value) seats words.now.key.conds budget))) }
 {
     let mut passes = Vec::new(alloc);
     let mut dealt = 0;

@@ -27,8 +27,10 @@ fn lift<K: Kind, T: Guarded>(badge: &mut Badge<View>) -> TableSeat<K, T>
 pub fn meet<K: Kind, T: Guarded>(hall: &Hall<K, T>, a: &mut Pass<K, T>, b: &mut Pass<K, T>)
     requires { (a.old.hall ≡ hall.now.id) × (b.old.hall ≡ hall.now.id) }
     ensures one { AreOne a.old.me.seen b.old.me.seen }
-    ensures first { a.new ≡ record a.old { me = record a.old.me { seen = longer a.old.me.seen b.old.me.seen; steps = suc a.old.me.steps } } }
-    ensures second { b.new ≡ record b.old { me = record b.old.me { seen = longer a.old.me.seen b.old.me.seen; steps = suc b.old.me.steps } } }
+    ensures first { a.new ≡ record a.old
+        { me = record a.old.me { seen = longer a.old.me.seen b.old.me.seen; steps = suc a.old.me.steps } } }
+    ensures second { b.new ≡ record b.old
+        { me = record b.old.me { seen = longer a.old.me.seen b.old.me.seen; steps = suc b.old.me.steps } } }
     ensures told { SeesTruly K.rules T.meaning a.new.me × SeesTruly K.rules T.meaning b.new.me }
 {
     let words = &hall.table.shared;

@@ -34,7 +34,8 @@ impl<K: Kind, T: Guarded> Model for Parked<K, T> {
 
     ghost view = { λ p. record { hall = p.seat.table_id; me = the p.seat.me.0 } };
 
-    ghost invariant = { λ p. IsResting K.rules T.meaning p.seat.table_id p.seat.me p.number p.left p.calls × (2 ≤ p.left) × (p.place ≡ (the p.seat.me.0).place) × IsWaiting p.place };
+    ghost invariant = { λ p. IsResting K.rules T.meaning p.seat.table_id p.seat.me p.number p.left p.calls
+        × (2 ≤ p.left) × (p.place ≡ (the p.seat.me.0).place) × IsWaiting p.place };
 }
 
 impl<K: Kind, T: Guarded> Parked<K, T> {
@@ -68,7 +69,8 @@ impl<K: Kind, T: Guarded> Parked<K, T> {
     /// Otherwise it gives itself back.
     pub fn poll(self, hall: &Hall<K, T>) -> Result<Active<K, T>, Parked<K, T>>
         requires { self.hall ≡ hall.now.id }
-        ensures active { IfOk result (λ a. HasEntered K.rules T.meaning self a × (a.me.looks ≤ self.me.looks + 1) × (a.me.steps ≤ self.me.steps + 2)) }
+        ensures active { IfOk result (λ a. HasEntered K.rules T.meaning self a × (a.me.looks ≤ self.me.looks + 1)
+            × (a.me.steps ≤ self.me.steps + 2)) }
         ensures parked { IfErr result (λ p. StillWaits K.rules T.meaning self p × (stage self.me.place ≢ due_stage)) }
     {
         let looked = self.look(hall);

@@ -32,7 +32,9 @@ impl<K: Kind, T: Guarded> Model for Pass<K, T> {
 
     ghost view = { λ p. record { hall = p.badge.table_id; me = the (top p.badge.views) } };
 
-    ghost invariant = { λ p. (p.badge.views ≡ top p.badge.views ∷ []) × IsResting K.rules T.meaning p.badge.table_id (top p.badge.views, []) p.number p.left p.calls × ((the (top p.badge.views)).place ≡ Idle) };
+    ghost invariant = { λ p. (p.badge.views ≡ top p.badge.views ∷ [])
+        × IsResting K.rules T.meaning p.badge.table_id (top p.badge.views, []) p.number p.left p.calls
+        × ((the (top p.badge.views)).place ≡ Idle) };
 }
 
 impl<K: Kind, T: Guarded> Pass<K, T> {

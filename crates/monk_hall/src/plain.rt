@@ -24,7 +24,9 @@ impl<K: Kind, T: Guarded> Active<K, T> {
     /// Whether a signal on it serves somebody.
     pub(crate) fn serves(&self, cond: u8) -> bool
         requires { cond < self.now.me.setting.conds }
-        ensures { result ≡ not (must_stay T.meaning (stands_of K.rules T.meaning self.now.floor) (Event.Signal self.now.me.seat cond Next.Stay)) }
+        ensures { result ≡ not
+            (must_stay T.meaning (stands_of K.rules T.meaning self.now.floor)
+            (Event.Signal self.now.me.seat cond Next.Stay)) }
     {
         self.waiting(cond) > 0
     }

@@ -2,7 +2,8 @@
 ghost use Rattle.std.specs.Prelude.{[]};
 ghost use Rattle.monk_hall.specs.Changes.{view_after_join};
 ghost use Rattle.monk_hall.specs.Records.{head, tail};
-ghost use Rattle.monk_hall.specs.Tells.{TellsArrive, TellsTicketLook, TellsSeatLook, TellsPeek, TellsFloorOut, TellsFloorIn, held_history, TellsDrop, TellsGrant, TellsCompare};
+ghost use Rattle.monk_hall.specs.Tells.{TellsArrive, TellsTicketLook, TellsSeatLook, TellsPeek, TellsFloorOut};
+ghost use Rattle.monk_hall.specs.Tells.{TellsFloorIn, held_history, TellsDrop, TellsGrant, TellsCompare};
 
 use crate::record::View;
 use atomic_table::{Join, Play, Split};

@@ -1,7 +1,8 @@
 //! One function for each kind of step, and nothing else in it. The calls of the tokens are made of these.
 ghost use Rattle.std.specs.Prelude.{◌≡◌, ◌+◌, ◌<◌, ◌≤◌, [], ◌∷◌, Some, None, length};
 ghost use Rattle.monk_history.specs.Meaning.Counts.{granted_of};
-ghost use Rattle.monk_world.specs.Places.{stage, ticket, back_turn, due_to, ticketed_stage, due_stage, active_stage, passing_stage, inside_stage};
+ghost use Rattle.monk_world.specs.Places.{stage, ticket, back_turn, due_to, ticketed_stage, due_stage, active_stage};
+ghost use Rattle.monk_world.specs.Places.{passing_stage, inside_stage};
 ghost use Rattle.monk_history.specs.declared.event.Next.{Next};
 ghost use Rattle.monk_world.specs.declared.place.Place.TheVariants.{Idle, Back};
 ghost use Rattle.monk_hall.specs.Changes.{record_after_floor_out, record_after_floor_in, home_at, record_after_grant};
@@ -43,7 +44,8 @@ pub(crate) fn arrive<K: Kind, T: Guarded>(
     seat: &mut TableSeat<K, T>,
 ) -> u64
     requires table { IsOfTable seat.old words.now.table_id words.now.key.seats }
-    requires idle { IsOne seat.old.me.0 × ((the seat.old.me.0).place ≡ Idle) × (length (the seat.old.me.0).mine + 2 ≤ (the seat.old.me.0).setting.budget) }
+    requires idle { IsOne seat.old.me.0 × ((the seat.old.me.0).place ≡ Idle)
+        × (length (the seat.old.me.0).mine + 2 ≤ (the seat.old.me.0).setting.budget) }
     ensures table { IsSameSeat seat.old seat.new }
     ensures step { TellsArrive seat.old.me result seat.new.me }
 {
@@ -59,7 +61,8 @@ pub(crate) fn ticket_look<K: Kind, T: Guarded>(
 ) -> u64
     requires table { IsOfTable seat.old words.now.table_id words.now.key.seats }
     requires seats { (seats ≡ words.now.key.seats) × (0 < seats) }
-    requires waits { IsOne seat.old.me.0 × (stage (the seat.old.me.0).place ≡ ticketed_stage) × (number ≡ ticket (the seat.old.me.0).place) }
+    requires waits { IsOne seat.old.me.0 × (stage (the seat.old.me.0).place ≡ ticketed_stage)
+        × (number ≡ ticket (the seat.old.me.0).place) }
     ensures table { IsSameSeat seat.old seat.new }
     ensures step { TellsTicketLook seat.old.me result seat.new.me }
 {
@@ -153,7 +156,8 @@ pub(crate) fn ticket_grant<K: Kind, T: Guarded>(
 )
     requires table { IsOfTable seat.old words.now.table_id words.now.key.seats }
     requires seats { (seats ≡ words.now.key.seats) × (0 < seats) }
-    requires passing { IsOne seat.old.me.0 × (stage (the seat.old.me.0).place ≡ passing_stage) × (number ≡ ticket (the seat.old.me.0).place) }
+    requires passing { IsOne seat.old.me.0 × (stage (the seat.old.me.0).place ≡ passing_stage)
+        × (number ≡ ticket (the seat.old.me.0).place) }
     ensures table { IsSameSeat seat.old seat.new }
     ensures step { seat.new.me ≡ (record_after_grant (the seat.old.me.0) ∷ [], seat.old.me.1) }
 {
@@ -172,7 +176,8 @@ pub(crate) fn seat_grant<K: Kind, T: Guarded>(
 )
     requires table { IsOfTable seat.old words.now.table_id words.now.key.seats }
     requires near { called < words.now.key.seats }
-    requires back { IsOne seat.old.me.0 × (back_turn (the seat.old.me.0).place ≡ due_to called) × (calls ≡ granted_of (the seat.old.me.0).seen called) }
+    requires back { IsOne seat.old.me.0 × (back_turn (the seat.old.me.0).place ≡ due_to called)
+        × (calls ≡ granted_of (the seat.old.me.0).seen called) }
     ensures table { IsSameSeat seat.old seat.new }
     ensures step { seat.new.me ≡ (record_after_grant (the seat.old.me.0) ∷ [], seat.old.me.1) }
 {

@@ -30,7 +30,8 @@ module _ {Q : Type 0} (seats : Q → List ℕ) where
   taken_at (w ∷ ws) (suc i) q v (suc c) l e f = rw (eqb-suc-suc i c) (taken_at ws i q v c (omega arith) e f)
 
   -- one more queue with nobody in it
-  pub all_empty_push : (vs : List Q) (v : Q) → seats v ≡ [] → ((c : ℕ) → seats_at seats vs c ≡ []) → (c : ℕ) → seats_at seats (vs ++ v ∷ []) c ≡ []
+  pub all_empty_push : (vs : List Q) (v : Q) → seats v ≡ [] → ((c : ℕ) → seats_at seats vs c ≡ []) → (c : ℕ)
+      → seats_at seats (vs ++ v ∷ []) c ≡ []
   all_empty_push [] v e h zero = e
   all_empty_push [] v e h (suc c) = refl
   all_empty_push (w ∷ ws) v e h zero = h zero

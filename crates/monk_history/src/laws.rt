@@ -41,7 +41,8 @@ pub fn seats_stand_once()
 
 /// What one allowed event more makes of where its own seat, the seat that it chose and every other seat stand.
 pub fn event_moves_seats()
-    ensures { (m : Monitor) (h : List Event) (e : Event) → IsLegal m h → IsAllowed m h e → StandsAfter m (situation m h) e (situation m (h ++ e ∷ [])) }
+    ensures { (m : Monitor) (h : List Event) (e : Event) → IsLegal m h → IsAllowed m h e
+        → StandsAfter m (situation m h) e (situation m (h ++ e ∷ [])) }
 {}
 
 /// A seat may enter exactly where it stands at the door: past nobody who could be chosen from a queue if it is let in
@@ -54,7 +55,8 @@ pub fn seat_enters()
 /// A release that lets the entry in, with nobody known to wait for it, leaves nobody who could be chosen from a queue:
 /// beside somebody who could be, entry is chosen only where `entry_known` says so.
 pub fn entry_is_quiet()
-    ensures { (m : Monitor) (h : List Event) (e : Event) (wish : Pick) → IsLegal m h → IsAllowed m h e → AdmitsUnknown m (situation m h) e wish → IsQuiet m (h ++ e ∷ []) }
+    ensures { (m : Monitor) (h : List Event) (e : Event) (wish : Pick) → IsLegal m h → IsAllowed m h e
+        → AdmitsUnknown m (situation m h) e wish → IsQuiet m (h ++ e ∷ []) }
 {}
 
 /// A seat may resume exactly where the turn is due to it from that queue.
@@ -85,16 +87,22 @@ pub fn acts_are_a_run()
 
 /// In a legal history over a buffer the items that were put are those taken, in order, and then those that are there.
 pub fn legal_buffer_is_in_order()
-    ensures { (rules : Rules) (seats conds size : ℕ) (h : List Event) → let m = monitor rules seats conds (meaning_named Buffer) (opening_named Buffer size) in IsLegal m h → IsInOrder size (data_of m h) (acts_in h) }
+    ensures { (rules : Rules) (seats conds size : ℕ) (h : List Event) → let m =
+        monitor rules seats conds (meaning_named Buffer) (opening_named Buffer size) in IsLegal m h
+        → IsInOrder size (data_of m h) (acts_in h) }
 {}
 
 /// In a legal history over a book a writer is never beside another or a reader, and no more read than its size.
 pub fn legal_book_excludes()
-    ensures { (rules : Rules) (seats conds size : ℕ) (h : List Event) → let m = monitor rules seats conds (meaning_named Book) (opening_named Book size) in IsLegal m h → ExcludesEachOther size (data_of m h) (acts_in h) }
+    ensures { (rules : Rules) (seats conds size : ℕ) (h : List Event) → let m =
+        monitor rules seats conds (meaning_named Book) (opening_named Book size) in IsLegal m h
+        → ExcludesEachOther size (data_of m h) (acts_in h) }
 {}
 
 /// In a legal history over a shop no customer is lost: who sat was called or sits, who was called was served or is being
 /// served, who was served departed or is about to.
 pub fn legal_shop_loses_nobody()
-    ensures { (rules : Rules) (seats conds size : ℕ) (h : List Event) → let m = monitor rules seats conds (meaning_named Shop) (opening_named Shop size) in IsLegal m h → ServesEachOne size (data_of m h) (acts_in h) }
+    ensures { (rules : Rules) (seats conds size : ℕ) (h : List Event) → let m =
+        monitor rules seats conds (meaning_named Shop) (opening_named Shop size) in IsLegal m h
+        → ServesEachOne size (data_of m h) (acts_in h) }
 {}

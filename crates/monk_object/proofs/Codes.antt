@@ -30,7 +30,8 @@ once-false k code = by (code == k)
     by true = refl
     by false = refl
 
-times_done-cons : (code : ℕ) (act : Answered) (acts : List Answered) → times_done code (act ∷ acts) ≡ cond (is_done code act) 1 0 + times_done code acts
+times_done-cons : (code : ℕ) (act : Answered) (acts : List Answered)
+    → times_done code (act ∷ acts) ≡ cond (is_done code act) 1 0 + times_done code acts
 times_done-cons code act acts = sum_by-cons (λ a. cond (is_done code a) 1 0) act acts
 
 joined : (first second rest others before between after : ℕ) → first + before ≡ second + between → rest + between ≡ others + after
@@ -44,4 +45,5 @@ pub counted : (came went : ℕ) (act : Answered) (acts : List Answered) (before 
     → times_done came (act ∷ acts) + before ≡ times_done went (act ∷ acts) + after
 counted came went act acts before between after one more =
     rw (times_done-cons came act acts, times_done-cons went act acts)
-    (joined (cond (is_done came act) 1 0) (cond (is_done went act) 1 0) (times_done came acts) (times_done went acts) before between after one more)
+    (joined (cond (is_done came act) 1 0) (cond (is_done went act) 1 0) (times_done came acts) (times_done went acts)
+    before between after one more)

@@ -25,18 +25,52 @@ done : (size sitting chair : ℕ) → sitting ≤ size → (code : ℕ)
 done size sitting chair within = by_code
     (λ code. shop_serves size sitting chair code ≡ true → Step size sitting chair code true (shop_served size sitting chair code))
     (λ e. let less : sitting < size = ltb-true _ _ e in
-    record { sitting_next = sitting + 1; chair_next = chair; state = refl; within = omega arith; sat = omega arith; called = refl; finished = refl })
+    record {
+      sitting_next = sitting + 1;
+      chair_next = chair;
+      state = refl;
+      within = omega arith;
+      sat = omega arith;
+      called = refl;
+      finished = refl;
+    })
     (λ e. let parts = both (nat_lt 0 sitting) (chair == 0) e in
     let some : 0 < sitting = ltb-true _ _ parts.0 in
     let there : chair ≡ 0 = eqb-true _ _ parts.1 in
-    record { sitting_next = sitting - 1; chair_next = 1; state = refl; within = omega arith; sat = omega arith; called = rw there refl; finished = rw there refl })
+    record {
+      sitting_next = sitting - 1;
+      chair_next = 1;
+      state = refl;
+      within = omega arith;
+      sat = omega arith;
+      called =
+          rw there refl;
+      finished = rw there refl;
+    })
     (λ e. let there : chair ≡ 1 = eqb-true _ _ e in
-    record { sitting_next = sitting; chair_next = 2; state = refl; within = within; sat = refl; called = rw there refl; finished = rw there refl })
+    record {
+      sitting_next = sitting;
+      chair_next = 2;
+      state = refl;
+      within = within;
+      sat = refl;
+      called = rw there refl;
+      finished = rw there refl;
+    })
     (λ e. let there : chair ≡ 2 = eqb-true _ _ e in
-    record { sitting_next = sitting; chair_next = 0; state = refl; within = within; sat = refl; called = rw there refl; finished = rw there refl })
+    record {
+      sitting_next = sitting;
+      chair_next = 0;
+      state = refl;
+      within = within;
+      sat = refl;
+      called = rw there refl;
+      finished = rw there refl;
+    })
     (λ code n0 n1 n2 n3 e. absurd (none code n0 n1 n2 n3 e))
   where
-    none : (code : ℕ) → (code == 0) ≡ false → (code == 1) ≡ false → (code == 2) ≡ false → (code == 3) ≡ false → shop_serves size sitting chair code ≡ true → ⊥
+    none : (code : ℕ) → (code == 0) ≡ false → (code == 1) ≡ false → (code == 2) ≡ false → (code == 3) ≡ false
+        → shop_serves size sitting chair code ≡ true → ⊥
     none code n0 n1 n2 n3 e = let f : false ≡ true = rw (n0, n1, n2, n3) at e in absurd cc
 
 step : (size sitting chair : ℕ) → sitting ≤ size → (code : ℕ) (served : Bool) → shop_serves size sitting chair code ≡ served
@@ -59,15 +93,18 @@ record Run (size sitting chair : ℕ) (start : List ℕ) (ops : List Op) : Type 
   state : state_after shop_meaning start ops ≡ size ∷ sitting_last ∷ chair_last ∷ []
   within : sitting_last ≤ size
   sat : times_done SIT (answers_of shop_meaning start ops) + sitting ≡ times_done CALL (answers_of shop_meaning start ops) + sitting_last
-  called : times_done CALL (answers_of shop_meaning start ops) + where_it_is 1 chair ≡ times_done FINISH (answers_of shop_meaning start ops) + where_it_is 1 chair_last
-  finished : times_done FINISH (answers_of shop_meaning start ops) + where_it_is 2 chair ≡ times_done DEPART (answers_of shop_meaning start ops) + where_it_is 2 chair_last
+  called : times_done CALL (answers_of shop_meaning start ops) + where_it_is 1 chair ≡ times_done FINISH
+      (answers_of shop_meaning start ops) + where_it_is 1 chair_last
+  finished : times_done FINISH (answers_of shop_meaning start ops) + where_it_is 2 chair ≡ times_done DEPART
+      (answers_of shop_meaning start ops) + where_it_is 2 chair_last
 
 run : (size sitting chair : ℕ) → sitting ≤ size → (ops : List Op) → Run size sitting chair (size ∷ sitting ∷ chair ∷ []) ops
 run size sitting chair within [] =
     record { sitting_last = sitting; chair_last = chair; state = refl; within = within; sat = refl; called = refl; finished = refl }
 run size sitting chair within (op ∷ ops) =
     let s = step size sitting chair within op.code (shop_serves size sitting chair op.code) refl in
-    let r = subst (λ start. Run size s.sitting_next s.chair_next start ops) (sym s.state) (run size s.sitting_next s.chair_next s.within ops) in
+    let r = subst (λ start. Run size s.sitting_next s.chair_next start ops) (sym s.state)
+    (run size s.sitting_next s.chair_next s.within ops) in
     let act : Answered = record { op = op; reply = shop_reply (size ∷ sitting ∷ chair ∷ []) op } in
     let acts = answers_of shop_meaning (shop_after (size ∷ sitting ∷ chair ∷ []) op) ops in
     record {
@@ -76,8 +113,10 @@ run size sitting chair within (op ∷ ops) =
       state = r.state;
       within = r.within;
       sat = counted SIT CALL act acts sitting s.sitting_next r.sitting_last s.sat r.sat;
-      called = counted CALL FINISH act acts (where_it_is 1 chair) (where_it_is 1 s.chair_next) (where_it_is 1 r.chair_last) s.called r.called;
-      finished = counted FINISH DEPART act acts (where_it_is 2 chair) (where_it_is 2 s.chair_next) (where_it_is 2 r.chair_last) s.finished r.finished;
+      called = counted CALL FINISH act acts (where_it_is 1 chair) (where_it_is 1 s.chair_next)
+          (where_it_is 1 r.chair_last) s.called r.called;
+      finished = counted FINISH DEPART act acts (where_it_is 2 chair) (where_it_is 2 s.chair_next)
+          (where_it_is 2 r.chair_last) s.finished r.finished;
     }
 
 pub customers : (size : ℕ) (ops : List Op) → LosesNoCustomer size ops

@@ -1,8 +1,10 @@
 -- Readers and a writer of a book exclude each other
-use Rattle.std.proofs.Common.{◌≡◌, ℕ, ◌+◌, ◌-◌, ◌<◌, ◌≤◌, ◌==◌, ◌⊎◌, inl, inr, Bool, true, false, cond, List, [], ◌∷◌, refl, sym, subst, arith}
+use Rattle.std.proofs.Common.{◌≡◌, ℕ, ◌+◌, ◌-◌, ◌<◌, ◌≤◌, ◌==◌, ◌⊎◌, inl, inr, Bool, true, false, cond, List, [], ◌∷◌}
+use Rattle.std.proofs.Common.{refl, sym, subst, arith}
 use Rattle.std.specs.Prelude.{nat_lt}
 use Rattle.std.proofs.lemmas.Bool.{eqb-true, ltb-true}
-use Rattle.monk_object.specs.Book.{START_READ, END_READ, START_WRITE, END_WRITE, book_meaning, book_after, book_reply, book_serves, book_served}
+use Rattle.monk_object.specs.Book.{START_READ, END_READ, START_WRITE, END_WRITE, book_meaning, book_after, book_reply}
+use Rattle.monk_object.specs.Book.{book_serves, book_served}
 use Rattle.monk_object.specs.Laws.{IsExclusive}
 use Rattle.monk_object.specs.Runs.{Answered, state_after, answers_of, times_done}
 use Rattle.monk_object.specs.declared.op.Op.{Op}
@@ -26,7 +28,17 @@ done size readers writers within one alone = by_code
     (λ e. let parts = both (writers == 0) (nat_lt readers size) e in
     let none : writers ≡ 0 = eqb-true _ _ parts.0 in
     let less : readers < size = ltb-true _ _ parts.1 in
-    record { readers_next = readers + 1; writers_next = writers; state = refl; within = omega arith; one_writer = one; alone = inr none; reads = omega arith; writes = refl })
+    record {
+      readers_next = readers + 1;
+      writers_next = writers;
+      state = refl;
+      within = omega arith;
+      one_writer =
+          one;
+      alone = inr none;
+      reads = omega arith;
+      writes = refl;
+    })
     (λ e. let some : 0 < readers = ltb-true _ _ e in
     record {
       readers_next = readers - 1;
@@ -41,12 +53,33 @@ done size readers writers within one alone = by_code
     (λ e. let parts = both (readers == 0) (writers == 0) e in
     let none : readers ≡ 0 = eqb-true _ _ parts.0 in
     let nobody : writers ≡ 0 = eqb-true _ _ parts.1 in
-    record { readers_next = readers; writers_next = 1; state = refl; within = within; one_writer = omega arith; alone = inl none; reads = refl; writes = omega arith })
+    record {
+      readers_next = readers;
+      writers_next = 1;
+      state = refl;
+      within = within;
+      one_writer = omega arith;
+      alone =
+          inl none;
+      reads = refl;
+      writes = omega arith;
+    })
     (λ e. let busy : writers ≡ 1 = eqb-true _ _ e in
-    record { readers_next = readers; writers_next = 0; state = refl; within = within; one_writer = omega arith; alone = inr refl; reads = refl; writes = omega arith })
+    record {
+      readers_next = readers;
+      writers_next = 0;
+      state = refl;
+      within = within;
+      one_writer = omega arith;
+      alone =
+          inr refl;
+      reads = refl;
+      writes = omega arith;
+    })
     (λ code n0 n1 n2 n3 e. absurd (none code n0 n1 n2 n3 e))
   where
-    none : (code : ℕ) → (code == 0) ≡ false → (code == 1) ≡ false → (code == 2) ≡ false → (code == 3) ≡ false → book_serves size readers writers code ≡ true → ⊥
+    none : (code : ℕ) → (code == 0) ≡ false → (code == 1) ≡ false → (code == 2) ≡ false → (code == 3) ≡ false
+        → book_serves size readers writers code ≡ true → ⊥
     none code n0 n1 n2 n3 e = let f : false ≡ true = rw (n0, n1, n2, n3) at e in absurd cc
 
 step : (size readers writers : ℕ) → readers ≤ size → writers ≤ 1 → (readers ≡ 0) ⊎ (writers ≡ 0) → (code : ℕ) (served : Bool)
@@ -72,16 +105,29 @@ record Run (size readers writers : ℕ) (start : List ℕ) (ops : List Op) : Typ
   within : readers_last ≤ size
   one_writer : writers_last ≤ 1
   alone : (readers_last ≡ 0) ⊎ (writers_last ≡ 0)
-  reads : times_done START_READ (answers_of book_meaning start ops) + readers ≡ times_done END_READ (answers_of book_meaning start ops) + readers_last
-  writes : times_done START_WRITE (answers_of book_meaning start ops) + writers ≡ times_done END_WRITE (answers_of book_meaning start ops) + writers_last
+  reads : times_done START_READ (answers_of book_meaning start ops) + readers ≡ times_done END_READ
+      (answers_of book_meaning start ops) + readers_last
+  writes : times_done START_WRITE (answers_of book_meaning start ops) + writers ≡ times_done END_WRITE
+      (answers_of book_meaning start ops) + writers_last
 
 run : (size readers writers : ℕ) → readers ≤ size → writers ≤ 1 → (readers ≡ 0) ⊎ (writers ≡ 0) → (ops : List Op)
     → Run size readers writers (size ∷ readers ∷ writers ∷ []) ops
 run size readers writers within one alone [] =
-    record { readers_last = readers; writers_last = writers; state = refl; within = within; one_writer = one; alone = alone; reads = refl; writes = refl }
+    record {
+      readers_last = readers;
+      writers_last = writers;
+      state = refl;
+      within = within;
+      one_writer = one;
+      alone =
+          alone;
+      reads = refl;
+      writes = refl;
+    }
 run size readers writers within one alone (op ∷ ops) =
     let s = step size readers writers within one alone op.code (book_serves size readers writers op.code) refl in
-    let r = subst (λ start. Run size s.readers_next s.writers_next start ops) (sym s.state) (run size s.readers_next s.writers_next s.within s.one_writer s.alone ops) in
+    let r = subst (λ start. Run size s.readers_next s.writers_next start ops) (sym s.state)
+    (run size s.readers_next s.writers_next s.within s.one_writer s.alone ops) in
     let act : Answered = record { op = op; reply = book_reply (size ∷ readers ∷ writers ∷ []) op } in
     let acts = answers_of book_meaning (book_after (size ∷ readers ∷ writers ∷ []) op) ops in
     record {

@@ -1,5 +1,6 @@
 -- A buffer is first in, first out
-use Rattle.std.proofs.Common.{◌≡◌, ℕ, ◌+◌, ◌-◌, ◌<◌, ◌≤◌, ◌==◌, Bool, true, false, ◌&&◌, cond, List, [], ◌∷◌, ◌++◌, length, drop, map, refl, sym, ap, ◌∙◌, arith, append_assoc, length-append}
+use Rattle.std.proofs.Common.{◌≡◌, ℕ, ◌+◌, ◌-◌, ◌<◌, ◌≤◌, ◌==◌, Bool, true, false, ◌&&◌, cond, List, [], ◌∷◌, ◌++◌}
+use Rattle.std.proofs.Common.{length, drop, map, refl, sym, ap, ◌∙◌, arith, append_assoc, length-append}
 use Rattle.std.specs.Prelude.{nat_lt, filter}
 use Rattle.std.proofs.lemmas.Bool.{eqb-true, ne_eqb, lt-ltb}
 use Rattle.std.proofs.lemmas.List.{append-nil}
@@ -22,7 +23,8 @@ abbrev taken_by : Bool → ℕ → List ℕ
 taken_by take reply = cond (take && nat_lt 0 reply) ((reply - 1) ∷ []) []
 
 step_by : (put take room : Bool) (items : List ℕ) (arg : ℕ) → (put ≡ true → take ≡ false)
-    → items ++ put_by put (reply_by put take room items) arg ≡ taken_by take (reply_by put take room items) ++ after_by put take room items arg
+    → items ++ put_by put (reply_by put take room items) arg ≡ taken_by take (reply_by put take room items)
+    ++ after_by put take room items arg
 step_by true true room items arg one = let f : true ≡ false = one refl in absurd cc
 step_by true false true items arg one = refl
 step_by true false false items arg one = append-nil items
@@ -42,7 +44,8 @@ fits_by size false true room (x ∷ xs) arg fits less = omega arith
 fits_by size false false room items arg fits less = fits
 
 -- an operation in front
-mapped : (f : Answered → ℕ) (b : Bool) (act : Answered) (acts : List Answered) → map f (cond b (act ∷ acts) acts) ≡ cond b (f act ∷ []) [] ++ map f acts
+mapped : (f : Answered → ℕ) (b : Bool) (act : Answered) (acts : List Answered)
+    → map f (cond b (act ∷ acts) acts) ≡ cond b (f act ∷ []) [] ++ map f acts
 mapped f true act acts = refl
 mapped f false act acts = refl
 
@@ -53,7 +56,8 @@ not_both code e = ne_eqb code TAKE (λ h. let z : code ≡ 0 = eqb-true code 0 e
 record Run (size : ℕ) (items : List ℕ) (ops : List Op) : Type 0 where
   left : List ℕ
   state : state_after buffer_meaning (size ∷ items) ops ≡ size ∷ left
-  in_order : items ++ items_put (answers_of buffer_meaning (size ∷ items) ops) ≡ items_taken (answers_of buffer_meaning (size ∷ items) ops) ++ left
+  in_order : items ++ items_put (answers_of buffer_meaning (size ∷ items) ops) ≡ items_taken
+      (answers_of buffer_meaning (size ∷ items) ops) ++ left
   within : length left ≤ size
 
 run : (size : ℕ) (items : List ℕ) (ops : List Op) → length items ≤ size → Run size items ops

@@ -23,7 +23,8 @@ state_stays false next state e = refl
 
 pub refused : (o : ObjectName) (state : List ℕ) (op : Op) → IsUnchangedByRefusal o state op
 refused Buffer [] op e = refl
-refused Buffer (size ∷ items) op e = ap (λ xs. size ∷ xs) (items_stay (op.code == PUT) (op.code == TAKE) (nat_lt (length items) size) items op.arg e)
+refused Buffer (size ∷ items) op e =
+    ap (λ xs. size ∷ xs) (items_stay (op.code == PUT) (op.code == TAKE) (nat_lt (length items) size) items op.arg e)
 refused Book [] op e = refl
 refused Book (size ∷ []) op e = refl
 refused Book (size ∷ readers ∷ []) op e = refl

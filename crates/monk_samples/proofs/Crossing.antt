@@ -14,7 +14,8 @@ use Rattle.monk_hall.proofs.Crossing.{hall_sync, pass_send}
 use Rattle.monk_hall.specs.contracts.hall.Hall as Hall
 use Rattle.monk_samples.specs.contracts.worker.Worker as Worker
 
-pub worker_send : (ℓ : NamedLft) (K T R G : RattleType) (k : Kind.Ghosts K.Denot) (t : Guarded.Ghosts T.Denot) → IsSend K → IsSend T → IsSync R → IsSync G → IsSend (Worker.the_row ℓ K T R G k t)
+pub worker_send : (ℓ : NamedLft) (K T R G : RattleType) (k : Kind.Ghosts K.Denot) (t : Guarded.Ghosts T.Denot)
+    → IsSend K → IsSend T → IsSync R → IsSync G → IsSend (Worker.the_row ℓ K T R G k t)
 worker_send ℓ K T R G k t sk st yr yg =
     let hall : IsSync (Hall.the_row K T k t) = hall_sync K T k t sk st in
     let all : AllSend (shape (Worker.the_type ℓ K T R G k t)).fields = (

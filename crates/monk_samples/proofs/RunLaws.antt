@@ -1,5 +1,7 @@
 -- What a run rests on: lists of workers and threads, a hall's passes, and the header of a closed hall
-use Rattle.std.proofs.Common.{◌≡◌, ℕ, zero, suc, ◌+◌, ◌*◌, ◌^◌, ◌≤◌, Bool, true, false, cond, All, Result, Ok, Err, IfOk, Option, Some, None, nat_le, ◌&&◌, List, [], ◌∷◌, ◌++◌, length, refl, sym, ap, subst, ◌∙◌, arith}
+use Rattle.std.proofs.Common.{◌≡◌, ℕ, zero, suc, ◌+◌, ◌*◌, ◌^◌, ◌≤◌, Bool, true, false, cond, All, Result, Ok, Err}
+use Rattle.std.proofs.Common.{IfOk, Option, Some, None, nat_le, ◌&&◌, List, [], ◌∷◌, ◌++◌, length, refl, sym, ap, subst}
+use Rattle.std.proofs.Common.{◌∙◌, arith}
 use Rattle.std.proofs.lemmas.Bool.{false≢true}
 use Rattle.std.proofs.Math.Nat.{mul-le-mul_right}
 use Rattle.std.proofs.lemmas.List.Elements.{All-cons, All-head, All-nil, All-push, All-rest, All-same}
@@ -59,14 +61,17 @@ offers_all k = by_mode k.mode
     by_mode ImmediateReturn e = omega arith
     by_mode Automatic e = absurd (false≢true e)
 
-ready_from : (k : Rules) (z : TableId) (c : Setting) → Offers k c.conds 3 → (n i : ℕ) → AreReady k (record { id = z; setting = c }) (tokens z (opening_records c n i))
+ready_from : (k : Rules) (z : TableId) (c : Setting) → Offers k c.conds 3 → (n i : ℕ)
+    → AreReady k (record { id = z; setting = c }) (tokens z (opening_records c n i))
 ready_from k z c o zero i = All-nil (IsReady k (record { id = z; setting = c }))
 ready_from k z c o (suc n) i = All-cons (IsReady k (record { id = z; setting = c })) _ _ ((refl, refl), o) (ready_from k z c o n (suc i))
 
 -- the passes of a hall with a run's conditions
-pub passes_ready : (k : Rules) (h : House) (ps : List Token) → h.setting.conds ≡ conds_of k → ps ≡ tokens h.id (opening_records h.setting h.setting.seats 0) → AreReady k h ps
+pub passes_ready : (k : Rules) (h : House) (ps : List Token) → h.setting.conds ≡ conds_of k
+    → ps ≡ tokens h.id (opening_records h.setting h.setting.seats 0) → AreReady k h ps
 passes_ready k h ps conds e =
-    All-same (IsReady k h) ps _ e (ready_from k h.id h.setting (subst (λ (n : ℕ). Offers k n 3) (sym conds) (offers_all k)) h.setting.seats 0)
+    All-same (IsReady k h) ps _ e
+    (ready_from k h.id h.setting (subst (λ (n : ℕ). Offers k n 3) (sym conds) (offers_all k)) h.setting.seats 0)
 
 -- a run's history is short
 pub few_events : (seats rounds n : ℕ) → seats ≤ 16 → rounds ≤ 1000 → n ≤ seats * budget_of seats rounds → n ≤ 2 ^ 24
@@ -76,19 +81,24 @@ few_events seats rounds n s r l =
     omega (arith, a, b, l, s)
 
 -- a hall was closed by a seat whose floor is the hall's
-pub closed_by : (k : Rules) (o : Object) (b c : Setting) (a : Holder) (before h : List Event) (state : List ℕ) → b ≡ c → a.floor ≡ floor_of b before → IsEnded k o a h state → IsClosed k o c h
+pub closed_by : (k : Rules) (o : Object) (b c : Setting) (a : Holder) (before h : List Event) (state : List ℕ) → b ≡ c
+    → a.floor ≡ floor_of b before → IsEnded k o a h state → IsClosed k o c h
 closed_by k o b c a before h state s f e =
     let floor : a.floor ≡ floor_of c before = f ∙ ap (λ (x : Setting). floor_of x before) s in record {
       legal = subst (λ (x : FloorView). IsLegal (monitor_of k o x) h) floor e.legal;
       few = subst (λ (x : FloorView). length h ≤ x.seats * x.budget) floor e.few;
     }
 
-pub history_of : (k : Rules) (sample : Sample) (seats rounds : ℕ) (c : Setting) (h : List Event) → c ≡ setting_of (opening_named (sample_object sample) size) seats (conds_of k) (budget_of seats rounds)
+pub history_of : (k : Rules) (sample : Sample) (seats rounds : ℕ) (c : Setting) (h : List Event)
+    → c ≡ setting_of (opening_named (sample_object sample) size) seats (conds_of k) (budget_of seats rounds)
     → IsClosed k (meaning_named (sample_object sample)) c h → IsHistoryOf k sample seats rounds h
 history_of k sample seats rounds c h e closed =
-    let z = subst (λ (x : Setting). IsClosed k (meaning_named (sample_object sample)) x h) e closed in record { legal = z.legal; few = z.few }
+    let z = subst (λ (x : Setting). IsClosed k (meaning_named (sample_object sample)) x h) e closed in
+    record { legal = z.legal; few = z.few }
 
-pub law_of : (k : Rules) (sample : Sample) (seats : ℕ) (h : List Event) → let m = monitor k seats (conds_of k) (meaning_named (sample_object sample)) (opening_named (sample_object sample) size) in IsLegal m h → KeepsLaw sample (data_of m h) h
+pub law_of : (k : Rules) (sample : Sample) (seats : ℕ) (h : List Event) → let m =
+    monitor k seats (conds_of k) (meaning_named (sample_object sample)) (opening_named (sample_object sample) size) in
+    IsLegal m h → KeepsLaw sample (data_of m h) h
 law_of k Buffer seats h legal = in_order k seats (conds_of k) size h legal
 law_of k Book seats h legal = excludes k seats (conds_of k) size h legal
 law_of k Shop seats h legal = serves_each k seats (conds_of k) size h legal
@@ -106,25 +116,34 @@ unfolding is_there there
 some_is true x y e = ap (there x) e
 some_is false x y e = absurd (false≢true (sym (ap is_there e)))
 
-pub header_is : (k : KindName) (sample : Sample) (seats conds : ℕ) (h : Heading) → Some h ≡ heading_of k seats conds (sample_object sample) size → conds ≡ conds_of (rules_named k) → h ≡ run_heading k sample seats
+pub header_is : (k : KindName) (sample : Sample) (seats conds : ℕ) (h : Heading)
+    → Some h ≡ heading_of k seats conds (sample_object sample) size → conds ≡ conds_of (rules_named k)
+    → h ≡ run_heading k sample seats
 header_is k sample seats conds h e c =
-    some_is (nat_le 1 seats && nat_le seats most_seats && nat_le conds most_conds && nat_le 1 size) (record { kind = k; seats = seats; conds = conds; object = sample_object sample; size = size }) h e
+    some_is (nat_le 1 seats && nat_le seats most_seats && nat_le conds most_conds && nat_le 1 size)
+    (record { kind = k; seats = seats; conds = conds; object = sample_object sample; size = size }) h e
     ∙ ap (λ n. record { kind = k; seats = seats; conds = n; object = sample_object sample; size = size }) c
 
-pub outcome_of : (k : Rules) (name : KindName) (sample : Sample) (seats rounds : ℕ) (h : Heading) (history : List Event) (totals : List ℕ) → seats ≤ 16 → rounds ≤ 1000 → k ≡ rules_named name → IsHistoryOf k sample seats rounds history → h ≡ run_heading name sample seats → totals ≡ totals_of sample history → IsOutcome name sample seats h history totals
+pub outcome_of : (k : Rules) (name : KindName) (sample : Sample) (seats rounds : ℕ) (h : Heading) (history : List Event)
+    (totals : List ℕ) → seats ≤ 16 → rounds ≤ 1000 → k ≡ rules_named name → IsHistoryOf k sample seats rounds history
+    → h ≡ run_heading name sample seats → totals ≡ totals_of sample history
+    → IsOutcome name sample seats h history totals
 outcome_of k name sample seats rounds h history totals near short named of header same =
-    let m : Rules → Monitor = λ r. monitor r seats (conds_of r) (meaning_named (sample_object sample)) (opening_named (sample_object sample) size) in
+    let m : Rules → Monitor = λ r. monitor r seats (conds_of r) (meaning_named (sample_object sample))
+    (opening_named (sample_object sample) size) in
     let legal = subst (λ (r : Rules). IsLegal (m r) history) named of.legal in
     record {
       header = header;
       legal = subst (λ (x : Heading). IsLegal (named_monitor x) history) (sym header) legal;
       few = few_events seats rounds (length history) near short of.few;
-      law = subst (λ (x : Heading). KeepsLaw sample (data_of (named_monitor x) history) history) (sym header) (law_of (rules_named name) sample seats history legal);
+      law = subst (λ (x : Heading). KeepsLaw sample (data_of (named_monitor x) history) history) (sym header)
+          (law_of (rules_named name) sample seats history legal);
       totals_are = same;
     }
 
 -- the law of a run's history, where it is lent
-pub law_here : (k : Rules) (sample : Sample) (seats rounds : ℕ) (h lent : List Event) → lent ≡ h → IsHistoryOf k sample seats rounds h → (state : List ℕ) × KeepsLaw sample state lent
+pub law_here : (k : Rules) (sample : Sample) (seats rounds : ℕ) (h lent : List Event) → lent ≡ h
+    → IsHistoryOf k sample seats rounds h → (state : List ℕ) × KeepsLaw sample state lent
 law_here k sample seats rounds h lent e of =
     let m = monitor k seats (conds_of k) (meaning_named (sample_object sample)) (opening_named (sample_object sample) size) in
     (data_of m h, subst (λ (x : List Event). KeepsLaw sample (data_of m h) x) (sym e) (law_of k sample seats h of.legal))

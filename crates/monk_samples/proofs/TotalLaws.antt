@@ -1,5 +1,6 @@
 -- One event more in the totals
-use Rattle.std.proofs.Common.{◌≡◌, ℕ, ◌+◌, ◌-◌, ◌≤◌, ◌<◌, cond, List, [], ◌∷◌, ◌++◌, length, map, take, drop, subst, slice_index_or, refl, ap, ◌∙◌, arith}
+use Rattle.std.proofs.Common.{◌≡◌, ℕ, ◌+◌, ◌-◌, ◌≤◌, ◌<◌, cond, List, [], ◌∷◌, ◌++◌, length, map, take, drop, subst}
+use Rattle.std.proofs.Common.{slice_index_or, refl, ap, ◌∙◌, arith}
 use Rattle.std.specs.Prelude.{filter, sum}
 use Rattle.std.proofs.lemmas.Grind.{flat_map-append}
 use Rattle.std.proofs.lemmas.List.{map-append, take_more, take-append-drop}
@@ -27,26 +28,35 @@ acts_more : (h : List Event) (e : Event) → acts_in (h ++ e ∷ []) ≡ acts_in
 acts_more h e = flat_map-append act_of h (e ∷ []) ∙ ap (λ (xs : List Answered). acts_in h ++ xs) (last_act e)
 
 pub done_more : (code : ℕ) (h : List Event) (e : Event) → done code (h ++ e ∷ []) ≡ done code h + times_done code (act_of e)
-done_more code h e = ap (λ (xs : List Answered). times_done code xs) (acts_more h e) ∙ sum_by-append (λ a. cond (is_done code a) 1 0) (acts_in h) (act_of e)
+done_more code h e = ap (λ (xs : List Answered). times_done code xs) (acts_more h e)
+    ∙ sum_by-append (λ a. cond (is_done code a) 1 0) (acts_in h) (act_of e)
 
 items_put_append : (us vs : List Answered) → items_put (us ++ vs) ≡ items_put us ++ items_put vs
-items_put_append us vs = ap (λ (xs : List Answered). map (λ act. act.op.arg) xs) (filter-append (is_done PUT) us vs) ∙ map-append (λ act. act.op.arg) (filter (is_done PUT) us) (filter (is_done PUT) vs)
+items_put_append us vs = ap (λ (xs : List Answered). map (λ act. act.op.arg) xs) (filter-append (is_done PUT) us vs)
+    ∙ map-append (λ act. act.op.arg) (filter (is_done PUT) us) (filter (is_done PUT) vs)
 
 items_taken_append : (us vs : List Answered) → items_taken (us ++ vs) ≡ items_taken us ++ items_taken vs
-items_taken_append us vs = ap (λ (xs : List Answered). map (λ act. act.reply - 1) xs) (filter-append (is_done TAKE) us vs) ∙ map-append (λ act. act.reply - 1) (filter (is_done TAKE) us) (filter (is_done TAKE) vs)
+items_taken_append us vs =
+    ap (λ (xs : List Answered). map (λ act. act.reply - 1) xs) (filter-append (is_done TAKE) us vs)
+    ∙ map-append (λ act. act.reply - 1) (filter (is_done TAKE) us) (filter (is_done TAKE) vs)
 
 pub sum_put_more : (h : List Event) (e : Event) → sum_put (h ++ e ∷ []) ≡ sum_put h + sum (items_put (act_of e))
 sum_put_more h e =
-    ap (λ (xs : List Answered). sum (items_put xs)) (acts_more h e) ∙ ap sum (items_put_append (acts_in h) (act_of e)) ∙ sum_by-append (λ n. n) (items_put (acts_in h)) (items_put (act_of e))
+    ap (λ (xs : List Answered). sum (items_put xs)) (acts_more h e) ∙ ap sum (items_put_append (acts_in h) (act_of e))
+    ∙ sum_by-append (λ n. n) (items_put (acts_in h)) (items_put (act_of e))
 
 pub sum_taken_more : (h : List Event) (e : Event) → sum_taken (h ++ e ∷ []) ≡ sum_taken h + sum (items_taken (act_of e))
 sum_taken_more h e =
-    ap (λ (xs : List Answered). sum (items_taken xs)) (acts_more h e) ∙ ap sum (items_taken_append (acts_in h) (act_of e)) ∙ sum_by-append (λ n. n) (items_taken (acts_in h)) (items_taken (act_of e))
+    ap (λ (xs : List Answered). sum (items_taken xs)) (acts_more h e)
+    ∙ ap sum (items_taken_append (acts_in h) (act_of e))
+    ∙ sum_by-append (λ n. n) (items_taken (acts_in h)) (items_taken (act_of e))
 
 -- what is taken of all is no more than of the whole
 pub taken_within : (h more : List Event) → sum_taken h ≤ sum_taken (h ++ more)
 taken_within h more =
-    let e = ap (λ (xs : List Answered). sum (items_taken xs)) (flat_map-append act_of h more) ∙ ap sum (items_taken_append (acts_in h) (acts_in more)) ∙ sum_by-append (λ n. n) (items_taken (acts_in h)) (items_taken (acts_in more)) in
+    let e = ap (λ (xs : List Answered). sum (items_taken xs)) (flat_map-append act_of h more)
+    ∙ ap sum (items_taken_append (acts_in h) (acts_in more))
+    ∙ sum_by-append (λ n. n) (items_taken (acts_in h)) (items_taken (acts_in more)) in
     omega (arith, e)
 
 -- what was taken adds up to no more than what was put
@@ -54,16 +64,21 @@ pub taken_of_put : (puts takes items : List ℕ) → puts ≡ takes ++ items →
 taken_of_put puts takes items e = let s = ap sum e ∙ sum_by-append (λ n. n) takes items in omega (arith, s)
 
 -- the totals of the events up to a place, and one more
-pub done_next : (code n count more : ℕ) (h : List Event) (d : Event) → n < length h → count ≡ done code (take n h) → times_done code (act_of (slice_index_or h n d)) ≡ more → count + more ≡ done code (take (n + 1) h)
+pub done_next : (code n count more : ℕ) (h : List Event) (d : Event) → n < length h → count ≡ done code (take n h)
+    → times_done code (act_of (slice_index_or h n d)) ≡ more → count + more ≡ done code (take (n + 1) h)
 done_next code n count more h d l e m =
     let next = ap (done code) (take_more h n d l) ∙ done_more code (take n h) (slice_index_or h n d) in
     omega (arith, next, e, m)
 
-pub put_next : (n count more : ℕ) (h : List Event) (d : Event) → n < length h → count ≡ sum_put (take n h) → more ≡ sum (items_put (act_of (slice_index_or h n d))) → count + more ≡ sum_put (take (n + 1) h)
-put_next n count more h d l e m = let next = ap sum_put (take_more h n d l) ∙ sum_put_more (take n h) (slice_index_or h n d) in omega (arith, next, e, m)
+pub put_next : (n count more : ℕ) (h : List Event) (d : Event) → n < length h → count ≡ sum_put (take n h)
+    → more ≡ sum (items_put (act_of (slice_index_or h n d))) → count + more ≡ sum_put (take (n + 1) h)
+put_next n count more h d l e m = let next = ap sum_put (take_more h n d l)
+    ∙ sum_put_more (take n h) (slice_index_or h n d) in omega (arith, next, e, m)
 
-pub taken_next : (n count more : ℕ) (h : List Event) (d : Event) → n < length h → count ≡ sum_taken (take n h) → more ≡ sum (items_taken (act_of (slice_index_or h n d))) → count + more ≡ sum_taken (take (n + 1) h)
-taken_next n count more h d l e m = let next = ap sum_taken (take_more h n d l) ∙ sum_taken_more (take n h) (slice_index_or h n d) in omega (arith, next, e, m)
+pub taken_next : (n count more : ℕ) (h : List Event) (d : Event) → n < length h → count ≡ sum_taken (take n h)
+    → more ≡ sum (items_taken (act_of (slice_index_or h n d))) → count + more ≡ sum_taken (take (n + 1) h)
+taken_next n count more h d l e m = let next = ap sum_taken (take_more h n d l)
+    ∙ sum_taken_more (take n h) (slice_index_or h n d) in omega (arith, next, e, m)
 
 pub taken_first : (n : ℕ) (h : List Event) → sum_taken (take n h) ≤ sum_taken h
 taken_first n h = subst (λ (x : List Event). sum_taken (take n h) ≤ sum_taken x) (take-append-drop n h) (taken_within (take n h) (drop n h))

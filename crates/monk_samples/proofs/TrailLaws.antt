@@ -23,7 +23,8 @@ use Rattle.monk_world.specs.StepTable.{out_event}
 use Rattle.monk_world.specs.declared.home.Home.{Home}
 use Rattle.monk_world.specs.declared.source.Source.{Source}
 use Rattle.monk_world.specs.declared.source.Source.TheVariants.{Free, Granted, Called}
-use Rattle.monk_hall.specs.Calls.{HasEntered, HasReleased, HasStayed, HasDone, source_from}
+use Rattle.monk_hall.specs.Changes.{source_from}
+use Rattle.monk_hall.specs.Calls.{HasEntered, HasReleased, HasStayed, HasDone}
 use Rattle.monk_hall.specs.Floors.{StartsWith}
 use Rattle.monk_hall.specs.Tokens.{Token, Holder}
 use Rattle.monk_samples.specs.Trails.{Trail, Went, HasCalled, HasActed, call_in, calls_in, inside, outside}
@@ -109,30 +110,50 @@ module _ (k : Rules) (o : Object) where
   }
 
   -- a release is its call
-  pub released : (a : Holder) (call : Event) (wish : Pick) (to : Home) (peeks : ℕ) (p : Token) → HasReleased k o a call wish to peeks p → HasCalled (inside a) (outside p) (call_in call ++ [])
+  pub released : (a : Holder) (call : Event) (wish : Pick) (to : Home) (peeks : ℕ) (p : Token)
+      → HasReleased k o a call wish to peeks p → HasCalled (inside a) (outside p) (call_in call ++ [])
   released a call wish to peeks p r = record {
     own = with_next r.choice call ∷ [];
     went = record { hall = r.hall; seat = r.seat; setting = r.setting; seen = (with_next r.choice call ∷ [], r.seen); mine = r.mine };
     called = next_calls r.choice call;
   }
 
-  pub stayed : (a : Holder) (call : Event) (wish : Pick) (peeks : ℕ) (b : Holder) → HasStayed k o a call wish peeks b → HasCalled (inside a) (inside b) (call_in call ++ [])
+  pub stayed : (a : Holder) (call : Event) (wish : Pick) (peeks : ℕ) (b : Holder) → HasStayed k o a call wish peeks b
+      → HasCalled (inside a) (inside b) (call_in call ++ [])
   stayed a call wish peeks b s = let own = with_next Stay call ∷ [] in record {
     own = own;
-    went = record { hall = ap (λ h. h.hall) s.is; seat = ap (λ h. h.me.seat) s.is; setting = ap (λ h. h.me.setting) s.is; seen = (own, ap (λ h. h.floor.history) s.is); mine = ap (λ h. h.me.mine) s.is };
+    went = record {
+      hall = ap (λ h. h.hall) s.is;
+      seat = ap (λ h. h.me.seat) s.is;
+      setting =
+          ap (λ h. h.me.setting) s.is;
+      seen = (own, ap (λ h. h.floor.history) s.is);
+      mine = ap (λ h. h.me.mine) s.is;
+    };
     called = next_calls Stay call;
   }
 
   -- an operation is one act, with the object's reply
-  pub did : (a : Holder) (s : ℕ) (op : Op) (r : ℕ) (b : Holder) → HasDone k o a (Act s op r) b → HasActed (inside a) (inside b) (record { op = op; reply = r } ∷ [])
+  pub did : (a : Holder) (s : ℕ) (op : Op) (r : ℕ) (b : Holder) → HasDone k o a (Act s op r) b
+      → HasActed (inside a) (inside b) (record { op = op; reply = r } ∷ [])
   did a s op r b d = record {
     own = Act s op r ∷ [];
-    went = record { hall = ap (λ h. h.hall) d.is; seat = ap (λ h. h.me.seat) d.is; setting = ap (λ h. h.me.setting) d.is; seen = (Act s op r ∷ [], ap (λ h. h.floor.history) d.is); mine = ap (λ h. h.me.mine) d.is };
+    went = record {
+      hall = ap (λ h. h.hall) d.is;
+      seat = ap (λ h. h.me.seat) d.is;
+      setting =
+          ap (λ h. h.me.setting) d.is;
+      seen = (Act s op r ∷ [], ap (λ h. h.floor.history) d.is);
+      mine =
+          ap (λ h. h.me.mine) d.is;
+    };
     acted = refl;
   }
 
-  pub replied : (a : Holder) (s : ℕ) (op : Op) (r : ℕ) (b : Holder) → HasDone k o a (Act s op r) b → r ≡ o.reply (data_of (monitor_of k o a.floor) a.floor.history) op
+  pub replied : (a : Holder) (s : ℕ) (op : Op) (r : ℕ) (b : Holder) → HasDone k o a (Act s op r) b
+      → r ≡ o.reply (data_of (monitor_of k o a.floor) a.floor.history) op
   replied a s op r b d =
       let m = monitor_of k o a.floor in
-      let legal : IsLegal m (a.floor.history ++ Act s op r ∷ []) = subst (λ (h : Holder). IsLegal (monitor_of k o h.floor) h.floor.history) d.is d.legal in
+      let legal : IsLegal m (a.floor.history ++ Act s op r ∷ []) =
+      subst (λ (h : Holder). IsLegal (monitor_of k o h.floor) h.floor.history) d.is d.legal in
       eqb-true r (o.reply (data_of m a.floor.history) op) ((legal_last m a.floor.history (Act s op r) legal).right_reply)

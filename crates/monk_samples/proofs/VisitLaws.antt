@@ -1,5 +1,6 @@
 -- What a visit of a member comes to
-use Rattle.std.proofs.Common.{◌≡◌, ℕ, zero, suc, ◌+◌, Bool, true, false, cond, List, [], ◌∷◌, ◌++◌, length, take, append-nil, zero-add, refl, sym, ap, subst, ◌∙◌, arith}
+use Rattle.std.proofs.Common.{◌≡◌, ℕ, zero, suc, ◌+◌, Bool, true, false, cond, List, [], ◌∷◌, ◌++◌, length, take}
+use Rattle.std.proofs.Common.{append-nil, zero-add, refl, sym, ap, subst, ◌∙◌, arith}
 use Rattle.monk_kinds.specs.declared.mode.Pick.{Pick}
 use Rattle.monk_kinds.specs.declared.mode.Rules.{Rules}
 use Rattle.monk_object.specs.Object.{Object}
@@ -21,7 +22,9 @@ use Rattle.monk_samples.specs.declared.end.End.TheVariants.{Done, Tired, Late}
 use Rattle.monk_samples.proofs.TrailLaws.{acted_then, acted_by, released}
 
 -- a way out does no operation
-out_acts : (b d : Bool) (s c : ℕ) → acts_in (cond b (Signal s c Stay ∷ Leave s Stay ∷ []) (cond d (SignalLeave s c Stay ∷ []) (Leave s Stay ∷ []))) ≡ []
+out_acts : (b d : Bool) (s c : ℕ)
+    → acts_in (cond b (Signal s c Stay ∷ Leave s Stay ∷ []) (cond d (SignalLeave s c Stay ∷ []) (Leave s Stay ∷ [])))
+    ≡ []
 out_acts true d s c = refl
 out_acts false true s c = refl
 out_acts false false s c = refl
@@ -59,13 +62,17 @@ module _ (k : Rules) (o : Object) where
   pub then_nothing : (x y z : Trail) (acts : List Answered) → HasActed x y acts → HasActed y z [] → HasActed x z acts
   then_nothing x y z acts s t = subst (λ (xs : List Answered). HasActed x z xs) (append-nil acts) (acted_then x y z acts [] s t)
 
-  pub finished_acts : (a : Holder) (c : ℕ) (q : Token) (end : End) → HasFinished k o a (way_out k a.me.seat c) q end → HasActed (inside a) (outside q) []
+  pub finished_acts : (a : Holder) (c : ℕ) (q : Token) (end : End) → HasFinished k o a (way_out k a.me.seat c) q end
+      → HasActed (inside a) (outside q) []
   finished_acts a c q Done out =
-      subst (λ (xs : List Answered). HasActed (inside a) (outside q) xs) (out_acts (has_signaller_queue k.mode) (returns_at_once k.mode) a.me.seat c) (acted_by (inside a) (outside q) (way_out k a.me.seat c) out.called)
+      subst (λ (xs : List Answered). HasActed (inside a) (outside q) xs)
+      (out_acts (has_signaller_queue k.mode) (returns_at_once k.mode) a.me.seat c)
+      (acted_by (inside a) (outside q) (way_out k a.me.seat c) out.called)
   finished_acts a c q Tired out = acted_by (inside a) (outside q) (Leave a.me.seat Stay ∷ []) out.1.called
   finished_acts a c q Late out = absurd out
 
-  pub finished_made : (a : Holder) (calls : List Event) (q : Token) (end : End) (ts : List Duty) (acts : List Answered) → HasFinished k o a calls q end → AreActsOf ts acts → AreActsBy end ts acts
+  pub finished_made : (a : Holder) (calls : List Event) (q : Token) (end : End) (ts : List Duty) (acts : List Answered)
+      → HasFinished k o a calls q end → AreActsOf ts acts → AreActsBy end ts acts
   finished_made a calls q Done ts acts out made = made
   finished_made a calls q Tired ts acts out made = (length ts, subst (λ (us : List Duty). AreActsOf us acts) (sym (take_all ts)) made)
   finished_made a calls q Late ts acts out made = absurd out
@@ -81,7 +88,9 @@ module _ (k : Rules) (o : Object) where
   finished_told a calls q Late out = absurd out
 
   -- a visit that did its duties and went out
-  abbrev pub visited : (p : Token) (a : Holder) (c : ℕ) (q : Token) (end : End) (ts : List Duty) (acts : List Answered) → HasActed (outside p) (inside a) acts → AreActsOf ts acts → HasFinished k o a (way_out k a.me.seat c) q end → HasVisited k o p ts q end
+  abbrev pub visited : (p : Token) (a : Holder) (c : ℕ) (q : Token) (end : End) (ts : List Duty) (acts : List Answered)
+      → HasActed (outside p) (inside a) acts → AreActsOf ts acts → HasFinished k o a (way_out k a.me.seat c) q end
+      → HasVisited k o p ts q end
   visited p a c q end ts acts s made out = record {
     acts = acts;
     acted = then_nothing (outside p) (inside a) (outside q) acts s (finished_acts a c q end out);
@@ -91,10 +100,14 @@ module _ (k : Rules) (o : Object) where
   }
 
   -- a visit that did its duties and left
-  pub visited_left : (p : Token) (a : Holder) (wish : Pick) (to : Home) (peeks : ℕ) (q : Token) (ts : List Duty) (acts : List Answered) → HasActed (outside p) (inside a) acts → AreActsOf ts acts → HasReleased k o a (Leave a.me.seat Stay) wish to peeks q → HasVisited k o p ts q Done
+  pub visited_left : (p : Token) (a : Holder) (wish : Pick) (to : Home) (peeks : ℕ) (q : Token) (ts : List Duty)
+      (acts : List Answered) → HasActed (outside p) (inside a) acts → AreActsOf ts acts
+      → HasReleased k o a (Leave a.me.seat Stay) wish to peeks q → HasVisited k o p ts q Done
   visited_left p a wish to peeks q ts acts s made r = record {
     acts = acts;
-    acted = then_nothing (outside p) (inside a) (outside q) acts s (acted_by (inside a) (outside q) (Leave a.me.seat Stay ∷ []) (released k o a (Leave a.me.seat Stay) wish to peeks q r));
+    acted = then_nothing (outside p) (inside a) (outside q) acts s
+        (acted_by (inside a) (outside q) (Leave a.me.seat Stay ∷ [])
+        (released k o a (Leave a.me.seat Stay) wish to peeks q r));
     made = made;
     spent = λ e. cc;
     told = λ h. r.told;
@@ -102,7 +115,9 @@ module _ (k : Rules) (o : Object) where
 
   -- a pause does no operation
   pub paused_acted : (a : Holder) (s c p : ℕ) (b : Holder) → HasPaused a (pause_call k s c p) b → HasActed (inside a) (inside b) []
-  paused_acted a s c p b h = subst (λ (xs : List Answered). HasActed (inside a) (inside b) xs) (pause_acts (has_conditions k.mode) s c p) (acted_by (inside a) (inside b) (pause_call k s c p ∷ []) h.called)
+  paused_acted a s c p b h =
+      subst (λ (xs : List Answered). HasActed (inside a) (inside b) xs) (pause_acts (has_conditions k.mode) s c p)
+      (acted_by (inside a) (inside b) (pause_call k s c p ∷ []) h.called)
 
   -- a visit that was tired before it did anything
   abbrev pub tired_before : (p q : Token) (ts : List Duty) → HasTired k o p q → HasVisited k o p ts q Tired
@@ -110,7 +125,13 @@ module _ (k : Rules) (o : Object) where
 
   -- tired inside
   pub tired_inside : (p : Token) (a : Holder) (q : Token) → HasActed (outside p) (inside a) [] → HasLeftTired k o a q → HasTired k o p q
-  tired_inside p a q s t = record { acted = acted_then (outside p) (inside a) (outside q) [] [] s t.acted; spent = t.spent; told = λ h. t.told }
+  tired_inside p a q s t =
+      record {
+        acted = acted_then (outside p) (inside a) (outside q) [] [] s t.acted;
+        spent = t.spent;
+        told =
+            λ h. t.told;
+      }
 
   pub gave_up_tired : (a b : Holder) (q : Token) → HasActed (inside a) (inside b) [] → HasGivenUp k o b q → HasLeftTired k o a q
   gave_up_tired a b q s t = record {
@@ -119,13 +140,19 @@ module _ (k : Rules) (o : Object) where
     told = t.told;
   }
 
-  join_made : (end : End) (ts us : List Duty) (xs ys : List Answered) → AreActsOf ts xs → AreActsBy end us ys → AreActsBy end (ts ++ us) (xs ++ ys)
+  join_made : (end : End) (ts us : List Duty) (xs ys : List Answered) → AreActsOf ts xs → AreActsBy end us ys
+      → AreActsBy end (ts ++ us) (xs ++ ys)
   join_made Done ts us xs ys h m = acts_append ts us xs ys h m
-  join_made Tired ts us xs ys h m = (length ts + m.0, subst (λ (ds : List Duty). AreActsOf ds (xs ++ ys)) (sym (take_past ts us m.0 (length ts + m.0) refl)) (acts_append ts (take m.0 us) xs ys h m.1))
+  join_made Tired ts us xs ys h m = (
+    length ts + m.0,
+    subst (λ (ds : List Duty). AreActsOf ds (xs ++ ys))
+        (sym (take_past ts us m.0 (length ts + m.0) refl)) (acts_append ts (take m.0 us) xs ys h m.1),
+  )
   join_made Late ts us xs ys h m = absurd m
 
   -- two visits, the first of which was done
-  pub visited_twice : (p q r : Token) (end : End) (ts us : List Duty) → HasVisited k o p ts q Done → HasVisited k o q us r end → HasVisited k o p (ts ++ us) r end
+  pub visited_twice : (p q r : Token) (end : End) (ts us : List Duty) → HasVisited k o p ts q Done
+      → HasVisited k o q us r end → HasVisited k o p (ts ++ us) r end
   visited_twice p q r end ts us s t = record {
     acts = s.acts ++ t.acts;
     acted = acted_then (outside p) (outside q) (outside r) s.acts t.acts s.acted t.acted;
@@ -135,7 +162,16 @@ module _ (k : Rules) (o : Object) where
   }
 
   -- a visit that was not done is not followed by another
-  pub visited_once : (p q : Token) (end : End) (ts us : List Duty) → (end ≡ Done → ⊥) → HasVisited k o p ts q end → HasVisited k o p (ts ++ us) q end
+  pub visited_once : (p q : Token) (end : End) (ts us : List Duty) → (end ≡ Done → ⊥) → HasVisited k o p ts q end
+      → HasVisited k o p (ts ++ us) q end
   visited_once p q Done ts us undone s = absurd (undone refl)
-  visited_once p q Tired ts us undone s = record { acts = s.acts; acted = s.acted; made = (length s.acts, first_few ts us s.made.0 s.acts s.made.1); spent = s.spent; told = s.told }
+  visited_once p q Tired ts us undone s =
+      record {
+        acts = s.acts;
+        acted = s.acted;
+        made = (length s.acts, first_few ts us s.made.0 s.acts s.made.1);
+        spent =
+            s.spent;
+        told = s.told;
+      }
   visited_once p q Late ts us undone s = absurd s.made

@@ -38,7 +38,8 @@ abbrev pub IsInRange : ℕ → ℕ → Type 0
 IsInRange seats rounds = (2 ≤ seats) × (seats ≤ 16) × (1 ≤ rounds) × (rounds ≤ 1000)
 
 abbrev pub run_heading : KindName → Sample → ℕ → Heading
-run_heading k sample seats = record { kind = k; seats = seats; conds = conds_of (rules_named k); object = sample_object sample; size = size }
+run_heading k sample seats =
+    record { kind = k; seats = seats; conds = conds_of (rules_named k); object = sample_object sample; size = size }
 
 -- the law of the sample's object holds of the acts of the history
 abbrev pub KeepsLaw : Sample → List ℕ → List Event → Type 0
@@ -51,8 +52,8 @@ pub record IsHistoryOf (k : Rules) (sample : Sample) (seats rounds : ℕ) (h : L
   pub legal : IsLegal (monitor k seats (conds_of k) (meaning_named (sample_object sample)) (opening_named (sample_object sample) size)) h
   pub few : length h ≤ seats * budget_of seats rounds
 
--- a run has left this history, which is legal for the monitor that its header names, and not too long for an audit. The sample's law holds of it, and
--- the totals are its own
+-- a run has left this history, which is legal for the monitor that its header names, and not too long for an audit. The
+-- sample's law holds of it, and the totals are its own
 pub record IsOutcome (k : KindName) (sample : Sample) (seats : ℕ) (h : Heading) (history : List Event) (totals : List ℕ) : Type 0 where
   pub header : h ≡ run_heading k sample seats
   pub legal : IsLegal (named_monitor h) history

@@ -129,7 +129,9 @@ fn open<K: Kind, T: Guarded>(
     object: T,
     rota: Rota,
 ) -> Result<(Hall<K, T>, Vec<Pass<K, T>>), CrewFault>
-    ensures setting { IfOk result (λ r. r.0.setting ≡ setting_of (T.state object) rota.seats (conds_of K.rules) (budget_of rota.seats rota.rounds)) }
+    ensures setting { IfOk result
+        (λ r. r.0.setting ≡ setting_of (T.state object) rota.seats (conds_of K.rules)
+        (budget_of rota.seats rota.rounds)) }
     ensures passes { IfOk result (λ r. AreReady K.rules r.0 r.1.items) }
 {
     let budget = 64 + rota.rounds * (40 + 32 * u32::from(rota.seats));

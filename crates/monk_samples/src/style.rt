@@ -1,5 +1,6 @@
 ghost use Rattle.std.specs.Prelude.{◌≡◌, ◌+◌, MatchResult};
-ghost use Rattle.monk_samples.specs.Styles.{MayFinish, MayPause, Offers, HasPaused, HasGivenUp, HasFinished, has_waiting, pause_call, way_out};
+ghost use Rattle.monk_samples.specs.Styles.{MayFinish, MayPause, Offers, HasPaused, HasGivenUp, HasFinished};
+ghost use Rattle.monk_samples.specs.Styles.{has_waiting, pause_call, way_out};
 
 use crate::end::End;
 use crate::styles::{automatic, conditional, explicit};
@@ -26,7 +27,8 @@ pub trait Style: Kind {
         pred: u8,
     ) -> Result<Active<Self, T>, Pass<Self, T>>
         requires { MayPause Self.rules hall.now.id active cond T.PREDICATES pred }
-        ensures { MatchResult result (λ a. HasPaused active (pause_call Self.rules active.me.seat cond pred) a) (λ p. HasGivenUp Self.rules T.meaning active p) }
+        ensures { MatchResult result (λ a. HasPaused active (pause_call Self.rules active.me.seat cond pred) a)
+            (λ p. HasGivenUp Self.rules T.meaning active p) }
     {
         match rules_of::<Self>().mode {
             Mode::Automatic => automatic::pause(active, rt, hall, pred),

@@ -39,7 +39,10 @@ pub(crate) fn pause_until<K: Style, T: Guarded, R: Wait>(
     requires hall { active.hall ≡ hall.now.id }
     requires cond { Offers K.rules active.me.setting.conds (cond + 1) }
     requires pred { pred < T.PREDICATES }
-    ensures { MatchResult result (λ a. HasActed (inside active) (inside a) [] × (T.meaning.holds (data_of (monitor_of K.rules T.meaning a.floor) a.floor.history) pred ≡ true)) (λ q. HasLeftTired K.rules T.meaning active q) }
+    ensures { MatchResult result
+        (λ a. HasActed (inside active) (inside a) []
+        × (T.meaning.holds (data_of (monitor_of K.rules T.meaning a.floor) a.floor.history) pred ≡ true))
+        (λ q. HasLeftTired K.rules T.meaning active q) }
 {
     let mut active = active;
     while !active.holds(pred) {
@@ -59,7 +62,9 @@ pub(crate) fn act<K: Kind, T: Guarded>(
 ) -> Result<(Active<K, T>, u64), Pass<K, T>>
     requires hall { active.hall ≡ hall.now.id }
     requires code { op.code < T.CODES }
-    ensures { MatchResult result (λ r. HasActed (inside active) (inside r.0) (record { op = op; reply = r.1 } ∷ []) × (r.1 ≡ T.meaning.reply (data_of (monitor_of K.rules T.meaning active.floor) active.floor.history) op)) (λ q. HasLeftTired K.rules T.meaning active q) }
+    ensures { MatchResult result (λ r. HasActed (inside active) (inside r.0) (record { op = op; reply = r.1 } ∷ [])
+        × (r.1 ≡ T.meaning.reply (data_of (monitor_of K.rules T.meaning active.floor) active.floor.history) op))
+        (λ q. HasLeftTired K.rules T.meaning active q) }
 {
     let mut active = active;
     if active.left() < 2 {
@@ -78,7 +83,8 @@ pub(crate) fn act_now<K: Kind, T: Guarded, R: Wait>(
 ) -> Result<(Active<K, T>, u64), Pass<K, T>>
     requires hall { pass.hall ≡ hall.now.id }
     requires code { op.code < T.CODES }
-    ensures { MatchResult result (λ r. HasActed (outside pass) (inside r.0) (record { op = op; reply = r.1 } ∷ [])) (λ q. HasTired K.rules T.meaning pass q) }
+    ensures { MatchResult result (λ r. HasActed (outside pass) (inside r.0) (record { op = op; reply = r.1 } ∷ []))
+        (λ q. HasTired K.rules T.meaning pass q) }
 {
     match come_in(pass, rt, hall) {
         Ok(active) => act(active, hall, op),
@@ -97,7 +103,10 @@ fn come_in_when<K: Style, T: Guarded, R: Wait>(
     requires hall { pass.hall ≡ hall.now.id }
     requires cond { Offers K.rules pass.me.setting.conds (cond + 1) }
     requires pred { pred < T.PREDICATES }
-    ensures { MatchResult result (λ a. HasActed (outside pass) (inside a) [] × (T.meaning.holds (data_of (monitor_of K.rules T.meaning a.floor) a.floor.history) pred ≡ true)) (λ q. HasTired K.rules T.meaning pass q) }
+    ensures { MatchResult result
+        (λ a. HasActed (outside pass) (inside a) []
+        × (T.meaning.holds (data_of (monitor_of K.rules T.meaning a.floor) a.floor.history) pred ≡ true))
+        (λ q. HasTired K.rules T.meaning pass q) }
 {
     match come_in(pass, rt, hall) {
         Ok(active) => pause_until(active, rt, hall, cond, pred),
@@ -119,7 +128,8 @@ pub(crate) fn act_when<K: Style, T: Guarded, R: Wait>(
     requires pred { pred < T.PREDICATES }
     requires code { op.code < T.CODES }
     requires promise { Promises T.meaning pred op }
-    ensures { MatchResult result (λ r. HasActed (outside pass) (inside r.0) (record { op = op; reply = r.1 } ∷ []) × (0 < r.1)) (λ q. HasTired K.rules T.meaning pass q) }
+    ensures { MatchResult result (λ r. HasActed (outside pass) (inside r.0) (record { op = op; reply = r.1 } ∷ [])
+        × (0 < r.1)) (λ q. HasTired K.rules T.meaning pass q) }
 {
     match come_in_when(pass, rt, hall, cond, pred) {
         Ok(active) => act(active, hall, op),

@@ -1,5 +1,7 @@
 -- No word grows beyond the events that there are
-use Rattle.std.proofs.Common.{◌≡◌, ◌≢◌, ℕ, zero, suc, ◌+◌, ◌-◌, ◌==◌, ◌<◌, ◌≤◌, cond, Bool, true, false, List, [], ◌∷◌, ◌++◌, length, map, ⊎_elim, sym, refl, ap, ◌∙◌, subst, inl, inr, arith, eq-eqb, length-append}
+use Rattle.std.proofs.Common.{◌≡◌, ◌≢◌, ℕ, zero, suc, ◌+◌, ◌-◌, ◌==◌, ◌<◌, ◌≤◌, cond, Bool, true, false, List, [], ◌∷◌}
+use Rattle.std.proofs.Common.{◌++◌, length, map, ⊎_elim, sym, refl, ap, ◌∙◌, subst, inl, inr, arith, eq-eqb}
+use Rattle.std.proofs.Common.{length-append}
 use Rattle.std.proofs.lemmas.Bool.{cases_lt}
 use Rattle.std.proofs.lemmas.Bool.Decides.{eqb_tells}
 use Rattle.std.proofs.Math.Nat.{mul-le-mul_right}
@@ -70,12 +72,19 @@ module _ (s : State) (b : IsBounded s) where
   few_events =
       let h = s.floor.history in
       let long = length_total s.floor.seats (map seat_of h) (λ j l. sym (length-events_of h j) ∙ b.outside j l) in
-      let most = total_le s.floor.seats s.floor.budget (λ j. times j (map seat_of h)) (λ j. omega (arith, b.within j, length-events_of h j)) in
+      let most = total_le s.floor.seats s.floor.budget (λ j. times j (map seat_of h))
+      (λ j. omega (arith, b.within j, length-events_of h j)) in
       let product = mul-le-mul_right s.floor.budget b.few in
       omega (arith, long, most, product, length_seats h, b.low)
 
   pub few_drawn : s.world.drawn < 2147483648
-  few_drawn = omega (arith, few_events, b.drawn, b.few, sum_few s.floor.seats (λ j. comes_in (s.world.place j)) (λ j. comes_once (s.world.place j)))
+  few_drawn = omega (
+    arith,
+    few_events,
+    b.drawn,
+    b.few,
+    sum_few s.floor.seats (λ j. comes_in (s.world.place j)) (λ j. comes_once (s.world.place j)),
+  )
 
   pub few_calls : (j : ℕ) → s.world.count j < 1073741824
   few_calls j = omega (arith, b.counted j, b.within j, b.low, called_once (s.world.place j))
@@ -105,7 +114,8 @@ module _ (s : State) (b : IsBounded s) where
       other false h = omega arith
 
   own_more : (e : Event) → length (events_of (s.floor.history ++ e ∷ []) (seat_of e)) ≡ length (events_of s.floor.history (seat_of e)) + 1
-  own_more e = length-events_of-push s.floor.history e (seat_of e) ∙ ap (λ c. length (events_of s.floor.history (seat_of e)) + cond c 1 0) (eq-eqb (seat_of e) (seat_of e) refl)
+  own_more e = length-events_of-push s.floor.history e (seat_of e)
+      ∙ ap (λ c. length (events_of s.floor.history (seat_of e)) + cond c 1 0) (eq-eqb (seat_of e) (seat_of e) refl)
 
   pub no_less : (e : Event) (j : ℕ) → length (events_of s.floor.history j) ≤ length (events_of (s.floor.history ++ e ∷ []) j)
   no_less e j = omega (arith, length-events_of-push s.floor.history e j)
@@ -122,8 +132,10 @@ module _ (s : State) (b : IsBounded s) where
     within = λ j. elim (eqb_tells j i) [
       | inl h ↦
           let own : length (events_of (s.floor.history ++ e ∷ []) j) ≡ length (events_of s.floor.history j) + 1 =
-          subst (λ (m : ℕ). length (events_of (s.floor.history ++ e ∷ []) m) ≡ length (events_of s.floor.history m) + 1) (seat ∙ sym h.1) (own_more e) in
-          let same : length (events_of s.floor.history j) ≡ length (events_of s.floor.history i) = ap (λ (m : ℕ). length (events_of s.floor.history m)) h.1 in
+          subst (λ (m : ℕ). length (events_of (s.floor.history ++ e ∷ []) m) ≡ length (events_of s.floor.history m) + 1)
+          (seat ∙ sym h.1) (own_more e) in
+          let same : length (events_of s.floor.history j) ≡ length (events_of s.floor.history i) =
+          ap (λ (m : ℕ). length (events_of s.floor.history m)) h.1 in
           omega (arith, own, same, left)
       | inr h ↦ omega (arith, b.within j, one_more e j (λ z. h.1 (z ∙ seat)))
     ];
@@ -136,17 +148,24 @@ module _ (s : State) (b : IsBounded s) where
   }
 
   -- its count stays, and it was not on its way back
-  pub count_stays : (i : ℕ) (p : Place) → comes_back (s.world.place i) ≡ 0 → (j : ℕ) → s.world.count j ≤ length (events_of s.floor.history j) + comes_back (put s.world.place i p j)
-  count_stays i p none = at_put s.world.place i p (λ j y. s.world.count j ≤ length (events_of s.floor.history j) + comes_back y) (omega (arith, b.counted i, none)) (λ j _. b.counted j)
+  pub count_stays : (i : ℕ) (p : Place) → comes_back (s.world.place i) ≡ 0 → (j : ℕ)
+      → s.world.count j ≤ length (events_of s.floor.history j) + comes_back (put s.world.place i p j)
+  count_stays i p none =
+      at_put s.world.place i p (λ j y. s.world.count j ≤ length (events_of s.floor.history j) + comes_back y)
+      (omega (arith, b.counted i, none)) (λ j _. b.counted j)
 
-  pub count_grows : (i : ℕ) (p : Place) (e : Event) → seat_of e ≡ i → (j : ℕ) → s.world.count j ≤ length (events_of (s.floor.history ++ e ∷ []) j) + comes_back (put s.world.place i p j)
-  count_grows i p e seat = at_put s.world.place i p (λ j y. s.world.count j ≤ length (events_of (s.floor.history ++ e ∷ []) j) + comes_back y)
+  pub count_grows : (i : ℕ) (p : Place) (e : Event) → seat_of e ≡ i → (j : ℕ)
+      → s.world.count j ≤ length (events_of (s.floor.history ++ e ∷ []) j) + comes_back (put s.world.place i p j)
+  count_grows i p e seat =
+      at_put s.world.place i p
+      (λ j y. s.world.count j ≤ length (events_of (s.floor.history ++ e ∷ []) j) + comes_back y)
       (let own : length (events_of (s.floor.history ++ e ∷ []) i) ≡ length (events_of s.floor.history i) + 1 =
       subst (λ (m : ℕ). length (events_of (s.floor.history ++ e ∷ []) m) ≡ length (events_of s.floor.history m) + 1) seat (own_more e) in
       omega (arith, b.counted i, own, called_once (s.world.place i)))
       (λ j _. omega (arith, b.counted j, no_less e j))
 
   -- it counts a call, and is on its way back
-  pub count_looks : (i c : ℕ) (p : Place) → c ≤ length (events_of s.floor.history i) + comes_back p → (j : ℕ) → put s.world.count i c j ≤ length (events_of s.floor.history j) + comes_back (put s.world.place i p j)
+  pub count_looks : (i c : ℕ) (p : Place) → c ≤ length (events_of s.floor.history i) + comes_back p → (j : ℕ)
+      → put s.world.count i c j ≤ length (events_of s.floor.history j) + comes_back (put s.world.place i p j)
   count_looks i c p most = at_put s.world.place i p (λ j y. put s.world.count i c j ≤ length (events_of s.floor.history j) + comes_back y)
       (omega (arith, put_here s.world.count i c, most)) (λ j ne. omega (arith, put_else s.world.count i c j ne, b.counted j))

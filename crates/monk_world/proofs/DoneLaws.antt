@@ -21,8 +21,12 @@ use Rattle.monk_world.specs.Put.{put}
 use Rattle.monk_world.specs.Right.{Whereabouts}
 use Rattle.monk_world.specs.Sound.{IsSound, left_at}
 use Rattle.monk_world.specs.State.{State, with_event}
-use Rattle.monk_world.specs.Steps.{place_after_arrive, place_after_ticket_look, place_after_seat_look, count_after_seat_look, place_after_drop, after_arrive, after_ticket_look, after_seat_look, after_floor_out, after_floor_in, after_drop, after_ticket_grant, after_seat_grant}
-use Rattle.monk_world.specs.StepTable.{call_of, is_call_in_range, is_call_offered, may_be_told, left_for, refusal, release_next, out_event, IsDone, IsAnswered}
+use Rattle.monk_world.specs.Steps.{place_after_arrive, place_after_ticket_look, place_after_seat_look}
+use Rattle.monk_world.specs.Steps.{count_after_seat_look, place_after_drop, after_arrive, after_ticket_look}
+use Rattle.monk_world.specs.Steps.{after_seat_look, after_floor_out, after_floor_in, after_drop, after_ticket_grant}
+use Rattle.monk_world.specs.Steps.{after_seat_grant}
+use Rattle.monk_world.specs.StepTable.{call_of, is_call_in_range, is_call_offered, may_be_told, left_for, refusal}
+use Rattle.monk_world.specs.StepTable.{release_next, out_event, IsDone, IsAnswered}
 use Rattle.monk_world.specs.declared.answer.Answer.{Answer}
 use Rattle.monk_world.specs.declared.answer.Answer.TheVariants as answer
 use Rattle.monk_world.specs.declared.command.Command.{Command}
@@ -52,7 +56,9 @@ record AreTold (reach offered told tired : Bool) : Type 0 where
   rested : tired ≡ false
 
 none_applies : (reach offered told tired : Bool)
-    → cond (not reach) (Some answer.Range) (cond (not offered) (Some answer.NoCall) (cond (not told) (Some answer.NotNow) (cond tired (Some answer.Tired) None))) ≡ None
+    → cond (not reach) (Some answer.Range)
+    (cond (not offered) (Some answer.NoCall)
+    (cond (not told) (Some answer.NotNow) (cond tired (Some answer.Tired) None))) ≡ None
     → AreTold reach offered told tired
 none_applies false offered told tired e = absurd cc
 none_applies true false told tired e = absurd cc
@@ -73,7 +79,9 @@ not_less n m e = grind (arith, e)
 
 pub ready : (k : Rules) (o : Object) (s : State) (i : ℕ) (c : Command) → refusal k o s i c ≡ None → IsReady k o s i c
 ready k o s i c e =
-    let r = none_applies (nat_lt i s.floor.seats && is_call_in_range o s.floor (call_of i c)) (is_call_offered k (call_of i c)) (may_be_told (s.world.place i) c) (nat_lt (left_of s.floor.budget s.floor.history i) (left_for c)) e in
+    let r = none_applies (nat_lt i s.floor.seats && is_call_in_range o s.floor (call_of i c))
+    (is_call_offered k (call_of i c)) (may_be_told (s.world.place i) c)
+    (nat_lt (left_of s.floor.budget s.floor.history i) (left_for c)) e in
     record {
       near = ltb-true _ _ (left_conjunct (nat_lt i s.floor.seats) (is_call_in_range o s.floor (call_of i c)) r.reaches);
       range = right_conjunct (nat_lt i s.floor.seats) (is_call_in_range o s.floor (call_of i c)) r.reaches;
@@ -99,49 +107,87 @@ out_seat i (Free t) u = refl
 out_seat i (Granted t) u = refl
 out_seat i Called u = refl
 
-module _ (k : Rules) (o : Object) (s : State) (right : Whereabouts) (owner : ℕ → ℕ) (h : IsSound k o s right owner) (b : IsBounded s) (i : ℕ) (near : i < s.floor.seats) where
-  stays_bounded : (e : Event) → seat_of e ≡ i → 1 ≤ left_of s.floor.budget s.floor.history i → IsBounded (record s { floor = with_event s.floor e })
+module _ (k : Rules) (o : Object) (s : State) (right : Whereabouts) (owner : ℕ → ℕ) (h : IsSound k o s right owner)
+    (b : IsBounded s) (i : ℕ) (near : i < s.floor.seats) where
+  stays_bounded : (e : Event) → seat_of e ≡ i → 1 ≤ left_of s.floor.budget s.floor.history i
+      → IsBounded (record s { floor = with_event s.floor e })
   stays_bounded e seat left =
-      bounded_floor s b i near s.world s.known (s.world.place i) (sym (put_same s.world.place i (s.world.place i) refl)) e seat left (omega arith)
+      bounded_floor s b i near s.world s.known (s.world.place i) (sym (put_same s.world.place i (s.world.place i) refl))
+      e seat left (omega arith)
       (λ j. omega (arith, b.counted j, no_less s b e j))
 
-  released : (e : Event) → seat_of e ≡ i → 1 ≤ left_of s.floor.budget s.floor.history i → (q : Source) → s.world.place i ≡ Active q → (x : Next) (to : Home) (stay : Bool)
+  released : (e : Event) → seat_of e ≡ i → 1 ≤ left_of s.floor.budget s.floor.history i → (q : Source)
+      → s.world.place i ≡ Active q → (x : Next) (to : Home) (stay : Bool)
       → IsBounded (record s { world = cond stay s.world (after_floor_in s.world i x to); floor = with_event s.floor e })
   released e seat left q at x to true = stays_bounded e seat left
   released e seat left q at x to false =
-      bounded_floor s b i near (after_floor_in s.world i x to) s.known (Back x to) refl e seat left (omega (arith, ap comes_in at)) (count_grows s b i (Back x to) e seat)
+      bounded_floor s b i near (after_floor_in s.world i x to) s.known (Back x to) refl e seat left
+      (omega (arith, ap comes_in at)) (count_grows s b i (Back x to) e seat)
 
-  bounded_done : (c : Command) (a : Answer) (t : State) (p : Place) → s.world.place i ≡ p → left_for c ≤ left_of s.floor.budget s.floor.history i → IsDone k o s i p c a t → IsBounded t
+  bounded_done : (c : Command) (a : Answer) (t : State) (p : Place) → s.world.place i ≡ p
+      → left_for c ≤ left_of s.floor.budget s.floor.history i → IsDone k o s i p c a t → IsBounded t
   bounded_done command.Arrive a t Idle at left d =
-      subst IsBounded (sym d.1) (bounded_words s b i near (after_arrive s.world i) s.known (place_after_arrive s.world.drawn s.world.unpassed) refl
-      (omega (arith, ap comes_in at, arrives_in (s.world.unpassed == 0) s.world.drawn)) (count_stays s b i (place_after_arrive s.world.drawn s.world.unpassed) (ap comes_back at)))
+      subst IsBounded (sym d.1)
+      (bounded_words s b i near (after_arrive s.world i) s.known (place_after_arrive s.world.drawn s.world.unpassed)
+      refl
+      (omega (arith, ap comes_in at, arrives_in (s.world.unpassed == 0) s.world.drawn))
+      (count_stays s b i (place_after_arrive s.world.drawn s.world.unpassed) (ap comes_back at)))
   bounded_done command.Look a t (Ticket n) at left d =
       let found = s.world.ticket_place (n % s.floor.seats) == n + 1 in
-      subst IsBounded (sym d.1) (bounded_words s b i near (after_ticket_look s.world i n found) s.known (place_after_ticket_look n found) refl
+      subst IsBounded (sym d.1)
+      (bounded_words s b i near (after_ticket_look s.world i n found) s.known (place_after_ticket_look n found) refl
       (omega (arith, ap comes_in at, looks_in found n)) (count_stays s b i (place_after_ticket_look n found) (ap comes_back at)))
   bounded_done command.Look a t Inner at left d =
       let found = s.world.seat_place i == s.world.count i + 1 in
       subst IsBounded (sym d.1) (bounded_words s b i near (after_seat_look s.world i found) s.known (place_after_seat_look found) refl
-      (omega (arith, ap comes_in at)) (count_looks s b i (count_after_seat_look (s.world.count i) found) (place_after_seat_look found) (looks_back found (s.world.count i) (length (events_of s.floor.history i)) (omega (arith, b.counted i, ap comes_back at)))))
+      (omega (arith, ap comes_in at))
+      (count_looks s b i (count_after_seat_look (s.world.count i) found) (place_after_seat_look found)
+      (looks_back found (s.world.count i) (length (events_of s.floor.history i))
+      (omega (arith, b.counted i, ap comes_back at)))))
   bounded_done command.Out a t (Due q) at left d =
       let e = out_event i q (turn s.floor.history) in
-      subst IsBounded (sym d.1) (bounded_floor s b i near (after_floor_out s.world i q) (put s.known i false) (Active q) refl e (out_seat i q (turn s.floor.history))
-      (omega (arith, h.left i, ap left_at at)) (omega (arith, ap comes_in at)) (count_grows s b i (Active q) e (out_seat i q (turn s.floor.history))))
+      subst IsBounded (sym d.1)
+      (bounded_floor s b i near (after_floor_out s.world i q) (put s.known i false) (Active q) refl e
+      (out_seat i q (turn s.floor.history))
+      (omega (arith, h.left i, ap left_at at)) (omega (arith, ap comes_in at))
+      (count_grows s b i (Active q) e (out_seat i q (turn s.floor.history))))
   bounded_done command.Peek a t Idle at left d = subst IsBounded (sym d.1) b
-  bounded_done command.Peek a t (Active q) at left d = subst IsBounded (sym d.1) (record { few = b.few; low = b.low; within = b.within; outside = b.outside; drawn = b.drawn; counted = b.counted })
+  bounded_done command.Peek a t (Active q) at left d =
+      subst IsBounded (sym d.1)
+      (record {
+        few = b.few;
+        low = b.low;
+        within = b.within;
+        outside = b.outside;
+        drawn = b.drawn;
+        counted =
+            b.counted;
+      })
   bounded_done command.Drop a t (Back next.Entry to) at left d =
-      subst IsBounded (sym d.1) (bounded_words s b i near (after_drop s.world i to) s.known (place_after_drop s.world.drawn s.world.unpassed to) refl
+      subst IsBounded (sym d.1)
+      (bounded_words s b i near (after_drop s.world i to) s.known
+      (place_after_drop s.world.drawn s.world.unpassed to) refl
       (omega (arith, ap comes_in at)) (count_stays s b i (place_after_drop s.world.drawn s.world.unpassed to) (ap comes_back at)))
   bounded_done command.Grant a t (Back (next.Waiter j) to) at left d =
-      subst IsBounded (sym d.1) (bounded_words s b i near (after_seat_grant s.world i j to) s.known (place_of to) refl (omega (arith, ap comes_in at)) (count_stays s b i (place_of to) (ap comes_back at)))
+      subst IsBounded (sym d.1)
+      (bounded_words s b i near (after_seat_grant s.world i j to) s.known (place_of to) refl
+      (omega (arith, ap comes_in at)) (count_stays s b i (place_of to) (ap comes_back at)))
   bounded_done command.Grant a t (Back (next.Signaller j) to) at left d =
-      subst IsBounded (sym d.1) (bounded_words s b i near (after_seat_grant s.world i j to) s.known (place_of to) refl (omega (arith, ap comes_in at)) (count_stays s b i (place_of to) (ap comes_back at)))
+      subst IsBounded (sym d.1)
+      (bounded_words s b i near (after_seat_grant s.world i j to) s.known (place_of to) refl
+      (omega (arith, ap comes_in at)) (count_stays s b i (place_of to) (ap comes_back at)))
   bounded_done command.Grant a t (Back (next.Until j) to) at left d =
-      subst IsBounded (sym d.1) (bounded_words s b i near (after_seat_grant s.world i j to) s.known (place_of to) refl (omega (arith, ap comes_in at)) (count_stays s b i (place_of to) (ap comes_back at)))
+      subst IsBounded (sym d.1)
+      (bounded_words s b i near (after_seat_grant s.world i j to) s.known (place_of to) refl
+      (omega (arith, ap comes_in at)) (count_stays s b i (place_of to) (ap comes_back at)))
   bounded_done command.Grant a t (Passing n to) at left d =
-      subst IsBounded (sym d.1) (bounded_words s b i near (after_ticket_grant s.floor.seats s.world i n to) s.known (place_of to) refl (omega (arith, ap comes_in at)) (count_stays s b i (place_of to) (ap comes_back at)))
+      subst IsBounded (sym d.1)
+      (bounded_words s b i near (after_ticket_grant s.floor.seats s.world i n to) s.known (place_of to) refl
+      (omega (arith, ap comes_in at)) (count_stays s b i (place_of to) (ap comes_back at)))
   bounded_done (command.Act op) a t (Active q) at left d =
-      subst IsBounded (sym d.1) (stays_bounded (Act i op (o.reply (data_of (monitor_of k o s.floor) s.floor.history) op)) refl (omega (arith, left)))
+      subst IsBounded (sym d.1)
+      (stays_bounded (Act i op (o.reply (data_of (monitor_of k o s.floor) s.floor.history) op)) refl
+      (omega (arith, left)))
   bounded_done (command.Leave pick) a t (Active q) at left d =
       let x = release_next k o s i (Leave i next.Stay) pick in
       subst IsBounded (sym d.1) (released (Leave i x) refl (omega (arith, left)) q at x home.Idle (is_stay (Some x)))
@@ -164,9 +210,15 @@ record HasNumbers (s t : State) : Type 0 where
   conds : s.floor.conds ≡ t.floor.conds
 
 numbers_of : (s t u : State) → u.floor.seats ≡ s.floor.seats → u.floor.conds ≡ s.floor.conds → t ≡ u → HasNumbers s t
-numbers_of s t u a b e = record { seats = sym (ap (λ (v : State). v.floor.seats) e ∙ a); conds = sym (ap (λ (v : State). v.floor.conds) e ∙ b) }
+numbers_of s t u a b e =
+    record {
+      seats = sym (ap (λ (v : State). v.floor.seats) e ∙ a);
+      conds =
+          sym (ap (λ (v : State). v.floor.conds) e ∙ b);
+    }
 
-numbers_stay : (k : Rules) (o : Object) (s : State) (i : ℕ) (c : Command) (a : Answer) (t : State) (p : Place) → IsDone k o s i p c a t → HasNumbers s t
+numbers_stay : (k : Rules) (o : Object) (s : State) (i : ℕ) (c : Command) (a : Answer) (t : State) (p : Place)
+    → IsDone k o s i p c a t → HasNumbers s t
 numbers_stay k o s i command.Arrive a t Idle d = numbers_of s t _ refl refl d.1
 numbers_stay k o s i command.Look a t (Ticket n) d = numbers_of s t _ refl refl d.1
 numbers_stay k o s i command.Look a t Inner d = numbers_of s t _ refl refl d.1
@@ -187,14 +239,16 @@ numbers_stay k o s i (command.Until r pick) a t (Active q) d = numbers_of s t _ 
 numbers_stay k o s i c a t p d = absurd d
 
 -- a world that was told, with as many seats and conditions as before
-pub kept_done : (k : Rules) (o : Object) (s : State) (i : ℕ) (c : Command) (a : Answer) (t : State) (seats conds : ℕ) → IsKind k → IsKept k o seats conds s → refusal k o s i c ≡ None
+pub kept_done : (k : Rules) (o : Object) (s : State) (i : ℕ) (c : Command) (a : Answer) (t : State) (seats conds : ℕ)
+    → IsKind k → IsKept k o seats conds s → refusal k o s i c ≡ None
     → IsDone k o s i (s.world.place i) c a t → IsKept k o seats conds t
 kept_done k o s i c a t seats conds kind kept free d =
     let r = ready k o s i c free in
     let n = numbers_stay k o s i c a t (s.world.place i) d in
     record {
       sound = step_is_sound k o s i c a t kind kept.sound (subst (λ (x : Option Answer). IsAnswered k o s i c x a t) (sym free) d);
-      bounded = bounded_done k o s kept.sound.right kept.sound.owner kept.sound.is_sound kept.bounded i r.near c a t (s.world.place i) refl r.left d;
+      bounded = bounded_done k o s kept.sound.right kept.sound.owner kept.sound.is_sound kept.bounded i r.near c a t
+          (s.world.place i) refl r.left d;
       seats_are = kept.seats_are ∙ n.seats;
       conds_are = kept.conds_are ∙ n.conds;
     }

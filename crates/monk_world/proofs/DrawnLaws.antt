@@ -1,5 +1,6 @@
 -- Whoever stands with a ticket has drawn it
-use Rattle.std.proofs.Common.{◌≡◌, ℕ, ◌+◌, ◌-◌, ◌==◌, ◌⊎◌, inl, inr, true, false, cond, Bool, List, [], ◌∷◌, ◌++◌, sym, refl, ap, ◌∙◌, subst, append_assoc}
+use Rattle.std.proofs.Common.{◌≡◌, ℕ, ◌+◌, ◌-◌, ◌==◌, ◌⊎◌, inl, inr, true, false, cond, Bool, List, [], ◌∷◌, ◌++◌, sym}
+use Rattle.std.proofs.Common.{refl, ap, ◌∙◌, subst, append_assoc}
 use Rattle.std.specs.Prelude.{Some, nat_lt, ◌&&◌, if◌then◌else◌}
 use Rattle.monk_kinds.specs.declared.mode.Rules.{Rules}
 use Rattle.monk_object.specs.Object.{Object}
@@ -87,7 +88,8 @@ module _ (k : Rules) (o : Object) (s : State) (i j n : ℕ) where
   Before a = HasTicket n (s.world.place j) ⊎ HasJustDrawn i j n a
 
   -- seat i stands at p now
-  moved : (a : Answer) (t : State) (p : Place) → t.world.place ≡ put s.world.place i p → (HasTicket n p → (i ≡ j) → Before a) → HasTicket n (t.world.place j) → Before a
+  moved : (a : Answer) (t : State) (p : Place) → t.world.place ≡ put s.world.place i p
+      → (HasTicket n p → (i ≡ j) → Before a) → HasTicket n (t.world.place j) → Before a
   moved a t p is here has =
       at_put s.world.place i p (λ m y. m ≡ j → HasTicket n y → Before a) (λ e h. here h e)
       (λ m ne e h. inl (subst (λ (z : ℕ). HasTicket n (s.world.place z)) e h)) j refl (subst (λ (f : ℕ → Place). HasTicket n (f j)) is has)
@@ -97,29 +99,46 @@ module _ (k : Rules) (o : Object) (s : State) (i j n : ℕ) where
   unmoved a t is has = inl (subst (λ (w : World). HasTicket n (w.place j)) is has)
 
   -- a call that releases
-  released : (a : Answer) (t : State) (x : Next) (to : Home) → t.world ≡ (if is_stay (Some x) then s.world else after_floor_in s.world i x to) → HasTicket n (t.world.place j) → Before a
+  released : (a : Answer) (t : State) (x : Next) (to : Home)
+      → t.world ≡ (if is_stay (Some x) then s.world else after_floor_in s.world i x to) → HasTicket n (t.world.place j)
+      → Before a
   released a t x to is has = by (is_stay (Some x)) is
     where
       by : (b : Bool) → t.world ≡ cond b s.world (after_floor_in s.world i x to) → Before a
       by true e = unmoved a t e has
       by false e = moved a t (Back x to) (ap (λ (w : World). w.place) e) (λ h e. absurd h) has
 
-  done : (c : Command) (a : Answer) (t : State) (p : Place) → s.world.place i ≡ p → IsDone k o s i p c a t → HasTicket n (t.world.place j) → Before a
+  done : (c : Command) (a : Answer) (t : State) (p : Place) → s.world.place i ≡ p → IsDone k o s i p c a t
+      → HasTicket n (t.world.place j) → Before a
   done command.Arrive a t Idle at d =
       moved a t (place_after_arrive s.world.drawn s.world.unpassed) (ap (λ (u : State). u.world.place) d.1)
-      (λ h e. inr (e, (s.world.unpassed, d.0 ∙ ap (λ (m : ℕ). answer.Arrived m s.world.unpassed) (drawn_at n s.world.drawn s.world.unpassed h))))
+      (λ h e. inr (
+        e,
+        (
+          s.world.unpassed,
+          d.0
+              ∙ ap (λ (m : ℕ). answer.Arrived m s.world.unpassed) (drawn_at n s.world.drawn s.world.unpassed h),
+        ),
+      ))
   done command.Look a t (Ticket m) at d =
       moved a t (place_after_ticket_look m _) (ap (λ (u : State). u.world.place) d.1)
       (λ h e. inl (subst (λ (z : ℕ). HasTicket n (s.world.place z)) e (subst (HasTicket n) (sym at) (looked_at n m _ h))))
-  done command.Look a t Inner at d = moved a t (place_after_seat_look _) (ap (λ (u : State). u.world.place) d.1) (λ h e. absurd (no_ticket_called n _ h))
+  done command.Look a t Inner at d = moved a t (place_after_seat_look _) (ap (λ (u : State). u.world.place) d.1)
+      (λ h e. absurd (no_ticket_called n _ h))
   done command.Out a t (Due q) at d = moved a t (Active q) (ap (λ (u : State). u.world.place) d.1) (λ h e. absurd h)
   done command.Peek a t Idle at d = unmoved a t (ap (λ (u : State). u.world) d.1)
   done command.Peek a t (Active q) at d = unmoved a t (ap (λ (u : State). u.world) d.1)
-  done command.Drop a t (Back next.Entry to) at d = moved a t (place_after_drop s.world.drawn s.world.unpassed to) (ap (λ (u : State). u.world.place) d.1) (λ h e. absurd (no_ticket_dropped n _ _ to h))
-  done command.Grant a t (Back (next.Waiter m) to) at d = moved a t (place_of to) (ap (λ (u : State). u.world.place) d.1) (λ h e. absurd (no_ticket_home n to h))
-  done command.Grant a t (Back (next.Signaller m) to) at d = moved a t (place_of to) (ap (λ (u : State). u.world.place) d.1) (λ h e. absurd (no_ticket_home n to h))
-  done command.Grant a t (Back (next.Until m) to) at d = moved a t (place_of to) (ap (λ (u : State). u.world.place) d.1) (λ h e. absurd (no_ticket_home n to h))
-  done command.Grant a t (Passing m to) at d = moved a t (place_of to) (ap (λ (u : State). u.world.place) d.1) (λ h e. absurd (no_ticket_home n to h))
+  done command.Drop a t (Back next.Entry to) at d =
+      moved a t (place_after_drop s.world.drawn s.world.unpassed to) (ap (λ (u : State). u.world.place) d.1)
+      (λ h e. absurd (no_ticket_dropped n _ _ to h))
+  done command.Grant a t (Back (next.Waiter m) to) at d =
+      moved a t (place_of to) (ap (λ (u : State). u.world.place) d.1) (λ h e. absurd (no_ticket_home n to h))
+  done command.Grant a t (Back (next.Signaller m) to) at d =
+      moved a t (place_of to) (ap (λ (u : State). u.world.place) d.1) (λ h e. absurd (no_ticket_home n to h))
+  done command.Grant a t (Back (next.Until m) to) at d =
+      moved a t (place_of to) (ap (λ (u : State). u.world.place) d.1) (λ h e. absurd (no_ticket_home n to h))
+  done command.Grant a t (Passing m to) at d =
+      moved a t (place_of to) (ap (λ (u : State). u.world.place) d.1) (λ h e. absurd (no_ticket_home n to h))
   done (command.Act op) a t (Active q) at d = unmoved a t (ap (λ (u : State). u.world) d.1)
   done (command.Leave pick) a t (Active q) at d = released a t _ home.Idle (ap (λ (u : State). u.world) d.1)
   done (command.Wait c pick) a t (Active q) at d = released a t _ home.Inner (ap (λ (u : State). u.world) d.1)
@@ -131,7 +150,8 @@ module _ (k : Rules) (o : Object) (s : State) (i j n : ℕ) where
   stepped : (c : Command) (a : Answer) (t : State) → IsStep k o s i c a t → HasTicket n (t.world.place j) → Before a
   stepped c a t step has =
       let reach = nat_lt i s.floor.seats && is_call_in_range o s.floor (call_of i c) in
-      elim (refused_or_done k o s i c a t reach (is_call_offered k (call_of i c)) (may_be_told (s.world.place i) c) (nat_lt (left_of s.floor.budget s.floor.history i) (left_for c)) step) [
+      elim (refused_or_done k o s i c a t reach (is_call_offered k (call_of i c)) (may_be_told (s.world.place i) c)
+      (nat_lt (left_of s.floor.budget s.floor.history i) (left_for c)) step) [
         | inl r ↦ unmoved a t (ap (λ (u : State). u.world) r.1.2) has
         | inr d ↦ done c a t (s.world.place i) refl d has
       ]
@@ -151,7 +171,8 @@ drawn_last j n (y ∷ xs) x h = inr (drawn_last j n xs x h)
 abbrev AllDrawn : State → List Recorded → Type 0
 AllDrawn s steps = (j n : ℕ) → HasTicket n (s.world.place j) → HasDrawn j n steps
 
-drawn_in : (k : Rules) (o : Object) (s : State) (xs : List Recorded) (t : State) → IsRecorded k o s xs t → (past : List Recorded) → AllDrawn s past → AllDrawn t (past ++ xs)
+drawn_in : (k : Rules) (o : Object) (s : State) (xs : List Recorded) (t : State) → IsRecorded k o s xs t
+    → (past : List Recorded) → AllDrawn s past → AllDrawn t (past ++ xs)
 drawn_in k o s [] t r past all j n has =
     drawn_before j n past [] (all j n (subst (λ (u : State). HasTicket n (u.world.place j)) r has))
 drawn_in k o s (x ∷ xs) t r past all j n has =
@@ -160,7 +181,8 @@ drawn_in k o s (x ∷ xs) t r past all j n has =
       | inl h ↦ drawn_before m t past (x ∷ []) (all m t h)
       | inr h ↦ drawn_last m t past x h
     ] in
-    subst (λ (steps : List Recorded). HasDrawn j n steps) (append_assoc past (x ∷ []) xs) (drawn_in k o r.0 xs t r.2 (past ++ x ∷ []) more j n has)
+    subst (λ (steps : List Recorded). HasDrawn j n steps) (append_assoc past (x ∷ []) xs)
+    (drawn_in k o r.0 xs t r.2 (past ++ x ∷ []) more j n has)
 
 pub tickets_enter_in_order : TicketsEnterInOrder
 tickets_enter_in_order k o opening seats conds budget before s x t v kind r taken is =

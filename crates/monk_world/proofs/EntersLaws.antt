@@ -16,13 +16,15 @@ use Rattle.monk_world.specs.declared.source.Source.TheVariants.{Free, Granted, C
 use Rattle.monk_world.proofs.Holders.{held, holds}
 use Rattle.monk_world.proofs.PutLaws.{put_here, put_else}
 
-module _ (seats : ℕ) (s : World) (right : Whereabouts) (owner : ℕ → ℕ) (r : KeepsRight seats s right owner) (entered : ℕ) (f : FitsEnters s right entered) (i : ℕ) where
+module _ (seats : ℕ) (s : World) (right : Whereabouts) (owner : ℕ → ℕ) (r : KeepsRight seats s right owner)
+    (entered : ℕ) (f : FitsEnters s right entered) (i : ℕ) where
   -- where the right is
   entered_where : (x : Whereabouts) → right ≡ x → FitsEnters s x entered
   entered_where x is = subst (λ (y : Whereabouts). FitsEnters s y entered) is f
 
   -- where seat i has the right
-  pub entered_here : (p : Place) → s.place i ≡ p → due_stage ≤ stage p → stage p ≤ passing_stage → entered + s.unpassed ≡ s.drawn + used_at p
+  pub entered_here : (p : Place) → s.place i ≡ p → due_stage ≤ stage p → stage p ≤ passing_stage
+      → entered + s.unpassed ≡ s.drawn + used_at p
   entered_here p at low high =
       let z : stage (s.place i) ≡ stage p = ap stage at in
       subst (λ (y : Place). entered + s.unpassed ≡ s.drawn + used_at y) at (entered_where (With i) (held r i (omega arith) (omega arith)))
@@ -39,13 +41,22 @@ module _ (seats : ℕ) (s : World) (right : Whereabouts) (owner : ℕ → ℕ) (
   taken : (t n entered_new : ℕ) (p : Place) → entered_new + n ≡ t + used_at p → entered_new + n ≡ t + used_at (put s.place i p i)
   taken t n entered_new p agrees = subst (λ (y : Place). entered_new + n ≡ t + used_at y) (sym (put_here s.place i p)) agrees
 
-  pub arrives_free : s.unpassed ≡ 0 → FitsEnters (record s { drawn = s.drawn + 1; unpassed = s.unpassed + 1; place = put s.place i (Due (Free s.drawn)) }) (With i) entered
+  pub arrives_free : s.unpassed ≡ 0
+      → FitsEnters (record s {
+        drawn = s.drawn + 1;
+        unpassed = s.unpassed + 1;
+        place =
+            put s.place i (Due (Free s.drawn));
+      }) (With i) entered
   arrives_free none =
       let u : entered + s.unpassed ≡ s.drawn + 0 = entered_where Nowhere (r.holder.free.0 none) in
       taken (s.drawn + 1) (s.unpassed + 1) entered (Due (Free s.drawn)) (omega arith)
 
-  pub arrives_behind : s.place i ≡ Idle → FitsEnters (record s { drawn = s.drawn + 1; unpassed = s.unpassed + 1; place = put s.place i (Ticket s.drawn) }) right entered
-  arrives_behind idle = let same = elsewhere right (λ e. let z = ap stage idle in let a = holds r i e in let b = a.0 in omega arith) in omega arith
+  pub arrives_behind : s.place i ≡ Idle
+      → FitsEnters (record s { drawn = s.drawn + 1; unpassed = s.unpassed + 1; place = put s.place i (Ticket s.drawn) })
+      right entered
+  arrives_behind idle = let same =
+      elsewhere right (λ e. let z = ap stage idle in let a = holds r i e in let b = a.0 in omega arith) in omega arith
     where
       after : World
       after = record s { drawn = s.drawn + 1; unpassed = s.unpassed + 1; place = put s.place i (Ticket s.drawn) }
@@ -59,15 +70,19 @@ module _ (seats : ℕ) (s : World) (right : Whereabouts) (owner : ℕ → ℕ) (
   pub takes_grant : (t : ℕ) → right ≡ AtTicket t → FitsEnters (record s { place = put s.place i (Due (Granted t)) }) (With i) entered
   takes_grant t is = taken s.drawn s.unpassed entered (Due (Granted t)) (entered_where (AtTicket t) is)
 
-  pub takes_call : (count : ℕ → ℕ) → right ≡ AtSeat i → FitsEnters (record s { place = put s.place i (Due Called); count = count }) (With i) entered
+  pub takes_call : (count : ℕ → ℕ) → right ≡ AtSeat i
+      → FitsEnters (record s { place = put s.place i (Due Called); count = count }) (With i) entered
   takes_call count is = taken s.drawn s.unpassed entered (Due Called) (entered_where (AtSeat i) is)
 
   -- seat i has the right before and after its step
-  holder : (p : Place) (entered_new : ℕ) → right ≡ With i → entered_new + s.unpassed ≡ s.drawn + used_at p → FitsEnters (record s { place = put s.place i p }) right entered_new
+  holder : (p : Place) (entered_new : ℕ) → right ≡ With i → entered_new + s.unpassed ≡ s.drawn + used_at p
+      → FitsEnters (record s { place = put s.place i p }) right entered_new
   holder p entered_new mine agrees =
-      subst (λ (x : Whereabouts). FitsEnters (record s { place = put s.place i p }) x entered_new) (sym mine) (taken s.drawn s.unpassed entered_new p agrees)
+      subst (λ (x : Whereabouts). FitsEnters (record s { place = put s.place i p }) x entered_new) (sym mine)
+      (taken s.drawn s.unpassed entered_new p agrees)
 
-  pub comes_out : (q : Source) (entered_new : ℕ) → s.place i ≡ Due q → entered_new + used_by q ≡ entered + 1 → FitsEnters (after_floor_out s i q) right entered_new
+  pub comes_out : (q : Source) (entered_new : ℕ) → s.place i ≡ Due q → entered_new + used_by q ≡ entered + 1
+      → FitsEnters (after_floor_out s i q) right entered_new
   comes_out q entered_new due more =
       let z : stage (s.place i) ≡ due_stage = ap stage due in
       let u : entered + s.unpassed ≡ s.drawn + used_by q = entered_here (Due q) due (omega arith) (omega arith) in
@@ -78,7 +93,8 @@ module _ (seats : ℕ) (s : World) (right : Whereabouts) (owner : ℕ → ℕ) (
       let z : stage (s.place i) ≡ active_stage = ap stage active in
       holder (Back next home) entered (held r i (omega arith) (omega arith)) (entered_here (Active q) active (omega arith) (omega arith))
 
-  pub drops_last : (home : Home) → s.place i ≡ Back Entry home → FitsEnters (record s { unpassed = s.unpassed - 1; place = put s.place i (place_of home) }) Nowhere entered
+  pub drops_last : (home : Home) → s.place i ≡ Back Entry home
+      → FitsEnters (record s { unpassed = s.unpassed - 1; place = put s.place i (place_of home) }) Nowhere entered
   drops_last home back =
       let u : entered + s.unpassed ≡ s.drawn + 1 = entered_here (Back Entry home) back (omega arith) (omega arith) in
       let some = some_left (Back Entry home) back (omega arith) (omega arith) in
@@ -91,8 +107,10 @@ module _ (seats : ℕ) (s : World) (right : Whereabouts) (owner : ℕ → ℕ) (
       let some = some_left (Back Entry home) back (omega arith) (omega arith) in
       taken s.drawn (s.unpassed - 1) entered (Passing t home) (omega arith)
 
-  pub grants_ticket : (t : ℕ) (home : Home) → s.place i ≡ Passing t home → FitsEnters (after_ticket_grant seats s i t home) (AtTicket t) entered
+  pub grants_ticket : (t : ℕ) (home : Home) → s.place i ≡ Passing t home
+      → FitsEnters (after_ticket_grant seats s i t home) (AtTicket t) entered
   grants_ticket t home five = entered_here (Passing t home) five (omega arith) (omega arith)
 
-  pub calls_seat : (next : Next) (k : ℕ) (home : Home) → s.place i ≡ Back next home → FitsEnters (after_seat_grant s i k home) (AtSeat k) entered
+  pub calls_seat : (next : Next) (k : ℕ) (home : Home) → s.place i ≡ Back next home
+      → FitsEnters (after_seat_grant s i k home) (AtSeat k) entered
   calls_seat next k home back = entered_here (Back next home) back (omega arith) (omega arith)

@@ -51,25 +51,30 @@ called_tells (AtSeat k) j = elim (eqb_tells k j) [
   | inr h ↦ inr (λ e. h.1 cc)
 ]
 
-module _ (place : ℕ → Place) (i : ℕ) (to : Place) (none : (j : ℕ) → j ≢ i → due_stage ≤ stage (place j) → stage (place j) ≤ passing_stage → ⊥) where
+module _ (place : ℕ → Place) (i : ℕ) (to : Place) (none : (j : ℕ) → j ≢ i → due_stage ≤ stage (place j)
+    → stage (place j) ≤ passing_stage → ⊥) where
   nobody_else : (j : ℕ) → j ≢ i → HoldsRight (place j) → ⊥
   nobody_else j ne a = let b = has_right (place j) a in none j ne b.0 b.1
 
   -- after its step seat i alone has the right
   pub alone_with : HoldsRight to → (j : ℕ) → HoldsRight (put place i to j) ↔ (With i ≡ With j)
   alone_with here =
-      at_put place i to (λ j p. HoldsRight p ↔ (With i ≡ With j)) ((λ _. refl), (λ _. here)) (λ j ne. ((λ a. absurd (nobody_else j ne a)), (λ e. absurd (ne cc))))
+      at_put place i to (λ j p. HoldsRight p ↔ (With i ≡ With j)) ((λ _. refl), (λ _. here))
+      (λ j ne. ((λ a. absurd (nobody_else j ne a)), (λ e. absurd (ne cc))))
 
   -- after its step no seat has it
   pub with_none : (x : Whereabouts) → (HoldsRight to → ⊥) → ((j : ℕ) → x ≢ With j) → (j : ℕ) → HoldsRight (put place i to j) ↔ (x ≡ With j)
   with_none x here gone =
-      at_put place i to (λ j p. HoldsRight p ↔ (x ≡ With j)) ((λ a. absurd (here a)), (λ e. absurd (gone i e))) (λ j ne. ((λ a. absurd (nobody_else j ne a)), (λ e. absurd (gone j e))))
+      at_put place i to (λ j p. HoldsRight p ↔ (x ≡ With j)) ((λ a. absurd (here a)), (λ e. absurd (gone i e)))
+      (λ j ne. ((λ a. absurd (nobody_else j ne a)), (λ e. absurd (gone j e))))
 
 -- who stands between due and passing has the right, and who has the right stands there
-pub held : {seats : ℕ} {s : World} {right : Whereabouts} {owner : ℕ → ℕ} → KeepsRight seats s right owner → (j : ℕ) → due_stage ≤ stage (s.place j) → stage (s.place j) ≤ passing_stage → right ≡ With j
+pub held : {seats : ℕ} {s : World} {right : Whereabouts} {owner : ℕ → ℕ} → KeepsRight seats s right owner → (j : ℕ)
+    → due_stage ≤ stage (s.place j) → stage (s.place j) ≤ passing_stage → right ≡ With j
 held {s = s} r j low high = (r.holder.with_seat j).0 (holds_right (s.place j) low high)
 
-pub holds : {seats : ℕ} {s : World} {right : Whereabouts} {owner : ℕ → ℕ} → KeepsRight seats s right owner → (j : ℕ) → right ≡ With j → (due_stage ≤ stage (s.place j)) × (stage (s.place j) ≤ passing_stage)
+pub holds : {seats : ℕ} {s : World} {right : Whereabouts} {owner : ℕ → ℕ} → KeepsRight seats s right owner → (j : ℕ)
+    → right ≡ With j → (due_stage ≤ stage (s.place j)) × (stage (s.place j) ≤ passing_stage)
 holds {s = s} r j e = has_right (s.place j) ((r.holder.with_seat j).1 e)
 
 module _ (seats : ℕ) (s : World) (right : Whereabouts) (owner : ℕ → ℕ) (r : KeepsRight seats s right owner) (i : ℕ) where
@@ -80,5 +85,6 @@ module _ (seats : ℕ) (s : World) (right : Whereabouts) (owner : ℕ → ℕ) (
       (sym (put_else s.place i to (owner k) (λ e. other (sym (ap (λ (j : ℕ). stage (s.place j)) e) ∙ h.0)))) h
 
   -- who has the right has it alone
-  pub others : due_stage ≤ stage (s.place i) → stage (s.place i) ≤ passing_stage → (j : ℕ) → j ≢ i → due_stage ≤ stage (s.place j) → stage (s.place j) ≤ passing_stage → ⊥
+  pub others : due_stage ≤ stage (s.place i) → stage (s.place i) ≤ passing_stage → (j : ℕ) → j ≢ i
+      → due_stage ≤ stage (s.place j) → stage (s.place j) ≤ passing_stage → ⊥
   others a b j ne c d = ne (let h = held r j c d in let m = held r i a b in cc)

@@ -42,7 +42,8 @@ module _ (seats : ℕ) (s : World) (right : Whereabouts) (owner : ℕ → ℕ) (
     at_ticket = λ j t e. (
       λ found. let one : stage (s.place j) ≡ ticketed_stage = ap stage e in
           let same : ticket (s.place j) ≡ t = ap ticket e in
-          (grant_is_there seats s right owner r j one (subst (λ (k : ℕ). s.ticket_place (k % seats) ≡ k + 1) (sym same) found) some).1 ∙ ap AtTicket same,
+          (grant_is_there seats s right owner r j one
+          (subst (λ (k : ℕ). s.ticket_place (k % seats) ≡ k + 1) (sym same) found) some).1 ∙ ap AtTicket same,
       r.places.granted t,
     );
     has_taker = λ t f. taker t (r.tickets.grant t f).1;

@@ -2,7 +2,8 @@
 use Rattle.std.proofs.Common.{◌≡◌, ◌≢◌, ℕ, true, ◌+◌, ◌-◌, ◌≤◌, ◌⊎◌, sym, refl, ap, ◌∙◌, subst, inl, inr, Bool, arith}
 use Rattle.monk_history.specs.declared.event.Next.{Next}
 use Rattle.monk_history.specs.declared.event.Next.TheVariants.{Entry}
-use Rattle.monk_world.specs.Places.{stage, source, back_turn, open_turn, turn_of_next, place_of, stays_inside, is_queued_at, due_stage, active_stage, back_stage, passing_stage, free_source}
+use Rattle.monk_world.specs.Places.{stage, source, back_turn, open_turn, turn_of_next, place_of, stays_inside}
+use Rattle.monk_world.specs.Places.{is_queued_at, due_stage, active_stage, back_stage, passing_stage, free_source}
 use Rattle.monk_world.specs.Put.{put}
 use Rattle.monk_world.specs.Right.{Whereabouts, KeepsRight}
 use Rattle.monk_world.specs.Queueing.{FitsQueues}
@@ -39,7 +40,8 @@ StillFree quiet j p = stage p ≡ due_stage → source p ≡ free_source → qui
 abbrev ToEntry : Bool → ℕ → ℕ → Place → Type 0
 ToEntry quiet n j p = stage p ≡ back_stage → back_turn p ≡ open_turn → (quiet ≡ true) ⊎ (2 ≤ n)
 
-module _ (seats : ℕ) (s : World) (right : Whereabouts) (owner : ℕ → ℕ) (r : KeepsRight seats s right owner) (queued : ℕ → Bool) (quiet : Bool) (f : FitsQueues s queued quiet) (i : ℕ) where
+module _ (seats : ℕ) (s : World) (right : Whereabouts) (owner : ℕ → ℕ) (r : KeepsRight seats s right owner)
+    (queued : ℕ → Bool) (quiet : Bool) (f : FitsQueues s queued quiet) (i : ℕ) where
   stage_of : (p : Place) → s.place i ≡ p → stage (s.place i) ≡ stage p
   stage_of p at = ap stage at
 
@@ -54,17 +56,21 @@ module _ (seats : ℕ) (s : World) (right : Whereabouts) (owner : ℕ → ℕ) (
         in_queue = at_put s.place i p (InQueue queued) (λ _. queued_here Idle idle (λ e. omega arith)) (λ j _. f.in_queue j);
         free = λ e. absurd (omega arith);
         still_free = at_put s.place i p (StillFree quiet) (λ _ _. f.free none) (λ j _. f.still_free j);
-        back_to_entry = at_put s.place i p (ToEntry quiet (s.unpassed + 1)) (λ a. absurd (omega arith)) (λ j _ a e. weaker quiet s.unpassed (f.back_to_entry j a e));
+        back_to_entry = at_put s.place i p (ToEntry quiet (s.unpassed + 1)) (λ a. absurd (omega arith))
+            (λ j _ a e. weaker quiet s.unpassed (f.back_to_entry j a e));
       }
 
-  pub arrives_behind : s.place i ≡ Idle → FitsQueues (record s { drawn = s.drawn + 1; unpassed = s.unpassed + 1; place = put s.place i (Ticket s.drawn) }) queued quiet
+  pub arrives_behind : s.place i ≡ Idle
+      → FitsQueues (record s { drawn = s.drawn + 1; unpassed = s.unpassed + 1; place = put s.place i (Ticket s.drawn) })
+      queued quiet
   arrives_behind idle =
       let p : Place = Ticket s.drawn in
       record {
         in_queue = at_put s.place i p (InQueue queued) (λ _. queued_here Idle idle (λ e. omega arith)) (λ j _. f.in_queue j);
         free = λ e. absurd (omega arith);
         still_free = at_put s.place i p (StillFree quiet) (λ a. absurd (omega arith)) (λ j _. f.still_free j);
-        back_to_entry = at_put s.place i p (ToEntry quiet (s.unpassed + 1)) (λ a. absurd (omega arith)) (λ j _ a e. weaker quiet s.unpassed (f.back_to_entry j a e));
+        back_to_entry = at_put s.place i p (ToEntry quiet (s.unpassed + 1)) (λ a. absurd (omega arith))
+            (λ j _ a e. weaker quiet s.unpassed (f.back_to_entry j a e));
       }
 
   pub takes_grant : (t : ℕ) → s.place i ≡ Ticket t → FitsQueues (record s { place = put s.place i (Due (Granted t)) }) queued quiet
@@ -77,7 +83,8 @@ module _ (seats : ℕ) (s : World) (right : Whereabouts) (owner : ℕ → ℕ) (
         back_to_entry = at_put s.place i p (ToEntry quiet s.unpassed) (λ a. absurd (omega arith)) (λ j _. f.back_to_entry j);
       }
 
-  pub takes_call : (count : ℕ → ℕ) → s.place i ≡ Inner → FitsQueues (record s { place = put s.place i (Due Called); count = count }) queued quiet
+  pub takes_call : (count : ℕ → ℕ) → s.place i ≡ Inner
+      → FitsQueues (record s { place = put s.place i (Due Called); count = count }) queued quiet
   takes_call count at =
       let p : Place = Due Called in
       record {
@@ -88,16 +95,19 @@ module _ (seats : ℕ) (s : World) (right : Whereabouts) (owner : ℕ → ℕ) (
       }
 
   -- the step of seat i, which has the right
-  holder : (p : Place) (queued_new : ℕ → Bool) (quiet_new : Bool) → due_stage ≤ stage (s.place i) → stage (s.place i) ≤ passing_stage → (stage p ≡ active_stage) ⊎ (stage p ≡ back_stage)
+  holder : (p : Place) (queued_new : ℕ → Bool) (quiet_new : Bool) → due_stage ≤ stage (s.place i)
+      → stage (s.place i) ≤ passing_stage → (stage p ≡ active_stage) ⊎ (stage p ≡ back_stage)
       → ((j : ℕ) → j ≢ i → queued_new j ≡ queued j) → InQueue queued_new i p → ToEntry quiet_new s.unpassed i p
       → FitsQueues (record s { place = put s.place i p }) queued_new quiet_new
   holder p queued_new quiet_new low high next alike here entry =
-      let none : (j : ℕ) → j ≢ i → due_stage ≤ stage (s.place j) → stage (s.place j) ≤ passing_stage → ⊥ = others seats s right owner r i low high in
+      let none : (j : ℕ) → j ≢ i → due_stage ≤ stage (s.place j) → stage (s.place j) ≤ passing_stage → ⊥ =
+      others seats s right owner r i low high in
       let mine = held r i low high in
       record {
         in_queue = at_put s.place i p (InQueue queued_new) here (λ j ne a. alike j ne ∙ f.in_queue j a);
         free = λ e. absurd (let a = r.holder.free.0 e in cc);
-        still_free = at_put s.place i p (StillFree quiet_new) (λ a. absurd (later next a)) (λ j ne a. absurd (none j ne (omega arith) (omega arith)));
+        still_free = at_put s.place i p (StillFree quiet_new) (λ a. absurd (later next a))
+            (λ j ne a. absurd (none j ne (omega arith) (omega arith)));
         back_to_entry = at_put s.place i p (ToEntry quiet_new s.unpassed) entry (λ j ne a. absurd (none j ne (omega arith) (omega arith)));
       }
     where
@@ -109,13 +119,16 @@ module _ (seats : ℕ) (s : World) (right : Whereabouts) (owner : ℕ → ℕ) (
       → FitsQueues (after_floor_out s i q) queued_new quiet_new
   comes_out q queued_new quiet_new due alike =
       let two : stage (s.place i) ≡ due_stage = stage_of (Due q) due in
-      holder (Active q) queued_new quiet_new (omega arith) (omega arith) (inl refl) alike (λ ne. absurd (ne refl)) (λ a. absurd (omega arith))
+      holder (Active q) queued_new quiet_new (omega arith) (omega arith) (inl refl) alike (λ ne. absurd (ne refl))
+      (λ a. absurd (omega arith))
 
-  pub stays_active : (q : Source) (queued_new : ℕ → Bool) (quiet_new : Bool) → s.place i ≡ Active q → ((j : ℕ) → j ≢ i → queued_new j ≡ queued j)
+  pub stays_active : (q : Source) (queued_new : ℕ → Bool) (quiet_new : Bool) → s.place i ≡ Active q
+      → ((j : ℕ) → j ≢ i → queued_new j ≡ queued j)
       → FitsQueues s queued_new quiet_new
   stays_active q queued_new quiet_new active alike =
       let three : stage (s.place i) ≡ active_stage = stage_of (Active q) active in
-      let none : (j : ℕ) → j ≢ i → due_stage ≤ stage (s.place j) → stage (s.place j) ≤ passing_stage → ⊥ = others seats s right owner r i (omega arith) (omega arith) in
+      let none : (j : ℕ) → j ≢ i → due_stage ≤ stage (s.place j) → stage (s.place j) ≤ passing_stage → ⊥ =
+      others seats s right owner r i (omega arith) (omega arith) in
       let mine = held r i (omega arith) (omega arith) in
       let apart : (j : ℕ) → stage (s.place j) ≢ active_stage → j ≢ i = λ j ne e. ne (ap (λ (k : ℕ). stage (s.place k)) e ∙ three) in
       record {
@@ -125,23 +138,30 @@ module _ (seats : ℕ) (s : World) (right : Whereabouts) (owner : ℕ → ℕ) (
         back_to_entry = λ j a. absurd (none j (apart j (λ e. omega arith)) (omega arith) (omega arith));
       }
 
-  pub goes_home : (q : Source) (next : Next) (home : Home) (queued_new : ℕ → Bool) (quiet_new : Bool) → s.place i ≡ Active q → ((j : ℕ) → j ≢ i → queued_new j ≡ queued j)
-      → queued_new i ≡ stays_inside home → (turn_of_next next ≡ open_turn → (quiet_new ≡ true) ⊎ (2 ≤ s.unpassed)) → FitsQueues (after_floor_in s i next home) queued_new quiet_new
+  pub goes_home : (q : Source) (next : Next) (home : Home) (queued_new : ℕ → Bool) (quiet_new : Bool)
+      → s.place i ≡ Active q → ((j : ℕ) → j ≢ i → queued_new j ≡ queued j)
+      → queued_new i ≡ stays_inside home → (turn_of_next next ≡ open_turn → (quiet_new ≡ true) ⊎ (2 ≤ s.unpassed))
+      → FitsQueues (after_floor_in s i next home) queued_new quiet_new
   goes_home q next home queued_new quiet_new active alike own entry =
       let three : stage (s.place i) ≡ active_stage = stage_of (Active q) active in
       holder (Back next home) queued_new quiet_new (omega arith) (omega arith) (inr refl) alike (λ _. own) (λ _. entry)
 
   -- seat i gives the right away and goes home
-  given : (n : ℕ) (home : Home) → queued i ≡ stays_inside home → (n ≡ 0 → quiet ≡ true) → due_stage ≤ stage (s.place i) → stage (s.place i) ≤ passing_stage
+  given : (n : ℕ) (home : Home) → queued i ≡ stays_inside home → (n ≡ 0 → quiet ≡ true) → due_stage ≤ stage (s.place i)
+      → stage (s.place i) ≤ passing_stage
       → FitsQueues (record s { unpassed = n; place = put s.place i (place_of home) }) queued quiet
   given n home own free low high =
       let p : Place = place_of home in
-      let none : (j : ℕ) → j ≢ i → due_stage ≤ stage (s.place j) → stage (s.place j) ≤ passing_stage → ⊥ = others seats s right owner r i low high in
+      let none : (j : ℕ) → j ≢ i → due_stage ≤ stage (s.place j) → stage (s.place j) ≤ passing_stage → ⊥ =
+      others seats s right owner r i low high in
       record {
         in_queue = at_put s.place i p (InQueue queued) (λ _. own ∙ sym (home_queued home)) (λ j _. f.in_queue j);
         free = free;
-        still_free = at_put s.place i p (StillFree quiet) (λ a. absurd (at_home home 2 (omega arith) (omega arith) a)) (λ j _. f.still_free j);
-        back_to_entry = at_put s.place i p (ToEntry quiet n) (λ a. absurd (at_home home 4 (omega arith) (omega arith) a)) (λ j ne a. absurd (none j ne (omega arith) (omega arith)));
+        still_free = at_put s.place i p (StillFree quiet) (λ a. absurd (at_home home 2 (omega arith) (omega arith) a))
+            (λ j _. f.still_free j);
+        back_to_entry = at_put s.place i p (ToEntry quiet n)
+            (λ a. absurd (at_home home 4 (omega arith) (omega arith) a))
+            (λ j ne a. absurd (none j ne (omega arith) (omega arith)));
       }
 
   pub drops_last : (home : Home) → s.place i ≡ Back Entry home → s.unpassed ≡ 1
@@ -149,21 +169,24 @@ module _ (seats : ℕ) (s : World) (right : Whereabouts) (owner : ℕ → ℕ) (
   drops_last home back one =
       let four : stage (s.place i) ≡ back_stage = stage_of (Back Entry home) back in
       let entry : back_turn (s.place i) ≡ open_turn = ap back_turn back in
-      given (s.unpassed - 1) home (queued_here (Back Entry home) back (λ e. omega arith)) (λ _. sure quiet s.unpassed one (f.back_to_entry i four entry)) (omega arith) (omega arith)
+      given (s.unpassed - 1) home (queued_here (Back Entry home) back (λ e. omega arith))
+      (λ _. sure quiet s.unpassed one (f.back_to_entry i four entry)) (omega arith) (omega arith)
 
   pub drops_more : (t : ℕ) (home : Home) → s.place i ≡ Back Entry home → s.unpassed ≢ 1
       → FitsQueues (record s { unpassed = s.unpassed - 1; place = put s.place i (Passing t home) }) queued quiet
   drops_more t home back more =
       let p : Place = Passing t home in
       let four : stage (s.place i) ≡ back_stage = stage_of (Back Entry home) back in
-      let none : (j : ℕ) → j ≢ i → due_stage ≤ stage (s.place j) → stage (s.place j) ≤ passing_stage → ⊥ = others seats s right owner r i (omega arith) (omega arith) in
+      let none : (j : ℕ) → j ≢ i → due_stage ≤ stage (s.place j) → stage (s.place j) ≤ passing_stage → ⊥ =
+      others seats s right owner r i (omega arith) (omega arith) in
       let mine = held r i (omega arith) (omega arith) in
       let some : s.unpassed ≢ 0 = λ e. let a = r.holder.free.0 e in cc in
       record {
         in_queue = at_put s.place i p (InQueue queued) (λ _. queued_here (Back Entry home) back (λ e. omega arith)) (λ j _. f.in_queue j);
         free = λ e. absurd (omega arith);
         still_free = at_put s.place i p (StillFree quiet) (λ a. absurd (omega arith)) (λ j _. f.still_free j);
-        back_to_entry = at_put s.place i p (ToEntry quiet (s.unpassed - 1)) (λ a. absurd (omega arith)) (λ j ne a. absurd (none j ne (omega arith) (omega arith)));
+        back_to_entry = at_put s.place i p (ToEntry quiet (s.unpassed - 1)) (λ a. absurd (omega arith))
+            (λ j ne a. absurd (none j ne (omega arith) (omega arith)));
       }
 
   pub grants_ticket : (t : ℕ) (home : Home) → s.place i ≡ Passing t home → FitsQueues (after_ticket_grant seats s i t home) queued quiet

@@ -1,5 +1,6 @@
 -- What each step of a run adds to the history
-use Rattle.std.proofs.Common.{◌≡◌, ℕ, ◌==◌, ◌≤◌, ◌⊎◌, inl, inr, true, false, cond, Bool, List, [], ◌∷◌, ◌++◌, sym, refl, ap, ◌∙◌, subst, arith, append_assoc}
+use Rattle.std.proofs.Common.{◌≡◌, ℕ, ◌==◌, ◌≤◌, ◌⊎◌, inl, inr, true, false, cond, Bool, List, [], ◌∷◌, ◌++◌, sym, refl}
+use Rattle.std.proofs.Common.{ap, ◌∙◌, subst, arith, append_assoc}
 use Rattle.std.specs.Prelude.{map, Some, None, not, nat_lt, ◌&&◌, if◌then◌else◌}
 use Rattle.std.proofs.lemmas.List.{append-nil}
 use Rattle.std.proofs.lemmas.List.Elements.{filter-append}
@@ -21,12 +22,14 @@ use Rattle.monk_history.specs.declared.event.Via.TheVariants as via
 use Rattle.monk_history.proofs.MeaningLaws.CountLaws.{events_of-push}
 use Rattle.monk_floor.specs.View.{FloorView}
 use Rattle.monk_world.specs.Places.{stage, back_turn}
-use Rattle.monk_world.specs.Records.{Recorded, IsOwn, EntersWith, IsTaken, IsRecorded, recorded_by, recorded_command, StepsAreTaken, RunsAreRecorded}
+use Rattle.monk_world.specs.Records.{Recorded, IsOwn, EntersWith, IsTaken, IsRecorded, recorded_by, recorded_command}
+use Rattle.monk_world.specs.Records.{StepsAreTaken, RunsAreRecorded}
 use Rattle.monk_world.specs.Runs.{Told, IsRun, IsWellLed}
 use Rattle.monk_world.specs.Sound.{Sound}
 use Rattle.monk_world.specs.State.{State, with_event, is_quiet}
 use Rattle.monk_world.specs.Steps.{after_floor_in}
-use Rattle.monk_world.specs.StepTable.{call_of, is_call_in_range, is_call_offered, may_be_told, left_for, out_event, release_next, IsReleased, IsDone, IsAnswered, IsStep}
+use Rattle.monk_world.specs.StepTable.{call_of, is_call_in_range, is_call_offered, may_be_told, left_for, out_event}
+use Rattle.monk_world.specs.StepTable.{release_next, IsReleased, IsDone, IsAnswered, IsStep}
 use Rattle.monk_world.specs.Telling.{command_of}
 use Rattle.monk_world.specs.World.{World}
 use Rattle.monk_world.specs.declared.answer.Answer.{Answer}
@@ -66,8 +69,12 @@ another : (a r : Answer) → a ≡ r → lets_in r ≡ false → a ≡ answer.Ch
 another a r is differs entry = let z : false ≡ true = sym differs ∙ (ap lets_in (sym is) ∙ ap lets_in entry) in absurd cc
 
 -- a refusal, or a step
-pub refused_or_done : (k : Rules) (o : Object) (s : State) (i : ℕ) (c : Command) (a : Answer) (t : State) (in_reach offered told tired : Bool)
-    → IsAnswered k o s i c (cond (not in_reach) (Some answer.Range) (cond (not offered) (Some answer.NoCall) (cond (not told) (Some answer.NotNow) (cond tired (Some answer.Tired) None)))) a t
+pub refused_or_done : (k : Rules) (o : Object) (s : State) (i : ℕ) (c : Command) (a : Answer) (t : State)
+    (in_reach offered told tired : Bool)
+    → IsAnswered k o s i c
+    (cond (not in_reach) (Some answer.Range)
+    (cond (not offered) (Some answer.NoCall)
+    (cond (not told) (Some answer.NotNow) (cond tired (Some answer.Tired) None)))) a t
     → ((r : Answer) × ((a ≡ r) × (lets_in r ≡ false) × (t ≡ s))) ⊎ IsDone k o s i (s.world.place i) c a t
 refused_or_done k o s i c a t false offered told tired d = inl (answer.Range, (d.0, refl, d.1))
 refused_or_done k o s i c a t true false told tired d = inl (answer.NoCall, (d.0, refl, d.1))
@@ -91,7 +98,8 @@ module _ (k : Rules) (o : Object) (s : State) (kind : IsKind k) (h : Sound k o s
   well_after c a t step = let after = step_is_sound k o s i c a t kind h step in well_led k o t after.right after.owner after.is_sound
 
   -- nothing is appended
-  still : (c : Command) (a : Answer) (t : State) → IsStep k o s i c a t → (r : Answer) → a ≡ r → lets_in r ≡ false → t.floor ≡ s.floor → Outcome c a t
+  still : (c : Command) (a : Answer) (t : State) → IsStep k o s i c a t → (r : Answer) → a ≡ r → lets_in r ≡ false
+      → t.floor ≡ s.floor → Outcome c a t
   still c a t step r is differs same = (
     [],
     record {
@@ -122,19 +130,22 @@ module _ (k : Rules) (o : Object) (s : State) (kind : IsKind k) (h : Sound k o s
 
   -- the floor goes home with entry
   entry_waits : (c : Command) (a : Answer) (t : State) → IsStep k o s i c a t → (x : Next) (to : Home) → x ≡ next.Entry
-      → t.world ≡ (if is_stay (Some x) then s.world else after_floor_in s.world i x to) → (is_quiet k o t.floor ≡ true) ⊎ (2 ≤ s.world.unpassed)
+      → t.world ≡ (if is_stay (Some x) then s.world else after_floor_in s.world i x to) → (is_quiet k o t.floor ≡ true)
+      ⊎ (2 ≤ s.world.unpassed)
   entry_waits c a t step x to is world_is =
       let after = step_is_sound k o s i c a t kind h step in
       let went : t.world ≡ after_floor_in s.world i next.Entry to =
       world_is ∙ ap (λ (y : Next). if is_stay (Some y) then s.world else after_floor_in s.world i y to) is in
-      let place : t.world.place i ≡ Back next.Entry to = ap (λ (w : World). w.place i) went ∙ put_here s.world.place i (Back next.Entry to) in
+      let place : t.world.place i ≡ Back next.Entry to = ap (λ (w : World). w.place i) went
+      ∙ put_here s.world.place i (Back next.Entry to) in
       let unpassed : t.world.unpassed ≡ s.world.unpassed = ap (λ (w : World). w.unpassed) went in
       elim (after.is_sound.stands.fits_queues.back_to_entry i (ap stage place) (ap back_turn place)) [
         | inl quiet ↦ inl quiet
         | inr two ↦ inr (omega arith)
       ]
 
-  released : (c : Command) (a : Answer) (t : State) → IsStep k o s i c a t → (e : Event) (pick : Pick) (to : Home) → IsRelease e i to → IsReleased k o s i e pick to a t → Outcome c a t
+  released : (c : Command) (a : Answer) (t : State) → IsStep k o s i c a t → (e : Event) (pick : Pick) (to : Home)
+      → IsRelease e i to → IsReleased k o s i e pick to a t → Outcome c a t
   released c a t step e pick to r d =
       let x = release_next k o s i e pick in
       grew c a t step (with_next x e) (ap (λ (u : State). u.floor) d.1) (r.seat x)
@@ -142,21 +153,26 @@ module _ (k : Rules) (o : Object) (s : State) (kind : IsKind k) (h : Sound k o s
       (λ entry. let same : answer.Chose x ≡ answer.Chose next.Entry = sym d.0 ∙ entry in let is : x ≡ next.Entry = cc in
       entry_waits c a t step x to is (ap (λ (u : State). u.world) d.1))
 
-  enters_so : (q : Source) (u : Turn) → s.world.place i ≡ Due q → (v : Via) → out_event i q u ≡ Enter i v → EntersWith (s.world.place i) v (enters_of s.floor.history)
+  enters_so : (q : Source) (u : Turn) → s.world.place i ≡ Due q → (v : Via) → out_event i q u ≡ Enter i v
+      → EntersWith (s.world.place i) v (enters_of s.floor.history)
   enters_so (Free t) u at v is =
       let by : v ≡ via.Free = cc in
-      subst (λ (p : Place). EntersWith p v (enters_of s.floor.history)) (sym at) (by, sym ((well_led k o s h.right h.owner h.is_sound).enters_first i t at))
+      subst (λ (p : Place). EntersWith p v (enters_of s.floor.history)) (sym at)
+      (by, sym ((well_led k o s h.right h.owner h.is_sound).enters_first i t at))
   enters_so (Granted t) u at v is =
       let by : v ≡ via.Handed = cc in
-      subst (λ (p : Place). EntersWith p v (enters_of s.floor.history)) (sym at) (by, sym ((well_led k o s h.right h.owner h.is_sound).enters_next i t at))
+      subst (λ (p : Place). EntersWith p v (enters_of s.floor.history)) (sym at)
+      (by, sym ((well_led k o s h.right h.owner h.is_sound).enters_next i t at))
   enters_so Called u at v is = absurd cc
 
-  done : (c : Command) (a : Answer) (t : State) (p : Place) → IsStep k o s i c a t → s.world.place i ≡ p → IsDone k o s i p c a t → Outcome c a t
+  done : (c : Command) (a : Answer) (t : State) (p : Place) → IsStep k o s i c a t → s.world.place i ≡ p
+      → IsDone k o s i p c a t → Outcome c a t
   done command.Arrive a t Idle step at d = still command.Arrive a t step _ d.0 refl (ap (λ (u : State). u.floor) d.1)
   done command.Look a t (Ticket n) step at d = still command.Look a t step _ d.0 refl (ap (λ (u : State). u.floor) d.1)
   done command.Look a t Inner step at d = still command.Look a t step _ d.0 refl (ap (λ (u : State). u.floor) d.1)
   done command.Out a t (Due q) step at d =
-      grew command.Out a t step (out_event i q (turn s.floor.history)) (ap (λ (u : State). u.floor) d.1) (out_seat i q (turn s.floor.history))
+      grew command.Out a t step (out_event i q (turn s.floor.history)) (ap (λ (u : State). u.floor) d.1)
+      (out_seat i q (turn s.floor.history))
       (enters_so q (turn s.floor.history) at) (λ e. absurd (another a answer.Now d.0 refl e))
   done command.Peek a t Idle step at d = still command.Peek a t step _ d.0 refl (ap (λ (u : State). u.floor) d.1)
   done command.Peek a t (Active q) step at d = still command.Peek a t step _ d.0 refl (ap (λ (u : State). u.floor) d.1)
@@ -167,17 +183,23 @@ module _ (k : Rules) (o : Object) (s : State) (kind : IsKind k) (h : Sound k o s
   done command.Grant a t (Passing n to) step at d = still command.Grant a t step _ d.0 refl (ap (λ (u : State). u.floor) d.1)
   done (command.Act op) a t (Active q) step at d =
       grew (command.Act op) a t step _ (ap (λ (u : State). u.floor) d.1) refl (λ v is. absurd cc) (λ e. absurd (another a _ d.0 refl e))
-  done (command.Leave pick) a t (Active q) step at d = released (command.Leave pick) a t step (Leave i next.Stay) pick home.Idle (leaving i) d
-  done (command.Wait c pick) a t (Active q) step at d = released (command.Wait c pick) a t step (Wait i c next.Stay) pick home.Inner (waiting i c) d
-  done (command.Signal c pick) a t (Active q) step at d = released (command.Signal c pick) a t step (Signal i c next.Stay) pick home.Inner (signalling i c) d
-  done (command.SignalLeave c pick) a t (Active q) step at d = released (command.SignalLeave c pick) a t step (SignalLeave i c next.Stay) pick home.Idle (signal_leaving i c) d
-  done (command.Until p pick) a t (Active q) step at d = released (command.Until p pick) a t step (Until i p next.Stay) pick home.Inner (waiting_until i p) d
+  done (command.Leave pick) a t (Active q) step at d =
+      released (command.Leave pick) a t step (Leave i next.Stay) pick home.Idle (leaving i) d
+  done (command.Wait c pick) a t (Active q) step at d =
+      released (command.Wait c pick) a t step (Wait i c next.Stay) pick home.Inner (waiting i c) d
+  done (command.Signal c pick) a t (Active q) step at d =
+      released (command.Signal c pick) a t step (Signal i c next.Stay) pick home.Inner (signalling i c) d
+  done (command.SignalLeave c pick) a t (Active q) step at d =
+      released (command.SignalLeave c pick) a t step (SignalLeave i c next.Stay) pick home.Idle (signal_leaving i c) d
+  done (command.Until p pick) a t (Active q) step at d =
+      released (command.Until p pick) a t step (Until i p next.Stay) pick home.Inner (waiting_until i p) d
   done c a t p step at d = absurd d
 
   pub taken : (c : Command) (a : Answer) (t : State) → IsStep k o s i c a t → Outcome c a t
   taken c a t step =
       let reach = nat_lt i s.floor.seats && is_call_in_range o s.floor (call_of i c) in
-      elim (refused_or_done k o s i c a t reach (is_call_offered k (call_of i c)) (may_be_told (s.world.place i) c) (nat_lt (left_of s.floor.budget s.floor.history i) (left_for c)) step) [
+      elim (refused_or_done k o s i c a t reach (is_call_offered k (call_of i c)) (may_be_told (s.world.place i) c)
+      (nat_lt (left_of s.floor.budget s.floor.history i) (left_for c)) step) [
         | inl r ↦ still c a t step r.0 r.1.0 r.1.1 (ap (λ (u : State). u.floor) r.1.2)
         | inr d ↦ done c a t (s.world.place i) step refl d
       ]
@@ -195,14 +217,16 @@ none_of j = refl
 own_are : (i j : ℕ) (events : List Event) → IsOwn i events → events_of events j ≡ cond (i == j) events []
 own_are i j [] own = none_of j ∙ nothing_either_way (i == j)
 own_are i j (e ∷ []) own =
-    subst (λ (m : ℕ). events_of (e ∷ []) j ≡ cond (m == j) (e ∷ []) []) own (events_of-push [] e j ∙ ap (λ xs. xs ++ cond (seat_of e == j) (e ∷ []) []) (none_of j))
+    subst (λ (m : ℕ). events_of (e ∷ []) j ≡ cond (m == j) (e ∷ []) []) own
+    (events_of-push [] e j ∙ ap (λ xs. xs ++ cond (seat_of e == j) (e ∷ []) []) (none_of j))
 own_are i j (e ∷ f ∷ more) own = absurd own
 
 events_of-append : (past more : List Event) (j : ℕ) → events_of (past ++ more) j ≡ events_of past j ++ events_of more j
 unfolding events_of
 events_of-append past more j = filter-append (λ e. seat_of e == j) past more
 
-own_events : (k : Rules) (o : Object) (s : State) (steps : List Recorded) (t : State) → IsRecorded k o s steps t → (j : ℕ) → events_of t.floor.history j ≡ events_of s.floor.history j ++ recorded_by j steps
+own_events : (k : Rules) (o : Object) (s : State) (steps : List Recorded) (t : State) → IsRecorded k o s steps t
+    → (j : ℕ) → events_of t.floor.history j ≡ events_of s.floor.history j ++ recorded_by j steps
 own_events k o s [] t r j = ap (λ (u : State). events_of u.floor.history j) r ∙ sym (append-nil (events_of s.floor.history j))
 own_events k o s (x ∷ xs) t r j =
     let u = r.0 in
@@ -228,7 +252,8 @@ pub record IsSameMonitor (f g : FloorView) : Type 0 where
   pub conds : g.conds ≡ f.conds
   pub budget : g.budget ≡ f.budget
 
-pub same_monitor : (k : Rules) (o : Object) (s : State) (steps : List Recorded) (t : State) → IsRecorded k o s steps t → IsSameMonitor s.floor t.floor
+pub same_monitor : (k : Rules) (o : Object) (s : State) (steps : List Recorded) (t : State) → IsRecorded k o s steps t
+    → IsSameMonitor s.floor t.floor
 same_monitor k o s [] t r = record {
   opening = ap (λ (u : State). u.floor.opening) r;
   seats = ap (λ (u : State). u.floor.seats) r;

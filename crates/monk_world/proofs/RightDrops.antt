@@ -2,7 +2,8 @@
 use Rattle.std.proofs.Common.{◌≡◌, ◌≢◌, ℕ, ◌+◌, ◌-◌, ◌<◌, ◌≤◌, refl, ap, arith}
 use Rattle.monk_world.specs.Places.{stage, ticket, place_of, ticketed_stage, due_stage, back_stage, passing_stage}
 use Rattle.monk_world.specs.Put.{put}
-use Rattle.monk_world.specs.Right.{Whereabouts, Nowhere, With, KeepsRight, UsesTicket, ChoseInner, PassesNext, OwnsTicket, WasGranted, LeavesLow}
+use Rattle.monk_world.specs.Right.{Whereabouts, Nowhere, With, KeepsRight, UsesTicket, ChoseInner, PassesNext}
+use Rattle.monk_world.specs.Right.{OwnsTicket, WasGranted, LeavesLow}
 use Rattle.monk_world.specs.World.{World}
 use Rattle.monk_world.specs.declared.home.Home.{Home}
 use Rattle.monk_world.specs.declared.place.Place.{Place}
@@ -24,11 +25,13 @@ module _ (seats : ℕ) (s : World) (right : Whereabouts) (owner : ℕ → ℕ) (
   drops_last home back one =
       let to : Place = place_of home in
       let mine = held r i (omega arith) (omega arith) in
-      let none : (j : ℕ) → j ≢ i → due_stage ≤ stage (s.place j) → stage (s.place j) ≤ passing_stage → ⊥ = others seats s right owner r i (omega arith) (omega arith) in
+      let none : (j : ℕ) → j ≢ i → due_stage ≤ stage (s.place j) → stage (s.place j) ≤ passing_stage → ⊥ =
+      others seats s right owner r i (omega arith) (omega arith) in
       let five = nobody_passes back in
       let n = s.unpassed - 1 in
       let zero : n ≡ 0 = omega arith in
-      let alone : (j : ℕ) → stage (s.place j) ≡ ticketed_stage → ⊥ = λ j h. let a = r.tickets.waits j h in let b = a.0 in let c = a.1 in let d = r.tickets.granted j h (omega arith) five in cc in
+      let alone : (j : ℕ) → stage (s.place j) ≡ ticketed_stage → ⊥ = λ j h. let a = r.tickets.waits j h in let b = a.0
+      in let c = a.1 in let d = r.tickets.granted j h (omega arith) five in cc in
       record {
         holder = record {
           free = ((λ _. refl), (λ _. zero));
@@ -36,34 +39,44 @@ module _ (seats : ℕ) (s : World) (right : Whereabouts) (owner : ℕ → ℕ) (
         };
         tickets = record {
           behind = let a = r.tickets.behind in omega arith;
-          in_use = at_put s.place i to (λ _. UsesTicket s.drawn n) (λ a. absurd (at_home home due_stage (omega arith) (omega arith) a)) (λ j ne a. absurd (none j ne (omega arith) (omega arith)));
-          waits = at_put s.place i to (OwnsTicket s.drawn n owner) (λ a. absurd (at_home home ticketed_stage (omega arith) (omega arith) a)) (λ j _ a. absurd (alone j a));
+          in_use = at_put s.place i to (λ _. UsesTicket s.drawn n)
+              (λ a. absurd (at_home home due_stage (omega arith) (omega arith) a))
+              (λ j ne a. absurd (none j ne (omega arith) (omega arith)));
+          waits = at_put s.place i to (OwnsTicket s.drawn n owner)
+              (λ a. absurd (at_home home ticketed_stage (omega arith) (omega arith) a)) (λ j _ a. absurd (alone j a));
           owned = λ k a b. absurd (omega arith);
-          passing = at_put s.place i to (λ _. PassesNext s.drawn n (put s.place i to) owner) (λ a. absurd (at_home home passing_stage (omega arith) (omega arith) a)) (λ j _ a. absurd (five j a));
-          granted = at_put s.place i to (λ _. WasGranted s.drawn n Nowhere (put s.place i to)) (λ a. absurd (at_home home ticketed_stage (omega arith) (omega arith) a)) (λ j _ a. absurd (alone j a));
+          passing = at_put s.place i to (λ _. PassesNext s.drawn n (put s.place i to) owner)
+              (λ a. absurd (at_home home passing_stage (omega arith) (omega arith) a)) (λ j _ a. absurd (five j a));
+          granted = at_put s.place i to (λ _. WasGranted s.drawn n Nowhere (put s.place i to))
+              (λ a. absurd (at_home home ticketed_stage (omega arith) (omega arith) a)) (λ j _ a. absurd (alone j a));
           grant = λ t e. absurd cc;
         };
         places = record {
           granted = λ t e. absurd cc;
           low = λ p h. let a = r.places.low p h in omega arith;
-          low_passing = at_put s.place i to (λ _. LeavesLow seats s.drawn n s.ticket_place) (λ a. absurd (at_home home passing_stage (omega arith) (omega arith) a)) (λ j _ a. absurd (five j a));
+          low_passing = at_put s.place i to (λ _. LeavesLow seats s.drawn n s.ticket_place)
+              (λ a. absurd (at_home home passing_stage (omega arith) (omega arith) a)) (λ j _ a. absurd (five j a));
           low_free = λ _ p h. let a = r.places.low p h in omega arith;
         };
         calls = record {
           called = λ j e. absurd cc;
           not_called = λ j _. r.calls.not_called j (λ e. cc);
-          chose = at_put s.place i to (λ _. ChoseInner (put s.place i to)) (λ a. absurd (at_home home back_stage (omega arith) (omega arith) a)) (λ j ne a. absurd (none j ne (omega arith) (omega arith)));
+          chose = at_put s.place i to (λ _. ChoseInner (put s.place i to))
+              (λ a. absurd (at_home home back_stage (omega arith) (omega arith) a))
+              (λ j ne a. absurd (none j ne (omega arith) (omega arith)));
         };
       }
 
   pub drops_more : (home : Home) → stage (s.place i) ≡ back_stage → s.unpassed ≢ 1 → s.unpassed ≤ s.drawn
-      → KeepsRight seats (record s { unpassed = s.unpassed - 1; place = put s.place i (Passing (s.drawn - s.unpassed + 1) home) }) (With i) owner
+      → KeepsRight seats (record s
+      { unpassed = s.unpassed - 1; place = put s.place i (Passing (s.drawn - s.unpassed + 1) home) }) (With i) owner
   drops_more home back more behind =
       let T : ℕ = s.drawn - s.unpassed + 1 in
       let to : Place = Passing T home in
       let mine = held r i (omega arith) (omega arith) in
       let some : s.unpassed ≢ 0 = λ e. let a = r.holder.free.0 e in cc in
-      let none : (j : ℕ) → j ≢ i → due_stage ≤ stage (s.place j) → stage (s.place j) ≤ passing_stage → ⊥ = others seats s right owner r i (omega arith) (omega arith) in
+      let none : (j : ℕ) → j ≢ i → due_stage ≤ stage (s.place j) → stage (s.place j) ≤ passing_stage → ⊥ =
+      others seats s right owner r i (omega arith) (omega arith) in
       let five = nobody_passes back in
       let n = s.unpassed - 1 in
       let sum : T + n ≡ s.drawn = omega arith in
@@ -75,12 +88,19 @@ module _ (seats : ℕ) (s : World) (right : Whereabouts) (owner : ℕ → ℕ) (
         };
         tickets = record {
           behind = let a = r.tickets.behind in omega arith;
-          in_use = at_put s.place i to (λ _. UsesTicket s.drawn n) (λ a. absurd (omega arith)) (λ j ne a. absurd (none j ne (omega arith) (omega arith)));
+          in_use = at_put s.place i to (λ _. UsesTicket s.drawn n) (λ a. absurd (omega arith))
+              (λ j ne a. absurd (none j ne (omega arith) (omega arith)));
           waits = at_put s.place i to (OwnsTicket s.drawn n owner) (λ a. absurd (omega arith))
-              (λ j _ h. let a = r.tickets.waits j h in let b = a.1 in let ne : ticket (s.place j) + s.unpassed ≢ s.drawn = λ e. let d = r.tickets.granted j h e five in cc in (a.0, omega arith, a.2));
+              (λ j _ h. let a = r.tickets.waits j h in let b = a.1 in
+              let ne : ticket (s.place j) + s.unpassed ≢ s.drawn = λ e. let d = r.tickets.granted j h e five in cc
+              in (a.0, omega arith, a.2));
           owned = λ k a b. waiter_stays seats s right owner r i to k (λ e. omega arith) (r.tickets.owned k a (omega arith));
           passing = at_put s.place i to (λ _. PassesNext s.drawn n (put s.place i to) owner)
-              (λ _. (sum, waiter_stays seats s right owner r i to T (λ e. omega arith) (r.tickets.owned T (omega arith) (omega arith)))) (λ j _ a. absurd (five j a));
+              (λ _. (
+                sum,
+                waiter_stays seats s right owner r i to T (λ e. omega arith)
+                    (r.tickets.owned T (omega arith) (omega arith)),
+              )) (λ j _ a. absurd (five j a));
           granted = λ j h e no. absurd (no i (ap stage (put_here s.place i to)));
           grant = λ t e. absurd cc;
         };
@@ -93,6 +113,7 @@ module _ (seats : ℕ) (s : World) (right : Whereabouts) (owner : ℕ → ℕ) (
         calls = record {
           called = λ j e. absurd cc;
           not_called = λ j _. r.calls.not_called j (λ e. cc);
-          chose = at_put s.place i to (λ _. ChoseInner (put s.place i to)) (λ a. absurd (omega arith)) (λ j ne a. absurd (none j ne (omega arith) (omega arith)));
+          chose = at_put s.place i to (λ _. ChoseInner (put s.place i to)) (λ a. absurd (omega arith))
+              (λ j ne a. absurd (none j ne (omega arith) (omega arith)));
         };
       }

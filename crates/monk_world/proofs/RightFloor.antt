@@ -18,7 +18,8 @@ module _ (seats : ℕ) (s : World) (right : Whereabouts) (owner : ℕ → ℕ) (
   comes_out q two =
       let to : Place = Active q in
       let mine = held r i (omega arith) (omega arith) in
-      let none : (j : ℕ) → j ≢ i → due_stage ≤ stage (s.place j) → stage (s.place j) ≤ passing_stage → ⊥ = others seats s right owner r i (omega arith) (omega arith) in
+      let none : (j : ℕ) → j ≢ i → due_stage ≤ stage (s.place j) → stage (s.place j) ≤ passing_stage → ⊥ =
+      others seats s right owner r i (omega arith) (omega arith) in
       record {
         holder = record {
           free = r.holder.free;
@@ -26,10 +27,12 @@ module _ (seats : ℕ) (s : World) (right : Whereabouts) (owner : ℕ → ℕ) (
         };
         tickets = record {
           behind = r.tickets.behind;
-          in_use = at_put s.place i to (λ _. UsesTicket s.drawn s.unpassed) (λ a. absurd (omega arith)) (λ j ne a. absurd (none j ne (omega arith) (omega arith)));
+          in_use = at_put s.place i to (λ _. UsesTicket s.drawn s.unpassed) (λ a. absurd (omega arith))
+              (λ j ne a. absurd (none j ne (omega arith) (omega arith)));
           waits = at_put s.place i to (OwnsTicket s.drawn s.unpassed owner) (λ a. absurd (omega arith)) (λ j _. r.tickets.waits j);
           owned = λ k a b. waiter_stays seats s right owner r i to k (λ e. omega arith) (r.tickets.owned k a b);
-          passing = at_put s.place i to (λ _. PassesNext s.drawn s.unpassed (put s.place i to) owner) (λ a. absurd (omega arith)) (λ j ne a. absurd (none j ne (omega arith) (omega arith)));
+          passing = at_put s.place i to (λ _. PassesNext s.drawn s.unpassed (put s.place i to) owner)
+              (λ a. absurd (omega arith)) (λ j ne a. absurd (none j ne (omega arith) (omega arith)));
           granted = at_put s.place i to (λ _. WasGranted s.drawn s.unpassed right (put s.place i to)) (λ a. absurd (omega arith))
               (λ j _ a e no. r.tickets.granted j a e (all_back s.place i to (λ k y. stage y ≢ passing_stage) no (λ z. omega arith)));
           grant = λ t e. absurd cc;
@@ -37,23 +40,27 @@ module _ (seats : ℕ) (s : World) (right : Whereabouts) (owner : ℕ → ℕ) (
         places = record {
           granted = λ t e. absurd cc;
           low = r.places.low;
-          low_passing = at_put s.place i to (λ _. LeavesLow seats s.drawn s.unpassed s.ticket_place) (λ a. absurd (omega arith)) (λ j _. r.places.low_passing j);
+          low_passing = at_put s.place i to (λ _. LeavesLow seats s.drawn s.unpassed s.ticket_place)
+              (λ a. absurd (omega arith)) (λ j _. r.places.low_passing j);
           low_free = r.places.low_free;
         };
         calls = record {
           called = λ j e. absurd cc;
           not_called = r.calls.not_called;
-          chose = at_put s.place i to (λ _. ChoseInner (put s.place i to)) (λ a. absurd (omega arith)) (λ j ne a. absurd (none j ne (omega arith) (omega arith)));
+          chose = at_put s.place i to (λ _. ChoseInner (put s.place i to)) (λ a. absurd (omega arith))
+              (λ j ne a. absurd (none j ne (omega arith) (omega arith)));
         };
       }
 
   -- whom it has chosen is another, and parked inside
-  pub goes_home : (next : Next) (home : Home) → stage (s.place i) ≡ active_stage → ((k : ℕ) → turn_of_next next ≡ due_to k → stage (s.place k) ≡ inside_stage)
+  pub goes_home : (next : Next) (home : Home) → stage (s.place i) ≡ active_stage
+      → ((k : ℕ) → turn_of_next next ≡ due_to k → stage (s.place k) ≡ inside_stage)
       → KeepsRight seats (after_floor_in s i next home) right owner
   goes_home next home active inner =
       let to : Place = Back next home in
       let mine = held r i (omega arith) (omega arith) in
-      let none : (j : ℕ) → j ≢ i → due_stage ≤ stage (s.place j) → stage (s.place j) ≤ passing_stage → ⊥ = others seats s right owner r i (omega arith) (omega arith) in
+      let none : (j : ℕ) → j ≢ i → due_stage ≤ stage (s.place j) → stage (s.place j) ≤ passing_stage → ⊥ =
+      others seats s right owner r i (omega arith) (omega arith) in
       record {
         holder = record {
           free = r.holder.free;
@@ -61,10 +68,12 @@ module _ (seats : ℕ) (s : World) (right : Whereabouts) (owner : ℕ → ℕ) (
         };
         tickets = record {
           behind = r.tickets.behind;
-          in_use = at_put s.place i to (λ _. UsesTicket s.drawn s.unpassed) (λ a. absurd (omega arith)) (λ j ne a. absurd (none j ne (omega arith) (omega arith)));
+          in_use = at_put s.place i to (λ _. UsesTicket s.drawn s.unpassed) (λ a. absurd (omega arith))
+              (λ j ne a. absurd (none j ne (omega arith) (omega arith)));
           waits = at_put s.place i to (OwnsTicket s.drawn s.unpassed owner) (λ a. absurd (omega arith)) (λ j _. r.tickets.waits j);
           owned = λ k a b. waiter_stays seats s right owner r i to k (λ e. omega arith) (r.tickets.owned k a b);
-          passing = at_put s.place i to (λ _. PassesNext s.drawn s.unpassed (put s.place i to) owner) (λ a. absurd (omega arith)) (λ j ne a. absurd (none j ne (omega arith) (omega arith)));
+          passing = at_put s.place i to (λ _. PassesNext s.drawn s.unpassed (put s.place i to) owner)
+              (λ a. absurd (omega arith)) (λ j ne a. absurd (none j ne (omega arith) (omega arith)));
           granted = at_put s.place i to (λ _. WasGranted s.drawn s.unpassed right (put s.place i to)) (λ a. absurd (omega arith))
               (λ j _ a e no. r.tickets.granted j a e (all_back s.place i to (λ k y. stage y ≢ passing_stage) no (λ z. omega arith)));
           grant = λ t e. absurd cc;
@@ -72,7 +81,8 @@ module _ (seats : ℕ) (s : World) (right : Whereabouts) (owner : ℕ → ℕ) (
         places = record {
           granted = λ t e. absurd cc;
           low = r.places.low;
-          low_passing = at_put s.place i to (λ _. LeavesLow seats s.drawn s.unpassed s.ticket_place) (λ a. absurd (omega arith)) (λ j _. r.places.low_passing j);
+          low_passing = at_put s.place i to (λ _. LeavesLow seats s.drawn s.unpassed s.ticket_place)
+              (λ a. absurd (omega arith)) (λ j _. r.places.low_passing j);
           low_free = r.places.low_free;
         };
         calls = record {

@@ -2,7 +2,8 @@
 use Rattle.std.proofs.Common.{◌≡◌, ◌≢◌, ℕ, true, ◌+◌, ◌%◌, ◌<◌, ◌≤◌, sym, ap, ◌∙◌, subst, inl, inr, mod-lt, arith}
 use Rattle.monk_world.specs.Places.{stage, ticket, ticketed_stage, due_stage, passing_stage, inside_stage}
 use Rattle.monk_world.specs.Put.{put}
-use Rattle.monk_world.specs.Right.{Whereabouts, AtTicket, With, AtSeat, KeepsRight, IsNext, UsesTicket, ChoseInner, PassesNext, OwnsTicket, WasGranted, LeavesLow}
+use Rattle.monk_world.specs.Right.{Whereabouts, AtTicket, With, AtSeat, KeepsRight, IsNext, UsesTicket, ChoseInner}
+use Rattle.monk_world.specs.Right.{PassesNext, OwnsTicket, WasGranted, LeavesLow}
 use Rattle.monk_world.specs.Steps.{after_ticket_look, after_seat_look}
 use Rattle.monk_world.specs.World.{World}
 use Rattle.monk_world.specs.declared.place.Place.{Place}
@@ -35,7 +36,8 @@ module _ (seats : ℕ) (s : World) (right : Whereabouts) (owner : ℕ → ℕ) (
       let sum = there.0 in
       let is = there.1 in
       let nobody : (j : ℕ) → due_stage ≤ stage (s.place j) → stage (s.place j) ≤ passing_stage → ⊥ = λ j a b. let h = held r j a b in cc in
-      let other : (j : ℕ) → j ≢ i → stage (s.place j) ≡ ticketed_stage → ticket (s.place j) ≢ T = λ j ne h e. ne (sym (r.tickets.waits j h).2 ∙ ap owner e ∙ mine.2) in
+      let other : (j : ℕ) → j ≢ i → stage (s.place j) ≡ ticketed_stage → ticket (s.place j) ≢ T =
+      λ j ne h e. ne (sym (r.tickets.waits j h).2 ∙ ap owner e ∙ mine.2) in
       record {
         holder = record {
           free = ((λ e. absurd (let a = r.holder.free.0 e in cc)), (λ e. absurd cc));
@@ -43,12 +45,16 @@ module _ (seats : ℕ) (s : World) (right : Whereabouts) (owner : ℕ → ℕ) (
         };
         tickets = record {
           behind = r.tickets.behind;
-          in_use = at_put s.place i to (λ _. UsesTicket s.drawn s.unpassed) (λ _ _. sum) (λ j _ a. absurd (nobody j (omega arith) (omega arith)));
+          in_use = at_put s.place i to (λ _. UsesTicket s.drawn s.unpassed) (λ _ _. sum)
+              (λ j _ a. absurd (nobody j (omega arith) (omega arith)));
           waits = at_put s.place i to (OwnsTicket s.drawn s.unpassed owner) (λ a. absurd (omega arith)) (λ j _. r.tickets.waits j);
           owned = λ k a b. let o = r.tickets.owned k a b in let tk = o.1 in
               subst (λ (y : Place). (stage y ≡ ticketed_stage) × (ticket y ≡ k))
-              (sym (put_else s.place i to (owner k) (λ e. let c : ticket (s.place (owner k)) ≡ T = ap (λ (j : ℕ). ticket (s.place j)) e in omega arith))) o;
-          passing = at_put s.place i to (λ _. PassesNext s.drawn s.unpassed (put s.place i to) owner) (λ a. absurd (omega arith)) (λ j _ a. absurd (nobody j (omega arith) (omega arith)));
+              (sym (put_else s.place i to (owner k)
+              (λ e. let c : ticket (s.place (owner k)) ≡ T = ap (λ (j : ℕ). ticket (s.place j)) e in omega arith)))
+              o;
+          passing = at_put s.place i to (λ _. PassesNext s.drawn s.unpassed (put s.place i to) owner)
+              (λ a. absurd (omega arith)) (λ j _ a. absurd (nobody j (omega arith) (omega arith)));
           granted = at_put s.place i to (λ _. WasGranted s.drawn s.unpassed (With i) (put s.place i to)) (λ a. absurd (omega arith))
               (λ j ne h e. absurd (other j ne h (omega arith)));
           grant = λ t e. absurd cc;
@@ -56,13 +62,15 @@ module _ (seats : ℕ) (s : World) (right : Whereabouts) (owner : ℕ → ℕ) (
         places = record {
           granted = λ t e. absurd cc;
           low = r.places.low;
-          low_passing = at_put s.place i to (λ _. LeavesLow seats s.drawn s.unpassed s.ticket_place) (λ a. absurd (omega arith)) (λ j _. r.places.low_passing j);
+          low_passing = at_put s.place i to (λ _. LeavesLow seats s.drawn s.unpassed s.ticket_place)
+              (λ a. absurd (omega arith)) (λ j _. r.places.low_passing j);
           low_free = r.places.low_free;
         };
         calls = record {
           called = λ j e. absurd cc;
           not_called = λ j _. r.calls.not_called j (λ e. absurd cc);
-          chose = at_put s.place i to (λ _. ChoseInner (put s.place i to)) (λ a. absurd (omega arith)) (λ j _ a. absurd (nobody j (omega arith) (omega arith)));
+          chose = at_put s.place i to (λ _. ChoseInner (put s.place i to)) (λ a. absurd (omega arith))
+              (λ j _ a. absurd (nobody j (omega arith) (omega arith)));
         };
       }
 
@@ -74,7 +82,8 @@ module _ (seats : ℕ) (s : World) (right : Whereabouts) (owner : ℕ → ℕ) (
   ]
 
   -- it finds that it was called
-  pub finds_call : stage (s.place i) ≡ inside_stage → s.seat_place i ≡ s.count i + 1 → KeepsRight seats (after_seat_look s i true) (With i) owner
+  pub finds_call : stage (s.place i) ≡ inside_stage → s.seat_place i ≡ s.count i + 1
+      → KeepsRight seats (after_seat_look s i true) (With i) owner
   finds_call six found =
       let to : Place = Due Called in
       let is : right ≡ AtSeat i = call_is_there found in
@@ -86,23 +95,30 @@ module _ (seats : ℕ) (s : World) (right : Whereabouts) (owner : ℕ → ℕ) (
         };
         tickets = record {
           behind = r.tickets.behind;
-          in_use = at_put s.place i to (λ _. UsesTicket s.drawn s.unpassed) (λ _ b. absurd (omega arith)) (λ j _ a. absurd (nobody j (omega arith) (omega arith)));
+          in_use = at_put s.place i to (λ _. UsesTicket s.drawn s.unpassed) (λ _ b. absurd (omega arith))
+              (λ j _ a. absurd (nobody j (omega arith) (omega arith)));
           waits = at_put s.place i to (OwnsTicket s.drawn s.unpassed owner) (λ a. absurd (omega arith)) (λ j _. r.tickets.waits j);
           owned = λ k a b. waiter_stays seats s right owner r i to k (λ e. omega arith) (r.tickets.owned k a b);
-          passing = at_put s.place i to (λ _. PassesNext s.drawn s.unpassed (put s.place i to) owner) (λ a. absurd (omega arith)) (λ j _ a. absurd (nobody j (omega arith) (omega arith)));
+          passing = at_put s.place i to (λ _. PassesNext s.drawn s.unpassed (put s.place i to) owner)
+              (λ a. absurd (omega arith)) (λ j _ a. absurd (nobody j (omega arith) (omega arith)));
           granted = at_put s.place i to (λ _. WasGranted s.drawn s.unpassed (With i) (put s.place i to)) (λ a. absurd (omega arith))
-              (λ j _ a e none. absurd (let g = r.tickets.granted j a e (all_back s.place i to (λ k y. stage y ≢ passing_stage) none (λ z. omega arith)) in cc));
+              (λ j _ a e none. absurd
+              (let g = r.tickets.granted j a e
+              (all_back s.place i to (λ k y. stage y ≢ passing_stage) none (λ z. omega arith)) in cc));
           grant = λ t e. absurd cc;
         };
         places = record {
           granted = λ t e. absurd cc;
           low = r.places.low;
-          low_passing = at_put s.place i to (λ _. LeavesLow seats s.drawn s.unpassed s.ticket_place) (λ a. absurd (omega arith)) (λ j _. r.places.low_passing j);
+          low_passing = at_put s.place i to (λ _. LeavesLow seats s.drawn s.unpassed s.ticket_place)
+              (λ a. absurd (omega arith)) (λ j _. r.places.low_passing j);
           low_free = r.places.low_free;
         };
         calls = record {
           called = λ j e. absurd cc;
-          not_called = at_put s.count i (s.count i + 1) (λ j c. With i ≢ AtSeat j → s.seat_place j ≡ c) (λ _. found) (λ j ne _. r.calls.not_called j (λ e. ne cc));
-          chose = at_put s.place i to (λ _. ChoseInner (put s.place i to)) (λ a. absurd (omega arith)) (λ j _ a. absurd (nobody j (omega arith) (omega arith)));
+          not_called = at_put s.count i (s.count i + 1) (λ j c. With i ≢ AtSeat j → s.seat_place j ≡ c) (λ _. found)
+              (λ j ne _. r.calls.not_called j (λ e. ne cc));
+          chose = at_put s.place i to (λ _. ChoseInner (put s.place i to)) (λ a. absurd (omega arith))
+              (λ j _ a. absurd (nobody j (omega arith) (omega arith)));
         };
       }

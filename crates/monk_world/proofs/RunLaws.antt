@@ -41,12 +41,14 @@ no_times zero j = refl
 no_times (suc n) j = let e = no_times n j in omega arith
 
 -- with no event there is no queue, and the turn is open
-opening_holds : (k : Rules) (o : Object) (f : FloorView) → f.history ≡ [] → Stands f.seats opening_world Nowhere (λ t. 0) (turn_number (turn f.history)) (is_standing k o f) (is_quiet k o f)
+opening_holds : (k : Rules) (o : Object) (f : FloorView) → f.history ≡ []
+    → Stands f.seats opening_world Nowhere (λ t. 0) (turn_number (turn f.history)) (is_standing k o f) (is_quiet k o f)
 opening_holds k o f e =
     let m = monitor_of k o f in
     let nothing : situation m f.history ≡ opening_situation m = ap (situation m) e ∙ situation-none m in
     let open_turn_is : turn f.history ≡ Open = ap (λ (t : Situation). t.turn) nothing in
-    let stands_nowhere : (j : ℕ) → standing m.conds j (situation m f.history) ≡ 0 = λ j. ap (standing m.conds j) nothing ∙ (let z = no_times m.conds j in omega arith) in
+    let stands_nowhere : (j : ℕ) → standing m.conds j (situation m f.history) ≡ 0 = λ j. ap (standing m.conds j) nothing
+    ∙ (let z = no_times m.conds j in omega arith) in
     let quiet : is_quiet k o f ≡ true = is_quiet-true k o f (record {
       waiters = ap (λ (t : Situation). t.waiters) nothing;
       signallers = ap (λ (t : Situation). t.signallers) nothing;
@@ -55,7 +57,8 @@ opening_holds k o f e =
     let nobody : (λ (j : ℕ). false) ≡ is_standing k o f = λ i j. sym (ap (λ (n : ℕ). nat_lt 0 n) (stands_nowhere j)) i in
     subst (λ (q : Bool). Stands f.seats opening_world Nowhere (λ t. 0) (turn_number (turn f.history)) (is_standing k o f) q) (sym quiet)
     (subst (λ (b : ℕ → Bool). Stands f.seats opening_world Nowhere (λ t. 0) (turn_number (turn f.history)) b true) nobody
-    (subst (λ (u : Turn). Stands f.seats opening_world Nowhere (λ t. 0) (turn_number u) (λ j. false) true) (sym open_turn_is) (opening_stands f.seats)))
+    (subst (λ (u : Turn). Stands f.seats opening_world Nowhere (λ t. 0) (turn_number u) (λ j. false) true)
+    (sym open_turn_is) (opening_stands f.seats)))
 
 pub opening_is_sound : OpeningIsSound
 opening_is_sound k o opening seats conds budget = record {
@@ -74,7 +77,8 @@ opening_is_sound k o opening seats conds budget = record {
   };
 }
 
-pub run_is_sound : (k : Rules) (o : Object) (s : State) (told : List Told) (t : State) → IsKind k → Sound k o s → IsRun k o s told t → Sound k o t
+pub run_is_sound : (k : Rules) (o : Object) (s : State) (told : List Told) (t : State) → IsKind k → Sound k o s
+    → IsRun k o s told t → Sound k o t
 run_is_sound k o s [] t kind h run = subst (Sound k o) (sym run) h
 run_is_sound k o s (x ∷ xs) t kind h run =
     run_is_sound k o run.0 xs t kind (step_is_sound k o s x.seat x.command x.answer run.0 kind h run.1) run.2
@@ -121,18 +125,21 @@ module _ (k : Rules) (o : Object) (s : State) (right : Whereabouts) (owner : ℕ
       by Nowhere f = absurd (let n = number in omega arith)
       by (AtTicket t) f = absurd (let n = number in omega arith)
       by (With m) f = elim (cases_eq (stage (s.world.place m)) active_stage) [
-        | inl three ↦ let same : m ≡ j = ap owner_of (sym (h.active m three) ∙ own) in subst (λ (i : ℕ). stage (s.world.place i) ≡ active_stage) same three
+        | inl three ↦ let same : m ≡ j = ap owner_of (sym (h.active m three) ∙ own) in
+            subst (λ (i : ℕ). stage (s.world.place i) ≡ active_stage) same three
         | inr ne ↦ absurd (not_owned m j (s.world.place m) (sym (f ne) ∙ number))
       ]
       by (AtSeat m) f = absurd (let n = number in omega arith)
 
-  entered_is : (j t : ℕ) (p : Place) → s.world.place j ≡ p → stage p ≡ due_stage → ticket p ≡ t → used_at p ≡ 0 → source p ≤ granted_source → enters_of s.floor.history ≡ t
+  entered_is : (j t : ℕ) (p : Place) → s.world.place j ≡ p → stage p ≡ due_stage → ticket p ≡ t → used_at p ≡ 0
+      → source p ≤ granted_source → enters_of s.floor.history ≡ t
   entered_is j t p at two same unused by_ticket =
       let stage_is : stage (s.world.place j) ≡ due_stage = ap stage at ∙ two in
       let source_is : source (s.world.place j) ≡ source p = ap source at in
       let ticket_is : ticket (s.world.place j) ≡ t = ap ticket at ∙ same in
       let sum = h.stands.keeps.tickets.in_use j stage_is (omega arith) in
-      let e = enters.entered_here s.floor.seats s.world right owner h.stands.keeps (enters_of s.floor.history) h.entered j p at (omega arith) (omega arith) in
+      let e = enters.entered_here s.floor.seats s.world right owner h.stands.keeps (enters_of s.floor.history) h.entered
+      j p at (omega arith) (omega arith) in
       omega arith
 
   pub well_led : IsWellLed k o s

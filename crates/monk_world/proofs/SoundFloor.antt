@@ -1,5 +1,6 @@
 -- A step with the floor, which lets the history grow by one event, keeps a state sound
-use Rattle.std.proofs.Common.{◌≡◌, ◌≢◌, ℕ, ◌+◌, ◌==◌, ◌<◌, ◌≤◌, ◌⊎◌, true, false, Bool, List, [], ◌∷◌, ◌++◌, sym, refl, ap, ◌∙◌, subst, inl, inr, arith, eq-eqb}
+use Rattle.std.proofs.Common.{◌≡◌, ◌≢◌, ℕ, ◌+◌, ◌==◌, ◌<◌, ◌≤◌, ◌⊎◌, true, false, Bool, List, [], ◌∷◌, ◌++◌, sym, refl}
+use Rattle.std.proofs.Common.{ap, ◌∙◌, subst, inl, inr, arith, eq-eqb}
 use Rattle.std.specs.Prelude.{if◌then◌else◌, not, nat_lt, Option, Some}
 use Rattle.std.proofs.lemmas.Bool.{ne_eqb}
 use Rattle.std.proofs.lemmas.Bool.Decides.{eqb_tells}
@@ -32,7 +33,9 @@ use Rattle.monk_history.proofs.MeaningLaws.QuietLaws.{quiet_after}
 use Rattle.monk_history.proofs.MeaningLaws.StandingLaws.{legal_placed}
 use Rattle.monk_floor.specs.View.{monitor_of, stands_of}
 use Rattle.monk_world.specs.Enters.{FitsEnters, used_by}
-use Rattle.monk_world.specs.Places.{stage, ticket, source, open_turn, due_to, turn_of_next, stays_inside, comes_from_queue, is_queued_at, outside_stage, ticketed_stage, due_stage, active_stage, passing_stage, free_source, granted_source}
+use Rattle.monk_world.specs.Places.{stage, ticket, source, open_turn, due_to, turn_of_next, stays_inside}
+use Rattle.monk_world.specs.Places.{comes_from_queue, is_queued_at, outside_stage, ticketed_stage, due_stage}
+use Rattle.monk_world.specs.Places.{active_stage, passing_stage, free_source, granted_source}
 use Rattle.monk_world.specs.Put.{put}
 use Rattle.monk_world.specs.Right.{Whereabouts}
 use Rattle.monk_world.specs.Sound.{IsSound, Sound, left_at, left_within}
@@ -52,7 +55,8 @@ use Rattle.monk_world.proofs.TurnLaws as turns
 use Rattle.monk_world.proofs.Holders.{others}
 use Rattle.monk_world.proofs.PutLaws.{at_put, put_here}
 use Rattle.monk_world.proofs.StepLaws.{floor_out_keeps_the_right, activity_keeps_the_right, floor_in_keeps_the_right}
-use Rattle.monk_world.proofs.TestLaws.{none_below, some_above, quiet_is, is_quiet-true, open_is, due_is, number_chosen, names_chosen, entry_chosen, outside_is}
+use Rattle.monk_world.proofs.TestLaws.{none_below, some_above, quiet_is, is_quiet-true, open_is, due_is, number_chosen}
+use Rattle.monk_world.proofs.TestLaws.{names_chosen, entry_chosen, outside_is}
 
 abbrev number_of : Bool → ℕ
 number_of b = if b then 1 else 0
@@ -61,7 +65,8 @@ false_is : false ≡ true → ⊥
 false_is e = absurd cc
 
 module _ (k : Rules) (o : Object) (s : State) (right : Whereabouts) (owner : ℕ → ℕ) (h : IsSound k o s right owner) (i : ℕ) where
-  none : due_stage ≤ stage (s.world.place i) → stage (s.world.place i) ≤ passing_stage → (j : ℕ) → j ≢ i → due_stage ≤ stage (s.world.place j) → stage (s.world.place j) ≤ passing_stage → ⊥
+  none : due_stage ≤ stage (s.world.place i) → stage (s.world.place i) ≤ passing_stage → (j : ℕ) → j ≢ i
+      → due_stage ≤ stage (s.world.place j) → stage (s.world.place j) ≤ passing_stage → ⊥
   none low high = others s.floor.seats s.world right owner h.stands.keeps i low high
 
 abbrev way_number : Bool → ℕ
@@ -111,12 +116,15 @@ module _ (k : Rules) (o : Object) (s : State) (right : Whereabouts) (owner : ℕ
       subst (λ (j : ℕ). standing monitor.conds j (situation monitor (past ++ e ∷ [])) ≡ way_number (is_way_out e)) of_seat c in
       ap (λ (n : ℕ). nat_lt 0 n) (stands ∙ ap way_number way) ∙ at_way home
 
-  pub quiet_after_entry : (wish : Pick) → next_of e ≡ Some next.Entry → choice_of k o (stands_of k o s.floor) (as_called e) false wish ≡ next.Entry → is_quiet k o (with_event s.floor e) ≡ true
+  pub quiet_after_entry : (wish : Pick) → next_of e ≡ Some next.Entry
+      → choice_of k o (stands_of k o s.floor) (as_called e) false wish ≡ next.Entry
+      → is_quiet k o (with_event s.floor e) ≡ true
   quiet_after_entry wish entry choice =
       is_quiet-true k o (with_event s.floor e) (quiet_after monitor past e wish h.legal allowed (record { entry = entry; choice = choice }))
 
   -- the active seat goes on
-  pub stays : (q : Source) → s.world.place i ≡ Active q → is_enter e ≡ false → turn_by (seat_of e) (next_of e) ≡ turn.Owned i → 2 ≤ left_of s.floor.budget past i
+  pub stays : (q : Source) → s.world.place i ≡ Active q → is_enter e ≡ false
+      → turn_by (seat_of e) (next_of e) ≡ turn.Owned i → 2 ≤ left_of s.floor.budget past i
       → Sound k o (record s { floor = with_event s.floor e })
   stays q active no_enter owns enough =
       let three : stage (s.world.place i) ≡ active_stage = ap stage active in
@@ -128,8 +136,10 @@ module _ (k : Rules) (o : Object) (s : State) (right : Whereabouts) (owner : ℕ
         owner = owner;
         is_sound = record {
           legal = legal_after;
-          stands = activity_keeps_the_right s.floor.seats s.world right owner (turn_number (turn past)) (is_standing k o s.floor) (is_quiet k o s.floor) i h.stands
-              q (turn_number (turn (past ++ e ∷ []))) (is_standing k o (with_event s.floor e)) (is_quiet k o (with_event s.floor e)) active others_stand;
+          stands = activity_keeps_the_right s.floor.seats s.world right owner (turn_number (turn past))
+              (is_standing k o s.floor) (is_quiet k o s.floor) i h.stands
+              q (turn_number (turn (past ++ e ∷ []))) (is_standing k o (with_event s.floor e))
+              (is_quiet k o (with_event s.floor e)) active others_stand;
           active = λ j a. elim (eqb_tells j i) [
             | inl c ↦ turn_new ∙ ap turn.Owned (sym c.1)
             | inr c ↦ absurd (none k o s right owner h i (omega arith) (omega arith) j c.1 (omega arith) (omega arith))
@@ -148,7 +158,8 @@ module _ (k : Rules) (o : Object) (s : State) (right : Whereabouts) (owner : ℕ
       }
 
   -- the active seat brings the floor home
-  pub goes_home : (q : Source) (x : Next) (home : Home) → i < s.floor.seats → s.world.place i ≡ Active q → is_enter e ≡ false → next_of e ≡ Some x → is_stay (Some x) ≡ false
+  pub goes_home : (q : Source) (x : Next) (home : Home) → i < s.floor.seats → s.world.place i ≡ Active q
+      → is_enter e ≡ false → next_of e ≡ Some x → is_stay (Some x) ≡ false
       → is_standing k o (with_event s.floor e) i ≡ stays_inside home → left_within home ≤ left_of s.floor.budget (past ++ e ∷ []) i
       → (x ≡ next.Entry → (is_quiet k o (with_event s.floor e) ≡ true) ⊎ (2 ≤ s.world.unpassed))
       → Sound k o (record s { world = after_floor_in s.world i x home; floor = with_event s.floor e })
@@ -157,7 +168,8 @@ module _ (k : Rules) (o : Object) (s : State) (right : Whereabouts) (owner : ℕ
       let p : Place = Back x home in
       let turned : turn_number (turn (past ++ e ∷ [])) ≡ turn_of_next x =
       ap turn_number (counts.turn ∙ ap (λ (y : Option Next). turn_by (seat_of e) y) chose) ∙ number_chosen (seat_of e) x away in
-      let named : (m : ℕ) → turn_of_next x ≡ due_to m → grants m e ≡ true = λ m a. ap (λ (y : Option Next). chooses_seat m y) chose ∙ names_chosen x m a in
+      let named : (m : ℕ) → turn_of_next x ≡ due_to m → grants m e ≡ true =
+      λ m a. ap (λ (y : Option Next). chooses_seat m y) chose ∙ names_chosen x m a in
       let same : enters_of (past ++ e ∷ []) ≡ enters_of past =
       let c = counts.enters in let z : number_of (is_enter e) ≡ 0 = ap number_of no_enter in omega arith in
       record {
@@ -165,26 +177,37 @@ module _ (k : Rules) (o : Object) (s : State) (right : Whereabouts) (owner : ℕ
         owner = owner;
         is_sound = record {
           legal = legal_after;
-          stands = subst (λ (n : ℕ). Stands s.floor.seats (after_floor_in s.world i x home) right owner n (is_standing k o (with_event s.floor e)) (is_quiet k o (with_event s.floor e))) (sym turned)
-              (floor_in_keeps_the_right s.floor.seats s.world right owner (turn_number (turn past)) (is_standing k o s.floor) (is_quiet k o s.floor) i h.stands
+          stands = subst (λ (n : ℕ). Stands s.floor.seats (after_floor_in s.world i x home) right owner n
+              (is_standing k o (with_event s.floor e)) (is_quiet k o (with_event s.floor e))) (sym turned)
+              (floor_in_keeps_the_right s.floor.seats s.world right owner (turn_number (turn past))
+              (is_standing k o s.floor) (is_quiet k o s.floor) i h.stands
               q x home (is_standing k o (with_event s.floor e)) (is_quiet k o (with_event s.floor e)) active
-              (λ m a. let g = named m a in let other = moved.chosen_other m g in let ne : m ≢ i = λ z. other (z ∙ sym of_seat) in
-              (ne, let before = moved.chosen_before m g in let stand = moved.others_stand m other in some_above (standing monitor.conds m (situation monitor (past ++ e ∷ []))) (λ z. omega arith)))
+              (λ m a. let g = named m a in let other = moved.chosen_other m g in let ne : m ≢ i = λ z. other (z ∙ sym of_seat) in (
+                ne,
+                let before = moved.chosen_before m g in let stand = moved.others_stand m other in
+                    some_above (standing monitor.conds m (situation monitor (past ++ e ∷ []))) (λ z. omega arith),
+              ))
               others_stand own (λ a. entry (entry_chosen x away a)));
-          active = at_put s.world.place i p (λ j y. stage y ≡ active_stage → turn (past ++ e ∷ []) ≡ turn.Owned j) (λ a. absurd (omega arith))
+          active = at_put s.world.place i p (λ j y. stage y ≡ active_stage → turn (past ++ e ∷ []) ≡ turn.Owned j)
+              (λ a. absurd (omega arith))
               (λ j ne a. absurd (none k o s right owner h i (omega arith) (omega arith) j ne (omega arith) (omega arith)));
-          known = at_put s.world.place i p (λ j y. stage y ≡ active_stage → s.known j ≡ true → 2 ≤ s.world.unpassed) (λ a. absurd (omega arith)) (λ j _. h.known j);
+          known = at_put s.world.place i p (λ j y. stage y ≡ active_stage → s.known j ≡ true → 2 ≤ s.world.unpassed)
+              (λ a. absurd (omega arith)) (λ j _. h.known j);
           entered = subst (λ (n : ℕ). FitsEnters (after_floor_in s.world i x home) right n) (sym same)
               (enters.goes_home s.floor.seats s.world right owner h.stands.keeps (enters_of past) h.entered i q x home active);
           late = at_put s.world.place i p (λ j y. stage y ≡ ticketed_stage → 1 ≤ ticket y) (λ a. absurd (omega arith)) (λ j _. h.late j);
-          granted_late = at_put s.world.place i p (λ j y. stage y ≡ due_stage → source y ≡ granted_source → 1 ≤ ticket y) (λ a. absurd (omega arith)) (λ j _. h.granted_late j);
-          left = at_put s.world.place i p (λ j y. left_at y ≤ left_of s.floor.budget (past ++ e ∷ []) j) enough (λ j ne. let l = left_other j ne in let a = h.left j in omega arith);
-          outside = at_put s.world.place i p (λ j y. s.floor.seats ≤ j → stage y ≡ outside_stage) (λ a. absurd (omega arith)) (λ j _. h.outside j);
+          granted_late = at_put s.world.place i p (λ j y. stage y ≡ due_stage → source y ≡ granted_source
+              → 1 ≤ ticket y) (λ a. absurd (omega arith)) (λ j _. h.granted_late j);
+          left = at_put s.world.place i p (λ j y. left_at y ≤ left_of s.floor.budget (past ++ e ∷ []) j) enough
+              (λ j ne. let l = left_other j ne in let a = h.left j in omega arith);
+          outside = at_put s.world.place i p (λ j y. s.floor.seats ≤ j → stage y ≡ outside_stage)
+              (λ a. absurd (omega arith)) (λ j _. h.outside j);
         };
       }
 
   -- the floor comes out to the seat that is due
-  comes_out : (q : Source) → i < s.floor.seats → s.world.place i ≡ Due q → turn_by (seat_of e) (next_of e) ≡ turn.Owned i → number_of (is_enter e) + used_by q ≡ 1
+  comes_out : (q : Source) → i < s.floor.seats → s.world.place i ≡ Due q
+      → turn_by (seat_of e) (next_of e) ≡ turn.Owned i → number_of (is_enter e) + used_by q ≡ 1
       → Sound k o (record { world = after_floor_out s.world i q; known = put s.known i false; floor = with_event s.floor e })
   comes_out q near due owns entering =
       let two : stage (s.world.place i) ≡ due_stage = ap stage due in
@@ -197,48 +220,67 @@ module _ (k : Rules) (o : Object) (s : State) (right : Whereabouts) (owner : ℕ
         owner = owner;
         is_sound = record {
           legal = legal_after;
-          stands = floor_out_keeps_the_right s.floor.seats s.world right owner (turn_number (turn past)) (is_standing k o s.floor) (is_quiet k o s.floor) i h.stands
-              q (turn_number (turn (past ++ e ∷ []))) (is_standing k o (with_event s.floor e)) (is_quiet k o (with_event s.floor e)) due others_stand;
+          stands = floor_out_keeps_the_right s.floor.seats s.world right owner (turn_number (turn past))
+              (is_standing k o s.floor) (is_quiet k o s.floor) i h.stands
+              q (turn_number (turn (past ++ e ∷ []))) (is_standing k o (with_event s.floor e))
+              (is_quiet k o (with_event s.floor e)) due others_stand;
           active = at_put s.world.place i p (λ j y. stage y ≡ active_stage → turn (past ++ e ∷ []) ≡ turn.Owned j) (λ _. turn_new)
               (λ j ne a. absurd (none k o s right owner h i (omega arith) (omega arith) j ne (omega arith) (omega arith)));
-          known = at_put s.world.place i p (λ j y. stage y ≡ active_stage → put s.known i false j ≡ true → 2 ≤ s.world.unpassed) (λ _ a. absurd (false_is (sym (put_here s.known i false) ∙ a)))
+          known = at_put s.world.place i p (λ j y. stage y ≡ active_stage → put s.known i false j ≡ true
+              → 2 ≤ s.world.unpassed) (λ _ a. absurd (false_is (sym (put_here s.known i false) ∙ a)))
               (λ j ne a. absurd (none k o s right owner h i (omega arith) (omega arith) j ne (omega arith) (omega arith)));
-          entered = enters.comes_out s.floor.seats s.world right owner h.stands.keeps (enters_of past) h.entered i q (enters_of (past ++ e ∷ [])) due (omega arith);
+          entered = enters.comes_out s.floor.seats s.world right owner h.stands.keeps (enters_of past) h.entered i q
+              (enters_of (past ++ e ∷ [])) due (omega arith);
           late = at_put s.world.place i p (λ j y. stage y ≡ ticketed_stage → 1 ≤ ticket y) (λ a. absurd (omega arith)) (λ j _. h.late j);
-          granted_late = at_put s.world.place i p (λ j y. stage y ≡ due_stage → source y ≡ granted_source → 1 ≤ ticket y) (λ a. absurd (omega arith)) (λ j _. h.granted_late j);
-          left = at_put s.world.place i p (λ j y. left_at y ≤ left_of s.floor.budget (past ++ e ∷ []) j) (left_own 1 enough) (λ j ne. let l = left_other j ne in let a = h.left j in omega arith);
-          outside = at_put s.world.place i p (λ j y. s.floor.seats ≤ j → stage y ≡ outside_stage) (λ a. absurd (omega arith)) (λ j _. h.outside j);
+          granted_late = at_put s.world.place i p (λ j y. stage y ≡ due_stage → source y ≡ granted_source
+              → 1 ≤ ticket y) (λ a. absurd (omega arith)) (λ j _. h.granted_late j);
+          left = at_put s.world.place i p (λ j y. left_at y ≤ left_of s.floor.budget (past ++ e ∷ []) j)
+              (left_own 1 enough) (λ j ne. let l = left_other j ne in let a = h.left j in omega arith);
+          outside = at_put s.world.place i p (λ j y. s.floor.seats ≤ j → stage y ≡ outside_stage)
+              (λ a. absurd (omega arith)) (λ j _. h.outside j);
         };
       }
 
 -- the event with which the floor comes out is allowed
-module _ (k : Rules) (o : Object) (s : State) (right : Whereabouts) (owner : ℕ → ℕ) (h : IsSound k o s right owner) (i : ℕ) (near : i < s.floor.seats) where
+module _ (k : Rules) (o : Object) (s : State) (right : Whereabouts) (owner : ℕ → ℕ) (h : IsSound k o s right owner)
+    (i : ℕ) (near : i < s.floor.seats) where
   turn_due : (q : Source) → s.world.place i ≡ Due q → turn_number (turn s.floor.history) ≡ turn_at i (Due q)
   turn_due q due =
       let two : stage (s.world.place i) ≡ due_stage = ap stage due in
-      turns.turn_here s.floor.seats s.world right owner h.stands.keeps (turn_number (turn s.floor.history)) h.stands.fits_turn i (Due q) due (omega arith) (omega arith) (λ a. omega arith)
+      turns.turn_here s.floor.seats s.world right owner h.stands.keeps (turn_number (turn s.floor.history))
+      h.stands.fits_turn i (Due q) due (omega arith) (omega arith) (λ a. omega arith)
 
   -- a seat that comes from outside stands at the door
-  at_door : (q : Source) → s.world.place i ≡ Due q → turn_at i (Due q) ≡ open_turn → comes_from_queue q ≡ false → IsAtDoor (monitor_of k o s.floor) s.floor.history i
+  at_door : (q : Source) → s.world.place i ≡ Due q → turn_at i (Due q) ≡ open_turn → comes_from_queue q ≡ false
+      → IsAtDoor (monitor_of k o s.floor) s.floor.history i
   at_door q due opens outer =
       let two : stage (s.world.place i) ≡ due_stage = ap stage due in
       let m = monitor_of k o s.floor in
       let t = situation m s.floor.history in
       let no : is_standing k o s.floor i ≡ false =
-      subst (λ (p : Place). stage p ≢ active_stage → is_standing k o s.floor i ≡ is_queued_at p) due (h.stands.fits_queues.in_queue i) (λ a. omega arith) ∙ outer in
+      subst (λ (p : Place). stage p ≢ active_stage → is_standing k o s.floor i ≡ is_queued_at p) due
+      (h.stands.fits_queues.in_queue i) (λ a. omega arith) ∙ outer in
       record {
         seat = near;
         free = open_is (turn s.floor.history) (turn_due q due ∙ opens);
-        outside = outside_is (is_inside i s.floor.history) (sym (none_below (standing m.conds i t) no) ∙ legal_placed m s.floor.history h.legal i);
+        outside = outside_is (is_inside i s.floor.history)
+            (sym (none_below (standing m.conds i t) no) ∙ legal_placed m s.floor.history h.legal i);
       }
 
   pub sound_out : (q : Source) → s.world.place i ≡ Due q
-      → Sound k o (record { world = after_floor_out s.world i q; known = put s.known i false; floor = with_event s.floor (out_event i q (turn s.floor.history)) })
+      → Sound k o (record {
+        world = after_floor_out s.world i q;
+        known = put s.known i false;
+        floor =
+            with_event s.floor (out_event i q (turn s.floor.history));
+      })
   sound_out (Free t) due =
       let two : stage (s.world.place i) ≡ due_stage = ap stage due in
       let one : source (s.world.place i) ≡ free_source = ap source due in
       let quiet = quiet_is k o s.floor (h.stands.fits_queues.still_free i two one) in
-      comes_out k o s right owner h i (Enter i via.Free) refl ((enters_free (monitor_of k o s.floor) s.floor.history i).1 (at_door (Free t) due refl refl, quiet)) (Free t) near due refl refl
+      comes_out k o s right owner h i (Enter i via.Free) refl
+      ((enters_free (monitor_of k o s.floor) s.floor.history i).1 (at_door (Free t) due refl refl, quiet)) (Free t)
+      near due refl refl
   sound_out (Granted t) due =
       let two : stage (s.world.place i) ≡ due_stage = ap stage due in
       let by_ticket : source (s.world.place i) ≡ granted_source = ap source due in
@@ -247,11 +289,16 @@ module _ (k : Rules) (o : Object) (s : State) (right : Whereabouts) (owner : ℕ
       let r = h.stands.keeps in
       let sum = r.tickets.in_use i two (omega arith) in
       let used : enters_of s.floor.history + s.world.unpassed ≡ s.world.drawn + 0 =
-      enters.entered_here s.floor.seats s.world right owner r (enters_of s.floor.history) h.entered i (Due (Granted t)) due (omega arith) (omega arith) in
+      enters.entered_here s.floor.seats s.world right owner r (enters_of s.floor.history) h.entered i (Due (Granted t))
+      due (omega arith) (omega arith) in
       let begun : s.floor.history ≢ [] = λ z. let n : enters_of s.floor.history ≡ 0 = ap enters_of z ∙ enters_none in omega arith in
-      comes_out k o s right owner h i (Enter i via.Handed) refl ((enters_handed (monitor_of k o s.floor) s.floor.history i).1 (at_door (Granted t) due refl refl, begun)) (Granted t) near due refl refl
+      comes_out k o s right owner h i (Enter i via.Handed) refl
+      ((enters_handed (monitor_of k o s.floor) s.floor.history i).1 (at_door (Granted t) due refl refl, begun))
+      (Granted t) near due refl refl
   sound_out Called due =
       let d = due_is (turn s.floor.history) i (turn_due Called due) in
-      let is : turn s.floor.history ≡ turn.Due i (queue_due (turn s.floor.history)) = d.1 ∙ ap (λ (q : From3). turn.Due i q) (sym (ap queue_due d.1)) in
+      let is : turn s.floor.history ≡ turn.Due i (queue_due (turn s.floor.history)) = d.1
+      ∙ ap (λ (q : From3). turn.Due i q) (sym (ap queue_due d.1)) in
       comes_out k o s right owner h i (Resume i (queue_due (turn s.floor.history))) refl
-      ((resumes (monitor_of k o s.floor) s.floor.history i (queue_due (turn s.floor.history))).1 (record { seat = near; due = is })) Called near due refl refl
+      ((resumes (monitor_of k o s.floor) s.floor.history i (queue_due (turn s.floor.history))).1
+      (record { seat = near; due = is })) Called near due refl refl

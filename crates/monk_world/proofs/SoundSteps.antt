@@ -1,5 +1,6 @@
 -- Every step keeps a state sound
-use Rattle.std.proofs.Common.{◌≡◌, ℕ, ◌+◌, ◌%◌, ◌==◌, ◌<◌, ◌≤◌, ◌⊎◌, true, false, cond, Bool, ◌&&◌, ◌||◌, List, sym, refl, ap, ◌∙◌, subst, inl, inr, arith, eq-eqb}
+use Rattle.std.proofs.Common.{◌≡◌, ℕ, ◌+◌, ◌%◌, ◌==◌, ◌<◌, ◌≤◌, ◌⊎◌, true, false, cond, Bool, ◌&&◌, ◌||◌, List, sym}
+use Rattle.std.proofs.Common.{refl, ap, ◌∙◌, subst, inl, inr, arith, eq-eqb}
 use Rattle.std.specs.Prelude.{if◌then◌else◌, not, nat_lt, nat_le, Option, Some, None}
 use Rattle.std.proofs.lemmas.Bool.{ltb-true}
 use Rattle.monk_kinds.specs.Kind.{IsKind}
@@ -27,7 +28,8 @@ use Rattle.monk_world.specs.Right.{Whereabouts}
 use Rattle.monk_world.specs.Sound.{IsSound, Sound, left_within}
 use Rattle.monk_world.specs.State.{State, with_event}
 use Rattle.monk_world.specs.Steps.{after_floor_in}
-use Rattle.monk_world.specs.StepTable.{call_of, is_call_in_range, is_call_offered, may_be_told, left_for, release_next, IsDone, IsAnswered, IsStep}
+use Rattle.monk_world.specs.StepTable.{call_of, is_call_in_range, is_call_offered, may_be_told, left_for, release_next}
+use Rattle.monk_world.specs.StepTable.{IsDone, IsAnswered, IsStep}
 use Rattle.monk_world.specs.declared.answer.Answer.{Answer}
 use Rattle.monk_world.specs.declared.answer.Answer.TheVariants as answer
 use Rattle.monk_world.specs.declared.command.Command.{Command}
@@ -39,7 +41,8 @@ use Rattle.monk_world.specs.declared.place.Place.TheVariants.{Idle, Ticket, Due,
 use Rattle.monk_world.specs.declared.source.Source.{Source}
 use Rattle.monk_world.proofs.PutLaws.{at_put}
 use Rattle.monk_world.proofs.SoundFloor.{stays, goes_home, own_stands, quiet_after_entry, left_own, sound_out}
-use Rattle.monk_world.proofs.SoundWords.{sound_arrival, sound_ticket_look, sound_seat_look, sound_drop, sound_ticket_grant, sound_seat_grant}
+use Rattle.monk_world.proofs.SoundWords.{sound_arrival, sound_ticket_look, sound_seat_look, sound_drop}
+use Rattle.monk_world.proofs.SoundWords.{sound_ticket_grant, sound_seat_grant}
 
 pub stay_is : (x : Next) → is_stay (Some x) ≡ true → x ≡ next.Stay
 stay_is next.Stay e = refl
@@ -64,7 +67,9 @@ pub record IsRelease (e : Event) (i : ℕ) (to : Home) : Type 0 where
   pub way : (x : Next) → is_way_out (with_next x e) ≡ not (stays_inside to)
   pub no_reply : (o : Object) (d : List ℕ) → is_right_reply o d e ≡ true
 
-module _ (k : Rules) (o : Object) (s : State) (right : Whereabouts) (owner : ℕ → ℕ) (kind : IsKind k) (h : IsSound k o s right owner) (i : ℕ) (near : i < s.floor.seats) (q : Source) (active : s.world.place i ≡ Active q) where
+module _ (k : Rules) (o : Object) (s : State) (right : Whereabouts) (owner : ℕ → ℕ) (kind : IsKind k)
+    (h : IsSound k o s right owner) (i : ℕ) (near : i < s.floor.seats) (q : Source)
+    (active : s.world.place i ≡ Active q) where
   owns : is_owned_by i (turn s.floor.history) ≡ true
   owns = ap (is_owned_by i) (h.active i (ap stage active)) ∙ eq-eqb i i refl
 
@@ -80,18 +85,26 @@ module _ (k : Rules) (o : Object) (s : State) (right : Whereabouts) (owner : ℕ
       let x = release_next k o s i e wish in
       let f = with_next x e in
       let allowed : IsAllowed m s.floor.history f =
-      chosen_allowed m (situation m s.floor.history) e (s.known i) wish (legal_order m s.floor.history kind h.legal) may (r.no_reply o (data_of m s.floor.history)) in
-      let After : Bool → Type 0 = λ b. is_stay (Some x) ≡ b → Sound k o (record s { world = cond b s.world (after_floor_in s.world i x to); floor = with_event s.floor f }) in
+      chosen_allowed m (situation m s.floor.history) e (s.known i) wish (legal_order m s.floor.history kind h.legal) may
+      (r.no_reply o (data_of m s.floor.history)) in
+      let After : Bool → Type 0 = λ b. is_stay (Some x) ≡ b
+      → Sound k o (record s {
+        world = cond b s.world (after_floor_in s.world i x to);
+        floor =
+            with_event s.floor f;
+      }) in
       let either_way : (b : Bool) → After b = elim [
         | true ↦ λ e_stay. stays k o s right owner h i f (r.seat x) allowed q active (r.no_enter x)
-            (ap (λ (y : Option Next). turn_by (seat_of f) y) (r.chooses x ∙ ap (λ (y : Next). Some y) (stay_is x e_stay)) ∙ ap turn.Owned (r.seat x))
+            (ap (λ (y : Option Next). turn_by (seat_of f) y)
+            (r.chooses x ∙ ap (λ (y : Next). Some y) (stay_is x e_stay)) ∙ ap turn.Owned (r.seat x))
             (stay_left (subst (λ (y : Next). IsAllowed m s.floor.history (with_next y e)) (stay_is x e_stay) allowed))
         | false ↦ λ e_away. goes_home k o s right owner h i f (r.seat x) allowed q x to near active (r.no_enter x) (r.chooses x) e_away
             (own_stands k o s right owner h i f (r.seat x) allowed to (r.way x))
             (left_own k o s right owner h i f (r.seat x) allowed (left_within to) home_left)
             (λ entry. elim (known_or (s.known i)) [
               | inl known ↦ inr (h.known i (ap stage active) known)
-              | inr unknown ↦ inl (quiet_after_entry k o s right owner h i f (r.seat x) allowed wish (r.chooses x ∙ ap (λ (y : Next). Some y) entry)
+              | inr unknown ↦ inl (quiet_after_entry k o s right owner h i f (r.seat x) allowed wish
+                  (r.chooses x ∙ ap (λ (y : Next). Some y) entry)
                   (ap (λ (g : Event). choice_of k o (stands_of k o s.floor) g false wish) (r.called x)
                   ∙ ap (λ (b : Bool). choice_of k o (stands_of k o s.floor) e b wish) (sym unknown) ∙ entry))
             ])
@@ -107,7 +120,15 @@ module _ (k : Rules) (o : Object) (s : State) (right : Whereabouts) (owner : ℕ
       → Sound k o (record s { floor = with_event s.floor (Act i op reply) })
   acted op reply is range enough =
       stays k o s right owner h i (Act i op reply) refl
-      (record { in_range = range; offered = refl; in_turn = owns; in_place = refl; right_reply = eq-eqb reply (o.reply (data_of (monitor_of k o s.floor) s.floor.history) op) is; permitted = refl })
+      (record {
+        in_range = range;
+        offered = refl;
+        in_turn = owns;
+        in_place = refl;
+        right_reply =
+            eq-eqb reply (o.reply (data_of (monitor_of k o s.floor) s.floor.history) op) is;
+        permitted = refl;
+      })
       q active refl refl enough
 
   looked_in : Sound k o (record s { known = put s.known i (s.known i || nat_le 2 s.world.unpassed) })
@@ -118,8 +139,10 @@ module _ (k : Rules) (o : Object) (s : State) (right : Whereabouts) (owner : ℕ
       legal = h.legal;
       stands = h.stands;
       active = h.active;
-      known = λ j. at_put s.known i (s.known i || nat_le 2 s.world.unpassed) (λ m b. stage (s.world.place m) ≡ active_stage → b ≡ true → 2 ≤ s.world.unpassed)
-          (λ a e. elim (either (s.known i) (nat_le 2 s.world.unpassed) e) [ inl b ↦ h.known i a b | inr b ↦ seen_two s.world.unpassed b ]) (λ m _. h.known m) j;
+      known = λ j. at_put s.known i (s.known i || nat_le 2 s.world.unpassed)
+          (λ m b. stage (s.world.place m) ≡ active_stage → b ≡ true → 2 ≤ s.world.unpassed)
+          (λ a e. elim (either (s.known i) (nat_le 2 s.world.unpassed) e)
+          [ inl b ↦ h.known i a b | inr b ↦ seen_two s.world.unpassed b ]) (λ m _. h.known m) j;
       entered = h.entered;
       late = h.late;
       granted_late = h.granted_late;
@@ -130,56 +153,143 @@ module _ (k : Rules) (o : Object) (s : State) (right : Whereabouts) (owner : ℕ
 
 -- the five calls that release
 pub leaving : (i : ℕ) → IsRelease (Leave i next.Stay) i home.Idle
-leaving i = record { seat = λ x. refl; no_enter = λ x. refl; chooses = λ x. refl; called = λ x. refl; way = λ x. refl; no_reply = λ o d. refl }
+leaving i = record {
+  seat = λ x. refl;
+  no_enter = λ x. refl;
+  chooses = λ x. refl;
+  called = λ x. refl;
+  way =
+      λ x. refl;
+  no_reply = λ o d. refl;
+}
 
 pub waiting : (i c : ℕ) → IsRelease (Wait i c next.Stay) i home.Inner
-waiting i c = record { seat = λ x. refl; no_enter = λ x. refl; chooses = λ x. refl; called = λ x. refl; way = λ x. refl; no_reply = λ o d. refl }
+waiting i c = record {
+  seat = λ x. refl;
+  no_enter = λ x. refl;
+  chooses = λ x. refl;
+  called = λ x. refl;
+  way =
+      λ x. refl;
+  no_reply = λ o d. refl;
+}
 
 pub signalling : (i c : ℕ) → IsRelease (Signal i c next.Stay) i home.Inner
-signalling i c = record { seat = λ x. refl; no_enter = λ x. refl; chooses = λ x. refl; called = λ x. refl; way = λ x. refl; no_reply = λ o d. refl }
+signalling i c = record {
+  seat = λ x. refl;
+  no_enter = λ x. refl;
+  chooses = λ x. refl;
+  called = λ x. refl;
+  way =
+      λ x. refl;
+  no_reply = λ o d. refl;
+}
 
 pub signal_leaving : (i c : ℕ) → IsRelease (SignalLeave i c next.Stay) i home.Idle
-signal_leaving i c = record { seat = λ x. refl; no_enter = λ x. refl; chooses = λ x. refl; called = λ x. refl; way = λ x. refl; no_reply = λ o d. refl }
+signal_leaving i c = record {
+  seat = λ x. refl;
+  no_enter = λ x. refl;
+  chooses = λ x. refl;
+  called = λ x. refl;
+  way =
+      λ x. refl;
+  no_reply = λ o d. refl;
+}
 
 pub waiting_until : (i p : ℕ) → IsRelease (Until i p next.Stay) i home.Inner
-waiting_until i p = record { seat = λ x. refl; no_enter = λ x. refl; chooses = λ x. refl; called = λ x. refl; way = λ x. refl; no_reply = λ o d. refl }
+waiting_until i p = record {
+  seat = λ x. refl;
+  no_enter = λ x. refl;
+  chooses = λ x. refl;
+  called = λ x. refl;
+  way =
+      λ x. refl;
+  no_reply = λ o d. refl;
+}
 
-module _ (k : Rules) (o : Object) (s : State) (right : Whereabouts) (owner : ℕ → ℕ) (kind : IsKind k) (h : IsSound k o s right owner) (i : ℕ) (near : i < s.floor.seats) where
-  done : (c : Command) (a : Answer) (t : State) (p : Place) → s.world.place i ≡ p → is_call_in_range o s.floor (call_of i c) ≡ true → is_call_offered k (call_of i c) ≡ true
+module _ (k : Rules) (o : Object) (s : State) (right : Whereabouts) (owner : ℕ → ℕ) (kind : IsKind k)
+    (h : IsSound k o s right owner) (i : ℕ) (near : i < s.floor.seats) where
+  done : (c : Command) (a : Answer) (t : State) (p : Place) → s.world.place i ≡ p
+      → is_call_in_range o s.floor (call_of i c) ≡ true → is_call_offered k (call_of i c) ≡ true
       → left_for c ≤ left_of s.floor.budget s.floor.history i → IsDone k o s i p c a t → Sound k o t
   done command.Arrive a t Idle at range offered left d = subst (Sound k o) (sym d.1) (sound_arrival k o s right owner h i near at left)
-  done command.Look a t (Ticket n) at range offered left d = subst (Sound k o) (sym d.1) (sound_ticket_look k o s right owner h i near n (s.world.ticket_place (n % s.floor.seats) == n + 1) at refl)
-  done command.Look a t Inner at range offered left d = subst (Sound k o) (sym d.1) (sound_seat_look k o s right owner h i near (s.world.seat_place i == s.world.count i + 1) at refl)
+  done command.Look a t (Ticket n) at range offered left d =
+      subst (Sound k o) (sym d.1)
+      (sound_ticket_look k o s right owner h i near n (s.world.ticket_place (n % s.floor.seats) == n + 1) at refl)
+  done command.Look a t Inner at range offered left d =
+      subst (Sound k o) (sym d.1)
+      (sound_seat_look k o s right owner h i near (s.world.seat_place i == s.world.count i + 1) at refl)
   done command.Out a t (Due q) at range offered left d = subst (Sound k o) (sym d.1) (sound_out k o s right owner h i near q at)
   done command.Peek a t Idle at range offered left d = subst (Sound k o) (sym d.1) (record { right = right; owner = owner; is_sound = h })
   done command.Peek a t (Active q) at range offered left d = subst (Sound k o) (sym d.1) (looked_in k o s right owner kind h i near q at)
-  done command.Drop a t (Back next.Entry to) at range offered left d = subst (Sound k o) (sym d.1) (sound_drop k o s right owner h i near to at)
-  done command.Grant a t (Back (next.Waiter j) to) at range offered left d = subst (Sound k o) (sym d.1) (sound_seat_grant k o s right owner h i near (next.Waiter j) j to at refl)
-  done command.Grant a t (Back (next.Signaller j) to) at range offered left d = subst (Sound k o) (sym d.1) (sound_seat_grant k o s right owner h i near (next.Signaller j) j to at refl)
-  done command.Grant a t (Back (next.Until j) to) at range offered left d = subst (Sound k o) (sym d.1) (sound_seat_grant k o s right owner h i near (next.Until j) j to at refl)
-  done command.Grant a t (Passing n to) at range offered left d = subst (Sound k o) (sym d.1) (sound_ticket_grant k o s right owner h i near n to at)
+  done command.Drop a t (Back next.Entry to) at range offered left d =
+      subst (Sound k o) (sym d.1) (sound_drop k o s right owner h i near to at)
+  done command.Grant a t (Back (next.Waiter j) to) at range offered left d =
+      subst (Sound k o) (sym d.1) (sound_seat_grant k o s right owner h i near (next.Waiter j) j to at refl)
+  done command.Grant a t (Back (next.Signaller j) to) at range offered left d =
+      subst (Sound k o) (sym d.1) (sound_seat_grant k o s right owner h i near (next.Signaller j) j to at refl)
+  done command.Grant a t (Back (next.Until j) to) at range offered left d =
+      subst (Sound k o) (sym d.1) (sound_seat_grant k o s right owner h i near (next.Until j) j to at refl)
+  done command.Grant a t (Passing n to) at range offered left d =
+      subst (Sound k o) (sym d.1) (sound_ticket_grant k o s right owner h i near n to at)
   done (command.Act op) a t (Active q) at range offered left d =
-      subst (Sound k o) (sym d.1) (acted k o s right owner kind h i near q at op (o.reply (data_of (monitor_of k o s.floor) s.floor.history) op) refl range left)
+      subst (Sound k o) (sym d.1)
+      (acted k o s right owner kind h i near q at op (o.reply (data_of (monitor_of k o s.floor) s.floor.history) op)
+      refl range left)
   done (command.Leave pick) a t (Active q) at range offered left d =
       subst (Sound k o) (sym d.1) (released k o s right owner kind h i near q at (Leave i next.Stay) pick home.Idle (leaving i)
-      (record { in_range = range; offered = offered; in_turn = owns k o s right owner kind h i near q at; in_place = refl }) (λ e. let z : false ≡ true = e.permitted in absurd cc) left)
+      (record {
+        in_range = range;
+        offered = offered;
+        in_turn = owns k o s right owner kind h i near q at;
+        in_place =
+            refl;
+      }) (λ e. let z : false ≡ true = e.permitted in absurd cc) left)
   done (command.Wait c pick) a t (Active q) at range offered left d =
       subst (Sound k o) (sym d.1) (released k o s right owner kind h i near q at (Wait i c next.Stay) pick home.Inner (waiting i c)
-      (record { in_range = range; offered = offered; in_turn = owns k o s right owner kind h i near q at; in_place = refl }) (λ e. omega arith) left)
+      (record {
+        in_range = range;
+        offered = offered;
+        in_turn = owns k o s right owner kind h i near q at;
+        in_place =
+            refl;
+      }) (λ e. omega arith) left)
   done (command.Signal c pick) a t (Active q) at range offered left d =
       subst (Sound k o) (sym d.1) (released k o s right owner kind h i near q at (Signal i c next.Stay) pick home.Inner (signalling i c)
-      (record { in_range = range; offered = offered; in_turn = owns k o s right owner kind h i near q at; in_place = refl }) (λ e. omega arith) left)
+      (record {
+        in_range = range;
+        offered = offered;
+        in_turn = owns k o s right owner kind h i near q at;
+        in_place =
+            refl;
+      }) (λ e. omega arith) left)
   done (command.SignalLeave c pick) a t (Active q) at range offered left d =
-      subst (Sound k o) (sym d.1) (released k o s right owner kind h i near q at (SignalLeave i c next.Stay) pick home.Idle (signal_leaving i c)
-      (record { in_range = range; offered = offered; in_turn = owns k o s right owner kind h i near q at; in_place = refl }) (λ e. let z : false ≡ true = e.permitted in absurd cc) left)
+      subst (Sound k o) (sym d.1)
+      (released k o s right owner kind h i near q at (SignalLeave i c next.Stay) pick home.Idle (signal_leaving i c)
+      (record {
+        in_range = range;
+        offered = offered;
+        in_turn = owns k o s right owner kind h i near q at;
+        in_place =
+            refl;
+      }) (λ e. let z : false ≡ true = e.permitted in absurd cc) left)
   done (command.Until p pick) a t (Active q) at range offered left d =
       subst (Sound k o) (sym d.1) (released k o s right owner kind h i near q at (Until i p next.Stay) pick home.Inner (waiting_until i p)
-      (record { in_range = range; offered = offered; in_turn = owns k o s right owner kind h i near q at; in_place = refl }) (λ e. omega arith) left)
+      (record {
+        in_range = range;
+        offered = offered;
+        in_turn = owns k o s right owner kind h i near q at;
+        in_place =
+            refl;
+      }) (λ e. omega arith) left)
   done c a t p at range offered left d = absurd d
 
 -- by what the tests for a refusal say
 split : (k : Rules) (o : Object) (s : State) (i : ℕ) (c : Command) (a : Answer) (t : State) (in_reach offered told tired : Bool)
-    → IsAnswered k o s i c (cond (not in_reach) (Some answer.Range) (cond (not offered) (Some answer.NoCall) (cond (not told) (Some answer.NotNow) (cond tired (Some answer.Tired) None)))) a t
+    → IsAnswered k o s i c
+    (cond (not in_reach) (Some answer.Range)
+    (cond (not offered) (Some answer.NoCall)
+    (cond (not told) (Some answer.NotNow) (cond tired (Some answer.Tired) None)))) a t
     → (t ≡ s) ⊎ ((in_reach ≡ true) × (offered ≡ true) × (tired ≡ false) × IsDone k o s i (s.world.place i) c a t)
 split k o s i c a t false offered told tired d = inl d.1
 split k o s i c a t true false told tired d = inl d.1
@@ -194,10 +304,12 @@ pub conjuncts : (a b : Bool) → (a && b) ≡ true → (a ≡ true) × (b ≡ tr
 conjuncts true b e = (refl, e)
 conjuncts false b e = absurd cc
 
-pub step_is_sound : (k : Rules) (o : Object) (s : State) (i : ℕ) (c : Command) (a : Answer) (t : State) → IsKind k → Sound k o s → IsStep k o s i c a t → Sound k o t
+pub step_is_sound : (k : Rules) (o : Object) (s : State) (i : ℕ) (c : Command) (a : Answer) (t : State) → IsKind k
+    → Sound k o s → IsStep k o s i c a t → Sound k o t
 step_is_sound k o s i c a t kind h step =
     let reach = nat_lt i s.floor.seats && is_call_in_range o s.floor (call_of i c) in
-    elim (split k o s i c a t reach (is_call_offered k (call_of i c)) (may_be_told (s.world.place i) c) (nat_lt (left_of s.floor.budget s.floor.history i) (left_for c)) step) [
+    elim (split k o s i c a t reach (is_call_offered k (call_of i c)) (may_be_told (s.world.place i) c)
+    (nat_lt (left_of s.floor.budget s.floor.history i) (left_for c)) step) [
       | inl same ↦ subst (Sound k o) (sym same) h
       | inr d ↦
           let parts = conjuncts (nat_lt i s.floor.seats) (is_call_in_range o s.floor (call_of i c)) d.0 in

@@ -41,7 +41,11 @@ module _ (k : Rules) (o : Object) (s : State) (i : ℕ) where
 
   -- by what the tests for a refusal say
   answered : (c : Command) (in_reach offered told tired : Bool) → may_be_told (s.world.place i) c ≡ told
-      → (a : Answer) × (t : State) × IsAnswered k o s i c (cond (not in_reach) (Some answer.Range) (cond (not offered) (Some answer.NoCall) (cond (not told) (Some answer.NotNow) (cond tired (Some answer.Tired) None)))) a t
+      → (a : Answer) × (t : State)
+      × IsAnswered k o s i c
+      (cond (not in_reach) (Some answer.Range)
+      (cond (not offered) (Some answer.NoCall)
+      (cond (not told) (Some answer.NotNow) (cond tired (Some answer.Tired) None)))) a t
   answered c false offered told tired e = (_, _, (refl, refl))
   answered c true false told tired e = (_, _, (refl, refl))
   answered c true true false tired e = (_, _, (refl, refl))
@@ -69,7 +73,8 @@ module _ (k : Rules) (o : Object) (s : State) (i : ℕ) where
   same_done (Active q) (command.Until p pick) a b t u d e = (d.0 ∙ sym e.0, d.1 ∙ sym e.1)
   same_done p c a b t u d e = absurd d
 
-  same_answered : (c : Command) (r : Option Answer) (a b : Answer) (t u : State) → IsAnswered k o s i c r a t → IsAnswered k o s i c r b u → (a ≡ b) × (t ≡ u)
+  same_answered : (c : Command) (r : Option Answer) (a b : Answer) (t u : State) → IsAnswered k o s i c r a t
+      → IsAnswered k o s i c r b u → (a ≡ b) × (t ≡ u)
   same_answered c None a b t u d e = same_done (s.world.place i) c a b t u d e
   same_answered c (Some r) a b t u d e = (d.0 ∙ sym e.0, d.1 ∙ sym e.1)
 

@@ -1,8 +1,13 @@
 -- Each kind of step keeps a world standing
-use Rattle.std.proofs.Common.{◌≡◌, ◌≢◌, ℕ, true, false, ◌+◌, ◌-◌, ◌%◌, ◌==◌, ◌≤◌, inl, inr, sym, refl, ap, ◌∙◌, subst, cond, Bool, arith, eqb-true}
+use Rattle.std.proofs.Common.{◌≡◌, ◌≢◌, ℕ, true, false, ◌+◌, ◌-◌, ◌%◌, ◌==◌, ◌≤◌, inl, inr, sym, refl, ap, ◌∙◌, subst}
+use Rattle.std.proofs.Common.{cond, Bool, arith, eqb-true}
 use Rattle.std.proofs.lemmas.Bool.Decides.{eqb_tells}
-use Rattle.monk_world.specs.Laws.{OpeningStands, ArriveKeeps, TicketLookKeeps, SeatLookKeeps, FloorOutKeeps, ActiveKeeps, FloorInKeeps, DropKeeps, TicketGrantKeeps, SeatGrantKeeps, StandsInOnePlace}
-use Rattle.monk_world.specs.Places.{stage, ticket, back_turn, due_to, turn_of_next, place_of, is_queued_at, outside_stage, ticketed_stage, due_stage, active_stage, back_stage, passing_stage, inside_stage}
+use Rattle.monk_world.specs.Laws.{OpeningStands, ArriveKeeps, TicketLookKeeps, SeatLookKeeps, FloorOutKeeps}
+use Rattle.monk_world.specs.Laws.{ActiveKeeps, FloorInKeeps, DropKeeps, TicketGrantKeeps, SeatGrantKeeps}
+use Rattle.monk_world.specs.Laws.{StandsInOnePlace}
+use Rattle.monk_world.specs.Places.{stage, ticket, back_turn, due_to, turn_of_next, place_of, is_queued_at}
+use Rattle.monk_world.specs.Places.{outside_stage, ticketed_stage, due_stage, active_stage, back_stage, passing_stage}
+use Rattle.monk_world.specs.Places.{inside_stage}
 use Rattle.monk_world.specs.Put.{put}
 use Rattle.monk_world.specs.Right.{KeepsRight, Nowhere, AtTicket, With}
 use Rattle.monk_world.specs.Stands.{Stands}
@@ -50,14 +55,25 @@ opening_stands seats = record {
     };
   };
   fits_turn = refl;
-  fits_queues = record { in_queue = λ j _. refl; free = λ _. refl; still_free = λ j a. absurd (omega arith); back_to_entry = λ j a. absurd (omega arith) };
+  fits_queues = record {
+    in_queue = λ j _. refl;
+    free = λ _. refl;
+    still_free = λ j a. absurd (omega arith);
+    back_to_entry = λ j a. absurd (omega arith);
+  };
 }
 
 pub arrive_keeps_the_right : ArriveKeeps
 arrive_keeps_the_right seats w right owner turn queued quiet i h idle =
     let r = h.keeps in
     let zero : stage (w.place i) ≡ outside_stage = ap stage idle in
-    let After : Bool → Type 0 = λ b. Stands seats (record w { drawn = w.drawn + 1; unpassed = w.unpassed + 1; place = put w.place i (cond b (Due (Free w.drawn)) (Ticket w.drawn)) })
+    let After : Bool → Type 0 =
+    λ b. Stands seats (record w {
+      drawn = w.drawn + 1;
+      unpassed = w.unpassed + 1;
+      place =
+          put w.place i (cond b (Due (Free w.drawn)) (Ticket w.drawn));
+    })
     (cond b (With i) right) (cond b owner (put owner w.drawn i)) turn queued quiet in
     elim (eqb_tells w.unpassed 0) as (λ _. After (w.unpassed == 0)) [
       | inl e ↦ subst After (sym e.0) (record {
@@ -80,12 +96,15 @@ ticket_look_keeps_the_right seats w right owner turn queued quiet i h t true som
     let found : w.ticket_place (t % seats) ≡ t + 1 = eqb-true _ _ test in
     let here = subst (λ (k : ℕ). w.ticket_place (k % seats) ≡ k + 1) (sym same) found in
     record {
-      keeps = subst (λ (k : ℕ). KeepsRight seats (after_ticket_look w i k true) (With i) owner) same (finds_grant seats w right owner r i one here some);
-      fits_turn = turns.takes_grant seats w right owner r turn h.fits_turn i t ((grant_is_there seats w right owner r i one here some).1 ∙ ap AtTicket same);
+      keeps = subst (λ (k : ℕ). KeepsRight seats (after_ticket_look w i k true) (With i) owner) same
+          (finds_grant seats w right owner r i one here some);
+      fits_turn = turns.takes_grant seats w right owner r turn h.fits_turn i t
+          ((grant_is_there seats w right owner r i one here some).1 ∙ ap AtTicket same);
       fits_queues = queues.takes_grant seats w right owner r queued quiet h.fits_queues i t at;
     }
 ticket_look_keeps_the_right seats w right owner turn queued quiet i h t false some at test =
-    subst (λ (place : ℕ → Place). Stands seats (record w { place = place }) right owner turn queued quiet) (sym (put_same w.place i (Ticket t) at)) h
+    subst (λ (place : ℕ → Place). Stands seats (record w { place = place }) right owner turn queued quiet)
+    (sym (put_same w.place i (Ticket t) at)) h
 
 pub seat_look_keeps_the_right : SeatLookKeeps
 seat_look_keeps_the_right seats w right owner turn queued quiet i h true at test =
@@ -99,8 +118,10 @@ seat_look_keeps_the_right seats w right owner turn queued quiet i h true at test
       fits_queues = queues.takes_call seats w right owner r queued quiet h.fits_queues i count at;
     }
 seat_look_keeps_the_right seats w right owner turn queued quiet i h false at test =
-    subst (λ (place : ℕ → Place). Stands seats (record w { place = place; count = put w.count i (w.count i) }) right owner turn queued quiet) (sym (put_same w.place i Inner at))
-    (subst (λ (count : ℕ → ℕ). Stands seats (record w { count = count }) right owner turn queued quiet) (sym (put_same w.count i (w.count i) refl)) h)
+    subst (λ (place : ℕ → Place). Stands seats (record w { place = place; count = put w.count i (w.count i) }) right
+    owner turn queued quiet) (sym (put_same w.place i Inner at))
+    (subst (λ (count : ℕ → ℕ). Stands seats (record w { count = count }) right owner turn queued quiet)
+    (sym (put_same w.count i (w.count i) refl)) h)
 
 pub floor_out_keeps_the_right : FloorOutKeeps
 floor_out_keeps_the_right seats w right owner turn queued quiet i h q turn_new queued_new quiet_new due alike =
@@ -135,14 +156,17 @@ floor_in_keeps_the_right seats w right owner turn queued quiet i h q next home q
     let r = h.keeps in
     let three : stage (w.place i) ≡ active_stage = ap stage active in
     let mine = held r i (omega arith) (omega arith) in
-    let none : (j : ℕ) → j ≢ i → due_stage ≤ stage (w.place j) → stage (w.place j) ≤ passing_stage → ⊥ = λ j ne a b. ne (let e = held r j a b in cc) in
+    let none : (j : ℕ) → j ≢ i → due_stage ≤ stage (w.place j) → stage (w.place j) ≤ passing_stage → ⊥ =
+    λ j ne a b. ne (let e = held r j a b in cc) in
     let inner : (k : ℕ) → turn_of_next next ≡ due_to k → stage (w.place k) ≡ inside_stage = λ k e.
     let c = chosen_seat k e in
-    parked (w.place k) (sym (h.fits_queues.in_queue k (λ z. none k c.0 (omega arith) (omega arith))) ∙ sym (alike k c.0) ∙ c.1) (none k c.0) in
+    parked (w.place k) (sym (h.fits_queues.in_queue k (λ z. none k c.0 (omega arith) (omega arith))) ∙ sym (alike k c.0)
+    ∙ c.1) (none k c.0) in
     record {
       keeps = goes_home seats w right owner r i next home three inner;
       fits_turn = turns.goes_home seats w right owner r turn h.fits_turn i q next home active;
-      fits_queues = queues.goes_home seats w right owner r queued quiet h.fits_queues i q next home queued_new quiet_new active alike own entry;
+      fits_queues = queues.goes_home seats w right owner r queued quiet h.fits_queues i q next home queued_new quiet_new
+          active alike own entry;
     }
 
 pub drop_keeps_the_right : DropKeeps
@@ -150,7 +174,9 @@ drop_keeps_the_right seats w right owner turn queued quiet i h home back =
     let r = h.keeps in
     let four : stage (w.place i) ≡ back_stage = ap stage back in
     let next : ℕ = w.drawn - w.unpassed + 1 in
-    let After : Bool → Type 0 = λ b. Stands seats (record w { unpassed = w.unpassed - 1; place = put w.place i (cond b (place_of home) (Passing next home)) })
+    let After : Bool → Type 0 =
+    λ b. Stands seats (record w
+    { unpassed = w.unpassed - 1; place = put w.place i (cond b (place_of home) (Passing next home)) })
     (cond b Nowhere (With i)) owner turn queued quiet in
     elim (eqb_tells w.unpassed 1) as (λ _. After (w.unpassed == 1)) [
       | inl e ↦ subst After (sym e.0) (record {
@@ -170,7 +196,8 @@ ticket_grant_keeps_the_right seats w right owner turn queued quiet i h t home so
     let r = h.keeps in
     let same : ticket (w.place i) ≡ t = ap ticket at in
     record {
-      keeps = subst (λ (k : ℕ). KeepsRight seats (after_ticket_grant seats w i k home) (AtTicket k) owner) same (grants_ticket seats w right owner r i home (ap stage at) some);
+      keeps = subst (λ (k : ℕ). KeepsRight seats (after_ticket_grant seats w i k home) (AtTicket k) owner) same
+          (grants_ticket seats w right owner r i home (ap stage at) some);
       fits_turn = turns.grants_ticket seats w right owner r turn h.fits_turn i t home at;
       fits_queues = queues.grants_ticket seats w right owner r queued quiet h.fits_queues i t home at;
     }

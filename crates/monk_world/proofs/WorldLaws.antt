@@ -1,5 +1,6 @@
 -- From what the words and the floor did to a step of the state
-use Rattle.std.proofs.Common.{◌≡◌, ℕ, ◌+◌, ◌%◌, ◌==◌, ◌<◌, ◌≤◌, cond, Bool, true, false, List, length, [], ◌||◌, ◌&&◌, ⊎_elim, sym, refl, ap, ◌∙◌, subst, inl, inr, arith, eq-eqb}
+use Rattle.std.proofs.Common.{◌≡◌, ℕ, ◌+◌, ◌%◌, ◌==◌, ◌<◌, ◌≤◌, cond, Bool, true, false, List, length, [], ◌||◌, ◌&&◌}
+use Rattle.std.proofs.Common.{⊎_elim, sym, refl, ap, ◌∙◌, subst, inl, inr, arith, eq-eqb}
 use Rattle.std.specs.Prelude.{not, nat_lt, nat_le, slice_index_or, Some, None}
 use Rattle.std.proofs.lemmas.Bool.{eqb-true, cases_lt}
 use Rattle.std.proofs.lemmas.Bool.Decides.{eqb_tells}
@@ -38,8 +39,10 @@ use Rattle.monk_world.specs.Places.{stage, ticket, back_turn, turn_of_next, due_
 use Rattle.monk_world.specs.Put.{put}
 use Rattle.monk_world.specs.Sound.{left_at}
 use Rattle.monk_world.specs.State.{State, with_event}
-use Rattle.monk_world.specs.Steps.{after_arrive, after_ticket_look, after_seat_look, after_floor_out, after_floor_in, after_drop, after_ticket_grant, after_seat_grant}
-use Rattle.monk_world.specs.StepTable.{may_be_told, is_call_in_range, is_call_offered, call_of, left_for, names_entry, is_back, refusal, release_next, out_event, queue_due, IsDone, IsReleased}
+use Rattle.monk_world.specs.Steps.{after_arrive, after_ticket_look, after_seat_look, after_floor_out, after_floor_in}
+use Rattle.monk_world.specs.Steps.{after_drop, after_ticket_grant, after_seat_grant}
+use Rattle.monk_world.specs.StepTable.{may_be_told, is_call_in_range, is_call_offered, call_of, left_for, names_entry}
+use Rattle.monk_world.specs.StepTable.{is_back, refusal, release_next, out_event, queue_due, IsDone, IsReleased}
 use Rattle.monk_world.specs.Telling as telling
 use Rattle.monk_world.specs.Board.{WorldView, state_of_view, view_in, state_in, world_on, Shows, ShowsKnown}
 use Rattle.monk_world.specs.declared.answer.Answer.{Answer}
@@ -96,13 +99,16 @@ module _ (k : Rules) (o : Object) (w : Board) (f : FloorView) (v : WorldView) (i
   pub free_here : (c : Command) → refusal k o (state_of_view v) i c ≡ None → refusal k o s i c ≡ None
   free_here c e = subst (λ (u : WorldView). refusal k o (state_of_view u) i c ≡ None) (sym is) e
 
-  pub returned : (c : Command) (a : Answer) (t : State) → IsDone k o s i (s.world.place i) c a t → IsDone k o (state_of_view v) i ((state_of_view v).world.place i) c a t
+  pub returned : (c : Command) (a : Answer) (t : State) → IsDone k o s i (s.world.place i) c a t
+      → IsDone k o (state_of_view v) i ((state_of_view v).world.place i) c a t
   returned c a t d = subst (λ (u : WorldView). IsDone k o (state_of_view u) i ((state_of_view u).world.place i) c a t) is d
 
-  pub kept : (c : Command) (a : Answer) (new : Board) (g : FloorView) (conds : ℕ) → IsKind k → IsKept k o w.seats conds s → refusal k o (state_of_view v) i c ≡ None → new.seats ≡ w.seats
+  pub kept : (c : Command) (a : Answer) (new : Board) (g : FloorView) (conds : ℕ) → IsKind k
+      → IsKept k o w.seats conds s → refusal k o (state_of_view v) i c ≡ None → new.seats ≡ w.seats
       → IsDone k o s i (s.world.place i) c a (state_in new g) → IsKept k o new.seats conds (state_in new g)
   kept c a new g conds kind old free same d =
-      subst (λ (n : ℕ). IsKept k o n conds (state_in new g)) (sym same) (kept_done k o s i c a (state_in new g) w.seats conds kind old (free_here c free) d)
+      subst (λ (n : ℕ). IsKept k o n conds (state_in new g)) (sym same)
+      (kept_done k o s i c a (state_in new g) w.seats conds kind old (free_here c free) d)
 
   pub ready_here : (c : Command) → refusal k o (state_of_view v) i c ≡ None → IsReady k o s i c
   ready_here c free = ready k o s i c (free_here c free)
@@ -116,72 +122,121 @@ module _ (k : Rules) (o : Object) (w : Board) (f : FloorView) (v : WorldView) (i
   at_place : (p : Place) (c : Command) (a : Answer) (t : State) → s.world.place i ≡ p → IsDone k o s i p c a t → Goes c a t
   at_place p c a t at d = subst (λ (q : Place). IsDone k o s i q c a t) (sym at) d
 
-  pub arrive_goes : (a : Answer) (new : Board) → refusal k o (state_of_view v) i command.Arrive ≡ None → a ≡ answer.Arrived w.drawn w.unpassed → Shows w (after_arrive (world_on w) i) new → Goes command.Arrive a (state_in new f)
-  arrive_goes a new free is_a shows = at_place Idle command.Arrive a (state_in new f) (idle_is (s.world.place i) ((ready_here command.Arrive free).told)) (is_a, shows.state f)
+  pub arrive_goes : (a : Answer) (new : Board) → refusal k o (state_of_view v) i command.Arrive ≡ None
+      → a ≡ answer.Arrived w.drawn w.unpassed → Shows w (after_arrive (world_on w) i) new
+      → Goes command.Arrive a (state_in new f)
+  arrive_goes a new free is_a shows =
+      at_place Idle command.Arrive a (state_in new f)
+      (idle_is (s.world.place i) ((ready_here command.Arrive free).told)) (is_a, shows.state f)
 
   pub ticket_look_goes : (n : ℕ) (a : Answer) (new : Board) (conds : ℕ) → IsKept k o w.seats conds s → s.world.place i ≡ Ticket n
-      → a ≡ answer.Looked ((world_on w).ticket_place (n % w.seats) == n + 1) → Shows w (after_ticket_look (world_on w) i n ((world_on w).ticket_place (n % w.seats) == n + 1)) new → Goes command.Look a (state_in new f)
+      → a ≡ answer.Looked ((world_on w).ticket_place (n % w.seats) == n + 1)
+      → Shows w (after_ticket_look (world_on w) i n ((world_on w).ticket_place (n % w.seats) == n + 1)) new
+      → Goes command.Look a (state_in new f)
   ticket_look_goes n a new conds old at is_a shows =
       at_place (Ticket n) command.Look a (state_in new f) at
-      (subst (λ (m : ℕ). (a ≡ answer.Looked ((world_on w).ticket_place (n % m) == n + 1)) × (state_in new f ≡ record s { world = after_ticket_look (world_on w) i n ((world_on w).ticket_place (n % m) == n + 1) })) old.seats_are (is_a, shows.state f))
+      (subst (λ (m : ℕ). (a ≡ answer.Looked ((world_on w).ticket_place (n % m) == n + 1))
+      × (state_in new f ≡ record s
+      { world = after_ticket_look (world_on w) i n ((world_on w).ticket_place (n % m) == n + 1) })) old.seats_are
+      (is_a, shows.state f))
 
   pub seat_look_goes : (a : Answer) (new : Board) → s.world.place i ≡ Inner
-      → a ≡ answer.Looked ((world_on w).seat_place i == (world_on w).count i + 1) → Shows w (after_seat_look (world_on w) i ((world_on w).seat_place i == (world_on w).count i + 1)) new → Goes command.Look a (state_in new f)
+      → a ≡ answer.Looked ((world_on w).seat_place i == (world_on w).count i + 1)
+      → Shows w (after_seat_look (world_on w) i ((world_on w).seat_place i == (world_on w).count i + 1)) new
+      → Goes command.Look a (state_in new f)
   seat_look_goes a new at is_a shows = at_place Inner command.Look a (state_in new f) at (is_a, shows.state f)
 
   pub idle_peek_goes : (a : Answer) → s.world.place i ≡ Idle → a ≡ answer.Found w.unpassed → Goes command.Peek a s
   idle_peek_goes a at is_a = at_place Idle command.Peek a s at (is_a, refl)
 
   pub active_peek_goes : (q : Source) (a : Answer) (new : Board) → s.world.place i ≡ Active q → a ≡ answer.Found w.unpassed
-      → ShowsKnown w (world_on w) (put (λ j. slice_index_or w.known.items j false) i (slice_index_or w.known.items i false || nat_le 2 w.unpassed)) new → Goes command.Peek a (state_in new f)
+      → ShowsKnown w (world_on w)
+      (put (λ j. slice_index_or w.known.items j false) i
+      (slice_index_or w.known.items i false || nat_le 2 w.unpassed)) new → Goes command.Peek a (state_in new f)
   active_peek_goes q a new at is_a shows = at_place (Active q) command.Peek a (state_in new f) at (is_a, shows.state f)
 
-  pub drop_goes : (to : Home) (a : Answer) (new : Board) → s.world.place i ≡ Back next.Entry to → a ≡ answer.Found w.unpassed → Shows w (after_drop (world_on w) i to) new → Goes command.Drop a (state_in new f)
+  pub drop_goes : (to : Home) (a : Answer) (new : Board) → s.world.place i ≡ Back next.Entry to
+      → a ≡ answer.Found w.unpassed → Shows w (after_drop (world_on w) i to) new → Goes command.Drop a (state_in new f)
   drop_goes to a new at is_a shows = at_place (Back next.Entry to) command.Drop a (state_in new f) at (is_a, shows.state f)
 
-  pub ticket_grant_goes : (n : ℕ) (to : Home) (a : Answer) (new : Board) (conds : ℕ) → IsKept k o w.seats conds s → s.world.place i ≡ Passing n to
+  pub ticket_grant_goes : (n : ℕ) (to : Home) (a : Answer) (new : Board) (conds : ℕ) → IsKept k o w.seats conds s
+      → s.world.place i ≡ Passing n to
       → a ≡ answer.GrantedTicket n → Shows w (after_ticket_grant w.seats (world_on w) i n to) new → Goes command.Grant a (state_in new f)
   ticket_grant_goes n to a new conds old at is_a shows =
-      at_place (Passing n to) command.Grant a (state_in new f) at
-      (is_a, subst (λ (m : ℕ). state_in new f ≡ record s { world = after_ticket_grant m (world_on w) i n to }) old.seats_are (shows.state f))
-
-  pub waiter_grant_goes : (j : ℕ) (to : Home) (a : Answer) (new : Board) → s.world.place i ≡ Back (next.Waiter j) to → a ≡ answer.GrantedSeat j → Shows w (after_seat_grant (world_on w) i j to) new → Goes command.Grant a (state_in new f)
-  waiter_grant_goes j to a new at is_a shows = at_place (Back (next.Waiter j) to) command.Grant a (state_in new f) at (is_a, shows.state f)
-
-  pub signaller_grant_goes : (j : ℕ) (to : Home) (a : Answer) (new : Board) → s.world.place i ≡ Back (next.Signaller j) to → a ≡ answer.GrantedSeat j → Shows w (after_seat_grant (world_on w) i j to) new → Goes command.Grant a (state_in new f)
-  signaller_grant_goes j to a new at is_a shows = at_place (Back (next.Signaller j) to) command.Grant a (state_in new f) at (is_a, shows.state f)
-
-  pub until_grant_goes : (j : ℕ) (to : Home) (a : Answer) (new : Board) → s.world.place i ≡ Back (next.Until j) to → a ≡ answer.GrantedSeat j → Shows w (after_seat_grant (world_on w) i j to) new → Goes command.Grant a (state_in new f)
-  until_grant_goes j to a new at is_a shows = at_place (Back (next.Until j) to) command.Grant a (state_in new f) at (is_a, shows.state f)
-
-  pub out_goes : (q : Source) (a : Answer) (new : Board) (g : FloorView) → s.world.place i ≡ Due q → g ≡ with_event f (out_event i q (turn f.history)) → a ≡ answer.Now
-      → ShowsKnown w (after_floor_out (world_on w) i q) (put (λ j. slice_index_or w.known.items j false) i false) new → Goes command.Out a (state_in new g)
-  out_goes q a new g at grows is_a shows =
-      at_place (Due q) command.Out a (state_in new g) at
-      (is_a, shows.state g ∙ ap (λ (x : FloorView). record (state_in w x) { world = after_floor_out (world_on w) i q; known = put (λ j. slice_index_or w.known.items j false) i false }) grows)
-
-  pub release_goes : (e : Event) (pick : Pick) (to : Home) (x : Next) (known : Bool) (a : Answer) (new : Board) (g : FloorView) → known ≡ slice_index_or w.known.items i false
-      → x ≡ release_next k o (record s { known = λ j. known }) i e pick → g ≡ with_event f (with_next x e) → a ≡ answer.Chose x → Shows w (cond (is_stay (Some x)) (world_on w) (after_floor_in (world_on w) i x to)) new
-      → IsReleased k o s i e pick to a (state_in new g)
-  release_goes e pick to x known a new g knows chooses grows is_a shows =
-      let same : x ≡ release_next k o s i e pick = chooses ∙ ap (λ (b : Bool). release_next k o (record s { known = λ j. b }) i e pick) knows in (
-        is_a ∙ ap answer.Chose same,
-        shows.state g
-            ∙ (ap (λ (y : FloorView). record (state_in w y) { world = cond (is_stay (Some x)) (world_on w) (after_floor_in (world_on w) i x to) }) grows
-            ∙ ap (λ (y : Next). record s { world = cond (is_stay (Some y)) (world_on w) (after_floor_in (world_on w) i y to); floor = with_event f (with_next y e) }) same),
+      at_place (Passing n to) command.Grant a (state_in new f) at (
+        is_a,
+        subst (λ (m : ℕ). state_in new f ≡ record s { world = after_ticket_grant m (world_on w) i n to })
+            old.seats_are (shows.state f),
       )
 
-  pub act_goes : (op : Op) (reply : ℕ) (a : Answer) (g : FloorView) → refusal k o (state_of_view v) i (command.Act op) ≡ None → IsGrown k o f (Act i op reply) g → a ≡ answer.Reply reply → Goes (command.Act op) a (state_in w g)
+  pub waiter_grant_goes : (j : ℕ) (to : Home) (a : Answer) (new : Board) → s.world.place i ≡ Back (next.Waiter j) to
+      → a ≡ answer.GrantedSeat j → Shows w (after_seat_grant (world_on w) i j to) new
+      → Goes command.Grant a (state_in new f)
+  waiter_grant_goes j to a new at is_a shows = at_place (Back (next.Waiter j) to) command.Grant a (state_in new f) at (is_a, shows.state f)
+
+  pub signaller_grant_goes : (j : ℕ) (to : Home) (a : Answer) (new : Board)
+      → s.world.place i ≡ Back (next.Signaller j) to → a ≡ answer.GrantedSeat j
+      → Shows w (after_seat_grant (world_on w) i j to) new → Goes command.Grant a (state_in new f)
+  signaller_grant_goes j to a new at is_a shows =
+      at_place (Back (next.Signaller j) to) command.Grant a (state_in new f) at (is_a, shows.state f)
+
+  pub until_grant_goes : (j : ℕ) (to : Home) (a : Answer) (new : Board) → s.world.place i ≡ Back (next.Until j) to
+      → a ≡ answer.GrantedSeat j → Shows w (after_seat_grant (world_on w) i j to) new
+      → Goes command.Grant a (state_in new f)
+  until_grant_goes j to a new at is_a shows = at_place (Back (next.Until j) to) command.Grant a (state_in new f) at (is_a, shows.state f)
+
+  pub out_goes : (q : Source) (a : Answer) (new : Board) (g : FloorView) → s.world.place i ≡ Due q
+      → g ≡ with_event f (out_event i q (turn f.history)) → a ≡ answer.Now
+      → ShowsKnown w (after_floor_out (world_on w) i q) (put (λ j. slice_index_or w.known.items j false) i false) new
+      → Goes command.Out a (state_in new g)
+  out_goes q a new g at grows is_a shows =
+      at_place (Due q) command.Out a (state_in new g) at (
+        is_a,
+        shows.state g ∙ ap
+            (λ (x : FloorView). record (state_in w x) {
+              world = after_floor_out (world_on w) i q;
+              known =
+                  put (λ j. slice_index_or w.known.items j false) i false;
+            }) grows,
+      )
+
+  pub release_goes : (e : Event) (pick : Pick) (to : Home) (x : Next) (known : Bool) (a : Answer) (new : Board)
+      (g : FloorView) → known ≡ slice_index_or w.known.items i false
+      → x ≡ release_next k o (record s { known = λ j. known }) i e pick → g ≡ with_event f (with_next x e)
+      → a ≡ answer.Chose x → Shows w (cond (is_stay (Some x)) (world_on w) (after_floor_in (world_on w) i x to)) new
+      → IsReleased k o s i e pick to a (state_in new g)
+  release_goes e pick to x known a new g knows chooses grows is_a shows =
+      let same : x ≡ release_next k o s i e pick = chooses
+      ∙ ap (λ (b : Bool). release_next k o (record s { known = λ j. b }) i e pick) knows in (
+        is_a ∙ ap answer.Chose same,
+        shows.state g
+            ∙ (ap (λ (y : FloorView). record (state_in w y)
+            { world = cond (is_stay (Some x)) (world_on w) (after_floor_in (world_on w) i x to) }) grows
+            ∙ ap (λ (y : Next). record s {
+              world = cond (is_stay (Some y)) (world_on w) (after_floor_in (world_on w) i y to);
+              floor =
+                  with_event f (with_next y e);
+            }) same),
+      )
+
+  pub act_goes : (op : Op) (reply : ℕ) (a : Answer) (g : FloorView)
+      → refusal k o (state_of_view v) i (command.Act op) ≡ None → IsGrown k o f (Act i op reply) g
+      → a ≡ answer.Reply reply → Goes (command.Act op) a (state_in w g)
   act_goes op reply a g free grows is_a =
       let at = active_is (s.world.place i) ((ready_here (command.Act op) free).told) in
       let same : reply ≡ o.reply (data_of (monitor_of k o f) f.history) op = eqb-true _ _ (grows.allowed.right_reply) in
-      at_place (Active at.source) (command.Act op) a (state_in w g) at.is
-      (is_a ∙ ap answer.Reply same, ap (λ (y : FloorView). state_in w y) grows.grown ∙ ap (λ (r : ℕ). record s { floor = with_event f (Act i op r) }) same)
+      at_place (Active at.source) (command.Act op) a (state_in w g) at.is (
+        is_a ∙ ap answer.Reply same,
+        ap (λ (y : FloorView). state_in w y) grows.grown
+            ∙ ap (λ (r : ℕ). record s { floor = with_event f (Act i op r) }) same,
+      )
 
-  pub owns_here : (c : Command) (conds : ℕ) → IsKept k o w.seats conds s → (stage (s.world.place i) == active_stage) ≡ true → is_owned_by i (turn f.history) ≡ true
+  pub owns_here : (c : Command) (conds : ℕ) → IsKept k o w.seats conds s
+      → (stage (s.world.place i) == active_stage) ≡ true → is_owned_by i (turn f.history) ≡ true
   owns_here c conds old three = ap (is_owned_by i) (old.sound.is_sound.active i (eqb-true _ _ three)) ∙ eq-eqb i i refl
 
-  pub out_allowed : (q : Source) (conds : ℕ) → IsKept k o w.seats conds s → refusal k o (state_of_view v) i command.Out ≡ None → s.world.place i ≡ Due q
+  pub out_allowed : (q : Source) (conds : ℕ) → IsKept k o w.seats conds s
+      → refusal k o (state_of_view v) i command.Out ≡ None → s.world.place i ≡ Due q
       → IsAllowed (monitor_of k o f) f.history (out_event i q (turn f.history))
   out_allowed q conds old free at =
       let out = sound_out k o s old.sound.right old.sound.owner old.sound.is_sound i ((ready_here command.Out free).near) q at in
@@ -190,7 +245,9 @@ module _ (k : Rules) (o : Object) (w : Board) (f : FloorView) (v : WorldView) (i
   pub out_left : (q : Source) (conds : ℕ) → IsKept k o w.seats conds s → s.world.place i ≡ Due q → 0 < left_of f.budget f.history i
   out_left q conds old at = omega (arith, old.sound.is_sound.left i, ap left_at at)
 
-  pub at_active : (c : Command) (a : Answer) (t : State) → refusal k o (state_of_view v) i c ≡ None → may_be_told (s.world.place i) c ≡ (stage (s.world.place i) == active_stage) → ((q : Source) → IsDone k o s i (Active q) c a t) → Goes c a t
+  pub at_active : (c : Command) (a : Answer) (t : State) → refusal k o (state_of_view v) i c ≡ None
+      → may_be_told (s.world.place i) c ≡ (stage (s.world.place i) == active_stage)
+      → ((q : Source) → IsDone k o s i (Active q) c a t) → Goes c a t
   at_active c a t free active d =
       let at = active_is (s.world.place i) (sym active ∙ (ready_here c free).told) in
       at_place (Active at.source) c a t at.is (d at.source)
@@ -235,11 +292,13 @@ module _ (k : Rules) (o : Object) (w : Board) (f : FloorView) (v : WorldView) (i
         | inr e ↦ omega (arith, e.1)
       ]
 
-  pub called_here : (x : Next) (to : Home) (j conds : ℕ) → IsKept k o w.seats conds s → s.world.place i ≡ Back x to → turn_of_next x ≡ due_to j → j < w.seats
+  pub called_here : (x : Next) (to : Home) (j conds : ℕ) → IsKept k o w.seats conds s → s.world.place i ≡ Back x to
+      → turn_of_next x ≡ due_to j → j < w.seats
   called_here x to j conds old at names =
       let r = old.sound.is_sound.stands.keeps in
       let six = r.calls.chose i (ap stage at) j (subst (λ (p : Place). back_turn p ≡ due_to j) (sym at) names) in
-      ⊎_elim (λ l. subst (λ (n : ℕ). j < n) (sym old.seats_are) l) (λ l. absurd (omega (arith, six, old.sound.is_sound.outside j l))) (cases_lt j f.seats)
+      ⊎_elim (λ l. subst (λ (n : ℕ). j < n) (sym old.seats_are) l)
+      (λ l. absurd (omega (arith, six, old.sound.is_sound.outside j l))) (cases_lt j f.seats)
 
 -- the floor comes out
 
@@ -286,7 +345,8 @@ record AreFew (high large : Bool) : Type 0 where
   low : large ≡ false
 
 few_are : (low_seats high conds small large : Bool)
-    → cond (low_seats || high) (Some fault.Seats) (cond conds (Some fault.Conds) (cond (small || large) (Some fault.Budget) None)) ≡ None → AreFew high large
+    → cond (low_seats || high) (Some fault.Seats)
+    (cond conds (Some fault.Conds) (cond (small || large) (Some fault.Budget) None)) ≡ None → AreFew high large
 few_are false false false false false e = record { few = refl; low = refl }
 few_are true high conds small large e = absurd cc
 few_are false true conds small large e = absurd cc
@@ -297,9 +357,11 @@ few_are false false false false true e = absurd cc
 not_more : (n m : ℕ) → nat_lt n m ≡ false → m ≤ n
 not_more n m e = grind (arith, e)
 
-pub opening_kept : (k : Rules) (o : Object) (opening : List ℕ) (seats conds budget : ℕ) → make.make_refusal seats conds budget ≡ None → IsKept k o seats conds (opening_state opening seats conds budget)
+pub opening_kept : (k : Rules) (o : Object) (opening : List ℕ) (seats conds budget : ℕ)
+    → make.make_refusal seats conds budget ≡ None → IsKept k o seats conds (opening_state opening seats conds budget)
 opening_kept k o opening seats conds budget free =
-    let r = few_are (nat_lt seats 1) (nat_lt most_seats seats) (nat_lt most_conds conds) (nat_lt budget least_budget) (nat_lt most_budget budget) free in
+    let r = few_are (nat_lt seats 1) (nat_lt most_seats seats) (nat_lt most_conds conds) (nat_lt budget least_budget)
+    (nat_lt most_budget budget) free in
     record {
       sound = opening_is_sound k o opening seats conds budget;
       bounded = record {
@@ -314,34 +376,46 @@ opening_kept k o opening seats conds budget free =
       conds_are = refl;
     }
 
-pub made_state : (w : Board) (f : FloorView) (opening : List ℕ) (seats conds budget : ℕ) → ((g : FloorView) → state_in w g ≡ record { world = opening_world; known = λ j. false; floor = g })
+pub made_state : (w : Board) (f : FloorView) (opening : List ℕ) (seats conds budget : ℕ)
+    → ((g : FloorView) → state_in w g ≡ record { world = opening_world; known = λ j. false; floor = g })
     → f ≡ empty_floor opening seats conds budget → state_in w f ≡ opening_state opening seats conds budget
-made_state w f opening seats conds budget shows is = shows f ∙ ap (λ (g : FloorView). record (opening_state opening seats conds budget) { floor = g }) is
+made_state w f opening seats conds budget shows is = shows f
+    ∙ ap (λ (g : FloorView). record (opening_state opening seats conds budget) { floor = g }) is
 
 -- the tests for a refusal: of a command that the seat is not where it may be told, and of one that passes them all
-pub not_now : (k : Rules) (o : Object) (s : State) (i : ℕ) (c : Command) → (nat_lt i s.floor.seats && is_call_in_range o s.floor (call_of i c)) ≡ true → is_call_offered k (call_of i c) ≡ true
+pub not_now : (k : Rules) (o : Object) (s : State) (i : ℕ) (c : Command)
+    → (nat_lt i s.floor.seats && is_call_in_range o s.floor (call_of i c)) ≡ true
+    → is_call_offered k (call_of i c) ≡ true
     → may_be_told (s.world.place i) c ≡ false → Some answer.NotNow ≡ refusal k o s i c
 not_now k o s i c reach offered told =
-    by_tests (nat_lt i s.floor.seats && is_call_in_range o s.floor (call_of i c)) (is_call_offered k (call_of i c)) (may_be_told (s.world.place i) c) (nat_lt (left_of s.floor.budget s.floor.history i) (left_for c)) reach offered told
+    by_tests (nat_lt i s.floor.seats && is_call_in_range o s.floor (call_of i c)) (is_call_offered k (call_of i c))
+    (may_be_told (s.world.place i) c) (nat_lt (left_of s.floor.budget s.floor.history i) (left_for c)) reach offered
+    told
   where
     by_tests : (a b d e : Bool) → a ≡ true → b ≡ true → d ≡ false
-        → Some answer.NotNow ≡ cond (not a) (Some answer.Range) (cond (not b) (Some answer.NoCall) (cond (not d) (Some answer.NotNow) (cond e (Some answer.Tired) None)))
+        → Some answer.NotNow ≡ cond (not a) (Some answer.Range)
+        (cond (not b) (Some answer.NoCall) (cond (not d) (Some answer.NotNow) (cond e (Some answer.Tired) None)))
     by_tests true true false e x y z = refl
     by_tests false b d e x y z = absurd cc
     by_tests true false d e x y z = absurd cc
     by_tests true true true e x y z = absurd cc
 
-pub not_refused : (k : Rules) (o : Object) (s : State) (i : ℕ) (c : Command) → (nat_lt i s.floor.seats && is_call_in_range o s.floor (call_of i c)) ≡ true → is_call_offered k (call_of i c) ≡ true
+pub not_refused : (k : Rules) (o : Object) (s : State) (i : ℕ) (c : Command)
+    → (nat_lt i s.floor.seats && is_call_in_range o s.floor (call_of i c)) ≡ true
+    → is_call_offered k (call_of i c) ≡ true
     → may_be_told (s.world.place i) c ≡ true → left_for c ≤ left_of s.floor.budget s.floor.history i → None ≡ refusal k o s i c
 not_refused k o s i c reach offered told enough =
-    by_tests (nat_lt i s.floor.seats && is_call_in_range o s.floor (call_of i c)) (is_call_offered k (call_of i c)) (may_be_told (s.world.place i) c) (nat_lt (left_of s.floor.budget s.floor.history i) (left_for c)) reach offered told
+    by_tests (nat_lt i s.floor.seats && is_call_in_range o s.floor (call_of i c)) (is_call_offered k (call_of i c))
+    (may_be_told (s.world.place i) c) (nat_lt (left_of s.floor.budget s.floor.history i) (left_for c)) reach offered
+    told
     (not_below (left_of s.floor.budget s.floor.history i) (left_for c) enough)
   where
     not_below : (n m : ℕ) → m ≤ n → nat_lt n m ≡ false
     not_below n m l = grind (arith, l)
 
     by_tests : (a b d e : Bool) → a ≡ true → b ≡ true → d ≡ true → e ≡ false
-        → None ≡ cond (not a) (Some answer.Range) (cond (not b) (Some answer.NoCall) (cond (not d) (Some answer.NotNow) (cond e (Some answer.Tired) None)))
+        → None ≡ cond (not a) (Some answer.Range)
+        (cond (not b) (Some answer.NoCall) (cond (not d) (Some answer.NotNow) (cond e (Some answer.Tired) None)))
     by_tests true true true false x y z u = refl
     by_tests false b d e x y z u = absurd cc
     by_tests true false d e x y z u = absurd cc
@@ -371,7 +445,9 @@ both_fourth true true e f = refl
 both_fourth false x e f = absurd cc
 both_fourth true false e f = absurd cc
 
-pub reaches : (o : Object) (f : FloorView) (i : ℕ) (c : Command) → nat_lt i f.seats ≡ true → telling.is_command_in_range f.conds o.codes o.predicates c ≡ true → (nat_lt i f.seats && is_call_in_range o f (call_of i c)) ≡ true
+pub reaches : (o : Object) (f : FloorView) (i : ℕ) (c : Command) → nat_lt i f.seats ≡ true
+    → telling.is_command_in_range f.conds o.codes o.predicates c ≡ true
+    → (nat_lt i f.seats && is_call_in_range o f (call_of i c)) ≡ true
 reaches o f i command.Arrive here fits = both (nat_lt i f.seats) true here refl
 reaches o f i command.Look here fits = both (nat_lt i f.seats) true here refl
 reaches o f i command.Out here fits = both (nat_lt i f.seats) true here refl

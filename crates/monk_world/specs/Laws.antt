@@ -11,7 +11,9 @@ use Rattle.monk_world.specs.Right.{Whereabouts, Nowhere, AtTicket, AtSeat}
 use Rattle.monk_world.specs.Runs.{opening_state}
 use Rattle.monk_world.specs.Sound.{Sound}
 use Rattle.monk_world.specs.Stands.{Stands, opening_world}
-use Rattle.monk_world.specs.Steps.{after_arrive, after_ticket_look, after_seat_look, after_floor_out, after_floor_in, after_drop, after_ticket_grant, after_seat_grant, right_after_arrive, owner_after_arrive, right_after_look, right_after_drop}
+use Rattle.monk_world.specs.Steps.{after_arrive, after_ticket_look, after_seat_look, after_floor_out, after_floor_in}
+use Rattle.monk_world.specs.Steps.{after_drop, after_ticket_grant, after_seat_grant, right_after_arrive}
+use Rattle.monk_world.specs.Steps.{owner_after_arrive, right_after_look, right_after_drop}
 use Rattle.monk_world.specs.State.{State}
 use Rattle.monk_world.specs.StepTable.{IsStep}
 use Rattle.monk_world.specs.World.{World}
@@ -56,7 +58,8 @@ FloorOutKeeps = Kept (λ seats w right owner turn queued quiet i.
 -- the active seat lets the history grow, which leaves the others in their queues
 abbrev pub ActiveKeeps : Type 0
 ActiveKeeps = Kept (λ seats w right owner turn queued quiet i.
-    (q : Source) (turn_new : ℕ) (queued_new : ℕ → Bool) (quiet_new : Bool) → w.place i ≡ Active q → ((j : ℕ) → j ≢ i → queued_new j ≡ queued j)
+    (q : Source) (turn_new : ℕ) (queued_new : ℕ → Bool) (quiet_new : Bool) → w.place i ≡ Active q
+    → ((j : ℕ) → j ≢ i → queued_new j ≡ queued j)
     → Stands seats w right owner turn_new queued_new quiet_new)
 
 -- the active seat brings the floor home. Whom it has chosen is another, in a queue; it is in one where it stays
@@ -78,7 +81,8 @@ DropKeeps = Kept (λ seats w right owner turn queued quiet i.
 -- it grants the next ticket
 abbrev pub TicketGrantKeeps : Type 0
 TicketGrantKeeps = Kept (λ seats w right owner turn queued quiet i.
-    (t : ℕ) (home : Home) → 0 < seats → w.place i ≡ Passing t home → Stands seats (after_ticket_grant seats w i t home) (AtTicket t) owner turn queued quiet)
+    (t : ℕ) (home : Home) → 0 < seats → w.place i ≡ Passing t home
+    → Stands seats (after_ticket_grant seats w i t home) (AtTicket t) owner turn queued quiet)
 
 -- a seat that chose another calls it
 abbrev pub SeatGrantKeeps : Type 0
@@ -94,7 +98,8 @@ StandsInOnePlace =
 
 -- every step keeps a state sound, and before any step it is
 abbrev pub StepsStaySound : Type 0
-StepsStaySound = (k : Rules) (o : Object) (s : State) (i : ℕ) (c : Command) (a : Answer) (t : State) → IsKind k → Sound k o s → IsStep k o s i c a t → Sound k o t
+StepsStaySound = (k : Rules) (o : Object) (s : State) (i : ℕ) (c : Command) (a : Answer) (t : State) → IsKind k
+    → Sound k o s → IsStep k o s i c a t → Sound k o t
 
 abbrev pub OpeningIsSound : Type 0
 OpeningIsSound = (k : Rules) (o : Object) (opening : List ℕ) (seats conds budget : ℕ) → Sound k o (opening_state opening seats conds budget)
@@ -105,4 +110,5 @@ StepsAreAnswered = (k : Rules) (o : Object) (s : State) (i : ℕ) (c : Command) 
 
 abbrev pub StepsAreDetermined : Type 0
 StepsAreDetermined =
-    (k : Rules) (o : Object) (s : State) (i : ℕ) (c : Command) (a b : Answer) (t u : State) → IsStep k o s i c a t → IsStep k o s i c b u → (a ≡ b) × (t ≡ u)
+    (k : Rules) (o : Object) (s : State) (i : ℕ) (c : Command) (a b : Answer) (t u : State) → IsStep k o s i c a t
+    → IsStep k o s i c b u → (a ≡ b) × (t ≡ u)

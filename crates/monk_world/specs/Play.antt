@@ -11,7 +11,8 @@ use Rattle.monk_history.specs.Text.{Heading, IsHeading, part_words}
 use Rattle.monk_history.specs.Text.Lines.{line}
 use Rattle.monk_history.specs.Text.Words.{Word}
 use Rattle.monk_world.specs.declared.command.Command.{Command}
-use Rattle.monk_world.specs.declared.command.Command.TheVariants.{Arrive, Look, Out, Peek, Drop, Grant, Act, Leave, Wait, Signal, SignalLeave, Until}
+use Rattle.monk_world.specs.declared.command.Command.TheVariants.{Arrive, Look, Out, Peek, Drop, Grant, Act, Leave}
+use Rattle.monk_world.specs.declared.command.Command.TheVariants.{Wait, Signal, SignalLeave, Until}
 
 -- ---- words
 

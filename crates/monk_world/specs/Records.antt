@@ -59,7 +59,9 @@ pub record IsTaken (k : Rules) (o : Object) (s : State) (x : Recorded) (t : Stat
 
 -- the step of seat i by command c, with its answer
 abbrev pub IsTakenBy : Rules → Object → State → ℕ → Command → Answer → State → Type 0
-IsTakenBy k o s i c a t = (events : List Event) × IsTaken k o s (record { told = record { seat = i; command = c; answer = a }; events = events }) t
+IsTakenBy k o s i c a t =
+    (events : List Event)
+    × IsTaken k o s (record { told = record { seat = i; command = c; answer = a }; events = events }) t
 
 abbrev pub IsRecorded : Rules → Object → State → List Recorded → State → Type 0
 IsRecorded k o s [] t = t ≡ s
@@ -82,10 +84,12 @@ pub record IsRecordedBy (k : Rules) (o : Object) (s : State) (commands : List (�
   pub own : (j : ℕ) → events_of t.floor.history j ≡ events_of s.floor.history j ++ recorded_by j steps
 
 abbrev pub StepsAreTaken : Type 0
-StepsAreTaken = (k : Rules) (o : Object) (s : State) (i : ℕ) (c : Command) (a : Answer) (t : State) → IsKind k → Sound k o s → IsStep k o s i c a t → IsTakenBy k o s i c a t
+StepsAreTaken = (k : Rules) (o : Object) (s : State) (i : ℕ) (c : Command) (a : Answer) (t : State) → IsKind k
+    → Sound k o s → IsStep k o s i c a t → IsTakenBy k o s i c a t
 
 abbrev pub RunsAreRecorded : Type 0
-RunsAreRecorded = (k : Rules) (o : Object) (s : State) (commands : List (ℕ × Command)) (t : State) → IsKind k → Sound k o s → IsLed k o s commands t → IsRecordedBy k o s commands t
+RunsAreRecorded = (k : Rules) (o : Object) (s : State) (commands : List (ℕ × Command)) (t : State) → IsKind k
+    → Sound k o s → IsLed k o s commands t → IsRecordedBy k o s commands t
 
 -- seat j drew ticket n in one of these steps
 abbrev pub HasDrawn : ℕ → ℕ → List Recorded → Type 0
@@ -95,6 +99,8 @@ HasDrawn j n (x ∷ xs) = ((x.told.seat ≡ j) × ((found : ℕ) × (x.told.answ
 -- from before any step, whoever enters with n enters before it has drawn ticket n
 abbrev pub TicketsEnterInOrder : Type 0
 TicketsEnterInOrder =
-    (k : Rules) (o : Object) (opening : List ℕ) (seats conds budget : ℕ) (before : List Recorded) (s : State) (x : Recorded) (t : State) (v : Via)
-    → IsKind k → IsRecorded k o (opening_state opening seats conds budget) before s → IsTaken k o s x t → x.events ≡ Enter x.told.seat v ∷ []
+    (k : Rules) (o : Object) (opening : List ℕ) (seats conds budget : ℕ) (before : List Recorded) (s : State)
+    (x : Recorded) (t : State) (v : Via)
+    → IsKind k → IsRecorded k o (opening_state opening seats conds budget) before s → IsTaken k o s x t
+    → x.events ≡ Enter x.told.seat v ∷ []
     → HasDrawn x.told.seat (enters_of s.floor.history) before

@@ -21,7 +21,8 @@ use Rattle.std.specs.Prelude.{false}
 
 -- a world before any step, over an object with this opening state
 abbrev pub opening_state : List ℕ → ℕ → ℕ → ℕ → State
-opening_state opening seats conds budget = record { world = opening_world; known = λ j. false; floor = empty_floor opening seats conds budget }
+opening_state opening seats conds budget =
+    record { world = opening_world; known = λ j. false; floor = empty_floor opening seats conds budget }
 
 -- a step of seat `seat` by this command, with its answer
 pub record Told : Type 0 where

@@ -34,14 +34,16 @@ left_at Inner = 2
 
 pub record IsSound (k : Rules) (o : Object) (s : State) (right : Whereabouts) (owner : ℕ → ℕ) : Type 0 where
   pub legal : IsLegal (monitor_of k o s.floor) s.floor.history
-  pub stands : Stands s.floor.seats s.world right owner (turn_number (turn s.floor.history)) (is_standing k o s.floor) (is_quiet k o s.floor)
+  pub stands : Stands s.floor.seats s.world right owner (turn_number (turn s.floor.history)) (is_standing k o s.floor)
+      (is_quiet k o s.floor)
   -- the active seat owns the turn, and knows of somebody only where a ticket waits
   pub active : (j : ℕ) → stage (s.world.place j) ≡ active_stage → turn s.floor.history ≡ Owned j
   pub known : (j : ℕ) → stage (s.world.place j) ≡ active_stage → s.known j ≡ true → 2 ≤ s.world.unpassed
   -- the enters are those of the tickets, and a ticket that was granted is not the first
   pub entered : FitsEnters s.world right (enters_of s.floor.history)
   pub late : (j : ℕ) → stage (s.world.place j) ≡ ticketed_stage → 1 ≤ ticket (s.world.place j)
-  pub granted_late : (j : ℕ) → stage (s.world.place j) ≡ due_stage → source (s.world.place j) ≡ granted_source → 1 ≤ ticket (s.world.place j)
+  pub granted_late : (j : ℕ) → stage (s.world.place j) ≡ due_stage → source (s.world.place j) ≡ granted_source
+      → 1 ≤ ticket (s.world.place j)
   pub left : (j : ℕ) → left_at (s.world.place j) ≤ left_of s.floor.budget s.floor.history j
   pub outside : (j : ℕ) → s.floor.seats ≤ j → stage (s.world.place j) ≡ outside_stage
 

@@ -27,4 +27,5 @@ is_standing k o f j = nat_lt 0 (standing f.conds j (stands_of k o f))
 
 -- whether nobody could be chosen from a queue
 abbrev pub is_quiet : Rules → Object → FloorView → Bool
-is_quiet k o f = is_empty (waiters f.history) && is_empty (signallers f.history) && is_empty (ready_of o (data_of (monitor_of k o f) f.history) (untils f.history))
+is_quiet k o f = is_empty (waiters f.history) && is_empty (signallers f.history) && is_empty
+    (ready_of o (data_of (monitor_of k o f) f.history) (untils f.history))

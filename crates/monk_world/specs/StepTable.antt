@@ -22,7 +22,8 @@ use Rattle.monk_floor.specs.View.{FloorView, monitor_of, stands_of}
 use Rattle.monk_world.specs.Places.{stage, outside_stage, ticketed_stage, due_stage, active_stage, passing_stage, inside_stage}
 use Rattle.monk_world.specs.Put.{put}
 use Rattle.monk_world.specs.State.{State, with_event}
-use Rattle.monk_world.specs.Steps.{after_arrive, after_ticket_look, after_seat_look, after_floor_out, after_floor_in, after_drop, after_ticket_grant, after_seat_grant}
+use Rattle.monk_world.specs.Steps.{after_arrive, after_ticket_look, after_seat_look, after_floor_out, after_floor_in}
+use Rattle.monk_world.specs.Steps.{after_drop, after_ticket_grant, after_seat_grant}
 use Rattle.monk_world.specs.declared.answer.Answer.{Answer}
 use Rattle.monk_world.specs.declared.answer.Answer.TheVariants as answer
 use Rattle.monk_world.specs.declared.command.Command.{Command}
@@ -160,7 +161,8 @@ IsDropped s i (next.Until j) home a t = ⊥
 
 -- of seat i, which stands at p: a step that is not refused. Where no line fits, there is none
 abbrev pub IsDone : Rules → Object → State → ℕ → Place → Command → Answer → State → Type 0
-IsDone k o s i Idle command.Arrive a t = (a ≡ answer.Arrived s.world.drawn s.world.unpassed) × (t ≡ record s { world = after_arrive s.world i })
+IsDone k o s i Idle command.Arrive a t = (a ≡ answer.Arrived s.world.drawn s.world.unpassed)
+    × (t ≡ record s { world = after_arrive s.world i })
 IsDone k o s i (Ticket n) command.Look a t =
     (a ≡ answer.Looked (s.world.ticket_place (n % s.floor.seats) == n + 1))
     × (t ≡ record s { world = after_ticket_look s.world i n (s.world.ticket_place (n % s.floor.seats) == n + 1) })
@@ -169,13 +171,19 @@ IsDone k o s i Inner command.Look a t =
     × (t ≡ record s { world = after_seat_look s.world i (s.world.seat_place i == s.world.count i + 1) })
 IsDone k o s i (Due q) command.Out a t =
     (a ≡ answer.Now)
-    × (t ≡ record { world = after_floor_out s.world i q; known = put s.known i false; floor = with_event s.floor (out_event i q (turn s.floor.history)) })
+    × (t ≡ record {
+      world = after_floor_out s.world i q;
+      known = put s.known i false;
+      floor =
+          with_event s.floor (out_event i q (turn s.floor.history));
+    })
 IsDone k o s i Idle command.Peek a t = (a ≡ answer.Found s.world.unpassed) × (t ≡ s)
 IsDone k o s i (Active q) command.Peek a t =
     (a ≡ answer.Found s.world.unpassed) × (t ≡ record s { known = put s.known i (s.known i || nat_le 2 s.world.unpassed) })
 IsDone k o s i (Back x home) command.Drop a t = IsDropped s i x home a t
 IsDone k o s i (Back x home) command.Grant a t = IsGranted s i x home a t
-IsDone k o s i (Passing n home) command.Grant a t = (a ≡ answer.GrantedTicket n) × (t ≡ record s { world = after_ticket_grant s.floor.seats s.world i n home })
+IsDone k o s i (Passing n home) command.Grant a t = (a ≡ answer.GrantedTicket n)
+    × (t ≡ record s { world = after_ticket_grant s.floor.seats s.world i n home })
 IsDone k o s i (Active q) (command.Act op) a t =
     (a ≡ answer.Reply (o.reply (data_of (monitor_of k o s.floor) s.floor.history) op))
     × (t ≡ record s { floor = with_event s.floor (Act i op (o.reply (data_of (monitor_of k o s.floor) s.floor.history) op)) })

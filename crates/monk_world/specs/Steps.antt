@@ -36,14 +36,24 @@ place_after_drop t n home = if n == 1 then place_of home else Passing (t - n + 1
 
 -- arrive: one more ticket drawn and not passed on
 abbrev pub after_arrive : World → ℕ → World
-after_arrive w i = record w { drawn = w.drawn + 1; unpassed = w.unpassed + 1; place = put w.place i (place_after_arrive w.drawn w.unpassed) }
+after_arrive w i = record w {
+  drawn = w.drawn + 1;
+  unpassed = w.unpassed + 1;
+  place =
+      put w.place i (place_after_arrive w.drawn w.unpassed);
+}
 
 -- look at the place of its ticket, or at its own place
 abbrev pub after_ticket_look : World → ℕ → ℕ → Bool → World
 after_ticket_look w i t found = record w { place = put w.place i (place_after_ticket_look t found) }
 
 abbrev pub after_seat_look : World → ℕ → Bool → World
-after_seat_look w i found = record w { place = put w.place i (place_after_seat_look found); count = put w.count i (count_after_seat_look (w.count i) found) }
+after_seat_look w i found =
+    record w {
+      place = put w.place i (place_after_seat_look found);
+      count =
+          put w.count i (count_after_seat_look (w.count i) found);
+    }
 
 -- the floor comes out to the seat, which is due by q
 abbrev pub after_floor_out : World → ℕ → Source → World
@@ -59,7 +69,8 @@ after_drop w i home = record w { unpassed = w.unpassed - 1; place = put w.place 
 
 -- grant a ticket, in its place
 abbrev pub after_ticket_grant : ℕ → World → ℕ → ℕ → Home → World
-after_ticket_grant seats w i t home = record w { ticket_place = put w.ticket_place (t % seats) (t + 1); place = put w.place i (place_of home) }
+after_ticket_grant seats w i t home =
+    record w { ticket_place = put w.ticket_place (t % seats) (t + 1); place = put w.place i (place_of home) }
 
 -- call seat k, in its place
 abbrev pub after_seat_grant : World → ℕ → ℕ → Home → World

@@ -7,7 +7,8 @@ use Rattle.monk_history.specs.Meaning.Events.{has_conditions, has_signaller_queu
 use Rattle.monk_world.specs.Runs.{Told, IsRun}
 use Rattle.monk_world.specs.State.{State}
 use Rattle.monk_world.specs.declared.command.Command.{Command}
-use Rattle.monk_world.specs.declared.command.Command.TheVariants.{Arrive, Look, Out, Peek, Drop, Grant, Act, Leave, Wait, Signal, SignalLeave, Until}
+use Rattle.monk_world.specs.declared.command.Command.TheVariants.{Arrive, Look, Out, Peek, Drop, Grant, Act, Leave}
+use Rattle.monk_world.specs.declared.command.Command.TheVariants.{Wait, Signal, SignalLeave, Until}
 
 -- the condition, the predicate and the code are in range
 abbrev pub is_command_in_range : ℕ → ℕ → ℕ → Command → Bool

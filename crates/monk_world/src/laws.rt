@@ -1,6 +1,9 @@
 //! What holds of each kind of step, whoever makes it: it keeps the right to be active in one place, in agreement with
 //! the turn and the queues of the history. Each function does nothing: its contract is the law.
-ghost use Rattle.monk_world.specs.Laws.{OpeningStands, ArriveKeeps, TicketLookKeeps, SeatLookKeeps, FloorOutKeeps, ActiveKeeps, FloorInKeeps, DropKeeps, TicketGrantKeeps, SeatGrantKeeps, StandsInOnePlace, StepsStaySound, OpeningIsSound, StepsAreAnswered, StepsAreDetermined};
+ghost use Rattle.monk_world.specs.Laws.{OpeningStands, ArriveKeeps, TicketLookKeeps, SeatLookKeeps, FloorOutKeeps};
+ghost use Rattle.monk_world.specs.Laws.{ActiveKeeps, FloorInKeeps, DropKeeps, TicketGrantKeeps, SeatGrantKeeps};
+ghost use Rattle.monk_world.specs.Laws.{StandsInOnePlace, StepsStaySound, OpeningIsSound, StepsAreAnswered};
+ghost use Rattle.monk_world.specs.Laws.{StepsAreDetermined};
 ghost use Rattle.monk_world.specs.Records.{RunsAreRecorded, StepsAreTaken, TicketsEnterInOrder};
 ghost use Rattle.monk_world.specs.Runs.{RunsAreWellLed};
 

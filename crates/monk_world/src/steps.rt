@@ -3,7 +3,8 @@ ghost use Rattle.monk_floor.specs.View.{FloorView};
 ghost use Rattle.monk_history.specs.Meaning.Events.{is_stay};
 ghost use Rattle.monk_world.specs.Put.{put};
 ghost use Rattle.monk_world.specs.Stands.{opening_world};
-ghost use Rattle.monk_world.specs.Steps.{after_arrive, after_ticket_look, after_seat_look, after_floor_out, after_floor_in, after_drop, after_ticket_grant, after_seat_grant};
+ghost use Rattle.monk_world.specs.Steps.{after_arrive, after_ticket_look, after_seat_look, after_floor_out};
+ghost use Rattle.monk_world.specs.Steps.{after_floor_in, after_drop, after_ticket_grant, after_seat_grant};
 ghost use Rattle.monk_world.specs.Steps as becomes;
 ghost use Rattle.monk_world.specs.Board.{Shows, ShowsKnown, world_on, state_in};
 
@@ -18,7 +19,8 @@ use std::alloc::{AllocError, Global};
 impl Board {
     /// The words before any step.
     pub fn make(alloc: Global, seats: u8) -> Result<Board, AllocError>
-        ensures shows { IfOk result (λ w. (f : FloorView) → state_in w f ≡ record { world = opening_world; known = λ j. false; floor = f }) }
+        ensures shows { IfOk result
+            (λ w. (f : FloorView) → state_in w f ≡ record { world = opening_world; known = λ j. false; floor = f }) }
         ensures seats { IfOk result (λ w. w.seats ≡ seats) }
     {
         Ok(Board {
@@ -70,7 +72,9 @@ impl Board {
         requires seat { seat < self.old.seats }
         requires ticket { ticket < 2 ^ 31 }
         ensures answer { result ≡ Answer.Looked ((world_on self.old).ticket_place (ticket % self.old.seats) == ticket + 1) }
-        ensures shows { Shows self.old (after_ticket_look (world_on self.old) seat ticket ((world_on self.old).ticket_place (ticket % self.old.seats) == ticket + 1)) self.new }
+        ensures shows { Shows self.old
+            (after_ticket_look (world_on self.old) seat ticket
+            ((world_on self.old).ticket_place (ticket % self.old.seats) == ticket + 1)) self.new }
     {
         let at = ticket as usize % self.seats as usize;
         let found = self.ticket_places[at] == ticket + 1;
@@ -83,7 +87,9 @@ impl Board {
         requires seat { seat < self.old.seats }
         requires count { (world_on self.old).count seat < 2 ^ 31 }
         ensures answer { result ≡ Answer.Looked ((world_on self.old).seat_place seat == (world_on self.old).count seat + 1) }
-        ensures shows { Shows self.old (after_seat_look (world_on self.old) seat ((world_on self.old).seat_place seat == (world_on self.old).count seat + 1)) self.new }
+        ensures shows { Shows self.old
+            (after_seat_look (world_on self.old) seat
+            ((world_on self.old).seat_place seat == (world_on self.old).count seat + 1)) self.new }
     {
         let count = self.counts[seat as usize];
         let found = self.seat_places[seat as usize] == count + 1;
@@ -96,7 +102,9 @@ impl Board {
     pub fn peek(&mut self, seat: u8) -> Answer
         requires { seat < self.old.seats }
         ensures answer { result ≡ Answer.Found self.old.unpassed }
-        ensures shows { ShowsKnown self.old (world_on self.old) (put (λ j. slice_index_or self.old.known.items j false) seat (slice_index_or self.old.known.items seat false || nat_le 2 self.old.unpassed)) self.new }
+        ensures shows { ShowsKnown self.old (world_on self.old)
+            (put (λ j. slice_index_or self.old.known.items j false) seat
+            (slice_index_or self.old.known.items seat false || nat_le 2 self.old.unpassed)) self.new }
     {
         let knew = self.known[seat as usize];
         self.known[seat as usize] = known_after(knew, self.unpassed);
@@ -107,7 +115,8 @@ impl Board {
     pub fn floor_out(&mut self, seat: u8, source: Source) -> Answer
         requires { seat < self.old.seats }
         ensures answer { result ≡ Answer.Now }
-        ensures shows { ShowsKnown self.old (after_floor_out (world_on self.old) seat source) (put (λ j. slice_index_or self.old.known.items j false) seat false) self.new }
+        ensures shows { ShowsKnown self.old (after_floor_out (world_on self.old) seat source)
+            (put (λ j. slice_index_or self.old.known.items j false) seat false) self.new }
     {
         self.places[seat as usize] = Place::Active(source);
         self.known[seat as usize] = false;
@@ -118,7 +127,9 @@ impl Board {
     pub fn floor_in(&mut self, seat: u8, next: Next, home: Home) -> Answer
         requires { seat < self.old.seats }
         ensures answer { result ≡ Answer.Chose next }
-        ensures shows { Shows self.old (if is_stay (Some next) then world_on self.old else after_floor_in (world_on self.old) seat next home) self.new }
+        ensures shows { Shows self.old
+            (if is_stay (Some next) then world_on self.old else after_floor_in (world_on self.old) seat next home)
+            self.new }
     {
         let place = self.places[seat as usize];
         self.places[seat as usize] = after_choice(place, next, home);

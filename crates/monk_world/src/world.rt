@@ -62,7 +62,9 @@ impl<K: Kind, T: Guarded> World<K, T> {
         conds: u8,
         budget: u32,
     ) -> Result<World<K, T>, MakeFault>
-        ensures made { IfOk result (λ w. (make_refusal seats conds budget ≡ None) × (state_of_view w ≡ opening_state (T.state object) seats conds budget)) }
+        ensures made { IfOk result
+            (λ w. (make_refusal seats conds budget ≡ None)
+            × (state_of_view w ≡ opening_state (T.state object) seats conds budget)) }
         ensures refused { IfErr result (λ e. IsRefused seats conds budget e) }
     {
         let floor = Floor::make(alloc, object, seats, conds, budget)?;
@@ -160,7 +162,8 @@ impl<K: Kind, T: Guarded> World<K, T> {
     /// Draws a ticket.
     fn arrive(&mut self, seat: u8) -> Answer
         requires { refusal K.rules T.meaning (state_of_view self.old) seat Command.Arrive ≡ None }
-        ensures { IsDone K.rules T.meaning (state_of_view self.old) seat ((state_of_view self.old).world.place seat) Command.Arrive result (state_of_view self.new) }
+        ensures { IsDone K.rules T.meaning (state_of_view self.old) seat ((state_of_view self.old).world.place seat)
+            Command.Arrive result (state_of_view self.new) }
     {
         self.words.arrive(seat)
     }
@@ -168,7 +171,8 @@ impl<K: Kind, T: Guarded> World<K, T> {
     /// Looks whether the right was handed over.
     fn look(&mut self, seat: u8) -> Answer
         requires { refusal K.rules T.meaning (state_of_view self.old) seat Command.Look ≡ None }
-        ensures { IsDone K.rules T.meaning (state_of_view self.old) seat ((state_of_view self.old).world.place seat) Command.Look result (state_of_view self.new) }
+        ensures { IsDone K.rules T.meaning (state_of_view self.old) seat ((state_of_view self.old).world.place seat)
+            Command.Look result (state_of_view self.new) }
     {
         match self.words.place(seat) {
             Place::Ticket(ticket) => self.words.ticket_look(seat, ticket),
@@ -180,7 +184,8 @@ impl<K: Kind, T: Guarded> World<K, T> {
     /// Takes the floor, which records the enter or the resume.
     fn floor_out(&mut self, seat: u8) -> Answer
         requires { refusal K.rules T.meaning (state_of_view self.old) seat Command.Out ≡ None }
-        ensures { IsDone K.rules T.meaning (state_of_view self.old) seat ((state_of_view self.old).world.place seat) Command.Out result (state_of_view self.new) }
+        ensures { IsDone K.rules T.meaning (state_of_view self.old) seat ((state_of_view self.old).world.place seat)
+            Command.Out result (state_of_view self.new) }
     {
         match self.words.place(seat) {
             Place::Due(source) => {
@@ -194,7 +199,8 @@ impl<K: Kind, T: Guarded> World<K, T> {
     /// Looks how many tickets are not passed on.
     fn peek(&mut self, seat: u8) -> Answer
         requires { refusal K.rules T.meaning (state_of_view self.old) seat Command.Peek ≡ None }
-        ensures { IsDone K.rules T.meaning (state_of_view self.old) seat ((state_of_view self.old).world.place seat) Command.Peek result (state_of_view self.new) }
+        ensures { IsDone K.rules T.meaning (state_of_view self.old) seat ((state_of_view self.old).world.place seat)
+            Command.Peek result (state_of_view self.new) }
     {
         match self.words.place(seat) {
             Place::Active(_) => self.words.peek(seat),
@@ -205,7 +211,8 @@ impl<K: Kind, T: Guarded> World<K, T> {
     /// Takes the seat off the ticket word.
     fn drop_ticket(&mut self, seat: u8) -> Answer
         requires { refusal K.rules T.meaning (state_of_view self.old) seat Command.Drop ≡ None }
-        ensures { IsDone K.rules T.meaning (state_of_view self.old) seat ((state_of_view self.old).world.place seat) Command.Drop result (state_of_view self.new) }
+        ensures { IsDone K.rules T.meaning (state_of_view self.old) seat ((state_of_view self.old).world.place seat)
+            Command.Drop result (state_of_view self.new) }
     {
         match self.words.place(seat) {
             Place::Back(_, home) => self.words.drop_ticket(seat, home),
@@ -216,7 +223,8 @@ impl<K: Kind, T: Guarded> World<K, T> {
     /// Grants the right to the ticket or the seat that is next.
     fn grant(&mut self, seat: u8) -> Answer
         requires { refusal K.rules T.meaning (state_of_view self.old) seat Command.Grant ≡ None }
-        ensures { IsDone K.rules T.meaning (state_of_view self.old) seat ((state_of_view self.old).world.place seat) Command.Grant result (state_of_view self.new) }
+        ensures { IsDone K.rules T.meaning (state_of_view self.old) seat ((state_of_view self.old).world.place seat)
+            Command.Grant result (state_of_view self.new) }
     {
         match self.words.place(seat) {
             Place::Passing(ticket, home) => self.words.ticket_grant(seat, ticket, home),
@@ -230,7 +238,8 @@ impl<K: Kind, T: Guarded> World<K, T> {
     /// Carries an operation out on the object.
     fn act(&mut self, seat: u8, op: Op) -> Answer
         requires { refusal K.rules T.meaning (state_of_view self.old) seat (Command.Act op) ≡ None }
-        ensures { IsDone K.rules T.meaning (state_of_view self.old) seat ((state_of_view self.old).world.place seat) (Command.Act op) result (state_of_view self.new) }
+        ensures { IsDone K.rules T.meaning (state_of_view self.old) seat ((state_of_view self.old).world.place seat)
+            (Command.Act op) result (state_of_view self.new) }
     {
         Answer::Reply(self.floor.act(seat, op))
     }
@@ -238,7 +247,8 @@ impl<K: Kind, T: Guarded> World<K, T> {
     /// Leaves the monitor.
     fn leave(&mut self, seat: u8, pick: Pick) -> Answer
         requires { refusal K.rules T.meaning (state_of_view self.old) seat (Command.Leave pick) ≡ None }
-        ensures { IsDone K.rules T.meaning (state_of_view self.old) seat ((state_of_view self.old).world.place seat) (Command.Leave pick) result (state_of_view self.new) }
+        ensures { IsDone K.rules T.meaning (state_of_view self.old) seat ((state_of_view self.old).world.place seat)
+            (Command.Leave pick) result (state_of_view self.new) }
     {
         let known = self.words.knows(seat);
         let next = self.floor.plain_leave(seat, pick, known);
@@ -248,7 +258,8 @@ impl<K: Kind, T: Guarded> World<K, T> {
     /// Waits on a condition.
     fn wait(&mut self, seat: u8, cond: u8, pick: Pick) -> Answer
         requires { refusal K.rules T.meaning (state_of_view self.old) seat (Command.Wait cond pick) ≡ None }
-        ensures { IsDone K.rules T.meaning (state_of_view self.old) seat ((state_of_view self.old).world.place seat) (Command.Wait cond pick) result (state_of_view self.new) }
+        ensures { IsDone K.rules T.meaning (state_of_view self.old) seat ((state_of_view self.old).world.place seat)
+            (Command.Wait cond pick) result (state_of_view self.new) }
     {
         let known = self.words.knows(seat);
         let next = self.floor.plain_wait(seat, cond, pick, known);
@@ -258,7 +269,8 @@ impl<K: Kind, T: Guarded> World<K, T> {
     /// Signals a condition.
     fn signal(&mut self, seat: u8, cond: u8, pick: Pick) -> Answer
         requires { refusal K.rules T.meaning (state_of_view self.old) seat (Command.Signal cond pick) ≡ None }
-        ensures { IsDone K.rules T.meaning (state_of_view self.old) seat ((state_of_view self.old).world.place seat) (Command.Signal cond pick) result (state_of_view self.new) }
+        ensures { IsDone K.rules T.meaning (state_of_view self.old) seat ((state_of_view self.old).world.place seat)
+            (Command.Signal cond pick) result (state_of_view self.new) }
     {
         let known = self.words.knows(seat);
         let next = self.floor.plain_signal(seat, cond, pick, known);
@@ -268,7 +280,8 @@ impl<K: Kind, T: Guarded> World<K, T> {
     /// Signals a condition and leaves the monitor.
     fn signal_leave(&mut self, seat: u8, cond: u8, pick: Pick) -> Answer
         requires { refusal K.rules T.meaning (state_of_view self.old) seat (Command.SignalLeave cond pick) ≡ None }
-        ensures { IsDone K.rules T.meaning (state_of_view self.old) seat ((state_of_view self.old).world.place seat) (Command.SignalLeave cond pick) result (state_of_view self.new) }
+        ensures { IsDone K.rules T.meaning (state_of_view self.old) seat ((state_of_view self.old).world.place seat)
+            (Command.SignalLeave cond pick) result (state_of_view self.new) }
     {
         let known = self.words.knows(seat);
         let next = self.floor.plain_signal_leave(seat, cond, pick, known);
@@ -278,7 +291,8 @@ impl<K: Kind, T: Guarded> World<K, T> {
     /// Waits until a predicate holds.
     fn until(&mut self, seat: u8, pred: u8, pick: Pick) -> Answer
         requires { refusal K.rules T.meaning (state_of_view self.old) seat (Command.Until pred pick) ≡ None }
-        ensures { IsDone K.rules T.meaning (state_of_view self.old) seat ((state_of_view self.old).world.place seat) (Command.Until pred pick) result (state_of_view self.new) }
+        ensures { IsDone K.rules T.meaning (state_of_view self.old) seat ((state_of_view self.old).world.place seat)
+            (Command.Until pred pick) result (state_of_view self.new) }
     {
         let known = self.words.knows(seat);
         let next = self.floor.plain_until(seat, pred, pick, known);
@@ -288,7 +302,8 @@ impl<K: Kind, T: Guarded> World<K, T> {
 
 /// Records the event with which the floor comes out to a seat: its enter, or its resume.
 pub fn record_entry<K: Kind, T: Guarded>(floor: &mut Floor<K, T>, seat: u8, source: Source)
-    requires allowed { IsAllowed (monitor_of K.rules T.meaning floor.old) floor.old.history (out_event seat source (turn floor.old.history)) }
+    requires allowed { IsAllowed (monitor_of K.rules T.meaning floor.old) floor.old.history
+        (out_event seat source (turn floor.old.history)) }
     requires seat { seat < floor.old.seats }
     requires left { 0 < left_of floor.old.budget floor.old.history seat }
     ensures { floor.new ≡ with_event floor.old (out_event seat source (turn floor.old.history)) }

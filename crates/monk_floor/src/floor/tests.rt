@@ -89,7 +89,8 @@ fn fits_turn(turn: Turn, event: Event) -> bool
 
 fn is_quiet<T: Guarded>(object: &T, queues: &Queues) -> bool
     requires { All (λ w. w.1 < T.PREDICATES) queues.now.untils }
-    ensures { result ≡ (is_empty queues.now.waiters && is_empty queues.now.signallers && is_empty (ready_of T.meaning (T.state object.now) queues.now.untils)) }
+    ensures { result ≡ (is_empty queues.now.waiters && is_empty queues.now.signallers
+        && is_empty (ready_of T.meaning (T.state object.now) queues.now.untils)) }
 {
     let event = Event::Enter(0, Via::Free);
     queues.front_waiter(event).is_none()

@@ -27,7 +27,8 @@ use Rattle.monk_history.proofs.MeaningLaws.TurnLaws.{data-push}
 abbrev ops : List Answered → List Op
 ops acts = map (λ act. act.op) acts
 
-answered-append : (o : Object) (d : List ℕ) (xs ys : List Op) → answers_of o d (xs ++ ys) ≡ answers_of o d xs ++ answers_of o (state_after o d xs) ys
+answered-append : (o : Object) (d : List ℕ) (xs ys : List Op) → answers_of o d (xs ++ ys) ≡ answers_of o d xs
+    ++ answers_of o (state_after o d xs) ys
 answered-append o d [] ys = refl
 answered-append o d (x ∷ xs) ys = ap (λ acts. record { op = x; reply = o.reply d x } ∷ acts) (answered-append o (o.after d x) xs ys)
 
@@ -74,7 +75,8 @@ replies_are : (m : Monitor) (h : List Event) → IsLegal m h → answers_of m.ob
 replies_are m h = history_induction (λ x. IsLegal m x → answers_of m.object m.opening (ops_in x) ≡ acts_in x) (λ l. refl) (λ x e more l.
     ap (λ xs. answers_of m.object m.opening xs) (ops-push x e)
     ∙ (answered-append m.object m.opening (ops_in x) (ops_in (e ∷ []))
-    ∙ (ap (λ acts. acts ++ answers_of m.object (state_after m.object m.opening (ops_in x)) (ops_in (e ∷ []))) (more (legal_front m x (e ∷ []) l))
+    ∙ (ap (λ acts. acts ++ answers_of m.object (state_after m.object m.opening (ops_in x)) (ops_in (e ∷ [])))
+    (more (legal_front m x (e ∷ []) l))
     ∙ (ap (λ d. acts_in x ++ answers_of m.object d (ops_in (e ∷ []))) (data_is m x)
     ∙ (ap (λ acts. acts_in x ++ acts) (reply_by m.object (data_of m x) e ((legal_last m x e l).right_reply))
     ∙ sym (acts-push x e)))))) h
@@ -86,22 +88,57 @@ acts_are_run m h l = record { replies = replies_are m h l; leads_to = data_is m 
 abbrev over : Rules → ℕ → ℕ → ObjectName → ℕ → Monitor
 over rules seats conds o size = monitor rules seats conds (meaning_named o) (opening_named o size)
 
-pub in_order : (rules : Rules) (seats conds size : ℕ) (h : List Event) → IsLegal (monitor rules seats conds (meaning_named Buffer) (opening_named Buffer size)) h → IsInOrder size (data_of (monitor rules seats conds (meaning_named Buffer) (opening_named Buffer size)) h) (acts_in h)
+pub in_order : (rules : Rules) (seats conds size : ℕ) (h : List Event)
+    → IsLegal (monitor rules seats conds (meaning_named Buffer) (opening_named Buffer size)) h
+    → IsInOrder size (data_of (monitor rules seats conds (meaning_named Buffer) (opening_named Buffer size)) h)
+    (acts_in h)
 in_order rules seats conds size h l =
     let run = acts_are_run (over rules seats conds Buffer size) h l in
     let law = first_in_first_out size (ops_in h) in
-    subst (λ (acts : List Answered). IsInOrder size (data_of (over rules seats conds Buffer size) h) acts) run.replies (record { items = law.items; state_is = sym run.leads_to ∙ law.state; in_order = law.in_order; within = law.within })
+    subst (λ (acts : List Answered). IsInOrder size (data_of (over rules seats conds Buffer size) h) acts) run.replies
+    (record {
+      items = law.items;
+      state_is = sym run.leads_to ∙ law.state;
+      in_order = law.in_order;
+      within =
+          law.within;
+    })
 
-pub excludes : (rules : Rules) (seats conds size : ℕ) (h : List Event) → IsLegal (monitor rules seats conds (meaning_named Book) (opening_named Book size)) h → ExcludesEachOther size (data_of (monitor rules seats conds (meaning_named Book) (opening_named Book size)) h) (acts_in h)
+pub excludes : (rules : Rules) (seats conds size : ℕ) (h : List Event)
+    → IsLegal (monitor rules seats conds (meaning_named Book) (opening_named Book size)) h
+    → ExcludesEachOther size (data_of (monitor rules seats conds (meaning_named Book) (opening_named Book size)) h)
+    (acts_in h)
 excludes rules seats conds size h l =
     let run = acts_are_run (over rules seats conds Book size) h l in
     let law = exclusive size (ops_in h) in
     subst (λ (acts : List Answered). ExcludesEachOther size (data_of (over rules seats conds Book size) h) acts) run.replies
-    (record { readers = law.readers; writers = law.writers; state_is = sym run.leads_to ∙ law.state; within = law.within; one_writer = law.one_writer; alone = law.alone; reads = law.reads; writes = law.writes })
+    (record {
+      readers = law.readers;
+      writers = law.writers;
+      state_is = sym run.leads_to ∙ law.state;
+      within =
+          law.within;
+      one_writer = law.one_writer;
+      alone = law.alone;
+      reads = law.reads;
+      writes = law.writes;
+    })
 
-pub serves_each : (rules : Rules) (seats conds size : ℕ) (h : List Event) → IsLegal (monitor rules seats conds (meaning_named Shop) (opening_named Shop size)) h → ServesEachOne size (data_of (monitor rules seats conds (meaning_named Shop) (opening_named Shop size)) h) (acts_in h)
+pub serves_each : (rules : Rules) (seats conds size : ℕ) (h : List Event)
+    → IsLegal (monitor rules seats conds (meaning_named Shop) (opening_named Shop size)) h
+    → ServesEachOne size (data_of (monitor rules seats conds (meaning_named Shop) (opening_named Shop size)) h)
+    (acts_in h)
 serves_each rules seats conds size h l =
     let run = acts_are_run (over rules seats conds Shop size) h l in
     let law = customers size (ops_in h) in
     subst (λ (acts : List Answered). ServesEachOne size (data_of (over rules seats conds Shop size) h) acts) run.replies
-    (record { sitting = law.sitting; chair = law.chair; state_is = sym run.leads_to ∙ law.state; within = law.within; sat = law.sat; called = law.called; finished = law.finished })
+    (record {
+      sitting = law.sitting;
+      chair = law.chair;
+      state_is = sym run.leads_to ∙ law.state;
+      within =
+          law.within;
+      sat = law.sat;
+      called = law.called;
+      finished = law.finished;
+    })

@@ -47,20 +47,59 @@ seat_last false b h k = h
 pub may_leave : (m : Monitor) (h : List Event) (s : ℕ) → turn h ≡ Owned s → s < m.seats → MayCall m h (Leave s Stay)
 may_leave m h s t l = record { in_range = one_seat _ (lt_is s m.seats l); offered = refl; in_turn = owned s (turn h) t; in_place = refl }
 
-pub may_wait : (m : Monitor) (h : List Event) (s c : ℕ) → turn h ≡ Owned s → s < m.seats → c < m.conds → has_conditions m.kind.mode ≡ true → MayCall m h (Wait s c Stay)
-may_wait m h s c t l k o = record { in_range = seat_and _ _ (lt_is s m.seats l) (lt_is c m.conds k); offered = o; in_turn = owned s (turn h) t; in_place = refl }
+pub may_wait : (m : Monitor) (h : List Event) (s c : ℕ) → turn h ≡ Owned s → s < m.seats → c < m.conds
+    → has_conditions m.kind.mode ≡ true → MayCall m h (Wait s c Stay)
+may_wait m h s c t l k o =
+    record {
+      in_range = seat_and _ _ (lt_is s m.seats l) (lt_is c m.conds k);
+      offered = o;
+      in_turn = owned s (turn h) t;
+      in_place = refl;
+    }
 
-pub may_signal_on : (m : Monitor) (h : List Event) (s c : ℕ) → turn h ≡ Owned s → s < m.seats → c < m.conds → has_signaller_queue m.kind.mode ≡ true → MayCall m h (Signal s c Stay)
-may_signal_on m h s c t l k o = record { in_range = seat_then _ _ (lt_is s m.seats l) (lt_is c m.conds k); offered = o; in_turn = owned s (turn h) t; in_place = refl }
+pub may_signal_on : (m : Monitor) (h : List Event) (s c : ℕ) → turn h ≡ Owned s → s < m.seats → c < m.conds
+    → has_signaller_queue m.kind.mode ≡ true → MayCall m h (Signal s c Stay)
+may_signal_on m h s c t l k o =
+    record {
+      in_range = seat_then _ _ (lt_is s m.seats l) (lt_is c m.conds k);
+      offered = o;
+      in_turn =
+          owned s (turn h) t;
+      in_place = refl;
+    }
 
-pub may_signal_leave : (m : Monitor) (h : List Event) (s c : ℕ) → turn h ≡ Owned s → s < m.seats → c < m.conds → returns_at_once m.kind.mode ≡ true → MayCall m h (SignalLeave s c Stay)
-may_signal_leave m h s c t l k o = record { in_range = seat_then _ _ (lt_is s m.seats l) (lt_is c m.conds k); offered = o; in_turn = owned s (turn h) t; in_place = refl }
+pub may_signal_leave : (m : Monitor) (h : List Event) (s c : ℕ) → turn h ≡ Owned s → s < m.seats → c < m.conds
+    → returns_at_once m.kind.mode ≡ true → MayCall m h (SignalLeave s c Stay)
+may_signal_leave m h s c t l k o =
+    record {
+      in_range = seat_then _ _ (lt_is s m.seats l) (lt_is c m.conds k);
+      offered = o;
+      in_turn =
+          owned s (turn h) t;
+      in_place = refl;
+    }
 
-pub may_until : (m : Monitor) (h : List Event) (s p : ℕ) → turn h ≡ Owned s → s < m.seats → p < m.object.predicates → not (has_conditions m.kind.mode) ≡ true → MayCall m h (Until s p Stay)
-may_until m h s p t l k o = record { in_range = seat_last _ _ (lt_is s m.seats l) (lt_is p m.object.predicates k); offered = o; in_turn = owned s (turn h) t; in_place = refl }
+pub may_until : (m : Monitor) (h : List Event) (s p : ℕ) → turn h ≡ Owned s → s < m.seats → p < m.object.predicates
+    → not (has_conditions m.kind.mode) ≡ true → MayCall m h (Until s p Stay)
+may_until m h s p t l k o =
+    record {
+      in_range = seat_last _ _ (lt_is s m.seats l) (lt_is p m.object.predicates k);
+      offered = o;
+      in_turn =
+          owned s (turn h) t;
+      in_place = refl;
+    }
 
-pub may_act : (m : Monitor) (h : List Event) (s : ℕ) (op : Op) → turn h ≡ Owned s → s < m.seats → op.code < m.object.codes → MayCall m h (Act s op 0)
-may_act m h s op t l k = record { in_range = seat_last _ _ (lt_is s m.seats l) (lt_is op.code m.object.codes k); offered = refl; in_turn = owned s (turn h) t; in_place = refl }
+pub may_act : (m : Monitor) (h : List Event) (s : ℕ) (op : Op) → turn h ≡ Owned s → s < m.seats
+    → op.code < m.object.codes → MayCall m h (Act s op 0)
+may_act m h s op t l k =
+    record {
+      in_range = seat_last _ _ (lt_is s m.seats l) (lt_is op.code m.object.codes k);
+      offered = refl;
+      in_turn =
+          owned s (turn h) t;
+      in_place = refl;
+    }
 
 queued_by : (b : Bool) (x y : ℕ) → x + y ≡ cond b 1 0 → (b && not (nat_lt 0 y)) ≡ nat_lt 0 x
 queued_by true x y h = grind (arith, h)
@@ -78,11 +117,20 @@ both_true true b h k = k
 both_true false b h k = h
 
 -- a seat that is outside may enter where the turn is open
-pub may_enter_handed : (m : Monitor) (h : List Event) (s : ℕ) → turn h ≡ Open → s < m.seats → is_inside s h ≡ false → not (is_empty h) ≡ true → MayCall m h (Enter s Handed)
-may_enter_handed m h s t l i b = record { in_range = one_seat _ (lt_is s m.seats l); offered = refl; in_turn = opened (turn h) t; in_place = both_true _ _ (ap not i) b }
+pub may_enter_handed : (m : Monitor) (h : List Event) (s : ℕ) → turn h ≡ Open → s < m.seats → is_inside s h ≡ false
+    → not (is_empty h) ≡ true → MayCall m h (Enter s Handed)
+may_enter_handed m h s t l i b =
+    record {
+      in_range = one_seat _ (lt_is s m.seats l);
+      offered = refl;
+      in_turn = opened (turn h) t;
+      in_place =
+          both_true _ _ (ap not i) b;
+    }
 
 pub may_enter_free : (m : Monitor) (h : List Event) (s : ℕ) → turn h ≡ Open → s < m.seats → is_inside s h ≡ false
-    → (situation m h).waiters ≡ [] → (situation m h).signallers ≡ [] → ready_of m.object (data_of m h) (untils h) ≡ [] → MayCall m h (Enter s Free)
+    → (situation m h).waiters ≡ [] → (situation m h).signallers ≡ [] → ready_of m.object (data_of m h) (untils h) ≡ []
+    → MayCall m h (Enter s Free)
 may_enter_free m h s t l i w g r = record {
   in_range = one_seat _ (lt_is s m.seats l);
   offered = refl;

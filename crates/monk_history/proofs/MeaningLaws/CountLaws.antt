@@ -1,5 +1,6 @@
 -- One event more in what is counted seat by seat, and how long lists of few seats are
-use Rattle.std.proofs.Common.{◌≡◌, ℕ, ◌+◌, ◌-◌, ◌*◌, ◌<◌, ◌≤◌, zero, suc, Bool, true, false, cond, ◌==◌, List, [], ◌∷◌, ◌++◌, length, refl, sym, ap, ◌∙◌, arith, map, ⊎_elim, eq-eqb, length-append}
+use Rattle.std.proofs.Common.{◌≡◌, ℕ, ◌+◌, ◌-◌, ◌*◌, ◌<◌, ◌≤◌, zero, suc, Bool, true, false, cond, ◌==◌, List, [], ◌∷◌}
+use Rattle.std.proofs.Common.{◌++◌, length, refl, sym, ap, ◌∙◌, arith, map, ⊎_elim, eq-eqb, length-append}
 use Rattle.std.specs.Prelude.{filter}
 use Rattle.std.proofs.lemmas.Bool.{cases_lt}
 use Rattle.std.proofs.lemmas.List.Sums.{sum_by-append, count_by-le-length}
@@ -22,7 +23,8 @@ total_le (suc m) b f h = omega (arith, total_le m b f h, h m)
 pub total_rest : (m b i : ℕ) (f : ℕ → ℕ) → i < m → ((j : ℕ) → f j ≤ b) → total m f + b ≤ m * b + f i
 total_rest zero b i f k h = absurd (omega arith)
 total_rest (suc m) b i f k h =
-    ⊎_elim (λ l. omega (arith, total_rest m b i f l h, h m)) (λ l. let e : i ≡ m = omega arith in omega (arith, total_le m b f h, ap f e)) (cases_lt i m)
+    ⊎_elim (λ l. omega (arith, total_rest m b i f l h, h m))
+    (λ l. let e : i ≡ m = omega arith in omega (arith, total_le m b f h, ap f e)) (cases_lt i m)
 
 total_more : (n x : ℕ) (f : ℕ → ℕ) → n ≤ x → total n (λ s. cond (x == s) 1 0 + f s) ≡ total n f
 total_more zero x f l = refl
@@ -37,7 +39,8 @@ total_one zero x f l = absurd (omega arith)
 total_one (suc n) x f l =
     ⊎_elim
     (λ k. omega (arith, total_one n x f k, other (x == n) (λ e. grind (arith, e, k))))
-    (λ k. let e : x ≡ n = omega arith in let b : ◌≡◌ {A = ℕ} (cond (x == n) 1 0) 1 = ap (λ z. cond z 1 0) (eq-eqb x n e) in omega (arith, total_more n x f k, b))
+    (λ k. let e : x ≡ n = omega arith in let b : ◌≡◌ {A = ℕ} (cond (x == n) 1 0) 1 = ap (λ z. cond z 1 0) (eq-eqb x n e)
+    in omega (arith, total_more n x f k, b))
     (cases_lt x n)
   where
     other : (b : Bool) → (b ≡ true → ⊥) → ◌≡◌ {A = ℕ} (cond b 1 0) 0
@@ -62,7 +65,8 @@ length_total n (x ∷ xs) h =
     (cases_lt x n)
 
 -- a list in which each seat stands at most once, one of them not at all, is shorter than there are seats
-pub length_few : (n i : ℕ) (xs : List ℕ) → i < n → ((s : ℕ) → n ≤ s → times s xs ≡ 0) → ((s : ℕ) → times s xs ≤ 1) → times i xs ≡ 0 → length xs < n
+pub length_few : (n i : ℕ) (xs : List ℕ) → i < n → ((s : ℕ) → n ≤ s → times s xs ≡ 0) → ((s : ℕ) → times s xs ≤ 1)
+    → times i xs ≡ 0 → length xs < n
 length_few n i xs l h few none = omega (arith, length_total n xs h, total_rest n 1 i (λ s. times s xs) l few)
 
 filter_one : (b : Bool) (e : Event) (es ds : List Event) → cond b (e ∷ (es ++ ds)) (es ++ ds) ≡ cond b (e ∷ es) es ++ ds
@@ -71,7 +75,8 @@ filter_one false e es ds = refl
 
 filter-push : (p : Event → Bool) (h : List Event) (e : Event) → filter p (h ++ e ∷ []) ≡ filter p h ++ cond (p e) (e ∷ []) []
 filter-push p [] e = refl
-filter-push p (x ∷ xs) e = ap (λ es. cond (p x) (x ∷ es) es) (filter-push p xs e) ∙ filter_one (p x) x (filter p xs) (cond (p e) (e ∷ []) [])
+filter-push p (x ∷ xs) e = ap (λ es. cond (p x) (x ∷ es) es) (filter-push p xs e)
+    ∙ filter_one (p x) x (filter p xs) (cond (p e) (e ∷ []) [])
 
 pub events_of-push : (h : List Event) (e : Event) (s : ℕ) → events_of (h ++ e ∷ []) s ≡ events_of h s ++ cond (seat_of e == s) (e ∷ []) []
 unfolding events_of
@@ -81,8 +86,11 @@ one_or_none : (b : Bool) (e : Event) → length (cond b (e ∷ []) []) ≡ cond 
 one_or_none true e = refl
 one_or_none false e = refl
 
-pub length-events_of-push : (h : List Event) (e : Event) (s : ℕ) → length (events_of (h ++ e ∷ []) s) ≡ length (events_of h s) + cond (seat_of e == s) 1 0
-length-events_of-push h e s = ap length (events_of-push h e s) ∙ (length-append (events_of h s) (cond (seat_of e == s) (e ∷ []) []) ∙ ap (λ n. length (events_of h s) + n) (one_or_none (seat_of e == s) e))
+pub length-events_of-push : (h : List Event) (e : Event) (s : ℕ)
+    → length (events_of (h ++ e ∷ []) s) ≡ length (events_of h s) + cond (seat_of e == s) 1 0
+length-events_of-push h e s = ap length (events_of-push h e s)
+    ∙ (length-append (events_of h s) (cond (seat_of e == s) (e ∷ []) [])
+    ∙ ap (λ n. length (events_of h s) + n) (one_or_none (seat_of e == s) e))
 
 pub enters_of-push : (h : List Event) (e : Event) → enters_of (h ++ e ∷ []) ≡ enters_of h + cond (is_enter e) 1 0
 unfolding enters_of
@@ -100,21 +108,24 @@ one_more false e es = omega arith
 pub length-events_of : (h : List Event) (s : ℕ) → length (events_of h s) ≡ times s (map seat_of h)
 unfolding events_of
 length-events_of [] s = refl
-length-events_of (e ∷ es) s = one_more (seat_of e == s) e (filter (λ x. seat_of x == s) es) ∙ ap (λ n. cond (seat_of e == s) 1 0 + n) (length-events_of es s)
+length-events_of (e ∷ es) s = one_more (seat_of e == s) e (filter (λ x. seat_of x == s) es)
+    ∙ ap (λ n. cond (seat_of e == s) 1 0 + n) (length-events_of es s)
 
 length_map : (h : List Event) → length (map seat_of h) ≡ length h
 length_map [] = refl
 length_map (e ∷ es) = ap suc (length_map es)
 
 -- where each seat has at most its budget and one has less, there is room for one event more
-pub room_left : (seats budget i : ℕ) (h : List Event) → i < seats → ((s : ℕ) → seats ≤ s → length (events_of h s) ≡ 0) → ((s : ℕ) → length (events_of h s) ≤ budget) → length (events_of h i) < budget → length h < seats * budget
+pub room_left : (seats budget i : ℕ) (h : List Event) → i < seats → ((s : ℕ) → seats ≤ s → length (events_of h s) ≡ 0)
+    → ((s : ℕ) → length (events_of h s) ≤ budget) → length (events_of h i) < budget → length h < seats * budget
 room_left seats budget i h l none within less =
     let long = length_total seats (map seat_of h) (λ s k. sym (length-events_of h s) ∙ none s k) in
     let rest = total_rest seats budget i (λ s. times s (map seat_of h)) l (λ s. omega (arith, within s, length-events_of h s)) in
     omega (arith, long, rest, length_map h, length-events_of h i)
 
 -- where each seat has at most its budget, the history is no longer than the budgets of all
-pub history_few : (seats budget : ℕ) (h : List Event) → ((s : ℕ) → seats ≤ s → length (events_of h s) ≡ 0) → ((s : ℕ) → length (events_of h s) ≤ budget) → length h ≤ seats * budget
+pub history_few : (seats budget : ℕ) (h : List Event) → ((s : ℕ) → seats ≤ s → length (events_of h s) ≡ 0)
+    → ((s : ℕ) → length (events_of h s) ≤ budget) → length h ≤ seats * budget
 history_few seats budget h none within =
     let long = length_total seats (map seat_of h) (λ s k. sym (length-events_of h s) ∙ none s k) in
     let most = total_le seats budget (λ s. times s (map seat_of h)) (λ s. omega (arith, within s, length-events_of h s)) in

@@ -1,5 +1,6 @@
 -- When a seat may enter or resume; what may be called; what a seat knows of itself
-use Rattle.std.proofs.Common.{◌≡◌, ◌≢◌, ℕ, ◌<◌, Bool, true, false, cond, ◌&&◌, ◌||◌, not, ◌==◌, List, [], ◌∷◌, refl, sym, ap, ◌∙◌, arith, eq-eqb}
+use Rattle.std.proofs.Common.{◌≡◌, ◌≢◌, ℕ, ◌<◌, Bool, true, false, cond, ◌&&◌, ◌||◌, not, ◌==◌, List, [], ◌∷◌, refl}
+use Rattle.std.proofs.Common.{sym, ap, ◌∙◌, arith, eq-eqb}
 use Rattle.std.specs.Prelude.{◌↔◌, filter, nat_lt}
 use Rattle.std.specs.List.{list_any}
 use Rattle.std.proofs.lemmas.Bool.{false≢true, eqb-true}
@@ -49,13 +50,26 @@ range_here : (m : Monitor) (h : List Event) (e : Event) → IsAllowed m h e → 
 range_here m h e a = seat_in_range m.seats m.conds m.object.codes m.object.predicates e a.in_range
 
 from_call : (m : Monitor) (h : List Event) (s : ℕ) → MayCall m h (Enter s Free) → IsAllowed m h (Enter s Free)
-from_call m h s c = record { in_range = c.in_range; offered = c.offered; in_turn = c.in_turn; in_place = c.in_place; right_reply = refl; permitted = refl }
+from_call m h s c = record {
+  in_range = c.in_range;
+  offered = c.offered;
+  in_turn = c.in_turn;
+  in_place =
+      c.in_place;
+  right_reply = refl;
+  permitted = refl;
+}
 
 -- `enter s free` is allowed exactly where the seat stands at the door and nobody could be chosen
 pub enters_free : (m : Monitor) (h : List Event) (s : ℕ) → IsAllowed m h (Enter s Free) ↔ (IsAtDoor m h s × IsQuiet m h)
 enters_free m h s = (
   λ a. (
-    record { seat = range_here m h (Enter s Free) a; free = open_is (turn h) a.in_turn; outside = not_is (is_inside s h) (and_left _ _ a.in_place) },
+    record {
+      seat = range_here m h (Enter s Free) a;
+      free = open_is (turn h) a.in_turn;
+      outside =
+          not_is (is_inside s h) (and_left _ _ a.in_place);
+    },
     (let q = and_right (not (is_inside s h)) _ a.in_place in
         record {
           waiters = empty_is _ (and_left _ _ (and_left _ (is_empty (ready_of m.object (data_of m h) (untils h))) q));
@@ -70,11 +84,24 @@ enters_free m h s = (
 pub enters_handed : (m : Monitor) (h : List Event) (s : ℕ) → IsAllowed m h (Enter s Handed) ↔ (IsAtDoor m h s × (h ≢ []))
 enters_handed m h s = (
   λ a. (
-    record { seat = range_here m h (Enter s Handed) a; free = open_is (turn h) a.in_turn; outside = not_is (is_inside s h) (and_left _ _ a.in_place) },
+    record {
+      seat = range_here m h (Enter s Handed) a;
+      free = open_is (turn h) a.in_turn;
+      outside =
+          not_is (is_inside s h) (and_left _ _ a.in_place);
+    },
     some_is h (and_right (not (is_inside s h)) _ a.in_place),
   ),
   λ p. (let c = may_enter_handed m h s p.0.free p.0.seat p.0.outside (is_some h p.1) in
-      record { in_range = c.in_range; offered = c.offered; in_turn = c.in_turn; in_place = c.in_place; right_reply = refl; permitted = refl }),
+      record {
+        in_range = c.in_range;
+        offered = c.offered;
+        in_turn = c.in_turn;
+        in_place = c.in_place;
+        right_reply =
+            refl;
+        permitted = refl;
+      }),
 )
 
 queue_is : (r q : From3) → is_queue r q ≡ true → r ≡ q
@@ -129,11 +156,46 @@ names_none false y b c d h = h
 pub allowed_called : (m : Monitor) (t : Situation) (e : Event) → IsAllowedIn m t e → MayCallIn m t (as_called e)
 allowed_called m t (Enter s via) a = record { in_range = a.in_range; offered = a.offered; in_turn = a.in_turn; in_place = a.in_place }
 allowed_called m t (Act s op r) a = record { in_range = a.in_range; offered = a.offered; in_turn = a.in_turn; in_place = a.in_place }
-allowed_called m t (Leave s x) a = record { in_range = names_none (nat_lt s m.seats) _ _ _ _ a.in_range; offered = a.offered; in_turn = a.in_turn; in_place = a.in_place }
-allowed_called m t (Wait s c x) a = record { in_range = names_none (nat_lt s m.seats) _ _ _ _ a.in_range; offered = a.offered; in_turn = a.in_turn; in_place = a.in_place }
-allowed_called m t (Signal s c x) a = record { in_range = names_none (nat_lt s m.seats) _ _ _ _ a.in_range; offered = a.offered; in_turn = a.in_turn; in_place = a.in_place }
-allowed_called m t (SignalLeave s c x) a = record { in_range = names_none (nat_lt s m.seats) _ _ _ _ a.in_range; offered = a.offered; in_turn = a.in_turn; in_place = a.in_place }
-allowed_called m t (Until s p x) a = record { in_range = names_none (nat_lt s m.seats) _ _ _ _ a.in_range; offered = a.offered; in_turn = a.in_turn; in_place = a.in_place }
+allowed_called m t (Leave s x) a =
+    record {
+      in_range = names_none (nat_lt s m.seats) _ _ _ _ a.in_range;
+      offered = a.offered;
+      in_turn =
+          a.in_turn;
+      in_place = a.in_place;
+    }
+allowed_called m t (Wait s c x) a =
+    record {
+      in_range = names_none (nat_lt s m.seats) _ _ _ _ a.in_range;
+      offered = a.offered;
+      in_turn =
+          a.in_turn;
+      in_place = a.in_place;
+    }
+allowed_called m t (Signal s c x) a =
+    record {
+      in_range = names_none (nat_lt s m.seats) _ _ _ _ a.in_range;
+      offered = a.offered;
+      in_turn =
+          a.in_turn;
+      in_place = a.in_place;
+    }
+allowed_called m t (SignalLeave s c x) a =
+    record {
+      in_range = names_none (nat_lt s m.seats) _ _ _ _ a.in_range;
+      offered = a.offered;
+      in_turn =
+          a.in_turn;
+      in_place = a.in_place;
+    }
+allowed_called m t (Until s p x) a =
+    record {
+      in_range = names_none (nat_lt s m.seats) _ _ _ _ a.in_range;
+      offered = a.offered;
+      in_turn =
+          a.in_turn;
+      in_place = a.in_place;
+    }
 allowed_called m t (Resume s q) a = record { in_range = a.in_range; offered = a.offered; in_turn = a.in_turn; in_place = a.in_place }
 
 -- an event of another seat says nothing of whether this one is inside
@@ -155,7 +217,9 @@ enters_other j (SignalLeave s c x) h = refl
 enters_other j (Until s p x) h = refl
 enters_other j (Resume s q) h = refl
 
-leaves_more : (j : ℕ) (e : Event) (own es : List Event) (b : Bool) → (seat_of e == j) ≡ b → list_any (is_exit_of j) own ≡ list_any (is_exit_of j) es → list_any (is_exit_of j) (cond b (e ∷ own) own) ≡ (is_exit_of j e || list_any (is_exit_of j) es)
+leaves_more : (j : ℕ) (e : Event) (own es : List Event) (b : Bool) → (seat_of e == j) ≡ b
+    → list_any (is_exit_of j) own ≡ list_any (is_exit_of j) es
+    → list_any (is_exit_of j) (cond b (e ∷ own) own) ≡ (is_exit_of j e || list_any (is_exit_of j) es)
 leaves_more j e own es true h k = ap (λ b. is_exit_of j e || b) k
 leaves_more j e own es false h k = k ∙ sym (ap (λ b. b || list_any (is_exit_of j) es) (leaves_other j e h))
 
@@ -163,7 +227,8 @@ leaves_own : (j : ℕ) (h : List Event) → list_any (is_exit_of j) (filter (λ 
 leaves_own j [] = refl
 leaves_own j (e ∷ es) = leaves_more j e (filter (λ x. seat_of x == j) es) es (seat_of e == j) refl (leaves_own j es)
 
-inside_more : (j : ℕ) (e : Event) (own es : List Event) (b : Bool) → (seat_of e == j) ≡ b → list_any (is_exit_of j) own ≡ list_any (is_exit_of j) es → inside_of j own ≡ inside_of j es
+inside_more : (j : ℕ) (e : Event) (own es : List Event) (b : Bool) → (seat_of e == j) ≡ b
+    → list_any (is_exit_of j) own ≡ list_any (is_exit_of j) es → inside_of j own ≡ inside_of j es
     → inside_of j (cond b (e ∷ own) own) ≡ ((is_enter_of j e && not (list_any (is_exit_of j) es)) || inside_of j es)
 inside_more j e own es true h k i = λ z. (is_enter_of j e && not (k z)) || i z
 inside_more j e own es false h k i = i ∙ sym (ap (λ b. (b && not (list_any (is_exit_of j) es)) || inside_of j es) (enters_other j e h))

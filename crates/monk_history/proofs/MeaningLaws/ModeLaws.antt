@@ -1,5 +1,6 @@
 -- What a mode does to the choice
-use Rattle.std.proofs.Common.{◌≡◌, ℕ, ◌<◌, ◌≤◌, Bool, true, false, cond, ◌&&◌, ◌||◌, not, ◌==◌, Some, List, [], ◌∷◌, ◌++◌, take, drop, refl, sym, ap, subst, ◌∙◌, arith, eq-eqb}
+use Rattle.std.proofs.Common.{◌≡◌, ℕ, ◌<◌, ◌≤◌, Bool, true, false, cond, ◌&&◌, ◌||◌, not, ◌==◌, Some, List, [], ◌∷◌}
+use Rattle.std.proofs.Common.{◌++◌, take, drop, refl, sym, ap, subst, ◌∙◌, arith, eq-eqb}
 use Rattle.std.specs.Prelude.{nat_le}
 use Rattle.std.proofs.lemmas.Bool.{false≢true, eqb-true}
 use Rattle.monk_kinds.specs.declared.mode.Rules.{Rules}
@@ -49,9 +50,11 @@ not_conditions true h k = false≢true k
 not_conditions false h k = false≢true h
 
 -- alone in the signaller queue, the caller stays
-only_stay : (k : Rules) (ws rs : List ℕ) (s : ℕ) (x : Next) → IsNonBlocking k → may_signal k (record { waiters = ws; signallers = s ∷ []; ready = rs }) s x ≡ true → is_stay (Some x) ≡ true
+only_stay : (k : Rules) (ws rs : List ℕ) (s : ℕ) (x : Next) → IsNonBlocking k
+    → may_signal k (record { waiters = ws; signallers = s ∷ []; ready = rs }) s x ≡ true → is_stay (Some x) ≡ true
 only_stay k ws rs s Stay n h = refl
-only_stay k ws rs s Entry n h = let a = n.entry_waiter in let b = n.waiter_signaller in absurd (not_equal k.signaller k.entry (omega (arith, a, b)) (and_right _ _ h))
+only_stay k ws rs s Entry n h = let a = n.entry_waiter in let b = n.waiter_signaller in
+    absurd (not_equal k.signaller k.entry (omega (arith, a, b)) (and_right _ _ h))
 only_stay k ws rs s (Waiter j) n h = absurd (not_below k.signaller k.waiter n.waiter_signaller (and_right _ _ h))
 only_stay k ws rs s (Signaller j) n h = absurd (not_both s j (and_left _ _ (and_left _ _ h)) (and_right _ _ h))
 only_stay k ws rs s (UntilSeat j) n h = absurd (not_conditions (has_conditions k.mode) n.conditions (and_left _ _ h))
@@ -66,14 +69,20 @@ drop_caller true false xs s h k = ap (λ z. drop 1 (z ++ s ∷ [])) h
 drop_caller false false xs s h k = absurd (false≢true k)
 
 alone_signal : (k : Rules) (o : Object) (t : Situation) (s c : ℕ) (x : Next) (b : Bool) → IsNonBlocking k → t.signallers ≡ []
-    → cond b (is_stay (Some x)) (may_signal k (record (queues_at o t (Signal s c x)) { signallers = t.signallers ++ cond b [] (s ∷ []) }) s x) ≡ true
-    → drop (cond (is_signaller (Some x) || (is_stay (Some x) && not (is_empty (cond b [] (s ∷ []))))) 1 0) (t.signallers ++ cond b [] (s ∷ [])) ≡ []
+    → cond b (is_stay (Some x))
+    (may_signal k (record (queues_at o t (Signal s c x)) { signallers = t.signallers ++ cond b [] (s ∷ []) }) s x)
+    ≡ true
+    → drop (cond (is_signaller (Some x) || (is_stay (Some x) && not (is_empty (cond b [] (s ∷ []))))) 1 0)
+    (t.signallers ++ cond b [] (s ∷ [])) ≡ []
 alone_signal k o t s c x true n e p = drop_nobody _ t.signallers [] e refl
 alone_signal k o t s c x false n e p =
     drop_caller (is_stay (Some x)) (is_signaller (Some x)) t.signallers s e
-    (only_stay k _ _ s x n (subst (λ ss. may_signal k (record (queues_at o t (Signal s c x)) { signallers = ss ++ s ∷ [] }) s x ≡ true) e p))
+    (only_stay k _ _ s x n
+    (subst (λ ss. may_signal k (record (queues_at o t (Signal s c x)) { signallers = ss ++ s ∷ [] }) s x ≡ true) e
+    p))
 
-alone_after : (m : Monitor) (t : Situation) (e : Event) → IsNonBlocking m.kind → t.signallers ≡ [] → IsAllowedIn m t e → (after m.object t e).signallers ≡ []
+alone_after : (m : Monitor) (t : Situation) (e : Event) → IsNonBlocking m.kind → t.signallers ≡ [] → IsAllowedIn m t e
+    → (after m.object t e).signallers ≡ []
 alone_after m t (Enter s via) n h a = drop_nobody false t.signallers [] h refl
 alone_after m t (Act s op r) n h a = drop_nobody false t.signallers [] h refl
 alone_after m t (Leave s x) n h a = drop_nobody _ t.signallers [] h refl
@@ -104,9 +113,11 @@ blocking k i e = record {
 }
 
 -- with somebody served, a blocking kind admits from the waiter queue
-only_waiter : (k : Rules) (w : ℕ) (ws ss rs : List ℕ) (s : ℕ) (x : Next) → IsBlocking k → may_signal k (record { waiters = w ∷ ws; signallers = ss; ready = rs }) s x ≡ true → is_waiter (Some x) ≡ true
+only_waiter : (k : Rules) (w : ℕ) (ws ss rs : List ℕ) (s : ℕ) (x : Next) → IsBlocking k
+    → may_signal k (record { waiters = w ∷ ws; signallers = ss; ready = rs }) s x ≡ true → is_waiter (Some x) ≡ true
 only_waiter k w ws ss rs s Stay n h = absurd (not_below k.waiter k.signaller n.signaller_waiter (and_right _ _ h))
-only_waiter k w ws ss rs s Entry n h = let a = n.entry_signaller in let b = n.signaller_waiter in absurd (not_equal k.waiter k.entry (omega (arith, a, b)) (and_left _ _ h))
+only_waiter k w ws ss rs s Entry n h = let a = n.entry_signaller in let b = n.signaller_waiter in
+    absurd (not_equal k.waiter k.entry (omega (arith, a, b)) (and_left _ _ h))
 only_waiter k w ws ss rs s (Waiter j) n h = refl
 only_waiter k w ws ss rs s (Signaller j) n h = absurd (not_below k.waiter k.signaller n.signaller_waiter (and_right _ _ (and_left _ _ h)))
 only_waiter k w ws ss rs s (UntilSeat j) n h = absurd (not_conditions (has_conditions k.mode) n.conditions (and_left _ _ h))
@@ -121,9 +132,12 @@ emptied_signal : (k : Rules) (ws qs ss rs : List ℕ) (s : ℕ) (x : Next) → I
 emptied_signal k ws [] ss rs s x n e p = drop_nobody (is_waiter (Some x)) ws [] e refl
 emptied_signal k ws (y ∷ ys) ss rs s x n e p =
     ap (λ z. drop (cond (is_waiter (Some x)) 1 0) (z ++ y ∷ [])) e
-    ∙ drop_served (is_waiter (Some x)) y (only_waiter k y [] ss rs s x n (subst (λ z. may_signal k (record { waiters = z ++ y ∷ []; signallers = ss; ready = rs }) s x ≡ true) e p))
+    ∙ drop_served (is_waiter (Some x)) y
+    (only_waiter k y [] ss rs s x n
+    (subst (λ z. may_signal k (record { waiters = z ++ y ∷ []; signallers = ss; ready = rs }) s x ≡ true) e p))
 
-emptied_after : (m : Monitor) (t : Situation) (e : Event) → IsBlocking m.kind → t.waiters ≡ [] → IsAllowedIn m t e → (after m.object t e).waiters ≡ []
+emptied_after : (m : Monitor) (t : Situation) (e : Event) → IsBlocking m.kind → t.waiters ≡ [] → IsAllowedIn m t e
+    → (after m.object t e).waiters ≡ []
 emptied_after m t (Enter s via) n h a = drop_nobody false t.waiters [] h refl
 emptied_after m t (Act s op r) n h a = drop_nobody false t.waiters [] h refl
 emptied_after m t (Leave s x) n h a = drop_nobody (is_waiter (Some x)) t.waiters [] h refl
@@ -139,7 +153,8 @@ legal_emptied m h n l =
     legal_induction m (λ t. t.waiters ≡ []) (ap (λ t. t.waiters) (situation-none m)) (λ t e s a. emptied_after m t e n s a) h l
 
 -- where there is no signaller queue nobody is ever in it
-unsignalled_after : (m : Monitor) (t : Situation) (e : Event) → has_signaller_queue m.kind.mode ≡ false → t.signallers ≡ [] → IsAllowedIn m t e → (after m.object t e).signallers ≡ []
+unsignalled_after : (m : Monitor) (t : Situation) (e : Event) → has_signaller_queue m.kind.mode ≡ false
+    → t.signallers ≡ [] → IsAllowedIn m t e → (after m.object t e).signallers ≡ []
 unsignalled_after m t (Enter s via) n h a = drop_nobody false t.signallers [] h refl
 unsignalled_after m t (Act s op r) n h a = drop_nobody false t.signallers [] h refl
 unsignalled_after m t (Leave s x) n h a = drop_nobody _ t.signallers [] h refl
@@ -149,6 +164,7 @@ unsignalled_after m t (SignalLeave s c x) n h a = drop_nobody _ t.signallers [] 
 unsignalled_after m t (Until s p x) n h a = drop_nobody _ t.signallers [] h refl
 unsignalled_after m t (Resume s q) n h a = drop_nobody false t.signallers [] h refl
 
-pub legal_unsignalled : (m : Monitor) (h : List Event) → has_signaller_queue m.kind.mode ≡ false → IsLegal m h → (situation m h).signallers ≡ []
+pub legal_unsignalled : (m : Monitor) (h : List Event) → has_signaller_queue m.kind.mode ≡ false → IsLegal m h
+    → (situation m h).signallers ≡ []
 legal_unsignalled m h n l =
     legal_induction m (λ t. t.signallers ≡ []) (ap (λ t. t.signallers) (situation-none m)) (λ t e s a. unsignalled_after m t e n s a) h l

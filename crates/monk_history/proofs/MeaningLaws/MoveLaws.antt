@@ -1,5 +1,6 @@
 -- Where seats stand after one event more, and what is counted
-use Rattle.std.proofs.Common.{◌≡◌, ◌≢◌, ℕ, ◌+◌, ◌≤◌, Bool, true, false, cond, ◌&&◌, ◌||◌, not, ◌==◌, Option, Some, None, List, [], ◌∷◌, ◌++◌, refl, sym, ap, subst, ◌∙◌, arith, eq-eqb, ⊎_elim}
+use Rattle.std.proofs.Common.{◌≡◌, ◌≢◌, ℕ, ◌+◌, ◌≤◌, Bool, true, false, cond, ◌&&◌, ◌||◌, not, ◌==◌, Option, Some, None}
+use Rattle.std.proofs.Common.{List, [], ◌∷◌, ◌++◌, refl, sym, ap, subst, ◌∙◌, arith, eq-eqb, ⊎_elim}
 use Rattle.std.proofs.lemmas.Bool.{false≢true, eqb-true, cases_lt}
 use Rattle.monk_kinds.specs.declared.mode.Rules.{Rules}
 use Rattle.monk_history.specs.Meaning.Events.{seat_of, next_of, is_stay, is_way_out, has_conditions}
@@ -100,7 +101,8 @@ due_one s q (Owned j) h = absurd (false≢true h)
 with_turn : (n s : ℕ) (t : Situation) → IsPlaced n t → has_turn s t.turn ≡ 1 → t.inside s ≡ true
 with_turn n s t p h = inside_true (t.inside s) (in_queues n s t) (omega (arith, p s, h))
 
-caller_inside : (n : ℕ) (t : Situation) (e : Event) → IsPlaced n t → is_in_turn t e ≡ true → ((t.inside (seat_of e) && not (is_exit_of (seat_of e) e)) || is_enter_of (seat_of e) e) ≡ not (is_way_out e)
+caller_inside : (n : ℕ) (t : Situation) (e : Event) → IsPlaced n t → is_in_turn t e ≡ true
+    → ((t.inside (seat_of e) && not (is_exit_of (seat_of e) e)) || is_enter_of (seat_of e) e) ≡ not (is_way_out e)
 caller_inside n t (Enter s via) p h = goes_in (t.inside s) (s == s) (eq-eqb s s refl)
 caller_inside n t (Act s op r) p h = stays_there (t.inside s) (s == s) (with_turn n s t p (owned_one s t.turn h))
 caller_inside n t (Leave s x) p h = goes_out (t.inside s) (s == s) (eq-eqb s s refl)
@@ -169,7 +171,8 @@ signalled_in k q s j (Waiter i) n h g w f r = chosen_in k q s j (Waiter i) n h g
 signalled_in k q s j (Signaller i) n h g w f r = chosen_in k q s j (Signaller i) n h g w f r
 signalled_in k q s j (UntilSeat i) n h g w f r = chosen_in k q s j (UntilSeat i) n h g w f r
 
-in_queue_waiters : (m : Monitor) (t : Situation) (e : Event) (j : ℕ) → IsAllowedIn m t e → 1 ≤ times j (queues_at m.object t e).waiters → 1 ≤ in_queues m.conds j t
+in_queue_waiters : (m : Monitor) (t : Situation) (e : Event) (j : ℕ) → IsAllowedIn m t e
+    → 1 ≤ times j (queues_at m.object t e).waiters → 1 ≤ in_queues m.conds j t
 in_queue_waiters m t e j a h =
     omega (
       arith,
@@ -178,7 +181,8 @@ in_queue_waiters m t e j a h =
       serves_times m.conds t.condition e j (and_right _ _ (and_left _ (fits_object m.object.codes m.object.predicates e) a.in_range)),
     )
 
-in_queue_signallers : (m : Monitor) (t : Situation) (e : Event) (j : ℕ) → 1 ≤ times j (queues_at m.object t e).signallers → j ≢ seat_of e → 1 ≤ in_queues m.conds j t
+in_queue_signallers : (m : Monitor) (t : Situation) (e : Event) (j : ℕ)
+    → 1 ≤ times j (queues_at m.object t e).signallers → j ≢ seat_of e → 1 ≤ in_queues m.conds j t
 in_queue_signallers m t e j h n =
     ⊎_elim
     (λ k. omega (arith, k))
@@ -215,7 +219,8 @@ chosen_queued m t (Signal s c x) j a g =
     (in_queue_waiters m t (Signal s c x) j a) (in_queue_signallers m t (Signal s c x) j) (in_queue_ready m t (Signal s c x) j)
 chosen_queued m t (SignalLeave s c x) j a g =
     chosen_in m.kind (queues_at m.object t (SignalLeave s c x)) s j x (in_queues m.conds j t) a.permitted g
-    (in_queue_waiters m t (SignalLeave s c x) j a) (in_queue_signallers m t (SignalLeave s c x) j) (in_queue_ready m t (SignalLeave s c x) j)
+    (in_queue_waiters m t (SignalLeave s c x) j a) (in_queue_signallers m t (SignalLeave s c x) j)
+    (in_queue_ready m t (SignalLeave s c x) j)
 chosen_queued m t (Until s p x) j a g =
     chosen_in m.kind (queues_at m.object t (Until s p x)) s j x (in_queues m.conds j t)
     (unless (m.object.holds t.state p) (is_stay (Some x)) _ a.permitted (λ h. stay_names j x h g)) g
@@ -223,7 +228,8 @@ chosen_queued m t (Until s p x) j a g =
 chosen_queued m t (Resume s q) j a g = absurd (false≢true g)
 
 -- the seat of an allowed event stands in no queue
-pub caller_unqueued : (m : Monitor) (t : Situation) (e : Event) → IsPlaced m.conds t → IsAllowedIn m t e → in_queues m.conds (seat_of e) t ≡ 0
+pub caller_unqueued : (m : Monitor) (t : Situation) (e : Event) → IsPlaced m.conds t → IsAllowedIn m t e
+    → in_queues m.conds (seat_of e) t ≡ 0
 caller_unqueued m t e p a =
     let c = caller_apart m t e p a.in_turn a.in_place in
     omega (arith, c.conditions, c.waiters, c.signallers, c.untils)
@@ -270,11 +276,13 @@ by_stay : (b : Bool) (n : ℕ) → n + cond b 1 0 ≡ 1 → n ≡ cond (not b) 1
 by_stay true n h = omega (arith, h)
 by_stay false n h = omega (arith, h)
 
-parks_by : (m : Monitor) (t : Situation) (e : Event) (n : ℕ) → IsAllowedIn m t e → n + cond (goes_on (next_of e)) 1 0 ≡ cond (not (is_way_out e)) 1 0 → n ≡ cond (parks e) 1 0
+parks_by : (m : Monitor) (t : Situation) (e : Event) (n : ℕ) → IsAllowedIn m t e
+    → n + cond (goes_on (next_of e)) 1 0 ≡ cond (not (is_way_out e)) 1 0 → n ≡ cond (parks e) 1 0
 parks_by m t (Enter s via) n a h = omega (arith, h)
 parks_by m t (Act s op r) n a h = omega (arith, h)
 parks_by m t (Leave s x) n a h = omega (arith, h)
-parks_by m t (Wait s c x) n a h = by_stay (is_stay (Some x)) n h ∙ ap (λ b. cond (not b) 1 0) (never_stays m.kind (queues_at m.object t (Wait s c x)) s x a.permitted)
+parks_by m t (Wait s c x) n a h = by_stay (is_stay (Some x)) n h
+    ∙ ap (λ b. cond (not b) 1 0) (never_stays m.kind (queues_at m.object t (Wait s c x)) s x a.permitted)
 parks_by m t (Signal s c x) n a h = by_stay (is_stay (Some x)) n h
 parks_by m t (SignalLeave s c x) n a h = omega (arith, h)
 parks_by m t (Until s p x) n a h = by_stay (is_stay (Some x)) n h
@@ -285,7 +293,8 @@ not_out true = refl
 not_out false = refl
 
 -- where seats stand after one event more
-pub stands_after : (m : Monitor) (h : List Event) (e : Event) → IsLegal m h → IsAllowed m h e → StandsAfter m (situation m h) e (situation m (h ++ e ∷ []))
+pub stands_after : (m : Monitor) (h : List Event) (e : Event) → IsLegal m h → IsAllowed m h e
+    → StandsAfter m (situation m h) e (situation m (h ++ e ∷ []))
 stands_after m h e l a =
     let t = situation m h in
     let u = situation m (h ++ e ∷ []) in
@@ -295,7 +304,9 @@ stands_after m h e l a =
     let own : is_inside self (h ++ e ∷ []) ≡ not (is_way_out e) = inside-push self h e ∙ caller_inside m.conds t e p a.in_turn in
     let owned : ◌≡◌ {A = ℕ} (cond (is_inside self (h ++ e ∷ [])) 1 0) (cond (not (is_way_out e)) 1 0) = ap (λ b. cond b 1 0) own in
     let kept : has_turn self u.turn ≡ cond (goes_on (next_of e)) 1 0 =
-    ap (has_turn self) (turn-push h e) ∙ keeps_turn self (next_of e) (none_or (chooses_seat self (next_of e)) (λ g. not_caller m t e self p a g refl)) in
+    ap (has_turn self) (turn-push h e)
+    ∙ keeps_turn self (next_of e) (none_or (chooses_seat self (next_of e)) (λ g. not_caller m t e self p a g refl))
+    in
     let same = λ (j : ℕ) (n : j ≢ self). ap (λ b. cond {A = ℕ} b 1 0) (inside-push j h e ∙ other_inside j e (is_inside j h) n) in
     let turns = λ (j : ℕ) (n : j ≢ self). ap (has_turn j) (turn-push h e) ∙ turn_grants self j (next_of e) n in
     let named = λ (j : ℕ) (g : grants j e ≡ true). ap (λ b. cond {A = ℕ} b 1 0) g in
@@ -308,5 +319,15 @@ stands_after m h e l a =
       chosen_other = λ j g. not_caller m t e j p a g;
       chosen_before = λ j g. omega (arith, chosen_queued m t e j a g, queued_once m h l j);
       chosen_after = λ j g. let n = not_caller m t e j p a g in
-          omega (arith, p j, p2 j, same j n, turns j n, other_turn t e j n a.in_turn, named j g, chosen_queued m t e j a g, queued_once m h l j);
+          omega (
+            arith,
+            p j,
+            p2 j,
+            same j n,
+            turns j n,
+            other_turn t e j n a.in_turn,
+            named j g,
+            chosen_queued m t e j a g,
+            queued_once m h l j,
+          );
     }

@@ -1,5 +1,6 @@
 -- Entry is chosen past nobody, unless somebody is known to wait for it
-use Rattle.std.proofs.Common.{◌≡◌, ◌≢◌, ℕ, Bool, true, false, cond, not, ◌==◌, Option, Some, None, List, [], ◌∷◌, ◌++◌, drop, map, refl, sym, ap, ◌∙◌}
+use Rattle.std.proofs.Common.{◌≡◌, ◌≢◌, ℕ, Bool, true, false, cond, not, ◌==◌, Option, Some, None, List, [], ◌∷◌, ◌++◌}
+use Rattle.std.proofs.Common.{drop, map, refl, sym, ap, ◌∙◌}
 use Rattle.std.specs.Prelude.{filter, nat_le}
 use Rattle.std.proofs.lemmas.Bool.{false≢true}
 use Rattle.monk_kinds.specs.declared.mode.Rules.{Rules}
@@ -30,7 +31,8 @@ record IsAlone (none empty : Bool) : Type 0 where
   waiters : none ≡ true
   signallers : empty ≡ true
 
-alone : (we se sw ws none empty : Bool) (next other : Next) (wish : Pick) → parts we se sw ws none next empty other false wish ≡ Entry → next ≢ Entry → other ≢ Entry → IsAlone none empty
+alone : (we se sw ws none empty : Bool) (next other : Next) (wish : Pick)
+    → parts we se sw ws none next empty other false wish ≡ Entry → next ≢ Entry → other ≢ Entry → IsAlone none empty
 alone we se sw ws true true next other wish h n o = record { waiters = refl; signallers = refl }
 alone we se sw ws true false next other WishEntry h n o = absurd (o h)
 alone we se sw ws true false next other WishWaiter h n o = absurd (o h)
@@ -54,9 +56,12 @@ signaller_not_entry : (b : Bool) (i : ℕ) → cond b Stay (Signaller i) ≢ Ent
 signaller_not_entry true i e = cc
 signaller_not_entry false i e = cc
 
-chosen_alone : (k : Rules) (q : Queues) (s : ℕ) (wish : Pick) → choice_by k q s false wish ≡ Entry → IsAlone (is_empty (inner_waiters k q)) (is_empty q.signallers)
+chosen_alone : (k : Rules) (q : Queues) (s : ℕ) (wish : Pick) → choice_by k q s false wish ≡ Entry
+    → IsAlone (is_empty (inner_waiters k q)) (is_empty q.signallers)
 chosen_alone k q s wish h =
-    alone (nat_le k.waiter k.entry) (nat_le k.signaller k.entry) (nat_le k.signaller k.waiter) (nat_le k.waiter k.signaller) (is_empty (inner_waiters k q)) (is_empty q.signallers) (waiter_choice k q) (signaller_choice q s) wish
+    alone (nat_le k.waiter k.entry) (nat_le k.signaller k.entry) (nat_le k.signaller k.waiter)
+    (nat_le k.waiter k.signaller) (is_empty (inner_waiters k q)) (is_empty q.signallers) (waiter_choice k q)
+    (signaller_choice q s) wish
     (sym (parts_are k q s false wish) ∙ h)
     (waiter_not_entry (has_conditions k.mode) (front q.waiters) (front q.ready))
     (signaller_not_entry (front q.signallers == s) (front q.signallers))
@@ -87,7 +92,8 @@ some_ready : (o : Object) (d : List ℕ) (w : ℕ × ℕ) (us vs : List (ℕ × 
 some_ready o d w us vs true h f = absurd (false≢true (ap is_empty h))
 some_ready o d w us vs false h f = f h
 
-none_ready : (o : Object) (d : List ℕ) (us vs : List (ℕ × ℕ)) → ready_of o d us ≡ [] → ready_of o d vs ≡ [] → ready_of o d (filter (λ w. true) us ++ vs) ≡ []
+none_ready : (o : Object) (d : List ℕ) (us vs : List (ℕ × ℕ)) → ready_of o d us ≡ [] → ready_of o d vs ≡ []
+    → ready_of o d (filter (λ w. true) us ++ vs) ≡ []
 none_ready o d [] vs h k = k
 none_ready o d (w ∷ us) vs h k = some_ready o d w us (filter (λ u. true) us ++ vs) (o.holds d w.1) h (λ g. none_ready o d us vs g k)
 
@@ -108,12 +114,16 @@ then_choice : (b : Bool) (x : Next) → cond b Stay x ≡ Entry → x ≡ Entry
 then_choice true x e = absurd (stay_entry e)
 then_choice false x e = e
 
-admits_alone : (m : Monitor) (t : Situation) (e : Event) (wish : Pick) → AdmitsUnknown m t e wish → IsAlone (is_empty (inner_waiters m.kind (queues_at m.object t e))) (is_empty (queues_at m.object t e).signallers)
+admits_alone : (m : Monitor) (t : Situation) (e : Event) (wish : Pick) → AdmitsUnknown m t e wish
+    → IsAlone (is_empty (inner_waiters m.kind (queues_at m.object t e))) (is_empty (queues_at m.object t e).signallers)
 admits_alone m t e wish a =
     chosen_alone m.kind (queues_at m.object t e) (seat_of (as_called e)) wish
-    (ap (λ q. choice_by m.kind q (seat_of (as_called e)) false wish) (sym (same_queues m.object t e)) ∙ then_choice (must_stay m.object t (as_called e)) _ a.choice)
+    (ap (λ q. choice_by m.kind q (seat_of (as_called e)) false wish) (sym (same_queues m.object t e))
+    ∙ then_choice (must_stay m.object t (as_called e)) _ a.choice)
 
-ready_after : (o : Object) (t : Situation) (e : Event) → next_of e ≡ Some Entry → must_stay o t (as_called e) ≡ false → ready_of o t.state t.untils ≡ [] → ready_of o (data_after o t.state e) (filter (λ w. not (chooses e w)) t.untils ++ waits_until e) ≡ []
+ready_after : (o : Object) (t : Situation) (e : Event) → next_of e ≡ Some Entry → must_stay o t (as_called e) ≡ false
+    → ready_of o t.state t.untils ≡ []
+    → ready_of o (data_after o t.state e) (filter (λ w. not (chooses e w)) t.untils ++ waits_until e) ≡ []
 ready_after o t (Enter s via) n b h = absurd (none_entry n)
 ready_after o t (Act s op r) n b h = absurd (none_entry n)
 ready_after o t (Resume s q) n b h = absurd (none_entry n)
@@ -126,14 +136,16 @@ ready_after o t (Signal s c x) n b h =
 ready_after o t (SignalLeave s c x) n b h =
     ap (λ y. ready_of o t.state (filter (λ w. not (is_until w.0 y)) t.untils ++ [])) n ∙ none_ready o t.state t.untils [] h refl
 ready_after o t (Until s p x) n b h =
-    ap (λ y. ready_of o t.state (filter (λ w. not (is_until w.0 y)) t.untils ++ cond (is_stay y) [] ((s, p) ∷ []))) n ∙ none_ready o t.state t.untils ((s, p) ∷ []) h (joins_unready o t.state s p b)
+    ap (λ y. ready_of o t.state (filter (λ w. not (is_until w.0 y)) t.untils ++ cond (is_stay y) [] ((s, p) ∷ []))) n
+    ∙ none_ready o t.state t.untils ((s, p) ∷ []) h (joins_unready o t.state s p b)
 
 by_conditions : (b : Bool) (P : Type 0) → (b ≡ true → P) → (b ≡ false → P) → P
 by_conditions true P f g = f refl
 by_conditions false P f g = g refl
 
 -- after it nobody could be chosen from a queue
-pub quiet_after : (m : Monitor) (h : List Event) (e : Event) (wish : Pick) → IsLegal m h → IsAllowed m h e → AdmitsUnknown m (situation m h) e wish → IsQuiet m (h ++ e ∷ [])
+pub quiet_after : (m : Monitor) (h : List Event) (e : Event) (wish : Pick) → IsLegal m h → IsAllowed m h e
+    → AdmitsUnknown m (situation m h) e wish → IsQuiet m (h ++ e ∷ [])
 quiet_after m h e wish l a u =
     let t = situation m h in
     let q = queues_at m.object t e in
@@ -144,8 +156,11 @@ quiet_after m h e wish l a u =
     let inner = empty_is (inner_waiters m.kind q) alone_here.waiters in
     record {
       waiters = ap (λ v. v.waiters) step ∙ drop_empty (is_waiter (next_of e)) q.waiters
-          (by_conditions (has_conditions m.kind.mode) (q.waiters ≡ []) (λ c. ap (λ b. cond b q.waiters q.ready) (sym c) ∙ inner) sorted.waiters);
-      signallers = ap (λ v. v.signallers) step ∙ drop_empty (takes_signaller t.condition e) q.signallers (empty_is q.signallers alone_here.signallers);
+          (by_conditions (has_conditions m.kind.mode) (q.waiters ≡ []) (λ c. ap (λ b. cond b q.waiters q.ready) (sym c)
+          ∙ inner) sorted.waiters);
+      signallers = ap (λ v. v.signallers) step
+          ∙ drop_empty (takes_signaller t.condition e) q.signallers (empty_is q.signallers alone_here.signallers);
       ready = ap (λ v. ready_of m.object v.state v.untils) step ∙ ready_after m.object t e u.entry goes
-          (by_conditions (has_conditions m.kind.mode) (q.ready ≡ []) sorted.ready (λ c. ap (λ b. cond b q.waiters q.ready) (sym c) ∙ inner));
+          (by_conditions (has_conditions m.kind.mode) (q.ready ≡ []) sorted.ready
+          (λ c. ap (λ b. cond b q.waiters q.ready) (sym c) ∙ inner));
     }

@@ -1,5 +1,6 @@
 -- A call that may be made, with the choice by the wish rules, is allowed; and who stands in the queues
-use Rattle.std.proofs.Common.{◌≡◌, ℕ, ◌+◌, ◌<◌, ◌≤◌, zero, suc, Bool, true, false, cond, ◌&&◌, ◌||◌, not, ◌==◌, Some, List, [], ◌∷◌, ◌++◌, length, take, drop, refl, sym, ap, subst, ◌∙◌, arith, map, ⊎_elim}
+use Rattle.std.proofs.Common.{◌≡◌, ℕ, ◌+◌, ◌<◌, ◌≤◌, zero, suc, Bool, true, false, cond, ◌&&◌, ◌||◌, not, ◌==◌, Some}
+use Rattle.std.proofs.Common.{List, [], ◌∷◌, ◌++◌, length, take, drop, refl, sym, ap, subst, ◌∙◌, arith, map, ⊎_elim}
 use Rattle.std.specs.Prelude.{filter, nat_lt}
 use Rattle.std.specs.List.{list_all}
 use Rattle.std.proofs.lemmas.Bool.{false≢true, cases_lt, eqb-true}
@@ -9,7 +10,8 @@ use Rattle.monk_kinds.specs.declared.mode.Rules.{Rules}
 use Rattle.monk_kinds.specs.declared.mode.Pick.{Pick}
 use Rattle.monk_kinds.specs.Kind.{IsKind}
 use Rattle.monk_object.specs.Object.{Object}
-use Rattle.monk_history.specs.Meaning.Events.{seat_of, next_of, named_seat, waits_on, signals_on, is_call_of, has_conditions, has_signaller_queue, returns_at_once, is_waiter, is_stay}
+use Rattle.monk_history.specs.Meaning.Events.{seat_of, next_of, named_seat, waits_on, signals_on, is_call_of}
+use Rattle.monk_history.specs.Meaning.Events.{has_conditions, has_signaller_queue, returns_at_once, is_waiter, is_stay}
 use Rattle.monk_history.specs.Meaning.Monitor.{Monitor}
 use Rattle.monk_history.specs.Meaning.Situation.{Situation, situation}
 use Rattle.monk_history.specs.Meaning.Step.{after}
@@ -19,7 +21,8 @@ use Rattle.monk_history.specs.Meaning.Untils.{waits_until, chooses, ready_of}
 use Rattle.monk_history.specs.Meaning.Choice.{Queues, queues_at, is_front, may_choose, may_signal}
 use Rattle.monk_history.specs.Meaning.Wish.{choice_by}
 use Rattle.monk_history.specs.Meaning.Turn.{is_enter_of, is_exit_of}
-use Rattle.monk_history.specs.Meaning.Reasons.{is_in_range, is_condition, fits_object, is_offered, is_due, is_queue, is_owned_by, is_in_turn, is_in_place, is_right_reply, IsAllowedIn}
+use Rattle.monk_history.specs.Meaning.Reasons.{is_in_range, is_condition, fits_object, is_offered, is_due, is_queue}
+use Rattle.monk_history.specs.Meaning.Reasons.{is_owned_by, is_in_turn, is_in_place, is_right_reply, IsAllowedIn}
 use Rattle.monk_history.specs.Meaning.Legal.{IsLegal}
 use Rattle.monk_history.specs.Meaning.Standing.{times, times_in_conditions, has_turn, IsPlaced}
 use Rattle.monk_history.specs.Meaning.Release.{MayCallIn, with_next, choice_of}
@@ -39,7 +42,9 @@ use Rattle.monk_history.proofs.MeaningLaws.StandingLaws.{times-append, times_tak
 use Rattle.monk_history.proofs.MeaningLaws.CountLaws.{length_few}
 
 -- what holds of the situation before any event, and is kept by what is allowed, holds of each legal history
-pub legal_induction : (m : Monitor) (P : Situation → Type 0) → P (situation m []) → ((t : Situation) (e : Event) → P t → IsAllowedIn m t e → P (after m.object t e)) → (h : List Event) → IsLegal m h → P (situation m h)
+pub legal_induction : (m : Monitor) (P : Situation → Type 0) → P (situation m [])
+    → ((t : Situation) (e : Event) → P t → IsAllowedIn m t e → P (after m.object t e)) → (h : List Event) → IsLegal m h
+    → P (situation m h)
 legal_induction m P none more h = history_induction (λ x. IsLegal m x → P (situation m x)) (λ l. none) (λ x e before l.
     subst P (sym (legal_situation-push m x e (legal_front m x (e ∷ []) l)))
     (more (situation m x) e (before (legal_front m x (e ∷ []) l)) (legal_last m x e l))) h
@@ -113,16 +118,19 @@ sorted_after : (k : Rules) (o : Object) (t : Situation) (e : Event) → IsSorted
 sorted_after k o t e s a = record {
   untils = λ h. ap (λ us. filter (λ w. not (chooses e w)) us ++ waits_until e) (s.untils h) ∙ waits_until_none k.mode e h a;
   waiters = λ h. drop_none (is_waiter (next_of e)) t.waiters (serves t.condition e) (s.waiters h) (serves_none k.mode t.condition e h a);
-  signallers = λ h. drop_none (takes_signaller t.condition e) t.signallers (signals t.condition e) (s.signallers h) (signals_none k.mode t.condition e h a);
+  signallers = λ h. drop_none (takes_signaller t.condition e) t.signallers (signals t.condition e) (s.signallers h)
+      (signals_none k.mode t.condition e h a);
 }
 
 sorted_none : (m : Monitor) → IsSorted m.kind (situation m [])
-sorted_none m = subst (λ t. IsSorted m.kind t) (sym (situation-none m)) (record { untils = λ h. refl; waiters = λ h. refl; signallers = λ h. refl })
+sorted_none m = subst (λ t. IsSorted m.kind t) (sym (situation-none m))
+    (record { untils = λ h. refl; waiters = λ h. refl; signallers = λ h. refl })
 
 pub legal_sorted : (m : Monitor) (h : List Event) → IsLegal m h → IsSorted m.kind (situation m h)
 legal_sorted m h l = legal_induction m (IsSorted m.kind) (sorted_none m) (λ t e s a. sorted_after m.kind m.object t e s a.offered) h l
 
-pub sorted_queues : (k : Rules) (o : Object) (t : Situation) (e : Event) → IsSorted k t → is_offered k e ≡ true → IsQueuesOf k (queues_at o t e)
+pub sorted_queues : (k : Rules) (o : Object) (t : Situation) (e : Event) → IsSorted k t → is_offered k e ≡ true
+    → IsQueuesOf k (queues_at o t e)
 sorted_queues k o t e s a = record {
   ready = λ h. ap (ready_of o t.state) (s.untils h);
   waiters = λ h. ap (λ ws. ws ++ serves t.condition e) (s.waiters h) ∙ serves_none k.mode t.condition e h a;
@@ -141,7 +149,10 @@ lt_to x n h = grind (arith, h)
 
 pub seat_in_range : (seats conds codes predicates : ℕ) (e : Event) → is_in_range seats conds codes predicates e ≡ true → seat_of e < seats
 seat_in_range seats conds codes predicates e h =
-    lt_of (seat_of e) seats (and_left (nat_lt (seat_of e) seats) _ (and_left _ (is_condition conds (waits_on e)) (and_left _ (is_condition conds (signals_on e)) (and_left _ (fits_object codes predicates e) h))))
+    lt_of (seat_of e) seats
+    (and_left (nat_lt (seat_of e) seats) _
+    (and_left _ (is_condition conds (waits_on e))
+    (and_left _ (is_condition conds (signals_on e)) (and_left _ (fits_object codes predicates e) h))))
 
 enters_seat : (j : ℕ) (e : Event) → is_enter_of j e ≡ true → seat_of e ≡ j
 enters_seat j (Enter s via) h = eqb-true s j h
@@ -185,7 +196,8 @@ front_absent j (x ∷ xs) h = none_false (x == j) (times j xs) h
 pub times_le_conditions : (n s c : ℕ) (q : ℕ → List ℕ) → c < n → times s (q c) ≤ times_in_conditions n s q
 times_le_conditions zero s c q l = absurd (omega arith)
 times_le_conditions (suc n) s c q l =
-    ⊎_elim (λ k. omega (arith, times_le_conditions n s c q k)) (λ k. let e : c ≡ n = omega arith in omega (arith, ap (λ x. times s (q x)) e)) (cases_lt c n)
+    ⊎_elim (λ k. omega (arith, times_le_conditions n s c q k))
+    (λ k. let e : c ≡ n = omega arith in omega (arith, ap (λ x. times s (q x)) e)) (cases_lt c n)
 
 some_true : (b : Bool) → 1 ≤ cond b 1 0 → b ≡ true
 some_true true h = refl
@@ -199,7 +211,10 @@ pub times_filter : (o : Object) (d : List ℕ) (us : List (ℕ × ℕ)) (j : ℕ
 times_filter o d [] j = omega arith
 times_filter o d (u ∷ us) j = one (o.holds d u.1) (times_filter o d us j)
   where
-    one : (b : Bool) → times j (ready_of o d us) ≤ times j (map (λ w. w.0) us) → times j (map (λ (w : ℕ × ℕ). w.0) (cond b (u ∷ filter (λ w. o.holds d w.1) us) (filter (λ w. o.holds d w.1) us))) ≤ cond (u.0 == j) 1 0 + times j (map (λ (w : ℕ × ℕ). w.0) us)
+    one : (b : Bool) → times j (ready_of o d us) ≤ times j (map (λ w. w.0) us)
+        → times j (map (λ (w : ℕ × ℕ). w.0)
+        (cond b (u ∷ filter (λ w. o.holds d w.1) us) (filter (λ w. o.holds d w.1) us))) ≤ cond (u.0 == j) 1 0 + times j
+        (map (λ (w : ℕ × ℕ). w.0) us)
     one true h = omega (arith, h)
     one false h = omega (arith, h)
 
@@ -212,14 +227,16 @@ pub record IsWithin (seats : ℕ) (q : Queues) : Type 0 where
 named_one : (seats j : ℕ) → j < seats → list_all (λ s. nat_lt s seats) (j ∷ []) ≡ true
 named_one seats j l = ap (λ b. b && true) (lt_to j seats l)
 
-named_chosen : (k : Rules) (q : Queues) (s seats : ℕ) (x : Next) → IsWithin seats q → may_choose k q s x ≡ true → list_all (λ j. nat_lt j seats) (named_seat (Some x)) ≡ true
+named_chosen : (k : Rules) (q : Queues) (s seats : ℕ) (x : Next) → IsWithin seats q → may_choose k q s x ≡ true
+    → list_all (λ j. nat_lt j seats) (named_seat (Some x)) ≡ true
 named_chosen k q s seats Stay w h = refl
 named_chosen k q s seats Entry w h = refl
 named_chosen k q s seats (Waiter j) w h = named_one seats j (w.waiters j (front_times j q.waiters (and_left _ _ h)))
 named_chosen k q s seats (Signaller j) w h = named_one seats j (w.signallers j (front_times j q.signallers (and_left _ _ (and_left _ _ h))))
 named_chosen k q s seats (UntilSeat j) w h = named_one seats j (w.ready j (front_times j q.ready (and_right _ _ h)))
 
-named_signalled : (k : Rules) (q : Queues) (s seats : ℕ) (x : Next) → IsWithin seats q → may_signal k q s x ≡ true → list_all (λ j. nat_lt j seats) (named_seat (Some x)) ≡ true
+named_signalled : (k : Rules) (q : Queues) (s seats : ℕ) (x : Next) → IsWithin seats q → may_signal k q s x ≡ true
+    → list_all (λ j. nat_lt j seats) (named_seat (Some x)) ≡ true
 named_signalled k q s seats Stay w h = refl
 named_signalled k q s seats Entry w h = refl
 named_signalled k q s seats (Waiter j) w h = named_chosen k q s seats (Waiter j) w h
@@ -270,7 +287,8 @@ apart_outside n j t p h = record {
 }
 
 -- the seat of an event that may be called is in no queue
-pub caller_apart : (m : Monitor) (t : Situation) (e : Event) → IsPlaced m.conds t → is_in_turn t e ≡ true → is_in_place m.object t e ≡ true → IsApart m.conds (seat_of e) t
+pub caller_apart : (m : Monitor) (t : Situation) (e : Event) → IsPlaced m.conds t → is_in_turn t e ≡ true
+    → is_in_place m.object t e ≡ true → IsApart m.conds (seat_of e) t
 caller_apart m t (Enter s via) p h k = apart_outside m.conds s t p (and_left _ _ k)
 caller_apart m t (Act s op r) p h k = apart_turn m.conds s t p (owned_once s t.turn h)
 caller_apart m t (Leave s x) p h k = apart_turn m.conds s t p (owned_once s t.turn h)
@@ -298,20 +316,25 @@ length_seats : (us : List (ℕ × ℕ)) → length (map (λ w. w.0) us) ≡ leng
 length_seats [] = refl
 length_seats (u ∷ us) = ap suc (length_seats us)
 
-pub room_for : (m : Monitor) (t : Situation) (i : ℕ) → i < m.seats → IsPlaced m.conds t → IsSeated m.seats t → IsApart m.conds i t → HasRoom m.seats m.conds t
+pub room_for : (m : Monitor) (t : Situation) (i : ℕ) → i < m.seats → IsPlaced m.conds t → IsSeated m.seats t
+    → IsApart m.conds i t → HasRoom m.seats m.conds t
 room_for m t i l p s a = record {
   conditions = λ c k. length_few m.seats i (t.condition c) l
       (λ j n. omega (arith, p j, far_none m.seats j t s n, times_le_conditions m.conds j c t.condition k))
       (λ j. omega (arith, p j, cond_le_one (t.inside j), times_le_conditions m.conds j c t.condition k))
       (omega (arith, a.conditions, times_le_conditions m.conds i c t.condition k));
-  waiters = length_few m.seats i t.waiters l (λ j n. omega (arith, p j, far_none m.seats j t s n)) (λ j. omega (arith, p j, cond_le_one (t.inside j))) a.waiters;
-  signallers = length_few m.seats i t.signallers l (λ j n. omega (arith, p j, far_none m.seats j t s n)) (λ j. omega (arith, p j, cond_le_one (t.inside j))) a.signallers;
+  waiters = length_few m.seats i t.waiters l (λ j n. omega (arith, p j, far_none m.seats j t s n))
+      (λ j. omega (arith, p j, cond_le_one (t.inside j))) a.waiters;
+  signallers = length_few m.seats i t.signallers l (λ j n. omega (arith, p j, far_none m.seats j t s n))
+      (λ j. omega (arith, p j, cond_le_one (t.inside j))) a.signallers;
   untils = subst (λ n. n < m.seats) (length_seats t.untils)
-      (length_few m.seats i (map (λ w. w.0) t.untils) l (λ j n. omega (arith, p j, far_none m.seats j t s n)) (λ j. omega (arith, p j, cond_le_one (t.inside j))) a.untils);
+      (length_few m.seats i (map (λ w. w.0) t.untils) l (λ j n. omega (arith, p j, far_none m.seats j t s n))
+      (λ j. omega (arith, p j, cond_le_one (t.inside j))) a.untils);
 }
 
 -- whoever stands in a queue of a release is a seat
-pub serves_times : (n : ℕ) (q : ℕ → List ℕ) (e : Event) (j : ℕ) → is_condition n (signals_on e) ≡ true → times j (serves q e) ≤ times_in_conditions n j q
+pub serves_times : (n : ℕ) (q : ℕ → List ℕ) (e : Event) (j : ℕ) → is_condition n (signals_on e) ≡ true
+    → times j (serves q e) ≤ times_in_conditions n j q
 serves_times n q (Enter s via) j h = omega arith
 serves_times n q (Act s op r) j h = omega arith
 serves_times n q (Leave s x) j h = omega arith
@@ -335,7 +358,9 @@ caller_signals q (SignalLeave s c x) j h = absurd (omega (arith, h))
 caller_signals q (Until s p x) j h = absurd (omega (arith, h))
 caller_signals q (Resume s r) j h = absurd (omega (arith, h))
 
-within_queues : (m : Monitor) (t : Situation) (e : Event) → IsPlaced m.conds t → IsSeated m.seats t → is_in_range m.seats m.conds m.object.codes m.object.predicates e ≡ true → IsWithin m.seats (queues_at m.object t e)
+within_queues : (m : Monitor) (t : Situation) (e : Event) → IsPlaced m.conds t → IsSeated m.seats t
+    → is_in_range m.seats m.conds m.object.codes m.object.predicates e ≡ true
+    → IsWithin m.seats (queues_at m.object t e)
 within_queues m t e p s r = record {
   waiters = λ j h. s j (some_true (t.inside j) (omega (
     arith,
@@ -346,7 +371,9 @@ within_queues m t e p s r = record {
   )));
   signallers = λ j h. ⊎_elim
       (λ k. s j (some_true (t.inside j) (omega (arith, p j, k))))
-      (λ k. subst (λ x. x < m.seats) (caller_signals t.condition e j (omega (arith, h, k, times-append j t.signallers (signals t.condition e)))) (seat_in_range m.seats m.conds m.object.codes m.object.predicates e r))
+      (λ k. subst (λ x. x < m.seats)
+      (caller_signals t.condition e j (omega (arith, h, k, times-append j t.signallers (signals t.condition e))))
+      (seat_in_range m.seats m.conds m.object.codes m.object.predicates e r))
       (cases_lt 0 (times j t.signallers));
   ready = λ j h. s j (some_true (t.inside j) (omega (arith, p j, h, times_filter m.object t.state t.untils j)));
 }
@@ -362,44 +389,84 @@ pub legal_order : (m : Monitor) (h : List Event) → IsKind m.kind → IsLegal m
 legal_order m h k l = record { kind = k; sorted = legal_sorted m h l; placed = legal_placed m h l; seated = legal_seated m h l }
 
 -- a release that must choose
-must_choose : (m : Monitor) (t : Situation) (e : Event) (known : Bool) (wish : Pick) → IsInOrder m t → MayCallIn m t e → signals t.condition e ≡ []
+must_choose : (m : Monitor) (t : Situation) (e : Event) (known : Bool) (wish : Pick) → IsInOrder m t → MayCallIn m t e
+    → signals t.condition e ≡ []
     → may_choose m.kind (queues_at m.object t e) (seat_of e) (choice_by m.kind (queues_at m.object t e) (seat_of e) known wish) ≡ true
 must_choose m t e known wish i c z =
     choice_permitted m.kind (queues_at m.object t e) (seat_of e) known wish i.kind (sorted_queues m.kind m.object t e i.sorted c.offered)
     (front_absent (seat_of e) (t.signallers ++ signals t.condition e)
-    (omega (arith, times-append (seat_of e) t.signallers (signals t.condition e), ap (times (seat_of e)) z, (caller_apart m t e i.placed c.in_turn c.in_place).signallers)))
+    (omega (
+      arith,
+      times-append (seat_of e) t.signallers (signals t.condition e),
+      ap (times (seat_of e)) z,
+      (caller_apart m t e i.placed c.in_turn c.in_place).signallers,
+    )))
 
 -- the choice of a release that must choose names seats
-must_name : (m : Monitor) (t : Situation) (e : Event) (known : Bool) (wish : Pick) → IsInOrder m t → MayCallIn m t e → signals t.condition e ≡ []
+must_name : (m : Monitor) (t : Situation) (e : Event) (known : Bool) (wish : Pick) → IsInOrder m t → MayCallIn m t e
+    → signals t.condition e ≡ []
     → list_all (λ j. nat_lt j m.seats) (named_seat (Some (choice_by m.kind (queues_at m.object t e) (seat_of e) known wish))) ≡ true
 must_name m t e known wish i c z =
-    named_chosen m.kind (queues_at m.object t e) (seat_of e) m.seats _ (within_queues m t e i.placed i.seated c.in_range) (must_choose m t e known wish i c z)
+    named_chosen m.kind (queues_at m.object t e) (seat_of e) m.seats _
+    (within_queues m t e i.placed i.seated c.in_range) (must_choose m t e known wish i c z)
 
 some_wait : (ws qs : List ℕ) → is_empty qs ≡ false → is_empty (ws ++ take 1 qs) ≡ false
 some_wait [] [] h = h
 some_wait [] (q ∷ qs) h = refl
 some_wait (w ∷ ws) qs h = refl
 
-served_choice : (m : Monitor) (t : Situation) (s c : ℕ) (y : Next) (known : Bool) (wish : Pick) → IsInOrder m t → MayCallIn m t (Signal s c y) → is_empty (t.condition c) ≡ false
+served_choice : (m : Monitor) (t : Situation) (s c : ℕ) (y : Next) (known : Bool) (wish : Pick) → IsInOrder m t
+    → MayCallIn m t (Signal s c y) → is_empty (t.condition c) ≡ false
     → may_signal m.kind (queues_at m.object t (Signal s c y)) s (choice_by m.kind (queues_at m.object t (Signal s c y)) s known wish) ≡ true
 served_choice m t s c y known wish i a z =
-    signal_permitted m.kind (queues_at m.object t (Signal s c y)) s known wish i.kind (sorted_queues m.kind m.object t (Signal s c y) i.sorted a.offered)
+    signal_permitted m.kind (queues_at m.object t (Signal s c y)) s known wish i.kind
+    (sorted_queues m.kind m.object t (Signal s c y) i.sorted a.offered)
     (signal_conditions m.kind.mode a.offered) (some_wait t.waiters (t.condition c) z)
 
-stay_or : (f : Next → Bool) (b : Bool) (x : Next) → (b ≡ false → f x ≡ true) → cond b (is_stay (Some (cond b Stay x))) (f (cond b Stay x)) ≡ true
+stay_or : (f : Next → Bool) (b : Bool) (x : Next) → (b ≡ false → f x ≡ true)
+    → cond b (is_stay (Some (cond b Stay x))) (f (cond b Stay x)) ≡ true
 stay_or f true x g = refl
 stay_or f false x g = g refl
 
-named_or : (seats : ℕ) (b : Bool) (x : Next) → (b ≡ false → list_all (λ j. nat_lt j seats) (named_seat (Some x)) ≡ true) → list_all (λ j. nat_lt j seats) (named_seat (Some (cond b Stay x))) ≡ true
+named_or : (seats : ℕ) (b : Bool) (x : Next) → (b ≡ false → list_all (λ j. nat_lt j seats) (named_seat (Some x)) ≡ true)
+    → list_all (λ j. nat_lt j seats) (named_seat (Some (cond b Stay x))) ≡ true
 named_or seats true x g = refl
 named_or seats false x g = g refl
 
 -- a call that may be made is allowed with the choice by the wish rules
-pub chosen_allowed : (m : Monitor) (t : Situation) (e : Event) (known : Bool) (wish : Pick) → IsInOrder m t → MayCallIn m t e → is_right_reply m.object t.state e ≡ true
+pub chosen_allowed : (m : Monitor) (t : Situation) (e : Event) (known : Bool) (wish : Pick) → IsInOrder m t
+    → MayCallIn m t e → is_right_reply m.object t.state e ≡ true
     → IsAllowedIn m t (with_next (choice_of m.kind m.object t e known wish) e)
-chosen_allowed m t (Enter s via) known wish i c r = record { in_range = c.in_range; offered = c.offered; in_turn = c.in_turn; in_place = c.in_place; right_reply = refl; permitted = refl }
-chosen_allowed m t (Act s op y) known wish i c r = record { in_range = c.in_range; offered = c.offered; in_turn = c.in_turn; in_place = c.in_place; right_reply = r; permitted = refl }
-chosen_allowed m t (Resume s q) known wish i c r = record { in_range = c.in_range; offered = c.offered; in_turn = c.in_turn; in_place = c.in_place; right_reply = refl; permitted = refl }
+chosen_allowed m t (Enter s via) known wish i c r =
+    record {
+      in_range = c.in_range;
+      offered = c.offered;
+      in_turn = c.in_turn;
+      in_place = c.in_place;
+      right_reply =
+          refl;
+      permitted = refl;
+    }
+chosen_allowed m t (Act s op y) known wish i c r =
+    record {
+      in_range = c.in_range;
+      offered = c.offered;
+      in_turn = c.in_turn;
+      in_place = c.in_place;
+      right_reply =
+          r;
+      permitted = refl;
+    }
+chosen_allowed m t (Resume s q) known wish i c r =
+    record {
+      in_range = c.in_range;
+      offered = c.offered;
+      in_turn = c.in_turn;
+      in_place = c.in_place;
+      right_reply =
+          refl;
+      permitted = refl;
+    }
 chosen_allowed m t (Leave s y) known wish i c r = record {
   in_range = and_named (nat_lt s m.seats) _ _ _ _ _ c.in_range (must_name m t (Leave s y) known wish i c refl);
   offered = c.offered;
@@ -425,19 +492,23 @@ chosen_allowed m t (SignalLeave s d y) known wish i c r = record {
   permitted = must_choose m t (SignalLeave s d y) known wish i c refl;
 }
 chosen_allowed m t (Until s p y) known wish i c r = record {
-  in_range = and_named (nat_lt s m.seats) _ _ _ _ _ c.in_range (named_or m.seats (m.object.holds t.state p) _ (λ z. must_name m t (Until s p y) known wish i c refl));
+  in_range = and_named (nat_lt s m.seats) _ _ _ _ _ c.in_range
+      (named_or m.seats (m.object.holds t.state p) _ (λ z. must_name m t (Until s p y) known wish i c refl));
   offered = c.offered;
   in_turn = c.in_turn;
   in_place = c.in_place;
   right_reply = refl;
-  permitted = stay_or (may_choose m.kind (queues_at m.object t (Until s p y)) s) (m.object.holds t.state p) _ (λ z. must_choose m t (Until s p y) known wish i c refl);
+  permitted = stay_or (may_choose m.kind (queues_at m.object t (Until s p y)) s) (m.object.holds t.state p) _
+      (λ z. must_choose m t (Until s p y) known wish i c refl);
 }
 chosen_allowed m t (Signal s d y) known wish i c r = record {
   in_range = and_named (nat_lt s m.seats) _ _ _ _ _ c.in_range (named_or m.seats (is_empty (t.condition d)) _ (λ z.
-      named_signalled m.kind (queues_at m.object t (Signal s d y)) s m.seats _ (within_queues m t (Signal s d y) i.placed i.seated c.in_range) (served_choice m t s d y known wish i c z)));
+      named_signalled m.kind (queues_at m.object t (Signal s d y)) s m.seats _
+      (within_queues m t (Signal s d y) i.placed i.seated c.in_range) (served_choice m t s d y known wish i c z)));
   offered = c.offered;
   in_turn = c.in_turn;
   in_place = c.in_place;
   right_reply = refl;
-  permitted = stay_or (may_signal m.kind (queues_at m.object t (Signal s d y)) s) (is_empty (t.condition d)) _ (λ z. served_choice m t s d y known wish i c z);
+  permitted = stay_or (may_signal m.kind (queues_at m.object t (Signal s d y)) s) (is_empty (t.condition d)) _
+      (λ z. served_choice m t s d y known wish i c z);
 }

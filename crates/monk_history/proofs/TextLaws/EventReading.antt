@@ -19,7 +19,8 @@ use Rattle.monk_history.specs.declared.text.verb.Verb.TheVariants as verb
 use Rattle.monk_kinds.specs.Names.{with_text}
 use Rattle.monk_history.specs.Text.{via_word, from_word, next_words, event_words, NextFits, EventFits}
 use Rattle.monk_history.specs.Text.Words.{◌>>=◌, Word, number_at, one_of, end_at}
-use Rattle.monk_history.specs.Text.Reading.{vias, froms, next_word, all_next_words, next_after, next_at, verb_word, verbs, cond_next_at, act_at, event_after, event_at}
+use Rattle.monk_history.specs.Text.Reading.{vias, froms, next_word, all_next_words, next_after, next_at, verb_word}
+use Rattle.monk_history.specs.Text.Reading.{verbs, cond_next_at, act_at, event_after, event_at}
 use Rattle.monk_history.proofs.TextLaws.WordReaders.{bind_ok, ok_is, number_takes, number_again, one_of_takes, one_of_again, end_takes}
 
 pub via_again : (v : Via) → with_text via_word vias (via_word v) ≡ Some v
@@ -50,21 +51,29 @@ verb_again verb.Resume = refl
 
 -- ---- a next
 
-next_after_takes : (c : NextWord) (ws : List Word) (x : Next × List Word) → next_after c ws ≡ Ok x → (next_word c ∷ ws ≡ next_words x.0 ++ x.1) × NextFits x.0
-next_after_takes word.Stay ws x e = subst (λ (y : Next × List Word). (next_word word.Stay ∷ ws ≡ next_words y.0 ++ y.1) × NextFits y.0) (ok_is (Stay, ws) x e) (refl, tt)
-next_after_takes word.Entry ws x e = subst (λ (y : Next × List Word). (next_word word.Entry ∷ ws ≡ next_words y.0 ++ y.1) × NextFits y.0) (ok_is (Entry, ws) x e) (refl, tt)
+next_after_takes : (c : NextWord) (ws : List Word) (x : Next × List Word) → next_after c ws ≡ Ok x
+    → (next_word c ∷ ws ≡ next_words x.0 ++ x.1) × NextFits x.0
+next_after_takes word.Stay ws x e =
+    subst (λ (y : Next × List Word). (next_word word.Stay ∷ ws ≡ next_words y.0 ++ y.1) × NextFits y.0)
+    (ok_is (Stay, ws) x e) (refl, tt)
+next_after_takes word.Entry ws x e =
+    subst (λ (y : Next × List Word). (next_word word.Entry ∷ ws ≡ next_words y.0 ++ y.1) × NextFits y.0)
+    (ok_is (Entry, ws) x e) (refl, tt)
 next_after_takes word.Waiter ws x e =
     let b = bind_ok (number_at 255 ws) (λ j. Ok (Waiter j.0, j.1)) x e in
     let t = number_takes 255 ws b.0 b.1 in
-    subst (λ (y : Next × List Word). (next_word word.Waiter ∷ ws ≡ next_words y.0 ++ y.1) × NextFits y.0) (ok_is (Waiter b.0.0, b.0.1) x b.2) (ap (λ (v : List Word). next_word word.Waiter ∷ v) t.0, t.1)
+    subst (λ (y : Next × List Word). (next_word word.Waiter ∷ ws ≡ next_words y.0 ++ y.1) × NextFits y.0)
+    (ok_is (Waiter b.0.0, b.0.1) x b.2) (ap (λ (v : List Word). next_word word.Waiter ∷ v) t.0, t.1)
 next_after_takes word.Signaller ws x e =
     let b = bind_ok (number_at 255 ws) (λ j. Ok (Signaller j.0, j.1)) x e in
     let t = number_takes 255 ws b.0 b.1 in
-    subst (λ (y : Next × List Word). (next_word word.Signaller ∷ ws ≡ next_words y.0 ++ y.1) × NextFits y.0) (ok_is (Signaller b.0.0, b.0.1) x b.2) (ap (λ (v : List Word). next_word word.Signaller ∷ v) t.0, t.1)
+    subst (λ (y : Next × List Word). (next_word word.Signaller ∷ ws ≡ next_words y.0 ++ y.1) × NextFits y.0)
+    (ok_is (Signaller b.0.0, b.0.1) x b.2) (ap (λ (v : List Word). next_word word.Signaller ∷ v) t.0, t.1)
 next_after_takes word.Until ws x e =
     let b = bind_ok (number_at 255 ws) (λ j. Ok (next.Until j.0, j.1)) x e in
     let t = number_takes 255 ws b.0 b.1 in
-    subst (λ (y : Next × List Word). (next_word word.Until ∷ ws ≡ next_words y.0 ++ y.1) × NextFits y.0) (ok_is (next.Until b.0.0, b.0.1) x b.2) (ap (λ (v : List Word). next_word word.Until ∷ v) t.0, t.1)
+    subst (λ (y : Next × List Word). (next_word word.Until ∷ ws ≡ next_words y.0 ++ y.1) × NextFits y.0)
+    (ok_is (next.Until b.0.0, b.0.1) x b.2) (ap (λ (v : List Word). next_word word.Until ∷ v) t.0, t.1)
 
 next_takes : (ws : List Word) (x : Next × List Word) → next_at ws ≡ Ok x → (ws ≡ next_words x.0 ++ x.1) × NextFits x.0
 unfolding next_at
@@ -78,21 +87,32 @@ next_again : (n : Next) (ws : List Word) → NextFits n → next_at (next_words 
 unfolding next_at
 next_again Stay ws fits = rw (one_of_again next_word all_next_words word.Stay ws refl) refl
 next_again Entry ws fits = rw (one_of_again next_word all_next_words word.Entry ws refl) refl
-next_again (Waiter j) ws fits = rw (one_of_again next_word all_next_words word.Waiter (decimal j ∷ ws) refl, number_again 255 j ws (lit< tt) fits) refl
-next_again (Signaller j) ws fits = rw (one_of_again next_word all_next_words word.Signaller (decimal j ∷ ws) refl, number_again 255 j ws (lit< tt) fits) refl
-next_again (next.Until j) ws fits = rw (one_of_again next_word all_next_words word.Until (decimal j ∷ ws) refl, number_again 255 j ws (lit< tt) fits) refl
+next_again (Waiter j) ws fits =
+    rw (one_of_again next_word all_next_words word.Waiter (decimal j ∷ ws) refl, number_again 255 j ws (lit< tt) fits)
+    refl
+next_again (Signaller j) ws fits =
+    rw (
+      one_of_again next_word all_next_words word.Signaller (decimal j ∷ ws) refl,
+      number_again 255 j ws (lit< tt) fits,
+    ) refl
+next_again (next.Until j) ws fits =
+    rw (one_of_again next_word all_next_words word.Until (decimal j ∷ ws) refl, number_again 255 j ws (lit< tt) fits)
+    refl
 
-cond_next_takes : (ws : List Word) (x : (ℕ × Next) × List Word) → cond_next_at ws ≡ Ok x → (ws ≡ decimal x.0.0 ∷ (next_words x.0.1 ++ x.1)) × (x.0.0 ≤ 255) × NextFits x.0.1
+cond_next_takes : (ws : List Word) (x : (ℕ × Next) × List Word) → cond_next_at ws ≡ Ok x
+    → (ws ≡ decimal x.0.0 ∷ (next_words x.0.1 ++ x.1)) × (x.0.0 ≤ 255) × NextFits x.0.1
 unfolding cond_next_at
 cond_next_takes ws x e =
     let a = bind_ok (number_at 255 ws) (λ c. next_at c.1 >>= λ n. Ok ((c.0, n.0), n.1)) x e in
     let b = bind_ok (next_at a.0.1) (λ n. Ok ((a.0.0, n.0), n.1)) x a.2 in
     let t = number_takes 255 ws a.0 a.1 in
     let n = next_takes a.0.1 b.0 b.1 in
-    subst (λ (y : (ℕ × Next) × List Word). (ws ≡ decimal y.0.0 ∷ (next_words y.0.1 ++ y.1)) × (y.0.0 ≤ 255) × NextFits y.0.1) (ok_is ((a.0.0, b.0.0), b.0.1) x b.2)
+    subst (λ (y : (ℕ × Next) × List Word). (ws ≡ decimal y.0.0 ∷ (next_words y.0.1 ++ y.1)) × (y.0.0 ≤ 255)
+    × NextFits y.0.1) (ok_is ((a.0.0, b.0.0), b.0.1) x b.2)
     (t.0 ∙ ap (λ (v : List Word). decimal a.0.0 ∷ v) n.0, t.1, n.1)
 
-cond_next_again : (c : ℕ) (n : Next) (ws : List Word) → c ≤ 255 → NextFits n → cond_next_at (decimal c ∷ (next_words n ++ ws)) ≡ Ok ((c, n), ws)
+cond_next_again : (c : ℕ) (n : Next) (ws : List Word) → c ≤ 255 → NextFits n
+    → cond_next_at (decimal c ∷ (next_words n ++ ws)) ≡ Ok ((c, n), ws)
 unfolding cond_next_at
 cond_next_again c n ws le fits = rw (number_again 255 c (next_words n ++ ws) (lit< tt) le, next_again n ws fits) refl
 
@@ -102,23 +122,33 @@ acted a ws = decimal a.0.code ∷ decimal a.0.arg ∷ decimal a.1 ∷ ws
 three_words : (ws a b c : List Word) (x y z : Word) → ws ≡ x ∷ a → a ≡ y ∷ b → b ≡ z ∷ c → ws ≡ x ∷ y ∷ z ∷ c
 three_words ws a b c x y z e0 e1 e2 = cc
 
-act_takes : (ws : List Word) (x : (Op × ℕ) × List Word) → act_at ws ≡ Ok x → (ws ≡ acted x.0 x.1) × (x.0.0.code ≤ 255) × (x.0.0.arg ≤ 2 ^ 32 - 1) × (x.0.1 ≤ 2 ^ 64 - 1)
+act_takes : (ws : List Word) (x : (Op × ℕ) × List Word) → act_at ws ≡ Ok x → (ws ≡ acted x.0 x.1) × (x.0.0.code ≤ 255)
+    × (x.0.0.arg ≤ 2 ^ 32 - 1) × (x.0.1 ≤ 2 ^ 64 - 1)
 unfolding act_at
 act_takes ws x e =
-    let a = bind_ok (number_at 255 ws) (λ c. number_at (2 ^ 32 - 1) c.1 >>= λ a. number_at (2 ^ 64 - 1) a.1 >>= λ r. Ok ((record { code = c.0; arg = a.0 }, r.0), r.1)) x e in
-    let b = bind_ok (number_at (2 ^ 32 - 1) a.0.1) (λ n. number_at (2 ^ 64 - 1) n.1 >>= λ r. Ok ((record { code = a.0.0; arg = n.0 }, r.0), r.1)) x a.2 in
+    let a = bind_ok (number_at 255 ws)
+    (λ c. number_at (2 ^ 32 - 1) c.1 >>= λ a. number_at (2 ^ 64 - 1) a.1 >>= λ r. Ok
+    ((record { code = c.0; arg = a.0 }, r.0), r.1)) x e in
+    let b = bind_ok (number_at (2 ^ 32 - 1) a.0.1)
+    (λ n. number_at (2 ^ 64 - 1) n.1 >>= λ r. Ok ((record { code = a.0.0; arg = n.0 }, r.0), r.1)) x a.2 in
     let c = bind_ok (number_at (2 ^ 64 - 1) b.0.1) (λ r. Ok ((record { code = a.0.0; arg = b.0.0 }, r.0), r.1)) x b.2 in
     let t = number_takes 255 ws a.0 a.1 in
     let u = number_takes (2 ^ 32 - 1) a.0.1 b.0 b.1 in
     let v = number_takes (2 ^ 64 - 1) b.0.1 c.0 c.1 in
     let made : (Op × ℕ) × List Word = ((record { code = a.0.0; arg = b.0.0 }, c.0.0), c.0.1) in
-    subst (λ (y : (Op × ℕ) × List Word). (ws ≡ acted y.0 y.1) × (y.0.0.code ≤ 255) × (y.0.0.arg ≤ 2 ^ 32 - 1) × (y.0.1 ≤ 2 ^ 64 - 1)) (ok_is made x c.2)
+    subst (λ (y : (Op × ℕ) × List Word). (ws ≡ acted y.0 y.1) × (y.0.0.code ≤ 255) × (y.0.0.arg ≤ 2 ^ 32 - 1)
+    × (y.0.1 ≤ 2 ^ 64 - 1)) (ok_is made x c.2)
     (three_words ws a.0.1 b.0.1 c.0.1 _ _ _ t.0 u.0 v.0, t.1, u.1, v.1)
 
-after_act : (s : ℕ) (op : Op) (reply : ℕ) → op.code ≤ 255 → op.arg ≤ 2 ^ 32 - 1 → reply ≤ 2 ^ 64 - 1 → event_after verb.Act s (decimal op.code ∷ decimal op.arg ∷ decimal reply ∷ []) ≡ Ok (Act s op reply, [])
+after_act : (s : ℕ) (op : Op) (reply : ℕ) → op.code ≤ 255 → op.arg ≤ 2 ^ 32 - 1 → reply ≤ 2 ^ 64 - 1
+    → event_after verb.Act s (decimal op.code ∷ decimal op.arg ∷ decimal reply ∷ []) ≡ Ok (Act s op reply, [])
 unfolding event_after act_at
 after_act s op reply code arg fits =
-    rw (number_again 255 op.code (decimal op.arg ∷ decimal reply ∷ []) (lit< tt) code, number_again (2 ^ 32 - 1) op.arg (decimal reply ∷ []) (lit< tt) arg, number_again (2 ^ 64 - 1) reply [] (lit< tt) fits) refl
+    rw (
+      number_again 255 op.code (decimal op.arg ∷ decimal reply ∷ []) (lit< tt) code,
+      number_again (2 ^ 32 - 1) op.arg (decimal reply ∷ []) (lit< tt) arg,
+      number_again (2 ^ 64 - 1) reply [] (lit< tt) fits,
+    ) refl
 
 -- ---- an event
 
@@ -150,7 +180,8 @@ event_after_takes verb.Signal s ws x le e =
 event_after_takes verb.SignalLeave s ws x le e =
     let b = bind_ok (cond_next_at ws) (λ n. Ok (SignalLeave s n.0.0 n.0.1, n.1)) x e in
     let t = cond_next_takes ws b.0 b.1 in
-    subst (Ends verb.SignalLeave s ws) (ok_is (SignalLeave s b.0.0.0 b.0.0.1, b.0.1) x b.2) (ap (behind verb.SignalLeave s) t.0, (le, t.1, t.2))
+    subst (Ends verb.SignalLeave s ws) (ok_is (SignalLeave s b.0.0.0 b.0.0.1, b.0.1) x b.2)
+    (ap (behind verb.SignalLeave s) t.0, (le, t.1, t.2))
 event_after_takes verb.Until s ws x le e =
     let b = bind_ok (cond_next_at ws) (λ n. Ok (Until s n.0.0 n.0.1, n.1)) x e in
     let t = cond_next_takes ws b.0 b.1 in
@@ -167,7 +198,8 @@ event_after_takes verb.Resume s ws x le e =
 pub event_takes : (ws : List Word) (x : Event × List Word) → event_at ws ≡ Ok x → (ws ≡ event_words x.0) × EventFits x.0
 unfolding event_at
 event_takes ws x e =
-    let a = bind_ok (one_of verb_word verbs ws) (λ v. number_at 255 v.1 >>= λ s. event_after v.0 s.0 s.1 >>= λ e. end_at e.1 >>= λ z. Ok (e.0, z.1)) x e in
+    let a = bind_ok (one_of verb_word verbs ws)
+    (λ v. number_at 255 v.1 >>= λ s. event_after v.0 s.0 s.1 >>= λ e. end_at e.1 >>= λ z. Ok (e.0, z.1)) x e in
     let b = bind_ok (number_at 255 a.0.1) (λ s. event_after a.0.0 s.0 s.1 >>= λ e. end_at e.1 >>= λ z. Ok (e.0, z.1)) x a.2 in
     let c = bind_ok (event_after a.0.0 b.0.0 b.0.1) (λ e. end_at e.1 >>= λ z. Ok (e.0, z.1)) x b.2 in
     let d = bind_ok (end_at c.0.1) (λ z. Ok (c.0.0, z.1)) x c.2 in
@@ -175,18 +207,23 @@ event_takes ws x e =
     let seat_is = number_takes 255 a.0.1 b.0 b.1 in
     let event_is = event_after_takes a.0.0 b.0.0 b.0.1 c.0 seat_is.1 c.1 in
     let none = (end_takes c.0.1 d.0 d.1).0 in
-    let whole : ws ≡ event_words c.0.0 = verb_is ∙ ap (λ (v : List Word). verb_word a.0.0 ∷ v) seat_is.0 ∙ event_is.0 ∙ ap (λ (v : List Word). event_words c.0.0 ++ v) none ∙ append-nil (event_words c.0.0) in
+    let whole : ws ≡ event_words c.0.0 = verb_is ∙ ap (λ (v : List Word). verb_word a.0.0 ∷ v) seat_is.0 ∙ event_is.0
+    ∙ ap (λ (v : List Word). event_words c.0.0 ++ v) none ∙ append-nil (event_words c.0.0) in
     subst (λ (y : Event × List Word). (ws ≡ event_words y.0) × EventFits y.0) (ok_is (c.0.0, d.0.1) x d.2) (whole, event_is.1)
 
 next_again_last : (n : Next) → NextFits n → next_at (next_words n) ≡ Ok (n, [])
 next_again_last n fits = ap next_at (sym (append-nil (next_words n))) ∙ next_again n [] fits
 
 cond_next_again_last : (c : ℕ) (n : Next) → c ≤ 255 → NextFits n → cond_next_at (decimal c ∷ next_words n) ≡ Ok ((c, n), [])
-cond_next_again_last c n le fits = ap (λ (v : List Word). cond_next_at (decimal c ∷ v)) (sym (append-nil (next_words n))) ∙ cond_next_again c n [] le fits
+cond_next_again_last c n le fits =
+    ap (λ (v : List Word). cond_next_at (decimal c ∷ v)) (sym (append-nil (next_words n)))
+    ∙ cond_next_again c n [] le fits
 
-event_from_after : (v : Verb) (s : ℕ) (ws : List Word) (e : Event) → s ≤ 255 → event_after v s ws ≡ Ok (e, []) → event_at (verb_word v ∷ decimal s ∷ ws) ≡ Ok (e, [])
+event_from_after : (v : Verb) (s : ℕ) (ws : List Word) (e : Event) → s ≤ 255 → event_after v s ws ≡ Ok (e, [])
+    → event_at (verb_word v ∷ decimal s ∷ ws) ≡ Ok (e, [])
 unfolding event_at
-event_from_after v s ws e le h = rw (one_of_again verb_word verbs v (decimal s ∷ ws) (verb_again v), number_again 255 s ws (lit< tt) le, h) refl
+event_from_after v s ws e le h =
+    rw (one_of_again verb_word verbs v (decimal s ∷ ws) (verb_again v), number_again 255 s ws (lit< tt) le, h) refl
 
 after_enter : (s : ℕ) (via : Via) → event_after verb.Enter s (via_word via ∷ []) ≡ Ok (Enter s via, [])
 unfolding event_after
@@ -212,7 +249,8 @@ after_signal : (s c : ℕ) (n : Next) → c ≤ 255 → NextFits n → event_aft
 unfolding event_after
 after_signal s c n le fits = rw (cond_next_again_last c n le fits) refl
 
-after_signal_leave : (s c : ℕ) (n : Next) → c ≤ 255 → NextFits n → event_after verb.SignalLeave s (decimal c ∷ next_words n) ≡ Ok (SignalLeave s c n, [])
+after_signal_leave : (s c : ℕ) (n : Next) → c ≤ 255 → NextFits n
+    → event_after verb.SignalLeave s (decimal c ∷ next_words n) ≡ Ok (SignalLeave s c n, [])
 unfolding event_after
 after_signal_leave s c n le fits = rw (cond_next_again_last c n le fits) refl
 
@@ -220,8 +258,13 @@ pub event_again : (e : Event) → EventFits e → event_at (event_words e) ≡ O
 event_again (Enter s via) fits = event_from_after verb.Enter s (via_word via ∷ []) (Enter s via) fits (after_enter s via)
 event_again (Leave s n) fits = event_from_after verb.Leave s (next_words n) (Leave s n) fits.0 (after_leave s n fits.1)
 event_again (Wait s c n) fits = event_from_after verb.Wait s (decimal c ∷ next_words n) (Wait s c n) fits.0 (after_wait s c n fits.1 fits.2)
-event_again (Signal s c n) fits = event_from_after verb.Signal s (decimal c ∷ next_words n) (Signal s c n) fits.0 (after_signal s c n fits.1 fits.2)
-event_again (SignalLeave s c n) fits = event_from_after verb.SignalLeave s (decimal c ∷ next_words n) (SignalLeave s c n) fits.0 (after_signal_leave s c n fits.1 fits.2)
-event_again (Until s c n) fits = event_from_after verb.Until s (decimal c ∷ next_words n) (Until s c n) fits.0 (after_until s c n fits.1 fits.2)
-event_again (Act s op reply) fits = event_from_after verb.Act s (decimal op.code ∷ decimal op.arg ∷ decimal reply ∷ []) (Act s op reply) fits.0 (after_act s op reply fits.1 fits.2 fits.3)
+event_again (Signal s c n) fits = event_from_after verb.Signal s (decimal c ∷ next_words n) (Signal s c n) fits.0
+    (after_signal s c n fits.1 fits.2)
+event_again (SignalLeave s c n) fits =
+    event_from_after verb.SignalLeave s (decimal c ∷ next_words n) (SignalLeave s c n) fits.0
+    (after_signal_leave s c n fits.1 fits.2)
+event_again (Until s c n) fits = event_from_after verb.Until s (decimal c ∷ next_words n) (Until s c n) fits.0
+    (after_until s c n fits.1 fits.2)
+event_again (Act s op reply) fits = event_from_after verb.Act s (decimal op.code ∷ decimal op.arg ∷ decimal reply ∷ [])
+    (Act s op reply) fits.0 (after_act s op reply fits.1 fits.2 fits.3)
 event_again (Resume s q) fits = event_from_after verb.Resume s (from_word q ∷ []) (Resume s q) fits (after_resume s q)

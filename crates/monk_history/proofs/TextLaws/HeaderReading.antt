@@ -1,5 +1,6 @@
 -- What is read as a header is how it is written, and a header that is written is read again.
-use Rattle.std.proofs.Common.{lit<, ◌≡◌, ℕ, ◌≤◌, Bool, true, false, cond, List, [], ◌∷◌, ◌++◌, Some, None, Ok, refl, sym, ap, subst, ◌∙◌, arith}
+use Rattle.std.proofs.Common.{lit<, ◌≡◌, ℕ, ◌≤◌, Bool, true, false, cond, List, [], ◌∷◌, ◌++◌, Some, None, Ok, refl}
+use Rattle.std.proofs.Common.{sym, ap, subst, ◌∙◌, arith}
 use Rattle.std.specs.Prelude.{◌&&◌, nat_le, codes}
 use Rattle.std.specs.Fmt.{decimal}
 use Rattle.std.proofs.lemmas.Bool.{leb-true, le-leb}
@@ -14,7 +15,8 @@ use Rattle.monk_history.specs.Text.{Heading, part_words, header_words, IsHeading
 use Rattle.monk_history.specs.Text.Words.{◌>>=◌, Word, Taken, number_at, with_rest, one_of, literal_at, end_at}
 use Rattle.monk_history.specs.Text.Reading.{heading, heading_of, parts_at, header_at}
 use Rattle.monk_history.proofs.TextLaws.LineCuts.{both}
-use Rattle.monk_history.proofs.TextLaws.WordReaders.{bind_ok, ok_is, number_takes, number_again, one_of_takes, one_of_again, literal_takes, end_takes}
+use Rattle.monk_history.proofs.TextLaws.WordReaders.{bind_ok, ok_is, number_takes, number_again, one_of_takes}
+use Rattle.monk_history.proofs.TextLaws.WordReaders.{one_of_again, literal_takes, end_takes}
 
 kind_again : (k : KindName) → with_text kind_word kinds (kind_word k) ≡ Some k
 kind_again Pb = refl
@@ -33,17 +35,28 @@ object_again Buffer = refl
 object_again Book = refl
 object_again Shop = refl
 
-heading_made : (b : Bool) (h : Heading) (ws : List Word) (x : Heading × List Word) → with_rest ws (cond b (Some h) None) ≡ Ok x → (b ≡ true) × (x ≡ (h, ws))
+heading_made : (b : Bool) (h : Heading) (ws : List Word) (x : Heading × List Word)
+    → with_rest ws (cond b (Some h) None) ≡ Ok x → (b ≡ true) × (x ≡ (h, ws))
 heading_made true h ws x e = (refl, sym (ok_is (h, ws) x e))
 heading_made false h ws x e = absurd cc
 
-heading_fits : (k : KindName) (s c : ℕ) (o : ObjectName) (z : ℕ) (ws : List Word) (x : Heading × List Word) → z ≤ 255 → with_rest ws (heading_of k s c o z) ≡ Ok x → (x ≡ (heading k s c o z, ws)) × IsHeading (heading k s c o z)
+heading_fits : (k : KindName) (s c : ℕ) (o : ObjectName) (z : ℕ) (ws : List Word) (x : Heading × List Word) → z ≤ 255
+    → with_rest ws (heading_of k s c o z) ≡ Ok x → (x ≡ (heading k s c o z, ws)) × IsHeading (heading k s c o z)
 heading_fits k s c o z ws x le e =
     let h = heading_made (nat_le 1 s && nat_le s most_seats && nat_le c most_conds && nat_le 1 z) (heading k s c o z) ws x e in
     let p = both (nat_le 1 s && nat_le s most_seats && nat_le c most_conds) (nat_le 1 z) h.0 in
     let q = both (nat_le 1 s && nat_le s most_seats) (nat_le c most_conds) p.0 in
-    let r = both (nat_le 1 s) (nat_le s most_seats) q.0 in
-    (h.1, record { some_seat = leb-true _ _ r.0; seats = leb-true _ _ r.1; conds = leb-true _ _ q.1; some_size = leb-true _ _ p.1; size = le })
+    let r = both (nat_le 1 s) (nat_le s most_seats) q.0 in (
+      h.1,
+      record {
+        some_seat = leb-true _ _ r.0;
+        seats = leb-true _ _ r.1;
+        conds = leb-true _ _ q.1;
+        some_size =
+            leb-true _ _ p.1;
+        size = le;
+      },
+    )
 
 -- the steps of the parts, each with those after it
 abbrev Numbered : Type 0
@@ -70,7 +83,8 @@ at_seats k s = number_at 255 s.1 >>= at_conds k s
 abbrev at_kind : Kinded → Taken Heading
 at_kind k = number_at 255 k.1 >>= at_seats k
 
-five_words : (ws a b c d e : List Word) (t u v w x : Word) → ws ≡ t ∷ a → a ≡ u ∷ b → b ≡ v ∷ c → c ≡ w ∷ d → d ≡ x ∷ e → ws ≡ t ∷ u ∷ v ∷ w ∷ x ∷ e
+five_words : (ws a b c d e : List Word) (t u v w x : Word) → ws ≡ t ∷ a → a ≡ u ∷ b → b ≡ v ∷ c → c ≡ w ∷ d → d ≡ x ∷ e
+    → ws ≡ t ∷ u ∷ v ∷ w ∷ x ∷ e
 five_words ws a b c d e t u v w x e0 e1 e2 e3 e4 = cc
 
 pub parts_take : (ws : List Word) (x : Heading × List Word) → parts_at ws ≡ Ok x → (ws ≡ part_words x.0 ++ x.1) × IsHeading x.0
@@ -88,16 +102,24 @@ parts_take ws x e =
     let e2 : s.0.1 ≡ decimal c.0.0 ∷ c.0.1 = (number_takes 255 s.0.1 c.0 c.1).0 in
     let e3 : c.0.1 ≡ object_word o.0.0 ∷ o.0.1 = one_of_takes object_word objects c.0.1 o.0 o.1 in
     let e4 : o.0.1 ≡ decimal z.0.0 ∷ z.0.1 = size_is.0 in
-    subst (λ (y : Heading × List Word). (ws ≡ part_words y.0 ++ y.1) × IsHeading y.0) (sym h.0) (five_words ws k.0.1 s.0.1 c.0.1 o.0.1 z.0.1 _ _ _ _ _ e0 e1 e2 e3 e4, h.1)
+    subst (λ (y : Heading × List Word). (ws ≡ part_words y.0 ++ y.1) × IsHeading y.0) (sym h.0)
+    (five_words ws k.0.1 s.0.1 c.0.1 o.0.1 z.0.1 _ _ _ _ _ e0 e1 e2 e3 e4, h.1)
 
 heading_again : (h : Heading) → IsHeading h → heading_of h.kind h.seats h.conds h.object h.size ≡ Some h
-heading_again h fits = rw (le-leb 1 h.seats fits.some_seat, le-leb h.seats most_seats fits.seats, le-leb h.conds most_conds fits.conds, le-leb 1 h.size fits.some_size) refl
+heading_again h fits =
+    rw (
+      le-leb 1 h.seats fits.some_seat,
+      le-leb h.seats most_seats fits.seats,
+      le-leb h.conds most_conds fits.conds,
+      le-leb 1 h.size fits.some_size,
+    ) refl
 
 pub parts_again : (h : Heading) (ws : List Word) → IsHeading h → parts_at (part_words h ++ ws) ≡ Ok (h, ws)
 unfolding parts_at
 parts_again h ws fits =
     rw (
-      one_of_again kind_word kinds h.kind (decimal h.seats ∷ decimal h.conds ∷ object_word h.object ∷ decimal h.size ∷ ws) (kind_again h.kind),
+      one_of_again kind_word kinds h.kind
+          (decimal h.seats ∷ decimal h.conds ∷ object_word h.object ∷ decimal h.size ∷ ws) (kind_again h.kind),
       number_again 255 h.seats (decimal h.conds ∷ object_word h.object ∷ decimal h.size ∷ ws) (lit< tt) (omega (arith, fits.seats)),
       number_again 255 h.conds (object_word h.object ∷ decimal h.size ∷ ws) (lit< tt) (omega (arith, fits.conds)),
       one_of_again object_word objects h.object (decimal h.size ∷ ws) (object_again h.object),
@@ -127,7 +149,10 @@ header_takes ws x e =
     let version_is : m.0.1 ≡ codes "1" ∷ v.0.1 = literal_takes (codes "1") m.0.1 v.0 v.1 in
     let parts_are = parts_take v.0.1 h.0 h.1 in
     let none : h.0.1 ≡ [] = (end_takes h.0.1 n.0 n.1).0 in
-    let whole : ws ≡ header_words h.0.0 = name_is ∙ ap (λ (w : List Word). codes "monk" ∷ w) (version_is ∙ ap (λ (w : List Word). codes "1" ∷ w) (parts_are.0 ∙ ap (λ (w : List Word). part_words h.0.0 ++ w) none)) in
+    let whole : ws ≡ header_words h.0.0 = name_is
+    ∙ ap (λ (w : List Word). codes "monk" ∷ w)
+    (version_is ∙ ap (λ (w : List Word). codes "1" ∷ w)
+    (parts_are.0 ∙ ap (λ (w : List Word). part_words h.0.0 ++ w) none)) in
     subst (λ (y : Heading × List Word). (ws ≡ header_words y.0) × IsHeading y.0) (ok_is (h.0.0, n.0.1) x n.2) (whole, parts_are.1)
 
 pub header_again : (h : Heading) → IsHeading h → header_at (header_words h) ≡ Ok (h, [])

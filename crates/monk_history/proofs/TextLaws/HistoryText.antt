@@ -22,9 +22,11 @@ EventFitsUnder h = EventFits
 events : (h : Heading) → IsFormat event_words (event_under h) (EventFitsUnder h)
 events h = record { takes = event_takes; again = event_again; plain = event_are_words; some = some_word }
 
-pub text_again : (limit : ℕ) (h : Heading) (es : List Event) → HasText h es → length es ≤ limit → text_at limit (text h es) ≡ Ok (history h es)
+pub text_again : (limit : ℕ) (h : Heading) (es : List Event) → HasText h es → length es ≤ limit
+    → text_at limit (text h es) ≡ Ok (history h es)
 text_again limit h es has le =
-    formats.text_again header_words header_at IsHeading headers event_words event_under EventFitsUnder events limit h es has.header_fits has.events_fit le
+    formats.text_again header_words header_at IsHeading headers event_words event_under EventFitsUnder events limit h es
+    has.header_fits has.events_fit le
 
 -- a history that was found in the bytes
 pub record IsRead (limit : ℕ) (bytes : List ℕ) (h : Heading) (es : List Event) : Type 0 where
@@ -34,19 +36,27 @@ pub record IsRead (limit : ℕ) (bytes : List ℕ) (h : Heading) (es : List Even
 
 pub text_read : (limit : ℕ) (bytes : List ℕ) (x : History) → text_at limit bytes ≡ Ok x → IsRead limit bytes x.0 x.1
 text_read limit bytes x e =
-    let h = formats.text_read header_words header_at IsHeading headers event_words event_under EventFitsUnder events limit bytes x.0 x.1 e in
+    let h = formats.text_read header_words header_at IsHeading headers event_words event_under EventFitsUnder events
+    limit bytes x.0 x.1 e in
     record { has_text = record { header_fits = h.head_fits; events_fit = h.fit }; few = h.few; whole = h.whole }
 
 pub text_one : (h g : Heading) (es fs : List Event) → HasText h es → HasText g fs → text h es ≡ text g fs → history h es ≡ history g fs
 text_one h g es fs one two same =
-    let is = formats.text_one header_words header_at IsHeading headers event_words event_under EventFitsUnder events h g es fs one.header_fits one.events_fit two.header_fits two.events_fit same in
+    let is = formats.text_one header_words header_at IsHeading headers event_words event_under EventFitsUnder events h g
+    es fs one.header_fits one.events_fit two.header_fits two.events_fit same in
     ap (λ (x : Heading). history x es) is.0 ∙ ap (λ (x : List Event). history g x) is.1
 
 -- ---- what a function gives
 
-pub is_found : (limit : ℕ) (bytes : List ℕ) (r : Result (Heading × Vec Event) ReadFault) → Gives view r (text_at limit bytes) → IfOk r (λ x. HasText x.0 x.1.items × (length x.1.items ≤ limit) × (bytes ≡ text x.0 x.1.items))
+pub is_found : (limit : ℕ) (bytes : List ℕ) (r : Result (Heading × Vec Event) ReadFault)
+    → Gives view r (text_at limit bytes)
+    → IfOk r (λ x. HasText x.0 x.1.items × (length x.1.items ≤ limit) × (bytes ≡ text x.0 x.1.items))
 is_found limit bytes (Ok x) given = let h = text_read limit bytes (view x) given in (h.has_text, h.few, h.whole)
 is_found limit bytes (Err e) given = tt
 
-pub is_only : (limit : ℕ) (bytes : List ℕ) (r : Result (Heading × Vec Event) ReadFault) (h : Heading) (es : List Event) → HasText h es → length es ≤ limit → bytes ≡ text h es → Gives view r (text_at limit bytes) → Gives view r (Ok (history h es))
-is_only limit bytes r h es has le same given = subst (λ (x : Result History ReadFault). Gives view r x) (ap (text_at limit) same ∙ text_again limit h es has le) given
+pub is_only : (limit : ℕ) (bytes : List ℕ) (r : Result (Heading × Vec Event) ReadFault) (h : Heading) (es : List Event)
+    → HasText h es → length es ≤ limit → bytes ≡ text h es → Gives view r (text_at limit bytes)
+    → Gives view r (Ok (history h es))
+is_only limit bytes r h es has le same given =
+    subst (λ (x : Result History ReadFault). Gives view r x) (ap (text_at limit) same ∙ text_again limit h es has le)
+    given

@@ -1,5 +1,6 @@
 -- What stands at the front of a line is its next word where the line ends behind it, or a byte 32 follows.
-use Rattle.std.proofs.Common.{◌≡◌, ◌==◌, ◌≢◌, ℕ, ◌+◌, ◌-◌, ◌*◌, ◌/◌, ◌%◌, ◌^◌, ◌<◌, ◌≤◌, Bool, true, false, List, [], ◌∷◌, ◌++◌, length, take, drop, refl, sym, ap, ◌∙◌, append_assoc, arith}
+use Rattle.std.proofs.Common.{◌≡◌, ◌==◌, ◌≢◌, ℕ, ◌+◌, ◌-◌, ◌*◌, ◌/◌, ◌%◌, ◌^◌, ◌<◌, ◌≤◌, Bool, true, false, List, []}
+use Rattle.std.proofs.Common.{◌∷◌, ◌++◌, length, take, drop, refl, sym, ap, ◌∙◌, append_assoc, arith}
 use Rattle.std.specs.Char.{IsAsciiDigit}
 use Rattle.std.specs.Fmt.{decimal}
 use Rattle.std.specs.List.{join_with_byte}
@@ -25,16 +26,22 @@ not_true true h = absurd (h refl)
 not_true false h = refl
 
 -- the bytes of a line whose next word is that one
-begins : (word : Word) (parts : List Word) (bytes : List ℕ) → join_with_byte 32 parts ≡ bytes → is_next word parts ≡ true → (rest : List ℕ) × (bytes ≡ word ++ rest) × (rest ≢ [] → (after : List ℕ) × (rest ≡ 32 ∷ after))
+begins : (word : Word) (parts : List Word) (bytes : List ℕ) → join_with_byte 32 parts ≡ bytes
+    → is_next word parts ≡ true → (rest : List ℕ) × (bytes ≡ word ++ rest)
+    × (rest ≢ [] → (after : List ℕ) × (rest ≡ 32 ∷ after))
 begins word [] bytes same is = absurd cc
 begins word (v ∷ []) bytes same is =
     let e : v ≡ word = (bytes_eq-Decides v word).0 is in
     ([], sym same ∙ e ∙ sym (append-nil word), λ some. absurd (some refl))
 begins word (v ∷ w ∷ ws) bytes same is =
-    let e : v ≡ word = (bytes_eq-Decides v word).0 is in
-    (32 ∷ join_with_byte 32 (w ∷ ws), sym same ∙ ap (λ (x : List ℕ). x ++ 32 ∷ join_with_byte 32 (w ∷ ws)) e, λ some. (join_with_byte 32 (w ∷ ws), refl))
+    let e : v ≡ word = (bytes_eq-Decides v word).0 is in (
+      32 ∷ join_with_byte 32 (w ∷ ws),
+      sym same ∙ ap (λ (x : List ℕ). x ++ 32 ∷ join_with_byte 32 (w ∷ ws)) e,
+      λ some. (join_with_byte 32 (w ∷ ws), refl),
+    )
 
-begins_with : (word bytes : List ℕ) → is_next word (words_of bytes) ≡ true → (rest : List ℕ) × (bytes ≡ word ++ rest) × (rest ≢ [] → (after : List ℕ) × (rest ≡ 32 ∷ after))
+begins_with : (word bytes : List ℕ) → is_next word (words_of bytes) ≡ true → (rest : List ℕ) × (bytes ≡ word ++ rest)
+    × (rest ≢ [] → (after : List ℕ) × (rest ≡ 32 ∷ after))
 begins_with word bytes is = begins word (words_of bytes) bytes (join_with_byte-slice_split 32 bytes) is
 
 pub is_next-other : (word bytes : List ℕ) → take (length word) bytes ≢ word → is_next word (words_of bytes) ≡ false
@@ -66,7 +73,8 @@ last-digit n d low high some lt =
     decimal_step (n * 10 + (d - 48)) (omega arith) (omega arith)
     ∙ (ap (λ k. decimal k ++ (48 + (n * 10 + (d - 48)) % 10) ∷ []) front ∙ ap (λ k. decimal n ++ k ∷ []) last)
 
-pub digit-more : (n d : ℕ) (line rest behind : List ℕ) → line ≡ decimal n ++ rest → rest ≡ d ∷ behind → IsAsciiDigit d → n ≢ 0 → n < 2 ^ 59 → line ≡ decimal (n * 10 + (d - 48)) ++ behind
+pub digit-more : (n d : ℕ) (line rest behind : List ℕ) → line ≡ decimal n ++ rest → rest ≡ d ∷ behind → IsAsciiDigit d
+    → n ≢ 0 → n < 2 ^ 59 → line ≡ decimal (n * 10 + (d - 48)) ++ behind
 digit-more n d line rest behind so_far is digit some lt =
     so_far ∙ (ap (λ (r : List ℕ). decimal n ++ r) is
     ∙ (sym (append_assoc (decimal n) (d ∷ []) behind)
@@ -76,8 +84,11 @@ number-unbroken : (n : ℕ) → n < 2 ^ 64 → is_unbroken (decimal n) ≡ true
 number-unbroken n lt = no_space (decimal n) (IsWord-decimal n lt)
 
 pub number-last : (n : ℕ) (line rest : List ℕ) → line ≡ decimal n ++ rest → rest ≡ [] → n < 2 ^ 64 → words_of line ≡ decimal n ∷ []
-number-last n line rest so_far none lt = ap words_of (so_far ∙ ap (λ (r : List ℕ). decimal n ++ r) none) ∙ words-last (decimal n) (number-unbroken n lt)
+number-last n line rest so_far none lt = ap words_of (so_far ∙ ap (λ (r : List ℕ). decimal n ++ r) none)
+    ∙ words-last (decimal n) (number-unbroken n lt)
 
-pub number-ends : (n d : ℕ) (line rest behind : List ℕ) → line ≡ decimal n ++ rest → rest ≡ d ∷ behind → d ≡ 32 → n < 2 ^ 64 → words_of line ≡ decimal n ∷ words_of behind
+pub number-ends : (n d : ℕ) (line rest behind : List ℕ) → line ≡ decimal n ++ rest → rest ≡ d ∷ behind → d ≡ 32
+    → n < 2 ^ 64 → words_of line ≡ decimal n ∷ words_of behind
 number-ends n d line rest behind so_far is space lt =
-    ap words_of (so_far ∙ (ap (λ (r : List ℕ). decimal n ++ r) is ∙ ap (λ k. decimal n ++ k ∷ behind) space)) ∙ words-more (decimal n) behind (number-unbroken n lt)
+    ap words_of (so_far ∙ (ap (λ (r : List ℕ). decimal n ++ r) is ∙ ap (λ k. decimal n ++ k ∷ behind) space))
+    ∙ words-more (decimal n) behind (number-unbroken n lt)

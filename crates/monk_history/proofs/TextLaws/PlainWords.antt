@@ -35,7 +35,13 @@ event_are_words (Wait s c n) fits = rw (decimal_word s fits.0, decimal_word c fi
 event_are_words (Signal s c n) fits = rw (decimal_word s fits.0, decimal_word c fits.1, next_are_words n fits.2) refl
 event_are_words (SignalLeave s c n) fits = rw (decimal_word s fits.0, decimal_word c fits.1, next_are_words n fits.2) refl
 event_are_words (Until s c n) fits = rw (decimal_word s fits.0, decimal_word c fits.1, next_are_words n fits.2) refl
-event_are_words (Act s op reply) fits = rw (decimal_word s fits.0, decimal_word op.code fits.1, IsWord-decimal op.arg (omega (arith, fits.2)), IsWord-decimal reply (omega (arith, fits.3))) refl
+event_are_words (Act s op reply) fits =
+    rw (
+      decimal_word s fits.0,
+      decimal_word op.code fits.1,
+      IsWord-decimal op.arg (omega (arith, fits.2)),
+      IsWord-decimal reply (omega (arith, fits.3)),
+    ) refl
 event_are_words (Resume s from.Waiter) fits = rw (decimal_word s fits) refl
 event_are_words (Resume s from.Signaller) fits = rw (decimal_word s fits) refl
 event_are_words (Resume s from.Until) fits = rw (decimal_word s fits) refl
@@ -59,7 +65,13 @@ object_is_word Shop = refl
 
 pub header_are_words : (h : Heading) → IsHeading h → AreWords (header_words h)
 header_are_words h fits =
-    rw (kind_is_word h.kind, decimal_word h.seats (omega (arith, fits.seats)), decimal_word h.conds (omega (arith, fits.conds)), object_is_word h.object, decimal_word h.size fits.size) refl
+    rw (
+      kind_is_word h.kind,
+      decimal_word h.seats (omega (arith, fits.seats)),
+      decimal_word h.conds (omega (arith, fits.conds)),
+      object_is_word h.object,
+      decimal_word h.size fits.size,
+    ) refl
 
 pub some_word : (e : Event) → 0 < length (event_words e)
 some_word (Enter s via) = omega arith

@@ -1,5 +1,6 @@
 -- What is taken from the words is what its value is written as, and what is so written is taken again.
-use Rattle.std.proofs.Common.{◌≡◌, ℕ, ◌≤◌, ◌<◌, ◌^◌, Bool, true, false, cond, List, [], ◌∷◌, Option, Some, None, Result, Ok, Err, refl, sym, ap, subst, ◌∙◌}
+use Rattle.std.proofs.Common.{◌≡◌, ℕ, ◌≤◌, ◌<◌, ◌^◌, Bool, true, false, cond, List, [], ◌∷◌, Option, Some, None, Result}
+use Rattle.std.proofs.Common.{Ok, Err, refl, sym, ap, subst, ◌∙◌}
 use Rattle.std.specs.Prelude.{nat_le}
 use Rattle.std.specs.Fmt.{decimal}
 use Rattle.std.specs.Str.{bytes_eq}
@@ -56,24 +57,31 @@ number_refused most n ws lt great =
 some_is : {A : Type 0} (a b : A) → Option.Some a ≡ Some b → a ≡ b
 some_is a b e = cc
 
-test_found : {A : Type 0} (b : Bool) (w u : Word) (v x : A) (rest : Option A) (word : A → Word) → (b ≡ true → w ≡ word v) → (rest ≡ Some x → w ≡ word x) → cond b (Some v) rest ≡ Some x → w ≡ word x
+test_found : {A : Type 0} (b : Bool) (w u : Word) (v x : A) (rest : Option A) (word : A → Word)
+    → (b ≡ true → w ≡ word v) → (rest ≡ Some x → w ≡ word x) → cond b (Some v) rest ≡ Some x → w ≡ word x
 test_found true w u v x rest word same other e = same refl ∙ ap word (some_is v x e)
 test_found false w u v x rest word same other e = other e
 
 found_is : {A : Type 0} (word : A → Word) (values : List A) (w : Word) (x : A) → with_text word values w ≡ Some x → w ≡ word x
 found_is word [] w x e = absurd cc
-found_is word (v ∷ vs) w x e = test_found (bytes_eq w (word v)) w w v x (with_text word vs w) word (λ b. (bytes_eq-Decides w (word v)).0 b) (found_is word vs w x) e
+found_is word (v ∷ vs) w x e =
+    test_found (bytes_eq w (word v)) w w v x (with_text word vs w) word (λ b. (bytes_eq-Decides w (word v)).0 b)
+    (found_is word vs w x) e
 
-rest_taken : {A : Type 0} (o : Option A) (word : A → Word) (w : Word) (ws : List Word) (x : A × List Word) → ((y : A) → o ≡ Some y → w ≡ word y) → with_rest ws o ≡ Ok x → w ∷ ws ≡ word x.0 ∷ x.1
+rest_taken : {A : Type 0} (o : Option A) (word : A → Word) (w : Word) (ws : List Word) (x : A × List Word)
+    → ((y : A) → o ≡ Some y → w ≡ word y) → with_rest ws o ≡ Ok x → w ∷ ws ≡ word x.0 ∷ x.1
 rest_taken None word w ws x h e = absurd cc
-rest_taken {A = A} (Some y) word w ws x h e = subst (λ (z : A × List Word). w ∷ ws ≡ word z.0 ∷ z.1) (ok_is (y, ws) x e) (ap (λ (v : Word). v ∷ ws) (h y refl))
+rest_taken {A = A} (Some y) word w ws x h e = subst (λ (z : A × List Word). w ∷ ws ≡ word z.0 ∷ z.1) (ok_is (y, ws) x e)
+    (ap (λ (v : Word). v ∷ ws) (h y refl))
 
-pub one_of_takes : {A : Type 0} (word : A → Word) (values : List A) (ws : List Word) (x : A × List Word) → one_of word values ws ≡ Ok x → ws ≡ word x.0 ∷ x.1
+pub one_of_takes : {A : Type 0} (word : A → Word) (values : List A) (ws : List Word) (x : A × List Word)
+    → one_of word values ws ≡ Ok x → ws ≡ word x.0 ∷ x.1
 unfolding one_of
 one_of_takes word values [] x e = absurd cc
 one_of_takes word values (w ∷ ws) x e = rest_taken (with_text word values w) word w ws x (found_is word values w) e
 
-pub one_of_again : {A : Type 0} (word : A → Word) (values : List A) (x : A) (ws : List Word) → with_text word values (word x) ≡ Some x → one_of word values (word x ∷ ws) ≡ Ok (x, ws)
+pub one_of_again : {A : Type 0} (word : A → Word) (values : List A) (x : A) (ws : List Word)
+    → with_text word values (word x) ≡ Some x → one_of word values (word x ∷ ws) ≡ Ok (x, ws)
 unfolding one_of
 one_of_again word values x ws e = rw e refl
 

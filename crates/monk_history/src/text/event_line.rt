@@ -3,7 +3,8 @@
 ghost use Rattle.std.specs.Prelude.{◌-◌};
 ghost use Rattle.monk_history.specs.Text.{via_word, from_word};
 ghost use Rattle.monk_history.specs.Text.Words.{Reads, one_of};
-ghost use Rattle.monk_history.specs.Text.Reading.{vias, froms, next_word, all_next_words, verb_word, verbs, next_at, cond_next_at, act_at, event_after, event_at};
+ghost use Rattle.monk_history.specs.Text.Reading.{vias, froms, next_word, all_next_words, verb_word, verbs, next_at};
+ghost use Rattle.monk_history.specs.Text.Reading.{cond_next_at, act_at, event_after, event_at};
 
 use crate::event::{Event, From3, Next, Via};
 use crate::text::fault::Flaw;

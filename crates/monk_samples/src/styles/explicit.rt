@@ -22,7 +22,8 @@ pub(crate) fn finish<K: Kind, T: Guarded, R: Wait>(
     requires mode { has_signaller_queue K.rules.mode ≡ true }
     requires hall { active.hall ≡ hall.now.id }
     requires cond { cond < active.me.setting.conds }
-    ensures { HasFinished K.rules T.meaning active (Event.Signal active.me.seat cond Next.Stay ∷ Event.Leave active.me.seat Next.Stay ∷ []) result.0 result.1 }
+    ensures { HasFinished K.rules T.meaning active
+        (Event.Signal active.me.seat cond Next.Stay ∷ Event.Leave active.me.seat Next.Stay ∷ []) result.0 result.1 }
 {
     if active.left() < 3 {
         return (active.leave(hall, Pick::Waiter), End::Tired);

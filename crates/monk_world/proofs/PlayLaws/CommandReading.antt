@@ -9,7 +9,8 @@ use Rattle.monk_object.specs.declared.op.Op.{Op}
 use Rattle.monk_history.specs.Text.Words.{◌>>=◌, Word, Taken, number_at, one_of, end_at}
 use Rattle.monk_history.proofs.TextLaws.WordReaders.{bind_ok, ok_is, number_takes, number_again, one_of_takes, one_of_again, end_takes}
 use Rattle.monk_world.specs.declared.command.Command.{Command}
-use Rattle.monk_world.specs.declared.command.Command.TheVariants.{Arrive, Look, Out, Peek, Drop, Grant, Act, Leave, Wait, Signal, SignalLeave, Until}
+use Rattle.monk_world.specs.declared.command.Command.TheVariants.{Arrive, Look, Out, Peek, Drop, Grant, Act, Leave}
+use Rattle.monk_world.specs.declared.command.Command.TheVariants.{Wait, Signal, SignalLeave, Until}
 use Rattle.monk_world.specs.declared.play.verb.Verb.{Verb}
 use Rattle.monk_world.specs.declared.play.verb.Verb.TheVariants as verb
 use Rattle.monk_world.specs.Play.{pick_word, action_words, command_words, ActionFits, CommandFits}
@@ -36,7 +37,8 @@ verb_again verb.Until = refl
 
 -- ---- the parts of an action
 
-op_takes : (ws : List Word) (x : Op × List Word) → op_at ws ≡ Ok x → (ws ≡ decimal x.0.code ∷ decimal x.0.arg ∷ x.1) × (x.0.code ≤ 255) × (x.0.arg ≤ 2 ^ 32 - 1)
+op_takes : (ws : List Word) (x : Op × List Word) → op_at ws ≡ Ok x → (ws ≡ decimal x.0.code ∷ decimal x.0.arg ∷ x.1)
+    × (x.0.code ≤ 255) × (x.0.arg ≤ 2 ^ 32 - 1)
 unfolding op_at
 op_takes ws x e =
     let a = bind_ok (number_at 255 ws) (λ c. number_at (2 ^ 32 - 1) c.1 >>= λ a. Ok (record { code = c.0; arg = a.0 }, a.1)) x e in
@@ -44,17 +46,20 @@ op_takes ws x e =
     let t = number_takes 255 ws a.0 a.1 in
     let u = number_takes (2 ^ 32 - 1) a.0.1 b.0 b.1 in
     let made : Op × List Word = (record { code = a.0.0; arg = b.0.0 }, b.0.1) in
-    subst (λ (y : Op × List Word). (ws ≡ decimal y.0.code ∷ decimal y.0.arg ∷ y.1) × (y.0.code ≤ 255) × (y.0.arg ≤ 2 ^ 32 - 1)) (ok_is made x b.2)
+    subst (λ (y : Op × List Word). (ws ≡ decimal y.0.code ∷ decimal y.0.arg ∷ y.1) × (y.0.code ≤ 255)
+    × (y.0.arg ≤ 2 ^ 32 - 1)) (ok_is made x b.2)
     (t.0 ∙ ap (λ (v : List Word). decimal a.0.0 ∷ v) u.0, t.1, u.1)
 
-cond_pick_takes : (ws : List Word) (x : (ℕ × Pick) × List Word) → cond_pick_at ws ≡ Ok x → (ws ≡ decimal x.0.0 ∷ pick_word x.0.1 ∷ x.1) × (x.0.0 ≤ 255)
+cond_pick_takes : (ws : List Word) (x : (ℕ × Pick) × List Word) → cond_pick_at ws ≡ Ok x
+    → (ws ≡ decimal x.0.0 ∷ pick_word x.0.1 ∷ x.1) × (x.0.0 ≤ 255)
 unfolding cond_pick_at
 cond_pick_takes ws x e =
     let a = bind_ok (number_at 255 ws) (λ c. one_of pick_word picks c.1 >>= λ p. Ok ((c.0, p.0), p.1)) x e in
     let b = bind_ok (one_of pick_word picks a.0.1) (λ p. Ok ((a.0.0, p.0), p.1)) x a.2 in
     let t = number_takes 255 ws a.0 a.1 in
     let p = one_of_takes pick_word picks a.0.1 b.0 b.1 in
-    subst (λ (y : (ℕ × Pick) × List Word). (ws ≡ decimal y.0.0 ∷ pick_word y.0.1 ∷ y.1) × (y.0.0 ≤ 255)) (ok_is ((a.0.0, b.0.0), b.0.1) x b.2)
+    subst (λ (y : (ℕ × Pick) × List Word). (ws ≡ decimal y.0.0 ∷ pick_word y.0.1 ∷ y.1) × (y.0.0 ≤ 255))
+    (ok_is ((a.0.0, b.0.0), b.0.1) x b.2)
     (t.0 ∙ ap (λ (v : List Word). decimal a.0.0 ∷ v) p, t.1)
 
 cond_pick_again : (c : ℕ) (p : Pick) → c ≤ 255 → cond_pick_at (decimal c ∷ pick_word p ∷ []) ≡ Ok ((c, p), [])
@@ -103,9 +108,14 @@ action_takes verb.Until ws x e =
     let t = cond_pick_takes ws b.0 b.1 in
     subst (Ends verb.Until ws) (ok_is (Until b.0.0.0 b.0.0.1, b.0.1) x b.2) (ap (behind verb.Until) t.0, t.1)
 
-after_act : (op : Op) → op.code ≤ 255 → op.arg ≤ 2 ^ 32 - 1 → action_after verb.Act (decimal op.code ∷ decimal op.arg ∷ []) ≡ Ok (Act op, [])
+after_act : (op : Op) → op.code ≤ 255 → op.arg ≤ 2 ^ 32 - 1
+    → action_after verb.Act (decimal op.code ∷ decimal op.arg ∷ []) ≡ Ok (Act op, [])
 unfolding action_after op_at
-after_act op code arg = rw (number_again 255 op.code (decimal op.arg ∷ []) (lit< tt) code, number_again (2 ^ 32 - 1) op.arg [] (lit< tt) arg) refl
+after_act op code arg =
+    rw (
+      number_again 255 op.code (decimal op.arg ∷ []) (lit< tt) code,
+      number_again (2 ^ 32 - 1) op.arg [] (lit< tt) arg,
+    ) refl
 
 after_leave : (p : Pick) → action_after verb.Leave (pick_word p ∷ []) ≡ Ok (Leave p, [])
 unfolding action_after
@@ -149,12 +159,23 @@ command_takes ws x e =
     let verb_is = one_of_takes play_verb_word play_verbs a.0.1 b.0 b.1 in
     let action_is = action_takes b.0.0 b.0.1 c.0 c.1 in
     let none = (end_takes c.0.1 d.0 d.1).0 in
-    let whole : a.0.1 ≡ action_words c.0.0 = verb_is ∙ action_is.0 ∙ ap (λ (v : List Word). action_words c.0.0 ++ v) none ∙ append-nil (action_words c.0.0) in
-    subst (λ (y : (ℕ × Command) × List Word). (ws ≡ command_words y.0) × CommandFits y.0) (ok_is ((a.0.0, c.0.0), d.0.1) x d.2) (seat_is.0 ∙ ap (λ (v : List Word). decimal a.0.0 ∷ v) whole, (seat_is.1, action_is.1))
+    let whole : a.0.1 ≡ action_words c.0.0 = verb_is ∙ action_is.0
+    ∙ ap (λ (v : List Word). action_words c.0.0 ++ v) none ∙ append-nil (action_words c.0.0) in
+    subst (λ (y : (ℕ × Command) × List Word). (ws ≡ command_words y.0) × CommandFits y.0)
+    (ok_is ((a.0.0, c.0.0), d.0.1) x d.2) (
+      seat_is.0 ∙ ap (λ (v : List Word). decimal a.0.0 ∷ v) whole,
+      (seat_is.1, action_is.1),
+    )
 
-from_after : (v : Verb) (s : ℕ) (ws : List Word) (c : Command) → s ≤ 255 → action_after v ws ≡ Ok (c, []) → command_at (decimal s ∷ play_verb_word v ∷ ws) ≡ Ok ((s, c), [])
+from_after : (v : Verb) (s : ℕ) (ws : List Word) (c : Command) → s ≤ 255 → action_after v ws ≡ Ok (c, [])
+    → command_at (decimal s ∷ play_verb_word v ∷ ws) ≡ Ok ((s, c), [])
 unfolding command_at
-from_after v s ws c le h = rw (number_again 255 s (play_verb_word v ∷ ws) (lit< tt) le, one_of_again play_verb_word play_verbs v ws (verb_again v), h) refl
+from_after v s ws c le h =
+    rw (
+      number_again 255 s (play_verb_word v ∷ ws) (lit< tt) le,
+      one_of_again play_verb_word play_verbs v ws (verb_again v),
+      h,
+    ) refl
 
 action_again : (s : ℕ) (c : Command) → s ≤ 255 → ActionFits c → command_at (decimal s ∷ action_words c) ≡ Ok ((s, c), [])
 unfolding action_after
@@ -168,7 +189,8 @@ action_again s (Act op) le fits = from_after verb.Act s (decimal op.code ∷ dec
 action_again s (Leave p) le fits = from_after verb.Leave s (pick_word p ∷ []) (Leave p) le (after_leave p)
 action_again s (Wait c p) le fits = from_after verb.Wait s (decimal c ∷ pick_word p ∷ []) (Wait c p) le (after_wait c p fits)
 action_again s (Signal c p) le fits = from_after verb.Signal s (decimal c ∷ pick_word p ∷ []) (Signal c p) le (after_signal c p fits)
-action_again s (SignalLeave c p) le fits = from_after verb.SignalLeave s (decimal c ∷ pick_word p ∷ []) (SignalLeave c p) le (after_signal_leave c p fits)
+action_again s (SignalLeave c p) le fits =
+    from_after verb.SignalLeave s (decimal c ∷ pick_word p ∷ []) (SignalLeave c p) le (after_signal_leave c p fits)
 action_again s (Until c p) le fits = from_after verb.Until s (decimal c ∷ pick_word p ∷ []) (Until c p) le (after_until c p fits)
 
 pub command_again : (m : ℕ × Command) → CommandFits m → command_at (command_words m) ≡ Ok (m, [])

@@ -5,7 +5,8 @@ use Rattle.monk_kinds.specs.declared.mode.Pick.TheVariants as pick
 use Rattle.monk_history.proofs.TextLaws.LineCuts.{AreWords, IsWord, IsWord-decimal}
 use Rattle.monk_history.proofs.TextLaws.PlainWords.{decimal_word, kind_is_word, object_is_word}
 use Rattle.monk_world.specs.declared.command.Command.{Command}
-use Rattle.monk_world.specs.declared.command.Command.TheVariants.{Arrive, Look, Out, Peek, Drop, Grant, Act, Leave, Wait, Signal, SignalLeave, Until}
+use Rattle.monk_world.specs.declared.command.Command.TheVariants.{Arrive, Look, Out, Peek, Drop, Grant, Act, Leave}
+use Rattle.monk_world.specs.declared.command.Command.TheVariants.{Wait, Signal, SignalLeave, Until}
 use Rattle.monk_world.specs.declared.play.head.PlayHead.{PlayHead}
 use Rattle.monk_world.specs.Play.{pick_word, action_words, command_words, ActionFits, CommandFits}
 use Rattle.monk_world.proofs.PlayLaws.PlayHeads.{HeadFits, head_words}
@@ -35,4 +36,11 @@ command_are_words m fits = rw (decimal_word m.0 fits.0) (action_are_words m.1 fi
 pub head_are_words : (h : PlayHead) → HeadFits h → AreWords (head_words h)
 head_are_words h fits =
     let parts = fits.header_fits in
-    rw (kind_is_word h.header.kind, decimal_word h.header.seats (omega (arith, parts.seats)), decimal_word h.header.conds (omega (arith, parts.conds)), object_is_word h.header.object, decimal_word h.header.size parts.size, IsWord-decimal h.budget (omega (arith, fits.budget_fits))) refl
+    rw (
+      kind_is_word h.header.kind,
+      decimal_word h.header.seats (omega (arith, parts.seats)),
+      decimal_word h.header.conds (omega (arith, parts.conds)),
+      object_is_word h.header.object,
+      decimal_word h.header.size parts.size,
+      IsWord-decimal h.budget (omega (arith, fits.budget_fits)),
+    ) refl

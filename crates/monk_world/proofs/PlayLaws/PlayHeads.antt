@@ -21,7 +21,8 @@ pub record HeadFits (h : PlayHead) : Type 0 where
 abbrev pub head_words : PlayHead → List Word
 head_words h = play_words h.header h.budget
 
-head_made : (b : Bool) (h : PlayHead) (ws : List Word) (x : PlayHead × List Word) → with_rest ws (cond b (Some h) None) ≡ Ok x → (b ≡ true) × (x ≡ (h, ws))
+head_made : (b : Bool) (h : PlayHead) (ws : List Word) (x : PlayHead × List Word)
+    → with_rest ws (cond b (Some h) None) ≡ Ok x → (b ≡ true) × (x ≡ (h, ws))
 head_made true h ws x e = (refl, sym (ok_is (h, ws) x e))
 head_made false h ws x e = absurd cc
 
@@ -56,8 +57,12 @@ head_takes ws x e =
     let none : b.0.1 ≡ [] = (end_takes b.0.1 n.0 n.1).0 in
     let made = head_made (nat_le least_budget b.0.0) (play_head h.0.0 b.0.0) n.0.1 x n.2 in
     let last : h.0.1 ≡ decimal b.0.0 ∷ [] = budget_is.0 ∙ ap (λ (w : List Word). decimal b.0.0 ∷ w) none in
-    let whole : ws ≡ play_words h.0.0 b.0.0 = name_is ∙ ap (λ (w : List Word). codes "play" ∷ w) (version_is ∙ ap (λ (w : List Word). codes "1" ∷ w) (parts_are.0 ∙ ap (λ (w : List Word). part_words h.0.0 ++ w) last)) in
-    subst (λ (y : PlayHead × List Word). (ws ≡ head_words y.0) × HeadFits y.0) (sym made.1) (whole, record { header_fits = parts_are.1; some_budget = leb-true _ _ made.0; budget_fits = budget_is.1 })
+    let whole : ws ≡ play_words h.0.0 b.0.0 = name_is
+    ∙ ap (λ (w : List Word). codes "play" ∷ w)
+    (version_is ∙ ap (λ (w : List Word). codes "1" ∷ w)
+    (parts_are.0 ∙ ap (λ (w : List Word). part_words h.0.0 ++ w) last)) in
+    subst (λ (y : PlayHead × List Word). (ws ≡ head_words y.0) × HeadFits y.0) (sym made.1)
+    (whole, record { header_fits = parts_are.1; some_budget = leb-true _ _ made.0; budget_fits = budget_is.1 })
 
 head_whole : (h : PlayHead) → least_budget ≤ h.budget → play_head_of h.header h.budget ≡ Some h
 head_whole h some = rw (le-leb least_budget h.budget some) refl

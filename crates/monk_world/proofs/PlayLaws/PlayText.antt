@@ -26,13 +26,18 @@ commands h = record { takes = command_takes; again = command_again; plain = comm
 head_fits : (h : Heading) (budget : ℕ) (cs : List (ℕ × Command)) → HasPlayText h budget cs → HeadFits (play_head h budget)
 head_fits h budget cs has = record { header_fits = has.header_fits; some_budget = has.some_budget; budget_fits = has.budget_fits }
 
-pub play_again : (limit : ℕ) (h : Heading) (budget : ℕ) (cs : List (ℕ × Command)) → HasPlayText h budget cs → length cs ≤ limit → play_at limit (playtext h budget cs) ≡ Ok (play h budget cs)
+pub play_again : (limit : ℕ) (h : Heading) (budget : ℕ) (cs : List (ℕ × Command)) → HasPlayText h budget cs
+    → length cs ≤ limit → play_at limit (playtext h budget cs) ≡ Ok (play h budget cs)
 play_again limit h budget cs has le =
-    ap play_of_reading (formats.text_again head_words play_head_at HeadFits heads command_words command_under CommandFitsUnder commands limit (play_head h budget) cs (head_fits h budget cs has) has.commands_fit le)
+    ap play_of_reading (formats.text_again head_words play_head_at HeadFits heads command_words command_under
+    CommandFitsUnder commands limit (play_head h budget) cs (head_fits h budget cs has) has.commands_fit le)
 
-pub play_one : (h g : Heading) (b c : ℕ) (xs ys : List (ℕ × Command)) → HasPlayText h b xs → HasPlayText g c ys → playtext h b xs ≡ playtext g c ys → play h b xs ≡ play g c ys
+pub play_one : (h g : Heading) (b c : ℕ) (xs ys : List (ℕ × Command)) → HasPlayText h b xs → HasPlayText g c ys
+    → playtext h b xs ≡ playtext g c ys → play h b xs ≡ play g c ys
 play_one h g b c xs ys one two same =
-    let is = formats.text_one head_words play_head_at HeadFits heads command_words command_under CommandFitsUnder commands (play_head h b) (play_head g c) xs ys (head_fits h b xs one) one.commands_fit (head_fits g c ys two) two.commands_fit same in
+    let is = formats.text_one head_words play_head_at HeadFits heads command_words command_under CommandFitsUnder
+    commands (play_head h b) (play_head g c) xs ys (head_fits h b xs one) one.commands_fit (head_fits g c ys two)
+    two.commands_fit same in
     ap (λ (x : PlayHead). play x.header x.budget xs) is.0 ∙ ap (λ (x : List (ℕ × Command)). play g c x) is.1
 
 -- ---- what a function gives
@@ -43,25 +48,45 @@ pub record IsPlay (limit : ℕ) (bytes : List ℕ) (h : Heading) (budget : ℕ) 
   pub few : length cs ≤ limit
   pub whole : bytes ≡ playtext h budget cs
 
-pub play_read : (limit : ℕ) (bytes : List ℕ) (h : PlayHead) (cs : List (ℕ × Command)) → lines_at play_head_at command_under limit (lines_of bytes) ≡ Ok (h, cs) → IsPlay limit bytes h.header h.budget cs
+pub play_read : (limit : ℕ) (bytes : List ℕ) (h : PlayHead) (cs : List (ℕ × Command))
+    → lines_at play_head_at command_under limit (lines_of bytes) ≡ Ok (h, cs) → IsPlay limit bytes h.header h.budget cs
 play_read limit bytes h cs e =
-    let r = formats.text_read head_words play_head_at HeadFits heads command_words command_under CommandFitsUnder commands limit bytes h cs e in
-    record { has_text = record { header_fits = r.head_fits.header_fits; some_budget = r.head_fits.some_budget; budget_fits = r.head_fits.budget_fits; commands_fit = r.fit }; few = r.few; whole = r.whole }
+    let r = formats.text_read head_words play_head_at HeadFits heads command_words command_under CommandFitsUnder
+    commands limit bytes h cs e in
+    record {
+      has_text = record {
+        header_fits = r.head_fits.header_fits;
+        some_budget = r.head_fits.some_budget;
+        budget_fits = r.head_fits.budget_fits;
+        commands_fit = r.fit;
+      };
+      few = r.few;
+      whole = r.whole;
+    }
 
 -- the same of the play
 pub play_found : (limit : ℕ) (bytes : List ℕ) (p : Play) → play_at limit bytes ≡ Ok p → IsPlay limit bytes p.0 p.1 p.2
 play_found limit bytes p found = by (lines_at play_head_at command_under limit (lines_of bytes)) refl found
   where
-    by : (r : Result (PlayHead × List (ℕ × Command)) ReadFault) → lines_at play_head_at command_under limit (lines_of bytes) ≡ r → play_of_reading r ≡ Ok p → IsPlay limit bytes p.0 p.1 p.2
-    by (Ok x) is e = let same : play x.0.header x.0.budget x.1 ≡ p = cc in subst (λ (y : Play). IsPlay limit bytes y.0 y.1 y.2) same (play_read limit bytes x.0 x.1 is)
+    by : (r : Result (PlayHead × List (ℕ × Command)) ReadFault)
+        → lines_at play_head_at command_under limit (lines_of bytes) ≡ r → play_of_reading r ≡ Ok p
+        → IsPlay limit bytes p.0 p.1 p.2
+    by (Ok x) is e = let same : play x.0.header x.0.budget x.1 ≡ p = cc in
+        subst (λ (y : Play). IsPlay limit bytes y.0 y.1 y.2) same (play_read limit bytes x.0 x.1 is)
     by (Err f) is e = absurd cc
 
-pub is_exact : (limit : ℕ) (bytes : List ℕ) (h : PlayHead) (cs : List (ℕ × Command)) → lines_at play_head_at command_under limit (lines_of bytes) ≡ Ok (h, cs) → play_at limit bytes ≡ Ok (play h.header h.budget cs)
+pub is_exact : (limit : ℕ) (bytes : List ℕ) (h : PlayHead) (cs : List (ℕ × Command))
+    → lines_at play_head_at command_under limit (lines_of bytes) ≡ Ok (h, cs)
+    → play_at limit bytes ≡ Ok (play h.header h.budget cs)
 is_exact limit bytes h cs e = ap play_of_reading e
 
-pub is_fault : (limit : ℕ) (bytes : List ℕ) (f : ReadFault) → lines_at play_head_at command_under limit (lines_of bytes) ≡ Err f → play_at limit bytes ≡ Err f
+pub is_fault : (limit : ℕ) (bytes : List ℕ) (f : ReadFault)
+    → lines_at play_head_at command_under limit (lines_of bytes) ≡ Err f → play_at limit bytes ≡ Err f
 is_fault limit bytes f e = ap play_of_reading e
 
-pub is_only : (limit : ℕ) (bytes : List ℕ) (r : Result (Heading × ℕ × Vec (ℕ × Command)) ReadFault) (h : Heading) (budget : ℕ) (cs : List (ℕ × Command)) → HasPlayText h budget cs → length cs ≤ limit → bytes ≡ playtext h budget cs
+pub is_only : (limit : ℕ) (bytes : List ℕ) (r : Result (Heading × ℕ × Vec (ℕ × Command)) ReadFault) (h : Heading)
+    (budget : ℕ) (cs : List (ℕ × Command)) → HasPlayText h budget cs → length cs ≤ limit → bytes ≡ playtext h budget cs
     → Gives play_view r (play_at limit bytes) → Gives play_view r (Ok (play h budget cs))
-is_only limit bytes r h budget cs has le same given = subst (λ (x : Result Play ReadFault). Gives play_view r x) (ap (play_at limit) same ∙ play_again limit h budget cs has le) given
+is_only limit bytes r h budget cs has le same given =
+    subst (λ (x : Result Play ReadFault). Gives play_view r x)
+    (ap (play_at limit) same ∙ play_again limit h budget cs has le) given

@@ -7,4 +7,5 @@ use Rattle.monk_world.specs.Play.Reading.{play}
 
 -- no two plays have one text
 abbrev pub OnePlayEach : Type 0
-OnePlayEach = (h g : Heading) (b c : ℕ) (xs ys : List (ℕ × Command)) → HasPlayText h b xs → HasPlayText g c ys → playtext h b xs ≡ playtext g c ys → play h b xs ≡ play g c ys
+OnePlayEach = (h g : Heading) (b c : ℕ) (xs ys : List (ℕ × Command)) → HasPlayText h b xs → HasPlayText g c ys
+    → playtext h b xs ≡ playtext g c ys → play h b xs ≡ play g c ys

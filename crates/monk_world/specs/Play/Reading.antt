@@ -10,7 +10,8 @@ use Rattle.monk_history.specs.Text.Lines.{lines_of, lines_at}
 use Rattle.monk_history.specs.Text.Reading.{parts_at}
 use Rattle.monk_history.specs.Text.Words.{◌>>=◌, Word, Taken, number_at, one_of, literal_at, end_at, with_rest}
 use Rattle.monk_world.specs.declared.command.Command.{Command}
-use Rattle.monk_world.specs.declared.command.Command.TheVariants.{Arrive, Look, Out, Peek, Drop, Grant, Act, Leave, Wait, Signal, SignalLeave, Until}
+use Rattle.monk_world.specs.declared.command.Command.TheVariants.{Arrive, Look, Out, Peek, Drop, Grant, Act, Leave}
+use Rattle.monk_world.specs.declared.command.Command.TheVariants.{Wait, Signal, SignalLeave, Until}
 use Rattle.monk_world.specs.declared.play.head.PlayHead.{PlayHead}
 use Rattle.monk_world.specs.declared.play.verb.Verb.{Verb}
 use Rattle.monk_world.specs.declared.play.verb.Verb.TheVariants as verb
@@ -37,7 +38,8 @@ play_verb_word verb.SignalLeave = codes "signal-leave"
 play_verb_word verb.Until = codes "until"
 
 abbrev pub play_verbs : List Verb
-play_verbs = verb.Arrive ∷ verb.Look ∷ verb.Out ∷ verb.Peek ∷ verb.Drop ∷ verb.Grant ∷ verb.Act ∷ verb.Leave ∷ verb.Wait ∷ verb.Signal ∷ verb.SignalLeave ∷ verb.Until ∷ []
+play_verbs = verb.Arrive ∷ verb.Look ∷ verb.Out ∷ verb.Peek ∷ verb.Drop ∷ verb.Grant ∷ verb.Act ∷ verb.Leave ∷ verb.Wait
+    ∷ verb.Signal ∷ verb.SignalLeave ∷ verb.Until ∷ []
 
 -- a code and an argument
 unfoldable pub op_at : List Word → Taken Op

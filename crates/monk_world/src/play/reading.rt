@@ -46,9 +46,12 @@ pub fn read_play(
     bytes: &[u8],
 ) -> Result<(Header, u32, Vec<(u8, Command)>), ReadFault>
     // What is read has this text.
-    ensures found { IfOk result (λ r. HasPlayText r.0 r.1 r.2.items × (length r.2.items ≤ MOST_COMMANDS) × (bytes.now ≡ playtext r.0 r.1 r.2.items)) }
+    ensures found { IfOk result (λ r. HasPlayText r.0 r.1 r.2.items × (length r.2.items ≤ MOST_COMMANDS)
+        × (bytes.now ≡ playtext r.0 r.1 r.2.items)) }
     // What has a text is read from it, unless memory runs out.
-    ensures only { (h : Heading) (budget : ℕ) (cs : List (ℕ × Command)) → HasPlayText h budget cs → length cs ≤ MOST_COMMANDS → bytes.now ≡ playtext h budget cs → Gives play_view result (Ok (play h budget cs)) }
+    ensures only { (h : Heading) (budget : ℕ) (cs : List (ℕ × Command)) → HasPlayText h budget cs
+        → length cs ≤ MOST_COMMANDS → bytes.now ≡ playtext h budget cs
+        → Gives play_view result (Ok (play h budget cs)) }
     // Which fault it is.
     ensures exact { Gives play_view result (play_at MOST_COMMANDS bytes.now) }
 {

@@ -9,5 +9,7 @@ pub returns-clause-answer : goal.returns-clause-answer
 returns-clause-answer c = (
   λ e. c.if-fault-eq-MEMORY.false (ap (λ (f : ReadFault). f.number) e),
   refl,
-  (rw c.fault_word-word.ensures at c.in_ok-text.ensures.ok) ∙ four_words (codes "unreadable ") (decimal c.args.fault.line) (decimal c.args.fault.number) (fault_word c.args.fault.number),
+  (rw c.fault_word-word.ensures at c.in_ok-text.ensures.ok)
+      ∙ four_words (codes "unreadable ") (decimal c.args.fault.line) (decimal c.args.fault.number)
+      (fault_word c.args.fault.number),
 )

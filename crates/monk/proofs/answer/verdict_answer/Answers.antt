@@ -7,4 +7,10 @@ use Rattle.monk.proofs.answer.verdict_answer.Goals as goal
 
 pub returns-in_ok-text-in-Forbidden-clause-answer : goal.returns-in_ok-text-in-Forbidden-clause-answer
 returns-in_ok-text-in-Forbidden-clause-answer c =
-    subst (λ (v : Verdict). (1 ≡ (verdict_answer v).status) × (string_bytes c.in_ok-text-in-Forbidden.text ≡ (verdict_answer v).text)) (sym c.in-Forbidden.is) (refl, (rw c.reason_word-word.ensures at c.in_ok-text-in-Forbidden.ensures.ok) ∙ four_words (codes "forbidden ") (decimal c.in-Forbidden.step) (decimal c.in-Forbidden.reason) (reason_word c.in-Forbidden.reason))
+    subst (λ (v : Verdict). (1 ≡ (verdict_answer v).status)
+    × (string_bytes c.in_ok-text-in-Forbidden.text ≡ (verdict_answer v).text)) (sym c.in-Forbidden.is) (
+      refl,
+      (rw c.reason_word-word.ensures at c.in_ok-text-in-Forbidden.ensures.ok)
+          ∙ four_words (codes "forbidden ") (decimal c.in-Forbidden.step) (decimal c.in-Forbidden.reason)
+          (reason_word c.in-Forbidden.reason),
+    )

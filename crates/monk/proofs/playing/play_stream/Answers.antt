@@ -11,7 +11,9 @@ returns-clause-played g c =
     let known = g.R.Read.remaining (held c.args.reader.now) in
     let puts = Appends (g.W.Write.contents (held c.args.writer.now)) (g.W.Write.contents (held c.play_text.new.writer)) in
     IfOk-weaker c.play_text.result _ _ (λ status a.
-    zero_exactly known c.deref.result.now status puts (subst (λ (bytes : List ℕ). IfSome known (λ input. bytes ≡ input)) (sym c.deref.ensures.value) c.in_ok-bytes.ensures.bytes) a)
+    zero_exactly known c.deref.result.now status puts
+    (subst (λ (bytes : List ℕ). IfSome known (λ input. bytes ≡ input)) (sym c.deref.ensures.value)
+    c.in_ok-bytes.ensures.bytes) a)
     c.play_text.ensures.answer
 
 pub returns-clause-history : goal.returns-clause-history
@@ -19,5 +21,7 @@ returns-clause-history g c =
     let known = g.R.Read.remaining (held c.args.reader.now) in
     let puts = Appends (g.W.Write.contents (held c.args.writer.now)) (g.W.Write.contents (held c.play_text.new.writer)) in
     IfOk-weaker c.play_text.result _ _ (λ status a.
-    history_known known c.deref.result.now status puts (subst (λ (bytes : List ℕ). IfSome known (λ input. bytes ≡ input)) (sym c.deref.ensures.value) c.in_ok-bytes.ensures.bytes) a)
+    history_known known c.deref.result.now status puts
+    (subst (λ (bytes : List ℕ). IfSome known (λ input. bytes ≡ input)) (sym c.deref.ensures.value)
+    c.in_ok-bytes.ensures.bytes) a)
     c.play_text.ensures.answer

@@ -7,7 +7,8 @@ use Rattle.monk.proofs.words.asked.Goals as goal
 pub returns-in_ok-file_of-in-Some-audit-default : goal.returns-in_ok-file_of-in-Some-audit-default
 returns-in_ok-file_of-in-Some-audit-default c =
     let found = found_of c.in-Some-audit-default.audit.now in
-    asked_in (subcommand_rows_of c.args.matches.now) (codes "audit") (rows_of found) _ (search rules) (sym c.in-Some-audit-default.ensures.rows) (record {
+    asked_in (subcommand_rows_of c.args.matches.now) (codes "audit") (rows_of found) _ (search rules)
+    (sym c.in-Some-audit-default.ensures.rows) (record {
       command = refl;
       values = sym (first_value-rows found (codes "FILE")) ∙ sym c.in_ok-file_of-in-Some-audit-default.ensures;
       in_range = tt;
@@ -16,7 +17,8 @@ returns-in_ok-file_of-in-Some-audit-default c =
 pub returns-in_ok-file_of-in-Some-play-default : goal.returns-in_ok-file_of-in-Some-play-default
 returns-in_ok-file_of-in-Some-play-default c =
     let found = found_of c.in-Some-play-default.play.now in
-    asked_in (subcommand_rows_of c.args.matches.now) (codes "play") (rows_of found) _ (search rules) (sym c.in-Some-play-default.ensures.rows) (record {
+    asked_in (subcommand_rows_of c.args.matches.now) (codes "play") (rows_of found) _ (search rules)
+    (sym c.in-Some-play-default.ensures.rows) (record {
       command = refl;
       values = sym (first_value-rows found (codes "FILE")) ∙ sym c.in_ok-file_of-in-Some-play-default.ensures;
       in_range = tt;

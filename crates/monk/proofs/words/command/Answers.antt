@@ -10,10 +10,14 @@ returns c =
     let named = ap app_of_fields c.in_ok-bin_name.ensures.0 ∙ c.new.ensures.app in
     let versioned = ap app_of_fields c.version.ensures ∙ ap (λ (a : App). record a { top = record a.top { has_version = true } }) named in
     let bare_is : app_of c.subcommand_required.result ≡ bare_app =
-    ap app_of_fields c.subcommand_required.ensures ∙ ap (λ (a : App). record a { top = record a.top { subcommand_required = true } }) versioned in
-    let classify_is = c.in_ok-classify.ensures _ _ c.in_ok-subcommand.ensures ∙ ap (λ (a : App). with_subcommand a classify_app.top) bare_is in
-    let audit_is = c.in_ok-audit.ensures _ _ c.in_ok-subcommand-2.ensures ∙ ap (λ (a : App). with_subcommand a (file_app (codes "audit")).top) classify_is in
-    let play_is = c.in_ok-play.ensures _ _ c.in_ok-subcommand-3.ensures ∙ ap (λ (a : App). with_subcommand a (file_app (codes "play")).top) audit_is in
+    ap app_of_fields c.subcommand_required.ensures
+    ∙ ap (λ (a : App). record a { top = record a.top { subcommand_required = true } }) versioned in
+    let classify_is = c.in_ok-classify.ensures _ _ c.in_ok-subcommand.ensures
+    ∙ ap (λ (a : App). with_subcommand a classify_app.top) bare_is in
+    let audit_is = c.in_ok-audit.ensures _ _ c.in_ok-subcommand-2.ensures
+    ∙ ap (λ (a : App). with_subcommand a (file_app (codes "audit")).top) classify_is in
+    let play_is = c.in_ok-play.ensures _ _ c.in_ok-subcommand-3.ensures
+    ∙ ap (λ (a : App). with_subcommand a (file_app (codes "play")).top) audit_is in
     let run = c.in_ok-run.ensures in
     IfOk-weaker c.subcommand-4.result _ _ (λ r h. record {
       kinds = run.kinds;

@@ -7,5 +7,11 @@ use Rattle.monk.proofs.words.line.Goals as goal
 pub returns-in-Some : goal.returns-in-Some
 returns-in-Some c =
     let monk = c.in_ok-command.ensures in
-    let simple = ap is_simple monk.is ∙ monk_is_simple monk.kinds monk.samples in
-    (app_of c.in_ok-command.field-0, (monk, subst (IsAsked c.in-Some.line) (c.in-Ok.ensures.matches simple).1 (rw c.in-Some.is at c.in_ok-line.ensures)))
+    let simple = ap is_simple monk.is ∙ monk_is_simple monk.kinds monk.samples in (
+      app_of c.in_ok-command.field-0,
+      (
+        monk,
+        subst (IsAsked c.in-Some.line) (c.in-Ok.ensures.matches simple).1
+            (rw c.in-Some.is at c.in_ok-line.ensures),
+      ),
+    )

@@ -10,11 +10,14 @@ returns c =
     record {
       command = refl;
       values = (
-        number_read _ (λ bs r. ParsesUnsigned 8 10 bs r × ExplainsUnsignedError 10 bs r × HasUnsignedDigitsIfOk bs r) 8 c.in_ok-get_one.field-0 (codes "ENTRY") found (λ u x g. g.0)
+        number_read _ (λ bs r. ParsesUnsigned 8 10 bs r × ExplainsUnsignedError 10 bs r × HasUnsignedDigitsIfOk bs r) 8
+            c.in_ok-get_one.field-0 (codes "ENTRY") found (λ u x g. g.0)
             c.in_ok-get_one.ensures.none c.in_ok-get_one.ensures.value,
-        number_read _ (λ bs r. ParsesUnsigned 8 10 bs r × ExplainsUnsignedError 10 bs r × HasUnsignedDigitsIfOk bs r) 8 c.in_ok-get_one-2.field-0 (codes "WAITER") found (λ u x g. g.0)
+        number_read _ (λ bs r. ParsesUnsigned 8 10 bs r × ExplainsUnsignedError 10 bs r × HasUnsignedDigitsIfOk bs r) 8
+            c.in_ok-get_one-2.field-0 (codes "WAITER") found (λ u x g. g.0)
             c.in_ok-get_one-2.ensures.none c.in_ok-get_one-2.ensures.value,
-        number_read _ (λ bs r. ParsesUnsigned 8 10 bs r × ExplainsUnsignedError 10 bs r × HasUnsignedDigitsIfOk bs r) 8 c.in_ok-get_one-3.field-0 (codes "SIGNALLER") found (λ u x g. g.0)
+        number_read _ (λ bs r. ParsesUnsigned 8 10 bs r × ExplainsUnsignedError 10 bs r × HasUnsignedDigitsIfOk bs r) 8
+            c.in_ok-get_one-3.field-0 (codes "SIGNALLER") found (λ u x g. g.0)
             c.in_ok-get_one-3.ensures.none c.in_ok-get_one-3.ensures.value,
       );
       in_range = tt;

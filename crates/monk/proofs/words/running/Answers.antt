@@ -21,7 +21,10 @@ returns c =
           let is : app_of r ≡ run_app c.as_slice.result c.as_slice-2.result = h.shape (search rules)
           ∙ ap₂ with_rule (c.in_ok-arg-3.ensures.shape (search rules)
           ∙ ap₂ with_rule (c.in_ok-arg-2.ensures.shape (search rules)
-          ∙ ap₂ with_rule (c.in_ok-arg.ensures.shape (search rules) ∙ ap₂ with_rule (ap app_of_fields c.about.ensures ∙ c.new-3.ensures.app) c.required.ensures.rule) c.required-2.ensures.rule)
-          (c.required-3.ensures.rule ∙ ap (required_rule (codes "SEATS")) seats)) (c.required-4.ensures.rule ∙ ap (required_rule (codes "ROUNDS")) rounds) in
+          ∙ ap₂ with_rule (c.in_ok-arg.ensures.shape (search rules)
+          ∙ ap₂ with_rule (ap app_of_fields c.about.ensures ∙ c.new-3.ensures.app) c.required.ensures.rule)
+          c.required-2.ensures.rule)
+          (c.required-3.ensures.rule ∙ ap (required_rule (codes "SEATS")) seats))
+          (c.required-4.ensures.rule ∙ ap (required_rule (codes "ROUNDS")) rounds) in
           adds.shape (search rules) ∙ ap (λ (a : App). with_subcommand (app_of old) a.top) is);
     }) c.arg-4.ensures

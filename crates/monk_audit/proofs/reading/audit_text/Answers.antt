@@ -14,8 +14,15 @@ returns-in_err-header c =
     rw (p.1, p.2) (λ memory. not_opened_text c.args.bytes.now c.in_err-header.field-0.0 c.in_err-header.ensures)
 
 pub audit_lines-requires : goal.audit_lines-requires
-audit_lines-requires c = omega (arith, opened_room header_at 33554432 (lines_of c.args.bytes.now) (c.in_ok-header.header, c.in_ok-header.lines) c.in_ok-header.ensures)
+audit_lines-requires c =
+    omega (
+      arith,
+      opened_room header_at 33554432 (lines_of c.args.bytes.now)
+          (c.in_ok-header.header, c.in_ok-header.lines) c.in_ok-header.ensures,
+    )
 
 pub returns : goal.returns
 returns c =
-    subst (λ (r : Result TextVerdict ReadFault). Gives same c.audit_lines.result r) (sym (opened_text c.args.bytes.now c.in_ok-header.header c.in_ok-header.lines c.in_ok-header.ensures)) c.audit_lines.ensures
+    subst (λ (r : Result TextVerdict ReadFault). Gives same c.audit_lines.result r)
+    (sym (opened_text c.args.bytes.now c.in_ok-header.header c.in_ok-header.lines c.in_ok-header.ensures))
+    c.audit_lines.ensures

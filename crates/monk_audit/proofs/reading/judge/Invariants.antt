@@ -10,7 +10,8 @@ abbrev pub invariant-loop-event : goal.invariant-loop-event
 invariant-loop-event g l =
     let m = monitor l.rules l.header.seats l.header.conds g.T.Guarded.meaning (g.T.Guarded.state l.fn.object) in
     record {
-      so_far : verdict_read m l.count (replay_situation l.replay (g.T.Guarded.state l.object)) (items_left event_at l.lines) ≡ verdict_of_reading m (items_left event_at l.fn.lines);
+      so_far : verdict_read m l.count (replay_situation l.replay (g.T.Guarded.state l.object))
+          (items_left event_at l.lines) ≡ verdict_of_reading m (items_left event_at l.fn.lines);
       room : l.count + l.lines.room ≤ l.fn.lines.room;
       seats : length l.replay.inside.items ≡ l.header.seats;
       conds : length l.replay.conditions.items ≡ l.conds;

@@ -4,4 +4,5 @@ use Rattle.monk_floor.proofs.choosing.first_ready.Given as goal
 
 abbrev pub invariant-loop-wait : goal.invariant-loop-wait
 invariant-loop-wait g l =
-    ready_of g.T.Guarded.meaning (g.T.Guarded.state l.object) (drop l.wait-index l.untils) ≡ ready_of g.T.Guarded.meaning (g.T.Guarded.state l.object) l.untils
+    ready_of g.T.Guarded.meaning (g.T.Guarded.state l.object) (drop l.wait-index l.untils) ≡ ready_of
+    g.T.Guarded.meaning (g.T.Guarded.state l.object) l.untils

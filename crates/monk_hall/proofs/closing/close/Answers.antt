@@ -12,20 +12,25 @@ end-requires-after_bounds g c κs within =
     let sized = inv.seated.sized in
     let hall_sized = c.hall.invariant.0.0 in
     let hall_seats = c.hall.invariant.1 in
-    let table = ap (λ (z : TableId). z.words) (ap (λ (a : Holder). a.hall) c.active.view_is ∙ c.requires ∙ sym (ap (λ (h : House). h.id) c.hall.view_is)) in
+    let table = ap (λ (z : TableId). z.words) (ap (λ (a : Holder). a.hall) c.active.view_is ∙ c.requires
+    ∙ sym (ap (λ (h : House). h.id) c.hall.view_is)) in
     let floor_seats = ap (λ (f : FloorView). f.seats) inv.goes.is_floor in
     let all : c.hall.inside.seats ≡ c.active.inside.floor.seats = omega arith in
-    unqueued_all g.K.Kind.rules g.T.Guarded.meaning c.active.inside.floor c.peek.new.self.floor c.hall.inside.seats (c.has_queued.ensures.none c.if-has_queued.false) all
+    unqueued_all g.K.Kind.rules g.T.Guarded.meaning c.active.inside.floor c.peek.new.self.floor c.hall.inside.seats
+    (c.has_queued.ensures.none c.if-has_queued.false) all
     (ap (λ (a : Holder). a.floor) c.peek.ensures.peeked.is ∙ sym (ap (λ (a : Holder). a.floor) c.active.view_is))
 
 pub returns-clause-ended : goal.returns-clause-ended
 returns-clause-ended g c =
-    ended_peeked g.K.Kind.rules g.T.Guarded.meaning c.args.active c.peek.new.self c.end.result.history.items (g.T.Guarded.state c.end.result.object)
-    (ap (λ (a : Holder). a.floor) c.peek.ensures.peeked.is) (ap (λ (a : Holder). a.me.seat) c.peek.ensures.peeked.is) (ap (λ (a : Holder). a.me.mine) c.peek.ensures.peeked.is) c.end.ensures
+    ended_peeked g.K.Kind.rules g.T.Guarded.meaning c.args.active c.peek.new.self c.end.result.history.items
+    (g.T.Guarded.state c.end.result.object)
+    (ap (λ (a : Holder). a.floor) c.peek.ensures.peeked.is) (ap (λ (a : Holder). a.me.seat) c.peek.ensures.peeked.is)
+    (ap (λ (a : Holder). a.me.mine) c.peek.ensures.peeked.is) c.end.ensures
 
 pub returns-then-has_queued-clause-busy : goal.returns-then-has_queued-clause-busy
 returns-then-has_queued-clause-busy g c = (
   refl,
   busy_unlooked g.K.Kind.rules g.T.Guarded.meaning c.args.active
-      (subst (λ (a : Holder). HasSomebody g.K.Kind.rules g.T.Guarded.meaning a.floor) c.active.view_is (c.has_queued.ensures.found c.if-has_queued.true)),
+      (subst (λ (a : Holder). HasSomebody g.K.Kind.rules g.T.Guarded.meaning a.floor) c.active.view_is
+      (c.has_queued.ensures.found c.if-has_queued.true)),
 )

@@ -12,7 +12,8 @@ use Rattle.monk_hall.proofs.handing.go_home.Goals as goal
 pub seat_grant-requires-clause-back : goal.seat_grant-requires-clause-back
 seat_grant-requires-clause-back g c κs within =
     let j = c.in-Some.called in
-    subst (λ (m : Me). IsOne m.0 × (back_turn (the m.0).place ≡ due_to j) × (c.granted-calls.result ≡ granted_of (the m.0).seen j)) (sym c.floor_in.ensures.step)
+    subst (λ (m : Me). IsOne m.0 × (back_turn (the m.0).place ≡ due_to j)
+    × (c.granted-calls.result ≡ granted_of (the m.0).seen j)) (sym c.floor_in.ensures.step)
     (refl, chosen_due c.requires.released.1 j (sym c.seat_called_by.ensures ∙ c.in-Some.is), c.granted-calls.ensures)
 
 pub let_in-requires-clause-back : goal.let_in-requires-clause-back

@@ -8,14 +8,23 @@ use Rattle.monk_hall.proofs.making.deal.Goals as goal
 pub split_seat-seat-requires : goal.split_seat-seat-requires
 split_seat-seat-requires g c =
     let inv = c.loop-dealt.invariant in
-    let next = fresh_next (setting_of (g.T.Guarded.state c.args.words.now.key.opening.value) c.args.seats c.args.words.now.key.conds c.args.budget) c.loop-dealt.first.me.0 c.args.seats c.loop-dealt.dealt c.loop-dealt-test.true inv.2 in
-    let sized = c.requires.table.1.0 in
-    (inv.0, omega arith, deals_next g.K.Kind.rules g.T.Guarded.meaning (setting_of (g.T.Guarded.state c.args.words.now.key.opening.value) c.args.words.now.key.seats c.args.words.now.key.conds c.args.words.now.key.budget) _ c.loop-dealt.first.me.0 _ _ next)
+    let next = fresh_next
+    (setting_of (g.T.Guarded.state c.args.words.now.key.opening.value) c.args.seats c.args.words.now.key.conds
+    c.args.budget) c.loop-dealt.first.me.0 c.args.seats c.loop-dealt.dealt c.loop-dealt-test.true inv.2 in
+    let sized = c.requires.table.1.0 in (
+      inv.0,
+      omega arith,
+      deals_next g.K.Kind.rules g.T.Guarded.meaning
+          (setting_of (g.T.Guarded.state c.args.words.now.key.opening.value) c.args.words.now.key.seats
+          c.args.words.now.key.conds c.args.words.now.key.budget) _ c.loop-dealt.first.me.0 _ _ next,
+    )
 
 pub loop-dealt-preserved : goal.loop-dealt-preserved
 loop-dealt-preserved g c =
     let inv = c.loop-dealt.invariant in
-    let next = fresh_next (setting_of (g.T.Guarded.state c.args.words.now.key.opening.value) c.args.seats c.args.words.now.key.conds c.args.budget) c.loop-dealt.first.me.0 c.args.seats c.loop-dealt.dealt c.loop-dealt-test.true inv.2 in
+    let next = fresh_next
+    (setting_of (g.T.Guarded.state c.args.words.now.key.opening.value) c.args.seats c.args.words.now.key.conds
+    c.args.budget) c.loop-dealt.first.me.0 c.args.seats c.loop-dealt.dealt c.loop-dealt-test.true inv.2 in
     let below = c.loop-dealt-test.true in
     let split = c.split_seat-seat.ensures in
     let d : ℕ = c.loop-dealt.dealt in
@@ -29,5 +38,9 @@ loop-dealt-preserved g c =
           let q = ap (λ (v : View). (the v).setting) mine in
           let zero_d : d ≡ 0 + d = omega arith in
           c.in_ok-push.ensures.items ∙ (λ i. inv.4 i ++ c.fresh_pass.ensures i ∷ [])
-          ∙ (λ i. tokens z (opening_records (setting_of (g.T.Guarded.state c.args.words.now.key.opening.value) c.args.seats c.args.words.now.key.conds c.args.budget) d 0) ++ record { hall = p i; me = opening_record (q i) (zero_d i) } ∷ []) ∙ sym (tokens_more z (setting_of (g.T.Guarded.state c.args.words.now.key.opening.value) c.args.seats c.args.words.now.key.conds c.args.budget) d 0)),
+          ∙ (λ i. tokens z (opening_records
+          (setting_of (g.T.Guarded.state c.args.words.now.key.opening.value) c.args.seats c.args.words.now.key.conds
+          c.args.budget) d 0) ++ record { hall = p i; me = opening_record (q i) (zero_d i) } ∷ [])
+          ∙ sym (tokens_more z (setting_of (g.T.Guarded.state c.args.words.now.key.opening.value) c.args.seats
+          c.args.words.now.key.conds c.args.budget) d 0)),
     )

@@ -12,11 +12,16 @@ use Rattle.monk_hall.proofs.making.open.Goals as goal
 
 pub new-requires : goal.new-requires
 new-requires g c =
-    let setting : Setting = setting_of (g.T.Guarded.state c.args.setup.opening.value) c.args.setup.seats c.args.setup.conds c.args.setup.budget in
+    let setting : Setting = setting_of (g.T.Guarded.state c.args.setup.opening.value) c.args.setup.seats
+    c.args.setup.conds c.args.setup.budget in
     let words : List ℕ = c.deref.result.now in
     let is : words ≡ replicate (2 * c.args.setup.seats + 1) 0 = c.deref.ensures.value ∙ c.in_ok-words.ensures in
-    let slots : c.push.new.self.items ≡ Some c.args.floor ∷ [] = c.in_ok-push.ensures.items ∙ ap (λ (l : List (Option FloorView)). l ++ Some c.args.floor ∷ []) c.new-slots.ensures.items in
+    let slots : c.push.new.self.items ≡ Some c.args.floor ∷ [] = c.in_ok-push.ensures.items
+    ∙ ap (λ (l : List (Option FloorView)). l ++ Some c.args.floor ∷ []) c.new-slots.ensures.items in
     let home : c.push.new.self.items ≡ Some (floor_of setting []) ∷ [] = slots ∙ ap (λ (f : FloorView). Some f ∷ []) c.requires.floor in
-    subst (λ (l : List (Option FloorView)). IsHall g.K.Kind.rules g.T.Guarded.meaning setting (opening words l (first_view setting))) (sym home)
-    (opens g.K.Kind.rules g.T.Guarded.meaning setting words c.requires.made (some_seat c.args.setup.seats c.args.setup.conds c.args.setup.budget c.requires.made)
-    (ap length is ∙ length-replicate (2 * c.args.setup.seats + 1) 0) (λ i. ap (λ (l : List ℕ). slice_index l i) is ∙ zero_words (2 * c.args.setup.seats + 1) i))
+    subst (λ (l : List (Option FloorView)). IsHall g.K.Kind.rules g.T.Guarded.meaning setting
+    (opening words l (first_view setting))) (sym home)
+    (opens g.K.Kind.rules g.T.Guarded.meaning setting words c.requires.made
+    (some_seat c.args.setup.seats c.args.setup.conds c.args.setup.budget c.requires.made)
+    (ap length is ∙ length-replicate (2 * c.args.setup.seats + 1) 0)
+    (λ i. ap (λ (l : List ℕ). slice_index l i) is ∙ zero_words (2 * c.args.setup.seats + 1) i))

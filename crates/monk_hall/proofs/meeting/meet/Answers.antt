@@ -21,7 +21,9 @@ join_seat-requires g c =
       c.lift-other.ensures.0 ∙ ap (λ t. t.hall) c.b.view_is ∙ c.requires.1 ∙ at_hall,
       ap (λ m. m.1) c.lift-other.ensures.1,
       omega arith,
-      meets g.K.Kind.rules g.T.Guarded.meaning (setting_of (g.T.Guarded.state key.opening.value) key.seats key.conds key.budget) _ c.lift-first.result.me.0 _ c.lift-other.result.me.0
+      meets g.K.Kind.rules g.T.Guarded.meaning
+          (setting_of (g.T.Guarded.state key.opening.value) key.seats key.conds key.budget) _ c.lift-first.result.me.0 _
+          c.lift-other.result.me.0
           (subst IsOne (sym va) ia.1.one) (subst IsOne (sym vb) ib.1.one) (ap (λ (v : View). (the v).place) va ∙ ia.2),
     )
 
@@ -37,7 +39,8 @@ load-requires g c =
     let both = ap (λ m. m.0) c.join_seat.ensures.2 in (
       c.join_seat.ensures.0 ∙ c.lift-first.ensures.0 ∙ ap (λ t. t.hall) c.a.view_is ∙ c.requires.0 ∙ at_hall,
       omega arith,
-      compares g.K.Kind.rules g.T.Guarded.meaning (setting_of (g.T.Guarded.state key.opening.value) key.seats key.conds key.budget) _ _ c.join_seat.new.seat.me
+      compares g.K.Kind.rules g.T.Guarded.meaning
+          (setting_of (g.T.Guarded.state key.opening.value) key.seats key.conds key.budget) _ _ c.join_seat.new.seat.me
           (subst IsTwo (sym both) refl)
           (ap (λ (v : View). (the v).place) both ∙ ap (λ (v : View). (the v).place) va ∙ ia.2)
           (ap (λ (v : View). (the (tail v)).place) both ∙ ap (λ (v : View). (the v).place) vb ∙ ib.2),
@@ -50,7 +53,9 @@ split_seat-second-requires g c =
     let key = c.hall.inside.table.shared.key in (
       c.load.ensures.0 ∙ c.join_seat.ensures.0 ∙ c.lift-first.ensures.0 ∙ ap (λ t. t.hall) c.a.view_is ∙ c.requires.0 ∙ at_hall,
       omega arith,
-      parts_again g.K.Kind.rules g.T.Guarded.meaning (setting_of (g.T.Guarded.state key.opening.value) key.seats key.conds key.budget) _ c.load.new.seat.me.0 c.join_seat.new.seat.me.0 (ap (λ m. m.0) c.load.ensures.2.0),
+      parts_again g.K.Kind.rules g.T.Guarded.meaning
+          (setting_of (g.T.Guarded.state key.opening.value) key.seats key.conds key.budget) _ c.load.new.seat.me.0
+          c.join_seat.new.seat.me.0 (ap (λ m. m.0) c.load.ensures.2.0),
     )
 
 pub invariant_of-a : goal.invariant_of-a
@@ -60,10 +65,16 @@ invariant_of-a g c =
     let both : m ≡ view_after_join c.lift-first.result.me.0 c.lift-other.result.me.0 = ap (λ m. m.0) c.join_seat.ensures.2 in
     let va = ap (λ m. m.0) c.lift-first.ensures.1 in
     let loaded : c.load.new.seat.me.0 ≡ view_after_compare m = ap (λ m. m.0) c.load.ensures.2.0 in
-    let from_a : the m ≡ record (the (top c.a.inside.badge.views)) { steps = suc (the (top c.a.inside.badge.views)).steps } = ap the both ∙ ap (λ (v : View). record (the v) { steps = suc (the v).steps }) va in
-    met_rests g.K.Kind.rules g.T.Guarded.meaning c.into_badge.result.table_id c.a.inside.badge.table_id (top c.a.inside.badge.views) c.a.inside.number c.a.inside.left c.a.inside.calls (the (view_after_compare m)) c.into_badge.result.views
+    let from_a : the m ≡ record (the (top c.a.inside.badge.views))
+    { steps = suc (the (top c.a.inside.badge.views)).steps } = ap the both
+    ∙ ap (λ (v : View). record (the v) { steps = suc (the v).steps }) va in
+    met_rests g.K.Kind.rules g.T.Guarded.meaning c.into_badge.result.table_id c.a.inside.badge.table_id
+    (top c.a.inside.badge.views) c.a.inside.number c.a.inside.left c.a.inside.calls (the (view_after_compare m))
+    c.into_badge.result.views
     ia.1 ia.2 (c.into_badge.ensures.0 ∙ c.split_seat-second.ensures.0 ∙ c.load.ensures.0 ∙ c.join_seat.ensures.0 ∙ c.lift-first.ensures.0)
-    (ap (λ (r : SeatRecord). r.seat) from_a) (ap (λ (r : SeatRecord). r.setting) from_a) (ap (λ (r : SeatRecord). r.place) from_a) (ap (λ (r : SeatRecord). r.count) from_a) (ap (λ (r : SeatRecord). r.mine) from_a)
+    (ap (λ (r : SeatRecord). r.seat) from_a) (ap (λ (r : SeatRecord). r.setting) from_a)
+    (ap (λ (r : SeatRecord). r.place) from_a) (ap (λ (r : SeatRecord). r.count) from_a)
+    (ap (λ (r : SeatRecord). r.mine) from_a)
     (subst (λ (v : View). SeesTruly g.K.Kind.rules g.T.Guarded.meaning (the v)) loaded c.load.ensures.2.2)
     (c.into_badge.ensures.2 ∙ ap (λ (v : View). v ∷ []) (ap (λ m. m.0) c.split_seat-second.ensures.2 ∙ ap head loaded))
 
@@ -75,9 +86,14 @@ invariant_of-b g c =
     let vb = ap (λ m. m.0) c.lift-other.ensures.1 in
     let loaded : c.load.new.seat.me.0 ≡ view_after_compare m = ap (λ m. m.0) c.load.ensures.2.0 in
     let from_b : the (tail m) ≡ the (top c.b.inside.badge.views) = ap (λ (v : View). the (tail v)) both ∙ ap the vb in
-    met_rests g.K.Kind.rules g.T.Guarded.meaning c.into_badge-2.result.table_id c.b.inside.badge.table_id (top c.b.inside.badge.views) c.b.inside.number c.b.inside.left c.b.inside.calls (the (tail (view_after_compare m))) c.into_badge-2.result.views
-    ib.1 ib.2 (c.into_badge-2.ensures.0 ∙ c.split_seat-second.ensures.3 ∙ c.load.ensures.0 ∙ c.join_seat.ensures.0 ∙ c.lift-first.ensures.0 ∙ same_table)
-    (ap (λ (r : SeatRecord). r.seat) from_b) (ap (λ (r : SeatRecord). r.setting) from_b) (ap (λ (r : SeatRecord). r.place) from_b) (ap (λ (r : SeatRecord). r.count) from_b) (ap (λ (r : SeatRecord). r.mine) from_b)
+    met_rests g.K.Kind.rules g.T.Guarded.meaning c.into_badge-2.result.table_id c.b.inside.badge.table_id
+    (top c.b.inside.badge.views) c.b.inside.number c.b.inside.left c.b.inside.calls
+    (the (tail (view_after_compare m))) c.into_badge-2.result.views
+    ib.1 ib.2 (c.into_badge-2.ensures.0 ∙ c.split_seat-second.ensures.3 ∙ c.load.ensures.0 ∙ c.join_seat.ensures.0
+    ∙ c.lift-first.ensures.0 ∙ same_table)
+    (ap (λ (r : SeatRecord). r.seat) from_b) (ap (λ (r : SeatRecord). r.setting) from_b)
+    (ap (λ (r : SeatRecord). r.place) from_b) (ap (λ (r : SeatRecord). r.count) from_b)
+    (ap (λ (r : SeatRecord). r.mine) from_b)
     (subst (λ (v : View). SeesTruly g.K.Kind.rules g.T.Guarded.meaning (the (tail v))) loaded c.load.ensures.2.3)
     (c.into_badge-2.ensures.2 ∙ ap (λ (v : View). v ∷ []) (ap (λ m. m.0) c.split_seat-second.ensures.4 ∙ ap tail loaded))
   where

@@ -10,5 +10,7 @@ fetch_add-requires g c =
     let key = c.args.words.now.key in (
       c.requires.table.0,
       (let w = sized.0 in omega arith),
-      arrives g.K.Kind.rules g.T.Guarded.meaning (setting_of (g.T.Guarded.state key.opening.value) key.seats key.conds key.budget) g.K.Kind.is_kind _ _ c.args.seat.now.me idle.0 idle.1 idle.2,
+      arrives g.K.Kind.rules g.T.Guarded.meaning
+          (setting_of (g.T.Guarded.state key.opening.value) key.seats key.conds key.budget) g.K.Kind.is_kind _ _
+          c.args.seat.now.me idle.0 idle.1 idle.2,
     )

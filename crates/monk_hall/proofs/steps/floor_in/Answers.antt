@@ -17,6 +17,9 @@ load-requires g c =
     let key = c.args.words.now.key in (
       c.exchange-spare.ensures.0 ∙ c.requires.table.0,
       omega arith,
-      gives_floor g.K.Kind.rules g.T.Guarded.meaning (setting_of (g.T.Guarded.state key.opening.value) key.seats key.conds key.budget) g.K.Kind.is_kind _ _ c.exchange-spare.new.seat.me c.args.floor (subst IsOne (sym same) active.0) holds (ap (λ v. stage (the v).place) same ∙ active.2)
+      gives_floor g.K.Kind.rules g.T.Guarded.meaning
+          (setting_of (g.T.Guarded.state key.opening.value) key.seats key.conds key.budget) g.K.Kind.is_kind _ _
+          c.exchange-spare.new.seat.me c.args.floor (subst IsOne (sym same) active.0) holds
+          (ap (λ v. stage (the v).place) same ∙ active.2)
           (subst (λ v. Returns g.K.Kind.rules g.T.Guarded.meaning (the v) c.args.floor) (sym same) c.requires.returns),
     )

@@ -12,8 +12,14 @@ load-requires g c =
     let key = c.args.words.now.key in (
       c.requires.table.0,
       omega arith,
-      subst (λ (z : ℕ). Allows (IsHall g.K.Kind.rules g.T.Guarded.meaning (setting_of (g.T.Guarded.state key.opening.value) key.seats key.conds key.budget)) z c.args.seat.now.id c.args.seat.now.me 0 (λ n. n) (TellsFloorOut g.K.Kind.rules g.T.Guarded.meaning c.args.seat.now.me)) (sym c.requires.table.1.1)
-          (takes_floor g.K.Kind.rules g.T.Guarded.meaning (setting_of (g.T.Guarded.state key.opening.value) key.seats key.conds key.budget) g.K.Kind.is_kind _ c.args.seat.now.me due.0 due.1 due.2),
+      subst (λ (z : ℕ). Allows
+          (IsHall g.K.Kind.rules g.T.Guarded.meaning
+          (setting_of (g.T.Guarded.state key.opening.value) key.seats key.conds key.budget)) z c.args.seat.now.id
+          c.args.seat.now.me 0 (λ n. n) (TellsFloorOut g.K.Kind.rules g.T.Guarded.meaning c.args.seat.now.me))
+          (sym c.requires.table.1.1)
+          (takes_floor g.K.Kind.rules g.T.Guarded.meaning
+          (setting_of (g.T.Guarded.state key.opening.value) key.seats key.conds key.budget) g.K.Kind.is_kind _
+          c.args.seat.now.me due.0 due.1 due.2),
     )
 
 pub exchange-requires : goal.exchange-requires

@@ -5,4 +5,6 @@ use Rattle.monk_samples.proofs.VisitLaws.{visited}
 use Rattle.monk_samples.proofs.buffer.put.Goals as goal
 
 pub returns-in-Ok : goal.returns-in-Ok
-returns-in-Ok g c = visited g.K.Kind.rules buffer_meaning c.args.pass c.in-Ok.active 1 c.finish.result.0 c.finish.result.1 (must PUT c.args.item ∷ []) _ c.in-Ok.ensures.0 (refl, (λ e. c.in-Ok.ensures.1), tt) c.finish.ensures
+returns-in-Ok g c = visited g.K.Kind.rules buffer_meaning c.args.pass c.in-Ok.active 1 c.finish.result.0
+    c.finish.result.1 (must PUT c.args.item ∷ []) _ c.in-Ok.ensures.0 (refl, (λ e. c.in-Ok.ensures.1), tt)
+    c.finish.ensures

@@ -4,4 +4,5 @@ use Rattle.monk_samples.specs.Crews.{AreReady, IsReady}
 use Rattle.monk_samples.proofs.crew.workers.Given as goal
 
 abbrev pub invariant-loop-pass : goal.invariant-loop-pass
-invariant-loop-pass g l = All (λ w. (w.hall.now ≡ l.hall) × IsReady g.K.Kind.rules l.hall w.pass) (vec_items l.workers) × AreReady g.K.Kind.rules l.hall (into_iter_items l.pass-iterator)
+invariant-loop-pass g l = All (λ w. (w.hall.now ≡ l.hall) × IsReady g.K.Kind.rules l.hall w.pass) (vec_items l.workers)
+    × AreReady g.K.Kind.rules l.hall (into_iter_items l.pass-iterator)

@@ -5,4 +5,5 @@ use Rattle.monk_samples.proofs.running.open.Goals as goal
 
 pub returns-in-Ok-clause-passes : goal.returns-in-Ok-clause-passes
 returns-in-Ok-clause-passes g c =
-    passes_ready g.K.Kind.rules c.in-Ok.made.0 c.in-Ok.made.1.items (ap (λ (s : Setting). s.conds) c.in-Ok.ensures.made.1 ∙ c.conds_of.ensures) c.in-Ok.ensures.made.2
+    passes_ready g.K.Kind.rules c.in-Ok.made.0 c.in-Ok.made.1.items
+    (ap (λ (s : Setting). s.conds) c.in-Ok.ensures.made.1 ∙ c.conds_of.ensures) c.in-Ok.ensures.made.2

@@ -5,4 +5,5 @@ use Rattle.monk_samples.proofs.VisitLaws.{visited}
 use Rattle.monk_samples.proofs.shop.finish_cut.Goals as goal
 
 pub returns-in-Ok : goal.returns-in-Ok
-returns-in-Ok g c = visited g.K.Kind.rules shop_meaning c.args.pass c.in-Ok.active 2 c.finish.result.0 c.finish.result.1 (may FINISH ∷ []) _ c.in-Ok.ensures (refl, (λ e. cc), tt) c.finish.ensures
+returns-in-Ok g c = visited g.K.Kind.rules shop_meaning c.args.pass c.in-Ok.active 2 c.finish.result.0 c.finish.result.1
+    (may FINISH ∷ []) _ c.in-Ok.ensures (refl, (λ e. cc), tt) c.finish.ensures

@@ -6,8 +6,10 @@ use Rattle.monk_samples.proofs.tests.last.Goals as goal
 
 pub returns-in-Some-clause-pass : goal.returns-in-Some-clause-pass
 returns-in-Some-clause-pass g c =
-    (last_is_seat c.args.hall.now.id c.pop.new.self.items c.in-Some.pass (subst (λ (ps : List Token). AreSeats c.args.hall.now.id ps) c.in-Some.ensures.items c.requires)).0
+    (last_is_seat c.args.hall.now.id c.pop.new.self.items c.in-Some.pass
+    (subst (λ (ps : List Token). AreSeats c.args.hall.now.id ps) c.in-Some.ensures.items c.requires)).0
 
 pub returns-in-Some-clause-rest : goal.returns-in-Some-clause-rest
 returns-in-Some-clause-rest g c =
-    (last_is_seat c.args.hall.now.id c.pop.new.self.items c.in-Some.pass (subst (λ (ps : List Token). AreSeats c.args.hall.now.id ps) c.in-Some.ensures.items c.requires)).1
+    (last_is_seat c.args.hall.now.id c.pop.new.self.items c.in-Some.pass
+    (subst (λ (ps : List Token). AreSeats c.args.hall.now.id ps) c.in-Some.ensures.items c.requires)).1

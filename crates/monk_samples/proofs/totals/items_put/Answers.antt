@@ -4,7 +4,8 @@ use Rattle.monk_samples.proofs.totals.items_put.Goals as goal
 
 pub overflow_add-sum : goal.overflow_add-sum
 overflow_add-sum c =
-    let bound = c.loop-event.invariant.1 in let below = c.loop-event-test.true in let low = c.item_put-sum.ensures.low in let few = c.requires in
+    let bound = c.loop-event.invariant.1 in let below = c.loop-event-test.true in let low = c.item_put-sum.ensures.low
+    in let few = c.requires in
     omega (arith, bound, below, low, few)
 
 pub loop-event-preserved : goal.loop-event-preserved

@@ -5,7 +5,8 @@ use Rattle.monk_samples.proofs.totals.items_taken.Goals as goal
 pub overflow_add-sum : goal.overflow_add-sum
 overflow_add-sum c =
     let inv = c.loop-event.invariant in
-    let next = taken_next c.loop-event.event-index c.loop-event.sum c.item_taken-sum.result c.args.history.now _ c.loop-event-test.true inv.0 c.item_taken-sum.ensures in
+    let next = taken_next c.loop-event.event-index c.loop-event.sum c.item_taken-sum.result c.args.history.now _
+    c.loop-event-test.true inv.0 c.item_taken-sum.ensures in
     let first = taken_first (c.loop-event.event-index + 1) c.args.history.now in
     let low = c.requires in
     omega (arith, next, first, low)
@@ -13,5 +14,8 @@ overflow_add-sum c =
 pub loop-event-preserved : goal.loop-event-preserved
 loop-event-preserved c =
     let inv = c.loop-event.invariant in
-    let below = c.loop-event-test.true in
-    (taken_next c.loop-event.event-index c.loop-event.sum c.item_taken-sum.result c.args.history.now _ below inv.0 c.item_taken-sum.ensures, omega (arith, below))
+    let below = c.loop-event-test.true in (
+      taken_next c.loop-event.event-index c.loop-event.sum c.item_taken-sum.result c.args.history.now _ below inv.0
+          c.item_taken-sum.ensures,
+      omega (arith, below),
+    )

@@ -3,4 +3,5 @@ use Rattle.monk_samples.specs.Totals.{done}
 use Rattle.monk_samples.proofs.totals.times.Given as goal
 
 abbrev pub invariant-loop-event : goal.invariant-loop-event
-invariant-loop-event l = (l.count ≡ done l.code (take l.event-index l.history)) × (l.count ≤ l.event-index) × (l.event-index ≤ length l.history)
+invariant-loop-event l = (l.count ≡ done l.code (take l.event-index l.history)) × (l.count ≤ l.event-index)
+    × (l.event-index ≤ length l.history)

@@ -10,7 +10,8 @@ returns-then-left-lt2 g c =
     let k = g.K.Kind.rules in let o = g.T.Guarded.meaning in
     let has = c.left.ensures.left in let few = c.if-left-lt2.true in
     let short : c.args.active.me.setting.budget < length c.args.active.me.mine + 3 = omega arith in
-    gave_up_tired k o c.args.active c.args.active c.leave.result (acted_none (inside c.args.active)) (given_up k o c.args.active _ _ _ c.leave.result c.leave.ensures short)
+    gave_up_tired k o c.args.active c.args.active c.leave.result (acted_none (inside c.args.active))
+    (given_up k o c.args.active _ _ _ c.leave.result c.leave.ensures short)
 
 pub returns : goal.returns
 returns g c =

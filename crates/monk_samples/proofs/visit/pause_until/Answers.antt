@@ -11,4 +11,5 @@ loop-active-preserved g c =
     (paused_acted g.K.Kind.rules g.T.Guarded.meaning a a.me.seat c.args.cond c.args.pred c.in-Ok.back c.in-Ok.ensures)
 
 pub returns-in-Err : goal.returns-in-Err
-returns-in-Err g c = gave_up_tired g.K.Kind.rules g.T.Guarded.meaning c.args.active c.loop-active.active c.in-Err.pass c.loop-active.invariant c.in-Err.ensures
+returns-in-Err g c = gave_up_tired g.K.Kind.rules g.T.Guarded.meaning c.args.active c.loop-active.active c.in-Err.pass
+    c.loop-active.invariant c.in-Err.ensures

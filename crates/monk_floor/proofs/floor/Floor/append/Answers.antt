@@ -21,9 +21,15 @@ push_reserved-requires g c =
 
 pub invariant_of-self : goal.invariant_of-self
 invariant_of-self g c =
-    subst (λ es. KeepsHistory (monitor g.K.Kind.rules c.self.inside.seats c.self.inside.conds g.T.Guarded.meaning (g.T.Guarded.state c.self.inside.opening.value)) c.self.inside.budget es (vec_capacity c.push_reserved.new.self) c.note.new.self.queues (g.T.Guarded.state c.self.inside.object) c.note.new.self.turn c.note.new.self.inside.items c.note.new.self.spent.items c.note.new.self.granted.items c.note.new.self.entered)
+    subst (λ es. KeepsHistory
+    (monitor g.K.Kind.rules c.self.inside.seats c.self.inside.conds g.T.Guarded.meaning
+    (g.T.Guarded.state c.self.inside.opening.value)) c.self.inside.budget es (vec_capacity c.push_reserved.new.self)
+    c.note.new.self.queues (g.T.Guarded.state c.self.inside.object) c.note.new.self.turn
+    c.note.new.self.inside.items c.note.new.self.spent.items c.note.new.self.granted.items c.note.new.self.entered)
     (sym c.push_reserved.ensures.items)
     (kept_push c.self.invariant c.args.event
     (allowed_here g.K.Kind.rules g.T.Guarded.meaning c.args.self.now _ c.args.event c.self.view_is c.requires.allowed)
     (left_here c.args.self.now _ (seat_of c.args.event) c.self.view_is c.requires.left)
-    _ _ _ _ _ _ _ _ c.push_reserved.ensures.capacity c.note.ensures.queues (sym (c.requires.still _)) c.note.ensures.turn c.note.ensures.inside c.note.ensures.spent c.note.ensures.granted c.note.ensures.entered c.note.ensures.granted_seats c.note.ensures.inside_seats c.note.ensures.spent_seats)
+    _ _ _ _ _ _ _ _ c.push_reserved.ensures.capacity c.note.ensures.queues (sym (c.requires.still _))
+    c.note.ensures.turn c.note.ensures.inside c.note.ensures.spent c.note.ensures.granted c.note.ensures.entered
+    c.note.ensures.granted_seats c.note.ensures.inside_seats c.note.ensures.spent_seats)

@@ -5,7 +5,9 @@ use Rattle.monk_floor.proofs.KeptLaws.{within_budgets}
 use Rattle.monk_floor.proofs.floor.Floor.close.Goals as goal
 
 pub returns-clause-legal : goal.returns-clause-legal
-returns-clause-legal g c = subst (λ (f : FloorView). IsLegal (monitor_of g.K.Kind.rules g.T.Guarded.meaning f) f.history) c.self.view_is c.self.invariant.legal
+returns-clause-legal g c =
+    subst (λ (f : FloorView). IsLegal (monitor_of g.K.Kind.rules g.T.Guarded.meaning f) f.history) c.self.view_is
+    c.self.invariant.legal
 
 pub returns-clause-few : goal.returns-clause-few
 returns-clause-few g c = subst (λ (f : FloorView). length f.history ≤ f.seats * f.budget) c.self.view_is (within_budgets c.self.invariant)

@@ -3,5 +3,7 @@ use Rattle.monk_floor.proofs.floor.Floor.next_waiter.Goals as goal
 
 pub returns : goal.returns
 returns g c =
-    waiter_here c.self.invariant g.K.Kind.is_kind c.args.self.now c.self.view_is c.args.event c.args.entry_known c.args.pick c.requires.call c.requires.release c.requires.conditions c.requires.signallers
-    c.rules_of-rules.result c.front_waiter-front.result c.single_choice.result c.rules_of-rules.ensures c.front_waiter-front.ensures c.single_choice.ensures
+    waiter_here c.self.invariant g.K.Kind.is_kind c.args.self.now c.self.view_is c.args.event c.args.entry_known
+    c.args.pick c.requires.call c.requires.release c.requires.conditions c.requires.signallers
+    c.rules_of-rules.result c.front_waiter-front.result c.single_choice.result c.rules_of-rules.ensures
+    c.front_waiter-front.ensures c.single_choice.ensures

@@ -10,9 +10,13 @@ use Rattle.monk_floor.proofs.floor.Floor.queued.Goals as goal
 
 pub returns : goal.returns
 returns g c =
-    let m = monitor g.K.Kind.rules c.self.inside.seats c.self.inside.conds g.T.Guarded.meaning (g.T.Guarded.state c.self.inside.opening.value) in
+    let m = monitor g.K.Kind.rules c.self.inside.seats c.self.inside.conds g.T.Guarded.meaning
+    (g.T.Guarded.state c.self.inside.opening.value) in
     c.is_parked.ensures
-    ∙ (ap (λ xs. slice_index_or xs c.args.seat false && not (nat_lt 0 (has_turn c.args.seat c.self.inside.ledger.turn))) c.deref.ensures.value
+    ∙ (ap (λ xs. slice_index_or xs c.args.seat false && not (nat_lt 0 (has_turn c.args.seat c.self.inside.ledger.turn)))
+    c.deref.ensures.value
     ∙ (ap (λ t. t.inside c.args.seat && not (nat_lt 0 (has_turn c.args.seat t.turn))) c.self.invariant.stands
-    ∙ (queued_is m.conds c.args.seat (situation m c.self.inside.history.items) (legal_placed m c.self.inside.history.items c.self.invariant.legal)
-    ∙ ap (λ (f : FloorView). is_queued f.conds c.args.seat (situation (monitor_of g.K.Kind.rules g.T.Guarded.meaning f) f.history)) c.self.view_is)))
+    ∙ (queued_is m.conds c.args.seat (situation m c.self.inside.history.items)
+    (legal_placed m c.self.inside.history.items c.self.invariant.legal)
+    ∙ ap (λ (f : FloorView). is_queued f.conds c.args.seat
+    (situation (monitor_of g.K.Kind.rules g.T.Guarded.meaning f) f.history)) c.self.view_is)))

@@ -5,4 +5,5 @@ use Rattle.monk_floor.proofs.floor.Floor.waiting.Goals as goal
 
 pub returns : goal.returns
 returns g c =
-    c.waiting.ensures ∙ (ap (λ t. length (t.condition c.args.cond)) c.self.invariant.stands ∙ ap (λ (f : FloorView). length (condition c.args.cond f.history)) c.self.view_is)
+    c.waiting.ensures ∙ (ap (λ t. length (t.condition c.args.cond)) c.self.invariant.stands
+    ∙ ap (λ (f : FloorView). length (condition c.args.cond f.history)) c.self.view_is)

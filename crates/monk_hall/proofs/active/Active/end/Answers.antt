@@ -7,7 +7,9 @@ use Rattle.monk_hall.proofs.active.Active.end.Goals as goal
 pub returns : goal.returns
 returns g c =
     let inv = c.self.invariant in
-    ended g.K.Kind.rules g.T.Guarded.meaning c.args.self c.self.inside.floor c.self.inside.number c.leave.result c.leave.new.self c.close-object.result.1.items (g.T.Guarded.state c.close-object.result.0)
+    ended g.K.Kind.rules g.T.Guarded.meaning c.args.self c.self.inside.floor c.self.inside.number c.leave.result
+    c.leave.new.self c.close-object.result.1.items (g.T.Guarded.state c.close-object.result.0)
     (sym (ap (λ (a : Holder). a.floor) c.self.view_is)) (sym (ap (λ (a : Holder). a.me.seat) c.self.view_is) ∙ inv.seated.is_seat)
     (subst (λ (a : Holder). events_of a.floor.history a.me.seat ≡ a.me.mine) c.self.view_is refl) inv.goes.legal c.requires
-    c.leave.ensures.grown c.leave.ensures.choice c.close-object.ensures.history c.close-object.ensures.legal c.close-object.ensures.object c.close-object.ensures.few
+    c.leave.ensures.grown c.leave.ensures.choice c.close-object.ensures.history c.close-object.ensures.legal
+    c.close-object.ensures.object c.close-object.ensures.few

@@ -11,4 +11,5 @@ returns g c =
     let look = c.look_for_entry-known in
     after_peeked g.K.Kind.rules g.T.Guarded.meaning (λ n. Signal n c.args.cond Stay) c.args.pick home.Inner _ c.args.self look.new.self
     (subst (λ n. HasPeeked n c.args.self look.new.self) (ap (λ b. peeks_of b c.args.pick) c.serves-chooses.ensures) look.ensures.peeked)
-    c.go_on.result (c.go_on.ensures look.new.self (λ n. Signal n c.args.cond Stay) c.args.pick look.result c.record_plain_signal.ensures.recorded)
+    c.go_on.result (c.go_on.ensures look.new.self (λ n. Signal n c.args.cond Stay) c.args.pick look.result
+    c.record_plain_signal.ensures.recorded)

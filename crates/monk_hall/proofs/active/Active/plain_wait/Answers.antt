@@ -9,5 +9,7 @@ use Rattle.monk_hall.proofs.active.Active.plain_wait.Goals as goal
 pub returns : goal.returns
 returns g c =
     let look = c.look_for_entry-known in
-    released_after g.K.Kind.rules g.T.Guarded.meaning (λ n. Wait n c.args.cond Stay) c.args.pick home.Inner (peeks_of true c.args.pick) c.args.self look.new.self look.ensures.peeked
-    c.go_inside.result (c.go_inside.ensures look.new.self (λ n. Wait n c.args.cond Stay) c.args.pick look.result c.record_plain_wait.ensures.recorded)
+    released_after g.K.Kind.rules g.T.Guarded.meaning (λ n. Wait n c.args.cond Stay) c.args.pick home.Inner
+    (peeks_of true c.args.pick) c.args.self look.new.self look.ensures.peeked
+    c.go_inside.result (c.go_inside.ensures look.new.self (λ n. Wait n c.args.cond Stay) c.args.pick look.result
+    c.record_plain_wait.ensures.recorded)

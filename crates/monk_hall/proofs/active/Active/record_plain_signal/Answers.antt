@@ -23,6 +23,7 @@ returns-clause-recorded g c =
       was = c.of-release.ensures.was;
       release = signals h c.args.cond (has_cond h c.args.cond c.args.self c.of-release.ensures.was c.requires.cond)
           (c.requires.mode)
-          c.args.pick c.args.known call.result call.new.self c.args.self c.of-release.ensures.was c.requires.left (must_known h c.args.self c.of-release.ensures.was (λ n. Signal n c.args.cond Stay) c.requires.known)
+          c.args.pick c.args.known call.result call.new.self c.args.self c.of-release.ensures.was c.requires.left
+          (must_known h c.args.self c.of-release.ensures.was (λ n. Signal n c.args.cond Stay) c.requires.known)
           call.ensures.choice call.ensures.grown;
     }

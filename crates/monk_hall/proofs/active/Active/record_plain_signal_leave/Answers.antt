@@ -29,4 +29,5 @@ pub returns-clause-away : goal.returns-clause-away
 returns-clause-away g c =
     let f = c.of-release.result.floor in
     let call = c.plain_signal_leave-release in
-    signal_leave_goes (monitor_of g.K.Kind.rules g.T.Guarded.meaning f) f.history c.of-release.result.number c.args.cond call.result call.ensures.grown.allowed
+    signal_leave_goes (monitor_of g.K.Kind.rules g.T.Guarded.meaning f) f.history c.of-release.result.number c.args.cond
+    call.result call.ensures.grown.allowed

@@ -24,6 +24,7 @@ returns-clause-recorded g c =
       was = c.of-release.ensures.was;
       release = waits_until h c.args.pred (subst (λ n. c.args.pred < n) (sym g.T.Guarded.predicates) c.requires.pred)
           (ap not c.requires.mode)
-          c.args.pick c.args.known call.result call.new.self c.args.self c.of-release.ensures.was c.requires.left (must_known h c.args.self c.of-release.ensures.was (λ n. Until n c.args.pred Stay) c.requires.known)
+          c.args.pick c.args.known call.result call.new.self c.args.self c.of-release.ensures.was c.requires.left
+          (must_known h c.args.self c.of-release.ensures.was (λ n. Until n c.args.pred Stay) c.requires.known)
           call.ensures.choice call.ensures.grown;
     }

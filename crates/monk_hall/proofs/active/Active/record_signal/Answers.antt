@@ -14,7 +14,10 @@ signal-release-requires-clause-call g c κs within =
     let f = c.of-release.result.floor in
     may_signal_on (monitor_of g.K.Kind.rules g.T.Guarded.meaning f) f.history c.of-release.result.number c.args.cond (owns h) (is_near h)
     (has_cond h c.args.cond c.args.self c.of-release.ensures.was c.requires.cond)
-    (ap has_signaller_queue (sym (ap (λ r. r.mode) g.K.Kind.are_rules)) ∙ explicit g.K.Kind.MODE (g.met.K.Conditional g.world.𝓛 g.world.𝓜 g.world.𝓡 ((λ s x. x), (λ x. x), (λ x. x), λ x. x)).not_automatic (g.met.K.Explicit g.world.𝓛 g.world.𝓜 g.world.𝓡 ((λ s x. x), (λ x. x), (λ x. x), λ x. x)).not_immediate)
+    (ap has_signaller_queue (sym (ap (λ r. r.mode) g.K.Kind.are_rules))
+    ∙ explicit g.K.Kind.MODE
+    (g.met.K.Conditional g.world.𝓛 g.world.𝓜 g.world.𝓡 ((λ s x. x), (λ x. x), (λ x. x), λ x. x)).not_automatic
+    (g.met.K.Explicit g.world.𝓛 g.world.𝓜 g.world.𝓡 ((λ s x. x), (λ x. x), (λ x. x), λ x. x)).not_immediate)
 
 pub returns-clause-recorded : goal.returns-clause-recorded
 returns-clause-recorded g c =
@@ -25,7 +28,11 @@ returns-clause-recorded g c =
       holds = h;
       was = c.of-release.ensures.was;
       release = signals h c.args.cond (has_cond h c.args.cond c.args.self c.of-release.ensures.was c.requires.cond)
-          (ap has_signaller_queue (sym (ap (λ r. r.mode) g.K.Kind.are_rules)) ∙ explicit g.K.Kind.MODE (g.met.K.Conditional g.world.𝓛 g.world.𝓜 g.world.𝓡 ((λ s x. x), (λ x. x), (λ x. x), λ x. x)).not_automatic (g.met.K.Explicit g.world.𝓛 g.world.𝓜 g.world.𝓡 ((λ s x. x), (λ x. x), (λ x. x), λ x. x)).not_immediate)
-          c.args.pick c.args.known call.result call.new.self c.args.self c.of-release.ensures.was c.requires.left (must_known h c.args.self c.of-release.ensures.was (λ n. Signal n c.args.cond Stay) c.requires.known)
+          (ap has_signaller_queue (sym (ap (λ r. r.mode) g.K.Kind.are_rules))
+          ∙ explicit g.K.Kind.MODE
+          (g.met.K.Conditional g.world.𝓛 g.world.𝓜 g.world.𝓡 ((λ s x. x), (λ x. x), (λ x. x), λ x. x)).not_automatic
+          (g.met.K.Explicit g.world.𝓛 g.world.𝓜 g.world.𝓡 ((λ s x. x), (λ x. x), (λ x. x), λ x. x)).not_immediate)
+          c.args.pick c.args.known call.result call.new.self c.args.self c.of-release.ensures.was c.requires.left
+          (must_known h c.args.self c.of-release.ensures.was (λ n. Signal n c.args.cond Stay) c.requires.known)
           call.ensures.choice call.ensures.grown;
     }

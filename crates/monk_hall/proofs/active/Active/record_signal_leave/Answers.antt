@@ -11,7 +11,8 @@ signal_leave-release-requires-clause-call g c κs within =
     let f = c.of-release.result.floor in
     may_signal_leave (monitor_of g.K.Kind.rules g.T.Guarded.meaning f) f.history c.of-release.result.number c.args.cond (owns h) (is_near h)
     (has_cond h c.args.cond c.args.self c.of-release.ensures.was c.requires.cond)
-    (ap returns_at_once (sym (ap (λ r. r.mode) g.K.Kind.are_rules) ∙ (g.met.K.ImmediateReturn g.world.𝓛 g.world.𝓜 g.world.𝓡 ((λ s x. x), (λ x. x), (λ x. x), λ x. x)).mode))
+    (ap returns_at_once (sym (ap (λ r. r.mode) g.K.Kind.are_rules)
+    ∙ (g.met.K.ImmediateReturn g.world.𝓛 g.world.𝓜 g.world.𝓡 ((λ s x. x), (λ x. x), (λ x. x), λ x. x)).mode))
 
 pub returns-clause-recorded : goal.returns-clause-recorded
 returns-clause-recorded g c =
@@ -22,7 +23,8 @@ returns-clause-recorded g c =
       holds = h;
       was = c.of-release.ensures.was;
       release = signals_and_leaves h c.args.cond (has_cond h c.args.cond c.args.self c.of-release.ensures.was c.requires.cond)
-          (ap returns_at_once (sym (ap (λ r. r.mode) g.K.Kind.are_rules) ∙ (g.met.K.ImmediateReturn g.world.𝓛 g.world.𝓜 g.world.𝓡 ((λ s x. x), (λ x. x), (λ x. x), λ x. x)).mode))
+          (ap returns_at_once (sym (ap (λ r. r.mode) g.K.Kind.are_rules)
+          ∙ (g.met.K.ImmediateReturn g.world.𝓛 g.world.𝓜 g.world.𝓡 ((λ s x. x), (λ x. x), (λ x. x), λ x. x)).mode))
           c.args.pick c.args.known call.result call.new.self c.args.self c.of-release.ensures.was (c.requires.known)
           call.ensures.choice call.ensures.grown;
     }
@@ -31,4 +33,5 @@ pub returns-clause-away : goal.returns-clause-away
 returns-clause-away g c =
     let f = c.of-release.result.floor in
     let call = c.signal_leave-release in
-    signal_leave_goes (monitor_of g.K.Kind.rules g.T.Guarded.meaning f) f.history c.of-release.result.number c.args.cond call.result call.ensures.grown.allowed
+    signal_leave_goes (monitor_of g.K.Kind.rules g.T.Guarded.meaning f) f.history c.of-release.result.number c.args.cond
+    call.result call.ensures.grown.allowed

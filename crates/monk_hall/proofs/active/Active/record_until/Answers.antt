@@ -13,7 +13,9 @@ until-release-requires-clause-call g c κs within =
     let f = c.of-release.result.floor in
     may_until (monitor_of g.K.Kind.rules g.T.Guarded.meaning f) f.history c.of-release.result.number c.args.pred (owns h) (is_near h)
     (subst (λ n. c.args.pred < n) (sym g.T.Guarded.predicates) c.requires.pred)
-    (ap (λ m. not (has_conditions m)) (sym (ap (λ r. r.mode) g.K.Kind.are_rules) ∙ (g.met.K.Automatic g.world.𝓛 g.world.𝓜 g.world.𝓡 ((λ s x. x), (λ x. x), (λ x. x), λ x. x)).mode))
+    (ap (λ m. not (has_conditions m))
+    (sym (ap (λ r. r.mode) g.K.Kind.are_rules)
+    ∙ (g.met.K.Automatic g.world.𝓛 g.world.𝓜 g.world.𝓡 ((λ s x. x), (λ x. x), (λ x. x), λ x. x)).mode))
 
 pub returns-clause-recorded : goal.returns-clause-recorded
 returns-clause-recorded g c =
@@ -24,7 +26,10 @@ returns-clause-recorded g c =
       holds = h;
       was = c.of-release.ensures.was;
       release = waits_until h c.args.pred (subst (λ n. c.args.pred < n) (sym g.T.Guarded.predicates) c.requires.pred)
-          (ap (λ m. not (has_conditions m)) (sym (ap (λ r. r.mode) g.K.Kind.are_rules) ∙ (g.met.K.Automatic g.world.𝓛 g.world.𝓜 g.world.𝓡 ((λ s x. x), (λ x. x), (λ x. x), λ x. x)).mode))
-          c.args.pick c.args.known call.result call.new.self c.args.self c.of-release.ensures.was c.requires.left (must_known h c.args.self c.of-release.ensures.was (λ n. Until n c.args.pred Stay) c.requires.known)
+          (ap (λ m. not (has_conditions m))
+          (sym (ap (λ r. r.mode) g.K.Kind.are_rules)
+          ∙ (g.met.K.Automatic g.world.𝓛 g.world.𝓜 g.world.𝓡 ((λ s x. x), (λ x. x), (λ x. x), λ x. x)).mode))
+          c.args.pick c.args.known call.result call.new.self c.args.self c.of-release.ensures.was c.requires.left
+          (must_known h c.args.self c.of-release.ensures.was (λ n. Until n c.args.pred Stay) c.requires.known)
           call.ensures.choice call.ensures.grown;
     }

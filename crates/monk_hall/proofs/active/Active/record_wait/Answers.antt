@@ -12,7 +12,9 @@ wait-release-requires-clause-call g c κs within =
     let f = c.of-release.result.floor in
     may_wait (monitor_of g.K.Kind.rules g.T.Guarded.meaning f) f.history c.of-release.result.number c.args.cond (owns h) (is_near h)
     (has_cond h c.args.cond c.args.self c.of-release.ensures.was c.requires.cond)
-    (ap has_conditions (sym (ap (λ r. r.mode) g.K.Kind.are_rules)) ∙ conditional g.K.Kind.MODE (g.met.K.Conditional g.world.𝓛 g.world.𝓜 g.world.𝓡 ((λ s x. x), (λ x. x), (λ x. x), λ x. x)).not_automatic)
+    (ap has_conditions (sym (ap (λ r. r.mode) g.K.Kind.are_rules))
+    ∙ conditional g.K.Kind.MODE
+    (g.met.K.Conditional g.world.𝓛 g.world.𝓜 g.world.𝓡 ((λ s x. x), (λ x. x), (λ x. x), λ x. x)).not_automatic)
 
 pub returns-clause-recorded : goal.returns-clause-recorded
 returns-clause-recorded g c =
@@ -23,7 +25,10 @@ returns-clause-recorded g c =
       holds = h;
       was = c.of-release.ensures.was;
       release = waits h c.args.cond (has_cond h c.args.cond c.args.self c.of-release.ensures.was c.requires.cond)
-          (ap has_conditions (sym (ap (λ r. r.mode) g.K.Kind.are_rules)) ∙ conditional g.K.Kind.MODE (g.met.K.Conditional g.world.𝓛 g.world.𝓜 g.world.𝓡 ((λ s x. x), (λ x. x), (λ x. x), λ x. x)).not_automatic)
+          (ap has_conditions (sym (ap (λ r. r.mode) g.K.Kind.are_rules))
+          ∙ conditional g.K.Kind.MODE
+          (g.met.K.Conditional g.world.𝓛 g.world.𝓜 g.world.𝓡
+          ((λ s x. x), (λ x. x), (λ x. x), λ x. x)).not_automatic)
           c.args.pick c.args.known call.result call.new.self c.args.self c.of-release.ensures.was c.requires.left (c.requires.known)
           call.ensures.choice call.ensures.grown;
     }
@@ -32,4 +37,5 @@ pub returns-clause-away : goal.returns-clause-away
 returns-clause-away g c =
     let f = c.of-release.result.floor in
     let call = c.wait-release in
-    wait_goes (monitor_of g.K.Kind.rules g.T.Guarded.meaning f) f.history c.of-release.result.number c.args.cond call.result call.ensures.grown.allowed
+    wait_goes (monitor_of g.K.Kind.rules g.T.Guarded.meaning f) f.history c.of-release.result.number c.args.cond
+    call.result call.ensures.grown.allowed

@@ -9,5 +9,7 @@ use Rattle.monk_hall.proofs.active.Active.signal_leave.Goals as goal
 pub returns : goal.returns
 returns g c =
     let look = c.look_for_entry-known in
-    released_after g.K.Kind.rules g.T.Guarded.meaning (λ n. SignalLeave n c.args.cond Stay) c.args.pick home.Idle (peeks_of true c.args.pick) c.args.self look.new.self look.ensures.peeked
-    c.go_outside.result (c.go_outside.ensures look.new.self (λ n. SignalLeave n c.args.cond Stay) c.args.pick look.result c.record_signal_leave.ensures.recorded)
+    released_after g.K.Kind.rules g.T.Guarded.meaning (λ n. SignalLeave n c.args.cond Stay) c.args.pick home.Idle
+    (peeks_of true c.args.pick) c.args.self look.new.self look.ensures.peeked
+    c.go_outside.result (c.go_outside.ensures look.new.self (λ n. SignalLeave n c.args.cond Stay) c.args.pick
+    look.result c.record_signal_leave.ensures.recorded)

@@ -8,10 +8,15 @@ use Rattle.monk_hall.proofs.parked.Parked.come_in.Goals as goal
 pub invariant_of-result : goal.invariant_of-result
 invariant_of-result g c =
     let out = c.floor_out-floor in
-    entry_holds c.self.invariant.0 out.result c.record_entry.new.floor c.args.source out.ensures.finds (ap (λ (p : Token). p.me.place) c.self.view_is ∙ c.requires.due) c.record_entry.ensures out.new.seat.table_id out.new.seat.me out.ensures.table.0 out.ensures.seat
+    entry_holds c.self.invariant.0 out.result c.record_entry.new.floor c.args.source out.ensures.finds
+    (ap (λ (p : Token). p.me.place) c.self.view_is ∙ c.requires.due) c.record_entry.ensures out.new.seat.table_id
+    out.new.seat.me out.ensures.table.0 out.ensures.seat
 
 pub returns-clause-entered : goal.returns-clause-entered
 returns-clause-entered g c =
     let out = c.floor_out-floor in
-    subst (λ (p : Token). HasEntered g.K.Kind.rules g.T.Guarded.meaning p (holder out.new.seat.table_id (the out.new.seat.me.0) c.record_entry.new.floor)) c.self.view_is
-    (entry c.self.invariant.0 out.result c.record_entry.new.floor c.args.source out.ensures.finds (ap (λ (p : Token). p.me.place) c.self.view_is ∙ c.requires.due) c.record_entry.ensures out.new.seat.table_id out.new.seat.me out.ensures.table.0 out.ensures.seat)
+    subst (λ (p : Token). HasEntered g.K.Kind.rules g.T.Guarded.meaning p
+    (holder out.new.seat.table_id (the out.new.seat.me.0) c.record_entry.new.floor)) c.self.view_is
+    (entry c.self.invariant.0 out.result c.record_entry.new.floor c.args.source out.ensures.finds
+    (ap (λ (p : Token). p.me.place) c.self.view_is ∙ c.requires.due) c.record_entry.ensures out.new.seat.table_id
+    out.new.seat.me out.ensures.table.0 out.ensures.seat)

@@ -2,4 +2,5 @@ use Rattle.monk_hall.proofs.ResumeLaws.{entered_same}
 use Rattle.monk_hall.proofs.parked.Parked.resume.Goals as goal
 
 pub returns-in-Ok : goal.returns-in-Ok
-returns-in-Ok g c = entered_same g.K.Kind.rules g.T.Guarded.meaning c.args.self c.loop.parked c.in-Ok.active c.loop.invariant.0 c.loop.invariant.1 c.in-Ok.ensures.active.0
+returns-in-Ok g c = entered_same g.K.Kind.rules g.T.Guarded.meaning c.args.self c.loop.parked c.in-Ok.active
+    c.loop.invariant.0 c.loop.invariant.1 c.in-Ok.ensures.active.0

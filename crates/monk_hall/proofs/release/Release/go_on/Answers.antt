@@ -6,7 +6,8 @@ pub invariant_of-result : goal.invariant_of-result
 invariant_of-result g c =
     let known = c.requires.recorded in
     let x = known.recorded in
-    stays_holding (known.call c.args.self.number) x.holds x.release (sym c.is_stay.ensures ∙ c.if-is_stay.true) (room_inside x.holds x.release)
+    stays_holding (known.call c.args.self.number) x.holds x.release (sym c.is_stay.ensures ∙ c.if-is_stay.true)
+    (room_inside x.holds x.release)
 
 pub returns-then-is_stay : goal.returns-then-is_stay
 returns-then-is_stay g c a call wish known x = stayed call x.holds x.release (sym c.is_stay.ensures ∙ c.if-is_stay.true) a x.was

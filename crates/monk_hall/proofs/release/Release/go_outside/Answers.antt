@@ -11,7 +11,8 @@ use Rattle.monk_hall.proofs.ReleaseLaws.{has_released, released_of}
 use Rattle.monk_hall.proofs.release.Release.go_outside.Goals as goal
 
 pub go_home-requires-clause-released : goal.go_home-requires-clause-released
-go_home-requires-clause-released g c κs within = let x = c.requires.recorded.recorded in (home.Idle, has_released x.holds x.release c.requires.away)
+go_home-requires-clause-released g c κs within = let x = c.requires.recorded.recorded in
+    (home.Idle, has_released x.holds x.release c.requires.away)
 
 pub go_home-requires-clause-out : goal.go_home-requires-clause-out
 go_home-requires-clause-out g c κs within = c.requires.recorded.recorded.holds.out
@@ -21,11 +22,16 @@ invariant_of-result g c =
     let rec = c.requires.recorded.recorded in
     let x = has_released rec.holds rec.release c.requires.away in
     let now = c.go_home.new.seat in let view = c.into_badge.ensures in
-    let gone = subst (λ (to : Home). HasGone (the c.args.self.seat.me.0) c.args.self.floor.history to (the now.me.0)) (home_is x) c.go_home.ensures.gone in
-    let rests = gone_rests x rec.holds.seated c.left-left.ensures c.into_badge.result.table_id now.me (view.0 ∙ c.go_home.ensures.table) gone c.go_home.ensures.view in
+    let gone = subst (λ (to : Home). HasGone (the c.args.self.seat.me.0) c.args.self.floor.history to (the now.me.0))
+    (home_is x) c.go_home.ensures.gone in
+    let rests = gone_rests x rec.holds.seated c.left-left.ensures c.into_badge.result.table_id now.me
+    (view.0 ∙ c.go_home.ensures.table) gone c.go_home.ensures.view in
     let views : c.into_badge.result.views ≡ (the now.me.0 ∷ []) ∷ [] = view.2 ∙ ap (λ m. m.0 ∷ []) c.go_home.ensures.view in
-    let has = subst (λ m. IsResting g.K.Kind.rules g.T.Guarded.meaning c.into_badge.result.table_id m c.args.self.number c.left-left.result c.args.self.calls) c.go_home.ensures.view rests.0 in
-    subst (λ (vs : List View). (vs ≡ top vs ∷ []) × IsResting g.K.Kind.rules g.T.Guarded.meaning c.into_badge.result.table_id (top vs, []) c.args.self.number c.left-left.result c.args.self.calls × ((the (top vs)).place ≡ Idle)) (sym views)
+    let has = subst (λ m. IsResting g.K.Kind.rules g.T.Guarded.meaning c.into_badge.result.table_id m c.args.self.number
+    c.left-left.result c.args.self.calls) c.go_home.ensures.view rests.0 in
+    subst (λ (vs : List View). (vs ≡ top vs ∷ [])
+    × IsResting g.K.Kind.rules g.T.Guarded.meaning c.into_badge.result.table_id (top vs, []) c.args.self.number
+    c.left-left.result c.args.self.calls × ((the (top vs)).place ≡ Idle)) (sym views)
     (refl, has, rests.1)
 
 pub returns : goal.returns
@@ -34,7 +40,8 @@ returns g c a call wish known rec =
     let r = the c.args.self.seat.me.0 in
     let now = c.go_home.new.seat in let view = c.into_badge.ensures in
     let gone = subst (λ (to : Home). HasGone r c.args.self.floor.history to (the now.me.0)) (home_is x) c.go_home.ensures.gone in
-    let rests = gone_rests x rec.holds.seated c.left-left.ensures c.into_badge.result.table_id now.me (view.0 ∙ c.go_home.ensures.table) gone c.go_home.ensures.view in
+    let rests = gone_rests x rec.holds.seated c.left-left.ensures c.into_badge.result.table_id now.me
+    (view.0 ∙ c.go_home.ensures.table) gone c.go_home.ensures.view in
     let told = subst (λ (vs : List View). SeesTruly g.K.Kind.rules g.T.Guarded.meaning (the (top vs))) (sym view.2) rests.0.told in
     let at_home = subst (λ (vs : List View). HasGone r c.args.self.floor.history home.Idle (the (top vs))) (sym view.2) gone in
     released_of call rec.holds rec.release c.requires.away _ (view.0 ∙ c.go_home.ensures.table) at_home told a rec.was

@@ -9,25 +9,50 @@ pub returns-then-takes : goal.returns-then-takes
 returns-then-takes c = verb-next verb.Enter c.args.words.now c.takes.new.self (c.takes.ensures.taken c.if-takes.true)
 
 pub returns-then-takes-2 : goal.returns-then-takes-2
-returns-then-takes-2 c = verb-next verb.Act c.args.words.now c.takes-else-takes.new.self (c.takes.ensures.left c.if-takes.false ∙ c.takes-else-takes.ensures.taken c.if-takes-2.true)
+returns-then-takes-2 c =
+    verb-next verb.Act c.args.words.now c.takes-else-takes.new.self
+    (c.takes.ensures.left c.if-takes.false ∙ c.takes-else-takes.ensures.taken c.if-takes-2.true)
 
 pub returns-then-takes-3 : goal.returns-then-takes-3
-returns-then-takes-3 c = verb-next verb.Leave c.args.words.now c.takes-else-takes-2.new.self (c.takes.ensures.left c.if-takes.false ∙ c.takes-else-takes.ensures.left c.if-takes-2.false ∙ c.takes-else-takes-2.ensures.taken c.if-takes-3.true)
+returns-then-takes-3 c =
+    verb-next verb.Leave c.args.words.now c.takes-else-takes-2.new.self
+    (c.takes.ensures.left c.if-takes.false ∙ c.takes-else-takes.ensures.left c.if-takes-2.false
+    ∙ c.takes-else-takes-2.ensures.taken c.if-takes-3.true)
 
 pub returns-then-takes-4 : goal.returns-then-takes-4
-returns-then-takes-4 c = verb-next verb.Wait c.args.words.now c.takes-else-takes-3.new.self (c.takes.ensures.left c.if-takes.false ∙ c.takes-else-takes.ensures.left c.if-takes-2.false ∙ c.takes-else-takes-2.ensures.left c.if-takes-3.false ∙ c.takes-else-takes-3.ensures.taken c.if-takes-4.true)
+returns-then-takes-4 c =
+    verb-next verb.Wait c.args.words.now c.takes-else-takes-3.new.self
+    (c.takes.ensures.left c.if-takes.false ∙ c.takes-else-takes.ensures.left c.if-takes-2.false
+    ∙ c.takes-else-takes-2.ensures.left c.if-takes-3.false ∙ c.takes-else-takes-3.ensures.taken c.if-takes-4.true)
 
 pub returns-then-takes-5 : goal.returns-then-takes-5
-returns-then-takes-5 c = verb-next verb.Signal c.args.words.now c.takes-else-takes-4.new.self (c.takes.ensures.left c.if-takes.false ∙ c.takes-else-takes.ensures.left c.if-takes-2.false ∙ c.takes-else-takes-2.ensures.left c.if-takes-3.false ∙ c.takes-else-takes-3.ensures.left c.if-takes-4.false ∙ c.takes-else-takes-4.ensures.taken c.if-takes-5.true)
+returns-then-takes-5 c =
+    verb-next verb.Signal c.args.words.now c.takes-else-takes-4.new.self
+    (c.takes.ensures.left c.if-takes.false ∙ c.takes-else-takes.ensures.left c.if-takes-2.false
+    ∙ c.takes-else-takes-2.ensures.left c.if-takes-3.false ∙ c.takes-else-takes-3.ensures.left c.if-takes-4.false
+    ∙ c.takes-else-takes-4.ensures.taken c.if-takes-5.true)
 
 pub returns-then-takes-6 : goal.returns-then-takes-6
-returns-then-takes-6 c = verb-next verb.SignalLeave c.args.words.now c.takes-else-takes-5.new.self (c.takes.ensures.left c.if-takes.false ∙ c.takes-else-takes.ensures.left c.if-takes-2.false ∙ c.takes-else-takes-2.ensures.left c.if-takes-3.false ∙ c.takes-else-takes-3.ensures.left c.if-takes-4.false ∙ c.takes-else-takes-4.ensures.left c.if-takes-5.false ∙ c.takes-else-takes-5.ensures.taken c.if-takes-6.true)
+returns-then-takes-6 c = verb-next verb.SignalLeave c.args.words.now c.takes-else-takes-5.new.self
+    (c.takes.ensures.left c.if-takes.false ∙ c.takes-else-takes.ensures.left c.if-takes-2.false
+    ∙ c.takes-else-takes-2.ensures.left c.if-takes-3.false ∙ c.takes-else-takes-3.ensures.left c.if-takes-4.false
+    ∙ c.takes-else-takes-4.ensures.left c.if-takes-5.false ∙ c.takes-else-takes-5.ensures.taken c.if-takes-6.true)
 
 pub returns-then-takes-7 : goal.returns-then-takes-7
-returns-then-takes-7 c = verb-next verb.Until c.args.words.now c.takes-else-takes-6.new.self (c.takes.ensures.left c.if-takes.false ∙ c.takes-else-takes.ensures.left c.if-takes-2.false ∙ c.takes-else-takes-2.ensures.left c.if-takes-3.false ∙ c.takes-else-takes-3.ensures.left c.if-takes-4.false ∙ c.takes-else-takes-4.ensures.left c.if-takes-5.false ∙ c.takes-else-takes-5.ensures.left c.if-takes-6.false ∙ c.takes-else-takes-6.ensures.taken c.if-takes-7.true)
+returns-then-takes-7 c =
+    verb-next verb.Until c.args.words.now c.takes-else-takes-6.new.self
+    (c.takes.ensures.left c.if-takes.false ∙ c.takes-else-takes.ensures.left c.if-takes-2.false
+    ∙ c.takes-else-takes-2.ensures.left c.if-takes-3.false ∙ c.takes-else-takes-3.ensures.left c.if-takes-4.false
+    ∙ c.takes-else-takes-4.ensures.left c.if-takes-5.false ∙ c.takes-else-takes-5.ensures.left c.if-takes-6.false
+    ∙ c.takes-else-takes-6.ensures.taken c.if-takes-7.true)
 
 pub returns-then-takes-8 : goal.returns-then-takes-8
-returns-then-takes-8 c = verb-next verb.Resume c.args.words.now c.takes-else-takes-7.new.self (c.takes.ensures.left c.if-takes.false ∙ c.takes-else-takes.ensures.left c.if-takes-2.false ∙ c.takes-else-takes-2.ensures.left c.if-takes-3.false ∙ c.takes-else-takes-3.ensures.left c.if-takes-4.false ∙ c.takes-else-takes-4.ensures.left c.if-takes-5.false ∙ c.takes-else-takes-5.ensures.left c.if-takes-6.false ∙ c.takes-else-takes-6.ensures.left c.if-takes-7.false ∙ c.takes-else-takes-7.ensures.taken c.if-takes-8.true)
+returns-then-takes-8 c =
+    verb-next verb.Resume c.args.words.now c.takes-else-takes-7.new.self
+    (c.takes.ensures.left c.if-takes.false ∙ c.takes-else-takes.ensures.left c.if-takes-2.false
+    ∙ c.takes-else-takes-2.ensures.left c.if-takes-3.false ∙ c.takes-else-takes-3.ensures.left c.if-takes-4.false
+    ∙ c.takes-else-takes-4.ensures.left c.if-takes-5.false ∙ c.takes-else-takes-5.ensures.left c.if-takes-6.false
+    ∙ c.takes-else-takes-6.ensures.left c.if-takes-7.false ∙ c.takes-else-takes-7.ensures.taken c.if-takes-8.true)
 
 pub returns-else-takes-8 : goal.returns-else-takes-8
 returns-else-takes-8 c =

@@ -9,9 +9,19 @@ pub loop-event-preserved : goal.loop-event-preserved
 loop-event-preserved g c =
     let k = g.W.Write.contents in
     let here = c.loop-event.invariant in
-    let room : (has_failed c.if-room-lt-LONGEST_LINE.out ≡ false) × IsOnItsWay (k (held c.args.out.now)) (k (held c.if-room-lt-LONGEST_LINE.out)) c.if-room-lt-LONGEST_LINE.page (text c.args.header.now (take c.loop-event.event-index c.args.events.now)) = elim c.if-room-lt-LONGEST_LINE.branch [
-      | then-room-lt-LONGEST_LINE+in_ok-send w ↦ rw (w.out-is, w.page-is, w.send.ensures.empty) (w.in_ok-send.ensures.ok.1, sends _ _ _ _ _ here.on_its_way w.in_ok-send.ensures.ok.0)
+    let room : (has_failed c.if-room-lt-LONGEST_LINE.out ≡ false)
+    × IsOnItsWay (k (held c.args.out.now)) (k (held c.if-room-lt-LONGEST_LINE.out)) c.if-room-lt-LONGEST_LINE.page
+    (text c.args.header.now (take c.loop-event.event-index c.args.events.now)) =
+    elim c.if-room-lt-LONGEST_LINE.branch [
+      | then-room-lt-LONGEST_LINE+in_ok-send w ↦
+          rw (w.out-is, w.page-is, w.send.ensures.empty)
+          (w.in_ok-send.ensures.ok.1, sends _ _ _ _ _ here.on_its_way w.in_ok-send.ensures.ok.0)
       | else-room-lt-LONGEST_LINE w ↦ rw (w.out-is, w.page-is) (here.sound, here.on_its_way)
     ] in
     let put = c.put_event.ensures in
-    record { sound = room.0; on_its_way = grows _ _ _ _ _ _ _ room.1 put (text-more c.args.header.now c.args.events.now c.loop-event.event-index _ c.loop-event-test.true) }
+    record {
+      sound = room.0;
+      on_its_way =
+          grows _ _ _ _ _ _ _ room.1 put
+          (text-more c.args.header.now c.args.events.now c.loop-event.event-index _ c.loop-event-test.true);
+    }

@@ -8,7 +8,12 @@ use Rattle.monk_samples.proofs.crew.buffer.start_all.Goals as goal
 pub loop-worker-preserved : goal.loop-worker-preserved
 loop-worker-preserved g c =
     let inv = c.loop-worker.invariant in
-    let here = first_of (into_iter_items c.next.new.self) (into_iter_items c.loop-worker.worker-iterator) c.in-Some.worker (λ w. (w.hall.now ≡ c.args.hall.now) × IsReady g.K.Kind.rules c.args.hall.now w.pass) c.in-Some.ensures.steps.0 inv.1 in (
-      one_more (vec_items c.loop-worker.crew) (vec_items c.push.new.self) _ (λ s. s.promise.0.value ≡ c.args.hall.now) c.in_ok-push.ensures.items inv.0 (c.in_ok-start.ensures ∙ here.0),
-      rest_of (into_iter_items c.next.new.self) (into_iter_items c.loop-worker.worker-iterator) c.in-Some.worker (λ w. (w.hall.now ≡ c.args.hall.now) × IsReady g.K.Kind.rules c.args.hall.now w.pass) c.in-Some.ensures.steps.0 inv.1,
+    let here = first_of (into_iter_items c.next.new.self) (into_iter_items c.loop-worker.worker-iterator)
+    c.in-Some.worker (λ w. (w.hall.now ≡ c.args.hall.now) × IsReady g.K.Kind.rules c.args.hall.now w.pass)
+    c.in-Some.ensures.steps.0 inv.1 in (
+      one_more (vec_items c.loop-worker.crew) (vec_items c.push.new.self) _ (λ s. s.promise.0.value ≡ c.args.hall.now)
+          c.in_ok-push.ensures.items inv.0 (c.in_ok-start.ensures ∙ here.0),
+      rest_of (into_iter_items c.next.new.self) (into_iter_items c.loop-worker.worker-iterator) c.in-Some.worker
+          (λ w. (w.hall.now ≡ c.args.hall.now) × IsReady g.K.Kind.rules c.args.hall.now w.pass)
+          c.in-Some.ensures.steps.0 inv.1,
     )

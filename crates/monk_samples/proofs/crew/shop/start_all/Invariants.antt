@@ -5,4 +5,5 @@ use Rattle.monk_samples.proofs.crew.shop.start_all.Given as goal
 
 abbrev pub invariant-loop-worker : goal.invariant-loop-worker
 invariant-loop-worker g l =
-    All (λ s. s.promise.0.value ≡ l.hall) (vec_items l.crew) × All (λ w. (w.hall.now ≡ l.hall) × IsReady g.K.Kind.rules l.hall w.pass) (into_iter_items l.worker-iterator)
+    All (λ s. s.promise.0.value ≡ l.hall) (vec_items l.crew)
+    × All (λ w. (w.hall.now ≡ l.hall) × IsReady g.K.Kind.rules l.hall w.pass) (into_iter_items l.worker-iterator)

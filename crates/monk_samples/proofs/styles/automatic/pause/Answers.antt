@@ -16,5 +16,6 @@ returns g c =
     let room : length c.args.active.me.mine + 3 ≤ c.args.active.me.setting.budget = omega arith in
     record {
       room = room;
-      called = went_on g.K.Kind.rules g.T.Guarded.meaning c.plain_until.result c.args.active (Until c.args.active.me.seat c.args.pred Stay) _ _ _ c.go_on.result c.plain_until.ensures c.go_on.ensures;
+      called = went_on g.K.Kind.rules g.T.Guarded.meaning c.plain_until.result c.args.active
+          (Until c.args.active.me.seat c.args.pred Stay) _ _ _ c.go_on.result c.plain_until.ensures c.go_on.ensures;
     }

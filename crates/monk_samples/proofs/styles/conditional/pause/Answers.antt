@@ -16,5 +16,6 @@ returns g c =
     let room : length c.args.active.me.mine + 3 ≤ c.args.active.me.setting.budget = omega arith in
     record {
       room = room;
-      called = came_back g.K.Kind.rules g.T.Guarded.meaning c.args.active (Wait c.args.active.me.seat c.args.cond Stay) _ _ _ c.plain_wait.result c.resume.result c.plain_wait.ensures c.resume.ensures;
+      called = came_back g.K.Kind.rules g.T.Guarded.meaning c.args.active (Wait c.args.active.me.seat c.args.cond Stay)
+          _ _ _ c.plain_wait.result c.resume.result c.plain_wait.ensures c.resume.ensures;
     }

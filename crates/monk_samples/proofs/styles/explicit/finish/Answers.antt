@@ -14,5 +14,6 @@ pub returns : goal.returns
 returns g c =
     let k = g.K.Kind.rules in let o = g.T.Guarded.meaning in
     signalled_out k o c.args.active c.args.cond c.go_on-active.result _ _ _ c.leave-2.result
-    (went_on k o c.plain_signal.result c.args.active (Signal c.args.active.me.seat c.args.cond Stay) _ _ _ c.go_on-active.result c.plain_signal.ensures c.go_on-active.ensures)
+    (went_on k o c.plain_signal.result c.args.active (Signal c.args.active.me.seat c.args.cond Stay) _ _ _
+    c.go_on-active.result c.plain_signal.ensures c.go_on-active.ensures)
     c.leave-2.ensures

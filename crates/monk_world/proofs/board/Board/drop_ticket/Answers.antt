@@ -9,6 +9,9 @@ pub returns-clause-shows : goal.returns-clause-shows
 returns-clause-shows c =
     let w = c.args.self.now in
     record {
-      state = λ f. ap (λ (place : ℕ → Place). record (state_in w f) { world = record (world_on w) { unpassed = w.unpassed - 1; place = place } }) (place_stored w c.args.seat c.requires.seat _ (place_after_drop w.drawn w.unpassed c.args.home) c.place_after_drop.ensures);
+      state = λ f. ap (λ (place : ℕ → Place). record (state_in w f)
+          { world = record (world_on w) { unpassed = w.unpassed - 1; place = place } })
+          (place_stored w c.args.seat c.requires.seat _ (place_after_drop w.drawn w.unpassed c.args.home)
+          c.place_after_drop.ensures);
       seats = refl;
     }

@@ -11,6 +11,8 @@ returns-clause-shows c =
     let w = c.args.self.now in
     record {
       state = settled w c.args.seat c.requires c.args.next c.args.home _
-          (c.after_choice.ensures ∙ ap (λ (p : Place). cond (is_stay (Some c.args.next)) p (Back c.args.next c.args.home)) (place_read w c.args.seat c.requires c.index-place.result.now c.index-place.ensures));
+          (c.after_choice.ensures
+          ∙ ap (λ (p : Place). cond (is_stay (Some c.args.next)) p (Back c.args.next c.args.home))
+          (place_read w c.args.seat c.requires c.index-place.result.now c.index-place.ensures));
       seats = refl;
     }

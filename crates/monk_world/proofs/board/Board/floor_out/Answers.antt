@@ -12,7 +12,15 @@ returns-clause-shows c =
     let w = c.args.self.now in
     record {
       state = λ f.
-          ap (λ (place : ℕ → Place). record (state_in w f) { world = record (world_on w) { place = place }; known = λ j. slice_index_or (set w.known.items c.args.seat false) j false }) (place_stored w c.args.seat c.requires (Active c.args.source) (Active c.args.source) refl)
-          ∙ ap (λ (known : ℕ → Bool). record (state_in w f) { world = record (world_on w) { place = put (world_on w).place c.args.seat (Active c.args.source) }; known = known }) (known_stored w c.args.seat c.requires false false refl);
+          ap (λ (place : ℕ → Place). record (state_in w f) {
+            world = record (world_on w) { place = place };
+            known =
+                λ j. slice_index_or (set w.known.items c.args.seat false) j false;
+          })
+          (place_stored w c.args.seat c.requires (Active c.args.source) (Active c.args.source) refl)
+          ∙ ap (λ (known : ℕ → Bool). record (state_in w f) {
+            world = record (world_on w) { place = put (world_on w).place c.args.seat (Active c.args.source) };
+            known = known;
+          }) (known_stored w c.args.seat c.requires false false refl);
       seats = refl;
     }

@@ -18,12 +18,24 @@ returns-clause-shows c =
     let same : (c.index.result.now == c.index-count.result.now + 1) ≡ found =
     ap (λ (n : ℕ). n == c.index-count.result.now + 1) calls ∙ ap (λ (n : ℕ). (world_on w).seat_place i == n + 1) count in
     let counts : c.count_after_seat_look.result ≡ count_after_seat_look ((world_on w).count i) found =
-    c.count_after_seat_look.ensures ∙ (ap (λ (b : Bool). count_after_seat_look c.index-count.result.now b) same ∙ ap (λ (n : ℕ). count_after_seat_look n found) count) in
+    c.count_after_seat_look.ensures
+    ∙ (ap (λ (b : Bool). count_after_seat_look c.index-count.result.now b) same
+    ∙ ap (λ (n : ℕ). count_after_seat_look n found) count) in
     record {
       state = λ f.
-          ap (λ (place : ℕ → Place). record (state_in w f) { world = record (world_on w) { place = place; count = λ j. slice_index_or (set w.counts.items i c.count_after_seat_look.result) j 0 } })
-          (place_stored w i near _ (place_after_seat_look found) (c.place_after_seat_look.ensures ∙ ap (λ (b : Bool). place_after_seat_look b) same))
-          ∙ ap (λ (counts : ℕ → ℕ). record (state_in w f) { world = record (world_on w) { place = put (world_on w).place i (place_after_seat_look found); count = counts } })
+          ap (λ (place : ℕ → Place). record (state_in w f) {
+            world = record (world_on w)
+                { place = place; count = λ j. slice_index_or (set w.counts.items i c.count_after_seat_look.result) j 0 };
+          })
+          (place_stored w i near _ (place_after_seat_look found)
+          (c.place_after_seat_look.ensures ∙ ap (λ (b : Bool). place_after_seat_look b) same))
+          ∙ ap (λ (counts : ℕ → ℕ). record (state_in w f) {
+            world = record (world_on w) {
+              place = put (world_on w).place i (place_after_seat_look found);
+              count =
+                  counts;
+            };
+          })
           (count_stored w i near c.count_after_seat_look.result (count_after_seat_look ((world_on w).count i) found) counts);
       seats = refl;
     }

@@ -15,7 +15,17 @@ returns-clause-shows c =
     let near : at < w.seats = mod_below c.args.ticket w.seats (omega (arith, c.requires.seat)) in
     record {
       state = λ f.
-          ap (λ (place : ℕ → Place). record (state_in w f) { world = record (world_on w) { ticket_place = λ j. slice_index_or (set w.ticket_places.items at (c.args.ticket + 1)) j 0; place = place } }) (place_stored w c.args.seat c.requires.seat _ (place_of c.args.home) c.place.ensures)
-          ∙ ap (λ (tickets : ℕ → ℕ). record (state_in w f) { world = record (world_on w) { ticket_place = tickets; place = put (world_on w).place c.args.seat (place_of c.args.home) } }) (ticket_stored w at near (c.args.ticket + 1) (c.args.ticket + 1) refl);
+          ap (λ (place : ℕ → Place). record (state_in w f) {
+            world = record (world_on w) {
+              ticket_place = λ j. slice_index_or (set w.ticket_places.items at (c.args.ticket + 1)) j 0;
+              place =
+                  place;
+            };
+          }) (place_stored w c.args.seat c.requires.seat _ (place_of c.args.home) c.place.ensures)
+          ∙ ap (λ (tickets : ℕ → ℕ). record (state_in w f) {
+            world = record (world_on w)
+                { ticket_place = tickets; place = put (world_on w).place c.args.seat (place_of c.args.home) };
+          })
+          (ticket_stored w at near (c.args.ticket + 1) (c.args.ticket + 1) refl);
       seats = refl;
     }

@@ -13,7 +13,10 @@ returns-clause-shows c =
     let near : at < w.seats = mod_below c.args.ticket w.seats (omega (arith, c.requires.seat)) in
     record {
       state = λ f. ap (λ (place : ℕ → Place). record (state_in w f) { world = record (world_on w) { place = place } })
-          (place_stored w c.args.seat c.requires.seat _ (place_after_ticket_look c.args.ticket ((world_on w).ticket_place at == c.args.ticket + 1))
-          (c.place_after_ticket_look.ensures ∙ ap (λ (n : ℕ). place_after_ticket_look c.args.ticket (n == c.args.ticket + 1)) (ticket_read w at near c.index.result.now c.index.ensures)));
+          (place_stored w c.args.seat c.requires.seat _
+          (place_after_ticket_look c.args.ticket ((world_on w).ticket_place at == c.args.ticket + 1))
+          (c.place_after_ticket_look.ensures
+          ∙ ap (λ (n : ℕ). place_after_ticket_look c.args.ticket (n == c.args.ticket + 1))
+          (ticket_read w at near c.index.result.now c.index.ensures)));
       seats = refl;
     }

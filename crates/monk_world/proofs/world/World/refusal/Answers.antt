@@ -14,11 +14,13 @@ use Rattle.std.specs.Prelude.{slice_index_or, nat_lt, ◌&&◌, false}
 use Rattle.monk_world.specs.Board.{state_of_view}
 use Rattle.monk_world.specs.declared.place.Place.{Place}
 
-reach : (o : Object) (f : FloorView) (seat : ℕ) (c : Command) (conds codes predicates : ℕ) → nat_lt seat f.seats ≡ true → conds ≡ f.conds → o.codes ≡ codes → o.predicates ≡ predicates
+reach : (o : Object) (f : FloorView) (seat : ℕ) (c : Command) (conds codes predicates : ℕ) → nat_lt seat f.seats ≡ true
+    → conds ≡ f.conds → o.codes ≡ codes → o.predicates ≡ predicates
     → telling.is_command_in_range conds codes predicates c ≡ true → (nat_lt seat f.seats && is_call_in_range o f (call_of seat c)) ≡ true
 reach o f seat c conds codes predicates here same_conds same_codes same_predicates fits =
     world.reaches o f seat c here (ap (λ (n : ℕ). telling.is_command_in_range n o.codes o.predicates c) (sym same_conds)
-    ∙ (ap (λ (n : ℕ). telling.is_command_in_range conds n o.predicates c) same_codes ∙ (ap (λ (n : ℕ). telling.is_command_in_range conds codes n c) same_predicates ∙ fits)))
+    ∙ (ap (λ (n : ℕ). telling.is_command_in_range conds n o.predicates c) same_codes
+    ∙ (ap (λ (n : ℕ). telling.is_command_in_range conds codes n c) same_predicates ∙ fits)))
 
 offers : (k : Rules) (i : ℕ) (c : Command) → telling.is_command_offered k.mode c ≡ true → is_call_offered k (call_of i c) ≡ true
 offers k i command.Arrive e = refl
@@ -45,7 +47,9 @@ returns-then-not-may_be_told g c =
     let offered : is_call_offered g.K.Kind.rules (call_of c.args.seat c.args.command) ≡ true = grind arith in
     let no : may_be_told (s.world.place c.args.seat) c.args.command ≡ false = grind (arith, told) in
     world.not_now g.K.Kind.rules g.T.Guarded.meaning s c.args.seat c.args.command
-    (reach g.T.Guarded.meaning s.floor c.args.seat c.args.command c.self.inside.conds c.CODES.result c.PREDICATES.result here conds (g.T.Guarded.codes ∙ sym c.CODES.ensures) (g.T.Guarded.predicates ∙ sym c.PREDICATES.ensures) (sym c.is_in_range.ensures ∙ passed))
+    (reach g.T.Guarded.meaning s.floor c.args.seat c.args.command c.self.inside.conds c.CODES.result c.PREDICATES.result
+    here conds (g.T.Guarded.codes ∙ sym c.CODES.ensures) (g.T.Guarded.predicates ∙ sym c.PREDICATES.ensures)
+    (sym c.is_in_range.ensures ∙ passed))
     offered no
 
 pub returns : goal.returns
@@ -58,9 +62,13 @@ returns g c =
     let passed : c.is_in_range.result ≡ true = search rules in
     let open_to : c.is_offered.result ≡ true = search rules in
     let offered : is_call_offered g.K.Kind.rules (call_of c.args.seat c.args.command) ≡ true =
-    offers g.K.Kind.rules c.args.seat c.args.command (ap (λ (k : Rules). telling.is_command_offered k.mode c.args.command) (sym c.rules_of.ensures) ∙ (sym c.is_offered.ensures ∙ open_to)) in
+    offers g.K.Kind.rules c.args.seat c.args.command
+    (ap (λ (k : Rules). telling.is_command_offered k.mode c.args.command) (sym c.rules_of.ensures)
+    ∙ (sym c.is_offered.ensures ∙ open_to)) in
     let yes : may_be_told (s.world.place c.args.seat) c.args.command ≡ true = grind (arith, told) in
     let enough : left_for c.args.command ≤ left_of s.floor.budget s.floor.history c.args.seat = grind arith in
     world.not_refused g.K.Kind.rules g.T.Guarded.meaning s c.args.seat c.args.command
-    (reach g.T.Guarded.meaning s.floor c.args.seat c.args.command c.self.inside.conds c.CODES.result c.PREDICATES.result here conds (g.T.Guarded.codes ∙ sym c.CODES.ensures) (g.T.Guarded.predicates ∙ sym c.PREDICATES.ensures) (sym c.is_in_range.ensures ∙ passed))
+    (reach g.T.Guarded.meaning s.floor c.args.seat c.args.command c.self.inside.conds c.CODES.result c.PREDICATES.result
+    here conds (g.T.Guarded.codes ∙ sym c.CODES.ensures) (g.T.Guarded.predicates ∙ sym c.PREDICATES.ensures)
+    (sym c.is_in_range.ensures ∙ passed))
     offered yes enough

@@ -11,9 +11,11 @@ returns-in_default c =
 
 pub returns-then-next-eq32 : goal.returns-then-next-eq32
 returns-then-next-eq32 c =
-    let space : c.args.bytes.now ≡ 32 ∷ c.in-Some.rest.now = c.in-Some.ensures.cases.0 ∙ ap (λ (n : ℕ). n ∷ c.in-Some.rest.now) c.if-next-eq32.true in
+    let space : c.args.bytes.now ≡ 32 ∷ c.in-Some.rest.now = c.in-Some.ensures.cases.0
+    ∙ ap (λ (n : ℕ). n ∷ c.in-Some.rest.now) c.if-next-eq32.true in
     λ w plain. ap (λ (x : List ℕ). words_of (w ++ x)) space ∙ words-more w c.in-Some.rest.now plain
 
 pub returns-else-next-eq32 : goal.returns-else-next-eq32
 returns-else-next-eq32 c =
-    λ w. ap (λ (x : List ℕ). is_next w (words_of (w ++ x))) c.in-Some.ensures.cases.0 ∙ is_next-longer w c.in-Some.rest.now c.in-Some.next.now c.if-next-eq32.false
+    λ w. ap (λ (x : List ℕ). is_next w (words_of (w ++ x))) c.in-Some.ensures.cases.0
+    ∙ is_next-longer w c.in-Some.rest.now c.in-Some.next.now c.if-next-eq32.false

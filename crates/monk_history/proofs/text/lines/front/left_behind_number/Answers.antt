@@ -7,7 +7,9 @@ pub loop-next-init : goal.loop-next-init
 loop-next-init c =
     let digit = c.if-not-is_ascii_digit.ensures.cases in
     record {
-      so_far = rw c.from-number.ensures (digit-first c.in_ok-first.first.now c.args.line.now c.in_ok-first.behind.now c.in_ok-first.ensures.cases.0 digit);
+      so_far = rw c.from-number.ensures
+          (digit-first c.in_ok-first.first.now c.args.line.now c.in_ok-first.behind.now c.in_ok-first.ensures.cases.0
+          digit);
       within = omega (arith, c.from-number.ensures, digit);
     }
 
@@ -16,14 +18,19 @@ loop-next-preserved c =
     let digit = c.if-not-is_ascii_digit-2.ensures.cases in
     let room : c.loop-next.number < 2 ^ 59 = omega (arith, c.if-number-ge-ROOM_FOR_A_DIGIT.false) in
     record {
-      so_far = rw c.from.ensures (digit-more c.loop-next.number c.in-Some.next.now c.args.line.now c.loop-next.rest.now c.in-Some.behind.now c.loop-next.invariant.so_far c.in-Some.ensures.cases.0 digit c.if-number-eq0.false room);
+      so_far = rw c.from.ensures
+          (digit-more c.loop-next.number c.in-Some.next.now c.args.line.now c.loop-next.rest.now c.in-Some.behind.now
+          c.loop-next.invariant.so_far c.in-Some.ensures.cases.0 digit c.if-number-eq0.false room);
       within = omega (arith, c.from.ensures, digit, room);
     }
 
 pub returns-then-next-eq32 : goal.returns-then-next-eq32
 returns-then-next-eq32 c =
-    number-ends c.loop-next.number c.in-Some.next.now c.args.line.now c.loop-next.rest.now c.in-Some.behind.now c.loop-next.invariant.so_far c.in-Some.ensures.cases.0 c.if-next-eq32.true (omega (arith, c.loop-next.invariant.within))
+    number-ends c.loop-next.number c.in-Some.next.now c.args.line.now c.loop-next.rest.now c.in-Some.behind.now
+    c.loop-next.invariant.so_far c.in-Some.ensures.cases.0 c.if-next-eq32.true
+    (omega (arith, c.loop-next.invariant.within))
 
 pub returns : goal.returns
 returns c =
-    number-last c.loop-next.number c.args.line.now c.loop-next.rest.now c.loop-next.invariant.so_far (nil_from_length _ c.in_default.ensures.cases) (omega (arith, c.loop-next.invariant.within))
+    number-last c.loop-next.number c.args.line.now c.loop-next.rest.now c.loop-next.invariant.so_far
+    (nil_from_length _ c.in_default.ensures.cases) (omega (arith, c.loop-next.invariant.within))
