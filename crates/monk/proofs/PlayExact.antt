@@ -1,5 +1,6 @@
 -- A play is played exactly where the bytes are its text, and what is written then.
-use Rattle.std.proofs.Common.{◌≡◌, ℕ, ◌≤◌, ◌^◌, ◌⊎◌, inl, inr, List, Option, Some, None, Result, Ok, Err, refl, sym, ap, subst, ◌∙◌, arith}
+use Rattle.std.proofs.Common.{◌≡◌, ℕ, ◌≤◌, ◌^◌, ◌⊎◌, inl, inr, List, length, Option, Some, None, Result, Ok, Err}
+use Rattle.std.proofs.Common.{refl, sym, ap, subst, ◌∙◌, arith}
 use Rattle.std.specs.Prelude.{IfSome, OnOk, ◌↔◌}
 use Rattle.monk_kinds.specs.declared.mode.Rules.{Rules}
 use Rattle.monk_object.specs.Object.{Object}
@@ -8,7 +9,7 @@ use Rattle.monk_history.specs.declared.event.Event.{Event}
 use Rattle.monk_history.specs.declared.text.fault.ReadFault.{ReadFault}
 use Rattle.monk_history.specs.Meaning.Legal.{IsLegal}
 use Rattle.monk_history.specs.Meaning.Monitor.{Monitor, monitor}
-use Rattle.monk_history.specs.Text.{Heading}
+use Rattle.monk_history.specs.Text.{Heading, HasText, text}
 use Rattle.monk_world.specs.declared.command.Command.{Command}
 use Rattle.monk_world.specs.Play.Reading.{Play, play, play_at}
 use Rattle.monk_floor.specs.View.{monitor_of}
@@ -16,9 +17,9 @@ use Rattle.monk_world.specs.Records.{IsRecordedBy}
 use Rattle.monk_world.specs.Runs.{opening_state}
 use Rattle.monk_world.specs.State.{State}
 use Rattle.monk_world.specs.Telling.{IsLed}
-use Rattle.monk_world.proofs.RecordLaws.{same_monitor}
-use Rattle.monk_world.proofs.PlayLaws.PlayText.{play_again, play_found}
-use Rattle.monk.specs.Played.{IsPlayOf, IsPlayText, IsPlayed, IsPlayedBy, IsLedTo, IsAnswer, IsAnswerTo}
+use Rattle.monk_world.proofs.PublicLaws.{same_monitor, play_again, play_found}
+use Rattle.monk.specs.Played.{IsPlayOf, IsPlayText, IsPlayed, IsPlayedBy, IsLedTo, IsAnswer, IsAnswerTo, IsFoundLegal}
+use Rattle.monk.proofs.Exact.{legal_found}
 
 found_again : (input : List ℕ) (h : Heading) (budget : ℕ) (cs : List (ℕ × Command)) → IsPlayOf input h budget cs
     → play_at (2 ^ 25) input ≡ Ok (play h budget cs)
@@ -93,8 +94,8 @@ pub led_to : (k : Rules) (o : Object) (opening : List ℕ) (h : Heading) (budget
     (events : List Event) (seats conds : ℕ) (s t : State)
     → seats ≡ h.seats → conds ≡ h.conds → s ≡ opening_state opening seats conds budget
     → IsLed k o s commands t → IsRecordedBy k o s commands t → events ≡ t.floor.history → IsLegal (monitor_of k o t.floor) t.floor.history
-    → IsLedTo k o opening h budget commands events
-led_to k o opening h budget commands events seats conds s t seats_are conds_are opens led recorded is legal =
+    → length t.floor.history ≤ 2 ^ 25 → HasText h events → IsLedTo k o opening h budget commands events
+led_to k o opening h budget commands events seats conds s t seats_are conds_are opens led recorded is legal few has_text =
     let kept = same_monitor k o s recorded.steps t recorded.recorded in
     let opening_is : t.floor.opening ≡ opening = kept.opening ∙ ap (λ (u : State). u.floor.opening) opens in
     let seats_is : t.floor.seats ≡ h.seats = kept.seats ∙ (ap (λ (u : State). u.floor.seats) opens ∙ seats_are) in
@@ -107,4 +108,29 @@ led_to k o opening h budget commands events seats conds s t seats_are conds_are 
       is_last = is;
       legal = subst (λ (m : Monitor). IsLegal m events) monitor_is
           (subst (λ (es : List Event). IsLegal (monitor_of k o t.floor) es) (sym is) legal);
+      has_text = has_text;
+      few = subst (λ (es : List Event). length es ≤ 2 ^ 25) (sym is) few;
     }
+
+-- the text of a history that a play has led to is found legal
+legal_played : (h : Heading) (budget : ℕ) (cs : List (ℕ × Command)) (Puts : List ℕ → Type 0) → h.size ≤ most h.object
+    → IsPlayed h budget cs Puts → IsFoundLegal Puts
+legal_played h budget cs Puts size p =
+    let led = p.1.0 in
+    record {
+      written = text h p.0;
+      count = length p.0;
+      puts = p.1.1;
+      answer = legal_found (text h p.0) h p.0
+          (record { has_text = led.has_text; few = led.few; whole = refl; size = size }) led.legal;
+    }
+
+legal_answered : (r : Result Play ReadFault) (status : ℕ) (Puts : List ℕ → Type 0) → IsAnswer r status Puts
+    → status ≡ 0 → IsFoundLegal Puts
+legal_answered (Ok p) status Puts (inl a) none = legal_played p.0 p.1 p.2 Puts a.0 a.2
+legal_answered (Ok p) status Puts (inr a) none = absurd (omega (arith, a.1, none))
+legal_answered (Err f) status Puts a none = absurd (omega (arith, a.0, none))
+
+pub legal_written : (bytes : List ℕ) (status : ℕ) (Puts : List ℕ → Type 0) → IsAnswerTo bytes status Puts
+    → status ≡ 0 → IsFoundLegal Puts
+legal_written bytes = legal_answered (play_at (2 ^ 25) bytes)

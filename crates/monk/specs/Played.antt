@@ -6,16 +6,17 @@ use Rattle.monk_object.specs.Object.{Object}
 use Rattle.monk_object.specs.Names.{most, meaning_named, opening_named}
 use Rattle.monk_history.specs.declared.event.Event.{Event}
 use Rattle.monk_history.specs.declared.text.fault.ReadFault.{ReadFault}
-use Rattle.monk_history.specs.Text.{Heading, text}
+use Rattle.monk_history.specs.Text.{Heading, HasText, text}
 use Rattle.monk_history.specs.Meaning.Legal.{IsLegal}
 use Rattle.monk_history.specs.Meaning.Monitor.{monitor}
+use Rattle.monk_audit.specs.declared.verdict.Verdict.TheVariants.{Legal}
 use Rattle.monk_world.specs.declared.command.Command.{Command}
 use Rattle.monk_world.specs.Play.{HasPlayText, playtext}
 use Rattle.monk_world.specs.Play.Reading.{Play, play_at}
 use Rattle.monk_world.specs.Runs.{opening_state}
 use Rattle.monk_world.specs.State.{State}
 use Rattle.monk_world.specs.Telling.{IsLed}
-use Rattle.monk.specs.Answer.{unreadable, too_big}
+use Rattle.monk.specs.Answer.{answer_of, unreadable, too_big, verdict_answer}
 
 -- the text of a play whose size is within the object's greatest
 pub record IsPlayOf (input : List ℕ) (h : Heading) (budget : ℕ) (commands : List (ℕ × Command)) : Type 0 where
@@ -34,6 +35,9 @@ pub record IsLedTo (k : Rules) (o : Object) (opening : List ℕ) (h : Heading) (
   pub is_led : IsLed k o (opening_state opening h.seats h.conds budget) commands last
   pub is_last : events ≡ last.floor.history
   pub legal : IsLegal (monitor k h.seats h.conds o opening) events
+  -- its numbers are in range, and it is no longer than a text may be
+  pub has_text : HasText h events
+  pub few : length events ≤ 2 ^ 25
 
 -- with what writing these bytes means: the text of such a history is written
 abbrev pub IsPlayedBy : Rules → Object → List ℕ → Heading → ℕ → List (ℕ × Command) → (List ℕ → Type 0) → Type 0
@@ -44,6 +48,13 @@ IsPlayedBy k o opening h budget commands Puts =
 abbrev pub IsPlayed : Heading → ℕ → List (ℕ × Command) → (List ℕ → Type 0) → Type 0
 IsPlayed h budget commands Puts =
     IsPlayedBy (rules_named h.kind) (meaning_named h.object) (opening_named h.object h.size) h budget commands Puts
+
+-- with what writing these bytes means: a text is written that an audit answers with `legal` and its number of events
+pub record IsFoundLegal (Puts : List ℕ → Type 0) : Type 0 where
+  pub written : List ℕ
+  pub count : ℕ
+  pub puts : Puts written
+  pub answer : answer_of written ≡ verdict_answer (Legal count)
 
 -- the answer to a play that was read
 abbrev pub IsPlayAnswer : Play → ℕ → (List ℕ → Type 0) → Type 0

@@ -1,10 +1,12 @@
 -- What is answered to a run of a sample
-use Rattle.std.specs.Prelude.{◌≡◌, ℕ, ◌⊎◌, List, ◌++◌, codes, slice_index}
+use Rattle.std.specs.Prelude.{◌≡◌, ℕ, ◌⊎◌, List, ◌++◌, Option, Some, None, codes, slice_index}
 use Rattle.std.specs.Fmt.{decimal}
 use Rattle.monk_kinds.specs.declared.name.KindName.{KindName}
 use Rattle.monk_history.specs.Text.{Heading}
 use Rattle.monk_history.specs.declared.event.Event.{Event}
 use Rattle.monk_samples.specs.Samples.{IsOutcome}
+use Rattle.monk_samples.specs.declared.run_fault.RunFault.{RunFault}
+use Rattle.monk_samples.specs.declared.run_fault.RunFault.TheVariants.{Range, Memory, Tired, Late, Busy, Thread}
 use Rattle.monk_samples.specs.declared.sample.Sample.{Sample}
 use Rattle.monk_samples.specs.declared.sample.Sample.TheVariants.{Buffer, Book, Shop}
 
@@ -33,9 +35,22 @@ pub record IsTold (k : KindName) (sample : Sample) (seats : ℕ) (Puts : List �
   pub outcome : IsOutcome k sample seats heading history totals
   pub told : Puts (totals_text sample totals)
 
--- why a run has no totals
-abbrev pub IsEnd : (List ℕ → Type 0) → Type 0
-IsEnd Puts = Puts (codes "tired\n") ⊎ Puts (codes "late\n") ⊎ Puts (codes "busy\n")
+-- the line that tells how a run has ended that left nothing; of want of memory, and of a thread that was not started,
+-- none is told, since the stream itself fails
+abbrev pub end_word : RunFault → Option (List ℕ)
+end_word Tired = Some (codes "tired\n")
+end_word Late = Some (codes "late\n")
+end_word Busy = Some (codes "busy\n")
+end_word Memory = None
+end_word Thread = None
+end_word Range = None
+
+-- a run has ended without totals, and its end is told
+pub record IsEnd (Puts : List ℕ → Type 0) : Type 0 where
+  pub fault : RunFault
+  pub word : List ℕ
+  pub is : end_word fault ≡ Some word
+  pub told : Puts word
 
 abbrev pub IsRunAnswer : KindName → Sample → ℕ → ℕ → (List ℕ → Type 0) → Type 0
 IsRunAnswer k sample seats status Puts = ((status ≡ 0) × IsTold k sample seats Puts) ⊎ ((status ≡ 1) × IsEnd Puts)

@@ -46,6 +46,8 @@ pub fn audit_stream<R: Read, W: Write>(
 
     ensures file { IsErrOf result StreamFault.File → IsYoung reader.old → (has_failed reader.new ≡ true)
         ⊎ (has_failed writer.new ≡ true) ⊎ IsPastBound reader.old reader.new }
+    // Where memory is told for, no call has failed, and nothing was written.
+    ensures memory { IsErrOf result StreamFault.Memory → (has_failed reader.new ≡ false) × (writer.new ≡ writer.old) }
     ensures reads { reads_of reader.new ≤ reads_of reader.old + 2 ^ 31 }
 {
     let bytes = read_all(alloc, reader)?;

@@ -32,6 +32,8 @@ pub(crate) fn read_all<R: Read>(
     ensures end { OnOk result (IsAtEnd (R.remaining (held reader.new))) }
     ensures file { IsErrOf result StreamFault.File → IsYoung reader.old → (has_failed reader.new ≡ true)
         ⊎ IsPastBound reader.old reader.new }
+    ensures sound { OnOk result (has_failed reader.new ≡ false) }
+    ensures memory { IsErrOf result StreamFault.Memory → has_failed reader.new ≡ false }
     ensures reads { reads_of reader.new ≤ reads_of reader.old + 2 ^ 31 }
 {
     let mut bytes = Vec::new(alloc);

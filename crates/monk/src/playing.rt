@@ -1,6 +1,7 @@
 //! The player's stream: the text of a play in, the text of the history that it leads to out.
 
-ghost use Rattle.std.specs.Prelude.{◌≡◌, ◌+◌, ◌≤◌, ◌^◌, ◌⊎◌, false, true, IfOk, OnOk, IfSome, IsErrOf, ◌↔◌, ℕ, List};
+ghost use Rattle.std.specs.Prelude.{◌≡◌, ◌+◌, ◌≤◌, ◌^◌, ◌⊎◌, false, true, IfOk, OnOk, IfSome, IsErrOf, ◌↔◌, ℕ, List, None};
+ghost use Rattle.monk_floor.specs.Making.{make_refusal};
 ghost use Rattle.std.specs.Io.KnownBytes.{Appends, IsAtEnd};
 ghost use Rattle.monk_kinds.specs.Names.{rules_named};
 ghost use Rattle.monk_object.specs.Names.{most};
@@ -8,15 +9,16 @@ ghost use Rattle.monk_history.specs.Text.{Heading};
 ghost use Rattle.monk_history.specs.Text.Device.{held, has_failed, reads_of};
 ghost use Rattle.monk_world.specs.declared.command.Command.{Command};
 ghost use Rattle.monk_world.specs.Play.Reading.{play};
-ghost use Rattle.monk.specs.Played.{IsPlayAnswer, IsAnswerTo, IsPlayOf, IsPlayText, IsPlayed, IsPlayedBy};
+ghost use Rattle.monk.specs.Played.{IsPlayAnswer, IsAnswerTo, IsFoundLegal, IsPlayOf, IsPlayText, IsPlayed, IsPlayedBy};
 ghost use Rattle.monk.specs.Streams.{IsYoung, IsPastBound};
 
 use crate::answer::{put, too_big, unreadable};
 use crate::fault::StreamFault;
 use crate::input::read_all;
+use monk_floor::MakeFault;
 use monk_history::{Device, Header, write};
 use monk_kinds::{Kind, KindName, Npb, Npir, Npis, Npnb, Npqb, Pb, Pir, Pis, Pnb, Pqb};
-use monk_object::{Book, Buffer, Guarded, ObjectName, Shop};
+use monk_object::{Book, Buffer, Guarded, ObjectFault, ObjectName, Shop};
 use monk_world::{Command, World, read_play};
 use std::alloc::Global;
 use std::io::{Read, Write};
@@ -30,21 +32,24 @@ fn play_as<K: Kind, T: Guarded, W: Write>(
     commands: &[(u8, Command)],
     writer: &mut Device<W>,
 ) -> Result<(), StreamFault>
-    requires { has_failed writer.old ≡ false }
+    requires works { has_failed writer.old ≡ false }
+    requires in_range { make_refusal header.now.seats header.now.conds budget ≡ None }
     ensures played { OnOk result
         (IsPlayedBy K.rules T.meaning (T.state object) header.now budget commands.now
         (Appends (W.contents (held writer.old)) (W.contents (held writer.new)))) }
     ensures file { IsErrOf result StreamFault.File → has_failed writer.new ≡ true }
+    ensures memory { IsErrOf result StreamFault.Memory → writer.new ≡ writer.old }
 {
-    // The header's numbers are in range, so only memory can be wanting.
-    let Ok(mut world) = World::<K, T>::make(alloc, object, header.seats(), header.conds(), budget)
-    else {
-        return Err(StreamFault::Memory);
-    };
-    world.run(commands);
-    match write(header, world.history(), writer) {
-        Ok(()) => Ok(()),
-        Err(_) => Err(StreamFault::File),
+    match World::<K, T>::make(alloc, object, header.seats(), header.conds(), budget) {
+        Ok(mut world) => {
+            world.run(commands);
+            match write(header, world.history(), writer) {
+                Ok(()) => Ok(()),
+                Err(_) => Err(StreamFault::File),
+            }
+        }
+        Err(MakeFault::Memory) => Err(StreamFault::Memory),
+        Err(_) => unreachable!(),
     }
 }
 
@@ -57,11 +62,13 @@ fn play_named<T: Guarded, W: Write>(
     commands: &[(u8, Command)],
     writer: &mut Device<W>,
 ) -> Result<(), StreamFault>
-    requires { has_failed writer.old ≡ false }
+    requires works { has_failed writer.old ≡ false }
+    requires in_range { make_refusal header.now.seats header.now.conds budget ≡ None }
     ensures played { OnOk result
         (IsPlayedBy (rules_named header.now.kind) T.meaning (T.state object) header.now budget commands.now
         (Appends (W.contents (held writer.old)) (W.contents (held writer.new)))) }
     ensures file { IsErrOf result StreamFault.File → has_failed writer.new ≡ true }
+    ensures memory { IsErrOf result StreamFault.Memory → writer.new ≡ writer.old }
 {
     match header.kind() {
         KindName::Pb => play_as::<Pb, T, W>(alloc, object, header, budget, commands, writer),
@@ -86,27 +93,29 @@ fn play_object<W: Write>(
     writer: &mut Device<W>,
 ) -> Result<(), StreamFault>
     requires works { has_failed writer.old ≡ false }
+    requires in_range { make_refusal header.now.seats header.now.conds budget ≡ None }
     requires size { header.now.size ≤ most header.now.object }
     ensures played { OnOk result
         (IsPlayed header.now budget commands.now
         (Appends (W.contents (held writer.old)) (W.contents (held writer.new)))) }
     ensures file { IsErrOf result StreamFault.File → has_failed writer.new ≡ true }
+    ensures memory { IsErrOf result StreamFault.Memory → writer.new ≡ writer.old }
 {
-    // The size is in range, so only memory can be wanting.
     let size = header.size();
     match header.object() {
-        ObjectName::Buffer => {
-            let buffer = Buffer::make(alloc, size).map_err(|_| StreamFault::Memory)?;
-            play_named(alloc, buffer, header, budget, commands, writer)
-        }
-        ObjectName::Book => {
-            let book = Book::make(size).map_err(|_| StreamFault::Memory)?;
-            play_named(alloc, book, header, budget, commands, writer)
-        }
-        ObjectName::Shop => {
-            let shop = Shop::make(size).map_err(|_| StreamFault::Memory)?;
-            play_named(alloc, shop, header, budget, commands, writer)
-        }
+        ObjectName::Buffer => match Buffer::make(alloc, size) {
+            Ok(buffer) => play_named(alloc, buffer, header, budget, commands, writer),
+            Err(ObjectFault::Memory) => Err(StreamFault::Memory),
+            Err(ObjectFault::Size) => unreachable!(),
+        },
+        ObjectName::Book => match Book::make(size) {
+            Ok(book) => play_named(alloc, book, header, budget, commands, writer),
+            Err(_) => unreachable!(),
+        },
+        ObjectName::Shop => match Shop::make(size) {
+            Ok(shop) => play_named(alloc, shop, header, budget, commands, writer),
+            Err(_) => unreachable!(),
+        },
     }
 }
 
@@ -118,11 +127,13 @@ fn play<W: Write>(
     commands: &[(u8, Command)],
     writer: &mut Device<W>,
 ) -> Result<u8, StreamFault>
-    requires { has_failed writer.old ≡ false }
+    requires works { has_failed writer.old ≡ false }
+    requires in_range { make_refusal header.now.seats header.now.conds budget ≡ None }
     ensures answer { IfOk result
         (λ status. IsPlayAnswer (play header.now budget commands.now) status
         (Appends (W.contents (held writer.old)) (W.contents (held writer.new)))) }
     ensures file { IsErrOf result StreamFault.File → has_failed writer.new ≡ true }
+    ensures memory { IsErrOf result StreamFault.Memory → writer.new ≡ writer.old }
 {
     if header.size() > header.object().greatest_size() {
         return put(&too_big(alloc)?, writer);
@@ -141,6 +152,7 @@ fn play_text<W: Write>(
     ensures answer { IfOk result
         (λ status. IsAnswerTo bytes.now status (Appends (W.contents (held writer.old)) (W.contents (held writer.new)))) }
     ensures file { IsErrOf result StreamFault.File → has_failed writer.new ≡ true }
+    ensures memory { IsErrOf result StreamFault.Memory → writer.new ≡ writer.old }
 {
     match read_play(alloc, bytes) {
         Ok((header, budget, commands)) => play(alloc, &header, budget, &commands, writer),
@@ -182,11 +194,16 @@ pub fn play_stream<R: Read, W: Write>(
         (λ status. IfSome (R.remaining (held reader.old))
         (λ input. (h : Heading) (budget : ℕ) (commands : List (ℕ × Command)) → IsPlayOf input h budget commands
         → IsPlayed h budget commands (Appends (W.contents (held writer.old)) (W.contents (held writer.new))))) }
+    // What is written to a play, an audit finds legal.
+    ensures plays_are_legal { IfOk result
+        (λ status. status ≡ 0 → IsFoundLegal (Appends (W.contents (held writer.old)) (W.contents (held writer.new)))) }
     ensures statuses { IfOk result (λ status. (status ≡ 0) ⊎ (status ≡ 2)) }
     ensures all_read { OnOk result (IsAtEnd (R.remaining (held reader.new))) }
 
     ensures file { IsErrOf result StreamFault.File → IsYoung reader.old → (has_failed reader.new ≡ true)
         ⊎ (has_failed writer.new ≡ true) ⊎ IsPastBound reader.old reader.new }
+    // Where memory is told for, no call has failed, and nothing was written.
+    ensures memory { IsErrOf result StreamFault.Memory → (has_failed reader.new ≡ false) × (writer.new ≡ writer.old) }
     ensures reads { reads_of reader.new ≤ reads_of reader.old + 2 ^ 31 }
 {
     let bytes = read_all(alloc, reader)?;

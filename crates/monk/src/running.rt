@@ -1,11 +1,11 @@
 //! The stream of a run: a sample at work in threads, an audit of what it left, and its totals.
 
-ghost use Rattle.std.specs.Prelude.{◌≡◌, ◌⊎◌, false, true, IfOk, IsErrOf, string_bytes};
+ghost use Rattle.std.specs.Prelude.{◌≡◌, ◌≢◌, ◌⊎◌, ◌↔◌, false, true, IfOk, IsErrOf, Some, string_bytes};
 ghost use Rattle.std.specs.Io.KnownBytes.{Appends};
 ghost use Rattle.monk_history.specs.Text.Device.{held, has_failed};
 ghost use Rattle.monk_samples.specs.Samples.{IsInRange, IsOutcome};
 ghost use Rattle.monk_samples.specs.declared.sample.Sample.TheVariants as Sample;
-ghost use Rattle.monk.specs.Ran.{IsEnd, IsRunAnswer, totals_text};
+ghost use Rattle.monk.specs.Ran.{IsRunAnswer, end_word, totals_text};
 
 use crate::answer::{Answer, put, verdict_answer};
 use crate::fault::StreamFault;
@@ -29,6 +29,7 @@ fn run_named<R: Threads + Wait + Sync>(
 ) -> Result<Outcome, RunFault>
     requires { IsInRange seats rounds }
     ensures outcome { IfOk result (λ o. IsOutcome kind sample seats o.header o.history.items o.totals) }
+    ensures in_range { IsErrOf result RunFault.Range → ⊥ }
 {
     let gate = OpenGate;
     match kind {
@@ -98,17 +99,19 @@ fn of_shop(alloc: Global, totals: &[u64; 4]) -> Result<String, AllocError>
     )
 }
 
-/// The answer to a run without an outcome.
-fn ended(alloc: Global, fault: RunFault) -> Result<Answer, StreamFault>
-    ensures answer { IfOk result (λ a. (a.status ≡ 1) × IsEnd (λ t. string_bytes a.text ≡ t)) }
+/// The answer to a run without an outcome, of which this is the end.
+pub(crate) fn ended(alloc: Global, fault: RunFault) -> Result<Answer, StreamFault>
+    requires { fault ≢ RunFault.Range }
+    ensures answer { IfOk result (λ a. (a.status ≡ 1) × (end_word fault ≡ Some (string_bytes a.text))) }
+    ensures file { IsErrOf result StreamFault.File ↔ (fault ≡ RunFault.Thread) }
 {
     let word = match fault {
         RunFault::Tired => "tired\n",
         RunFault::Late => "late\n",
         RunFault::Busy => "busy\n",
         RunFault::Memory => return Err(StreamFault::Memory),
-        // The numbers are in range, so a thread was not started.
-        RunFault::Range | RunFault::Thread => return Err(StreamFault::File),
+        RunFault::Thread => return Err(StreamFault::File),
+        RunFault::Range => unreachable!(),
     };
     let text = String::from_str(alloc, word)?;
     Ok(Answer { status: 1, text })
@@ -119,7 +122,7 @@ fn ended(alloc: Global, fault: RunFault) -> Result<Answer, StreamFault>
 ///
 /// Of a buffer the totals are the lines `put N SUM` and `taken N SUM`, of a book `reads BEGUN ENDED` and
 /// `writes BEGUN ENDED`, of a shop `sat N`, `called N`, `finished N` and `departed N`; the line `legal` ends them. Where
-/// the run has no outcome, the line `tired`, `late` or `busy` is written with status 1.
+/// [`run`] ends as `Tired`, `Late` or `Busy`, the line `tired`, `late` or `busy` is written with status 1.
 ///
 /// # Errors
 ///

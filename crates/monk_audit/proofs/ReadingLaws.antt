@@ -9,7 +9,9 @@ use Rattle.monk_history.specs.Text.{Heading}
 use Rattle.monk_history.specs.Text.Words.{◌>>=◌, Word, Taken}
 use Rattle.monk_history.specs.Text.Lines.{LinesLeft, lines_of, header_line, items_left, opened_at, IsNextItem}
 use Rattle.monk_history.specs.Text.Reading.{header_at, event_at, event_under}
-use Rattle.monk_history.proofs.TextLaws.LineSteps.{behind, lines_behind}
+use Rattle.monk_history.proofs.PublicLaws.Texts.{behind, lines_behind}
+use Rattle.monk_history.proofs.PublicLaws.Meaning.{legal_none, legal-push, allowed_from_reason, legal_situation-push}
+use Rattle.monk_history.proofs.PublicLaws.Meaning.{situation-none}
 use Rattle.monk_history.specs.declared.text.fault.ReadFault.{ReadFault}
 use Rattle.monk_history.specs.Meaning.Monitor.{Monitor, monitor}
 use Rattle.monk_history.specs.Meaning.Situation.{Situation, situation}
@@ -17,8 +19,6 @@ use Rattle.monk_history.specs.Meaning.Reasons.{reason_in, reason_of}
 use Rattle.monk_history.specs.Meaning.Step.{after, opening_situation}
 use Rattle.monk_history.specs.Meaning.Legal.{IsLegal}
 use Rattle.monk_history.specs.declared.event.Event.{Event}
-use Rattle.monk_history.proofs.MeaningLaws.LegalLaws.{legal_none, legal-push, allowed_from_reason}
-use Rattle.monk_history.proofs.MeaningLaws.StepLaws.{legal_situation-push, situation-none}
 use Rattle.monk_audit.specs.Verdict.{verdict_from, verdict_of}
 use Rattle.monk_audit.specs.Reading.{verdict_at, verdict_read, verdict_of_reading, read_through, history_verdict}
 use Rattle.monk_audit.specs.Reading.{lines_verdict, text_verdict}

@@ -1,9 +1,10 @@
 -- The verdict on a history whose events are judged as they are read
-use Rattle.std.specs.Prelude.{ℕ, ◌+◌, ◌^◌, List, [], ◌∷◌, Result, Ok, nat_lt, ◌==◌, if◌then◌else◌}
+use Rattle.std.specs.Prelude.{ℕ, ◌+◌, ◌<◌, ◌^◌, List, [], ◌∷◌, Result, Ok, IfOk, nat_lt, ◌==◌, if◌then◌else◌}
 use Rattle.monk_object.specs.Names.{most}
 use Rattle.monk_history.specs.Text.{Heading}
 use Rattle.monk_history.specs.Text.Words.{◌>>=◌}
-use Rattle.monk_history.specs.Text.Reading.{History, history, text_at}
+use Rattle.monk_history.specs.Text.Lines.{lines_of, opened_at}
+use Rattle.monk_history.specs.Text.Reading.{History, history, header_at, text_at}
 use Rattle.monk_history.specs.declared.text.fault.ReadFault.{ReadFault}
 use Rattle.monk_history.specs.Meaning.Monitor.{Monitor}
 use Rattle.monk_history.specs.Meaning.Situation.{Situation}
@@ -42,6 +43,10 @@ lines_verdict h read = read >>= λ es. Ok (history_verdict (history h es))
 
 abbrev pub text_verdict : List ℕ → Result TextVerdict ReadFault
 text_verdict bytes = text_at (2 ^ 25) bytes >>= λ h. Ok (history_verdict h)
+
+-- no object is made to judge the text: it has no header, or one with a size above the object's greatest
+abbrev pub MakesNoObject : List ℕ → Type 0
+MakesNoObject bytes = IfOk (opened_at header_at (2 ^ 25) (lines_of bytes)) (λ o. most o.0.object < o.0.size)
 
 -- whether the events can all be read
 abbrev pub read_through : Result (List Event) ReadFault → Result (Unit {0}) ReadFault

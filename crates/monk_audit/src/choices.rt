@@ -21,7 +21,7 @@ pub fn permits(
     ensures { result ≡ permits rules (record { waiters = waiters.now; signallers = signallers.now; ready = just ready }) stays event }
 {
     if stays {
-        event.next() == Some(Next::Stay)
+        event.choice() == Some(Next::Stay)
     } else {
         chooses_well(rules, waiters, signallers, ready, event)
     }

@@ -1,11 +1,13 @@
 //! The audit of a text: each event is judged when its line is read, so that no list of events is held.
 
-ghost use Rattle.std.specs.Prelude.{◌≡◌, ◌≤◌, ◌^◌};
+ghost use Rattle.std.specs.Prelude.{◌≡◌, ◌≤◌, ◌<◌, ◌^◌};
+ghost use Rattle.monk_object.specs.Names.{most};
 ghost use Rattle.monk_history.specs.Meaning.Monitor.{monitor};
 ghost use Rattle.monk_history.specs.Meaning.Named.{named_monitor};
 ghost use Rattle.monk_history.specs.Text.Lines.{Gives, items_left};
 ghost use Rattle.monk_history.specs.Text.Reading.{event_at};
 ghost use Rattle.monk_audit.specs.Reading.{verdict_of_reading, lines_verdict, text_verdict, read_through, same};
+ghost use Rattle.monk_audit.specs.Reading.{MakesNoObject};
 
 use crate::kinds::rules_by_name;
 use crate::replay::{ALLOWED, Replay};
@@ -109,7 +111,9 @@ fn audit_lines(
     lines: ItemLines<'_>,
 ) -> Result<TextVerdict, ReadFault>
     requires { lines.room ≤ 2 ^ 25 }
-    ensures { Gives same result (lines_verdict header.now (items_left event_at lines.entry)) }
+    ensures verdict { Gives same result (lines_verdict header.now (items_left event_at lines.entry)) }
+    ensures too_big { most header.now.object < header.now.size
+        → result ≡ lines_verdict header.now (items_left event_at lines.entry) }
 {
     if header.size() > header.object().greatest_size() {
         read_through(header, lines)?;
@@ -124,13 +128,16 @@ fn audit_lines(
 /// # Errors
 ///
 /// The text's first fault, also one that stands behind a forbidden event. The memory fault where a growth was refused,
-/// which may come before a fault of a later line.
+/// which may come before a fault of a later line; never where the text has no header, or one with a size above the
+/// object's greatest, since then none is asked for.
 ///
 /// # Cost
 ///
 /// One pass over the bytes; memory for the queues and the object alone.
 pub fn audit_text(alloc: Global, bytes: &[u8]) -> Result<TextVerdict, ReadFault>
-    ensures { Gives same result (text_verdict bytes.now) }
+    ensures verdict { Gives same result (text_verdict bytes.now) }
+    // No want of memory is told where no object is made.
+    ensures too_big { MakesNoObject bytes.now → result ≡ text_verdict bytes.now }
 {
     let (header, lines) = ItemLines::open::<Header>(bytes, MOST_EVENTS)?;
     audit_lines(alloc, &header, lines)

@@ -23,7 +23,7 @@ use Rattle.monk_history.specs.declared.event.Event.TheVariants.{Enter, Act, Leav
 use Rattle.monk_history.specs.declared.event.Next.{Next}
 use Rattle.monk_history.specs.declared.event.Next.TheVariants.{Stay, Entry, Waiter, Signaller, Until as UntilSeat}
 use Rattle.monk_history.specs.declared.event.Turn.{Turn}
-use Rattle.monk_history.proofs.MeaningLaws.ReleaseLaws.{chosen_allowed}
+use Rattle.monk_history.proofs.PublicLaws.Meaning.{chosen_allowed}
 use Rattle.monk_history.specs.Just.{just}
 use Rattle.monk_floor.specs.Queues.{QueueLists, queue_at}
 use Rattle.monk_floor.specs.Kept.{shown_situation, KeepsHistory}

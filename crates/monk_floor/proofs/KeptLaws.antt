@@ -1,38 +1,34 @@
 -- What a floor keeps, before an event and after it
 use Rattle.std.proofs.Common.{◌≡◌, ℕ, ◌+◌, ◌-◌, ◌*◌, ◌<◌, ◌≤◌, zero, suc, Bool, true, false, cond, ◌&&◌, ◌||◌, not}
-use Rattle.std.proofs.Common.{◌==◌, All, Some, List, [], ◌∷◌, ◌++◌, length, refl, sym, ap, subst, ◌∙◌, arith}
-use Rattle.std.specs.Prelude.{filter, nat_lt, slice_index_or}
+use Rattle.std.proofs.Common.{◌==◌, All, List, [], ◌∷◌, ◌++◌, length, refl, sym, ap, subst, ◌∙◌, arith}
+use Rattle.std.specs.Prelude.{nat_lt, slice_index_or}
 use Rattle.std.specs.List.{list_all}
 use Rattle.std.proofs.lemmas.Bool.{eqb-true}
-use Rattle.std.proofs.lemmas.List.Elements.{All-append, All-filter, All-nil, All-cons}
+use Rattle.std.proofs.lemmas.List.Elements.{All-nil}
 use Rattle.monk_kinds.specs.declared.mode.Rules.{Rules}
 use Rattle.monk_kinds.specs.Kind.{IsKind}
 use Rattle.monk_object.specs.Object.{Object}
 use Rattle.monk_history.specs.Limits.{most_seats, most_budget}
-use Rattle.monk_history.specs.Meaning.Events.{seat_of, next_of, named_seat, waits_on, signals_on, is_stay}
+use Rattle.monk_history.specs.Meaning.Events.{seat_of, next_of, named_seat, waits_on, signals_on}
 use Rattle.monk_history.specs.Meaning.Monitor.{Monitor, data_after}
 use Rattle.monk_history.specs.Meaning.Situation.{situation}
 use Rattle.monk_history.specs.Meaning.Step.{after, opening_situation}
 use Rattle.monk_history.specs.Meaning.Turn.{turn_by, is_enter_of, is_exit_of}
 use Rattle.monk_history.specs.Meaning.Signallers.{is_empty}
-use Rattle.monk_history.specs.Meaning.Untils.{waits_until, chooses}
 use Rattle.monk_history.specs.Meaning.Release.{MayCall}
 use Rattle.monk_history.specs.Meaning.Reasons.{is_in_range, is_condition, fits_object, IsAllowed}
 use Rattle.monk_history.specs.Meaning.Legal.{IsLegal}
 use Rattle.monk_history.specs.Meaning.Counts.{events_of, left_of, grants, granted_of, is_enter, enters_of}
 use Rattle.monk_floor.specs.View.{FloorView, monitor_of}
 use Rattle.monk_history.specs.declared.event.Event.{Event}
-use Rattle.monk_history.specs.declared.event.Event.TheVariants.{Enter, Act, Leave, Wait, Signal, SignalLeave, Until, Resume}
 use Rattle.monk_history.specs.declared.event.Turn.{Turn}
 use Rattle.monk_history.specs.declared.event.Turn.TheVariants.{Open}
-use Rattle.monk_history.proofs.MeaningLaws.TestLaws.{and_left, and_right}
-use Rattle.monk_history.proofs.MeaningLaws.LegalLaws.{legal-push, legal_none}
-use Rattle.monk_history.proofs.MeaningLaws.StepLaws.{same_situation, legal_situation-push, situation-none}
-use Rattle.monk_history.proofs.MeaningLaws.CountLaws.{length-events_of-push, granted_of-push, enters_of-push}
-use Rattle.monk_history.proofs.MeaningLaws.CountLaws.{granted_few, enters_few, granted_none, enters_none, few_events}
-use Rattle.monk_history.proofs.MeaningLaws.CountLaws.{room_left, history_few}
-use Rattle.monk_history.proofs.MeaningLaws.ReleaseLaws.{IsInOrder, legal_order, HasRoom, room_for, caller_apart, seat_in_range}
-use Rattle.monk_history.proofs.MeaningLaws.MoveLaws.{queued_once, caller_unqueued}
+use Rattle.monk_history.proofs.PublicLaws.Meaning.{and_left, and_right, legal-push, legal_none, same_situation}
+use Rattle.monk_history.proofs.PublicLaws.Meaning.{legal_situation-push, situation-none, length-events_of-push}
+use Rattle.monk_history.proofs.PublicLaws.Meaning.{granted_of-push, enters_of-push, granted_few, enters_few, granted_none}
+use Rattle.monk_history.proofs.PublicLaws.Meaning.{enters_none, few_events, room_left, history_few, IsInOrder, legal_order}
+use Rattle.monk_history.proofs.PublicLaws.Meaning.{HasRoom, room_for, caller_apart, seat_in_range, queued_once}
+use Rattle.monk_history.proofs.PublicLaws.Meaning.{caller_unqueued, joins_in_range}
 use Rattle.monk_history.specs.Meaning.Standing.{in_queues}
 use Rattle.monk_floor.specs.Queues.{QueueLists, queue_at, HasPlaces, IsOrderly, IsMoved}
 use Rattle.monk_floor.specs.Kept.{shown_situation, KeepsHistory}
@@ -58,31 +54,6 @@ named_in_range m e h =
 range_object : (m : Monitor) (e : Event) → is_in_range m.seats m.conds m.object.codes m.object.predicates e ≡ true
     → fits_object m.object.codes m.object.predicates e ≡ true
 range_object m e h = and_right _ _ h
-
--- whoever joins the waits-until has a predicate in range
-joins_in_range : (codes predicates : ℕ) (e : Event) (ws : List (ℕ × ℕ)) → fits_object codes predicates e ≡ true
-    → All (λ (w : ℕ × ℕ). w.1 < predicates) ws
-    → All (λ (w : ℕ × ℕ). w.1 < predicates) (filter (λ w. not (chooses e w)) ws ++ waits_until e)
-joins_in_range codes predicates e ws h a =
-    All-append (λ (w : ℕ × ℕ). w.1 < predicates) (filter (λ w. not (chooses e w)) ws) (waits_until e)
-    (All-filter (λ w. not (chooses e w)) (λ (w : ℕ × ℕ). w.1 < predicates) ws a) (joined codes predicates e h)
-  where
-    one : (predicates s p : ℕ) (b : Bool) → nat_lt p predicates ≡ true → All (λ (w : ℕ × ℕ). w.1 < predicates) (cond b [] ((s, p) ∷ []))
-    one predicates s p true h = All-nil (λ (w : ℕ × ℕ). w.1 < predicates)
-    one predicates s p false h =
-        All-cons (λ (w : ℕ × ℕ). w.1 < predicates) (s, p) [] (grind (arith, h))
-        (All-nil (λ (w : ℕ × ℕ). w.1 < predicates))
-
-    joined : (codes predicates : ℕ) (e : Event) → fits_object codes predicates e ≡ true
-        → All (λ (w : ℕ × ℕ). w.1 < predicates) (waits_until e)
-    joined codes predicates (Enter s via) h = All-nil (λ (w : ℕ × ℕ). w.1 < predicates)
-    joined codes predicates (Act s op r) h = All-nil (λ (w : ℕ × ℕ). w.1 < predicates)
-    joined codes predicates (Leave s x) h = All-nil (λ (w : ℕ × ℕ). w.1 < predicates)
-    joined codes predicates (Wait s c x) h = All-nil (λ (w : ℕ × ℕ). w.1 < predicates)
-    joined codes predicates (Signal s c x) h = All-nil (λ (w : ℕ × ℕ). w.1 < predicates)
-    joined codes predicates (SignalLeave s c x) h = All-nil (λ (w : ℕ × ℕ). w.1 < predicates)
-    joined codes predicates (Until s p x) h = one predicates s p (is_stay (Some x)) h
-    joined codes predicates (Resume s q) h = All-nil (λ (w : ℕ × ℕ). w.1 < predicates)
 
 one_within : (b : Bool) (x n : ℕ) → (b ≡ true → x < n) → x ≤ n → x + cond b 1 0 ≤ n
 one_within true x n f l = let k = f refl in omega (arith, k)

@@ -20,9 +20,8 @@ use Rattle.monk_history.specs.declared.event.From3.TheVariants.{Waiter as FromWa
 use Rattle.monk_history.specs.declared.event.Next.{Next}
 use Rattle.monk_history.specs.declared.event.Next.TheVariants.{Stay}
 use Rattle.monk_history.specs.declared.event.Turn.{Turn}
-use Rattle.monk_history.proofs.MeaningLaws.ModeLaws.{non_blocking, blocking}
-use Rattle.monk_history.proofs.MeaningLaws.PathLaws.{quasi_blocking, waiter_path, ready_path, signaller_path}
-use Rattle.monk_history.proofs.MeaningLaws.PathLaws.{served_path, equal_path, signal_stays}
+use Rattle.monk_history.proofs.PublicLaws.Meaning.{non_blocking, blocking, quasi_blocking, waiter_path, ready_path}
+use Rattle.monk_history.proofs.PublicLaws.Meaning.{signaller_path, served_path, equal_path, signal_stays}
 use Rattle.monk_floor.specs.Chosen.{IsChosen}
 use Rattle.monk_floor.specs.Kept.{shown_situation, KeepsHistory}
 use Rattle.monk_floor.specs.Queues.{QueueLists, queue_at}

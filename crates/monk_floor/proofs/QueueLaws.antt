@@ -5,8 +5,8 @@ use Rattle.monk_history.specs.Meaning.Events.{next_of, is_waiter}
 use Rattle.monk_history.specs.Meaning.Signallers.{signals, takes_signaller, takes_front}
 use Rattle.monk_history.specs.Meaning.Untils.{chooses, waits_until}
 use Rattle.monk_history.specs.declared.event.Event.{Event}
-use Rattle.monk_history.proofs.MeaningLaws.SignallerLaws.{front_is_taken}
-use Rattle.monk_history.proofs.QueueAtLaws as at
+use Rattle.monk_history.proofs.PublicLaws.Meaning.{front_is_taken}
+use Rattle.monk_history.proofs.PublicLaws.Queues as at
 use Rattle.monk_floor.specs.Queues.{QueueLists, queue_at, finds_none, IsServed, IsMoved}
 
 -- one more queue with nobody in it

@@ -29,8 +29,6 @@ use std::marker::{Model, PhantomData};
 use std::snapshot::Snapshot;
 
 mod paths;
-#[cfg(test)]
-mod tests;
 
 /// The floor of a monitor of kind `K` over an object `T`: the object, the queues and the history.
 ///

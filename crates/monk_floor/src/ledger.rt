@@ -47,7 +47,7 @@ fn grant(granted: &mut [u32], event: Event)
     ensures counted { (j : ℕ) → slice_index_or granted.new j 0 ≡ slice_index_or granted.old j 0 + (if counts.grants j event then 1 else 0) }
     ensures count { length granted.new ≡ length granted.old }
 {
-    match event.next() {
+    match event.choice() {
         Some(Next::Waiter(seat)) | Some(Next::Signaller(seat)) | Some(Next::Until(seat)) => {
             count_one(granted, seat)
         }

@@ -53,7 +53,7 @@ pub fn length_at(queues: &[SeatQueue], at: u8) -> u32
 fn is_chosen(event: Event, seat: u8) -> bool
     ensures { result ≡ events.is_until seat (events.next_of event) }
 {
-    match event.next() {
+    match event.choice() {
         Some(Next::Until(chosen)) => chosen == seat,
         _ => false,
     }
@@ -252,7 +252,7 @@ impl Queues {
         ensures signallers { self.new.signallers ≡ drop (if takes_front none event then 1 else 0) self.old.signallers }
         ensures untils { self.new.untils ≡ filter (λ w. not (chooses event w)) self.old.untils ++ waits_until event }
     {
-        if let Some(Next::Waiter(_)) = event.next() {
+        if let Some(Next::Waiter(_)) = event.choice() {
             self.waiters.pop();
         }
         if takes_front(event, none) {
@@ -269,6 +269,6 @@ fn takes_front(event: Event, none: bool) -> bool
 {
     match event {
         Event::Signal(_, _, Next::Stay) => !none,
-        _ => matches!(event.next(), Some(Next::Signaller(_))),
+        _ => matches!(event.choice(), Some(Next::Signaller(_))),
     }
 }

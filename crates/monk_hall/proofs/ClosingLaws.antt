@@ -23,8 +23,7 @@ use Rattle.monk_history.specs.Meaning.Waiters.{serves}
 use Rattle.monk_history.specs.Meaning.Wish.{choice_by, is_waiter_open, waiter_choice, signaller_choice}
 use Rattle.monk_history.specs.declared.event.Event.TheVariants.{Leave}
 use Rattle.monk_history.specs.declared.event.Next.TheVariants as next
-use Rattle.monk_history.proofs.MeaningLaws.ReleaseLaws.{legal_seated, IsSeated, times_le_conditions}
-use Rattle.monk_history.proofs.MeaningLaws.StandingLaws.{legal_placed}
+use Rattle.monk_history.proofs.PublicLaws.Meaning.{legal_seated, IsSeated, times_le_conditions, legal_placed}
 use Rattle.monk_floor.specs.View.{FloorView, monitor_of, stands_of}
 use Rattle.monk_hall.proofs.Private.{own_event}
 use Rattle.monk_hall.specs.Closing.{HasNobody, HasSomebody, IsUnqueued, IsEnded, IsBusy}

@@ -18,7 +18,7 @@ use Rattle.atomic_table.specs.contracts.shared.Shared as Shared
 use Rattle.atomic_table.specs.declared.shared.TableRule as TableRule
 use Rattle.monk_kinds.specs.declared.kind.Kind as Kind
 use Rattle.monk_object.specs.declared.guarded.Guarded as Guarded
-use Rattle.monk_floor.proofs.Crossing.{floor_send}
+use Rattle.monk_floor.proofs.PublicLaws.{floor_send}
 use Rattle.std.specs.contracts.collections.LinkedList as LinkedList
 use Rattle.monk_floor.specs.contracts.floor.Floor as Floor
 use Rattle.monk_hall.specs.contracts.record.SeatRecord as SeatRecord

@@ -13,9 +13,10 @@ use Rattle.atomic_table.specs.Seated.{TableId}
 use Rattle.atomic_table.specs.Table.{opening, Splits}
 use Rattle.monk_kinds.specs.declared.mode.Rules.{Rules}
 use Rattle.monk_object.specs.Object.{Object}
+use Rattle.monk_history.specs.Limits.{most_seats, most_conds, least_budget, most_budget}
 use Rattle.monk_history.specs.Meaning.Counts.{events_of}
-use Rattle.monk_history.proofs.MeaningLaws.CountLaws.{granted_none}
-use Rattle.monk_history.proofs.MeaningLaws.LegalLaws.{legal_none}
+use Rattle.monk_history.proofs.PublicLaws.Meaning.{granted_none, legal_none}
+use Rattle.monk_world.proofs.PublicLaws.{put_here, put_else, opening_kept}
 use Rattle.monk_floor.specs.Making.{make_refusal}
 use Rattle.monk_floor.specs.declared.fault.MakeFault.TheVariants as fault
 use Rattle.monk_floor.specs.View.{FloorView, monitor_of}
@@ -23,8 +24,6 @@ use Rattle.monk_world.specs.Kept.{IsKept}
 use Rattle.monk_world.specs.Put.{put}
 use Rattle.monk_world.specs.Runs.{opening_state}
 use Rattle.monk_world.specs.State.{State}
-use Rattle.monk_world.proofs.PutLaws.{put_here, put_else}
-use Rattle.monk_world.proofs.WorldLaws.{opening_kept}
 use Rattle.monk_hall.specs.Layout.{tickets, unpassed, word_count, place_word, seat_word, floor_of, shown_state}
 use Rattle.monk_hall.specs.Records.{View, In, Distinct, opening_record, opening_records, first_view, head, tail}
 use Rattle.monk_hall.specs.Rule.{AreShown, IsHall}
@@ -269,8 +268,8 @@ fresh_rests k o z c number budget near sized enough = record {
 -- a hall that is made has a seat
 pub some_seat : (seats conds budget : ℕ) → make_refusal seats conds budget ≡ None → 0 < seats
 some_seat seats conds budget made =
-    not_below (first_test (nat_lt seats 1) (nat_lt 32 seats) (nat_lt 8 conds) (nat_lt budget 2 || nat_lt 1048576 budget)
-    made)
+    not_below (first_test (nat_lt seats 1) (nat_lt most_seats seats) (nat_lt most_conds conds)
+    (nat_lt budget least_budget || nat_lt most_budget budget) made)
   where
     first_test : (a b c d : Bool)
         → cond (a || b) (Some fault.Seats) (cond c (Some fault.Conds) (cond d (Some fault.Budget) None)) ≡ None

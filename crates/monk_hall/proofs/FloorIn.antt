@@ -24,7 +24,8 @@ use Rattle.monk_history.specs.declared.event.Event.{Event}
 use Rattle.monk_history.specs.declared.event.Next.{Next}
 use Rattle.monk_history.specs.declared.event.Next.TheVariants as next
 use Rattle.monk_history.specs.declared.event.Turn.TheVariants.{Owned}
-use Rattle.monk_history.proofs.MeaningLaws.CountLaws.{granted_of-push}
+use Rattle.monk_history.proofs.PublicLaws.Meaning.{granted_of-push}
+use Rattle.monk_world.proofs.PublicLaws.{held, at_put, put_here, names_chosen}
 use Rattle.monk_floor.specs.View.{FloorView, monitor_of, stands_of}
 use Rattle.monk_world.specs.Kept.{IsKept}
 use Rattle.monk_world.specs.Places.{stage, back_turn, due_to, turn_of_next, due_stage, active_stage, back_stage, passing_stage}
@@ -39,9 +40,6 @@ use Rattle.monk_world.specs.declared.place.Place.{Place}
 use Rattle.monk_world.specs.declared.place.Place.TheVariants.{Idle, Ticket, Due, Active, Back, Passing, Inner}
 use Rattle.monk_world.specs.declared.source.Source.{Source}
 use Rattle.monk_world.specs.declared.source.Source.TheVariants.{Free, Granted, Called}
-use Rattle.monk_world.proofs.Holders.{held}
-use Rattle.monk_world.proofs.PutLaws.{at_put, put_here}
-use Rattle.monk_world.proofs.TestLaws.{names_chosen}
 use Rattle.monk_hall.specs.Changes.{record_after_floor_in, source_from, back_after}
 use Rattle.monk_hall.specs.Floors.{StartsWith, ArePrivate}
 use Rattle.monk_hall.specs.Laws.{BringsHome}

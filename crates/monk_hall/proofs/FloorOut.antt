@@ -15,7 +15,8 @@ use Rattle.monk_object.specs.Object.{Object}
 use Rattle.monk_history.specs.Meaning.Counts.{events_of, enters_of}
 use Rattle.monk_history.specs.Meaning.Turn.{turn}
 use Rattle.monk_history.specs.declared.event.Event.{Event}
-use Rattle.monk_history.proofs.MeaningLaws.LegalLaws.{legal_last}
+use Rattle.monk_history.proofs.PublicLaws.Meaning.{legal_last}
+use Rattle.monk_world.proofs.PublicLaws.{IsReady, entered_here, held, at_put, put_here}
 use Rattle.monk_floor.specs.View.{FloorView, monitor_of}
 use Rattle.monk_world.specs.Enters.{used_at}
 use Rattle.monk_world.specs.Kept.{IsKept}
@@ -32,10 +33,6 @@ use Rattle.monk_world.specs.declared.place.Place.{Place}
 use Rattle.monk_world.specs.declared.place.Place.TheVariants.{Due, Active}
 use Rattle.monk_world.specs.declared.source.Source.{Source}
 use Rattle.monk_world.specs.declared.source.Source.TheVariants.{Free, Granted}
-use Rattle.monk_world.proofs.DoneLaws.{IsReady}
-use Rattle.monk_world.proofs.EntersLaws.{entered_here}
-use Rattle.monk_world.proofs.Holders.{held}
-use Rattle.monk_world.proofs.PutLaws.{at_put, put_here}
 use Rattle.monk_hall.specs.Changes.{record_after_floor_out, source_from}
 use Rattle.monk_hall.specs.Floors.{StartsWith, Finds}
 use Rattle.monk_hall.specs.Laws.{Takes}

@@ -11,7 +11,8 @@ use Rattle.monk_history.specs.Meaning.Counts.{events_of, enters_of, left_of}
 use Rattle.monk_history.specs.Meaning.Events.{seat_of}
 use Rattle.monk_history.specs.Meaning.Turn.{turn}
 use Rattle.monk_history.specs.declared.event.Event.{Event}
-use Rattle.monk_history.proofs.MeaningLaws.CountLaws.{events_of-push, enters_of-push}
+use Rattle.monk_history.proofs.PublicLaws.Meaning.{events_of-push, enters_of-push}
+use Rattle.monk_world.proofs.PublicLaws.{IsReady, kept_done, held, active_is}
 use Rattle.monk_world.specs.Enters.{FitsEnters, used_at}
 use Rattle.monk_world.specs.Kept.{IsKept}
 use Rattle.monk_world.specs.Places.{stage, active_stage}
@@ -28,9 +29,6 @@ use Rattle.monk_world.specs.declared.place.Place.{Place}
 use Rattle.monk_world.specs.declared.place.Place.TheVariants.{Idle, Ticket, Due, Active, Back, Passing, Inner}
 use Rattle.monk_world.specs.declared.source.Source.{Source}
 use Rattle.monk_world.specs.declared.source.Source.TheVariants.{Free, Granted, Called}
-use Rattle.monk_world.proofs.DoneLaws.{IsReady, kept_done}
-use Rattle.monk_world.proofs.Holders.{held}
-use Rattle.monk_world.proofs.WorldLaws.{active_is}
 use Rattle.monk_hall.specs.Floors.{StartsWith}
 use Rattle.monk_hall.specs.Layout.{shown_world}
 use Rattle.monk_hall.specs.Rule.{AreTold, Homes}

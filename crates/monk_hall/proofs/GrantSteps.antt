@@ -28,9 +28,7 @@ use Rattle.monk_world.specs.declared.command.Command.TheVariants as command
 use Rattle.monk_world.specs.declared.home.Home.{Home}
 use Rattle.monk_world.specs.declared.place.Place.{Place}
 use Rattle.monk_world.specs.declared.place.Place.TheVariants.{Idle, Ticket, Due, Active, Back, Passing, Inner}
-use Rattle.monk_world.proofs.DoneLaws.{IsReady}
-use Rattle.monk_world.proofs.Holders.{held}
-use Rattle.monk_world.proofs.PutLaws.{at_put}
+use Rattle.monk_world.proofs.PublicLaws.{IsReady, held, at_put}
 use Rattle.monk_hall.specs.Changes.{record_after_grant, home_at}
 use Rattle.monk_hall.specs.Laws.{Takes}
 use Rattle.monk_hall.specs.Layout.{tickets, unpassed, shown_state, shown_world, place_word, seat_word}

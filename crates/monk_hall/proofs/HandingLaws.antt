@@ -12,7 +12,7 @@ use Rattle.monk_history.specs.Meaning.Release.{with_next}
 use Rattle.monk_history.specs.declared.event.Event.{Event}
 use Rattle.monk_history.specs.declared.event.Next.{Next}
 use Rattle.monk_history.specs.declared.event.Next.TheVariants as next
-use Rattle.monk_history.proofs.MeaningLaws.LegalLaws.{legal-push}
+use Rattle.monk_history.proofs.PublicLaws.Meaning.{legal-push}
 use Rattle.monk_floor.specs.View.{FloorView, monitor_of}
 use Rattle.monk_world.specs.Places.{back_turn, turn_of_next, due_to, place_of}
 use Rattle.monk_world.specs.Sound.{left_within}

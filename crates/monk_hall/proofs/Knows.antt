@@ -14,7 +14,7 @@ use Rattle.monk_world.specs.World.{World}
 use Rattle.monk_world.specs.declared.place.Place.{Place}
 use Rattle.monk_world.specs.declared.place.Place.TheVariants.{Active}
 use Rattle.monk_world.specs.declared.source.Source.{Source}
-use Rattle.monk_world.proofs.PutLaws.{at_put, all_back}
+use Rattle.monk_world.proofs.PublicLaws.{at_put, all_back}
 use Rattle.monk_hall.specs.Floors.{StartsWith}
 use Rattle.monk_hall.specs.Rule.{AreTold, CountsCalls, Homes}
 use Rattle.monk_hall.specs.declared.record.SeatRecord.{SeatRecord}

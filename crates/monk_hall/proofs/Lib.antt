@@ -1,23 +1,24 @@
-pub mod TokenLaws
-pub mod HandingLaws
-pub mod Seats
-pub mod Packed
-pub mod Stored
-pub mod Knows
-pub mod Frame
-pub mod Standing
-pub mod Stepping
-pub mod WordSteps
-pub mod GrantSteps
-pub mod FloorOut
-pub mod Private
-pub mod Releasing
-pub mod FloorIn
-pub mod Dealing
-pub mod MeetLaws
-pub mod ReleaseLaws
-pub mod KindLaws
-pub mod ClosingLaws
-pub mod ResumeLaws
-pub mod Crossing
-pub mod RuleLaws
+mod TokenLaws
+mod HandingLaws
+mod Seats
+mod Packed
+mod Stored
+mod Knows
+mod Frame
+mod Standing
+mod Stepping
+mod WordSteps
+mod GrantSteps
+mod FloorOut
+mod Private
+mod Releasing
+mod FloorIn
+mod Dealing
+mod MeetLaws
+mod ReleaseLaws
+mod KindLaws
+mod ClosingLaws
+mod ResumeLaws
+mod Crossing
+mod RuleLaws
+pub mod PublicLaws

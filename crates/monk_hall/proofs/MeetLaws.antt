@@ -20,7 +20,8 @@ use Rattle.monk_history.specs.Meaning.Events.{seat_of}
 use Rattle.monk_history.specs.Meaning.Turn.{turn}
 use Rattle.monk_history.specs.declared.event.Event.{Event}
 use Rattle.monk_history.specs.Meaning.Legal.{IsLegal}
-use Rattle.monk_history.proofs.MeaningLaws.LegalLaws.{legal_front}
+use Rattle.monk_history.proofs.PublicLaws.Meaning.{legal_front}
+use Rattle.monk_world.proofs.PublicLaws.{at_put, put_here, put_else, all_back}
 use Rattle.monk_floor.specs.View.{FloorView, monitor_of}
 use Rattle.monk_world.specs.Kept.{IsKept}
 use Rattle.monk_world.specs.Places.{stage, outside_stage, active_stage, back_stage}
@@ -30,7 +31,6 @@ use Rattle.monk_world.specs.StepTable.{out_event}
 use Rattle.monk_world.specs.declared.place.Place.{Place}
 use Rattle.monk_world.specs.declared.place.Place.TheVariants.{Idle, Active}
 use Rattle.monk_world.specs.declared.source.Source.{Source}
-use Rattle.monk_world.proofs.PutLaws.{at_put, put_here, put_else, all_back}
 use Rattle.monk_hall.specs.Changes.{longer, view_after_join, view_after_compare}
 use Rattle.monk_hall.specs.Floors.{StartsWith}
 use Rattle.monk_hall.specs.Layout.{floor_of, shown_state, shown_world, word_count}

@@ -7,16 +7,13 @@ use Rattle.monk_history.specs.Meaning.Counts.{events_of, left_of}
 use Rattle.monk_history.specs.Meaning.Events.{seat_of}
 use Rattle.monk_history.specs.Meaning.Legal.{IsLegal}
 use Rattle.monk_history.specs.declared.event.Event.{Event}
-use Rattle.monk_history.proofs.MeaningLaws.CountLaws.{events_of-push}
-use Rattle.monk_history.proofs.MeaningLaws.LegalLaws.{legal_front, legal_last}
+use Rattle.monk_history.proofs.PublicLaws.Meaning.{events_of-push, legal_front, legal_last}
+use Rattle.monk_world.proofs.PublicLaws.{bounded_floor, no_less, put_same, stays}
 use Rattle.monk_floor.specs.View.{monitor_of}
 use Rattle.monk_world.specs.Kept.{IsKept}
 use Rattle.monk_world.specs.State.{State, with_event}
 use Rattle.monk_world.specs.declared.place.Place.TheVariants.{Active}
 use Rattle.monk_world.specs.declared.source.Source.{Source}
-use Rattle.monk_world.proofs.BoundLaws.{bounded_floor, no_less}
-use Rattle.monk_world.proofs.PutLaws.{put_same}
-use Rattle.monk_world.proofs.SoundFloor.{stays}
 use Rattle.monk_hall.specs.Floors.{IsPrivate, ArePrivate}
 use Rattle.monk_hall.proofs.Frame.{other_event}
 

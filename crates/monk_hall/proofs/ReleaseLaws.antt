@@ -12,8 +12,9 @@ use Rattle.monk_history.specs.Meaning.Conditions.{condition}
 use Rattle.monk_history.specs.Meaning.Signallers.{is_empty}
 use Rattle.monk_history.specs.Meaning.Counts.{events_of, left_of, is_enter}
 use Rattle.monk_history.specs.Meaning.Events.{seat_of, is_stay, has_conditions, has_signaller_queue, returns_at_once}
-use Rattle.monk_history.proofs.MeaningLaws.CallLaws.{may_leave, may_wait, may_signal_on, may_signal_leave, may_until}
-use Rattle.monk_history.proofs.MeaningLaws.LegalLaws.{legal-push}
+use Rattle.monk_history.proofs.PublicLaws.Meaning.{may_leave, may_wait, may_signal_on, may_signal_leave, may_until}
+use Rattle.monk_history.proofs.PublicLaws.Meaning.{legal-push}
+use Rattle.monk_world.proofs.PublicLaws.{some_above}
 use Rattle.monk_history.specs.Meaning.Legal.{IsLegal}
 use Rattle.monk_history.specs.Meaning.Monitor.{Monitor}
 use Rattle.monk_history.specs.Meaning.Reasons.{IsAllowed}
@@ -29,7 +30,6 @@ use Rattle.monk_floor.specs.Grown.{IsGrown}
 use Rattle.monk_floor.specs.View.{FloorView, monitor_of, stands_of}
 use Rattle.monk_world.specs.State.{with_event}
 use Rattle.monk_world.specs.declared.home.Home.{Home}
-use Rattle.monk_world.proofs.TestLaws.{some_above}
 use Rattle.monk_world.specs.declared.home.Home.TheVariants as home
 use Rattle.monk_hall.specs.Calls.{HasReleased, HasStayed, HasPeeked, Remembers, is_entry_known}
 use Rattle.monk_hall.specs.AfterCalls.{MatchAfter}
@@ -37,6 +37,7 @@ use Rattle.monk_hall.specs.declared.after.After.{After}
 use Rattle.monk_hall.specs.declared.after.After.TheVariants.{Active, Parked}
 use Rattle.monk_hall.specs.Changes.{record_after_peek}
 use Rattle.monk_hall.specs.Handing.{HasRecordedRelease, HasGone}
+use Rattle.monk_hall.specs.Layout.{floor_of}
 use Rattle.monk_hall.specs.Recorded.{IsRelease}
 use Rattle.monk_hall.specs.Records.{the}
 use Rattle.monk_hall.specs.Tells.{Me, TellsPeek, IsReleaseTo, SeesTruly}
@@ -171,6 +172,7 @@ module _ {k : Rules} {o : Object} {z : TableId} {me : Me} {number calls : ℕ} {
         steps = omega arith;
         remembers = record { knew = λ knew. is_known ∙ knew; unlooked = λ _. is_known };
         told = told;
+        floor = h.goes.is_floor;
       }
 
 remembers_twice : (peeks : ℕ) (a b : Holder) → HasPeeked peeks a b → (w : SeatRecord) → Remembers b.me w
@@ -179,6 +181,12 @@ remembers_twice peeks a b x w y more = record {
   knew = λ knew. y.knew (x.remembers.knew knew);
   unlooked = λ same. let n = ap (λ (h : Holder). h.me.looks) x.is in y.unlooked (omega arith) ∙ x.remembers.unlooked (omega arith);
 }
+
+-- a look changes neither the floor nor the setting
+of_setting : (a b : Holder) {known : Bool} {looks steps : ℕ}
+    → b ≡ record a { me = record a.me { known = known; looks = looks; steps = steps } }
+    → b.floor ≡ floor_of b.me.setting b.floor.history → a.floor ≡ floor_of a.me.setting a.floor.history
+of_setting a b is floor = sym (ap (λ (h : Holder). h.floor) is) ∙ floor ∙ ap (λ (h : Holder). floor_of h.me.setting h.floor.history) is
 
 -- a look at the ticket word before the release
 module _ {k : Rules} {o : Object} where
@@ -200,6 +208,7 @@ module _ {k : Rules} {o : Object} where
         steps = omega arith;
         remembers = remembers_twice peeks a b x p.me y.remembers (let n = y.looks in omega arith);
         told = y.told;
+        floor = of_setting a b is y.floor;
       }
 
 -- what the active seat may do
@@ -346,6 +355,7 @@ module _ {k : Rules} {o : Object} {z : TableId} {me : Me} {number calls : ℕ} {
         legal = subst (λ (y : FloorView). IsLegal (monitor_of k o y) y.history) (sym x.is_grown.grown)
             (legal-push (monitor_of k o f) f.history (with_next choice (call number)) h.goes.legal x.is_grown.allowed);
         own = refl;
+        floor = h.goes.is_floor;
       })
 
 module _ {k : Rules} {o : Object} where
@@ -380,6 +390,7 @@ module _ {k : Rules} {o : Object} where
     remembers = remembers_twice peeks a b x c.me y.remembers (let n = ap (λ (h : Holder). h.me.looks) y.is in omega arith);
     legal = y.legal;
     own = y.own;
+    floor = of_setting a b is y.floor;
   }
 
 -- the active seat has looked at the ticket word

@@ -26,7 +26,7 @@ use Rattle.monk_world.specs.declared.home.Home.TheVariants as home
 use Rattle.monk_world.specs.declared.place.Place.{Place}
 use Rattle.monk_world.specs.declared.place.Place.TheVariants.{Active, Back}
 use Rattle.monk_world.specs.declared.source.Source.{Source}
-use Rattle.monk_world.proofs.DoneLaws.{IsReady}
+use Rattle.monk_world.proofs.PublicLaws.{IsReady}
 use Rattle.monk_hall.specs.Changes.{back_after}
 use Rattle.monk_hall.specs.Tells.{IsReleaseTo}
 use Rattle.monk_hall.proofs.Frame.{step_kept, step_is}

@@ -7,9 +7,7 @@ use Rattle.std.specs.Prelude.{List}
 use Rattle.monk_world.specs.Places.{stage, back_turn, due_stage, active_stage, back_stage, passing_stage}
 use Rattle.monk_world.specs.Right.{With}
 use Rattle.monk_world.specs.State.{is_quiet}
-use Rattle.monk_world.proofs.Holders.{held, has_right}
-use Rattle.monk_world.proofs.OnePlaceLaws.{in_one_place}
-use Rattle.monk_world.proofs.RunLaws.{well_led}
+use Rattle.monk_world.proofs.PublicLaws.{held, has_right, in_one_place, well_led}
 use Rattle.monk_hall.proofs.FloorIn.{gives_at}
 use Rattle.monk_hall.proofs.FloorOut.{takes_at}
 use Rattle.monk_hall.proofs.GrantSteps.{grants_ticket_at, calls_seat_at}

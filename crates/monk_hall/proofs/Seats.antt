@@ -6,7 +6,7 @@ use mathlib.Core.Option.{some}
 use lib.ListN.{get_elem?}
 use Rattle.atomic_table.proofs.Lists.{at_set, set_else, set_here}
 use Rattle.monk_world.specs.Put.{put}
-use Rattle.monk_world.proofs.PutLaws.{at_put, put_here, put_else}
+use Rattle.monk_world.proofs.PublicLaws.{at_put, put_here, put_else}
 use Rattle.monk_hall.specs.Records.{View, In, Distinct}
 use Rattle.monk_hall.specs.Rule.{AreShown}
 use Rattle.monk_hall.specs.declared.record.SeatRecord.{SeatRecord}

@@ -2,7 +2,7 @@
 use Rattle.std.proofs.Common.{◌≡◌, ◌≢◌, ℕ, ◌<◌, List, length, set, sym, refl, arith, get_or-set_same, get_or-set_other}
 use Rattle.std.specs.Prelude.{slice_index}
 use Rattle.monk_world.specs.Put.{put}
-use Rattle.monk_world.proofs.PutLaws.{at_put}
+use Rattle.monk_world.proofs.PublicLaws.{at_put}
 use mathlib.Core.Path.{Path}
 use Rattle.monk_hall.specs.Layout.{place_word, seat_word}
 use Rattle.monk_hall.specs.declared.record.SeatRecord.{SeatRecord}

@@ -12,8 +12,7 @@ use Rattle.monk_history.specs.Meaning.Turn.{turn, turn_by}
 use Rattle.monk_history.specs.declared.event.Event.{Event}
 use Rattle.monk_history.specs.declared.event.Turn.{Turn}
 use Rattle.monk_history.specs.declared.event.Turn.TheVariants.{Owned}
-use Rattle.monk_history.proofs.MeaningLaws.LegalLaws.{legal-push}
-use Rattle.monk_history.proofs.MeaningLaws.TurnLaws.{turn-push}
+use Rattle.monk_history.proofs.PublicLaws.Meaning.{legal-push, turn-push}
 use Rattle.monk_floor.specs.View.{FloorView, monitor_of}
 use Rattle.monk_world.specs.State.{with_event}
 use Rattle.monk_world.specs.StepTable.{out_event}

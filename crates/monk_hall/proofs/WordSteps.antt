@@ -26,9 +26,7 @@ use Rattle.monk_world.specs.declared.home.Home.{Home}
 use Rattle.monk_history.specs.declared.event.Next.TheVariants as next
 use Rattle.monk_world.specs.declared.place.Place.{Place}
 use Rattle.monk_world.specs.declared.place.Place.TheVariants.{Idle, Ticket, Active, Back, Inner}
-use Rattle.monk_world.proofs.BoundLaws.{few_drawn}
-use Rattle.monk_world.proofs.DoneLaws.{IsReady}
-use Rattle.monk_world.proofs.Holders.{held}
+use Rattle.monk_world.proofs.PublicLaws.{few_drawn, IsReady, held}
 use Rattle.monk_hall.specs.Changes.{record_after_arrive, record_after_ticket_look, record_after_seat_look}
 use Rattle.monk_hall.specs.Changes.{record_after_peek, record_after_drop, home_at, source_from}
 use Rattle.monk_hall.specs.Laws.{Takes}

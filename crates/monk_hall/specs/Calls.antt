@@ -142,6 +142,7 @@ pub record HasReleased (k : Rules) (o : Object) (a : Holder) (call : Event) (wis
   pub steps : p.me.steps ≤ a.me.steps + peeks + 3
   pub remembers : Remembers a.me p.me
   pub told : SeesTruly k o p.me
+  pub floor : a.floor ≡ floor_of a.me.setting a.floor.history
 
 -- the seat has stayed active by this release, since the wish rules chose so
 pub record HasStayed (k : Rules) (o : Object) (a : Holder) (call : Event) (wish : Pick) (peeks : ℕ) (b : Holder) : Type 0 where
@@ -159,6 +160,7 @@ pub record HasStayed (k : Rules) (o : Object) (a : Holder) (call : Event) (wish 
   pub remembers : Remembers a.me b.me
   pub legal : IsLegal (monitor_of k o b.floor) b.floor.history
   pub own : events_of b.floor.history b.me.seat ≡ b.me.mine
+  pub floor : a.floor ≡ floor_of a.me.setting a.floor.history
 
 -- the history has grown by an event of the active seat, and nothing else has changed
 pub record HasDone (k : Rules) (o : Object) (a : Holder) (e : Event) (b : Holder) : Type 0 where

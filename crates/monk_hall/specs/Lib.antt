@@ -11,3 +11,4 @@ pub mod AfterCalls
 pub mod Recorded
 pub mod Closing
 pub mod Laws
+pub mod Tests

@@ -5,6 +5,7 @@ ghost use Rattle.monk_history.specs.Meaning.Legal.{IsLegal};
 ghost use Rattle.monk_history.specs.Meaning.Monitor.{data_of};
 ghost use Rattle.monk_floor.specs.View.{monitor_of};
 ghost use Rattle.monk_hall.specs.Calls.{HasDone};
+ghost use Rattle.monk_hall.specs.Layout.{floor_of};
 
 use crate::rule::TableSeat;
 use monk_floor::Floor;
@@ -41,10 +42,11 @@ impl<K: Kind, T: Guarded> Active<K, T> {
         self.number
     }
 
-    /// How many events its seat has left of its budget: one at least.
+    /// How many events its seat has left of its budget: one at least. Its floor has the numbers of the hall.
     pub fn left(&self) -> u32
         ensures left { result + length self.now.me.mine ≡ self.now.me.setting.budget }
         ensures some { 1 ≤ result }
+        ensures floor { self.now.floor ≡ floor_of self.now.me.setting self.now.floor.history }
     {
         self.floor.left(self.number)
     }

@@ -1,5 +1,6 @@
 ghost use Rattle.std.specs.Prelude.{◌≡◌, ◌+◌, ◌≤◌, length};
 ghost use Rattle.monk_hall.specs.Calls.{HasArrived};
+ghost use Rattle.monk_hall.specs.Tells.{SeesTruly};
 
 use crate::hall::Hall;
 use crate::parked::Parked;
@@ -45,9 +46,11 @@ impl<K: Kind, T: Guarded> Pass<K, T> {
         self.number
     }
 
-    /// How many events its seat has left of its budget.
+    /// How many events its seat has left of its budget. What the seat has seen is legal, with its own events those that
+    /// it knows.
     pub fn left(&self) -> u32
-        ensures { result + length self.now.me.mine ≡ self.now.me.setting.budget }
+        ensures left { result + length self.now.me.mine ≡ self.now.me.setting.budget }
+        ensures told { SeesTruly K.rules T.meaning self.now.me }
     {
         self.left
     }

@@ -10,7 +10,7 @@ use Rattle.monk_object.specs.contracts.book.Book as Book
 use Rattle.monk_object.specs.contracts.buffer.Buffer as Buffer
 use Rattle.monk_object.specs.contracts.shop.Shop as Shop
 use Rattle.monk_object.specs.declared.guarded.Guarded as Guarded
-use Rattle.monk_hall.proofs.Crossing.{hall_sync, pass_send}
+use Rattle.monk_hall.proofs.PublicLaws.{hall_sync, pass_send}
 use Rattle.monk_hall.specs.contracts.hall.Hall as Hall
 use Rattle.monk_samples.specs.contracts.worker.Worker as Worker
 
@@ -32,3 +32,6 @@ book_send = search sendable depth 40
 
 pub shop_send : IsSend Shop.the_row
 shop_send = search sendable depth 40
+
+-- by these lemmas a closure that has passes and shares a hall of a sample may go to another thread
+pub ruleset threads = (sendable, crosses, hall_sync, pass_send, buffer_send, book_send, shop_send)

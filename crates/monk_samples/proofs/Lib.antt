@@ -1,7 +1,10 @@
-pub mod TrailLaws
-pub mod StyleLaws
-pub mod VisitLaws
-pub mod SeatLaws
-pub mod Crossing
-pub mod RunLaws
-pub mod TotalLaws
+mod TrailLaws
+mod StyleLaws
+mod VisitLaws
+mod RoundLaws
+mod FaultLaws
+mod SeatLaws
+mod Crossing
+mod RunLaws
+mod TotalLaws
+pub mod PublicLaws

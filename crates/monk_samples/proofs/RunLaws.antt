@@ -17,7 +17,7 @@ use Rattle.monk_kinds.specs.Names.{rules_named}
 use Rattle.monk_kinds.specs.declared.name.KindName.{KindName}
 use Rattle.monk_object.specs.Names.{meaning_named, opening_named}
 use Rattle.monk_object.specs.Object.{Object}
-use Rattle.monk_history.proofs.MeaningLaws.ActLaws.{in_order, excludes, serves_each}
+use Rattle.monk_history.proofs.PublicLaws.Meaning.{in_order, excludes, serves_each}
 use Rattle.monk_history.specs.Meaning.Legal.{IsLegal}
 use Rattle.monk_history.specs.Meaning.Monitor.{Monitor, monitor, data_of}
 use Rattle.monk_history.specs.Meaning.Named.{named_monitor}
@@ -45,8 +45,14 @@ first_of xs ys x P e h = All-head P x xs (subst (All P) e h)
 pub rest_of : {X : Type 0} (xs ys : List X) (x : X) (P : X → Type 0) → ys ≡ x ∷ xs → All P ys → All P xs
 rest_of xs ys x P e h = All-rest P x xs ys e h
 
+pub first_and : {X : Type 0} (xs ys : List X) (x : X) (P : X → Type 0) → ys ≡ x ∷ xs → P x → All P xs → All P ys
+first_and xs ys x P e p h = All-same P ys (x ∷ xs) e (All-cons P x xs p h)
+
 pub same_all : {X : Type 0} (xs ys : List X) (P : X → Type 0) → xs ≡ ys → All P ys → All P xs
 same_all xs ys P e h = All-same P xs ys e h
+
+pub all_weaker : {X : Type 0} (xs : List X) (P Q : X → Type 0) → ((x : X) → P x → Q x) → All P xs → All Q xs
+all_weaker xs P Q f h = λ k d near. f _ (h k d near)
 
 pub none_yet : {X : Type 0} (xs : List X) (P : X → Type 0) → xs ≡ [] → All P xs
 none_yet xs P e = All-same P xs [] e (All-nil P)

@@ -1,61 +1,98 @@
 -- What the calls of each style come to
-use Rattle.std.proofs.Common.{◌≡◌, ℕ, ◌+◌, ◌<◌, [], ◌∷◌, ◌++◌, length, length-append, refl, sym, ap, subst, ◌∙◌, arith}
-use Rattle.monk_kinds.specs.declared.mode.Pick.{Pick}
+use Rattle.std.proofs.Common.{◌≡◌, ℕ, ◌+◌, ◌<◌, ◌≤◌, [], ◌∷◌, length, length-append, refl, sym, ap, subst, ◌∙◌, arith}
+use Rattle.monk_kinds.specs.declared.mode.Pick.TheVariants.{Waiter}
+use Rattle.monk_kinds.specs.declared.mode.Mode.TheVariants.{Automatic, ImmediateReturn}
 use Rattle.monk_kinds.specs.declared.mode.Rules.{Rules}
 use Rattle.monk_object.specs.Object.{Object}
 use Rattle.monk_history.specs.Meaning.Release.{with_next}
 use Rattle.monk_history.specs.declared.event.Event.{Event}
-use Rattle.monk_history.specs.declared.event.Event.TheVariants.{Leave, Signal}
+use Rattle.monk_history.specs.declared.event.Event.TheVariants.{Leave, Signal, SignalLeave}
 use Rattle.monk_history.specs.declared.event.Next.TheVariants.{Stay}
 use Rattle.monk_world.specs.declared.home.Home.{Home}
 use Rattle.monk_hall.specs.AfterCalls.{MatchAfter}
 use Rattle.monk_hall.specs.Calls.{HasEntered, HasReleased, HasStayed}
+use Rattle.monk_hall.specs.Layout.{floor_of}
 use Rattle.monk_hall.specs.Tokens.{Token, Holder}
+use Rattle.monk_hall.specs.declared.setting.Setting.{Setting}
 use Rattle.monk_hall.specs.declared.after.After.{After}
 use Rattle.monk_hall.specs.declared.after.After.TheVariants.{Active, Parked}
-use Rattle.monk_samples.specs.Styles.{HasGivenUp, HasGoneBy}
-use Rattle.monk_samples.specs.Trails.{HasCalled, call_in, inside, outside}
-use Rattle.monk_samples.proofs.TrailLaws.{called_then, went_nowhere, came, released, stayed}
+use Rattle.monk_samples.specs.Asked.{IsCall}
+use Rattle.monk_samples.specs.Styles.{HasPaused, HasGivenUp, HasGoneBy, way_out}
+use Rattle.monk_samples.specs.Trails.{Addition, HasCalled, inside, outside}
+use Rattle.monk_samples.proofs.TrailLaws.{Releases, called_then, came, released, stayed}
+
+-- the way out under an automatic kind, and under one whose signaller returns at once
+pub out_automatic : (k : Rules) (s c : ℕ) → k.mode ≡ Automatic → way_out k s c ≡ Leave s Stay ∷ []
+out_automatic k s c e = rw e refl
+
+pub out_at_once : (k : Rules) (s c : ℕ) → k.mode ≡ ImmediateReturn → way_out k s c ≡ SignalLeave s c Stay ∷ []
+out_at_once k s c e = rw e refl
 
 module _ (k : Rules) (o : Object) where
   -- a seat that released inside, and came in again
-  pub came_back : (a : Holder) (call : Event) (wish : Pick) (to : Home) (peeks : ℕ) (q : Token) (b : Holder)
-      → HasReleased k o a call wish to peeks q → HasEntered k o q b
-      → HasCalled (inside a) (inside b) ((call_in call ++ []) ++ [])
-  came_back a call wish to peeks q b r e =
-      called_then (inside a) (outside q) (inside b) (call_in call ++ []) [] (released k o a call wish to peeks q r)
-      (came k o q b e)
+  pub came_back : (a : Holder) (call : Event) (to : Home) (peeks : ℕ) (q : Token) (b : Holder) → Releases call
+      → HasReleased k o a call Waiter to peeks q → HasEntered k o q b
+      → (d : Addition) × HasCalled (inside a) (inside b) (d ∷ []) × IsCall k o a.me.setting call d × (d.before ≡ a.floor.history)
+  came_back a call to peeks q b releases r e =
+      let one = released k o a call to peeks q releases r in
+      (one.0, called_then (inside a) (outside q) (inside b) (one.0 ∷ []) [] one.1 (came k o q b e), one.2, one.3)
 
   -- a seat that stayed, or came in again
-  pub went_on : {K T : Type 0} (x : After K T) (a : Holder) (call : Event) (wish : Pick) (to : Home) (peeks : ℕ) (b : Holder)
-      → MatchAfter x (λ y. HasStayed k o a call wish peeks y) (λ p. HasReleased k o a call wish to peeks p)
+  pub went_on : {K T : Type 0} (x : After K T) (a : Holder) (call : Event) (to : Home) (peeks : ℕ) (b : Holder) → Releases call
+      → MatchAfter x (λ y. HasStayed k o a call Waiter peeks y) (λ p. HasReleased k o a call Waiter to peeks p)
       → MatchAfter x (λ y. b ≡ y) (λ p. HasEntered k o p b)
-      → HasCalled (inside a) (inside b) ((call_in call ++ []) ++ [])
-  went_on (Active y) a call wish to peeks b s same =
-      subst (λ (h : Holder). HasCalled (inside a) (inside h) ((call_in call ++ []) ++ [])) (sym same)
-      (called_then (inside a) (inside y) (inside y) (call_in call ++ []) [] (stayed k o a call wish peeks y s)
-      record { own = []; went = went_nowhere (inside y); called = refl })
-  went_on (Parked p) a call wish to peeks b r e = came_back a call wish to peeks p b r e
+      → (d : Addition) × HasCalled (inside a) (inside b) (d ∷ []) × IsCall k o a.me.setting call d × (d.before ≡ a.floor.history)
+  went_on (Active y) a call to peeks b releases s same =
+      let one = stayed k o a call peeks y releases s in
+      (one.0, subst (λ (h : Holder). HasCalled (inside a) (inside h) (one.0 ∷ [])) (sym same) one.1, one.2, one.3)
+  went_on (Parked p) a call to peeks b releases r e = came_back a call to peeks p b releases r e
 
-  pub given_up : (a : Holder) (wish : Pick) (to : Home) (peeks : ℕ) (p : Token)
-      → HasReleased k o a (Leave a.me.seat Stay) wish to peeks p → a.me.setting.budget < length a.me.mine + 3
+  pub paused : (a : Holder) (call : Event) (b : Holder) → length a.me.mine + 3 ≤ a.me.setting.budget
+      → a.floor ≡ floor_of a.me.setting a.floor.history
+      → ((d : Addition) × HasCalled (inside a) (inside b) (d ∷ []) × IsCall k o a.me.setting call d × (d.before ≡ a.floor.history))
+      → HasPaused k o a call b
+  paused a call b room floor x = record { room = room; pause = x.0; called = x.1; is = x.2; at = x.3; floor = floor }
+
+  -- a seat that went out by one call
+  pub gone : (a : Holder) (call : Event) (to : Home) (peeks : ℕ) (p : Token) → Releases call → HasReleased k o a call Waiter to peeks p
+      → HasGoneBy k o a (call ∷ []) p
+  gone a call to peeks p releases r =
+      let one = released k o a call to peeks p releases r in
+      record { made = one.0 ∷ []; called = one.1; are = (one.2, tt); told = r.told }
+
+  pub left : (a : Holder) (to : Home) (peeks : ℕ) (p : Token) → HasReleased k o a (Leave a.me.seat Stay) Waiter to peeks p
+      → HasGoneBy k o a (Leave a.me.seat Stay ∷ []) p
+  left a to peeks p r = gone a (Leave a.me.seat Stay) to peeks p (λ x. (refl, refl, refl)) r
+
+  pub given_up : (a : Holder) (to : Home) (peeks : ℕ) (p : Token)
+      → HasReleased k o a (Leave a.me.seat Stay) Waiter to peeks p → a.me.setting.budget < length a.me.mine + 3
       → HasGivenUp k o a p
-  given_up a wish to peeks p r short = record {
+  given_up a to peeks p r short = record {
     short = short;
-    called = released k o a (Leave a.me.seat Stay) wish to peeks p r;
+    gone = left a to peeks p r;
     spent = let more = ap length r.mine ∙ length-append a.me.mine (with_next r.choice (Leave a.me.seat Stay) ∷ []) in
         let same = ap (λ s. s.budget) r.setting in omega arith;
-    told = r.told;
   }
 
   -- a signal and a leave
-  pub signalled_out : (a : Holder) (c : ℕ) (b : Holder) (wish : Pick) (to : Home) (peeks : ℕ) (p : Token)
-      → HasCalled (inside a) (inside b) (Signal a.me.seat c Stay ∷ [])
-      → HasReleased k o b (Leave b.me.seat Stay) wish to peeks p
+  pub signalled_out : (a : Holder) (c : ℕ) (b : Holder) (to : Home) (peeks : ℕ) (p : Token)
+      → ((d : Addition) × HasCalled (inside a) (inside b) (d ∷ []) × IsCall k o a.me.setting (Signal a.me.seat c Stay) d
+      × (d.before ≡ a.floor.history))
+      → HasReleased k o b (Leave b.me.seat Stay) Waiter to peeks p
       → HasGoneBy k o a (Signal a.me.seat c Stay ∷ Leave a.me.seat Stay ∷ []) p
-  signalled_out a c b wish to peeks p called r = record {
-    called = subst (λ (s : ℕ). HasCalled (inside a) (outside p) (Signal a.me.seat c Stay ∷ Leave s Stay ∷ [])) called.went.seat
-        (called_then (inside a) (inside b) (outside p) (Signal a.me.seat c Stay ∷ []) (Leave b.me.seat Stay ∷ []) called
-        (released k o b (Leave b.me.seat Stay) wish to peeks p r));
-    told = r.told;
-  }
+  signalled_out a c b to peeks p signal r =
+      let leave = released k o b (Leave b.me.seat Stay) to peeks p (λ x. (refl, refl, refl)) r in
+      let seat = signal.1.went.seat in let setting = signal.1.went.setting in
+      record {
+        made = signal.0 ∷ leave.0 ∷ [];
+        called = called_then (inside a) (inside b) (outside p) (signal.0 ∷ []) (leave.0 ∷ []) signal.1 leave.1;
+        are = (
+          signal.2,
+          (
+            subst (λ (s : ℕ). IsCall k o a.me.setting (Leave s Stay) leave.0) seat
+                (subst (λ (c : Setting). IsCall k o c (Leave b.me.seat Stay) leave.0) setting leave.2),
+            tt,
+          ),
+        );
+        told = r.told;
+      }

@@ -1,153 +1,197 @@
 -- How the steps of a seat make a longer way
-use Rattle.std.proofs.Common.{◌≡◌, ℕ, ◌+◌, List, [], ◌∷◌, ◌++◌, append-nil, append_assoc, refl, sym, ap, subst, ◌∙◌}
+use Rattle.std.proofs.Common.{◌≡◌, ℕ, false, Some, List, [], ◌∷◌, ◌++◌, append-nil, append_assoc, refl, sym, ap, subst, ◌∙◌}
 use Rattle.std.proofs.lemmas.Bool.{eqb-true}
 use Rattle.std.proofs.lemmas.Grind.{flat_map-append}
-use Rattle.monk_kinds.specs.declared.mode.Pick.{Pick}
+use Rattle.std.proofs.lemmas.List.{map-append}
+use Rattle.monk_kinds.specs.declared.mode.Pick.TheVariants.{Waiter}
 use Rattle.monk_kinds.specs.declared.mode.Rules.{Rules}
 use Rattle.monk_object.specs.Object.{Object}
-use Rattle.monk_object.specs.Runs.{Answered}
 use Rattle.monk_object.specs.declared.op.Op.{Op}
-use Rattle.monk_history.specs.Meaning.Acts.{act_of, acts_in}
+use Rattle.monk_history.specs.Meaning.Events.{next_of}
 use Rattle.monk_history.specs.Meaning.Legal.{IsLegal}
 use Rattle.monk_history.specs.Meaning.Monitor.{data_of}
-use Rattle.monk_history.specs.Meaning.Release.{with_next}
+use Rattle.monk_history.specs.Meaning.Release.{with_next, choice_of}
 use Rattle.monk_history.specs.Meaning.Turn.{turn}
 use Rattle.monk_history.specs.declared.event.Event.{Event}
-use Rattle.monk_history.specs.declared.event.Event.TheVariants.{Enter, Act, Leave, Wait, Signal, SignalLeave, Until, Resume}
+use Rattle.monk_history.specs.declared.event.Event.TheVariants.{Act}
 use Rattle.monk_history.specs.declared.event.Next.{Next}
 use Rattle.monk_history.specs.declared.event.Next.TheVariants.{Stay}
 use Rattle.monk_history.specs.declared.event.Turn.{Turn}
-use Rattle.monk_history.proofs.MeaningLaws.LegalLaws.{legal_last}
-use Rattle.monk_floor.specs.View.{monitor_of}
+use Rattle.monk_history.proofs.PublicLaws.Meaning.{legal_last}
+use Rattle.monk_floor.specs.View.{FloorView, monitor_of, stands_of}
 use Rattle.monk_world.specs.StepTable.{out_event}
 use Rattle.monk_world.specs.declared.home.Home.{Home}
 use Rattle.monk_world.specs.declared.source.Source.{Source}
 use Rattle.monk_world.specs.declared.source.Source.TheVariants.{Free, Granted, Called}
 use Rattle.monk_hall.specs.Changes.{source_from}
-use Rattle.monk_hall.specs.Calls.{HasEntered, HasReleased, HasStayed, HasDone}
+use Rattle.monk_hall.specs.Calls.{HasArrived, HasEntered, HasReleased, HasStayed, HasDone}
 use Rattle.monk_hall.specs.Floors.{StartsWith}
+use Rattle.monk_hall.specs.Layout.{floor_of}
 use Rattle.monk_hall.specs.Tokens.{Token, Holder}
-use Rattle.monk_samples.specs.Trails.{Trail, Went, HasCalled, HasActed, call_in, calls_in, inside, outside}
+use Rattle.monk_samples.specs.Asked.{IsCall}
+use Rattle.monk_samples.specs.Trails.{Trail, Addition, Went, HasCalled, AreBetween, after, call_in, calls_in}
+use Rattle.monk_samples.specs.Trails.{events_in, inside, outside, is_coming}
+
+starts_here : (a : List Event) → StartsWith a a
+starts_here a = ([], sym (append-nil a))
 
 starts_then : (a b c : List Event) → StartsWith b a → StartsWith c b → StartsWith c a
 starts_then a b c s t = (s.0 ++ t.0, t.1 ∙ (ap (λ h. h ++ t.0) s.1 ∙ append_assoc a s.0 t.0))
 
-pub went_nowhere : (x : Trail) → Went x x []
-went_nowhere x = record { hall = refl; seat = refl; setting = refl; seen = ([], sym (append-nil x.seen)); mine = sym (append-nil x.mine) }
+between_since : (a b c : List Event) (own : List Addition) → StartsWith b a → AreBetween b c own → AreBetween a c own
+between_since a b c [] s t = starts_then a b c s t
+between_since a b c (d ∷ own) s t = (starts_then a b d.before s t.0, t.1)
 
-pub went_then : (x y z : Trail) (a b : List Event) → Went x y a → Went y z b → Went x z (a ++ b)
+between_then : (a b c : List Event) (own more : List Addition) → AreBetween a b own → AreBetween b c more → AreBetween a c (own ++ more)
+between_then a b c [] more s t = between_since a b c more s t
+between_then a b c (d ∷ own) more s t = (s.0, between_then (after d) b c own more s.1 t)
+
+went_nowhere : (x : Trail) → Went x x []
+went_nowhere x = record { hall = refl; seat = refl; setting = refl; seen = starts_here x.seen; mine = sym (append-nil x.mine) }
+
+went_then : (x y z : Trail) (a b : List Addition) → Went x y a → Went y z b → Went x z (a ++ b)
 went_then x y z a b s t = record {
   hall = t.hall ∙ s.hall;
   seat = t.seat ∙ s.seat;
   setting = t.setting ∙ s.setting;
-  seen = starts_then x.seen y.seen z.seen s.seen t.seen;
-  mine = t.mine ∙ (ap (λ h. h ++ b) s.mine ∙ append_assoc x.mine a b);
+  seen = between_then x.seen y.seen z.seen a b s.seen t.seen;
+  mine = t.mine ∙ ap (λ h. h ++ events_in b) s.mine ∙ append_assoc x.mine (events_in a) (events_in b)
+      ∙ ap (λ es. x.mine ++ es) (sym (map-append (λ (d : Addition). d.event) a b));
 }
 
-pub called_then : (x y z : Trail) (cs ds : List Event) → HasCalled x y cs → HasCalled y z ds → HasCalled x z (cs ++ ds)
+pub called_none : (x : Trail) → HasCalled x x []
+called_none x = record { own = []; went = went_nowhere x; called = refl }
+
+pub called_then : (x y z : Trail) (cs ds : List Addition) → HasCalled x y cs → HasCalled y z ds → HasCalled x z (cs ++ ds)
 called_then x y z cs ds s t = record {
   own = s.own ++ t.own;
   went = went_then x y z s.own t.own s.went t.went;
   called = flat_map-append call_in s.own t.own ∙ (λ i. s.called i ++ t.called i);
 }
 
-pub acted_then : (x y z : Trail) (cs ds : List Answered) → HasActed x y cs → HasActed y z ds → HasActed x z (cs ++ ds)
-acted_then x y z cs ds s t = record {
-  own = s.own ++ t.own;
-  went = went_then x y z s.own t.own s.went t.went;
-  acted = flat_map-append act_of s.own t.own ∙ (λ i. s.acted i ++ t.acted i);
-}
+-- the seat and the setting stay
+pub same_seat : (x y : Trail) (cs : List Addition) → HasCalled x y cs → y.seat ≡ x.seat
+same_seat x y cs s = s.went.seat
 
-pub acted_none : (x : Trail) → HasActed x x []
-acted_none x = record { own = []; went = went_nowhere x; acted = refl }
+pub same_setting : (x y : Trail) (cs : List Addition) → HasCalled x y cs → y.setting ≡ x.setting
+same_setting x y cs s = s.went.setting
 
-call_acts : (e : Event) → acts_in (call_in e) ≡ act_of e
-call_acts (Enter s via) = refl
-call_acts (Act s op r) = refl
-call_acts (Leave s x) = refl
-call_acts (Wait s c x) = refl
-call_acts (Signal s c x) = refl
-call_acts (SignalLeave s c x) = refl
-call_acts (Until s p x) = refl
-call_acts (Resume s q) = refl
+-- one event more, of the active seat
+one_added : (h : List Event) (e : Event) (to : List Event) → to ≡ h ++ e ∷ []
+    → AreBetween h to (record { before = h; event = e } ∷ [])
+one_added h e to is = (starts_here h, ([], is ∙ sym (append-nil (h ++ e ∷ []))))
 
-calls_acts : (own : List Event) → acts_in (calls_in own) ≡ acts_in own
-calls_acts [] = refl
-calls_acts (e ∷ es) = flat_map-append act_of (call_in e) (calls_in es) ∙ (λ i. call_acts e i ++ calls_acts es i)
+out_calls : (h : List Event) (i : ℕ) (q : Source) (u : Turn)
+    → calls_in (record { before = h; event = out_event i q u } ∷ []) ≡ []
+out_calls h i (Free t) u = refl
+out_calls h i (Granted t) u = refl
+out_calls h i Called u = refl
 
--- what a seat did is among what it called
-pub acted_by : (x y : Trail) (cs : List Event) → HasCalled x y cs → HasActed x y (acts_in cs)
-acted_by x y cs s = record { own = s.own; went = s.went; acted = sym (calls_acts s.own) ∙ ap acts_in s.called }
+-- a call that releases is no coming, asks for itself, and chooses what it is written with
+abbrev pub Releases : Event → Type 0
+Releases call = (x : Next) → (is_coming (with_next x call) ≡ false) × (with_next Stay (with_next x call) ≡ call)
+    × (next_of (with_next x call) ≡ Some x)
 
-out_calls : (i : ℕ) (q : Source) (u : Turn) → call_in (out_event i q u) ++ [] ≡ []
-out_calls i (Free t) u = refl
-out_calls i (Granted t) u = refl
-out_calls i Called u = refl
-
-next_calls : (x : Next) (e : Event) → call_in (with_next x e) ++ [] ≡ call_in e ++ []
-next_calls x (Enter s via) = refl
-next_calls x (Act s op r) = refl
-next_calls x (Leave s y) = refl
-next_calls x (Wait s c y) = refl
-next_calls x (Signal s c y) = refl
-next_calls x (SignalLeave s c y) = refl
-next_calls x (Until s p y) = refl
-next_calls x (Resume s q) = refl
+no_coming : (d : Addition) → is_coming d.event ≡ false → calls_in (d ∷ []) ≡ d ∷ []
+no_coming d e = rw e refl
 
 module _ (k : Rules) (o : Object) where
   -- to come in is no call
   pub came : (p : Token) (a : Holder) → HasEntered k o p a → HasCalled (outside p) (inside a) []
-  came p a e = let own = out_event p.me.seat (source_from p.me.place) (turn a.me.seen) ∷ [] in record {
-    own = own;
-    went = record {
-      hall = e.hall;
-      seat = e.seat;
-      setting = e.setting;
-      seen = starts_then p.me.seen a.me.seen a.floor.history e.starts (own, ap (λ f. f.history) e.floor);
-      mine = e.mine;
-    };
-    called = out_calls p.me.seat (source_from p.me.place) (turn a.me.seen);
-  }
+  came p a e = let event = out_event p.me.seat (source_from p.me.place) (turn a.me.seen) in
+      let own : List Addition = record { before = a.me.seen; event = event } ∷ [] in record {
+        own = own;
+        went = record {
+          hall = e.hall;
+          seat = e.seat;
+          setting = e.setting;
+          seen = between_since p.me.seen a.me.seen a.floor.history own e.starts
+              (one_added a.me.seen event a.floor.history (ap (λ (f : FloorView). f.history) e.floor));
+          mine = e.mine;
+        };
+        called = out_calls a.me.seen p.me.seat (source_from p.me.place) (turn a.me.seen);
+      }
 
-  -- a release is its call
-  pub released : (a : Holder) (call : Event) (wish : Pick) (to : Home) (peeks : ℕ) (p : Token)
-      → HasReleased k o a call wish to peeks p → HasCalled (inside a) (outside p) (call_in call ++ [])
-  released a call wish to peeks p r = record {
-    own = with_next r.choice call ∷ [];
-    went = record { hall = r.hall; seat = r.seat; setting = r.setting; seen = (with_next r.choice call ∷ [], r.seen); mine = r.mine };
-    called = next_calls r.choice call;
-  }
+  -- nor is to arrive first
+  pub arrived : (p q : Token) (a : Holder) → HasArrived k o p q → HasEntered k o q a → HasCalled (outside p) (inside a) []
+  arrived p q a h e = subst (λ (x : Trail). HasCalled x (inside a) []) same (came q a e)
+    where
+      same : outside q ≡ outside p
+      same i = record {
+        hall = h.hall i;
+        seat = (h.me i).seat;
+        setting = (h.me i).setting;
+        seen = (h.me i).seen;
+        mine = (h.me i).mine;
+      }
 
-  pub stayed : (a : Holder) (call : Event) (wish : Pick) (peeks : ℕ) (b : Holder) → HasStayed k o a call wish peeks b
-      → HasCalled (inside a) (inside b) (call_in call ++ [])
-  stayed a call wish peeks b s = let own = with_next Stay call ∷ [] in record {
-    own = own;
-    went = record {
-      hall = ap (λ h. h.hall) s.is;
-      seat = ap (λ h. h.me.seat) s.is;
-      setting =
-          ap (λ h. h.me.setting) s.is;
-      seen = (own, ap (λ h. h.floor.history) s.is);
-      mine = ap (λ h. h.me.mine) s.is;
-    };
-    called = next_calls Stay call;
+  -- the choice that a release made, of the hall's setting
+  wished : (a : Holder) (call : Event) (x : Next) → Releases call → a.floor ≡ floor_of a.me.setting a.floor.history
+      → x ≡ choice_of k o (stands_of k o a.floor) call false Waiter
+      → IsCall k o a.me.setting call (record { before = a.floor.history; event = with_next x call })
+  wished a call x releases floor chosen = record {
+    asks = (releases x).1;
+    wishes = λ y is. some_is y x (sym is ∙ (releases x).2) ∙ chosen
+        ∙ ap (λ (f : FloorView). choice_of k o (stands_of k o f) call false Waiter) floor
+        ∙ ap (λ e. choice_of k o (stands_of k o (floor_of a.me.setting a.floor.history)) e false Waiter) (sym (releases x).1);
   }
+    where
+      some_is : (y z : Next) → Some y ≡ Some z → y ≡ z
+      some_is y z e = cc
 
-  -- an operation is one act, with the object's reply
+  -- a release is one call
+  pub released : (a : Holder) (call : Event) (to : Home) (peeks : ℕ) (p : Token) → Releases call
+      → HasReleased k o a call Waiter to peeks p
+      → (d : Addition) × HasCalled (inside a) (outside p) (d ∷ []) × IsCall k o a.me.setting call d × (d.before ≡ a.floor.history)
+  released a call to peeks p releases r = let d : Addition = record { before = a.floor.history; event = with_next r.choice call } in (
+    d,
+    record {
+      own = d ∷ [];
+      went = record {
+        hall = r.hall;
+        seat = r.seat;
+        setting = r.setting;
+        seen = one_added a.floor.history (with_next r.choice call) p.me.seen r.seen;
+        mine = r.mine;
+      };
+      called = no_coming d (releases r.choice).0;
+    },
+    wished a call r.choice releases r.floor r.chosen,
+    refl,
+  )
+
+  pub stayed : (a : Holder) (call : Event) (peeks : ℕ) (b : Holder) → Releases call → HasStayed k o a call Waiter peeks b
+      → (d : Addition) × HasCalled (inside a) (inside b) (d ∷ []) × IsCall k o a.me.setting call d × (d.before ≡ a.floor.history)
+  stayed a call peeks b releases s = let d : Addition = record { before = a.floor.history; event = with_next Stay call } in (
+    d,
+    record {
+      own = d ∷ [];
+      went = record {
+        hall = ap (λ h. h.hall) s.is;
+        seat = ap (λ h. h.me.seat) s.is;
+        setting = ap (λ h. h.me.setting) s.is;
+        seen = one_added a.floor.history (with_next Stay call) b.floor.history (ap (λ h. h.floor.history) s.is);
+        mine = ap (λ h. h.me.mine) s.is;
+      };
+      called = no_coming d (releases Stay).0;
+    },
+    wished a call Stay releases s.floor s.chosen,
+    refl,
+  )
+
+  -- an operation is one call
   pub did : (a : Holder) (s : ℕ) (op : Op) (r : ℕ) (b : Holder) → HasDone k o a (Act s op r) b
-      → HasActed (inside a) (inside b) (record { op = op; reply = r } ∷ [])
+      → HasCalled (inside a) (inside b) (record { before = a.floor.history; event = Act s op r } ∷ [])
   did a s op r b d = record {
-    own = Act s op r ∷ [];
+    own = record { before = a.floor.history; event = Act s op r } ∷ [];
     went = record {
       hall = ap (λ h. h.hall) d.is;
       seat = ap (λ h. h.me.seat) d.is;
-      setting =
-          ap (λ h. h.me.setting) d.is;
-      seen = (Act s op r ∷ [], ap (λ h. h.floor.history) d.is);
-      mine =
-          ap (λ h. h.me.mine) d.is;
+      setting = ap (λ h. h.me.setting) d.is;
+      seen = one_added a.floor.history (Act s op r) b.floor.history (ap (λ h. h.floor.history) d.is);
+      mine = ap (λ h. h.me.mine) d.is;
     };
-    acted = refl;
+    called = refl;
   }
 
   pub replied : (a : Holder) (s : ℕ) (op : Op) (r : ℕ) (b : Holder) → HasDone k o a (Act s op r) b

@@ -1,177 +1,364 @@
 -- What a visit of a member comes to
-use Rattle.std.proofs.Common.{◌≡◌, ℕ, zero, suc, ◌+◌, Bool, true, false, cond, List, [], ◌∷◌, ◌++◌, length, take}
-use Rattle.std.proofs.Common.{append-nil, zero-add, refl, sym, ap, subst, ◌∙◌, arith}
-use Rattle.monk_kinds.specs.declared.mode.Pick.{Pick}
+use Rattle.std.proofs.Common.{◌≡◌, ℕ, ◌+◌, Bool, true, false, cond, Option, Some, None, List, [], ◌∷◌, ◌++◌}
+use Rattle.std.proofs.Common.{append-nil, append_assoc}
+use Rattle.std.proofs.Common.{refl, sym, ap, subst, ◌∙◌, inl, inr}
+use Rattle.std.proofs.lemmas.Grind.{flat_map-append}
+use Rattle.std.proofs.lemmas.List.{map-append}
 use Rattle.monk_kinds.specs.declared.mode.Rules.{Rules}
 use Rattle.monk_object.specs.Object.{Object}
-use Rattle.monk_object.specs.Runs.{Answered}
-use Rattle.monk_history.specs.Meaning.Acts.{acts_in}
+use Rattle.monk_object.specs.declared.op.Op.{Op}
+use Rattle.monk_history.specs.Meaning.Acts.{act_of, acts_in}
 use Rattle.monk_history.specs.Meaning.Events.{has_conditions, has_signaller_queue, returns_at_once}
+use Rattle.monk_history.specs.Meaning.Monitor.{data_of}
+use Rattle.monk_history.specs.Meaning.Release.{with_next}
 use Rattle.monk_history.specs.declared.event.Event.{Event}
-use Rattle.monk_history.specs.declared.event.Event.TheVariants.{Leave, Wait, Signal, SignalLeave, Until}
+use Rattle.monk_history.specs.declared.event.Event.TheVariants.{Enter, Act, Leave, Wait, Signal, SignalLeave, Until, Resume}
 use Rattle.monk_history.specs.declared.event.Next.TheVariants.{Stay}
-use Rattle.monk_world.specs.declared.home.Home.{Home}
-use Rattle.monk_hall.specs.Calls.{HasReleased}
+use Rattle.monk_floor.specs.View.{monitor_of}
+use Rattle.monk_world.specs.State.{with_event}
+use Rattle.monk_hall.specs.Calls.{HasDone}
+use Rattle.monk_hall.specs.Layout.{floor_of}
 use Rattle.monk_hall.specs.Tells.{SeesTruly}
 use Rattle.monk_hall.specs.Tokens.{Token, Holder}
+use Rattle.monk_hall.specs.declared.setting.Setting.{Setting}
+use Rattle.monk_samples.specs.Asked.{AreCalls, IsCall}
 use Rattle.monk_samples.specs.Styles.{HasFinished, HasGivenUp, HasPaused, IsSpent, pause_call, way_out}
-use Rattle.monk_samples.specs.Trails.{Trail, HasActed, inside, outside}
-use Rattle.monk_samples.specs.Visits.{Duty, AreActsOf, AreActsBy, HasVisited, HasTired, HasLeftTired}
+use Rattle.monk_samples.specs.Trails.{Addition, Trail, HasCalled, events_in, inside, outside}
+use Rattle.monk_samples.specs.Visits.{Wanted, Plan, ArePauses, HasPausedFor, IsCertain, IsLeftWaiting}
+use Rattle.monk_samples.specs.Visits.{IsUnready, AreVisits, HasVisited, HasTired, HasStayedOut, HasPausedUntil, HasActed}
+use Rattle.monk_samples.specs.Visits.{calls_out, data_after}
 use Rattle.monk_samples.specs.declared.end.End.{End}
 use Rattle.monk_samples.specs.declared.end.End.TheVariants.{Done, Tired, Late}
-use Rattle.monk_samples.proofs.TrailLaws.{acted_then, acted_by, released}
-
--- a way out does no operation
-out_acts : (b d : Bool) (s c : ℕ)
-    → acts_in (cond b (Signal s c Stay ∷ Leave s Stay ∷ []) (cond d (SignalLeave s c Stay ∷ []) (Leave s Stay ∷ [])))
-    ≡ []
-out_acts true d s c = refl
-out_acts false true s c = refl
-out_acts false false s c = refl
-
--- nor does a pause
-pause_acts : (b : Bool) (s c p : ℕ) → acts_in (cond b (Wait s c Stay) (Until s p Stay) ∷ []) ≡ []
-pause_acts true s c p = refl
-pause_acts false s c p = refl
-
-take_all : (ts : List Duty) → take (length ts) ts ≡ ts
-take_all [] = refl
-take_all (t ∷ ts) = ap (λ us. t ∷ us) (take_all ts)
-
-take_past : (ts us : List Duty) (n m : ℕ) → m ≡ length ts + n → take m (ts ++ us) ≡ ts ++ take n us
-take_past [] us n m e = ap (λ i. take i us) (e ∙ zero-add n)
-take_past (t ∷ ts) us n zero e = absurd (omega arith)
-take_past (t ∷ ts) us n (suc m) e = ap (λ xs. t ∷ xs) (take_past ts us n m (omega arith))
-
-acts_append : (ts us : List Duty) (xs ys : List Answered) → AreActsOf ts xs → AreActsOf us ys → AreActsOf (ts ++ us) (xs ++ ys)
-acts_append [] us [] ys h k = k
-acts_append [] us (x ∷ xs) ys h k = absurd h
-acts_append (t ∷ ts) us [] ys h k = absurd h
-acts_append (t ∷ ts) us (x ∷ xs) ys h k = (h.0, h.1, acts_append ts us xs ys h.2 k)
-
--- the first few of some duties are the first few of more
-first_few : (ts us : List Duty) (few : ℕ) (xs : List Answered) → AreActsOf (take few ts) xs → AreActsOf (take (length xs) (ts ++ us)) xs
-first_few ts us zero [] h = tt
-first_few ts us zero (x ∷ xs) h = absurd h
-first_few [] us (suc n) [] h = tt
-first_few [] us (suc n) (x ∷ xs) h = absurd h
-first_few (t ∷ ts) us (suc n) [] h = absurd h
-first_few (t ∷ ts) us (suc n) (x ∷ xs) h = (h.0, h.1, first_few ts us n xs h.2)
+use Rattle.monk_samples.proofs.TrailLaws.{called_none, called_then, did, replied}
 
 module _ (k : Rules) (o : Object) where
-  pub then_nothing : (x y z : Trail) (acts : List Answered) → HasActed x y acts → HasActed y z [] → HasActed x z acts
-  then_nothing x y z acts s t = subst (λ (xs : List Answered). HasActed x z xs) (append-nil acts) (acted_then x y z acts [] s t)
+  pauses_then : (c : Setting) (s cond pred : ℕ) (xs ys : List Addition) → ArePauses k o c s cond pred xs → ArePauses k o c s cond pred ys
+      → ArePauses k o c s cond pred (xs ++ ys)
+  pauses_then c s cond pred [] ys h t = t
+  pauses_then c s cond pred (d ∷ xs) ys h t = (h.0, h.1, pauses_then c s cond pred xs ys h.2 t)
 
-  pub finished_acts : (a : Holder) (c : ℕ) (q : Token) (end : End) → HasFinished k o a (way_out k a.me.seat c) q end
-      → HasActed (inside a) (outside q) []
-  finished_acts a c q Done out =
-      subst (λ (xs : List Answered). HasActed (inside a) (outside q) xs)
-      (out_acts (has_signaller_queue k.mode) (returns_at_once k.mode) a.me.seat c)
-      (acted_by (inside a) (outside q) (way_out k a.me.seat c) out.called)
-  finished_acts a c q Tired out = acted_by (inside a) (outside q) (Leave a.me.seat Stay ∷ []) out.1.called
-  finished_acts a c q Late out = absurd out
+  paused_for_then : (c : Setting) (s : ℕ) (w : Option Wanted) (xs ys : List Addition) → HasPausedFor k o c s w xs
+      → HasPausedFor k o c s w ys
+      → HasPausedFor k o c s w (xs ++ ys)
+  paused_for_then c s None xs ys h t = (λ i. h i ++ t i)
+  paused_for_then c s (Some w) xs ys h t = pauses_then c s w.cond w.pred xs ys h t
 
-  pub finished_made : (a : Holder) (calls : List Event) (q : Token) (end : End) (ts : List Duty) (acts : List Answered)
-      → HasFinished k o a calls q end → AreActsOf ts acts → AreActsBy end ts acts
-  finished_made a calls q Done ts acts out made = made
-  finished_made a calls q Tired ts acts out made = (length ts, subst (λ (us : List Duty). AreActsOf us acts) (sym (take_all ts)) made)
-  finished_made a calls q Late ts acts out made = absurd out
+  paused_for_none : (c : Setting) (s : ℕ) (w : Option Wanted) → HasPausedFor k o c s w []
+  paused_for_none c s None = refl
+  paused_for_none c s (Some w) = tt
 
-  pub finished_spent : (a : Holder) (calls : List Event) (q : Token) (end : End) → HasFinished k o a calls q end → end ≡ Tired → IsSpent q
-  finished_spent a calls q Done out e = cc
-  finished_spent a calls q Tired out e = out.1.spent
-  finished_spent a calls q Late out e = absurd out
+  -- a seat that is active has yet to pause
+  pub paused_none : (x : Trail) (w : Option Wanted) (a : Holder) → HasCalled x (inside a) [] → HasPausedUntil k o x w a
+  paused_none x w a called = record { pauses = []; called = called; paused = paused_for_none x.setting x.seat w }
 
-  pub finished_told : (a : Holder) (calls : List Event) (q : Token) (end : End) → HasFinished k o a calls q end → SeesTruly k o q.me
-  finished_told a calls q Done out = out.told
-  finished_told a calls q Tired out = out.1.told
-  finished_told a calls q Late out = absurd out
-
-  -- a visit that did its duties and went out
-  abbrev pub visited : (p : Token) (a : Holder) (c : ℕ) (q : Token) (end : End) (ts : List Duty) (acts : List Answered)
-      → HasActed (outside p) (inside a) acts → AreActsOf ts acts → HasFinished k o a (way_out k a.me.seat c) q end
-      → HasVisited k o p ts q end
-  visited p a c q end ts acts s made out = record {
-    acts = acts;
-    acted = then_nothing (outside p) (inside a) (outside q) acts s (finished_acts a c q end out);
-    made = finished_made a (way_out k a.me.seat c) q end ts acts out made;
-    spent = finished_spent a (way_out k a.me.seat c) q end out;
-    told = λ h. finished_told a (way_out k a.me.seat c) q end out;
+  pub paused_then : (x : Trail) (w : Option Wanted) (a b : Holder) → HasPausedUntil k o x w a → HasPausedUntil k o (inside a) w b
+      → HasPausedUntil k o x w b
+  paused_then x w a b s t = let seat = s.called.went.seat in let setting = s.called.went.setting in record {
+    pauses = s.pauses ++ t.pauses;
+    called = called_then x (inside a) (inside b) s.pauses t.pauses s.called t.called;
+    paused = paused_for_then x.setting x.seat w s.pauses t.pauses s.paused (rw (seat, setting) at t.paused);
   }
 
-  -- a visit that did its duties and left
-  pub visited_left : (p : Token) (a : Holder) (wish : Pick) (to : Home) (peeks : ℕ) (q : Token) (ts : List Duty)
-      (acts : List Answered) → HasActed (outside p) (inside a) acts → AreActsOf ts acts
-      → HasReleased k o a (Leave a.me.seat Stay) wish to peeks q → HasVisited k o p ts q Done
-  visited_left p a wish to peeks q ts acts s made r = record {
-    acts = acts;
-    acted = then_nothing (outside p) (inside a) (outside q) acts s
-        (acted_by (inside a) (outside q) (Leave a.me.seat Stay ∷ [])
-        (released k o a (Leave a.me.seat Stay) wish to peeks q r));
-    made = made;
-    spent = λ e. cc;
-    told = λ h. r.told;
+  -- one pause more, while the predicate was false
+  pub paused_once : (x : Trail) (w : Wanted) (a b : Holder) → HasPausedUntil k o x (Some w) a
+      → HasPaused k o a (pause_call k a.me.seat w.cond w.pred) b
+      → o.holds (data_of (monitor_of k o a.floor) a.floor.history) w.pred ≡ false → HasPausedUntil k o x (Some w) b
+  paused_once x w a b s t not_yet = paused_then x (Some w) a b s record {
+    pauses = t.pause ∷ [];
+    called = t.called;
+    paused = (
+      t.is,
+      ap (λ h. o.holds (data_after k o a.me.setting h) w.pred) t.at
+          ∙ sym (ap (λ f. o.holds (data_of (monitor_of k o f) a.floor.history) w.pred) t.floor) ∙ not_yet,
+      tt,
+    );
   }
 
-  -- a pause does no operation
-  pub paused_acted : (a : Holder) (s c p : ℕ) (b : Holder) → HasPaused a (pause_call k s c p) b → HasActed (inside a) (inside b) []
-  paused_acted a s c p b h =
-      subst (λ (xs : List Answered). HasActed (inside a) (inside b) xs) (pause_acts (has_conditions k.mode) s c p)
-      (acted_by (inside a) (inside b) (pause_call k s c p ∷ []) h.called)
+  -- the active seat acted
+  pub acted_now : (a : Holder) (op : Op) (reply : ℕ) (b : Holder) → HasDone k o a (Act a.me.seat op reply) b
+      → a.floor ≡ floor_of a.me.setting a.floor.history → HasActed k o (inside a) None op reply b
+  acted_now a op reply b done floor = record {
+    pauses = [];
+    act = record { before = a.floor.history; event = Act a.me.seat op reply };
+    called = did k o a a.me.seat op reply b done;
+    paused = refl;
+    acts = record {
+      is = refl;
+      replied = replied k o a a.me.seat op reply b done
+          ∙ ap (λ f. o.reply (data_of (monitor_of k o f) a.floor.history) op) floor;
+    };
+    last = ap (λ (h : Holder). h.floor.history) done.is;
+    floor = ap (λ (h : Holder). h.floor) done.is ∙ ap (λ f. with_event f (Act a.me.seat op reply)) floor
+        ∙ ap (λ (h : Holder). floor_of a.me.setting h.floor.history) (sym done.is);
+  }
 
-  -- a visit that was tired before it did anything
-  abbrev pub tired_before : (p q : Token) (ts : List Duty) → HasTired k o p q → HasVisited k o p ts q Tired
-  tired_before p q ts s = record { acts = []; acted = s.acted; made = (0, tt); spent = λ e. s.spent; told = s.told }
+  -- a seat that paused, and left in place of what was next
+  pub left_after : (x : Trail) (w : Option Wanted) (a : Holder) (q : Token) → HasPausedUntil k o x w a
+      → HasGivenUp k o a q → HasTired k o x (IsLeftWaiting k o x.setting x.seat w) q
+  left_after x w a q s t = left_by x w a q s t.gone.made t.gone.called t.gone.are t.spent t.gone.told
+    where
+      left_by : (x : Trail) (w : Option Wanted) (a : Holder) (q : Token) → HasPausedUntil k o x w a → (made : List Addition)
+          → HasCalled (inside a) (outside q) made → AreCalls k o a.me.setting (Leave a.me.seat Stay ∷ []) made → IsSpent q
+          → SeesTruly k o q.me
+          → HasTired k o x (IsLeftWaiting k o x.setting x.seat w) q
+      left_by x w a q s [] called are spent told = absurd are
+      left_by x w a q s (d ∷ []) called are spent told =
+          let seat = s.called.went.seat in let setting = s.called.went.setting in record {
+            calls = s.pauses ++ d ∷ [];
+            called = called_then x (inside a) (outside q) s.pauses (d ∷ []) s.called called;
+            are = record { pauses = s.pauses; leave = d; are = refl; paused = s.paused; leaves = rw (seat, setting) at are.0 };
+            spent = spent;
+            told = told;
+          }
+      left_by x w a q s (d ∷ e ∷ ds) called are spent told = absurd are.1
 
-  -- tired inside
-  pub tired_inside : (p : Token) (a : Holder) (q : Token) → HasActed (outside p) (inside a) [] → HasLeftTired k o a q → HasTired k o p q
-  tired_inside p a q s t =
-      record {
-        acted = acted_then (outside p) (inside a) (outside q) [] [] s t.acted;
-        spent = t.spent;
-        told =
-            λ h. t.told;
-      }
-
-  pub gave_up_tired : (a b : Holder) (q : Token) → HasActed (inside a) (inside b) [] → HasGivenUp k o b q → HasLeftTired k o a q
-  gave_up_tired a b q s t = record {
-    acted = acted_then (inside a) (inside b) (outside q) [] [] s (acted_by (inside b) (outside q) (Leave b.me.seat Stay ∷ []) t.called);
+  -- a seat that paused, and was tired before it was done with pausing
+  pub tired_after : (x : Trail) (w : Option Wanted) (a : Holder) (q : Token) → HasPausedUntil k o x w a
+      → HasTired k o (inside a) (IsLeftWaiting k o a.me.setting a.me.seat w) q → HasTired k o x (IsLeftWaiting k o x.setting x.seat w) q
+  tired_after x w a q s t = let seat = s.called.went.seat in let setting = s.called.went.setting in record {
+    calls = s.pauses ++ t.calls;
+    called = called_then x (inside a) (outside q) s.pauses t.calls s.called t.called;
+    are = record {
+      pauses = s.pauses ++ t.are.pauses;
+      leave = t.are.leave;
+      are = ap (λ ds. s.pauses ++ ds) t.are.are ∙ sym (append_assoc s.pauses t.are.pauses (t.are.leave ∷ []));
+      paused = paused_for_then x.setting x.seat w s.pauses t.are.pauses s.paused (rw (seat, setting) at t.are.paused);
+      leaves = rw (seat, setting) at t.are.leaves;
+    };
     spent = t.spent;
     told = t.told;
   }
 
-  join_made : (end : End) (ts us : List Duty) (xs ys : List Answered) → AreActsOf ts xs → AreActsBy end us ys
-      → AreActsBy end (ts ++ us) (xs ++ ys)
-  join_made Done ts us xs ys h m = acts_append ts us xs ys h m
-  join_made Tired ts us xs ys h m = (
-    length ts + m.0,
-    subst (λ (ds : List Duty). AreActsOf ds (xs ++ ys))
-        (sym (take_past ts us m.0 (length ts + m.0) refl)) (acts_append ts (take m.0 us) xs ys h m.1),
-  )
-  join_made Late ts us xs ys h m = absurd m
+  -- what is left in place of an operation for which nothing more was to be waited
+  pub tired_inside : (x : Trail) (w : Option Wanted) (a : Holder) (q : Token) → HasPausedUntil k o x w a
+      → HasTired k o (inside a) (IsLeftWaiting k o a.me.setting a.me.seat None) q → HasTired k o x (IsLeftWaiting k o x.setting x.seat w) q
+  tired_inside x w a q s t = tired_after x w a q s record {
+    calls = t.calls;
+    called = t.called;
+    are = record {
+      pauses = t.are.pauses;
+      leave = t.are.leave;
+      are = t.are.are;
+      paused = subst (λ ds. HasPausedFor k o a.me.setting a.me.seat w ds) (sym t.are.paused) (paused_for_none a.me.setting a.me.seat w);
+      leaves = t.are.leaves;
+    };
+    spent = t.spent;
+    told = t.told;
+  }
+
+  -- it came in and was tired then, or did not come in
+  pub unready : (x : Trail) (w : Option Wanted) (q : Token) → HasTired k o x (IsLeftWaiting k o x.setting x.seat w) q
+      → HasTired k o x (IsUnready k o x.setting x.seat w) q
+  unready x w q t = record { calls = t.calls; called = t.called; are = inr t.are; spent = t.spent; told = t.told }
+
+  pub stayed_out : (p q : Token) (w : Option Wanted) → HasStayedOut k o p q
+      → HasTired k o (outside p) (IsUnready k o p.me.setting p.me.seat w) q
+  stayed_out p q w t = record {
+    calls = [];
+    called = subst (λ (y : Token). HasCalled (outside p) (outside y) []) (sym t.same) (called_none (outside p));
+    are = inl refl;
+    spent = t.spent;
+    told = t.told;
+  }
+
+  -- a seat that paused, and acted
+  pub acted_after : (x : Trail) (w : Option Wanted) (op : Op) (reply : ℕ) (a b : Holder) → HasPausedUntil k o x w a
+      → HasActed k o (inside a) None op reply b → HasActed k o x w op reply b
+  acted_after x w op reply a b s t = let seat = s.called.went.seat in let setting = s.called.went.setting in record {
+    pauses = s.pauses;
+    act = t.act;
+    called = called_then x (inside a) (inside b) s.pauses (t.act ∷ []) s.called
+        (subst (λ ds. HasCalled (inside a) (inside b) (ds ++ t.act ∷ [])) t.paused t.called);
+    paused = s.paused;
+    acts = rw (seat, setting) at t.acts;
+    last = t.last;
+    floor = rw setting at t.floor;
+  }
+
+  -- a call that does no operation leaves none
+  next_acts : (e : Event) → act_of (with_next Stay e) ≡ act_of e
+  next_acts (Enter s via) = refl
+  next_acts (Act s op r) = refl
+  next_acts (Leave s x) = refl
+  next_acts (Wait s c x) = refl
+  next_acts (Signal s c x) = refl
+  next_acts (SignalLeave s c x) = refl
+  next_acts (Until s p x) = refl
+  next_acts (Resume s q) = refl
+
+  call_acts : (c : Setting) (e : Event) (d : Addition) → IsCall k o c e d → act_of d.event ≡ act_of e
+  call_acts c e d is = sym (next_acts d.event) ∙ ap act_of is.asks
+
+  calls_acts : (c : Setting) (es : List Event) (ds : List Addition) → AreCalls k o c es ds → acts_in (events_in ds) ≡ acts_in es
+  calls_acts c [] [] are = refl
+  calls_acts c [] (d ∷ ds) are = absurd are
+  calls_acts c (e ∷ es) [] are = absurd are
+  calls_acts c (e ∷ es) (d ∷ ds) are = (λ i. call_acts c e d are.0 i ++ calls_acts c es ds are.1 i)
+
+  pause_act : (b : Bool) (s c p : ℕ) → act_of (cond b (Wait s c Stay) (Until s p Stay)) ≡ []
+  pause_act true s c p = refl
+  pause_act false s c p = refl
+
+  pauses_acts : (c : Setting) (s cond pred : ℕ) (ds : List Addition) → ArePauses k o c s cond pred ds → acts_in (events_in ds) ≡ []
+  pauses_acts c s cond pred [] h = refl
+  pauses_acts c s cond pred (d ∷ ds) h =
+      (λ i. (call_acts c (pause_call k s cond pred) d h.0 ∙ pause_act (has_conditions k.mode) s cond pred) i
+      ++ pauses_acts c s cond pred ds h.2 i)
+
+  paused_acts : (c : Setting) (s : ℕ) (w : Option Wanted) (ds : List Addition) → HasPausedFor k o c s w ds → acts_in (events_in ds) ≡ []
+  paused_acts c s None ds h = ap (λ xs. acts_in (events_in xs)) h
+  paused_acts c s (Some w) ds h = pauses_acts c s w.cond w.pred ds h
+
+  out_acts : (b d : Bool) (s c : ℕ)
+      → acts_in (cond b (Signal s c Stay ∷ Leave s Stay ∷ []) (cond d (SignalLeave s c Stay ∷ []) (Leave s Stay ∷ []))) ≡ []
+  out_acts true d s c = refl
+  out_acts false true s c = refl
+  out_acts false false s c = refl
+
+  calls_out_acts : (s : ℕ) (signal : Option ℕ) → acts_in (calls_out k s signal) ≡ []
+  calls_out_acts s None = refl
+  calls_out_acts s (Some cond) = out_acts (has_signaller_queue k.mode) (returns_at_once k.mode) s cond
+
+  acts_append : (xs ys : List Addition) → acts_in (events_in (xs ++ ys)) ≡ acts_in (events_in xs) ++ acts_in (events_in ys)
+  acts_append xs ys = ap acts_in (map-append (λ (d : Addition). d.event) xs ys) ∙ flat_map-append act_of (events_in xs) (events_in ys)
+
+  -- of pauses, an operation, and a way out, the operation alone is one
+  one_act : (x : Trail) (w : Option Wanted) (op : Op) (reply : ℕ) (a : Holder) (s : HasActed k o x w op reply a)
+      → (c : Setting) (es : List Event) (made : List Addition) → AreCalls k o c es made → acts_in es ≡ []
+      → acts_in (events_in ((s.pauses ++ s.act ∷ []) ++ made)) ≡ record { op = op; reply = reply } ∷ []
+  one_act x w op reply a s c es made are none =
+      let paused = paused_acts x.setting x.seat w s.pauses s.paused in
+      let here : acts_in (events_in (s.pauses ++ s.act ∷ [])) ≡ record { op = op; reply = reply } ∷ [] =
+      acts_append s.pauses (s.act ∷ []) ∙ (λ i. paused i ++ acts_in (s.acts.is i ∷ [])) in
+      acts_append (s.pauses ++ s.act ∷ []) made ∙ (λ i. here i ++ (calls_acts c es made are ∙ none) i)
+
+  -- a way out by the one condition or the other
+  pub finished_by : (b : Bool) (m n next : ℕ) (a : Holder) (q : Token) (end : End) → (b ≡ true → next ≡ m) → (b ≡ false → next ≡ n)
+      → HasFinished k o a (way_out k a.me.seat next) q end
+      → HasFinished k o a (calls_out k a.me.seat (cond b (Some m) (Some n))) q end
+  finished_by true m n next a q end is_m is_n out =
+      subst (λ (c : ℕ). HasFinished k o a (way_out k a.me.seat c) q end) (is_m refl) out
+  finished_by false m n next a q end is_m is_n out =
+      subst (λ (c : ℕ). HasFinished k o a (way_out k a.me.seat c) q end) (is_n refl) out
+
+  -- a visit that acted and went out
+  pub visited_telling : (p : Token) (v : Plan) (reply : ℕ) (a : Holder) (q : Token) (end : End)
+      → HasActed k o (outside p) v.wanted v.op reply a → IsCertain v.wanted reply
+      → HasFinished k o a (calls_out k a.me.seat (v.signals a.floor.history)) q end
+      → (visit : HasVisited k o p (v ∷ []) q end) × (acts_in (events_in visit.calls) ≡ record { op = v.op; reply = reply } ∷ [])
+  visited_telling p v reply a q Done s certain out =
+      let seat = s.called.went.seat in let setting = s.called.went.setting in let calls = (s.pauses ++ s.act ∷ []) ++ out.made in (
+        record {
+          calls = calls;
+          called = called_then (outside p) (inside a) (outside q) (s.pauses ++ s.act ∷ []) out.made s.called out.called;
+          are = record {
+            first = calls;
+            rest = [];
+            are = sym (append-nil calls);
+            is_first = record {
+              pauses = s.pauses;
+              act = s.act;
+              out = out.made;
+              are = append_assoc s.pauses (s.act ∷ []) out.made;
+              done = record { paused = s.paused; reply = reply; acts = s.acts; certain = certain };
+              goes = rw (seat, setting, s.last) at out.are;
+            };
+            is_rest = refl;
+          };
+          spent = λ e. cc;
+          told = out.told;
+        },
+        one_act (outside p) v.wanted v.op reply a s a.me.setting (calls_out k a.me.seat (v.signals a.floor.history)) out.made out.are
+            (calls_out_acts a.me.seat (v.signals a.floor.history)),
+      )
+  visited_telling p v reply a q Tired s certain out = unsaid out.1.gone.made out.1.gone.called out.1.gone.are
+    where
+      unsaid : (made : List Addition) → HasCalled (inside a) (outside q) made
+          → AreCalls k o a.me.setting (Leave a.me.seat Stay ∷ []) made
+          → (visit : HasVisited k o p (v ∷ []) q Tired) × (acts_in (events_in visit.calls) ≡ record { op = v.op; reply = reply } ∷ [])
+      unsaid [] called are = absurd are
+      unsaid (d ∷ e ∷ ds) called are = absurd are.1
+      unsaid (d ∷ []) called are =
+          let seat = s.called.went.seat in let setting = s.called.went.setting in (
+            record {
+              calls = (s.pauses ++ s.act ∷ []) ++ d ∷ [];
+              called = called_then (outside p) (inside a) (outside q) (s.pauses ++ s.act ∷ []) (d ∷ []) s.called called;
+              are = inl (inr record {
+                pauses = s.pauses;
+                act = s.act;
+                leave = d;
+                are = append_assoc s.pauses (s.act ∷ []) (d ∷ []);
+                done = record { paused = s.paused; reply = reply; acts = s.acts; certain = certain };
+                leaves = rw (seat, setting) at are.0;
+              });
+              spent = λ e. out.1.spent;
+              told = out.1.gone.told;
+            },
+            one_act (outside p) v.wanted v.op reply a s a.me.setting (Leave a.me.seat Stay ∷ []) (d ∷ []) are refl,
+          )
+  visited_telling p v reply a q Late s certain out = absurd out
+
+  pub visited : (p : Token) (v : Plan) (reply : ℕ) (a : Holder) (q : Token) (end : End)
+      → HasActed k o (outside p) v.wanted v.op reply a → IsCertain v.wanted reply
+      → HasFinished k o a (calls_out k a.me.seat (v.signals a.floor.history)) q end → HasVisited k o p (v ∷ []) q end
+  visited p v reply a q end s certain out = (visited_telling p v reply a q end s certain out).0
+
+  -- a visit that was cut short
+  abbrev pub tired : (p : Token) (v : Plan) (q : Token) → HasTired k o (outside p) (IsUnready k o p.me.setting p.me.seat v.wanted) q
+      → HasVisited k o p (v ∷ []) q Tired
+  tired p v q t = record { calls = t.calls; called = t.called; are = inl (inl t.are); spent = λ e. t.spent; told = t.told }
+
+  -- it did no operation
+  pub tired_tells : (p : Token) (v : Plan) (q : Token) → (t : HasTired k o (outside p) (IsUnready k o p.me.setting p.me.seat v.wanted) q)
+      → acts_in (events_in t.calls) ≡ []
+  tired_tells p v q t = unready_acts t.calls t.are
+    where
+      unready_acts : (calls : List Addition) → IsUnready k o p.me.setting p.me.seat v.wanted calls → acts_in (events_in calls) ≡ []
+      unready_acts calls (inl none) = ap (λ ds. acts_in (events_in ds)) none
+      unready_acts calls (inr l) = ap (λ ds. acts_in (events_in ds)) l.are ∙ acts_append l.pauses (l.leave ∷ [])
+          ∙ (λ i. paused_acts p.me.setting p.me.seat v.wanted l.pauses l.paused i
+          ++ calls_acts p.me.setting (Leave p.me.seat Stay ∷ []) (l.leave ∷ []) (l.leaves, tt) i)
 
   -- two visits, the first of which was done
-  pub visited_twice : (p q r : Token) (end : End) (ts us : List Duty) → HasVisited k o p ts q Done
-      → HasVisited k o q us r end → HasVisited k o p (ts ++ us) r end
-  visited_twice p q r end ts us s t = record {
-    acts = s.acts ++ t.acts;
-    acted = acted_then (outside p) (outside q) (outside r) s.acts t.acts s.acted t.acted;
-    made = join_made end ts us s.acts t.acts s.made t.made;
+  pub visited_twice : (p q r : Token) (end : End) (v w : Plan) → HasVisited k o p (v ∷ []) q Done
+      → HasVisited k o q (w ∷ []) r end → HasVisited k o p (v ∷ w ∷ []) r end
+  visited_twice p q r Late v w s t = absurd t.are
+  visited_twice p q r Done v w s t = let seat = s.called.went.seat in let setting = s.called.went.setting in record {
+    calls = s.calls ++ t.calls;
+    called = called_then (outside p) (outside q) (outside r) s.calls t.calls s.called t.called;
+    are = record {
+      first = s.are.first;
+      rest = t.calls;
+      are = ap (λ ds. ds ++ t.calls) (s.are.are ∙ ap (λ ds. s.are.first ++ ds) s.are.is_rest ∙ append-nil s.are.first);
+      is_first = s.are.is_first;
+      is_rest = rw (seat, setting) at t.are;
+    };
     spent = t.spent;
-    told = λ h. t.told (s.told h);
+    told = t.told;
+  }
+  visited_twice p q r Tired v w s t = let seat = s.called.went.seat in let setting = s.called.went.setting in record {
+    calls = s.calls ++ t.calls;
+    called = called_then (outside p) (outside q) (outside r) s.calls t.calls s.called t.called;
+    are = inr record {
+      first = s.are.first;
+      rest = t.calls;
+      are = ap (λ ds. ds ++ t.calls) (s.are.are ∙ ap (λ ds. s.are.first ++ ds) s.are.is_rest ∙ append-nil s.are.first);
+      is_first = s.are.is_first;
+      is_rest = rw (seat, setting) at t.are;
+    };
+    spent = t.spent;
+    told = t.told;
   }
 
   -- a visit that was not done is not followed by another
-  pub visited_once : (p q : Token) (end : End) (ts us : List Duty) → (end ≡ Done → ⊥) → HasVisited k o p ts q end
-      → HasVisited k o p (ts ++ us) q end
-  visited_once p q Done ts us undone s = absurd (undone refl)
-  visited_once p q Tired ts us undone s =
-      record {
-        acts = s.acts;
-        acted = s.acted;
-        made = (length s.acts, first_few ts us s.made.0 s.acts s.made.1);
-        spent =
-            s.spent;
-        told = s.told;
-      }
-  visited_once p q Late ts us undone s = absurd s.made
+  pub visited_once : (p q : Token) (end : End) (v w : Plan) → (end ≡ Done → ⊥) → HasVisited k o p (v ∷ []) q end
+      → HasVisited k o p (v ∷ w ∷ []) q end
+  visited_once p q Done v w undone s = absurd (undone refl)
+  visited_once p q Tired v w undone s =
+      record { calls = s.calls; called = s.called; are = cut s.calls s.are; spent = s.spent; told = s.told }
+    where
+      cut : (calls : List Addition) → AreVisits k o p.me.setting p.me.seat Tired (v ∷ []) calls
+          → AreVisits k o p.me.setting p.me.seat Tired (v ∷ w ∷ []) calls
+      cut calls (inl short) = inl short
+      cut calls (inr then) = absurd then.is_rest
+  visited_once p q Late v w undone s = absurd s.are

@@ -1,7 +1,11 @@
 pub mod Trails
+pub mod Asked
 pub mod Styles
 pub mod Visits
+pub mod Members
 pub mod Tests
 pub mod Totals
 pub mod Samples
+pub mod Rounds
+pub mod Faults
 pub mod Crews

@@ -9,9 +9,11 @@ use Rattle.monk_history.specs.Meaning.Signallers.{is_empty}
 use Rattle.monk_history.specs.declared.event.Event.{Event}
 use Rattle.monk_history.specs.declared.event.Event.TheVariants.{Leave, Wait, Signal, SignalLeave, Until}
 use Rattle.monk_history.specs.declared.event.Next.TheVariants.{Stay}
+use Rattle.monk_hall.specs.Layout.{floor_of}
 use Rattle.monk_hall.specs.Tells.{SeesTruly}
 use Rattle.monk_hall.specs.Tokens.{Token, Holder}
-use Rattle.monk_samples.specs.Trails.{HasCalled, inside, outside}
+use Rattle.monk_samples.specs.Asked.{IsCall, AreCalls}
+use Rattle.monk_samples.specs.Trails.{Addition, HasCalled, inside, outside}
 use Rattle.monk_samples.specs.declared.end.End.{End}
 use Rattle.monk_samples.specs.declared.end.End.TheVariants.{Done, Tired, Late}
 
@@ -46,21 +48,26 @@ abbrev pub IsSpent : Token → Type 0
 IsSpent p = p.me.setting.budget ≤ length p.me.mine + 1
 
 -- the seat had three events left, has paused by this call, and is active again
-pub record HasPaused (a : Holder) (call : Event) (b : Holder) : Type 0 where
+pub record HasPaused (k : Rules) (o : Object) (a : Holder) (call : Event) (b : Holder) : Type 0 where
   pub room : length a.me.mine + 3 ≤ a.me.setting.budget
-  pub called : HasCalled (inside a) (inside b) (call ∷ [])
+  pub pause : Addition
+  pub called : HasCalled (inside a) (inside b) (pause ∷ [])
+  pub is : IsCall k o a.me.setting call pause
+  pub at : pause.before ≡ a.floor.history
+  pub floor : a.floor ≡ floor_of a.me.setting a.floor.history
+
+-- the seat is out by these calls
+pub record HasGoneBy (k : Rules) (o : Object) (a : Holder) (calls : List Event) (p : Token) : Type 0 where
+  pub made : List Addition
+  pub called : HasCalled (inside a) (outside p) made
+  pub are : AreCalls k o a.me.setting calls made
+  pub told : SeesTruly k o p.me
 
 -- the seat had fewer than three events left, and has left
 pub record HasGivenUp (k : Rules) (o : Object) (a : Holder) (p : Token) : Type 0 where
   pub short : a.me.setting.budget < length a.me.mine + 3
-  pub called : HasCalled (inside a) (outside p) (Leave a.me.seat Stay ∷ [])
+  pub gone : HasGoneBy k o a (Leave a.me.seat Stay ∷ []) p
   pub spent : IsSpent p
-  pub told : SeesTruly k o p.me
-
--- the seat is out by these calls
-pub record HasGoneBy (k : Rules) (o : Object) (a : Holder) (calls : List Event) (p : Token) : Type 0 where
-  pub called : HasCalled (inside a) (outside p) calls
-  pub told : SeesTruly k o p.me
 
 -- the seat is out by these calls, or tired without them: only a kind with a signaller queue wants more than the event
 -- that is always kept for the way out

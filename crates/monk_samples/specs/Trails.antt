@@ -1,12 +1,9 @@
 -- What a seat does between two moments, by its own events
-use Rattle.std.specs.Prelude.{◌≡◌, ℕ, List, [], ◌∷◌, ◌++◌}
+use Rattle.std.specs.Prelude.{◌≡◌, ℕ, Bool, true, false, List, [], ◌∷◌, ◌++◌, map, if◌then◌else◌}
 use Rattle.std.specs.List.{flat_map}
 use Rattle.atomic_table.specs.Seated.{TableId}
-use Rattle.monk_object.specs.Runs.{Answered}
-use Rattle.monk_history.specs.Meaning.Acts.{acts_in}
 use Rattle.monk_history.specs.declared.event.Event.{Event}
 use Rattle.monk_history.specs.declared.event.Event.TheVariants.{Enter, Act, Leave, Wait, Signal, SignalLeave, Until, Resume}
-use Rattle.monk_history.specs.declared.event.Next.TheVariants.{Stay}
 use Rattle.monk_hall.specs.Floors.{StartsWith}
 use Rattle.monk_hall.specs.Tokens.{Token, Holder}
 use Rattle.monk_hall.specs.declared.setting.Setting.{Setting}
@@ -26,36 +23,49 @@ outside p = record { hall = p.hall; seat = p.me.seat; setting = p.me.setting; se
 abbrev pub inside : Holder → Trail
 inside a = record { hall = a.hall; seat = a.me.seat; setting = a.me.setting; seen = a.floor.history; mine = a.me.mine }
 
--- the same seat later: what it has seen begins with what it had seen, and its own events have grown by these
-pub record Went (x y : Trail) (own : List Event) : Type 0 where
+-- an event that a seat added, and the history to which it added it
+pub record Addition : Type 0 where
+  pub before : List Event
+  pub event : Event
+
+abbrev pub after : Addition → List Event
+after d = d.before ++ d.event ∷ []
+
+abbrev pub events_in : List Addition → List Event
+events_in own = map (λ d. d.event) own
+
+-- between these two histories they were added one after the other
+abbrev pub AreBetween : List Event → List Event → List Addition → Type 0
+AreBetween from to [] = StartsWith to from
+AreBetween from to (d ∷ own) = StartsWith d.before from × AreBetween (after d) to own
+
+-- the same seat later: what it has seen begins with what it had seen, and it has added these events
+pub record Went (x y : Trail) (own : List Addition) : Type 0 where
   pub hall : y.hall ≡ x.hall
   pub seat : y.seat ≡ x.seat
   pub setting : y.setting ≡ x.setting
-  pub seen : StartsWith y.seen x.seen
-  pub mine : y.mine ≡ x.mine ++ own
+  pub seen : AreBetween x.seen y.seen own
+  pub mine : y.mine ≡ x.mine ++ events_in own
 
--- what a seat asked for by an event of its own, written with `stay` where it released: coming in is no call
-abbrev pub call_in : Event → List Event
-call_in (Enter s via) = []
-call_in (Act s op r) = Act s op r ∷ []
-call_in (Leave s x) = Leave s Stay ∷ []
-call_in (Wait s c x) = Wait s c Stay ∷ []
-call_in (Signal s c x) = Signal s c Stay ∷ []
-call_in (SignalLeave s c x) = SignalLeave s c Stay ∷ []
-call_in (Until s p x) = Until s p Stay ∷ []
-call_in (Resume s q) = []
+-- a seat comes in by an enter, or by a resume: nobody calls for these
+abbrev pub is_coming : Event → Bool
+is_coming (Enter s via) = true
+is_coming (Act s op r) = false
+is_coming (Leave s x) = false
+is_coming (Wait s c x) = false
+is_coming (Signal s c x) = false
+is_coming (SignalLeave s c x) = false
+is_coming (Until s p x) = false
+is_coming (Resume s q) = true
 
-abbrev pub calls_in : List Event → List Event
+abbrev pub call_in : Addition → List Addition
+call_in d = if is_coming d.event then [] else d ∷ []
+
+abbrev pub calls_in : List Addition → List Addition
 calls_in own = flat_map call_in own
 
 -- the seat has made these calls and no other, in this order
-pub record HasCalled (x y : Trail) (calls : List Event) : Type 0 where
-  pub own : List Event
+pub record HasCalled (x y : Trail) (calls : List Addition) : Type 0 where
+  pub own : List Addition
   pub went : Went x y own
   pub called : calls_in own ≡ calls
-
--- the seat has done these operations and no other, in this order, with these replies
-pub record HasActed (x y : Trail) (acts : List Answered) : Type 0 where
-  pub own : List Event
-  pub went : Went x y own
-  pub acted : acts_in own ≡ acts

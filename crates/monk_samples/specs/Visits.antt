@@ -1,60 +1,190 @@
--- What a member does on its object
-use Rattle.std.specs.Prelude.{◌≡◌, ℕ, ◌-◌, ◌<◌, nat_lt, Bool, true, false, Option, Some, None, List, [], ◌∷◌, take, if◌then◌else◌}
+-- What a member does in the monitor
+use Rattle.std.specs.Prelude.{◌≡◌, ℕ, ◌+◌, ◌-◌, ◌<◌, ◌⊎◌, true, false, Option, Some, None, List, [], ◌∷◌, ◌++◌}
+use Rattle.std.specs.Prelude.{nat_lt, if◌then◌else◌}
 use Rattle.monk_kinds.specs.declared.mode.Rules.{Rules}
 use Rattle.monk_object.specs.Object.{Object}
 use Rattle.monk_object.specs.Runs.{Answered}
 use Rattle.monk_object.specs.declared.op.Op.{Op}
+use Rattle.monk_history.specs.Meaning.Monitor.{data_of}
+use Rattle.monk_history.specs.declared.event.Event.{Event}
+use Rattle.monk_history.specs.declared.event.Event.TheVariants.{Act, Leave}
+use Rattle.monk_history.specs.declared.event.Next.TheVariants.{Stay}
+use Rattle.monk_floor.specs.View.{monitor_of}
+use Rattle.monk_hall.specs.Layout.{floor_of}
 use Rattle.monk_hall.specs.Tells.{SeesTruly}
 use Rattle.monk_hall.specs.Tokens.{Token, Holder}
-use Rattle.monk_samples.specs.Styles.{IsSpent}
-use Rattle.monk_samples.specs.Trails.{HasActed, inside, outside}
+use Rattle.monk_hall.specs.declared.setting.Setting.{Setting}
+use Rattle.monk_samples.specs.Asked.{IsCall, AreCalls}
+use Rattle.monk_samples.specs.Styles.{IsSpent, pause_call, way_out}
+use Rattle.monk_samples.specs.Trails.{Addition, Trail, HasCalled, after, inside, outside}
 use Rattle.monk_samples.specs.declared.end.End.{End}
 use Rattle.monk_samples.specs.declared.end.End.TheVariants.{Done, Tired, Late}
 
--- an operation that a member is to do, and whether it must get done
-pub record Duty : Type 0 where
+-- for what a visit pauses: the condition on which it waits while the predicate is false
+pub record Wanted : Type 0 where
+  pub cond : ℕ
+  pub pred : ℕ
+
+abbrev pub wanted : ℕ → ℕ → Wanted
+wanted cond pred = record { cond = cond; pred = pred }
+
+-- one visit as it is planned: for what it pauses first, if for anything; its operation; and, by the history after that,
+-- the condition that it signals on its way out, if any
+pub record Plan : Type 0 where
+  pub wanted : Option Wanted
   pub op : Op
-  pub certain : Bool
+  pub signals : List Event → Option ℕ
 
-abbrev pub must : ℕ → ℕ → Duty
-must code arg = record { op = record { code = code; arg = arg }; certain = true }
+abbrev pub op_of : ℕ → ℕ → Op
+op_of code arg = record { code = code; arg = arg }
 
-abbrev pub may : ℕ → Duty
-may code = record { op = record { code = code; arg = 0 }; certain = false }
+-- a visit that pauses until a predicate holds, and one that acts at once
+abbrev pub when : ℕ → ℕ → Op → (List Event → Option ℕ) → Plan
+when cond pred op signals = record { wanted = Some (wanted cond pred); op = op; signals = signals }
 
--- the acts are these duties, each once, in order; those that must get done replied above 0
-abbrev pub AreActsOf : List Duty → List Answered → Type 0
-AreActsOf [] [] = Unit {0}
-AreActsOf [] (a ∷ acts) = ⊥
-AreActsOf (d ∷ ds) [] = ⊥
-AreActsOf (d ∷ ds) (a ∷ acts) = (a.op ≡ d.op) × (d.certain ≡ true → 0 < a.reply) × AreActsOf ds acts
+abbrev pub at_once : Op → (List Event → Option ℕ) → Plan
+at_once op signals = record { wanted = None; op = op; signals = signals }
 
--- a member is done with all its duties, or was tired after the first few
-abbrev pub AreActsBy : End → List Duty → List Answered → Type 0
-AreActsBy Done ds acts = AreActsOf ds acts
-AreActsBy Tired ds acts = (few : ℕ) × AreActsOf (take few ds) acts
-AreActsBy Late ds acts = ⊥
+-- on its way out it always signals the one condition, or nobody
+abbrev pub always : ℕ → List Event → Option ℕ
+always cond h = Some cond
 
--- a member was called with p and gives q back: the same seat, out again, with these acts among its own events. It is
--- tired only where at most one event is left. What it has seen is legal, with its own events those that it knows
-pub record HasVisited (k : Rules) (o : Object) (p : Token) (duties : List Duty) (q : Token) (end : End) : Type 0 where
-  pub acts : List Answered
-  pub acted : HasActed (outside p) (outside q) acts
-  pub made : AreActsBy end duties acts
+abbrev pub nobody : List Event → Option ℕ
+nobody h = None
+
+-- the data after a history
+abbrev pub data_after : Rules → Object → Setting → List Event → List ℕ
+data_after k o c h = data_of (monitor_of k o (floor_of c h)) h
+
+-- each is a pause of seat s for this, and the predicate was false when it paused
+abbrev pub ArePauses : Rules → Object → Setting → ℕ → ℕ → ℕ → List Addition → Type 0
+ArePauses k o c s cond pred [] = Unit {0}
+ArePauses k o c s cond pred (d ∷ ds) =
+    IsCall k o c (pause_call k s cond pred) d × (o.holds (data_after k o c d.before) pred ≡ false)
+    × ArePauses k o c s cond pred ds
+
+abbrev pub HasPausedFor : Rules → Object → Setting → ℕ → Option Wanted → List Addition → Type 0
+HasPausedFor k o c s None ds = ds ≡ []
+HasPausedFor k o c s (Some w) ds = ArePauses k o c s w.cond w.pred ds
+
+-- seat s does this operation, with the object's reply
+pub record IsAct (k : Rules) (o : Object) (c : Setting) (s : ℕ) (op : Op) (reply : ℕ) (d : Addition) : Type 0 where
+  pub is : d.event ≡ Act s op reply
+  pub replied : reply ≡ o.reply (data_after k o c d.before) op
+
+-- an operation for which a visit paused gets done
+abbrev pub IsCertain : Option Wanted → ℕ → Type 0
+IsCertain None reply = Unit {0}
+IsCertain (Some w) reply = 0 < reply
+
+-- the calls by which it goes out: with this signal, or without any
+abbrev pub calls_out : Rules → ℕ → Option ℕ → List Event
+calls_out k s None = Leave s Stay ∷ []
+calls_out k s (Some cond) = way_out k s cond
+
+-- the pauses and the operation of a visit
+pub record IsDone (k : Rules) (o : Object) (c : Setting) (s : ℕ) (v : Plan) (pauses : List Addition) (act : Addition) : Type 0 where
+  pub paused : HasPausedFor k o c s v.wanted pauses
+  pub reply : ℕ
+  pub acts : IsAct k o c s v.op reply act
+  pub certain : IsCertain v.wanted reply
+
+-- these calls of seat s are the visit, to its end
+pub record IsVisit (k : Rules) (o : Object) (c : Setting) (s : ℕ) (v : Plan) (calls : List Addition) : Type 0 where
+  pub pauses : List Addition
+  pub act : Addition
+  pub out : List Addition
+  pub are : calls ≡ pauses ++ act ∷ out
+  pub done : IsDone k o c s v pauses act
+  pub goes : AreCalls k o c (calls_out k s (v.signals (after act))) out
+
+-- these calls of seat s pause for this, and then it leaves
+pub record IsLeftWaiting (k : Rules) (o : Object) (c : Setting) (s : ℕ) (wanted : Option Wanted) (calls : List Addition) : Type 0 where
+  pub pauses : List Addition
+  pub leave : Addition
+  pub are : calls ≡ pauses ++ leave ∷ []
+  pub paused : HasPausedFor k o c s wanted pauses
+  pub leaves : IsCall k o c (Leave s Stay) leave
+
+-- they pause and do the operation, and then it leaves without a signal
+pub record IsLeftUnsaid (k : Rules) (o : Object) (c : Setting) (s : ℕ) (v : Plan) (calls : List Addition) : Type 0 where
+  pub pauses : List Addition
+  pub act : Addition
+  pub leave : Addition
+  pub are : calls ≡ pauses ++ act ∷ leave ∷ []
+  pub done : IsDone k o c s v pauses act
+  pub leaves : IsCall k o c (Leave s Stay) leave
+
+-- the visit of a seat that was tired: it did not come in; or it left in place of its next pause or of its operation; or in
+-- place of its signal
+abbrev pub IsUnready : Rules → Object → Setting → ℕ → Option Wanted → List Addition → Type 0
+IsUnready k o c s wanted calls = (calls ≡ []) ⊎ IsLeftWaiting k o c s wanted calls
+
+abbrev pub IsCutShort : Rules → Object → Setting → ℕ → Plan → List Addition → Type 0
+IsCutShort k o c s v calls = IsUnready k o c s v.wanted calls ⊎ IsLeftUnsaid k o c s v calls
+
+-- first these and then those
+pub record Then (First Rest : List Addition → Type 0) (calls : List Addition) : Type 0 where
+  pub first : List Addition
+  pub rest : List Addition
+  pub are : calls ≡ first ++ rest
+  pub is_first : First first
+  pub is_rest : Rest rest
+
+-- these calls are the visits, each once, in order: to the end of the last, or of one that was cut short
+abbrev pub AreVisits : Rules → Object → Setting → ℕ → End → List Plan → List Addition → Type 0
+AreVisits k o c s Done [] calls = calls ≡ []
+AreVisits k o c s Done (v ∷ vs) calls = Then (IsVisit k o c s v) (AreVisits k o c s Done vs) calls
+AreVisits k o c s Tired [] calls = ⊥
+AreVisits k o c s Tired (v ∷ vs) calls = IsCutShort k o c s v calls ⊎ Then (IsVisit k o c s v) (AreVisits k o c s Tired vs) calls
+AreVisits k o c s Late vs calls = ⊥
+
+-- a member was called with p and gives q back: the same seat, out again, which has made the calls of these visits and no
+-- other. It is tired only where at most one event is left. What it has seen is legal, with its own events those that it
+-- knows
+pub record HasVisited (k : Rules) (o : Object) (p : Token) (plans : List Plan) (q : Token) (end : End) : Type 0 where
+  pub calls : List Addition
+  pub called : HasCalled (outside p) (outside q) calls
+  pub are : AreVisits k o p.me.setting p.me.seat end plans calls
   pub spent : end ≡ Tired → IsSpent q
-  pub told : SeesTruly k o p.me → SeesTruly k o q.me
+  pub told : SeesTruly k o q.me
 
--- the seat was too tired to do anything, and is out
-pub record HasTired (k : Rules) (o : Object) (p q : Token) : Type 0 where
-  pub acted : HasActed (outside p) (outside q) []
-  pub spent : IsSpent q
-  pub told : SeesTruly k o p.me → SeesTruly k o q.me
-
--- the active seat was too tired to do anything, and has left
-pub record HasLeftTired (k : Rules) (o : Object) (a : Holder) (q : Token) : Type 0 where
-  pub acted : HasActed (inside a) (outside q) []
+-- a seat was tired: it has made calls like these from x on, and is out
+pub record HasTired (k : Rules) (o : Object) (x : Trail) (AreThese : List Addition → Type 0) (q : Token) : Type 0 where
+  pub calls : List Addition
+  pub called : HasCalled x (outside q) calls
+  pub are : AreThese calls
   pub spent : IsSpent q
   pub told : SeesTruly k o q.me
+
+-- it came in for this, and left before it acted; or it did not come in
+abbrev pub IsTiredWithin : Rules → Object → Holder → Option Wanted → Token → Type 0
+IsTiredWithin k o a w q = HasTired k o (inside a) (IsLeftWaiting k o a.me.setting a.me.seat w) q
+
+abbrev pub IsTiredFor : Rules → Object → Token → Option Wanted → Token → Type 0
+IsTiredFor k o p w q = HasTired k o (outside p) (IsUnready k o p.me.setting p.me.seat w) q
+
+-- it did not come in
+pub record HasStayedOut (k : Rules) (o : Object) (p q : Token) : Type 0 where
+  pub same : q ≡ p
+  pub spent : IsSpent q
+  pub told : SeesTruly k o q.me
+
+-- from x on the seat has paused for this, and is active
+pub record HasPausedUntil (k : Rules) (o : Object) (x : Trail) (wanted : Option Wanted) (b : Holder) : Type 0 where
+  pub pauses : List Addition
+  pub called : HasCalled x (inside b) pauses
+  pub paused : HasPausedFor k o x.setting x.seat wanted pauses
+
+-- from x on the seat has paused for this and done the operation, with this reply, and is active: that was its last call
+pub record HasActed (k : Rules) (o : Object) (x : Trail) (wanted : Option Wanted) (op : Op) (reply : ℕ) (b : Holder) : Type 0 where
+  pub pauses : List Addition
+  pub act : Addition
+  pub called : HasCalled x (inside b) (pauses ++ act ∷ [])
+  pub paused : HasPausedFor k o x.setting x.seat wanted pauses
+  pub acts : IsAct k o x.setting x.seat op reply act
+  pub last : b.floor.history ≡ after act
+  pub floor : b.floor ≡ floor_of x.setting b.floor.history
 
 -- the item that a buffer's reply tells: one less than the reply, where that is an item
 abbrev pub item_of : ℕ → Option ℕ

@@ -1,13 +1,14 @@
 //! Readers and writers: several read at once, one writes alone. A reader begins and ends with two visits of its own, as a
 //! writer does, and reads or writes outside the monitor between them.
 ghost use Rattle.std.specs.Prelude.{◌≡◌, [], ◌∷◌};
-ghost use Rattle.monk_object.specs.Book.{book_meaning, START_READ, END_READ, START_WRITE, END_WRITE};
+ghost use Rattle.monk_object.specs.Book.{book_meaning};
+ghost use Rattle.monk_samples.specs.Members.{begins_to_read, ends_to_read, begins_to_write, ends_to_write};
 ghost use Rattle.monk_samples.specs.Styles.{Offers};
-ghost use Rattle.monk_samples.specs.Visits.{HasVisited, must, may};
+ghost use Rattle.monk_samples.specs.Visits.{HasVisited};
 
 use crate::end::End;
 use crate::style::Style;
-use crate::visit::{act_now, act_when};
+use crate::visit::{act_and_finish, act_now, act_when};
 use monk_hall::{Hall, Pass};
 use monk_kinds::Pick;
 use monk_object::{Book, Op};
@@ -27,16 +28,13 @@ pub fn read_begin<K: Style, R: Wait>(
 ) -> (Pass<K, Book>, End)
     requires hall { pass.hall ≡ hall.now.id }
     requires conds { Offers K.rules pass.me.setting.conds 2 }
-    ensures { HasVisited K.rules book_meaning pass (must START_READ 0 ∷ []) result.0 result.1 }
+    ensures { HasVisited K.rules book_meaning pass (begins_to_read ∷ []) result.0 result.1 }
 {
     let start = Op {
         code: Book::START_READ,
         arg: 0,
     };
-    match act_when(pass, rt, hall, CAN_READ, Book::CAN_READ, start) {
-        Ok((active, _)) => K::finish(active, rt, hall, CAN_READ),
-        Err(pass) => (pass, End::Tired),
-    }
+    act_and_finish(pass, rt, hall, CAN_READ, Book::CAN_READ, start, CAN_READ)
 }
 
 /// Ends its read. The last reader lets a writer go on if one waits, others let a reader go on.
@@ -47,7 +45,7 @@ pub fn read_end<K: Style, R: Wait>(
 ) -> (Pass<K, Book>, End)
     requires hall { pass.hall ≡ hall.now.id }
     requires conds { Offers K.rules pass.me.setting.conds 2 }
-    ensures { HasVisited K.rules book_meaning pass (may END_READ ∷ []) result.0 result.1 }
+    ensures { HasVisited K.rules book_meaning pass (ends_to_read K.rules pass.me.setting ∷ []) result.0 result.1 }
 {
     let end = Op {
         code: Book::END_READ,
@@ -71,7 +69,7 @@ pub fn write_begin<K: Style, R: Wait>(
 ) -> (Pass<K, Book>, End)
     requires hall { pass.hall ≡ hall.now.id }
     requires conds { Offers K.rules pass.me.setting.conds 2 }
-    ensures { HasVisited K.rules book_meaning pass (must START_WRITE 0 ∷ []) result.0 result.1 }
+    ensures { HasVisited K.rules book_meaning pass (begins_to_write ∷ []) result.0 result.1 }
 {
     let start = Op {
         code: Book::START_WRITE,
@@ -91,7 +89,7 @@ pub fn write_end<K: Style, R: Wait>(
 ) -> (Pass<K, Book>, End)
     requires hall { pass.hall ≡ hall.now.id }
     requires conds { Offers K.rules pass.me.setting.conds 2 }
-    ensures { HasVisited K.rules book_meaning pass (may END_WRITE ∷ []) result.0 result.1 }
+    ensures { HasVisited K.rules book_meaning pass (ends_to_write K.rules ∷ []) result.0 result.1 }
 {
     let end = Op {
         code: Book::END_WRITE,

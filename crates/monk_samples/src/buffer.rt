@@ -1,12 +1,15 @@
 //! A bounded buffer: one task puts items, another takes them.
 ghost use Rattle.std.specs.Prelude.{◌≡◌, ◌<◌, [], ◌∷◌};
-ghost use Rattle.monk_object.specs.Buffer.{buffer_meaning, PUT, TAKE};
+ghost use Rattle.monk_object.specs.Buffer.{buffer_meaning};
+ghost use Rattle.monk_history.specs.Meaning.Acts.{acts_in};
+ghost use Rattle.monk_samples.specs.Members.{puts, takes};
 ghost use Rattle.monk_samples.specs.Styles.{Offers};
-ghost use Rattle.monk_samples.specs.Visits.{HasVisited, must, item_of, item_told};
+ghost use Rattle.monk_samples.specs.Trails.{events_in};
+ghost use Rattle.monk_samples.specs.Visits.{HasVisited, item_of, item_told};
 
 use crate::end::End;
 use crate::style::Style;
-use crate::visit::act_when;
+use crate::visit::{act_and_finish, act_when};
 use monk_hall::{Hall, Pass};
 use monk_object::{Buffer, Op};
 use std::sync::Wait;
@@ -26,16 +29,13 @@ pub fn put<K: Style, R: Wait>(
 ) -> (Pass<K, Buffer>, End)
     requires hall { pass.hall ≡ hall.now.id }
     requires conds { Offers K.rules pass.me.setting.conds 2 }
-    ensures { HasVisited K.rules buffer_meaning pass (must PUT item ∷ []) result.0 result.1 }
+    ensures { HasVisited K.rules buffer_meaning pass (puts item ∷ []) result.0 result.1 }
 {
     let put = Op {
         code: Buffer::PUT,
         arg: item,
     };
-    match act_when(pass, rt, hall, NOT_FULL, Buffer::HAS_ROOM, put) {
-        Ok((active, _)) => K::finish(active, rt, hall, NOT_EMPTY),
-        Err(pass) => (pass, End::Tired),
-    }
+    act_and_finish(pass, rt, hall, NOT_FULL, Buffer::HAS_ROOM, put, NOT_EMPTY)
 }
 
 /// Takes the oldest item out of the buffer, once one is there, and lets a putter go on. Gives the item also where it was
@@ -47,7 +47,8 @@ pub fn take<K: Style, R: Wait>(
 ) -> (Pass<K, Buffer>, Option<u32>, End)
     requires hall { pass.hall ≡ hall.now.id }
     requires conds { Offers K.rules pass.me.setting.conds 2 }
-    ensures { (visit : HasVisited K.rules buffer_meaning pass (must TAKE 0 ∷ []) result.0 result.2) × (result.1 ≡ item_told visit.acts) }
+    ensures { (visit : HasVisited K.rules buffer_meaning pass (takes ∷ []) result.0 result.2)
+        × (result.1 ≡ item_told (acts_in (events_in visit.calls))) }
 {
     let take = Op {
         code: Buffer::TAKE,

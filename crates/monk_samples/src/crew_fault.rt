@@ -1,4 +1,5 @@
-ghost use Rattle.std.specs.Prelude.{◌≢◌};
+ghost use Rattle.std.specs.Prelude.{◌≡◌};
+ghost use Rattle.monk_samples.specs.Faults.{run_fault_of};
 
 use crate::run_fault::RunFault;
 use std::alloc::{AllocError, AllocFailed};
@@ -16,7 +17,7 @@ pub(crate) enum CrewFault {
 impl CrewFault {
     /// The same, of the run.
     pub(crate) fn of_run(self) -> RunFault
-        ensures { result ≢ RunFault.Range }
+        ensures { result ≡ run_fault_of self }
     {
         match self {
             CrewFault::Memory => RunFault::Memory,

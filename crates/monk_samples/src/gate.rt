@@ -1,9 +1,13 @@
-ghost use Rattle.std.specs.Prelude.{◌≡◌, true};
+ghost use Rattle.std.specs.Prelude.{◌≡◌, ℕ, Bool, true};
 
 /// What each worker asks before each of its rounds.
 pub trait Gate: Sync {
+    // What it says of a seat and a round to have answered so. A gate that leaves this out says nothing.
+    ghost answers: { Self → ℕ → ℕ → Bool → Type 0 } = { λ _ _ _ _. Unit {0} };
+
     /// Whether the seat may begin the round, counted from 1. Where not, its worker ends late.
-    fn pass(&self, seat: u8, round: u32) -> bool;
+    fn pass(&self, seat: u8, round: u32) -> bool
+        ensures { answers self.now seat round result };
 }
 
 /// A gate that is always open.
@@ -11,9 +15,9 @@ pub trait Gate: Sync {
 pub struct OpenGate;
 
 impl Gate for OpenGate {
-    fn pass(&self, _seat: u8, _round: u32) -> bool
-        ensures { result ≡ true }
-    {
+    ghost answers = { λ _ _ _ answer. answer ≡ true };
+
+    fn pass(&self, _seat: u8, _round: u32) -> bool {
         true
     }
 }

@@ -1,4 +1,5 @@
-ghost use Rattle.std.specs.Prelude.{◌≤◌};
+ghost use Rattle.std.specs.Prelude.{◌≡◌, ◌≤◌, ◌*◌, ◌/◌};
+ghost use Rattle.monk_samples.specs.Rounds.{rounds_of};
 
 use crate::sample::Sample;
 
@@ -17,7 +18,9 @@ pub(crate) struct Rota {
 impl Rota {
     /// How many rounds a seat has: in a shop the first seat is the barber, who has one for each of every other's, and
     /// else an odd last seat stays idle.
-    pub(crate) fn rounds_of(&self, seat: u8) -> u32 {
+    pub(crate) fn rounds_of(&self, seat: u8) -> u32
+        ensures { result ≡ rounds_of self.now.sample self.now.seats self.now.rounds seat }
+    {
         match self.sample {
             Sample::Shop if seat == 0 => u32::from(self.seats - 1) * self.rounds,
             Sample::Shop => self.rounds,
@@ -27,7 +30,9 @@ impl Rota {
     }
 
     /// How many seats of a buffer or of a book work: two halves.
-    fn working_seats(&self) -> u8 {
+    fn working_seats(&self) -> u8
+        ensures { result ≡ self.now.seats / 2 * 2 }
+    {
         self.seats / 2 * 2
     }
 }

@@ -79,6 +79,7 @@ fn run_buffer<K: Style, R: Threads + Wait + Sync, G: Gate>(
     rota: Rota,
     gate: &G,
 ) -> Result<Vec<Event>, CrewFault>
+    requires { rota.sample ≡ sample.Buffer }
     ensures { IfOk result (λ v. IsHistoryOf K.rules sample.Buffer rota.seats rota.rounds v.items) }
 {
     let Ok(buffer) = Buffer::make(alloc, SIZE) else {
@@ -96,6 +97,7 @@ fn run_book<K: Style, R: Threads + Wait + Sync, G: Gate>(
     rota: Rota,
     gate: &G,
 ) -> Result<Vec<Event>, CrewFault>
+    requires { rota.sample ≡ sample.Book }
     ensures { IfOk result (λ v. IsHistoryOf K.rules sample.Book rota.seats rota.rounds v.items) }
 {
     let Ok(book) = Book::make(SIZE) else {
@@ -113,6 +115,7 @@ fn run_shop<K: Style, R: Threads + Wait + Sync, G: Gate>(
     rota: Rota,
     gate: &G,
 ) -> Result<Vec<Event>, CrewFault>
+    requires { rota.sample ≡ sample.Shop }
     ensures { IfOk result (λ v. IsHistoryOf K.rules sample.Shop rota.seats rota.rounds v.items) }
 {
     let Ok(shop) = Shop::make(SIZE) else {

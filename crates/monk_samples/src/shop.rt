@@ -1,13 +1,14 @@
 //! A barber's shop: a customer comes in, sits, has its hair cut and departs; the barber calls one after the other. Each
 //! goes to the shop's monitor twice.
 ghost use Rattle.std.specs.Prelude.{◌≡◌, [], ◌∷◌};
-ghost use Rattle.monk_object.specs.Shop.{shop_meaning, SIT, CALL, FINISH, DEPART};
+ghost use Rattle.monk_object.specs.Shop.{shop_meaning};
+ghost use Rattle.monk_samples.specs.Members.{sits, departs, calls, finishes};
 ghost use Rattle.monk_samples.specs.Styles.{Offers};
-ghost use Rattle.monk_samples.specs.Visits.{HasVisited, must, may};
+ghost use Rattle.monk_samples.specs.Visits.{HasVisited};
 
 use crate::end::End;
 use crate::style::Style;
-use crate::visit::{act_now, act_when};
+use crate::visit::{act_and_finish, act_now};
 use monk_hall::{Hall, Pass};
 use monk_object::{Op, Shop};
 use std::sync::Wait;
@@ -30,7 +31,7 @@ pub fn sit_and_cut<K: Style, R: Wait>(
 ) -> (Pass<K, Shop>, End)
     requires hall { pass.hall ≡ hall.now.id }
     requires conds { Offers K.rules pass.me.setting.conds 3 }
-    ensures { HasVisited K.rules shop_meaning pass (must SIT 0 ∷ must DEPART 0 ∷ []) result.0 result.1 }
+    ensures { HasVisited K.rules shop_meaning pass (sits ∷ departs ∷ []) result.0 result.1 }
 {
     let (pass, end) = sit(pass, rt, hall);
     match end {
@@ -43,16 +44,21 @@ pub fn sit_and_cut<K: Style, R: Wait>(
 fn sit<K: Style, R: Wait>(pass: Pass<K, Shop>, rt: &R, hall: &Hall<K, Shop>) -> (Pass<K, Shop>, End)
     requires hall { pass.hall ≡ hall.now.id }
     requires conds { Offers K.rules pass.me.setting.conds 3 }
-    ensures { HasVisited K.rules shop_meaning pass (must SIT 0 ∷ []) result.0 result.1 }
+    ensures { HasVisited K.rules shop_meaning pass (sits ∷ []) result.0 result.1 }
 {
     let sit = Op {
         code: Shop::SIT,
         arg: 0,
     };
-    match act_when(pass, rt, hall, SEAT_FREE, Shop::HAS_SEAT, sit) {
-        Ok((active, _)) => K::finish(active, rt, hall, CUSTOMER_SITS),
-        Err(pass) => (pass, End::Tired),
-    }
+    act_and_finish(
+        pass,
+        rt,
+        hall,
+        SEAT_FREE,
+        Shop::HAS_SEAT,
+        sit,
+        CUSTOMER_SITS,
+    )
 }
 
 /// The customer's second visit.
@@ -63,16 +69,21 @@ fn depart<K: Style, R: Wait>(
 ) -> (Pass<K, Shop>, End)
     requires hall { pass.hall ≡ hall.now.id }
     requires conds { Offers K.rules pass.me.setting.conds 3 }
-    ensures { HasVisited K.rules shop_meaning pass (must DEPART 0 ∷ []) result.0 result.1 }
+    ensures { HasVisited K.rules shop_meaning pass (departs ∷ []) result.0 result.1 }
 {
     let depart = Op {
         code: Shop::DEPART,
         arg: 0,
     };
-    match act_when(pass, rt, hall, CUT_DONE, Shop::IS_DONE, depart) {
-        Ok((active, _)) => K::finish(active, rt, hall, CUSTOMER_SITS),
-        Err(pass) => (pass, End::Tired),
-    }
+    act_and_finish(
+        pass,
+        rt,
+        hall,
+        CUT_DONE,
+        Shop::IS_DONE,
+        depart,
+        CUSTOMER_SITS,
+    )
 }
 
 /// A turn of the barber: calls the next customer once one sits and the chair is empty, and finishes the cut. Nothing
@@ -84,7 +95,7 @@ pub fn barber_turn<K: Style, R: Wait>(
 ) -> (Pass<K, Shop>, End)
     requires hall { pass.hall ≡ hall.now.id }
     requires conds { Offers K.rules pass.me.setting.conds 3 }
-    ensures { HasVisited K.rules shop_meaning pass (must CALL 0 ∷ may FINISH ∷ []) result.0 result.1 }
+    ensures { HasVisited K.rules shop_meaning pass (calls ∷ finishes ∷ []) result.0 result.1 }
 {
     let (pass, end) = call(pass, rt, hall);
     match end {
@@ -101,16 +112,21 @@ fn call<K: Style, R: Wait>(
 ) -> (Pass<K, Shop>, End)
     requires hall { pass.hall ≡ hall.now.id }
     requires conds { Offers K.rules pass.me.setting.conds 3 }
-    ensures { HasVisited K.rules shop_meaning pass (must CALL 0 ∷ []) result.0 result.1 }
+    ensures { HasVisited K.rules shop_meaning pass (calls ∷ []) result.0 result.1 }
 {
     let call = Op {
         code: Shop::CALL,
         arg: 0,
     };
-    match act_when(pass, rt, hall, CUSTOMER_SITS, Shop::CAN_CALL, call) {
-        Ok((active, _)) => K::finish(active, rt, hall, SEAT_FREE),
-        Err(pass) => (pass, End::Tired),
-    }
+    act_and_finish(
+        pass,
+        rt,
+        hall,
+        CUSTOMER_SITS,
+        Shop::CAN_CALL,
+        call,
+        SEAT_FREE,
+    )
 }
 
 /// The barber's second visit.
@@ -121,7 +137,7 @@ fn finish_cut<K: Style, R: Wait>(
 ) -> (Pass<K, Shop>, End)
     requires hall { pass.hall ≡ hall.now.id }
     requires conds { Offers K.rules pass.me.setting.conds 3 }
-    ensures { HasVisited K.rules shop_meaning pass (may FINISH ∷ []) result.0 result.1 }
+    ensures { HasVisited K.rules shop_meaning pass (finishes ∷ []) result.0 result.1 }
 {
     let finish = Op {
         code: Shop::FINISH,

@@ -27,7 +27,7 @@ pub trait Style: Kind {
         pred: u8,
     ) -> Result<Active<Self, T>, Pass<Self, T>>
         requires { MayPause Self.rules hall.now.id active cond T.PREDICATES pred }
-        ensures { MatchResult result (λ a. HasPaused active (pause_call Self.rules active.me.seat cond pred) a)
+        ensures { MatchResult result (λ a. HasPaused Self.rules T.meaning active (pause_call Self.rules active.me.seat cond pred) a)
             (λ p. HasGivenUp Self.rules T.meaning active p) }
     {
         match rules_of::<Self>().mode {

@@ -2,6 +2,7 @@
 ghost use Rattle.std.specs.Prelude.{IfOk};
 ghost use Rattle.monk_samples.specs.Tests.{AreSeats, IsSeat};
 
+mod paths;
 mod runs;
 
 use crate::book::{read_begin, read_end, write_begin, write_end};

@@ -1,12 +1,14 @@
-//! What members share: coming in, pausing while a predicate is false, and an operation. Each step gives the pass back
-//! where the seat has too few events left for it; then it is outside the monitor.
-ghost use Rattle.std.specs.Prelude.{◌≡◌, ◌+◌, ◌<◌, true, [], ◌∷◌, MatchResult};
+//! What members share: coming in, pausing while a predicate is false, an operation, and going out. Each step gives the
+//! pass back where the seat has too few events left for it; then it is outside the monitor.
+ghost use Rattle.std.specs.Prelude.{◌≡◌, ◌+◌, ◌<◌, true, [], ◌∷◌, Some, None, MatchResult};
 ghost use Rattle.monk_history.specs.Meaning.Monitor.{data_of};
 ghost use Rattle.monk_floor.specs.View.{monitor_of};
 ghost use Rattle.monk_samples.specs.Styles.{Offers};
-ghost use Rattle.monk_samples.specs.Trails.{HasActed, inside, outside};
-ghost use Rattle.monk_samples.specs.Visits.{HasTired, HasLeftTired, Promises};
+ghost use Rattle.monk_samples.specs.Trails.{HasCalled, inside, outside};
+ghost use Rattle.monk_samples.specs.Visits.{HasActed, HasPausedUntil, HasStayedOut, IsTiredFor, IsTiredWithin};
+ghost use Rattle.monk_samples.specs.Visits.{HasVisited, Promises, always, wanted, when};
 
+use crate::end::End;
 use crate::style::Style;
 use monk_hall::{Active, Hall, Pass};
 use monk_kinds::{Kind, Pick};
@@ -20,7 +22,7 @@ pub(crate) fn come_in<K: Kind, T: Guarded, R: Wait>(
     hall: &Hall<K, T>,
 ) -> Result<Active<K, T>, Pass<K, T>>
     requires { pass.hall ≡ hall.now.id }
-    ensures { MatchResult result (λ a. HasActed (outside pass) (inside a) []) (λ q. HasTired K.rules T.meaning pass q) }
+    ensures { MatchResult result (λ a. HasCalled (outside pass) (inside a) []) (λ q. HasStayedOut K.rules T.meaning pass q) }
 {
     if pass.left() < 2 {
         return Err(pass);
@@ -40,9 +42,9 @@ pub(crate) fn pause_until<K: Style, T: Guarded, R: Wait>(
     requires cond { Offers K.rules active.me.setting.conds (cond + 1) }
     requires pred { pred < T.PREDICATES }
     ensures { MatchResult result
-        (λ a. HasActed (inside active) (inside a) []
+        (λ a. HasPausedUntil K.rules T.meaning (inside active) (Some (wanted cond pred)) a
         × (T.meaning.holds (data_of (monitor_of K.rules T.meaning a.floor) a.floor.history) pred ≡ true))
-        (λ q. HasLeftTired K.rules T.meaning active q) }
+        (λ q. IsTiredWithin K.rules T.meaning active (Some (wanted cond pred)) q) }
 {
     let mut active = active;
     while !active.holds(pred) {
@@ -62,9 +64,9 @@ pub(crate) fn act<K: Kind, T: Guarded>(
 ) -> Result<(Active<K, T>, u64), Pass<K, T>>
     requires hall { active.hall ≡ hall.now.id }
     requires code { op.code < T.CODES }
-    ensures { MatchResult result (λ r. HasActed (inside active) (inside r.0) (record { op = op; reply = r.1 } ∷ [])
+    ensures { MatchResult result (λ r. HasActed K.rules T.meaning (inside active) None op r.1 r.0
         × (r.1 ≡ T.meaning.reply (data_of (monitor_of K.rules T.meaning active.floor) active.floor.history) op))
-        (λ q. HasLeftTired K.rules T.meaning active q) }
+        (λ q. IsTiredWithin K.rules T.meaning active None q) }
 {
     let mut active = active;
     if active.left() < 2 {
@@ -83,8 +85,8 @@ pub(crate) fn act_now<K: Kind, T: Guarded, R: Wait>(
 ) -> Result<(Active<K, T>, u64), Pass<K, T>>
     requires hall { pass.hall ≡ hall.now.id }
     requires code { op.code < T.CODES }
-    ensures { MatchResult result (λ r. HasActed (outside pass) (inside r.0) (record { op = op; reply = r.1 } ∷ []))
-        (λ q. HasTired K.rules T.meaning pass q) }
+    ensures { MatchResult result (λ r. HasActed K.rules T.meaning (outside pass) None op r.1 r.0)
+        (λ q. IsTiredFor K.rules T.meaning pass None q) }
 {
     match come_in(pass, rt, hall) {
         Ok(active) => act(active, hall, op),
@@ -104,9 +106,9 @@ fn come_in_when<K: Style, T: Guarded, R: Wait>(
     requires cond { Offers K.rules pass.me.setting.conds (cond + 1) }
     requires pred { pred < T.PREDICATES }
     ensures { MatchResult result
-        (λ a. HasActed (outside pass) (inside a) []
+        (λ a. HasPausedUntil K.rules T.meaning (outside pass) (Some (wanted cond pred)) a
         × (T.meaning.holds (data_of (monitor_of K.rules T.meaning a.floor) a.floor.history) pred ≡ true))
-        (λ q. HasTired K.rules T.meaning pass q) }
+        (λ q. IsTiredFor K.rules T.meaning pass (Some (wanted cond pred)) q) }
 {
     match come_in(pass, rt, hall) {
         Ok(active) => pause_until(active, rt, hall, cond, pred),
@@ -128,11 +130,37 @@ pub(crate) fn act_when<K: Style, T: Guarded, R: Wait>(
     requires pred { pred < T.PREDICATES }
     requires code { op.code < T.CODES }
     requires promise { Promises T.meaning pred op }
-    ensures { MatchResult result (λ r. HasActed (outside pass) (inside r.0) (record { op = op; reply = r.1 } ∷ [])
-        × (0 < r.1)) (λ q. HasTired K.rules T.meaning pass q) }
+    ensures { MatchResult result
+        (λ r. HasActed K.rules T.meaning (outside pass) (Some (wanted cond pred)) op r.1 r.0 × (0 < r.1))
+        (λ q. IsTiredFor K.rules T.meaning pass (Some (wanted cond pred)) q) }
 {
     match come_in_when(pass, rt, hall, cond, pred) {
         Ok(active) => act(active, hall, op),
         Err(pass) => Err(pass),
+    }
+}
+
+/// Comes in, pauses while the predicate is false, does an operation, which gets done then, and goes out letting a seat of
+/// the condition `next` go on.
+pub(crate) fn act_and_finish<K: Style, T: Guarded, R: Wait>(
+    pass: Pass<K, T>,
+    rt: &R,
+    hall: &Hall<K, T>,
+    cond: u8,
+    pred: u8,
+    op: Op,
+    next: u8,
+) -> (Pass<K, T>, End)
+    requires hall { pass.hall ≡ hall.now.id }
+    requires cond { Offers K.rules pass.me.setting.conds (cond + 1) }
+    requires pred { pred < T.PREDICATES }
+    requires code { op.code < T.CODES }
+    requires promise { Promises T.meaning pred op }
+    requires next { Offers K.rules pass.me.setting.conds (next + 1) }
+    ensures { HasVisited K.rules T.meaning pass (when cond pred op (always next) ∷ []) result.0 result.1 }
+{
+    match act_when(pass, rt, hall, cond, pred, op) {
+        Ok((active, _)) => K::finish(active, rt, hall, next),
+        Err(pass) => (pass, End::Tired),
     }
 }

@@ -9,7 +9,7 @@ use Rattle.monk_history.specs.Meaning.Counts.{events_of, left_of}
 use Rattle.monk_history.specs.Meaning.Events.{seat_of}
 use Rattle.monk_history.specs.Meaning.Standing.{times}
 use Rattle.monk_history.specs.declared.event.Event.{Event}
-use Rattle.monk_history.proofs.MeaningLaws.CountLaws.{total_le, length_total, length-events_of, length-events_of-push}
+use Rattle.monk_history.proofs.PublicLaws.Meaning.{total_le, length_total, length-events_of, length-events_of-push}
 use Rattle.monk_world.specs.Kept.{comes_in, comes_back, sum_below, IsBounded}
 use Rattle.monk_world.specs.Put.{put}
 use Rattle.monk_world.specs.State.{State, with_event}
@@ -68,7 +68,7 @@ length_seats [] = refl
 length_seats (e ∷ es) = ap suc (length_seats es)
 
 module _ (s : State) (b : IsBounded s) where
-  few_events : length s.floor.history ≤ 33554432
+  pub few_events : length s.floor.history ≤ 33554432
   few_events =
       let h = s.floor.history in
       let long = length_total s.floor.seats (map seat_of h) (λ j l. sym (length-events_of h j) ∙ b.outside j l) in

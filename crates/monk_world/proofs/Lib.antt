@@ -1,26 +1,27 @@
-pub mod PutLaws
-pub mod Holders
-pub mod RightArrives
-pub mod RightLooks
-pub mod RightFloor
-pub mod RightDrops
-pub mod RightGrants
-pub mod TurnLaws
-pub mod QueueingLaws
-pub mod OnePlaceLaws
-pub mod StepLaws
-pub mod EntersLaws
-pub mod TestLaws
-pub mod SoundWords
-pub mod SoundFloor
-pub mod SoundSteps
-pub mod RunLaws
-pub mod LedLaws
-pub mod StepCases
-pub mod StoredLaws
-pub mod BoundLaws
-pub mod DoneLaws
-pub mod WorldLaws
-pub mod PlayLaws
-pub mod RecordLaws
-pub mod DrawnLaws
+mod PutLaws
+mod Holders
+mod RightArrives
+mod RightLooks
+mod RightFloor
+mod RightDrops
+mod RightGrants
+mod TurnLaws
+mod QueueingLaws
+mod OnePlaceLaws
+mod StepLaws
+mod EntersLaws
+mod TestLaws
+mod SoundWords
+mod SoundFloor
+mod SoundSteps
+mod RunLaws
+mod LedLaws
+mod StepCases
+mod StoredLaws
+mod BoundLaws
+mod DoneLaws
+mod WorldLaws
+mod PlayLaws
+mod RecordLaws
+mod DrawnLaws
+pub mod PublicLaws

@@ -19,7 +19,7 @@ use Rattle.monk_history.specs.declared.event.Next.TheVariants as next
 use Rattle.monk_history.specs.declared.event.Turn.{Turn}
 use Rattle.monk_history.specs.declared.event.Via.{Via}
 use Rattle.monk_history.specs.declared.event.Via.TheVariants as via
-use Rattle.monk_history.proofs.MeaningLaws.CountLaws.{events_of-push}
+use Rattle.monk_history.proofs.PublicLaws.Meaning.{events_of-push}
 use Rattle.monk_floor.specs.View.{FloorView}
 use Rattle.monk_world.specs.Places.{stage, back_turn}
 use Rattle.monk_world.specs.Records.{Recorded, IsOwn, EntersWith, IsTaken, IsRecorded, recorded_by, recorded_command}

@@ -14,9 +14,7 @@ use Rattle.monk_history.specs.Meaning.Untils.{ready_of}
 use Rattle.monk_history.specs.declared.event.Next.TheVariants as next
 use Rattle.monk_history.specs.declared.event.Turn.{Turn}
 use Rattle.monk_history.specs.declared.event.Turn.TheVariants.{Open, Due as DueTurn, Owned}
-use Rattle.monk_history.proofs.MeaningLaws.CountLaws.{enters_none}
-use Rattle.monk_history.proofs.MeaningLaws.LegalLaws.{legal_none}
-use Rattle.monk_history.proofs.MeaningLaws.StepLaws.{situation-none}
+use Rattle.monk_history.proofs.PublicLaws.Meaning.{enters_none, legal_none, situation-none}
 use Rattle.monk_floor.specs.View.{FloorView, monitor_of, empty_floor}
 use Rattle.monk_world.specs.Enters.{used_at}
 use Rattle.monk_world.specs.Laws.{OpeningIsSound}

@@ -25,12 +25,8 @@ use Rattle.monk_history.specs.declared.event.Next.{Next}
 use Rattle.monk_history.specs.declared.event.Next.TheVariants as next
 use Rattle.monk_history.specs.declared.event.Turn.TheVariants as turn
 use Rattle.monk_history.specs.declared.event.Via.TheVariants as via
-use Rattle.monk_history.proofs.MeaningLaws.CountLaws.{enters_none}
-use Rattle.monk_history.proofs.MeaningLaws.EntryLaws.{enters_free, enters_handed, resumes}
-use Rattle.monk_history.proofs.MeaningLaws.LegalLaws.{legal-push}
-use Rattle.monk_history.proofs.MeaningLaws.MoveLaws.{counts_after, stands_after}
-use Rattle.monk_history.proofs.MeaningLaws.QuietLaws.{quiet_after}
-use Rattle.monk_history.proofs.MeaningLaws.StandingLaws.{legal_placed}
+use Rattle.monk_history.proofs.PublicLaws.Meaning.{enters_none, enters_free, enters_handed, resumes, legal-push}
+use Rattle.monk_history.proofs.PublicLaws.Meaning.{counts_after, stands_after, quiet_after, legal_placed}
 use Rattle.monk_floor.specs.View.{monitor_of, stands_of}
 use Rattle.monk_world.specs.Enters.{FitsEnters, used_by}
 use Rattle.monk_world.specs.Places.{stage, ticket, source, open_turn, due_to, turn_of_next, stays_inside}

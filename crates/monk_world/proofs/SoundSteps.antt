@@ -20,7 +20,7 @@ use Rattle.monk_history.specs.declared.event.Event.TheVariants.{Act, Leave, Wait
 use Rattle.monk_history.specs.declared.event.Next.{Next}
 use Rattle.monk_history.specs.declared.event.Next.TheVariants as next
 use Rattle.monk_history.specs.declared.event.Turn.TheVariants as turn
-use Rattle.monk_history.proofs.MeaningLaws.ReleaseLaws.{legal_order, chosen_allowed}
+use Rattle.monk_history.proofs.PublicLaws.Meaning.{legal_order, chosen_allowed}
 use Rattle.monk_floor.specs.View.{monitor_of, stands_of}
 use Rattle.monk_world.specs.Places.{stage, stays_inside, active_stage}
 use Rattle.monk_world.specs.Put.{put}

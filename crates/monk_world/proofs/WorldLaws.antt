@@ -30,7 +30,7 @@ use Rattle.monk_history.specs.declared.event.Next.{Next}
 use Rattle.monk_history.specs.declared.event.Next.TheVariants as next
 use Rattle.monk_history.specs.declared.event.Turn.{Turn}
 use Rattle.monk_history.specs.declared.event.Turn.TheVariants as turn
-use Rattle.monk_history.proofs.MeaningLaws.LegalLaws.{legal_last}
+use Rattle.monk_history.proofs.PublicLaws.Meaning.{legal_last}
 use Rattle.monk_floor.specs.Due.{IsDueTo}
 use Rattle.monk_floor.specs.Grown.{IsGrown}
 use Rattle.monk_floor.specs.View.{FloorView, monitor_of, empty_floor}
@@ -200,7 +200,7 @@ module _ (k : Rules) (o : Object) (w : Board) (f : FloorView) (v : WorldView) (i
             }) grows,
       )
 
-  pub release_goes : (e : Event) (pick : Pick) (to : Home) (x : Next) (known : Bool) (a : Answer) (new : Board)
+  release_goes : (e : Event) (pick : Pick) (to : Home) (x : Next) (known : Bool) (a : Answer) (new : Board)
       (g : FloorView) → known ≡ slice_index_or w.known.items i false
       → x ≡ release_next k o (record s { known = λ j. known }) i e pick → g ≡ with_event f (with_next x e)
       → a ≡ answer.Chose x → Shows w (cond (is_stay (Some x)) (world_on w) (after_floor_in (world_on w) i x to)) new
@@ -245,12 +245,27 @@ module _ (k : Rules) (o : Object) (w : Board) (f : FloorView) (v : WorldView) (i
   pub out_left : (q : Source) (conds : ℕ) → IsKept k o w.seats conds s → s.world.place i ≡ Due q → 0 < left_of f.budget f.history i
   out_left q conds old at = omega (arith, old.sound.is_sound.left i, ap left_at at)
 
-  pub at_active : (c : Command) (a : Answer) (t : State) → refusal k o (state_of_view v) i c ≡ None
+  at_active : (c : Command) (a : Answer) (t : State) → refusal k o (state_of_view v) i c ≡ None
       → may_be_told (s.world.place i) c ≡ (stage (s.world.place i) == active_stage)
       → ((q : Source) → IsDone k o s i (Active q) c a t) → Goes c a t
   at_active c a t free active d =
       let at = active_is (s.world.place i) (sym active ∙ (ready_here c free).told) in
       at_place (Active at.source) c a t at.is (d at.source)
+
+  -- a release is done as its command says, and keeps what is kept
+  pub release_done : {x : Next} {known : Bool} {a : Answer} {new : Board} {g : FloorView} (c : Command) (e : Event)
+      (pick : Pick) (to : Home) → refusal k o (state_of_view v) i c ≡ None
+      → may_be_told (s.world.place i) c ≡ (stage (s.world.place i) == active_stage)
+      → ((q : Source) → IsReleased k o s i e pick to a (state_in new g) → IsDone k o s i (Active q) c a (state_in new g))
+      → known ≡ slice_index_or w.known.items i false
+      → x ≡ release_next k o (record s { known = λ j. known }) i e pick → g ≡ with_event f (with_next x e)
+      → a ≡ answer.Chose x → Shows w (cond (is_stay (Some x)) (world_on w) (after_floor_in (world_on w) i x to)) new
+      → IsDone k o (state_of_view v) i ((state_of_view v).world.place i) c a (state_in new g)
+      × ((conds : ℕ) → IsKind k → IsKept k o w.seats conds s → new.seats ≡ w.seats → IsKept k o new.seats conds (state_in new g))
+  release_done {x = x} {known = known} {a = a} {new = new} {g = g} c e pick to free active does knows chooses grows is_a shows =
+      let goes = at_active c a (state_in new g) free active
+      (λ q. does q (release_goes e pick to x known a new g knows chooses grows is_a shows)) in
+      (returned c a (state_in new g) goes, λ conds kind old same. kept c a new g conds kind old free same goes)
 
   -- how small the words are
   pub drawn_here : (conds : ℕ) → IsKept k o w.seats conds s → w.drawn < 2147483648

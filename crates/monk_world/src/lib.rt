@@ -24,6 +24,3 @@ pub use place::Place;
 pub use play::{MOST_COMMANDS, one_play_each, read_play};
 pub use source::Source;
 pub use world::{World, record_entry};
-
-#[cfg(test)]
-mod tests;

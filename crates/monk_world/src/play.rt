@@ -3,8 +3,6 @@
 mod head;
 mod line;
 mod reading;
-#[cfg(test)]
-mod tests;
 mod verb;
 
 pub use reading::{MOST_COMMANDS, one_play_each, read_play};

@@ -1,6 +1,7 @@
-ghost use Rattle.std.specs.Prelude.{◌≡◌, ◌<◌, Option, Some, None, IfOk, IfErr};
+ghost use Rattle.std.specs.Prelude.{◌≡◌, ◌<◌, ◌≤◌, length, Option, Some, None, IfOk, IfErr};
 ghost use Rattle.monk_floor.specs.Making.{make_refusal, IsRefused};
 ghost use Rattle.monk_floor.specs.View.{monitor_of};
+ghost use Rattle.monk_history.specs.Limits.{most_lines};
 ghost use Rattle.monk_history.specs.Meaning.Counts.{left_of};
 ghost use Rattle.monk_history.specs.Meaning.Reasons.{IsAllowed};
 ghost use Rattle.monk_history.specs.Meaning.Turn.{turn};
@@ -80,6 +81,8 @@ impl<K: Kind, T: Guarded> World<K, T> {
     pub fn history(&self) -> &[Event]
         ensures history { result.now ≡ self.now.floor.history }
         ensures legal { IsLegal (monitor_of K.rules T.meaning self.now.floor) self.now.floor.history }
+        // It is no longer than a text may be.
+        ensures few { length self.now.floor.history ≤ most_lines }
         // The right is in one place, and active is exactly the seat that owns the history's turn.
         ensures well_led { IsWellLed K.rules T.meaning (state_of_view self.now) }
     {

@@ -1,4 +1,4 @@
-//! Streams where a request for memory may be refused. `checks/fail_alloc` refuses each in turn.
+//! Calls where a request for memory may be refused. `checks/fail_alloc` refuses each in turn.
 
 use crate::{StreamFault, audit_stream};
 use monk_history::Device;

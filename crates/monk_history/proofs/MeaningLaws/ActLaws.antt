@@ -11,9 +11,7 @@ use Rattle.monk_object.specs.Runs.{Answered, answers_of, state_after}
 use Rattle.monk_object.specs.declared.name.ObjectName.{ObjectName}
 use Rattle.monk_object.specs.declared.name.ObjectName.TheVariants.{Buffer, Book, Shop}
 use Rattle.monk_object.specs.declared.op.Op.{Op}
-use Rattle.monk_object.proofs.FirstInFirstOut.{first_in_first_out}
-use Rattle.monk_object.proofs.Exclusive.{exclusive}
-use Rattle.monk_object.proofs.Customers.{customers}
+use Rattle.monk_object.proofs.PublicLaws.{first_in_first_out, exclusive, customers}
 use Rattle.monk_history.specs.Meaning.Acts.{act_of, acts_in, ops_in, IsRunOf, IsInOrder, ExcludesEachOther, ServesEachOne}
 use Rattle.monk_history.specs.Meaning.Legal.{IsLegal}
 use Rattle.monk_history.specs.Meaning.Monitor.{Monitor, monitor, data_after, data_of}

@@ -1,8 +1,12 @@
 //! The threads of a run over a barber's shop.
-ghost use Rattle.std.specs.Prelude.{◌≡◌, All, IfOk};
+ghost use Rattle.std.specs.Prelude.{◌≡◌, ℕ, All, IfOk};
+ghost use Rattle.monk_object.specs.Shop.{shop_meaning};
 ghost use Rattle.monk_samples.specs.Crews.{AreReady, IsOf, IsReady};
+ghost use Rattle.monk_samples.specs.Rounds.{HasServed, round_of};
+ghost use Rattle.monk_samples.specs.Visits.{HasVisited};
+ghost use Rattle.monk_samples.specs.declared.sample.Sample.TheVariants as sample;
 
-use crate::crew::{OfHall, Shift, join_all, workers};
+use crate::crew::{Duty, Shift, join_all, workers};
 use crate::crew_fault::CrewFault;
 use crate::end::End;
 use crate::gate::Gate;
@@ -27,7 +31,8 @@ pub(crate) fn work_shop<K: Style, R: Threads + Wait + Sync, G: Gate>(
     gate: &G,
     rota: Rota,
 ) -> Result<Pass<K, Shop>, CrewFault>
-    requires { AreReady K.rules hall.now passes.items }
+    requires ready { AreReady K.rules hall.now passes.items }
+    requires sample { rota.sample ≡ sample.Shop }
     ensures { IfOk result (λ p. IsOf hall.now p) }
 {
     let workers = workers(alloc, rt, hall, gate, passes, rota)?;
@@ -35,7 +40,8 @@ pub(crate) fn work_shop<K: Style, R: Threads + Wait + Sync, G: Gate>(
         thread::scope_env(),
         rt,
         |scope| -> Result<Pass<K, Shop>, CrewFault>
-            requires { All (λ w. (w.hall.now ≡ hall.now) × IsReady K.rules hall.now w.pass) workers.items }
+            requires { All (λ w. ((w.hall.now ≡ hall.now) × IsReady K.rules hall.now w.pass)
+                × (w.rota.sample ≡ sample.Shop)) workers.items }
             ensures { IfOk result (λ p. IsOf hall.entry.now p) }
         {
             let crew = start_all(scope, alloc, hall, workers)?;
@@ -50,9 +56,10 @@ fn start_all<'s, E, K: Style, R: Wait + Sync, G: Gate>(
     alloc: Global,
     hall: &Hall<K, Shop>,
     workers: Vec<Worker<'s, K, Shop, R, G>>,
-) -> Result<Vec<Shift<K, Shop>>, CrewFault>
-    requires { All (λ w. (w.hall.now ≡ hall.now) × IsReady K.rules hall.now w.pass) workers.items }
-    ensures { IfOk result (λ v. All (λ s. s.promise.0.value ≡ hall.now) v.items) }
+) -> Result<Vec<Shift<K, Shop, G>>, CrewFault>
+    requires { All (λ w. ((w.hall.now ≡ hall.now) × IsReady K.rules hall.now w.pass) × (w.rota.sample ≡ sample.Shop))
+        workers.items }
+    ensures { IfOk result (λ v. All (λ s. s.promise.hall.value ≡ hall.now) v.items) }
 {
     let mut crew = Vec::with_capacity(alloc, workers.len())?;
     for worker in workers {
@@ -65,16 +72,25 @@ fn start_all<'s, E, K: Style, R: Wait + Sync, G: Gate>(
 fn start<'s, E, K: Style, R: Wait + Sync, G: Gate>(
     scope: &Scope<'s, E>,
     worker: Worker<'s, K, Shop, R, G>,
-) -> Result<Shift<K, Shop>, CrewFault>
-    requires { IsReady K.rules worker.hall.now worker.pass }
-    ensures { IfOk result (λ s. s.promise.0.value ≡ worker.entry.hall.now) }
+) -> Result<Shift<K, Shop, G>, CrewFault>
+    requires ready { IsReady K.rules worker.hall.now worker.pass }
+    requires sample { worker.rota.sample ≡ sample.Shop }
+    ensures { IfOk result (λ s. s.promise.hall.value ≡ worker.entry.hall.now) }
 {
-    let promise = OfHall(Snapshot::of(worker.hall));
+    let promise = Duty {
+        hall: Snapshot::of(worker.hall),
+        gate: Snapshot::of(worker.gate),
+        pass: Snapshot::of(&worker.pass),
+        rota: Snapshot::of(&worker.rota),
+    };
     let started = scope.spawn_with(
         promise,
         move || -> (Pass<K, Shop>, End)
-            requires { IsReady K.rules worker.hall.now worker.pass }
-            ensures { IsOf worker.entry.hall.now result.0 }
+            requires ready { IsReady K.rules worker.hall.now worker.pass }
+            requires sample { worker.rota.sample ≡ sample.Shop }
+            ensures back { IsOf worker.entry.hall.now result.0 }
+            ensures served { HasServed K.rules shop_meaning (G.answers worker.entry.gate.now) worker.entry.rota.sample
+                worker.entry.rota.seats worker.entry.rota.rounds worker.entry.pass result.0 result.1 }
         { work(worker) },
     );
     match started {
@@ -85,8 +101,11 @@ fn start<'s, E, K: Style, R: Wait + Sync, G: Gate>(
 
 /// Works all rounds of a seat, and asks the gate before each.
 fn work<K: Style, R: Wait, G: Gate>(worker: Worker<'_, K, Shop, R, G>) -> (Pass<K, Shop>, End)
-    requires { IsReady K.rules worker.hall.now worker.pass }
-    ensures { IsOf worker.entry.hall.now result.0 }
+    requires ready { IsReady K.rules worker.hall.now worker.pass }
+    requires sample { worker.rota.sample ≡ sample.Shop }
+    ensures back { IsOf worker.entry.hall.now result.0 }
+    ensures served { HasServed K.rules shop_meaning (G.answers worker.entry.gate.now) worker.entry.rota.sample
+        worker.entry.rota.seats worker.entry.rota.rounds worker.entry.pass result.0 result.1 }
 {
     let Worker {
         mut pass,
@@ -96,19 +115,37 @@ fn work<K: Style, R: Wait, G: Gate>(worker: Worker<'_, K, Shop, R, G>) -> (Pass<
         rota,
     } = worker;
     let seat = pass.seat();
-    for round in 1..=rota.rounds_of(seat) {
+    for done in 0..rota.rounds_of(seat) {
+        let round = done + 1;
         if !gate.pass(seat, round) {
             return (pass, End::Late);
         }
-        let (back, end) = if seat == 0 {
-            barber_turn(pass, rt, hall)
-        } else {
-            sit_and_cut(pass, rt, hall)
-        };
-        if end != End::Done {
-            return (back, end);
+        let (back, end) = do_round(pass, rt, hall, rota);
+        match end {
+            End::Done => pass = back,
+            _ => return (back, end),
         }
-        pass = back;
     }
     (pass, End::Done)
+}
+
+/// The visits of a seat in a round: they are the same in each.
+fn do_round<K: Style, R: Wait>(
+    pass: Pass<K, Shop>,
+    rt: &R,
+    hall: &Hall<K, Shop>,
+    rota: Rota,
+) -> (Pass<K, Shop>, End)
+    requires ready { IsReady K.rules hall.now pass }
+    requires sample { rota.sample ≡ sample.Shop }
+    ensures back { IsOf hall.now result.0 }
+    ensures visited { (round : ℕ) → HasVisited K.rules shop_meaning pass
+        (round_of rota.sample K.rules pass.me.setting rota.seats pass.me.seat round) result.0 result.1 }
+{
+    let seat = pass.seat();
+    if seat == 0 {
+        barber_turn(pass, rt, hall)
+    } else {
+        sit_and_cut(pass, rt, hall)
+    }
 }

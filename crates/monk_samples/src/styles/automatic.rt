@@ -20,7 +20,7 @@ pub(crate) fn pause<K: Kind, T: Guarded, R: Wait>(
     requires mode { has_conditions K.rules.mode ≡ false }
     requires hall { active.hall ≡ hall.now.id }
     requires pred { pred < T.PREDICATES }
-    ensures { MatchResult result (λ a. HasPaused active (Event.Until active.me.seat pred Next.Stay) a)
+    ensures { MatchResult result (λ a. HasPaused K.rules T.meaning active (Event.Until active.me.seat pred Next.Stay) a)
         (λ p. HasGivenUp K.rules T.meaning active p) }
 {
     if active.left() < 3 {

@@ -21,7 +21,7 @@ pub(crate) fn pause<K: Kind, T: Guarded, R: Wait>(
     requires mode { has_conditions K.rules.mode ≡ true }
     requires hall { active.hall ≡ hall.now.id }
     requires cond { cond < active.me.setting.conds }
-    ensures { MatchResult result (λ a. HasPaused active (Event.Wait active.me.seat cond Next.Stay) a)
+    ensures { MatchResult result (λ a. HasPaused K.rules T.meaning active (Event.Wait active.me.seat cond Next.Stay) a)
         (λ p. HasGivenUp K.rules T.meaning active p) }
 {
     if active.left() < 3 {

@@ -65,6 +65,37 @@ fn out_of_range_is_refused(rt: HostRuntime) -> Result<(), Fail> {
     Ok(())
 }
 
+/// Where a reader or a writer signalled the wrong condition, or a waiter were lost, so many rounds would not end.
+#[test]
+fn many_read_and_write(rt: HostRuntime) -> Result<(), Fail> {
+    let totals = [1200, 1200, 1200, 1200];
+    assert!(rt; has_totals::<Pb, _>(&rt, Sample::Book, 8, 300, totals));
+    assert!(rt; has_totals::<Npnb, _>(&rt, Sample::Book, 8, 300, totals));
+    Ok(())
+}
+
+/// A gate that is open in the first round alone.
+#[derive(Clone, Copy, Debug)]
+struct FirstRound;
+
+impl Gate for FirstRound {
+    fn pass(&self, _seat: u8, round: u32) -> bool {
+        round == 1
+    }
+}
+
+#[test]
+fn second_round_is_late(rt: HostRuntime) -> Result<(), Fail> {
+    for sample in [Sample::Buffer, Sample::Book, Sample::Shop] {
+        let fault = match run::<Pb, _, FirstRound>(&rt, rt.alloc(), sample, 2, 2, &FirstRound) {
+            Ok(_) => None,
+            Err(fault) => Some(fault),
+        };
+        assert!(rt; fault == Some(RunFault::Late));
+    }
+    Ok(())
+}
+
 /// How often a worker looks for the other.
 const MOST_LOOKS: u32 = 1_000_000_000;
 

@@ -7,7 +7,8 @@ use Rattle.monk_kinds.specs.declared.mode.Pick.{Pick}
 use Rattle.monk_kinds.specs.declared.mode.Pick.TheVariants as pick
 use Rattle.monk_object.specs.declared.op.Op.{Op}
 use Rattle.monk_history.specs.Text.Words.{◌>>=◌, Word, Taken, number_at, one_of, end_at}
-use Rattle.monk_history.proofs.TextLaws.WordReaders.{bind_ok, ok_is, number_takes, number_again, one_of_takes, one_of_again, end_takes}
+use Rattle.monk_history.proofs.PublicLaws.Texts.{bind_ok, ok_is, number_takes, number_again, one_of_takes, one_of_again}
+use Rattle.monk_history.proofs.PublicLaws.Texts.{end_takes}
 use Rattle.monk_world.specs.declared.command.Command.{Command}
 use Rattle.monk_world.specs.declared.command.Command.TheVariants.{Arrive, Look, Out, Peek, Drop, Grant, Act, Leave}
 use Rattle.monk_world.specs.declared.command.Command.TheVariants.{Wait, Signal, SignalLeave, Until}

@@ -2,8 +2,8 @@
 use Rattle.std.proofs.Common.{ℕ, refl, arith}
 use Rattle.monk_kinds.specs.declared.mode.Pick.{Pick}
 use Rattle.monk_kinds.specs.declared.mode.Pick.TheVariants as pick
-use Rattle.monk_history.proofs.TextLaws.LineCuts.{AreWords, IsWord, IsWord-decimal}
-use Rattle.monk_history.proofs.TextLaws.PlainWords.{decimal_word, kind_is_word, object_is_word}
+use Rattle.monk_history.proofs.PublicLaws.Texts.{AreWords, IsWord, IsWord-decimal, decimal_word, kind_is_word}
+use Rattle.monk_history.proofs.PublicLaws.Texts.{object_is_word}
 use Rattle.monk_world.specs.declared.command.Command.{Command}
 use Rattle.monk_world.specs.declared.command.Command.TheVariants.{Arrive, Look, Out, Peek, Drop, Grant, Act, Leave}
 use Rattle.monk_world.specs.declared.command.Command.TheVariants.{Wait, Signal, SignalLeave, Until}

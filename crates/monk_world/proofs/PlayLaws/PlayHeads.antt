@@ -6,8 +6,8 @@ use Rattle.std.proofs.lemmas.Bool.{leb-true, le-leb}
 use Rattle.monk_history.specs.Text.{Heading, IsHeading, part_words}
 use Rattle.monk_history.specs.Text.Reading.{parts_at}
 use Rattle.monk_history.specs.Text.Words.{◌>>=◌, Word, Taken, number_at, with_rest, literal_at, end_at}
-use Rattle.monk_history.proofs.TextLaws.HeaderReading.{parts_take, parts_again}
-use Rattle.monk_history.proofs.TextLaws.WordReaders.{bind_ok, ok_is, number_takes, number_again, literal_takes, end_takes}
+use Rattle.monk_history.proofs.PublicLaws.Texts.{parts_take, parts_again, bind_ok, ok_is, number_takes, number_again}
+use Rattle.monk_history.proofs.PublicLaws.Texts.{literal_takes, end_takes}
 use Rattle.monk_world.specs.declared.play.head.PlayHead.{PlayHead}
 use Rattle.monk_history.specs.Limits.{least_budget, most_budget}
 use Rattle.monk_world.specs.Play.{play_words}

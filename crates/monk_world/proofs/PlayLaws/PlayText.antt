@@ -4,8 +4,8 @@ use Rattle.std.specs.Global.{Vec}
 use Rattle.monk_history.specs.declared.text.fault.ReadFault.{ReadFault}
 use Rattle.monk_history.specs.Text.{Heading}
 use Rattle.monk_history.specs.Text.Lines.{Gives, lines_of, lines_at}
-use Rattle.monk_history.proofs.TextLaws.TextFormats as formats
-use Rattle.monk_history.proofs.TextLaws.TextFormats.{IsFormat}
+use Rattle.monk_history.proofs.PublicLaws.Formats as formats
+use Rattle.monk_history.proofs.PublicLaws.Formats.{IsFormat}
 use Rattle.monk_world.specs.declared.command.Command.{Command}
 use Rattle.monk_world.specs.declared.play.head.PlayHead.{PlayHead}
 use Rattle.monk_world.specs.Play.{HasPlayText, CommandFits, command_words, playtext}

@@ -1,6 +1,7 @@
 //! The header, the budget and the commands of a play's text, or its first fault.
 
 ghost use Rattle.std.specs.Prelude.{◌≡◌, ◌≤◌, ℕ, List, length, IfOk, Ok};
+ghost use Rattle.monk_history.specs.Limits.{most_lines};
 ghost use Rattle.monk_history.specs.Text.{Heading};
 ghost use Rattle.monk_history.specs.Text.Lines.{Gives};
 ghost use Rattle.monk_world.specs.declared.command.Command.{Command};
@@ -46,14 +47,14 @@ pub fn read_play(
     bytes: &[u8],
 ) -> Result<(Header, u32, Vec<(u8, Command)>), ReadFault>
     // What is read has this text.
-    ensures found { IfOk result (λ r. HasPlayText r.0 r.1 r.2.items × (length r.2.items ≤ MOST_COMMANDS)
+    ensures found { IfOk result (λ r. HasPlayText r.0 r.1 r.2.items × (length r.2.items ≤ most_lines)
         × (bytes.now ≡ playtext r.0 r.1 r.2.items)) }
     // What has a text is read from it, unless memory runs out.
     ensures only { (h : Heading) (budget : ℕ) (cs : List (ℕ × Command)) → HasPlayText h budget cs
-        → length cs ≤ MOST_COMMANDS → bytes.now ≡ playtext h budget cs
+        → length cs ≤ most_lines → bytes.now ≡ playtext h budget cs
         → Gives play_view result (Ok (play h budget cs)) }
     // Which fault it is.
-    ensures exact { Gives play_view result (play_at MOST_COMMANDS bytes.now) }
+    ensures exact { Gives play_view result (play_at most_lines bytes.now) }
 {
     let (head, commands): (PlayHead, Vec<(u8, Command)>) = read_lines(alloc, bytes, MOST_COMMANDS)?;
     Ok((head.header, head.budget, commands))

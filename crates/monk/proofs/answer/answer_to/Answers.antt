@@ -9,5 +9,5 @@ pub returns-in-Err-clause-answer : goal.returns-in-Err-clause-answer
 returns-in-Err-clause-answer c =
     IfOk-weaker c.unreadable.result _ _ (λ a h.
     subst (λ (x : Answer). (a.status ≡ x.status) × (string_bytes a.text ≡ x.text))
-    (sym (unreadable_text c.args.bytes.now c.in-Err.fault (c.in-Err.ensures h.0))) (h.1, h.2))
+    (sym (unreadable_text c.args.bytes.now c.in-Err.fault (c.in-Err.ensures.verdict h.0))) (h.1, h.2))
     c.unreadable.ensures.answer

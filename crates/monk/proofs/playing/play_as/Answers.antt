@@ -10,7 +10,7 @@ returns-in-Ok-write-clause-played g c = (
         c.args.commands.now c.history.result.now c.seats.result c.conds.result
         (state_of_view c.in-Ok.world) (state_of_view c.run.new.self) c.seats.ensures c.conds.ensures
         c.in-Ok.ensures.made.1 c.run.ensures.led c.run.ensures.recorded c.history.ensures.history
-        c.history.ensures.legal,
+        c.history.ensures.legal c.history.ensures.few c.in-Ok-write.ensures.has_text,
     c.in-Ok-write.ensures.ok.0,
   ),
 )

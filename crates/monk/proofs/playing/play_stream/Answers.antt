@@ -3,7 +3,7 @@ use Rattle.std.specs.Prelude.{IfSome}
 use Rattle.std.specs.Io.KnownBytes.{Appends}
 use Rattle.std.proofs.lemmas.Result.{IfOk-weaker}
 use Rattle.monk_history.specs.Text.Device.{held}
-use Rattle.monk.proofs.PlayExact.{zero_exactly, history_known}
+use Rattle.monk.proofs.PlayExact.{zero_exactly, history_known, legal_written}
 use Rattle.monk.proofs.playing.play_stream.Goals as goal
 
 pub returns-clause-played : goal.returns-clause-played
@@ -25,3 +25,7 @@ returns-clause-history g c =
     (subst (λ (bytes : List ℕ). IfSome known (λ input. bytes ≡ input)) (sym c.deref.ensures.value)
     c.in_ok-bytes.ensures.bytes) a)
     c.play_text.ensures.answer
+
+pub returns-clause-plays_are_legal : goal.returns-clause-plays_are_legal
+returns-clause-plays_are_legal g c =
+    IfOk-weaker c.play_text.result _ _ (λ status a. legal_written c.deref.result.now status _ a) c.play_text.ensures.answer

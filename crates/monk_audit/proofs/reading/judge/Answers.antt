@@ -6,7 +6,7 @@ use Rattle.monk_history.specs.Meaning.Step.{opening_situation}
 use Rattle.monk_history.specs.Text.Words.{◌>>=◌}
 use Rattle.monk_history.specs.Text.Lines.{items_left}
 use Rattle.monk_history.specs.Text.Reading.{event_at}
-use Rattle.monk_history.proofs.MeaningLaws.StepLaws.{same_situation}
+use Rattle.monk_history.proofs.PublicLaws.Meaning.{same_situation}
 use Rattle.monk_audit.specs.Replay.{replay_situation}
 use Rattle.monk_audit.proofs.ReadingLaws.{judged_start, judged_end, judged_more, judged_forbidden, reason_there}
 use Rattle.monk_audit.proofs.ReadingLaws.{item_found, none_found, room_found}

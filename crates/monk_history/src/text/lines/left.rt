@@ -1,9 +1,9 @@
 //! The lines of a text behind its first, read one after the other.
 
 ghost use Rattle.std.specs.Prelude.{◌≡◌, ◌≤◌, ◌+◌, IfOk, IfSome};
+ghost use Rattle.monk_history.specs.Limits.{most_lines};
 ghost use Rattle.monk_history.specs.Text.Lines.{IsNextItem, items_left, opened_at, lines_of, item_line, header_line};
 
-use crate::limits::MOST_LINES;
 use crate::text::fault::ReadFault;
 use crate::text::lines::record::{Head, Record};
 use crate::text::lines::split::split_once;
@@ -37,7 +37,7 @@ impl<'a> ItemLines<'a> {
     /// A text with no finished line has the fault `END`, or `HEADER` where it is empty.
     #[tactic(auto, unfolding(crate::specs::Text::Lines::opened_at))]
     pub fn open<H: Head>(bytes: &'a [u8], limit: u32) -> Result<(H, ItemLines<'a>), ReadFault>
-        requires { limit ≤ MOST_LINES }
+        requires { limit ≤ most_lines }
         ensures { result ≡ opened_at H.parse limit (lines_of bytes.entry.now) }
     {
         let Some((first, rest)) = split_once(bytes, b'\n') else {

@@ -1,9 +1,9 @@
 //! A text's header and items, or its first fault.
 
 ghost use Rattle.std.specs.Prelude.{◌≤◌};
+ghost use Rattle.monk_history.specs.Limits.{most_lines};
 ghost use Rattle.monk_history.specs.Text.Lines.{Gives, items_view, items_left, lines_view, lines_of, lines_at};
 
-use crate::limits::MOST_LINES;
 use crate::text::fault::ReadFault;
 use crate::text::lines::left::ItemLines;
 use crate::text::lines::record::{Head, Record};
@@ -33,7 +33,7 @@ pub fn read_lines<H: Head, A: Record<H>>(
     bytes: &[u8],
     limit: u32,
 ) -> Result<(H, Vec<A>), ReadFault>
-    requires { limit ≤ MOST_LINES }
+    requires { limit ≤ most_lines }
     ensures { Gives lines_view result (lines_at H.parse A.parse limit (lines_of bytes.now)) }
 {
     let (header, lines) = ItemLines::open(bytes, limit)?;

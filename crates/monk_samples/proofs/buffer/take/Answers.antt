@@ -1,16 +1,18 @@
-use Rattle.std.proofs.Common.{[], ◌∷◌, refl}
-use Rattle.monk_object.specs.Buffer.{buffer_meaning, TAKE}
-use Rattle.monk_samples.specs.Visits.{must}
-use Rattle.monk_samples.proofs.VisitLaws.{visited, tired_before}
+use Rattle.std.proofs.Common.{sym, ap, ◌∙◌}
+use Rattle.monk_object.specs.Buffer.{buffer_meaning}
+use Rattle.monk_samples.specs.Members.{takes}
+use Rattle.monk_samples.specs.Visits.{item_told}
+use Rattle.monk_samples.proofs.VisitLaws.{tired, tired_tells, visited_telling}
 use Rattle.monk_samples.proofs.buffer.take.Goals as goal
 
 pub returns-in-Ok : goal.returns-in-Ok
 returns-in-Ok g c =
-    let acts = record { op = record { code = TAKE; arg = 0 }; reply = c.in-Ok.reply } ∷ [] in (
-      visited g.K.Kind.rules buffer_meaning c.args.pass c.in-Ok.active 0 c.finish-pass.result.0 c.finish-pass.result.1
-          (must TAKE 0 ∷ []) acts c.in-Ok.ensures.0 (refl, (λ e. c.in-Ok.ensures.1), tt) c.finish-pass.ensures,
-      c.item_of.ensures,
-    )
+    let told = visited_telling g.K.Kind.rules buffer_meaning c.args.pass takes c.in-Ok.reply c.in-Ok.active
+    c.finish-pass.result.0 c.finish-pass.result.1 c.in-Ok.ensures.0 c.in-Ok.ensures.1 c.finish-pass.ensures in
+    (told.0, c.item_of.ensures ∙ sym (ap item_told told.1))
 
 pub returns-in-Err : goal.returns-in-Err
-returns-in-Err g c = (tired_before g.K.Kind.rules buffer_meaning c.args.pass c.in-Err.pass (must TAKE 0 ∷ []) c.in-Err.ensures, refl)
+returns-in-Err g c = (
+  tired g.K.Kind.rules buffer_meaning c.args.pass takes c.in-Err.pass c.in-Err.ensures,
+  sym (ap item_told (tired_tells g.K.Kind.rules buffer_meaning c.args.pass takes c.in-Err.pass c.in-Err.ensures)),
+)

@@ -4,5 +4,6 @@ use Rattle.monk_samples.specs.Crews.{AreReady, IsReady}
 use Rattle.monk_samples.proofs.crew.workers.Given as goal
 
 abbrev pub invariant-loop-pass : goal.invariant-loop-pass
-invariant-loop-pass g l = All (λ w. (w.hall.now ≡ l.hall) × IsReady g.K.Kind.rules l.hall w.pass) (vec_items l.workers)
+invariant-loop-pass g l = All (λ w. ((w.hall.now ≡ l.hall) × IsReady g.K.Kind.rules l.hall w.pass)
+    × (w.gate.now ≡ l.gate) × (w.rota ≡ l.rota)) (vec_items l.workers)
     × AreReady g.K.Kind.rules l.hall (into_iter_items l.pass-iterator)

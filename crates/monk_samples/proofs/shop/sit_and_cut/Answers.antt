@@ -1,6 +1,7 @@
 use Rattle.std.proofs.Common.{[], ◌∷◌, subst}
-use Rattle.monk_object.specs.Shop.{shop_meaning, SIT, DEPART}
-use Rattle.monk_samples.specs.Visits.{HasVisited, must}
+use Rattle.monk_object.specs.Shop.{shop_meaning}
+use Rattle.monk_samples.specs.Members.{sits, departs}
+use Rattle.monk_samples.specs.Visits.{HasVisited}
 use Rattle.monk_samples.specs.declared.end.End.{End}
 use Rattle.monk_samples.proofs.VisitLaws.{visited_once, visited_twice}
 use Rattle.monk_samples.proofs.shop.sit_and_cut.Goals as goal
@@ -8,11 +9,10 @@ use Rattle.monk_samples.proofs.shop.sit_and_cut.Goals as goal
 pub returns-in-Done : goal.returns-in-Done
 returns-in-Done g c =
     let k = g.K.Kind.rules in
-    let first = subst (λ (end : End). HasVisited k shop_meaning c.args.pass (must SIT 0 ∷ []) c.sit-pass.result.0 end)
+    let first = subst (λ (end : End). HasVisited k shop_meaning c.args.pass (sits ∷ []) c.sit-pass.result.0 end)
     c.in-Done.is c.sit-pass.ensures in
-    visited_twice k shop_meaning c.args.pass c.sit-pass.result.0 c.depart.result.0 c.depart.result.1 (must SIT 0 ∷ [])
-    (must DEPART 0 ∷ []) first c.depart.ensures
+    visited_twice k shop_meaning c.args.pass c.sit-pass.result.0 c.depart.result.0 c.depart.result.1 sits departs first c.depart.ensures
 
 pub returns-in_default : goal.returns-in_default
-returns-in_default g c = visited_once g.K.Kind.rules shop_meaning c.args.pass c.sit-pass.result.0 c.sit-pass.result.1
-    (must SIT 0 ∷ []) (must DEPART 0 ∷ []) c.in_default.not-Done c.sit-pass.ensures
+returns-in_default g c = visited_once g.K.Kind.rules shop_meaning c.args.pass c.sit-pass.result.0
+    c.sit-pass.result.1 sits departs c.in_default.not-Done c.sit-pass.ensures

@@ -1,13 +1,16 @@
-use Rattle.std.proofs.Common.{[], ◌∷◌}
+use Rattle.std.proofs.Common.{None}
 use Rattle.std.proofs.lemmas.Result.{MatchResult-weaker}
-use Rattle.monk_samples.specs.Trails.{inside, outside}
-use Rattle.monk_samples.proofs.TrailLaws.{acted_then}
-use Rattle.monk_samples.proofs.VisitLaws.{tired_inside}
+use Rattle.monk_samples.specs.Trails.{outside}
+use Rattle.monk_samples.proofs.VisitLaws.{acted_after, paused_none, stayed_out, tired_after, unready}
 use Rattle.monk_samples.proofs.visit.act_now.Goals as goal
 
 pub returns-in-Ok : goal.returns-in-Ok
 returns-in-Ok g c =
+    let k = g.K.Kind.rules in let o = g.T.Guarded.meaning in let p = c.args.pass in let a = c.in-Ok.active in
+    let came = paused_none k o (outside p) None a c.in-Ok.ensures in
     MatchResult-weaker c.act.result c.act.ensures
-    (λ r h. acted_then (outside c.args.pass) (inside c.in-Ok.active) (inside r.0) []
-    (record { op = c.args.op; reply = r.1 } ∷ []) c.in-Ok.ensures h.0)
-    (λ q t. tired_inside g.K.Kind.rules g.T.Guarded.meaning c.args.pass c.in-Ok.active q c.in-Ok.ensures t)
+    (λ r h. acted_after k o (outside p) None c.args.op r.1 a r.0 came h.0)
+    (λ q t. unready k o (outside p) None q (tired_after k o (outside p) None a q came t))
+
+pub returns-in-Err : goal.returns-in-Err
+returns-in-Err g c = stayed_out g.K.Kind.rules g.T.Guarded.meaning c.args.pass c.in-Err.pass None c.in-Err.ensures

@@ -3,8 +3,7 @@ use Rattle.std.specs.Prelude.{nat_lt, slice_index_or, false}
 use Rattle.monk_history.specs.Meaning.Monitor.{monitor}
 use Rattle.monk_history.specs.Meaning.Situation.{situation}
 use Rattle.monk_history.specs.Meaning.Standing.{has_turn, is_queued}
-use Rattle.monk_history.proofs.MeaningLaws.StandingLaws.{legal_placed}
-use Rattle.monk_history.proofs.MeaningLaws.CallLaws.{queued_is}
+use Rattle.monk_history.proofs.PublicLaws.Meaning.{legal_placed, queued_is}
 use Rattle.monk_floor.specs.View.{FloorView, monitor_of}
 use Rattle.monk_floor.proofs.floor.Floor.queued.Goals as goal
 

@@ -1,4 +1,4 @@
-use Rattle.monk_history.proofs.MeaningLaws.CallLaws.{may_leave}
+use Rattle.monk_history.proofs.PublicLaws.Meaning.{may_leave}
 use Rattle.monk_floor.specs.View.{monitor_of}
 use Rattle.monk_hall.proofs.ReleaseLaws.{is_near, leaves, leave_goes, owns}
 use Rattle.monk_hall.proofs.active.Active.record_leave.Goals as goal

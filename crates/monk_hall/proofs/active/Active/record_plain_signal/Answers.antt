@@ -1,6 +1,6 @@
 use Rattle.monk_history.specs.declared.event.Event.TheVariants.{Signal}
 use Rattle.monk_history.specs.declared.event.Next.TheVariants.{Stay}
-use Rattle.monk_history.proofs.MeaningLaws.CallLaws.{may_signal_on}
+use Rattle.monk_history.proofs.PublicLaws.Meaning.{may_signal_on}
 use Rattle.monk_floor.specs.View.{monitor_of}
 use Rattle.monk_hall.proofs.ReleaseLaws.{has_cond, is_near, must_known, owns, signals}
 use Rattle.monk_hall.proofs.active.Active.record_plain_signal.Goals as goal

@@ -1,4 +1,4 @@
-use Rattle.monk_history.proofs.MeaningLaws.CallLaws.{may_signal_leave}
+use Rattle.monk_history.proofs.PublicLaws.Meaning.{may_signal_leave}
 use Rattle.monk_floor.specs.View.{monitor_of}
 use Rattle.monk_hall.proofs.ReleaseLaws.{has_cond, is_near, owns, signal_leave_goes, signals_and_leaves}
 use Rattle.monk_hall.proofs.active.Active.record_plain_signal_leave.Goals as goal

@@ -1,7 +1,7 @@
 use Rattle.std.proofs.Common.{◌<◌, not, sym, ap, subst}
 use Rattle.monk_history.specs.declared.event.Event.TheVariants.{Until}
 use Rattle.monk_history.specs.declared.event.Next.TheVariants.{Stay}
-use Rattle.monk_history.proofs.MeaningLaws.CallLaws.{may_until}
+use Rattle.monk_history.proofs.PublicLaws.Meaning.{may_until}
 use Rattle.monk_floor.specs.View.{monitor_of}
 use Rattle.monk_hall.proofs.ReleaseLaws.{is_near, must_known, owns, waits_until}
 use Rattle.monk_hall.proofs.active.Active.record_plain_until.Goals as goal

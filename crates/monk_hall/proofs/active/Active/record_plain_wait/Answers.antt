@@ -1,4 +1,4 @@
-use Rattle.monk_history.proofs.MeaningLaws.CallLaws.{may_wait}
+use Rattle.monk_history.proofs.PublicLaws.Meaning.{may_wait}
 use Rattle.monk_floor.specs.View.{monitor_of}
 use Rattle.monk_hall.proofs.ReleaseLaws.{has_cond, is_near, owns, wait_goes, waits}
 use Rattle.monk_hall.proofs.active.Active.record_plain_wait.Goals as goal

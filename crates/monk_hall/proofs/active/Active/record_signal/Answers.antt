@@ -2,7 +2,7 @@ use Rattle.std.proofs.Common.{sym, ap, ◌∙◌}
 use Rattle.monk_history.specs.Meaning.Events.{has_signaller_queue}
 use Rattle.monk_history.specs.declared.event.Event.TheVariants.{Signal}
 use Rattle.monk_history.specs.declared.event.Next.TheVariants.{Stay}
-use Rattle.monk_history.proofs.MeaningLaws.CallLaws.{may_signal_on}
+use Rattle.monk_history.proofs.PublicLaws.Meaning.{may_signal_on}
 use Rattle.monk_floor.specs.View.{monitor_of}
 use Rattle.monk_hall.proofs.KindLaws.{explicit}
 use Rattle.monk_hall.proofs.ReleaseLaws.{has_cond, is_near, must_known, owns, signals}

@@ -1,6 +1,6 @@
 use Rattle.std.proofs.Common.{sym, ap, ◌∙◌}
 use Rattle.monk_history.specs.Meaning.Events.{has_conditions}
-use Rattle.monk_history.proofs.MeaningLaws.CallLaws.{may_wait}
+use Rattle.monk_history.proofs.PublicLaws.Meaning.{may_wait}
 use Rattle.monk_floor.specs.View.{monitor_of}
 use Rattle.monk_hall.proofs.KindLaws.{conditional}
 use Rattle.monk_hall.proofs.ReleaseLaws.{has_cond, is_near, owns, wait_goes, waits}

@@ -2,8 +2,7 @@ use Rattle.std.proofs.Common.{◌≡◌, ℕ, ◌+◌, ◌≤◌, false, length,
 use Rattle.monk_history.specs.declared.event.Event.TheVariants.{Signal}
 use Rattle.monk_history.specs.declared.event.Next.{Next}
 use Rattle.monk_history.specs.declared.event.Next.TheVariants.{Stay}
-use Rattle.monk_history.proofs.MeaningLaws.ModeLaws.{non_blocking}
-use Rattle.monk_history.proofs.MeaningLaws.PathLaws.{signal_stays}
+use Rattle.monk_history.proofs.PublicLaws.Meaning.{non_blocking, signal_stays}
 use Rattle.monk_kinds.specs.declared.mode.Pick.TheVariants.{Signaller}
 use Rattle.monk_floor.specs.Grown.{IsGrown}
 use Rattle.monk_floor.specs.View.{monitor_of}

@@ -1,15 +1,22 @@
-use Rattle.std.proofs.Common.{subst}
+use Rattle.std.proofs.Common.{subst, length, ◌≤◌}
 use Rattle.monk_world.proofs.world.World.history.Goals as goal
+use Rattle.monk_history.specs.Limits.{most_lines}
 use Rattle.monk_history.specs.Meaning.Legal.{IsLegal}
 use Rattle.monk_floor.specs.View.{monitor_of}
 use Rattle.monk_world.specs.Runs.{IsWellLed}
 use Rattle.monk_world.specs.Board.{WorldView, state_of_view, view_in}
+use Rattle.monk_world.proofs.BoundLaws.{few_events}
 use Rattle.monk_world.proofs.RunLaws.{well_led}
 
 pub returns-clause-legal : goal.returns-clause-legal
 returns-clause-legal g c =
     subst (λ (v : WorldView). IsLegal (monitor_of g.K.Kind.rules g.T.Guarded.meaning v.floor) v.floor.history)
     c.self.view_is c.self.invariant.sound.is_sound.legal
+
+pub returns-clause-few : goal.returns-clause-few
+returns-clause-few g c =
+    subst (λ (v : WorldView). length v.floor.history ≤ most_lines) c.self.view_is
+    (few_events (state_of_view (view_in c.self.inside.words c.self.inside.floor)) c.self.invariant.bounded)
 
 pub returns-clause-well_led : goal.returns-clause-well_led
 returns-clause-well_led g c =

@@ -8,26 +8,15 @@ use Rattle.monk_world.proofs.world.World.signal.Goals as goal
 
 pub invariant_of-self : goal.invariant_of-self
 invariant_of-self g c =
-    world.kept g.K.Kind.rules g.T.Guarded.meaning c.self.inside.words c.self.inside.floor c.args.self.now c.self.view_is
-    c.args.seat (command.Signal c.args.cond c.args.pick) c.floor_in.result c.floor_in.new.self
-    c.plain_signal-next.new.self c.self.inside.conds g.K.Kind.is_kind c.self.invariant c.requires
-    c.floor_in.ensures.shows.seats
-    (world.at_active g.K.Kind.rules g.T.Guarded.meaning c.self.inside.words c.self.inside.floor c.args.self.now
-    c.self.view_is c.args.seat (command.Signal c.args.cond c.args.pick) c.floor_in.result _ c.requires refl (λ q.
-    world.release_goes g.K.Kind.rules g.T.Guarded.meaning c.self.inside.words c.self.inside.floor c.args.self.now
-    c.self.view_is c.args.seat (Signal c.args.seat c.args.cond next.Stay) c.args.pick home.Inner
-    c.plain_signal-next.result c.knows-known.result c.floor_in.result c.floor_in.new.self
-    c.plain_signal-next.new.self c.knows-known.ensures c.plain_signal-next.ensures.choice
-    c.plain_signal-next.ensures.grown.grown c.floor_in.ensures.answer c.floor_in.ensures.shows))
+    (world.release_done g.K.Kind.rules g.T.Guarded.meaning c.self.inside.words c.self.inside.floor c.args.self.now
+    c.self.view_is c.args.seat (command.Signal c.args.cond c.args.pick) (Signal c.args.seat c.args.cond next.Stay) c.args.pick home.Inner
+    c.requires refl (λ q d. d) c.knows-known.ensures c.plain_signal-next.ensures.choice c.plain_signal-next.ensures.grown.grown
+    c.floor_in.ensures.answer c.floor_in.ensures.shows).1
+    c.self.inside.conds g.K.Kind.is_kind c.self.invariant c.floor_in.ensures.shows.seats
 
 pub returns : goal.returns
 returns g c =
-    world.returned g.K.Kind.rules g.T.Guarded.meaning c.self.inside.words c.self.inside.floor c.args.self.now
-    c.self.view_is c.args.seat (command.Signal c.args.cond c.args.pick) c.floor_in.result _
-    (world.at_active g.K.Kind.rules g.T.Guarded.meaning c.self.inside.words c.self.inside.floor c.args.self.now
-    c.self.view_is c.args.seat (command.Signal c.args.cond c.args.pick) c.floor_in.result _ c.requires refl (λ q.
-    world.release_goes g.K.Kind.rules g.T.Guarded.meaning c.self.inside.words c.self.inside.floor c.args.self.now
-    c.self.view_is c.args.seat (Signal c.args.seat c.args.cond next.Stay) c.args.pick home.Inner
-    c.plain_signal-next.result c.knows-known.result c.floor_in.result c.floor_in.new.self
-    c.plain_signal-next.new.self c.knows-known.ensures c.plain_signal-next.ensures.choice
-    c.plain_signal-next.ensures.grown.grown c.floor_in.ensures.answer c.floor_in.ensures.shows))
+    (world.release_done g.K.Kind.rules g.T.Guarded.meaning c.self.inside.words c.self.inside.floor c.args.self.now
+    c.self.view_is c.args.seat (command.Signal c.args.cond c.args.pick) (Signal c.args.seat c.args.cond next.Stay) c.args.pick home.Inner
+    c.requires refl (λ q d. d) c.knows-known.ensures c.plain_signal-next.ensures.choice c.plain_signal-next.ensures.grown.grown
+    c.floor_in.ensures.answer c.floor_in.ensures.shows).0

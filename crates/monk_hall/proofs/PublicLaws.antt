@@ -1,0 +1,4 @@
+-- What other crates may cite of these proofs: nothing else of `proofs` is public.
+
+-- Threads may share a hall, and a pass may go to another thread, where the object may
+pub use Rattle.monk_hall.proofs.Crossing.{hall_sync, pass_send}

@@ -1,0 +1,4 @@
+-- What other crates may cite of a text of lines under a header, for any items.
+
+-- The laws of texts of lines, for any header and any items that are written in words and read from them.
+pub use Rattle.monk_history.proofs.TextLaws.TextFormats.{IsFormat, text_again, text_one, text_read}

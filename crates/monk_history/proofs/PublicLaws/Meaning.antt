@@ -1,0 +1,44 @@
+-- What other crates may cite of the meaning of a history: who has the turn, what one event more changes, what may be
+-- called and what is then allowed.
+
+-- The acts of a legal history are a run of its object, so that the laws of the object hold of them
+pub use Rattle.monk_history.proofs.MeaningLaws.ActLaws.{excludes, in_order, serves_each}
+-- What a caller knows of the turn lets it call; and who is queued
+pub use Rattle.monk_history.proofs.MeaningLaws.CallLaws.{may_enter_free, may_enter_handed, may_leave}
+pub use Rattle.monk_history.proofs.MeaningLaws.CallLaws.{may_signal_leave, may_signal_on, may_until, may_wait}
+pub use Rattle.monk_history.proofs.MeaningLaws.CallLaws.{queued_is}
+-- One event more in what is counted seat by seat, and how long lists of few seats are
+pub use Rattle.monk_history.proofs.MeaningLaws.CountLaws.{enters_few, enters_none, enters_of-push, events_of-push}
+pub use Rattle.monk_history.proofs.MeaningLaws.CountLaws.{few_events, granted_few, granted_none, granted_of-push}
+pub use Rattle.monk_history.proofs.MeaningLaws.CountLaws.{history_few, length-events_of, length-events_of-push}
+pub use Rattle.monk_history.proofs.MeaningLaws.CountLaws.{length_total, room_left, total_le}
+-- When a seat may enter or resume; what may be called; what a seat knows of itself
+pub use Rattle.monk_history.proofs.MeaningLaws.EntryLaws.{enters_free, enters_handed, resumes}
+-- One event more: what is counted over a history, step by step
+pub use Rattle.monk_history.proofs.MeaningLaws.HistoryLaws.{history_induction}
+-- Which histories are legal: event by event, and by their front
+pub use Rattle.monk_history.proofs.MeaningLaws.LegalLaws.{allowed_from_reason, first_fault_unique, legal-push}
+pub use Rattle.monk_history.proofs.MeaningLaws.LegalLaws.{legal_front, legal_last, legal_no_fault, legal_none}
+-- What a mode does to the choice
+pub use Rattle.monk_history.proofs.MeaningLaws.ModeLaws.{blocking, non_blocking}
+-- Where seats stand after one event more, and what is counted
+pub use Rattle.monk_history.proofs.MeaningLaws.MoveLaws.{caller_unqueued, counts_after, queued_once, stands_after}
+-- The choice along the path of a mode is the choice by the wish rules
+pub use Rattle.monk_history.proofs.MeaningLaws.PathLaws.{equal_path, quasi_blocking, ready_path, served_path}
+pub use Rattle.monk_history.proofs.MeaningLaws.PathLaws.{signal_stays, signaller_path, waiter_path}
+-- Entry is chosen past nobody, unless somebody is known to wait for it
+pub use Rattle.monk_history.proofs.MeaningLaws.QuietLaws.{quiet_after}
+-- A call that may be made, with the choice by the wish rules, is allowed; and who stands in the queues
+pub use Rattle.monk_history.proofs.MeaningLaws.ReleaseLaws.{HasRoom, IsInOrder, IsSeated, caller_apart}
+pub use Rattle.monk_history.proofs.MeaningLaws.ReleaseLaws.{chosen_allowed, legal_order, legal_seated, room_for}
+pub use Rattle.monk_history.proofs.MeaningLaws.ReleaseLaws.{seat_in_range, times_le_conditions}
+-- The front of the signaller queue
+pub use Rattle.monk_history.proofs.MeaningLaws.SignallerLaws.{front_is_taken}
+-- Where the seats of a legal history stand
+pub use Rattle.monk_history.proofs.MeaningLaws.StandingLaws.{legal_placed}
+-- The situation after one event more
+pub use Rattle.monk_history.proofs.MeaningLaws.StepLaws.{joins_in_range, legal_situation-push, same_situation, situation-none}
+-- Tests joined, and fronts of queues
+pub use Rattle.monk_history.proofs.MeaningLaws.TestLaws.{and_left, and_right}
+-- Whose turn it is after one event more
+pub use Rattle.monk_history.proofs.MeaningLaws.TurnLaws.{turn-push}

@@ -1,0 +1,8 @@
+-- What other crates may cite of these proofs: nothing else of `proofs` is public.
+
+-- A shop loses no customer
+pub use Rattle.monk_object.proofs.Customers.{customers}
+-- Readers and a writer of a book exclude each other
+pub use Rattle.monk_object.proofs.Exclusive.{exclusive}
+-- A buffer is first in, first out
+pub use Rattle.monk_object.proofs.FirstInFirstOut.{first_in_first_out}

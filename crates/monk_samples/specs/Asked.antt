@@ -1,0 +1,35 @@
+-- What a call of a seat asks for, and by which wish a release chooses
+use Rattle.std.specs.Prelude.{◌≡◌, List, [], ◌∷◌, Some, false}
+use Rattle.monk_kinds.specs.declared.mode.Pick.TheVariants.{Waiter}
+use Rattle.monk_kinds.specs.declared.mode.Rules.{Rules}
+use Rattle.monk_object.specs.Object.{Object}
+use Rattle.monk_history.specs.Meaning.Events.{next_of}
+use Rattle.monk_history.specs.Meaning.Release.{with_next, choice_of}
+use Rattle.monk_history.specs.declared.event.Event.{Event}
+use Rattle.monk_history.specs.declared.event.Next.{Next}
+use Rattle.monk_history.specs.declared.event.Next.TheVariants.{Stay}
+use Rattle.monk_floor.specs.View.{stands_of}
+use Rattle.monk_hall.specs.Layout.{floor_of}
+use Rattle.monk_hall.specs.declared.setting.Setting.{Setting}
+use Rattle.monk_samples.specs.Trails.{Addition}
+
+-- what was asked for: a release is written with `stay`, whatever it chose
+abbrev pub asked : Addition → Event
+asked d = with_next Stay d.event
+
+-- where it released, it chose by the wish for a waiter
+abbrev pub WishesForWaiter : Rules → Object → Setting → Addition → Type 0
+WishesForWaiter k o c d = (x : Next) → next_of d.event ≡ Some x
+    → x ≡ choice_of k o (stands_of k o (floor_of c d.before)) (asked d) false Waiter
+
+-- a call that asks for this, with the wish for a waiter
+pub record IsCall (k : Rules) (o : Object) (c : Setting) (call : Event) (d : Addition) : Type 0 where
+  pub asks : asked d ≡ call
+  pub wishes : WishesForWaiter k o c d
+
+-- these calls and no other, in order
+abbrev pub AreCalls : Rules → Object → Setting → List Event → List Addition → Type 0
+AreCalls k o c [] [] = Unit {0}
+AreCalls k o c [] (d ∷ ds) = ⊥
+AreCalls k o c (e ∷ es) [] = ⊥
+AreCalls k o c (e ∷ es) (d ∷ ds) = IsCall k o c e d × AreCalls k o c es ds

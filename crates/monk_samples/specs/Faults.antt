@@ -1,0 +1,25 @@
+-- Which end of a worker is a fault of its crew, and of the run
+use Rattle.std.specs.Prelude.{Option, Some, None}
+use Rattle.monk_samples.specs.declared.crew_fault.CrewFault.{CrewFault}
+use Rattle.monk_samples.specs.declared.crew_fault.CrewFault.TheVariants as crew
+use Rattle.monk_samples.specs.declared.end.End.{End}
+use Rattle.monk_samples.specs.declared.end.End.TheVariants.{Done, Tired, Late}
+use Rattle.monk_samples.specs.declared.run_fault.RunFault.{RunFault}
+use Rattle.monk_samples.specs.declared.run_fault.RunFault.TheVariants as run
+
+abbrev pub fault_of : End → Option CrewFault
+fault_of Done = None
+fault_of Tired = Some crew.Tired
+fault_of Late = Some crew.Late
+
+-- the first fault: one that there was, or else the end's after it
+abbrev pub fault_after : Option CrewFault → End → Option CrewFault
+fault_after None end = fault_of end
+fault_after (Some fault) end = Some fault
+
+abbrev pub run_fault_of : CrewFault → RunFault
+run_fault_of crew.Memory = run.Memory
+run_fault_of crew.Tired = run.Tired
+run_fault_of crew.Late = run.Late
+run_fault_of crew.Busy = run.Busy
+run_fault_of crew.Thread = run.Thread

@@ -1,0 +1,68 @@
+-- What each member of the samples does, by its visits
+use Rattle.std.specs.Prelude.{ℕ, ◌&&◌, Some, if◌then◌else◌}
+use Rattle.monk_kinds.specs.declared.mode.Rules.{Rules}
+use Rattle.monk_object.specs.Book.{book_meaning, START_READ, END_READ, START_WRITE, END_WRITE}
+use Rattle.monk_object.specs.Book as book
+use Rattle.monk_object.specs.Buffer.{PUT, TAKE, HAS_ROOM, HAS_ITEM}
+use Rattle.monk_object.specs.Shop.{SIT, CALL, FINISH, DEPART, HAS_SEAT, CAN_CALL, IS_DONE}
+use Rattle.monk_hall.specs.declared.setting.Setting.{Setting}
+use Rattle.monk_samples.specs.Styles.{has_waiting}
+use Rattle.monk_samples.specs.Visits.{Plan, when, at_once, always, nobody, op_of, data_after}
+
+-- the conditions of a buffer: there is room; an item is there
+abbrev pub NOT_FULL : ℕ
+NOT_FULL = 0
+
+abbrev pub NOT_EMPTY : ℕ
+NOT_EMPTY = 1
+
+-- of a book: a read may start; a write may start
+abbrev pub CAN_READ : ℕ
+CAN_READ = 0
+
+abbrev pub CAN_WRITE : ℕ
+CAN_WRITE = 1
+
+-- of a shop: a seat is free; a customer may be called; a cut is done
+abbrev pub SEAT_FREE : ℕ
+SEAT_FREE = 0
+
+abbrev pub CUSTOMER_SITS : ℕ
+CUSTOMER_SITS = 1
+
+abbrev pub CUT_DONE : ℕ
+CUT_DONE = 2
+
+abbrev pub puts : ℕ → Plan
+puts item = when NOT_FULL HAS_ROOM (op_of PUT item) (always NOT_EMPTY)
+
+abbrev pub takes : Plan
+takes = when NOT_EMPTY HAS_ITEM (op_of TAKE 0) (always NOT_FULL)
+
+abbrev pub begins_to_read : Plan
+begins_to_read = when CAN_READ book.CAN_READ (op_of START_READ 0) (always CAN_READ)
+
+-- the last reader signals a writer if one waits, and others a reader
+abbrev pub ends_to_read : Rules → Setting → Plan
+ends_to_read k c = at_once (op_of END_READ 0)
+    (λ h. if book_meaning.holds (data_after k book_meaning c h) book.CAN_WRITE && has_waiting k CAN_WRITE h then Some CAN_WRITE
+    else Some CAN_READ)
+
+abbrev pub begins_to_write : Plan
+begins_to_write = when CAN_WRITE book.CAN_WRITE (op_of START_WRITE 0) nobody
+
+-- a reader if one waits, else a writer
+abbrev pub ends_to_write : Rules → Plan
+ends_to_write k = at_once (op_of END_WRITE 0) (λ h. if has_waiting k CAN_READ h then Some CAN_READ else Some CAN_WRITE)
+
+abbrev pub sits : Plan
+sits = when SEAT_FREE HAS_SEAT (op_of SIT 0) (always CUSTOMER_SITS)
+
+abbrev pub departs : Plan
+departs = when CUT_DONE IS_DONE (op_of DEPART 0) (always CUSTOMER_SITS)
+
+abbrev pub calls : Plan
+calls = when CUSTOMER_SITS CAN_CALL (op_of CALL 0) (always SEAT_FREE)
+
+abbrev pub finishes : Plan
+finishes = at_once (op_of FINISH 0) (always CUT_DONE)

@@ -1,0 +1,15 @@
+//! What no clause says of the crates below the hall: the values and texts that people know, known histories and plays,
+//! readers and writers that fail in mid-stream, and refused memory.
+
+mod audits;
+mod calls;
+mod floor_histories;
+mod floor_steps;
+mod floors;
+mod kinds;
+mod objects;
+mod play_texts;
+mod refused;
+mod texts;
+mod tight;
+mod worlds;

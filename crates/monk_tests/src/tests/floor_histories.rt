@@ -1,0 +1,201 @@
+//! Worked histories of floors, and what a floor tells.
+ghost use Rattle.monk_tests.specs.FloorCalls.{IsRoom};
+
+use super::floor_steps::{
+    CONDS, SEATS, SIZE, both_automatic, both_explicit, both_returning, room, runs_explicitly,
+};
+use monk_floor::{Floor, MakeFault};
+use monk_history::{Event, From3, Next, Via};
+use monk_kinds::{Kind, Npb, Npir, Npis, Pb, Pick, Pir, Pis, Pnb, Pqb};
+use monk_object::{Buffer, Guarded, Op};
+use std::test::Fail;
+
+const PUT: Op = Op { code: 0, arg: 7 };
+
+const TAKE: Op = Op { code: 1, arg: 0 };
+
+fn refusal(rt: &HostRuntime, seats: u8, conds: u8, budget: u32) -> Result<Option<MakeFault>, Fail> {
+    let buffer = Buffer::make(rt.alloc(), 1)?;
+    match Floor::<Pb, Buffer>::make(rt.alloc(), buffer, seats, conds, budget) {
+        Ok(_) => Ok(None),
+        Err(fault) => Ok(Some(fault)),
+    }
+}
+
+#[test]
+fn refusals_in_order(rt: HostRuntime) -> Result<(), Fail> {
+    let calls = [
+        (0, 9, 1, Some(MakeFault::Seats)),
+        (33, 9, 1, Some(MakeFault::Seats)),
+        (32, 9, 1, Some(MakeFault::Conds)),
+        (32, 8, 1, Some(MakeFault::Budget)),
+        (1, 0, 1_048_577, Some(MakeFault::Budget)),
+        (32, 8, 2, None),
+    ];
+    for (seats, conds, budget, fault) in calls {
+        assert_eq!(rt;
+            refusal(&rt, seats, conds, budget)?,
+            fault,
+            "{seats} {conds} {budget}"
+        );
+    }
+    Ok(())
+}
+
+const HOARE_HANDOVER: [Event; 11] = [
+    Event::Enter(0, Via::Free),
+    Event::Act(0, TAKE, 0),
+    Event::Wait(0, 1, Next::Entry),
+    Event::Enter(1, Via::Free),
+    Event::Act(1, PUT, 1),
+    Event::Signal(1, 1, Next::Waiter(0)),
+    Event::Resume(0, From3::Waiter),
+    Event::Act(0, TAKE, 8),
+    Event::Leave(0, Next::Signaller(1)),
+    Event::Resume(1, From3::Signaller),
+    Event::Leave(1, Next::Entry),
+];
+
+#[test]
+fn hoare_handover(rt: HostRuntime) -> Result<(), Fail> {
+    assert!(rt; both_explicit::<Pb>(&rt, &HOARE_HANDOVER, Pick::Waiter)?);
+    Ok(())
+}
+
+const MESA_SIGNAL_AND_CONTINUE: [Event; 9] = [
+    Event::Enter(0, Via::Free),
+    Event::Act(0, TAKE, 0),
+    Event::Wait(0, 1, Next::Entry),
+    Event::Enter(1, Via::Free),
+    Event::Act(1, PUT, 1),
+    Event::Signal(1, 1, Next::Stay),
+    Event::Leave(1, Next::Waiter(0)),
+    Event::Resume(0, From3::Waiter),
+    Event::Leave(0, Next::Entry),
+];
+
+#[test]
+fn mesa_signal_and_continue(rt: HostRuntime) -> Result<(), Fail> {
+    assert!(rt; both_explicit::<Pnb>(&rt, &MESA_SIGNAL_AND_CONTINUE, Pick::Waiter)?);
+    Ok(())
+}
+
+const LEAVE_PAST_SIGNALLER: [Event; 7] = [
+    Event::Enter(0, Via::Free),
+    Event::Wait(0, 1, Next::Entry),
+    Event::Enter(1, Via::Free),
+    Event::Signal(1, 1, Next::Waiter(0)),
+    Event::Resume(0, From3::Waiter),
+    Event::Leave(0, Next::Entry),
+    Event::Enter(2, Via::Handed),
+];
+
+#[test]
+fn leave_past_signaller(rt: HostRuntime) -> Result<(), Fail> {
+    assert!(rt; both_explicit::<Npb>(&rt, &LEAVE_PAST_SIGNALLER, Pick::Entry)?);
+    Ok(())
+}
+
+const QUASI_BLOCKING_ORDER: [Event; 10] = [
+    Event::Enter(0, Via::Free),
+    Event::Wait(0, 0, Next::Entry),
+    Event::Enter(1, Via::Free),
+    Event::Wait(1, 0, Next::Entry),
+    Event::Enter(2, Via::Free),
+    Event::Signal(2, 0, Next::Waiter(0)),
+    Event::Resume(0, From3::Waiter),
+    Event::Signal(0, 0, Next::Waiter(1)),
+    Event::Resume(1, From3::Waiter),
+    Event::Leave(1, Next::Signaller(2)),
+];
+
+#[test]
+fn quasi_blocking_order(rt: HostRuntime) -> Result<(), Fail> {
+    assert!(rt; both_explicit::<Pqb>(&rt, &QUASI_BLOCKING_ORDER, Pick::Waiter)?);
+    Ok(())
+}
+
+const SIGNAL_AND_RETURN: [Event; 5] = [
+    Event::Enter(0, Via::Free),
+    Event::Wait(0, 0, Next::Entry),
+    Event::Enter(1, Via::Free),
+    Event::SignalLeave(1, 0, Next::Waiter(0)),
+    Event::Resume(0, From3::Waiter),
+];
+
+/// Entry and the served seat are of one priority.
+const RETURN_PAST_WAITER: [Event; 4] = [
+    Event::Enter(0, Via::Free),
+    Event::Wait(0, 0, Next::Entry),
+    Event::Enter(1, Via::Free),
+    Event::SignalLeave(1, 0, Next::Entry),
+];
+
+#[test]
+fn immediate_return(rt: HostRuntime) -> Result<(), Fail> {
+    assert!(rt; both_returning::<Pir>(&rt, &SIGNAL_AND_RETURN, Pick::Entry)?);
+    assert!(rt; both_returning::<Npir>(&rt, &RETURN_PAST_WAITER, Pick::Entry)?);
+    Ok(())
+}
+
+const AUTOMATIC_SIGNAL: [Event; 8] = [
+    Event::Enter(0, Via::Free),
+    Event::Until(0, 1, Next::Entry),
+    Event::Enter(1, Via::Free),
+    Event::Act(1, PUT, 1),
+    Event::Leave(1, Next::Until(0)),
+    Event::Resume(0, From3::Until),
+    Event::Act(0, TAKE, 8),
+    Event::Leave(0, Next::Entry),
+];
+
+/// Entry and the ready seats are of one priority.
+const LEAVE_PAST_READY: [Event; 5] = [
+    Event::Enter(0, Via::Free),
+    Event::Until(0, 1, Next::Entry),
+    Event::Enter(1, Via::Free),
+    Event::Act(1, PUT, 1),
+    Event::Leave(1, Next::Entry),
+];
+
+#[test]
+fn automatic_signal(rt: HostRuntime) -> Result<(), Fail> {
+    assert!(rt; both_automatic::<Pis>(&rt, &AUTOMATIC_SIGNAL, Pick::Waiter)?);
+    assert!(rt; both_automatic::<Npis>(&rt, &LEAVE_PAST_READY, Pick::Entry)?);
+    Ok(())
+}
+
+/// What is left to seat 0, how often it was granted the monitor, whether it is queued, and who waits on condition 1.
+fn looks<K: Kind>(floor: &Floor<K, Buffer>) -> (u32, u32, bool, u32)
+    requires { IsRoom SEATS CONDS SIZE floor.now }
+{
+    (
+        floor.left(0),
+        floor.granted(0),
+        floor.queued(0),
+        floor.waiting(1),
+    )
+}
+
+#[test]
+fn what_a_floor_tells(rt: HostRuntime) -> Result<(), Fail> {
+    let mut floor: Floor<Pb, Buffer> = room(&rt)?;
+    assert!(rt; runs_explicitly(&rt, &mut floor, &HOARE_HANDOVER[..5], Pick::Waiter)?);
+    assert_eq!(rt; looks(&floor), (13, 0, true, 1));
+    assert!(rt; floor.holds(Buffer::HAS_ITEM));
+    assert!(rt; runs_explicitly(&rt, &mut floor, &HOARE_HANDOVER[5..], Pick::Waiter)?);
+    assert_eq!(rt; looks(&floor), (10, 1, false, 0));
+    assert_eq!(rt; floor.enters(), 2);
+    assert_eq!(rt; floor.history().len(), 11);
+    Ok(())
+}
+
+#[test]
+fn what_is_left_when_it_closes(rt: HostRuntime) -> Result<(), Fail> {
+    let mut floor: Floor<Pb, Buffer> = room(&rt)?;
+    assert!(rt; runs_explicitly(&rt, &mut floor, &HOARE_HANDOVER, Pick::Waiter)?);
+    let (buffer, history) = floor.close();
+    assert!(rt; buffer.holds(Buffer::HAS_ROOM));
+    assert_eq!(rt; history.len(), 11);
+    Ok(())
+}

@@ -1,0 +1,273 @@
+//! A floor driven through a worked history, by the general scheduler step and by the path of the mode. The auditor is
+//! asked whether an event may come, since a floor doesn't test that.
+ghost use Rattle.std.specs.Prelude.{IfOk, IsTrue};
+ghost use Rattle.monk_tests.specs.FloorCalls.{IsRoom, IsAllowedOn, MayCome};
+
+use monk_audit::{Verdict, audit};
+use monk_floor::Floor;
+use monk_history::laws::{allowed_may_be_called, seat_resumes};
+use monk_history::{Event, Header};
+use monk_kinds::{Automatic, Explicit, ImmediateReturn, Kind, Pick};
+use monk_object::{Buffer, ObjectName};
+use std::test::Fail;
+
+pub(crate) const SEATS: u8 = 3;
+
+pub(crate) const CONDS: u8 = 2;
+
+pub(crate) const SIZE: u8 = 1;
+
+/// A floor over a buffer of one item.
+pub(crate) fn room<K: Kind>(rt: &HostRuntime) -> Result<Floor<K, Buffer>, Fail>
+    ensures { IfOk result (IsRoom SEATS CONDS SIZE) }
+{
+    let buffer = Buffer::make(rt.alloc(), SIZE)?;
+    Ok(Floor::make(rt.alloc(), buffer, SEATS, CONDS, 16)?)
+}
+
+/// Whether the auditor finds this event allowed after the floor's history.
+fn is_allowed<K: Kind>(
+    rt: &HostRuntime,
+    floor: &Floor<K, Buffer>,
+    event: Event,
+) -> Result<bool, Fail>
+    requires { IsRoom SEATS CONDS SIZE floor.now }
+    ensures { IfOk result (λ allowed. IsTrue allowed → IsAllowedOn K.rules floor.now event) }
+{
+    let Some(header) = Header::new(K::NAME, SEATS, CONDS, ObjectName::Buffer, SIZE) else {
+        return Ok(false);
+    };
+    let mut grown = Vec::from_slice(rt.alloc(), floor.history())?;
+    grown.push(event)?;
+    let events = grown.as_slice();
+    if events.len() > 1 << 25 {
+        return Ok(false);
+    }
+    match audit(rt.alloc(), &header, events)? {
+        Verdict::Legal(count) => Ok(count as usize == events.len()),
+        Verdict::Forbidden { .. } => Ok(false),
+    }
+}
+
+/// Whether an event may come next, and one is left to its seat.
+fn may_come<K: Kind>(rt: &HostRuntime, floor: &Floor<K, Buffer>, event: Event) -> Result<bool, Fail>
+    requires { IsRoom SEATS CONDS SIZE floor.now }
+    ensures { IfOk result (λ may. IsTrue may → MayCome K.rules floor.now event) }
+{
+    let seat = event.seat();
+    if seat >= SEATS || floor.left(seat) == 0 {
+        return Ok(false);
+    }
+    is_allowed(rt, floor, event)
+}
+
+/// Makes the call of an event that chooses nobody, and says whether that very event came of it.
+fn moves<K: Kind>(floor: &mut Floor<K, Buffer>, event: Event) -> bool
+    requires room { IsRoom SEATS CONDS SIZE floor.old }
+    requires may_come { MayCome K.rules floor.old event }
+    ensures { IsRoom SEATS CONDS SIZE floor.new }
+{
+    allowed_may_be_called();
+    seat_resumes();
+    match event {
+        Event::Enter(seat, via) => {
+            floor.enter(seat, via);
+            true
+        }
+        Event::Act(seat, op, reply) => floor.act(seat, op) == reply,
+        Event::Resume(seat, queue) => floor.resume(seat) == queue,
+        _ => false,
+    }
+}
+
+/// Makes the call of an event by the general scheduler step, if it may come, and says whether that very event came of
+/// it.
+fn steps_plainly<K: Kind>(
+    rt: &HostRuntime,
+    floor: &mut Floor<K, Buffer>,
+    event: Event,
+    pick: Pick,
+) -> Result<bool, Fail>
+    requires { IsRoom SEATS CONDS SIZE floor.old }
+    ensures { IsRoom SEATS CONDS SIZE floor.new }
+{
+    if !may_come(rt, floor, event)? {
+        return Ok(false);
+    }
+    allowed_may_be_called();
+    let known = pick == Pick::Entry;
+    Ok(match event {
+        Event::Leave(seat, next) => floor.plain_leave(seat, pick, known) == next,
+        Event::Wait(seat, cond, next) => floor.plain_wait(seat, cond, pick, known) == next,
+        Event::Signal(seat, cond, next) => floor.plain_signal(seat, cond, pick, known) == next,
+        Event::SignalLeave(seat, cond, next) => {
+            floor.plain_signal_leave(seat, cond, pick, known) == next
+        }
+        Event::Until(seat, pred, next) => floor.plain_until(seat, pred, pick, known) == next,
+        _ => moves(floor, event),
+    })
+}
+
+fn runs_plainly<K: Kind>(
+    rt: &HostRuntime,
+    floor: &mut Floor<K, Buffer>,
+    events: &[Event],
+    pick: Pick,
+) -> Result<bool, Fail>
+    requires { IsRoom SEATS CONDS SIZE floor.old }
+{
+    for event in events {
+        if !steps_plainly(rt, floor, *event, pick)? {
+            return Ok(false);
+        }
+    }
+    Ok(true)
+}
+
+fn steps_explicitly<K: Explicit>(
+    rt: &HostRuntime,
+    floor: &mut Floor<K, Buffer>,
+    event: Event,
+    pick: Pick,
+) -> Result<bool, Fail>
+    requires { IsRoom SEATS CONDS SIZE floor.old }
+    ensures { IsRoom SEATS CONDS SIZE floor.new }
+{
+    if !may_come(rt, floor, event)? {
+        return Ok(false);
+    }
+    allowed_may_be_called();
+    let known = pick == Pick::Entry;
+    Ok(match event {
+        Event::Leave(seat, next) => floor.leave(seat, pick, known) == next,
+        Event::Wait(seat, cond, next) => floor.wait(seat, cond, pick, known) == next,
+        Event::Signal(seat, cond, next) => floor.signal(seat, cond, pick, known) == next,
+        _ => moves(floor, event),
+    })
+}
+
+pub(crate) fn runs_explicitly<K: Explicit>(
+    rt: &HostRuntime,
+    floor: &mut Floor<K, Buffer>,
+    events: &[Event],
+    pick: Pick,
+) -> Result<bool, Fail>
+    requires { IsRoom SEATS CONDS SIZE floor.old }
+    ensures { IsRoom SEATS CONDS SIZE floor.new }
+{
+    for event in events {
+        if !steps_explicitly(rt, floor, *event, pick)? {
+            return Ok(false);
+        }
+    }
+    Ok(true)
+}
+
+fn steps_returning<K: ImmediateReturn>(
+    rt: &HostRuntime,
+    floor: &mut Floor<K, Buffer>,
+    event: Event,
+    pick: Pick,
+) -> Result<bool, Fail>
+    requires { IsRoom SEATS CONDS SIZE floor.old }
+    ensures { IsRoom SEATS CONDS SIZE floor.new }
+{
+    if !may_come(rt, floor, event)? {
+        return Ok(false);
+    }
+    allowed_may_be_called();
+    let known = pick == Pick::Entry;
+    Ok(match event {
+        Event::Leave(seat, next) => floor.leave(seat, pick, known) == next,
+        Event::Wait(seat, cond, next) => floor.wait(seat, cond, pick, known) == next,
+        Event::SignalLeave(seat, cond, next) => floor.signal_leave(seat, cond, pick, known) == next,
+        _ => moves(floor, event),
+    })
+}
+
+fn runs_returning<K: ImmediateReturn>(
+    rt: &HostRuntime,
+    floor: &mut Floor<K, Buffer>,
+    events: &[Event],
+    pick: Pick,
+) -> Result<bool, Fail>
+    requires { IsRoom SEATS CONDS SIZE floor.old }
+{
+    for event in events {
+        if !steps_returning(rt, floor, *event, pick)? {
+            return Ok(false);
+        }
+    }
+    Ok(true)
+}
+
+fn steps_automatically<K: Automatic>(
+    rt: &HostRuntime,
+    floor: &mut Floor<K, Buffer>,
+    event: Event,
+    pick: Pick,
+) -> Result<bool, Fail>
+    requires { IsRoom SEATS CONDS SIZE floor.old }
+    ensures { IsRoom SEATS CONDS SIZE floor.new }
+{
+    if !may_come(rt, floor, event)? {
+        return Ok(false);
+    }
+    allowed_may_be_called();
+    let known = pick == Pick::Entry;
+    Ok(match event {
+        Event::Leave(seat, next) => floor.leave(seat, pick, known) == next,
+        Event::Until(seat, pred, next) => floor.until(seat, pred, pick, known) == next,
+        _ => moves(floor, event),
+    })
+}
+
+fn runs_automatically<K: Automatic>(
+    rt: &HostRuntime,
+    floor: &mut Floor<K, Buffer>,
+    events: &[Event],
+    pick: Pick,
+) -> Result<bool, Fail>
+    requires { IsRoom SEATS CONDS SIZE floor.old }
+{
+    for event in events {
+        if !steps_automatically(rt, floor, *event, pick)? {
+            return Ok(false);
+        }
+    }
+    Ok(true)
+}
+
+/// Whether both paths make exactly these events.
+pub(crate) fn both_explicit<K: Explicit>(
+    rt: &HostRuntime,
+    events: &[Event],
+    pick: Pick,
+) -> Result<bool, Fail> {
+    let mut plain: Floor<K, Buffer> = room(rt)?;
+    let mut path: Floor<K, Buffer> = room(rt)?;
+    Ok(runs_plainly(rt, &mut plain, events, pick)? && runs_explicitly(rt, &mut path, events, pick)?)
+}
+
+pub(crate) fn both_returning<K: ImmediateReturn>(
+    rt: &HostRuntime,
+    events: &[Event],
+    pick: Pick,
+) -> Result<bool, Fail> {
+    let mut plain: Floor<K, Buffer> = room(rt)?;
+    let mut path: Floor<K, Buffer> = room(rt)?;
+    Ok(runs_plainly(rt, &mut plain, events, pick)? && runs_returning(rt, &mut path, events, pick)?)
+}
+
+pub(crate) fn both_automatic<K: Automatic>(
+    rt: &HostRuntime,
+    events: &[Event],
+    pick: Pick,
+) -> Result<bool, Fail> {
+    let mut plain: Floor<K, Buffer> = room(rt)?;
+    let mut path: Floor<K, Buffer> = room(rt)?;
+    Ok(
+        runs_plainly(rt, &mut plain, events, pick)?
+            && runs_automatically(rt, &mut path, events, pick)?,
+    )
+}

@@ -1,0 +1,114 @@
+use monk_history::MOST_BUDGET;
+use monk_kinds::{KindName, Pick};
+use monk_object::{ObjectName, Op};
+use monk_world::{Command, one_play_each, read_play};
+use std::test::Fail;
+
+/// A seat draws its ticket while the other is leaving, and is granted the right all the same.
+const LOST_TICKET: &[u8] =
+    b"play 1 PB 2 2 buffer 1 8\n0 arrive\n0 out\n0 leave waiter\n1 arrive\n0 drop\n0 grant\n1 look\n1 out\n";
+
+/// Each action and each wish, with the least and the greatest numbers.
+const EACH: &[u8] =
+    b"play 1 NPIS 32 8 shop 255 1048576\n255 arrive\n0 look\n1 out\n2 peek\n3 drop\n4 grant\n5 act 255 4294967295\n6 act 0 0\n7 leave entry\n8 wait 255 waiter\n9 signal 0 signaller\n10 signal-leave 255 entry\n11 until 3 waiter\n";
+
+/// The fault's number and line, or 0 and the number of commands.
+fn outcome(rt: &HostRuntime, bytes: &[u8]) -> (u8, u32) {
+    match read_play(rt.alloc(), bytes) {
+        Ok((_, _, commands)) => (0, u32::try_from(commands.len()).unwrap_or(0)),
+        Err(fault) => (fault.number, fault.line),
+    }
+}
+
+#[test]
+fn lost_ticket(rt: HostRuntime) -> Result<(), Fail> {
+    let (header, budget, commands) = read_play(rt.alloc(), LOST_TICKET)?;
+    assert!(rt; header.kind() == KindName::Pb && header.object() == ObjectName::Buffer);
+    assert_eq!(rt;
+        (header.seats(), header.conds(), header.size(), budget),
+        (2, 2, 1, 8)
+    );
+    let want = [
+        (0, Command::Arrive),
+        (0, Command::Out),
+        (0, Command::Leave(Pick::Waiter)),
+        (1, Command::Arrive),
+        (0, Command::Drop),
+        (0, Command::Grant),
+        (1, Command::Look),
+        (1, Command::Out),
+    ];
+    assert!(rt; commands.as_slice() == want.as_slice());
+    Ok(())
+}
+
+#[test]
+fn each_action(rt: HostRuntime) -> Result<(), Fail> {
+    let (header, budget, commands) = read_play(rt.alloc(), EACH)?;
+    assert!(rt; header.kind() == KindName::Npis && header.object() == ObjectName::Shop);
+    assert_eq!(rt;
+        (header.seats(), header.conds(), header.size(), budget),
+        (32, 8, 255, MOST_BUDGET)
+    );
+    let greatest = Op {
+        code: 255,
+        arg: u32::MAX,
+    };
+    let want = [
+        (255, Command::Arrive),
+        (0, Command::Look),
+        (1, Command::Out),
+        (2, Command::Peek),
+        (3, Command::Drop),
+        (4, Command::Grant),
+        (5, Command::Act(greatest)),
+        (6, Command::Act(Op { code: 0, arg: 0 })),
+        (7, Command::Leave(Pick::Entry)),
+        (8, Command::Wait(255, Pick::Waiter)),
+        (9, Command::Signal(0, Pick::Signaller)),
+        (10, Command::SignalLeave(255, Pick::Entry)),
+        (11, Command::Until(3, Pick::Waiter)),
+    ];
+    assert!(rt; commands.as_slice() == want.as_slice());
+    Ok(())
+}
+
+#[test]
+fn first_lines(rt: HostRuntime) {
+    for (text, want) in [
+        ("", (1, 1)),
+        ("play 1 PB 1 0 buffer 1 2\n", (0, 0)),
+        ("play 1 PB 1 0 buffer 1 1\n", (1, 1)),
+        ("play 1 PB 1 0 buffer 1 1048577\n", (1, 1)),
+        ("play 1 PB 0 0 buffer 1 2\n", (1, 1)),
+        ("play 1 PB 1 0 buffer 1\n", (1, 1)),
+        ("play 1 PB 1 0 buffer 1 2 2\n", (1, 1)),
+        ("monk 1 PB 1 0 buffer 1\n", (1, 1)),
+        ("play 1 PB 1 0 buffer 1 1", (4, 1)),
+    ] {
+        assert_eq!(rt; outcome(&rt, text.as_bytes()), want, "{text:?}");
+    }
+    one_play_each();
+}
+
+#[test]
+fn faulty_lines(rt: HostRuntime) -> Result<(), Fail> {
+    for (line, want) in [
+        ("0 arrive\n", (0, 1)),
+        ("0 leave anybody\n", (2, 2)),
+        ("0 leave\n", (2, 2)),
+        ("0 arrives\n", (2, 2)),
+        ("0 arrive 0\n", (2, 2)),
+        ("\n", (3, 2)),
+        ("0 act 256 0\n", (3, 2)),
+        ("0 act 0 4294967296\n", (3, 2)),
+        ("arrive 0\n", (3, 2)),
+        ("0 wait 01 entry\n", (3, 2)),
+        ("0 arrive\n1 look", (4, 3)),
+    ] {
+        let mut text = Vec::from_slice(rt.alloc(), b"play 1 PB 2 2 buffer 1 8\n")?;
+        text.extend_from_slice(line.as_bytes())?;
+        assert_eq!(rt; outcome(&rt, &text), want, "{line:?}");
+    }
+    Ok(())
+}

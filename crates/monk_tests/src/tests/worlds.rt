@@ -1,0 +1,168 @@
+//! Worked plays, each answer compared.
+use monk_history::{Event, Next, Via};
+use monk_kinds::{Pb, Pick};
+use monk_object::{Buffer, Op};
+use monk_world::{Answer, Command, World};
+use std::test::Fail;
+
+const LEAVE: Command = Command::Leave(Pick::Waiter);
+
+/// How many seats and conditions there are, and how many events each seat has.
+#[derive(Clone, Copy)]
+struct Size {
+    seats: u8,
+    conds: u8,
+    budget: u32,
+}
+
+const TWO_SEATS: Size = Size {
+    seats: 2,
+    conds: 0,
+    budget: 8,
+};
+
+/// Whether these steps, from the start over a buffer of size 1, have these answers and lead to this history.
+fn plays(
+    rt: &HostRuntime,
+    size: Size,
+    steps: &[(u8, Command, Answer)],
+    history: &[Event],
+) -> Result<bool, Fail> {
+    let buffer = Buffer::make(rt.alloc(), 1)?;
+    let mut world = World::<Pb, Buffer>::make(
+        rt.alloc(),
+        buffer,
+        size.seats,
+        size.conds,
+        size.budget,
+    )?;
+    for (seat, command, answer) in steps {
+        if world.step(*seat, *command) != *answer {
+            return Ok(false);
+        }
+    }
+    Ok(world.history() == history)
+}
+
+const ARRIVES_AT_THE_DROP: [(u8, Command, Answer); 8] = [
+    (0, Command::Arrive, Answer::Arrived(0, 0)),
+    (0, Command::Out, Answer::Now),
+    (0, LEAVE, Answer::Chose(Next::Entry)),
+    (1, Command::Arrive, Answer::Arrived(1, 1)),
+    (0, Command::Drop, Answer::Found(2)),
+    (0, Command::Grant, Answer::GrantedTicket(1)),
+    (1, Command::Look, Answer::Looked(true)),
+    (1, Command::Out, Answer::Now),
+];
+
+#[test]
+fn arrives_at_the_drop(rt: HostRuntime) -> Result<(), Fail> {
+    let history = [
+        Event::Enter(0, Via::Free),
+        Event::Leave(0, Next::Entry),
+        Event::Enter(1, Via::Handed),
+    ];
+    assert!(rt; plays(&rt, TWO_SEATS, &ARRIVES_AT_THE_DROP, &history)?);
+    Ok(())
+}
+
+const SAME_PLACE_TWICE: [(u8, Command, Answer); 15] = [
+    (0, Command::Arrive, Answer::Arrived(0, 0)),
+    (0, Command::Out, Answer::Now),
+    (1, Command::Arrive, Answer::Arrived(1, 1)),
+    (0, LEAVE, Answer::Chose(Next::Entry)),
+    (0, Command::Drop, Answer::Found(2)),
+    (0, Command::Grant, Answer::GrantedTicket(1)),
+    (0, Command::Arrive, Answer::Arrived(2, 1)),
+    (1, Command::Look, Answer::Looked(true)),
+    (1, Command::Out, Answer::Now),
+    (1, LEAVE, Answer::Chose(Next::Entry)),
+    (1, Command::Drop, Answer::Found(2)),
+    (1, Command::Grant, Answer::GrantedTicket(2)),
+    (1, Command::Arrive, Answer::Arrived(3, 1)),
+    (1, Command::Look, Answer::Looked(false)),
+    (1, Command::Out, Answer::NotNow),
+];
+
+#[test]
+fn same_place_twice(rt: HostRuntime) -> Result<(), Fail> {
+    let history = [
+        Event::Enter(0, Via::Free),
+        Event::Leave(0, Next::Entry),
+        Event::Enter(1, Via::Handed),
+        Event::Leave(1, Next::Entry),
+    ];
+    assert!(rt; plays(&rt, TWO_SEATS, &SAME_PLACE_TWICE, &history)?);
+    Ok(())
+}
+
+const WAIT: Command = Command::Wait(0, Pick::Waiter);
+
+const UNTIL: Command = Command::Until(0, Pick::Waiter);
+
+const NO_SUCH_UNTIL: Command = Command::Until(2, Pick::Waiter);
+
+const PUT: Command = Command::Act(Op { code: 0, arg: 5 });
+
+/// One seat with a budget of 2: each refusal stands in front of the next, where that would apply too.
+const REFUSALS: [(u8, Command, Answer); 19] = [
+    // Out of range, and a call that the kind doesn't have.
+    (1, UNTIL, Answer::Range),
+    (0, NO_SUCH_UNTIL, Answer::Range),
+    // A call that the kind doesn't have, of a seat that stands elsewhere.
+    (0, UNTIL, Answer::NoCall),
+    (0, Command::Drop, Answer::NotNow),
+    (0, Command::Arrive, Answer::Arrived(0, 0)),
+    (0, Command::Arrive, Answer::NotNow),
+    (1, Command::Arrive, Answer::Range),
+    (0, Command::Out, Answer::Now),
+    (0, PUT, Answer::Tired),
+    (0, WAIT, Answer::Tired),
+    (0, UNTIL, Answer::NoCall),
+    (0, Command::Look, Answer::NotNow),
+    (0, LEAVE, Answer::Chose(Next::Entry)),
+    // A seat that stands elsewhere, and has nothing left.
+    (0, PUT, Answer::NotNow),
+    (0, WAIT, Answer::NotNow),
+    (0, Command::Arrive, Answer::NotNow),
+    (0, Command::Drop, Answer::Found(1)),
+    (0, Command::Arrive, Answer::Tired),
+    (0, Command::Drop, Answer::NotNow),
+];
+
+const ONE_SEAT: Size = Size {
+    seats: 1,
+    conds: 1,
+    budget: 2,
+};
+
+#[test]
+fn refusals_change_nothing(rt: HostRuntime) -> Result<(), Fail> {
+    let history = [Event::Enter(0, Via::Free), Event::Leave(0, Next::Entry)];
+    assert!(rt; plays(&rt, ONE_SEAT, &REFUSALS, &history)?);
+    let without_conditions = Size {
+        conds: 0,
+        ..ONE_SEAT
+    };
+    let out_of_range = [
+        (0, Command::Arrive, Answer::Arrived(0, 0)),
+        (0, Command::Out, Answer::Now),
+        // Tired too.
+        (0, WAIT, Answer::Range),
+        (0, LEAVE, Answer::Chose(Next::Entry)),
+    ];
+    assert!(rt; plays(&rt, without_conditions, &out_of_range, &history)?);
+    Ok(())
+}
+
+/// `run` takes the commands as `step` does, refused ones too.
+#[test]
+fn runs_go_on_after_refusals(rt: HostRuntime) -> Result<(), Fail> {
+    let buffer = Buffer::make(rt.alloc(), 1)?;
+    let mut world = World::<Pb, Buffer>::make(rt.alloc(), buffer, 1, 1, 2)?;
+    let commands = REFUSALS.map(|(seat, command, _)| (seat, command));
+    world.run(&commands);
+    let history = [Event::Enter(0, Via::Free), Event::Leave(0, Next::Entry)];
+    assert!(rt; world.history() == history.as_slice());
+    Ok(())
+}
