@@ -3,8 +3,10 @@ mod StyleLaws
 mod VisitLaws
 mod RoundLaws
 mod FaultLaws
+mod EndLaws
 mod SeatLaws
 mod Crossing
 mod RunLaws
+mod RunEndLaws
 mod TotalLaws
 pub mod PublicLaws

@@ -1,6 +1,6 @@
 -- What a run rests on: lists of workers and threads, a hall's passes, and the header of a closed hall
 use Rattle.std.proofs.Common.{◌≡◌, ℕ, zero, suc, ◌+◌, ◌*◌, ◌^◌, ◌≤◌, Bool, true, false, cond, All, Result, Ok, Err}
-use Rattle.std.proofs.Common.{IfOk, Option, Some, None, nat_le, ◌&&◌, List, [], ◌∷◌, ◌++◌, length, refl, sym, ap, subst}
+use Rattle.std.proofs.Common.{IfErr, IfOk, OnOk, Option, Some, None, nat_le, ◌&&◌, List, [], ◌∷◌, ◌++◌, map, length, refl, sym, ap, subst}
 use Rattle.std.proofs.Common.{◌∙◌, arith}
 use Rattle.std.proofs.lemmas.Bool.{false≢true}
 use Rattle.std.proofs.Math.Nat.{mul-le-mul_right}
@@ -56,6 +56,15 @@ all_weaker xs P Q f h = λ k d near. f _ (h k d near)
 
 pub none_yet : {X : Type 0} (xs : List X) (P : X → Type 0) → xs ≡ [] → All P xs
 none_yet xs P e = All-same P xs [] e (All-nil P)
+
+-- what was at the front of the one list has gone to the back of the other
+pub mapped_more : {X Y : Type 0} (xs ys : List X) (x : X) (f : X → Y) → ys ≡ xs ++ x ∷ [] → (rest all : List Y) → all ≡ f x ∷ rest
+    → map f ys ++ rest ≡ map f xs ++ all
+mapped_more xs ys x f e rest all front = ap (λ zs. map f zs ++ rest) e ∙ through xs ∙ ap (λ zs. map f xs ++ zs) (sym front)
+  where
+    through : (zs : List _) → map f (zs ++ x ∷ []) ++ rest ≡ map f zs ++ f x ∷ rest
+    through [] = refl
+    through (z ∷ zs) = ap (λ ws. f z ∷ ws) (through zs)
 
 pub offers_all : (k : Rules) → Offers k (conds_of k) 3
 offers_all k = by_mode k.mode
@@ -157,3 +166,11 @@ law_here k sample seats rounds h lent e of =
 pub if_ok : {A E : Type 0} (r : Result A E) (P Q : A → Type 0) → ((a : A) → P a → Q a) → IfOk r P → IfOk r Q
 if_ok (Ok a) P Q f h = f a h
 if_ok (Err e) P Q f h = h
+
+pub if_then : {A E : Type 0} (r : Result A E) (Q : Type 0) → Q → OnOk r Q
+if_then (Ok a) Q q = q
+if_then (Err e) Q q = tt
+
+pub if_fault : {A E : Type 0} (r : Result A E) (P Q : E → Type 0) → ((e : E) → P e → Q e) → IfErr r P → IfErr r Q
+if_fault (Ok a) P Q f h = h
+if_fault (Err e) P Q f h = f e h

@@ -9,3 +9,5 @@ pub mod Samples
 pub mod Rounds
 pub mod Faults
 pub mod Crews
+pub mod Ends
+pub mod Runs

@@ -1,10 +1,13 @@
 //! The threads of a run, whatever its object.
-ghost use Rattle.std.specs.Prelude.{◌≡◌, All, IfOk, OnOk};
-ghost use Rattle.monk_samples.specs.Crews.{AreReady, IsOf, IsReady};
+ghost use Rattle.std.specs.Prelude.{◌≡◌, ◌++◌, All, IfErr, IfOk, IfSome, map, option_to_list};
+ghost use Rattle.monk_samples.specs.Crews.{AreReady, IsReady};
+ghost use Rattle.monk_samples.specs.Ends.{HaveServed, IsFaultOfCrew};
 ghost use Rattle.monk_samples.specs.Faults.{fault_after, fault_of};
-ghost use Rattle.monk_samples.specs.Rounds.{HasServed, HasServedToEnd};
+ghost use Rattle.monk_samples.specs.Rounds.{rounds_of};
+ghost use Rattle.monk_samples.specs.declared.crew_fault.CrewFault.TheVariants as crew;
 
 use crate::crew_fault::CrewFault;
+use crate::duty::Shift;
 use crate::end::End;
 use crate::gate::Gate;
 use crate::rota::Rota;
@@ -13,8 +16,7 @@ use monk_hall::{Hall, Pass};
 use monk_kinds::Kind;
 use monk_object::Guarded;
 use std::alloc::Global;
-use std::snapshot::Snapshot;
-use std::thread::{Promise, PromisedHandle, Threads};
+use std::thread::Threads;
 
 mod book;
 mod buffer;
@@ -24,25 +26,38 @@ pub(crate) use book::work_book;
 pub(crate) use buffer::work_buffer;
 pub(crate) use shop::work_shop;
 
-/// What the thread of a worker promises: the pass that it gives back is of the hall, and its seat has worked its rounds.
-#[derive(Drop)]
-pub(crate) struct Duty<K: Kind, T: Guarded, G: Gate> {
-    pub(crate) hall: Snapshot<Hall<K, T>>,
-    pub(crate) gate: Snapshot<G>,
-    pub(crate) pass: Snapshot<Pass<K, T>>,
-    pub(crate) rota: Snapshot<Rota>,
+/// The seats that have rounds to work, in order, and the last one where it has none.
+pub(crate) fn part_idle<K: Kind, T: Guarded>(
+    passes: Vec<Pass<K, T>>,
+    rota: Rota,
+) -> (Vec<Pass<K, T>>, Option<Pass<K, T>>)
+    ensures all { passes.items ≡ result.0.items ++ option_to_list result.1 }
+    ensures idle { IfSome result.1 (λ p. rounds_of rota.sample rota.seats rota.rounds p.me.seat ≡ 0) }
+{
+    let mut working = passes;
+    let idle = match working.last() {
+        Some(last) if rota.rounds_of(last.seat()) == 0 => working.pop(),
+        _ => None,
+    };
+    (working, idle)
 }
 
-impl<K: Kind, T: Guarded, G: Gate> Promise<(Pass<K, T>, End)> for Duty<K, T, G> {
-    ghost kept_by = { λ p r. IsOf p.hall.value r.0
-        × HasServed K.rules T.meaning (G.answers p.gate.value) p.rota.value.sample p.rota.value.seats p.rota.value.rounds
-        p.pass.value r.0 r.1 };
+/// The passes that the workers have given back, and behind them that of a seat that was idle.
+pub(crate) fn with_idle<K: Kind, T: Guarded>(
+    passes: Vec<Pass<K, T>>,
+    idle: Option<Pass<K, T>>,
+) -> Result<Vec<Pass<K, T>>, CrewFault>
+    ensures all { IfOk result (λ v. v.items ≡ passes.items ++ option_to_list idle) }
+    ensures fault { IfErr result (λ e. e ≡ crew.Memory) }
+{
+    let mut all = passes;
+    if let Some(pass) = idle {
+        all.push(pass)?;
+    }
+    Ok(all)
 }
 
-/// The thread of a worker.
-pub(crate) type Shift<K, T, G> = PromisedHandle<(Pass<K, T>, End), Duty<K, T, G>>;
-
-/// A worker for each seat that has rounds to do.
+/// A worker for each of these seats, in order.
 pub(crate) fn workers<'a, K: Kind, T: Guarded, R, G>(
     alloc: Global,
     rt: &'a R,
@@ -52,47 +67,49 @@ pub(crate) fn workers<'a, K: Kind, T: Guarded, R, G>(
     rota: Rota,
 ) -> Result<Vec<Worker<'a, K, T, R, G>>, CrewFault>
     requires { AreReady K.rules hall.now passes.items }
-    ensures { IfOk result (λ v. All (λ w. ((w.hall.now ≡ hall.now) × IsReady K.rules hall.now w.pass)
+    ensures each { IfOk result (λ v. All (λ w. ((w.hall.now ≡ hall.now) × IsReady K.rules hall.now w.pass)
         × (w.gate.now ≡ gate.now) × (w.rota ≡ rota)) v.items) }
+    ensures passes { IfOk result (λ v. map (λ w. w.pass) v.items ≡ passes.items) }
+    ensures fault { IfErr result (λ e. e ≡ crew.Memory) }
 {
     let mut workers = Vec::with_capacity(alloc, passes.len())?;
     for pass in passes {
-        if rota.rounds_of(pass.seat()) > 0 {
-            workers.push(Worker {
-                pass,
-                rt,
-                hall,
-                gate,
-                rota,
-            })?;
-        }
+        workers.push(Worker {
+            pass,
+            rt,
+            hall,
+            gate,
+            rota,
+        })?;
     }
     Ok(workers)
 }
 
-/// Waits for all, and gives the pass of the first; or the fault of the first that did not end well.
+/// Waits for all, and gives their passes in order; or the fault of the first that did not end well.
 pub(crate) fn join_all<K: Kind, T: Guarded, R: Threads, G: Gate>(
+    alloc: Global,
     rt: &R,
     hall: &Hall<K, T>,
+    gate: &G,
+    rota: Rota,
     crew: Vec<Shift<K, T, G>>,
-) -> Result<Pass<K, T>, CrewFault>
-    requires { All (λ s. s.promise.hall.value ≡ hall.now) crew.items }
-    ensures back { IfOk result (λ p. IsOf hall.now p) }
-    ensures served { OnOk result (All (λ s. HasServedToEnd K.rules T.meaning (G.answers s.promise.gate.value)
-        s.promise.rota.value.sample s.promise.rota.value.seats s.promise.rota.value.rounds s.promise.pass.value) crew.items) }
+) -> Result<Vec<Pass<K, T>>, CrewFault>
+    requires { All (λ s. (s.promise.hall.value ≡ hall.now) × (s.promise.gate.value ≡ gate.now) × (s.promise.rota.value ≡ rota))
+        crew.items }
+    ensures served { IfOk result (λ v. HaveServed K.rules T.meaning (G.answers gate.now) rota.sample rota.seats rota.rounds
+        hall.now (map (λ s. s.promise.pass.value) crew.items) v.items) }
+    ensures fault { IfErr result (IsFaultOfCrew K.rules T.meaning (G.answers gate.now) rota.sample rota.seats rota.rounds
+        (map (λ s. s.promise.pass.value) crew.items)) }
 {
-    let mut shifts = crew.into_iter();
-    let Some(first) = shifts.next() else {
-        return Err(CrewFault::Thread);
-    };
-    let (pass, end) = first.join(rt);
-    let mut fault = fault_of(end);
-    for shift in shifts {
-        let (_, end) = shift.join(rt);
+    let mut passes = Vec::with_capacity(alloc, crew.len() + 1)?;
+    let mut fault = None;
+    for shift in crew {
+        let (pass, end) = shift.join(rt);
+        passes.push(pass)?;
         fault = fault_after(fault, end);
     }
     match fault {
-        None => Ok(pass),
+        None => Ok(passes),
         Some(fault) => Err(fault),
     }
 }

@@ -1,4 +1,5 @@
 ghost use Rattle.std.specs.Prelude.{◌≡◌};
+ghost use Rattle.monk_samples.specs.declared.crew_fault.CrewFault.TheVariants as crew;
 ghost use Rattle.monk_samples.specs.Faults.{run_fault_of};
 
 use crate::run_fault::RunFault;
@@ -30,12 +31,16 @@ impl CrewFault {
 }
 
 impl From<AllocError> for CrewFault {
+    ghost from_gives = { λ _ fault. fault ≡ crew.Memory };
+
     fn from(_error: AllocError) -> CrewFault {
         CrewFault::Memory
     }
 }
 
 impl<T: Drop> From<AllocFailed<T>> for CrewFault {
+    ghost from_gives = { λ _ fault. fault ≡ crew.Memory };
+
     fn from(_refused: AllocFailed<T>) -> CrewFault {
         CrewFault::Memory
     }

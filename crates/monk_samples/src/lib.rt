@@ -10,6 +10,7 @@ mod book;
 mod buffer;
 mod crew;
 mod crew_fault;
+mod duty;
 mod end;
 mod gate;
 mod outcome;

@@ -1,9 +1,14 @@
 //! A run: a hall over the object of a sample, with a thread for each seat that works, closed when all have ended.
-ghost use Rattle.std.specs.Prelude.{◌≡◌, ◌↔◌, ◌⊎◌, ◌<◌, IfOk, OnOk, IsErrOf};
+ghost use Rattle.std.specs.Prelude.{◌≡◌, ◌↔◌, ◌⊎◌, ◌<◌, All, IfErr, IfOk, OnOk, IsErrOf, IsOk, length};
 ghost use Rattle.monk_object.specs.declared.name.ObjectName.TheVariants as object;
+ghost use Rattle.monk_hall.specs.Records.{first_view};
 ghost use Rattle.monk_hall.specs.Rule.{setting_of};
+ghost use Rattle.monk_hall.specs.Tokens.{tokens};
 ghost use Rattle.monk_samples.specs.Crews.{AreReady, IsOf, IsClosed};
+ghost use Rattle.monk_samples.specs.Faults.{run_fault_of};
+ghost use Rattle.monk_samples.specs.Runs.{HasRun, IsFaultOfRun, IsFirstSpent};
 ghost use Rattle.monk_samples.specs.Samples.{IsHistoryOf, IsInRange, IsOutcome, budget_of, conds_of};
+ghost use Rattle.monk_samples.specs.declared.crew_fault.CrewFault.TheVariants as crew;
 ghost use Rattle.monk_samples.specs.declared.sample.Sample.TheVariants as sample;
 
 use crate::crew::{work_book, work_buffer, work_shop};
@@ -15,10 +20,11 @@ use crate::run_fault::RunFault;
 use crate::sample::Sample;
 use crate::style::Style;
 use crate::totals::totals_of;
+use monk_floor::MakeFault;
 use monk_hall::{Busy, Hall, Pass, close};
 use monk_history::{Event, Header};
 use monk_kinds::{Kind, Mode, Pick, rules_of};
-use monk_object::{Book, Buffer, Guarded, Shop};
+use monk_object::{Book, Buffer, Guarded, ObjectFault, Shop};
 use std::alloc::Global;
 use std::sync::Wait;
 use std::thread::Threads;
@@ -56,6 +62,9 @@ pub fn run<K: Style, R: Threads + Wait + Sync, G: Gate>(
     // The range is refused exactly where a number is out of it.
     ensures range { IsErrOf result RunFault.Range ↔ ((seats < 2) ⊎ (16 < seats) ⊎ (rounds < 1) ⊎ (1000 < rounds)) }
     ensures in_range { OnOk result (IsInRange seats rounds) }
+    // Each seat has served to its end, let in by the gate to each of its rounds; or why it has no outcome.
+    ensures served { OnOk result (HasRun K.rules (G.answers gate.now) sample seats rounds) }
+    ensures fault { IfErr result (IsFaultOfRun K.rules (G.answers gate.now) sample seats rounds) }
 {
     if !(2..=16).contains(&seats) || !(1..=1000).contains(&rounds) {
         return Err(RunFault::Range);
@@ -80,14 +89,19 @@ fn run_buffer<K: Style, R: Threads + Wait + Sync, G: Gate>(
     gate: &G,
 ) -> Result<Vec<Event>, CrewFault>
     requires { rota.sample ≡ sample.Buffer }
-    ensures { IfOk result (λ v. IsHistoryOf K.rules sample.Buffer rota.seats rota.rounds v.items) }
+    ensures history { IfOk result (λ v. IsHistoryOf K.rules sample.Buffer rota.seats rota.rounds v.items) }
+    ensures served { OnOk result (HasRun K.rules (G.answers gate.now) sample.Buffer rota.seats rota.rounds) }
+    ensures fault { IfErr result (λ e. IsFaultOfRun K.rules (G.answers gate.now) sample.Buffer rota.seats rota.rounds
+        (run_fault_of e)) }
 {
-    let Ok(buffer) = Buffer::make(alloc, SIZE) else {
-        return Err(CrewFault::Memory);
+    let buffer = match Buffer::make(alloc, SIZE) {
+        Ok(buffer) => buffer,
+        Err(ObjectFault::Memory) => return Err(CrewFault::Memory),
+        Err(ObjectFault::Size) => unreachable!(),
     };
     let (hall, passes) = open::<K, Buffer>(alloc, buffer, rota)?;
-    let first = work_buffer(rt, alloc, &hall, passes, gate, rota)?;
-    close_by(rt, hall, first)
+    let passes = work_buffer(rt, alloc, &hall, passes, gate, rota)?;
+    close_by(rt, hall, passes)
 }
 
 /// The history of a run over a book.
@@ -98,14 +112,17 @@ fn run_book<K: Style, R: Threads + Wait + Sync, G: Gate>(
     gate: &G,
 ) -> Result<Vec<Event>, CrewFault>
     requires { rota.sample ≡ sample.Book }
-    ensures { IfOk result (λ v. IsHistoryOf K.rules sample.Book rota.seats rota.rounds v.items) }
+    ensures history { IfOk result (λ v. IsHistoryOf K.rules sample.Book rota.seats rota.rounds v.items) }
+    ensures served { OnOk result (HasRun K.rules (G.answers gate.now) sample.Book rota.seats rota.rounds) }
+    ensures fault { IfErr result (λ e. IsFaultOfRun K.rules (G.answers gate.now) sample.Book rota.seats rota.rounds
+        (run_fault_of e)) }
 {
     let Ok(book) = Book::make(SIZE) else {
-        return Err(CrewFault::Memory);
+        unreachable!();
     };
     let (hall, passes) = open::<K, Book>(alloc, book, rota)?;
-    let first = work_book(rt, alloc, &hall, passes, gate, rota)?;
-    close_by(rt, hall, first)
+    let passes = work_book(rt, alloc, &hall, passes, gate, rota)?;
+    close_by(rt, hall, passes)
 }
 
 /// The history of a run over a shop.
@@ -116,14 +133,17 @@ fn run_shop<K: Style, R: Threads + Wait + Sync, G: Gate>(
     gate: &G,
 ) -> Result<Vec<Event>, CrewFault>
     requires { rota.sample ≡ sample.Shop }
-    ensures { IfOk result (λ v. IsHistoryOf K.rules sample.Shop rota.seats rota.rounds v.items) }
+    ensures history { IfOk result (λ v. IsHistoryOf K.rules sample.Shop rota.seats rota.rounds v.items) }
+    ensures served { OnOk result (HasRun K.rules (G.answers gate.now) sample.Shop rota.seats rota.rounds) }
+    ensures fault { IfErr result (λ e. IsFaultOfRun K.rules (G.answers gate.now) sample.Shop rota.seats rota.rounds
+        (run_fault_of e)) }
 {
     let Ok(shop) = Shop::make(SIZE) else {
-        return Err(CrewFault::Memory);
+        unreachable!();
     };
     let (hall, passes) = open::<K, Shop>(alloc, shop, rota)?;
-    let first = work_shop(rt, alloc, &hall, passes, gate, rota)?;
-    close_by(rt, hall, first)
+    let passes = work_shop(rt, alloc, &hall, passes, gate, rota)?;
+    close_by(rt, hall, passes)
 }
 
 /// A hall for the run, with all its passes.
@@ -135,13 +155,16 @@ fn open<K: Kind, T: Guarded>(
     ensures setting { IfOk result
         (λ r. r.0.setting ≡ setting_of (T.state object) rota.seats (conds_of K.rules)
         (budget_of rota.seats rota.rounds)) }
-    ensures passes { IfOk result (λ r. AreReady K.rules r.0 r.1.items) }
+    ensures passes { IfOk result (λ r. r.1.items ≡ tokens r.0.id (first_view r.0.setting)) }
+    ensures ready { IfOk result (λ r. AreReady K.rules r.0 r.1.items) }
+    ensures fault { IfErr result (λ e. e ≡ crew.Memory) }
 {
     let budget = 64 + rota.rounds * (40 + 32 * u32::from(rota.seats));
-    // The numbers are in range, so only memory can be wanting.
     match Hall::make(alloc, object, rota.seats, conds_of::<K>(), budget) {
         Ok(made) => Ok(made),
-        Err(_) => Err(CrewFault::Memory),
+        Err(MakeFault::Memory) => Err(CrewFault::Memory),
+        // The numbers are in range.
+        Err(_) => unreachable!(),
     }
 }
 
@@ -155,19 +178,24 @@ fn conds_of<K: Kind>() -> u8
     }
 }
 
-/// The seat comes in once more and closes the hall, and its history is given out.
+/// The first seat comes in once more and closes the hall, and its history is given out.
 fn close_by<K: Kind, T: Guarded, R: Wait>(
     rt: &R,
     hall: Hall<K, T>,
-    pass: Pass<K, T>,
+    passes: Vec<Pass<K, T>>,
 ) -> Result<Vec<Event>, CrewFault>
-    requires { IsOf hall pass }
-    ensures { IfOk result (λ v. IsClosed K.rules T.meaning hall.setting v.items) }
+    requires of { All (IsOf hall) passes.items }
+    requires some { 0 < length passes.items }
+    ensures closed { IfOk result (λ v. IsClosed K.rules T.meaning hall.setting v.items) }
+    ensures fault { IfErr result (λ e. (e ≡ crew.Busy) ⊎ ((e ≡ crew.Tired) × IsFirstSpent passes.items)) }
 {
-    if pass.left() < 2 {
+    let Some(first) = passes.into_iter().next() else {
+        unreachable!();
+    };
+    if first.left() < 2 {
         return Err(CrewFault::Tired);
     }
-    let active = pass.arrive(&hall).resume(rt, &hall);
+    let active = first.arrive(&hall).resume(rt, &hall);
     match close(hall, active) {
         Ok(closed) => Ok(closed.history),
         Err(Busy { hall, active }) => {
@@ -182,6 +210,8 @@ fn of_run<K: Kind>(rota: Rota, history: Result<Vec<Event>, CrewFault>) -> Result
     requires { IfOk history (λ v. IsHistoryOf K.rules rota.sample rota.seats rota.rounds v.items) }
     ensures outcome { IfOk result (λ o. IsOutcome K.NAME rota.sample rota.seats o.header o.history.items o.totals) }
     ensures in_range { IsErrOf result RunFault.Range → ⊥ }
+    ensures ok { OnOk result (IsOk history) }
+    ensures fault { IfErr result (λ e. IfErr history (λ f. e ≡ run_fault_of f)) }
 {
     match history {
         Ok(history) => Ok(outcome::<K>(rota, history)),

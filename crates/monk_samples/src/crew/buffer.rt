@@ -1,14 +1,17 @@
 //! The threads of a run over a bounded buffer.
-ghost use Rattle.std.specs.Prelude.{◌≡◌, All, IfOk};
+ghost use Rattle.std.specs.Prelude.{◌≡◌, All, IfErr, IfOk, map};
 ghost use Rattle.monk_object.specs.Buffer.{buffer_meaning};
 ghost use Rattle.monk_samples.specs.Crews.{AreReady, IsOf, IsReady};
+ghost use Rattle.monk_samples.specs.Ends.{HaveServed, IsFaultOfCrew, IsWantOfRoom};
 ghost use Rattle.monk_samples.specs.Rounds.{HasServed, round_of};
 ghost use Rattle.monk_samples.specs.Visits.{HasVisited};
+ghost use Rattle.monk_samples.specs.declared.crew_fault.CrewFault.TheVariants as crew;
 ghost use Rattle.monk_samples.specs.declared.sample.Sample.TheVariants as sample;
 
 use crate::buffer::{put, take};
-use crate::crew::{Duty, Shift, join_all, workers};
+use crate::crew::{join_all, part_idle, with_idle, workers};
 use crate::crew_fault::CrewFault;
+use crate::duty::{Duty, Shift};
 use crate::end::End;
 use crate::gate::Gate;
 use crate::rota::Rota;
@@ -17,12 +20,11 @@ use crate::worker::Worker;
 use monk_hall::{Hall, Pass};
 use monk_object::Buffer;
 use std::alloc::Global;
-use std::snapshot::Snapshot;
 use std::sync::Wait;
 use std::thread;
 use std::thread::{Scope, Threads};
 
-/// Half of the seats put the items 1 to `rounds`, and as many take as often. Gives the first seat's pass back.
+/// Half of the seats put the items 1 to `rounds`, and as many take as often. Gives their passes back, in order.
 pub(crate) fn work_buffer<K: Style, R: Threads + Wait + Sync, G: Gate>(
     rt: &R,
     alloc: Global,
@@ -30,24 +32,33 @@ pub(crate) fn work_buffer<K: Style, R: Threads + Wait + Sync, G: Gate>(
     passes: Vec<Pass<K, Buffer>>,
     gate: &G,
     rota: Rota,
-) -> Result<Pass<K, Buffer>, CrewFault>
+) -> Result<Vec<Pass<K, Buffer>>, CrewFault>
     requires ready { AreReady K.rules hall.now passes.items }
     requires sample { rota.sample ≡ sample.Buffer }
-    ensures { IfOk result (λ p. IsOf hall.now p) }
+    ensures served { IfOk result (λ v. HaveServed K.rules buffer_meaning (G.answers gate.now) rota.sample rota.seats rota.rounds
+        hall.now passes.items v.items) }
+    ensures fault { IfErr result (IsFaultOfCrew K.rules buffer_meaning (G.answers gate.now) rota.sample rota.seats rota.rounds
+        passes.items) }
 {
-    let workers = workers(alloc, rt, hall, gate, passes, rota)?;
-    thread::scope(
+    let (working, idle) = part_idle(passes, rota);
+    let workers = workers(alloc, rt, hall, gate, working, rota)?;
+    let back = thread::scope(
         thread::scope_env(),
         rt,
-        |scope| -> Result<Pass<K, Buffer>, CrewFault>
-            requires { All (λ w. ((w.hall.now ≡ hall.now) × IsReady K.rules hall.now w.pass)
-                × (w.rota.sample ≡ sample.Buffer)) workers.items }
-            ensures { IfOk result (λ p. IsOf hall.entry.now p) }
+        |scope| -> Result<Vec<Pass<K, Buffer>>, CrewFault>
+            requires each { All (λ w. ((w.hall.now ≡ hall.now) × IsReady K.rules hall.now w.pass)
+                × (w.gate.now ≡ gate.now) × (w.rota ≡ rota)) workers.items }
+            requires sample { rota.sample ≡ sample.Buffer }
+            ensures served { IfOk result (λ v. HaveServed K.rules buffer_meaning (G.answers gate.entry.now) rota.sample
+                rota.seats rota.rounds hall.entry.now (map (λ w. w.pass) workers.entry.items) v.items) }
+            ensures fault { IfErr result (IsFaultOfCrew K.rules buffer_meaning (G.answers gate.entry.now) rota.sample
+                rota.seats rota.rounds (map (λ w. w.pass) workers.entry.items)) }
         {
-            let crew = start_all(scope, alloc, hall, workers)?;
-            join_all(rt, hall, crew)
+            let crew = start_all(scope, alloc, hall, gate, rota, workers)?;
+            join_all(alloc, rt, hall, gate, rota, crew)
         },
-    )
+    )?;
+    with_idle(back, idle)
 }
 
 /// Starts a thread for each worker.
@@ -55,11 +66,17 @@ fn start_all<'s, E, K: Style, R: Wait + Sync, G: Gate>(
     scope: &Scope<'s, E>,
     alloc: Global,
     hall: &Hall<K, Buffer>,
+    gate: &G,
+    rota: Rota,
     workers: Vec<Worker<'s, K, Buffer, R, G>>,
 ) -> Result<Vec<Shift<K, Buffer, G>>, CrewFault>
-    requires { All (λ w. ((w.hall.now ≡ hall.now) × IsReady K.rules hall.now w.pass) × (w.rota.sample ≡ sample.Buffer))
-        workers.items }
-    ensures { IfOk result (λ v. All (λ s. s.promise.hall.value ≡ hall.now) v.items) }
+    requires each { All (λ w. ((w.hall.now ≡ hall.now) × IsReady K.rules hall.now w.pass)
+        × (w.gate.now ≡ gate.now) × (w.rota ≡ rota)) workers.items }
+    requires sample { rota.sample ≡ sample.Buffer }
+    ensures each { IfOk result (λ v. All (λ s. (s.promise.hall.value ≡ hall.now) × (s.promise.gate.value ≡ gate.now)
+        × (s.promise.rota.value ≡ rota)) v.items) }
+    ensures passes { IfOk result (λ v. map (λ s. s.promise.pass.value) v.items ≡ map (λ w. w.pass) workers.entry.items) }
+    ensures fault { IfErr result IsWantOfRoom }
 {
     let mut crew = Vec::with_capacity(alloc, workers.len())?;
     for worker in workers {
@@ -75,14 +92,13 @@ fn start<'s, E, K: Style, R: Wait + Sync, G: Gate>(
 ) -> Result<Shift<K, Buffer, G>, CrewFault>
     requires ready { IsReady K.rules worker.hall.now worker.pass }
     requires sample { worker.rota.sample ≡ sample.Buffer }
-    ensures { IfOk result (λ s. s.promise.hall.value ≡ worker.entry.hall.now) }
+    ensures hall { IfOk result (λ s. s.promise.hall.value ≡ worker.entry.hall.now) }
+    ensures gate { IfOk result (λ s. s.promise.gate.value ≡ worker.entry.gate.now) }
+    ensures pass { IfOk result (λ s. s.promise.pass.value ≡ worker.entry.pass) }
+    ensures rota { IfOk result (λ s. s.promise.rota.value ≡ worker.entry.rota) }
+    ensures fault { IfErr result (λ e. e ≡ crew.Thread) }
 {
-    let promise = Duty {
-        hall: Snapshot::of(worker.hall),
-        gate: Snapshot::of(worker.gate),
-        pass: Snapshot::of(&worker.pass),
-        rota: Snapshot::of(&worker.rota),
-    };
+    let promise = Duty::of(&worker);
     let started = scope.spawn_with(
         promise,
         move || -> (Pass<K, Buffer>, End)

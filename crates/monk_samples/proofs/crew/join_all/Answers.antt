@@ -1,56 +1,95 @@
-use Rattle.std.proofs.Common.{rules, ◌≡◌, ◌∷◌, sym, ap, subst, ◌∙◌}
-use Rattle.std.specs.Prelude.{vec_items}
+use Rattle.std.proofs.Common.{rules, ◌≡◌, List, [], ◌∷◌, ◌++◌, map, append_assoc, append-nil, refl, sym, ap, subst, ◌∙◌}
+use Rattle.std.specs.Prelude.{Option, None, vec_items}
 use Rattle.std.specs.Vec.Iter.{into_iter_items}
 use Rattle.std.proofs.lemmas.List.{nil_from_length}
-use Rattle.monk_hall.specs.Tokens.{House}
-use Rattle.monk_samples.specs.Rounds.{HasServed, HasServedToEnd}
-use Rattle.monk_samples.specs.declared.end.End.{End}
-use Rattle.monk_samples.proofs.FaultLaws.{no_fault, no_fault_after}
-use Rattle.monk_samples.proofs.RunLaws.{first_and, first_of, none_yet, same_all}
+use Rattle.monk_hall.specs.Tokens.{House, Token}
+use Rattle.monk_samples.specs.Rounds.{HasServed}
+use Rattle.monk_samples.specs.Crews.{IsOf}
+use Rattle.monk_samples.specs.Ends.{HaveServed, IsFaultOfCrew}
+use Rattle.monk_samples.specs.Faults.{fault_after}
+use Rattle.monk_samples.specs.declared.crew_fault.CrewFault.{CrewFault}
+use Rattle.monk_samples.specs.declared.rota.Rota.{Rota}
+use Rattle.monk_samples.proofs.EndLaws.{HaveJoined, joined_then, wants_memory, if_err}
+use Rattle.monk_samples.proofs.RunLaws.{first_of, rest_of, same_all}
 use Rattle.monk_samples.proofs.crew.join_all.Goals as goal
 
-pub returns-in-None-fault-clause-back : goal.returns-in-None-fault-clause-back
-returns-in-None-fault-clause-back g c =
-    let e : into_iter_items c.into_iter-shifts.result ≡ vec_items c.args.crew = search rules in
-    let all = same_all (into_iter_items c.into_iter-shifts.result) (vec_items c.args.crew)
-    (λ s. s.promise.hall.value ≡ c.args.hall.now) e c.requires in
-    let first = first_of (into_iter_items c.next.new.self) (into_iter_items c.into_iter-shifts.result) c.in-Some.first
-    (λ s. s.promise.hall.value ≡ c.args.hall.now) c.in-Some.ensures.items all in
-    (c.join-pass.ensures.0.0 ∙ ap (λ (h : House). h.id) first, c.join-pass.ensures.0.1 ∙ ap (λ (h : House). h.setting) first)
-
-pub returns-in-None-fault-clause-served : goal.returns-in-None-fault-clause-served
-returns-in-None-fault-clause-served g c = c.loop-shift.invariant c.in-None-fault.is
-    (none_yet (into_iter_items c.loop-shift.shift-iterator)
-    (λ s. HasServedToEnd g.K.Kind.rules g.T.Guarded.meaning (g.G.Gate.answers s.promise.gate.value)
-    s.promise.rota.value.sample s.promise.rota.value.seats s.promise.rota.value.rounds s.promise.pass.value)
-    (nil_from_length (into_iter_items c.loop-shift.shift-iterator)
-    (sym c.loop-shift.shift-iterator.rest.ok.0 ∙ c.in-None.ensures.steps.0)))
-
 pub loop-shift-init : goal.loop-shift-init
-loop-shift-init g c none rest =
-    let e : into_iter_items c.into_iter-shifts.result ≡ vec_items c.args.crew = search rules in
-    let next = ap into_iter_items c.into_iter-shift-iterator.ensures.into_iter_gives in
-    let p = c.in-Some.first.promise in
-    let served = subst (λ (end : End). HasServed g.K.Kind.rules g.T.Guarded.meaning (g.G.Gate.answers p.gate.value)
-    p.rota.value.sample p.rota.value.seats p.rota.value.rounds p.pass.value c.join-pass.result.0 end)
-    (no_fault c.join-pass.result.1 (sym c.fault_of-fault.ensures ∙ none)) c.join-pass.ensures.1 in
-    same_all (vec_items c.args.crew) (into_iter_items c.into_iter-shifts.result)
-    (λ s. HasServedToEnd g.K.Kind.rules g.T.Guarded.meaning (g.G.Gate.answers s.promise.gate.value)
-    s.promise.rota.value.sample s.promise.rota.value.seats s.promise.rota.value.rounds s.promise.pass.value) (sym e)
-    (first_and (into_iter_items c.into_iter-shift-iterator.result) (into_iter_items c.into_iter-shifts.result) c.in-Some.first
-    (λ s. HasServedToEnd g.K.Kind.rules g.T.Guarded.meaning (g.G.Gate.answers s.promise.gate.value)
-    s.promise.rota.value.sample s.promise.rota.value.seats s.promise.rota.value.rounds s.promise.pass.value)
-    (c.in-Some.ensures.items ∙ ap (λ xs. c.in-Some.first ∷ xs) (sym next)) (c.join-pass.result.0, served) rest)
+loop-shift-init g c =
+    let e : into_iter_items c.into_iter-shift-iterator.result ≡ vec_items c.args.crew = c.into_iter-shift-iterator.ensures.into_iter_gives.0 in (
+      [],
+      ap (λ xs. map (λ s. s.promise.pass.value) xs) (sym e),
+      subst (λ (qs : List Token). HaveJoined g.K.Kind.rules g.T.Guarded.meaning (g.G.Gate.answers c.args.gate.now) c.args.rota.sample
+          c.args.rota.seats c.args.rota.rounds c.args.hall.now [] qs None) (sym c.in_ok-passes.ensures.items) tt,
+      same_all (into_iter_items c.into_iter-shift-iterator.result) (vec_items c.args.crew)
+          (λ s. (s.promise.hall.value ≡ c.args.hall.now) × (s.promise.gate.value ≡ c.args.gate.now) × (s.promise.rota.value ≡ c.args.rota))
+          e c.requires,
+    )
 
 pub loop-shift-preserved : goal.loop-shift-preserved
-loop-shift-preserved g c none rest =
-    let before = no_fault_after c.loop-shift.fault c.fault_after-fault.result c.join-end.result.1 c.fault_after-fault.ensures none in
-    let p = c.in-Some-shift.shift.promise in
-    let served = subst (λ (end : End). HasServed g.K.Kind.rules g.T.Guarded.meaning (g.G.Gate.answers p.gate.value)
-    p.rota.value.sample p.rota.value.seats p.rota.value.rounds p.pass.value c.join-end.result.0 end)
-    before.1 c.join-end.ensures.1 in
-    c.loop-shift.invariant before.0
-    (first_and (into_iter_items c.next-in-loop-shift.new.self) (into_iter_items c.loop-shift.shift-iterator) c.in-Some-shift.shift
-    (λ s. HasServedToEnd g.K.Kind.rules g.T.Guarded.meaning (g.G.Gate.answers s.promise.gate.value)
-    s.promise.rota.value.sample s.promise.rota.value.seats s.promise.rota.value.rounds s.promise.pass.value)
-    c.in-Some-shift.ensures.steps.0 (c.join-end.result.0, served) rest)
+loop-shift-preserved g c =
+    let inv = c.loop-shift.invariant in
+    let p = c.in-Some.shift.promise in
+    let steps = c.in-Some.ensures.steps.0 in
+    let from = first_of (into_iter_items c.next.new.self) (into_iter_items c.loop-shift.shift-iterator) c.in-Some.shift
+    (λ s. (s.promise.hall.value ≡ c.args.hall.now) × (s.promise.gate.value ≡ c.args.gate.now) × (s.promise.rota.value ≡ c.args.rota))
+    steps inv.3 in
+    let kept = c.join-pass.ensures in
+    let of : IsOf c.args.hall.now c.join-pass.result.0 = subst (λ (h : House). IsOf h c.join-pass.result.0) from.0 kept.0 in
+    let here = subst (λ gate. HasServed g.K.Kind.rules g.T.Guarded.meaning (g.G.Gate.answers gate) p.rota.value.sample
+    p.rota.value.seats p.rota.value.rounds p.pass.value c.join-pass.result.0 c.join-pass.result.1) from.1 kept.1 in
+    let served = subst (λ (r : Rota). HasServed g.K.Kind.rules g.T.Guarded.meaning (g.G.Gate.answers c.args.gate.now) r.sample
+    r.seats r.rounds p.pass.value c.join-pass.result.0 c.join-pass.result.1) from.2 here in
+    let joined = joined_then g.K.Kind.rules g.T.Guarded.meaning (g.G.Gate.answers c.args.gate.now) c.args.rota.sample c.args.rota.seats
+    c.args.rota.rounds c.args.hall.now inv.0 (vec_items c.loop-shift.passes) p.pass.value c.join-pass.result.0 c.join-pass.result.1
+    c.loop-shift.fault inv.2 of served in
+    let told = subst (λ (qs : List Token). HaveJoined g.K.Kind.rules g.T.Guarded.meaning (g.G.Gate.answers c.args.gate.now)
+    c.args.rota.sample c.args.rota.seats c.args.rota.rounds c.args.hall.now (inv.0 ++ p.pass.value ∷ []) qs
+    (fault_after c.loop-shift.fault c.join-pass.result.1)) (sym c.in_ok-push.ensures.items) joined in (
+      inv.0 ++ p.pass.value ∷ [],
+      inv.1 ∙ ap (λ xs. inv.0 ++ map (λ s. s.promise.pass.value) xs) steps ∙ sym (append_assoc inv.0 (p.pass.value ∷ []) _),
+      subst (λ (fault : Option CrewFault). HaveJoined g.K.Kind.rules g.T.Guarded.meaning (g.G.Gate.answers c.args.gate.now)
+          c.args.rota.sample c.args.rota.seats c.args.rota.rounds c.args.hall.now (inv.0 ++ p.pass.value ∷ []) (vec_items c.push.new.self) fault)
+          (sym c.fault_after-fault.ensures) told,
+      rest_of (into_iter_items c.next.new.self) (into_iter_items c.loop-shift.shift-iterator) c.in-Some.shift
+          (λ s. (s.promise.hall.value ≡ c.args.hall.now) × (s.promise.gate.value ≡ c.args.gate.now) × (s.promise.rota.value ≡ c.args.rota))
+          steps inv.3,
+    )
+
+pub returns-in-None-fault-clause-served : goal.returns-in-None-fault-clause-served
+returns-in-None-fault-clause-served g c =
+    let inv = c.loop-shift.invariant in
+    let rest = nil_from_length (into_iter_items c.loop-shift.shift-iterator)
+    (sym c.loop-shift.shift-iterator.rest.ok.0 ∙ c.in-None.ensures.steps.0) in
+    let done = inv.1 ∙ ap (λ xs. inv.0 ++ map (λ s. s.promise.pass.value) xs) rest ∙ append-nil inv.0 in
+    subst (λ (ps : List Token). HaveServed g.K.Kind.rules g.T.Guarded.meaning (g.G.Gate.answers c.args.gate.now) c.args.rota.sample
+    c.args.rota.seats c.args.rota.rounds c.args.hall.now ps (vec_items c.loop-shift.passes)) (sym done)
+    (subst (λ (fault : Option CrewFault). HaveJoined g.K.Kind.rules g.T.Guarded.meaning (g.G.Gate.answers c.args.gate.now)
+    c.args.rota.sample c.args.rota.seats c.args.rota.rounds c.args.hall.now inv.0 (vec_items c.loop-shift.passes) fault)
+    c.in-None-fault.is inv.2)
+
+pub returns-in-None-fault-clause-fault : goal.returns-in-None-fault-clause-fault
+returns-in-None-fault-clause-fault g c = tt
+
+pub returns-in-Some-fault-clause-fault : goal.returns-in-Some-fault-clause-fault
+returns-in-Some-fault-clause-fault g c =
+    let inv = c.loop-shift.invariant in
+    let rest = nil_from_length (into_iter_items c.loop-shift.shift-iterator)
+    (sym c.loop-shift.shift-iterator.rest.ok.0 ∙ c.in-None.ensures.steps.0) in
+    let done = inv.1 ∙ ap (λ xs. inv.0 ++ map (λ s. s.promise.pass.value) xs) rest ∙ append-nil inv.0 in
+    subst (λ (ps : List Token). IsFaultOfCrew g.K.Kind.rules g.T.Guarded.meaning (g.G.Gate.answers c.args.gate.now) c.args.rota.sample
+    c.args.rota.seats c.args.rota.rounds ps c.in-Some-fault.fault) (sym done)
+    (subst (λ (fault : Option CrewFault). HaveJoined g.K.Kind.rules g.T.Guarded.meaning (g.G.Gate.answers c.args.gate.now)
+    c.args.rota.sample c.args.rota.seats c.args.rota.rounds c.args.hall.now inv.0 (vec_items c.loop-shift.passes) fault)
+    c.in-Some-fault.is inv.2)
+
+pub returns-in_err-push-clause-fault : goal.returns-in_err-push-clause-fault
+returns-in_err-push-clause-fault g c =
+    if_err c.from_residual-in_err-push.result _ _ c.from_residual-in_err-push.ensures (wants_memory g.K.Kind.rules g.T.Guarded.meaning
+    (g.G.Gate.answers c.args.gate.now) c.args.rota.sample c.args.rota.seats c.args.rota.rounds
+    (map (λ s. s.promise.pass.value) c.args.crew.items))
+
+pub returns-in_err-passes-clause-fault : goal.returns-in_err-passes-clause-fault
+returns-in_err-passes-clause-fault g c =
+    if_err c.from_residual.result _ _ c.from_residual.ensures (wants_memory g.K.Kind.rules g.T.Guarded.meaning
+    (g.G.Gate.answers c.args.gate.now) c.args.rota.sample c.args.rota.seats c.args.rota.rounds
+    (map (λ s. s.promise.pass.value) c.args.crew.items))

@@ -1,38 +1,52 @@
-use Rattle.std.proofs.Common.{rules, ◌≡◌, refl}
+use Rattle.std.proofs.Common.{◌≡◌, [], ◌∷◌, ◌++◌, map, refl, sym, ap, ◌∙◌, append-nil}
 use Rattle.std.specs.Prelude.{vec_items}
 use Rattle.std.specs.Vec.Iter.{into_iter_items}
+use Rattle.std.proofs.lemmas.List.{nil_from_length}
 use Rattle.monk_samples.specs.Crews.{IsReady}
-use Rattle.monk_samples.proofs.RunLaws.{one_more, first_of, rest_of, same_all, none_yet}
+use Rattle.monk_samples.specs.declared.crew_fault.CrewFault.TheVariants as crew
+use Rattle.monk_samples.proofs.EndLaws.{if_err}
+use Rattle.monk_samples.proofs.RunLaws.{one_more, first_of, rest_of, same_all, none_yet, mapped_more}
 use Rattle.monk_samples.proofs.crew.workers.Goals as goal
 
 pub loop-pass-init : goal.loop-pass-init
-loop-pass-init g c = (
-  none_yet (vec_items c.in_ok-workers.workers)
-      (λ w. ((w.hall.now ≡ c.args.hall.now) × IsReady g.K.Kind.rules c.args.hall.now w.pass)
-      × (w.gate.now ≡ c.args.gate.now) × (w.rota ≡ c.args.rota))
-      c.in_ok-workers.ensures.items,
-  (let e : into_iter_items c.into_iter-pass-iterator.result ≡ vec_items c.args.passes = search rules in
-      same_all (into_iter_items c.into_iter-pass-iterator.result) (vec_items c.args.passes)
-      (IsReady g.K.Kind.rules c.args.hall.now) e c.requires),
-)
-
-pub loop-pass-preserved-in-Continue-branch-2 : goal.loop-pass-preserved-in-Continue-branch-2
-loop-pass-preserved-in-Continue-branch-2 g c =
-    let inv = c.loop-pass.invariant in
-    let here = first_of (into_iter_items c.next.new.self) (into_iter_items c.loop-pass.pass-iterator) c.in-Some.pass
-    (IsReady g.K.Kind.rules c.args.hall.now) c.in-Some.ensures.steps.0 inv.1 in (
-      one_more (vec_items c.loop-pass.workers) (vec_items c.push.new.self) _
+loop-pass-init g c =
+    let e : into_iter_items c.into_iter-pass-iterator.result ≡ vec_items c.args.passes =
+        c.into_iter-pass-iterator.ensures.into_iter_gives.0 in (
+      none_yet (vec_items c.in_ok-workers.workers)
           (λ w. ((w.hall.now ≡ c.args.hall.now) × IsReady g.K.Kind.rules c.args.hall.now w.pass)
           × (w.gate.now ≡ c.args.gate.now) × (w.rota ≡ c.args.rota))
-          c.in_ok-push.ensures.items inv.0 ((refl, here), refl, refl),
-      rest_of (into_iter_items c.next.new.self) (into_iter_items c.loop-pass.pass-iterator) c.in-Some.pass
-          (IsReady g.K.Kind.rules c.args.hall.now) c.in-Some.ensures.steps.0 inv.1,
+          c.in_ok-workers.ensures.items,
+      ap (λ ws. map (λ w. w.pass) ws ++ into_iter_items c.into_iter-pass-iterator.result) c.in_ok-workers.ensures.items ∙ e,
+      same_all (into_iter_items c.into_iter-pass-iterator.result) (vec_items c.args.passes)
+          (IsReady g.K.Kind.rules c.args.hall.now) e c.requires,
     )
 
 pub loop-pass-preserved : goal.loop-pass-preserved
 loop-pass-preserved g c =
-    let inv = c.loop-pass.invariant in (
-      inv.0,
+    let inv = c.loop-pass.invariant in
+    let steps = c.in-Some.ensures.steps.0 in
+    let here = first_of (into_iter_items c.next.new.self) (into_iter_items c.loop-pass.pass-iterator) c.in-Some.pass
+    (IsReady g.K.Kind.rules c.args.hall.now) steps inv.2 in (
+      one_more (vec_items c.loop-pass.workers) (vec_items c.push.new.self) _
+          (λ w. ((w.hall.now ≡ c.args.hall.now) × IsReady g.K.Kind.rules c.args.hall.now w.pass)
+          × (w.gate.now ≡ c.args.gate.now) × (w.rota ≡ c.args.rota))
+          c.in_ok-push.ensures.items inv.0 ((refl, here), refl, refl),
+      mapped_more (vec_items c.loop-pass.workers) (vec_items c.push.new.self) _ (λ w. w.pass) c.in_ok-push.ensures.items
+          (into_iter_items c.next.new.self) (into_iter_items c.loop-pass.pass-iterator) steps ∙ inv.1,
       rest_of (into_iter_items c.next.new.self) (into_iter_items c.loop-pass.pass-iterator) c.in-Some.pass
-          (IsReady g.K.Kind.rules c.args.hall.now) c.in-Some.ensures.steps.0 inv.1,
+          (IsReady g.K.Kind.rules c.args.hall.now) steps inv.2,
     )
+
+pub returns-clause-passes : goal.returns-clause-passes
+returns-clause-passes g c =
+    let rest = nil_from_length (into_iter_items c.loop-pass.pass-iterator)
+    (sym c.loop-pass.pass-iterator.rest.ok.0 ∙ c.in-None.ensures.steps.0) in
+    sym (ap (λ ps. map (λ w. w.pass) (vec_items c.loop-pass.workers) ++ ps) rest ∙ append-nil (map (λ w. w.pass) (vec_items c.loop-pass.workers)))
+    ∙ c.loop-pass.invariant.1
+
+pub returns-in_err-workers-clause-fault : goal.returns-in_err-workers-clause-fault
+returns-in_err-workers-clause-fault g c = if_err c.from_residual.result _ (λ e. e ≡ crew.Memory) c.from_residual.ensures (λ e h. h)
+
+pub returns-in_err-push-clause-fault : goal.returns-in_err-push-clause-fault
+returns-in_err-push-clause-fault g c =
+    if_err c.from_residual-in_err-push.result _ (λ e. e ≡ crew.Memory) c.from_residual-in_err-push.ensures (λ e h. h)

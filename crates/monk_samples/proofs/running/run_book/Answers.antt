@@ -1,16 +1,68 @@
-use Rattle.std.proofs.Common.{ap, ◌∙◌, List, ℕ}
+use Rattle.std.proofs.Common.{ap, sym, subst, ◌∙◌, ◌<◌, ◌≤◌, ◌≡◌, List, ℕ, length}
+use Rattle.monk_object.specs.Book.{book_meaning}
 use Rattle.monk_hall.specs.Rule.{setting_of}
+use Rattle.monk_hall.specs.Tokens.{Token}
+use Rattle.monk_hall.specs.declared.setting.Setting.{Setting}
+use Rattle.monk_samples.specs.Ends.{HaveServed}
 use Rattle.monk_samples.specs.Samples.{conds_of, budget_of}
+use Rattle.monk_samples.specs.declared.sample.Sample.{Sample}
 use Rattle.monk_samples.specs.declared.sample.Sample.TheVariants.{Book}
-use Rattle.monk_samples.proofs.RunLaws.{history_of, if_ok}
+use Rattle.monk_samples.proofs.RunEndLaws.{some_pass, back_of, some_back, has_run, close_fault}
+use Rattle.monk_samples.proofs.RunLaws.{history_of, if_fault, if_ok, if_then}
 use Rattle.monk_samples.proofs.running.run_book.Goals as goal
 
-pub returns : goal.returns
-returns g c =
+pub close_by-requires-clause-of : goal.close_by-requires-clause-of
+close_by-requires-clause-of g c κs within =
+    let served = subst (λ (s : Sample). HaveServed g.K.Kind.rules book_meaning (g.G.Gate.answers c.args.gate.now) s c.args.rota.seats
+    c.args.rota.rounds c.in_ok-hall.hall c.in_ok-hall.passes.items c.in_ok-passes.passes.items) c.requires
+    c.in_ok-passes.ensures.served in
+    back_of g.K.Kind.rules (g.G.Gate.answers c.args.gate.now) Book c.args.rota.seats c.args.rota.rounds c.in_ok-hall.hall
+    c.in_ok-hall.passes.items c.in_ok-passes.passes.items served
+
+pub close_by-requires-clause-some : goal.close_by-requires-clause-some
+close_by-requires-clause-some g c κs within =
+    let served = subst (λ (s : Sample). HaveServed g.K.Kind.rules book_meaning (g.G.Gate.answers c.args.gate.now) s c.args.rota.seats
+    c.args.rota.rounds c.in_ok-hall.hall c.in_ok-hall.passes.items c.in_ok-passes.passes.items) c.requires
+    c.in_ok-passes.ensures.served in
+    let seats : 2 ≤ c.in_ok-hall.hall.setting.seats =
+        subst (λ n. 2 ≤ n) (sym (ap (λ (s : Setting). s.seats) c.in_ok-hall.ensures.setting)) c.args.rota.seats_in_range.0 in
+    let some : 0 < length c.in_ok-hall.passes.items = subst (λ (ps : List Token). 0 < length ps) (sym c.in_ok-hall.ensures.passes)
+    (some_pass c.in_ok-hall.hall.id c.in_ok-hall.hall.setting seats) in
+    some_back g.K.Kind.rules (g.G.Gate.answers c.args.gate.now) Book c.args.rota.seats c.args.rota.rounds c.in_ok-hall.hall
+    c.in_ok-hall.passes.items c.in_ok-passes.passes.items served some
+
+pub returns-clause-history : goal.returns-clause-history
+returns-clause-history g c =
     let k = g.K.Kind.rules in
     let setting = c.in_ok-hall.ensures.setting
     ∙ ap (λ (state : List ℕ). setting_of state c.args.rota.seats (conds_of k)
     (budget_of c.args.rota.seats c.args.rota.rounds)) c.in-Ok.ensures.made in
     if_ok c.close_by.result _ _
     (λ v. history_of k Book c.args.rota.seats c.args.rota.rounds c.in_ok-hall.hall.setting v.items setting)
-    c.close_by.ensures
+    c.close_by.ensures.closed
+
+pub returns-clause-served : goal.returns-clause-served
+returns-clause-served g c =
+    let served = subst (λ (s : Sample). HaveServed g.K.Kind.rules book_meaning (g.G.Gate.answers c.args.gate.now) s c.args.rota.seats
+    c.args.rota.rounds c.in_ok-hall.hall c.in_ok-hall.passes.items c.in_ok-passes.passes.items) c.requires
+    c.in_ok-passes.ensures.served in
+    let k = g.K.Kind.rules in
+    let setting = c.in_ok-hall.ensures.setting
+    ∙ ap (λ (state : List ℕ). setting_of state c.args.rota.seats (conds_of k)
+    (budget_of c.args.rota.seats c.args.rota.rounds)) c.in-Ok.ensures.made in
+    if_then c.close_by.result _ (has_run k (g.G.Gate.answers c.args.gate.now) Book c.args.rota.seats c.args.rota.rounds
+    c.in_ok-hall.hall c.in_ok-hall.passes.items c.in_ok-hall.ensures.passes setting c.in_ok-passes.passes.items
+    served)
+
+pub returns-clause-fault : goal.returns-clause-fault
+returns-clause-fault g c =
+    let served = subst (λ (s : Sample). HaveServed g.K.Kind.rules book_meaning (g.G.Gate.answers c.args.gate.now) s c.args.rota.seats
+    c.args.rota.rounds c.in_ok-hall.hall c.in_ok-hall.passes.items c.in_ok-passes.passes.items) c.requires
+    c.in_ok-passes.ensures.served in
+    let k = g.K.Kind.rules in
+    let setting = c.in_ok-hall.ensures.setting
+    ∙ ap (λ (state : List ℕ). setting_of state c.args.rota.seats (conds_of k)
+    (budget_of c.args.rota.seats c.args.rota.rounds)) c.in-Ok.ensures.made in
+    if_fault c.close_by.result _ _ (λ e. close_fault k (g.G.Gate.answers c.args.gate.now) Book c.args.rota.seats c.args.rota.rounds
+    c.in_ok-hall.hall c.in_ok-hall.passes.items c.in_ok-hall.ensures.passes setting c.in_ok-passes.passes.items e
+    served) c.close_by.ensures.fault

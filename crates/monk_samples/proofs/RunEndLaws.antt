@@ -1,0 +1,86 @@
+-- How a run ends, by the ends of its workers
+use Rattle.std.proofs.Common.{◌≡◌, ℕ, zero, suc, ◌<◌, ◌≤◌, ◌⊎◌, inl, inr, Bool, All, List, [], ◌∷◌, length, sym, ap, subst, ◌∙◌, arith}
+use Rattle.std.proofs.lemmas.List.Elements.{All-cons, All-nil}
+use Rattle.atomic_table.specs.Seated.{TableId}
+use Rattle.monk_kinds.specs.declared.mode.Rules.{Rules}
+use Rattle.monk_object.specs.Names.{meaning_named}
+use Rattle.monk_object.specs.Object.{Object}
+use Rattle.monk_hall.specs.Records.{first_view, opening_records}
+use Rattle.monk_hall.specs.Tokens.{House, Token, tokens}
+use Rattle.monk_hall.specs.declared.setting.Setting.{Setting}
+use Rattle.monk_samples.specs.Crews.{IsOf}
+use Rattle.monk_samples.specs.Ends.{HaveServed, HasEndedFirst, IsFaultOfCrew}
+use Rattle.monk_samples.specs.Faults.{run_fault_of}
+use Rattle.monk_samples.specs.Runs.{HasRun, HasStopped, IsFaultOfRun, IsFirstSpent, run_setting}
+use Rattle.monk_samples.specs.Samples.{sample_object}
+use Rattle.monk_samples.specs.declared.crew_fault.CrewFault.{CrewFault}
+use Rattle.monk_samples.specs.declared.crew_fault.CrewFault.TheVariants as crew
+use Rattle.monk_samples.specs.declared.end.End.{End}
+use Rattle.monk_samples.specs.declared.end.End.TheVariants.{Tired, Late}
+use Rattle.monk_samples.specs.declared.sample.Sample.{Sample}
+
+-- there is a pass
+pub some_pass : (z : TableId) (c : Setting) → 2 ≤ c.seats → 0 < length (tokens z (first_view c))
+some_pass z c many = by c.seats many
+  where
+    by : (n : ℕ) → 2 ≤ n → 0 < length (tokens z (opening_records c n 0))
+    by zero h = absurd (omega (arith, h))
+    by (suc n) h = omega arith
+
+module _ (k : Rules) (answers : ℕ → ℕ → Bool → Type 0) (sample : Sample) (seats rounds : ℕ) where
+  abbrev Served : House → List Token → List Token → Type 0
+  Served = HaveServed k (meaning_named (sample_object sample)) answers sample seats rounds
+
+  -- each pass that came back is of the hall, and there is one
+  pub back_of : (h : House) (ps qs : List Token) → Served h ps qs → All (IsOf h) qs
+  back_of h [] [] s = All-nil (IsOf h)
+  back_of h [] (q ∷ qs) s = absurd s
+  back_of h (p ∷ ps) [] s = absurd s
+  back_of h (p ∷ ps) (q ∷ qs) s = All-cons (IsOf h) q qs s.0.0 (back_of h ps qs s.1)
+
+  pub some_back : (h : House) (ps qs : List Token) → Served h ps qs → 0 < length ps → 0 < length qs
+  some_back h [] qs s some = absurd (omega (arith, some))
+  some_back h (p ∷ ps) [] s some = absurd s
+  some_back h (p ∷ ps) (q ∷ qs) s some = omega arith
+
+  module _ (h : House) (made : List Token) (e : made ≡ tokens h.id (first_view h.setting)) (c : h.setting ≡ run_setting k sample seats rounds) where
+    passes_are : made ≡ tokens h.id (first_view (run_setting k sample seats rounds))
+    passes_are = e ∙ ap (λ (x : Setting). tokens h.id (first_view x)) c
+
+    -- all have served
+    pub has_run : (qs : List Token) → Served h made qs → HasRun k answers sample seats rounds
+    has_run qs s = record {
+      hall = h.id;
+      passes = qs;
+      served = subst (λ (x : Setting). Served (record { id = h.id; setting = x }) (tokens h.id (first_view (run_setting k sample seats rounds))) qs)
+          c (subst (λ (ps : List Token). Served h ps qs) passes_are s);
+    }
+
+    stopped : (end : End) → HasEndedFirst k (meaning_named (sample_object sample)) answers sample seats rounds made end
+        → HasStopped k answers sample seats rounds end
+    stopped end s = record {
+      hall = h.id;
+      first = subst (λ (ps : List Token). HasEndedFirst k (meaning_named (sample_object sample)) answers sample seats rounds ps end)
+          passes_are s;
+    }
+
+    -- or the crew has no passes
+    pub crew_fault : (fault : CrewFault) → IsFaultOfCrew k (meaning_named (sample_object sample)) answers sample seats rounds made fault
+        → IsFaultOfRun k answers sample seats rounds (run_fault_of fault)
+    crew_fault crew.Memory s = tt
+    crew_fault crew.Thread s = tt
+    crew_fault crew.Tired s = inl (stopped Tired s)
+    crew_fault crew.Late s = stopped Late s
+    crew_fault crew.Busy s = absurd s
+
+    -- or it can't be closed
+    pub close_fault : (qs : List Token) (fault : CrewFault) → Served h made qs
+        → (fault ≡ crew.Busy) ⊎ ((fault ≡ crew.Tired) × IsFirstSpent qs) → IsFaultOfRun k answers sample seats rounds (run_fault_of fault)
+    unfolding has_run
+    close_fault qs fault s (inl is) = subst (λ f. IsFaultOfRun k answers sample seats rounds (run_fault_of f)) (sym is) (has_run qs s)
+    close_fault qs fault s (inr is) = subst (λ f. IsFaultOfRun k answers sample seats rounds (run_fault_of f)) (sym is.0)
+        (inr (record { run = has_run qs s; spent = is.1 }))
+
+  -- or there was no memory
+  pub no_memory : (fault : CrewFault) → fault ≡ crew.Memory → IsFaultOfRun k answers sample seats rounds (run_fault_of fault)
+  no_memory fault e = subst (λ f. IsFaultOfRun k answers sample seats rounds (run_fault_of f)) (sym e) tt

@@ -1,0 +1,46 @@
+-- What the workers of a crew answer, all together
+use Rattle.std.specs.Prelude.{◌≡◌, ℕ, Bool, All, List, [], ◌∷◌, ◌++◌}
+use Rattle.monk_kinds.specs.declared.mode.Rules.{Rules}
+use Rattle.monk_object.specs.Object.{Object}
+use Rattle.monk_hall.specs.Tokens.{House, Token}
+use Rattle.monk_samples.specs.Crews.{IsOf}
+use Rattle.monk_samples.specs.Rounds.{HasServed, HasServedToEnd}
+use Rattle.monk_samples.specs.declared.crew_fault.CrewFault.{CrewFault}
+use Rattle.monk_samples.specs.declared.crew_fault.CrewFault.TheVariants as crew
+use Rattle.monk_samples.specs.declared.end.End.{End}
+use Rattle.monk_samples.specs.declared.end.End.TheVariants.{Done, Tired, Late}
+use Rattle.monk_samples.specs.declared.sample.Sample.{Sample}
+
+module _ (k : Rules) (o : Object) (answers : ℕ → ℕ → Bool → Type 0) (sample : Sample) (seats rounds : ℕ) where
+  -- each of these seats has served to its end, and has given back the pass beside it
+  abbrev pub HaveServed : House → List Token → List Token → Type 0
+  HaveServed h [] [] = Unit {0}
+  HaveServed h [] (q ∷ qs) = ⊥
+  HaveServed h (p ∷ ps) [] = ⊥
+  HaveServed h (p ∷ ps) (q ∷ qs) = (IsOf h q × HasServed k o answers sample seats rounds p q Done) × HaveServed h ps qs
+
+  -- the first of these seats that did not serve to its end has ended so
+  pub record HasEndedFirst (ps : List Token) (end : End) : Type 0 where
+    pub before : List Token
+    pub seat : Token
+    pub rest : List Token
+    pub are : ps ≡ before ++ seat ∷ rest
+    pub served : All (HasServedToEnd k o answers sample seats rounds) before
+    pub last : Token
+    pub ended : HasServed k o answers sample seats rounds seat last end
+
+  -- why the crew has not given its passes back
+  abbrev pub IsFaultOfCrew : List Token → CrewFault → Type 0
+  IsFaultOfCrew ps crew.Memory = Unit {0}
+  IsFaultOfCrew ps crew.Thread = Unit {0}
+  IsFaultOfCrew ps crew.Tired = HasEndedFirst ps Tired
+  IsFaultOfCrew ps crew.Late = HasEndedFirst ps Late
+  IsFaultOfCrew ps crew.Busy = ⊥
+
+-- a thread or memory for it is not to be had
+abbrev pub IsWantOfRoom : CrewFault → Type 0
+IsWantOfRoom crew.Memory = Unit {0}
+IsWantOfRoom crew.Thread = Unit {0}
+IsWantOfRoom crew.Tired = ⊥
+IsWantOfRoom crew.Late = ⊥
+IsWantOfRoom crew.Busy = ⊥
