@@ -192,7 +192,8 @@ impl<K: Kind, T: Guarded> Floor<K, T> {
     pub fn act(&mut self, seat: u8, op: Op) -> u64
         requires call { MayCallOn K.rules T.meaning self.old (Event.Act seat op 0) }
         requires left { 0 < left_of self.old.budget self.old.history seat }
-        ensures { IsGrown K.rules T.meaning self.old (Event.Act seat op result) self.new }
+        ensures grown { IsGrown K.rules T.meaning self.old (Event.Act seat op result) self.new }
+        ensures within { result ≤ T.greatest_reply }
     {
         let reply = self.object.act(op);
         self.ledger.note(Event::Act(seat, op, reply));

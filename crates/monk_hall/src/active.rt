@@ -80,7 +80,8 @@ impl<K: Kind, T: Guarded> Active<K, T> {
     pub fn act(&mut self, op: Op) -> u64
         requires code { op.code < T.CODES }
         requires left { length self.old.me.mine + 2 ≤ self.old.me.setting.budget }
-        ensures { HasDone K.rules T.meaning self.old (Event.Act self.old.me.seat op result) self.new }
+        ensures done { HasDone K.rules T.meaning self.old (Event.Act self.old.me.seat op result) self.new }
+        ensures within { result ≤ T.greatest_reply }
     {
         self.floor.act(self.number, op)
     }

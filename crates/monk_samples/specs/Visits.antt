@@ -1,9 +1,7 @@
 -- What a member does in the monitor
-use Rattle.std.specs.Prelude.{◌≡◌, ℕ, ◌+◌, ◌-◌, ◌<◌, ◌⊎◌, true, false, Option, Some, None, List, [], ◌∷◌, ◌++◌}
-use Rattle.std.specs.Prelude.{nat_lt, if◌then◌else◌}
+use Rattle.std.specs.Prelude.{◌≡◌, ℕ, ◌<◌, ◌⊎◌, true, false, Option, Some, None, List, [], ◌∷◌, ◌++◌}
 use Rattle.monk_kinds.specs.declared.mode.Rules.{Rules}
 use Rattle.monk_object.specs.Object.{Object}
-use Rattle.monk_object.specs.Runs.{Answered}
 use Rattle.monk_object.specs.declared.op.Op.{Op}
 use Rattle.monk_history.specs.Meaning.Monitor.{data_of}
 use Rattle.monk_history.specs.declared.event.Event.{Event}
@@ -185,15 +183,6 @@ pub record HasActed (k : Rules) (o : Object) (x : Trail) (wanted : Option Wanted
   pub acts : IsAct k o x.setting x.seat op reply act
   pub last : b.floor.history ≡ after act
   pub floor : b.floor ≡ floor_of x.setting b.floor.history
-
--- the item that a buffer's reply tells: one less than the reply, where that is an item
-abbrev pub item_of : ℕ → Option ℕ
-item_of reply = if nat_lt (reply - 1) 4294967296 then Some (reply - 1) else None
-
--- the item that was taken, if one was
-abbrev pub item_told : List Answered → Option ℕ
-item_told [] = None
-item_told (a ∷ acts) = item_of a.reply
 
 -- what a predicate says of an operation: where it holds, the operation gets done
 abbrev pub Promises : Object → ℕ → Op → Type 0

@@ -1,11 +1,13 @@
 //! A bounded buffer: one task puts items, another takes them.
-ghost use Rattle.std.specs.Prelude.{◌≡◌, ◌<◌, [], ◌∷◌};
+ghost use Rattle.std.specs.Prelude.{◌≡◌, ◌+◌, ◌^◌, ◌<◌, ◌≤◌, IsSome, [], ◌∷◌};
+ghost use Rattle.std.specs.Option.{option_to_list};
 ghost use Rattle.monk_object.specs.Buffer.{buffer_meaning};
+ghost use Rattle.monk_object.specs.Laws.{items_taken};
 ghost use Rattle.monk_history.specs.Meaning.Acts.{acts_in};
 ghost use Rattle.monk_samples.specs.Members.{puts, takes};
 ghost use Rattle.monk_samples.specs.Styles.{Offers};
 ghost use Rattle.monk_samples.specs.Trails.{events_in};
-ghost use Rattle.monk_samples.specs.Visits.{HasVisited, item_of, item_told};
+ghost use Rattle.monk_samples.specs.Visits.{HasVisited};
 
 use crate::end::End;
 use crate::style::Style;
@@ -38,8 +40,8 @@ pub fn put<K: Style, R: Wait>(
     act_and_finish(pass, rt, hall, NOT_FULL, Buffer::HAS_ROOM, put, NOT_EMPTY)
 }
 
-/// Takes the oldest item out of the buffer, once one is there, and lets a putter go on. Gives the item also where it was
-/// tired after that.
+/// Takes the oldest item out of the buffer, once one is there, and lets a putter go on. Gives the item exactly where it
+/// took one: on `Done`, and where it was tired only after that.
 pub fn take<K: Style, R: Wait>(
     pass: Pass<K, Buffer>,
     rt: &R,
@@ -47,8 +49,9 @@ pub fn take<K: Style, R: Wait>(
 ) -> (Pass<K, Buffer>, Option<u32>, End)
     requires hall { pass.hall ≡ hall.now.id }
     requires conds { Offers K.rules pass.me.setting.conds 2 }
-    ensures { (visit : HasVisited K.rules buffer_meaning pass (takes ∷ []) result.0 result.2)
-        × (result.1 ≡ item_told (acts_in (events_in visit.calls))) }
+    ensures visited { (visit : HasVisited K.rules buffer_meaning pass (takes ∷ []) result.0 result.2)
+        × (items_taken (acts_in (events_in visit.calls)) ≡ option_to_list result.1) }
+    ensures done { result.2 ≡ End.Done → IsSome result.1 }
 {
     let take = Op {
         code: Buffer::TAKE,
@@ -57,16 +60,17 @@ pub fn take<K: Style, R: Wait>(
     match act_when(pass, rt, hall, NOT_EMPTY, Buffer::HAS_ITEM, take) {
         Ok((active, reply)) => {
             let (pass, end) = K::finish(active, rt, hall, NOT_FULL);
-            (pass, item_of(reply), end)
+            (pass, Some(item_of(reply)), end)
         }
         Err(pass) => (pass, None, End::Tired),
     }
 }
 
-/// The item that a reply to a take above 0 tells. Each item of a buffer is a `u32`, so there is one.
-fn item_of(reply: u64) -> Option<u32>
-    requires { 0 < reply }
-    ensures { result ≡ item_of reply }
+/// The item that a take took out, by the buffer's reply.
+fn item_of(reply: u64) -> u32
+    requires done { 0 < reply }
+    requires within { reply ≤ 2 ^ 32 }
+    ensures { reply ≡ result + 1 }
 {
-    u32::try_from(reply - 1).ok()
+    (reply - 1) as u32
 }

@@ -1,6 +1,6 @@
 //! What members share: coming in, pausing while a predicate is false, an operation, and going out. Each step gives the
 //! pass back where the seat has too few events left for it; then it is outside the monitor.
-ghost use Rattle.std.specs.Prelude.{◌≡◌, ◌+◌, ◌<◌, true, [], ◌∷◌, Some, None, MatchResult};
+ghost use Rattle.std.specs.Prelude.{◌≡◌, ◌+◌, ◌<◌, ◌≤◌, true, [], ◌∷◌, Some, None, IfOk, MatchResult};
 ghost use Rattle.monk_history.specs.Meaning.Monitor.{data_of};
 ghost use Rattle.monk_floor.specs.View.{monitor_of};
 ghost use Rattle.monk_samples.specs.Styles.{Offers};
@@ -64,9 +64,10 @@ pub(crate) fn act<K: Kind, T: Guarded>(
 ) -> Result<(Active<K, T>, u64), Pass<K, T>>
     requires hall { active.hall ≡ hall.now.id }
     requires code { op.code < T.CODES }
-    ensures { MatchResult result (λ r. HasActed K.rules T.meaning (inside active) None op r.1 r.0
+    ensures acted { MatchResult result (λ r. HasActed K.rules T.meaning (inside active) None op r.1 r.0
         × (r.1 ≡ T.meaning.reply (data_of (monitor_of K.rules T.meaning active.floor) active.floor.history) op))
         (λ q. IsTiredWithin K.rules T.meaning active None q) }
+    ensures within { IfOk result (λ r. r.1 ≤ T.greatest_reply) }
 {
     let mut active = active;
     if active.left() < 2 {
@@ -130,9 +131,10 @@ pub(crate) fn act_when<K: Style, T: Guarded, R: Wait>(
     requires pred { pred < T.PREDICATES }
     requires code { op.code < T.CODES }
     requires promise { Promises T.meaning pred op }
-    ensures { MatchResult result
+    ensures acted { MatchResult result
         (λ r. HasActed K.rules T.meaning (outside pass) (Some (wanted cond pred)) op r.1 r.0 × (0 < r.1))
         (λ q. IsTiredFor K.rules T.meaning pass (Some (wanted cond pred)) q) }
+    ensures within { IfOk result (λ r. r.1 ≤ T.greatest_reply) }
 {
     match come_in_when(pass, rt, hall, cond, pred) {
         Ok(active) => act(active, hall, op),

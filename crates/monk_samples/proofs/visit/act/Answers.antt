@@ -5,17 +5,17 @@ use Rattle.monk_samples.proofs.TrailLaws.{called_none, replied}
 use Rattle.monk_samples.proofs.VisitLaws.{acted_now, left_after, paused_none}
 use Rattle.monk_samples.proofs.visit.act.Goals as goal
 
-pub returns-then-left-lt2 : goal.returns-then-left-lt2
-returns-then-left-lt2 g c =
+pub returns-then-left-lt2-clause-acted : goal.returns-then-left-lt2-clause-acted
+returns-then-left-lt2-clause-acted g c =
     let k = g.K.Kind.rules in let o = g.T.Guarded.meaning in let a = c.args.active in
     let has = c.left.ensures.left in let few = c.if-left-lt2.true in
     let short : a.me.setting.budget < length a.me.mine + 3 = omega arith in
     left_after k o (inside a) None a c.leave.result (paused_none k o (inside a) None a (called_none (inside a)))
     (given_up k o a _ _ c.leave.result c.leave.ensures short)
 
-pub returns : goal.returns
-returns g c =
+pub returns-clause-acted : goal.returns-clause-acted
+returns-clause-acted g c =
     let k = g.K.Kind.rules in let o = g.T.Guarded.meaning in (
-      acted_now k o c.args.active c.args.op c.act-reply.result c.act-reply.new.self c.act-reply.ensures c.left.ensures.floor,
-      replied k o c.args.active c.args.active.me.seat c.args.op c.act-reply.result c.act-reply.new.self c.act-reply.ensures,
+      acted_now k o c.args.active c.args.op c.act-reply.result c.act-reply.new.self c.act-reply.ensures.done c.left.ensures.floor,
+      replied k o c.args.active c.args.active.me.seat c.args.op c.act-reply.result c.act-reply.new.self c.act-reply.ensures.done,
     )

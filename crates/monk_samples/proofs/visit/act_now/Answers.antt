@@ -8,7 +8,7 @@ pub returns-in-Ok : goal.returns-in-Ok
 returns-in-Ok g c =
     let k = g.K.Kind.rules in let o = g.T.Guarded.meaning in let p = c.args.pass in let a = c.in-Ok.active in
     let came = paused_none k o (outside p) None a c.in-Ok.ensures in
-    MatchResult-weaker c.act.result c.act.ensures
+    MatchResult-weaker c.act.result c.act.ensures.acted
     (λ r h. acted_after k o (outside p) None c.args.op r.1 a r.0 came h.0)
     (λ q t. unready k o (outside p) None q (tired_after k o (outside p) None a q came t))
 

@@ -10,11 +10,11 @@ use Rattle.monk_hall.proofs.active.Active.act.Goals as goal
 pub invariant_of-self : goal.invariant_of-self
 invariant_of-self g c =
     let room = subst (λ (a : Holder). length a.me.mine + 2 ≤ a.me.setting.budget) (sym c.self.view_is) c.requires.left in
-    grown_holds c.self.invariant (Act c.self.inside.number c.args.op c.act.result) refl refl refl c.act.ensures.allowed
-    room c.act.new.self c.act.ensures.grown
+    grown_holds c.self.invariant (Act c.self.inside.number c.args.op c.act.result) refl refl refl c.act.ensures.grown.allowed
+    room c.act.new.self c.act.ensures.grown.grown
 
-pub returns : goal.returns
-returns g c =
+pub returns-clause-done : goal.returns-clause-done
+returns-clause-done g c =
     let r = the c.self.inside.seat.me.0 in let f = c.self.inside.floor in let n = c.self.invariant.seated.is_seat in
     subst (λ (a : Holder). HasDone g.K.Kind.rules g.T.Guarded.meaning a (Act a.me.seat c.args.op c.act.result)
     (holder c.self.inside.seat.table_id r c.act.new.self)) c.self.view_is
@@ -22,4 +22,4 @@ returns g c =
     → HasDone g.K.Kind.rules g.T.Guarded.meaning (holder c.self.inside.seat.table_id r f)
     (Act r.seat c.args.op c.act.result) (holder c.self.inside.seat.table_id r c.act.new.self))
     n (λ grown. grown_does c.self.inside.seat.table_id r f c.act.new.self (Act r.seat c.args.op c.act.result) refl
-    c.self.invariant.goes.legal grown.allowed grown.grown) c.act.ensures)
+    c.self.invariant.goes.legal grown.allowed grown.grown) c.act.ensures.grown)

@@ -52,5 +52,5 @@ one_visit k o p q a b op reply history state came entered done ended =
 pub returns-in-Ok-close : goal.returns-in-Ok-close
 returns-in-Ok-close g c =
     one_visit g.K.Kind.rules g.T.Guarded.meaning c.args.pass c.arrive.result c.in-Ok.active c.act.new.self c.args.op
-    c.act.result c.in-Ok-close.closed.history.items _ c.arrive.ensures c.in-Ok.ensures.active.0 c.act.ensures
+    c.act.result c.in-Ok-close.closed.history.items _ c.arrive.ensures c.in-Ok.ensures.active.0 c.act.ensures.done
     c.in-Ok-close.ensures.ended

@@ -9,4 +9,4 @@ invariant_of-self g c =
     c.args.seat (command.Act c.args.op) _ c.self.inside.words c.act.new.self c.self.inside.conds g.K.Kind.is_kind
     c.self.invariant c.requires refl
     (world.act_goes g.K.Kind.rules g.T.Guarded.meaning c.self.inside.words c.self.inside.floor c.args.self.now
-    c.self.view_is c.args.seat c.args.op c.act.result _ c.act.new.self c.requires c.act.ensures refl)
+    c.self.view_is c.args.seat c.args.op c.act.result _ c.act.new.self c.requires c.act.ensures.grown refl)
