@@ -4,7 +4,6 @@ use Rattle.std.proofs.lemmas.List.Elements.{All-cons, All-nil}
 use Rattle.atomic_table.specs.Seated.{TableId}
 use Rattle.monk_kinds.specs.declared.mode.Rules.{Rules}
 use Rattle.monk_object.specs.Names.{meaning_named}
-use Rattle.monk_object.specs.Object.{Object}
 use Rattle.monk_hall.specs.Records.{first_view, opening_records}
 use Rattle.monk_hall.specs.Tokens.{House, Token, tokens}
 use Rattle.monk_hall.specs.declared.setting.Setting.{Setting}
@@ -43,7 +42,8 @@ module _ (k : Rules) (answers : ℕ → ℕ → Bool → Type 0) (sample : Sampl
   some_back h (p ∷ ps) [] s some = absurd s
   some_back h (p ∷ ps) (q ∷ qs) s some = omega arith
 
-  module _ (h : House) (made : List Token) (e : made ≡ tokens h.id (first_view h.setting)) (c : h.setting ≡ run_setting k sample seats rounds) where
+  module _ (h : House) (made : List Token) (e : made ≡ tokens h.id (first_view h.setting))
+      (c : h.setting ≡ run_setting k sample seats rounds) where
     passes_are : made ≡ tokens h.id (first_view (run_setting k sample seats rounds))
     passes_are = e ∙ ap (λ (x : Setting). tokens h.id (first_view x)) c
 
@@ -52,7 +52,8 @@ module _ (k : Rules) (answers : ℕ → ℕ → Bool → Type 0) (sample : Sampl
     has_run qs s = record {
       hall = h.id;
       passes = qs;
-      served = subst (λ (x : Setting). Served (record { id = h.id; setting = x }) (tokens h.id (first_view (run_setting k sample seats rounds))) qs)
+      served = subst (λ (x : Setting). Served (record { id = h.id; setting = x })
+          (tokens h.id (first_view (run_setting k sample seats rounds))) qs)
           c (subst (λ (ps : List Token). Served h ps qs) passes_are s);
     }
 

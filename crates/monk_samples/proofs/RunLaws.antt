@@ -1,5 +1,6 @@
 -- What a run rests on: lists of workers and threads, a hall's passes, and the header of a closed hall
 use Rattle.std.proofs.Common.{◌≡◌, ℕ, zero, suc, ◌+◌, ◌*◌, ◌^◌, ◌≤◌, Bool, true, false, cond, All, Result, Ok, Err}
+use Rattle.std.specs.Prelude.{IsErrAnd}
 use Rattle.std.proofs.Common.{IfErr, IfOk, OnOk, Option, Some, None, nat_le, ◌&&◌, List, [], ◌∷◌, ◌++◌, map, length, refl, sym, ap, subst}
 use Rattle.std.proofs.Common.{◌∙◌, arith}
 use Rattle.std.proofs.lemmas.Bool.{false≢true}
@@ -174,3 +175,10 @@ if_then (Err e) Q q = tt
 pub if_fault : {A E : Type 0} (r : Result A E) (P Q : E → Type 0) → ((e : E) → P e → Q e) → IfErr r P → IfErr r Q
 if_fault (Ok a) P Q f h = h
 if_fault (Err e) P Q f h = f e h
+
+-- the fault that a run tells is its crew's
+pub crew_told : {A B E F : Type 0} (r : Result A E) (s : Result B F) (of : F → E) (P : E → Type 0)
+    → IfErr r (λ e. IsErrAnd s (λ f. e ≡ of f)) → IfErr s (λ f. P (of f)) → IfErr r P
+crew_told (Ok a) s of P told why = tt
+crew_told (Err e) (Ok b) of P told why = absurd told
+crew_told (Err e) (Err f) of P told why = subst P (sym told) why

@@ -1,5 +1,5 @@
 //! A run: a hall over the object of a sample, with a thread for each seat that works, closed when all have ended.
-ghost use Rattle.std.specs.Prelude.{◌≡◌, ◌↔◌, ◌⊎◌, ◌<◌, All, IfErr, IfOk, OnOk, IsErrOf, IsOk, length};
+ghost use Rattle.std.specs.Prelude.{◌≡◌, ◌↔◌, ◌⊎◌, ◌<◌, All, IfErr, IfOk, OnOk, IsErrAnd, IsErrOf, IsOk, length};
 ghost use Rattle.monk_object.specs.declared.name.ObjectName.TheVariants as object;
 ghost use Rattle.monk_hall.specs.Records.{first_view};
 ghost use Rattle.monk_hall.specs.Rule.{setting_of};
@@ -211,7 +211,7 @@ fn of_run<K: Kind>(rota: Rota, history: Result<Vec<Event>, CrewFault>) -> Result
     ensures outcome { IfOk result (λ o. IsOutcome K.NAME rota.sample rota.seats o.header o.history.items o.totals) }
     ensures in_range { IsErrOf result RunFault.Range → ⊥ }
     ensures ok { OnOk result (IsOk history) }
-    ensures fault { IfErr result (λ e. IfErr history (λ f. e ≡ run_fault_of f)) }
+    ensures fault { IfErr result (λ e. IsErrAnd history (λ f. e ≡ run_fault_of f)) }
 {
     match history {
         Ok(history) => Ok(outcome::<K>(rota, history)),

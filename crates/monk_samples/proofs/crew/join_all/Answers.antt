@@ -1,4 +1,4 @@
-use Rattle.std.proofs.Common.{rules, ◌≡◌, List, [], ◌∷◌, ◌++◌, map, append_assoc, append-nil, refl, sym, ap, subst, ◌∙◌}
+use Rattle.std.proofs.Common.{◌≡◌, List, [], ◌∷◌, ◌++◌, map, append_assoc, append-nil, sym, ap, subst, ◌∙◌}
 use Rattle.std.specs.Prelude.{Option, None, vec_items}
 use Rattle.std.specs.Vec.Iter.{into_iter_items}
 use Rattle.std.proofs.lemmas.List.{nil_from_length}
@@ -15,7 +15,8 @@ use Rattle.monk_samples.proofs.crew.join_all.Goals as goal
 
 pub loop-shift-init : goal.loop-shift-init
 loop-shift-init g c =
-    let e : into_iter_items c.into_iter-shift-iterator.result ≡ vec_items c.args.crew = c.into_iter-shift-iterator.ensures.into_iter_gives.0 in (
+    let e : into_iter_items c.into_iter-shift-iterator.result ≡ vec_items c.args.crew =
+    c.into_iter-shift-iterator.ensures.into_iter_gives.0 in (
       [],
       ap (λ xs. map (λ s. s.promise.pass.value) xs) (sym e),
       subst (λ (qs : List Token). HaveJoined g.K.Kind.rules g.T.Guarded.meaning (g.G.Gate.answers c.args.gate.now) c.args.rota.sample
@@ -48,7 +49,8 @@ loop-shift-preserved g c =
       inv.0 ++ p.pass.value ∷ [],
       inv.1 ∙ ap (λ xs. inv.0 ++ map (λ s. s.promise.pass.value) xs) steps ∙ sym (append_assoc inv.0 (p.pass.value ∷ []) _),
       subst (λ (fault : Option CrewFault). HaveJoined g.K.Kind.rules g.T.Guarded.meaning (g.G.Gate.answers c.args.gate.now)
-          c.args.rota.sample c.args.rota.seats c.args.rota.rounds c.args.hall.now (inv.0 ++ p.pass.value ∷ []) (vec_items c.push.new.self) fault)
+          c.args.rota.sample c.args.rota.seats c.args.rota.rounds c.args.hall.now (inv.0 ++ p.pass.value ∷ [])
+          (vec_items c.push.new.self) fault)
           (sym c.fault_after-fault.ensures) told,
       rest_of (into_iter_items c.next.new.self) (into_iter_items c.loop-shift.shift-iterator) c.in-Some.shift
           (λ s. (s.promise.hall.value ≡ c.args.hall.now) × (s.promise.gate.value ≡ c.args.gate.now) × (s.promise.rota.value ≡ c.args.rota))

@@ -1,4 +1,4 @@
-use Rattle.std.proofs.Common.{◌≡◌, [], ◌∷◌, ◌++◌, map, refl, sym, ap, ◌∙◌, append-nil}
+use Rattle.std.proofs.Common.{◌≡◌, ◌++◌, map, refl, sym, ap, ◌∙◌, append-nil}
 use Rattle.std.specs.Prelude.{vec_items}
 use Rattle.std.specs.Vec.Iter.{into_iter_items}
 use Rattle.std.proofs.lemmas.List.{nil_from_length}
@@ -11,7 +11,7 @@ use Rattle.monk_samples.proofs.crew.workers.Goals as goal
 pub loop-pass-init : goal.loop-pass-init
 loop-pass-init g c =
     let e : into_iter_items c.into_iter-pass-iterator.result ≡ vec_items c.args.passes =
-        c.into_iter-pass-iterator.ensures.into_iter_gives.0 in (
+    c.into_iter-pass-iterator.ensures.into_iter_gives.0 in (
       none_yet (vec_items c.in_ok-workers.workers)
           (λ w. ((w.hall.now ≡ c.args.hall.now) × IsReady g.K.Kind.rules c.args.hall.now w.pass)
           × (w.gate.now ≡ c.args.gate.now) × (w.rota ≡ c.args.rota))
@@ -41,7 +41,8 @@ pub returns-clause-passes : goal.returns-clause-passes
 returns-clause-passes g c =
     let rest = nil_from_length (into_iter_items c.loop-pass.pass-iterator)
     (sym c.loop-pass.pass-iterator.rest.ok.0 ∙ c.in-None.ensures.steps.0) in
-    sym (ap (λ ps. map (λ w. w.pass) (vec_items c.loop-pass.workers) ++ ps) rest ∙ append-nil (map (λ w. w.pass) (vec_items c.loop-pass.workers)))
+    sym (ap (λ ps. map (λ w. w.pass) (vec_items c.loop-pass.workers) ++ ps) rest
+    ∙ append-nil (map (λ w. w.pass) (vec_items c.loop-pass.workers)))
     ∙ c.loop-pass.invariant.1
 
 pub returns-in_err-workers-clause-fault : goal.returns-in_err-workers-clause-fault

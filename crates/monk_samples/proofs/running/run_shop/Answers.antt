@@ -1,4 +1,4 @@
-use Rattle.std.proofs.Common.{ap, sym, subst, ◌∙◌, ◌<◌, ◌≤◌, ◌≡◌, List, ℕ, length}
+use Rattle.std.proofs.Common.{ap, sym, subst, ◌∙◌, ◌<◌, ◌≤◌, List, ℕ, length}
 use Rattle.monk_object.specs.Shop.{shop_meaning}
 use Rattle.monk_hall.specs.Rule.{setting_of}
 use Rattle.monk_hall.specs.Tokens.{Token}
@@ -25,7 +25,7 @@ close_by-requires-clause-some g c κs within =
     c.args.rota.rounds c.in_ok-hall.hall c.in_ok-hall.passes.items c.in_ok-passes.passes.items) c.requires
     c.in_ok-passes.ensures.served in
     let seats : 2 ≤ c.in_ok-hall.hall.setting.seats =
-        subst (λ n. 2 ≤ n) (sym (ap (λ (s : Setting). s.seats) c.in_ok-hall.ensures.setting)) c.args.rota.seats_in_range.0 in
+    subst (λ n. 2 ≤ n) (sym (ap (λ (s : Setting). s.seats) c.in_ok-hall.ensures.setting)) c.args.rota.seats_in_range.0 in
     let some : 0 < length c.in_ok-hall.passes.items = subst (λ (ps : List Token). 0 < length ps) (sym c.in_ok-hall.ensures.passes)
     (some_pass c.in_ok-hall.hall.id c.in_ok-hall.hall.setting seats) in
     some_back g.K.Kind.rules (g.G.Gate.answers c.args.gate.now) Shop c.args.rota.seats c.args.rota.rounds c.in_ok-hall.hall

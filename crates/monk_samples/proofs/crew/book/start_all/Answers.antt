@@ -1,4 +1,4 @@
-use Rattle.std.proofs.Common.{◌≡◌, [], ◌∷◌, ◌++◌, map, refl, sym, ap, ◌∙◌, append-nil}
+use Rattle.std.proofs.Common.{◌≡◌, ◌∷◌, ◌++◌, map, sym, ap, ◌∙◌, append-nil}
 use Rattle.std.specs.Prelude.{vec_items}
 use Rattle.std.specs.Vec.Iter.{into_iter_items}
 use Rattle.std.proofs.lemmas.List.{nil_from_length}
@@ -10,7 +10,7 @@ use Rattle.monk_samples.proofs.crew.book.start_all.Goals as goal
 pub loop-worker-init : goal.loop-worker-init
 loop-worker-init g c =
     let e : into_iter_items c.into_iter-worker-iterator.result ≡ vec_items c.args.workers =
-        c.into_iter-worker-iterator.ensures.into_iter_gives.0 in (
+    c.into_iter-worker-iterator.ensures.into_iter_gives.0 in (
       none_yet (vec_items c.in_ok-crew.crew)
           (λ s. (s.promise.hall.value ≡ c.args.hall.now) × (s.promise.gate.value ≡ c.args.gate.now) × (s.promise.rota.value ≡ c.args.rota))
           c.in_ok-crew.ensures.items,

@@ -1,0 +1,31 @@
+use Rattle.std.proofs.Common.{sym, subst}
+use Rattle.std.specs.Prelude.{IfErr}
+use Rattle.monk_samples.specs.Faults.{run_fault_of}
+use Rattle.monk_samples.specs.Runs.{IsFaultOfRun}
+use Rattle.monk_samples.specs.declared.sample.Sample.{Sample}
+use Rattle.monk_samples.proofs.RunLaws.{crew_told}
+use Rattle.monk_samples.proofs.running.run.Goals as goal
+
+pub returns-in-Buffer-clause-fault : goal.returns-in-Buffer-clause-fault
+returns-in-Buffer-clause-fault g c =
+    crew_told c.of_run.result c.run_buffer.result run_fault_of
+    (IsFaultOfRun g.K.Kind.rules (g.G.Gate.answers c.args.gate.now) c.args.sample c.args.seats c.args.rounds)
+    c.of_run.ensures.fault (subst (λ (s : Sample). IfErr c.run_buffer.result (λ f.
+    IsFaultOfRun g.K.Kind.rules (g.G.Gate.answers c.args.gate.now) s c.args.seats c.args.rounds (run_fault_of f)))
+    (sym c.in-Buffer.is) c.run_buffer.ensures.fault)
+
+pub returns-in-Book-clause-fault : goal.returns-in-Book-clause-fault
+returns-in-Book-clause-fault g c =
+    crew_told c.of_run-in-Book.result c.run_book.result run_fault_of
+    (IsFaultOfRun g.K.Kind.rules (g.G.Gate.answers c.args.gate.now) c.args.sample c.args.seats c.args.rounds)
+    c.of_run-in-Book.ensures.fault (subst (λ (s : Sample). IfErr c.run_book.result (λ f.
+    IsFaultOfRun g.K.Kind.rules (g.G.Gate.answers c.args.gate.now) s c.args.seats c.args.rounds (run_fault_of f)))
+    (sym c.in-Book.is) c.run_book.ensures.fault)
+
+pub returns-in-Shop-clause-fault : goal.returns-in-Shop-clause-fault
+returns-in-Shop-clause-fault g c =
+    crew_told c.of_run-in-Shop.result c.run_shop.result run_fault_of
+    (IsFaultOfRun g.K.Kind.rules (g.G.Gate.answers c.args.gate.now) c.args.sample c.args.seats c.args.rounds)
+    c.of_run-in-Shop.ensures.fault (subst (λ (s : Sample). IfErr c.run_shop.result (λ f.
+    IsFaultOfRun g.K.Kind.rules (g.G.Gate.answers c.args.gate.now) s c.args.seats c.args.rounds (run_fault_of f)))
+    (sym c.in-Shop.is) c.run_shop.ensures.fault)
