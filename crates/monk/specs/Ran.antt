@@ -1,9 +1,11 @@
 -- What is answered to a run of a sample
-use Rattle.std.specs.Prelude.{◌≡◌, ℕ, ◌⊎◌, List, ◌++◌, Option, Some, None, codes, slice_index}
+use Rattle.std.specs.Prelude.{◌≡◌, ℕ, ◌⊎◌, Bool, true, List, ◌++◌, Option, Some, None, codes, slice_index}
 use Rattle.std.specs.Fmt.{decimal}
+use Rattle.monk_kinds.specs.Names.{rules_named}
 use Rattle.monk_kinds.specs.declared.name.KindName.{KindName}
 use Rattle.monk_history.specs.Text.{Heading}
 use Rattle.monk_history.specs.declared.event.Event.{Event}
+use Rattle.monk_samples.specs.Runs.{HasRun, IsFaultOfRun}
 use Rattle.monk_samples.specs.Samples.{IsOutcome}
 use Rattle.monk_samples.specs.declared.run_fault.RunFault.{RunFault}
 use Rattle.monk_samples.specs.declared.run_fault.RunFault.TheVariants.{Range, Memory, Tired, Late, Busy, Thread}
@@ -27,8 +29,13 @@ totals_text Shop t =
     count_line (codes "sat") (slice_index t 0) ++ count_line (codes "called") (slice_index t 1)
     ++ count_line (codes "finished") (slice_index t 2) ++ count_line (codes "departed") (slice_index t 3) ++ codes "legal\n"
 
--- a run has left a legal history, and its totals are told
-pub record IsTold (k : KindName) (sample : Sample) (seats : ℕ) (Puts : List ℕ → Type 0) : Type 0 where
+-- the gate of the program's runs has let every seat into every round
+abbrev pub lets_in : ℕ → ℕ → Bool → Type 0
+lets_in seat round answer = answer ≡ true
+
+-- a run in which every seat has served to its end has left a legal history, and its totals are told
+pub record IsTold (k : KindName) (sample : Sample) (seats rounds : ℕ) (Puts : List ℕ → Type 0) : Type 0 where
+  pub served : HasRun (rules_named k) lets_in sample seats rounds
   pub heading : Heading
   pub history : List Event
   pub totals : List ℕ
@@ -46,11 +53,13 @@ end_word Thread = None
 end_word Range = None
 
 -- a run has ended without totals, and its end is told
-pub record IsEnd (Puts : List ℕ → Type 0) : Type 0 where
+pub record IsEnd (k : KindName) (sample : Sample) (seats rounds : ℕ) (Puts : List ℕ → Type 0) : Type 0 where
   pub fault : RunFault
+  pub why : IsFaultOfRun (rules_named k) lets_in sample seats rounds fault
   pub word : List ℕ
   pub is : end_word fault ≡ Some word
   pub told : Puts word
 
-abbrev pub IsRunAnswer : KindName → Sample → ℕ → ℕ → (List ℕ → Type 0) → Type 0
-IsRunAnswer k sample seats status Puts = ((status ≡ 0) × IsTold k sample seats Puts) ⊎ ((status ≡ 1) × IsEnd Puts)
+abbrev pub IsRunAnswer : KindName → Sample → ℕ → ℕ → ℕ → (List ℕ → Type 0) → Type 0
+IsRunAnswer k sample seats rounds status Puts =
+    ((status ≡ 0) × IsTold k sample seats rounds Puts) ⊎ ((status ≡ 1) × IsEnd k sample seats rounds Puts)

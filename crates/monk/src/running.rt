@@ -1,15 +1,17 @@
 //! The stream of a run: a sample at work in threads, an audit of what it left, and its totals.
 
-ghost use Rattle.std.specs.Prelude.{◌≡◌, ◌≢◌, ◌⊎◌, ◌↔◌, false, true, IfOk, IsErrOf, Some, string_bytes};
+ghost use Rattle.std.specs.Prelude.{◌≡◌, ◌≢◌, ◌⊎◌, ◌↔◌, false, true, IfErr, IfOk, IsErrOf, OnOk, Some, string_bytes};
 ghost use Rattle.std.specs.Io.KnownBytes.{Appends};
 ghost use Rattle.monk_history.specs.Text.Device.{held, has_failed};
+ghost use Rattle.monk_kinds.specs.Names.{rules_named};
+ghost use Rattle.monk_samples.specs.Runs.{HasRun, IsFaultOfRun};
 ghost use Rattle.monk_samples.specs.Samples.{IsInRange, IsOutcome};
 ghost use Rattle.monk_samples.specs.declared.sample.Sample.TheVariants as Sample;
-ghost use Rattle.monk.specs.Ran.{IsRunAnswer, end_word, totals_text};
+ghost use Rattle.monk.specs.Ran.{IsRunAnswer, end_word, lets_in, totals_text};
 
 use crate::answer::{Answer, put, verdict_answer};
 use crate::fault::StreamFault;
-use monk_audit::{Verdict, audit};
+use monk_audit::{AuditFault, Verdict, audit};
 use monk_history::Device;
 use monk_kinds::{KindName, Npb, Npir, Npis, Npnb, Npqb, Pb, Pir, Pis, Pnb, Pqb};
 use monk_samples::{OpenGate, Outcome, RunFault, Sample, run};
@@ -30,6 +32,8 @@ fn run_named<R: Threads + Wait + Sync>(
     requires { IsInRange seats rounds }
     ensures outcome { IfOk result (λ o. IsOutcome kind sample seats o.header o.history.items o.totals) }
     ensures in_range { IsErrOf result RunFault.Range → ⊥ }
+    ensures served { OnOk result (HasRun (rules_named kind) lets_in sample seats rounds) }
+    ensures fault { IfErr result (IsFaultOfRun (rules_named kind) lets_in sample seats rounds) }
 {
     let gate = OpenGate;
     match kind {
@@ -58,8 +62,9 @@ fn audited(alloc: Global, sample: Sample, outcome: &Outcome) -> Result<Answer, S
         Ok(Verdict::Forbidden { step, reason }) => {
             verdict_answer(alloc, Verdict::Forbidden { step, reason })
         }
-        // The size is within the object's greatest, so only memory can be wanting.
-        Err(_) => Err(StreamFault::Memory),
+        Err(AuditFault::Memory) => Err(StreamFault::Memory),
+        // The size is within the object's greatest.
+        Err(AuditFault::Object) => unreachable!(),
     }
 }
 
@@ -146,7 +151,7 @@ pub fn run_stream<R: Threads + Wait + Sync, W: Write>(
 
     // The totals that are told are those of a legal history of this kind and sample, in which the sample's law holds.
     ensures answer { IfOk result
-        (λ status. IsRunAnswer kind sample seats status
+        (λ status. IsRunAnswer kind sample seats rounds status
         (Appends (W.contents (held writer.old)) (W.contents (held writer.new)))) }
     ensures file { IsErrOf result StreamFault.File → (has_failed writer.new ≡ true) ⊎ (writer.new ≡ writer.old) }
     ensures memory { IsErrOf result StreamFault.Memory → writer.new ≡ writer.old }

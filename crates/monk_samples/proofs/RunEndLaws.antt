@@ -76,9 +76,11 @@ module _ (k : Rules) (answers : ℕ → ℕ → Bool → Type 0) (sample : Sampl
 
     -- or it can't be closed
     pub close_fault : (qs : List Token) (fault : CrewFault) → Served h made qs
-        → (fault ≡ crew.Busy) ⊎ ((fault ≡ crew.Tired) × IsFirstSpent qs) → IsFaultOfRun k answers sample seats rounds (run_fault_of fault)
+        → ((fault ≡ crew.Busy) × (IsFirstSpent qs → ⊥)) ⊎ ((fault ≡ crew.Tired) × IsFirstSpent qs)
+        → IsFaultOfRun k answers sample seats rounds (run_fault_of fault)
     unfolding has_run
-    close_fault qs fault s (inl is) = subst (λ f. IsFaultOfRun k answers sample seats rounds (run_fault_of f)) (sym is) (has_run qs s)
+    close_fault qs fault s (inl is) = subst (λ f. IsFaultOfRun k answers sample seats rounds (run_fault_of f)) (sym is.0)
+        (record { run = has_run qs s; able = is.1 })
     close_fault qs fault s (inr is) = subst (λ f. IsFaultOfRun k answers sample seats rounds (run_fault_of f)) (sym is.0)
         (inr (record { run = has_run qs s; spent = is.1 }))
 

@@ -31,6 +31,7 @@ use Rattle.monk_hall.specs.Closing.{IsEnded}
 use Rattle.monk_hall.specs.Layout.{floor_of}
 use Rattle.monk_hall.specs.Rule.{setting_of}
 use Rattle.monk_samples.specs.Crews.{IsReady, AreReady, IsClosed}
+use Rattle.monk_samples.specs.Runs.{IsFirstSpent}
 use Rattle.monk_samples.specs.Samples.{sample_object, size, conds_of, budget_of, run_heading, KeepsLaw, IsHistoryOf, IsOutcome}
 use Rattle.monk_samples.specs.Totals.{totals_of}
 use Rattle.monk_samples.specs.declared.sample.Sample.{Sample}
@@ -182,3 +183,9 @@ pub crew_told : {A B E F : Type 0} (r : Result A E) (s : Result B F) (of : F →
 crew_told (Ok a) s of P told why = tt
 crew_told (Err e) (Ok b) of P told why = absurd told
 crew_told (Err e) (Err f) of P told why = subst P (sym told) why
+
+-- the first pass is not spent where it has two events left
+pub unspent : (ps rest : List Token) (p : Token) (left : ℕ) → ps ≡ p ∷ rest → left + length p.me.mine ≡ p.me.setting.budget → 2 ≤ left
+    → IsFirstSpent ps → ⊥
+unspent ps rest p left e counted some spent =
+    let now : p.me.setting.budget ≤ length p.me.mine + 1 = subst IsFirstSpent e spent in omega (arith, counted, some, now)

@@ -52,6 +52,11 @@ module _ (k : Rules) (answers : ℕ → ℕ → Bool → Type 0) (sample : Sampl
     pub run : HasRun
     pub spent : IsFirstSpent run.passes
 
+  -- every seat has served to its end, and the first could come in once more, but the hall could not be closed
+  pub record IsUnclosed : Type 0 where
+    pub run : HasRun
+    pub able : IsFirstSpent run.passes → ⊥
+
   -- why the run has no outcome
   abbrev pub IsFaultOfRun : RunFault → Type 0
   IsFaultOfRun run.Range = Unit {0}
@@ -59,4 +64,4 @@ module _ (k : Rules) (answers : ℕ → ℕ → Bool → Type 0) (sample : Sampl
   IsFaultOfRun run.Thread = Unit {0}
   IsFaultOfRun run.Tired = HasStopped Tired ⊎ IsOverspent
   IsFaultOfRun run.Late = HasStopped Late
-  IsFaultOfRun run.Busy = HasRun
+  IsFaultOfRun run.Busy = IsUnclosed

@@ -187,7 +187,8 @@ fn close_by<K: Kind, T: Guarded, R: Wait>(
     requires of { All (IsOf hall) passes.items }
     requires some { 0 < length passes.items }
     ensures closed { IfOk result (λ v. IsClosed K.rules T.meaning hall.setting v.items) }
-    ensures fault { IfErr result (λ e. (e ≡ crew.Busy) ⊎ ((e ≡ crew.Tired) × IsFirstSpent passes.items)) }
+    ensures fault { IfErr result (λ e. ((e ≡ crew.Busy) × (IsFirstSpent passes.items → ⊥))
+        ⊎ ((e ≡ crew.Tired) × IsFirstSpent passes.items)) }
 {
     let Some(first) = passes.into_iter().next() else {
         unreachable!();

@@ -1,10 +1,10 @@
-use Rattle.std.proofs.Common.{rules, ◌≡◌, ap, sym, ◌∙◌}
+use Rattle.std.proofs.Common.{rules, ◌≡◌, inl, refl, ap, sym, ◌∙◌}
 use Rattle.std.specs.Prelude.{vec_items}
 use Rattle.std.specs.Vec.Iter.{into_iter_items}
 use Rattle.monk_hall.specs.Tokens.{House, Holder}
 use Rattle.monk_hall.specs.declared.record.SeatRecord.{SeatRecord}
 use Rattle.monk_samples.specs.Crews.{IsOf}
-use Rattle.monk_samples.proofs.RunLaws.{closed_by, first_of}
+use Rattle.monk_samples.proofs.RunLaws.{closed_by, first_of, unspent}
 use Rattle.monk_samples.proofs.running.close_by.Goals as goal
 
 pub close-requires-after_bounds : goal.close-requires-after_bounds
@@ -31,3 +31,12 @@ returns-in-Ok-clause-closed g c =
     c.in-Ok.closed.history.items (g.T.Guarded.state c.in-Ok.closed.object)
     (ap (λ (r : SeatRecord). r.setting) c.arrive.ensures.me ∙ of.1) c.resume-active.ensures.floor
     c.in-Ok.ensures.ended
+
+pub returns-in-Err-clause-fault : goal.returns-in-Err-clause-fault
+returns-in-Err-clause-fault g c =
+    let e : into_iter_items c.into_iter.result ≡ vec_items c.args.passes = search rules in
+    inl (
+      refl,
+      unspent c.args.passes.items (into_iter_items c.next.new.self) c.in-Some.first c.left.result
+          (sym e ∙ c.in-Some.ensures.items) c.left.ensures.left c.if-left-lt2.false,
+    )
