@@ -4,6 +4,8 @@ mod VisitLaws
 mod RoundLaws
 mod FaultLaws
 mod EndLaws
+mod DoneLaws
+mod ShareLaws
 mod SeatLaws
 mod Crossing
 mod RunLaws

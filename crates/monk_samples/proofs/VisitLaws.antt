@@ -189,7 +189,7 @@ module _ (k : Rules) (o : Object) where
   call_acts : (c : Setting) (e : Event) (d : Addition) → IsCall k o c e d → act_of d.event ≡ act_of e
   call_acts c e d is = sym (next_acts d.event) ∙ ap act_of is.asks
 
-  calls_acts : (c : Setting) (es : List Event) (ds : List Addition) → AreCalls k o c es ds → acts_in (events_in ds) ≡ acts_in es
+  pub calls_acts : (c : Setting) (es : List Event) (ds : List Addition) → AreCalls k o c es ds → acts_in (events_in ds) ≡ acts_in es
   calls_acts c [] [] are = refl
   calls_acts c [] (d ∷ ds) are = absurd are
   calls_acts c (e ∷ es) [] are = absurd are
@@ -205,7 +205,7 @@ module _ (k : Rules) (o : Object) where
       (λ i. (call_acts c (pause_call k s cond pred) d h.0 ∙ pause_act (has_conditions k.mode) s cond pred) i
       ++ pauses_acts c s cond pred ds h.2 i)
 
-  paused_acts : (c : Setting) (s : ℕ) (w : Option Wanted) (ds : List Addition) → HasPausedFor k o c s w ds → acts_in (events_in ds) ≡ []
+  pub paused_acts : (c : Setting) (s : ℕ) (w : Option Wanted) (ds : List Addition) → HasPausedFor k o c s w ds → acts_in (events_in ds) ≡ []
   paused_acts c s None ds h = ap (λ xs. acts_in (events_in xs)) h
   paused_acts c s (Some w) ds h = pauses_acts c s w.cond w.pred ds h
 
@@ -215,11 +215,11 @@ module _ (k : Rules) (o : Object) where
   out_acts false true s c = refl
   out_acts false false s c = refl
 
-  calls_out_acts : (s : ℕ) (signal : Option ℕ) → acts_in (calls_out k s signal) ≡ []
+  pub calls_out_acts : (s : ℕ) (signal : Option ℕ) → acts_in (calls_out k s signal) ≡ []
   calls_out_acts s None = refl
   calls_out_acts s (Some cond) = out_acts (has_signaller_queue k.mode) (returns_at_once k.mode) s cond
 
-  acts_append : (xs ys : List Addition) → acts_in (events_in (xs ++ ys)) ≡ acts_in (events_in xs) ++ acts_in (events_in ys)
+  pub acts_append : (xs ys : List Addition) → acts_in (events_in (xs ++ ys)) ≡ acts_in (events_in xs) ++ acts_in (events_in ys)
   acts_append xs ys = ap acts_in (map-append (λ (d : Addition). d.event) xs ys) ∙ flat_map-append act_of (events_in xs) (events_in ys)
 
   -- of pauses, an operation, and a way out, the operation alone is one
