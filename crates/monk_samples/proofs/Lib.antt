@@ -6,6 +6,7 @@ mod FaultLaws
 mod EndLaws
 mod DoneLaws
 mod ShareLaws
+mod SeatSums
 mod SeatLaws
 mod Crossing
 mod RunLaws

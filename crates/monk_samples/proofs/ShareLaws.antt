@@ -11,7 +11,8 @@ use Rattle.monk_object.specs.declared.op.Op.{Op}
 use Rattle.monk_history.specs.Meaning.Acts.{acts_in}
 use Rattle.monk_hall.specs.Tokens.{Token}
 use Rattle.monk_hall.specs.declared.setting.Setting.{Setting}
-use Rattle.monk_samples.specs.Members.{puts, takes}
+use Rattle.monk_samples.specs.Members.{puts, takes, begins_to_read, ends_to_read, begins_to_write, ends_to_write}
+use Rattle.monk_samples.specs.Members.{sits, departs, calls, finishes}
 use Rattle.monk_samples.specs.Rounds.{HasServed, round_of, rounds_of, rounds_to}
 use Rattle.monk_samples.specs.Visits.{Plan}
 use Rattle.monk_samples.specs.declared.end.End.TheVariants.{Done}
@@ -47,14 +48,88 @@ module _ (code : ℕ) (f : Op → ℕ) where
   either_sure true mine others s t = s
   either_sure false mine others s t = t
 
--- of a buffer: the puts of a seat, the sum of their items, and the takes
+-- rounds of the one kind or of the other, of a seat that has served to its end
+module _ (k : Rules) (o : Object) (answers : ℕ → ℕ → Bool → Type 0) (sample : Sample) (seats rounds : ℕ) (p q : Token)
+    (s : HasServed k o answers sample seats rounds p q Done) (none : p.me.mine ≡ []) where
+  share_of : (code : ℕ) (f : Op → ℕ) (b : Bool) (mine others : ℕ → List Plan) (x y : ℕ)
+      → ((r : ℕ) → round_of sample k p.me.setting seats p.me.seat r ≡ cond b (mine r) (others r))
+      → ((r : ℕ) → AreSure code (mine r)) → ((r : ℕ) → AreSure code (others r))
+      → ((r : ℕ) → sum_by (planned code f) (mine r) ≡ x) → ((r : ℕ) → sum_by (planned code f) (others r) ≡ y)
+      → sum_by (worth code f) (acts_in q.me.mine) ≡ rounds_of sample seats rounds p.me.seat * cond b x y
+  share_of code f b mine others x y are sure more here there =
+      served_worth k o answers sample seats rounds p q code f s none
+      (λ r. subst (AreSure code) (sym (are r)) (either_sure code f b (mine r) (others r) (sure r) (more r)))
+      ∙ rounds_worth code f (round_of sample k p.me.setting seats p.me.seat) (cond b x y) (rounds_of sample seats rounds p.me.seat)
+      (λ r. ap (sum_by (planned code f)) (are r) ∙ either_round code f b (mine r) (others r) x y (here r) (there r))
+
+-- of a buffer
 module _ (k : Rules) (o : Object) (answers : ℕ → ℕ → Bool → Type 0) (seats rounds : ℕ) (p q : Token)
     (s : HasServed k o answers Buffer seats rounds p q Done) (none : p.me.mine ≡ []) where
-  pub puts_of_seat : sum_by (worth PUT once) (acts_in q.me.mine)
-      ≡ rounds_of Buffer seats rounds p.me.seat * cond (nat_lt p.me.seat (seats / 2)) 1 0
-  puts_of_seat =
-      served_worth k o answers Buffer seats rounds p q PUT once s none
-      (λ r. either_sure PUT once (nat_lt p.me.seat (seats / 2)) (puts r ∷ []) (takes ∷ []) (tt, tt) (tt, tt))
-      ∙ rounds_worth PUT once (round_of Buffer k p.me.setting seats p.me.seat) (cond (nat_lt p.me.seat (seats / 2)) 1 0)
-      (rounds_of Buffer seats rounds p.me.seat)
-      (λ r. either_round PUT once (nat_lt p.me.seat (seats / 2)) (puts r ∷ []) (takes ∷ []) 1 0 refl refl)
+  abbrev first : Bool
+  first = nat_lt p.me.seat (seats / 2)
+
+  pub puts_of : sum_by (worth PUT once) (acts_in q.me.mine) ≡ rounds_of Buffer seats rounds p.me.seat * cond first 1 0
+  puts_of =
+      share_of k o answers Buffer seats rounds p q s none PUT once first (λ r. puts r ∷ []) (λ r. takes ∷ []) 1 0
+      (λ r. refl) (λ r. (tt, tt)) (λ r. (tt, tt)) (λ r. refl) (λ r. refl)
+
+  pub takes_of : sum_by (worth TAKE once) (acts_in q.me.mine) ≡ rounds_of Buffer seats rounds p.me.seat * cond first 0 1
+  takes_of =
+      share_of k o answers Buffer seats rounds p q s none TAKE once first (λ r. puts r ∷ []) (λ r. takes ∷ []) 0 1
+      (λ r. refl) (λ r. (tt, tt)) (λ r. (tt, tt)) (λ r. refl) (λ r. refl)
+
+  items_in : (b : Bool) (n : ℕ)
+      → sum_by (planned PUT item) (rounds_to (λ r. cond b (puts r ∷ []) (takes ∷ [])) n) ≡ cond b (sum_to n) 0
+  items_in true n = numbers_worth PUT item (λ r. puts r ∷ []) n (λ r. omega arith)
+  items_in false n = rounds_worth PUT item (λ r. takes ∷ []) 0 n (λ r. refl) ∙ omega arith
+
+  pub items_of : sum_by (worth PUT item) (acts_in q.me.mine) ≡ cond first (sum_to (rounds_of Buffer seats rounds p.me.seat)) 0
+  items_of =
+      served_worth k o answers Buffer seats rounds p q PUT item s none
+      (λ r. either_sure PUT item first (puts r ∷ []) (takes ∷ []) (tt, tt) (tt, tt))
+      ∙ items_in first (rounds_of Buffer seats rounds p.me.seat)
+
+-- of a book
+module _ (k : Rules) (o : Object) (answers : ℕ → ℕ → Bool → Type 0) (seats rounds : ℕ) (p q : Token)
+    (s : HasServed k o answers Book seats rounds p q Done) (none : p.me.mine ≡ []) where
+  abbrev reads : ℕ → List Plan
+  reads r = begins_to_read ∷ ends_to_read k p.me.setting ∷ []
+
+  abbrev writes : ℕ → List Plan
+  writes r = begins_to_write ∷ ends_to_write k ∷ []
+
+  pub reads_of : sum_by (worth START_READ once) (acts_in q.me.mine)
+      ≡ rounds_of Book seats rounds p.me.seat * cond (nat_lt p.me.seat (seats / 2)) 1 0
+  reads_of =
+      share_of k o answers Book seats rounds p q s none START_READ once (nat_lt p.me.seat (seats / 2)) reads writes 1 0
+      (λ r. refl) (λ r. (tt, (refl, tt))) (λ r. (tt, (refl, tt))) (λ r. refl) (λ r. refl)
+
+  pub writes_of : sum_by (worth START_WRITE once) (acts_in q.me.mine)
+      ≡ rounds_of Book seats rounds p.me.seat * cond (nat_lt p.me.seat (seats / 2)) 0 1
+  writes_of =
+      share_of k o answers Book seats rounds p q s none START_WRITE once (nat_lt p.me.seat (seats / 2)) reads writes 0 1
+      (λ r. refl) (λ r. (tt, (refl, tt))) (λ r. (tt, (refl, tt))) (λ r. refl) (λ r. refl)
+
+-- of a shop
+module _ (k : Rules) (o : Object) (answers : ℕ → ℕ → Bool → Type 0) (seats rounds : ℕ) (p q : Token)
+    (s : HasServed k o answers Shop seats rounds p q Done) (none : p.me.mine ≡ []) where
+  abbrev turns : ℕ → List Plan
+  turns r = calls ∷ finishes ∷ []
+
+  abbrev visits : ℕ → List Plan
+  visits r = sits ∷ departs ∷ []
+
+  pub calls_of : sum_by (worth CALL once) (acts_in q.me.mine) ≡ rounds_of Shop seats rounds p.me.seat * cond (nat_eq p.me.seat 0) 1 0
+  calls_of =
+      share_of k o answers Shop seats rounds p q s none CALL once (nat_eq p.me.seat 0) turns visits 1 0
+      (λ r. refl) (λ r. (tt, (refl, tt))) (λ r. (tt, (tt, tt))) (λ r. refl) (λ r. refl)
+
+  pub sits_of : sum_by (worth SIT once) (acts_in q.me.mine) ≡ rounds_of Shop seats rounds p.me.seat * cond (nat_eq p.me.seat 0) 0 1
+  sits_of =
+      share_of k o answers Shop seats rounds p q s none SIT once (nat_eq p.me.seat 0) turns visits 0 1
+      (λ r. refl) (λ r. (tt, (refl, tt))) (λ r. (tt, (tt, tt))) (λ r. refl) (λ r. refl)
+
+  pub departs_of : sum_by (worth DEPART once) (acts_in q.me.mine) ≡ rounds_of Shop seats rounds p.me.seat * cond (nat_eq p.me.seat 0) 0 1
+  departs_of =
+      share_of k o answers Shop seats rounds p q s none DEPART once (nat_eq p.me.seat 0) turns visits 0 1
+      (λ r. refl) (λ r. (tt, (refl, tt))) (λ r. (tt, (tt, tt))) (λ r. refl) (λ r. refl)
