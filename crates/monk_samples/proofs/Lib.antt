@@ -7,6 +7,7 @@ mod EndLaws
 mod DoneLaws
 mod ShareLaws
 mod SeatSums
+mod WholeLaws
 mod SeatLaws
 mod Crossing
 mod RunLaws

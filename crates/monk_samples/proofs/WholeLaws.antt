@@ -1,0 +1,60 @@
+-- The totals of a whole history, by what each seat of a run has done
+use Rattle.std.proofs.Common.{◌≡◌, ℕ, zero, suc, ◌+◌, Bool, List, [], ◌∷◌, ◌++◌, refl, sym, ap, ◌∙◌, arith}
+use Rattle.std.specs.List.{sum_by}
+use Rattle.std.specs.Prelude.{All, map}
+use Rattle.std.proofs.lemmas.List.Elements.{All-head, All-tail}
+use Rattle.std.proofs.lemmas.List.Sums.{sum_by-append, sum_by-cons}
+use Rattle.atomic_table.specs.Seated.{TableId}
+use Rattle.monk_kinds.specs.declared.mode.Rules.{Rules}
+use Rattle.monk_object.specs.Object.{Object}
+use Rattle.monk_object.specs.Runs.{Answered}
+use Rattle.monk_history.specs.Meaning.Acts.{act_of, acts_in}
+use Rattle.monk_history.specs.Meaning.Counts.{events_of}
+use Rattle.monk_history.specs.declared.event.Event.{Event}
+use Rattle.monk_hall.specs.Records.{opening_records}
+use Rattle.monk_hall.specs.Tokens.{House, Token, tokens}
+use Rattle.monk_hall.specs.declared.setting.Setting.{Setting}
+use Rattle.monk_samples.specs.Ends.{HaveServed}
+use Rattle.monk_samples.specs.Rounds.{HasServed}
+use Rattle.monk_samples.specs.declared.end.End.TheVariants.{Done}
+use Rattle.monk_samples.specs.declared.sample.Sample.{Sample}
+use Rattle.monk_samples.proofs.SeatSums.{over}
+
+-- what an event is worth by the operation in it
+module _ (worth : Answered → ℕ) where
+  abbrev pub of_event : Event → ℕ
+  of_event e = sum_by worth (act_of e)
+
+  pub acts_worth : (h : List Event) → sum_by worth (acts_in h) ≡ sum_by of_event h
+  acts_worth [] = refl
+  acts_worth (e ∷ h) =
+      sum_by-append worth (act_of e) (acts_in h) ∙ ap (λ n. of_event e + n) (acts_worth h) ∙ sym (sum_by-cons of_event e h)
+
+-- over the passes that came back, what each seat's own events are worth
+module _ (k : Rules) (o : Object) (answers : ℕ → ℕ → Bool → Type 0) (sample : Sample) (seats rounds : ℕ) (h : House) (c : Setting)
+    (z : TableId) (worth : Answered → ℕ) (share : ℕ → ℕ)
+    (each : (p q : Token) → HasServed k o answers sample seats rounds p q Done → p.me.mine ≡ []
+    → sum_by worth (acts_in q.me.mine) ≡ share p.me.seat) where
+  pub shares : (n i : ℕ) (qs : List Token)
+      → HaveServed k o answers sample seats rounds h (tokens z (opening_records c n i)) qs
+      → sum_by (λ q. sum_by worth (acts_in q.me.mine)) qs ≡ over share n i
+  shares zero i [] s = refl
+  shares zero i (q ∷ qs) s = absurd s
+  shares (suc n) i [] s = absurd s
+  shares (suc n) i (q ∷ qs) s =
+      sum_by-cons (λ q. sum_by worth (acts_in q.me.mine)) q qs
+      ∙ (λ j. each _ q s.0.1 refl j + shares n (suc i) qs s.1 j)
+
+-- a history has the operations of these seats, as they know them
+abbrev Knows : List Event → Token → Type 0
+Knows h q = acts_in (events_of h q.me.seat) ≡ acts_in q.me.mine
+
+module _ (worth : Answered → ℕ) (h : List Event) where
+  pub by_seats : (qs : List Token) → All (Knows h) qs
+      → sum_by (λ s. sum_by (of_event worth) (events_of h s)) (map (λ q. q.me.seat) qs) ≡ sum_by (λ q. sum_by worth (acts_in q.me.mine)) qs
+  by_seats [] knows = refl
+  by_seats (q ∷ qs) knows =
+      sum_by-cons (λ s. sum_by (of_event worth) (events_of h s)) q.me.seat (map (λ q. q.me.seat) qs)
+      ∙ (λ i. (sym (acts_worth worth (events_of h q.me.seat)) ∙ ap (sum_by worth) (All-head (Knows h) q qs knows)) i
+      + by_seats qs (All-tail (Knows h) q qs knows) i)
+      ∙ sym (sum_by-cons (λ q. sum_by worth (acts_in q.me.mine)) q qs)
