@@ -46,7 +46,7 @@ module _ (k : Rules) (o : Object) (answers : ℕ → ℕ → Bool → Type 0) (s
       ∙ (λ j. each _ q s.0.1 refl j + shares n (suc i) qs s.1 j)
 
 -- a history has the operations of these seats, as they know them
-abbrev Knows : List Event → Token → Type 0
+abbrev pub Knows : List Event → Token → Type 0
 Knows h q = acts_in (events_of h q.me.seat) ≡ acts_in q.me.mine
 
 module _ (worth : Answered → ℕ) (h : List Event) where

@@ -1,0 +1,114 @@
+-- The totals of a run are those of its seats and rounds
+use Rattle.std.proofs.Common.{◌≡◌, ℕ, zero, suc, ◌+◌, ◌-◌, ◌*◌, ◌/◌, ◌≤◌, Bool, true, false, cond, nat_lt, nat_eq, List, [], ◌∷◌, ◌++◌, length}
+use Rattle.std.proofs.Common.{refl, sym, ap, subst, ◌∙◌, arith, append-nil}
+use Rattle.std.specs.List.{sum_by, sum, count_by}
+use Rattle.std.specs.Prelude.{All, map, filter}
+use Rattle.std.proofs.lemmas.List.Sums.{sum_by-cons}
+use Rattle.atomic_table.specs.Seated.{TableId}
+use Rattle.monk_kinds.specs.declared.mode.Rules.{Rules}
+use Rattle.monk_object.specs.Book.{book_meaning, START_READ, START_WRITE}
+use Rattle.monk_object.specs.Buffer.{buffer_meaning, PUT, TAKE}
+use Rattle.monk_object.specs.Laws.{items_put, items_taken}
+use Rattle.monk_object.specs.Object.{Object}
+use Rattle.monk_object.specs.Runs.{Answered, is_done, times_done}
+use Rattle.monk_object.specs.Shop.{shop_meaning, SIT, CALL, FINISH, DEPART}
+use Rattle.monk_object.specs.declared.op.Op.{Op}
+use Rattle.monk_history.specs.Meaning.Acts.{IsInOrder, ServesEachOne, acts_in}
+use Rattle.monk_history.specs.Meaning.Counts.{events_of}
+use Rattle.monk_history.specs.declared.event.Event.{Event}
+use Rattle.monk_hall.specs.Records.{opening_records}
+use Rattle.monk_hall.specs.Tokens.{House, Token, tokens}
+use Rattle.monk_hall.specs.declared.setting.Setting.{Setting}
+use Rattle.monk_samples.specs.Ends.{HaveServed}
+use Rattle.monk_samples.specs.Rounds.{HasServed, rounds_of}
+use Rattle.monk_samples.specs.declared.end.End.TheVariants.{Done}
+use Rattle.monk_samples.specs.declared.sample.Sample.{Sample}
+use Rattle.monk_samples.specs.declared.sample.Sample.TheVariants.{Buffer, Book, Shop}
+use Rattle.monk_samples.proofs.DoneLaws.{worth, sum_to}
+use Rattle.monk_samples.proofs.SeatSums.{over, first_half, second_half, first_items, calls_all, visits_all, sum_is}
+use Rattle.monk_samples.proofs.ShareLaws.{once, item, puts_of, takes_of, items_of, reads_of, writes_of, calls_of, sits_of, departs_of}
+use Rattle.monk_samples.proofs.WholeLaws.{Knows, acts_worth, by_seats, shares}
+
+-- the items put weigh what the puts that got done weigh by their items
+put_sum : (acts : List Answered) → sum (items_put acts) ≡ sum_by (worth PUT item) acts
+put_sum [] = refl
+put_sum (a ∷ acts) = by (put_sum acts) (is_done PUT a) ∙ sym (sum_by-cons (worth PUT item) a acts)
+  where
+    by : sum (items_put acts) ≡ sum_by (worth PUT item) acts → (b : Bool)
+        → sum (map (λ act. act.op.arg) (cond b (a ∷ filter (is_done PUT) acts) (filter (is_done PUT) acts)))
+        ≡ cond b (item a.op) 0 + sum_by (worth PUT item) acts
+    by same true = sum_by-cons (λ x. x) a.op.arg (items_put acts) ∙ ap (λ n. a.op.arg + n) same
+    by same false = same ∙ omega arith
+
+-- as many as got done
+counted : {X Y : Type 0} (p : X → Bool) (f : X → Y) (xs : List X) → length (map f (filter p xs)) ≡ count_by p xs
+counted p f [] = refl
+counted p f (x ∷ xs) = by (counted p f xs) (p x) ∙ sym (sum_by-cons (λ y. cond (p y) 1 0) x xs)
+  where
+    by : length (map f (filter p xs)) ≡ count_by p xs → (b : Bool) → length (map f (cond b (x ∷ filter p xs) (filter p xs))) ≡ cond b 1 0 + count_by p xs
+    by same true = ap suc same ∙ omega arith
+    by same false = same ∙ omega arith
+
+none_over : {X : Type 0} (xs ys zs : List X) → xs ≡ ys ++ zs → length xs ≡ length ys → xs ≡ ys
+none_over xs ys [] e same = e ∙ append-nil ys
+none_over xs ys (z ∷ zs) e same = absurd (longer ys (sym same ∙ ap length e))
+  where
+    longer : (ws : List _) → length ws ≡ length (ws ++ z ∷ zs) → ⊥
+    longer [] h = omega (arith, h)
+    longer (w ∷ ws) h = longer ws (omega (arith, h))
+
+-- as many puts as takes: what was taken is what was put
+pub taken_all : (size : ℕ) (state : List ℕ) (acts : List Answered) → IsInOrder size state acts
+    → times_done PUT acts ≡ times_done TAKE acts → sum (items_taken acts) ≡ sum (items_put acts)
+taken_all size state acts law same =
+    sym (ap sum (none_over (items_put acts) (items_taken acts) law.items law.in_order
+    (counted (is_done PUT) (λ act. act.op.arg) acts ∙ same ∙ sym (counted (is_done TAKE) (λ act. act.reply - 1) acts))))
+
+module _ (k : Rules) (answers : ℕ → ℕ → Bool → Type 0) (seats rounds : ℕ) (z : TableId) (c : Setting) (house : House)
+    (h : List Event) (qs : List Token) (knows : All (Knows h) qs)
+    (split : (w : Event → ℕ) → sum_by w h ≡ sum_by (λ s. sum_by w (events_of h s)) (map (λ q. q.me.seat) qs)) where
+  total_is : (o : Object) (sample : Sample) (weight : Answered → ℕ) (share : ℕ → ℕ)
+      → HaveServed k o answers sample seats rounds house (tokens z (opening_records c seats 0)) qs
+      → ((p q : Token) → HasServed k o answers sample seats rounds p q Done → p.me.mine ≡ []
+      → sum_by weight (acts_in q.me.mine) ≡ share p.me.seat)
+      → sum_by weight (acts_in h) ≡ over share seats 0
+  total_is o sample weight share served each =
+      acts_worth weight h ∙ split _ ∙ by_seats weight h qs knows
+      ∙ shares k o answers sample seats rounds house c z weight share each seats 0 qs served
+
+  module _ (served : HaveServed k buffer_meaning answers Buffer seats rounds house (tokens z (opening_records c seats 0)) qs) where
+    pub puts_are : times_done PUT (acts_in h) ≡ seats / 2 * rounds
+    puts_are = total_is buffer_meaning Buffer (worth PUT once) _ served (puts_of k buffer_meaning answers seats rounds)
+        ∙ first_half seats rounds
+
+    pub takes_are : times_done TAKE (acts_in h) ≡ seats / 2 * rounds
+    takes_are = total_is buffer_meaning Buffer (worth TAKE once) _ served (takes_of k buffer_meaning answers seats rounds)
+        ∙ second_half seats rounds
+
+    pub items_are : sum (items_put (acts_in h)) ≡ seats / 2 * sum_to rounds
+    items_are = put_sum (acts_in h)
+        ∙ total_is buffer_meaning Buffer (worth PUT item) _ served (items_of k buffer_meaning answers seats rounds)
+        ∙ first_items seats rounds
+
+  module _ (served : HaveServed k book_meaning answers Book seats rounds house (tokens z (opening_records c seats 0)) qs) where
+    pub reads_are : times_done START_READ (acts_in h) ≡ seats / 2 * rounds
+    reads_are = total_is book_meaning Book (worth START_READ once) _ served (reads_of k book_meaning answers seats rounds)
+        ∙ first_half seats rounds
+
+    pub writes_are : times_done START_WRITE (acts_in h) ≡ seats / 2 * rounds
+    writes_are = total_is book_meaning Book (worth START_WRITE once) _ served (writes_of k book_meaning answers seats rounds)
+        ∙ second_half seats rounds
+
+  module _ (some : 1 ≤ seats)
+      (served : HaveServed k shop_meaning answers Shop seats rounds house (tokens z (opening_records c seats 0)) qs) where
+    pub calls_are : times_done CALL (acts_in h) ≡ (seats - 1) * rounds
+    calls_are = total_is shop_meaning Shop (worth CALL once) _ served (calls_of k shop_meaning answers seats rounds)
+        ∙ calls_all seats rounds some
+
+    pub sits_are : times_done SIT (acts_in h) ≡ (seats - 1) * rounds
+    sits_are = total_is shop_meaning Shop (worth SIT once) _ served (sits_of k shop_meaning answers seats rounds)
+        ∙ visits_all seats rounds some
+
+    pub departs_are : times_done DEPART (acts_in h) ≡ (seats - 1) * rounds
+    departs_are = total_is shop_meaning Shop (worth DEPART once) _ served (departs_of k shop_meaning answers seats rounds)
+        ∙ visits_all seats rounds some
