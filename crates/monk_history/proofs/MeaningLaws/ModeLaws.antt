@@ -11,7 +11,7 @@ use Rattle.monk_history.specs.Meaning.Events.{is_stay, is_waiter, is_signaller, 
 use Rattle.monk_history.specs.Meaning.Monitor.{Monitor}
 use Rattle.monk_history.specs.Meaning.Situation.{Situation, situation}
 use Rattle.monk_history.specs.Meaning.Step.{after}
-use Rattle.monk_history.specs.Meaning.Signallers.{is_empty, signallers}
+use Rattle.monk_history.specs.Meaning.Signallers.{is_empty}
 use Rattle.monk_history.specs.Meaning.Choice.{queues_at, may_signal}
 use Rattle.monk_history.specs.Meaning.Reasons.{IsAllowedIn}
 use Rattle.monk_history.specs.Meaning.Legal.{IsLegal}
