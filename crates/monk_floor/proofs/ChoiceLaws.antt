@@ -19,7 +19,7 @@ use Rattle.monk_history.specs.Meaning.Wish.{inner_waiters, front, waiter_choice,
 use Rattle.monk_history.specs.Meaning.Release.{MayCall, with_next, choice_of}
 use Rattle.monk_history.specs.Meaning.Reasons.{is_right_reply, IsAllowed}
 use Rattle.monk_history.specs.declared.event.Event.{Event}
-use Rattle.monk_history.specs.declared.event.Event.TheVariants.{Enter, Act, Leave, Wait, Signal, SignalLeave, Until, Resume}
+use Rattle.monk_history.specs.declared.event.Event.TheVariants.{Act}
 use Rattle.monk_history.specs.declared.event.Next.{Next}
 use Rattle.monk_history.specs.declared.event.Next.TheVariants.{Stay, Entry, Waiter, Signaller, Until as UntilSeat}
 use Rattle.monk_history.specs.declared.event.Turn.{Turn}

@@ -1,6 +1,6 @@
 -- One event more in the totals
 use Rattle.std.proofs.Common.{◌≡◌, ℕ, ◌+◌, ◌-◌, ◌≤◌, ◌<◌, cond, List, [], ◌∷◌, ◌++◌, length, map, take, drop, subst}
-use Rattle.std.proofs.Common.{append-nil, slice_index_or, refl, ap, ◌∙◌, arith}
+use Rattle.std.proofs.Common.{append-nil, slice_index_or, ap, ◌∙◌, arith}
 use Rattle.std.specs.Prelude.{filter, sum}
 use Rattle.std.proofs.lemmas.Grind.{flat_map-append}
 use Rattle.std.proofs.lemmas.List.{map-append, take_more, take-append-drop}

@@ -9,7 +9,7 @@ use Rattle.monk_history.specs.Meaning.Events.{seat_of, next_of, is_stay, is_way_
 use Rattle.monk_history.specs.Meaning.Monitor.{Monitor}
 use Rattle.monk_history.specs.Meaning.Situation.{Situation, situation}
 use Rattle.monk_history.specs.Meaning.Waiters.{serves}
-use Rattle.monk_history.specs.Meaning.Signallers.{is_empty, signals}
+use Rattle.monk_history.specs.Meaning.Signallers.{signals}
 use Rattle.monk_history.specs.Meaning.Choice.{Queues, queues_at, may_choose, may_signal, must_stay}
 use Rattle.monk_history.specs.Meaning.Turn.{turn_by, is_enter_of, is_exit_of, is_inside}
 use Rattle.monk_history.specs.Meaning.Reasons.{is_in_turn, is_owned_by, is_open, is_due, fits_object, IsAllowedIn, IsAllowed}
