@@ -93,12 +93,21 @@ serves_none mode q (SignalLeave s c x) h o = absurd (no_return mode h o)
 serves_none mode q (Until s p x) h o = refl
 serves_none mode q (Resume s r) h o = refl
 
-signals_none : (mode : Mode) (q : ℕ → List ℕ) (e : Event) → has_conditions mode ≡ false → is_call_of mode e ≡ true → signals q e ≡ []
+no_signallers : (mode : Mode) → has_conditions mode ≡ false → has_signaller_queue mode ≡ false
+no_signallers Blocking h = absurd (false≢true (sym h))
+no_signallers NonBlocking h = absurd (false≢true (sym h))
+no_signallers QuasiBlocking h = absurd (false≢true (sym h))
+no_signallers ImmediateReturn h = refl
+no_signallers Automatic h = refl
+
+-- where there is no signaller queue nobody joins it
+pub signals_none : (mode : Mode) (q : ℕ → List ℕ) (e : Event) → has_signaller_queue mode ≡ false → is_call_of mode e ≡ true
+    → signals q e ≡ []
 signals_none mode q (Enter s via) h o = refl
 signals_none mode q (Act s op r) h o = refl
 signals_none mode q (Leave s x) h o = refl
 signals_none mode q (Wait s c x) h o = refl
-signals_none mode q (Signal s c x) h o = absurd (no_signal mode h o)
+signals_none mode q (Signal s c x) h o = absurd (false≢true (sym h ∙ o))
 signals_none mode q (SignalLeave s c x) h o = refl
 signals_none mode q (Until s p x) h o = refl
 signals_none mode q (Resume s r) h o = refl
@@ -122,7 +131,7 @@ sorted_after k o t e s a = record {
   untils = λ h. ap (λ us. filter (λ w. not (chooses e w)) us ++ waits_until e) (s.untils h) ∙ waits_until_none k.mode e h a;
   waiters = λ h. drop_none (is_waiter (next_of e)) t.waiters (serves t.condition e) (s.waiters h) (serves_none k.mode t.condition e h a);
   signallers = λ h. drop_none (takes_signaller t.condition e) t.signallers (signals t.condition e) (s.signallers h)
-      (signals_none k.mode t.condition e h a);
+      (signals_none k.mode t.condition e (no_signallers k.mode h) a);
 }
 
 sorted_none : (m : Monitor) → IsSorted m.kind (situation m [])
@@ -137,7 +146,7 @@ pub sorted_queues : (k : Rules) (o : Object) (t : Situation) (e : Event) → IsS
 sorted_queues k o t e s a = record {
   ready = λ h. ap (ready_of o t.state) (s.untils h);
   waiters = λ h. ap (λ ws. ws ++ serves t.condition e) (s.waiters h) ∙ serves_none k.mode t.condition e h a;
-  signallers = λ h. ap (λ ws. ws ++ signals t.condition e) (s.signallers h) ∙ signals_none k.mode t.condition e h a;
+  signallers = λ h. ap (λ ws. ws ++ signals t.condition e) (s.signallers h) ∙ signals_none k.mode t.condition e (no_signallers k.mode h) a;
 }
 
 -- who is inside is a seat
