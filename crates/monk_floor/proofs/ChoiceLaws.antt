@@ -19,7 +19,7 @@ use Rattle.monk_history.specs.Meaning.Wish.{inner_waiters, front, waiter_choice,
 use Rattle.monk_history.specs.Meaning.Release.{MayCall, with_next, choice_of}
 use Rattle.monk_history.specs.Meaning.Reasons.{is_right_reply, IsAllowed}
 use Rattle.monk_history.specs.declared.event.Event.{Event}
-use Rattle.monk_history.specs.declared.event.Event.TheVariants.{Enter, Act, Leave, Wait, Signal, SignalLeave, Until, Resume}
+use Rattle.monk_history.specs.declared.event.Event.TheVariants.{Act}
 use Rattle.monk_history.specs.declared.event.Next.{Next}
 use Rattle.monk_history.specs.declared.event.Next.TheVariants.{Stay, Entry, Waiter, Signaller, Until as UntilSeat}
 use Rattle.monk_history.specs.declared.event.Turn.{Turn}
@@ -83,14 +83,7 @@ choice_first k ws ss rs s known wish =
     ∙ sym (parts_are k (record { waiters = ws; signallers = ss; ready = rs }) s known wish))
 
 pub stays_is : (o : Object) (t : Situation) (e : Event) → stays_by o t.condition t.state e ≡ must_stay o t e
-stays_is o t (Enter s via) = refl
-stays_is o t (Act s op r) = refl
-stays_is o t (Leave s x) = refl
-stays_is o t (Wait s c x) = refl
-stays_is o t (Signal s c x) = refl
-stays_is o t (SignalLeave s c x) = refl
-stays_is o t (Until s p x) = refl
-stays_is o t (Resume s q) = refl
+stays_is o t e = refl
 
 chosen_stay : (k : Rules) (o : Object) (t : Situation) (e : Event) (known : Bool) (wish : Pick) (b : Bool)
     → b ≡ stays_by o t.condition t.state e → b ≡ true → Stay ≡ choice_of k o t e known wish

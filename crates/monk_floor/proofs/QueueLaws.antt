@@ -1,8 +1,9 @@
 -- What an event makes of the queues
 use Rattle.std.proofs.Common.{◌≡◌, ℕ, cond, not, List, [], ◌∷◌, ◌++◌, length, drop, filter, ap, ◌∙◌}
-use Rattle.std.specs.Prelude.{Bool}
+use Rattle.std.specs.Prelude.{Bool, false}
+use Rattle.std.specs.Option.{option_map_or}
 use Rattle.monk_history.specs.Meaning.Events.{next_of, is_waiter}
-use Rattle.monk_history.specs.Meaning.Signallers.{signals, takes_signaller, takes_front}
+use Rattle.monk_history.specs.Meaning.Signallers.{is_empty, signals, takes_signaller, takes_front}
 use Rattle.monk_history.specs.Meaning.Untils.{chooses, waits_until}
 use Rattle.monk_history.specs.declared.event.Event.{Event}
 use Rattle.monk_history.proofs.PublicLaws.Meaning.{front_is_taken}
@@ -15,7 +16,7 @@ all_empty_push = at.all_empty_push (λ q. q)
 
 -- what takes the front of the signaller queue
 pub takes_is : (q : ℕ → List ℕ) (e : Event) → takes_front (finds_none q e) e ≡ takes_signaller q e
-takes_is q e = front_is_taken q e (finds_none q e) (λ s c x is. ap (finds_none q) is)
+takes_is q e = front_is_taken q e (finds_none q e) (λ c is. ap (λ o. option_map_or (λ d. is_empty (q d)) o false) is)
 
 -- what is served and then chosen is what an event makes of the queues
 pub moved : (old mid new : QueueLists) (e : Event) (none : Bool) → none ≡ finds_none (queue_at old.conditions) e → IsServed old e mid

@@ -1,15 +1,15 @@
 -- The queues of a floor as plain lists, and what one event makes of them
 use Rattle.std.specs.Prelude.{◌≡◌, ℕ, ◌<◌, ◌≤◌, ◌+◌, map, Bool, false, not, List, ◌++◌, length, drop, filter, if◌then◌else◌}
+use Rattle.std.specs.Option.{option_map_or}
 use Rattle.monk_history.specs.Limits.{most_seats}
 use Rattle.monk_history.specs.QueueAt.{seats_at}
 use Rattle.monk_history.specs.Meaning.Standing.{times, times_in_conditions}
-use Rattle.monk_history.specs.Meaning.Events.{seat_of, next_of, is_waiter}
+use Rattle.monk_history.specs.Meaning.Events.{seat_of, next_of, is_waiter, steps_back}
 use Rattle.monk_history.specs.Meaning.Conditions.{served_by, waiting_by}
 use Rattle.monk_history.specs.Meaning.Waiters.{serves}
 use Rattle.monk_history.specs.Meaning.Signallers.{is_empty, signals, takes_signaller}
 use Rattle.monk_history.specs.Meaning.Untils.{chooses, waits_until}
 use Rattle.monk_history.specs.declared.event.Event.{Event}
-use Rattle.monk_history.specs.declared.event.Event.TheVariants.{Enter, Act, Leave, Wait, Signal, SignalLeave, Until, Resume}
 
 pub record QueueLists : Type 0 where
   pub conditions : List (List ℕ)
@@ -49,14 +49,7 @@ pub record IsServed (old : QueueLists) (e : Event) (new : QueueLists) : Type 0 w
 
 -- whether it is a signal on an empty condition
 abbrev pub finds_none : (ℕ → List ℕ) → Event → Bool
-finds_none queue (Enter s via) = false
-finds_none queue (Act s op r) = false
-finds_none queue (Leave s x) = false
-finds_none queue (Wait s c x) = false
-finds_none queue (Signal s c x) = is_empty (queue c)
-finds_none queue (SignalLeave s c x) = false
-finds_none queue (Until s p x) = false
-finds_none queue (Resume s q) = false
+finds_none queue e = option_map_or (λ c. is_empty (queue c)) (steps_back e) false
 
 -- what an event makes of the queues
 pub record IsMoved (old : QueueLists) (e : Event) (new : QueueLists) : Type 0 where

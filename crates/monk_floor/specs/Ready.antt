@@ -1,12 +1,12 @@
 -- When what a floor keeps can take one event more
 use Rattle.std.specs.Prelude.{◌≡◌, ℕ, ◌<◌, ◌^◌, Bool, false, true, List, length, slice_index_or, nat_lt}
 use Rattle.std.specs.List.{list_all}
+use Rattle.std.specs.Option.{option_map_or}
 use Rattle.monk_object.specs.Object.{Object}
-use Rattle.monk_history.specs.Meaning.Events.{seat_of, next_of, named_seat, waits_on, signals_on}
+use Rattle.monk_history.specs.Meaning.Events.{seat_of, next_of, named_seat, waits_on, signals_on, awaited, steps_back}
 use Rattle.monk_history.specs.Meaning.Reasons.{is_condition}
 use Rattle.monk_history.specs.Meaning.Signallers.{is_empty}
 use Rattle.monk_history.specs.declared.event.Event.{Event}
-use Rattle.monk_history.specs.declared.event.Event.TheVariants.{Enter, Act, Leave, Wait, Signal, SignalLeave, Until, Resume}
 use Rattle.monk_floor.specs.Queues.{QueueLists, HasPlaces, IsOrderly}
 
 -- an event fits what a floor keeps
@@ -24,11 +24,5 @@ pub record HasRoomFor (q : QueueLists) (inside : List Bool) (spent granted : Lis
 
 -- whether an event must stay, by the queues of the conditions and the data
 abbrev pub stays_by : Object → (ℕ → List ℕ) → List ℕ → Event → Bool
-stays_by o queue d (Enter s via) = false
-stays_by o queue d (Act s op r) = false
-stays_by o queue d (Leave s x) = false
-stays_by o queue d (Wait s c x) = false
-stays_by o queue d (Signal s c x) = is_empty (queue c)
-stays_by o queue d (SignalLeave s c x) = false
-stays_by o queue d (Until s p x) = o.holds d p
-stays_by o queue d (Resume s q) = false
+stays_by o queue d e =
+    option_map_or (λ c. is_empty (queue c)) (steps_back e) (option_map_or (λ p. o.holds d p) (awaited e) false)

@@ -96,22 +96,14 @@ stay_keeps : (i : ℕ) (x : Next) → is_stay (Some x) ≡ true → turn_by i (S
 stay_keeps i x e = ap (λ y. turn_by i (Some y)) (stay_is x e)
 
 never_enters : (i : ℕ) (to : Home) (e : Event) (x : Next) → IsReleaseTo i to e → is_enter (with_next x e) ≡ false
-never_enters i home.Idle (Enter s via) x h = absurd h
-never_enters i home.Idle (Act s op r) x h = refl
-never_enters i home.Idle (Leave s y) x h = refl
-never_enters i home.Idle (Wait s c y) x h = refl
-never_enters i home.Idle (Signal s c y) x h = refl
-never_enters i home.Idle (SignalLeave s c y) x h = refl
-never_enters i home.Idle (Until s p y) x h = refl
-never_enters i home.Idle (Resume s q) x h = refl
-never_enters i home.Inner (Enter s via) x h = absurd h
-never_enters i home.Inner (Act s op r) x h = refl
-never_enters i home.Inner (Leave s y) x h = refl
-never_enters i home.Inner (Wait s c y) x h = refl
-never_enters i home.Inner (Signal s c y) x h = refl
-never_enters i home.Inner (SignalLeave s c y) x h = refl
-never_enters i home.Inner (Until s p y) x h = refl
-never_enters i home.Inner (Resume s q) x h = refl
+never_enters i to (Enter s via) x h = absurd h
+never_enters i to (Act s op r) x h = refl
+never_enters i to (Leave s y) x h = refl
+never_enters i to (Wait s c y) x h = refl
+never_enters i to (Signal s c y) x h = refl
+never_enters i to (SignalLeave s c y) x h = refl
+never_enters i to (Until s p y) x h = refl
+never_enters i to (Resume s q) x h = refl
 
 chosen_as_known : {k : Rules} {o : Object} {r : SeatRecord} {f : FloorView} {call : Event} {wish : Pick} {known : Bool}
     {choice : Next} {to : Home} {g : FloorView}

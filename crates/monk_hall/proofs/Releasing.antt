@@ -33,22 +33,19 @@ use Rattle.monk_hall.proofs.Frame.{step_kept, step_is}
 
 -- where the seat stands after its release
 pub back_is : (i : ℕ) (to : Home) (call : Event) (x : Next) → IsReleaseTo i to call → back_after (Some (with_next x call)) ≡ Back x to
-back_is i home.Idle (Enter s via) x r = absurd r
-back_is i home.Idle (Act s op n) x r = absurd r
+back_is i to (Enter s via) x r = absurd r
+back_is i to (Act s op n) x r = absurd r
 back_is i home.Idle (Leave s y) x r = refl
-back_is i home.Idle (Wait s c y) x r = absurd r
-back_is i home.Idle (Signal s c y) x r = absurd r
-back_is i home.Idle (SignalLeave s c y) x r = refl
-back_is i home.Idle (Until s p y) x r = absurd r
-back_is i home.Idle (Resume s q) x r = absurd r
-back_is i home.Inner (Enter s via) x r = absurd r
-back_is i home.Inner (Act s op n) x r = absurd r
 back_is i home.Inner (Leave s y) x r = absurd r
+back_is i home.Idle (Wait s c y) x r = absurd r
 back_is i home.Inner (Wait s c y) x r = refl
+back_is i home.Idle (Signal s c y) x r = absurd r
 back_is i home.Inner (Signal s c y) x r = refl
+back_is i home.Idle (SignalLeave s c y) x r = refl
 back_is i home.Inner (SignalLeave s c y) x r = absurd r
+back_is i home.Idle (Until s p y) x r = absurd r
 back_is i home.Inner (Until s p y) x r = refl
-back_is i home.Inner (Resume s q) x r = absurd r
+back_is i to (Resume s q) x r = absurd r
 
 -- whose it is, and whom it names
 pub record IsSaid (i : ℕ) (call : Event) (x : Next) : Type 0 where
@@ -56,22 +53,19 @@ pub record IsSaid (i : ℕ) (call : Event) (x : Next) : Type 0 where
   pub chose : next_of (with_next x call) ≡ Some x
 
 pub said : (i : ℕ) (to : Home) (call : Event) (x : Next) → IsReleaseTo i to call → IsSaid i call x
-said i home.Idle (Enter s via) x r = absurd r
-said i home.Idle (Act s op n) x r = absurd r
+said i to (Enter s via) x r = absurd r
+said i to (Act s op n) x r = absurd r
 said i home.Idle (Leave s y) x r = record { seat = r.0; chose = refl }
-said i home.Idle (Wait s c y) x r = absurd r
-said i home.Idle (Signal s c y) x r = absurd r
-said i home.Idle (SignalLeave s c y) x r = record { seat = r.0; chose = refl }
-said i home.Idle (Until s p y) x r = absurd r
-said i home.Idle (Resume s q) x r = absurd r
-said i home.Inner (Enter s via) x r = absurd r
-said i home.Inner (Act s op n) x r = absurd r
 said i home.Inner (Leave s y) x r = absurd r
+said i home.Idle (Wait s c y) x r = absurd r
 said i home.Inner (Wait s c y) x r = record { seat = r.0; chose = refl }
+said i home.Idle (Signal s c y) x r = absurd r
 said i home.Inner (Signal s c y) x r = record { seat = r.0; chose = refl }
+said i home.Idle (SignalLeave s c y) x r = record { seat = r.0; chose = refl }
 said i home.Inner (SignalLeave s c y) x r = absurd r
+said i home.Idle (Until s p y) x r = absurd r
 said i home.Inner (Until s p y) x r = record { seat = r.0; chose = refl }
-said i home.Inner (Resume s q) x r = absurd r
+said i to (Resume s q) x r = absurd r
 
 module _ (k : Rules) (o : Object) (s : State) (seats conds : ℕ) (i : ℕ) (q : Source) (kind : IsKind k)
     (kept : IsKept k o seats conds s) (near : i < s.floor.seats) (active : s.world.place i ≡ Active q) where

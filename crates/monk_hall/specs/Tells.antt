@@ -11,7 +11,7 @@ use Rattle.monk_history.specs.Meaning.Events.{is_stay}
 use Rattle.monk_history.specs.Meaning.Legal.{IsLegal}
 use Rattle.monk_history.specs.Meaning.Release.{MayCall, with_next, choice_of}
 use Rattle.monk_history.specs.declared.event.Event.{Event}
-use Rattle.monk_history.specs.declared.event.Event.TheVariants.{Leave, Wait, Signal, SignalLeave, Until}
+use Rattle.monk_history.specs.declared.event.Event.TheVariants.{Enter, Act, Leave, Wait, Signal, SignalLeave, Until, Resume}
 use Rattle.monk_history.specs.declared.event.Next.{Next}
 use Rattle.monk_history.specs.declared.event.Next.TheVariants as next
 use Rattle.monk_floor.specs.View.{FloorView, monitor_of, stands_of}
@@ -83,12 +83,19 @@ TellsCompare k o me found new = (new ≡ (view_after_compare me.0, me.1)) × Are
 -- a release of seat i as it is called, written with `stay`, and where the seat goes then: outside after a leave,
 -- inside after a wait
 abbrev pub IsReleaseTo : ℕ → Home → Event → Type 0
+IsReleaseTo i to (Enter s via) = ⊥
+IsReleaseTo i to (Act s op r) = ⊥
 IsReleaseTo i home.Idle (Leave s x) = (s ≡ i) × (x ≡ next.Stay)
-IsReleaseTo i home.Idle (SignalLeave s c x) = (s ≡ i) × (x ≡ next.Stay)
+IsReleaseTo i home.Inner (Leave s x) = ⊥
+IsReleaseTo i home.Idle (Wait s c x) = ⊥
 IsReleaseTo i home.Inner (Wait s c x) = (s ≡ i) × (x ≡ next.Stay)
+IsReleaseTo i home.Idle (Signal s c x) = ⊥
 IsReleaseTo i home.Inner (Signal s c x) = (s ≡ i) × (x ≡ next.Stay)
+IsReleaseTo i home.Idle (SignalLeave s c x) = (s ≡ i) × (x ≡ next.Stay)
+IsReleaseTo i home.Inner (SignalLeave s c x) = ⊥
+IsReleaseTo i home.Idle (Until s p x) = ⊥
 IsReleaseTo i home.Inner (Until s p x) = (s ≡ i) × (x ≡ next.Stay)
-IsReleaseTo i to e = ⊥
+IsReleaseTo i to (Resume s q) = ⊥
 
 -- the floor that a seat brings home: the one that it had, with one release more, which chose another by the wish rules
 pub record Returns (k : Rules) (o : Object) (r : SeatRecord) (f : FloorView) : Type 0 where

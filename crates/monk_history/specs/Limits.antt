@@ -7,6 +7,10 @@ most_seats = 32
 abbrev pub most_conds : ℕ
 most_conds = 8
 
+-- of the versions of a text, the first of which is 1
+abbrev pub newest_version : ℕ
+newest_version = 1
+
 -- of the events of one seat: 2 to 2 ^ 20
 abbrev pub least_budget : ℕ
 least_budget = 2

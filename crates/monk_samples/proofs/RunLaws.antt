@@ -23,7 +23,7 @@ use Rattle.monk_history.specs.Meaning.Legal.{IsLegal}
 use Rattle.monk_history.specs.Meaning.Monitor.{Monitor, monitor, data_of}
 use Rattle.monk_history.specs.Meaning.Named.{named_monitor}
 use Rattle.monk_history.specs.Limits.{most_seats, most_conds}
-use Rattle.monk_history.specs.Text.{Heading}
+use Rattle.monk_history.specs.Text.{Heading, heading}
 use Rattle.monk_history.specs.Text.Reading.{heading_of}
 use Rattle.monk_history.specs.declared.event.Event.{Event}
 use Rattle.monk_floor.specs.View.{FloorView, monitor_of}
@@ -134,12 +134,12 @@ some_is true x y e = ap (there x) e
 some_is false x y e = absurd (false≢true (sym (ap is_there e)))
 
 pub header_is : (k : KindName) (sample : Sample) (seats conds : ℕ) (h : Heading)
-    → Some h ≡ heading_of k seats conds (sample_object sample) size → conds ≡ conds_of (rules_named k)
+    → Some h ≡ heading_of 1 k seats conds (sample_object sample) size → conds ≡ conds_of (rules_named k)
     → h ≡ run_heading k sample seats
 header_is k sample seats conds h e c =
     some_is (nat_le 1 seats && nat_le seats most_seats && nat_le conds most_conds && nat_le 1 size)
-    (record { kind = k; seats = seats; conds = conds; object = sample_object sample; size = size }) h e
-    ∙ ap (λ n. record { kind = k; seats = seats; conds = n; object = sample_object sample; size = size }) c
+    (heading 1 k seats conds (sample_object sample) size) h e
+    ∙ ap (λ n. heading 1 k seats n (sample_object sample) size) c
 
 pub outcome_of : (k : Rules) (name : KindName) (sample : Sample) (seats rounds : ℕ) (h : Heading) (history : List Event)
     (totals : List ℕ) → seats ≤ 16 → rounds ≤ 1000 → k ≡ rules_named name → IsHistoryOf k sample seats rounds history

@@ -1,6 +1,6 @@
 -- One event more in the totals
 use Rattle.std.proofs.Common.{◌≡◌, ℕ, ◌+◌, ◌-◌, ◌≤◌, ◌<◌, cond, List, [], ◌∷◌, ◌++◌, length, map, take, drop, subst}
-use Rattle.std.proofs.Common.{slice_index_or, refl, ap, ◌∙◌, arith}
+use Rattle.std.proofs.Common.{append-nil, slice_index_or, ap, ◌∙◌, arith}
 use Rattle.std.specs.Prelude.{filter, sum}
 use Rattle.std.proofs.lemmas.Grind.{flat_map-append}
 use Rattle.std.proofs.lemmas.List.{map-append, take_more, take-append-drop}
@@ -11,18 +11,10 @@ use Rattle.monk_object.specs.Laws.{items_put, items_taken}
 use Rattle.monk_object.specs.Runs.{Answered, is_done, times_done}
 use Rattle.monk_history.specs.Meaning.Acts.{act_of, acts_in}
 use Rattle.monk_history.specs.declared.event.Event.{Event}
-use Rattle.monk_history.specs.declared.event.Event.TheVariants.{Enter, Act, Leave, Wait, Signal, SignalLeave, Until, Resume}
 use Rattle.monk_samples.specs.Totals.{done, sum_put, sum_taken}
 
 last_act : (e : Event) → act_of e ++ [] ≡ act_of e
-last_act (Enter s via) = refl
-last_act (Act s op r) = refl
-last_act (Leave s x) = refl
-last_act (Wait s c x) = refl
-last_act (Signal s c x) = refl
-last_act (SignalLeave s c x) = refl
-last_act (Until s p x) = refl
-last_act (Resume s q) = refl
+last_act e = append-nil (act_of e)
 
 acts_more : (h : List Event) (e : Event) → acts_in (h ++ e ∷ []) ≡ acts_in h ++ act_of e
 acts_more h e = flat_map-append act_of h (e ∷ []) ∙ ap (λ (xs : List Answered). acts_in h ++ xs) (last_act e)

@@ -11,7 +11,7 @@ use Rattle.monk_history.specs.Meaning.Events.{has_conditions}
 use Rattle.monk_history.specs.Meaning.Legal.{IsLegal}
 use Rattle.monk_history.specs.Meaning.Monitor.{monitor, data_of}
 use Rattle.monk_history.specs.Meaning.Named.{named_monitor}
-use Rattle.monk_history.specs.Text.{Heading}
+use Rattle.monk_history.specs.Text.{Heading, heading}
 use Rattle.monk_history.specs.declared.event.Event.{Event}
 use Rattle.monk_samples.specs.Totals.{totals_of}
 use Rattle.monk_samples.specs.declared.sample.Sample.{Sample}
@@ -38,8 +38,7 @@ abbrev pub IsInRange : ℕ → ℕ → Type 0
 IsInRange seats rounds = (2 ≤ seats) × (seats ≤ 16) × (1 ≤ rounds) × (rounds ≤ 1000)
 
 abbrev pub run_heading : KindName → Sample → ℕ → Heading
-run_heading k sample seats =
-    record { kind = k; seats = seats; conds = conds_of (rules_named k); object = sample_object sample; size = size }
+run_heading k sample seats = heading 1 k seats (conds_of (rules_named k)) (sample_object sample) size
 
 -- the law of the sample's object holds of the acts of the history
 abbrev pub KeepsLaw : Sample → List ℕ → List Event → Type 0

@@ -1,9 +1,9 @@
 -- What a seat does between two moments, by its own events
-use Rattle.std.specs.Prelude.{◌≡◌, ℕ, Bool, true, false, List, [], ◌∷◌, ◌++◌, map, if◌then◌else◌}
+use Rattle.std.specs.Prelude.{◌≡◌, ℕ, Bool, ◌||◌, List, [], ◌∷◌, ◌++◌, map, if◌then◌else◌, is_some}
 use Rattle.std.specs.List.{flat_map}
 use Rattle.atomic_table.specs.Seated.{TableId}
+use Rattle.monk_history.specs.Meaning.Events.{entered, resumed}
 use Rattle.monk_history.specs.declared.event.Event.{Event}
-use Rattle.monk_history.specs.declared.event.Event.TheVariants.{Enter, Act, Leave, Wait, Signal, SignalLeave, Until, Resume}
 use Rattle.monk_hall.specs.Floors.{StartsWith}
 use Rattle.monk_hall.specs.Tokens.{Token, Holder}
 use Rattle.monk_hall.specs.declared.setting.Setting.{Setting}
@@ -49,14 +49,7 @@ pub record Went (x y : Trail) (own : List Addition) : Type 0 where
 
 -- a seat comes in by an enter, or by a resume: nobody calls for these
 abbrev pub is_coming : Event → Bool
-is_coming (Enter s via) = true
-is_coming (Act s op r) = false
-is_coming (Leave s x) = false
-is_coming (Wait s c x) = false
-is_coming (Signal s c x) = false
-is_coming (SignalLeave s c x) = false
-is_coming (Until s p x) = false
-is_coming (Resume s q) = true
+is_coming e = is_some (entered e) || is_some (resumed e)
 
 abbrev pub call_in : Addition → List Addition
 call_in d = if is_coming d.event then [] else d ∷ []

@@ -8,8 +8,7 @@ use Rattle.monk_kinds.specs.declared.mode.Rules.{Rules}
 use Rattle.monk_kinds.specs.declared.name.KindName.{KindName}
 use Rattle.monk_object.specs.Names.{meaning_named}
 use Rattle.monk_object.specs.declared.name.ObjectName.TheVariants.{Buffer}
-use Rattle.monk_history.specs.Text.{Heading}
-use Rattle.monk_history.specs.Text.Reading.{heading}
+use Rattle.monk_history.specs.Text.{Heading, heading}
 use Rattle.monk_history.specs.Meaning.Named.{named_monitor}
 use Rattle.monk_history.specs.Meaning.Reasons.{IsAllowed}
 use Rattle.monk_floor.specs.View.{FloorView, monitor_of}
@@ -82,7 +81,7 @@ allowed_last m h e l =
 
 -- so it is after a floor's history, if the header names the floor's monitor
 pub allowed_on : (k : Rules) (n : KindName) (seats conds size : ℕ) (h : Heading) (f : FloorView) (e : Event) (events : List Event)
-    → h ≡ heading n seats conds Buffer size → k ≡ rules_named n → IsRoom seats conds size f → events ≡ f.history ++ e ∷ []
+    → h ≡ heading 1 n seats conds Buffer size → k ≡ rules_named n → IsRoom seats conds size f → events ≡ f.history ++ e ∷ []
     → IsLegal (named_monitor h) events → IsAllowedOn k f e
 allowed_on k n seats conds size h f e events is named room grown l =
     let same : named_monitor h ≡ monitor_of k (meaning_named Buffer) f =

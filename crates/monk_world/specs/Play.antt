@@ -40,7 +40,7 @@ abbrev pub command_words : ℕ × Command → List Word
 command_words m = decimal m.0 ∷ action_words m.1
 
 abbrev pub play_words : Heading → ℕ → List Word
-play_words h budget = codes "play" ∷ codes "1" ∷ (part_words h ++ decimal budget ∷ [])
+play_words h budget = codes "play" ∷ decimal h.version ∷ (part_words h ++ decimal budget ∷ [])
 
 -- ---- the text
 

@@ -159,16 +159,18 @@ IsDropped s i (next.Waiter j) home a t = ⊥
 IsDropped s i (next.Signaller j) home a t = ⊥
 IsDropped s i (next.Until j) home a t = ⊥
 
--- of seat i, which stands at p: a step that is not refused. Where no line fits, there is none
+-- of seat i, which stands at p: a step that is not refused. At any other place than those of its command there is none
 abbrev pub IsDone : Rules → Object → State → ℕ → Place → Command → Answer → State → Type 0
 IsDone k o s i Idle command.Arrive a t = (a ≡ answer.Arrived s.world.drawn s.world.unpassed)
     × (t ≡ record s { world = after_arrive s.world i })
+IsDone k o s i p command.Arrive a t = ⊥
 IsDone k o s i (Ticket n) command.Look a t =
     (a ≡ answer.Looked (s.world.ticket_place (n % s.floor.seats) == n + 1))
     × (t ≡ record s { world = after_ticket_look s.world i n (s.world.ticket_place (n % s.floor.seats) == n + 1) })
 IsDone k o s i Inner command.Look a t =
     (a ≡ answer.Looked (s.world.seat_place i == s.world.count i + 1))
     × (t ≡ record s { world = after_seat_look s.world i (s.world.seat_place i == s.world.count i + 1) })
+IsDone k o s i p command.Look a t = ⊥
 IsDone k o s i (Due q) command.Out a t =
     (a ≡ answer.Now)
     × (t ≡ record {
@@ -177,22 +179,31 @@ IsDone k o s i (Due q) command.Out a t =
       floor =
           with_event s.floor (out_event i q (turn s.floor.history));
     })
+IsDone k o s i p command.Out a t = ⊥
 IsDone k o s i Idle command.Peek a t = (a ≡ answer.Found s.world.unpassed) × (t ≡ s)
 IsDone k o s i (Active q) command.Peek a t =
     (a ≡ answer.Found s.world.unpassed) × (t ≡ record s { known = put s.known i (s.known i || nat_le 2 s.world.unpassed) })
+IsDone k o s i p command.Peek a t = ⊥
 IsDone k o s i (Back x home) command.Drop a t = IsDropped s i x home a t
+IsDone k o s i p command.Drop a t = ⊥
 IsDone k o s i (Back x home) command.Grant a t = IsGranted s i x home a t
 IsDone k o s i (Passing n home) command.Grant a t = (a ≡ answer.GrantedTicket n)
     × (t ≡ record s { world = after_ticket_grant s.floor.seats s.world i n home })
+IsDone k o s i p command.Grant a t = ⊥
 IsDone k o s i (Active q) (command.Act op) a t =
     (a ≡ answer.Reply (o.reply (data_of (monitor_of k o s.floor) s.floor.history) op))
     × (t ≡ record s { floor = with_event s.floor (Act i op (o.reply (data_of (monitor_of k o s.floor) s.floor.history) op)) })
+IsDone k o s i p (command.Act op) a t = ⊥
 IsDone k o s i (Active q) (command.Leave pick) a t = IsReleased k o s i (Leave i next.Stay) pick home.Idle a t
+IsDone k o s i p (command.Leave pick) a t = ⊥
 IsDone k o s i (Active q) (command.Wait c pick) a t = IsReleased k o s i (Wait i c next.Stay) pick home.Inner a t
+IsDone k o s i p (command.Wait c pick) a t = ⊥
 IsDone k o s i (Active q) (command.Signal c pick) a t = IsReleased k o s i (Signal i c next.Stay) pick home.Inner a t
+IsDone k o s i p (command.Signal c pick) a t = ⊥
 IsDone k o s i (Active q) (command.SignalLeave c pick) a t = IsReleased k o s i (SignalLeave i c next.Stay) pick home.Idle a t
+IsDone k o s i p (command.SignalLeave c pick) a t = ⊥
 IsDone k o s i (Active q) (command.Until p pick) a t = IsReleased k o s i (Until i p next.Stay) pick home.Inner a t
-IsDone k o s i p c a t = ⊥
+IsDone k o s i p (command.Until q pick) a t = ⊥
 
 abbrev pub IsAnswered : Rules → Object → State → ℕ → Command → Option Answer → Answer → State → Type 0
 IsAnswered k o s i c None a t = IsDone k o s i (s.world.place i) c a t

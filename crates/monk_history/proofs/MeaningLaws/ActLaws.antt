@@ -1,5 +1,6 @@
 -- The acts of a legal history are a run of its object, so that the laws of the object hold of them
-use Rattle.std.proofs.Common.{◌≡◌, ℕ, true, List, [], ◌∷◌, ◌++◌, map, refl, sym, ap, subst, ◌∙◌}
+use Rattle.std.proofs.Common.{◌≡◌, ℕ, true, Option, Some, None, ◌==◌, List, [], ◌∷◌, ◌++◌, map, refl, sym, ap, subst, ◌∙◌}
+use Rattle.std.specs.Option.{option_map_or, option_to_list}
 use Rattle.std.proofs.lemmas.Bool.{eqb-true}
 use Rattle.std.proofs.lemmas.Grind.{flat_map-append}
 use Rattle.std.proofs.lemmas.List.{map-append}
@@ -12,12 +13,12 @@ use Rattle.monk_object.specs.declared.name.ObjectName.{ObjectName}
 use Rattle.monk_object.specs.declared.name.ObjectName.TheVariants.{Buffer, Book, Shop}
 use Rattle.monk_object.specs.declared.op.Op.{Op}
 use Rattle.monk_object.proofs.PublicLaws.{first_in_first_out, exclusive, customers}
+use Rattle.monk_history.specs.Meaning.Events.{acted}
 use Rattle.monk_history.specs.Meaning.Acts.{act_of, acts_in, ops_in, IsRunOf, IsInOrder, ExcludesEachOther, ServesEachOne}
 use Rattle.monk_history.specs.Meaning.Legal.{IsLegal}
 use Rattle.monk_history.specs.Meaning.Monitor.{Monitor, monitor, data_after, data_of}
 use Rattle.monk_history.specs.Meaning.Reasons.{is_right_reply}
 use Rattle.monk_history.specs.declared.event.Event.{Event}
-use Rattle.monk_history.specs.declared.event.Event.TheVariants.{Enter, Act, Leave, Wait, Signal, SignalLeave, Until, Resume}
 use Rattle.monk_history.proofs.MeaningLaws.HistoryLaws.{history_induction}
 use Rattle.monk_history.proofs.MeaningLaws.LegalLaws.{legal_front, legal_last}
 use Rattle.monk_history.proofs.MeaningLaws.TurnLaws.{data-push}
@@ -37,24 +38,19 @@ ops-push : (h : List Event) (e : Event) → ops_in (h ++ e ∷ []) ≡ ops_in h 
 ops-push h e = ap ops (acts-push h e) ∙ map-append (λ (act : Answered). act.op) (acts_in h) (acts_in (e ∷ []))
 
 data_by : (o : Object) (d : List ℕ) (e : Event) → state_after o d (ops_in (e ∷ [])) ≡ data_after o d e
-data_by o d (Enter s via) = refl
-data_by o d (Act s op r) = refl
-data_by o d (Leave s x) = refl
-data_by o d (Wait s c x) = refl
-data_by o d (Signal s c x) = refl
-data_by o d (SignalLeave s c x) = refl
-data_by o d (Until s p x) = refl
-data_by o d (Resume s q) = refl
+data_by o d e = one (acted e)
+  where
+    one : (a : Option Answered) → state_after o d (ops (option_to_list a ++ [])) ≡ option_map_or (λ act. o.after d act.op) a d
+    one None = refl
+    one (Some act) = refl
 
 reply_by : (o : Object) (d : List ℕ) (e : Event) → is_right_reply o d e ≡ true → answers_of o d (ops_in (e ∷ [])) ≡ acts_in (e ∷ [])
-reply_by o d (Enter s via) h = refl
-reply_by o d (Act s op r) h = ap (λ n. record { op = op; reply = n } ∷ []) (sym (eqb-true r (o.reply d op) h))
-reply_by o d (Leave s x) h = refl
-reply_by o d (Wait s c x) h = refl
-reply_by o d (Signal s c x) h = refl
-reply_by o d (SignalLeave s c x) h = refl
-reply_by o d (Until s p x) h = refl
-reply_by o d (Resume s q) h = refl
+reply_by o d e = one (acted e)
+  where
+    one : (a : Option Answered) → option_map_or (λ act. act.reply == o.reply d act.op) a true ≡ true
+        → answers_of o d (ops (option_to_list a ++ [])) ≡ option_to_list a ++ []
+    one None h = refl
+    one (Some act) h = ap (λ n. record { op = act.op; reply = n } ∷ []) (sym (eqb-true act.reply (o.reply d act.op) h))
 
 data_none : (m : Monitor) → state_after m.object m.opening (ops_in []) ≡ data_of m []
 unfolding data_of

@@ -11,7 +11,7 @@ use Rattle.monk_history.specs.Meaning.Signallers.{is_empty}
 use Rattle.monk_history.specs.Meaning.Untils.{untils, ready_of}
 use Rattle.monk_history.specs.Meaning.Turn.{turn, is_enter_of, is_exit_of, inside_of, is_inside}
 use Rattle.monk_history.specs.Meaning.Reasons.{is_open, is_due, is_queue, IsAllowed, IsAllowedIn}
-use Rattle.monk_history.specs.Meaning.Counts.{events_of}
+use Rattle.monk_history.specs.Meaning.Counts.{events_of, is_enter}
 use Rattle.monk_history.specs.Meaning.Release.{MayCallIn, MayCall, as_called}
 use Rattle.monk_history.specs.Meaning.Entry.{IsQuiet, IsAtDoor, IsDueFrom}
 use Rattle.monk_history.specs.declared.event.Event.{Event}
@@ -208,14 +208,7 @@ leaves_other : (j : ℕ) (e : Event) → (seat_of e == j) ≡ false → is_exit_
 leaves_other j e h = not_theirs (seat_of e == j) (is_way_out e) h
 
 enters_other : (j : ℕ) (e : Event) → (seat_of e == j) ≡ false → is_enter_of j e ≡ false
-enters_other j (Enter s via) h = h
-enters_other j (Act s op r) h = refl
-enters_other j (Leave s x) h = refl
-enters_other j (Wait s c x) h = refl
-enters_other j (Signal s c x) h = refl
-enters_other j (SignalLeave s c x) h = refl
-enters_other j (Until s p x) h = refl
-enters_other j (Resume s q) h = refl
+enters_other j e h = not_theirs (seat_of e == j) (is_enter e) h
 
 leaves_more : (j : ℕ) (e : Event) (own es : List Event) (b : Bool) → (seat_of e == j) ≡ b
     → list_any (is_exit_of j) own ≡ list_any (is_exit_of j) es

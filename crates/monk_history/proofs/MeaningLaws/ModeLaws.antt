@@ -11,7 +11,7 @@ use Rattle.monk_history.specs.Meaning.Events.{is_stay, is_waiter, is_signaller, 
 use Rattle.monk_history.specs.Meaning.Monitor.{Monitor}
 use Rattle.monk_history.specs.Meaning.Situation.{Situation, situation}
 use Rattle.monk_history.specs.Meaning.Step.{after}
-use Rattle.monk_history.specs.Meaning.Signallers.{is_empty, signallers}
+use Rattle.monk_history.specs.Meaning.Signallers.{is_empty, signals, takes_signaller}
 use Rattle.monk_history.specs.Meaning.Choice.{queues_at, may_signal}
 use Rattle.monk_history.specs.Meaning.Reasons.{IsAllowedIn}
 use Rattle.monk_history.specs.Meaning.Legal.{IsLegal}
@@ -21,7 +21,7 @@ use Rattle.monk_history.specs.declared.event.Next.{Next}
 use Rattle.monk_history.specs.declared.event.Next.TheVariants.{Stay, Entry, Waiter, Signaller, Until as UntilSeat}
 use Rattle.monk_history.proofs.MeaningLaws.TestLaws.{and_left, and_right}
 use Rattle.monk_history.proofs.MeaningLaws.StepLaws.{situation-none}
-use Rattle.monk_history.proofs.MeaningLaws.ReleaseLaws.{legal_induction}
+use Rattle.monk_history.proofs.MeaningLaws.ReleaseLaws.{legal_induction, signals_none}
 
 -- the rules of a non-blocking kind
 pub record IsNonBlocking (k : Rules) : Type 0 where
@@ -155,14 +155,9 @@ legal_emptied m h n l =
 -- where there is no signaller queue nobody is ever in it
 unsignalled_after : (m : Monitor) (t : Situation) (e : Event) → has_signaller_queue m.kind.mode ≡ false
     → t.signallers ≡ [] → IsAllowedIn m t e → (after m.object t e).signallers ≡ []
-unsignalled_after m t (Enter s via) n h a = drop_nobody false t.signallers [] h refl
-unsignalled_after m t (Act s op r) n h a = drop_nobody false t.signallers [] h refl
-unsignalled_after m t (Leave s x) n h a = drop_nobody _ t.signallers [] h refl
-unsignalled_after m t (Wait s c x) n h a = drop_nobody _ t.signallers [] h refl
-unsignalled_after m t (Signal s c x) n h a = absurd (false≢true (sym n ∙ a.offered))
-unsignalled_after m t (SignalLeave s c x) n h a = drop_nobody _ t.signallers [] h refl
-unsignalled_after m t (Until s p x) n h a = drop_nobody _ t.signallers [] h refl
-unsignalled_after m t (Resume s q) n h a = drop_nobody false t.signallers [] h refl
+unsignalled_after m t e n h a =
+    drop_nobody (takes_signaller t.condition e) t.signallers (signals t.condition e) h
+    (signals_none m.kind.mode t.condition e n a.offered)
 
 pub legal_unsignalled : (m : Monitor) (h : List Event) → has_signaller_queue m.kind.mode ≡ false → IsLegal m h
     → (situation m h).signallers ≡ []

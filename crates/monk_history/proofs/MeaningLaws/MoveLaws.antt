@@ -1,14 +1,16 @@
 -- Where seats stand after one event more, and what is counted
 use Rattle.std.proofs.Common.{◌≡◌, ◌≢◌, ℕ, ◌+◌, ◌≤◌, Bool, true, false, cond, ◌&&◌, ◌||◌, not, ◌==◌, Option, Some, None}
 use Rattle.std.proofs.Common.{List, [], ◌∷◌, ◌++◌, refl, sym, ap, subst, ◌∙◌, arith, eq-eqb, ⊎_elim}
+use Rattle.std.specs.Prelude.{is_some}
+use Rattle.std.specs.Option.{option_map_or}
 use Rattle.std.proofs.lemmas.Bool.{false≢true, eqb-true, cases_lt}
 use Rattle.monk_kinds.specs.declared.mode.Rules.{Rules}
-use Rattle.monk_history.specs.Meaning.Events.{seat_of, next_of, is_stay, is_way_out, has_conditions}
+use Rattle.monk_history.specs.Meaning.Events.{seat_of, next_of, is_stay, is_way_out, has_conditions, entered, resumed, steps_back}
 use Rattle.monk_history.specs.Meaning.Monitor.{Monitor}
 use Rattle.monk_history.specs.Meaning.Situation.{Situation, situation}
 use Rattle.monk_history.specs.Meaning.Waiters.{serves}
-use Rattle.monk_history.specs.Meaning.Signallers.{is_empty, signals}
-use Rattle.monk_history.specs.Meaning.Choice.{Queues, queues_at, may_choose, may_signal}
+use Rattle.monk_history.specs.Meaning.Signallers.{signals}
+use Rattle.monk_history.specs.Meaning.Choice.{Queues, queues_at, may_choose, may_signal, must_stay}
 use Rattle.monk_history.specs.Meaning.Turn.{turn_by, is_enter_of, is_exit_of, is_inside}
 use Rattle.monk_history.specs.Meaning.Reasons.{is_in_turn, is_owned_by, is_open, is_due, fits_object, IsAllowedIn, IsAllowed}
 use Rattle.monk_history.specs.Meaning.Legal.{IsLegal}
@@ -18,6 +20,7 @@ use Rattle.monk_history.specs.Meaning.Moves.{parks, StandsAfter, CountsAfter}
 use Rattle.monk_history.specs.declared.event.Event.{Event}
 use Rattle.monk_history.specs.declared.event.Event.TheVariants.{Enter, Act, Leave, Wait, Signal, SignalLeave, Until, Resume}
 use Rattle.monk_history.specs.declared.event.From3.{From3}
+use Rattle.monk_history.specs.declared.event.Via.{Via}
 use Rattle.monk_history.specs.declared.event.Next.{Next}
 use Rattle.monk_history.specs.declared.event.Next.TheVariants.{Stay, Entry, Waiter, Signaller, Until as UntilSeat}
 use Rattle.monk_history.specs.declared.event.Turn.{Turn}
@@ -47,27 +50,19 @@ not_same j s n = no (s == j) (λ h. n (sym (eqb-true s j h)))
     no false f = refl
 
 -- an event of another seat neither enters nor leaves for this one
-stays_in : (i w b : Bool) → b ≡ false → ((i && not (w && b)) || false) ≡ i
-stays_in true true false h = refl
-stays_in true false false h = refl
-stays_in false true false h = refl
-stays_in false false false h = refl
-stays_in i w true h = absurd (false≢true (sym h))
-
-comes_in : (i b : Bool) → b ≡ false → ((i && not (false && b)) || b) ≡ i
-comes_in true false h = refl
-comes_in false false h = refl
-comes_in i true h = absurd (false≢true (sym h))
+not_moved : (i out enter b : Bool) → b ≡ false → ((i && not (out && b)) || (enter && b)) ≡ i
+not_moved true true true false h = refl
+not_moved true true false false h = refl
+not_moved true false true false h = refl
+not_moved true false false false h = refl
+not_moved false true true false h = refl
+not_moved false true false false h = refl
+not_moved false false true false h = refl
+not_moved false false false false h = refl
+not_moved i out enter true h = absurd (false≢true (sym h))
 
 other_inside : (j : ℕ) (e : Event) (i : Bool) → j ≢ seat_of e → ((i && not (is_exit_of j e)) || is_enter_of j e) ≡ i
-other_inside j (Enter s via) i n = comes_in i (s == j) (not_same j s n)
-other_inside j (Act s op r) i n = stays_in i false (s == j) (not_same j s n)
-other_inside j (Leave s x) i n = stays_in i true (s == j) (not_same j s n)
-other_inside j (Wait s c x) i n = stays_in i false (s == j) (not_same j s n)
-other_inside j (Signal s c x) i n = stays_in i false (s == j) (not_same j s n)
-other_inside j (SignalLeave s c x) i n = stays_in i true (s == j) (not_same j s n)
-other_inside j (Until s p x) i n = stays_in i false (s == j) (not_same j s n)
-other_inside j (Resume s q) i n = stays_in i false (s == j) (not_same j s n)
+other_inside j e i n = not_moved i (is_way_out e) (is_some (entered e)) (seat_of e == j) (not_same j (seat_of e) n)
 
 -- the seat of an event is inside after it, unless it is on its way out
 goes_out : (i b : Bool) → b ≡ true → ((i && not (true && b)) || false) ≡ false
@@ -129,14 +124,14 @@ not_open j (Due i r) h = absurd (false≢true h)
 not_open j (Owned i) h = absurd (false≢true h)
 
 other_turn : (t : Situation) (e : Event) (j : ℕ) → j ≢ seat_of e → is_in_turn t e ≡ true → has_turn j t.turn ≡ 0
-other_turn t (Enter s via) j n h = not_open j t.turn h
-other_turn t (Act s op r) j n h = not_owned s j t.turn n h
-other_turn t (Leave s x) j n h = not_owned s j t.turn n h
-other_turn t (Wait s c x) j n h = not_owned s j t.turn n h
-other_turn t (Signal s c x) j n h = not_owned s j t.turn n h
-other_turn t (SignalLeave s c x) j n h = not_owned s j t.turn n h
-other_turn t (Until s q x) j n h = not_owned s j t.turn n h
-other_turn t (Resume s q) j n h = not_due s j q t.turn n h
+other_turn t e j n = by_source (entered e) (resumed e)
+  where
+    by_source : (v : Option Via) (r : Option From3)
+        → cond (is_some v) (is_open t.turn) (option_map_or (λ q. is_due (seat_of e) q t.turn) r (is_owned_by (seat_of e) t.turn)) ≡ true
+        → has_turn j t.turn ≡ 0
+    by_source (Some via) r h = not_open j t.turn h
+    by_source None (Some q) h = not_due (seat_of e) j q t.turn n h
+    by_source None None h = not_owned (seat_of e) j t.turn n h
 
 -- after an event another seat has the turn where it was chosen
 turn_grants : (s j : ℕ) (x : Option Next) → j ≢ s → has_turn j (turn_by s x) ≡ cond (chooses_seat j x) 1 0
@@ -205,27 +200,22 @@ unless true x y h f = absurd (f h)
 unless false x y h f = h
 
 chosen_queued : (m : Monitor) (t : Situation) (e : Event) (j : ℕ) → IsAllowedIn m t e → grants j e ≡ true → 1 ≤ in_queues m.conds j t
-chosen_queued m t (Enter s via) j a g = absurd (false≢true g)
-chosen_queued m t (Act s op r) j a g = absurd (false≢true g)
-chosen_queued m t (Leave s x) j a g =
-    chosen_in m.kind (queues_at m.object t (Leave s x)) s j x (in_queues m.conds j t) a.permitted g
-    (in_queue_waiters m t (Leave s x) j a) (in_queue_signallers m t (Leave s x) j) (in_queue_ready m t (Leave s x) j)
-chosen_queued m t (Wait s c x) j a g =
-    chosen_in m.kind (queues_at m.object t (Wait s c x)) s j x (in_queues m.conds j t) a.permitted g
-    (in_queue_waiters m t (Wait s c x) j a) (in_queue_signallers m t (Wait s c x) j) (in_queue_ready m t (Wait s c x) j)
-chosen_queued m t (Signal s c x) j a g =
-    signalled_in m.kind (queues_at m.object t (Signal s c x)) s j x (in_queues m.conds j t)
-    (unless (is_empty (t.condition c)) (is_stay (Some x)) _ a.permitted (λ h. stay_names j x h g)) g
-    (in_queue_waiters m t (Signal s c x) j a) (in_queue_signallers m t (Signal s c x) j) (in_queue_ready m t (Signal s c x) j)
-chosen_queued m t (SignalLeave s c x) j a g =
-    chosen_in m.kind (queues_at m.object t (SignalLeave s c x)) s j x (in_queues m.conds j t) a.permitted g
-    (in_queue_waiters m t (SignalLeave s c x) j a) (in_queue_signallers m t (SignalLeave s c x) j)
-    (in_queue_ready m t (SignalLeave s c x) j)
-chosen_queued m t (Until s p x) j a g =
-    chosen_in m.kind (queues_at m.object t (Until s p x)) s j x (in_queues m.conds j t)
-    (unless (m.object.holds t.state p) (is_stay (Some x)) _ a.permitted (λ h. stay_names j x h g)) g
-    (in_queue_waiters m t (Until s p x) j a) (in_queue_signallers m t (Until s p x) j) (in_queue_ready m t (Until s p x) j)
-chosen_queued m t (Resume s q) j a g = absurd (false≢true g)
+chosen_queued m t e j a = one (must_stay m.object t e) (is_some (steps_back e)) (next_of e) a.permitted
+  where
+    one : (stays steps : Bool) (x : Option Next)
+        → cond stays (is_stay x)
+        (option_map_or (λ n. cond steps (may_signal m.kind (queues_at m.object t e) (seat_of e) n)
+        (may_choose m.kind (queues_at m.object t e) (seat_of e) n)) x true) ≡ true
+        → chooses_seat j x ≡ true → 1 ≤ in_queues m.conds j t
+    one stays steps None h g = absurd (false≢true g)
+    one stays true (Some n) h g =
+        signalled_in m.kind (queues_at m.object t e) (seat_of e) j n (in_queues m.conds j t)
+        (unless stays (is_stay (Some n)) _ h (λ y. stay_names j n y g)) g
+        (in_queue_waiters m t e j a) (in_queue_signallers m t e j) (in_queue_ready m t e j)
+    one stays false (Some n) h g =
+        chosen_in m.kind (queues_at m.object t e) (seat_of e) j n (in_queues m.conds j t)
+        (unless stays (is_stay (Some n)) _ h (λ y. stay_names j n y g)) g
+        (in_queue_waiters m t e j a) (in_queue_signallers m t e j) (in_queue_ready m t e j)
 
 -- the seat of an allowed event stands in no queue
 pub caller_unqueued : (m : Monitor) (t : Situation) (e : Event) → IsPlaced m.conds t → IsAllowedIn m t e

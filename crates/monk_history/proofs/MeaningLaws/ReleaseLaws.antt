@@ -1,7 +1,8 @@
 -- A call that may be made, with the choice by the wish rules, is allowed; and who stands in the queues
-use Rattle.std.proofs.Common.{◌≡◌, ℕ, ◌+◌, ◌<◌, ◌≤◌, zero, suc, Bool, true, false, cond, ◌&&◌, ◌||◌, not, ◌==◌, Some}
+use Rattle.std.proofs.Common.{◌≡◌, ℕ, ◌+◌, ◌<◌, ◌≤◌, zero, suc, Bool, true, false, cond, ◌&&◌, ◌||◌, not, ◌==◌, Option, Some, None}
 use Rattle.std.proofs.Common.{List, [], ◌∷◌, ◌++◌, length, take, drop, refl, sym, ap, subst, ◌∙◌, arith, map, ⊎_elim}
-use Rattle.std.specs.Prelude.{filter, nat_lt}
+use Rattle.std.specs.Prelude.{filter, nat_lt, is_some}
+use Rattle.std.specs.Option.{option_map_or}
 use Rattle.std.specs.List.{list_all}
 use Rattle.std.proofs.lemmas.Bool.{false≢true, cases_lt, eqb-true}
 use Rattle.monk_kinds.specs.declared.mode.Mode.{Mode}
@@ -12,17 +13,18 @@ use Rattle.monk_kinds.specs.Kind.{IsKind}
 use Rattle.monk_object.specs.Object.{Object}
 use Rattle.monk_history.specs.Meaning.Events.{seat_of, next_of, named_seat, waits_on, signals_on, is_call_of}
 use Rattle.monk_history.specs.Meaning.Events.{has_conditions, has_signaller_queue, returns_at_once, is_waiter, is_stay}
+use Rattle.monk_history.specs.Meaning.Events.{entered, resumed, steps_back}
 use Rattle.monk_history.specs.Meaning.Monitor.{Monitor}
 use Rattle.monk_history.specs.Meaning.Situation.{Situation, situation}
 use Rattle.monk_history.specs.Meaning.Step.{after}
-use Rattle.monk_history.specs.Meaning.Waiters.{serves}
+use Rattle.monk_history.specs.Meaning.Waiters.{served_at, serves}
 use Rattle.monk_history.specs.Meaning.Signallers.{is_empty, signals, takes_signaller}
 use Rattle.monk_history.specs.Meaning.Untils.{waits_until, chooses, ready_of}
 use Rattle.monk_history.specs.Meaning.Choice.{Queues, queues_at, is_front, may_choose, may_signal}
 use Rattle.monk_history.specs.Meaning.Wish.{choice_by}
 use Rattle.monk_history.specs.Meaning.Turn.{is_enter_of, is_exit_of}
 use Rattle.monk_history.specs.Meaning.Reasons.{is_in_range, is_condition, fits_object, is_offered, is_due, is_queue}
-use Rattle.monk_history.specs.Meaning.Reasons.{is_owned_by, is_in_turn, is_in_place, is_right_reply, IsAllowedIn}
+use Rattle.monk_history.specs.Meaning.Reasons.{is_open, is_owned_by, is_in_turn, is_in_place, may_enter, is_right_reply, IsAllowedIn}
 use Rattle.monk_history.specs.Meaning.Legal.{IsLegal}
 use Rattle.monk_history.specs.Meaning.Standing.{times, times_in_conditions, has_turn, IsPlaced}
 use Rattle.monk_history.specs.Meaning.Release.{MayCallIn, with_next, choice_of}
@@ -33,12 +35,13 @@ use Rattle.monk_history.specs.declared.event.Next.TheVariants.{Stay, Entry, Wait
 use Rattle.monk_history.specs.declared.event.Turn.{Turn}
 use Rattle.monk_history.specs.declared.event.Turn.TheVariants.{Open, Due, Owned}
 use Rattle.monk_history.specs.declared.event.From3.{From3}
+use Rattle.monk_history.specs.declared.event.Via.{Via}
 use Rattle.monk_history.proofs.MeaningLaws.HistoryLaws.{history_induction}
 use Rattle.monk_history.proofs.MeaningLaws.LegalLaws.{legal_front, legal_last}
 use Rattle.monk_history.proofs.MeaningLaws.StepLaws.{situation-none, legal_situation-push}
 use Rattle.monk_history.proofs.MeaningLaws.TestLaws.{and_left, and_right}
 use Rattle.monk_history.proofs.MeaningLaws.WishLaws.{IsQueuesOf, choice_permitted, signal_permitted}
-use Rattle.monk_history.proofs.MeaningLaws.StandingLaws.{times-append, times_take_one, legal_placed}
+use Rattle.monk_history.proofs.MeaningLaws.StandingLaws.{times-append, times_served, legal_placed}
 use Rattle.monk_history.proofs.MeaningLaws.CountLaws.{length_few}
 
 -- what holds of the situation before any event, and is kept by what is allowed, holds of each legal history
@@ -90,12 +93,21 @@ serves_none mode q (SignalLeave s c x) h o = absurd (no_return mode h o)
 serves_none mode q (Until s p x) h o = refl
 serves_none mode q (Resume s r) h o = refl
 
-signals_none : (mode : Mode) (q : ℕ → List ℕ) (e : Event) → has_conditions mode ≡ false → is_call_of mode e ≡ true → signals q e ≡ []
+no_signallers : (mode : Mode) → has_conditions mode ≡ false → has_signaller_queue mode ≡ false
+no_signallers Blocking h = absurd (false≢true (sym h))
+no_signallers NonBlocking h = absurd (false≢true (sym h))
+no_signallers QuasiBlocking h = absurd (false≢true (sym h))
+no_signallers ImmediateReturn h = refl
+no_signallers Automatic h = refl
+
+-- where there is no signaller queue nobody joins it
+pub signals_none : (mode : Mode) (q : ℕ → List ℕ) (e : Event) → has_signaller_queue mode ≡ false → is_call_of mode e ≡ true
+    → signals q e ≡ []
 signals_none mode q (Enter s via) h o = refl
 signals_none mode q (Act s op r) h o = refl
 signals_none mode q (Leave s x) h o = refl
 signals_none mode q (Wait s c x) h o = refl
-signals_none mode q (Signal s c x) h o = absurd (no_signal mode h o)
+signals_none mode q (Signal s c x) h o = absurd (false≢true (sym h ∙ o))
 signals_none mode q (SignalLeave s c x) h o = refl
 signals_none mode q (Until s p x) h o = refl
 signals_none mode q (Resume s r) h o = refl
@@ -119,7 +131,7 @@ sorted_after k o t e s a = record {
   untils = λ h. ap (λ us. filter (λ w. not (chooses e w)) us ++ waits_until e) (s.untils h) ∙ waits_until_none k.mode e h a;
   waiters = λ h. drop_none (is_waiter (next_of e)) t.waiters (serves t.condition e) (s.waiters h) (serves_none k.mode t.condition e h a);
   signallers = λ h. drop_none (takes_signaller t.condition e) t.signallers (signals t.condition e) (s.signallers h)
-      (signals_none k.mode t.condition e h a);
+      (signals_none k.mode t.condition e (no_signallers k.mode h) a);
 }
 
 sorted_none : (m : Monitor) → IsSorted m.kind (situation m [])
@@ -134,7 +146,7 @@ pub sorted_queues : (k : Rules) (o : Object) (t : Situation) (e : Event) → IsS
 sorted_queues k o t e s a = record {
   ready = λ h. ap (ready_of o t.state) (s.untils h);
   waiters = λ h. ap (λ ws. ws ++ serves t.condition e) (s.waiters h) ∙ serves_none k.mode t.condition e h a;
-  signallers = λ h. ap (λ ws. ws ++ signals t.condition e) (s.signallers h) ∙ signals_none k.mode t.condition e h a;
+  signallers = λ h. ap (λ ws. ws ++ signals t.condition e) (s.signallers h) ∙ signals_none k.mode t.condition e (no_signallers k.mode h) a;
 }
 
 -- who is inside is a seat
@@ -155,14 +167,7 @@ seat_in_range seats conds codes predicates e h =
     (and_left _ (is_condition conds (signals_on e)) (and_left _ (fits_object codes predicates e) h))))
 
 enters_seat : (j : ℕ) (e : Event) → is_enter_of j e ≡ true → seat_of e ≡ j
-enters_seat j (Enter s via) h = eqb-true s j h
-enters_seat j (Act s op r) h = absurd (false≢true h)
-enters_seat j (Leave s x) h = absurd (false≢true h)
-enters_seat j (Wait s c x) h = absurd (false≢true h)
-enters_seat j (Signal s c x) h = absurd (false≢true h)
-enters_seat j (SignalLeave s c x) h = absurd (false≢true h)
-enters_seat j (Until s p x) h = absurd (false≢true h)
-enters_seat j (Resume s r) h = absurd (false≢true h)
+enters_seat j e h = eqb-true (seat_of e) j (and_right (is_some (entered e)) _ h)
 
 or_either : (P : Type 0) (a b : Bool) → (a || b) ≡ true → (a ≡ true → P) → (b ≡ true → P) → P
 or_either P true b h f g = f refl
@@ -289,14 +294,15 @@ apart_outside n j t p h = record {
 -- the seat of an event that may be called is in no queue
 pub caller_apart : (m : Monitor) (t : Situation) (e : Event) → IsPlaced m.conds t → is_in_turn t e ≡ true
     → is_in_place m.object t e ≡ true → IsApart m.conds (seat_of e) t
-caller_apart m t (Enter s via) p h k = apart_outside m.conds s t p (and_left _ _ k)
-caller_apart m t (Act s op r) p h k = apart_turn m.conds s t p (owned_once s t.turn h)
-caller_apart m t (Leave s x) p h k = apart_turn m.conds s t p (owned_once s t.turn h)
-caller_apart m t (Wait s c x) p h k = apart_turn m.conds s t p (owned_once s t.turn h)
-caller_apart m t (Signal s c x) p h k = apart_turn m.conds s t p (owned_once s t.turn h)
-caller_apart m t (SignalLeave s c x) p h k = apart_turn m.conds s t p (owned_once s t.turn h)
-caller_apart m t (Until s q x) p h k = apart_turn m.conds s t p (owned_once s t.turn h)
-caller_apart m t (Resume s q) p h k = apart_turn m.conds s t p (due_once s q t.turn h)
+caller_apart m t e p = by_source (entered e) (resumed e)
+  where
+    by_source : (v : Option Via) (r : Option From3)
+        → cond (is_some v) (is_open t.turn) (option_map_or (λ q. is_due (seat_of e) q t.turn) r (is_owned_by (seat_of e) t.turn)) ≡ true
+        → option_map_or (λ via. not (t.inside (seat_of e)) && may_enter m.object t via) v true ≡ true
+        → IsApart m.conds (seat_of e) t
+    by_source (Some via) r h k = apart_outside m.conds (seat_of e) t p (and_left _ _ k)
+    by_source None (Some q) h k = apart_turn m.conds (seat_of e) t p (due_once (seat_of e) q t.turn h)
+    by_source None None h k = apart_turn m.conds (seat_of e) t p (owned_once (seat_of e) t.turn h)
 
 -- no queue is full
 pub record HasRoom (seats conds : ℕ) (t : Situation) : Type 0 where
@@ -335,28 +341,23 @@ room_for m t i l p s a = record {
 -- whoever stands in a queue of a release is a seat
 pub serves_times : (n : ℕ) (q : ℕ → List ℕ) (e : Event) (j : ℕ) → is_condition n (signals_on e) ≡ true
     → times j (serves q e) ≤ times_in_conditions n j q
-serves_times n q (Enter s via) j h = omega arith
-serves_times n q (Act s op r) j h = omega arith
-serves_times n q (Leave s x) j h = omega arith
-serves_times n q (Wait s c x) j h = omega arith
-serves_times n q (Signal s c x) j h = omega (arith, times_take_one j (q c), times_le_conditions n j c q (lt_of c n h))
-serves_times n q (SignalLeave s c x) j h = omega (arith, times_take_one j (q c), times_le_conditions n j c q (lt_of c n h))
-serves_times n q (Until s p x) j h = omega arith
-serves_times n q (Resume s r) j h = omega arith
+serves_times n q e j = by_condition (signals_on e)
+  where
+    by_condition : (o : Option ℕ) → is_condition n o ≡ true → times j (served_at q o e) ≤ times_in_conditions n j q
+    by_condition None h = omega arith
+    by_condition (Some c) h = omega (arith, times_served j e (q c), times_le_conditions n j c q (lt_of c n h))
 
 one_caller : (b : Bool) (s j : ℕ) → 1 ≤ times j (cond b [] (s ∷ [])) → s ≡ j
 one_caller true s j h = absurd (omega (arith, h))
 one_caller false s j h = eqb-true s j (some_true (s == j) (omega (arith, h)))
 
 pub caller_signals : (q : ℕ → List ℕ) (e : Event) (j : ℕ) → 1 ≤ times j (signals q e) → seat_of e ≡ j
-caller_signals q (Enter s via) j h = absurd (omega (arith, h))
-caller_signals q (Act s op r) j h = absurd (omega (arith, h))
-caller_signals q (Leave s x) j h = absurd (omega (arith, h))
-caller_signals q (Wait s c x) j h = absurd (omega (arith, h))
-caller_signals q (Signal s c x) j h = one_caller (is_empty (q c)) s j h
-caller_signals q (SignalLeave s c x) j h = absurd (omega (arith, h))
-caller_signals q (Until s p x) j h = absurd (omega (arith, h))
-caller_signals q (Resume s r) j h = absurd (omega (arith, h))
+caller_signals q e j = by_condition (steps_back e)
+  where
+    by_condition : (o : Option ℕ) → 1 ≤ times j (option_map_or (λ c. cond (is_empty (q c)) [] (seat_of e ∷ [])) o [])
+        → seat_of e ≡ j
+    by_condition None h = absurd (omega (arith, h))
+    by_condition (Some c) h = one_caller (is_empty (q c)) (seat_of e) j h
 
 within_queues : (m : Monitor) (t : Situation) (e : Event) → IsPlaced m.conds t → IsSeated m.seats t
     → is_in_range m.seats m.conds m.object.codes m.object.predicates e ≡ true

@@ -1,7 +1,7 @@
 -- What other crates may cite of the words and lines of a text.
 
 -- What is read as a header is how it is written, and a header that is written is read again.
-pub use Rattle.monk_history.proofs.TextLaws.HeaderReading.{parts_again, parts_take}
+pub use Rattle.monk_history.proofs.TextLaws.HeaderReading.{one_version, parts_again, parts_take, version_word}
 -- The laws of the text of a history: what is read has that text, and what has a text is read from it.
 pub use Rattle.monk_history.proofs.TextLaws.HistoryText.{text_again, text_read}
 -- Words that hold no separator are the parts that their line is cut into, and lines those of their text.

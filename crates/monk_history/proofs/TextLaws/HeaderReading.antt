@@ -4,16 +4,17 @@ use Rattle.std.proofs.Common.{sym, ap, subst, ◌∙◌, arith}
 use Rattle.std.specs.Prelude.{◌&&◌, nat_le, codes}
 use Rattle.std.specs.Fmt.{decimal}
 use Rattle.std.proofs.lemmas.Bool.{leb-true, le-leb}
+use Rattle.std.proofs.lemmas.Fmt.{decimal_digit}
 use Rattle.monk_kinds.specs.declared.name.KindName.{KindName}
 use Rattle.monk_kinds.specs.declared.name.KindName.TheVariants.{Pb, Npb, Pnb, Npnb, Pqb, Npqb, Pir, Npir, Pis, Npis}
 use Rattle.monk_object.specs.declared.name.ObjectName.{ObjectName}
 use Rattle.monk_object.specs.declared.name.ObjectName.TheVariants.{Buffer, Book, Shop}
 use Rattle.monk_kinds.specs.Names.{kind_word, with_text, kinds}
 use Rattle.monk_object.specs.Names.{object_word, objects}
-use Rattle.monk_history.specs.Limits.{most_seats, most_conds}
-use Rattle.monk_history.specs.Text.{Heading, part_words, header_words, IsHeading}
+use Rattle.monk_history.specs.Limits.{newest_version, most_seats, most_conds}
+use Rattle.monk_history.specs.Text.{Heading, heading, part_words, header_words, IsHeading}
 use Rattle.monk_history.specs.Text.Words.{◌>>=◌, Word, Taken, number_at, with_rest, one_of, literal_at, end_at}
-use Rattle.monk_history.specs.Text.Reading.{heading, heading_of, parts_at, header_at}
+use Rattle.monk_history.specs.Text.Reading.{heading_of, parts_at, header_at}
 use Rattle.monk_history.proofs.TextLaws.LineCuts.{both}
 use Rattle.monk_history.proofs.TextLaws.WordReaders.{bind_ok, ok_is, number_takes, number_again, one_of_takes}
 use Rattle.monk_history.proofs.TextLaws.WordReaders.{one_of_again, literal_takes, end_takes}
@@ -40,16 +41,22 @@ heading_made : (b : Bool) (h : Heading) (ws : List Word) (x : Heading × List Wo
 heading_made true h ws x e = (refl, sym (ok_is (h, ws) x e))
 heading_made false h ws x e = absurd cc
 
-heading_fits : (k : KindName) (s c : ℕ) (o : ObjectName) (z : ℕ) (ws : List Word) (x : Heading × List Word) → z ≤ 255
-    → with_rest ws (heading_of k s c o z) ≡ Ok x → (x ≡ (heading k s c o z, ws)) × IsHeading (heading k s c o z)
-heading_fits k s c o z ws x le e =
-    let h = heading_made (nat_le 1 s && nat_le s most_seats && nat_le c most_conds && nat_le 1 z) (heading k s c o z) ws x e in
-    let p = both (nat_le 1 s && nat_le s most_seats && nat_le c most_conds) (nat_le 1 z) h.0 in
-    let q = both (nat_le 1 s && nat_le s most_seats) (nat_le c most_conds) p.0 in
-    let r = both (nat_le 1 s) (nat_le s most_seats) q.0 in (
+heading_fits : (v : ℕ) (k : KindName) (s c : ℕ) (o : ObjectName) (z : ℕ) (ws : List Word) (x : Heading × List Word) → z ≤ 255
+    → with_rest ws (heading_of v k s c o z) ≡ Ok x → (x ≡ (heading v k s c o z, ws)) × IsHeading (heading v k s c o z)
+heading_fits v k s c o z ws x le e =
+    let versioned = nat_le 1 v && nat_le v newest_version in
+    let h = heading_made (versioned && nat_le 1 s && nat_le s most_seats && nat_le c most_conds && nat_le 1 z)
+    (heading v k s c o z) ws x e in
+    let p = both (versioned && nat_le 1 s && nat_le s most_seats && nat_le c most_conds) (nat_le 1 z) h.0 in
+    let q = both (versioned && nat_le 1 s && nat_le s most_seats) (nat_le c most_conds) p.0 in
+    let r = both (versioned && nat_le 1 s) (nat_le s most_seats) q.0 in
+    let t = both versioned (nat_le 1 s) r.0 in
+    let u = both (nat_le 1 v) (nat_le v newest_version) t.0 in (
       h.1,
       record {
-        some_seat = leb-true _ _ r.0;
+        some_version = leb-true _ _ u.0;
+        version = leb-true _ _ u.1;
+        some_seat = leb-true _ _ t.1;
         seats = leb-true _ _ r.1;
         conds = leb-true _ _ q.1;
         some_size =
@@ -68,35 +75,36 @@ Kinded = KindName × List Word
 abbrev Named : Type 0
 Named = ObjectName × List Word
 
-abbrev at_size : Kinded → Numbered → Numbered → Named → Numbered → Taken Heading
-at_size k s c o z = with_rest z.1 (heading_of k.0 s.0 c.0 o.0 z.0)
+abbrev at_size : ℕ → Kinded → Numbered → Numbered → Named → Numbered → Taken Heading
+at_size v k s c o z = with_rest z.1 (heading_of v k.0 s.0 c.0 o.0 z.0)
 
-abbrev at_object : Kinded → Numbered → Numbered → Named → Taken Heading
-at_object k s c o = number_at 255 o.1 >>= at_size k s c o
+abbrev at_object : ℕ → Kinded → Numbered → Numbered → Named → Taken Heading
+at_object v k s c o = number_at 255 o.1 >>= at_size v k s c o
 
-abbrev at_conds : Kinded → Numbered → Numbered → Taken Heading
-at_conds k s c = one_of object_word objects c.1 >>= at_object k s c
+abbrev at_conds : ℕ → Kinded → Numbered → Numbered → Taken Heading
+at_conds v k s c = one_of object_word objects c.1 >>= at_object v k s c
 
-abbrev at_seats : Kinded → Numbered → Taken Heading
-at_seats k s = number_at 255 s.1 >>= at_conds k s
+abbrev at_seats : ℕ → Kinded → Numbered → Taken Heading
+at_seats v k s = number_at 255 s.1 >>= at_conds v k s
 
-abbrev at_kind : Kinded → Taken Heading
-at_kind k = number_at 255 k.1 >>= at_seats k
+abbrev at_kind : ℕ → Kinded → Taken Heading
+at_kind v k = number_at 255 k.1 >>= at_seats v k
 
 five_words : (ws a b c d e : List Word) (t u v w x : Word) → ws ≡ t ∷ a → a ≡ u ∷ b → b ≡ v ∷ c → c ≡ w ∷ d → d ≡ x ∷ e
     → ws ≡ t ∷ u ∷ v ∷ w ∷ x ∷ e
 five_words ws a b c d e t u v w x e0 e1 e2 e3 e4 = cc
 
-pub parts_take : (ws : List Word) (x : Heading × List Word) → parts_at ws ≡ Ok x → (ws ≡ part_words x.0 ++ x.1) × IsHeading x.0
+pub parts_take : (v : ℕ) (ws : List Word) (x : Heading × List Word) → parts_at v ws ≡ Ok x
+    → (ws ≡ part_words x.0 ++ x.1) × IsHeading x.0
 unfolding parts_at
-parts_take ws x e =
-    let k = bind_ok (one_of kind_word kinds ws) at_kind x e in
-    let s = bind_ok (number_at 255 k.0.1) (at_seats k.0) x k.2 in
-    let c = bind_ok (number_at 255 s.0.1) (at_conds k.0 s.0) x s.2 in
-    let o = bind_ok (one_of object_word objects c.0.1) (at_object k.0 s.0 c.0) x c.2 in
-    let z = bind_ok (number_at 255 o.0.1) (at_size k.0 s.0 c.0 o.0) x o.2 in
+parts_take v ws x e =
+    let k = bind_ok (one_of kind_word kinds ws) (at_kind v) x e in
+    let s = bind_ok (number_at 255 k.0.1) (at_seats v k.0) x k.2 in
+    let c = bind_ok (number_at 255 s.0.1) (at_conds v k.0 s.0) x s.2 in
+    let o = bind_ok (one_of object_word objects c.0.1) (at_object v k.0 s.0 c.0) x c.2 in
+    let z = bind_ok (number_at 255 o.0.1) (at_size v k.0 s.0 c.0 o.0) x o.2 in
     let size_is = number_takes 255 o.0.1 z.0 z.1 in
-    let h = heading_fits k.0.0 s.0.0 c.0.0 o.0.0 z.0.0 z.0.1 x size_is.1 z.2 in
+    let h = heading_fits v k.0.0 s.0.0 c.0.0 o.0.0 z.0.0 z.0.1 x size_is.1 z.2 in
     let e0 : ws ≡ kind_word k.0.0 ∷ k.0.1 = one_of_takes kind_word kinds ws k.0 k.1 in
     let e1 : k.0.1 ≡ decimal s.0.0 ∷ s.0.1 = (number_takes 255 k.0.1 s.0 s.1).0 in
     let e2 : s.0.1 ≡ decimal c.0.0 ∷ c.0.1 = (number_takes 255 s.0.1 c.0 c.1).0 in
@@ -105,18 +113,27 @@ parts_take ws x e =
     subst (λ (y : Heading × List Word). (ws ≡ part_words y.0 ++ y.1) × IsHeading y.0) (sym h.0)
     (five_words ws k.0.1 s.0.1 c.0.1 o.0.1 z.0.1 _ _ _ _ _ e0 e1 e2 e3 e4, h.1)
 
-heading_again : (h : Heading) → IsHeading h → heading_of h.kind h.seats h.conds h.object h.size ≡ Some h
+heading_again : (h : Heading) → IsHeading h → heading_of h.version h.kind h.seats h.conds h.object h.size ≡ Some h
 heading_again h fits =
     rw (
+      le-leb 1 h.version fits.some_version,
+      le-leb h.version newest_version fits.version,
       le-leb 1 h.seats fits.some_seat,
       le-leb h.seats most_seats fits.seats,
       le-leb h.conds most_conds fits.conds,
       le-leb 1 h.size fits.some_size,
     ) refl
 
-pub parts_again : (h : Heading) (ws : List Word) → IsHeading h → parts_at (part_words h ++ ws) ≡ Ok (h, ws)
+-- there is one version, and its word
+pub one_version : (h : Heading) → IsHeading h → h.version ≡ 1
+one_version h fits = omega (arith, fits.some_version, fits.version)
+
+pub version_word : (h : Heading) → IsHeading h → decimal h.version ≡ codes "1"
+version_word h fits = ap decimal (one_version h fits) ∙ decimal_digit 1 (lit< tt)
+
+parts_same : (h : Heading) (ws : List Word) → IsHeading h → parts_at h.version (part_words h ++ ws) ≡ Ok (h, ws)
 unfolding parts_at
-parts_again h ws fits =
+parts_same h ws fits =
     rw (
       one_of_again kind_word kinds h.kind
           (decimal h.seats ∷ decimal h.conds ∷ object_word h.object ∷ decimal h.size ∷ ws) (kind_again h.kind),
@@ -127,13 +144,16 @@ parts_again h ws fits =
       heading_again h fits,
     ) refl
 
+pub parts_again : (v : ℕ) (h : Heading) (ws : List Word) → h.version ≡ v → IsHeading h → parts_at v (part_words h ++ ws) ≡ Ok (h, ws)
+parts_again v h ws is fits = subst (λ (n : ℕ). parts_at n (part_words h ++ ws) ≡ Ok (h, ws)) is (parts_same h ws fits)
+
 -- ---- the whole line
 
 abbrev at_parts : Heading × List Word → Taken Heading
 at_parts h = end_at h.1 >>= λ z. Ok (h.0, z.1)
 
 abbrev at_version : Unit {0} × List Word → Taken Heading
-at_version v = parts_at v.1 >>= at_parts
+at_version v = parts_at 1 v.1 >>= at_parts
 
 abbrev at_name : Unit {0} × List Word → Taken Heading
 at_name m = literal_at (codes "1") m.1 >>= at_version
@@ -143,18 +163,19 @@ unfolding header_at
 header_takes ws x e =
     let m = bind_ok (literal_at (codes "monk") ws) at_name x e in
     let v = bind_ok (literal_at (codes "1") m.0.1) at_version x m.2 in
-    let h = bind_ok (parts_at v.0.1) at_parts x v.2 in
+    let h = bind_ok (parts_at 1 v.0.1) at_parts x v.2 in
     let n = bind_ok (end_at h.0.1) (λ z. Ok (h.0.0, z.1)) x h.2 in
     let name_is : ws ≡ codes "monk" ∷ m.0.1 = literal_takes (codes "monk") ws m.0 m.1 in
     let version_is : m.0.1 ≡ codes "1" ∷ v.0.1 = literal_takes (codes "1") m.0.1 v.0 v.1 in
-    let parts_are = parts_take v.0.1 h.0 h.1 in
+    let parts_are = parts_take 1 v.0.1 h.0 h.1 in
+    let written : codes "1" ≡ decimal h.0.0.version = sym (version_word h.0.0 parts_are.1) in
     let none : h.0.1 ≡ [] = (end_takes h.0.1 n.0 n.1).0 in
     let whole : ws ≡ header_words h.0.0 = name_is
     ∙ ap (λ (w : List Word). codes "monk" ∷ w)
-    (version_is ∙ ap (λ (w : List Word). codes "1" ∷ w)
+    (version_is ∙ ap (λ (w : Word). w ∷ v.0.1) written ∙ ap (λ (w : List Word). decimal h.0.0.version ∷ w)
     (parts_are.0 ∙ ap (λ (w : List Word). part_words h.0.0 ++ w) none)) in
     subst (λ (y : Heading × List Word). (ws ≡ header_words y.0) × IsHeading y.0) (ok_is (h.0.0, n.0.1) x n.2) (whole, parts_are.1)
 
 pub header_again : (h : Heading) → IsHeading h → header_at (header_words h) ≡ Ok (h, [])
 unfolding header_at
-header_again h fits = rw (parts_again h [] fits) refl
+header_again h fits = rw (version_word h fits, parts_again 1 h [] (one_version h fits) fits) refl

@@ -66,6 +66,7 @@ object_is_word Shop = refl
 pub header_are_words : (h : Heading) → IsHeading h → AreWords (header_words h)
 header_are_words h fits =
     rw (
+      decimal_word h.version (omega (arith, fits.version)),
       kind_is_word h.kind,
       decimal_word h.seats (omega (arith, fits.seats)),
       decimal_word h.conds (omega (arith, fits.conds)),

@@ -1,6 +1,6 @@
 -- The acts of a history, and what they mean where the monitor guards a buffer, a book or a shop: what a reader of the history sees of
 -- the object, in the words of `monk_object`
-use Rattle.std.specs.Prelude.{◌≡◌, ℕ, ◌+◌, ◌≤◌, ◌==◌, ◌⊎◌, List, [], ◌∷◌, ◌++◌, length, map, if◌then◌else◌}
+use Rattle.std.specs.Prelude.{◌≡◌, ℕ, ◌+◌, ◌≤◌, ◌==◌, ◌⊎◌, List, [], ◌∷◌, ◌++◌, length, map, if◌then◌else◌, option_to_list}
 use Rattle.std.specs.List.{flat_map}
 use Rattle.monk_object.specs.Book.{START_READ, END_READ, START_WRITE, END_WRITE}
 use Rattle.monk_object.specs.Shop.{SIT, CALL, FINISH, DEPART}
@@ -8,19 +8,12 @@ use Rattle.monk_object.specs.Laws.{items_put, items_taken}
 use Rattle.monk_object.specs.Runs.{Answered, answers_of, state_after, times_done}
 use Rattle.monk_object.specs.declared.op.Op.{Op}
 use Rattle.monk_history.specs.declared.event.Event.{Event}
-use Rattle.monk_history.specs.declared.event.Event.TheVariants.{Enter, Act, Leave, Wait, Signal, SignalLeave, Until, Resume}
+use Rattle.monk_history.specs.Meaning.Events.{acted}
 use Rattle.monk_history.specs.Meaning.Monitor.{Monitor, data_of}
 
 -- the act of an event, with the reply that the history has
 abbrev pub act_of : Event → List Answered
-act_of (Enter s via) = []
-act_of (Act s op r) = record { op = op; reply = r } ∷ []
-act_of (Leave s x) = []
-act_of (Wait s c x) = []
-act_of (Signal s c x) = []
-act_of (SignalLeave s c x) = []
-act_of (Until s p x) = []
-act_of (Resume s q) = []
+act_of e = option_to_list (acted e)
 
 -- the acts of all seats, in order
 abbrev pub acts_in : List Event → List Answered

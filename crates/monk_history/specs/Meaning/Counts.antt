@@ -1,8 +1,7 @@
 -- What is counted of a history seat by seat
-use Rattle.std.specs.Prelude.{ℕ, ◌-◌, ◌==◌, Bool, true, false, Option, Some, None, List, filter, length, count_by}
-use Rattle.monk_history.specs.Meaning.Events.{seat_of, next_of}
+use Rattle.std.specs.Prelude.{ℕ, ◌-◌, ◌==◌, Bool, false, Option, Some, None, List, filter, length, count_by, is_some}
+use Rattle.monk_history.specs.Meaning.Events.{seat_of, next_of, entered}
 use Rattle.monk_history.specs.declared.event.Event.{Event}
-use Rattle.monk_history.specs.declared.event.Event.TheVariants.{Enter, Act, Leave, Wait, Signal, SignalLeave, Until, Resume}
 use Rattle.monk_history.specs.declared.event.Next.{Next}
 use Rattle.monk_history.specs.declared.event.Next.TheVariants.{Stay, Entry, Waiter, Signaller, Until as UntilSeat}
 
@@ -15,14 +14,7 @@ abbrev pub left_of : ℕ → List Event → ℕ → ℕ
 left_of budget h s = budget - length (events_of h s)
 
 abbrev pub is_enter : Event → Bool
-is_enter (Enter s via) = true
-is_enter (Act s op r) = false
-is_enter (Leave s x) = false
-is_enter (Wait s c x) = false
-is_enter (Signal s c x) = false
-is_enter (SignalLeave s c x) = false
-is_enter (Until s p x) = false
-is_enter (Resume s q) = false
+is_enter e = is_some (entered e)
 
 -- how many enters there are
 unfoldable pub enters_of : List Event → ℕ

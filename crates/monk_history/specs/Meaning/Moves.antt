@@ -1,24 +1,16 @@
 -- What one event more makes of where seats stand, and of what is counted seat by seat
-use Rattle.std.specs.Prelude.{◌≡◌, ◌≢◌, ℕ, ◌+◌, ◌==◌, Bool, true, false, not, Some, List, [], ◌∷◌, ◌++◌, length, if◌then◌else◌}
-use Rattle.monk_history.specs.Meaning.Events.{seat_of, next_of, is_stay, is_way_out}
+use Rattle.std.specs.Prelude.{◌≡◌, ◌≢◌, ℕ, ◌+◌, ◌==◌, Bool, true, ◌&&◌, ◌||◌, not, List, [], ◌∷◌, ◌++◌, length, if◌then◌else◌, is_some}
+use Rattle.monk_history.specs.Meaning.Events.{seat_of, next_of, is_stay, is_way_out, waits_on, awaited, steps_back}
 use Rattle.monk_history.specs.Meaning.Monitor.{Monitor}
 use Rattle.monk_history.specs.Meaning.Situation.{Situation}
 use Rattle.monk_history.specs.Meaning.Turn.{turn, turn_by}
 use Rattle.monk_history.specs.Meaning.Counts.{events_of, is_enter, enters_of, grants, granted_of}
 use Rattle.monk_history.specs.Meaning.Standing.{in_queues, standing}
 use Rattle.monk_history.specs.declared.event.Event.{Event}
-use Rattle.monk_history.specs.declared.event.Event.TheVariants.{Enter, Act, Leave, Wait, Signal, SignalLeave, Until, Resume}
 
 -- whether an event puts its own seat into a queue: a wait, and a signal or an until that does not stay
 abbrev pub parks : Event → Bool
-parks (Enter s via) = false
-parks (Act s op r) = false
-parks (Leave s x) = false
-parks (Wait s c x) = true
-parks (Signal s c x) = not (is_stay (Some x))
-parks (SignalLeave s c x) = false
-parks (Until s p x) = not (is_stay (Some x))
-parks (Resume s q) = false
+parks e = is_some (waits_on e) || ((is_some (steps_back e) || is_some (awaited e)) && not (is_stay (next_of e)))
 
 -- where seats stand before an event, in the situation t, and after it, in u
 pub record StandsAfter (m : Monitor) (t : Situation) (e : Event) (u : Situation) : Type 0 where

@@ -30,26 +30,27 @@ fn header(words: &mut LineWords<'_>) -> Result<Header, Flaw>
 {
     words.literal(b"monk")?;
     words.literal(b"1")?;
-    let header = header_parts(words)?;
+    let header = header_parts(words, 1)?;
     words.end()?;
     Ok(header)
 }
 
-/// Takes the five words `KIND SEATS CONDS OBJECT SIZE`, which stand in the first line of each text that has a header, and
-/// leaves what follows.
+/// Takes the five words `KIND SEATS CONDS OBJECT SIZE`, which stand behind the version in the first line of each text that
+/// has a header, and leaves what follows.
 ///
 /// [`Flaw::Word`] where one of them is missing, is no name of a kind or of an object, or is a number outside the range of
-/// [`Header::new`]; [`Flaw::Number`] where it is no number from 0 to 255. Takes no memory.
+/// [`Header::new`], and where there is no such version (the only one is 1); [`Flaw::Number`] where it is no number from 0 to
+/// 255. Takes no memory.
 #[tactic(auto, unfolding(crate::specs::Text::Reading::parts_at))]
-pub fn header_parts(words: &mut LineWords<'_>) -> Result<Header, Flaw>
-    ensures { Reads result words.new (parts_at words.old) }
+pub fn header_parts(words: &mut LineWords<'_>, version: u8) -> Result<Header, Flaw>
+    ensures { Reads result words.new (parts_at version words.old) }
 {
     let kind = kind(words)?;
     let seats = words.byte()?;
     let conds = words.byte()?;
     let object = object(words)?;
     let size = words.byte()?;
-    Header::new(kind, seats, conds, object, size).ok_or(Flaw::Word)
+    Header::of_version(version, kind, seats, conds, object, size).ok_or(Flaw::Word)
 }
 
 #[tactic(auto, unfolding(crate::specs::Text::Words::one_of))]

@@ -37,6 +37,7 @@ pub head_are_words : (h : PlayHead) → HeadFits h → AreWords (head_words h)
 head_are_words h fits =
     let parts = fits.header_fits in
     rw (
+      decimal_word h.header.version (omega (arith, parts.version)),
       kind_is_word h.header.kind,
       decimal_word h.header.seats (omega (arith, parts.seats)),
       decimal_word h.header.conds (omega (arith, parts.conds)),

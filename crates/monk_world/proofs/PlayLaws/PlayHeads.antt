@@ -6,8 +6,8 @@ use Rattle.std.proofs.lemmas.Bool.{leb-true, le-leb}
 use Rattle.monk_history.specs.Text.{Heading, IsHeading, part_words}
 use Rattle.monk_history.specs.Text.Reading.{parts_at}
 use Rattle.monk_history.specs.Text.Words.{◌>>=◌, Word, Taken, number_at, with_rest, literal_at, end_at}
-use Rattle.monk_history.proofs.PublicLaws.Texts.{parts_take, parts_again, bind_ok, ok_is, number_takes, number_again}
-use Rattle.monk_history.proofs.PublicLaws.Texts.{literal_takes, end_takes}
+use Rattle.monk_history.proofs.PublicLaws.Texts.{one_version, version_word, parts_take, parts_again, bind_ok, ok_is}
+use Rattle.monk_history.proofs.PublicLaws.Texts.{number_takes, number_again, literal_takes, end_takes}
 use Rattle.monk_world.specs.declared.play.head.PlayHead.{PlayHead}
 use Rattle.monk_history.specs.Limits.{least_budget, most_budget}
 use Rattle.monk_world.specs.Play.{play_words}
@@ -37,7 +37,7 @@ abbrev at_parts : Heading × List Word → Taken PlayHead
 at_parts h = number_at most_budget h.1 >>= at_budget h.0
 
 abbrev at_version : Unit {0} × List Word → Taken PlayHead
-at_version v = parts_at v.1 >>= at_parts
+at_version v = parts_at 1 v.1 >>= at_parts
 
 abbrev at_name : Unit {0} × List Word → Taken PlayHead
 at_name p = literal_at (codes "1") p.1 >>= at_version
@@ -47,19 +47,20 @@ unfolding play_head_at
 head_takes ws x e =
     let p = bind_ok (literal_at (codes "play") ws) at_name x e in
     let v = bind_ok (literal_at (codes "1") p.0.1) at_version x p.2 in
-    let h = bind_ok (parts_at v.0.1) at_parts x v.2 in
+    let h = bind_ok (parts_at 1 v.0.1) at_parts x v.2 in
     let b = bind_ok (number_at most_budget h.0.1) (at_budget h.0.0) x h.2 in
     let n = bind_ok (end_at b.0.1) (at_end h.0.0 b.0.0) x b.2 in
     let name_is : ws ≡ codes "play" ∷ p.0.1 = literal_takes (codes "play") ws p.0 p.1 in
     let version_is : p.0.1 ≡ codes "1" ∷ v.0.1 = literal_takes (codes "1") p.0.1 v.0 v.1 in
-    let parts_are = parts_take v.0.1 h.0 h.1 in
+    let parts_are = parts_take 1 v.0.1 h.0 h.1 in
+    let written : codes "1" ≡ decimal h.0.0.version = sym (version_word h.0.0 parts_are.1) in
     let budget_is = number_takes most_budget h.0.1 b.0 b.1 in
     let none : b.0.1 ≡ [] = (end_takes b.0.1 n.0 n.1).0 in
     let made = head_made (nat_le least_budget b.0.0) (play_head h.0.0 b.0.0) n.0.1 x n.2 in
     let last : h.0.1 ≡ decimal b.0.0 ∷ [] = budget_is.0 ∙ ap (λ (w : List Word). decimal b.0.0 ∷ w) none in
     let whole : ws ≡ play_words h.0.0 b.0.0 = name_is
     ∙ ap (λ (w : List Word). codes "play" ∷ w)
-    (version_is ∙ ap (λ (w : List Word). codes "1" ∷ w)
+    (version_is ∙ ap (λ (w : Word). w ∷ v.0.1) written ∙ ap (λ (w : List Word). decimal h.0.0.version ∷ w)
     (parts_are.0 ∙ ap (λ (w : List Word). part_words h.0.0 ++ w) last)) in
     subst (λ (y : PlayHead × List Word). (ws ≡ head_words y.0) × HeadFits y.0) (sym made.1)
     (whole, record { header_fits = parts_are.1; some_budget = leb-true _ _ made.0; budget_fits = budget_is.1 })
@@ -71,7 +72,8 @@ pub head_again : (h : PlayHead) → HeadFits h → play_head_at (head_words h) �
 unfolding play_head_at
 head_again h fits =
     rw (
-      parts_again h.header (decimal h.budget ∷ []) fits.header_fits,
+      version_word h.header fits.header_fits,
+      parts_again 1 h.header (decimal h.budget ∷ []) (one_version h.header fits.header_fits) fits.header_fits,
       number_again most_budget h.budget [] (lit< tt) fits.budget_fits,
       head_whole h fits.some_budget,
     ) refl

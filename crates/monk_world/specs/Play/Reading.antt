@@ -90,7 +90,7 @@ unfoldable pub play_head_at : List Word → Taken PlayHead
 play_head_at ws = do
   p ← literal_at (codes "play") ws
   v ← literal_at (codes "1") p.1
-  h ← parts_at v.1
+  h ← parts_at 1 v.1
   b ← number_at most_budget h.1
   end ← end_at b.1
   with_rest end.1 (play_head_of h.0 b.0)

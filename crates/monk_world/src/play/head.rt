@@ -33,7 +33,7 @@ fn play_head(words: &mut LineWords<'_>) -> Result<PlayHead, Flaw>
 {
     words.literal(b"play")?;
     words.literal(b"1")?;
-    let header = header_parts(words)?;
+    let header = header_parts(words, 1)?;
     let budget = words.number(u64::from(MOST_BUDGET))? as u32;
     words.end()?;
     if budget < LEAST_BUDGET {

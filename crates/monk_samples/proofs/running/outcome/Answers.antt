@@ -14,7 +14,7 @@ pub returns : goal.returns
 returns g c =
     let named = g.K.Kind.are_named in
     let found = sym c.in-Some.is ∙ c.new.ensures
-    ∙ (λ i. read_heading (c.NAME.ensures i) c.args.rota.seats c.conds_of.result (c.object-object.ensures i) size) in
+    ∙ (λ i. read_heading 1 (c.NAME.ensures i) c.args.rota.seats c.conds_of.result (c.object-object.ensures i) size) in
     let conds = c.conds_of.ensures ∙ ap conds_of named in
     let header = header_is g.K.Kind.NAME c.args.rota.sample c.args.rota.seats c.conds_of.result c.in-Some.header found conds in
     outcome_of g.K.Kind.rules g.K.Kind.NAME c.args.rota.sample c.args.rota.seats c.args.rota.rounds c.in-Some.header
