@@ -1,6 +1,7 @@
 -- What a seat has done in its rounds
-use Rattle.std.proofs.Common.{◌≡◌, ℕ, zero, suc, ◌+◌, ◌*◌, ◌<◌, Bool, true, false, cond, ◌==◌, nat_lt, ◌&&◌, Option, Some, None, List, [], ◌∷◌, ◌++◌}
-use Rattle.std.proofs.Common.{refl, sym, ap, subst, ◌∙◌, arith}
+use Rattle.std.proofs.Common.{◌≡◌, ℕ, zero, suc, ◌+◌, ◌*◌, Bool, true, false, cond}
+use Rattle.std.proofs.Common.{◌==◌, nat_lt, ◌&&◌, Option, Some, None, List, [], ◌∷◌, ◌++◌}
+use Rattle.std.proofs.Common.{refl, sym, ap, ◌∙◌, arith}
 use Rattle.std.specs.List.{sum_by}
 use Rattle.std.proofs.lemmas.List.Sums.{sum_by-append, sum_by-cons}
 use Rattle.std.proofs.lemmas.Bool.{lt-ltb}
@@ -8,14 +9,14 @@ use Rattle.monk_kinds.specs.declared.mode.Rules.{Rules}
 use Rattle.monk_object.specs.Object.{Object}
 use Rattle.monk_object.specs.Runs.{Answered, is_done}
 use Rattle.monk_object.specs.declared.op.Op.{Op}
-use Rattle.monk_history.specs.Meaning.Acts.{act_of, acts_in}
+use Rattle.monk_history.specs.Meaning.Acts.{acts_in}
 use Rattle.monk_history.specs.declared.event.Event.{Event}
 use Rattle.monk_history.specs.declared.event.Event.TheVariants.{Enter, Act, Leave, Wait, Signal, SignalLeave, Until, Resume}
 use Rattle.monk_hall.specs.Tokens.{Token}
 use Rattle.monk_hall.specs.declared.setting.Setting.{Setting}
 use Rattle.monk_samples.specs.Rounds.{rounds_to}
 use Rattle.monk_samples.specs.Trails.{Addition, HasCalled, after, calls_in, events_in, outside}
-use Rattle.monk_samples.specs.Visits.{Plan, Wanted, AreVisits, IsVisit, IsCertain, IsAct}
+use Rattle.monk_samples.specs.Visits.{Plan, Wanted, AreVisits, IsVisit, IsCertain}
 use Rattle.monk_samples.specs.declared.end.End.TheVariants.{Done}
 use Rattle.monk_samples.proofs.VisitLaws.{acts_append, calls_acts, calls_out_acts, paused_acts}
 

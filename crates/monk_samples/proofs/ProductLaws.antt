@@ -1,6 +1,6 @@
 -- The totals of a run are those of its seats and rounds
-use Rattle.std.proofs.Common.{◌≡◌, ℕ, zero, suc, ◌+◌, ◌-◌, ◌*◌, ◌/◌, ◌≤◌, Bool, true, false, cond, nat_lt, nat_eq, List, [], ◌∷◌, ◌++◌, length}
-use Rattle.std.proofs.Common.{refl, sym, ap, subst, ◌∙◌, arith, append-nil}
+use Rattle.std.proofs.Common.{◌≡◌, ℕ, suc, ◌+◌, ◌-◌, ◌*◌, ◌/◌, ◌≤◌, Bool, true, false, cond, List, [], ◌∷◌, ◌++◌, length}
+use Rattle.std.proofs.Common.{refl, sym, ap, ◌∙◌, arith, append-nil}
 use Rattle.std.specs.List.{sum_by, sum, count_by}
 use Rattle.std.specs.Prelude.{All, map, filter}
 use Rattle.std.proofs.lemmas.List.Sums.{sum_by-cons}
@@ -11,21 +11,20 @@ use Rattle.monk_object.specs.Buffer.{buffer_meaning, PUT, TAKE}
 use Rattle.monk_object.specs.Laws.{items_put, items_taken}
 use Rattle.monk_object.specs.Object.{Object}
 use Rattle.monk_object.specs.Runs.{Answered, is_done, times_done}
-use Rattle.monk_object.specs.Shop.{shop_meaning, SIT, CALL, FINISH, DEPART}
-use Rattle.monk_object.specs.declared.op.Op.{Op}
-use Rattle.monk_history.specs.Meaning.Acts.{IsInOrder, ServesEachOne, acts_in}
+use Rattle.monk_object.specs.Shop.{shop_meaning, SIT, CALL, DEPART}
+use Rattle.monk_history.specs.Meaning.Acts.{IsInOrder, acts_in}
 use Rattle.monk_history.specs.Meaning.Counts.{events_of}
 use Rattle.monk_history.specs.declared.event.Event.{Event}
 use Rattle.monk_hall.specs.Records.{opening_records}
 use Rattle.monk_hall.specs.Tokens.{House, Token, tokens}
 use Rattle.monk_hall.specs.declared.setting.Setting.{Setting}
 use Rattle.monk_samples.specs.Ends.{HaveServed}
-use Rattle.monk_samples.specs.Rounds.{HasServed, rounds_of}
+use Rattle.monk_samples.specs.Rounds.{HasServed}
 use Rattle.monk_samples.specs.declared.end.End.TheVariants.{Done}
 use Rattle.monk_samples.specs.declared.sample.Sample.{Sample}
 use Rattle.monk_samples.specs.declared.sample.Sample.TheVariants.{Buffer, Book, Shop}
 use Rattle.monk_samples.proofs.DoneLaws.{worth, sum_to}
-use Rattle.monk_samples.proofs.SeatSums.{over, first_half, second_half, first_items, calls_all, visits_all, sum_is}
+use Rattle.monk_samples.proofs.SeatSums.{over, first_half, second_half, first_items, calls_all, visits_all}
 use Rattle.monk_samples.proofs.ShareLaws.{once, item, puts_of, takes_of, items_of, reads_of, writes_of, calls_of, sits_of, departs_of}
 use Rattle.monk_samples.proofs.WholeLaws.{Knows, acts_worth, by_seats, shares}
 
@@ -45,7 +44,8 @@ counted : {X Y : Type 0} (p : X → Bool) (f : X → Y) (xs : List X) → length
 counted p f [] = refl
 counted p f (x ∷ xs) = by (counted p f xs) (p x) ∙ sym (sum_by-cons (λ y. cond (p y) 1 0) x xs)
   where
-    by : length (map f (filter p xs)) ≡ count_by p xs → (b : Bool) → length (map f (cond b (x ∷ filter p xs) (filter p xs))) ≡ cond b 1 0 + count_by p xs
+    by : length (map f (filter p xs)) ≡ count_by p xs → (b : Bool)
+        → length (map f (cond b (x ∷ filter p xs) (filter p xs))) ≡ cond b 1 0 + count_by p xs
     by same true = ap suc same ∙ omega arith
     by same false = same ∙ omega arith
 

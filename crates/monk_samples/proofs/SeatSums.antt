@@ -3,7 +3,7 @@ use Rattle.std.proofs.Common.{◌≡◌, ℕ, zero, suc, ◌+◌, ◌-◌, ◌*�
 use Rattle.std.proofs.Common.{refl, sym, ap, ◌∙◌, arith}
 use Rattle.std.proofs.lemmas.Bool.{eqb-true, lt-ltb, ltb-true}
 use Rattle.monk_samples.specs.Rounds.{rounds_of}
-use Rattle.monk_samples.specs.declared.sample.Sample.TheVariants.{Buffer, Book, Shop}
+use Rattle.monk_samples.specs.declared.sample.Sample.TheVariants.{Buffer, Shop}
 use Rattle.monk_samples.proofs.DoneLaws.{sum_to}
 
 -- over n seats from seat i on
@@ -14,7 +14,8 @@ over f (suc n) i = f i + over f n (suc i)
 over_same : (f : ℕ → ℕ) (n i x : ℕ) → ((s : ℕ) → i ≤ s → s < i + n → f s ≡ x) → over f n i ≡ n * x
 over_same f zero i x same = omega arith
 over_same f (suc n) i x same =
-    (λ j. same i (omega arith) (omega arith) j + over_same f n (suc i) x (λ s low high. same s (omega (arith, low)) (omega (arith, high))) j)
+    (λ j. same i (omega arith) (omega arith) j
+    + over_same f n (suc i) x (λ s low high. same s (omega (arith, low)) (omega (arith, high))) j)
     ∙ omega arith
 
 none_before : (x : ℕ) → 0 + x ≡ x

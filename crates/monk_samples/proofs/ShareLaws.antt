@@ -1,5 +1,5 @@
 -- What each seat of a run is worth to its totals
-use Rattle.std.proofs.Common.{◌≡◌, ℕ, zero, suc, ◌+◌, ◌-◌, ◌*◌, ◌/◌, ◌<◌, ◌≤◌, Bool, true, false, cond, nat_lt, nat_eq, List, [], ◌∷◌}
+use Rattle.std.proofs.Common.{◌≡◌, ℕ, ◌*◌, ◌/◌, Bool, true, false, cond, nat_lt, nat_eq, List, [], ◌∷◌}
 use Rattle.std.proofs.Common.{refl, sym, ap, subst, ◌∙◌, arith}
 use Rattle.std.specs.List.{sum_by}
 use Rattle.monk_kinds.specs.declared.mode.Rules.{Rules}
@@ -10,7 +10,6 @@ use Rattle.monk_object.specs.Shop.{SIT, CALL, DEPART}
 use Rattle.monk_object.specs.declared.op.Op.{Op}
 use Rattle.monk_history.specs.Meaning.Acts.{acts_in}
 use Rattle.monk_hall.specs.Tokens.{Token}
-use Rattle.monk_hall.specs.declared.setting.Setting.{Setting}
 use Rattle.monk_samples.specs.Members.{puts, takes, begins_to_read, ends_to_read, begins_to_write, ends_to_write}
 use Rattle.monk_samples.specs.Members.{sits, departs, calls, finishes}
 use Rattle.monk_samples.specs.Rounds.{HasServed, round_of, rounds_of, rounds_to}
