@@ -11,3 +11,4 @@ pub mod Faults
 pub mod Crews
 pub mod Ends
 pub mod Runs
+pub mod Wholes

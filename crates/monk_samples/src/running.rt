@@ -21,7 +21,7 @@ use crate::sample::Sample;
 use crate::style::Style;
 use crate::totals::totals_of;
 use monk_floor::MakeFault;
-use monk_hall::{Busy, Hall, Pass, close};
+use monk_hall::{Busy, Hall, Pass, close, complete, meet};
 use monk_history::{Event, Header};
 use monk_kinds::{Kind, Mode, Pick, rules_of};
 use monk_object::{Book, Buffer, Guarded, ObjectFault, Shop};
@@ -101,7 +101,7 @@ fn run_buffer<K: Style, R: Threads + Wait + Sync, G: Gate>(
     };
     let (hall, passes) = open::<K, Buffer>(alloc, buffer, rota)?;
     let passes = work_buffer(rt, alloc, &hall, passes, gate, rota)?;
-    close_by(rt, hall, passes)
+    close_by(rt, alloc, hall, passes)
 }
 
 /// The history of a run over a book.
@@ -122,7 +122,7 @@ fn run_book<K: Style, R: Threads + Wait + Sync, G: Gate>(
     };
     let (hall, passes) = open::<K, Book>(alloc, book, rota)?;
     let passes = work_book(rt, alloc, &hall, passes, gate, rota)?;
-    close_by(rt, hall, passes)
+    close_by(rt, alloc, hall, passes)
 }
 
 /// The history of a run over a shop.
@@ -143,7 +143,7 @@ fn run_shop<K: Style, R: Threads + Wait + Sync, G: Gate>(
     };
     let (hall, passes) = open::<K, Shop>(alloc, shop, rota)?;
     let passes = work_shop(rt, alloc, &hall, passes, gate, rota)?;
-    close_by(rt, hall, passes)
+    close_by(rt, alloc, hall, passes)
 }
 
 /// A hall for the run, with all its passes.
@@ -178,27 +178,60 @@ fn conds_of<K: Kind>() -> u8
     }
 }
 
-/// The first seat comes in once more and closes the hall, and its history is given out.
+/// The first of these passes, and the others in order, each of which has told it what its seat has seen.
+fn meet_all<K: Kind, T: Guarded>(
+    alloc: Global,
+    hall: &Hall<K, T>,
+    passes: Vec<Pass<K, T>>,
+) -> Result<(Pass<K, T>, Vec<Pass<K, T>>), CrewFault>
+    requires of { All (IsOf hall.now) passes.items }
+    requires some { 0 < length passes.items }
+    ensures same { IfOk result (λ r. AreSame passes.items (r.0 ∷ r.1.items)) }
+    ensures seen { IfOk result (λ r. All (λ p. StartsWith r.0.me.seen p.me.seen) r.1.items) }
+    ensures fault { IfErr result (λ e. e ≡ crew.Memory) }
+{
+    let mut others = Vec::with_capacity(alloc, passes.len())?;
+    let mut passes = passes.into_iter();
+    let Some(mut first) = passes.next() else {
+        unreachable!();
+    };
+    for pass in passes {
+        let mut pass = pass;
+        meet(hall, &mut first, &mut pass);
+        others.push(pass)?;
+    }
+    Ok((first, others))
+}
+
+/// The first seat comes in once more and closes the hall, and its history is given out where it holds what these seats
+/// did and nothing else.
 fn close_by<K: Kind, T: Guarded, R: Wait>(
     rt: &R,
+    alloc: Global,
     hall: Hall<K, T>,
     passes: Vec<Pass<K, T>>,
 ) -> Result<Vec<Event>, CrewFault>
     requires of { All (IsOf hall) passes.items }
     requires some { 0 < length passes.items }
+    requires apart { AllPairs (λ p q. p.me.seat ≢ q.me.seat) passes.items }
     ensures closed { IfOk result (λ v. IsClosed K.rules T.meaning hall.setting v.items) }
-    ensures fault { IfErr result (λ e. ((e ≡ crew.Busy) × (IsFirstSpent passes.items → ⊥))
+    ensures whole { IfOk result (λ v. HoldsOperationsOf v.items passes.items) }
+    ensures fault { IfErr result (λ e. (e ≡ crew.Memory) ⊎ ((e ≡ crew.Busy) × (IsFirstSpent passes.items → ⊥))
         ⊎ ((e ≡ crew.Tired) × IsFirstSpent passes.items)) }
 {
-    let Some(first) = passes.into_iter().next() else {
-        unreachable!();
-    };
+    let (first, others) = meet_all(alloc, &hall, passes)?;
     if first.left() < 2 {
         return Err(CrewFault::Tired);
     }
+    let seat = first.seat();
     let active = first.arrive(&hall).resume(rt, &hall);
     match close(hall, active) {
-        Ok(closed) => Ok(closed.history),
+        Ok(closed) => {
+            if !complete(&closed.history, seat, &others) {
+                return Err(CrewFault::Busy);
+            }
+            Ok(closed.history)
+        }
         Err(Busy { hall, active }) => {
             active.leave(&hall, Pick::Waiter);
             Err(CrewFault::Busy)
