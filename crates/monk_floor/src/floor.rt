@@ -108,12 +108,13 @@ impl<K: Kind, T: Guarded> Floor<K, T> {
         budget: u32,
     ) -> Result<Floor<K, T>, AllocError>
         requires seats { seats ≤ MOST_SEATS }
+        requires conds { conds ≤ MOST_CONDS }
         requires budget { budget ≤ MOST_BUDGET }
         ensures { IfOk result (λ f. f ≡ empty_floor (T.state object) seats conds budget) }
     {
         let opening = Snapshot::of(&object);
         let history = Vec::with_capacity(alloc, seats as usize * budget as usize)?;
-        let ledger = Ledger::make(alloc, seats, conds)?;
+        let ledger = Ledger::make(alloc, seats)?;
         Ok(Floor {
             object,
             opening,
@@ -150,7 +151,7 @@ impl<K: Kind, T: Guarded> Floor<K, T> {
         let fronts = Fronts {
             waiter: self.ledger.queues.front_waiter(event),
             signaller: self.ledger.queues.front_signaller(event),
-            ready: first_ready(&self.object, self.ledger.queues.untils()),
+            ready: first_ready(&self.object, &self.ledger.queues),
         };
         fronts.choose(rules_of::<K>(), event.seat(), entry_known, pick)
     }
@@ -229,7 +230,7 @@ impl<K: Kind, T: Guarded> Floor<K, T> {
         requires { cond < self.now.conds }
         ensures { result ≡ length (condition cond self.now.history) }
     {
-        self.ledger.queues.waiting(cond)
+        self.ledger.queues.waiting(cond) as u32
     }
 
     /// How many events chose a seat from a queue. A stay is none.

@@ -85,7 +85,7 @@ impl<K: Kind, T: Guarded> Floor<K, T> {
             return Next::Stay;
         }
         let rules = rules_of::<K>();
-        let front = first_ready(&self.object, self.ledger.queues.untils());
+        let front = first_ready(&self.object, &self.ledger.queues);
         single_choice(
             From3::Until,
             rules.waiter <= rules.entry,
