@@ -1,5 +1,5 @@
 -- The queues of a floor as plain lists, and what one event makes of them
-use Rattle.std.specs.Prelude.{◌≡◌, ℕ, ◌+◌, map, Bool, false, not, List, ◌++◌, length, drop, filter, slice_index_or, if◌then◌else◌}
+use Rattle.std.specs.Prelude.{◌≡◌, ℕ, ◌+◌, map, Bool, false, not, Option, Some, None, List, ◌++◌, length, drop, filter, slice_index_or, if◌then◌else◌}
 use Rattle.monk_history.specs.QueueAt.{seats_at}
 use Rattle.monk_history.specs.Limits.{most_conds}
 use Rattle.monk_history.specs.Meaning.Standing.{times, times_in_conditions}
@@ -10,6 +10,8 @@ use Rattle.monk_history.specs.Meaning.Signallers.{is_empty, signals, takes_signa
 use Rattle.monk_history.specs.Meaning.Untils.{chooses, waits_until}
 use Rattle.monk_history.specs.declared.event.Event.{Event}
 use Rattle.monk_history.specs.declared.event.Event.TheVariants.{Enter, Act, Leave, Wait, Signal, SignalLeave, Until, Resume}
+use Rattle.monk_history.specs.declared.event.Next.{Next}
+use Rattle.monk_history.specs.declared.event.Next.TheVariants.{Stay, Entry, Waiter, Signaller, Until as UntilSeat}
 
 pub record QueueLists : Type 0 where
   pub conditions : List (List ℕ)
@@ -25,12 +27,30 @@ queue_at = seats_at (λ q. q)
 abbrev pub waits_in : List ℕ → List ℕ → List (ℕ × ℕ)
 waits_in predicates seats = map (λ s. (s, slice_index_or predicates s 0)) seats
 
+-- the lists of the queues by their numbers: waiters, signallers, waits-until, and then the conditions
+abbrev pub lists_of : List ℕ → List (List ℕ) → QueueLists
+lists_of predicates queues = record {
+  conditions = drop 3 queues;
+  waiters = queue_at queues 0;
+  signallers = queue_at queues 1;
+  untils = waits_in predicates (queue_at queues 2);
+}
+
 abbrev pub times_in_waits : ℕ → List (ℕ × ℕ) → ℕ
 times_in_waits s untils = times s (map (λ w. w.0) untils)
 
 -- in how many of the queues a seat stands
 abbrev pub in_lists : ℕ → QueueLists → ℕ
 in_lists s q = times_in_conditions most_conds s (queue_at q.conditions) + times s q.waiters + times s q.signallers + times_in_waits s q.untils
+
+-- the seat of the waits-until that was chosen
+abbrev pub chosen_until : Option Next → Option ℕ
+chosen_until None = None
+chosen_until (Some Stay) = None
+chosen_until (Some Entry) = None
+chosen_until (Some (Waiter j)) = None
+chosen_until (Some (Signaller j)) = None
+chosen_until (Some (UntilSeat j)) = Some j
 
 -- what an event itself joins and serves
 pub record IsServed (old : QueueLists) (e : Event) (new : QueueLists) : Type 0 where

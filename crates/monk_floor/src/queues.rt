@@ -31,17 +31,11 @@ pub struct Queues {
 }
 
 impl Model for Queues {
-    ghost use Rattle.std.specs.Prelude.{drop};
-    ghost use Rattle.monk_floor.specs.Queues.{QueueLists, queue_at, waits_in};
+    ghost use Rattle.monk_floor.specs.Queues.{QueueLists, lists_of};
 
     ghost Value = { QueueLists };
 
-    ghost view = { λ q. record {
-      conditions = drop 3 q.links;
-      waiters = queue_at q.links 0;
-      signallers = queue_at q.links 1;
-      untils = waits_in q.predicates (queue_at q.links 2);
-    } };
+    ghost view = { λ q. lists_of q.predicates q.links };
 }
 
 impl Queues {
@@ -178,7 +172,7 @@ impl Queues {
         ensures signallers { self.new.signallers ≡ self.old.signallers }
         ensures untils { self.new.untils ≡ filter (λ w. not (chooses event w)) self.old.untils }
     {
-        if let Some(Next::Until(seat)) = event.choice() {
+        if let Some(seat) = chosen_until(event) {
             self.links.remove(UNTILS, seat);
         }
     }
@@ -200,10 +194,11 @@ impl Queues {
                 }
             }
             Event::SignalLeave(_, cond, _) => self.links.pass(condition(cond), WAITERS),
-            Event::Until(_, _, Next::Stay) => {}
-            Event::Until(seat, pred, _) => {
-                self.predicates[seat as usize] = pred;
-                self.links.push(UNTILS, seat);
+            Event::Until(seat, pred, next) => {
+                if !is_stay(next) {
+                    self.predicates[seat as usize] = pred;
+                    self.links.push(UNTILS, seat);
+                }
             }
             Event::Enter(..) | Event::Act(..) | Event::Leave(..) | Event::Resume(..) => {}
         }
@@ -216,13 +211,37 @@ impl Queues {
         ensures signallers { self.new.signallers ≡ drop (if takes_front none event then 1 else 0) self.old.signallers }
         ensures untils { self.new.untils ≡ self.old.untils }
     {
-        if let Some(Next::Waiter(_)) = event.choice() {
+        if takes_waiter(event) {
             self.links.pop(WAITERS);
         }
         if takes_front(event, none) {
             self.links.pop(SIGNALLERS);
         }
     }
+}
+
+/// The seat of the waits-until that an event chose.
+fn chosen_until(event: Event) -> Option<u8>
+    ensures { result ≡ lists.chosen_until (events.next_of event) }
+{
+    match event.choice() {
+        Some(Next::Until(seat)) => Some(seat),
+        _ => None,
+    }
+}
+
+/// Whether a choice is to stay.
+fn is_stay(next: Next) -> bool
+    ensures { result ≡ events.is_stay (Some next) }
+{
+    matches!(next, Next::Stay)
+}
+
+/// Whether an event takes the front of the waiter queue.
+fn takes_waiter(event: Event) -> bool
+    ensures { result ≡ events.is_waiter (events.next_of event) }
+{
+    matches!(event.choice(), Some(Next::Waiter(_)))
 }
 
 /// Whether an event takes the front of the signaller queue: it chose it, or stays in a served signal.
