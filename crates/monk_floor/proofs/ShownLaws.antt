@@ -1,22 +1,20 @@
 -- What the links show of the queues of a floor, before a change and after it
-use Rattle.std.proofs.Common.{◌≡◌, ℕ, zero, suc, ◌<◌, ◌≤◌, ◌+◌, ◌==◌, Bool, true, false, cond, not, Option, Some, None, List, [], ◌∷◌, ◌++◌, map}
+use Rattle.std.proofs.Common.{◌≡◌, ◌≢◌, ℕ, zero, suc, ◌<◌, ◌+◌, ◌==◌, Bool, true, false, cond, not, Option, Some, None, List, [], ◌∷◌, ◌++◌, map}
 use Rattle.std.proofs.Common.{length, drop, take, filter, refl, sym, ap, subst, ◌∙◌, arith, append-nil, eq-eqb, get_or, get_or-set_same, get_or-set_other, ⊎_elim}
 use Rattle.std.proofs.lemmas.Bool.{cases_eq}
-use Rattle.std.specs.Prelude.{slice_get, slice_set}
+use Rattle.std.specs.Prelude.{slice_set}
 use Rattle.monk_history.specs.Meaning.Events.{next_of, is_until, is_stay}
-use Rattle.monk_history.specs.Meaning.Conditions.{served_by, waiting_by}
 use Rattle.monk_history.specs.Meaning.Signallers.{is_empty}
 use Rattle.monk_history.specs.Meaning.Standing.{times, times_in_conditions}
-use Rattle.monk_history.specs.Meaning.Untils.{chooses, waits_until}
+use Rattle.monk_history.specs.Meaning.Untils.{chooses}
 use Rattle.monk_history.specs.declared.event.Event.{Event}
 use Rattle.monk_history.specs.declared.event.Event.TheVariants.{Wait, Signal, SignalLeave, Until}
 use Rattle.monk_history.specs.declared.event.Next.{Next}
 use Rattle.monk_history.specs.declared.event.Next.TheVariants.{Stay, Entry, Waiter, Signaller, Until as UntilSeat}
-use Rattle.monk_floor.specs.Links.{places}
+use Rattle.monk_floor.specs.Links.{places, without}
 use Rattle.monk_floor.specs.Queues.{queue_at, lists_of, waits_in, times_in_waits, in_lists, chosen_until, IsServed}
-use Rattle.monk_floor.proofs.WalkLaws.{other, rest}
-use Rattle.monk_floor.proofs.LinkLaws.{times_le}
-use Rattle.monk_floor.proofs.MiddleLaws.{without}
+use Rattle.monk_floor.proofs.LinkLaws.Walks.{other, rest}
+use Rattle.monk_floor.proofs.LinkLaws.Chains.{times_le}
 
 -- the conditions are behind the three other queues
 three_more : (c : ℕ) → suc (suc (suc c)) ≡ 3 + c
@@ -81,10 +79,10 @@ no_wait_left e us h = all (next_of e) us h
         kept (Some (UntilSeat j)) h = absurd (cc)
 
 pub wait_left : (e : Event) (s : ℕ) (p : List ℕ) (qs rs : List (List ℕ)) → Some s ≡ chosen_until (next_of e)
-    → ((c : ℕ) → queue_at rs c ≡ cond (2 == c) (without s (queue_at qs c)) (queue_at qs c))
+    → queue_at rs 2 ≡ without s (queue_at qs 2)
     → waits_in p (queue_at rs 2) ≡ filter (λ w. not (chooses e w)) (waits_in p (queue_at qs 2))
 wait_left e s p qs rs h r =
-    ap (waits_in p) (r 2)
+    ap (waits_in p) r
     ∙ sym (filtered p (queue_at qs 2) (λ w. not (chooses e w)) (λ x. not (s == x)) (λ x. ap not (chosen (next_of e) x h)))
   where
     chosen : (o : Option Next) (x : ℕ) → Some s ≡ chosen_until o → is_until x o ≡ s == x
@@ -99,11 +97,10 @@ wait_left e s p qs rs h r =
 not_condition : (n c : ℕ) → n < 3 → ◌≡◌ {A = Bool} (n == 3 + c) false
 not_condition n c l = grind (arith, l)
 
-pub others_left : (s : ℕ) (qs rs : List (List ℕ)) → ((c : ℕ) → queue_at rs c ≡ cond (2 == c) (without s (queue_at qs c)) (queue_at qs c))
+pub others_left : (qs rs : List (List ℕ)) → ((c : ℕ) → 2 ≢ c → queue_at rs c ≡ queue_at qs c)
     → (c : ℕ) → queue_at (drop 3 rs) c ≡ queue_at (drop 3 qs) c
-others_left s qs rs r c =
-    condition_at rs c ∙ (r (3 + c)
-    ∙ (ap (λ b. cond b (without s (queue_at qs (3 + c))) (queue_at qs (3 + c))) (not_condition 2 c (omega arith)) ∙ sym (condition_at qs c)))
+others_left qs rs r c =
+    condition_at rs c ∙ (r (3 + c) (λ e. absurd (omega (arith, e))) ∙ sym (condition_at qs c))
 
 pub none_shown : (qs : List (List ℕ)) → ((c : ℕ) → queue_at qs c ≡ []) → (c : ℕ) → queue_at (drop 3 qs) c ≡ []
 none_shown qs h c = condition_at qs c ∙ h (3 + c)

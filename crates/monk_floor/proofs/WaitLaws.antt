@@ -1,11 +1,11 @@
 -- The waits-until, one after another
-use Rattle.std.proofs.Common.{◌≡◌, ℕ, zero, suc, ◌<◌, ◌≤◌, ◌+◌, ◌==◌, Bool, true, false, cond, Option, Some, None, List, [], ◌∷◌, map, All}
+use Rattle.std.proofs.Common.{◌≡◌, ℕ, zero, suc, ◌<◌, ◌≤◌, ◌+◌, ◌==◌, true, false, cond, Option, Some, None, List, [], ◌∷◌, map, All}
 use Rattle.std.proofs.Common.{length, drop, filter, refl, sym, ap, subst, ◌∙◌, arith, eq-eqb, get_or, add-one}
 use Rattle.std.specs.Prelude.{slice_get}
 use Rattle.monk_object.specs.Object.{Object}
 use Rattle.monk_history.specs.Meaning.Standing.{times}
 use Rattle.monk_history.specs.Meaning.Untils.{ready_of}
-use Rattle.monk_floor.specs.Queues.{queue_at, lists_of, waits_in, times_in_waits}
+use Rattle.monk_floor.specs.Queues.{waits_in, times_in_waits}
 use Rattle.monk_floor.proofs.ShownLaws.{seats_back}
 
 pub times_back : (s : ℕ) (p xs : List ℕ) → times_in_waits s (waits_in p xs) ≡ times s xs
@@ -75,6 +75,7 @@ wait_all P us i w h a =
     inside [] i h = absurd (cc)
     inside (u ∷ us) zero h = omega arith
     inside (u ∷ us) (suc i) h = omega (arith, inside us i h)
+
     here : (us : List (ℕ × ℕ)) (i : ℕ) → slice_get us i ≡ Some w → (d : ℕ × ℕ) → get_or us i d ≡ w
     here [] i h d = absurd (cc)
     here (u ∷ us) zero h d = same_some u w h

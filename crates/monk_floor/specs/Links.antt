@@ -1,5 +1,6 @@
 -- Queues of seats, each linked from seat to seat
-use Rattle.std.specs.Prelude.{◌≡◌, ℕ, zero, suc, ◌≤◌, ◌==◌, nat_lt, Option, Some, None, List, [], ◌∷◌, length, slice_index_or, if◌then◌else◌}
+use Rattle.std.specs.Prelude.{◌≡◌, ℕ, zero, suc, ◌≤◌, ◌==◌, nat_lt, not, Option, Some, None, if◌then◌else◌}
+use Rattle.std.specs.Prelude.{List, [], ◌∷◌, length, filter, slice_index_or}
 use Rattle.monk_history.specs.Limits.{most_seats}
 use Rattle.monk_history.specs.Meaning.Standing.{times_in_conditions}
 use Rattle.monk_floor.specs.declared.chain.Chain.{Chain}
@@ -36,6 +37,10 @@ abbrev pub EndsWith : List ℕ → ℕ → Type 0
 EndsWith [] l = Unit {0}
 EndsWith (x ∷ []) l = x ≡ l
 EndsWith (x ∷ y ∷ ys) l = EndsWith (y ∷ ys) l
+
+-- the seats without one of them
+abbrev pub without : ℕ → List ℕ → List ℕ
+without s xs = filter (λ x. not (s == x)) xs
 
 -- the seat in front of a seat
 abbrev pub seat_before : ℕ → List ℕ → Option ℕ

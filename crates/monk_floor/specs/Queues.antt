@@ -1,5 +1,6 @@
 -- The queues of a floor as plain lists, and what one event makes of them
-use Rattle.std.specs.Prelude.{◌≡◌, ℕ, ◌+◌, map, Bool, false, not, Option, Some, None, List, ◌++◌, length, drop, filter, slice_index_or, if◌then◌else◌}
+use Rattle.std.specs.Prelude.{◌≡◌, ℕ, ◌+◌, Bool, false, not, Option, Some, None, if◌then◌else◌}
+use Rattle.std.specs.Prelude.{List, ◌++◌, map, length, drop, filter, slice_index_or}
 use Rattle.monk_history.specs.QueueAt.{seats_at}
 use Rattle.monk_history.specs.Limits.{most_conds}
 use Rattle.monk_history.specs.Meaning.Standing.{times, times_in_conditions}
@@ -41,7 +42,9 @@ times_in_waits s untils = times s (map (λ w. w.0) untils)
 
 -- in how many of the queues a seat stands
 abbrev pub in_lists : ℕ → QueueLists → ℕ
-in_lists s q = times_in_conditions most_conds s (queue_at q.conditions) + times s q.waiters + times s q.signallers + times_in_waits s q.untils
+in_lists s q =
+    times_in_conditions most_conds s (queue_at q.conditions) + times s q.waiters + times s q.signallers
+    + times_in_waits s q.untils
 
 -- the seat of the waits-until that was chosen
 abbrev pub chosen_until : Option Next → Option ℕ

@@ -1,8 +1,8 @@
-ghost use Rattle.std.specs.Prelude.{◌≡◌, ◌≢◌, ℕ, ◌<◌, ◌≤◌, ◌+◌, ◌==◌, Some, [], ◌∷◌, ◌++◌, drop, take, filter, not, length};
+ghost use Rattle.std.specs.Prelude.{◌≡◌, ◌≢◌, ℕ, ◌<◌, ◌≤◌, ◌+◌, ◌==◌, Some, [], ◌∷◌, ◌++◌, drop, take, length};
 ghost use Rattle.std.specs.Prelude.{slice_get, IfSome, if◌then◌else◌};
 ghost use Rattle.monk_history.specs.Meaning.Signallers.{is_empty};
 ghost use Rattle.monk_history.specs.Meaning.Standing.{times};
-ghost use Rattle.monk_floor.specs.Links.{places, seat_before};
+ghost use Rattle.monk_floor.specs.Links.{places, without, seat_before};
 ghost use Rattle.monk_floor.specs.Queues.{queue_at};
 
 use crate::chain::Chain;
@@ -82,7 +82,8 @@ impl Links {
     pub fn after(&self, queue: u8, seat: u8) -> Option<u8>
         requires queue { queue < QUEUES }
         requires there { 1 ≤ times seat (queue_at self.now queue) }
-        ensures next { (i : ℕ) → slice_get (queue_at self.now queue) i ≡ Some seat → result ≡ slice_get (queue_at self.now queue) (i + 1) }
+        ensures next { (i : ℕ) → slice_get (queue_at self.now queue) i ≡ Some seat
+            → result ≡ slice_get (queue_at self.now queue) (i + 1) }
         ensures seat { IfSome result (λ s. s < MOST_SEATS) }
     {
         if self.chains[queue as usize].last == seat {
@@ -152,7 +153,8 @@ impl Links {
     /// Takes a seat out of a queue, wherever it stands in it, if it does. Costs the seats before it.
     pub fn remove(&mut self, queue: u8, seat: u8)
         requires { queue < QUEUES }
-        ensures { (c : ℕ) → queue_at self.new c ≡ (if queue == c then filter (λ s. not (seat == s)) (queue_at self.old c) else queue_at self.old c) }
+        ensures removed { queue_at self.new queue ≡ without seat (queue_at self.old queue) }
+        ensures others { (c : ℕ) → queue ≢ c → queue_at self.new c ≡ queue_at self.old c }
     {
         if self.front(queue) == Some(seat) {
             self.pop(queue);
@@ -182,7 +184,8 @@ impl Links {
     fn unlink(&mut self, queue: u8, before: u8, seat: u8)
         requires queue { queue < QUEUES }
         requires before { seat_before seat (queue_at self.old queue) ≡ Some before }
-        ensures { (c : ℕ) → queue_at self.new c ≡ (if queue == c then filter (λ s. not (seat == s)) (queue_at self.old c) else queue_at self.old c) }
+        ensures removed { queue_at self.new queue ≡ without seat (queue_at self.old queue) }
+        ensures others { (c : ℕ) → queue ≢ c → queue_at self.new c ≡ queue_at self.old c }
     {
         let chain = self.chains[queue as usize];
         self.next[before as usize] = self.next[seat as usize];

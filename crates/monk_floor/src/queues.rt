@@ -1,7 +1,7 @@
 ghost use Rattle.std.specs.Prelude.{◌≡◌, ℕ, ◌<◌, ◌≤◌, ◌+◌, Some, [], ◌++◌, drop, filter, not, true};
 ghost use Rattle.std.specs.Prelude.{slice_get, length, if◌then◌else◌};
 ghost use Rattle.monk_history.specs.Meaning.Signallers.{is_empty, takes_front};
-ghost use Rattle.monk_history.specs.Meaning.Untils.{chooses, waits_until};
+ghost use Rattle.monk_history.specs.Meaning.Untils.{chooses};
 ghost use Rattle.monk_history.specs.Meaning.Events as events;
 ghost use Rattle.monk_floor.specs.Queues as lists;
 
@@ -11,7 +11,9 @@ use std::marker::Model;
 
 // the numbers of the queues; the condition variables follow
 const WAITERS: u8 = 0;
+
 const SIGNALLERS: u8 = 1;
+
 const UNTILS: u8 = 2;
 
 /// The number of a condition variable's queue.

@@ -1,4 +1,4 @@
-use Rattle.std.proofs.Common.{◌≡◌, ◌≤◌, ◌<◌, ℕ, ◌∙◌, sym, refl, arith}
+use Rattle.std.proofs.Common.{◌<◌, ℕ, ◌∙◌, sym, refl, arith}
 use Rattle.monk_floor.proofs.WaitLaws.{wait_times, wait_all, ready_here, ready_later, ready_never, ready_past}
 use Rattle.monk_floor.proofs.choosing.first_ready.Goals as goal
 

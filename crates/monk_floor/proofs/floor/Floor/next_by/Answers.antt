@@ -1,6 +1,3 @@
-use Rattle.std.proofs.Common.{◌∙◌, ap}
-use Rattle.std.specs.Prelude.{slice_get}
-use Rattle.monk_history.specs.Meaning.Untils.{ready_of}
 use Rattle.monk_floor.proofs.ChoiceLaws.{kept_next}
 use Rattle.monk_floor.proofs.PathLaws.{stay_here, chosen_here}
 use Rattle.monk_floor.proofs.floor.Floor.next_by.Goals as goal

@@ -1,4 +1,4 @@
-use Rattle.monk_floor.proofs.AfterLaws.{seat_below, nobody_behind, linked_behind, behind_below}
+use Rattle.monk_floor.proofs.LinkLaws.Behind.{seat_below, nobody_behind, linked_behind, behind_below}
 use Rattle.monk_floor.proofs.links.Links.after.Goals as goal
 
 pub bounds-self-inside-seat : goal.bounds-self-inside-seat

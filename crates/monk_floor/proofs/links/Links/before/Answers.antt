@@ -1,4 +1,4 @@
-use Rattle.monk_floor.proofs.SearchLaws.{left_first, before_is_seat, left_next, found, not_found}
+use Rattle.monk_floor.proofs.LinkLaws.Searching.{left_first, before_is_seat, left_next, found, not_found}
 use Rattle.monk_floor.proofs.links.Links.before.Goals as goal
 
 pub loop-init : goal.loop-init

@@ -1,4 +1,4 @@
-use Rattle.monk_floor.proofs.TakeLaws.{no_front, front_is, front_in_range}
+use Rattle.monk_floor.proofs.LinkLaws.Taking.{no_front, front_is, front_in_range}
 use Rattle.monk_floor.proofs.links.Links.front.Goals as goal
 
 pub returns-then-chain-eq0-clause-front : goal.returns-then-chain-eq0-clause-front

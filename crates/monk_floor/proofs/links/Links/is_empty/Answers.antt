@@ -1,8 +1,8 @@
 use Rattle.std.proofs.Common.{◌∙◌, sym, ap}
 use Rattle.monk_history.specs.Meaning.Signallers.{is_empty}
 use Rattle.monk_floor.specs.Links.{chain_at}
-use Rattle.monk_floor.proofs.LinkLaws.{queue_is}
-use Rattle.monk_floor.proofs.TakeLaws.{nobody}
+use Rattle.monk_floor.proofs.LinkLaws.Chains.{queue_is}
+use Rattle.monk_floor.proofs.LinkLaws.Taking.{nobody}
 use Rattle.monk_floor.proofs.links.Links.is_empty.Goals as goal
 
 pub returns : goal.returns

@@ -1,4 +1,4 @@
-use Rattle.monk_floor.proofs.LinkLaws.{length_is}
+use Rattle.monk_floor.proofs.LinkLaws.Chains.{length_is}
 use Rattle.monk_floor.proofs.links.Links.len.Goals as goal
 
 pub returns : goal.returns

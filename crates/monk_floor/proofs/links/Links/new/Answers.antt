@@ -1,4 +1,4 @@
-use Rattle.monk_floor.proofs.EmptyLaws.{empty_linked, empty_shown}
+use Rattle.monk_floor.proofs.LinkLaws.Empty.{empty_linked, empty_shown}
 use Rattle.monk_floor.proofs.links.Links.new.Goals as goal
 
 pub invariant_of-result : goal.invariant_of-result

@@ -1,6 +1,6 @@
 use Rattle.std.proofs.Common.{arith}
-use Rattle.monk_floor.proofs.JoinLaws.{first_linked, first_seen, behind_linked, behind_seen, last_is_seat, seen_none}
-use Rattle.monk_floor.proofs.LinkLaws.{few}
+use Rattle.monk_floor.proofs.LinkLaws.Joining.{first_linked, first_seen, behind_linked, behind_seen, last_is_seat, seen_none}
+use Rattle.monk_floor.proofs.LinkLaws.Chains.{few}
 use Rattle.monk_floor.proofs.links.Links.push.Goals as goal
 
 pub bounds-self-inside-chain : goal.bounds-self-inside-chain

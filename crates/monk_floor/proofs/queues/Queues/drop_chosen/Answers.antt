@@ -6,13 +6,13 @@ use Rattle.monk_floor.proofs.queues.Queues.drop_chosen.Goals as goal
 
 pub returns-in-Some-clause-conditions : goal.returns-in-Some-clause-conditions
 returns-in-Some-clause-conditions c d =
-    others_left c.in-Some.seat c.self.inside.links c.remove.new.self c.remove.ensures d
+    others_left c.self.inside.links c.remove.new.self c.remove.ensures.others d
     ∙ ap (λ q. queue_at q.conditions d) c.self.view_is
 
 pub returns-in-Some-clause-untils : goal.returns-in-Some-clause-untils
 returns-in-Some-clause-untils c =
     wait_left c.args.event c.in-Some.seat c.self.inside.predicates c.self.inside.links c.remove.new.self c.in-Some.ensures
-    c.remove.ensures
+    c.remove.ensures.removed
     ∙ ap (λ q. filter (λ w. not (chooses c.args.event w)) q.untils) c.self.view_is
 
 pub returns-in_default-clause-untils : goal.returns-in_default-clause-untils

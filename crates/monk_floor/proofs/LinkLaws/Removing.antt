@@ -1,18 +1,17 @@
 -- A seat is looked for in a queue, and taken out of it
-use Rattle.std.proofs.Common.{◌≡◌, ◌≢◌, ℕ, zero, suc, ◌<◌, ◌≤◌, ◌+◌, ◌-◌, ◌==◌, Bool, true, false, cond, not, Option, Some, None, List, [], ◌∷◌, map}
-use Rattle.std.proofs.Common.{length, drop, filter, refl, sym, ap, subst, ◌∙◌, arith, eq-eqb, eqb-true, get_or, add-one}
-use Rattle.std.specs.Prelude.{slice_set, slice_get, nat_lt, nat_eq, IfSome}
+use Rattle.std.proofs.Common.{◌≡◌, ◌≢◌, ℕ, zero, suc, ◌<◌, ◌≤◌, ◌-◌, ◌==◌, Bool, true, false, cond, Option, Some, None, List, [], ◌∷◌, map}
+use Rattle.std.proofs.Common.{length, drop, refl, sym, ap, subst, ◌∙◌, arith, eq-eqb, eqb-true, get_or}
+use Rattle.std.specs.Prelude.{slice_set, slice_get, nat_eq, IfSome}
 use Rattle.std.specs.Option.{option_eq}
 use Rattle.monk_history.specs.Limits.{most_seats}
 use Rattle.monk_history.specs.Meaning.Standing.{times}
 use Rattle.monk_floor.specs.declared.chain.Chain.{Chain}
-use Rattle.monk_floor.specs.Links.{most_queues, walk, seats_of, chain_at, queue_in, places, EndsWith, seat_before, IsLinked}
+use Rattle.monk_floor.specs.Links.{most_queues, walk, seats_of, chain_at, queue_in, places, EndsWith, without, seat_before, IsLinked}
 use Rattle.monk_floor.specs.Queues.{queue_at}
-use Rattle.monk_floor.proofs.WalkLaws.{walk-set}
-use Rattle.monk_floor.proofs.LinkLaws.{queue_is, linked_again, seen_again, apart, at_most_once, in_range, times_le}
-use Rattle.monk_floor.proofs.MiddleLaws.{without, skips, times_none, times_without, later_before, before_there, seat_there}
-use Rattle.monk_floor.proofs.MiddleLaws.{absent, walk-unlink, ends_without}
-use Rattle.monk_floor.proofs.JoinLaws.{some_more}
+use Rattle.monk_floor.proofs.LinkLaws.Walks.{walk-set}
+use Rattle.monk_floor.proofs.LinkLaws.Chains.{queue_is, linked_again, seen_again, apart, at_most_once, in_range, times_le}
+use Rattle.monk_floor.proofs.LinkLaws.Middles.{skips, times_none, times_without, before_there, seat_there}
+use Rattle.monk_floor.proofs.LinkLaws.Middles.{absent, walk-unlink, ends_without}
 
 when : (b : Bool) (xs ys : List ℕ) → (b ≡ true → ⊥) → cond b xs ys ≡ ys
 when true xs ys h = absurd (h refl)
@@ -72,13 +71,22 @@ module _ (next : List ℕ) (chains : List Chain) (k : IsLinked next chains) (a s
       (times_without s x (queue_in next chains a)) in
       omega (arith, less, k.once x))
 
-  pub unlinked_seen : length next ≡ most_seats → (last c : ℕ)
+  seen : length next ≡ most_seats → (last c : ℕ)
       → queue_at (map (seats_of links) (slice_set chains a (chain last))) c ≡ cond (a == c) (without s (queue_at v c)) (queue_at v c)
-  unlinked_seen x last =
+  seen x last =
       seen_again k v e links a (chain last) l others_stay (λ c. cond (a == c) (without s (queue_at v c)) (queue_at v c))
       (ap (λ z. cond z (without s (queue_at v a)) (queue_at v a)) (eq-eqb a a refl)
       ∙ (ap (without s) (queue_is next chains v e a) ∙ sym (unlinked x last)))
       (λ c d. when (a == c) (without s (queue_at v c)) (queue_at v c) (λ z. d (eqb-true a c z)))
+
+  pub unlinked_here : length next ≡ most_seats → (last : ℕ)
+      → queue_at (map (seats_of links) (slice_set chains a (chain last))) a ≡ without s (queue_at v a)
+  unlinked_here x last = seen x last a ∙ ap (λ z. cond z (without s (queue_at v a)) (queue_at v a)) (eq-eqb a a refl)
+
+  pub unlinked_others : length next ≡ most_seats → (last c : ℕ) → a ≢ c
+      → queue_at (map (seats_of links) (slice_set chains a (chain last))) c ≡ queue_at v c
+  unlinked_others x last c d =
+      seen x last c ∙ when (a == c) (without s (queue_at v c)) (queue_at v c) (λ z. d (eqb-true a c z))
 
 -- where the seat is the front
 front_taken : (s : ℕ) (xs ys : List ℕ) → true ≡ option_eq nat_eq (slice_get xs 0) (Some s) → ys ≡ drop 1 xs → times s ys ≡ 0
@@ -94,35 +102,27 @@ some_is (Some x) s P h p = subst P (eqb-true x s (sym h)) p
 
 pub removed_front : (a s : ℕ) (v w : List (List ℕ)) (r : Option ℕ) → a < most_queues → r ≡ slice_get (queue_at v a) 0
     → true ≡ option_eq nat_eq r (Some s) → ((c : ℕ) → queue_at w c ≡ drop (cond (a == c) 1 0) (queue_at v c))
-    → IfSome r (λ x. places x (queue_at w) ≡ 0)
-    → (c : ℕ) → queue_at w c ≡ cond (a == c) (without s (queue_at v c)) (queue_at v c)
-removed_front a s v w r l e h m p c = both (a == c) (λ z. eqb-true a c z) (m c)
+    → IfSome r (λ x. places x (queue_at w) ≡ 0) → queue_at w a ≡ without s (queue_at v a)
+removed_front a s v w r l e h m p =
+    let none = some_is r s (λ x. places x (queue_at w) ≡ 0) h p in
+    let few = times_le a s (queue_at w) l in
+    front_taken s (queue_at v a) (queue_at w a) (h ∙ ap (λ o. option_eq nat_eq o (Some s)) e)
+    (m a ∙ ap (λ z. drop (cond z 1 0) (queue_at v a)) (eq-eqb a a refl)) (omega (arith, few, none))
+
+pub others_stay_here : (a : ℕ) (v w : List (List ℕ)) → ((c : ℕ) → queue_at w c ≡ drop (cond (a == c) 1 0) (queue_at v c))
+    → (c : ℕ) → a ≢ c → queue_at w c ≡ queue_at v c
+others_stay_here a v w m c d = m c ∙ none_dropped (a == c) (queue_at v c) (λ z. d (eqb-true a c z))
   where
-    n : places s (queue_at w) ≡ 0
-    n = some_is r s (λ x. places x (queue_at w) ≡ 0) h p
-    both : (z : Bool) → (z ≡ true → a ≡ c) → queue_at w c ≡ drop (cond z 1 0) (queue_at v c)
-        → queue_at w c ≡ cond z (without s (queue_at v c)) (queue_at v c)
-    both true f d =
-        let here = f refl in
-        front_taken s (queue_at v c) (queue_at w c)
-        (h ∙ ap (λ o. option_eq nat_eq o (Some s)) (e ∙ ap (λ x. slice_get (queue_at v x) 0) here)) d
-        (let low = times_le c s (queue_at w) (omega (arith, l, here)) in omega (arith, low, n))
-    both false f d = d
+    none_dropped : (z : Bool) (xs : List ℕ) → (z ≡ true → ⊥) → drop (cond z 1 0) xs ≡ xs
+    none_dropped true xs h = absurd (h refl)
+    none_dropped false xs h = refl
 
 -- and where it is not there
-not_there : (s : ℕ) (xs : List ℕ) → false ≡ option_eq nat_eq (slice_get xs 0) (Some s) → seat_before s xs ≡ None
-    → xs ≡ without s xs
-not_there s [] h n = refl
-not_there s (x ∷ xs) h n = sym (absent s x xs (λ e. absurd (let same : x == s ≡ true = eq-eqb x s e in cc)) n)
-
-pub removed_none : (a s : ℕ) (v : List (List ℕ)) (r : Option ℕ) → r ≡ slice_get (queue_at v a) 0
-    → false ≡ option_eq nat_eq r (Some s) → seat_before s (queue_at v a) ≡ None
-    → (c : ℕ) → queue_at v c ≡ cond (a == c) (without s (queue_at v c)) (queue_at v c)
-removed_none a s v r e h n c = both (a == c) (λ z. eqb-true a c z)
+pub not_there : (s : ℕ) (xs : List ℕ) (r : Option ℕ) → r ≡ slice_get xs 0 → false ≡ option_eq nat_eq r (Some s)
+    → seat_before s xs ≡ None → xs ≡ without s xs
+not_there s xs r e h n = nowhere s xs (h ∙ ap (λ o. option_eq nat_eq o (Some s)) e) n
   where
-    both : (z : Bool) → (z ≡ true → a ≡ c) → queue_at v c ≡ cond z (without s (queue_at v c)) (queue_at v c)
-    both true f =
-        not_there s (queue_at v c)
-        (h ∙ ap (λ o. option_eq nat_eq o (Some s)) (e ∙ ap (λ x. slice_get (queue_at v x) 0) (f refl)))
-        (ap (λ x. seat_before s (queue_at v x)) (sym (f refl)) ∙ n)
-    both false f = refl
+    nowhere : (s : ℕ) (xs : List ℕ) → false ≡ option_eq nat_eq (slice_get xs 0) (Some s) → seat_before s xs ≡ None
+        → xs ≡ without s xs
+    nowhere s [] h n = refl
+    nowhere s (x ∷ xs) h n = sym (absent s x xs (λ e. absurd (let same : x == s ≡ true = eq-eqb x s e in cc)) n)

@@ -7,8 +7,8 @@ use Rattle.monk_history.specs.Meaning.Standing.{times}
 use Rattle.monk_floor.specs.declared.chain.Chain.{Chain}
 use Rattle.monk_floor.specs.Links.{most_queues, walk, seats_of, chain_at, queue_in, places, EndsWith, IsLinked}
 use Rattle.monk_floor.specs.Queues.{queue_at}
-use Rattle.monk_floor.proofs.WalkLaws.{walk-set, walk-push, ends_push}
-use Rattle.monk_floor.proofs.LinkLaws.{queue_is, linked_again, seen_again, apart, last_there, at_most_once, last_in_range}
+use Rattle.monk_floor.proofs.LinkLaws.Walks.{walk-set, walk-push, ends_push}
+use Rattle.monk_floor.proofs.LinkLaws.Chains.{queue_is, linked_again, seen_again, apart, last_there, at_most_once, last_in_range}
 
 pub some_more : (n : ℕ) → (n ≡ 0 → ⊥) → n ≡ suc (n - 1)
 some_more zero h = absurd (h refl)

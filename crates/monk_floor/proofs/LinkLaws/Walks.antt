@@ -1,9 +1,9 @@
 -- A walk from link to link, where a link has changed
-use Rattle.std.proofs.Common.{◌≡◌, ◌≢◌, ℕ, zero, suc, ◌<◌, ◌≤◌, ◌+◌, ◌-◌, ◌==◌, Bool, true, false, cond, not, Option, Some, None, List, [], ◌∷◌, ◌++◌}
-use Rattle.std.proofs.Common.{length, drop, filter, refl, sym, ap, subst, ◌∙◌, arith, eq-eqb, eqb-true, get_or, get_or-set_same, get_or-set_other}
-use Rattle.std.specs.Prelude.{slice_set, slice_get}
+use Rattle.std.proofs.Common.{◌≡◌, ◌≢◌, ℕ, zero, suc, ◌<◌, ◌≤◌, ◌+◌, ◌==◌, cond, List, [], ◌∷◌, ◌++◌}
+use Rattle.std.proofs.Common.{length, drop, refl, ap, ◌∙◌, arith, eq-eqb, get_or, get_or-set_same, get_or-set_other}
+use Rattle.std.specs.Prelude.{slice_set}
 use Rattle.monk_history.specs.Meaning.Standing.{times}
-use Rattle.monk_floor.specs.Links.{walk, EndsWith, seat_before}
+use Rattle.monk_floor.specs.Links.{walk, EndsWith}
 
 -- a seat that does not stand in a list is not its front
 pub other : (x s n : ℕ) → cond (x == s) 1 0 + n ≡ 0 → x ≢ s

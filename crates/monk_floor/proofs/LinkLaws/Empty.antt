@@ -1,12 +1,10 @@
 -- Queues with nobody in them
-use Rattle.std.proofs.Common.{◌≡◌, ℕ, zero, suc, ◌≤◌, ◌+◌, cond, List, [], ◌∷◌, map, refl, sym, ap, subst, ◌∙◌, arith, length}
-use Rattle.std.specs.Prelude.{nat_lt}
-use Rattle.monk_history.specs.Limits.{most_seats}
+use Rattle.std.proofs.Common.{◌≡◌, ℕ, zero, suc, List, [], ◌∷◌, map, refl, sym, ap, subst, ◌∙◌, arith, length}
 use Rattle.monk_history.specs.Meaning.Standing.{times, times_in_conditions}
 use Rattle.monk_floor.specs.declared.chain.Chain.{Chain}
 use Rattle.monk_floor.specs.Links.{most_queues, walk, seats_of, empty_chain, chain_at, queue_in, places, EndsWith, IsLinked}
 use Rattle.monk_floor.specs.Queues.{queue_at}
-use Rattle.monk_floor.proofs.LinkLaws.{queue_is}
+use Rattle.monk_floor.proofs.LinkLaws.Chains.{queue_is}
 
 abbrev empty_chains : ℕ → List Chain
 empty_chains zero = []
