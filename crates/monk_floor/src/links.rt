@@ -40,11 +40,7 @@ impl Links {
     {
         Links {
             next: [0; MOST_SEATS as usize],
-            chains: [Chain {
-                first: 0,
-                last: 0,
-                length: 0,
-            }; QUEUES as usize],
+            chains: [Chain::EMPTY; QUEUES as usize],
         }
     }
 
@@ -102,11 +98,7 @@ impl Links {
     {
         let chain = self.chains[queue as usize];
         if chain.length == 0 {
-            self.chains[queue as usize] = Chain {
-                first: seat,
-                last: seat,
-                length: 1,
-            };
+            self.chains[queue as usize] = Chain::of(seat);
         } else {
             self.next[chain.last as usize] = seat;
             self.chains[queue as usize] = Chain {
@@ -129,12 +121,13 @@ impl Links {
         if chain.length == 0 {
             return None;
         }
+        let front = chain.first;
         self.chains[queue as usize] = Chain {
-            first: self.next[chain.first as usize],
+            first: self.next[front as usize],
             last: chain.last,
             length: chain.length - 1,
         };
-        Some(chain.first)
+        Some(front)
     }
 
     /// Takes the front of a queue, if there is one, to the back of another. Constant time.

@@ -1,6 +1,6 @@
 -- A seat is looked for in a list, and taken out of it
 use Rattle.std.proofs.Common.{◌≡◌, ◌≢◌, ℕ, zero, suc, ◌<◌, ◌≤◌, ◌+◌, ◌==◌, Bool, true, false, cond, not, Some, None, List, [], ◌∷◌}
-use Rattle.std.proofs.Common.{length, filter, refl, sym, ap, subst, ◌∙◌, arith, eq-eqb, eqb-true, get_or, get_or-set_same, get_or-set_other, ⊎_elim}
+use Rattle.std.proofs.Common.{length, refl, sym, ap, subst, ◌∙◌, arith, eq-eqb, eqb-true, get_or, get_or-set_same, get_or-set_other, ⊎_elim}
 use Rattle.std.specs.Prelude.{slice_set}
 use Rattle.std.proofs.lemmas.Bool.{cases_eq}
 use Rattle.monk_history.specs.Meaning.Standing.{times}

@@ -9,8 +9,8 @@ pub returns-then-chain-eq0-clause-rest : goal.returns-then-chain-eq0-clause-rest
 returns-then-chain-eq0-clause-rest c =
     taken_none c.self.inside.next c.self.inside.chains c.args.queue c.args.self.now c.self.view_is c.if-chain-eq0.true
 
-pub bounds-self-inside-chain : goal.bounds-self-inside-chain
-bounds-self-inside-chain c =
+pub bounds-self-inside-front : goal.bounds-self-inside-front
+bounds-self-inside-front c =
     front_in_range c.self.inside.next c.self.inside.chains c.args.queue c.self.invariant c.requires c.if-chain-eq0.false
 
 pub invariant_of-self : goal.invariant_of-self

@@ -30,4 +30,3 @@ pub returns-clause-others : goal.returns-clause-others
 returns-clause-others c =
     unlinked_others c.self.inside.next c.self.inside.chains c.self.invariant c.args.queue c.args.seat c.args.before
     c.requires.queue c.args.self.now c.self.view_is c.requires.before c.self.told c.last_without.result
-
