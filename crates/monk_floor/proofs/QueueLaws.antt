@@ -19,8 +19,7 @@ pub still_apart : (s : ℕ) (old left : QueueLists) (p : ℕ × ℕ → Bool) �
     → in_lists s left ≡ 0
 still_apart s old left p c w g u h =
     let same : queue_at left.conditions ≡ queue_at old.conditions = λ i x. c x i in
-    let conditions : times_in_conditions most_conds s (queue_at left.conditions) ≡ times_in_conditions most_conds s (queue_at old.conditions) =
-    ap (times_in_conditions most_conds s) same in
+    let conditions = ap (times_in_conditions most_conds s) same in
     let fewer : times_in_waits s left.untils ≤ times_in_waits s old.untils =
     subst (λ us. times_in_waits s us ≤ times_in_waits s old.untils) (sym u) (times_fewer s p old.untils) in
     omega (arith, h, conditions, fewer, ap (times s) w, ap (times s) g)

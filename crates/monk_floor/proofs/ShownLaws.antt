@@ -1,6 +1,7 @@
 -- What the links show of the queues of a floor, before a change and after it
-use Rattle.std.proofs.Common.{◌≡◌, ◌≢◌, ℕ, zero, suc, ◌<◌, ◌+◌, ◌==◌, Bool, true, false, cond, not, Option, Some, None, List, [], ◌∷◌, ◌++◌, map}
-use Rattle.std.proofs.Common.{length, drop, take, filter, refl, sym, ap, subst, ◌∙◌, arith, append-nil, eq-eqb, get_or, get_or-set_same, get_or-set_other, ⊎_elim}
+use Rattle.std.proofs.Common.{◌≡◌, ◌≢◌, ℕ, zero, suc, ◌<◌, ◌+◌, ◌==◌, Bool, true, false, cond, not, Option, Some, None}
+use Rattle.std.proofs.Common.{List, [], ◌∷◌, ◌++◌, map, length, drop, take, filter, refl, sym, ap, subst, ◌∙◌, arith}
+use Rattle.std.proofs.Common.{append-nil, eq-eqb, get_or, get_or-set_same, get_or-set_other, ⊎_elim}
 use Rattle.std.proofs.lemmas.Bool.{cases_eq}
 use Rattle.std.specs.Prelude.{slice_set}
 use Rattle.monk_history.specs.Meaning.Events.{next_of, is_until, is_stay}
@@ -46,8 +47,7 @@ places_none s p qs h =
     ap (times_in_conditions 8 s) (λ i c. condition_at qs c i) in
     let waits : times_in_waits s (waits_in p (queue_at qs 2)) ≡ times s (queue_at qs 2) = ap (times s) (seats_back p (queue_at qs 2)) in
     let all = times_split 8 s (queue_at qs) in
-    all ∙ (let none : times_in_conditions 8 s (λ c. queue_at qs (3 + c)) + (times s (queue_at qs 0) + times s (queue_at qs 1) + times s (queue_at qs 2)) ≡ 0 =
-    omega (arith, h, same, waits) in none)
+    omega (arith, h, same, waits, all)
 
 pub filtered : (p xs : List ℕ) (f : ℕ × ℕ → Bool) (g : ℕ → Bool) → ((x : ℕ) → f (x, get_or p x 0) ≡ g x)
     → filter f (waits_in p xs) ≡ waits_in p (filter g xs)
@@ -129,24 +129,25 @@ served_one true [] = refl
 served_one true (x ∷ xs) = sym (append-nil xs)
 served_one false xs = sym (append-nil xs)
 
--- the front of a condition's queue goes to the waiter queue
-served_now : (qs : List (List ℕ)) (d c : ℕ) (rs : List (List ℕ)) → ((c : ℕ) → queue_at rs c ≡ drop (cond (3 + d == c) 1 0) (queue_at qs c)
-    ++ cond (0 == c) (take 1 (queue_at qs (3 + d))) []) → queue_at (drop 3 rs) c ≡ drop (cond (d == c) 1 0) (queue_at (drop 3 qs) c)
+-- the front of a condition's queue has gone to the waiter queue
+abbrev IsPassed : List (List ℕ) → ℕ → List (List ℕ) → Type 0
+IsPassed qs d rs = (c : ℕ)
+    → queue_at rs c ≡ drop (cond (3 + d == c) 1 0) (queue_at qs c) ++ cond (0 == c) (take 1 (queue_at qs (3 + d))) []
+
+served_now : (qs : List (List ℕ)) (d c : ℕ) (rs : List (List ℕ)) → IsPassed qs d rs → queue_at (drop 3 rs) c ≡ drop (cond (d == c) 1 0) (queue_at (drop 3 qs) c)
 served_now qs d c rs r =
     condition_at rs c ∙ (r (3 + c)
     ∙ ((λ j. drop (cond (same_condition d c j) 1 0) (sym (condition_at qs c) j)
     ++ cond (not_condition 0 c (omega arith) j) (take 1 (queue_at qs (3 + d))) [])
     ∙ append-nil (drop (cond (d == c) 1 0) (queue_at (drop 3 qs) c))))
 
-other_same : (qs : List (List ℕ)) (d n : ℕ) (rs : List (List ℕ)) → 0 < n → n < 3 → ((c : ℕ) → queue_at rs c ≡ drop (cond (3 + d == c) 1 0) (queue_at qs c)
-    ++ cond (0 == c) (take 1 (queue_at qs (3 + d))) []) → queue_at rs n ≡ queue_at qs n
+other_same : (qs : List (List ℕ)) (d n : ℕ) (rs : List (List ℕ)) → 0 < n → n < 3 → IsPassed qs d rs → queue_at rs n ≡ queue_at qs n
 other_same qs d n rs m l r =
     r n ∙ ((λ j. drop (cond (not_other n d l j) 1 0) (queue_at qs n)
     ++ cond (let later : ◌≡◌ {A = Bool} (0 == n) false = grind (arith, m) in later j) (take 1 (queue_at qs (3 + d))) [])
     ∙ append-nil (queue_at qs n))
 
-served_waiters : (qs : List (List ℕ)) (d : ℕ) (rs : List (List ℕ)) → ((c : ℕ) → queue_at rs c ≡ drop (cond (3 + d == c) 1 0) (queue_at qs c)
-    ++ cond (0 == c) (take 1 (queue_at qs (3 + d))) []) → queue_at rs 0 ≡ queue_at qs 0 ++ take 1 (queue_at (drop 3 qs) d)
+served_waiters : (qs : List (List ℕ)) (d : ℕ) (rs : List (List ℕ)) → IsPassed qs d rs → queue_at rs 0 ≡ queue_at qs 0 ++ take 1 (queue_at (drop 3 qs) d)
 served_waiters qs d rs r =
     r 0 ∙ (λ j. drop (cond (not_other 0 d (omega arith) j) 1 0) (queue_at qs 0) ++ take 1 (sym (condition_at qs d) j))
 
@@ -175,7 +176,8 @@ module _ (p : List ℕ) (qs : List (List ℕ)) (e : Event) where
             ∙ (λ j. sym (condition_at qs c) j ++ cond (same_condition d c j) (s ∷ []) []));
         waiters = there 0 ∙ ap (λ b. queue_at qs 0 ++ cond b (s ∷ []) []) (not_other 0 d (omega arith));
         signallers = there 1 ∙ ap (λ b. queue_at qs 1 ++ cond b (s ∷ []) []) (not_other 1 d (omega arith));
-        untils = ap (waits_in p) (there 2 ∙ (ap (λ b. queue_at qs 2 ++ cond b (s ∷ []) []) (not_other 2 d (omega arith)) ∙ append-nil (queue_at qs 2)))
+        untils = ap (waits_in p)
+            (there 2 ∙ (ap (λ b. queue_at qs 2 ++ cond b (s ∷ []) []) (not_other 2 d (omega arith)) ∙ append-nil (queue_at qs 2)))
             ∙ sym (append-nil (waits_in p (queue_at qs 2)));
       })
     where
@@ -193,7 +195,7 @@ module _ (p : List ℕ) (qs : List (List ℕ)) (e : Event) where
         untils = ap (waits_in p) (other_same qs d 2 rs (omega arith) (omega arith) there) ∙ sym (append-nil (waits_in p (queue_at qs 2)));
       })
     where
-      there : (c : ℕ) → queue_at rs c ≡ drop (cond (3 + d == c) 1 0) (queue_at qs c) ++ cond (0 == c) (take 1 (queue_at qs (3 + d))) []
+      there : IsPassed qs d rs
       there c = r c ∙ ap (λ y. drop (cond (y == c) 1 0) (queue_at qs c) ++ cond (0 == c) (take 1 (queue_at qs y)) []) h
 
   -- the signaller joins as well
@@ -215,7 +217,7 @@ module _ (p : List ℕ) (qs : List (List ℕ)) (e : Event) where
             ∙ sym (append-nil (waits_in p (queue_at qs 2)));
       })
     where
-      there : (c : ℕ) → queue_at rs c ≡ drop (cond (3 + d == c) 1 0) (queue_at ms c) ++ cond (0 == c) (take 1 (queue_at ms (3 + d))) []
+      there : IsPassed ms d rs
       there c = r c ∙ ap (λ y. drop (cond (y == c) 1 0) (queue_at ms c) ++ cond (0 == c) (take 1 (queue_at ms y)) []) h
 
   -- a seat waits until a predicate holds

@@ -113,8 +113,8 @@ module _ (next : List ℕ) (chains : List Chain) (a : ℕ) where
       let old : times s (queue_at v a) ≡ 1 + times s (new a) =
       let here : new a ≡ drop 1 (queue_at v a) = taken_seen k l v e z a ∙ ap (λ b. drop (cond b 1 0) (queue_at v a)) (eq-eqb a a refl) in
       times_first s (queue_at v a) (new a) (some_seen v e z) here in
-      let once : places s (queue_at v) ≤ 1 =
-      subst (λ q. places s q ≤ 1) (λ i c. sym (queue_is next chains v e c) i) (let o = k.once s in omega (arith, o, cond_le (nat_lt s most_seats))) in
+      let few : places s (queue_in next chains) ≤ 1 = let o = k.once s in omega (arith, o, cond_le (nat_lt s most_seats)) in
+      let once : places s (queue_at v) ≤ 1 = subst (λ q. places s q ≤ 1) (λ i c. sym (queue_is next chains v e c) i) few in
       omega (arith, one, old, once)
 
 -- whether there is a front, and who it is
