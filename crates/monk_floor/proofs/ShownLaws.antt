@@ -134,7 +134,8 @@ abbrev IsPassed : List (List ℕ) → ℕ → List (List ℕ) → Type 0
 IsPassed qs d rs = (c : ℕ)
     → queue_at rs c ≡ drop (cond (3 + d == c) 1 0) (queue_at qs c) ++ cond (0 == c) (take 1 (queue_at qs (3 + d))) []
 
-served_now : (qs : List (List ℕ)) (d c : ℕ) (rs : List (List ℕ)) → IsPassed qs d rs → queue_at (drop 3 rs) c ≡ drop (cond (d == c) 1 0) (queue_at (drop 3 qs) c)
+served_now : (qs : List (List ℕ)) (d c : ℕ) (rs : List (List ℕ)) → IsPassed qs d rs
+    → queue_at (drop 3 rs) c ≡ drop (cond (d == c) 1 0) (queue_at (drop 3 qs) c)
 served_now qs d c rs r =
     condition_at rs c ∙ (r (3 + c)
     ∙ ((λ j. drop (cond (same_condition d c j) 1 0) (sym (condition_at qs c) j)
@@ -147,7 +148,8 @@ other_same qs d n rs m l r =
     ++ cond (let later : ◌≡◌ {A = Bool} (0 == n) false = grind (arith, m) in later j) (take 1 (queue_at qs (3 + d))) [])
     ∙ append-nil (queue_at qs n))
 
-served_waiters : (qs : List (List ℕ)) (d : ℕ) (rs : List (List ℕ)) → IsPassed qs d rs → queue_at rs 0 ≡ queue_at qs 0 ++ take 1 (queue_at (drop 3 qs) d)
+served_waiters : (qs : List (List ℕ)) (d : ℕ) (rs : List (List ℕ)) → IsPassed qs d rs
+    → queue_at rs 0 ≡ queue_at qs 0 ++ take 1 (queue_at (drop 3 qs) d)
 served_waiters qs d rs r =
     r 0 ∙ (λ j. drop (cond (not_other 0 d (omega arith) j) 1 0) (queue_at qs 0) ++ take 1 (sym (condition_at qs d) j))
 
