@@ -134,7 +134,8 @@ abbrev IsPassed : List (List ℕ) → ℕ → List (List ℕ) → Type 0
 IsPassed qs d rs = (c : ℕ)
     → queue_at rs c ≡ drop (cond (3 + d == c) 1 0) (queue_at qs c) ++ cond (0 == c) (take 1 (queue_at qs (3 + d))) []
 
-served_now : (qs rs : List (List ℕ)) (d c : ℕ) → IsPassed qs d rs → queue_at (drop 3 rs) c ≡ drop (cond (d == c) 1 0) (queue_at (drop 3 qs) c)
+served_now : (qs rs : List (List ℕ)) (d c : ℕ) → IsPassed qs d rs
+    → queue_at (drop 3 rs) c ≡ drop (cond (d == c) 1 0) (queue_at (drop 3 qs) c)
 served_now qs rs d c r =
     condition_at rs c ∙ (r (3 + c)
     ∙ ((λ j. drop (cond (same_condition d c j) 1 0) (sym (condition_at qs c) j)
