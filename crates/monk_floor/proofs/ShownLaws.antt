@@ -134,9 +134,9 @@ abbrev IsPassed : List (List ℕ) → ℕ → List (List ℕ) → Type 0
 IsPassed qs d rs = (c : ℕ)
     → queue_at rs c ≡ drop (cond (3 + d == c) 1 0) (queue_at qs c) ++ cond (0 == c) (take 1 (queue_at qs (3 + d))) []
 
-served_now : (qs : List (List ℕ)) (d c : ℕ) (rs : List (List ℕ)) → IsPassed qs d rs
+served_now : (qs rs : List (List ℕ)) (d c : ℕ) → IsPassed qs d rs
     → queue_at (drop 3 rs) c ≡ drop (cond (d == c) 1 0) (queue_at (drop 3 qs) c)
-served_now qs d c rs r =
+served_now qs rs d c r =
     condition_at rs c ∙ (r (3 + c)
     ∙ ((λ j. drop (cond (same_condition d c j) 1 0) (sym (condition_at qs c) j)
     ++ cond (not_condition 0 c (omega arith) j) (take 1 (queue_at qs (3 + d))) [])
@@ -148,9 +148,8 @@ other_same qs d n rs m l r =
     ++ cond (let later : ◌≡◌ {A = Bool} (0 == n) false = grind (arith, m) in later j) (take 1 (queue_at qs (3 + d))) [])
     ∙ append-nil (queue_at qs n))
 
-served_waiters : (qs : List (List ℕ)) (d : ℕ) (rs : List (List ℕ)) → IsPassed qs d rs
-    → queue_at rs 0 ≡ queue_at qs 0 ++ take 1 (queue_at (drop 3 qs) d)
-served_waiters qs d rs r =
+served_waiters : (qs rs : List (List ℕ)) (d : ℕ) → IsPassed qs d rs → queue_at rs 0 ≡ queue_at qs 0 ++ take 1 (queue_at (drop 3 qs) d)
+served_waiters qs rs d r =
     r 0 ∙ (λ j. drop (cond (not_other 0 d (omega arith) j) 1 0) (queue_at qs 0) ++ take 1 (sym (condition_at qs d) j))
 
 -- a seat joins one of the other queues
@@ -191,8 +190,8 @@ module _ (p : List ℕ) (qs : List (List ℕ)) (e : Event) where
       → IsServed (lists_of p qs) e (lists_of p rs)
   leaving s d x at rs i h r =
       subst (λ y. IsServed (lists_of p qs) y (lists_of p rs)) (sym i) (record {
-        condition = λ c. served_now qs d c rs there ∙ served_one (d == c) (queue_at (drop 3 qs) c);
-        waiters = served_waiters qs d rs there;
+        condition = λ c. served_now qs rs d c there ∙ served_one (d == c) (queue_at (drop 3 qs) c);
+        waiters = served_waiters qs rs d there;
         signallers = other_same qs d 1 rs (omega arith) (omega arith) there ∙ sym (append-nil (queue_at qs 1));
         untils = ap (waits_in p) (other_same qs d 2 rs (omega arith) (omega arith) there) ∙ sym (append-nil (waits_in p (queue_at qs 2)));
       })
@@ -209,9 +208,9 @@ module _ (p : List ℕ) (qs : List (List ℕ)) (e : Event) where
   signalling s d x at ms rs i h some m r =
       let kept = others_kept 1 s qs ms (omega arith) m in
       subst (λ y. IsServed (lists_of p qs) y (lists_of p rs)) (sym i) (record {
-        condition = λ c. served_now ms d c rs there
+        condition = λ c. served_now ms rs d c there
             ∙ (ap (drop (cond (d == c) 1 0)) (kept c) ∙ served_one (d == c) (queue_at (drop 3 qs) c));
-        waiters = served_waiters ms d rs there
+        waiters = served_waiters ms rs d there
             ∙ (λ j. (m 0 ∙ append-nil (queue_at qs 0)) j ++ take 1 (kept d j));
         signallers = other_same ms d 1 rs (omega arith) (omega arith) there
             ∙ (m 1 ∙ ap (λ b. queue_at qs 1 ++ cond b [] (s ∷ [])) some);
