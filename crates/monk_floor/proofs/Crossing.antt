@@ -3,22 +3,21 @@ use denote.RattleType.{RattleType}
 use denote.Param.Send.{IsSend, sendable, view_send, struct_send, recorded_send, AllSend}
 use denote.Struct.Declared.{shape}
 use Rattle.std.proofs.Crossing.{crosses, Vec-send}
-use Rattle.circular_buffer.proofs.Crosses.{Cells-send, Deed-send}
 use Rattle.monk_kinds.specs.declared.kind.Kind as Kind
 use Rattle.monk_object.specs.declared.guarded.Guarded as Guarded
 use Rattle.std.specs.contracts.snapshot.Snapshot as Snapshot
 use Rattle.monk_history.specs.contracts.event.Event as Event
-use Rattle.monk_floor.specs.contracts.seat_queue.SeatQueue as SeatQueue
+use Rattle.monk_floor.specs.contracts.links.Links as Links
 use Rattle.monk_floor.specs.contracts.queues.Queues as Queues
 use Rattle.monk_floor.specs.contracts.ledger.Ledger as Ledger
 use Rattle.monk_floor.specs.contracts.floor.Floor as Floor
 use Rattle.monk_floor.specs.contracts.floor.Floor.TheInside as Inside
 
-seat_queue_send : IsSend SeatQueue.the_row
-seat_queue_send = search (sendable, crosses, Cells-send, Deed-send) depth 40
+links_send : IsSend Links.the_row
+links_send = search (sendable, crosses) depth 40
 
 queues_send : IsSend Queues.the_row
-queues_send = search (sendable, crosses, seat_queue_send) depth 40
+queues_send = search (sendable, crosses, links_send) depth 40
 
 ledger_send : IsSend (Ledger.the_field).row
 ledger_send = search (sendable, crosses, queues_send) depth 40

@@ -1,14 +1,14 @@
 -- What a floor keeps, before an event and after it
 use Rattle.std.proofs.Common.{◌≡◌, ℕ, ◌+◌, ◌-◌, ◌*◌, ◌<◌, ◌≤◌, zero, suc, Bool, true, false, cond, ◌&&◌, ◌||◌, not}
-use Rattle.std.proofs.Common.{◌==◌, All, List, [], ◌∷◌, ◌++◌, length, refl, sym, ap, subst, ◌∙◌, arith}
+use Rattle.std.proofs.Common.{◌==◌, All, List, [], ◌∷◌, ◌++◌, length, refl, sym, ap, subst, ◌∙◌, arith, Option, Some, None, drop, ⊎_elim}
 use Rattle.std.specs.Prelude.{nat_lt, slice_index_or}
 use Rattle.std.specs.List.{list_all}
-use Rattle.std.proofs.lemmas.Bool.{eqb-true}
+use Rattle.std.proofs.lemmas.Bool.{eqb-true, cases_lt}
 use Rattle.std.proofs.lemmas.List.Elements.{All-nil}
 use Rattle.monk_kinds.specs.declared.mode.Rules.{Rules}
 use Rattle.monk_kinds.specs.Kind.{IsKind}
 use Rattle.monk_object.specs.Object.{Object}
-use Rattle.monk_history.specs.Limits.{most_seats, most_budget}
+use Rattle.monk_history.specs.Limits.{most_seats, most_conds, most_budget}
 use Rattle.monk_history.specs.Meaning.Events.{seat_of, next_of, named_seat, waits_on, signals_on}
 use Rattle.monk_history.specs.Meaning.Monitor.{Monitor, data_after}
 use Rattle.monk_history.specs.Meaning.Situation.{situation}
@@ -27,10 +27,11 @@ use Rattle.monk_history.proofs.PublicLaws.Meaning.{and_left, and_right, legal-pu
 use Rattle.monk_history.proofs.PublicLaws.Meaning.{legal_situation-push, situation-none, length-events_of-push}
 use Rattle.monk_history.proofs.PublicLaws.Meaning.{granted_of-push, enters_of-push, granted_few, enters_few, granted_none}
 use Rattle.monk_history.proofs.PublicLaws.Meaning.{enters_none, few_events, room_left, history_few, IsInOrder, legal_order}
-use Rattle.monk_history.proofs.PublicLaws.Meaning.{HasRoom, room_for, caller_apart, seat_in_range, queued_once}
+use Rattle.monk_history.proofs.PublicLaws.Meaning.{seat_in_range}
 use Rattle.monk_history.proofs.PublicLaws.Meaning.{caller_unqueued, joins_in_range}
-use Rattle.monk_history.specs.Meaning.Standing.{in_queues}
-use Rattle.monk_floor.specs.Queues.{QueueLists, queue_at, HasPlaces, IsOrderly, IsMoved}
+use Rattle.monk_history.specs.Meaning.Conditions.{is_at, waiting_by, served_by}
+use Rattle.monk_history.specs.Meaning.Standing.{times, times_in_conditions, in_queues}
+use Rattle.monk_floor.specs.Queues.{QueueLists, queue_at, in_lists, IsMoved}
 use Rattle.monk_floor.specs.Kept.{shown_situation, KeepsHistory}
 use Rattle.monk_floor.specs.Ready.{HasRoomFor}
 
@@ -55,6 +56,38 @@ range_object : (m : Monitor) (e : Event) → is_in_range m.seats m.conds m.objec
     → fits_object m.object.codes m.object.predicates e ≡ true
 range_object m e h = and_right _ _ h
 
+-- a condition of fewer is one of more
+wider : (n m : ℕ) (o : Option ℕ) → n ≤ m → is_condition n o ≡ true → is_condition m o ≡ true
+wider n m None l h = refl
+wider n m (Some c) l h = grind (arith, l, h)
+
+-- nobody waits on a condition past the last
+nobody_waits : (n c : ℕ) (e : Event) → n ≤ c → is_condition n (waits_on e) ≡ true → waiting_by c e ≡ []
+nobody_waits n c e l h = ap (λ b. cond b (seat_of e ∷ []) []) (past (waits_on e) h)
+  where
+    past : (o : Option ℕ) → is_condition n o ≡ true → is_at c o ≡ false
+    past None h = refl
+    past (Some d) h = grind (arith, l, h)
+
+still_unused : (c : ℕ) (e : Event) (xs : List ℕ) → xs ≡ [] → waiting_by c e ≡ []
+    → drop (length (served_by c e xs)) xs ++ waiting_by c e ≡ []
+still_unused c e xs n w =
+    (λ i. drop (length (served_by c e xs)) (n i) ++ w i) ∙ none (length (served_by c e xs))
+  where
+    none : (n : ℕ) → ◌≡◌ {A = List ℕ} (drop n [] ++ []) []
+    none zero = refl
+    none (suc n) = refl
+
+-- in the conditions that there are not, nobody stands
+times_unused : (s n m : ℕ) (q : ℕ → List ℕ) → n ≤ m → ((c : ℕ) → n ≤ c → q c ≡ [])
+    → times_in_conditions m s q ≡ times_in_conditions n s q
+times_unused s n zero q l h = ap (λ k. times_in_conditions k s q) (let same : 0 ≡ n = omega (arith, l) in same)
+times_unused s n (suc m) q l h =
+    ⊎_elim
+    (λ k. ap (λ j. times_in_conditions j s q) (let same : suc m ≡ n = omega (arith, l, k) in same))
+    (λ k. let none : times s (q m) ≡ 0 = ap (times s) (h m k) in omega (arith, none, times_unused s n m q k h))
+    (cases_lt m n)
+
 one_within : (b : Bool) (x n : ℕ) → (b ≡ true → x < n) → x ≤ n → x + cond b 1 0 ≤ n
 one_within true x n f l = let k = f refl in omega (arith, k)
 one_within false x n f l = omega (arith, l)
@@ -69,32 +102,15 @@ module _ {m : Monitor} {budget : ℕ} {h : List Event} {capacity : ℕ} {q : Que
   pub in_order : KeepsHistory m budget h capacity q state turn inside spent granted entered → IsKind m.kind → IsInOrder m (situation m h)
   in_order kept k = legal_order m h k kept.legal
 
-  -- an event that is allowed finds a place in each queue
-  pub places_kept : KeepsHistory m budget h capacity q state turn inside spent granted entered → IsKind m.kind
-      → (e : Event) → IsAllowed m h e → HasPlaces q
-  places_kept kept k e a =
-      let o = in_order kept k in
-      let room = room_for m (situation m h) (seat_of e)
-      (seat_in_range m.seats m.conds m.object.codes m.object.predicates e a.in_range) o.placed o.seated
-      (caller_apart m (situation m h) e o.placed a.in_turn a.in_place) in
-      let here = subst (HasRoom m.seats m.conds) (sym kept.stands) room in
-      record {
-        conditions = λ c l. omega (arith, kept.few, here.conditions c (omega (arith, l, kept.conds)));
-        waiters = omega (arith, kept.few, here.waiters);
-        signallers = omega (arith, kept.few, here.signallers);
-        untils = omega (arith, kept.few, here.untils);
-      }
-
-  -- each seat stands in one queue at most, and whoever calls in none
-  orderly_kept : KeepsHistory m budget h capacity q state turn inside spent granted entered → IsKind m.kind
-      → (e : Event) → IsAllowed m h e → IsOrderly q e
-  orderly_kept kept k e a = record {
-    once = λ s. subst (λ n. in_queues n s (shown_situation q state turn inside (not (is_empty h))) ≤ 1) (sym kept.conds)
-        (subst (λ t. in_queues m.conds s t ≤ 1) (sym kept.stands) (queued_once m h kept.legal s));
-    apart = subst (λ n. in_queues n (seat_of e) (shown_situation q state turn inside (not (is_empty h))) ≡ 0) (sym kept.conds)
-        (subst (λ t. in_queues m.conds (seat_of e) t ≡ 0) (sym kept.stands)
-        (caller_unqueued m (situation m h) e (in_order kept k).placed a));
-  }
+  -- whoever calls stands in no queue
+  apart_kept : KeepsHistory m budget h capacity q state turn inside spent granted entered → IsKind m.kind
+      → (e : Event) → IsAllowed m h e → in_lists (seat_of e) q ≡ 0
+  apart_kept kept k e a =
+      let none : in_queues m.conds (seat_of e) (shown_situation q state turn inside (not (is_empty h))) ≡ 0 =
+      subst (λ t. in_queues m.conds (seat_of e) t ≡ 0) (sym kept.stands)
+      (caller_unqueued m (situation m h) e (in_order kept k).placed a) in
+      let all = times_unused (seat_of e) m.conds most_conds (queue_at q.conditions) kept.conds kept.unused in
+      omega (arith, none, all)
 
   few_kept : KeepsHistory m budget h capacity q state turn inside spent granted entered → (e : Event) → IsAllowed m h e
       → length (events_of h (seat_of e)) < budget → length h < 33554432
@@ -111,6 +127,7 @@ module _ {m : Monitor} {budget : ℕ} {h : List Event} {capacity : ℕ} {q : Que
   is_ready kept k e a l =
       let s = seat_in_range m.seats m.conds m.object.codes m.object.predicates e a.in_range in
       record {
+        few = let f = kept.few in omega (arith, s, f);
         seat = omega (arith, s, kept.inside_seats);
         counted = omega (arith, s, kept.spent_seats);
         low = let c = kept.counts (seat_of e) in let w = kept.low in grind (arith, c, w, l);
@@ -119,10 +136,9 @@ module _ {m : Monitor} {budget : ℕ} {h : List Event} {capacity : ℕ} {q : Que
         low_granted = λ j. let n = few_kept kept e a l in let c = kept.grants_counted j in let f = granted_few h j in
             grind (arith, n, c, f);
         low_entered = let n = few_kept kept e a l in let c = kept.enters_counted in let f = enters_few h in grind (arith, n, c, f);
-        waits = ap (λ n. is_condition n (waits_on e)) kept.conds ∙ range_waits m e a.in_range;
-        signals = ap (λ n. is_condition n (signals_on e)) kept.conds ∙ range_signals m e a.in_range;
-        places = places_kept kept k e a;
-        orderly = orderly_kept kept k e a;
+        waits = wider m.conds most_conds (waits_on e) kept.conds (range_waits m e a.in_range);
+        signals = wider m.conds most_conds (signals_on e) kept.conds (range_signals m e a.in_range);
+        apart = apart_kept kept k e a;
       }
 
   -- the history is no longer than the budgets of all seats
@@ -168,7 +184,9 @@ module _ {m : Monitor} {budget : ℕ} {h : List Event} {capacity : ℕ} {q : Que
     room = subst (λ n. m.seats * budget ≤ n) (sym cap) kept.room;
     inside_seats = li ∙ kept.inside_seats;
     spent_seats = ls ∙ kept.spent_seats;
-    conds = moved.conds ∙ kept.conds;
+    conds = kept.conds;
+    unused = λ c l. moved.condition c
+        ∙ still_unused c e (queue_at q.conditions c) (kept.unused c l) (nobody_waits m.conds c e l (range_waits m e a.in_range));
     few = kept.few;
     low = kept.low;
     predicates = subst (All (λ (w : ℕ × ℕ). w.1 < m.object.predicates)) (sym moved.untils)
@@ -206,7 +224,7 @@ no_events s = refl
 pub kept_none : (m : Monitor) (budget : ℕ) (h : List Event) (capacity : ℕ) (q : QueueLists) (state : List ℕ)
     (turn : Turn) (inside : List Bool) (spent granted : List ℕ) (entered : ℕ)
     → h ≡ [] → capacity ≡ m.seats * budget → state ≡ m.opening → m.seats ≤ most_seats → budget ≤ most_budget
-    → ((c : ℕ) → queue_at q.conditions c ≡ []) → length q.conditions ≡ m.conds → q.waiters ≡ [] → q.signallers ≡ []
+    → ((c : ℕ) → queue_at q.conditions c ≡ []) → m.conds ≤ most_conds → q.waiters ≡ [] → q.signallers ≡ []
     → q.untils ≡ [] → turn ≡ Open
     → ((j : ℕ) → slice_index_or inside j false ≡ false) → ((j : ℕ) → slice_index_or spent j 0 ≡ 0)
     → length inside ≡ m.seats → length spent ≡ m.seats
@@ -226,6 +244,7 @@ kept_none m budget h capacity q state turn inside spent granted entered e cap st
   inside_seats = li;
   spent_seats = ls;
   conds = cs;
+  unused = λ c l. qs c;
   few = few;
   low = grind (arith, low);
   predicates = subst (All (λ (w : ℕ × ℕ). w.1 < m.object.predicates)) (sym us) (All-nil (λ (w : ℕ × ℕ). w.1 < m.object.predicates));

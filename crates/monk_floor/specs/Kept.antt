@@ -1,6 +1,6 @@
 -- What a floor's fields are of its history
-use Rattle.std.specs.Prelude.{◌≡◌, ℕ, ◌≤◌, ◌<◌, ◌*◌, Bool, false, not, All, List, length, slice_index_or}
-use Rattle.monk_history.specs.Limits.{most_seats, most_budget}
+use Rattle.std.specs.Prelude.{◌≡◌, ℕ, ◌≤◌, ◌<◌, ◌*◌, Bool, false, not, All, List, [], length, slice_index_or}
+use Rattle.monk_history.specs.Limits.{most_seats, most_conds, most_budget}
 use Rattle.monk_history.specs.Meaning.Monitor.{Monitor}
 use Rattle.monk_history.specs.Meaning.Situation.{Situation, situation}
 use Rattle.monk_history.specs.Meaning.Signallers.{is_empty}
@@ -35,7 +35,8 @@ pub record KeepsHistory (m : Monitor) (budget : ℕ) (h : List Event) (capacity 
   pub room : m.seats * budget ≤ capacity
   pub inside_seats : length inside ≡ m.seats
   pub spent_seats : length spent ≡ m.seats
-  pub conds : length q.conditions ≡ m.conds
+  pub conds : m.conds ≤ most_conds
+  pub unused : (c : ℕ) → m.conds ≤ c → queue_at q.conditions c ≡ []
   pub few : m.seats ≤ most_seats
   pub low : budget ≤ most_budget
   pub predicates : All (λ w. w.1 < m.object.predicates) q.untils

@@ -1,15 +1,18 @@
 -- The queues of a floor as plain lists, and what one event makes of them
-use Rattle.std.specs.Prelude.{◌≡◌, ℕ, ◌<◌, ◌≤◌, ◌+◌, map, Bool, false, not, List, ◌++◌, length, drop, filter, if◌then◌else◌}
+use Rattle.std.specs.Prelude.{◌≡◌, ℕ, ◌+◌, Bool, false, not, Option, Some, None, if◌then◌else◌}
+use Rattle.std.specs.Prelude.{List, ◌++◌, map, length, drop, filter, slice_index_or}
 use Rattle.std.specs.Option.{option_map_or}
-use Rattle.monk_history.specs.Limits.{most_seats}
+use Rattle.monk_history.specs.Limits.{most_conds}
 use Rattle.monk_history.specs.QueueAt.{seats_at}
 use Rattle.monk_history.specs.Meaning.Standing.{times, times_in_conditions}
-use Rattle.monk_history.specs.Meaning.Events.{seat_of, next_of, is_waiter, steps_back}
+use Rattle.monk_history.specs.Meaning.Events.{next_of, is_waiter, steps_back}
 use Rattle.monk_history.specs.Meaning.Conditions.{served_by, waiting_by}
 use Rattle.monk_history.specs.Meaning.Waiters.{serves}
 use Rattle.monk_history.specs.Meaning.Signallers.{is_empty, signals, takes_signaller}
 use Rattle.monk_history.specs.Meaning.Untils.{chooses, waits_until}
 use Rattle.monk_history.specs.declared.event.Event.{Event}
+use Rattle.monk_history.specs.declared.event.Next.{Next}
+use Rattle.monk_history.specs.declared.event.Next.TheVariants.{Stay, Entry, Waiter, Signaller, Until as UntilSeat}
 
 pub record QueueLists : Type 0 where
   pub conditions : List (List ℕ)
@@ -21,22 +24,36 @@ pub record QueueLists : Type 0 where
 abbrev pub queue_at : List (List ℕ) → ℕ → List ℕ
 queue_at = seats_at (λ q. q)
 
--- each queue has a place left
-pub record HasPlaces (q : QueueLists) : Type 0 where
-  pub conditions : (c : ℕ) → c < length q.conditions → length (queue_at q.conditions c) < most_seats
-  pub waiters : length q.waiters < most_seats
-  pub signallers : length q.signallers < most_seats
-  pub untils : length q.untils < most_seats
+-- the waits-until of these seats, where each has its predicate
+abbrev pub waits_in : List ℕ → List ℕ → List (ℕ × ℕ)
+waits_in predicates seats = map (λ s. (s, slice_index_or predicates s 0)) seats
+
+-- the lists of the queues by their numbers: waiters, signallers, waits-until, and then the conditions
+abbrev pub lists_of : List ℕ → List (List ℕ) → QueueLists
+lists_of predicates queues = record {
+  conditions = drop 3 queues;
+  waiters = queue_at queues 0;
+  signallers = queue_at queues 1;
+  untils = waits_in predicates (queue_at queues 2);
+}
+
+abbrev pub times_in_waits : ℕ → List (ℕ × ℕ) → ℕ
+times_in_waits s untils = times s (map (λ w. w.0) untils)
 
 -- in how many of the queues a seat stands
 abbrev pub in_lists : ℕ → QueueLists → ℕ
-in_lists s q = times_in_conditions (length q.conditions) s (queue_at q.conditions) + times s q.waiters + times s
-    q.signallers + times s (map (λ w. w.0) q.untils)
+in_lists s q =
+    times_in_conditions most_conds s (queue_at q.conditions) + times s q.waiters + times s q.signallers
+    + times_in_waits s q.untils
 
--- each seat stands in one queue at most, and the seat of the event in none
-pub record IsOrderly (q : QueueLists) (e : Event) : Type 0 where
-  pub once : (s : ℕ) → in_lists s q ≤ 1
-  pub apart : in_lists (seat_of e) q ≡ 0
+-- the seat of the waits-until that was chosen
+abbrev pub chosen_until : Option Next → Option ℕ
+chosen_until None = None
+chosen_until (Some Stay) = None
+chosen_until (Some Entry) = None
+chosen_until (Some (Waiter j)) = None
+chosen_until (Some (Signaller j)) = None
+chosen_until (Some (UntilSeat j)) = Some j
 
 -- what an event itself joins and serves
 pub record IsServed (old : QueueLists) (e : Event) (new : QueueLists) : Type 0 where
@@ -44,8 +61,7 @@ pub record IsServed (old : QueueLists) (e : Event) (new : QueueLists) : Type 0 w
       (queue_at old.conditions c) ++ waiting_by c e
   pub waiters : new.waiters ≡ old.waiters ++ serves (queue_at old.conditions) e
   pub signallers : new.signallers ≡ old.signallers ++ signals (queue_at old.conditions) e
-  pub untils : new.untils ≡ old.untils
-  pub conds : length new.conditions ≡ length old.conditions
+  pub untils : new.untils ≡ old.untils ++ waits_until e
 
 -- whether it is a signal on an empty condition
 abbrev pub finds_none : (ℕ → List ℕ) → Event → Bool
@@ -59,4 +75,3 @@ pub record IsMoved (old : QueueLists) (e : Event) (new : QueueLists) : Type 0 wh
   pub signallers : new.signallers ≡ drop (if takes_signaller (queue_at old.conditions) e then 1 else 0)
       (old.signallers ++ signals (queue_at old.conditions) e)
   pub untils : new.untils ≡ filter (λ w. not (chooses e w)) old.untils ++ waits_until e
-  pub conds : length new.conditions ≡ length old.conditions

@@ -3,24 +3,25 @@ use Rattle.std.specs.Prelude.{◌≡◌, ℕ, ◌<◌, ◌^◌, Bool, false, tru
 use Rattle.std.specs.List.{list_all}
 use Rattle.std.specs.Option.{option_map_or}
 use Rattle.monk_object.specs.Object.{Object}
+use Rattle.monk_history.specs.Limits.{most_seats, most_conds}
 use Rattle.monk_history.specs.Meaning.Events.{seat_of, next_of, named_seat, waits_on, signals_on, awaited, steps_back}
 use Rattle.monk_history.specs.Meaning.Reasons.{is_condition}
 use Rattle.monk_history.specs.Meaning.Signallers.{is_empty}
 use Rattle.monk_history.specs.declared.event.Event.{Event}
-use Rattle.monk_floor.specs.Queues.{QueueLists, HasPlaces, IsOrderly}
+use Rattle.monk_floor.specs.Queues.{QueueLists, in_lists}
 
 -- an event fits what a floor keeps
 pub record HasRoomFor (q : QueueLists) (inside : List Bool) (spent granted : List ℕ) (entered : ℕ) (e : Event) : Type 0 where
+  pub few : seat_of e < most_seats
   pub seat : seat_of e < length inside
   pub counted : seat_of e < length spent
   pub low : slice_index_or spent (seat_of e) 0 < 2 ^ 25
   pub named : list_all (λ j. nat_lt j (length granted)) (named_seat (next_of e)) ≡ true
   pub low_granted : (j : ℕ) → slice_index_or granted j 0 < 2 ^ 25
   pub low_entered : entered < 2 ^ 25
-  pub waits : is_condition (length q.conditions) (waits_on e) ≡ true
-  pub signals : is_condition (length q.conditions) (signals_on e) ≡ true
-  pub places : HasPlaces q
-  pub orderly : IsOrderly q e
+  pub waits : is_condition most_conds (waits_on e) ≡ true
+  pub signals : is_condition most_conds (signals_on e) ≡ true
+  pub apart : in_lists (seat_of e) q ≡ 0
 
 -- whether an event must stay, by the queues of the conditions and the data
 abbrev pub stays_by : Object → (ℕ → List ℕ) → List ℕ → Event → Bool

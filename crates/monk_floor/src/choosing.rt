@@ -1,4 +1,5 @@
-ghost use Rattle.std.specs.Prelude.{◌≡◌, ◌<◌, All, slice_get, length, true};
+ghost use Rattle.std.specs.Prelude.{◌≡◌, ◌<◌, All, slice_get, true};
+ghost use Rattle.monk_history.specs.Limits.{most_conds};
 ghost use Rattle.monk_history.specs.Meaning.Events as events;
 ghost use Rattle.monk_history.specs.Meaning.Paths as paths;
 ghost use Rattle.monk_history.specs.Meaning.Reasons.{is_condition, fits_object};
@@ -11,22 +12,27 @@ use monk_history::{Event, From3, Next};
 use monk_kinds::Pick;
 use monk_object::Guarded;
 
-/// The first of the waits-until whose predicate holds.
-pub fn first_ready<T: Guarded>(object: &T, untils: &[(u8, u8)]) -> Option<u8>
-    requires { All (λ w. w.1 < T.PREDICATES) untils.now }
-    ensures { result ≡ slice_get (ready_of T.meaning (T.state object.now) untils.now) 0 }
+/// The first of the waits-until whose predicate holds. Costs a judgement of each wait-until before it.
+pub fn first_ready<T: Guarded>(object: &T, queues: &Queues) -> Option<u8>
+    requires { All (λ w. w.1 < T.PREDICATES) queues.now.untils }
+    ensures { result ≡ slice_get (ready_of T.meaning (T.state object.now) queues.now.untils) 0 }
 {
-    for wait in untils {
-        if object.holds(wait.1) {
-            return Some(wait.0);
+    let mut wait = queues.first_until();
+    for _ in 0..queues.untils() {
+        let Some((seat, pred)) = wait else {
+            return None;
+        };
+        if object.holds(pred) {
+            return Some(seat);
         }
+        wait = queues.until_after(seat);
     }
     None
 }
 
 /// Whether an event must stay: a signal on an empty condition, an until whose predicate holds.
 pub fn must_stay<T: Guarded>(object: &T, queues: &Queues, event: Event) -> bool
-    requires signals { is_condition (length queues.now.conditions) (events.signals_on event) ≡ true }
+    requires signals { is_condition most_conds (events.signals_on event) ≡ true }
     requires object { fits_object T.CODES T.PREDICATES event ≡ true }
     ensures { result ≡ stays_by T.meaning (queue_at queues.now.conditions) (T.state object.now) event }
 {

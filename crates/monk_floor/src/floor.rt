@@ -35,8 +35,9 @@ mod paths;
 /// To contracts a floor is its object's opening state, its numbers and its history. The data, the queues, whose turn
 /// it is and who is inside are what the definitions of a history say of these.
 ///
-/// Making a floor reserves `seats * budget` events and every queue. No later call takes memory, and the time of each
-/// is independent of how long the history is.
+/// Making a floor reserves `seats * budget` events and the counts of the seats; the queues are links in arrays of fixed
+/// size. No later call takes memory, and the time of each is independent of how long the history is: it is constant, or
+/// in the number of waits-until where the call says so.
 #[derive(Drop)]
 pub struct Floor<K: Kind, T: Guarded> {
     object: T,
@@ -76,7 +77,7 @@ impl<K: Kind, T: Guarded> Floor<K, T> {
     /// for each seat.
     ///
     /// The first fault that applies is answered, want of memory last; the object is dropped with it. Takes memory for
-    /// `seats * budget` events and all queues at once.
+    /// `seats * budget` events at once.
     pub fn make(
         alloc: Global,
         object: T,
@@ -108,12 +109,13 @@ impl<K: Kind, T: Guarded> Floor<K, T> {
         budget: u32,
     ) -> Result<Floor<K, T>, AllocError>
         requires seats { seats ≤ MOST_SEATS }
+        requires conds { conds ≤ MOST_CONDS }
         requires budget { budget ≤ MOST_BUDGET }
         ensures { IfOk result (λ f. f ≡ empty_floor (T.state object) seats conds budget) }
     {
         let opening = Snapshot::of(&object);
         let history = Vec::with_capacity(alloc, seats as usize * budget as usize)?;
-        let ledger = Ledger::make(alloc, seats, conds)?;
+        let ledger = Ledger::make(alloc, seats)?;
         Ok(Floor {
             object,
             opening,
@@ -126,7 +128,8 @@ impl<K: Kind, T: Guarded> Floor<K, T> {
         })
     }
 
-    /// Appends an event that is allowed. It is no act, since that changes the object.
+    /// Appends an event that is allowed. It is no act, since that changes the object. Constant time, but for an event
+    /// that chose a wait-until, which costs those before it.
     fn append(&mut self, event: Event)
         requires allowed { IsAllowed (monitor_of K.rules T.meaning self.old) self.old.history event }
         requires left { 0 < left_of self.old.budget self.old.history (events.seat_of event) }
@@ -138,7 +141,7 @@ impl<K: Kind, T: Guarded> Floor<K, T> {
     }
 
     /// What a release chooses by the wish rules, over all queues as they are after its own moves. Any next may stand
-    /// in the event.
+    /// in the event. Costs a judgement of each wait-until up to the first that is ready.
     fn next_by(&self, event: Event, entry_known: bool, pick: Pick) -> Next
         requires call { MayCallOn K.rules T.meaning self.now event }
         requires release { IsReplyless T.meaning event }
@@ -150,13 +153,13 @@ impl<K: Kind, T: Guarded> Floor<K, T> {
         let fronts = Fronts {
             waiter: self.ledger.queues.front_waiter(event),
             signaller: self.ledger.queues.front_signaller(event),
-            ready: first_ready(&self.object, self.ledger.queues.untils()),
+            ready: first_ready(&self.object, &self.ledger.queues),
         };
         fronts.choose(rules_of::<K>(), event.seat(), entry_known, pick)
     }
 
     /// A seat that is outside enters where the monitor is free: `Via::Free` past no inner queue, `Via::Handed` after
-    /// somebody let it in.
+    /// somebody let it in. Constant time.
     pub fn enter(&mut self, seat: u8, via: Via)
         requires call { MayCallOn K.rules T.meaning self.old (Event.Enter seat via) }
         requires left { 0 < left_of self.old.budget self.old.history seat }
@@ -165,7 +168,7 @@ impl<K: Kind, T: Guarded> Floor<K, T> {
         self.append(Event::Enter(seat, via));
     }
 
-    /// The seat that was chosen from a queue goes on, and learns from which queue.
+    /// The seat that was chosen from a queue goes on, and learns from which queue. Constant time.
     pub fn resume(&mut self, seat: u8) -> From3
         requires seat { seat < self.old.seats }
         requires due { IsDueTo seat (turn self.old.history) }
@@ -201,7 +204,7 @@ impl<K: Kind, T: Guarded> Floor<K, T> {
         reply
     }
 
-    /// Whether a predicate holds of the data.
+    /// Whether a predicate holds of the data. Constant time.
     pub fn holds(&self, pred: u8) -> bool
         requires { pred < T.PREDICATES }
         ensures { result ≡ T.meaning.holds (data_of (monitor_of K.rules T.meaning self.now) self.now.history) pred }
@@ -209,7 +212,7 @@ impl<K: Kind, T: Guarded> Floor<K, T> {
         self.object.holds(pred)
     }
 
-    /// The history, which is always legal.
+    /// The history, which is always legal. Constant time.
     pub fn history(&self) -> &[Event]
         ensures history { result.now ≡ self.now.history }
         ensures legal { IsLegal (monitor_of K.rules T.meaning self.now) self.now.history }
@@ -217,7 +220,7 @@ impl<K: Kind, T: Guarded> Floor<K, T> {
         self.history.as_slice()
     }
 
-    /// How many events a seat has left of its budget.
+    /// How many events a seat has left of its budget. Constant time.
     pub fn left(&self, seat: u8) -> u32
         requires { seat < self.now.seats }
         ensures { result ≡ left_of self.now.budget self.now.history seat }
@@ -225,15 +228,15 @@ impl<K: Kind, T: Guarded> Floor<K, T> {
         self.budget - self.ledger.spent[seat as usize]
     }
 
-    /// How many seats wait on a condition variable.
+    /// How many seats wait on a condition variable. Constant time.
     pub fn waiting(&self, cond: u8) -> u32
         requires { cond < self.now.conds }
         ensures { result ≡ length (condition cond self.now.history) }
     {
-        self.ledger.queues.waiting(cond)
+        self.ledger.queues.waiting(cond) as u32
     }
 
-    /// How many events chose a seat from a queue. A stay is none.
+    /// How many events chose a seat from a queue. A stay is none. Constant time.
     pub fn granted(&self, seat: u8) -> u32
         requires { seat < self.now.seats }
         ensures { result ≡ granted_of self.now.history seat }
@@ -241,7 +244,7 @@ impl<K: Kind, T: Guarded> Floor<K, T> {
         self.ledger.granted[seat as usize]
     }
 
-    /// How many enters there were.
+    /// How many enters there were. Constant time.
     pub fn enters(&self) -> u32
         ensures { result ≡ enters_of self.now.history }
     {
@@ -249,7 +252,7 @@ impl<K: Kind, T: Guarded> Floor<K, T> {
     }
 
     /// Whether a queue has the seat. No queue is searched: a seat is in one exactly where it is inside and has not
-    /// the turn.
+    /// the turn. Constant time.
     pub fn queued(&self, seat: u8) -> bool
         requires { seat < self.now.seats }
         ensures { result ≡ is_queued self.now.conds seat (stands_of K.rules T.meaning self.now) }
@@ -258,7 +261,7 @@ impl<K: Kind, T: Guarded> Floor<K, T> {
     }
 
     /// Gives the object and the history out. The object's state is the data of that history, which is legal and has
-    /// at most a budget of events for each seat.
+    /// at most a budget of events for each seat. Constant time.
     pub fn close(self) -> (T, Vec<Event>)
         ensures object { T.state result.0 ≡ data_of (monitor_of K.rules T.meaning self) self.history }
         ensures history { result.1.items ≡ self.history }
@@ -297,6 +300,9 @@ impl<K: Kind, T: Guarded> Floor<K, T> {
     /// greater priority than entry. The survey leaves free which of several is chosen: `pick` is taken where it may be
     /// chosen, entry only if `entry_known` says that somebody waits for it. Otherwise the waiter goes before the
     /// signaller, and entry is chosen where nobody else could be.
+    ///
+    /// Costs a judgement of the predicate of each wait-until up to the first that is ready: constant time where there
+    /// are none. So does each call of the general scheduler step.
     pub fn plain_leave(&mut self, seat: u8, pick: Pick, entry_known: bool) -> Next
         requires call { MayCallOn K.rules T.meaning self.old (Event.Leave seat Next.Stay) }
         requires left { 0 < left_of self.old.budget self.old.history seat }
@@ -308,7 +314,7 @@ impl<K: Kind, T: Guarded> Floor<K, T> {
     }
 
     /// The active seat waits on a condition variable, by the general scheduler step. It joins the back of that
-    /// condition's queue, and somebody else goes on.
+    /// condition's queue, and somebody else goes on. Costs what `plain_leave` costs.
     pub fn plain_wait(&mut self, seat: u8, cond: u8, pick: Pick, entry_known: bool) -> Next
         requires call { MayCallOn K.rules T.meaning self.old (Event.Wait seat cond Next.Stay) }
         requires left { 0 < left_of self.old.budget self.old.history seat }
@@ -321,7 +327,8 @@ impl<K: Kind, T: Guarded> Floor<K, T> {
 
     /// The active seat signals a condition variable, by the general scheduler step. The first that waits on it joins
     /// the waiter queue and the caller the signaller queue. `Next::Stay` is answered where the caller goes on: it was
-    /// chosen from the signaller queue, or nobody waits on the condition and the signal is forgotten.
+    /// chosen from the signaller queue, or nobody waits on the condition and the signal is forgotten. Costs what
+    /// `plain_leave` costs.
     pub fn plain_signal(&mut self, seat: u8, cond: u8, pick: Pick, entry_known: bool) -> Next
         requires call { MayCallOn K.rules T.meaning self.old (Event.Signal seat cond Next.Stay) }
         requires left { 0 < left_of self.old.budget self.old.history seat }
@@ -333,7 +340,7 @@ impl<K: Kind, T: Guarded> Floor<K, T> {
     }
 
     /// The active seat signals a condition variable and leaves the monitor, by the general scheduler step. It leaves
-    /// also where nobody waits on the condition.
+    /// also where nobody waits on the condition. Costs what `plain_leave` costs.
     pub fn plain_signal_leave(&mut self, seat: u8, cond: u8, pick: Pick, entry_known: bool) -> Next
         requires call { MayCallOn K.rules T.meaning self.old (Event.SignalLeave seat cond Next.Stay) }
         requires left { 0 < left_of self.old.budget self.old.history seat }
@@ -349,7 +356,7 @@ impl<K: Kind, T: Guarded> Floor<K, T> {
     }
 
     /// The active seat waits until a predicate holds of the data, by the general scheduler step. Where it holds at once
-    /// the seat stays. Costs a judgement of each predicate that somebody waits for.
+    /// the seat stays. Costs what `plain_leave` costs.
     pub fn plain_until(&mut self, seat: u8, pred: u8, pick: Pick, entry_known: bool) -> Next
         requires call { MayCallOn K.rules T.meaning self.old (Event.Until seat pred Next.Stay) }
         requires left { 0 < left_of self.old.budget self.old.history seat }

@@ -82,9 +82,8 @@ impl Ledger {
     ghost use Rattle.monk_floor.specs.Queues.{queue_at};
 
     /// The ledger of no events.
-    pub fn make(alloc: Global, seats: u8, conds: u8) -> Result<Ledger, AllocError>
+    pub fn make(alloc: Global, seats: u8) -> Result<Ledger, AllocError>
         ensures conditions { IfOk result (λ l. (c : ℕ) → queue_at l.queues.conditions c ≡ []) }
-        ensures conds { IfOk result (λ l. length l.queues.conditions ≡ conds) }
         ensures waiters { IfOk result (λ l. l.queues.waiters ≡ []) }
         ensures signallers { IfOk result (λ l. l.queues.signallers ≡ []) }
         ensures untils { IfOk result (λ l. l.queues.untils ≡ []) }
@@ -98,7 +97,7 @@ impl Ledger {
         ensures spent_seats { IfOk result (λ l. length l.spent.items ≡ seats) }
     {
         Ok(Ledger {
-            queues: Queues::make(alloc, conds)?,
+            queues: Queues::new(),
             turn: Turn::Open,
             inside: vec![in alloc; false; seats as usize]?,
             spent: vec![in alloc; 0; seats as usize]?,

@@ -6,6 +6,7 @@ mod calls;
 mod floor_histories;
 mod floor_steps;
 mod floors;
+mod full_floor;
 mod kinds;
 mod objects;
 mod play_texts;

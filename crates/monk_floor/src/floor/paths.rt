@@ -85,7 +85,7 @@ impl<K: Kind, T: Guarded> Floor<K, T> {
             return Next::Stay;
         }
         let rules = rules_of::<K>();
-        let front = first_ready(&self.object, self.ledger.queues.untils());
+        let front = first_ready(&self.object, &self.ledger.queues);
         single_choice(
             From3::Until,
             rules.waiter <= rules.entry,
@@ -129,7 +129,8 @@ impl<K: Kind, T: Guarded> Floor<K, T> {
         }
     }
 
-    /// The active seat leaves the monitor: `plain_leave` by the path of the mode.
+    /// The active seat leaves the monitor: `plain_leave` by the path of the mode. Constant time; under an automatic kind
+    /// it costs a judgement of the predicate of each wait-until up to the first that is ready.
     pub fn leave(&mut self, seat: u8, pick: Pick, entry_known: bool) -> Next
         requires call { MayCallOn K.rules T.meaning self.old (Event.Leave seat Next.Stay) }
         requires left { 0 < left_of self.old.budget self.old.history seat }
@@ -142,7 +143,7 @@ impl<K: Kind, T: Guarded> Floor<K, T> {
 }
 
 impl<K: Conditional, T: Guarded> Floor<K, T> {
-    /// The active seat waits on a condition variable: `plain_wait` by the path of the mode.
+    /// The active seat waits on a condition variable: `plain_wait` by the path of the mode. Constant time.
     pub fn wait(&mut self, seat: u8, cond: u8, pick: Pick, entry_known: bool) -> Next
         requires call { MayCallOn K.rules T.meaning self.old (Event.Wait seat cond Next.Stay) }
         requires left { 0 < left_of self.old.budget self.old.history seat }
@@ -173,7 +174,7 @@ impl<K: Explicit, T: Guarded> Floor<K, T> {
     /// The active seat signals a condition variable: `plain_signal` by the path of the mode.
     ///
     /// Under a non-blocking kind it stays, and no queue is asked. Under a blocking kind it hands over to the seat that
-    /// it serves, and no priority is compared.
+    /// it serves, and no priority is compared. Constant time.
     pub fn signal(&mut self, seat: u8, cond: u8, pick: Pick, entry_known: bool) -> Next
         requires call { MayCallOn K.rules T.meaning self.old (Event.Signal seat cond Next.Stay) }
         requires left { 0 < left_of self.old.budget self.old.history seat }
@@ -187,7 +188,7 @@ impl<K: Explicit, T: Guarded> Floor<K, T> {
 
 impl<K: ImmediateReturn, T: Guarded> Floor<K, T> {
     /// The active seat signals a condition variable and leaves the monitor: `plain_signal_leave` by the path of the
-    /// mode, past the waiter queue alone.
+    /// mode, past the waiter queue alone. Constant time.
     pub fn signal_leave(&mut self, seat: u8, cond: u8, pick: Pick, entry_known: bool) -> Next
         requires call { MayCallOn K.rules T.meaning self.old (Event.SignalLeave seat cond Next.Stay) }
         requires left { 0 < left_of self.old.budget self.old.history seat }
@@ -205,7 +206,7 @@ impl<K: ImmediateReturn, T: Guarded> Floor<K, T> {
 
 impl<K: Automatic, T: Guarded> Floor<K, T> {
     /// The active seat waits until a predicate holds: `plain_until` by the path of the mode, past the ready seats
-    /// alone.
+    /// alone. Costs a judgement of the predicate of each wait-until up to the first that is ready.
     pub fn until(&mut self, seat: u8, pred: u8, pick: Pick, entry_known: bool) -> Next
         requires call { MayCallOn K.rules T.meaning self.old (Event.Until seat pred Next.Stay) }
         requires left { 0 < left_of self.old.budget self.old.history seat }

@@ -53,7 +53,7 @@ impl Chance {
 }
 
 /// Whose turn it is after a history.
-fn turn_of(history: &[Event]) -> Turn
+pub(crate) fn turn_of(history: &[Event]) -> Turn
     ensures { result ≡ turn history.now }
 {
     match history.last() {
@@ -77,7 +77,7 @@ fn has_begun(history: &[Event]) -> bool
 }
 
 /// A seat that is outside enters an open monitor.
-fn enter<K: Kind>(floor: &mut Floor<K, Buffer>, seat: u8)
+pub(crate) fn enter<K: Kind>(floor: &mut Floor<K, Buffer>, seat: u8)
     requires { seat < floor.old.seats }
     ensures { IsSameSize floor.old floor.new }
 {

@@ -10,5 +10,5 @@ invariant_of-result g c =
     (g.T.Guarded.state c.of-opening.result.value)) c.args.budget _ _ _ _ _ _ _ _ _
     c.in_ok-history.ensures.items c.in_ok-history.ensures.exact (ap g.T.Guarded.state (sym c.of-opening.ensures))
     c.requires.seats c.requires.budget
-    new.conditions new.conds new.waiters new.signallers new.untils new.turn new.inside new.spent new.inside_seats
+    new.conditions c.requires.conds new.waiters new.signallers new.untils new.turn new.inside new.spent new.inside_seats
     new.spent_seats new.granted new.entered new.granted_seats

@@ -1,6 +1,3 @@
-use Rattle.std.proofs.Common.{◌∙◌, ap}
-use Rattle.std.specs.Prelude.{slice_get}
-use Rattle.monk_history.specs.Meaning.Untils.{ready_of}
 use Rattle.monk_floor.proofs.ChoiceLaws.{kept_next}
 use Rattle.monk_floor.proofs.PathLaws.{stay_here, chosen_here}
 use Rattle.monk_floor.proofs.floor.Floor.next_by.Goals as goal
@@ -17,7 +14,5 @@ returns g c =
     (kept_next c.self.invariant c.args.event c.args.entry_known c.args.pick c.must_stay.result c.must_stay.ensures c.if-must_stay.false
     _ _ _ c.choose.result c.rules_of.result c.seat.result
     c.front_waiter.ensures c.front_signaller.ensures
-    (c.first_ready.ensures
-    ∙ ap (λ us. slice_get (ready_of g.T.Guarded.meaning (g.T.Guarded.state c.self.inside.object) us) 0)
-    c.untils.ensures)
+    c.first_ready.ensures
     c.rules_of.ensures c.seat.ensures c.choose.ensures)

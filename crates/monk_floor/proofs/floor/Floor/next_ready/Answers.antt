@@ -1,6 +1,3 @@
-use Rattle.std.proofs.Common.{◌∙◌, ap}
-use Rattle.std.specs.Prelude.{slice_get}
-use Rattle.monk_history.specs.Meaning.Untils.{ready_of}
 use Rattle.monk_floor.proofs.PathLaws.{stay_here, ready_here}
 use Rattle.monk_floor.proofs.floor.Floor.next_ready.Goals as goal
 
@@ -15,7 +12,5 @@ returns g c =
     c.args.pick c.requires.call c.requires.release c.requires.mode
     c.must_stay.result c.must_stay.ensures c.if-must_stay.false
     c.rules_of-rules.result c.first_ready-front.result c.single_choice.result c.rules_of-rules.ensures
-    (c.first_ready-front.ensures
-    ∙ ap (λ us. slice_get (ready_of g.T.Guarded.meaning (g.T.Guarded.state c.self.inside.object) us) 0)
-    c.untils.ensures)
+    c.first_ready-front.ensures
     c.single_choice.ensures

@@ -1,0 +1,128 @@
+-- A seat is looked for in a queue, and taken out of it
+use Rattle.std.proofs.Common.{◌≡◌, ◌≢◌, ℕ, zero, suc, ◌<◌, ◌≤◌, ◌-◌, ◌==◌, Bool, true, false, cond, Option, Some, None, List, [], ◌∷◌, map}
+use Rattle.std.proofs.Common.{length, drop, refl, sym, ap, subst, ◌∙◌, arith, eq-eqb, eqb-true, get_or}
+use Rattle.std.specs.Prelude.{slice_set, slice_get, nat_eq, IfSome}
+use Rattle.std.specs.Option.{option_eq}
+use Rattle.monk_history.specs.Limits.{most_seats}
+use Rattle.monk_history.specs.Meaning.Standing.{times}
+use Rattle.monk_floor.specs.declared.chain.Chain.{Chain}
+use Rattle.monk_floor.specs.Links.{most_queues, walk, seats_of, chain_at, queue_in, places, EndsWith, without, seat_before, IsLinked}
+use Rattle.monk_floor.specs.Queues.{queue_at}
+use Rattle.monk_floor.proofs.LinkLaws.Walks.{walk-set}
+use Rattle.monk_floor.proofs.LinkLaws.Chains.{queue_is, linked_again, seen_again, apart, at_most_once, in_range, times_le}
+use Rattle.monk_floor.proofs.LinkLaws.Middles.{skips, times_none, times_without, before_there, seat_there}
+use Rattle.monk_floor.proofs.LinkLaws.Middles.{absent, walk-unlink, ends_without}
+
+when : (b : Bool) (xs ys : List ℕ) → (b ≡ true → ⊥) → cond b xs ys ≡ ys
+when true xs ys h = absurd (h refl)
+when false xs ys h = refl
+
+nobody_before : (next : List ℕ) (n f s b : ℕ) → n ≡ 0 → seat_before s (walk next n f) ≡ Some b → ⊥
+unfolding walk
+nobody_before next zero f s b e h = absurd (cc)
+nobody_before next (suc n) f s b e h = absurd (omega (arith, e))
+
+module _ (next : List ℕ) (chains : List Chain) (k : IsLinked next chains) (a s b : ℕ) (l : a < most_queues)
+    (v : List (List ℕ)) (e : map (seats_of next) chains ≡ v) (h : seat_before s (queue_at v a) ≡ Some b) where
+  found : seat_before s (queue_in next chains a) ≡ Some b
+  found = ap (seat_before s) (sym (queue_is next chains v e a)) ∙ h
+
+  pub seat_in_range : s < most_seats
+  seat_in_range = in_range k a s l (seat_there s b (queue_in next chains a) found)
+
+  pub before_in_range : b < most_seats
+  before_in_range = in_range k a b l (before_there s b (queue_in next chains a) found)
+
+  pub not_empty : 1 ≤ (chain_at chains a).length
+  not_empty = let some : (chain_at chains a).length ≢ 0 = (λ z. nobody_before next (chain_at chains a).length
+      (chain_at chains a).first s b z found) in omega (arith, some)
+
+  abbrev links : List ℕ
+  links = slice_set next b (get_or next s 0)
+
+  abbrev chain : ℕ → Chain
+  chain last = record { first = (chain_at chains a).first; last = last; length = (chain_at chains a).length - 1 }
+
+  unlinked : length next ≡ most_seats → (last : ℕ) → seats_of links (chain last) ≡ without s (queue_in next chains a)
+  unlinked c last =
+      let n = (chain_at chains a).length - 1 in
+      let f = (chain_at chains a).first in
+      let more : (chain_at chains a).length ≡ suc n = omega (arith, not_empty) in
+      let low = before_in_range in
+      walk-unlink next n f s b (subst (λ x. seat_before s (walk next x f) ≡ Some b) more found)
+      (subst (λ x. times b (walk next x f) ≤ 1) more (at_most_once k a b l))
+      (subst (λ x. times s (walk next x f) ≤ 1) more (at_most_once k a s l)) (omega (arith, low, c))
+      ∙ ap (λ x. without s (walk next x f)) (sym more)
+
+  others_stay : (c : ℕ) → a ≢ c → seats_of links (chain_at chains c) ≡ queue_in next chains c
+  others_stay c d =
+      walk-set next (chain_at chains c).length (chain_at chains c).first b (get_or next s 0)
+      (apart k a c b l d (before_there s b (queue_in next chains a) found))
+
+  pub unlinked_linked : length next ≡ most_seats → (last : ℕ)
+      → last ≡ cond ((chain_at chains a).last == s) b (chain_at chains a).last → IsLinked links (slice_set chains a (chain last))
+  unlinked_linked c last is =
+      linked_again k links a (chain last) l others_stay
+      (subst (λ xs. EndsWith xs last) (sym (unlinked c last))
+      (subst (EndsWith (without s (queue_in next chains a))) (sym is)
+      (ends_without (queue_in next chains a) s b (chain_at chains a).last (k.last a) found (at_most_once k a s l))))
+      (λ x. let less : times x (seats_of links (chain last)) ≤ times x (queue_in next chains a) =
+      subst (λ xs. times x xs ≤ times x (queue_in next chains a)) (sym (unlinked c last))
+      (times_without s x (queue_in next chains a)) in
+      omega (arith, less, k.once x))
+
+  seen : length next ≡ most_seats → (last c : ℕ)
+      → queue_at (map (seats_of links) (slice_set chains a (chain last))) c ≡ cond (a == c) (without s (queue_at v c)) (queue_at v c)
+  seen x last =
+      seen_again k v e links a (chain last) l others_stay (λ c. cond (a == c) (without s (queue_at v c)) (queue_at v c))
+      (ap (λ z. cond z (without s (queue_at v a)) (queue_at v a)) (eq-eqb a a refl)
+      ∙ (ap (without s) (queue_is next chains v e a) ∙ sym (unlinked x last)))
+      (λ c d. when (a == c) (without s (queue_at v c)) (queue_at v c) (λ z. d (eqb-true a c z)))
+
+  pub unlinked_here : length next ≡ most_seats → (last : ℕ)
+      → queue_at (map (seats_of links) (slice_set chains a (chain last))) a ≡ without s (queue_at v a)
+  unlinked_here x last = seen x last a ∙ ap (λ z. cond z (without s (queue_at v a)) (queue_at v a)) (eq-eqb a a refl)
+
+  pub unlinked_others : length next ≡ most_seats → (last c : ℕ) → a ≢ c
+      → queue_at (map (seats_of links) (slice_set chains a (chain last))) c ≡ queue_at v c
+  unlinked_others x last c d =
+      seen x last c ∙ when (a == c) (without s (queue_at v c)) (queue_at v c) (λ z. d (eqb-true a c z))
+
+-- where the seat is the front
+front_taken : (s : ℕ) (xs ys : List ℕ) → true ≡ option_eq nat_eq (slice_get xs 0) (Some s) → ys ≡ drop 1 xs → times s ys ≡ 0
+    → ys ≡ without s xs
+front_taken s [] ys h d n = absurd (cc)
+front_taken s (x ∷ xs) ys h d n =
+    let same : x ≡ s = eqb-true x s (sym h) in
+    sym (skips s x xs same ∙ (ap (without s) (sym d) ∙ times_none s ys n))
+
+some_is : (r : Option ℕ) (s : ℕ) (P : ℕ → Type 0) → true ≡ option_eq nat_eq r (Some s) → IfSome r P → P s
+some_is None s P h p = absurd (cc)
+some_is (Some x) s P h p = subst P (eqb-true x s (sym h)) p
+
+pub removed_front : (a s : ℕ) (v w : List (List ℕ)) (r : Option ℕ) → a < most_queues → r ≡ slice_get (queue_at v a) 0
+    → true ≡ option_eq nat_eq r (Some s) → ((c : ℕ) → queue_at w c ≡ drop (cond (a == c) 1 0) (queue_at v c))
+    → IfSome r (λ x. places x (queue_at w) ≡ 0) → queue_at w a ≡ without s (queue_at v a)
+removed_front a s v w r l e h m p =
+    let none = some_is r s (λ x. places x (queue_at w) ≡ 0) h p in
+    let few = times_le a s (queue_at w) l in
+    front_taken s (queue_at v a) (queue_at w a) (h ∙ ap (λ o. option_eq nat_eq o (Some s)) e)
+    (m a ∙ ap (λ z. drop (cond z 1 0) (queue_at v a)) (eq-eqb a a refl)) (omega (arith, few, none))
+
+pub others_stay_here : (a : ℕ) (v w : List (List ℕ)) → ((c : ℕ) → queue_at w c ≡ drop (cond (a == c) 1 0) (queue_at v c))
+    → (c : ℕ) → a ≢ c → queue_at w c ≡ queue_at v c
+others_stay_here a v w m c d = m c ∙ none_dropped (a == c) (queue_at v c) (λ z. d (eqb-true a c z))
+  where
+    none_dropped : (z : Bool) (xs : List ℕ) → (z ≡ true → ⊥) → drop (cond z 1 0) xs ≡ xs
+    none_dropped true xs h = absurd (h refl)
+    none_dropped false xs h = refl
+
+-- and where it is not there
+pub not_there : (s : ℕ) (xs : List ℕ) (r : Option ℕ) → r ≡ slice_get xs 0 → false ≡ option_eq nat_eq r (Some s)
+    → seat_before s xs ≡ None → xs ≡ without s xs
+not_there s xs r e h n = nowhere s xs (h ∙ ap (λ o. option_eq nat_eq o (Some s)) e) n
+  where
+    nowhere : (s : ℕ) (xs : List ℕ) → false ≡ option_eq nat_eq (slice_get xs 0) (Some s) → seat_before s xs ≡ None
+        → xs ≡ without s xs
+    nowhere s [] h n = refl
+    nowhere s (x ∷ xs) h n = sym (absent s x xs (λ e. absurd (let same : x == s ≡ true = eq-eqb x s e in cc)) n)

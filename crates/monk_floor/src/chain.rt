@@ -1,0 +1,30 @@
+ghost use Rattle.std.specs.Prelude.{◌≡◌};
+
+/// Where a queue begins and ends, and how many seats it has. Of an empty queue neither end means
+/// anything.
+#[derive(Clone, Copy)]
+pub struct Chain {
+    pub first: u8,
+    pub last: u8,
+    pub length: u8,
+}
+
+impl Chain {
+    /// Nobody.
+    pub const EMPTY: Chain = Chain {
+        first: 0,
+        last: 0,
+        length: 0,
+    };
+
+    /// One seat.
+    pub fn of(seat: u8) -> Chain
+        ensures { result ≡ record { first = seat; last = seat; length = 1 } }
+    {
+        Chain {
+            first: seat,
+            last: seat,
+            length: 1,
+        }
+    }
+}
