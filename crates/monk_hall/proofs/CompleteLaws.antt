@@ -10,8 +10,8 @@ use Rattle.std.proofs.lemmas.List.Sums.{sum_by-cons, sum_by_more}
 use Rattle.monk_history.specs.Meaning.Counts.{events_of}
 use Rattle.monk_history.specs.Meaning.Events.{seat_of}
 use Rattle.monk_history.specs.declared.event.Event.{Event}
-use Rattle.monk_history.proofs.PublicLaws.Meaning.{AreDistinct, length-events_of-push, length-sum_by, rest_has, rest_of, same_sums, sum_by_all_seats}
-use Rattle.monk_history.proofs.PublicLaws.Meaning.{sum_by_seats}
+use Rattle.monk_history.proofs.PublicLaws.Meaning.{AreDistinct, length-events_of-push, length-sum_by, rest_has, rest_of}
+use Rattle.monk_history.proofs.PublicLaws.Meaning.{same_sums, sum_by_all_seats, sum_by_seats}
 use Rattle.monk_hall.specs.Complete.{AreApart, HaveSeenPart, HoldsOnly}
 use Rattle.monk_hall.specs.Floors.{StartsWith}
 use Rattle.monk_hall.specs.Tokens.{Token}

@@ -152,7 +152,8 @@ module _ {k : Rules} {o : Object} {z : TableId} {me : Me} {number calls budget :
     allowed = x.is_grown.allowed;
   }
 
-  pub released : IsHolding k o z me number calls budget f → IsRelease k o (the me.0) f call wish known choice to g → is_stay (Some choice) ≡ false
+  pub released : IsHolding k o z me number calls budget f → IsRelease k o (the me.0) f call wish known choice to g
+      → is_stay (Some choice) ≡ false
       → (p : Token) → p.hall ≡ z → HasGone (the me.0) g.history to p.me → SeesTruly k o p.me
       → HasReleased k o (holder z (the me.0) f) call wish to 0 p
   released h x away p hall gone told =
@@ -420,7 +421,8 @@ peeked_none n a e = subst (λ m. HasPeeked m a a) (sym e)
     }
 
 module _ {k : Rules} {o : Object} {z : TableId} {me : Me} {number calls budget : ℕ} {f : FloorView} where
-  pub has_cond : IsHolding k o z me number calls budget f → (c : ℕ) (a : Holder) → holder z (the me.0) f ≡ a → c < a.me.setting.conds → c < f.conds
+  pub has_cond : IsHolding k o z me number calls budget f → (c : ℕ) (a : Holder) → holder z (the me.0) f ≡ a
+      → c < a.me.setting.conds → c < f.conds
   has_cond h c a is low = let b = ap (λ (y : FloorView). y.conds) h.goes.is_floor in let here =
       subst (λ (x : Holder). c < x.me.setting.conds) (sym is) low in omega arith
 

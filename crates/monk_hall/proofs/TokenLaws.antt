@@ -94,7 +94,13 @@ module _ {k : Rules} {o : Object} where
   rests_moved {z} {me} x p known count looks steps now counts = record {
     one = refl;
     free = x.free;
-    seated = record { is_seat = x.seated.is_seat; near = x.seated.near; sized = x.seated.sized; counted = counts; budgeted = x.seated.budgeted };
+    seated = record {
+      is_seat = x.seated.is_seat;
+      near = x.seated.near;
+      sized = x.seated.sized;
+      counted = counts;
+      budgeted = x.seated.budgeted;
+    };
     spent = x.spent;
     told = told_moved (the me.0)
         (record (the me.0) { place = p; known = known; count = count; looks = looks; steps = steps }) x.told refl refl
@@ -128,7 +134,13 @@ module _ {k : Rules} {o : Object} where
         one = refl;
         out = refl;
         active = refl;
-        seated = record { is_seat = x.seated.is_seat; near = x.seated.near; sized = x.seated.sized; counted = x.seated.counted; budgeted = x.seated.budgeted };
+        seated = record {
+          is_seat = x.seated.is_seat;
+          near = x.seated.near;
+          sized = x.seated.sized;
+          counted = x.seated.counted;
+          budgeted = x.seated.budgeted;
+        };
         goes = came_goes r f finds;
         left = let more = own_longer f.history e r.seat (out_seat r.seat (source_from r.place) (turn f.history)) in
             let two = finds.left in let b = ap (λ y. y.budget) finds.is_floor in omega arith;

@@ -1,5 +1,5 @@
 //! Whether a history holds the calls of some seats, and nothing else.
-ghost use Rattle.std.specs.Prelude.{◌≡◌, ◌+◌, ◌<◌, ◌^◌, ◌↔◌, All, length, sum_by, true};
+ghost use Rattle.std.specs.Prelude.{◌≡◌, ◌↔◌, length, true};
 ghost use Rattle.monk_history.specs.Meaning.Counts.{events_of};
 ghost use Rattle.monk_hall.specs.Complete.{AreApart, HaveSeenPart, HoldsOnly};
 

@@ -1,5 +1,5 @@
 -- Sums over a history, seat by seat
-use Rattle.std.proofs.Common.{◌≡◌, ◌≢◌, ℕ, ◌+◌, ◌<◌, ◌==◌, zero, suc, Bool, true, false, not, cond, List, [], ◌∷◌, length}
+use Rattle.std.proofs.Common.{◌≡◌, ◌≢◌, ℕ, ◌+◌, ◌==◌, zero, suc, Bool, true, false, not, cond, List, [], ◌∷◌, length}
 use Rattle.std.proofs.Common.{refl, sym, ap, subst, ◌∙◌, arith, eq-eqb, inl, inr}
 use Rattle.std.specs.Prelude.{All, AllPairs, filter, sum_by}
 use Rattle.std.proofs.lemmas.Bool.Decides.{eqb_tells}
@@ -95,7 +95,9 @@ rest_has (s ∷ ss) h t apart =
 
 first_is : (e : Event) (es : List Event) (s : ℕ) → seat_of e ≡ s → events_of (e ∷ es) s ≡ e ∷ events_of es s
 unfolding events_of
-first_is e es s is = ap (λ (b : Bool). cond b (e ∷ filter (λ x. seat_of x == s) es) (filter (λ x. seat_of x == s) es)) (eq-eqb (seat_of e) s is)
+first_is e es s is =
+    let rest = filter (λ x. seat_of x == s) es in
+    ap (λ (b : Bool). cond b (e ∷ rest) rest) (eq-eqb (seat_of e) s is)
 
 -- nobody did anything
 nobody : (h : List Event) → ((t : ℕ) → events_of h t ≡ []) → h ≡ []

@@ -34,7 +34,8 @@ pub returns : goal.returns
 returns g c =
     let inv = c.loop-pass.invariant in
     let ended = c.loop-pass-test.false in
-    let all : take c.loop-pass.pass-index c.args.passes.now ≡ c.args.passes.now = take_all c.loop-pass.pass-index c.args.passes.now (omega (arith, ended)) in
+    let all : take c.loop-pass.pass-index c.args.passes.now ≡ c.args.passes.now =
+    take_all c.loop-pass.pass-index c.args.passes.now (omega (arith, ended)) in
     let h = c.args.history.now in
     let known : c.loop-pass.known ≡ length (events_of h c.args.seat) + made_by c.args.passes.now = inv.0
     ∙ ap (λ (ps : List Token). length (events_of h c.args.seat) + made_by ps) all in
