@@ -8,6 +8,7 @@ mod DoneLaws
 mod ShareLaws
 mod SeatSums
 mod WholeLaws
+mod MeetLaws
 mod ProductLaws
 mod SeatLaws
 mod Crossing

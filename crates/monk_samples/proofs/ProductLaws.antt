@@ -20,13 +20,14 @@ use Rattle.monk_hall.specs.Tokens.{House, Token, tokens}
 use Rattle.monk_hall.specs.declared.setting.Setting.{Setting}
 use Rattle.monk_samples.specs.Ends.{HaveServed}
 use Rattle.monk_samples.specs.Rounds.{HasServed}
+use Rattle.monk_samples.specs.Wholes.{HoldsOperationsOf}
 use Rattle.monk_samples.specs.declared.end.End.TheVariants.{Done}
 use Rattle.monk_samples.specs.declared.sample.Sample.{Sample}
 use Rattle.monk_samples.specs.declared.sample.Sample.TheVariants.{Buffer, Book, Shop}
 use Rattle.monk_samples.proofs.DoneLaws.{worth, sum_to}
 use Rattle.monk_samples.proofs.SeatSums.{over, first_half, second_half, first_items, calls_all, visits_all}
 use Rattle.monk_samples.proofs.ShareLaws.{once, item, puts_of, takes_of, items_of, reads_of, writes_of, calls_of, sits_of, departs_of}
-use Rattle.monk_samples.proofs.WholeLaws.{Knows, acts_worth, by_seats, shares}
+use Rattle.monk_samples.proofs.WholeLaws.{shares}
 
 -- the items put weigh what the puts that got done weigh by their items
 put_sum : (acts : List Answered) → sum (items_put acts) ≡ sum_by (worth PUT item) acts
@@ -65,16 +66,14 @@ taken_all size state acts law same =
     (counted (is_done PUT) (λ act. act.op.arg) acts ∙ same ∙ sym (counted (is_done TAKE) (λ act. act.reply - 1) acts))))
 
 module _ (k : Rules) (answers : ℕ → ℕ → Bool → Type 0) (seats rounds : ℕ) (z : TableId) (c : Setting) (house : House)
-    (h : List Event) (qs : List Token) (knows : All (Knows h) qs)
-    (split : (w : Event → ℕ) → sum_by w h ≡ sum_by (λ s. sum_by w (events_of h s)) (map (λ q. q.me.seat) qs)) where
+    (h : List Event) (qs : List Token) (holds : HoldsOperationsOf h qs) where
   total_is : (o : Object) (sample : Sample) (weight : Answered → ℕ) (share : ℕ → ℕ)
       → HaveServed k o answers sample seats rounds house (tokens z (opening_records c seats 0)) qs
       → ((p q : Token) → HasServed k o answers sample seats rounds p q Done → p.me.mine ≡ []
       → sum_by weight (acts_in q.me.mine) ≡ share p.me.seat)
       → sum_by weight (acts_in h) ≡ over share seats 0
   total_is o sample weight share served each =
-      acts_worth weight h ∙ split _ ∙ by_seats weight h qs knows
-      ∙ shares k o answers sample seats rounds house c z weight share each seats 0 qs served
+      holds weight ∙ shares k o answers sample seats rounds house c z weight share each seats 0 qs served
 
   module _ (served : HaveServed k buffer_meaning answers Buffer seats rounds house (tokens z (opening_records c seats 0)) qs) where
     pub puts_are : times_done PUT (acts_in h) ≡ seats / 2 * rounds

@@ -32,10 +32,10 @@ use Rattle.monk_samples.specs.Asked.{IsCall}
 use Rattle.monk_samples.specs.Trails.{Trail, Addition, Went, HasCalled, AreBetween, after, call_in, calls_in}
 use Rattle.monk_samples.specs.Trails.{events_in, inside, outside, is_coming}
 
-starts_here : (a : List Event) → StartsWith a a
+pub starts_here : (a : List Event) → StartsWith a a
 starts_here a = ([], sym (append-nil a))
 
-starts_then : (a b c : List Event) → StartsWith b a → StartsWith c b → StartsWith c a
+pub starts_then : (a b c : List Event) → StartsWith b a → StartsWith c b → StartsWith c a
 starts_then a b c s t = (s.0 ++ t.0, t.1 ∙ (ap (λ h. h ++ t.0) s.1 ∙ append_assoc a s.0 t.0))
 
 between_since : (a b c : List Event) (own : List Addition) → StartsWith b a → AreBetween b c own → AreBetween a c own

@@ -44,17 +44,3 @@ module _ (k : Rules) (o : Object) (answers : ℕ → ℕ → Bool → Type 0) (s
   shares (suc n) i (q ∷ qs) s =
       sum_by-cons (λ q. sum_by worth (acts_in q.me.mine)) q qs
       ∙ (λ j. each _ q s.0.1 refl j + shares n (suc i) qs s.1 j)
-
--- a history has the operations of these seats, as they know them
-abbrev pub Knows : List Event → Token → Type 0
-Knows h q = acts_in (events_of h q.me.seat) ≡ acts_in q.me.mine
-
-module _ (worth : Answered → ℕ) (h : List Event) where
-  pub by_seats : (qs : List Token) → All (Knows h) qs
-      → sum_by (λ s. sum_by (of_event worth) (events_of h s)) (map (λ q. q.me.seat) qs) ≡ sum_by (λ q. sum_by worth (acts_in q.me.mine)) qs
-  by_seats [] knows = refl
-  by_seats (q ∷ qs) knows =
-      sum_by-cons (λ s. sum_by (of_event worth) (events_of h s)) q.me.seat (map (λ q. q.me.seat) qs)
-      ∙ (λ i. (sym (acts_worth worth (events_of h q.me.seat)) ∙ ap (sum_by worth) (All-head (Knows h) q qs knows)) i
-      + by_seats qs (All-tail (Knows h) q qs knows) i)
-      ∙ sym (sum_by-cons (λ q. sum_by worth (acts_in q.me.mine)) q qs)

@@ -1,7 +1,7 @@
 -- A closed history that holds what some seats did, and nothing else
-use Rattle.std.specs.Prelude.{◌≡◌, ◌≢◌, ℕ, All, List, [], ◌∷◌}
+use Rattle.std.specs.Prelude.{◌≡◌, ℕ, List, [], ◌∷◌, sum_by}
+use Rattle.monk_object.specs.Runs.{Answered}
 use Rattle.monk_history.specs.Meaning.Acts.{acts_in}
-use Rattle.monk_history.specs.Meaning.Counts.{events_of}
 use Rattle.monk_history.specs.declared.event.Event.{Event}
 use Rattle.monk_hall.specs.Tokens.{Token}
 
@@ -18,7 +18,7 @@ AreSame [] (q ∷ qs) = ⊥
 AreSame (p ∷ ps) [] = ⊥
 AreSame (p ∷ ps) (q ∷ qs) = IsSame p q × AreSame ps qs
 
--- its operations are those of these seats, as their passes know them
-pub record HoldsOperationsOf (h : List Event) (passes : List Token) : Type 0 where
-  pub own : All (λ p. acts_in (events_of h p.me.seat) ≡ acts_in p.me.mine) passes
-  pub others : (s : ℕ) → All (λ p. p.me.seat ≢ s) passes → events_of h s ≡ []
+-- whatever operations weigh, those of the history weigh as much as those that these passes know as their own
+abbrev pub HoldsOperationsOf : List Event → List Token → Type 0
+HoldsOperationsOf h passes =
+    (weight : Answered → ℕ) → sum_by weight (acts_in h) ≡ sum_by (λ p. sum_by weight (acts_in p.me.mine)) passes

@@ -1,6 +1,7 @@
 //! A run: a hall over the object of a sample, with a thread for each seat that works, closed when all have ended.
-ghost use Rattle.std.specs.Prelude.{◌≡◌, ◌↔◌, ◌⊎◌, ◌<◌, All, IfErr, IfOk, OnOk, IsErrAnd, IsErrOf, IsOk, length};
+ghost use Rattle.std.specs.Prelude.{◌≡◌, ◌≢◌, ◌↔◌, ◌⊎◌, ◌∷◌, ◌<◌, All, AllPairs, IfErr, IfOk, OnOk, IsErrAnd, IsErrOf, IsOk, length};
 ghost use Rattle.monk_object.specs.declared.name.ObjectName.TheVariants as object;
+ghost use Rattle.monk_hall.specs.Floors.{StartsWith};
 ghost use Rattle.monk_hall.specs.Records.{first_view};
 ghost use Rattle.monk_hall.specs.Rule.{setting_of};
 ghost use Rattle.monk_hall.specs.Tokens.{tokens};
@@ -8,6 +9,7 @@ ghost use Rattle.monk_samples.specs.Crews.{AreReady, IsOf, IsClosed};
 ghost use Rattle.monk_samples.specs.Faults.{run_fault_of};
 ghost use Rattle.monk_samples.specs.Runs.{HasRun, IsFaultOfRun, IsFirstSpent};
 ghost use Rattle.monk_samples.specs.Samples.{IsHistoryOf, IsInRange, IsOutcome, budget_of, conds_of};
+ghost use Rattle.monk_samples.specs.Wholes.{AreSame, HoldsOperationsOf};
 ghost use Rattle.monk_samples.specs.declared.crew_fault.CrewFault.TheVariants as crew;
 ghost use Rattle.monk_samples.specs.declared.sample.Sample.TheVariants as sample;
 

@@ -1,0 +1,139 @@
+-- What stays of passes that meet, and what the history holds that their seats closed
+use Rattle.std.proofs.Common.{◌≡◌, ◌≢◌, ℕ, zero, suc, ◌+◌, ◌<◌, ◌⊎◌, inl, inr, List, [], ◌∷◌, ◌++◌, length, refl, sym, ap, subst, ◌∙◌, arith}
+use Rattle.std.specs.Prelude.{All, AllPairs, sum_by}
+use Rattle.std.proofs.lemmas.List.Elements.{All-cons, All-head, All-nil, All-tail, All-same}
+use Rattle.std.proofs.lemmas.List.Kept.{AllPairs-cons}
+use Rattle.std.proofs.lemmas.List.Sums.{sum_by-append, sum_by-cons}
+use Rattle.atomic_table.specs.Seated.{TableId}
+use Rattle.monk_kinds.specs.declared.mode.Rules.{Rules}
+use Rattle.monk_object.specs.Object.{Object}
+use Rattle.monk_object.specs.Runs.{Answered}
+use Rattle.monk_history.specs.Meaning.Acts.{acts_in}
+use Rattle.monk_history.specs.Meaning.Counts.{events_of}
+use Rattle.monk_history.specs.declared.event.Event.{Event}
+use Rattle.monk_hall.specs.Complete.{AreApart, HoldsOnly}
+use Rattle.monk_hall.specs.Floors.{StartsWith}
+use Rattle.monk_hall.specs.Records.{opening_records}
+use Rattle.monk_hall.specs.Tokens.{House, Token, tokens}
+use Rattle.monk_hall.specs.declared.setting.Setting.{Setting}
+use Rattle.monk_hall.proofs.PublicLaws.{holds_sum}
+use Rattle.monk_samples.specs.Ends.{HaveServed}
+use Rattle.monk_samples.specs.Wholes.{IsSame, AreSame, HoldsOperationsOf}
+use Rattle.monk_samples.specs.declared.sample.Sample.{Sample}
+use Rattle.monk_samples.proofs.TrailLaws.{starts_here, starts_then}
+use Rattle.monk_samples.proofs.WholeLaws.{of_event, acts_worth}
+
+pub same_pass : (p : Token) → IsSame p p
+same_pass p = record { hall = refl; seat = refl; setting = refl; mine = refl }
+
+pub same_again : (p q r : Token) → IsSame p q → IsSame q r → IsSame p r
+same_again p q r s t = record { hall = t.hall ∙ s.hall; seat = t.seat ∙ s.seat; setting = t.setting ∙ s.setting; mine = t.mine ∙ s.mine }
+
+pub same_then : (ps qs : List Token) (p q : Token) → AreSame ps qs → IsSame p q → AreSame (ps ++ p ∷ []) (qs ++ q ∷ [])
+same_then [] [] p q s t = (t, tt)
+same_then [] (r ∷ qs) p q s t = absurd s
+same_then (r ∷ ps) [] p q s t = absurd s
+same_then (a ∷ ps) (b ∷ qs) p q s t = (s.0, same_then ps qs p q s.1 t)
+
+-- whoever has seen more still begins so
+pub still_begins : (new old : Token) (qs : List Token) → StartsWith new.me.seen old.me.seen → All (λ p. StartsWith old.me.seen p.me.seen) qs
+    → All (λ p. StartsWith new.me.seen p.me.seen) qs
+still_begins new old qs more all k d near = starts_then _ old.me.seen new.me.seen (all k d near) more
+
+-- passes of the same seats differ as those did
+differs_from : (a b : Token) (ps qs : List Token) → IsSame a b → AreSame ps qs → All (λ q. a.me.seat ≢ q.me.seat) ps
+    → All (λ q. b.me.seat ≢ q.me.seat) qs
+differs_from a b [] [] s t apart = All-nil (λ q. b.me.seat ≢ q.me.seat)
+differs_from a b [] (q ∷ qs) s t apart = absurd t
+differs_from a b (p ∷ ps) [] s t apart = absurd t
+differs_from a b (p ∷ ps) (q ∷ qs) s t apart =
+    All-cons (λ r. b.me.seat ≢ r.me.seat) q qs
+    (λ e. All-head (λ r. a.me.seat ≢ r.me.seat) p ps apart (sym s.seat ∙ e ∙ t.0.seat))
+    (differs_from a b ps qs s t.1 (All-tail (λ r. a.me.seat ≢ r.me.seat) p ps apart))
+
+abbrev pub AllDiffer : List Token → Type 0
+AllDiffer ps = AllPairs (λ p q. p.me.seat ≢ q.me.seat) ps
+
+first_differs : (p : Token) (ps : List Token) → AllDiffer (p ∷ ps) → All (λ q. p.me.seat ≢ q.me.seat) ps
+first_differs p ps apart k d within = apart zero (suc k) d (omega arith) (omega (arith, within))
+
+others_differ : (p : Token) (ps : List Token) → AllDiffer (p ∷ ps) → AllDiffer ps
+others_differ p ps apart i j d lt within = apart (suc i) (suc j) d (omega (arith, lt)) (omega (arith, within))
+
+pub still_differ : (ps qs : List Token) → AreSame ps qs → AllDiffer ps → AllDiffer qs
+still_differ [] [] s apart = λ i j d lt within. absurd (omega (arith, within))
+still_differ [] (q ∷ qs) s apart = absurd s
+still_differ (p ∷ ps) [] s apart = absurd s
+still_differ (p ∷ ps) (q ∷ qs) s apart =
+    AllPairs-cons (λ p q. p.me.seat ≢ q.me.seat) q qs (differs_from p q ps qs s.0 s.1 (first_differs p ps apart))
+    (still_differ ps qs s.1 (others_differ p ps apart))
+
+pub apart_from : (q : Token) (qs : List Token) → AllDiffer (q ∷ qs) → AreApart q.me.seat qs
+apart_from q qs apart = (first_differs q qs apart, others_differ q qs apart)
+
+-- what a seat knows as its own is worth the same
+pub same_worth : (w : Event → ℕ) (ps qs : List Token) → AreSame ps qs
+    → sum_by (λ q. sum_by w q.me.mine) qs ≡ sum_by (λ p. sum_by w p.me.mine) ps
+same_worth w [] [] s = refl
+same_worth w [] (q ∷ qs) s = absurd s
+same_worth w (p ∷ ps) [] s = absurd s
+same_worth w (p ∷ ps) (q ∷ qs) s =
+    sum_by-cons (λ q. sum_by w q.me.mine) q qs ∙ (λ i. sum_by w (s.0.mine i) + same_worth w ps qs s.1 i)
+    ∙ sym (sum_by-cons (λ p. sum_by w p.me.mine) p ps)
+
+own_worth : (weight : Answered → ℕ) (ps : List Token)
+    → sum_by (λ p. sum_by (of_event weight) p.me.mine) ps ≡ sum_by (λ p. sum_by weight (acts_in p.me.mine)) ps
+own_worth weight [] = refl
+own_worth weight (p ∷ ps) =
+    sum_by-cons (λ p. sum_by (of_event weight) p.me.mine) p ps
+    ∙ (λ i. sym (acts_worth weight p.me.mine) i + own_worth weight ps i)
+    ∙ sym (sum_by-cons (λ p. sum_by weight (acts_in p.me.mine)) p ps)
+
+-- a history that holds only the calls of these seats, where the first has done no operation since
+pub holds_operations : (h : List Event) (ps : List Token) (q : Token) (qs : List Token) (extra : List Event) → AreSame ps (q ∷ qs) → AllDiffer ps
+    → events_of h q.me.seat ≡ q.me.mine ++ extra → ((weight : Answered → ℕ) → sum_by (of_event weight) extra ≡ 0)
+    → HoldsOnly h q.me.seat qs → HoldsOperationsOf h ps
+holds_operations h ps q qs extra same apart own none only weight =
+    let parts = apart_from q qs (still_differ ps (q ∷ qs) same apart) in
+    let all = holds_sum (of_event weight) h q.me.seat qs parts only in
+    let first = ap (sum_by (of_event weight)) own ∙ sum_by-append (of_event weight) q.me.mine extra in
+    let each = sum_by-cons (λ p. sum_by (of_event weight) p.me.mine) q qs in
+    let nothing = none weight in
+    let whole : sum_by (of_event weight) h ≡ sum_by (λ p. sum_by (of_event weight) p.me.mine) (q ∷ qs) =
+    omega (arith, all, first, each, nothing) in
+    acts_worth weight h ∙ whole ∙ same_worth (of_event weight) ps (q ∷ qs) same ∙ own_worth weight ps
+
+-- the seats of a run differ from each other
+from_on : (k : Rules) (o : Object) (answers : ℕ → ℕ → _ → Type 0) (sample : Sample) (seats rounds : ℕ) (h : House) (z : TableId) (c : Setting)
+    → (n i : ℕ) (qs : List Token) → HaveServed k o answers sample seats rounds h (tokens z (opening_records c n i)) qs
+    → All (λ q. i ≤ q.me.seat) qs
+from_on k o answers sample seats rounds h z c zero i [] s = All-nil (λ q. i ≤ q.me.seat)
+from_on k o answers sample seats rounds h z c zero i (q ∷ qs) s = absurd s
+from_on k o answers sample seats rounds h z c (suc n) i [] s = absurd s
+from_on k o answers sample seats rounds h z c (suc n) i (q ∷ qs) s =
+    All-cons (λ q. i ≤ q.me.seat) q qs (subst (λ x. i ≤ x) (sym s.0.1.called.went.seat) (omega arith))
+    (λ k d near. omega (arith, from_on _ o answers sample seats rounds h z c n (suc i) qs s.1 k d near))
+
+pub seats_differ : (k : Rules) (o : Object) (answers : ℕ → ℕ → _ → Type 0) (sample : Sample) (seats rounds : ℕ) (h : House) (z : TableId)
+    (c : Setting) → (n i : ℕ) (qs : List Token) → HaveServed k o answers sample seats rounds h (tokens z (opening_records c n i)) qs
+    → AllDiffer qs
+seats_differ k o answers sample seats rounds h z c zero i [] s = λ i j d lt within. absurd (omega (arith, within))
+seats_differ k o answers sample seats rounds h z c zero i (q ∷ qs) s = absurd s
+seats_differ k o answers sample seats rounds h z c (suc n) i [] s = absurd s
+seats_differ k o answers sample seats rounds h z c (suc n) i (q ∷ qs) s =
+    AllPairs-cons (λ p q. p.me.seat ≢ q.me.seat) q qs
+    (λ j d near e. absurd (omega (arith, from_on k o answers sample seats rounds h z c n (suc i) qs s.1 j d near, e, s.0.1.called.went.seat)))
+    (seats_differ k o answers sample seats rounds h z c n (suc i) qs s.1)
+
+-- of two passes that have met
+met_as : (p : Token) (seen : List Event) (steps : ℕ) → IsSame p (record p { me = record p.me { seen = seen; steps = steps } })
+met_as p seen steps = record { hall = refl; seat = refl; setting = refl; mine = refl }
+
+pub met_same : (p q : Token) (seen : List Event) (steps : ℕ) → q ≡ record p { me = record p.me { seen = seen; steps = steps } } → IsSame p q
+met_same p q seen steps e = subst (IsSame p) (sym e) (met_as p seen steps)
+
+pub met_begins : (p q r s : Token) (seen : List Event) (m n : ℕ) → q ≡ record p { me = record p.me { seen = seen; steps = m } }
+    → s ≡ record r { me = record r.me { seen = seen; steps = n } } → StartsWith q.me.seen s.me.seen
+met_begins p q r s seen m n e f =
+    let same : q.me.seen ≡ s.me.seen = ap (λ (t : Token). t.me.seen) e ∙ sym (ap (λ (t : Token). t.me.seen) f) in
+    subst (λ h. StartsWith q.me.seen h) same (starts_here q.me.seen)
