@@ -256,11 +256,11 @@ zero_words (suc n) (suc i) = zero_words n i
 -- a seat that has its record rests
 pub fresh_rests : (k : Rules) (o : Object) (z : TableId) (c : Setting) (number budget : ℕ) → number < c.seats
     → z.words ≡ word_count c.seats → budget ≡ c.budget
-    → IsResting k o z (opening_record c number ∷ [], []) number budget 0
+    → IsResting k o z (opening_record c number ∷ [], []) number budget 0 budget
 fresh_rests k o z c number budget near sized enough = record {
   one = refl;
   free = refl;
-  seated = record { is_seat = refl; near = near; sized = sized; counted = refl };
+  seated = record { is_seat = refl; near = near; sized = sized; counted = refl; budgeted = enough };
   spent = omega arith;
   told = record { legal = legal_none (monitor_of k o (floor_of c [])); own = none_of number };
 }

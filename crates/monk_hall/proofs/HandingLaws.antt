@@ -77,11 +77,11 @@ module _ {k : Rules} {o : Object} {z : TableId} {me : Me} {choice : Next} {to : 
   home_is x = ap home_at (back_place x)
 
   -- what the seat knows then
-  pub gone_rests : (x : HasRecordedRelease k o z me choice to f) → {number calls left : ℕ}
-      → IsSeated z (the me.0) number calls → left ≡ left_of f.budget f.history number
+  pub gone_rests : (x : HasRecordedRelease k o z me choice to f) → {number calls budget left : ℕ}
+      → IsSeated z (the me.0) number calls budget → left ≡ left_of f.budget f.history number
       → (y : TableId) (new : Me) → y ≡ z → HasGone (the me.0) f.history to (the new.0) → new ≡ (the new.0 ∷ [], [])
-      → IsResting k o y new number left calls × ((the new.0).place ≡ place_of to) × (left_within to ≤ left)
-  gone_rests x {number} {calls} {left} s rest y new same gone is =
+      → IsResting k o y new number left calls budget × ((the new.0).place ≡ place_of to) × (left_within to ≤ left)
+  gone_rests x {number} {calls} {budget} {left} s rest y new same gone is =
       let r = the me.0 in let ret = x.returns in let e = with_next ret.choice ret.call in let w =
       record (record_after_floor_in r f.history) { place = place_of to; steps = gone.steps } in
       let seat = (said r.seat ret.to ret.call ret.choice ret.release).seat in
@@ -89,14 +89,14 @@ module _ {k : Rules} {o : Object} {z : TableId} {me : Me} {choice : Next} {to : 
       let is_floor = ret.grows ∙ ap (λ g. with_event g e) ret.goes_on.is_floor in
       let h = f.history in let mine = events_of h r.seat in
       let more = ap (λ g. length (events_of g r.seat)) history ∙ own_longer ret.before.history e r.seat seat in
-      let low = ret.left in let budget = ap (λ (g : FloorView). g.budget) ret.goes_on.is_floor in
+      let low = ret.left in let budget_then = ap (λ (g : FloorView). g.budget) ret.goes_on.is_floor in
       let budget_now = ap (λ (g : FloorView). g.budget) is_floor in
       let left_is : left ≡ f.budget - length mine = rest ∙ ap (λ n. f.budget - length (events_of h n)) (sym s.is_seat) in
       let to_is = ap left_within x.is_to in
-      let rests : IsResting k o z (w ∷ [], []) number left calls = record {
+      let rests : IsResting k o z (w ∷ [], []) number left calls budget = record {
         one = refl;
         free = refl;
-        seated = record { is_seat = s.is_seat; near = s.near; sized = s.sized; counted = s.counted };
+        seated = record { is_seat = s.is_seat; near = s.near; sized = s.sized; counted = s.counted; budgeted = s.budgeted };
         spent = omega arith;
         told = record {
           legal = subst (λ (g : FloorView). IsLegal (monitor_of k o g) g.history)
@@ -106,8 +106,8 @@ module _ {k : Rules} {o : Object} {z : TableId} {me : Me} {choice : Next} {to : 
           own = refl;
         };
       } in (
-        subst (λ a. IsResting k o a new number left calls) (sym same)
-            (subst (λ m. IsResting k o z m number left calls) (sym (is ∙ ap (λ v. (v ∷ [], [])) gone.is)) rests),
+        subst (λ a. IsResting k o a new number left calls budget) (sym same)
+            (subst (λ m. IsResting k o z m number left calls budget) (sym (is ∙ ap (λ v. (v ∷ [], [])) gone.is)) rests),
         ap (λ v. v.place) gone.is,
         omega arith,
       )

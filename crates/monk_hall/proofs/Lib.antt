@@ -21,4 +21,5 @@ mod ClosingLaws
 mod ResumeLaws
 mod Crossing
 mod RuleLaws
+mod CompleteLaws
 pub mod PublicLaws

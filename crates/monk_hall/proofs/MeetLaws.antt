@@ -450,13 +450,13 @@ parts_again k o c id v m e =
     (parted k o c id (the (view_after_compare m)) (the (tail (view_after_compare m))))
 
 -- a seat that has met another rests as before
-pub met_rests : (k : Rules) (o : Object) (y z : TableId) (v : View) (number left calls : ℕ) (r : SeatRecord)
-    (views : List View) → IsResting k o z (v, []) number left calls → (the v).place ≡ Idle → y ≡ z
+pub met_rests : (k : Rules) (o : Object) (y z : TableId) (v : View) (number left calls budget : ℕ) (r : SeatRecord)
+    (views : List View) → IsResting k o z (v, []) number left calls budget → (the v).place ≡ Idle → y ≡ z
     → r.seat ≡ (the v).seat → r.setting ≡ (the v).setting → r.place ≡ (the v).place → r.count ≡ (the v).count
     → r.mine ≡ (the v).mine → SeesTruly k o r → views ≡ (r ∷ []) ∷ []
-    → (views ≡ top views ∷ []) × IsResting k o y (top views, []) number left calls × ((the (top views)).place ≡ Idle)
-met_rests k o y z v number left calls r views old idle table seat setting place count mine truly are =
-    subst (λ (vs : List View). (vs ≡ top vs ∷ []) × IsResting k o y (top vs, []) number left calls
+    → (views ≡ top views ∷ []) × IsResting k o y (top views, []) number left calls budget × ((the (top views)).place ≡ Idle)
+met_rests k o y z v number left calls budget r views old idle table seat setting place count mine truly are =
+    subst (λ (vs : List View). (vs ≡ top vs ∷ []) × IsResting k o y (top vs, []) number left calls budget
     × ((the (top vs)).place ≡ Idle)) (sym are) (
       refl,
       record {
@@ -467,6 +467,7 @@ met_rests k o y z v number left calls r views old idle table seat setting place 
           near = subst (λ (x : Setting). number < x.seats) (sym setting) old.seated.near;
           sized = ap (λ (x : TableId). x.words) table ∙ old.seated.sized ∙ ap (λ (x : Setting). word_count x.seats) (sym setting);
           counted = old.seated.counted ∙ sym count;
+          budgeted = old.seated.budgeted ∙ sym (ap (λ (x : Setting). x.budget) setting);
         };
         spent = ap (λ (es : List Event). left + length es) mine ∙ old.spent ∙ ap (λ (x : Setting). x.budget) (sym setting);
         told = truly;

@@ -2,3 +2,5 @@
 
 -- Threads may share a hall, and a pass may go to another thread, where the object may
 pub use Rattle.monk_hall.proofs.Crossing.{hall_sync, pass_send}
+-- The sum of a weight over a history that holds only some seats' calls is that over each seat's own
+pub use Rattle.monk_hall.proofs.CompleteLaws.{holds_sum}

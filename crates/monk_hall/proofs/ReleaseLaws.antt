@@ -113,9 +113,9 @@ chosen_as_known {k} {o} {r} {f} {call} {wish} {known} x = let t = stands_of k o 
     (is_entry_known wish r.known)
     (λ free. ap (λ b. choice_by k (queues_at o t call) (seat_of call) b wish) (x.known_is free))
 
-module _ {k : Rules} {o : Object} {z : TableId} {me : Me} {number calls : ℕ} {f : FloorView} {call : Event}
+module _ {k : Rules} {o : Object} {z : TableId} {me : Me} {number calls budget : ℕ} {f : FloorView} {call : Event}
     {wish : Pick} {known : Bool} {choice : Next} {to : Home} {g : FloorView} where
-  pub has_released : IsHolding k o z me number calls f → IsRelease k o (the me.0) f call wish known choice to g
+  pub has_released : IsHolding k o z me number calls budget f → IsRelease k o (the me.0) f call wish known choice to g
       → is_stay (Some choice) ≡ false → HasRecordedRelease k o z me choice to g
   has_released h x away = record {
     one = h.one;
@@ -144,7 +144,8 @@ module _ {k : Rules} {o : Object} {z : TableId} {me : Me} {number calls : ℕ} {
     allowed = x.is_grown.allowed;
   }
 
-  pub released : IsHolding k o z me number calls f → IsRelease k o (the me.0) f call wish known choice to g → is_stay (Some choice) ≡ false
+  pub released : IsHolding k o z me number calls budget f → IsRelease k o (the me.0) f call wish known choice to g
+      → is_stay (Some choice) ≡ false
       → (p : Token) → p.hall ≡ z → HasGone (the me.0) g.history to p.me → SeesTruly k o p.me
       → HasReleased k o (holder z (the me.0) f) call wish to 0 p
   released h x away p hall gone told =
@@ -204,21 +205,21 @@ module _ {k : Rules} {o : Object} where
       }
 
 -- what the active seat may do
-module _ {k : Rules} {o : Object} {z : TableId} {me : Me} {number calls : ℕ} {f : FloorView} where
-  pub owns : IsHolding k o z me number calls f → turn f.history ≡ Owned number
+module _ {k : Rules} {o : Object} {z : TableId} {me : Me} {number calls budget : ℕ} {f : FloorView} where
+  pub owns : IsHolding k o z me number calls budget f → turn f.history ≡ Owned number
   owns h = h.goes.owned ∙ ap Owned h.seated.is_seat
 
-  pub is_near : IsHolding k o z me number calls f → number < f.seats
+  pub is_near : IsHolding k o z me number calls budget f → number < f.seats
   is_near h = subst (λ n. n < f.seats) h.seated.is_seat h.goes.near
 
-  pub has_left : IsHolding k o z me number calls f → (n : ℕ)
+  pub has_left : IsHolding k o z me number calls budget f → (n : ℕ)
       → length (events_of f.history (the me.0).seat) + n < (the me.0).setting.budget
       → n < left_of f.budget f.history (the me.0).seat
   has_left h n more = let b = ap (λ (y : FloorView). y.budget) h.goes.is_floor in omega arith
 
   -- what is told of a release with the active seat's own number
   pub released_of : {wish : Pick} {known : Bool} {choice : Next} {to : Home} {g : FloorView} → (call : ℕ → Event)
-      → IsHolding k o z me number calls f → IsRelease k o (the me.0) f (call number) wish known choice to g
+      → IsHolding k o z me number calls budget f → IsRelease k o (the me.0) f (call number) wish known choice to g
       → is_stay (Some choice) ≡ false
       → (p : Token) → p.hall ≡ z → HasGone (the me.0) g.history to p.me → SeesTruly k o p.me → (a : Holder)
       → holder z (the me.0) f ≡ a → HasReleased k o a (call a.me.seat) wish to 0 p
@@ -227,7 +228,7 @@ module _ {k : Rules} {o : Object} {z : TableId} {me : Me} {number calls : ℕ} {
       (subst (λ n. HasReleased k o (holder z (the me.0) f) (call n) wish to 0 p) (sym h.seated.is_seat)
       (released h x away p hall gone told))
 
-  pub leaves : IsHolding k o z me number calls f → (wish : Pick) (known : Bool) (choice : Next) (g : FloorView)
+  pub leaves : IsHolding k o z me number calls budget f → (wish : Pick) (known : Bool) (choice : Next) (g : FloorView)
       → (a : Holder) → holder z (the me.0) f ≡ a → known ≡ is_entry_known wish a.me.known
       → choice ≡ choice_of k o (stands_of k o f) (Leave number next.Stay) known wish
       → IsGrown k o f (Leave number choice) g
@@ -241,7 +242,7 @@ module _ {k : Rules} {o : Object} {z : TableId} {me : Me} {number calls : ℕ} {
     is_grown = grows;
   }
 
-  pub waits : IsHolding k o z me number calls f → (c : ℕ) → c < f.conds → has_conditions k.mode ≡ true
+  pub waits : IsHolding k o z me number calls budget f → (c : ℕ) → c < f.conds → has_conditions k.mode ≡ true
       → (wish : Pick) (known : Bool) (choice : Next) (g : FloorView) → (a : Holder) → holder z (the me.0) f ≡ a
       → length a.me.mine + 3 ≤ a.me.setting.budget → known ≡ is_entry_known wish a.me.known
       → choice ≡ choice_of k o (stands_of k o f) (Wait number c next.Stay) known wish
@@ -256,7 +257,7 @@ module _ {k : Rules} {o : Object} {z : TableId} {me : Me} {number calls : ℕ} {
     is_grown = grows;
   }
 
-  pub signals : IsHolding k o z me number calls f → (c : ℕ) → c < f.conds → has_signaller_queue k.mode ≡ true
+  pub signals : IsHolding k o z me number calls budget f → (c : ℕ) → c < f.conds → has_signaller_queue k.mode ≡ true
       → (wish : Pick) (known : Bool) (choice : Next) (g : FloorView) → (a : Holder) → holder z (the me.0) f ≡ a
       → length a.me.mine + 3 ≤ a.me.setting.budget
       → (must_stay o (stands_of k o f) (Signal number c next.Stay) ≡ false → known ≡ is_entry_known wish a.me.known)
@@ -272,7 +273,7 @@ module _ {k : Rules} {o : Object} {z : TableId} {me : Me} {number calls : ℕ} {
     is_grown = grows;
   }
 
-  pub signals_and_leaves : IsHolding k o z me number calls f → (c : ℕ) → c < f.conds → returns_at_once k.mode ≡ true
+  pub signals_and_leaves : IsHolding k o z me number calls budget f → (c : ℕ) → c < f.conds → returns_at_once k.mode ≡ true
       → (wish : Pick) (known : Bool) (choice : Next) (g : FloorView) → (a : Holder) → holder z (the me.0) f ≡ a
       → known ≡ is_entry_known wish a.me.known
       → choice ≡ choice_of k o (stands_of k o f) (SignalLeave number c next.Stay) known wish
@@ -287,7 +288,7 @@ module _ {k : Rules} {o : Object} {z : TableId} {me : Me} {number calls : ℕ} {
     is_grown = grows;
   }
 
-  pub waits_until : IsHolding k o z me number calls f → (p : ℕ) → p < o.predicates → not (has_conditions k.mode) ≡ true
+  pub waits_until : IsHolding k o z me number calls budget f → (p : ℕ) → p < o.predicates → not (has_conditions k.mode) ≡ true
       → (wish : Pick) (known : Bool) (choice : Next) (g : FloorView) → (a : Holder) → holder z (the me.0) f ≡ a
       → length a.me.mine + 3 ≤ a.me.setting.budget
       → (must_stay o (stands_of k o f) (Until number p next.Stay) ≡ false → known ≡ is_entry_known wish a.me.known)
@@ -305,15 +306,15 @@ module _ {k : Rules} {o : Object} {z : TableId} {me : Me} {number calls : ℕ} {
 
   -- whoever may park inside has room for the way back
   pub room_inside : {call : Event} {wish : Pick} {known : Bool} {choice : Next} {g : FloorView}
-      → IsHolding k o z me number calls f → IsRelease k o (the me.0) f call wish known choice home.Inner g
+      → IsHolding k o z me number calls budget f → IsRelease k o (the me.0) f call wish known choice home.Inner g
       → length (events_of f.history (the me.0).seat) + 2 ≤ (the me.0).setting.budget
   room_inside h x = let b = ap (λ (y : FloorView). y.budget) h.goes.is_floor in let l = x.left in omega arith
 
   -- a release that stays
   pub stays_holding : (call : Event) {wish : Pick} {known : Bool} {choice : Next} {to : Home} {g : FloorView}
-      → IsHolding k o z me number calls f → IsRelease k o (the me.0) f call wish known choice to g
+      → IsHolding k o z me number calls budget f → IsRelease k o (the me.0) f call wish known choice to g
       → is_stay (Some choice) ≡ true
-      → length (events_of f.history (the me.0).seat) + 2 ≤ (the me.0).setting.budget → IsHolding k o z me number calls g
+      → length (events_of f.history (the me.0).seat) + 2 ≤ (the me.0).setting.budget → IsHolding k o z me number calls budget g
   stays_holding call {wish} {known} {choice} {to} {g} h x stays room =
       let s = said (the me.0).seat to call choice x.release in let n = h.seated.is_seat in
       grown_holds h (with_next choice call) (s.seat ∙ n)
@@ -321,7 +322,7 @@ module _ {k : Rules} {o : Object} {z : TableId} {me : Me} {number calls : ℕ} {
       (never_enters (the me.0).seat to call choice x.release) x.is_grown.allowed room g x.is_grown.grown
 
   pub stayed : (call : ℕ → Event) {wish : Pick} {known : Bool} {choice : Next} {to : Home} {g : FloorView}
-      → IsHolding k o z me number calls f → IsRelease k o (the me.0) f (call number) wish known choice to g
+      → IsHolding k o z me number calls budget f → IsRelease k o (the me.0) f (call number) wish known choice to g
       → is_stay (Some choice) ≡ true
       → (a : Holder) → holder z (the me.0) f ≡ a → HasStayed k o a (call a.me.seat) wish 0 (holder z (the me.0) g)
   stayed call {wish} {known} {choice} {to} {g} h x stays a is =
@@ -411,14 +412,15 @@ peeked_none n a e = subst (λ m. HasPeeked m a a) (sym e)
           λ i. record a { me = record a.me { looks = plus_none a.me.looks i; steps = plus_none a.me.steps i } };
     }
 
-module _ {k : Rules} {o : Object} {z : TableId} {me : Me} {number calls : ℕ} {f : FloorView} where
-  pub has_cond : IsHolding k o z me number calls f → (c : ℕ) (a : Holder) → holder z (the me.0) f ≡ a → c < a.me.setting.conds → c < f.conds
+module _ {k : Rules} {o : Object} {z : TableId} {me : Me} {number calls budget : ℕ} {f : FloorView} where
+  pub has_cond : IsHolding k o z me number calls budget f → (c : ℕ) (a : Holder) → holder z (the me.0) f ≡ a
+      → c < a.me.setting.conds → c < f.conds
   has_cond h c a is low = let b = ap (λ (y : FloorView). y.conds) h.goes.is_floor in let here =
       subst (λ (x : Holder). c < x.me.setting.conds) (sym is) low in omega arith
 
 -- what is known where there is something to choose, of the floor in its hands
-pub must_known : {k : Rules} {o : Object} {z : TableId} {me : Me} {number calls : ℕ} {f : FloorView}
-    → IsHolding k o z me number calls f → (a : Holder) → holder z (the me.0) f ≡ a → (call : ℕ → Event) {R : Type 0}
+pub must_known : {k : Rules} {o : Object} {z : TableId} {me : Me} {number calls budget : ℕ} {f : FloorView}
+    → IsHolding k o z me number calls budget f → (a : Holder) → holder z (the me.0) f ≡ a → (call : ℕ → Event) {R : Type 0}
     → (must_stay o (stands_of k o a.floor) (call a.me.seat) ≡ false → R) → must_stay o (stands_of k o f) (call number) ≡ false → R
 must_known {k} {o} {f = f} h a is call told free =
     told ((λ i. must_stay o (stands_of k o (sym is i).floor) (call (sym is i).me.seat))

@@ -78,7 +78,7 @@ module _ {k : Rules} {o : Object} where
     own = (λ i. events_of (seen i) (seat i)) ∙ (t.own ∙ sym mine);
   }
 
-  pub rests_moved : {z : TableId} {me : Me} {number left calls : ℕ} → IsResting k o z me number left calls
+  pub rests_moved : {z : TableId} {me : Me} {number left calls budget : ℕ} → IsResting k o z me number left calls budget
       → (p : Place) (known : Bool) (count looks steps now : ℕ) → now ≡ count
       → IsResting k o z (
         record (the me.0) {
@@ -90,11 +90,17 @@ module _ {k : Rules} {o : Object} where
               steps;
         } ∷ [],
         me.1,
-      ) number left now
+      ) number left now budget
   rests_moved {z} {me} x p known count looks steps now counts = record {
     one = refl;
     free = x.free;
-    seated = record { is_seat = x.seated.is_seat; near = x.seated.near; sized = x.seated.sized; counted = counts };
+    seated = record {
+      is_seat = x.seated.is_seat;
+      near = x.seated.near;
+      sized = x.seated.sized;
+      counted = counts;
+      budgeted = x.seated.budgeted;
+    };
     spent = x.spent;
     told = told_moved (the me.0)
         (record (the me.0) { place = p; known = known; count = count; looks = looks; steps = steps }) x.told refl refl
@@ -118,17 +124,23 @@ module _ {k : Rules} {o : Object} where
         let two = x.left in let b = ap (λ y. y.budget) x.is_floor in omega arith;
   }
 
-  pub came_in : {z : TableId} {me : Me} {number left calls : ℕ} → IsResting k o z me number left calls
+  pub came_in : {z : TableId} {me : Me} {number left calls budget : ℕ} → IsResting k o z me number left calls budget
       → (f g : FloorView) → Finds k o (the me.0) f
       → g ≡ with_event f (out_event (the me.0).seat (source_from (the me.0).place) (turn f.history))
-      → IsHolding k o z (record_after_floor_out (the me.0) f.history ∷ [], (0, None) ∷ []) number calls g
-  came_in {z} {me} {number} {left} {calls} x f g finds grows =
+      → IsHolding k o z (record_after_floor_out (the me.0) f.history ∷ [], (0, None) ∷ []) number calls budget g
+  came_in {z} {me} {number} {left} {calls} {budget} x f g finds grows =
       let r = the me.0 in let e = out_event r.seat (source_from r.place) (turn f.history) in
-      subst (λ y. IsHolding k o z (record_after_floor_out r f.history ∷ [], (0, None) ∷ []) number calls y) (sym grows) record {
+      subst (λ y. IsHolding k o z (record_after_floor_out r f.history ∷ [], (0, None) ∷ []) number calls budget y) (sym grows) record {
         one = refl;
         out = refl;
         active = refl;
-        seated = record { is_seat = x.seated.is_seat; near = x.seated.near; sized = x.seated.sized; counted = x.seated.counted };
+        seated = record {
+          is_seat = x.seated.is_seat;
+          near = x.seated.near;
+          sized = x.seated.sized;
+          counted = x.seated.counted;
+          budgeted = x.seated.budgeted;
+        };
         goes = came_goes r f finds;
         left = let more = own_longer f.history e r.seat (out_seat r.seat (source_from r.place) (turn f.history)) in
             let two = finds.left in let b = ap (λ y. y.budget) finds.is_floor in omega arith;
@@ -163,20 +175,20 @@ module _ {k : Rules} {o : Object} where
       }
 
   -- a step leaves the seat of the same table, and its view is this
-  pub rests_at : {z : TableId} {me : Me} {number left calls : ℕ} → IsResting k o z me number left calls
-      → (y : TableId) (new : Me) → y ≡ z → new ≡ me → IsResting k o y new number left calls
-  rests_at {z} {me} {number} {left} {calls} x y new same is =
-      subst (λ a. IsResting k o a new number left calls) (sym same)
-      (subst (λ m. IsResting k o z m number left calls) (sym is) x)
+  pub rests_at : {z : TableId} {me : Me} {number left calls budget : ℕ} → IsResting k o z me number left calls budget
+      → (y : TableId) (new : Me) → y ≡ z → new ≡ me → IsResting k o y new number left calls budget
+  rests_at {z} {me} {number} {left} {calls} {budget} x y new same is =
+      subst (λ a. IsResting k o a new number left calls budget) (sym same)
+      (subst (λ m. IsResting k o z m number left calls budget) (sym is) x)
 
   -- an idle seat has drawn a ticket
-  pub arrival_rests : {z : TableId} {v : View} {number left calls : ℕ} → IsResting k o z (v, []) number left calls
+  pub arrival_rests : {z : TableId} {v : View} {number left calls budget : ℕ} → IsResting k o z (v, []) number left calls budget
       → (me : Me) → me.0 ≡ v → me.1 ≡ []
       → (y : TableId) (new : Me) (found : ℕ) (p : Place) → y ≡ z
       → new ≡ (record_after_arrive (the me.0) found ∷ [], me.1) → length (the v).mine + 2 ≤ (the v).setting.budget
       → p ≡ place_after_arrive (tickets found) (unpassed found)
-      → IsResting k o y new number left calls × (2 ≤ left) × (p ≡ (the new.0).place) × IsWaiting p
-  arrival_rests {z} {v} {number} {left} {calls} x me view free y new found p same is two at =
+      → IsResting k o y new number left calls budget × (2 ≤ left) × (p ≡ (the new.0).place) × IsWaiting p
+  arrival_rests {z} {v} {number} {left} {calls} {budget} x me view free y new found p same is two at =
       let r = the v in let spent = x.spent in
       let drawn : new ≡ (record_after_arrive r found ∷ [], []) = is ∙ (λ i. (record_after_arrive (the (view i)) found ∷ [], free i)) in (
         rests_at (rests_moved x (place_after_arrive (tickets found) (unpassed found)) r.known r.count r.looks
@@ -186,7 +198,7 @@ module _ {k : Rules} {o : Object} where
         subst IsWaiting (sym at) (arrived_waits (tickets found) (unpassed found)),
       )
 
-  pub arrival : {z : TableId} {v : View} {number left calls : ℕ} → IsResting k o z (v, []) number left calls → (me : Me)
+  pub arrival : {z : TableId} {v : View} {number left calls budget : ℕ} → IsResting k o z (v, []) number left calls budget → (me : Me)
       → me.0 ≡ v → me.1 ≡ []
       → (y : TableId) (new : Me) (found : ℕ) → y ≡ z → TellsArrive me found new → HasArrived k o (token z (the v)) (token y (the new.0))
   arrival {z} {v} x me view free y new found same step =
@@ -200,11 +212,11 @@ module _ {k : Rules} {o : Object} where
       }
 
   -- a seat with a ticket has looked for it
-  pub ticket_look_rests : {z : TableId} {me : Me} {number left calls : ℕ} → IsResting k o z me number left calls
+  pub ticket_look_rests : {z : TableId} {me : Me} {number left calls budget : ℕ} → IsResting k o z me number left calls budget
       → (t found : ℕ) → (the me.0).place ≡ Ticket t → (y : TableId) (new : Me) (p : Place)
       → y ≡ z → new ≡ (record_after_ticket_look (the me.0) found ∷ [], me.1) → p ≡ place_after_ticket_look t (found == t + 1)
-      → IsResting k o y new number left calls × (p ≡ (the new.0).place) × IsWaiting p
-  ticket_look_rests {z} {me} {number} {left} {calls} x t found at y new p same is looks =
+      → IsResting k o y new number left calls budget × (p ≡ (the new.0).place) × IsWaiting p
+  ticket_look_rests {z} {me} {number} {left} {calls} {budget} x t found at y new p same is looks =
       let r = the me.0 in let n = Rattle.monk_world.specs.Places.ticket r.place in (
         rests_at (rests_moved x (place_after_ticket_look n (found == n + 1)) r.known r.count (suc r.looks) (suc r.steps)
             calls x.seated.counted) y new same is,
@@ -214,12 +226,12 @@ module _ {k : Rules} {o : Object} where
       )
 
   -- a parked seat has looked for its call
-  pub call_look_rests : {z : TableId} {me : Me} {number left calls : ℕ} → IsResting k o z me number left calls
+  pub call_look_rests : {z : TableId} {me : Me} {number left calls budget : ℕ} → IsResting k o z me number left calls budget
       → (found : ℕ) → (y : TableId) (new : Me) (p : Place) (b : Bool) (now : ℕ)
       → y ≡ z → new ≡ (record_after_seat_look (the me.0) found ∷ [], me.1) → b ≡ (found == calls + 1)
       → p ≡ place_after_seat_look b → now ≡ count_after_seat_look calls (found == calls + 1)
-      → IsResting k o y new number left now × (p ≡ (the new.0).place) × IsWaiting p
-  call_look_rests {z} {me} {number} {left} {calls} x found y new p b now same is says looks counts =
+      → IsResting k o y new number left now budget × (p ≡ (the new.0).place) × IsWaiting p
+  call_look_rests {z} {me} {number} {left} {calls} {budget} x found y new p b now same is says looks counts =
       let r = the me.0 in let e = x.seated.counted in (
         rests_at (rests_moved x (place_after_seat_look (found == r.count + 1)) r.known
             (count_after_seat_look r.count (found == r.count + 1)) (suc r.looks) (suc r.steps) now
@@ -229,22 +241,22 @@ module _ {k : Rules} {o : Object} where
       )
 
   -- the floor has come out to a seat that was due, and its event is recorded
-  out_is : {z : TableId} {me : Me} {number left calls : ℕ} → IsResting k o z me number left calls
+  out_is : {z : TableId} {me : Me} {number left calls budget : ℕ} → IsResting k o z me number left calls budget
       → (f g : FloorView) (q : Source) → (the me.0).place ≡ Due q
       → g ≡ with_event f (out_event number q (turn f.history))
       → g ≡ with_event f (out_event (the me.0).seat (source_from (the me.0).place) (turn f.history))
   out_is x f g q at grows = grows ∙ (λ i. with_event f (out_event (sym x.seated.is_seat i) (sym (ap source_from at) i) (turn f.history)))
 
-  pub entry_holds : {z : TableId} {me : Me} {number left calls : ℕ} → IsResting k o z me number left calls
+  pub entry_holds : {z : TableId} {me : Me} {number left calls budget : ℕ} → IsResting k o z me number left calls budget
       → (f g : FloorView) (q : Source) → Finds k o (the me.0) f → (the me.0).place ≡ Due q
       → g ≡ with_event f (out_event number q (turn f.history)) → (y : TableId) (new : Me) → y ≡ z
       → new ≡ (record_after_floor_out (the me.0) f.history ∷ [], (0, None) ∷ [])
-      → IsHolding k o y new number calls g
-  entry_holds {z} {me} {number} {left} {calls} x f g q finds at grows y new same is =
-      subst (λ a. IsHolding k o a new number calls g) (sym same)
-      (subst (λ m. IsHolding k o z m number calls g) (sym is) (came_in x f g finds (out_is x f g q at grows)))
+      → IsHolding k o y new number calls budget g
+  entry_holds {z} {me} {number} {left} {calls} {budget} x f g q finds at grows y new same is =
+      subst (λ a. IsHolding k o a new number calls budget g) (sym same)
+      (subst (λ m. IsHolding k o z m number calls budget g) (sym is) (came_in x f g finds (out_is x f g q at grows)))
 
-  pub entry : {z : TableId} {me : Me} {number left calls : ℕ} → IsResting k o z me number left calls
+  pub entry : {z : TableId} {me : Me} {number left calls budget : ℕ} → IsResting k o z me number left calls budget
       → (f g : FloorView) (q : Source) → Finds k o (the me.0) f → (the me.0).place ≡ Due q
       → g ≡ with_event f (out_event number q (turn f.history)) → (y : TableId) (new : Me) → y ≡ z
       → new ≡ (record_after_floor_out (the me.0) f.history ∷ [], (0, None) ∷ [])
@@ -335,13 +347,13 @@ module _ {k : Rules} {o : Object} where
     within = let more = own_longer f.history e r.seat seat in omega arith;
   }
 
-  pub grown_holds : {z : TableId} {me : Me} {number calls : ℕ} {f : FloorView} → IsHolding k o z me number calls f
+  pub grown_holds : {z : TableId} {me : Me} {number calls budget : ℕ} {f : FloorView} → IsHolding k o z me number calls budget f
       → (e : Event) → seat_of e ≡ number → turn_by (seat_of e) (next_of e) ≡ Owned number
       → is_enter e ≡ false → IsAllowed (monitor_of k o f) f.history e
       → length (events_of f.history (the me.0).seat) + 2 ≤ (the me.0).setting.budget → (g : FloorView)
-      → g ≡ with_event f e → IsHolding k o z me number calls g
-  grown_holds {z} {me} {number} {calls} {f} x e seat keeps enters allowed room g grows = let n = x.seated.is_seat in
-      subst (λ y. IsHolding k o z me number calls y) (sym grows) record {
+      → g ≡ with_event f e → IsHolding k o z me number calls budget g
+  grown_holds {z} {me} {number} {calls} {budget} {f} x e seat keeps enters allowed room g grows = let n = x.seated.is_seat in
+      subst (λ y. IsHolding k o z me number calls budget y) (sym grows) record {
         one = x.one;
         out = x.out;
         active = x.active;

@@ -10,5 +10,6 @@ pub mod Handing
 pub mod AfterCalls
 pub mod Recorded
 pub mod Closing
+pub mod Complete
 pub mod Laws
 pub mod Tests

@@ -20,6 +20,7 @@ pub struct Active<K: Kind, T: Guarded> {
     pub(crate) seat: TableSeat<K, T>,
     pub(crate) number: u8,
     pub(crate) calls: u64,
+    pub(crate) budget: u32,
     pub(crate) floor: Floor<K, T>,
 }
 
@@ -31,7 +32,7 @@ impl<K: Kind, T: Guarded> Model for Active<K, T> {
 
     ghost view = { λ a. record { hall = a.seat.table_id; me = with_own (the a.seat.me.0) a.floor; floor = a.floor } };
 
-    ghost invariant = { λ a. IsHolding K.rules T.meaning a.seat.table_id a.seat.me a.number a.calls a.floor };
+    ghost invariant = { λ a. IsHolding K.rules T.meaning a.seat.table_id a.seat.me a.number a.calls a.budget a.floor };
 }
 
 impl<K: Kind, T: Guarded> Active<K, T> {

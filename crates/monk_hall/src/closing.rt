@@ -57,6 +57,7 @@ impl<K: Kind, T: Guarded> Active<K, T> {
             seat: _,
             number,
             calls: _,
+            budget: _,
             mut floor,
         } = self;
         floor.leave(number, Pick::Entry, false);

@@ -122,5 +122,6 @@ fn fresh_pass<K: Kind, T: Guarded>(seat: TableSeat<K, T>, number: u8, budget: u3
         number,
         left: budget,
         calls: 0,
+        budget,
     }
 }

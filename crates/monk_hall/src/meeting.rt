@@ -1,6 +1,7 @@
 //! How two seats tell each other what they have seen.
 ghost use Rattle.std.specs.Prelude.{◌≡◌, suc, [], ◌∷◌};
 ghost use Rattle.monk_hall.specs.Changes.{longer};
+ghost use Rattle.monk_hall.specs.Floors.{StartsWith};
 ghost use Rattle.monk_hall.specs.Tells.{AreOne, SeesTruly};
 ghost use Rattle.monk_hall.specs.Tokens.{top};
 
@@ -23,7 +24,7 @@ fn lift<K: Kind, T: Guarded>(badge: &mut Badge<View>) -> TableSeat<K, T>
 }
 
 /// Two seats that are outside tell each other what they have seen of the history: of the two one begins the other, and
-/// both know the longer from now on. Nothing that a program can read changes; each takes one step.
+/// both know the longer from now on, which begins with what either had seen. Nothing that a program can read changes; each takes one step.
 pub fn meet<K: Kind, T: Guarded>(hall: &Hall<K, T>, a: &mut Pass<K, T>, b: &mut Pass<K, T>)
     requires { (a.old.hall ≡ hall.now.id) × (b.old.hall ≡ hall.now.id) }
     ensures one { AreOne a.old.me.seen b.old.me.seen }
@@ -31,6 +32,8 @@ pub fn meet<K: Kind, T: Guarded>(hall: &Hall<K, T>, a: &mut Pass<K, T>, b: &mut 
         { me = record a.old.me { seen = longer a.old.me.seen b.old.me.seen; steps = suc a.old.me.steps } } }
     ensures second { b.new ≡ record b.old
         { me = record b.old.me { seen = longer a.old.me.seen b.old.me.seen; steps = suc b.old.me.steps } } }
+    ensures first_learns { StartsWith a.new.me.seen a.old.me.seen × StartsWith a.new.me.seen b.old.me.seen }
+    ensures second_learns { StartsWith b.new.me.seen a.old.me.seen × StartsWith b.new.me.seen b.old.me.seen }
     ensures told { SeesTruly K.rules T.meaning a.new.me × SeesTruly K.rules T.meaning b.new.me }
 {
     let words = &hall.table.shared;

@@ -22,6 +22,7 @@ pub struct Parked<K: Kind, T: Guarded> {
     pub(crate) number: u8,
     pub(crate) left: u32,
     pub(crate) calls: u64,
+    pub(crate) budget: u32,
     pub(crate) place: Place,
 }
 
@@ -34,7 +35,7 @@ impl<K: Kind, T: Guarded> Model for Parked<K, T> {
 
     ghost view = { λ p. record { hall = p.seat.table_id; me = the p.seat.me.0 } };
 
-    ghost invariant = { λ p. IsResting K.rules T.meaning p.seat.table_id p.seat.me p.number p.left p.calls
+    ghost invariant = { λ p. IsResting K.rules T.meaning p.seat.table_id p.seat.me p.number p.left p.calls p.budget
         × (2 ≤ p.left) × (p.place ≡ (the p.seat.me.0).place) × IsWaiting p.place };
 }
 
@@ -103,6 +104,7 @@ impl<K: Kind, T: Guarded> Parked<K, T> {
             number,
             left,
             calls,
+            budget,
             place: _,
         } = self;
         let found = steps::ticket_look(&hall.table.shared, &mut seat, hall.seats, ticket);
@@ -111,6 +113,7 @@ impl<K: Kind, T: Guarded> Parked<K, T> {
             number,
             left,
             calls,
+            budget,
             place: place_after_ticket_look(ticket, found),
         }
     }
@@ -126,6 +129,7 @@ impl<K: Kind, T: Guarded> Parked<K, T> {
             number,
             left,
             calls,
+            budget,
             place: _,
         } = self;
         let found = steps::seat_look(&hall.table.shared, &mut seat, number);
@@ -134,6 +138,7 @@ impl<K: Kind, T: Guarded> Parked<K, T> {
             number,
             left,
             calls: count_after_seat_look(calls, found),
+            budget,
             place: place_after_seat_look(is_called(calls, found)),
         }
     }
@@ -150,6 +155,7 @@ impl<K: Kind, T: Guarded> Parked<K, T> {
             number,
             left: _,
             calls,
+            budget,
             place: _,
         } = self;
         let mut floor = steps::floor_out(&hall.table.shared, &mut seat);
@@ -158,6 +164,7 @@ impl<K: Kind, T: Guarded> Parked<K, T> {
             seat,
             number,
             calls,
+            budget,
             floor,
         }
     }
@@ -169,6 +176,7 @@ impl<K: Kind, T: Guarded> Parked<K, T> {
             number: _,
             left: _,
             calls: _,
+            budget: _,
             place: _,
         } = self;
     }

@@ -21,6 +21,7 @@ pub struct Pass<K: Kind, T: Guarded> {
     pub(crate) number: u8,
     pub(crate) left: u32,
     pub(crate) calls: u64,
+    pub(crate) budget: u32,
 }
 
 impl<K: Kind, T: Guarded> Model for Pass<K, T> {
@@ -34,7 +35,7 @@ impl<K: Kind, T: Guarded> Model for Pass<K, T> {
     ghost view = { λ p. record { hall = p.badge.table_id; me = the (top p.badge.views) } };
 
     ghost invariant = { λ p. (p.badge.views ≡ top p.badge.views ∷ [])
-        × IsResting K.rules T.meaning p.badge.table_id (top p.badge.views, []) p.number p.left p.calls
+        × IsResting K.rules T.meaning p.badge.table_id (top p.badge.views, []) p.number p.left p.calls p.budget
         × ((the (top p.badge.views)).place ≡ Idle) };
 }
 
@@ -55,6 +56,14 @@ impl<K: Kind, T: Guarded> Pass<K, T> {
         self.left
     }
 
+    /// How many events its seat has made.
+    pub(crate) fn made(&self) -> u32
+        ensures made { result ≡ length self.now.me.mine }
+        ensures told { SeesTruly K.rules T.meaning self.now.me }
+    {
+        self.budget - self.left
+    }
+
     /// Comes to the monitor: draws a ticket, in one step. The event of the enter is recorded when the seat becomes
     /// active.
     pub fn arrive(self, hall: &Hall<K, T>) -> Parked<K, T>
@@ -68,6 +77,7 @@ impl<K: Kind, T: Guarded> Pass<K, T> {
             number,
             left,
             calls,
+            budget,
         } = self;
         let mut seat: TableSeat<K, T> = badge.into_seat();
         let found = steps::arrive(&hall.table.shared, &mut seat);
@@ -76,6 +86,7 @@ impl<K: Kind, T: Guarded> Pass<K, T> {
             number,
             left,
             calls,
+            budget,
             place: place_after_arrive(found),
         }
     }

@@ -24,6 +24,7 @@ pub struct Release<K: Kind, T: Guarded> {
     pub(crate) seat: TableSeat<K, T>,
     pub(crate) number: u8,
     pub(crate) calls: u64,
+    pub(crate) budget: u32,
     pub(crate) floor: Floor<K, T>,
     pub(crate) choice: Next,
 }
@@ -37,12 +38,14 @@ impl<K: Kind, T: Guarded> Release<K, T> {
             seat,
             number,
             calls,
+            budget,
             floor,
         } = active;
         Release {
             seat,
             number,
             calls,
+            budget,
             floor,
             choice: Next::Stay,
         }
@@ -59,6 +62,7 @@ impl<K: Kind, T: Guarded> Release<K, T> {
             mut seat,
             number,
             calls,
+            budget,
             floor,
             choice,
         } = self;
@@ -70,6 +74,7 @@ impl<K: Kind, T: Guarded> Release<K, T> {
             number,
             left,
             calls,
+            budget,
         }
     }
 
@@ -84,6 +89,7 @@ impl<K: Kind, T: Guarded> Release<K, T> {
             mut seat,
             number,
             calls,
+            budget,
             floor,
             choice,
         } = self;
@@ -94,6 +100,7 @@ impl<K: Kind, T: Guarded> Release<K, T> {
             number,
             left,
             calls,
+            budget,
             place: Place::Inner,
         }
     }
@@ -109,6 +116,7 @@ impl<K: Kind, T: Guarded> Release<K, T> {
                 seat,
                 number,
                 calls,
+                budget,
                 floor,
                 choice: _,
             } = self;
@@ -116,6 +124,7 @@ impl<K: Kind, T: Guarded> Release<K, T> {
                 seat,
                 number,
                 calls,
+                budget,
                 floor,
             });
         }

@@ -3,6 +3,7 @@ ghost use Rattle.std.specs.Prelude.{◌≡◌, ◌<◌, IfSome, IfOk};
 ghost use Rattle.monk_hall.specs.Tokens.{AreOf};
 
 mod client;
+mod completeness;
 mod conditions;
 mod crowd;
 mod ending;

@@ -109,14 +109,14 @@ fn waiter_keeps_the_hall_open(rt: HostRuntime) -> Result<(), Fail> {
 }
 
 /// Comes in and leaves.
-fn visit(hall: &Hall<Pb, Buffer>, pass: Pass<Pb, Buffer>) -> Option<Pass<Pb, Buffer>>
+pub(super) fn visit(hall: &Hall<Pb, Buffer>, pass: Pass<Pb, Buffer>) -> Option<Pass<Pb, Buffer>>
     requires { pass.hall ≡ hall.now.id }
     ensures { IfSome result (λ p. p.hall ≡ hall.now.id) }
 {
     Some(enter(hall, pass)?.leave(hall, Pick::Waiter))
 }
 
-const MET: [Event; 6] = [
+pub(super) const MET: [Event; 6] = [
     Event::Enter(0, Via::Free),
     Event::Leave(0, Next::Entry),
     Event::Enter(1, Via::Free),

@@ -38,6 +38,9 @@ pub use Rattle.monk_history.proofs.MeaningLaws.SignallerLaws.{front_is_taken}
 pub use Rattle.monk_history.proofs.MeaningLaws.StandingLaws.{legal_placed}
 -- The situation after one event more
 pub use Rattle.monk_history.proofs.MeaningLaws.StepLaws.{joins_in_range, legal_situation-push, same_situation, situation-none}
+-- The sum of a weight over a history, seat by seat
+pub use Rattle.monk_history.proofs.MeaningLaws.SumLaws.{AreDistinct, length-sum_by, no_rest, rest_has, rest_of, same_sums}
+pub use Rattle.monk_history.proofs.MeaningLaws.SumLaws.{sum_by_all_seats, sum_by_seats}
 -- Tests joined, and fronts of queues
 pub use Rattle.monk_history.proofs.MeaningLaws.TestLaws.{and_left, and_right}
 -- Whose turn it is after one event more

@@ -12,9 +12,9 @@ invariant_of-result g c =
     let views = c.into_badge.ensures.2 ∙ ap (λ m. m.0 ∷ []) c.requires.fresh in
     subst (λ (z : TableId). (c.into_badge.result.views ≡ top c.into_badge.result.views ∷ [])
     × IsResting g.K.Kind.rules g.T.Guarded.meaning z (top c.into_badge.result.views, []) c.args.number c.args.budget
-    0 × ((the (top c.into_badge.result.views)).place ≡ Idle)) (sym c.into_badge.ensures.0)
+    0 c.args.budget × ((the (top c.into_badge.result.views)).place ≡ Idle)) (sym c.into_badge.ensures.0)
     (subst (λ (vs : List View). (vs ≡ top vs ∷ []) × IsResting g.K.Kind.rules g.T.Guarded.meaning c.args.seat.table_id
-    (top vs, []) c.args.number c.args.budget 0 × ((the (top vs)).place ≡ Idle)) (sym views) (
+    (top vs, []) c.args.number c.args.budget 0 c.args.budget × ((the (top vs)).place ≡ Idle)) (sym views) (
       refl,
       fresh_rests g.K.Kind.rules g.T.Guarded.meaning c.args.seat.table_id setting c.args.number c.args.budget
           c.requires.numbers.0 c.requires.table c.requires.numbers.1,

@@ -28,10 +28,10 @@ invariant_of-result g c =
     (view.0 ∙ c.go_home.ensures.table) gone c.go_home.ensures.view in
     let views : c.into_badge.result.views ≡ (the now.me.0 ∷ []) ∷ [] = view.2 ∙ ap (λ m. m.0 ∷ []) c.go_home.ensures.view in
     let has = subst (λ m. IsResting g.K.Kind.rules g.T.Guarded.meaning c.into_badge.result.table_id m c.args.self.number
-    c.left-left.result c.args.self.calls) c.go_home.ensures.view rests.0 in
+    c.left-left.result c.args.self.calls c.args.self.budget) c.go_home.ensures.view rests.0 in
     subst (λ (vs : List View). (vs ≡ top vs ∷ [])
     × IsResting g.K.Kind.rules g.T.Guarded.meaning c.into_badge.result.table_id (top vs, []) c.args.self.number
-    c.left-left.result c.args.self.calls × ((the (top vs)).place ≡ Idle)) (sym views)
+    c.left-left.result c.args.self.calls c.args.self.budget × ((the (top vs)).place ≡ Idle)) (sym views)
     (refl, has, rests.1)
 
 pub returns : goal.returns

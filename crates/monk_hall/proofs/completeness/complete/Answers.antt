@@ -1,0 +1,47 @@
+use Rattle.std.proofs.Common.{◌≡◌, ◌+◌, All, List, length, take, arith, eq-eqb, sym, ap, subst, ◌∙◌}
+use Rattle.std.proofs.lemmas.Bool.{eqb-true}
+use Rattle.std.proofs.lemmas.List.{take_all}
+use Rattle.monk_history.specs.Meaning.Counts.{events_of}
+use Rattle.monk_hall.specs.Tokens.{Token}
+use Rattle.monk_hall.proofs.CompleteLaws.{KnowsItsOwn, holds_length, holds_only, made_by, one_made, one_known, some_fit}
+use Rattle.monk_hall.proofs.completeness.complete.Goals as goal
+
+one_more : goal.loop-pass-preserved
+one_more g c =
+    let inv = c.loop-pass.invariant in
+    let below = c.loop-pass-test.true in
+    let n = c.loop-pass.pass-index in
+    let ps = c.args.passes.now in
+    let p = c.pass-item.result in
+    let made = c.made.ensures.made ∙ ap (λ (q : Token). length q.me.mine) c.pass-item.is in (
+      one_made ps n (length (events_of c.args.history.now c.args.seat)) c.loop-pass.known c.made.result p below inv.0 made,
+      one_known ps n p below inv.1 (subst KnowsItsOwn c.pass-item.is c.made.ensures.told.own),
+      omega (arith, below),
+    )
+
+pub loop-pass-preserved : goal.loop-pass-preserved
+loop-pass-preserved g c = one_more g c
+
+pub overflow_add-known : goal.overflow_add-known
+overflow_add-known g c =
+    let more = one_more g c in
+    let fits = some_fit c.args.history.now c.args.seat c.args.passes.now (c.loop-pass.pass-index + 1) c.requires.apart
+    c.requires.seen more.1 in
+    let long = c.well_formed.0.0 in
+    omega (arith, more.0, fits, long)
+
+pub returns : goal.returns
+returns g c =
+    let inv = c.loop-pass.invariant in
+    let ended = c.loop-pass-test.false in
+    let all : take c.loop-pass.pass-index c.args.passes.now ≡ c.args.passes.now =
+    take_all c.loop-pass.pass-index c.args.passes.now (omega (arith, ended)) in
+    let h = c.args.history.now in
+    let known : c.loop-pass.known ≡ length (events_of h c.args.seat) + made_by c.args.passes.now = inv.0
+    ∙ ap (λ (ps : List Token). length (events_of h c.args.seat) + made_by ps) all in
+    let own = subst (All KnowsItsOwn) all inv.1 in (
+      (λ same. holds_only h c.args.seat c.args.passes.now c.requires.apart c.requires.seen own
+          (sym known ∙ eqb-true c.loop-pass.known (length h) same)),
+      (λ only. eq-eqb c.loop-pass.known (length h)
+          (known ∙ holds_length h c.args.seat c.args.passes.now c.requires.apart only)),
+    )

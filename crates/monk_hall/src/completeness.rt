@@ -1,0 +1,42 @@
+//! Whether a history holds the calls of some seats, and nothing else.
+ghost use Rattle.std.specs.Prelude.{◌≡◌, ◌↔◌, length, true};
+ghost use Rattle.monk_history.specs.Meaning.Counts.{events_of};
+ghost use Rattle.monk_hall.specs.Complete.{AreApart, HaveSeenPart, HoldsOnly};
+
+use crate::pass::Pass;
+use monk_history::Event;
+use monk_kinds::Kind;
+use monk_object::Guarded;
+
+/// Whether a history holds just what these passes' seats did, and beside it events of one seat alone: each pass's events
+/// in it are all that its seat knows as its own, and every other event is of that seat. Of a closed history and the seat
+/// that closed it, true says that it holds the calls of that seat and of these passes, each once, and nothing else.
+///
+/// The passes are of other seats, each of another, and the history begins with what each has seen. A caller knows this
+/// of passes that have met the pass of the closing seat, and have been idle since.
+///
+/// Takes no memory and no step: a look at each pass and at each event.
+pub fn complete<K: Kind, T: Guarded>(history: &[Event], seat: u8, passes: &[Pass<K, T>]) -> bool
+    requires apart { AreApart seat passes.now }
+    requires seen { HaveSeenPart history.now passes.now }
+    ensures { (result ≡ true) ↔ HoldsOnly history.now seat passes.now }
+{
+    let mut known = count_of(history, seat);
+    for pass in passes {
+        known += pass.made() as usize;
+    }
+    known == history.len()
+}
+
+/// How many events of a history are of this seat.
+fn count_of(history: &[Event], seat: u8) -> usize
+    ensures { result ≡ length (events_of history.now seat) }
+{
+    let mut count = 0;
+    for event in history {
+        if event.seat() == seat {
+            count += 1;
+        }
+    }
+    count
+}
