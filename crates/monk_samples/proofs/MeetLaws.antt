@@ -1,6 +1,7 @@
 -- What stays of passes that meet, and what the history holds that their seats closed
-use Rattle.std.proofs.Common.{◌≡◌, ◌≢◌, ℕ, zero, suc, ◌+◌, ◌<◌, ◌⊎◌, inl, inr, List, [], ◌∷◌, ◌++◌, length, refl, sym, ap, subst, ◌∙◌, arith}
-use Rattle.std.specs.Prelude.{All, AllPairs, sum_by}
+use Rattle.std.proofs.Common.{◌≡◌, ◌≢◌, ℕ, zero, suc, ◌+◌, ◌≤◌, Bool, true, List, [], ◌∷◌, ◌++◌, length, refl, sym, ap, subst, ◌∙◌, arith}
+use Rattle.std.proofs.Common.{append_assoc}
+use Rattle.std.specs.Prelude.{All, AllPairs, ◌↔◌, sum_by}
 use Rattle.std.proofs.lemmas.List.Elements.{All-cons, All-head, All-nil, All-tail, All-same}
 use Rattle.std.proofs.lemmas.List.Kept.{AllPairs-cons}
 use Rattle.std.proofs.lemmas.List.Sums.{sum_by-append, sum_by-cons}
@@ -8,16 +9,25 @@ use Rattle.atomic_table.specs.Seated.{TableId}
 use Rattle.monk_kinds.specs.declared.mode.Rules.{Rules}
 use Rattle.monk_object.specs.Object.{Object}
 use Rattle.monk_object.specs.Runs.{Answered}
-use Rattle.monk_history.specs.Meaning.Acts.{acts_in}
+use Rattle.monk_history.specs.Meaning.Acts.{act_of, acts_in}
 use Rattle.monk_history.specs.Meaning.Counts.{events_of}
 use Rattle.monk_history.specs.declared.event.Event.{Event}
+use Rattle.monk_history.specs.declared.event.Event.TheVariants.{Leave}
+use Rattle.monk_history.specs.declared.event.Next.TheVariants.{Entry}
+use Rattle.monk_history.specs.declared.event.Turn.{Turn}
+use Rattle.monk_world.specs.StepTable.{out_event}
+use Rattle.monk_world.specs.declared.source.Source.{Source}
+use Rattle.monk_world.specs.declared.source.Source.TheVariants.{Free, Granted, Called}
 use Rattle.monk_hall.specs.Complete.{AreApart, HoldsOnly}
 use Rattle.monk_hall.specs.Floors.{StartsWith}
 use Rattle.monk_hall.specs.Records.{opening_records}
 use Rattle.monk_hall.specs.Tokens.{House, Token, tokens}
 use Rattle.monk_hall.specs.declared.setting.Setting.{Setting}
 use Rattle.monk_hall.proofs.PublicLaws.{holds_sum}
+use Rattle.monk_samples.specs.Crews.{IsOf}
 use Rattle.monk_samples.specs.Ends.{HaveServed}
+use Rattle.monk_samples.specs.Runs.{IsFirstSpent}
+use Rattle.monk_samples.specs.Styles.{IsSpent}
 use Rattle.monk_samples.specs.Wholes.{IsSame, AreSame, HoldsOperationsOf}
 use Rattle.monk_samples.specs.declared.sample.Sample.{Sample}
 use Rattle.monk_samples.proofs.TrailLaws.{starts_here, starts_then}
@@ -104,7 +114,7 @@ holds_operations h ps q qs extra same apart own none only weight =
     acts_worth weight h ∙ whole ∙ same_worth (of_event weight) ps (q ∷ qs) same ∙ own_worth weight ps
 
 -- the seats of a run differ from each other
-from_on : (k : Rules) (o : Object) (answers : ℕ → ℕ → _ → Type 0) (sample : Sample) (seats rounds : ℕ) (h : House) (z : TableId) (c : Setting)
+from_on : (k : Rules) (o : Object) (answers : ℕ → ℕ → Bool → Type 0) (sample : Sample) (seats rounds : ℕ) (h : House) (z : TableId) (c : Setting)
     → (n i : ℕ) (qs : List Token) → HaveServed k o answers sample seats rounds h (tokens z (opening_records c n i)) qs
     → All (λ q. i ≤ q.me.seat) qs
 from_on k o answers sample seats rounds h z c zero i [] s = All-nil (λ q. i ≤ q.me.seat)
@@ -114,7 +124,7 @@ from_on k o answers sample seats rounds h z c (suc n) i (q ∷ qs) s =
     All-cons (λ q. i ≤ q.me.seat) q qs (subst (λ x. i ≤ x) (sym s.0.1.called.went.seat) (omega arith))
     (λ k d near. omega (arith, from_on _ o answers sample seats rounds h z c n (suc i) qs s.1 k d near))
 
-pub seats_differ : (k : Rules) (o : Object) (answers : ℕ → ℕ → _ → Type 0) (sample : Sample) (seats rounds : ℕ) (h : House) (z : TableId)
+pub seats_differ : (k : Rules) (o : Object) (answers : ℕ → ℕ → Bool → Type 0) (sample : Sample) (seats rounds : ℕ) (h : House) (z : TableId)
     (c : Setting) → (n i : ℕ) (qs : List Token) → HaveServed k o answers sample seats rounds h (tokens z (opening_records c n i)) qs
     → AllDiffer qs
 seats_differ k o answers sample seats rounds h z c zero i [] s = λ i j d lt within. absurd (omega (arith, within))
@@ -137,3 +147,58 @@ pub met_begins : (p q r s : Token) (seen : List Event) (m n : ℕ) → q ≡ rec
 met_begins p q r s seen m n e f =
     let same : q.me.seen ≡ s.me.seen = ap (λ (t : Token). t.me.seen) e ∙ sym (ap (λ (t : Token). t.me.seen) f) in
     subst (λ h. StartsWith q.me.seen h) same (starts_here q.me.seen)
+
+-- the first of passes that have met
+pub first_is_of : (h : House) (ps : List Token) (q : Token) (qs : List Token) → AreSame ps (q ∷ qs) → All (IsOf h) ps → IsOf h q
+first_is_of h [] q qs same all = absurd same
+first_is_of h (p ∷ ps) q qs same all =
+    let of = All-head (IsOf h) p ps all in (same.0.hall ∙ of.0, same.0.setting ∙ of.1)
+
+same_spent : (p q : Token) → IsSame p q → IsSpent q → IsSpent p
+same_spent p q s spent =
+    subst (λ (c : Setting). c.budget ≤ length p.me.mine + 1) s.setting
+    (subst (λ (h : List Event). q.me.setting.budget ≤ length h + 1) s.mine spent)
+
+pub first_spent : (ps : List Token) (q : Token) (qs : List Token) → AreSame ps (q ∷ qs) → IsSpent q → IsFirstSpent ps
+first_spent [] q qs same spent = absurd same
+first_spent (p ∷ ps) q qs same spent = same_spent p q same.0 spent
+
+same_back : (p q : Token) → IsSame p q → IsSame q p
+same_back p q s = record { hall = sym s.hall; seat = sym s.seat; setting = sym s.setting; mine = sym s.mine }
+
+pub first_able : (ps : List Token) (q : Token) (qs : List Token) (left : ℕ) → AreSame ps (q ∷ qs)
+    → left + length q.me.mine ≡ q.me.setting.budget → 2 ≤ left → IsFirstSpent ps → ⊥
+first_able [] q qs left same counted some spent = absurd same
+first_able (p ∷ ps) q qs left same counted some spent =
+    let now : q.me.setting.budget ≤ length q.me.mine + 1 = same_spent q p (same_back p q same.0) spent in
+    omega (arith, counted, some, now)
+
+-- a closed history begins with what the first seat had seen, and so with what all had seen that it met
+pub closed_begins : (h at seen before own : List Event) (e l : Event) (qs : List Token) → h ≡ at ++ l ∷ [] → at ≡ seen ++ e ∷ []
+    → StartsWith seen before → before ≡ own → All (λ p. StartsWith own p.me.seen) qs → All (λ p. StartsWith h p.me.seen) qs
+closed_begins h at seen before own e l qs closed came starts same all k d near =
+    let first : StartsWith h seen = (e ∷ l ∷ [], closed ∙ ap (λ xs. xs ++ l ∷ []) came ∙ append_assoc seen (e ∷ []) (l ∷ [])) in
+    starts_then _ own h (all k d near) (subst (λ xs. StartsWith h xs) same (starts_then before seen h starts first))
+
+came_acts : (s : ℕ) (x : Source) (t : Turn) → act_of (out_event s x t) ≡ []
+came_acts s (Free n) t = refl
+came_acts s (Granted n) t = refl
+came_acts s Called t = refl
+
+pub nothing_done : (weight : Answered → ℕ) (s : ℕ) (x : Source) (t : Turn) (n : ℕ)
+    → sum_by (of_event weight) (out_event s x t ∷ Leave n Entry ∷ []) ≡ 0
+nothing_done weight s x t n =
+    sum_by-cons (of_event weight) (out_event s x t) (Leave n Entry ∷ [])
+    ∙ ap (λ acts. sum_by weight acts + sum_by (of_event weight) (Leave n Entry ∷ [])) (came_acts s x t)
+
+-- the first seat's events are its own, and those by which it came in and closed
+pub closed_own : (h own before mine : List Event) (e l : Event) (s t u : ℕ) → events_of h s ≡ mine ++ l ∷ [] → mine ≡ before ++ e ∷ []
+    → before ≡ own → s ≡ t → t ≡ u → events_of h u ≡ own ++ e ∷ l ∷ []
+closed_own h own before mine e l s t u is came same a b =
+    ap (events_of h) (sym (a ∙ b)) ∙ is ∙ ap (λ xs. xs ++ l ∷ []) (came ∙ ap (λ xs. xs ++ e ∷ []) same)
+    ∙ append_assoc own (e ∷ []) (l ∷ [])
+
+pub only_here : (h g : List Event) (s seat : ℕ) (qs rs : List Token) (b : Bool) → ((b ≡ true) ↔ HoldsOnly g s rs) → b ≡ true → g ≡ h
+    → s ≡ seat → rs ≡ qs → HoldsOnly h seat qs
+only_here h g s seat qs rs b tells is same here those =
+    subst (λ xs. HoldsOnly xs seat qs) same (subst (λ x. HoldsOnly g x qs) here (subst (HoldsOnly g s) those (tells.0 is)))

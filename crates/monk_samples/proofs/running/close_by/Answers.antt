@@ -1,42 +1,85 @@
-use Rattle.std.proofs.Common.{rules, ◌≡◌, inl, refl, ap, sym, ◌∙◌}
-use Rattle.std.specs.Prelude.{vec_items}
-use Rattle.std.specs.Vec.Iter.{into_iter_items}
-use Rattle.monk_hall.specs.Tokens.{House, Holder}
+use Rattle.std.proofs.Common.{rules, ◌≡◌, true, inl, inr, refl, ap, sym, subst, ◌∙◌, List, ◌∷◌}
+use Rattle.monk_history.specs.declared.event.Event.{Event}
+use Rattle.monk_history.specs.Meaning.Turn.{turn}
+use Rattle.monk_hall.specs.Changes.{source_from}
+use Rattle.monk_hall.specs.Complete.{AreApart}
+use Rattle.monk_hall.specs.Floors.{StartsWith}
+use Rattle.monk_hall.specs.Tokens.{House, Holder, Token}
+use Rattle.monk_floor.specs.View.{FloorView}
 use Rattle.monk_hall.specs.declared.record.SeatRecord.{SeatRecord}
-use Rattle.monk_samples.specs.Crews.{IsOf}
-use Rattle.monk_samples.proofs.RunLaws.{closed_by, first_of, unspent}
+use Rattle.std.specs.Prelude.{All}
+use Rattle.monk_samples.proofs.MeetLaws.{apart_from, still_differ, closed_begins, closed_own, first_able, first_is_of, holds_operations}
+use Rattle.monk_samples.proofs.MeetLaws.{nothing_done, only_here}
+use Rattle.monk_samples.proofs.RunLaws.{closed_by}
 use Rattle.monk_samples.proofs.running.close_by.Goals as goal
+
+pub resume-active-requires-after_bounds : goal.resume-active-requires-after_bounds
+resume-active-requires-after_bounds g c κs within =
+    c.arrive.ensures.hall ∙ (first_is_of c.args.hall c.args.passes.items c.in_ok-first.first c.in_ok-first.others.items
+    c.in_ok-first.ensures.same c.requires.of).0
 
 pub close-requires-after_bounds : goal.close-requires-after_bounds
 close-requires-after_bounds g c κs within =
-    let e : into_iter_items c.into_iter.result ≡ vec_items c.args.passes = search rules in
-    let of = first_of (into_iter_items c.next.new.self) (vec_items c.args.passes) c.in-Some.first (IsOf c.args.hall)
-    (sym e ∙ c.in-Some.ensures.items) c.requires.of in
-    c.resume-active.ensures.hall ∙ c.arrive.ensures.hall ∙ of.0
+    c.resume-active.ensures.hall ∙ c.arrive.ensures.hall ∙ (first_is_of c.args.hall c.args.passes.items c.in_ok-first.first
+    c.in_ok-first.others.items c.in_ok-first.ensures.same c.requires.of).0
 
 pub leave-requires-after_bounds : goal.leave-requires-after_bounds
 leave-requires-after_bounds g c κs within =
-    let e : into_iter_items c.into_iter.result ≡ vec_items c.args.passes = search rules in
-    let of = first_of (into_iter_items c.next.new.self) (vec_items c.args.passes) c.in-Some.first (IsOf c.args.hall)
-    (sym e ∙ c.in-Some.ensures.items) c.requires.of in
     ap (λ (a : Holder). a.hall) c.in-Err.ensures.busy.1.is ∙ c.resume-active.ensures.hall ∙ c.arrive.ensures.hall
-    ∙ of.0 ∙ sym (ap (λ (h : House). h.id) c.in-Err.ensures.busy.0)
+    ∙ (first_is_of c.args.hall c.args.passes.items c.in_ok-first.first c.in_ok-first.others.items
+    c.in_ok-first.ensures.same c.requires.of).0 ∙ sym (ap (λ (h : House). h.id) c.in-Err.ensures.busy.0)
+
+pub complete-requires-clause-apart : goal.complete-requires-clause-apart
+complete-requires-clause-apart g c κs within =
+    let first = c.in_ok-first.first in let others = c.in_ok-first.others.items in
+    subst (λ n. AreApart n c.deref-in-Ok.result.now) (sym c.seat-seat.ensures)
+    (subst (λ (qs : List Token). AreApart first.me.seat qs) (sym c.deref-in-Ok.ensures.value)
+    (apart_from first others (still_differ c.args.passes.items (first ∷ others) c.in_ok-first.ensures.same c.requires.apart)))
+
+pub complete-requires-clause-seen : goal.complete-requires-clause-seen
+complete-requires-clause-seen g c κs within =
+    subst (λ (h : List Event). All (λ p. StartsWith h p.me.seen) c.deref-in-Ok.result.now) (sym c.deref.ensures.value)
+    (subst (λ (qs : List Token). All (λ p. StartsWith c.in-Ok.closed.history.items p.me.seen) qs) (sym c.deref-in-Ok.ensures.value)
+    (closed_begins c.in-Ok.closed.history.items c.resume-active.result.floor.history c.resume-active.result.me.seen
+    c.arrive.result.me.seen c.in_ok-first.first.me.seen _ _ c.in_ok-first.others.items c.in-Ok.ensures.ended.leaves
+    (ap (λ (f : FloorView). f.history) c.resume-active.ensures.floor) c.resume-active.ensures.starts
+    (ap (λ (r : SeatRecord). r.seen) c.arrive.ensures.me) c.in_ok-first.ensures.seen))
 
 pub returns-in-Ok-clause-closed : goal.returns-in-Ok-clause-closed
 returns-in-Ok-clause-closed g c =
-    let e : into_iter_items c.into_iter.result ≡ vec_items c.args.passes = search rules in
-    let of = first_of (into_iter_items c.next.new.self) (vec_items c.args.passes) c.in-Some.first (IsOf c.args.hall)
-    (sym e ∙ c.in-Some.ensures.items) c.requires.of in
     closed_by g.K.Kind.rules g.T.Guarded.meaning c.arrive.result.me.setting c.args.hall.setting c.resume-active.result _
     c.in-Ok.closed.history.items (g.T.Guarded.state c.in-Ok.closed.object)
-    (ap (λ (r : SeatRecord). r.setting) c.arrive.ensures.me ∙ of.1) c.resume-active.ensures.floor
-    c.in-Ok.ensures.ended
+    (ap (λ (r : SeatRecord). r.setting) c.arrive.ensures.me
+    ∙ (first_is_of c.args.hall c.args.passes.items c.in_ok-first.first c.in_ok-first.others.items
+    c.in_ok-first.ensures.same c.requires.of).1) c.resume-active.ensures.floor c.in-Ok.ensures.ended
 
-pub returns-in-Err-clause-fault : goal.returns-in-Err-clause-fault
-returns-in-Err-clause-fault g c =
-    let e : into_iter_items c.into_iter.result ≡ vec_items c.args.passes = search rules in
-    inl (
+pub returns-in-Ok-clause-whole : goal.returns-in-Ok-clause-whole
+returns-in-Ok-clause-whole g c =
+    let first = c.in_ok-first.first in let others = c.in_ok-first.others.items in
+    let h = c.in-Ok.closed.history.items in
+    let is : c.complete.result ≡ true = search rules in
+    let only = only_here h c.deref.result.now c.seat-seat.result first.me.seat others c.deref-in-Ok.result.now c.complete.result
+    c.complete.ensures is c.deref.ensures.value c.seat-seat.ensures c.deref-in-Ok.ensures.value in
+    let own = closed_own h first.me.mine c.arrive.result.me.mine c.resume-active.result.me.mine _ _ c.resume-active.result.me.seat
+    c.arrive.result.me.seat first.me.seat c.in-Ok.ensures.ended.own c.resume-active.ensures.mine
+    (ap (λ (r : SeatRecord). r.mine) c.arrive.ensures.me) c.resume-active.ensures.seat
+    (ap (λ (r : SeatRecord). r.seat) c.arrive.ensures.me) in
+    holds_operations h c.args.passes.items first others _ c.in_ok-first.ensures.same c.requires.apart own
+    (λ weight. nothing_done weight c.arrive.result.me.seat (source_from c.arrive.result.me.place)
+    (turn c.resume-active.result.me.seen) c.resume-active.result.me.seat) only
+
+pub returns-then-not-complete-clause-fault : goal.returns-then-not-complete-clause-fault
+returns-then-not-complete-clause-fault g c =
+    inr (inl (
       refl,
-      unspent c.args.passes.items (into_iter_items c.next.new.self) c.in-Some.first c.left.result
-          (sym e ∙ c.in-Some.ensures.items) c.left.ensures.left c.if-left-lt2.false,
-    )
+      first_able c.args.passes.items c.in_ok-first.first c.in_ok-first.others.items c.left.result
+          c.in_ok-first.ensures.same c.left.ensures.left c.if-left-lt2.false,
+    ))
+
+pub returns-clause-fault : goal.returns-clause-fault
+returns-clause-fault g c =
+    inr (inl (
+      refl,
+      first_able c.args.passes.items c.in_ok-first.first c.in_ok-first.others.items c.left.result
+          c.in_ok-first.ensures.same c.left.ensures.left c.if-left-lt2.false,
+    ))
