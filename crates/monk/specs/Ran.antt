@@ -7,6 +7,7 @@ use Rattle.monk_history.specs.Text.{Heading}
 use Rattle.monk_history.specs.declared.event.Event.{Event}
 use Rattle.monk_samples.specs.Runs.{HasRun, IsFaultOfRun}
 use Rattle.monk_samples.specs.Samples.{IsOutcome}
+use Rattle.monk_samples.specs.Totals.{HasTotals}
 use Rattle.monk_samples.specs.declared.run_fault.RunFault.{RunFault}
 use Rattle.monk_samples.specs.declared.run_fault.RunFault.TheVariants.{Range, Memory, Tired, Late, Busy, Thread}
 use Rattle.monk_samples.specs.declared.sample.Sample.{Sample}
@@ -33,13 +34,15 @@ totals_text Shop t =
 abbrev pub lets_in : ℕ → ℕ → Bool → Type 0
 lets_in seat round answer = answer ≡ true
 
--- a run in which every seat has served to its end has left a legal history, and its totals are told
+-- a run in which every seat has served to its end has left a legal history, and its totals are told: those of its seats and
+-- rounds
 pub record IsTold (k : KindName) (sample : Sample) (seats rounds : ℕ) (Puts : List ℕ → Type 0) : Type 0 where
   pub served : HasRun (rules_named k) lets_in sample seats rounds
   pub heading : Heading
   pub history : List Event
   pub totals : List ℕ
   pub outcome : IsOutcome k sample seats heading history totals
+  pub totals_are : HasTotals sample seats rounds totals
   pub told : Puts (totals_text sample totals)
 
 -- the line that tells how a run has ended that left nothing; of want of memory, and of a thread that was not started,

@@ -6,6 +6,7 @@ ghost use Rattle.monk_history.specs.Text.Device.{held, has_failed};
 ghost use Rattle.monk_kinds.specs.Names.{rules_named};
 ghost use Rattle.monk_samples.specs.Runs.{HasRun, IsFaultOfRun};
 ghost use Rattle.monk_samples.specs.Samples.{IsInRange, IsOutcome};
+ghost use Rattle.monk_samples.specs.Totals.{HasTotals};
 ghost use Rattle.monk_samples.specs.declared.sample.Sample.TheVariants as Sample;
 ghost use Rattle.monk.specs.Ran.{IsRunAnswer, end_word, lets_in, totals_text};
 
@@ -33,6 +34,7 @@ fn run_named<R: Threads + Wait + Sync>(
     ensures outcome { IfOk result (λ o. IsOutcome kind sample seats o.header o.history.items o.totals) }
     ensures in_range { IsErrOf result RunFault.Range → ⊥ }
     ensures served { OnOk result (HasRun (rules_named kind) lets_in sample seats rounds) }
+    ensures totals { IfOk result (λ o. HasTotals sample seats rounds o.totals) }
     ensures fault { IfErr result (IsFaultOfRun (rules_named kind) lets_in sample seats rounds) }
 {
     let gate = OpenGate;

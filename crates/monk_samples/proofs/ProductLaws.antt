@@ -11,8 +11,8 @@ use Rattle.monk_object.specs.Buffer.{buffer_meaning, PUT, TAKE}
 use Rattle.monk_object.specs.Laws.{items_put, items_taken}
 use Rattle.monk_object.specs.Object.{Object}
 use Rattle.monk_object.specs.Runs.{Answered, is_done, times_done}
-use Rattle.monk_object.specs.Shop.{shop_meaning, SIT, CALL, DEPART}
-use Rattle.monk_history.specs.Meaning.Acts.{IsInOrder, acts_in}
+use Rattle.monk_object.specs.Shop.{shop_meaning, SIT, CALL, FINISH, DEPART}
+use Rattle.monk_history.specs.Meaning.Acts.{IsInOrder, ServesEachOne, acts_in}
 use Rattle.monk_history.specs.Meaning.Counts.{events_of}
 use Rattle.monk_history.specs.declared.event.Event.{Event}
 use Rattle.monk_hall.specs.Records.{opening_records}
@@ -20,12 +20,13 @@ use Rattle.monk_hall.specs.Tokens.{House, Token, tokens}
 use Rattle.monk_hall.specs.declared.setting.Setting.{Setting}
 use Rattle.monk_samples.specs.Ends.{HaveServed}
 use Rattle.monk_samples.specs.Rounds.{HasServed}
+use Rattle.monk_samples.specs.Totals.{HasTotals, totals_of}
 use Rattle.monk_samples.specs.Wholes.{HoldsOperationsOf}
 use Rattle.monk_samples.specs.declared.end.End.TheVariants.{Done}
 use Rattle.monk_samples.specs.declared.sample.Sample.{Sample}
 use Rattle.monk_samples.specs.declared.sample.Sample.TheVariants.{Buffer, Book, Shop}
 use Rattle.monk_samples.proofs.DoneLaws.{worth, sum_to}
-use Rattle.monk_samples.proofs.SeatSums.{over, first_half, second_half, first_items, calls_all, visits_all}
+use Rattle.monk_samples.proofs.SeatSums.{over, first_half, second_half, first_items, calls_all, visits_all, sum_is}
 use Rattle.monk_samples.proofs.ShareLaws.{once, item, puts_of, takes_of, items_of, reads_of, writes_of, calls_of, sits_of, departs_of}
 use Rattle.monk_samples.proofs.WholeLaws.{shares}
 
@@ -111,3 +112,24 @@ module _ (k : Rules) (answers : ℕ → ℕ → Bool → Type 0) (seats rounds :
     pub departs_are : times_done DEPART (acts_in h) ≡ (seats - 1) * rounds
     departs_are = total_is shop_meaning Shop (worth DEPART once) _ served (departs_of k shop_meaning answers seats rounds)
         ∙ visits_all seats rounds some
+
+  -- all totals of each sample
+  pub buffer_totals : HaveServed k buffer_meaning answers Buffer seats rounds house (tokens z (opening_records c seats 0)) qs
+      → (size : ℕ) (state : List ℕ) → IsInOrder size state (acts_in h) → HasTotals Buffer seats rounds (totals_of Buffer h)
+  buffer_totals served size state law =
+      let puts = puts_are served in let takes = takes_are served in
+      let items = items_are served ∙ ap (λ n. seats / 2 * n) (sum_is rounds) in
+      let taken = taken_all size state (acts_in h) law (puts ∙ sym takes) ∙ items in
+      λ i. puts i ∷ items i ∷ takes i ∷ taken i ∷ []
+
+  pub book_totals : HaveServed k book_meaning answers Book seats rounds house (tokens z (opening_records c seats 0)) qs
+      → HasTotals Book seats rounds (totals_of Book h)
+  book_totals served = (reads_are served, writes_are served)
+
+  pub shop_totals : 1 ≤ seats → HaveServed k shop_meaning answers Shop seats rounds house (tokens z (opening_records c seats 0)) qs
+      → (size : ℕ) (state : List ℕ) → ServesEachOne size state (acts_in h) → HasTotals Shop seats rounds (totals_of Shop h)
+  shop_totals some served size state law =
+      let sits = sits_are some served in let calls = calls_are some served in let departs = departs_are some served in
+      let finishes : times_done FINISH (acts_in h) ≡ (seats - 1) * rounds =
+      omega (arith, calls, departs, law.called, law.finished) in
+      λ i. sits i ∷ calls i ∷ finishes i ∷ departs i ∷ []

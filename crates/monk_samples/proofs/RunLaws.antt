@@ -33,7 +33,7 @@ use Rattle.monk_hall.specs.Rule.{setting_of}
 use Rattle.monk_samples.specs.Crews.{IsReady, AreReady, IsClosed}
 use Rattle.monk_samples.specs.Runs.{IsFirstSpent}
 use Rattle.monk_samples.specs.Samples.{sample_object, size, conds_of, budget_of, run_heading, KeepsLaw, IsHistoryOf, IsOutcome}
-use Rattle.monk_samples.specs.Totals.{totals_of}
+use Rattle.monk_samples.specs.Totals.{HasTotals, totals_of}
 use Rattle.monk_samples.specs.declared.sample.Sample.{Sample}
 use Rattle.monk_samples.specs.declared.sample.Sample.TheVariants.{Buffer, Book, Shop}
 use Rattle.monk_samples.specs.Styles.{Offers}
@@ -106,19 +106,20 @@ closed_by k o b c a before h state s f e =
       few = subst (λ (x : FloorView). length h ≤ x.seats * x.budget) floor e.few;
     }
 
-pub history_of : (k : Rules) (sample : Sample) (seats rounds : ℕ) (c : Setting) (h : List Event)
-    → c ≡ setting_of (opening_named (sample_object sample) size) seats (conds_of k) (budget_of seats rounds)
-    → IsClosed k (meaning_named (sample_object sample)) c h → IsHistoryOf k sample seats rounds h
-history_of k sample seats rounds c h e closed =
-    let z = subst (λ (x : Setting). IsClosed k (meaning_named (sample_object sample)) x h) e closed in
-    record { legal = z.legal; few = z.few }
-
 pub law_of : (k : Rules) (sample : Sample) (seats : ℕ) (h : List Event) → let m =
     monitor k seats (conds_of k) (meaning_named (sample_object sample)) (opening_named (sample_object sample) size) in
     IsLegal m h → KeepsLaw sample (data_of m h) h
 law_of k Buffer seats h legal = in_order k seats (conds_of k) size h legal
 law_of k Book seats h legal = excludes k seats (conds_of k) size h legal
 law_of k Shop seats h legal = serves_each k seats (conds_of k) size h legal
+
+pub history_of : (k : Rules) (sample : Sample) (seats rounds : ℕ) (c : Setting) (h : List Event)
+    → c ≡ setting_of (opening_named (sample_object sample) size) seats (conds_of k) (budget_of seats rounds)
+    → IsClosed k (meaning_named (sample_object sample)) c h
+    → ((state : List ℕ) → KeepsLaw sample state h → HasTotals sample seats rounds (totals_of sample h)) → IsHistoryOf k sample seats rounds h
+history_of k sample seats rounds c h e closed totals =
+    let z = subst (λ (x : Setting). IsClosed k (meaning_named (sample_object sample)) x h) e closed in
+    record { legal = z.legal; few = z.few; totals = totals _ (law_of k sample seats h z.legal) }
 
 there : {X : Type 0} → X → Option X → X
 there d None = d
@@ -189,3 +190,7 @@ pub unspent : (ps rest : List Token) (p : Token) (left : ℕ) → ps ≡ p ∷ r
     → IsFirstSpent ps → ⊥
 unspent ps rest p left e counted some spent =
     let now : p.me.setting.budget ≤ length p.me.mine + 1 = subst IsFirstSpent e spent in omega (arith, counted, some, now)
+
+pub if_both : {A E : Type 0} (r : Result A E) (P Q R : A → Type 0) → ((a : A) → P a → Q a → R a) → IfOk r P → IfOk r Q → IfOk r R
+if_both (Ok a) P Q R f p q = f a p q
+if_both (Err e) P Q R f p q = tt

@@ -13,7 +13,7 @@ use Rattle.monk_history.specs.Meaning.Monitor.{monitor, data_of}
 use Rattle.monk_history.specs.Meaning.Named.{named_monitor}
 use Rattle.monk_history.specs.Text.{Heading, heading}
 use Rattle.monk_history.specs.declared.event.Event.{Event}
-use Rattle.monk_samples.specs.Totals.{totals_of}
+use Rattle.monk_samples.specs.Totals.{HasTotals, totals_of}
 use Rattle.monk_samples.specs.declared.sample.Sample.{Sample}
 use Rattle.monk_samples.specs.declared.sample.Sample.TheVariants.{Buffer, Book, Shop}
 
@@ -46,10 +46,11 @@ KeepsLaw Buffer state h = IsInOrder size state (acts_in h)
 KeepsLaw Book state h = ExcludesEachOther size state (acts_in h)
 KeepsLaw Shop state h = ServesEachOne size state (acts_in h)
 
--- the history of a run: legal, and within the budgets of all seats
+-- the history of a run: legal, within the budgets of all seats, and with the totals of its seats and rounds
 pub record IsHistoryOf (k : Rules) (sample : Sample) (seats rounds : ℕ) (h : List Event) : Type 0 where
   pub legal : IsLegal (monitor k seats (conds_of k) (meaning_named (sample_object sample)) (opening_named (sample_object sample) size)) h
   pub few : length h ≤ seats * budget_of seats rounds
+  pub totals : HasTotals sample seats rounds (totals_of sample h)
 
 -- a run has left this history, which is legal for the monitor that its header names, and not too long for an audit. The
 -- sample's law holds of it, and the totals are its own

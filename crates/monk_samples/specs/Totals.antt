@@ -1,5 +1,5 @@
 -- The totals of a run, as its history has them
-use Rattle.std.specs.Prelude.{ℕ, List, [], ◌∷◌, sum}
+use Rattle.std.specs.Prelude.{◌≡◌, ℕ, ◌+◌, ◌-◌, ◌*◌, ◌/◌, List, [], ◌∷◌, slice_index, sum}
 use Rattle.monk_object.specs.Book.{START_READ, END_READ, START_WRITE, END_WRITE}
 use Rattle.monk_object.specs.Buffer.{PUT, TAKE}
 use Rattle.monk_object.specs.Laws.{items_put, items_taken}
@@ -25,3 +25,11 @@ abbrev pub totals_of : Sample → List Event → List ℕ
 totals_of Buffer h = done PUT h ∷ sum_put h ∷ done TAKE h ∷ sum_taken h ∷ []
 totals_of Book h = done START_READ h ∷ done END_READ h ∷ done START_WRITE h ∷ done END_WRITE h ∷ []
 totals_of Shop h = done SIT h ∷ done CALL h ∷ done FINISH h ∷ done DEPART h ∷ []
+
+-- what the totals of a run have to be, by its seats and rounds: of a book those of reads and writes that were begun
+abbrev pub HasTotals : Sample → ℕ → ℕ → List ℕ → Type 0
+HasTotals Buffer seats rounds t =
+    t ≡ seats / 2 * rounds ∷ seats / 2 * (rounds * (rounds + 1) / 2) ∷ seats / 2 * rounds ∷ seats / 2 * (rounds * (rounds + 1) / 2) ∷ []
+HasTotals Book seats rounds t = (slice_index t 0 ≡ seats / 2 * rounds) × (slice_index t 2 ≡ seats / 2 * rounds)
+HasTotals Shop seats rounds t =
+    t ≡ (seats - 1) * rounds ∷ (seats - 1) * rounds ∷ (seats - 1) * rounds ∷ (seats - 1) * rounds ∷ []

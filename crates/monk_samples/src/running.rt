@@ -9,6 +9,7 @@ ghost use Rattle.monk_samples.specs.Crews.{AreReady, IsOf, IsClosed};
 ghost use Rattle.monk_samples.specs.Faults.{run_fault_of};
 ghost use Rattle.monk_samples.specs.Runs.{HasRun, IsFaultOfRun, IsFirstSpent};
 ghost use Rattle.monk_samples.specs.Samples.{IsHistoryOf, IsInRange, IsOutcome, budget_of, conds_of};
+ghost use Rattle.monk_samples.specs.Totals.{HasTotals};
 ghost use Rattle.monk_samples.specs.Wholes.{AreSame, HoldsOperationsOf};
 ghost use Rattle.monk_samples.specs.declared.crew_fault.CrewFault.TheVariants as crew;
 ghost use Rattle.monk_samples.specs.declared.sample.Sample.TheVariants as sample;
@@ -67,6 +68,8 @@ pub fn run<K: Style, R: Threads + Wait + Sync, G: Gate>(
     // Each seat has served to its end, let in by the gate to each of its rounds; or why it has no outcome.
     ensures served { OnOk result (HasRun K.rules (G.answers gate.now) sample seats rounds) }
     ensures fault { IfErr result (IsFaultOfRun K.rules (G.answers gate.now) sample seats rounds) }
+    // The totals are those of the seats and the rounds, whatever the kind and the schedule.
+    ensures totals { IfOk result (λ o. HasTotals sample seats rounds o.totals) }
 {
     if !(2..=16).contains(&seats) || !(1..=1000).contains(&rounds) {
         return Err(RunFault::Range);
@@ -246,6 +249,7 @@ fn of_run<K: Kind>(rota: Rota, history: Result<Vec<Event>, CrewFault>) -> Result
     requires { IfOk history (λ v. IsHistoryOf K.rules rota.sample rota.seats rota.rounds v.items) }
     ensures outcome { IfOk result (λ o. IsOutcome K.NAME rota.sample rota.seats o.header o.history.items o.totals) }
     ensures in_range { IsErrOf result RunFault.Range → ⊥ }
+    ensures totals { IfOk result (λ o. HasTotals rota.sample rota.seats rota.rounds o.totals) }
     ensures ok { OnOk result (IsOk history) }
     ensures fault { IfErr result (λ e. IsErrAnd history (λ f. e ≡ run_fault_of f)) }
 {
@@ -258,7 +262,8 @@ fn of_run<K: Kind>(rota: Rota, history: Result<Vec<Event>, CrewFault>) -> Result
 /// What the run leaves, of which this is the history.
 fn outcome<K: Kind>(rota: Rota, history: Vec<Event>) -> Outcome
     requires { IsHistoryOf K.rules rota.sample rota.seats rota.rounds history.items }
-    ensures { IsOutcome K.NAME rota.sample rota.seats result.header result.history.items result.totals }
+    ensures outcome { IsOutcome K.NAME rota.sample rota.seats result.header result.history.items result.totals }
+    ensures totals { HasTotals rota.sample rota.seats rota.rounds result.totals }
 {
     let object = rota.sample.object();
     let Some(header) = Header::new(K::NAME, rota.seats, conds_of::<K>(), object, SIZE) else {

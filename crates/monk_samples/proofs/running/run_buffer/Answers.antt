@@ -1,14 +1,17 @@
 use Rattle.std.proofs.Common.{ap, sym, subst, ◌∙◌, ◌<◌, ◌≤◌, List, ℕ, length}
 use Rattle.monk_object.specs.Buffer.{buffer_meaning}
+use Rattle.monk_hall.specs.Records.{opening_records}
 use Rattle.monk_hall.specs.Rule.{setting_of}
-use Rattle.monk_hall.specs.Tokens.{Token}
+use Rattle.monk_hall.specs.Tokens.{Token, tokens}
 use Rattle.monk_hall.specs.declared.setting.Setting.{Setting}
 use Rattle.monk_samples.specs.Ends.{HaveServed}
-use Rattle.monk_samples.specs.Samples.{conds_of, budget_of}
+use Rattle.monk_samples.specs.Samples.{conds_of, budget_of, size}
 use Rattle.monk_samples.specs.declared.sample.Sample.{Sample}
 use Rattle.monk_samples.specs.declared.sample.Sample.TheVariants.{Buffer}
+use Rattle.monk_samples.proofs.MeetLaws.{seats_differ}
+use Rattle.monk_samples.proofs.ProductLaws.{buffer_totals}
 use Rattle.monk_samples.proofs.RunEndLaws.{some_pass, back_of, some_back, has_run, close_fault}
-use Rattle.monk_samples.proofs.RunLaws.{history_of, if_fault, if_ok, if_then}
+use Rattle.monk_samples.proofs.RunLaws.{history_of, if_both, if_fault, if_then}
 use Rattle.monk_samples.proofs.running.run_buffer.Goals as goal
 
 pub close_by-requires-clause-of : goal.close_by-requires-clause-of
@@ -31,15 +34,33 @@ close_by-requires-clause-some g c κs within =
     some_back g.K.Kind.rules (g.G.Gate.answers c.args.gate.now) Buffer c.args.rota.seats c.args.rota.rounds c.in_ok-hall.hall
     c.in_ok-hall.passes.items c.in_ok-passes.passes.items served some
 
+pub close_by-requires-clause-apart : goal.close_by-requires-clause-apart
+close_by-requires-clause-apart g c κs within =
+    let served = subst (λ (s : Sample). HaveServed g.K.Kind.rules buffer_meaning (g.G.Gate.answers c.args.gate.now) s c.args.rota.seats
+    c.args.rota.rounds c.in_ok-hall.hall c.in_ok-hall.passes.items c.in_ok-passes.passes.items) c.requires
+    c.in_ok-passes.ensures.served in
+    seats_differ g.K.Kind.rules buffer_meaning (g.G.Gate.answers c.args.gate.now) Buffer c.args.rota.seats c.args.rota.rounds
+    c.in_ok-hall.hall c.in_ok-hall.hall.id c.in_ok-hall.hall.setting c.in_ok-hall.hall.setting.seats 0 c.in_ok-passes.passes.items
+    (subst (λ (ps : List Token). HaveServed g.K.Kind.rules buffer_meaning (g.G.Gate.answers c.args.gate.now) Buffer c.args.rota.seats
+    c.args.rota.rounds c.in_ok-hall.hall ps c.in_ok-passes.passes.items) c.in_ok-hall.ensures.passes served)
+
 pub returns-clause-history : goal.returns-clause-history
 returns-clause-history g c =
-    let k = g.K.Kind.rules in
+    let k = g.K.Kind.rules in let hall = c.in_ok-hall.hall in
     let setting = c.in_ok-hall.ensures.setting
     ∙ ap (λ (state : List ℕ). setting_of state c.args.rota.seats (conds_of k)
     (budget_of c.args.rota.seats c.args.rota.rounds)) c.in-Ok.ensures.made in
-    if_ok c.close_by.result _ _
-    (λ v. history_of k Buffer c.args.rota.seats c.args.rota.rounds c.in_ok-hall.hall.setting v.items setting)
-    c.close_by.ensures.closed
+    let served = subst (λ (s : Sample). HaveServed k buffer_meaning (g.G.Gate.answers c.args.gate.now) s c.args.rota.seats
+    c.args.rota.rounds hall c.in_ok-hall.passes.items c.in_ok-passes.passes.items) c.requires c.in_ok-passes.ensures.served in
+    let made = c.in_ok-hall.ensures.passes
+    ∙ ap (λ n. tokens hall.id (opening_records hall.setting n 0)) (ap (λ (s : Setting). s.seats) setting) in
+    let all = subst (λ (ps : List Token). HaveServed k buffer_meaning (g.G.Gate.answers c.args.gate.now) Buffer c.args.rota.seats
+    c.args.rota.rounds hall ps c.in_ok-passes.passes.items) made served in
+    if_both c.close_by.result _ _ _
+    (λ v closed whole. history_of k Buffer c.args.rota.seats c.args.rota.rounds hall.setting v.items setting closed
+    (λ state law. buffer_totals k (g.G.Gate.answers c.args.gate.now) c.args.rota.seats c.args.rota.rounds hall.id hall.setting
+    hall v.items c.in_ok-passes.passes.items whole all size state law))
+    c.close_by.ensures.closed c.close_by.ensures.whole
 
 pub returns-clause-served : goal.returns-clause-served
 returns-clause-served g c =
