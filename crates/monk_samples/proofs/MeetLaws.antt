@@ -2,7 +2,7 @@
 use Rattle.std.proofs.Common.{◌≡◌, ◌≢◌, ℕ, zero, suc, ◌+◌, ◌≤◌, Bool, true, List, [], ◌∷◌, ◌++◌, length, refl, sym, ap, subst, ◌∙◌, arith}
 use Rattle.std.proofs.Common.{append_assoc}
 use Rattle.std.specs.Prelude.{All, AllPairs, ◌↔◌, sum_by}
-use Rattle.std.proofs.lemmas.List.Elements.{All-cons, All-head, All-nil, All-tail, All-same}
+use Rattle.std.proofs.lemmas.List.Elements.{All-cons, All-head, All-nil, All-tail}
 use Rattle.std.proofs.lemmas.List.Kept.{AllPairs-cons}
 use Rattle.std.proofs.lemmas.List.Sums.{sum_by-append, sum_by-cons}
 use Rattle.atomic_table.specs.Seated.{TableId}
@@ -100,7 +100,8 @@ own_worth weight (p ∷ ps) =
     ∙ sym (sum_by-cons (λ p. sum_by weight (acts_in p.me.mine)) p ps)
 
 -- a history that holds only the calls of these seats, where the first has done no operation since
-pub holds_operations : (h : List Event) (ps : List Token) (q : Token) (qs : List Token) (extra : List Event) → AreSame ps (q ∷ qs) → AllDiffer ps
+pub holds_operations : (h : List Event) (ps : List Token) (q : Token) (qs : List Token) (extra : List Event)
+    → AreSame ps (q ∷ qs) → AllDiffer ps
     → events_of h q.me.seat ≡ q.me.mine ++ extra → ((weight : Answered → ℕ) → sum_by (of_event weight) extra ≡ 0)
     → HoldsOnly h q.me.seat qs → HoldsOperationsOf h ps
 holds_operations h ps q qs extra same apart own none only weight =
@@ -114,7 +115,8 @@ holds_operations h ps q qs extra same apart own none only weight =
     acts_worth weight h ∙ whole ∙ same_worth (of_event weight) ps (q ∷ qs) same ∙ own_worth weight ps
 
 -- the seats of a run differ from each other
-from_on : (k : Rules) (o : Object) (answers : ℕ → ℕ → Bool → Type 0) (sample : Sample) (seats rounds : ℕ) (h : House) (z : TableId) (c : Setting)
+from_on : (k : Rules) (o : Object) (answers : ℕ → ℕ → Bool
+    → Type 0) (sample : Sample) (seats rounds : ℕ) (h : House) (z : TableId) (c : Setting)
     → (n i : ℕ) (qs : List Token) → HaveServed k o answers sample seats rounds h (tokens z (opening_records c n i)) qs
     → All (λ q. i ≤ q.me.seat) qs
 from_on k o answers sample seats rounds h z c zero i [] s = All-nil (λ q. i ≤ q.me.seat)
@@ -132,7 +134,8 @@ seats_differ k o answers sample seats rounds h z c zero i (q ∷ qs) s = absurd 
 seats_differ k o answers sample seats rounds h z c (suc n) i [] s = absurd s
 seats_differ k o answers sample seats rounds h z c (suc n) i (q ∷ qs) s =
     AllPairs-cons (λ p q. p.me.seat ≢ q.me.seat) q qs
-    (λ j d near e. absurd (omega (arith, from_on k o answers sample seats rounds h z c n (suc i) qs s.1 j d near, e, s.0.1.called.went.seat)))
+    (λ j d near e. let later = from_on k o answers sample seats rounds h z c n (suc i) qs s.1 j d near in
+    absurd (omega (arith, later, e, s.0.1.called.went.seat)))
     (seats_differ k o answers sample seats rounds h z c n (suc i) qs s.1)
 
 -- of two passes that have met

@@ -116,7 +116,8 @@ law_of k Shop seats h legal = serves_each k seats (conds_of k) size h legal
 pub history_of : (k : Rules) (sample : Sample) (seats rounds : ℕ) (c : Setting) (h : List Event)
     → c ≡ setting_of (opening_named (sample_object sample) size) seats (conds_of k) (budget_of seats rounds)
     → IsClosed k (meaning_named (sample_object sample)) c h
-    → ((state : List ℕ) → KeepsLaw sample state h → HasTotals sample seats rounds (totals_of sample h)) → IsHistoryOf k sample seats rounds h
+    → ((state : List ℕ) → KeepsLaw sample state h → HasTotals sample seats rounds (totals_of sample h))
+    → IsHistoryOf k sample seats rounds h
 history_of k sample seats rounds c h e closed totals =
     let z = subst (λ (x : Setting). IsClosed k (meaning_named (sample_object sample)) x h) e closed in
     record { legal = z.legal; few = z.few; totals = totals _ (law_of k sample seats h z.legal) }

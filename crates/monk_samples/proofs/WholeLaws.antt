@@ -1,15 +1,12 @@
 -- The totals of a whole history, by what each seat of a run has done
 use Rattle.std.proofs.Common.{◌≡◌, ℕ, zero, suc, ◌+◌, Bool, List, [], ◌∷◌, refl, sym, ap, ◌∙◌}
 use Rattle.std.specs.List.{sum_by}
-use Rattle.std.specs.Prelude.{All, map}
-use Rattle.std.proofs.lemmas.List.Elements.{All-head, All-tail}
 use Rattle.std.proofs.lemmas.List.Sums.{sum_by-append, sum_by-cons}
 use Rattle.atomic_table.specs.Seated.{TableId}
 use Rattle.monk_kinds.specs.declared.mode.Rules.{Rules}
 use Rattle.monk_object.specs.Object.{Object}
 use Rattle.monk_object.specs.Runs.{Answered}
 use Rattle.monk_history.specs.Meaning.Acts.{act_of, acts_in}
-use Rattle.monk_history.specs.Meaning.Counts.{events_of}
 use Rattle.monk_history.specs.declared.event.Event.{Event}
 use Rattle.monk_hall.specs.Records.{opening_records}
 use Rattle.monk_hall.specs.Tokens.{House, Token, tokens}

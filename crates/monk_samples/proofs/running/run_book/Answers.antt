@@ -5,7 +5,7 @@ use Rattle.monk_hall.specs.Rule.{setting_of}
 use Rattle.monk_hall.specs.Tokens.{Token, tokens}
 use Rattle.monk_hall.specs.declared.setting.Setting.{Setting}
 use Rattle.monk_samples.specs.Ends.{HaveServed}
-use Rattle.monk_samples.specs.Samples.{conds_of, budget_of, size}
+use Rattle.monk_samples.specs.Samples.{conds_of, budget_of}
 use Rattle.monk_samples.specs.declared.sample.Sample.{Sample}
 use Rattle.monk_samples.specs.declared.sample.Sample.TheVariants.{Book}
 use Rattle.monk_samples.proofs.MeetLaws.{seats_differ}
