@@ -40,14 +40,15 @@ const SIZE: u8 = 4;
 ///
 /// Of a buffer and a book one half of the seats does the one thing and as many do the other; an odd last seat stays
 /// idle. In a shop the first seat is the barber, who has a turn for each visit of the other seats. No worker waits for
-/// another to end before it starts. When all have ended, the first seat comes in once more and closes the hall.
+/// another to end before it starts. When all have ended, every other pass meets the first seat's, which comes in once
+/// more and closes the hall.
 ///
 /// # Errors
 ///
 /// `Range`, and nothing is started; `Memory` where a growth was refused; `Thread` where a thread was not started; the end
 /// of the lowest seat that did not end well, `Tired` or `Late`; `Tired` where the first seat has too little left to
-/// come in once more; `Busy` where the hall can't be closed. A worker that ends early, or was not started, may leave
-/// others waiting for good: then this does not return.
+/// come in once more; `Busy` where the hall can't be closed, or its history holds more than these seats did. A worker
+/// that ends early, or was not started, may leave others waiting for good: then this does not return.
 ///
 /// # Cost
 ///
