@@ -12,7 +12,7 @@ use Rattle.monk_samples.specs.Samples.{IsInRange, sample_object}
 use Rattle.monk_samples.specs.declared.sample.Sample.{Sample}
 use Rattle.monk_samples.specs.declared.sample.Sample.TheVariants.{Buffer, Book, Shop}
 use Rattle.monk.specs.declared.request.Line.{Line}
-use Rattle.monk.specs.declared.request.Line.TheVariants.{Classify, Audit, Play, Run}
+use Rattle.monk.specs.declared.request.Line.TheVariants.{Classify, Audit, Play, Upgrade, Run}
 
 -- a word that must stand there, and that the parser takes
 abbrev pub required_rule : Text → ValueParser → Rule
@@ -64,9 +64,9 @@ bare_app = record (new_app (codes "monk")) { top = record (new_app (codes "monk"
 
 abbrev pub monk_app : NameList → NameList → App
 monk_app k s =
-    with_subcommand (with_subcommand
+    with_subcommand (with_subcommand (with_subcommand
     (with_subcommand (with_subcommand bare_app classify_app.top) (file_app (codes "audit")).top)
-    (file_app (codes "play")).top) (run_app k s).top
+    (file_app (codes "play")).top) (file_app (codes "upgrade")).top) (run_app k s).top
 
 -- the command line of the program
 pub record IsMonk (a : App) : Type 0 where
@@ -86,6 +86,7 @@ abbrev pub command_word : Line → Text
 command_word (Classify e w s) = codes "classify"
 command_word (Audit file) = codes "audit"
 command_word (Play file) = codes "play"
+command_word (Upgrade file) = codes "upgrade"
 command_word (Run kind sample seats rounds) = codes "run"
 
 -- a whole number in digits that clap has found for a name, in the rows of a command
@@ -101,6 +102,7 @@ ValuesAre (Classify e w s) rows = HasNumber (codes "ENTRY") e rows × HasNumber 
     × HasNumber (codes "SIGNALLER") s rows
 ValuesAre (Audit file) rows = first_of (codes "FILE") rows ≡ option_map string_bytes file
 ValuesAre (Play file) rows = first_of (codes "FILE") rows ≡ option_map string_bytes file
+ValuesAre (Upgrade file) rows = first_of (codes "FILE") rows ≡ option_map string_bytes file
 ValuesAre (Run kind sample seats rounds) rows =
     (first_of (codes "KIND") rows ≡ Some (kind_word kind)) × (first_of (codes "SAMPLE") rows ≡ Some (sample_word sample))
     × HasNumber (codes "SEATS") seats rows × HasNumber (codes "ROUNDS") rounds rows
@@ -110,6 +112,7 @@ abbrev pub RunIsInRange : Line → Type 0
 RunIsInRange (Classify e w s) = Unit {0}
 RunIsInRange (Audit file) = Unit {0}
 RunIsInRange (Play file) = Unit {0}
+RunIsInRange (Upgrade file) = Unit {0}
 RunIsInRange (Run kind sample seats rounds) = IsInRange seats rounds
 
 -- the line is what the rows of this command ask for

@@ -9,6 +9,7 @@ ghost use Rattle.monk_history.specs.Text.{Heading};
 ghost use Rattle.monk_history.specs.Text.Device.{held, has_failed, reads_of};
 ghost use Rattle.monk_world.specs.declared.command.Command.{Command};
 ghost use Rattle.monk_world.specs.Play.Reading.{play};
+ghost use Rattle.monk_world.specs.Records.{AreToldIn};
 ghost use Rattle.monk.specs.Played.{IsPlayAnswer, IsAnswerTo, IsFoundLegal, IsPlayOf, IsPlayText, IsPlayed, IsPlayedBy};
 ghost use Rattle.monk.specs.Streams.{IsYoung, IsPastBound};
 
@@ -34,6 +35,7 @@ fn play_as<K: Kind, T: Guarded, W: Write>(
 ) -> Result<(), StreamFault>
     requires works { has_failed writer.old ≡ false }
     requires in_range { make_refusal header.now.seats header.now.conds budget ≡ None }
+    requires told { AreToldIn header.now.version commands.now }
     ensures played { OnOk result
         (IsPlayedBy K.rules T.meaning (T.state object) header.now budget commands.now
         (Appends (W.contents (held writer.old)) (W.contents (held writer.new)))) }
@@ -64,6 +66,7 @@ fn play_named<T: Guarded, W: Write>(
 ) -> Result<(), StreamFault>
     requires works { has_failed writer.old ≡ false }
     requires in_range { make_refusal header.now.seats header.now.conds budget ≡ None }
+    requires told { AreToldIn header.now.version commands.now }
     ensures played { OnOk result
         (IsPlayedBy (rules_named header.now.kind) T.meaning (T.state object) header.now budget commands.now
         (Appends (W.contents (held writer.old)) (W.contents (held writer.new)))) }
@@ -94,6 +97,7 @@ fn play_object<W: Write>(
 ) -> Result<(), StreamFault>
     requires works { has_failed writer.old ≡ false }
     requires in_range { make_refusal header.now.seats header.now.conds budget ≡ None }
+    requires told { AreToldIn header.now.version commands.now }
     requires size { header.now.size ≤ most header.now.object }
     ensures played { OnOk result
         (IsPlayed header.now budget commands.now
@@ -129,6 +133,7 @@ fn play<W: Write>(
 ) -> Result<u8, StreamFault>
     requires works { has_failed writer.old ≡ false }
     requires in_range { make_refusal header.now.seats header.now.conds budget ≡ None }
+    requires told { AreToldIn header.now.version commands.now }
     ensures answer { IfOk result
         (λ status. IsPlayAnswer (play header.now budget commands.now) status
         (Appends (W.contents (held writer.old)) (W.contents (held writer.new)))) }

@@ -4,6 +4,7 @@ ghost use Rattle.monk_history.specs.Text.Device.{has_failed};
 use crate::auditing::audit_stream;
 use crate::fault::StreamFault;
 use crate::playing::play_stream;
+use crate::upgrading::upgrade_stream;
 use monk_history::Device;
 use std::alloc::Global;
 use std::io::{Read, Write};
@@ -13,6 +14,7 @@ use std::io::{Read, Write};
 pub(crate) enum Task {
     Audit,
     Play,
+    Upgrade,
 }
 
 impl Task {
@@ -30,6 +32,7 @@ impl Task {
         match self {
             Task::Audit => audit_stream(alloc, reader, writer),
             Task::Play => play_stream(alloc, reader, writer),
+            Task::Upgrade => upgrade_stream(alloc, reader, writer),
         }
     }
 }

@@ -7,8 +7,8 @@ use Rattle.monk_object.specs.Object.{Object}
 use Rattle.std.specs.Prelude.{◌^◌, IfOk, IfSome}
 use Rattle.monk_history.specs.Text.{Heading}
 use Rattle.monk_history.specs.Text.Words.{◌>>=◌, Word, Taken}
-use Rattle.monk_history.specs.Text.Lines.{LinesLeft, lines_of, header_line, items_left, opened_at, IsNextItem}
-use Rattle.monk_history.specs.Text.Reading.{header_at, event_at, event_under}
+use Rattle.monk_history.specs.Text.Lines.{LinesLeft, lines_of, header_line, opened_at, IsNextItem}
+use Rattle.monk_history.specs.Text.Reading.{header_at, event_under}
 use Rattle.monk_history.proofs.PublicLaws.Texts.{behind, lines_behind}
 use Rattle.monk_history.proofs.PublicLaws.Meaning.{legal_none, legal-push, allowed_from_reason, legal_situation-push}
 use Rattle.monk_history.proofs.PublicLaws.Meaning.{situation-none}
@@ -21,7 +21,7 @@ use Rattle.monk_history.specs.Meaning.Legal.{IsLegal}
 use Rattle.monk_history.specs.declared.event.Event.{Event}
 use Rattle.monk_audit.specs.Verdict.{verdict_from, verdict_of}
 use Rattle.monk_audit.specs.Reading.{verdict_at, verdict_read, verdict_of_reading, read_through, history_verdict}
-use Rattle.monk_audit.specs.Reading.{lines_verdict, text_verdict}
+use Rattle.monk_audit.specs.Reading.{events_left, lines_verdict, text_verdict}
 use Rattle.monk_audit.specs.declared.verdict.Verdict.{Verdict}
 use Rattle.monk_audit.specs.declared.verdict.Verdict.TheVariants.{Legal, Forbidden}
 use Rattle.monk_audit.proofs.AuditLaws.{reason_opening}
@@ -148,10 +148,10 @@ behind_verdict h (Err f) = refl
 
 pub opened_text : (bytes : List ℕ) (h : Heading) (left : LinesLeft)
     → Ok (h, left) ≡ opened_at header_at (2 ^ 25) (lines_of bytes)
-    → text_verdict bytes ≡ lines_verdict h (items_left event_at left)
+    → text_verdict bytes ≡ lines_verdict h (events_left h left)
 opened_text bytes h left opened =
     ap (λ r. r >>= λ x. Ok (history_verdict x)) (lines_behind header_at event_under (2 ^ 25) (lines_of bytes)
-    ∙ ap (behind event_under) (sym opened)) ∙ behind_verdict h (items_left event_at left)
+    ∙ ap (behind event_under) (sym opened)) ∙ behind_verdict h (events_left h left)
 
 pub not_opened_text : (bytes : List ℕ) (f : ReadFault) → Err f ≡ opened_at header_at (2 ^ 25) (lines_of bytes) → text_verdict bytes ≡ Err f
 not_opened_text bytes f bad =

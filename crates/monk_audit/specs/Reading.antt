@@ -3,8 +3,8 @@ use Rattle.std.specs.Prelude.{ℕ, ◌+◌, ◌<◌, ◌^◌, List, [], ◌∷�
 use Rattle.monk_object.specs.Names.{most}
 use Rattle.monk_history.specs.Text.{Heading}
 use Rattle.monk_history.specs.Text.Words.{◌>>=◌}
-use Rattle.monk_history.specs.Text.Lines.{lines_of, opened_at}
-use Rattle.monk_history.specs.Text.Reading.{History, history, header_at, text_at}
+use Rattle.monk_history.specs.Text.Lines.{LinesLeft, lines_of, items_left, opened_at}
+use Rattle.monk_history.specs.Text.Reading.{History, history, header_at, event_under, text_at}
 use Rattle.monk_history.specs.declared.text.fault.ReadFault.{ReadFault}
 use Rattle.monk_history.specs.Meaning.Monitor.{Monitor}
 use Rattle.monk_history.specs.Meaning.Situation.{Situation}
@@ -17,6 +17,10 @@ use Rattle.monk_audit.specs.declared.verdict.Verdict.{Verdict}
 use Rattle.monk_audit.specs.declared.verdict.Verdict.TheVariants.{Legal, Forbidden}
 use Rattle.monk_audit.specs.declared.text_verdict.TextVerdict.{TextVerdict}
 use Rattle.monk_audit.specs.declared.text_verdict.TextVerdict.TheVariants.{Judged, TooBig}
+
+-- the events of the lines that are left behind that header
+abbrev pub events_left : Heading → LinesLeft → Result (List Event) ReadFault
+events_left h left = items_left (event_under h) left
 
 -- the verdict of the events to come, after so many that were found legal, in that situation; that it is the verdict on
 -- the whole history is the law `verdict_at_is`

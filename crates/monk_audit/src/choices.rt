@@ -39,11 +39,12 @@ pub fn chooses_well(
     ensures { result ≡ choice.chooses_well rules (record { waiters = waiters.now; signallers = signallers.now; ready = just ready }) event }
 {
     match event {
-        Event::Enter(..) | Event::Act(..) | Event::Resume(..) => true,
+        Event::Enter(..) | Event::Act(..) | Event::Resume(..) | Event::SignalAll(..) => true,
         Event::Leave(seat, next)
         | Event::Wait(seat, _, next)
         | Event::SignalLeave(seat, _, next)
-        | Event::Until(seat, _, next) => {
+        | Event::Until(seat, _, next)
+        | Event::SignalWait(seat, _, _, next) => {
             may_choose(rules, waiters, signallers, ready, seat, next)
         }
         Event::Signal(seat, _, next) => may_signal(rules, waiters, signallers, ready, seat, next),

@@ -4,9 +4,8 @@ ghost use Rattle.std.specs.Prelude.{◌≡◌, ◌≤◌, ◌<◌, ◌^◌};
 ghost use Rattle.monk_object.specs.Names.{most};
 ghost use Rattle.monk_history.specs.Meaning.Monitor.{monitor};
 ghost use Rattle.monk_history.specs.Meaning.Named.{named_monitor};
-ghost use Rattle.monk_history.specs.Text.Lines.{Gives, items_left};
-ghost use Rattle.monk_history.specs.Text.Reading.{event_at};
-ghost use Rattle.monk_audit.specs.Reading.{verdict_of_reading, lines_verdict, text_verdict, read_through, same};
+ghost use Rattle.monk_history.specs.Text.Lines.{Gives};
+ghost use Rattle.monk_audit.specs.Reading.{events_left, verdict_of_reading, lines_verdict, text_verdict, read_through, same};
 ghost use Rattle.monk_audit.specs.Reading.{MakesNoObject};
 
 use crate::kinds::rules_by_name;
@@ -27,7 +26,7 @@ const MEMORY: ReadFault = ReadFault {
 
 /// Reads the events that are left, and keeps none.
 fn read_through(header: &Header, lines: ItemLines<'_>) -> Result<(), ReadFault>
-    ensures { result ≡ read_through (items_left event_at lines.entry) }
+    ensures { result ≡ read_through (events_left header.now lines.entry) }
 {
     let mut lines = lines;
     loop {
@@ -49,7 +48,7 @@ fn judge<T: Guarded>(
     requires { lines.room ≤ 2 ^ 25 }
     ensures { Gives same result
         (verdict_of_reading (monitor rules header.now.seats header.now.conds T.meaning (T.state object))
-        (items_left event_at lines.entry)) }
+        (events_left header.now lines.entry)) }
 {
     let mut object = object;
     let mut lines = lines;
@@ -78,7 +77,7 @@ fn judge<T: Guarded>(
 /// Makes the object that the header names, whose size is not above its greatest, and judges the events that are left.
 fn judge_object(alloc: Global, header: &Header, lines: ItemLines<'_>) -> Result<Verdict, ReadFault>
     requires { lines.room ≤ 2 ^ 25 }
-    ensures { Gives same result (verdict_of_reading (named_monitor header.now) (items_left event_at lines.entry)) }
+    ensures { Gives same result (verdict_of_reading (named_monitor header.now) (events_left header.now lines.entry)) }
 {
     let rules = rules_by_name(header.kind());
     let size = header.size();
@@ -111,9 +110,9 @@ fn audit_lines(
     lines: ItemLines<'_>,
 ) -> Result<TextVerdict, ReadFault>
     requires { lines.room ≤ 2 ^ 25 }
-    ensures verdict { Gives same result (lines_verdict header.now (items_left event_at lines.entry)) }
+    ensures verdict { Gives same result (lines_verdict header.now (events_left header.now lines.entry)) }
     ensures too_big { most header.now.object < header.now.size
-        → result ≡ lines_verdict header.now (items_left event_at lines.entry) }
+        → result ≡ lines_verdict header.now (events_left header.now lines.entry) }
 {
     if header.size() > header.object().greatest_size() {
         read_through(header, lines)?;

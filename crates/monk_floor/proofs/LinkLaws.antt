@@ -9,3 +9,4 @@ pub mod Middles
 pub mod Searching
 pub mod Removing
 pub mod Empty
+pub mod Passing

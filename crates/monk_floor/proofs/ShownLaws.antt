@@ -3,19 +3,21 @@ use Rattle.std.proofs.Common.{◌≡◌, ◌≢◌, ℕ, zero, suc, ◌<◌, ◌
 use Rattle.std.proofs.Common.{List, [], ◌∷◌, ◌++◌, map, length, drop, take, filter, refl, sym, ap, subst, ◌∙◌, arith}
 use Rattle.std.proofs.Common.{append-nil, eq-eqb, get_or, get_or-set_same, get_or-set_other, ⊎_elim}
 use Rattle.std.proofs.lemmas.Bool.{cases_eq}
+use Rattle.std.proofs.Math.Seq.{drop-length}
 use Rattle.std.specs.Prelude.{slice_set}
 use Rattle.monk_history.specs.Meaning.Events.{next_of, is_until, is_stay}
 use Rattle.monk_history.specs.Meaning.Signallers.{is_empty}
 use Rattle.monk_history.specs.Meaning.Standing.{times, times_in_conditions}
 use Rattle.monk_history.specs.Meaning.Untils.{chooses}
 use Rattle.monk_history.specs.declared.event.Event.{Event}
-use Rattle.monk_history.specs.declared.event.Event.TheVariants.{Wait, Signal, SignalLeave, Until}
+use Rattle.monk_history.specs.declared.event.Event.TheVariants.{Wait, Signal, SignalLeave, Until, SignalAll, SignalWait}
 use Rattle.monk_history.specs.declared.event.Next.{Next}
 use Rattle.monk_history.specs.declared.event.Next.TheVariants.{Stay, Entry, Waiter, Signaller, Until as UntilSeat}
-use Rattle.monk_floor.specs.Links.{places, without}
+use Rattle.monk_floor.specs.Links.{most_queues, places, without}
 use Rattle.monk_floor.specs.Queues.{queue_at, lists_of, waits_in, times_in_waits, in_lists, chosen_until, IsServed}
 use Rattle.monk_floor.proofs.LinkLaws.Walks.{other, rest}
 use Rattle.monk_floor.proofs.LinkLaws.Chains.{times_le}
+use Rattle.monk_floor.proofs.LinkLaws.Passing.{times_both}
 
 -- the conditions are behind the three other queues
 three_more : (c : ℕ) → suc (suc (suc c)) ≡ 3 + c
@@ -152,6 +154,45 @@ served_waiters : (qs rs : List (List ℕ)) (d : ℕ) → IsPassed qs d rs → qu
 served_waiters qs rs d r =
     r 0 ∙ (λ j. drop (cond (not_other 0 d (omega arith) j) 1 0) (queue_at qs 0) ++ take 1 (sym (condition_at qs d) j))
 
+served_whole : (b : Bool) (xs : List ℕ) → cond b [] xs ++ [] ≡ drop (length (cond b xs [])) xs ++ []
+served_whole true xs = ap (λ ys. ys ++ []) (sym (drop-length xs))
+served_whole false xs = refl
+
+-- whoever is in none of the queues is in none after a front has gone to another
+none_moved : (s : ℕ) (b d : Bool) (xs ys : List ℕ) → times s xs ≡ 0 → times s ys ≡ 0
+    → times s (drop (cond b 1 0) xs ++ cond d (take 1 ys) []) ≡ 0
+none_moved s b d xs ys h k =
+    let both = times_both s (drop (cond b 1 0) xs) (cond d (take 1 ys) []) in
+    omega (arith, both, left b xs h, moved d ys k)
+  where
+    left : (b : Bool) (xs : List ℕ) → times s xs ≡ 0 → times s (drop (cond b 1 0) xs) ≡ 0
+    left true [] h = refl
+    left true (x ∷ xs) h = rest x s _ h
+    left false xs h = h
+
+    moved : (d : Bool) (ys : List ℕ) → times s ys ≡ 0 → times s (cond d (take 1 ys) []) ≡ 0
+    moved true [] h = refl
+    moved true (y ∷ ys) h = omega (arith, h)
+    moved false ys h = refl
+
+pub passed_apart : (s d at : ℕ) (qs rs : List (List ℕ)) → at ≡ 3 + d → d < 8
+    → ((c : ℕ) → queue_at rs c ≡ drop (cond (at == c) 1 0) (queue_at qs c) ++ cond (0 == c) (take 1 (queue_at qs at)) [])
+    → places s (queue_at qs) ≡ 0 → places s (queue_at rs) ≡ 0
+unfolding places
+passed_apart s d at qs rs e l r h = all most_queues (λ c m. here c m)
+  where
+    nobody : (c : ℕ) → c < most_queues → times s (queue_at qs c) ≡ 0
+    nobody c m = let few = times_le c s (queue_at qs) m in omega (arith, few, h)
+
+    here : (c : ℕ) → c < most_queues → times s (queue_at rs c) ≡ 0
+    here c m = ap (times s) (r c)
+        ∙ none_moved s (at == c) (0 == c) (queue_at qs c) (queue_at qs at) (nobody c m) (nobody at (omega (arith, e, l)))
+
+    all : (n : ℕ) → ((c : ℕ) → c < n → times s (queue_at rs c) ≡ 0) → times_in_conditions n s (queue_at rs) ≡ 0
+    all zero f = refl
+    all (suc n) f =
+        let last = f n (omega arith) in omega (arith, last, all n (λ c m. f c (omega (arith, m))))
+
 -- a seat joins one of the other queues
 others_kept : (n s : ℕ) (qs rs : List (List ℕ)) → n < 3 → ((c : ℕ) → queue_at rs c ≡ queue_at qs c ++ cond (n == c) (s ∷ []) [])
     → (c : ℕ) → queue_at (drop 3 rs) c ≡ queue_at (drop 3 qs) c
@@ -198,6 +239,52 @@ module _ (p : List ℕ) (qs : List (List ℕ)) (e : Event) where
     where
       there : IsPassed qs d rs
       there c = r c ∙ ap (λ y. drop (cond (y == c) 1 0) (queue_at qs c) ++ cond (0 == c) (take 1 (queue_at qs y)) []) h
+
+  -- the whole queue is served
+  pub serving_all : (s d at : ℕ) (rs : List (List ℕ)) → e ≡ SignalAll s d → at ≡ 3 + d
+      → ((c : ℕ) → queue_at rs c ≡ cond (at == c) [] (queue_at qs c) ++ cond (0 == c) (queue_at qs at) [])
+      → IsServed (lists_of p qs) e (lists_of p rs)
+  serving_all s d at rs i h r =
+      subst (λ y. IsServed (lists_of p qs) y (lists_of p rs)) (sym i) (record {
+        condition = λ c. condition_at rs c ∙ (there (3 + c)
+            ∙ ((λ j. cond (same_condition d c j) [] (sym (condition_at qs c) j)
+            ++ cond (not_condition 0 c (omega arith) j) (queue_at qs (3 + d)) [])
+            ∙ served_whole (d == c) (queue_at (drop 3 qs) c)));
+        waiters = there 0 ∙ (λ j. cond (not_other 0 d (omega arith) j) [] (queue_at qs 0) ++ sym (condition_at qs d) j);
+        signallers = there 1 ∙ ap (λ b. cond b [] (queue_at qs 1) ++ []) (not_other 1 d (omega arith));
+        untils = ap (waits_in p)
+            (there 2 ∙ (ap (λ b. cond b [] (queue_at qs 2) ++ []) (not_other 2 d (omega arith)) ∙ append-nil (queue_at qs 2)))
+            ∙ sym (append-nil (waits_in p (queue_at qs 2)));
+      })
+    where
+      there : (c : ℕ) → queue_at rs c ≡ cond (3 + d == c) [] (queue_at qs c) ++ cond (0 == c) (queue_at qs (3 + d)) []
+      there c = r c ∙ ap (λ y. cond (y == c) [] (queue_at qs c) ++ cond (0 == c) (queue_at qs y) []) h
+
+  -- the front is served, and then the caller waits
+  pub serving_waiting : (s d f : ℕ) (x : Next) (at by : ℕ) (ms rs : List (List ℕ)) → e ≡ SignalWait s d f x → at ≡ 3 + d → by ≡ 3 + f
+      → ((c : ℕ) → queue_at ms c ≡ drop (cond (at == c) 1 0) (queue_at qs c) ++ cond (0 == c) (take 1 (queue_at qs at)) [])
+      → ((c : ℕ) → queue_at rs c ≡ queue_at ms c ++ cond (by == c) (s ∷ []) [])
+      → IsServed (lists_of p qs) e (lists_of p rs)
+  serving_waiting s d f x at by ms rs i h k m r =
+      subst (λ y. IsServed (lists_of p qs) y (lists_of p rs)) (sym i) (record {
+        condition = λ c. condition_at rs c ∙ (there (3 + c)
+            ∙ (λ j. (sym (condition_at ms c) ∙ (served_now qs ms d c passed ∙ (served_one (d == c) (queue_at (drop 3 qs) c)
+            ∙ append-nil _))) j ++ cond (same_condition f c j) (s ∷ []) []));
+        waiters = there 0 ∙ (ap (λ b. queue_at ms 0 ++ cond b (s ∷ []) []) (not_other 0 f (omega arith))
+            ∙ (append-nil (queue_at ms 0) ∙ served_waiters qs ms d passed));
+        signallers = there 1
+            ∙ (λ j. other_same qs d 1 ms (omega arith) (omega arith) passed j ++ cond (not_other 1 f (omega arith) j) (s ∷ []) []);
+        untils = ap (waits_in p)
+            (there 2 ∙ ((λ j. other_same qs d 2 ms (omega arith) (omega arith) passed j ++ cond (not_other 2 f (omega arith) j) (s ∷ []) [])
+            ∙ append-nil (queue_at qs 2)))
+            ∙ sym (append-nil (waits_in p (queue_at qs 2)));
+      })
+    where
+      passed : IsPassed qs d ms
+      passed c = m c ∙ ap (λ y. drop (cond (y == c) 1 0) (queue_at qs c) ++ cond (0 == c) (take 1 (queue_at qs y)) []) h
+
+      there : (c : ℕ) → queue_at rs c ≡ queue_at ms c ++ cond (3 + f == c) (s ∷ []) []
+      there c = r c ∙ ap (λ y. queue_at ms c ++ cond (y == c) (s ∷ []) []) k
 
   -- the signaller joins as well
   pub signalling : (s d : ℕ) (x : Next) (at : ℕ) (ms rs : List (List ℕ)) → e ≡ Signal s d x → at ≡ 3 + d

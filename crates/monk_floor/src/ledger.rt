@@ -26,7 +26,9 @@ pub fn mark_inside(inside: &mut [bool], event: Event)
         | Event::Wait(..)
         | Event::Signal(..)
         | Event::Until(..)
-        | Event::Resume(..) => {}
+        | Event::Resume(..)
+        | Event::SignalAll(..)
+        | Event::SignalWait(..) => {}
     }
 }
 

@@ -143,6 +143,33 @@ impl Links {
         }
     }
 
+    /// Takes all seats of a queue, in order, to the back of another. Constant time.
+    pub fn pass_all(&mut self, from: u8, to: u8)
+        requires from { from < QUEUES }
+        requires to { to < QUEUES }
+        requires other { from ≢ to }
+        ensures { (c : ℕ)
+            → queue_at self.new c ≡ (if from == c then [] else queue_at self.old c)
+            ++ (if to == c then queue_at self.old from else []) }
+    {
+        let passed = self.chains[from as usize];
+        if passed.length == 0 {
+            return;
+        }
+        let chain = self.chains[to as usize];
+        self.chains[from as usize] = Chain::EMPTY;
+        if chain.length == 0 {
+            self.chains[to as usize] = passed;
+            return;
+        }
+        self.next[chain.last as usize] = passed.first;
+        self.chains[to as usize] = Chain {
+            first: chain.first,
+            last: passed.last,
+            length: chain.length + passed.length,
+        };
+    }
+
     /// Takes a seat out of a queue, wherever it stands in it, if it does. Costs the seats before it.
     pub fn remove(&mut self, queue: u8, seat: u8)
         requires { queue < QUEUES }

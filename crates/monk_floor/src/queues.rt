@@ -126,7 +126,10 @@ impl Queues {
         match self.links.front(WAITERS) {
             Some(seat) => Some(seat),
             None => match event {
-                Event::Signal(_, cond, _) | Event::SignalLeave(_, cond, _) => self.front_of(cond),
+                Event::Signal(_, cond, _)
+                | Event::SignalLeave(_, cond, _)
+                | Event::SignalAll(_, cond)
+                | Event::SignalWait(_, cond, ..) => self.front_of(cond),
                 _ => None,
             },
         }
@@ -196,6 +199,11 @@ impl Queues {
                 }
             }
             Event::SignalLeave(_, cond, _) => self.links.pass(condition(cond), WAITERS),
+            Event::SignalAll(_, cond) => self.links.pass_all(condition(cond), WAITERS),
+            Event::SignalWait(seat, cond, wait_cond, _) => {
+                self.links.pass(condition(cond), WAITERS);
+                self.links.push(condition(wait_cond), seat);
+            }
             Event::Until(seat, pred, next) => {
                 if !is_stay(next) {
                     self.predicates[seat as usize] = pred;

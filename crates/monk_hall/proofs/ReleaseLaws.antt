@@ -12,7 +12,7 @@ use Rattle.monk_history.specs.Meaning.Conditions.{condition}
 use Rattle.monk_history.specs.Meaning.Signallers.{is_empty}
 use Rattle.monk_history.specs.Meaning.Counts.{events_of, left_of, is_enter}
 use Rattle.monk_history.specs.Meaning.Events.{seat_of, is_stay, has_conditions, has_signaller_queue, returns_at_once}
-use Rattle.monk_history.proofs.PublicLaws.Meaning.{may_leave, may_wait, may_signal_on, may_signal_leave, may_until}
+use Rattle.monk_history.proofs.PublicLaws.Meaning.{may_leave, may_wait, may_signal_on, may_signal_leave, may_signal_wait, may_until}
 use Rattle.monk_history.proofs.PublicLaws.Meaning.{legal-push}
 use Rattle.monk_world.proofs.PublicLaws.{some_above}
 use Rattle.monk_history.specs.Meaning.Legal.{IsLegal}
@@ -22,6 +22,7 @@ use Rattle.monk_history.specs.Meaning.Release.{with_next, choice_of}
 use Rattle.monk_history.specs.Meaning.Wish.{choice_by}
 use Rattle.monk_history.specs.declared.event.Event.{Event}
 use Rattle.monk_history.specs.declared.event.Event.TheVariants.{Enter, Act, Leave, Wait, Signal, SignalLeave, Until, Resume}
+use Rattle.monk_history.specs.declared.event.Event.TheVariants.{SignalAll, SignalWait}
 use Rattle.monk_history.specs.declared.event.Next.{Next}
 use Rattle.monk_history.specs.declared.event.Next.TheVariants as next
 use Rattle.monk_history.specs.Meaning.Turn.{turn, turn_by}
@@ -82,6 +83,14 @@ signal_leave_goes m h s c (next.Waiter j) a = refl
 signal_leave_goes m h s c (next.Signaller j) a = refl
 signal_leave_goes m h s c (next.Until j) a = refl
 
+pub signal_wait_goes : (m : Monitor) (h : List Event) (s c d : ℕ) (x : Next) → IsAllowed m h (SignalWait s c d x)
+    → is_stay (Some x) ≡ false
+signal_wait_goes m h s c d next.Stay a = absurd (true≢false (sym a.permitted))
+signal_wait_goes m h s c d next.Entry a = refl
+signal_wait_goes m h s c d (next.Waiter j) a = refl
+signal_wait_goes m h s c d (next.Signaller j) a = refl
+signal_wait_goes m h s c d (next.Until j) a = refl
+
 plus_none : (n : ℕ) → n ≡ n + 0
 plus_none n = omega arith
 
@@ -104,6 +113,8 @@ never_enters i to (Signal s c y) x h = refl
 never_enters i to (SignalLeave s c y) x h = refl
 never_enters i to (Until s p y) x h = refl
 never_enters i to (Resume s q) x h = refl
+never_enters i to (SignalAll s c) x h = refl
+never_enters i to (SignalWait s c d y) x h = refl
 
 chosen_as_known : {k : Rules} {o : Object} {r : SeatRecord} {f : FloorView} {call : Event} {wish : Pick} {known : Bool}
     {choice : Next} {to : Home} {g : FloorView}
@@ -283,6 +294,22 @@ module _ {k : Rules} {o : Object} {z : TableId} {me : Me} {number calls budget :
     release = (sym h.seated.is_seat, refl);
     may = may_signal_leave (monitor_of k o f) f.history number c (owns h) (is_near h) low has;
     left = has_left h 0 (let l = h.left in omega arith);
+    known_is = λ _. reads ∙ ap (λ (b : Holder). is_entry_known wish b.me.known) (sym is);
+    chosen = chosen;
+    is_grown = grows;
+  }
+
+  pub signals_and_waits : IsHolding k o z me number calls budget f → (c d : ℕ) → c < f.conds → d < f.conds
+      → returns_at_once k.mode ≡ true → (wish : Pick) (known : Bool) (choice : Next) (g : FloorView)
+      → (a : Holder) → holder z (the me.0) f ≡ a
+      → length a.me.mine + 3 ≤ a.me.setting.budget → known ≡ is_entry_known wish a.me.known
+      → choice ≡ choice_of k o (stands_of k o f) (SignalWait number c d next.Stay) known wish
+      → IsGrown k o f (SignalWait number c d choice) g
+      → IsRelease k o (the me.0) f (SignalWait number c d next.Stay) wish known choice home.Inner g
+  signals_and_waits h c d low low_too has wish known choice g a is room reads chosen grows = record {
+    release = (sym h.seated.is_seat, refl);
+    may = may_signal_wait (monitor_of k o f) f.history number c d (owns h) (is_near h) low low_too has;
+    left = has_left h 2 (let more = subst (λ (b : Holder). length b.me.mine + 3 ≤ b.me.setting.budget) (sym is) room in omega arith);
     known_is = λ _. reads ∙ ap (λ (b : Holder). is_entry_known wish b.me.known) (sym is);
     chosen = chosen;
     is_grown = grows;

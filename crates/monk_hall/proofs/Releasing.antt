@@ -10,6 +10,7 @@ use Rattle.monk_history.specs.Meaning.Events.{seat_of, next_of, is_stay}
 use Rattle.monk_history.specs.Meaning.Release.{MayCall, with_next}
 use Rattle.monk_history.specs.declared.event.Event.{Event}
 use Rattle.monk_history.specs.declared.event.Event.TheVariants.{Enter, Act, Leave, Wait, Signal, SignalLeave, Until, Resume}
+use Rattle.monk_history.specs.declared.event.Event.TheVariants.{SignalAll, SignalWait}
 use Rattle.monk_history.specs.declared.event.Next.{Next}
 use Rattle.monk_history.specs.declared.event.Next.TheVariants as next
 use Rattle.monk_floor.specs.View.{monitor_of}
@@ -46,6 +47,9 @@ back_is i home.Inner (SignalLeave s c y) x r = absurd r
 back_is i home.Idle (Until s p y) x r = absurd r
 back_is i home.Inner (Until s p y) x r = refl
 back_is i to (Resume s q) x r = absurd r
+back_is i to (SignalAll s c) x r = absurd r
+back_is i home.Idle (SignalWait s c d y) x r = absurd r
+back_is i home.Inner (SignalWait s c d y) x r = refl
 
 -- whose it is, and whom it names
 pub record IsSaid (i : ℕ) (call : Event) (x : Next) : Type 0 where
@@ -66,6 +70,9 @@ said i home.Inner (SignalLeave s c y) x r = absurd r
 said i home.Idle (Until s p y) x r = absurd r
 said i home.Inner (Until s p y) x r = record { seat = r.0; chose = refl }
 said i to (Resume s q) x r = absurd r
+said i to (SignalAll s c) x r = absurd r
+said i home.Idle (SignalWait s c d y) x r = absurd r
+said i home.Inner (SignalWait s c d y) x r = record { seat = r.0; chose = refl }
 
 module _ (k : Rules) (o : Object) (s : State) (seats conds : ℕ) (i : ℕ) (q : Source) (kind : IsKind k)
     (kept : IsKept k o seats conds s) (near : i < s.floor.seats) (active : s.world.place i ≡ Active q) where
@@ -136,7 +143,7 @@ module _ (k : Rules) (o : Object) (s : State) (seats conds : ℕ) (i : ℕ) (q :
         step = away_step m x (release_next k o s i e wish) to e chosen stay (step_is k o s i m chose table (Active q) ready active done);
       }
 
-  -- each of the five
+  -- each of the six
   pub release_kept : (to : Home) (call : Event) (wish : Pick) (x : Next) → IsReleaseTo i to call → Keeps to wish x call
   release_kept home.Idle (Leave j y) wish x r =
       subst (Keeps home.Idle wish x) (λ z. Leave (sym r.0 z) (sym r.1 z))
@@ -154,14 +161,21 @@ module _ (k : Rules) (o : Object) (s : State) (seats conds : ℕ) (i : ℕ) (q :
   release_kept home.Inner (Until j p y) wish x r =
       subst (Keeps home.Inner wish x) (λ z. Until (sym r.0 z) p (sym r.1 z))
       (by_command (command.Until p wish) wish home.Inner (Until i p next.Stay) refl refl refl (refl, refl) x)
+  release_kept home.Inner (SignalWait j c d y) wish x r =
+      subst (Keeps home.Inner wish x) (λ z. SignalWait (sym r.0 z) c d (sym r.1 z))
+      (by_command (command.SignalWait c d wish) wish home.Inner (SignalWait i c d next.Stay) refl refl refl
+      (refl, refl) x)
   release_kept home.Idle (Enter j via) wish x r = absurd r
   release_kept home.Idle (Act j op n) wish x r = absurd r
   release_kept home.Idle (Wait j c y) wish x r = absurd r
   release_kept home.Idle (Signal j c y) wish x r = absurd r
   release_kept home.Idle (Until j p y) wish x r = absurd r
   release_kept home.Idle (Resume j q2) wish x r = absurd r
+  release_kept home.Idle (SignalAll j c) wish x r = absurd r
+  release_kept home.Idle (SignalWait j c d y) wish x r = absurd r
   release_kept home.Inner (Enter j via) wish x r = absurd r
   release_kept home.Inner (Act j op n) wish x r = absurd r
   release_kept home.Inner (Leave j y) wish x r = absurd r
   release_kept home.Inner (SignalLeave j c y) wish x r = absurd r
   release_kept home.Inner (Resume j q2) wish x r = absurd r
+  release_kept home.Inner (SignalAll j c) wish x r = absurd r

@@ -12,6 +12,7 @@ use Rattle.monk_history.specs.Meaning.Legal.{IsLegal}
 use Rattle.monk_history.specs.Meaning.Release.{MayCall, with_next, choice_of}
 use Rattle.monk_history.specs.declared.event.Event.{Event}
 use Rattle.monk_history.specs.declared.event.Event.TheVariants.{Enter, Act, Leave, Wait, Signal, SignalLeave, Until, Resume}
+use Rattle.monk_history.specs.declared.event.Event.TheVariants.{SignalAll, SignalWait}
 use Rattle.monk_history.specs.declared.event.Next.{Next}
 use Rattle.monk_history.specs.declared.event.Next.TheVariants as next
 use Rattle.monk_floor.specs.View.{FloorView, monitor_of, stands_of}
@@ -96,6 +97,9 @@ IsReleaseTo i home.Inner (SignalLeave s c x) = ⊥
 IsReleaseTo i home.Idle (Until s p x) = ⊥
 IsReleaseTo i home.Inner (Until s p x) = (s ≡ i) × (x ≡ next.Stay)
 IsReleaseTo i to (Resume s q) = ⊥
+IsReleaseTo i to (SignalAll s c) = ⊥
+IsReleaseTo i home.Idle (SignalWait s c d x) = ⊥
+IsReleaseTo i home.Inner (SignalWait s c d x) = (s ≡ i) × (x ≡ next.Stay)
 
 -- the floor that a seat brings home: the one that it had, with one release more, which chose another by the wish rules
 pub record Returns (k : Rules) (o : Object) (r : SeatRecord) (f : FloorView) : Type 0 where

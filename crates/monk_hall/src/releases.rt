@@ -150,6 +150,7 @@ impl<K: Explicit, T: Guarded> Active<K, T> {
 
 impl<K: NonBlocking, T: Guarded> Active<K, T> {
     ghost use Rattle.std.specs.Prelude.{◌≡◌, ◌+◌, ◌<◌, ◌≤◌, length};
+    ghost use Rattle.monk_history.specs.Meaning.Conditions.{condition};
     ghost use Rattle.monk_hall.specs.Calls.{HasDone};
 
     /// Signals a condition variable and goes on. No step is taken: under a non-blocking kind a signaller always stays.
@@ -160,13 +161,24 @@ impl<K: NonBlocking, T: Guarded> Active<K, T> {
     {
         self.floor.signal(self.number, cond, Pick::Signaller, false);
     }
+
+    /// Signals all who wait on a condition variable, and goes on. They become waiters in the order of their waits; tells
+    /// how many they are. No step is taken.
+    pub fn signal_all(&mut self, cond: u8) -> u32
+        requires cond { cond < self.old.me.setting.conds }
+        requires left { length self.old.me.mine + 2 ≤ self.old.me.setting.budget }
+        ensures done { HasDone K.rules T.meaning self.old (Event.SignalAll self.old.me.seat cond) self.new }
+        ensures woke { result ≡ length (condition cond self.old.floor.history) }
+    {
+        self.floor.signal_all(self.number, cond)
+    }
 }
 
 impl<K: ImmediateReturn, T: Guarded> Active<K, T> {
-    ghost use Rattle.std.specs.Prelude.{◌≡◌, ◌<◌, false, Some};
+    ghost use Rattle.std.specs.Prelude.{◌≡◌, ◌+◌, ◌<◌, ◌≤◌, false, Some, length};
     ghost use Rattle.monk_history.specs.Meaning.Events.{is_stay};
     ghost use Rattle.monk_world.specs.declared.home.Home.TheVariants as home;
-    ghost use Rattle.monk_hall.specs.Calls.{GoesOut, is_entry_known};
+    ghost use Rattle.monk_hall.specs.Calls.{GoesOut, ParksInside, is_entry_known};
     ghost use Rattle.monk_hall.specs.Recorded.{HasRecorded};
 
     /// Signals a condition variable and leaves the monitor, in at most four steps. It leaves also where nobody waits on
@@ -194,6 +206,40 @@ impl<K: ImmediateReturn, T: Guarded> Active<K, T> {
         release.choice = release
             .floor
             .signal_leave(release.number, cond, pick, known);
+        release
+    }
+
+    /// Signals the first condition variable and then waits on the second, in at most four steps. The first that waits on
+    /// the one becomes a waiter, and then the caller is parked inside, at the back of those who wait on the other; it
+    /// never serves itself, also where both are one. The scheduler step and the wish are as at `leave`.
+    pub fn signal_wait(self, hall: &Hall<K, T>, cond: u8, wait_cond: u8, pick: Pick) -> Parked<K, T>
+        requires hall { self.hall ≡ hall.now.id }
+        requires cond { cond < self.me.setting.conds }
+        requires wait_cond { wait_cond < self.me.setting.conds }
+        requires left { length self.me.mine + 3 ≤ self.me.setting.budget }
+        ensures { ParksInside K.rules T.meaning self (Event.SignalWait self.me.seat cond wait_cond Next.Stay) pick result }
+    {
+        let mut active = self;
+        let known = active.look_for_entry(hall, true, pick);
+        active
+            .record_signal_wait(cond, wait_cond, pick, known)
+            .go_inside(hall)
+    }
+
+    fn record_signal_wait(self, cond: u8, wait_cond: u8, pick: Pick, known: bool) -> Release<K, T>
+        requires cond { cond < self.me.setting.conds }
+        requires wait_cond { wait_cond < self.me.setting.conds }
+        requires left { length self.me.mine + 3 ≤ self.me.setting.budget }
+        requires known { known ≡ is_entry_known pick self.me.known }
+        ensures table { result.seat.table_id ≡ self.hall }
+        ensures recorded { HasRecorded K.rules T.meaning self (λ n. Event.SignalWait n cond wait_cond Next.Stay) pick known
+            home.Inner result }
+        ensures away { is_stay (Some result.choice) ≡ false }
+    {
+        let mut release = Release::of(self);
+        release.choice = release
+            .floor
+            .signal_wait(release.number, cond, wait_cond, pick, known);
         release
     }
 }

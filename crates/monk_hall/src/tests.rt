@@ -8,6 +8,7 @@ mod conditions;
 mod crowd;
 mod ending;
 mod entering;
+mod later_calls;
 mod modes;
 
 use crate::active::Active;
@@ -97,7 +98,7 @@ fn wait<K: Conditional>(
 ) -> Option<Parked<K, Buffer>>
     requires hall { active.hall ≡ hall.now.id }
     requires cond { cond < active.me.setting.conds }
-    ensures { IfSome result (λ p. p.hall ≡ hall.now.id) }
+    ensures { IfSome result (λ p. (p.hall ≡ hall.now.id) × (p.me.setting ≡ active.me.setting)) }
 {
     if active.left() < 3 {
         active.leave(hall, Pick::Waiter);

@@ -12,6 +12,7 @@ use Rattle.monk_object.specs.declared.op.Op.{Op}
 use Rattle.monk_history.specs.Meaning.Acts.{acts_in}
 use Rattle.monk_history.specs.declared.event.Event.{Event}
 use Rattle.monk_history.specs.declared.event.Event.TheVariants.{Enter, Act, Leave, Wait, Signal, SignalLeave, Until, Resume}
+use Rattle.monk_history.specs.declared.event.Event.TheVariants.{SignalAll, SignalWait}
 use Rattle.monk_hall.specs.Tokens.{Token}
 use Rattle.monk_hall.specs.declared.setting.Setting.{Setting}
 use Rattle.monk_samples.specs.Rounds.{rounds_to}
@@ -55,6 +56,8 @@ own_act before (Signal s c x) own same = same
 own_act before (SignalLeave s c x) own same = same
 own_act before (Until s p x) own same = same
 own_act before (Resume s q) own same = same
+own_act before (SignalAll s c) own same = same
+own_act before (SignalWait s c d x) own same = same
 
 pub own_acts : (own : List Addition) → acts_in (events_in own) ≡ acts_in (events_in (calls_in own))
 own_acts [] = refl

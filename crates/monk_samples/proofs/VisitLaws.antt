@@ -13,6 +13,7 @@ use Rattle.monk_history.specs.Meaning.Monitor.{data_of}
 use Rattle.monk_history.specs.Meaning.Release.{with_next}
 use Rattle.monk_history.specs.declared.event.Event.{Event}
 use Rattle.monk_history.specs.declared.event.Event.TheVariants.{Enter, Act, Leave, Wait, Signal, SignalLeave, Until, Resume}
+use Rattle.monk_history.specs.declared.event.Event.TheVariants.{SignalAll, SignalWait}
 use Rattle.monk_history.specs.declared.event.Next.TheVariants.{Stay}
 use Rattle.monk_floor.specs.View.{monitor_of}
 use Rattle.monk_world.specs.State.{with_event}
@@ -185,6 +186,8 @@ module _ (k : Rules) (o : Object) where
   next_acts (SignalLeave s c x) = refl
   next_acts (Until s p x) = refl
   next_acts (Resume s q) = refl
+  next_acts (SignalAll s c) = refl
+  next_acts (SignalWait s c d x) = refl
 
   call_acts : (c : Setting) (e : Event) (d : Addition) → IsCall k o c e d → act_of d.event ≡ act_of e
   call_acts c e d is = sym (next_acts d.event) ∙ ap act_of is.asks

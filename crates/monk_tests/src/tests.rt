@@ -10,6 +10,7 @@ mod full_floor;
 mod kinds;
 mod objects;
 mod play_texts;
+mod random_calls;
 mod refused;
 mod texts;
 mod tight;

@@ -10,7 +10,7 @@ use Rattle.monk_history.specs.Meaning.Events.{seat_of, is_stay}
 use Rattle.monk_history.specs.Meaning.Monitor.{data_of}
 use Rattle.monk_history.specs.Meaning.Turn.{turn}
 use Rattle.monk_history.specs.declared.event.Event.{Event}
-use Rattle.monk_history.specs.declared.event.Event.TheVariants.{Act, Leave, Wait, Signal, SignalLeave, Until}
+use Rattle.monk_history.specs.declared.event.Event.TheVariants.{Act, Leave, Wait, Signal, SignalLeave, Until, SignalAll, SignalWait}
 use Rattle.monk_history.specs.declared.event.Next.{Next}
 use Rattle.monk_history.specs.declared.event.Next.TheVariants as next
 use Rattle.monk_history.specs.declared.event.Turn.{Turn}
@@ -203,6 +203,11 @@ module _ (k : Rules) (o : Object) (s : State) (right : Whereabouts) (owner : ℕ
   bounded_done (command.Until p pick) a t (Active q) at left d =
       let x = release_next k o s i (Until i p next.Stay) pick in
       subst IsBounded (sym d.1) (released (Until i p x) refl (omega (arith, left)) q at x home.Inner (is_stay (Some x)))
+  bounded_done (command.SignalAll c) a t (Active q) at left d =
+      subst IsBounded (sym d.1) (stays_bounded (SignalAll i c) refl (omega (arith, left)))
+  bounded_done (command.SignalWait c v pick) a t (Active q) at left d =
+      let x = release_next k o s i (SignalWait i c v next.Stay) pick in
+      subst IsBounded (sym d.1) (released (SignalWait i c v x) refl (omega (arith, left)) q at x home.Inner (is_stay (Some x)))
   bounded_done c a t p at left d = absurd d
 
 record HasNumbers (s t : State) : Type 0 where
@@ -236,6 +241,8 @@ numbers_stay k o s i (command.Wait c pick) a t (Active q) d = numbers_of s t _ r
 numbers_stay k o s i (command.Signal c pick) a t (Active q) d = numbers_of s t _ refl refl d.1
 numbers_stay k o s i (command.SignalLeave c pick) a t (Active q) d = numbers_of s t _ refl refl d.1
 numbers_stay k o s i (command.Until r pick) a t (Active q) d = numbers_of s t _ refl refl d.1
+numbers_stay k o s i (command.SignalAll c) a t (Active q) d = numbers_of s t _ refl refl d.1
+numbers_stay k o s i (command.SignalWait c v pick) a t (Active q) d = numbers_of s t _ refl refl d.1
 numbers_stay k o s i c a t p d = absurd d
 
 -- a world that was told, with as many seats and conditions as before

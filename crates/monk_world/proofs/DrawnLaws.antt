@@ -145,6 +145,8 @@ module _ (k : Rules) (o : Object) (s : State) (i j n : ℕ) where
   done (command.Signal c pick) a t (Active q) at d = released a t _ home.Inner (ap (λ (u : State). u.world) d.1)
   done (command.SignalLeave c pick) a t (Active q) at d = released a t _ home.Idle (ap (λ (u : State). u.world) d.1)
   done (command.Until p pick) a t (Active q) at d = released a t _ home.Inner (ap (λ (u : State). u.world) d.1)
+  done (command.SignalAll c) a t (Active q) at d = unmoved a t (ap (λ (u : State). u.world) d.1)
+  done (command.SignalWait c v pick) a t (Active q) at d = released a t _ home.Inner (ap (λ (u : State). u.world) d.1)
   done c a t p at d = absurd d
 
   stepped : (c : Command) (a : Answer) (t : State) → IsStep k o s i c a t → HasTicket n (t.world.place j) → Before a

@@ -1,9 +1,12 @@
 -- What each step of a run adds to the history
 use Rattle.std.proofs.Common.{◌≡◌, ℕ, ◌==◌, ◌≤◌, ◌⊎◌, inl, inr, true, false, cond, Bool, List, [], ◌∷◌, ◌++◌, sym, refl}
 use Rattle.std.proofs.Common.{ap, ◌∙◌, subst, arith, append_assoc}
-use Rattle.std.specs.Prelude.{map, Some, None, not, nat_lt, ◌&&◌, if◌then◌else◌}
+use Rattle.std.specs.Prelude.{map, Some, None, not, nat_le, nat_lt, ◌&&◌, if◌then◌else◌}
+use Rattle.std.specs.List.{list_all}
+use Rattle.std.proofs.lemmas.Bool.{false≢true, le-leb, leb-true}
 use Rattle.std.proofs.lemmas.List.{append-nil}
 use Rattle.std.proofs.lemmas.List.Elements.{filter-append}
+use Rattle.std.proofs.lemmas.List.Folds.{list_all-append}
 use Rattle.monk_kinds.specs.Kind.{IsKind}
 use Rattle.monk_kinds.specs.declared.mode.Pick.{Pick}
 use Rattle.monk_kinds.specs.declared.mode.Rules.{Rules}
@@ -12,8 +15,9 @@ use Rattle.monk_history.specs.Meaning.Counts.{events_of, enters_of, is_enter, le
 use Rattle.monk_history.specs.Meaning.Events.{seat_of, is_stay}
 use Rattle.monk_history.specs.Meaning.Release.{with_next}
 use Rattle.monk_history.specs.Meaning.Turn.{turn}
+use Rattle.monk_history.specs.Text.{first_version}
 use Rattle.monk_history.specs.declared.event.Event.{Event}
-use Rattle.monk_history.specs.declared.event.Event.TheVariants.{Enter, Leave, Wait, Signal, SignalLeave, Until}
+use Rattle.monk_history.specs.declared.event.Event.TheVariants.{Enter, Leave, Wait, Signal, SignalLeave, Until, SignalAll, SignalWait}
 use Rattle.monk_history.specs.declared.event.Next.{Next}
 use Rattle.monk_history.specs.declared.event.Next.TheVariants as next
 use Rattle.monk_history.specs.declared.event.Turn.{Turn}
@@ -23,12 +27,12 @@ use Rattle.monk_history.proofs.PublicLaws.Meaning.{events_of-push}
 use Rattle.monk_floor.specs.View.{FloorView}
 use Rattle.monk_world.specs.Places.{stage, back_turn}
 use Rattle.monk_world.specs.Records.{Recorded, IsOwn, EntersWith, IsTaken, IsRecorded, recorded_by, recorded_command}
-use Rattle.monk_world.specs.Records.{StepsAreTaken, RunsAreRecorded}
+use Rattle.monk_world.specs.Records.{are_in_version, IsRecordedBy, KeepsVersion, StepsAreTaken, RunsAreRecorded}
 use Rattle.monk_world.specs.Runs.{Told, IsRun, IsWellLed}
 use Rattle.monk_world.specs.Sound.{Sound}
 use Rattle.monk_world.specs.State.{State, with_event, is_quiet}
 use Rattle.monk_world.specs.Steps.{after_floor_in}
-use Rattle.monk_world.specs.StepTable.{call_of, is_call_in_range, is_call_offered, may_be_told, left_for, out_event}
+use Rattle.monk_world.specs.StepTable.{call_of, command_version, is_call_in_range, is_call_offered, may_be_told, left_for, out_event}
 use Rattle.monk_world.specs.StepTable.{release_next, IsReleased, IsDone, IsAnswered, IsStep}
 use Rattle.monk_world.specs.Telling.{command_of}
 use Rattle.monk_world.specs.World.{World}
@@ -44,7 +48,8 @@ use Rattle.monk_world.specs.declared.source.Source.{Source}
 use Rattle.monk_world.specs.declared.source.Source.TheVariants.{Free, Granted, Called}
 use Rattle.monk_world.proofs.PutLaws.{put_here}
 use Rattle.monk_world.proofs.RunLaws.{well_led}
-use Rattle.monk_world.proofs.SoundSteps.{IsRelease, leaving, waiting, signalling, signal_leaving, waiting_until, step_is_sound}
+use Rattle.monk_world.proofs.SoundSteps.{IsRelease, leaving, waiting, signalling, signal_leaving, signal_waiting, waiting_until}
+use Rattle.monk_world.proofs.SoundSteps.{step_is_sound}
 
 -- whether the answer is that entry was chosen
 abbrev lets_in : Answer → Bool
@@ -60,6 +65,7 @@ lets_in (answer.Chose (next.Until j)) = false
 lets_in (answer.GrantedTicket t) = false
 lets_in (answer.GrantedSeat j) = false
 lets_in (answer.Reply r) = false
+lets_in (answer.Woke n) = false
 lets_in answer.Range = false
 lets_in answer.NoCall = false
 lets_in answer.NotNow = false
@@ -87,6 +93,14 @@ out_seat i (Free t) u = refl
 out_seat i (Granted t) u = refl
 out_seat i Called u = refl
 
+out_version : (i : ℕ) (q : Source) (u : Turn) → first_version (out_event i q u) ≤ 1
+out_version i (Free t) u = omega arith
+out_version i (Granted t) u = omega arith
+out_version i Called u = omega arith
+
+one_in_version : (e : Event) (v : ℕ) → first_version e ≤ v → are_in_version v (e ∷ []) ≡ true
+one_in_version e v l = ap (λ b. b && true) (le-leb (first_version e) v l)
+
 abbrev recording : ℕ → Command → Answer → List Event → Recorded
 recording i c a events = record { told = record { seat = i; command = c; answer = a }; events = events }
 
@@ -107,6 +121,7 @@ module _ (k : Rules) (o : Object) (s : State) (kind : IsKind k) (h : Sound k o s
       grows = same ∙ ap (λ (past : List Event). record s.floor { history = past }) (sym (append-nil s.floor.history));
       own = tt;
       in_turn = λ v e. absurd cc;
+      versions = λ v l. refl;
       well_led = well_after c a t step;
       waited_for = λ e. absurd (another a r is differs e);
     },
@@ -114,15 +129,17 @@ module _ (k : Rules) (o : Object) (s : State) (kind : IsKind k) (h : Sound k o s
 
   -- one event is
   grew : (c : Command) (a : Answer) (t : State) → IsStep k o s i c a t → (e : Event) → t.floor ≡ with_event s.floor e → seat_of e ≡ i
+      → first_version e ≤ command_version c
       → ((v : Via) → e ≡ Enter i v → EntersWith (s.world.place i) v (enters_of s.floor.history))
       → (a ≡ answer.Chose next.Entry → (is_quiet k o t.floor ≡ true) ⊎ (2 ≤ s.world.unpassed)) → Outcome c a t
-  grew c a t step e grows own turn waited = (
+  grew c a t step e grows own version turn waited = (
     e ∷ [],
     record {
       is_step = step;
       grows = grows;
       own = own;
       in_turn = λ v is. let same : e ≡ Enter i v = cc in turn v same;
+      versions = λ v l. one_in_version e v (omega (arith, version, l));
       well_led = well_after c a t step;
       waited_for = waited;
     },
@@ -145,10 +162,11 @@ module _ (k : Rules) (o : Object) (s : State) (kind : IsKind k) (h : Sound k o s
       ]
 
   released : (c : Command) (a : Answer) (t : State) → IsStep k o s i c a t → (e : Event) (pick : Pick) (to : Home)
-      → IsRelease e i to → IsReleased k o s i e pick to a t → Outcome c a t
-  released c a t step e pick to r d =
+      → IsRelease e i to → ((x : Next) → first_version (with_next x e) ≤ command_version c)
+      → IsReleased k o s i e pick to a t → Outcome c a t
+  released c a t step e pick to r version d =
       let x = release_next k o s i e pick in
-      grew c a t step (with_next x e) (ap (λ (u : State). u.floor) d.1) (r.seat x)
+      grew c a t step (with_next x e) (ap (λ (u : State). u.floor) d.1) (r.seat x) (version x)
       (λ v is. let z : false ≡ true = sym (r.no_enter x) ∙ ap is_enter is in absurd cc)
       (λ entry. let same : answer.Chose x ≡ answer.Chose next.Entry = sym d.0 ∙ entry in let is : x ≡ next.Entry = cc in
       entry_waits c a t step x to is (ap (λ (u : State). u.world) d.1))
@@ -172,7 +190,7 @@ module _ (k : Rules) (o : Object) (s : State) (kind : IsKind k) (h : Sound k o s
   done command.Look a t Inner step at d = still command.Look a t step _ d.0 refl (ap (λ (u : State). u.floor) d.1)
   done command.Out a t (Due q) step at d =
       grew command.Out a t step (out_event i q (turn s.floor.history)) (ap (λ (u : State). u.floor) d.1)
-      (out_seat i q (turn s.floor.history))
+      (out_seat i q (turn s.floor.history)) (out_version i q (turn s.floor.history))
       (enters_so q (turn s.floor.history) at) (λ e. absurd (another a answer.Now d.0 refl e))
   done command.Peek a t Idle step at d = still command.Peek a t step _ d.0 refl (ap (λ (u : State). u.floor) d.1)
   done command.Peek a t (Active q) step at d = still command.Peek a t step _ d.0 refl (ap (λ (u : State). u.floor) d.1)
@@ -182,17 +200,24 @@ module _ (k : Rules) (o : Object) (s : State) (kind : IsKind k) (h : Sound k o s
   done command.Grant a t (Back (next.Until j) to) step at d = still command.Grant a t step _ d.0 refl (ap (λ (u : State). u.floor) d.1)
   done command.Grant a t (Passing n to) step at d = still command.Grant a t step _ d.0 refl (ap (λ (u : State). u.floor) d.1)
   done (command.Act op) a t (Active q) step at d =
-      grew (command.Act op) a t step _ (ap (λ (u : State). u.floor) d.1) refl (λ v is. absurd cc) (λ e. absurd (another a _ d.0 refl e))
+      grew (command.Act op) a t step _ (ap (λ (u : State). u.floor) d.1) refl (omega arith) (λ v is. absurd cc)
+      (λ e. absurd (another a _ d.0 refl e))
   done (command.Leave pick) a t (Active q) step at d =
-      released (command.Leave pick) a t step (Leave i next.Stay) pick home.Idle (leaving i) d
+      released (command.Leave pick) a t step (Leave i next.Stay) pick home.Idle (leaving i) (λ x. omega arith) d
   done (command.Wait c pick) a t (Active q) step at d =
-      released (command.Wait c pick) a t step (Wait i c next.Stay) pick home.Inner (waiting i c) d
+      released (command.Wait c pick) a t step (Wait i c next.Stay) pick home.Inner (waiting i c) (λ x. omega arith) d
   done (command.Signal c pick) a t (Active q) step at d =
-      released (command.Signal c pick) a t step (Signal i c next.Stay) pick home.Inner (signalling i c) d
+      released (command.Signal c pick) a t step (Signal i c next.Stay) pick home.Inner (signalling i c) (λ x. omega arith) d
   done (command.SignalLeave c pick) a t (Active q) step at d =
-      released (command.SignalLeave c pick) a t step (SignalLeave i c next.Stay) pick home.Idle (signal_leaving i c) d
+      released (command.SignalLeave c pick) a t step (SignalLeave i c next.Stay) pick home.Idle (signal_leaving i c) (λ x. omega arith) d
   done (command.Until p pick) a t (Active q) step at d =
-      released (command.Until p pick) a t step (Until i p next.Stay) pick home.Inner (waiting_until i p) d
+      released (command.Until p pick) a t step (Until i p next.Stay) pick home.Inner (waiting_until i p) (λ x. omega arith) d
+  done (command.SignalAll c) a t (Active q) step at d =
+      grew (command.SignalAll c) a t step (SignalAll i c) (ap (λ (u : State). u.floor) d.1) refl (omega arith) (λ v is. absurd cc)
+      (λ e. absurd (another a _ d.0 refl e))
+  done (command.SignalWait c v pick) a t (Active q) step at d =
+      released (command.SignalWait c v pick) a t step (SignalWait i c v next.Stay) pick home.Inner (signal_waiting i c v)
+      (λ x. omega arith) d
   done c a t p step at d = absurd d
 
   pub taken : (c : Command) (a : Answer) (t : State) → IsStep k o s i c a t → Outcome c a t
@@ -244,6 +269,33 @@ run_recorded k o s (x ∷ xs) t kind h run =
     let one = taken k o s kind h x.seat x.command x.answer u run.1 in
     let more = run_recorded k o u xs t kind (step_is_sound k o s x.seat x.command x.answer u kind h run.1) run.2 in
     (recording x.seat x.command x.answer one.0 ∷ more.0, (ap (λ cs. command_of x ∷ cs) more.1.0, (u, one.1, more.1.1)))
+
+-- a version that has all the commands has all the events that they append
+
+versions_split : (a b : Bool) → (a && b) ≡ true → (a ≡ true) × (b ≡ true)
+versions_split true b h = (refl, h)
+versions_split false b h = absurd (false≢true h)
+
+versions_join : (a b : Bool) → a ≡ true → b ≡ true → (a && b) ≡ true
+versions_join a b h l = ap (λ x. x && b) h ∙ l
+
+same_version : (k : Rules) (o : Object) (s : State) (steps : List Recorded) (t : State) (v : ℕ) → IsRecorded k o s steps t
+    → are_in_version v s.floor.history ≡ true
+    → list_all (λ c. nat_le (command_version c.1) v) (map recorded_command steps) ≡ true → are_in_version v t.floor.history ≡ true
+same_version k o s [] t v r here all = ap (λ (u : State). are_in_version v u.floor.history) r ∙ here
+same_version k o s (x ∷ xs) t v r here all =
+    let both = versions_split (nat_le (command_version x.told.command) v) _ all in
+    let more = r.1.versions v (leb-true (command_version x.told.command) v both.0) in
+    same_version k o r.0 xs t v r.2
+    (ap (λ (f : FloorView). are_in_version v f.history) r.1.grows
+    ∙ (list_all-append (λ e. nat_le (first_version e) v) s.floor.history x.events
+    ∙ versions_join (are_in_version v s.floor.history) (are_in_version v x.events) here more)) both.1
+
+pub keeps_version : (k : Rules) (o : Object) (s : State) (commands : List (ℕ × Command)) (t : State)
+    → IsRecordedBy k o s commands t → KeepsVersion s commands t
+keeps_version k o s commands t r v here all =
+    same_version k o s r.steps t v r.recorded here
+    (subst (λ cs. list_all (λ c. nat_le (command_version c.1) v) cs ≡ true) (sym r.by_commands) all)
 
 -- of the floor the history alone changes
 pub record IsSameMonitor (f g : FloorView) : Type 0 where

@@ -11,12 +11,12 @@ use Rattle.monk_object.specs.declared.op.Op.{Op}
 use Rattle.monk_history.specs.Meaning.Counts.{left_of, is_enter}
 use Rattle.monk_history.specs.Meaning.Events.{seat_of, next_of, is_stay, is_way_out}
 use Rattle.monk_history.specs.Meaning.Monitor.{data_of}
-use Rattle.monk_history.specs.Meaning.Reasons.{IsAllowed, is_owned_by, is_in_range, is_right_reply}
+use Rattle.monk_history.specs.Meaning.Reasons.{IsAllowed, is_owned_by, is_in_range, is_offered, is_right_reply}
 use Rattle.monk_history.specs.Meaning.Release.{MayCall, with_next, as_called, choice_of}
 use Rattle.monk_history.specs.Meaning.Situation.{situation}
 use Rattle.monk_history.specs.Meaning.Turn.{turn, turn_by}
 use Rattle.monk_history.specs.declared.event.Event.{Event}
-use Rattle.monk_history.specs.declared.event.Event.TheVariants.{Act, Leave, Wait, Signal, SignalLeave, Until}
+use Rattle.monk_history.specs.declared.event.Event.TheVariants.{Act, Leave, Wait, Signal, SignalLeave, Until, SignalAll, SignalWait}
 use Rattle.monk_history.specs.declared.event.Next.{Next}
 use Rattle.monk_history.specs.declared.event.Next.TheVariants as next
 use Rattle.monk_history.specs.declared.event.Turn.TheVariants as turn
@@ -131,6 +131,22 @@ module _ (k : Rules) (o : Object) (s : State) (right : Whereabouts) (owner : ℕ
       })
       q active refl refl enough
 
+  signalled_all : (c : ℕ) → is_in_range s.floor.seats s.floor.conds o.codes o.predicates (SignalAll i c) ≡ true
+      → is_offered k (SignalAll i c) ≡ true → 2 ≤ left_of s.floor.budget s.floor.history i
+      → Sound k o (record s { floor = with_event s.floor (SignalAll i c) })
+  signalled_all c range offered enough =
+      stays k o s right owner h i (SignalAll i c) refl
+      (record {
+        in_range = range;
+        offered = offered;
+        in_turn = owns;
+        in_place = refl;
+        right_reply =
+            refl;
+        permitted = refl;
+      })
+      q active refl refl enough
+
   looked_in : Sound k o (record s { known = put s.known i (s.known i || nat_le 2 s.world.unpassed) })
   looked_in = record {
     right = right;
@@ -151,7 +167,7 @@ module _ (k : Rules) (o : Object) (s : State) (right : Whereabouts) (owner : ℕ
     };
   }
 
--- the five calls that release
+-- the six calls that release
 pub leaving : (i : ℕ) → IsRelease (Leave i next.Stay) i home.Idle
 leaving i = record {
   seat = λ x. refl;
@@ -194,6 +210,17 @@ signal_leaving i c = record {
   way =
       λ x. refl;
   no_reply = λ o d. refl;
+}
+
+pub signal_waiting : (i c d : ℕ) → IsRelease (SignalWait i c d next.Stay) i home.Inner
+signal_waiting i c d = record {
+  seat = λ x. refl;
+  no_enter = λ x. refl;
+  chooses = λ x. refl;
+  called = λ x. refl;
+  way =
+      λ x. refl;
+  no_reply = λ o e. refl;
 }
 
 pub waiting_until : (i p : ℕ) → IsRelease (Until i p next.Stay) i home.Inner
@@ -275,6 +302,18 @@ module _ (k : Rules) (o : Object) (s : State) (right : Whereabouts) (owner : ℕ
       }) (λ e. let z : false ≡ true = e.permitted in absurd cc) left)
   done (command.Until p pick) a t (Active q) at range offered left d =
       subst (Sound k o) (sym d.1) (released k o s right owner kind h i near q at (Until i p next.Stay) pick home.Inner (waiting_until i p)
+      (record {
+        in_range = range;
+        offered = offered;
+        in_turn = owns k o s right owner kind h i near q at;
+        in_place =
+            refl;
+      }) (λ e. omega arith) left)
+  done (command.SignalAll c) a t (Active q) at range offered left d =
+      subst (Sound k o) (sym d.1) (signalled_all k o s right owner kind h i near q at c range offered left)
+  done (command.SignalWait c v pick) a t (Active q) at range offered left d =
+      subst (Sound k o) (sym d.1)
+      (released k o s right owner kind h i near q at (SignalWait i c v next.Stay) pick home.Inner (signal_waiting i c v)
       (record {
         in_range = range;
         offered = offered;

@@ -37,6 +37,8 @@ module _ (k : Rules) (o : Object) (s : State) (i : ℕ) where
   done (Active q) (command.Signal c pick) e = (_, _, (refl, refl))
   done (Active q) (command.SignalLeave c pick) e = (_, _, (refl, refl))
   done (Active q) (command.Until p pick) e = (_, _, (refl, refl))
+  done (Active q) (command.SignalAll c) e = (_, _, (refl, refl))
+  done (Active q) (command.SignalWait c d pick) e = (_, _, (refl, refl))
   done p c e = absurd (let z : false ≡ true = e in cc)
 
   -- by what the tests for a refusal say
@@ -71,6 +73,8 @@ module _ (k : Rules) (o : Object) (s : State) (i : ℕ) where
   same_done (Active q) (command.Signal c pick) a b t u d e = (d.0 ∙ sym e.0, d.1 ∙ sym e.1)
   same_done (Active q) (command.SignalLeave c pick) a b t u d e = (d.0 ∙ sym e.0, d.1 ∙ sym e.1)
   same_done (Active q) (command.Until p pick) a b t u d e = (d.0 ∙ sym e.0, d.1 ∙ sym e.1)
+  same_done (Active q) (command.SignalAll c) a b t u d e = (d.0 ∙ sym e.0, d.1 ∙ sym e.1)
+  same_done (Active q) (command.SignalWait c v pick) a b t u d e = (d.0 ∙ sym e.0, d.1 ∙ sym e.1)
   same_done p c a b t u d e = absurd d
 
   same_answered : (c : Command) (r : Option Answer) (a b : Answer) (t u : State) → IsAnswered k o s i c r a t

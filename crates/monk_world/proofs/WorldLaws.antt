@@ -10,6 +10,7 @@ use Rattle.monk_kinds.specs.declared.mode.Rules.{Rules}
 use Rattle.monk_object.specs.Object.{Object}
 use Rattle.monk_object.specs.declared.op.Op.{Op}
 use Rattle.monk_history.specs.Limits.{most_seats, most_conds, least_budget, most_budget}
+use Rattle.monk_history.specs.Meaning.Conditions.{condition}
 use Rattle.monk_history.specs.Meaning.Counts.{left_of, events_of}
 use Rattle.monk_floor.specs.Making as make
 use Rattle.monk_floor.specs.declared.fault.MakeFault.TheVariants as fault
@@ -23,7 +24,7 @@ use Rattle.monk_history.specs.Meaning.Reasons.{IsAllowed, is_owned_by, is_due, i
 use Rattle.monk_history.specs.Meaning.Release.{with_next}
 use Rattle.monk_history.specs.Meaning.Turn.{turn}
 use Rattle.monk_history.specs.declared.event.Event.{Event}
-use Rattle.monk_history.specs.declared.event.Event.TheVariants.{Act}
+use Rattle.monk_history.specs.declared.event.Event.TheVariants.{Act, SignalAll}
 use Rattle.monk_history.specs.declared.event.From3.{From3}
 use Rattle.monk_history.specs.declared.event.From3.TheVariants as from
 use Rattle.monk_history.specs.declared.event.Next.{Next}
@@ -229,6 +230,16 @@ module _ (k : Rules) (o : Object) (w : Board) (f : FloorView) (v : WorldView) (i
         is_a ∙ ap answer.Reply same,
         ap (λ (y : FloorView). state_in w y) grows.grown
             ∙ ap (λ (r : ℕ). record s { floor = with_event f (Act i op r) }) same,
+      )
+
+  pub signal_all_goes : (c served : ℕ) (a : Answer) (g : FloorView)
+      → refusal k o (state_of_view v) i (command.SignalAll c) ≡ None → g ≡ with_event f (SignalAll i c)
+      → served ≡ length (condition c f.history) → a ≡ answer.Woke served → Goes (command.SignalAll c) a (state_in w g)
+  signal_all_goes c served a g free grown served_is is_a =
+      let at = active_is (s.world.place i) ((ready_here (command.SignalAll c) free).told) in
+      at_place (Active at.source) (command.SignalAll c) a (state_in w g) at.is (
+        is_a ∙ ap answer.Woke served_is,
+        ap (λ (y : FloorView). state_in w y) grown,
       )
 
   pub owns_here : (c : Command) (conds : ℕ) → IsKept k o w.seats conds s
@@ -460,6 +471,12 @@ both_fourth true true e f = refl
 both_fourth false x e f = absurd cc
 both_fourth true false e f = absurd cc
 
+both_conds : (a x y : Bool) → a ≡ true → (x && y) ≡ true → (a && ((a && true) && y && x && true)) ≡ true
+both_conds true true true e f = refl
+both_conds false x y e f = absurd cc
+both_conds true false y e f = absurd cc
+both_conds true true false e f = absurd cc
+
 pub reaches : (o : Object) (f : FloorView) (i : ℕ) (c : Command) → nat_lt i f.seats ≡ true
     → telling.is_command_in_range f.conds o.codes o.predicates c ≡ true
     → (nat_lt i f.seats && is_call_in_range o f (call_of i c)) ≡ true
@@ -475,3 +492,5 @@ reaches o f i (command.Wait c pick) here fits = both_third (nat_lt i f.seats) _ 
 reaches o f i (command.Signal c pick) here fits = both_fourth (nat_lt i f.seats) _ here fits
 reaches o f i (command.SignalLeave c pick) here fits = both_fourth (nat_lt i f.seats) _ here fits
 reaches o f i (command.Until p pick) here fits = both_last (nat_lt i f.seats) _ here fits
+reaches o f i (command.SignalAll c) here fits = both_fourth (nat_lt i f.seats) _ here fits
+reaches o f i (command.SignalWait c d pick) here fits = both_conds (nat_lt i f.seats) _ _ here fits

@@ -10,9 +10,10 @@ use Rattle.monk_history.specs.Limits.{least_budget, most_budget}
 use Rattle.monk_history.specs.Text.{Heading, IsHeading, part_words}
 use Rattle.monk_history.specs.Text.Lines.{line}
 use Rattle.monk_history.specs.Text.Words.{Word}
+use Rattle.monk_world.specs.Records.{AreToldIn}
 use Rattle.monk_world.specs.declared.command.Command.{Command}
 use Rattle.monk_world.specs.declared.command.Command.TheVariants.{Arrive, Look, Out, Peek, Drop, Grant, Act, Leave}
-use Rattle.monk_world.specs.declared.command.Command.TheVariants.{Wait, Signal, SignalLeave, Until}
+use Rattle.monk_world.specs.declared.command.Command.TheVariants.{Wait, Signal, SignalLeave, Until, SignalAll, SignalWait}
 
 -- ---- words
 
@@ -34,6 +35,8 @@ action_words (Wait c p) = codes "wait" ∷ decimal c ∷ pick_word p ∷ []
 action_words (Signal c p) = codes "signal" ∷ decimal c ∷ pick_word p ∷ []
 action_words (SignalLeave c p) = codes "signal-leave" ∷ decimal c ∷ pick_word p ∷ []
 action_words (Until q p) = codes "until" ∷ decimal q ∷ pick_word p ∷ []
+action_words (SignalAll c) = codes "signal-all" ∷ decimal c ∷ []
+action_words (SignalWait c d p) = codes "signal-wait" ∷ decimal c ∷ decimal d ∷ pick_word p ∷ []
 
 -- a seat and what it is told to do
 abbrev pub command_words : ℕ × Command → List Word
@@ -63,6 +66,8 @@ ActionFits (Wait c p) = c ≤ 255
 ActionFits (Signal c p) = c ≤ 255
 ActionFits (SignalLeave c p) = c ≤ 255
 ActionFits (Until q p) = q ≤ 255
+ActionFits (SignalAll c) = c ≤ 255
+ActionFits (SignalWait c d p) = (c ≤ 255) × (d ≤ 255)
 
 abbrev pub CommandFits : ℕ × Command → Type 0
 CommandFits m = (m.0 ≤ 255) × ActionFits m.1
@@ -72,3 +77,5 @@ pub record HasPlayText (h : Heading) (budget : ℕ) (commands : List (ℕ × Com
   pub some_budget : least_budget ≤ budget
   pub budget_fits : budget ≤ most_budget
   pub commands_fit : AllByRecursion CommandFits commands
+  -- the version has each of them
+  pub told : AreToldIn h.version commands

@@ -1,5 +1,6 @@
 -- What each step of a run adds to the history
-use Rattle.std.specs.Prelude.{◌≡◌, ℕ, ◌≤◌, ◌==◌, ◌⊎◌, true, List, [], ◌∷◌, ◌++◌, map, if◌then◌else◌}
+use Rattle.std.specs.Prelude.{◌≡◌, ℕ, ◌≤◌, ◌==◌, nat_le, ◌⊎◌, Bool, true, IsTrue, List, [], ◌∷◌, ◌++◌, map, if◌then◌else◌}
+use Rattle.std.specs.List.{list_all}
 use Rattle.monk_kinds.specs.Kind.{IsKind}
 use Rattle.monk_kinds.specs.declared.mode.Rules.{Rules}
 use Rattle.monk_object.specs.Object.{Object}
@@ -10,10 +11,11 @@ use Rattle.monk_history.specs.declared.event.Event.TheVariants.{Enter}
 use Rattle.monk_history.specs.declared.event.Next.TheVariants as next
 use Rattle.monk_history.specs.declared.event.Via.{Via}
 use Rattle.monk_history.specs.declared.event.Via.TheVariants as via
+use Rattle.monk_history.specs.Text.{first_version}
 use Rattle.monk_world.specs.Runs.{Told, IsWellLed, opening_state}
 use Rattle.monk_world.specs.Sound.{Sound}
 use Rattle.monk_world.specs.State.{State, is_quiet}
-use Rattle.monk_world.specs.StepTable.{IsStep}
+use Rattle.monk_world.specs.StepTable.{command_version, IsStep}
 use Rattle.monk_world.specs.Telling.{command_of, IsLed}
 use Rattle.monk_world.specs.declared.answer.Answer.{Answer}
 use Rattle.monk_world.specs.declared.answer.Answer.TheVariants as answer
@@ -45,6 +47,10 @@ EntersWith (Back x home) v n = ⊥
 EntersWith (Passing t home) v n = ⊥
 EntersWith Inner v n = ⊥
 
+-- whether that version of the text has each of these events
+abbrev pub are_in_version : ℕ → List Event → Bool
+are_in_version version events = list_all (λ e. nat_le (first_version e) version) events
+
 pub record IsTaken (k : Rules) (o : Object) (s : State) (x : Recorded) (t : State) : Type 0 where
   pub is_step : IsStep k o s x.told.seat x.told.command x.told.answer t
   -- the history grows by at most one event, the seat's own; of the floor nothing else changes
@@ -52,6 +58,8 @@ pub record IsTaken (k : Rules) (o : Object) (s : State) (x : Recorded) (t : Stat
   pub own : IsOwn x.told.seat x.events
   -- the enter with n enters before it is that of ticket n
   pub in_turn : (v : Via) → x.events ≡ Enter x.told.seat v ∷ [] → EntersWith (s.world.place x.told.seat) v (enters_of s.floor.history)
+  -- what it appended is in each version that has its command: a later event is there by its own command alone
+  pub versions : (v : ℕ) → command_version x.told.command ≤ v → IsTrue (are_in_version v x.events)
   -- the right is in one place again, the history legal, and active exactly the seat that owns its turn
   pub well_led : IsWellLed k o t
   -- where entry was chosen nobody could have been chosen from a queue, or a ticket waits
@@ -82,6 +90,15 @@ pub record IsRecordedBy (k : Rules) (o : Object) (s : State) (commands : List (�
   pub by_commands : map recorded_command steps ≡ commands
   pub recorded : IsRecorded k o s steps t
   pub own : (j : ℕ) → events_of t.floor.history j ≡ events_of s.floor.history j ++ recorded_by j steps
+
+-- that version of the text has the events of all these commands
+abbrev pub AreToldIn : ℕ → List (ℕ × Command) → Type 0
+AreToldIn version commands = IsTrue (list_all (λ c. nat_le (command_version c.1) version) commands)
+
+-- a run by commands that a version has adds no event that it has not
+abbrev pub KeepsVersion : State → List (ℕ × Command) → State → Type 0
+KeepsVersion s commands t = (v : ℕ) → IsTrue (are_in_version v s.floor.history) → AreToldIn v commands
+    → IsTrue (are_in_version v t.floor.history)
 
 abbrev pub StepsAreTaken : Type 0
 StepsAreTaken = (k : Rules) (o : Object) (s : State) (i : ℕ) (c : Command) (a : Answer) (t : State) → IsKind k

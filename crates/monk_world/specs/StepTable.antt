@@ -1,8 +1,11 @@
 -- The steps as a relation between state, seat, command, answer and next state
-use Rattle.std.specs.Prelude.{◌≡◌, ℕ, ◌+◌, ◌%◌, ◌==◌, nat_le, nat_lt, Bool, true, false, not, ◌&&◌, ◌||◌, Option, Some, None, if◌then◌else◌}
+use Rattle.std.specs.Prelude.{◌≡◌, ℕ, ◌+◌, ◌%◌, ◌==◌, nat_le, nat_lt, Bool, true, false, not, ◌&&◌, ◌||◌, Option, Some, None}
+use Rattle.std.specs.Prelude.{length, if◌then◌else◌}
+use Rattle.std.specs.Option.{option_map_or}
 use Rattle.monk_kinds.specs.declared.mode.Pick.{Pick}
 use Rattle.monk_kinds.specs.declared.mode.Rules.{Rules}
 use Rattle.monk_object.specs.Object.{Object}
+use Rattle.monk_history.specs.Meaning.Conditions.{condition}
 use Rattle.monk_history.specs.Meaning.Counts.{left_of}
 use Rattle.monk_history.specs.Meaning.Events.{is_stay}
 use Rattle.monk_history.specs.Meaning.Monitor.{data_of}
@@ -11,6 +14,7 @@ use Rattle.monk_history.specs.Meaning.Release.{with_next, choice_of}
 use Rattle.monk_history.specs.Meaning.Turn.{turn}
 use Rattle.monk_history.specs.declared.event.Event.{Event}
 use Rattle.monk_history.specs.declared.event.Event.TheVariants.{Enter, Act, Leave, Wait, Signal, SignalLeave, Until, Resume}
+use Rattle.monk_history.specs.declared.event.Event.TheVariants.{SignalAll, SignalWait}
 use Rattle.monk_history.specs.declared.event.From3.{From3}
 use Rattle.monk_history.specs.declared.event.From3.TheVariants.{Waiter as FromWaiter}
 use Rattle.monk_history.specs.declared.event.Next.{Next}
@@ -18,6 +22,7 @@ use Rattle.monk_history.specs.declared.event.Next.TheVariants as next
 use Rattle.monk_history.specs.declared.event.Turn.{Turn}
 use Rattle.monk_history.specs.declared.event.Turn.TheVariants as turn
 use Rattle.monk_history.specs.declared.event.Via.TheVariants as via
+use Rattle.monk_history.specs.Text.{first_version}
 use Rattle.monk_floor.specs.View.{FloorView, monitor_of, stands_of}
 use Rattle.monk_world.specs.Places.{stage, outside_stage, ticketed_stage, due_stage, active_stage, passing_stage, inside_stage}
 use Rattle.monk_world.specs.Put.{put}
@@ -49,6 +54,12 @@ call_of i (command.Wait c pick) = Some (Wait i c next.Stay)
 call_of i (command.Signal c pick) = Some (Signal i c next.Stay)
 call_of i (command.SignalLeave c pick) = Some (SignalLeave i c next.Stay)
 call_of i (command.Until p pick) = Some (Until i p next.Stay)
+call_of i (command.SignalAll c) = Some (SignalAll i c)
+call_of i (command.SignalWait c d pick) = Some (SignalWait i c d next.Stay)
+
+-- the first version of the text that has the event of its call, if it is one
+abbrev pub command_version : Command → ℕ
+command_version c = option_map_or first_version (call_of 0 c) 1
 
 abbrev pub is_call_in_range : Object → FloorView → Option Event → Bool
 is_call_in_range o f None = true
@@ -96,6 +107,8 @@ may_be_told p (command.Wait c pick) = stage p == active_stage
 may_be_told p (command.Signal c pick) = stage p == active_stage
 may_be_told p (command.SignalLeave c pick) = stage p == active_stage
 may_be_told p (command.Until q pick) = stage p == active_stage
+may_be_told p (command.SignalAll c) = stage p == active_stage
+may_be_told p (command.SignalWait c d pick) = stage p == active_stage
 
 -- how many events must be left to a seat for a command, so that it can still resume and leave after it
 abbrev pub left_for : Command → ℕ
@@ -111,6 +124,8 @@ left_for (command.Wait c pick) = 3
 left_for (command.Signal c pick) = 3
 left_for (command.SignalLeave c pick) = 1
 left_for (command.Until p pick) = 3
+left_for (command.SignalAll c) = 2
+left_for (command.SignalWait c d pick) = 3
 
 -- the first refusal that applies
 abbrev pub refusal : Rules → Object → State → ℕ → Command → Option Answer
@@ -204,6 +219,12 @@ IsDone k o s i (Active q) (command.SignalLeave c pick) a t = IsReleased k o s i 
 IsDone k o s i p (command.SignalLeave c pick) a t = ⊥
 IsDone k o s i (Active q) (command.Until p pick) a t = IsReleased k o s i (Until i p next.Stay) pick home.Inner a t
 IsDone k o s i p (command.Until q pick) a t = ⊥
+IsDone k o s i (Active q) (command.SignalAll c) a t =
+    (a ≡ answer.Woke (length (condition c s.floor.history))) × (t ≡ record s { floor = with_event s.floor (SignalAll i c) })
+IsDone k o s i p (command.SignalAll c) a t = ⊥
+IsDone k o s i (Active q) (command.SignalWait c d pick) a t =
+    IsReleased k o s i (SignalWait i c d next.Stay) pick home.Inner a t
+IsDone k o s i p (command.SignalWait c d pick) a t = ⊥
 
 abbrev pub IsAnswered : Rules → Object → State → ℕ → Command → Option Answer → Answer → State → Type 0
 IsAnswered k o s i c None a t = IsDone k o s i (s.world.place i) c a t

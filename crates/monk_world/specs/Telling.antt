@@ -1,14 +1,14 @@
 -- Commands in order, and the tests of a command that need no state
-use Rattle.std.specs.Prelude.{◌≡◌, ℕ, Bool, List, true, not, nat_lt, map}
+use Rattle.std.specs.Prelude.{◌≡◌, ℕ, Bool, List, true, not, ◌&&◌, nat_lt, map}
 use Rattle.monk_kinds.specs.declared.mode.Mode.{Mode}
 use Rattle.monk_kinds.specs.declared.mode.Rules.{Rules}
 use Rattle.monk_object.specs.Object.{Object}
-use Rattle.monk_history.specs.Meaning.Events.{has_conditions, has_signaller_queue, returns_at_once}
+use Rattle.monk_history.specs.Meaning.Events.{has_conditions, has_signaller_queue, returns_at_once, is_non_blocking}
 use Rattle.monk_world.specs.Runs.{Told, IsRun}
 use Rattle.monk_world.specs.State.{State}
 use Rattle.monk_world.specs.declared.command.Command.{Command}
 use Rattle.monk_world.specs.declared.command.Command.TheVariants.{Arrive, Look, Out, Peek, Drop, Grant, Act, Leave}
-use Rattle.monk_world.specs.declared.command.Command.TheVariants.{Wait, Signal, SignalLeave, Until}
+use Rattle.monk_world.specs.declared.command.Command.TheVariants.{Wait, Signal, SignalLeave, Until, SignalAll, SignalWait}
 
 -- the condition, the predicate and the code are in range
 abbrev pub is_command_in_range : ℕ → ℕ → ℕ → Command → Bool
@@ -24,6 +24,8 @@ is_command_in_range conds codes predicates (Wait c pick) = nat_lt c conds
 is_command_in_range conds codes predicates (Signal c pick) = nat_lt c conds
 is_command_in_range conds codes predicates (SignalLeave c pick) = nat_lt c conds
 is_command_in_range conds codes predicates (Until p pick) = nat_lt p predicates
+is_command_in_range conds codes predicates (SignalAll c) = nat_lt c conds
+is_command_in_range conds codes predicates (SignalWait c d pick) = nat_lt c conds && nat_lt d conds
 
 -- the mode has the call
 abbrev pub is_command_offered : Mode → Command → Bool
@@ -39,6 +41,8 @@ is_command_offered mode (Wait c pick) = has_conditions mode
 is_command_offered mode (Signal c pick) = has_signaller_queue mode
 is_command_offered mode (SignalLeave c pick) = returns_at_once mode
 is_command_offered mode (Until p pick) = not (has_conditions mode)
+is_command_offered mode (SignalAll c) = is_non_blocking mode
+is_command_offered mode (SignalWait c d pick) = returns_at_once mode
 
 -- what a step was told
 abbrev pub command_of : Told → ℕ × Command

@@ -20,6 +20,8 @@ pub enum Answer {
     GrantedSeat(u8),
     /// The object's reply.
     Reply(u64),
+    /// How many a signal to all served.
+    Woke(u32),
     /// The seat, the condition, the predicate or the code is out of range.
     Range,
     /// The kind of monitor has no such call.

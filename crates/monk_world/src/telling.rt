@@ -21,9 +21,11 @@ pub fn is_in_range(command: Command, conds: u8, codes: u8, predicates: u8) -> bo
         | Command::Grant
         | Command::Leave(_) => true,
         Command::Act(op) => op.code < codes,
-        Command::Wait(cond, _) | Command::Signal(cond, _) | Command::SignalLeave(cond, _) => {
-            cond < conds
-        }
+        Command::Wait(cond, _)
+        | Command::Signal(cond, _)
+        | Command::SignalLeave(cond, _)
+        | Command::SignalAll(cond) => cond < conds,
+        Command::SignalWait(cond, wait_cond, _) => cond < conds && wait_cond < conds,
         Command::Until(pred, _) => pred < predicates,
     }
 }
@@ -48,7 +50,10 @@ pub fn is_offered(mode: Mode, command: Command) -> bool
                 Mode::Blocking | Mode::NonBlocking | Mode::QuasiBlocking
             )
         }
-        Command::SignalLeave(..) => matches!(mode, Mode::ImmediateReturn),
+        Command::SignalAll(_) => matches!(mode, Mode::NonBlocking),
+        Command::SignalLeave(..) | Command::SignalWait(..) => {
+            matches!(mode, Mode::ImmediateReturn)
+        }
         Command::Until(..) => matches!(mode, Mode::Automatic),
     }
 }
@@ -69,7 +74,9 @@ pub fn may_be_told(place: Place, command: Command) -> bool
         | Command::Wait(..)
         | Command::Signal(..)
         | Command::SignalLeave(..)
-        | Command::Until(..) => matches!(place, Place::Active(_)),
+        | Command::Until(..)
+        | Command::SignalAll(_)
+        | Command::SignalWait(..) => matches!(place, Place::Active(_)),
     }
 }
 
@@ -91,7 +98,7 @@ pub fn left_for(command: Command) -> u32
     match command {
         Command::Look | Command::Out | Command::Peek | Command::Drop | Command::Grant => 0,
         Command::Leave(_) | Command::SignalLeave(..) => 1,
-        Command::Arrive | Command::Act(_) => 2,
-        Command::Wait(..) | Command::Signal(..) | Command::Until(..) => 3,
+        Command::Arrive | Command::Act(_) | Command::SignalAll(_) => 2,
+        Command::Wait(..) | Command::Signal(..) | Command::Until(..) | Command::SignalWait(..) => 3,
     }
 }

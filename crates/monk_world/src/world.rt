@@ -7,7 +7,7 @@ ghost use Rattle.monk_history.specs.Meaning.Reasons.{IsAllowed};
 ghost use Rattle.monk_history.specs.Meaning.Turn.{turn};
 ghost use Rattle.monk_world.specs.State.{with_event};
 ghost use Rattle.monk_history.specs.Meaning.Legal.{IsLegal};
-ghost use Rattle.monk_world.specs.Records.{IsRecordedBy, IsTakenBy};
+ghost use Rattle.monk_world.specs.Records.{IsRecordedBy, IsTakenBy, KeepsVersion};
 ghost use Rattle.monk_world.specs.Runs.{IsWellLed, opening_state};
 ghost use Rattle.monk_world.specs.StepTable.{IsStep, IsDone, out_event, refusal, left_for, may_be_told};
 ghost use Rattle.monk_world.specs.Telling.{IsLed};
@@ -91,8 +91,9 @@ impl<K: Kind, T: Guarded> World<K, T> {
 
     /// Tells a seat to do this. Where it can't, the first refusal that applies is answered, and nothing has changed:
     /// `Range` where seat, condition, predicate or code is out of range, `NoCall` where the kind has no such call,
-    /// `NotNow` where the seat stands elsewhere, and `Tired` where too few events are left to it: an arrival and an act
-    /// need 2, a wait, a signal and an until 3; a leave and a signal-leave always have theirs.
+    /// `NotNow` where the seat stands elsewhere, and `Tired` where too few events are left to it: an arrival, an act and
+    /// a signal to all need 2, a wait, a signal, an until and a signal followed by a wait 3; a leave and a signal-leave
+    /// always have theirs.
     ///
     /// Takes no memory. Costs what the floor's call costs, else constant time.
     pub fn step(&mut self, seat: u8, command: Command) -> Answer
@@ -109,6 +110,8 @@ impl<K: Kind, T: Guarded> World<K, T> {
         ensures led { IsLed K.rules T.meaning (state_of_view self.old) commands.now (state_of_view self.new) }
         // Each seat's events are those that its own commands appended, each once, and tickets enter in their order.
         ensures recorded { IsRecordedBy K.rules T.meaning (state_of_view self.old) commands.now (state_of_view self.new) }
+        // A version of the text that has all the commands has all the events that they append.
+        ensures versions { KeepsVersion (state_of_view self.old) commands.now (state_of_view self.new) }
         ensures well_led { IsWellLed K.rules T.meaning (state_of_view self.new) }
     {
         let _ = &self.words; // from here on it is known to be sound
@@ -137,6 +140,10 @@ impl<K: Kind, T: Guarded> World<K, T> {
             Command::Signal(cond, pick) => self.signal(seat, cond, pick),
             Command::SignalLeave(cond, pick) => self.signal_leave(seat, cond, pick),
             Command::Until(pred, pick) => self.until(seat, pred, pick),
+            Command::SignalAll(cond) => self.signal_all(seat, cond),
+            Command::SignalWait(cond, wait_cond, pick) => {
+                self.signal_wait(seat, cond, wait_cond, pick)
+            }
         }
     }
 
@@ -299,6 +306,28 @@ impl<K: Kind, T: Guarded> World<K, T> {
     {
         let known = self.words.knows(seat);
         let next = self.floor.plain_until(seat, pred, pick, known);
+        self.words.floor_in(seat, next, Home::Inner)
+    }
+
+    /// Signals all who wait on a condition.
+    fn signal_all(&mut self, seat: u8, cond: u8) -> Answer
+        requires { refusal K.rules T.meaning (state_of_view self.old) seat (Command.SignalAll cond) ≡ None }
+        ensures { IsDone K.rules T.meaning (state_of_view self.old) seat ((state_of_view self.old).world.place seat)
+            (Command.SignalAll cond) result (state_of_view self.new) }
+    {
+        Answer::Woke(self.floor.plain_signal_all(seat, cond))
+    }
+
+    /// Signals a condition and then waits on one.
+    fn signal_wait(&mut self, seat: u8, cond: u8, wait_cond: u8, pick: Pick) -> Answer
+        requires { refusal K.rules T.meaning (state_of_view self.old) seat (Command.SignalWait cond wait_cond pick) ≡ None }
+        ensures { IsDone K.rules T.meaning (state_of_view self.old) seat ((state_of_view self.old).world.place seat)
+            (Command.SignalWait cond wait_cond pick) result (state_of_view self.new) }
+    {
+        let known = self.words.knows(seat);
+        let next = self
+            .floor
+            .plain_signal_wait(seat, cond, wait_cond, pick, known);
         self.words.floor_in(seat, next, Home::Inner)
     }
 }

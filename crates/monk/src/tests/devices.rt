@@ -21,8 +21,8 @@ struct Job {
     written: usize,
 }
 
-/// `legal 8` with its newline; the header and three events, of 23, 13, 14 and 15 bytes.
-static JOBS: [Job; 2] = [
+/// `legal 8` with its newline; the header and three events, of 23, 13, 14 and 15 bytes; as many bytes as were read.
+static JOBS: [Job; 3] = [
     Job {
         task: Task::Audit,
         input: HAND_OVER,
@@ -32,6 +32,11 @@ static JOBS: [Job; 2] = [
         task: Task::Play,
         input: PLAY,
         written: 65,
+    },
+    Job {
+        task: Task::Upgrade,
+        input: HAND_OVER,
+        written: 153,
     },
 ];
 
@@ -127,7 +132,7 @@ fn writes_that_fail<R: Abort + AllocGlobal>(
 ) -> Result<usize, Fail> {
     let alloc = rt.alloc();
     let mut files = 0;
-    for fails_at in 1..40u32 {
+    for fails_at in 1..80u32 {
         let mut reader = Device::new(job.input);
         let mut writer = Device::new(Tight {
             step: 3,

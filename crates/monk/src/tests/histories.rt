@@ -2,16 +2,17 @@ use super::lines::lines;
 use crate::audit_stream;
 use monk_history::Device;
 use std::alloc::{AllocError, Global};
+use std::process::Abort;
 use std::test::Fail;
 
 /// A history, and what is answered to it.
-struct Story {
-    name: &'static str,
-    header: &'static str,
+pub(crate) struct Story {
+    pub(crate) name: &'static str,
+    pub(crate) header: &'static str,
     /// The lines of the events, with ` / ` between each two.
-    events: &'static str,
-    answer: &'static str,
-    status: u8,
+    pub(crate) events: &'static str,
+    pub(crate) answer: &'static str,
+    pub(crate) status: u8,
 }
 
 fn text_of(alloc: Global, header: &str, events: &str) -> Result<String, AllocError> {
@@ -316,21 +317,31 @@ static STORIES: [Story; 42] = [
     },
 ];
 
+/// Audits a text of that story.
+pub(crate) fn is_answered<R: Abort + AllocGlobal>(
+    rt: &R,
+    story: &Story,
+    text: &str,
+) -> Result<(), Fail> {
+    let alloc = rt.alloc();
+    let mut page = Vec::new(alloc);
+    let mut reader = Device::new(text.as_bytes());
+    let mut writer = Device::new(&mut page);
+    let status = audit_stream(alloc, &mut reader, &mut writer)?;
+    assert_eq!(rt; status, story.status, "{}", story.name);
+    assert!(rt;
+        page.as_slice() == story.answer.as_bytes(),
+        "{}",
+        story.name
+    );
+    Ok(())
+}
+
 #[test]
 fn stories_are_answered(rt: HostRuntime) -> Result<(), Fail> {
-    let alloc = rt.alloc();
     for story in STORIES.iter() {
-        let text = text_of(alloc, story.header, story.events)?;
-        let mut page = Vec::new(alloc);
-        let mut reader = Device::new(text.as_bytes());
-        let mut writer = Device::new(&mut page);
-        let status = audit_stream(alloc, &mut reader, &mut writer)?;
-        assert_eq!(rt; status, story.status, "{}", story.name);
-        assert!(rt;
-            page.as_slice() == story.answer.as_bytes(),
-            "{}",
-            story.name
-        );
+        let text = text_of(rt.alloc(), story.header, story.events)?;
+        is_answered(&rt, story, text.as_str())?;
     }
     Ok(())
 }

@@ -10,6 +10,7 @@ fn asks_for(line: &Line, command: &str, file: Option<&str>) -> bool {
     let (found, name) = match line {
         Line::Audit(name) => ("audit", name),
         Line::Play(name) => ("play", name),
+        Line::Upgrade(name) => ("upgrade", name),
         Line::Classify(..) | Line::Run(..) => return false,
     };
     let same = match (name, file) {
@@ -23,7 +24,7 @@ fn asks_for(line: &Line, command: &str, file: Option<&str>) -> bool {
 #[test]
 fn words_that_ask(rt: HostRuntime) -> Result<(), Fail> {
     let alloc = rt.alloc();
-    for command in ["audit", "play"] {
+    for command in ["audit", "play", "upgrade"] {
         let bare = line(alloc, &["monk", command])?;
         assert!(rt; asks_for(&bare, command, None), "{command}");
         let named = line(alloc, &["monk", command, "x.text"])?;
@@ -67,6 +68,7 @@ fn words_that_ask_for_nothing(rt: HostRuntime) {
     assert!(rt; is_refused(alloc, &["monk"]));
     assert!(rt; is_refused(alloc, &["monk", "audit", "a", "b"]));
     assert!(rt; is_refused(alloc, &["monk", "play", "a", "b"]));
+    assert!(rt; is_refused(alloc, &["monk", "upgrade", "a", "b"]));
     assert!(rt; is_refused(alloc, &["monk", "classify", "1", "2"]));
     assert!(rt; is_refused(alloc, &["monk", "classify", "1", "2", "3", "4"]));
     assert!(rt; is_refused(alloc, &["monk", "classify", "1", "2", "256"]));

@@ -19,7 +19,7 @@ count_is : (n : ℕ) → length (empty_chains n) ≡ n
 count_is zero = refl
 count_is (suc n) = ap suc (count_is n)
 
-none : (next : List ℕ) → seats_of next empty_chain ≡ []
+pub none : (next : List ℕ) → seats_of next empty_chain ≡ []
 unfolding walk
 none next = refl
 

@@ -23,12 +23,12 @@ drop_when : (b : Bool) (xs : List ℕ) → (b ≡ true → ⊥) → drop (cond b
 drop_when true xs h = absurd (h refl)
 drop_when false xs h = refl
 
-none_here : (next : List ℕ) (n f : ℕ) → n ≡ 0 → walk next n f ≡ []
+pub none_here : (next : List ℕ) (n f : ℕ) → n ≡ 0 → walk next n f ≡ []
 unfolding walk
 none_here next zero f e = refl
 none_here next (suc n) f e = absurd (omega (arith, e))
 
-some_here : (next : List ℕ) (n f : ℕ) → (n ≡ 0 → ⊥) → walk next n f ≡ f ∷ walk next (n - 1) (get_or next f 0)
+pub some_here : (next : List ℕ) (n f : ℕ) → (n ≡ 0 → ⊥) → walk next n f ≡ f ∷ walk next (n - 1) (get_or next f 0)
 unfolding walk
 some_here next zero f e = absurd (e refl)
 some_here next (suc n) f e = ap (λ m. f ∷ walk next m (get_or next f 0)) (let less : n ≡ suc n - 1 = omega arith in less)

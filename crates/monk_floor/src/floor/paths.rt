@@ -1,16 +1,20 @@
 //! The releases by the path of each mode: only the queues that the mode can have anybody in are asked.
-ghost use Rattle.std.specs.Prelude.{◌≡◌, ◌<◌, Bool, true, false};
+ghost use Rattle.std.specs.Prelude.{◌≡◌, ◌<◌, Bool, true, false, length};
 ghost use Rattle.monk_kinds.specs.declared.mode.Pick.{Pick};
+ghost use Rattle.monk_history.specs.Meaning.Conditions.{condition};
 ghost use Rattle.monk_history.specs.Meaning.Counts.{left_of};
 ghost use Rattle.monk_history.specs.Meaning.Events.{has_conditions};
 ghost use Rattle.monk_history.specs.Meaning.Paths.{keeps_signallers};
 ghost use Rattle.monk_floor.specs.Chosen.{IsChosen, HasChosen};
+ghost use Rattle.monk_floor.specs.Grown.{IsGrown};
 ghost use Rattle.monk_floor.specs.Releases.{MayCallOn, IsReplyless, MakesNoSignaller, ServesNobody};
 
 use crate::choosing::{equal_choice, first_ready, must_stay, served_choice, single_choice};
 use crate::floor::Floor;
 use monk_history::{Event, From3, Next};
-use monk_kinds::{Automatic, Conditional, Explicit, ImmediateReturn, Kind, Mode, Pick, rules_of};
+use monk_kinds::{
+    Automatic, Conditional, Explicit, ImmediateReturn, Kind, Mode, NonBlocking, Pick, rules_of,
+};
 use monk_object::Guarded;
 
 impl<K: Kind, T: Guarded> Floor<K, T> {
@@ -186,6 +190,19 @@ impl<K: Explicit, T: Guarded> Floor<K, T> {
     }
 }
 
+impl<K: NonBlocking, T: Guarded> Floor<K, T> {
+    /// The active seat signals all who wait on a condition variable, and goes on: `plain_signal_all`, which asks no
+    /// queue who is next under any kind. Constant time.
+    pub fn signal_all(&mut self, seat: u8, cond: u8) -> u32
+        requires call { MayCallOn K.rules T.meaning self.old (Event.SignalAll seat cond) }
+        requires left { 0 < left_of self.old.budget self.old.history seat }
+        ensures grown { IsGrown K.rules T.meaning self.old (Event.SignalAll seat cond) self.new }
+        ensures served { result ≡ length (condition cond self.old.history) }
+    {
+        self.plain_signal_all(seat, cond)
+    }
+}
+
 impl<K: ImmediateReturn, T: Guarded> Floor<K, T> {
     /// The active seat signals a condition variable and leaves the monitor: `plain_signal_leave` by the path of the
     /// mode, past the waiter queue alone. Constant time.
@@ -200,6 +217,29 @@ impl<K: ImmediateReturn, T: Guarded> Floor<K, T> {
             pick,
         );
         self.append(Event::SignalLeave(seat, cond, next));
+        next
+    }
+
+    /// The active seat signals the first condition variable and then waits on the second: `plain_signal_wait` by the
+    /// path of the mode, past the waiter queue alone. Constant time.
+    pub fn signal_wait(
+        &mut self,
+        seat: u8,
+        cond: u8,
+        wait_cond: u8,
+        pick: Pick,
+        entry_known: bool,
+    ) -> Next
+        requires call { MayCallOn K.rules T.meaning self.old (Event.SignalWait seat cond wait_cond Next.Stay) }
+        requires left { 0 < left_of self.old.budget self.old.history seat }
+        ensures { HasChosen K.rules T.meaning self.old (Event.SignalWait seat cond wait_cond) entry_known pick result self.new }
+    {
+        let next = self.next_waiter(
+            Event::SignalWait(seat, cond, wait_cond, Next::Stay),
+            entry_known,
+            pick,
+        );
+        self.append(Event::SignalWait(seat, cond, wait_cond, next));
         next
     }
 }

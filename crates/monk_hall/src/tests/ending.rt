@@ -9,7 +9,7 @@ use crate::meeting::meet;
 use crate::pass::Pass;
 use crate::tests::{arrive, enter, hall, take, wait};
 use monk_history::{Event, Next, Via};
-use monk_kinds::{Pb, Pick};
+use monk_kinds::{Kind, Pb, Pick};
 use monk_object::Buffer;
 use std::test::Fail;
 
@@ -47,7 +47,11 @@ fn ends_last(hall: Hall<Pb, Buffer>, first: Pass<Pb, Buffer>, second: Pass<Pb, B
 }
 
 /// Ends the hall: whether this is its history.
-fn ends(hall: Hall<Pb, Buffer>, active: Active<Pb, Buffer>, history: &[Event]) -> bool
+pub(super) fn ends<K: Kind>(
+    hall: Hall<K, Buffer>,
+    active: Active<K, Buffer>,
+    history: &[Event],
+) -> bool
     requires { active.hall ≡ hall.id }
 {
     match close(hall, active) {

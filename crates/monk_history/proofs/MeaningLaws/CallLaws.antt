@@ -4,7 +4,7 @@ use Rattle.std.specs.Prelude.{nat_lt}
 use Rattle.monk_object.specs.declared.op.Op.{Op}
 use Rattle.monk_history.specs.Meaning.Monitor.{Monitor, data_of}
 use Rattle.monk_history.specs.Meaning.Situation.{Situation, situation}
-use Rattle.monk_history.specs.Meaning.Events.{has_conditions, has_signaller_queue, returns_at_once}
+use Rattle.monk_history.specs.Meaning.Events.{has_conditions, has_signaller_queue, returns_at_once, is_non_blocking}
 use Rattle.monk_history.specs.Meaning.Turn.{turn, is_inside}
 use Rattle.monk_history.specs.Meaning.Signallers.{is_empty}
 use Rattle.monk_history.specs.Meaning.Untils.{untils, ready_of}
@@ -13,7 +13,7 @@ use Rattle.monk_history.specs.Meaning.Reasons.{is_owned_by, is_open}
 use Rattle.monk_history.specs.Meaning.Standing.{has_turn, in_queues, is_queued, IsPlaced}
 use Rattle.monk_history.specs.Meaning.Release.{MayCall}
 use Rattle.monk_history.specs.declared.event.Event.{Event}
-use Rattle.monk_history.specs.declared.event.Event.TheVariants.{Enter, Act, Leave, Wait, Signal, SignalLeave, Until}
+use Rattle.monk_history.specs.declared.event.Event.TheVariants.{Enter, Act, Leave, Wait, Signal, SignalLeave, Until, SignalAll, SignalWait}
 use Rattle.monk_history.specs.declared.event.Next.TheVariants.{Stay}
 use Rattle.monk_history.specs.declared.event.Turn.{Turn}
 use Rattle.monk_history.specs.declared.event.Turn.TheVariants.{Open, Owned}
@@ -37,6 +37,12 @@ seat_then : (a b : Bool) → a ≡ true → b ≡ true → (a && true && true &&
 seat_then true true h k = refl
 seat_then true false h k = k
 seat_then false b h k = h
+
+seat_both : (a b c : Bool) → a ≡ true → b ≡ true → c ≡ true → (a && true && b && c && true) ≡ true
+seat_both true true true h k l = refl
+seat_both true true false h k l = l
+seat_both true false c h k l = k
+seat_both false b c h k l = h
 
 seat_last : (a b : Bool) → a ≡ true → b ≡ true → (a && true && true && true && b) ≡ true
 seat_last true true h k = refl
@@ -73,6 +79,28 @@ pub may_signal_leave : (m : Monitor) (h : List Event) (s c : ℕ) → turn h ≡
 may_signal_leave m h s c t l k o =
     record {
       in_range = seat_then _ _ (lt_is s m.seats l) (lt_is c m.conds k);
+      offered = o;
+      in_turn =
+          owned s (turn h) t;
+      in_place = refl;
+    }
+
+pub may_signal_all : (m : Monitor) (h : List Event) (s c : ℕ) → turn h ≡ Owned s → s < m.seats → c < m.conds
+    → is_non_blocking m.kind.mode ≡ true → MayCall m h (SignalAll s c)
+may_signal_all m h s c t l k o =
+    record {
+      in_range = seat_then _ _ (lt_is s m.seats l) (lt_is c m.conds k);
+      offered = o;
+      in_turn =
+          owned s (turn h) t;
+      in_place = refl;
+    }
+
+pub may_signal_wait : (m : Monitor) (h : List Event) (s c d : ℕ) → turn h ≡ Owned s → s < m.seats → c < m.conds → d < m.conds
+    → returns_at_once m.kind.mode ≡ true → MayCall m h (SignalWait s c d Stay)
+may_signal_wait m h s c d t l k j o =
+    record {
+      in_range = seat_both _ _ _ (lt_is s m.seats l) (lt_is d m.conds j) (lt_is c m.conds k);
       offered = o;
       in_turn =
           owned s (turn h) t;

@@ -16,6 +16,7 @@ use Rattle.monk_history.specs.Meaning.Release.{MayCallIn, MayCall, as_called}
 use Rattle.monk_history.specs.Meaning.Entry.{IsQuiet, IsAtDoor, IsDueFrom}
 use Rattle.monk_history.specs.declared.event.Event.{Event}
 use Rattle.monk_history.specs.declared.event.Event.TheVariants.{Enter, Act, Leave, Wait, Signal, SignalLeave, Until, Resume}
+use Rattle.monk_history.specs.declared.event.Event.TheVariants.{SignalAll, SignalWait}
 use Rattle.monk_history.specs.declared.event.From3.{From3}
 use Rattle.monk_history.specs.declared.event.From3.TheVariants.{Waiter as FromWaiter, Signaller as FromSignaller, Until as FromUntil}
 use Rattle.monk_history.specs.declared.event.Turn.{Turn}
@@ -196,6 +197,15 @@ allowed_called m t (Until s p x) a =
           a.in_turn;
       in_place = a.in_place;
     }
+allowed_called m t (SignalWait s c d x) a =
+    record {
+      in_range = names_none (nat_lt s m.seats) _ _ _ _ a.in_range;
+      offered = a.offered;
+      in_turn =
+          a.in_turn;
+      in_place = a.in_place;
+    }
+allowed_called m t (SignalAll s c) a = record { in_range = a.in_range; offered = a.offered; in_turn = a.in_turn; in_place = a.in_place }
 allowed_called m t (Resume s q) a = record { in_range = a.in_range; offered = a.offered; in_turn = a.in_turn; in_place = a.in_place }
 
 -- an event of another seat says nothing of whether this one is inside

@@ -7,7 +7,8 @@ use Rattle.monk_kinds.specs.declared.mode.Rules.{Rules}
 use Rattle.monk_kinds.specs.declared.mode.Mode.TheVariants.{Blocking, NonBlocking}
 use Rattle.monk_kinds.specs.Kind.{IsKind, FitsMode}
 use Rattle.monk_object.specs.Object.{Object}
-use Rattle.monk_history.specs.Meaning.Events.{is_stay, is_waiter, is_signaller, has_conditions, has_signaller_queue, returns_at_once}
+use Rattle.monk_history.specs.Meaning.Events.{is_stay, is_waiter, is_signaller, has_conditions, has_signaller_queue}
+use Rattle.monk_history.specs.Meaning.Events.{returns_at_once, is_non_blocking}
 use Rattle.monk_history.specs.Meaning.Monitor.{Monitor}
 use Rattle.monk_history.specs.Meaning.Situation.{Situation, situation}
 use Rattle.monk_history.specs.Meaning.Step.{after}
@@ -17,6 +18,7 @@ use Rattle.monk_history.specs.Meaning.Reasons.{IsAllowedIn}
 use Rattle.monk_history.specs.Meaning.Legal.{IsLegal}
 use Rattle.monk_history.specs.declared.event.Event.{Event}
 use Rattle.monk_history.specs.declared.event.Event.TheVariants.{Enter, Act, Leave, Wait, Signal, SignalLeave, Until, Resume}
+use Rattle.monk_history.specs.declared.event.Event.TheVariants.{SignalAll, SignalWait}
 use Rattle.monk_history.specs.declared.event.Next.{Next}
 use Rattle.monk_history.specs.declared.event.Next.TheVariants.{Stay, Entry, Waiter, Signaller, Until as UntilSeat}
 use Rattle.monk_history.proofs.MeaningLaws.TestLaws.{and_left, and_right}
@@ -91,6 +93,8 @@ alone_after m t (Signal s c x) n h a = alone_signal m.kind m.object t s c x (is_
 alone_after m t (SignalLeave s c x) n h a = drop_nobody _ t.signallers [] h refl
 alone_after m t (Until s p x) n h a = drop_nobody _ t.signallers [] h refl
 alone_after m t (Resume s q) n h a = drop_nobody false t.signallers [] h refl
+alone_after m t (SignalAll s c) n h a = drop_nobody false t.signallers [] h refl
+alone_after m t (SignalWait s c d x) n h a = drop_nobody _ t.signallers [] h refl
 
 -- under a non-blocking kind nobody is in the signaller queue between two events
 pub legal_alone : (m : Monitor) (h : List Event) → IsNonBlocking m.kind → IsLegal m h → (situation m h).signallers ≡ []
@@ -101,6 +105,7 @@ legal_alone m h n l =
 pub record IsBlocking (k : Rules) : Type 0 where
   pub conditions : has_conditions k.mode ≡ true
   pub returns_not : returns_at_once k.mode ≡ false
+  pub goes_on_not : is_non_blocking k.mode ≡ false
   pub entry_signaller : k.entry ≤ k.signaller
   pub signaller_waiter : k.signaller < k.waiter
 
@@ -108,6 +113,7 @@ pub blocking : (k : Rules) → IsKind k → k.mode ≡ Blocking → IsBlocking k
 blocking k i e = record {
   conditions = ap has_conditions e;
   returns_not = ap returns_at_once e;
+  goes_on_not = ap is_non_blocking e;
   entry_signaller = i.entry_signaller;
   signaller_waiter = subst (λ x. FitsMode x k.entry k.waiter k.signaller) e i.fits_mode;
 }
@@ -146,6 +152,8 @@ emptied_after m t (Signal s c x) n h a = emptied_signal m.kind t.waiters (t.cond
 emptied_after m t (SignalLeave s c x) n h a = absurd (false≢true (sym n.returns_not ∙ a.offered))
 emptied_after m t (Until s p x) n h a = drop_nobody (is_waiter (Some x)) t.waiters [] h refl
 emptied_after m t (Resume s q) n h a = drop_nobody false t.waiters [] h refl
+emptied_after m t (SignalAll s c) n h a = absurd (false≢true (sym n.goes_on_not ∙ a.offered))
+emptied_after m t (SignalWait s c d x) n h a = absurd (false≢true (sym n.returns_not ∙ a.offered))
 
 -- under a blocking kind nobody is in the waiter queue between two events
 pub legal_emptied : (m : Monitor) (h : List Event) → IsBlocking m.kind → IsLegal m h → (situation m h).waiters ≡ []

@@ -19,6 +19,7 @@ use Rattle.monk_history.specs.Meaning.Standing.{times, has_turn, in_queues, IsPl
 use Rattle.monk_history.specs.Meaning.Moves.{parks, StandsAfter, CountsAfter}
 use Rattle.monk_history.specs.declared.event.Event.{Event}
 use Rattle.monk_history.specs.declared.event.Event.TheVariants.{Enter, Act, Leave, Wait, Signal, SignalLeave, Until, Resume}
+use Rattle.monk_history.specs.declared.event.Event.TheVariants.{SignalAll, SignalWait}
 use Rattle.monk_history.specs.declared.event.From3.{From3}
 use Rattle.monk_history.specs.declared.event.Via.{Via}
 use Rattle.monk_history.specs.declared.event.Next.{Next}
@@ -106,6 +107,8 @@ caller_inside n t (Signal s c x) p h = stays_there (t.inside s) (s == s) (with_t
 caller_inside n t (SignalLeave s c x) p h = goes_out (t.inside s) (s == s) (eq-eqb s s refl)
 caller_inside n t (Until s q x) p h = stays_there (t.inside s) (s == s) (with_turn n s t p (owned_one s t.turn h))
 caller_inside n t (Resume s q) p h = stays_there (t.inside s) (s == s) (with_turn n s t p (due_one s q t.turn h))
+caller_inside n t (SignalAll s c) p h = stays_there (t.inside s) (s == s) (with_turn n s t p (owned_one s t.turn h))
+caller_inside n t (SignalWait s c d x) p h = stays_there (t.inside s) (s == s) (with_turn n s t p (owned_one s t.turn h))
 
 -- before an event no other seat has the turn
 not_owned : (s j : ℕ) (t : Turn) → j ≢ s → is_owned_by s t ≡ true → has_turn j t ≡ 0
@@ -277,6 +280,9 @@ parks_by m t (Signal s c x) n a h = by_stay (is_stay (Some x)) n h
 parks_by m t (SignalLeave s c x) n a h = omega (arith, h)
 parks_by m t (Until s p x) n a h = by_stay (is_stay (Some x)) n h
 parks_by m t (Resume s q) n a h = omega (arith, h)
+parks_by m t (SignalAll s c) n a h = omega (arith, h)
+parks_by m t (SignalWait s c d x) n a h = by_stay (is_stay (Some x)) n h
+    ∙ ap (λ b. cond (not b) 1 0) (never_stays m.kind (queues_at m.object t (SignalWait s c d x)) s x a.permitted)
 
 not_out : (b : Bool) → ◌≡◌ {A = ℕ} (cond (not b) 1 0) (cond b 0 1)
 not_out true = refl

@@ -20,6 +20,7 @@ use Rattle.monk_history.specs.Meaning.Release.{as_called}
 use Rattle.monk_history.specs.Meaning.Entry.{IsQuiet, AdmitsUnknown}
 use Rattle.monk_history.specs.declared.event.Event.{Event}
 use Rattle.monk_history.specs.declared.event.Event.TheVariants.{Enter, Act, Leave, Wait, Signal, SignalLeave, Until, Resume}
+use Rattle.monk_history.specs.declared.event.Event.TheVariants.{SignalAll, SignalWait}
 use Rattle.monk_history.specs.declared.event.Next.{Next}
 use Rattle.monk_history.specs.declared.event.Next.TheVariants.{Stay, Entry, Waiter, Signaller, Until as UntilSeat}
 use Rattle.monk_history.proofs.MeaningLaws.StepLaws.{legal_situation-push}
@@ -83,6 +84,8 @@ same_queues o t (Signal s c x) = refl
 same_queues o t (SignalLeave s c x) = refl
 same_queues o t (Until s p x) = refl
 same_queues o t (Resume s q) = refl
+same_queues o t (SignalAll s c) = refl
+same_queues o t (SignalWait s c d x) = refl
 
 -- who was not ready is not ready when nobody is chosen and nobody ready joins
 some_ready : (o : Object) (d : List ℕ) (w : ℕ × ℕ) (us vs : List (ℕ × ℕ)) (b : Bool)
@@ -138,6 +141,9 @@ ready_after o t (SignalLeave s c x) n b h =
 ready_after o t (Until s p x) n b h =
     ap (λ y. ready_of o t.state (filter (λ w. not (is_until w.0 y)) t.untils ++ cond (is_stay y) [] ((s, p) ∷ []))) n
     ∙ none_ready o t.state t.untils ((s, p) ∷ []) h (joins_unready o t.state s p b)
+ready_after o t (SignalAll s c) n b h = absurd (none_entry n)
+ready_after o t (SignalWait s c d x) n b h =
+    ap (λ y. ready_of o t.state (filter (λ w. not (is_until w.0 y)) t.untils ++ [])) n ∙ none_ready o t.state t.untils [] h refl
 
 by_conditions : (b : Bool) (P : Type 0) → (b ≡ true → P) → (b ≡ false → P) → P
 by_conditions true P f g = f refl

@@ -12,7 +12,7 @@ use Rattle.monk_kinds.specs.declared.mode.Pick.{Pick}
 use Rattle.monk_kinds.specs.Kind.{IsKind}
 use Rattle.monk_object.specs.Object.{Object}
 use Rattle.monk_history.specs.Meaning.Events.{seat_of, next_of, named_seat, waits_on, signals_on, is_call_of}
-use Rattle.monk_history.specs.Meaning.Events.{has_conditions, has_signaller_queue, returns_at_once, is_waiter, is_stay}
+use Rattle.monk_history.specs.Meaning.Events.{has_conditions, has_signaller_queue, returns_at_once, is_non_blocking, is_waiter, is_stay}
 use Rattle.monk_history.specs.Meaning.Events.{entered, resumed, steps_back}
 use Rattle.monk_history.specs.Meaning.Monitor.{Monitor}
 use Rattle.monk_history.specs.Meaning.Situation.{Situation, situation}
@@ -30,6 +30,7 @@ use Rattle.monk_history.specs.Meaning.Standing.{times, times_in_conditions, has_
 use Rattle.monk_history.specs.Meaning.Release.{MayCallIn, with_next, choice_of}
 use Rattle.monk_history.specs.declared.event.Event.{Event}
 use Rattle.monk_history.specs.declared.event.Event.TheVariants.{Enter, Act, Leave, Wait, Signal, SignalLeave, Until, Resume}
+use Rattle.monk_history.specs.declared.event.Event.TheVariants.{SignalAll, SignalWait}
 use Rattle.monk_history.specs.declared.event.Next.{Next}
 use Rattle.monk_history.specs.declared.event.Next.TheVariants.{Stay, Entry, Waiter, Signaller, Until as UntilSeat}
 use Rattle.monk_history.specs.declared.event.Turn.{Turn}
@@ -72,6 +73,13 @@ no_return QuasiBlocking h k = false≢true (sym h)
 no_return ImmediateReturn h k = false≢true (sym h)
 no_return Automatic h k = false≢true k
 
+no_broadcast : (mode : Mode) → has_conditions mode ≡ false → is_non_blocking mode ≡ true → ⊥
+no_broadcast Blocking h k = false≢true (sym h)
+no_broadcast NonBlocking h k = false≢true (sym h)
+no_broadcast QuasiBlocking h k = false≢true (sym h)
+no_broadcast ImmediateReturn h k = false≢true (sym h)
+no_broadcast Automatic h k = false≢true k
+
 signal_conditions : (mode : Mode) → has_signaller_queue mode ≡ true → has_conditions mode ≡ true
 signal_conditions Blocking h = refl
 signal_conditions NonBlocking h = refl
@@ -92,6 +100,8 @@ serves_none mode q (Signal s c x) h o = absurd (no_signal mode h o)
 serves_none mode q (SignalLeave s c x) h o = absurd (no_return mode h o)
 serves_none mode q (Until s p x) h o = refl
 serves_none mode q (Resume s r) h o = refl
+serves_none mode q (SignalAll s c) h o = absurd (no_broadcast mode h o)
+serves_none mode q (SignalWait s c d x) h o = absurd (no_return mode h o)
 
 no_signallers : (mode : Mode) → has_conditions mode ≡ false → has_signaller_queue mode ≡ false
 no_signallers Blocking h = absurd (false≢true (sym h))
@@ -111,6 +121,8 @@ signals_none mode q (Signal s c x) h o = absurd (false≢true (sym h ∙ o))
 signals_none mode q (SignalLeave s c x) h o = refl
 signals_none mode q (Until s p x) h o = refl
 signals_none mode q (Resume s r) h o = refl
+signals_none mode q (SignalAll s c) h o = refl
+signals_none mode q (SignalWait s c d x) h o = refl
 
 waits_until_none : (mode : Mode) (e : Event) → has_conditions mode ≡ true → is_call_of mode e ≡ true → waits_until e ≡ []
 waits_until_none mode (Enter s via) h o = refl
@@ -121,6 +133,8 @@ waits_until_none mode (Signal s c x) h o = refl
 waits_until_none mode (SignalLeave s c x) h o = refl
 waits_until_none mode (Until s p x) h o = absurd (no_until (has_conditions mode) h o)
 waits_until_none mode (Resume s r) h o = refl
+waits_until_none mode (SignalAll s c) h o = refl
+waits_until_none mode (SignalWait s c d x) h o = refl
 
 drop_none : (b : Bool) (xs ys : List ℕ) → xs ≡ [] → ys ≡ [] → drop (cond b 1 0) (xs ++ ys) ≡ []
 drop_none true xs ys h k = ap (λ z. drop 1 (z ++ ys)) h ∙ ap (drop 1) k
@@ -492,6 +506,24 @@ chosen_allowed m t (SignalLeave s d y) known wish i c r = record {
   right_reply = refl;
   permitted = must_choose m t (SignalLeave s d y) known wish i c refl;
 }
+chosen_allowed m t (SignalWait s d v y) known wish i c r = record {
+  in_range = and_named (nat_lt s m.seats) _ _ _ _ _ c.in_range (must_name m t (SignalWait s d v y) known wish i c refl);
+  offered = c.offered;
+  in_turn = c.in_turn;
+  in_place = c.in_place;
+  right_reply = refl;
+  permitted = must_choose m t (SignalWait s d v y) known wish i c refl;
+}
+chosen_allowed m t (SignalAll s d) known wish i c r =
+    record {
+      in_range = c.in_range;
+      offered = c.offered;
+      in_turn = c.in_turn;
+      in_place = c.in_place;
+      right_reply =
+          refl;
+      permitted = refl;
+    }
 chosen_allowed m t (Until s p y) known wish i c r = record {
   in_range = and_named (nat_lt s m.seats) _ _ _ _ _ c.in_range
       (named_or m.seats (m.object.holds t.state p) _ (λ z. must_name m t (Until s p y) known wish i c refl));

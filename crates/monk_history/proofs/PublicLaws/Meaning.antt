@@ -5,7 +5,8 @@
 pub use Rattle.monk_history.proofs.MeaningLaws.ActLaws.{excludes, in_order, serves_each}
 -- What a caller knows of the turn lets it call; and who is queued
 pub use Rattle.monk_history.proofs.MeaningLaws.CallLaws.{may_enter_free, may_enter_handed, may_leave}
-pub use Rattle.monk_history.proofs.MeaningLaws.CallLaws.{may_signal_leave, may_signal_on, may_until, may_wait}
+pub use Rattle.monk_history.proofs.MeaningLaws.CallLaws.{may_signal_all, may_signal_leave, may_signal_on}
+pub use Rattle.monk_history.proofs.MeaningLaws.CallLaws.{may_signal_wait, may_until, may_wait}
 pub use Rattle.monk_history.proofs.MeaningLaws.CallLaws.{queued_is}
 -- One event more in what is counted seat by seat, and how long lists of few seats are
 pub use Rattle.monk_history.proofs.MeaningLaws.CountLaws.{enters_few, enters_none, enters_of-push, events_of-push}

@@ -1,15 +1,19 @@
 -- What other crates may cite of the words and lines of a text.
 
 -- What is read as a header is how it is written, and a header that is written is read again.
-pub use Rattle.monk_history.proofs.TextLaws.HeaderReading.{one_version, parts_again, parts_take, version_word}
+pub use Rattle.monk_history.proofs.TextLaws.HeaderReading.{parts_again, parts_take}
 -- The laws of the text of a history: what is read has that text, and what has a text is read from it.
 pub use Rattle.monk_history.proofs.TextLaws.HistoryText.{text_again, text_read}
 -- Words that hold no separator are the parts that their line is cut into, and lines those of their text.
 pub use Rattle.monk_history.proofs.TextLaws.LineCuts.{AreWords, IsWord, IsWord-decimal}
 -- Reading a text line after line, as a loop does, whatever its lines hold.
 pub use Rattle.monk_history.proofs.TextLaws.LineSteps.{behind, lines_behind}
+-- The newest version has a line of each event.
+pub use Rattle.monk_history.proofs.TextLaws.NewestVersion.{upgraded_text}
 -- No word of an event or of a header has a byte 32 or 10.
 pub use Rattle.monk_history.proofs.TextLaws.PlainWords.{decimal_word, kind_is_word, object_is_word}
 -- What is taken from the words is what its value is written as, and what is so written is taken again.
 pub use Rattle.monk_history.proofs.TextLaws.WordReaders.{bind_ok, end_takes, literal_takes, number_again}
 pub use Rattle.monk_history.proofs.TextLaws.WordReaders.{number_takes, ok_is, one_of_again, one_of_takes}
+-- The same of one of the values that a version has.
+pub use Rattle.monk_history.proofs.TextLaws.WordReaders.{kept_again, one_of_kept}

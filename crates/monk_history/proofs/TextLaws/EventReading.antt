@@ -1,9 +1,11 @@
 -- What is read as an event is how it is written, and an event that is written is read again.
-use Rattle.std.proofs.Common.{◌-◌, lit<, ◌≡◌, ℕ, ◌≤◌, ◌^◌, List, [], ◌∷◌, ◌++◌, Some, Ok, refl, sym, ap, subst, ◌∙◌}
+use Rattle.std.proofs.Common.{◌-◌, lit<, ◌≡◌, ℕ, ◌≤◌, ◌^◌, true, List, [], ◌∷◌, ◌++◌, Some, Ok, refl, sym, ap, subst, ◌∙◌}
+use Rattle.std.specs.Prelude.{IsTrue, nat_le}
 use Rattle.std.specs.Fmt.{decimal}
 use Rattle.std.proofs.lemmas.List.{append-nil}
 use Rattle.monk_history.specs.declared.event.Event.{Event}
 use Rattle.monk_history.specs.declared.event.Event.TheVariants.{Enter, Act, Leave, Wait, Signal, SignalLeave, Until, Resume}
+use Rattle.monk_history.specs.declared.event.Event.TheVariants.{SignalAll, SignalWait}
 use Rattle.monk_history.specs.declared.event.Via.{Via}
 use Rattle.monk_history.specs.declared.event.Via.TheVariants.{Free, Handed}
 use Rattle.monk_history.specs.declared.event.From3.{From3}
@@ -17,11 +19,12 @@ use Rattle.monk_history.specs.declared.text.next_word.NextWord.TheVariants as wo
 use Rattle.monk_history.specs.declared.text.verb.Verb.{Verb}
 use Rattle.monk_history.specs.declared.text.verb.Verb.TheVariants as verb
 use Rattle.monk_kinds.specs.Names.{with_text}
-use Rattle.monk_history.specs.Text.{via_word, from_word, next_words, event_words, NextFits, EventFits}
+use Rattle.monk_history.specs.Text.{via_word, from_word, next_words, event_words, first_version, NextFits, EventFits}
 use Rattle.monk_history.specs.Text.Words.{◌>>=◌, Word, number_at, one_of, end_at}
 use Rattle.monk_history.specs.Text.Reading.{vias, froms, next_word, all_next_words, next_after, next_at, verb_word}
-use Rattle.monk_history.specs.Text.Reading.{verbs, cond_next_at, act_at, event_after, event_at}
+use Rattle.monk_history.specs.Text.Reading.{verb_version, verbs, verbs_of, cond_next_at, act_at, event_after, event_at}
 use Rattle.monk_history.proofs.TextLaws.WordReaders.{bind_ok, ok_is, number_takes, number_again, one_of_takes, one_of_again, end_takes}
+use Rattle.monk_history.proofs.TextLaws.WordReaders.{kept_again, one_of_kept}
 
 pub via_again : (v : Via) → with_text via_word vias (via_word v) ≡ Some v
 via_again Free = refl
@@ -48,6 +51,8 @@ verb_again verb.Signal = refl
 verb_again verb.SignalLeave = refl
 verb_again verb.Until = refl
 verb_again verb.Resume = refl
+verb_again verb.SignalAll = refl
+verb_again verb.SignalWait = refl
 
 -- ---- a next
 
@@ -154,7 +159,7 @@ after_act s op reply code arg fits =
 
 -- what a line is where its verb and seat have been read
 abbrev Ends : Verb → ℕ → List Word → Event × List Word → Type 0
-Ends v s ws y = (verb_word v ∷ decimal s ∷ ws ≡ event_words y.0 ++ y.1) × EventFits y.0
+Ends v s ws y = (verb_word v ∷ decimal s ∷ ws ≡ event_words y.0 ++ y.1) × EventFits y.0 × (verb_version v ≡ first_version y.0)
 
 abbrev behind : Verb → ℕ → List Word → List Word
 behind v s ws = verb_word v ∷ decimal s ∷ ws
@@ -164,52 +169,73 @@ unfolding event_after
 event_after_takes verb.Enter s ws x le e =
     let b = bind_ok (one_of via_word vias ws) (λ v. Ok (Enter s v.0, v.1)) x e in
     let t = one_of_takes via_word vias ws b.0 b.1 in
-    subst (Ends verb.Enter s ws) (ok_is (Enter s b.0.0, b.0.1) x b.2) (ap (behind verb.Enter s) t, le)
+    subst (Ends verb.Enter s ws) (ok_is (Enter s b.0.0, b.0.1) x b.2) (ap (behind verb.Enter s) t, le, refl)
 event_after_takes verb.Leave s ws x le e =
     let b = bind_ok (next_at ws) (λ n. Ok (Leave s n.0, n.1)) x e in
     let t = next_takes ws b.0 b.1 in
-    subst (Ends verb.Leave s ws) (ok_is (Leave s b.0.0, b.0.1) x b.2) (ap (behind verb.Leave s) t.0, (le, t.1))
+    subst (Ends verb.Leave s ws) (ok_is (Leave s b.0.0, b.0.1) x b.2) (ap (behind verb.Leave s) t.0, (le, t.1), refl)
 event_after_takes verb.Wait s ws x le e =
     let b = bind_ok (cond_next_at ws) (λ n. Ok (Wait s n.0.0 n.0.1, n.1)) x e in
     let t = cond_next_takes ws b.0 b.1 in
-    subst (Ends verb.Wait s ws) (ok_is (Wait s b.0.0.0 b.0.0.1, b.0.1) x b.2) (ap (behind verb.Wait s) t.0, (le, t.1, t.2))
+    subst (Ends verb.Wait s ws) (ok_is (Wait s b.0.0.0 b.0.0.1, b.0.1) x b.2) (ap (behind verb.Wait s) t.0, (le, t.1, t.2), refl)
 event_after_takes verb.Signal s ws x le e =
     let b = bind_ok (cond_next_at ws) (λ n. Ok (Signal s n.0.0 n.0.1, n.1)) x e in
     let t = cond_next_takes ws b.0 b.1 in
-    subst (Ends verb.Signal s ws) (ok_is (Signal s b.0.0.0 b.0.0.1, b.0.1) x b.2) (ap (behind verb.Signal s) t.0, (le, t.1, t.2))
+    subst (Ends verb.Signal s ws) (ok_is (Signal s b.0.0.0 b.0.0.1, b.0.1) x b.2) (ap (behind verb.Signal s) t.0, (le, t.1, t.2), refl)
 event_after_takes verb.SignalLeave s ws x le e =
     let b = bind_ok (cond_next_at ws) (λ n. Ok (SignalLeave s n.0.0 n.0.1, n.1)) x e in
     let t = cond_next_takes ws b.0 b.1 in
     subst (Ends verb.SignalLeave s ws) (ok_is (SignalLeave s b.0.0.0 b.0.0.1, b.0.1) x b.2)
-    (ap (behind verb.SignalLeave s) t.0, (le, t.1, t.2))
+    (ap (behind verb.SignalLeave s) t.0, (le, t.1, t.2), refl)
 event_after_takes verb.Until s ws x le e =
     let b = bind_ok (cond_next_at ws) (λ n. Ok (Until s n.0.0 n.0.1, n.1)) x e in
     let t = cond_next_takes ws b.0 b.1 in
-    subst (Ends verb.Until s ws) (ok_is (Until s b.0.0.0 b.0.0.1, b.0.1) x b.2) (ap (behind verb.Until s) t.0, (le, t.1, t.2))
+    subst (Ends verb.Until s ws) (ok_is (Until s b.0.0.0 b.0.0.1, b.0.1) x b.2) (ap (behind verb.Until s) t.0, (le, t.1, t.2), refl)
 event_after_takes verb.Act s ws x le e =
     let b = bind_ok (act_at ws) (λ a. Ok (Act s a.0.0 a.0.1, a.1)) x e in
     let t = act_takes ws b.0 b.1 in
-    subst (Ends verb.Act s ws) (ok_is (Act s b.0.0.0 b.0.0.1, b.0.1) x b.2) (ap (behind verb.Act s) t.0, (le, t.1, t.2, t.3))
+    subst (Ends verb.Act s ws) (ok_is (Act s b.0.0.0 b.0.0.1, b.0.1) x b.2) (ap (behind verb.Act s) t.0, (le, t.1, t.2, t.3), refl)
 event_after_takes verb.Resume s ws x le e =
     let b = bind_ok (one_of from_word froms ws) (λ q. Ok (Resume s q.0, q.1)) x e in
     let t = one_of_takes from_word froms ws b.0 b.1 in
-    subst (Ends verb.Resume s ws) (ok_is (Resume s b.0.0, b.0.1) x b.2) (ap (behind verb.Resume s) t, le)
+    subst (Ends verb.Resume s ws) (ok_is (Resume s b.0.0, b.0.1) x b.2) (ap (behind verb.Resume s) t, le, refl)
+event_after_takes verb.SignalAll s ws x le e =
+    let b = bind_ok (number_at 255 ws) (λ c. Ok (SignalAll s c.0, c.1)) x e in
+    let t = number_takes 255 ws b.0 b.1 in
+    subst (Ends verb.SignalAll s ws) (ok_is (SignalAll s b.0.0, b.0.1) x b.2) (ap (behind verb.SignalAll s) t.0, (le, t.1), refl)
+event_after_takes verb.SignalWait s ws x le e =
+    let a = bind_ok (number_at 255 ws) (λ c. cond_next_at c.1 >>= λ n. Ok (SignalWait s c.0 n.0.0 n.0.1, n.1)) x e in
+    let b = bind_ok (cond_next_at a.0.1) (λ n. Ok (SignalWait s a.0.0 n.0.0 n.0.1, n.1)) x a.2 in
+    let t = number_takes 255 ws a.0 a.1 in
+    let u = cond_next_takes a.0.1 b.0 b.1 in
+    let whole : ws ≡ decimal a.0.0 ∷ decimal b.0.0.0 ∷ (next_words b.0.0.1 ++ b.0.1) = t.0
+    ∙ ap (λ (v : List Word). decimal a.0.0 ∷ v) u.0 in
+    subst (Ends verb.SignalWait s ws) (ok_is (SignalWait s a.0.0 b.0.0.0 b.0.0.1, b.0.1) x b.2)
+    (ap (behind verb.SignalWait s) whole, (le, t.1, u.1, u.2), refl)
 
-pub event_takes : (ws : List Word) (x : Event × List Word) → event_at ws ≡ Ok x → (ws ≡ event_words x.0) × EventFits x.0
+-- each number of the event is in its range, and the version has a line of it
+abbrev pub FitsVersion : ℕ → Event → Type 0
+FitsVersion version e = EventFits e × IsTrue (nat_le (first_version e) version)
+
+pub event_takes : (version : ℕ) (ws : List Word) (x : Event × List Word) → event_at version ws ≡ Ok x
+    → (ws ≡ event_words x.0) × FitsVersion version x.0
 unfolding event_at
-event_takes ws x e =
-    let a = bind_ok (one_of verb_word verbs ws)
+event_takes version ws x e =
+    let a = bind_ok (one_of verb_word (verbs_of version) ws)
     (λ v. number_at 255 v.1 >>= λ s. event_after v.0 s.0 s.1 >>= λ e. end_at e.1 >>= λ z. Ok (e.0, z.1)) x e in
     let b = bind_ok (number_at 255 a.0.1) (λ s. event_after a.0.0 s.0 s.1 >>= λ e. end_at e.1 >>= λ z. Ok (e.0, z.1)) x a.2 in
     let c = bind_ok (event_after a.0.0 b.0.0 b.0.1) (λ e. end_at e.1 >>= λ z. Ok (e.0, z.1)) x b.2 in
     let d = bind_ok (end_at c.0.1) (λ z. Ok (c.0.0, z.1)) x c.2 in
-    let verb_is = one_of_takes verb_word verbs ws a.0 a.1 in
+    let verb_is = one_of_takes verb_word (verbs_of version) ws a.0 a.1 in
+    let verb_has = one_of_kept verb_word (λ v. nat_le (verb_version v) version) verbs ws a.0 a.1 in
     let seat_is = number_takes 255 a.0.1 b.0 b.1 in
     let event_is = event_after_takes a.0.0 b.0.0 b.0.1 c.0 seat_is.1 c.1 in
     let none = (end_takes c.0.1 d.0 d.1).0 in
     let whole : ws ≡ event_words c.0.0 = verb_is ∙ ap (λ (v : List Word). verb_word a.0.0 ∷ v) seat_is.0 ∙ event_is.0
     ∙ ap (λ (v : List Word). event_words c.0.0 ++ v) none ∙ append-nil (event_words c.0.0) in
-    subst (λ (y : Event × List Word). (ws ≡ event_words y.0) × EventFits y.0) (ok_is (c.0.0, d.0.1) x d.2) (whole, event_is.1)
+    let has : nat_le (first_version c.0.0) version ≡ true = ap (λ (n : ℕ). nat_le n version) (sym event_is.2) ∙ verb_has in
+    subst (λ (y : Event × List Word). (ws ≡ event_words y.0) × FitsVersion version y.0) (ok_is (c.0.0, d.0.1) x d.2)
+    (whole, (event_is.1, has))
 
 next_again_last : (n : Next) → NextFits n → next_at (next_words n) ≡ Ok (n, [])
 next_again_last n fits = ap next_at (sym (append-nil (next_words n))) ∙ next_again n [] fits
@@ -219,11 +245,19 @@ cond_next_again_last c n le fits =
     ap (λ (v : List Word). cond_next_at (decimal c ∷ v)) (sym (append-nil (next_words n)))
     ∙ cond_next_again c n [] le fits
 
-event_from_after : (v : Verb) (s : ℕ) (ws : List Word) (e : Event) → s ≤ 255 → event_after v s ws ≡ Ok (e, [])
-    → event_at (verb_word v ∷ decimal s ∷ ws) ≡ Ok (e, [])
+pub verb_of_again : (version : ℕ) (v : Verb) → nat_le (verb_version v) version ≡ true
+    → with_text verb_word (verbs_of version) (verb_word v) ≡ Some v
+verb_of_again version v has = kept_again verb_word (λ u. nat_le (verb_version u) version) verbs v has (verb_again v)
+
+event_from_after : (version : ℕ) (v : Verb) (s : ℕ) (ws : List Word) (e : Event) → nat_le (verb_version v) version ≡ true
+    → s ≤ 255 → event_after v s ws ≡ Ok (e, []) → event_at version (verb_word v ∷ decimal s ∷ ws) ≡ Ok (e, [])
 unfolding event_at
-event_from_after v s ws e le h =
-    rw (one_of_again verb_word verbs v (decimal s ∷ ws) (verb_again v), number_again 255 s ws (lit< tt) le, h) refl
+event_from_after version v s ws e has le h =
+    rw (
+      one_of_again verb_word (verbs_of version) v (decimal s ∷ ws) (verb_of_again version v has),
+      number_again 255 s ws (lit< tt) le,
+      h,
+    ) refl
 
 after_enter : (s : ℕ) (via : Via) → event_after verb.Enter s (via_word via ∷ []) ≡ Ok (Enter s via, [])
 unfolding event_after
@@ -254,17 +288,40 @@ after_signal_leave : (s c : ℕ) (n : Next) → c ≤ 255 → NextFits n
 unfolding event_after
 after_signal_leave s c n le fits = rw (cond_next_again_last c n le fits) refl
 
-pub event_again : (e : Event) → EventFits e → event_at (event_words e) ≡ Ok (e, [])
-event_again (Enter s via) fits = event_from_after verb.Enter s (via_word via ∷ []) (Enter s via) fits (after_enter s via)
-event_again (Leave s n) fits = event_from_after verb.Leave s (next_words n) (Leave s n) fits.0 (after_leave s n fits.1)
-event_again (Wait s c n) fits = event_from_after verb.Wait s (decimal c ∷ next_words n) (Wait s c n) fits.0 (after_wait s c n fits.1 fits.2)
-event_again (Signal s c n) fits = event_from_after verb.Signal s (decimal c ∷ next_words n) (Signal s c n) fits.0
+after_signal_all : (s c : ℕ) → c ≤ 255 → event_after verb.SignalAll s (decimal c ∷ []) ≡ Ok (SignalAll s c, [])
+unfolding event_after
+after_signal_all s c le = rw (number_again 255 c [] (lit< tt) le) refl
+
+after_signal_wait : (s c d : ℕ) (n : Next) → c ≤ 255 → d ≤ 255 → NextFits n
+    → event_after verb.SignalWait s (decimal c ∷ decimal d ∷ next_words n) ≡ Ok (SignalWait s c d n, [])
+unfolding event_after
+after_signal_wait s c d n le le_too fits =
+    rw (number_again 255 c (decimal d ∷ next_words n) (lit< tt) le, cond_next_again_last d n le_too fits) refl
+
+pub event_again : (version : ℕ) (e : Event) → EventFits e → nat_le (first_version e) version ≡ true
+    → event_at version (event_words e) ≡ Ok (e, [])
+event_again version (Enter s via) fits has =
+    event_from_after version verb.Enter s (via_word via ∷ []) (Enter s via) has fits (after_enter s via)
+event_again version (Leave s n) fits has =
+    event_from_after version verb.Leave s (next_words n) (Leave s n) has fits.0 (after_leave s n fits.1)
+event_again version (Wait s c n) fits has =
+    event_from_after version verb.Wait s (decimal c ∷ next_words n) (Wait s c n) has fits.0 (after_wait s c n fits.1 fits.2)
+event_again version (Signal s c n) fits has =
+    event_from_after version verb.Signal s (decimal c ∷ next_words n) (Signal s c n) has fits.0
     (after_signal s c n fits.1 fits.2)
-event_again (SignalLeave s c n) fits =
-    event_from_after verb.SignalLeave s (decimal c ∷ next_words n) (SignalLeave s c n) fits.0
+event_again version (SignalLeave s c n) fits has =
+    event_from_after version verb.SignalLeave s (decimal c ∷ next_words n) (SignalLeave s c n) has fits.0
     (after_signal_leave s c n fits.1 fits.2)
-event_again (Until s c n) fits = event_from_after verb.Until s (decimal c ∷ next_words n) (Until s c n) fits.0
+event_again version (Until s c n) fits has =
+    event_from_after version verb.Until s (decimal c ∷ next_words n) (Until s c n) has fits.0
     (after_until s c n fits.1 fits.2)
-event_again (Act s op reply) fits = event_from_after verb.Act s (decimal op.code ∷ decimal op.arg ∷ decimal reply ∷ [])
-    (Act s op reply) fits.0 (after_act s op reply fits.1 fits.2 fits.3)
-event_again (Resume s q) fits = event_from_after verb.Resume s (from_word q ∷ []) (Resume s q) fits (after_resume s q)
+event_again version (Act s op reply) fits has =
+    event_from_after version verb.Act s (decimal op.code ∷ decimal op.arg ∷ decimal reply ∷ []) (Act s op reply) has fits.0
+    (after_act s op reply fits.1 fits.2 fits.3)
+event_again version (Resume s q) fits has =
+    event_from_after version verb.Resume s (from_word q ∷ []) (Resume s q) has fits (after_resume s q)
+event_again version (SignalAll s c) fits has =
+    event_from_after version verb.SignalAll s (decimal c ∷ []) (SignalAll s c) has fits.0 (after_signal_all s c fits.1)
+event_again version (SignalWait s c d n) fits has =
+    event_from_after version verb.SignalWait s (decimal c ∷ decimal d ∷ next_words n) (SignalWait s c d n) has fits.0
+    (after_signal_wait s c d n fits.1 fits.2 fits.3)

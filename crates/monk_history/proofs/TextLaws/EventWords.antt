@@ -1,33 +1,64 @@
 -- Which of its words stands next in the line of an event, or none.
-use Rattle.std.proofs.Common.{◌≡◌, false, List, [], ◌∷◌, Some, Ok, Err, refl, ap, ◌∙◌}
-use Rattle.std.specs.Prelude.{codes}
+use Rattle.std.proofs.Common.{◌≡◌, ℕ, ◌≤◌, true, false, List, [], ◌∷◌, Some, Ok, Err, refl, ap, ◌∙◌}
+use Rattle.std.specs.Prelude.{nat_le, codes}
+use Rattle.std.specs.Str.{bytes_eq}
+use Rattle.std.proofs.lemmas.Bool.{leb-true, le-leb}
 use Rattle.monk_history.specs.declared.event.Via.{Via}
 use Rattle.monk_history.specs.declared.event.From3.{From3}
 use Rattle.monk_history.specs.declared.text.fault.Flaw.TheVariants as flaw
 use Rattle.monk_history.specs.declared.text.next_word.NextWord.{NextWord}
 use Rattle.monk_history.specs.declared.text.verb.Verb.{Verb}
+use Rattle.monk_history.specs.declared.text.verb.Verb.TheVariants as verb
 use Rattle.monk_kinds.specs.Names.{with_text}
 use Rattle.monk_history.specs.Text.{via_word, from_word}
 use Rattle.monk_history.specs.Text.Words.{Word, one_of, is_next}
-use Rattle.monk_history.specs.Text.Reading.{vias, froms, next_word, all_next_words, verb_word, verbs}
-use Rattle.monk_history.proofs.TextLaws.WordReaders.{one_of_again}
-use Rattle.monk_history.proofs.TextLaws.EventReading.{via_again, from_again, next_word_again, verb_again}
+use Rattle.monk_history.specs.Text.Reading.{vias, froms, next_word, all_next_words, verb_word, verb_version, verbs, verbs_of}
+use Rattle.monk_history.proofs.TextLaws.WordReaders.{one_of_again, none_kept}
+use Rattle.monk_history.proofs.TextLaws.EventReading.{via_again, from_again, next_word_again, verb_of_again}
 
 one_of-next : {A : Type 0} (word : A → Word) (values : List A) (x : A) (ws rest : List Word)
     → with_text word values (word x) ≡ Some x → ws ≡ word x ∷ rest → one_of word values ws ≡ Ok (x, rest)
 one_of-next word values x ws rest found is = ap (one_of word values) is ∙ one_of_again word values x rest found
 
-pub verb-next : (v : Verb) (ws rest : List Word) → ws ≡ verb_word v ∷ rest → one_of verb_word verbs ws ≡ Ok (v, rest)
-verb-next v ws rest is = one_of-next verb_word verbs v ws rest (verb_again v) is
+pub verb-next : (version : ℕ) (v : Verb) (ws rest : List Word) → verb_version v ≤ version → ws ≡ verb_word v ∷ rest
+    → one_of verb_word (verbs_of version) ws ≡ Ok (v, rest)
+verb-next version v ws rest has is =
+    one_of-next verb_word (verbs_of version) v ws rest (verb_of_again version v (le-leb _ _ has)) is
 
-pub verb-none : (ws : List Word) → is_next (codes "enter") ws ≡ false → is_next (codes "act") ws ≡ false
-    → is_next (codes "leave") ws ≡ false → is_next (codes "wait") ws ≡ false → is_next (codes "signal") ws ≡ false
-    → is_next (codes "signal-leave") ws ≡ false → is_next (codes "until") ws ≡ false
-    → is_next (codes "resume") ws ≡ false
-    → one_of verb_word verbs ws ≡ Err flaw.Word
+-- none of the words of version 1
+pub record IsNoFirstVerb (ws : List Word) : Type 0 where
+  pub enter : is_next (codes "enter") ws ≡ false
+  pub act : is_next (codes "act") ws ≡ false
+  pub leave : is_next (codes "leave") ws ≡ false
+  pub wait : is_next (codes "wait") ws ≡ false
+  pub signal : is_next (codes "signal") ws ≡ false
+  pub signal_leave : is_next (codes "signal-leave") ws ≡ false
+  pub until : is_next (codes "until") ws ≡ false
+  pub resume : is_next (codes "resume") ws ≡ false
+
+-- none of those that version 2 adds, in a version that has them
+abbrev pub IsNoLaterVerb : ℕ → List Word → Type 0
+IsNoLaterVerb version ws = 2 ≤ version → (is_next (codes "signal-all") ws ≡ false) × (is_next (codes "signal-wait") ws ≡ false)
+
+no_verb : (version : ℕ) (w : Word) (ws : List Word) → IsNoFirstVerb (w ∷ ws) → IsNoLaterVerb version (w ∷ ws) → (v : Verb)
+    → nat_le (verb_version v) version ≡ true → bytes_eq w (verb_word v) ≡ false
+no_verb version w ws first later verb.Enter has = first.enter
+no_verb version w ws first later verb.Act has = first.act
+no_verb version w ws first later verb.Leave has = first.leave
+no_verb version w ws first later verb.Wait has = first.wait
+no_verb version w ws first later verb.Signal has = first.signal
+no_verb version w ws first later verb.SignalLeave has = first.signal_leave
+no_verb version w ws first later verb.Until has = first.until
+no_verb version w ws first later verb.Resume has = first.resume
+no_verb version w ws first later verb.SignalAll has = (later (leb-true _ _ has)).0
+no_verb version w ws first later verb.SignalWait has = (later (leb-true _ _ has)).1
+
+pub verb-none : (version : ℕ) (ws : List Word) → IsNoFirstVerb ws → IsNoLaterVerb version ws
+    → one_of verb_word (verbs_of version) ws ≡ Err flaw.Word
 unfolding one_of
-verb-none [] a b c d e f g h = refl
-verb-none (w ∷ ws) a b c d e f g h = rw (a, b, c, d, e, f, g, h) refl
+verb-none version [] first later = refl
+verb-none version (w ∷ ws) first later =
+    rw (none_kept verb_word (λ v. nat_le (verb_version v) version) verbs w (no_verb version w ws first later)) refl
 
 pub next-next : (n : NextWord) (ws rest : List Word) → ws ≡ next_word n ∷ rest → one_of next_word all_next_words ws ≡ Ok (n, rest)
 next-next n ws rest is = one_of-next next_word all_next_words n ws rest (next_word_again n) is

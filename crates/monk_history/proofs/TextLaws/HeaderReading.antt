@@ -4,7 +4,6 @@ use Rattle.std.proofs.Common.{sym, ap, subst, ◌∙◌, arith}
 use Rattle.std.specs.Prelude.{◌&&◌, nat_le, codes}
 use Rattle.std.specs.Fmt.{decimal}
 use Rattle.std.proofs.lemmas.Bool.{leb-true, le-leb}
-use Rattle.std.proofs.lemmas.Fmt.{decimal_digit}
 use Rattle.monk_kinds.specs.declared.name.KindName.{KindName}
 use Rattle.monk_kinds.specs.declared.name.KindName.TheVariants.{Pb, Npb, Pnb, Npnb, Pqb, Npqb, Pir, Npir, Pis, Npis}
 use Rattle.monk_object.specs.declared.name.ObjectName.{ObjectName}
@@ -95,7 +94,7 @@ five_words : (ws a b c d e : List Word) (t u v w x : Word) → ws ≡ t ∷ a �
 five_words ws a b c d e t u v w x e0 e1 e2 e3 e4 = cc
 
 pub parts_take : (v : ℕ) (ws : List Word) (x : Heading × List Word) → parts_at v ws ≡ Ok x
-    → (ws ≡ part_words x.0 ++ x.1) × IsHeading x.0
+    → (ws ≡ part_words x.0 ++ x.1) × IsHeading x.0 × (x.0.version ≡ v)
 unfolding parts_at
 parts_take v ws x e =
     let k = bind_ok (one_of kind_word kinds ws) (at_kind v) x e in
@@ -110,8 +109,8 @@ parts_take v ws x e =
     let e2 : s.0.1 ≡ decimal c.0.0 ∷ c.0.1 = (number_takes 255 s.0.1 c.0 c.1).0 in
     let e3 : c.0.1 ≡ object_word o.0.0 ∷ o.0.1 = one_of_takes object_word objects c.0.1 o.0 o.1 in
     let e4 : o.0.1 ≡ decimal z.0.0 ∷ z.0.1 = size_is.0 in
-    subst (λ (y : Heading × List Word). (ws ≡ part_words y.0 ++ y.1) × IsHeading y.0) (sym h.0)
-    (five_words ws k.0.1 s.0.1 c.0.1 o.0.1 z.0.1 _ _ _ _ _ e0 e1 e2 e3 e4, h.1)
+    subst (λ (y : Heading × List Word). (ws ≡ part_words y.0 ++ y.1) × IsHeading y.0 × (y.0.version ≡ v)) (sym h.0)
+    (five_words ws k.0.1 s.0.1 c.0.1 o.0.1 z.0.1 _ _ _ _ _ e0 e1 e2 e3 e4, h.1, refl)
 
 heading_again : (h : Heading) → IsHeading h → heading_of h.version h.kind h.seats h.conds h.object h.size ≡ Some h
 heading_again h fits =
@@ -123,13 +122,6 @@ heading_again h fits =
       le-leb h.conds most_conds fits.conds,
       le-leb 1 h.size fits.some_size,
     ) refl
-
--- there is one version, and its word
-pub one_version : (h : Heading) → IsHeading h → h.version ≡ 1
-one_version h fits = omega (arith, fits.some_version, fits.version)
-
-pub version_word : (h : Heading) → IsHeading h → decimal h.version ≡ codes "1"
-version_word h fits = ap decimal (one_version h fits) ∙ decimal_digit 1 (lit< tt)
 
 parts_same : (h : Heading) (ws : List Word) → IsHeading h → parts_at h.version (part_words h ++ ws) ≡ Ok (h, ws)
 unfolding parts_at
@@ -152,23 +144,23 @@ parts_again v h ws is fits = subst (λ (n : ℕ). parts_at n (part_words h ++ ws
 abbrev at_parts : Heading × List Word → Taken Heading
 at_parts h = end_at h.1 >>= λ z. Ok (h.0, z.1)
 
-abbrev at_version : Unit {0} × List Word → Taken Heading
-at_version v = parts_at 1 v.1 >>= at_parts
+abbrev at_version : Numbered → Taken Heading
+at_version v = parts_at v.0 v.1 >>= at_parts
 
 abbrev at_name : Unit {0} × List Word → Taken Heading
-at_name m = literal_at (codes "1") m.1 >>= at_version
+at_name m = number_at 255 m.1 >>= at_version
 
 pub header_takes : (ws : List Word) (x : Heading × List Word) → header_at ws ≡ Ok x → (ws ≡ header_words x.0) × IsHeading x.0
 unfolding header_at
 header_takes ws x e =
     let m = bind_ok (literal_at (codes "monk") ws) at_name x e in
-    let v = bind_ok (literal_at (codes "1") m.0.1) at_version x m.2 in
-    let h = bind_ok (parts_at 1 v.0.1) at_parts x v.2 in
+    let v = bind_ok (number_at 255 m.0.1) at_version x m.2 in
+    let h = bind_ok (parts_at v.0.0 v.0.1) at_parts x v.2 in
     let n = bind_ok (end_at h.0.1) (λ z. Ok (h.0.0, z.1)) x h.2 in
     let name_is : ws ≡ codes "monk" ∷ m.0.1 = literal_takes (codes "monk") ws m.0 m.1 in
-    let version_is : m.0.1 ≡ codes "1" ∷ v.0.1 = literal_takes (codes "1") m.0.1 v.0 v.1 in
-    let parts_are = parts_take 1 v.0.1 h.0 h.1 in
-    let written : codes "1" ≡ decimal h.0.0.version = sym (version_word h.0.0 parts_are.1) in
+    let version_is : m.0.1 ≡ decimal v.0.0 ∷ v.0.1 = (number_takes 255 m.0.1 v.0 v.1).0 in
+    let parts_are = parts_take v.0.0 v.0.1 h.0 h.1 in
+    let written : decimal v.0.0 ≡ decimal h.0.0.version = ap decimal (sym parts_are.2) in
     let none : h.0.1 ≡ [] = (end_takes h.0.1 n.0 n.1).0 in
     let whole : ws ≡ header_words h.0.0 = name_is
     ∙ ap (λ (w : List Word). codes "monk" ∷ w)
@@ -178,4 +170,8 @@ header_takes ws x e =
 
 pub header_again : (h : Heading) → IsHeading h → header_at (header_words h) ≡ Ok (h, [])
 unfolding header_at
-header_again h fits = rw (version_word h fits, parts_again 1 h [] (one_version h fits) fits) refl
+header_again h fits =
+    rw (
+      number_again 255 h.version (part_words h) (lit< tt) (omega (arith, fits.version)),
+      parts_again h.version h [] refl fits,
+    ) refl

@@ -1,32 +1,55 @@
 -- The laws of the text of a history: what is read has that text, and what has a text is read from it.
-use Rattle.std.proofs.Common.{◌≡◌, ℕ, ◌≤◌, List, length, Result, Ok, Err, ap, subst, ◌∙◌, arith}
-use Rattle.std.specs.Prelude.{IfOk}
+use Rattle.std.proofs.Common.{◌≡◌, ℕ, ◌≤◌, true, List, [], ◌∷◌, length, Result, Ok, Err, refl, ap, subst, ◌∙◌, arith}
+use Rattle.std.specs.Prelude.{IfOk, nat_le}
+use Rattle.std.specs.List.{AllByRecursion}
 use Rattle.std.specs.Global.{Vec}
 use Rattle.monk_history.specs.declared.event.Event.{Event}
 use Rattle.monk_history.specs.declared.text.fault.ReadFault.{ReadFault}
-use Rattle.monk_history.specs.Text.{Heading, text, header_words, event_words, IsHeading, EventFits, HasText}
+use Rattle.monk_history.specs.Text.{Heading, text, header_words, event_words, first_version, is_writable}
+use Rattle.monk_history.specs.Text.{IsHeading, EventFits, HasText}
 use Rattle.monk_history.specs.Text.Lines.{Gives}
 use Rattle.monk_history.specs.Text.Reading.{History, history, view, header_at, event_under, text_at}
+use Rattle.monk_history.proofs.TextLaws.LineCuts.{both}
 use Rattle.monk_history.proofs.TextLaws.TextFormats as formats
 use Rattle.monk_history.proofs.TextLaws.TextFormats.{IsFormat}
 use Rattle.monk_history.proofs.TextLaws.PlainWords.{event_are_words, header_are_words, some_word}
-use Rattle.monk_history.proofs.TextLaws.EventReading.{event_takes, event_again}
+use Rattle.monk_history.proofs.TextLaws.EventReading.{FitsVersion, event_takes, event_again}
 use Rattle.monk_history.proofs.TextLaws.HeaderReading.{header_takes, header_again}
 
 headers : IsFormat header_words header_at IsHeading
 headers = record { takes = header_takes; again = header_again; plain = header_are_words; some = λ h. omega arith }
 
 abbrev EventFitsUnder : Heading → Event → Type 0
-EventFitsUnder h = EventFits
+EventFitsUnder h = FitsVersion h.version
 
 events : (h : Heading) → IsFormat event_words (event_under h) (EventFitsUnder h)
-events h = record { takes = event_takes; again = event_again; plain = event_are_words; some = some_word }
+events h = record {
+  takes = event_takes h.version;
+  again = λ e fits. event_again h.version e fits.0 fits.1;
+  plain = λ e fits. event_are_words e fits.0;
+  some = some_word;
+}
+
+-- each event fits the version where each fits and all are writable
+fit_under : (h : Heading) (es : List Event) → AllByRecursion EventFits es → is_writable h es ≡ true → AllByRecursion (EventFitsUnder h) es
+fit_under h [] fit has = tt
+fit_under h (e ∷ es) fit has =
+    let p = both (nat_le (first_version e) h.version) (is_writable h es) has in
+    ((fit.0, p.0), fit_under h es fit.1 p.1)
+
+fit_alone : (h : Heading) (es : List Event) → AllByRecursion (EventFitsUnder h) es → AllByRecursion EventFits es
+fit_alone h [] fit = tt
+fit_alone h (e ∷ es) fit = (fit.0.0, fit_alone h es fit.1)
+
+writable_under : (h : Heading) (es : List Event) → AllByRecursion (EventFitsUnder h) es → is_writable h es ≡ true
+writable_under h [] fit = refl
+writable_under h (e ∷ es) fit = rw (fit.0.1, writable_under h es fit.1) refl
 
 pub text_again : (limit : ℕ) (h : Heading) (es : List Event) → HasText h es → length es ≤ limit
     → text_at limit (text h es) ≡ Ok (history h es)
 text_again limit h es has le =
     formats.text_again header_words header_at IsHeading headers event_words event_under EventFitsUnder events limit h es
-    has.header_fits has.events_fit le
+    has.header_fits (fit_under h es has.events_fit has.writable) le
 
 -- a history that was found in the bytes
 pub record IsRead (limit : ℕ) (bytes : List ℕ) (h : Heading) (es : List Event) : Type 0 where
@@ -38,12 +61,21 @@ pub text_read : (limit : ℕ) (bytes : List ℕ) (x : History) → text_at limit
 text_read limit bytes x e =
     let h = formats.text_read header_words header_at IsHeading headers event_words event_under EventFitsUnder events
     limit bytes x.0 x.1 e in
-    record { has_text = record { header_fits = h.head_fits; events_fit = h.fit }; few = h.few; whole = h.whole }
+    record {
+      has_text = record {
+        header_fits = h.head_fits;
+        events_fit = fit_alone x.0 x.1 h.fit;
+        writable = writable_under x.0 x.1 h.fit;
+      };
+      few = h.few;
+      whole = h.whole;
+    }
 
 pub text_one : (h g : Heading) (es fs : List Event) → HasText h es → HasText g fs → text h es ≡ text g fs → history h es ≡ history g fs
 text_one h g es fs one two same =
     let is = formats.text_one header_words header_at IsHeading headers event_words event_under EventFitsUnder events h g
-    es fs one.header_fits one.events_fit two.header_fits two.events_fit same in
+    es fs one.header_fits (fit_under h es one.events_fit one.writable) two.header_fits
+    (fit_under g fs two.events_fit two.writable) same in
     ap (λ (x : Heading). history x es) is.0 ∙ ap (λ (x : List Event). history g x) is.1
 
 -- ---- what a function gives

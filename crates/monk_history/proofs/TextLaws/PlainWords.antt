@@ -3,6 +3,7 @@ use Rattle.std.proofs.Common.{ℕ, ◌≤◌, ◌<◌, length, refl, arith}
 use Rattle.std.specs.Fmt.{decimal}
 use Rattle.monk_history.specs.declared.event.Event.{Event}
 use Rattle.monk_history.specs.declared.event.Event.TheVariants.{Enter, Act, Leave, Wait, Signal, SignalLeave, Until, Resume}
+use Rattle.monk_history.specs.declared.event.Event.TheVariants.{SignalAll, SignalWait}
 use Rattle.monk_history.specs.declared.event.Via.TheVariants.{Free, Handed}
 use Rattle.monk_history.specs.declared.event.From3.TheVariants as from
 use Rattle.monk_history.specs.declared.event.Next.{Next}
@@ -45,6 +46,9 @@ event_are_words (Act s op reply) fits =
 event_are_words (Resume s from.Waiter) fits = rw (decimal_word s fits) refl
 event_are_words (Resume s from.Signaller) fits = rw (decimal_word s fits) refl
 event_are_words (Resume s from.Until) fits = rw (decimal_word s fits) refl
+event_are_words (SignalAll s c) fits = rw (decimal_word s fits.0, decimal_word c fits.1) refl
+event_are_words (SignalWait s c d n) fits =
+    rw (decimal_word s fits.0, decimal_word c fits.1, decimal_word d fits.2, next_are_words n fits.3) refl
 
 pub kind_is_word : (k : KindName) → IsWord (kind_word k)
 kind_is_word Pb = refl
@@ -83,3 +87,5 @@ some_word (SignalLeave s c n) = omega arith
 some_word (Until s c n) = omega arith
 some_word (Act s op reply) = omega arith
 some_word (Resume s q) = omega arith
+some_word (SignalAll s c) = omega arith
+some_word (SignalWait s c d n) = omega arith

@@ -11,6 +11,7 @@ use Rattle.monk_history.specs.Meaning.Wish.{choice_by}
 use Rattle.monk_history.specs.Meaning.Reasons.{is_in_range, is_offered, is_in_turn, is_in_place}
 use Rattle.monk_history.specs.declared.event.Event.{Event}
 use Rattle.monk_history.specs.declared.event.Event.TheVariants.{Enter, Act, Leave, Wait, Signal, SignalLeave, Until, Resume}
+use Rattle.monk_history.specs.declared.event.Event.TheVariants.{SignalAll, SignalWait}
 use Rattle.monk_history.specs.declared.event.Next.{Next}
 use Rattle.monk_history.specs.declared.event.Next.TheVariants.{Stay}
 use Rattle.std.specs.Prelude.{List}
@@ -35,6 +36,8 @@ as_called (Signal s c x) = Signal s c Stay
 as_called (SignalLeave s c x) = SignalLeave s c Stay
 as_called (Until s p x) = Until s p Stay
 as_called (Resume s q) = Resume s q
+as_called (SignalAll s c) = SignalAll s c
+as_called (SignalWait s c d x) = SignalWait s c d Stay
 
 -- the releasing event with this choice
 abbrev pub with_next : Next → Event → Event
@@ -46,6 +49,8 @@ with_next x (Signal s c y) = Signal s c x
 with_next x (SignalLeave s c y) = SignalLeave s c x
 with_next x (Until s p y) = Until s p x
 with_next x (Resume s q) = Resume s q
+with_next x (SignalAll s c) = SignalAll s c
+with_next x (SignalWait s c d y) = SignalWait s c d x
 
 -- what a release chooses: to stay where it must, else by the wish rules over the queues after its own moves
 abbrev pub choice_of : Rules → Object → Situation → Event → Bool → Pick → Next

@@ -1,6 +1,6 @@
 -- The words of a line: what is taken from their front is a value and the words behind it, or a flaw.
 use Rattle.std.specs.Prelude.{◌≡◌, ℕ, List, [], ◌∷◌, Bool, false, not, Option, Some, None, Result, Ok, Err, nat_le}
-use Rattle.std.specs.Prelude.{◌==◌, ◌&&◌, if◌then◌else◌}
+use Rattle.std.specs.Prelude.{◌==◌, ◌&&◌, if◌then◌else◌, filter}
 use Rattle.std.specs.List.{slice_split, list_all}
 use Rattle.std.specs.Str.{bytes_eq}
 use Rattle.std.specs.Str.Parse.{digits_value}
@@ -45,6 +45,10 @@ with_rest ws (Some x) = Ok (x, ws)
 unfoldable pub one_of : {A : Type 0} → (A → Word) → List A → List Word → Taken A
 one_of word values [] = Err flaw.Word
 one_of word values (w ∷ ws) = with_rest ws (with_text word values w)
+
+-- the values that a version has, each from its first version on
+abbrev pub in_version : {A : Type 0} → (A → ℕ) → ℕ → List A → List A
+in_version first version values = filter (λ x. nat_le (first x) version) values
 
 -- that word and no other
 abbrev pub literal_at : Word → List Word → Taken (Unit {0})

@@ -1,9 +1,9 @@
 //! An event, read from the words of its line.
 
-ghost use Rattle.std.specs.Prelude.{◌-◌};
+ghost use Rattle.std.specs.Prelude.{◌-◌, ◌≤◌};
 ghost use Rattle.monk_history.specs.Text.{via_word, from_word};
 ghost use Rattle.monk_history.specs.Text.Words.{Reads, one_of};
-ghost use Rattle.monk_history.specs.Text.Reading.{vias, froms, next_word, all_next_words, verb_word, verbs, next_at};
+ghost use Rattle.monk_history.specs.Text.Reading.{vias, froms, next_word, all_next_words, verb_word, verbs_of, next_at};
 ghost use Rattle.monk_history.specs.Text.Reading.{cond_next_at, act_at, event_after, event_at};
 
 use crate::event::{Event, From3, Next, Via};
@@ -16,24 +16,25 @@ use monk_object::Op;
 
 impl Record<Header> for Event {
     ghost use Rattle.monk_history.specs.Text.Words.{Reads};
-    ghost use Rattle.monk_history.specs.Text.Reading.{event_at, event_under};
+    ghost use Rattle.monk_history.specs.Text.Reading.{event_under};
 
     ghost parse = { event_under };
 
     #[inline(always)]
-    fn parse(_header: &Header, words: &mut LineWords<'_>) -> Result<Event, Flaw>
-        ensures { Reads result words.new (event_at words.old) }
+    fn parse(header: &Header, words: &mut LineWords<'_>) -> Result<Event, Flaw>
+        ensures { Reads result words.new (event_under header.now words.old) }
     {
-        event(words)
+        event(words, header.version())
     }
 }
 
 #[tactic(auto, unfolding(crate::specs::Text::Reading::event_at))]
 #[inline(always)]
-fn event(words: &mut LineWords<'_>) -> Result<Event, Flaw>
-    ensures { Reads result words.new (event_at words.old) }
+fn event(words: &mut LineWords<'_>, version: u8) -> Result<Event, Flaw>
+    requires { 1 ≤ version }
+    ensures { Reads result words.new (event_at version words.old) }
 {
-    let verb = verb(words)?;
+    let verb = verb(words, version)?;
     let seat = words.byte()?;
     let event = event_after(words, verb, seat)?;
     words.end()?;
@@ -69,6 +70,12 @@ fn event_after(words: &mut LineWords<'_>, verb: Verb, seat: u8) -> Result<Event,
             Ok(Event::Until(seat, pred, next))
         }
         Verb::Resume => Ok(Event::Resume(seat, from(words)?)),
+        Verb::SignalAll => Ok(Event::SignalAll(seat, words.byte()?)),
+        Verb::SignalWait => {
+            let cond = words.byte()?;
+            let (wait_cond, next) = cond_next(words)?;
+            Ok(Event::SignalWait(seat, cond, wait_cond, next))
+        }
     }
 }
 
@@ -109,10 +116,12 @@ fn next(words: &mut LineWords<'_>) -> Result<Next, Flaw>
     })
 }
 
+/// The verb of that version.
 #[tactic(auto, using(crate::proofs::TextLaws::EventWords::verb_words))]
 #[inline(always)]
-fn verb(words: &mut LineWords<'_>) -> Result<Verb, Flaw>
-    ensures { Reads result words.new (one_of verb_word verbs words.old) }
+fn verb(words: &mut LineWords<'_>, version: u8) -> Result<Verb, Flaw>
+    requires { 1 ≤ version }
+    ensures { Reads result words.new (one_of verb_word (verbs_of version) words.old) }
 {
     if words.takes(b"enter") {
         Ok(Verb::Enter)
@@ -130,6 +139,12 @@ fn verb(words: &mut LineWords<'_>) -> Result<Verb, Flaw>
         Ok(Verb::Until)
     } else if words.takes(b"resume") {
         Ok(Verb::Resume)
+    } else if version < 2 {
+        Err(Flaw::Word)
+    } else if words.takes(b"signal-all") {
+        Ok(Verb::SignalAll)
+    } else if words.takes(b"signal-wait") {
+        Ok(Verb::SignalWait)
     } else {
         Err(Flaw::Word)
     }

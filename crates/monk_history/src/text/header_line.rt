@@ -29,8 +29,8 @@ fn header(words: &mut LineWords<'_>) -> Result<Header, Flaw>
     ensures { Reads result words.new (header_at words.old) }
 {
     words.literal(b"monk")?;
-    words.literal(b"1")?;
-    let header = header_parts(words, 1)?;
+    let version = words.byte()?;
+    let header = header_parts(words, version)?;
     words.end()?;
     Ok(header)
 }
@@ -39,7 +39,7 @@ fn header(words: &mut LineWords<'_>) -> Result<Header, Flaw>
 /// has a header, and leaves what follows.
 ///
 /// [`Flaw::Word`] where one of them is missing, is no name of a kind or of an object, or is a number outside the range of
-/// [`Header::new`], and where there is no such version (the only one is 1); [`Flaw::Number`] where it is no number from 0 to
+/// [`Header::new`], and where there is no such version (they are 1 and 2); [`Flaw::Number`] where it is no number from 0 to
 /// 255. Takes no memory.
 #[tactic(auto, unfolding(crate::specs::Text::Reading::parts_at))]
 pub fn header_parts(words: &mut LineWords<'_>, version: u8) -> Result<Header, Flaw>

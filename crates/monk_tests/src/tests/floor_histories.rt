@@ -2,11 +2,12 @@
 ghost use Rattle.monk_tests.specs.FloorCalls.{IsRoom};
 
 use super::floor_steps::{
-    CONDS, SEATS, SIZE, both_automatic, both_explicit, both_returning, room, runs_explicitly,
+    CONDS, SEATS, SIZE, both_automatic, both_explicit, both_non_blocking, both_returning, room,
+    runs_explicitly,
 };
 use monk_floor::{Floor, MakeFault};
 use monk_history::{Event, From3, Next, Via};
-use monk_kinds::{Kind, Npb, Npir, Npis, Pb, Pick, Pir, Pis, Pnb, Pqb};
+use monk_kinds::{Kind, Npb, Npir, Npis, Npnb, Pb, Pick, Pir, Pis, Pnb, Pqb};
 use monk_object::{Buffer, Guarded, Op};
 use std::test::Fail;
 
@@ -135,6 +136,75 @@ const RETURN_PAST_WAITER: [Event; 4] = [
 fn immediate_return(rt: HostRuntime) -> Result<(), Fail> {
     assert!(rt; both_returning::<Pir>(&rt, &SIGNAL_AND_RETURN, Pick::Entry)?);
     assert!(rt; both_returning::<Npir>(&rt, &RETURN_PAST_WAITER, Pick::Entry)?);
+    Ok(())
+}
+
+const BROADCAST_WAKES_ALL: [Event; 11] = [
+    Event::Enter(0, Via::Free),
+    Event::Wait(0, 0, Next::Entry),
+    Event::Enter(1, Via::Free),
+    Event::Wait(1, 0, Next::Entry),
+    Event::Enter(2, Via::Free),
+    Event::SignalAll(2, 0),
+    Event::Leave(2, Next::Waiter(0)),
+    Event::Resume(0, From3::Waiter),
+    Event::Leave(0, Next::Waiter(1)),
+    Event::Resume(1, From3::Waiter),
+    Event::Leave(1, Next::Entry),
+];
+
+/// Nobody is served, and nothing changes.
+const BROADCAST_TO_NOBODY: [Event; 3] = [
+    Event::Enter(0, Via::Free),
+    Event::SignalAll(0, 0),
+    Event::Leave(0, Next::Entry),
+];
+
+#[test]
+fn broadcast_wakes_all(rt: HostRuntime) -> Result<(), Fail> {
+    assert!(rt; both_non_blocking::<Pnb>(&rt, &BROADCAST_WAKES_ALL, Pick::Waiter)?);
+    assert!(rt; both_non_blocking::<Npnb>(&rt, &BROADCAST_WAKES_ALL, Pick::Waiter)?);
+    assert!(rt; both_non_blocking::<Pnb>(&rt, &BROADCAST_TO_NOBODY, Pick::Waiter)?);
+    Ok(())
+}
+
+const PING_PONG: [Event; 10] = [
+    Event::Enter(0, Via::Free),
+    Event::Wait(0, 0, Next::Entry),
+    Event::Enter(1, Via::Free),
+    Event::SignalWait(1, 0, 1, Next::Waiter(0)),
+    Event::Resume(0, From3::Waiter),
+    Event::SignalWait(0, 1, 0, Next::Waiter(1)),
+    Event::Resume(1, From3::Waiter),
+    Event::SignalLeave(1, 0, Next::Waiter(0)),
+    Event::Resume(0, From3::Waiter),
+    Event::Leave(0, Next::Entry),
+];
+
+/// The seat that waited is served, and the caller waits where it stood.
+const SIGNAL_WAIT_ON_ONE_CONDITION: [Event; 5] = [
+    Event::Enter(0, Via::Free),
+    Event::Wait(0, 0, Next::Entry),
+    Event::Enter(1, Via::Free),
+    Event::SignalWait(1, 0, 0, Next::Waiter(0)),
+    Event::Resume(0, From3::Waiter),
+];
+
+/// Nobody waits there yet, and the caller is not served by its own signal.
+const SIGNAL_WAIT_SERVES_NOBODY: [Event; 5] = [
+    Event::Enter(0, Via::Free),
+    Event::SignalWait(0, 0, 0, Next::Entry),
+    Event::Enter(1, Via::Free),
+    Event::SignalLeave(1, 0, Next::Waiter(0)),
+    Event::Resume(0, From3::Waiter),
+];
+
+#[test]
+fn signal_wait_ping_pong(rt: HostRuntime) -> Result<(), Fail> {
+    assert!(rt; both_returning::<Pir>(&rt, &PING_PONG, Pick::Waiter)?);
+    assert!(rt; both_returning::<Npir>(&rt, &PING_PONG, Pick::Waiter)?);
+    assert!(rt; both_returning::<Pir>(&rt, &SIGNAL_WAIT_ON_ONE_CONDITION, Pick::Waiter)?);
+    assert!(rt; both_returning::<Pir>(&rt, &SIGNAL_WAIT_SERVES_NOBODY, Pick::Waiter)?);
     Ok(())
 }
 

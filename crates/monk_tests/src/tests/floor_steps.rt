@@ -7,7 +7,7 @@ use monk_audit::{Verdict, audit};
 use monk_floor::Floor;
 use monk_history::laws::{allowed_may_be_called, seat_resumes};
 use monk_history::{Event, Header};
-use monk_kinds::{Automatic, Explicit, ImmediateReturn, Kind, Pick};
+use monk_kinds::{Automatic, Explicit, ImmediateReturn, Kind, NonBlocking, Pick};
 use monk_object::{Buffer, ObjectName};
 use std::test::Fail;
 
@@ -104,6 +104,13 @@ fn steps_plainly<K: Kind>(
             floor.plain_signal_leave(seat, cond, pick, known) == next
         }
         Event::Until(seat, pred, next) => floor.plain_until(seat, pred, pick, known) == next,
+        Event::SignalAll(seat, cond) => {
+            floor.plain_signal_all(seat, cond);
+            true
+        }
+        Event::SignalWait(seat, cond, wait_cond, next) => {
+            floor.plain_signal_wait(seat, cond, wait_cond, pick, known) == next
+        }
         _ => moves(floor, event),
     })
 }
@@ -163,6 +170,42 @@ pub(crate) fn runs_explicitly<K: Explicit>(
     Ok(true)
 }
 
+fn steps_non_blocking<K: NonBlocking>(
+    rt: &HostRuntime,
+    floor: &mut Floor<K, Buffer>,
+    event: Event,
+    pick: Pick,
+) -> Result<bool, Fail>
+    requires { IsRoom SEATS CONDS SIZE floor.old }
+    ensures { IsRoom SEATS CONDS SIZE floor.new }
+{
+    if let Event::SignalAll(seat, cond) = event {
+        if !may_come(rt, floor, event)? {
+            return Ok(false);
+        }
+        allowed_may_be_called();
+        floor.signal_all(seat, cond);
+        return Ok(true);
+    }
+    steps_explicitly(rt, floor, event, pick)
+}
+
+fn runs_non_blocking<K: NonBlocking>(
+    rt: &HostRuntime,
+    floor: &mut Floor<K, Buffer>,
+    events: &[Event],
+    pick: Pick,
+) -> Result<bool, Fail>
+    requires { IsRoom SEATS CONDS SIZE floor.old }
+{
+    for event in events {
+        if !steps_non_blocking(rt, floor, *event, pick)? {
+            return Ok(false);
+        }
+    }
+    Ok(true)
+}
+
 fn steps_returning<K: ImmediateReturn>(
     rt: &HostRuntime,
     floor: &mut Floor<K, Buffer>,
@@ -181,6 +224,9 @@ fn steps_returning<K: ImmediateReturn>(
         Event::Leave(seat, next) => floor.leave(seat, pick, known) == next,
         Event::Wait(seat, cond, next) => floor.wait(seat, cond, pick, known) == next,
         Event::SignalLeave(seat, cond, next) => floor.signal_leave(seat, cond, pick, known) == next,
+        Event::SignalWait(seat, cond, wait_cond, next) => {
+            floor.signal_wait(seat, cond, wait_cond, pick, known) == next
+        }
         _ => moves(floor, event),
     })
 }
@@ -247,6 +293,19 @@ pub(crate) fn both_explicit<K: Explicit>(
     let mut plain: Floor<K, Buffer> = room(rt)?;
     let mut path: Floor<K, Buffer> = room(rt)?;
     Ok(runs_plainly(rt, &mut plain, events, pick)? && runs_explicitly(rt, &mut path, events, pick)?)
+}
+
+pub(crate) fn both_non_blocking<K: NonBlocking>(
+    rt: &HostRuntime,
+    events: &[Event],
+    pick: Pick,
+) -> Result<bool, Fail> {
+    let mut plain: Floor<K, Buffer> = room(rt)?;
+    let mut path: Floor<K, Buffer> = room(rt)?;
+    Ok(
+        runs_plainly(rt, &mut plain, events, pick)?
+            && runs_non_blocking(rt, &mut path, events, pick)?,
+    )
 }
 
 pub(crate) fn both_returning<K: ImmediateReturn>(

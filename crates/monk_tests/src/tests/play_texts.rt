@@ -73,6 +73,37 @@ fn each_action(rt: HostRuntime) -> Result<(), Fail> {
     Ok(())
 }
 
+/// The actions of version 2, with the greatest numbers.
+const EACH_OF_VERSION_TWO: &[u8] =
+    b"play 2 NPIR 32 8 shop 255 1048576\n0 arrive\n1 signal-all 255\n2 signal-wait 255 10 entry\n3 signal-wait 0 0 signaller\n";
+
+#[test]
+fn each_action_of_version_two(rt: HostRuntime) -> Result<(), Fail> {
+    let (header, _, commands) = read_play(rt.alloc(), EACH_OF_VERSION_TWO)?;
+    assert_eq!(rt; header.version(), 2);
+    let want = [
+        (0, Command::Arrive),
+        (1, Command::SignalAll(255)),
+        (2, Command::SignalWait(255, 10, Pick::Entry)),
+        (3, Command::SignalWait(0, 0, Pick::Signaller)),
+    ];
+    assert!(rt; commands.as_slice() == want.as_slice());
+    for (line, old, new) in [
+        ("0 signal-all 0\n", (2, 2), (0, 1)),
+        ("0 signal-all x\n", (2, 2), (3, 2)),
+        ("0 signal-all 0 waiter\n", (2, 2), (2, 2)),
+        ("0 signal-wait 0 0 waiter\n", (2, 2), (0, 1)),
+        ("0 signal-wait 0 waiter\n", (2, 2), (3, 2)),
+        ("0 signal 0 waiter\n", (0, 1), (0, 1)),
+    ] {
+        for (first, want) in [("play 1", old), ("play 2", new)] {
+            let text = format!(in rt.alloc(); "{first} PIR 2 2 buffer 1 8\n{line}")?;
+            assert_eq!(rt; outcome(&rt, text.as_bytes()), want, "{first} {line:?}");
+        }
+    }
+    Ok(())
+}
+
 #[test]
 fn first_lines(rt: HostRuntime) {
     for (text, want) in [
@@ -85,6 +116,9 @@ fn first_lines(rt: HostRuntime) {
         ("play 1 PB 1 0 buffer 1 2 2\n", (1, 1)),
         ("monk 1 PB 1 0 buffer 1\n", (1, 1)),
         ("play 1 PB 1 0 buffer 1 1", (4, 1)),
+        ("play 2 PB 1 0 buffer 1 2\n", (0, 0)),
+        ("play 0 PB 1 0 buffer 1 2\n", (1, 1)),
+        ("play 3 PB 1 0 buffer 1 2\n", (1, 1)),
     ] {
         assert_eq!(rt; outcome(&rt, text.as_bytes()), want, "{text:?}");
     }

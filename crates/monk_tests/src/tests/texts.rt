@@ -1,6 +1,8 @@
 use super::tight::Tight;
 use monk_history::lines::{Flaw, LineWords};
-use monk_history::{Device, Header, one_history_each, read, read_limited, reads_back, write};
+use monk_history::{
+    Device, Header, one_history_each, read, read_limited, reads_back, writable, write,
+};
 use monk_kinds::KindName;
 use monk_object::ObjectName;
 use std::io::{Read, Write};
@@ -12,6 +14,10 @@ const RUN: &[u8] =
 /// Each kind of event and of next, with the greatest numbers.
 const EACH: &[u8] =
     b"monk 1 NPIR 32 8 shop 255\nenter 255 free\nenter 0 handed\nact 255 255 4294967295 18446744073709551615\nact 0 0 0 0\nleave 10 stay\nwait 255 255 entry\nsignal 7 99 waiter 100\nsignal-leave 255 255 signaller 255\nuntil 1 2 until 3\nresume 4 waiter\nresume 5 signaller\nresume 6 until\n";
+
+/// Each word that version 2 has besides, with the greatest numbers.
+const EACH_OF_VERSION_TWO: &[u8] =
+    b"monk 2 NPIR 32 8 shop 255\nenter 255 free\nsignal-all 255 255\nsignal-all 0 10\nsignal-wait 255 255 255 signaller 255\nsignal-wait 0 10 9 stay\nleave 0 entry\n";
 
 /// The fault's number and line, or 0 and the number of events.
 fn outcome(rt: &HostRuntime, bytes: &[u8]) -> (u8, u32) {
@@ -108,8 +114,49 @@ fn headers(rt: HostRuntime) -> Result<(), Fail> {
 }
 
 #[test]
+fn versions(rt: HostRuntime) -> Result<(), Fail> {
+    let (old, events) = read(rt.alloc(), RUN)?;
+    assert_eq!(rt; (old.version(), old.upgraded().version()), (1, 2));
+    assert!(rt; writable(&old, &events) && writable(&old.upgraded(), &events));
+    let (new, events) = read(rt.alloc(), EACH_OF_VERSION_TWO)?;
+    assert_eq!(rt; (new.version(), new.upgraded().version()), (2, 2));
+    assert!(rt; writable(&new, &events) && !writable(&old, &events));
+    Ok(())
+}
+
+#[test]
+fn words_of_version_two(rt: HostRuntime) -> Result<(), Fail> {
+    for (line, old, new) in [
+        ("signal-all 0 0\n", (2, 2), (0, 1)),
+        ("signal-all x 0\n", (2, 2), (3, 2)),
+        ("signal-all 0 0 stay\n", (2, 2), (2, 2)),
+        ("signal-wait 0 0 0 stay\n", (2, 2), (0, 1)),
+        ("signal-wait 0 0 stay\n", (2, 2), (3, 2)),
+        ("signal-wait 0 0 256 stay\n", (2, 2), (3, 2)),
+        ("signal 0 0 stay\n", (0, 1), (0, 1)),
+    ] {
+        for (first, want) in [("monk 1", old), ("monk 2", new)] {
+            let text = format!(in rt.alloc(); "{first} PIR 2 2 buffer 1\n{line}")?;
+            assert_eq!(rt; outcome(&rt, text.as_bytes()), want, "{first} {line:?}");
+        }
+    }
+    for first in ["monk 0", "monk 3", "monk 02", "monk 256", "monk x"] {
+        let text = format!(in rt.alloc(); "{first} PIR 2 2 buffer 1\n")?;
+        assert_eq!(rt; outcome(&rt, text.as_bytes()), (1, 1), "{first}");
+    }
+    Ok(())
+}
+
+#[test]
 fn written_and_read(rt: HostRuntime) -> Result<(), Fail> {
-    for (text, times, step) in [(RUN, 1, 1), (EACH, 1, 1), (RUN, 90, 4096), (EACH, 90, 4095)] {
+    for (text, times, step) in [
+        (RUN, 1, 1),
+        (EACH, 1, 1),
+        (EACH_OF_VERSION_TWO, 1, 1),
+        (RUN, 90, 4096),
+        (EACH, 90, 4095),
+        (EACH_OF_VERSION_TWO, 90, 4095),
+    ] {
         let bytes = repeated(&rt, text, times)?;
         let (header, events) = read(rt.alloc(), &bytes)?;
         let mut tight = Tight {

@@ -1,6 +1,6 @@
 //! Worked plays, each answer compared.
-use monk_history::{Event, Next, Via};
-use monk_kinds::{Pb, Pick};
+use monk_history::{Event, From3, Next, Via};
+use monk_kinds::{Kind, Pb, Pick, Pir, Pnb};
 use monk_object::{Buffer, Op};
 use monk_world::{Answer, Command, World};
 use std::test::Fail;
@@ -22,14 +22,14 @@ const TWO_SEATS: Size = Size {
 };
 
 /// Whether these steps, from the start over a buffer of size 1, have these answers and lead to this history.
-fn plays(
+fn plays_as<K: Kind>(
     rt: &HostRuntime,
     size: Size,
     steps: &[(u8, Command, Answer)],
     history: &[Event],
 ) -> Result<bool, Fail> {
     let buffer = Buffer::make(rt.alloc(), 1)?;
-    let mut world = World::<Pb, Buffer>::make(
+    let mut world = World::<K, Buffer>::make(
         rt.alloc(),
         buffer,
         size.seats,
@@ -42,6 +42,16 @@ fn plays(
         }
     }
     Ok(world.history() == history)
+}
+
+/// The same under the kind PB.
+fn plays(
+    rt: &HostRuntime,
+    size: Size,
+    steps: &[(u8, Command, Answer)],
+    history: &[Event],
+) -> Result<bool, Fail> {
+    plays_as::<Pb>(rt, size, steps, history)
 }
 
 const ARRIVES_AT_THE_DROP: [(u8, Command, Answer); 8] = [
@@ -164,5 +174,121 @@ fn runs_go_on_after_refusals(rt: HostRuntime) -> Result<(), Fail> {
     world.run(&commands);
     let history = [Event::Enter(0, Via::Free), Event::Leave(0, Next::Entry)];
     assert!(rt; world.history() == history.as_slice());
+    Ok(())
+}
+
+const BROADCAST: [(u8, Command, Answer); 14] = [
+    (0, Command::Arrive, Answer::Arrived(0, 0)),
+    (0, Command::Out, Answer::Now),
+    (0, WAIT, Answer::Chose(Next::Entry)),
+    (0, Command::Drop, Answer::Found(1)),
+    (1, Command::Arrive, Answer::Arrived(1, 0)),
+    (1, Command::Out, Answer::Now),
+    (1, Command::SignalAll(0), Answer::Woke(1)),
+    (1, LEAVE, Answer::Chose(Next::Waiter(0))),
+    (1, Command::Drop, Answer::NotNow),
+    (1, Command::Grant, Answer::GrantedSeat(0)),
+    (0, Command::Look, Answer::Looked(true)),
+    (0, Command::Out, Answer::Now),
+    (0, LEAVE, Answer::Chose(Next::Entry)),
+    (0, Command::Drop, Answer::Found(1)),
+];
+
+const ONE_CONDITION: Size = Size {
+    seats: 2,
+    conds: 1,
+    budget: 8,
+};
+
+#[test]
+fn broadcast_wakes_a_seat(rt: HostRuntime) -> Result<(), Fail> {
+    let history = [
+        Event::Enter(0, Via::Free),
+        Event::Wait(0, 0, Next::Entry),
+        Event::Enter(1, Via::Free),
+        Event::SignalAll(1, 0),
+        Event::Leave(1, Next::Waiter(0)),
+        Event::Resume(0, From3::Waiter),
+        Event::Leave(0, Next::Entry),
+    ];
+    assert!(rt; plays_as::<Pnb>(&rt, ONE_CONDITION, &BROADCAST, &history)?);
+    Ok(())
+}
+
+const SIGNAL_WAIT: Command = Command::SignalWait(0, 1, Pick::Waiter);
+
+const NO_SUCH_WAIT: Command = Command::SignalWait(0, 2, Pick::Waiter);
+
+const NO_SUCH_SIGNAL: Command = Command::SignalWait(2, 0, Pick::Waiter);
+
+const PING_PONG: [(u8, Command, Answer); 11] = [
+    (0, Command::Arrive, Answer::Arrived(0, 0)),
+    (0, SIGNAL_WAIT, Answer::NotNow),
+    (0, NO_SUCH_WAIT, Answer::Range),
+    (0, NO_SUCH_SIGNAL, Answer::Range),
+    (0, Command::Out, Answer::Now),
+    (0, WAIT, Answer::Chose(Next::Entry)),
+    (0, Command::Drop, Answer::Found(1)),
+    (1, Command::Arrive, Answer::Arrived(1, 0)),
+    (1, Command::Out, Answer::Now),
+    (1, Command::SignalAll(0), Answer::NoCall),
+    (1, SIGNAL_WAIT, Answer::Chose(Next::Waiter(0))),
+];
+
+#[test]
+fn signal_wait_hands_over(rt: HostRuntime) -> Result<(), Fail> {
+    let history = [
+        Event::Enter(0, Via::Free),
+        Event::Wait(0, 0, Next::Entry),
+        Event::Enter(1, Via::Free),
+        Event::SignalWait(1, 0, 1, Next::Waiter(0)),
+    ];
+    let size = Size {
+        seats: 2,
+        conds: 2,
+        budget: 8,
+    };
+    assert!(rt; plays_as::<Pir>(&rt, size, &PING_PONG, &history)?);
+    Ok(())
+}
+
+/// A signal to all needs two events, a signal followed by a wait three.
+const TIRED: [(u8, Command, Answer); 4] = [
+    (0, Command::Arrive, Answer::Arrived(0, 0)),
+    (0, Command::Out, Answer::Now),
+    (0, Command::SignalWait(0, 0, Pick::Waiter), Answer::Tired),
+    (
+        0,
+        Command::SignalLeave(0, Pick::Waiter),
+        Answer::Chose(Next::Entry),
+    ),
+];
+
+const TIRED_OF_BROADCAST: [(u8, Command, Answer); 4] = [
+    (0, Command::Arrive, Answer::Arrived(0, 0)),
+    (0, Command::Out, Answer::Now),
+    (0, Command::SignalAll(0), Answer::Tired),
+    (0, Command::SignalWait(0, 0, Pick::Waiter), Answer::NoCall),
+];
+
+#[test]
+fn later_calls_are_tired(rt: HostRuntime) -> Result<(), Fail> {
+    let left = [
+        Event::Enter(0, Via::Free),
+        Event::SignalLeave(0, 0, Next::Entry),
+    ];
+    let three = Size {
+        seats: 1,
+        conds: 1,
+        budget: 3,
+    };
+    assert!(rt; plays_as::<Pir>(&rt, three, &TIRED, &left)?);
+    let entered = [Event::Enter(0, Via::Free)];
+    let two = Size {
+        seats: 1,
+        conds: 1,
+        budget: 2,
+    };
+    assert!(rt; plays_as::<Pnb>(&rt, two, &TIRED_OF_BROADCAST, &entered)?);
     Ok(())
 }

@@ -6,7 +6,7 @@ use Rattle.monk_history.proofs.PublicLaws.Texts.{AreWords, IsWord, IsWord-decima
 use Rattle.monk_history.proofs.PublicLaws.Texts.{object_is_word}
 use Rattle.monk_world.specs.declared.command.Command.{Command}
 use Rattle.monk_world.specs.declared.command.Command.TheVariants.{Arrive, Look, Out, Peek, Drop, Grant, Act, Leave}
-use Rattle.monk_world.specs.declared.command.Command.TheVariants.{Wait, Signal, SignalLeave, Until}
+use Rattle.monk_world.specs.declared.command.Command.TheVariants.{Wait, Signal, SignalLeave, Until, SignalAll, SignalWait}
 use Rattle.monk_world.specs.declared.play.head.PlayHead.{PlayHead}
 use Rattle.monk_world.specs.Play.{pick_word, action_words, command_words, ActionFits, CommandFits}
 use Rattle.monk_world.proofs.PlayLaws.PlayHeads.{HeadFits, head_words}
@@ -29,6 +29,8 @@ action_are_words (Wait c p) fits = rw (decimal_word c fits, pick_is_word p) refl
 action_are_words (Signal c p) fits = rw (decimal_word c fits, pick_is_word p) refl
 action_are_words (SignalLeave c p) fits = rw (decimal_word c fits, pick_is_word p) refl
 action_are_words (Until c p) fits = rw (decimal_word c fits, pick_is_word p) refl
+action_are_words (SignalAll c) fits = rw (decimal_word c fits) refl
+action_are_words (SignalWait c d p) fits = rw (decimal_word c fits.0, decimal_word d fits.1, pick_is_word p) refl
 
 pub command_are_words : (m : ℕ × Command) → CommandFits m → AreWords (command_words m)
 command_are_words m fits = rw (decimal_word m.0 fits.0) (action_are_words m.1 fits.1)

@@ -1,12 +1,13 @@
 -- What is read as a play's first line is how it is written, and one that is written is read again.
-use Rattle.std.proofs.Common.{lit<, ◌≡◌, ℕ, ◌≤◌, Bool, true, false, cond, List, [], ◌∷◌, ◌++◌, Some, None, Ok, refl, sym, ap, subst, ◌∙◌}
+use Rattle.std.proofs.Common.{lit<, ◌≡◌, ℕ, ◌≤◌, Bool, true, false, cond, List, [], ◌∷◌, ◌++◌, Some, None, Ok, refl, sym, ap, subst}
+use Rattle.std.proofs.Common.{◌∙◌, arith}
 use Rattle.std.specs.Prelude.{nat_le, codes}
 use Rattle.std.specs.Fmt.{decimal}
 use Rattle.std.proofs.lemmas.Bool.{leb-true, le-leb}
 use Rattle.monk_history.specs.Text.{Heading, IsHeading, part_words}
 use Rattle.monk_history.specs.Text.Reading.{parts_at}
 use Rattle.monk_history.specs.Text.Words.{◌>>=◌, Word, Taken, number_at, with_rest, literal_at, end_at}
-use Rattle.monk_history.proofs.PublicLaws.Texts.{one_version, version_word, parts_take, parts_again, bind_ok, ok_is}
+use Rattle.monk_history.proofs.PublicLaws.Texts.{parts_take, parts_again, bind_ok, ok_is}
 use Rattle.monk_history.proofs.PublicLaws.Texts.{number_takes, number_again, literal_takes, end_takes}
 use Rattle.monk_world.specs.declared.play.head.PlayHead.{PlayHead}
 use Rattle.monk_history.specs.Limits.{least_budget, most_budget}
@@ -36,24 +37,24 @@ at_budget h b = end_at b.1 >>= at_end h b.0
 abbrev at_parts : Heading × List Word → Taken PlayHead
 at_parts h = number_at most_budget h.1 >>= at_budget h.0
 
-abbrev at_version : Unit {0} × List Word → Taken PlayHead
-at_version v = parts_at 1 v.1 >>= at_parts
+abbrev at_version : ℕ × List Word → Taken PlayHead
+at_version v = parts_at v.0 v.1 >>= at_parts
 
 abbrev at_name : Unit {0} × List Word → Taken PlayHead
-at_name p = literal_at (codes "1") p.1 >>= at_version
+at_name p = number_at 255 p.1 >>= at_version
 
 pub head_takes : (ws : List Word) (x : PlayHead × List Word) → play_head_at ws ≡ Ok x → (ws ≡ head_words x.0) × HeadFits x.0
 unfolding play_head_at
 head_takes ws x e =
     let p = bind_ok (literal_at (codes "play") ws) at_name x e in
-    let v = bind_ok (literal_at (codes "1") p.0.1) at_version x p.2 in
-    let h = bind_ok (parts_at 1 v.0.1) at_parts x v.2 in
+    let v = bind_ok (number_at 255 p.0.1) at_version x p.2 in
+    let h = bind_ok (parts_at v.0.0 v.0.1) at_parts x v.2 in
     let b = bind_ok (number_at most_budget h.0.1) (at_budget h.0.0) x h.2 in
     let n = bind_ok (end_at b.0.1) (at_end h.0.0 b.0.0) x b.2 in
     let name_is : ws ≡ codes "play" ∷ p.0.1 = literal_takes (codes "play") ws p.0 p.1 in
-    let version_is : p.0.1 ≡ codes "1" ∷ v.0.1 = literal_takes (codes "1") p.0.1 v.0 v.1 in
-    let parts_are = parts_take 1 v.0.1 h.0 h.1 in
-    let written : codes "1" ≡ decimal h.0.0.version = sym (version_word h.0.0 parts_are.1) in
+    let version_is : p.0.1 ≡ decimal v.0.0 ∷ v.0.1 = (number_takes 255 p.0.1 v.0 v.1).0 in
+    let parts_are = parts_take v.0.0 v.0.1 h.0 h.1 in
+    let written : decimal v.0.0 ≡ decimal h.0.0.version = ap decimal (sym parts_are.2) in
     let budget_is = number_takes most_budget h.0.1 b.0 b.1 in
     let none : b.0.1 ≡ [] = (end_takes b.0.1 n.0 n.1).0 in
     let made = head_made (nat_le least_budget b.0.0) (play_head h.0.0 b.0.0) n.0.1 x n.2 in
@@ -72,8 +73,9 @@ pub head_again : (h : PlayHead) → HeadFits h → play_head_at (head_words h) �
 unfolding play_head_at
 head_again h fits =
     rw (
-      version_word h.header fits.header_fits,
-      parts_again 1 h.header (decimal h.budget ∷ []) (one_version h.header fits.header_fits) fits.header_fits,
+      number_again 255 h.header.version (part_words h.header ++ decimal h.budget ∷ []) (lit< tt)
+          (omega (arith, fits.header_fits.version)),
+      parts_again h.header.version h.header (decimal h.budget ∷ []) refl fits.header_fits,
       number_again most_budget h.budget [] (lit< tt) fits.budget_fits,
       head_whole h fits.some_budget,
     ) refl

@@ -1,5 +1,7 @@
 -- The laws of the text of a play: what is read has that text, and what has a text is read from it.
-use Rattle.std.proofs.Common.{◌≡◌, ℕ, ◌≤◌, List, length, Result, Ok, Err, refl, ap, subst, ◌∙◌, arith}
+use Rattle.std.specs.Prelude.{nat_le, ◌&&◌, Bool, true, false}
+use Rattle.std.specs.List.{AllByRecursion}
+use Rattle.std.proofs.Common.{◌≡◌, ℕ, ◌≤◌, List, [], ◌∷◌, length, Result, Ok, Err, refl, ap, subst, ◌∙◌, arith}
 use Rattle.std.specs.Global.{Vec}
 use Rattle.monk_history.specs.declared.text.fault.ReadFault.{ReadFault}
 use Rattle.monk_history.specs.Text.{Heading}
@@ -8,9 +10,11 @@ use Rattle.monk_history.proofs.PublicLaws.Formats as formats
 use Rattle.monk_history.proofs.PublicLaws.Formats.{IsFormat}
 use Rattle.monk_world.specs.declared.command.Command.{Command}
 use Rattle.monk_world.specs.declared.play.head.PlayHead.{PlayHead}
+use Rattle.monk_world.specs.Records.{AreToldIn}
+use Rattle.monk_world.specs.StepTable.{command_version}
 use Rattle.monk_world.specs.Play.{HasPlayText, CommandFits, command_words, playtext}
 use Rattle.monk_world.specs.Play.Reading.{Play, play, play_view, play_head, play_head_at, command_under, play_of_reading, play_at}
-use Rattle.monk_world.proofs.PlayLaws.CommandReading.{command_takes, command_again}
+use Rattle.monk_world.proofs.PlayLaws.CommandReading.{FitsVersion, command_takes, command_again}
 use Rattle.monk_world.proofs.PlayLaws.PlayHeads.{HeadFits, head_words, head_takes, head_again}
 use Rattle.monk_world.proofs.PlayLaws.PlainPlays.{command_are_words, head_are_words}
 
@@ -18,26 +22,53 @@ heads : IsFormat head_words play_head_at HeadFits
 heads = record { takes = head_takes; again = head_again; plain = head_are_words; some = λ h. omega arith }
 
 abbrev CommandFitsUnder : PlayHead → ℕ × Command → Type 0
-CommandFitsUnder h = CommandFits
+CommandFitsUnder h = FitsVersion h.header.version
 
 commands : (h : PlayHead) → IsFormat command_words (command_under h) (CommandFitsUnder h)
-commands h = record { takes = command_takes; again = command_again; plain = command_are_words; some = λ m. omega arith }
+commands h = record {
+  takes = command_takes h.header.version;
+  again = command_again h.header.version;
+  plain = λ m fits. command_are_words m fits.0;
+  some = λ m. omega arith;
+}
+
+told_both : (a b : Bool) → (a && b) ≡ true → (a ≡ true) × (b ≡ true)
+told_both true b h = (refl, h)
+told_both false b h = absurd cc
+
+-- each command fits the version where each fits and the version has all
+fit_under : (h : PlayHead) (cs : List (ℕ × Command)) → AllByRecursion CommandFits cs → AreToldIn h.header.version cs
+    → AllByRecursion (CommandFitsUnder h) cs
+fit_under h [] fit told = tt
+fit_under h (c ∷ cs) fit told =
+    let p = told_both (nat_le (command_version c.1) h.header.version) _ told in ((fit.0, p.0), fit_under h cs fit.1 p.1)
+
+fit_alone : (h : PlayHead) (cs : List (ℕ × Command)) → AllByRecursion (CommandFitsUnder h) cs → AllByRecursion CommandFits cs
+fit_alone h [] fit = tt
+fit_alone h (c ∷ cs) fit = (fit.0.0, fit_alone h cs fit.1)
+
+told_under : (h : PlayHead) (cs : List (ℕ × Command)) → AllByRecursion (CommandFitsUnder h) cs → AreToldIn h.header.version cs
+told_under h [] fit = refl
+told_under h (c ∷ cs) fit = rw (fit.0.1, told_under h cs fit.1) refl
 
 head_fits : (h : Heading) (budget : ℕ) (cs : List (ℕ × Command)) → HasPlayText h budget cs → HeadFits (play_head h budget)
-head_fits h budget cs has = record { header_fits = has.header_fits; some_budget = has.some_budget; budget_fits = has.budget_fits }
+head_fits h budget cs has =
+    record { header_fits = has.header_fits; some_budget = has.some_budget; budget_fits = has.budget_fits }
 
 pub play_again : (limit : ℕ) (h : Heading) (budget : ℕ) (cs : List (ℕ × Command)) → HasPlayText h budget cs
     → length cs ≤ limit → play_at limit (playtext h budget cs) ≡ Ok (play h budget cs)
 play_again limit h budget cs has le =
     ap play_of_reading (formats.text_again head_words play_head_at HeadFits heads command_words command_under
-    CommandFitsUnder commands limit (play_head h budget) cs (head_fits h budget cs has) has.commands_fit le)
+    CommandFitsUnder commands limit (play_head h budget) cs (head_fits h budget cs has)
+    (fit_under (play_head h budget) cs has.commands_fit has.told) le)
 
 pub play_one : (h g : Heading) (b c : ℕ) (xs ys : List (ℕ × Command)) → HasPlayText h b xs → HasPlayText g c ys
     → playtext h b xs ≡ playtext g c ys → play h b xs ≡ play g c ys
 play_one h g b c xs ys one two same =
     let is = formats.text_one head_words play_head_at HeadFits heads command_words command_under CommandFitsUnder
-    commands (play_head h b) (play_head g c) xs ys (head_fits h b xs one) one.commands_fit (head_fits g c ys two)
-    two.commands_fit same in
+    commands (play_head h b) (play_head g c) xs ys (head_fits h b xs one)
+    (fit_under (play_head h b) xs one.commands_fit one.told) (head_fits g c ys two)
+    (fit_under (play_head g c) ys two.commands_fit two.told) same in
     ap (λ (x : PlayHead). play x.header x.budget xs) is.0 ∙ ap (λ (x : List (ℕ × Command)). play g c x) is.1
 
 -- ---- what a function gives
@@ -58,7 +89,8 @@ play_read limit bytes h cs e =
         header_fits = r.head_fits.header_fits;
         some_budget = r.head_fits.some_budget;
         budget_fits = r.head_fits.budget_fits;
-        commands_fit = r.fit;
+        commands_fit = fit_alone h cs r.fit;
+        told = told_under h cs r.fit;
       };
       few = r.few;
       whole = r.whole;

@@ -8,10 +8,10 @@ use Rattle.monk_history.specs.declared.text.fault.ReadFault.{ReadFault}
 use Rattle.monk_history.specs.Text.{Heading}
 use Rattle.monk_history.specs.Text.Lines.{lines_of, lines_at}
 use Rattle.monk_history.specs.Text.Reading.{parts_at}
-use Rattle.monk_history.specs.Text.Words.{◌>>=◌, Word, Taken, number_at, one_of, literal_at, end_at, with_rest}
+use Rattle.monk_history.specs.Text.Words.{◌>>=◌, Word, Taken, number_at, one_of, in_version, literal_at, end_at, with_rest}
 use Rattle.monk_world.specs.declared.command.Command.{Command}
 use Rattle.monk_world.specs.declared.command.Command.TheVariants.{Arrive, Look, Out, Peek, Drop, Grant, Act, Leave}
-use Rattle.monk_world.specs.declared.command.Command.TheVariants.{Wait, Signal, SignalLeave, Until}
+use Rattle.monk_world.specs.declared.command.Command.TheVariants.{Wait, Signal, SignalLeave, Until, SignalAll, SignalWait}
 use Rattle.monk_world.specs.declared.play.head.PlayHead.{PlayHead}
 use Rattle.monk_world.specs.declared.play.verb.Verb.{Verb}
 use Rattle.monk_world.specs.declared.play.verb.Verb.TheVariants as verb
@@ -36,10 +36,32 @@ play_verb_word verb.Wait = codes "wait"
 play_verb_word verb.Signal = codes "signal"
 play_verb_word verb.SignalLeave = codes "signal-leave"
 play_verb_word verb.Until = codes "until"
+play_verb_word verb.SignalAll = codes "signal-all"
+play_verb_word verb.SignalWait = codes "signal-wait"
+
+-- the first version that has it
+abbrev pub play_verb_version : Verb → ℕ
+play_verb_version verb.Arrive = 1
+play_verb_version verb.Look = 1
+play_verb_version verb.Out = 1
+play_verb_version verb.Peek = 1
+play_verb_version verb.Drop = 1
+play_verb_version verb.Grant = 1
+play_verb_version verb.Act = 1
+play_verb_version verb.Leave = 1
+play_verb_version verb.Wait = 1
+play_verb_version verb.Signal = 1
+play_verb_version verb.SignalLeave = 1
+play_verb_version verb.Until = 1
+play_verb_version verb.SignalAll = 2
+play_verb_version verb.SignalWait = 2
 
 abbrev pub play_verbs : List Verb
 play_verbs = verb.Arrive ∷ verb.Look ∷ verb.Out ∷ verb.Peek ∷ verb.Drop ∷ verb.Grant ∷ verb.Act ∷ verb.Leave ∷ verb.Wait
-    ∷ verb.Signal ∷ verb.SignalLeave ∷ verb.Until ∷ []
+    ∷ verb.Signal ∷ verb.SignalLeave ∷ verb.Until ∷ verb.SignalAll ∷ verb.SignalWait ∷ []
+
+abbrev pub play_verbs_of : ℕ → List Verb
+play_verbs_of version = in_version play_verb_version version play_verbs
 
 -- a code and an argument
 unfoldable pub op_at : List Word → Taken Op
@@ -68,12 +90,14 @@ action_after verb.Wait ws = cond_pick_at ws >>= λ c. Ok (Wait c.0.0 c.0.1, c.1)
 action_after verb.Signal ws = cond_pick_at ws >>= λ c. Ok (Signal c.0.0 c.0.1, c.1)
 action_after verb.SignalLeave ws = cond_pick_at ws >>= λ c. Ok (SignalLeave c.0.0 c.0.1, c.1)
 action_after verb.Until ws = cond_pick_at ws >>= λ c. Ok (Until c.0.0 c.0.1, c.1)
+action_after verb.SignalAll ws = number_at 255 ws >>= λ c. Ok (SignalAll c.0, c.1)
+action_after verb.SignalWait ws = number_at 255 ws >>= λ c. cond_pick_at c.1 >>= λ d. Ok (SignalWait c.0 d.0.0 d.0.1, d.1)
 
--- a seat, a verb, what the verb wants, and no word more
-unfoldable pub command_at : List Word → Taken (ℕ × Command)
-command_at ws = do
+-- a seat, a verb of the version, what the verb wants, and no word more
+unfoldable pub command_at : ℕ → List Word → Taken (ℕ × Command)
+command_at version ws = do
   s ← number_at 255 ws
-  v ← one_of play_verb_word play_verbs s.1
+  v ← one_of play_verb_word (play_verbs_of version) s.1
   a ← action_after v.0 v.1
   end ← end_at a.1
   Ok ((s.0, a.0), end.1)
@@ -89,8 +113,8 @@ play_head_of h budget = if nat_le least_budget budget then Some (play_head h bud
 unfoldable pub play_head_at : List Word → Taken PlayHead
 play_head_at ws = do
   p ← literal_at (codes "play") ws
-  v ← literal_at (codes "1") p.1
-  h ← parts_at 1 v.1
+  v ← number_at 255 p.1
+  h ← parts_at v.0 v.1
   b ← number_at most_budget h.1
   end ← end_at b.1
   with_rest end.1 (play_head_of h.0 b.0)
@@ -108,9 +132,9 @@ play h budget commands = (h, budget, commands)
 abbrev pub play_view : Heading × ℕ × Vec (ℕ × Command) → Play
 play_view r = play r.0 r.1 r.2.items
 
--- the words of a command are the same under every first line
+-- the verbs of a command depend on the version of the first line
 abbrev pub command_under : PlayHead → List Word → Taken (ℕ × Command)
-command_under h ws = command_at ws
+command_under h ws = command_at h.header.version ws
 
 abbrev pub play_of_reading : Result (PlayHead × List (ℕ × Command)) ReadFault → Result Play ReadFault
 play_of_reading (Ok x) = Ok (play x.0.header x.0.budget x.1)

@@ -32,8 +32,8 @@ fn play_head(words: &mut LineWords<'_>) -> Result<PlayHead, Flaw>
     ensures { Reads result words.new (play_head_at words.old) }
 {
     words.literal(b"play")?;
-    words.literal(b"1")?;
-    let header = header_parts(words, 1)?;
+    let version = words.byte()?;
+    let header = header_parts(words, version)?;
     let budget = words.number(u64::from(MOST_BUDGET))? as u32;
     words.end()?;
     if budget < LEAST_BUDGET {

@@ -4,7 +4,7 @@ ghost use Rattle.std.specs.Prelude.{◌≡◌};
 ghost use Rattle.monk_kinds.specs.Names.{with_text};
 ghost use Rattle.monk_history.specs.Text.Words.{Reads, one_of};
 ghost use Rattle.monk_world.specs.Play.{pick_word};
-ghost use Rattle.monk_world.specs.Play.Reading.{play_verb_word, play_verbs, picks, op_at, cond_pick_at, action_after, command_at};
+ghost use Rattle.monk_world.specs.Play.Reading.{play_verb_word, play_verbs_of, picks, op_at, cond_pick_at, action_after, command_at};
 
 use crate::command::Command;
 use crate::play::head::PlayHead;
@@ -15,23 +15,23 @@ use monk_object::Op;
 
 impl Record<PlayHead> for (u8, Command) {
     ghost use Rattle.monk_history.specs.Text.Words.{Reads};
-    ghost use Rattle.monk_world.specs.Play.Reading.{command_at, command_under};
+    ghost use Rattle.monk_world.specs.Play.Reading.{command_under};
 
     ghost parse = { command_under };
 
-    fn parse(_head: &PlayHead, words: &mut LineWords<'_>) -> Result<(u8, Command), Flaw>
-        ensures { Reads result words.new (command_at words.old) }
+    fn parse(head: &PlayHead, words: &mut LineWords<'_>) -> Result<(u8, Command), Flaw>
+        ensures { Reads result words.new (command_under head.now words.old) }
     {
-        seat_command(words)
+        seat_command(words, head.header.version())
     }
 }
 
 #[tactic(auto, unfolding(crate::specs::Play::Reading::command_at))]
-fn seat_command(words: &mut LineWords<'_>) -> Result<(u8, Command), Flaw>
-    ensures { Reads result words.new (command_at words.old) }
+fn seat_command(words: &mut LineWords<'_>, version: u8) -> Result<(u8, Command), Flaw>
+    ensures { Reads result words.new (command_at version words.old) }
 {
     let seat = words.byte()?;
-    let verb = verb(words)?;
+    let verb = verb(words, version)?;
     let command = action_after(words, verb)?;
     words.end()?;
     Ok((seat, command))
@@ -65,6 +65,12 @@ fn action_after(words: &mut LineWords<'_>, verb: Verb) -> Result<Command, Flaw>
         Verb::Until => {
             let (pred, pick) = cond_pick(words)?;
             Ok(Command::Until(pred, pick))
+        }
+        Verb::SignalAll => Ok(Command::SignalAll(words.byte()?)),
+        Verb::SignalWait => {
+            let cond = words.byte()?;
+            let (wait_cond, pick) = cond_pick(words)?;
+            Ok(Command::SignalWait(cond, wait_cond, pick))
         }
     }
 }
@@ -112,9 +118,9 @@ fn pick_of_text(word: &[u8]) -> Option<Pick>
 }
 
 #[tactic(auto, unfolding(monk_history::specs::Text::Words::one_of))]
-fn verb(words: &mut LineWords<'_>) -> Result<Verb, Flaw>
-    ensures { Reads result words.new (one_of play_verb_word play_verbs words.old) }
+fn verb(words: &mut LineWords<'_>, version: u8) -> Result<Verb, Flaw>
+    ensures { Reads result words.new (one_of play_verb_word (play_verbs_of version) words.old) }
 {
     let word = words.next().ok_or(Flaw::Word)?;
-    Verb::of_text(word).ok_or(Flaw::Word)
+    Verb::of_version(word, version).ok_or(Flaw::Word)
 }

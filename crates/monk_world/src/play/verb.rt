@@ -2,7 +2,7 @@
 
 ghost use Rattle.std.specs.Prelude.{◌≡◌};
 ghost use Rattle.monk_kinds.specs.Names.{with_text};
-ghost use Rattle.monk_world.specs.Play.Reading.{play_verb_word, play_verbs};
+ghost use Rattle.monk_world.specs.Play.Reading.{play_verb_version, play_verb_word, play_verbs, play_verbs_of};
 
 /// Which command it is.
 #[derive(Clone, Copy)]
@@ -19,11 +19,44 @@ pub(crate) enum Verb {
     Signal,
     SignalLeave,
     Until,
+    SignalAll,
+    SignalWait,
 }
 
 impl Verb {
-    /// The verb whose word this is, byte for byte.
-    pub(crate) fn of_text(word: &[u8]) -> Option<Verb>
+    /// The verb of that version whose word this is, byte for byte.
+    pub(crate) fn of_version(word: &[u8], version: u8) -> Option<Verb>
+        ensures { result ≡ with_text play_verb_word (play_verbs_of version) word.now }
+    {
+        match Verb::of_text(word) {
+            Some(verb) if verb.first_version() <= version => Some(verb),
+            _ => None,
+        }
+    }
+
+    /// The first version that has it.
+    fn first_version(self) -> u8
+        ensures { result ≡ play_verb_version self }
+    {
+        match self {
+            Verb::Arrive
+            | Verb::Look
+            | Verb::Out
+            | Verb::Peek
+            | Verb::Drop
+            | Verb::Grant
+            | Verb::Act
+            | Verb::Leave
+            | Verb::Wait
+            | Verb::Signal
+            | Verb::SignalLeave
+            | Verb::Until => 1,
+            Verb::SignalAll | Verb::SignalWait => 2,
+        }
+    }
+
+    /// The verb of any version whose word this is.
+    fn of_text(word: &[u8]) -> Option<Verb>
         ensures { result ≡ with_text play_verb_word play_verbs word.now }
     {
         if word == b"arrive".as_slice() {
@@ -50,6 +83,10 @@ impl Verb {
             Some(Verb::SignalLeave)
         } else if word == b"until".as_slice() {
             Some(Verb::Until)
+        } else if word == b"signal-all".as_slice() {
+            Some(Verb::SignalAll)
+        } else if word == b"signal-wait".as_slice() {
+            Some(Verb::SignalWait)
         } else {
             None
         }

@@ -23,3 +23,13 @@ returns-in_ok-file_of-in-Some-play-default c =
       values = sym (first_value-rows found (codes "FILE")) ∙ sym c.in_ok-file_of-in-Some-play-default.ensures;
       in_range = tt;
     })
+
+pub returns-in_ok-file_of-in-Some-upgrade-default : goal.returns-in_ok-file_of-in-Some-upgrade-default
+returns-in_ok-file_of-in-Some-upgrade-default c =
+    let found = found_of c.in-Some-upgrade-default.upgrade.now in
+    asked_in (subcommand_rows_of c.args.matches.now) (codes "upgrade") (rows_of found) _ (search rules)
+    (sym c.in-Some-upgrade-default.ensures.rows) (record {
+      command = refl;
+      values = sym (first_value-rows found (codes "FILE")) ∙ sym c.in_ok-file_of-in-Some-upgrade-default.ensures;
+      in_range = tt;
+    })

@@ -18,10 +18,12 @@ returns c =
     ∙ ap (λ (a : App). with_subcommand a (file_app (codes "audit")).top) classify_is in
     let play_is = c.in_ok-play.ensures _ _ c.in_ok-subcommand-3.ensures
     ∙ ap (λ (a : App). with_subcommand a (file_app (codes "play")).top) audit_is in
+    let upgrade_is = c.in_ok-upgrade.ensures _ _ c.in_ok-subcommand-4.ensures
+    ∙ ap (λ (a : App). with_subcommand a (file_app (codes "upgrade")).top) play_is in
     let run = c.in_ok-run.ensures in
-    IfOk-weaker c.subcommand-4.result _ _ (λ r h. record {
+    IfOk-weaker c.subcommand-5.result _ _ (λ r h. record {
       kinds = run.kinds;
       samples = run.samples;
       names = run.names;
-      is = run.is _ _ h ∙ ap (λ (a : App). with_subcommand a (run_app run.kinds run.samples).top) play_is;
-    }) c.subcommand-4.ensures
+      is = run.is _ _ h ∙ ap (λ (a : App). with_subcommand a (run_app run.kinds run.samples).top) upgrade_is;
+    }) c.subcommand-5.ensures

@@ -4,9 +4,8 @@ use Rattle.monk_history.specs.Meaning.Monitor.{monitor}
 use Rattle.monk_history.specs.Meaning.Reasons.{reason_in}
 use Rattle.monk_history.specs.Meaning.Step.{opening_situation}
 use Rattle.monk_history.specs.Text.Words.{◌>>=◌}
-use Rattle.monk_history.specs.Text.Lines.{items_left}
-use Rattle.monk_history.specs.Text.Reading.{event_at}
 use Rattle.monk_history.proofs.PublicLaws.Meaning.{same_situation}
+use Rattle.monk_audit.specs.Reading.{events_left}
 use Rattle.monk_audit.specs.Replay.{replay_situation}
 use Rattle.monk_audit.proofs.ReadingLaws.{judged_start, judged_end, judged_more, judged_forbidden, reason_there}
 use Rattle.monk_audit.proofs.ReadingLaws.{item_found, none_found, room_found}
@@ -23,7 +22,7 @@ loop-event-init g c =
     in
     record {
       so_far = judged_start m (replay_situation c.in_ok-replay.replay (g.T.Guarded.state c.args.object))
-          (items_left event_at c.args.lines) stands;
+          (events_left c.args.header.now c.args.lines) stands;
       room = omega arith;
       seats = new.seats ∙ c.seats.ensures;
       conds = new.conds;
@@ -38,9 +37,11 @@ result_is g c =
     cc
 
 item_is : (g : _) (c : In-Ok-Some g)
-    → items_left event_at
-    c.loop-event.lines ≡ (items_left event_at c.next.new.self >>= λ es. Ok (c.in-Ok-Some.event ∷ es))
-item_is g c = item_found c.next.result _ (items_left event_at c.next.new.self) c.in-Ok-Some.event (result_is g c) c.next.ensures.item
+    → events_left c.args.header.now c.loop-event.lines
+    ≡ (events_left c.args.header.now c.next.new.self >>= λ es. Ok (c.in-Ok-Some.event ∷ es))
+item_is g c =
+    item_found c.next.result _ (events_left c.args.header.now c.next.new.self) c.in-Ok-Some.event (result_is g c)
+    c.next.ensures.item
 
 reason_is : (g : _) (c : In_ok-reason g)
     → c.in_ok-reason.reason ≡ reason_in
@@ -56,7 +57,7 @@ reason_is g c =
 pub returns-then-reason-ne-ALLOWED : goal.returns-then-reason-ne-ALLOWED
 returns-then-reason-ne-ALLOWED g c =
     judged_forbidden _ c.loop-event.count c.in_ok-reason.reason _ c.in-Ok-Some.event
-    (items_left event_at c.loop-event.lines) (items_left event_at c.next.new.self) _
+    (events_left c.args.header.now c.loop-event.lines) (events_left c.args.header.now c.next.new.self) _
     (item_is g (goal.at.returns-then-reason-ne-ALLOWED g c).In-Ok-Some)
     (reason_is g (goal.at.returns-then-reason-ne-ALLOWED g c).In_ok-reason) c.if-reason-ne-ALLOWED.true
     c.loop-event.invariant.so_far c.in_ok-read_through.ensures
@@ -67,7 +68,7 @@ loop-event-preserved g c =
       so_far =
           judged_more _ c.loop-event.count c.in_ok-reason.reason _
           (replay_situation c.judge.new.self (g.T.Guarded.state c.judge.new.object)) c.in-Ok-Some.event
-          (items_left event_at c.loop-event.lines) (items_left event_at c.next.new.self) _
+          (events_left c.args.header.now c.loop-event.lines) (events_left c.args.header.now c.next.new.self) _
           (item_is g (goal.at.loop-event-preserved g c).In-Ok-Some)
           (reason_is g (goal.at.loop-event-preserved g c).In_ok-reason) c.if-reason-ne-ALLOWED.false
           (c.in_ok-reason.ensures.after c.if-reason-ne-ALLOWED.false) c.loop-event.invariant.so_far;
@@ -87,6 +88,6 @@ returns-in-Ok-None g c =
     let a = c.in-Ok-None.is in
     let b = c.in-Ok-None.field-0-is in
     let nothing : c.next.result ≡ Ok None = cc in
-    judged_end _ c.loop-event.count _ (items_left event_at c.loop-event.lines) _
-    (none_found c.next.result _ (items_left event_at c.next.new.self) nothing c.next.ensures.item)
+    judged_end _ c.loop-event.count _ (events_left c.args.header.now c.loop-event.lines) _
+    (none_found c.next.result _ (events_left c.args.header.now c.next.new.self) nothing c.next.ensures.item)
     c.loop-event.invariant.so_far

@@ -1,10 +1,11 @@
-use Rattle.std.proofs.Common.{◌<◌, ap, subst, sym, ◌∙◌, arith}
+use Rattle.std.proofs.Common.{◌≡◌, ◌<◌, true, ap, subst, sym, ◌∙◌, arith}
 use Rattle.std.specs.Prelude.{slice_set}
-use Rattle.monk_history.specs.Limits.{most_seats}
+use Rattle.monk_history.specs.Limits.{most_seats, most_conds}
+use Rattle.monk_history.specs.Meaning.Reasons.{is_condition}
 use Rattle.monk_history.specs.Meaning.Signallers.{is_empty}
-use Rattle.monk_history.specs.Meaning.Events.{seat_of}
+use Rattle.monk_history.specs.Meaning.Events.{seat_of, signals_on}
 use Rattle.monk_floor.specs.Queues.{queue_at, lists_of, in_lists, IsServed}
-use Rattle.monk_floor.proofs.ShownLaws.{places_none, waiting, signalling, leaving, until}
+use Rattle.monk_floor.proofs.ShownLaws.{places_none, passed_apart, waiting, signalling, leaving, serving_all, serving_waiting, until}
 use Rattle.monk_floor.proofs.queues.Queues.join.Goals as goal
 
 pub push-requires-clause-apart : goal.push-requires-clause-apart
@@ -54,3 +55,25 @@ returns-then-not-is_stay c =
     (places_none c.in-Until.seat c.self.inside.predicates c.self.inside.links
     ((λ i. in_lists (seat_of (sym c.in-Until.is i)) (c.self.view_is i)) ∙ c.requires.apart))
     c.push-then-not-is_stay.ensures)
+
+pub returns-in-SignalAll : goal.returns-in-SignalAll
+returns-in-SignalAll c =
+    subst (λ q. IsServed q c.args.event (lists_of c.self.inside.predicates c.pass_all.new.self)) c.self.view_is
+    (serving_all c.self.inside.predicates c.self.inside.links c.args.event c.in-SignalAll.field-0 c.in-SignalAll.cond
+    c.condition-in-SignalAll.result c.pass_all.new.self c.in-SignalAll.is c.condition-in-SignalAll.ensures c.pass_all.ensures)
+
+pub push-requires-in-SignalWait-clause-apart : goal.push-requires-in-SignalWait-clause-apart
+push-requires-in-SignalWait-clause-apart c =
+    let low = subst (λ e. is_condition most_conds (signals_on e) ≡ true) c.in-SignalWait.is c.requires.signals_in_range in
+    passed_apart c.in-SignalWait.seat c.in-SignalWait.cond c.condition-in-SignalWait.result c.self.inside.links
+    c.pass-in-SignalWait.new.self c.condition-in-SignalWait.ensures (grind (arith, low)) c.pass-in-SignalWait.ensures
+    (places_none c.in-SignalWait.seat c.self.inside.predicates c.self.inside.links
+    ((λ i. in_lists (seat_of (sym c.in-SignalWait.is i)) (c.self.view_is i)) ∙ c.requires.apart))
+
+pub returns-in-SignalWait : goal.returns-in-SignalWait
+returns-in-SignalWait c =
+    subst (λ q. IsServed q c.args.event (lists_of c.self.inside.predicates c.push-in-SignalWait.new.self)) c.self.view_is
+    (serving_waiting c.self.inside.predicates c.self.inside.links c.args.event c.in-SignalWait.seat c.in-SignalWait.cond
+    c.in-SignalWait.wait_cond c.in-SignalWait.field-3 c.condition-in-SignalWait.result c.condition-in-SignalWait-2.result
+    c.pass-in-SignalWait.new.self c.push-in-SignalWait.new.self c.in-SignalWait.is c.condition-in-SignalWait.ensures
+    c.condition-in-SignalWait-2.ensures c.pass-in-SignalWait.ensures c.push-in-SignalWait.ensures)

@@ -1,4 +1,4 @@
-use Rattle.std.proofs.Common.{ap, sym, ◌∙◌}
+use Rattle.std.proofs.Common.{ap, sym, ◌∙◌, arith}
 use Rattle.std.specs.Prelude.{codes}
 use Rattle.monk_history.specs.Text.Words.{is_next}
 use Rattle.monk_history.specs.declared.text.verb.Verb.TheVariants as verb
@@ -6,56 +6,93 @@ use Rattle.monk_history.proofs.TextLaws.EventWords.{verb-next, verb-none}
 use Rattle.monk_history.proofs.text.event_line.verb.Goals as goal
 
 pub returns-then-takes : goal.returns-then-takes
-returns-then-takes c = verb-next verb.Enter c.args.words.now c.takes.new.self (c.takes.ensures.taken c.if-takes.true)
+returns-then-takes c =
+    verb-next c.args.version verb.Enter c.args.words.now c.takes.new.self c.requires
+    (c.takes.ensures.taken c.if-takes.true)
 
 pub returns-then-takes-2 : goal.returns-then-takes-2
 returns-then-takes-2 c =
-    verb-next verb.Act c.args.words.now c.takes-else-takes.new.self
+    verb-next c.args.version verb.Act c.args.words.now c.takes-else-takes.new.self c.requires
     (c.takes.ensures.left c.if-takes.false ∙ c.takes-else-takes.ensures.taken c.if-takes-2.true)
 
 pub returns-then-takes-3 : goal.returns-then-takes-3
 returns-then-takes-3 c =
-    verb-next verb.Leave c.args.words.now c.takes-else-takes-2.new.self
+    verb-next c.args.version verb.Leave c.args.words.now c.takes-else-takes-2.new.self c.requires
     (c.takes.ensures.left c.if-takes.false ∙ c.takes-else-takes.ensures.left c.if-takes-2.false
     ∙ c.takes-else-takes-2.ensures.taken c.if-takes-3.true)
 
 pub returns-then-takes-4 : goal.returns-then-takes-4
 returns-then-takes-4 c =
-    verb-next verb.Wait c.args.words.now c.takes-else-takes-3.new.self
+    verb-next c.args.version verb.Wait c.args.words.now c.takes-else-takes-3.new.self c.requires
     (c.takes.ensures.left c.if-takes.false ∙ c.takes-else-takes.ensures.left c.if-takes-2.false
-    ∙ c.takes-else-takes-2.ensures.left c.if-takes-3.false ∙ c.takes-else-takes-3.ensures.taken c.if-takes-4.true)
+    ∙ c.takes-else-takes-2.ensures.left c.if-takes-3.false
+    ∙ c.takes-else-takes-3.ensures.taken c.if-takes-4.true)
 
 pub returns-then-takes-5 : goal.returns-then-takes-5
 returns-then-takes-5 c =
-    verb-next verb.Signal c.args.words.now c.takes-else-takes-4.new.self
+    verb-next c.args.version verb.Signal c.args.words.now c.takes-else-takes-4.new.self c.requires
     (c.takes.ensures.left c.if-takes.false ∙ c.takes-else-takes.ensures.left c.if-takes-2.false
-    ∙ c.takes-else-takes-2.ensures.left c.if-takes-3.false ∙ c.takes-else-takes-3.ensures.left c.if-takes-4.false
+    ∙ c.takes-else-takes-2.ensures.left c.if-takes-3.false
+    ∙ c.takes-else-takes-3.ensures.left c.if-takes-4.false
     ∙ c.takes-else-takes-4.ensures.taken c.if-takes-5.true)
 
 pub returns-then-takes-6 : goal.returns-then-takes-6
-returns-then-takes-6 c = verb-next verb.SignalLeave c.args.words.now c.takes-else-takes-5.new.self
+returns-then-takes-6 c =
+    verb-next c.args.version verb.SignalLeave c.args.words.now c.takes-else-takes-5.new.self c.requires
     (c.takes.ensures.left c.if-takes.false ∙ c.takes-else-takes.ensures.left c.if-takes-2.false
-    ∙ c.takes-else-takes-2.ensures.left c.if-takes-3.false ∙ c.takes-else-takes-3.ensures.left c.if-takes-4.false
-    ∙ c.takes-else-takes-4.ensures.left c.if-takes-5.false ∙ c.takes-else-takes-5.ensures.taken c.if-takes-6.true)
+    ∙ c.takes-else-takes-2.ensures.left c.if-takes-3.false
+    ∙ c.takes-else-takes-3.ensures.left c.if-takes-4.false
+    ∙ c.takes-else-takes-4.ensures.left c.if-takes-5.false
+    ∙ c.takes-else-takes-5.ensures.taken c.if-takes-6.true)
 
 pub returns-then-takes-7 : goal.returns-then-takes-7
 returns-then-takes-7 c =
-    verb-next verb.Until c.args.words.now c.takes-else-takes-6.new.self
+    verb-next c.args.version verb.Until c.args.words.now c.takes-else-takes-6.new.self c.requires
     (c.takes.ensures.left c.if-takes.false ∙ c.takes-else-takes.ensures.left c.if-takes-2.false
-    ∙ c.takes-else-takes-2.ensures.left c.if-takes-3.false ∙ c.takes-else-takes-3.ensures.left c.if-takes-4.false
-    ∙ c.takes-else-takes-4.ensures.left c.if-takes-5.false ∙ c.takes-else-takes-5.ensures.left c.if-takes-6.false
+    ∙ c.takes-else-takes-2.ensures.left c.if-takes-3.false
+    ∙ c.takes-else-takes-3.ensures.left c.if-takes-4.false
+    ∙ c.takes-else-takes-4.ensures.left c.if-takes-5.false
+    ∙ c.takes-else-takes-5.ensures.left c.if-takes-6.false
     ∙ c.takes-else-takes-6.ensures.taken c.if-takes-7.true)
 
 pub returns-then-takes-8 : goal.returns-then-takes-8
 returns-then-takes-8 c =
-    verb-next verb.Resume c.args.words.now c.takes-else-takes-7.new.self
+    verb-next c.args.version verb.Resume c.args.words.now c.takes-else-takes-7.new.self c.requires
     (c.takes.ensures.left c.if-takes.false ∙ c.takes-else-takes.ensures.left c.if-takes-2.false
-    ∙ c.takes-else-takes-2.ensures.left c.if-takes-3.false ∙ c.takes-else-takes-3.ensures.left c.if-takes-4.false
-    ∙ c.takes-else-takes-4.ensures.left c.if-takes-5.false ∙ c.takes-else-takes-5.ensures.left c.if-takes-6.false
-    ∙ c.takes-else-takes-6.ensures.left c.if-takes-7.false ∙ c.takes-else-takes-7.ensures.taken c.if-takes-8.true)
+    ∙ c.takes-else-takes-2.ensures.left c.if-takes-3.false
+    ∙ c.takes-else-takes-3.ensures.left c.if-takes-4.false
+    ∙ c.takes-else-takes-4.ensures.left c.if-takes-5.false
+    ∙ c.takes-else-takes-5.ensures.left c.if-takes-6.false
+    ∙ c.takes-else-takes-6.ensures.left c.if-takes-7.false
+    ∙ c.takes-else-takes-7.ensures.taken c.if-takes-8.true)
 
-pub returns-else-takes-8 : goal.returns-else-takes-8
-returns-else-takes-8 c =
+pub returns-then-takes-9 : goal.returns-then-takes-9
+returns-then-takes-9 c =
+    verb-next c.args.version verb.SignalAll c.args.words.now c.takes-else-version-lt2.new.self (omega (arith, c.if-version-lt2.false))
+    (c.takes.ensures.left c.if-takes.false ∙ c.takes-else-takes.ensures.left c.if-takes-2.false
+    ∙ c.takes-else-takes-2.ensures.left c.if-takes-3.false
+    ∙ c.takes-else-takes-3.ensures.left c.if-takes-4.false
+    ∙ c.takes-else-takes-4.ensures.left c.if-takes-5.false
+    ∙ c.takes-else-takes-5.ensures.left c.if-takes-6.false
+    ∙ c.takes-else-takes-6.ensures.left c.if-takes-7.false
+    ∙ c.takes-else-takes-7.ensures.left c.if-takes-8.false
+    ∙ c.takes-else-version-lt2.ensures.taken c.if-takes-9.true)
+
+pub returns-then-takes-10 : goal.returns-then-takes-10
+returns-then-takes-10 c =
+    verb-next c.args.version verb.SignalWait c.args.words.now c.takes-else-takes-9.new.self (omega (arith, c.if-version-lt2.false))
+    (c.takes.ensures.left c.if-takes.false ∙ c.takes-else-takes.ensures.left c.if-takes-2.false
+    ∙ c.takes-else-takes-2.ensures.left c.if-takes-3.false
+    ∙ c.takes-else-takes-3.ensures.left c.if-takes-4.false
+    ∙ c.takes-else-takes-4.ensures.left c.if-takes-5.false
+    ∙ c.takes-else-takes-5.ensures.left c.if-takes-6.false
+    ∙ c.takes-else-takes-6.ensures.left c.if-takes-7.false
+    ∙ c.takes-else-takes-7.ensures.left c.if-takes-8.false
+    ∙ c.takes-else-version-lt2.ensures.left c.if-takes-9.false
+    ∙ c.takes-else-takes-9.ensures.taken c.if-takes-10.true)
+
+pub returns-then-version-lt2 : goal.returns-then-version-lt2
+returns-then-version-lt2 c =
     let same2 = c.takes.ensures.left c.if-takes.false in
     let same3 = same2 ∙ c.takes-else-takes.ensures.left c.if-takes-2.false in
     let same4 = same3 ∙ c.takes-else-takes-2.ensures.left c.if-takes-3.false in
@@ -63,12 +100,40 @@ returns-else-takes-8 c =
     let same6 = same5 ∙ c.takes-else-takes-4.ensures.left c.if-takes-5.false in
     let same7 = same6 ∙ c.takes-else-takes-5.ensures.left c.if-takes-6.false in
     let same8 = same7 ∙ c.takes-else-takes-6.ensures.left c.if-takes-7.false in
-    verb-none c.args.words.now
-    (sym c.takes.ensures.is ∙ c.if-takes.false)
-    (ap (is_next (codes "act")) same2 ∙ sym c.takes-else-takes.ensures.is ∙ c.if-takes-2.false)
-    (ap (is_next (codes "leave")) same3 ∙ sym c.takes-else-takes-2.ensures.is ∙ c.if-takes-3.false)
-    (ap (is_next (codes "wait")) same4 ∙ sym c.takes-else-takes-3.ensures.is ∙ c.if-takes-4.false)
-    (ap (is_next (codes "signal")) same5 ∙ sym c.takes-else-takes-4.ensures.is ∙ c.if-takes-5.false)
-    (ap (is_next (codes "signal-leave")) same6 ∙ sym c.takes-else-takes-5.ensures.is ∙ c.if-takes-6.false)
-    (ap (is_next (codes "until")) same7 ∙ sym c.takes-else-takes-6.ensures.is ∙ c.if-takes-7.false)
-    (ap (is_next (codes "resume")) same8 ∙ sym c.takes-else-takes-7.ensures.is ∙ c.if-takes-8.false)
+    verb-none c.args.version c.args.words.now
+    record {
+      enter = sym c.takes.ensures.is ∙ c.if-takes.false;
+      act = ap (is_next (codes "act")) same2 ∙ sym c.takes-else-takes.ensures.is ∙ c.if-takes-2.false;
+      leave = ap (is_next (codes "leave")) same3 ∙ sym c.takes-else-takes-2.ensures.is ∙ c.if-takes-3.false;
+      wait = ap (is_next (codes "wait")) same4 ∙ sym c.takes-else-takes-3.ensures.is ∙ c.if-takes-4.false;
+      signal = ap (is_next (codes "signal")) same5 ∙ sym c.takes-else-takes-4.ensures.is ∙ c.if-takes-5.false;
+      signal_leave = ap (is_next (codes "signal-leave")) same6 ∙ sym c.takes-else-takes-5.ensures.is ∙ c.if-takes-6.false;
+      until = ap (is_next (codes "until")) same7 ∙ sym c.takes-else-takes-6.ensures.is ∙ c.if-takes-7.false;
+      resume = ap (is_next (codes "resume")) same8 ∙ sym c.takes-else-takes-7.ensures.is ∙ c.if-takes-8.false;
+    } (λ has. absurd (omega (arith, has, c.if-version-lt2.true)))
+
+pub returns-else-takes-10 : goal.returns-else-takes-10
+returns-else-takes-10 c =
+    let same2 = c.takes.ensures.left c.if-takes.false in
+    let same3 = same2 ∙ c.takes-else-takes.ensures.left c.if-takes-2.false in
+    let same4 = same3 ∙ c.takes-else-takes-2.ensures.left c.if-takes-3.false in
+    let same5 = same4 ∙ c.takes-else-takes-3.ensures.left c.if-takes-4.false in
+    let same6 = same5 ∙ c.takes-else-takes-4.ensures.left c.if-takes-5.false in
+    let same7 = same6 ∙ c.takes-else-takes-5.ensures.left c.if-takes-6.false in
+    let same8 = same7 ∙ c.takes-else-takes-6.ensures.left c.if-takes-7.false in
+    let same9 = same8 ∙ c.takes-else-takes-7.ensures.left c.if-takes-8.false in
+    let same10 = same9 ∙ c.takes-else-version-lt2.ensures.left c.if-takes-9.false in
+    verb-none c.args.version c.args.words.now
+    record {
+      enter = sym c.takes.ensures.is ∙ c.if-takes.false;
+      act = ap (is_next (codes "act")) same2 ∙ sym c.takes-else-takes.ensures.is ∙ c.if-takes-2.false;
+      leave = ap (is_next (codes "leave")) same3 ∙ sym c.takes-else-takes-2.ensures.is ∙ c.if-takes-3.false;
+      wait = ap (is_next (codes "wait")) same4 ∙ sym c.takes-else-takes-3.ensures.is ∙ c.if-takes-4.false;
+      signal = ap (is_next (codes "signal")) same5 ∙ sym c.takes-else-takes-4.ensures.is ∙ c.if-takes-5.false;
+      signal_leave = ap (is_next (codes "signal-leave")) same6 ∙ sym c.takes-else-takes-5.ensures.is ∙ c.if-takes-6.false;
+      until = ap (is_next (codes "until")) same7 ∙ sym c.takes-else-takes-6.ensures.is ∙ c.if-takes-7.false;
+      resume = ap (is_next (codes "resume")) same8 ∙ sym c.takes-else-takes-7.ensures.is ∙ c.if-takes-8.false;
+    } (λ has. (
+      ap (is_next (codes "signal-all")) same9 ∙ sym c.takes-else-version-lt2.ensures.is ∙ c.if-takes-9.false,
+      ap (is_next (codes "signal-wait")) same10 ∙ sym c.takes-else-takes-9.ensures.is ∙ c.if-takes-10.false,
+    ))

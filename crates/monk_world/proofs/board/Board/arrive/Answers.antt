@@ -1,4 +1,4 @@
-use Rattle.std.proofs.Common.{ℕ, ◌+◌, ◌-◌, refl, ap}
+use Rattle.std.proofs.Common.{ℕ, ◌+◌, refl, ap}
 use Rattle.monk_world.specs.Steps.{place_after_arrive}
 use Rattle.monk_world.specs.Board.{world_on, state_in}
 use Rattle.monk_world.specs.declared.place.Place.{Place}

@@ -1,4 +1,4 @@
-use Rattle.std.proofs.Common.{◌-◌, cond, refl, ap, ◌∙◌}
+use Rattle.std.proofs.Common.{cond, refl, ap, ◌∙◌}
 use Rattle.monk_world.specs.declared.place.Place.{Place}
 use Rattle.monk_world.specs.declared.place.Place.TheVariants.{Back}
 use Rattle.monk_world.proofs.StoredLaws.{settled, place_read}

@@ -1,4 +1,4 @@
-use Rattle.std.proofs.Common.{ℕ, ◌-◌, set, Bool, false, refl, ap, ◌∙◌}
+use Rattle.std.proofs.Common.{ℕ, set, Bool, false, refl, ap, ◌∙◌}
 use Rattle.std.specs.Prelude.{slice_index_or}
 use Rattle.monk_world.specs.Put.{put}
 use Rattle.monk_world.specs.Board.{world_on, state_in}

@@ -1,4 +1,4 @@
-use Rattle.std.proofs.Common.{ℕ, ◌-◌, ◌||◌, Bool, false, refl, ap, ◌∙◌}
+use Rattle.std.proofs.Common.{ℕ, ◌||◌, Bool, false, refl, ap, ◌∙◌}
 use Rattle.std.specs.Prelude.{nat_le, slice_index_or}
 use Rattle.monk_world.specs.Board.{state_in}
 use Rattle.monk_world.proofs.StoredLaws.{known_stored, known_read}

@@ -35,6 +35,8 @@ offers k i (command.Wait cond pick) e = e
 offers k i (command.Signal cond pick) e = e
 offers k i (command.SignalLeave cond pick) e = e
 offers k i (command.Until pred pick) e = e
+offers k i (command.SignalAll cond) e = e
+offers k i (command.SignalWait cond wait_cond pick) e = e
 
 pub returns-then-not-may_be_told : goal.returns-then-not-may_be_told
 returns-then-not-may_be_told g c =

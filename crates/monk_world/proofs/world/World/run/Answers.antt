@@ -6,7 +6,7 @@ use Rattle.monk_world.specs.Board.{WorldView, state_of_view}
 use Rattle.monk_world.specs.declared.command.Command.{Command}
 use Rattle.monk_world.specs.declared.command.Command.TheVariants.{Arrive}
 use Rattle.monk_world.proofs.LedLaws.{led_more}
-use Rattle.monk_world.proofs.RecordLaws.{runs_are_recorded}
+use Rattle.monk_world.proofs.RecordLaws.{keeps_version, runs_are_recorded}
 use Rattle.monk_world.proofs.RunLaws.{run_is_sound, well_led}
 use Rattle.monk_world.proofs.world.World.run.Goals as goal
 
@@ -31,6 +31,11 @@ returns-clause-recorded g c =
     let led = subst (λ (cs : List (ℕ × Command)). IsLed g.K.Kind.rules g.T.Guarded.meaning first cs last)
     (take_all _ c.args.commands.now c.loop-seat-test.false) c.loop-seat.invariant in
     runs_are_recorded g.K.Kind.rules g.T.Guarded.meaning first c.args.commands.now last g.K.Kind.is_kind sound led
+
+pub returns-clause-versions : goal.returns-clause-versions
+returns-clause-versions g c =
+    keeps_version g.K.Kind.rules g.T.Guarded.meaning (state_of_view c.args.self.now) c.args.commands.now
+    (state_of_view c.loop-seat.self) (returns-clause-recorded g c)
 
 pub returns-clause-well_led : goal.returns-clause-well_led
 returns-clause-well_led g c =

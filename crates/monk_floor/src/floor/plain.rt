@@ -1,0 +1,127 @@
+//! The calls by the general scheduler step, which serve any kind that has them.
+ghost use Rattle.std.specs.Prelude.{◌≡◌, ◌<◌, length};
+ghost use Rattle.monk_history.specs.Meaning.Conditions.{condition};
+ghost use Rattle.monk_history.specs.Meaning.Counts.{left_of};
+ghost use Rattle.monk_floor.specs.Chosen.{HasChosen};
+ghost use Rattle.monk_floor.specs.Grown.{IsGrown};
+ghost use Rattle.monk_floor.specs.Releases.{MayCallOn};
+
+use crate::floor::Floor;
+use monk_history::{Event, Next};
+use monk_kinds::{Kind, Pick};
+use monk_object::Guarded;
+
+impl<K: Kind, T: Guarded> Floor<K, T> {
+    /// The active seat leaves the monitor, by the general scheduler step.
+    ///
+    /// The step chooses who goes on, among the queues as they are after the release's own moves. The front of the
+    /// waiter queue (under automatic kinds the first ready seat) may be chosen where no signaller of greater priority
+    /// waits, the front of the signaller queue where no waiter of greater priority does, and entry where neither has a
+    /// greater priority than entry. The survey leaves free which of several is chosen: `pick` is taken where it may be
+    /// chosen, entry only if `entry_known` says that somebody waits for it. Otherwise the waiter goes before the
+    /// signaller, and entry is chosen where nobody else could be.
+    ///
+    /// Costs a judgement of the predicate of each wait-until up to the first that is ready: constant time where there
+    /// are none. So does each call of the general scheduler step.
+    pub fn plain_leave(&mut self, seat: u8, pick: Pick, entry_known: bool) -> Next
+        requires call { MayCallOn K.rules T.meaning self.old (Event.Leave seat Next.Stay) }
+        requires left { 0 < left_of self.old.budget self.old.history seat }
+        ensures { HasChosen K.rules T.meaning self.old (Event.Leave seat) entry_known pick result self.new }
+    {
+        let next = self.next_by(Event::Leave(seat, Next::Stay), entry_known, pick);
+        self.append(Event::Leave(seat, next));
+        next
+    }
+
+    /// The active seat waits on a condition variable, by the general scheduler step. It joins the back of that
+    /// condition's queue, and somebody else goes on. Costs what `plain_leave` costs.
+    pub fn plain_wait(&mut self, seat: u8, cond: u8, pick: Pick, entry_known: bool) -> Next
+        requires call { MayCallOn K.rules T.meaning self.old (Event.Wait seat cond Next.Stay) }
+        requires left { 0 < left_of self.old.budget self.old.history seat }
+        ensures { HasChosen K.rules T.meaning self.old (Event.Wait seat cond) entry_known pick result self.new }
+    {
+        let next = self.next_by(Event::Wait(seat, cond, Next::Stay), entry_known, pick);
+        self.append(Event::Wait(seat, cond, next));
+        next
+    }
+
+    /// The active seat signals a condition variable, by the general scheduler step. The first that waits on it joins
+    /// the waiter queue and the caller the signaller queue. `Next::Stay` is answered where the caller goes on: it was
+    /// chosen from the signaller queue, or nobody waits on the condition and the signal is forgotten. Costs what
+    /// `plain_leave` costs.
+    pub fn plain_signal(&mut self, seat: u8, cond: u8, pick: Pick, entry_known: bool) -> Next
+        requires call { MayCallOn K.rules T.meaning self.old (Event.Signal seat cond Next.Stay) }
+        requires left { 0 < left_of self.old.budget self.old.history seat }
+        ensures { HasChosen K.rules T.meaning self.old (Event.Signal seat cond) entry_known pick result self.new }
+    {
+        let next = self.next_by(Event::Signal(seat, cond, Next::Stay), entry_known, pick);
+        self.append(Event::Signal(seat, cond, next));
+        next
+    }
+
+    /// The active seat signals a condition variable and leaves the monitor, by the general scheduler step. It leaves
+    /// also where nobody waits on the condition. Costs what `plain_leave` costs.
+    pub fn plain_signal_leave(&mut self, seat: u8, cond: u8, pick: Pick, entry_known: bool) -> Next
+        requires call { MayCallOn K.rules T.meaning self.old (Event.SignalLeave seat cond Next.Stay) }
+        requires left { 0 < left_of self.old.budget self.old.history seat }
+        ensures { HasChosen K.rules T.meaning self.old (Event.SignalLeave seat cond) entry_known pick result self.new }
+    {
+        let next = self.next_by(
+            Event::SignalLeave(seat, cond, Next::Stay),
+            entry_known,
+            pick,
+        );
+        self.append(Event::SignalLeave(seat, cond, next));
+        next
+    }
+
+    /// The active seat signals the first condition variable and then waits on the second, by the general scheduler
+    /// step. The first that waits on the one joins the waiter queue, and then the caller the back of the other's queue,
+    /// also where both are one condition: it never serves itself. Where nobody waits on the first, the signal is
+    /// forgotten. Somebody else goes on. Costs what `plain_leave` costs.
+    pub fn plain_signal_wait(
+        &mut self,
+        seat: u8,
+        cond: u8,
+        wait_cond: u8,
+        pick: Pick,
+        entry_known: bool,
+    ) -> Next
+        requires call { MayCallOn K.rules T.meaning self.old (Event.SignalWait seat cond wait_cond Next.Stay) }
+        requires left { 0 < left_of self.old.budget self.old.history seat }
+        ensures { HasChosen K.rules T.meaning self.old (Event.SignalWait seat cond wait_cond) entry_known pick result self.new }
+    {
+        let next = self.next_by(
+            Event::SignalWait(seat, cond, wait_cond, Next::Stay),
+            entry_known,
+            pick,
+        );
+        self.append(Event::SignalWait(seat, cond, wait_cond, next));
+        next
+    }
+
+    /// The active seat signals all who wait on a condition variable, and goes on. They join the back of the waiter queue
+    /// in their order. Answers how many they are. Nobody is chosen. Constant time.
+    pub fn plain_signal_all(&mut self, seat: u8, cond: u8) -> u32
+        requires call { MayCallOn K.rules T.meaning self.old (Event.SignalAll seat cond) }
+        requires left { 0 < left_of self.old.budget self.old.history seat }
+        ensures grown { IsGrown K.rules T.meaning self.old (Event.SignalAll seat cond) self.new }
+        ensures served { result ≡ length (condition cond self.old.history) }
+    {
+        let served = self.waiting(cond);
+        self.append(Event::SignalAll(seat, cond));
+        served
+    }
+
+    /// The active seat waits until a predicate holds of the data, by the general scheduler step. Where it holds at once
+    /// the seat stays. Costs what `plain_leave` costs.
+    pub fn plain_until(&mut self, seat: u8, pred: u8, pick: Pick, entry_known: bool) -> Next
+        requires call { MayCallOn K.rules T.meaning self.old (Event.Until seat pred Next.Stay) }
+        requires left { 0 < left_of self.old.budget self.old.history seat }
+        ensures { HasChosen K.rules T.meaning self.old (Event.Until seat pred) entry_known pick result self.new }
+    {
+        let next = self.next_by(Event::Until(seat, pred, Next::Stay), entry_known, pick);
+        self.append(Event::Until(seat, pred, next));
+        next
+    }
+}

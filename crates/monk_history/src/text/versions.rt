@@ -1,0 +1,35 @@
+//! Which events the versions of a text have.
+
+ghost use Rattle.std.specs.Prelude.{◌≡◌};
+ghost use Rattle.monk_history.specs.Text.{first_version, is_writable};
+
+use crate::event::Event;
+use crate::text::header::Header;
+
+/// The first version of a text that has a line of the event.
+fn first_version(event: Event) -> u8
+    ensures { result ≡ first_version event }
+{
+    match event {
+        Event::Enter(..)
+        | Event::Act(..)
+        | Event::Leave(..)
+        | Event::Wait(..)
+        | Event::Signal(..)
+        | Event::SignalLeave(..)
+        | Event::Until(..)
+        | Event::Resume(..) => 1,
+        Event::SignalAll(..) | Event::SignalWait(..) => 2,
+    }
+}
+
+/// Whether the header and the events have a text: the header's version is 2, or none of the events is an
+/// [`Event::SignalAll`] or an [`Event::SignalWait`].
+///
+/// It looks at the events up to the first that has no line in the header's version, each once, and takes no memory.
+pub fn writable(header: &Header, events: &[Event]) -> bool
+    ensures { result ≡ is_writable header.now events.now }
+{
+    let version = header.version();
+    events.iter().all(|event| first_version(*event) <= version)
+}

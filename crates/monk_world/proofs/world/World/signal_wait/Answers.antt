@@ -1,0 +1,24 @@
+use Rattle.std.proofs.Common.{refl}
+use Rattle.monk_history.specs.declared.event.Event.TheVariants.{SignalWait}
+use Rattle.monk_history.specs.declared.event.Next.TheVariants as next
+use Rattle.monk_world.specs.declared.command.Command.TheVariants as command
+use Rattle.monk_world.specs.declared.home.Home.TheVariants as home
+use Rattle.monk_world.proofs.WorldLaws as world
+use Rattle.monk_world.proofs.world.World.signal_wait.Goals as goal
+
+pub invariant_of-self : goal.invariant_of-self
+invariant_of-self g c =
+    (world.release_done g.K.Kind.rules g.T.Guarded.meaning c.self.inside.words c.self.inside.floor c.args.self.now
+    c.self.view_is c.args.seat (command.SignalWait c.args.cond c.args.wait_cond c.args.pick)
+    (SignalWait c.args.seat c.args.cond c.args.wait_cond next.Stay) c.args.pick home.Inner
+    c.requires refl (λ q d. d) c.knows-known.ensures c.plain_signal_wait-next.ensures.choice c.plain_signal_wait-next.ensures.grown.grown
+    c.floor_in.ensures.answer c.floor_in.ensures.shows).1
+    c.self.inside.conds g.K.Kind.is_kind c.self.invariant c.floor_in.ensures.shows.seats
+
+pub returns : goal.returns
+returns g c =
+    (world.release_done g.K.Kind.rules g.T.Guarded.meaning c.self.inside.words c.self.inside.floor c.args.self.now
+    c.self.view_is c.args.seat (command.SignalWait c.args.cond c.args.wait_cond c.args.pick)
+    (SignalWait c.args.seat c.args.cond c.args.wait_cond next.Stay) c.args.pick home.Inner
+    c.requires refl (λ q d. d) c.knows-known.ensures c.plain_signal_wait-next.ensures.choice c.plain_signal_wait-next.ensures.grown.grown
+    c.floor_in.ensures.answer c.floor_in.ensures.shows).0
