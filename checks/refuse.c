@@ -1,23 +1,28 @@
-/* Loaded before the C library: refuses the Nth request for memory, N being the number in REFUSE, and writes
-   to the file descriptor in TELL how many there were. A program that may start threads ends by `_exit`, which runs no
-   destructor, so that is met too. */
+/* Loaded before the C library: refuses the Nth request for memory, N being the number in REFUSE, and the start of the
+   Nth thread, N being that in REFUSE_THREAD, and writes to the file descriptor in TELL how many of each there were. A
+   program that may start threads ends by `_exit`, which runs no destructor, so that is met too. */
 #define _GNU_SOURCE
 #include <dlfcn.h>
+#include <errno.h>
+#include <pthread.h>
 #include <stddef.h>
 #include <stdio.h>
 #include <stdlib.h>
 #include <unistd.h>
 
-static _Atomic long seen;
+static _Atomic long requests, threads;
+
+static long number_in(const char *name)
+{
+    const char *text = getenv(name);
+    return text ? atol(text) : 0;
+}
 
 static int is_refused(void)
 {
     static long wanted = -1;
-    if (wanted < 0) {
-        const char *text = getenv("REFUSE");
-        wanted = text ? atol(text) : 0;
-    }
-    return ++seen == wanted;
+    if (wanted < 0) wanted = number_in("REFUSE");
+    return ++requests == wanted;
 }
 
 void *malloc(size_t size)
@@ -34,10 +39,17 @@ void *realloc(void *old, size_t size)
     return is_refused() ? NULL : real(old, size);
 }
 
+int pthread_create(pthread_t *thread, const pthread_attr_t *attr, void *(*start)(void *), void *given)
+{
+    static int (*real)(pthread_t *, const pthread_attr_t *, void *(*)(void *), void *);
+    if (!real) real = (int (*)(pthread_t *, const pthread_attr_t *, void *(*)(void *), void *)) dlsym(RTLD_NEXT, "pthread_create");
+    return ++threads == number_in("REFUSE_THREAD") ? EAGAIN : real(thread, attr, start, given);
+}
+
 __attribute__((destructor)) static void tell(void)
 {
     const char *text = getenv("TELL");
-    if (text) dprintf(atoi(text), "%ld\n", seen);
+    if (text) dprintf(atoi(text), "%ld %ld\n", requests, threads);
 }
 
 void _exit(int status)

@@ -7,7 +7,7 @@ use Rattle.monk.specs.declared.request.Line.{Line}
 use Rattle.std.specs.Prelude.{option_map}
 use Rattle.clap.specs.Words.{Row, Text, one_text, rows_of, is_simple}
 use Rattle.clap.proofs.OnLiterals.{clap_on_literals}
-use Rattle.monk.specs.Request.{HasNumber, IsAsked, IsRead, NameList, monk_app}
+use Rattle.monk.specs.Request.{HasNumber, IsAsked, IsRead, RunNames, monk_app}
 
 -- what is read in the rows of a command is asked for where that command was found
 pub asked_in : (o : Option (Text × List Row)) (word : Text) (rows : List Row) (l : Line)
@@ -32,6 +32,6 @@ number_read E G bits v name f only none value = go (one_text f name) refl
         let read = only t (Ok v) (value t e) in
         record { text = t; found = sym (one_text-rows f name) ∙ e; digits = read.0.0; number = read.1 }
 
-pub monk_is_simple : (k s : NameList) → is_simple (monk_app k s) ≡ true
+pub monk_is_simple : (run recorded : RunNames) → is_simple (monk_app run recorded) ≡ true
 unfolding clap_on_literals
-monk_is_simple k s = refl
+monk_is_simple run recorded = refl

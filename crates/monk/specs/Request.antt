@@ -6,13 +6,14 @@ use Rattle.clap.specs.Words.{AddsSubcommand, App, Row, Rule, Text, app_of, first
 use Rattle.clap.specs.declared.builder.command.Command.{Command}
 use Rattle.clap.specs.declared.builder.value_parser.ValueParser.TheVariants.{Signed, Names}
 use Rattle.clap.specs.declared.builder.value_parser.ValueParser.{ValueParser}
-use Rattle.monk_kinds.specs.Names.{kind_word, kinds}
+use Rattle.monk_kinds.specs.Names.{kind_word, kinds as monitor_kinds}
+use Rattle.monk_kinds.specs.declared.name.KindName.{KindName}
 use Rattle.monk_object.specs.Names.{object_word}
 use Rattle.monk_samples.specs.Samples.{IsInRange, sample_object}
 use Rattle.monk_samples.specs.declared.sample.Sample.{Sample}
 use Rattle.monk_samples.specs.declared.sample.Sample.TheVariants.{Buffer, Book, Shop}
 use Rattle.monk.specs.declared.request.Line.{Line}
-use Rattle.monk.specs.declared.request.Line.TheVariants.{Classify, Audit, Play, Upgrade, Run}
+use Rattle.monk.specs.declared.request.Line.TheVariants.{Classify, Audit, Play, Upgrade, Run, Record}
 
 -- a word that must stand there, and that the parser takes
 abbrev pub required_rule : Text → ValueParser → Rule
@@ -38,18 +39,22 @@ words_in w = map (λ x. x.now) w.now
 abbrev pub sample_word : Sample → Text
 sample_word s = object_word (sample_object s)
 
-abbrev pub samples : List Sample
-samples = Buffer ∷ Book ∷ Shop ∷ []
+abbrev pub every_sample : List Sample
+every_sample = Buffer ∷ Book ∷ Shop ∷ []
 
-abbrev pub run_app : NameList → NameList → App
-run_app k s =
-    with_rule (with_rule (with_rule (with_rule (new_app (codes "run")) (required_rule (codes "KIND") (Names k)))
-    (required_rule (codes "SAMPLE") (Names s)))
+-- lists that have exactly the names of the kinds and of the samples
+pub record RunNames : Type 0 where
+  pub kinds : NameList
+  pub samples : NameList
+  pub all_kinds : words_in kinds ≡ map kind_word monitor_kinds
+  pub all_samples : words_in samples ≡ map sample_word every_sample
+
+-- a command of that name that takes a kind, a sample, and how many seats and rounds
+abbrev pub run_app : Text → RunNames → App
+run_app name n =
+    with_rule (with_rule (with_rule (with_rule (new_app name) (required_rule (codes "KIND") (Names n.kinds)))
+    (required_rule (codes "SAMPLE") (Names n.samples)))
     (required_rule (codes "SEATS") (Signed (pos 2) (pos 16)))) (required_rule (codes "ROUNDS") (Signed (pos 1) (pos 1000)))
-
--- the lists have exactly the names of the kinds and of the samples
-abbrev pub AreNames : NameList → NameList → Type 0
-AreNames k s = (words_in k ≡ map kind_word kinds) × (words_in s ≡ map sample_word samples)
 
 -- a command of that name that takes a file
 abbrev pub file_app : Text → App
@@ -62,24 +67,22 @@ IsSubcommand c a = (old new : Command) → AddsSubcommand old c new → app_of n
 abbrev pub bare_app : App
 bare_app = record (new_app (codes "monk")) { top = record (new_app (codes "monk")).top { has_version = true; subcommand_required = true } }
 
-abbrev pub monk_app : NameList → NameList → App
-monk_app k s =
-    with_subcommand (with_subcommand (with_subcommand
+abbrev pub monk_app : RunNames → RunNames → App
+monk_app run recorded =
+    with_subcommand (with_subcommand (with_subcommand (with_subcommand
     (with_subcommand (with_subcommand bare_app classify_app.top) (file_app (codes "audit")).top)
-    (file_app (codes "play")).top) (file_app (codes "upgrade")).top) (run_app k s).top
+    (file_app (codes "play")).top) (file_app (codes "upgrade")).top) (run_app (codes "run") run).top)
+    (run_app (codes "record") recorded).top
 
 -- the command line of the program
 pub record IsMonk (a : App) : Type 0 where
-  pub kinds : NameList
-  pub samples : NameList
-  pub names : AreNames kinds samples
-  pub is : a ≡ monk_app kinds samples
+  pub run : RunNames
+  pub recorded : RunNames
+  pub is : a ≡ monk_app run recorded
 
-pub record IsRunCommand (c : Command) : Type 0 where
-  pub kinds : NameList
-  pub samples : NameList
-  pub names : AreNames kinds samples
-  pub is : IsSubcommand c (run_app kinds samples)
+pub record IsRunCommand (name : Text) (c : Command) : Type 0 where
+  pub names : RunNames
+  pub is : IsSubcommand c (run_app name names)
 
 -- the command that a line is for
 abbrev pub command_word : Line → Text
@@ -88,6 +91,7 @@ command_word (Audit file) = codes "audit"
 command_word (Play file) = codes "play"
 command_word (Upgrade file) = codes "upgrade"
 command_word (Run kind sample seats rounds) = codes "run"
+command_word (Record kind sample seats rounds) = codes "record"
 
 -- a whole number in digits that clap has found for a name, in the rows of a command
 pub record HasNumber (name : Text) (n : ℕ) (rows : List Row) : Type 0 where
@@ -96,6 +100,12 @@ pub record HasNumber (name : Text) (n : ℕ) (rows : List Row) : Type 0 where
   pub digits : IsNumeral 10 (without_leading_plus text)
   pub number : n ≡ digits_value 10 (without_leading_plus text)
 
+-- a kind, a sample, seats and rounds are those that clap has found
+abbrev pub AreRunValues : KindName → Sample → ℕ → ℕ → List Row → Type 0
+AreRunValues kind sample seats rounds rows =
+    (first_of (codes "KIND") rows ≡ Some (kind_word kind)) × (first_of (codes "SAMPLE") rows ≡ Some (sample_word sample))
+    × HasNumber (codes "SEATS") seats rows × HasNumber (codes "ROUNDS") rounds rows
+
 -- the values of the line are those that clap has found, in the rows of its command
 abbrev pub ValuesAre : Line → List Row → Type 0
 ValuesAre (Classify e w s) rows = HasNumber (codes "ENTRY") e rows × HasNumber (codes "WAITER") w rows
@@ -103,9 +113,8 @@ ValuesAre (Classify e w s) rows = HasNumber (codes "ENTRY") e rows × HasNumber 
 ValuesAre (Audit file) rows = first_of (codes "FILE") rows ≡ option_map string_bytes file
 ValuesAre (Play file) rows = first_of (codes "FILE") rows ≡ option_map string_bytes file
 ValuesAre (Upgrade file) rows = first_of (codes "FILE") rows ≡ option_map string_bytes file
-ValuesAre (Run kind sample seats rounds) rows =
-    (first_of (codes "KIND") rows ≡ Some (kind_word kind)) × (first_of (codes "SAMPLE") rows ≡ Some (sample_word sample))
-    × HasNumber (codes "SEATS") seats rows × HasNumber (codes "ROUNDS") rounds rows
+ValuesAre (Run kind sample seats rounds) rows = AreRunValues kind sample seats rounds rows
+ValuesAre (Record kind sample seats rounds) rows = AreRunValues kind sample seats rounds rows
 
 -- a run is asked for within its ranges alone
 abbrev pub RunIsInRange : Line → Type 0
@@ -114,6 +123,7 @@ RunIsInRange (Audit file) = Unit {0}
 RunIsInRange (Play file) = Unit {0}
 RunIsInRange (Upgrade file) = Unit {0}
 RunIsInRange (Run kind sample seats rounds) = IsInRange seats rounds
+RunIsInRange (Record kind sample seats rounds) = IsInRange seats rounds
 
 -- the line is what the rows of this command ask for
 pub record IsRead (word : Text) (l : Line) (rows : List Row) : Type 0 where

@@ -22,7 +22,7 @@ use std::sync::Wait;
 use std::thread::Threads;
 
 /// Runs the sample under the kind of that name, with a gate that is always open.
-fn run_named<R: Threads + Wait + Sync>(
+pub(crate) fn run_named<R: Threads + Wait + Sync>(
     rt: &R,
     alloc: Global,
     kind: KindName,

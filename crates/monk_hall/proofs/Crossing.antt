@@ -5,7 +5,7 @@ use denote.Param.Send.{recorded_send, recorded_sync, view_send, view_sync}
 use denote.Struct.Declared.{shape}
 use denote.Struct.Owning as owning
 use denote.Struct.Struct.{Struct}
-use Rattle.std.proofs.Crossing.{frees, sync as heap_sync}
+use Rattle.std.proofs.Crossing.{frees, Box-send, sync as heap_sync}
 use Rattle.std.specs.contracts.alloc.Global as Heap
 use Rattle.std.specs.contracts.impls.GlobalAllocator.TheImpl.{ghosts}
 use Rattle.std.specs.contracts.option.Option as Option
@@ -20,10 +20,11 @@ use Rattle.monk_kinds.specs.declared.kind.Kind as Kind
 use Rattle.monk_object.specs.declared.guarded.Guarded as Guarded
 use Rattle.monk_floor.proofs.PublicLaws.{floor_send}
 use Rattle.std.specs.contracts.collections.LinkedList as LinkedList
-use Rattle.monk_floor.specs.contracts.floor.Floor as Floor
+use Rattle.monk_hall.specs.contracts.boxed_floor.BoxedFloor as BoxedFloor
+use Rattle.monk_hall.specs.contracts.boxed_floor.BoxedFloor.TheInside as BoxedFloorInside
 use Rattle.monk_hall.specs.contracts.record.SeatRecord as SeatRecord
 use Rattle.monk_hall.specs.contracts.rule.HallRule as HallRule
-use Rattle.monk_hall.specs.contracts.rule.HallRuleTableRuleOptionFloorViewSetup.TheImpl as RuleImpl
+use Rattle.monk_hall.specs.contracts.rule.HallRuleTableRuleOptionBoxedFloorViewSetup.TheImpl as RuleImpl
 use Rattle.monk_hall.specs.contracts.setup.Setup as Setup
 use Rattle.monk_hall.specs.contracts.hall.Hall as Hall
 use Rattle.monk_hall.specs.contracts.hall.Hall.TheInside as HallInside
@@ -65,14 +66,24 @@ table_sync S V K P g s =
     in
     struct_sync (shape (Table.the_type S V K P Heap.the_row g ghosts)) all
 
+boxed_floor_inside : (K T : RattleType) (k : Kind.Ghosts K.Denot) (t : Guarded.Ghosts T.Denot) → IsSend K → IsSend T
+    → IsSend (BoxedFloorInside.the_row K T k t)
+boxed_floor_inside K T k t sk st =
+    let all : AllSend (shape (BoxedFloorInside.the_type K T k t)).fields = (Box-send _ (floor_send K T k t sk st), tt) in
+    recorded_send _ _ _ ((BoxedFloorInside.the_type K T k t).to_one) (struct_send (shape (BoxedFloorInside.the_type K T k t)) all)
+
+boxed_floor_send : (K T : RattleType) (k : Kind.Ghosts K.Denot) (t : Guarded.Ghosts T.Denot) → IsSend K → IsSend T
+    → IsSend (BoxedFloor.the_row K T k t)
+boxed_floor_send K T k t sk st = view_send (BoxedFloorInside.the_row K T k t) _ _ _ _ (boxed_floor_inside K T k t sk st)
+
 hall_inside : (K T : RattleType) (k : Kind.Ghosts K.Denot) (t : Guarded.Ghosts T.Denot) → IsSend K → IsSend T
     → IsSync (HallInside.the_row K T k t)
 hall_inside K T k t sk st =
     let all : AllSync (shape (HallInside.the_type K T k t)).fields = (
-      table_sync (Option.the_row (Floor.the_row K T k t)) (LinkedList.the_row SeatRecord.the_row Heap.the_row ghosts)
+      table_sync (Option.the_row (BoxedFloor.the_row K T k t)) (LinkedList.the_row SeatRecord.the_row Heap.the_row ghosts)
           (Setup.the_row T) (HallRule.the_row K T)
           (RuleImpl.ghosts K T k RuleImpl.no_dict t RuleImpl.no_dict RuleImpl.no_dict RuleImpl.no_dict)
-          (option_send (Floor.the_row K T k t) (floor_send K T k t sk st)),
+          (option_send (BoxedFloor.the_row K T k t) (boxed_floor_send K T k t sk st)),
       (search sendable, tt),
     ) in
     recorded_sync _ _ _ ((HallInside.the_type K T k t).to_one) (struct_sync (shape (HallInside.the_type K T k t)) all)

@@ -19,6 +19,7 @@ mod ReleaseLaws
 mod KindLaws
 mod ClosingLaws
 mod ResumeLaws
+mod Boxed
 mod Crossing
 mod RuleLaws
 mod CompleteLaws

@@ -449,6 +449,12 @@ parts_again k o c id v m e =
     subst (λ (x : View). Splits {S = Option FloorView} (IsHall k o c) id x (head x) (tail x)) (sym e)
     (parted k o c id (the (view_after_compare m)) (the (tail (view_after_compare m))))
 
+-- whoever has seen the longer of two has seen what begins with both
+pub has_learned : (a b x y g : List Event) → AreOne a b → a ≡ x → b ≡ y → g ≡ longer a b → StartsWith g x × StartsWith g y
+has_learned a b x y g one is_x is_y is_longer =
+    let long : IsLonger a b g = subst (IsLonger a b) (sym is_longer) (longer_both a b one) in
+    (subst (StartsWith g) is_x long.first, subst (StartsWith g) is_y long.second)
+
 -- a seat that has met another rests as before
 pub met_rests : (k : Rules) (o : Object) (y z : TableId) (v : View) (number left calls budget : ℕ) (r : SeatRecord)
     (views : List View) → IsResting k o z (v, []) number left calls budget → (the v).place ≡ Idle → y ≡ z

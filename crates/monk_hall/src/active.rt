@@ -7,8 +7,8 @@ ghost use Rattle.monk_floor.specs.View.{monitor_of};
 ghost use Rattle.monk_hall.specs.Calls.{HasDone};
 ghost use Rattle.monk_hall.specs.Layout.{floor_of};
 
+use crate::boxed_floor::BoxedFloor;
 use crate::rule::TableSeat;
-use monk_floor::Floor;
 use monk_history::Event;
 use monk_kinds::Kind;
 use monk_object::{Guarded, Op};
@@ -21,7 +21,7 @@ pub struct Active<K: Kind, T: Guarded> {
     pub(crate) number: u8,
     pub(crate) calls: u64,
     pub(crate) budget: u32,
-    pub(crate) floor: Floor<K, T>,
+    pub(crate) floor: BoxedFloor<K, T>,
 }
 
 impl<K: Kind, T: Guarded> Model for Active<K, T> {

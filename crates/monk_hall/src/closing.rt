@@ -58,8 +58,9 @@ impl<K: Kind, T: Guarded> Active<K, T> {
             number,
             calls: _,
             budget: _,
-            mut floor,
+            floor,
         } = self;
+        let mut floor = floor.into_inner();
         floor.leave(number, Pick::Entry, false);
         let (object, history) = floor.close();
         Closed { object, history }

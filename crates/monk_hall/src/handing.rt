@@ -9,11 +9,11 @@ ghost use Rattle.monk_hall.specs.Handing.{seat_called_by, HasRecordedRelease, Ha
 ghost use Rattle.monk_hall.specs.Records.{IsOne, the};
 ghost use Rattle.monk_hall.specs.Tells.{IsOfTable, IsSameSeat};
 
+use crate::boxed_floor::BoxedFloor;
 use crate::hall::Hall;
 use crate::places::{tickets, unpassed};
 use crate::rule::{SharedTable, TableSeat};
 use crate::steps;
-use monk_floor::Floor;
 use monk_history::Next;
 use monk_kinds::Kind;
 use monk_object::Guarded;
@@ -64,7 +64,7 @@ fn let_in<K: Kind, T: Guarded>(words: &SharedTable<K, T>, seat: &mut TableSeat<K
 pub(crate) fn go_home<K: Kind, T: Guarded>(
     hall: &Hall<K, T>,
     seat: &mut TableSeat<K, T>,
-    floor: Floor<K, T>,
+    floor: BoxedFloor<K, T>,
     choice: Next,
 )
     requires table { seat.old.table_id ≡ hall.now.id }

@@ -8,6 +8,7 @@
 
 mod active;
 mod after;
+mod boxed_floor;
 mod busy;
 mod closed;
 mod closing;

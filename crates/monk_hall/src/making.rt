@@ -7,6 +7,7 @@ ghost use Rattle.monk_hall.specs.Rule.{setting_of};
 ghost use Rattle.monk_hall.specs.Tells.{IsSized};
 ghost use Rattle.monk_hall.specs.Tokens.{tokens};
 
+use crate::boxed_floor::BoxedFloor;
 use crate::hall::Hall;
 use crate::pass::Pass;
 use crate::plays::Deal;
@@ -67,7 +68,7 @@ fn open<K: Kind, T: Guarded>(
     let seats = setup.seats;
     let budget = setup.budget;
     let mut slots = Vec::new(alloc);
-    slots.push(Some(floor))?;
+    slots.push(Some(BoxedFloor::make(alloc, floor)?))?;
     let words = zeros(alloc, 2 * seats as usize + 1)?;
     let (table, first) = match Table::new(alloc, &words, slots, &setup) {
         Ok(made) => made,

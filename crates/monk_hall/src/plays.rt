@@ -5,65 +5,65 @@ ghost use Rattle.monk_hall.specs.Records.{head, tail};
 ghost use Rattle.monk_hall.specs.Tells.{TellsArrive, TellsTicketLook, TellsSeatLook, TellsPeek, TellsFloorOut};
 ghost use Rattle.monk_hall.specs.Tells.{TellsFloorIn, held_history, TellsDrop, TellsGrant, TellsCompare};
 
+use crate::boxed_floor::BoxedFloor;
 use crate::record::View;
 use atomic_table::{Join, Play, Split};
-use monk_floor::Floor;
 use monk_kinds::Kind;
 use monk_object::Guarded;
 
 /// Step 1: an idle seat draws a ticket.
 pub(crate) struct ArriveStep;
 
-impl<K: Kind, T: Guarded> Play<Option<Floor<K, T>>, View> for ArriveStep {
+impl<K: Kind, T: Guarded> Play<Option<BoxedFloor<K, T>>, View> for ArriveStep {
     ghost then = { λ step me found new. TellsArrive me found new };
 }
 
 /// Step 2: a seat looks at the place of its ticket.
 pub(crate) struct TicketLookStep;
 
-impl<K: Kind, T: Guarded> Play<Option<Floor<K, T>>, View> for TicketLookStep {
+impl<K: Kind, T: Guarded> Play<Option<BoxedFloor<K, T>>, View> for TicketLookStep {
     ghost then = { λ step me found new. TellsTicketLook me found new };
 }
 
 /// Step 3: a seat that is parked inside looks at its own place.
 pub(crate) struct SeatLookStep;
 
-impl<K: Kind, T: Guarded> Play<Option<Floor<K, T>>, View> for SeatLookStep {
+impl<K: Kind, T: Guarded> Play<Option<BoxedFloor<K, T>>, View> for SeatLookStep {
     ghost then = { λ step me found new. TellsSeatLook me found new };
 }
 
 /// Step 4: the active seat looks whether somebody waits for entry.
 pub(crate) struct PeekStep;
 
-impl<K: Kind, T: Guarded> Play<Option<Floor<K, T>>, View> for PeekStep {
+impl<K: Kind, T: Guarded> Play<Option<BoxedFloor<K, T>>, View> for PeekStep {
     ghost then = { λ step me found new. TellsPeek me found new };
 }
 
 /// Step 5, out: the floor comes to the seat that is due.
 pub(crate) struct FloorOutStep;
 
-impl<K: Kind, T: Guarded> Play<Option<Floor<K, T>>, View> for FloorOutStep {
+impl<K: Kind, T: Guarded> Play<Option<BoxedFloor<K, T>>, View> for FloorOutStep {
     ghost then = { λ step me found new. TellsFloorOut K.rules T.meaning me found new };
 }
 
 /// Step 5, in: the active seat brings the floor home.
 pub(crate) struct FloorInStep;
 
-impl<K: Kind, T: Guarded> Play<Option<Floor<K, T>>, View> for FloorInStep {
+impl<K: Kind, T: Guarded> Play<Option<BoxedFloor<K, T>>, View> for FloorInStep {
     ghost then = { λ step me found new. TellsFloorIn (held_history me.1) me found new };
 }
 
 /// Step 6: a seat that chose entry takes itself off the ticket word.
 pub(crate) struct DropStep;
 
-impl<K: Kind, T: Guarded> Play<Option<Floor<K, T>>, View> for DropStep {
+impl<K: Kind, T: Guarded> Play<Option<BoxedFloor<K, T>>, View> for DropStep {
     ghost then = { λ step me found new. TellsDrop me found new };
 }
 
 /// Steps 7 and 8: a seat grants the next ticket, or calls the seat that it chose.
 pub(crate) struct GrantStep;
 
-impl<K: Kind, T: Guarded> Play<Option<Floor<K, T>>, View> for GrantStep {
+impl<K: Kind, T: Guarded> Play<Option<BoxedFloor<K, T>>, View> for GrantStep {
     ghost then = { λ step me found new. TellsGrant me found new };
 }
 
@@ -88,7 +88,7 @@ impl Join<View> for Meet {
 /// In one view they tell each other what they have seen.
 pub(crate) struct CompareStep;
 
-impl<K: Kind, T: Guarded> Play<Option<Floor<K, T>>, View> for CompareStep {
+impl<K: Kind, T: Guarded> Play<Option<BoxedFloor<K, T>>, View> for CompareStep {
     ghost then = { λ step me found new. TellsCompare K.rules T.meaning me found new };
 }
 

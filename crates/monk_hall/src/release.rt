@@ -6,12 +6,12 @@ ghost use Rattle.monk_hall.specs.Recorded.{IsApart, IsRecorded, GoesOutside, Goe
 
 use crate::active::Active;
 use crate::after::After;
+use crate::boxed_floor::BoxedFloor;
 use crate::hall::Hall;
 use crate::handing::{go_home, is_stay};
 use crate::parked::Parked;
 use crate::pass::Pass;
 use crate::rule::TableSeat;
-use monk_floor::Floor;
 use monk_history::Next;
 use monk_kinds::Kind;
 use monk_object::Guarded;
@@ -25,7 +25,7 @@ pub struct Release<K: Kind, T: Guarded> {
     pub(crate) number: u8,
     pub(crate) calls: u64,
     pub(crate) budget: u32,
-    pub(crate) floor: Floor<K, T>,
+    pub(crate) floor: BoxedFloor<K, T>,
     pub(crate) choice: Next,
 }
 

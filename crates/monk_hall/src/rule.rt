@@ -2,10 +2,10 @@
 ghost use Rattle.monk_hall.specs.Records.{first_view};
 ghost use Rattle.monk_hall.specs.Rule.{IsHall, setting_of};
 
+use crate::boxed_floor::BoxedFloor;
 use crate::record::View;
 use crate::setup::Setup;
 use atomic_table::{Seat, Shared, Table, TableRule};
-use monk_floor::Floor;
 use monk_kinds::Kind;
 use monk_object::Guarded;
 use std::alloc::Global;
@@ -16,21 +16,26 @@ pub struct HallRule<K, T> {
     marker: PhantomData<(K, T)>,
 }
 
-impl<K: Kind, T: Guarded> TableRule<Option<Floor<K, T>>, View, Setup<T>> for HallRule<K, T> {
+impl<K: Kind, T: Guarded> TableRule<Option<BoxedFloor<K, T>>, View, Setup<T>> for HallRule<K, T> {
     ghost holds = { λ setup s. IsHall K.rules T.meaning (setting_of (T.state setup.opening.value) setup.seats setup.conds setup.budget) s };
 
     ghost first = { λ setup. first_view (setting_of (T.state setup.opening.value) setup.seats setup.conds setup.budget) };
 }
 
 /// A seat of the table.
-pub(crate) type TableSeat<K, T> = Seat<Option<Floor<K, T>>, View>;
+pub(crate) type TableSeat<K, T> = Seat<Option<BoxedFloor<K, T>>, View>;
 
 /// The table as threads share it.
-pub(crate) type SharedTable<K, T> = Shared<Option<Floor<K, T>>, View, Setup<T>, HallRule<K, T>>;
+pub(crate) type SharedTable<K, T> = Shared<
+    Option<BoxedFloor<K, T>>,
+    View,
+    Setup<T>,
+    HallRule<K, T>,
+>;
 
 /// The table with its memory.
 pub(crate) type HallTable<K, T> = Table<
-    Option<Floor<K, T>>,
+    Option<BoxedFloor<K, T>>,
     View,
     Setup<T>,
     HallRule<K, T>,

@@ -11,12 +11,12 @@ ghost use Rattle.monk_hall.specs.Layout.{ticket_word, seat_word};
 ghost use Rattle.monk_hall.specs.Records.{IsOne, the};
 ghost use Rattle.monk_hall.specs.Tells.{TellsArrive, TellsTicketLook, TellsSeatLook, TellsPeek, TellsDrop, Returns, IsOfTable, IsSameSeat};
 
+use crate::boxed_floor::BoxedFloor;
 use crate::plays::{
     ArriveStep, DropStep, FloorInStep, FloorOutStep, GrantStep, PeekStep, SeatLookStep,
     TicketLookStep,
 };
 use crate::rule::{SharedTable, TableSeat};
-use monk_floor::Floor;
 use monk_kinds::Kind;
 use monk_object::Guarded;
 
@@ -103,7 +103,7 @@ pub(crate) fn peek<K: Kind, T: Guarded>(
 pub(crate) fn floor_out<K: Kind, T: Guarded>(
     words: &SharedTable<K, T>,
     seat: &mut TableSeat<K, T>,
-) -> Floor<K, T>
+) -> BoxedFloor<K, T>
     requires table { IsOfTable seat.old words.now.table_id words.now.key.seats }
     requires due { IsOne seat.old.me.0 × (seat.old.me.1 ≡ []) × (stage (the seat.old.me.0).place ≡ due_stage) }
     ensures table { IsSameSeat seat.old seat.new }
@@ -118,7 +118,7 @@ pub(crate) fn floor_out<K: Kind, T: Guarded>(
 pub(crate) fn floor_in<K: Kind, T: Guarded>(
     words: &SharedTable<K, T>,
     seat: &mut TableSeat<K, T>,
-    floor: Floor<K, T>,
+    floor: BoxedFloor<K, T>,
 )
     requires table { IsOfTable seat.old words.now.table_id words.now.key.seats }
     requires active { IsOne seat.old.me.0 × (seat.old.me.1 ≡ (0, None) ∷ []) × (stage (the seat.old.me.0).place ≡ active_stage) }

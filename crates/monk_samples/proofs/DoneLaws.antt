@@ -73,7 +73,7 @@ module _ (k : Rules) (o : Object) where
       ap (λ ds. acts_in (events_in ds)) is.are ∙ acts_append k o is.pauses (is.act ∷ is.out)
       ∙ (λ i. paused_acts k o c s v.wanted is.pauses is.done.paused i ++ acts_in (is.done.acts.is i ∷ events_in is.out))
       ∙ ap (λ acts. record { op = v.op; reply = is.done.reply } ∷ acts)
-      (calls_acts k o c _ is.out is.goes ∙ calls_out_acts k o s (v.signals (after is.act)))
+      (calls_acts k o c _ is.out is.goes ∙ calls_out_acts k o s (v.goes_out (after is.act)))
 
   -- a visit of that code, which is sure, has got it done
   worth_here : (code : ℕ) (f : Op → ℕ) (w : Option Wanted) (op : Op) (reply : ℕ) → IsSureFor w (op.code == code) → IsCertain w reply

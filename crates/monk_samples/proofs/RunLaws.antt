@@ -1,7 +1,7 @@
 -- What a run rests on: lists of workers and threads, a hall's passes, and the header of a closed hall
 use Rattle.std.proofs.Common.{◌≡◌, ℕ, zero, suc, ◌+◌, ◌*◌, ◌^◌, ◌≤◌, Bool, true, false, cond, All, Result, Ok, Err}
-use Rattle.std.specs.Prelude.{IsErrAnd}
-use Rattle.std.proofs.Common.{IfErr, IfOk, OnOk, Option, Some, None, nat_le, ◌&&◌, List, [], ◌∷◌, ◌++◌, map, length, refl, sym, ap, subst}
+use Rattle.std.specs.Prelude.{IsErrAnd, IsTrue}
+use Rattle.std.proofs.Common.{IfErr, IfOk, OnOk, List, [], ◌∷◌, ◌++◌, map, length, refl, sym, ap, subst}
 use Rattle.std.proofs.Common.{◌∙◌, arith}
 use Rattle.std.proofs.lemmas.Bool.{false≢true}
 use Rattle.std.proofs.Math.Nat.{mul-le-mul_right}
@@ -22,9 +22,7 @@ use Rattle.monk_history.proofs.PublicLaws.Meaning.{in_order, excludes, serves_ea
 use Rattle.monk_history.specs.Meaning.Legal.{IsLegal}
 use Rattle.monk_history.specs.Meaning.Monitor.{Monitor, monitor, data_of}
 use Rattle.monk_history.specs.Meaning.Named.{named_monitor}
-use Rattle.monk_history.specs.Limits.{most_seats, most_conds}
-use Rattle.monk_history.specs.Text.{Heading, heading}
-use Rattle.monk_history.specs.Text.Reading.{heading_of}
+use Rattle.monk_history.specs.Text.{Heading, is_writable}
 use Rattle.monk_history.specs.declared.event.Event.{Event}
 use Rattle.monk_floor.specs.View.{FloorView, monitor_of}
 use Rattle.monk_hall.specs.Closing.{IsEnded}
@@ -32,7 +30,8 @@ use Rattle.monk_hall.specs.Layout.{floor_of}
 use Rattle.monk_hall.specs.Rule.{setting_of}
 use Rattle.monk_samples.specs.Crews.{IsReady, AreReady, IsClosed}
 use Rattle.monk_samples.specs.Runs.{IsFirstSpent}
-use Rattle.monk_samples.specs.Samples.{sample_object, size, conds_of, budget_of, run_heading, KeepsLaw, IsHistoryOf, IsOutcome}
+use Rattle.monk_samples.specs.Samples.{sample_object, size, conds_of, budget_of, run_heading, KeepsLaw, IsHistoryOf, IsOfFirstVersion}
+use Rattle.monk_samples.specs.Samples.{IsOutcome}
 use Rattle.monk_samples.specs.Totals.{HasTotals, totals_of}
 use Rattle.monk_samples.specs.declared.sample.Sample.{Sample}
 use Rattle.monk_samples.specs.declared.sample.Sample.TheVariants.{Buffer, Book, Shop}
@@ -99,12 +98,19 @@ few_events seats rounds n s r l =
 
 -- a hall was closed by a seat whose floor is the hall's
 pub closed_by : (k : Rules) (o : Object) (b c : Setting) (a : Holder) (before h : List Event) (state : List ℕ) → b ≡ c
-    → a.floor ≡ floor_of b before → IsEnded k o a h state → IsClosed k o c h
-closed_by k o b c a before h state s f e =
+    → a.floor ≡ floor_of b before → IsEnded k o a h state → IsOfFirstVersion h → IsClosed k o c h
+closed_by k o b c a before h state s f e early =
     let floor : a.floor ≡ floor_of c before = f ∙ ap (λ (x : Setting). floor_of x before) s in record {
       legal = subst (λ (x : FloorView). IsLegal (monitor_of k o x) h) floor e.legal;
       few = subst (λ (x : FloorView). length h ≤ x.seats * x.budget) floor e.few;
+      early = early;
     }
+
+-- what may be written under the run's header is of the first version
+pub first_words : (name : KindName) (sample : Sample) (seats : ℕ) (header : Heading) (h lent : List Event) (answer : Bool)
+    → answer ≡ is_writable header lent → header ≡ run_heading name sample seats → lent ≡ h → answer ≡ true → IsOfFirstVersion h
+first_words name sample seats header h lent answer told is same holds =
+    subst IsOfFirstVersion same (sym (told ∙ ap (λ (x : Heading). is_writable x lent) is) ∙ holds)
 
 pub law_of : (k : Rules) (sample : Sample) (seats : ℕ) (h : List Event) → let m =
     monitor k seats (conds_of k) (meaning_named (sample_object sample)) (opening_named (sample_object sample) size) in
@@ -120,28 +126,7 @@ pub history_of : (k : Rules) (sample : Sample) (seats rounds : ℕ) (c : Setting
     → IsHistoryOf k sample seats rounds h
 history_of k sample seats rounds c h e closed totals =
     let z = subst (λ (x : Setting). IsClosed k (meaning_named (sample_object sample)) x h) e closed in
-    record { legal = z.legal; few = z.few; totals = totals _ (law_of k sample seats h z.legal) }
-
-there : {X : Type 0} → X → Option X → X
-there d None = d
-there d (Some x) = x
-
-is_there : {X : Type 0} → Option X → Bool
-is_there None = false
-is_there (Some x) = true
-
-some_is : {X : Type 0} (b : Bool) (x y : X) → Some y ≡ cond b (Some x) None → y ≡ x
-unfolding is_there there
-some_is true x y e = ap (there x) e
-some_is false x y e = absurd (false≢true (sym (ap is_there e)))
-
-pub header_is : (k : KindName) (sample : Sample) (seats conds : ℕ) (h : Heading)
-    → Some h ≡ heading_of 1 k seats conds (sample_object sample) size → conds ≡ conds_of (rules_named k)
-    → h ≡ run_heading k sample seats
-header_is k sample seats conds h e c =
-    some_is (nat_le 1 seats && nat_le seats most_seats && nat_le conds most_conds && nat_le 1 size)
-    (heading 1 k seats conds (sample_object sample) size) h e
-    ∙ ap (λ n. heading 1 k seats n (sample_object sample) size) c
+    record { legal = z.legal; few = z.few; early = z.early; totals = totals _ (law_of k sample seats h z.legal) }
 
 pub outcome_of : (k : Rules) (name : KindName) (sample : Sample) (seats rounds : ℕ) (h : Heading) (history : List Event)
     (totals : List ℕ) → seats ≤ 16 → rounds ≤ 1000 → k ≡ rules_named name → IsHistoryOf k sample seats rounds history
@@ -155,6 +140,7 @@ outcome_of k name sample seats rounds h history totals near short named of heade
       header = header;
       legal = subst (λ (x : Heading). IsLegal (named_monitor x) history) (sym header) legal;
       few = few_events seats rounds (length history) near short of.few;
+      writable = subst (λ (x : Heading). IsTrue (is_writable x history)) (sym header) of.early;
       law = subst (λ (x : Heading). KeepsLaw sample (data_of (named_monitor x) history) history) (sym header)
           (law_of (rules_named name) sample seats history legal);
       totals_are = same;

@@ -6,7 +6,7 @@ use Rattle.monk_kinds.specs.declared.mode.Rules.{Rules}
 use Rattle.monk_object.specs.Object.{Object}
 use Rattle.monk_history.specs.Meaning.Release.{with_next}
 use Rattle.monk_history.specs.declared.event.Event.{Event}
-use Rattle.monk_history.specs.declared.event.Event.TheVariants.{Leave, Signal, SignalLeave}
+use Rattle.monk_history.specs.declared.event.Event.TheVariants.{Leave, SignalLeave}
 use Rattle.monk_history.specs.declared.event.Next.TheVariants.{Stay}
 use Rattle.monk_world.specs.declared.home.Home.{Home}
 use Rattle.monk_hall.specs.AfterCalls.{MatchAfter}
@@ -74,20 +74,20 @@ module _ (k : Rules) (o : Object) where
         let same = ap (λ s. s.budget) r.setting in omega arith;
   }
 
-  -- a signal and a leave
-  pub signalled_out : (a : Holder) (c : ℕ) (b : Holder) (to : Home) (peeks : ℕ) (p : Token)
-      → ((d : Addition) × HasCalled (inside a) (inside b) (d ∷ []) × IsCall k o a.me.setting (Signal a.me.seat c Stay) d
+  -- a call after which the seat is active, and a leave
+  pub called_out : (a : Holder) (call : Event) (b : Holder) (to : Home) (peeks : ℕ) (p : Token)
+      → ((d : Addition) × HasCalled (inside a) (inside b) (d ∷ []) × IsCall k o a.me.setting call d
       × (d.before ≡ a.floor.history))
       → HasReleased k o b (Leave b.me.seat Stay) Waiter to peeks p
-      → HasGoneBy k o a (Signal a.me.seat c Stay ∷ Leave a.me.seat Stay ∷ []) p
-  signalled_out a c b to peeks p signal r =
+      → HasGoneBy k o a (call ∷ Leave a.me.seat Stay ∷ []) p
+  called_out a call b to peeks p one r =
       let leave = released k o b (Leave b.me.seat Stay) to peeks p (λ x. (refl, refl, refl)) r in
-      let seat = signal.1.went.seat in let setting = signal.1.went.setting in
+      let seat = one.1.went.seat in let setting = one.1.went.setting in
       record {
-        made = signal.0 ∷ leave.0 ∷ [];
-        called = called_then (inside a) (inside b) (outside p) (signal.0 ∷ []) (leave.0 ∷ []) signal.1 leave.1;
+        made = one.0 ∷ leave.0 ∷ [];
+        called = called_then (inside a) (inside b) (outside p) (one.0 ∷ []) (leave.0 ∷ []) one.1 leave.1;
         are = (
-          signal.2,
+          one.2,
           (
             subst (λ (s : ℕ). IsCall k o a.me.setting (Leave s Stay) leave.0) seat
                 (subst (λ (c : Setting). IsCall k o c (Leave b.me.seat Stay) leave.0) setting leave.2),

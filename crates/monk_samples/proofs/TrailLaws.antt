@@ -13,7 +13,7 @@ use Rattle.monk_history.specs.Meaning.Monitor.{data_of}
 use Rattle.monk_history.specs.Meaning.Release.{with_next, choice_of}
 use Rattle.monk_history.specs.Meaning.Turn.{turn}
 use Rattle.monk_history.specs.declared.event.Event.{Event}
-use Rattle.monk_history.specs.declared.event.Event.TheVariants.{Act}
+use Rattle.monk_history.specs.declared.event.Event.TheVariants.{Act, SignalAll}
 use Rattle.monk_history.specs.declared.event.Next.{Next}
 use Rattle.monk_history.specs.declared.event.Next.TheVariants.{Stay}
 use Rattle.monk_history.specs.declared.event.Turn.{Turn}
@@ -193,6 +193,27 @@ module _ (k : Rules) (o : Object) where
     };
     called = refl;
   }
+
+  -- a signal to all is one call, which chooses nobody
+  pub woke : (a : Holder) (s c : ℕ) (b : Holder) → HasDone k o a (SignalAll s c) b
+      → (d : Addition) × HasCalled (inside a) (inside b) (d ∷ []) × IsCall k o a.me.setting (SignalAll s c) d
+      × (d.before ≡ a.floor.history)
+  woke a s c b d = let made : Addition = record { before = a.floor.history; event = SignalAll s c } in (
+    made,
+    record {
+      own = made ∷ [];
+      went = record {
+        hall = ap (λ h. h.hall) d.is;
+        seat = ap (λ h. h.me.seat) d.is;
+        setting = ap (λ h. h.me.setting) d.is;
+        seen = one_added a.floor.history (SignalAll s c) b.floor.history (ap (λ h. h.floor.history) d.is);
+        mine = ap (λ h. h.me.mine) d.is;
+      };
+      called = refl;
+    },
+    record { asks = refl; wishes = λ x is. absurd cc },
+    refl,
+  )
 
   pub replied : (a : Holder) (s : ℕ) (op : Op) (r : ℕ) (b : Holder) → HasDone k o a (Act s op r) b
       → r ≡ o.reply (data_of (monitor_of k o a.floor) a.floor.history) op

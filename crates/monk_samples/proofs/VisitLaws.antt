@@ -23,11 +23,11 @@ use Rattle.monk_hall.specs.Tells.{SeesTruly}
 use Rattle.monk_hall.specs.Tokens.{Token, Holder}
 use Rattle.monk_hall.specs.declared.setting.Setting.{Setting}
 use Rattle.monk_samples.specs.Asked.{AreCalls, IsCall}
-use Rattle.monk_samples.specs.Styles.{HasFinished, HasGivenUp, HasPaused, IsSpent, pause_call, way_out}
+use Rattle.monk_samples.specs.Styles.{HasFinished, HasGivenUp, HasGoneOut, HasPaused, IsSpent, pause_call, way_out}
 use Rattle.monk_samples.specs.Trails.{Addition, Trail, HasCalled, events_in, inside, outside}
 use Rattle.monk_samples.specs.Visits.{Wanted, Plan, ArePauses, HasPausedFor, IsCertain, IsLeftWaiting}
 use Rattle.monk_samples.specs.Visits.{IsUnready, AreVisits, HasVisited, HasTired, HasStayedOut, HasPausedUntil, HasActed}
-use Rattle.monk_samples.specs.Visits.{calls_out, data_after}
+use Rattle.monk_samples.specs.Visits.{WayOut, Unsignalled, Signals, SignalsAll, SignalsAndWaits, calls_out, data_after}
 use Rattle.monk_samples.specs.declared.end.End.{End}
 use Rattle.monk_samples.specs.declared.end.End.TheVariants.{Done, Tired, Late}
 use Rattle.monk_samples.proofs.TrailLaws.{called_none, called_then, did, replied}
@@ -218,9 +218,11 @@ module _ (k : Rules) (o : Object) where
   out_acts false true s c = refl
   out_acts false false s c = refl
 
-  pub calls_out_acts : (s : ℕ) (signal : Option ℕ) → acts_in (calls_out k s signal) ≡ []
-  calls_out_acts s None = refl
-  calls_out_acts s (Some cond) = out_acts (has_signaller_queue k.mode) (returns_at_once k.mode) s cond
+  pub calls_out_acts : (s : ℕ) (way : WayOut) → acts_in (calls_out k s way) ≡ []
+  calls_out_acts s Unsignalled = refl
+  calls_out_acts s (Signals cond) = out_acts (has_signaller_queue k.mode) (returns_at_once k.mode) s cond
+  calls_out_acts s (SignalsAll cond) = refl
+  calls_out_acts s (SignalsAndWaits cond wait_cond) = refl
 
   pub acts_append : (xs ys : List Addition) → acts_in (events_in (xs ++ ys)) ≡ acts_in (events_in xs) ++ acts_in (events_in ys)
   acts_append xs ys = ap acts_in (map-append (λ (d : Addition). d.event) xs ys) ∙ flat_map-append act_of (events_in xs) (events_in ys)
@@ -238,18 +240,23 @@ module _ (k : Rules) (o : Object) where
   -- a way out by the one condition or the other
   pub finished_by : (b : Bool) (m n next : ℕ) (a : Holder) (q : Token) (end : End) → (b ≡ true → next ≡ m) → (b ≡ false → next ≡ n)
       → HasFinished k o a (way_out k a.me.seat next) q end
-      → HasFinished k o a (calls_out k a.me.seat (cond b (Some m) (Some n))) q end
+      → HasFinished k o a (calls_out k a.me.seat (cond b (Signals m) (Signals n))) q end
   finished_by true m n next a q end is_m is_n out =
       subst (λ (c : ℕ). HasFinished k o a (way_out k a.me.seat c) q end) (is_m refl) out
   finished_by false m n next a q end is_m is_n out =
       subst (λ (c : ℕ). HasFinished k o a (way_out k a.me.seat c) q end) (is_n refl) out
 
+  pub finished : (a : Holder) (calls : List Event) (q : Token) (end : End) → HasFinished k o a calls q end → HasGoneOut k o a calls q end
+  finished a calls q Done out = out
+  finished a calls q Tired out = out.1
+  finished a calls q Late out = out
+
   -- a visit that acted and went out
-  pub visited_telling : (p : Token) (v : Plan) (reply : ℕ) (a : Holder) (q : Token) (end : End)
+  gone_telling : (p : Token) (v : Plan) (reply : ℕ) (a : Holder) (q : Token) (end : End)
       → HasActed k o (outside p) v.wanted v.op reply a → IsCertain v.wanted reply
-      → HasFinished k o a (calls_out k a.me.seat (v.signals a.floor.history)) q end
+      → HasGoneOut k o a (calls_out k a.me.seat (v.goes_out a.floor.history)) q end
       → (visit : HasVisited k o p (v ∷ []) q end) × (acts_in (events_in visit.calls) ≡ record { op = v.op; reply = reply } ∷ [])
-  visited_telling p v reply a q Done s certain out =
+  gone_telling p v reply a q Done s certain out =
       let seat = s.called.went.seat in let setting = s.called.went.setting in let calls = (s.pauses ++ s.act ∷ []) ++ out.made in (
         record {
           calls = calls;
@@ -271,10 +278,10 @@ module _ (k : Rules) (o : Object) where
           spent = λ e. cc;
           told = out.told;
         },
-        one_act (outside p) v.wanted v.op reply a s a.me.setting (calls_out k a.me.seat (v.signals a.floor.history)) out.made out.are
-            (calls_out_acts a.me.seat (v.signals a.floor.history)),
+        one_act (outside p) v.wanted v.op reply a s a.me.setting (calls_out k a.me.seat (v.goes_out a.floor.history)) out.made out.are
+            (calls_out_acts a.me.seat (v.goes_out a.floor.history)),
       )
-  visited_telling p v reply a q Tired s certain out = unsaid out.1.gone.made out.1.gone.called out.1.gone.are
+  gone_telling p v reply a q Tired s certain out = unsaid out.gone.made out.gone.called out.gone.are
     where
       unsaid : (made : List Addition) → HasCalled (inside a) (outside q) made
           → AreCalls k o a.me.setting (Leave a.me.seat Stay ∷ []) made
@@ -294,16 +301,28 @@ module _ (k : Rules) (o : Object) where
                 done = record { paused = s.paused; reply = reply; acts = s.acts; certain = certain };
                 leaves = rw (seat, setting) at are.0;
               });
-              spent = λ e. out.1.spent;
-              told = out.1.gone.told;
+              spent = λ e. out.spent;
+              told = out.gone.told;
             },
             one_act (outside p) v.wanted v.op reply a s a.me.setting (Leave a.me.seat Stay ∷ []) (d ∷ []) are refl,
           )
-  visited_telling p v reply a q Late s certain out = absurd out
+  gone_telling p v reply a q Late s certain out = absurd out
+
+  pub visited_telling : (p : Token) (v : Plan) (reply : ℕ) (a : Holder) (q : Token) (end : End)
+      → HasActed k o (outside p) v.wanted v.op reply a → IsCertain v.wanted reply
+      → HasFinished k o a (calls_out k a.me.seat (v.goes_out a.floor.history)) q end
+      → (visit : HasVisited k o p (v ∷ []) q end) × (acts_in (events_in visit.calls) ≡ record { op = v.op; reply = reply } ∷ [])
+  visited_telling p v reply a q end s certain out =
+      gone_telling p v reply a q end s certain (finished a (calls_out k a.me.seat (v.goes_out a.floor.history)) q end out)
+
+  pub visited_out : (p : Token) (v : Plan) (reply : ℕ) (a : Holder) (q : Token) (end : End)
+      → HasActed k o (outside p) v.wanted v.op reply a → IsCertain v.wanted reply
+      → HasGoneOut k o a (calls_out k a.me.seat (v.goes_out a.floor.history)) q end → HasVisited k o p (v ∷ []) q end
+  visited_out p v reply a q end s certain out = (gone_telling p v reply a q end s certain out).0
 
   pub visited : (p : Token) (v : Plan) (reply : ℕ) (a : Holder) (q : Token) (end : End)
       → HasActed k o (outside p) v.wanted v.op reply a → IsCertain v.wanted reply
-      → HasFinished k o a (calls_out k a.me.seat (v.signals a.floor.history)) q end → HasVisited k o p (v ∷ []) q end
+      → HasFinished k o a (calls_out k a.me.seat (v.goes_out a.floor.history)) q end → HasVisited k o p (v ∷ []) q end
   visited p v reply a q end s certain out = (visited_telling p v reply a q end s certain out).0
 
   -- a visit that was cut short

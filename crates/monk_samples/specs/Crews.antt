@@ -7,6 +7,7 @@ use Rattle.monk_history.specs.Meaning.Monitor.{monitor}
 use Rattle.monk_history.specs.declared.event.Event.{Event}
 use Rattle.monk_hall.specs.Tokens.{House, Token}
 use Rattle.monk_hall.specs.declared.setting.Setting.{Setting}
+use Rattle.monk_samples.specs.Samples.{IsOfFirstVersion}
 use Rattle.monk_samples.specs.Styles.{Offers}
 
 -- the token is of this hall
@@ -20,7 +21,8 @@ IsReady k h p = IsOf h p × Offers k h.setting.conds 3
 abbrev pub AreReady : Rules → House → List Token → Type 0
 AreReady k h ps = All (IsReady k h) ps
 
--- a hall of this setting was closed with this history
+-- a hall of this setting was closed with this history, in which each event is of the first version
 pub record IsClosed (k : Rules) (o : Object) (c : Setting) (history : List Event) : Type 0 where
   pub legal : IsLegal (monitor k c.seats c.conds o c.opening) history
   pub few : length history ≤ c.seats * c.budget
+  pub early : IsOfFirstVersion history

@@ -1,5 +1,5 @@
 -- What each member of the samples does, by its visits
-use Rattle.std.specs.Prelude.{ℕ, ◌&&◌, Some, if◌then◌else◌}
+use Rattle.std.specs.Prelude.{ℕ, ◌&&◌, if◌then◌else◌}
 use Rattle.monk_kinds.specs.declared.mode.Rules.{Rules}
 use Rattle.monk_object.specs.Book.{book_meaning, START_READ, END_READ, START_WRITE, END_WRITE}
 use Rattle.monk_object.specs.Book as book
@@ -7,7 +7,7 @@ use Rattle.monk_object.specs.Buffer.{PUT, TAKE, HAS_ROOM, HAS_ITEM}
 use Rattle.monk_object.specs.Shop.{SIT, CALL, FINISH, DEPART, HAS_SEAT, CAN_CALL, IS_DONE}
 use Rattle.monk_hall.specs.declared.setting.Setting.{Setting}
 use Rattle.monk_samples.specs.Styles.{has_waiting}
-use Rattle.monk_samples.specs.Visits.{Plan, when, at_once, always, nobody, op_of, data_after}
+use Rattle.monk_samples.specs.Visits.{Plan, Signals, SignalsAll, SignalsAndWaits, when, at_once, always, nobody, op_of, data_after}
 
 -- the conditions of a buffer: there is room; an item is there
 abbrev pub NOT_FULL : ℕ
@@ -36,6 +36,10 @@ CUT_DONE = 2
 abbrev pub puts : ℕ → Plan
 puts item = when NOT_FULL HAS_ROOM (op_of PUT item) (always NOT_EMPTY)
 
+-- it lets a taker go on, and waits until there is room again
+abbrev pub puts_and_waits : ℕ → Plan
+puts_and_waits item = when NOT_FULL HAS_ROOM (op_of PUT item) (λ h. SignalsAndWaits NOT_EMPTY NOT_FULL)
+
 abbrev pub takes : Plan
 takes = when NOT_EMPTY HAS_ITEM (op_of TAKE 0) (always NOT_FULL)
 
@@ -45,15 +49,20 @@ begins_to_read = when CAN_READ book.CAN_READ (op_of START_READ 0) (always CAN_RE
 -- the last reader signals a writer if one waits, and others a reader
 abbrev pub ends_to_read : Rules → Setting → Plan
 ends_to_read k c = at_once (op_of END_READ 0)
-    (λ h. if book_meaning.holds (data_after k book_meaning c h) book.CAN_WRITE && has_waiting k CAN_WRITE h then Some CAN_WRITE
-    else Some CAN_READ)
+    (λ h. if book_meaning.holds (data_after k book_meaning c h) book.CAN_WRITE && has_waiting k CAN_WRITE h then Signals CAN_WRITE
+    else Signals CAN_READ)
 
 abbrev pub begins_to_write : Plan
 begins_to_write = when CAN_WRITE book.CAN_WRITE (op_of START_WRITE 0) nobody
 
 -- a reader if one waits, else a writer
 abbrev pub ends_to_write : Rules → Plan
-ends_to_write k = at_once (op_of END_WRITE 0) (λ h. if has_waiting k CAN_READ h then Some CAN_READ else Some CAN_WRITE)
+ends_to_write k = at_once (op_of END_WRITE 0) (λ h. if has_waiting k CAN_READ h then Signals CAN_READ else Signals CAN_WRITE)
+
+-- all readers if one waits, else a writer
+abbrev pub ends_to_write_for_all : Rules → Plan
+ends_to_write_for_all k =
+    at_once (op_of END_WRITE 0) (λ h. if has_waiting k CAN_READ h then SignalsAll CAN_READ else Signals CAN_WRITE)
 
 abbrev pub sits : Plan
 sits = when SEAT_FREE HAS_SEAT (op_of SIT 0) (always CUSTOMER_SITS)

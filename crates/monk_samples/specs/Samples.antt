@@ -1,5 +1,6 @@
 -- The samples: their objects, and what a run of one leaves
-use Rattle.std.specs.Prelude.{◌≡◌, ℕ, ◌*◌, ◌+◌, ◌^◌, ◌≤◌, List, length, if◌then◌else◌}
+use Rattle.std.specs.Prelude.{◌≡◌, ℕ, ◌*◌, ◌+◌, ◌^◌, ◌≤◌, IsTrue, List, length, nat_le, if◌then◌else◌}
+use Rattle.std.specs.List.{list_all}
 use Rattle.monk_kinds.specs.Names.{rules_named}
 use Rattle.monk_kinds.specs.declared.mode.Rules.{Rules}
 use Rattle.monk_kinds.specs.declared.name.KindName.{KindName}
@@ -11,7 +12,7 @@ use Rattle.monk_history.specs.Meaning.Events.{has_conditions}
 use Rattle.monk_history.specs.Meaning.Legal.{IsLegal}
 use Rattle.monk_history.specs.Meaning.Monitor.{monitor, data_of}
 use Rattle.monk_history.specs.Meaning.Named.{named_monitor}
-use Rattle.monk_history.specs.Text.{Heading, heading}
+use Rattle.monk_history.specs.Text.{Heading, first_version, heading, is_writable}
 use Rattle.monk_history.specs.declared.event.Event.{Event}
 use Rattle.monk_samples.specs.Totals.{HasTotals, totals_of}
 use Rattle.monk_samples.specs.declared.sample.Sample.{Sample}
@@ -40,23 +41,30 @@ IsInRange seats rounds = (2 ≤ seats) × (seats ≤ 16) × (1 ≤ rounds) × (r
 abbrev pub run_heading : KindName → Sample → ℕ → Heading
 run_heading k sample seats = heading 1 k seats (conds_of (rules_named k)) (sample_object sample) size
 
+-- each event has a line in the first version of a text
+abbrev pub IsOfFirstVersion : List Event → Type 0
+IsOfFirstVersion h = IsTrue (list_all (λ e. nat_le (first_version e) 1) h)
+
 -- the law of the sample's object holds of the acts of the history
 abbrev pub KeepsLaw : Sample → List ℕ → List Event → Type 0
 KeepsLaw Buffer state h = IsInOrder size state (acts_in h)
 KeepsLaw Book state h = ExcludesEachOther size state (acts_in h)
 KeepsLaw Shop state h = ServesEachOne size state (acts_in h)
 
--- the history of a run: legal, within the budgets of all seats, and with the totals of its seats and rounds
+-- the history of a run: legal, within the budgets of all seats, with events of the first version alone, and with the
+-- totals of its seats and rounds
 pub record IsHistoryOf (k : Rules) (sample : Sample) (seats rounds : ℕ) (h : List Event) : Type 0 where
   pub legal : IsLegal (monitor k seats (conds_of k) (meaning_named (sample_object sample)) (opening_named (sample_object sample) size)) h
   pub few : length h ≤ seats * budget_of seats rounds
+  pub early : IsOfFirstVersion h
   pub totals : HasTotals sample seats rounds (totals_of sample h)
 
--- a run has left this history, which is legal for the monitor that its header names, and not too long for an audit. The
--- sample's law holds of it, and the totals are its own
+-- a run has left this history, which is legal for the monitor that its header names, and not too long for an audit. It
+-- has a text under that header. The sample's law holds of it, and the totals are its own
 pub record IsOutcome (k : KindName) (sample : Sample) (seats : ℕ) (h : Heading) (history : List Event) (totals : List ℕ) : Type 0 where
   pub header : h ≡ run_heading k sample seats
   pub legal : IsLegal (named_monitor h) history
   pub few : length history ≤ 2 ^ 24
+  pub writable : IsTrue (is_writable h history)
   pub law : KeepsLaw sample (data_of (named_monitor h) history) history
   pub totals_are : totals ≡ totals_of sample history

@@ -75,3 +75,9 @@ abbrev pub HasFinished : Rules → Object → Holder → List Event → Token �
 HasFinished k o a calls p Done = HasGoneBy k o a calls p
 HasFinished k o a calls p Tired = (has_signaller_queue k.mode ≡ true) × HasGivenUp k o a p
 HasFinished k o a calls p Late = ⊥
+
+-- the same of a way out that not only such a kind has
+abbrev pub HasGoneOut : Rules → Object → Holder → List Event → Token → End → Type 0
+HasGoneOut k o a calls p Done = HasGoneBy k o a calls p
+HasGoneOut k o a calls p Tired = HasGivenUp k o a p
+HasGoneOut k o a calls p Late = ⊥

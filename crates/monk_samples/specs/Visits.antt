@@ -5,7 +5,7 @@ use Rattle.monk_object.specs.Object.{Object}
 use Rattle.monk_object.specs.declared.op.Op.{Op}
 use Rattle.monk_history.specs.Meaning.Monitor.{data_of}
 use Rattle.monk_history.specs.declared.event.Event.{Event}
-use Rattle.monk_history.specs.declared.event.Event.TheVariants.{Act, Leave}
+use Rattle.monk_history.specs.declared.event.Event.TheVariants.{Act, Leave, SignalAll, SignalWait}
 use Rattle.monk_history.specs.declared.event.Next.TheVariants.{Stay}
 use Rattle.monk_floor.specs.View.{monitor_of}
 use Rattle.monk_hall.specs.Layout.{floor_of}
@@ -26,29 +26,37 @@ pub record Wanted : Type 0 where
 abbrev pub wanted : ℕ → ℕ → Wanted
 wanted cond pred = record { cond = cond; pred = pred }
 
+-- how a visit goes out: without a signal; with a signal of a condition; with a signal to all who wait there; or with a
+-- signal of the first condition and a wait on the second, after which it leaves
+pub data WayOut : Type 0 where
+  Unsignalled : WayOut
+  Signals : ℕ → WayOut
+  SignalsAll : ℕ → WayOut
+  SignalsAndWaits : ℕ → ℕ → WayOut
+
 -- one visit as it is planned: for what it pauses first, if for anything; its operation; and, by the history after that,
--- the condition that it signals on its way out, if any
+-- its way out
 pub record Plan : Type 0 where
   pub wanted : Option Wanted
   pub op : Op
-  pub signals : List Event → Option ℕ
+  pub goes_out : List Event → WayOut
 
 abbrev pub op_of : ℕ → ℕ → Op
 op_of code arg = record { code = code; arg = arg }
 
 -- a visit that pauses until a predicate holds, and one that acts at once
-abbrev pub when : ℕ → ℕ → Op → (List Event → Option ℕ) → Plan
-when cond pred op signals = record { wanted = Some (wanted cond pred); op = op; signals = signals }
+abbrev pub when : ℕ → ℕ → Op → (List Event → WayOut) → Plan
+when cond pred op goes_out = record { wanted = Some (wanted cond pred); op = op; goes_out = goes_out }
 
-abbrev pub at_once : Op → (List Event → Option ℕ) → Plan
-at_once op signals = record { wanted = None; op = op; signals = signals }
+abbrev pub at_once : Op → (List Event → WayOut) → Plan
+at_once op goes_out = record { wanted = None; op = op; goes_out = goes_out }
 
 -- on its way out it always signals the one condition, or nobody
-abbrev pub always : ℕ → List Event → Option ℕ
-always cond h = Some cond
+abbrev pub always : ℕ → List Event → WayOut
+always cond h = Signals cond
 
-abbrev pub nobody : List Event → Option ℕ
-nobody h = None
+abbrev pub nobody : List Event → WayOut
+nobody h = Unsignalled
 
 -- the data after a history
 abbrev pub data_after : Rules → Object → Setting → List Event → List ℕ
@@ -75,10 +83,12 @@ abbrev pub IsCertain : Option Wanted → ℕ → Type 0
 IsCertain None reply = Unit {0}
 IsCertain (Some w) reply = 0 < reply
 
--- the calls by which it goes out: with this signal, or without any
-abbrev pub calls_out : Rules → ℕ → Option ℕ → List Event
-calls_out k s None = Leave s Stay ∷ []
-calls_out k s (Some cond) = way_out k s cond
+-- the calls by which it goes out
+abbrev pub calls_out : Rules → ℕ → WayOut → List Event
+calls_out k s Unsignalled = Leave s Stay ∷ []
+calls_out k s (Signals cond) = way_out k s cond
+calls_out k s (SignalsAll cond) = SignalAll s cond ∷ Leave s Stay ∷ []
+calls_out k s (SignalsAndWaits cond wait_cond) = SignalWait s cond wait_cond Stay ∷ Leave s Stay ∷ []
 
 -- the pauses and the operation of a visit
 pub record IsDone (k : Rules) (o : Object) (c : Setting) (s : ℕ) (v : Plan) (pauses : List Addition) (act : Addition) : Type 0 where
@@ -94,7 +104,7 @@ pub record IsVisit (k : Rules) (o : Object) (c : Setting) (s : ℕ) (v : Plan) (
   pub out : List Addition
   pub are : calls ≡ pauses ++ act ∷ out
   pub done : IsDone k o c s v pauses act
-  pub goes : AreCalls k o c (calls_out k s (v.signals (after act))) out
+  pub goes : AreCalls k o c (calls_out k s (v.goes_out (after act))) out
 
 -- these calls of seat s pause for this, and then it leaves
 pub record IsLeftWaiting (k : Rules) (o : Object) (c : Setting) (s : ℕ) (wanted : Option Wanted) (calls : List Addition) : Type 0 where

@@ -1,16 +1,17 @@
 //! Readers and writers: several read at once, one writes alone. A reader begins and ends with two visits of its own, as a
 //! writer does, and reads or writes outside the monitor between them.
-ghost use Rattle.std.specs.Prelude.{◌≡◌, [], ◌∷◌};
+ghost use Rattle.std.specs.Prelude.{◌≡◌, ◌≤◌, [], ◌∷◌};
 ghost use Rattle.monk_object.specs.Book.{book_meaning};
-ghost use Rattle.monk_samples.specs.Members.{begins_to_read, ends_to_read, begins_to_write, ends_to_write};
+ghost use Rattle.monk_samples.specs.Members.{begins_to_read, ends_to_read, begins_to_write, ends_to_write, ends_to_write_for_all};
 ghost use Rattle.monk_samples.specs.Styles.{Offers};
 ghost use Rattle.monk_samples.specs.Visits.{HasVisited};
 
 use crate::end::End;
 use crate::style::Style;
+use crate::styles::waking::wake_all_and_leave;
 use crate::visit::{act_and_finish, act_now, act_when};
 use monk_hall::{Hall, Pass};
-use monk_kinds::Pick;
+use monk_kinds::{NonBlocking, Pick};
 use monk_object::{Book, Op};
 use std::sync::Wait;
 
@@ -19,6 +20,12 @@ const CAN_READ: u8 = 0;
 
 /// The condition that a write may start.
 const CAN_WRITE: u8 = 1;
+
+/// The operation that ends a write.
+const END_OF_WRITE: Op = Op {
+    code: Book::END_WRITE,
+    arg: 0,
+};
 
 /// Begins to read, once nobody writes, and lets the next reader go on.
 pub fn read_begin<K: Style, R: Wait>(
@@ -91,11 +98,7 @@ pub fn write_end<K: Style, R: Wait>(
     requires conds { Offers K.rules pass.me.setting.conds 2 }
     ensures { HasVisited K.rules book_meaning pass (ends_to_write K.rules ∷ []) result.0 result.1 }
 {
-    let end = Op {
-        code: Book::END_WRITE,
-        arg: 0,
-    };
-    match act_now(pass, rt, hall, end) {
+    match act_now(pass, rt, hall, END_OF_WRITE) {
         Ok((active, _)) => {
             let next = if K::waits(&active, CAN_READ) {
                 CAN_READ
@@ -103,6 +106,28 @@ pub fn write_end<K: Style, R: Wait>(
                 CAN_WRITE
             };
             K::finish(active, rt, hall, next)
+        }
+        Err(pass) => (pass, End::Tired),
+    }
+}
+
+/// Ends its write, and lets all readers go on that wait, by one signal to all; if none waits, it lets a writer go on. For
+/// kinds whose signaller goes on.
+pub fn write_end_all<K: Style + NonBlocking, R: Wait>(
+    pass: Pass<K, Book>,
+    rt: &R,
+    hall: &Hall<K, Book>,
+) -> (Pass<K, Book>, End)
+    requires hall { pass.hall ≡ hall.now.id }
+    requires conds { 2 ≤ pass.me.setting.conds }
+    ensures { HasVisited K.rules book_meaning pass (ends_to_write_for_all K.rules ∷ []) result.0 result.1 }
+{
+    match act_now(pass, rt, hall, END_OF_WRITE) {
+        Ok((active, _)) => {
+            if K::waits(&active, CAN_READ) {
+                return wake_all_and_leave(active, hall, CAN_READ);
+            }
+            K::finish(active, rt, hall, CAN_WRITE)
         }
         Err(pass) => (pass, End::Tired),
     }

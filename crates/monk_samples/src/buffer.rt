@@ -4,15 +4,17 @@ ghost use Rattle.std.specs.Option.{option_to_list};
 ghost use Rattle.monk_object.specs.Buffer.{buffer_meaning};
 ghost use Rattle.monk_object.specs.Laws.{items_taken};
 ghost use Rattle.monk_history.specs.Meaning.Acts.{acts_in};
-ghost use Rattle.monk_samples.specs.Members.{puts, takes};
+ghost use Rattle.monk_samples.specs.Members.{puts, puts_and_waits, takes};
 ghost use Rattle.monk_samples.specs.Styles.{Offers};
 ghost use Rattle.monk_samples.specs.Trails.{events_in};
 ghost use Rattle.monk_samples.specs.Visits.{HasVisited};
 
 use crate::end::End;
 use crate::style::Style;
+use crate::styles::passing::signal_wait_and_leave;
 use crate::visit::{act_and_finish, act_when};
 use monk_hall::{Hall, Pass};
+use monk_kinds::ImmediateReturn;
 use monk_object::{Buffer, Op};
 use std::sync::Wait;
 
@@ -38,6 +40,29 @@ pub fn put<K: Style, R: Wait>(
         arg: item,
     };
     act_and_finish(pass, rt, hall, NOT_FULL, Buffer::HAS_ROOM, put, NOT_EMPTY)
+}
+
+/// Puts an item into the buffer, once there is room, lets a taker go on, and waits until there is room again, by one
+/// call. For kinds of immediate return. It comes back when a taker, or another putter's way out, signals that there is
+/// room.
+pub fn put_wait<K: Style + ImmediateReturn, R: Wait>(
+    pass: Pass<K, Buffer>,
+    rt: &R,
+    hall: &Hall<K, Buffer>,
+    item: u32,
+) -> (Pass<K, Buffer>, End)
+    requires hall { pass.hall ≡ hall.now.id }
+    requires conds { 2 ≤ pass.me.setting.conds }
+    ensures { HasVisited K.rules buffer_meaning pass (puts_and_waits item ∷ []) result.0 result.1 }
+{
+    let put = Op {
+        code: Buffer::PUT,
+        arg: item,
+    };
+    match act_when(pass, rt, hall, NOT_FULL, Buffer::HAS_ROOM, put) {
+        Ok((active, _)) => signal_wait_and_leave(active, rt, hall, NOT_EMPTY, NOT_FULL),
+        Err(pass) => (pass, End::Tired),
+    }
 }
 
 /// Takes the oldest item out of the buffer, once one is there, and lets a putter go on. Gives the item exactly where it

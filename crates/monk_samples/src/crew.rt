@@ -10,6 +10,7 @@ use crate::crew_fault::CrewFault;
 use crate::duty::Shift;
 use crate::end::End;
 use crate::gate::Gate;
+use crate::line::StartingLine;
 use crate::rota::Rota;
 use crate::worker::Worker;
 use monk_hall::{Hall, Pass};
@@ -63,6 +64,7 @@ pub(crate) fn workers<'a, K: Kind, T: Guarded, R, G>(
     rt: &'a R,
     hall: &'a Hall<K, T>,
     gate: &'a G,
+    line: &'a StartingLine,
     passes: Vec<Pass<K, T>>,
     rota: Rota,
 ) -> Result<Vec<Worker<'a, K, T, R, G>>, CrewFault>
@@ -80,6 +82,7 @@ pub(crate) fn workers<'a, K: Kind, T: Guarded, R, G>(
             hall,
             gate,
             rota,
+            line,
         })?;
     }
     Ok(workers)
@@ -104,7 +107,10 @@ pub(crate) fn join_all<K: Kind, T: Guarded, R: Threads, G: Gate>(
     let mut passes = Vec::with_capacity(alloc, crew.len() + 1)?;
     let mut fault = None;
     for shift in crew {
-        let (pass, end) = shift.join(rt);
+        // A worker goes home from the line only where not all could be started.
+        let Some((pass, end)) = shift.join(rt) else {
+            return Err(CrewFault::Thread);
+        };
         passes.push(pass)?;
         fault = fault_after(fault, end);
     }

@@ -1,4 +1,4 @@
-ghost use Rattle.std.specs.Prelude.{◌≡◌};
+ghost use Rattle.std.specs.Prelude.{◌≡◌, IfSome};
 ghost use Rattle.monk_samples.specs.Crews.{IsOf};
 ghost use Rattle.monk_samples.specs.Rounds.{HasServed};
 
@@ -12,7 +12,7 @@ use monk_object::Guarded;
 use std::snapshot::Snapshot;
 use std::thread::{Promise, PromisedHandle};
 
-/// What a worker promises: the pass that it gives back is of its hall, and its seat has served by its rota.
+/// What a worker promises: if it has begun, the pass that it gives back is of its hall, and its seat has served by its rota.
 #[derive(Drop)]
 pub(crate) struct Duty<K: Kind, T: Guarded, G: Gate> {
     pub(crate) hall: Snapshot<Hall<K, T>>,
@@ -38,11 +38,11 @@ impl<K: Kind, T: Guarded, G: Gate> Duty<K, T, G> {
     }
 }
 
-impl<K: Kind, T: Guarded, G: Gate> Promise<(Pass<K, T>, End)> for Duty<K, T, G> {
-    ghost kept_by = { λ p r. IsOf p.hall.value r.0
+impl<K: Kind, T: Guarded, G: Gate> Promise<Option<(Pass<K, T>, End)>> for Duty<K, T, G> {
+    ghost kept_by = { λ p back. IfSome back (λ r. IsOf p.hall.value r.0
         × HasServed K.rules T.meaning (G.answers p.gate.value) p.rota.value.sample p.rota.value.seats p.rota.value.rounds
-        p.pass.value r.0 r.1 };
+        p.pass.value r.0 r.1) };
 }
 
-/// The thread of a worker.
-pub(crate) type Shift<K, T, G> = PromisedHandle<(Pass<K, T>, End), Duty<K, T, G>>;
+/// The thread of a worker, which gives nothing back where it never began.
+pub(crate) type Shift<K, T, G> = PromisedHandle<Option<(Pass<K, T>, End)>, Duty<K, T, G>>;

@@ -13,6 +13,7 @@ mod crew_fault;
 mod duty;
 mod end;
 mod gate;
+mod line;
 mod outcome;
 mod rota;
 mod run_fault;
@@ -25,8 +26,8 @@ mod totals;
 mod visit;
 mod worker;
 
-pub use book::{read_begin, read_end, write_begin, write_end};
-pub use buffer::{put, take};
+pub use book::{read_begin, read_end, write_begin, write_end, write_end_all};
+pub use buffer::{put, put_wait, take};
 pub use end::End;
 pub use gate::{Gate, OpenGate};
 pub use outcome::Outcome;

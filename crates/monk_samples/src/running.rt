@@ -8,7 +8,7 @@ ghost use Rattle.monk_hall.specs.Tokens.{tokens};
 ghost use Rattle.monk_samples.specs.Crews.{AreReady, IsOf, IsClosed};
 ghost use Rattle.monk_samples.specs.Faults.{run_fault_of};
 ghost use Rattle.monk_samples.specs.Runs.{HasRun, IsFaultOfRun, IsFirstSpent};
-ghost use Rattle.monk_samples.specs.Samples.{IsHistoryOf, IsInRange, IsOutcome, budget_of, conds_of};
+ghost use Rattle.monk_samples.specs.Samples.{IsHistoryOf, IsInRange, IsOutcome, budget_of, conds_of, run_heading};
 ghost use Rattle.monk_samples.specs.Totals.{HasTotals};
 ghost use Rattle.monk_samples.specs.Wholes.{AreSame, HoldsOperationsOf};
 ghost use Rattle.monk_samples.specs.declared.crew_fault.CrewFault.TheVariants as crew;
@@ -25,7 +25,7 @@ use crate::style::Style;
 use crate::totals::totals_of;
 use monk_floor::MakeFault;
 use monk_hall::{Busy, Hall, Pass, close, complete, meet};
-use monk_history::{Event, Header};
+use monk_history::{Event, Header, writable};
 use monk_kinds::{Kind, Mode, Pick, rules_of};
 use monk_object::{Book, Buffer, Guarded, ObjectFault, Shop};
 use std::alloc::Global;
@@ -39,16 +39,16 @@ const SIZE: u8 = 4;
 /// the totals from its history.
 ///
 /// Of a buffer and a book one half of the seats does the one thing and as many do the other; an odd last seat stays
-/// idle. In a shop the first seat is the barber, who has a turn for each visit of the other seats. No worker waits for
-/// another to end before it starts. When all have ended, every other pass meets the first seat's, which comes in once
-/// more and closes the hall.
+/// idle. In a shop the first seat is the barber, who has a turn for each visit of the other seats. No worker begins before
+/// all are there, and none waits for another to end before it begins. When all have ended, every other pass meets the
+/// first seat's, which comes in once more and closes the hall.
 ///
 /// # Errors
 ///
-/// `Range`, and nothing is started; `Memory` where a growth was refused; `Thread` where a thread was not started; the end
-/// of the lowest seat that did not end well, `Tired` or `Late`; `Tired` where the first seat has too little left to
-/// come in once more; `Busy` where the hall can't be closed, or its history holds more than these seats did. A worker
-/// that ends early, or was not started, may leave others waiting for good: then this does not return.
+/// `Range`, and nothing is started; `Memory` where a growth was refused; `Thread` where a thread was not started, and
+/// then no worker has begun; the end of the lowest seat that did not end well, `Tired` or `Late`; `Tired` where the first
+/// seat has too little left to come in once more; `Busy` where the hall can't be closed, or its history holds more than
+/// these seats did. A worker that ends early may leave others waiting for good: then this does not return.
 ///
 /// # Cost
 ///
@@ -107,7 +107,7 @@ fn run_buffer<K: Style, R: Threads + Wait + Sync, G: Gate>(
     };
     let (hall, passes) = open::<K, Buffer>(alloc, buffer, rota)?;
     let passes = work_buffer(rt, alloc, &hall, passes, gate, rota)?;
-    close_by(rt, alloc, hall, passes)
+    close_by(rt, alloc, rota, hall, passes)
 }
 
 /// The history of a run over a book.
@@ -128,7 +128,7 @@ fn run_book<K: Style, R: Threads + Wait + Sync, G: Gate>(
     };
     let (hall, passes) = open::<K, Book>(alloc, book, rota)?;
     let passes = work_book(rt, alloc, &hall, passes, gate, rota)?;
-    close_by(rt, alloc, hall, passes)
+    close_by(rt, alloc, rota, hall, passes)
 }
 
 /// The history of a run over a shop.
@@ -149,7 +149,7 @@ fn run_shop<K: Style, R: Threads + Wait + Sync, G: Gate>(
     };
     let (hall, passes) = open::<K, Shop>(alloc, shop, rota)?;
     let passes = work_shop(rt, alloc, &hall, passes, gate, rota)?;
-    close_by(rt, alloc, hall, passes)
+    close_by(rt, alloc, rota, hall, passes)
 }
 
 /// A hall for the run, with all its passes.
@@ -210,10 +210,11 @@ fn meet_all<K: Kind, T: Guarded>(
 }
 
 /// The first seat comes in once more and closes the hall, and its history is given out where it holds what these seats
-/// did and nothing else.
+/// did and nothing else, all of it in the words of the first version.
 fn close_by<K: Kind, T: Guarded, R: Wait>(
     rt: &R,
     alloc: Global,
+    rota: Rota,
     hall: Hall<K, T>,
     passes: Vec<Pass<K, T>>,
 ) -> Result<Vec<Event>, CrewFault>
@@ -233,7 +234,8 @@ fn close_by<K: Kind, T: Guarded, R: Wait>(
     let active = first.arrive(&hall).resume(rt, &hall);
     match close(hall, active) {
         Ok(closed) => {
-            if !complete(&closed.history, seat, &others) {
+            let header = header_of::<K>(rota);
+            if !complete(&closed.history, seat, &others) || !writable(&header, &closed.history) {
                 return Err(CrewFault::Busy);
             }
             Ok(closed.history)
@@ -266,14 +268,21 @@ fn outcome<K: Kind>(rota: Rota, history: Vec<Event>) -> Outcome
     ensures outcome { IsOutcome K.NAME rota.sample rota.seats result.header result.history.items result.totals }
     ensures totals { HasTotals rota.sample rota.seats rota.rounds result.totals }
 {
-    let object = rota.sample.object();
-    let Some(header) = Header::new(K::NAME, rota.seats, conds_of::<K>(), object, SIZE) else {
-        unreachable!();
-    };
     let totals = totals_of(rota.sample, &history);
     Outcome {
         totals,
-        header,
+        header: header_of::<K>(rota),
         history,
+    }
+}
+
+/// The header of the run's history.
+fn header_of<K: Kind>(rota: Rota) -> Header
+    ensures { result ≡ run_heading K.NAME rota.sample rota.seats }
+{
+    let object = rota.sample.object();
+    match Header::new(K::NAME, rota.seats, conds_of::<K>(), object, SIZE) {
+        Some(header) => header,
+        None => unreachable!(),
     }
 }

@@ -4,3 +4,5 @@ pub(crate) mod automatic;
 pub(crate) mod conditional;
 pub(crate) mod explicit;
 mod going_on;
+pub(crate) mod passing;
+pub(crate) mod waking;

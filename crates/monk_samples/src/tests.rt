@@ -2,6 +2,7 @@
 ghost use Rattle.std.specs.Prelude.{IfOk};
 ghost use Rattle.monk_samples.specs.Tests.{AreSeats, IsSeat};
 
+mod later_members;
 mod paths;
 mod runs;
 
@@ -11,7 +12,8 @@ use crate::end::End;
 use crate::shop::{barber_turn, sit_and_cut};
 use crate::style::Style;
 use monk_hall::{Hall, Pass};
-use monk_kinds::{Npnb, Pb, Pir};
+use monk_history::{Event, Next, Via};
+use monk_kinds::{Npnb, Pb, Pick, Pir};
 use monk_object::{Book, Buffer, Guarded, Shop};
 use std::test::Fail;
 
@@ -55,13 +57,45 @@ fn item_goes_through(rt: HostRuntime) -> Result<(), Fail> {
     Ok(())
 }
 
+/// Comes in at once, and leaves: whether it found this history.
+fn comes_in_and_finds<K: Style, T: Guarded>(
+    pass: Pass<K, T>,
+    hall: &Hall<K, T>,
+    history: &[Event],
+) -> bool
+    requires { IsSeat hall.now.id pass }
+{
+    if pass.left() < 2 {
+        return false;
+    }
+    match pass.arrive(hall).poll(hall) {
+        Ok(active) => {
+            let found = active.history() == history;
+            active.leave(hall, Pick::Waiter);
+            found
+        }
+        Err(parked) => {
+            parked.give_up();
+            false
+        }
+    }
+}
+
+/// A budget of two events is to come and go, so nothing is put.
 #[test]
 fn tired_putter_leaves(rt: HostRuntime) -> Result<(), Fail> {
     let (hall, mut passes) = hall::<Pb, Buffer>(&rt, Buffer::make(rt.alloc(), 1)?, 2)?;
+    let other = last(&hall, &mut passes)?;
     let putter = last(&hall, &mut passes)?;
     let (pass, end) = put(putter, &rt, &hall, 7);
     assert!(rt; end == End::Tired);
     assert!(rt; pass.left() == 0);
+    let history = [
+        Event::Enter(0, Via::Free),
+        Event::Leave(0, Next::Entry),
+        Event::Enter(1, Via::Free),
+    ];
+    assert!(rt; comes_in_and_finds(other, &hall, history.as_slice()));
     Ok(())
 }
 

@@ -1,3 +1,4 @@
+use crate::line::StartingLine;
 use crate::rota::Rota;
 use monk_hall::{Hall, Pass};
 use monk_kinds::Kind;
@@ -11,4 +12,5 @@ pub(crate) struct Worker<'a, K: Kind, T: Guarded, R, G> {
     pub(crate) hall: &'a Hall<K, T>,
     pub(crate) gate: &'a G,
     pub(crate) rota: Rota,
+    pub(crate) line: &'a StartingLine,
 }

@@ -1,3 +1,6 @@
+//! Readers and writers that fail at each of their calls in turn, that give or take a few bytes at a time, or none.
+ghost use Rattle.std.specs.Prelude.{◌<◌};
+
 use crate::task::Task;
 use crate::{StreamFault, classify_stream, run_stream};
 use monk_history::Device;
@@ -8,44 +11,51 @@ use std::io::{Read, Write};
 use std::process::Abort;
 use std::test::Fail;
 
-const HAND_OVER: &[u8] =
-    b"monk 1 PB 2 2 buffer 1\nenter 0 free\nwait 0 1 entry\nenter 1 free\nsignal 1 1 waiter 0\nresume 0 waiter\nleave 0 signaller 1\nresume 1 signaller\nleave 1 entry\n";
-
-const PLAY: &[u8] =
-    b"play 1 PB 2 2 buffer 1 8\n0 arrive\n0 out\n0 leave waiter\n1 arrive\n0 drop\n0 grant\n1 look\n1 out\n";
-
-/// An input, what is made of it, and how many bytes are written then.
+/// An input, what is made of it, and what is answered.
 struct Job {
     task: Task,
     input: &'static [u8],
-    written: usize,
+    status: u8,
+    answer: &'static [u8],
 }
 
-/// `legal 8` with its newline; the header and three events, of 23, 13, 14 and 15 bytes; as many bytes as were read.
-static JOBS: [Job; 3] = [
+static JOBS: [Job; 4] = [
     Job {
         task: Task::Audit,
-        input: HAND_OVER,
-        written: 8,
+        input: b"monk 1 PB 2 2 buffer 1\nenter 0 free\nwait 0 1 entry\nenter 1 free\nsignal 1 1 waiter 0\nresume 0 waiter\nleave 0 signaller 1\nresume 1 signaller\nleave 1 entry\n",
+        status: 0,
+        answer: b"legal 8\n",
+    },
+    Job {
+        task: Task::Audit,
+        input: b"monk 1 PB 1 0 buffer 1\nenter 0 free\nleave 0 entry\nenter +1 free\n",
+        status: 2,
+        answer: b"unreadable 4 3 number\n",
     },
     Job {
         task: Task::Play,
-        input: PLAY,
-        written: 65,
+        input: b"play 1 PB 2 2 buffer 1 8\n0 arrive\n0 out\n0 leave waiter\n1 arrive\n0 drop\n0 grant\n1 look\n1 out\n",
+        status: 0,
+        answer: b"monk 1 PB 2 2 buffer 1\nenter 0 free\nleave 0 entry\nenter 1 handed\n",
     },
     Job {
         task: Task::Upgrade,
-        input: HAND_OVER,
-        written: 153,
+        input: b"monk 1 PB 1 0 buffer 1\nenter 0 free\nact 0 0 5 1\nleave 0 entry\n",
+        status: 0,
+        answer: b"monk 2 PB 1 0 buffer 1\nenter 0 free\nact 0 0 5 1\nleave 0 entry\n",
     },
 ];
+
+/// By how many bytes a device gives or takes: by one, by pieces that end inside a line, by all that there are.
+const STEPS: [usize; 3] = [1, 7, 4096];
 
 /// A reader that gives a few bytes at a time and fails at one of its reads.
 #[derive(Drop)]
 struct Slow<'a> {
     rest: &'a [u8],
     step: usize,
-    reads_left: u32,
+    /// Counted down to the one that fails; at 0 none will.
+    reads_left: usize,
 }
 
 impl Read for Slow<'_> {
@@ -63,11 +73,13 @@ impl Read for Slow<'_> {
     }
 }
 
-/// A writer that takes a few bytes at a time, keeps none, and at one of its writes fails or takes none.
+/// A writer that takes a few bytes at a time, and at one of its writes fails or takes none.
 #[derive(Drop)]
 struct Tight {
+    taken: Vec<u8>,
     step: usize,
-    writes_left: u32,
+    /// Counted down to the one that fails; at 0 none will.
+    writes_left: usize,
     refuses: bool,
 }
 
@@ -82,7 +94,9 @@ impl Write for Tight {
             };
         }
         self.writes_left = self.writes_left.saturating_sub(1);
-        Ok(self.step.min(buf.len()))
+        let taken = self.step.min(buf.len());
+        self.taken.extend_from_slice(&buf[..taken])?;
+        Ok(taken)
     }
 
     fn flush(&mut self) -> io::Result<()> {
@@ -90,117 +104,166 @@ impl Write for Tight {
     }
 }
 
-/// How many reads there were until the end, each of which failed in turn.
-fn reads_that_fail<R: Abort + AllocGlobal>(rt: &R, job: &Job, step: usize) -> Result<usize, Fail> {
+/// Whether it is the file fault, with what a writer took by then, or the answer, once no call fails.
+fn is_due(told: Result<u8, StreamFault>, taken: &[u8], job: &Job, fails: bool) -> bool {
+    if fails {
+        told == Err(StreamFault::File) && job.answer.starts_with(taken)
+    } else {
+        told == Ok(job.status) && taken == job.answer
+    }
+}
+
+/// Each read fails in turn, up to the one that finds the end; then none does.
+fn reads_fail<R: Abort + AllocGlobal>(rt: &R, job: &Job, step: usize) -> Result<(), Fail>
+    requires { 0 < step }
+{
     let alloc = rt.alloc();
-    let mut files = 0;
-    for fails_at in 1..300u32 {
+    let last = job.input.len().div_ceil(step).saturating_add(1);
+    for fails_at in 1..=last.saturating_add(1) {
         let mut reader = Device::new(Slow {
             rest: job.input,
             step,
             reads_left: fails_at,
         });
-        let mut writer = Device::new(Vec::new(alloc));
-        match job.task.stream(alloc, &mut reader, &mut writer) {
-            Ok(status) => assert_eq!(rt; status, 0),
-            Err(StreamFault::File) => {
-                assert!(rt; reader.failed());
-                files = fails_at;
-            }
-            Err(StreamFault::Memory) => assert!(rt; false),
-        }
+        let mut taken = Vec::new(alloc);
+        let told = job
+            .task
+            .stream(alloc, &mut reader, &mut Device::new(&mut taken));
+        let fails = fails_at <= last;
+        assert!(rt;
+            is_due(told, &taken, job, fails),
+            "read {fails_at} by {step}"
+        );
+        assert!(rt; reader.failed() == fails, "read {fails_at} by {step}");
+        assert!(rt; !fails || taken.is_empty(), "read {fails_at} by {step}");
     }
-    Ok(files as usize)
+    Ok(())
 }
 
 #[test]
 fn reads_fail_in_turn(rt: HostRuntime) -> Result<(), Fail> {
     for job in JOBS.iter() {
-        for step in [1usize, 7, 4096] {
-            let wanted = job.input.len().div_ceil(step) + 1;
-            assert_eq!(rt; reads_that_fail(&rt, job, step)?, wanted, "by {step}");
+        for step in STEPS {
+            reads_fail(&rt, job, step)?;
         }
     }
     Ok(())
 }
 
-/// How many writes there were, each of which failed in turn.
-fn writes_that_fail<R: Abort + AllocGlobal>(
+/// Each write fails in turn, and takes none of its bytes; then none fails.
+fn writes_fail<R: Abort + AllocGlobal>(
     rt: &R,
     job: &Job,
+    step: usize,
     refuses: bool,
-) -> Result<usize, Fail> {
+) -> Result<(), Fail>
+    requires { 0 < step }
+{
     let alloc = rt.alloc();
-    let mut files = 0;
-    for fails_at in 1..80u32 {
-        let mut reader = Device::new(job.input);
-        let mut writer = Device::new(Tight {
-            step: 3,
+    let last = job.answer.len().div_ceil(step);
+    for fails_at in 1..=last.saturating_add(1) {
+        let mut tight = Tight {
+            taken: Vec::new(alloc),
+            step,
             writes_left: fails_at,
             refuses,
-        });
-        match job.task.stream(alloc, &mut reader, &mut writer) {
-            Ok(status) => assert_eq!(rt; status, 0),
-            Err(StreamFault::File) => {
-                assert!(rt; writer.failed());
-                files = fails_at;
-            }
-            Err(StreamFault::Memory) => assert!(rt; false),
-        }
+        };
+        let mut writer = Device::new(&mut tight);
+        let told = job
+            .task
+            .stream(alloc, &mut Device::new(job.input), &mut writer);
+        let fails = fails_at <= last;
+        assert!(rt; writer.failed() == fails, "write {fails_at} by {step}");
+        assert!(rt;
+            is_due(told, &tight.taken, job, fails),
+            "write {fails_at} by {step}"
+        );
+        let before = fails_at.saturating_sub(1).saturating_mul(step);
+        assert!(rt;
+            tight.taken.len() == before.min(job.answer.len()),
+            "write {fails_at} by {step}"
+        );
     }
-    Ok(files as usize)
+    Ok(())
 }
 
 #[test]
 fn writes_fail_in_turn(rt: HostRuntime) -> Result<(), Fail> {
     for job in JOBS.iter() {
-        for refuses in [false, true] {
-            let wanted = job.written.div_ceil(3);
-            assert_eq!(rt; writes_that_fail(&rt, job, refuses)?, wanted);
+        for step in STEPS {
+            writes_fail(&rt, job, step, false)?;
+            writes_fail(&rt, job, step, true)?;
         }
     }
     Ok(())
 }
 
+/// A writer that never takes a byte.
+#[test]
+fn nothing_is_taken(rt: HostRuntime) -> Result<(), Fail> {
+    let alloc = rt.alloc();
+    for job in JOBS.iter() {
+        let mut writer = Device::new(Tight {
+            taken: Vec::new(alloc),
+            step: 0,
+            writes_left: 0,
+            refuses: true,
+        });
+        let told = job
+            .task
+            .stream(alloc, &mut Device::new(job.input), &mut writer);
+        assert!(rt; told == Err(StreamFault::File) && writer.failed());
+    }
+    Ok(())
+}
+
+/// `Ep<Sp<Wp` and `PB`, each with its newline, are four writes of what is taken at once, and twelve of a byte each.
 #[test]
 fn two_lines_fail_in_turn(rt: HostRuntime) -> Result<(), Fail> {
-    for refuses in [false, true] {
-        for fails_at in 1..20u32 {
-            let mut writer = Device::new(Tight {
-                step: 1,
-                writes_left: fails_at,
-                refuses,
-            });
-            // `Ep<Sp<Wp` and `PB`, each with its newline, a byte at a time.
-            let result = classify_stream(1, 3, 2, &mut writer);
-            assert_eq!(rt; result.is_ok(), fails_at > 12, "at {fails_at}");
-            assert_eq!(rt; writer.failed(), fails_at <= 12, "at {fails_at}");
+    for (step, last) in [(1usize, 12usize), (4096, 4)] {
+        for fails_at in 1..20usize {
+            for refuses in [false, true] {
+                let mut writer = Device::new(Tight {
+                    taken: Vec::new(rt.alloc()),
+                    step,
+                    writes_left: fails_at,
+                    refuses,
+                });
+                let told = classify_stream(1, 3, 2, &mut writer);
+                let fails = fails_at <= last;
+                let wanted = if fails { Err(StreamFault::File) } else { Ok(0) };
+                assert!(rt;
+                    told == wanted && writer.failed() == fails,
+                    "write {fails_at} by {step}"
+                );
+            }
         }
     }
     Ok(())
 }
 
-/// How many writes of a run's totals there were, each of which failed in turn.
+/// The totals of a run are 24 bytes: `put 1 1`, `taken 1 1` and `legal` with their newlines.
 #[test]
-fn writes_of_totals_fail_in_turn(rt: HostRuntime) -> Result<(), Fail> {
+fn totals_fail_in_turn(rt: HostRuntime) -> Result<(), Fail> {
     let alloc = rt.alloc();
-    let mut files = 0;
-    for fails_at in 1..20u32 {
-        let mut writer = Device::new(Tight {
-            step: 3,
-            writes_left: fails_at,
-            refuses: false,
-        });
-        match run_stream(&rt, alloc, KindName::Pir, Sample::Buffer, 2, 1, &mut writer) {
-            Ok(status) => assert_eq!(rt; status, 0),
-            Err(StreamFault::File) => {
-                assert!(rt; writer.failed());
-                files = fails_at;
+    for (step, last) in [(1usize, 24usize), (7, 4), (4096, 1)] {
+        for fails_at in 1..=last.saturating_add(1) {
+            for refuses in [false, true] {
+                let mut writer = Device::new(Tight {
+                    taken: Vec::new(alloc),
+                    step,
+                    writes_left: fails_at,
+                    refuses,
+                });
+                let told = run_stream(&rt, alloc, KindName::Pir, Sample::Buffer, 2, 1, &mut writer);
+                let fails = fails_at <= last;
+                let wanted = if fails { Err(StreamFault::File) } else { Ok(0) };
+                assert!(rt;
+                    told == wanted && writer.failed() == fails,
+                    "write {fails_at} by {step}"
+                );
             }
-            Err(StreamFault::Memory) => assert!(rt; false),
         }
     }
-    // `put 1 1`, `taken 1 1` and `legal` with their newlines, 24 bytes by threes
-    assert_eq!(rt; files, 8);
     Ok(())
 }

@@ -11,7 +11,7 @@ fn asks_for(line: &Line, command: &str, file: Option<&str>) -> bool {
         Line::Audit(name) => ("audit", name),
         Line::Play(name) => ("play", name),
         Line::Upgrade(name) => ("upgrade", name),
-        Line::Classify(..) | Line::Run(..) => return false,
+        Line::Classify(..) | Line::Run(..) | Line::Record(..) => return false,
     };
     let same = match (name, file) {
         (Some(name), Some(file)) => name.as_str() == file,
@@ -47,6 +47,8 @@ fn words_that_ask_for_a_run(rt: HostRuntime) -> Result<(), Fail> {
     assert!(rt; matches!(&most, Line::Run(KindName::Pir, Sample::Shop, 16, 1000)));
     let buffer = line(alloc, &["monk", "run", "NPQB", "buffer", "8", "100"])?;
     assert!(rt; matches!(&buffer, Line::Run(KindName::Npqb, Sample::Buffer, 8, 100)));
+    let record = line(alloc, &["monk", "record", "PNB", "shop", "3", "7"])?;
+    assert!(rt; matches!(&record, Line::Record(KindName::Pnb, Sample::Shop, 3, 7)));
     Ok(())
 }
 
@@ -89,6 +91,8 @@ fn words_that_ask_for_no_run(rt: HostRuntime) {
     assert!(rt; is_refused(alloc, &["monk", "run", "PB", "buffer", "8", "1001"]));
     assert!(rt; is_refused(alloc, &["monk", "run", "PB", "buffer", "8"]));
     assert!(rt; is_refused(alloc, &["monk", "run", "PB", "buffer", "8", "100", "1"]));
+    assert!(rt; is_refused(alloc, &["monk", "record", "PB", "buffer", "17", "100"]));
+    assert!(rt; is_refused(alloc, &["monk", "record", "PB", "buffer", "8", "1001"]));
 }
 
 #[test]

@@ -72,7 +72,7 @@ const HANDED: [Event; 4] = [
 
 #[test]
 fn last_ends_the_hall(rt: HostRuntime) -> Result<(), Fail> {
-    let (hall, mut passes) = hall::<Pb>(&rt, 2, 0, 8)?;
+    let (hall, mut passes) = hall::<Pb>(&rt, 2, 1, 8)?;
     let second = take(&hall, &mut passes)?;
     let first = take(&hall, &mut passes)?;
     assert!(rt; ends_last(hall, first, second));

@@ -7,6 +7,7 @@ ghost use Rattle.monk_history.specs.Text.Reading.{vias, froms, next_word, all_ne
 ghost use Rattle.monk_history.specs.Text.Reading.{cond_next_at, act_at, event_after, event_at};
 
 use crate::event::{Event, From3, Next, Via};
+use crate::text::event_front::{WINDOW, event_at_front};
 use crate::text::fault::Flaw;
 use crate::text::header::Header;
 use crate::text::lines::{LineWords, Record};
@@ -15,7 +16,9 @@ use crate::text::verb::Verb;
 use monk_object::Op;
 
 impl Record<Header> for Event {
+    ghost use Rattle.std.specs.Prelude.{IfSome};
     ghost use Rattle.monk_history.specs.Text.Words.{Reads};
+    ghost use Rattle.monk_history.specs.Text.Lines.{IsAtFront};
     ghost use Rattle.monk_history.specs.Text.Reading.{event_under};
 
     ghost parse = { event_under };
@@ -25,6 +28,16 @@ impl Record<Header> for Event {
         ensures { Reads result words.new (event_under header.now words.old) }
     {
         event(words, header.version())
+    }
+
+    #[inline(always)]
+    fn at_front(header: &Header, bytes: &[u8]) -> Option<(Event, usize)>
+        ensures { IfSome result (λ r. IsAtFront (event_under header.now) bytes.now r.0 r.1) }
+    {
+        if bytes.len() < WINDOW {
+            return None;
+        }
+        event_at_front(bytes, header.version())
     }
 }
 

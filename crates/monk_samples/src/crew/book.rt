@@ -1,5 +1,5 @@
 //! The threads of a run over a book.
-ghost use Rattle.std.specs.Prelude.{◌≡◌, ℕ, [], ◌∷◌, All, IfErr, IfOk, map};
+ghost use Rattle.std.specs.Prelude.{◌≡◌, ℕ, [], ◌∷◌, All, IfErr, IfOk, IfSome, map};
 ghost use Rattle.monk_object.specs.Book.{book_meaning};
 ghost use Rattle.monk_samples.specs.Crews.{AreReady, IsOf, IsReady};
 ghost use Rattle.monk_samples.specs.Ends.{HaveServed, IsFaultOfCrew, IsWantOfRoom};
@@ -15,6 +15,7 @@ use crate::crew_fault::CrewFault;
 use crate::duty::{Duty, Shift};
 use crate::end::End;
 use crate::gate::Gate;
+use crate::line::StartingLine;
 use crate::rota::Rota;
 use crate::style::Style;
 use crate::worker::Worker;
@@ -42,7 +43,8 @@ pub(crate) fn work_book<K: Style, R: Threads + Wait + Sync, G: Gate>(
         passes.items) }
 {
     let (working, idle) = part_idle(passes, rota);
-    let workers = workers(alloc, rt, hall, gate, working, rota)?;
+    let line = StartingLine::new();
+    let workers = workers(alloc, rt, hall, gate, &line, working, rota)?;
     let back = thread::scope(
         thread::scope_env(),
         rt,
@@ -55,14 +57,16 @@ pub(crate) fn work_book<K: Style, R: Threads + Wait + Sync, G: Gate>(
             ensures fault { IfErr result (IsFaultOfCrew K.rules book_meaning (G.answers gate.entry.now) rota.sample
                 rota.seats rota.rounds (map (λ w. w.pass) workers.entry.items)) }
         {
+            let held = line.hold(rt);
             let crew = start_all(scope, alloc, hall, gate, rota, workers)?;
+            StartingLine::open(held);
             join_all(alloc, rt, hall, gate, rota, crew)
         },
     )?;
     with_idle(back, idle)
 }
 
-/// Starts a thread for each worker.
+/// Starts a thread for each worker. None goes past the line while it is held.
 fn start_all<'s, E, K: Style, R: Wait + Sync, G: Gate>(
     scope: &Scope<'s, E>,
     alloc: Global,
@@ -102,13 +106,18 @@ fn start<'s, E, K: Style, R: Wait + Sync, G: Gate>(
     let promise = Duty::of(&worker);
     let started = scope.spawn_with(
         promise,
-        move || -> (Pass<K, Book>, End)
+        move || -> Option<(Pass<K, Book>, End)>
             requires ready { IsReady K.rules worker.hall.now worker.pass }
             requires sample { worker.rota.sample ≡ sample.Book }
-            ensures back { IsOf worker.entry.hall.now result.0 }
-            ensures served { HasServed K.rules book_meaning (G.answers worker.entry.gate.now) worker.entry.rota.sample
-                worker.entry.rota.seats worker.entry.rota.rounds worker.entry.pass result.0 result.1 }
-        { work(worker) },
+            ensures { IfSome result (λ r. IsOf worker.entry.hall.now r.0
+                × HasServed K.rules book_meaning (G.answers worker.entry.gate.now) worker.entry.rota.sample
+                worker.entry.rota.seats worker.entry.rota.rounds worker.entry.pass r.0 r.1) }
+        {
+            if !worker.line.wait(worker.rt) {
+                return None;
+            }
+            Some(work(worker))
+        },
     );
     match started {
         Ok(shift) => Ok(shift),
@@ -130,6 +139,7 @@ fn work<K: Style, R: Wait, G: Gate>(worker: Worker<'_, K, Book, R, G>) -> (Pass<
         hall,
         gate,
         rota,
+        line: _,
     } = worker;
     let seat = pass.seat();
     for done in 0..rota.rounds_of(seat) {

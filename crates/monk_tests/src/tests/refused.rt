@@ -2,4 +2,6 @@
 
 mod audits;
 mod buffers;
+mod plays;
 mod texts;
+mod worlds;

@@ -150,18 +150,31 @@ const ONE_SEAT: Size = Size {
 fn refusals_change_nothing(rt: HostRuntime) -> Result<(), Fail> {
     let history = [Event::Enter(0, Via::Free), Event::Leave(0, Next::Entry)];
     assert!(rt; plays(&rt, ONE_SEAT, &REFUSALS, &history)?);
-    let without_conditions = Size {
-        conds: 0,
-        ..ONE_SEAT
-    };
-    let out_of_range = [
+    Ok(())
+}
+
+/// One seat with a budget of 2 comes and goes, and has nothing left; the wait is what it is by the conditions.
+fn comes_once(rt: &HostRuntime, conds: u8, wait: Answer) -> Result<bool, Fail> {
+    let steps = [
         (0, Command::Arrive, Answer::Arrived(0, 0)),
         (0, Command::Out, Answer::Now),
-        // Tired too.
-        (0, WAIT, Answer::Range),
+        (0, PUT, Answer::Tired),
+        (0, WAIT, wait),
         (0, LEAVE, Answer::Chose(Next::Entry)),
+        (0, Command::Drop, Answer::Found(1)),
+        (0, Command::Arrive, Answer::Tired),
+        (0, Command::Drop, Answer::NotNow),
+        (1, Command::Arrive, Answer::Range),
+        (0, UNTIL, Answer::NoCall),
     ];
-    assert!(rt; plays(&rt, without_conditions, &out_of_range, &history)?);
+    let history = [Event::Enter(0, Via::Free), Event::Leave(0, Next::Entry)];
+    plays(rt, Size { conds, ..ONE_SEAT }, &steps, &history)
+}
+
+#[test]
+fn worn_out_seat_is_refused(rt: HostRuntime) -> Result<(), Fail> {
+    assert!(rt; comes_once(&rt, 0, Answer::Range)?);
+    assert!(rt; comes_once(&rt, 1, Answer::Tired)?);
     Ok(())
 }
 

@@ -21,9 +21,11 @@ returns c =
     let upgrade_is = c.in_ok-upgrade.ensures _ _ c.in_ok-subcommand-4.ensures
     ∙ ap (λ (a : App). with_subcommand a (file_app (codes "upgrade")).top) play_is in
     let run = c.in_ok-run.ensures in
-    IfOk-weaker c.subcommand-5.result _ _ (λ r h. record {
-      kinds = run.kinds;
-      samples = run.samples;
-      names = run.names;
-      is = run.is _ _ h ∙ ap (λ (a : App). with_subcommand a (run_app run.kinds run.samples).top) upgrade_is;
-    }) c.subcommand-5.ensures
+    let run_is = run.is _ _ c.in_ok-subcommand-5.ensures
+    ∙ ap (λ (a : App). with_subcommand a (run_app (codes "run") run.names).top) upgrade_is in
+    let recorded = c.in_ok-record.ensures in
+    IfOk-weaker c.subcommand-6.result _ _ (λ r h. record {
+      run = run.names;
+      recorded = recorded.names;
+      is = recorded.is _ _ h ∙ ap (λ (a : App). with_subcommand a (run_app (codes "record") recorded.names).top) run_is;
+    }) c.subcommand-6.ensures

@@ -4,7 +4,7 @@ use Rattle.std.proofs.lemmas.Result.{IfOk-weaker}
 use Rattle.clap.specs.Simple.{app_of_fields}
 use Rattle.clap.specs.Words.{App, app_of, with_rule, with_subcommand}
 use Rattle.clap.specs.declared.builder.value_parser.ValueParser.TheVariants.{Signed}
-use Rattle.monk.specs.Request.{required_rule, run_app}
+use Rattle.monk.specs.Request.{RunNames, required_rule, run_app}
 use Rattle.monk.proofs.words.running.Goals as goal
 
 pub returns : goal.returns
@@ -13,12 +13,16 @@ returns c =
     rw c.new.ensures.end at (rw c.new.ensures.start at (rw c.value_parser.ensures at c.range-seats.ensures)) in
     let rounds : c.range-rounds.result ≡ Signed (pos 1) (pos 1000) =
     rw c.new-2.ensures.end at (rw c.new-2.ensures.start at (rw c.value_parser-2.ensures at c.range-rounds.ensures)) in
-    IfOk-weaker c.arg-4.result _ _ (λ r h. record {
+    let names : RunNames = record {
       kinds = c.as_slice.result;
       samples = c.as_slice-2.result;
-      names = (search rules, search rules);
+      all_kinds = search rules;
+      all_samples = search rules;
+    } in
+    IfOk-weaker c.arg-4.result _ _ (λ r h. record {
+      names = names;
       is = λ old new adds. (
-          let is : app_of r ≡ run_app c.as_slice.result c.as_slice-2.result = h.shape (search rules)
+          let is : app_of r ≡ run_app c.args.name.now names = h.shape (search rules)
           ∙ ap₂ with_rule (c.in_ok-arg-3.ensures.shape (search rules)
           ∙ ap₂ with_rule (c.in_ok-arg-2.ensures.shape (search rules)
           ∙ ap₂ with_rule (c.in_ok-arg.ensures.shape (search rules)

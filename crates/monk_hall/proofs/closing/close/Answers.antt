@@ -1,7 +1,7 @@
 use Rattle.std.proofs.Common.{◌≡◌, arith, refl, sym, ap, subst, ◌∙◌}
 use Rattle.atomic_table.specs.Seated.{TableId}
 use Rattle.monk_floor.specs.View.{FloorView}
-use Rattle.monk_hall.specs.Closing.{HasSomebody}
+use Rattle.monk_hall.specs.Closing.{HasSomebody, IsUnqueued}
 use Rattle.monk_hall.specs.Tokens.{Holder, House}
 use Rattle.monk_hall.proofs.ClosingLaws.{unqueued_all, ended_peeked, busy_unlooked}
 use Rattle.monk_hall.proofs.closing.close.Goals as goal
@@ -17,7 +17,8 @@ end-requires-after_bounds g c κs within =
     let floor_seats = ap (λ (f : FloorView). f.seats) inv.goes.is_floor in
     let all : c.hall.inside.seats ≡ c.active.inside.floor.seats = omega arith in
     unqueued_all g.K.Kind.rules g.T.Guarded.meaning c.active.inside.floor c.peek.new.self.floor c.hall.inside.seats
-    (c.has_queued.ensures.none c.if-has_queued.false) all
+    (subst (λ (f : FloorView). IsUnqueued g.K.Kind.rules g.T.Guarded.meaning f c.hall.inside.seats) c.deref.ensures
+    (c.has_queued.ensures.none c.if-has_queued.false)) all
     (ap (λ (a : Holder). a.floor) c.peek.ensures.peeked.is ∙ sym (ap (λ (a : Holder). a.floor) c.active.view_is))
 
 pub returns-clause-ended : goal.returns-clause-ended
@@ -32,5 +33,6 @@ returns-then-has_queued-clause-busy g c = (
   refl,
   busy_unlooked g.K.Kind.rules g.T.Guarded.meaning c.args.active
       (subst (λ (a : Holder). HasSomebody g.K.Kind.rules g.T.Guarded.meaning a.floor) c.active.view_is
-      (c.has_queued.ensures.found c.if-has_queued.true)),
+      (subst (λ (f : FloorView). HasSomebody g.K.Kind.rules g.T.Guarded.meaning f) c.deref.ensures
+      (c.has_queued.ensures.found c.if-has_queued.true))),
 )

@@ -1,6 +1,7 @@
-use Rattle.std.proofs.Common.{◌≡◌, refl, sym, subst, ◌∙◌}
+use Rattle.std.proofs.Common.{◌≡◌, refl, sym, ap, subst, ◌∙◌}
 use Rattle.monk_history.specs.Meaning.Counts.{granted_of}
 use Rattle.monk_history.specs.declared.event.Next.TheVariants as next
+use Rattle.monk_floor.specs.View.{FloorView}
 use Rattle.monk_world.specs.Places.{back_turn, due_to}
 use Rattle.monk_world.specs.declared.place.Place.TheVariants.{Back}
 use Rattle.monk_hall.specs.Changes.{home_at}
@@ -13,8 +14,11 @@ pub seat_grant-requires-clause-back : goal.seat_grant-requires-clause-back
 seat_grant-requires-clause-back g c κs within =
     let j = c.in-Some.called in
     subst (λ (m : Me). IsOne m.0 × (back_turn (the m.0).place ≡ due_to j)
-    × (c.granted-calls.result ≡ granted_of (the m.0).seen j)) (sym c.floor_in.ensures.step)
-    (refl, chosen_due c.requires.released.1 j (sym c.seat_called_by.ensures ∙ c.in-Some.is), c.granted-calls.ensures)
+    × (c.granted-calls.result ≡ granted_of (the m.0).seen j)) (sym c.floor_in.ensures.step) (
+      refl,
+      chosen_due c.requires.released.1 j (sym c.seat_called_by.ensures ∙ c.in-Some.is),
+      c.granted-calls.ensures ∙ ap (λ (f : FloorView). granted_of f.history j) c.deref.ensures,
+    )
 
 pub let_in-requires-clause-back : goal.let_in-requires-clause-back
 let_in-requires-clause-back g c κs within =

@@ -16,9 +16,10 @@ new-requires g c =
     c.args.setup.conds c.args.setup.budget in
     let words : List ℕ = c.deref.result.now in
     let is : words ≡ replicate (2 * c.args.setup.seats + 1) 0 = c.deref.ensures.value ∙ c.in_ok-words.ensures in
-    let slots : c.push.new.self.items ≡ Some c.args.floor ∷ [] = c.in_ok-push.ensures.items
-    ∙ ap (λ (l : List (Option FloorView)). l ++ Some c.args.floor ∷ []) c.new-slots.ensures.items in
-    let home : c.push.new.self.items ≡ Some (floor_of setting []) ∷ [] = slots ∙ ap (λ (f : FloorView). Some f ∷ []) c.requires.floor in
+    let slots : c.push.new.self.items ≡ Some c.in_ok-make.field-0 ∷ [] = c.in_ok-push.ensures.items
+    ∙ ap (λ (l : List (Option FloorView)). l ++ Some c.in_ok-make.field-0 ∷ []) c.new-slots.ensures.items in
+    let home : c.push.new.self.items ≡ Some (floor_of setting []) ∷ [] = slots ∙ ap (λ (f : FloorView). Some f ∷ [])
+    (c.in_ok-make.ensures ∙ c.requires.floor) in
     subst (λ (l : List (Option FloorView)). IsHall g.K.Kind.rules g.T.Guarded.meaning setting
     (opening words l (first_view setting))) (sym home)
     (opens g.K.Kind.rules g.T.Guarded.meaning setting words c.requires.made

@@ -1,11 +1,11 @@
-use Rattle.std.proofs.Common.{arith, ◌≡◌, suc, ◌∷◌, [], refl, sym, ap, subst, ◌∙◌}
+use Rattle.std.proofs.Common.{arith, ◌≡◌, suc, List, ◌∷◌, [], refl, sym, ap, subst, ◌∙◌}
 use Rattle.monk_hall.specs.Changes.{view_after_join, view_after_compare}
 use Rattle.monk_hall.specs.Records.{View, IsOne, IsTwo, the, head, tail}
 use Rattle.monk_hall.specs.Rule.{setting_of}
 use Rattle.monk_hall.specs.Tells.{SeesTruly}
 use Rattle.monk_hall.specs.Tokens.{top}
 use Rattle.monk_hall.specs.declared.record.SeatRecord.{SeatRecord}
-use Rattle.monk_hall.proofs.MeetLaws.{meets, compares, parts_again, met_rests}
+use Rattle.monk_hall.proofs.MeetLaws.{meets, compares, parts_again, has_learned, met_rests}
 use Rattle.monk_hall.proofs.meeting.meet.Goals as goal
 
 pub join_seat-requires : goal.join_seat-requires
@@ -99,6 +99,28 @@ invariant_of-b g c =
   where
     same_table : c.a.inside.badge.table_id ≡ c.b.inside.badge.table_id
     same_table = ap (λ t. t.hall) c.a.view_is ∙ c.requires.0 ∙ sym c.requires.1 ∙ sym (ap (λ t. t.hall) c.b.view_is)
+
+pub returns-clause-first_learns : goal.returns-clause-first_learns
+returns-clause-first_learns g c =
+    let m : View = c.join_seat.new.seat.me.0 in
+    let both : m ≡ view_after_join c.lift-first.result.me.0 c.lift-other.result.me.0 = ap (λ m. m.0) c.join_seat.ensures.2 in
+    let loaded : c.load.new.seat.me.0 ≡ view_after_compare m = ap (λ m. m.0) c.load.ensures.2.0 in
+    has_learned (the m).seen (the (tail m)).seen _ _ _ c.load.ensures.2.1
+    (ap (λ (v : View). (the v).seen) both ∙ ap (λ m. (the m.0).seen) c.lift-first.ensures.1 ∙ ap (λ t. t.me.seen) c.a.view_is)
+    (ap (λ (v : View). (the (tail v)).seen) both ∙ ap (λ m. (the m.0).seen) c.lift-other.ensures.1 ∙ ap (λ t. t.me.seen) c.b.view_is)
+    (ap (λ (vs : List View). (the (top vs)).seen)
+    (c.into_badge.ensures.2 ∙ ap (λ (v : View). v ∷ []) (ap (λ m. m.0) c.split_seat-second.ensures.2 ∙ ap head loaded)))
+
+pub returns-clause-second_learns : goal.returns-clause-second_learns
+returns-clause-second_learns g c =
+    let m : View = c.join_seat.new.seat.me.0 in
+    let both : m ≡ view_after_join c.lift-first.result.me.0 c.lift-other.result.me.0 = ap (λ m. m.0) c.join_seat.ensures.2 in
+    let loaded : c.load.new.seat.me.0 ≡ view_after_compare m = ap (λ m. m.0) c.load.ensures.2.0 in
+    has_learned (the m).seen (the (tail m)).seen _ _ _ c.load.ensures.2.1
+    (ap (λ (v : View). (the v).seen) both ∙ ap (λ m. (the m.0).seen) c.lift-first.ensures.1 ∙ ap (λ t. t.me.seen) c.a.view_is)
+    (ap (λ (v : View). (the (tail v)).seen) both ∙ ap (λ m. (the m.0).seen) c.lift-other.ensures.1 ∙ ap (λ t. t.me.seen) c.b.view_is)
+    (ap (λ (vs : List View). (the (top vs)).seen)
+    (c.into_badge-2.ensures.2 ∙ ap (λ (v : View). v ∷ []) (ap (λ m. m.0) c.split_seat-second.ensures.4 ∙ ap tail loaded)))
 
 pub returns-clause-told : goal.returns-clause-told
 returns-clause-told g c = ((invariant_of-a g c).1.told, (invariant_of-b g c).1.told)

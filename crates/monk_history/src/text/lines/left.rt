@@ -2,9 +2,10 @@
 
 ghost use Rattle.std.specs.Prelude.{◌≡◌, ◌≤◌, ◌+◌, IfOk, IfSome};
 ghost use Rattle.monk_history.specs.Limits.{most_lines};
-ghost use Rattle.monk_history.specs.Text.Lines.{IsNextItem, items_left, opened_at, lines_of, item_line, header_line};
+ghost use Rattle.monk_history.specs.Text.Lines.{IsNextItem, items_left, opened_at, lines_of, header_line};
 
 use crate::text::fault::ReadFault;
+use crate::text::lines::next::next_item;
 use crate::text::lines::record::{Head, Record};
 use crate::text::lines::split::split_once;
 use crate::text::lines::words::LineWords;
@@ -63,7 +64,7 @@ impl<'a> ItemLines<'a> {
         ensures item { IsNextItem result (items_left (A.parse header.now) self.old) (items_left (A.parse header.now) self.new) }
         ensures room { IfOk result (λ x. IfSome x (λ _. self.new.room + 1 ≡ self.old.room)) }
     {
-        let Some((line, after)) = split_once(self.rest, b'\n') else {
+        let Some((item, after)) = next_item(header, self.rest) else {
             return if self.rest.is_empty() {
                 Ok(None)
             } else {
@@ -73,7 +74,10 @@ impl<'a> ItemLines<'a> {
         if self.room == 0 {
             return Err(ReadFault::at(ReadFault::LONG, self.number));
         }
-        let item: A = item_of(header, line, self.number)?;
+        let item: A = match item {
+            Ok(item) => item,
+            Err(flaw) => return Err(flaw.at(self.number)),
+        };
         self.rest = after;
         self.number += 1;
         self.room -= 1;
@@ -88,16 +92,5 @@ fn header_of<H: Head>(line: &[u8]) -> Result<H, ReadFault>
     match H::parse(&mut words) {
         Ok(header) => Ok(header),
         Err(_) => Err(ReadFault::at(ReadFault::HEADER, 1)),
-    }
-}
-
-#[inline(always)]
-fn item_of<H, A: Record<H>>(header: &H, line: &[u8], number: u32) -> Result<A, ReadFault>
-    ensures { result ≡ item_line (A.parse header.now) number line.now }
-{
-    let mut words = LineWords::of(line);
-    match A::parse(header, &mut words) {
-        Ok(item) => Ok(item),
-        Err(flaw) => Err(flaw.at(number)),
     }
 }

@@ -18,8 +18,9 @@ pub trait Head: Copy {
 
 /// What each further line of a text with the header `H` holds.
 pub trait Record<H>: Copy {
-    ghost use Rattle.std.specs.Prelude.{List};
+    ghost use Rattle.std.specs.Prelude.{List, IfSome};
     ghost use Rattle.monk_history.specs.Text.Words.{Word, Taken, Reads};
+    ghost use Rattle.monk_history.specs.Text.Lines.{IsAtFront};
 
     /// What is read from the words of the line under that header, as one that names a version.
     ghost parse: { H → List Word → Taken Self };
@@ -27,4 +28,13 @@ pub trait Record<H>: Copy {
     /// Reads it from all the words of the line.
     fn parse(header: &H, words: &mut LineWords<'_>) -> Result<Self, Flaw>
         ensures { Reads result words.new (parse header.now words.old) };
+
+    /// Reads it where its line stands at the front of the bytes, and says how many bytes the line takes with its end.
+    /// `None` says nothing: the line is then read by its words. It is for records that can be read faster than that.
+    #[inline(always)]
+    fn at_front(header: &H, bytes: &[u8]) -> Option<(Self, usize)>
+        ensures { IfSome result (λ r. IsAtFront (parse header.now) bytes.now r.0 r.1) }
+    {
+        None
+    }
 }

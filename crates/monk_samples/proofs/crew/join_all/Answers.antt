@@ -34,18 +34,18 @@ loop-shift-preserved g c =
     let from = first_of (into_iter_items c.next.new.self) (into_iter_items c.loop-shift.shift-iterator) c.in-Some.shift
     (λ s. (s.promise.hall.value ≡ c.args.hall.now) × (s.promise.gate.value ≡ c.args.gate.now) × (s.promise.rota.value ≡ c.args.rota))
     steps inv.3 in
-    let kept = c.join-pass.ensures in
-    let of : IsOf c.args.hall.now c.join-pass.result.0 = subst (λ (h : House). IsOf h c.join-pass.result.0) from.0 kept.0 in
+    let kept = c.in-Some-join.ensures in
+    let of : IsOf c.args.hall.now c.in-Some-join.pass = subst (λ (h : House). IsOf h c.in-Some-join.pass) from.0 kept.0 in
     let here = subst (λ gate. HasServed g.K.Kind.rules g.T.Guarded.meaning (g.G.Gate.answers gate) p.rota.value.sample
-    p.rota.value.seats p.rota.value.rounds p.pass.value c.join-pass.result.0 c.join-pass.result.1) from.1 kept.1 in
+    p.rota.value.seats p.rota.value.rounds p.pass.value c.in-Some-join.pass c.in-Some-join.end) from.1 kept.1 in
     let served = subst (λ (r : Rota). HasServed g.K.Kind.rules g.T.Guarded.meaning (g.G.Gate.answers c.args.gate.now) r.sample
-    r.seats r.rounds p.pass.value c.join-pass.result.0 c.join-pass.result.1) from.2 here in
+    r.seats r.rounds p.pass.value c.in-Some-join.pass c.in-Some-join.end) from.2 here in
     let joined = joined_then g.K.Kind.rules g.T.Guarded.meaning (g.G.Gate.answers c.args.gate.now) c.args.rota.sample c.args.rota.seats
-    c.args.rota.rounds c.args.hall.now inv.0 (vec_items c.loop-shift.passes) p.pass.value c.join-pass.result.0 c.join-pass.result.1
+    c.args.rota.rounds c.args.hall.now inv.0 (vec_items c.loop-shift.passes) p.pass.value c.in-Some-join.pass c.in-Some-join.end
     c.loop-shift.fault inv.2 of served in
     let told = subst (λ (qs : List Token). HaveJoined g.K.Kind.rules g.T.Guarded.meaning (g.G.Gate.answers c.args.gate.now)
     c.args.rota.sample c.args.rota.seats c.args.rota.rounds c.args.hall.now (inv.0 ++ p.pass.value ∷ []) qs
-    (fault_after c.loop-shift.fault c.join-pass.result.1)) (sym c.in_ok-push.ensures.items) joined in (
+    (fault_after c.loop-shift.fault c.in-Some-join.end)) (sym c.in_ok-push.ensures.items) joined in (
       inv.0 ++ p.pass.value ∷ [],
       inv.1 ∙ ap (λ xs. inv.0 ++ map (λ s. s.promise.pass.value) xs) steps ∙ sym (append_assoc inv.0 (p.pass.value ∷ []) _),
       subst (λ (fault : Option CrewFault). HaveJoined g.K.Kind.rules g.T.Guarded.meaning (g.G.Gate.answers c.args.gate.now)

@@ -10,7 +10,7 @@ use Rattle.monk_hall.specs.declared.record.SeatRecord.{SeatRecord}
 use Rattle.std.specs.Prelude.{All}
 use Rattle.monk_samples.proofs.MeetLaws.{apart_from, still_differ, closed_begins, closed_own, first_able, first_is_of, holds_operations}
 use Rattle.monk_samples.proofs.MeetLaws.{nothing_done, only_here}
-use Rattle.monk_samples.proofs.RunLaws.{closed_by}
+use Rattle.monk_samples.proofs.RunLaws.{closed_by, first_words}
 use Rattle.monk_samples.proofs.running.close_by.Goals as goal
 
 pub resume-active-requires-after_bounds : goal.resume-active-requires-after_bounds
@@ -52,6 +52,8 @@ returns-in-Ok-clause-closed g c =
     (ap (λ (r : SeatRecord). r.setting) c.arrive.ensures.me
     ∙ (first_is_of c.args.hall c.args.passes.items c.in_ok-first.first c.in_ok-first.others.items
     c.in_ok-first.ensures.same c.requires.of).1) c.resume-active.ensures.floor c.in-Ok.ensures.ended
+    (first_words g.K.Kind.NAME c.args.rota.sample c.args.rota.seats _ c.in-Ok.closed.history.items _ c.writable.result
+    c.writable.ensures c.header_of-header.ensures c.deref-else-not-complete.ensures.value (search rules))
 
 pub returns-in-Ok-clause-whole : goal.returns-in-Ok-clause-whole
 returns-in-Ok-clause-whole g c =
@@ -83,3 +85,8 @@ returns-clause-fault g c =
       first_able c.args.passes.items c.in_ok-first.first c.in_ok-first.others.items c.left.result
           c.in_ok-first.ensures.same c.left.ensures.left c.if-left-lt2.false,
     ))
+
+pub arrive-requires-clause-hall : goal.arrive-requires-clause-hall
+arrive-requires-clause-hall g c κs within =
+    (first_is_of c.args.hall c.args.passes.items c.in_ok-first.first c.in_ok-first.others.items
+    c.in_ok-first.ensures.same c.requires.of).0

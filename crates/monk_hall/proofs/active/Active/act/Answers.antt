@@ -1,6 +1,7 @@
 use Rattle.std.proofs.Common.{ℕ, ◌+◌, ◌≤◌, length, refl, sym, subst}
 use Rattle.monk_history.specs.declared.event.Event.TheVariants.{Act}
 use Rattle.monk_floor.specs.Grown.{IsGrown}
+use Rattle.monk_floor.specs.View.{FloorView}
 use Rattle.monk_hall.specs.Calls.{HasDone}
 use Rattle.monk_hall.specs.Records.{the}
 use Rattle.monk_hall.specs.Tokens.{Holder, holder}
@@ -10,8 +11,10 @@ use Rattle.monk_hall.proofs.active.Active.act.Goals as goal
 pub invariant_of-self : goal.invariant_of-self
 invariant_of-self g c =
     let room = subst (λ (a : Holder). length a.me.mine + 2 ≤ a.me.setting.budget) (sym c.self.view_is) c.requires.left in
-    grown_holds c.self.invariant (Act c.self.inside.number c.args.op c.act.result) refl refl refl c.act.ensures.grown.allowed
-    room c.act.new.self c.act.ensures.grown.grown
+    let grown = subst (λ (f : FloorView). IsGrown g.K.Kind.rules g.T.Guarded.meaning f
+    (Act c.self.inside.number c.args.op c.act.result) c.act.new.self) c.deref_mut.ensures.shows c.act.ensures.grown in
+    grown_holds c.self.invariant (Act c.self.inside.number c.args.op c.act.result) refl refl refl grown.allowed
+    room c.act.new.self grown.grown
 
 pub returns-clause-done : goal.returns-clause-done
 returns-clause-done g c =
@@ -22,4 +25,6 @@ returns-clause-done g c =
     → HasDone g.K.Kind.rules g.T.Guarded.meaning (holder c.self.inside.seat.table_id r f)
     (Act r.seat c.args.op c.act.result) (holder c.self.inside.seat.table_id r c.act.new.self))
     n (λ grown. grown_does c.self.inside.seat.table_id r f c.act.new.self (Act r.seat c.args.op c.act.result) refl
-    c.self.invariant.goes.legal grown.allowed grown.grown) c.act.ensures.grown)
+    c.self.invariant.goes.legal grown.allowed grown.grown)
+    (subst (λ (x : FloorView). IsGrown g.K.Kind.rules g.T.Guarded.meaning x
+    (Act c.self.inside.number c.args.op c.act.result) c.act.new.self) c.deref_mut.ensures.shows c.act.ensures.grown))

@@ -1,33 +1,36 @@
 use Rattle.monk_history.proofs.PublicLaws.Meaning.{may_wait}
 use Rattle.monk_floor.specs.View.{monitor_of}
+use Rattle.monk_hall.proofs.Boxed.{shown_apart}
 use Rattle.monk_hall.proofs.ReleaseLaws.{has_cond, is_near, owns, wait_goes, waits}
 use Rattle.monk_hall.proofs.active.Active.record_plain_wait.Goals as goal
 
 pub plain_wait-release-requires-clause-call : goal.plain_wait-release-requires-clause-call
 plain_wait-release-requires-clause-call g c κs within =
-    let h = c.of-release.ensures.holds in
-    let f = c.of-release.result.floor in
+    let x = shown_apart c.deref_mut.ensures.shows c.of-release.ensures in
+    let h = x.holds in
+    let f = c.deref_mut.result.now in
     may_wait (monitor_of g.K.Kind.rules g.T.Guarded.meaning f) f.history c.of-release.result.number c.args.cond (owns h) (is_near h)
-    (has_cond h c.args.cond c.args.self c.of-release.ensures.was c.requires.cond)
+    (has_cond h c.args.cond c.args.self x.was c.requires.cond)
     (c.requires.mode)
 
 pub returns-clause-recorded : goal.returns-clause-recorded
 returns-clause-recorded g c =
-    let h = c.of-release.ensures.holds in
+    let x = shown_apart c.deref_mut.ensures.shows c.of-release.ensures in
+    let h = x.holds in
     let call = c.plain_wait-release in
     record {
-      before = c.of-release.result.floor;
+      before = c.deref_mut.result.now;
       holds = h;
-      was = c.of-release.ensures.was;
-      release = waits h c.args.cond (has_cond h c.args.cond c.args.self c.of-release.ensures.was c.requires.cond)
+      was = x.was;
+      release = waits h c.args.cond (has_cond h c.args.cond c.args.self x.was c.requires.cond)
           (c.requires.mode)
-          c.args.pick c.args.known call.result call.new.self c.args.self c.of-release.ensures.was c.requires.left (c.requires.known)
+          c.args.pick c.args.known call.result call.new.self c.args.self x.was c.requires.left (c.requires.known)
           call.ensures.choice call.ensures.grown;
     }
 
 pub returns-clause-away : goal.returns-clause-away
 returns-clause-away g c =
-    let f = c.of-release.result.floor in
+    let f = c.deref_mut.result.now in
     let call = c.plain_wait-release in
     wait_goes (monitor_of g.K.Kind.rules g.T.Guarded.meaning f) f.history c.of-release.result.number c.args.cond
     call.result call.ensures.grown.allowed

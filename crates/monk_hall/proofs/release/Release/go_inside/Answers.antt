@@ -1,4 +1,6 @@
-use Rattle.std.proofs.Common.{sym, subst}
+use Rattle.std.proofs.Common.{sym, ap, subst, ◌∙◌}
+use Rattle.monk_history.specs.Meaning.Counts.{left_of}
+use Rattle.monk_floor.specs.View.{FloorView}
 use Rattle.monk_world.specs.declared.home.Home.{Home}
 use Rattle.monk_world.specs.declared.home.Home.TheVariants as home
 use Rattle.monk_hall.specs.Handing.{HasGone}
@@ -21,7 +23,8 @@ invariant_of-result g c =
     let now = c.go_home.new.seat in
     let gone = subst (λ (to : Home). HasGone (the c.args.self.seat.me.0) c.args.self.floor.history to (the now.me.0))
     (home_is x) c.go_home.ensures.gone in
-    let rests = gone_rests x rec.holds.seated c.left-left.ensures now.table_id now.me c.go_home.ensures.table gone c.go_home.ensures.view in
+    let left = c.left-left.ensures ∙ ap (λ (f : FloorView). left_of f.budget f.history c.args.self.number) c.deref.ensures in
+    let rests = gone_rests x rec.holds.seated left now.table_id now.me c.go_home.ensures.table gone c.go_home.ensures.view in
     (rests.0, rests.2, sym rests.1, tt)
 
 pub returns : goal.returns
@@ -30,6 +33,7 @@ returns g c a call wish known rec =
     let now = c.go_home.new.seat in
     let gone = subst (λ (to : Home). HasGone (the c.args.self.seat.me.0) c.args.self.floor.history to (the now.me.0))
     (home_is x) c.go_home.ensures.gone in
-    let told = (gone_rests x rec.holds.seated c.left-left.ensures now.table_id now.me c.go_home.ensures.table gone
+    let left = c.left-left.ensures ∙ ap (λ (f : FloorView). left_of f.budget f.history c.args.self.number) c.deref.ensures in
+    let told = (gone_rests x rec.holds.seated left now.table_id now.me c.go_home.ensures.table gone
     c.go_home.ensures.view).0.told in
     released_of call rec.holds rec.release c.requires.away _ c.go_home.ensures.table gone told a rec.was

@@ -1,4 +1,6 @@
 use Rattle.std.proofs.Common.{◌≡◌, ◌∷◌, [], List, refl, sym, ap, subst, ◌∙◌}
+use Rattle.monk_history.specs.Meaning.Counts.{left_of}
+use Rattle.monk_floor.specs.View.{FloorView}
 use Rattle.monk_world.specs.declared.home.Home.{Home}
 use Rattle.monk_world.specs.declared.home.Home.TheVariants as home
 use Rattle.monk_world.specs.declared.place.Place.TheVariants.{Idle}
@@ -24,7 +26,8 @@ invariant_of-result g c =
     let now = c.go_home.new.seat in let view = c.into_badge.ensures in
     let gone = subst (λ (to : Home). HasGone (the c.args.self.seat.me.0) c.args.self.floor.history to (the now.me.0))
     (home_is x) c.go_home.ensures.gone in
-    let rests = gone_rests x rec.holds.seated c.left-left.ensures c.into_badge.result.table_id now.me
+    let left = c.left-left.ensures ∙ ap (λ (f : FloorView). left_of f.budget f.history c.args.self.number) c.deref.ensures in
+    let rests = gone_rests x rec.holds.seated left c.into_badge.result.table_id now.me
     (view.0 ∙ c.go_home.ensures.table) gone c.go_home.ensures.view in
     let views : c.into_badge.result.views ≡ (the now.me.0 ∷ []) ∷ [] = view.2 ∙ ap (λ m. m.0 ∷ []) c.go_home.ensures.view in
     let has = subst (λ m. IsResting g.K.Kind.rules g.T.Guarded.meaning c.into_badge.result.table_id m c.args.self.number
@@ -40,7 +43,8 @@ returns g c a call wish known rec =
     let r = the c.args.self.seat.me.0 in
     let now = c.go_home.new.seat in let view = c.into_badge.ensures in
     let gone = subst (λ (to : Home). HasGone r c.args.self.floor.history to (the now.me.0)) (home_is x) c.go_home.ensures.gone in
-    let rests = gone_rests x rec.holds.seated c.left-left.ensures c.into_badge.result.table_id now.me
+    let left = c.left-left.ensures ∙ ap (λ (f : FloorView). left_of f.budget f.history c.args.self.number) c.deref.ensures in
+    let rests = gone_rests x rec.holds.seated left c.into_badge.result.table_id now.me
     (view.0 ∙ c.go_home.ensures.table) gone c.go_home.ensures.view in
     let told = subst (λ (vs : List View). SeesTruly g.K.Kind.rules g.T.Guarded.meaning (the (top vs))) (sym view.2) rests.0.told in
     let at_home = subst (λ (vs : List View). HasGone r c.args.self.floor.history home.Idle (the (top vs))) (sym view.2) gone in

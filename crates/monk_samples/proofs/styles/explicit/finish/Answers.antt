@@ -1,7 +1,7 @@
 use Rattle.std.proofs.Common.{arith, ◌<◌, ◌+◌, length, refl}
 use Rattle.monk_history.specs.declared.event.Event.TheVariants.{Signal}
 use Rattle.monk_history.specs.declared.event.Next.TheVariants.{Stay}
-use Rattle.monk_samples.proofs.StyleLaws.{went_on, given_up, signalled_out}
+use Rattle.monk_samples.proofs.StyleLaws.{went_on, given_up, called_out}
 use Rattle.monk_samples.proofs.styles.explicit.finish.Goals as goal
 
 pub returns-then-left-lt3 : goal.returns-then-left-lt3
@@ -13,7 +13,7 @@ returns-then-left-lt3 g c =
 pub returns : goal.returns
 returns g c =
     let k = g.K.Kind.rules in let o = g.T.Guarded.meaning in
-    signalled_out k o c.args.active c.args.cond c.go_on-active.result _ _ c.leave-2.result
+    called_out k o c.args.active (Signal c.args.active.me.seat c.args.cond Stay) c.go_on-active.result _ _ c.leave-2.result
     (went_on k o c.plain_signal.result c.args.active (Signal c.args.active.me.seat c.args.cond Stay) _ _
     c.go_on-active.result (λ x. (refl, refl, refl)) c.plain_signal.ensures c.go_on-active.ensures)
     c.leave-2.ensures
