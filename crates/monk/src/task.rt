@@ -3,6 +3,7 @@ ghost use Rattle.monk_history.specs.Text.Device.{has_failed};
 
 use crate::auditing::audit_stream;
 use crate::fault::StreamFault;
+use crate::fitting::fit_stream;
 use crate::playing::play_stream;
 use crate::upgrading::upgrade_stream;
 use monk_history::Device;
@@ -15,6 +16,7 @@ pub(crate) enum Task {
     Audit,
     Play,
     Upgrade,
+    Fit,
 }
 
 impl Task {
@@ -33,6 +35,7 @@ impl Task {
             Task::Audit => audit_stream(alloc, reader, writer),
             Task::Play => play_stream(alloc, reader, writer),
             Task::Upgrade => upgrade_stream(alloc, reader, writer),
+            Task::Fit => fit_stream(alloc, reader, writer),
         }
     }
 }
