@@ -18,3 +18,4 @@ pub mod Telling
 pub mod Kept
 pub mod Play
 pub mod Records
+pub mod Shown

@@ -1,4 +1,5 @@
 use monk_history::Next;
+use std::fmt;
 
 /// What a seat's command came to. The last four are refusals: nothing was done. The first of them that applies is
 /// answered.
@@ -30,4 +31,33 @@ pub enum Answer {
     NotNow,
     /// Too few events are left to the seat.
     Tired,
+}
+
+/// In words: `arrived 2 1`, `looked no`, `found 2`, `now`, `chose entry`, `granted ticket 3`, `granted seat 1`, `replied 7`,
+/// `woke 2`, or `refused` and why: `range`, `no-call`, `not-now` or `tired`.
+impl fmt::Display for Answer {
+    ghost use Rattle.std.specs.Prelude.{Some};
+    ghost use Rattle.std.specs.List.{join_with_byte};
+    ghost use Rattle.monk_world.specs.Shown.{answer_words};
+
+    ghost output = { λ a. Some (join_with_byte 32 (answer_words a)) };
+
+    fn fmt<W: fmt::Write>(&self, f: &mut fmt::Formatter<W>) -> fmt::Result {
+        match *self {
+            Answer::Arrived(ticket, found) => write!(f, "arrived {ticket} {found}"),
+            Answer::Looked(true) => write!(f, "looked yes"),
+            Answer::Looked(false) => write!(f, "looked no"),
+            Answer::Found(found) => write!(f, "found {found}"),
+            Answer::Now => write!(f, "now"),
+            Answer::Chose(next) => write!(f, "chose {next}"),
+            Answer::GrantedTicket(ticket) => write!(f, "granted ticket {ticket}"),
+            Answer::GrantedSeat(seat) => write!(f, "granted seat {seat}"),
+            Answer::Reply(reply) => write!(f, "replied {reply}"),
+            Answer::Woke(served) => write!(f, "woke {served}"),
+            Answer::Range => write!(f, "refused range"),
+            Answer::NoCall => write!(f, "refused no-call"),
+            Answer::NotNow => write!(f, "refused not-now"),
+            Answer::Tired => write!(f, "refused tired"),
+        }
+    }
 }

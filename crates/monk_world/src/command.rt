@@ -1,5 +1,9 @@
+ghost use Rattle.std.specs.Prelude.{◌≡◌};
+ghost use Rattle.monk_world.specs.Play.{pick_word};
+
 use monk_kinds::Pick;
 use monk_object::Op;
+use std::fmt;
 
 /// What a seat is told to do: one atomic step, or a call on the floor that it holds.
 #[derive(Clone, Copy, Debug, PartialEq, Eq)]
@@ -32,4 +36,45 @@ pub enum Command {
     SignalAll(u8),
     /// Signal the first condition and then wait on the second, with a wish for who is next. In plays of version 2.
     SignalWait(u8, u8, Pick),
+}
+
+/// As in the text of a play, without the seat: `arrive`, `act 0 7`, `wait 1 entry`.
+impl fmt::Display for Command {
+    ghost use Rattle.std.specs.Prelude.{Some};
+    ghost use Rattle.std.specs.List.{join_with_byte};
+    ghost use Rattle.monk_world.specs.Play.{action_words};
+
+    ghost output = { λ c. Some (join_with_byte 32 (action_words c)) };
+
+    fn fmt<W: fmt::Write>(&self, f: &mut fmt::Formatter<W>) -> fmt::Result {
+        match *self {
+            Command::Arrive => write!(f, "arrive"),
+            Command::Look => write!(f, "look"),
+            Command::Out => write!(f, "out"),
+            Command::Peek => write!(f, "peek"),
+            Command::Drop => write!(f, "drop"),
+            Command::Grant => write!(f, "grant"),
+            Command::Act(op) => write!(f, "act {} {}", op.code, op.arg),
+            Command::Leave(pick) => write!(f, "leave {}", word(pick)),
+            Command::Wait(cond, pick) => write!(f, "wait {cond} {}", word(pick)),
+            Command::Signal(cond, pick) => write!(f, "signal {cond} {}", word(pick)),
+            Command::SignalLeave(cond, pick) => write!(f, "signal-leave {cond} {}", word(pick)),
+            Command::Until(pred, pick) => write!(f, "until {pred} {}", word(pick)),
+            Command::SignalAll(cond) => write!(f, "signal-all {cond}"),
+            Command::SignalWait(cond, wait_cond, pick) => {
+                write!(f, "signal-wait {cond} {wait_cond} {}", word(pick))
+            }
+        }
+    }
+}
+
+/// The word of a wish.
+fn word(pick: Pick) -> &'static str
+    ensures { result.now ≡ pick_word pick }
+{
+    match pick {
+        Pick::Entry => "entry",
+        Pick::Waiter => "waiter",
+        Pick::Signaller => "signaller",
+    }
 }

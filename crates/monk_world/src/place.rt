@@ -1,6 +1,7 @@
 use crate::home::Home;
 use crate::source::Source;
 use monk_history::Next;
+use std::fmt;
 
 /// Where a seat stands. From `Due` to `Passing` it has the right to be active.
 #[derive(Clone, Copy, Debug, PartialEq, Eq)]
@@ -19,4 +20,25 @@ pub enum Place {
     Passing(u32, Home),
     /// Inside, parked until it is called.
     Inner,
+}
+
+/// In words: `idle`, `ticket 3`, `due`, `active`, `back entry`, `passing 3` or `inner`.
+impl fmt::Display for Place {
+    ghost use Rattle.std.specs.Prelude.{Some};
+    ghost use Rattle.std.specs.List.{join_with_byte};
+    ghost use Rattle.monk_world.specs.Shown.{place_words};
+
+    ghost output = { λ p. Some (join_with_byte 32 (place_words p)) };
+
+    fn fmt<W: fmt::Write>(&self, f: &mut fmt::Formatter<W>) -> fmt::Result {
+        match *self {
+            Place::Idle => write!(f, "idle"),
+            Place::Ticket(ticket) => write!(f, "ticket {ticket}"),
+            Place::Due(_) => write!(f, "due"),
+            Place::Active(_) => write!(f, "active"),
+            Place::Back(next, _) => write!(f, "back {next}"),
+            Place::Passing(ticket, _) => write!(f, "passing {ticket}"),
+            Place::Inner => write!(f, "inner"),
+        }
+    }
 }

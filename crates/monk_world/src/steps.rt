@@ -51,6 +51,25 @@ impl Board {
         self.known[seat as usize]
     }
 
+    /// Whether the place of a ticket has that ticket: it was granted.
+    pub fn is_ticket_granted(&self, ticket: u32) -> bool
+        requires seats { 0 < self.now.seats }
+        requires ticket { ticket < 2 ^ 31 }
+        ensures { result ≡ ((world_on self.now).ticket_place (ticket % self.now.seats) == ticket + 1) }
+    {
+        let at = ticket as usize % self.seats as usize;
+        self.ticket_places[at] == ticket + 1
+    }
+
+    /// Whether the seat was called once more than it has counted.
+    pub fn is_called(&self, seat: u8) -> bool
+        requires seat { seat < self.now.seats }
+        requires count { (world_on self.now).count seat < 2 ^ 31 }
+        ensures { result ≡ ((world_on self.now).seat_place seat == (world_on self.now).count seat + 1) }
+    {
+        self.seat_places[seat as usize] == self.counts[seat as usize] + 1
+    }
+
     /// Draws a ticket. Where the monitor was free the seat has the right.
     pub fn arrive(&mut self, seat: u8) -> Answer
         requires seat { seat < self.old.seats }
@@ -76,8 +95,7 @@ impl Board {
             (after_ticket_look (world_on self.old) seat ticket
             ((world_on self.old).ticket_place (ticket % self.old.seats) == ticket + 1)) self.new }
     {
-        let at = ticket as usize % self.seats as usize;
-        let found = self.ticket_places[at] == ticket + 1;
+        let found = self.is_ticket_granted(ticket);
         self.places[seat as usize] = place_after_ticket_look(ticket, found);
         Answer::Looked(found)
     }
@@ -92,7 +110,7 @@ impl Board {
             ((world_on self.old).seat_place seat == (world_on self.old).count seat + 1)) self.new }
     {
         let count = self.counts[seat as usize];
-        let found = self.seat_places[seat as usize] == count + 1;
+        let found = self.is_called(seat);
         self.counts[seat as usize] = count_after_seat_look(count, found);
         self.places[seat as usize] = place_after_seat_look(found);
         Answer::Looked(found)

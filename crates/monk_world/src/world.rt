@@ -12,6 +12,7 @@ ghost use Rattle.monk_world.specs.Runs.{IsWellLed, opening_state};
 ghost use Rattle.monk_world.specs.StepTable.{IsStep, IsDone, out_event, refusal, left_for, may_be_told};
 ghost use Rattle.monk_world.specs.Telling.{IsLed};
 ghost use Rattle.monk_world.specs.Board.{state_of_view};
+ghost use Rattle.monk_world.specs.Shown.{is_granted};
 
 use crate::answer::Answer;
 use crate::board::Board;
@@ -87,6 +88,45 @@ impl<K: Kind, T: Guarded> World<K, T> {
         ensures well_led { IsWellLed K.rules T.meaning (state_of_view self.now) }
     {
         self.floor.history()
+    }
+
+    /// How many tickets were drawn.
+    pub fn drawn(&self) -> u32
+        ensures { result ≡ (state_of_view self.now).world.drawn }
+    {
+        self.words.drawn
+    }
+
+    /// How many tickets are not passed on, counting the one in use: 0 where the monitor is free.
+    pub fn unpassed(&self) -> u32
+        ensures { result ≡ (state_of_view self.now).world.unpassed }
+    {
+        self.words.unpassed
+    }
+
+    /// Where a seat stands; `Idle` where there is no such seat.
+    pub fn place(&self, seat: u8) -> Place
+        ensures { result ≡ (state_of_view self.now).world.place seat }
+    {
+        if seat < self.words.seats {
+            self.words.place(seat)
+        } else {
+            Place::Idle
+        }
+    }
+
+    /// Whether the grant is there that a seat looks for, by its ticket or, where it is inside, by its own place.
+    pub fn is_granted(&self, seat: u8) -> bool
+        ensures { result ≡ is_granted (state_of_view self.now) seat }
+    {
+        if seat >= self.words.seats {
+            return false;
+        }
+        match self.words.place(seat) {
+            Place::Ticket(ticket) => self.words.is_ticket_granted(ticket),
+            Place::Inner => self.words.is_called(seat),
+            _ => false,
+        }
     }
 
     /// Tells a seat to do this. Where it can't, the first refusal that applies is answered, and nothing has changed:

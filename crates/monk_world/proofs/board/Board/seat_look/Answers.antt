@@ -4,7 +4,7 @@ use Rattle.monk_world.specs.Put.{put}
 use Rattle.monk_world.specs.Steps.{place_after_seat_look, count_after_seat_look}
 use Rattle.monk_world.specs.Board.{world_on, state_in}
 use Rattle.monk_world.specs.declared.place.Place.{Place}
-use Rattle.monk_world.proofs.StoredLaws.{place_stored, count_stored, call_read, count_read}
+use Rattle.monk_world.proofs.StoredLaws.{place_stored, count_stored, count_read}
 use Rattle.monk_world.proofs.board.Board.seat_look.Goals as goal
 
 pub returns-clause-shows : goal.returns-clause-shows
@@ -12,11 +12,9 @@ returns-clause-shows c =
     let w = c.args.self.now in
     let i = c.args.seat in
     let near = c.requires.seat in
-    let calls = call_read w i near c.index.result.now c.index.ensures in
     let count = count_read w i near c.index-count.result.now c.index-count.ensures in
     let found = (world_on w).seat_place i == (world_on w).count i + 1 in
-    let same : (c.index.result.now == c.index-count.result.now + 1) ≡ found =
-    ap (λ (n : ℕ). n == c.index-count.result.now + 1) calls ∙ ap (λ (n : ℕ). (world_on w).seat_place i == n + 1) count in
+    let same = c.is_called-found.ensures in
     let counts : c.count_after_seat_look.result ≡ count_after_seat_look ((world_on w).count i) found =
     c.count_after_seat_look.ensures
     ∙ (ap (λ (b : Bool). count_after_seat_look c.index-count.result.now b) same
