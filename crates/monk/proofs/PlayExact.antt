@@ -18,46 +18,48 @@ use Rattle.monk_world.specs.Runs.{opening_state}
 use Rattle.monk_world.specs.State.{State}
 use Rattle.monk_world.specs.Telling.{IsLed}
 use Rattle.monk_world.proofs.PublicLaws.{same_monitor, play_again, play_found}
-use Rattle.monk.specs.Played.{IsPlayOf, IsPlayText, IsPlayed, IsPlayedBy, IsLedTo, IsAnswer, IsAnswerTo, IsFoundLegal}
+use Rattle.monk.specs.Played.{IsPlayOf, IsPlayText, IsPlayed, IsReported, IsLedTo, IsAnswer, IsAnswerTo, IsFoundLegal}
+use Rattle.monk.specs.declared.report.Report.{Report}
+use Rattle.monk.specs.declared.report.Report.TheVariants.{History}
 use Rattle.monk.proofs.Exact.{legal_found}
 
 found_again : (input : List ℕ) (h : Heading) (budget : ℕ) (cs : List (ℕ × Command)) → IsPlayOf input h budget cs
     → play_at (2 ^ 25) input ≡ Ok (play h budget cs)
 found_again input h budget cs t = ap (play_at (2 ^ 25)) t.whole ∙ play_again (2 ^ 25) h budget cs t.has_text t.few
 
-module _ (input : List ℕ) (status : ℕ) (Puts : List ℕ → Type 0) where
+module _ (report : Report) (input : List ℕ) (status : ℕ) (Puts : List ℕ → Type 0) where
   text_is : (p : Play) → play_at (2 ^ 25) input ≡ Ok p → p.0.size ≤ most p.0.object → IsPlayOf input p.0 p.1 p.2
   text_is p is size =
       let t = play_found (2 ^ 25) input p is in
       record { has_text = t.has_text; few = t.few; whole = t.whole; size = size }
 
-  is_text : (r : Result Play ReadFault) → play_at (2 ^ 25) input ≡ r → IsAnswer r status Puts → status ≡ 0 → IsPlayText input
+  is_text : (r : Result Play ReadFault) → play_at (2 ^ 25) input ≡ r → IsAnswer report r status Puts → status ≡ 0 → IsPlayText input
   is_text (Ok p) is (inl a) none = (p.0, (p.1, (p.2, text_is p is a.0)))
   is_text (Ok p) is (inr a) none = absurd (omega (arith, a.1, none))
   is_text (Err f) is a none = absurd (omega (arith, a.0, none))
 
   -- the answer to the text of a play
   of_play : (h : Heading) (budget : ℕ) (cs : List (ℕ × Command)) → h.size ≤ most h.object
-      → IsAnswer (Ok (play h budget cs)) status Puts → (status ≡ 0) × IsPlayed h budget cs Puts
+      → IsAnswer report (Ok (play h budget cs)) status Puts → (status ≡ 0) × IsReported report h budget cs Puts
   of_play h budget cs size (inl a) = (a.1, a.2)
   of_play h budget cs size (inr a) = absurd (omega (arith, size, a.0))
 
   answer_of : (h : Heading) (budget : ℕ) (cs : List (ℕ × Command)) → IsPlayOf input h budget cs
-      → IsAnswerTo input status Puts → (status ≡ 0) × IsPlayed h budget cs Puts
+      → IsAnswerTo report input status Puts → (status ≡ 0) × IsReported report h budget cs Puts
   answer_of h budget cs t a =
       of_play h budget cs t.size
-      (subst (λ (r : Result Play ReadFault). IsAnswer r status Puts) (found_again input h budget cs t) a)
+      (subst (λ (r : Result Play ReadFault). IsAnswer report r status Puts) (found_again input h budget cs t) a)
 
-  exactly : IsAnswerTo input status Puts → (status ≡ 0) ↔ IsPlayText input
+  exactly : IsAnswerTo report input status Puts → (status ≡ 0) ↔ IsPlayText input
   exactly a = (is_text (play_at (2 ^ 25) input) refl a, λ t. (answer_of t.0 t.1.0 t.1.1.0 t.1.1.1 a).0)
 
-  status_is : (r : Result Play ReadFault) → IsAnswer r status Puts → (status ≡ 0) ⊎ (status ≡ 2)
+  status_is : (r : Result Play ReadFault) → IsAnswer report r status Puts → (status ≡ 0) ⊎ (status ≡ 2)
   status_is (Ok p) (inl a) = inl a.1
   status_is (Ok p) (inr a) = inr a.1
   status_is (Err f) a = inr a.0
 
 -- of all that a reader had
-module _ (known : Option (List ℕ)) (bytes : List ℕ) (status : ℕ) (Puts : List ℕ → Type 0) where
+module _ (report : Report) (known : Option (List ℕ)) (bytes : List ℕ) (status : ℕ) (Puts : List ℕ → Type 0) where
   on_known : (F : List ℕ → Type 0) → IfSome known (λ input. bytes ≡ input) → F bytes → IfSome known F
   on_known F same x = by known same
     where
@@ -65,29 +67,23 @@ module _ (known : Option (List ℕ)) (bytes : List ℕ) (status : ℕ) (Puts : L
       by None e = tt
       by (Some input) e = subst F e x
 
-  pub answer_known : IfSome known (λ input. bytes ≡ input) → IsAnswerTo bytes status Puts
-      → IfSome known (λ input. IsAnswerTo input status Puts)
-  answer_known same a = on_known (λ input. IsAnswerTo input status Puts) same a
+  pub answer_known : IfSome known (λ input. bytes ≡ input) → IsAnswerTo report bytes status Puts
+      → IfSome known (λ input. IsAnswerTo report input status Puts)
+  answer_known same a = on_known (λ input. IsAnswerTo report input status Puts) same a
 
-  pub zero_exactly : IfSome known (λ input. bytes ≡ input) → IsAnswerTo bytes status Puts
+  pub zero_exactly : IfSome known (λ input. bytes ≡ input) → IsAnswerTo report bytes status Puts
       → IfSome known (λ input. (status ≡ 0) ↔ IsPlayText input)
-  zero_exactly same a = on_known (λ input. (status ≡ 0) ↔ IsPlayText input) same (exactly bytes status Puts a)
+  zero_exactly same a = on_known (λ input. (status ≡ 0) ↔ IsPlayText input) same (exactly report bytes status Puts a)
 
-  pub history_known : IfSome known (λ input. bytes ≡ input) → IsAnswerTo bytes status Puts
+  pub history_known : IfSome known (λ input. bytes ≡ input) → IsAnswerTo report bytes status Puts
       → IfSome known (λ input. (h : Heading) (budget : ℕ) (cs : List (ℕ × Command)) → IsPlayOf input h budget cs
-      → IsPlayed h budget cs Puts)
+      → IsReported report h budget cs Puts)
   history_known same a =
-      on_known (λ input. (h : Heading) (budget : ℕ) (cs : List (ℕ × Command)) → IsPlayOf input h budget cs → IsPlayed h budget cs Puts) same
-      (λ h budget cs t. (answer_of bytes status Puts h budget cs t a).1)
+      on_known (λ input. (h : Heading) (budget : ℕ) (cs : List (ℕ × Command)) → IsPlayOf input h budget cs → IsReported report h budget cs Puts) same
+      (λ h budget cs t. (answer_of report bytes status Puts h budget cs t a).1)
 
-  pub status_known : IsAnswerTo bytes status Puts → (status ≡ 0) ⊎ (status ≡ 2)
-  status_known a = status_is bytes status Puts (play_at (2 ^ 25) bytes) a
-
--- the same play under equal rules
-pub by_rules : {A E : Type 0} (result : Result A E) (k l : Rules) (o : Object) (opening : List ℕ) (h : Heading)
-    (budget : ℕ) (cs : List (ℕ × Command)) (Puts : List ℕ → Type 0)
-    → k ≡ l → OnOk result (IsPlayedBy k o opening h budget cs Puts) → OnOk result (IsPlayedBy l o opening h budget cs Puts)
-by_rules result k l o opening h budget cs Puts is = subst (λ (r : Rules). OnOk result (IsPlayedBy r o opening h budget cs Puts)) is
+  pub status_known : IsAnswerTo report bytes status Puts → (status ≡ 0) ⊎ (status ≡ 2)
+  status_known a = status_is report bytes status Puts (play_at (2 ^ 25) bytes) a
 
 -- what a world that was made and run has come to
 pub led_to : (k : Rules) (o : Object) (opening : List ℕ) (h : Heading) (budget : ℕ) (commands : List (ℕ × Command))
@@ -125,12 +121,12 @@ legal_played h budget cs Puts size p =
           (record { has_text = led.has_text; few = led.few; whole = refl; size = size }) led.legal;
     }
 
-legal_answered : (r : Result Play ReadFault) (status : ℕ) (Puts : List ℕ → Type 0) → IsAnswer r status Puts
+legal_answered : (r : Result Play ReadFault) (status : ℕ) (Puts : List ℕ → Type 0) → IsAnswer History r status Puts
     → status ≡ 0 → IsFoundLegal Puts
 legal_answered (Ok p) status Puts (inl a) none = legal_played p.0 p.1 p.2 Puts a.0 a.2
 legal_answered (Ok p) status Puts (inr a) none = absurd (omega (arith, a.1, none))
 legal_answered (Err f) status Puts a none = absurd (omega (arith, a.0, none))
 
-pub legal_written : (bytes : List ℕ) (status : ℕ) (Puts : List ℕ → Type 0) → IsAnswerTo bytes status Puts
+pub legal_written : (bytes : List ℕ) (status : ℕ) (Puts : List ℕ → Type 0) → IsAnswerTo History bytes status Puts
     → status ≡ 0 → IsFoundLegal Puts
 legal_written bytes = legal_answered (play_at (2 ^ 25) bytes)

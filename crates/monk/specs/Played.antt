@@ -17,6 +17,9 @@ use Rattle.monk_world.specs.Runs.{opening_state}
 use Rattle.monk_world.specs.State.{State}
 use Rattle.monk_world.specs.Telling.{IsLed}
 use Rattle.monk.specs.Answer.{answer_of, unreadable, too_big, verdict_answer}
+use Rattle.monk.specs.Traced.{IsTracedBy}
+use Rattle.monk.specs.declared.report.Report.{Report}
+use Rattle.monk.specs.declared.report.Report.TheVariants.{History, Trace}
 
 -- the text of a play whose size is within the object's greatest
 pub record IsPlayOf (input : List ℕ) (h : Heading) (budget : ℕ) (commands : List (ℕ × Command)) : Type 0 where
@@ -44,10 +47,21 @@ abbrev pub IsPlayedBy : Rules → Object → List ℕ → Heading → ℕ → Li
 IsPlayedBy k o opening h budget commands Puts =
     (events : List Event) × (IsLedTo k o opening h budget commands events × Puts (text h events))
 
+-- the same of what is to be told of the play
+abbrev pub IsReportedBy : Report → Rules → Object → List ℕ → Heading → ℕ → List (ℕ × Command) → (List ℕ → Type 0) → Type 0
+IsReportedBy History k o opening h budget commands Puts = IsPlayedBy k o opening h budget commands Puts
+IsReportedBy Trace k o opening h budget commands Puts = IsTracedBy k o opening h budget commands Puts
+
 -- the same by the kind and over the object that the header names
+abbrev pub IsReported : Report → Heading → ℕ → List (ℕ × Command) → (List ℕ → Type 0) → Type 0
+IsReported r h budget commands Puts =
+    IsReportedBy r (rules_named h.kind) (meaning_named h.object) (opening_named h.object h.size) h budget commands Puts
+
 abbrev pub IsPlayed : Heading → ℕ → List (ℕ × Command) → (List ℕ → Type 0) → Type 0
-IsPlayed h budget commands Puts =
-    IsPlayedBy (rules_named h.kind) (meaning_named h.object) (opening_named h.object h.size) h budget commands Puts
+IsPlayed h budget commands Puts = IsReported History h budget commands Puts
+
+abbrev pub IsTraced : Heading → ℕ → List (ℕ × Command) → (List ℕ → Type 0) → Type 0
+IsTraced h budget commands Puts = IsReported Trace h budget commands Puts
 
 -- with what writing these bytes means: a text is written that an audit answers with `legal` and its number of events
 pub record IsFoundLegal (Puts : List ℕ → Type 0) : Type 0 where
@@ -57,16 +71,16 @@ pub record IsFoundLegal (Puts : List ℕ → Type 0) : Type 0 where
   pub answer : answer_of written ≡ verdict_answer (Legal count)
 
 -- the answer to a play that was read
-abbrev pub IsPlayAnswer : Play → ℕ → (List ℕ → Type 0) → Type 0
-IsPlayAnswer p status Puts =
-    ((p.0.size ≤ most p.0.object) × (status ≡ 0) × IsPlayed p.0 p.1 p.2 Puts)
+abbrev pub IsPlayAnswer : Report → Play → ℕ → (List ℕ → Type 0) → Type 0
+IsPlayAnswer r p status Puts =
+    ((p.0.size ≤ most p.0.object) × (status ≡ 0) × IsReported r p.0 p.1 p.2 Puts)
     ⊎ ((most p.0.object < p.0.size) × (status ≡ 2) × Puts too_big.text)
 
 -- the same, or the answer to a text that is of none
-abbrev pub IsAnswer : Result Play ReadFault → ℕ → (List ℕ → Type 0) → Type 0
-IsAnswer (Ok p) status Puts = IsPlayAnswer p status Puts
-IsAnswer (Err f) status Puts = (status ≡ 2) × Puts (unreadable f).text
+abbrev pub IsAnswer : Report → Result Play ReadFault → ℕ → (List ℕ → Type 0) → Type 0
+IsAnswer r (Ok p) status Puts = IsPlayAnswer r p status Puts
+IsAnswer r (Err f) status Puts = (status ≡ 2) × Puts (unreadable f).text
 
 -- the answer to bytes
-abbrev pub IsAnswerTo : List ℕ → ℕ → (List ℕ → Type 0) → Type 0
-IsAnswerTo input status Puts = IsAnswer (play_at (2 ^ 25) input) status Puts
+abbrev pub IsAnswerTo : Report → List ℕ → ℕ → (List ℕ → Type 0) → Type 0
+IsAnswerTo r input status Puts = IsAnswer r (play_at (2 ^ 25) input) status Puts

@@ -10,12 +10,15 @@ ghost use Rattle.monk_history.specs.Text.Device.{held, has_failed, reads_of};
 ghost use Rattle.monk_world.specs.declared.command.Command.{Command};
 ghost use Rattle.monk_world.specs.Play.Reading.{play};
 ghost use Rattle.monk_world.specs.Records.{AreToldIn};
-ghost use Rattle.monk.specs.Played.{IsPlayAnswer, IsAnswerTo, IsFoundLegal, IsPlayOf, IsPlayText, IsPlayed, IsPlayedBy};
+ghost use Rattle.monk.specs.Played.{IsPlayAnswer, IsAnswerTo, IsFoundLegal, IsPlayOf, IsPlayText, IsPlayed};
+ghost use Rattle.monk.specs.Played.{IsReported, IsReportedBy};
 ghost use Rattle.monk.specs.Streams.{IsYoung, IsPastBound};
 
 use crate::answer::{put, too_big, unreadable};
 use crate::fault::StreamFault;
 use crate::input::read_all;
+use crate::report::Report;
+use crate::tracing::put_trace;
 use monk_floor::MakeFault;
 use monk_history::{Device, Header, write};
 use monk_kinds::{Kind, KindName, Npb, Npir, Npis, Npnb, Npqb, Pb, Pir, Pis, Pnb, Pqb};
@@ -24,9 +27,10 @@ use monk_world::{Command, World, read_play};
 use std::alloc::Global;
 use std::io::{Read, Write};
 
-/// Plays the commands over the object, by the kind K, and writes the history that they lead to.
+/// Plays the commands over the object, by the kind K, and writes what is to be told of it.
 fn play_as<K: Kind, T: Guarded, W: Write>(
     alloc: Global,
+    report: Report,
     object: T,
     header: &Header,
     budget: u32,
@@ -37,19 +41,22 @@ fn play_as<K: Kind, T: Guarded, W: Write>(
     requires in_range { make_refusal header.now.seats header.now.conds budget ≡ None }
     requires told { AreToldIn header.now.version commands.now }
     ensures played { OnOk result
-        (IsPlayedBy K.rules T.meaning (T.state object) header.now budget commands.now
+        (IsReportedBy report K.rules T.meaning (T.state object) header.now budget commands.now
         (Appends (W.contents (held writer.old)) (W.contents (held writer.new)))) }
     ensures file { IsErrOf result StreamFault.File → has_failed writer.new ≡ true }
     ensures memory { IsErrOf result StreamFault.Memory → writer.new ≡ writer.old }
 {
     match World::<K, T>::make(alloc, object, header.seats(), header.conds(), budget) {
-        Ok(mut world) => {
-            world.run(commands);
-            match write(header, world.history(), writer) {
-                Ok(()) => Ok(()),
-                Err(_) => Err(StreamFault::File),
+        Ok(mut world) => match report {
+            Report::History => {
+                world.run(commands);
+                match write(header, world.history(), writer) {
+                    Ok(()) => Ok(()),
+                    Err(_) => Err(StreamFault::File),
+                }
             }
-        }
+            Report::Trace => put_trace(alloc, &mut world, commands, writer),
+        },
         Err(MakeFault::Memory) => Err(StreamFault::Memory),
         Err(_) => unreachable!(),
     }
@@ -58,6 +65,7 @@ fn play_as<K: Kind, T: Guarded, W: Write>(
 /// The same by the kind that the header names.
 fn play_named<T: Guarded, W: Write>(
     alloc: Global,
+    report: Report,
     object: T,
     header: &Header,
     budget: u32,
@@ -68,28 +76,49 @@ fn play_named<T: Guarded, W: Write>(
     requires in_range { make_refusal header.now.seats header.now.conds budget ≡ None }
     requires told { AreToldIn header.now.version commands.now }
     ensures played { OnOk result
-        (IsPlayedBy (rules_named header.now.kind) T.meaning (T.state object) header.now budget commands.now
+        (IsReportedBy report (rules_named header.now.kind) T.meaning (T.state object) header.now budget commands.now
         (Appends (W.contents (held writer.old)) (W.contents (held writer.new)))) }
     ensures file { IsErrOf result StreamFault.File → has_failed writer.new ≡ true }
     ensures memory { IsErrOf result StreamFault.Memory → writer.new ≡ writer.old }
 {
     match header.kind() {
-        KindName::Pb => play_as::<Pb, T, W>(alloc, object, header, budget, commands, writer),
-        KindName::Npb => play_as::<Npb, T, W>(alloc, object, header, budget, commands, writer),
-        KindName::Pnb => play_as::<Pnb, T, W>(alloc, object, header, budget, commands, writer),
-        KindName::Npnb => play_as::<Npnb, T, W>(alloc, object, header, budget, commands, writer),
-        KindName::Pqb => play_as::<Pqb, T, W>(alloc, object, header, budget, commands, writer),
-        KindName::Npqb => play_as::<Npqb, T, W>(alloc, object, header, budget, commands, writer),
-        KindName::Pir => play_as::<Pir, T, W>(alloc, object, header, budget, commands, writer),
-        KindName::Npir => play_as::<Npir, T, W>(alloc, object, header, budget, commands, writer),
-        KindName::Pis => play_as::<Pis, T, W>(alloc, object, header, budget, commands, writer),
-        KindName::Npis => play_as::<Npis, T, W>(alloc, object, header, budget, commands, writer),
+        KindName::Pb => play_as::<Pb, T, W>(
+            alloc, report, object, header, budget, commands, writer,
+        ),
+        KindName::Npb => play_as::<Npb, T, W>(
+            alloc, report, object, header, budget, commands, writer,
+        ),
+        KindName::Pnb => play_as::<Pnb, T, W>(
+            alloc, report, object, header, budget, commands, writer,
+        ),
+        KindName::Npnb => play_as::<Npnb, T, W>(
+            alloc, report, object, header, budget, commands, writer,
+        ),
+        KindName::Pqb => play_as::<Pqb, T, W>(
+            alloc, report, object, header, budget, commands, writer,
+        ),
+        KindName::Npqb => play_as::<Npqb, T, W>(
+            alloc, report, object, header, budget, commands, writer,
+        ),
+        KindName::Pir => play_as::<Pir, T, W>(
+            alloc, report, object, header, budget, commands, writer,
+        ),
+        KindName::Npir => play_as::<Npir, T, W>(
+            alloc, report, object, header, budget, commands, writer,
+        ),
+        KindName::Pis => play_as::<Pis, T, W>(
+            alloc, report, object, header, budget, commands, writer,
+        ),
+        KindName::Npis => play_as::<Npis, T, W>(
+            alloc, report, object, header, budget, commands, writer,
+        ),
     }
 }
 
 /// The same over the object that the header names.
 fn play_object<W: Write>(
     alloc: Global,
+    report: Report,
     header: &Header,
     budget: u32,
     commands: &[(u8, Command)],
@@ -100,7 +129,7 @@ fn play_object<W: Write>(
     requires told { AreToldIn header.now.version commands.now }
     requires size { header.now.size ≤ most header.now.object }
     ensures played { OnOk result
-        (IsPlayed header.now budget commands.now
+        (IsReported report header.now budget commands.now
         (Appends (W.contents (held writer.old)) (W.contents (held writer.new)))) }
     ensures file { IsErrOf result StreamFault.File → has_failed writer.new ≡ true }
     ensures memory { IsErrOf result StreamFault.Memory → writer.new ≡ writer.old }
@@ -108,16 +137,16 @@ fn play_object<W: Write>(
     let size = header.size();
     match header.object() {
         ObjectName::Buffer => match Buffer::make(alloc, size) {
-            Ok(buffer) => play_named(alloc, buffer, header, budget, commands, writer),
+            Ok(buffer) => play_named(alloc, report, buffer, header, budget, commands, writer),
             Err(ObjectFault::Memory) => Err(StreamFault::Memory),
             Err(ObjectFault::Size) => unreachable!(),
         },
         ObjectName::Book => match Book::make(size) {
-            Ok(book) => play_named(alloc, book, header, budget, commands, writer),
+            Ok(book) => play_named(alloc, report, book, header, budget, commands, writer),
             Err(_) => unreachable!(),
         },
         ObjectName::Shop => match Shop::make(size) {
-            Ok(shop) => play_named(alloc, shop, header, budget, commands, writer),
+            Ok(shop) => play_named(alloc, report, shop, header, budget, commands, writer),
             Err(_) => unreachable!(),
         },
     }
@@ -126,6 +155,7 @@ fn play_object<W: Write>(
 /// Answers a play that was read.
 fn play<W: Write>(
     alloc: Global,
+    report: Report,
     header: &Header,
     budget: u32,
     commands: &[(u8, Command)],
@@ -135,7 +165,7 @@ fn play<W: Write>(
     requires in_range { make_refusal header.now.seats header.now.conds budget ≡ None }
     requires told { AreToldIn header.now.version commands.now }
     ensures answer { IfOk result
-        (λ status. IsPlayAnswer (play header.now budget commands.now) status
+        (λ status. IsPlayAnswer report (play header.now budget commands.now) status
         (Appends (W.contents (held writer.old)) (W.contents (held writer.new)))) }
     ensures file { IsErrOf result StreamFault.File → has_failed writer.new ≡ true }
     ensures memory { IsErrOf result StreamFault.Memory → writer.new ≡ writer.old }
@@ -143,24 +173,25 @@ fn play<W: Write>(
     if header.size() > header.object().greatest_size() {
         return put(&too_big(alloc)?, writer);
     }
-    play_object(alloc, header, budget, commands, writer)?;
+    play_object(alloc, report, header, budget, commands, writer)?;
     Ok(0)
 }
 
 /// Answers a text.
-fn play_text<W: Write>(
+pub(crate) fn play_text<W: Write>(
     alloc: Global,
+    report: Report,
     bytes: &[u8],
     writer: &mut Device<W>,
 ) -> Result<u8, StreamFault>
     requires { has_failed writer.old ≡ false }
     ensures answer { IfOk result
-        (λ status. IsAnswerTo bytes.now status (Appends (W.contents (held writer.old)) (W.contents (held writer.new)))) }
+        (λ status. IsAnswerTo report bytes.now status (Appends (W.contents (held writer.old)) (W.contents (held writer.new)))) }
     ensures file { IsErrOf result StreamFault.File → has_failed writer.new ≡ true }
     ensures memory { IsErrOf result StreamFault.Memory → writer.new ≡ writer.old }
 {
     match read_play(alloc, bytes) {
-        Ok((header, budget, commands)) => play(alloc, &header, budget, &commands, writer),
+        Ok((header, budget, commands)) => play(alloc, report, &header, budget, &commands, writer),
         Err(fault) => put(&unreadable(alloc, fault)?, writer),
     }
 }
@@ -191,7 +222,7 @@ pub fn play_stream<R: Read, W: Write>(
     // What is written, and its status, are the answer to what the reader had.
     ensures answer { IfOk result
         (λ status. IfSome (R.remaining (held reader.old))
-        (λ input. IsAnswerTo input status (Appends (W.contents (held writer.old)) (W.contents (held writer.new))))) }
+        (λ input. IsAnswerTo Report.History input status (Appends (W.contents (held writer.old)) (W.contents (held writer.new))))) }
     // The status is 0 exactly for the text of a play.
     ensures played { IfOk result (λ status. IfSome (R.remaining (held reader.old)) (λ input. (status ≡ 0) ↔ IsPlayText input)) }
     // To a play nothing is written but the text of its history, which is legal.
@@ -212,5 +243,5 @@ pub fn play_stream<R: Read, W: Write>(
     ensures reads { reads_of reader.new ≤ reads_of reader.old + 2 ^ 31 }
 {
     let bytes = read_all(alloc, reader)?;
-    play_text(alloc, &bytes, writer)
+    play_text(alloc, Report::History, &bytes, writer)
 }

@@ -5,6 +5,7 @@ use crate::auditing::audit_stream;
 use crate::fault::StreamFault;
 use crate::fitting::fit_stream;
 use crate::playing::play_stream;
+use crate::tracing::trace_stream;
 use crate::upgrading::upgrade_stream;
 use monk_history::Device;
 use std::alloc::Global;
@@ -17,6 +18,7 @@ pub(crate) enum Task {
     Play,
     Upgrade,
     Fit,
+    Trace,
 }
 
 impl Task {
@@ -36,6 +38,7 @@ impl Task {
             Task::Play => play_stream(alloc, reader, writer),
             Task::Upgrade => upgrade_stream(alloc, reader, writer),
             Task::Fit => fit_stream(alloc, reader, writer),
+            Task::Trace => trace_stream(alloc, reader, writer),
         }
     }
 }

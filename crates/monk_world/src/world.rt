@@ -90,6 +90,13 @@ impl<K: Kind, T: Guarded> World<K, T> {
         self.floor.history()
     }
 
+    /// How many seats there are.
+    pub fn seats(&self) -> u8
+        ensures { result ≡ (state_of_view self.now).floor.seats }
+    {
+        self.words.seats
+    }
+
     /// How many tickets were drawn.
     pub fn drawn(&self) -> u32
         ensures { result ≡ (state_of_view self.now).world.drawn }

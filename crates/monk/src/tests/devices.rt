@@ -19,7 +19,7 @@ struct Job {
     answer: &'static [u8],
 }
 
-static JOBS: [Job; 4] = [
+static JOBS: [Job; 6] = [
     Job {
         task: Task::Audit,
         input: b"monk 1 PB 2 2 buffer 1\nenter 0 free\nwait 0 1 entry\nenter 1 free\nsignal 1 1 waiter 0\nresume 0 waiter\nleave 0 signaller 1\nresume 1 signaller\nleave 1 entry\n",
@@ -43,6 +43,18 @@ static JOBS: [Job; 4] = [
         input: b"monk 1 PB 1 0 buffer 1\nenter 0 free\nact 0 0 5 1\nleave 0 entry\n",
         status: 0,
         answer: b"monk 2 PB 1 0 buffer 1\nenter 0 free\nact 0 0 5 1\nleave 0 entry\n",
+    },
+    Job {
+        task: Task::Fit,
+        input: b"monk 1 PB 1 0 buffer 1\nenter 0 free\nleave 0 entry\n",
+        status: 0,
+        answer: b"PB legal 2\nNPB legal 2\nPNB legal 2\nNPNB legal 2\nPQB legal 2\nNPQB legal 2\nPIR legal 2\nNPIR legal 2\nPIS legal 2\nNPIS legal 2\n",
+    },
+    Job {
+        task: Task::Trace,
+        input: b"play 1 PB 1 0 buffer 1 8\n0 arrive\n0 out\n0 leave waiter\n",
+        status: 0,
+        answer: b"1 | 0 arrive | arrived 0 0 | t=1 n=1 | due\n2 | 0 out | now | t=1 n=1 | active\n3 | 0 leave waiter | chose entry | t=1 n=1 | back entry\n",
     },
 ];
 

@@ -12,6 +12,7 @@ fn asks_for(line: &Line, command: &str, file: Option<&str>) -> bool {
         Line::Play(name) => ("play", name),
         Line::Upgrade(name) => ("upgrade", name),
         Line::Fit(name) => ("fit", name),
+        Line::Trace(name) => ("trace", name),
         Line::Classify(..) | Line::Run(..) | Line::Record(..) => return false,
     };
     let same = match (name, file) {
@@ -25,7 +26,7 @@ fn asks_for(line: &Line, command: &str, file: Option<&str>) -> bool {
 #[test]
 fn words_that_ask(rt: HostRuntime) -> Result<(), Fail> {
     let alloc = rt.alloc();
-    for command in ["audit", "play", "upgrade", "fit"] {
+    for command in ["audit", "play", "upgrade", "fit", "trace"] {
         let bare = line(alloc, &["monk", command])?;
         assert!(rt; asks_for(&bare, command, None), "{command}");
         let named = line(alloc, &["monk", command, "x.text"])?;

@@ -43,3 +43,13 @@ returns-in_ok-file_of-in-Some-fit-default c =
       values = sym (first_value-rows found (codes "FILE")) ∙ sym c.in_ok-file_of-in-Some-fit-default.ensures;
       in_range = tt;
     })
+
+pub returns-in_ok-file_of-in-Some-trace-default : goal.returns-in_ok-file_of-in-Some-trace-default
+returns-in_ok-file_of-in-Some-trace-default c =
+    let found = found_of c.in-Some-trace-default.trace.now in
+    asked_in (subcommand_rows_of c.args.matches.now) (codes "trace") (rows_of found) _ (search rules)
+    (sym c.in-Some-trace-default.ensures.rows) (record {
+      command = refl;
+      values = sym (first_value-rows found (codes "FILE")) ∙ sym c.in_ok-file_of-in-Some-trace-default.ensures;
+      in_range = tt;
+    })

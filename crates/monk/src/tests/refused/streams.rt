@@ -70,6 +70,20 @@ static NOT_UPGRADED: Job = Job {
     answer: b"unreadable 2 2 word\n",
 };
 
+static FITTED: Job = Job {
+    task: Task::Fit,
+    input: b"monk 1 PB 1 0 buffer 1\nenter 0 free\nleave 0 entry\n",
+    status: 0,
+    answer: b"PB legal 2\nNPB legal 2\nPNB legal 2\nNPNB legal 2\nPQB legal 2\nNPQB legal 2\nPIR legal 2\nNPIR legal 2\nPIS legal 2\nNPIS legal 2\n",
+};
+
+static TRACED: Job = Job {
+    task: Task::Trace,
+    input: b"play 1 PB 1 0 buffer 1 8\n0 arrive\n0 out\n0 leave waiter\n",
+    status: 0,
+    answer: b"1 | 0 arrive | arrived 0 0 | t=1 n=1 | due\n2 | 0 out | now | t=1 n=1 | active\n3 | 0 leave waiter | chose entry | t=1 n=1 | back entry\n",
+};
+
 /// A writer that keeps nothing: it compares what it gets with what is still expected.
 #[derive(Drop)]
 struct Expected<'a> {
@@ -202,4 +216,24 @@ fn not_upgraded_with_ample_memory(rt: HostRuntime) {
 #[test]
 fn not_upgraded_or_refused_memory(rt: HostRuntime) {
     assert_ne!(rt; end_of(&rt, &NOT_UPGRADED), Outcome::Other);
+}
+
+#[test]
+fn fitted_with_ample_memory(rt: HostRuntime) {
+    assert_eq!(rt; end_of(&rt, &FITTED), Outcome::Answered);
+}
+
+#[test]
+fn fitted_or_refused_memory(rt: HostRuntime) {
+    assert_ne!(rt; end_of(&rt, &FITTED), Outcome::Other);
+}
+
+#[test]
+fn traced_with_ample_memory(rt: HostRuntime) {
+    assert_eq!(rt; end_of(&rt, &TRACED), Outcome::Answered);
+}
+
+#[test]
+fn traced_or_refused_memory(rt: HostRuntime) {
+    assert_ne!(rt; end_of(&rt, &TRACED), Outcome::Other);
 }

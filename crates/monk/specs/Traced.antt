@@ -1,0 +1,47 @@
+-- The trace of a play: a line for each command, with its answer, the words and where each seat stands after it
+use Rattle.std.specs.Prelude.{◌≡◌, ℕ, zero, suc, ◌+◌, ◌==◌, List, [], ◌∷◌, ◌++◌, if◌then◌else◌, codes}
+use Rattle.std.specs.List.{join_with_byte}
+use Rattle.std.specs.Fmt.{decimal}
+use Rattle.monk_kinds.specs.declared.mode.Rules.{Rules}
+use Rattle.monk_object.specs.Object.{Object}
+use Rattle.monk_history.specs.Text.{Heading}
+use Rattle.monk_world.specs.declared.answer.Answer.{Answer}
+use Rattle.monk_world.specs.declared.command.Command.{Command}
+use Rattle.monk_world.specs.Play.{command_words}
+use Rattle.monk_world.specs.Runs.{opening_state}
+use Rattle.monk_world.specs.Shown.{answer_words, is_granted, place_words}
+use Rattle.monk_world.specs.State.{State}
+use Rattle.monk_world.specs.StepTable.{IsStep}
+
+-- where seat j stands, and whether the grant is there that it looks for
+abbrev pub seat_text : State → ℕ → List ℕ
+seat_text s j = join_with_byte 32 (place_words (s.world.place j)) ++ (if is_granted s j then codes " granted" else [])
+
+-- of the seats below that, with a comma between each two
+abbrev pub places_text : State → ℕ → List ℕ
+places_text s zero = []
+places_text s (suc j) = places_text s j ++ (if j == 0 then [] else codes ", ") ++ seat_text s j
+
+-- what a seat was told, and what it answered
+abbrev pub told_text : ℕ × Command → Answer → List ℕ
+told_text c a = join_with_byte 32 (command_words c) ++ codes " | " ++ join_with_byte 32 (answer_words a)
+
+-- the line of the command of that number, after which the world stands so
+abbrev pub trace_line : ℕ → ℕ × Command → Answer → State → List ℕ
+trace_line number c a s =
+    decimal number ++ codes " | " ++ told_text c a
+    ++ codes " | t=" ++ decimal s.world.drawn ++ codes " n=" ++ decimal s.world.unpassed ++ codes " | "
+    ++ places_text s s.floor.seats ++ codes "\n"
+
+-- the commands in turn, behind so many others, from state to state, each with its line
+abbrev pub AreTraced : Rules → Object → ℕ → State → List (ℕ × Command) → State → List ℕ → Type 0
+AreTraced k o before s [] t text = (t ≡ s) × (text ≡ [])
+AreTraced k o before s (c ∷ cs) t text =
+    (a : Answer) × ((u : State) × ((rest : List ℕ) × (IsStep k o s c.0 c.1 a u
+    × ((text ≡ trace_line (before + 1) c a u ++ rest) × AreTraced k o (before + 1) u cs t rest))))
+
+-- with what writing these bytes means: the lines of all commands, from the start, are written
+abbrev pub IsTracedBy : Rules → Object → List ℕ → Heading → ℕ → List (ℕ × Command) → (List ℕ → Type 0) → Type 0
+IsTracedBy k o opening h budget commands Puts =
+    (last : State) × ((text : List ℕ)
+    × (AreTraced k o 0 (opening_state opening h.seats h.conds budget) commands last text × Puts text))
