@@ -75,10 +75,10 @@ module _ (report : Report) (known : Option (List ℕ)) (bytes : List ℕ) (statu
       → IfSome known (λ input. (status ≡ 0) ↔ IsPlayText input)
   zero_exactly same a = on_known (λ input. (status ≡ 0) ↔ IsPlayText input) same (exactly report bytes status Puts a)
 
-  pub history_known : IfSome known (λ input. bytes ≡ input) → IsAnswerTo report bytes status Puts
+  pub reported_known : IfSome known (λ input. bytes ≡ input) → IsAnswerTo report bytes status Puts
       → IfSome known (λ input. (h : Heading) (budget : ℕ) (cs : List (ℕ × Command)) → IsPlayOf input h budget cs
       → IsReported report h budget cs Puts)
-  history_known same a =
+  reported_known same a =
       on_known (λ input. (h : Heading) (budget : ℕ) (cs : List (ℕ × Command)) → IsPlayOf input h budget cs → IsReported report h budget cs Puts) same
       (λ h budget cs t. (answer_of report bytes status Puts h budget cs t a).1)
 

@@ -13,25 +13,29 @@ use Rattle.monk_world.specs.Shown.{answer_words, is_granted, place_words}
 use Rattle.monk_world.specs.State.{State}
 use Rattle.monk_world.specs.StepTable.{IsStep}
 
--- where seat j stands, and whether the grant is there that it looks for
+-- where seat j stands, and whether the grant is there that it looks for; a comma before each but the first
 abbrev pub seat_text : State → ℕ → List ℕ
-seat_text s j = join_with_byte 32 (place_words (s.world.place j)) ++ (if is_granted s j then codes " granted" else [])
+seat_text s j =
+    (if j == 0 then [] else codes ", ") ++ join_with_byte 32 (place_words (s.world.place j))
+    ++ (if is_granted s j then codes " granted" else [])
 
--- of the seats below that, with a comma between each two
-abbrev pub places_text : State → ℕ → List ℕ
+-- of the seats below that
+unfoldable pub places_text : State → ℕ → List ℕ
 places_text s zero = []
-places_text s (suc j) = places_text s j ++ (if j == 0 then [] else codes ", ") ++ seat_text s j
+places_text s (suc j) = places_text s j ++ seat_text s j
 
 -- what a seat was told, and what it answered
 abbrev pub told_text : ℕ × Command → Answer → List ℕ
 told_text c a = join_with_byte 32 (command_words c) ++ codes " | " ++ join_with_byte 32 (answer_words a)
 
--- the line of the command of that number, after which the world stands so
-abbrev pub trace_line : ℕ → ℕ × Command → Answer → State → List ℕ
-trace_line number c a s =
+-- the line of the command of that number, after which the world stands so: what stands before the places, and all of it
+unfoldable pub line_front : ℕ → ℕ × Command → Answer → State → List ℕ
+line_front number c a s =
     decimal number ++ codes " | " ++ told_text c a
     ++ codes " | t=" ++ decimal s.world.drawn ++ codes " n=" ++ decimal s.world.unpassed ++ codes " | "
-    ++ places_text s s.floor.seats ++ codes "\n"
+
+abbrev pub trace_line : ℕ → ℕ × Command → Answer → State → List ℕ
+trace_line number c a s = line_front number c a s ++ places_text s s.floor.seats ++ codes "\n"
 
 -- the commands in turn, behind so many others, from state to state, each with its line
 abbrev pub AreTraced : Rules → Object → ℕ → State → List (ℕ × Command) → State → List ℕ → Type 0

@@ -27,35 +27,43 @@ use monk_world::{Command, World, read_play};
 use std::alloc::Global;
 use std::io::{Read, Write};
 
+/// A play that was read: what its first line says, and its commands.
+#[derive(Drop)]
+struct Script {
+    header: Header,
+    budget: u32,
+    commands: Vec<(u8, Command)>,
+}
+
 /// Plays the commands over the object, by the kind K, and writes what is to be told of it.
 fn play_as<K: Kind, T: Guarded, W: Write>(
     alloc: Global,
     report: Report,
     object: T,
-    header: &Header,
-    budget: u32,
-    commands: &[(u8, Command)],
+    script: &Script,
     writer: &mut Device<W>,
 ) -> Result<(), StreamFault>
     requires works { has_failed writer.old ≡ false }
-    requires in_range { make_refusal header.now.seats header.now.conds budget ≡ None }
-    requires told { AreToldIn header.now.version commands.now }
+    requires in_range { make_refusal script.now.header.seats script.now.header.conds script.now.budget ≡ None }
+    requires told { AreToldIn script.now.header.version script.now.commands.items }
     ensures played { OnOk result
-        (IsReportedBy report K.rules T.meaning (T.state object) header.now budget commands.now
+        (IsReportedBy report K.rules T.meaning (T.state object) script.now.header script.now.budget
+        script.now.commands.items
         (Appends (W.contents (held writer.old)) (W.contents (held writer.new)))) }
     ensures file { IsErrOf result StreamFault.File → has_failed writer.new ≡ true }
     ensures memory { IsErrOf result StreamFault.Memory → writer.new ≡ writer.old }
 {
-    match World::<K, T>::make(alloc, object, header.seats(), header.conds(), budget) {
+    let (seats, conds) = (script.header.seats(), script.header.conds());
+    match World::<K, T>::make(alloc, object, seats, conds, script.budget) {
         Ok(mut world) => match report {
             Report::History => {
-                world.run(commands);
-                match write(header, world.history(), writer) {
+                world.run(&script.commands);
+                match write(&script.header, world.history(), writer) {
                     Ok(()) => Ok(()),
                     Err(_) => Err(StreamFault::File),
                 }
             }
-            Report::Trace => put_trace(alloc, &mut world, commands, writer),
+            Report::Trace => put_trace(alloc, &mut world, &script.commands, writer),
         },
         Err(MakeFault::Memory) => Err(StreamFault::Memory),
         Err(_) => unreachable!(),
@@ -67,51 +75,30 @@ fn play_named<T: Guarded, W: Write>(
     alloc: Global,
     report: Report,
     object: T,
-    header: &Header,
-    budget: u32,
-    commands: &[(u8, Command)],
+    script: &Script,
     writer: &mut Device<W>,
 ) -> Result<(), StreamFault>
     requires works { has_failed writer.old ≡ false }
-    requires in_range { make_refusal header.now.seats header.now.conds budget ≡ None }
-    requires told { AreToldIn header.now.version commands.now }
+    requires in_range { make_refusal script.now.header.seats script.now.header.conds script.now.budget ≡ None }
+    requires told { AreToldIn script.now.header.version script.now.commands.items }
     ensures played { OnOk result
-        (IsReportedBy report (rules_named header.now.kind) T.meaning (T.state object) header.now budget commands.now
+        (IsReportedBy report (rules_named script.now.header.kind) T.meaning (T.state object) script.now.header script.now.budget
+        script.now.commands.items
         (Appends (W.contents (held writer.old)) (W.contents (held writer.new)))) }
     ensures file { IsErrOf result StreamFault.File → has_failed writer.new ≡ true }
     ensures memory { IsErrOf result StreamFault.Memory → writer.new ≡ writer.old }
 {
-    match header.kind() {
-        KindName::Pb => play_as::<Pb, T, W>(
-            alloc, report, object, header, budget, commands, writer,
-        ),
-        KindName::Npb => play_as::<Npb, T, W>(
-            alloc, report, object, header, budget, commands, writer,
-        ),
-        KindName::Pnb => play_as::<Pnb, T, W>(
-            alloc, report, object, header, budget, commands, writer,
-        ),
-        KindName::Npnb => play_as::<Npnb, T, W>(
-            alloc, report, object, header, budget, commands, writer,
-        ),
-        KindName::Pqb => play_as::<Pqb, T, W>(
-            alloc, report, object, header, budget, commands, writer,
-        ),
-        KindName::Npqb => play_as::<Npqb, T, W>(
-            alloc, report, object, header, budget, commands, writer,
-        ),
-        KindName::Pir => play_as::<Pir, T, W>(
-            alloc, report, object, header, budget, commands, writer,
-        ),
-        KindName::Npir => play_as::<Npir, T, W>(
-            alloc, report, object, header, budget, commands, writer,
-        ),
-        KindName::Pis => play_as::<Pis, T, W>(
-            alloc, report, object, header, budget, commands, writer,
-        ),
-        KindName::Npis => play_as::<Npis, T, W>(
-            alloc, report, object, header, budget, commands, writer,
-        ),
+    match script.header.kind() {
+        KindName::Pb => play_as::<Pb, T, W>(alloc, report, object, script, writer),
+        KindName::Npb => play_as::<Npb, T, W>(alloc, report, object, script, writer),
+        KindName::Pnb => play_as::<Pnb, T, W>(alloc, report, object, script, writer),
+        KindName::Npnb => play_as::<Npnb, T, W>(alloc, report, object, script, writer),
+        KindName::Pqb => play_as::<Pqb, T, W>(alloc, report, object, script, writer),
+        KindName::Npqb => play_as::<Npqb, T, W>(alloc, report, object, script, writer),
+        KindName::Pir => play_as::<Pir, T, W>(alloc, report, object, script, writer),
+        KindName::Npir => play_as::<Npir, T, W>(alloc, report, object, script, writer),
+        KindName::Pis => play_as::<Pis, T, W>(alloc, report, object, script, writer),
+        KindName::Npis => play_as::<Npis, T, W>(alloc, report, object, script, writer),
     }
 }
 
@@ -119,34 +106,32 @@ fn play_named<T: Guarded, W: Write>(
 fn play_object<W: Write>(
     alloc: Global,
     report: Report,
-    header: &Header,
-    budget: u32,
-    commands: &[(u8, Command)],
+    script: &Script,
     writer: &mut Device<W>,
 ) -> Result<(), StreamFault>
     requires works { has_failed writer.old ≡ false }
-    requires in_range { make_refusal header.now.seats header.now.conds budget ≡ None }
-    requires told { AreToldIn header.now.version commands.now }
-    requires size { header.now.size ≤ most header.now.object }
+    requires in_range { make_refusal script.now.header.seats script.now.header.conds script.now.budget ≡ None }
+    requires told { AreToldIn script.now.header.version script.now.commands.items }
+    requires size { script.now.header.size ≤ most script.now.header.object }
     ensures played { OnOk result
-        (IsReported report header.now budget commands.now
+        (IsReported report script.now.header script.now.budget script.now.commands.items
         (Appends (W.contents (held writer.old)) (W.contents (held writer.new)))) }
     ensures file { IsErrOf result StreamFault.File → has_failed writer.new ≡ true }
     ensures memory { IsErrOf result StreamFault.Memory → writer.new ≡ writer.old }
 {
-    let size = header.size();
-    match header.object() {
+    let size = script.header.size();
+    match script.header.object() {
         ObjectName::Buffer => match Buffer::make(alloc, size) {
-            Ok(buffer) => play_named(alloc, report, buffer, header, budget, commands, writer),
+            Ok(buffer) => play_named(alloc, report, buffer, script, writer),
             Err(ObjectFault::Memory) => Err(StreamFault::Memory),
             Err(ObjectFault::Size) => unreachable!(),
         },
         ObjectName::Book => match Book::make(size) {
-            Ok(book) => play_named(alloc, report, book, header, budget, commands, writer),
+            Ok(book) => play_named(alloc, report, book, script, writer),
             Err(_) => unreachable!(),
         },
         ObjectName::Shop => match Shop::make(size) {
-            Ok(shop) => play_named(alloc, report, shop, header, budget, commands, writer),
+            Ok(shop) => play_named(alloc, report, shop, script, writer),
             Err(_) => unreachable!(),
         },
     }
@@ -156,24 +141,22 @@ fn play_object<W: Write>(
 fn play<W: Write>(
     alloc: Global,
     report: Report,
-    header: &Header,
-    budget: u32,
-    commands: &[(u8, Command)],
+    script: &Script,
     writer: &mut Device<W>,
 ) -> Result<u8, StreamFault>
     requires works { has_failed writer.old ≡ false }
-    requires in_range { make_refusal header.now.seats header.now.conds budget ≡ None }
-    requires told { AreToldIn header.now.version commands.now }
+    requires in_range { make_refusal script.now.header.seats script.now.header.conds script.now.budget ≡ None }
+    requires told { AreToldIn script.now.header.version script.now.commands.items }
     ensures answer { IfOk result
-        (λ status. IsPlayAnswer report (play header.now budget commands.now) status
+        (λ status. IsPlayAnswer report (play script.now.header script.now.budget script.now.commands.items) status
         (Appends (W.contents (held writer.old)) (W.contents (held writer.new)))) }
     ensures file { IsErrOf result StreamFault.File → has_failed writer.new ≡ true }
     ensures memory { IsErrOf result StreamFault.Memory → writer.new ≡ writer.old }
 {
-    if header.size() > header.object().greatest_size() {
+    if script.header.size() > script.header.object().greatest_size() {
         return put(&too_big(alloc)?, writer);
     }
-    play_object(alloc, report, header, budget, commands, writer)?;
+    play_object(alloc, report, script, writer)?;
     Ok(0)
 }
 
@@ -191,7 +174,14 @@ pub(crate) fn play_text<W: Write>(
     ensures memory { IsErrOf result StreamFault.Memory → writer.new ≡ writer.old }
 {
     match read_play(alloc, bytes) {
-        Ok((header, budget, commands)) => play(alloc, report, &header, budget, &commands, writer),
+        Ok((header, budget, commands)) => {
+            let script = Script {
+                header,
+                budget,
+                commands,
+            };
+            play(alloc, report, &script, writer)
+        }
         Err(fault) => put(&unreadable(alloc, fault)?, writer),
     }
 }

@@ -8,7 +8,7 @@ ghost use Rattle.monk_world.specs.Board.{state_of_view};
 ghost use Rattle.monk_world.specs.declared.command.Command.{Command};
 ghost use Rattle.monk.specs.Played.{IsAnswerTo, IsPlayOf, IsPlayText, IsTraced};
 ghost use Rattle.monk.specs.Streams.{IsYoung, IsPastBound};
-ghost use Rattle.monk.specs.Traced.{AreTraced, places_text, seat_text, trace_line};
+ghost use Rattle.monk.specs.Traced.{AreTraced, line_front, places_text, seat_text, trace_line};
 
 use crate::fault::StreamFault;
 use crate::input::read_all;
@@ -23,6 +23,7 @@ use std::fmt;
 use std::io::{Read, Write};
 
 /// What a seat was told, and what it answered.
+#[derive(Drop)]
 struct Told {
     seat: u8,
     command: Command,
@@ -48,6 +49,9 @@ fn put_place<K: Kind, T: Guarded>(
 ) -> Result<(), AllocError>
     ensures { OnOk result (string_bytes page.new ≡ string_bytes page.old ++ seat_text (state_of_view world.now) seat) }
 {
+    if seat > 0 {
+        page.push_str(", ")?;
+    }
     write!(page, "{}", world.place(seat))?;
     if world.is_granted(seat) {
         page.push_str(" granted")?;
@@ -56,18 +60,32 @@ fn put_place<K: Kind, T: Guarded>(
 }
 
 /// The same of each seat.
+#[tactic(auto, unfolding(crate::specs::Traced::places_text))]
 fn put_places<K: Kind, T: Guarded>(page: &mut String, world: &World<K, T>) -> Result<(), AllocError>
     ensures { OnOk result
         (string_bytes page.new ≡ string_bytes page.old
         ++ places_text (state_of_view world.now) (state_of_view world.now).floor.seats) }
 {
     for seat in 0..world.seats() {
-        if seat > 0 {
-            page.push_str(", ")?;
-        }
         put_place(page, world, seat)?;
     }
     Ok(())
+}
+
+/// What stands in a line before the places: the command's number, what it came to, and the words after it.
+#[tactic(auto, unfolding(crate::specs::Traced::line_front))]
+fn put_front<K: Kind, T: Guarded>(
+    page: &mut String,
+    number: usize,
+    told: &Told,
+    world: &World<K, T>,
+) -> Result<(), AllocError>
+    ensures { OnOk result
+        (string_bytes page.new ≡ string_bytes page.old
+        ++ line_front number (told.now.seat, told.now.command) told.now.answer (state_of_view world.now)) }
+{
+    let (drawn, unpassed) = (world.drawn(), world.unpassed());
+    write!(page, "{number} | {told} | t={drawn} n={unpassed} | ")
 }
 
 /// The line of the command of that number, which has brought the world to where it is.
@@ -81,12 +99,7 @@ fn put_line<K: Kind, T: Guarded>(
         (string_bytes page.new ≡ string_bytes page.old
         ++ trace_line number (told.now.seat, told.now.command) told.now.answer (state_of_view world.now)) }
 {
-    write!(
-        page,
-        "{number} | {told} | t={} n={} | ",
-        world.drawn(),
-        world.unpassed()
-    )?;
+    put_front(page, number, told, world)?;
     put_places(page, world)?;
     page.push_str("\n")
 }

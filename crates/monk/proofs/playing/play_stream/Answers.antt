@@ -3,7 +3,7 @@ use Rattle.std.specs.Prelude.{IfSome}
 use Rattle.std.specs.Io.KnownBytes.{Appends}
 use Rattle.std.proofs.lemmas.Result.{IfOk-weaker}
 use Rattle.monk_history.specs.Text.Device.{held}
-use Rattle.monk.proofs.PlayExact.{zero_exactly, history_known, legal_written}
+use Rattle.monk.proofs.PlayExact.{zero_exactly, reported_known, legal_written}
 use Rattle.monk.specs.declared.report.Report.TheVariants.{History}
 use Rattle.monk.proofs.playing.play_stream.Goals as goal
 
@@ -22,7 +22,7 @@ returns-clause-history g c =
     let known = g.R.Read.remaining (held c.args.reader.now) in
     let puts = Appends (g.W.Write.contents (held c.args.writer.now)) (g.W.Write.contents (held c.play_text.new.writer)) in
     IfOk-weaker c.play_text.result _ _ (λ status a.
-    history_known History known c.deref.result.now status puts
+    reported_known History known c.deref.result.now status puts
     (subst (λ (bytes : List ℕ). IfSome known (λ input. bytes ≡ input)) (sym c.deref.ensures.value)
     c.in_ok-bytes.ensures.bytes) a)
     c.play_text.ensures.answer
