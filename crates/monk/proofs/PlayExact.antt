@@ -1,7 +1,7 @@
 -- A play is played exactly where the bytes are its text, and what is written then.
 use Rattle.std.proofs.Common.{◌≡◌, ℕ, ◌≤◌, ◌^◌, ◌⊎◌, inl, inr, List, length, Option, Some, None, Result, Ok, Err}
 use Rattle.std.proofs.Common.{refl, sym, ap, subst, ◌∙◌, arith}
-use Rattle.std.specs.Prelude.{IfSome, OnOk, ◌↔◌}
+use Rattle.std.specs.Prelude.{IfSome, ◌↔◌}
 use Rattle.monk_kinds.specs.declared.mode.Rules.{Rules}
 use Rattle.monk_object.specs.Object.{Object}
 use Rattle.monk_object.specs.Names.{most}
@@ -79,7 +79,8 @@ module _ (report : Report) (known : Option (List ℕ)) (bytes : List ℕ) (statu
       → IfSome known (λ input. (h : Heading) (budget : ℕ) (cs : List (ℕ × Command)) → IsPlayOf input h budget cs
       → IsReported report h budget cs Puts)
   reported_known same a =
-      on_known (λ input. (h : Heading) (budget : ℕ) (cs : List (ℕ × Command)) → IsPlayOf input h budget cs → IsReported report h budget cs Puts) same
+      on_known
+      (λ input. (h : Heading) (budget : ℕ) (cs : List (ℕ × Command)) → IsPlayOf input h budget cs → IsReported report h budget cs Puts) same
       (λ h budget cs t. (answer_of report bytes status Puts h budget cs t a).1)
 
   pub status_known : IsAnswerTo report bytes status Puts → (status ≡ 0) ⊎ (status ≡ 2)

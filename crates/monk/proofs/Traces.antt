@@ -1,5 +1,5 @@
 -- Traces grow by a line for each command
-use Rattle.std.proofs.Common.{◌≡◌, ℕ, suc, ◌+◌, List, [], ◌∷◌, ◌++◌, length, refl, sym, ap, subst, ◌∙◌, append_assoc, arith, codes}
+use Rattle.std.proofs.Common.{◌≡◌, ℕ, suc, ◌+◌, List, [], ◌∷◌, ◌++◌, length, refl, sym, ap, subst, ◌∙◌, append_assoc, arith}
 use Rattle.std.specs.Prelude.{Result, Ok, Err, OnOk, is_ok, if◌then◌else◌}
 use Rattle.std.proofs.lemmas.List.{append-nil}
 use Rattle.monk_kinds.specs.declared.mode.Rules.{Rules}
@@ -52,7 +52,8 @@ traced_more k o before s [] t lines c a u number are step at =
       ),
     )
 traced_more k o before s (d ∷ cs) t lines c a u number are step at =
-    let first = are.1.1.1 in (
+    let first = are.1.1.1 in
+    let line = trace_line number c a u in (
       are.0,
       (
         are.1.0,
@@ -61,7 +62,7 @@ traced_more k o before s (d ∷ cs) t lines c a u number are step at =
           (
             first.0,
             (
-              ap (λ (front : List ℕ). front ++ trace_line number c a u) first.1.0 ∙ append_assoc (trace_line (before + 1) d are.0 are.1.0) are.1.1.0 (trace_line number c a u),
+              ap (λ (front : List ℕ). front ++ line) first.1.0 ∙ append_assoc (trace_line (before + 1) d are.0 are.1.0) are.1.1.0 line,
               traced_more k o (before + 1) are.1.0 cs t are.1.1.0 c a u number first.1.1 step (omega (arith, at)),
             ),
           ),

@@ -5,6 +5,7 @@ ghost use Rattle.std.specs.Io.KnownBytes.{Appends};
 ghost use Rattle.monk_history.specs.Text.{HasText, is_writable, text};
 ghost use Rattle.monk_history.specs.Text.Device.{held, has_failed};
 ghost use Rattle.monk_samples.specs.Samples.{IsInRange};
+ghost use Rattle.monk.specs.Played.{IsFoundLegal};
 ghost use Rattle.monk.specs.Recorded.{IsRecordAnswer};
 
 use crate::answer::put;
@@ -32,6 +33,30 @@ fn put_history<W: Write>(outcome: &Outcome, writer: &mut Device<W>) -> Result<u8
     match write(&outcome.header, &outcome.history, writer) {
         Ok(()) => Ok(0),
         Err(_) => Err(StreamFault::File),
+    }
+}
+
+/// Runs the sample, and writes the text of the history that it left, or why there is none.
+fn recorded<R: Threads + Wait + Sync, W: Write>(
+    rt: &R,
+    alloc: Global,
+    kind: KindName,
+    sample: Sample,
+    seats: u8,
+    rounds: u32,
+    writer: &mut Device<W>,
+) -> Result<u8, StreamFault>
+    requires in_range { IsInRange seats rounds }
+    requires works { has_failed writer.old ≡ false }
+    ensures answer { IfOk result
+        (λ status. IsRecordAnswer kind sample seats rounds status
+        (Appends (W.contents (held writer.old)) (W.contents (held writer.new)))) }
+    ensures file { IsErrOf result StreamFault.File → (has_failed writer.new ≡ true) ⊎ (writer.new ≡ writer.old) }
+    ensures memory { IsErrOf result StreamFault.Memory → writer.new ≡ writer.old }
+{
+    match run_named(rt, alloc, kind, sample, seats, rounds) {
+        Ok(outcome) => put_history(&outcome, writer),
+        Err(fault) => put(&ended(alloc, fault)?, writer),
     }
 }
 
@@ -65,11 +90,11 @@ pub fn record_stream<R: Threads + Wait + Sync, W: Write>(
     ensures answer { IfOk result
         (λ status. IsRecordAnswer kind sample seats rounds status
         (Appends (W.contents (held writer.old)) (W.contents (held writer.new)))) }
+    // What is written with status 0, an audit finds legal.
+    ensures found_legal { IfOk result
+        (λ status. status ≡ 0 → IsFoundLegal (Appends (W.contents (held writer.old)) (W.contents (held writer.new)))) }
     ensures file { IsErrOf result StreamFault.File → (has_failed writer.new ≡ true) ⊎ (writer.new ≡ writer.old) }
     ensures memory { IsErrOf result StreamFault.Memory → writer.new ≡ writer.old }
 {
-    match run_named(rt, alloc, kind, sample, seats, rounds) {
-        Ok(outcome) => put_history(&outcome, writer),
-        Err(fault) => put(&ended(alloc, fault)?, writer),
-    }
+    recorded(rt, alloc, kind, sample, seats, rounds, writer)
 }
