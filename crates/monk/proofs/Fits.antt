@@ -4,6 +4,8 @@ use Rattle.std.proofs.Common.{Result, Ok, Err, refl, sym, ap, subst, ◌∙◌, 
 use Rattle.std.specs.Prelude.{IfSome, ◌↔◌}
 use Rattle.std.specs.List.{list_any}
 use Rattle.std.proofs.lemmas.Bool.{false≢true, ltb-false, le-ltb}
+use Rattle.std.proofs.lemmas.Grind.{flat_map-append}
+use Rattle.std.proofs.lemmas.List.{append-nil}
 use Rattle.monk_kinds.specs.Names.{kinds}
 use Rattle.monk_kinds.specs.declared.name.KindName.{KindName}
 use Rattle.monk_kinds.specs.declared.name.KindName.TheVariants.{Pb, Npb, Pnb, Npnb, Pqb, Npqb, Pir, Npir, Pis, Npis}
@@ -21,7 +23,7 @@ use Rattle.monk_audit.specs.Verdict.{IsVerdict, verdict_of}
 use Rattle.monk_audit.specs.declared.verdict.Verdict.{Verdict}
 use Rattle.monk_audit.specs.declared.verdict.Verdict.TheVariants.{Legal, Forbidden}
 use Rattle.monk.specs.Answer.{too_big}
-use Rattle.monk.specs.Fitted.{IsFitText, fit_lines, fit_of, fit_reading, fits_some, is_fit, under, verdict_under}
+use Rattle.monk.specs.Fitted.{IsFitText, fit_line, fit_lines, fit_of, fit_reading, fits_some, is_fit, under, verdict_under}
 use Rattle.monk.specs.Legal.{IsTextOf}
 
 -- one of a list that passes the test
@@ -41,6 +43,31 @@ one_of p (j ∷ front) k back is = go (p j) (one_of p front k back is)
     go : (b : Bool) → list_any p (front ++ k ∷ back) ≡ true → (b || list_any p (front ++ k ∷ back)) ≡ true
     go true rest = refl
     go false rest = rest
+
+-- one more at the end
+any_more : (p : KindName → Bool) (ks : List KindName) (k : KindName) → list_any p (ks ++ k ∷ []) ≡ (list_any p ks || p k)
+any_more p [] k = go (p k)
+  where
+    go : (b : Bool) → (b || false) ≡ b
+    go true = refl
+    go false = refl
+any_more p (j ∷ ks) k = go (p j) (any_more p ks k)
+  where
+    go : (b : Bool) → list_any p (ks ++ k ∷ []) ≡ (list_any p ks || p k)
+        → (b || list_any p (ks ++ k ∷ [])) ≡ ((b || list_any p ks) || p k)
+    go true rest = refl
+    go false rest = rest
+
+pub fits_more : (h : Heading) (es : List Event) (ks : List KindName) (k : KindName) (before fits now : Bool)
+    → before ≡ fits_some h es ks → fits ≡ is_fit (verdict_under h es k) → now ≡ (before || fits)
+    → now ≡ fits_some h es (ks ++ k ∷ [])
+fits_more h es ks k before fits now so_far here is =
+    is ∙ (ap (λ (b : Bool). b || fits) so_far ∙ (ap (λ (b : Bool). fits_some h es ks || b) here
+    ∙ sym (any_more (λ j. is_fit (verdict_under h es j)) ks k)))
+
+pub lines_more : (h : Heading) (es : List Event) (ks : List KindName) (k : KindName)
+    → fit_lines h es (ks ++ k ∷ []) ≡ fit_lines h es ks ++ fit_line h es k
+lines_more h es ks k = flat_map-append (fit_line h es) ks (k ∷ []) ∙ ap (λ (l : List ℕ). fit_lines h es ks ++ l) (append-nil (fit_line h es k))
 
 -- each kind is one of the ten
 one_of_ten : (p : KindName → Bool) (k : KindName) → p k ≡ true → list_any p kinds ≡ true
@@ -62,7 +89,7 @@ fit_is m h (Forbidden s r) w e = absurd (false≢true e)
 legal_is : (m : Monitor) (h : List Event) → IsLegal m h → is_fit (verdict_of m h) ≡ true
 legal_is m h legal = ap is_fit (is_legal m h (verdict_of m h) (is_verdict m h) legal)
 
-status_by : Bool → ℕ
+abbrev status_by : Bool → ℕ
 status_by b = cond b 0 1
 
 -- what an answer with status 0 says of the size and the kinds
