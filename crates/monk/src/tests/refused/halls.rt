@@ -8,8 +8,12 @@ fn outcome(rt: &HostRuntime) -> u8 {
         return 255;
     };
     match Hall::<Pb, Book>::make(rt.alloc(), book, 2, 3, 8) {
-        Ok((_, passes)) if passes.len() == 2 => 0,
-        Ok(_) => 255,
+        Ok((hall, passes)) => {
+            let count = passes.len();
+            drop(passes);
+            drop(hall);
+            if count == 2 { 0 } else { 255 }
+        }
         Err(fault) => fault.number(),
     }
 }
