@@ -67,7 +67,8 @@ fits_more h es ks k before fits now so_far here is =
 
 pub lines_more : (h : Heading) (es : List Event) (ks : List KindName) (k : KindName)
     → fit_lines h es (ks ++ k ∷ []) ≡ fit_lines h es ks ++ fit_line h es k
-lines_more h es ks k = flat_map-append (fit_line h es) ks (k ∷ []) ∙ ap (λ (l : List ℕ). fit_lines h es ks ++ l) (append-nil (fit_line h es k))
+lines_more h es ks k =
+    flat_map-append (fit_line h es) ks (k ∷ []) ∙ ap (λ (l : List ℕ). fit_lines h es ks ++ l) (append-nil (fit_line h es k))
 
 -- each kind is one of the ten
 one_of_ten : (p : KindName → Bool) (k : KindName) → p k ≡ true → list_any p kinds ≡ true

@@ -11,7 +11,7 @@ returns c =
     let is : app_of r ≡ classify_app = h.shape (search rules)
     ∙ ap₂ with_rule (c.in_ok-arg-2.ensures.shape (search rules)
     ∙ ap₂ with_rule (c.in_ok-arg.ensures.shape (search rules)
-    ∙ ap₂ with_rule (ap app_of_fields c.about.ensures ∙ c.new.ensures.app)
+    ∙ ap₂ with_rule (ap app_of_fields c.after_help.ensures ∙ (ap app_of_fields c.about.ensures ∙ c.new.ensures.app))
     (c.required-entry.ensures.rule ∙ ap (required_rule (codes "ENTRY")) c.value_parser.ensures))
     (c.required-waiter.ensures.rule ∙ ap (required_rule (codes "WAITER")) c.value_parser-2.ensures))
     (c.required-signaller.ensures.rule ∙ ap (required_rule (codes "SIGNALLER")) c.value_parser-3.ensures) in

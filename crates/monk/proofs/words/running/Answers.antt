@@ -26,7 +26,8 @@ returns c =
           ∙ ap₂ with_rule (c.in_ok-arg-3.ensures.shape (search rules)
           ∙ ap₂ with_rule (c.in_ok-arg-2.ensures.shape (search rules)
           ∙ ap₂ with_rule (c.in_ok-arg.ensures.shape (search rules)
-          ∙ ap₂ with_rule (ap app_of_fields c.about.ensures ∙ c.new-3.ensures.app) c.required.ensures.rule)
+          ∙ ap₂ with_rule (ap app_of_fields c.after_help.ensures
+          ∙ (ap app_of_fields c.about.ensures ∙ c.new-3.ensures.app)) c.required.ensures.rule)
           c.required-2.ensures.rule)
           (c.required-3.ensures.rule ∙ ap (required_rule (codes "SEATS")) seats))
           (c.required-4.ensures.rule ∙ ap (required_rule (codes "ROUNDS")) rounds) in

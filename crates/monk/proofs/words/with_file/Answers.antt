@@ -10,6 +10,6 @@ pub returns : goal.returns
 returns c =
     IfOk-weaker c.arg.result _ _ (λ r h old new adds.
     let is : app_of r ≡ file_app c.args.name.now = h.shape (search rules)
-    ∙ ap₂ with_rule (ap app_of_fields c.about.ensures ∙ c.new.ensures.app)
+    ∙ ap₂ with_rule (ap app_of_fields c.after_help.ensures ∙ (ap app_of_fields c.about.ensures ∙ c.new.ensures.app))
     (ap (λ (a : Arg). rule_of a) c.help.ensures ∙ c.new-2.ensures.rule) in
     adds.shape (search rules) ∙ ap (λ (a : App). with_subcommand (app_of old) a.top) is) c.arg.ensures
