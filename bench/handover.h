@@ -35,18 +35,16 @@ static void record(enum verb verb, int seat, int cond, int next, unsigned arg, u
     history[length++] = (struct event){verb, seat, cond, next, arg, reply};
 }
 
-static void grant(int seat) {
-    granted[seat] = 1;
-    pthread_cond_signal(&wake[seat]);
-}
-
 static void await_grant(int seat) {
     while (!granted[seat])
         pthread_cond_wait(&wake[seat], &lock);
     granted[seat] = 0;
 }
 
-/* Who is next when the active thread gives the monitor up. */
+/* Hands the monitor to a thread, which has to be woken then. */
+static void grant(int seat) { granted[seat] = 1; }
+
+/* Hands the monitor to who is next when the active thread gives it up, if there is one. */
 static int hand_over(void) {
     int next = urgent.count ? leave_queue(&urgent) : entry.count ? leave_queue(&entry) : -1;
     if (next < 0)
@@ -54,6 +52,11 @@ static int hand_over(void) {
     else
         grant(next);
     return next;
+}
+
+static void wake_up(int seat) {
+    if (seat >= 0)
+        pthread_cond_signal(&wake[seat]);
 }
 
 static void enter(int seat) {
@@ -69,18 +72,18 @@ static void enter(int seat) {
 
 static void leave(int seat) {
     pthread_mutex_lock(&lock);
-    unsigned long at = length;
-    record(LEAVE, seat, 0, 0, 0, 0);
-    history[at].next = hand_over() + 1;
+    int next = hand_over();
+    record(LEAVE, seat, 0, next + 1, 0, 0);
     pthread_mutex_unlock(&lock);
+    wake_up(next);
 }
 
 static void wait_on(int seat, int cond) {
     pthread_mutex_lock(&lock);
-    unsigned long at = length;
-    record(WAIT, seat, cond, 0, 0, 0);
     join_queue(&condition[cond], seat);
-    history[at].next = hand_over() + 1;
+    int next = hand_over();
+    record(WAIT, seat, cond, next + 1, 0, 0);
+    wake_up(next);
     await_grant(seat);
     record(RESUME, seat, 0, 0, 0, 0);
     pthread_mutex_unlock(&lock);
@@ -88,12 +91,12 @@ static void wait_on(int seat, int cond) {
 
 static void signal_on(int seat, int cond) {
     pthread_mutex_lock(&lock);
-    record(SIGNAL, seat, cond, 0, 0, 0);
-    if (condition[cond].count) {
-        int next = leave_queue(&condition[cond]);
-        history[length - 1].next = next + 1;
+    int next = condition[cond].count ? leave_queue(&condition[cond]) : -1;
+    record(SIGNAL, seat, cond, next + 1, 0, 0);
+    if (next >= 0) {
         join_queue(&urgent, seat);
         grant(next);
+        wake_up(next);
         await_grant(seat);
         record(RESUME, seat, 1, 0, 0, 0);
     }
