@@ -11,21 +11,15 @@ use monk_object::Guarded;
 use monk_world::Place;
 use std::hint::spin_loop;
 use std::sync::Wait;
-use std::thread::yield_now;
 
-/// Over the square of the number of seats, how often a seat looks before it lets other threads run: its turn comes after
-/// those of the others, and threads that spin keep others from their processor.
-const LOOKS: u32 = 1024;
-
-/// Over the fourth power of the number of seats, how often it lets other threads run before its own sleeps; of 8 seats or
-/// more, never. Where other programs want the processors too, a thread that lets them run goes on later than one that
-/// sleeps and is woken.
-const YIELDS: u32 = 4095;
+/// How often each of two seats looks before its thread sleeps; of more seats each looks less often by the square of their
+/// number, since its turn comes after those of the others, and threads that spin keep others from their processor.
+const SPINS: u32 = 1024;
 
 impl<K: Kind, T: Guarded> Parked<K, T> {
-    /// Becomes active, and waits as long as that takes: the only call that waits. It polls, and then spins briefly,
-    /// lets other threads run, and sleeps on the word where its grant will come. What it found there before the poll is
-    /// what it sleeps on, so a grant that came after the poll keeps it awake.
+    /// Becomes active, and waits as long as that takes: the only call that waits. It polls, and then spins briefly and
+    /// sleeps on the word where its grant will come. What it found there before the poll is what it sleeps on, so a
+    /// grant that came after the poll keeps it awake.
     ///
     /// Nothing says that a grant ever comes.
     pub fn resume<R: Wait>(self, rt: &R, hall: &Hall<K, T>) -> Active<K, T>
@@ -59,25 +53,17 @@ impl<K: Kind, T: Guarded> Parked<K, T> {
 }
 
 impl<K: Kind, T: Guarded> Hall<K, T> {
-    /// Returns when the word is no longer what was seen there, or earlier: it spins, then lets other threads run between
-    /// looks, and then sleeps.
+    /// Returns when the word is no longer what was seen there, or earlier: it spins, and then sleeps.
     fn await_change<R: Wait>(&self, rt: &R, word: usize, seen: u64)
         requires { word < self.now.id.words }
     {
         let words = &self.table.shared;
         let seats = u32::from(self.seats);
-        let square = (seats * seats).max(1);
-        for _ in 0..LOOKS / square {
+        for _ in 0..SPINS / (seats * seats).max(1) {
             if words.peek(word) != seen {
                 return;
             }
             spin_loop();
-        }
-        for _ in 0..YIELDS / square / square {
-            if words.peek(word) != seen {
-                return;
-            }
-            yield_now();
         }
         words.park(rt, word, (seen % (1 << 32)) as u32);
     }
