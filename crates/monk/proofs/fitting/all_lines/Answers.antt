@@ -18,7 +18,7 @@ loop-kind-preserved c =
     let fits = c.in_ok-fits.fits in
     let taken : take (at + 1) kinds ≡ ks ++ k ∷ [] = take_more kinds at Pb c.loop-kind-test.true in
     let now : c.if-is_fit.is_fit ≡ (c.loop-kind.is_fit || fits) = elim c.if-is_fit.branch [
-      | then-is_fit w ↦ w.is_fit-is ∙ sym (ap (λ (b : Bool). b || fits) w.if-is_fit.true)
+      | then-is_fit w ↦ w.is_fit-is ∙ (w.if-is_fit.true ∙ sym (ap (λ (b : Bool). b || fits) w.if-is_fit.true))
       | else-is_fit w ↦ w.is_fit-is ∙ sym (ap (λ (b : Bool). b || fits) w.if-is_fit.false)
     ] in (
       c.in_ok-fits.ensures.line
