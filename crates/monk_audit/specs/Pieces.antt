@@ -96,6 +96,12 @@ abbrev pub IsCourseStep : Option Verdict → List ℕ → List ℕ → (List ℕ
 IsCourseStep None bytes rest old new found = IsCarried old bytes new rest × (is_unended rest ≡ true)
 IsCourseStep (Some v) bytes rest old new found = IsCarried old bytes (found v) rest
 
+-- the same, where what was forbidden leads to another stage
+abbrev pub IsJudgedStep : Option Stage → List ℕ → List ℕ → (List ℕ → Result TextVerdict ReadFault)
+    → (List ℕ → Result TextVerdict ReadFault) → Type 0
+IsJudgedStep None bytes rest old new = IsCarried old bytes new rest × (is_unended rest ≡ true)
+IsJudgedStep (Some stage) bytes rest old new = IsCarried old bytes (owed stage) rest × IsSound stage × (stages_left stage ≡ 0)
+
 -- the stage that follows, if one does; else no further line ends in what is left
 abbrev pub IsStageStep : Option Stage → List ℕ → List ℕ → Stage → Stage → Type 0
 IsStageStep None bytes rest old new = IsCarried (owed old) bytes (owed new) rest × (is_unended rest ≡ true) × IsSound new

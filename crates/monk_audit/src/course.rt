@@ -1,18 +1,25 @@
 //! Events that are judged when their lines are read, each after those before it.
 
 ghost use Rattle.std.specs.Prelude.{◌≡◌, ◌≢◌, ◌≤◌, ◌^◌, ◌++◌, List, ℕ, Err, true, IfOk, IfErr, OnOk};
+ghost use Rattle.monk_kinds.specs.Names.{rules_named};
+ghost use Rattle.monk_object.specs.Object.{Object};
+ghost use Rattle.monk_history.specs.Meaning.Monitor.{monitor};
+ghost use Rattle.monk_history.specs.Meaning.Step.{opening_situation};
 ghost use Rattle.monk_history.specs.Text.Faults.{memory};
 ghost use Rattle.monk_history.specs.Text.Lines.{is_unended};
 ghost use Rattle.monk_audit.specs.Pieces.{events_from, found_from, verdict_from_here};
 ghost use Rattle.monk_audit.specs.Pieces.{IsCarried, IsCourseStep, IsFaulty, IsSoundCourse};
 ghost use Rattle.monk_audit.specs.Reading.{read_through};
+ghost use Rattle.monk_audit.specs.Replay.{replay_situation};
 
+use crate::kinds::rules_by_name;
 use crate::replay::{ALLOWED, Replay};
 use crate::verdict::Verdict;
 use monk_history::lines::PieceLines;
 use monk_history::{Event, Header, MOST_EVENTS, ReadFault};
 use monk_kinds::Rules;
 use monk_object::Guarded;
+use std::alloc::{AllocError, Global};
 
 /// How a history stands of which the lines so far were read and found legal, beside the object.
 #[derive(Drop)]
@@ -21,6 +28,28 @@ pub(crate) struct Course {
     pub rules: Rules,
     pub replay: Replay,
     pub count: u32,
+}
+
+impl Course {
+    /// That of no events, behind the header.
+    pub fn new(alloc: Global, header: Header) -> Result<Course, AllocError>
+        ensures header { IfOk result (λ c. c.header ≡ header) }
+        ensures rules { IfOk result (λ c. c.rules ≡ rules_named header.kind) }
+        ensures count { IfOk result (λ c. c.count ≡ 0) }
+        ensures opening { IfOk result
+            (λ c. (o : Object) (state : List ℕ)
+            → replay_situation c.replay state ≡ opening_situation
+            (monitor (rules_named header.kind) header.seats header.conds o state)) }
+        ensures sound { IfOk result (λ c. (predicates : ℕ) → IsSoundCourse predicates c) }
+    {
+        let replay = Replay::new(alloc, header.seats(), header.conds())?;
+        Ok(Course {
+            header,
+            rules: rules_by_name(header.kind()),
+            replay,
+            count: 0,
+        })
+    }
 }
 
 /// Judges the events whose lines end in the bytes, up to the first that is not allowed. Gives the verdict on that one, and
