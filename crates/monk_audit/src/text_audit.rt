@@ -2,8 +2,8 @@
 
 ghost use Rattle.std.specs.Prelude.{◌≡◌, List, ℕ, [], OnOk};
 ghost use Rattle.monk_history.specs.Text.Lines.{Gives};
-ghost use Rattle.monk_audit.specs.Audits.{owes};
-ghost use Rattle.monk_audit.specs.Pieces.{IsCarried, IsSound};
+ghost use Rattle.monk_audit.specs.Audits.{owes, IsGoingOn};
+ghost use Rattle.monk_audit.specs.Pieces.{IsCarried};
 ghost use Rattle.monk_audit.specs.Reading.{same, text_verdict};
 
 use crate::stage::Stage;
@@ -21,13 +21,13 @@ pub struct TextAudit {
     stage: Stage,
     held: Vec<u8>,
     fault: Option<ReadFault>,
-    ghost sound: { IsSound stage },
 }
 
 impl TextAudit {
     /// The audit of a text of which nothing has come. It takes no memory.
     pub fn new(alloc: Global) -> TextAudit
-        ensures { (text : List ℕ) → owes result text ≡ text_verdict text }
+        ensures owes { (text : List ℕ) → owes result text ≡ text_verdict text }
+        ensures goes_on { IsGoingOn result }
     {
         TextAudit {
             stage: Stage::Opening,
@@ -36,7 +36,7 @@ impl TextAudit {
         }
     }
 
-    /// Takes the next piece of the text, and judges the lines that end in it. After an error nothing is said of the audit.
+    /// Takes the next piece of the text, and judges the lines that end in it. After an error the audit can't go on.
     ///
     /// # Errors
     ///
@@ -47,7 +47,9 @@ impl TextAudit {
     /// Time by the length of the piece and of a line that ends in it; memory for the piece and the line that has not ended,
     /// for the queues and for the object.
     pub fn push(&mut self, alloc: Global, piece: &[u8]) -> Result<(), AllocError>
-        ensures { OnOk result (IsCarried (owes self.old) piece.now (owes self.new) []) }
+        requires { IsGoingOn self.old }
+        ensures carried { OnOk result (IsCarried (owes self.old) piece.now (owes self.new) []) }
+        ensures goes_on { OnOk result (IsGoingOn self.new) }
     {
         if self.fault.is_some() {
             return Ok(());
@@ -83,6 +85,7 @@ impl TextAudit {
     ///
     /// The text's first fault, or the memory fault where a growth was refused.
     pub fn end(self, alloc: Global) -> Result<TextVerdict, ReadFault>
+        requires { IsGoingOn self }
         ensures { Gives same result (owes self []) }
     {
         match self.fault {
