@@ -1,14 +1,14 @@
 -- What is owed to a text that comes in pieces, stage by stage.
-use Rattle.std.proofs.Common.{◌≡◌, ◌≢◌, ◌+◌, ◌-◌, ◌^◌, ◌<◌, ◌≤◌, ◌==◌, ℕ, Bool, cond, List, [], ◌∷◌, ◌++◌, length, Option, Some, None, Result, Ok, Err}
+use Rattle.std.proofs.Common.{◌≡◌, ◌≢◌, ◌+◌, ◌-◌, ◌^◌, ◌<◌, ◌≤◌, ◌==◌, ℕ, cond, List, [], ◌∷◌, ◌++◌, length, Option, Some, None, Result, Ok, Err}
 use Rattle.std.proofs.Common.{refl, sym, ap, subst, ◌∙◌, arith, true, false}
 use Rattle.std.proofs.lemmas.Bool.{eqb-false, eqb-true, le-ltb, lt-ltb, ne_eqb}
 use Rattle.std.proofs.lemmas.List.{append-nil}
 use Rattle.std.specs.Option.{option_map}
 use mathlib.Core.Logic.{inl, inr}
-use Rattle.std.specs.Prelude.{◌⊎◌, IfErr, IfOk, IfSome}
+use Rattle.std.specs.Prelude.{◌⊎◌, IfOk, IfSome}
 use Rattle.monk_history.specs.Text.{Heading}
 use Rattle.monk_history.specs.Text.Words.{◌>>=◌}
-use Rattle.monk_history.specs.Text.Lines.{Gives, LinesLeft, items_at, is_unended, lines_of, opened_at}
+use Rattle.monk_history.specs.Text.Lines.{Gives, LinesLeft, is_unended, lines_of, opened_at}
 use Rattle.monk_history.specs.Text.Pieces.{IsHeadOf, IsNextOfPiece, PieceLeft, items_with, piece_left}
 use Rattle.monk_history.specs.Text.Reading.{event_under, header_at}
 use Rattle.monk_history.specs.declared.event.Event.{Event}

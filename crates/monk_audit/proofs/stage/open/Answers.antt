@@ -1,4 +1,4 @@
-use Rattle.std.proofs.Common.{◌≡◌, Result, Ok, Err, subst}
+use Rattle.std.proofs.Common.{Result, Ok, subst}
 use Rattle.std.proofs.lemmas.Result.{err_from_is_err_and}
 use Rattle.monk_object.specs.Names.{most}
 use Rattle.monk_history.specs.Text.{Heading}

@@ -1,4 +1,4 @@
-use Rattle.std.proofs.Common.{refl, sym}
+use Rattle.std.proofs.Common.{refl}
 use Rattle.std.proofs.lemmas.Result.{err_from_is_err_and}
 use Rattle.monk_object.specs.Buffer.{buffer_meaning}
 use Rattle.monk_object.specs.Book.{book_meaning}
