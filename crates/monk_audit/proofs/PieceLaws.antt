@@ -1,5 +1,6 @@
 -- What is owed to a text that comes in pieces, stage by stage.
-use Rattle.std.proofs.Common.{◌≡◌, ◌≢◌, ◌+◌, ◌-◌, ◌^◌, ◌<◌, ◌≤◌, ◌==◌, ℕ, cond, List, [], ◌∷◌, ◌++◌, length, Option, Some, None, Result, Ok, Err}
+use Rattle.std.proofs.Common.{◌≡◌, ◌≢◌, ◌+◌, ◌-◌, ◌^◌, ◌<◌, ◌≤◌, ◌==◌, ℕ, cond, List, [], ◌∷◌, ◌++◌, length}
+use Rattle.std.proofs.Common.{Option, Some, None, Result, Ok, Err}
 use Rattle.std.proofs.Common.{refl, sym, ap, subst, ◌∙◌, arith, true, false}
 use Rattle.std.proofs.lemmas.Bool.{eqb-false, eqb-true, le-ltb, lt-ltb, ne_eqb}
 use Rattle.std.proofs.lemmas.List.{append-nil}
@@ -20,7 +21,8 @@ use Rattle.monk_history.specs.Meaning.Named.{named_monitor}
 use Rattle.monk_history.specs.Text.Faults.{end_fault, header_fault, memory}
 use Rattle.monk_history.proofs.PublicLaws.Texts.{head_missing, head_opens, head_refused, items_end, items_unfinished}
 use Rattle.monk_history.specs.Meaning.Reasons.{reason_in}
-use Rattle.monk_audit.specs.Reading.{read_through, verdict_at, verdict_of_reading, verdict_read, lines_verdict, text_verdict, MakesNoObject, same}
+use Rattle.monk_audit.specs.Reading.{read_through, verdict_at, verdict_of_reading, verdict_read, lines_verdict}
+use Rattle.monk_audit.specs.Reading.{text_verdict, MakesNoObject, same}
 use Rattle.monk_kinds.specs.declared.mode.Rules.{Rules}
 use Rattle.monk_kinds.specs.Names.{rules_named}
 use Rattle.monk_object.specs.Object.{Object}
@@ -31,7 +33,8 @@ use Rattle.monk_object.specs.Names.{meaning_named, most, opening_named}
 use Rattle.monk_object.specs.declared.name.ObjectName.{ObjectName}
 use Rattle.monk_audit.specs.Replay.{replay_situation}
 use Rattle.monk_audit.specs.Pieces.{events_from, found_from, judged_from_here, monitor_of, owed, verdict_from_here}
-use Rattle.monk_audit.specs.Pieces.{stages_left, AsksForNone, IsCarried, IsCourseStep, IsFaulty, IsJudgedStep, IsSound, IsSoundCourse, IsStageStep}
+use Rattle.monk_audit.specs.Pieces.{stages_left, AsksForNone, IsCarried, IsCourseStep, IsFaulty, IsJudgedStep}
+use Rattle.monk_audit.specs.Pieces.{IsSound, IsSoundCourse, IsStageStep}
 use Rattle.monk_audit.specs.declared.course.Course.{Course}
 use Rattle.monk_audit.specs.declared.stage.Stage.{Stage}
 use Rattle.monk_audit.specs.declared.stage.Stage.TheVariants as stage
@@ -40,7 +43,8 @@ use Rattle.monk_audit.specs.declared.text_verdict.TextVerdict.TheVariants.{Judge
 use Rattle.monk_audit.specs.declared.verdict.Verdict.{Verdict}
 use Rattle.monk_audit.specs.declared.verdict.Verdict.TheVariants.{Forbidden, Legal}
 use Rattle.monk_audit.proofs.AuditLaws.{reason_opening}
-use Rattle.monk_audit.proofs.ReadingLaws.{forbidden_then, judged_end, judged_fault, judged_is, not_opened_text, opened_text}
+use Rattle.monk_audit.proofs.ReadingLaws.{forbidden_then, judged_end, judged_fault, judged_is, not_opened_text}
+use Rattle.monk_audit.proofs.ReadingLaws.{opened_text}
 
 -- the lines of a piece behind so many events are those that the piece is opened with
 pub piece_begins : (h : Heading) (count : ℕ) (p : PieceLeft) (bytes : List ℕ) → p ≡ piece_left bytes (count + 2) (2 ^ 25 - count)

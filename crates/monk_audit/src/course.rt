@@ -1,6 +1,6 @@
 //! Events that are judged when their lines are read, each after those before it.
 
-ghost use Rattle.std.specs.Prelude.{◌≡◌, ◌≢◌, ◌≤◌, ◌^◌, ◌++◌, List, ℕ, Err, true, IfOk, IfErr, OnOk};
+ghost use Rattle.std.specs.Prelude.{◌≡◌, ◌≢◌, ◌≤◌, ◌^◌, List, ℕ, Err, true, IfOk, IfErr, OnOk};
 ghost use Rattle.monk_kinds.specs.Names.{rules_named};
 ghost use Rattle.monk_object.specs.Object.{Object};
 ghost use Rattle.monk_history.specs.Meaning.Monitor.{monitor};

@@ -32,8 +32,7 @@ returns-in_err-stage-clause-fault c =
 
 pub returns-clause-step : goal.returns-clause-step
 returns-clause-step c =
-    let is = head_is (goal.at.returns-clause-step c).In_ok-header in
-    (
+    let is = head_is (goal.at.returns-clause-step c).In_ok-header in (
       opened_from c.args.bytes.now c.in-Some.rest.now c.in_ok-header.field-0 c.in_ok-stage.stage is
           c.in_ok-stage.ensures.verdict,
       c.in_ok-stage.ensures.sound,
