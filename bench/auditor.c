@@ -31,7 +31,7 @@ struct event { int verb, seat, cond, wait_cond, handed, queue, next, chosen; uin
 
 /* Takes the word where it is the next one, with the space behind it or the line's end before it. */
 INLINE int takes(struct text *t, const char *word, size_t length) {
-    if ((size_t)(t->end - t->at) <= length || memcmp(t->at, word, length) || (t->at[length] != ' ' && t->at[length] != '\n')) return 0;
+    if ((size_t)(t->end - t->at) <= length || *t->at != (unsigned char)*word || memcmp(t->at, word, length) || (t->at[length] != ' ' && t->at[length] != '\n')) return 0;
     t->at += length;
     return 1;
 }
@@ -56,8 +56,8 @@ INLINE uint64_t number(struct text *t, uint64_t most) {
     uint64_t value = 0;
     while (t->at < t->end && (unsigned)(*t->at - '0') < 10) {
         unsigned digit = *t->at++ - '0';
-        if (value > (most - digit) / 10 || (digit > most)) return fails(t, NUMBER);
-        value = value * 10 + digit;
+        if (__builtin_mul_overflow(value, 10, &value) || __builtin_add_overflow(value, digit, &value)) return fails(t, NUMBER);
+        if (value > most) return fails(t, NUMBER);
     }
     if (t->at == first || (*first == '0' && t->at - first > 1) || t->at == t->end || (*t->at != ' ' && *t->at != '\n')) return fails(t, NUMBER);
     return value;
