@@ -22,57 +22,59 @@ enum turn { OPEN, OWNED, DUE };
 
 /* ---- the text */
 
-static const unsigned char *at, *end;
-static int flaw;
+/* What is left of the text, and the first flaw of its line. The readers are inlined, so that it stays in registers. */
+struct text { const unsigned char *at, *end; int flaw; };
+
+#define INLINE static inline __attribute__((always_inline))
 
 struct event { int verb, seat, cond, wait_cond, handed, queue, next, chosen; uint64_t code, arg, reply; };
 
 /* Takes the word where it is the next one, with the space behind it or the line's end before it. */
-static int takes(const char *word, size_t length) {
-    if ((size_t)(end - at) <= length || memcmp(at, word, length) || (at[length] != ' ' && at[length] != '\n')) return 0;
-    at += length;
+INLINE int takes(struct text *t, const char *word, size_t length) {
+    if ((size_t)(t->end - t->at) <= length || *t->at != (unsigned char)*word || memcmp(t->at, word, length) || (t->at[length] != ' ' && t->at[length] != '\n')) return 0;
+    t->at += length;
     return 1;
 }
 
-#define TAKES(word) takes(word, sizeof word - 1)
+#define TAKES(word) takes(t, word, sizeof word - 1)
 
 /* Steps over the space before the next word of the line. */
-static int has_word(void) {
-    if (at < end && *at == ' ') { at++; return 1; }
-    if (!flaw) flaw = WORD;
+INLINE int has_word(struct text *t) {
+    if (t->at < t->end && *t->at == ' ') { t->at++; return 1; }
+    if (!t->flaw) t->flaw = WORD;
     return 0;
 }
 
-static int fails(int number) {
-    if (!flaw) flaw = number;
+INLINE int fails(struct text *t, int number) {
+    if (!t->flaw) t->flaw = number;
     return 0;
 }
 
-static uint64_t number(uint64_t most) {
-    if (!has_word()) return 0;
-    const unsigned char *first = at;
+INLINE uint64_t number(struct text *t, uint64_t most) {
+    if (!has_word(t)) return 0;
+    const unsigned char *first = t->at;
     uint64_t value = 0;
-    while (at < end && *at - '0' < 10u) {
-        unsigned digit = *at++ - '0';
-        if (value > (most - digit) / 10 || (digit > most)) return fails(NUMBER);
-        value = value * 10 + digit;
+    while (t->at < t->end && (unsigned)(*t->at - '0') < 10) {
+        unsigned digit = *t->at++ - '0';
+        if (__builtin_mul_overflow(value, 10, &value) || __builtin_add_overflow(value, digit, &value)) return fails(t, NUMBER);
+        if (value > most) return fails(t, NUMBER);
     }
-    if (at == first || (*first == '0' && at - first > 1) || at == end || (*at != ' ' && *at != '\n')) return fails(NUMBER);
+    if (t->at == first || (*first == '0' && t->at - first > 1) || t->at == t->end || (*t->at != ' ' && *t->at != '\n')) return fails(t, NUMBER);
     return value;
 }
 
-static void read_next(struct event *e) {
-    if (!has_word()) return;
+INLINE void read_next(struct text *t, struct event *e) {
+    if (!has_word(t)) return;
     if (TAKES("stay")) { e->next = STAY; return; }
     if (TAKES("entry")) { e->next = ENTRY; return; }
     if (TAKES("waiter")) e->next = WAITER;
     else if (TAKES("signaller")) e->next = SIGNALLER;
     else if (TAKES("until")) e->next = READY;
-    else { fails(WORD); return; }
-    e->chosen = number(255);
+    else { fails(t, WORD); return; }
+    e->chosen = number(t, 255);
 }
 
-static int read_verb(int version) {
+INLINE int read_verb(struct text *t, int version) {
     if (TAKES("act")) return ACT;
     if (TAKES("enter")) return ENTER;
     if (TAKES("leave")) return LEAVE;
@@ -83,49 +85,49 @@ static int read_verb(int version) {
     if (TAKES("signal-leave")) return SIGNAL_LEAVE;
     if (version >= 2 && TAKES("signal-all")) return SIGNAL_ALL;
     if (version >= 2 && TAKES("signal-wait")) return SIGNAL_WAIT;
-    return fails(WORD);
+    return fails(t, WORD);
 }
 
 /* The event of the line that begins here. A flaw of the line is left in `flaw`; the text may also end before the line does. */
-static void read_event(struct event *e, int version) {
-    flaw = 0;
+INLINE void read_event(struct text *t, struct event *e, int version) {
+    t->flaw = 0;
     e->next = STAY;
-    e->verb = read_verb(version);
-    if (flaw) return;
-    e->seat = number(255);
-    if (flaw) return;
+    e->verb = read_verb(t, version);
+    if (t->flaw) return;
+    e->seat = number(t, 255);
+    if (t->flaw) return;
     switch (e->verb) {
     case ENTER:
-        if (!has_word()) return;
+        if (!has_word(t)) return;
         if (TAKES("free")) e->handed = 0;
         else if (TAKES("handed")) e->handed = 1;
-        else fails(WORD);
+        else fails(t, WORD);
         break;
     case ACT:
-        e->code = number(255);
-        if (!flaw) e->arg = number(UINT32_MAX);
-        if (!flaw) e->reply = number(UINT64_MAX);
+        e->code = number(t, 255);
+        if (!t->flaw) e->arg = number(t, UINT32_MAX);
+        if (!t->flaw) e->reply = number(t, UINT64_MAX);
         break;
     case RESUME:
-        if (!has_word()) return;
+        if (!has_word(t)) return;
         if (TAKES("waiter")) e->queue = WAITER;
         else if (TAKES("signaller")) e->queue = SIGNALLER;
         else if (TAKES("until")) e->queue = READY;
-        else fails(WORD);
+        else fails(t, WORD);
         break;
-    case LEAVE: read_next(e); break;
-    case SIGNAL_ALL: e->cond = number(255); break;
+    case LEAVE: read_next(t, e); break;
+    case SIGNAL_ALL: e->cond = number(t, 255); break;
     case SIGNAL_WAIT:
-        e->cond = number(255);
-        if (!flaw) e->wait_cond = number(255);
-        if (!flaw) read_next(e);
+        e->cond = number(t, 255);
+        if (!t->flaw) e->wait_cond = number(t, 255);
+        if (!t->flaw) read_next(t, e);
         break;
     default:
-        e->cond = number(255);
-        if (!flaw) read_next(e);
+        e->cond = number(t, 255);
+        if (!t->flaw) read_next(t, e);
     }
-    if (!flaw && (at == end || *at != '\n')) fails(WORD);
-    at++;
+    if (!t->flaw && (t->at == t->end || *t->at != '\n')) fails(t, WORD);
+    t->at++;
 }
 
 /* ---- the object that is guarded */
@@ -322,40 +324,40 @@ static const struct { const char *name; int mode, waiter, signaller; } KINDS[] =
 };
 static const char *const OBJECTS[] = {"buffer", "book", "shop"};
 
-static int read_kind(void) {
-    if (!has_word()) return 0;
+static int read_kind(struct text *t) {
+    if (!has_word(t)) return 0;
     for (int i = 0; i < 10; i++) {
-        if (!takes(KINDS[i].name, strlen(KINDS[i].name))) continue;
+        if (!takes(t, KINDS[i].name, strlen(KINDS[i].name))) continue;
         mode = KINDS[i].mode;
         entry_rank = 1;
         waiter_rank = KINDS[i].waiter;
         signaller_rank = KINDS[i].signaller;
         return 1;
     }
-    return fails(WORD);
+    return fails(t, WORD);
 }
 
-static int read_object(void) {
-    if (!has_word()) return 0;
+static int read_object(struct text *t) {
+    if (!has_word(t)) return 0;
     for (int i = 0; i < 3; i++) {
-        if (!takes(OBJECTS[i], strlen(OBJECTS[i]))) continue;
+        if (!takes(t, OBJECTS[i], strlen(OBJECTS[i]))) continue;
         object = i;
         return 1;
     }
-    return fails(WORD);
+    return fails(t, WORD);
 }
 
 /* The version, or 0 where the first line is no header. */
-static int read_header(void) {
-    flaw = 0;
+static int read_header(struct text *t) {
+    t->flaw = 0;
     if (!TAKES("monk")) return 0;
-    int version = number(255);
-    if (version < 1 || version > 2 || !read_kind()) return 0;
-    seats = number(255);
-    conds = number(255);
-    if (!read_object()) return 0;
-    size = number(255);
-    if (flaw || at == end || *at++ != '\n' || seats < 1 || seats > MOST_SEATS || conds > MOST_CONDS || size < 1) return 0;
+    int version = number(t, 255);
+    if (version < 1 || version > 2 || !read_kind(t)) return 0;
+    seats = number(t, 255);
+    conds = number(t, 255);
+    if (!read_object(t)) return 0;
+    size = number(t, 255);
+    if (t->flaw || t->at == t->end || *t->at++ != '\n' || seats < 1 || seats > MOST_SEATS || conds > MOST_CONDS || size < 1) return 0;
     return version;
 }
 
@@ -367,20 +369,20 @@ static int unreadable(unsigned line, int number) {
     return 2;
 }
 
-static int audit(void) {
-    const unsigned char *start = at;
-    if (at == end) return unreadable(1, HEADER);
-    int version = read_header();
+static int audit(const unsigned char *start, const unsigned char *end) {
+    struct text text = {start, end, 0}, *t = &text;
+    if (start == end) return unreadable(1, HEADER);
+    int version = read_header(t);
     if (!version) return unreadable(1, memchr(start, '\n', end - start) ? HEADER : END);
     int is_too_big = size > GREATEST[object], reason = ALLOWED;
     unsigned events = 0, step = 0;
     struct event e = {0};
-    while (at < end) {
-        const unsigned char *line = at;
-        read_event(&e, version);
-        if (flaw || events == MOST_EVENTS) {
+    while (t->at < end) {
+        const unsigned char *line = t->at;
+        read_event(t, &e, version);
+        if (t->flaw || events == MOST_EVENTS) {
             int is_finished = memchr(line, '\n', end - line) != NULL;
-            return unreadable(events + 2, !is_finished ? END : events == MOST_EVENTS ? LONG : flaw);
+            return unreadable(events + 2, !is_finished ? END : events == MOST_EVENTS ? LONG : t->flaw);
         }
         events++;
         if (reason || is_too_big) continue;
@@ -401,6 +403,7 @@ int main(int argc, char **argv) {
     struct stat about;
     if (file < 0 || fstat(file, &about)) return 4;
     size_t length = about.st_size;
+    const unsigned char *at;
     if (is_mapped && length) {
         at = mmap(NULL, length, PROT_READ, MAP_PRIVATE, file, 0);
         if (at == MAP_FAILED) return 4;
@@ -413,6 +416,5 @@ int main(int argc, char **argv) {
         }
         at = text;
     }
-    end = at + length;
-    return audit();
+    return audit(at, at + length);
 }

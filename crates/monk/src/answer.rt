@@ -1,13 +1,15 @@
 //! The line that answers an input, and its status.
 
-ghost use Rattle.std.specs.Prelude.{◌≡◌, ◌≢◌, false, true, IfOk, OnErr, Err, IsErrOf, string_bytes};
+ghost use Rattle.std.specs.Prelude.{◌≡◌, ◌≢◌, ◌≤◌, ℕ, List, false, true, IfOk, OnErr, Err, IsErrOf, string_bytes};
 ghost use Rattle.std.specs.Io.KnownBytes.{Appends};
 ghost use Rattle.monk_history.specs.Text.Device.{held, has_failed};
 ghost use Rattle.monk_history.specs.Text.Faults.{memory};
+ghost use Rattle.monk_history.specs.Text.Lines.{Gives};
+ghost use Rattle.monk_audit.specs.Reading.{same, text_verdict};
 ghost use Rattle.monk.specs.Answer.{answer_of, verdict_answer, reason_word, fault_word, too_big, unreadable};
 
 use crate::fault::StreamFault;
-use monk_audit::{TextVerdict, Verdict, audit_text};
+use monk_audit::{TextVerdict, Verdict};
 use monk_history::{Device, ReadFault};
 use std::alloc::Global;
 use std::io::Write;
@@ -19,12 +21,17 @@ pub(crate) struct Answer {
     pub(crate) text: String,
 }
 
-/// The answer to a text: its verdict, or why there is none.
-pub(crate) fn answer_to(alloc: Global, bytes: &[u8]) -> Result<Answer, StreamFault>
-    ensures answer { IfOk result (λ a. (a.status ≡ (answer_of bytes.now).status) × (string_bytes a.text ≡ (answer_of bytes.now).text)) }
+/// The answer to what was found of a text: its verdict, or why there is none.
+pub(crate) fn answer_to(
+    alloc: Global,
+    found: Result<TextVerdict, ReadFault>,
+) -> Result<Answer, StreamFault>
+    ensures answer { (input : List ℕ) → Gives same found (text_verdict input) → IfOk result
+        (λ a. (a.status ≡ (answer_of input).status) × (string_bytes a.text ≡ (answer_of input).text)) }
+    ensures status { IfOk result (λ a. a.status ≤ 2) }
     ensures no_file { IsErrOf result StreamFault.File → ⊥ }
 {
-    match audit_text(alloc, bytes) {
+    match found {
         Ok(TextVerdict::Judged(verdict)) => verdict_answer(alloc, verdict),
         Ok(TextVerdict::TooBig) => too_big(alloc),
         Err(fault) => unreadable(alloc, fault),
@@ -36,6 +43,7 @@ pub(crate) fn unreadable(alloc: Global, fault: ReadFault) -> Result<Answer, Stre
     ensures answer { IfOk result
         (λ a. (fault ≢ memory) × (a.status ≡ (unreadable fault).status)
         × (string_bytes a.text ≡ (unreadable fault).text)) }
+    ensures status { IfOk result (λ a. a.status ≤ 2) }
     ensures no_file { IsErrOf result StreamFault.File → ⊥ }
 {
     if fault.number == ReadFault::MEMORY {
@@ -49,6 +57,7 @@ pub(crate) fn unreadable(alloc: Global, fault: ReadFault) -> Result<Answer, Stre
 /// The answer to a size above the object's greatest.
 pub(crate) fn too_big(alloc: Global) -> Result<Answer, StreamFault>
     ensures answer { IfOk result (λ a. (a.status ≡ too_big.status) × (string_bytes a.text ≡ too_big.text)) }
+    ensures status { IfOk result (λ a. a.status ≤ 2) }
     ensures no_file { IsErrOf result StreamFault.File → ⊥ }
 {
     let text = String::from_str(alloc, "object\n")?;
@@ -96,6 +105,7 @@ fn reason_word(reason: u8) -> &'static str
 
 pub(crate) fn verdict_answer(alloc: Global, verdict: Verdict) -> Result<Answer, StreamFault>
     ensures answer { IfOk result (λ a. let j = verdict_answer verdict in (a.status ≡ j.status) × (string_bytes a.text ≡ j.text)) }
+    ensures status { IfOk result (λ a. a.status ≤ 2) }
     ensures no_file { IsErrOf result StreamFault.File → ⊥ }
 {
     match verdict {

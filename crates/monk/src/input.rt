@@ -11,12 +11,12 @@ use std::alloc::{AllocError, Global};
 use std::io::Read;
 
 /// The most bytes of an input, and the most reads for it.
-const MOST: usize = 1 << 31;
+pub(crate) const MOST: usize = 1 << 31;
 
 /// How many bytes are asked for at a time.
-const CHUNK: usize = 1 << 16;
+pub(crate) const CHUNK: usize = 1 << 16;
 
-fn zeroes(alloc: Global, count: usize) -> Result<Vec<u8>, AllocError>
+pub(crate) fn zeroes(alloc: Global, count: usize) -> Result<Vec<u8>, AllocError>
     ensures { IfOk result (λ v. length v.items ≡ count) }
 {
     vec![in alloc; 0u8; count]

@@ -104,7 +104,7 @@ unfolding verdict_at
 forbidden_read m n t e (Ok es) some = ap (λ v. Ok v) (forbidden_verdict m n t e es (reason_in m t e == 0) refl some)
 forbidden_read m n t e (Err f) some = refl
 
-forbidden_then : (m : Monitor) (n r : ℕ) (t : Situation) (e : Event) (read new : Result (List Event) ReadFault)
+pub forbidden_then : (m : Monitor) (n r : ℕ) (t : Situation) (e : Event) (read new : Result (List Event) ReadFault)
     (total : Result Verdict ReadFault) → read ≡ (new >>= λ es. Ok (e ∷ es)) → r ≡ reason_in m t e → r ≢ 0
     → verdict_read m n t read ≡ total → total ≡ (read_through new >>= λ _. Ok (Forbidden (n + 1) r))
 forbidden_then m n r t e read new total more is some so_far =

@@ -10,6 +10,8 @@ pub use Rattle.monk_history.proofs.TextLaws.LineCuts.{AreWords, IsWord, IsWord-d
 pub use Rattle.monk_history.proofs.TextLaws.LineSteps.{behind, lines_behind}
 -- The newest version has a line of each event.
 pub use Rattle.monk_history.proofs.TextLaws.NewestVersion.{upgraded_text}
+-- A text that comes in pieces: its header, and its end.
+pub use Rattle.monk_history.proofs.TextLaws.PieceLaws.{head_missing, head_opens, head_refused, items_end, items_unfinished}
 -- No word of an event or of a header has a byte 32 or 10.
 pub use Rattle.monk_history.proofs.TextLaws.PlainWords.{decimal_word, kind_is_word, object_is_word}
 -- What is taken from the words is what its value is written as, and what is so written is taken again.

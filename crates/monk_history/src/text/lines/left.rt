@@ -85,7 +85,7 @@ impl<'a> ItemLines<'a> {
     }
 }
 
-fn header_of<H: Head>(line: &[u8]) -> Result<H, ReadFault>
+pub(crate) fn header_of<H: Head>(line: &[u8]) -> Result<H, ReadFault>
     ensures { result ≡ header_line H.parse line.now }
 {
     let mut words = LineWords::of(line);

@@ -1,0 +1,96 @@
+//! The audit of a text that comes in pieces.
+
+ghost use Rattle.std.specs.Prelude.{◌≡◌, List, ℕ, [], OnOk};
+ghost use Rattle.monk_history.specs.Text.Lines.{Gives};
+ghost use Rattle.monk_audit.specs.Audits.{owes, IsGoingOn};
+ghost use Rattle.monk_audit.specs.Pieces.{IsCarried};
+ghost use Rattle.monk_audit.specs.Reading.{same, text_verdict};
+
+use crate::stage::Stage;
+use crate::text_verdict::TextVerdict;
+use monk_history::ReadFault;
+use std::alloc::{AllocError, Global};
+
+/// The audit of a text that comes in pieces. A line is judged when it ends, and of the text no more is kept than the line
+/// that has not ended; behind the first fault nothing is.
+///
+/// Contracts see what it owes to bytes that are still to come: what [`audit_text`](crate::audit_text) answers to the text
+/// that they complete.
+#[derive(Drop)]
+pub struct TextAudit {
+    stage: Stage,
+    held: Vec<u8>,
+    fault: Option<ReadFault>,
+}
+
+impl TextAudit {
+    /// The audit of a text of which nothing has come. It takes no memory.
+    pub fn new(alloc: Global) -> TextAudit
+        ensures owes { (text : List ℕ) → owes result text ≡ text_verdict text }
+        ensures goes_on { IsGoingOn result }
+    {
+        TextAudit {
+            stage: Stage::Opening,
+            held: Vec::new(alloc),
+            fault: None,
+        }
+    }
+
+    /// Takes the next piece of the text, and judges the lines that end in it. After an error the audit can't go on.
+    ///
+    /// # Errors
+    ///
+    /// Where a growth was refused.
+    ///
+    /// # Cost
+    ///
+    /// Time by the length of the piece and of a line that ends in it; memory for the piece and the line that has not ended,
+    /// for the queues and for the object.
+    pub fn push(&mut self, alloc: Global, piece: &[u8]) -> Result<(), AllocError>
+        requires { IsGoingOn self.old }
+        ensures carried { OnOk result (IsCarried (owes self.old) piece.now (owes self.new) []) }
+        ensures goes_on { OnOk result (IsGoingOn self.new) }
+    {
+        if self.fault.is_some() {
+            return Ok(());
+        }
+        self.held.extend_from_slice(piece)?;
+        // A line that goes on is not looked through again.
+        if !piece.contains(&b'\n') {
+            return Ok(());
+        }
+        match self.stage.judge(alloc, &self.held) {
+            Ok(rest) => {
+                let mut held = Vec::new(alloc);
+                held.extend_from_slice(rest)?;
+                self.held = held;
+                Ok(())
+            }
+            Err(fault) => {
+                self.stage = Stage::Opening;
+                self.held = Vec::new(alloc);
+                self.fault = Some(fault);
+                if fault.number == ReadFault::MEMORY {
+                    Err(AllocError)
+                } else {
+                    Ok(())
+                }
+            }
+        }
+    }
+
+    /// What the audit found of the text that has come, where no more of it comes.
+    ///
+    /// # Errors
+    ///
+    /// The text's first fault, or the memory fault where a growth was refused.
+    pub fn end(self, alloc: Global) -> Result<TextVerdict, ReadFault>
+        requires { IsGoingOn self }
+        ensures { Gives same result (owes self []) }
+    {
+        match self.fault {
+            Some(fault) => Err(fault),
+            None => self.stage.end(alloc, &self.held),
+        }
+    }
+}

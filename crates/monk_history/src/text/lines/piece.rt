@@ -1,0 +1,89 @@
+//! The lines of a text that comes in pieces.
+
+ghost use Rattle.std.specs.Prelude.{◌≡◌, ◌≤◌, ◌+◌, Ok, None, true, IfOk, IfSome, MatchOption};
+ghost use Rattle.monk_history.specs.Limits.{most_lines};
+ghost use Rattle.monk_history.specs.Text.Lines.{is_unended};
+ghost use Rattle.monk_history.specs.Text.Pieces.{IsHeadOf, IsNextOfPiece, items_with, piece_left};
+
+use crate::text::fault::ReadFault;
+use crate::text::lines::left::header_of;
+use crate::text::lines::next::next_item;
+use crate::text::lines::record::{Head, Record};
+use crate::text::lines::split::split_once;
+use std::marker::Model;
+
+/// The lines that end in a piece of a text and are not yet read. Contracts see the bytes, the number of their first line,
+/// and for how many lines there is room.
+#[derive(Drop)]
+pub struct PieceLines<'a> {
+    rest: &'a [u8],
+    number: u32,
+    room: u32,
+}
+
+impl<'a> Model for PieceLines<'a> {
+    ghost use Rattle.std.specs.Prelude.{◌+◌, ◌≤◌};
+    ghost use Rattle.monk_history.specs.Limits.{most_lines};
+    ghost use Rattle.monk_history.specs.Text.Pieces.{PieceLeft, piece_left};
+
+    ghost Value = { PieceLeft };
+
+    ghost view = { λ l. piece_left l.rest.now l.number l.room };
+
+    ghost invariant = { λ l. l.number + l.room ≤ most_lines + 2 };
+}
+
+impl<'a> PieceLines<'a> {
+    /// The lines that end in the bytes: the first of them has that number in its text, and so many may be read.
+    pub fn of(bytes: &'a [u8], number: u32, room: u32) -> PieceLines<'a>
+        requires { number + room ≤ most_lines + 2 }
+        ensures { result ≡ piece_left bytes.entry.now number room }
+    {
+        PieceLines {
+            rest: bytes,
+            number,
+            room,
+        }
+    }
+
+    /// Reads the next line; `None` where no further line ends in the piece. After an error nothing is said of what is left.
+    #[inline(always)]
+    pub fn next<H, A: Record<H>>(&mut self, header: &H) -> Result<Option<A>, ReadFault>
+        ensures item { IsNextOfPiece result (items_with (A.parse header.now) self.old) (items_with (A.parse header.now) self.new) }
+        ensures counted { IfOk result
+            (λ x. IfSome x (λ _. (self.new.number ≡ self.old.number + 1) × (self.new.room + 1 ≡ self.old.room))) }
+        ensures none { result ≡ Ok None → (self.new ≡ self.old) × (is_unended self.new.bytes ≡ true) }
+    {
+        let Some((item, after)) = next_item(header, self.rest) else {
+            return Ok(None);
+        };
+        if self.room == 0 {
+            return Err(ReadFault::at(ReadFault::LONG, self.number));
+        }
+        let item: A = match item {
+            Ok(item) => item,
+            Err(flaw) => return Err(flaw.at(self.number)),
+        };
+        self.rest = after;
+        self.number += 1;
+        self.room -= 1;
+        Ok(Some(item))
+    }
+
+    /// The bytes that are not yet read.
+    pub fn rest(self) -> &'a [u8]
+        ensures { result.now ≡ self.entry.bytes }
+    {
+        self.rest
+    }
+}
+
+/// The header that the first line of the bytes is, or the fault of a text that has no such line, and what stands behind
+/// that line; `None` where no line ends in them.
+pub fn header_at_front<H: Head>(bytes: &[u8]) -> Option<(Result<H, ReadFault>, &[u8])>
+    ensures { MatchOption result (is_unended bytes.entry.now ≡ true)
+        (λ r. IsHeadOf H.parse bytes.entry.now r.0 r.1.now) }
+{
+    let (line, rest) = split_once(bytes, b'\n')?;
+    Some((header_of(line), rest))
+}
