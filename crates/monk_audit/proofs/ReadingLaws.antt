@@ -1,13 +1,13 @@
 -- Judging events as they are read, one after the other, as a loop does
-use Rattle.std.proofs.Common.{◌≡◌, ◌≢◌, ◌==◌, ◌+◌, ℕ, Bool, true, false, cond, List, [], ◌∷◌, ◌++◌, length, Option}
-use Rattle.std.proofs.Common.{Some, None, Result, Ok, Err, refl, sym, ap, subst, ◌∙◌, length-append}
+use Rattle.std.proofs.Common.{◌≡◌, ◌≢◌, ◌==◌, ◌+◌, ℕ, Bool, true, false, cond, List, [], ◌∷◌, ◌++◌, length}
+use Rattle.std.proofs.Common.{Result, Ok, Err, refl, sym, ap, ◌∙◌, length-append}
 use Rattle.std.proofs.lemmas.Bool.{eqb-true}
 use Rattle.monk_kinds.specs.declared.mode.Rules.{Rules}
 use Rattle.monk_object.specs.Object.{Object}
-use Rattle.std.specs.Prelude.{◌^◌, IfOk, IfSome}
+use Rattle.std.specs.Prelude.{◌^◌}
 use Rattle.monk_history.specs.Text.{Heading}
-use Rattle.monk_history.specs.Text.Words.{◌>>=◌, Word, Taken}
-use Rattle.monk_history.specs.Text.Lines.{LinesLeft, lines_of, header_line, opened_at, IsNextItem}
+use Rattle.monk_history.specs.Text.Words.{◌>>=◌}
+use Rattle.monk_history.specs.Text.Lines.{LinesLeft, lines_of, opened_at}
 use Rattle.monk_history.specs.Text.Reading.{header_at, event_under}
 use Rattle.monk_history.proofs.PublicLaws.Texts.{behind, lines_behind}
 use Rattle.monk_history.proofs.PublicLaws.Meaning.{legal_none, legal-push, allowed_from_reason, legal_situation-push}
@@ -56,10 +56,6 @@ judged_is m (Ok es) = ap (λ v. Ok v) (sym (verdict_at_is m es))
 judged_is m (Err f) = refl
 
 -- ---- the turns and the ends of the loop; what is to be judged is `total`
-
-pub judged_start : (m : Monitor) (t : Situation) (read : Result (List Event) ReadFault) → t ≡ opening_situation m
-    → verdict_read m 0 t read ≡ verdict_of_reading m read
-judged_start m t read is = ap (λ x. verdict_read m 0 x read) is ∙ judged_is m read
 
 pub judged_end : (m : Monitor) (n : ℕ) (t : Situation) (read : Result (List Event) ReadFault)
     (total : Result Verdict ReadFault) → read ≡ Ok [] → verdict_read m n t read ≡ total → total ≡ Ok (Legal n)
@@ -112,32 +108,10 @@ forbidden_then m n r t e read new total more is some so_far =
     ∙ (forbidden_read m n t e new (λ z. some (is ∙ z))
     ∙ ap (λ x. read_through new >>= λ _. Ok (Forbidden (n + 1) x)) (sym is)))
 
-pub judged_forbidden : (m : Monitor) (n r : ℕ) (t : Situation) (e : Event) (read new : Result (List Event) ReadFault)
-    (total : Result Verdict ReadFault) → read ≡ (new >>= λ es. Ok (e ∷ es)) → r ≡ reason_in m t e → r ≢ 0
-    → verdict_read m n t read ≡ total → Ok tt ≡ read_through new → total ≡ Ok (Forbidden (n + 1) r)
-judged_forbidden m n r t e read new total more is some so_far through =
-    forbidden_then m n r t e read new total more is some so_far
-    ∙ ap (λ (x : Result (Unit {0}) ReadFault). x >>= λ _. Ok (Forbidden (n + 1) r)) (sym through)
-
-pub judged_unreadable : (m : Monitor) (n r : ℕ) (t : Situation) (e : Event) (read new : Result (List Event) ReadFault)
-    (total : Result Verdict ReadFault) (f : ReadFault) → read ≡ (new >>= λ es. Ok (e ∷ es)) → r ≡ reason_in m t e
-    → r ≢ 0
-    → verdict_read m n t read ≡ total → Err f ≡ read_through new → total ≡ Err f
-judged_unreadable m n r t e read new total f more is some so_far through =
-    forbidden_then m n r t e read new total more is some so_far
-    ∙ ap (λ (x : Result (Unit {0}) ReadFault). x >>= λ _. Ok (Forbidden (n + 1) r)) (sym through)
-
 -- the reason that a replay gives is that of the monitor
 pub reason_there : (k : Rules) (seats n conds : ℕ) (o : Object) (d : List ℕ) (t : Situation) (e : Event) (r : ℕ)
     → n ≡ seats → r ≡ reason_in (monitor k n conds o []) t e → r ≡ reason_in (monitor k seats conds o d) t e
 reason_there k seats n conds o d t e r a b = b ∙ (ap (λ x. reason_in (monitor k x conds o []) t e) a ∙ reason_opening k seats conds o d t e)
-
--- ---- reading on, and keeping nothing
-
-pub through_more : (read new total : Result (List Event) ReadFault) (e : Event) → read ≡ (new >>= λ es. Ok (e ∷ es))
-    → read_through read ≡ read_through total → read_through new ≡ read_through total
-through_more read (Ok es) total e more so_far = ap read_through (sym more) ∙ so_far
-through_more read (Err f) total e more so_far = ap read_through (sym more) ∙ so_far
 
 -- ---- the whole text
 
@@ -157,31 +131,3 @@ pub not_opened_text : (bytes : List ℕ) (f : ReadFault) → Err f ≡ opened_at
 not_opened_text bytes f bad =
     ap (λ r. r >>= λ x. Ok (history_verdict x)) (lines_behind header_at event_under (2 ^ 25) (lines_of bytes)
     ∙ ap (behind event_under) (sym bad))
-
-pub opened_room : {H : Type 0} → (head : List Word → Taken H) (limit : ℕ) (lines : List (List ℕ)) (x : H × LinesLeft)
-    → Ok x ≡ opened_at head limit lines → x.1.room ≡ limit
-unfolding opened_at
-opened_room {H = H} head limit [] x e = absurd cc
-opened_room {H = H} head limit (rest ∷ []) x e = absurd cc
-opened_room {H = H} head limit (l ∷ next ∷ more) x e = of_header (header_line head l) e
-  where
-    of_header : (r : Result H ReadFault)
-        → Ok x ≡ (r >>= λ h. Ok (h, record { lines = next ∷ more; number = 2; room = limit })) → x.1.room ≡ limit
-    of_header (Ok h) e =
-        let same_pair : x ≡ (h, record { lines = next ∷ more; number = 2; room = limit }) = cc in
-        ap (λ (y : H × LinesLeft). y.1.room) same_pair
-    of_header (Err f) e = absurd cc
-
--- ---- what the next line gave
-
-pub item_found : (r : Result (Option Event) ReadFault) (old new : Result (List Event) ReadFault) (e : Event)
-    → r ≡ Ok (Some e) → IsNextItem r old new → old ≡ (new >>= λ es. Ok (e ∷ es))
-item_found r old new e is h = subst (λ (x : Result (Option Event) ReadFault). IsNextItem x old new) is h
-
-pub none_found : (r : Result (Option Event) ReadFault) (old new : Result (List Event) ReadFault) → r ≡ Ok None
-    → IsNextItem r old new → old ≡ Ok []
-none_found r old new is h = subst (λ (x : Result (Option Event) ReadFault). IsNextItem x old new) is h
-
-pub room_found : (r : Result (Option Event) ReadFault) (old new : ℕ) (e : Event) → r ≡ Ok (Some e)
-    → IfOk r (λ x. IfSome x (λ _. new + 1 ≡ old)) → new + 1 ≡ old
-room_found r old new e is h = subst (λ (x : Result (Option Event) ReadFault). IfOk x (λ y. IfSome y (λ _. new + 1 ≡ old))) is h
