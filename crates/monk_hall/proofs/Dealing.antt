@@ -27,7 +27,7 @@ use Rattle.monk_world.specs.State.{State}
 use Rattle.monk_hall.specs.Layout.{tickets, unpassed, word_count, place_word, seat_word, floor_of, shown_state}
 use Rattle.monk_hall.specs.Records.{View, In, Distinct, opening_record, opening_records, first_view, head, tail}
 use Rattle.monk_hall.specs.Rule.{AreShown, IsHall}
-use Rattle.monk_hall.specs.Tokens.{Token, IsResting, AreOf, tokens}
+use Rattle.monk_hall.specs.Tokens.{Token, IsResting, tokens}
 use Rattle.monk_hall.specs.declared.record.SeatRecord.{SeatRecord}
 use Rattle.monk_hall.specs.declared.setting.Setting.{Setting}
 use Rattle.monk_hall.proofs.Seats.{long, only}
@@ -279,12 +279,3 @@ some_seat seats conds budget made =
 
     not_below : nat_lt seats 1 ≡ false → 0 < seats
     not_below e = grind (arith, e)
-
-pub tokens_are_of : (z : TableId) (c : Setting) (n i : ℕ) → AreOf z c (tokens z (opening_records c n i))
-tokens_are_of z c zero i = tt
-tokens_are_of z c (suc n) i = (refl, refl, tokens_are_of z c n (suc i))
-
-pub last_is_of : (z : TableId) (c : Setting) (ps : List Token) (p : Token) → AreOf z c (ps ++ p ∷ [])
-    → ((p.hall ≡ z) × (p.me.setting ≡ c)) × AreOf z c ps
-last_is_of z c [] p h = ((h.0, h.1), tt)
-last_is_of z c (q ∷ ps) p h = let rest = last_is_of z c ps p h.2 in (rest.0, (h.0, h.1, rest.1))

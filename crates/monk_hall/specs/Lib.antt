@@ -12,4 +12,3 @@ pub mod Recorded
 pub mod Closing
 pub mod Complete
 pub mod Laws
-pub mod Tests

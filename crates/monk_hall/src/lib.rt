@@ -42,6 +42,3 @@ pub use hall::Hall;
 pub use meeting::meet;
 pub use parked::Parked;
 pub use pass::Pass;
-
-#[cfg(test)]
-mod tests;

@@ -10,7 +10,6 @@ mod SeatSums
 mod WholeLaws
 mod MeetLaws
 mod ProductLaws
-mod SeatLaws
 mod Crossing
 mod RunLaws
 mod RunEndLaws

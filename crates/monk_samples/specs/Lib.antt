@@ -3,7 +3,6 @@ pub mod Asked
 pub mod Styles
 pub mod Visits
 pub mod Members
-pub mod Tests
 pub mod Totals
 pub mod Samples
 pub mod Rounds

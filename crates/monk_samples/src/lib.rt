@@ -36,6 +36,3 @@ pub use running::run;
 pub use sample::Sample;
 pub use shop::{barber_turn, sit_and_cut};
 pub use style::Style;
-
-#[cfg(test)]
-mod tests;

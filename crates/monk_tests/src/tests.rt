@@ -1,4 +1,4 @@
-//! What no clause says of the crates below the hall: the values and texts that people know, known histories and plays,
+//! What no clause says of the crates below the program: the values and texts that people know, known histories and plays,
 //! readers and writers that fail in mid-stream, and refused memory.
 
 mod audits;
@@ -7,11 +7,13 @@ mod floor_histories;
 mod floor_steps;
 mod floors;
 mod full_floor;
+mod halls;
 mod kinds;
 mod objects;
 mod play_texts;
 mod random_calls;
 mod refused;
+mod samples;
 mod texts;
 mod tight;
 mod worlds;

@@ -1,5 +1,0 @@
-use Rattle.std.proofs.Common.{◌≡◌}
-use Rattle.monk_hall.proofs.tests.entering.polls_in_vain.Given as goal
-
-abbrev pub invariant-loop : goal.invariant-loop
-invariant-loop l = l.parked.hall ≡ l.hall.id
