@@ -70,7 +70,7 @@ impl<'a, H: Head, A: Record<H>> CheckedLines<'a, H, A> {
 }
 
 /// Reads the lines that are left, and gives the first fault.
-#[tactic(auto, using(crate::proofs::TextLaws::LineSteps::behind_none, crate::proofs::TextLaws::LineSteps::behind_one, crate::proofs::TextLaws::LineSteps::behind_all, crate::proofs::TextLaws::LineSteps::behind_fault))]
+#[tactic(auto, using(crate::proofs::TextLaws::LineSteps::behind_one))]
 fn check_items<H, A: Record<H>>(header: &H, lines: ItemLines<'_>) -> Result<(), ReadFault>
     ensures ok { OnOk result (AreSound (items_left (A.parse header.now) lines.entry)) }
     ensures err { IfErr result (λ f. items_left (A.parse header.now) lines.entry ≡ Err f) }
