@@ -11,7 +11,8 @@ ghost use Rattle.monk.specs.Upgraded.{IsHistoryOf, IsHistoryText, IsUpgraded, up
 use crate::answer::{put, unreadable};
 use crate::fault::StreamFault;
 use crate::input::read_all;
-use monk_history::{Device, read, write};
+use monk_history::lines::CheckedLines;
+use monk_history::{Device, Event, Header, MOST_EVENTS, write_lines};
 use std::alloc::Global;
 use std::io::{Read, Write};
 
@@ -28,8 +29,8 @@ fn upgrade_text<W: Write>(
     ensures file { IsErrOf result StreamFault.File → has_failed writer.new ≡ true }
     ensures memory { IsErrOf result StreamFault.Memory → writer.new ≡ writer.old }
 {
-    match read(alloc, bytes) {
-        Ok((header, events)) => match write(&header.upgraded(), &events, writer) {
+    match CheckedLines::<Header, Event>::check(bytes, MOST_EVENTS) {
+        Ok(lines) => match write_lines(&lines.header().upgraded(), lines, writer) {
             Ok(()) => Ok(0),
             Err(_) => Err(StreamFault::File),
         },
@@ -49,7 +50,8 @@ fn upgrade_text<W: Write>(
 ///
 /// # Cost
 ///
-/// One pass over the text and one over the events; memory for the text and for the events.
+/// Two passes over the text: one that looks for its first fault, and one that writes each event as it is read. Memory for
+/// the text alone.
 pub fn upgrade_stream<R: Read, W: Write>(
     alloc: Global,
     reader: &mut Device<R>,

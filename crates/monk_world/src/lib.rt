@@ -21,6 +21,6 @@ pub use answer::Answer;
 pub use command::Command;
 pub use home::Home;
 pub use place::Place;
-pub use play::{MOST_COMMANDS, one_play_each, read_play};
+pub use play::{MOST_COMMANDS, PlayLines, one_play_each, read_play};
 pub use source::Source;
 pub use world::{World, record_entry};

@@ -2,7 +2,9 @@
 
 mod head;
 mod line;
+mod lines;
 mod reading;
 mod verb;
 
+pub use lines::PlayLines;
 pub use reading::{MOST_COMMANDS, one_play_each, read_play};

@@ -19,6 +19,7 @@ use crate::board::Board;
 use crate::command::Command;
 use crate::home::Home;
 use crate::place::Place;
+use crate::play::PlayLines;
 use crate::source::Source;
 use crate::telling::{is_in_range, is_offered, left_for, may_be_told};
 use monk_floor::{Floor, MakeFault};
@@ -164,6 +165,22 @@ impl<K: Kind, T: Guarded> World<K, T> {
         let _ = &self.words; // from here on it is known to be sound
         for (seat, command) in commands {
             self.step(*seat, *command);
+        }
+    }
+
+    /// Carries out the commands that are left of a play's text, in order, as [`World::run`] does those of a list.
+    ///
+    /// One pass over the bytes; no list of commands is made, and no memory is taken.
+    pub fn run_lines(&mut self, play: PlayLines<'_>)
+        ensures led { IsLed K.rules T.meaning (state_of_view self.old) play.entry.2 (state_of_view self.new) }
+        ensures recorded { IsRecordedBy K.rules T.meaning (state_of_view self.old) play.entry.2 (state_of_view self.new) }
+        ensures versions { KeepsVersion (state_of_view self.old) play.entry.2 (state_of_view self.new) }
+        ensures well_led { IsWellLed K.rules T.meaning (state_of_view self.new) }
+    {
+        let _ = &self.words; // from here on it is known to be sound
+        let mut play = play;
+        while let Some(told) = play.next() {
+            self.step(told.0, told.1);
         }
     }
 

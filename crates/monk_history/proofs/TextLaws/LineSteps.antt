@@ -7,6 +7,7 @@ use Rattle.monk_history.specs.declared.text.fault.ReadFault.{ReadFault}
 use Rattle.monk_history.specs.Text.Faults.{end_fault, long_fault}
 use Rattle.monk_history.specs.Text.Words.{◌>>=◌, Word, Taken}
 use Rattle.monk_history.specs.Text.Lines.{LinesLeft, lines_of, item_line, header_line, items_at, items_left, lines_at, opened_at}
+use Rattle.monk_history.specs.Text.Lines.{AreSound}
 
 pub some_part : (p : ℕ → Bool) (xs : List ℕ) → (first : List ℕ) × (more : List (List ℕ)) × (slice_split p xs ≡ first ∷ more)
 some_part p [] = ([], [], refl)
@@ -102,6 +103,32 @@ all_read {A = A} front old total none so_far = sym so_far ∙ ap (with_front fro
 pub fault_found : {A : Type 0} → (front : List A) (old total : Result (List A) ReadFault) (f : ReadFault) → old ≡ Err f
     → with_front front old ≡ total → total ≡ Err f
 fault_found {A = A} front old total f bad so_far = sym so_far ∙ ap (with_front front) bad
+
+-- ---- the same of a loop that keeps none
+
+-- what is still read, behind a front of what is read in all
+pub record IsBehind {A : Type 0} (left all : Result (List A) ReadFault) : Type 0 where
+  pub front : List A
+  pub same : with_front front left ≡ all
+
+no_front : {A : Type 0} → (read : Result (List A) ReadFault) → with_front [] read ≡ read
+no_front {A = A} (Ok es) = refl
+no_front {A = A} (Err f) = refl
+
+pub behind_none : {A : Type 0} → (read : Result (List A) ReadFault) → IsBehind read read
+behind_none {A = A} read = record { front = []; same = no_front read }
+
+pub behind_one : {A : Type 0} → (e : A) (old new all : Result (List A) ReadFault) → old ≡ (new >>= λ es. Ok (e ∷ es))
+    → IsBehind old all → IsBehind new all
+behind_one {A = A} e old new all more h =
+    record { front = h.front ++ e ∷ []; same = one_more h.front e old new all more h.same }
+
+pub behind_all : {A : Type 0} → (old all : Result (List A) ReadFault) → old ≡ Ok [] → IsBehind old all → AreSound all
+behind_all {A = A} old all none h = rw (all_read h.front old all none h.same) refl
+
+pub behind_fault : {A : Type 0} → (old all : Result (List A) ReadFault) (f : ReadFault) → old ≡ Err f → IsBehind old all
+    → all ≡ Err f
+behind_fault {A = A} old all f bad h = fault_found h.front old all f bad h.same
 
 -- ---- the first line, and the lines behind it
 

@@ -1,13 +1,13 @@
 -- A text that goes out page by page.
-use Rattle.std.proofs.Common.{◌≡◌, ℕ, ◌+◌, ◌<◌, take, get_or, List, [], ◌∷◌, ◌++◌, Option, sym, ap, ◌∙◌, length, append_assoc}
-use Rattle.std.specs.List.{flat_map}
+use Rattle.std.proofs.Common.{◌≡◌, ℕ, ◌+◌, ◌<◌, take, get_or, List, [], ◌∷◌, ◌++◌, Option, refl, sym, ap, subst, ◌∙◌, length, append_assoc}
+use Rattle.std.specs.List.{AllByRecursion, flat_map}
 use Rattle.std.specs.Io.KnownBytes.{Appends}
 use Rattle.std.proofs.KnownBytes.{Appends-trans}
 use Rattle.std.proofs.lemmas.List.{append-nil}
 use Rattle.std.proofs.lemmas.List.{take_more}
 use Rattle.std.proofs.lemmas.Grind.{flat_map-append}
 use Rattle.monk_history.specs.declared.event.Event.{Event}
-use Rattle.monk_history.specs.Text.{Heading, event_words, header_words, text}
+use Rattle.monk_history.specs.Text.{EventFits, Heading, IsHeading, event_words, header_words, text}
 use Rattle.monk_history.specs.Text.Lines.{line}
 
 -- the writer got a part of the text, and the page has the rest
@@ -40,3 +40,70 @@ pub sends : (before now later : Option (List ℕ)) (page text : List ℕ) → Is
     → Appends now later page → IsOnItsWay before later [] text
 sends before now later page text h appends =
     record { sent = text; got = rw h.whole (Appends-trans before now later h.sent page h.got appends); whole = sym (append-nil text) }
+
+-- ---- events of which these are left
+
+-- a text of all of them, as far as those that are left
+pub record IsWritten (before now : Option (List ℕ)) (page : List ℕ) (h : Heading) (left all : List Event) : Type 0 where
+  pub done : List Event
+  pub whole : done ++ left ≡ all
+  pub on_its_way : IsOnItsWay before now page (text h done)
+  pub heading : IsHeading h
+  pub fit : AllByRecursion EventFits done
+
+pub written_none : (before now : Option (List ℕ)) (page : List ℕ) (h : Heading) (all : List Event)
+    → IsOnItsWay before now page (text h []) → IsHeading h → IsWritten before now page h all all
+written_none before now page h all way heading =
+    record { done = []; whole = refl; on_its_way = way; heading = heading; fit = tt }
+
+pub written_sent : (before now later : Option (List ℕ)) (page : List ℕ) (h : Heading) (left all : List Event)
+    → IsWritten before now page h left all → Appends now later page → IsWritten before later [] h left all
+written_sent before now later page h left all w appends =
+    record {
+      done = w.done;
+      whole = w.whole;
+      on_its_way = sends before now later page (text h w.done) w.on_its_way appends;
+      heading = w.heading;
+      fit = w.fit;
+    }
+
+text-push : (h : Heading) (es : List Event) (e : Event) → text h (es ++ e ∷ []) ≡ text h es ++ line (event_words e)
+text-push h es e =
+    let f : Event → List ℕ = λ e. line (event_words e) in
+    ap (λ (y : List ℕ). line (header_words h) ++ y)
+    (flat_map-append f es (e ∷ []) ∙ ap (λ (y : List ℕ). flat_map f es ++ y) (append-nil (f e)))
+    ∙ sym (append_assoc (line (header_words h)) (flat_map f es) (f e))
+
+fit-push : (es : List Event) (e : Event) → AllByRecursion EventFits es → EventFits e
+    → AllByRecursion EventFits (es ++ e ∷ [])
+fit-push [] e fit one = (one, tt)
+fit-push (x ∷ es) e fit one = (fit.0, fit-push es e fit.1 one)
+
+pub written_more : (before now : Option (List ℕ)) (page page_after : List ℕ) (h : Heading) (old new all : List Event) (e : Event)
+    → old ≡ e ∷ new → page_after ≡ page ++ line (event_words e) → EventFits e → IsWritten before now page h old all
+    → IsWritten before now page_after h new all
+written_more before now page page_after h old new all e is on_page fits w =
+    record {
+      done = w.done ++ e ∷ [];
+      whole = append_assoc w.done (e ∷ []) new ∙ (ap (λ es. w.done ++ es) (sym is) ∙ w.whole);
+      on_its_way = grows before now page (text h w.done) page_after (line (event_words e)) (text h (w.done ++ e ∷ []))
+          w.on_its_way on_page (text-push h w.done e);
+      heading = w.heading;
+      fit = fit-push w.done e w.fit fits;
+    }
+
+-- the same where none is left
+pub written_all : (before now : Option (List ℕ)) (page : List ℕ) (h : Heading) (left all : List Event) → left ≡ []
+    → IsWritten before now page h left all
+    → IsOnItsWay before now page (text h all) × AllByRecursion EventFits all
+written_all before now page h left all none w =
+    let done : w.done ≡ all = sym (append-nil w.done) ∙ (ap (λ es. w.done ++ es) (sym none) ∙ w.whole) in
+    subst (λ (es : List Event). IsOnItsWay before now page (text h es) × AllByRecursion EventFits es) done
+    (w.on_its_way, w.fit)
+
+-- the whole text, with the last page
+pub written_out : (before now later : Option (List ℕ)) (page : List ℕ) (h : Heading) (left all : List Event) → left ≡ []
+    → IsWritten before now page h left all → Appends now later page → Appends before later (text h all)
+written_out before now later page h left all none w appends =
+    let way = (written_all before now page h left all none w).0 in
+    rw way.whole (Appends-trans before now later way.sent page way.got appends)

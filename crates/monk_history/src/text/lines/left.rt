@@ -1,6 +1,6 @@
 //! The lines of a text behind its first, read one after the other.
 
-ghost use Rattle.std.specs.Prelude.{◌≡◌, ◌≤◌, ◌+◌, IfOk, IfSome};
+ghost use Rattle.std.specs.Prelude.{◌≡◌, ◌≤◌, ◌+◌, IfOk, IfSome, None, Ok};
 ghost use Rattle.monk_history.specs.Limits.{most_lines};
 ghost use Rattle.monk_history.specs.Text.Lines.{IsNextItem, items_left, opened_at, lines_of, header_line};
 
@@ -58,11 +58,23 @@ impl<'a> ItemLines<'a> {
         Ok((header, lines))
     }
 
+    /// The same lines once more.
+    pub(crate) fn again(&self) -> ItemLines<'a>
+        ensures { result ≡ self.now }
+    {
+        ItemLines {
+            rest: self.rest,
+            number: self.number,
+            room: self.room,
+        }
+    }
+
     /// Reads the next line; `None` where the text has ended. After an error nothing is said of what is left.
     #[inline(always)]
     pub fn next<H, A: Record<H>>(&mut self, header: &H) -> Result<Option<A>, ReadFault>
         ensures item { IsNextItem result (items_left (A.parse header.now) self.old) (items_left (A.parse header.now) self.new) }
         ensures room { IfOk result (λ x. IfSome x (λ _. self.new.room + 1 ≡ self.old.room)) }
+        ensures none { result ≡ Ok None → self.new ≡ self.old }
     {
         let Some((item, after)) = next_item(header, self.rest) else {
             return if self.rest.is_empty() {
