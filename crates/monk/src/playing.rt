@@ -8,7 +8,6 @@ ghost use Rattle.monk_object.specs.Names.{most};
 ghost use Rattle.monk_history.specs.Text.{Heading};
 ghost use Rattle.monk_history.specs.Text.Device.{held, has_failed, reads_of};
 ghost use Rattle.monk_world.specs.declared.command.Command.{Command};
-ghost use Rattle.monk_world.specs.Play.Reading.{play};
 ghost use Rattle.monk_world.specs.Records.{AreToldIn};
 ghost use Rattle.monk.specs.Played.{IsPlayAnswer, IsAnswerTo, IsFoundLegal, IsPlayOf, IsPlayText, IsPlayed};
 ghost use Rattle.monk.specs.Played.{IsReported, IsReportedBy};
@@ -20,50 +19,41 @@ use crate::input::read_all;
 use crate::report::Report;
 use crate::tracing::put_trace;
 use monk_floor::MakeFault;
-use monk_history::{Device, Header, write};
+use monk_history::{Device, write};
 use monk_kinds::{Kind, KindName, Npb, Npir, Npis, Npnb, Npqb, Pb, Pir, Pis, Pnb, Pqb};
 use monk_object::{Book, Buffer, Guarded, ObjectFault, ObjectName, Shop};
-use monk_world::{Command, World, read_play};
+use monk_world::{PlayLines, World};
 use std::alloc::Global;
 use std::io::{Read, Write};
-
-/// A play that was read: what its first line says, and its commands.
-#[derive(Drop)]
-struct Script {
-    header: Header,
-    budget: u32,
-    commands: Vec<(u8, Command)>,
-}
 
 /// Plays the commands over the object, by the kind K, and writes what is to be told of it.
 fn play_as<K: Kind, T: Guarded, W: Write>(
     alloc: Global,
     report: Report,
     object: T,
-    script: &Script,
+    play: PlayLines<'_>,
     writer: &mut Device<W>,
 ) -> Result<(), StreamFault>
     requires works { has_failed writer.old ≡ false }
-    requires in_range { make_refusal script.now.header.seats script.now.header.conds script.now.budget ≡ None }
-    requires told { AreToldIn script.now.header.version script.now.commands.items }
+    requires in_range { make_refusal play.0.seats play.0.conds play.1 ≡ None }
+    requires told { AreToldIn play.0.version play.2 }
     ensures played { OnOk result
-        (IsReportedBy report K.rules T.meaning (T.state object) script.now.header script.now.budget
-        script.now.commands.items
+        (IsReportedBy report K.rules T.meaning (T.state object) play.entry.0 play.entry.1 play.entry.2
         (Appends (W.contents (held writer.old)) (W.contents (held writer.new)))) }
     ensures file { IsErrOf result StreamFault.File → has_failed writer.new ≡ true }
     ensures memory { IsErrOf result StreamFault.Memory → writer.new ≡ writer.old }
 {
-    let (seats, conds) = (script.header.seats(), script.header.conds());
-    match World::<K, T>::make(alloc, object, seats, conds, script.budget) {
+    let header = play.header();
+    match World::<K, T>::make(alloc, object, header.seats(), header.conds(), play.budget()) {
         Ok(mut world) => match report {
             Report::History => {
-                world.run(&script.commands);
-                match write(&script.header, world.history(), writer) {
+                world.run_lines(play);
+                match write(&header, world.history(), writer) {
                     Ok(()) => Ok(()),
                     Err(_) => Err(StreamFault::File),
                 }
             }
-            Report::Trace => put_trace(alloc, &mut world, &script.commands, writer),
+            Report::Trace => put_trace(alloc, &mut world, play, writer),
         },
         Err(MakeFault::Memory) => Err(StreamFault::Memory),
         Err(_) => unreachable!(),
@@ -75,30 +65,29 @@ fn play_named<T: Guarded, W: Write>(
     alloc: Global,
     report: Report,
     object: T,
-    script: &Script,
+    play: PlayLines<'_>,
     writer: &mut Device<W>,
 ) -> Result<(), StreamFault>
     requires works { has_failed writer.old ≡ false }
-    requires in_range { make_refusal script.now.header.seats script.now.header.conds script.now.budget ≡ None }
-    requires told { AreToldIn script.now.header.version script.now.commands.items }
+    requires in_range { make_refusal play.0.seats play.0.conds play.1 ≡ None }
+    requires told { AreToldIn play.0.version play.2 }
     ensures played { OnOk result
-        (IsReportedBy report (rules_named script.now.header.kind) T.meaning (T.state object) script.now.header script.now.budget
-        script.now.commands.items
+        (IsReportedBy report (rules_named play.entry.0.kind) T.meaning (T.state object) play.entry.0 play.entry.1 play.entry.2
         (Appends (W.contents (held writer.old)) (W.contents (held writer.new)))) }
     ensures file { IsErrOf result StreamFault.File → has_failed writer.new ≡ true }
     ensures memory { IsErrOf result StreamFault.Memory → writer.new ≡ writer.old }
 {
-    match script.header.kind() {
-        KindName::Pb => play_as::<Pb, T, W>(alloc, report, object, script, writer),
-        KindName::Npb => play_as::<Npb, T, W>(alloc, report, object, script, writer),
-        KindName::Pnb => play_as::<Pnb, T, W>(alloc, report, object, script, writer),
-        KindName::Npnb => play_as::<Npnb, T, W>(alloc, report, object, script, writer),
-        KindName::Pqb => play_as::<Pqb, T, W>(alloc, report, object, script, writer),
-        KindName::Npqb => play_as::<Npqb, T, W>(alloc, report, object, script, writer),
-        KindName::Pir => play_as::<Pir, T, W>(alloc, report, object, script, writer),
-        KindName::Npir => play_as::<Npir, T, W>(alloc, report, object, script, writer),
-        KindName::Pis => play_as::<Pis, T, W>(alloc, report, object, script, writer),
-        KindName::Npis => play_as::<Npis, T, W>(alloc, report, object, script, writer),
+    match play.header().kind() {
+        KindName::Pb => play_as::<Pb, T, W>(alloc, report, object, play, writer),
+        KindName::Npb => play_as::<Npb, T, W>(alloc, report, object, play, writer),
+        KindName::Pnb => play_as::<Pnb, T, W>(alloc, report, object, play, writer),
+        KindName::Npnb => play_as::<Npnb, T, W>(alloc, report, object, play, writer),
+        KindName::Pqb => play_as::<Pqb, T, W>(alloc, report, object, play, writer),
+        KindName::Npqb => play_as::<Npqb, T, W>(alloc, report, object, play, writer),
+        KindName::Pir => play_as::<Pir, T, W>(alloc, report, object, play, writer),
+        KindName::Npir => play_as::<Npir, T, W>(alloc, report, object, play, writer),
+        KindName::Pis => play_as::<Pis, T, W>(alloc, report, object, play, writer),
+        KindName::Npis => play_as::<Npis, T, W>(alloc, report, object, play, writer),
     }
 }
 
@@ -106,57 +95,59 @@ fn play_named<T: Guarded, W: Write>(
 fn play_object<W: Write>(
     alloc: Global,
     report: Report,
-    script: &Script,
+    play: PlayLines<'_>,
     writer: &mut Device<W>,
 ) -> Result<(), StreamFault>
     requires works { has_failed writer.old ≡ false }
-    requires in_range { make_refusal script.now.header.seats script.now.header.conds script.now.budget ≡ None }
-    requires told { AreToldIn script.now.header.version script.now.commands.items }
-    requires size { script.now.header.size ≤ most script.now.header.object }
+    requires in_range { make_refusal play.0.seats play.0.conds play.1 ≡ None }
+    requires told { AreToldIn play.0.version play.2 }
+    requires size { play.0.size ≤ most play.0.object }
     ensures played { OnOk result
-        (IsReported report script.now.header script.now.budget script.now.commands.items
+        (IsReported report play.entry.0 play.entry.1 play.entry.2
         (Appends (W.contents (held writer.old)) (W.contents (held writer.new)))) }
     ensures file { IsErrOf result StreamFault.File → has_failed writer.new ≡ true }
     ensures memory { IsErrOf result StreamFault.Memory → writer.new ≡ writer.old }
 {
-    let size = script.header.size();
-    match script.header.object() {
+    let header = play.header();
+    let size = header.size();
+    match header.object() {
         ObjectName::Buffer => match Buffer::make(alloc, size) {
-            Ok(buffer) => play_named(alloc, report, buffer, script, writer),
+            Ok(buffer) => play_named(alloc, report, buffer, play, writer),
             Err(ObjectFault::Memory) => Err(StreamFault::Memory),
             Err(ObjectFault::Size) => unreachable!(),
         },
         ObjectName::Book => match Book::make(size) {
-            Ok(book) => play_named(alloc, report, book, script, writer),
+            Ok(book) => play_named(alloc, report, book, play, writer),
             Err(_) => unreachable!(),
         },
         ObjectName::Shop => match Shop::make(size) {
-            Ok(shop) => play_named(alloc, report, shop, script, writer),
+            Ok(shop) => play_named(alloc, report, shop, play, writer),
             Err(_) => unreachable!(),
         },
     }
 }
 
 /// Answers a play that was read.
-fn play<W: Write>(
+fn play_lines<W: Write>(
     alloc: Global,
     report: Report,
-    script: &Script,
+    play: PlayLines<'_>,
     writer: &mut Device<W>,
 ) -> Result<u8, StreamFault>
     requires works { has_failed writer.old ≡ false }
-    requires in_range { make_refusal script.now.header.seats script.now.header.conds script.now.budget ≡ None }
-    requires told { AreToldIn script.now.header.version script.now.commands.items }
+    requires in_range { make_refusal play.0.seats play.0.conds play.1 ≡ None }
+    requires told { AreToldIn play.0.version play.2 }
     ensures answer { IfOk result
-        (λ status. IsPlayAnswer report (play script.now.header script.now.budget script.now.commands.items) status
+        (λ status. IsPlayAnswer report play.entry status
         (Appends (W.contents (held writer.old)) (W.contents (held writer.new)))) }
     ensures file { IsErrOf result StreamFault.File → has_failed writer.new ≡ true }
     ensures memory { IsErrOf result StreamFault.Memory → writer.new ≡ writer.old }
 {
-    if script.header.size() > script.header.object().greatest_size() {
+    let header = play.header();
+    if header.size() > header.object().greatest_size() {
         return put(&too_big(alloc)?, writer);
     }
-    play_object(alloc, report, script, writer)?;
+    play_object(alloc, report, play, writer)?;
     Ok(0)
 }
 
@@ -173,15 +164,8 @@ pub(crate) fn play_text<W: Write>(
     ensures file { IsErrOf result StreamFault.File → has_failed writer.new ≡ true }
     ensures memory { IsErrOf result StreamFault.Memory → writer.new ≡ writer.old }
 {
-    match read_play(alloc, bytes) {
-        Ok((header, budget, commands)) => {
-            let script = Script {
-                header,
-                budget,
-                commands,
-            };
-            play(alloc, report, &script, writer)
-        }
+    match PlayLines::check(bytes) {
+        Ok(play) => play_lines(alloc, report, play, writer),
         Err(fault) => put(&unreadable(alloc, fault)?, writer),
     }
 }
@@ -199,8 +183,9 @@ pub(crate) fn play_text<W: Write>(
 ///
 /// # Cost
 ///
-/// One pass over the text and one over the commands, each taking a time that doesn't grow with the history; memory for
-/// the text, the commands, and as many events as the budget leaves to all seats together.
+/// Two passes over the text, one that looks for its first fault and one that carries out each command as it is read, in a
+/// time that doesn't grow with the history; memory for the text, and for as many events as the budget leaves to all seats
+/// together.
 pub fn play_stream<R: Read, W: Write>(
     alloc: Global,
     reader: &mut Device<R>,

@@ -17,7 +17,7 @@ use crate::report::Report;
 use monk_history::Device;
 use monk_kinds::Kind;
 use monk_object::Guarded;
-use monk_world::{Answer, Command, World};
+use monk_world::{Answer, Command, PlayLines, World};
 use std::alloc::{AllocError, Global};
 use std::fmt;
 use std::io::{Read, Write};
@@ -126,21 +126,34 @@ fn lines_of<K: Kind, T: Guarded>(
     Ok(page)
 }
 
-/// Carries out the commands in order, and writes the lines of all of them.
+/// The commands that are left of a play.
+fn commands_of(alloc: Global, play: PlayLines<'_>) -> Result<Vec<(u8, Command)>, AllocError>
+    ensures { IfOk result (λ v. v.items ≡ play.entry.2) }
+{
+    let mut play = play;
+    let mut commands = Vec::new(alloc);
+    while let Some(told) = play.next() {
+        commands.push(told)?;
+    }
+    Ok(commands)
+}
+
+/// Carries out the commands of the play in order, and writes the lines of all of them.
 pub(crate) fn put_trace<K: Kind, T: Guarded, W: Write>(
     alloc: Global,
     world: &mut World<K, T>,
-    commands: &[(u8, Command)],
+    play: PlayLines<'_>,
     writer: &mut Device<W>,
 ) -> Result<(), StreamFault>
     requires works { has_failed writer.old ≡ false }
     ensures traced { OnOk result
-        ((text : List ℕ) × (AreTraced K.rules T.meaning 0 (state_of_view world.old) commands.now (state_of_view world.new) text
+        ((text : List ℕ) × (AreTraced K.rules T.meaning 0 (state_of_view world.old) play.entry.2 (state_of_view world.new) text
         × Appends (W.contents (held writer.old)) (W.contents (held writer.new)) text)) }
     ensures file { IsErrOf result StreamFault.File → has_failed writer.new ≡ true }
     ensures memory { IsErrOf result StreamFault.Memory → writer.new ≡ writer.old }
 {
-    let page = lines_of(alloc, world, commands)?;
+    let commands = commands_of(alloc, play)?;
+    let page = lines_of(alloc, world, &commands)?;
     match writer.write_all(page.as_bytes()) {
         Ok(()) => Ok(()),
         Err(_) => Err(StreamFault::File),
@@ -167,8 +180,8 @@ pub(crate) fn put_trace<K: Kind, T: Guarded, W: Write>(
 ///
 /// # Cost
 ///
-/// That of [`play_stream`](crate::play_stream), and for each command a line with the place of each seat; memory for all lines
-/// beside that of the play.
+/// That of [`play_stream`](crate::play_stream), and for each command a line with the place of each seat; memory for the
+/// list of commands and for all lines beside that of the play.
 pub fn trace_stream<R: Read, W: Write>(
     alloc: Global,
     reader: &mut Device<R>,
