@@ -1,0 +1,5 @@
+pub mod Layout
+pub mod Label
+pub mod Mark
+pub mod Window
+pub mod Picture

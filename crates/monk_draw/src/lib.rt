@@ -1,0 +1,20 @@
+//! A picture of a history.
+#![tactic(auto)]
+
+mod hand;
+mod label;
+mod layout;
+mod legend;
+mod mark;
+mod picture;
+mod place;
+mod scene;
+mod seats;
+mod stretch;
+mod style;
+mod surface;
+mod view;
+mod window;
+
+pub use picture::draw;
+pub use window::MOST_SHOWN;

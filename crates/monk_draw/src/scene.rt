@@ -1,0 +1,151 @@
+//! What stands behind the marks of the events: stretches and arrows.
+
+ghost use Rattle.std.specs.Prelude.{◌≤◌, length};
+
+use crate::hand::{Hand, goes_on, put_hand};
+use crate::layout::{COLUMN, LEFT, column_at, lane_of};
+use crate::legend::Legend;
+use crate::place::Place;
+use crate::seats::{Seats, Stay};
+use crate::stretch::{Stretch, put_stretch};
+use crate::view::View;
+use monk_history::{Event, Via};
+use std::alloc::AllocError;
+
+/// Where the event stands, behind which a seat came to where it is: at the left edge, if it is not shown.
+fn start_of(view: View, stay: Stay) -> u64 {
+    if stay.since > view.before {
+        let column = stay.since - view.before - 1;
+        match u32::try_from(column) {
+            Ok(column) => column_at(column),
+            Err(_) => LEFT,
+        }
+    } else {
+        LEFT
+    }
+}
+
+/// Puts the stretch of a seat up to there.
+fn put_stay(
+    page: &mut String,
+    legend: &mut Legend,
+    view: View,
+    seat: u8,
+    stay: Stay,
+    to: u64,
+) -> Result<(), AllocError> {
+    legend.note(stay.place);
+    let stretch = Stretch {
+        lane: seat,
+        place: stay.place,
+        from: start_of(view, stay),
+        to,
+    };
+    put_stretch(page, stretch)
+}
+
+/// Puts the stretches that end where the seats move from `old` to `new`.
+fn put_changes(
+    page: &mut String,
+    legend: &mut Legend,
+    view: View,
+    old: &Seats,
+    new: &Seats,
+    x: u64,
+) -> Result<(), AllocError> {
+    for seat in 0..view.seats {
+        let stay = old.stay(seat);
+        if stay.place != new.stay(seat).place {
+            put_stay(page, legend, view, seat, stay, x)?;
+        }
+    }
+    Ok(())
+}
+
+/// Puts how a seat that was handed the monitor waited at the entry.
+fn put_entry(
+    page: &mut String,
+    legend: &mut Legend,
+    view: View,
+    event: Event,
+    x: u64,
+) -> Result<(), AllocError> {
+    let Event::Enter(seat, Via::Handed) = event else {
+        return Ok(());
+    };
+    legend.note(Place::Entry);
+    let from = x.saturating_sub(COLUMN);
+    let stretch = Stretch {
+        lane: lane_of(view.seats, seat),
+        place: Place::Entry,
+        from: if from < LEFT { LEFT } else { from },
+        to: x,
+    };
+    put_stretch(page, stretch)
+}
+
+/// Puts the stretches that last to the end.
+fn put_last(
+    page: &mut String,
+    legend: &mut Legend,
+    view: View,
+    seats: &Seats,
+    end: u64,
+) -> Result<(), AllocError> {
+    for seat in 0..view.seats {
+        put_stay(page, legend, view, seat, seats.stay(seat), end)?;
+    }
+    Ok(())
+}
+
+/// Puts the stretches of all seats over the allowed events that are shown, from where they were before, up to the end.
+pub(crate) fn put_stretches(
+    page: &mut String,
+    legend: &mut Legend,
+    view: View,
+    seats: Seats,
+    events: &[Event],
+    end: u64,
+) -> Result<(), AllocError>
+    requires few { length events.now ≤ 33554432 }
+{
+    let mut seats = seats;
+    for (column, event) in events.iter().enumerate() {
+        let old = seats;
+        let x = column_at(column as u32);
+        seats.follow(*event, view.before.saturating_add(column).saturating_add(1));
+        put_entry(page, legend, view, *event, x)?;
+        put_changes(page, legend, view, &old, &seats, x)?;
+    }
+    put_last(page, legend, view, &seats, end)
+}
+
+/// Puts an arrow for each event that hands the monitor to another seat.
+pub(crate) fn put_hands(
+    page: &mut String,
+    view: View,
+    events: &[Event],
+    allowed: usize,
+) -> Result<(), AllocError>
+    requires few { length events.now ≤ 33554432 }
+{
+    for (column, event) in events.iter().enumerate() {
+        let after = if column + 1 < events.len() {
+            Some(events[column + 1])
+        } else {
+            None
+        };
+        if let Some(seat) = goes_on(*event, after) {
+            let start = column_at(column as u32);
+            let hand = Hand {
+                class: if column < allowed { "hand" } else { "wish" },
+                from: lane_of(view.seats, event.seat()),
+                to: lane_of(view.seats, seat),
+                start,
+                end: start + COLUMN - 6,
+            };
+            put_hand(page, hand)?;
+        }
+    }
+    Ok(())
+}

@@ -1,0 +1,129 @@
+//! The paper with its lanes, columns and words.
+
+ghost use Rattle.std.specs.Prelude.{◌≤◌};
+
+use crate::layout::{COLUMN, LANE, LEFT, column_at, lane_at, lane_of};
+use crate::view::View;
+use monk_history::{Event, Header};
+use std::alloc::AllocError;
+
+/// How large a picture is.
+#[derive(Clone, Copy)]
+pub(crate) struct Surface {
+    /// How many columns there are.
+    pub(crate) columns: u32,
+    /// How many lanes there are.
+    pub(crate) lanes: u8,
+}
+
+impl Surface {
+    /// Where the last column ends.
+    pub(crate) fn end(self) -> u64 {
+        LEFT + COLUMN * u64::from(self.columns)
+    }
+
+    fn width(self) -> u64 {
+        let width = self.end();
+        if width < 720 {
+            760
+        } else {
+            width.saturating_add(40)
+        }
+    }
+
+    /// The line below the last lane.
+    pub(crate) fn base(self) -> u64
+        ensures some { 31 ≤ result }
+        ensures few { result ≤ 20000 }
+    {
+        lane_at(self.lanes)
+    }
+
+    /// Puts how the picture begins.
+    pub(crate) fn put_head(self, page: &mut String) -> Result<(), AllocError> {
+        let (width, height) = (self.width(), self.base() + 70);
+        write!(
+            page,
+            "<svg xmlns=\"http://www.w3.org/2000/svg\" role=\"img\" "
+        )?;
+        write!(
+            page,
+            "viewBox=\"0 0 {width} {height}\" width=\"{width}\" height=\"{height}\">\n"
+        )?;
+        page.push_str("<title>The history of a monitor</title>\n")
+    }
+
+    /// Puts the paper.
+    pub(crate) fn put_paper(self, page: &mut String) -> Result<(), AllocError> {
+        page.push_str("<rect class=\"paper\" width=\"100%\" height=\"100%\"/>\n")
+    }
+
+    /// Puts a thin line for each column.
+    pub(crate) fn put_columns(self, page: &mut String) -> Result<(), AllocError> {
+        let foot = self.base() - LANE / 2;
+        for column in 0..self.columns {
+            let x = column_at(column);
+            write!(
+                page,
+                "<line class=\"grid\" x1=\"{x}\" x2=\"{x}\" y1=\"68\" y2=\"{foot}\"/>\n"
+            )?;
+        }
+        Ok(())
+    }
+
+    /// Puts a rail for each lane, with its seat.
+    pub(crate) fn put_lanes(self, page: &mut String, seats: u8) -> Result<(), AllocError> {
+        let end = self.end();
+        for lane in 0..self.lanes {
+            let y = lane_at(lane);
+            write!(
+                page,
+                "<line class=\"rail\" x1=\"{LEFT}\" x2=\"{end}\" y1=\"{y}\" y2=\"{y}\"/>\n"
+            )?;
+            let base = y + 4;
+            if lane < seats {
+                write!(page, "<text x=\"16\" y=\"{base}\">seat {lane}</text>\n")?;
+            } else {
+                write!(page, "<text x=\"16\" y=\"{base}\">no seat</text>\n")?;
+            }
+        }
+        Ok(())
+    }
+}
+
+/// Puts what the history is of: its kind, its seats, its conditions and its object.
+pub(crate) fn put_heading(page: &mut String, header: &Header) -> Result<(), AllocError> {
+    let (seats, conds, size) = (header.seats(), header.conds(), header.size());
+    let kind = str::from_utf8(header.kind().text()).unwrap_or("");
+    let object = str::from_utf8(header.object().text()).unwrap_or("");
+    write!(
+        page,
+        "<text class=\"head\" x=\"16\" y=\"28\">{kind}</text>\n"
+    )?;
+    write!(
+        page,
+        "<text class=\"soft\" x=\"{LEFT}\" y=\"28\">{seats} seats, {conds} "
+    )?;
+    write!(page, "conditions, {object} of {size}</text>\n")
+}
+
+/// Puts a frame round the event in this column, and why it is forbidden.
+pub(crate) fn put_frame(
+    page: &mut String,
+    view: View,
+    column: u32,
+    event: Event,
+    step: u32,
+    reason: &str,
+) -> Result<(), AllocError> {
+    let x = column_at(column) - 33;
+    let y = lane_at(lane_of(view.seats, event.seat())) - 31;
+    write!(
+        page,
+        "<rect class=\"frame\" x=\"{x}\" y=\"{y}\" width=\"66\" height=\"62\" rx=\"6\"/>\n"
+    )?;
+    write!(
+        page,
+        "<text class=\"wrong\" x=\"300\" y=\"28\">forbidden {step}: {reason}</text>\n"
+    )
+}
