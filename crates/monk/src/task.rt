@@ -2,6 +2,7 @@ ghost use Rattle.std.specs.Prelude.{◌≡◌, ◌≤◌, false, IfOk};
 ghost use Rattle.monk_history.specs.Text.Device.{has_failed};
 
 use crate::auditing::audit_stream;
+use crate::drawing::draw_stream;
 use crate::fault::StreamFault;
 use crate::fitting::fit_stream;
 use crate::playing::play_stream;
@@ -19,6 +20,7 @@ pub(crate) enum Task {
     Upgrade,
     Fit,
     Trace,
+    Draw,
 }
 
 impl Task {
@@ -39,6 +41,7 @@ impl Task {
             Task::Upgrade => upgrade_stream(alloc, reader, writer),
             Task::Fit => fit_stream(alloc, reader, writer),
             Task::Trace => trace_stream(alloc, reader, writer),
+            Task::Draw => draw_stream(alloc, reader, writer),
         }
     }
 }

@@ -53,3 +53,13 @@ returns-in_ok-file_of-in-Some-trace-default c =
       values = sym (first_value-rows found (codes "FILE")) ∙ sym c.in_ok-file_of-in-Some-trace-default.ensures;
       in_range = tt;
     })
+
+pub returns-in_ok-file_of-in-Some-draw-default : goal.returns-in_ok-file_of-in-Some-draw-default
+returns-in_ok-file_of-in-Some-draw-default c =
+    let found = found_of c.in-Some-draw-default.draw.now in
+    asked_in (subcommand_rows_of c.args.matches.now) (codes "draw") (rows_of found) _ (search rules)
+    (sym c.in-Some-draw-default.ensures.rows) (record {
+      command = refl;
+      values = sym (first_value-rows found (codes "FILE")) ∙ sym c.in_ok-file_of-in-Some-draw-default.ensures;
+      in_range = tt;
+    })

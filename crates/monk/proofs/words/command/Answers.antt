@@ -24,12 +24,14 @@ returns c =
     ∙ ap (λ (a : App). with_subcommand a (file_app (codes "fit")).top) upgrade_is in
     let trace_is = c.in_ok-trace.ensures _ _ c.in_ok-subcommand-6.ensures
     ∙ ap (λ (a : App). with_subcommand a (file_app (codes "trace")).top) fit_is in
+    let draw_is = c.in_ok-draw.ensures _ _ c.in_ok-subcommand-7.ensures
+    ∙ ap (λ (a : App). with_subcommand a (file_app (codes "draw")).top) trace_is in
     let run = c.in_ok-run.ensures in
-    let run_is = run.is _ _ c.in_ok-subcommand-7.ensures
-    ∙ ap (λ (a : App). with_subcommand a (run_app (codes "run") run.names).top) trace_is in
+    let run_is = run.is _ _ c.in_ok-subcommand-8.ensures
+    ∙ ap (λ (a : App). with_subcommand a (run_app (codes "run") run.names).top) draw_is in
     let recorded = c.in_ok-record.ensures in
-    IfOk-weaker c.subcommand-8.result _ _ (λ r h. record {
+    IfOk-weaker c.subcommand-9.result _ _ (λ r h. record {
       run = run.names;
       recorded = recorded.names;
       is = recorded.is _ _ h ∙ ap (λ (a : App). with_subcommand a (run_app (codes "record") recorded.names).top) run_is;
-    }) c.subcommand-8.ensures
+    }) c.subcommand-9.ensures
