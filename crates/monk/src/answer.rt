@@ -90,8 +90,7 @@ fn fault_word(number: u8) -> &'static str
     }
 }
 
-/// The word of a reason.
-pub(crate) fn reason_word(reason: u8) -> &'static str
+fn reason_word(reason: u8) -> &'static str
     ensures { result.now ≡ reason_word reason }
 {
     match reason {

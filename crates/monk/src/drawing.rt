@@ -7,7 +7,7 @@ ghost use Rattle.monk.specs.Answer.{answer_of, verdict_answer};
 ghost use Rattle.monk.specs.Drawn.{IsDrawingOf, IsDrawn, IsPictureBy, forbidden_step};
 ghost use Rattle.monk.specs.Streams.{IsYoung, IsPastBound};
 
-use crate::answer::{put, reason_word, too_big, unreadable};
+use crate::answer::{put, too_big, unreadable};
 use crate::fault::StreamFault;
 use crate::input::read_all;
 use monk_audit::{AuditFault, Verdict, audit};
@@ -26,11 +26,23 @@ fn forbidden_step(verdict: Verdict) -> Option<u32>
     }
 }
 
-/// Why it does.
-fn word_of(verdict: Verdict) -> &'static str {
+/// Why a step is forbidden, as a picture says it.
+fn why(reason: u8) -> &'static str {
+    match reason {
+        Verdict::RANGE => "range, a number that the monitor doesn't have",
+        Verdict::CALL => "call, this kind has no such call",
+        Verdict::TURN => "turn, it is not this seat's turn",
+        Verdict::PLACE => "place, this seat may not come in here",
+        Verdict::REPLY => "reply, the object replies otherwise",
+        _ => "choice, this kind lets another seat go on",
+    }
+}
+
+/// Why the verdict forbids one.
+fn why_of(verdict: Verdict) -> &'static str {
     match verdict {
         Verdict::Legal(_) => "",
-        Verdict::Forbidden { reason, .. } => reason_word(reason),
+        Verdict::Forbidden { reason, .. } => why(reason),
     }
 }
 
@@ -64,7 +76,7 @@ fn put_picture<W: Write>(
         header,
         events,
         forbidden_step(verdict),
-        word_of(verdict),
+        why_of(verdict),
     )?;
     match writer.write_all(page.as_bytes()) {
         Ok(()) => Ok(status_of(verdict)),

@@ -69,15 +69,20 @@ event_text (SignalWait s c d n) =
     codes "signal-wait " ++ (decimal s ++ (codes " " ++ (decimal c ++ (codes " " ++ (decimal d
     ++ (codes " " ++ next_text n))))))
 
--- the number or numbers that belong to it: what was put and replied, its condition or predicate
+-- what an act was called with, unless that is 0, and its reply
+abbrev pub act_note : ℕ → ℕ → List ℕ
+act_note arg reply =
+    if arg == 0 then codes "replied " ++ decimal reply else decimal arg ++ (codes ", replied " ++ decimal reply)
+
+-- the numbers or the word that belong to it: those of its act, its condition or predicate, where it comes from
 abbrev pub event_note : Event → List ℕ
 event_note (Enter s via) = via_word via
-event_note (Act s op reply) = codes "replied " ++ decimal reply
+event_note (Act s op reply) = act_note op.arg reply
 event_note (Leave s n) = []
 event_note (Wait s c n) = codes "c" ++ decimal c
 event_note (Signal s c n) = codes "c" ++ decimal c
 event_note (SignalLeave s c n) = codes "c" ++ decimal c
 event_note (Until s p n) = codes "p" ++ decimal p
-event_note (Resume s q) = codes "from " ++ from_word q
+event_note (Resume s q) = from_word q
 event_note (SignalAll s c) = codes "c" ++ decimal c
 event_note (SignalWait s c d n) = codes "c" ++ (decimal c ++ (codes ", c" ++ decimal d))

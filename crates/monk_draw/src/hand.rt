@@ -4,14 +4,13 @@ use crate::layout::lane_at;
 use monk_history::{Event, Next, Via};
 use std::alloc::AllocError;
 
-/// An arrow from lane to lane.
+/// An arrow from lane to lane, behind the event in the column whose middle is `x`.
 #[derive(Clone, Copy)]
 pub(crate) struct Hand {
     pub(crate) class: &'static str,
     pub(crate) from: u8,
     pub(crate) to: u8,
-    pub(crate) start: u64,
-    pub(crate) end: u64,
+    pub(crate) x: u64,
 }
 
 /// The seat that goes on after the event: the one that it chose, or who comes in by the next event because it was handed the
@@ -29,21 +28,24 @@ pub(crate) fn goes_on(event: Event, after: Option<Event>) -> Option<u8> {
     }
 }
 
-/// Puts the arrow; none from a lane to itself.
+/// Puts the arrow, between the words of its column and those of the next one; none from a lane to itself.
 pub(crate) fn put_hand(page: &mut String, hand: Hand) -> Result<(), AllocError> {
     if hand.from == hand.to {
         return Ok(());
     }
-    let (top, foot) = (lane_at(hand.from), lane_at(hand.to));
-    let (leave, bend, swing, reach) = if hand.from < hand.to {
-        (top + 10, top + 34, foot - 34, foot - 12)
+    let (leave, reach) = (lane_at(hand.from), lane_at(hand.to));
+    let (bend, tip) = if hand.from < hand.to {
+        (leave + 10, reach - 10)
     } else {
-        (top - 10, top - 34, foot + 34, foot + 12)
+        (leave - 10, reach + 10)
     };
-    let (class, start, end) = (hand.class, hand.start, hand.end);
+    let (class, start, swing, end) = (hand.class, hand.x + 6, hand.x + 40, hand.x + 44);
     write!(
         page,
-        "<path class=\"{class}\" marker-end=\"url(#tip)\" d=\"M{start} {leave}"
+        "<path class=\"{class}\" marker-end=\"url(#{class}-tip)\" "
     )?;
-    write!(page, "C{start} {bend} {end} {swing} {end} {reach}\"/>\n")
+    write!(
+        page,
+        "d=\"M{start} {leave}C{swing} {leave} {end} {bend} {end} {tip}\"/>\n"
+    )
 }

@@ -2,7 +2,7 @@
 
 ghost use Rattle.std.specs.Prelude.{◌≡◌, ◌++◌, OnOk, string_bytes};
 ghost use Rattle.monk_history.specs.Text.{via_word, from_word};
-ghost use Rattle.monk_draw.specs.Label.{act_word, event_note, event_text, event_word};
+ghost use Rattle.monk_draw.specs.Label.{act_note, act_word, event_note, event_text, event_word};
 
 use monk_history::{Event, From3, Via};
 use monk_object::{Book, Buffer, ObjectName, Shop};
@@ -86,20 +86,31 @@ pub(crate) fn put_text(page: &mut String, event: Event) -> Result<(), AllocError
     }
 }
 
+/// Puts what an act was called with, unless that is 0, and its reply.
+fn put_reply(page: &mut String, arg: u32, reply: u64) -> Result<(), AllocError>
+    ensures { OnOk result (string_bytes page.new ≡ string_bytes page.old ++ act_note arg reply) }
+{
+    if arg == 0 {
+        write!(page, "replied {reply}")
+    } else {
+        write!(page, "{arg}, replied {reply}")
+    }
+}
+
 /// Puts the numbers that belong to the event.
 pub(crate) fn put_note(page: &mut String, event: Event) -> Result<(), AllocError>
     ensures { OnOk result (string_bytes page.new ≡ string_bytes page.old ++ event_note event) }
 {
     match event {
         Event::Enter(_, via) => page.push_str(via_word(via)),
-        Event::Act(_, _, reply) => write!(page, "replied {reply}"),
+        Event::Act(_, op, reply) => put_reply(page, op.arg, reply),
         Event::Leave(..) => Ok(()),
         Event::Wait(_, cond, _)
         | Event::Signal(_, cond, _)
         | Event::SignalLeave(_, cond, _)
         | Event::SignalAll(_, cond) => write!(page, "c{cond}"),
         Event::Until(_, pred, _) => write!(page, "p{pred}"),
-        Event::Resume(_, queue) => write!(page, "from {}", from_word(queue)),
+        Event::Resume(_, queue) => page.push_str(from_word(queue)),
         Event::SignalWait(_, cond, wait_cond, _) => write!(page, "c{cond}, c{wait_cond}"),
     }
 }

@@ -14,6 +14,7 @@ pub(crate) struct Legend {
     waiter: bool,
     signaller: bool,
     until: bool,
+    hand: bool,
 }
 
 impl Legend {
@@ -26,7 +27,13 @@ impl Legend {
             waiter: false,
             signaller: false,
             until: false,
+            hand: false,
         }
+    }
+
+    /// An arrow too.
+    pub(crate) fn note_hand(&mut self) {
+        self.hand = true;
     }
 
     /// That place too.
@@ -66,37 +73,57 @@ const PLACES: [Place; 7] = [
     Place::Outside,
 ];
 
-/// Puts a sample of the place with its words, at that place of the legend, four in a row.
-fn put_entry(page: &mut String, place: Place, at: u8, top: u64) -> Result<(), AllocError>
+/// Puts where an entry of the legend begins, four of them in a row.
+fn put_corner(page: &mut String, at: u8, top: u64) -> Result<(), AllocError>
     requires { top ≤ 100000 }
 {
     let (x, y) = (16 + 180 * u64::from(at % 4), top + 22 * u64::from(at / 4));
-    if place == Place::Outside {
-        let (end, middle) = (x + 22, y + 6);
-        write!(page, "<line class=\"rail\" x1=\"{x}\" x2=\"{end}\" ")?;
-        write!(page, "y1=\"{middle}\" y2=\"{middle}\"/>\n")?;
-    } else {
-        let class = place.class();
-        write!(page, "<rect class=\"{class}\" x=\"{x}\" y=\"{y}\" ")?;
-        write!(page, "width=\"22\" height=\"12\" rx=\"3\"/>\n")?;
-    }
-    let (behind, base, words) = (x + 28, y + 10, place.words());
+    write!(page, "<g transform=\"translate({x} {y})\">")
+}
+
+/// Puts what an entry says, and its end.
+fn put_words(page: &mut String, words: &str) -> Result<(), AllocError> {
     write!(
         page,
-        "<text class=\"soft\" x=\"{behind}\" y=\"{base}\">{words}</text>\n"
+        "<text class=\"soft\" x=\"28\" y=\"10\">{words}</text></g>\n"
     )
 }
 
-/// Puts the legend of the places that occur.
+/// Puts a sample of the place, and its words.
+fn put_place(page: &mut String, place: Place) -> Result<(), AllocError> {
+    if place == Place::Outside {
+        page.push_str("<path class=\"rail\" d=\"M0 6h22\"/>")?;
+    } else {
+        let class = place.class();
+        write!(
+            page,
+            "<rect class=\"{class}\" width=\"22\" height=\"12\" rx=\"3\"/>"
+        )?;
+    }
+    put_words(page, place.words())
+}
+
+/// Puts a sample of an arrow, and its words.
+fn put_hand(page: &mut String) -> Result<(), AllocError> {
+    page.push_str("<path class=\"hand\" marker-end=\"url(#hand-tip)\" d=\"M0 6h20\"/>")?;
+    put_words(page, "goes on by a release")
+}
+
+/// Puts the legend of what occurs.
 pub(crate) fn put_legend(page: &mut String, legend: Legend, top: u64) -> Result<(), AllocError>
     requires { top ≤ 100000 }
 {
     let mut at: u8 = 0;
     for place in PLACES.iter() {
         if legend.has(*place) {
-            put_entry(page, *place, at, top)?;
+            put_corner(page, at, top)?;
+            put_place(page, *place)?;
             at = at.saturating_add(1);
         }
+    }
+    if legend.hand {
+        put_corner(page, at, top)?;
+        put_hand(page)?;
     }
     Ok(())
 }

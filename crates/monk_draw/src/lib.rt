@@ -1,6 +1,7 @@
 //! A picture of a history.
 #![tactic(auto)]
 
+mod frame;
 mod hand;
 mod label;
 mod layout;

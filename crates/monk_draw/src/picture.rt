@@ -3,13 +3,13 @@
 ghost use Rattle.std.specs.Prelude.{◌≤◌, ◌^◌, IfOk, length, string_bytes};
 ghost use Rattle.monk_draw.specs.Picture.{HasMarks};
 
-use crate::layout::column_at;
+use crate::frame::{put_caption, put_frame};
 use crate::legend::{Legend, put_legend};
 use crate::mark::put_marks;
 use crate::scene::{put_hands, put_stretches};
 use crate::seats::seats_behind;
 use crate::style::put_style;
-use crate::surface::{Surface, put_frame, put_heading};
+use crate::surface::{Surface, put_heading};
 use crate::view::View;
 use crate::window::{not_shown, shown_last};
 use monk_history::{Event, Header};
@@ -77,16 +77,11 @@ fn put_front(
         &shown[..allowed],
         surface.end(),
     )?;
-    put_hands(page, view, shown, allowed)?;
+    put_hands(page, &mut legend, view, shown, allowed)?;
+    surface.put_tags(page, view.seats)?;
     if is_forbidden {
-        put_frame(
-            page,
-            view,
-            allowed as u32,
-            shown[allowed],
-            last as u32,
-            reason,
-        )?;
+        put_frame(page, view, allowed as u32, shown[allowed])?;
+        put_caption(page, allowed as u32, last as u32, reason)?;
     }
     put_legend(page, legend, surface.base())
 }

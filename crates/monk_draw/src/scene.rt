@@ -123,6 +123,7 @@ pub(crate) fn put_stretches(
 /// Puts an arrow for each event that hands the monitor to another seat.
 pub(crate) fn put_hands(
     page: &mut String,
+    legend: &mut Legend,
     view: View,
     events: &[Event],
     allowed: usize,
@@ -136,13 +137,14 @@ pub(crate) fn put_hands(
             None
         };
         if let Some(seat) = goes_on(*event, after) {
-            let start = column_at(column as u32);
+            if column < allowed {
+                legend.note_hand();
+            }
             let hand = Hand {
                 class: if column < allowed { "hand" } else { "wish" },
                 from: lane_of(view.seats, event.seat()),
                 to: lane_of(view.seats, seat),
-                start,
-                end: start + COLUMN - 6,
+                x: column_at(column as u32),
             };
             put_hand(page, hand)?;
         }

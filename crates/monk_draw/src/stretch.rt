@@ -1,6 +1,6 @@
 //! The stretches of the seats.
 
-use crate::layout::lane_at;
+use crate::layout::{COLUMN, lane_at};
 use crate::place::Place;
 use std::alloc::AllocError;
 
@@ -13,9 +13,20 @@ pub(crate) struct Stretch {
     pub(crate) to: u64,
 }
 
-/// Puts the condition or the predicate that is waited for, in the middle of the stretch.
+/// Where the condition or the predicate stands: behind the arrow that may begin with the stretch, in front of the next
+/// column.
+fn what_at(stretch: Stretch) -> u64 {
+    let width = stretch.to.saturating_sub(stretch.from);
+    if width < COLUMN {
+        stretch.from.saturating_add(width / 2)
+    } else {
+        stretch.from.saturating_add(60)
+    }
+}
+
+/// Puts the condition or the predicate that is waited for.
 fn put_what(page: &mut String, stretch: Stretch) -> Result<(), AllocError> {
-    let x = stretch.from + stretch.to.saturating_sub(stretch.from) / 2;
+    let x = what_at(stretch);
     let y = lane_at(stretch.lane) + 4;
     match stretch.place {
         Place::Condition(cond) => {

@@ -9,10 +9,12 @@ text { fill: #1f2933; }
 .head { font-size: 15px; font-weight: 600; }
 .soft, .note, .step { fill: #5d6975; font-size: 11px; }
 .act, .what { font-size: 11px; }
-.act, .note, .step, .what { text-anchor: middle; }
+.act, .note, .step, .what, .tag { text-anchor: middle; }
 .act, .note, .what { stroke: #fff; stroke-width: 3; paint-order: stroke; }
-.what { font-weight: 600; }
-.wrong { fill: #c53030; font-weight: 600; }
+.what, .tag, .wrong { font-weight: 600; }
+.tag { font-size: 10px; stroke: #fff; stroke-width: 6; stroke-linejoin: round; paint-order: stroke; }
+.wrong { fill: #c53030; }
+.far { text-anchor: end; }
 ";
 
 /// Of what is drawn.
@@ -26,26 +28,23 @@ const SHAPES: &str = ".paper { fill: #fff; }
 .signaller { fill: url(#signaller); stroke: #6b46c1; }
 .until { fill: url(#until); stroke: #0f766e; }
 .mark circle { fill: #fff; stroke: #1f2933; stroke-width: 1.4; }
-.hand { stroke: #1f2933; fill: none; stroke-width: 1.4; }
-.tip { fill: #1f2933; }
-.frame { stroke: #c53030; fill: none; stroke-width: 2.2; }
-.wish { stroke: #c53030; fill: none; stroke-width: 1.4; stroke-dasharray: 5 3; }
+.hand, .wish, .frame { fill: none; stroke-width: 1.6; }
+.hand { stroke: #1f2933; }
+.hand-tip { fill: #1f2933; }
+.frame, .wish { stroke: #c53030; }
+.wish { stroke-dasharray: 5 3; }
+.wish-tip { fill: #c53030; }
 ";
 
 /// In the dark.
 const DARK: &str = "@media (prefers-color-scheme: dark) {
 text { fill: #e6ebf0; } .soft, .note, .step { fill: #a3afbb; }
-.act, .note { stroke: #12171d; } .what { fill: #1f2933; } .wrong { fill: #fc8181; } .paper { fill: #12171d; }
+.act, .note, .what, .tag { stroke: #12171d; } .wrong, .wish-tip { fill: #fc8181; } .paper { fill: #12171d; }
 .grid { stroke: #232b34; } .rail { stroke: #4a5663; } .active { fill: #5b93f0; }
-.hand { stroke: #e6ebf0; } .tip { fill: #e6ebf0; }
+.back { fill-opacity: .16; } .hand { stroke: #e6ebf0; } .hand-tip { fill: #e6ebf0; }
 .frame, .wish { stroke: #fc8181; }
 }
 </style>
-";
-
-/// The tip of an arrow.
-const TIP: &str = "<marker id=\"tip\" markerWidth=\"8\" markerHeight=\"8\" refX=\"7\" refY=\"4\" \
-orient=\"auto\"><path class=\"tip\" d=\"M0 0L8 4L0 8z\"/></marker>
 ";
 
 /// Puts a hatching: stripes of a colour on another, turned by so many degrees.
@@ -61,10 +60,26 @@ fn put_hatching(
         page,
         "patternUnits=\"userSpaceOnUse\" patternTransform=\"rotate({turn})\">"
     )?;
-    write!(page, "<rect width=\"6\" height=\"6\" fill=\"{back}\"/>")?;
+    write!(
+        page,
+        "<rect class=\"back\" width=\"6\" height=\"6\" fill=\"{back}\"/>"
+    )?;
     write!(
         page,
         "<rect width=\"2.4\" height=\"6\" fill=\"{stripe}\"/></pattern>\n"
+    )
+}
+
+/// Puts the tip of an arrow.
+fn put_tip(page: &mut String, name: &str) -> Result<(), AllocError> {
+    write!(
+        page,
+        "<marker id=\"{name}\" markerWidth=\"8\" markerHeight=\"8\" markerUnits=\"userSpaceOnUse\" "
+    )?;
+    page.push_str("refX=\"6\" refY=\"4\" orient=\"auto\">")?;
+    write!(
+        page,
+        "<path class=\"{name}\" d=\"M0 0L8 4L0 8z\"/></marker>\n"
     )
 }
 
@@ -79,6 +94,7 @@ pub(crate) fn put_style(page: &mut String) -> Result<(), AllocError> {
     put_hatching(page, "waiter", "#e0f5e8", "#68c08b", 90)?;
     put_hatching(page, "signaller", "#efe8fb", "#a78bda", 135)?;
     put_hatching(page, "until", "#ddf3f1", "#5bb8b0", 20)?;
-    page.push_str(TIP)?;
+    put_tip(page, "hand-tip")?;
+    put_tip(page, "wish-tip")?;
     page.push_str("</defs>\n")
 }

@@ -2,10 +2,12 @@
 
 ghost use Rattle.std.specs.Prelude.{◌≤◌};
 
-use crate::layout::{COLUMN, LANE, LEFT, column_at, lane_at, lane_of};
-use crate::view::View;
-use monk_history::{Event, Header};
+use crate::layout::{COLUMN, LANE, LEFT, column_at, lane_at};
+use monk_history::Header;
 use std::alloc::AllocError;
+
+/// The most columns of which all are seen at once.
+const NARROW: u32 = 20;
 
 /// How large a picture is.
 #[derive(Clone, Copy)]
@@ -17,17 +19,17 @@ pub(crate) struct Surface {
 }
 
 impl Surface {
-    /// Where the last column ends.
+    /// Where the lanes end, a little behind the last column.
     pub(crate) fn end(self) -> u64 {
-        LEFT + COLUMN * u64::from(self.columns)
+        LEFT + COLUMN * u64::from(self.columns) + 16
     }
 
     fn width(self) -> u64 {
         let width = self.end();
-        if width < 720 {
+        if width < 744 {
             760
         } else {
-            width.saturating_add(40)
+            width.saturating_add(16)
         }
     }
 
@@ -71,6 +73,32 @@ impl Surface {
         Ok(())
     }
 
+    /// Puts the number of each seat once more, at the left edge of a column.
+    fn put_tags_at(self, page: &mut String, seats: u8, column: u32) -> Result<(), AllocError> {
+        let x = LEFT + COLUMN * u64::from(column);
+        for seat in 0..seats {
+            let y = lane_at(seat) + 4;
+            write!(
+                page,
+                "<text class=\"tag\" x=\"{x}\" y=\"{y}\">{seat}</text>\n"
+            )?;
+        }
+        Ok(())
+    }
+
+    /// Puts the numbers of the seats once more at each tenth column of a wide picture, for who looks at a part of it.
+    pub(crate) fn put_tags(self, page: &mut String, seats: u8) -> Result<(), AllocError> {
+        if self.columns <= NARROW {
+            return Ok(());
+        }
+        for column in 1..self.columns {
+            if column % 10 == 0 {
+                self.put_tags_at(page, seats, column)?;
+            }
+        }
+        Ok(())
+    }
+
     /// Puts a rail for each lane, with its seat.
     pub(crate) fn put_lanes(self, page: &mut String, seats: u8) -> Result<(), AllocError> {
         let end = self.end();
@@ -91,6 +119,11 @@ impl Surface {
     }
 }
 
+/// The ending of a word of which there are so many.
+fn plural(number: u8) -> &'static str {
+    if number == 1 { "" } else { "s" }
+}
+
 /// Puts what the history is of: its kind, its seats, its conditions and its object.
 pub(crate) fn put_heading(page: &mut String, header: &Header) -> Result<(), AllocError> {
     let (seats, conds, size) = (header.seats(), header.conds(), header.size());
@@ -100,30 +133,13 @@ pub(crate) fn put_heading(page: &mut String, header: &Header) -> Result<(), Allo
         page,
         "<text class=\"head\" x=\"16\" y=\"28\">{kind}</text>\n"
     )?;
+    let (more_seats, more_conds) = (plural(seats), plural(conds));
     write!(
         page,
-        "<text class=\"soft\" x=\"{LEFT}\" y=\"28\">{seats} seats, {conds} "
-    )?;
-    write!(page, "conditions, {object} of {size}</text>\n")
-}
-
-/// Puts a frame round the event in this column, and why it is forbidden.
-pub(crate) fn put_frame(
-    page: &mut String,
-    view: View,
-    column: u32,
-    event: Event,
-    step: u32,
-    reason: &str,
-) -> Result<(), AllocError> {
-    let x = column_at(column) - 33;
-    let y = lane_at(lane_of(view.seats, event.seat())) - 31;
-    write!(
-        page,
-        "<rect class=\"frame\" x=\"{x}\" y=\"{y}\" width=\"66\" height=\"62\" rx=\"6\"/>\n"
+        "<text class=\"soft\" x=\"{LEFT}\" y=\"28\">{seats} seat{more_seats}, "
     )?;
     write!(
         page,
-        "<text class=\"wrong\" x=\"300\" y=\"28\">forbidden {step}: {reason}</text>\n"
+        "{conds} condition{more_conds}, {object} of {size}</text>\n"
     )
 }
