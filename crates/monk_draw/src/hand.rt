@@ -1,16 +1,16 @@
 //! The arrows from a release to the seat that goes on by it.
 
-use crate::layout::lane_at;
+use crate::layout::{column_at, lane_at};
 use monk_history::{Event, Next, Via};
 use std::alloc::AllocError;
 
-/// An arrow from lane to lane, behind the event in the column whose middle is `x`.
+/// An arrow from lane to lane, behind the event in that column.
 #[derive(Clone, Copy)]
 pub(crate) struct Hand {
     pub(crate) class: &'static str,
     pub(crate) from: u8,
     pub(crate) to: u8,
-    pub(crate) x: u64,
+    pub(crate) column: u32,
 }
 
 /// The seat that goes on after the event: the one that it chose, or who comes in by the next event because it was handed the
@@ -39,7 +39,8 @@ pub(crate) fn put_hand(page: &mut String, hand: Hand) -> Result<(), AllocError> 
     } else {
         (leave - 10, reach + 10)
     };
-    let (class, start, swing, end) = (hand.class, hand.x + 6, hand.x + 40, hand.x + 44);
+    let (class, x) = (hand.class, column_at(hand.column));
+    let (start, swing, end) = (x + 6, x + 40, x + 44);
     write!(
         page,
         "<path class=\"{class}\" marker-end=\"url(#{class}-tip)\" "

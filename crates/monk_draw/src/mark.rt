@@ -1,6 +1,7 @@
 //! The marks of events.
 
 ghost use Rattle.std.specs.Prelude.{◌≡◌, ◌≤◌, ◌+◌, ◌++◌, OnOk, length, string_bytes};
+ghost use Rattle.monk_history.specs.Limits.{most_lines};
 ghost use Rattle.monk_draw.specs.Mark.{dot, dot_at, mark, marks, note_below, step_text, title, word_above, words};
 
 use crate::label::{event_word, put_note, put_text};
@@ -78,7 +79,7 @@ fn put_words(page: &mut String, view: View, event: Event) -> Result<(), AllocErr
 
 /// Puts the mark of the event in this column.
 fn put_mark(page: &mut String, view: View, column: u32, event: Event) -> Result<(), AllocError>
-    requires few { view.before + column ≤ 33554432 }
+    requires few { view.before + column ≤ most_lines }
     ensures { OnOk result (string_bytes page.new ≡ string_bytes page.old ++ mark view column event) }
 {
     let step = view.before + column as usize + 1;
@@ -90,7 +91,7 @@ fn put_mark(page: &mut String, view: View, column: u32, event: Event) -> Result<
 
 /// Puts the marks of the events in order, the first of them in the first column.
 pub(crate) fn put_marks(page: &mut String, view: View, events: &[Event]) -> Result<(), AllocError>
-    requires few { view.before + length events.now ≤ 33554432 }
+    requires few { view.before + length events.now ≤ most_lines }
     ensures { OnOk result (string_bytes page.new ≡ string_bytes page.old ++ marks view 0 events.now) }
 {
     for (column, event) in events.iter().enumerate() {

@@ -1,6 +1,7 @@
 //! The picture of a history.
 
-ghost use Rattle.std.specs.Prelude.{◌≤◌, ◌^◌, IfOk, length, string_bytes};
+ghost use Rattle.std.specs.Prelude.{◌≤◌, IfOk, length, string_bytes};
+ghost use Rattle.monk_history.specs.Limits.{most_lines};
 ghost use Rattle.monk_draw.specs.Picture.{HasMarks};
 
 use crate::frame::{put_caption, put_frame};
@@ -25,7 +26,7 @@ fn is_last(forbidden: Option<u32>, last: usize) -> bool {
 
 /// Which lanes and columns there are: one lane for each seat, and one for a forbidden event of no seat.
 fn surface_of(view: View, shown: &[Event]) -> Surface
-    requires few { length shown.now ≤ 33554432 }
+    requires few { length shown.now ≤ most_lines }
 {
     let mut lanes = view.seats;
     if let Some(event) = shown.last() {
@@ -51,7 +52,7 @@ fn put_front(
 ) -> Result<(), AllocError>
     requires before { view.before ≤ last }
     requires last { last ≤ length events.now }
-    requires few { length events.now ≤ 2 ^ 25 }
+    requires few { length events.now ≤ most_lines }
 {
     let shown = &events[view.before..last];
     let surface = surface_of(view, shown);
@@ -106,7 +107,7 @@ pub fn draw(
     forbidden: Option<u32>,
     reason: &str,
 ) -> Result<String, AllocError>
-    requires few { length events.now ≤ 2 ^ 25 }
+    requires few { length events.now ≤ most_lines }
     // Behind everything else stand the marks of the events that are shown, in order, and the end.
     ensures marks { IfOk result (λ page. HasMarks header.now events.now forbidden (string_bytes page)) }
 {

@@ -1,6 +1,7 @@
 //! What stands behind the marks of the events: stretches and arrows.
 
 ghost use Rattle.std.specs.Prelude.{◌≤◌, length};
+ghost use Rattle.monk_history.specs.Limits.{most_lines};
 
 use crate::hand::{Hand, goes_on, put_hand};
 use crate::layout::{COLUMN, LEFT, column_at, lane_of};
@@ -107,7 +108,7 @@ pub(crate) fn put_stretches(
     events: &[Event],
     end: u64,
 ) -> Result<(), AllocError>
-    requires few { length events.now ≤ 33554432 }
+    requires few { length events.now ≤ most_lines }
 {
     let mut seats = seats;
     for (column, event) in events.iter().enumerate() {
@@ -128,7 +129,7 @@ pub(crate) fn put_hands(
     events: &[Event],
     allowed: usize,
 ) -> Result<(), AllocError>
-    requires few { length events.now ≤ 33554432 }
+    requires few { length events.now ≤ most_lines }
 {
     for (column, event) in events.iter().enumerate() {
         let after = if column + 1 < events.len() {
@@ -144,7 +145,7 @@ pub(crate) fn put_hands(
                 class: if column < allowed { "hand" } else { "wish" },
                 from: lane_of(view.seats, event.seat()),
                 to: lane_of(view.seats, seat),
-                x: column_at(column as u32),
+                column: column as u32,
             };
             put_hand(page, hand)?;
         }
