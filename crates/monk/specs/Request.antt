@@ -67,12 +67,16 @@ IsSubcommand c a = (old new : Command) → AddsSubcommand old c new → app_of n
 abbrev pub bare_app : App
 bare_app = record (new_app (codes "monk")) { top = record (new_app (codes "monk")).top { has_version = true; subcommand_required = true } }
 
+-- with the commands that take no sample, and with all
+abbrev pub plain_app : App
+plain_app =
+    with_subcommand (with_subcommand (with_subcommand (with_subcommand (with_subcommand (with_subcommand
+    (with_subcommand bare_app classify_app.top) (file_app (codes "audit")).top) (file_app (codes "play")).top)
+    (file_app (codes "upgrade")).top) (file_app (codes "fit")).top) (file_app (codes "trace")).top) (file_app (codes "draw")).top
+
 abbrev pub monk_app : RunNames → RunNames → App
 monk_app run recorded =
-    with_subcommand (with_subcommand (with_subcommand (with_subcommand (with_subcommand (with_subcommand
-    (with_subcommand (with_subcommand (with_subcommand bare_app classify_app.top) (file_app (codes "audit")).top)
-    (file_app (codes "play")).top) (file_app (codes "upgrade")).top) (file_app (codes "fit")).top)
-    (file_app (codes "trace")).top) (file_app (codes "draw")).top) (run_app (codes "run") run).top) (run_app (codes "record") recorded).top
+    with_subcommand (with_subcommand plain_app (run_app (codes "run") run).top) (run_app (codes "record") recorded).top
 
 -- the command line of the program
 pub record IsMonk (a : App) : Type 0 where

@@ -155,6 +155,7 @@ pub fn draw_stream<R: Read, W: Write>(
     // The status is that of an audit.
     ensures status { IfOk result
         (λ status. IfSome (R.remaining (held reader.old)) (λ input. status ≡ (answer_of input).status)) }
+    ensures statuses { IfOk result (λ status. status ≤ 2) }
     ensures all_read { OnOk result (IsAtEnd (R.remaining (held reader.new))) }
 
     ensures file { IsErrOf result StreamFault.File → IsYoung reader.old → (has_failed reader.new ≡ true)

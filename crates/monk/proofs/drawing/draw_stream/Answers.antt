@@ -3,7 +3,7 @@ use Rattle.std.specs.Prelude.{IfSome}
 use Rattle.std.specs.Io.KnownBytes.{Appends}
 use Rattle.std.proofs.lemmas.Result.{IfOk-weaker}
 use Rattle.monk_history.specs.Text.Device.{held}
-use Rattle.monk.proofs.Drawings.{drawn_known, status_known}
+use Rattle.monk.proofs.Drawings.{drawn_known, few_statuses, status_known}
 use Rattle.monk.proofs.drawing.draw_stream.Goals as goal
 
 pub returns-clause-answer : goal.returns-clause-answer
@@ -25,3 +25,8 @@ returns-clause-status g c =
     (subst (λ (bytes : List ℕ). IfSome known (λ input. bytes ≡ input)) (sym c.deref.ensures.value)
     c.in_ok-bytes.ensures.bytes) a)
     c.draw_text.ensures.answer
+
+pub returns-clause-statuses : goal.returns-clause-statuses
+returns-clause-statuses g c =
+    let puts = Appends (g.W.Write.contents (held c.args.writer.now)) (g.W.Write.contents (held c.draw_text.new.writer)) in
+    IfOk-weaker c.draw_text.result _ _ (λ status a. few_statuses c.deref.result.now status puts a) c.draw_text.ensures.answer
