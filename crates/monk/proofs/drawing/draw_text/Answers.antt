@@ -6,8 +6,8 @@ use Rattle.monk.proofs.drawing.draw_text.Goals as goal
 pub returns-in-Ok-clause-answer : goal.returns-in-Ok-clause-answer
 returns-in-Ok-clause-answer g c =
     IfOk-weaker c.draw_history.result _ _ (λ status a.
-    drawn_read c.args.bytes.now c.in-Ok.header c.in-Ok.events.items c.deref.result.now status _
-    c.in-Ok.ensures'.exact c.deref.ensures.value a)
+    drawn_read c.args.bytes.now _ _ c.deref.result.now status _
+    c.in-Ok.ensures.exact c.deref.ensures.value a)
     c.draw_history.ensures.answer
 
 pub returns-in_ok-unreadable-in-Err-clause-answer : goal.returns-in_ok-unreadable-in-Err-clause-answer
