@@ -2,7 +2,7 @@
 ghost use Rattle.std.specs.Prelude.{◌<◌};
 
 use crate::task::Task;
-use crate::{StreamFault, classify_stream, run_stream};
+use crate::{StreamFault, classify_stream, draw_stream, run_stream};
 use monk_history::Device;
 use monk_kinds::KindName;
 use monk_samples::Sample;
@@ -12,14 +12,14 @@ use std::process::Abort;
 use std::test::Fail;
 
 /// An input, what is made of it, and what is answered.
-struct Job {
+struct Job<'a> {
     task: Task,
     input: &'static [u8],
     status: u8,
-    answer: &'static [u8],
+    answer: &'a [u8],
 }
 
-static JOBS: [Job; 6] = [
+static JOBS: [Job<'static>; 7] = [
     Job {
         task: Task::Audit,
         input: b"monk 1 PB 2 2 buffer 1\nenter 0 free\nwait 0 1 entry\nenter 1 free\nsignal 1 1 waiter 0\nresume 0 waiter\nleave 0 signaller 1\nresume 1 signaller\nleave 1 entry\n",
@@ -49,6 +49,12 @@ static JOBS: [Job; 6] = [
         input: b"monk 1 PB 1 0 buffer 1\nenter 0 free\nleave 0 entry\n",
         status: 0,
         answer: b"PB legal 2\nNPB legal 2\nPNB legal 2\nNPNB legal 2\nPQB legal 2\nNPQB legal 2\nPIR legal 2\nNPIR legal 2\nPIS legal 2\nNPIS legal 2\n",
+    },
+    Job {
+        task: Task::Draw,
+        input: b"monk 1 PB 1 0 buffer 1\nenter 0 free\nleave +0 entry\n",
+        status: 2,
+        answer: b"unreadable 3 3 number\n",
     },
     Job {
         task: Task::Trace,
@@ -117,7 +123,7 @@ impl Write for Tight {
 }
 
 /// Whether it is the file fault, with what a writer took by then, or the answer, once no call fails.
-fn is_due(told: Result<u8, StreamFault>, taken: &[u8], job: &Job, fails: bool) -> bool {
+fn is_due(told: Result<u8, StreamFault>, taken: &[u8], job: &Job<'_>, fails: bool) -> bool {
     if fails {
         told == Err(StreamFault::File) && job.answer.starts_with(taken)
     } else {
@@ -126,7 +132,7 @@ fn is_due(told: Result<u8, StreamFault>, taken: &[u8], job: &Job, fails: bool) -
 }
 
 /// Each read fails in turn, up to the one that finds the end; then none does.
-fn reads_fail<R: Abort + AllocGlobal>(rt: &R, job: &Job, step: usize) -> Result<(), Fail>
+fn reads_fail<R: Abort + AllocGlobal>(rt: &R, job: &Job<'_>, step: usize) -> Result<(), Fail>
     requires { 0 < step }
 {
     let alloc = rt.alloc();
@@ -165,7 +171,7 @@ fn reads_fail_in_turn(rt: HostRuntime) -> Result<(), Fail> {
 /// Each write fails in turn, and takes none of its bytes; then none fails.
 fn writes_fail<R: Abort + AllocGlobal>(
     rt: &R,
-    job: &Job,
+    job: &Job<'_>,
     step: usize,
     refuses: bool,
 ) -> Result<(), Fail>
@@ -206,6 +212,27 @@ fn writes_fail_in_turn(rt: HostRuntime) -> Result<(), Fail> {
             writes_fail(&rt, job, step, false)?;
             writes_fail(&rt, job, step, true)?;
         }
+    }
+    Ok(())
+}
+
+/// A picture is some 4000 bytes; what they are, a first one tells.
+#[test]
+fn pictures_fail_in_turn(rt: HostRuntime) -> Result<(), Fail> {
+    let alloc = rt.alloc();
+    let input: &[u8] = b"monk 1 PB 1 0 buffer 1\nenter 0 free\nleave 0 entry\n";
+    let mut page = Vec::new(alloc);
+    let status = draw_stream(alloc, &mut Device::new(input), &mut Device::new(&mut page))?;
+    let job = Job {
+        task: Task::Draw,
+        input,
+        status,
+        answer: &page,
+    };
+    for step in [64usize, 4096] {
+        reads_fail(&rt, &job, step)?;
+        writes_fail(&rt, &job, step, false)?;
+        writes_fail(&rt, &job, step, true)?;
     }
     Ok(())
 }

@@ -84,6 +84,13 @@ static TRACED: Job = Job {
     answer: b"1 | 0 arrive | arrived 0 0 | t=1 n=1 | due\n2 | 0 out | now | t=1 n=1 | active\n3 | 0 leave waiter | chose entry | t=1 n=1 | back entry\n",
 };
 
+static NOT_DRAWN: Job = Job {
+    task: Task::Draw,
+    input: b"monk 1 PB 1 0 buffer 1\nenter 0 free\nstay 0\n",
+    status: 2,
+    answer: b"unreadable 3 2 word\n",
+};
+
 /// A writer that keeps nothing: it compares what it gets with what is still expected.
 #[derive(Drop)]
 struct Expected<'a> {
@@ -136,6 +143,63 @@ fn end_of(rt: &HostRuntime, job: &Job) -> Outcome {
         Err(StreamFault::Memory) if is_untouched => Outcome::Memory,
         _ => Outcome::Other,
     }
+}
+
+/// A writer that keeps nothing but how long what it got is, and whether that begins as a picture.
+#[derive(Drop)]
+struct Picture {
+    length: usize,
+    begins: bool,
+}
+
+impl Write for Picture {
+    fn write(&mut self, buf: &[u8]) -> io::Result<usize> {
+        if self.length == 0 {
+            self.begins = buf.starts_with(b"<svg ");
+        }
+        self.length = self.length.saturating_add(buf.len());
+        Ok(buf.len())
+    }
+
+    fn flush(&mut self) -> io::Result<()> {
+        Ok(())
+    }
+}
+
+/// The end of a drawing of three events, the last of which is forbidden.
+fn end_of_drawing(rt: &HostRuntime) -> Outcome {
+    let input: &[u8] = b"monk 1 PB 2 1 buffer 1\nenter 0 free\nwait 0 0 entry\nenter 0 free\n";
+    let mut picture = Picture {
+        length: 0,
+        begins: false,
+    };
+    let mut reader = Device::new(input);
+    let told = Task::Draw.stream(rt.alloc(), &mut reader, &mut Device::new(&mut picture));
+    match told {
+        Ok(1) if picture.begins => Outcome::Answered,
+        Err(StreamFault::Memory) if picture.length == 0 => Outcome::Memory,
+        _ => Outcome::Other,
+    }
+}
+
+#[test]
+fn drawn_with_ample_memory(rt: HostRuntime) {
+    assert_eq!(rt; end_of_drawing(&rt), Outcome::Answered);
+}
+
+#[test]
+fn drawn_or_refused_memory(rt: HostRuntime) {
+    assert_ne!(rt; end_of_drawing(&rt), Outcome::Other);
+}
+
+#[test]
+fn not_drawn_with_ample_memory(rt: HostRuntime) {
+    assert_eq!(rt; end_of(&rt, &NOT_DRAWN), Outcome::Answered);
+}
+
+#[test]
+fn not_drawn_or_refused_memory(rt: HostRuntime) {
+    assert_ne!(rt; end_of(&rt, &NOT_DRAWN), Outcome::Other);
 }
 
 #[test]
