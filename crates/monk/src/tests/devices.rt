@@ -12,6 +12,7 @@ use std::process::Abort;
 use std::test::Fail;
 
 /// An input, what is made of it, and what is answered.
+#[derive(Clone, Copy)]
 struct Job<'a> {
     task: Task,
     input: &'static [u8],

@@ -8,6 +8,7 @@ use std::process::Abort;
 use std::test::Fail;
 
 /// A text that is to be drawn, how many marks its picture has, and what is written in it.
+#[derive(Clone, Copy)]
 struct Drawing {
     header: &'static str,
     events: &'static str,
