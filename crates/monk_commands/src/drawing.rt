@@ -1,0 +1,169 @@
+//! The drawing stream: the text of a history in, a picture of it out.
+
+ghost use Rattle.std.specs.Prelude.{◌≡◌, ◌+◌, ◌≤◌, ◌^◌, ◌⊎◌, false, true, length, IfOk, OnOk, IfSome, IsErrOf};
+ghost use Rattle.std.specs.Io.KnownBytes.{Appends, IsAtEnd};
+ghost use Rattle.monk_history.specs.Text.Device.{held, has_failed, reads_of};
+ghost use Rattle.monk_commands.specs.Answer.{answer_of, verdict_answer};
+ghost use Rattle.monk_commands.specs.Drawn.{IsDrawingOf, IsDrawn, IsPictureBy, forbidden_step};
+ghost use Rattle.monk_commands.specs.Streams.{IsYoung, IsPastBound};
+
+use crate::answer::{put, too_big, unreadable};
+use crate::fault::StreamFault;
+use crate::input::read_all;
+use monk_audit::{AuditFault, Verdict, audit};
+use monk_draw::draw;
+use monk_history::{Device, Event, Header, read};
+use std::alloc::Global;
+use std::io::{Read, Write};
+
+/// The step that the verdict forbids.
+fn forbidden_step(verdict: Verdict) -> Option<u32>
+    ensures { result ≡ forbidden_step verdict }
+{
+    match verdict {
+        Verdict::Legal(_) => None,
+        Verdict::Forbidden { step, .. } => Some(step),
+    }
+}
+
+/// Why a step is forbidden, as a picture says it.
+fn why(reason: u8) -> &'static str {
+    match reason {
+        Verdict::RANGE => "range, a number that the monitor doesn't have",
+        Verdict::CALL => "call, this kind has no such call",
+        Verdict::TURN => "turn, it is not this seat's turn",
+        Verdict::PLACE => "place, this seat may not come in here",
+        Verdict::REPLY => "reply, the object replies otherwise",
+        _ => "choice, this kind lets another seat go on",
+    }
+}
+
+/// Why the verdict forbids one.
+fn why_of(verdict: Verdict) -> &'static str {
+    match verdict {
+        Verdict::Legal(_) => "",
+        Verdict::Forbidden { reason, .. } => why(reason),
+    }
+}
+
+fn status_of(verdict: Verdict) -> u8
+    ensures { result ≡ (verdict_answer verdict).status }
+{
+    match verdict {
+        Verdict::Legal(_) => 0,
+        Verdict::Forbidden { .. } => 1,
+    }
+}
+
+/// Writes the picture of a history on which there is this verdict.
+fn put_picture<W: Write>(
+    alloc: Global,
+    header: &Header,
+    events: &[Event],
+    verdict: Verdict,
+    writer: &mut Device<W>,
+) -> Result<u8, StreamFault>
+    requires works { has_failed writer.old ≡ false }
+    requires few { length events.now ≤ 2 ^ 25 }
+    ensures answer { IfOk result
+        (λ status. IsPictureBy verdict header.now events.now status
+        (Appends (W.contents (held writer.old)) (W.contents (held writer.new)))) }
+    ensures file { IsErrOf result StreamFault.File → has_failed writer.new ≡ true }
+    ensures memory { IsErrOf result StreamFault.Memory → writer.new ≡ writer.old }
+{
+    let page = draw(
+        alloc,
+        header,
+        events,
+        forbidden_step(verdict),
+        why_of(verdict),
+    )?;
+    match writer.write_all(page.as_bytes()) {
+        Ok(()) => Ok(status_of(verdict)),
+        Err(_) => Err(StreamFault::File),
+    }
+}
+
+/// Answers a history that was read.
+fn draw_history<W: Write>(
+    alloc: Global,
+    header: &Header,
+    events: &[Event],
+    writer: &mut Device<W>,
+) -> Result<u8, StreamFault>
+    requires works { has_failed writer.old ≡ false }
+    requires few { length events.now ≤ 2 ^ 25 }
+    ensures answer { IfOk result
+        (λ status. IsDrawn header.now events.now status
+        (Appends (W.contents (held writer.old)) (W.contents (held writer.new)))) }
+    ensures file { IsErrOf result StreamFault.File → has_failed writer.new ≡ true }
+    ensures memory { IsErrOf result StreamFault.Memory → writer.new ≡ writer.old }
+{
+    match audit(alloc, header, events) {
+        Ok(verdict) => put_picture(alloc, header, events, verdict, writer),
+        Err(AuditFault::Memory) => Err(StreamFault::Memory),
+        Err(AuditFault::Object) => put(&too_big(alloc)?, writer),
+    }
+}
+
+/// Answers a text.
+fn draw_text<W: Write>(
+    alloc: Global,
+    bytes: &[u8],
+    writer: &mut Device<W>,
+) -> Result<u8, StreamFault>
+    requires { has_failed writer.old ≡ false }
+    ensures answer { IfOk result
+        (λ status. IsDrawingOf bytes.now status (Appends (W.contents (held writer.old)) (W.contents (held writer.new)))) }
+    ensures file { IsErrOf result StreamFault.File → has_failed writer.new ≡ true }
+    ensures memory { IsErrOf result StreamFault.Memory → writer.new ≡ writer.old }
+{
+    match read(alloc, bytes) {
+        Ok((header, events)) => draw_history(alloc, &header, &events, writer),
+        Err(fault) => put(&unreadable(alloc, fault)?, writer),
+    }
+}
+
+/// Reads all of the reader, and writes a picture of its history, an SVG text that stands alone: a lane for each seat and a
+/// column for each event, where each seat was, and who went on by a release. The first forbidden event is framed, with
+/// its reason, and what comes behind it is not shown. Of a longer history the last 200 events up to it are shown, or up to
+/// the end. The status is that of an audit: 0 where the history is legal, else 1.
+///
+/// Where the reader has no text of a history, the line `unreadable LINE NUMBER WORD` is written with status 2, and where the
+/// size is above the object's greatest, `object` with status 2.
+///
+/// # Errors
+///
+/// [`StreamFault::File`] where the reader or the writer failed, or where the input has more than 2^31 bytes or takes
+/// more than 2^31 reads. [`StreamFault::Memory`] where a growth was refused.
+///
+/// # Cost
+///
+/// One pass over the text and two over the events; memory for the text, for the events and for the picture.
+pub fn draw_stream<R: Read, W: Write>(
+    alloc: Global,
+    reader: &mut Device<R>,
+    writer: &mut Device<W>,
+) -> Result<u8, StreamFault>
+    requires reader_works { has_failed reader.old ≡ false }
+    requires writer_works { has_failed writer.old ≡ false }
+
+    // What is written, and its status, are the answer to what the reader had: of a history a picture with its marks.
+    ensures answer { IfOk result
+        (λ status. IfSome (R.remaining (held reader.old))
+        (λ input. IsDrawingOf input status (Appends (W.contents (held writer.old)) (W.contents (held writer.new))))) }
+    // The status is that of an audit.
+    ensures status { IfOk result
+        (λ status. IfSome (R.remaining (held reader.old)) (λ input. status ≡ (answer_of input).status)) }
+    ensures statuses { IfOk result (λ status. status ≤ 2) }
+    ensures all_read { OnOk result (IsAtEnd (R.remaining (held reader.new))) }
+
+    ensures file { IsErrOf result StreamFault.File → IsYoung reader.old → (has_failed reader.new ≡ true)
+        ⊎ (has_failed writer.new ≡ true) ⊎ IsPastBound reader.old reader.new }
+    // Where memory is told for, no call has failed, and nothing was written.
+    ensures memory { IsErrOf result StreamFault.Memory → (has_failed reader.new ≡ false) × (writer.new ≡ writer.old) }
+    ensures reads { reads_of reader.new ≤ reads_of reader.old + 2 ^ 31 }
+{
+    let bytes = read_all(alloc, reader)?;
+    draw_text(alloc, &bytes, writer)
+}
