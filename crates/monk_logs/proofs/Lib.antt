@@ -1,1 +1,2 @@
 mod LogLaws
+mod CourseLaws
