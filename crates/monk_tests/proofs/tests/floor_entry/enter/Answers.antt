@@ -3,7 +3,7 @@ use Rattle.monk_history.specs.Meaning.Signallers.{is_empty}
 use Rattle.monk_history.specs.Meaning.Turn.{turn}
 use Rattle.monk_history.specs.declared.event.Turn.TheVariants.{Open}
 use Rattle.monk_tests.proofs.Calls.{may_be_first, may_be_handed}
-use Rattle.monk_tests.proofs.tests.random_calls.enter.Goals as goal
+use Rattle.monk_tests.proofs.tests.floor_entry.enter.Goals as goal
 
 pub enter-requires-clause-call : goal.enter-requires-clause-call
 enter-requires-clause-call g c κs within =
