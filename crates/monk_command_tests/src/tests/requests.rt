@@ -1,0 +1,117 @@
+use monk_commands::{Line, LineFault, classify_stream, line};
+use monk_history::Device;
+use monk_kinds::KindName;
+use monk_samples::Sample;
+use std::alloc::Global;
+use std::test::Fail;
+
+/// Whether the line is for that task, over that file or standard input.
+fn asks_for(line: &Line, command: &str, file: Option<&str>) -> bool {
+    let (found, name) = match line {
+        Line::Audit(name) => ("audit", name),
+        Line::Play(name) => ("play", name),
+        Line::Upgrade(name) => ("upgrade", name),
+        Line::Fit(name) => ("fit", name),
+        Line::Trace(name) => ("trace", name),
+        Line::Classify(..) | Line::Run(..) | Line::Record(..) => return false,
+    };
+    let same = match (name, file) {
+        (Some(name), Some(file)) => name.as_str() == file,
+        (None, None) => true,
+        _ => false,
+    };
+    found == command && same
+}
+
+#[test]
+fn words_that_ask(rt: HostRuntime) -> Result<(), Fail> {
+    let alloc = rt.alloc();
+    for command in ["audit", "play", "upgrade", "fit", "trace"] {
+        let bare = line(alloc, &["monk", command])?;
+        assert!(rt; asks_for(&bare, command, None), "{command}");
+        let named = line(alloc, &["monk", command, "x.text"])?;
+        assert!(rt; asks_for(&named, command, Some("x.text")), "{command}");
+    }
+    let classify = line(alloc, &["monk", "classify", "3", "0", "255"])?;
+    assert!(rt; matches!(&classify, Line::Classify(3, 0, 255)));
+    Ok(())
+}
+
+#[test]
+fn words_that_ask_for_a_run(rt: HostRuntime) -> Result<(), Fail> {
+    let alloc = rt.alloc();
+    for kind in KindName::ALL {
+        let name = str::from_utf8(kind.text())?;
+        let least = line(alloc, &["monk", "run", name, "book", "2", "1"])?;
+        assert!(rt; matches!(&least, Line::Run(found, Sample::Book, 2, 1) if *found == kind));
+    }
+    let most = line(alloc, &["monk", "run", "PIR", "shop", "16", "1000"])?;
+    assert!(rt; matches!(&most, Line::Run(KindName::Pir, Sample::Shop, 16, 1000)));
+    let buffer = line(alloc, &["monk", "run", "NPQB", "buffer", "8", "100"])?;
+    assert!(rt; matches!(&buffer, Line::Run(KindName::Npqb, Sample::Buffer, 8, 100)));
+    let record = line(alloc, &["monk", "record", "PNB", "shop", "3", "7"])?;
+    assert!(rt; matches!(&record, Line::Record(KindName::Pnb, Sample::Shop, 3, 7)));
+    Ok(())
+}
+
+/// Whether the words are refused with a text.
+fn is_refused(alloc: Global, words: &[&str]) -> bool {
+    match line(alloc, words) {
+        Err(LineFault::Words(text)) => !text.is_empty(),
+        _ => false,
+    }
+}
+
+#[test]
+fn words_that_ask_for_nothing(rt: HostRuntime) {
+    let alloc = rt.alloc();
+    assert!(rt; is_refused(alloc, &["monk", "adit"]));
+    assert!(rt; is_refused(alloc, &["monk", "help"]));
+    assert!(rt; is_refused(alloc, &["monk", "--help"]));
+    assert!(rt; is_refused(alloc, &["monk", "--version"]));
+    assert!(rt; is_refused(alloc, &["monk"]));
+    assert!(rt; is_refused(alloc, &["monk", "audit", "a", "b"]));
+    assert!(rt; is_refused(alloc, &["monk", "play", "a", "b"]));
+    assert!(rt; is_refused(alloc, &["monk", "upgrade", "a", "b"]));
+    assert!(rt; is_refused(alloc, &["monk", "classify", "1", "2"]));
+    assert!(rt; is_refused(alloc, &["monk", "classify", "1", "2", "3", "4"]));
+    assert!(rt; is_refused(alloc, &["monk", "classify", "1", "2", "256"]));
+    assert!(rt; is_refused(alloc, &["monk", "classify", "1", "2", "x"]));
+}
+
+#[test]
+fn words_that_ask_for_no_run(rt: HostRuntime) {
+    let alloc = rt.alloc();
+    assert!(rt; is_refused(alloc, &["monk", "run", "ABC", "buffer", "8", "100"]));
+    assert!(rt; is_refused(alloc, &["monk", "run", "pb", "buffer", "8", "100"]));
+    assert!(rt; is_refused(alloc, &["monk", "run", "PB", "Buffer", "8", "100"]));
+    assert!(rt; is_refused(alloc, &["monk", "run", "PB", "queue", "8", "100"]));
+    assert!(rt; is_refused(alloc, &["monk", "run", "PB", "buffer", "1", "100"]));
+    assert!(rt; is_refused(alloc, &["monk", "run", "PB", "buffer", "17", "100"]));
+    assert!(rt; is_refused(alloc, &["monk", "run", "PB", "buffer", "258", "100"]));
+    assert!(rt; is_refused(alloc, &["monk", "run", "PB", "buffer", "8", "0"]));
+    assert!(rt; is_refused(alloc, &["monk", "run", "PB", "buffer", "8", "1001"]));
+    assert!(rt; is_refused(alloc, &["monk", "run", "PB", "buffer", "8"]));
+    assert!(rt; is_refused(alloc, &["monk", "run", "PB", "buffer", "8", "100", "1"]));
+    assert!(rt; is_refused(alloc, &["monk", "record", "PB", "buffer", "17", "100"]));
+    assert!(rt; is_refused(alloc, &["monk", "record", "PB", "buffer", "8", "1001"]));
+}
+
+#[test]
+fn priorities_have_an_ordering(rt: HostRuntime) -> Result<(), Fail> {
+    let alloc = rt.alloc();
+    for (priorities, wanted) in [
+        ((3u8, 1u8, 2u8), "Wp<Sp<Ep\nrejected\n"),
+        ((1, 3, 2), "Ep<Sp<Wp\nPB\n"),
+        ((7, 7, 7), "Ep=Wp=Sp\nNPQB\n"),
+        ((0, 255, 255), "Ep<Wp=Sp\nPQB\n"),
+        ((1, 0, 1), "Wp<Ep=Sp\nrejected\n"),
+    ] {
+        let mut page = Vec::new(alloc);
+        let mut writer = Device::new(&mut page);
+        let status = classify_stream(priorities.0, priorities.1, priorities.2, &mut writer)?;
+        assert_eq!(rt; status, 0);
+        assert!(rt; page.as_slice() == wanted.as_bytes());
+    }
+    Ok(())
+}

@@ -1,0 +1,111 @@
+-- Status 0 is answered exactly to the texts of legal histories, and 1 to those of histories with a first fault.
+use Rattle.std.proofs.Common.{◌≡◌, ℕ, ◌≤◌, ◌<◌, ◌^◌, Bool, true, false, cond, ltb, List, length, Option, Some, None}
+use Rattle.std.proofs.Common.{Result, Ok, Err, refl, sym, ap, subst, ◌∙◌, arith}
+use Rattle.std.specs.Prelude.{IfSome, ◌↔◌}
+use Rattle.std.proofs.lemmas.Bool.{ltb-false, le-ltb}
+use Rattle.monk_object.specs.Names.{most}
+use Rattle.monk_history.specs.declared.event.Event.{Event}
+use Rattle.monk_history.specs.declared.text.fault.ReadFault.{ReadFault}
+use Rattle.monk_history.specs.Text.{Heading}
+use Rattle.monk_history.specs.Text.Reading.{History, history, text_at}
+use Rattle.monk_history.specs.Meaning.Legal.{IsLegal}
+use Rattle.monk_history.specs.Meaning.Monitor.{Monitor}
+use Rattle.monk_history.specs.Meaning.Named.{named_monitor}
+use Rattle.monk_history.proofs.PublicLaws.Texts.{text_again, text_read}
+use Rattle.monk_audit.proofs.PublicLaws.{is_legal, is_fault, is_verdict}
+use Rattle.monk_audit.specs.Verdict.{IsVerdict, verdict_of}
+use Rattle.monk_history.specs.Text.Lines.{Gives}
+use Rattle.monk_audit.specs.Reading.{same, text_verdict}
+use Rattle.monk_audit.specs.declared.text_verdict.TextVerdict.{TextVerdict}
+use Rattle.monk_audit.specs.declared.verdict.Verdict.{Verdict}
+use Rattle.monk_audit.specs.declared.verdict.Verdict.TheVariants.{Legal, Forbidden}
+use Rattle.monk_commands.specs.Answer.{Answer, answer_of, reading_answer, too_big, verdict_answer}
+use Rattle.monk_commands.specs.Legal.{IsTextOf, IsLegalText, HasFault, IsForbiddenText}
+
+-- what an answer with status 0 or 1 says of the size and the verdict
+judged_by : (h : History) (b : Bool) (v : Verdict) (n : ℕ) → ltb (most h.0.object) h.0.size ≡ b
+    → (cond b too_big (verdict_answer v)).status ≡ n → n < 2 → (h.0.size ≤ most h.0.object)
+    × ((verdict_answer v).status ≡ n)
+judged_by h true v n is e l = absurd (omega (arith, l, e))
+judged_by h false v n is e l = (ltb-false _ _ is, e)
+
+zero_is : (m : Monitor) (h : List Event) (v : Verdict) → IsVerdict m h v → (verdict_answer v).status ≡ 0 → IsLegal m h
+zero_is m h (Legal n) w e = w.0
+zero_is m h (Forbidden s r) w e = absurd (omega (arith, e))
+
+one_is : (h : Heading) (es : List Event) (v : Verdict) → IsVerdict (named_monitor h) es v → (verdict_answer v).status ≡ 1 → HasFault h es
+one_is h es (Legal n) w e = absurd (omega (arith, e))
+one_is h es (Forbidden s r) w e = record { step = s; reason = r; first = w }
+
+text_is : (input : List ℕ) (x : History) → text_at (2 ^ 25) input ≡ Ok x → x.0.size ≤ most x.0.object → IsTextOf input x.0 x.1
+text_is input x is size =
+    let t = text_read (2 ^ 25) input x is in
+    record { has_text = t.has_text; few = t.few; whole = t.whole; size = size }
+
+legal_read : (input : List ℕ) (r : Result History ReadFault) → text_at (2 ^ 25) input ≡ r
+    → (reading_answer r).status ≡ 0 → IsLegalText input
+legal_read input (Ok x) is e =
+    let j = judged_by x (ltb (most x.0.object) x.0.size) (verdict_of (named_monitor x.0) x.1) 0 refl e (omega arith) in (
+      x.0,
+      (
+        x.1,
+        (
+          text_is input x is j.0,
+          zero_is (named_monitor x.0) x.1 (verdict_of (named_monitor x.0) x.1)
+              (is_verdict (named_monitor x.0) x.1) j.1,
+        ),
+      ),
+    )
+legal_read input (Err f) is e = absurd (omega (arith, e))
+
+forbidden_read : (input : List ℕ) (r : Result History ReadFault) → text_at (2 ^ 25) input ≡ r
+    → (reading_answer r).status ≡ 1 → IsForbiddenText input
+forbidden_read input (Ok x) is e =
+    let j = judged_by x (ltb (most x.0.object) x.0.size) (verdict_of (named_monitor x.0) x.1) 1 refl e (omega arith) in
+    (x.0, (x.1, (text_is input x is j.0, one_is x.0 x.1 (verdict_of (named_monitor x.0) x.1) (is_verdict (named_monitor x.0) x.1) j.1)))
+forbidden_read input (Err f) is e = absurd (omega (arith, e))
+
+-- the answer to the text of a history with that verdict
+answered_by : (input : List ℕ) (h : Heading) (es : List Event) (v : Verdict) → IsTextOf input h es
+    → verdict_of (named_monitor h) es ≡ v → answer_of input ≡ verdict_answer v
+answered_by input h es v t is =
+    let read_is : text_at (2 ^ 25) input ≡ Ok (history h es) = ap (text_at (2 ^ 25)) t.whole ∙ text_again (2 ^ 25) h es t.has_text t.few in
+    let size : ltb (most h.object) h.size ≡ false = le-ltb _ _ t.size in
+    subst (λ (r : Result History ReadFault). reading_answer r ≡ verdict_answer v) (sym read_is) (rw size (ap verdict_answer is))
+
+pub legal_found : (input : List ℕ) (h : Heading) (es : List Event) → IsTextOf input h es → IsLegal (named_monitor h) es
+    → answer_of input ≡ verdict_answer (Legal (length es))
+legal_found input h es t legal =
+    answered_by input h es (Legal (length es)) t
+    (is_legal (named_monitor h) es (verdict_of (named_monitor h) es) (is_verdict (named_monitor h) es) legal)
+
+legal_answer : (input : List ℕ) → IsLegalText input → (answer_of input).status ≡ 0
+legal_answer input t = ap (λ (a : Answer). a.status) (legal_found input t.0 t.1.0 t.1.1.0 t.1.1.1)
+
+forbidden_answer : (input : List ℕ) → IsForbiddenText input → (answer_of input).status ≡ 1
+forbidden_answer input t =
+    let f = t.1.1.1 in
+    ap (λ (a : Answer). a.status)
+    (answered_by input t.0 t.1.0 (Forbidden f.step f.reason) t.1.1.0
+    (is_fault (named_monitor t.0) t.1.0 (verdict_of (named_monitor t.0) t.1.0) f.step f.reason
+    (is_verdict (named_monitor t.0) t.1.0) f.first))
+
+-- the status that was given of what was found is that of the text
+pub status_is : (known : Option (List ℕ)) (found : Result TextVerdict ReadFault) (given status : ℕ) → status ≡ given
+    → IfSome known (λ input. Gives same found (text_verdict input))
+    → ((input : List ℕ) → Gives same found (text_verdict input) → given ≡ (answer_of input).status)
+    → IfSome known (λ input. status ≡ (answer_of input).status)
+status_is None found given status is gives says = tt
+status_is (Some input) found given status is gives says = is ∙ says input gives
+
+pub zero_exactly : (known : Option (List ℕ)) (status : ℕ) → IfSome known (λ input. status ≡ (answer_of input).status)
+    → IfSome known (λ input. (status ≡ 0) ↔ IsLegalText input)
+zero_exactly None status h = tt
+zero_exactly (Some input) status h =
+    (λ e. legal_read input (text_at (2 ^ 25) input) refl (sym h ∙ e), λ t. h ∙ legal_answer input t)
+
+pub one_exactly : (known : Option (List ℕ)) (status : ℕ) → IfSome known (λ input. status ≡ (answer_of input).status)
+    → IfSome known (λ input. (status ≡ 1) ↔ IsForbiddenText input)
+one_exactly None status h = tt
+one_exactly (Some input) status h =
+    (λ e. forbidden_read input (text_at (2 ^ 25) input) refl (sym h ∙ e), λ t. h ∙ forbidden_answer input t)

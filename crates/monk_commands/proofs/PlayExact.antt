@@ -1,0 +1,133 @@
+-- A play is played exactly where the bytes are its text, and what is written then.
+use Rattle.std.proofs.Common.{◌≡◌, ℕ, ◌≤◌, ◌^◌, ◌⊎◌, inl, inr, List, length, Option, Some, None, Result, Ok, Err}
+use Rattle.std.proofs.Common.{refl, sym, ap, subst, ◌∙◌, arith}
+use Rattle.std.specs.Prelude.{IfSome, ◌↔◌}
+use Rattle.monk_kinds.specs.declared.mode.Rules.{Rules}
+use Rattle.monk_object.specs.Object.{Object}
+use Rattle.monk_object.specs.Names.{most}
+use Rattle.monk_history.specs.declared.event.Event.{Event}
+use Rattle.monk_history.specs.declared.text.fault.ReadFault.{ReadFault}
+use Rattle.monk_history.specs.Meaning.Legal.{IsLegal}
+use Rattle.monk_history.specs.Meaning.Monitor.{Monitor, monitor}
+use Rattle.monk_history.specs.Text.{Heading, HasText, text}
+use Rattle.monk_world.specs.declared.command.Command.{Command}
+use Rattle.monk_world.specs.Play.Reading.{Play, play, play_at}
+use Rattle.monk_floor.specs.View.{monitor_of}
+use Rattle.monk_world.specs.Records.{IsRecordedBy}
+use Rattle.monk_world.specs.Runs.{opening_state}
+use Rattle.monk_world.specs.State.{State}
+use Rattle.monk_world.specs.Telling.{IsLed}
+use Rattle.monk_world.proofs.PublicLaws.{same_monitor, play_again, play_found}
+use Rattle.monk_commands.specs.Played.{IsPlayOf, IsPlayText, IsPlayed, IsReported, IsLedTo, IsAnswer, IsAnswerTo, IsFoundLegal}
+use Rattle.monk_commands.specs.declared.report.Report.{Report}
+use Rattle.monk_commands.specs.declared.report.Report.TheVariants.{History}
+use Rattle.monk_commands.proofs.Exact.{legal_found}
+
+found_again : (input : List ℕ) (h : Heading) (budget : ℕ) (cs : List (ℕ × Command)) → IsPlayOf input h budget cs
+    → play_at (2 ^ 25) input ≡ Ok (play h budget cs)
+found_again input h budget cs t = ap (play_at (2 ^ 25)) t.whole ∙ play_again (2 ^ 25) h budget cs t.has_text t.few
+
+module _ (report : Report) (input : List ℕ) (status : ℕ) (Puts : List ℕ → Type 0) where
+  text_is : (p : Play) → play_at (2 ^ 25) input ≡ Ok p → p.0.size ≤ most p.0.object → IsPlayOf input p.0 p.1 p.2
+  text_is p is size =
+      let t = play_found (2 ^ 25) input p is in
+      record { has_text = t.has_text; few = t.few; whole = t.whole; size = size }
+
+  is_text : (r : Result Play ReadFault) → play_at (2 ^ 25) input ≡ r → IsAnswer report r status Puts → status ≡ 0 → IsPlayText input
+  is_text (Ok p) is (inl a) none = (p.0, (p.1, (p.2, text_is p is a.0)))
+  is_text (Ok p) is (inr a) none = absurd (omega (arith, a.1, none))
+  is_text (Err f) is a none = absurd (omega (arith, a.0, none))
+
+  -- the answer to the text of a play
+  of_play : (h : Heading) (budget : ℕ) (cs : List (ℕ × Command)) → h.size ≤ most h.object
+      → IsAnswer report (Ok (play h budget cs)) status Puts → (status ≡ 0) × IsReported report h budget cs Puts
+  of_play h budget cs size (inl a) = (a.1, a.2)
+  of_play h budget cs size (inr a) = absurd (omega (arith, size, a.0))
+
+  answer_of : (h : Heading) (budget : ℕ) (cs : List (ℕ × Command)) → IsPlayOf input h budget cs
+      → IsAnswerTo report input status Puts → (status ≡ 0) × IsReported report h budget cs Puts
+  answer_of h budget cs t a =
+      of_play h budget cs t.size
+      (subst (λ (r : Result Play ReadFault). IsAnswer report r status Puts) (found_again input h budget cs t) a)
+
+  exactly : IsAnswerTo report input status Puts → (status ≡ 0) ↔ IsPlayText input
+  exactly a = (is_text (play_at (2 ^ 25) input) refl a, λ t. (answer_of t.0 t.1.0 t.1.1.0 t.1.1.1 a).0)
+
+  status_is : (r : Result Play ReadFault) → IsAnswer report r status Puts → (status ≡ 0) ⊎ (status ≡ 2)
+  status_is (Ok p) (inl a) = inl a.1
+  status_is (Ok p) (inr a) = inr a.1
+  status_is (Err f) a = inr a.0
+
+-- of all that a reader had
+module _ (report : Report) (known : Option (List ℕ)) (bytes : List ℕ) (status : ℕ) (Puts : List ℕ → Type 0) where
+  on_known : (F : List ℕ → Type 0) → IfSome known (λ input. bytes ≡ input) → F bytes → IfSome known F
+  on_known F same x = by known same
+    where
+      by : (o : Option (List ℕ)) → IfSome o (λ input. bytes ≡ input) → IfSome o F
+      by None e = tt
+      by (Some input) e = subst F e x
+
+  pub answer_known : IfSome known (λ input. bytes ≡ input) → IsAnswerTo report bytes status Puts
+      → IfSome known (λ input. IsAnswerTo report input status Puts)
+  answer_known same a = on_known (λ input. IsAnswerTo report input status Puts) same a
+
+  pub zero_exactly : IfSome known (λ input. bytes ≡ input) → IsAnswerTo report bytes status Puts
+      → IfSome known (λ input. (status ≡ 0) ↔ IsPlayText input)
+  zero_exactly same a = on_known (λ input. (status ≡ 0) ↔ IsPlayText input) same (exactly report bytes status Puts a)
+
+  pub reported_known : IfSome known (λ input. bytes ≡ input) → IsAnswerTo report bytes status Puts
+      → IfSome known (λ input. (h : Heading) (budget : ℕ) (cs : List (ℕ × Command)) → IsPlayOf input h budget cs
+      → IsReported report h budget cs Puts)
+  reported_known same a =
+      on_known
+      (λ input. (h : Heading) (budget : ℕ) (cs : List (ℕ × Command)) → IsPlayOf input h budget cs → IsReported report h budget cs Puts) same
+      (λ h budget cs t. (answer_of report bytes status Puts h budget cs t a).1)
+
+  pub status_known : IsAnswerTo report bytes status Puts → (status ≡ 0) ⊎ (status ≡ 2)
+  status_known a = status_is report bytes status Puts (play_at (2 ^ 25) bytes) a
+
+-- what a world that was made and run has come to
+pub led_to : (k : Rules) (o : Object) (opening : List ℕ) (h : Heading) (budget : ℕ) (commands : List (ℕ × Command))
+    (events : List Event) (seats conds : ℕ) (s t : State)
+    → seats ≡ h.seats → conds ≡ h.conds → s ≡ opening_state opening seats conds budget
+    → IsLed k o s commands t → IsRecordedBy k o s commands t → events ≡ t.floor.history → IsLegal (monitor_of k o t.floor) t.floor.history
+    → length t.floor.history ≤ 2 ^ 25 → HasText h events → IsLedTo k o opening h budget commands events
+led_to k o opening h budget commands events seats conds s t seats_are conds_are opens led recorded is legal few has_text =
+    let kept = same_monitor k o s recorded.steps t recorded.recorded in
+    let opening_is : t.floor.opening ≡ opening = kept.opening ∙ ap (λ (u : State). u.floor.opening) opens in
+    let seats_is : t.floor.seats ≡ h.seats = kept.seats ∙ (ap (λ (u : State). u.floor.seats) opens ∙ seats_are) in
+    let conds_is : t.floor.conds ≡ h.conds = kept.conds ∙ (ap (λ (u : State). u.floor.conds) opens ∙ conds_are) in
+    let monitor_is : monitor_of k o t.floor ≡ monitor k h.seats h.conds o opening = rw (opening_is, seats_is, conds_is) refl in
+    let opened : opening_state opening seats conds budget ≡ opening_state opening h.seats h.conds budget = rw (seats_are, conds_are) refl in
+    record {
+      last = t;
+      is_led = subst (λ (u : State). IsLed k o u commands t) (opens ∙ opened) led;
+      is_last = is;
+      legal = subst (λ (m : Monitor). IsLegal m events) monitor_is
+          (subst (λ (es : List Event). IsLegal (monitor_of k o t.floor) es) (sym is) legal);
+      has_text = has_text;
+      few = subst (λ (es : List Event). length es ≤ 2 ^ 25) (sym is) few;
+    }
+
+-- the text of a history that a play has led to is found legal
+legal_played : (h : Heading) (budget : ℕ) (cs : List (ℕ × Command)) (Puts : List ℕ → Type 0) → h.size ≤ most h.object
+    → IsPlayed h budget cs Puts → IsFoundLegal Puts
+legal_played h budget cs Puts size p =
+    let led = p.1.0 in
+    record {
+      written = text h p.0;
+      count = length p.0;
+      puts = p.1.1;
+      answer = legal_found (text h p.0) h p.0
+          (record { has_text = led.has_text; few = led.few; whole = refl; size = size }) led.legal;
+    }
+
+legal_answered : (r : Result Play ReadFault) (status : ℕ) (Puts : List ℕ → Type 0) → IsAnswer History r status Puts
+    → status ≡ 0 → IsFoundLegal Puts
+legal_answered (Ok p) status Puts (inl a) none = legal_played p.0 p.1 p.2 Puts a.0 a.2
+legal_answered (Ok p) status Puts (inr a) none = absurd (omega (arith, a.1, none))
+legal_answered (Err f) status Puts a none = absurd (omega (arith, a.0, none))
+
+pub legal_written : (bytes : List ℕ) (status : ℕ) (Puts : List ℕ → Type 0) → IsAnswerTo History bytes status Puts
+    → status ≡ 0 → IsFoundLegal Puts
+legal_written bytes = legal_answered (play_at (2 ^ 25) bytes)

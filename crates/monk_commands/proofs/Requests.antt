@@ -1,0 +1,37 @@
+-- What clap's matches say of the command and its values.
+use Rattle.std.proofs.Common.{◌≡◌, ℕ, List, Option, Some, None, Result, Ok, true, refl, sym, subst, ◌∙◌}
+use Rattle.std.specs.Str.Parse.{ParsesUnsigned}
+use Rattle.clap.specs.declared.parser.matches.Found.{Found}
+use Rattle.clap.proofs.WalkLemmas.{one_text-rows}
+use Rattle.monk_commands.specs.declared.request.Line.{Line}
+use Rattle.std.specs.Prelude.{option_map}
+use Rattle.clap.specs.Words.{Row, Text, one_text, rows_of, is_simple}
+use Rattle.clap.proofs.OnLiterals.{clap_on_literals}
+use Rattle.monk_commands.specs.Request.{HasNumber, IsAsked, IsRead, RunNames, monk_app}
+
+-- what is read in the rows of a command is asked for where that command was found
+pub asked_in : (o : Option (Text × List Row)) (word : Text) (rows : List Row) (l : Line)
+    → option_map (λ p. p.0) o ≡ Some word → option_map (λ p. p.1) o ≡ Some rows
+    → IsRead word l rows → IsAsked l o
+asked_in None word rows l w r is = absurd cc
+asked_in (Some p) word rows l w r is =
+    let same_word : word ≡ p.0 = cc in
+    let same_rows : rows ≡ p.1 = cc in
+    subst (λ (x : Text). IsRead x l p.1) same_word (subst (λ (x : List Row). IsRead word l x) same_rows is)
+
+-- the number that is read by `get_one`
+pub number_read : (E : Type 0) (G : List ℕ → Result ℕ E → Type 0) (bits v : ℕ) (name : Text) (f : Found)
+    → ((u : List ℕ) (x : Result ℕ E) → G u x → ParsesUnsigned bits 10 u x) → (one_text f name ≡ None → Some v ≡ None)
+    → ((t : List ℕ) → one_text f name ≡ Some t → G t (Ok v))
+    → HasNumber name v (rows_of f)
+number_read E G bits v name f only none value = go (one_text f name) refl
+  where
+    go : (o : Option Text) → one_text f name ≡ o → HasNumber name v (rows_of f)
+    go None e = absurd (let no : Some v ≡ None = none e in cc)
+    go (Some t) e =
+        let read = only t (Ok v) (value t e) in
+        record { text = t; found = sym (one_text-rows f name) ∙ e; digits = read.0.0; number = read.1 }
+
+pub monk_is_simple : (run recorded : RunNames) → is_simple (monk_app run recorded) ≡ true
+unfolding clap_on_literals
+monk_is_simple run recorded = refl

@@ -1,0 +1,68 @@
+-- A text is upgraded exactly where it is of a history, and then by the text of the same events
+use Rattle.std.proofs.Common.{◌≡◌, ℕ, ◌^◌, ◌⊎◌, inl, inr, List, Option, Some, None, Result, Ok, Err, refl, sym, ap, subst, ◌∙◌, arith}
+use Rattle.std.specs.Prelude.{IfSome, ◌↔◌}
+use Rattle.monk_history.specs.declared.event.Event.{Event}
+use Rattle.monk_history.specs.declared.text.fault.ReadFault.{ReadFault}
+use Rattle.monk_history.specs.Text.{Heading, text, upgraded}
+use Rattle.monk_history.specs.Text.Reading.{History, history, text_at}
+use Rattle.monk_history.proofs.PublicLaws.Texts.{text_again, text_read, upgraded_text}
+use Rattle.monk_commands.specs.Answer.{Answer}
+use Rattle.monk_commands.specs.Upgraded.{IsHistoryOf, IsHistoryText, IsUpgraded, upgrade_answer, upgrade_of}
+
+history_read : (input : List ℕ) (x : History) → text_at (2 ^ 25) input ≡ Ok x → IsHistoryOf input x.0 x.1
+history_read input x is =
+    let t = text_read (2 ^ 25) input x is in record { has_text = t.has_text; few = t.few; whole = t.whole }
+
+text_upgraded : (input : List ℕ) (h : Heading) (events : List Event) → IsHistoryOf input h events
+    → upgrade_of input ≡ upgrade_answer (Ok (history h events))
+text_upgraded input h events t =
+    ap upgrade_answer (ap (text_at (2 ^ 25)) t.whole ∙ text_again (2 ^ 25) h events t.has_text t.few)
+
+is_read : (input : List ℕ) (r : Result History ReadFault) → text_at (2 ^ 25) input ≡ r → (upgrade_answer r).status ≡ 0
+    → IsHistoryText input
+is_read input (Ok x) is e = (x.0, (x.1, history_read input x is))
+is_read input (Err f) is e = absurd (omega (arith, e))
+
+status_is : (r : Result History ReadFault) → ((upgrade_answer r).status ≡ 0) ⊎ ((upgrade_answer r).status ≡ 2)
+status_is (Ok x) = inl refl
+status_is (Err f) = inr refl
+
+-- a status 0 or 2
+pub statuses : (status : ℕ) (bytes : List ℕ) → status ≡ (upgrade_of bytes).status → (status ≡ 0) ⊎ (status ≡ 2)
+statuses status bytes h =
+    subst (λ (n : ℕ). (n ≡ 0) ⊎ (n ≡ 2)) (sym h) (status_is (text_at (2 ^ 25) bytes))
+
+pub zero_exactly : (known : Option (List ℕ)) (status : ℕ) (bytes : List ℕ) → IfSome known (λ input. bytes ≡ input)
+    → status ≡ (upgrade_of bytes).status → IfSome known (λ input. (status ≡ 0) ↔ IsHistoryText input)
+zero_exactly None status bytes same h = tt
+zero_exactly (Some input) status bytes same h =
+    subst (λ (x : List ℕ). (status ≡ 0) ↔ IsHistoryText x) same (
+      λ e. is_read bytes (text_at (2 ^ 25) bytes) refl (sym h ∙ e),
+      λ t.
+          h ∙ ap (λ (a : Answer). a.status) (text_upgraded bytes t.0 t.1.0 t.1.1),
+    )
+
+pub upgraded_known : (known : Option (List ℕ)) (bytes : List ℕ) (Puts : List ℕ → Type 0) → IfSome known (λ input. bytes ≡ input)
+    → Puts (upgrade_of bytes).text
+    → IfSome known (λ input. (h : Heading) (events : List Event) → IsHistoryOf input h events → Puts (text (upgraded h) events))
+upgraded_known None bytes Puts same puts = tt
+upgraded_known (Some input) bytes Puts same puts =
+    subst (λ (x : List ℕ). (h : Heading) (events : List Event) → IsHistoryOf x h events → Puts (text (upgraded h) events)) same
+    (λ h events t. subst (λ (a : Answer). Puts a.text) (text_upgraded bytes h events t) puts)
+
+-- the text of an upgraded history is its own answer
+upgraded_again : (input : List ℕ) (r : Result History ReadFault) (Puts : List ℕ → Type 0) → text_at (2 ^ 25) input ≡ r
+    → (upgrade_answer r).status ≡ 0 → Puts (upgrade_answer r).text → IsUpgraded Puts
+upgraded_again input (Ok x) Puts is e puts =
+    let t = history_read input x is in
+    record {
+      written = text (upgraded x.0) x.1;
+      puts = puts;
+      again = text_upgraded (text (upgraded x.0) x.1) (upgraded x.0) x.1
+          (record { has_text = upgraded_text x.0 x.1 t.has_text; few = t.few; whole = refl });
+    }
+upgraded_again input (Err f) Puts is e puts = absurd (omega (arith, e))
+
+pub again : (status : ℕ) (bytes : List ℕ) (Puts : List ℕ → Type 0) → status ≡ (upgrade_of bytes).status
+    → Puts (upgrade_of bytes).text → status ≡ 0 → IsUpgraded Puts
+again status bytes Puts h puts e = upgraded_again bytes (text_at (2 ^ 25) bytes) Puts refl (sym h ∙ e) puts

@@ -1,0 +1,142 @@
+-- The command line of the program, as clap sees it, and what a line asks for
+use Rattle.std.specs.Prelude.{◌≡◌, ℕ, List, [], ◌∷◌, Option, Some, IsSomeAnd, true, map, option_map, codes, pos, string_bytes}
+use Rattle.std.specs.Str.Parse.{IsNumeral, digits_value, without_leading_plus}
+use Rattle.std.specs.Borrow.{Bor}
+use Rattle.clap.specs.Words.{AddsSubcommand, App, Row, Rule, Text, app_of, first_of, one_of, new_app, new_rule, with_rule, with_subcommand}
+use Rattle.clap.specs.declared.builder.command.Command.{Command}
+use Rattle.clap.specs.declared.builder.value_parser.ValueParser.TheVariants.{Signed, Names}
+use Rattle.clap.specs.declared.builder.value_parser.ValueParser.{ValueParser}
+use Rattle.monk_kinds.specs.Names.{kind_word, kinds as monitor_kinds}
+use Rattle.monk_kinds.specs.declared.name.KindName.{KindName}
+use Rattle.monk_object.specs.Names.{object_word}
+use Rattle.monk_samples.specs.Samples.{IsInRange, sample_object}
+use Rattle.monk_samples.specs.declared.sample.Sample.{Sample}
+use Rattle.monk_samples.specs.declared.sample.Sample.TheVariants.{Buffer, Book, Shop}
+use Rattle.monk_commands.specs.declared.request.Line.{Line}
+use Rattle.monk_commands.specs.declared.request.Line.TheVariants.{Classify, Audit, Play, Upgrade, Fit, Trace, Run, Record}
+
+-- a word that must stand there, and that the parser takes
+abbrev pub required_rule : Text → ValueParser → Rule
+required_rule name parser = record (new_rule name) { required = true; parser = Some parser }
+
+-- a priority: a whole number from 0 to 255
+abbrev pub priority : ValueParser
+priority = Signed (pos 0) (pos 255)
+
+abbrev pub classify_app : App
+classify_app = with_rule
+    (with_rule (with_rule (new_app (codes "classify")) (required_rule (codes "ENTRY") priority))
+    (required_rule (codes "WAITER") priority)) (required_rule (codes "SIGNALLER") priority)
+
+-- a list of names, as clap holds it
+abbrev pub NameList : Type 0
+NameList = Bor (List (Bor Text))
+
+abbrev pub words_in : NameList → List Text
+words_in w = map (λ x. x.now) w.now
+
+-- a sample is called as its object is
+abbrev pub sample_word : Sample → Text
+sample_word s = object_word (sample_object s)
+
+abbrev pub every_sample : List Sample
+every_sample = Buffer ∷ Book ∷ Shop ∷ []
+
+-- lists that have exactly the names of the kinds and of the samples
+pub record RunNames : Type 0 where
+  pub kinds : NameList
+  pub samples : NameList
+  pub all_kinds : words_in kinds ≡ map kind_word monitor_kinds
+  pub all_samples : words_in samples ≡ map sample_word every_sample
+
+-- a command of that name that takes a kind, a sample, and how many seats and rounds
+abbrev pub run_app : Text → RunNames → App
+run_app name n =
+    with_rule (with_rule (with_rule (with_rule (new_app name) (required_rule (codes "KIND") (Names n.kinds)))
+    (required_rule (codes "SAMPLE") (Names n.samples)))
+    (required_rule (codes "SEATS") (Signed (pos 2) (pos 16)))) (required_rule (codes "ROUNDS") (Signed (pos 1) (pos 1000)))
+
+-- a command of that name that takes a file
+abbrev pub file_app : Text → App
+file_app name = with_rule (new_app name) (new_rule (codes "FILE"))
+
+-- where the command is added to another, it is a subcommand like this
+abbrev pub IsSubcommand : Command → App → Type 0
+IsSubcommand c a = (old new : Command) → AddsSubcommand old c new → app_of new ≡ with_subcommand (app_of old) a.top
+
+abbrev pub bare_app : App
+bare_app = record (new_app (codes "monk")) { top = record (new_app (codes "monk")).top { has_version = true; subcommand_required = true } }
+
+abbrev pub monk_app : RunNames → RunNames → App
+monk_app run recorded =
+    with_subcommand (with_subcommand (with_subcommand (with_subcommand (with_subcommand (with_subcommand
+    (with_subcommand (with_subcommand bare_app classify_app.top) (file_app (codes "audit")).top)
+    (file_app (codes "play")).top) (file_app (codes "upgrade")).top) (file_app (codes "fit")).top)
+    (file_app (codes "trace")).top) (run_app (codes "run") run).top) (run_app (codes "record") recorded).top
+
+-- the command line of the program
+pub record IsMonk (a : App) : Type 0 where
+  pub run : RunNames
+  pub recorded : RunNames
+  pub is : a ≡ monk_app run recorded
+
+pub record IsRunCommand (name : Text) (c : Command) : Type 0 where
+  pub names : RunNames
+  pub is : IsSubcommand c (run_app name names)
+
+-- the command that a line is for
+abbrev pub command_word : Line → Text
+command_word (Classify e w s) = codes "classify"
+command_word (Audit file) = codes "audit"
+command_word (Play file) = codes "play"
+command_word (Upgrade file) = codes "upgrade"
+command_word (Fit file) = codes "fit"
+command_word (Trace file) = codes "trace"
+command_word (Run kind sample seats rounds) = codes "run"
+command_word (Record kind sample seats rounds) = codes "record"
+
+-- a whole number in digits that clap has found for a name, in the rows of a command
+pub record HasNumber (name : Text) (n : ℕ) (rows : List Row) : Type 0 where
+  pub text : Text
+  pub found : one_of name rows ≡ Some text
+  pub digits : IsNumeral 10 (without_leading_plus text)
+  pub number : n ≡ digits_value 10 (without_leading_plus text)
+
+-- a kind, a sample, seats and rounds are those that clap has found
+abbrev pub AreRunValues : KindName → Sample → ℕ → ℕ → List Row → Type 0
+AreRunValues kind sample seats rounds rows =
+    (first_of (codes "KIND") rows ≡ Some (kind_word kind)) × (first_of (codes "SAMPLE") rows ≡ Some (sample_word sample))
+    × HasNumber (codes "SEATS") seats rows × HasNumber (codes "ROUNDS") rounds rows
+
+-- the values of the line are those that clap has found, in the rows of its command
+abbrev pub ValuesAre : Line → List Row → Type 0
+ValuesAre (Classify e w s) rows = HasNumber (codes "ENTRY") e rows × HasNumber (codes "WAITER") w rows
+    × HasNumber (codes "SIGNALLER") s rows
+ValuesAre (Audit file) rows = first_of (codes "FILE") rows ≡ option_map string_bytes file
+ValuesAre (Play file) rows = first_of (codes "FILE") rows ≡ option_map string_bytes file
+ValuesAre (Upgrade file) rows = first_of (codes "FILE") rows ≡ option_map string_bytes file
+ValuesAre (Fit file) rows = first_of (codes "FILE") rows ≡ option_map string_bytes file
+ValuesAre (Trace file) rows = first_of (codes "FILE") rows ≡ option_map string_bytes file
+ValuesAre (Run kind sample seats rounds) rows = AreRunValues kind sample seats rounds rows
+ValuesAre (Record kind sample seats rounds) rows = AreRunValues kind sample seats rounds rows
+
+-- a run is asked for within its ranges alone
+abbrev pub RunIsInRange : Line → Type 0
+RunIsInRange (Classify e w s) = Unit {0}
+RunIsInRange (Audit file) = Unit {0}
+RunIsInRange (Play file) = Unit {0}
+RunIsInRange (Upgrade file) = Unit {0}
+RunIsInRange (Fit file) = Unit {0}
+RunIsInRange (Trace file) = Unit {0}
+RunIsInRange (Run kind sample seats rounds) = IsInRange seats rounds
+RunIsInRange (Record kind sample seats rounds) = IsInRange seats rounds
+
+-- the line is what the rows of this command ask for
+pub record IsRead (word : Text) (l : Line) (rows : List Row) : Type 0 where
+  pub command : command_word l ≡ word
+  pub values : ValuesAre l rows
+  pub in_range : RunIsInRange l
+
+-- the line is for the command that clap has found in the words, with the values that it has found there
+abbrev pub IsAsked : Line → Option (Text × List Row) → Type 0
+IsAsked l found = IsSomeAnd found (λ p. IsRead p.0 l p.1)

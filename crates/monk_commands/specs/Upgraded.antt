@@ -1,0 +1,29 @@
+-- The answer to a text that is to be upgraded: the text of the same events in the newest version
+use Rattle.std.specs.Prelude.{◌≡◌, ℕ, ◌≤◌, ◌^◌, List, length, Result, Ok, Err}
+use Rattle.monk_history.specs.declared.event.Event.{Event}
+use Rattle.monk_history.specs.declared.text.fault.ReadFault.{ReadFault}
+use Rattle.monk_history.specs.Text.{Heading, HasText, text, upgraded}
+use Rattle.monk_history.specs.Text.Reading.{History, text_at}
+use Rattle.monk_commands.specs.Answer.{Answer, unreadable}
+
+abbrev pub upgrade_answer : Result History ReadFault → Answer
+upgrade_answer (Ok h) = record { status = 0; text = text (upgraded h.0) h.1 }
+upgrade_answer (Err f) = unreadable f
+
+abbrev pub upgrade_of : List ℕ → Answer
+upgrade_of input = upgrade_answer (text_at (2 ^ 25) input)
+
+-- the text of a history, of whatever size and legal or not
+pub record IsHistoryOf (input : List ℕ) (h : Heading) (events : List Event) : Type 0 where
+  pub has_text : HasText h events
+  pub few : length events ≤ 2 ^ 25
+  pub whole : input ≡ text h events
+
+abbrev pub IsHistoryText : List ℕ → Type 0
+IsHistoryText input = (h : Heading) × ((events : List Event) × IsHistoryOf input h events)
+
+-- with what writing these bytes means: a text is written that is answered by itself
+pub record IsUpgraded (Puts : List ℕ → Type 0) : Type 0 where
+  pub written : List ℕ
+  pub puts : Puts written
+  pub again : upgrade_of written ≡ record { status = 0; text = written }

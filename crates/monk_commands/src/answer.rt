@@ -1,0 +1,122 @@
+//! The line that answers an input, and its status.
+
+ghost use Rattle.std.specs.Prelude.{◌≡◌, ◌≢◌, ◌≤◌, ℕ, List, false, true, IfOk, OnErr, Err, IsErrOf, string_bytes};
+ghost use Rattle.std.specs.Io.KnownBytes.{Appends};
+ghost use Rattle.monk_history.specs.Text.Device.{held, has_failed};
+ghost use Rattle.monk_history.specs.Text.Faults.{memory};
+ghost use Rattle.monk_history.specs.Text.Lines.{Gives};
+ghost use Rattle.monk_audit.specs.Reading.{same, text_verdict};
+ghost use Rattle.monk_commands.specs.Answer.{answer_of, verdict_answer, reason_word, fault_word, too_big, unreadable};
+
+use crate::fault::StreamFault;
+use monk_audit::{TextVerdict, Verdict};
+use monk_history::{Device, ReadFault};
+use std::alloc::Global;
+use std::io::Write;
+
+/// A line, and the status that goes with it.
+#[derive(Drop)]
+pub(crate) struct Answer {
+    pub(crate) status: u8,
+    pub(crate) text: String,
+}
+
+/// The answer to what was found of a text: its verdict, or why there is none.
+pub(crate) fn answer_to(
+    alloc: Global,
+    found: Result<TextVerdict, ReadFault>,
+) -> Result<Answer, StreamFault>
+    ensures answer { (input : List ℕ) → Gives same found (text_verdict input) → IfOk result
+        (λ a. (a.status ≡ (answer_of input).status) × (string_bytes a.text ≡ (answer_of input).text)) }
+    ensures status { IfOk result (λ a. a.status ≤ 2) }
+    ensures no_file { IsErrOf result StreamFault.File → ⊥ }
+{
+    match found {
+        Ok(TextVerdict::Judged(verdict)) => verdict_answer(alloc, verdict),
+        Ok(TextVerdict::TooBig) => too_big(alloc),
+        Err(fault) => unreadable(alloc, fault),
+    }
+}
+
+/// The answer to a text with a fault; where the fault is want of memory, there is none.
+pub(crate) fn unreadable(alloc: Global, fault: ReadFault) -> Result<Answer, StreamFault>
+    ensures answer { IfOk result
+        (λ a. (fault ≢ memory) × (a.status ≡ (unreadable fault).status)
+        × (string_bytes a.text ≡ (unreadable fault).text)) }
+    ensures status { IfOk result (λ a. a.status ≤ 2) }
+    ensures no_file { IsErrOf result StreamFault.File → ⊥ }
+{
+    if fault.number == ReadFault::MEMORY {
+        return Err(StreamFault::Memory);
+    }
+    let word = fault_word(fault.number);
+    let text = format!(in alloc; "unreadable {} {} {word}\n", fault.line, fault.number)?;
+    Ok(Answer { status: 2, text })
+}
+
+/// The answer to a size above the object's greatest.
+pub(crate) fn too_big(alloc: Global) -> Result<Answer, StreamFault>
+    ensures answer { IfOk result (λ a. (a.status ≡ too_big.status) × (string_bytes a.text ≡ too_big.text)) }
+    ensures status { IfOk result (λ a. a.status ≤ 2) }
+    ensures no_file { IsErrOf result StreamFault.File → ⊥ }
+{
+    let text = String::from_str(alloc, "object\n")?;
+    Ok(Answer { status: 2, text })
+}
+
+/// Writes the answer's line; the result is its status.
+pub(crate) fn put<W: Write>(answer: &Answer, writer: &mut Device<W>) -> Result<u8, StreamFault>
+    requires { has_failed writer.old ≡ false }
+    ensures line { IfOk result
+        (λ status. (status ≡ answer.now.status) × Appends (W.contents (held writer.old)) (W.contents (held writer.new))
+        (string_bytes answer.now.text)) }
+    ensures fails { OnErr result ((result ≡ Err StreamFault.File) × (has_failed writer.new ≡ true)) }
+{
+    match writer.write_all(answer.text.as_bytes()) {
+        Ok(()) => Ok(answer.status),
+        Err(_) => Err(StreamFault::File),
+    }
+}
+
+fn fault_word(number: u8) -> &'static str
+    ensures { result.now ≡ fault_word number }
+{
+    match number {
+        ReadFault::HEADER => "header",
+        ReadFault::WORD => "word",
+        ReadFault::NUMBER => "number",
+        ReadFault::END => "end",
+        _ => "long",
+    }
+}
+
+fn reason_word(reason: u8) -> &'static str
+    ensures { result.now ≡ reason_word reason }
+{
+    match reason {
+        Verdict::RANGE => "range",
+        Verdict::CALL => "call",
+        Verdict::TURN => "turn",
+        Verdict::PLACE => "place",
+        Verdict::REPLY => "reply",
+        _ => "choice",
+    }
+}
+
+pub(crate) fn verdict_answer(alloc: Global, verdict: Verdict) -> Result<Answer, StreamFault>
+    ensures answer { IfOk result (λ a. let j = verdict_answer verdict in (a.status ≡ j.status) × (string_bytes a.text ≡ j.text)) }
+    ensures status { IfOk result (λ a. a.status ≤ 2) }
+    ensures no_file { IsErrOf result StreamFault.File → ⊥ }
+{
+    match verdict {
+        Verdict::Legal(count) => {
+            let text = format!(in alloc; "legal {count}\n")?;
+            Ok(Answer { status: 0, text })
+        }
+        Verdict::Forbidden { step, reason } => {
+            let word = reason_word(reason);
+            let text = format!(in alloc; "forbidden {step} {reason} {word}\n")?;
+            Ok(Answer { status: 1, text })
+        }
+    }
+}

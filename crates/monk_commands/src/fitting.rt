@@ -1,0 +1,178 @@
+//! The fitting stream: the text of a history in, the verdict on its events under each of the ten kinds out.
+
+ghost use Rattle.std.specs.Prelude.{◌≡◌, ◌+◌, ◌≤◌, ◌^◌, ◌⊎◌, ◌++◌, false, true, length, IfOk, OnOk, IfSome, IsErrOf, ◌↔◌};
+ghost use Rattle.std.specs.Io.KnownBytes.{Appends, IsAtEnd};
+ghost use Rattle.monk_object.specs.Names.{most};
+ghost use Rattle.monk_history.specs.Text.Device.{held, has_failed, reads_of};
+ghost use Rattle.monk_kinds.specs.Names.{kinds};
+ghost use Rattle.monk_commands.specs.Fitted.{IsFitText, fit_answer, fit_line, fit_lines, fit_of, fits_some, is_fit, under, verdict_under};
+ghost use Rattle.monk_commands.specs.Streams.{Answers, IsYoung, IsPastBound};
+
+use crate::answer::{put, too_big, unreadable, verdict_answer};
+use crate::fault::StreamFault;
+use crate::input::read_all;
+use monk_audit::{AuditFault, Verdict, audit};
+use monk_history::{Device, Event, Header, read};
+use monk_kinds::KindName;
+use std::alloc::Global;
+use std::io::{Read, Write};
+
+/// The header with another kind.
+fn under(header: &Header, kind: KindName) -> Header
+    ensures { result ≡ under kind header.now }
+{
+    let (seats, conds) = (header.seats(), header.conds());
+    match Header::new(kind, seats, conds, header.object(), header.size()) {
+        Some(header) => header,
+        None => unreachable!(),
+    }
+}
+
+/// The verdict on the events under the kind, whatever kind the header names.
+fn verdict_under(
+    alloc: Global,
+    header: &Header,
+    events: &[Event],
+    kind: KindName,
+) -> Result<Verdict, StreamFault>
+    requires few { length events.now ≤ 2 ^ 25 }
+    requires fits { header.now.size ≤ most header.now.object }
+    ensures verdict { IfOk result (λ v. v ≡ verdict_under header.now events.now kind) }
+    ensures no_file { IsErrOf result StreamFault.File → ⊥ }
+{
+    match audit(alloc, &under(header, kind), events) {
+        Ok(verdict) => Ok(verdict),
+        Err(AuditFault::Memory) => Err(StreamFault::Memory),
+        // The size is within the object's greatest.
+        Err(AuditFault::Object) => unreachable!(),
+    }
+}
+
+/// Puts the line of the kind behind the page. Gives whether the events are legal under it.
+fn put_line(
+    alloc: Global,
+    page: &mut Vec<u8>,
+    header: &Header,
+    events: &[Event],
+    kind: KindName,
+) -> Result<bool, StreamFault>
+    requires few { length events.now ≤ 2 ^ 25 }
+    requires fits { header.now.size ≤ most header.now.object }
+    ensures line { OnOk result (page.new.items ≡ page.old.items ++ fit_line header.now events.now kind) }
+    ensures fit { IfOk result (λ fits. fits ≡ is_fit (verdict_under header.now events.now kind)) }
+    ensures no_file { IsErrOf result StreamFault.File → ⊥ }
+{
+    let verdict = verdict_under(alloc, header, events, kind)?;
+    let answer = verdict_answer(alloc, verdict)?;
+    page.extend_from_slice(kind.text())?;
+    page.extend_from_slice(b" ")?;
+    page.extend_from_slice(answer.text.as_bytes())?;
+    Ok(answer.status == 0)
+}
+
+/// A line for each kind, and whether the events are legal under one of them.
+fn all_lines(
+    alloc: Global,
+    header: &Header,
+    events: &[Event],
+) -> Result<(Vec<u8>, bool), StreamFault>
+    requires few { length events.now ≤ 2 ^ 25 }
+    requires fits { header.now.size ≤ most header.now.object }
+    ensures lines { IfOk result (λ r. r.0.items ≡ fit_lines header.now events.now kinds) }
+    ensures fit { IfOk result (λ r. r.1 ≡ fits_some header.now events.now kinds) }
+    ensures no_file { IsErrOf result StreamFault.File → ⊥ }
+{
+    let mut page = Vec::new(alloc);
+    let mut is_fit = false;
+    for kind in KindName::ALL.iter() {
+        let fits = put_line(alloc, &mut page, header, events, *kind)?;
+        is_fit = is_fit || fits;
+    }
+    Ok((page, is_fit))
+}
+
+/// Answers a history that was read.
+fn fit<W: Write>(
+    alloc: Global,
+    header: &Header,
+    events: &[Event],
+    writer: &mut Device<W>,
+) -> Result<u8, StreamFault>
+    requires works { has_failed writer.old ≡ false }
+    requires few { length events.now ≤ 2 ^ 25 }
+    ensures answer { IfOk result
+        (λ status. (status ≡ (fit_answer header.now events.now).status)
+        × Appends (W.contents (held writer.old)) (W.contents (held writer.new)) (fit_answer header.now events.now).text) }
+    ensures file { IsErrOf result StreamFault.File → has_failed writer.new ≡ true }
+    ensures memory { IsErrOf result StreamFault.Memory → writer.new ≡ writer.old }
+{
+    if header.size() > header.object().greatest_size() {
+        return put(&too_big(alloc)?, writer);
+    }
+    let (page, is_fit) = all_lines(alloc, header, events)?;
+    match writer.write_all(&page) {
+        Ok(()) => Ok(if is_fit { 0 } else { 1 }),
+        Err(_) => Err(StreamFault::File),
+    }
+}
+
+/// Answers a text.
+fn fit_text<W: Write>(
+    alloc: Global,
+    bytes: &[u8],
+    writer: &mut Device<W>,
+) -> Result<u8, StreamFault>
+    requires { has_failed writer.old ≡ false }
+    ensures answer { IfOk result
+        (λ status. (status ≡ (fit_of bytes.now).status)
+        × Appends (W.contents (held writer.old)) (W.contents (held writer.new)) (fit_of bytes.now).text) }
+    ensures file { IsErrOf result StreamFault.File → has_failed writer.new ≡ true }
+    ensures memory { IsErrOf result StreamFault.Memory → writer.new ≡ writer.old }
+{
+    match read(alloc, bytes) {
+        Ok((header, events)) => fit(alloc, &header, &events, writer),
+        Err(fault) => put(&unreadable(alloc, fault)?, writer),
+    }
+}
+
+/// Reads all of the reader, judges the events under each of the ten kinds in turn, whatever kind the header names, and writes
+/// ten lines, in the order of [`KindName::ALL`]: `KIND legal N` or `KIND forbidden STEP REASON WORD`, where the rest is what an
+/// audit says under that kind. The status is 0 where they are legal under one kind at least, else 1.
+///
+/// Where the reader has no text of a history, the line `unreadable LINE NUMBER WORD` is written with status 2, and where the
+/// size is above the object's greatest, `object` with status 2.
+///
+/// # Errors
+///
+/// [`StreamFault::File`] where the reader or the writer failed, or where the input has more than 2^31 bytes or takes
+/// more than 2^31 reads. [`StreamFault::Memory`] where a growth was refused.
+///
+/// # Cost
+///
+/// One pass over the text and ten over the events; memory for the text, for the events and for the queues.
+pub fn fit_stream<R: Read, W: Write>(
+    alloc: Global,
+    reader: &mut Device<R>,
+    writer: &mut Device<W>,
+) -> Result<u8, StreamFault>
+    requires reader_works { has_failed reader.old ≡ false }
+    requires writer_works { has_failed writer.old ≡ false }
+
+    // What is written, and its status, are the answer to what the reader had.
+    ensures answer { IfOk result
+        (Answers fit_of (R.remaining (held reader.old)) (W.contents (held writer.old))
+        (W.contents (held writer.new))) }
+    // The status is 0 exactly for the text of a history that is legal under one of the kinds.
+    ensures fits { IfOk result (λ status. IfSome (R.remaining (held reader.old)) (λ input. (status ≡ 0) ↔ IsFitText input)) }
+    ensures statuses { IfOk result (λ status. status ≤ 2) }
+    ensures all_read { OnOk result (IsAtEnd (R.remaining (held reader.new))) }
+
+    ensures file { IsErrOf result StreamFault.File → IsYoung reader.old → (has_failed reader.new ≡ true)
+        ⊎ (has_failed writer.new ≡ true) ⊎ IsPastBound reader.old reader.new }
+    // Where memory is told for, no call has failed, and nothing was written.
+    ensures memory { IsErrOf result StreamFault.Memory → (has_failed reader.new ≡ false) × (writer.new ≡ writer.old) }
+    ensures reads { reads_of reader.new ≤ reads_of reader.old + 2 ^ 31 }
+{
+    let bytes = read_all(alloc, reader)?;
+    fit_text(alloc, &bytes, writer)
+}

@@ -1,0 +1,100 @@
+//! The stream of a recorded run: a sample at work in threads, and the text of the history that it left.
+
+ghost use Rattle.std.specs.Prelude.{◌≡◌, ◌⊎◌, false, true, Err, IfOk, IsErrOf, IsTrue, OnErr};
+ghost use Rattle.std.specs.Io.KnownBytes.{Appends};
+ghost use Rattle.monk_history.specs.Text.{HasText, is_writable, text};
+ghost use Rattle.monk_history.specs.Text.Device.{held, has_failed};
+ghost use Rattle.monk_samples.specs.Samples.{IsInRange};
+ghost use Rattle.monk_commands.specs.Played.{IsFoundLegal};
+ghost use Rattle.monk_commands.specs.Recorded.{IsRecordAnswer};
+
+use crate::answer::put;
+use crate::fault::StreamFault;
+use crate::running::{ended, run_named};
+use monk_history::{Device, write};
+use monk_kinds::KindName;
+use monk_samples::{Outcome, Sample};
+use std::alloc::Global;
+use std::io::Write;
+use std::sync::Wait;
+use std::thread::Threads;
+
+/// Writes the text of the history that a run left; the result is the exit status.
+fn put_history<W: Write>(outcome: &Outcome, writer: &mut Device<W>) -> Result<u8, StreamFault>
+    requires works { has_failed writer.old ≡ false }
+    requires writable { IsTrue (is_writable outcome.now.header outcome.now.history.items) }
+    ensures zero { IfOk result (λ status. status ≡ 0) }
+    ensures has_text { IfOk result (λ status. HasText outcome.now.header outcome.now.history.items) }
+    ensures told { IfOk result
+        (λ status. Appends (W.contents (held writer.old)) (W.contents (held writer.new))
+        (text outcome.now.header outcome.now.history.items)) }
+    ensures fails { OnErr result ((result ≡ Err StreamFault.File) × (has_failed writer.new ≡ true)) }
+{
+    match write(&outcome.header, &outcome.history, writer) {
+        Ok(()) => Ok(0),
+        Err(_) => Err(StreamFault::File),
+    }
+}
+
+/// Runs the sample, and writes the text of the history that it left, or why there is none.
+fn recorded<R: Threads + Wait + Sync, W: Write>(
+    rt: &R,
+    alloc: Global,
+    kind: KindName,
+    sample: Sample,
+    seats: u8,
+    rounds: u32,
+    writer: &mut Device<W>,
+) -> Result<u8, StreamFault>
+    requires in_range { IsInRange seats rounds }
+    requires works { has_failed writer.old ≡ false }
+    ensures answer { IfOk result
+        (λ status. IsRecordAnswer kind sample seats rounds status
+        (Appends (W.contents (held writer.old)) (W.contents (held writer.new)))) }
+    ensures file { IsErrOf result StreamFault.File → (has_failed writer.new ≡ true) ⊎ (writer.new ≡ writer.old) }
+    ensures memory { IsErrOf result StreamFault.Memory → writer.new ≡ writer.old }
+{
+    match run_named(rt, alloc, kind, sample, seats, rounds) {
+        Ok(outcome) => put_history(&outcome, writer),
+        Err(fault) => put(&ended(alloc, fault)?, writer),
+    }
+}
+
+/// Runs the sample under the kind, with 2 to 16 seats at work for 1 to 1000 rounds each in threads of their own, and
+/// writes the text of the history that they left, in version 1, with status 0. An audit finds it legal.
+///
+/// Where [`run`](monk_samples::run) ends as `Tired`, `Late` or `Busy`, the line `tired`, `late` or `busy` is written alone,
+/// with status 1.
+///
+/// # Errors
+///
+/// [`StreamFault::File`] where a thread was not started, or the writer failed. [`StreamFault::Memory`] where a growth was
+/// refused. The writer has changed only where it failed.
+///
+/// # Cost
+///
+/// That of [`run`](monk_samples::run), and one pass over the history. The text takes no memory.
+pub fn record_stream<R: Threads + Wait + Sync, W: Write>(
+    rt: &R,
+    alloc: Global,
+    kind: KindName,
+    sample: Sample,
+    seats: u8,
+    rounds: u32,
+    writer: &mut Device<W>,
+) -> Result<u8, StreamFault>
+    requires in_range { IsInRange seats rounds }
+    requires works { has_failed writer.old ≡ false }
+
+    // With status 0 the text is that of the legal history that a run of this kind and sample has left.
+    ensures answer { IfOk result
+        (λ status. IsRecordAnswer kind sample seats rounds status
+        (Appends (W.contents (held writer.old)) (W.contents (held writer.new)))) }
+    // What is written with status 0, an audit finds legal.
+    ensures found_legal { IfOk result
+        (λ status. status ≡ 0 → IsFoundLegal (Appends (W.contents (held writer.old)) (W.contents (held writer.new)))) }
+    ensures file { IsErrOf result StreamFault.File → (has_failed writer.new ≡ true) ⊎ (writer.new ≡ writer.old) }
+    ensures memory { IsErrOf result StreamFault.Memory → writer.new ≡ writer.old }
+{
+    recorded(rt, alloc, kind, sample, seats, rounds, writer)
+}

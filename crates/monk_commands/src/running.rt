@@ -1,0 +1,166 @@
+//! The stream of a run: a sample at work in threads, an audit of what it left, and its totals.
+
+ghost use Rattle.std.specs.Prelude.{◌≡◌, ◌≢◌, ◌⊎◌, ◌↔◌, false, true, IfErr, IfOk, IsErrOf, OnOk, Some, string_bytes};
+ghost use Rattle.std.specs.Io.KnownBytes.{Appends};
+ghost use Rattle.monk_history.specs.Text.Device.{held, has_failed};
+ghost use Rattle.monk_kinds.specs.Names.{rules_named};
+ghost use Rattle.monk_samples.specs.Runs.{HasRun, IsFaultOfRun};
+ghost use Rattle.monk_samples.specs.Samples.{IsInRange, IsOutcome};
+ghost use Rattle.monk_samples.specs.Totals.{HasTotals};
+ghost use Rattle.monk_samples.specs.declared.sample.Sample.TheVariants as Sample;
+ghost use Rattle.monk_commands.specs.Ran.{IsRunAnswer, end_word, lets_in, totals_text};
+
+use crate::answer::{Answer, put, verdict_answer};
+use crate::fault::StreamFault;
+use monk_audit::{AuditFault, Verdict, audit};
+use monk_history::Device;
+use monk_kinds::{KindName, Npb, Npir, Npis, Npnb, Npqb, Pb, Pir, Pis, Pnb, Pqb};
+use monk_samples::{OpenGate, Outcome, RunFault, Sample, run};
+use std::alloc::{AllocError, Global};
+use std::io::Write;
+use std::sync::Wait;
+use std::thread::Threads;
+
+/// Runs the sample under the kind of that name, with a gate that is always open.
+pub(crate) fn run_named<R: Threads + Wait + Sync>(
+    rt: &R,
+    alloc: Global,
+    kind: KindName,
+    sample: Sample,
+    seats: u8,
+    rounds: u32,
+) -> Result<Outcome, RunFault>
+    requires { IsInRange seats rounds }
+    ensures outcome { IfOk result (λ o. IsOutcome kind sample seats o.header o.history.items o.totals) }
+    ensures in_range { IsErrOf result RunFault.Range → ⊥ }
+    ensures served { OnOk result (HasRun (rules_named kind) lets_in sample seats rounds) }
+    ensures totals { IfOk result (λ o. HasTotals sample seats rounds o.totals) }
+    ensures fault { IfErr result (IsFaultOfRun (rules_named kind) lets_in sample seats rounds) }
+{
+    let gate = OpenGate;
+    match kind {
+        KindName::Pb => run::<Pb, R, OpenGate>(rt, alloc, sample, seats, rounds, &gate),
+        KindName::Npb => run::<Npb, R, OpenGate>(rt, alloc, sample, seats, rounds, &gate),
+        KindName::Pnb => run::<Pnb, R, OpenGate>(rt, alloc, sample, seats, rounds, &gate),
+        KindName::Npnb => run::<Npnb, R, OpenGate>(rt, alloc, sample, seats, rounds, &gate),
+        KindName::Pqb => run::<Pqb, R, OpenGate>(rt, alloc, sample, seats, rounds, &gate),
+        KindName::Npqb => run::<Npqb, R, OpenGate>(rt, alloc, sample, seats, rounds, &gate),
+        KindName::Pir => run::<Pir, R, OpenGate>(rt, alloc, sample, seats, rounds, &gate),
+        KindName::Npir => run::<Npir, R, OpenGate>(rt, alloc, sample, seats, rounds, &gate),
+        KindName::Pis => run::<Pis, R, OpenGate>(rt, alloc, sample, seats, rounds, &gate),
+        KindName::Npis => run::<Npis, R, OpenGate>(rt, alloc, sample, seats, rounds, &gate),
+    }
+}
+
+/// The answer to a run that left this: its totals, once its history was found legal.
+fn audited(alloc: Global, sample: Sample, outcome: &Outcome) -> Result<Answer, StreamFault>
+    requires { IsOutcome outcome.now.header.kind sample outcome.now.header.seats outcome.now.header
+        outcome.now.history.items outcome.now.totals }
+    ensures answer { IfOk result (λ a. (a.status ≡ 0) × (string_bytes a.text ≡ totals_text sample outcome.now.totals)) }
+    ensures no_file { IsErrOf result StreamFault.File → ⊥ }
+{
+    match audit(alloc, &outcome.header, &outcome.history) {
+        Ok(Verdict::Legal(_)) => told(alloc, sample, &outcome.totals),
+        Ok(Verdict::Forbidden { step, reason }) => {
+            verdict_answer(alloc, Verdict::Forbidden { step, reason })
+        }
+        Err(AuditFault::Memory) => Err(StreamFault::Memory),
+        // The size is within the object's greatest.
+        Err(AuditFault::Object) => unreachable!(),
+    }
+}
+
+/// The totals of a legal run.
+fn told(alloc: Global, sample: Sample, totals: &[u64; 4]) -> Result<Answer, StreamFault>
+    ensures answer { IfOk result (λ a. (a.status ≡ 0) × (string_bytes a.text ≡ totals_text sample totals.now)) }
+    ensures no_file { IsErrOf result StreamFault.File → ⊥ }
+{
+    let text = match sample {
+        Sample::Buffer => of_buffer(alloc, totals)?,
+        Sample::Book => of_book(alloc, totals)?,
+        Sample::Shop => of_shop(alloc, totals)?,
+    };
+    Ok(Answer { status: 0, text })
+}
+
+fn of_buffer(alloc: Global, totals: &[u64; 4]) -> Result<String, AllocError>
+    ensures { IfOk result (λ text. string_bytes text ≡ totals_text Sample.Buffer totals.now) }
+{
+    let [puts, put, takes, taken] = *totals;
+    format!(in alloc; "put {puts} {put}\ntaken {takes} {taken}\nlegal\n")
+}
+
+fn of_book(alloc: Global, totals: &[u64; 4]) -> Result<String, AllocError>
+    ensures { IfOk result (λ text. string_bytes text ≡ totals_text Sample.Book totals.now) }
+{
+    let [read, ended, written, finished] = *totals;
+    format!(in alloc; "reads {read} {ended}\nwrites {written} {finished}\nlegal\n")
+}
+
+fn of_shop(alloc: Global, totals: &[u64; 4]) -> Result<String, AllocError>
+    ensures { IfOk result (λ text. string_bytes text ≡ totals_text Sample.Shop totals.now) }
+{
+    let [sat, called, finished, departed] = *totals;
+    format!(in alloc;
+        "sat {sat}\ncalled {called}\nfinished {finished}\ndeparted {departed}\nlegal\n"
+    )
+}
+
+/// The answer to a run without an outcome, of which this is the end.
+pub(crate) fn ended(alloc: Global, fault: RunFault) -> Result<Answer, StreamFault>
+    requires { fault ≢ RunFault.Range }
+    ensures answer { IfOk result (λ a. (a.status ≡ 1) × (end_word fault ≡ Some (string_bytes a.text))) }
+    ensures file { IsErrOf result StreamFault.File ↔ (fault ≡ RunFault.Thread) }
+{
+    let word = match fault {
+        RunFault::Tired => "tired\n",
+        RunFault::Late => "late\n",
+        RunFault::Busy => "busy\n",
+        RunFault::Memory => return Err(StreamFault::Memory),
+        RunFault::Thread => return Err(StreamFault::File),
+        RunFault::Range => unreachable!(),
+    };
+    let text = String::from_str(alloc, word)?;
+    Ok(Answer { status: 1, text })
+}
+
+/// Runs the sample under the kind, with 2 to 16 seats at work for 1 to 1000 rounds each in threads of their own, and
+/// writes its totals with status 0, once its history was audited and found legal.
+///
+/// Of a buffer the totals are the lines `put N SUM` and `taken N SUM`, of a book `reads BEGUN ENDED` and
+/// `writes BEGUN ENDED`, of a shop `sat N`, `called N`, `finished N` and `departed N`; the line `legal` ends them. Where
+/// [`run`] ends as `Tired`, `Late` or `Busy`, the line `tired`, `late` or `busy` is written with status 1.
+///
+/// # Errors
+///
+/// [`StreamFault::File`] where a thread was not started, or the writer failed. [`StreamFault::Memory`] where a growth was
+/// refused. The writer has changed only where it failed.
+///
+/// # Cost
+///
+/// That of [`run`], and of one [`audit`].
+pub fn run_stream<R: Threads + Wait + Sync, W: Write>(
+    rt: &R,
+    alloc: Global,
+    kind: KindName,
+    sample: Sample,
+    seats: u8,
+    rounds: u32,
+    writer: &mut Device<W>,
+) -> Result<u8, StreamFault>
+    requires in_range { IsInRange seats rounds }
+    requires works { has_failed writer.old ≡ false }
+
+    // The totals that are told are those of a legal history of this kind and sample, in which the sample's law holds.
+    ensures answer { IfOk result
+        (λ status. IsRunAnswer kind sample seats rounds status
+        (Appends (W.contents (held writer.old)) (W.contents (held writer.new)))) }
+    ensures file { IsErrOf result StreamFault.File → (has_failed writer.new ≡ true) ⊎ (writer.new ≡ writer.old) }
+    ensures memory { IsErrOf result StreamFault.Memory → writer.new ≡ writer.old }
+{
+    let answer = match run_named(rt, alloc, kind, sample, seats, rounds) {
+        Ok(outcome) => audited(alloc, sample, &outcome)?,
+        Err(fault) => ended(alloc, fault)?,
+    };
+    put(&answer, writer)
+}

@@ -1,0 +1,215 @@
+//! The tracer's stream: the text of a play in, a line for each of its commands out.
+
+ghost use Rattle.std.specs.Prelude.{◌≡◌, ◌+◌, ◌≤◌, ◌^◌, ◌⊎◌, ◌++◌, false, true, IfOk, OnOk, IfSome, IsErrOf, ◌↔◌, ℕ, List, string_bytes};
+ghost use Rattle.std.specs.Io.KnownBytes.{Appends, IsAtEnd};
+ghost use Rattle.monk_history.specs.Text.{Heading};
+ghost use Rattle.monk_history.specs.Text.Device.{held, has_failed, reads_of};
+ghost use Rattle.monk_world.specs.Board.{state_of_view};
+ghost use Rattle.monk_world.specs.declared.command.Command.{Command};
+ghost use Rattle.monk_commands.specs.Played.{IsAnswerTo, IsPlayOf, IsPlayText, IsTraced};
+ghost use Rattle.monk_commands.specs.Streams.{IsYoung, IsPastBound};
+ghost use Rattle.monk_commands.specs.Traced.{AreTraced, line_front, places_text, seat_text, trace_line};
+
+use crate::fault::StreamFault;
+use crate::input::read_all;
+use crate::playing::play_text;
+use crate::report::Report;
+use monk_history::Device;
+use monk_kinds::Kind;
+use monk_object::Guarded;
+use monk_world::{Answer, Command, PlayLines, World};
+use std::alloc::{AllocError, Global};
+use std::fmt;
+use std::io::{Read, Write};
+
+/// What a seat was told, and what it answered.
+#[derive(Drop)]
+struct Told {
+    seat: u8,
+    command: Command,
+    answer: Answer,
+}
+
+impl fmt::Display for Told {
+    ghost use Rattle.std.specs.Prelude.{Some};
+    ghost use Rattle.monk_commands.specs.Traced.{told_text};
+
+    ghost output = { λ t. Some (told_text (t.seat, t.command) t.answer) };
+
+    fn fmt<W: fmt::Write>(&self, f: &mut fmt::Formatter<W>) -> fmt::Result {
+        write!(f, "{} {} | {}", self.seat, self.command, self.answer)
+    }
+}
+
+/// Where a seat stands, and whether the grant is there that it looks for.
+fn put_place<K: Kind, T: Guarded>(
+    page: &mut String,
+    world: &World<K, T>,
+    seat: u8,
+) -> Result<(), AllocError>
+    ensures { OnOk result (string_bytes page.new ≡ string_bytes page.old ++ seat_text (state_of_view world.now) seat) }
+{
+    if seat > 0 {
+        page.push_str(", ")?;
+    }
+    write!(page, "{}", world.place(seat))?;
+    if world.is_granted(seat) {
+        page.push_str(" granted")?;
+    }
+    Ok(())
+}
+
+/// The same of each seat.
+#[tactic(auto, unfolding(crate::specs::Traced::places_text))]
+fn put_places<K: Kind, T: Guarded>(page: &mut String, world: &World<K, T>) -> Result<(), AllocError>
+    ensures { OnOk result
+        (string_bytes page.new ≡ string_bytes page.old
+        ++ places_text (state_of_view world.now) (state_of_view world.now).floor.seats) }
+{
+    for seat in 0..world.seats() {
+        put_place(page, world, seat)?;
+    }
+    Ok(())
+}
+
+/// What stands in a line before the places: the command's number, what it came to, and the words after it.
+#[tactic(auto, unfolding(crate::specs::Traced::line_front))]
+fn put_front<K: Kind, T: Guarded>(
+    page: &mut String,
+    number: usize,
+    told: &Told,
+    world: &World<K, T>,
+) -> Result<(), AllocError>
+    ensures { OnOk result
+        (string_bytes page.new ≡ string_bytes page.old
+        ++ line_front number (told.now.seat, told.now.command) told.now.answer (state_of_view world.now)) }
+{
+    let (drawn, unpassed) = (world.drawn(), world.unpassed());
+    write!(page, "{number} | {told} | t={drawn} n={unpassed} | ")
+}
+
+/// The line of the command of that number, which has brought the world to where it is.
+fn put_line<K: Kind, T: Guarded>(
+    page: &mut String,
+    number: usize,
+    told: &Told,
+    world: &World<K, T>,
+) -> Result<(), AllocError>
+    ensures { OnOk result
+        (string_bytes page.new ≡ string_bytes page.old
+        ++ trace_line number (told.now.seat, told.now.command) told.now.answer (state_of_view world.now)) }
+{
+    put_front(page, number, told, world)?;
+    put_places(page, world)?;
+    page.push_str("\n")
+}
+
+/// Carries out the commands in order, and gives the lines of all of them.
+fn lines_of<K: Kind, T: Guarded>(
+    alloc: Global,
+    world: &mut World<K, T>,
+    commands: &[(u8, Command)],
+) -> Result<String, AllocError>
+    ensures { IfOk result
+        (λ page. AreTraced K.rules T.meaning 0 (state_of_view world.old) commands.now (state_of_view world.new)
+        (string_bytes page)) }
+{
+    let mut page = String::new(alloc);
+    for (index, (seat, command)) in commands.iter().enumerate() {
+        let told = Told {
+            seat: *seat,
+            command: *command,
+            answer: world.step(*seat, *command),
+        };
+        put_line(&mut page, index + 1, &told, world)?;
+    }
+    Ok(page)
+}
+
+/// The commands that are left of a play.
+fn commands_of(alloc: Global, play: PlayLines<'_>) -> Result<Vec<(u8, Command)>, AllocError>
+    ensures { IfOk result (λ v. v.items ≡ play.entry.2) }
+{
+    let mut play = play;
+    let mut commands = Vec::new(alloc);
+    while let Some(told) = play.next() {
+        commands.push(told)?;
+    }
+    Ok(commands)
+}
+
+/// Carries out the commands of the play in order, and writes the lines of all of them.
+pub(crate) fn put_trace<K: Kind, T: Guarded, W: Write>(
+    alloc: Global,
+    world: &mut World<K, T>,
+    play: PlayLines<'_>,
+    writer: &mut Device<W>,
+) -> Result<(), StreamFault>
+    requires works { has_failed writer.old ≡ false }
+    ensures traced { OnOk result
+        ((text : List ℕ) × (AreTraced K.rules T.meaning 0 (state_of_view world.old) play.entry.2 (state_of_view world.new) text
+        × Appends (W.contents (held writer.old)) (W.contents (held writer.new)) text)) }
+    ensures file { IsErrOf result StreamFault.File → has_failed writer.new ≡ true }
+    ensures memory { IsErrOf result StreamFault.Memory → writer.new ≡ writer.old }
+{
+    let commands = commands_of(alloc, play)?;
+    let page = lines_of(alloc, world, &commands)?;
+    match writer.write_all(page.as_bytes()) {
+        Ok(()) => Ok(()),
+        Err(_) => Err(StreamFault::File),
+    }
+}
+
+/// Reads all of the reader, plays its commands in order from the start, and writes a line for each of them, with status 0:
+///
+/// ```text
+/// 4 | 1 arrive | arrived 1 1 | t=2 n=1 | back entry, ticket 1
+/// ```
+///
+/// its number, the seat and what it is told, its answer, how many tickets are drawn (`t`) and not passed on (`n`) after it,
+/// and where each seat stands then. `granted` stands behind a place where the grant is there that the seat looks for. So each
+/// line shows where the right to be active is. A command that is refused has its line too, and changes nothing.
+///
+/// Where the reader has no play, the line `unreadable LINE NUMBER WORD` is written with status 2, and where the size is
+/// above the object's greatest, `object` with status 2.
+///
+/// # Errors
+///
+/// [`StreamFault::File`] where the reader or the writer failed, or where the input has more than 2^31 bytes or takes
+/// more than 2^31 reads. [`StreamFault::Memory`] where a growth was refused.
+///
+/// # Cost
+///
+/// That of [`play_stream`](crate::play_stream), and for each command a line with the place of each seat; memory for the
+/// list of commands and for all lines beside that of the play.
+pub fn trace_stream<R: Read, W: Write>(
+    alloc: Global,
+    reader: &mut Device<R>,
+    writer: &mut Device<W>,
+) -> Result<u8, StreamFault>
+    requires reader_works { has_failed reader.old ≡ false }
+    requires writer_works { has_failed writer.old ≡ false }
+
+    // What is written, and its status, are the answer to what the reader had.
+    ensures answer { IfOk result
+        (λ status. IfSome (R.remaining (held reader.old))
+        (λ input. IsAnswerTo Report.Trace input status (Appends (W.contents (held writer.old)) (W.contents (held writer.new))))) }
+    // The status is 0 exactly for the text of a play.
+    ensures played { IfOk result (λ status. IfSome (R.remaining (held reader.old)) (λ input. (status ≡ 0) ↔ IsPlayText input)) }
+    // Of a play the line of each command is written, in order, and nothing else.
+    ensures traced { IfOk result
+        (λ status. IfSome (R.remaining (held reader.old))
+        (λ input. (h : Heading) (budget : ℕ) (commands : List (ℕ × Command)) → IsPlayOf input h budget commands
+        → IsTraced h budget commands (Appends (W.contents (held writer.old)) (W.contents (held writer.new))))) }
+    ensures statuses { IfOk result (λ status. (status ≡ 0) ⊎ (status ≡ 2)) }
+    ensures all_read { OnOk result (IsAtEnd (R.remaining (held reader.new))) }
+
+    ensures file { IsErrOf result StreamFault.File → IsYoung reader.old → (has_failed reader.new ≡ true)
+        ⊎ (has_failed writer.new ≡ true) ⊎ IsPastBound reader.old reader.new }
+    // Where memory is told for, no call has failed, and nothing was written.
+    ensures memory { IsErrOf result StreamFault.Memory → (has_failed reader.new ≡ false) × (writer.new ≡ writer.old) }
+    ensures reads { reads_of reader.new ≤ reads_of reader.old + 2 ^ 31 }
+{
+    let bytes = read_all(alloc, reader)?;
+    play_text(alloc, Report::Trace, &bytes, writer)
+}

@@ -1,0 +1,88 @@
+//! The upgrading stream: the text of a history in, the text of the same events in the newest version out.
+
+ghost use Rattle.std.specs.Prelude.{◌≡◌, ◌+◌, ◌≤◌, ◌^◌, ◌⊎◌, ◌↔◌, false, true, IfOk, OnOk, IfSome, IsErrOf, List};
+ghost use Rattle.std.specs.Io.KnownBytes.{Appends, IsAtEnd};
+ghost use Rattle.monk_history.specs.declared.event.Event.{Event};
+ghost use Rattle.monk_history.specs.Text.{Heading, text, upgraded};
+ghost use Rattle.monk_history.specs.Text.Device.{held, has_failed, reads_of};
+ghost use Rattle.monk_commands.specs.Streams.{Answers, IsYoung, IsPastBound};
+ghost use Rattle.monk_commands.specs.Upgraded.{IsHistoryOf, IsHistoryText, IsUpgraded, upgrade_of};
+
+use crate::answer::{put, unreadable};
+use crate::fault::StreamFault;
+use crate::input::read_all;
+use monk_history::lines::CheckedLines;
+use monk_history::{Device, Event, Header, MOST_EVENTS, write_lines};
+use std::alloc::Global;
+use std::io::{Read, Write};
+
+/// Answers a text.
+fn upgrade_text<W: Write>(
+    alloc: Global,
+    bytes: &[u8],
+    writer: &mut Device<W>,
+) -> Result<u8, StreamFault>
+    requires { has_failed writer.old ≡ false }
+    ensures answer { IfOk result
+        (λ status. (status ≡ (upgrade_of bytes.now).status)
+        × Appends (W.contents (held writer.old)) (W.contents (held writer.new)) (upgrade_of bytes.now).text) }
+    ensures file { IsErrOf result StreamFault.File → has_failed writer.new ≡ true }
+    ensures memory { IsErrOf result StreamFault.Memory → writer.new ≡ writer.old }
+{
+    match CheckedLines::<Header, Event>::check(bytes, MOST_EVENTS) {
+        Ok(lines) => match write_lines(&lines.header().upgraded(), lines, writer) {
+            Ok(()) => Ok(0),
+            Err(_) => Err(StreamFault::File),
+        },
+        Err(fault) => put(&unreadable(alloc, fault)?, writer),
+    }
+}
+
+/// Reads all of the reader and writes the text of the same events in version 2, with status 0, from a text of either
+/// version. It judges neither the size nor whether the history is legal: an illegal history stays the same.
+///
+/// Where the reader has no text of a history, the line `unreadable LINE NUMBER WORD` is written with status 2.
+///
+/// # Errors
+///
+/// [`StreamFault::File`] where the reader or the writer failed, or where the input has more than 2^31 bytes or takes
+/// more than 2^31 reads. [`StreamFault::Memory`] where a growth was refused.
+///
+/// # Cost
+///
+/// Two passes over the text: one that looks for its first fault, and one that writes each event as it is read. Memory for
+/// the text alone.
+pub fn upgrade_stream<R: Read, W: Write>(
+    alloc: Global,
+    reader: &mut Device<R>,
+    writer: &mut Device<W>,
+) -> Result<u8, StreamFault>
+    requires reader_works { has_failed reader.old ≡ false }
+    requires writer_works { has_failed writer.old ≡ false }
+
+    // What is written, and its status, are the answer to what the reader had.
+    ensures answer { IfOk result
+        (Answers upgrade_of (R.remaining (held reader.old)) (W.contents (held writer.old))
+        (W.contents (held writer.new))) }
+    // The status is 0 exactly for the text of a history.
+    ensures histories { IfOk result (λ status. IfSome (R.remaining (held reader.old)) (λ input. (status ≡ 0) ↔ IsHistoryText input)) }
+    // To a history, the text of the upgraded header and of the events read is written.
+    ensures upgraded { IfOk result
+        (λ status. IfSome (R.remaining (held reader.old))
+        (λ input. (h : Heading) (events : List Event) → IsHistoryOf input h events
+        → Appends (W.contents (held writer.old)) (W.contents (held writer.new)) (text (upgraded h) events))) }
+    // What is written to a history is answered by itself.
+    ensures again { IfOk result
+        (λ status. status ≡ 0 → IsUpgraded (Appends (W.contents (held writer.old)) (W.contents (held writer.new)))) }
+    ensures statuses { IfOk result (λ status. (status ≡ 0) ⊎ (status ≡ 2)) }
+    ensures all_read { OnOk result (IsAtEnd (R.remaining (held reader.new))) }
+
+    ensures file { IsErrOf result StreamFault.File → IsYoung reader.old → (has_failed reader.new ≡ true)
+        ⊎ (has_failed writer.new ≡ true) ⊎ IsPastBound reader.old reader.new }
+    // Where memory is told for, no call has failed, and nothing was written.
+    ensures memory { IsErrOf result StreamFault.Memory → (has_failed reader.new ≡ false) × (writer.new ≡ writer.old) }
+    ensures reads { reads_of reader.new ≤ reads_of reader.old + 2 ^ 31 }
+{
+    let bytes = read_all(alloc, reader)?;
+    upgrade_text(alloc, &bytes, writer)
+}

@@ -1,0 +1,260 @@
+//! The program's words, read with `clap`.
+
+ghost use Rattle.std.specs.Prelude.{◌≡◌, IfOk, IfSome, Some, codes, false, map, option_map, string_bytes};
+ghost use Rattle.monk_object.specs.Names.{object_word};
+ghost use Rattle.clap.specs.Words.{App, app_of, first_value, found_of, rows_of, rule_of, subcommand_of, subcommand_rows_of};
+ghost use Rattle.monk_samples.specs.Samples.{IsInRange, sample_object};
+ghost use Rattle.monk_commands.specs.Request.{AreRunValues, IsAsked, IsMonk, IsRead, IsRunCommand, IsSubcommand, classify_app, file_app};
+ghost use Rattle.monk_commands.specs.Request.{required_rule};
+
+use crate::request::{Line, LineFault};
+use clap::builder::ValueParser;
+use clap::error::ErrorKind;
+use clap::{Arg, ArgMatches, Command, value_parser};
+use monk_kinds::KindName;
+use monk_object::ObjectName;
+use monk_samples::Sample;
+use std::alloc::{AllocError, Global};
+
+static KINDS: [&str; 10] = [
+    "PB", "NPB", "PNB", "NPNB", "PQB", "NPQB", "PIR", "NPIR", "PIS", "NPIS",
+];
+
+static SAMPLES: [&str; 3] = ["buffer", "book", "shop"];
+
+const VERSION: &str = "1.0.0";
+
+const PRIORITY: &str = "A priority, 0 to 255; greater is higher";
+
+/// What the help of a command says of it: what it does, and an example.
+struct Help {
+    about: &'static str,
+    example: &'static str,
+}
+
+static CLASSIFY: Help = Help {
+    about: "Names the ordering of three priorities, and its kind",
+    example: "Example: monk classify 1 3 2",
+};
+
+static AUDIT: Help = Help {
+    about: "Tells whether a history is legal",
+    example: "Example: monk audit examples/hoare_handover.history",
+};
+
+static PLAY: Help = Help {
+    about: "Plays a script of atomic steps",
+    example: "Example: monk play examples/ticket_at_the_drop.play",
+};
+
+static UPGRADE: Help = Help {
+    about: "Writes the same history in the newest version",
+    example: "Example: monk upgrade examples/hoare_handover.history",
+};
+
+static FIT: Help = Help {
+    about: "Tells under which kinds a history is legal",
+    example: "Example: monk fit examples/hoare_handover.history",
+};
+
+static TRACE: Help = Help {
+    about: "Tells what each step of a play came to",
+    example: "Example: monk trace examples/ticket_at_the_drop.play",
+};
+
+static RUN: Help = Help {
+    about: "Runs a sample in threads, and prints its totals",
+    example: "Example: monk run NPQB buffer 8 100",
+};
+
+static RECORD: Help = Help {
+    about: "Runs a sample in threads, and writes its history",
+    example: "Example: monk record PB shop 4 10",
+};
+
+fn command<'a>(alloc: Global) -> Result<Command<'a>, AllocError>
+    ensures { IfOk result (λ c. IsMonk (app_of c)) }
+{
+    let classify = classify(alloc)?;
+    let audit = with_file(alloc, "audit", &AUDIT)?;
+    let play = with_file(alloc, "play", &PLAY)?;
+    let upgrade = with_file(alloc, "upgrade", &UPGRADE)?;
+    let fit = with_file(alloc, "fit", &FIT)?;
+    let trace = with_file(alloc, "trace", &TRACE)?;
+    let run = running(alloc, "run", &RUN)?;
+    let record = running(alloc, "record", &RECORD)?;
+    Command::new(alloc, "monk")
+        .bin_name("monk")?
+        .version(VERSION)
+        .subcommand_required(true)
+        .subcommand(classify)?
+        .subcommand(audit)?
+        .subcommand(play)?
+        .subcommand(upgrade)?
+        .subcommand(fit)?
+        .subcommand(trace)?
+        .subcommand(run)?
+        .subcommand(record)
+}
+
+fn classify<'a>(alloc: Global) -> Result<Command<'a>, AllocError>
+    ensures { IfOk result (λ c. IsSubcommand c classify_app) }
+{
+    let entry = required(alloc, "ENTRY", PRIORITY, value_parser!(u8));
+    let waiter = required(alloc, "WAITER", PRIORITY, value_parser!(u8));
+    let signaller = required(alloc, "SIGNALLER", PRIORITY, value_parser!(u8));
+    Command::new(alloc, "classify")
+        .about(CLASSIFY.about)
+        .after_help(CLASSIFY.example)
+        .arg(entry)?
+        .arg(waiter)?
+        .arg(signaller)
+}
+
+/// A command that takes a kind, a sample, and how many seats and rounds.
+fn running<'a>(alloc: Global, name: &'a str, help: &Help) -> Result<Command<'a>, AllocError>
+    ensures { IfOk result (IsRunCommand name.entry.now) }
+{
+    let kinds = ValueParser::Names(KINDS.as_slice());
+    let samples = ValueParser::Names(SAMPLES.as_slice());
+    let seats = value_parser!(u8).range(2..=16);
+    let rounds = value_parser!(u32).range(1..=1000);
+    Command::new(alloc, name)
+        .about(help.about)
+        .after_help(help.example)
+        .arg(required(alloc, "KIND", "The kind of monitor", kinds))?
+        .arg(required(alloc, "SAMPLE", "What the threads do", samples))?
+        .arg(required(alloc, "SEATS", "How many seats, 2 to 16", seats))?
+        .arg(required(alloc, "ROUNDS", "How often, 1 to 1000", rounds))
+}
+
+/// A command that takes a file, or standard input where none is named.
+fn with_file<'a>(alloc: Global, name: &'a str, help: &Help) -> Result<Command<'a>, AllocError>
+    ensures { IfOk result (λ c. IsSubcommand c (file_app name.entry.now)) }
+{
+    Command::new(alloc, name)
+        .about(help.about)
+        .after_help(help.example)
+        .arg(Arg::new(alloc, "FILE").help("The text; with none, standard input"))
+}
+
+/// A word that must stand there, and that the parser takes.
+fn required<'a>(alloc: Global, name: &'a str, help: &'a str, parser: ValueParser<'a>) -> Arg<'a>
+    ensures rule { rule_of result ≡ required_rule name.entry.now parser.entry }
+    ensures local { result.global ≡ false }
+{
+    Arg::new(alloc, name)
+        .help(help)
+        .required(true)
+        .value_parser(parser)
+}
+
+fn fault_of(alloc: Global, error: &clap::Error) -> LineFault {
+    if error.kind() == ErrorKind::OutOfMemory {
+        return LineFault::Memory;
+    }
+    match error.to_string(alloc) {
+        Ok(text) => LineFault::Words(text),
+        Err(_) => LineFault::Memory,
+    }
+}
+
+fn file_of(alloc: Global, matches: &ArgMatches<'_>) -> Result<Option<String>, LineFault>
+    ensures { IfOk result (λ file. option_map string_bytes file ≡ first_value (found_of matches.now) (codes "FILE")) }
+{
+    match matches.get_str("FILE") {
+        Some(name) => Ok(Some(String::from_str(alloc, name)?)),
+        None => Ok(None),
+    }
+}
+
+fn priorities_of(matches: &ArgMatches<'_>) -> Option<Line>
+    ensures { IfSome result (λ l. IsRead (codes "classify") l (rows_of (found_of matches.now))) }
+{
+    Some(Line::Classify(
+        matches.get_one::<u8>("ENTRY")?,
+        matches.get_one::<u8>("WAITER")?,
+        matches.get_one::<u8>("SIGNALLER")?,
+    ))
+}
+
+fn sample_of(name: &str) -> Option<Sample>
+    ensures { IfSome result (λ sample. name.now ≡ object_word (sample_object sample)) }
+{
+    match ObjectName::of_text(name.as_bytes())? {
+        ObjectName::Buffer => Some(Sample::Buffer),
+        ObjectName::Book => Some(Sample::Book),
+        ObjectName::Shop => Some(Sample::Shop),
+    }
+}
+
+/// The kind, the sample, the seats and the rounds that are asked for. clap has tested the ranges, and has no contract that
+/// says so of a subcommand's numbers, so they are tested once more.
+fn run_of(matches: &ArgMatches<'_>) -> Option<(KindName, Sample, u8, u32)>
+    ensures values { IfSome result (λ r. AreRunValues r.0 r.1 r.2 r.3 (rows_of (found_of matches.now))) }
+    ensures in_range { IfSome result (λ r. IsInRange r.2 r.3) }
+{
+    let kind = KindName::of_text(matches.get_str("KIND")?.as_bytes())?;
+    let sample = sample_of(matches.get_str("SAMPLE")?)?;
+    let seats = matches.get_one::<u8>("SEATS")?;
+    let rounds = matches.get_one::<u32>("ROUNDS")?;
+    if !(2..=16).contains(&seats) || !(1..=1000).contains(&rounds) {
+        return None;
+    }
+    Some((kind, sample, seats, rounds))
+}
+
+fn line_to_run(matches: &ArgMatches<'_>) -> Option<Line>
+    ensures { IfSome result (λ l. IsRead (codes "run") l (rows_of (found_of matches.now))) }
+{
+    let (kind, sample, seats, rounds) = run_of(matches)?;
+    Some(Line::Run(kind, sample, seats, rounds))
+}
+
+fn line_to_record(matches: &ArgMatches<'_>) -> Option<Line>
+    ensures { IfSome result (λ l. IsRead (codes "record") l (rows_of (found_of matches.now))) }
+{
+    let (kind, sample, seats, rounds) = run_of(matches)?;
+    Some(Line::Record(kind, sample, seats, rounds))
+}
+
+/// What the matches ask for, if it is a command of the program with all its values.
+fn asked(alloc: Global, matches: &ArgMatches<'_>) -> Result<Option<Line>, LineFault>
+    ensures { IfOk result (λ found. IfSome found (λ l. IsAsked l (subcommand_rows_of matches.now))) }
+{
+    match matches.subcommand() {
+        Some(("classify", classify)) => Ok(priorities_of(classify)),
+        Some(("audit", audit)) => Ok(Some(Line::Audit(file_of(alloc, audit)?))),
+        Some(("play", play)) => Ok(Some(Line::Play(file_of(alloc, play)?))),
+        Some(("upgrade", upgrade)) => Ok(Some(Line::Upgrade(file_of(alloc, upgrade)?))),
+        Some(("fit", fit)) => Ok(Some(Line::Fit(file_of(alloc, fit)?))),
+        Some(("trace", trace)) => Ok(Some(Line::Trace(file_of(alloc, trace)?))),
+        Some(("run", run)) => Ok(line_to_run(run)),
+        Some(("record", record)) => Ok(line_to_record(record)),
+        _ => Ok(None),
+    }
+}
+
+/// Reads the words, the program's own name first.
+///
+/// The line is for the command that clap finds in the words, with the values that clap finds there: a file, or a kind and
+/// a sample, and whole numbers: of `classify` from 0 to 255, of `run` and `record` from 2 to 16 and from 1 to 1000.
+///
+/// # Errors
+///
+/// [`LineFault::Words`] with clap's own text where the words are no command of the program, and where they ask for help or for the
+/// version.
+/// [`LineFault::Memory`] where a growth was refused.
+pub fn line(alloc: Global, words: &[&str]) -> Result<Line, LineFault>
+    ensures { IfOk result (λ l. (a : App) × (IsMonk a × IsAsked l (subcommand_of a (map (λ w. w.now) words.entry.now)))) }
+{
+    let matches = match command(alloc)?.try_get_matches_from(words) {
+        Ok(matches) => matches,
+        Err(error) => return Err(fault_of(alloc, &error)),
+    };
+    // clap lets no command through without its subcommand or a value that is required.
+    match asked(alloc, &matches)? {
+        Some(line) => Ok(line),
+        None => Err(LineFault::Words(String::new(alloc))),
+    }
+}
