@@ -1,5 +1,5 @@
 -- How a log is judged, line by line. That what is judged well is exactly what is open is the law `judged_is_open`
-use Rattle.std.specs.Prelude.{ℕ, ◌==◌, Bool, List, [], ◌∷◌, ◌++◌, Option, Some, None, if◌then◌else◌}
+use Rattle.std.specs.Prelude.{ℕ, ◌==◌, List, [], ◌∷◌, ◌++◌, Option, Some, None, if◌then◌else◌}
 use Rattle.std.specs.Option.{option_map}
 use Rattle.monk_object.specs.Object.{Object}
 use Rattle.monk_history.specs.declared.event.Event.{Event}

@@ -11,7 +11,6 @@ use Rattle.monk_history.specs.declared.event.Event.TheVariants as event
 use Rattle.monk_history.specs.declared.event.From3.{From3}
 use Rattle.monk_history.specs.declared.event.From3.TheVariants as from
 use Rattle.monk_history.specs.declared.event.Next.{Next}
-use Rattle.monk_history.specs.declared.event.Next.TheVariants as next
 use Rattle.monk_history.specs.declared.event.Next.TheVariants.{Stay}
 use Rattle.monk_history.specs.declared.event.Turn.{Turn}
 use Rattle.monk_history.specs.declared.event.Turn.TheVariants.{Open, Due, Owned}
@@ -21,11 +20,11 @@ use Rattle.monk_history.specs.Meaning.Choice.{queues_at}
 use Rattle.monk_history.specs.Meaning.Events.{next_of, seat_of, has_signaller_queue, returns_at_once}
 use Rattle.monk_history.specs.Meaning.Legal.{IsLegal}
 use Rattle.monk_history.specs.Meaning.Monitor.{Monitor}
-use Rattle.monk_history.specs.Meaning.Reasons.{IsAllowed, IsAllowedIn, fits_turn, is_due, is_queue, may_enter, reason_before, reason_in}
-use Rattle.monk_history.specs.Meaning.Release.{MayCall, MayCallIn, as_called, with_next}
+use Rattle.monk_history.specs.Meaning.Reasons.{IsAllowed, IsAllowedIn, fits_turn, is_due, is_queue, may_enter}
+use Rattle.monk_history.specs.Meaning.Release.{MayCall, as_called, with_next}
 use Rattle.monk_history.specs.Meaning.Signallers.{is_empty}
 use Rattle.monk_history.specs.Meaning.Situation.{Situation, situation}
-use Rattle.monk_history.specs.Meaning.Step.{after, opening_situation}
+use Rattle.monk_history.specs.Meaning.Step.{after}
 use Rattle.monk_history.specs.Meaning.Turn.{turn, turn_by}
 use Rattle.monk_history.proofs.PublicLaws.Meaning.{and_left, and_right, history_induction, legal-push, legal_front, legal_last}
 use Rattle.monk_history.proofs.PublicLaws.Meaning.{legal_none, legal_situation-push, situation-none, turn-push}
@@ -34,7 +33,7 @@ use Rattle.monk_logs.specs.Course.{due_from, told_next, told_release}
 use Rattle.monk_logs.specs.Erasure.{erased, erasure}
 use Rattle.monk_logs.specs.Fits.{IsOpen}
 use Rattle.monk_logs.specs.declared.line.LogLine.{LogLine}
-use Rattle.monk_logs.specs.declared.line.LogLine.TheVariants.{Enter, Resume, Lapse, Leave, Wait, Signal, Broadcast, Until, Act}
+use Rattle.monk_logs.specs.declared.line.LogLine.TheVariants.{Enter, Resume, Leave, Wait, Signal, Broadcast, Until, Act}
 use Rattle.monk_logs.specs.declared.pending.Pending.{Pending}
 use Rattle.monk_logs.specs.declared.pending.Pending.TheVariants.{Settled, Half, Release}
 use Rattle.monk_logs.proofs.CourseLaws.Lists.{erasure-push, judge_from-append, none_again}

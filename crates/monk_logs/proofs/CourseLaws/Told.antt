@@ -1,5 +1,5 @@
 -- In a legal history the line of the event behind a release tells what the release chose
-use Rattle.std.proofs.Common.{◌≡◌, ℕ, ◌+◌, ◌≤◌, Bool, true, false, cond, ◌&&◌, ◌||◌, not, List, [], ◌∷◌, ◌++◌, drop, Option, Some, None, refl, sym, ap}
+use Rattle.std.proofs.Common.{◌≡◌, ℕ, ◌+◌, ◌≤◌, Bool, true, false, cond, ◌&&◌, ◌||◌, not, List, [], ◌∷◌, ◌++◌, drop, Option, Some, refl, ap}
 use Rattle.std.proofs.Common.{subst, ◌∙◌, arith}
 use Rattle.std.proofs.lemmas.Bool.{eqb-true, eq-eqb}
 use Rattle.std.specs.Option.{option_map_or}
@@ -12,17 +12,15 @@ use Rattle.monk_history.specs.declared.event.From3.{From3}
 use Rattle.monk_history.specs.declared.event.From3.TheVariants as from
 use Rattle.monk_history.specs.declared.event.Next.{Next}
 use Rattle.monk_history.specs.declared.event.Next.TheVariants as next
-use Rattle.monk_history.specs.declared.event.Turn.{Turn}
 use Rattle.monk_history.specs.declared.event.Turn.TheVariants.{Due}
-use Rattle.monk_history.specs.Meaning.Choice.{Queues, queues_at, is_front, is_permitted, may_choose, may_signal, must_stay}
+use Rattle.monk_history.specs.Meaning.Choice.{Queues, queues_at, is_front, may_choose, may_signal, must_stay}
 use Rattle.monk_history.specs.Meaning.Events.{next_of, seat_of, steps_back, is_signaller, is_stay, is_waiter}
 use Rattle.monk_history.specs.Meaning.Legal.{IsLegal}
 use Rattle.monk_history.specs.Meaning.Monitor.{Monitor}
-use Rattle.monk_history.specs.Meaning.Reasons.{fits_turn, is_due, is_open, is_owned_by, is_queue}
-use Rattle.monk_history.specs.Meaning.Release.{as_called, with_next}
+use Rattle.monk_history.specs.Meaning.Reasons.{fits_turn, is_due, is_open, is_owned_by}
 use Rattle.monk_history.specs.Meaning.Signallers.{is_empty, signals, takes_signaller}
 use Rattle.monk_history.specs.Meaning.Situation.{Situation, situation}
-use Rattle.monk_history.specs.Meaning.Standing.{has_turn, in_queues, standing, times, times_in_conditions}
+use Rattle.monk_history.specs.Meaning.Standing.{has_turn, in_queues, standing, times}
 use Rattle.monk_history.specs.Meaning.Step.{after}
 use Rattle.monk_history.specs.Meaning.Turn.{turn_by}
 use Rattle.monk_history.proofs.PublicLaws.Meaning.{and_left, legal_front, legal_last, legal_placed, legal_situation-push}

@@ -1,5 +1,5 @@
 -- No word of a line or of a log's first line has a byte 32 or 10.
-use Rattle.std.proofs.Common.{ℕ, refl, arith}
+use Rattle.std.proofs.Common.{refl, arith}
 use Rattle.monk_history.proofs.PublicLaws.Texts.{AreWords, IsWord-decimal, decimal_word, object_is_word}
 use Rattle.monk_logs.specs.Log.{LogHeading, IsLogHeading, log_header_words, log_words, LineFits}
 use Rattle.monk_logs.specs.declared.line.LogLine.{LogLine}

@@ -1,5 +1,5 @@
 -- How the first line and the others of a log are read from their words, and the whole log from its text.
-use Rattle.std.specs.Prelude.{ℕ, List, [], ◌∷◌, Bool, ◌&&◌, Option, Some, None, Result, Ok, nat_le, if◌then◌else◌, codes}
+use Rattle.std.specs.Prelude.{ℕ, List, [], ◌∷◌, ◌&&◌, Option, Some, None, Result, Ok, nat_le, if◌then◌else◌, codes}
 use Rattle.std.specs.Global.{Vec}
 use Rattle.monk_object.specs.declared.name.ObjectName.{ObjectName}
 use Rattle.monk_object.specs.Names.{object_word, objects}
