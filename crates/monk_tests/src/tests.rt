@@ -9,6 +9,7 @@ mod floor_steps;
 mod full_floor;
 mod halls;
 mod kinds;
+mod logs;
 mod objects;
 mod play_texts;
 mod refused;
