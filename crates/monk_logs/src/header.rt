@@ -1,6 +1,6 @@
 //! What stands before the lines of a log.
 
-ghost use Rattle.std.specs.Prelude.{◌≡◌, ◌≤◌};
+ghost use Rattle.std.specs.Prelude.{◌≡◌};
 ghost use Rattle.monk_object.specs.Names.{object_word, objects};
 ghost use Rattle.monk_history.specs.Text.Words.{Reads, one_of};
 ghost use Rattle.monk_logs.specs.Log.{LogHeading, IsLogHeading};

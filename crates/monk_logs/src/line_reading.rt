@@ -1,6 +1,5 @@
 //! A line of a log, read from its words.
 
-ghost use Rattle.std.specs.Prelude.{◌≡◌};
 ghost use Rattle.monk_history.specs.Text.Reading.{act_at};
 ghost use Rattle.monk_history.specs.Text.Words.{Reads, one_of};
 ghost use Rattle.monk_logs.specs.Log.Reading.{log_verb_word, log_verbs, line_after, log_line_at};

@@ -95,7 +95,8 @@ release_tells m past e log c h stays legal told =
 -- ---- one line
 
 signal_tells : (m : Monitor) (past : List Event) (s c : ℕ) (log : List LogLine) (d : Course) (b : Bool)
-    → cond b (hold m past (event.SignalLeave s c Stay) (Half s c)) (hold m past (event.Signal s c Stay) (Release (event.Signal s c Stay))) ≡ Some d
+    → cond b (hold m past (event.SignalLeave s c Stay) (Half s c))
+    (hold m past (event.Signal s c Stay) (Release (event.Signal s c Stay))) ≡ Some d
     → IsLegal m past → erasure past ≡ log → TellsAt m (log ++ Signal s c ∷ []) d
 signal_tells m past s c log d true h legal told =
     let p = held_tells m past (event.SignalLeave s c Stay) (Half s c) d h in

@@ -96,6 +96,16 @@ allowed_called m t (Signal s c x) a =
 allowed_called m t (SignalLeave s c x) a =
     record { in_range = unnamed m s x true (nat_lt c m.conds) true a.in_range; offered = a.offered; in_turn = a.in_turn; in_place = refl }
 allowed_called m t (Until s p x) a =
-    record { in_range = unnamed m s x true true (nat_lt p m.object.predicates) a.in_range; offered = a.offered; in_turn = a.in_turn; in_place = refl }
+    record {
+      in_range = unnamed m s x true true (nat_lt p m.object.predicates) a.in_range;
+      offered = a.offered;
+      in_turn = a.in_turn;
+      in_place = refl;
+    }
 allowed_called m t (SignalWait s c d x) a =
-    record { in_range = unnamed m s x (nat_lt d m.conds) (nat_lt c m.conds) true a.in_range; offered = a.offered; in_turn = a.in_turn; in_place = refl }
+    record {
+      in_range = unnamed m s x (nat_lt d m.conds) (nat_lt c m.conds) true a.in_range;
+      offered = a.offered;
+      in_turn = a.in_turn;
+      in_place = refl;
+    }
