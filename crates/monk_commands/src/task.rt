@@ -1,5 +1,8 @@
-ghost use Rattle.std.specs.Prelude.{◌≡◌, ◌≤◌, false, IfOk};
-ghost use Rattle.monk_history.specs.Text.Device.{has_failed};
+ghost use Rattle.std.specs.Prelude.{◌≡◌, ◌+◌, ◌≤◌, ◌^◌, ◌⊎◌, false, true, IfOk, OnOk, IfSome, IsErrOf};
+ghost use Rattle.std.specs.Io.KnownBytes.{Appends, IsAtEnd};
+ghost use Rattle.monk_history.specs.Text.Device.{held, has_failed, reads_of};
+ghost use Rattle.monk_commands.specs.Streams.{IsYoung, IsPastBound};
+ghost use Rattle.monk_commands.specs.Tasks.{IsTaskAnswer};
 
 use crate::auditing::audit_stream;
 use crate::drawing::draw_stream;
@@ -12,20 +15,35 @@ use monk_history::Device;
 use std::alloc::Global;
 use std::io::{Read, Write};
 
-/// What is made of an input.
+/// A command that reads an input: what is made of it.
 #[derive(Clone, Copy)]
-pub(crate) enum Task {
+pub enum Task {
+    /// The verdict on a history, by [`audit_stream`].
     Audit,
+    /// The history that a play leads to, by [`play_stream`].
     Play,
+    /// The same history in the newest version, by [`upgrade_stream`].
     Upgrade,
+    /// The verdicts on a history under each of the ten kinds, by [`fit_stream`].
     Fit,
+    /// Each command of a play with its answer, by [`trace_stream`].
     Trace,
+    /// The picture of a history, by [`draw_stream`].
     Draw,
 }
 
 impl Task {
-    /// Makes it of all of the reader; the result is the exit status.
-    pub(crate) fn stream<R: Read, W: Write>(
+    /// Makes it of all of the reader, by the stream that the variant names; the result is the exit status, 0 to 2.
+    ///
+    /// # Errors
+    ///
+    /// [`StreamFault::File`] where the reader or the writer failed, or where the input has more than 2^31 bytes or takes
+    /// more than 2^31 reads. [`StreamFault::Memory`] where a growth was refused.
+    ///
+    /// # Cost
+    ///
+    /// That of the stream.
+    pub fn stream<R: Read, W: Write>(
         self,
         alloc: Global,
         reader: &mut Device<R>,
@@ -33,7 +51,19 @@ impl Task {
     ) -> Result<u8, StreamFault>
         requires reader_works { has_failed reader.old ≡ false }
         requires writer_works { has_failed writer.old ≡ false }
-        ensures { IfOk result (λ status. status ≤ 2) }
+
+        // What is written, and its status, are what the command answers to what the reader had.
+        ensures answer { IfOk result
+            (λ status. IfSome (R.remaining (held reader.old))
+            (λ input. IsTaskAnswer self input status (Appends (W.contents (held writer.old)) (W.contents (held writer.new))))) }
+        ensures statuses { IfOk result (λ status. status ≤ 2) }
+        ensures all_read { OnOk result (IsAtEnd (R.remaining (held reader.new))) }
+
+        ensures file { IsErrOf result StreamFault.File → IsYoung reader.old → (has_failed reader.new ≡ true)
+            ⊎ (has_failed writer.new ≡ true) ⊎ IsPastBound reader.old reader.new }
+        // Where memory is told for, no call has failed, and nothing was written.
+        ensures memory { IsErrOf result StreamFault.Memory → (has_failed reader.new ≡ false) × (writer.new ≡ writer.old) }
+        ensures reads { reads_of reader.new ≤ reads_of reader.old + 2 ^ 31 }
     {
         match self {
             Task::Audit => audit_stream(alloc, reader, writer),

@@ -3,15 +3,15 @@
 
 mod audits;
 mod calls;
+mod floor_entry;
 mod floor_histories;
 mod floor_steps;
-mod floors;
 mod full_floor;
 mod halls;
 mod kinds;
+mod logs;
 mod objects;
 mod play_texts;
-mod random_calls;
 mod refused;
 mod samples;
 mod texts;

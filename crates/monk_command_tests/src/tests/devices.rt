@@ -1,8 +1,7 @@
 //! Readers and writers that fail at each of their calls in turn, that give or take a few bytes at a time, or none.
 ghost use Rattle.std.specs.Prelude.{◌<◌};
 
-use monk_commands::Task;
-use monk_commands::{StreamFault, classify_stream, draw_stream, run_stream};
+use monk_commands::{StreamFault, Task, classify_stream, draw_stream, run_stream};
 use monk_history::Device;
 use monk_kinds::KindName;
 use monk_samples::Sample;

@@ -1,13 +1,11 @@
 //! Threads over the samples: what they leave is audited, and its totals are told.
-ghost use Rattle.std.specs.Prelude.{◌≢◌};
 ghost use Rattle.monk_samples.specs.Samples.{IsInRange};
 
-use monk_commands::running::ended;
-use monk_commands::{StreamFault, run_stream};
 use monk_audit::{Verdict, audit};
+use monk_commands::{StreamFault, run_stream};
 use monk_history::Device;
 use monk_kinds::{KindName, Npqb, Pb, Pir, Pis, Pnb};
-use monk_samples::{OpenGate, RunFault, Sample, Style, run};
+use monk_samples::{OpenGate, Sample, Style, run};
 use std::process::Abort;
 use std::sync::Wait;
 use std::test::Fail;
@@ -101,25 +99,5 @@ fn shops_tell_who_came_and_went(rt: HostRuntime) -> Result<(), Fail> {
         let text = "sat 30\ncalled 30\nfinished 30\ndeparted 30\nlegal\n";
         assert!(rt; tells(&rt, kind, Sample::Shop, 4, 10, text)?);
     }
-    Ok(())
-}
-
-/// What is told of a run that ended so, with status 1.
-fn word_of<R: Abort + AllocGlobal>(rt: &R, fault: RunFault) -> Result<String, Fail>
-    requires { fault ≢ RunFault.Range }
-{
-    let answer = ended(rt.alloc(), fault)?;
-    assert_eq!(rt; answer.status, 1);
-    Ok(answer.text)
-}
-
-#[test]
-fn each_end_has_its_word(rt: HostRuntime) -> Result<(), Fail> {
-    assert_eq!(rt; word_of(&rt, RunFault::Tired)?.as_str(), "tired\n");
-    assert_eq!(rt; word_of(&rt, RunFault::Late)?.as_str(), "late\n");
-    assert_eq!(rt; word_of(&rt, RunFault::Busy)?.as_str(), "busy\n");
-    let alloc = rt.alloc();
-    assert!(rt; matches!(ended(alloc, RunFault::Thread), Err(StreamFault::File)));
-    assert!(rt; matches!(ended(alloc, RunFault::Memory), Err(StreamFault::Memory)));
     Ok(())
 }

@@ -132,10 +132,18 @@ const RETURN_PAST_WAITER: [Event; 4] = [
     Event::SignalLeave(1, 0, Next::Entry),
 ];
 
+/// Nobody waits, and the caller leaves all the same.
+const SIGNAL_TO_NOBODY: [Event; 2] = [
+    Event::Enter(0, Via::Free),
+    Event::SignalLeave(0, 0, Next::Entry),
+];
+
 #[test]
 fn immediate_return(rt: HostRuntime) -> Result<(), Fail> {
     assert!(rt; both_returning::<Pir>(&rt, &SIGNAL_AND_RETURN, Pick::Entry)?);
     assert!(rt; both_returning::<Npir>(&rt, &RETURN_PAST_WAITER, Pick::Entry)?);
+    assert!(rt; both_returning::<Pir>(&rt, &SIGNAL_TO_NOBODY, Pick::Waiter)?);
+    assert!(rt; both_returning::<Npir>(&rt, &SIGNAL_TO_NOBODY, Pick::Waiter)?);
     Ok(())
 }
 

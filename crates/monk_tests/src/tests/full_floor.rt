@@ -3,7 +3,7 @@
 ghost use Rattle.std.specs.Prelude.{◌≡◌, ◌<◌, IfOk, IsTrue};
 ghost use Rattle.monk_tests.specs.FloorCalls.{IsSameSize, OwnsTurn};
 
-use super::random_calls::{enter, turn_of};
+use super::floor_entry::{enter, turn_of};
 use monk_floor::Floor;
 use monk_history::{Event, From3, Next, Turn, Via};
 use monk_kinds::{Pick, Pnb};

@@ -2,6 +2,7 @@
 
 mod audits;
 mod buffers;
+mod logs;
 mod plays;
 mod texts;
 mod worlds;

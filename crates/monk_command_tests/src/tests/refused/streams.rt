@@ -1,5 +1,4 @@
-use monk_commands::StreamFault;
-use monk_commands::Task;
+use monk_commands::{StreamFault, Task};
 use monk_history::Device;
 use std::io;
 use std::io::Write;

@@ -1,0 +1,36 @@
+//! The commands of `monk`: the words of a command line give a request, and each request has a stream that answers it.
+//!
+//! A stream reads all of its input, and answers it by what it writes and by a status; what that is, is said by its contract
+//! as a function of what was read.
+#![tactic(auto)]
+
+mod answer;
+mod auditing;
+mod classifying;
+mod drawing;
+mod fault;
+mod fitting;
+mod input;
+mod playing;
+mod recording;
+mod report;
+mod request;
+mod running;
+mod task;
+mod tracing;
+mod upgrading;
+mod words;
+
+pub use auditing::audit_stream;
+pub use classifying::classify_stream;
+pub use drawing::draw_stream;
+pub use fault::StreamFault;
+pub use fitting::fit_stream;
+pub use playing::play_stream;
+pub use recording::record_stream;
+pub use request::{Line, LineFault};
+pub use running::run_stream;
+pub use task::Task;
+pub use tracing::trace_stream;
+pub use upgrading::upgrade_stream;
+pub use words::line;

@@ -1,0 +1,111 @@
+-- The tests of an event, read from the reason and back; and which tests a call has passed
+use Rattle.std.proofs.Common.{◌≡◌, ℕ, Bool, true, false, cond, not, ◌&&◌, Some, None, refl, arith}
+use Rattle.std.proofs.lemmas.Bool.{eqb-true}
+use Rattle.std.specs.Prelude.{◌==◌, nat_lt}
+use Rattle.std.specs.List.{list_all}
+use Rattle.monk_history.specs.declared.event.Next.{Next}
+use Rattle.monk_history.specs.Meaning.Events.{named_seat}
+use Rattle.monk_history.specs.declared.event.Event.{Event}
+use Rattle.monk_history.specs.declared.event.Event.TheVariants.{Enter, Act, Leave, Wait, Signal, SignalLeave, Until, Resume}
+use Rattle.monk_history.specs.declared.event.Event.TheVariants.{SignalAll, SignalWait}
+use Rattle.monk_history.specs.Meaning.Monitor.{Monitor}
+use Rattle.monk_history.specs.Meaning.Reasons.{IsAllowedIn, reason_before, reason_in, is_in_range, is_offered, is_in_turn, is_in_place}
+use Rattle.monk_history.specs.Meaning.Reasons.{is_right_reply}
+use Rattle.monk_history.specs.Meaning.Choice.{is_permitted}
+use Rattle.monk_history.specs.Meaning.Release.{MayCallIn, as_called}
+use Rattle.monk_history.specs.Meaning.Situation.{Situation}
+
+-- ---- what was added where a test passed
+
+some_if : {X : Type 0} (b : Bool) (x y : X) → cond b (Some x) None ≡ Some y → (b ≡ true) × (x ≡ y)
+some_if true x y h = (refl, cc)
+some_if false x y h = absurd cc
+
+pub passed : {X : Type 0} (n : ℕ) (x y : X) → cond (n == 0) (Some x) None ≡ Some y → (n ≡ 0) × (x ≡ y)
+passed n x y h = let p = some_if (n == 0) x y h in (eqb-true n 0 p.0, p.1)
+
+-- ---- the tests 1 to 4
+
+abbrev first_of_four : Bool → Bool → Bool → Bool → ℕ
+first_of_four a b c d = cond (not a) 1 (cond (not b) 2 (cond (not c) 3 (cond (not d) 4 0)))
+
+four_passed : (a b c d : Bool) → first_of_four a b c d ≡ 0 → (a ≡ true) × (b ≡ true) × (c ≡ true) × (d ≡ true)
+four_passed true true true true h = (refl, refl, refl, refl)
+four_passed true true true false h = absurd (omega arith)
+four_passed true true false d h = absurd (omega arith)
+four_passed true false c d h = absurd (omega arith)
+four_passed false b c d h = absurd (omega arith)
+
+pub called_from_tests : (m : Monitor) (t : Situation) (e : Event) → reason_before 0 m t e ≡ 0 → MayCallIn m t e
+called_from_tests m t e h =
+    let p = four_passed (is_in_range m.seats m.conds m.object.codes m.object.predicates e) (is_offered m.kind e)
+    (is_in_turn t e) (is_in_place m.object t e) h in
+    record { in_range = p.0; offered = p.1; in_turn = p.2; in_place = p.3 }
+
+none_of_four : (a b c d : Bool) → a ≡ true → b ≡ true → c ≡ true → d ≡ true
+    → first_of_four a b c d ≡ 0
+none_of_four a b c d g h i j = rw (g, h, i, j) refl
+
+pub tests_from_called : (m : Monitor) (t : Situation) (e : Event) → MayCallIn m t e → reason_before 0 m t e ≡ 0
+tests_from_called m t e c =
+    none_of_four (is_in_range m.seats m.conds m.object.codes m.object.predicates e) (is_offered m.kind e)
+    (is_in_turn t e) (is_in_place m.object t e) c.in_range c.offered c.in_turn c.in_place
+
+-- ---- all six
+
+abbrev first_of_six : Bool → Bool → Bool → Bool → Bool → Bool → ℕ
+first_of_six a b c d e f = cond (not a) 1 (cond (not b) 2 (cond (not c) 3 (cond (not d) 4 (cond (not e) 5 (cond (not f) 6 0)))))
+
+none_of_six : (a b c d e f : Bool) → a ≡ true → b ≡ true → c ≡ true → d ≡ true → e ≡ true → f ≡ true
+    → first_of_six a b c d e f ≡ 0
+none_of_six a b c d e f g h i j k l = rw (g, h, i, j, k, l) refl
+
+pub reason_from_allowed : (m : Monitor) (t : Situation) (e : Event) → IsAllowedIn m t e → reason_in m t e ≡ 0
+unfolding reason_in
+reason_from_allowed m t e a =
+    none_of_six (is_in_range m.seats m.conds m.object.codes m.object.predicates e) (is_offered m.kind e)
+    (is_in_turn t e) (is_in_place m.object t e) (is_right_reply m.object t.state e)
+    (is_permitted m.kind m.object t e) a.in_range a.offered a.in_turn a.in_place a.right_reply a.permitted
+
+-- ---- an event that is allowed may be called
+
+without : (a b c d e : Bool) → ((((a && b) && c) && d) && e) ≡ true → ((((a && true) && c) && d) && e) ≡ true
+without true true c d e h = h
+without true false c d e h = absurd cc
+without false b c d e h = h
+
+-- in range without the seat that it names
+unnamed : (m : Monitor) (s : ℕ) (x : Next) (waits signals object : Bool)
+    → ((((nat_lt s m.seats && list_all (λ j. nat_lt j m.seats) (named_seat (Some x))) && waits) && signals) && object) ≡ true
+    → ((((nat_lt s m.seats && true) && waits) && signals) && object) ≡ true
+unnamed m s x waits signals object h =
+    without (nat_lt s m.seats) (list_all (λ j. nat_lt j m.seats) (named_seat (Some x))) waits signals object h
+
+pub allowed_called : (m : Monitor) (t : Situation) (e : Event) → IsAllowedIn m t e → MayCallIn m t (as_called e)
+allowed_called m t (Enter s via) a = record { in_range = a.in_range; offered = a.offered; in_turn = a.in_turn; in_place = a.in_place }
+allowed_called m t (Act s op r) a = record { in_range = a.in_range; offered = a.offered; in_turn = a.in_turn; in_place = a.in_place }
+allowed_called m t (Resume s q) a = record { in_range = a.in_range; offered = a.offered; in_turn = a.in_turn; in_place = a.in_place }
+allowed_called m t (SignalAll s c) a =
+    record { in_range = a.in_range; offered = a.offered; in_turn = a.in_turn; in_place = a.in_place }
+allowed_called m t (Leave s x) a =
+    record { in_range = unnamed m s x true true true a.in_range; offered = a.offered; in_turn = a.in_turn; in_place = refl }
+allowed_called m t (Wait s c x) a =
+    record { in_range = unnamed m s x (nat_lt c m.conds) true true a.in_range; offered = a.offered; in_turn = a.in_turn; in_place = refl }
+allowed_called m t (Signal s c x) a =
+    record { in_range = unnamed m s x true (nat_lt c m.conds) true a.in_range; offered = a.offered; in_turn = a.in_turn; in_place = refl }
+allowed_called m t (SignalLeave s c x) a =
+    record { in_range = unnamed m s x true (nat_lt c m.conds) true a.in_range; offered = a.offered; in_turn = a.in_turn; in_place = refl }
+allowed_called m t (Until s p x) a =
+    record {
+      in_range = unnamed m s x true true (nat_lt p m.object.predicates) a.in_range;
+      offered = a.offered;
+      in_turn = a.in_turn;
+      in_place = refl;
+    }
+allowed_called m t (SignalWait s c d x) a =
+    record {
+      in_range = unnamed m s x (nat_lt d m.conds) (nat_lt c m.conds) true a.in_range;
+      offered = a.offered;
+      in_turn = a.in_turn;
+      in_place = refl;
+    }

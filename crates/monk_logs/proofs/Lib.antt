@@ -1,0 +1,2 @@
+mod LogLaws
+mod CourseLaws

@@ -1,0 +1,4 @@
+pub mod HeaderReading
+pub mod LineReading
+pub mod PlainLogs
+pub mod LogText

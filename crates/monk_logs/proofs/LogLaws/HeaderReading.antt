@@ -1,0 +1,117 @@
+-- What is read as a log's first line is how it is written, and one that is written is read again.
+use Rattle.std.proofs.Common.{lit<, ◌≡◌, ℕ, ◌≤◌, Bool, true, false, cond, List, [], ◌∷◌, Some, None, Ok, refl, sym, subst}
+use Rattle.std.proofs.Common.{arith}
+use Rattle.std.specs.Prelude.{nat_le, ◌&&◌, codes}
+use Rattle.std.specs.Fmt.{decimal}
+use Rattle.std.proofs.lemmas.Bool.{leb-true, le-leb}
+use Rattle.monk_kinds.specs.Names.{with_text}
+use Rattle.monk_object.specs.declared.name.ObjectName.{ObjectName}
+use Rattle.monk_object.specs.declared.name.ObjectName.TheVariants as object
+use Rattle.monk_object.specs.Names.{object_word, objects}
+use Rattle.monk_history.specs.Limits.{most_seats, most_conds}
+use Rattle.monk_history.specs.Text.Words.{◌>>=◌, Word, Taken, number_at, one_of, with_rest, literal_at, end_at}
+use Rattle.monk_history.proofs.PublicLaws.Texts.{bind_ok, ok_is, number_takes, number_again, literal_takes, end_takes}
+use Rattle.monk_history.proofs.PublicLaws.Texts.{one_of_takes, one_of_again}
+use Rattle.monk_logs.specs.Log.{LogHeading, IsLogHeading, log_heading, log_header_words}
+use Rattle.monk_logs.specs.Log.Reading.{log_heading_of, log_header_at}
+
+object_again : (o : ObjectName) → with_text object_word objects (object_word o) ≡ Some o
+object_again object.Buffer = refl
+object_again object.Book = refl
+object_again object.Shop = refl
+
+-- the steps of a first line, each with those after it
+abbrev at_end : ℕ → ℕ → ObjectName → ℕ → Unit {0} × List Word → Taken LogHeading
+at_end s c o z end = with_rest end.1 (log_heading_of s c o z)
+
+abbrev at_size : ℕ → ℕ → ObjectName → ℕ × List Word → Taken LogHeading
+at_size s c o z = end_at z.1 >>= at_end s c o z.0
+
+abbrev at_object : ℕ → ℕ → ObjectName × List Word → Taken LogHeading
+at_object s c o = number_at 255 o.1 >>= at_size s c o.0
+
+abbrev at_conds : ℕ → ℕ × List Word → Taken LogHeading
+at_conds s c = one_of object_word objects c.1 >>= at_object s c.0
+
+abbrev at_seats : ℕ × List Word → Taken LogHeading
+at_seats s = number_at 255 s.1 >>= at_conds s.0
+
+abbrev at_version : Unit {0} × List Word → Taken LogHeading
+at_version v = number_at 255 v.1 >>= at_seats
+
+abbrev at_name : Unit {0} × List Word → Taken LogHeading
+at_name l = literal_at (codes "1") l.1 >>= at_version
+
+all_four : (a b c d : Bool) → (a && b && c && d) ≡ true → (a ≡ true) × (b ≡ true) × (c ≡ true) × (d ≡ true)
+all_four true true true true h = (refl, refl, refl, refl)
+all_four true true true false h = absurd cc
+all_four true true false d h = absurd cc
+all_four true false c d h = absurd cc
+all_four false b c d h = absurd cc
+
+some_made : (b : Bool) (h : LogHeading) (ws : List Word) (x : LogHeading × List Word)
+    → with_rest ws (cond b (Some h) None) ≡ Ok x → (b ≡ true) × (x ≡ (h, ws))
+some_made true h ws x e = (refl, sym (ok_is (h, ws) x e))
+some_made false h ws x e = absurd cc
+
+heading_fits : (s c : ℕ) (o : ObjectName) (z : ℕ) (ws : List Word) (x : LogHeading × List Word) → z ≤ 255
+    → with_rest ws (log_heading_of s c o z) ≡ Ok x → (x ≡ (log_heading s c o z, ws)) × IsLogHeading (log_heading s c o z)
+heading_fits s c o z ws x le e =
+    let m = some_made (nat_le 1 s && nat_le s most_seats && nat_le c most_conds && nat_le 1 z) (log_heading s c o z) ws x e in
+    let t = all_four (nat_le 1 s) (nat_le s most_seats) (nat_le c most_conds) (nat_le 1 z) m.0 in (
+      m.1,
+      record {
+        some_seat = leb-true _ _ t.0;
+        seats = leb-true _ _ t.1;
+        conds = leb-true _ _ t.2;
+        some_size = leb-true _ _ t.3;
+        size = le;
+      },
+    )
+
+all_words : (ws a b c d e f : List Word) (t u v w x y : Word) → ws ≡ t ∷ a → a ≡ u ∷ b → b ≡ v ∷ c → c ≡ w ∷ d → d ≡ x ∷ e
+    → e ≡ y ∷ f → f ≡ [] → ws ≡ t ∷ u ∷ v ∷ w ∷ x ∷ y ∷ []
+all_words ws a b c d e f t u v w x y e0 e1 e2 e3 e4 e5 e6 = cc
+
+pub log_header_takes : (ws : List Word) (x : LogHeading × List Word) → log_header_at ws ≡ Ok x
+    → (ws ≡ log_header_words x.0) × IsLogHeading x.0
+unfolding log_header_at
+log_header_takes ws x e =
+    let l = bind_ok (literal_at (codes "log") ws) at_name x e in
+    let v = bind_ok (literal_at (codes "1") l.0.1) at_version x l.2 in
+    let s = bind_ok (number_at 255 v.0.1) at_seats x v.2 in
+    let c = bind_ok (number_at 255 s.0.1) (at_conds s.0.0) x s.2 in
+    let o = bind_ok (one_of object_word objects c.0.1) (at_object s.0.0 c.0.0) x c.2 in
+    let z = bind_ok (number_at 255 o.0.1) (at_size s.0.0 c.0.0 o.0.0) x o.2 in
+    let n = bind_ok (end_at z.0.1) (at_end s.0.0 c.0.0 o.0.0 z.0.0) x z.2 in
+    let size_is = number_takes 255 o.0.1 z.0 z.1 in
+    let h = heading_fits s.0.0 c.0.0 o.0.0 z.0.0 n.0.1 x size_is.1 n.2 in
+    let e0 : ws ≡ codes "log" ∷ l.0.1 = literal_takes (codes "log") ws l.0 l.1 in
+    let e1 : l.0.1 ≡ codes "1" ∷ v.0.1 = literal_takes (codes "1") l.0.1 v.0 v.1 in
+    let e2 : v.0.1 ≡ decimal s.0.0 ∷ s.0.1 = (number_takes 255 v.0.1 s.0 s.1).0 in
+    let e3 : s.0.1 ≡ decimal c.0.0 ∷ c.0.1 = (number_takes 255 s.0.1 c.0 c.1).0 in
+    let e4 : c.0.1 ≡ object_word o.0.0 ∷ o.0.1 = one_of_takes object_word objects c.0.1 o.0 o.1 in
+    let e5 : o.0.1 ≡ decimal z.0.0 ∷ z.0.1 = size_is.0 in
+    let e6 : z.0.1 ≡ [] = (end_takes z.0.1 n.0 n.1).0 in
+    subst (λ (y : LogHeading × List Word). (ws ≡ log_header_words y.0) × IsLogHeading y.0) (sym h.0)
+    (all_words ws l.0.1 v.0.1 s.0.1 c.0.1 o.0.1 z.0.1 _ _ _ _ _ _ e0 e1 e2 e3 e4 e5 e6, h.1)
+
+heading_again : (h : LogHeading) → IsLogHeading h → log_heading_of h.seats h.conds h.object h.size ≡ Some h
+heading_again h fits =
+    rw (
+      le-leb 1 h.seats fits.some_seat,
+      le-leb h.seats most_seats fits.seats,
+      le-leb h.conds most_conds fits.conds,
+      le-leb 1 h.size fits.some_size,
+    ) refl
+
+pub log_header_again : (h : LogHeading) → IsLogHeading h → log_header_at (log_header_words h) ≡ Ok (h, [])
+unfolding log_header_at
+log_header_again h fits =
+    rw (
+      number_again 255 h.seats (decimal h.conds ∷ object_word h.object ∷ decimal h.size ∷ []) (lit< tt) (omega (arith, fits.seats)),
+      number_again 255 h.conds (object_word h.object ∷ decimal h.size ∷ []) (lit< tt) (omega (arith, fits.conds)),
+      one_of_again object_word objects h.object (decimal h.size ∷ []) (object_again h.object),
+      number_again 255 h.size [] (lit< tt) fits.size,
+      heading_again h fits,
+    ) refl

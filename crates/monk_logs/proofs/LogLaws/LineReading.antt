@@ -1,0 +1,152 @@
+-- What is read as a line of a log is how it is written, and a line that is written is read again.
+use Rattle.std.proofs.Common.{◌-◌, lit<, ◌≡◌, ℕ, ◌≤◌, ◌^◌, List, [], ◌∷◌, ◌++◌, Some, Ok, refl, ap, subst, ◌∙◌}
+use Rattle.std.specs.Fmt.{decimal}
+use Rattle.std.proofs.lemmas.List.{append-nil}
+use Rattle.monk_kinds.specs.Names.{with_text}
+use Rattle.monk_object.specs.declared.op.Op.{Op}
+use Rattle.monk_history.specs.Text.Reading.{act_at}
+use Rattle.monk_history.specs.Text.Words.{◌>>=◌, Word, Taken, number_at, one_of, end_at}
+use Rattle.monk_history.proofs.PublicLaws.Texts.{bind_ok, ok_is, number_takes, number_again, one_of_takes, one_of_again, end_takes}
+use Rattle.monk_logs.specs.Log.{log_words, LineFits}
+use Rattle.monk_logs.specs.Log.Reading.{log_verb_word, log_verbs, line_after, log_line_at}
+use Rattle.monk_logs.specs.declared.line.LogLine.{LogLine}
+use Rattle.monk_logs.specs.declared.line.LogLine.TheVariants.{Enter, Resume, Lapse, Leave, Wait, Signal, Broadcast, Until, Act}
+use Rattle.monk_logs.specs.declared.verb.Verb.{Verb}
+use Rattle.monk_logs.specs.declared.verb.Verb.TheVariants as verb
+
+verb_again : (v : Verb) → with_text log_verb_word log_verbs (log_verb_word v) ≡ Some v
+verb_again verb.Enter = refl
+verb_again verb.Resume = refl
+verb_again verb.Lapse = refl
+verb_again verb.Leave = refl
+verb_again verb.Wait = refl
+verb_again verb.Signal = refl
+verb_again verb.Broadcast = refl
+verb_again verb.Until = refl
+verb_again verb.Act = refl
+
+-- ---- an act
+
+abbrev act_words : Op × ℕ → List Word → List Word
+act_words a ws = decimal a.0.code ∷ decimal a.0.arg ∷ decimal a.1 ∷ ws
+
+three_words : (ws a b c : List Word) (x y z : Word) → ws ≡ x ∷ a → a ≡ y ∷ b → b ≡ z ∷ c → ws ≡ x ∷ y ∷ z ∷ c
+three_words ws a b c x y z e0 e1 e2 = cc
+
+act_takes : (ws : List Word) (x : (Op × ℕ) × List Word) → act_at ws ≡ Ok x → (ws ≡ act_words x.0 x.1) × (x.0.0.code ≤ 255)
+    × (x.0.0.arg ≤ 2 ^ 32 - 1) × (x.0.1 ≤ 2 ^ 64 - 1)
+unfolding act_at
+act_takes ws x e =
+    let a = bind_ok (number_at 255 ws)
+    (λ c. number_at (2 ^ 32 - 1) c.1 >>= λ a. number_at (2 ^ 64 - 1) a.1 >>= λ r. Ok
+    ((record { code = c.0; arg = a.0 }, r.0), r.1)) x e in
+    let b = bind_ok (number_at (2 ^ 32 - 1) a.0.1)
+    (λ n. number_at (2 ^ 64 - 1) n.1 >>= λ r. Ok ((record { code = a.0.0; arg = n.0 }, r.0), r.1)) x a.2 in
+    let c = bind_ok (number_at (2 ^ 64 - 1) b.0.1) (λ r. Ok ((record { code = a.0.0; arg = b.0.0 }, r.0), r.1)) x b.2 in
+    let t = number_takes 255 ws a.0 a.1 in
+    let u = number_takes (2 ^ 32 - 1) a.0.1 b.0 b.1 in
+    let v = number_takes (2 ^ 64 - 1) b.0.1 c.0 c.1 in
+    let made : (Op × ℕ) × List Word = ((record { code = a.0.0; arg = b.0.0 }, c.0.0), c.0.1) in
+    subst (λ (y : (Op × ℕ) × List Word). (ws ≡ act_words y.0 y.1) × (y.0.0.code ≤ 255) × (y.0.0.arg ≤ 2 ^ 32 - 1)
+    × (y.0.1 ≤ 2 ^ 64 - 1)) (ok_is made x c.2)
+    (three_words ws a.0.1 b.0.1 c.0.1 _ _ _ t.0 u.0 v.0, t.1, u.1, v.1)
+
+act_again : (op : Op) (reply : ℕ) → op.code ≤ 255 → op.arg ≤ 2 ^ 32 - 1 → reply ≤ 2 ^ 64 - 1
+    → act_at (decimal op.code ∷ decimal op.arg ∷ decimal reply ∷ []) ≡ Ok ((op, reply), [])
+unfolding act_at
+act_again op reply code arg fits =
+    rw (
+      number_again 255 op.code (decimal op.arg ∷ decimal reply ∷ []) (lit< tt) code,
+      number_again (2 ^ 32 - 1) op.arg (decimal reply ∷ []) (lit< tt) arg,
+      number_again (2 ^ 64 - 1) reply [] (lit< tt) fits,
+    ) refl
+
+-- ---- behind verb and seat
+
+-- what a line is where its verb and its seat have been read
+abbrev Ends : Verb → ℕ → List Word → LogLine × List Word → Type 0
+Ends v s ws y = (log_verb_word v ∷ decimal s ∷ ws ≡ log_words y.0 ++ y.1) × LineFits y.0
+
+abbrev behind : Verb → ℕ → List Word → List Word
+behind v s ws = log_verb_word v ∷ decimal s ∷ ws
+
+line_takes : (v : Verb) (s : ℕ) (ws : List Word) (x : LogLine × List Word) → s ≤ 255 → line_after v s ws ≡ Ok x → Ends v s ws x
+unfolding line_after
+line_takes verb.Enter s ws x le e = subst (Ends verb.Enter s ws) (ok_is (Enter s, ws) x e) (refl, le)
+line_takes verb.Resume s ws x le e = subst (Ends verb.Resume s ws) (ok_is (Resume s, ws) x e) (refl, le)
+line_takes verb.Lapse s ws x le e = subst (Ends verb.Lapse s ws) (ok_is (Lapse s, ws) x e) (refl, le)
+line_takes verb.Leave s ws x le e = subst (Ends verb.Leave s ws) (ok_is (Leave s, ws) x e) (refl, le)
+line_takes verb.Wait s ws x le e =
+    let b = bind_ok (number_at 255 ws) (λ c. Ok (Wait s c.0, c.1)) x e in
+    let t = number_takes 255 ws b.0 b.1 in
+    subst (Ends verb.Wait s ws) (ok_is (Wait s b.0.0, b.0.1) x b.2) (ap (behind verb.Wait s) t.0, (le, t.1))
+line_takes verb.Signal s ws x le e =
+    let b = bind_ok (number_at 255 ws) (λ c. Ok (Signal s c.0, c.1)) x e in
+    let t = number_takes 255 ws b.0 b.1 in
+    subst (Ends verb.Signal s ws) (ok_is (Signal s b.0.0, b.0.1) x b.2) (ap (behind verb.Signal s) t.0, (le, t.1))
+line_takes verb.Broadcast s ws x le e =
+    let b = bind_ok (number_at 255 ws) (λ c. Ok (Broadcast s c.0, c.1)) x e in
+    let t = number_takes 255 ws b.0 b.1 in
+    subst (Ends verb.Broadcast s ws) (ok_is (Broadcast s b.0.0, b.0.1) x b.2) (ap (behind verb.Broadcast s) t.0, (le, t.1))
+line_takes verb.Until s ws x le e =
+    let b = bind_ok (number_at 255 ws) (λ c. Ok (Until s c.0, c.1)) x e in
+    let t = number_takes 255 ws b.0 b.1 in
+    subst (Ends verb.Until s ws) (ok_is (Until s b.0.0, b.0.1) x b.2) (ap (behind verb.Until s) t.0, (le, t.1))
+line_takes verb.Act s ws x le e =
+    let b = bind_ok (act_at ws) (λ a. Ok (Act s a.0.0 a.0.1, a.1)) x e in
+    let t = act_takes ws b.0 b.1 in
+    subst (Ends verb.Act s ws) (ok_is (Act s b.0.0.0 b.0.0.1, b.0.1) x b.2) (ap (behind verb.Act s) t.0, (le, t.1, t.2, t.3))
+
+-- ---- a line
+
+abbrev at_line : LogLine × List Word → Taken LogLine
+at_line l = end_at l.1 >>= λ z. Ok (l.0, z.1)
+
+abbrev at_seat : Verb → ℕ × List Word → Taken LogLine
+at_seat v s = line_after v s.0 s.1 >>= at_line
+
+abbrev at_verb : Verb × List Word → Taken LogLine
+at_verb v = number_at 255 v.1 >>= at_seat v.0
+
+pub log_line_takes : (ws : List Word) (x : LogLine × List Word) → log_line_at ws ≡ Ok x → (ws ≡ log_words x.0) × LineFits x.0
+unfolding log_line_at
+log_line_takes ws x e =
+    let v = bind_ok (one_of log_verb_word log_verbs ws) at_verb x e in
+    let s = bind_ok (number_at 255 v.0.1) (at_seat v.0.0) x v.2 in
+    let l = bind_ok (line_after v.0.0 s.0.0 s.0.1) at_line x s.2 in
+    let n = bind_ok (end_at l.0.1) (λ z. Ok (l.0.0, z.1)) x l.2 in
+    let verb_is = one_of_takes log_verb_word log_verbs ws v.0 v.1 in
+    let seat_is = number_takes 255 v.0.1 s.0 s.1 in
+    let line_is = line_takes v.0.0 s.0.0 s.0.1 l.0 seat_is.1 l.1 in
+    let none = (end_takes l.0.1 n.0 n.1).0 in
+    let whole : ws ≡ log_words l.0.0 = verb_is ∙ ap (λ (w : List Word). log_verb_word v.0.0 ∷ w) seat_is.0 ∙ line_is.0
+    ∙ ap (λ (w : List Word). log_words l.0.0 ++ w) none ∙ append-nil (log_words l.0.0) in
+    subst (λ (y : LogLine × List Word). (ws ≡ log_words y.0) × LineFits y.0) (ok_is (l.0.0, n.0.1) x n.2) (whole, line_is.1)
+
+from_after : (v : Verb) (s : ℕ) (ws : List Word) (l : LogLine) → s ≤ 255 → line_after v s ws ≡ Ok (l, [])
+    → log_line_at (log_verb_word v ∷ decimal s ∷ ws) ≡ Ok (l, [])
+unfolding log_line_at
+from_after v s ws l le h =
+    rw (
+      one_of_again log_verb_word log_verbs v (decimal s ∷ ws) (verb_again v),
+      number_again 255 s ws (lit< tt) le,
+      h,
+    ) refl
+
+pub log_line_again : (l : LogLine) → LineFits l → log_line_at (log_words l) ≡ Ok (l, [])
+unfolding line_after
+log_line_again (Enter s) fits = from_after verb.Enter s [] (Enter s) fits refl
+log_line_again (Resume s) fits = from_after verb.Resume s [] (Resume s) fits refl
+log_line_again (Lapse s) fits = from_after verb.Lapse s [] (Lapse s) fits refl
+log_line_again (Leave s) fits = from_after verb.Leave s [] (Leave s) fits refl
+log_line_again (Wait s c) fits =
+    from_after verb.Wait s (decimal c ∷ []) (Wait s c) fits.0 (rw (number_again 255 c [] (lit< tt) fits.1) refl)
+log_line_again (Signal s c) fits =
+    from_after verb.Signal s (decimal c ∷ []) (Signal s c) fits.0 (rw (number_again 255 c [] (lit< tt) fits.1) refl)
+log_line_again (Broadcast s c) fits =
+    from_after verb.Broadcast s (decimal c ∷ []) (Broadcast s c) fits.0 (rw (number_again 255 c [] (lit< tt) fits.1) refl)
+log_line_again (Until s c) fits =
+    from_after verb.Until s (decimal c ∷ []) (Until s c) fits.0 (rw (number_again 255 c [] (lit< tt) fits.1) refl)
+log_line_again (Act s op reply) fits =
+    from_after verb.Act s (decimal op.code ∷ decimal op.arg ∷ decimal reply ∷ []) (Act s op reply) fits.0
+    (rw (act_again op reply fits.1 fits.2 fits.3) refl)

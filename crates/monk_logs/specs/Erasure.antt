@@ -1,0 +1,23 @@
+-- What a recorder can write down of a history: the choices, and how a seat came in or goes on, are dropped
+use Rattle.std.specs.Prelude.{List, [], ◌∷◌}
+use Rattle.std.specs.List.{flat_map}
+use Rattle.monk_history.specs.declared.event.Event.{Event}
+use Rattle.monk_history.specs.declared.event.Event.TheVariants as event
+use Rattle.monk_logs.specs.declared.line.LogLine.{LogLine}
+use Rattle.monk_logs.specs.declared.line.LogLine.TheVariants.{Enter, Resume, Leave, Wait, Signal, Broadcast, Until, Act}
+
+-- the lines of an event: a signal by which its caller leaves or waits has two
+abbrev pub erased : Event → List LogLine
+erased (event.Enter s via) = Enter s ∷ []
+erased (event.Act s op r) = Act s op r ∷ []
+erased (event.Leave s x) = Leave s ∷ []
+erased (event.Wait s c x) = Wait s c ∷ []
+erased (event.Signal s c x) = Signal s c ∷ []
+erased (event.SignalLeave s c x) = Signal s c ∷ Leave s ∷ []
+erased (event.Until s p x) = Until s p ∷ []
+erased (event.Resume s q) = Resume s ∷ []
+erased (event.SignalAll s c) = Broadcast s c ∷ []
+erased (event.SignalWait s c d x) = Signal s c ∷ Wait s d ∷ []
+
+abbrev pub erasure : List Event → List LogLine
+erasure h = flat_map erased h

@@ -1,0 +1,4 @@
+pub mod Log
+pub mod Erasure
+pub mod Fits
+pub mod Course

@@ -1,0 +1,116 @@
+//! What stands before the lines of a log.
+
+ghost use Rattle.std.specs.Prelude.{◌≡◌};
+ghost use Rattle.monk_object.specs.Names.{object_word, objects};
+ghost use Rattle.monk_history.specs.Text.Words.{Reads, one_of};
+ghost use Rattle.monk_logs.specs.Log.{LogHeading, IsLogHeading};
+ghost use Rattle.monk_logs.specs.Log.Reading.{log_header_at, log_heading_of};
+
+use monk_history::lines::{Flaw, Head, LineWords};
+use monk_history::{MOST_CONDS, MOST_SEATS};
+use monk_object::ObjectName;
+use std::marker::Model;
+
+/// What stands before the lines of a log: a monitor of which the kind isn't known. Contracts see a `LogHeading` with the
+/// same parts.
+#[derive(Clone, Copy)]
+pub struct LogHeader {
+    seats: u8,
+    conds: u8,
+    object: ObjectName,
+    size: u8,
+}
+
+impl Model for LogHeader {
+    ghost use Rattle.monk_logs.specs.Log.{LogHeading, IsLogHeading, log_heading};
+
+    ghost Value = { LogHeading };
+
+    ghost view = { λ h. log_heading h.seats h.conds h.object h.size };
+
+    ghost invariant = { λ h. IsLogHeading (log_heading h.seats h.conds h.object h.size) };
+
+    ghost inverse = { λ h. record { seats = h.seats; conds = h.conds; object = h.object; size = h.size } };
+}
+
+impl LogHeader {
+    /// `None` unless there are 1 to [`MOST_SEATS`] seats, at most [`MOST_CONDS`] conditions and a size of 1 or more. The
+    /// greatest size of the object isn't tested here.
+    pub fn new(seats: u8, conds: u8, object: ObjectName, size: u8) -> Option<LogHeader>
+        ensures { result ≡ log_heading_of seats conds object size }
+    {
+        if seats == 0 || seats > MOST_SEATS || conds > MOST_CONDS || size == 0 {
+            return None;
+        }
+        Some(LogHeader {
+            seats,
+            conds,
+            object,
+            size,
+        })
+    }
+
+    /// How many seats there are, 1 to 32. Each thread has one; they are numbered from 0.
+    pub fn seats(&self) -> u8
+        ensures { result ≡ self.now.seats }
+    {
+        self.seats
+    }
+
+    /// How many conditions there are, 0 to 8, numbered from 0.
+    pub fn conds(&self) -> u8
+        ensures { result ≡ self.now.conds }
+    {
+        self.conds
+    }
+
+    /// The object that the monitor guards. Of a log without acts it means nothing.
+    pub fn object(&self) -> ObjectName
+        ensures { result ≡ self.now.object }
+    {
+        self.object
+    }
+
+    /// The size of the object, 1 to 255.
+    pub fn size(&self) -> u8
+        ensures value { result ≡ self.now.size }
+        ensures fits { IsLogHeading self.now }
+    {
+        self.size
+    }
+}
+
+impl Head for LogHeader {
+    ghost use Rattle.monk_history.specs.Text.Words.{Reads};
+    ghost use Rattle.monk_logs.specs.Log.Reading.{log_header_at};
+
+    ghost parse = { log_header_at };
+
+    fn parse(words: &mut LineWords<'_>) -> Result<LogHeader, Flaw>
+        ensures { Reads result words.new (log_header_at words.old) }
+    {
+        log_header(words)
+    }
+}
+
+#[tactic(auto, unfolding(crate::specs::Log::Reading::log_header_at))]
+fn log_header(words: &mut LineWords<'_>) -> Result<LogHeader, Flaw>
+    ensures { Reads result words.new (log_header_at words.old) }
+{
+    words.literal(b"log")?;
+    words.literal(b"1")?;
+    let seats = words.byte()?;
+    let conds = words.byte()?;
+    let object = object(words)?;
+    let size = words.byte()?;
+    words.end()?;
+    LogHeader::new(seats, conds, object, size).ok_or(Flaw::Word)
+}
+
+#[tactic(auto, unfolding(monk_history::specs::Text::Words::one_of))]
+fn object(words: &mut LineWords<'_>) -> Result<ObjectName, Flaw>
+    ensures { Reads result words.new (one_of object_word objects words.old) }
+{
+    let word = words.next().ok_or(Flaw::Word)?;
+    ObjectName::of_text(word).ok_or(Flaw::Word)
+}

@@ -1,0 +1,48 @@
+//! The first word of a line of a log.
+
+ghost use Rattle.std.specs.Prelude.{◌≡◌};
+ghost use Rattle.monk_kinds.specs.Names.{with_text};
+ghost use Rattle.monk_logs.specs.Log.Reading.{log_verb_word, log_verbs};
+
+/// Which line it is.
+#[derive(Clone, Copy)]
+pub(crate) enum Verb {
+    Enter,
+    Resume,
+    Lapse,
+    Leave,
+    Wait,
+    Signal,
+    Broadcast,
+    Until,
+    Act,
+}
+
+impl Verb {
+    /// The verb whose word this is.
+    pub(crate) fn of_text(word: &[u8]) -> Option<Verb>
+        ensures { result ≡ with_text log_verb_word log_verbs word.now }
+    {
+        if word == b"enter".as_slice() {
+            Some(Verb::Enter)
+        } else if word == b"resume".as_slice() {
+            Some(Verb::Resume)
+        } else if word == b"lapse".as_slice() {
+            Some(Verb::Lapse)
+        } else if word == b"leave".as_slice() {
+            Some(Verb::Leave)
+        } else if word == b"wait".as_slice() {
+            Some(Verb::Wait)
+        } else if word == b"signal".as_slice() {
+            Some(Verb::Signal)
+        } else if word == b"broadcast".as_slice() {
+            Some(Verb::Broadcast)
+        } else if word == b"until".as_slice() {
+            Some(Verb::Until)
+        } else if word == b"act".as_slice() {
+            Some(Verb::Act)
+        } else {
+            None
+        }
+    }
+}

@@ -1,5 +1,0 @@
-use Rattle.monk_tests.specs.FloorCalls.{IsSameSize}
-use Rattle.monk_tests.proofs.tests.floors.drive_returning.Given as goal
-
-abbrev pub invariant-loop : goal.invariant-loop
-invariant-loop g l = IsSameSize l.fn.floor l.floor

@@ -1,0 +1,76 @@
+use monk_logs::{LogHeader, LogLine, one_log_each, read_log};
+use monk_object::{ObjectName, Op};
+use std::test::Fail;
+
+/// Each kind of line, with the least and the greatest numbers.
+const EACH: &[u8] =
+    b"log 1 32 8 shop 255\nenter 0\nresume 255\nlapse 1\nleave 2\nwait 3 255\nsignal 4 0\nbroadcast 5 1\nuntil 6 2\nact 7 255 4294967295 18446744073709551615\nact 8 0 0 0\n";
+
+/// The fault's number and line, or 0 and the number of lines.
+fn outcome(rt: &HostRuntime, bytes: &[u8]) -> (u8, u32) {
+    match read_log(rt.alloc(), bytes) {
+        Ok((_, lines)) => (0, u32::try_from(lines.len()).unwrap_or(0)),
+        Err(fault) => (fault.number, fault.line),
+    }
+}
+
+#[test]
+fn each_line_of_a_log(rt: HostRuntime) -> Result<(), Fail> {
+    one_log_each();
+    let (header, lines) = read_log(rt.alloc(), EACH)?;
+    assert!(rt; header.object() == ObjectName::Shop);
+    assert_eq!(rt;
+        (header.seats(), header.conds(), header.size()),
+        (32, 8, 255)
+    );
+    let greatest = Op {
+        code: 255,
+        arg: u32::MAX,
+    };
+    let want = [
+        LogLine::Enter(0),
+        LogLine::Resume(255),
+        LogLine::Lapse(1),
+        LogLine::Leave(2),
+        LogLine::Wait(3, 255),
+        LogLine::Signal(4, 0),
+        LogLine::Broadcast(5, 1),
+        LogLine::Until(6, 2),
+        LogLine::Act(7, greatest, u64::MAX),
+        LogLine::Act(8, Op { code: 0, arg: 0 }, 0),
+    ];
+    assert!(rt; lines.as_slice() == want.as_slice());
+    Ok(())
+}
+
+#[test]
+fn faulty_logs(rt: HostRuntime) {
+    assert_eq!(rt; outcome(&rt, b""), (1, 1));
+    assert_eq!(rt; outcome(&rt, b"log 1 2 1 buffer 1"), (4, 1));
+    assert_eq!(rt; outcome(&rt, b"log 2 2 1 buffer 1\n"), (1, 1));
+    assert_eq!(rt; outcome(&rt, b"log 1 33 1 buffer 1\n"), (1, 1));
+    assert_eq!(rt; outcome(&rt, b"log 1 2 1 buffer 1\n"), (0, 0));
+    assert_eq!(rt; outcome(&rt, b"log 1 2 1 buffer 1\nenter 0 free\n"), (2, 2));
+    assert_eq!(rt;
+        outcome(&rt, b"log 1 2 1 buffer 1\nenter 0\nwait 0 00\n"),
+        (3, 3)
+    );
+    assert_eq!(rt;
+        outcome(&rt, b"log 1 2 1 buffer 1\nenter 0\nsignal-all 0 0\n"),
+        (2, 3)
+    );
+    assert_eq!(rt;
+        outcome(&rt, b"log 1 2 1 buffer 1\nenter 0\nwait 0"),
+        (4, 3)
+    );
+}
+
+#[test]
+fn headers_of_logs(rt: HostRuntime) {
+    assert!(rt; LogHeader::new(1, 0, ObjectName::Buffer, 1).is_some());
+    assert!(rt; LogHeader::new(32, 8, ObjectName::Book, 255).is_some());
+    assert!(rt; LogHeader::new(0, 0, ObjectName::Buffer, 1).is_none());
+    assert!(rt; LogHeader::new(33, 0, ObjectName::Buffer, 1).is_none());
+    assert!(rt; LogHeader::new(1, 9, ObjectName::Buffer, 1).is_none());
+    assert!(rt; LogHeader::new(1, 0, ObjectName::Buffer, 0).is_none());
+}
