@@ -2,13 +2,8 @@ use Rattle.std.proofs.Common.{◌≡◌, ◌∙◌, ap, codes, true}
 use Rattle.std.proofs.lemmas.Result.{IfOk-weaker}
 use Rattle.clap.specs.Simple.{app_of_fields}
 use Rattle.clap.specs.Words.{App, app_of, with_subcommand}
-<<<<<<<< HEAD:crates/monk_commands/proofs/words/plain/Answers.antt
 use Rattle.monk_commands.specs.Request.{bare_app, classify_app, file_app}
 use Rattle.monk_commands.proofs.words.plain.Goals as goal
-========
-use Rattle.monk_commands.specs.Request.{bare_app, classify_app, file_app, run_app}
-use Rattle.monk_commands.proofs.words.command.Goals as goal
->>>>>>>> main:crates/monk_commands/proofs/words/command/Answers.antt
 
 pub returns : goal.returns
 returns c =
