@@ -4,3 +4,5 @@
 pub use Rattle.monk_audit.proofs.AuditLaws.{is_fault, is_legal}
 -- The verdict that every history has
 pub use Rattle.monk_audit.proofs.VerdictLaws.{is_verdict}
+-- Whether an event may choose what it chose, of queues that are told, and of the ready seats the first
+pub use Rattle.monk_audit.proofs.NextLaws.{permits_is}

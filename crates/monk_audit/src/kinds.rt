@@ -6,7 +6,7 @@ ghost use Rattle.monk_kinds.specs.Names.{rules_named};
 use monk_kinds::{KindName, Npb, Npir, Npis, Npnb, Npqb, Pb, Pir, Pis, Pnb, Pqb, Rules, rules_of};
 
 /// The rules of the kind of that name.
-pub(crate) fn rules_by_name(kind: KindName) -> Rules
+pub fn rules_by_name(kind: KindName) -> Rules
     ensures { result ≡ rules_named kind }
 {
     match kind {
