@@ -4,7 +4,8 @@ ghost use Rattle.std.specs.Prelude.{◌≡◌, IfOk, IfSome, Some, codes, false,
 ghost use Rattle.monk_object.specs.Names.{object_word};
 ghost use Rattle.clap.specs.Words.{App, app_of, first_value, found_of, rows_of, rule_of, subcommand_of, subcommand_rows_of};
 ghost use Rattle.monk_samples.specs.Samples.{IsInRange, sample_object};
-ghost use Rattle.monk_commands.specs.Request.{AreRunValues, IsAsked, IsMonk, IsRead, IsRunCommand, IsSubcommand, classify_app, file_app, plain_app};
+ghost use Rattle.monk_commands.specs.Request.{AreRunValues, IsAsked, IsMonk, IsRead, IsRunCommand, IsSubcommand};
+ghost use Rattle.monk_commands.specs.Request.{classify_app, file_app, plain_app};
 ghost use Rattle.monk_commands.specs.Request.{required_rule};
 
 use crate::request::{Line, LineFault};
