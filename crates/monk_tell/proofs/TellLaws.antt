@@ -1,0 +1,80 @@
+-- What a reason says of an event, and a first fault of a history
+use Rattle.std.proofs.Common.{◌≡◌, ℕ, ◌<◌, Bool, true, false, cond, not, List, [], Some, refl, sym, ap, subst, arith, ◌∙◌}
+use Rattle.monk_kinds.specs.declared.mode.Rules.{Rules}
+use Rattle.monk_kinds.specs.declared.name.KindName.{KindName}
+use Rattle.monk_object.specs.Object.{Object}
+use Rattle.monk_history.specs.declared.event.Event.{Event}
+use Rattle.monk_history.specs.declared.event.Turn.{Turn}
+use Rattle.monk_history.specs.Meaning.Monitor.{Monitor, monitor}
+use Rattle.monk_history.specs.Meaning.Reasons.{fits_object, is_in_range, reason_in}
+use Rattle.monk_history.specs.Meaning.Situation.{Situation}
+use Rattle.monk_history.proofs.PublicLaws.Meaning.{and_right}
+use Rattle.monk_object.specs.Names.{meaning_named, opening_named}
+use Rattle.monk_object.specs.declared.name.ObjectName.{ObjectName}
+use Rattle.monk_kinds.specs.Names.{rules_named}
+use Rattle.monk_history.specs.Text.{Heading}
+use Rattle.monk_history.specs.Meaning.Named.{named_monitor}
+use Rattle.monk_audit.specs.declared.verdict.Verdict.{Verdict}
+use Rattle.monk_audit.specs.Verdict.{IsVerdict, verdict_of}
+use Rattle.monk_audit.proofs.PublicLaws.{is_verdict}
+use Rattle.monk_tell.specs.Told.{Blamed, Shown, ShownQueues, Told, told, told_by}
+use Rattle.monk_tell.specs.declared.why.Why.{Why}
+
+passed_first : (b : Bool) (n k : ℕ) → cond (not b) 1 n ≡ k → 1 < k → b ≡ true
+passed_first true n k h more = refl
+passed_first false n k h more = absurd (omega (arith, h, more))
+
+in_range : (m : Monitor) (t : Situation) (e : Event) (k : ℕ) → reason_in m t e ≡ k → 1 < k
+    → is_in_range m.seats m.conds m.object.codes m.object.predicates e ≡ true
+unfolding reason_in
+in_range m t e k h more = passed_first (is_in_range m.seats m.conds m.object.codes m.object.predicates e) _ k h more
+
+-- an event that is not out of range fits the object
+pub late_fits : (m : Monitor) (t : Situation) (e : Event) (k codes predicates : ℕ) → reason_in m t e ≡ k → 1 < k
+    → m.object.codes ≡ codes → m.object.predicates ≡ predicates → fits_object codes predicates e ≡ true
+late_fits m t e k codes predicates h more c p =
+    sym (ap (λ (n : ℕ). fits_object n predicates e) c) ∙ sym (ap (λ (n : ℕ). fits_object m.object.codes n e) p)
+    ∙ and_right _ (fits_object m.object.codes m.object.predicates e) (in_range m t e k h more)
+
+-- the opening state has no part in a reason
+pub reason_opening : (k : Rules) (seats conds : ℕ) (o : Object) (d : List ℕ) (t : Situation) (e : Event)
+    → reason_in (monitor k seats conds o d) t e ≡ reason_in (monitor k seats conds o []) t e
+unfolding reason_in
+reason_opening k seats conds o d t e = refl
+
+abbrev pub shown_by : KindName → Rules → Turn → List ℕ → List ℕ → ShownQueues → Shown
+shown_by kind rules turn inside state queues =
+    record { kind = kind; rules = rules; turn = turn; inside = inside; state = state; queues = queues }
+
+pub same_shown : (kind : KindName) (rules : Rules) (t u : Turn) (is js ds es : List ℕ) (q r : ShownQueues) → t ≡ u → is ≡ js
+    → ds ≡ es → q ≡ r → shown_by kind rules t is ds q ≡ shown_by kind rules u js es r
+same_shown kind rules t u is js ds es q r a b c d = λ i. shown_by kind rules (a i) (b i) (c i) (d i)
+
+abbrev pub told_as : Verdict → Shown → Blamed → Told
+told_as v s b = record { verdict = v; situation = s; blame = Some b }
+
+pub same_told : (v : Verdict) (s t : Shown) (b d : Blamed) → s ≡ t → b ≡ d → told_as v s b ≡ told_as v t d
+same_told v s t b d e f = λ i. told_as v (e i) (f i)
+
+-- the monitor over an object that was made for the header is the one that the header names
+pub made_named : (h : Heading) (o : ObjectName) (size : ℕ) (d : List ℕ) → h.object ≡ o → size ≡ h.size → d ≡ opening_named o size
+    → monitor (rules_named h.kind) h.seats h.conds (meaning_named o) d ≡ named_monitor h
+made_named h o size d is same made =
+    ap (λ (x : List ℕ). monitor (rules_named h.kind) h.seats h.conds (meaning_named o) x)
+    (made ∙ ap (opening_named o) same ∙ ap (λ (x : ObjectName). opening_named x h.size) (sym is))
+    ∙ ap (λ (x : ObjectName). monitor (rules_named h.kind) h.seats h.conds (meaning_named x) (opening_named h.object h.size)) (sym is)
+
+pub over_is : (h : Heading) (o : ObjectName) (size : ℕ) (d : List ℕ) (es : List Event) (v : Verdict) → h.object ≡ o → size ≡ h.size
+    → d ≡ opening_named o size → v ≡ verdict_of (named_monitor h) es
+    → IsVerdict (monitor (rules_named h.kind) h.seats h.conds (meaning_named o) d) es v
+over_is h o size d es v is same made found =
+    subst (λ (m : Monitor). IsVerdict m es v) (sym (made_named h o size d is same made))
+    (subst (IsVerdict (named_monitor h) es) (sym found) (is_verdict (named_monitor h) es))
+
+-- what is told over that object is what is told of the history
+pub over_told : (h : Heading) (o : ObjectName) (size : ℕ) (d : List ℕ) (es : List Event) (v : Verdict) (why : Why) → h.object ≡ o
+    → size ≡ h.size → d ≡ opening_named o size → v ≡ verdict_of (named_monitor h) es
+    → told_by h.kind (monitor (rules_named h.kind) h.seats h.conds (meaning_named o) d) es why v ≡ told h es why
+over_told h o size d es v why is same made found =
+    ap (λ (m : Monitor). told_by h.kind m es why v) (made_named h o size d is same made)
+    ∙ ap (told_by h.kind (named_monitor h) es why) found

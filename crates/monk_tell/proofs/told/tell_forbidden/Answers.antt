@@ -1,0 +1,54 @@
+use Rattle.std.proofs.Common.{◌≡◌, ◌∙◌, ℕ, ◌-◌, sym, ap, subst, take, get_or, arith}
+use Rattle.std.proofs.lemmas.Option.{slice_get_within, get_or_from_slice_get}
+use Rattle.monk_kinds.specs.Names.{rules_named}
+use Rattle.monk_history.specs.declared.event.Event.TheVariants.{Enter}
+use Rattle.monk_history.specs.declared.event.Via.TheVariants.{Free}
+use Rattle.monk_history.specs.Meaning.Legal.{IsLegal}
+use Rattle.monk_history.specs.Meaning.Monitor.{monitor}
+use Rattle.monk_history.specs.Meaning.Reasons.{reason_in}
+use Rattle.monk_history.specs.Meaning.Situation.{situation}
+use Rattle.monk_audit.specs.Replay.{replay_situation}
+use Rattle.monk_history.specs.Meaning.Situation.{Situation}
+use Rattle.monk_kinds.specs.declared.mode.Rules.{Rules}
+use Rattle.monk_audit.specs.declared.verdict.Verdict.TheVariants.{Forbidden}
+use Rattle.monk_tell.specs.Told.{blamed}
+use Rattle.monk_tell.proofs.TellLaws.{reason_opening, same_told}
+use Rattle.monk_tell.proofs.told.tell_forbidden.Goals as goal
+
+pub standing-requires-after_bounds : goal.standing-requires-after_bounds
+standing-requires-after_bounds g c κs within =
+    let at : c.requires.before ≡ c.args.step - 1 = omega (arith, c.requires.is_step) in
+    subst (λ (n : ℕ). IsLegal
+    (monitor (rules_named c.args.header.now.kind) c.args.header.now.seats c.args.header.now.conds g.T.Guarded.meaning
+    (g.T.Guarded.state c.args.object)) (take n c.args.events.now)) at c.requires.legal_before
+
+pub bounds-events-before : goal.bounds-events-before
+bounds-events-before g c =
+    omega (arith, c.requires.is_step, slice_get_within c.args.events.now c.requires.before c.requires.fault c.requires.is_there)
+
+pub blame-requires-clause-reason : goal.blame-requires-clause-reason
+blame-requires-clause-reason g c κs within =
+    let o = g.T.Guarded.meaning in
+    let rules = rules_named c.args.header.now.kind in
+    let m = monitor rules c.args.header.now.seats c.args.header.now.conds o (g.T.Guarded.state c.args.object) in
+    let at : c.requires.before ≡ c.args.step - 1 = omega (arith, c.requires.is_step) in
+    let there : get_or c.args.events.now (c.args.step - 1) (Enter 0 Free) ≡ c.requires.fault =
+    ap (λ (n : ℕ). get_or c.args.events.now n (Enter 0 Free)) (sym at)
+    ∙ get_or_from_slice_get c.args.events.now c.requires.before c.requires.fault (Enter 0 Free) c.requires.is_there in
+    rw (c.rules_by_name-rules.ensures ∙ ap rules_named c.kind.ensures, c.in_ok-replay.ensures.stands, there)
+    (sym c.requires.applies ∙ ap (λ (n : ℕ). reason_in m (situation m (take n c.args.events.now)) c.requires.fault) at
+    ∙ reason_opening rules c.args.header.now.seats c.args.header.now.conds o (g.T.Guarded.state c.args.object)
+    (situation m (take (c.args.step - 1) c.args.events.now)) c.requires.fault)
+
+pub returns : goal.returns
+returns g c =
+    let o = g.T.Guarded.meaning in
+    let rules = rules_named c.args.header.now.kind in
+    let m = monitor rules c.args.header.now.seats c.args.header.now.conds o (g.T.Guarded.state c.args.object) in
+    let why = c.in_ok-blame.blame.why in
+    let event = get_or c.args.events.now (c.args.step - 1) (Enter 0 Free) in
+    same_told (Forbidden c.args.step c.args.reason) _ _ _ _ c.in_ok-replay.ensures.shown
+    (c.in_ok-blame.ensures
+    ∙ ap (λ (k : Rules). blamed k o (replay_situation c.in_ok-replay.replay (g.T.Guarded.state c.standing.new.object)) c.args.step
+    c.args.reason event why) (c.rules_by_name-rules.ensures ∙ ap rules_named c.kind.ensures)
+    ∙ ap (λ (t : Situation). blamed rules o t c.args.step c.args.reason event why) c.in_ok-replay.ensures.stands)

@@ -1,0 +1,198 @@
+-- What is told of a history, as data
+use Rattle.std.specs.Prelude.{ℕ, zero, suc, ◌-◌, ◌==◌, Bool, Option, Some, None, List, [], ◌∷◌, ◌++◌, map, take}
+use Rattle.std.specs.Prelude.{if◌then◌else◌, option_map, get_or}
+use Rattle.std.specs.Option.{option_map_or}
+use Rattle.monk_kinds.specs.declared.mode.Mode.{Mode}
+use Rattle.monk_kinds.specs.declared.mode.Mode.TheVariants.{Blocking, NonBlocking}
+use Rattle.monk_kinds.specs.declared.mode.Mode.TheVariants.{QuasiBlocking, ImmediateReturn, Automatic as AutomaticMode}
+use Rattle.monk_kinds.specs.declared.mode.Rules.{Rules}
+use Rattle.monk_kinds.specs.declared.name.KindName.{KindName}
+use Rattle.monk_object.specs.Object.{Object}
+use Rattle.monk_history.specs.Text.{Heading}
+use Rattle.monk_history.specs.Meaning.Choice.{Queues as Lined, queues_at}
+use Rattle.monk_history.specs.Meaning.Events.{acted}
+use Rattle.monk_history.specs.Meaning.Monitor.{Monitor}
+use Rattle.monk_history.specs.Meaning.Named.{named_monitor}
+use Rattle.monk_history.specs.Meaning.Situation.{Situation as Standing, situation}
+use Rattle.monk_history.specs.Meaning.Untils.{ready_of}
+use Rattle.monk_history.specs.declared.event.Event.{Event}
+use Rattle.monk_history.specs.declared.event.Event.TheVariants.{Enter}
+use Rattle.monk_history.specs.declared.event.Via.TheVariants.{Free}
+use Rattle.monk_history.specs.declared.event.From3.{From3}
+use Rattle.monk_history.specs.declared.event.Next.{Next}
+use Rattle.monk_history.specs.declared.event.Turn.{Turn}
+use Rattle.monk_audit.specs.Verdict.{verdict_of}
+use Rattle.monk_audit.specs.declared.verdict.Verdict.{Verdict}
+use Rattle.monk_audit.specs.declared.verdict.Verdict.TheVariants.{Legal, Forbidden}
+use Rattle.monk_tell.specs.Permitted.{fronts, permitted_nexts}
+use Rattle.monk_tell.specs.declared.blame.Blame.{Blame}
+use Rattle.monk_tell.specs.declared.choice.Choice.{Choice}
+use Rattle.monk_tell.specs.declared.lines.Lines.{Lines}
+use Rattle.monk_tell.specs.declared.queues.Conditions.{Conditions}
+use Rattle.monk_tell.specs.declared.queues.Queues.{Queues}
+use Rattle.monk_tell.specs.declared.queues.Queues.TheVariants.{Automatic, Returning, Explicit}
+use Rattle.monk_tell.specs.declared.situation.Situation.{Situation}
+use Rattle.monk_tell.specs.declared.telling.Telling.{Telling}
+use Rattle.monk_tell.specs.declared.why.Why.{Why}
+use Rattle.monk_tell.specs.declared.why.Why.TheVariants.{Already}
+
+-- ---- the data, as lists
+
+-- who waits until a predicate holds, and the seats whose predicate does
+pub record ShownUntils : Type 0 where
+  pub untils : List (ℕ × ℕ)
+  pub ready : List ℕ
+
+-- who waits on each condition, the waiter queue, and the signaller queue of an explicit kind
+pub record ShownConditions : Type 0 where
+  pub conditions : List (List ℕ)
+  pub waiters : List ℕ
+  pub signallers : Option (List ℕ)
+
+-- the one or the other
+pub record ShownQueues : Type 0 where
+  pub automatic : Option ShownUntils
+  pub conditional : Option ShownConditions
+
+abbrev pub only_untils : List (ℕ × ℕ) → List ℕ → ShownQueues
+only_untils untils ready = record { automatic = Some (record { untils = untils; ready = ready }); conditional = None }
+
+abbrev pub only_conditions : List (List ℕ) → List ℕ → Option (List ℕ) → ShownQueues
+only_conditions conditions waiters signallers = record {
+  automatic = None;
+  conditional = Some (record { conditions = conditions; waiters = waiters; signallers = signallers });
+}
+
+pub record Shown : Type 0 where
+  pub kind : KindName
+  pub rules : Rules
+  pub turn : Turn
+  pub inside : List ℕ
+  pub state : List ℕ
+  pub queues : ShownQueues
+
+pub record Chosen : Type 0 where
+  pub fronts : List (From3 × ℕ)
+  pub may : List Next
+
+pub record Blamed : Type 0 where
+  pub step : ℕ
+  pub event : Event
+  pub reply : Option ℕ
+  pub choice : Option Chosen
+  pub why : Why
+
+pub record Told : Type 0 where
+  pub verdict : Verdict
+  pub situation : Shown
+  pub blame : Option Blamed
+
+-- ---- what the types hold
+
+abbrev pub condition_lists : Conditions → List (List ℕ)
+condition_lists c = map (λ s. s.0.items) c.0.items
+
+abbrev pub queues_of : Queues → ShownQueues
+queues_of (Automatic untils ready) = only_untils untils.0.items ready.0.items
+queues_of (Returning conditions waiters) = only_conditions (condition_lists conditions) waiters.0.items None
+queues_of (Explicit conditions waiters signallers) =
+    only_conditions (condition_lists conditions) waiters.0.items (Some signallers.0.items)
+
+abbrev pub situation_of : Situation → Shown
+situation_of s = record {
+  kind = s.kind;
+  rules = s.rules;
+  turn = s.turn;
+  inside = s.inside.0.items;
+  state = s.data.0.items;
+  queues = queues_of s.queues;
+}
+
+abbrev pub choice_of : Choice → Chosen
+choice_of c = record { fronts = c.fronts.0.items; may = c.may.0.items }
+
+abbrev pub blame_of : Blame → Blamed
+blame_of b = record { step = b.step; event = b.event; reply = b.reply; choice = option_map choice_of b.choice; why = b.why }
+
+abbrev pub telling_of : Telling → Told
+telling_of t = record { verdict = t.verdict; situation = situation_of t.situation; blame = option_map blame_of t.blame }
+
+-- the queues that a release chooses from
+abbrev pub lines_of : Lines → Lined
+lines_of l = record { waiters = l.waiters.items; signallers = l.signallers.items; ready = l.ready.items }
+
+-- ---- what is so of a history
+
+-- the seats below that number that are inside, rising
+unfoldable pub inside_below : (ℕ → Bool) → ℕ → List ℕ
+inside_below inside zero = []
+inside_below inside (suc j) = inside_below inside j ++ (if inside j then j ∷ [] else [])
+
+-- the queues of the conditions below that number
+unfoldable pub conditions_below : (ℕ → List ℕ) → ℕ → List (List ℕ)
+conditions_below queue zero = []
+conditions_below queue (suc c) = conditions_below queue c ++ queue c ∷ []
+
+abbrev pub with_conditions : ℕ → Standing → Option (List ℕ) → ShownQueues
+with_conditions conds t signallers = only_conditions (conditions_below t.condition conds) t.waiters signallers
+
+-- the queues that a kind of that mode has
+abbrev pub queues_shown : Mode → ℕ → Object → Standing → ShownQueues
+queues_shown Blocking conds o t = with_conditions conds t (Some t.signallers)
+queues_shown NonBlocking conds o t = with_conditions conds t (Some t.signallers)
+queues_shown QuasiBlocking conds o t = with_conditions conds t (Some t.signallers)
+queues_shown ImmediateReturn conds o t = with_conditions conds t None
+queues_shown AutomaticMode conds o t = only_untils t.untils (ready_of o t.state t.untils)
+
+abbrev pub shown : KindName → Rules → ℕ → ℕ → Object → Standing → Shown
+shown kind rules seats conds o t = record {
+  kind = kind;
+  rules = rules;
+  turn = t.turn;
+  inside = inside_below t.inside seats;
+  state = t.state;
+  queues = queues_shown rules.mode conds o t;
+}
+
+-- the object's own reply, if the event is an act
+abbrev pub own_reply : Object → List ℕ → Event → Option ℕ
+own_reply o d e = option_map (λ act. o.reply d act.op) (acted e)
+
+abbrev pub chosen_at : Rules → Object → Standing → Event → Chosen
+chosen_at k o t e = record { fronts = fronts (queues_at o t e); may = permitted_nexts k o t e }
+
+abbrev pub blamed : Rules → Object → Standing → ℕ → ℕ → Event → Why → Blamed
+blamed k o t step reason e why = record {
+  step = step;
+  event = e;
+  reply = if reason == 5 then own_reply o t.state e else None;
+  choice = if reason == 6 then Some (chosen_at k o t e) else None;
+  why = why;
+}
+
+-- how the monitor stands after these events
+abbrev pub shown_after : KindName → Monitor → List Event → Shown
+shown_after kind m es = shown kind m.kind m.seats m.conds m.object (situation m es)
+
+-- the event of that step, counted from 1, and those before it
+abbrev pub event_at : List Event → ℕ → Event
+event_at es step = get_or es (step - 1) (Enter 0 Free)
+
+abbrev pub events_before : List Event → ℕ → List Event
+events_before es step = take (step - 1) es
+
+-- what is told of a history of a monitor of that kind with that verdict; `why` is told of a forbidden one
+abbrev pub told_by : KindName → Monitor → List Event → Why → Verdict → Told
+told_by kind m es why (Legal n) = record { verdict = Legal n; situation = shown_after kind m es; blame = None }
+told_by kind m es why (Forbidden step reason) = record {
+  verdict = Forbidden step reason;
+  situation = shown_after kind m (events_before es step);
+  blame = Some (blamed m.kind m.object (situation m (events_before es step)) step reason (event_at es step) why);
+}
+
+abbrev pub told : Heading → List Event → Why → Told
+told h es why = told_by h.kind (named_monitor h) es why (verdict_of (named_monitor h) es)
+
+-- the sentence of a telling, of a legal history any
+abbrev pub why_of : Telling → Why
+why_of t = option_map_or (λ b. b.why) t.blame (Already 0)

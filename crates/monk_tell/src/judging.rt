@@ -1,0 +1,101 @@
+//! What is wrong with an event that is not allowed.
+
+ghost use Rattle.std.specs.Prelude.{◌≡◌, ◌<◌, [], true, All, IfOk};
+ghost use Rattle.monk_history.specs.Meaning.Monitor.{monitor};
+ghost use Rattle.monk_history.specs.Meaning.Reasons.{fits_object, reason_in};
+ghost use Rattle.monk_audit.specs.Replay.{replay_situation};
+ghost use Rattle.monk_tell.specs.Told.{blame_of, blamed, choice_of, chosen_at, own_reply};
+
+use crate::blame::Blame;
+use crate::choice::Choice;
+use crate::lines::{line_up, must_stay};
+use crate::lists::{Fronts, Nexts};
+use crate::permitted::{fronts, may};
+use crate::sentences::{early, wrong_choice, wrong_reply};
+use crate::why::Why;
+use monk_audit::{Replay, Verdict};
+use monk_history::{Event, Header};
+use monk_kinds::{KindName, Rules};
+use monk_object::Guarded;
+use std::alloc::{AllocError, Global};
+
+/// The reply that the object would have given, if the event is an act.
+fn own_reply<T: Guarded>(object: &mut T, event: Event) -> Option<u64>
+    requires { fits_object T.CODES T.PREDICATES event ≡ true }
+    ensures { result ≡ own_reply T.meaning (T.state object.old) event }
+{
+    match event {
+        Event::Act(_, op, _) => Some(object.act(op)),
+        _ => None,
+    }
+}
+
+/// What the event chose from and might have chosen, and why not what it chose.
+fn choice<T: Guarded>(
+    alloc: Global,
+    kind: KindName,
+    rules: Rules,
+    replay: &Replay,
+    object: &T,
+    event: Event,
+) -> Result<(Choice, Why), AllocError>
+    requires preds { All (λ w. w.1 < T.PREDICATES) (replay_situation replay.now (T.state object.now)).untils }
+    requires fits { fits_object T.CODES T.PREDICATES event ≡ true }
+    ensures { IfOk result
+        (λ r. choice_of r.0 ≡ chosen_at rules T.meaning (replay_situation replay.now (T.state object.now)) event) }
+{
+    let stays = must_stay(alloc, replay, object, event)?;
+    let lines = line_up(alloc, replay, object, event)?;
+    let choice = Choice {
+        fronts: Fronts(fronts(alloc, &lines)?),
+        may: Nexts(may(alloc, rules, &lines, stays, event)?),
+    };
+    Ok((choice, wrong_choice(kind, rules, &lines, stays, event)))
+}
+
+/// What is wrong with the event of that step, which is not allowed for that reason.
+pub(crate) fn blame<T: Guarded>(
+    alloc: Global,
+    header: &Header,
+    rules: Rules,
+    replay: &Replay,
+    object: &mut T,
+    step: u32,
+    reason: u8,
+    event: Event,
+) -> Result<Blame, AllocError>
+    requires preds { All (λ w. w.1 < T.PREDICATES) (replay_situation replay.now (T.state object.old)).untils }
+    requires reason { reason ≡ reason_in (monitor rules header.now.seats header.now.conds T.meaning [])
+        (replay_situation replay.now (T.state object.old)) event }
+    ensures { IfOk result
+        (λ b. blame_of b ≡ blamed rules T.meaning (replay_situation replay.now (T.state object.old)) step reason event b.why) }
+{
+    let kind = header.kind();
+    if reason == Verdict::CHOICE {
+        let (choice, why) = choice(alloc, kind, rules, replay, object, event)?;
+        return Ok(Blame {
+            step,
+            event,
+            reply: None,
+            choice: Some(choice),
+            why,
+        });
+    }
+    let reply = if reason == Verdict::REPLY {
+        own_reply(object, event)
+    } else {
+        None
+    };
+    let why = if reason == Verdict::REPLY {
+        wrong_reply(reply, event)
+    } else {
+        early(kind, header.seats(), header.conds(), replay, reason, event)
+    };
+    Ok(Blame {
+        step,
+        event,
+        reply,
+        choice: None,
+        why,
+    })
+}

@@ -1,0 +1,25 @@
+//! Tells how a monitor stands after a history, and of a forbidden one what was wrong and what would have been allowed.
+#![tactic(auto)]
+
+mod blame;
+mod choice;
+mod judging;
+mod lines;
+mod lists;
+mod permitted;
+mod queues;
+mod sentences;
+mod situation;
+mod standing;
+mod telling;
+mod told;
+mod why;
+
+pub use blame::Blame;
+pub use choice::Choice;
+pub use lists::{Fronts, Nexts, Numbers, Seats, Waits};
+pub use queues::{Conditions, Queues};
+pub use situation::Situation;
+pub use telling::Telling;
+pub use told::tell;
+pub use why::Why;

@@ -1,0 +1,162 @@
+//! The queues that a release chooses from.
+
+ghost use Rattle.std.specs.Prelude.{◌≡◌, ◌<◌, [], ◌∷◌, true, All, IfOk, take, if◌then◌else◌};
+ghost use Rattle.monk_history.specs.Meaning.Choice as choice;
+ghost use Rattle.monk_history.specs.Meaning.Reasons.{fits_object};
+ghost use Rattle.monk_history.specs.Meaning.Signallers.{is_empty, signals};
+ghost use Rattle.monk_history.specs.Meaning.Untils.{ready_of};
+ghost use Rattle.monk_history.specs.Meaning.Waiters.{serves};
+ghost use Rattle.monk_audit.specs.Replay.{replay_situation};
+ghost use Rattle.monk_tell.specs.Told.{lines_of};
+
+use monk_audit::Replay;
+use monk_history::Event;
+use monk_object::Guarded;
+use std::alloc::{AllocError, Global};
+
+/// The queues that a release chooses from, after its own moves.
+#[derive(Drop)]
+pub(crate) struct Lines {
+    pub(crate) waiters: Vec<u8>,
+    pub(crate) signallers: Vec<u8>,
+    pub(crate) ready: Vec<u8>,
+}
+
+/// The seats whose predicate holds, in order of the waits.
+pub(crate) fn ready_seats<T: Guarded>(
+    alloc: Global,
+    object: &T,
+    untils: &[(u8, u8)],
+) -> Result<Vec<u8>, AllocError>
+    requires { All (λ w. w.1 < T.PREDICATES) untils.now }
+    ensures { IfOk result (λ v. v.items ≡ ready_of T.meaning (T.state object.now) untils.now) }
+{
+    let mut ready = Vec::new(alloc);
+    for wait in untils {
+        if object.holds(wait.1) {
+            ready.push(wait.0)?;
+        }
+    }
+    Ok(ready)
+}
+
+/// The waiter queue.
+pub(crate) fn waiters(alloc: Global, replay: &Replay) -> Result<Vec<u8>, AllocError>
+    ensures { IfOk result (λ v. v.items ≡ (replay_situation replay.now []).waiters) }
+{
+    replay.waiters(alloc)
+}
+
+/// The signaller queue.
+pub(crate) fn signallers(alloc: Global, replay: &Replay) -> Result<Vec<u8>, AllocError>
+    ensures { IfOk result (λ v. v.items ≡ (replay_situation replay.now []).signallers) }
+{
+    replay.signallers(alloc)
+}
+
+/// The seats that wait until a predicate holds, each with its predicate.
+pub(crate) fn untils(alloc: Global, replay: &Replay) -> Result<Vec<(u8, u8)>, AllocError>
+    ensures { IfOk result (λ v. v.items ≡ (replay_situation replay.now []).untils) }
+{
+    replay.untils(alloc)
+}
+
+/// The seats that wait on the condition.
+pub(crate) fn queue_at(alloc: Global, replay: &Replay, cond: u8) -> Result<Vec<u8>, AllocError>
+    ensures { IfOk result (λ v. v.items ≡ (replay_situation replay.now []).condition cond) }
+{
+    replay.condition(alloc, cond)
+}
+
+/// The first of them.
+fn front_at(alloc: Global, replay: &Replay, cond: u8) -> Result<Vec<u8>, AllocError>
+    ensures { IfOk result (λ v. v.items ≡ take 1 ((replay_situation replay.now []).condition cond)) }
+{
+    let mut queue = queue_at(alloc, replay, cond)?;
+    queue.truncate(1);
+    Ok(queue)
+}
+
+/// Whether nobody waits on the condition.
+fn is_empty_at(alloc: Global, replay: &Replay, cond: u8) -> Result<bool, AllocError>
+    ensures { IfOk result (λ empty. empty ≡ is_empty ((replay_situation replay.now []).condition cond)) }
+{
+    let queue = queue_at(alloc, replay, cond)?;
+    Ok(queue.first().is_none())
+}
+
+/// Whom the event serves.
+fn served(alloc: Global, replay: &Replay, event: Event) -> Result<Vec<u8>, AllocError>
+    ensures { IfOk result (λ v. v.items ≡ serves (replay_situation replay.now []).condition event) }
+{
+    match event {
+        Event::Signal(_, cond, _) => front_at(alloc, replay, cond),
+        Event::SignalLeave(_, cond, _) => front_at(alloc, replay, cond),
+        Event::SignalWait(_, cond, ..) => front_at(alloc, replay, cond),
+        Event::SignalAll(_, cond) => queue_at(alloc, replay, cond),
+        _ => Ok(Vec::new(alloc)),
+    }
+}
+
+/// The seat, unless nobody waits on the condition.
+fn unless_empty(alloc: Global, replay: &Replay, seat: u8, cond: u8) -> Result<Vec<u8>, AllocError>
+    ensures { IfOk result
+        (λ v. v.items ≡ (if is_empty ((replay_situation replay.now []).condition cond) then [] else seat ∷ [])) }
+{
+    if is_empty_at(alloc, replay, cond)? {
+        Ok(Vec::new(alloc))
+    } else {
+        Ok(vec![in alloc; seat]?)
+    }
+}
+
+/// The seat that steps back by the event.
+fn stepping_back(alloc: Global, replay: &Replay, event: Event) -> Result<Vec<u8>, AllocError>
+    ensures { IfOk result (λ v. v.items ≡ signals (replay_situation replay.now []).condition event) }
+{
+    match event {
+        Event::Signal(seat, cond, _) => unless_empty(alloc, replay, seat, cond),
+        _ => Ok(Vec::new(alloc)),
+    }
+}
+
+/// Whether the event must stay.
+pub(crate) fn must_stay<T: Guarded>(
+    alloc: Global,
+    replay: &Replay,
+    object: &T,
+    event: Event,
+) -> Result<bool, AllocError>
+    requires { fits_object T.CODES T.PREDICATES event ≡ true }
+    ensures { IfOk result
+        (λ stays. stays ≡ choice.must_stay T.meaning (replay_situation replay.now (T.state object.now)) event) }
+{
+    match event {
+        Event::Signal(_, cond, _) => is_empty_at(alloc, replay, cond),
+        Event::Until(_, pred, _) => Ok(object.holds(pred)),
+        _ => Ok(false),
+    }
+}
+
+/// The queues that the event chooses from.
+pub(crate) fn line_up<T: Guarded>(
+    alloc: Global,
+    replay: &Replay,
+    object: &T,
+    event: Event,
+) -> Result<Lines, AllocError>
+    requires { All (λ w. w.1 < T.PREDICATES) (replay_situation replay.now (T.state object.now)).untils }
+    ensures { IfOk result
+        (λ l. lines_of l ≡ choice.queues_at T.meaning (replay_situation replay.now (T.state object.now)) event) }
+{
+    let mut waiters = waiters(alloc, replay)?;
+    waiters.extend_from_slice(&served(alloc, replay, event)?)?;
+    let mut signallers = signallers(alloc, replay)?;
+    signallers.extend_from_slice(&stepping_back(alloc, replay, event)?)?;
+    let ready = ready_seats(alloc, object, &untils(alloc, replay)?)?;
+    Ok(Lines {
+        waiters,
+        signallers,
+        ready,
+    })
+}

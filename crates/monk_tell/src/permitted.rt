@@ -1,0 +1,98 @@
+//! What a release may choose.
+
+ghost use Rattle.std.specs.Prelude.{◌≡◌, IfOk, filter};
+ghost use Rattle.monk_history.specs.Meaning.Release.{with_next};
+ghost use Rattle.monk_audit.specs.Settled.{permits};
+ghost use Rattle.monk_tell.specs.Permitted.{candidates, fronts};
+ghost use Rattle.monk_tell.specs.Told.{lines_of};
+
+use crate::lines::Lines;
+use monk_audit::permits;
+use monk_history::{Event, From3, Next};
+use monk_kinds::Rules;
+use std::alloc::{AllocError, Global};
+
+/// The event with this choice, if it is a release.
+fn with_next(event: Event, next: Next) -> Event
+    ensures { result ≡ with_next next event }
+{
+    match event {
+        Event::Leave(seat, _) => Event::Leave(seat, next),
+        Event::Wait(seat, cond, _) => Event::Wait(seat, cond, next),
+        Event::Signal(seat, cond, _) => Event::Signal(seat, cond, next),
+        Event::SignalLeave(seat, cond, _) => Event::SignalLeave(seat, cond, next),
+        Event::Until(seat, pred, _) => Event::Until(seat, pred, next),
+        Event::SignalWait(seat, cond, other, _) => Event::SignalWait(seat, cond, other, next),
+        _ => event,
+    }
+}
+
+/// The first seats of the queues that aren't empty.
+pub(crate) fn fronts(alloc: Global, lines: &Lines) -> Result<Vec<(From3, u8)>, AllocError>
+    ensures { IfOk result (λ v. v.items ≡ fronts (lines_of lines.now)) }
+{
+    let mut fronts = Vec::new(alloc);
+    if let Some(seat) = lines.waiters.first() {
+        fronts.push((From3::Waiter, *seat))?;
+    }
+    if let Some(seat) = lines.signallers.first() {
+        fronts.push((From3::Signaller, *seat))?;
+    }
+    if let Some(seat) = lines.ready.first() {
+        fronts.push((From3::Until, *seat))?;
+    }
+    Ok(fronts)
+}
+
+/// What could be chosen at most.
+fn candidates(alloc: Global, lines: &Lines) -> Result<Vec<Next>, AllocError>
+    ensures { IfOk result (λ v. v.items ≡ candidates (lines_of lines.now)) }
+{
+    let mut nexts = vec![in alloc; Next::Stay, Next::Entry]?;
+    if let Some(seat) = lines.waiters.first() {
+        nexts.push(Next::Waiter(*seat))?;
+    }
+    if let Some(seat) = lines.signallers.first() {
+        nexts.push(Next::Signaller(*seat))?;
+    }
+    if let Some(seat) = lines.ready.first() {
+        nexts.push(Next::Until(*seat))?;
+    }
+    Ok(nexts)
+}
+
+/// Whether the event may choose what it chose, where these are the queues that it chooses from.
+fn is_permitted(rules: Rules, lines: &Lines, stays: bool, event: Event) -> bool
+    ensures { result ≡ permits rules (lines_of lines.now) stays event }
+{
+    let ready = lines.ready.first().copied();
+    permits(
+        rules,
+        &lines.waiters,
+        &lines.signallers,
+        ready,
+        stays,
+        event,
+    )
+}
+
+/// What the event might have chosen.
+pub(crate) fn may(
+    alloc: Global,
+    rules: Rules,
+    lines: &Lines,
+    stays: bool,
+    event: Event,
+) -> Result<Vec<Next>, AllocError>
+    ensures { IfOk result
+        (λ v. v.items ≡ filter (λ x. permits rules (lines_of lines.now) stays (with_next x event)) (candidates (lines_of lines.now))) }
+{
+    let nexts = candidates(alloc, lines)?;
+    let mut may = Vec::new(alloc);
+    for next in &nexts {
+        if is_permitted(rules, lines, stays, with_next(event, *next)) {
+            may.push(*next)?;
+        }
+    }
+    Ok(may)
+}

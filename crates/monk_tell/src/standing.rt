@@ -1,0 +1,101 @@
+//! How a monitor stands, from a replay of its events.
+
+ghost use Rattle.std.specs.Prelude.{◌≡◌, ◌<◌, [], All, IfOk};
+ghost use Rattle.monk_audit.specs.Replay.{replay_situation};
+ghost use Rattle.monk_tell.specs.Told.{condition_lists, conditions_below, inside_below, queues_of, queues_shown, shown, situation_of};
+
+use crate::lines::{queue_at, ready_seats, signallers, untils, waiters};
+use crate::lists::{Numbers, Seats, Waits};
+use crate::queues::{Conditions, Queues};
+use crate::situation::Situation;
+use monk_audit::Replay;
+use monk_kinds::{KindName, Mode, Rules};
+use monk_object::Listed;
+use std::alloc::{AllocError, Global};
+
+/// The seats inside, rising.
+#[tactic(auto, unfolding(crate::specs::Told::inside_below))]
+fn inside_seats(alloc: Global, replay: &Replay, seats: u8) -> Result<Vec<u8>, AllocError>
+    ensures { IfOk result (λ v. v.items ≡ inside_below (replay_situation replay.now []).inside seats) }
+{
+    let mut inside = Vec::new(alloc);
+    for seat in 0..seats {
+        if replay.is_inside(seat) {
+            inside.push(seat)?;
+        }
+    }
+    Ok(inside)
+}
+
+/// The state of the object.
+fn data_numbers<T: Listed>(alloc: Global, object: &T) -> Result<Vec<u64>, AllocError>
+    ensures { IfOk result (λ v. v.items ≡ T.state object.now) }
+{
+    let mut data = Vec::new(alloc);
+    while let Some(number) = object.number(data.len()) {
+        data.push(number)?;
+    }
+    Ok(data)
+}
+
+/// Who waits on each condition.
+#[tactic(auto, using(crate::proofs::LineLaws::condition_more), unfolding(crate::specs::Told::conditions_below))]
+fn conditions(alloc: Global, replay: &Replay, conds: u8) -> Result<Conditions, AllocError>
+    ensures { IfOk result (λ c. condition_lists c ≡ conditions_below (replay_situation replay.now []).condition conds) }
+{
+    let mut queues = Vec::new(alloc);
+    for cond in 0..conds {
+        queues.push(Seats(queue_at(alloc, replay, cond)?))?;
+    }
+    Ok(Conditions(queues))
+}
+
+/// Who waits inside.
+fn queues<T: Listed>(
+    alloc: Global,
+    mode: Mode,
+    conds: u8,
+    replay: &Replay,
+    object: &T,
+) -> Result<Queues, AllocError>
+    requires { All (λ w. w.1 < T.PREDICATES) (replay_situation replay.now (T.state object.now)).untils }
+    ensures { IfOk result
+        (λ q. queues_of q ≡ queues_shown mode conds T.meaning (replay_situation replay.now (T.state object.now))) }
+{
+    if mode == Mode::Automatic {
+        let untils = untils(alloc, replay)?;
+        let ready = ready_seats(alloc, object, &untils)?;
+        return Ok(Queues::Automatic(Waits(untils), Seats(ready)));
+    }
+    let conditions = conditions(alloc, replay, conds)?;
+    let waiters = Seats(waiters(alloc, replay)?);
+    if mode == Mode::ImmediateReturn {
+        return Ok(Queues::Returning(conditions, waiters));
+    }
+    let signallers = Seats(signallers(alloc, replay)?);
+    Ok(Queues::Explicit(conditions, waiters, signallers))
+}
+
+/// How the monitor stands.
+pub(crate) fn situation<T: Listed>(
+    alloc: Global,
+    kind: KindName,
+    rules: Rules,
+    seats: u8,
+    conds: u8,
+    replay: &Replay,
+    object: &T,
+) -> Result<Situation, AllocError>
+    requires { All (λ w. w.1 < T.PREDICATES) (replay_situation replay.now (T.state object.now)).untils }
+    ensures { IfOk result
+        (λ s. situation_of s ≡ shown kind rules seats conds T.meaning (replay_situation replay.now (T.state object.now))) }
+{
+    Ok(Situation {
+        kind,
+        rules,
+        turn: replay.turn(),
+        inside: Seats(inside_seats(alloc, replay, seats)?),
+        data: Numbers(data_numbers(alloc, object)?),
+        queues: queues(alloc, rules.mode, conds, replay, object)?,
+    })
+}

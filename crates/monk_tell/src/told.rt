@@ -1,0 +1,166 @@
+//! What is told of a history.
+
+ghost use Rattle.std.specs.Prelude.{◌≡◌, ◌≤◌, ◌<◌, ◌^◌, All, IfOk, OnOk, IsErrOf, length};
+ghost use Rattle.monk_kinds.specs.Names.{rules_named};
+ghost use Rattle.monk_object.specs.Names.{most};
+ghost use Rattle.monk_history.specs.Meaning.Legal.{IsLegal, IsFirstFault};
+ghost use Rattle.monk_history.specs.Meaning.Monitor.{monitor};
+ghost use Rattle.monk_history.specs.Meaning.Situation.{situation};
+ghost use Rattle.monk_audit.specs.Replay.{replay_situation};
+ghost use Rattle.monk_audit.specs.Verdict.{IsVerdict};
+ghost use Rattle.monk_tell.specs.Told.{shown_after, situation_of, telling_of, told, told_by, why_of};
+
+use crate::judging::blame;
+use crate::situation::Situation;
+use crate::standing::situation;
+use crate::telling::Telling;
+use monk_audit::{AuditFault, Replay, Verdict, audit, rules_by_name};
+use monk_history::{Event, Header};
+use monk_object::{Book, Buffer, Listed, ObjectName, Shop};
+use std::alloc::{AllocError, Global};
+
+/// How the monitor stands after the events, which are legal, as a replay and for a reader.
+fn standing<T: Listed>(
+    alloc: Global,
+    header: &Header,
+    object: &mut T,
+    events: &[Event],
+) -> Result<(Replay, Situation), AllocError>
+    requires { IsLegal (monitor (rules_named header.now.kind) header.now.seats header.now.conds T.meaning (T.state object.old)) events.now }
+    ensures stands { IfOk result
+        (λ r. replay_situation r.0 (T.state object.new) ≡ situation
+        (monitor (rules_named header.now.kind) header.now.seats header.now.conds T.meaning (T.state object.old)) events.now) }
+    ensures preds { IfOk result (λ r. All (λ w. w.1 < T.PREDICATES) (replay_situation r.0 (T.state object.new)).untils) }
+    ensures shown { IfOk result
+        (λ r. situation_of r.1 ≡ shown_after header.now.kind
+        (monitor (rules_named header.now.kind) header.now.seats header.now.conds T.meaning (T.state object.old)) events.now) }
+{
+    let kind = header.kind();
+    let rules = rules_by_name(kind);
+    let (seats, conds) = (header.seats(), header.conds());
+    let replay = Replay::after_all(alloc, object, rules, seats, conds, events)?;
+    let shown = situation(alloc, kind, rules, seats, conds, &replay, object)?;
+    Ok((replay, shown))
+}
+
+/// What is told of a legal history.
+fn tell_legal<T: Listed>(
+    alloc: Global,
+    header: &Header,
+    object: T,
+    count: u32,
+    events: &[Event],
+) -> Result<Telling, AllocError>
+    requires { IsLegal (monitor (rules_named header.now.kind) header.now.seats header.now.conds T.meaning (T.state object)) events.now }
+    ensures { IfOk result
+        (λ t. telling_of t ≡ told_by header.now.kind
+        (monitor (rules_named header.now.kind) header.now.seats header.now.conds T.meaning (T.state object)) events.now (why_of t)
+        (Verdict.Legal count)) }
+{
+    let mut object = object;
+    let (_, situation) = standing(alloc, header, &mut object, events)?;
+    Ok(Telling {
+        verdict: Verdict::Legal(count),
+        situation,
+        blame: None,
+    })
+}
+
+/// What is told of a history whose first fault is known.
+fn tell_forbidden<T: Listed>(
+    alloc: Global,
+    header: &Header,
+    object: T,
+    step: u32,
+    reason: u8,
+    events: &[Event],
+) -> Result<Telling, AllocError>
+    requires { IsFirstFault
+        (monitor (rules_named header.now.kind) header.now.seats header.now.conds T.meaning (T.state object)) events.now step reason }
+    ensures { IfOk result
+        (λ t. telling_of t ≡ told_by header.now.kind
+        (monitor (rules_named header.now.kind) header.now.seats header.now.conds T.meaning (T.state object)) events.now (why_of t)
+        (Verdict.Forbidden step reason)) }
+{
+    let mut object = object;
+    let before = step as usize - 1;
+    let (replay, situation) = standing(alloc, header, &mut object, &events[..before])?;
+    let rules = rules_by_name(header.kind());
+    let event = events[before];
+    let blame = blame(
+        alloc,
+        header,
+        rules,
+        &replay,
+        &mut object,
+        step,
+        reason,
+        event,
+    )?;
+    Ok(Telling {
+        verdict: Verdict::Forbidden { step, reason },
+        situation,
+        blame: Some(blame),
+    })
+}
+
+/// What is told of a history with that verdict, over the object in its opening state.
+fn tell_over<T: Listed>(
+    alloc: Global,
+    header: &Header,
+    object: T,
+    verdict: Verdict,
+    events: &[Event],
+) -> Result<Telling, AllocError>
+    requires { IsVerdict
+        (monitor (rules_named header.now.kind) header.now.seats header.now.conds T.meaning (T.state object)) events.now verdict }
+    ensures { IfOk result
+        (λ t. telling_of t ≡ told_by header.now.kind
+        (monitor (rules_named header.now.kind) header.now.seats header.now.conds T.meaning (T.state object)) events.now (why_of t)
+        verdict) }
+{
+    match verdict {
+        Verdict::Legal(count) => tell_legal(alloc, header, object, count, events),
+        Verdict::Forbidden { step, reason } => {
+            tell_forbidden(alloc, header, object, step, reason, events)
+        }
+    }
+}
+
+/// Tells of a history what [`audit`] finds, how the monitor stands before the first event that is not allowed, or at the end of
+/// a legal history, and of an event that is not allowed what is wrong with it: the event, the object's own reply where the
+/// reply is wrong, and where the choice is wrong, what the event chose from and each next that is permitted.
+///
+/// # Errors
+///
+/// [`AuditFault::Object`] exactly where the size is above the object's greatest. [`AuditFault::Memory`] where a growth
+/// was refused.
+///
+/// # Cost
+///
+/// Two passes over the events, each as [`audit`] takes one; memory for the queues, the object and what is told.
+pub fn tell(alloc: Global, header: &Header, events: &[Event]) -> Result<Telling, AuditFault>
+    requires { length events.now ≤ 2 ^ 25 }
+    // All that is told is so; the sentence alone is any of those that there are.
+    ensures told { IfOk result (λ t. telling_of t ≡ told header.now events.now (why_of t)) }
+    ensures fits { OnOk result (header.now.size ≤ most header.now.object) }
+    ensures object { IsErrOf result AuditFault.Object → most header.now.object < header.now.size }
+    ensures too_big { most header.now.object < header.now.size → IsErrOf result AuditFault.Object }
+{
+    let verdict = audit(alloc, header, events)?;
+    let size = header.size();
+    match header.object() {
+        ObjectName::Buffer => {
+            let buffer = Buffer::make(alloc, size)?;
+            Ok(tell_over(alloc, header, buffer, verdict, events)?)
+        }
+        ObjectName::Book => {
+            let book = Book::make(size)?;
+            Ok(tell_over(alloc, header, book, verdict, events)?)
+        }
+        ObjectName::Shop => {
+            let shop = Shop::make(size)?;
+            Ok(tell_over(alloc, header, shop, verdict, events)?)
+        }
+    }
+}
