@@ -4,6 +4,7 @@
 mod blame;
 mod choice;
 mod judging;
+pub mod laws;
 mod lines;
 mod lists;
 mod permitted;
