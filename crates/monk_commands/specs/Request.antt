@@ -13,7 +13,7 @@ use Rattle.monk_samples.specs.Samples.{IsInRange, sample_object}
 use Rattle.monk_samples.specs.declared.sample.Sample.{Sample}
 use Rattle.monk_samples.specs.declared.sample.Sample.TheVariants.{Buffer, Book, Shop}
 use Rattle.monk_commands.specs.declared.request.Line.{Line}
-use Rattle.monk_commands.specs.declared.request.Line.TheVariants.{Classify, Audit, Play, Upgrade, Fit, Trace, Draw, Run, Record}
+use Rattle.monk_commands.specs.declared.request.Line.TheVariants.{Classify, Audit, Play, Upgrade, Fit, Trace, Explain, Draw, Run, Record}
 
 -- a word that must stand there, and that the parser takes
 abbrev pub required_rule : Text → ValueParser → Rule
@@ -71,8 +71,9 @@ bare_app = record (new_app (codes "monk")) { top = record (new_app (codes "monk"
 abbrev pub plain_app : App
 plain_app =
     with_subcommand (with_subcommand (with_subcommand (with_subcommand (with_subcommand (with_subcommand
-    (with_subcommand bare_app classify_app.top) (file_app (codes "audit")).top) (file_app (codes "play")).top)
-    (file_app (codes "upgrade")).top) (file_app (codes "fit")).top) (file_app (codes "trace")).top) (file_app (codes "draw")).top
+    (with_subcommand (with_subcommand bare_app classify_app.top) (file_app (codes "audit")).top) (file_app (codes "play")).top)
+    (file_app (codes "upgrade")).top) (file_app (codes "fit")).top) (file_app (codes "trace")).top)
+    (file_app (codes "explain")).top) (file_app (codes "draw")).top
 
 abbrev pub monk_app : RunNames → RunNames → App
 monk_app run recorded =
@@ -96,6 +97,7 @@ command_word (Play file) = codes "play"
 command_word (Upgrade file) = codes "upgrade"
 command_word (Fit file) = codes "fit"
 command_word (Trace file) = codes "trace"
+command_word (Explain file) = codes "explain"
 command_word (Draw file) = codes "draw"
 command_word (Run kind sample seats rounds) = codes "run"
 command_word (Record kind sample seats rounds) = codes "record"
@@ -122,6 +124,7 @@ ValuesAre (Play file) rows = first_of (codes "FILE") rows ≡ option_map string_
 ValuesAre (Upgrade file) rows = first_of (codes "FILE") rows ≡ option_map string_bytes file
 ValuesAre (Fit file) rows = first_of (codes "FILE") rows ≡ option_map string_bytes file
 ValuesAre (Trace file) rows = first_of (codes "FILE") rows ≡ option_map string_bytes file
+ValuesAre (Explain file) rows = first_of (codes "FILE") rows ≡ option_map string_bytes file
 ValuesAre (Draw file) rows = first_of (codes "FILE") rows ≡ option_map string_bytes file
 ValuesAre (Run kind sample seats rounds) rows = AreRunValues kind sample seats rounds rows
 ValuesAre (Record kind sample seats rounds) rows = AreRunValues kind sample seats rounds rows
@@ -134,6 +137,7 @@ RunIsInRange (Play file) = Unit {0}
 RunIsInRange (Upgrade file) = Unit {0}
 RunIsInRange (Fit file) = Unit {0}
 RunIsInRange (Trace file) = Unit {0}
+RunIsInRange (Explain file) = Unit {0}
 RunIsInRange (Draw file) = Unit {0}
 RunIsInRange (Run kind sample seats rounds) = IsInRange seats rounds
 RunIsInRange (Record kind sample seats rounds) = IsInRange seats rounds

@@ -6,6 +6,7 @@ ghost use Rattle.monk_commands.specs.Tasks.{IsTaskAnswer};
 
 use crate::auditing::audit_stream;
 use crate::drawing::draw_stream;
+use crate::explaining::explain_stream;
 use crate::fault::StreamFault;
 use crate::fitting::fit_stream;
 use crate::playing::play_stream;
@@ -28,6 +29,8 @@ pub enum Task {
     Fit,
     /// Each command of a play with its answer, by [`trace_stream`].
     Trace,
+    /// The verdict on a history, and why, by [`explain_stream`].
+    Explain,
     /// The picture of a history, by [`draw_stream`].
     Draw,
 }
@@ -71,6 +74,7 @@ impl Task {
             Task::Upgrade => upgrade_stream(alloc, reader, writer),
             Task::Fit => fit_stream(alloc, reader, writer),
             Task::Trace => trace_stream(alloc, reader, writer),
+            Task::Explain => explain_stream(alloc, reader, writer),
             Task::Draw => draw_stream(alloc, reader, writer),
         }
     }

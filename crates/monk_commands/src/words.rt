@@ -63,6 +63,11 @@ static TRACE: Help = Help {
     example: "Example: monk trace examples/ticket_at_the_drop.play",
 };
 
+static EXPLAIN: Help = Help {
+    about: "Tells whether a history is legal, how the monitor stands, and what is wrong",
+    example: "Example: monk explain examples/hoare_handover_under_mesa.history",
+};
+
 static DRAW: Help = Help {
     about: "Draws a history as a picture",
     example: "Example: monk draw examples/hoare_handover.history",
@@ -96,6 +101,7 @@ fn plain<'a>(alloc: Global) -> Result<Command<'a>, AllocError>
     let upgrade = with_file(alloc, "upgrade", &UPGRADE)?;
     let fit = with_file(alloc, "fit", &FIT)?;
     let trace = with_file(alloc, "trace", &TRACE)?;
+    let explain = with_file(alloc, "explain", &EXPLAIN)?;
     let draw = with_file(alloc, "draw", &DRAW)?;
     Command::new(alloc, "monk")
         .bin_name("monk")?
@@ -107,6 +113,7 @@ fn plain<'a>(alloc: Global) -> Result<Command<'a>, AllocError>
         .subcommand(upgrade)?
         .subcommand(fit)?
         .subcommand(trace)?
+        .subcommand(explain)?
         .subcommand(draw)
 }
 
@@ -242,6 +249,7 @@ fn asked(alloc: Global, matches: &ArgMatches<'_>) -> Result<Option<Line>, LineFa
         Some(("upgrade", upgrade)) => Ok(Some(Line::Upgrade(file_of(alloc, upgrade)?))),
         Some(("fit", fit)) => Ok(Some(Line::Fit(file_of(alloc, fit)?))),
         Some(("trace", trace)) => Ok(Some(Line::Trace(file_of(alloc, trace)?))),
+        Some(("explain", explain)) => Ok(Some(Line::Explain(file_of(alloc, explain)?))),
         Some(("draw", draw)) => Ok(Some(Line::Draw(file_of(alloc, draw)?))),
         Some(("run", run)) => Ok(line_to_run(run)),
         Some(("record", record)) => Ok(line_to_record(record)),

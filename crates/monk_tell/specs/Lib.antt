@@ -1,2 +1,4 @@
 pub mod Permitted
 pub mod Told
+pub mod Words
+pub mod Why

@@ -1,6 +1,11 @@
 //! What a release chooses from, and what it may choose.
 
+ghost use Rattle.std.specs.Prelude.{Some};
+ghost use Rattle.monk_tell.specs.Words.{choice_text};
+ghost use Rattle.monk_tell.specs.Told.{choice_of};
+
 use crate::lists::{Fronts, Nexts};
+use std::fmt;
 
 /// What a release chooses from, and what it may choose.
 #[derive(Debug, Drop)]
@@ -10,4 +15,14 @@ pub struct Choice {
     pub fronts: Fronts,
     /// Each next that is permitted, in the order stay, entry, waiter, signaller, until.
     pub may: Nexts,
+}
+
+/// In two lines.
+impl fmt::Display for Choice {
+    ghost output = { λ c. Some (choice_text (choice_of c)) };
+
+    fn fmt<W: fmt::Write>(&self, f: &mut fmt::Formatter<W>) -> fmt::Result {
+        let (fronts, may) = (&self.fronts, &self.may);
+        write!(f, "fronts:{fronts}\nmay: {may}\n")
+    }
 }

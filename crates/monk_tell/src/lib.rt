@@ -4,11 +4,13 @@
 mod blame;
 mod choice;
 mod judging;
+mod kind_word;
 pub mod laws;
 mod lines;
 mod lists;
 mod permitted;
 mod queues;
+mod said;
 mod sentences;
 mod situation;
 mod standing;

@@ -1,23 +1,95 @@
-//! Lists of what is told.
+//! Lists that print themselves.
 
+ghost use Rattle.std.specs.Prelude.{Some};
+ghost use Rattle.monk_tell.specs.Words.{fronts_text, nexts_text, numbers_text, seats_text, waits_text};
+
+use crate::said::queue_word;
 use monk_history::{From3, Next};
+use std::fmt;
 
-/// Seats, in order.
+/// Seats, in order. Printed with a space before each.
 #[derive(Debug, Drop)]
 pub struct Seats(pub Vec<u8>);
 
-/// Whole numbers, in order.
+impl fmt::Display for Seats {
+    ghost output = { λ s. Some (seats_text s.0.items) };
+
+    fn fmt<W: fmt::Write>(&self, f: &mut fmt::Formatter<W>) -> fmt::Result {
+        for seat in &self.0 {
+            write!(f, " {seat}")?;
+        }
+        Ok(())
+    }
+}
+
+/// Whole numbers, in order. Printed with a space before each.
 #[derive(Debug, Drop)]
 pub struct Numbers(pub Vec<u64>);
 
-/// Seats that wait until a predicate holds, each with its predicate.
+impl fmt::Display for Numbers {
+    ghost output = { λ s. Some (numbers_text s.0.items) };
+
+    fn fmt<W: fmt::Write>(&self, f: &mut fmt::Formatter<W>) -> fmt::Result {
+        for number in &self.0 {
+            write!(f, " {number}")?;
+        }
+        Ok(())
+    }
+}
+
+/// Seats that wait until a predicate holds, each with its predicate. Printed ` 0 1, 2 0`.
 #[derive(Debug, Drop)]
 pub struct Waits(pub Vec<(u8, u8)>);
 
-/// Queues that aren't empty, each with its first seat.
+impl fmt::Display for Waits {
+    ghost output = { λ s. Some (waits_text s.0.items) };
+
+    fn fmt<W: fmt::Write>(&self, f: &mut fmt::Formatter<W>) -> fmt::Result {
+        let Some((first, rest)) = self.0.split_first() else {
+            return Ok(());
+        };
+        write!(f, " {} {}", first.0, first.1)?;
+        for wait in rest {
+            write!(f, ", {} {}", wait.0, wait.1)?;
+        }
+        Ok(())
+    }
+}
+
+/// Queues that aren't empty, each with its first seat. Printed ` waiter 0, signaller 1`.
 #[derive(Debug, Drop)]
 pub struct Fronts(pub Vec<(From3, u8)>);
 
-/// What a release may choose.
+impl fmt::Display for Fronts {
+    ghost output = { λ s. Some (fronts_text s.0.items) };
+
+    fn fmt<W: fmt::Write>(&self, f: &mut fmt::Formatter<W>) -> fmt::Result {
+        let Some((first, rest)) = self.0.split_first() else {
+            return Ok(());
+        };
+        write!(f, " {} {}", queue_word(first.0), first.1)?;
+        for front in rest {
+            write!(f, ", {} {}", queue_word(front.0), front.1)?;
+        }
+        Ok(())
+    }
+}
+
+/// What a release may choose. Printed `stay, waiter 2`.
 #[derive(Debug, Drop)]
 pub struct Nexts(pub Vec<Next>);
+
+impl fmt::Display for Nexts {
+    ghost output = { λ s. Some (nexts_text s.0.items) };
+
+    fn fmt<W: fmt::Write>(&self, f: &mut fmt::Formatter<W>) -> fmt::Result {
+        let Some((first, rest)) = self.0.split_first() else {
+            return Ok(());
+        };
+        write!(f, "{first}")?;
+        for next in rest {
+            write!(f, ", {next}")?;
+        }
+        Ok(())
+    }
+}

@@ -1,10 +1,27 @@
 //! The queues inside a monitor, by what its kind has.
 
+ghost use Rattle.std.specs.Prelude.{Some};
+ghost use Rattle.monk_tell.specs.Words.{conditions_text, queues_text};
+ghost use Rattle.monk_tell.specs.Told.{condition_lists, queues_of};
+
 use crate::lists::{Seats, Waits};
+use std::fmt;
 
 /// The queues of the conditions, each with its number.
 #[derive(Debug, Drop)]
 pub struct Conditions(pub Vec<Seats>);
+
+/// A line for each condition: `condition 1: 0 2`.
+impl fmt::Display for Conditions {
+    ghost output = { λ c. Some (conditions_text (condition_lists c)) };
+
+    fn fmt<W: fmt::Write>(&self, f: &mut fmt::Formatter<W>) -> fmt::Result {
+        for (cond, seats) in self.0.iter().enumerate() {
+            write!(f, "condition {cond}:{seats}\n")?;
+        }
+        Ok(())
+    }
+}
 
 /// The queues inside a monitor, front first.
 #[derive(Debug, Drop)]
@@ -15,4 +32,19 @@ pub enum Queues {
     Returning(Conditions, Seats),
     /// Of an explicit kind: who waits on each condition, the waiter queue and the signaller queue.
     Explicit(Conditions, Seats, Seats),
+}
+
+/// A line for each queue.
+impl fmt::Display for Queues {
+    ghost output = { λ q. Some (queues_text (queues_of q)) };
+
+    fn fmt<W: fmt::Write>(&self, f: &mut fmt::Formatter<W>) -> fmt::Result {
+        match self {
+            Queues::Automatic(untils, ready) => write!(f, "until:{untils}\nready:{ready}\n"),
+            Queues::Returning(conditions, waiters) => write!(f, "{conditions}waiter:{waiters}\n"),
+            Queues::Explicit(conditions, waiters, signallers) => {
+                write!(f, "{conditions}waiter:{waiters}\nsignaller:{signallers}\n")
+            }
+        }
+    }
 }

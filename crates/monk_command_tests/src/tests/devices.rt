@@ -19,7 +19,7 @@ struct Job<'a> {
     answer: &'a [u8],
 }
 
-static JOBS: [Job<'static>; 7] = [
+static JOBS: [Job<'static>; 8] = [
     Job {
         task: Task::Audit,
         input: b"monk 1 PB 2 2 buffer 1\nenter 0 free\nwait 0 1 entry\nenter 1 free\nsignal 1 1 waiter 0\nresume 0 waiter\nleave 0 signaller 1\nresume 1 signaller\nleave 1 entry\n",
@@ -49,6 +49,12 @@ static JOBS: [Job<'static>; 7] = [
         input: b"monk 1 PB 1 0 buffer 1\nenter 0 free\nleave 0 entry\n",
         status: 0,
         answer: b"PB legal 2\nNPB legal 2\nPNB legal 2\nNPNB legal 2\nPQB legal 2\nNPQB legal 2\nPIR legal 2\nNPIR legal 2\nPIS legal 2\nNPIS legal 2\n",
+    },
+    Job {
+        task: Task::Explain,
+        input: b"monk 1 PB 2 1 buffer 1\nenter 0 free\nwait 0 0 entry\nenter 0 free\n",
+        status: 1,
+        answer: b"forbidden 3 4 place\nline: 4\nevent: enter 0 free\nkind: PB blocking 1 3 2\nturn: open\ninside: 0\ndata: 1\ncondition 0: 0\nwaiter:\nsignaller:\nwhy: seat 0 is inside already\n",
     },
     Job {
         task: Task::Draw,

@@ -13,6 +13,7 @@ fn asks_for(line: &Line, command: &str, file: Option<&str>) -> bool {
         Line::Upgrade(name) => ("upgrade", name),
         Line::Fit(name) => ("fit", name),
         Line::Trace(name) => ("trace", name),
+        Line::Explain(name) => ("explain", name),
         Line::Draw(name) => ("draw", name),
         Line::Classify(..) | Line::Run(..) | Line::Record(..) => return false,
     };
@@ -27,7 +28,7 @@ fn asks_for(line: &Line, command: &str, file: Option<&str>) -> bool {
 #[test]
 fn words_that_ask(rt: HostRuntime) -> Result<(), Fail> {
     let alloc = rt.alloc();
-    for command in ["audit", "play", "upgrade", "fit", "trace", "draw"] {
+    for command in ["audit", "play", "upgrade", "fit", "trace", "explain", "draw"] {
         let bare = line(alloc, &["monk", command])?;
         assert!(rt; asks_for(&bare, command, None), "{command}");
         let named = line(alloc, &["monk", command, "x.text"])?;
@@ -74,6 +75,7 @@ fn words_that_ask_for_nothing(rt: HostRuntime) {
     assert!(rt; is_refused(alloc, &["monk", "audit", "a", "b"]));
     assert!(rt; is_refused(alloc, &["monk", "play", "a", "b"]));
     assert!(rt; is_refused(alloc, &["monk", "upgrade", "a", "b"]));
+    assert!(rt; is_refused(alloc, &["monk", "explain", "a", "b"]));
     assert!(rt; is_refused(alloc, &["monk", "draw", "a", "b"]));
     assert!(rt; is_refused(alloc, &["monk", "classify", "1", "2"]));
     assert!(rt; is_refused(alloc, &["monk", "classify", "1", "2", "3", "4"]));

@@ -83,6 +83,20 @@ static TRACED: Job = Job {
     answer: b"1 | 0 arrive | arrived 0 0 | t=1 n=1 | due\n2 | 0 out | now | t=1 n=1 | active\n3 | 0 leave waiter | chose entry | t=1 n=1 | back entry\n",
 };
 
+static EXPLAINED: Job = Job {
+    task: Task::Explain,
+    input: b"monk 1 PNB 2 1 buffer 1\nenter 0 free\nwait 0 0 entry\nenter 1 free\nsignal 1 0 waiter 0\n",
+    status: 1,
+    answer: b"forbidden 4 6 choice\nline: 5\nevent: signal 1 0 waiter 0\nkind: PNB non-blocking 1 2 3\nturn: of 1\ninside: 0 1\ndata: 1\ncondition 0: 0\nwaiter:\nsignaller:\nfronts: waiter 0, signaller 1\nmay: stay\nwhy: seat 1 has to stay active, since PNB puts signallers above waiters\n",
+};
+
+static NOT_EXPLAINED: Job = Job {
+    task: Task::Explain,
+    input: b"monk 1 PB 1 0 buffer 1\nenter 0 free\nstay 0\n",
+    status: 2,
+    answer: b"unreadable 3 2 word\n",
+};
+
 static NOT_DRAWN: Job = Job {
     task: Task::Draw,
     input: b"monk 1 PB 1 0 buffer 1\nenter 0 free\nstay 0\n",
@@ -179,6 +193,26 @@ fn end_of_drawing(rt: &HostRuntime) -> Outcome {
         Err(StreamFault::Memory) if picture.length == 0 => Outcome::Memory,
         _ => Outcome::Other,
     }
+}
+
+#[test]
+fn explained_with_ample_memory(rt: HostRuntime) {
+    assert_eq!(rt; end_of(&rt, &EXPLAINED), Outcome::Answered);
+}
+
+#[test]
+fn explained_or_refused_memory(rt: HostRuntime) {
+    assert_ne!(rt; end_of(&rt, &EXPLAINED), Outcome::Other);
+}
+
+#[test]
+fn not_explained_with_ample_memory(rt: HostRuntime) {
+    assert_eq!(rt; end_of(&rt, &NOT_EXPLAINED), Outcome::Answered);
+}
+
+#[test]
+fn not_explained_or_refused_memory(rt: HostRuntime) {
+    assert_ne!(rt; end_of(&rt, &NOT_EXPLAINED), Outcome::Other);
 }
 
 #[test]

@@ -63,3 +63,13 @@ returns-in_ok-file_of-in-Some-draw-default c =
       values = sym (first_value-rows found (codes "FILE")) ∙ sym c.in_ok-file_of-in-Some-draw-default.ensures;
       in_range = tt;
     })
+
+pub returns-in_ok-file_of-in-Some-explain-default : goal.returns-in_ok-file_of-in-Some-explain-default
+returns-in_ok-file_of-in-Some-explain-default c =
+    let found = found_of c.in-Some-explain-default.explain.now in
+    asked_in (subcommand_rows_of c.args.matches.now) (codes "explain") (rows_of found) _ (search rules)
+    (sym c.in-Some-explain-default.ensures.rows) (record {
+      command = refl;
+      values = sym (first_value-rows found (codes "FILE")) ∙ sym c.in_ok-file_of-in-Some-explain-default.ensures;
+      in_range = tt;
+    })

@@ -24,6 +24,8 @@ returns c =
     ∙ ap (λ (a : App). with_subcommand a (file_app (codes "fit")).top) upgrade_is in
     let trace_is = c.in_ok-trace.ensures _ _ c.in_ok-subcommand-6.ensures
     ∙ ap (λ (a : App). with_subcommand a (file_app (codes "trace")).top) fit_is in
-    IfOk-weaker c.subcommand-7.result _ _
-    (λ r h. c.in_ok-draw.ensures _ _ h ∙ ap (λ (a : App). with_subcommand a (file_app (codes "draw")).top) trace_is)
-    c.subcommand-7.ensures
+    let explain_is = c.in_ok-explain.ensures _ _ c.in_ok-subcommand-7.ensures
+    ∙ ap (λ (a : App). with_subcommand a (file_app (codes "explain")).top) trace_is in
+    IfOk-weaker c.subcommand-8.result _ _
+    (λ r h. c.in_ok-draw.ensures _ _ h ∙ ap (λ (a : App). with_subcommand a (file_app (codes "draw")).top) explain_is)
+    c.subcommand-8.ensures

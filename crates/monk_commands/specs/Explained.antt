@@ -1,0 +1,41 @@
+-- The answer to a text whose verdict is explained
+use Rattle.std.specs.Prelude.{◌≡◌, ℕ, List, ◌++◌, ◌^◌, Option, IfSome, Result, Ok, Err, nat_lt, if◌then◌else◌}
+use Rattle.std.specs.Io.KnownBytes.{Appends}
+use Rattle.monk_object.specs.Names.{most}
+use Rattle.monk_history.specs.declared.event.Event.{Event}
+use Rattle.monk_history.specs.declared.text.fault.ReadFault.{ReadFault}
+use Rattle.monk_history.specs.Text.{Heading}
+use Rattle.monk_history.specs.Text.Reading.{History, text_at}
+use Rattle.monk_tell.specs.Told.{Told, told}
+use Rattle.monk_tell.specs.Words.{telling_text}
+use Rattle.monk_tell.specs.declared.why.Why.{Why}
+use Rattle.monk_commands.specs.Answer.{Answer, answer_of, too_big, unreadable, verdict_answer}
+
+-- the line of the verdict, and what is told behind it
+abbrev pub told_answer : Told → Answer
+told_answer t = record {
+  status = (verdict_answer t.verdict).status;
+  text = (verdict_answer t.verdict).text ++ telling_text t;
+}
+
+-- `why` is the sentence for a forbidden event
+abbrev pub explain_answer : Why → Heading → List Event → Answer
+explain_answer why h events = if nat_lt (most h.object) h.size then too_big else told_answer (told h events why)
+
+abbrev pub explain_reading : Why → Result History ReadFault → Answer
+explain_reading why (Ok h) = explain_answer why h.0 h.1
+explain_reading why (Err f) = unreadable f
+
+-- with what writing these bytes means: of what was read the explanation is written, with one of the sentences that there are
+abbrev pub IsExplained : Result History ReadFault → ℕ → (List ℕ → Type 0) → Type 0
+IsExplained r status Puts = (why : Why) × ((status ≡ (explain_reading why r).status) × Puts (explain_reading why r).text)
+
+-- the explanation of bytes
+abbrev pub IsExplanationOf : List ℕ → ℕ → (List ℕ → Type 0) → Type 0
+IsExplanationOf input status Puts = IsExplained (text_at (2 ^ 25) input) status Puts
+
+-- the status is that of an audit, and the line of an audit comes first
+abbrev pub BeginsAsAudit : Option (List ℕ) → Option (List ℕ) → Option (List ℕ) → ℕ → Type 0
+BeginsAsAudit input before after status =
+    IfSome input (λ bytes. (status ≡ (answer_of bytes).status)
+    × ((rest : List ℕ) × Appends before after ((answer_of bytes).text ++ rest)))

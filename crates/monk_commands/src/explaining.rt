@@ -1,0 +1,102 @@
+//! The explaining stream: the text of a history in, its verdict, how the monitor stands and what is wrong out.
+
+ghost use Rattle.std.specs.Prelude.{◌≡◌, ◌+◌, ◌≤◌, ◌^◌, ◌⊎◌, false, true, length, IfOk, OnOk, IfSome, IsErrOf, ◌↔◌, Ok, string_bytes};
+ghost use Rattle.std.specs.Io.KnownBytes.{Appends, IsAtEnd};
+ghost use Rattle.monk_history.specs.Text.Device.{held, has_failed, reads_of};
+ghost use Rattle.monk_history.specs.Text.Reading.{history};
+ghost use Rattle.monk_tell.specs.Told.{telling_of};
+ghost use Rattle.monk_commands.specs.Explained.{BeginsAsAudit, IsExplained, IsExplanationOf, told_answer};
+ghost use Rattle.monk_commands.specs.Legal.{IsLegalText, IsForbiddenText};
+ghost use Rattle.monk_commands.specs.Streams.{IsYoung, IsPastBound};
+
+use crate::answer::{Answer, put, too_big, unreadable, verdict_answer};
+use crate::fault::StreamFault;
+use crate::input::read_all;
+use monk_audit::AuditFault;
+use monk_history::{Device, Event, Header, read};
+use monk_tell::{Telling, tell};
+use std::alloc::Global;
+use std::io::{Read, Write};
+
+/// The line of the verdict, and what is told behind it.
+fn told(alloc: Global, telling: &Telling) -> Result<Answer, StreamFault>
+    ensures answer { IfOk result
+        (λ a. (a.status ≡ (told_answer (telling_of telling.now)).status)
+        × (string_bytes a.text ≡ (told_answer (telling_of telling.now)).text)) }
+    ensures status { IfOk result (λ a. a.status ≤ 2) }
+    ensures no_file { IsErrOf result StreamFault.File → ⊥ }
+{
+    let mut answer = verdict_answer(alloc, telling.verdict)?;
+    write!(answer.text, "{telling}")?;
+    Ok(answer)
+}
+
+/// The answer to a history that was read.
+fn explained(alloc: Global, header: &Header, events: &[Event]) -> Result<Answer, StreamFault>
+    requires few { length events.now ≤ 2 ^ 25 }
+    ensures answer { IfOk result
+        (λ a. IsExplained (Ok (history header.now events.now)) a.status (λ text. string_bytes a.text ≡ text)) }
+    ensures status { IfOk result (λ a. a.status ≤ 2) }
+    ensures no_file { IsErrOf result StreamFault.File → ⊥ }
+{
+    match tell(alloc, header, events) {
+        Ok(telling) => told(alloc, &telling),
+        Err(AuditFault::Object) => too_big(alloc),
+        Err(AuditFault::Memory) => Err(StreamFault::Memory),
+    }
+}
+
+/// The answer to a text.
+fn answer_to_text(alloc: Global, bytes: &[u8]) -> Result<Answer, StreamFault>
+    ensures answer { IfOk result (λ a. IsExplanationOf bytes.now a.status (λ text. string_bytes a.text ≡ text)) }
+    ensures status { IfOk result (λ a. a.status ≤ 2) }
+    ensures no_file { IsErrOf result StreamFault.File → ⊥ }
+{
+    match read(alloc, bytes) {
+        Ok((header, events)) => explained(alloc, &header, &events),
+        Err(fault) => unreadable(alloc, fault),
+    }
+}
+
+/// Reads all of the reader, and writes the line and ends with the status of an audit of it. Of a legal history it goes on with the
+/// situation in which the history ends: the kind, the turn, who is inside, the data and the queues. Of a forbidden one it goes
+/// on with the event that is not allowed, the situation before it, the object's own reply or what might have been chosen, and
+/// a sentence that says why. docs/TEXT.md has the lines.
+///
+/// # Errors
+///
+/// [`StreamFault::File`] where the reader or the writer failed, or where the input has more than 2^31 bytes or takes
+/// more than 2^31 reads. [`StreamFault::Memory`] where a growth was refused.
+///
+/// # Cost
+///
+/// One pass over the text and two over the events; memory for the text, for the events and for the queues.
+pub fn explain_stream<R: Read, W: Write>(
+    alloc: Global,
+    reader: &mut Device<R>,
+    writer: &mut Device<W>,
+) -> Result<u8, StreamFault>
+    requires reader_works { has_failed reader.old ≡ false }
+    requires writer_works { has_failed writer.old ≡ false }
+
+    // What is written, and its status, are the explanation of what the reader had, with one of the sentences that there are.
+    ensures answer { IfOk result
+        (λ status. IfSome (R.remaining (held reader.old))
+        (λ input. IsExplanationOf input status (Appends (W.contents (held writer.old)) (W.contents (held writer.new))))) }
+    // The line of an audit comes first, and the status is that of an audit.
+    ensures audit { IfOk result
+        (BeginsAsAudit (R.remaining (held reader.old)) (W.contents (held writer.old)) (W.contents (held writer.new))) }
+    ensures legal { IfOk result (λ status. IfSome (R.remaining (held reader.old)) (λ input. (status ≡ 0) ↔ IsLegalText input)) }
+    ensures forbidden { IfOk result (λ status. IfSome (R.remaining (held reader.old)) (λ input. (status ≡ 1) ↔ IsForbiddenText input)) }
+    ensures statuses { IfOk result (λ status. status ≤ 2) }
+    ensures all_read { OnOk result (IsAtEnd (R.remaining (held reader.new))) }
+
+    ensures file { IsErrOf result StreamFault.File → IsYoung reader.old → (has_failed reader.new ≡ true)
+        ⊎ (has_failed writer.new ≡ true) ⊎ IsPastBound reader.old reader.new }
+    // Where memory is told for, no call has failed, and nothing was written.
+    ensures memory { IsErrOf result StreamFault.Memory → (has_failed reader.new ≡ false) × (writer.new ≡ writer.old) }
+    ensures reads { reads_of reader.new ≤ reads_of reader.old + 2 ^ 31 }
+{
+    let bytes = read_all(alloc, reader)?;
+    put(&answer_to_text(alloc, &bytes)?, writer)
+}
