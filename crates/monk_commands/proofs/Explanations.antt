@@ -47,7 +47,7 @@ begins_by false x y begins = begins
 begins_read : (why : Why) (r : Result History ReadFault) → Begins (explain_reading why r) (reading_answer r)
 begins_read why (Ok h) =
     begins_by (ltb (most h.0.object) h.0.size) (told_answer (told h.0 h.1 why)) (verdict_answer (verdict_of (named_monitor h.0) h.1))
-        (begins_told why h.0 h.1)
+    (begins_told why h.0 h.1)
 begins_read why (Err f) = begins_self (unreadable f)
 
 -- ---- what was read, and what of it is known
@@ -58,7 +58,7 @@ pub explained_told : (h : Heading) (es : List Event) (why : Why) (t : Told) (sta
     → status ≡ (told_answer t).status → Puts (told_answer t).text → IsExplained (Ok (history h es)) status Puts
 explained_told h es why t status Puts is fits same put =
     let given : cond (ltb (most h.object) h.size) too_big (told_answer (told h es why)) ≡ told_answer t =
-        rw (fits, is) refl in
+    rw (fits, is) refl in
     (why, (same ∙ sym (ap (λ (a : Answer). a.status) given), subst (λ (a : Answer). Puts a.text) (sym given) put))
 
 pub read_explained : (bytes : List ℕ) (r : Result History ReadFault) (status : ℕ) (Puts : List ℕ → Type 0) → text_at (2 ^ 25) bytes ≡ r

@@ -1,3 +1,4 @@
 mod LineLaws
 mod TellLaws
 mod FrontLaws
+mod ConditionLines

@@ -1,6 +1,6 @@
 -- What is told of a history, in lines
 use Rattle.std.specs.Prelude.{ℕ, ◌+◌, Option, Some, None, List, [], ◌∷◌, ◌++◌, codes}
-use Rattle.std.specs.List.{flat_map, join_with_byte}
+use Rattle.std.specs.List.{concat, flat_map, join_with_byte}
 use Rattle.std.specs.Fmt.{decimal}
 use Rattle.monk_kinds.specs.Names.{kind_word}
 use Rattle.monk_kinds.specs.declared.mode.Mode.{Mode}
@@ -81,7 +81,7 @@ abbrev pub ranks_text : Rules → List ℕ
 ranks_text k = ranks_in k.mode k
 
 abbrev pub condition_line : ℕ → List ℕ → List ℕ
-condition_line c seats = codes "condition " ++ decimal c ++ codes ":" ++ seats_text seats ++ codes "\n"
+condition_line c seats = concat (codes "condition " ∷ decimal c ∷ codes ":" ∷ seats_text seats ∷ codes "\n" ∷ [])
 
 -- the lines of the conditions from that number on
 abbrev pub conditions_from : ℕ → List (List ℕ) → List ℕ
@@ -97,7 +97,9 @@ signallers_text (Some seats) = codes "signaller:" ++ seats_text seats ++ codes "
 
 abbrev pub untils_text : Option ShownUntils → List ℕ
 untils_text None = []
-untils_text (Some u) = codes "until:" ++ waits_text u.untils ++ codes "\nready:" ++ seats_text u.ready ++ codes "\n"
+untils_text (Some u) =
+    codes "until:" ++ waits_text u.untils ++ codes "\n"
+    ++ (codes "ready:" ++ seats_text u.ready ++ codes "\n")
 
 abbrev pub conditional_text : Option ShownConditions → List ℕ
 conditional_text None = []
@@ -107,14 +109,27 @@ conditional_text (Some c) =
 abbrev pub queues_text : ShownQueues → List ℕ
 queues_text q = untils_text q.automatic ++ conditional_text q.conditional
 
+abbrev pub kind_line : Shown → List ℕ
+kind_line s =
+    concat (codes "kind: " ∷ kind_word s.kind ∷ codes " " ∷ mode_word s.rules.mode ∷ codes " " ∷ ranks_text s.rules ∷ codes "\n" ∷ [])
+
+abbrev pub turn_line : Turn → List ℕ
+turn_line t = codes "turn: " ++ turn_text t ++ codes "\n"
+
+abbrev pub inside_line : List ℕ → List ℕ
+inside_line seats = codes "inside:" ++ seats_text seats ++ codes "\n"
+
+abbrev pub data_line : List ℕ → List ℕ
+data_line state = codes "data:" ++ numbers_text state ++ codes "\n"
+
 abbrev pub situation_text : Shown → List ℕ
 situation_text s =
-    codes "kind: " ++ kind_word s.kind ++ codes " " ++ mode_word s.rules.mode ++ codes " " ++ ranks_text s.rules
-    ++ codes "\nturn: " ++ turn_text s.turn ++ codes "\ninside:" ++ seats_text s.inside
-    ++ codes "\ndata:" ++ numbers_text s.state ++ codes "\n" ++ queues_text s.queues
+    kind_line s ++ (turn_line s.turn ++ (inside_line s.inside ++ (data_line s.state ++ queues_text s.queues)))
 
 abbrev pub choice_text : Chosen → List ℕ
-choice_text c = codes "fronts:" ++ fronts_text c.fronts ++ codes "\nmay: " ++ nexts_text c.may ++ codes "\n"
+choice_text c =
+    codes "fronts:" ++ fronts_text c.fronts ++ codes "\n"
+    ++ (codes "may: " ++ nexts_text c.may ++ codes "\n")
 
 abbrev pub reply_text : Option ℕ → List ℕ
 reply_text None = []
@@ -126,7 +141,9 @@ choices_text (Some c) = choice_text c
 
 -- which event is wrong
 abbrev pub head_text : Blamed → List ℕ
-head_text b = codes "line: " ++ decimal (b.step + 1) ++ codes "\nevent: " ++ event_text b.event ++ codes "\n"
+head_text b =
+    codes "line: " ++ decimal (b.step + 1) ++ codes "\n"
+    ++ (codes "event: " ++ event_text b.event ++ codes "\n")
 
 -- what its reason adds, and why
 abbrev pub tail_text : Blamed → List ℕ

@@ -23,6 +23,7 @@ impl fmt::Display for Choice {
 
     fn fmt<W: fmt::Write>(&self, f: &mut fmt::Formatter<W>) -> fmt::Result {
         let (fronts, may) = (&self.fronts, &self.may);
-        write!(f, "fronts:{fronts}\nmay: {may}\n")
+        write!(f, "fronts:{fronts}\n")?;
+        write!(f, "may: {may}\n")
     }
 }

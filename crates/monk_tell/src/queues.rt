@@ -40,10 +40,14 @@ impl fmt::Display for Queues {
 
     fn fmt<W: fmt::Write>(&self, f: &mut fmt::Formatter<W>) -> fmt::Result {
         match self {
-            Queues::Automatic(untils, ready) => write!(f, "until:{untils}\nready:{ready}\n"),
+            Queues::Automatic(untils, ready) => {
+                write!(f, "until:{untils}\n")?;
+                write!(f, "ready:{ready}\n")
+            }
             Queues::Returning(conditions, waiters) => write!(f, "{conditions}waiter:{waiters}\n"),
             Queues::Explicit(conditions, waiters, signallers) => {
-                write!(f, "{conditions}waiter:{waiters}\nsignaller:{signallers}\n")
+                write!(f, "{conditions}waiter:{waiters}\n")?;
+                write!(f, "signaller:{signallers}\n")
             }
         }
     }

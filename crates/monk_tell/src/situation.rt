@@ -59,7 +59,10 @@ impl fmt::Display for Situation {
         let ranks = Ranks(self.rules);
         let turn = SaidTurn(self.turn);
         let (inside, data, queues) = (&self.inside, &self.data, &self.queues);
-        write!(f, "kind: {kind} {mode} {ranks}\nturn: {turn}\n")?;
-        write!(f, "inside:{inside}\ndata:{data}\n{queues}")
+        write!(f, "kind: {kind} {mode} {ranks}\n")?;
+        write!(f, "turn: {turn}\n")?;
+        write!(f, "inside:{inside}\n")?;
+        write!(f, "data:{data}\n")?;
+        write!(f, "{queues}")
     }
 }

@@ -1,10 +1,11 @@
 //! What is told of a history.
 
-ghost use Rattle.std.specs.Prelude.{Some};
-ghost use Rattle.monk_tell.specs.Words.{head_text, telling_text, tail_text};
-ghost use Rattle.monk_tell.specs.Told.{blame_of, telling_of};
+ghost use Rattle.std.specs.Prelude.{Some, option_map};
+ghost use Rattle.monk_tell.specs.Words.{choices_text, head_text, reply_text, tail_text, telling_text};
+ghost use Rattle.monk_tell.specs.Told.{blame_of, choice_of, telling_of};
 
 use crate::blame::Blame;
+use crate::choice::Choice;
 use crate::said::SaidEvent;
 use crate::situation::Situation;
 use monk_audit::Verdict;
@@ -31,7 +32,38 @@ impl fmt::Display for Head<'_> {
     fn fmt<W: fmt::Write>(&self, f: &mut fmt::Formatter<W>) -> fmt::Result {
         let line = u64::from(self.0.step) + 1;
         let event = SaidEvent(self.0.event);
-        write!(f, "line: {line}\nevent: {event}\n")
+        write!(f, "line: {line}\n")?;
+        write!(f, "event: {event}\n")
+    }
+}
+
+/// The object's own reply, where it is told.
+#[derive(Drop)]
+struct Reply(Option<u64>);
+
+impl fmt::Display for Reply {
+    ghost output = { λ r. Some (reply_text r.0) };
+
+    fn fmt<W: fmt::Write>(&self, f: &mut fmt::Formatter<W>) -> fmt::Result {
+        match self.0 {
+            Some(reply) => write!(f, "reply: {reply}\n"),
+            None => Ok(()),
+        }
+    }
+}
+
+/// What might have been chosen, where it is told.
+#[derive(Drop)]
+struct Offer<'a>(&'a Option<Choice>);
+
+impl fmt::Display for Offer<'_> {
+    ghost output = { λ o. Some (choices_text (option_map choice_of o.0.now)) };
+
+    fn fmt<W: fmt::Write>(&self, f: &mut fmt::Formatter<W>) -> fmt::Result {
+        match self.0 {
+            Some(choice) => write!(f, "{choice}"),
+            None => Ok(()),
+        }
     }
 }
 
@@ -43,14 +75,8 @@ impl fmt::Display for Tail<'_> {
     ghost output = { λ b. Some (tail_text (blame_of b.0.now)) };
 
     fn fmt<W: fmt::Write>(&self, f: &mut fmt::Formatter<W>) -> fmt::Result {
-        if let Some(reply) = self.0.reply {
-            write!(f, "reply: {reply}\n")?;
-        }
-        if let Some(choice) = &self.0.choice {
-            write!(f, "{choice}")?;
-        }
-        let why = &self.0.why;
-        write!(f, "why: {why}\n")
+        let (reply, choice, why) = (Reply(self.0.reply), Offer(&self.0.choice), &self.0.why);
+        write!(f, "{reply}{choice}why: {why}\n")
     }
 }
 

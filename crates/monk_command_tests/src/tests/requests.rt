@@ -28,7 +28,9 @@ fn asks_for(line: &Line, command: &str, file: Option<&str>) -> bool {
 #[test]
 fn words_that_ask(rt: HostRuntime) -> Result<(), Fail> {
     let alloc = rt.alloc();
-    for command in ["audit", "play", "upgrade", "fit", "trace", "explain", "draw"] {
+    for command in [
+        "audit", "play", "upgrade", "fit", "trace", "explain", "draw",
+    ] {
         let bare = line(alloc, &["monk", command])?;
         assert!(rt; asks_for(&bare, command, None), "{command}");
         let named = line(alloc, &["monk", command, "x.text"])?;
