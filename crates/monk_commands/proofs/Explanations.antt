@@ -1,8 +1,9 @@
 -- What an explanation is, step by step, and that it begins as the answer of an audit
-use Rattle.std.proofs.Common.{◌≡◌, ℕ, ◌^◌, Bool, true, false, cond, ltb, List, [], ◌++◌, Option, Some, None, Result, Ok, Err}
+use Rattle.std.proofs.Common.{◌≡◌, ℕ, ◌<◌, ◌≤◌, ◌^◌, Bool, true, false, cond, ltb, List, [], ◌++◌, Option, Some, None, Result, Ok, Err}
 use Rattle.std.proofs.Common.{refl, sym, ap, subst, ◌∙◌}
 use Rattle.std.specs.Prelude.{IfSome}
 use Rattle.std.specs.Io.KnownBytes.{Appends}
+use Rattle.std.proofs.lemmas.Bool.{le-ltb, lt-ltb}
 use Rattle.std.proofs.lemmas.List.{append-nil}
 use Rattle.monk_kinds.specs.declared.name.KindName.{KindName}
 use Rattle.monk_object.specs.Names.{most}
@@ -18,6 +19,7 @@ use Rattle.monk_audit.specs.declared.verdict.Verdict.TheVariants.{Legal, Forbidd
 use Rattle.monk_tell.specs.Told.{Told, told, told_by}
 use Rattle.monk_tell.specs.Words.{telling_text}
 use Rattle.monk_tell.specs.declared.why.Why.{Why}
+use Rattle.monk_tell.specs.declared.why.Why.TheVariants.{Already}
 use Rattle.monk_commands.specs.Answer.{Answer, answer_of, reading_answer, too_big, unreadable, verdict_answer}
 use Rattle.monk_commands.specs.Explained.{BeginsAsAudit, IsExplained, IsExplanationOf, explain_reading, told_answer}
 
@@ -54,12 +56,29 @@ begins_read why (Err f) = begins_self (unreadable f)
 
 -- the size is within the object's greatest, so the history is told of
 pub explained_told : (h : Heading) (es : List Event) (why : Why) (t : Told) (status : ℕ) (Puts : List ℕ → Type 0)
-    → t ≡ told h es why → ltb (most h.object) h.size ≡ false
+    → t ≡ told h es why → h.size ≤ most h.object
     → status ≡ (told_answer t).status → Puts (told_answer t).text → IsExplained (Ok (history h es)) status Puts
 explained_told h es why t status Puts is fits same put =
+    let small : ltb (most h.object) h.size ≡ false = le-ltb _ _ fits in
     let given : cond (ltb (most h.object) h.size) too_big (told_answer (told h es why)) ≡ told_answer t =
-    rw (fits, is) refl in
+    ap (λ (b : Bool). cond b too_big (told_answer (told h es why))) small ∙ ap told_answer (sym is) in
     (why, (same ∙ sym (ap (λ (a : Answer). a.status) given), subst (λ (a : Answer). Puts a.text) (sym given) put))
+
+-- the size is too great
+pub explained_too_big : (h : Heading) (es : List Event) (status : ℕ) (Puts : List ℕ → Type 0) → most h.object < h.size
+    → status ≡ too_big.status → Puts too_big.text → IsExplained (Ok (history h es)) status Puts
+explained_too_big h es status Puts big same put =
+    let why = Already 0 in
+    let great : ltb (most h.object) h.size ≡ true = lt-ltb _ _ big in
+    let given : cond (ltb (most h.object) h.size) too_big (told_answer (told h es why)) ≡ too_big =
+    ap (λ (b : Bool). cond b too_big (told_answer (told h es why))) great in
+    (why, (same ∙ sym (ap (λ (a : Answer). a.status) given), subst (λ (a : Answer). Puts a.text) (sym given) put))
+
+-- of no history
+pub refused_explained : (bytes : List ℕ) (f : ReadFault) (status : ℕ) (Puts : List ℕ → Type 0) → text_at (2 ^ 25) bytes ≡ Err f
+    → status ≡ (unreadable f).status → Puts (unreadable f).text → IsExplanationOf bytes status Puts
+refused_explained bytes f status Puts read same put =
+    subst (λ (r : Result History ReadFault). IsExplained r status Puts) (sym read) (Already 0, (same, put))
 
 pub read_explained : (bytes : List ℕ) (r : Result History ReadFault) (status : ℕ) (Puts : List ℕ → Type 0) → text_at (2 ^ 25) bytes ≡ r
     → IsExplained r status Puts → IsExplanationOf bytes status Puts
