@@ -85,7 +85,9 @@ pub(crate) fn judge_lines<'a, T: Guarded>(
             Err(fault) => return Err(fault),
         };
         count += 1;
-        let reason = course.replay.judge(rules, object, conds, event)?;
+        let reason = course
+            .replay
+            .judge::<T, Course>(rules, object, conds, event)?;
         if reason != ALLOWED {
             course.count = count;
             let verdict = Verdict::Forbidden {

@@ -31,7 +31,7 @@ impl Replay {
     {
         let mut replay = Replay::new(alloc, seats, conds)?;
         for event in events {
-            replay.judge(rules, object, conds, *event)?;
+            replay.judge::<T, Replay>(rules, object, conds, *event)?;
         }
         Ok(replay)
     }
