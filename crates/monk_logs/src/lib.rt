@@ -2,14 +2,21 @@
 #![tactic(auto)]
 
 mod header;
+mod judging;
 pub mod laws;
 mod line;
 mod line_reading;
 mod pending;
 mod reading;
+mod setting;
+mod steps;
+mod telling;
 mod verb;
+mod verdict;
 
 pub use header::LogHeader;
+pub use judging::judge;
 pub use line::LogLine;
 pub use pending::Pending;
 pub use reading::{MOST_LOG_LINES, one_log_each, read_log};
+pub use verdict::LogVerdict;
