@@ -1,4 +1,6 @@
-use monk_logs::{LogHeader, LogLine, one_log_each, read_log};
+use monk_audit::AuditFault;
+use monk_kinds::KindName;
+use monk_logs::{LogHeader, LogLine, LogVerdict, MOST_LOG_LINES, judge, one_log_each, read_log};
 use monk_object::{ObjectName, Op};
 use std::test::Fail;
 
@@ -73,4 +75,107 @@ fn headers_of_logs(rt: HostRuntime) {
     assert!(rt; LogHeader::new(33, 0, ObjectName::Buffer, 1).is_none());
     assert!(rt; LogHeader::new(1, 9, ObjectName::Buffer, 1).is_none());
     assert!(rt; LogHeader::new(1, 0, ObjectName::Buffer, 0).is_none());
+}
+
+/// What is found of the log under the kind: 0 where it fits, else the number of the line.
+fn misfit(rt: &HostRuntime, kind: KindName, text: &[u8]) -> Result<u32, Fail> {
+    let (header, lines) = read_log(rt.alloc(), text)?;
+    if lines.len() > MOST_LOG_LINES as usize {
+        return Ok(u32::MAX);
+    }
+    match judge(rt.alloc(), &header, &lines, kind)? {
+        LogVerdict::Fits => Ok(0),
+        LogVerdict::Misfit(line) => Ok(line),
+    }
+}
+
+/// Seat 0 waits, and seat 1 comes in and signals it; then the signaller goes on.
+const SIGNALLER_FIRST: &[u8] =
+    b"log 1 2 1 buffer 1\nenter 0\nwait 0 0\nenter 1\nsignal 1 0\nleave 1\nresume 0\nleave 0\n";
+
+/// The same, and the seat that was signalled goes on.
+const SIGNALLED_FIRST: &[u8] =
+    b"log 1 2 1 buffer 1\nenter 0\nwait 0 0\nenter 1\nsignal 1 0\nresume 0\nleave 0\nresume 1\nleave 1\n";
+
+/// A task comes in before a waiter who was signalled goes on.
+const BARGED: &[u8] =
+    b"log 1 3 1 buffer 1\nenter 0\nwait 0 0\nenter 1\nsignal 1 0\nleave 1\nenter 2\nleave 2\nresume 0\nleave 0\n";
+
+#[test]
+fn logs_under_kinds(rt: HostRuntime) -> Result<(), Fail> {
+    assert_eq!(rt; misfit(&rt, KindName::Npnb, SIGNALLER_FIRST)?, 0);
+    assert_eq!(rt; misfit(&rt, KindName::Pb, SIGNALLER_FIRST)?, 5);
+    assert_eq!(rt; misfit(&rt, KindName::Pb, SIGNALLED_FIRST)?, 0);
+    assert_eq!(rt; misfit(&rt, KindName::Npnb, SIGNALLED_FIRST)?, 5);
+    assert_eq!(rt; misfit(&rt, KindName::Npnb, BARGED)?, 0);
+    assert_eq!(rt; misfit(&rt, KindName::Pnb, BARGED)?, 6);
+    Ok(())
+}
+
+#[test]
+fn lines_that_misfit(rt: HostRuntime) -> Result<(), Fail> {
+    assert_eq!(rt; misfit(&rt, KindName::Pb, b"log 1 2 1 buffer 1\n")?, 0);
+    assert_eq!(rt;
+        misfit(&rt, KindName::Pb, b"log 1 2 1 buffer 1\nenter 2\n")?,
+        1
+    );
+    assert_eq!(rt;
+        misfit(&rt, KindName::Pb, b"log 1 2 1 buffer 1\nenter 0\nenter 1\n")?,
+        2
+    );
+    assert_eq!(rt;
+        misfit(&rt, KindName::Pb, b"log 1 2 1 buffer 1\nenter 0\nlapse 0\n")?,
+        2
+    );
+    assert_eq!(rt;
+        misfit(
+            &rt,
+            KindName::Pb,
+            b"log 1 2 1 buffer 1\nenter 0\nbroadcast 0 0\n"
+        )?,
+        2
+    );
+    // The buffer is empty.
+    assert_eq!(rt;
+        misfit(
+            &rt,
+            KindName::Pb,
+            b"log 1 2 1 buffer 1\nenter 0\nact 0 1 0 7\n"
+        )?,
+        2
+    );
+    Ok(())
+}
+
+/// Under immediate return the line behind a signal says which signal it is.
+#[test]
+fn signals_told_by_halves(rt: HostRuntime) -> Result<(), Fail> {
+    assert_eq!(rt; misfit(&rt, KindName::Pir, SIGNALLER_FIRST)?, 0);
+    assert_eq!(rt; misfit(&rt, KindName::Pir, SIGNALLED_FIRST)?, 5);
+    assert_eq!(rt;
+        misfit(
+            &rt,
+            KindName::Npir,
+            b"log 1 2 1 buffer 1\nenter 0\nsignal 0 0\n",
+        )?,
+        0
+    );
+    assert_eq!(rt;
+        misfit(
+            &rt,
+            KindName::Npir,
+            b"log 1 2 1 buffer 1\nenter 0\nsignal 0 0\nwait 0 0\nenter 1\nleave 1\n",
+        )?,
+        0
+    );
+    Ok(())
+}
+
+/// Whether the object is refused where the log names one that is too great.
+#[test]
+fn too_great_an_object_of_a_log(rt: HostRuntime) -> Result<(), Fail> {
+    let (header, lines) = read_log(rt.alloc(), b"log 1 2 1 book 33\n")?;
+    assert!(rt; lines.is_empty());
+    assert!(rt; judge(rt.alloc(), &header, &[], KindName::Pb) == Err(AuditFault::Object));
+    Ok(())
 }
