@@ -1,7 +1,8 @@
 -- The parts of a step are the step
-use Rattle.std.proofs.Common.{◌≡◌, ◌∙◌, ℕ, Bool, true, false, cond, eqb, List, [], ◌∷◌, Option, Some, None, sym, ap}
+use Rattle.std.proofs.Common.{◌≡◌, ◌∙◌, ℕ, Bool, true, false, cond, eqb, List, [], ◌∷◌, Option, Some, sym, ap}
 use Rattle.std.specs.Option.{option_eq}
-use Rattle.std.specs.Prelude.{Result, IfOk, slice_get}
+use Rattle.std.specs.Prelude.{◌==◌, Result, Ok, Err, IfOk, slice_get}
+use Rattle.std.proofs.lemmas.Bool.{eq-eqb, ne_eqb}
 use Rattle.std.proofs.lemmas.Result.{IfOk-weaker}
 use Rattle.monk_history.specs.declared.event.Event.{Event}
 use Rattle.monk_history.specs.declared.event.Next.TheVariants.{Waiter, Signaller, Until}
@@ -10,6 +11,7 @@ use Rattle.monk_history.specs.Meaning.Monitor.{Monitor}
 use Rattle.monk_history.specs.Meaning.Situation.{Situation}
 use Rattle.monk_logs.specs.Course.{chosen_from, told_release}
 use Rattle.monk_logs.specs.Stand.{add_to, line_settled, line_then, line_told}
+use Rattle.monk_logs.specs.declared.blame.Blame.TheVariants as blame
 use Rattle.monk_logs.specs.declared.line.LogLine.{LogLine}
 
 -- what is the same as something else is the same as what that is
@@ -38,16 +40,16 @@ until_told q j h k =
 
 -- ---- the line behind a release
 
-told_added : (m : Monitor) (t u : Situation) (e told : Event) (l : LogLine) (b : Bool) → told ≡ told_release m.object t e l
-    → cond b (Some u) None ≡ add_to m t told → line_then m (cond b (Some u) None) l ≡ line_told m t e l
-told_added m t u e told l b is h = ap (λ (o : Option Situation). line_then m o l) (h ∙ ap (add_to m t) is)
+told_added : (m : Monitor) (t u : Situation) (e told : Event) (l : LogLine) (r : ℕ) (b : Bool) → told ≡ told_release m.object t e l
+    → cond b (Ok u) (Err r) ≡ add_to m t told → line_then m (cond b (Ok u) (Err r)) l ≡ line_told m t e l
+told_added m t u e told l r b is h = ap (λ (o : Result Situation ℕ). line_then m o l) (h ∙ ap (add_to m t) is)
 
-pub told_fits : (m : Monitor) (t u : Situation) (e told : Event) (l : LogLine) (b : Bool) → told ≡ told_release m.object t e l
-    → cond b (Some u) None ≡ add_to m t told → b ≡ true → line_settled m u l ≡ line_told m t e l
-told_fits m t u e told l b is h true_is =
-    ap (λ (x : Bool). line_then m (cond x (Some u) None) l) (sym true_is) ∙ told_added m t u e told l b is h
+pub told_fits : (m : Monitor) (t u : Situation) (e told : Event) (l : LogLine) (r : ℕ) → told ≡ told_release m.object t e l
+    → cond (r == 0) (Ok u) (Err r) ≡ add_to m t told → r ≡ 0 → line_settled m u l ≡ line_told m t e l
+told_fits m t u e told l r is h passes =
+    ap (λ (x : Bool). line_then m (cond x (Ok u) (Err r)) l) (sym (eq-eqb r 0 passes)) ∙ told_added m t u e told l r (r == 0) is h
 
-pub told_misfits : (m : Monitor) (t u : Situation) (e told : Event) (l : LogLine) (b : Bool) → told ≡ told_release m.object t e l
-    → cond b (Some u) None ≡ add_to m t told → b ≡ false → None ≡ line_told m t e l
-told_misfits m t u e told l b is h false_is =
-    ap (λ (x : Bool). line_then m (cond x (Some u) None) l) (sym false_is) ∙ told_added m t u e told l b is h
+pub told_misfits : (m : Monitor) (t u : Situation) (e told : Event) (l : LogLine) (r : ℕ) → told ≡ told_release m.object t e l
+    → cond (r == 0) (Ok u) (Err r) ≡ add_to m t told → (r ≡ 0 → ⊥) → Err (blame.Release r) ≡ line_told m t e l
+told_misfits m t u e told l r is h fails =
+    ap (λ (x : Bool). line_then m (cond x (Ok u) (Err r)) l) (sym (ne_eqb r 0 fails)) ∙ told_added m t u e told l r (r == 0) is h

@@ -1,5 +1,5 @@
 -- What the verdict on a log says
-use Rattle.std.specs.Prelude.{◌≡◌, ◌↔◌, ℕ, ◌-◌, List, take}
+use Rattle.std.specs.Prelude.{◌≡◌, ◌↔◌, ℕ, ◌-◌, List, Option, Some, None, take}
 use Rattle.monk_kinds.specs.declared.name.KindName.{KindName}
 use Rattle.monk_kinds.specs.Names.{rules_named}
 use Rattle.monk_object.specs.Names.{meaning_named, opening_named}
@@ -21,12 +21,17 @@ pub record IsMisfit (m : Monitor) (log : List LogLine) (n : ℕ) : Type 0 where
 
 abbrev pub IsVerdictOn : Monitor → List LogLine → LogVerdict → Type 0
 IsVerdictOn m log Fits = IsOpen m log
-IsVerdictOn m log (Misfit n) = IsMisfit m log n
+IsVerdictOn m log (Misfit n why) = IsMisfit m log n
 
 -- the verdict is Fits exactly where some legal history begins with the log
 abbrev pub FitsExactly : Monitor → List LogLine → LogVerdict → Type 0
 FitsExactly m log v = (v ≡ Fits) ↔ IsOpen m log
 
--- it is Misfit exactly with the first line with which none begins
-abbrev pub IsMisfitExactly : Monitor → List LogLine → LogVerdict → Type 0
-IsMisfitExactly m log v = (n : ℕ) → (v ≡ Misfit n) ↔ IsMisfit m log n
+-- at which line it misfits
+abbrev pub misfit_at : LogVerdict → Option ℕ
+misfit_at Fits = None
+misfit_at (Misfit n why) = Some n
+
+-- it misfits exactly at the first line with which none begins
+abbrev pub MisfitsExactly : Monitor → List LogLine → LogVerdict → Type 0
+MisfitsExactly m log v = (n : ℕ) → (misfit_at v ≡ Some n) ↔ IsMisfit m log n

@@ -5,8 +5,9 @@ ghost use Rattle.monk_object.specs.Names.{most};
 ghost use Rattle.monk_history.specs.Limits.{most_lines};
 ghost use Rattle.monk_history.specs.Meaning.Monitor.{monitor};
 ghost use Rattle.monk_logs.specs.Stand.{verdict_on};
-ghost use Rattle.monk_logs.specs.Verdict.{FitsExactly, IsMisfitExactly, log_monitor};
+ghost use Rattle.monk_logs.specs.Verdict.{FitsExactly, MisfitsExactly, log_monitor};
 
+use crate::blame::LineVerdict;
 use crate::header::LogHeader;
 use crate::line::LogLine;
 use crate::pending::Pending;
@@ -34,8 +35,11 @@ fn judge_over<T: Guarded>(
     let mut pending = Pending::Settled;
     for (i, line) in lines.iter().enumerate() {
         match line_behind(setting, &mut replay, &mut object, pending, *line)? {
-            Some(left) => pending = left,
-            None => return Ok(LogVerdict::Misfit(i as u32 + 1)),
+            LineVerdict::Fits(left) => pending = left,
+            LineVerdict::Misfits(blame) => {
+                let line = i as u32 + 1;
+                return Ok(LogVerdict::Misfit { line, blame });
+            }
         }
     }
     Ok(LogVerdict::Fits)
@@ -98,7 +102,9 @@ pub fn judge(
     // It fits exactly where some legal history begins with the log.
     ensures fits { IfOk result (FitsExactly (log_monitor kind header.now) lines.now) }
     // It misfits exactly at the first line with which none begins.
-    ensures misfit { IfOk result (IsMisfitExactly (log_monitor kind header.now) lines.now) }
+    ensures misfit { IfOk result (MisfitsExactly (log_monitor kind header.now) lines.now) }
+    // What is to blame, and all else, is as it is found line by line.
+    ensures verdict { IfOk result (λ v. v ≡ verdict_on (log_monitor kind header.now) lines.now) }
     // The size is refused exactly where it is above the object's greatest.
     ensures made { OnOk result (header.now.size ≤ most header.now.object) }
     ensures object { IsErrOf result AuditFault.Object → most header.now.object < header.now.size }

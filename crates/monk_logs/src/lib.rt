@@ -1,6 +1,7 @@
 //! Logs: what a recorder of a program in any language can write down while it holds the lock, as lines of text.
 #![tactic(auto)]
 
+mod blame;
 mod header;
 mod judging;
 pub mod laws;
@@ -14,6 +15,7 @@ mod telling;
 mod verb;
 mod verdict;
 
+pub use blame::Blame;
 pub use header::LogHeader;
 pub use judging::judge;
 pub use line::LogLine;

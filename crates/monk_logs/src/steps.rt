@@ -1,12 +1,12 @@
 //! One line of a log, judged by how the monitor stands before it.
 
-ghost use Rattle.std.specs.Prelude.{◌≡◌, ℕ, List, Some, None, IfOk, OnOk, if◌then◌else◌};
-ghost use Rattle.std.specs.Option.{option_map};
+ghost use Rattle.std.specs.Prelude.{◌≡◌, ◌==◌, ℕ, List, Ok, Err, IfOk, OnOk, if◌then◌else◌};
 ghost use Rattle.monk_audit.specs.Replay.{IsReplayOf, replay_situation};
 ghost use Rattle.monk_logs.specs.Course as course;
 ghost use Rattle.monk_logs.specs.Stand as stands;
-ghost use Rattle.monk_logs.specs.Stand.{monitor_in, stand};
+ghost use Rattle.monk_logs.specs.Stand.{monitor_in, stand_or};
 
+use crate::blame::{Blame, LineVerdict};
 use crate::line::LogLine;
 use crate::pending::Pending;
 use crate::setting::Setting;
@@ -17,21 +17,23 @@ use monk_kinds::Mode;
 use monk_object::Guarded;
 use std::alloc::AllocError;
 
-/// Adds the event if it is allowed, and tells whether it is.
+/// What stands for no test that an event fails.
+const ALLOWED: u8 = 0;
+
+/// Adds the event if it is allowed. Gives the first test that it fails, or 0.
 fn add<T: Guarded>(
     setting: Setting,
     replay: &mut Replay,
     object: &mut T,
     event: Event,
-) -> Result<bool, AllocError>
+) -> Result<u8, AllocError>
     requires { IsReplayOf setting.seats setting.conds T.PREDICATES replay.old }
     ensures added { IfOk result
-        (λ added. (if added then Some (replay_situation replay.new (T.state object.new)) else None)
+        (λ r. (if r == 0 then Ok (replay_situation replay.new (T.state object.new)) else Err r)
         ≡ stands.add_to (monitor_in setting T.meaning) (replay_situation replay.old (T.state object.old)) event) }
     ensures sound { OnOk result (IsReplayOf setting.seats setting.conds T.PREDICATES replay.new) }
 {
-    let reason = replay.carry_out(setting.rules, object, setting.conds, event)?;
-    Ok(reason == 0)
+    replay.carry_out(setting.rules, object, setting.conds, event)
 }
 
 /// The same of an event of which nothing is left to be known.
@@ -40,17 +42,18 @@ fn settle<T: Guarded>(
     replay: &mut Replay,
     object: &mut T,
     event: Event,
-) -> Result<Option<Pending>, AllocError>
+) -> Result<LineVerdict, AllocError>
     requires { IsReplayOf setting.seats setting.conds T.PREDICATES replay.old }
     ensures settled { IfOk result
-        (λ p. option_map (stand (replay_situation replay.new (T.state object.new))) p
+        (λ v. stand_or (replay_situation replay.new (T.state object.new)) v
         ≡ stands.settle (monitor_in setting T.meaning) (replay_situation replay.old (T.state object.old)) event) }
     ensures sound { OnOk result (IsReplayOf setting.seats setting.conds T.PREDICATES replay.new) }
 {
-    if add(setting, replay, object, event)? {
-        Ok(Some(Pending::Settled))
+    let reason = add(setting, replay, object, event)?;
+    if reason == ALLOWED {
+        Ok(LineVerdict::Fits(Pending::Settled))
     } else {
-        Ok(None)
+        Ok(LineVerdict::Misfits(Blame::Line(reason)))
     }
 }
 
@@ -61,27 +64,23 @@ fn hold<T: Guarded>(
     object: &T,
     event: Event,
     pending: Pending,
-) -> Option<Pending>
+) -> LineVerdict
     requires { IsReplayOf setting.seats setting.conds T.PREDICATES replay.now }
-    ensures { option_map (stand (replay_situation replay.now (T.state object.now))) result
+    ensures { stand_or (replay_situation replay.now (T.state object.now)) result
         ≡ stands.hold_over (monitor_in setting T.meaning) (replay_situation replay.now (T.state object.now)) event pending }
 {
-    if replay.call_reason(setting.rules, object, setting.conds, event) == 0 {
-        Some(pending)
+    let reason = replay.call_reason(setting.rules, object, setting.conds, event);
+    if reason == ALLOWED {
+        LineVerdict::Fits(pending)
     } else {
-        None
+        LineVerdict::Misfits(Blame::Line(reason))
     }
 }
 
 /// The same of a release, whose choice is to come.
-fn release<T: Guarded>(
-    setting: Setting,
-    replay: &Replay,
-    object: &T,
-    event: Event,
-) -> Option<Pending>
+fn release<T: Guarded>(setting: Setting, replay: &Replay, object: &T, event: Event) -> LineVerdict
     requires { IsReplayOf setting.seats setting.conds T.PREDICATES replay.now }
-    ensures { option_map (stand (replay_situation replay.now (T.state object.now))) result
+    ensures { stand_or (replay_situation replay.now (T.state object.now)) result
         ≡ stands.release_over (monitor_in setting T.meaning) (replay_situation replay.now (T.state object.now)) event }
 {
     hold(setting, replay, object, event, Pending::Release(event))
@@ -115,9 +114,9 @@ fn signal<T: Guarded>(
     object: &T,
     seat: u8,
     cond: u8,
-) -> Option<Pending>
+) -> LineVerdict
     requires { IsReplayOf setting.seats setting.conds T.PREDICATES replay.now }
-    ensures { option_map (stand (replay_situation replay.now (T.state object.now))) result
+    ensures { stand_or (replay_situation replay.now (T.state object.now)) result
         ≡ stands.signal_over (monitor_in setting T.meaning) (replay_situation replay.now (T.state object.now)) seat cond }
 {
     if setting.rules.mode == Mode::ImmediateReturn {
@@ -133,45 +132,16 @@ fn signal<T: Guarded>(
     }
 }
 
-/// A release that the line tells of, or a signal. Any other line holds nothing.
-fn line_held<T: Guarded>(
-    setting: Setting,
-    replay: &Replay,
-    object: &T,
-    line: LogLine,
-) -> Option<Pending>
-    requires { IsReplayOf setting.seats setting.conds T.PREDICATES replay.now }
-    ensures { option_map (stand (replay_situation replay.now (T.state object.now))) result
-        ≡ stands.line_held (monitor_in setting T.meaning) (replay_situation replay.now (T.state object.now)) line }
-{
-    match line {
-        LogLine::Leave(seat) => { release(setting, replay, object, Event::Leave(seat, Next::Stay)) }
-        LogLine::Wait(seat, cond) => {
-            release(setting, replay, object, Event::Wait(seat, cond, Next::Stay))
-        }
-        LogLine::Until(seat, pred) => {
-            release(
-                setting,
-                replay,
-                object,
-                Event::Until(seat, pred, Next::Stay),
-            )
-        }
-        LogLine::Signal(seat, cond) => signal(setting, replay, object, seat, cond),
-        _ => None,
-    }
-}
-
 /// A line where each event before it is known.
 fn line_settled<T: Guarded>(
     setting: Setting,
     replay: &mut Replay,
     object: &mut T,
     line: LogLine,
-) -> Result<Option<Pending>, AllocError>
+) -> Result<LineVerdict, AllocError>
     requires { IsReplayOf setting.seats setting.conds T.PREDICATES replay.old }
     ensures judged { IfOk result
-        (λ p. option_map (stand (replay_situation replay.new (T.state object.new))) p
+        (λ v. stand_or (replay_situation replay.new (T.state object.new)) v
         ≡ stands.line_settled (monitor_in setting T.meaning) (replay_situation replay.old (T.state object.old)) line) }
     ensures sound { OnOk result (IsReplayOf setting.seats setting.conds T.PREDICATES replay.new) }
 {
@@ -190,7 +160,20 @@ fn line_settled<T: Guarded>(
         LogLine::Act(seat, op, reply) => {
             settle(setting, replay, object, Event::Act(seat, op, reply))
         }
-        _ => Ok(line_held(setting, replay, object, line)),
+        LogLine::Leave(seat) => {
+            let event = Event::Leave(seat, Next::Stay);
+            Ok(release(setting, replay, object, event))
+        }
+        LogLine::Wait(seat, cond) => {
+            let event = Event::Wait(seat, cond, Next::Stay);
+            Ok(release(setting, replay, object, event))
+        }
+        LogLine::Until(seat, pred) => {
+            let event = Event::Until(seat, pred, Next::Stay);
+            Ok(release(setting, replay, object, event))
+        }
+        LogLine::Signal(seat, cond) => Ok(signal(setting, replay, object, seat, cond)),
+        LogLine::Lapse(_) => Ok(LineVerdict::Misfits(Blame::Lapse)),
     }
 }
 
@@ -202,9 +185,9 @@ fn line_half<T: Guarded>(
     seat: u8,
     cond: u8,
     line: LogLine,
-) -> Option<Pending>
+) -> LineVerdict
     requires { IsReplayOf setting.seats setting.conds T.PREDICATES replay.now }
-    ensures { option_map (stand (replay_situation replay.now (T.state object.now))) result
+    ensures { stand_or (replay_situation replay.now (T.state object.now)) result
         ≡ stands.line_half (monitor_in setting T.meaning) (replay_situation replay.now (T.state object.now)) seat cond line }
 {
     match line {
@@ -216,7 +199,7 @@ fn line_half<T: Guarded>(
             let event = Event::SignalWait(seat, cond, second, Next::Stay);
             release(setting, replay, object, event)
         }
-        _ => None,
+        _ => LineVerdict::Misfits(Blame::HalfSignal),
     }
 }
 
@@ -227,33 +210,33 @@ fn line_told<T: Guarded>(
     object: &mut T,
     event: Event,
     line: LogLine,
-) -> Result<Option<Pending>, AllocError>
+) -> Result<LineVerdict, AllocError>
     requires { IsReplayOf setting.seats setting.conds T.PREDICATES replay.old }
     ensures judged { IfOk result
-        (λ p. option_map (stand (replay_situation replay.new (T.state object.new))) p
+        (λ v. stand_or (replay_situation replay.new (T.state object.new)) v
         ≡ stands.line_told (monitor_in setting T.meaning) (replay_situation replay.old (T.state object.old)) event line) }
     ensures sound { OnOk result (IsReplayOf setting.seats setting.conds T.PREDICATES replay.new) }
 {
     let told = told_release(replay, event, line);
-    if add(setting, replay, object, told)? {
+    let reason = add(setting, replay, object, told)?;
+    if reason == ALLOWED {
         line_settled(setting, replay, object, line)
     } else {
-        Ok(None)
+        Ok(LineVerdict::Misfits(Blame::Release(reason)))
     }
 }
 
-/// A line, by what is still to be known of the lines before it. Gives what is still to be known of it, or `None` where it
-/// can't be of the monitor.
+/// A line, by what is still to be known of the lines before it.
 pub(crate) fn line_behind<T: Guarded>(
     setting: Setting,
     replay: &mut Replay,
     object: &mut T,
     pending: Pending,
     line: LogLine,
-) -> Result<Option<Pending>, AllocError>
+) -> Result<LineVerdict, AllocError>
     requires { IsReplayOf setting.seats setting.conds T.PREDICATES replay.old }
     ensures judged { IfOk result
-        (λ p. option_map (stand (replay_situation replay.new (T.state object.new))) p
+        (λ v. stand_or (replay_situation replay.new (T.state object.new)) v
         ≡ stands.line_behind (monitor_in setting T.meaning) (replay_situation replay.old (T.state object.old)) pending line) }
     ensures sound { OnOk result (IsReplayOf setting.seats setting.conds T.PREDICATES replay.new) }
 {

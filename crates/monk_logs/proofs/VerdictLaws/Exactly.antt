@@ -1,9 +1,9 @@
 -- What a verdict says of a log
-use Rattle.std.proofs.Common.{◌≡◌, ℕ, zero, suc, ◌<◌, ◌≤◌, ◌-◌, List, take, drop, refl, sym, ap, subst, arith}
+use Rattle.std.proofs.Common.{◌≡◌, ℕ, zero, suc, ◌<◌, ◌≤◌, ◌-◌, List, take, drop, Some, refl, sym, ap, subst, arith}
 use Rattle.std.proofs.lemmas.List.{take-append-drop, take-take}
 use Rattle.monk_history.specs.Meaning.Monitor.{Monitor}
 use Rattle.monk_logs.specs.Fits.{IsOpen}
-use Rattle.monk_logs.specs.Verdict.{IsMisfit, IsVerdictOn, FitsExactly, IsMisfitExactly}
+use Rattle.monk_logs.specs.Verdict.{IsMisfit, IsVerdictOn, FitsExactly, MisfitsExactly, misfit_at}
 use Rattle.monk_logs.specs.declared.line.LogLine.{LogLine}
 use Rattle.monk_logs.specs.declared.verdict.LogVerdict.{LogVerdict}
 use Rattle.monk_logs.specs.declared.verdict.LogVerdict.TheVariants.{Fits, Misfit}
@@ -28,23 +28,25 @@ same_number (suc k) (suc n) f g = ap suc (same_number k n (λ l. f (omega (arith
 
 fits_open : (m : Monitor) (log : List LogLine) (v : LogVerdict) → IsVerdictOn m log v → v ≡ Fits → IsOpen m log
 fits_open m log Fits w is = w
-fits_open m log (Misfit n) w is = absurd cc
+fits_open m log (Misfit n why) w is = absurd cc
 
 open_fits : (m : Monitor) (log : List LogLine) (v : LogVerdict) → IsVerdictOn m log v → IsOpen m log → v ≡ Fits
 open_fits m log Fits w o = refl
-open_fits m log (Misfit n) w o = absurd (w.not_open (open_take m log n o))
+open_fits m log (Misfit n why) w o = absurd (w.not_open (open_take m log n o))
 
 pub fits_exactly : (m : Monitor) (log : List LogLine) (v : LogVerdict) → IsVerdictOn m log v → FitsExactly m log v
 fits_exactly m log v w = (fits_open m log v w, open_fits m log v w)
 
-misfit_is : (m : Monitor) (log : List LogLine) (v : LogVerdict) (n : ℕ) → IsVerdictOn m log v → v ≡ Misfit n → IsMisfit m log n
+misfit_is : (m : Monitor) (log : List LogLine) (v : LogVerdict) (n : ℕ) → IsVerdictOn m log v → misfit_at v ≡ Some n
+    → IsMisfit m log n
 misfit_is m log Fits n w is = absurd cc
-misfit_is m log (Misfit k) n w is = let same : k ≡ n = cc in subst (IsMisfit m log) same w
+misfit_is m log (Misfit k why) n w is = let same : k ≡ n = cc in subst (IsMisfit m log) same w
 
-is_misfit : (m : Monitor) (log : List LogLine) (v : LogVerdict) (n : ℕ) → IsVerdictOn m log v → IsMisfit m log n → v ≡ Misfit n
+is_misfit : (m : Monitor) (log : List LogLine) (v : LogVerdict) (n : ℕ) → IsVerdictOn m log v → IsMisfit m log n
+    → misfit_at v ≡ Some n
 is_misfit m log Fits n w f = absurd (f.not_open (open_take m log n w))
-is_misfit m log (Misfit k) n w f =
-    ap (λ (x : ℕ). Misfit x) (same_number k n (not_before m log k n w f) (not_before m log n k f w))
+is_misfit m log (Misfit k why) n w f =
+    ap (λ (x : ℕ). Some x) (same_number k n (not_before m log k n w f) (not_before m log n k f w))
 
-pub misfit_exactly : (m : Monitor) (log : List LogLine) (v : LogVerdict) → IsVerdictOn m log v → IsMisfitExactly m log v
-misfit_exactly m log v w n = (misfit_is m log v n w, is_misfit m log v n w)
+pub misfits_exactly : (m : Monitor) (log : List LogLine) (v : LogVerdict) → IsVerdictOn m log v → MisfitsExactly m log v
+misfits_exactly m log v w n = (misfit_is m log v n w, is_misfit m log v n w)

@@ -1,5 +1,6 @@
 -- The opening state of the object has no part in how lines are judged from a standing; and each kind's rules are those of a kind
-use Rattle.std.proofs.Common.{◌≡◌, ℕ, ◌+◌, List, [], ◌∷◌, Option, Some, None, refl, ap, ◌∙◌, arith}
+use Rattle.std.proofs.Common.{◌≡◌, ℕ, ◌+◌, List, [], ◌∷◌, refl, ap, ◌∙◌, arith}
+use Rattle.std.specs.Prelude.{Result, Ok, Err}
 use Rattle.monk_kinds.specs.Kind.{IsKind}
 use Rattle.monk_kinds.specs.Names.{rules_named}
 use Rattle.monk_kinds.specs.declared.mode.Rules.{Rules}
@@ -12,6 +13,7 @@ use Rattle.monk_history.specs.Meaning.Reasons.{reason_in}
 use Rattle.monk_history.specs.Meaning.Situation.{Situation}
 use Rattle.monk_logs.specs.Course.{told_release}
 use Rattle.monk_logs.specs.Stand.{Stand, add_to, line_settled, line_then, line_behind, verdict_from}
+use Rattle.monk_logs.specs.declared.blame.Blame.{Blame}
 use Rattle.monk_logs.specs.declared.line.LogLine.{LogLine}
 use Rattle.monk_logs.specs.declared.line.LogLine.TheVariants.{Enter, Resume, Lapse, Leave, Wait, Signal, Broadcast, Until, Act}
 use Rattle.monk_logs.specs.declared.pending.Pending.{Pending}
@@ -30,10 +32,10 @@ settled_line k seats conds o d t (Broadcast s c) = refl
 settled_line k seats conds o d t (Until s p) = refl
 settled_line k seats conds o d t (Act s op r) = refl
 
-then_line : (k : Rules) (seats conds : ℕ) (o : Object) (d : List ℕ) (t : Option Situation) (l : LogLine)
+then_line : (k : Rules) (seats conds : ℕ) (o : Object) (d : List ℕ) (t : Result Situation ℕ) (l : LogLine)
     → line_then (monitor k seats conds o []) t l ≡ line_then (monitor k seats conds o d) t l
-then_line k seats conds o d None l = refl
-then_line k seats conds o d (Some t) l = settled_line k seats conds o d t l
+then_line k seats conds o d (Err r) l = refl
+then_line k seats conds o d (Ok t) l = settled_line k seats conds o d t l
 
 added : (k : Rules) (seats conds : ℕ) (o : Object) (d : List ℕ) (t : Situation) (e : Event)
     → add_to (monitor k seats conds o []) t e ≡ add_to (monitor k seats conds o d) t e
@@ -54,17 +56,17 @@ line_apart k seats conds o d t (Half s c) (Until j p) = refl
 line_apart k seats conds o d t (Half s c) (Act j op r) = refl
 line_apart k seats conds o d t (Release e) l =
     then_line k seats conds o d (add_to (monitor k seats conds o []) t (told_release o t e l)) l
-    ∙ ap (λ (x : Option Situation). line_then (monitor k seats conds o d) x l)
+    ∙ ap (λ (x : Result Situation ℕ). line_then (monitor k seats conds o d) x l)
     (added k seats conds o d t (told_release o t e l))
 
-pub opening_apart : (k : Rules) (seats conds : ℕ) (o : Object) (d : List ℕ) (n : ℕ) (s : Option Stand) (log : List LogLine)
+pub opening_apart : (k : Rules) (seats conds : ℕ) (o : Object) (d : List ℕ) (n : ℕ) (s : Result Stand Blame) (log : List LogLine)
     → verdict_from (monitor k seats conds o []) n s log ≡ verdict_from (monitor k seats conds o d) n s log
 unfolding verdict_from
-opening_apart k seats conds o d n None log = refl
-opening_apart k seats conds o d n (Some s) [] = refl
-opening_apart k seats conds o d n (Some s) (l ∷ log) =
+opening_apart k seats conds o d n (Err why) log = refl
+opening_apart k seats conds o d n (Ok s) [] = refl
+opening_apart k seats conds o d n (Ok s) (l ∷ log) =
     opening_apart k seats conds o d (n + 1) (line_behind (monitor k seats conds o []) s.now s.pending l) log
-    ∙ ap (λ (x : Option Stand). verdict_from (monitor k seats conds o d) (n + 1) x log)
+    ∙ ap (λ (x : Result Stand Blame). verdict_from (monitor k seats conds o d) (n + 1) x log)
     (line_apart k seats conds o d s.now s.pending l)
 
 pub each_is_kind : (k : KindName) → IsKind (rules_named k)

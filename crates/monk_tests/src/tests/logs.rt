@@ -1,6 +1,6 @@
-use monk_audit::AuditFault;
+use monk_audit::{AuditFault, Verdict};
 use monk_kinds::KindName;
-use monk_logs::{LogHeader, LogLine, LogVerdict, MOST_LOG_LINES, judge, one_log_each, read_log};
+use monk_logs::{Blame, LogHeader, LogLine, LogVerdict, judge, one_log_each, read_log};
 use monk_object::{ObjectName, Op};
 use std::test::Fail;
 
@@ -77,16 +77,15 @@ fn headers_of_logs(rt: HostRuntime) {
     assert!(rt; LogHeader::new(1, 0, ObjectName::Buffer, 0).is_none());
 }
 
-/// What is found of the log under the kind: 0 where it fits, else the number of the line.
-fn misfit(rt: &HostRuntime, kind: KindName, text: &[u8]) -> Result<u32, Fail> {
+/// What is found of the log under the kind.
+fn verdict(rt: &HostRuntime, kind: KindName, text: &[u8]) -> Result<LogVerdict, Fail> {
     let (header, lines) = read_log(rt.alloc(), text)?;
-    if lines.len() > MOST_LOG_LINES as usize {
-        return Ok(u32::MAX);
-    }
-    match judge(rt.alloc(), &header, &lines, kind)? {
-        LogVerdict::Fits => Ok(0),
-        LogVerdict::Misfit(line) => Ok(line),
-    }
+    Ok(judge(rt.alloc(), &header, &lines, kind)?)
+}
+
+/// The line that misfits.
+fn misfit(line: u32, blame: Blame) -> LogVerdict {
+    LogVerdict::Misfit { line, blame }
 }
 
 /// Seat 0 waits, and seat 1 comes in and signals it; then the signaller goes on.
@@ -101,73 +100,48 @@ const SIGNALLED_FIRST: &[u8] =
 const BARGED: &[u8] =
     b"log 1 3 1 buffer 1\nenter 0\nwait 0 0\nenter 1\nsignal 1 0\nleave 1\nenter 2\nleave 2\nresume 0\nleave 0\n";
 
+/// Two seats wait, and the second one goes on first.
+const OVERTAKEN: &[u8] =
+    b"log 1 3 1 buffer 1\nenter 0\nwait 0 0\nenter 1\nwait 1 0\nenter 2\nsignal 2 0\nsignal 2 0\nleave 2\nresume 1\n";
+
 #[test]
 fn logs_under_kinds(rt: HostRuntime) -> Result<(), Fail> {
-    assert_eq!(rt; misfit(&rt, KindName::Npnb, SIGNALLER_FIRST)?, 0);
-    assert_eq!(rt; misfit(&rt, KindName::Pb, SIGNALLER_FIRST)?, 5);
-    assert_eq!(rt; misfit(&rt, KindName::Pb, SIGNALLED_FIRST)?, 0);
-    assert_eq!(rt; misfit(&rt, KindName::Npnb, SIGNALLED_FIRST)?, 5);
-    assert_eq!(rt; misfit(&rt, KindName::Npnb, BARGED)?, 0);
-    assert_eq!(rt; misfit(&rt, KindName::Pnb, BARGED)?, 6);
+    let chosen = Blame::Release(Verdict::CHOICE);
+    let fits = LogVerdict::Fits;
+    assert!(rt; verdict(&rt, KindName::Npnb, SIGNALLER_FIRST)? == fits);
+    assert!(rt; verdict(&rt, KindName::Pb, SIGNALLER_FIRST)? == misfit(5, chosen));
+    assert!(rt; verdict(&rt, KindName::Pb, SIGNALLED_FIRST)? == fits);
+    assert!(rt; verdict(&rt, KindName::Npnb, SIGNALLED_FIRST)? == misfit(5, chosen));
+    assert!(rt; verdict(&rt, KindName::Npnb, BARGED)? == fits);
+    assert!(rt; verdict(&rt, KindName::Pnb, BARGED)? == misfit(6, chosen));
+    assert!(rt; verdict(&rt, KindName::Npnb, OVERTAKEN)? == misfit(9, chosen));
     Ok(())
 }
 
 #[test]
 fn lines_that_misfit(rt: HostRuntime) -> Result<(), Fail> {
-    assert_eq!(rt; misfit(&rt, KindName::Pb, b"log 1 2 1 buffer 1\n")?, 0);
-    assert_eq!(rt;
-        misfit(&rt, KindName::Pb, b"log 1 2 1 buffer 1\nenter 2\n")?,
-        1
-    );
-    assert_eq!(rt;
-        misfit(&rt, KindName::Pb, b"log 1 2 1 buffer 1\nenter 0\nenter 1\n")?,
-        2
-    );
-    assert_eq!(rt;
-        misfit(&rt, KindName::Pb, b"log 1 2 1 buffer 1\nenter 0\nlapse 0\n")?,
-        2
-    );
-    assert_eq!(rt;
-        misfit(
-            &rt,
-            KindName::Pb,
-            b"log 1 2 1 buffer 1\nenter 0\nbroadcast 0 0\n"
-        )?,
-        2
-    );
-    // The buffer is empty.
-    assert_eq!(rt;
-        misfit(
-            &rt,
-            KindName::Pb,
-            b"log 1 2 1 buffer 1\nenter 0\nact 0 1 0 7\n"
-        )?,
-        2
-    );
+    let text: &[u8] = b"log 1 2 1 buffer 1\n";
+    assert!(rt; verdict(&rt, KindName::Pb, text)? == LogVerdict::Fits);
+    let text: &[u8] = b"log 1 2 1 buffer 1\nenter 2\n";
+    assert!(rt; verdict(&rt, KindName::Pb, text)? == misfit(1, Blame::Line(Verdict::RANGE)));
+    let text: &[u8] = b"log 1 2 1 buffer 1\nenter 0\nbroadcast 0 0\n";
+    assert!(rt; verdict(&rt, KindName::Pb, text)? == misfit(2, Blame::Line(Verdict::CALL)));
+    let text: &[u8] = b"log 1 2 1 buffer 1\nenter 0\nenter 1\n";
+    assert!(rt; verdict(&rt, KindName::Pb, text)? == misfit(2, Blame::Line(Verdict::TURN)));
+    let text: &[u8] = b"log 1 2 1 buffer 1\nenter 0\nact 0 1 0 7\n";
+    assert!(rt; verdict(&rt, KindName::Pb, text)? == misfit(2, Blame::Line(Verdict::REPLY)));
+    let text: &[u8] = b"log 1 2 1 buffer 1\nenter 0\nlapse 0\n";
+    assert!(rt; verdict(&rt, KindName::Pb, text)? == misfit(2, Blame::Lapse));
     Ok(())
 }
 
 /// Under immediate return the line behind a signal says which signal it is.
 #[test]
 fn signals_told_by_halves(rt: HostRuntime) -> Result<(), Fail> {
-    assert_eq!(rt; misfit(&rt, KindName::Pir, SIGNALLER_FIRST)?, 0);
-    assert_eq!(rt; misfit(&rt, KindName::Pir, SIGNALLED_FIRST)?, 5);
-    assert_eq!(rt;
-        misfit(
-            &rt,
-            KindName::Npir,
-            b"log 1 2 1 buffer 1\nenter 0\nsignal 0 0\n",
-        )?,
-        0
-    );
-    assert_eq!(rt;
-        misfit(
-            &rt,
-            KindName::Npir,
-            b"log 1 2 1 buffer 1\nenter 0\nsignal 0 0\nwait 0 0\nenter 1\nleave 1\n",
-        )?,
-        0
-    );
+    let waits: &[u8] = b"log 1 2 1 buffer 1\nenter 0\nsignal 0 0\nwait 0 0\nenter 1\nleave 1\n";
+    assert!(rt; verdict(&rt, KindName::Pir, SIGNALLER_FIRST)? == LogVerdict::Fits);
+    assert!(rt; verdict(&rt, KindName::Pir, SIGNALLED_FIRST)? == misfit(5, Blame::HalfSignal));
+    assert!(rt; verdict(&rt, KindName::Npir, waits)? == LogVerdict::Fits);
     Ok(())
 }
 

@@ -18,18 +18,18 @@ loop-i-preserved g c = record {
   so_far = goes_on (monitor_in c.args.setting g.T.Guarded.meaning) c.args.lines.now c.loop-i.i _
       (replay_situation c.loop-i.replay (g.T.Guarded.state c.loop-i.object))
       (replay_situation c.line_behind.new.replay (g.T.Guarded.state c.line_behind.new.object))
-      c.loop-i.pending c.in-Some.left c.in_ok-left.field-0 _ c.loop-i-test.true c.loop-i.invariant.so_far
-      c.in_ok-left.ensures.judged c.in-Some.is;
+      c.loop-i.pending c.in-Fits.left c.in_ok-left.field-0 _ c.loop-i-test.true c.loop-i.invariant.so_far
+      c.in_ok-left.ensures.judged c.in-Fits.is;
   sound = c.in_ok-left.ensures.sound;
 }
 
-pub returns-in-None : goal.returns-in-None
-returns-in-None g c =
+pub returns-in-Misfits : goal.returns-in-Misfits
+returns-in-Misfits g c =
     misfits (monitor_in c.args.setting g.T.Guarded.meaning) c.args.lines.now c.loop-i.i _
     (replay_situation c.loop-i.replay (g.T.Guarded.state c.loop-i.object))
     (replay_situation c.line_behind.new.replay (g.T.Guarded.state c.line_behind.new.object))
-    c.loop-i.pending c.in_ok-left.field-0 _ c.loop-i-test.true c.loop-i.invariant.so_far
-    c.in_ok-left.ensures.judged c.in-None.is
+    c.loop-i.pending c.in_ok-left.field-0 c.in-Misfits.blame _ c.loop-i-test.true c.loop-i.invariant.so_far
+    c.in_ok-left.ensures.judged c.in-Misfits.is
 
 pub returns : goal.returns
 returns g c =

@@ -1,4 +1,5 @@
-use Rattle.std.proofs.Common.{◌≡◌, Some, drop}
+use Rattle.std.proofs.Common.{◌≡◌, drop}
+use Rattle.std.specs.Prelude.{Ok}
 use Rattle.monk_history.specs.Meaning.Monitor.{monitor}
 use Rattle.monk_audit.specs.Replay.{IsReplayOf, replay_situation}
 use Rattle.monk_logs.specs.Stand.{monitor_in, stand, verdict_from, verdict_on}
@@ -10,7 +11,7 @@ invariant-loop-i g l =
     let opening = monitor l.setting.rules l.setting.seats l.setting.conds o (g.T.Guarded.state l.fn.object) in
     record {
       so_far : verdict_from (monitor_in l.setting o) l.i
-          (Some (stand (replay_situation l.replay (g.T.Guarded.state l.object)) l.pending)) (drop l.i l.lines)
+          (Ok (stand (replay_situation l.replay (g.T.Guarded.state l.object)) l.pending)) (drop l.i l.lines)
           ≡ verdict_on opening l.lines;
       sound : IsReplayOf l.setting.seats l.setting.conds g.T.Guarded.PREDICATES l.replay;
     }
