@@ -1,2 +1,4 @@
 mod LogLaws
 mod CourseLaws
+mod VerdictLaws
+mod StepLaws

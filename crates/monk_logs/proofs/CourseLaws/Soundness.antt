@@ -54,7 +54,7 @@ TellsAt m log c = Tells m log c.past c.pending
 
 -- ---- what is added
 
-added : (m : Monitor) (past g : List Event) (e : Event) → add m past e ≡ Some g → IsLegal m past
+pub added : (m : Monitor) (past g : List Event) (e : Event) → add m past e ≡ Some g → IsLegal m past
     → IsLegal m g × (g ≡ past ++ e ∷ [])
 added m past g e h legal =
     let p = passed (reason_in m (situation m past) e) (past ++ e ∷ []) g h in
@@ -234,9 +234,15 @@ tells_open m log past (Half s c) kind t =
 tells_open m log past (Release e) kind t =
     subst (IsOpen m) t.told (release_open m past e kind t.legal t.still.0 t.still.1)
 
-pub judged_open : (m : Monitor) (log : List LogLine) (d : Course) → IsKind m.kind → judge m log ≡ Some d → IsOpen m log
-judged_open m log d kind h =
-    let t = judged_tells m [] log (Some (settled [])) d h
+tells_from : (m : Monitor) (log : List LogLine) (d : Course) → judge m log ≡ Some d → TellsAt m log d
+tells_from m log d h =
+    judged_tells m [] log (Some (settled [])) d h
     (λ c is. let same : settled [] ≡ c = cc in
-    subst (TellsAt m []) same (record { legal = legal_none m; told = refl; still = tt })) in
-    tells_open m log d.past d.pending kind t
+    subst (TellsAt m []) same (record { legal = legal_none m; told = refl; still = tt }))
+
+-- what was taken for the events of a log is legal
+pub judged_legal : (m : Monitor) (log : List LogLine) (d : Course) → judge m log ≡ Some d → IsLegal m d.past
+judged_legal m log d h = (tells_from m log d h).legal
+
+pub judged_open : (m : Monitor) (log : List LogLine) (d : Course) → IsKind m.kind → judge m log ≡ Some d → IsOpen m log
+judged_open m log d kind h = tells_open m log d.past d.pending kind (tells_from m log d h)

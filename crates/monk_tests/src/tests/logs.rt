@@ -1,4 +1,6 @@
-use monk_logs::{LogHeader, LogLine, one_log_each, read_log};
+use monk_audit::{AuditFault, Verdict};
+use monk_kinds::KindName;
+use monk_logs::{Blame, LogHeader, LogLine, LogVerdict, judge, one_log_each, read_log};
 use monk_object::{ObjectName, Op};
 use std::test::Fail;
 
@@ -73,4 +75,81 @@ fn headers_of_logs(rt: HostRuntime) {
     assert!(rt; LogHeader::new(33, 0, ObjectName::Buffer, 1).is_none());
     assert!(rt; LogHeader::new(1, 9, ObjectName::Buffer, 1).is_none());
     assert!(rt; LogHeader::new(1, 0, ObjectName::Buffer, 0).is_none());
+}
+
+/// What is found of the log under the kind.
+fn verdict(rt: &HostRuntime, kind: KindName, text: &[u8]) -> Result<LogVerdict, Fail> {
+    let (header, lines) = read_log(rt.alloc(), text)?;
+    Ok(judge(rt.alloc(), &header, &lines, kind)?)
+}
+
+/// The line that misfits.
+fn misfit(line: u32, blame: Blame) -> LogVerdict {
+    LogVerdict::Misfit { line, blame }
+}
+
+/// Seat 0 waits, and seat 1 comes in and signals it; then the signaller goes on.
+const SIGNALLER_FIRST: &[u8] =
+    b"log 1 2 1 buffer 1\nenter 0\nwait 0 0\nenter 1\nsignal 1 0\nleave 1\nresume 0\nleave 0\n";
+
+/// The same, and the seat that was signalled goes on.
+const SIGNALLED_FIRST: &[u8] =
+    b"log 1 2 1 buffer 1\nenter 0\nwait 0 0\nenter 1\nsignal 1 0\nresume 0\nleave 0\nresume 1\nleave 1\n";
+
+/// A task comes in before a waiter who was signalled goes on.
+const BARGED: &[u8] =
+    b"log 1 3 1 buffer 1\nenter 0\nwait 0 0\nenter 1\nsignal 1 0\nleave 1\nenter 2\nleave 2\nresume 0\nleave 0\n";
+
+/// Two seats wait, and the second one goes on first.
+const OVERTAKEN: &[u8] =
+    b"log 1 3 1 buffer 1\nenter 0\nwait 0 0\nenter 1\nwait 1 0\nenter 2\nsignal 2 0\nsignal 2 0\nleave 2\nresume 1\n";
+
+#[test]
+fn logs_under_kinds(rt: HostRuntime) -> Result<(), Fail> {
+    let chosen = Blame::Release(Verdict::CHOICE);
+    let fits = LogVerdict::Fits;
+    assert!(rt; verdict(&rt, KindName::Npnb, SIGNALLER_FIRST)? == fits);
+    assert!(rt; verdict(&rt, KindName::Pb, SIGNALLER_FIRST)? == misfit(5, chosen));
+    assert!(rt; verdict(&rt, KindName::Pb, SIGNALLED_FIRST)? == fits);
+    assert!(rt; verdict(&rt, KindName::Npnb, SIGNALLED_FIRST)? == misfit(5, chosen));
+    assert!(rt; verdict(&rt, KindName::Npnb, BARGED)? == fits);
+    assert!(rt; verdict(&rt, KindName::Pnb, BARGED)? == misfit(6, chosen));
+    assert!(rt; verdict(&rt, KindName::Npnb, OVERTAKEN)? == misfit(9, chosen));
+    Ok(())
+}
+
+#[test]
+fn lines_that_misfit(rt: HostRuntime) -> Result<(), Fail> {
+    let text: &[u8] = b"log 1 2 1 buffer 1\n";
+    assert!(rt; verdict(&rt, KindName::Pb, text)? == LogVerdict::Fits);
+    let text: &[u8] = b"log 1 2 1 buffer 1\nenter 2\n";
+    assert!(rt; verdict(&rt, KindName::Pb, text)? == misfit(1, Blame::Line(Verdict::RANGE)));
+    let text: &[u8] = b"log 1 2 1 buffer 1\nenter 0\nbroadcast 0 0\n";
+    assert!(rt; verdict(&rt, KindName::Pb, text)? == misfit(2, Blame::Line(Verdict::CALL)));
+    let text: &[u8] = b"log 1 2 1 buffer 1\nenter 0\nenter 1\n";
+    assert!(rt; verdict(&rt, KindName::Pb, text)? == misfit(2, Blame::Line(Verdict::TURN)));
+    let text: &[u8] = b"log 1 2 1 buffer 1\nenter 0\nact 0 1 0 7\n";
+    assert!(rt; verdict(&rt, KindName::Pb, text)? == misfit(2, Blame::Line(Verdict::REPLY)));
+    let text: &[u8] = b"log 1 2 1 buffer 1\nenter 0\nlapse 0\n";
+    assert!(rt; verdict(&rt, KindName::Pb, text)? == misfit(2, Blame::Lapse));
+    Ok(())
+}
+
+/// Under immediate return the line behind a signal says which signal it is.
+#[test]
+fn signals_told_by_halves(rt: HostRuntime) -> Result<(), Fail> {
+    let waits: &[u8] = b"log 1 2 1 buffer 1\nenter 0\nsignal 0 0\nwait 0 0\nenter 1\nleave 1\n";
+    assert!(rt; verdict(&rt, KindName::Pir, SIGNALLER_FIRST)? == LogVerdict::Fits);
+    assert!(rt; verdict(&rt, KindName::Pir, SIGNALLED_FIRST)? == misfit(5, Blame::HalfSignal));
+    assert!(rt; verdict(&rt, KindName::Npir, waits)? == LogVerdict::Fits);
+    Ok(())
+}
+
+/// Whether the object is refused where the log names one that is too great.
+#[test]
+fn too_great_an_object_of_a_log(rt: HostRuntime) -> Result<(), Fail> {
+    let (header, lines) = read_log(rt.alloc(), b"log 1 2 1 book 33\n")?;
+    assert!(rt; lines.is_empty());
+    assert!(rt; judge(rt.alloc(), &header, &[], KindName::Pb) == Err(AuditFault::Object));
+    Ok(())
 }

@@ -1,0 +1,57 @@
+//! A replay event by event, where the events aren't all known beforehand.
+
+ghost use Rattle.std.specs.Prelude.{◌≡◌, ℕ, List, [], IfOk, OnOk};
+ghost use Rattle.monk_kinds.specs.declared.mode.Rules.{Rules};
+ghost use Rattle.monk_object.specs.Object.{Object};
+ghost use Rattle.monk_history.specs.Meaning.Monitor.{monitor};
+ghost use Rattle.monk_history.specs.Meaning.Reasons.{reason_before, reason_in};
+ghost use Rattle.monk_history.specs.Meaning.Step.{after, opening_situation};
+ghost use Rattle.monk_audit.specs.Replay.{IsReplayOf, replay_situation, seats_in};
+
+use crate::replay::Replay;
+use monk_history::Event;
+use monk_kinds::Rules;
+use monk_object::Guarded;
+use std::alloc::{AllocError, Global};
+
+impl Replay {
+    /// How a monitor stands before any event.
+    pub fn opening(alloc: Global, seats: u8, conds: u8) -> Result<Replay, AllocError>
+        ensures stands { IfOk result
+            (λ r. (rules : Rules) (o : Object) (state : List ℕ)
+            → replay_situation r state ≡ opening_situation (monitor rules seats conds o state)) }
+        ensures sound { IfOk result (λ r. (predicates : ℕ) → IsReplayOf seats conds predicates r) }
+    {
+        Replay::new(alloc, seats, conds)
+    }
+
+    /// The first of the reasons 1 to 4 against an event, or 0. These don't ask what it chooses and what the object replies.
+    pub fn call_reason<T: Guarded>(&self, rules: Rules, object: &T, conds: u8, event: Event) -> u8
+        requires { IsReplayOf (seats_in self.now) conds T.PREDICATES self.now }
+        ensures { result ≡ reason_before 0 (monitor rules (seats_in self.now) conds T.meaning [])
+            (replay_situation self.now (T.state object.now)) event }
+    {
+        self.early_reason(rules, object, conds, event)
+    }
+
+    /// Judges an event, and carries it out where no reason is against it. Gives the first reason, or 0; where there is one,
+    /// the replay is of no further use.
+    pub fn carry_out<T: Guarded>(
+        &mut self,
+        rules: Rules,
+        object: &mut T,
+        conds: u8,
+        event: Event,
+    ) -> Result<u8, AllocError>
+        requires { IsReplayOf (seats_in self.old) conds T.PREDICATES self.old }
+        ensures reason { IfOk result
+            (λ r. r ≡ reason_in (monitor rules (seats_in self.old) conds T.meaning [])
+            (replay_situation self.old (T.state object.old)) event) }
+        ensures after { IfOk result
+            (λ r. r ≡ 0 → replay_situation self.new (T.state object.new) ≡ after T.meaning
+            (replay_situation self.old (T.state object.old)) event) }
+        ensures sound { OnOk result (IsReplayOf (seats_in self.old) conds T.PREDICATES self.new) }
+    {
+        self.judge(rules, object, conds, event)
+    }
+}

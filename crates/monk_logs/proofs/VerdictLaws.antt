@@ -1,0 +1,5 @@
+pub mod Standing
+pub mod Exactly
+pub mod Verdicts
+pub mod Opening
+pub mod Lines

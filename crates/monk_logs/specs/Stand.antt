@@ -1,0 +1,125 @@
+-- The same judging as a function of how the monitor stands, so that no event needs to be kept. That it comes to the same is a law
+-- in proofs/StandLaws
+use Rattle.std.specs.Prelude.{ℕ, ◌+◌, ◌==◌, List, [], ◌∷◌, Result, Ok, Err, if◌then◌else◌}
+use Rattle.monk_object.specs.Object.{Object}
+use Rattle.monk_history.specs.declared.event.Event.{Event}
+use Rattle.monk_history.specs.declared.event.Event.TheVariants as event
+use Rattle.monk_history.specs.declared.event.Next.TheVariants as next
+use Rattle.monk_history.specs.declared.event.Via.{Via}
+use Rattle.monk_history.specs.declared.event.Via.TheVariants.{Free, Handed}
+use Rattle.monk_history.specs.Meaning.Events.{returns_at_once}
+use Rattle.monk_history.specs.Meaning.Monitor.{Monitor, monitor}
+use Rattle.monk_history.specs.Meaning.Reasons.{reason_before, reason_in}
+use Rattle.monk_history.specs.Meaning.Situation.{Situation}
+use Rattle.monk_history.specs.Meaning.Step.{after, opening_situation}
+use Rattle.monk_logs.specs.Course.{due_from, told_release}
+use Rattle.monk_logs.specs.declared.line.LogLine.{LogLine}
+use Rattle.monk_logs.specs.declared.line.LogLine.TheVariants.{Enter, Resume, Lapse, Leave, Wait, Signal, Broadcast, Until, Act}
+use Rattle.monk_logs.specs.declared.pending.Pending.{Pending}
+use Rattle.monk_logs.specs.declared.pending.Pending.TheVariants.{Settled, Half, Release}
+use Rattle.monk_logs.specs.declared.blame.Blame.{Blame}
+use Rattle.monk_logs.specs.declared.blame.Blame.TheVariants as blame
+use Rattle.monk_logs.specs.declared.blame.LineVerdict.{LineVerdict}
+use Rattle.monk_logs.specs.declared.blame.LineVerdict.TheVariants as verdict
+use Rattle.monk_logs.specs.declared.setting.Setting.{Setting}
+use Rattle.monk_logs.specs.declared.verdict.LogVerdict.{LogVerdict}
+use Rattle.monk_logs.specs.declared.verdict.LogVerdict.TheVariants.{Fits, Misfit}
+
+-- how the monitor stands behind the events that are known, and what is still to be known
+pub record Stand : Type 0 where
+  pub now : Situation
+  pub pending : Pending
+
+abbrev pub stand : Situation → Pending → Stand
+stand t p = record { now = t; pending = p }
+
+abbrev pub stand_settled : Situation → Stand
+stand_settled t = stand t Settled
+
+-- where a line leads that was judged so, and where it can't
+abbrev pub stand_or : Situation → LineVerdict → Result Stand Blame
+stand_or t (verdict.Fits p) = Ok (stand t p)
+stand_or t (verdict.Misfits why) = Err why
+
+-- the monitor of that setting; its opening state has no part in what is still to come
+abbrev pub monitor_in : Setting → Object → Monitor
+monitor_in s o = monitor s.rules s.seats s.conds o []
+
+-- ---- what is added
+
+-- the situation behind the event, or the first test that it fails
+abbrev pub add_to : Monitor → Situation → Event → Result Situation ℕ
+add_to m t e = if reason_in m t e == 0 then Ok (after m.object t e) else Err (reason_in m t e)
+
+abbrev pub settled_by : Result Situation ℕ → Result Stand Blame
+settled_by (Ok t) = Ok (stand_settled t)
+settled_by (Err reason) = Err (blame.Line reason)
+
+abbrev pub settle : Monitor → Situation → Event → Result Stand Blame
+settle m t e = settled_by (add_to m t e)
+
+abbrev pub hold_over : Monitor → Situation → Event → Pending → Result Stand Blame
+hold_over m t e p = if reason_before 0 m t e == 0 then Ok (stand t p) else Err (blame.Line (reason_before 0 m t e))
+
+abbrev pub release_over : Monitor → Situation → Event → Result Stand Blame
+release_over m t e = hold_over m t e (Release e)
+
+-- ---- a line
+
+abbrev pub via_now : Situation → Via
+via_now t = if t.begun then Handed else Free
+
+abbrev pub signal_over : Monitor → Situation → ℕ → ℕ → Result Stand Blame
+signal_over m t s c = if returns_at_once m.kind.mode then hold_over m t (event.SignalLeave s c next.Stay) (Half s c)
+    else release_over m t (event.Signal s c next.Stay)
+
+-- where each event before it is known
+abbrev pub line_settled : Monitor → Situation → LogLine → Result Stand Blame
+line_settled m t (Enter s) = settle m t (event.Enter s (via_now t))
+line_settled m t (Resume s) = settle m t (event.Resume s (due_from t.turn))
+line_settled m t (Lapse s) = Err blame.Lapse
+line_settled m t (Leave s) = release_over m t (event.Leave s next.Stay)
+line_settled m t (Wait s c) = release_over m t (event.Wait s c next.Stay)
+line_settled m t (Signal s c) = signal_over m t s c
+line_settled m t (Broadcast s c) = settle m t (event.SignalAll s c)
+line_settled m t (Until s p) = release_over m t (event.Until s p next.Stay)
+line_settled m t (Act s op r) = settle m t (event.Act s op r)
+
+-- behind a signal that is half told
+abbrev pub line_half : Monitor → Situation → ℕ → ℕ → LogLine → Result Stand Blame
+line_half m t s c (Enter j) = Err blame.HalfSignal
+line_half m t s c (Resume j) = Err blame.HalfSignal
+line_half m t s c (Lapse j) = Err blame.HalfSignal
+line_half m t s c (Leave j) = if j == s then release_over m t (event.SignalLeave s c next.Stay) else Err blame.HalfSignal
+line_half m t s c (Wait j d) = if j == s then release_over m t (event.SignalWait s c d next.Stay) else Err blame.HalfSignal
+line_half m t s c (Signal j d) = Err blame.HalfSignal
+line_half m t s c (Broadcast j d) = Err blame.HalfSignal
+line_half m t s c (Until j p) = Err blame.HalfSignal
+line_half m t s c (Act j op r) = Err blame.HalfSignal
+
+-- behind a release
+abbrev pub line_then : Monitor → Result Situation ℕ → LogLine → Result Stand Blame
+line_then m (Err reason) l = Err (blame.Release reason)
+line_then m (Ok t) l = line_settled m t l
+
+abbrev pub line_told : Monitor → Situation → Event → LogLine → Result Stand Blame
+line_told m t e l = line_then m (add_to m t (told_release m.object t e l)) l
+
+abbrev pub line_behind : Monitor → Situation → Pending → LogLine → Result Stand Blame
+line_behind m t Settled l = line_settled m t l
+line_behind m t (Half s c) l = line_half m t s c l
+line_behind m t (Release e) l = line_told m t e l
+
+-- ---- a log
+
+-- the verdict on the lines to come, behind so many that fit and led there
+unfoldable pub verdict_from : Monitor → ℕ → Result Stand Blame → List LogLine → LogVerdict
+verdict_from m n (Err why) log = Misfit n why
+verdict_from m n (Ok s) [] = Fits
+verdict_from m n (Ok s) (l ∷ log) = verdict_from m (n + 1) (line_behind m s.now s.pending l) log
+
+abbrev pub opening_stand : Monitor → Stand
+opening_stand m = stand_settled (opening_situation m)
+
+abbrev pub verdict_on : Monitor → List LogLine → LogVerdict
+verdict_on m log = verdict_from m 0 (Ok (opening_stand m)) log

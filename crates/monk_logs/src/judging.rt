@@ -1,0 +1,114 @@
+//! Whether a log could be of a monitor.
+
+ghost use Rattle.std.specs.Prelude.{◌≡◌, ◌≤◌, ◌<◌, IfOk, OnOk, IsErrOf, length};
+ghost use Rattle.monk_object.specs.Names.{most};
+ghost use Rattle.monk_history.specs.Limits.{most_lines};
+ghost use Rattle.monk_history.specs.Meaning.Monitor.{monitor};
+ghost use Rattle.monk_logs.specs.Stand.{verdict_on};
+ghost use Rattle.monk_logs.specs.Verdict.{FitsExactly, MisfitsExactly, log_monitor};
+
+use crate::blame::LineVerdict;
+use crate::header::LogHeader;
+use crate::line::LogLine;
+use crate::pending::Pending;
+use crate::setting::Setting;
+use crate::steps::line_behind;
+use crate::verdict::LogVerdict;
+use monk_audit::{AuditFault, Replay, rules_by_name};
+use monk_kinds::KindName;
+use monk_object::{Book, Buffer, Guarded, ObjectName, Shop};
+use std::alloc::{AllocError, Global};
+
+/// Judges the lines one after the other, over the object in its opening state.
+fn judge_over<T: Guarded>(
+    alloc: Global,
+    object: T,
+    setting: Setting,
+    lines: &[LogLine],
+) -> Result<LogVerdict, AllocError>
+    requires { length lines.now ≤ most_lines }
+    ensures { IfOk result
+        (λ v. v ≡ verdict_on (monitor setting.rules setting.seats setting.conds T.meaning (T.state object)) lines.now) }
+{
+    let mut object = object;
+    let mut replay = Replay::opening(alloc, setting.seats, setting.conds)?;
+    let mut pending = Pending::Settled;
+    for (i, line) in lines.iter().enumerate() {
+        match line_behind(setting, &mut replay, &mut object, pending, *line)? {
+            LineVerdict::Fits(left) => pending = left,
+            LineVerdict::Misfits(blame) => {
+                let line = i as u32 + 1;
+                return Ok(LogVerdict::Misfit { line, blame });
+            }
+        }
+    }
+    Ok(LogVerdict::Fits)
+}
+
+/// Makes the object that the header names, and judges the lines.
+fn judge_object(
+    alloc: Global,
+    header: &LogHeader,
+    lines: &[LogLine],
+    kind: KindName,
+) -> Result<LogVerdict, AuditFault>
+    requires { length lines.now ≤ most_lines }
+    ensures verdict { IfOk result (λ v. v ≡ verdict_on (log_monitor kind header.now) lines.now) }
+    ensures fits { OnOk result (header.now.size ≤ most header.now.object) }
+    ensures object { IsErrOf result AuditFault.Object → most header.now.object < header.now.size }
+    ensures too_big { most header.now.object < header.now.size → IsErrOf result AuditFault.Object }
+{
+    let setting = Setting {
+        rules: rules_by_name(kind),
+        seats: header.seats(),
+        conds: header.conds(),
+    };
+    let size = header.size();
+    match header.object() {
+        ObjectName::Buffer => {
+            let buffer = Buffer::make(alloc, size)?;
+            Ok(judge_over(alloc, buffer, setting, lines)?)
+        }
+        ObjectName::Book => {
+            let book = Book::make(size)?;
+            Ok(judge_over(alloc, book, setting, lines)?)
+        }
+        ObjectName::Shop => {
+            let shop = Shop::make(size)?;
+            Ok(judge_over(alloc, shop, setting, lines)?)
+        }
+    }
+}
+
+/// Tells whether the log could be of a monitor of the kind, with queues in order of arrival, over the object that its
+/// first line names; and else which line is the first that can't. A log could be where some legal history begins with
+/// what it tells: whom the scheduler chose, from which queue, and how a task came in, a log leaves open.
+///
+/// # Errors
+///
+/// [`AuditFault::Object`] exactly where the size is above the object's greatest. [`AuditFault::Memory`] where a growth
+/// was refused.
+///
+/// # Cost
+///
+/// One pass. A line takes as long as an event or two of an audit. Memory for the queues and the object alone.
+pub fn judge(
+    alloc: Global,
+    header: &LogHeader,
+    lines: &[LogLine],
+    kind: KindName,
+) -> Result<LogVerdict, AuditFault>
+    requires { length lines.now ≤ most_lines }
+    // It fits exactly where some legal history begins with the log.
+    ensures fits { IfOk result (FitsExactly (log_monitor kind header.now) lines.now) }
+    // It misfits exactly at the first line with which none begins.
+    ensures misfit { IfOk result (MisfitsExactly (log_monitor kind header.now) lines.now) }
+    // What is to blame, and all else, is as it is found line by line.
+    ensures verdict { IfOk result (λ v. v ≡ verdict_on (log_monitor kind header.now) lines.now) }
+    // The size is refused exactly where it is above the object's greatest.
+    ensures made { OnOk result (header.now.size ≤ most header.now.object) }
+    ensures object { IsErrOf result AuditFault.Object → most header.now.object < header.now.size }
+    ensures too_big { most header.now.object < header.now.size → IsErrOf result AuditFault.Object }
+{
+    judge_object(alloc, header, lines, kind)
+}

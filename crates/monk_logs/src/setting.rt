@@ -1,0 +1,11 @@
+//! What stays the same of a monitor.
+
+use monk_kinds::Rules;
+
+/// What stays the same of a monitor while its log is judged.
+#[derive(Clone, Copy)]
+pub(crate) struct Setting {
+    pub(crate) rules: Rules,
+    pub(crate) seats: u8,
+    pub(crate) conds: u8,
+}
