@@ -52,6 +52,6 @@ impl Replay {
             (replay_situation self.old (T.state object.old)) event) }
         ensures sound { OnOk result (IsReplayOf (seats_in self.old) conds T.PREDICATES self.new) }
     {
-        self.judge(rules, object, conds, event)
+        self.judge::<T, Event>(rules, object, conds, event)
     }
 }
