@@ -19,7 +19,8 @@ use Rattle.monk_history.specs.Meaning.Turn.{turn}
 use Rattle.monk_history.proofs.PublicLaws.Meaning.{legal_situation-push}
 use Rattle.monk_logs.specs.Course.{Course, course, settled, add, hold, behind_events, behind_half, then_behind, behind}
 use Rattle.monk_logs.specs.Course.{due_from, told_release}
-use Rattle.monk_logs.specs.Stand.{Stand, stand, stand_settled, add_to, settled_by, settle, hold_over, line_settled, line_half, line_then, line_behind}
+use Rattle.monk_logs.specs.Stand.{Stand, stand, stand_settled, add_to, settled_by, settle, hold_over}
+use Rattle.monk_logs.specs.Stand.{line_settled, line_half, line_then, line_behind}
 use Rattle.monk_logs.specs.declared.blame.Blame.{Blame}
 use Rattle.monk_logs.specs.declared.blame.Blame.TheVariants.{Line, HalfSignal}
 use Rattle.monk_logs.specs.declared.line.LogLine.{LogLine}
