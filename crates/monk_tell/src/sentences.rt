@@ -94,19 +94,21 @@ fn may_not_stay(kind: KindName, rules: Rules, lines: &Lines, event: Event) -> Wh
     }
 }
 
-/// Why entry may not be chosen.
+/// Why entry may not be chosen: who is above it, and of these the one that comes first.
 fn may_not_admit(kind: KindName, rules: Rules, lines: &Lines, seat: u8) -> Why {
-    match (
-        lines.waiters.first(),
-        lines.ready.first(),
-        lines.signallers.first(),
-    ) {
-        (Some(first), _, _) if rules.waiter != rules.entry => Why::WaitersBeforeEntry(*first, kind),
-        (None, Some(first), _) if rules.waiter != rules.entry => Why::ReadyBeforeEntry(
-            *first, kind,
-        ),
-        (_, _, Some(first)) => Why::SignallersBeforeEntry(*first, kind),
-        _ => Why::GivesUp(seat),
+    match (lines.waiters.first(), lines.signallers.first()) {
+        (Some(_), Some(signaller)) if rules.signaller > rules.waiter && *signaller == seat => {
+            Why::MustStay(seat, kind)
+        }
+        (Some(_), Some(signaller)) if rules.signaller > rules.waiter => {
+            Why::SignallersBeforeEntry(*signaller, kind)
+        }
+        (Some(waiter), _) => Why::WaitersBeforeEntry(*waiter, kind),
+        (None, Some(signaller)) => Why::SignallersBeforeEntry(*signaller, kind),
+        (None, None) => match lines.ready.first() {
+            Some(first) => Why::ReadyBeforeEntry(*first, kind),
+            None => Why::GivesUp(seat),
+        },
     }
 }
 
@@ -121,12 +123,12 @@ fn may_not_wake(kind: KindName, lines: &Lines, seat: u8, chosen: u8) -> Why {
 }
 
 /// Why that signaller may not be chosen.
-fn may_not_recall(kind: KindName, lines: &Lines, seat: u8, chosen: u8) -> Why {
+fn may_not_recall(kind: KindName, rules: Rules, lines: &Lines, seat: u8, chosen: u8) -> Why {
     match lines.waiters.first() {
         _ if lines.signallers.first() != Some(&chosen) => Why::NotFirst(chosen, From3::Signaller),
+        Some(first) if rules.waiter > rules.signaller => Why::WaitersFirst(*first, kind),
         _ if chosen == seat => Why::OwnSignal(seat),
-        Some(first) => Why::WaitersFirst(*first, kind),
-        None => Why::GivesUp(seat),
+        _ => Why::GivesUp(seat),
     }
 }
 
@@ -144,7 +146,7 @@ pub(crate) fn wrong_choice(
         None | Some(Next::Stay) => may_not_stay(kind, rules, lines, event),
         Some(Next::Entry) => may_not_admit(kind, rules, lines, seat),
         Some(Next::Waiter(chosen)) => may_not_wake(kind, lines, seat, chosen),
-        Some(Next::Signaller(chosen)) => may_not_recall(kind, lines, seat, chosen),
+        Some(Next::Signaller(chosen)) => may_not_recall(kind, rules, lines, seat, chosen),
         Some(Next::Until(_)) if rules.mode != Mode::Automatic => Why::NoUntils(kind),
         Some(Next::Until(chosen)) => Why::NotReady(chosen),
     }
