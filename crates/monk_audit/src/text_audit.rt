@@ -1,6 +1,6 @@
 //! The audit of a text that comes in pieces.
 
-ghost use Rattle.std.specs.Prelude.{◌≡◌, List, ℕ, [], OnOk};
+ghost use Rattle.std.specs.Prelude.{◌≡◌, ◌≤◌, List, ℕ, [], None, OnOk, IfSome, length};
 ghost use Rattle.monk_history.specs.Text.Lines.{Gives};
 ghost use Rattle.monk_audit.specs.Audits.{owes, IsGoingOn};
 ghost use Rattle.monk_audit.specs.Pieces.{IsCarried};
@@ -10,6 +10,7 @@ use crate::stage::Stage;
 use crate::text_verdict::TextVerdict;
 use monk_history::ReadFault;
 use std::alloc::{AllocError, Global};
+use std::mem;
 
 /// The audit of a text that comes in pieces. A line is judged when it ends, and of the text no more is kept than the line
 /// that has not ended; behind the first fault nothing is.
@@ -44,9 +45,29 @@ impl TextAudit {
     ///
     /// # Cost
     ///
-    /// Time by the length of the piece and of a line that ends in it; memory for the piece and the line that has not ended,
-    /// for the queues and for the object.
+    /// Time by the length of the piece and of a line that ends in it; memory for a line that began in an earlier piece and for
+    /// the one that has not ended, for the queues and for the object.
     pub fn push(&mut self, alloc: Global, piece: &[u8]) -> Result<(), AllocError>
+        requires { IsGoingOn self.old }
+        ensures carried { OnOk result (IsCarried (owes self.old) piece.now (owes self.new) []) }
+        ensures goes_on { OnOk result (IsGoingOn self.new) }
+    {
+        if self.held.is_empty() {
+            return self.take(alloc, piece);
+        }
+        match line_end(piece) {
+            // A line that goes on is not looked through again.
+            None => Ok(self.held.extend_from_slice(piece)?),
+            Some(end) => {
+                let (line, rest) = piece.split_at(end);
+                self.take(alloc, line)?;
+                self.take(alloc, rest)
+            }
+        }
+    }
+
+    /// Takes the next piece, and judges the lines that end in it: where no line is held, in their place.
+    fn take(&mut self, alloc: Global, piece: &[u8]) -> Result<(), AllocError>
         requires { IsGoingOn self.old }
         ensures carried { OnOk result (IsCarried (owes self.old) piece.now (owes self.new) []) }
         ensures goes_on { OnOk result (IsGoingOn self.new) }
@@ -54,21 +75,26 @@ impl TextAudit {
         if self.fault.is_some() {
             return Ok(());
         }
-        self.held.extend_from_slice(piece)?;
-        // A line that goes on is not looked through again.
-        if !piece.contains(&b'\n') {
-            return Ok(());
+        if self.held.is_empty() {
+            return self.judge(alloc, piece);
         }
-        match self.stage.judge(alloc, &self.held) {
-            Ok(rest) => {
-                let mut held = Vec::new(alloc);
-                held.extend_from_slice(rest)?;
-                self.held = held;
-                Ok(())
-            }
+        self.held.extend_from_slice(piece)?;
+        let held = mem::replace(&mut self.held, Vec::new(alloc));
+        self.judge(alloc, &held)
+    }
+
+    /// Judges the lines that end in the bytes, where nothing is held, and holds what stands behind the last of them.
+    fn judge(&mut self, alloc: Global, bytes: &[u8]) -> Result<(), AllocError>
+        requires goes_on { IsGoingOn self.old }
+        requires held { self.old.held.items ≡ [] }
+        requires fault { self.old.fault ≡ None }
+        ensures carried { OnOk result (IsCarried (owes self.old) bytes.now (owes self.new) []) }
+        ensures goes_on { OnOk result (IsGoingOn self.new) }
+    {
+        match self.stage.judge(alloc, bytes) {
+            Ok(rest) => Ok(self.held.extend_from_slice(rest)?),
             Err(fault) => {
                 self.stage = Stage::Opening;
-                self.held = Vec::new(alloc);
                 self.fault = Some(fault);
                 if fault.number == ReadFault::MEMORY {
                     Err(AllocError)
@@ -93,4 +119,12 @@ impl TextAudit {
             None => self.stage.end(alloc, &self.held),
         }
     }
+}
+
+/// How many bytes the first line of the piece has with its end, if one ends in it.
+fn line_end(piece: &[u8]) -> Option<usize>
+    ensures { IfSome result (λ end. end ≤ length piece.now) }
+{
+    let last = piece.iter().position(|byte| *byte == b'\n')?;
+    Some(last + 1)
 }
