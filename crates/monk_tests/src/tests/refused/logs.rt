@@ -1,4 +1,7 @@
-use monk_logs::{LogLine, read_log};
+use monk_audit::AuditFault;
+use monk_kinds::KindName;
+use monk_logs::{LogHeader, LogLine, LogVerdict, judge, read_log};
+use monk_object::ObjectName;
 
 /// Seventeen lines, so that the list of them grows several times.
 const LONG: &[u8] =
@@ -28,4 +31,35 @@ fn log_with_ample_memory(rt: HostRuntime) {
 fn log_or_refused_memory(rt: HostRuntime) {
     let told = told(&rt, LONG);
     assert!(rt; told == (0, 17) || told == MEMORY);
+}
+
+/// Two seats wait on two conditions, and a third signals both and goes out.
+const LINES: [LogLine; 10] = [
+    LogLine::Enter(0),
+    LogLine::Wait(0, 0),
+    LogLine::Enter(1),
+    LogLine::Wait(1, 1),
+    LogLine::Enter(2),
+    LogLine::Signal(2, 0),
+    LogLine::Signal(2, 1),
+    LogLine::Leave(2),
+    LogLine::Resume(0),
+    LogLine::Leave(0),
+];
+
+/// What is found of these lines.
+fn judged(rt: &HostRuntime) -> Option<Result<LogVerdict, AuditFault>> {
+    let header = LogHeader::new(3, 2, ObjectName::Buffer, 1)?;
+    Some(judge(rt.alloc(), &header, &LINES, KindName::Npnb))
+}
+
+#[test]
+fn judged_with_ample_memory(rt: HostRuntime) {
+    assert!(rt; judged(&rt) == Some(Ok(LogVerdict::Fits)));
+}
+
+#[test]
+fn judged_or_refused_memory(rt: HostRuntime) {
+    let judged = judged(&rt);
+    assert!(rt; judged == Some(Ok(LogVerdict::Fits)) || judged == Some(Err(AuditFault::Memory)));
 }
