@@ -1,5 +1,5 @@
--- The same judging as a function of how the monitor stands, so that no event needs to be kept. That it comes to the same is a law
--- in proofs/StandLaws
+-- The same judging as a function of how the monitor stands, so that no event needs to be kept. That it comes to the same is the
+-- lemma `line_same` of proofs/VerdictLaws/Standing
 use Rattle.std.specs.Prelude.{ℕ, ◌+◌, ◌==◌, List, [], ◌∷◌, Result, Ok, Err, if◌then◌else◌}
 use Rattle.monk_object.specs.Object.{Object}
 use Rattle.monk_history.specs.declared.event.Event.{Event}
