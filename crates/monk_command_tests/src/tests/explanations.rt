@@ -47,9 +47,9 @@ static EXPLANATIONS: [Explanation; 7] = [
         status: 1,
     },
     Explanation {
-        header: "monk 1 PIR 2 1 book 0",
+        header: "monk 1 PIR 2 1 book 1",
         events: "enter 0 free / wait 0 0 entry / enter 1 free / signal-leave 1 0 waiter 0",
-        answer: "legal 4\nkind: PIR immediate-return 1 2\nturn: due 0 waiter\ninside: 0\ndata: 0 0 0\ncondition 0:\nwaiter: 0\n",
+        answer: "legal 4\nkind: PIR immediate-return 1 2\nturn: due 0 waiter\ninside: 0\ndata: 1 0 0\ncondition 0:\nwaiter:\n",
         status: 0,
     },
     Explanation {
