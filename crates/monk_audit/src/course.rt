@@ -76,7 +76,7 @@ pub(crate) fn judge_lines<'a, T: Guarded>(
     let mut lines = PieceLines::of(bytes, count + 2, MOST_EVENTS - count);
     loop {
         // One match, and no `?` before it: the event then stays where the reader has put it.
-        let event: Event = match lines.next(&header) {
+        let event = match lines.next_for::<Header, Event, T>(&header) {
             Ok(Some(event)) => event,
             Ok(None) => {
                 course.count = count;
@@ -113,14 +113,12 @@ pub(crate) fn read_lines<'a>(
     ensures few { OnOk result (count.new ≤ 2 ^ 25) }
     ensures fault { IfErr result (λ f. IsFaulty (λ x. read_through (events_from header.now count.old x)) bytes.entry.now f) }
 {
-    let mut read = *count;
-    let mut lines = PieceLines::of(bytes, read + 2, MOST_EVENTS - read);
+    let mut lines = PieceLines::of(bytes, *count + 2, MOST_EVENTS - *count);
     loop {
         let event: Option<Event> = lines.next(header)?;
         if event.is_none() {
-            *count = read;
+            *count = MOST_EVENTS - lines.room();
             return Ok(lines.rest());
         }
-        read += 1;
     }
 }

@@ -16,8 +16,11 @@ use monk_object::Op;
 pub(crate) const WINDOW: usize = 64;
 
 /// The event whose line stands at the front, and the place behind the line.
+///
+/// `Caller` is a type that nothing here looks at. Code is made for each type, and what is called from one place alone the
+/// compiler puts there, so that a caller who names a type of its own needs no call for a line.
 #[inline(always)]
-pub(crate) fn event_at_front(bytes: &[u8], version: u8) -> Option<(Event, usize)>
+pub(crate) fn event_at_front<Caller>(bytes: &[u8], version: u8) -> Option<(Event, usize)>
     requires version { 1 ≤ version }
     requires window { WINDOW ≤ length bytes.now }
     ensures stands { IfSome result (λ r. StandsAt bytes.now 0 (line (event_words r.0)) r.1) }
@@ -31,7 +34,7 @@ pub(crate) fn event_at_front(bytes: &[u8], version: u8) -> Option<(Event, usize)
     } else if four_stand_at(bytes, 0, *b"leav") {
         leave(bytes)
     } else if four_stand_at(bytes, 0, *b"sign") {
-        any_signal(bytes, version)
+        any_signal::<Caller>(bytes, version)
     } else if four_stand_at(bytes, 0, *b"resu") {
         resume(bytes)
     } else if four_stand_at(bytes, 0, *b"wait") {
@@ -107,7 +110,7 @@ fn leave(bytes: &[u8]) -> Option<(Event, usize)>
 
 /// The event of a line that begins with `sign`.
 #[inline(always)]
-fn any_signal(bytes: &[u8], version: u8) -> Option<(Event, usize)>
+fn any_signal<Caller>(bytes: &[u8], version: u8) -> Option<(Event, usize)>
     requires window { WINDOW ≤ length bytes.now }
     requires version { 1 ≤ version }
     requires begins { StandsAt bytes.now 0 (codes "sign") 4 }

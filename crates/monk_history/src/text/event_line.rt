@@ -31,13 +31,13 @@ impl Record<Header> for Event {
     }
 
     #[inline(always)]
-    fn at_front(header: &Header, bytes: &[u8]) -> Option<(Event, usize)>
+    fn at_front<Caller>(header: &Header, bytes: &[u8]) -> Option<(Event, usize)>
         ensures { IfSome result (λ r. IsAtFront (event_under header.now) bytes.now r.0 r.1) }
     {
         if bytes.len() < WINDOW {
             return None;
         }
-        event_at_front(bytes, header.version())
+        event_at_front::<Caller>(bytes, header.version())
     }
 }
 

@@ -12,7 +12,7 @@ use Rattle.monk_audit.proofs.course.judge_lines.Goals.{In_ok-reason, In-Ok-Some}
 pub judge-requires-clause-seats : goal.judge-requires-clause-seats
 judge-requires-clause-seats g c = omega (arith, c.loop-event.invariant.seats, c.requires.few_seats)
 
-result_is : (g : _) (c : In-Ok-Some g) → c.next.result ≡ Ok (Some c.in-Ok-Some.event)
+result_is : (g : _) (c : In-Ok-Some g) → c.next_for.result ≡ Ok (Some c.in-Ok-Some.event)
 result_is g c =
     let a = c.in-Ok-Some.is in
     let b = c.in-Ok-Some.field-0-is in
@@ -32,13 +32,13 @@ reason_is g c =
 pub returns-then-reason-ne-ALLOWED-clause-step : goal.returns-then-reason-ne-ALLOWED-clause-step
 returns-then-reason-ne-ALLOWED-clause-step g c =
     let some = goal.at.returns-then-reason-ne-ALLOWED-clause-step g c in
-    let counted = said_of_item c.next.result c.in-Ok-Some.event _ (result_is g some.In-Ok-Some) c.next.ensures.counted in
+    let counted = said_of_item c.next_for.result c.in-Ok-Some.event _ (result_is g some.In-Ok-Some) c.next_for.ensures.counted in
     rw c.loop-event.invariant.header
     (piece_forbidden _ c.args.course.now.header c.loop-event.count c.in_ok-reason.reason _ c.in-Ok-Some.event
-    c.loop-event.lines c.next.new.self _ _
-    (piece_item_found c.next.result (items_with (event_under c.args.course.now.header) c.loop-event.lines)
-    (items_with (event_under c.args.course.now.header) c.next.new.self) c.in-Ok-Some.event
-    (result_is g some.In-Ok-Some) c.next.ensures.item)
+    c.loop-event.lines c.next_for.new.self _ _
+    (piece_item_found c.next_for.result (items_with (event_under c.args.course.now.header) c.loop-event.lines)
+    (items_with (event_under c.args.course.now.header) c.next_for.new.self) c.in-Ok-Some.event
+    (result_is g some.In-Ok-Some) c.next_for.ensures.item)
     (reason_is g some.In_ok-reason) c.if-reason-ne-ALLOWED.true c.loop-event.invariant.so_far
     (omega (arith, counted.0, c.loop-event.invariant.number)) (omega (arith, counted.1, c.loop-event.invariant.room))
     c.rest-then-reason-ne-ALLOWED.ensures)
@@ -46,16 +46,16 @@ returns-then-reason-ne-ALLOWED-clause-step g c =
 pub loop-event-preserved : goal.loop-event-preserved
 loop-event-preserved g c =
     let some = goal.at.loop-event-preserved g c in
-    let counted = said_of_item c.next.result c.in-Ok-Some.event _ (result_is g some.In-Ok-Some) c.next.ensures.counted in
+    let counted = said_of_item c.next_for.result c.in-Ok-Some.event _ (result_is g some.In-Ok-Some) c.next_for.ensures.counted in
     record {
       so_far = λ more.
           judged_more _ c.loop-event.count c.in_ok-reason.reason _
           (replay_situation c.judge.new.self (g.T.Guarded.state c.judge.new.object)) c.in-Ok-Some.event
           (items_with (event_under c.args.course.now.header) c.loop-event.lines more)
-          (items_with (event_under c.args.course.now.header) c.next.new.self more) _
-          (piece_item_found c.next.result (items_with (event_under c.args.course.now.header) c.loop-event.lines)
-          (items_with (event_under c.args.course.now.header) c.next.new.self) c.in-Ok-Some.event
-          (result_is g some.In-Ok-Some) c.next.ensures.item more)
+          (items_with (event_under c.args.course.now.header) c.next_for.new.self more) _
+          (piece_item_found c.next_for.result (items_with (event_under c.args.course.now.header) c.loop-event.lines)
+          (items_with (event_under c.args.course.now.header) c.next_for.new.self) c.in-Ok-Some.event
+          (result_is g some.In-Ok-Some) c.next_for.ensures.item more)
           (reason_is g some.In_ok-reason) c.if-reason-ne-ALLOWED.false
           (c.in_ok-reason.ensures.after c.if-reason-ne-ALLOWED.false) (c.loop-event.invariant.so_far more);
       number = omega (arith, counted.0, c.loop-event.invariant.number);

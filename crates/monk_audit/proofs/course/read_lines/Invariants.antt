@@ -1,4 +1,4 @@
-use Rattle.std.proofs.Common.{◌≡◌, ◌+◌, ◌^◌, ◌++◌, ℕ, List}
+use Rattle.std.proofs.Common.{◌≡◌, ◌+◌, ◌≤◌, ◌^◌, ◌++◌, ℕ, List}
 use Rattle.monk_history.specs.Text.Pieces.{items_with}
 use Rattle.monk_history.specs.Text.Reading.{event_under}
 use Rattle.monk_audit.specs.Reading.{read_through}
@@ -9,8 +9,8 @@ abbrev pub invariant-loop-event : goal.invariant-loop-event
 invariant-loop-event l = record {
   so_far : (more : List ℕ) → read_through (items_with (event_under l.header) l.lines more)
       ≡ read_through (events_from l.header l.fn.count (l.fn.bytes ++ more));
-  number : l.lines.number ≡ l.read + 2;
-  room : l.read + l.lines.room ≡ 2 ^ 25;
+  number : l.lines.number + l.lines.room ≡ 2 ^ 25 + 2;
+  room : l.lines.room ≤ 2 ^ 25;
 }
 
 abbrev pub decreases-loop-event : goal.decreases-loop-event

@@ -7,30 +7,33 @@ ghost use Rattle.monk_history.specs.Text.Pieces.{IsHeadOf, IsNextOfPiece, items_
 
 use crate::text::fault::ReadFault;
 use crate::text::lines::left::header_of;
-use crate::text::lines::next::next_item;
+use crate::text::lines::next::next_item_for;
 use crate::text::lines::record::{Head, Record};
 use crate::text::lines::split::split_once;
 use std::marker::Model;
 
 /// The lines that end in a piece of a text and are not yet read. Contracts see the bytes, the number of their first line,
 /// and for how many lines there is room.
+///
+/// The number of a line is told from the room that is left, so that a line costs one counter.
 #[derive(Drop)]
 pub struct PieceLines<'a> {
+    /// The number of the line behind the last for which there is room.
+    end: u32,
     rest: &'a [u8],
-    number: u32,
     room: u32,
 }
 
 impl<'a> Model for PieceLines<'a> {
-    ghost use Rattle.std.specs.Prelude.{◌+◌, ◌≤◌};
+    ghost use Rattle.std.specs.Prelude.{◌+◌, ◌-◌, ◌≤◌};
     ghost use Rattle.monk_history.specs.Limits.{most_lines};
     ghost use Rattle.monk_history.specs.Text.Pieces.{PieceLeft, piece_left};
 
     ghost Value = { PieceLeft };
 
-    ghost view = { λ l. piece_left l.rest.now l.number l.room };
+    ghost view = { λ l. piece_left l.rest.now (l.end - l.room) l.room };
 
-    ghost invariant = { λ l. l.number + l.room ≤ most_lines + 2 };
+    ghost invariant = { λ l. (l.room ≤ l.end) × (l.end ≤ most_lines + 2) };
 }
 
 impl<'a> PieceLines<'a> {
@@ -40,8 +43,8 @@ impl<'a> PieceLines<'a> {
         ensures { result ≡ piece_left bytes.entry.now number room }
     {
         PieceLines {
+            end: number + room,
             rest: bytes,
-            number,
             room,
         }
     }
@@ -54,20 +57,39 @@ impl<'a> PieceLines<'a> {
             (λ x. IfSome x (λ _. (self.new.number ≡ self.old.number + 1) × (self.new.room + 1 ≡ self.old.room))) }
         ensures none { result ≡ Ok None → (self.new ≡ self.old) × (is_unended self.new.bytes ≡ true) }
     {
-        let Some((item, after)) = next_item(header, self.rest) else {
+        self.next_for::<H, A, A>(header)
+    }
+
+    /// The same, for a caller that reads many lines: it names a type of its own, and so gets code of its own, which the
+    /// compiler then puts in the place of the call. Nothing else depends on that type.
+    #[inline(always)]
+    pub fn next_for<H, A: Record<H>, Caller>(&mut self, header: &H) -> Result<Option<A>, ReadFault>
+        ensures item { IsNextOfPiece result (items_with (A.parse header.now) self.old) (items_with (A.parse header.now) self.new) }
+        ensures counted { IfOk result
+            (λ x. IfSome x (λ _. (self.new.number ≡ self.old.number + 1) × (self.new.room + 1 ≡ self.old.room))) }
+        ensures none { result ≡ Ok None → (self.new ≡ self.old) × (is_unended self.new.bytes ≡ true) }
+    {
+        let Some((item, after)) = next_item_for::<H, A, Caller>(header, self.rest) else {
             return Ok(None);
         };
         if self.room == 0 {
-            return Err(ReadFault::at(ReadFault::LONG, self.number));
+            return Err(ReadFault::at(ReadFault::LONG, self.end));
         }
         let item: A = match item {
             Ok(item) => item,
-            Err(flaw) => return Err(flaw.at(self.number)),
+            Err(flaw) => return Err(flaw.at(self.end - self.room)),
         };
         self.rest = after;
-        self.number += 1;
         self.room -= 1;
         Ok(Some(item))
+    }
+
+    /// For how many further lines there is room.
+    #[inline(always)]
+    pub fn room(&self) -> u32
+        ensures { result ≡ self.now.room }
+    {
+        self.room
     }
 
     /// The bytes that are not yet read.

@@ -31,8 +31,10 @@ pub trait Record<H>: Copy {
 
     /// Reads it where its line stands at the front of the bytes, and says how many bytes the line takes with its end.
     /// `None` says nothing: the line is then read by its words. It is for records that can be read faster than that.
+    ///
+    /// `Caller` gives each caller that names a type of its own a copy of the code of its own; nothing depends on it.
     #[inline(always)]
-    fn at_front(header: &H, bytes: &[u8]) -> Option<(Self, usize)>
+    fn at_front<Caller>(header: &H, bytes: &[u8]) -> Option<(Self, usize)>
         ensures { IfSome result (λ r. IsAtFront (parse header.now) bytes.now r.0 r.1) }
     {
         None
