@@ -1,4 +1,8 @@
+pub mod PublicLaws
 mod LogLaws
 mod CourseLaws
 mod VerdictLaws
+mod CompletionLaws
 mod StepLaws
+mod OrderLaws
+mod BoardLaws

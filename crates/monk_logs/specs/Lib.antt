@@ -4,3 +4,14 @@ pub mod Fits
 pub mod Course
 pub mod Stand
 pub mod Verdict
+pub mod Kept
+pub mod Told
+pub mod Completion
+pub mod Ending
+pub mod Order
+pub mod Chances
+pub mod Run
+pub mod Items
+pub mod Board
+pub mod FitsIn
+pub mod BoardCourse

@@ -3,82 +3,17 @@
 ghost use Rattle.std.specs.Prelude.{◌≡◌, ◌≤◌, ◌<◌, IfOk, OnOk, IsErrOf, length};
 ghost use Rattle.monk_object.specs.Names.{most};
 ghost use Rattle.monk_history.specs.Limits.{most_lines};
-ghost use Rattle.monk_history.specs.Meaning.Monitor.{monitor};
 ghost use Rattle.monk_logs.specs.Stand.{verdict_on};
 ghost use Rattle.monk_logs.specs.Verdict.{FitsExactly, MisfitsExactly, log_monitor};
 
-use crate::blame::LineVerdict;
+use crate::following::follow_log;
 use crate::header::LogHeader;
 use crate::line::LogLine;
-use crate::pending::Pending;
-use crate::setting::Setting;
-use crate::steps::line_behind;
+use crate::past::Past;
 use crate::verdict::LogVerdict;
-use monk_audit::{AuditFault, Replay, rules_by_name};
+use monk_audit::AuditFault;
 use monk_kinds::KindName;
-use monk_object::{Book, Buffer, Guarded, ObjectName, Shop};
-use std::alloc::{AllocError, Global};
-
-/// Judges the lines one after the other, over the object in its opening state.
-fn judge_over<T: Guarded>(
-    alloc: Global,
-    object: T,
-    setting: Setting,
-    lines: &[LogLine],
-) -> Result<LogVerdict, AllocError>
-    requires { length lines.now ≤ most_lines }
-    ensures { IfOk result
-        (λ v. v ≡ verdict_on (monitor setting.rules setting.seats setting.conds T.meaning (T.state object)) lines.now) }
-{
-    let mut object = object;
-    let mut replay = Replay::opening(alloc, setting.seats, setting.conds)?;
-    let mut pending = Pending::Settled;
-    for (i, line) in lines.iter().enumerate() {
-        match line_behind(setting, &mut replay, &mut object, pending, *line)? {
-            LineVerdict::Fits(left) => pending = left,
-            LineVerdict::Misfits(blame) => {
-                let line = i as u32 + 1;
-                return Ok(LogVerdict::Misfit { line, blame });
-            }
-        }
-    }
-    Ok(LogVerdict::Fits)
-}
-
-/// Makes the object that the header names, and judges the lines.
-fn judge_object(
-    alloc: Global,
-    header: &LogHeader,
-    lines: &[LogLine],
-    kind: KindName,
-) -> Result<LogVerdict, AuditFault>
-    requires { length lines.now ≤ most_lines }
-    ensures verdict { IfOk result (λ v. v ≡ verdict_on (log_monitor kind header.now) lines.now) }
-    ensures fits { OnOk result (header.now.size ≤ most header.now.object) }
-    ensures object { IsErrOf result AuditFault.Object → most header.now.object < header.now.size }
-    ensures too_big { most header.now.object < header.now.size → IsErrOf result AuditFault.Object }
-{
-    let setting = Setting {
-        rules: rules_by_name(kind),
-        seats: header.seats(),
-        conds: header.conds(),
-    };
-    let size = header.size();
-    match header.object() {
-        ObjectName::Buffer => {
-            let buffer = Buffer::make(alloc, size)?;
-            Ok(judge_over(alloc, buffer, setting, lines)?)
-        }
-        ObjectName::Book => {
-            let book = Book::make(size)?;
-            Ok(judge_over(alloc, book, setting, lines)?)
-        }
-        ObjectName::Shop => {
-            let shop = Shop::make(size)?;
-            Ok(judge_over(alloc, shop, setting, lines)?)
-        }
-    }
-}
+use std::alloc::Global;
 
 /// Tells whether the log could be of a monitor of the kind, with queues in order of arrival, over the object that its
 /// first line names; and else which line is the first that can't. A log could be where some legal history begins with
@@ -110,5 +45,5 @@ pub fn judge(
     ensures object { IsErrOf result AuditFault.Object → most header.now.object < header.now.size }
     ensures too_big { most header.now.object < header.now.size → IsErrOf result AuditFault.Object }
 {
-    judge_object(alloc, header, lines, kind)
+    follow_log(alloc, header, lines, kind, &mut Past::Dropped)
 }

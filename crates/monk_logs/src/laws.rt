@@ -6,10 +6,31 @@ ghost use Rattle.monk_history.specs.Meaning.Monitor.{Monitor};
 ghost use Rattle.monk_logs.specs.declared.line.LogLine.{LogLine};
 ghost use Rattle.monk_logs.specs.Course.{judge};
 ghost use Rattle.monk_logs.specs.Fits.{IsOpen};
+ghost use Rattle.monk_logs.specs.Board.{board_steps, opening_board};
+ghost use Rattle.monk_logs.specs.Order.{IsLoose};
+ghost use Rattle.monk_logs.specs.Run.{IsRun};
+ghost use Rattle.monk_logs.specs.declared.order.Order.{Order};
+ghost use Rattle.monk_logs.specs.declared.order.Order.TheVariants.{Fifo, Wake, Any};
+ghost use Rattle.monk_logs.specs.declared.step.Step.{Step};
 
 /// No search is needed to tell whether a log could be of a monitor of a kind, in the order of its queues: judged line by line,
 /// it comes to its end exactly where some legal history begins with what the log tells. So the first line with which it
 /// doesn't is the first that no such history has.
 pub fn judged_is_open()
     ensures { (m : Monitor) (log : List LogLine) → IsKind m.kind → IsTrue (is_some (judge m log)) ↔ IsOpen m log }
+{}
+
+/// Where any seat of a queue may be chosen, and a signal may serve any seat of its condition, whom it served is known only later,
+/// if at all. Yet one pass tells whether a monitor may do these steps: a board, which keeps who came to wait and what signals
+/// gave, takes all of them exactly where some run has them. That holds for the orders `Wake` and `Any`.
+pub fn boards_are_exact()
+    ensures { (o : Order) → IsLoose o → (m : Monitor) → (steps : List Step)
+        → IsRun o m steps ↔ IsTrue (is_some (board_steps o m (opening_board m) steps)) }
+{}
+
+/// What a monitor may do in order of arrival it may do where any seat of a queue may be chosen, and what it may do then also where
+/// a signal may serve any seat of its condition.
+pub fn orders_widen()
+    ensures wake { (m : Monitor) → (steps : List Step) → IsRun Fifo m steps → IsRun Wake m steps }
+    ensures any { (m : Monitor) → (steps : List Step) → IsRun Wake m steps → IsRun Any m steps }
 {}

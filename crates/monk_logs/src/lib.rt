@@ -2,23 +2,36 @@
 #![tactic(auto)]
 
 mod blame;
+mod completing;
+mod completion;
+mod ending;
+mod following;
 mod header;
+mod item;
 mod judging;
 pub mod laws;
 mod line;
 mod line_reading;
+mod order;
+mod past;
 mod pending;
 mod reading;
 mod setting;
+mod step;
 mod steps;
 mod telling;
 mod verb;
 mod verdict;
 
 pub use blame::Blame;
+pub use completing::complete;
+pub use completion::Completion;
 pub use header::LogHeader;
+pub use item::Item;
 pub use judging::judge;
 pub use line::LogLine;
+pub use order::Order;
 pub use pending::Pending;
 pub use reading::{MOST_LOG_LINES, one_log_each, read_log};
+pub use step::Step;
 pub use verdict::LogVerdict;

@@ -1,13 +1,16 @@
 //! One line of a log, judged by how the monitor stands before it.
 
-ghost use Rattle.std.specs.Prelude.{◌≡◌, ◌==◌, ℕ, List, Ok, Err, IfOk, OnOk, if◌then◌else◌};
+ghost use Rattle.std.specs.Prelude.{◌≡◌, ◌==◌, ℕ, List, [], ◌∷◌, Ok, Err, IfOk, OnOk, if◌then◌else◌};
 ghost use Rattle.monk_audit.specs.Replay.{IsReplayOf, replay_situation};
 ghost use Rattle.monk_logs.specs.Course as course;
+ghost use Rattle.monk_logs.specs.Kept.{grown, kept};
 ghost use Rattle.monk_logs.specs.Stand as stands;
 ghost use Rattle.monk_logs.specs.Stand.{monitor_in, stand_or};
+ghost use Rattle.monk_logs.specs.Told.{line_events, told_events};
 
 use crate::blame::{Blame, LineVerdict};
 use crate::line::LogLine;
+use crate::past::Past;
 use crate::pending::Pending;
 use crate::setting::Setting;
 use crate::telling::told_release;
@@ -20,11 +23,13 @@ use std::alloc::AllocError;
 /// What stands for no test that an event fails.
 const ALLOWED: u8 = 0;
 
-/// Adds the event if it is allowed. Gives the first test that it fails, or 0.
+/// Adds the event if it is allowed. Gives the first test that it fails, or 0; where it fails one, neither the replay nor what is
+/// kept is of further use.
 fn add<T: Guarded>(
     setting: Setting,
     replay: &mut Replay,
     object: &mut T,
+    past: &mut Past,
     event: Event,
 ) -> Result<u8, AllocError>
     requires { IsReplayOf setting.seats setting.conds T.PREDICATES replay.old }
@@ -32,7 +37,9 @@ fn add<T: Guarded>(
         (λ r. (if r == 0 then Ok (replay_situation replay.new (T.state object.new)) else Err r)
         ≡ stands.add_to (monitor_in setting T.meaning) (replay_situation replay.old (T.state object.old)) event) }
     ensures sound { OnOk result (IsReplayOf setting.seats setting.conds T.PREDICATES replay.new) }
+    ensures kept { OnOk result (kept past.new ≡ grown (kept past.old) (event ∷ [])) }
 {
+    past.add(event)?;
     replay.carry_out(setting.rules, object, setting.conds, event)
 }
 
@@ -41,6 +48,7 @@ fn settle<T: Guarded>(
     setting: Setting,
     replay: &mut Replay,
     object: &mut T,
+    past: &mut Past,
     event: Event,
 ) -> Result<LineVerdict, AllocError>
     requires { IsReplayOf setting.seats setting.conds T.PREDICATES replay.old }
@@ -48,8 +56,9 @@ fn settle<T: Guarded>(
         (λ v. stand_or (replay_situation replay.new (T.state object.new)) v
         ≡ stands.settle (monitor_in setting T.meaning) (replay_situation replay.old (T.state object.old)) event) }
     ensures sound { OnOk result (IsReplayOf setting.seats setting.conds T.PREDICATES replay.new) }
+    ensures kept { OnOk result (kept past.new ≡ grown (kept past.old) (event ∷ [])) }
 {
-    let reason = add(setting, replay, object, event)?;
+    let reason = add(setting, replay, object, past, event)?;
     if reason == ALLOWED {
         Ok(LineVerdict::Fits(Pending::Settled))
     } else {
@@ -137,6 +146,7 @@ fn line_settled<T: Guarded>(
     setting: Setting,
     replay: &mut Replay,
     object: &mut T,
+    past: &mut Past,
     line: LogLine,
 ) -> Result<LineVerdict, AllocError>
     requires { IsReplayOf setting.seats setting.conds T.PREDICATES replay.old }
@@ -144,21 +154,25 @@ fn line_settled<T: Guarded>(
         (λ v. stand_or (replay_situation replay.new (T.state object.new)) v
         ≡ stands.line_settled (monitor_in setting T.meaning) (replay_situation replay.old (T.state object.old)) line) }
     ensures sound { OnOk result (IsReplayOf setting.seats setting.conds T.PREDICATES replay.new) }
+    ensures kept { OnOk result
+        (kept past.new ≡ grown (kept past.old) (line_events (replay_situation replay.old (T.state object.old)) line)) }
 {
     match line {
         LogLine::Enter(seat) => {
             let event = Event::Enter(seat, via_now(replay));
-            settle(setting, replay, object, event)
+            settle(setting, replay, object, past, event)
         }
         LogLine::Resume(seat) => {
             let event = Event::Resume(seat, due_from(replay.turn()));
-            settle(setting, replay, object, event)
+            settle(setting, replay, object, past, event)
         }
         LogLine::Broadcast(seat, cond) => {
-            settle(setting, replay, object, Event::SignalAll(seat, cond))
+            let event = Event::SignalAll(seat, cond);
+            settle(setting, replay, object, past, event)
         }
         LogLine::Act(seat, op, reply) => {
-            settle(setting, replay, object, Event::Act(seat, op, reply))
+            let event = Event::Act(seat, op, reply);
+            settle(setting, replay, object, past, event)
         }
         LogLine::Leave(seat) => {
             let event = Event::Leave(seat, Next::Stay);
@@ -208,6 +222,7 @@ fn line_told<T: Guarded>(
     setting: Setting,
     replay: &mut Replay,
     object: &mut T,
+    past: &mut Past,
     event: Event,
     line: LogLine,
 ) -> Result<LineVerdict, AllocError>
@@ -216,11 +231,14 @@ fn line_told<T: Guarded>(
         (λ v. stand_or (replay_situation replay.new (T.state object.new)) v
         ≡ stands.line_told (monitor_in setting T.meaning) (replay_situation replay.old (T.state object.old)) event line) }
     ensures sound { OnOk result (IsReplayOf setting.seats setting.conds T.PREDICATES replay.new) }
+    ensures kept { IfOk result
+        (λ v. (left : Pending) → v ≡ LineVerdict.Fits left → kept past.new
+        ≡ grown (kept past.old) (told_events T.meaning (replay_situation replay.old (T.state object.old)) (Pending.Release event) line)) }
 {
     let told = told_release(replay, event, line);
-    let reason = add(setting, replay, object, told)?;
+    let reason = add(setting, replay, object, past, told)?;
     if reason == ALLOWED {
-        line_settled(setting, replay, object, line)
+        line_settled(setting, replay, object, past, line)
     } else {
         Ok(LineVerdict::Misfits(Blame::Release(reason)))
     }
@@ -231,6 +249,7 @@ pub(crate) fn line_behind<T: Guarded>(
     setting: Setting,
     replay: &mut Replay,
     object: &mut T,
+    past: &mut Past,
     pending: Pending,
     line: LogLine,
 ) -> Result<LineVerdict, AllocError>
@@ -239,10 +258,13 @@ pub(crate) fn line_behind<T: Guarded>(
         (λ v. stand_or (replay_situation replay.new (T.state object.new)) v
         ≡ stands.line_behind (monitor_in setting T.meaning) (replay_situation replay.old (T.state object.old)) pending line) }
     ensures sound { OnOk result (IsReplayOf setting.seats setting.conds T.PREDICATES replay.new) }
+    ensures kept { IfOk result
+        (λ v. (left : Pending) → v ≡ LineVerdict.Fits left → kept past.new
+        ≡ grown (kept past.old) (told_events T.meaning (replay_situation replay.old (T.state object.old)) pending line)) }
 {
     match pending {
-        Pending::Settled => line_settled(setting, replay, object, line),
+        Pending::Settled => line_settled(setting, replay, object, past, line),
         Pending::Half(seat, cond) => Ok(line_half(setting, replay, object, seat, cond, line)),
-        Pending::Release(event) => line_told(setting, replay, object, event, line),
+        Pending::Release(event) => line_told(setting, replay, object, past, event, line),
     }
 }

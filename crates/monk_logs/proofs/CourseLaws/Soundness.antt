@@ -1,7 +1,7 @@
 -- A log that is judged well is open: what was taken for its events is a legal history that tells it
 use Rattle.std.proofs.Common.{◌≡◌, ℕ, Bool, true, false, cond, List, [], ◌∷◌, ◌++◌, Option, Some, None, refl, sym, ap, subst, ◌∙◌}
 use Rattle.std.proofs.lemmas.Bool.{eqb-true}
-use Rattle.std.proofs.lemmas.List.{append-nil, append_assoc}
+use Rattle.std.proofs.lemmas.List.{append-nil, append_assoc, same_from_push}
 use Rattle.std.specs.Option.{option_map}
 use Rattle.std.specs.Prelude.{◌==◌}
 use Rattle.monk_kinds.specs.Kind.{IsKind}
@@ -32,24 +32,28 @@ use Rattle.monk_logs.proofs.CourseLaws.Lists.{erasure-push}
 use Rattle.monk_logs.proofs.CourseLaws.Tests.{passed, called_from_tests}
 
 -- the lines of what is still to be known
-abbrev rest_of : Pending → List LogLine
+abbrev pub rest_of : Pending → List LogLine
 rest_of Settled = []
 rest_of (Half s c) = Signal s c ∷ []
 rest_of (Release e) = erased e
 
+-- the last of the events has no choice
+abbrev pub EndsSettled : List Event → Type 0
+EndsSettled past = (before : List Event) (e : Event) → past ≡ before ++ e ∷ [] → next_of e ≡ None
+
 -- what is known of it
-abbrev IsStill : Monitor → List Event → Pending → Type 0
-IsStill m past Settled = Unit {0}
+abbrev pub IsStill : Monitor → List Event → Pending → Type 0
+IsStill m past Settled = EndsSettled past
 IsStill m past (Half s c) = MayCall m past (event.SignalLeave s c Stay)
 IsStill m past (Release e) = MayCall m past e × (next_of e ≡ Some Stay)
 
 -- what a log has come to
-record Tells (m : Monitor) (log : List LogLine) (past : List Event) (pending : Pending) : Type 0 where
-  legal : IsLegal m past
-  told : erasure past ++ rest_of pending ≡ log
-  still : IsStill m past pending
+pub record Tells (m : Monitor) (log : List LogLine) (past : List Event) (pending : Pending) : Type 0 where
+  pub legal : IsLegal m past
+  pub told : erasure past ++ rest_of pending ≡ log
+  pub still : IsStill m past pending
 
-abbrev TellsAt : Monitor → List LogLine → Course → Type 0
+abbrev pub TellsAt : Monitor → List LogLine → Course → Type 0
 TellsAt m log c = Tells m log c.past c.pending
 
 -- ---- what is added
@@ -66,19 +70,24 @@ told_more : (past g : List Event) (e : Event) (log : List LogLine) → g ≡ pas
 told_more past g e log is told =
     ap erasure is ∙ erasure-push past e ∙ ap (λ (x : List LogLine). x ++ erased e) told
 
+ends_with : (past g : List Event) (e : Event) → g ≡ past ++ e ∷ [] → next_of e ≡ None → EndsSettled g
+ends_with past g e is none = λ before x k.
+    ap next_of (sym (same_from_push past before e x (sym is ∙ k)).1) ∙ none
+
 settled_tells : (m : Monitor) (past : List Event) (e : Event) (log : List LogLine) (o : Option (List Event)) (c : Course)
-    → add m past e ≡ o → option_map settled o ≡ Some c → IsLegal m past → erasure past ≡ log → TellsAt m (log ++ erased e) c
-settled_tells m past e log None c is h legal told = absurd cc
-settled_tells m past e log (Some g) c is h legal told =
+    → add m past e ≡ o → option_map settled o ≡ Some c → next_of e ≡ None → IsLegal m past → erasure past ≡ log
+    → TellsAt m (log ++ erased e) c
+settled_tells m past e log None c is h none legal told = absurd cc
+settled_tells m past e log (Some g) c is h none legal told =
     let a = added m past g e is legal in
     let same : settled g ≡ c = cc in
     subst (TellsAt m (log ++ erased e)) same (record {
       legal = a.0;
       told = append-nil (erasure g) ∙ told_more past g e log a.1 told;
-      still = tt;
+      still = ends_with past g e a.1 none;
     })
 
-held_tells : (m : Monitor) (past : List Event) (e : Event) (p : Pending) (c : Course) → hold m past e p ≡ Some c
+pub held_tells : (m : Monitor) (past : List Event) (e : Event) (p : Pending) (c : Course) → hold m past e p ≡ Some c
     → MayCall m past e × (course past p ≡ c)
 held_tells m past e p c h =
     let q = passed (reason_before 0 m (situation m past) e) (course past p) c h in
@@ -107,19 +116,19 @@ signal_tells m past s c log d false h legal told = release_tells m past (event.S
 behind_events_tells : (m : Monitor) (past : List Event) (log : List LogLine) (l : LogLine) (c : Course)
     → behind_events m past l ≡ Some c → IsLegal m past → erasure past ≡ log → TellsAt m (log ++ l ∷ []) c
 behind_events_tells m past log (Enter s) c h legal told =
-    settled_tells m past (event.Enter s (cond (is_empty past) Free Handed)) log _ c refl h legal told
+    settled_tells m past (event.Enter s (cond (is_empty past) Free Handed)) log _ c refl h refl legal told
 behind_events_tells m past log (Resume s) c h legal told =
-    settled_tells m past (event.Resume s (due_from (turn past))) log _ c refl h legal told
+    settled_tells m past (event.Resume s (due_from (turn past))) log _ c refl h refl legal told
 behind_events_tells m past log (Lapse s) c h legal told = absurd cc
 behind_events_tells m past log (Leave s) c h legal told = release_tells m past (event.Leave s Stay) log c h refl legal told
 behind_events_tells m past log (Wait s d) c h legal told = release_tells m past (event.Wait s d Stay) log c h refl legal told
 behind_events_tells m past log (Signal s d) c h legal told =
     signal_tells m past s d log c (returns_at_once m.kind.mode) h legal told
-behind_events_tells m past log (Broadcast s d) c h legal told = settled_tells m past (event.SignalAll s d) log _ c refl h legal told
+behind_events_tells m past log (Broadcast s d) c h legal told = settled_tells m past (event.SignalAll s d) log _ c refl h refl legal told
 behind_events_tells m past log (Until s p) c h legal told = release_tells m past (event.Until s p Stay) log c h refl legal told
-behind_events_tells m past log (Act s op r) c h legal told = settled_tells m past (event.Act s op r) log _ c refl h legal told
+behind_events_tells m past log (Act s op r) c h legal told = settled_tells m past (event.Act s op r) log _ c refl h refl legal told
 
-cond_some : {X : Type 0} (b : Bool) (o : Option X) (y : X) → cond b o None ≡ Some y → (b ≡ true) × (o ≡ Some y)
+pub cond_some : {X : Type 0} (b : Bool) (o : Option X) (y : X) → cond b o None ≡ Some y → (b ≡ true) × (o ≡ Some y)
 cond_some true o y h = (refl, h)
 cond_some false o y h = absurd cc
 
@@ -141,7 +150,7 @@ behind_half_tells m past s c (Wait j x) d h legal =
     subst (λ (k : ℕ). TellsAt m (erasure past ++ Signal s c ∷ Wait k x ∷ []) d) (sym (eqb-true j s p.0))
     (release_tells m past (event.SignalWait s c x Stay) (erasure past) d p.1 refl legal refl)
 
-erased_with_next : (x : Next) (e : Event) → erased (with_next x e) ≡ erased e
+pub erased_with_next : (x : Next) (e : Event) → erased (with_next x e) ≡ erased e
 erased_with_next x (event.Enter s via) = refl
 erased_with_next x (event.Act s op r) = refl
 erased_with_next x (event.Leave s y) = refl
@@ -186,7 +195,7 @@ judged_tells m log (l ∷ more) (Some c) d h tells =
 
 -- ---- what is open
 
-release_right : (m : Monitor) (past : List Event) (e : Event) → next_of e ≡ Some Stay
+pub release_right : (m : Monitor) (past : List Event) (e : Event) → next_of e ≡ Some Stay
     → is_right_reply m.object (situation m past).state e ≡ true
 release_right m past (event.Enter s via) h = refl
 release_right m past (event.Act s op r) h = absurd cc
@@ -234,11 +243,15 @@ tells_open m log past (Half s c) kind t =
 tells_open m log past (Release e) kind t =
     subst (IsOpen m) t.told (release_open m past e kind t.legal t.still.0 t.still.1)
 
-tells_from : (m : Monitor) (log : List LogLine) (d : Course) → judge m log ≡ Some d → TellsAt m log d
+nothing_before : (before : List Event) (e : Event) → [] ≡ before ++ e ∷ [] → next_of e ≡ None
+nothing_before [] e h = absurd cc
+nothing_before (x ∷ before) e h = absurd cc
+
+pub tells_from : (m : Monitor) (log : List LogLine) (d : Course) → judge m log ≡ Some d → TellsAt m log d
 tells_from m log d h =
     judged_tells m [] log (Some (settled [])) d h
     (λ c is. let same : settled [] ≡ c = cc in
-    subst (TellsAt m []) same (record { legal = legal_none m; told = refl; still = tt }))
+    subst (TellsAt m []) same (record { legal = legal_none m; told = refl; still = λ before e is. nothing_before before e is }))
 
 -- what was taken for the events of a log is legal
 pub judged_legal : (m : Monitor) (log : List LogLine) (d : Course) → judge m log ≡ Some d → IsLegal m d.past

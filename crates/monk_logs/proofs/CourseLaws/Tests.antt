@@ -53,10 +53,10 @@ tests_from_called m t e c =
 
 -- ---- all six
 
-abbrev first_of_six : Bool → Bool → Bool → Bool → Bool → Bool → ℕ
+abbrev pub first_of_six : Bool → Bool → Bool → Bool → Bool → Bool → ℕ
 first_of_six a b c d e f = cond (not a) 1 (cond (not b) 2 (cond (not c) 3 (cond (not d) 4 (cond (not e) 5 (cond (not f) 6 0)))))
 
-none_of_six : (a b c d e f : Bool) → a ≡ true → b ≡ true → c ≡ true → d ≡ true → e ≡ true → f ≡ true
+pub none_of_six : (a b c d e f : Bool) → a ≡ true → b ≡ true → c ≡ true → d ≡ true → e ≡ true → f ≡ true
     → first_of_six a b c d e f ≡ 0
 none_of_six a b c d e f g h i j k l = rw (g, h, i, j, k, l) refl
 

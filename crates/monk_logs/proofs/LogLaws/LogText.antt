@@ -47,6 +47,14 @@ log_one h g xs ys one two same =
     xs ys one.header_fits one.lines_fit two.header_fits two.lines_fit same in
     ap (λ (x : LogHeading). log x xs) is.0 ∙ ap (λ (x : List LogLine). log g x) is.1
 
+-- what was read of a log has its text
+pub log_read : (limit : ℕ) (bytes : List ℕ) (x : Log) → log_at limit bytes ≡ Ok x
+    → HasLogText x.0 x.1 × (length x.1 ≤ limit) × (bytes ≡ log_text x.0 x.1)
+log_read limit bytes x is =
+    let r = formats.text_read log_header_words log_header_at IsLogHeading headers log_words line_under FitsUnder lines
+    limit bytes x.0 x.1 is in
+    (record { header_fits = r.head_fits; lines_fit = r.fit }, r.few, r.whole)
+
 -- ---- what a function gives
 
 pub is_found : (limit : ℕ) (bytes : List ℕ) (r : Result (LogHeading × Vec LogLine) ReadFault)

@@ -42,7 +42,7 @@ added : (k : Rules) (seats conds : ℕ) (o : Object) (d : List ℕ) (t : Situati
 unfolding reason_in
 added k seats conds o d t e = refl
 
-line_apart : (k : Rules) (seats conds : ℕ) (o : Object) (d : List ℕ) (t : Situation) (p : Pending) (l : LogLine)
+pub line_apart : (k : Rules) (seats conds : ℕ) (o : Object) (d : List ℕ) (t : Situation) (p : Pending) (l : LogLine)
     → line_behind (monitor k seats conds o []) t p l ≡ line_behind (monitor k seats conds o d) t p l
 line_apart k seats conds o d t Settled l = settled_line k seats conds o d t l
 line_apart k seats conds o d t (Half s c) (Enter j) = refl

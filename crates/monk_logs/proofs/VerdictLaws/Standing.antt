@@ -69,7 +69,7 @@ holds m past e p =
 
 -- ---- a line
 
-via_same : (b : Bool) → cond b Free Handed ≡ cond (not b) Handed Free
+pub via_same : (b : Bool) → cond b Free Handed ≡ cond (not b) Handed Free
 via_same true = refl
 via_same false = refl
 

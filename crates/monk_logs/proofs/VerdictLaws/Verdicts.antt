@@ -50,7 +50,7 @@ judged_one : (m : Monitor) (c : Course) (l : LogLine) → judge_from m (Some c) 
 unfolding judge_from
 judged_one m c l = judged_end m (behind m c.past c.pending l)
 
-judged_more : (m : Monitor) (front : List LogLine) (c : Course) (l : LogLine) → judge m front ≡ Some c
+pub judged_more : (m : Monitor) (front : List LogLine) (c : Course) (l : LogLine) → judge m front ≡ Some c
     → judge m (front ++ l ∷ []) ≡ behind m c.past c.pending l
 judged_more m front c l is =
     judge_from-append m (Some (settled [])) front (l ∷ [])
@@ -83,7 +83,7 @@ verdict_holds m front (l ∷ more) c kind is =
     (judged_open m front c kind is) (judged_more m front c l is) (line_same m c.past c.pending l (judged_legal m front c is))
     (λ d k. verdict_holds m (front ++ l ∷ []) more d kind k)
 
-judged_none : (m : Monitor) → judge m [] ≡ Some (settled [])
+pub judged_none : (m : Monitor) → judge m [] ≡ Some (settled [])
 unfolding judge_from
 judged_none m = refl
 

@@ -12,14 +12,14 @@ pub returns-clause-fits : goal.returns-clause-fits
 returns-clause-fits c =
     let m = log_monitor c.args.kind c.args.header.now in
     let log = c.args.lines.now in
-    IfOk-weaker c.judge_object.result (λ (v : LogVerdict). v ≡ verdict_on m log) (FitsExactly m log)
+    IfOk-weaker c.follow_log.result (λ (v : LogVerdict). v ≡ verdict_on m log) (FitsExactly m log)
     (λ v is. fits_exactly m log v (subst (IsVerdictOn m log) (sym is) (verdict_is m log (each_is_kind c.args.kind))))
-    c.judge_object.ensures.verdict
+    c.follow_log.ensures.verdict
 
 pub returns-clause-misfit : goal.returns-clause-misfit
 returns-clause-misfit c =
     let m = log_monitor c.args.kind c.args.header.now in
     let log = c.args.lines.now in
-    IfOk-weaker c.judge_object.result (λ (v : LogVerdict). v ≡ verdict_on m log) (MisfitsExactly m log)
+    IfOk-weaker c.follow_log.result (λ (v : LogVerdict). v ≡ verdict_on m log) (MisfitsExactly m log)
     (λ v is. misfits_exactly m log v (subst (IsVerdictOn m log) (sym is) (verdict_is m log (each_is_kind c.args.kind))))
-    c.judge_object.ensures.verdict
+    c.follow_log.ensures.verdict

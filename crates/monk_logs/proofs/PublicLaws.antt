@@ -1,0 +1,6 @@
+-- What other crates may cite of logs.
+
+-- The laws of the text of a log: what is read has that text, and what has a text is read from it.
+pub use Rattle.monk_logs.proofs.LogLaws.LogText.{log_again, log_read}
+-- What the verdict on a log says of legal histories, under each kind.
+pub use Rattle.monk_logs.proofs.CompletionLaws.Found.{kind_fits, kind_misfits}

@@ -1,0 +1,68 @@
+-- Which history completes a log
+use Rattle.std.specs.Prelude.{◌≡◌, ◌≤◌, Bool, List, length, [], ◌∷◌, ◌++◌, Option, Some, None, false, if◌then◌else◌}
+use Rattle.std.specs.List.{last_or}
+use Rattle.monk_kinds.specs.declared.mode.Mode.{Mode}
+use Rattle.monk_kinds.specs.declared.mode.Pick.TheVariants.{Entry as WishEntry}
+use Rattle.monk_kinds.specs.declared.mode.Rules.{Rules}
+use Rattle.monk_object.specs.Object.{Object}
+use Rattle.monk_history.specs.declared.event.Event.{Event}
+use Rattle.monk_history.specs.declared.event.Next.{Next}
+use Rattle.monk_history.specs.Meaning.Events.{next_of, returns_at_once}
+use Rattle.monk_history.specs.Meaning.Legal.{IsLegal}
+use Rattle.monk_history.specs.Meaning.Monitor.{Monitor}
+use Rattle.monk_history.specs.Meaning.Release.{choice_of}
+use Rattle.monk_history.specs.Meaning.Situation.{Situation, situation}
+use Rattle.monk_logs.specs.Erasure.{erasure}
+use Rattle.monk_logs.specs.Kept.{kept_if}
+use Rattle.monk_logs.specs.declared.completion.Completion.{Completion}
+use Rattle.monk_logs.specs.declared.completion.Completion.TheVariants as completion
+use Rattle.monk_logs.specs.declared.line.LogLine.{LogLine}
+use Rattle.monk_logs.specs.declared.line.LogLine.TheVariants.{Enter, Resume, Lapse, Leave, Wait, Signal, Broadcast, Until, Act}
+use Rattle.monk_logs.specs.declared.verdict.LogVerdict.{LogVerdict}
+use Rattle.monk_logs.specs.declared.verdict.LogVerdict.TheVariants as verdict
+
+-- the line by which a signaller leaves
+abbrev pub leaving : Option LogLine → List LogLine
+leaving None = []
+leaving (Some (Enter s)) = []
+leaving (Some (Resume s)) = []
+leaving (Some (Lapse s)) = []
+leaving (Some (Leave s)) = []
+leaving (Some (Wait s c)) = []
+leaving (Some (Signal s c)) = Leave s ∷ []
+leaving (Some (Broadcast s c)) = []
+leaving (Some (Until s p)) = []
+leaving (Some (Act s op r)) = []
+
+-- what completes the last line: under immediate return a signal is told by two
+abbrev pub other_half : Mode → List LogLine → List LogLine
+other_half k log = if returns_at_once k then leaving (last_or None log) else []
+
+-- what a release chooses where nobody wishes for anything
+abbrev pub unwished : Rules → Object → Situation → Event → Next
+unwished k o t e = choice_of k o t e false WishEntry
+
+-- the history is legal and tells the log, by no more events than the log has lines. Where the log ends with a release its choice
+-- is the one without a wish
+pub record Completes (m : Monitor) (log : List LogLine) (h : List Event) : Type 0 where
+  pub legal : IsLegal m h
+  pub erases : erasure h ≡ log ++ other_half m.kind.mode log
+  pub few : length h ≤ length log
+  pub last_choice : (before : List Event) (e : Event) (x : Next) → h ≡ before ++ e ∷ [] → next_of e ≡ Some x
+      → x ≡ unwished m.kind m.object (situation m before) e
+
+-- the events of such a history are kept, if any are wanted
+pub record IsCompletedBy (m : Monitor) (log : List LogLine) (wanted : Bool) (now : Option (List Event)) : Type 0 where
+  pub history : List Event
+  pub completes : Completes m log history
+  pub keeps : now ≡ kept_if wanted history
+
+-- a completion that is a history completes the log
+abbrev pub IsCompletionOf : Monitor → List LogLine → Completion → Type 0
+IsCompletionOf m log (completion.History events) = Completes m log events.items
+IsCompletionOf m log (completion.Misfit line why) = Unit {0}
+
+-- the verdict that a completion has in it
+abbrev pub verdict_in : Completion → LogVerdict
+verdict_in (completion.History events) = verdict.Fits
+verdict_in (completion.Misfit line why) = verdict.Misfit line why

@@ -1,0 +1,43 @@
+-- The release with which a log ends
+use Rattle.std.specs.Prelude.{ℕ, ◌==◌, Bool, List, [], ◌∷◌, Option, Some, None, slice_get, if◌then◌else◌}
+use Rattle.std.specs.Option.{option_map, option_map_or}
+use Rattle.monk_kinds.specs.declared.mode.Rules.{Rules}
+use Rattle.monk_object.specs.Object.{Object}
+use Rattle.monk_history.specs.declared.event.Event.{Event}
+use Rattle.monk_history.specs.declared.event.Event.TheVariants.{SignalLeave}
+use Rattle.monk_history.specs.declared.event.Next.{Next}
+use Rattle.monk_history.specs.declared.event.Next.TheVariants as next
+use Rattle.monk_history.specs.Meaning.Choice.{Queues}
+use Rattle.monk_history.specs.Meaning.Events.{has_conditions}
+use Rattle.monk_history.specs.Meaning.Release.{with_next}
+use Rattle.monk_history.specs.Meaning.Situation.{Situation}
+use Rattle.monk_logs.specs.Completion.{unwished}
+use Rattle.monk_logs.specs.declared.pending.Pending.{Pending}
+use Rattle.monk_logs.specs.declared.pending.Pending.TheVariants.{Settled, Half, Release}
+
+-- the choice of the first of the inner waiters, if there is one
+abbrev pub inner_next : Rules → Queues → Option Next
+inner_next k q =
+    if has_conditions k.mode then option_map (λ j. next.Waiter j) (slice_get q.waiters 0)
+    else option_map (λ j. next.Until j) (slice_get q.ready 0)
+
+-- what is chosen without a wish, by the choice of that first one, by the front of the signaller queue, and by whether waiters
+-- may go before signallers: the caller stays where it is that front itself
+abbrev pub own_or : ℕ → ℕ → Next
+own_or j s = if j == s then next.Stay else next.Signaller j
+
+abbrev pub by_fronts : Option Next → Option ℕ → Bool → ℕ → Next
+by_fronts None None waiters_first s = next.Entry
+by_fronts None (Some j) waiters_first s = own_or j s
+by_fronts (Some x) None waiters_first s = x
+by_fronts (Some x) (Some j) waiters_first s = if waiters_first then x else own_or j s
+
+-- the release whose choice no line tells; of a signal that is half told the caller leaves
+abbrev pub last_release : Pending → Option Event
+last_release Settled = None
+last_release (Half s c) = Some (SignalLeave s c next.Stay)
+last_release (Release e) = Some e
+
+-- the same with its choice
+abbrev pub last_events : Rules → Object → Situation → Pending → List Event
+last_events k o t p = option_map_or (λ e. with_next (unwished k o t e) e ∷ []) (last_release p) []

@@ -1,0 +1,23 @@
+-- The events that are kept of a log, where they are wanted
+use Rattle.std.specs.Prelude.{◌≡◌, Bool, List, ◌++◌, Option, Some, None, if◌then◌else◌}
+use Rattle.std.specs.Option.{option_map}
+use Rattle.monk_history.specs.declared.event.Event.{Event}
+use Rattle.monk_logs.specs.declared.past.Past.{Past}
+use Rattle.monk_logs.specs.declared.past.Past.TheVariants.{Dropped, Kept}
+
+abbrev pub kept : Past → Option (List Event)
+kept Dropped = None
+kept (Kept events) = Some events.items
+
+-- the same with more events
+abbrev pub grown : Option (List Event) → List Event → Option (List Event)
+grown o more = option_map (λ h. h ++ more) o
+
+-- these, if any are wanted
+abbrev pub kept_if : Bool → List Event → Option (List Event)
+kept_if wanted h = if wanted then Some h else None
+
+-- these are kept, if any are
+abbrev pub IsKept : Option (List Event) → List Event → Type 0
+IsKept None h = Unit {0}
+IsKept (Some g) h = g ≡ h
