@@ -58,7 +58,7 @@ fn put_front(
     let surface = surface_of(view, shown);
     surface.put_head(page)?;
     put_style(page)?;
-    surface.put_paper(page)?;
+    surface.put_background(page)?;
     put_heading(page, header)?;
     surface.put_columns(page)?;
     surface.put_lanes(page, view.seats)?;

@@ -18,7 +18,7 @@ text { fill: #1f2933; }
 ";
 
 /// Of what is drawn.
-const SHAPES: &str = ".paper { fill: #fff; }
+const SHAPES: &str = ".background { fill: #fff; }
 .grid { stroke: #e4e8ec; }
 .rail { stroke: #b8c1ca; stroke-dasharray: 2 4; }
 .active { fill: #2f6fdb; }
@@ -39,7 +39,7 @@ const SHAPES: &str = ".paper { fill: #fff; }
 /// In the dark.
 const DARK: &str = "@media (prefers-color-scheme: dark) {
 text { fill: #e6ebf0; } .soft, .note, .step { fill: #a3afbb; }
-.act, .note, .what, .tag { stroke: #12171d; } .wrong, .wish-tip { fill: #fc8181; } .paper { fill: #12171d; }
+.act, .note, .what, .tag { stroke: #12171d; } .wrong, .wish-tip { fill: #fc8181; } .background { fill: #12171d; }
 .grid { stroke: #232b34; } .rail { stroke: #4a5663; } .active { fill: #5b93f0; }
 .back { fill-opacity: .16; } .hand { stroke: #e6ebf0; } .hand-tip { fill: #e6ebf0; }
 .frame, .wish { stroke: #fc8181; }

@@ -1,4 +1,4 @@
-//! The paper with its lanes, columns and words.
+//! The background with its lanes, columns and words.
 
 ghost use Rattle.std.specs.Prelude.{◌≤◌};
 
@@ -55,9 +55,9 @@ impl Surface {
         page.push_str("<title>The history of a monitor</title>\n")
     }
 
-    /// Puts the paper.
-    pub(crate) fn put_paper(self, page: &mut String) -> Result<(), AllocError> {
-        page.push_str("<rect class=\"paper\" width=\"100%\" height=\"100%\"/>\n")
+    /// Puts the background.
+    pub(crate) fn put_background(self, page: &mut String) -> Result<(), AllocError> {
+        page.push_str("<rect class=\"background\" width=\"100%\" height=\"100%\"/>\n")
     }
 
     /// Puts a thin line for each column.

@@ -3,6 +3,7 @@
 
 mod audits;
 mod calls;
+mod completions;
 mod floor_entry;
 mod floor_histories;
 mod floor_steps;
@@ -10,6 +11,7 @@ mod full_floor;
 mod halls;
 mod kinds;
 mod logs;
+mod meeting;
 mod objects;
 mod play_texts;
 mod refused;

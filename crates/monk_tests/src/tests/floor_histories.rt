@@ -34,11 +34,7 @@ fn refusals_in_order(rt: HostRuntime) -> Result<(), Fail> {
         (32, 8, 2, None),
     ];
     for (seats, conds, budget, fault) in calls {
-        assert_eq!(rt;
-            refusal(&rt, seats, conds, budget)?,
-            fault,
-            "{seats} {conds} {budget}"
-        );
+        assert!(rt; refusal(&rt, seats, conds, budget)? == fault);
     }
     Ok(())
 }
@@ -259,12 +255,12 @@ fn looks<K: Kind>(floor: &Floor<K, Buffer>) -> (u32, u32, bool, u32)
 fn what_a_floor_tells(rt: HostRuntime) -> Result<(), Fail> {
     let mut floor: Floor<Pb, Buffer> = room(&rt)?;
     assert!(rt; runs_explicitly(&rt, &mut floor, &HOARE_HANDOVER[..5], Pick::Waiter)?);
-    assert_eq!(rt; looks(&floor), (13, 0, true, 1));
+    assert!(rt; looks(&floor) == (13, 0, true, 1));
     assert!(rt; floor.holds(Buffer::HAS_ITEM));
     assert!(rt; runs_explicitly(&rt, &mut floor, &HOARE_HANDOVER[5..], Pick::Waiter)?);
-    assert_eq!(rt; looks(&floor), (10, 1, false, 0));
-    assert_eq!(rt; floor.enters(), 2);
-    assert_eq!(rt; floor.history().len(), 11);
+    assert!(rt; looks(&floor) == (10, 1, false, 0));
+    assert!(rt; floor.enters() == 2);
+    assert!(rt; floor.history().len() == 11);
     Ok(())
 }
 
@@ -274,6 +270,6 @@ fn what_is_left_when_it_closes(rt: HostRuntime) -> Result<(), Fail> {
     assert!(rt; runs_explicitly(&rt, &mut floor, &HOARE_HANDOVER, Pick::Waiter)?);
     let (buffer, history) = floor.close();
     assert!(rt; buffer.holds(Buffer::HAS_ROOM));
-    assert_eq!(rt; history.len(), 11);
+    assert!(rt; history.len() == 11);
     Ok(())
 }

@@ -21,10 +21,7 @@ fn each_line_of_a_log(rt: HostRuntime) -> Result<(), Fail> {
     one_log_each();
     let (header, lines) = read_log(rt.alloc(), EACH)?;
     assert!(rt; header.object() == ObjectName::Shop);
-    assert_eq!(rt;
-        (header.seats(), header.conds(), header.size()),
-        (32, 8, 255)
-    );
+    assert!(rt; (header.seats(), header.conds(), header.size()) == (32, 8, 255));
     let greatest = Op {
         code: 255,
         arg: u32::MAX,
@@ -45,26 +42,24 @@ fn each_line_of_a_log(rt: HostRuntime) -> Result<(), Fail> {
     Ok(())
 }
 
+/// Texts, and what is told of them.
+static FAULTY_LOGS: [(&[u8], u8, u32); 9] = [
+    (b"", 1, 1),
+    (b"log 1 2 1 buffer 1", 4, 1),
+    (b"log 2 2 1 buffer 1\n", 1, 1),
+    (b"log 1 33 1 buffer 1\n", 1, 1),
+    (b"log 1 2 1 buffer 1\n", 0, 0),
+    (b"log 1 2 1 buffer 1\nenter 0 free\n", 2, 2),
+    (b"log 1 2 1 buffer 1\nenter 0\nwait 0 00\n", 3, 3),
+    (b"log 1 2 1 buffer 1\nenter 0\nsignal-all 0 0\n", 2, 3),
+    (b"log 1 2 1 buffer 1\nenter 0\nwait 0", 4, 3),
+];
+
 #[test]
 fn faulty_logs(rt: HostRuntime) {
-    assert_eq!(rt; outcome(&rt, b""), (1, 1));
-    assert_eq!(rt; outcome(&rt, b"log 1 2 1 buffer 1"), (4, 1));
-    assert_eq!(rt; outcome(&rt, b"log 2 2 1 buffer 1\n"), (1, 1));
-    assert_eq!(rt; outcome(&rt, b"log 1 33 1 buffer 1\n"), (1, 1));
-    assert_eq!(rt; outcome(&rt, b"log 1 2 1 buffer 1\n"), (0, 0));
-    assert_eq!(rt; outcome(&rt, b"log 1 2 1 buffer 1\nenter 0 free\n"), (2, 2));
-    assert_eq!(rt;
-        outcome(&rt, b"log 1 2 1 buffer 1\nenter 0\nwait 0 00\n"),
-        (3, 3)
-    );
-    assert_eq!(rt;
-        outcome(&rt, b"log 1 2 1 buffer 1\nenter 0\nsignal-all 0 0\n"),
-        (2, 3)
-    );
-    assert_eq!(rt;
-        outcome(&rt, b"log 1 2 1 buffer 1\nenter 0\nwait 0"),
-        (4, 3)
-    );
+    for (text, number, line) in FAULTY_LOGS.iter() {
+        assert!(rt; outcome(&rt, text) == (*number, *line));
+    }
 }
 
 #[test]

@@ -24,10 +24,7 @@ fn outcome(rt: &HostRuntime, bytes: &[u8]) -> (u8, u32) {
 fn lost_ticket(rt: HostRuntime) -> Result<(), Fail> {
     let (header, budget, commands) = read_play(rt.alloc(), LOST_TICKET)?;
     assert!(rt; header.kind() == KindName::Pb && header.object() == ObjectName::Buffer);
-    assert_eq!(rt;
-        (header.seats(), header.conds(), header.size(), budget),
-        (2, 2, 1, 8)
-    );
+    assert!(rt; (header.seats(), header.conds(), header.size(), budget) == (2, 2, 1, 8));
     let want = [
         (0, Command::Arrive),
         (0, Command::Out),
@@ -46,9 +43,8 @@ fn lost_ticket(rt: HostRuntime) -> Result<(), Fail> {
 fn each_action(rt: HostRuntime) -> Result<(), Fail> {
     let (header, budget, commands) = read_play(rt.alloc(), EACH)?;
     assert!(rt; header.kind() == KindName::Npis && header.object() == ObjectName::Shop);
-    assert_eq!(rt;
-        (header.seats(), header.conds(), header.size(), budget),
-        (32, 8, 255, MOST_BUDGET)
+    assert!(rt;
+        (header.seats(), header.conds(), header.size(), budget) == (32, 8, 255, MOST_BUDGET)
     );
     let greatest = Op {
         code: 255,
@@ -80,7 +76,7 @@ const EACH_OF_VERSION_TWO: &[u8] =
 #[test]
 fn each_action_of_version_two(rt: HostRuntime) -> Result<(), Fail> {
     let (header, _, commands) = read_play(rt.alloc(), EACH_OF_VERSION_TWO)?;
-    assert_eq!(rt; header.version(), 2);
+    assert!(rt; header.version() == 2);
     let want = [
         (0, Command::Arrive),
         (1, Command::SignalAll(255)),
@@ -88,61 +84,79 @@ fn each_action_of_version_two(rt: HostRuntime) -> Result<(), Fail> {
         (3, Command::SignalWait(0, 0, Pick::Signaller)),
     ];
     assert!(rt; commands.as_slice() == want.as_slice());
-    for (line, old, new) in [
-        ("0 signal-all 0\n", (2, 2), (0, 1)),
-        ("0 signal-all x\n", (2, 2), (3, 2)),
-        ("0 signal-all 0 waiter\n", (2, 2), (2, 2)),
-        ("0 signal-wait 0 0 waiter\n", (2, 2), (0, 1)),
-        ("0 signal-wait 0 waiter\n", (2, 2), (3, 2)),
-        ("0 signal 0 waiter\n", (0, 1), (0, 1)),
-    ] {
-        for (first, want) in [("play 1", old), ("play 2", new)] {
-            let text = format!(in rt.alloc(); "{first} PIR 2 2 buffer 1 8\n{line}")?;
-            assert_eq!(rt; outcome(&rt, text.as_bytes()), want, "{first} {line:?}");
-        }
+    Ok(())
+}
+
+/// What is told of the one text behind the other.
+fn outcome_of_both(rt: &HostRuntime, first: &[u8], second: &[u8]) -> Result<(u8, u32), Fail> {
+    let mut text = Vec::from_slice(rt.alloc(), first)?;
+    text.extend_from_slice(second)?;
+    Ok(outcome(rt, &text))
+}
+
+/// Lines that version 2 has besides, or that look like one, and what is told of each in both versions.
+static ACTIONS_OF_VERSION_TWO: [(&[u8], (u8, u32), (u8, u32)); 6] = [
+    (b"0 signal-all 0\n", (2, 2), (0, 1)),
+    (b"0 signal-all x\n", (2, 2), (3, 2)),
+    (b"0 signal-all 0 waiter\n", (2, 2), (2, 2)),
+    (b"0 signal-wait 0 0 waiter\n", (2, 2), (0, 1)),
+    (b"0 signal-wait 0 waiter\n", (2, 2), (3, 2)),
+    (b"0 signal 0 waiter\n", (0, 1), (0, 1)),
+];
+
+#[test]
+fn actions_in_both_versions(rt: HostRuntime) -> Result<(), Fail> {
+    for (line, old, new) in ACTIONS_OF_VERSION_TWO.iter() {
+        assert!(rt; outcome_of_both(&rt, b"play 1 PIR 2 2 buffer 1 8\n", line)? == *old);
+        assert!(rt; outcome_of_both(&rt, b"play 2 PIR 2 2 buffer 1 8\n", line)? == *new);
     }
     Ok(())
 }
 
+/// First lines, and what is told of them.
+static FIRST_LINES: [(&[u8], u8, u32); 12] = [
+    (b"", 1, 1),
+    (b"play 1 PB 1 0 buffer 1 2\n", 0, 0),
+    (b"play 1 PB 1 0 buffer 1 1\n", 1, 1),
+    (b"play 1 PB 1 0 buffer 1 1048577\n", 1, 1),
+    (b"play 1 PB 0 0 buffer 1 2\n", 1, 1),
+    (b"play 1 PB 1 0 buffer 1\n", 1, 1),
+    (b"play 1 PB 1 0 buffer 1 2 2\n", 1, 1),
+    (b"monk 1 PB 1 0 buffer 1\n", 1, 1),
+    (b"play 1 PB 1 0 buffer 1 1", 4, 1),
+    (b"play 2 PB 1 0 buffer 1 2\n", 0, 0),
+    (b"play 0 PB 1 0 buffer 1 2\n", 1, 1),
+    (b"play 3 PB 1 0 buffer 1 2\n", 1, 1),
+];
+
 #[test]
 fn first_lines(rt: HostRuntime) {
-    for (text, want) in [
-        ("", (1, 1)),
-        ("play 1 PB 1 0 buffer 1 2\n", (0, 0)),
-        ("play 1 PB 1 0 buffer 1 1\n", (1, 1)),
-        ("play 1 PB 1 0 buffer 1 1048577\n", (1, 1)),
-        ("play 1 PB 0 0 buffer 1 2\n", (1, 1)),
-        ("play 1 PB 1 0 buffer 1\n", (1, 1)),
-        ("play 1 PB 1 0 buffer 1 2 2\n", (1, 1)),
-        ("monk 1 PB 1 0 buffer 1\n", (1, 1)),
-        ("play 1 PB 1 0 buffer 1 1", (4, 1)),
-        ("play 2 PB 1 0 buffer 1 2\n", (0, 0)),
-        ("play 0 PB 1 0 buffer 1 2\n", (1, 1)),
-        ("play 3 PB 1 0 buffer 1 2\n", (1, 1)),
-    ] {
-        assert_eq!(rt; outcome(&rt, text.as_bytes()), want, "{text:?}");
+    for (text, number, line) in FIRST_LINES.iter() {
+        assert!(rt; outcome(&rt, text) == (*number, *line));
     }
     one_play_each();
 }
 
+/// Lines behind a good first line, and what is told of them.
+static FAULTY_LINES: [(&[u8], u8, u32); 11] = [
+    (b"0 arrive\n", 0, 1),
+    (b"0 leave anybody\n", 2, 2),
+    (b"0 leave\n", 2, 2),
+    (b"0 arrives\n", 2, 2),
+    (b"0 arrive 0\n", 2, 2),
+    (b"\n", 3, 2),
+    (b"0 act 256 0\n", 3, 2),
+    (b"0 act 0 4294967296\n", 3, 2),
+    (b"arrive 0\n", 3, 2),
+    (b"0 wait 01 entry\n", 3, 2),
+    (b"0 arrive\n1 look", 4, 3),
+];
+
 #[test]
 fn faulty_lines(rt: HostRuntime) -> Result<(), Fail> {
-    for (line, want) in [
-        ("0 arrive\n", (0, 1)),
-        ("0 leave anybody\n", (2, 2)),
-        ("0 leave\n", (2, 2)),
-        ("0 arrives\n", (2, 2)),
-        ("0 arrive 0\n", (2, 2)),
-        ("\n", (3, 2)),
-        ("0 act 256 0\n", (3, 2)),
-        ("0 act 0 4294967296\n", (3, 2)),
-        ("arrive 0\n", (3, 2)),
-        ("0 wait 01 entry\n", (3, 2)),
-        ("0 arrive\n1 look", (4, 3)),
-    ] {
-        let mut text = Vec::from_slice(rt.alloc(), b"play 1 PB 2 2 buffer 1 8\n")?;
-        text.extend_from_slice(line.as_bytes())?;
-        assert_eq!(rt; outcome(&rt, &text), want, "{line:?}");
+    for (text, number, line) in FAULTY_LINES.iter() {
+        let told = outcome_of_both(&rt, b"play 1 PB 2 2 buffer 1 8\n", text)?;
+        assert!(rt; told == (*number, *line));
     }
     Ok(())
 }

@@ -41,59 +41,71 @@ fn repeated(rt: &HostRuntime, text: &[u8], times: usize) -> Result<Vec<u8>, Fail
 
 #[test]
 fn whole_texts(rt: HostRuntime) {
-    assert_eq!(rt; outcome(&rt, RUN), (0, 8));
-    assert_eq!(rt; outcome(&rt, b"monk 1 PB 2 2 buffer 1\n"), (0, 0));
-    assert_eq!(rt; outcome(&rt, b""), (1, 1));
-    assert_eq!(rt; outcome(&rt, b"monk 1 PB 33 0 buffer 1\n"), (1, 1));
+    assert!(rt; outcome(&rt, RUN) == (0, 8));
+    assert!(rt; outcome(&rt, b"monk 1 PB 2 2 buffer 1\n") == (0, 0));
+    assert!(rt; outcome(&rt, b"") == (1, 1));
+    assert!(rt; outcome(&rt, b"monk 1 PB 33 0 buffer 1\n") == (1, 1));
 }
 
 #[test]
 fn cut_texts(rt: HostRuntime) {
     let mut ended = 0u32;
     for (cut, byte) in RUN.iter().enumerate() {
-        let got = outcome(&rt, &RUN[..cut]);
-        if cut == 0 {
-            assert_eq!(rt; got, (1, 1));
+        let want = if cut == 0 {
+            (1, 1)
         } else if RUN[cut - 1] == b'\n' {
-            assert_eq!(rt; got, (0, ended.wrapping_sub(1)), "at {cut}");
+            (0, ended.wrapping_sub(1))
         } else {
-            assert_eq!(rt; got, (4, ended.wrapping_add(1)), "at {cut}");
-        }
+            (4, ended.wrapping_add(1))
+        };
+        assert!(rt; outcome(&rt, &RUN[..cut]) == want);
         if *byte == b'\n' {
             ended = ended.wrapping_add(1);
         }
     }
 }
 
+/// What is told of the one text behind the other.
+fn outcome_of_both(rt: &HostRuntime, first: &[u8], second: &[u8]) -> Result<(u8, u32), Fail> {
+    let mut text = Vec::from_slice(rt.alloc(), first)?;
+    text.extend_from_slice(second)?;
+    Ok(outcome(rt, &text))
+}
+
+/// Lines behind a good header, and what is told of them.
+static FAULTY_LINES: [(&[u8], u8, u32); 13] = [
+    (b"enter 0  free\n", 2, 2),
+    (b"enter  0 free\n", 3, 2),
+    (b"enter +1 free\n", 3, 2),
+    (b"enter 256 free\n", 3, 2),
+    (b"enter 00 free\n", 3, 2),
+    (b"enter 0 free\r\n", 2, 2),
+    (b"enter 0\n", 2, 2),
+    (b"enter 0 free 1\n", 2, 2),
+    (b"enter 0 fr", 4, 2),
+    (b"act 0 0 4294967296 1\n", 3, 2),
+    (b"act 0 0 4294967295 18446744073709551616\n", 3, 2),
+    (b"until 0 1 stays\n", 2, 2),
+    (b"\n", 2, 2),
+];
+
 #[test]
 fn faulty_lines(rt: HostRuntime) -> Result<(), Fail> {
-    let mut twice = Vec::from_slice(rt.alloc(), RUN)?;
-    twice.extend_from_slice(RUN)?;
-    assert_eq!(rt; outcome(&rt, &twice), (2, 10));
-    for (line, want) in [
-        ("enter 0  free\n", (2, 2)),
-        ("enter  0 free\n", (3, 2)),
-        ("enter +1 free\n", (3, 2)),
-        ("enter 256 free\n", (3, 2)),
-        ("enter 00 free\n", (3, 2)),
-        ("enter 0 free\r\n", (2, 2)),
-        ("enter 0\n", (2, 2)),
-        ("enter 0 free 1\n", (2, 2)),
-        ("enter 0 fr", (4, 2)),
-        ("act 0 0 4294967296 1\n", (3, 2)),
-        ("act 0 0 4294967295 18446744073709551616\n", (3, 2)),
-        ("until 0 1 stays\n", (2, 2)),
-        ("\n", (2, 2)),
-    ] {
-        let mut text = Vec::from_slice(rt.alloc(), b"monk 1 PB 2 2 buffer 1\n")?;
-        text.extend_from_slice(line.as_bytes())?;
-        assert_eq!(rt; outcome(&rt, &text), want, "{line:?}");
-    }
-    match read_limited(rt.alloc(), RUN, 3) {
-        Err(fault) => assert_eq!(rt; (fault.number, fault.line), (5, 5)),
-        Ok(_) => assert!(rt; false),
+    assert!(rt; outcome_of_both(&rt, RUN, RUN)? == (2, 10));
+    for (line, number, at) in FAULTY_LINES.iter() {
+        let told = outcome_of_both(&rt, b"monk 1 PB 2 2 buffer 1\n", line)?;
+        assert!(rt; told == (*number, *at));
     }
     Ok(())
+}
+
+#[test]
+fn limit_of_lines(rt: HostRuntime) {
+    let told = match read_limited(rt.alloc(), RUN, 3) {
+        Ok(_) => (0, 0),
+        Err(fault) => (fault.number, fault.line),
+    };
+    assert!(rt; told == (5, 5));
 }
 
 #[test]
@@ -103,10 +115,7 @@ fn headers(rt: HostRuntime) -> Result<(), Fail> {
     };
     assert!(rt; header.kind() == KindName::Npir);
     assert!(rt; header.object() == ObjectName::Shop);
-    assert_eq!(rt;
-        (header.seats(), header.conds(), header.size()),
-        (32, 8, 255)
-    );
+    assert!(rt; (header.seats(), header.conds(), header.size()) == (32, 8, 255));
     for (seats, conds, size) in [(0, 0, 1), (33, 0, 1), (1, 9, 1), (1, 0, 0)] {
         assert!(rt; Header::new(KindName::Pb, seats, conds, ObjectName::Buffer, size).is_none());
     }
@@ -116,86 +125,107 @@ fn headers(rt: HostRuntime) -> Result<(), Fail> {
 #[test]
 fn versions(rt: HostRuntime) -> Result<(), Fail> {
     let (old, events) = read(rt.alloc(), RUN)?;
-    assert_eq!(rt; (old.version(), old.upgraded().version()), (1, 2));
+    assert!(rt; (old.version(), old.upgraded().version()) == (1, 2));
     assert!(rt; writable(&old, &events) && writable(&old.upgraded(), &events));
     let (new, events) = read(rt.alloc(), EACH_OF_VERSION_TWO)?;
-    assert_eq!(rt; (new.version(), new.upgraded().version()), (2, 2));
+    assert!(rt; (new.version(), new.upgraded().version()) == (2, 2));
     assert!(rt; writable(&new, &events) && !writable(&old, &events));
     Ok(())
 }
 
+/// Lines that version 2 has besides, or that look like one, and what is told of each in both versions.
+static WORDS_OF_VERSION_TWO: [(&[u8], (u8, u32), (u8, u32)); 7] = [
+    (b"signal-all 0 0\n", (2, 2), (0, 1)),
+    (b"signal-all x 0\n", (2, 2), (3, 2)),
+    (b"signal-all 0 0 stay\n", (2, 2), (2, 2)),
+    (b"signal-wait 0 0 0 stay\n", (2, 2), (0, 1)),
+    (b"signal-wait 0 0 stay\n", (2, 2), (3, 2)),
+    (b"signal-wait 0 0 256 stay\n", (2, 2), (3, 2)),
+    (b"signal 0 0 stay\n", (0, 1), (0, 1)),
+];
+
 #[test]
 fn words_of_version_two(rt: HostRuntime) -> Result<(), Fail> {
-    for (line, old, new) in [
-        ("signal-all 0 0\n", (2, 2), (0, 1)),
-        ("signal-all x 0\n", (2, 2), (3, 2)),
-        ("signal-all 0 0 stay\n", (2, 2), (2, 2)),
-        ("signal-wait 0 0 0 stay\n", (2, 2), (0, 1)),
-        ("signal-wait 0 0 stay\n", (2, 2), (3, 2)),
-        ("signal-wait 0 0 256 stay\n", (2, 2), (3, 2)),
-        ("signal 0 0 stay\n", (0, 1), (0, 1)),
-    ] {
-        for (first, want) in [("monk 1", old), ("monk 2", new)] {
-            let text = format!(in rt.alloc(); "{first} PIR 2 2 buffer 1\n{line}")?;
-            assert_eq!(rt; outcome(&rt, text.as_bytes()), want, "{first} {line:?}");
-        }
-    }
-    for first in ["monk 0", "monk 3", "monk 02", "monk 256", "monk x"] {
-        let text = format!(in rt.alloc(); "{first} PIR 2 2 buffer 1\n")?;
-        assert_eq!(rt; outcome(&rt, text.as_bytes()), (1, 1), "{first}");
+    for (line, old, new) in WORDS_OF_VERSION_TWO.iter() {
+        assert!(rt; outcome_of_both(&rt, b"monk 1 PIR 2 2 buffer 1\n", line)? == *old);
+        assert!(rt; outcome_of_both(&rt, b"monk 2 PIR 2 2 buffer 1\n", line)? == *new);
     }
     Ok(())
 }
 
+/// The first words of texts of no version.
+static OTHER_VERSIONS: [&[u8]; 5] = [b"monk 0", b"monk 3", b"monk 02", b"monk 256", b"monk x"];
+
+#[test]
+fn other_versions(rt: HostRuntime) -> Result<(), Fail> {
+    for first in OTHER_VERSIONS.iter() {
+        assert!(rt; outcome_of_both(&rt, first, b" PIR 2 2 buffer 1\n")? == (1, 1));
+    }
+    Ok(())
+}
+
+/// Whether the text is written again as it was read, by a writer that takes so many bytes at a time.
+fn is_written_again(rt: &HostRuntime, bytes: &[u8], step: usize) -> Result<bool, Fail> {
+    let (header, events) = read(rt.alloc(), bytes)?;
+    let mut tight = Tight {
+        taken: Vec::new(rt.alloc()),
+        step,
+        writes_left: 0,
+        refuses: false,
+    };
+    let mut device = Device::new(&mut tight);
+    write(&header, &events, &mut device)?;
+    Ok(!device.failed() && tight.taken.as_slice() == bytes)
+}
+
 #[test]
 fn written_and_read(rt: HostRuntime) -> Result<(), Fail> {
-    for (text, times, step) in [
-        (RUN, 1, 1),
-        (EACH, 1, 1),
-        (EACH_OF_VERSION_TWO, 1, 1),
-        (RUN, 90, 4096),
-        (EACH, 90, 4095),
-        (EACH_OF_VERSION_TWO, 90, 4095),
-    ] {
-        let bytes = repeated(&rt, text, times)?;
-        let (header, events) = read(rt.alloc(), &bytes)?;
-        let mut tight = Tight {
-            taken: Vec::new(rt.alloc()),
-            step,
-            writes_left: 0,
-            refuses: false,
-        };
-        let mut device = Device::new(&mut tight);
-        write(&header, &events, &mut device)?;
-        assert!(rt; !device.failed());
-        assert!(rt; tight.taken == bytes);
+    for text in [RUN, EACH, EACH_OF_VERSION_TWO] {
+        assert!(rt; is_written_again(&rt, text, 1)?);
+        let long = repeated(&rt, text, 90)?;
+        assert!(rt; is_written_again(&rt, &long, 4095)?);
+        assert!(rt; is_written_again(&rt, &long, 4096)?);
     }
     one_history_each();
     reads_back();
     Ok(())
 }
 
+/// Whether a writer that fails at that write, by so many bytes at a time, is told of; else it has the whole text.
+fn is_refused(
+    rt: &HostRuntime,
+    bytes: &[u8],
+    fails_at: u32,
+    step: usize,
+    refuses: bool,
+) -> Result<bool, Fail> {
+    let (header, events) = read(rt.alloc(), bytes)?;
+    let mut tight = Tight {
+        taken: Vec::new(rt.alloc()),
+        step,
+        writes_left: fails_at,
+        refuses,
+    };
+    let mut device = Device::new(&mut tight);
+    let fails = write(&header, &events, &mut device).is_err();
+    if fails != device.failed() || !fails && tight.taken.as_slice() != bytes {
+        return Err(Fail::new(
+            "a write and its device tell different things, or the text is another",
+        ));
+    }
+    Ok(fails)
+}
+
+/// The writes that fail are the first, each of them, and there are some and an end to them.
 #[test]
 fn writers_fail_in_turn(rt: HostRuntime) -> Result<(), Fail> {
     let bytes = repeated(&rt, RUN, 90)?;
-    let (header, events) = read(rt.alloc(), &bytes)?;
     for (step, refuses) in [(1000, false), (1000, true), (4096, false)] {
         let mut refused = 0u32;
         for fails_at in 1..31u32 {
-            let mut tight = Tight {
-                taken: Vec::new(rt.alloc()),
-                step,
-                writes_left: fails_at,
-                refuses,
-            };
-            let mut device = Device::new(&mut tight);
-            let result = write(&header, &events, &mut device);
-            assert!(rt; result.is_err() == device.failed(), "{fails_at} by {step}");
-            if result.is_err() {
+            if is_refused(&rt, &bytes, fails_at, step, refuses)? {
                 refused = refused.wrapping_add(1);
-                assert_eq!(rt; refused, fails_at, "by {step}");
-            } else {
-                assert!(rt; tight.taken == bytes, "{fails_at} by {step}");
+                assert!(rt; refused == fails_at);
             }
         }
         assert!(rt; 0 < refused && refused < 30);
@@ -207,7 +237,7 @@ fn writers_fail_in_turn(rt: HostRuntime) -> Result<(), Fail> {
 fn devices(rt: HostRuntime) -> Result<(), Fail> {
     let mut reader = Device::new(RUN);
     let mut piece = [0u8; 4];
-    assert_eq!(rt; reader.read(&mut piece)?, 4);
+    assert!(rt; reader.read(&mut piece)? == 4);
     assert!(rt; &piece == b"monk" && !reader.failed());
     let mut writer = Device::new(Tight {
         taken: Vec::new(rt.alloc()),
@@ -215,10 +245,10 @@ fn devices(rt: HostRuntime) -> Result<(), Fail> {
         writes_left: 4,
         refuses: true,
     });
-    assert_eq!(rt; writer.write(b"monk")?, 3);
+    assert!(rt; writer.write(b"monk")? == 3);
     writer.write_all(b"onk")?;
     writer.flush()?;
-    assert_eq!(rt; writer.write(b"")?, 0);
+    assert!(rt; writer.write(b"")? == 0);
     assert!(rt; !writer.failed());
     assert!(rt; writer.flush().is_err() && writer.failed());
     Ok(())

@@ -1,6 +1,6 @@
 use monk_audit::AuditFault;
 use monk_kinds::KindName;
-use monk_logs::{LogHeader, LogLine, LogVerdict, judge, read_log};
+use monk_logs::{Completion, LogHeader, LogLine, LogVerdict, complete, judge, read_log};
 use monk_object::ObjectName;
 
 /// Seventeen lines, so that the list of them grows several times.
@@ -24,7 +24,7 @@ fn told(rt: &HostRuntime, bytes: &[u8]) -> (u8, u32) {
 
 #[test]
 fn log_with_ample_memory(rt: HostRuntime) {
-    assert_eq!(rt; told(&rt, LONG), (0, 17));
+    assert!(rt; told(&rt, LONG) == (0, 17));
 }
 
 #[test]
@@ -62,4 +62,25 @@ fn judged_with_ample_memory(rt: HostRuntime) {
 fn judged_or_refused_memory(rt: HostRuntime) {
     let judged = judged(&rt);
     assert!(rt; judged == Some(Ok(LogVerdict::Fits)) || judged == Some(Err(AuditFault::Memory)));
+}
+
+/// Whether these lines are completed to as many events.
+fn completed(rt: &HostRuntime) -> Option<Result<bool, AuditFault>> {
+    let header = LogHeader::new(3, 2, ObjectName::Buffer, 1)?;
+    match complete(rt.alloc(), &header, &LINES, KindName::Npnb) {
+        Ok(Completion::History(events)) => Some(Ok(events.len() == 10)),
+        Ok(Completion::Misfit { .. }) => Some(Ok(false)),
+        Err(fault) => Some(Err(fault)),
+    }
+}
+
+#[test]
+fn completed_with_ample_memory(rt: HostRuntime) {
+    assert!(rt; completed(&rt) == Some(Ok(true)));
+}
+
+#[test]
+fn completed_or_refused_memory(rt: HostRuntime) {
+    let completed = completed(&rt);
+    assert!(rt; completed == Some(Ok(true)) || completed == Some(Err(AuditFault::Memory)));
 }

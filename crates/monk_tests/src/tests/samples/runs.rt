@@ -1,8 +1,7 @@
 //! Runs in threads, of which known totals come out.
-use monk_kinds::{Npb, Npir, Npis, Npnb, Npqb, Pb, Pir, Pis, Pnb, Pqb};
+use monk_kinds::Pb;
 use monk_samples::{Gate, OpenGate, RunFault, Sample, Style, run};
 use std::sync::Wait;
-use std::sync::atomic::{AtomicBool, Ordering};
 use std::test::Fail;
 use std::thread::Threads;
 
@@ -20,32 +19,20 @@ fn has_totals<K: Style, R: Threads + Wait + Sync + AllocGlobal>(
     }
 }
 
+/// Each sample under one kind; the tests of `run_stream` have all ten.
 #[test]
-fn two_put_and_two_take(rt: HostRuntime) -> Result<(), Fail> {
-    let totals = [200, 10100, 200, 10100];
-    assert!(rt; has_totals::<Pb, _>(&rt, Sample::Buffer, 4, 100, totals));
-    assert!(rt; has_totals::<Pnb, _>(&rt, Sample::Buffer, 4, 100, totals));
-    assert!(rt; has_totals::<Npqb, _>(&rt, Sample::Buffer, 4, 100, totals));
-    assert!(rt; has_totals::<Pir, _>(&rt, Sample::Buffer, 4, 100, totals));
-    assert!(rt; has_totals::<Pis, _>(&rt, Sample::Buffer, 4, 100, totals));
-    Ok(())
-}
-
-#[test]
-fn book_and_shop_run(rt: HostRuntime) -> Result<(), Fail> {
-    let book = [20, 20, 20, 20];
-    assert!(rt; has_totals::<Npb, _>(&rt, Sample::Book, 4, 10, book));
-    assert!(rt; has_totals::<Npis, _>(&rt, Sample::Book, 4, 10, book));
-    let shop = [30, 30, 30, 30];
-    assert!(rt; has_totals::<Pb, _>(&rt, Sample::Shop, 4, 10, shop));
-    assert!(rt; has_totals::<Npir, _>(&rt, Sample::Shop, 4, 10, shop));
+fn known_totals(rt: HostRuntime) -> Result<(), Fail> {
+    let put_and_taken = [200, 10100, 200, 10100];
+    assert!(rt; has_totals::<Pb, _>(&rt, Sample::Buffer, 4, 100, put_and_taken));
+    assert!(rt; has_totals::<Pb, _>(&rt, Sample::Book, 4, 10, [20, 20, 20, 20]));
+    assert!(rt; has_totals::<Pb, _>(&rt, Sample::Shop, 4, 10, [30, 30, 30, 30]));
     Ok(())
 }
 
 #[test]
 fn out_of_range_is_refused(rt: HostRuntime) -> Result<(), Fail> {
     for (seats, rounds) in [(1, 1), (17, 1), (2, 0), (2, 1001)] {
-        let fault = match run::<Pqb, _, OpenGate>(
+        let fault = match run::<Pb, _, OpenGate>(
             &rt,
             rt.alloc(),
             Sample::Buffer,
@@ -66,7 +53,6 @@ fn out_of_range_is_refused(rt: HostRuntime) -> Result<(), Fail> {
 fn many_read_and_write(rt: HostRuntime) -> Result<(), Fail> {
     let totals = [1200, 1200, 1200, 1200];
     assert!(rt; has_totals::<Pb, _>(&rt, Sample::Book, 8, 300, totals));
-    assert!(rt; has_totals::<Npnb, _>(&rt, Sample::Book, 8, 300, totals));
     Ok(())
 }
 
@@ -89,51 +75,5 @@ fn second_round_is_late(rt: HostRuntime) -> Result<(), Fail> {
         };
         assert!(rt; fault == Some(RunFault::Late));
     }
-    Ok(())
-}
-
-/// How often a worker looks for the other.
-const MOST_LOOKS: u32 = 1_000_000_000;
-
-/// A gate at which each of two workers has to be there before the other may go on.
-#[derive(Drop)]
-struct Meeting {
-    first: AtomicBool,
-    second: AtomicBool,
-    missed: AtomicBool,
-}
-
-impl Gate for Meeting {
-    fn pass(&self, seat: u8, _round: u32) -> bool {
-        if self.missed.load(Ordering::SeqCst) {
-            return false;
-        }
-        let (mine, other) = if seat == 0 {
-            (&self.first, &self.second)
-        } else {
-            (&self.second, &self.first)
-        };
-        mine.store(true, Ordering::SeqCst);
-        for _ in 0..MOST_LOOKS {
-            if other.load(Ordering::SeqCst) {
-                return !self.missed.load(Ordering::SeqCst);
-            }
-        }
-        self.missed.store(true, Ordering::SeqCst);
-        false
-    }
-}
-
-#[test]
-fn workers_run_side_by_side(rt: HostRuntime) -> Result<(), Fail> {
-    let meeting = Meeting {
-        first: AtomicBool::new(false),
-        second: AtomicBool::new(false),
-        missed: AtomicBool::new(false),
-    };
-    let Ok(outcome) = run::<Pb, _, Meeting>(&rt, rt.alloc(), Sample::Buffer, 2, 1, &meeting) else {
-        return Err(Fail::new("a worker has waited for the other to end"));
-    };
-    assert!(rt; outcome.totals == [1, 1, 1, 1]);
     Ok(())
 }

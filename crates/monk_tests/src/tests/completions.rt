@@ -1,0 +1,158 @@
+use monk_audit::{Verdict, audit};
+use monk_history::{Event, From3, Header, Next, Via};
+use monk_kinds::KindName;
+use monk_logs::{Blame, Completion, complete, read_log};
+use monk_object::Op;
+use std::test::Fail;
+
+/// Whether the log is completed by these events under the kind, and these are legal.
+fn becomes(rt: &HostRuntime, kind: KindName, text: &[u8], want: &[Event]) -> Result<bool, Fail> {
+    let (header, lines) = read_log(rt.alloc(), text)?;
+    let Completion::History(events) = complete(rt.alloc(), &header, &lines, kind)? else {
+        return Ok(false);
+    };
+    let (seats, conds) = (header.seats(), header.conds());
+    let Some(header) = Header::new(kind, seats, conds, header.object(), header.size()) else {
+        return Ok(false);
+    };
+    let verdict = audit(rt.alloc(), &header, &events)?;
+    Ok(events.as_slice() == want && verdict == Verdict::Legal(want.len() as u32))
+}
+
+/// The line that misfits, and what is to blame.
+fn misfit(rt: &HostRuntime, kind: KindName, text: &[u8]) -> Result<Option<(u32, Blame)>, Fail> {
+    let (header, lines) = read_log(rt.alloc(), text)?;
+    match complete(rt.alloc(), &header, &lines, kind)? {
+        Completion::History(_) => Ok(None),
+        Completion::Misfit { line, blame } => Ok(Some((line, blame))),
+    }
+}
+
+/// Seat 0 waits, and seat 1 comes in and signals it; then the signaller goes on.
+const SIGNALLER_FIRST: &[u8] =
+    b"log 1 2 1 buffer 1\nenter 0\nwait 0 0\nenter 1\nsignal 1 0\nleave 1\nresume 0\nleave 0\n";
+
+/// The same, and the seat that was signalled goes on.
+const SIGNALLED_FIRST: &[u8] =
+    b"log 1 2 1 buffer 1\nenter 0\nwait 0 0\nenter 1\nsignal 1 0\nresume 0\nleave 0\nresume 1\nleave 1\n";
+
+#[test]
+fn blocking_log_is_completed(rt: HostRuntime) -> Result<(), Fail> {
+    let want = [
+        Event::Enter(0, Via::Free),
+        Event::Wait(0, 0, Next::Entry),
+        Event::Enter(1, Via::Handed),
+        Event::Signal(1, 0, Next::Waiter(0)),
+        Event::Resume(0, From3::Waiter),
+        Event::Leave(0, Next::Signaller(1)),
+        Event::Resume(1, From3::Signaller),
+        Event::Leave(1, Next::Entry),
+    ];
+    assert!(rt; becomes(&rt, KindName::Pb, SIGNALLED_FIRST, &want)?);
+    let choice = Blame::Release(Verdict::CHOICE);
+    assert!(rt; misfit(&rt, KindName::Npnb, SIGNALLED_FIRST)? == Some((5, choice)));
+    Ok(())
+}
+
+#[test]
+fn non_blocking_log_is_completed(rt: HostRuntime) -> Result<(), Fail> {
+    let want = [
+        Event::Enter(0, Via::Free),
+        Event::Wait(0, 0, Next::Entry),
+        Event::Enter(1, Via::Handed),
+        Event::Signal(1, 0, Next::Stay),
+        Event::Leave(1, Next::Waiter(0)),
+        Event::Resume(0, From3::Waiter),
+        Event::Leave(0, Next::Entry),
+    ];
+    assert!(rt; becomes(&rt, KindName::Npnb, SIGNALLER_FIRST, &want)?);
+    let choice = Blame::Release(Verdict::CHOICE);
+    assert!(rt; misfit(&rt, KindName::Pb, SIGNALLER_FIRST)? == Some((5, choice)));
+    Ok(())
+}
+
+/// Under immediate return a log that ends with a signal is completed by its leaving.
+#[test]
+fn half_a_signal_is_completed(rt: HostRuntime) -> Result<(), Fail> {
+    let text: &[u8] = b"log 1 2 1 buffer 1\nenter 0\nwait 0 0\nenter 1\nsignal 1 0\n";
+    let want = [
+        Event::Enter(0, Via::Free),
+        Event::Wait(0, 0, Next::Entry),
+        Event::Enter(1, Via::Handed),
+        Event::SignalLeave(1, 0, Next::Waiter(0)),
+    ];
+    assert!(rt; becomes(&rt, KindName::Pir, text, &want)?);
+    assert!(rt; becomes(&rt, KindName::Npir, text, &want)?);
+    Ok(())
+}
+
+/// Under automatic signalling the last release chooses the first who is ready.
+#[test]
+fn automatic_log_is_completed(rt: HostRuntime) -> Result<(), Fail> {
+    let text: &[u8] = b"log 1 2 0 buffer 1\nenter 0\nuntil 0 1\nenter 1\nact 1 0 7 1\nleave 1\n";
+    let want = [
+        Event::Enter(0, Via::Free),
+        Event::Until(0, 1, Next::Entry),
+        Event::Enter(1, Via::Handed),
+        Event::Act(1, Op { code: 0, arg: 7 }, 1),
+        Event::Leave(1, Next::Until(0)),
+    ];
+    assert!(rt; becomes(&rt, KindName::Pis, text, &want)?);
+    assert!(rt; becomes(&rt, KindName::Npis, text, &want)?);
+    Ok(())
+}
+
+/// A signal that serves nobody stays, and so does one that ends a log where waiters may not go before signallers.
+#[test]
+fn last_signal_is_completed(rt: HostRuntime) -> Result<(), Fail> {
+    let text: &[u8] = b"log 1 2 1 buffer 1\nenter 0\nsignal 0 0\n";
+    let want = [Event::Enter(0, Via::Free), Event::Signal(0, 0, Next::Stay)];
+    assert!(rt; becomes(&rt, KindName::Pb, text, &want)?);
+    assert!(rt; becomes(&rt, KindName::Pqb, text, &want)?);
+    let text: &[u8] = b"log 1 2 1 buffer 1\nenter 0\nwait 0 0\nenter 1\nsignal 1 0\n";
+    let before = [
+        Event::Enter(0, Via::Free),
+        Event::Wait(0, 0, Next::Entry),
+        Event::Enter(1, Via::Handed),
+    ];
+    let stays = [
+        before[0],
+        before[1],
+        before[2],
+        Event::Signal(1, 0, Next::Stay),
+    ];
+    let hands = [
+        before[0],
+        before[1],
+        before[2],
+        Event::Signal(1, 0, Next::Waiter(0)),
+    ];
+    assert!(rt; becomes(&rt, KindName::Pnb, text, &stays)?);
+    assert!(rt; becomes(&rt, KindName::Npnb, text, &stays)?);
+    assert!(rt; becomes(&rt, KindName::Npb, text, &hands)?);
+    assert!(rt; becomes(&rt, KindName::Npqb, text, &hands)?);
+    Ok(())
+}
+
+/// A signaller that waits tells two lines, and one that signals all a single one.
+#[test]
+fn waiting_signaller_and_broadcast_are_completed(rt: HostRuntime) -> Result<(), Fail> {
+    let text: &[u8] = b"log 1 2 1 buffer 1\nenter 0\nsignal 0 0\nwait 0 0\nenter 1\nleave 1\n";
+    let want = [
+        Event::Enter(0, Via::Free),
+        Event::SignalWait(0, 0, 0, Next::Entry),
+        Event::Enter(1, Via::Handed),
+        Event::Leave(1, Next::Entry),
+    ];
+    assert!(rt; becomes(&rt, KindName::Npir, text, &want)?);
+    let text: &[u8] = b"log 1 2 1 buffer 1\nenter 0\nwait 0 0\nenter 1\nbroadcast 1 0\nleave 1\n";
+    let want = [
+        Event::Enter(0, Via::Free),
+        Event::Wait(0, 0, Next::Entry),
+        Event::Enter(1, Via::Handed),
+        Event::SignalAll(1, 0),
+        Event::Leave(1, Next::Waiter(0)),
+    ];
+    assert!(rt; becomes(&rt, KindName::Pnb, text, &want)?);
+    Ok(())
+}
