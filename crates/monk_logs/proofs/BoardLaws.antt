@@ -1,4 +1,5 @@
 -- Logs judged over boards, line by line
-pub mod Tests
 pub mod Lists
 pub mod Soundness
+pub mod Told
+pub mod Completeness

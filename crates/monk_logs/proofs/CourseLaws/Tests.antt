@@ -67,7 +67,7 @@ reason_from_allowed m t e a =
     (is_in_turn t e) (is_in_place m.object t e) (is_right_reply m.object t.state e)
     (is_permitted m.kind m.object t e) a.in_range a.offered a.in_turn a.in_place a.right_reply a.permitted
 
--- ---- an event that is allowed may be called
+-- ---- what may be called or is allowed may be called with no choice
 
 without : (a b c d e : Bool) → ((((a && b) && c) && d) && e) ≡ true → ((((a && true) && c) && d) && e) ≡ true
 without true true c d e h = h
@@ -81,31 +81,34 @@ unnamed : (m : Monitor) (s : ℕ) (x : Next) (waits signals object : Bool)
 unnamed m s x waits signals object h =
     without (nat_lt s m.seats) (list_all (λ j. nat_lt j m.seats) (named_seat (Some x))) waits signals object h
 
-pub allowed_called : (m : Monitor) (t : Situation) (e : Event) → IsAllowedIn m t e → MayCallIn m t (as_called e)
-allowed_called m t (Enter s via) a = record { in_range = a.in_range; offered = a.offered; in_turn = a.in_turn; in_place = a.in_place }
-allowed_called m t (Act s op r) a = record { in_range = a.in_range; offered = a.offered; in_turn = a.in_turn; in_place = a.in_place }
-allowed_called m t (Resume s q) a = record { in_range = a.in_range; offered = a.offered; in_turn = a.in_turn; in_place = a.in_place }
-allowed_called m t (SignalAll s c) a =
-    record { in_range = a.in_range; offered = a.offered; in_turn = a.in_turn; in_place = a.in_place }
-allowed_called m t (Leave s x) a =
+pub called_again : (m : Monitor) (t : Situation) (e : Event) → MayCallIn m t e → MayCallIn m t (as_called e)
+called_again m t (Enter s via) a = a
+called_again m t (Act s op r) a = record { in_range = a.in_range; offered = a.offered; in_turn = a.in_turn; in_place = a.in_place }
+called_again m t (Resume s q) a = a
+called_again m t (SignalAll s c) a = a
+called_again m t (Leave s x) a =
     record { in_range = unnamed m s x true true true a.in_range; offered = a.offered; in_turn = a.in_turn; in_place = refl }
-allowed_called m t (Wait s c x) a =
+called_again m t (Wait s c x) a =
     record { in_range = unnamed m s x (nat_lt c m.conds) true true a.in_range; offered = a.offered; in_turn = a.in_turn; in_place = refl }
-allowed_called m t (Signal s c x) a =
+called_again m t (Signal s c x) a =
     record { in_range = unnamed m s x true (nat_lt c m.conds) true a.in_range; offered = a.offered; in_turn = a.in_turn; in_place = refl }
-allowed_called m t (SignalLeave s c x) a =
+called_again m t (SignalLeave s c x) a =
     record { in_range = unnamed m s x true (nat_lt c m.conds) true a.in_range; offered = a.offered; in_turn = a.in_turn; in_place = refl }
-allowed_called m t (Until s p x) a =
+called_again m t (Until s p x) a =
     record {
       in_range = unnamed m s x true true (nat_lt p m.object.predicates) a.in_range;
       offered = a.offered;
       in_turn = a.in_turn;
       in_place = refl;
     }
-allowed_called m t (SignalWait s c d x) a =
+called_again m t (SignalWait s c d x) a =
     record {
       in_range = unnamed m s x (nat_lt d m.conds) (nat_lt c m.conds) true a.in_range;
       offered = a.offered;
       in_turn = a.in_turn;
       in_place = refl;
     }
+
+pub allowed_called : (m : Monitor) (t : Situation) (e : Event) → IsAllowedIn m t e → MayCallIn m t (as_called e)
+allowed_called m t e a =
+    called_again m t e (record { in_range = a.in_range; offered = a.offered; in_turn = a.in_turn; in_place = a.in_place })

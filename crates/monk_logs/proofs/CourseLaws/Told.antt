@@ -69,14 +69,14 @@ erased_lines (event.SignalWait s c d x) = refl
 
 -- ---- what the turn says of the choice
 
-entry_is : (s : ℕ) (x : Next) → is_open (turn_by s (Some x)) ≡ true → next.Entry ≡ x
+pub entry_is : (s : ℕ) (x : Next) → is_open (turn_by s (Some x)) ≡ true → next.Entry ≡ x
 entry_is s next.Stay h = absurd cc
 entry_is s next.Entry h = refl
 entry_is s (next.Waiter j) h = absurd cc
 entry_is s (next.Signaller j) h = absurd cc
 entry_is s (next.Until j) h = absurd cc
 
-stay_is : (s r : ℕ) (x : Next) → is_owned_by r (turn_by s (Some x)) ≡ true → next.Stay ≡ x
+pub stay_is : (s r : ℕ) (x : Next) → is_owned_by r (turn_by s (Some x)) ≡ true → next.Stay ≡ x
 stay_is s r next.Stay h = refl
 stay_is s r next.Entry h = absurd cc
 stay_is s r (next.Waiter j) h = absurd cc
@@ -91,7 +91,7 @@ IsChosen q (next.Waiter j) = chosen_from q j ≡ next.Waiter j
 IsChosen q (next.Signaller j) = chosen_from q j ≡ next.Signaller j
 IsChosen q (next.Until j) = chosen_from q j ≡ next.Until j
 
-due_seat : (j r : ℕ) (b : Bool) → ((j == r) && b) ≡ true → j ≡ r
+pub due_seat : (j r : ℕ) (b : Bool) → ((j == r) && b) ≡ true → j ≡ r
 due_seat j r b h = eqb-true j r (and_left (j == r) b h)
 
 due_is : (q : Queues) (s r : ℕ) (from : From3) (x : Next) → is_due r from (turn_by s (Some x)) ≡ true → IsChosen q x
