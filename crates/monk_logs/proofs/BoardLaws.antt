@@ -3,3 +3,6 @@ pub mod Lists
 pub mod Soundness
 pub mod Told
 pub mod Completeness
+pub mod Orderly
+pub mod Choice
+pub mod Exact

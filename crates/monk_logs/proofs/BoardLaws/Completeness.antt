@@ -42,16 +42,16 @@ use Rattle.monk_logs.proofs.OrderLaws.Sound.{Sound, sound_after, sound_lapse, so
 
 -- ---- a step that a board takes
 
-record Lapses (o : Order) (b : Board) (s : ℕ) (c : Board) : Type 0 where
-  free : is_open b.turn ≡ true
-  may : may_lapse o s b.items ≡ true
-  comes : board_lapse b s ≡ c
+pub record Lapses (o : Order) (b : Board) (s : ℕ) (c : Board) : Type 0 where
+  pub free : is_open b.turn ≡ true
+  pub may : may_lapse o s b.items ≡ true
+  pub comes : board_lapse b s ≡ c
 
-record Takes (o : Order) (m : Monitor) (b : Board) (e : Event) (c : Board) : Type 0 where
-  passes : Passes o m b e
-  comes : board_after m.object b e ≡ c
+pub record Takes (o : Order) (m : Monitor) (b : Board) (e : Event) (c : Board) : Type 0 where
+  pub passes : Passes o m b e
+  pub comes : board_after m.object b e ≡ c
 
-abbrev Goes : Order → Monitor → Board → Step → Board → Type 0
+abbrev pub Goes : Order → Monitor → Board → Step → Board → Type 0
 Goes o m b (Did e) c = Takes o m b e c
 Goes o m b (Lapsed s) c = Lapses o b s c
 
@@ -59,7 +59,7 @@ test_passed : (test : Bool) (b c : Board) → cond test (Some b) None ≡ Some c
 test_passed true b c h = (refl, cc)
 test_passed false b c h = absurd cc
 
-goes : (o : Order) (m : Monitor) (b : Board) (step : Step) (c : Board) → board_step o m b step ≡ Some c → Goes o m b step c
+pub goes : (o : Order) (m : Monitor) (b : Board) (step : Step) (c : Board) → board_step o m b step ≡ Some c → Goes o m b step c
 goes o m b (Did e) c h =
     let p = test_passed (board_reason o m b e == 0) (board_after m.object b e) c h in
     record { passes = passes o m b e (eqb-true (board_reason o m b e) 0 p.0); comes = p.1 }
@@ -99,7 +99,7 @@ record Leads (o : Order) (m : Monitor) (x : Option BoardCourse) (ls : List LogLi
 
 -- ---- what passes its tests is taken, or held
 
-step_ok : (o : Order) (m : Monitor) (b : Board) (e : Event) → Passes o m b e → board_step o m b (Did e) ≡ Some (board_after m.object b e)
+pub step_ok : (o : Order) (m : Monitor) (b : Board) (e : Event) → Passes o m b e → board_step o m b (Did e) ≡ Some (board_after m.object b e)
 step_ok o m b e p = ap (λ (n : ℕ). cond (n == 0) (Some (board_after m.object b e)) None) (reason_none o m b e p)
 
 hold_ok : (m : Monitor) (b : Board) (e : Event) (p : Pending) → MayCallIn m (sight b) e → board_hold m b e p ≡ Some (board_course b p)
