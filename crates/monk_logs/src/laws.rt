@@ -7,6 +7,8 @@ ghost use Rattle.monk_logs.specs.declared.line.LogLine.{LogLine};
 ghost use Rattle.monk_logs.specs.Course.{judge};
 ghost use Rattle.monk_logs.specs.Fits.{IsOpen};
 ghost use Rattle.monk_logs.specs.Board.{board_steps, opening_board};
+ghost use Rattle.monk_logs.specs.BoardCourse.{board_judge};
+ghost use Rattle.monk_logs.specs.FitsIn.{IsOpenIn};
 ghost use Rattle.monk_logs.specs.Order.{IsLoose};
 ghost use Rattle.monk_logs.specs.Run.{IsRun};
 ghost use Rattle.monk_logs.specs.declared.order.Order.{Order};
@@ -33,4 +35,12 @@ pub fn boards_are_exact()
 pub fn orders_widen()
     ensures wake { (m : Monitor) → (steps : List Step) → IsRun Fifo m steps → IsRun Wake m steps }
     ensures any { (m : Monitor) → (steps : List Step) → IsRun Wake m steps → IsRun Any m steps }
+{}
+
+/// Whether a log could be of a monitor where any seat of a queue may be chosen, and where a signal may serve any seat as well, one
+/// pass over its lines tells: over a board it is judged to its end exactly where some run begins with what it tells. So the first
+/// line at which that ends is the first with which no run begins. That holds for the orders `Wake` and `Any`.
+pub fn orders_are_exact()
+    ensures { (o : Order) → IsLoose o → (m : Monitor) → (log : List LogLine)
+        → IsTrue (is_some (board_judge o m log)) ↔ IsOpenIn o m log }
 {}

@@ -119,7 +119,7 @@ line_tells q s x (event.SignalWait r c d y) h is = stay_is s r x h
 -- ---- who was chosen is the front of its queue, and of no other
 
 -- what is permitted, by what was chosen
-abbrev permits : Rules → Object → Situation → Event → Option Next → Bool
+abbrev pub permits : Rules → Object → Situation → Event → Option Next → Bool
 permits k o t e n =
     cond (must_stay o t e) (is_stay n)
     (option_map_or
@@ -131,12 +131,12 @@ both_ways true c d h = absurd cc
 both_ways false true d h = h
 both_ways false false d h = h
 
-waiter_front : (k : Rules) (o : Object) (t : Situation) (e : Event) (j : ℕ) → permits k o t e (Some (next.Waiter j)) ≡ true
+pub waiter_front : (k : Rules) (o : Object) (t : Situation) (e : Event) (j : ℕ) → permits k o t e (Some (next.Waiter j)) ≡ true
     → is_front j (queues_at o t e).waiters ≡ true
 waiter_front k o t e j h =
     and_left (is_front j (queues_at o t e).waiters) _ (both_ways (must_stay o t e) (is_some (steps_back e)) _ h)
 
-signaller_front : (k : Rules) (o : Object) (t : Situation) (e : Event) (j : ℕ)
+pub signaller_front : (k : Rules) (o : Object) (t : Situation) (e : Event) (j : ℕ)
     → permits k o t e (Some (next.Signaller j)) ≡ true → is_front j (queues_at o t e).signallers ≡ true
 signaller_front k o t e j h =
     and_left (is_front j (queues_at o t e).signallers) _
