@@ -1,7 +1,9 @@
 //! What holds of every log.
 
-ghost use Rattle.std.specs.Prelude.{◌↔◌, IsTrue, List, is_some};
+ghost use Rattle.std.specs.Prelude.{◌↔◌, IsTrue, List, is_some, map};
 ghost use Rattle.monk_kinds.specs.Kind.{IsKind};
+ghost use Rattle.monk_history.specs.declared.event.Event.{Event};
+ghost use Rattle.monk_history.specs.Meaning.Legal.{IsLegal};
 ghost use Rattle.monk_history.specs.Meaning.Monitor.{Monitor};
 ghost use Rattle.monk_logs.specs.declared.line.LogLine.{LogLine};
 ghost use Rattle.monk_logs.specs.Course.{judge};
@@ -14,6 +16,7 @@ ghost use Rattle.monk_logs.specs.Run.{IsRun};
 ghost use Rattle.monk_logs.specs.declared.order.Order.{Order};
 ghost use Rattle.monk_logs.specs.declared.order.Order.TheVariants.{Fifo, Wake, Any};
 ghost use Rattle.monk_logs.specs.declared.step.Step.{Step};
+ghost use Rattle.monk_logs.specs.declared.step.Step.TheVariants.{Did};
 
 /// No search is needed to tell whether a log could be of a monitor of a kind, in the order of its queues: judged line by line,
 /// it comes to its end exactly where some legal history begins with what the log tells. So the first line with which it
@@ -43,4 +46,10 @@ pub fn orders_widen()
 pub fn orders_are_exact()
     ensures { (o : Order) → IsLoose o → (m : Monitor) → (log : List LogLine)
         → IsTrue (is_some (board_judge o m log)) ↔ IsOpenIn o m log }
+{}
+
+/// In order of arrival, and where no wait runs out, a monitor may do what its rules allow, and no more: the runs of events are the
+/// legal histories.
+pub fn fifo_is_legal()
+    ensures { (m : Monitor) → (h : List Event) → IsRun Fifo m (map Did h) ↔ IsLegal m h }
 {}

@@ -261,8 +261,14 @@ pub record Chosen (o : Order) (m : Monitor) (b : Board) (e : Event) : Type 0 whe
   pub choice : Next
   pub passes : Passes o m b (with_next choice e)
 
-named_too : (a n b c d : Bool) → ((((a && true) && b) && c) && d) ≡ true → n ≡ true → ((((a && n) && b) && c) && d) ≡ true
-named_too a n b c d h k = rw k h
+-- in range with one choice as with another that names seats
+named_too : (a x y b c d : Bool) → ((((a && x) && b) && c) && d) ≡ true → y ≡ true → ((((a && y) && b) && c) && d) ≡ true
+named_too true true y b c d h k = rw k h
+named_too true false y b c d h k = absurd (false≢true h)
+named_too false x y b c d h k = h
+
+abbrev named : ℕ → Next → Bool
+named seats x = list_all (λ j. nat_lt j seats) (named_seat (Some x))
 
 stay_or : (stays : Bool) (p : Next → Bool) (seats : ℕ) → (stays ≡ false → Chooses p seats)
     → Chooses (λ x. cond stays (is_stay (Some x)) (p x)) seats
@@ -270,7 +276,7 @@ stay_or true p seats h = record { choice = next.Stay; may = refl; named = refl }
 stay_or false p seats h = let f = h refl in record { choice = f.choice; may = f.may; named = f.named }
 
 module _ (o : Order) (loose : IsLoose o) (m : Monitor) (b : Board) (ord : Orderly m b) where
-  release_chosen : (e : Event) → next_of e ≡ Some next.Stay → MayCallIn m (sight b) e → Chosen o m b e
+  pub release_chosen : (e : Event) → next_of e ≡ Some next.Stay → MayCallIn m (sight b) e → Chosen o m b e
   release_chosen (event.Enter s via) chose may = absurd cc
   release_chosen (event.Act s op r) chose may = absurd cc
   release_chosen (event.Resume s q) chose may = absurd cc
@@ -281,7 +287,7 @@ module _ (o : Order) (loose : IsLoose o) (m : Monitor) (b : Board) (ord : Orderl
         choice = f.choice;
         passes = record {
           may_call = record {
-            in_range = named_too (nat_lt s m.seats) (list_all (λ j. nat_lt j m.seats) (named_seat (Some f.choice))) true true true may.in_range f.named;
+            in_range = named_too (nat_lt s m.seats) (named m.seats y) (named m.seats f.choice) true true true may.in_range f.named;
             offered = may.offered;
             in_turn = may.in_turn;
             in_place = refl;
@@ -296,7 +302,7 @@ module _ (o : Order) (loose : IsLoose o) (m : Monitor) (b : Board) (ord : Orderl
         choice = f.choice;
         passes = record {
           may_call = record {
-            in_range = named_too (nat_lt s m.seats) (list_all (λ j. nat_lt j m.seats) (named_seat (Some f.choice))) (nat_lt c m.conds) true true may.in_range f.named;
+            in_range = named_too (nat_lt s m.seats) (named m.seats y) (named m.seats f.choice) (nat_lt c m.conds) true true may.in_range f.named;
             offered = may.offered;
             in_turn = may.in_turn;
             in_place = refl;
@@ -312,7 +318,7 @@ module _ (o : Order) (loose : IsLoose o) (m : Monitor) (b : Board) (ord : Orderl
         choice = f.choice;
         passes = record {
           may_call = record {
-            in_range = named_too (nat_lt s m.seats) (list_all (λ j. nat_lt j m.seats) (named_seat (Some f.choice))) true (nat_lt c m.conds) true may.in_range f.named;
+            in_range = named_too (nat_lt s m.seats) (named m.seats y) (named m.seats f.choice) true (nat_lt c m.conds) true may.in_range f.named;
             offered = may.offered;
             in_turn = may.in_turn;
             in_place = refl;
@@ -327,7 +333,7 @@ module _ (o : Order) (loose : IsLoose o) (m : Monitor) (b : Board) (ord : Orderl
         choice = f.choice;
         passes = record {
           may_call = record {
-            in_range = named_too (nat_lt s m.seats) (list_all (λ j. nat_lt j m.seats) (named_seat (Some f.choice))) true (nat_lt c m.conds) true may.in_range f.named;
+            in_range = named_too (nat_lt s m.seats) (named m.seats y) (named m.seats f.choice) true (nat_lt c m.conds) true may.in_range f.named;
             offered = may.offered;
             in_turn = may.in_turn;
             in_place = refl;
@@ -343,7 +349,7 @@ module _ (o : Order) (loose : IsLoose o) (m : Monitor) (b : Board) (ord : Orderl
         choice = f.choice;
         passes = record {
           may_call = record {
-            in_range = named_too (nat_lt s m.seats) (list_all (λ j. nat_lt j m.seats) (named_seat (Some f.choice))) true true (nat_lt p m.object.predicates) may.in_range f.named;
+            in_range = named_too (nat_lt s m.seats) (named m.seats y) (named m.seats f.choice) true true (nat_lt p m.object.predicates) may.in_range f.named;
             offered = may.offered;
             in_turn = may.in_turn;
             in_place = refl;
@@ -358,7 +364,7 @@ module _ (o : Order) (loose : IsLoose o) (m : Monitor) (b : Board) (ord : Orderl
         choice = f.choice;
         passes = record {
           may_call = record {
-            in_range = named_too (nat_lt s m.seats) (list_all (λ j. nat_lt j m.seats) (named_seat (Some f.choice))) (nat_lt d m.conds) (nat_lt c m.conds) true may.in_range f.named;
+            in_range = named_too (nat_lt s m.seats) (named m.seats y) (named m.seats f.choice) (nat_lt d m.conds) (nat_lt c m.conds) true may.in_range f.named;
             offered = may.offered;
             in_turn = may.in_turn;
             in_place = refl;
