@@ -3,3 +3,4 @@ pub mod Fronts
 pub mod Tidy
 pub mod Moves
 pub mod Legal
+pub mod Opens

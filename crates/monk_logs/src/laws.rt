@@ -1,6 +1,6 @@
 //! What holds of every log.
 
-ghost use Rattle.std.specs.Prelude.{◌↔◌, IsTrue, List, is_some, map};
+ghost use Rattle.std.specs.Prelude.{◌≡◌, ◌↔◌, IsTrue, List, false, is_some, map};
 ghost use Rattle.monk_kinds.specs.Kind.{IsKind};
 ghost use Rattle.monk_history.specs.declared.event.Event.{Event};
 ghost use Rattle.monk_history.specs.Meaning.Legal.{IsLegal};
@@ -10,7 +10,7 @@ ghost use Rattle.monk_logs.specs.Course.{judge};
 ghost use Rattle.monk_logs.specs.Fits.{IsOpen};
 ghost use Rattle.monk_logs.specs.Board.{board_steps, opening_board};
 ghost use Rattle.monk_logs.specs.BoardCourse.{board_judge};
-ghost use Rattle.monk_logs.specs.FitsIn.{IsOpenIn};
+ghost use Rattle.monk_logs.specs.FitsIn.{IsOpenIn, has_lapse};
 ghost use Rattle.monk_logs.specs.Order.{IsLoose};
 ghost use Rattle.monk_logs.specs.Run.{IsRun};
 ghost use Rattle.monk_logs.specs.declared.order.Order.{Order};
@@ -34,10 +34,12 @@ pub fn boards_are_exact()
 {}
 
 /// What a monitor may do in order of arrival it may do where any seat of a queue may be chosen, and what it may do then also where
-/// a signal may serve any seat of its condition.
+/// a signal may serve any seat of its condition. So a log that fits one of these orders fits those behind it.
 pub fn orders_widen()
     ensures wake { (m : Monitor) → (steps : List Step) → IsRun Fifo m steps → IsRun Wake m steps }
     ensures any { (m : Monitor) → (steps : List Step) → IsRun Wake m steps → IsRun Any m steps }
+    ensures wake_logs { (m : Monitor) → (log : List LogLine) → IsOpenIn Fifo m log → IsOpenIn Wake m log }
+    ensures any_logs { (m : Monitor) → (log : List LogLine) → IsOpenIn Wake m log → IsOpenIn Any m log }
 {}
 
 /// Whether a log could be of a monitor where any seat of a queue may be chosen, and where a signal may serve any seat as well, one
@@ -49,7 +51,9 @@ pub fn orders_are_exact()
 {}
 
 /// In order of arrival, and where no wait runs out, a monitor may do what its rules allow, and no more: the runs of events are the
-/// legal histories.
+/// legal histories. So a log that tells of no wait that ran out is open in order of arrival exactly where some legal history begins
+/// with what it tells.
 pub fn fifo_is_legal()
-    ensures { (m : Monitor) → (h : List Event) → IsRun Fifo m (map Did h) ↔ IsLegal m h }
+    ensures runs { (m : Monitor) → (h : List Event) → IsRun Fifo m (map Did h) ↔ IsLegal m h }
+    ensures logs { (m : Monitor) → (log : List LogLine) → has_lapse log ≡ false → IsOpenIn Fifo m log ↔ IsOpen m log }
 {}
