@@ -1,5 +1,5 @@
 -- A release that may be called has a choice that a board permits, where any seat of a queue may be chosen
-use Rattle.std.proofs.Common.{◌≡◌, ℕ, ◌+◌, ◌<◌, ◌≤◌, Bool, true, false, cond, ◌&&◌, ◌||◌, not, List, [], ◌∷◌, ◌++◌, Option, Some, None}
+use Rattle.std.proofs.Common.{◌≡◌, ℕ, ◌+◌, ◌<◌, ◌≤◌, Bool, true, false, cond, ◌&&◌, ◌||◌, not, List, [], ◌∷◌, ◌++◌, Some}
 use Rattle.std.proofs.Common.{refl, sym, ap, subst, ◌∙◌, ⊎_elim, arith, map, take, append-nil}
 use Rattle.std.proofs.lemmas.Bool.{and_from, cases_Bool, cases_lt, false≢true, le-leb, ne_eqb, or_left, or_right, true≢false}
 use Rattle.std.specs.List.{list_all}
@@ -12,7 +12,7 @@ use Rattle.monk_history.specs.declared.event.Next.TheVariants as next
 use Rattle.monk_history.specs.Meaning.Events.{has_conditions, is_stay, named_seat, next_of, seat_of}
 use Rattle.monk_history.specs.Meaning.Monitor.{Monitor}
 use Rattle.monk_history.specs.Meaning.Release.{MayCallIn, with_next}
-use Rattle.monk_history.specs.Meaning.Signallers.{is_empty, signals}
+use Rattle.monk_history.specs.Meaning.Signallers.{is_empty}
 use Rattle.monk_history.specs.Meaning.Standing.{has_turn, times}
 use Rattle.monk_history.specs.Meaning.Untils.{ready_of}
 use Rattle.monk_logs.specs.Board.{Board, board_chances, items_with, sight, signallers_with}
@@ -31,7 +31,7 @@ use Rattle.monk_logs.proofs.OrderLaws.Fits.{Fits}
 use Rattle.monk_logs.proofs.OrderLaws.Lines.{all_seats}
 use Rattle.monk_logs.proofs.OrderLaws.Lists.{Distinct, among_counted, among_here, among-append}
 use Rattle.monk_logs.proofs.OrderLaws.Passes.{Passes}
-use Rattle.monk_logs.proofs.OrderLaws.Seated.{Seated, one_at_most, seats_with}
+use Rattle.monk_logs.proofs.OrderLaws.Seated.{one_at_most, seats_with}
 use Rattle.monk_logs.proofs.OrderLaws.Sound.{Sound, distinct_with, firsts, firsts_fit, keeps_with}
 use Rattle.monk_logs.proofs.OrderLaws.Stands.{among, empty_waiters}
 

@@ -4,25 +4,22 @@ use Rattle.std.proofs.Common.{◌∙◌}
 use Rattle.std.proofs.lemmas.Bool.{and_from, and_parts, eq-eqb, eqb-true, false≢true}
 use Rattle.std.specs.Option.{option_map}
 use Rattle.std.specs.Prelude.{◌==◌, is_some}
-use Rattle.monk_object.specs.Object.{Object}
 use Rattle.monk_history.specs.declared.event.Event.{Event}
 use Rattle.monk_history.specs.declared.event.Event.TheVariants as event
 use Rattle.monk_history.specs.declared.event.From3.{From3}
 use Rattle.monk_history.specs.declared.event.Next.{Next}
 use Rattle.monk_history.specs.declared.event.Next.TheVariants.{Stay}
-use Rattle.monk_history.specs.declared.event.Turn.{Turn}
 use Rattle.monk_history.specs.declared.event.Via.{Via}
 use Rattle.monk_history.specs.declared.event.Via.TheVariants.{Free, Handed}
 use Rattle.monk_history.specs.Meaning.Events.{next_of, returns_at_once, seat_of}
 use Rattle.monk_history.specs.Meaning.Monitor.{Monitor}
-use Rattle.monk_history.specs.Meaning.Reasons.{is_open, may_enter, reason_before}
+use Rattle.monk_history.specs.Meaning.Reasons.{is_open, may_enter}
 use Rattle.monk_history.specs.Meaning.Release.{MayCallIn, as_called, with_next}
 use Rattle.monk_history.specs.Meaning.Turn.{turn_by}
 use Rattle.monk_logs.specs.Board.{Board, board_after, board_from, board_lapse, board_reason, board_step, board_steps, opening_board, sight}
 use Rattle.monk_logs.specs.BoardCourse.{BoardCourse, board_behind, board_course, board_half, board_hold, board_held, board_judge}
 use Rattle.monk_logs.specs.BoardCourse.{board_judge_from, board_line, board_settled, board_then, board_told, board_told_next, board_via}
 use Rattle.monk_logs.specs.BoardCourse.{standing_choice}
-use Rattle.monk_logs.specs.Course.{due_from}
 use Rattle.monk_logs.specs.Erasure.{erased}
 use Rattle.monk_logs.specs.FitsIn.{run_lines, step_lines}
 use Rattle.monk_logs.specs.Items.{may_lapse}
@@ -34,9 +31,9 @@ use Rattle.monk_logs.specs.declared.pending.Pending.TheVariants.{Settled, Half, 
 use Rattle.monk_logs.specs.declared.step.Step.{Step}
 use Rattle.monk_logs.specs.declared.step.Step.TheVariants.{Did, Lapsed}
 use Rattle.monk_logs.proofs.BoardLaws.Lists.{judge-append, none_told}
-use Rattle.monk_logs.proofs.BoardLaws.Told.{FitsTurn, IsFound, found, step_first, step_later, step_lines_are, step_tells}
+use Rattle.monk_logs.proofs.BoardLaws.Told.{FitsTurn, found, step_first, step_later, step_lines_are, step_tells}
 use Rattle.monk_logs.proofs.CourseLaws.Completeness.{due_queue, half_called, named_again, not_at_once}
-use Rattle.monk_logs.proofs.CourseLaws.Tests.{called_again, passed, tests_from_called}
+use Rattle.monk_logs.proofs.CourseLaws.Tests.{called_again, tests_from_called}
 use Rattle.monk_logs.proofs.OrderLaws.Passes.{Passes, passes, reason_none}
 use Rattle.monk_logs.proofs.OrderLaws.Sound.{Sound, sound_after, sound_lapse, sound_opening}
 

@@ -1,5 +1,5 @@
 -- A log is judged to its end over a board exactly where some run begins with what it tells
-use Rattle.std.proofs.Common.{◌≡◌, ℕ, true, List, [], ◌∷◌, ◌++◌, Option, Some, None, refl, sym, ap, subst, ◌∙◌}
+use Rattle.std.proofs.Common.{◌≡◌, true, List, [], ◌∷◌, ◌++◌, Option, Some, None, refl, sym, ap, subst, ◌∙◌}
 use Rattle.std.proofs.lemmas.Bool.{false≢true}
 use Rattle.std.proofs.lemmas.List.{append-nil, append_assoc}
 use Rattle.std.specs.Prelude.{is_some}
@@ -9,7 +9,7 @@ use Rattle.monk_history.specs.declared.event.Next.TheVariants.{Stay}
 use Rattle.monk_history.specs.Meaning.Events.{next_of}
 use Rattle.monk_history.specs.Meaning.Monitor.{Monitor}
 use Rattle.monk_history.specs.Meaning.Release.{MayCallIn, with_next}
-use Rattle.monk_logs.specs.Board.{Board, board_after, board_step, board_steps, opening_board, sight}
+use Rattle.monk_logs.specs.Board.{Board, board_after, board_steps, opening_board, sight}
 use Rattle.monk_logs.specs.BoardCourse.{BoardCourse, board_judge}
 use Rattle.monk_logs.specs.Erasure.{erased}
 use Rattle.monk_logs.specs.FitsIn.{IsOpenIn, run_lines}
@@ -41,36 +41,36 @@ open_front o m log more x = record {
 module _ (o : Order) (loose : IsLoose o) (m : Monitor) (steps : List Step) (b : Board)
     (taken : board_steps o m (opening_board m) steps ≡ Some b)
   where
-  steps_open : IsOpenIn o m (run_lines steps)
-  steps_open = record {
-    steps = steps;
-    run = taken_run o loose m steps (ap is_some taken);
-    more = [];
-    tells = sym (append-nil (run_lines steps));
-  }
+    steps_open : IsOpenIn o m (run_lines steps)
+    steps_open = record {
+      steps = steps;
+      run = taken_run o loose m steps (ap is_some taken);
+      more = [];
+      tells = sym (append-nil (run_lines steps));
+    }
 
-  -- a release that may be called has a choice that goes on
-  release_open : (e : Event) → next_of e ≡ Some Stay → MayCallIn m (sight b) e → IsOpenIn o m (run_lines steps ++ erased e)
-  release_open e stays may =
-      let c = release_chosen o loose m b (orderly o m steps b taken) e stays may in
-      let f = with_next c.choice e in
-      let all = steps ++ Did f ∷ [] in
-      record {
-        steps = all;
-        run = taken_run o loose m all (ap is_some
-            (steps-push o m (opening_board m) b (board_after m.object b f) steps (Did f) taken (step_ok o m b f c.passes)));
-        more = [];
-        tells = run_lines-push steps (Did f) ∙ ap (λ (ls : List LogLine). run_lines steps ++ ls) (erased_with_next c.choice e)
-            ∙ sym (append-nil (run_lines steps ++ erased e));
-      }
+    -- a release that may be called has a choice that goes on
+    release_open : (e : Event) → next_of e ≡ Some Stay → MayCallIn m (sight b) e → IsOpenIn o m (run_lines steps ++ erased e)
+    release_open e stays may =
+        let c = release_chosen o loose m b (orderly o m steps b taken) e stays may in
+        let f = with_next c.choice e in
+        let all = steps ++ Did f ∷ [] in
+        record {
+          steps = all;
+          run = taken_run o loose m all (ap is_some
+              (steps-push o m (opening_board m) b (board_after m.object b f) steps (Did f) taken (step_ok o m b f c.passes)));
+          more = [];
+          tells = run_lines-push steps (Did f) ∙ ap (λ (ls : List LogLine). run_lines steps ++ ls) (erased_with_next c.choice e)
+              ∙ sym (append-nil (run_lines steps ++ erased e));
+        }
 
-  pending_open : (p : Pending) → IsStillOn m b p → IsOpenIn o m (run_lines steps ++ rest_of p)
-  pending_open Settled still = subst (IsOpenIn o m) (sym (append-nil (run_lines steps))) steps_open
-  pending_open (Half s c) still =
-      open_front o m (run_lines steps ++ Signal s c ∷ []) (Leave s ∷ [])
-      (subst (IsOpenIn o m) (sym (append_assoc (run_lines steps) (Signal s c ∷ []) (Leave s ∷ [])))
-      (release_open (event.SignalLeave s c Stay) refl still))
-  pending_open (Release e) still = release_open e still.1 still.0
+    pending_open : (p : Pending) → IsStillOn m b p → IsOpenIn o m (run_lines steps ++ rest_of p)
+    pending_open Settled still = subst (IsOpenIn o m) (sym (append-nil (run_lines steps))) steps_open
+    pending_open (Half s c) still =
+        open_front o m (run_lines steps ++ Signal s c ∷ []) (Leave s ∷ [])
+        (subst (IsOpenIn o m) (sym (append_assoc (run_lines steps) (Signal s c ∷ []) (Leave s ∷ [])))
+        (release_open (event.SignalLeave s c Stay) refl still))
+    pending_open (Release e) still = release_open e still.1 still.0
 
 told_open : (o : Order) (m : Monitor) (log : List LogLine) (x : BoardCourse) → IsLoose o → StepsTell o m log x → IsOpenIn o m log
 told_open o m log x loose t =

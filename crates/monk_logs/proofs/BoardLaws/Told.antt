@@ -1,5 +1,5 @@
 -- On a board the line of the step behind a release tells what the release chose
-use Rattle.std.proofs.Common.{◌≡◌, ℕ, ◌+◌, ◌≤◌, Bool, true, false, cond, ◌&&◌, ◌||◌, not, List, [], ◌∷◌, ◌++◌, Option, Some, None}
+use Rattle.std.proofs.Common.{◌≡◌, ℕ, Bool, true, false, cond, ◌&&◌, ◌||◌, not, List, [], ◌∷◌, Option, Some, None}
 use Rattle.std.proofs.Common.{refl, sym, ap, subst, ◌∙◌, ⊎_elim, arith}
 use Rattle.std.specs.Option.{option_map_or}
 use Rattle.std.specs.Prelude.{◌==◌, is_some, nat_le}
@@ -36,7 +36,7 @@ use Rattle.monk_logs.proofs.OrderLaws.Counts.{counts_one, ready_waits, until_sea
 use Rattle.monk_logs.proofs.OrderLaws.Lines.{all_seats, among_line, waits_there}
 use Rattle.monk_logs.proofs.OrderLaws.Lists.{among-append, among_counted, none_counted}
 use Rattle.monk_logs.proofs.OrderLaws.Passes.{Passes, may_go_among}
-use Rattle.monk_logs.proofs.OrderLaws.Seated.{Seated, one_at_most, owned_turn, seats_with}
+use Rattle.monk_logs.proofs.OrderLaws.Seated.{one_at_most, owned_turn, seats_with}
 use Rattle.monk_logs.proofs.OrderLaws.Sound.{Sound, may_resume_chosen}
 
 -- ---- the first line of a step

@@ -1,5 +1,5 @@
 -- A queue without those of its front
-use Rattle.std.proofs.Common.{◌≡◌, ℕ, ◌+◌, ◌≤◌, Bool, true, false, cond, List, [], ◌∷◌, ◌++◌, drop, take, length, Option, Some, None}
+use Rattle.std.proofs.Common.{◌≡◌, ℕ, ◌+◌, ◌≤◌, true, cond, List, [], ◌∷◌, drop, take, length, Option, Some, None}
 use Rattle.std.proofs.Common.{refl, sym, ap, subst, ◌∙◌, ⊎_elim, arith}
 use Rattle.std.proofs.lemmas.Bool.{cases_eq, eq-eqb, eqb-true, false≢true, ne_eqb}
 use Rattle.std.proofs.lemmas.List.{drop_all}
@@ -90,15 +90,15 @@ times_served (SignalWait s c d x) j xs = times_first j xs
 module _ (e : Event) (queue : ℕ → List ℕ) (c : ℕ) (few : IsFew (queue c))
     (others : (d j : ℕ) → (c ≡ d → ⊥) → times j (queue c) + times j (queue d) ≤ 1)
   where
-  here_gone : (d : ℕ) → d ≡ c → apart (served_of e (queue d)) (queue c) ≡ drop (length (served_of e (queue c))) (queue c)
-  here_gone d is = ap (λ (k : ℕ). apart (served_of e (queue k)) (queue c)) is ∙ served_gone e (queue c) few
+    here_gone : (d : ℕ) → d ≡ c → apart (served_of e (queue d)) (queue c) ≡ drop (length (served_of e (queue c))) (queue c)
+    here_gone d is = ap (λ (k : ℕ). apart (served_of e (queue k)) (queue c)) is ∙ served_gone e (queue c) few
 
-  there_kept : (d : ℕ) → (c ≡ d → ⊥) → apart (served_of e (queue d)) (queue c) ≡ queue c
-  there_kept d ne =
-      apart_absent (served_of e (queue d)) (queue c) (λ j. omega (arith, others d j ne, times_served e j (queue d)))
+    there_kept : (d : ℕ) → (c ≡ d → ⊥) → apart (served_of e (queue d)) (queue c) ≡ queue c
+    there_kept d ne =
+        apart_absent (served_of e (queue d)) (queue c) (λ j. omega (arith, others d j ne, times_served e j (queue d)))
 
-  pub condition_gone : (x : Option ℕ) → apart (served_at queue x e) (queue c)
-      ≡ drop (length (cond (is_at c x) (served_of e (queue c)) [])) (queue c)
-  condition_gone None = apart_nobody (queue c)
-  condition_gone (Some d) =
-      ⊎_elim (λ is. rw (eq-eqb d c is) (here_gone d is)) (λ ne. rw (ne_eqb d c ne) (there_kept d (λ is. ne (sym is)))) (cases_eq d c)
+    pub condition_gone : (x : Option ℕ) → apart (served_at queue x e) (queue c)
+        ≡ drop (length (cond (is_at c x) (served_of e (queue c)) [])) (queue c)
+    condition_gone None = apart_nobody (queue c)
+    condition_gone (Some d) =
+        ⊎_elim (λ is. rw (eq-eqb d c is) (here_gone d is)) (λ ne. rw (ne_eqb d c ne) (there_kept d (λ is. ne (sym is)))) (cases_eq d c)

@@ -1,11 +1,11 @@
 -- In order of arrival, and without waits that run out, the runs are the legal histories
-use Rattle.std.proofs.Common.{◌≡◌, List, [], ◌∷◌, ◌++◌, map, refl, sym, subst, ◌∙◌}
+use Rattle.std.proofs.Common.{◌≡◌, List, [], ◌∷◌, ◌++◌, map, sym, subst, ◌∙◌}
 use Rattle.std.proofs.lemmas.List.{append-nil, append_assoc}
 use Rattle.monk_history.specs.declared.event.Event.{Event}
 use Rattle.monk_history.specs.Meaning.Legal.{IsLegal}
 use Rattle.monk_history.specs.Meaning.Monitor.{Monitor}
 use Rattle.monk_history.specs.Meaning.Situation.{Situation, situation}
-use Rattle.monk_history.specs.Meaning.Step.{after, opening_situation}
+use Rattle.monk_history.specs.Meaning.Step.{after}
 use Rattle.monk_history.specs.Meaning.Waiters.{serves}
 use Rattle.monk_history.proofs.PublicLaws.Meaning.{legal-push, legal_front, legal_last, legal_none, legal_situation-push, situation-none}
 use Rattle.monk_logs.specs.Run.{IsRun, Runs}

@@ -1,7 +1,7 @@
 -- In order of arrival a move is an event that is allowed, and leads where that event leads
-use Rattle.std.proofs.Common.{◌≡◌, ℕ, ◌+◌, ◌≤◌, Bool, true, false, cond, ◌&&◌, ◌||◌, not, List, [], ◌∷◌, ◌++◌, drop, take, Option, Some, None}
+use Rattle.std.proofs.Common.{◌≡◌, ℕ, ◌≤◌, Bool, true, false, cond, ◌&&◌, ◌||◌, not, List, [], ◌∷◌, ◌++◌, drop, take, Option, Some, None}
 use Rattle.std.proofs.Common.{refl, sym, ap, subst, ◌∙◌, arith}
-use Rattle.std.proofs.lemmas.Bool.{and_parts, eqb-true, false≢true}
+use Rattle.std.proofs.lemmas.Bool.{and_parts, eqb-true}
 use Rattle.std.specs.Option.{option_map_or}
 use Rattle.std.specs.Prelude.{◌==◌, is_some, nat_le}
 use Rattle.monk_kinds.specs.declared.mode.Rules.{Rules}
@@ -15,8 +15,8 @@ use Rattle.monk_history.specs.Meaning.Choice.{Queues, is_front, is_permitted, ma
 use Rattle.monk_history.specs.Meaning.Conditions.{served_of, waiting_by}
 use Rattle.monk_history.specs.Meaning.Events.{awaited, is_signaller, is_stay, is_waiter, next_of, seat_of, signals_on, steps_back}
 use Rattle.monk_history.specs.Meaning.Monitor.{Monitor}
-use Rattle.monk_history.specs.Meaning.Reasons.{IsAllowedIn, is_in_turn, is_owned_by}
-use Rattle.monk_history.specs.Meaning.Signallers.{is_empty, signals, takes_signaller}
+use Rattle.monk_history.specs.Meaning.Reasons.{IsAllowedIn, is_in_turn}
+use Rattle.monk_history.specs.Meaning.Signallers.{is_empty, signals}
 use Rattle.monk_history.specs.Meaning.Situation.{Situation}
 use Rattle.monk_history.specs.Meaning.Standing.{has_turn, times}
 use Rattle.monk_history.specs.Meaning.Step.{after}
@@ -24,7 +24,7 @@ use Rattle.monk_history.specs.Meaning.Waiters.{served_at, serves}
 use Rattle.monk_history.proofs.PublicLaws.Meaning.{same_situation}
 use Rattle.monk_logs.specs.Chances.{chances, may_choose_by, may_signal_by}
 use Rattle.monk_logs.specs.Order.{apart}
-use Rattle.monk_logs.specs.Run.{IsAfter, IsMove, Serves, ServesAny, chosen_waiter, is_permitted_by, queues_with, taken_signaller}
+use Rattle.monk_logs.specs.Run.{IsAfter, IsMove, Serves, ServesAny, chosen_waiter, is_permitted_by, taken_signaller}
 use Rattle.monk_logs.specs.declared.order.Order.TheVariants.{Fifo}
 use Rattle.monk_logs.proofs.CourseLaws.Told.{permits, signaller_front, waiter_front}
 use Rattle.monk_logs.proofs.FifoLaws.Fronts.{IsFew, apart_nobody, condition_gone, front_gone, times_served}
