@@ -4,5 +4,6 @@ pub mod Soundness
 pub mod Told
 pub mod Completeness
 pub mod Orderly
+pub mod Chooses
 pub mod Choice
 pub mod Exact

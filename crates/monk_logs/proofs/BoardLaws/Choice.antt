@@ -11,19 +11,22 @@ use Rattle.monk_history.specs.declared.event.Next.{Next}
 use Rattle.monk_history.specs.declared.event.Next.TheVariants as next
 use Rattle.monk_history.specs.Meaning.Events.{has_conditions, is_stay, named_seat, next_of, seat_of}
 use Rattle.monk_history.specs.Meaning.Monitor.{Monitor}
+use Rattle.monk_history.specs.Meaning.Reasons.{is_right_reply}
 use Rattle.monk_history.specs.Meaning.Release.{MayCallIn, with_next}
 use Rattle.monk_history.specs.Meaning.Signallers.{is_empty}
 use Rattle.monk_history.specs.Meaning.Standing.{has_turn, times}
 use Rattle.monk_history.specs.Meaning.Untils.{ready_of}
-use Rattle.monk_logs.specs.Board.{Board, board_chances, items_with, sight, signallers_with}
+use Rattle.monk_logs.specs.Board.{Board, board_chances, board_permits, items_with, sight, signallers_with}
 use Rattle.monk_logs.specs.Chances.{Chances, may_choose_by, may_signal_by}
 use Rattle.monk_logs.specs.Items.{line, may_resume, services, unserved_in}
 use Rattle.monk_logs.specs.Order.{IsLoose, is_among, may_go}
 use Rattle.monk_logs.specs.declared.item.Item.{Item}
 use Rattle.monk_logs.specs.declared.item.Item.TheVariants.{Service, Waiting}
 use Rattle.monk_logs.specs.declared.order.Order.{Order}
+use Rattle.monk_logs.proofs.BoardLaws.Chooses.{Chooses, Offers, Someone, must_choose, served_choose}
 use Rattle.monk_logs.proofs.BoardLaws.Orderly.{Orderly}
 use Rattle.monk_logs.proofs.BoardLaws.Told.{owner_counted}
+use Rattle.monk_logs.proofs.CourseLaws.Tests.{called_with}
 use Rattle.monk_logs.proofs.OrderLaws.Chances.{may_go_from}
 use Rattle.monk_logs.proofs.OrderLaws.Choosing.{may_choose_it, resume_there}
 use Rattle.monk_logs.proofs.OrderLaws.Counts.{ready_waits, until_seats}
@@ -34,91 +37,6 @@ use Rattle.monk_logs.proofs.OrderLaws.Passes.{Passes}
 use Rattle.monk_logs.proofs.OrderLaws.Seated.{one_at_most, seats_with}
 use Rattle.monk_logs.proofs.OrderLaws.Sound.{Sound, distinct_with, firsts, firsts_fit, keeps_with}
 use Rattle.monk_logs.proofs.OrderLaws.Stands.{among, empty_waiters}
-
--- ---- what a release may choose, by who is there
-
--- a seat of which a test holds
-record Someone (p : ℕ → Bool) (seats : ℕ) : Type 0 where
-  seat : ℕ
-  may : p seat ≡ true
-  in_range : seat < seats
-
--- from each queue in which somebody is a seat may be chosen
-record Offers (k : Rules) (q : Chances) (s seats : ℕ) : Type 0 where
-  waiter : q.no_waiter ≡ false → Someone q.waiter seats
-  signaller : q.no_signaller ≡ false → Someone (λ j. q.signaller j && not (j == s)) seats
-  ready : q.no_ready ≡ false → Someone (λ j. not (has_conditions k.mode) && q.ready j) seats
-
-record Chooses (p : Next → Bool) (seats : ℕ) : Type 0 where
-  choice : Next
-  may : p choice ≡ true
-  named : list_all (λ j. nat_lt j seats) (named_seat (Some choice)) ≡ true
-
-named_one : (seats j : ℕ) → j < seats → list_all (λ s. nat_lt s seats) (j ∷ []) ≡ true
-named_one seats j l = grind (arith, l)
-
-module _ (k : Rules) (q : Chances) (s seats : ℕ) (offers : Offers k q s seats) where
-  chooses_waiter : q.no_waiter ≡ false → (q.no_signaller || nat_le k.signaller k.waiter) ≡ true → Chooses (may_choose_by k q s) seats
-  chooses_waiter some first =
-      let w = offers.waiter some in
-      record { choice = next.Waiter w.seat; may = and_from (q.waiter w.seat) _ w.may first; named = named_one seats w.seat w.in_range }
-
-  swapped : (a b c : Bool) → (a && c) ≡ true → b ≡ true → ((a && b) && c) ≡ true
-  swapped true b true h f = rw f refl
-  swapped true b false h f = absurd (false≢true h)
-  swapped false b c h f = absurd (false≢true h)
-
-  chooses_signaller : q.no_signaller ≡ false → (q.no_waiter || nat_le k.waiter k.signaller) ≡ true → Chooses (may_choose_by k q s) seats
-  chooses_signaller some first =
-      let w = offers.signaller some in
-      record {
-        choice = next.Signaller w.seat;
-        may = swapped (q.signaller w.seat) (q.no_waiter || nat_le k.waiter k.signaller) (not (w.seat == s)) w.may first;
-        named = named_one seats w.seat w.in_range;
-      }
-
-  chooses_ready : q.no_ready ≡ false → Chooses (may_choose_by k q s) seats
-  chooses_ready some =
-      let w = offers.ready some in
-      record { choice = next.Until w.seat; may = w.may; named = named_one seats w.seat w.in_range }
-
-  chooses_entry : q.no_waiter ≡ true → q.no_signaller ≡ true → q.no_ready ≡ true → Chooses (may_choose_by k q s) seats
-  chooses_entry no_waiter no_signaller no_ready =
-      record { choice = next.Entry; may = rw (no_waiter, no_signaller, no_ready) refl; named = refl }
-
-  chooses_inner : q.no_waiter ≡ false → q.no_signaller ≡ false → Chooses (may_choose_by k q s) seats
-  chooses_inner some more =
-      ⊎_elim
-      (λ l. chooses_waiter some (or_right q.no_signaller (nat_le k.signaller k.waiter) (le-leb k.signaller k.waiter (omega (arith, l)))))
-      (λ l. chooses_signaller more (or_right q.no_waiter (nat_le k.waiter k.signaller) (le-leb k.waiter k.signaller l)))
-      (cases_lt k.signaller k.waiter)
-
-  -- one that must choose
-  must_choose : Chooses (may_choose_by k q s) seats
-  must_choose =
-      ⊎_elim
-      (λ w. ⊎_elim
-      (λ g. ⊎_elim (λ r. chooses_entry w g r) chooses_ready (cases_Bool q.no_ready))
-      (λ g. chooses_signaller g (or_left q.no_waiter (nat_le k.waiter k.signaller) w)) (cases_Bool q.no_signaller))
-      (λ w. ⊎_elim (λ g. chooses_waiter w (or_left q.no_signaller (nat_le k.signaller k.waiter) g)) (chooses_inner w)
-      (cases_Bool q.no_signaller)) (cases_Bool q.no_waiter)
-
--- a signal that served somebody
-served_choose : (k : Rules) (q : Chances) (s seats : ℕ) → Someone q.waiter seats → q.signaller s ≡ true → Chooses (may_signal_by k q s) seats
-served_choose k q s seats w joined =
-    ⊎_elim
-    (λ l. record {
-      choice = next.Waiter w.seat;
-      may = and_from (q.waiter w.seat) (q.no_signaller || nat_le k.signaller k.waiter) w.may
-          (or_right q.no_signaller (nat_le k.signaller k.waiter) (le-leb k.signaller k.waiter (omega (arith, l))));
-      named = named_one seats w.seat w.in_range;
-    })
-    (λ l. record {
-      choice = next.Stay;
-      may = and_from (q.signaller s) (nat_le k.waiter k.signaller) joined (le-leb k.waiter k.signaller l);
-      named = refl;
-    })
-    (cases_lt k.signaller k.waiter)
 
 -- ---- who is there
 
@@ -261,115 +179,59 @@ pub record Chosen (o : Order) (m : Monitor) (b : Board) (e : Event) : Type 0 whe
   pub choice : Next
   pub passes : Passes o m b (with_next choice e)
 
--- in range with one choice as with another that names seats
-named_too : (a x y b c d : Bool) → ((((a && x) && b) && c) && d) ≡ true → y ≡ true → ((((a && y) && b) && c) && d) ≡ true
-named_too true true y b c d h k = rw k h
-named_too true false y b c d h k = absurd (false≢true h)
-named_too false x y b c d h k = h
-
-abbrev named : ℕ → Next → Bool
-named seats x = list_all (λ j. nat_lt j seats) (named_seat (Some x))
-
 stay_or : (stays : Bool) (p : Next → Bool) (seats : ℕ) → (stays ≡ false → Chooses p seats)
     → Chooses (λ x. cond stays (is_stay (Some x)) (p x)) seats
 stay_or true p seats h = record { choice = next.Stay; may = refl; named = refl }
 stay_or false p seats h = let f = h refl in record { choice = f.choice; may = f.may; named = f.named }
 
 module _ (o : Order) (loose : IsLoose o) (m : Monitor) (b : Board) (ord : Orderly m b) where
+  chosen_by : (e : Event) (p : Next → Bool) → MayCallIn m (sight b) e
+      → ((x : Next) → is_right_reply m.object b.state (with_next x e) ≡ true)
+      → ((x : Next) → p x ≡ true → board_permits o m.kind m.object b (with_next x e) ≡ true) → Chooses p m.seats → Chosen o m b e
+  chosen_by e p may right permits f = record {
+    choice = f.choice;
+    passes = record {
+      may_call = called_with m (sight b) e f.choice may f.named;
+      right_reply = right f.choice;
+      permitted = permits f.choice f.may;
+    };
+  }
+
+  -- one that must choose, and joins no signallers
+  goes : (e : Event) (x : Next) → next_of e ≡ Some x → MayCallIn m (sight b) e → signallers_with b e ≡ b.signallers
+      → Chooses (may_choose_by m.kind (board_chances o m.object b e) (seat_of e)) m.seats
+  goes e x chose may none = chooses o m b ord loose e x may chose none
+
   pub release_chosen : (e : Event) → next_of e ≡ Some next.Stay → MayCallIn m (sight b) e → Chosen o m b e
   release_chosen (event.Enter s via) chose may = absurd cc
   release_chosen (event.Act s op r) chose may = absurd cc
   release_chosen (event.Resume s q) chose may = absurd cc
   release_chosen (event.SignalAll s c) chose may = absurd cc
   release_chosen (event.Leave s y) chose may =
-      let f = chooses o m b ord loose (event.Leave s y) next.Stay may chose (append-nil b.signallers) in
-      record {
-        choice = f.choice;
-        passes = record {
-          may_call = record {
-            in_range = named_too (nat_lt s m.seats) (named m.seats y) (named m.seats f.choice) true true true may.in_range f.named;
-            offered = may.offered;
-            in_turn = may.in_turn;
-            in_place = refl;
-          };
-          right_reply = refl;
-          permitted = f.may;
-        };
-      }
+      let e = event.Leave s y in
+      chosen_by e (may_choose_by m.kind (board_chances o m.object b e) s) may (λ x. refl) (λ x h. h)
+      (goes e y refl may (append-nil b.signallers))
   release_chosen (event.Wait s c y) chose may =
-      let f = chooses o m b ord loose (event.Wait s c y) next.Stay may chose (append-nil b.signallers) in
-      record {
-        choice = f.choice;
-        passes = record {
-          may_call = record {
-            in_range = named_too (nat_lt s m.seats) (named m.seats y) (named m.seats f.choice) (nat_lt c m.conds) true true may.in_range f.named;
-            offered = may.offered;
-            in_turn = may.in_turn;
-            in_place = refl;
-          };
-          right_reply = refl;
-          permitted = f.may;
-        };
-      }
-  release_chosen (event.Signal s c y) chose may =
-      let f = stay_or (is_empty (unserved_in (line c b.items))) (may_signal_by m.kind (board_chances o m.object b (event.Signal s c y)) s) m.seats
-      (signal_chooses o loose m b ord s c y) in
-      record {
-        choice = f.choice;
-        passes = record {
-          may_call = record {
-            in_range = named_too (nat_lt s m.seats) (named m.seats y) (named m.seats f.choice) true (nat_lt c m.conds) true may.in_range f.named;
-            offered = may.offered;
-            in_turn = may.in_turn;
-            in_place = refl;
-          };
-          right_reply = refl;
-          permitted = f.may;
-        };
-      }
+      let e = event.Wait s c y in
+      chosen_by e (may_choose_by m.kind (board_chances o m.object b e) s) may (λ x. refl) (λ x h. h)
+      (goes e y refl may (append-nil b.signallers))
   release_chosen (event.SignalLeave s c y) chose may =
-      let f = chooses o m b ord loose (event.SignalLeave s c y) next.Stay may chose (append-nil b.signallers) in
-      record {
-        choice = f.choice;
-        passes = record {
-          may_call = record {
-            in_range = named_too (nat_lt s m.seats) (named m.seats y) (named m.seats f.choice) true (nat_lt c m.conds) true may.in_range f.named;
-            offered = may.offered;
-            in_turn = may.in_turn;
-            in_place = refl;
-          };
-          right_reply = refl;
-          permitted = f.may;
-        };
-      }
-  release_chosen (event.Until s p y) chose may =
-      let f = stay_or (m.object.holds b.state p) (may_choose_by m.kind (board_chances o m.object b (event.Until s p y)) s) m.seats
-      (λ h. chooses o m b ord loose (event.Until s p y) next.Stay may chose (append-nil b.signallers)) in
-      record {
-        choice = f.choice;
-        passes = record {
-          may_call = record {
-            in_range = named_too (nat_lt s m.seats) (named m.seats y) (named m.seats f.choice) true true (nat_lt p m.object.predicates) may.in_range f.named;
-            offered = may.offered;
-            in_turn = may.in_turn;
-            in_place = refl;
-          };
-          right_reply = refl;
-          permitted = f.may;
-        };
-      }
+      let e = event.SignalLeave s c y in
+      chosen_by e (may_choose_by m.kind (board_chances o m.object b e) s) may (λ x. refl) (λ x h. h)
+      (goes e y refl may (append-nil b.signallers))
   release_chosen (event.SignalWait s c d y) chose may =
-      let f = chooses o m b ord loose (event.SignalWait s c d y) next.Stay may chose (append-nil b.signallers) in
-      record {
-        choice = f.choice;
-        passes = record {
-          may_call = record {
-            in_range = named_too (nat_lt s m.seats) (named m.seats y) (named m.seats f.choice) (nat_lt d m.conds) (nat_lt c m.conds) true may.in_range f.named;
-            offered = may.offered;
-            in_turn = may.in_turn;
-            in_place = refl;
-          };
-          right_reply = refl;
-          permitted = f.may;
-        };
-      }
+      let e = event.SignalWait s c d y in
+      chosen_by e (may_choose_by m.kind (board_chances o m.object b e) s) may (λ x. refl) (λ x h. h)
+      (goes e y refl may (append-nil b.signallers))
+  release_chosen (event.Until s p y) chose may =
+      let e = event.Until s p y in
+      let holds = m.object.holds b.state p in
+      let may_choose = may_choose_by m.kind (board_chances o m.object b e) s in
+      chosen_by e (λ x. cond holds (is_stay (Some x)) (may_choose x)) may (λ x. refl) (λ x h. h)
+      (stay_or holds may_choose m.seats (λ h. goes e y refl may (append-nil b.signallers)))
+  release_chosen (event.Signal s c y) chose may =
+      let e = event.Signal s c y in
+      let nobody = is_empty (unserved_in (line c b.items)) in
+      let may_signal = may_signal_by m.kind (board_chances o m.object b e) s in
+      chosen_by e (λ x. cond nobody (is_stay (Some x)) (may_signal x)) may (λ x. refl) (λ x h. h)
+      (stay_or nobody may_signal m.seats (signal_chooses o loose m b ord s c y))
