@@ -1,15 +1,13 @@
 -- A release that may be called has a choice that a board permits, where any seat of a queue may be chosen
-use Rattle.std.proofs.Common.{◌≡◌, ℕ, ◌+◌, ◌<◌, ◌≤◌, Bool, true, false, cond, ◌&&◌, ◌||◌, not, List, [], ◌∷◌, ◌++◌, Some}
+use Rattle.std.proofs.Common.{◌≡◌, ℕ, ◌+◌, ◌<◌, ◌≤◌, Bool, true, false, cond, ◌&&◌, not, List, [], ◌∷◌, ◌++◌, Some}
 use Rattle.std.proofs.Common.{refl, sym, ap, subst, ◌∙◌, ⊎_elim, arith, map, take, append-nil}
-use Rattle.std.proofs.lemmas.Bool.{and_from, cases_Bool, cases_lt, false≢true, le-leb, ne_eqb, or_left, or_right, true≢false}
-use Rattle.std.specs.List.{list_all}
-use Rattle.std.specs.Prelude.{◌==◌, nat_le, nat_lt}
-use Rattle.monk_kinds.specs.declared.mode.Rules.{Rules}
+use Rattle.std.proofs.lemmas.Bool.{and_from, cases_Bool, ne_eqb, or_right, true≢false}
+use Rattle.std.specs.Prelude.{◌==◌}
 use Rattle.monk_history.specs.declared.event.Event.{Event}
 use Rattle.monk_history.specs.declared.event.Event.TheVariants as event
 use Rattle.monk_history.specs.declared.event.Next.{Next}
 use Rattle.monk_history.specs.declared.event.Next.TheVariants as next
-use Rattle.monk_history.specs.Meaning.Events.{has_conditions, is_stay, named_seat, next_of, seat_of}
+use Rattle.monk_history.specs.Meaning.Events.{has_conditions, is_stay, next_of, seat_of}
 use Rattle.monk_history.specs.Meaning.Monitor.{Monitor}
 use Rattle.monk_history.specs.Meaning.Reasons.{is_right_reply}
 use Rattle.monk_history.specs.Meaning.Release.{MayCallIn, with_next}
@@ -17,7 +15,7 @@ use Rattle.monk_history.specs.Meaning.Signallers.{is_empty}
 use Rattle.monk_history.specs.Meaning.Standing.{has_turn, times}
 use Rattle.monk_history.specs.Meaning.Untils.{ready_of}
 use Rattle.monk_logs.specs.Board.{Board, board_chances, board_permits, items_with, sight, signallers_with}
-use Rattle.monk_logs.specs.Chances.{Chances, may_choose_by, may_signal_by}
+use Rattle.monk_logs.specs.Chances.{may_choose_by, may_signal_by}
 use Rattle.monk_logs.specs.Items.{line, may_resume, services, unserved_in}
 use Rattle.monk_logs.specs.Order.{IsLoose, is_among, may_go}
 use Rattle.monk_logs.specs.declared.item.Item.{Item}
@@ -84,9 +82,10 @@ sound_with b e h = record {
 
 resumer : (o : Order) (b : Board) (e : Event) → Sound b → is_empty (services (items_with b e)) ≡ false → Resumer o (items_with b e)
 resumer o b e sound some =
+    let items = items_with b e in
     let fits = firsts_fit o (board_with b e) (sound_with b e sound) in
     let dis = distinct_with b e sound in
-    resumer_of o (items_with b e) (firsts (items_with b e)) dis fits (empty_waiters o (firsts (items_with b e)) (items_with b e) dis fits ∙ some)
+    resumer_of o items (firsts items) dis fits (empty_waiters o (firsts items) items dis fits ∙ some)
 
 module _ (o : Order) (m : Monitor) (b : Board) (ord : Orderly m b) where
   seat_inside : (j : ℕ) → 1 ≤ times j (all_seats b.items) + times j b.signallers + times j (until_seats b.untils) + has_turn j b.turn

@@ -1,39 +1,14 @@
 -- What a release may choose, by who is there
-use Rattle.std.proofs.Common.{◌≡◌, ℕ, ◌+◌, ◌<◌, ◌≤◌, Bool, true, false, cond, ◌&&◌, ◌||◌, not, List, [], ◌∷◌, ◌++◌, Some}
-use Rattle.std.proofs.Common.{refl, sym, ap, subst, ◌∙◌, ⊎_elim, arith, map, take, append-nil}
-use Rattle.std.proofs.lemmas.Bool.{and_from, cases_Bool, cases_lt, false≢true, le-leb, ne_eqb, or_left, or_right, true≢false}
+use Rattle.std.proofs.Common.{◌≡◌, ℕ, ◌<◌, Bool, true, false, ◌&&◌, ◌||◌, not, [], ◌∷◌, Some}
+use Rattle.std.proofs.Common.{refl, ⊎_elim, arith}
+use Rattle.std.proofs.lemmas.Bool.{and_from, cases_Bool, cases_lt, false≢true, le-leb, or_left, or_right}
 use Rattle.std.specs.List.{list_all}
 use Rattle.std.specs.Prelude.{◌==◌, nat_le, nat_lt}
 use Rattle.monk_kinds.specs.declared.mode.Rules.{Rules}
-use Rattle.monk_history.specs.declared.event.Event.{Event}
-use Rattle.monk_history.specs.declared.event.Event.TheVariants as event
 use Rattle.monk_history.specs.declared.event.Next.{Next}
 use Rattle.monk_history.specs.declared.event.Next.TheVariants as next
-use Rattle.monk_history.specs.Meaning.Events.{has_conditions, is_stay, named_seat, next_of, seat_of}
-use Rattle.monk_history.specs.Meaning.Monitor.{Monitor}
-use Rattle.monk_history.specs.Meaning.Release.{MayCallIn, with_next}
-use Rattle.monk_history.specs.Meaning.Signallers.{is_empty}
-use Rattle.monk_history.specs.Meaning.Standing.{has_turn, times}
-use Rattle.monk_history.specs.Meaning.Untils.{ready_of}
-use Rattle.monk_logs.specs.Board.{Board, board_chances, items_with, sight, signallers_with}
+use Rattle.monk_history.specs.Meaning.Events.{has_conditions, named_seat}
 use Rattle.monk_logs.specs.Chances.{Chances, may_choose_by, may_signal_by}
-use Rattle.monk_logs.specs.Items.{line, may_resume, services, unserved_in}
-use Rattle.monk_logs.specs.Order.{IsLoose, is_among, may_go}
-use Rattle.monk_logs.specs.declared.item.Item.{Item}
-use Rattle.monk_logs.specs.declared.item.Item.TheVariants.{Service, Waiting}
-use Rattle.monk_logs.specs.declared.order.Order.{Order}
-use Rattle.monk_logs.proofs.BoardLaws.Orderly.{Orderly}
-use Rattle.monk_logs.proofs.BoardLaws.Told.{owner_counted}
-use Rattle.monk_logs.proofs.OrderLaws.Chances.{may_go_from}
-use Rattle.monk_logs.proofs.OrderLaws.Choosing.{may_choose_it, resume_there}
-use Rattle.monk_logs.proofs.OrderLaws.Counts.{ready_waits, until_seats}
-use Rattle.monk_logs.proofs.OrderLaws.Fits.{Fits}
-use Rattle.monk_logs.proofs.OrderLaws.Lines.{all_seats}
-use Rattle.monk_logs.proofs.OrderLaws.Lists.{Distinct, among_counted, among_here, among-append}
-use Rattle.monk_logs.proofs.OrderLaws.Passes.{Passes}
-use Rattle.monk_logs.proofs.OrderLaws.Seated.{one_at_most, seats_with}
-use Rattle.monk_logs.proofs.OrderLaws.Sound.{Sound, distinct_with, firsts, firsts_fit, keeps_with}
-use Rattle.monk_logs.proofs.OrderLaws.Stands.{among, empty_waiters}
 
 -- a seat of which a test holds
 pub record Someone (p : ℕ → Bool) (seats : ℕ) : Type 0 where
@@ -102,7 +77,8 @@ module _ (k : Rules) (q : Chances) (s seats : ℕ) (offers : Offers k q s seats)
       (cases_Bool q.no_signaller)) (cases_Bool q.no_waiter)
 
 -- a signal that served somebody
-pub served_choose : (k : Rules) (q : Chances) (s seats : ℕ) → Someone q.waiter seats → q.signaller s ≡ true → Chooses (may_signal_by k q s) seats
+pub served_choose : (k : Rules) (q : Chances) (s seats : ℕ) → Someone q.waiter seats → q.signaller s ≡ true
+    → Chooses (may_signal_by k q s) seats
 served_choose k q s seats w joined =
     ⊎_elim
     (λ l. record {

@@ -96,7 +96,8 @@ record Leads (o : Order) (m : Monitor) (x : Option BoardCourse) (ls : List LogLi
 
 -- ---- what passes its tests is taken, or held
 
-pub step_ok : (o : Order) (m : Monitor) (b : Board) (e : Event) → Passes o m b e → board_step o m b (Did e) ≡ Some (board_after m.object b e)
+pub step_ok : (o : Order) (m : Monitor) (b : Board) (e : Event) → Passes o m b e
+    → board_step o m b (Did e) ≡ Some (board_after m.object b e)
 step_ok o m b e p = ap (λ (n : ℕ). cond (n == 0) (Some (board_after m.object b e)) None) (reason_none o m b e p)
 
 hold_ok : (m : Monitor) (b : Board) (e : Event) (p : Pending) → MayCallIn m (sight b) e → board_hold m b e p ≡ Some (board_course b p)

@@ -130,7 +130,8 @@ signalled b e j h ne =
     (or_cases (is_among j b.signallers) (is_among j (signals (sight b).condition e))
     (sym (among-append j b.signallers (signals (sight b).condition e)) ∙ h))
 
-nowhere_at : (j : ℕ) (items : List Item) (x : Option ℕ) → condition_of j items ≡ x → is_among j (all_seats items) ≡ false → is_some x ≡ false
+nowhere_at : (j : ℕ) (items : List Item) (x : Option ℕ) → condition_of j items ≡ x → is_among j (all_seats items) ≡ false
+    → is_some x ≡ false
 nowhere_at j items None is h = refl
 nowhere_at j items (Some c) is h = absurd (false≢true (sym h ∙ among_line j c items (waits_there j c items is)))
 
