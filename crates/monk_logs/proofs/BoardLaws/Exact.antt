@@ -30,7 +30,7 @@ use Rattle.monk_logs.proofs.CourseLaws.Soundness.{erased_with_next, rest_of}
 use Rattle.monk_logs.proofs.OrderLaws.Exact.{run_taken, taken_run}
 
 -- what is open is open up to each of its lines
-open_front : (o : Order) (m : Monitor) (log more : List LogLine) → IsOpenIn o m (log ++ more) → IsOpenIn o m log
+pub open_front : (o : Order) (m : Monitor) (log more : List LogLine) → IsOpenIn o m (log ++ more) → IsOpenIn o m log
 open_front o m log more x = record {
   steps = x.steps;
   run = x.run;
