@@ -17,6 +17,8 @@ NAMED = {
     "signal-wait": ("conds", "conds"),
     "signal-all": ("conds",),
 }
+# How many of the audit's tests come before that of the choice.
+CHOICELESS = formats.REASONS.index("choice")
 VIAS = ("free", "handed")
 SOURCES = ("waiter", "signaller", "until")
 
@@ -90,10 +92,12 @@ class Search:
             for numbers in itertools.product(*(ranges[it] for it in kinds)):
                 yield from ((name, seat, *numbers, *then) for then in (nexts if name in formats.RELEASES else [()]))
 
-    def tries(self, key, e):
+    def tries(self, here, key, e):
         """The situations to which an event leads."""
-        here = Situation(self, key)
         words = [str(word) for word in e]
+        # (whom it serves and chooses is looked at only where the event is else in order)
+        if 0 < here.reason(words) <= CHOICELESS:
+            return
         anybody = [None] if self.order != ANY or not e[0].startswith("signal") else [None, *here.waits[e[2]]]
         firsts = [None] if self.order == FIFO else range(self.header.seats)
         for to_serve, first in itertools.product(anybody, firsts):
@@ -109,7 +113,7 @@ class Search:
         for seat in range(self.header.seats):
             for e in self.events(seat, here.thing):
                 first, *rest = erased(e)
-                for then in self.tries(key, e):
+                for then in self.tries(here, key, e):
                     found.setdefault(first, set()).add((then, tuple(rest)))
         for cond, queue in here.waits.items() if here.turn == "open" else ():
             for seat in queue:
@@ -120,17 +124,18 @@ class Search:
                     found.setdefault((verb, seat), set()).add((there.key(), ()))
         return found
 
-    def behind_one(self, at, line):
+    def steps_of(self, at):
+        """What comes behind a run, by its first line."""
         key, rest = at
         if rest:
-            return {(key, rest[1:])} if rest[0] == line else set()
+            return {rest[0]: {(key, rest[1:])}}
         if key not in self.steps:
             self.steps[key] = self.steps_from(key)
-        return self.steps[key].get(line, set())
+        return self.steps[key]
 
     def behind(self, runs, line):
         """Those whose next line is this, behind it."""
         asked = (runs, line)
         if asked not in self.lines:
-            self.lines[asked] = frozenset().union(*(self.behind_one(at, line) for at in runs))
+            self.lines[asked] = frozenset().union(*(self.steps_of(at).get(line, ()) for at in runs))
         return self.lines[asked]
