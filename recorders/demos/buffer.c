@@ -3,6 +3,7 @@
      good       two conditions, each signalled
      all        one condition, and broadcasts
      timed      as good, with waits that run out
+     pair       as good, of one putter and one taker, with room for one item: no later signal makes up for one that is lost
      if         a fault: who waited doesn't test again
      forgotten  a fault: who takes signals nobody
 
@@ -15,14 +16,15 @@
 
 #include "../c/monk_log.h"
 
-enum { PUTTERS = 3, TAKERS = 3, SIZE = 2, ITEMS = 20, PUT = 0, TAKE = 1, SHORT = 20000, SECOND = 1000000000 };
+/* as many putters as takers */
+enum { PUTTERS = 3, SIZE = 2, ITEMS = 20, PUT = 0, TAKE = 1, SHORT = 20000, SECOND = 1000000000 };
 
 static pthread_mutex_t lock = PTHREAD_MUTEX_INITIALIZER;
 static pthread_cond_t not_full = PTHREAD_COND_INITIALIZER, not_empty = PTHREAD_COND_INITIALIZER;
-static unsigned ring[SIZE], first, count;
+static unsigned ring[SIZE], first, count, size = SIZE;
 static int all, timed, once, forgotten;
 
-static int is_full(void) { return count == SIZE; }
+static int is_full(void) { return count == size; }
 static int is_empty(void) { return count == 0; }
 
 static void wait_for_a_while(pthread_cond_t *cond) {
@@ -81,14 +83,16 @@ static void *putter(void *unused) {
 
 static void *taker(void *unused) {
     (void)unused;
-    for (int taken = 0; taken < ITEMS * PUTTERS / TAKERS; taken++)
+    for (int taken = 0; taken < ITEMS; taken++)
         take();
     return 0;
 }
 
 int main(int words, char **word) {
     const char *style = words > 1 ? word[1] : "good";
-    pthread_t threads[PUTTERS + TAKERS];
+    int is_pair = !strcmp(style, "pair"), putters = is_pair ? 1 : PUTTERS;
+    pthread_t threads[2 * PUTTERS];
+    size = is_pair ? 1 : SIZE;
     all = !strcmp(style, "all");
     timed = !strcmp(style, "timed");
     once = !strcmp(style, "if");
@@ -98,9 +102,9 @@ int main(int words, char **word) {
     pthread_cond_signal(&not_full);
     pthread_cond_signal(all ? &not_full : &not_empty);
     pthread_mutex_unlock(&lock);
-    for (int i = 0; i < PUTTERS + TAKERS; i++)
-        pthread_create(&threads[i], 0, i < PUTTERS ? putter : taker, 0);
-    for (int i = 0; i < PUTTERS + TAKERS; i++)
+    for (int i = 0; i < 2 * putters; i++)
+        pthread_create(&threads[i], 0, i < putters ? putter : taker, 0);
+    for (int i = 0; i < 2 * putters; i++)
         pthread_join(threads[i], 0);
     return 0;
 }

@@ -6,7 +6,8 @@ timed      as good, with waits that run out
 queue      queue.Queue of the standard library
 if         a fault: who waited doesn't test again
 forgotten  a fault: who takes notifies nobody
-drop       a fault of the library: every seventh notify wakes nobody
+pair       one putter and one taker, with room for one item
+drop       the same, and a fault of the library: every seventh notify wakes nobody
 
 Putters wait on condition 0 (predicate 0 of a buffer), takers on condition 1 (predicate 1)."""
 import os
@@ -19,11 +20,16 @@ sys.dont_write_bytecode = True
 sys.path.insert(0, os.path.join(os.path.dirname(os.path.abspath(__file__)), "../python"))
 import monk_log
 
-PUTTERS, TAKERS, SIZE, ITEMS = 3, 3, 2, 12
+# As many putters as takers; a pair has less room, so that no later notify makes up for one that was lost.
+PUTTERS, SIZE, SIZE_OF_PAIR, ITEMS = 3, 2, 1, 12
 PUT, TAKE = 0, 1
 # How long a timed wait lasts, when threads take turns, and how long a run may last, in seconds.
 SHORT, SWITCH, LONG = 0.0002, 0.00002, 0.4
 EVERY = 7
+
+
+def is_pair(style):
+    return style in ("pair", "drop")
 
 
 class Buffer:
@@ -32,7 +38,7 @@ class Buffer:
         self.lock = self.recorder.lock()
         self.not_full = self.recorder.condition(self.lock)
         self.not_empty = self.not_full if style == "all" else self.recorder.condition(self.lock)
-        self.style, self.items = style, []
+        self.style, self.items, self.size = style, [], SIZE_OF_PAIR if is_pair(style) else SIZE
 
     def wait_while(self, holds, condition):
         while holds():
@@ -48,7 +54,7 @@ class Buffer:
 
     def put(self, item):
         with self.lock:
-            self.wait_while(lambda: len(self.items) >= SIZE, self.not_full)
+            self.wait_while(lambda: len(self.items) >= self.size, self.not_full)
             self.items.append(item)
             self.recorder.act(PUT, item, 1)
             self.tell(self.not_empty)
@@ -87,16 +93,17 @@ def run(style):
             buffer.put(item)
 
     def take():
-        for _ in range(ITEMS * PUTTERS // TAKERS):
+        for _ in range(ITEMS):
             buffer.get()
 
-    threads = [threading.Thread(target=work, daemon=True) for work in [put] * PUTTERS + [take] * TAKERS]
+    each = 1 if is_pair(style) else PUTTERS
+    threads = [threading.Thread(target=work, daemon=True) for work in [put] * each + [take] * each]
     for thread in threads:
         thread.start()
     end = time.monotonic() + LONG
     for thread in threads:
         thread.join(max(0, end - time.monotonic()))
-    return recorder.text(f"buffer {SIZE}")
+    return recorder.text(f"buffer {SIZE_OF_PAIR if is_pair(style) else SIZE}")
 
 
 def main():
