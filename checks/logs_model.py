@@ -64,10 +64,10 @@ def counted(header, lines, means=()):
     return said + ([f"missed {missed or 'none'}"] if means else [])
 
 
-def fitted(header, lines, lapses=False):
-    """The ten lines, and whether a kind fits."""
+def fitted(header, lines, lapses=False, kinds=formats.KINDS):
+    """A line for each kind, and whether a kind fits."""
     said = []
-    for kind in formats.KINDS:
+    for kind in kinds:
         for order in ORDERS:
             misfit = judge(Rules(kind, header, order, lapses), lines)
             if not misfit:
