@@ -5,8 +5,9 @@ import shutil
 import subprocess
 
 HERE = os.path.dirname(os.path.abspath(__file__))
-# How long a run of C's may last, in seconds, and how many signals there are to one that is dropped.
-LONG, EVERY = "0.3", "7"
+# How long a recorded run may last, in seconds, and one that may hang; how many signals there are to one that is dropped.
+LONG, LONG_IF_HANGING, EVERY = "20", "0.3", "7"
+HANGING, STATUS_LATE = ("if", "forgotten", "drop"), 124
 TOOLS = {"c": ("gcc",), "c++": ("gcc", "g++"), "python": ("python3",), "java": ("javac", "java"), "go": ("go",), "rust": ("rustc",)}
 # The input of the unmodified programs: lines enough that sort takes threads.
 ROWS, PRIME = 300000, 999983
@@ -29,7 +30,8 @@ def make(*words, folder):
 
 
 def build_library(folder):
-    make("gcc", "-O2", "-shared", "-fPIC", "-o", "libmonk_log.so", os.path.join(HERE, "c", "libmonk_log.c"), "-ldl", "-lpthread", folder=folder)
+    source = os.path.join(HERE, "c", "libmonk_log.c")
+    make("gcc", "-O2", "-shared", "-fPIC", "-o", "libmonk_log.so", source, "-ldl", "-lpthread", folder=folder)
 
 
 def build_c(folder):
@@ -71,11 +73,22 @@ WRITERS = {
 }
 
 
-def run_recorded(folder, words, prefix, thing, drops=False, seconds=LONG):
+def run_recorded(folder, style, prefix):
     """Runs a program with the recorder loaded; what it says on standard error."""
-    library = os.path.join(folder, "libmonk_log.so") + (f" {folder}/libdrop.so" if drops else "")
-    env = {**os.environ, "MONK_LOG": prefix, "MONK_OBJECT": thing, "MONK_SECONDS": seconds, "MONK_DROP": EVERY, "LD_PRELOAD": library}
-    return subprocess.run(words, env=env, cwd=folder, stdout=subprocess.DEVNULL, stderr=subprocess.PIPE, text=True).stderr
+    drops, program = style == "drop", os.path.join(folder, "buffer")
+    words = [*UNMODIFIED[style], input_of(folder)] if style in UNMODIFIED else [program, "pair" if drops else style]
+    env = {
+        **os.environ,
+        "LD_PRELOAD": os.path.join(folder, "libmonk_log.so") + (f" {folder}/libdrop.so" if drops else ""),
+        "MONK_LOG": prefix,
+        "MONK_OBJECT": "buffer 1" if style in ("pair", "drop") else "buffer 2",
+        "MONK_SECONDS": LONG_IF_HANGING if style in HANGING else LONG,
+        "MONK_DROP": EVERY,
+    }
+    ran = subprocess.run(words, env=env, cwd=folder, stdout=subprocess.DEVNULL, stderr=subprocess.PIPE, text=True)
+    if ran.returncode not in (0, STATUS_LATE):
+        raise SystemExit(f"recorders: {' '.join(words)} ended with {ran.returncode}\n{ran.stderr}")
+    return ran.stderr
 
 
 def input_of(folder):
@@ -99,13 +112,10 @@ def run(language, style, folder, times):
     if language in WRITERS:
         subprocess.run([*WRITERS[language](folder, style), prefix, str(times), style], check=True)
     for number in range(0 if language in WRITERS else times):
-        name, program = f"{prefix}.{number}", os.path.join(folder, "buffer")
-        if style in UNMODIFIED:
-            said += run_recorded(folder, [*UNMODIFIED[style], input_of(folder)], name, "buffer 1", seconds="60")
-        elif style.startswith("hoare"):
+        name = f"{prefix}.{number}"
+        if style.startswith("hoare"):
             with open(name, "w") as file:
                 subprocess.run([os.path.join(folder, "hoare"), *style.split()[1:]], stdout=file, check=True)
         else:
-            drops = style == "drop"
-            said += run_recorded(folder, [program, "pair" if drops else style], name, "buffer 1" if style in ("pair", "drop") else "buffer 2", drops)
+            said += run_recorded(folder, style, name)
     return sorted(glob.glob(f"{prefix}.*")), said

@@ -194,16 +194,22 @@ static void write_log(const struct monitor *m, const char *prefix, int *number) 
         fprintf(stderr, "monk: %s: it ends early, since %s\n", name, m->stopped);
 }
 
-static void finish(void) {
+static void write_logs(void) {
     const char *prefix = getenv("MONK_LOG");
+    struct timespec settle = {0, TO_SETTLE * MILLISECOND};
     int number = 0;
     if (!prefix || atomic_exchange(&closed, 1))
         return;
-    struct timespec settle = {0, TO_SETTLE * MILLISECOND};
     nanosleep(&settle, 0);
     for (int i = 0; i < MONITORS; i++)
         if (monitors[i].waits && monitors[i].length)
             write_log(&monitors[i], prefix, &number);
+}
+
+/* Whoever comes second waits until the logs are written. */
+static void finish(void) {
+    static pthread_once_t once = PTHREAD_ONCE_INIT;
+    pthread_once(&once, write_logs);
 }
 
 #endif

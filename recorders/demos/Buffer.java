@@ -27,7 +27,8 @@ public final class Buffer {
     private static final int PUT = 0;
     private static final int TAKE = 1;
     private static final long SHORT_MICROSECONDS = 20;
-    private static final long LONG_MILLISECONDS = 400;
+    private static final long LONG_MILLISECONDS = 20000;
+    private static final long LONG_IF_HANGING_MILLISECONDS = 400;
 
     /** What a thread does with the buffer. */
     private interface Step {
@@ -146,7 +147,8 @@ public final class Buffer {
         for (int i = 0; i < PUTTERS + TAKERS; i++) {
             threads.add(start(i < PUTTERS ? put : take));
         }
-        long end = System.currentTimeMillis() + LONG_MILLISECONDS;
+        boolean mayHang = style.equals("if") || style.equals("forgotten");
+        long end = System.currentTimeMillis() + (mayHang ? LONG_IF_HANGING_MILLISECONDS : LONG_MILLISECONDS);
         for (Thread thread : threads) {
             thread.join(Math.max(1, end - System.currentTimeMillis()));
         }

@@ -28,7 +28,9 @@ const (
 	put     = 0
 	take    = 1
 	pause   = 20 * time.Microsecond
-	long    = 400 * time.Millisecond
+	long    = 20 * time.Second
+	// of those that may hang
+	longIfHanging = 400 * time.Millisecond
 )
 
 type buffer struct {
@@ -115,9 +117,13 @@ func run(style string) string {
 		all.Wait()
 		close(done)
 	}()
+	limit := long
+	if style == "if" || style == "forgotten" {
+		limit = longIfHanging
+	}
 	select {
 	case <-done:
-	case <-time.After(long):
+	case <-time.After(limit):
 	}
 	return b.monitor.Text(putters+takers, fmt.Sprintf("buffer %d", size))
 }

@@ -23,8 +23,9 @@ import monk_log
 # As many putters as takers; a pair has less room, so that no later notify makes up for one that was lost.
 PUTTERS, SIZE, SIZE_OF_PAIR, ITEMS = 3, 2, 1, 12
 PUT, TAKE = 0, 1
-# How long a timed wait lasts, when threads take turns, and how long a run may last, in seconds.
-SHORT, SWITCH, LONG = 0.0002, 0.00002, 0.4
+# How long a timed wait lasts, when threads take turns, and how long a run may last, in seconds; of those that may hang.
+SHORT, SWITCH, LONG, LONG_IF_HANGING = 0.0002, 0.00002, 20, 0.4
+HANGING = ("if", "forgotten", "drop")
 EVERY = 7
 
 
@@ -100,7 +101,7 @@ def run(style):
     threads = [threading.Thread(target=work, daemon=True) for work in [put] * each + [take] * each]
     for thread in threads:
         thread.start()
-    end = time.monotonic() + LONG
+    end = time.monotonic() + (LONG_IF_HANGING if style in HANGING else LONG)
     for thread in threads:
         thread.join(max(0, end - time.monotonic()))
     return recorder.text(f"buffer {SIZE_OF_PAIR if is_pair(style) else SIZE}")

@@ -25,7 +25,8 @@ const TAKE: u8 = 1;
 const NOT_FULL: usize = 0;
 const NOT_EMPTY: usize = 1;
 const SHORT: Duration = Duration::from_micros(20);
-const LONG: Duration = Duration::from_millis(400);
+const LONG: Duration = Duration::from_secs(20);
+const LONG_IF_HANGING: Duration = Duration::from_millis(400);
 const PAUSE: Duration = Duration::from_millis(1);
 
 type Buffer = monk_log::Monitor<VecDeque<u32>, 2>;
@@ -106,7 +107,8 @@ fn run(style: Style) -> String {
             })
         })
         .collect();
-    let end = Instant::now() + LONG;
+    let may_hang = matches!(style, Style::If | Style::Forgotten);
+    let end = Instant::now() + if may_hang { LONG_IF_HANGING } else { LONG };
     while Instant::now() < end && !threads.iter().all(|thread| thread.is_finished()) {
         thread::sleep(PAUSE);
     }
