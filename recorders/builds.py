@@ -64,9 +64,10 @@ def build_rust(folder):
 
 
 BUILDS = {"c": build_c, "c++": build_cpp, "python": lambda folder: None, "java": build_java, "go": build_go, "rust": build_rust}
+LOST = ("lost notify", "passed on")
 # The words of a program of a language, that writes all its logs itself.
 WRITERS = {
-    "python": lambda folder, style: ["python3", demo("lost_notify.py" if style == "lost notify" else "buffer.py")],
+    "python": lambda folder, style: ["python3", demo("lost_notify.py" if style in LOST else "buffer.py")],
     "java": lambda folder, style: ["java", "-cp", folder, "Buffer"],
     "go": lambda folder, style: [os.path.join(folder, "buffer")],
     "rust": lambda folder, style: [os.path.join(folder, "buffer")],
