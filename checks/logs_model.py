@@ -8,6 +8,7 @@ first line at which somebody waits on though it holds. With --lapses a `resume` 
 The status is 0 where a kind fits, 1 where none does, 2 where the text can't be read or the object isn't one.
 
 How it judges is told in checks/logs_board.py."""
+import argparse
 import re
 import sys
 
@@ -134,25 +135,26 @@ def read(text):
     return header, made
 
 
+def meant(word):
+    cond, pred = word.split("=")
+    return int(cond), int(pred)
+
+
 def main():
-    words, means, lapses, files = sys.argv[1:], [], False, []
-    while words:
-        word = words.pop(0)
-        if word == "--means":
-            means.append(tuple(int(it) for it in words.pop(0).split("=")))
-        elif word == "--lapses":
-            lapses = True
-        else:
-            files.append(word)
-    with open(files[0], encoding="latin-1", newline="") if files else open(0, encoding="latin-1", newline="") as file:
+    asked = argparse.ArgumentParser(add_help=False)
+    asked.add_argument("--lapses", action="store_true")
+    asked.add_argument("--means", type=meant, action="append", default=[])
+    asked.add_argument("file", nargs="?", default=0)
+    words = asked.parse_args()
+    with open(words.file, encoding="latin-1", newline="") as file:
         text = file.read()
     try:
         header, lines = read(text)
     except Fault as why:
         print(why)
         return 2
-    said, fits = fitted(header, lines, lapses)
-    print(*said, *counted(header, lines, means), sep="\n")
+    said, fits = fitted(header, lines, words.lapses)
+    print(*said, *counted(header, lines, words.means), sep="\n")
     return 0 if fits else 1
 
 
