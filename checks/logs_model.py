@@ -1,0 +1,162 @@
+#!/usr/bin/env python3
+"""Which monitors a log could be of, by a plain model: checks/logs_model.py [--lapses] [--means COND=PRED].. [FILE]
+
+Reads a log (docs/LOGS.md), of standard input where no FILE is named, and prints ten lines, one for each kind: the strictest
+of the orders fifo, wake and any in which it fits, or the first line with which no run of that kind begins and the first test
+that this line fails. Then the counts, and for each --means a predicate that should hold where its condition is signalled: the
+first line at which somebody waits on though it holds. With --lapses a `resume` may be a wake-up that no signal made.
+The status is 0 where a kind fits, 1 where none does, 2 where the text can't be read or the object isn't one.
+
+How it judges is told in checks/logs_board.py."""
+import argparse
+import re
+import sys
+
+sys.dont_write_bytecode = True
+from logs_board import ANY, ORDERS, REASONS, Header, Rules, behind, formats, given, judge, line_of, opening, services, thing, waiting
+
+# What a verb's words are behind the seat, with the most that each may be.
+BYTE = 255
+VERBS = {
+    **dict.fromkeys(("enter", "resume", "lapse", "leave"), ()),
+    **dict.fromkeys(("wait", "signal", "broadcast", "until"), (BYTE,)),
+    "act": (BYTE, 2**32 - 1, 2**64 - 1),
+}
+MOST = {"seats": 32, "conds": 8, "buffer": 64, "book": 32, "shop": 64}
+NUMBER = re.compile("0|[1-9][0-9]*")
+
+
+# ---- the counts, of the log as one of NPNB in any order, where waits may lapse
+
+
+def standing(course):
+    """The items and who is inside, with what the last event has done before its choice is known."""
+    board, event, _ = course
+    if not event:
+        return board.items, board.inside
+    left = {event[1]} if event[0] in ("leave", "signal-leave") else set()
+    return board.items + given(board, event) + waiting(event), board.inside - left
+
+
+def is_missed(rules, course, means):
+    """Whether at a release somebody waits on, though the predicate holds and nobody who was served is still to come back."""
+    items, _ = standing(course)
+    holds = [cond for cond, pred in means if thing(rules, course.board).holds(pred)]
+    return any(line_of(items, cond) and None not in line_of(items, cond) for cond in holds)
+
+
+def counted(header, lines, means=()):
+    """The lines of counts, up to the first misfit."""
+    rules, course, count, missed = Rules("NPNB", header, ANY, True), opening(header), dict.fromkeys(("served", "passed", "lapsed"), 0), None
+    for step, line in enumerate(lines, 1):
+        before, then = standing(course)[0], behind(rules, course, line)
+        if isinstance(then, str):
+            break
+        course, items = then, standing(then)[0]
+        gone = services(items) - services(before)
+        count["served"] += max(0, gone)
+        count["passed"] += line[0] == "enter" and services(items) > 0
+        count["lapsed"] += line[0] in ("resume", "lapse") and not gone
+        if missed is None and line[0] in ("leave", "wait") and is_missed(rules, course, means):
+            missed = step
+    items, inside = standing(course)
+    said = [" ".join(f"{word} {number}" for word, number in count.items())]
+    said.append(f"left waiting {len(items) - 2 * services(items)} woken {services(items)} inside {len(inside)}")
+    return said + ([f"missed {missed or 'none'}"] if means else [])
+
+
+def fitted(header, lines, lapses=False, kinds=formats.KINDS):
+    """A line for each kind, and whether a kind fits."""
+    said = []
+    for kind in kinds:
+        for order in ORDERS:
+            misfit = judge(Rules(kind, header, order, lapses), lines)
+            if not misfit:
+                said.append(f"{kind} fits {order}")
+                break
+        else:
+            said.append(f"{kind} misfit {misfit[0]} {REASONS.index(misfit[1]) + 1} {misfit[1]}")
+    return said, any(" fits " in line for line in said)
+
+
+# ---- the text
+
+
+class Fault(Exception):
+    """What can't be read, as it is printed."""
+
+
+FAULTS = ("header", "word", "number", "end")
+
+
+def fault(line, word):
+    return Fault(f"unreadable {line} {FAULTS.index(word) + 1} {word}")
+
+
+def number(word, most):
+    return int(word) if NUMBER.fullmatch(word) and int(word) <= most else None
+
+
+def header_of(words):
+    """The header that these words are of, or None."""
+    if words[:2] != ["log", "1"] or len(words) != 6 or words[4] not in formats.CODES:
+        return None
+    seats, conds, size = number(words[2], MOST["seats"]), number(words[3], MOST["conds"]), number(words[5], BYTE)
+    return Header(seats, conds, words[4], size) if seats and conds is not None and size else None
+
+
+def line_at(at, words):
+    """The line that these words are of."""
+    if words[0] not in VERBS:
+        raise fault(at, "word")
+    mosts, numbers = (BYTE, *VERBS[words[0]]), []
+    for word, most in zip(words[1:], mosts):
+        numbers.append(number(word, most))
+        if numbers[-1] is None:
+            raise fault(at, "number")
+    if len(words) != 1 + len(mosts):
+        raise fault(at, "word")
+    return (words[0], *numbers)
+
+
+def read(text):
+    """A header and the lines behind it."""
+    *lines, rest = text.split("\n")
+    if not text:
+        raise fault(1, "header")
+    header = header_of(lines[0].split(" ")) if lines else None
+    if lines and not header:
+        raise fault(1, "header")
+    made = [line_at(at, line.split(" ")) for at, line in enumerate(lines[1:], 2)]
+    if rest:
+        raise fault(len(lines) + 1, "end")
+    if header.size > MOST[header.object]:
+        raise Fault("object")
+    return header, made
+
+
+def meant(word):
+    cond, pred = word.split("=")
+    return int(cond), int(pred)
+
+
+def main():
+    asked = argparse.ArgumentParser(add_help=False)
+    asked.add_argument("--lapses", action="store_true")
+    asked.add_argument("--means", type=meant, action="append", default=[])
+    asked.add_argument("file", nargs="?", default=0)
+    words = asked.parse_args()
+    with open(words.file, encoding="latin-1", newline="") as file:
+        text = file.read()
+    try:
+        header, lines = read(text)
+    except Fault as why:
+        print(why)
+        return 2
+    said, fits = fitted(header, lines, words.lapses)
+    print(*said, *counted(header, lines, words.means), sep="\n")
+    return 0 if fits else 1
+
+
+if __name__ == "__main__":
+    sys.exit(main())

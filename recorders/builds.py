@@ -1,0 +1,122 @@
+"""How the demonstrations of each language are built and run, for recorders/check."""
+import glob
+import os
+import shutil
+import subprocess
+
+HERE = os.path.dirname(os.path.abspath(__file__))
+# How long a recorded run may last, in seconds, and one that may hang; how many signals there are to one that is dropped.
+LONG, LONG_IF_HANGING, EVERY = "20", "0.3", "7"
+HANGING, STATUS_LATE = ("if", "forgotten", "drop"), 124
+TOOLS = {"c": ("gcc",), "c++": ("gcc", "g++"), "python": ("python3",), "java": ("javac", "java"), "go": ("go",), "rust": ("rustc",)}
+# The input of the unmodified programs: lines enough that sort takes threads.
+ROWS, PRIME = 300000, 999983
+
+
+def missing(language):
+    """The tools of the language that aren't there."""
+    return [tool for tool in TOOLS[language] if not shutil.which(tool)]
+
+
+def demo(name):
+    return os.path.join(HERE, "demos", name)
+
+
+def make(*words, folder):
+    """Builds something, in the folder."""
+    done = subprocess.run(words, cwd=folder, capture_output=True, text=True)
+    if done.returncode:
+        raise SystemExit(f"recorders: {' '.join(words)}\n{done.stdout}{done.stderr}")
+
+
+def build_library(folder):
+    source = os.path.join(HERE, "c", "libmonk_log.c")
+    make("gcc", "-O2", "-shared", "-fPIC", "-o", "libmonk_log.so", source, "-ldl", "-lpthread", folder=folder)
+
+
+def build_c(folder):
+    build_library(folder)
+    make("gcc", "-O2", "-shared", "-fPIC", "-o", "libdrop.so", demo("drop.c"), "-ldl", folder=folder)
+    for name in ("buffer", "hoare"):
+        make("gcc", "-O2", "-o", name, demo(f"{name}.c"), "-lpthread", folder=folder)
+
+
+def build_cpp(folder):
+    build_library(folder)
+    make("g++", "-O2", "-o", "buffer", demo("buffer.cc"), "-lpthread", folder=folder)
+
+
+def build_java(folder):
+    make("javac", "-d", ".", os.path.join(HERE, "java", "MonkLog.java"), demo("Buffer.java"), folder=folder)
+
+
+def build_go(folder):
+    os.makedirs(os.path.join(folder, "monklog"))
+    shutil.copy(os.path.join(HERE, "go", "monklog.go"), os.path.join(folder, "monklog"))
+    shutil.copy(demo("buffer.go"), os.path.join(folder, "main.go"))
+    with open(os.path.join(folder, "go.mod"), "w") as file:
+        file.write("module demo\n\ngo 1.18\n")
+    make("go", "build", "-o", "buffer", ".", folder=folder)
+
+
+def build_rust(folder):
+    make("rustc", "--edition", "2021", "-O", "-o", "buffer", demo("buffer.rs"), folder=folder)
+
+
+BUILDS = {"c": build_c, "c++": build_cpp, "python": lambda folder: None, "java": build_java, "go": build_go, "rust": build_rust}
+LOST = ("lost notify", "passed on")
+# The words of a program of a language, that writes all its logs itself.
+WRITERS = {
+    "python": lambda folder, style: ["python3", demo("lost_notify.py" if style in LOST else "buffer.py")],
+    "java": lambda folder, style: ["java", "-cp", folder, "Buffer"],
+    "go": lambda folder, style: [os.path.join(folder, "buffer")],
+    "rust": lambda folder, style: [os.path.join(folder, "buffer")],
+}
+
+
+def run_recorded(folder, style, prefix):
+    """Runs a program with the recorder loaded; what it says on standard error."""
+    drops, program = style == "drop", os.path.join(folder, "buffer")
+    words = [*UNMODIFIED[style], input_of(folder)] if style in UNMODIFIED else [program, "pair" if drops else style]
+    env = {
+        **os.environ,
+        "LD_PRELOAD": os.path.join(folder, "libmonk_log.so") + (f" {folder}/libdrop.so" if drops else ""),
+        "MONK_LOG": prefix,
+        "MONK_OBJECT": "buffer 1" if style in ("pair", "drop") else "buffer 2",
+        "MONK_SECONDS": LONG_IF_HANGING if style in HANGING else LONG,
+        "MONK_DROP": EVERY,
+    }
+    ran = subprocess.run(words, env=env, cwd=folder, stdout=subprocess.DEVNULL, stderr=subprocess.PIPE, text=True)
+    if ran.returncode not in (0, STATUS_LATE):
+        raise SystemExit(f"recorders: {' '.join(words)} ended with {ran.returncode}\n{ran.stderr}")
+    return ran.stderr
+
+
+def input_of(folder):
+    """A text that is the same each time, in no order."""
+    path = os.path.join(folder, "numbers")
+    if not os.path.exists(path):
+        with open(path, "w") as file:
+            file.writelines(f"{row * row % PRIME}\n" for row in range(ROWS))
+    return path
+
+
+UNMODIFIED = {
+    "xz": ["xz", "-T4", "-0", "--block-size=262144", "-c"],
+    "sort": ["sort", "--parallel=4"],
+}
+
+
+def run(language, style, folder, times):
+    """Runs a demonstration some times; its logs, and what was said on standard error."""
+    prefix, said = os.path.join(folder, f"{style.replace(' ', '_')}.log"), ""
+    if language in WRITERS:
+        subprocess.run([*WRITERS[language](folder, style), prefix, str(times), style], check=True)
+    for number in range(0 if language in WRITERS else times):
+        name = f"{prefix}.{number}"
+        if style.startswith("hoare"):
+            with open(name, "w") as file:
+                subprocess.run([os.path.join(folder, "hoare"), *style.split()[1:]], stdout=file, check=True)
+        else:
+            said += run_recorded(folder, style, name)
+    return sorted(glob.glob(f"{prefix}.*")), said

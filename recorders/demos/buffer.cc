@@ -1,0 +1,87 @@
+/* A bounded buffer of C++, which knows nothing of the recorder but MONK_ACT: buffer STYLE
+
+     good       notifies under the lock
+     late       notifies behind it: the recorder can't write that down, and says so
+     if         a fault: who waited doesn't test again
+     forgotten  a fault: who takes notifies nobody */
+#include <condition_variable>
+#include <deque>
+#include <mutex>
+#include <string>
+#include <thread>
+#include <vector>
+
+#include "../c/monk_log.h"
+
+namespace {
+
+constexpr unsigned putters = 3, takers = 3, size = 2, items = 20, put_code = 0, take_code = 1;
+
+class Buffer {
+public:
+    explicit Buffer(const std::string &style) : late(style == "late"), once(style == "if"), forgets(style == "forgotten") {
+        // the conditions are numbered in the order in which they are first met
+        std::lock_guard<std::mutex> lock(mutex);
+        not_full.notify_one();
+        not_empty.notify_one();
+    }
+
+    void put(unsigned item) {
+        std::unique_lock<std::mutex> lock(mutex);
+        wait_until(lock, not_full, [this] { return kept.size() < size; });
+        kept.push_back(item);
+        MONK_ACT(put_code, item, 1);
+        notify(lock, not_empty);
+    }
+
+    unsigned take() {
+        std::unique_lock<std::mutex> lock(mutex);
+        wait_until(lock, not_empty, [this] { return !kept.empty(); });
+        unsigned item = kept.empty() ? 0 : kept.front();
+        if (!kept.empty())
+            kept.pop_front();
+        MONK_ACT(take_code, 0, item + 1ul);
+        if (!forgets)
+            notify(lock, not_full);
+        return item;
+    }
+
+private:
+    template <class Holds>
+    void wait_until(std::unique_lock<std::mutex> &lock, std::condition_variable &condition, Holds holds) {
+        if (!once)
+            condition.wait(lock, holds);
+        else if (!holds())
+            condition.wait(lock);
+    }
+
+    void notify(std::unique_lock<std::mutex> &lock, std::condition_variable &condition) {
+        if (late)
+            lock.unlock();
+        condition.notify_one();
+    }
+
+    const bool late, once, forgets;
+    std::mutex mutex;
+    std::condition_variable not_full, not_empty;
+    std::deque<unsigned> kept;
+};
+
+} // namespace
+
+int main(int words, char **word) {
+    Buffer buffer(words > 1 ? word[1] : "good");
+    std::vector<std::thread> threads;
+    for (unsigned i = 0; i < putters; i++)
+        threads.emplace_back([&] {
+            for (unsigned item = 1; item <= items; item++)
+                buffer.put(item);
+        });
+    for (unsigned i = 0; i < takers; i++)
+        threads.emplace_back([&] {
+            for (unsigned taken = 0; taken < items * putters / takers; taken++)
+                buffer.take();
+        });
+    for (auto &thread : threads)
+        thread.join();
+}
