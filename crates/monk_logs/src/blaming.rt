@@ -91,7 +91,10 @@ pub(crate) fn half_blame<T: Guarded>(
 fn waits(event: Event) -> bool
     ensures { result ≡ (is_some (waits_on event) || is_some (awaited event)) }
 {
-    matches!(event, Event::Wait(..) | Event::SignalWait(..) | Event::Until(..))
+    matches!(
+        event,
+        Event::Wait(..) | Event::SignalWait(..) | Event::Until(..)
+    )
 }
 
 /// Whether the caller may go on at once by the event, though it serves somebody.
