@@ -1,8 +1,9 @@
 //! The completing stream: the text of a log in, the text of a legal history that tells it out, or why there is none.
 
 ghost use Rattle.std.specs.Prelude.{◌≡◌, ◌+◌, ◌≤◌, ◌^◌, ◌⊎◌, ◌↔◌, false, true, length, IfOk, OnOk, IfSome, IsErrOf, Err, OnErr};
-ghost use Rattle.std.specs.Prelude.{IsTrue};
+ghost use Rattle.std.specs.Prelude.{IsTrue, List};
 ghost use Rattle.std.specs.Io.KnownBytes.{Appends, IsAtEnd};
+ghost use Rattle.monk_history.specs.declared.event.Event.{Event};
 ghost use Rattle.monk_history.specs.Text.{HasText, is_writable, text};
 ghost use Rattle.monk_history.specs.Text.Device.{held, has_failed, reads_of};
 ghost use Rattle.monk_logs.specs.Log.Reading.{log};
@@ -23,7 +24,8 @@ use std::io::{Read, Write};
 
 /// The header of a history of the kind over what the log's first line names, in the version that has every event.
 fn header_of(kind: KindName, header: &LogHeader) -> Header
-    ensures { result ≡ completed_heading kind header.now }
+    ensures header { result ≡ completed_heading kind header.now }
+    ensures writable { (events : List Event) → IsTrue (is_writable result events) }
 {
     let (seats, conds) = (header.seats(), header.conds());
     match Header::new(kind, seats, conds, header.object(), header.size()) {
