@@ -220,25 +220,23 @@ fn each_reason_behind_a_release(rt: HostRuntime) -> Result<(), Fail> {
     Ok(())
 }
 
-/// The nine in order, with their words.
-static REASONS: [(Blame, &str); 9] = [
-    (Blame::Range, "range"),
-    (Blame::Call, "call"),
-    (Blame::Turn, "turn"),
-    (Blame::Place, "place"),
-    (Blame::Reply, "reply"),
-    (Blame::Unserved, "unserved"),
-    (Blame::Served, "served"),
-    (Blame::Order, "order"),
-    (Blame::Choice, "choice"),
+/// The nine, with their numbers and words.
+static REASONS: [(Blame, u8, &str); 9] = [
+    (Blame::Range, 1, "range"),
+    (Blame::Call, 2, "call"),
+    (Blame::Turn, 3, "turn"),
+    (Blame::Place, 4, "place"),
+    (Blame::Reply, 5, "reply"),
+    (Blame::Unserved, 6, "unserved"),
+    (Blame::Served, 7, "served"),
+    (Blame::Order, 8, "order"),
+    (Blame::Choice, 9, "choice"),
 ];
 
 #[test]
 fn reasons_are_numbered(rt: HostRuntime) {
-    let mut number = 0;
-    for (blame, word) in REASONS.iter() {
-        number += 1;
-        assert!(rt; blame.number() == number);
+    for (blame, number, word) in REASONS.iter() {
+        assert!(rt; blame.number() == *number);
         assert!(rt; blame.text() == *word);
     }
 }
