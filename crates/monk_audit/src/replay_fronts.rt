@@ -22,7 +22,7 @@ impl Replay {
     }
 
     /// Whom the event serves first.
-    fn first_served(&self, event: Event) -> Option<u8>
+    pub(crate) fn first_served(&self, event: Event) -> Option<u8>
         ensures { result ≡ slice_get (serves (queue_at self.now.conditions.items) event) 0 }
     {
         match event {
@@ -35,7 +35,7 @@ impl Replay {
     }
 
     /// Who steps back by the event.
-    fn stepping_back(&self, event: Event) -> Option<u8>
+    pub(crate) fn stepping_back(&self, event: Event) -> Option<u8>
         ensures { result ≡ slice_get (signals (queue_at self.now.conditions.items) event) 0 }
     {
         match event {

@@ -4,10 +4,10 @@ use Rattle.std.specs.Str.Parse.{ParsesUnsigned}
 use Rattle.clap.specs.declared.parser.matches.Found.{Found}
 use Rattle.clap.proofs.WalkLemmas.{one_text-rows}
 use Rattle.monk_commands.specs.declared.request.Line.{Line}
-use Rattle.std.specs.Prelude.{option_map}
+use Rattle.std.specs.Prelude.{◌↔◌, IfSome, option_map}
 use Rattle.clap.specs.Words.{Row, Text, one_text, rows_of, is_simple}
 use Rattle.clap.proofs.OnLiterals.{clap_on_literals}
-use Rattle.monk_commands.specs.Request.{HasNumber, IsAsked, IsRead, RunNames, monk_app}
+use Rattle.monk_commands.specs.Request.{HasNumber, IsAsked, IsRead, KindNames, RunNames, monk_app}
 
 -- what is read in the rows of a command is asked for where that command was found
 pub asked_in : (o : Option (Text × List Row)) (word : Text) (rows : List Row) (l : Line)
@@ -32,6 +32,12 @@ number_read E G bits v name f only none value = go (one_text f name) refl
         let read = only t (Ok v) (value t e) in
         record { text = t; found = sym (one_text-rows f name) ∙ e; digits = read.0.0; number = read.1 }
 
-pub monk_is_simple : (run recorded : RunNames) → is_simple (monk_app run recorded) ≡ true
+pub monk_is_simple : (completed : KindNames) (run recorded : RunNames) → is_simple (monk_app completed run recorded) ≡ true
 unfolding clap_on_literals
-monk_is_simple run recorded = refl
+monk_is_simple completed run recorded = refl
+
+-- what a test that is exact says of what it has found
+pub found_exactly : (A : Type 0) (o : Option A) (F G : A → Type 0) → ((x : A) → (o ≡ Some x) ↔ F x) → ((x : A) → F x → G x)
+    → IfSome o G
+found_exactly A None F G exact leads = tt
+found_exactly A (Some x) F G exact leads = leads x ((exact x).0 refl)

@@ -13,7 +13,8 @@ use Rattle.monk_samples.specs.Samples.{IsInRange, sample_object}
 use Rattle.monk_samples.specs.declared.sample.Sample.{Sample}
 use Rattle.monk_samples.specs.declared.sample.Sample.TheVariants.{Buffer, Book, Shop}
 use Rattle.monk_commands.specs.declared.request.Line.{Line}
-use Rattle.monk_commands.specs.declared.request.Line.TheVariants.{Classify, Audit, Play, Upgrade, Fit, Trace, Explain, Draw, Run, Record}
+use Rattle.monk_commands.specs.declared.request.Line.TheVariants.{Classify, Audit, Play, Upgrade, Fit, Trace, Explain, Draw, Complete}
+use Rattle.monk_commands.specs.declared.request.Line.TheVariants.{Run, Record}
 
 -- a word that must stand there, and that the parser takes
 abbrev pub required_rule : Text → ValueParser → Rule
@@ -34,6 +35,11 @@ NameList = Bor (List (Bor Text))
 
 abbrev pub words_in : NameList → List Text
 words_in w = map (λ x. x.now) w.now
+
+-- a list that has exactly the names of the kinds
+pub record KindNames : Type 0 where
+  pub kinds : NameList
+  pub all_kinds : words_in kinds ≡ map kind_word monitor_kinds
 
 -- a sample is called as its object is
 abbrev pub sample_word : Sample → Text
@@ -60,6 +66,11 @@ run_app name n =
 abbrev pub file_app : Text → App
 file_app name = with_rule (new_app name) (new_rule (codes "FILE"))
 
+-- the command that takes a kind, and a file
+abbrev pub complete_app : KindNames → App
+complete_app n =
+    with_rule (with_rule (new_app (codes "complete")) (required_rule (codes "KIND") (Names n.kinds))) (new_rule (codes "FILE"))
+
 -- where the command is added to another, it is a subcommand like this
 abbrev pub IsSubcommand : Command → App → Type 0
 IsSubcommand c a = (old new : Command) → AddsSubcommand old c new → app_of new ≡ with_subcommand (app_of old) a.top
@@ -67,7 +78,7 @@ IsSubcommand c a = (old new : Command) → AddsSubcommand old c new → app_of n
 abbrev pub bare_app : App
 bare_app = record (new_app (codes "monk")) { top = record (new_app (codes "monk")).top { has_version = true; subcommand_required = true } }
 
--- with the commands that take no sample, and with all
+-- with the commands that take no kind, and with all
 abbrev pub plain_app : App
 plain_app =
     with_subcommand (with_subcommand (with_subcommand (with_subcommand (with_subcommand (with_subcommand
@@ -75,15 +86,21 @@ plain_app =
     (file_app (codes "upgrade")).top) (file_app (codes "fit")).top) (file_app (codes "trace")).top)
     (file_app (codes "explain")).top) (file_app (codes "draw")).top
 
-abbrev pub monk_app : RunNames → RunNames → App
-monk_app run recorded =
-    with_subcommand (with_subcommand plain_app (run_app (codes "run") run).top) (run_app (codes "record") recorded).top
+abbrev pub monk_app : KindNames → RunNames → RunNames → App
+monk_app completed run recorded =
+    with_subcommand (with_subcommand (with_subcommand plain_app (complete_app completed).top)
+    (run_app (codes "run") run).top) (run_app (codes "record") recorded).top
 
 -- the command line of the program
 pub record IsMonk (a : App) : Type 0 where
+  pub completed : KindNames
   pub run : RunNames
   pub recorded : RunNames
-  pub is : a ≡ monk_app run recorded
+  pub is : a ≡ monk_app completed run recorded
+
+pub record IsCompleteCommand (c : Command) : Type 0 where
+  pub names : KindNames
+  pub is : IsSubcommand c (complete_app names)
 
 pub record IsRunCommand (name : Text) (c : Command) : Type 0 where
   pub names : RunNames
@@ -99,6 +116,7 @@ command_word (Fit file) = codes "fit"
 command_word (Trace file) = codes "trace"
 command_word (Explain file) = codes "explain"
 command_word (Draw file) = codes "draw"
+command_word (Complete kind file) = codes "complete"
 command_word (Run kind sample seats rounds) = codes "run"
 command_word (Record kind sample seats rounds) = codes "record"
 
@@ -126,6 +144,8 @@ ValuesAre (Fit file) rows = first_of (codes "FILE") rows ≡ option_map string_b
 ValuesAre (Trace file) rows = first_of (codes "FILE") rows ≡ option_map string_bytes file
 ValuesAre (Explain file) rows = first_of (codes "FILE") rows ≡ option_map string_bytes file
 ValuesAre (Draw file) rows = first_of (codes "FILE") rows ≡ option_map string_bytes file
+ValuesAre (Complete kind file) rows = (first_of (codes "KIND") rows ≡ Some (kind_word kind))
+    × (first_of (codes "FILE") rows ≡ option_map string_bytes file)
 ValuesAre (Run kind sample seats rounds) rows = AreRunValues kind sample seats rounds rows
 ValuesAre (Record kind sample seats rounds) rows = AreRunValues kind sample seats rounds rows
 
@@ -139,6 +159,7 @@ RunIsInRange (Fit file) = Unit {0}
 RunIsInRange (Trace file) = Unit {0}
 RunIsInRange (Explain file) = Unit {0}
 RunIsInRange (Draw file) = Unit {0}
+RunIsInRange (Complete kind file) = Unit {0}
 RunIsInRange (Run kind sample seats rounds) = IsInRange seats rounds
 RunIsInRange (Record kind sample seats rounds) = IsInRange seats rounds
 

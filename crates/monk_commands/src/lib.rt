@@ -7,6 +7,7 @@
 mod answer;
 mod auditing;
 mod classifying;
+mod completing;
 mod drawing;
 mod explaining;
 mod fault;
@@ -24,6 +25,7 @@ mod words;
 
 pub use auditing::audit_stream;
 pub use classifying::classify_stream;
+pub use completing::complete_stream;
 pub use drawing::draw_stream;
 pub use explaining::explain_stream;
 pub use fault::StreamFault;

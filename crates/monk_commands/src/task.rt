@@ -5,6 +5,7 @@ ghost use Rattle.monk_commands.specs.Streams.{IsYoung, IsPastBound};
 ghost use Rattle.monk_commands.specs.Tasks.{IsTaskAnswer};
 
 use crate::auditing::audit_stream;
+use crate::completing::complete_stream;
 use crate::drawing::draw_stream;
 use crate::explaining::explain_stream;
 use crate::fault::StreamFault;
@@ -13,6 +14,7 @@ use crate::playing::play_stream;
 use crate::tracing::trace_stream;
 use crate::upgrading::upgrade_stream;
 use monk_history::Device;
+use monk_kinds::KindName;
 use std::alloc::Global;
 use std::io::{Read, Write};
 
@@ -33,6 +35,8 @@ pub enum Task {
     Explain,
     /// The picture of a history, by [`draw_stream`].
     Draw,
+    /// A legal history of a monitor of the kind that tells a log, by [`complete_stream`].
+    Complete(KindName),
 }
 
 impl Task {
@@ -76,6 +80,7 @@ impl Task {
             Task::Trace => trace_stream(alloc, reader, writer),
             Task::Explain => explain_stream(alloc, reader, writer),
             Task::Draw => draw_stream(alloc, reader, writer),
+            Task::Complete(kind) => complete_stream(alloc, kind, reader, writer),
         }
     }
 }

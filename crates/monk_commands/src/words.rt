@@ -1,10 +1,11 @@
 //! The program's words, read with `clap`.
 
 ghost use Rattle.std.specs.Prelude.{◌≡◌, IfOk, IfSome, Some, codes, false, map, option_map, string_bytes};
+ghost use Rattle.monk_kinds.specs.Names.{kind_word};
 ghost use Rattle.monk_object.specs.Names.{object_word};
-ghost use Rattle.clap.specs.Words.{App, app_of, first_value, found_of, rows_of, rule_of, subcommand_of, subcommand_rows_of};
+ghost use Rattle.clap.specs.Words.{App, app_of, first_of, first_value, found_of, rows_of, rule_of, subcommand_of, subcommand_rows_of};
 ghost use Rattle.monk_samples.specs.Samples.{IsInRange, sample_object};
-ghost use Rattle.monk_commands.specs.Request.{AreRunValues, IsAsked, IsMonk, IsRead, IsRunCommand, IsSubcommand};
+ghost use Rattle.monk_commands.specs.Request.{AreRunValues, IsAsked, IsCompleteCommand, IsMonk, IsRead, IsRunCommand, IsSubcommand};
 ghost use Rattle.monk_commands.specs.Request.{classify_app, file_app, plain_app};
 ghost use Rattle.monk_commands.specs.Request.{required_rule};
 
@@ -73,6 +74,11 @@ static DRAW: Help = Help {
     example: "Example: monk draw examples/hoare_handover.history",
 };
 
+static COMPLETE: Help = Help {
+    about: "Writes a history of a kind that tells a log",
+    example: "Example: monk complete NPNB examples/threads_at_a_buffer.log",
+};
+
 static RUN: Help = Help {
     about: "Runs a sample in threads, and prints its totals",
     example: "Example: monk run NPQB buffer 8 100",
@@ -86,12 +92,16 @@ static RECORD: Help = Help {
 fn command<'a>(alloc: Global) -> Result<Command<'a>, AllocError>
     ensures { IfOk result (λ c. IsMonk (app_of c)) }
 {
+    let complete = completing(alloc)?;
     let run = running(alloc, "run", &RUN)?;
     let record = running(alloc, "record", &RECORD)?;
-    plain(alloc)?.subcommand(run)?.subcommand(record)
+    plain(alloc)?
+        .subcommand(complete)?
+        .subcommand(run)?
+        .subcommand(record)
 }
 
-/// The program with the commands that take no sample.
+/// The program with the commands that take no kind.
 fn plain<'a>(alloc: Global) -> Result<Command<'a>, AllocError>
     ensures { IfOk result (λ c. app_of c ≡ plain_app) }
 {
@@ -129,6 +139,18 @@ fn classify<'a>(alloc: Global) -> Result<Command<'a>, AllocError>
         .arg(entry)?
         .arg(waiter)?
         .arg(signaller)
+}
+
+/// The command that takes a kind, and a file, or standard input where none is named.
+fn completing<'a>(alloc: Global) -> Result<Command<'a>, AllocError>
+    ensures { IfOk result IsCompleteCommand }
+{
+    let kinds = ValueParser::Names(KINDS.as_slice());
+    Command::new(alloc, "complete")
+        .about(COMPLETE.about)
+        .after_help(COMPLETE.example)
+        .arg(required(alloc, "KIND", "The kind of monitor", kinds))?
+        .arg(Arg::new(alloc, "FILE").help("The text; with none, standard input"))
 }
 
 /// A command that takes a kind, a sample, and how many seats and rounds.
@@ -198,6 +220,12 @@ fn priorities_of(matches: &ArgMatches<'_>) -> Option<Line>
     ))
 }
 
+fn kind_of(matches: &ArgMatches<'_>) -> Option<KindName>
+    ensures { IfSome result (λ kind. first_of (codes "KIND") (rows_of (found_of matches.now)) ≡ Some (kind_word kind)) }
+{
+    KindName::of_text(matches.get_str("KIND")?.as_bytes())
+}
+
 fn sample_of(name: &str) -> Option<Sample>
     ensures { IfSome result (λ sample. name.now ≡ object_word (sample_object sample)) }
 {
@@ -214,7 +242,7 @@ fn run_of(matches: &ArgMatches<'_>) -> Option<(KindName, Sample, u8, u32)>
     ensures values { IfSome result (λ r. AreRunValues r.0 r.1 r.2 r.3 (rows_of (found_of matches.now))) }
     ensures in_range { IfSome result (λ r. IsInRange r.2 r.3) }
 {
-    let kind = KindName::of_text(matches.get_str("KIND")?.as_bytes())?;
+    let kind = kind_of(matches)?;
     let sample = sample_of(matches.get_str("SAMPLE")?)?;
     let seats = matches.get_one::<u8>("SEATS")?;
     let rounds = matches.get_one::<u32>("ROUNDS")?;
@@ -222,6 +250,15 @@ fn run_of(matches: &ArgMatches<'_>) -> Option<(KindName, Sample, u8, u32)>
         return None;
     }
     Some((kind, sample, seats, rounds))
+}
+
+fn line_to_complete(alloc: Global, matches: &ArgMatches<'_>) -> Result<Option<Line>, LineFault>
+    ensures { IfOk result (λ found. IfSome found (λ l. IsRead (codes "complete") l (rows_of (found_of matches.now)))) }
+{
+    match kind_of(matches) {
+        Some(kind) => Ok(Some(Line::Complete(kind, file_of(alloc, matches)?))),
+        None => Ok(None),
+    }
 }
 
 fn line_to_run(matches: &ArgMatches<'_>) -> Option<Line>
@@ -251,6 +288,7 @@ fn asked(alloc: Global, matches: &ArgMatches<'_>) -> Result<Option<Line>, LineFa
         Some(("trace", trace)) => Ok(Some(Line::Trace(file_of(alloc, trace)?))),
         Some(("explain", explain)) => Ok(Some(Line::Explain(file_of(alloc, explain)?))),
         Some(("draw", draw)) => Ok(Some(Line::Draw(file_of(alloc, draw)?))),
+        Some(("complete", complete)) => line_to_complete(alloc, complete),
         Some(("run", run)) => Ok(line_to_run(run)),
         Some(("record", record)) => Ok(line_to_record(record)),
         _ => Ok(None),
@@ -259,8 +297,8 @@ fn asked(alloc: Global, matches: &ArgMatches<'_>) -> Result<Option<Line>, LineFa
 
 /// Reads the words, the program's own name first.
 ///
-/// The line is for the command that clap finds in the words, with the values that clap finds there: a file, or a kind and
-/// a sample, and whole numbers: of `classify` from 0 to 255, of `run` and `record` from 2 to 16 and from 1 to 1000.
+/// The line is for the command that clap finds in the words, with the values that clap finds there: a file, a kind, or a kind
+/// and a sample, and whole numbers: of `classify` from 0 to 255, of `run` and `record` from 2 to 16 and from 1 to 1000.
 ///
 /// # Errors
 ///

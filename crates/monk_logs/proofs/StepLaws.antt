@@ -1,17 +1,25 @@
 -- The parts of a step are the step
-use Rattle.std.proofs.Common.{◌≡◌, ◌∙◌, ℕ, Bool, true, false, cond, eqb, List, [], ◌∷◌, Option, Some, sym, ap}
+use Rattle.std.proofs.Common.{◌≡◌, ◌∙◌, ℕ, Bool, true, false, cond, eqb, not, ◌&&◌, List, [], ◌∷◌, Option, Some, None, refl, sym, ap}
 use Rattle.std.specs.Option.{option_eq}
 use Rattle.std.specs.Prelude.{◌==◌, Result, Ok, Err, IfOk, slice_get}
-use Rattle.std.proofs.lemmas.Bool.{eq-eqb, ne_eqb}
+use Rattle.std.proofs.lemmas.Bool.{true≢false}
 use Rattle.std.proofs.lemmas.Result.{IfOk-weaker}
+use Rattle.monk_object.specs.Object.{Object}
 use Rattle.monk_history.specs.declared.event.Event.{Event}
-use Rattle.monk_history.specs.declared.event.Next.TheVariants.{Waiter, Signaller, Until}
-use Rattle.monk_history.specs.Meaning.Choice.{Queues, is_front}
+use Rattle.monk_history.specs.declared.event.Event.TheVariants as event
+use Rattle.monk_history.specs.declared.event.Next.{Next}
+use Rattle.monk_history.specs.declared.event.Next.TheVariants.{Stay, Waiter, Signaller, Until}
+use Rattle.monk_history.specs.Meaning.Choice.{Queues, is_front, queues_at}
+use Rattle.monk_history.specs.Meaning.Events.{acted, next_of}
 use Rattle.monk_history.specs.Meaning.Monitor.{Monitor}
+use Rattle.monk_history.specs.Meaning.Reasons.{reason_in}
+use Rattle.monk_history.specs.Meaning.Release.{with_next}
 use Rattle.monk_history.specs.Meaning.Situation.{Situation}
-use Rattle.monk_logs.specs.Course.{chosen_from, told_release}
+use Rattle.monk_history.specs.Meaning.Step.{after}
+use Rattle.monk_logs.specs.Blame.{is_lapse, release_blame}
+use Rattle.monk_logs.specs.Course.{chosen_from, told_next, told_release}
 use Rattle.monk_logs.specs.Stand.{add_to, line_settled, line_then, line_told}
-use Rattle.monk_logs.specs.declared.blame.Blame.TheVariants as blame
+use Rattle.monk_logs.specs.declared.blame.Blame.{Blame}
 use Rattle.monk_logs.specs.declared.line.LogLine.{LogLine}
 
 -- what is the same as something else is the same as what that is
@@ -40,16 +48,60 @@ until_told q j h k =
 
 -- ---- the line behind a release
 
-told_added : (m : Monitor) (t u : Situation) (e told : Event) (l : LogLine) (r : ℕ) (b : Bool) → told ≡ told_release m.object t e l
-    → cond b (Ok u) (Err r) ≡ add_to m t told → line_then m (cond b (Ok u) (Err r)) l ≡ line_told m t e l
-told_added m t u e told l r b is h = ap (λ (o : Result Situation ℕ). line_then m o l) (h ∙ ap (add_to m t) is)
+refused_by : (m : Monitor) (u : Situation) (why : Blame) (l : LogLine) (r : ℕ) (x b : Bool) → not x && b ≡ false
+    → Err why ≡ cond x (Err why) (line_then m why (cond b (Ok u) (Err r)) l)
+refused_by m u why l r true b h = refl
+refused_by m u why l r false true h = absurd (true≢false h)
+refused_by m u why l r false false h = refl
 
-pub told_fits : (m : Monitor) (t u : Situation) (e told : Event) (l : LogLine) (r : ℕ) → told ≡ told_release m.object t e l
-    → cond (r == 0) (Ok u) (Err r) ≡ add_to m t told → r ≡ 0 → line_settled m u l ≡ line_told m t e l
-told_fits m t u e told l r is h passes =
-    ap (λ (x : Bool). line_then m (cond x (Ok u) (Err r)) l) (sym (eq-eqb r 0 passes)) ∙ told_added m t u e told l r (r == 0) is h
+follows_by : (m : Monitor) (u : Situation) (why : Blame) (l : LogLine) (r : ℕ) (x b : Bool) → not x && b ≡ true
+    → line_settled m u l ≡ cond x (Err why) (line_then m why (cond b (Ok u) (Err r)) l)
+follows_by m u why l r true b h = absurd (true≢false (sym h))
+follows_by m u why l r false true h = refl
+follows_by m u why l r false false h = absurd (true≢false (sym h))
 
-pub told_misfits : (m : Monitor) (t u : Situation) (e told : Event) (l : LogLine) (r : ℕ) → told ≡ told_release m.object t e l
-    → cond (r == 0) (Ok u) (Err r) ≡ add_to m t told → (r ≡ 0 → ⊥) → Err (blame.Release r) ≡ line_told m t e l
-told_misfits m t u e told l r is h fails =
-    ap (λ (x : Bool). line_then m (cond x (Ok u) (Err r)) l) (sym (ne_eqb r 0 fails)) ∙ told_added m t u e told l r (r == 0) is h
+-- a release that may not choose what the line tells is to blame, and so is a lapse
+pub told_misfits : (m : Monitor) (t : Situation) (e told : Event) (l : LogLine) (why : Blame) → told ≡ told_release m.object t e l
+    → why ≡ release_blame m t e l → not (is_lapse l) && (reason_in m t told == 0) ≡ false → Err why ≡ line_told m t e l
+told_misfits m t e told l why is blamed h =
+    ap (λ (y : Blame). Err y) blamed
+    ∙ refused_by m (after m.object t told) (release_blame m t e l) l (reason_in m t told) (is_lapse l) (reason_in m t told == 0) h
+    ∙ ap (λ (x : Event). cond (is_lapse l) (Err (release_blame m t e l)) (line_then m (release_blame m t e l) (add_to m t x) l)) is
+
+lands_by : (t u : Situation) (n r : ℕ) (b c : Bool) → cond b (Ok u) (Err n) ≡ cond c (Ok t) (Err r) → c ≡ true → u ≡ t
+lands_by t u n r true true h is = cc
+lands_by t u n r false true h is = absurd cc
+lands_by t u n r b false h is = absurd (true≢false (sym is))
+
+-- where an allowed event leads
+pub lands : (m : Monitor) (t u : Situation) (e : Event) (n : ℕ) → cond (n == 0) (Ok u) (Err n) ≡ add_to m t e
+    → reason_in m t e == 0 ≡ true → u ≡ after m.object t e
+lands m t u e n h is = lands_by (after m.object t e) u n (reason_in m t e) (n == 0) (reason_in m t e == 0) h is
+
+pub passes : (x b : Bool) → x && b ≡ true → b ≡ true
+passes true b h = h
+passes false b h = absurd (true≢false (sym h))
+
+pub told_fits : (m : Monitor) (t u : Situation) (e told : Event) (l : LogLine) → told ≡ told_release m.object t e l
+    → u ≡ after m.object t told → not (is_lapse l) && (reason_in m t told == 0) ≡ true → line_settled m u l ≡ line_told m t e l
+told_fits m t u e told l is led h =
+    ap (λ (x : Situation). line_settled m x l) led
+    ∙ follows_by m (after m.object t told) (release_blame m t e l) l (reason_in m t told) (is_lapse l) (reason_in m t told == 0) h
+    ∙ ap (λ (x : Event). cond (is_lapse l) (Err (release_blame m t e l)) (line_then m (release_blame m t e l) (add_to m t x) l)) is
+
+-- a release is no act, whatever it chooses
+no_act : (x : Next) (e : Event) → next_of e ≡ Some Stay → acted (with_next x e) ≡ None
+no_act x (event.Enter s via) h = absurd cc
+no_act x (event.Act s op r) h = absurd cc
+no_act x (event.Leave s y) h = refl
+no_act x (event.Wait s c y) h = refl
+no_act x (event.Signal s c y) h = refl
+no_act x (event.SignalLeave s c y) h = refl
+no_act x (event.Until s p y) h = refl
+no_act x (event.Resume s q) h = absurd cc
+no_act x (event.SignalAll s c) h = absurd cc
+no_act x (event.SignalWait s c d y) h = refl
+
+pub chosen_no_act : (o : Object) (t : Situation) (e told : Event) (l : LogLine) → told ≡ told_release o t e l
+    → next_of e ≡ Some Stay → acted told ≡ None
+chosen_no_act o t e told l is stays = ap acted is ∙ no_act (told_next (queues_at o t e) l) e stays

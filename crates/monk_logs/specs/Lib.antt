@@ -2,6 +2,7 @@ pub mod Log
 pub mod Erasure
 pub mod Fits
 pub mod Course
+pub mod Blame
 pub mod Stand
 pub mod Verdict
 pub mod Kept

@@ -1,24 +1,25 @@
 -- The same judging as a function of how the monitor stands, so that no event needs to be kept. That it comes to the same is the
 -- lemma `line_same` of proofs/VerdictLaws/Standing
-use Rattle.std.specs.Prelude.{ℕ, ◌+◌, ◌==◌, List, [], ◌∷◌, Result, Ok, Err, if◌then◌else◌}
+use Rattle.std.specs.Prelude.{◌≡◌, ℕ, ◌+◌, ◌==◌, List, [], ◌∷◌, Some, Result, Ok, Err, if◌then◌else◌}
 use Rattle.monk_object.specs.Object.{Object}
 use Rattle.monk_history.specs.declared.event.Event.{Event}
 use Rattle.monk_history.specs.declared.event.Event.TheVariants as event
 use Rattle.monk_history.specs.declared.event.Next.TheVariants as next
 use Rattle.monk_history.specs.declared.event.Via.{Via}
 use Rattle.monk_history.specs.declared.event.Via.TheVariants.{Free, Handed}
-use Rattle.monk_history.specs.Meaning.Events.{returns_at_once}
+use Rattle.monk_history.specs.Meaning.Events.{next_of, returns_at_once}
 use Rattle.monk_history.specs.Meaning.Monitor.{Monitor, monitor}
 use Rattle.monk_history.specs.Meaning.Reasons.{reason_before, reason_in}
+use Rattle.monk_history.specs.Meaning.Release.{MayCallIn}
 use Rattle.monk_history.specs.Meaning.Situation.{Situation}
 use Rattle.monk_history.specs.Meaning.Step.{after, opening_situation}
+use Rattle.monk_logs.specs.Blame.{blame_of, half_blame, is_lapse, lapse_blame, release_blame}
 use Rattle.monk_logs.specs.Course.{due_from, told_release}
 use Rattle.monk_logs.specs.declared.line.LogLine.{LogLine}
 use Rattle.monk_logs.specs.declared.line.LogLine.TheVariants.{Enter, Resume, Lapse, Leave, Wait, Signal, Broadcast, Until, Act}
 use Rattle.monk_logs.specs.declared.pending.Pending.{Pending}
 use Rattle.monk_logs.specs.declared.pending.Pending.TheVariants.{Settled, Half, Release}
 use Rattle.monk_logs.specs.declared.blame.Blame.{Blame}
-use Rattle.monk_logs.specs.declared.blame.Blame.TheVariants as blame
 use Rattle.monk_logs.specs.declared.blame.LineVerdict.{LineVerdict}
 use Rattle.monk_logs.specs.declared.blame.LineVerdict.TheVariants as verdict
 use Rattle.monk_logs.specs.declared.setting.Setting.{Setting}
@@ -53,13 +54,13 @@ add_to m t e = if reason_in m t e == 0 then Ok (after m.object t e) else Err (re
 
 abbrev pub settled_by : Result Situation ℕ → Result Stand Blame
 settled_by (Ok t) = Ok (stand_settled t)
-settled_by (Err reason) = Err (blame.Line reason)
+settled_by (Err reason) = Err (blame_of reason)
 
 abbrev pub settle : Monitor → Situation → Event → Result Stand Blame
 settle m t e = settled_by (add_to m t e)
 
 abbrev pub hold_over : Monitor → Situation → Event → Pending → Result Stand Blame
-hold_over m t e p = if reason_before 0 m t e == 0 then Ok (stand t p) else Err (blame.Line (reason_before 0 m t e))
+hold_over m t e p = if reason_before 0 m t e == 0 then Ok (stand t p) else Err (blame_of (reason_before 0 m t e))
 
 abbrev pub release_over : Monitor → Situation → Event → Result Stand Blame
 release_over m t e = hold_over m t e (Release e)
@@ -77,7 +78,7 @@ signal_over m t s c = if returns_at_once m.kind.mode then hold_over m t (event.S
 abbrev pub line_settled : Monitor → Situation → LogLine → Result Stand Blame
 line_settled m t (Enter s) = settle m t (event.Enter s (via_now t))
 line_settled m t (Resume s) = settle m t (event.Resume s (due_from t.turn))
-line_settled m t (Lapse s) = Err blame.Lapse
+line_settled m t (Lapse s) = Err (lapse_blame m.seats s)
 line_settled m t (Leave s) = release_over m t (event.Leave s next.Stay)
 line_settled m t (Wait s c) = release_over m t (event.Wait s c next.Stay)
 line_settled m t (Signal s c) = signal_over m t s c
@@ -87,28 +88,39 @@ line_settled m t (Act s op r) = settle m t (event.Act s op r)
 
 -- behind a signal that is half told
 abbrev pub line_half : Monitor → Situation → ℕ → ℕ → LogLine → Result Stand Blame
-line_half m t s c (Enter j) = Err blame.HalfSignal
-line_half m t s c (Resume j) = Err blame.HalfSignal
-line_half m t s c (Lapse j) = Err blame.HalfSignal
-line_half m t s c (Leave j) = if j == s then release_over m t (event.SignalLeave s c next.Stay) else Err blame.HalfSignal
-line_half m t s c (Wait j d) = if j == s then release_over m t (event.SignalWait s c d next.Stay) else Err blame.HalfSignal
-line_half m t s c (Signal j d) = Err blame.HalfSignal
-line_half m t s c (Broadcast j d) = Err blame.HalfSignal
-line_half m t s c (Until j p) = Err blame.HalfSignal
-line_half m t s c (Act j op r) = Err blame.HalfSignal
+line_half m t s c (Enter j) = Err (half_blame m (Enter j))
+line_half m t s c (Resume j) = Err (half_blame m (Resume j))
+line_half m t s c (Lapse j) = Err (half_blame m (Lapse j))
+line_half m t s c (Leave j) =
+    if j == s then release_over m t (event.SignalLeave s c next.Stay) else Err (half_blame m (Leave j))
+line_half m t s c (Wait j d) =
+    if j == s then release_over m t (event.SignalWait s c d next.Stay) else Err (half_blame m (Wait j d))
+line_half m t s c (Signal j d) = Err (half_blame m (Signal j d))
+line_half m t s c (Broadcast j d) = Err (half_blame m (Broadcast j d))
+line_half m t s c (Until j p) = Err (half_blame m (Until j p))
+line_half m t s c (Act j op r) = Err (half_blame m (Act j op r))
 
--- behind a release
-abbrev pub line_then : Monitor → Result Situation ℕ → LogLine → Result Stand Blame
-line_then m (Err reason) l = Err (blame.Release reason)
-line_then m (Ok t) l = line_settled m t l
+-- behind a release, with what is to blame where it may not have chosen what the line tells. What a lapse tells of the choice
+-- isn't known, since no history has one
+abbrev pub line_then : Monitor → Blame → Result Situation ℕ → LogLine → Result Stand Blame
+line_then m why (Err reason) l = Err why
+line_then m why (Ok t) l = line_settled m t l
 
 abbrev pub line_told : Monitor → Situation → Event → LogLine → Result Stand Blame
-line_told m t e l = line_then m (add_to m t (told_release m.object t e l)) l
+line_told m t e l =
+    if is_lapse l then Err (release_blame m t e l)
+    else line_then m (release_blame m t e l) (add_to m t (told_release m.object t e l)) l
 
 abbrev pub line_behind : Monitor → Situation → Pending → LogLine → Result Stand Blame
 line_behind m t Settled l = line_settled m t l
 line_behind m t (Half s c) l = line_half m t s c l
 line_behind m t (Release e) l = line_told m t e l
+
+-- what is still to be known is of a release that may be called, and that is written with `stay`
+abbrev pub IsHeld : Monitor → Situation → Pending → Type 0
+IsHeld m t Settled = Unit {0}
+IsHeld m t (Half s c) = Unit {0}
+IsHeld m t (Release e) = MayCallIn m t e × (next_of e ≡ Some next.Stay)
 
 -- ---- a log
 

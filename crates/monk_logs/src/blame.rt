@@ -1,19 +1,86 @@
 //! Why a line of a log can't be of a monitor.
 
-use crate::pending::Pending;
+ghost use Rattle.std.specs.Prelude.{◌≡◌};
+ghost use Rattle.monk_logs.specs.Blame.{blame_number, blame_of, blame_word};
 
-/// Why a line can't be of a monitor, behind the lines before it. Of an event the first test that it fails is told: one of the
-/// constants of `monk_audit::Verdict`.
+use crate::pending::Pending;
+use monk_audit::Verdict;
+
+/// Why a line can't be of a monitor, behind the lines before it: the first of these that applies. They stand in the order in
+/// which a line is tested.
 #[derive(Clone, Copy, Debug, PartialEq, Eq)]
 pub enum Blame {
-    /// The event that the line tells is not allowed, whatever it chooses.
-    Line(u8),
-    /// The release before it may not choose what the line tells of its choice.
-    Release(u8),
-    /// Under immediate return a signal is followed by a `leave` or a `wait` of its own seat.
-    HalfSignal,
-    /// No history tells that a timed wait ran out.
-    Lapse,
+    /// A seat, a condition, a predicate or a code of the line is out of range.
+    Range,
+    /// The kind of monitor has no such call. Or under immediate return a signal is followed by something else than a `leave`
+    /// or a `wait` of its own seat.
+    Call,
+    /// It is not the turn of the line's seat, whatever the release before it chose: the seat is outside or active, or somebody
+    /// else is active.
+    Turn,
+    /// A task comes in that is inside already.
+    Place,
+    /// The reply is not the object's.
+    Reply,
+    /// A seat goes on that waits on a condition, where no signal has served it, or until a predicate that doesn't hold.
+    Unserved,
+    /// A timed wait is told to have run out, of a seat that a signal has served. No history tells of timed waits, so each
+    /// `lapse` has this reason or one before it.
+    Served,
+    /// A seat goes on that stands in its queue, but not at the front.
+    Order,
+    /// The priorities don't permit what the release before it must have chosen: that release is to blame.
+    Choice,
+}
+
+impl Blame {
+    /// Its number, 1 to 9.
+    pub fn number(self) -> u8
+        ensures { result ≡ blame_number self }
+    {
+        match self {
+            Blame::Range => 1,
+            Blame::Call => 2,
+            Blame::Turn => 3,
+            Blame::Place => 4,
+            Blame::Reply => 5,
+            Blame::Unserved => 6,
+            Blame::Served => 7,
+            Blame::Order => 8,
+            Blame::Choice => 9,
+        }
+    }
+
+    /// Its word.
+    pub fn text(self) -> &'static str
+        ensures { result.now ≡ blame_word self }
+    {
+        match self {
+            Blame::Range => "range",
+            Blame::Call => "call",
+            Blame::Turn => "turn",
+            Blame::Place => "place",
+            Blame::Reply => "reply",
+            Blame::Unserved => "unserved",
+            Blame::Served => "served",
+            Blame::Order => "order",
+            Blame::Choice => "choice",
+        }
+    }
+
+    /// The reason that an audit gives against an event.
+    pub(crate) fn of_reason(reason: u8) -> Blame
+        ensures { result ≡ blame_of reason }
+    {
+        match reason {
+            Verdict::RANGE => Blame::Range,
+            Verdict::CALL => Blame::Call,
+            Verdict::TURN => Blame::Turn,
+            Verdict::PLACE => Blame::Place,
+            Verdict::REPLY => Blame::Reply,
+            _ => Blame::Choice,
+        }
+    }
 }
 
 /// What is found of one line.

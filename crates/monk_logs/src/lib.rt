@@ -2,6 +2,7 @@
 #![tactic(auto)]
 
 mod blame;
+mod blaming;
 mod completing;
 mod completion;
 mod ending;

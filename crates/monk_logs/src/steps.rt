@@ -1,14 +1,19 @@
 //! One line of a log, judged by how the monitor stands before it.
 
-ghost use Rattle.std.specs.Prelude.{◌≡◌, ◌==◌, ℕ, List, [], ◌∷◌, Ok, Err, IfOk, OnOk, if◌then◌else◌};
+ghost use Rattle.std.specs.Prelude.{◌≡◌, ◌==◌, ◌&&◌, not, ℕ, List, [], ◌∷◌, None, Some, Ok, Err, IfOk, OnOk, if◌then◌else◌};
+ghost use Rattle.monk_history.specs.Meaning.Events.{acted, next_of};
+ghost use Rattle.monk_history.specs.Meaning.Reasons.{reason_in};
+ghost use Rattle.monk_history.specs.Meaning.Release.{MayCallIn};
 ghost use Rattle.monk_audit.specs.Replay.{IsReplayOf, replay_situation};
+ghost use Rattle.monk_logs.specs.Blame as blames;
 ghost use Rattle.monk_logs.specs.Course as course;
 ghost use Rattle.monk_logs.specs.Kept.{grown, kept};
 ghost use Rattle.monk_logs.specs.Stand as stands;
-ghost use Rattle.monk_logs.specs.Stand.{monitor_in, stand_or};
+ghost use Rattle.monk_logs.specs.Stand.{IsHeld, monitor_in, stand_or};
 ghost use Rattle.monk_logs.specs.Told.{line_events, told_events};
 
 use crate::blame::{Blame, LineVerdict};
+use crate::blaming::{half_blame, is_lapse, release_blame};
 use crate::line::LogLine;
 use crate::past::Past;
 use crate::pending::Pending;
@@ -62,7 +67,7 @@ fn settle<T: Guarded>(
     if reason == ALLOWED {
         Ok(LineVerdict::Fits(Pending::Settled))
     } else {
-        Ok(LineVerdict::Misfits(Blame::Line(reason)))
+        Ok(LineVerdict::Misfits(Blame::of_reason(reason)))
     }
 }
 
@@ -82,7 +87,7 @@ fn hold<T: Guarded>(
     if reason == ALLOWED {
         LineVerdict::Fits(pending)
     } else {
-        LineVerdict::Misfits(Blame::Line(reason))
+        LineVerdict::Misfits(Blame::of_reason(reason))
     }
 }
 
@@ -141,6 +146,17 @@ fn signal<T: Guarded>(
     }
 }
 
+/// What is to blame for a lapse where somebody is active, or nobody is inside.
+fn lapse_blame(setting: Setting, seat: u8) -> Blame
+    ensures { result ≡ blames.lapse_blame setting.seats seat }
+{
+    if seat < setting.seats {
+        Blame::Turn
+    } else {
+        Blame::Range
+    }
+}
+
 /// A line where each event before it is known.
 fn line_settled<T: Guarded>(
     setting: Setting,
@@ -187,7 +203,7 @@ fn line_settled<T: Guarded>(
             Ok(release(setting, replay, object, event))
         }
         LogLine::Signal(seat, cond) => Ok(signal(setting, replay, object, seat, cond)),
-        LogLine::Lapse(_) => Ok(LineVerdict::Misfits(Blame::Lapse)),
+        LogLine::Lapse(seat) => Ok(LineVerdict::Misfits(lapse_blame(setting, seat))),
     }
 }
 
@@ -213,8 +229,33 @@ fn line_half<T: Guarded>(
             let event = Event::SignalWait(seat, cond, second, Next::Stay);
             release(setting, replay, object, event)
         }
-        _ => LineVerdict::Misfits(Blame::HalfSignal),
+        _ => LineVerdict::Misfits(half_blame(setting, replay, object, line)),
     }
+}
+
+/// Whether an event that is no act is allowed.
+fn allows<T: Guarded>(setting: Setting, replay: &Replay, object: &T, event: Event) -> bool
+    requires sound { IsReplayOf setting.seats setting.conds T.PREDICATES replay.now }
+    requires no_act { acted event ≡ None }
+    ensures { result ≡ (reason_in (monitor_in setting T.meaning) (replay_situation replay.now (T.state object.now)) event == 0) }
+{
+    replay.allows(setting.rules, object, setting.conds, event)
+}
+
+/// Whether the line may stand behind the release of which it tells the choice.
+fn follows<T: Guarded>(
+    setting: Setting,
+    replay: &Replay,
+    object: &T,
+    told: Event,
+    line: LogLine,
+) -> bool
+    requires sound { IsReplayOf setting.seats setting.conds T.PREDICATES replay.now }
+    requires no_act { acted told ≡ None }
+    ensures { result ≡ (not (blames.is_lapse line)
+        && (reason_in (monitor_in setting T.meaning) (replay_situation replay.now (T.state object.now)) told == 0)) }
+{
+    !is_lapse(line) && allows(setting, replay, object, told)
 }
 
 /// The line behind a release, whose choice it tells.
@@ -226,7 +267,9 @@ fn line_told<T: Guarded>(
     event: Event,
     line: LogLine,
 ) -> Result<LineVerdict, AllocError>
-    requires { IsReplayOf setting.seats setting.conds T.PREDICATES replay.old }
+    requires sound { IsReplayOf setting.seats setting.conds T.PREDICATES replay.old }
+    requires called { MayCallIn (monitor_in setting T.meaning) (replay_situation replay.old (T.state object.old)) event }
+    requires release { next_of event ≡ Some Next.Stay }
     ensures judged { IfOk result
         (λ v. stand_or (replay_situation replay.new (T.state object.new)) v
         ≡ stands.line_told (monitor_in setting T.meaning) (replay_situation replay.old (T.state object.old)) event line) }
@@ -236,12 +279,12 @@ fn line_told<T: Guarded>(
         ≡ grown (kept past.old) (told_events T.meaning (replay_situation replay.old (T.state object.old)) (Pending.Release event) line)) }
 {
     let told = told_release(replay, event, line);
-    let reason = add(setting, replay, object, past, told)?;
-    if reason == ALLOWED {
-        line_settled(setting, replay, object, past, line)
-    } else {
-        Ok(LineVerdict::Misfits(Blame::Release(reason)))
+    if !follows(setting, replay, object, told, line) {
+        let blame = release_blame(setting, replay, object, event, line);
+        return Ok(LineVerdict::Misfits(blame));
     }
+    add(setting, replay, object, past, told)?;
+    line_settled(setting, replay, object, past, line)
 }
 
 /// A line, by what is still to be known of the lines before it.
@@ -253,7 +296,8 @@ pub(crate) fn line_behind<T: Guarded>(
     pending: Pending,
     line: LogLine,
 ) -> Result<LineVerdict, AllocError>
-    requires { IsReplayOf setting.seats setting.conds T.PREDICATES replay.old }
+    requires sound { IsReplayOf setting.seats setting.conds T.PREDICATES replay.old }
+    requires held { IsHeld (monitor_in setting T.meaning) (replay_situation replay.old (T.state object.old)) pending }
     ensures judged { IfOk result
         (λ v. stand_or (replay_situation replay.new (T.state object.new)) v
         ≡ stands.line_behind (monitor_in setting T.meaning) (replay_situation replay.old (T.state object.old)) pending line) }

@@ -19,7 +19,7 @@ struct Job<'a> {
     answer: &'a [u8],
 }
 
-static JOBS: [Job<'static>; 8] = [
+static JOBS: [Job<'static>; 10] = [
     Job {
         task: Task::Audit,
         input: b"monk 1 PB 2 2 buffer 1\nenter 0 free\nwait 0 1 entry\nenter 1 free\nsignal 1 1 waiter 0\nresume 0 waiter\nleave 0 signaller 1\nresume 1 signaller\nleave 1 entry\n",
@@ -67,6 +67,18 @@ static JOBS: [Job<'static>; 8] = [
         input: b"play 1 PB 1 0 buffer 1 8\n0 arrive\n0 out\n0 leave waiter\n",
         status: 0,
         answer: b"1 | 0 arrive | arrived 0 0 | t=1 n=1 | due\n2 | 0 out | now | t=1 n=1 | active\n3 | 0 leave waiter | chose entry | t=1 n=1 | back entry\n",
+    },
+    Job {
+        task: Task::Complete(KindName::Npb),
+        input: b"log 1 2 1 buffer 1\nenter 0\nwait 0 0\nenter 1\nsignal 1 0\nresume 0\nleave 0\nresume 1\n",
+        status: 0,
+        answer: b"monk 2 NPB 2 1 buffer 1\nenter 0 free\nwait 0 0 entry\nenter 1 handed\nsignal 1 0 waiter 0\nresume 0 waiter\nleave 0 signaller 1\nresume 1 signaller\n",
+    },
+    Job {
+        task: Task::Complete(KindName::Npnb),
+        input: b"log 1 2 1 buffer 1\nenter 0\nwait 0 0\nresume 0\n",
+        status: 1,
+        answer: b"NPNB misfit 3 6 unserved\n",
     },
 ];
 

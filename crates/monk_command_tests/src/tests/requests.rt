@@ -15,7 +15,7 @@ fn asks_for(line: &Line, command: &str, file: Option<&str>) -> bool {
         Line::Trace(name) => ("trace", name),
         Line::Explain(name) => ("explain", name),
         Line::Draw(name) => ("draw", name),
-        Line::Classify(..) | Line::Run(..) | Line::Record(..) => return false,
+        Line::Classify(..) | Line::Complete(..) | Line::Run(..) | Line::Record(..) => return false,
     };
     let same = match (name, file) {
         (Some(name), Some(file)) => name.as_str() == file,
@@ -38,6 +38,21 @@ fn words_that_ask(rt: HostRuntime) -> Result<(), Fail> {
     }
     let classify = line(alloc, &["monk", "classify", "3", "0", "255"])?;
     assert!(rt; matches!(&classify, Line::Classify(3, 0, 255)));
+    Ok(())
+}
+
+#[test]
+fn words_that_ask_for_a_completion(rt: HostRuntime) -> Result<(), Fail> {
+    let alloc = rt.alloc();
+    for kind in KindName::ALL {
+        let name = str::from_utf8(kind.text())?;
+        let bare = line(alloc, &["monk", "complete", name])?;
+        assert!(rt; matches!(&bare, Line::Complete(found, None) if *found == kind));
+    }
+    let named = line(alloc, &["monk", "complete", "NPIR", "x.log"])?;
+    assert!(rt;
+        matches!(&named, Line::Complete(KindName::Npir, Some(file)) if file.as_str() == "x.log")
+    );
     Ok(())
 }
 
@@ -79,6 +94,9 @@ fn words_that_ask_for_nothing(rt: HostRuntime) {
     assert!(rt; is_refused(alloc, &["monk", "upgrade", "a", "b"]));
     assert!(rt; is_refused(alloc, &["monk", "explain", "a", "b"]));
     assert!(rt; is_refused(alloc, &["monk", "draw", "a", "b"]));
+    assert!(rt; is_refused(alloc, &["monk", "complete"]));
+    assert!(rt; is_refused(alloc, &["monk", "complete", "x.log"]));
+    assert!(rt; is_refused(alloc, &["monk", "complete", "PB", "a", "b"]));
     assert!(rt; is_refused(alloc, &["monk", "classify", "1", "2"]));
     assert!(rt; is_refused(alloc, &["monk", "classify", "1", "2", "3", "4"]));
     assert!(rt; is_refused(alloc, &["monk", "classify", "1", "2", "256"]));

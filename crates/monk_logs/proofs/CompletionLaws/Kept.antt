@@ -1,16 +1,12 @@
 -- What is kept where a line tells its events
-use Rattle.std.proofs.Common.{◌≡◌, ℕ, Bool, true, false, cond, List, [], ◌∷◌, ◌++◌, Option, Some, None, refl, sym, ap, ◌∙◌}
-use Rattle.std.proofs.lemmas.Bool.{eq-eqb}
+use Rattle.std.proofs.Common.{◌≡◌, List, [], ◌∷◌, ◌++◌, Option, Some, None, refl, ap, ◌∙◌}
 use Rattle.std.proofs.lemmas.List.{append_assoc}
-use Rattle.std.specs.Prelude.{◌==◌, Ok, Err}
 use Rattle.monk_history.specs.declared.event.Event.{Event}
 use Rattle.monk_history.specs.Meaning.Monitor.{Monitor}
-use Rattle.monk_history.specs.Meaning.Reasons.{reason_in}
 use Rattle.monk_history.specs.Meaning.Situation.{Situation}
 use Rattle.monk_history.specs.Meaning.Step.{after}
 use Rattle.monk_logs.specs.Course.{told_release}
 use Rattle.monk_logs.specs.Kept.{grown}
-use Rattle.monk_logs.specs.Stand.{add_to}
 use Rattle.monk_logs.specs.Told.{line_events, told_events}
 use Rattle.monk_logs.specs.declared.line.LogLine.{LogLine}
 use Rattle.monk_logs.specs.declared.pending.Pending.TheVariants.{Release}
@@ -19,21 +15,11 @@ grown_twice : (o : Option (List Event)) (a b : List Event) → grown (grown o a)
 grown_twice None a b = refl
 grown_twice (Some h) a b = ap (λ (x : List Event). Some x) (append_assoc h a b)
 
-leads_to : (t u : Situation) (r : ℕ) (b : Bool) → Ok u ≡ cond b (Ok t) (Err r) → u ≡ t
-leads_to t u r true h = cc
-leads_to t u r false h = absurd cc
-
-passed_to : (m : Monitor) (t u : Situation) (e : Event) (r : ℕ) → cond (r == 0) (Ok u) (Err r) ≡ add_to m t e → r ≡ 0
-    → u ≡ after m.object t e
-passed_to m t u e r h passes =
-    leads_to (after m.object t e) u (reason_in m t e) (reason_in m t e == 0)
-    (ap (λ (b : Bool). cond b (Ok u) (Err r)) (sym (eq-eqb r 0 passes)) ∙ h)
-
 -- a release and the line behind it
-pub told_kept : (m : Monitor) (t u : Situation) (e told : Event) (l : LogLine) (r : ℕ) (o k new : Option (List Event))
-    → told ≡ told_release m.object t e l → cond (r == 0) (Ok u) (Err r) ≡ add_to m t told → r ≡ 0
+pub told_kept : (m : Monitor) (t u : Situation) (e told : Event) (l : LogLine) (o k new : Option (List Event))
+    → told ≡ told_release m.object t e l → u ≡ after m.object t told
     → k ≡ grown o (told ∷ []) → new ≡ grown k (line_events u l) → new ≡ grown o (told_events m.object t (Release e) l)
-told_kept m t u e told l r o k new is h passes kept more =
+told_kept m t u e told l o k new is led kept more =
     more ∙ ap (λ (x : Option (List Event)). grown x (line_events u l)) kept ∙ grown_twice o (told ∷ []) (line_events u l)
-    ∙ ap (λ (x : Situation). grown o (told ∷ line_events x l)) (passed_to m t u told r h passes)
+    ∙ ap (λ (x : Situation). grown o (told ∷ line_events x l)) led
     ∙ ap (λ (x : Event). grown o (x ∷ line_events (after m.object t x) l)) is

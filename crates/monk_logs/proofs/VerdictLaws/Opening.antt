@@ -1,5 +1,5 @@
 -- The opening state of the object has no part in how lines are judged from a standing; and each kind's rules are those of a kind
-use Rattle.std.proofs.Common.{◌≡◌, ℕ, ◌+◌, List, [], ◌∷◌, refl, ap, ◌∙◌, arith}
+use Rattle.std.proofs.Common.{◌≡◌, ℕ, ◌+◌, cond, List, [], ◌∷◌, refl, ap, ◌∙◌, arith}
 use Rattle.std.specs.Prelude.{Result, Ok, Err}
 use Rattle.monk_kinds.specs.Kind.{IsKind}
 use Rattle.monk_kinds.specs.Names.{rules_named}
@@ -11,6 +11,7 @@ use Rattle.monk_history.specs.declared.event.Event.{Event}
 use Rattle.monk_history.specs.Meaning.Monitor.{monitor}
 use Rattle.monk_history.specs.Meaning.Reasons.{reason_in}
 use Rattle.monk_history.specs.Meaning.Situation.{Situation}
+use Rattle.monk_logs.specs.Blame.{is_lapse, release_blame}
 use Rattle.monk_logs.specs.Course.{told_release}
 use Rattle.monk_logs.specs.Stand.{Stand, add_to, line_settled, line_then, line_behind, verdict_from}
 use Rattle.monk_logs.specs.declared.blame.Blame.{Blame}
@@ -32,10 +33,10 @@ settled_line k seats conds o d t (Broadcast s c) = refl
 settled_line k seats conds o d t (Until s p) = refl
 settled_line k seats conds o d t (Act s op r) = refl
 
-then_line : (k : Rules) (seats conds : ℕ) (o : Object) (d : List ℕ) (t : Result Situation ℕ) (l : LogLine)
-    → line_then (monitor k seats conds o []) t l ≡ line_then (monitor k seats conds o d) t l
-then_line k seats conds o d (Err r) l = refl
-then_line k seats conds o d (Ok t) l = settled_line k seats conds o d t l
+then_line : (k : Rules) (seats conds : ℕ) (o : Object) (d : List ℕ) (why : Blame) (t : Result Situation ℕ) (l : LogLine)
+    → line_then (monitor k seats conds o []) why t l ≡ line_then (monitor k seats conds o d) why t l
+then_line k seats conds o d why (Err r) l = refl
+then_line k seats conds o d why (Ok t) l = settled_line k seats conds o d t l
 
 added : (k : Rules) (seats conds : ℕ) (o : Object) (d : List ℕ) (t : Situation) (e : Event)
     → add_to (monitor k seats conds o []) t e ≡ add_to (monitor k seats conds o d) t e
@@ -55,9 +56,11 @@ line_apart k seats conds o d t (Half s c) (Broadcast j x) = refl
 line_apart k seats conds o d t (Half s c) (Until j p) = refl
 line_apart k seats conds o d t (Half s c) (Act j op r) = refl
 line_apart k seats conds o d t (Release e) l =
-    then_line k seats conds o d (add_to (monitor k seats conds o []) t (told_release o t e l)) l
-    ∙ ap (λ (x : Result Situation ℕ). line_then (monitor k seats conds o d) x l)
-    (added k seats conds o d t (told_release o t e l))
+    let why = release_blame (monitor k seats conds o []) t e l in
+    ap (λ (r : Result Stand Blame). cond (is_lapse l) (Err why) r)
+    (then_line k seats conds o d why (add_to (monitor k seats conds o []) t (told_release o t e l)) l
+    ∙ ap (λ (x : Result Situation ℕ). line_then (monitor k seats conds o d) why x l)
+    (added k seats conds o d t (told_release o t e l)))
 
 pub opening_apart : (k : Rules) (seats conds : ℕ) (o : Object) (d : List ℕ) (n : ℕ) (s : Result Stand Blame) (log : List LogLine)
     → verdict_from (monitor k seats conds o []) n s log ≡ verdict_from (monitor k seats conds o d) n s log

@@ -17,12 +17,12 @@ use Rattle.monk_history.specs.Meaning.Situation.{Situation, situation}
 use Rattle.monk_history.specs.Meaning.Step.{after}
 use Rattle.monk_history.specs.Meaning.Turn.{turn}
 use Rattle.monk_history.proofs.PublicLaws.Meaning.{legal_situation-push}
+use Rattle.monk_logs.specs.Blame.{blame_of, half_blame, release_blame}
 use Rattle.monk_logs.specs.Course.{Course, course, settled, add, hold, behind_events, behind_half, then_behind, behind}
 use Rattle.monk_logs.specs.Course.{due_from, told_release}
 use Rattle.monk_logs.specs.Stand.{Stand, stand, stand_settled, add_to, settled_by, settle, hold_over}
-use Rattle.monk_logs.specs.Stand.{line_settled, line_half, line_then, line_behind}
+use Rattle.monk_logs.specs.Stand.{line_settled, line_half, line_then, line_told, line_behind}
 use Rattle.monk_logs.specs.declared.blame.Blame.{Blame}
-use Rattle.monk_logs.specs.declared.blame.Blame.TheVariants.{Line, HalfSignal}
 use Rattle.monk_logs.specs.declared.line.LogLine.{LogLine}
 use Rattle.monk_logs.specs.declared.line.LogLine.TheVariants.{Enter, Resume, Lapse, Leave, Wait, Signal, Broadcast, Until, Act}
 use Rattle.monk_logs.specs.declared.pending.Pending.{Pending}
@@ -65,7 +65,7 @@ held_if m past p why false = refl
 holds : (m : Monitor) (past : List Event) (e : Event) (p : Pending)
     → option_map (stand_at m) (hold m past e p) ≡ result_ok (hold_over m (situation m past) e p)
 holds m past e p =
-    held_if m past p (Line (reason_before 0 m (situation m past) e)) (reason_before 0 m (situation m past) e == 0)
+    held_if m past p (blame_of (reason_before 0 m (situation m past) e)) (reason_before 0 m (situation m past) e == 0)
 
 -- ---- a line
 
@@ -101,30 +101,55 @@ half_line m past s c (Enter j) = refl
 half_line m past s c (Resume j) = refl
 half_line m past s c (Lapse j) = refl
 half_line m past s c (Leave j) =
-    either (stand_at m) (j == s) _ None _ (Err HalfSignal)
+    either (stand_at m) (j == s) _ None _ (Err (half_blame m (Leave j)))
     (holds m past (event.SignalLeave s c Stay) (Release (event.SignalLeave s c Stay))) refl
 half_line m past s c (Wait j d) =
-    either (stand_at m) (j == s) _ None _ (Err HalfSignal)
+    either (stand_at m) (j == s) _ None _ (Err (half_blame m (Wait j d)))
     (holds m past (event.SignalWait s c d Stay) (Release (event.SignalWait s c d Stay))) refl
 half_line m past s c (Signal j d) = refl
 half_line m past s c (Broadcast j d) = refl
 half_line m past s c (Until j p) = refl
 half_line m past s c (Act j op r) = refl
 
-then_line : (m : Monitor) (past : List Event) (e : Event) (l : LogLine) (o : Option (List Event)) (r : Result Situation ℕ)
-    → add m past e ≡ o → IsLegal m past → option_map (situation m) o ≡ result_ok r
-    → option_map (stand_at m) (then_behind m o l) ≡ result_ok (line_then m r l)
-then_line m past e l None (Ok t) is legal h = absurd cc
-then_line m past e l None (Err r) is legal h = refl
-then_line m past e l (Some g) (Ok t) is legal h =
+then_line : (m : Monitor) (past : List Event) (e : Event) (l : LogLine) (why : Blame) (o : Option (List Event))
+    (r : Result Situation ℕ) → add m past e ≡ o → IsLegal m past → option_map (situation m) o ≡ result_ok r
+    → option_map (stand_at m) (then_behind m o l) ≡ result_ok (line_then m why r l)
+then_line m past e l why None (Ok t) is legal h = absurd cc
+then_line m past e l why None (Err r) is legal h = refl
+then_line m past e l why (Some g) (Ok t) is legal h =
     let same : situation m g ≡ t = cc in
     settled_line m g l (added m past g e is legal).0 ∙ ap (λ (x : Situation). result_ok (line_settled m x l)) same
-then_line m past e l (Some g) (Err r) is legal h = absurd cc
+then_line m past e l why (Some g) (Err r) is legal h = absurd cc
+
+release_line : (m : Monitor) (past : List Event) (e : Event) (l : LogLine) → IsLegal m past
+    → option_map (stand_at m) (behind m past (Release e) l)
+    ≡ result_ok (line_then m (release_blame m (situation m past) e l)
+    (add_to m (situation m past) (told_release m.object (situation m past) e l)) l)
+release_line m past e l legal =
+    let told = told_release m.object (situation m past) e l in
+    then_line m past told l (release_blame m (situation m past) e l) (add m past told)
+    (add_to m (situation m past) told) refl legal (added_to m past told legal)
+
+-- behind no release a timed wait runs out
+no_lapse : (m : Monitor) (o : Option (List Event)) (s : ℕ) → then_behind m o (Lapse s) ≡ None
+no_lapse m None s = refl
+no_lapse m (Some g) s = refl
+
+told_line : (m : Monitor) (past : List Event) (e : Event) (l : LogLine) → IsLegal m past
+    → option_map (stand_at m) (behind m past (Release e) l) ≡ result_ok (line_told m (situation m past) e l)
+told_line m past e (Enter s) legal = release_line m past e (Enter s) legal
+told_line m past e (Resume s) legal = release_line m past e (Resume s) legal
+told_line m past e (Lapse s) legal =
+    ap (option_map (stand_at m)) (no_lapse m (add m past (told_release m.object (situation m past) e (Lapse s))) s)
+told_line m past e (Leave s) legal = release_line m past e (Leave s) legal
+told_line m past e (Wait s c) legal = release_line m past e (Wait s c) legal
+told_line m past e (Signal s c) legal = release_line m past e (Signal s c) legal
+told_line m past e (Broadcast s c) legal = release_line m past e (Broadcast s c) legal
+told_line m past e (Until s p) legal = release_line m past e (Until s p) legal
+told_line m past e (Act s op r) legal = release_line m past e (Act s op r) legal
 
 pub line_same : (m : Monitor) (past : List Event) (p : Pending) (l : LogLine) → IsLegal m past
     → option_map (stand_at m) (behind m past p l) ≡ result_ok (line_behind m (situation m past) p l)
 line_same m past Settled l legal = settled_line m past l legal
 line_same m past (Half s c) l legal = half_line m past s c l
-line_same m past (Release e) l legal =
-    let told = told_release m.object (situation m past) e l in
-    then_line m past told l (add m past told) (add_to m (situation m past) told) refl legal (added_to m past told legal)
+line_same m past (Release e) l legal = told_line m past e l legal

@@ -49,7 +49,7 @@ fn blocking_log_is_completed(rt: HostRuntime) -> Result<(), Fail> {
         Event::Leave(1, Next::Entry),
     ];
     assert!(rt; becomes(&rt, KindName::Pb, SIGNALLED_FIRST, &want)?);
-    let choice = Blame::Release(Verdict::CHOICE);
+    let choice = Blame::Choice;
     assert!(rt; misfit(&rt, KindName::Npnb, SIGNALLED_FIRST)? == Some((5, choice)));
     Ok(())
 }
@@ -66,7 +66,7 @@ fn non_blocking_log_is_completed(rt: HostRuntime) -> Result<(), Fail> {
         Event::Leave(0, Next::Entry),
     ];
     assert!(rt; becomes(&rt, KindName::Npnb, SIGNALLER_FIRST, &want)?);
-    let choice = Blame::Release(Verdict::CHOICE);
+    let choice = Blame::Choice;
     assert!(rt; misfit(&rt, KindName::Pb, SIGNALLER_FIRST)? == Some((5, choice)));
     Ok(())
 }

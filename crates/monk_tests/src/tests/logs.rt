@@ -1,4 +1,4 @@
-use monk_audit::{AuditFault, Verdict};
+use monk_audit::AuditFault;
 use monk_kinds::KindName;
 use monk_logs::{Blame, LogHeader, LogLine, LogVerdict, judge, one_log_each, read_log};
 use monk_object::{ObjectName, Op};
@@ -101,7 +101,7 @@ const OVERTAKEN: &[u8] =
 
 #[test]
 fn logs_under_kinds(rt: HostRuntime) -> Result<(), Fail> {
-    let chosen = Blame::Release(Verdict::CHOICE);
+    let chosen = Blame::Choice;
     let fits = LogVerdict::Fits;
     assert!(rt; verdict(&rt, KindName::Npnb, SIGNALLER_FIRST)? == fits);
     assert!(rt; verdict(&rt, KindName::Pb, SIGNALLER_FIRST)? == misfit(5, chosen));
@@ -109,7 +109,7 @@ fn logs_under_kinds(rt: HostRuntime) -> Result<(), Fail> {
     assert!(rt; verdict(&rt, KindName::Npnb, SIGNALLED_FIRST)? == misfit(5, chosen));
     assert!(rt; verdict(&rt, KindName::Npnb, BARGED)? == fits);
     assert!(rt; verdict(&rt, KindName::Pnb, BARGED)? == misfit(6, chosen));
-    assert!(rt; verdict(&rt, KindName::Npnb, OVERTAKEN)? == misfit(9, chosen));
+    assert!(rt; verdict(&rt, KindName::Npnb, OVERTAKEN)? == misfit(9, Blame::Order));
     Ok(())
 }
 
@@ -118,16 +118,127 @@ fn lines_that_misfit(rt: HostRuntime) -> Result<(), Fail> {
     let text: &[u8] = b"log 1 2 1 buffer 1\n";
     assert!(rt; verdict(&rt, KindName::Pb, text)? == LogVerdict::Fits);
     let text: &[u8] = b"log 1 2 1 buffer 1\nenter 2\n";
-    assert!(rt; verdict(&rt, KindName::Pb, text)? == misfit(1, Blame::Line(Verdict::RANGE)));
+    assert!(rt; verdict(&rt, KindName::Pb, text)? == misfit(1, Blame::Range));
     let text: &[u8] = b"log 1 2 1 buffer 1\nenter 0\nbroadcast 0 0\n";
-    assert!(rt; verdict(&rt, KindName::Pb, text)? == misfit(2, Blame::Line(Verdict::CALL)));
+    assert!(rt; verdict(&rt, KindName::Pb, text)? == misfit(2, Blame::Call));
     let text: &[u8] = b"log 1 2 1 buffer 1\nenter 0\nenter 1\n";
-    assert!(rt; verdict(&rt, KindName::Pb, text)? == misfit(2, Blame::Line(Verdict::TURN)));
+    assert!(rt; verdict(&rt, KindName::Pb, text)? == misfit(2, Blame::Turn));
     let text: &[u8] = b"log 1 2 1 buffer 1\nenter 0\nact 0 1 0 7\n";
-    assert!(rt; verdict(&rt, KindName::Pb, text)? == misfit(2, Blame::Line(Verdict::REPLY)));
+    assert!(rt; verdict(&rt, KindName::Pb, text)? == misfit(2, Blame::Reply));
     let text: &[u8] = b"log 1 2 1 buffer 1\nenter 0\nlapse 0\n";
-    assert!(rt; verdict(&rt, KindName::Pb, text)? == misfit(2, Blame::Lapse));
+    assert!(rt; verdict(&rt, KindName::Pb, text)? == misfit(2, Blame::Turn));
     Ok(())
+}
+
+/// Seats 0 and 1 wait, seat 2 signals and seat 0 goes on, and signals too; then it goes on at once, past seat 2.
+const PAST_A_SIGNALLER: &[u8] =
+    b"log 1 3 1 buffer 1\nenter 0\nwait 0 0\nenter 1\nwait 1 0\nenter 2\nsignal 2 0\nresume 0\nsignal 0 0\nleave 0\n";
+
+/// Logs whose last line misfits behind a release, under the kind, and what is to blame.
+static BLAMED: [(KindName, &[u8], Blame); 16] = [
+    (
+        KindName::Npnb,
+        b"log 1 2 1 buffer 1\nenter 0\nwait 0 0\nenter 2\n",
+        Blame::Range,
+    ),
+    (
+        KindName::Npnb,
+        b"log 1 2 1 buffer 1\nenter 0\nwait 0 0\nlapse 2\n",
+        Blame::Range,
+    ),
+    (
+        KindName::Pb,
+        b"log 1 2 1 buffer 1\nenter 0\nwait 0 0\nbroadcast 1 0\n",
+        Blame::Call,
+    ),
+    (
+        KindName::Npnb,
+        b"log 1 2 1 buffer 1\nenter 0\nwait 0 0\nleave 0\n",
+        Blame::Turn,
+    ),
+    (
+        KindName::Npnb,
+        b"log 1 2 1 buffer 1\nenter 0\nleave 0\nresume 0\n",
+        Blame::Turn,
+    ),
+    (
+        KindName::Npnb,
+        b"log 1 2 1 buffer 1\nenter 0\nsignal 0 0\nenter 1\n",
+        Blame::Turn,
+    ),
+    (
+        KindName::Npnb,
+        b"log 1 2 1 buffer 1\nenter 0\nleave 0\nlapse 1\n",
+        Blame::Turn,
+    ),
+    (
+        KindName::Npnb,
+        b"log 1 2 1 buffer 1\nenter 0\nwait 0 0\nenter 0\n",
+        Blame::Place,
+    ),
+    (
+        KindName::Pb,
+        b"log 1 2 1 buffer 1\nenter 0\nwait 0 0\nenter 1\nsignal 1 0\nact 1 1 0 7\n",
+        Blame::Reply,
+    ),
+    (
+        KindName::Npnb,
+        b"log 1 2 1 buffer 1\nenter 0\nwait 0 0\nresume 0\n",
+        Blame::Unserved,
+    ),
+    (
+        KindName::Npnb,
+        b"log 1 2 1 buffer 1\nenter 0\nwait 0 0\nenter 1\nleave 1\nresume 0\n",
+        Blame::Unserved,
+    ),
+    (
+        KindName::Npis,
+        b"log 1 2 0 buffer 1\nenter 0\nuntil 0 1\nresume 0\n",
+        Blame::Unserved,
+    ),
+    (
+        KindName::Npnb,
+        b"log 1 2 1 buffer 1\nenter 0\nwait 0 0\nlapse 0\n",
+        Blame::Served,
+    ),
+    (KindName::Pqb, PAST_A_SIGNALLER, Blame::Order),
+    (KindName::Pb, PAST_A_SIGNALLER, Blame::Choice),
+    (
+        KindName::Pir,
+        b"log 1 2 1 buffer 1\nenter 0\nsignal 0 0\nwait 0 1\n",
+        Blame::Range,
+    ),
+];
+
+#[test]
+fn each_reason_behind_a_release(rt: HostRuntime) -> Result<(), Fail> {
+    for (kind, text, blame) in BLAMED.iter() {
+        let (_, lines) = read_log(rt.alloc(), text)?;
+        let last = u32::try_from(lines.len()).unwrap_or(0);
+        assert!(rt; verdict(&rt, *kind, text)? == misfit(last, *blame));
+    }
+    Ok(())
+}
+
+/// The nine, with their numbers and words.
+static REASONS: [(Blame, u8, &str); 9] = [
+    (Blame::Range, 1, "range"),
+    (Blame::Call, 2, "call"),
+    (Blame::Turn, 3, "turn"),
+    (Blame::Place, 4, "place"),
+    (Blame::Reply, 5, "reply"),
+    (Blame::Unserved, 6, "unserved"),
+    (Blame::Served, 7, "served"),
+    (Blame::Order, 8, "order"),
+    (Blame::Choice, 9, "choice"),
+];
+
+#[test]
+fn reasons_are_numbered(rt: HostRuntime) {
+    for (blame, number, word) in REASONS.iter() {
+        assert!(rt; blame.number() == *number);
+        assert!(rt; blame.text() == *word);
+    }
 }
 
 /// Under immediate return the line behind a signal says which signal it is.
@@ -135,7 +246,7 @@ fn lines_that_misfit(rt: HostRuntime) -> Result<(), Fail> {
 fn signals_told_by_halves(rt: HostRuntime) -> Result<(), Fail> {
     let waits: &[u8] = b"log 1 2 1 buffer 1\nenter 0\nsignal 0 0\nwait 0 0\nenter 1\nleave 1\n";
     assert!(rt; verdict(&rt, KindName::Pir, SIGNALLER_FIRST)? == LogVerdict::Fits);
-    assert!(rt; verdict(&rt, KindName::Pir, SIGNALLED_FIRST)? == misfit(5, Blame::HalfSignal));
+    assert!(rt; verdict(&rt, KindName::Pir, SIGNALLED_FIRST)? == misfit(5, Blame::Call));
     assert!(rt; verdict(&rt, KindName::Npir, waits)? == LogVerdict::Fits);
     Ok(())
 }

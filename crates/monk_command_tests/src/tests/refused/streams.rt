@@ -1,5 +1,6 @@
 use monk_commands::{StreamFault, Task};
 use monk_history::Device;
+use monk_kinds::KindName;
 use std::io;
 use std::io::Write;
 
@@ -100,6 +101,27 @@ static NOT_EXPLAINED: Job = Job {
 static NOT_DRAWN: Job = Job {
     task: Task::Draw,
     input: b"monk 1 PB 1 0 buffer 1\nenter 0 free\nstay 0\n",
+    status: 2,
+    answer: b"unreadable 3 2 word\n",
+};
+
+static COMPLETED: Job = Job {
+    task: Task::Complete(KindName::Pb),
+    input: b"log 1 2 1 buffer 1\nenter 0\nwait 0 0\nenter 1\nsignal 1 0\nresume 0\nleave 0\nresume 1\n",
+    status: 0,
+    answer: b"monk 2 PB 2 1 buffer 1\nenter 0 free\nwait 0 0 entry\nenter 1 handed\nsignal 1 0 waiter 0\nresume 0 waiter\nleave 0 signaller 1\nresume 1 signaller\n",
+};
+
+static MISFIT: Job = Job {
+    task: Task::Complete(KindName::Pnb),
+    input: b"log 1 2 1 buffer 1\nenter 0\nwait 0 0\nenter 1\nsignal 1 0\nresume 0\n",
+    status: 1,
+    answer: b"PNB misfit 5 9 choice\n",
+};
+
+static NOT_COMPLETED: Job = Job {
+    task: Task::Complete(KindName::Pb),
+    input: b"log 1 1 0 buffer 1\nenter 0\nstay 0\n",
     status: 2,
     answer: b"unreadable 3 2 word\n",
 };
@@ -333,4 +355,34 @@ fn traced_with_ample_memory(rt: HostRuntime) {
 #[test]
 fn traced_or_refused_memory(rt: HostRuntime) {
     assert_ne!(rt; end_of(&rt, &TRACED), Outcome::Other);
+}
+
+#[test]
+fn completed_with_ample_memory(rt: HostRuntime) {
+    assert_eq!(rt; end_of(&rt, &COMPLETED), Outcome::Answered);
+}
+
+#[test]
+fn completed_or_refused_memory(rt: HostRuntime) {
+    assert_ne!(rt; end_of(&rt, &COMPLETED), Outcome::Other);
+}
+
+#[test]
+fn misfit_with_ample_memory(rt: HostRuntime) {
+    assert_eq!(rt; end_of(&rt, &MISFIT), Outcome::Answered);
+}
+
+#[test]
+fn misfit_or_refused_memory(rt: HostRuntime) {
+    assert_ne!(rt; end_of(&rt, &MISFIT), Outcome::Other);
+}
+
+#[test]
+fn not_completed_with_ample_memory(rt: HostRuntime) {
+    assert_eq!(rt; end_of(&rt, &NOT_COMPLETED), Outcome::Answered);
+}
+
+#[test]
+fn not_completed_or_refused_memory(rt: HostRuntime) {
+    assert_ne!(rt; end_of(&rt, &NOT_COMPLETED), Outcome::Other);
 }

@@ -1,17 +1,21 @@
 use Rattle.std.proofs.Common.{◌∙◌, ap, codes}
 use Rattle.std.proofs.lemmas.Result.{IfOk-weaker}
 use Rattle.clap.specs.Words.{App, with_subcommand}
-use Rattle.monk_commands.specs.Request.{run_app}
+use Rattle.monk_commands.specs.Request.{complete_app, run_app}
 use Rattle.monk_commands.proofs.words.command.Goals as goal
 
 pub returns : goal.returns
 returns c =
+    let complete = c.in_ok-complete.ensures in
+    let complete_is = complete.is _ _ c.in_ok-subcommand.ensures
+    ∙ ap (λ (a : App). with_subcommand a (complete_app complete.names).top) c.in_ok-plain.ensures in
     let run = c.in_ok-run.ensures in
-    let run_is = run.is _ _ c.in_ok-subcommand.ensures
-    ∙ ap (λ (a : App). with_subcommand a (run_app (codes "run") run.names).top) c.in_ok-plain.ensures in
+    let run_is = run.is _ _ c.in_ok-subcommand-2.ensures
+    ∙ ap (λ (a : App). with_subcommand a (run_app (codes "run") run.names).top) complete_is in
     let recorded = c.in_ok-record.ensures in
-    IfOk-weaker c.subcommand-2.result _ _ (λ r h. record {
+    IfOk-weaker c.subcommand-3.result _ _ (λ r h. record {
+      completed = complete.names;
       run = run.names;
       recorded = recorded.names;
       is = recorded.is _ _ h ∙ ap (λ (a : App). with_subcommand a (run_app (codes "record") recorded.names).top) run_is;
-    }) c.subcommand-2.ensures
+    }) c.subcommand-3.ensures

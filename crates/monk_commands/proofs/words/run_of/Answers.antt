@@ -1,8 +1,7 @@
-use Rattle.std.proofs.Common.{◌≡◌, ◌∙◌, ap, sym, refl, Some, List, ℕ, codes}
+use Rattle.std.proofs.Common.{◌≡◌, ◌∙◌, ap, sym, Some, List, ℕ, codes}
 use Rattle.std.specs.Str.Parse.{ParsesUnsigned, ExplainsUnsignedError, HasUnsignedDigitsIfOk}
 use Rattle.clap.specs.Words.{found_of, rows_of, first_of}
 use Rattle.clap.proofs.WalkLemmas.{first_value-rows}
-use Rattle.monk_kinds.specs.Names.{kind_word}
 use Rattle.monk_commands.specs.Request.{sample_word}
 use Rattle.monk_commands.proofs.Requests.{number_read}
 use Rattle.monk_commands.proofs.words.run_of.Goals as goal
@@ -10,13 +9,9 @@ use Rattle.monk_commands.proofs.words.run_of.Goals as goal
 pub returns-clause-values : goal.returns-clause-values
 returns-clause-values c =
     let found = found_of c.args.matches.now in
-    let kind_is = (c.in_ok-kind.ensures.exact c.in_ok-kind.kind).0 refl in
-    let kind : first_of (codes "KIND") (rows_of found) ≡ Some (kind_word c.in_ok-kind.kind) =
-    sym (first_value-rows found (codes "KIND")) ∙ sym c.in_ok-get_str.ensures
-    ∙ ap (λ (x : List ℕ). Some x) (sym c.as_bytes.ensures.value ∙ kind_is) in
     let sample : first_of (codes "SAMPLE") (rows_of found) ≡ Some (sample_word c.in_ok-sample.sample) =
-    sym (first_value-rows found (codes "SAMPLE")) ∙ sym c.in_ok-get_str-2.ensures ∙ ap (λ (x : List ℕ). Some x) c.in_ok-sample.ensures in (
-      kind,
+    sym (first_value-rows found (codes "SAMPLE")) ∙ sym c.in_ok-get_str.ensures ∙ ap (λ (x : List ℕ). Some x) c.in_ok-sample.ensures in (
+      c.in_ok-kind.ensures,
       sample,
       number_read _ (λ bs r. ParsesUnsigned 8 10 bs r × ExplainsUnsignedError 10 bs r × HasUnsignedDigitsIfOk bs r) 8
           c.in_ok-seats.seats (codes "SEATS") found (λ u x g. g.0)

@@ -6,7 +6,7 @@ use Rattle.monk_audit.specs.Replay.{replay_situation}
 use Rattle.monk_logs.specs.Kept.{kept}
 use Rattle.monk_logs.specs.Stand.{monitor_in, stand}
 use Rattle.monk_logs.specs.declared.line.LogLine.{LogLine}
-use Rattle.monk_logs.proofs.CompletionLaws.Endings.{course_ends, course_fits}
+use Rattle.monk_logs.proofs.CompletionLaws.Endings.{course_ends, course_fits, course_held}
 use Rattle.monk_logs.proofs.CompletionLaws.Known.{IsCourse, course_goes, course_opens}
 use Rattle.monk_logs.proofs.VerdictLaws.Lines.{opens, goes_on, misfits, fits}
 use Rattle.monk_logs.proofs.following.follow.Goals as goal
@@ -73,3 +73,10 @@ returns-clause-completed g c =
     λ fits. course_ends m c.args.lines.now t c.loop-i.pending wanted (kept c.loop-i.past) (kept c.end.new.past) c.requires.kind
     (subst (λ (log : List LogLine). IsCourse m log t c.loop-i.pending wanted (kept c.loop-i.past))
     (take_all c.loop-i.i c.args.lines.now c.loop-i-test.false) c.loop-i.invariant.course) c.in_ok-end.ensures
+
+pub line_behind-requires-clause-held : goal.line_behind-requires-clause-held
+line_behind-requires-clause-held g c =
+    let k = c.args.setting in
+    let t = replay_situation c.loop-i.replay (g.T.Guarded.state c.loop-i.object) in
+    λ lives outlives. course_held k.rules k.seats k.conds g.T.Guarded.meaning (g.T.Guarded.state c.args.object)
+    (take c.loop-i.i c.args.lines.now) t c.loop-i.pending (is_some (kept c.args.past.now)) (kept c.loop-i.past) c.loop-i.invariant.course

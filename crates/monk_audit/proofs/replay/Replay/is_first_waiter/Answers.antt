@@ -1,0 +1,12 @@
+use Rattle.std.proofs.Common.{◌∙◌, [], ◌++◌}
+use Rattle.monk_history.specs.Meaning.Waiters.{serves}
+use Rattle.monk_audit.specs.QueueAt.{queue_at}
+use Rattle.monk_audit.proofs.FrontLaws.{front_said}
+use Rattle.monk_audit.proofs.replay.Replay.is_first_waiter.Goals as goal
+
+pub returns : goal.returns
+returns c =
+    c.eq.ensures
+    ∙ front_said c.first_waiter.result
+    (c.args.self.now.waiters.items ++ serves (queue_at c.args.self.now.conditions.items) c.args.event) c.args.seat
+    (c.first_waiter.ensures [])

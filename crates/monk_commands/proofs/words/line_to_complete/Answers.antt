@@ -1,0 +1,13 @@
+use Rattle.std.proofs.Common.{◌∙◌, refl, sym, codes}
+use Rattle.clap.specs.Words.{found_of}
+use Rattle.clap.proofs.WalkLemmas.{first_value-rows}
+use Rattle.monk_commands.proofs.words.line_to_complete.Goals as goal
+
+pub returns-in_ok-file_of-in-Some : goal.returns-in_ok-file_of-in-Some
+returns-in_ok-file_of-in-Some c =
+    let found = found_of c.args.matches.now in
+    record {
+      command = refl;
+      values = (c.in-Some.ensures, sym (first_value-rows found (codes "FILE")) ∙ sym c.in_ok-file_of-in-Some.ensures);
+      in_range = tt;
+    }

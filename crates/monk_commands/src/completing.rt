@@ -1,0 +1,187 @@
+//! The completing stream: the text of a log in, the text of a legal history that tells it out, or why there is none.
+
+ghost use Rattle.std.specs.Prelude.{◌≡◌, ◌+◌, ◌≤◌, ◌^◌, ◌⊎◌, ◌↔◌, false, true, length, IfOk, OnOk, IfSome, IsErrOf, Err, OnErr};
+ghost use Rattle.std.specs.Prelude.{IsTrue, List};
+ghost use Rattle.std.specs.Io.KnownBytes.{Appends, IsAtEnd};
+ghost use Rattle.monk_history.specs.declared.event.Event.{Event};
+ghost use Rattle.monk_history.specs.Text.{HasText, is_writable, text};
+ghost use Rattle.monk_history.specs.Text.Device.{held, has_failed, reads_of};
+ghost use Rattle.monk_logs.specs.Log.Reading.{log};
+ghost use Rattle.monk_commands.specs.Completed.{IsAnswerToLog, IsLogAnswer, IsMisfitText, IsOpenText};
+ghost use Rattle.monk_commands.specs.Completed.{completed_heading, misfit_answer};
+ghost use Rattle.monk_commands.specs.Played.{IsFoundLegal};
+ghost use Rattle.monk_commands.specs.Streams.{IsYoung, IsPastBound};
+
+use crate::answer::{put, too_big, unreadable};
+use crate::fault::StreamFault;
+use crate::input::read_all;
+use monk_audit::AuditFault;
+use monk_history::{Device, Event, Header, write};
+use monk_kinds::KindName;
+use monk_logs::{Blame, Completion, LogHeader, LogLine, complete, read_log};
+use std::alloc::Global;
+use std::io::{Read, Write};
+
+/// The header of a history of the kind over what the log's first line names, in the version that has every event.
+fn header_of(kind: KindName, header: &LogHeader) -> Header
+    ensures header { result ≡ completed_heading kind header.now }
+    ensures writable { (events : List Event) → IsTrue (is_writable result events) }
+{
+    let (seats, conds) = (header.seats(), header.conds());
+    match Header::new(kind, seats, conds, header.object(), header.size()) {
+        Some(header) => header.upgraded(),
+        None => unreachable!(),
+    }
+}
+
+/// The line of a misfit.
+fn misfit_line(
+    alloc: Global,
+    kind: KindName,
+    line: u32,
+    blame: Blame,
+) -> Result<Vec<u8>, StreamFault>
+    ensures line { IfOk result (λ page. page.items ≡ (misfit_answer kind line blame).text) }
+    ensures no_file { IsErrOf result StreamFault.File → ⊥ }
+{
+    let (number, word) = (blame.number(), blame.text());
+    let told = format!(in alloc; " misfit {line} {number} {word}\n")?;
+    let mut page = Vec::new(alloc);
+    page.extend_from_slice(kind.text())?;
+    page.extend_from_slice(told.as_bytes())?;
+    Ok(page)
+}
+
+/// Writes the line of a misfit; the result is the exit status.
+fn put_misfit<W: Write>(line: &[u8], writer: &mut Device<W>) -> Result<u8, StreamFault>
+    requires { has_failed writer.old ≡ false }
+    ensures told { IfOk result
+        (λ status. (status ≡ 1) × Appends (W.contents (held writer.old)) (W.contents (held writer.new)) line.now) }
+    ensures fails { OnErr result ((result ≡ Err StreamFault.File) × (has_failed writer.new ≡ true)) }
+{
+    match writer.write_all(line) {
+        Ok(()) => Ok(1),
+        Err(_) => Err(StreamFault::File),
+    }
+}
+
+/// Writes the text of the history; the result is the exit status.
+fn put_history<W: Write>(
+    header: &Header,
+    events: &[Event],
+    writer: &mut Device<W>,
+) -> Result<u8, StreamFault>
+    requires works { has_failed writer.old ≡ false }
+    requires writable { IsTrue (is_writable header.now events.now) }
+    ensures zero { IfOk result (λ status. status ≡ 0) }
+    ensures has_text { IfOk result (λ status. HasText header.now events.now) }
+    ensures told { IfOk result
+        (λ status. Appends (W.contents (held writer.old)) (W.contents (held writer.new)) (text header.now events.now)) }
+    ensures fails { OnErr result ((result ≡ Err StreamFault.File) × (has_failed writer.new ≡ true)) }
+{
+    match write(header, events, writer) {
+        Ok(()) => Ok(0),
+        Err(_) => Err(StreamFault::File),
+    }
+}
+
+/// Answers a log that was read.
+fn complete_log<W: Write>(
+    alloc: Global,
+    kind: KindName,
+    header: &LogHeader,
+    lines: &[LogLine],
+    writer: &mut Device<W>,
+) -> Result<u8, StreamFault>
+    requires works { has_failed writer.old ≡ false }
+    requires few { length lines.now ≤ 2 ^ 25 }
+    ensures answer { IfOk result
+        (λ status. IsLogAnswer kind (log header.now lines.now) status
+        (Appends (W.contents (held writer.old)) (W.contents (held writer.new)))) }
+    ensures file { IsErrOf result StreamFault.File → has_failed writer.new ≡ true }
+    ensures memory { IsErrOf result StreamFault.Memory → writer.new ≡ writer.old }
+{
+    match complete(alloc, header, lines, kind) {
+        Ok(Completion::History(events)) => put_history(&header_of(kind, header), &events, writer),
+        Ok(Completion::Misfit { line, blame }) => {
+            put_misfit(&misfit_line(alloc, kind, line, blame)?, writer)
+        }
+        Err(AuditFault::Object) => put(&too_big(alloc)?, writer),
+        Err(AuditFault::Memory) => Err(StreamFault::Memory),
+    }
+}
+
+/// Answers a text.
+fn complete_text<W: Write>(
+    alloc: Global,
+    kind: KindName,
+    bytes: &[u8],
+    writer: &mut Device<W>,
+) -> Result<u8, StreamFault>
+    requires { has_failed writer.old ≡ false }
+    ensures answer { IfOk result
+        (λ status. IsAnswerToLog kind bytes.now status
+        (Appends (W.contents (held writer.old)) (W.contents (held writer.new)))) }
+    ensures file { IsErrOf result StreamFault.File → has_failed writer.new ≡ true }
+    ensures memory { IsErrOf result StreamFault.Memory → writer.new ≡ writer.old }
+{
+    match read_log(alloc, bytes) {
+        Ok((header, lines)) => complete_log(alloc, kind, &header, &lines, writer),
+        Err(fault) => put(&unreadable(alloc, fault)?, writer),
+    }
+}
+
+/// Reads all of the reader, the text of a log, and writes the text of a history of a monitor of the kind that tells the log,
+/// with status 0: what a recorder would write down of it is the log. The history is legal, and its queues are in order of arrival.
+/// It is that of [`complete`], which says what it makes of the release with which a log ends; its text is in version 2.
+///
+/// Where no such history begins with the log, the line `KIND misfit STEP NUMBER WORD` is written with status 1: the first
+/// line of the log with which none does, counted from 1 behind the log's first line, and the number and the word of what is
+/// to blame ([`Blame`]).
+///
+/// Where the reader has no text of a log, the line `unreadable LINE NUMBER WORD` is written with status 2, and where the
+/// size is above the object's greatest, `object` with status 2.
+///
+/// # Errors
+///
+/// [`StreamFault::File`] where the reader or the writer failed, or where the input has more than 2^31 bytes or takes
+/// more than 2^31 reads. [`StreamFault::Memory`] where a growth was refused.
+///
+/// # Cost
+///
+/// One pass over the text, one over its lines, in which a line takes as long as an event or two of an audit, and one over
+/// the events. Memory for the text, for its lines, for the events and for the queues.
+pub fn complete_stream<R: Read, W: Write>(
+    alloc: Global,
+    kind: KindName,
+    reader: &mut Device<R>,
+    writer: &mut Device<W>,
+) -> Result<u8, StreamFault>
+    requires reader_works { has_failed reader.old ≡ false }
+    requires writer_works { has_failed writer.old ≡ false }
+
+    // What is written, and its status, are the answer to what the reader had: to a log that is open, the text of a history that
+    // is legal under a monitor of the kind and whose erasure is the log.
+    ensures answer { IfOk result
+        (λ status. IfSome (R.remaining (held reader.old))
+        (λ input. IsAnswerToLog kind input status (Appends (W.contents (held writer.old)) (W.contents (held writer.new))))) }
+    // The status is 0 exactly for the text of a log with which some legal history begins.
+    ensures open { IfOk result (λ status. IfSome (R.remaining (held reader.old)) (λ input. (status ≡ 0) ↔ IsOpenText kind input)) }
+    // The status is 1 exactly for the text of a log that has a first line with which none does.
+    ensures misfit { IfOk result
+        (λ status. IfSome (R.remaining (held reader.old)) (λ input. (status ≡ 1) ↔ IsMisfitText kind input)) }
+    // What is written with status 0, an audit finds legal.
+    ensures found_legal { IfOk result
+        (λ status. status ≡ 0 → IsFoundLegal (Appends (W.contents (held writer.old)) (W.contents (held writer.new)))) }
+    ensures statuses { IfOk result (λ status. status ≤ 2) }
+    ensures all_read { OnOk result (IsAtEnd (R.remaining (held reader.new))) }
+
+    ensures file { IsErrOf result StreamFault.File → IsYoung reader.old → (has_failed reader.new ≡ true)
+        ⊎ (has_failed writer.new ≡ true) ⊎ IsPastBound reader.old reader.new }
+    // Where memory is told for, no call has failed, and nothing was written.
+    ensures memory { IsErrOf result StreamFault.Memory → (has_failed reader.new ≡ false) × (writer.new ≡ writer.old) }
+    ensures reads { reads_of reader.new ≤ reads_of reader.old + 2 ^ 31 }
+{
+    let bytes = read_all(alloc, reader)?;
+    complete_text(alloc, kind, &bytes, writer)
+}
