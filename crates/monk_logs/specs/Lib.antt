@@ -16,3 +16,6 @@ pub mod Items
 pub mod Board
 pub mod FitsIn
 pub mod BoardCourse
+pub mod BoardStand
+pub mod BoardShown
+pub mod BoardMoves

@@ -2,6 +2,8 @@
 #![tactic(auto)]
 
 mod blame;
+mod board;
+mod board_choices;
 mod blaming;
 mod completing;
 mod completion;
@@ -9,6 +11,8 @@ mod ending;
 mod following;
 mod header;
 mod item;
+mod items;
+mod items_moves;
 mod judging;
 pub mod laws;
 mod line;

@@ -1,0 +1,68 @@
+-- What an event makes of a board, part by part: first it serves, and then it takes out whom it chose
+use Rattle.std.specs.Prelude.{ℕ, ◌==◌, Bool, true, ◌&&◌, not, List, [], ◌∷◌, ◌++◌, if◌then◌else◌, is_some}
+use Rattle.monk_object.specs.Object.{Object}
+use Rattle.monk_history.specs.declared.event.Event.{Event}
+use Rattle.monk_history.specs.declared.event.Turn.TheVariants.{Owned}
+use Rattle.monk_history.specs.Meaning.Events.{next_of, seat_of, steps_back}
+use Rattle.monk_history.specs.Meaning.Monitor.{Monitor}
+use Rattle.monk_history.specs.Meaning.Reasons.{reason_before}
+use Rattle.monk_history.specs.Meaning.Signallers.{is_empty}
+use Rattle.monk_history.specs.Meaning.Untils.{ready_of}
+use Rattle.monk_audit.specs.Replay.{passed_on}
+use Rattle.monk_logs.specs.Blame.{blame_of}
+use Rattle.monk_logs.specs.Board.{Board, chosen_out, items_with, sight, signallers_with, waiting_item}
+use Rattle.monk_logs.specs.Chances.{Chances, permits_by}
+use Rattle.monk_logs.specs.Items.{may_resume, services}
+use Rattle.monk_logs.specs.Order.{apart, may_go}
+use Rattle.monk_logs.specs.Run.{taken_signaller}
+use Rattle.monk_logs.specs.declared.blame.LineVerdict.{LineVerdict}
+use Rattle.monk_logs.specs.declared.blame.LineVerdict.TheVariants as verdict
+use Rattle.monk_logs.specs.declared.order.Order.{Order}
+use Rattle.monk_logs.specs.declared.pending.Pending.TheVariants.{Settled}
+
+-- with what an event serves, and who joins the signallers by it
+abbrev pub board_served : Board → Event → Board
+board_served b e = record {
+  items = items_with b e;
+  signallers = signallers_with b e;
+  untils = b.untils;
+  state = b.state;
+  turn = b.turn;
+  inside = b.inside;
+  begun = b.begun;
+}
+
+-- what an event may choose on a board that has served
+abbrev pub chances_on : Order → Object → Board → Chances
+chances_on o object b = record {
+  no_waiter = is_empty (services b.items);
+  waiter = λ j. may_resume o j b.items;
+  no_signaller = is_empty b.signallers;
+  signaller = λ j. may_go o j b.signallers;
+  no_ready = is_empty (ready_of object b.state b.untils);
+  ready = λ j. may_go o j (ready_of object b.state b.untils);
+}
+
+-- who joined the signallers, by whether the event must stay
+abbrev pub joined_by : Bool → Event → List ℕ
+joined_by stays e = if is_some (steps_back e) && not stays then seat_of e ∷ [] else []
+
+-- without whom the event chose, and with the rest of what it does but to the object
+abbrev pub board_moved : Bool → Board → Event → Board
+board_moved stays b e = record {
+  items = chosen_out (next_of e) b.items ++ waiting_item e;
+  signallers = apart (taken_signaller (next_of e) (joined_by stays e)) b.signallers;
+  untils = (passed_on (sight b) e).untils;
+  state = b.state;
+  turn = (passed_on (sight b) e).turn;
+  inside = (passed_on (sight b) e).inside;
+  begun = true;
+}
+
+-- the first test that an event fails on a board that has served, but for the reply of an act
+abbrev pub served_reason : Order → Monitor → Bool → Board → Event → ℕ
+served_reason o m stays b e = reason_before (if permits_by m.kind stays (chances_on o m.object b) e then 0 else 6) m (sight b) e
+
+-- what is found of a line that tells an event, by the first test that the event fails
+abbrev pub verdict_by : ℕ → LineVerdict
+verdict_by reason = if reason == 0 then verdict.Fits Settled else verdict.Misfits (blame_of reason)

@@ -1,0 +1,150 @@
+-- The same judging over a board, with what is to blame where a line can't be of the monitor
+use Rattle.std.specs.Prelude.{◌≡◌, ℕ, ◌+◌, ◌==◌, nat_lt, Bool, ◌&&◌, ◌||◌, not, List, [], ◌∷◌, ◌++◌, Some, Result, Ok, Err, if◌then◌else◌}
+use Rattle.monk_object.specs.Object.{Object}
+use Rattle.monk_history.specs.declared.event.Event.{Event}
+use Rattle.monk_history.specs.declared.event.Event.TheVariants as event
+use Rattle.monk_history.specs.declared.event.Next.TheVariants as next
+use Rattle.monk_history.specs.Meaning.Choice.{must_stay}
+use Rattle.monk_history.specs.Meaning.Events.{next_of, returns_at_once}
+use Rattle.monk_history.specs.Meaning.Monitor.{Monitor}
+use Rattle.monk_history.specs.Meaning.Reasons.{is_open, is_right_reply, reason_before}
+use Rattle.monk_history.specs.Meaning.Release.{MayCallIn}
+use Rattle.monk_history.specs.Meaning.Untils.{ready_of}
+use Rattle.monk_audit.specs.Replay.{has}
+use Rattle.monk_logs.specs.Blame.{blame_of, early_blame, first_blame, half_blame, is_line_in_place, line_event, may_be_its_turn}
+use Rattle.monk_logs.specs.Board.{Board, board_after, board_lapse, board_reason, items_with, opening_board, sight, signallers_with, waiting_item}
+use Rattle.monk_logs.specs.BoardCourse.{BoardCourse, board_course, board_settled, board_told, board_via}
+use Rattle.monk_logs.specs.Course.{due_from}
+use Rattle.monk_logs.specs.Items.{may_lapse, may_resume}
+use Rattle.monk_logs.specs.Order.{is_among}
+use Rattle.monk_logs.specs.declared.blame.Blame.{Blame}
+use Rattle.monk_logs.specs.declared.blame.Blame.TheVariants as blame
+use Rattle.monk_logs.specs.declared.line.LogLine.{LogLine}
+use Rattle.monk_logs.specs.declared.line.LogLine.TheVariants.{Enter, Resume, Lapse, Leave, Wait, Signal, Broadcast, Until, Act}
+use Rattle.monk_logs.specs.declared.order.Order.{Order}
+use Rattle.monk_logs.specs.declared.pending.Pending.{Pending}
+use Rattle.monk_logs.specs.declared.pending.Pending.TheVariants.{Settled, Half, Release}
+use Rattle.monk_logs.specs.declared.verdict.LogVerdict.{LogVerdict}
+use Rattle.monk_logs.specs.declared.verdict.LogVerdict.TheVariants.{Fits, Misfit}
+
+-- ---- what is added
+
+-- the board behind an event, or the first test that it fails
+abbrev pub board_add : Order → Monitor → Board → Event → Result Board ℕ
+board_add o m b e = if board_reason o m b e == 0 then Ok (board_after m.object b e) else Err (board_reason o m b e)
+
+abbrev pub course_by : Result Board ℕ → Result BoardCourse Blame
+course_by (Ok b) = Ok (board_settled b)
+course_by (Err reason) = Err (blame_of reason)
+
+abbrev pub board_settle : Order → Monitor → Board → Event → Result BoardCourse Blame
+board_settle o m b e = course_by (board_add o m b e)
+
+abbrev pub board_hold_over : Monitor → Board → Event → Pending → Result BoardCourse Blame
+board_hold_over m b e p =
+    if reason_before 0 m (sight b) e == 0 then Ok (board_course b p) else Err (blame_of (reason_before 0 m (sight b) e))
+
+abbrev pub board_release_over : Monitor → Board → Event → Result BoardCourse Blame
+board_release_over m b e = board_hold_over m b e (Release e)
+
+-- ---- where a wait runs out
+
+-- a seat that is out of range, one that is outside or a turn that isn't open, and one that a signal must have served
+abbrev pub board_lapse_blame : Monitor → Board → ℕ → Blame
+board_lapse_blame m b s =
+    if not (nat_lt s m.seats) then blame.Range
+    else if not (is_open b.turn && b.inside s) then blame.Turn
+    else blame.Served
+
+abbrev pub board_lapse_over : Order → Monitor → Board → ℕ → Result BoardCourse Blame
+board_lapse_over o m b s =
+    if is_open b.turn && may_lapse o s b.items then Ok (board_settled (board_lapse b s)) else Err (board_lapse_blame m b s)
+
+-- ---- where each event before the line is known
+
+abbrev pub board_signal_over : Monitor → Board → ℕ → ℕ → Result BoardCourse Blame
+board_signal_over m b s c =
+    if returns_at_once m.kind.mode then board_hold_over m b (event.SignalLeave s c next.Stay) (Half s c)
+    else board_release_over m b (event.Signal s c next.Stay)
+
+abbrev pub board_line_over : Order → Monitor → Board → LogLine → Result BoardCourse Blame
+board_line_over o m b (Enter s) = board_settle o m b (event.Enter s (board_via b))
+board_line_over o m b (Resume s) = board_settle o m b (event.Resume s (due_from b.turn))
+board_line_over o m b (Lapse s) = board_lapse_over o m b s
+board_line_over o m b (Leave s) = board_release_over m b (event.Leave s next.Stay)
+board_line_over o m b (Wait s c) = board_release_over m b (event.Wait s c next.Stay)
+board_line_over o m b (Signal s c) = board_signal_over m b s c
+board_line_over o m b (Broadcast s c) = board_settle o m b (event.SignalAll s c)
+board_line_over o m b (Until s p) = board_release_over m b (event.Until s p next.Stay)
+board_line_over o m b (Act s op r) = board_settle o m b (event.Act s op r)
+
+-- ---- behind a signal that is half told
+
+abbrev pub board_half_over : Monitor → Board → ℕ → ℕ → LogLine → Result BoardCourse Blame
+board_half_over m b s c (Enter j) = Err (half_blame m (Enter j))
+board_half_over m b s c (Resume j) = Err (half_blame m (Resume j))
+board_half_over m b s c (Lapse j) = Err (half_blame m (Lapse j))
+board_half_over m b s c (Leave j) =
+    if j == s then board_release_over m b (event.SignalLeave s c next.Stay) else Err (half_blame m (Leave j))
+board_half_over m b s c (Wait j d) =
+    if j == s then board_release_over m b (event.SignalWait s c d next.Stay) else Err (half_blame m (Wait j d))
+board_half_over m b s c (Signal j d) = Err (half_blame m (Signal j d))
+board_half_over m b s c (Broadcast j d) = Err (half_blame m (Broadcast j d))
+board_half_over m b s c (Until j p) = Err (half_blame m (Until j p))
+board_half_over m b s c (Act j op r) = Err (half_blame m (Act j op r))
+
+-- ---- behind a release
+
+-- whether the seat stands where a release may choose it from, whatever the priorities
+abbrev pub can_come_back : Order → Object → Board → Event → ℕ → Bool
+can_come_back o object b e s =
+    may_resume o s (items_with b e) || is_among s (signallers_with b e) || has s (ready_of object b.state b.untils)
+
+-- of a lapse the seat must have been served, of a resume it can't have been; else the priorities forbid the choice
+abbrev pub board_choice_blame : Order → Object → Board → Event → LogLine → Blame
+board_choice_blame o object b e (Enter s) = blame.Choice
+board_choice_blame o object b e (Resume s) = if can_come_back o object b e s then blame.Choice else blame.Unserved
+board_choice_blame o object b e (Lapse s) = if may_lapse o s (items_with b e ++ waiting_item e) then blame.Choice else blame.Served
+board_choice_blame o object b e (Leave s) = blame.Choice
+board_choice_blame o object b e (Wait s c) = blame.Choice
+board_choice_blame o object b e (Signal s c) = blame.Choice
+board_choice_blame o object b e (Broadcast s c) = blame.Choice
+board_choice_blame o object b e (Until s p) = blame.Choice
+board_choice_blame o object b e (Act s op r) = blame.Choice
+
+abbrev pub board_late_blame : Order → Monitor → Board → Event → LogLine → Blame
+board_late_blame o m b e l =
+    if not (may_be_its_turn (must_stay m.object (sight b) e) b.inside e l) then blame.Turn
+    else if not (is_line_in_place b.inside e l) then blame.Place
+    else if not (is_right_reply m.object b.state (line_event m.kind.mode l)) then blame.Reply
+    else board_choice_blame o m.object b e l
+
+abbrev pub board_release_blame : Order → Monitor → Board → Event → LogLine → Blame
+board_release_blame o m b e l = first_blame (early_blame m (line_event m.kind.mode l)) (board_late_blame o m b e l)
+
+abbrev pub board_told_over : Order → Monitor → Board → Event → LogLine → Result BoardCourse Blame
+board_told_over o m b e l =
+    if board_reason o m b (board_told b e l) == 0 then board_line_over o m (board_after m.object b (board_told b e l)) l
+    else Err (board_release_blame o m b e l)
+
+abbrev pub board_behind_over : Order → Monitor → Board → Pending → LogLine → Result BoardCourse Blame
+board_behind_over o m b Settled l = board_line_over o m b l
+board_behind_over o m b (Half s c) l = board_half_over m b s c l
+board_behind_over o m b (Release e) l = board_told_over o m b e l
+
+-- what is still to be known is of a release that may be called, and that is written with `stay`
+abbrev pub IsHeldOver : Monitor → Board → Pending → Type 0
+IsHeldOver m b Settled = Unit {0}
+IsHeldOver m b (Half s c) = Unit {0}
+IsHeldOver m b (Release e) = MayCallIn m (sight b) e × (next_of e ≡ Some next.Stay)
+
+-- ---- a log
+
+-- the verdict on the lines to come, behind so many that fit and led there
+unfoldable pub board_verdict_from : Order → Monitor → ℕ → Result BoardCourse Blame → List LogLine → LogVerdict
+board_verdict_from o m n (Err why) log = Misfit n why
+board_verdict_from o m n (Ok x) [] = Fits
+board_verdict_from o m n (Ok x) (l ∷ log) = board_verdict_from o m (n + 1) (board_behind_over o m x.board x.pending l) log
+
+abbrev pub board_verdict : Order → Monitor → List LogLine → LogVerdict
+board_verdict o m log = board_verdict_from o m 0 (Ok (board_settled (opening_board m))) log
