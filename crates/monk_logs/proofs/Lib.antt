@@ -6,3 +6,4 @@ mod CompletionLaws
 mod StepLaws
 mod OrderLaws
 mod BoardLaws
+mod ItemLaws

@@ -1,22 +1,19 @@
 -- The same judging over a board, with what is to blame where a line can't be of the monitor
-use Rattle.std.specs.Prelude.{◌≡◌, ℕ, ◌+◌, ◌==◌, nat_lt, Bool, ◌&&◌, ◌||◌, not, List, [], ◌∷◌, ◌++◌, Some, Result, Ok, Err, if◌then◌else◌}
-use Rattle.monk_object.specs.Object.{Object}
+use Rattle.std.specs.Prelude.{◌≡◌, ℕ, ◌+◌, ◌==◌, nat_lt, ◌&&◌, not, List, [], ◌∷◌, Unit, Some, Result, Ok, Err, if◌then◌else◌}
 use Rattle.monk_history.specs.declared.event.Event.{Event}
 use Rattle.monk_history.specs.declared.event.Event.TheVariants as event
 use Rattle.monk_history.specs.declared.event.Next.TheVariants as next
 use Rattle.monk_history.specs.Meaning.Choice.{must_stay}
 use Rattle.monk_history.specs.Meaning.Events.{next_of, returns_at_once}
 use Rattle.monk_history.specs.Meaning.Monitor.{Monitor}
-use Rattle.monk_history.specs.Meaning.Reasons.{is_open, is_right_reply, reason_before}
+use Rattle.monk_history.specs.Meaning.Reasons.{is_open, reason_before}
 use Rattle.monk_history.specs.Meaning.Release.{MayCallIn}
-use Rattle.monk_history.specs.Meaning.Untils.{ready_of}
-use Rattle.monk_audit.specs.Replay.{has}
-use Rattle.monk_logs.specs.Blame.{blame_of, early_blame, first_blame, half_blame, is_line_in_place, line_event, may_be_its_turn}
-use Rattle.monk_logs.specs.Board.{Board, board_after, board_lapse, board_reason, items_with, opening_board, sight, signallers_with, waiting_item}
+use Rattle.monk_logs.specs.Blame.{blame_of, half_blame}
+use Rattle.monk_logs.specs.Board.{Board, board_after, board_lapse, board_reason, opening_board, sight}
 use Rattle.monk_logs.specs.BoardCourse.{BoardCourse, board_course, board_settled, board_told, board_via}
+use Rattle.monk_logs.specs.BoardMoves.{blame_on, board_served}
 use Rattle.monk_logs.specs.Course.{due_from}
-use Rattle.monk_logs.specs.Items.{may_lapse, may_resume}
-use Rattle.monk_logs.specs.Order.{is_among}
+use Rattle.monk_logs.specs.Items.{may_lapse}
 use Rattle.monk_logs.specs.declared.blame.Blame.{Blame}
 use Rattle.monk_logs.specs.declared.blame.Blame.TheVariants as blame
 use Rattle.monk_logs.specs.declared.line.LogLine.{LogLine}
@@ -95,32 +92,9 @@ board_half_over m b s c (Act j op r) = Err (half_blame m (Act j op r))
 
 -- ---- behind a release
 
--- whether the seat stands where a release may choose it from, whatever the priorities
-abbrev pub can_come_back : Order → Object → Board → Event → ℕ → Bool
-can_come_back o object b e s =
-    may_resume o s (items_with b e) || is_among s (signallers_with b e) || has s (ready_of object b.state b.untils)
-
--- of a lapse the seat must have been served, of a resume it can't have been; else the priorities forbid the choice
-abbrev pub board_choice_blame : Order → Object → Board → Event → LogLine → Blame
-board_choice_blame o object b e (Enter s) = blame.Choice
-board_choice_blame o object b e (Resume s) = if can_come_back o object b e s then blame.Choice else blame.Unserved
-board_choice_blame o object b e (Lapse s) = if may_lapse o s (items_with b e ++ waiting_item e) then blame.Choice else blame.Served
-board_choice_blame o object b e (Leave s) = blame.Choice
-board_choice_blame o object b e (Wait s c) = blame.Choice
-board_choice_blame o object b e (Signal s c) = blame.Choice
-board_choice_blame o object b e (Broadcast s c) = blame.Choice
-board_choice_blame o object b e (Until s p) = blame.Choice
-board_choice_blame o object b e (Act s op r) = blame.Choice
-
-abbrev pub board_late_blame : Order → Monitor → Board → Event → LogLine → Blame
-board_late_blame o m b e l =
-    if not (may_be_its_turn (must_stay m.object (sight b) e) b.inside e l) then blame.Turn
-    else if not (is_line_in_place b.inside e l) then blame.Place
-    else if not (is_right_reply m.object b.state (line_event m.kind.mode l)) then blame.Reply
-    else board_choice_blame o m.object b e l
-
+-- what is to blame where the release can't have chosen what the line tells
 abbrev pub board_release_blame : Order → Monitor → Board → Event → LogLine → Blame
-board_release_blame o m b e l = first_blame (early_blame m (line_event m.kind.mode l)) (board_late_blame o m b e l)
+board_release_blame o m b e l = blame_on o m (must_stay m.object (sight b) e) (board_served b e) e l
 
 abbrev pub board_told_over : Order → Monitor → Board → Event → LogLine → Result BoardCourse Blame
 board_told_over o m b e l =

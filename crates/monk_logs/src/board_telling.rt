@@ -16,14 +16,14 @@ ghost use Rattle.monk_logs.specs.Stand.{monitor_in};
 use crate::blame::{Blame, LineVerdict};
 use crate::blaming::{early_blame, is_in_place, line_event, may_be_its_turn};
 use crate::board::Board;
-use crate::board_choices::may_come_ready;
 use crate::board_lines::line_settled;
-use crate::board_steps::{ALLOWED, served_reason};
+use crate::board_steps::served_reason;
 use crate::items::{may_lapse, may_resume, waits};
 use crate::items_moves::join;
 use crate::line::LogLine;
 use crate::order::Order;
 use crate::setting::Setting;
+use crate::steps::ALLOWED;
 use crate::telling::with_next;
 use monk_audit::replies;
 use monk_history::{Event, Next};
@@ -89,4 +89,85 @@ fn choice_blame<T: Guarded>(
         LogLine::Lapse(_) if !is_choice => Blame::Served,
         _ => Blame::Choice,
     })
+}
+
+/// The first of the tests of the turn and behind it that the line fails, behind a release that has served. The board and the
+/// object are of no further use.
+fn late_blame<T: Guarded>(
+    order: Order,
+    setting: Setting,
+    board: &mut Board,
+    object: &mut T,
+    event: Event,
+    stays: bool,
+    line: LogLine,
+) -> Result<Blame, AllocError>
+    requires sound { IsBoardOf setting.seats setting.conds T.PREDICATES board.old }
+    requires line { fits_object T.CODES T.PREDICATES (blames.line_event setting.rules.mode line) ≡ true }
+    ensures { IfOk result
+        (λ why. why ≡ moves.late_blame_on order (monitor_in setting T.meaning) stays
+        (board_shown board.old (T.state object.old)) event line) }
+{
+    let last = choice_blame(order, board, object, event, line)?;
+    if !may_be_its_turn(stays, &board.rest, event, line) {
+        Ok(Blame::Turn)
+    } else if !is_in_place(&board.rest, event, line) {
+        Ok(Blame::Place)
+    } else if !replies(object, line_event(setting.rules.mode, line)) {
+        Ok(Blame::Reply)
+    } else {
+        Ok(last)
+    }
+}
+
+/// What is to blame where the line can't stand behind the release, which has served. The board and the object are of no further
+/// use.
+fn release_blame<T: Guarded>(
+    order: Order,
+    setting: Setting,
+    board: &mut Board,
+    object: &mut T,
+    event: Event,
+    stays: bool,
+    line: LogLine,
+) -> Result<Blame, AllocError>
+    requires sound { IsBoardOf setting.seats setting.conds T.PREDICATES board.old }
+    ensures { IfOk result
+        (λ why. why ≡ moves.blame_on order (monitor_in setting T.meaning) stays
+        (board_shown board.old (T.state object.old)) event line) }
+{
+    let told = line_event(setting.rules.mode, line);
+    match early_blame(setting, &board.rest, object, told) {
+        Some(blame) => Ok(blame),
+        None => late_blame(order, setting, board, object, event, stays, line),
+    }
+}
+
+/// The line behind a release, whose choice it tells.
+pub(crate) fn line_told<T: Guarded>(
+    order: Order,
+    setting: Setting,
+    board: &mut Board,
+    object: &mut T,
+    event: Event,
+    line: LogLine,
+) -> Result<LineVerdict, AllocError>
+    requires sound { IsBoardOf setting.seats setting.conds T.PREDICATES board.old }
+    requires called { MayCallIn (monitor_in setting T.meaning) (sight (board_shown board.old (T.state object.old))) event }
+    requires release { next_of event ≡ Some Next.Stay }
+    ensures judged { IfOk result
+        (λ v. course_or (board_shown board.new (T.state object.new)) v
+        ≡ stands.board_told_over order (monitor_in setting T.meaning)
+        (board_shown board.old (T.state object.old)) event line) }
+    ensures sound { OnOk result (IsBoardOf setting.seats setting.conds T.PREDICATES board.new) }
+{
+    let stays = board.must_stay(object, event);
+    board.serve(event)?;
+    let told = with_next(event, told_next(board, line));
+    if served_reason(order, setting, board, object, told, stays) != ALLOWED {
+        let blame = release_blame(order, setting, board, object, event, stays, line)?;
+        return Ok(LineVerdict::Misfits(blame));
+    }
+    board.settle(told, stays)?;
+    line_settled(order, setting, board, object, line)
 }

@@ -1,6 +1,6 @@
 //! What the items of a board tell of a condition, and of a seat that waits there.
 
-ghost use Rattle.std.specs.Prelude.{◌≡◌, drop, length, take};
+ghost use Rattle.std.specs.Prelude.{◌≡◌, drop, is_some, length, take};
 ghost use Rattle.monk_logs.specs.Items as lines;
 ghost use Rattle.monk_logs.specs.Items.{has_service_behind, keeps_up, lapsed, line, seats_in, services, services_in, unserved_in};
 ghost use Rattle.monk_logs.specs.Order.{is_among};
@@ -77,6 +77,7 @@ pub(crate) fn unserved_at(items: &[Item], cond: u8) -> usize
 }
 
 /// Whether the seat is one of the first so many that wait on the condition.
+#[tactic(auto, using(crate::proofs::ItemLaws::taken_cons))]
 fn is_among_first(items: &[Item], cond: u8, seat: u8, many: usize) -> bool
     ensures { result ≡ is_among seat (take many (seats_in (line cond items.now))) }
 {
@@ -135,7 +136,7 @@ fn has_service_behind(items: &[Item], cond: u8, seat: u8) -> bool
 fn keeps_up_without(items: &[Item], cond: u8, seat: u8) -> bool
     ensures { result ≡ keeps_up 0 (line cond (lapsed seat items.now)) }
 {
-    let mut unserved = 0;
+    let mut unserved: usize = 0;
     for item in items {
         match *item {
             Item::Waiting(other, at) if at == cond && other != seat => unserved += 1,

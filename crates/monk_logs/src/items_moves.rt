@@ -1,6 +1,6 @@
 //! What an event does to the items of a board.
 
-ghost use Rattle.std.specs.Prelude.{◌≡◌, ◌++◌, OnOk, map};
+ghost use Rattle.std.specs.Prelude.{◌≡◌, ◌++◌, OnOk, map, take};
 ghost use Rattle.monk_logs.specs.Board.{chosen_out, given_by, waiting_item};
 ghost use Rattle.monk_logs.specs.Items as lines;
 ghost use Rattle.monk_logs.specs.Items.{line, taken_out, unserved_in};
@@ -13,6 +13,7 @@ use monk_history::{Event, Next};
 use std::alloc::AllocError;
 
 /// Serves each seat that waits unserved on the condition.
+#[tactic(auto, using(crate::proofs::ItemLaws::one_more))]
 fn serve_all(items: &mut Vec<Item>, cond: u8) -> Result<(), AllocError>
     ensures { OnOk result (items.new.items
         ≡ items.old.items ++ map (λ s. Item.Service cond) (unserved_in (line cond items.old.items))) }

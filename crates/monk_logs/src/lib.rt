@@ -4,6 +4,9 @@
 mod blame;
 mod board;
 mod board_choices;
+mod board_lines;
+mod board_steps;
+mod board_telling;
 mod blaming;
 mod completing;
 mod completion;
