@@ -1,4 +1,9 @@
 -- Logs judged over boards, line by line
-pub mod Tests
 pub mod Lists
 pub mod Soundness
+pub mod Told
+pub mod Completeness
+pub mod Orderly
+pub mod Chooses
+pub mod Choice
+pub mod Exact

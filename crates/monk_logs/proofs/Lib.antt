@@ -7,3 +7,4 @@ mod StepLaws
 mod OrderLaws
 mod BoardLaws
 mod ItemLaws
+mod FifoLaws

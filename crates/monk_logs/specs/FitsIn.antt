@@ -1,11 +1,12 @@
--- Which logs could be of a monitor, by the order in which its queues are served
-use Rattle.std.specs.Prelude.{◌≡◌, List, [], ◌∷◌, ◌++◌}
-use Rattle.std.specs.List.{flat_map}
+-- Which logs could be of a monitor, by the order in which its queues are served. That those are the ones that are judged to their end
+-- over a board is the law `orders_are_exact`
+use Rattle.std.specs.Prelude.{◌≡◌, Bool, true, false, List, [], ◌∷◌, ◌++◌}
+use Rattle.std.specs.List.{flat_map, list_any}
 use Rattle.monk_history.specs.Meaning.Monitor.{Monitor}
 use Rattle.monk_logs.specs.Erasure.{erased}
 use Rattle.monk_logs.specs.Run.{IsRun}
 use Rattle.monk_logs.specs.declared.line.LogLine.{LogLine}
-use Rattle.monk_logs.specs.declared.line.LogLine.TheVariants.{Lapse}
+use Rattle.monk_logs.specs.declared.line.LogLine.TheVariants.{Enter, Resume, Lapse, Leave, Wait, Signal, Broadcast, Until, Act}
 use Rattle.monk_logs.specs.declared.order.Order.{Order}
 use Rattle.monk_logs.specs.declared.step.Step.{Step}
 use Rattle.monk_logs.specs.declared.step.Step.TheVariants.{Did, Lapsed}
@@ -24,3 +25,18 @@ pub record IsOpenIn (o : Order) (m : Monitor) (log : List LogLine) : Type 0 wher
   pub run : IsRun o m steps
   pub more : List LogLine
   pub tells : run_lines steps ≡ log ++ more
+
+-- whether a log tells of a wait that ran out
+abbrev pub is_lapse : LogLine → Bool
+is_lapse (Enter s) = false
+is_lapse (Resume s) = false
+is_lapse (Lapse s) = true
+is_lapse (Leave s) = false
+is_lapse (Wait s c) = false
+is_lapse (Signal s c) = false
+is_lapse (Broadcast s c) = false
+is_lapse (Until s p) = false
+is_lapse (Act s op r) = false
+
+abbrev pub has_lapse : List LogLine → Bool
+has_lapse log = list_any is_lapse log

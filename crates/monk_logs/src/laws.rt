@@ -1,17 +1,22 @@
 //! What holds of every log.
 
-ghost use Rattle.std.specs.Prelude.{◌↔◌, IsTrue, List, is_some};
+ghost use Rattle.std.specs.Prelude.{◌≡◌, ◌↔◌, IsTrue, List, false, is_some, map};
 ghost use Rattle.monk_kinds.specs.Kind.{IsKind};
+ghost use Rattle.monk_history.specs.declared.event.Event.{Event};
+ghost use Rattle.monk_history.specs.Meaning.Legal.{IsLegal};
 ghost use Rattle.monk_history.specs.Meaning.Monitor.{Monitor};
 ghost use Rattle.monk_logs.specs.declared.line.LogLine.{LogLine};
 ghost use Rattle.monk_logs.specs.Course.{judge};
 ghost use Rattle.monk_logs.specs.Fits.{IsOpen};
 ghost use Rattle.monk_logs.specs.Board.{board_steps, opening_board};
+ghost use Rattle.monk_logs.specs.BoardCourse.{board_judge};
+ghost use Rattle.monk_logs.specs.FitsIn.{IsOpenIn, has_lapse};
 ghost use Rattle.monk_logs.specs.Order.{IsLoose};
 ghost use Rattle.monk_logs.specs.Run.{IsRun};
 ghost use Rattle.monk_logs.specs.declared.order.Order.{Order};
 ghost use Rattle.monk_logs.specs.declared.order.Order.TheVariants.{Fifo, Wake, Any};
 ghost use Rattle.monk_logs.specs.declared.step.Step.{Step};
+ghost use Rattle.monk_logs.specs.declared.step.Step.TheVariants.{Did};
 
 /// No search is needed to tell whether a log could be of a monitor of a kind, in the order of its queues: judged line by line,
 /// it comes to its end exactly where some legal history begins with what the log tells. So the first line with which it
@@ -29,8 +34,26 @@ pub fn boards_are_exact()
 {}
 
 /// What a monitor may do in order of arrival it may do where any seat of a queue may be chosen, and what it may do then also where
-/// a signal may serve any seat of its condition.
+/// a signal may serve any seat of its condition. So a log that fits one of these orders fits those behind it.
 pub fn orders_widen()
     ensures wake { (m : Monitor) → (steps : List Step) → IsRun Fifo m steps → IsRun Wake m steps }
     ensures any { (m : Monitor) → (steps : List Step) → IsRun Wake m steps → IsRun Any m steps }
+    ensures wake_logs { (m : Monitor) → (log : List LogLine) → IsOpenIn Fifo m log → IsOpenIn Wake m log }
+    ensures any_logs { (m : Monitor) → (log : List LogLine) → IsOpenIn Wake m log → IsOpenIn Any m log }
+{}
+
+/// Whether a log could be of a monitor where any seat of a queue may be chosen, and where a signal may serve any seat as well, one
+/// pass over its lines tells: over a board it is judged to its end exactly where some run begins with what it tells. So the first
+/// line at which that ends is the first with which no run begins. That holds for the orders `Wake` and `Any`.
+pub fn orders_are_exact()
+    ensures { (o : Order) → IsLoose o → (m : Monitor) → (log : List LogLine)
+        → IsTrue (is_some (board_judge o m log)) ↔ IsOpenIn o m log }
+{}
+
+/// In order of arrival, and where no wait runs out, a monitor may do what its rules allow, and no more: the runs of events are the
+/// legal histories. So a log that tells of no wait that ran out is open in order of arrival exactly where some legal history begins
+/// with what it tells.
+pub fn fifo_is_legal()
+    ensures runs { (m : Monitor) → (h : List Event) → IsRun Fifo m (map Did h) ↔ IsLegal m h }
+    ensures logs { (m : Monitor) → (log : List LogLine) → has_lapse log ≡ false → IsOpenIn Fifo m log ↔ IsOpen m log }
 {}

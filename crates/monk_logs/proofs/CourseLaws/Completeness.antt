@@ -22,7 +22,7 @@ use Rattle.monk_history.specs.Meaning.Events.{next_of, seat_of, has_signaller_qu
 use Rattle.monk_history.specs.Meaning.Legal.{IsLegal}
 use Rattle.monk_history.specs.Meaning.Monitor.{Monitor}
 use Rattle.monk_history.specs.Meaning.Reasons.{IsAllowed, IsAllowedIn, fits_turn, is_due, is_queue, may_enter}
-use Rattle.monk_history.specs.Meaning.Release.{MayCall, as_called, with_next}
+use Rattle.monk_history.specs.Meaning.Release.{MayCall, MayCallIn, as_called, with_next}
 use Rattle.monk_history.specs.Meaning.Signallers.{is_empty}
 use Rattle.monk_history.specs.Meaning.Situation.{Situation, situation}
 use Rattle.monk_history.specs.Meaning.Step.{after}
@@ -173,7 +173,7 @@ same_queue from.Until from.Waiter h = absurd cc
 same_queue from.Until from.Signaller h = absurd cc
 same_queue from.Until from.Until h = refl
 
-due_queue : (t : Turn) (s : ℕ) (q : From3) → is_due s q t ≡ true → due_from t ≡ q
+pub due_queue : (t : Turn) (s : ℕ) (q : From3) → is_due s q t ≡ true → due_from t ≡ q
 due_queue Open s q h = absurd cc
 due_queue (Due j r) s q h = same_queue r q (and_right (j == s) (is_queue r q) h)
 due_queue (Owned j) s q h = absurd cc
@@ -183,7 +183,7 @@ resume_line : (m : Monitor) (past : List Event) (s : ℕ) (q : From3) → IsAllo
 resume_line m past s q a =
     ap (λ (r : From3). option_map settled (add m past (event.Resume s r))) (due_queue (turn past) s q a.in_turn)
 
-not_at_once : (k : Mode) → has_signaller_queue k ≡ true → returns_at_once k ≡ false
+pub not_at_once : (k : Mode) → has_signaller_queue k ≡ true → returns_at_once k ≡ false
 not_at_once mode.Blocking h = refl
 not_at_once mode.NonBlocking h = refl
 not_at_once mode.QuasiBlocking h = refl
@@ -206,9 +206,9 @@ first_half true true c h = h
 first_half true false c h = absurd cc
 first_half false w c h = absurd cc
 
-half_called : (m : Monitor) (past : List Event) (s c d : ℕ) → MayCall m past (event.SignalWait s c d Stay)
-    → MayCall m past (event.SignalLeave s c Stay)
-half_called m past s c d may = record {
+pub half_called : (m : Monitor) (t : Situation) (s c d : ℕ) → MayCallIn m t (event.SignalWait s c d Stay)
+    → MayCallIn m t (event.SignalLeave s c Stay)
+half_called m t s c d may = record {
   in_range = first_half (nat_lt s m.seats) (nat_lt d m.conds) (nat_lt c m.conds) may.in_range;
   offered = may.offered;
   in_turn = may.in_turn;
@@ -239,7 +239,7 @@ events_lead m h past (event.SignalLeave s c x) legal l same a =
     (same_seat m past s (event.SignalLeave s c Stay))
 events_lead m h past (event.SignalWait s c d x) legal l same a =
     half_leads m h past s c (event.SignalWait s c d x) x (Wait s d) l same a.offered
-    (half_called m past s c d (allowed_called m (situation m past) (event.SignalWait s c d x) a)) a refl
+    (half_called m (situation m past) s c d (allowed_called m (situation m past) (event.SignalWait s c d x) a)) a refl
     (same_seat m past s (event.SignalWait s c d Stay))
 
 -- ---- an event behind a release
@@ -256,7 +256,7 @@ called_queues o t (event.Resume s q) = refl
 called_queues o t (event.SignalAll s c) = refl
 called_queues o t (event.SignalWait s c d x) = refl
 
-named_again : (e : Event) (x : Next) → next_of e ≡ Some x → with_next x (as_called e) ≡ e
+pub named_again : (e : Event) (x : Next) → next_of e ≡ Some x → with_next x (as_called e) ≡ e
 named_again (event.Enter s via) x h = refl
 named_again (event.Act s op r) x h = absurd cc
 named_again (event.Leave s y) x h = cc

@@ -1,9 +1,10 @@
 -- The tests of an event, read from the reason and back; and which tests a call has passed
 use Rattle.std.proofs.Common.{◌≡◌, ℕ, Bool, true, false, cond, not, ◌&&◌, Some, None, refl, arith}
-use Rattle.std.proofs.lemmas.Bool.{eqb-true}
+use Rattle.std.proofs.lemmas.Bool.{eqb-true, false≢true}
 use Rattle.std.specs.Prelude.{◌==◌, nat_lt}
 use Rattle.std.specs.List.{list_all}
 use Rattle.monk_history.specs.declared.event.Next.{Next}
+use Rattle.monk_history.specs.declared.event.Next.TheVariants.{Stay}
 use Rattle.monk_history.specs.Meaning.Events.{named_seat}
 use Rattle.monk_history.specs.declared.event.Event.{Event}
 use Rattle.monk_history.specs.declared.event.Event.TheVariants.{Enter, Act, Leave, Wait, Signal, SignalLeave, Until, Resume}
@@ -12,7 +13,7 @@ use Rattle.monk_history.specs.Meaning.Monitor.{Monitor}
 use Rattle.monk_history.specs.Meaning.Reasons.{IsAllowedIn, reason_before, reason_in, is_in_range, is_offered, is_in_turn, is_in_place}
 use Rattle.monk_history.specs.Meaning.Reasons.{is_right_reply}
 use Rattle.monk_history.specs.Meaning.Choice.{is_permitted}
-use Rattle.monk_history.specs.Meaning.Release.{MayCallIn, as_called}
+use Rattle.monk_history.specs.Meaning.Release.{MayCallIn, as_called, with_next}
 use Rattle.monk_history.specs.Meaning.Situation.{Situation}
 
 -- ---- what was added where a test passed
@@ -67,45 +68,73 @@ reason_from_allowed m t e a =
     (is_in_turn t e) (is_in_place m.object t e) (is_right_reply m.object t.state e)
     (is_permitted m.kind m.object t e) a.in_range a.offered a.in_turn a.in_place a.right_reply a.permitted
 
--- ---- an event that is allowed may be called
+-- ---- what may be called or is allowed may be called with another choice
 
-without : (a b c d e : Bool) → ((((a && b) && c) && d) && e) ≡ true → ((((a && true) && c) && d) && e) ≡ true
-without true true c d e h = h
-without true false c d e h = absurd cc
-without false b c d e h = h
+abbrev pub names_seats : Monitor → Next → Bool
+names_seats m x = list_all (λ j. nat_lt j m.seats) (named_seat (Some x))
 
--- in range without the seat that it names
-unnamed : (m : Monitor) (s : ℕ) (x : Next) (waits signals object : Bool)
-    → ((((nat_lt s m.seats && list_all (λ j. nat_lt j m.seats) (named_seat (Some x))) && waits) && signals) && object) ≡ true
-    → ((((nat_lt s m.seats && true) && waits) && signals) && object) ≡ true
-unnamed m s x waits signals object h =
-    without (nat_lt s m.seats) (list_all (λ j. nat_lt j m.seats) (named_seat (Some x))) waits signals object h
+-- in range with y as with x
+renamed : (a x y b c d : Bool) → ((((a && x) && b) && c) && d) ≡ true → y ≡ true → ((((a && y) && b) && c) && d) ≡ true
+renamed true true y b c d h k = rw k h
+renamed true false y b c d h k = absurd (false≢true h)
+renamed false x y b c d h k = h
 
-pub allowed_called : (m : Monitor) (t : Situation) (e : Event) → IsAllowedIn m t e → MayCallIn m t (as_called e)
-allowed_called m t (Enter s via) a = record { in_range = a.in_range; offered = a.offered; in_turn = a.in_turn; in_place = a.in_place }
-allowed_called m t (Act s op r) a = record { in_range = a.in_range; offered = a.offered; in_turn = a.in_turn; in_place = a.in_place }
-allowed_called m t (Resume s q) a = record { in_range = a.in_range; offered = a.offered; in_turn = a.in_turn; in_place = a.in_place }
-allowed_called m t (SignalAll s c) a =
-    record { in_range = a.in_range; offered = a.offered; in_turn = a.in_turn; in_place = a.in_place }
-allowed_called m t (Leave s x) a =
-    record { in_range = unnamed m s x true true true a.in_range; offered = a.offered; in_turn = a.in_turn; in_place = refl }
-allowed_called m t (Wait s c x) a =
-    record { in_range = unnamed m s x (nat_lt c m.conds) true true a.in_range; offered = a.offered; in_turn = a.in_turn; in_place = refl }
-allowed_called m t (Signal s c x) a =
-    record { in_range = unnamed m s x true (nat_lt c m.conds) true a.in_range; offered = a.offered; in_turn = a.in_turn; in_place = refl }
-allowed_called m t (SignalLeave s c x) a =
-    record { in_range = unnamed m s x true (nat_lt c m.conds) true a.in_range; offered = a.offered; in_turn = a.in_turn; in_place = refl }
-allowed_called m t (Until s p x) a =
-    record {
-      in_range = unnamed m s x true true (nat_lt p m.object.predicates) a.in_range;
-      offered = a.offered;
-      in_turn = a.in_turn;
-      in_place = refl;
-    }
-allowed_called m t (SignalWait s c d x) a =
-    record {
-      in_range = unnamed m s x (nat_lt d m.conds) (nat_lt c m.conds) true a.in_range;
-      offered = a.offered;
-      in_turn = a.in_turn;
-      in_place = refl;
-    }
+module _ (m : Monitor) (t : Situation) where
+  in_range_with : (s : ℕ) (y x : Next) (waits signals object : Bool)
+      → ((((nat_lt s m.seats && names_seats m y) && waits) && signals) && object) ≡ true → names_seats m x ≡ true
+      → ((((nat_lt s m.seats && names_seats m x) && waits) && signals) && object) ≡ true
+  in_range_with s y x waits signals object h k = renamed (nat_lt s m.seats) (names_seats m y) (names_seats m x) waits signals object h k
+
+  pub called_with : (e : Event) (x : Next) → MayCallIn m t e → names_seats m x ≡ true → MayCallIn m t (with_next x e)
+  called_with (Enter s via) x a k = a
+  called_with (Act s op r) x a k = a
+  called_with (Resume s q) x a k = a
+  called_with (SignalAll s c) x a k = a
+  called_with (Leave s y) x a k =
+      record { in_range = in_range_with s y x true true true a.in_range k; offered = a.offered; in_turn = a.in_turn; in_place = refl }
+  called_with (Wait s c y) x a k = record {
+    in_range = in_range_with s y x (nat_lt c m.conds) true true a.in_range k;
+    offered = a.offered;
+    in_turn = a.in_turn;
+    in_place = refl;
+  }
+  called_with (Signal s c y) x a k = record {
+    in_range = in_range_with s y x true (nat_lt c m.conds) true a.in_range k;
+    offered = a.offered;
+    in_turn = a.in_turn;
+    in_place = refl;
+  }
+  called_with (SignalLeave s c y) x a k = record {
+    in_range = in_range_with s y x true (nat_lt c m.conds) true a.in_range k;
+    offered = a.offered;
+    in_turn = a.in_turn;
+    in_place = refl;
+  }
+  called_with (Until s p y) x a k = record {
+    in_range = in_range_with s y x true true (nat_lt p m.object.predicates) a.in_range k;
+    offered = a.offered;
+    in_turn = a.in_turn;
+    in_place = refl;
+  }
+  called_with (SignalWait s c d y) x a k = record {
+    in_range = in_range_with s y x (nat_lt d m.conds) (nat_lt c m.conds) true a.in_range k;
+    offered = a.offered;
+    in_turn = a.in_turn;
+    in_place = refl;
+  }
+
+  -- as a caller knows it
+  pub called_again : (e : Event) → MayCallIn m t e → MayCallIn m t (as_called e)
+  called_again (Enter s via) a = a
+  called_again (Act s op r) a = record { in_range = a.in_range; offered = a.offered; in_turn = a.in_turn; in_place = a.in_place }
+  called_again (Resume s q) a = a
+  called_again (SignalAll s c) a = a
+  called_again (Leave s y) a = called_with (Leave s y) Stay a refl
+  called_again (Wait s c y) a = called_with (Wait s c y) Stay a refl
+  called_again (Signal s c y) a = called_with (Signal s c y) Stay a refl
+  called_again (SignalLeave s c y) a = called_with (SignalLeave s c y) Stay a refl
+  called_again (Until s p y) a = called_with (Until s p y) Stay a refl
+  called_again (SignalWait s c d y) a = called_with (SignalWait s c d y) Stay a refl
+
+  pub allowed_called : (e : Event) → IsAllowedIn m t e → MayCallIn m t (as_called e)
+  allowed_called e a = called_again e (record { in_range = a.in_range; offered = a.offered; in_turn = a.in_turn; in_place = a.in_place })

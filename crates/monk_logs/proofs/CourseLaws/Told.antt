@@ -69,14 +69,14 @@ erased_lines (event.SignalWait s c d x) = refl
 
 -- ---- what the turn says of the choice
 
-entry_is : (s : ℕ) (x : Next) → is_open (turn_by s (Some x)) ≡ true → next.Entry ≡ x
+pub entry_is : (s : ℕ) (x : Next) → is_open (turn_by s (Some x)) ≡ true → next.Entry ≡ x
 entry_is s next.Stay h = absurd cc
 entry_is s next.Entry h = refl
 entry_is s (next.Waiter j) h = absurd cc
 entry_is s (next.Signaller j) h = absurd cc
 entry_is s (next.Until j) h = absurd cc
 
-stay_is : (s r : ℕ) (x : Next) → is_owned_by r (turn_by s (Some x)) ≡ true → next.Stay ≡ x
+pub stay_is : (s r : ℕ) (x : Next) → is_owned_by r (turn_by s (Some x)) ≡ true → next.Stay ≡ x
 stay_is s r next.Stay h = refl
 stay_is s r next.Entry h = absurd cc
 stay_is s r (next.Waiter j) h = absurd cc
@@ -91,7 +91,7 @@ IsChosen q (next.Waiter j) = chosen_from q j ≡ next.Waiter j
 IsChosen q (next.Signaller j) = chosen_from q j ≡ next.Signaller j
 IsChosen q (next.Until j) = chosen_from q j ≡ next.Until j
 
-due_seat : (j r : ℕ) (b : Bool) → ((j == r) && b) ≡ true → j ≡ r
+pub due_seat : (j r : ℕ) (b : Bool) → ((j == r) && b) ≡ true → j ≡ r
 due_seat j r b h = eqb-true j r (and_left (j == r) b h)
 
 due_is : (q : Queues) (s r : ℕ) (from : From3) (x : Next) → is_due r from (turn_by s (Some x)) ≡ true → IsChosen q x
@@ -119,7 +119,7 @@ line_tells q s x (event.SignalWait r c d y) h is = stay_is s r x h
 -- ---- who was chosen is the front of its queue, and of no other
 
 -- what is permitted, by what was chosen
-abbrev permits : Rules → Object → Situation → Event → Option Next → Bool
+abbrev pub permits : Rules → Object → Situation → Event → Option Next → Bool
 permits k o t e n =
     cond (must_stay o t e) (is_stay n)
     (option_map_or
@@ -131,12 +131,12 @@ both_ways true c d h = absurd cc
 both_ways false true d h = h
 both_ways false false d h = h
 
-waiter_front : (k : Rules) (o : Object) (t : Situation) (e : Event) (j : ℕ) → permits k o t e (Some (next.Waiter j)) ≡ true
+pub waiter_front : (k : Rules) (o : Object) (t : Situation) (e : Event) (j : ℕ) → permits k o t e (Some (next.Waiter j)) ≡ true
     → is_front j (queues_at o t e).waiters ≡ true
 waiter_front k o t e j h =
     and_left (is_front j (queues_at o t e).waiters) _ (both_ways (must_stay o t e) (is_some (steps_back e)) _ h)
 
-signaller_front : (k : Rules) (o : Object) (t : Situation) (e : Event) (j : ℕ)
+pub signaller_front : (k : Rules) (o : Object) (t : Situation) (e : Event) (j : ℕ)
     → permits k o t e (Some (next.Signaller j)) ≡ true → is_front j (queues_at o t e).signallers ≡ true
 signaller_front k o t e j h =
     and_left (is_front j (queues_at o t e).signallers) _

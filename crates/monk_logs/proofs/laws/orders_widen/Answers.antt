@@ -7,3 +7,11 @@ returns-clause-wake c = λ m steps r. fifo_is_wake m steps (opening_situation m)
 
 pub returns-clause-any : goal.returns-clause-any
 returns-clause-any c = λ m steps r. wake_is_any m steps (opening_situation m) r
+
+pub returns-clause-wake_logs : goal.returns-clause-wake_logs
+returns-clause-wake_logs c = λ m log x.
+    record { steps = x.steps; run = fifo_is_wake m x.steps (opening_situation m) x.run; more = x.more; tells = x.tells }
+
+pub returns-clause-any_logs : goal.returns-clause-any_logs
+returns-clause-any_logs c = λ m log x.
+    record { steps = x.steps; run = wake_is_any m x.steps (opening_situation m) x.run; more = x.more; tells = x.tells }

@@ -1,0 +1,6 @@
+-- Runs in order of arrival
+pub mod Fronts
+pub mod Tidy
+pub mod Moves
+pub mod Legal
+pub mod Opens

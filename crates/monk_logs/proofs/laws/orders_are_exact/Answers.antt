@@ -1,0 +1,5 @@
+use Rattle.monk_logs.proofs.BoardLaws.Exact.{judged_open, open_judged}
+use Rattle.monk_logs.proofs.laws.orders_are_exact.Goals as goal
+
+pub returns : goal.returns
+returns c = λ o loose m log. (judged_open o m log loose, open_judged o m log)
