@@ -47,8 +47,8 @@ impl Replay {
         ensures passed { OnOk result
             ((state : List ℕ) → replay_situation self.new state ≡ passed_on (replay_situation self.old state) event) }
         ensures sound { OnOk result
-            ((conds codes predicates : ℕ) → IsReplayOf (seats_in self.old) conds predicates self.old
-            → fits_object codes predicates event ≡ true → IsReplayOf (seats_in self.old) conds predicates self.new) }
+            ((seats conds codes predicates : ℕ) → IsReplayOf seats conds predicates self.old
+            → fits_object codes predicates event ≡ true → IsReplayOf seats conds predicates self.new) }
     {
         self.go_on(event)
     }
@@ -56,8 +56,8 @@ impl Replay {
     /// Makes it the turn of a seat that nobody has chosen.
     pub fn own(&mut self, seat: u8)
         ensures owned { (state : List ℕ) → replay_situation self.new state ≡ owned (replay_situation self.old state) seat }
-        ensures sound { (conds predicates : ℕ) → IsReplayOf (seats_in self.old) conds predicates self.old
-            → IsReplayOf (seats_in self.old) conds predicates self.new }
+        ensures sound { (seats conds predicates : ℕ) → IsReplayOf seats conds predicates self.old
+            → IsReplayOf seats conds predicates self.new }
     {
         self.turn = Turn::Owned(seat);
         self.begun = true;

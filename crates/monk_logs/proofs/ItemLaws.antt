@@ -1,22 +1,32 @@
 -- The items of a board, one by one
-use Rattle.std.proofs.Common.{◌≡◌, ◌<◌, ◌-◌, ◌+◌, ◌++◌, ◌∙◌, ℕ, zero, suc, List, [], ◌∷◌, refl, sym, ap, take, drop, length, arith}
-use Rattle.std.specs.Prelude.{map}
-use Rattle.std.proofs.lemmas.List.{append-assoc}
+use Rattle.std.proofs.Common.{◌≡◌, ◌<◌, ◌-◌, ◌+◌, ◌++◌, ◌∙◌, ℕ, zero, suc, false, List, [], ◌∷◌, refl, sym, ap, take, drop, length, arith}
+use Rattle.std.specs.Prelude.{◌==◌, ◌||◌, map}
+use Rattle.std.proofs.lemmas.Bool.{true≢false}
+use Rattle.std.proofs.lemmas.List.{append_assoc}
+use Rattle.monk_logs.specs.Order.{apart, is_among}
 use Rattle.monk_logs.specs.declared.item.Item.{Item}
 use Rattle.monk_logs.specs.declared.item.Item.TheVariants.{Service}
 
--- the first of the first so many
-pub taken_cons : (n x : ℕ) (xs : List ℕ) → 0 < n → take n (x ∷ xs) ≡ x ∷ take (n - 1) xs
-taken_cons zero x xs h = absurd (omega (arith, h))
-taken_cons (suc n) x xs h = let e : n ≡ suc n - 1 = omega arith in ap (λ (k : ℕ). x ∷ take k xs) e
+-- one of the first so many is the first, or one of those behind it
+pub among_more : (j n x : ℕ) (xs : List ℕ) → (n == 0) ≡ false
+    → (x == j) || is_among j (take (n - 1) xs) ≡ is_among j (take n (x ∷ xs))
+among_more j zero x xs h = absurd (true≢false h)
+among_more j (suc n) x xs h =
+    let e : suc n - 1 ≡ n = omega arith in ap (λ (k : ℕ). (x == j) || is_among j (take k xs)) e
 
 -- ---- as many services as seats
 
-pub a_service_more : (c i : ℕ) (xs : List ℕ) → i < length xs
+service_first : (c i : ℕ) (xs : List ℕ) → i < length xs
+    → drop i (map (λ s. Service c) xs) ≡ Service c ∷ drop (suc i) (map (λ s. Service c) xs)
+service_first c i [] h = absurd (omega (arith, h))
+service_first c zero (x ∷ xs) h = refl
+service_first c (suc i) (x ∷ xs) h = service_first c i xs (omega (arith, h))
+
+a_service_more : (c i : ℕ) (xs : List ℕ) → i < length xs
     → drop i (map (λ s. Service c) xs) ≡ Service c ∷ drop (i + 1) (map (λ s. Service c) xs)
-a_service_more c i [] h = absurd (omega (arith, h))
-a_service_more c zero (x ∷ xs) h = refl
-a_service_more c (suc i) (x ∷ xs) h = a_service_more c i xs (omega (arith, h))
+a_service_more c i xs h =
+    let e : suc i ≡ i + 1 = omega arith in
+    service_first c i xs h ∙ ap (λ (k : ℕ). Service c ∷ drop k (map (λ s. Service c) xs)) e
 
 -- one of them is put behind the items
 pub one_more : (c i : ℕ) (xs : List ℕ) (now later whole : List Item) → i < length xs
@@ -24,6 +34,12 @@ pub one_more : (c i : ℕ) (xs : List ℕ) (now later whole : List Item) → i <
     → later ++ drop (i + 1) (map (λ s. Service c) xs) ≡ whole
 one_more c i xs now later whole h inv pushed =
     ap (λ (l : List Item). l ++ drop (i + 1) (map (λ s. Service c) xs)) pushed
-    ∙ append-assoc now (Service c ∷ []) (drop (i + 1) (map (λ s. Service c) xs))
+    ∙ append_assoc now (Service c ∷ []) (drop (i + 1) (map (λ s. Service c) xs))
     ∙ ap (λ (l : List Item). now ++ l) (sym (a_service_more c i xs h))
     ∙ inv
+
+-- ---- a queue without nobody
+
+pub nobody_apart : (xs : List ℕ) → xs ≡ apart [] xs
+nobody_apart [] = refl
+nobody_apart (x ∷ xs) = ap (λ (l : List ℕ). x ∷ l) (nobody_apart xs)

@@ -7,4 +7,5 @@ mod StepLaws
 mod OrderLaws
 mod BoardLaws
 mod ItemLaws
+mod ShownLaws
 mod FifoLaws

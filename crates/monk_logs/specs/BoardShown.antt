@@ -1,6 +1,6 @@
 -- The board that is kept of a log
-use Rattle.std.specs.Prelude.{◌≡◌, ℕ, ◌<◌, ◌==◌, Bool, false, List, [], if◌then◌else◌, Result, Ok, Err}
-use Rattle.monk_audit.specs.QueueAt.{queue_at}
+use Rattle.std.specs.Prelude.{◌≡◌, ℕ, false, List, [], Result, Ok, Err}
+use Rattle.monk_history.specs.Meaning.Situation.{Situation}
 use Rattle.monk_audit.specs.Replay.{IsReplayOf, replay_situation}
 use Rattle.monk_logs.specs.Board as boards
 use Rattle.monk_logs.specs.BoardCourse.{BoardCourse, board_course}
@@ -8,18 +8,23 @@ use Rattle.monk_logs.specs.declared.blame.Blame.{Blame}
 use Rattle.monk_logs.specs.declared.blame.LineVerdict.{LineVerdict}
 use Rattle.monk_logs.specs.declared.blame.LineVerdict.TheVariants as verdict
 use Rattle.monk_logs.specs.declared.board.Board.{Board}
+use Rattle.monk_logs.specs.declared.item.Item.{Item}
+
+-- a board with these items and these signallers, and with the rest of a situation
+abbrev pub board_over : List Item → List ℕ → Situation → boards.Board
+board_over items signallers t = record {
+  items = items;
+  signallers = signallers;
+  untils = t.untils;
+  state = t.state;
+  turn = t.turn;
+  inside = t.inside;
+  begun = t.begun;
+}
 
 -- the board that it shows, beside this state of the object
 abbrev pub board_shown : Board → List ℕ → boards.Board
-board_shown b state = record {
-  items = b.items.items;
-  signallers = b.signallers.items;
-  untils = (replay_situation b.rest state).untils;
-  state = state;
-  turn = (replay_situation b.rest state).turn;
-  inside = (replay_situation b.rest state).inside;
-  begun = (replay_situation b.rest state).begun;
-}
+board_shown b state = board_over b.items.items b.signallers.items (replay_situation b.rest state)
 
 -- it is of a monitor with that many seats and conditions, over an object with that many predicates
 pub record IsBoardOf (seats conds predicates : ℕ) (b : Board) : Type 0 where

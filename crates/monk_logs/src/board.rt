@@ -1,30 +1,27 @@
 //! How a monitor stands, as far as the order of its queues doesn't matter.
 
 ghost use Rattle.std.specs.Prelude.{◌≡◌, ◌<◌, ℕ, List, Some, [], true, IfOk, OnOk};
-ghost use Rattle.monk_kinds.specs.declared.mode.Rules.{Rules};
-ghost use Rattle.monk_object.specs.Object.{Object};
 ghost use Rattle.monk_history.specs.declared.event.Via.{Via};
-ghost use Rattle.monk_history.specs.Just.{just};
 ghost use Rattle.monk_history.specs.Meaning.Choice as choice;
-ghost use Rattle.monk_history.specs.Meaning.Events.{entered, next_of, seat_of};
+ghost use Rattle.monk_history.specs.Meaning.Events.{entered, seat_of};
 ghost use Rattle.monk_history.specs.Meaning.Monitor.{monitor};
 ghost use Rattle.monk_history.specs.Meaning.Reasons.{fits_object, reason_before};
 ghost use Rattle.monk_history.specs.Meaning.Signallers.{is_empty};
+ghost use Rattle.monk_audit.specs.Replay.{seats_in};
 ghost use Rattle.monk_logs.specs.Board as boards;
 ghost use Rattle.monk_logs.specs.Board.{sight};
 ghost use Rattle.monk_logs.specs.BoardCourse.{board_via};
-ghost use Rattle.monk_logs.specs.BoardMoves.{board_moved, board_served, joined_by};
+ghost use Rattle.monk_logs.specs.BoardMoves.{board_moved, board_served};
 ghost use Rattle.monk_logs.specs.BoardShown.{IsBoardOf, board_shown};
-ghost use Rattle.monk_logs.specs.Order.{apart};
-ghost use Rattle.monk_logs.specs.Run.{taken_signaller};
 ghost use Rattle.monk_logs.specs.Stand.{monitor_in};
 
 use crate::item::Item;
 use crate::items::unserved_at;
 use crate::items_moves::{join, lapse, serve, take_chosen};
 use crate::setting::Setting;
+use crate::signallers;
 use monk_audit::Replay;
-use monk_history::{Event, Next};
+use monk_history::Event;
 use monk_object::Guarded;
 use std::alloc::{AllocError, Global};
 
@@ -38,17 +35,17 @@ pub(crate) struct Board {
 }
 
 impl Board {
-    /// How a monitor stands before any step.
-    pub(crate) fn opening(alloc: Global, seats: u8, conds: u8) -> Result<Board, AllocError>
+    /// How a monitor over such an object stands before any step.
+    pub(crate) fn opening<T: Guarded>(alloc: Global, setting: Setting) -> Result<Board, AllocError>
         ensures stands { IfOk result
-            (λ b. (rules : Rules) (o : Object) (state : List ℕ)
-            → board_shown b state ≡ boards.opening_board (monitor rules seats conds o state)) }
-        ensures sound { IfOk result (λ b. (predicates : ℕ) → IsBoardOf seats conds predicates b) }
+            (λ b. (state : List ℕ) → board_shown b state ≡ boards.opening_board
+            (monitor setting.rules setting.seats setting.conds T.meaning state)) }
+        ensures sound { IfOk result (λ b. IsBoardOf setting.seats setting.conds T.PREDICATES b) }
     {
         Ok(Board {
             items: Vec::new(alloc),
             signallers: Vec::new(alloc),
-            rest: Replay::opening(alloc, seats, conds)?,
+            rest: Replay::opening(alloc, setting.seats, setting.conds)?,
         })
     }
 
@@ -86,25 +83,12 @@ impl Board {
     pub(crate) fn serve(&mut self, event: Event) -> Result<(), AllocError>
         ensures served { OnOk result
             ((state : List ℕ) → board_shown self.new state ≡ board_served (board_shown self.old state) event) }
-        ensures rest { self.new.rest ≡ self.old.rest }
+        ensures sound { OnOk result
+            ((seats conds predicates : ℕ) → IsBoardOf seats conds predicates self.old
+            → IsBoardOf seats conds predicates self.new) }
     {
-        if let Event::Signal(seat, cond, _) = event {
-            if !self.is_empty_at(cond) {
-                self.signallers.push(seat)?;
-            }
-        }
+        signallers::join(&mut self.signallers, &self.items, event)?;
         serve(&mut self.items, event)
-    }
-
-    /// Takes the signaller out.
-    fn drop_signaller(&mut self, seat: Option<u8>)
-        ensures signallers { self.new.signallers.items ≡ apart (just seat) self.old.signallers.items }
-        ensures items { self.new.items ≡ self.old.items }
-        ensures rest { self.new.rest ≡ self.old.rest }
-    {
-        if let Some(seat) = seat {
-            self.signallers.retain(|other| *other != seat);
-        }
     }
 
     /// Carries out what an event that has served chose, and the rest of what it does.
@@ -118,7 +102,7 @@ impl Board {
     {
         take_chosen(&mut self.items, event.choice());
         join(&mut self.items, event)?;
-        self.drop_signaller(signaller_out(event, stays));
+        signallers::take_chosen(&mut self.signallers, event, stays);
         self.rest.pass_on(event)
     }
 
@@ -130,18 +114,5 @@ impl Board {
     {
         lapse(&mut self.items, seat);
         self.rest.own(seat);
-    }
-}
-
-/// Who is taken out of the signaller queue: whom the event chose, or its caller, which joined it and stays.
-fn signaller_out(event: Event, stays: bool) -> Option<u8>
-    ensures { just result ≡ taken_signaller (next_of event) (joined_by stays event) }
-{
-    match event {
-        Event::Signal(seat, _, Next::Stay) if !stays => Some(seat),
-        _ => match event.choice() {
-            Some(Next::Signaller(seat)) => Some(seat),
-            _ => None,
-        },
     }
 }

@@ -1,13 +1,10 @@
 //! Whether an event may choose what it chose, on a board that has served.
 
-ghost use Rattle.std.specs.Prelude.{◌≡◌, ◌==◌, All, is_some, nat_le};
-ghost use Rattle.monk_history.specs.Meaning.Events.{has_conditions};
-ghost use Rattle.monk_history.specs.Meaning.Signallers.{is_empty};
+ghost use Rattle.std.specs.Prelude.{◌≡◌, ◌<◌, [], All};
 ghost use Rattle.monk_history.specs.Meaning.Untils.{ready_of};
-ghost use Rattle.monk_audit.specs.Replay.{replay_situation};
 ghost use Rattle.monk_logs.specs.BoardMoves.{chances_on};
 ghost use Rattle.monk_logs.specs.BoardShown.{board_shown};
-ghost use Rattle.monk_logs.specs.Chances.{chooses_well_by, may_choose_by, may_signal_by, permits_by};
+ghost use Rattle.monk_logs.specs.Chances.{may_choose_by, may_signal_by, permits_by};
 ghost use Rattle.monk_logs.specs.Order as orders;
 
 use crate::board::Board;

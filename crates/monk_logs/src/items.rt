@@ -77,7 +77,7 @@ pub(crate) fn unserved_at(items: &[Item], cond: u8) -> usize
 }
 
 /// Whether the seat is one of the first so many that wait on the condition.
-#[tactic(auto, using(crate::proofs::ItemLaws::taken_cons))]
+#[tactic(auto, using(crate::proofs::ItemLaws::among_more))]
 fn is_among_first(items: &[Item], cond: u8, seat: u8, many: usize) -> bool
     ensures { result ≡ is_among seat (take many (seats_in (line cond items.now))) }
 {

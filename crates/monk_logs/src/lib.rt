@@ -25,6 +25,7 @@ mod past;
 mod pending;
 mod reading;
 mod setting;
+mod signallers;
 mod step;
 mod steps;
 mod telling;

@@ -5,7 +5,7 @@ use Rattle.monk_audit.proofs.replay.Replay.pass_on.Goals as goal
 pub returns-clause-sound : goal.returns-clause-sound
 returns-clause-sound c =
     on_ok_weaker c.go_on.result
-    (λ joined conds codes predicates is fits. still_of _ conds codes predicates c.args.self.now c.go_on.new.self c.args.event
+    (λ joined seats conds codes predicates is fits. still_of seats conds codes predicates c.args.self.now c.go_on.new.self c.args.event
     c.go_on.ensures.seats c.go_on.ensures.conditions joined is fits) c.go_on.ensures.untils
 
 pub returns-clause-passed : goal.returns-clause-passed
