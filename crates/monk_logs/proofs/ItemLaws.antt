@@ -1,18 +1,24 @@
 -- The items of a board, one by one
-use Rattle.std.proofs.Common.{◌≡◌, ◌<◌, ◌-◌, ◌+◌, ◌++◌, ◌∙◌, ℕ, zero, suc, false, List, [], ◌∷◌, refl, sym, ap, take, drop, length, arith}
+use Rattle.std.proofs.Common.{◌≡◌, ◌<◌, ◌-◌, ◌+◌, ◌++◌, ◌∙◌, ℕ, zero, suc, Bool, true, cond, List, [], ◌∷◌, refl, sym, ap, take, drop, length, arith}
 use Rattle.std.specs.Prelude.{◌==◌, ◌||◌, map}
-use Rattle.std.proofs.lemmas.Bool.{true≢false}
 use Rattle.std.proofs.lemmas.List.{append_assoc}
+use Rattle.monk_logs.specs.Items.{is_among_first}
 use Rattle.monk_logs.specs.Order.{apart, is_among}
 use Rattle.monk_logs.specs.declared.item.Item.{Item}
 use Rattle.monk_logs.specs.declared.item.Item.TheVariants.{Service}
 
--- one of the first so many is the first, or one of those behind it
-pub among_more : (j n x : ℕ) (xs : List ℕ) → (n == 0) ≡ false
-    → (x == j) || is_among j (take (n - 1) xs) ≡ is_among j (take n (x ∷ xs))
-among_more j zero x xs h = absurd (true≢false h)
-among_more j (suc n) x xs h =
-    let e : suc n - 1 ≡ n = omega arith in ap (λ (k : ℕ). (x == j) || is_among j (take k xs)) e
+one_or : (b p q : Bool) → p ≡ q → cond b true p ≡ b || q
+one_or true p q h = refl
+one_or false p q h = h
+
+-- one of the first so many is told one by one
+pub told_first : (j n : ℕ) (xs : List ℕ) → is_among_first j n xs ≡ is_among j (take n xs)
+told_first j zero [] = refl
+told_first j zero (x ∷ xs) = refl
+told_first j (suc n) [] = refl
+told_first j (suc n) (x ∷ xs) =
+    let e : suc n - 1 ≡ n = omega arith in
+    one_or (x == j) _ _ (ap (λ (k : ℕ). is_among_first j k xs) e ∙ told_first j n xs)
 
 -- ---- as many services as seats
 

@@ -1,5 +1,5 @@
 -- The same judging over a board, with what is to blame where a line can't be of the monitor
-use Rattle.std.specs.Prelude.{◌≡◌, ℕ, ◌+◌, ◌==◌, nat_lt, ◌&&◌, not, List, [], ◌∷◌, Unit, Some, Result, Ok, Err, if◌then◌else◌}
+use Rattle.std.specs.Prelude.{◌≡◌, ℕ, ◌+◌, ◌==◌, nat_lt, ◌&&◌, not, List, [], ◌∷◌, Some, Result, Ok, Err, if◌then◌else◌}
 use Rattle.monk_history.specs.declared.event.Event.{Event}
 use Rattle.monk_history.specs.declared.event.Event.TheVariants as event
 use Rattle.monk_history.specs.declared.event.Next.TheVariants as next

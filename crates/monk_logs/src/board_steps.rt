@@ -1,6 +1,6 @@
 //! One event, tried on a board.
 
-ghost use Rattle.std.specs.Prelude.{◌≡◌, ◌==◌, ℕ, Ok, Err, Some, None, true, IfOk, OnOk, is_some, if◌then◌else◌};
+ghost use Rattle.std.specs.Prelude.{◌≡◌, ◌==◌, ℕ, Ok, Err, Some, None, [], true, IfOk, OnOk, is_some, if◌then◌else◌};
 ghost use Rattle.monk_history.specs.declared.event.Via.{Via};
 ghost use Rattle.monk_history.specs.Meaning.Choice as choice;
 ghost use Rattle.monk_history.specs.Meaning.Events.{acted, entered};

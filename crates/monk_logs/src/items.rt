@@ -1,6 +1,6 @@
 //! What the items of a board tell of a condition, and of a seat that waits there.
 
-ghost use Rattle.std.specs.Prelude.{◌≡◌, drop, is_some, length, take};
+ghost use Rattle.std.specs.Prelude.{◌≡◌, drop, is_some, length};
 ghost use Rattle.monk_logs.specs.Items as lines;
 ghost use Rattle.monk_logs.specs.Items.{has_service_behind, keeps_up, lapsed, line, seats_in, services, services_in, unserved_in};
 ghost use Rattle.monk_logs.specs.Order.{is_among};
@@ -77,9 +77,8 @@ pub(crate) fn unserved_at(items: &[Item], cond: u8) -> usize
 }
 
 /// Whether the seat is one of the first so many that wait on the condition.
-#[tactic(auto, using(crate::proofs::ItemLaws::among_more))]
 fn is_among_first(items: &[Item], cond: u8, seat: u8, many: usize) -> bool
-    ensures { result ≡ is_among seat (take many (seats_in (line cond items.now))) }
+    ensures { result ≡ lines.is_among_first seat many (seats_in (line cond items.now)) }
 {
     let mut left = many;
     for item in items {
@@ -153,6 +152,7 @@ fn keeps_up_without(items: &[Item], cond: u8, seat: u8) -> bool
 }
 
 /// Whether the seat can be one that a signal served.
+#[tactic(auto, using(crate::proofs::ItemLaws::told_first))]
 pub(crate) fn may_resume(order: Order, items: &[Item], seat: u8) -> bool
     ensures { result ≡ lines.may_resume order seat items.now }
 {

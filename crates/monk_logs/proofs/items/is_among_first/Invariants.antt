@@ -1,9 +1,8 @@
-use Rattle.std.proofs.Common.{◌≡◌, drop, take}
-use Rattle.monk_logs.specs.Items.{line, seats_in}
-use Rattle.monk_logs.specs.Order.{is_among}
+use Rattle.std.proofs.Common.{◌≡◌, drop}
+use Rattle.monk_logs.specs.Items.{is_among_first, line, seats_in}
 use Rattle.monk_logs.proofs.items.is_among_first.Given as goal
 
 abbrev pub invariant-loop-item : goal.invariant-loop-item
 invariant-loop-item l =
-    is_among l.seat (take l.left (seats_in (line l.cond (drop l.item-index l.items))))
-    ≡ is_among l.seat (take l.many (seats_in (line l.cond l.items)))
+    is_among_first l.seat l.left (seats_in (line l.cond (drop l.item-index l.items)))
+    ≡ is_among_first l.seat l.many (seats_in (line l.cond l.items))
