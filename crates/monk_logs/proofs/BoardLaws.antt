@@ -7,3 +7,4 @@ pub mod Orderly
 pub mod Chooses
 pub mod Choice
 pub mod Exact
+pub mod Standing
