@@ -8,3 +8,4 @@ pub mod Chooses
 pub mod Choice
 pub mod Exact
 pub mod Standing
+pub mod Verdicts
