@@ -25,7 +25,7 @@ use Rattle.monk_logs.proofs.VerdictLaws.Exactly.{fits_exactly_by, misfits_exactl
 
 pub judged_fits : (o : Order) (m : Monitor) (n : ℕ) (r : Result BoardCourse Blame) (log : List LogLine)
     → is_some (board_judge_from o m (result_ok r) log) ≡ true → board_verdict_from o m n r log ≡ Fits
-unfolding verdict_along, board_judge_from
+unfolding verdict_along board_judge_from
 judged_fits o m n (Err why) log h = absurd (false≢true h)
 judged_fits o m n (Ok x) [] h = refl
 judged_fits o m n (Ok x) (l ∷ log) h =
@@ -34,7 +34,7 @@ judged_fits o m n (Ok x) (l ∷ log) h =
 
 pub fits_judged : (o : Order) (m : Monitor) (n : ℕ) (r : Result BoardCourse Blame) (log : List LogLine)
     → board_verdict_from o m n r log ≡ Fits → is_some (board_judge_from o m (result_ok r) log) ≡ true
-unfolding verdict_along, board_judge_from
+unfolding verdict_along board_judge_from
 fits_judged o m n (Err why) log h = absurd cc
 fits_judged o m n (Ok x) [] h = refl
 fits_judged o m n (Ok x) (l ∷ log) h =
