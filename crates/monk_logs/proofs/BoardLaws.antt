@@ -7,3 +7,5 @@ pub mod Orderly
 pub mod Chooses
 pub mod Choice
 pub mod Exact
+pub mod Standing
+pub mod Verdicts

@@ -1,5 +1,5 @@
 -- The items of a board, one by one
-use Rattle.std.proofs.Common.{◌≡◌, ◌<◌, ◌-◌, ◌+◌, ◌++◌, ◌∙◌, ℕ, zero, suc, Bool, true, cond, List, [], ◌∷◌, refl, sym, ap, take, drop, length, arith}
+use Rattle.std.proofs.Common.{◌≡◌, ◌<◌, ◌-◌, ◌+◌, ◌++◌, ◌∙◌, ℕ, zero, suc, Bool, true, false, cond, List, [], ◌∷◌, refl, sym, ap, take, drop, length, arith}
 use Rattle.std.specs.Prelude.{◌==◌, ◌||◌, map}
 use Rattle.std.proofs.lemmas.List.{append_assoc}
 use Rattle.monk_logs.specs.Items.{is_among_first}
@@ -11,6 +11,9 @@ one_or : (b p q : Bool) → p ≡ q → cond b true p ≡ b || q
 one_or true p q h = refl
 one_or false p q h = h
 
+not_none : (n : ℕ) → (suc n == 0) ≡ false
+not_none n = refl
+
 -- one of the first so many is told one by one
 pub told_first : (j n : ℕ) (xs : List ℕ) → is_among_first j n xs ≡ is_among j (take n xs)
 told_first j zero [] = refl
@@ -18,7 +21,8 @@ told_first j zero (x ∷ xs) = refl
 told_first j (suc n) [] = refl
 told_first j (suc n) (x ∷ xs) =
     let e : suc n - 1 ≡ n = omega arith in
-    one_or (x == j) _ _ (ap (λ (k : ℕ). is_among_first j k xs) e ∙ told_first j n xs)
+    ap (λ (b : Bool). cond b false (cond (x == j) true (is_among_first j (suc n - 1) xs))) (not_none n)
+    ∙ one_or (x == j) _ _ (ap (λ (k : ℕ). is_among_first j k xs) e ∙ told_first j n xs)
 
 -- ---- as many services as seats
 

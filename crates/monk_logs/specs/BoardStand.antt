@@ -1,5 +1,5 @@
 -- The same judging over a board, with what is to blame where a line can't be of the monitor
-use Rattle.std.specs.Prelude.{◌≡◌, ℕ, ◌+◌, ◌==◌, nat_lt, ◌&&◌, not, List, [], ◌∷◌, Some, Result, Ok, Err, if◌then◌else◌}
+use Rattle.std.specs.Prelude.{◌≡◌, ℕ, ◌==◌, nat_lt, ◌&&◌, not, List, Some, Result, Ok, Err, if◌then◌else◌}
 use Rattle.monk_history.specs.declared.event.Event.{Event}
 use Rattle.monk_history.specs.declared.event.Event.TheVariants as event
 use Rattle.monk_history.specs.declared.event.Next.TheVariants as next
@@ -8,6 +8,7 @@ use Rattle.monk_history.specs.Meaning.Events.{next_of, returns_at_once}
 use Rattle.monk_history.specs.Meaning.Monitor.{Monitor}
 use Rattle.monk_history.specs.Meaning.Reasons.{is_open, reason_before}
 use Rattle.monk_history.specs.Meaning.Release.{MayCallIn}
+use Rattle.monk_logs.specs.Along.{verdict_along}
 use Rattle.monk_logs.specs.Blame.{blame_of, half_blame}
 use Rattle.monk_logs.specs.Board.{Board, board_after, board_lapse, board_reason, opening_board, sight}
 use Rattle.monk_logs.specs.BoardCourse.{BoardCourse, board_course, board_settled, board_told, board_via}
@@ -22,7 +23,6 @@ use Rattle.monk_logs.specs.declared.order.Order.{Order}
 use Rattle.monk_logs.specs.declared.pending.Pending.{Pending}
 use Rattle.monk_logs.specs.declared.pending.Pending.TheVariants.{Settled, Half, Release}
 use Rattle.monk_logs.specs.declared.verdict.LogVerdict.{LogVerdict}
-use Rattle.monk_logs.specs.declared.verdict.LogVerdict.TheVariants.{Fits, Misfit}
 
 -- ---- what is added
 
@@ -114,11 +114,12 @@ IsHeldOver m b (Release e) = MayCallIn m (sight b) e × (next_of e ≡ Some next
 
 -- ---- a log
 
+abbrev pub board_over : Order → Monitor → BoardCourse → LogLine → Result BoardCourse Blame
+board_over o m x l = board_behind_over o m x.board x.pending l
+
 -- the verdict on the lines to come, behind so many that fit and led there
-unfoldable pub board_verdict_from : Order → Monitor → ℕ → Result BoardCourse Blame → List LogLine → LogVerdict
-board_verdict_from o m n (Err why) log = Misfit n why
-board_verdict_from o m n (Ok x) [] = Fits
-board_verdict_from o m n (Ok x) (l ∷ log) = board_verdict_from o m (n + 1) (board_behind_over o m x.board x.pending l) log
+abbrev pub board_verdict_from : Order → Monitor → ℕ → Result BoardCourse Blame → List LogLine → LogVerdict
+board_verdict_from o m n x log = verdict_along (board_over o m) n x log
 
 abbrev pub board_verdict : Order → Monitor → List LogLine → LogVerdict
 board_verdict o m log = board_verdict_from o m 0 (Ok (board_settled (opening_board m))) log
