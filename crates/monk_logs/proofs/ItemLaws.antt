@@ -1,6 +1,7 @@
 -- The items of a board, one by one
 use Rattle.std.proofs.Common.{◌≡◌, ◌<◌, ◌-◌, ◌+◌, ◌++◌, ◌∙◌, ℕ, zero, suc, Bool, true, false, cond, List, [], ◌∷◌, refl, sym, ap, take, drop, length, arith}
 use Rattle.std.specs.Prelude.{◌==◌, ◌||◌, map}
+use Rattle.std.proofs.Math.Dec.{eqb-suc-zero}
 use Rattle.std.proofs.lemmas.List.{append_assoc}
 use Rattle.monk_logs.specs.Items.{is_among_first}
 use Rattle.monk_logs.specs.Order.{apart, is_among}
@@ -12,7 +13,7 @@ one_or true p q h = refl
 one_or false p q h = h
 
 not_none : (n : ℕ) → (suc n == 0) ≡ false
-not_none n = refl
+not_none n = eqb-suc-zero n
 
 -- one of the first so many is told one by one
 pub told_first : (j n : ℕ) (xs : List ℕ) → is_among_first j n xs ≡ is_among j (take n xs)

@@ -8,4 +8,5 @@ mod OrderLaws
 mod BoardLaws
 mod ItemLaws
 mod ShownLaws
+mod MoveLaws
 mod FifoLaws

@@ -40,10 +40,13 @@ pub(crate) fn served_reason<T: Guarded>(
         (board_shown board.now (T.state object.now)) event }
 {
     let early = board.call_reason(setting, object, event);
-    if early == ALLOWED && !permits(order, setting.rules, board, object, event, stays) {
-        Verdict::CHOICE
+    if early != ALLOWED {
+        return early;
+    }
+    if permits(order, setting.rules, board, object, event, stays) {
+        ALLOWED
     } else {
-        early
+        Verdict::CHOICE
     }
 }
 
@@ -68,10 +71,11 @@ fn choose<T: Guarded>(
     let stays = board.must_stay(object, event);
     board.serve(event)?;
     let reason = served_reason(order, setting, board, object, event, stays);
-    if reason == ALLOWED {
-        board.settle(event, stays)?;
+    if reason != ALLOWED {
+        return Ok(reason);
     }
-    Ok(reason)
+    board.settle(event, stays)?;
+    Ok(ALLOWED)
 }
 
 /// The same of an act, whose reply is tested too.

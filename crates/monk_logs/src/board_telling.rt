@@ -1,6 +1,6 @@
 //! The line behind a release, whose choice it tells, over a board.
 
-ghost use Rattle.std.specs.Prelude.{◌≡◌, ◌||◌, Some, true, IfOk, OnOk};
+ghost use Rattle.std.specs.Prelude.{◌≡◌, ◌<◌, ℕ, List, Some, [], All, true, IfOk, OnOk};
 ghost use Rattle.monk_history.specs.Meaning.Choice as choice;
 ghost use Rattle.monk_history.specs.Meaning.Events.{next_of};
 ghost use Rattle.monk_history.specs.Meaning.Reasons.{fits_object};
