@@ -7,18 +7,24 @@ use Rattle.std.proofs.lemmas.Bool.{true≢false}
 use Rattle.monk_object.specs.Object.{Object}
 use Rattle.monk_history.specs.declared.event.Event.{Event}
 use Rattle.monk_history.specs.declared.event.Event.TheVariants as event
+use Rattle.monk_history.specs.declared.event.Via.{Via}
 use Rattle.monk_history.specs.Meaning.Choice.{must_stay}
-use Rattle.monk_history.specs.Meaning.Events.{acted, next_of, seat_of}
+use Rattle.monk_history.specs.Meaning.Events.{acted, entered, next_of, seat_of}
 use Rattle.monk_history.specs.Meaning.Monitor.{Monitor, data_after}
-use Rattle.monk_history.specs.Meaning.Reasons.{is_in_place, is_in_range, is_in_turn, is_offered, is_right_reply, may_enter, reason_before}
+use Rattle.monk_history.specs.Meaning.Reasons.{fits_object, is_in_place, is_in_range, is_in_turn, is_offered, is_right_reply, may_enter, reason_before}
 use Rattle.monk_history.specs.Meaning.Signallers.{is_empty, signals}
 use Rattle.monk_history.specs.Meaning.Situation.{Situation}
 use Rattle.monk_history.proofs.PublicLaws.Meaning.{and_left}
-use Rattle.monk_logs.specs.Board.{Board, board_after, board_permits, board_reason, sight}
+use Rattle.monk_logs.specs.Board.{Board, board_after, board_late_reason, board_permits, board_reason, sight}
+use Rattle.monk_logs.specs.BoardCourse.{board_via}
 use Rattle.monk_logs.specs.BoardMoves.{board_moved, board_served, chances_on, joined_by, served_reason}
+use Rattle.monk_logs.specs.BoardShown.{board_shown}
 use Rattle.monk_logs.specs.Chances.{permits_by}
 use Rattle.monk_logs.specs.Order.{apart}
 use Rattle.monk_logs.specs.Run.{taken_signaller}
+use Rattle.monk_logs.specs.declared.blame.Blame.{Blame}
+use Rattle.monk_logs.specs.declared.blame.Blame.TheVariants as blame
+use Rattle.monk_logs.specs.declared.board.Board.{Board as Kept}
 use Rattle.monk_logs.specs.declared.item.Item.{Item}
 use Rattle.monk_logs.specs.declared.order.Order.{Order}
 
@@ -189,3 +195,118 @@ not_added zero (suc n) x y is some = absurd (some refl)
 not_added (suc r) (suc n) x y is some =
     ap (λ (b : Bool). cond b (Ok x) (Err (suc r))) (eqb-suc-zero r) ∙ ap (λ (k : ℕ). Err k) is
     ∙ sym (ap (λ (b : Bool). cond b (Ok y) (Err (suc n))) (eqb-suc-zero n))
+
+-- ---- an act
+
+pub early_found : (o : Order) (m : Monitor) (b : Board) (e : Event) (n : ℕ) → n ≡ reason_before 0 m (sight b) e → (n ≡ 0 → ⊥)
+    → n ≡ board_reason o m b e
+unfolding board_reason
+early_found o m b e n is h = reason_stops m (sight b) e (board_late_reason o m b e) n is h
+
+pub reply_found : (o : Order) (m : Monitor) (b : Board) (e : Event) (n : ℕ) → n ≡ reason_before 0 m (sight b) e → n ≡ 0
+    → is_right_reply m.object b.state e ≡ false → 5 ≡ board_reason o m b e
+unfolding board_reason
+reply_found o m b e n is none wrong =
+    sym (reason_goes m (sight b) e (board_late_reason o m b e) n is none
+    ∙ ap (λ (x : Bool). cond (not x) 5 (cond (not (board_permits o m.kind m.object b e)) 6 0)) wrong)
+
+act_late : (o : Order) (m : Monitor) (b : Board) (e : Event) → is_some (acted e) ≡ true → is_right_reply m.object b.state e ≡ true
+    → board_late_reason o m b e ≡ 0
+act_late o m b (event.Enter s via) h right = absurd cc
+act_late o m b (event.Act s op r) h right = ap (λ (x : Bool). cond (not x) 5 0) right
+act_late o m b (event.Leave s x) h right = absurd cc
+act_late o m b (event.Wait s c x) h right = absurd cc
+act_late o m b (event.Signal s c x) h right = absurd cc
+act_late o m b (event.SignalLeave s c x) h right = absurd cc
+act_late o m b (event.Until s p x) h right = absurd cc
+act_late o m b (event.Resume s q) h right = absurd cc
+act_late o m b (event.SignalAll s c) h right = absurd cc
+act_late o m b (event.SignalWait s c d x) h right = absurd cc
+
+pub act_found : (o : Order) (m : Monitor) (b : Board) (e : Event) (n : ℕ) → n ≡ reason_before 0 m (sight b) e → n ≡ 0
+    → is_some (acted e) ≡ true → is_right_reply m.object b.state e ≡ true → 0 ≡ board_reason o m b e
+unfolding board_reason
+act_found o m b e n is none act right =
+    sym (reason_goes m (sight b) e (board_late_reason o m b e) n is none ∙ act_late o m b e act right)
+
+pub moved_act : (o : Object) (b : Kept) (state later : List ℕ) (e : Event) → is_some (acted e) ≡ true → later ≡ data_after o state e
+    → board_moved false (board_served (board_shown b later) e) e ≡ board_after o (board_shown b state) e
+moved_act o b state later (event.Enter s via) h is = absurd cc
+moved_act o b state later (event.Act s op r) h is =
+    ap (λ (d : List ℕ). board_moved false (board_served (board_shown b d) (event.Act s op r)) (event.Act s op r)) is
+moved_act o b state later (event.Leave s x) h is = absurd cc
+moved_act o b state later (event.Wait s c x) h is = absurd cc
+moved_act o b state later (event.Signal s c x) h is = absurd cc
+moved_act o b state later (event.SignalLeave s c x) h is = absurd cc
+moved_act o b state later (event.Until s p x) h is = absurd cc
+moved_act o b state later (event.Resume s q) h is = absurd cc
+moved_act o b state later (event.SignalAll s c) h is = absurd cc
+moved_act o b state later (event.SignalWait s c d x) h is = absurd cc
+
+pub no_entrance : (e : Event) (via : Via) (b : Board) → is_some (acted e) ≡ true → entered e ≡ Some via → via ≡ board_via b
+no_entrance (event.Enter s x) via b h is = absurd cc
+no_entrance (event.Act s op r) via b h is = absurd cc
+no_entrance (event.Leave s x) via b h is = absurd cc
+no_entrance (event.Wait s c x) via b h is = absurd cc
+no_entrance (event.Signal s c x) via b h is = absurd cc
+no_entrance (event.SignalLeave s c x) via b h is = absurd cc
+no_entrance (event.Until s p x) via b h is = absurd cc
+no_entrance (event.Resume s q) via b h is = absurd cc
+no_entrance (event.SignalAll s c) via b h is = absurd cc
+no_entrance (event.SignalWait s c d x) via b h is = absurd cc
+
+-- any number of codes that has room for the act's own
+pub code_room : Event → ℕ
+code_room (event.Enter s via) = 0
+code_room (event.Act s op r) = suc op.code
+code_room (event.Leave s x) = 0
+code_room (event.Wait s c x) = 0
+code_room (event.Signal s c x) = 0
+code_room (event.SignalLeave s c x) = 0
+code_room (event.Until s p x) = 0
+code_room (event.Resume s q) = 0
+code_room (event.SignalAll s c) = 0
+code_room (event.SignalWait s c d x) = 0
+
+below_next : (n : ℕ) → nat_lt n (suc n) ≡ true
+below_next n = grind (arith)
+
+pub act_fits : (predicates : ℕ) (e : Event) → is_some (acted e) ≡ true → fits_object (code_room e) predicates e ≡ true
+unfolding code_room
+act_fits predicates (event.Enter s via) h = absurd cc
+act_fits predicates (event.Act s op r) h = below_next op.code
+act_fits predicates (event.Leave s x) h = absurd cc
+act_fits predicates (event.Wait s c x) h = absurd cc
+act_fits predicates (event.Signal s c x) h = absurd cc
+act_fits predicates (event.SignalLeave s c x) h = absurd cc
+act_fits predicates (event.Until s p x) h = absurd cc
+act_fits predicates (event.Resume s q) h = absurd cc
+act_fits predicates (event.SignalAll s c) h = absurd cc
+act_fits predicates (event.SignalWait s c d x) h = absurd cc
+
+-- ---- the first test that a line behind a release fails
+
+pub turn_first : (turn place reply : Bool) (last : Blame) → turn ≡ false
+    → blame.Turn ≡ cond (not turn) blame.Turn (cond (not place) blame.Place (cond (not reply) blame.Reply last))
+turn_first false place reply last h = refl
+turn_first true place reply last h = absurd (true≢false h)
+
+pub place_next : (turn place reply : Bool) (last : Blame) → turn ≡ true → place ≡ false
+    → blame.Place ≡ cond (not turn) blame.Turn (cond (not place) blame.Place (cond (not reply) blame.Reply last))
+place_next true false reply last h i = refl
+place_next true true reply last h i = absurd (true≢false i)
+place_next false place reply last h i = absurd (true≢false (sym h))
+
+pub reply_next : (turn place reply : Bool) (last : Blame) → turn ≡ true → place ≡ true → reply ≡ false
+    → blame.Reply ≡ cond (not turn) blame.Turn (cond (not place) blame.Place (cond (not reply) blame.Reply last))
+reply_next true true false last h i j = refl
+reply_next true true true last h i j = absurd (true≢false j)
+reply_next true false reply last h i j = absurd (true≢false (sym i))
+reply_next false place reply last h i j = absurd (true≢false (sym h))
+
+pub last_left : (turn place reply : Bool) (found last : Blame) → turn ≡ true → place ≡ true → reply ≡ true → found ≡ last
+    → found ≡ cond (not turn) blame.Turn (cond (not place) blame.Place (cond (not reply) blame.Reply last))
+last_left true true true found last h i j k = k
+last_left true true false found last h i j k = absurd (true≢false (sym j))
+last_left true false reply found last h i j k = absurd (true≢false (sym i))
+last_left false place reply found last h i j k = absurd (true≢false (sym h))

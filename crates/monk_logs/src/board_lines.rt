@@ -1,9 +1,12 @@
 //! One line of a log, judged over a board.
 
-ghost use Rattle.std.specs.Prelude.{◌≡◌, IfOk, OnOk};
+ghost use Rattle.std.specs.Prelude.{◌≡◌, ◌&&◌, ℕ, List, [], IfOk, OnOk};
+ghost use Rattle.monk_object.specs.Object.{Object};
+ghost use Rattle.monk_history.specs.Meaning.Reasons.{is_open};
 ghost use Rattle.monk_logs.specs.BoardShown.{IsBoardOf, board_shown, course_or};
 ghost use Rattle.monk_logs.specs.BoardStand as stands;
 ghost use Rattle.monk_logs.specs.BoardStand.{IsHeldOver};
+ghost use Rattle.monk_logs.specs.Items as lines;
 ghost use Rattle.monk_logs.specs.Stand.{monitor_in};
 
 use crate::blame::{Blame, LineVerdict};
@@ -22,6 +25,30 @@ use monk_kinds::Mode;
 use monk_object::Guarded;
 use std::alloc::AllocError;
 
+/// Whether nobody has the turn.
+fn is_open(turn: Turn) -> bool
+    ensures { result ≡ is_open turn }
+{
+    match turn {
+        Turn::Open => true,
+        Turn::Due(..) | Turn::Owned(_) => false,
+    }
+}
+
+/// Whether nobody has the turn, and the seat is inside.
+fn is_inside_open(board: &Board, seat: u8) -> bool
+    ensures { result ≡ is_open (board_shown board.now []).turn && (board_shown board.now []).inside seat }
+{
+    is_open(board.rest.turn()) && board.rest.is_inside(seat)
+}
+
+/// Whether a wait of the seat can have run out now.
+fn can_lapse(order: Order, board: &Board, seat: u8) -> bool
+    ensures { result ≡ is_open (board_shown board.now []).turn && lines.may_lapse order seat (board_shown board.now []).items }
+{
+    is_open(board.rest.turn()) && may_lapse(order, &board.items, seat)
+}
+
 /// What is to blame where a wait can't have run out.
 fn lapse_blame(setting: Setting, board: &Board, seat: u8) -> Blame
     ensures { (o : Object) (state : List ℕ)
@@ -29,10 +56,10 @@ fn lapse_blame(setting: Setting, board: &Board, seat: u8) -> Blame
 {
     if seat >= setting.seats {
         Blame::Range
-    } else if !(board.rest.turn() == Turn::Open && board.rest.is_inside(seat)) {
-        Blame::Turn
-    } else {
+    } else if is_inside_open(board, seat) {
         Blame::Served
+    } else {
+        Blame::Turn
     }
 }
 
@@ -44,7 +71,7 @@ fn lapse(order: Order, setting: Setting, board: &mut Board, seat: u8) -> LineVer
     ensures sound { (predicates : ℕ) → IsBoardOf setting.seats setting.conds predicates board.old
         → IsBoardOf setting.seats setting.conds predicates board.new }
 {
-    if board.rest.turn() == Turn::Open && may_lapse(order, &board.items, seat) {
+    if can_lapse(order, board, seat) {
         board.lapse(seat);
         LineVerdict::Fits(Pending::Settled)
     } else {

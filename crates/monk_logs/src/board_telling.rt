@@ -73,8 +73,9 @@ fn choice_blame<T: Guarded>(
     line: LogLine,
 ) -> Result<Blame, AllocError>
     requires { All (λ w. w.1 < T.PREDICATES) (board_shown board.old []).untils }
-    ensures { IfOk result
+    ensures blame { IfOk result
         (λ why. why ≡ moves.choice_blame_on order T.meaning (board_shown board.old (T.state object.now)) event line) }
+    ensures rest { board.new.rest ≡ board.old.rest }
 {
     let is_choice = match line {
         LogLine::Resume(seat) => can_come_back(order, board, object, seat),
