@@ -9,4 +9,5 @@ mod BoardLaws
 mod ItemLaws
 mod ShownLaws
 mod MoveLaws
+mod ToldLaws
 mod FifoLaws

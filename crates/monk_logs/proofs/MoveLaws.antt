@@ -14,7 +14,7 @@ use Rattle.monk_history.specs.Meaning.Monitor.{Monitor, data_after}
 use Rattle.monk_history.specs.Meaning.Reasons.{fits_object, is_in_place, is_in_range, is_in_turn, is_offered, is_right_reply, may_enter, reason_before}
 use Rattle.monk_history.specs.Meaning.Signallers.{is_empty, signals}
 use Rattle.monk_history.specs.Meaning.Situation.{Situation}
-use Rattle.monk_history.proofs.PublicLaws.Meaning.{and_left}
+use Rattle.monk_history.proofs.PublicLaws.Meaning.{and_left, and_right}
 use Rattle.monk_logs.specs.Board.{Board, board_after, board_late_reason, board_permits, board_reason, sight}
 use Rattle.monk_logs.specs.BoardCourse.{board_via}
 use Rattle.monk_logs.specs.BoardMoves.{board_moved, board_served, chances_on, joined_by, served_reason}
@@ -310,3 +310,10 @@ last_left true true true found last h i j k = k
 last_left true true false found last h i j k = absurd (true≢false (sym j))
 last_left true false reply found last h i j k = absurd (true≢false (sym i))
 last_left false place reply found last h i j k = absurd (true≢false (sym h))
+
+pub object_there : (m : Monitor) (t : Situation) (e : Event) (late : ℕ) → reason_before late m t e ≡ 0
+    → fits_object m.object.codes m.object.predicates e ≡ true
+unfolding four
+object_there m t e late h = and_right _ _
+    (first (is_in_range m.seats m.conds m.object.codes m.object.predicates e) (is_offered m.kind e) (is_in_turn t e)
+    (is_in_place m.object t e) late h)

@@ -8,6 +8,8 @@ ghost use Rattle.monk_logs.specs.BoardStand as stands;
 ghost use Rattle.monk_logs.specs.BoardStand.{IsHeldOver};
 ghost use Rattle.monk_logs.specs.Items as lines;
 ghost use Rattle.monk_logs.specs.Stand.{monitor_in};
+ghost use Rattle.monk_logs.specs.declared.blame.LineVerdict.{LineVerdict};
+ghost use Rattle.monk_logs.specs.declared.pending.Pending.{Pending};
 
 use crate::blame::{Blame, LineVerdict};
 use crate::blaming::half_blame;
@@ -189,7 +191,8 @@ pub(crate) fn line_behind<T: Guarded>(
         (λ v. course_or (board_shown board.new (T.state object.new)) v
         ≡ stands.board_behind_over order (monitor_in setting T.meaning)
         (board_shown board.old (T.state object.old)) pending line) }
-    ensures sound { OnOk result (IsBoardOf setting.seats setting.conds T.PREDICATES board.new) }
+    ensures sound { IfOk result
+        (λ v. (left : Pending) → v ≡ LineVerdict.Fits left → IsBoardOf setting.seats setting.conds T.PREDICATES board.new) }
 {
     match pending {
         Pending::Settled => line_settled(order, setting, board, object, line),

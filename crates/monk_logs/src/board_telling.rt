@@ -12,6 +12,8 @@ ghost use Rattle.monk_logs.specs.BoardMoves as moves;
 ghost use Rattle.monk_logs.specs.BoardShown.{IsBoardOf, board_shown, course_or};
 ghost use Rattle.monk_logs.specs.BoardStand as stands;
 ghost use Rattle.monk_logs.specs.Stand.{monitor_in};
+ghost use Rattle.monk_logs.specs.declared.blame.LineVerdict.{LineVerdict};
+ghost use Rattle.monk_logs.specs.declared.pending.Pending.{Pending};
 
 use crate::blame::{Blame, LineVerdict};
 use crate::blaming::{early_blame, is_in_place, line_event, may_be_its_turn};
@@ -160,7 +162,8 @@ pub(crate) fn line_told<T: Guarded>(
         (λ v. course_or (board_shown board.new (T.state object.new)) v
         ≡ stands.board_told_over order (monitor_in setting T.meaning)
         (board_shown board.old (T.state object.old)) event line) }
-    ensures sound { OnOk result (IsBoardOf setting.seats setting.conds T.PREDICATES board.new) }
+    ensures sound { IfOk result
+        (λ v. (left : Pending) → v ≡ LineVerdict.Fits left → IsBoardOf setting.seats setting.conds T.PREDICATES board.new) }
 {
     let stays = board.must_stay(object, event);
     board.serve(event)?;
