@@ -40,7 +40,7 @@ no_blame : (m : Monitor) (why : Blame) (x : BoardCourse) → Err why ≡ Ok x �
 no_blame m why x h = absurd cc
 
 -- where nothing is left to be known
-known_held : (m : Monitor) (b : Board) (x : BoardCourse) → Ok (board_settled b) ≡ Ok x → IsHeldAt m x
+known_held : (m : Monitor) (b : Board) (x : BoardCourse) → course_by (Ok b) ≡ Ok x → IsHeldAt m x
 known_held m b x h = let same : board_settled b ≡ x = cc in subst (IsHeldAt m) same tt
 
 hold_if : (m : Monitor) (b : Board) (n : ℕ) (p : Pending) (why : Blame) (x : BoardCourse) → (n ≡ 0 → IsHeldOver m b p)
