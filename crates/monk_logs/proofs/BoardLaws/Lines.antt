@@ -9,7 +9,7 @@ use Rattle.monk_logs.specs.Board.{Board, board_after, board_reason, opening_boar
 use Rattle.monk_logs.specs.BoardCourse.{BoardCourse, board_course, board_settled, board_told}
 use Rattle.monk_logs.specs.BoardShown.{course_or}
 use Rattle.monk_logs.specs.BoardStand.{IsHeldOver, board_add, board_behind_over, board_half_over, board_line_over, board_over}
-use Rattle.monk_logs.specs.BoardStand.{board_release_blame, board_told_over, board_verdict, board_verdict_from, course_by}
+use Rattle.monk_logs.specs.BoardStand.{board_release_blame, board_verdict, board_verdict_from, course_by}
 use Rattle.monk_logs.specs.declared.blame.Blame.{Blame}
 use Rattle.monk_logs.specs.declared.blame.LineVerdict.{LineVerdict}
 use Rattle.monk_logs.specs.declared.blame.LineVerdict.TheVariants as line

@@ -11,7 +11,7 @@ use Rattle.monk_history.specs.Meaning.Monitor.{Monitor}
 use Rattle.monk_history.specs.Meaning.Reasons.{is_open, reason_before}
 use Rattle.monk_logs.specs.Blame.{blame_of, half_blame}
 use Rattle.monk_logs.specs.Board.{Board, board_after, board_lapse, board_reason, sight}
-use Rattle.monk_logs.specs.BoardCourse.{BoardCourse, board_behind, board_course, board_half, board_hold, board_known, board_line}
+use Rattle.monk_logs.specs.BoardCourse.{board_behind, board_course, board_half, board_hold, board_known, board_line}
 use Rattle.monk_logs.specs.BoardCourse.{board_settled, board_then, board_told, board_via}
 use Rattle.monk_logs.specs.BoardStand.{board_behind_over, board_half_over, board_hold_over, board_lapse_blame}
 use Rattle.monk_logs.specs.BoardStand.{board_line_over, board_release_blame, board_settle, course_by}
