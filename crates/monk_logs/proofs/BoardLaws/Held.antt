@@ -13,7 +13,8 @@ use Rattle.monk_logs.specs.Blame.{blame_of, half_blame}
 use Rattle.monk_logs.specs.Board.{Board, board_after, board_lapse, board_reason, sight}
 use Rattle.monk_logs.specs.BoardCourse.{BoardCourse, board_course, board_settled, board_told, board_via}
 use Rattle.monk_logs.specs.BoardStand.{IsHeldOver, board_add, board_behind_over, board_half_over, board_hold_over, board_lapse_blame}
-use Rattle.monk_logs.specs.BoardStand.{board_lapse_over, board_line_over, board_release_blame, board_release_over, board_signal_over, course_by}
+use Rattle.monk_logs.specs.BoardStand.{board_lapse_over, board_line_over, board_release_blame, board_release_over, board_signal_over}
+use Rattle.monk_logs.specs.BoardStand.{course_by}
 use Rattle.monk_logs.specs.Course.{due_from}
 use Rattle.monk_logs.specs.Items.{may_lapse}
 use Rattle.monk_logs.specs.declared.blame.Blame.{Blame}
