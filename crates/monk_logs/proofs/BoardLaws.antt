@@ -9,3 +9,5 @@ pub mod Choice
 pub mod Exact
 pub mod Standing
 pub mod Verdicts
+pub mod Held
+pub mod Lines

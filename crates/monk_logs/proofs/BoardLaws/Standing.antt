@@ -1,22 +1,19 @@
--- The judging over a board that tells what is to blame comes to the same as the one of `BoardCourse`; and what it leaves pending may be
--- called
-use Rattle.std.proofs.Common.{◌≡◌, ℕ, Bool, true, false, cond, Option, Some, None, refl, subst}
-use Rattle.std.proofs.lemmas.Bool.{eqb-true}
+-- The judging over a board that tells what is to blame leads to the same as the one of `BoardCourse`
+use Rattle.std.proofs.Common.{◌≡◌, ℕ, Bool, true, false, cond, Option, Some, None, refl}
 use Rattle.std.specs.Option.{option_map}
 use Rattle.std.specs.Prelude.{◌==◌, ◌&&◌, Result, Ok, Err}
 use Rattle.std.specs.Result.{result_ok}
 use Rattle.monk_history.specs.declared.event.Event.{Event}
 use Rattle.monk_history.specs.declared.event.Event.TheVariants as event
 use Rattle.monk_history.specs.declared.event.Next.TheVariants.{Stay}
-use Rattle.monk_history.specs.Meaning.Events.{next_of, returns_at_once}
+use Rattle.monk_history.specs.Meaning.Events.{returns_at_once}
 use Rattle.monk_history.specs.Meaning.Monitor.{Monitor}
 use Rattle.monk_history.specs.Meaning.Reasons.{is_open, reason_before}
-use Rattle.monk_history.specs.Meaning.Release.{MayCallIn}
 use Rattle.monk_logs.specs.Blame.{blame_of, half_blame}
-use Rattle.monk_logs.specs.Board.{Board, board_after, board_lapse, board_reason, board_step, sight}
-use Rattle.monk_logs.specs.BoardCourse.{BoardCourse, board_behind, board_course, board_half, board_hold, board_known, board_line}
+use Rattle.monk_logs.specs.Board.{Board, board_after, board_lapse, board_reason, sight}
+use Rattle.monk_logs.specs.BoardCourse.{board_behind, board_course, board_half, board_hold, board_known, board_line}
 use Rattle.monk_logs.specs.BoardCourse.{board_settled, board_then, board_told, board_via}
-use Rattle.monk_logs.specs.BoardStand.{IsHeldOver, board_behind_over, board_half_over, board_hold_over, board_lapse_blame}
+use Rattle.monk_logs.specs.BoardStand.{board_behind_over, board_half_over, board_hold_over, board_lapse_blame}
 use Rattle.monk_logs.specs.BoardStand.{board_line_over, board_release_blame, board_settle, course_by}
 use Rattle.monk_logs.specs.Course.{due_from}
 use Rattle.monk_logs.specs.Items.{may_lapse}
@@ -26,8 +23,7 @@ use Rattle.monk_logs.specs.declared.line.LogLine.TheVariants.{Enter, Resume, Lap
 use Rattle.monk_logs.specs.declared.order.Order.{Order}
 use Rattle.monk_logs.specs.declared.pending.Pending.{Pending}
 use Rattle.monk_logs.specs.declared.pending.Pending.TheVariants.{Settled, Half, Release}
-use Rattle.monk_logs.specs.declared.step.Step.TheVariants.{Did, Lapsed}
-use Rattle.monk_logs.proofs.CourseLaws.Tests.{called_from_tests}
+use Rattle.monk_logs.specs.declared.step.Step.TheVariants.{Did}
 
 -- ---- where a test decides
 

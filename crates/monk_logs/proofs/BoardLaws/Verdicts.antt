@@ -1,5 +1,5 @@
 -- The verdict that is found over a board is the verdict on the log in that order
-use Rattle.std.proofs.Common.{◌≡◌, ℕ, ◌+◌, Bool, true, List, [], ◌∷◌, ◌++◌, Option, Some, None, refl, sym, ap, ◌∙◌}
+use Rattle.std.proofs.Common.{◌≡◌, ℕ, ◌+◌, true, List, [], ◌∷◌, ◌++◌, Option, Some, None, refl, sym, ap, ◌∙◌}
 use Rattle.std.proofs.lemmas.Bool.{false≢true}
 use Rattle.std.specs.Prelude.{Result, Ok, Err, is_some}
 use Rattle.std.specs.Result.{result_ok}
@@ -16,7 +16,7 @@ use Rattle.monk_logs.specs.declared.line.LogLine.{LogLine}
 use Rattle.monk_logs.specs.declared.order.Order.{Order}
 use Rattle.monk_logs.specs.declared.verdict.LogVerdict.TheVariants.{Fits}
 use Rattle.monk_logs.proofs.BoardLaws.Exact.{judged_open, open_front, open_judged}
-use Rattle.monk_logs.proofs.BoardLaws.Lists.{judge-append, none_told}
+use Rattle.monk_logs.proofs.BoardLaws.Lists.{judge-append}
 use Rattle.monk_logs.proofs.BoardLaws.Standing.{over_same}
 use Rattle.monk_logs.proofs.VerdictLaws.Along.{Judges, verdict_holds}
 use Rattle.monk_logs.proofs.VerdictLaws.Exactly.{fits_exactly_by, misfits_exactly_by}

@@ -66,10 +66,10 @@ one_longer front l = length-append front (l ∷ [])
 pub record Judges {X : Type 0} (Open : List LogLine → Type 0) (lead : X → LogLine → Result X Blame)
     (At : List LogLine → X → Type 0) : Type 0
   where
-  pub opens : (front : List LogLine) (x : X) → At front x → Open front
-  pub leads : (front : List LogLine) (x : X) (l : LogLine) (y : X) → At front x → lead x l ≡ Ok y → At (front ++ l ∷ []) y
-  pub ends : (front : List LogLine) (x : X) (l : LogLine) (why : Blame) → At front x → lead x l ≡ Err why
-      → Open (front ++ l ∷ []) → ⊥
+    pub opens : (front : List LogLine) (x : X) → At front x → Open front
+    pub leads : (front : List LogLine) (x : X) (l : LogLine) (y : X) → At front x → lead x l ≡ Ok y → At (front ++ l ∷ []) y
+    pub ends : (front : List LogLine) (x : X) (l : LogLine) (why : Blame) → At front x → lead x l ≡ Err why
+        → Open (front ++ l ∷ []) → ⊥
 
 module _ {X : Type 0} (Open : List LogLine → Type 0) (lead : X → LogLine → Result X Blame) (At : List LogLine → X → Type 0)
     (judges : Judges Open lead At)

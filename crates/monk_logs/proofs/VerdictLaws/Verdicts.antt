@@ -1,7 +1,7 @@
 -- The verdict that is found by how the monitor stands is the verdict on the log
 use Rattle.std.proofs.Common.{◌≡◌, true, List, [], ◌∷◌, ◌++◌, Option, Some, None, refl, ap, subst, ◌∙◌}
 use Rattle.std.specs.Option.{option_map}
-use Rattle.std.specs.Prelude.{Result, Ok, Err, is_some}
+use Rattle.std.specs.Prelude.{Result, Ok, is_some}
 use Rattle.std.specs.Result.{result_ok}
 use Rattle.monk_kinds.specs.Kind.{IsKind}
 use Rattle.monk_history.specs.Meaning.Monitor.{Monitor}
