@@ -10,4 +10,5 @@ mod ItemLaws
 mod ShownLaws
 mod MoveLaws
 mod ToldLaws
+mod JudgeLaws
 mod FifoLaws

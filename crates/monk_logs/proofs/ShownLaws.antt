@@ -1,5 +1,5 @@
 -- The board that is kept shows what an event makes of it
-use Rattle.std.proofs.Common.{◌≡◌, ◌∙◌, ◌++◌, ℕ, Bool, true, false, cond, not, ◌&&◌, List, [], ◌∷◌, Option, Some, None, refl, sym, ap, subst}
+use Rattle.std.proofs.Common.{◌≡◌, ◌∙◌, ◌++◌, ℕ, Bool, true, false, cond, not, ◌&&◌, List, [], Some, refl, sym, ap, subst}
 use Rattle.std.specs.Prelude.{OnOk, Result, Ok, Err}
 use Rattle.std.proofs.lemmas.Bool.{true≢false}
 use Rattle.monk_object.specs.Object.{Object}
@@ -12,17 +12,12 @@ use Rattle.monk_history.specs.Meaning.Monitor.{Monitor}
 use Rattle.monk_history.specs.Meaning.Reasons.{is_in_place, is_in_range, is_in_turn, is_offered, may_enter, reason_before}
 use Rattle.monk_history.specs.Meaning.Signallers.{is_empty, signals}
 use Rattle.monk_history.specs.Meaning.Situation.{Situation}
-use Rattle.monk_history.specs.Meaning.Step.{opening_situation}
 use Rattle.monk_history.specs.Meaning.Untils.{ready_of}
-use Rattle.monk_audit.specs.Replay.{IsReplayOf, owned, passed_on, replay_situation}
-use Rattle.monk_logs.specs.Board as boards
-use Rattle.monk_logs.specs.Board.{board_lapse, chosen_out, given_by, opening_board, sight, waiting_item}
+use Rattle.monk_audit.specs.Replay.{IsReplayOf, replay_situation}
+use Rattle.monk_logs.specs.Board.{given_by, sight}
 use Rattle.monk_logs.specs.BoardCourse.{board_via}
-use Rattle.monk_logs.specs.BoardMoves.{board_moved, board_served, joined_by}
 use Rattle.monk_logs.specs.BoardShown.{IsBoardOf, board_over, board_shown}
-use Rattle.monk_logs.specs.Items.{lapsed, line, services, unserved_in}
-use Rattle.monk_logs.specs.Order.{apart}
-use Rattle.monk_logs.specs.Run.{taken_signaller}
+use Rattle.monk_logs.specs.Items.{line, services, unserved_in}
 use Rattle.monk_logs.specs.declared.board.Board.{Board}
 use Rattle.monk_logs.specs.declared.item.Item.{Item}
 

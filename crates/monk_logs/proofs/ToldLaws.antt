@@ -1,6 +1,6 @@
 -- The line behind a release, told on a board that has served
 use Rattle.std.proofs.Common.{◌≡◌, ◌∙◌, ℕ, zero, suc, Bool, cond, Some, refl, sym, ap, arith}
-use Rattle.std.specs.Prelude.{◌==◌, Result, Ok, Err}
+use Rattle.std.specs.Prelude.{◌==◌, Result, Err}
 use Rattle.std.proofs.Math.Dec.{eqb-suc-zero}
 use Rattle.monk_object.specs.Object.{Object}
 use Rattle.monk_history.specs.declared.event.Event.{Event}

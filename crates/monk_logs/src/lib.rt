@@ -4,6 +4,7 @@
 mod blame;
 mod board;
 mod board_choices;
+mod board_following;
 mod board_lines;
 mod board_steps;
 mod board_telling;
@@ -37,7 +38,7 @@ pub use completing::complete;
 pub use completion::Completion;
 pub use header::LogHeader;
 pub use item::Item;
-pub use judging::judge;
+pub use judging::{judge, judge_in};
 pub use line::LogLine;
 pub use order::Order;
 pub use pending::Pending;

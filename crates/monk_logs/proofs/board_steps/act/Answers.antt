@@ -1,4 +1,4 @@
-use Rattle.std.proofs.Common.{◌≡◌, ◌<◌, ◌∙◌, ℕ, [], false, refl, sym, ap, subst}
+use Rattle.std.proofs.Common.{◌<◌, ◌∙◌, ℕ, [], false, refl, sym, ap, subst}
 use Rattle.monk_history.specs.Meaning.Events.{seat_of}
 use Rattle.monk_logs.specs.Board.{Board, board_after, board_reason, sight}
 use Rattle.monk_logs.specs.BoardMoves.{board_moved}

@@ -1,7 +1,4 @@
 use Rattle.std.proofs.Common.{◌≡◌, ◌<◌, ◌∙◌, ℕ, true, cond, sym, ap, subst}
-use Rattle.std.proofs.lemmas.Result.{IfOk-weaker}
-use Rattle.std.specs.Prelude.{OnOk}
-use Rattle.monk_history.specs.declared.event.Event.{Event}
 use Rattle.monk_history.specs.declared.event.Next.{Next}
 use Rattle.monk_history.specs.Meaning.Events.{seat_of}
 use Rattle.monk_history.specs.Meaning.Reasons.{fits_object}
@@ -9,13 +6,10 @@ use Rattle.monk_history.specs.Meaning.Release.{with_next}
 use Rattle.monk_logs.specs.Board.{Board, board_after, board_reason, sight}
 use Rattle.monk_logs.specs.BoardCourse.{board_told}
 use Rattle.monk_logs.specs.BoardMoves.{blame_on, board_served, chances_on, told_on}
-use Rattle.monk_logs.specs.BoardShown.{IsBoardOf, board_shown}
+use Rattle.monk_logs.specs.BoardShown.{board_shown}
 use Rattle.monk_logs.specs.BoardStand.{board_line_over, board_release_blame}
 use Rattle.monk_logs.specs.Chances.{permits_by}
 use Rattle.monk_logs.specs.Stand.{monitor_in}
-use Rattle.monk_logs.specs.declared.blame.LineVerdict.{LineVerdict}
-use Rattle.monk_logs.specs.declared.blame.LineVerdict.TheVariants as verdict
-use Rattle.monk_logs.specs.declared.pending.Pending.{Pending}
 use Rattle.monk_logs.proofs.MoveLaws.{object_there, seat_there}
 use Rattle.monk_logs.proofs.StepLaws.{ok_same}
 use Rattle.monk_logs.proofs.ToldLaws.{told_found, told_goes, told_here, told_moved, told_stops}

@@ -1,4 +1,4 @@
-use Rattle.std.proofs.Common.{sym, arith}
+use Rattle.std.proofs.Common.{arith}
 use Rattle.monk_logs.specs.Items.{line, unserved_in}
 use Rattle.monk_logs.proofs.ItemLaws.{one_more}
 use Rattle.monk_logs.proofs.items_moves.serve_all.Goals as goal
