@@ -1,6 +1,7 @@
 //! A replay beside queues that are kept elsewhere: whose turn it is, who is inside, and who waits until a predicate holds.
 
-ghost use Rattle.std.specs.Prelude.{◌≡◌, ◌<◌, ◌++◌, ◌&&◌, ◌||◌, ℕ, List, [], All, OnOk, filter, length, not, slice_get, slice_index_or, false, true};
+ghost use Rattle.std.specs.Prelude.{◌≡◌, ◌<◌, ◌++◌, ◌&&◌, ◌||◌, ℕ, List, []};
+ghost use Rattle.std.specs.Prelude.{All, OnOk, filter, length, not, slice_get, slice_index_or, false, true};
 ghost use Rattle.monk_history.specs.Meaning.Events.{next_of, seat_of};
 ghost use Rattle.monk_history.specs.Meaning.Reasons.{fits_object};
 ghost use Rattle.monk_history.specs.Meaning.Turn as turns;

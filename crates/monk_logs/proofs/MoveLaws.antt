@@ -1,5 +1,6 @@
 -- An event that serves, and then takes out whom it chose, is what the definitions make of a board
-use Rattle.std.proofs.Common.{◌≡◌, ◌<◌, ◌∙◌, ◌++◌, ℕ, zero, suc, Bool, true, false, cond, not, ◌&&◌, List, [], ◌∷◌, Some, None, refl, sym, ap, arith}
+use Rattle.std.proofs.Common.{◌≡◌, ◌<◌, ◌∙◌, ◌++◌, ℕ, zero, suc, Bool, true, false, cond}
+use Rattle.std.proofs.Common.{not, ◌&&◌, List, [], ◌∷◌, Some, None, refl, sym, ap, arith}
 use Rattle.std.specs.Prelude.{◌==◌, Ok, Err, is_some, nat_lt}
 use Rattle.std.proofs.Math.Dec.{eqb-suc-zero}
 use Rattle.std.proofs.lemmas.List.{append-nil}
@@ -11,7 +12,8 @@ use Rattle.monk_history.specs.declared.event.Via.{Via}
 use Rattle.monk_history.specs.Meaning.Choice.{must_stay}
 use Rattle.monk_history.specs.Meaning.Events.{acted, entered, next_of, seat_of}
 use Rattle.monk_history.specs.Meaning.Monitor.{Monitor, data_after}
-use Rattle.monk_history.specs.Meaning.Reasons.{fits_object, is_in_place, is_in_range, is_in_turn, is_offered, is_right_reply, may_enter, reason_before}
+use Rattle.monk_history.specs.Meaning.Reasons.{fits_object, is_in_place, is_in_range, is_in_turn}
+use Rattle.monk_history.specs.Meaning.Reasons.{is_offered, is_right_reply, may_enter, reason_before}
 use Rattle.monk_history.specs.Meaning.Signallers.{is_empty, signals}
 use Rattle.monk_history.specs.Meaning.Situation.{Situation}
 use Rattle.monk_history.proofs.PublicLaws.Meaning.{and_left, and_right}
@@ -71,7 +73,7 @@ pub seat_there : (m : Monitor) (t : Situation) (e : Event) (late : ℕ) → reas
 unfolding four
 seat_there m t e late h =
     let ranged = first (is_in_range m.seats m.conds m.object.codes m.object.predicates e) (is_offered m.kind e) (is_in_turn t e)
-        (is_in_place m.object t e) late h in
+    (is_in_place m.object t e) late h in
     let seat : nat_lt (seat_of e) m.seats ≡ true = and_left _ _ (and_left _ _ (and_left _ _ (and_left _ _ ranged))) in
     grind (arith, seat)
 
@@ -80,10 +82,24 @@ seat_there m t e late h =
 entered_same : (o : Object) (b : Board) (s : ℕ) (via : _) → may_enter o (sight (board_served b (event.Enter s via))) via
     ≡ may_enter o (sight b) via
 entered_same o b s via =
-    ap (λ (l : List Item). may_enter o (sight (record { items = l; signallers = b.signallers ++ []; untils = b.untils; state = b.state;
-    turn = b.turn; inside = b.inside; begun = b.begun })) via) (append-nil b.items)
-    ∙ ap (λ (l : List ℕ). may_enter o (sight (record { items = b.items; signallers = l; untils = b.untils; state = b.state;
-    turn = b.turn; inside = b.inside; begun = b.begun })) via) (append-nil b.signallers)
+    ap (λ (l : List Item). may_enter o (sight (record {
+      items = l;
+      signallers = b.signallers ++ [];
+      untils = b.untils;
+      state = b.state;
+      turn = b.turn;
+      inside = b.inside;
+      begun = b.begun;
+    })) via) (append-nil b.items)
+    ∙ ap (λ (l : List ℕ). may_enter o (sight (record {
+      items = b.items;
+      signallers = l;
+      untils = b.untils;
+      state = b.state;
+      turn = b.turn;
+      inside = b.inside;
+      begun = b.begun;
+    })) via) (append-nil b.signallers)
 
 place_same : (o : Object) (b : Board) (e : Event) → is_in_place o (sight (board_served b e)) e ≡ is_in_place o (sight b) e
 place_same o b (event.Enter s via) = ap (λ (x : Bool). not (b.inside s) && x) (entered_same o b s via)

@@ -1,6 +1,6 @@
 //! What is to blame where a line can't stand behind a release, or behind a signal that is half told.
 
-ghost use Rattle.std.specs.Prelude.{◌≡◌, ◌==◌, ◌||◌, ◌&&◌, not, Some, None, [], is_some, true, if◌then◌else◌};
+ghost use Rattle.std.specs.Prelude.{◌≡◌, ◌==◌, ◌||◌, ◌&&◌, Some, None, [], is_some, true, if◌then◌else◌};
 ghost use Rattle.monk_history.specs.Meaning.Choice.{queues_at};
 ghost use Rattle.monk_history.specs.Meaning.Events.{awaited, next_of, returns_at_once, signals_on, steps_back, waits_on};
 ghost use Rattle.monk_history.specs.Meaning.Reasons.{fits_object, is_condition};
@@ -91,7 +91,10 @@ pub(crate) fn half_blame<T: Guarded>(
 fn waits(event: Event) -> bool
     ensures { result ≡ (is_some (waits_on event) || is_some (awaited event)) }
 {
-    matches!(event, Event::Wait(..) | Event::SignalWait(..) | Event::Until(..))
+    matches!(
+        event,
+        Event::Wait(..) | Event::SignalWait(..) | Event::Until(..)
+    )
 }
 
 /// Whether the caller may go on at once by the event, though it serves somebody.

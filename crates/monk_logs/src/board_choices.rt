@@ -82,9 +82,7 @@ fn may_signal<T: Guarded>(
     ensures { result ≡ may_signal_by rules (chances_on order T.meaning (board_shown board.now (T.state object.now))) seat next }
 {
     match next {
-        Next::Stay => {
-            may_go(order, &board.signallers, seat) && rules.waiter <= rules.signaller
-        }
+        Next::Stay => { may_go(order, &board.signallers, seat) && rules.waiter <= rules.signaller }
         _ => may_choose(order, rules, board, object, seat, next),
     }
 }

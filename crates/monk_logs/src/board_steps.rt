@@ -1,11 +1,9 @@
 //! One event, tried on a board.
 
-ghost use Rattle.std.specs.Prelude.{◌≡◌, ◌==◌, ℕ, Ok, Err, Some, None, [], true, IfOk, OnOk, is_some, if◌then◌else◌};
+ghost use Rattle.std.specs.Prelude.{◌≡◌, ◌==◌, Ok, Err, Some, None, [], true, IfOk, OnOk, is_some, if◌then◌else◌};
 ghost use Rattle.monk_history.specs.declared.event.Via.{Via};
-ghost use Rattle.monk_history.specs.Meaning.Choice as choice;
 ghost use Rattle.monk_history.specs.Meaning.Events.{acted, entered};
 ghost use Rattle.monk_history.specs.Meaning.Reasons.{fits_object};
-ghost use Rattle.monk_logs.specs.Board.{sight};
 ghost use Rattle.monk_logs.specs.BoardCourse.{board_via};
 ghost use Rattle.monk_logs.specs.BoardMoves as moves;
 ghost use Rattle.monk_logs.specs.BoardShown.{IsBoardOf, board_shown, course_or};

@@ -1,13 +1,11 @@
 //! The line behind a release, whose choice it tells, over a board.
 
-ghost use Rattle.std.specs.Prelude.{◌≡◌, ◌<◌, ℕ, List, Some, [], All, true, IfOk, OnOk};
-ghost use Rattle.monk_history.specs.Meaning.Choice as choice;
+ghost use Rattle.std.specs.Prelude.{◌≡◌, ◌<◌, ℕ, List, Some, [], All, true, IfOk};
 ghost use Rattle.monk_history.specs.Meaning.Events.{next_of};
 ghost use Rattle.monk_history.specs.Meaning.Reasons.{fits_object};
 ghost use Rattle.monk_history.specs.Meaning.Release.{MayCallIn};
-ghost use Rattle.monk_history.specs.Meaning.Untils.{ready_of};
 ghost use Rattle.monk_logs.specs.Blame as blames;
-ghost use Rattle.monk_logs.specs.Board.{sight, waiting_item};
+ghost use Rattle.monk_logs.specs.Board.{sight};
 ghost use Rattle.monk_logs.specs.BoardMoves as moves;
 ghost use Rattle.monk_logs.specs.BoardShown.{IsBoardOf, board_shown, course_or};
 ghost use Rattle.monk_logs.specs.BoardStand as stands;

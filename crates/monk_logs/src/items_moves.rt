@@ -5,7 +5,6 @@ ghost use Rattle.monk_logs.specs.Board.{chosen_out, given_by, waiting_item};
 ghost use Rattle.monk_logs.specs.Items as lines;
 ghost use Rattle.monk_logs.specs.Items.{line, taken_out, unserved_in};
 ghost use Rattle.monk_logs.specs.declared.item.Item.{Item};
-ghost use Rattle.monk_history.specs.Meaning.Events.{next_of};
 
 use crate::item::Item;
 use crate::items::unserved_at;

@@ -2,13 +2,13 @@
 #![tactic(auto)]
 
 mod blame;
+mod blaming;
 mod board;
 mod board_choices;
 mod board_following;
 mod board_lines;
 mod board_steps;
 mod board_telling;
-mod blaming;
 mod completing;
 mod completion;
 mod ending;

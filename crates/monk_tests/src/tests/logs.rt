@@ -136,30 +136,78 @@ const PAST_A_SIGNALLER: &[u8] =
 
 /// Logs whose last line misfits behind a release, under the kind, and what is to blame.
 static BLAMED: [(KindName, &[u8], Blame); 16] = [
-    (KindName::Npnb, b"log 1 2 1 buffer 1\nenter 0\nwait 0 0\nenter 2\n", Blame::Range),
-    (KindName::Npnb, b"log 1 2 1 buffer 1\nenter 0\nwait 0 0\nlapse 2\n", Blame::Range),
-    (KindName::Pb, b"log 1 2 1 buffer 1\nenter 0\nwait 0 0\nbroadcast 1 0\n", Blame::Call),
-    (KindName::Npnb, b"log 1 2 1 buffer 1\nenter 0\nwait 0 0\nleave 0\n", Blame::Turn),
-    (KindName::Npnb, b"log 1 2 1 buffer 1\nenter 0\nleave 0\nresume 0\n", Blame::Turn),
-    (KindName::Npnb, b"log 1 2 1 buffer 1\nenter 0\nsignal 0 0\nenter 1\n", Blame::Turn),
-    (KindName::Npnb, b"log 1 2 1 buffer 1\nenter 0\nleave 0\nlapse 1\n", Blame::Turn),
-    (KindName::Npnb, b"log 1 2 1 buffer 1\nenter 0\nwait 0 0\nenter 0\n", Blame::Place),
+    (
+        KindName::Npnb,
+        b"log 1 2 1 buffer 1\nenter 0\nwait 0 0\nenter 2\n",
+        Blame::Range,
+    ),
+    (
+        KindName::Npnb,
+        b"log 1 2 1 buffer 1\nenter 0\nwait 0 0\nlapse 2\n",
+        Blame::Range,
+    ),
+    (
+        KindName::Pb,
+        b"log 1 2 1 buffer 1\nenter 0\nwait 0 0\nbroadcast 1 0\n",
+        Blame::Call,
+    ),
+    (
+        KindName::Npnb,
+        b"log 1 2 1 buffer 1\nenter 0\nwait 0 0\nleave 0\n",
+        Blame::Turn,
+    ),
+    (
+        KindName::Npnb,
+        b"log 1 2 1 buffer 1\nenter 0\nleave 0\nresume 0\n",
+        Blame::Turn,
+    ),
+    (
+        KindName::Npnb,
+        b"log 1 2 1 buffer 1\nenter 0\nsignal 0 0\nenter 1\n",
+        Blame::Turn,
+    ),
+    (
+        KindName::Npnb,
+        b"log 1 2 1 buffer 1\nenter 0\nleave 0\nlapse 1\n",
+        Blame::Turn,
+    ),
+    (
+        KindName::Npnb,
+        b"log 1 2 1 buffer 1\nenter 0\nwait 0 0\nenter 0\n",
+        Blame::Place,
+    ),
     (
         KindName::Pb,
         b"log 1 2 1 buffer 1\nenter 0\nwait 0 0\nenter 1\nsignal 1 0\nact 1 1 0 7\n",
         Blame::Reply,
     ),
-    (KindName::Npnb, b"log 1 2 1 buffer 1\nenter 0\nwait 0 0\nresume 0\n", Blame::Unserved),
+    (
+        KindName::Npnb,
+        b"log 1 2 1 buffer 1\nenter 0\nwait 0 0\nresume 0\n",
+        Blame::Unserved,
+    ),
     (
         KindName::Npnb,
         b"log 1 2 1 buffer 1\nenter 0\nwait 0 0\nenter 1\nleave 1\nresume 0\n",
         Blame::Unserved,
     ),
-    (KindName::Npis, b"log 1 2 0 buffer 1\nenter 0\nuntil 0 1\nresume 0\n", Blame::Unserved),
-    (KindName::Npnb, b"log 1 2 1 buffer 1\nenter 0\nwait 0 0\nlapse 0\n", Blame::Served),
+    (
+        KindName::Npis,
+        b"log 1 2 0 buffer 1\nenter 0\nuntil 0 1\nresume 0\n",
+        Blame::Unserved,
+    ),
+    (
+        KindName::Npnb,
+        b"log 1 2 1 buffer 1\nenter 0\nwait 0 0\nlapse 0\n",
+        Blame::Served,
+    ),
     (KindName::Pqb, PAST_A_SIGNALLER, Blame::Order),
     (KindName::Pb, PAST_A_SIGNALLER, Blame::Choice),
-    (KindName::Pir, b"log 1 2 1 buffer 1\nenter 0\nsignal 0 0\nwait 0 1\n", Blame::Range),
+    (
+        KindName::Pir,
+        b"log 1 2 1 buffer 1\nenter 0\nsignal 0 0\nwait 0 1\n",
+        Blame::Range,
+    ),
 ];
 
 #[test]

@@ -4,7 +4,8 @@ use Rattle.monk_logs.specs.Board.{Board, board_after, board_reason, sight}
 use Rattle.monk_logs.specs.BoardMoves.{board_moved}
 use Rattle.monk_logs.specs.BoardShown.{board_shown}
 use Rattle.monk_logs.specs.Stand.{monitor_in}
-use Rattle.monk_logs.proofs.MoveLaws.{act_fits, act_found, added, code_room, early_found, moved_act, no_entrance, not_added, reply_found, seat_there}
+use Rattle.monk_logs.proofs.MoveLaws.{act_fits, act_found, added, code_room, early_found}
+use Rattle.monk_logs.proofs.MoveLaws.{moved_act, no_entrance, not_added, reply_found, seat_there}
 use Rattle.monk_logs.proofs.board_steps.act.Goals as goal
 
 pub call_reason-early-requires-clause-first : goal.call_reason-early-requires-clause-first

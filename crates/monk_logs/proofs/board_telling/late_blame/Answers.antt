@@ -10,20 +10,20 @@ use Rattle.monk_logs.proofs.MoveLaws.{last_left, place_next, reply_next, turn_fi
 use Rattle.monk_logs.proofs.board_telling.late_blame.Goals as goal
 use Rattle.monk_logs.proofs.board_telling.late_blame.Goals.{After-may_be_its_turn, After-is_in_place, After-replies}
 
-turn_is : (g : _) (c : After-may_be_its_turn g) → c.may_be_its_turn.result 
+turn_is : (g : _) (c : After-may_be_its_turn g) → c.may_be_its_turn.result
     ≡ may_be_its_turn c.args.stays (replay_situation c.args.board.now.rest []).inside c.args.event c.args.line
 turn_is g c =
     c.may_be_its_turn.ensures
     ∙ ap (λ (r : Replay). may_be_its_turn c.args.stays (replay_situation r []).inside c.args.event c.args.line)
     c.choice_blame.ensures.rest
 
-place_is : (g : _) (c : After-is_in_place g) → c.is_in_place.result 
+place_is : (g : _) (c : After-is_in_place g) → c.is_in_place.result
     ≡ is_line_in_place (replay_situation c.args.board.now.rest []).inside c.args.event c.args.line
 place_is g c =
     c.is_in_place.ensures
     ∙ ap (λ (r : Replay). is_line_in_place (replay_situation r []).inside c.args.event c.args.line) c.choice_blame.ensures.rest
 
-reply_is : (g : _) (c : After-replies g) → c.replies.result 
+reply_is : (g : _) (c : After-replies g) → c.replies.result
     ≡ is_right_reply g.T.Guarded.meaning (g.T.Guarded.state c.args.object.now)
     (line_event c.args.setting.rules.mode c.args.line)
 reply_is g c =
@@ -37,7 +37,8 @@ returns-then-not-may_be_its_turn g c =
     let place = is_line_in_place (replay_situation c.args.board.now.rest []).inside c.args.event c.args.line in
     let reply = is_right_reply g.T.Guarded.meaning (g.T.Guarded.state c.args.object.now)
     (line_event c.args.setting.rules.mode c.args.line) in
-    let last = choice_blame_on c.args.order g.T.Guarded.meaning (board_shown c.args.board.now (g.T.Guarded.state c.args.object.now)) c.args.event c.args.line in
+    let state = g.T.Guarded.state c.args.object.now in
+    let last = choice_blame_on c.args.order g.T.Guarded.meaning (board_shown c.args.board.now state) c.args.event c.args.line in
     turn_first turn place reply last (sym (turn_is g t) ∙ c.if-not-may_be_its_turn.true)
 
 pub returns-then-not-is_in_place : goal.returns-then-not-is_in_place
@@ -48,7 +49,8 @@ returns-then-not-is_in_place g c =
     let place = is_line_in_place (replay_situation c.args.board.now.rest []).inside c.args.event c.args.line in
     let reply = is_right_reply g.T.Guarded.meaning (g.T.Guarded.state c.args.object.now)
     (line_event c.args.setting.rules.mode c.args.line) in
-    let last = choice_blame_on c.args.order g.T.Guarded.meaning (board_shown c.args.board.now (g.T.Guarded.state c.args.object.now)) c.args.event c.args.line in
+    let state = g.T.Guarded.state c.args.object.now in
+    let last = choice_blame_on c.args.order g.T.Guarded.meaning (board_shown c.args.board.now state) c.args.event c.args.line in
     place_next turn place reply last (sym (turn_is g t) ∙ c.if-not-may_be_its_turn.false)
     (sym (place_is g p) ∙ c.if-not-is_in_place.true)
 
@@ -61,7 +63,8 @@ returns-then-not-replies g c =
     let place = is_line_in_place (replay_situation c.args.board.now.rest []).inside c.args.event c.args.line in
     let reply = is_right_reply g.T.Guarded.meaning (g.T.Guarded.state c.args.object.now)
     (line_event c.args.setting.rules.mode c.args.line) in
-    let last = choice_blame_on c.args.order g.T.Guarded.meaning (board_shown c.args.board.now (g.T.Guarded.state c.args.object.now)) c.args.event c.args.line in
+    let state = g.T.Guarded.state c.args.object.now in
+    let last = choice_blame_on c.args.order g.T.Guarded.meaning (board_shown c.args.board.now state) c.args.event c.args.line in
     reply_next turn place reply last (sym (turn_is g t) ∙ c.if-not-may_be_its_turn.false)
     (sym (place_is g p) ∙ c.if-not-is_in_place.false) (sym (reply_is g r) ∙ c.if-not-replies.true)
 
@@ -74,6 +77,7 @@ returns-else-not-replies g c =
     let place = is_line_in_place (replay_situation c.args.board.now.rest []).inside c.args.event c.args.line in
     let reply = is_right_reply g.T.Guarded.meaning (g.T.Guarded.state c.args.object.now)
     (line_event c.args.setting.rules.mode c.args.line) in
-    let last = choice_blame_on c.args.order g.T.Guarded.meaning (board_shown c.args.board.now (g.T.Guarded.state c.args.object.now)) c.args.event c.args.line in
+    let state = g.T.Guarded.state c.args.object.now in
+    let last = choice_blame_on c.args.order g.T.Guarded.meaning (board_shown c.args.board.now state) c.args.event c.args.line in
     last_left turn place reply c.in_ok-last.last last (sym (turn_is g t) ∙ c.if-not-may_be_its_turn.false)
     (sym (place_is g p) ∙ c.if-not-is_in_place.false) (sym (reply_is g r) ∙ c.if-not-replies.false) c.in_ok-last.ensures.blame

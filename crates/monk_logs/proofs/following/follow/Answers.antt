@@ -78,5 +78,6 @@ pub line_behind-requires-clause-held : goal.line_behind-requires-clause-held
 line_behind-requires-clause-held g c =
     let k = c.args.setting in
     let t = replay_situation c.loop-i.replay (g.T.Guarded.state c.loop-i.object) in
-    λ lives outlives. course_held k.rules k.seats k.conds g.T.Guarded.meaning (g.T.Guarded.state c.args.object) (take c.loop-i.i c.args.lines.now) t
+    λ lives outlives. course_held k.rules k.seats k.conds g.T.Guarded.meaning (g.T.Guarded.state c.args.object)
+    (take c.loop-i.i c.args.lines.now) t
     c.loop-i.pending (is_some (kept c.args.past.now)) (kept c.loop-i.past) c.loop-i.invariant.course

@@ -18,7 +18,8 @@ returns-clause-moved c =
     (apart (taken_signaller (next_of c.args.event) (joined_by c.args.stays c.args.event)) c.args.self.now.signallers.items)
     (replay_situation c.pass_on.new.self state) (passed_on (replay_situation c.args.self.now.rest state) c.args.event)
     (c.in_ok-join.ensures
-    ∙ ap (λ l. l ++ waiting_item c.args.event) (c.take_chosen.ensures ∙ ap (λ x. chosen_out x c.args.self.now.items.items) c.choice.ensures))
+    ∙ ap (λ l. l ++ waiting_item c.args.event)
+    (c.take_chosen.ensures ∙ ap (λ x. chosen_out x c.args.self.now.items.items) c.choice.ensures))
     c.take_chosen-2.ensures (passed state))
     c.pass_on.ensures.passed
 
