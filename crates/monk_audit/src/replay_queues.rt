@@ -15,7 +15,7 @@ use monk_history::Event;
 use monk_object::Guarded;
 
 /// Whether the seat waits until a predicate that holds.
-fn is_ready<T: Guarded>(object: &T, untils: &[(u8, u8)], seat: u8) -> bool
+pub(crate) fn is_ready<T: Guarded>(object: &T, untils: &[(u8, u8)], seat: u8) -> bool
     requires { All (λ w. w.1 < T.PREDICATES) untils.now }
     ensures { result ≡ has seat (ready_of T.meaning (T.state object.now) untils.now) }
 {

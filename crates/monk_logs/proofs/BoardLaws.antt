@@ -7,3 +7,7 @@ pub mod Orderly
 pub mod Chooses
 pub mod Choice
 pub mod Exact
+pub mod Standing
+pub mod Verdicts
+pub mod Held
+pub mod Lines

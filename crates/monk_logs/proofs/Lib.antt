@@ -6,4 +6,9 @@ mod CompletionLaws
 mod StepLaws
 mod OrderLaws
 mod BoardLaws
+mod ItemLaws
+mod ShownLaws
+mod MoveLaws
+mod ToldLaws
+mod JudgeLaws
 mod FifoLaws

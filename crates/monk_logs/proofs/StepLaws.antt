@@ -90,7 +90,7 @@ told_fits m t u e told l is led h =
     ∙ ap (λ (x : Event). cond (is_lapse l) (Err (release_blame m t e l)) (line_then m (release_blame m t e l) (add_to m t x) l)) is
 
 -- a release is no act, whatever it chooses
-no_act : (x : Next) (e : Event) → next_of e ≡ Some Stay → acted (with_next x e) ≡ None
+pub no_act : (x : Next) (e : Event) → next_of e ≡ Some Stay → acted (with_next x e) ≡ None
 no_act x (event.Enter s via) h = absurd cc
 no_act x (event.Act s op r) h = absurd cc
 no_act x (event.Leave s y) h = refl

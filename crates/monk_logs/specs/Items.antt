@@ -1,6 +1,6 @@
 -- What is to be known of the conditions where nobody tells whom a signal served: in order of time, who came to wait and what
 -- signals gave. A seat that goes on takes its own coming and one service with it
-use Rattle.std.specs.Prelude.{ℕ, zero, suc, ◌==◌, Bool, true, false, not, List, [], ◌∷◌, take, drop, filter, Option, Some, None}
+use Rattle.std.specs.Prelude.{ℕ, zero, suc, ◌-◌, ◌==◌, Bool, true, false, not, List, [], ◌∷◌, take, drop, filter, Option, Some, None}
 use Rattle.std.specs.Prelude.{if◌then◌else◌}
 use Rattle.std.specs.Option.{option_map_or}
 use Rattle.monk_logs.specs.Order.{is_among}
@@ -54,6 +54,11 @@ abbrev pub can_be_served : Order → ℕ → List (Option ℕ) → Bool
 can_be_served Fifo j l = is_among j (take (services_in l) (seats_in l))
 can_be_served Wake j l = is_among j (take (services_in l) (seats_in l))
 can_be_served Any j l = has_service_behind j l
+
+-- whether seat j is one of the first n, told one by one: it stands in `take n`
+abbrev pub is_among_first : ℕ → ℕ → List ℕ → Bool
+is_among_first j n [] = false
+is_among_first j n (x ∷ xs) = if n == 0 then false else if x == j then true else is_among_first j (n - 1) xs
 
 -- ---- all conditions
 

@@ -3,7 +3,9 @@ pub mod Erasure
 pub mod Fits
 pub mod Course
 pub mod Blame
+pub mod Along
 pub mod Stand
+pub mod Exactly
 pub mod Verdict
 pub mod Kept
 pub mod Told
@@ -15,4 +17,8 @@ pub mod Run
 pub mod Items
 pub mod Board
 pub mod FitsIn
+pub mod VerdictIn
 pub mod BoardCourse
+pub mod BoardStand
+pub mod BoardShown
+pub mod BoardMoves

@@ -1,6 +1,6 @@
 -- The same judging as a function of how the monitor stands, so that no event needs to be kept. That it comes to the same is the
 -- lemma `line_same` of proofs/VerdictLaws/Standing
-use Rattle.std.specs.Prelude.{◌≡◌, ℕ, ◌+◌, ◌==◌, List, [], ◌∷◌, Some, Result, Ok, Err, if◌then◌else◌}
+use Rattle.std.specs.Prelude.{◌≡◌, ℕ, ◌==◌, List, [], Some, Result, Ok, Err, if◌then◌else◌}
 use Rattle.monk_object.specs.Object.{Object}
 use Rattle.monk_history.specs.declared.event.Event.{Event}
 use Rattle.monk_history.specs.declared.event.Event.TheVariants as event
@@ -13,6 +13,7 @@ use Rattle.monk_history.specs.Meaning.Reasons.{reason_before, reason_in}
 use Rattle.monk_history.specs.Meaning.Release.{MayCallIn}
 use Rattle.monk_history.specs.Meaning.Situation.{Situation}
 use Rattle.monk_history.specs.Meaning.Step.{after, opening_situation}
+use Rattle.monk_logs.specs.Along.{verdict_along}
 use Rattle.monk_logs.specs.Blame.{blame_of, half_blame, is_lapse, lapse_blame, release_blame}
 use Rattle.monk_logs.specs.Course.{due_from, told_release}
 use Rattle.monk_logs.specs.declared.line.LogLine.{LogLine}
@@ -24,7 +25,6 @@ use Rattle.monk_logs.specs.declared.blame.LineVerdict.{LineVerdict}
 use Rattle.monk_logs.specs.declared.blame.LineVerdict.TheVariants as verdict
 use Rattle.monk_logs.specs.declared.setting.Setting.{Setting}
 use Rattle.monk_logs.specs.declared.verdict.LogVerdict.{LogVerdict}
-use Rattle.monk_logs.specs.declared.verdict.LogVerdict.TheVariants.{Fits, Misfit}
 
 -- how the monitor stands behind the events that are known, and what is still to be known
 pub record Stand : Type 0 where
@@ -124,11 +124,12 @@ IsHeld m t (Release e) = MayCallIn m t e × (next_of e ≡ Some next.Stay)
 
 -- ---- a log
 
+abbrev pub line_over : Monitor → Stand → LogLine → Result Stand Blame
+line_over m s l = line_behind m s.now s.pending l
+
 -- the verdict on the lines to come, behind so many that fit and led there
-unfoldable pub verdict_from : Monitor → ℕ → Result Stand Blame → List LogLine → LogVerdict
-verdict_from m n (Err why) log = Misfit n why
-verdict_from m n (Ok s) [] = Fits
-verdict_from m n (Ok s) (l ∷ log) = verdict_from m (n + 1) (line_behind m s.now s.pending l) log
+abbrev pub verdict_from : Monitor → ℕ → Result Stand Blame → List LogLine → LogVerdict
+verdict_from m n s log = verdict_along (line_over m) n s log
 
 abbrev pub opening_stand : Monitor → Stand
 opening_stand m = stand_settled (opening_situation m)

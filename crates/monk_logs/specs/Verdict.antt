@@ -1,37 +1,30 @@
 -- What the verdict on a log says
-use Rattle.std.specs.Prelude.{◌≡◌, ◌↔◌, ℕ, ◌-◌, List, Option, Some, None, take}
+use Rattle.std.specs.Prelude.{ℕ, List}
 use Rattle.monk_kinds.specs.declared.name.KindName.{KindName}
 use Rattle.monk_kinds.specs.Names.{rules_named}
 use Rattle.monk_object.specs.Names.{meaning_named, opening_named}
 use Rattle.monk_history.specs.Meaning.Monitor.{Monitor, monitor}
+use Rattle.monk_logs.specs.Exactly.{FitsExactlyBy, IsFirstWithout, IsVerdictBy, MisfitsExactlyBy}
 use Rattle.monk_logs.specs.Fits.{IsOpen}
 use Rattle.monk_logs.specs.Log.{LogHeading}
 use Rattle.monk_logs.specs.declared.line.LogLine.{LogLine}
 use Rattle.monk_logs.specs.declared.verdict.LogVerdict.{LogVerdict}
-use Rattle.monk_logs.specs.declared.verdict.LogVerdict.TheVariants.{Fits, Misfit}
 
 -- the monitor of that kind that the first line names
 abbrev pub log_monitor : KindName → LogHeading → Monitor
 log_monitor kind h = monitor (rules_named kind) h.seats h.conds (meaning_named h.object) (opening_named h.object h.size)
 
 -- line n, counted from 1, is the first with which no legal history begins
-pub record IsMisfit (m : Monitor) (log : List LogLine) (n : ℕ) : Type 0 where
-  pub open_before : IsOpen m (take (n - 1) log)
-  pub not_open : IsOpen m (take n log) → ⊥
+abbrev pub IsMisfit : Monitor → List LogLine → ℕ → Type 0
+IsMisfit m log n = IsFirstWithout (IsOpen m) log n
 
 abbrev pub IsVerdictOn : Monitor → List LogLine → LogVerdict → Type 0
-IsVerdictOn m log Fits = IsOpen m log
-IsVerdictOn m log (Misfit n why) = IsMisfit m log n
+IsVerdictOn m log v = IsVerdictBy (IsOpen m) log v
 
 -- the verdict is Fits exactly where some legal history begins with the log
 abbrev pub FitsExactly : Monitor → List LogLine → LogVerdict → Type 0
-FitsExactly m log v = (v ≡ Fits) ↔ IsOpen m log
-
--- at which line it misfits
-abbrev pub misfit_at : LogVerdict → Option ℕ
-misfit_at Fits = None
-misfit_at (Misfit n why) = Some n
+FitsExactly m log v = FitsExactlyBy (IsOpen m) log v
 
 -- it misfits exactly at the first line with which none begins
 abbrev pub MisfitsExactly : Monitor → List LogLine → LogVerdict → Type 0
-MisfitsExactly m log v = (n : ℕ) → (misfit_at v ≡ Some n) ↔ IsMisfit m log n
+MisfitsExactly m log v = MisfitsExactlyBy (IsOpen m) log v

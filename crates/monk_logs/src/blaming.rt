@@ -27,7 +27,7 @@ pub(crate) fn is_lapse(line: LogLine) -> bool
 }
 
 /// What the line does, whatever is chosen and however a seat came in.
-fn line_event(mode: Mode, line: LogLine) -> Event
+pub(crate) fn line_event(mode: Mode, line: LogLine) -> Event
     ensures { result ≡ blames.line_event mode line }
 {
     match line {
@@ -54,7 +54,7 @@ fn signal_event(mode: Mode, seat: u8, cond: u8) -> Event
 }
 
 /// The first of the tests of range and of the call that the event fails.
-fn early_blame<T: Guarded>(
+pub(crate) fn early_blame<T: Guarded>(
     setting: Setting,
     replay: &Replay,
     object: &T,
@@ -132,7 +132,7 @@ fn is_inside(replay: &Replay, seat: u8) -> bool
 }
 
 /// Whether it may be the turn of the line's seat.
-fn may_be_its_turn(stays: bool, replay: &Replay, event: Event, line: LogLine) -> bool
+pub(crate) fn may_be_its_turn(stays: bool, replay: &Replay, event: Event, line: LogLine) -> bool
     ensures { result ≡ blames.may_be_its_turn stays (replay_situation replay.now []).inside event line }
 {
     match line {
@@ -160,7 +160,7 @@ fn is_exit_of(seat: u8, event: Event) -> bool
 }
 
 /// Whether the line brings nobody in who is inside.
-fn is_in_place(replay: &Replay, event: Event, line: LogLine) -> bool
+pub(crate) fn is_in_place(replay: &Replay, event: Event, line: LogLine) -> bool
     ensures { result ≡ blames.is_line_in_place (replay_situation replay.now []).inside event line }
 {
     match line {

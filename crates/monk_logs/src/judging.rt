@@ -1,14 +1,18 @@
-//! Whether a log could be of a monitor.
+//! Whether a log could be of a monitor, with queues in order of arrival or in another.
 
 ghost use Rattle.std.specs.Prelude.{◌≡◌, ◌≤◌, ◌<◌, IfOk, OnOk, IsErrOf, length};
 ghost use Rattle.monk_object.specs.Names.{most};
 ghost use Rattle.monk_history.specs.Limits.{most_lines};
 ghost use Rattle.monk_logs.specs.Stand.{verdict_on};
+ghost use Rattle.monk_logs.specs.Order.{IsLoose};
 ghost use Rattle.monk_logs.specs.Verdict.{FitsExactly, MisfitsExactly, log_monitor};
+ghost use Rattle.monk_logs.specs.VerdictIn.{FitsExactlyIn, MisfitsExactlyIn, verdict_in};
 
+use crate::board_following::follow_board;
 use crate::following::follow_log;
 use crate::header::LogHeader;
 use crate::line::LogLine;
+use crate::order::Order;
 use crate::past::Past;
 use crate::verdict::LogVerdict;
 use monk_audit::AuditFault;
@@ -46,4 +50,44 @@ pub fn judge(
     ensures too_big { most header.now.object < header.now.size → IsErrOf result AuditFault.Object }
 {
     follow_log(alloc, header, lines, kind, &mut Past::Dropped)
+}
+
+/// Tells the same where queues are served in that order: whether some run begins with what the log tells, and else which line is the
+/// first with which none does. Under [`Order::Wake`] any seat of a queue may be chosen, and under [`Order::Any`] a signal may serve
+/// any seat of its condition as well; the priorities of the kind hold in each. A wait may run out, where the log tells it. Under
+/// [`Order::Fifo`] it is [`judge`], to which no history tells that a wait ran out.
+///
+/// # Errors
+///
+/// [`AuditFault::Object`] exactly where the size is above the object's greatest. [`AuditFault::Memory`] where a growth
+/// was refused.
+///
+/// # Cost
+///
+/// One pass. A line takes time by how many seats wait on conditions and how many signals served there. Memory for them, the queues
+/// and the object alone.
+pub fn judge_in(
+    alloc: Global,
+    header: &LogHeader,
+    lines: &[LogLine],
+    kind: KindName,
+    order: Order,
+) -> Result<LogVerdict, AuditFault>
+    requires { length lines.now ≤ most_lines }
+    // It fits exactly where some run begins with the log.
+    ensures fits { IfOk result (λ v. IsLoose order → FitsExactlyIn order (log_monitor kind header.now) lines.now v) }
+    // It misfits exactly at the first line with which none begins.
+    ensures misfit { IfOk result (λ v. IsLoose order → MisfitsExactlyIn order (log_monitor kind header.now) lines.now v) }
+    // What is to blame, and all else, is as it is found line by line.
+    ensures verdict { IfOk result (λ v. v ≡ verdict_in order (log_monitor kind header.now) lines.now) }
+    // The size is refused exactly where it is above the object's greatest.
+    ensures made { OnOk result (header.now.size ≤ most header.now.object) }
+    ensures object { IsErrOf result AuditFault.Object → most header.now.object < header.now.size }
+    ensures too_big { most header.now.object < header.now.size → IsErrOf result AuditFault.Object }
+{
+    match order {
+        Order::Fifo => judge(alloc, header, lines, kind),
+        Order::Wake => follow_board(alloc, header, lines, kind, Order::Wake),
+        Order::Any => follow_board(alloc, header, lines, kind, Order::Any),
+    }
 }

@@ -10,13 +10,16 @@ ghost use Rattle.monk_logs.specs.Course.{judge};
 ghost use Rattle.monk_logs.specs.Fits.{IsOpen};
 ghost use Rattle.monk_logs.specs.Board.{board_steps, opening_board};
 ghost use Rattle.monk_logs.specs.BoardCourse.{board_judge};
+ghost use Rattle.monk_logs.specs.BoardStand.{board_verdict};
 ghost use Rattle.monk_logs.specs.FitsIn.{IsOpenIn, has_lapse};
 ghost use Rattle.monk_logs.specs.Order.{IsLoose};
 ghost use Rattle.monk_logs.specs.Run.{IsRun};
+ghost use Rattle.monk_logs.specs.VerdictIn.{FitsExactlyIn, MisfitsExactlyIn};
 ghost use Rattle.monk_logs.specs.declared.order.Order.{Order};
 ghost use Rattle.monk_logs.specs.declared.order.Order.TheVariants.{Fifo, Wake, Any};
 ghost use Rattle.monk_logs.specs.declared.step.Step.{Step};
 ghost use Rattle.monk_logs.specs.declared.step.Step.TheVariants.{Did};
+ghost use Rattle.monk_logs.specs.declared.verdict.LogVerdict.TheVariants.{Fits};
 
 /// No search is needed to tell whether a log could be of a monitor of a kind, in the order of its queues: judged line by line,
 /// it comes to its end exactly where some legal history begins with what the log tells. So the first line with which it
@@ -48,6 +51,18 @@ pub fn orders_widen()
 pub fn orders_are_exact()
     ensures { (o : Order) → IsLoose o → (m : Monitor) → (log : List LogLine)
         → IsTrue (is_some (board_judge o m log)) ↔ IsOpenIn o m log }
+{}
+
+/// So is the verdict that is found over a board, line by line, with what is to blame (`board_verdict`): in every order it fits
+/// exactly where the log is judged to its end. Under `Wake` and under `Any` it fits exactly where some run begins with what the log
+/// tells, and misfits exactly at the first line with which none begins.
+pub fn board_verdicts_are_exact()
+    ensures judged { (o : Order) → (m : Monitor) → (log : List LogLine)
+        → (board_verdict o m log ≡ Fits) ↔ IsTrue (is_some (board_judge o m log)) }
+    ensures fits { (o : Order) → IsLoose o → (m : Monitor) → (log : List LogLine)
+        → FitsExactlyIn o m log (board_verdict o m log) }
+    ensures misfit { (o : Order) → IsLoose o → (m : Monitor) → (log : List LogLine)
+        → MisfitsExactlyIn o m log (board_verdict o m log) }
 {}
 
 /// In order of arrival, and where no wait runs out, a monitor may do what its rules allow, and no more: the runs of events are the

@@ -26,7 +26,7 @@ use monk_object::Guarded;
 use std::alloc::AllocError;
 
 /// What stands for no test that an event fails.
-const ALLOWED: u8 = 0;
+pub(crate) const ALLOWED: u8 = 0;
 
 /// Adds the event if it is allowed. Gives the first test that it fails, or 0; where it fails one, neither the replay nor what is
 /// kept is of further use.
@@ -101,7 +101,7 @@ fn release<T: Guarded>(setting: Setting, replay: &Replay, object: &T, event: Eve
 }
 
 /// From which queue the turn is due.
-fn due_from(turn: Turn) -> From3
+pub(crate) fn due_from(turn: Turn) -> From3
     ensures { result ≡ course.due_from turn }
 {
     match turn {
@@ -111,7 +111,7 @@ fn due_from(turn: Turn) -> From3
 }
 
 /// How a task comes in now. It matters only whether it is the first.
-fn via_now(replay: &Replay) -> Via
+pub(crate) fn via_now(replay: &Replay) -> Via
     ensures { (state : List ℕ) → result ≡ stands.via_now (replay_situation replay.now state) }
 {
     if replay.begun() {

@@ -13,6 +13,7 @@ mod kinds;
 mod logs;
 mod meeting;
 mod objects;
+mod orders;
 mod play_texts;
 mod refused;
 mod samples;

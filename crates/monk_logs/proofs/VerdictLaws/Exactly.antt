@@ -1,24 +1,14 @@
--- What a verdict says of a log
-use Rattle.std.proofs.Common.{◌≡◌, ℕ, zero, suc, ◌<◌, ◌≤◌, ◌-◌, List, take, drop, Some, refl, sym, ap, subst, arith}
+-- What a verdict says of a log, where what is open is open up to each of its lines
+use Rattle.std.proofs.Common.{◌≡◌, ℕ, zero, suc, ◌<◌, ◌≤◌, ◌-◌, List, take, drop, ◌++◌, Some, refl, sym, ap, subst, arith}
 use Rattle.std.proofs.lemmas.List.{take-append-drop, take-take}
 use Rattle.monk_history.specs.Meaning.Monitor.{Monitor}
+use Rattle.monk_logs.specs.Exactly.{IsFirstWithout, IsVerdictBy, FitsExactlyBy, MisfitsExactlyBy, misfit_at}
 use Rattle.monk_logs.specs.Fits.{IsOpen}
-use Rattle.monk_logs.specs.Verdict.{IsMisfit, IsVerdictOn, FitsExactly, MisfitsExactly, misfit_at}
+use Rattle.monk_logs.specs.Verdict.{IsVerdictOn, FitsExactly, MisfitsExactly}
 use Rattle.monk_logs.specs.declared.line.LogLine.{LogLine}
 use Rattle.monk_logs.specs.declared.verdict.LogVerdict.{LogVerdict}
 use Rattle.monk_logs.specs.declared.verdict.LogVerdict.TheVariants.{Fits, Misfit}
 use Rattle.monk_logs.proofs.CourseLaws.Soundness.{open_front}
-
-open_take : (m : Monitor) (log : List LogLine) (n : ℕ) → IsOpen m log → IsOpen m (take n log)
-open_take m log n o =
-    open_front m (take n log) (drop n log) (subst (λ (x : List LogLine). IsOpen m x) (sym (take-append-drop n log)) o)
-
-open_less : (m : Monitor) (log : List LogLine) (k n : ℕ) → k ≤ n → IsOpen m (take n log) → IsOpen m (take k log)
-open_less m log k n l o =
-    subst (λ (x : List LogLine). IsOpen m x) (take-take k n log l) (open_take m (take n log) k o)
-
-not_before : (m : Monitor) (log : List LogLine) (k n : ℕ) → IsMisfit m log k → IsMisfit m log n → k < n → ⊥
-not_before m log k n f g l = f.not_open (open_less m log k (n - 1) (omega arith) g.open_before)
 
 same_number : (k n : ℕ) → (k < n → ⊥) → (n < k → ⊥) → k ≡ n
 same_number zero zero f g = refl
@@ -26,27 +16,44 @@ same_number zero (suc n) f g = absurd (f (omega arith))
 same_number (suc k) zero f g = absurd (g (omega arith))
 same_number (suc k) (suc n) f g = ap suc (same_number k n (λ l. f (omega (arith, l))) (λ l. g (omega (arith, l))))
 
-fits_open : (m : Monitor) (log : List LogLine) (v : LogVerdict) → IsVerdictOn m log v → v ≡ Fits → IsOpen m log
-fits_open m log Fits w is = w
-fits_open m log (Misfit n why) w is = absurd cc
+module _ (Open : List LogLine → Type 0) (front : (log more : List LogLine) → Open (log ++ more) → Open log) where
+  open_take : (log : List LogLine) (n : ℕ) → Open log → Open (take n log)
+  open_take log n o = front (take n log) (drop n log) (subst Open (sym (take-append-drop n log)) o)
 
-open_fits : (m : Monitor) (log : List LogLine) (v : LogVerdict) → IsVerdictOn m log v → IsOpen m log → v ≡ Fits
-open_fits m log Fits w o = refl
-open_fits m log (Misfit n why) w o = absurd (w.not_open (open_take m log n o))
+  open_less : (log : List LogLine) (k n : ℕ) → k ≤ n → Open (take n log) → Open (take k log)
+  open_less log k n l o = subst Open (take-take k n log l) (open_take (take n log) k o)
 
+  not_before : (log : List LogLine) (k n : ℕ) → IsFirstWithout Open log k → IsFirstWithout Open log n → k < n → ⊥
+  not_before log k n f g l = f.not_open (open_less log k (n - 1) (omega arith) g.open_before)
+
+  fits_open : (log : List LogLine) (v : LogVerdict) → IsVerdictBy Open log v → v ≡ Fits → Open log
+  fits_open log Fits w is = w
+  fits_open log (Misfit n why) w is = absurd cc
+
+  open_fits : (log : List LogLine) (v : LogVerdict) → IsVerdictBy Open log v → Open log → v ≡ Fits
+  open_fits log Fits w o = refl
+  open_fits log (Misfit n why) w o = absurd (w.not_open (open_take log n o))
+
+  pub fits_exactly_by : (log : List LogLine) (v : LogVerdict) → IsVerdictBy Open log v → FitsExactlyBy Open log v
+  fits_exactly_by log v w = (fits_open log v w, open_fits log v w)
+
+  misfit_is : (log : List LogLine) (v : LogVerdict) (n : ℕ) → IsVerdictBy Open log v → misfit_at v ≡ Some n
+      → IsFirstWithout Open log n
+  misfit_is log Fits n w is = absurd cc
+  misfit_is log (Misfit k why) n w is = let same : k ≡ n = cc in subst (IsFirstWithout Open log) same w
+
+  is_misfit : (log : List LogLine) (v : LogVerdict) (n : ℕ) → IsVerdictBy Open log v → IsFirstWithout Open log n
+      → misfit_at v ≡ Some n
+  is_misfit log Fits n w f = absurd (f.not_open (open_take log n w))
+  is_misfit log (Misfit k why) n w f =
+      ap (λ (x : ℕ). Some x) (same_number k n (not_before log k n w f) (not_before log n k f w))
+
+  pub misfits_exactly_by : (log : List LogLine) (v : LogVerdict) → IsVerdictBy Open log v → MisfitsExactlyBy Open log v
+  misfits_exactly_by log v w n = (misfit_is log v n w, is_misfit log v n w)
+
+-- where legal histories begin with what is open
 pub fits_exactly : (m : Monitor) (log : List LogLine) (v : LogVerdict) → IsVerdictOn m log v → FitsExactly m log v
-fits_exactly m log v w = (fits_open m log v w, open_fits m log v w)
-
-misfit_is : (m : Monitor) (log : List LogLine) (v : LogVerdict) (n : ℕ) → IsVerdictOn m log v → misfit_at v ≡ Some n
-    → IsMisfit m log n
-misfit_is m log Fits n w is = absurd cc
-misfit_is m log (Misfit k why) n w is = let same : k ≡ n = cc in subst (IsMisfit m log) same w
-
-is_misfit : (m : Monitor) (log : List LogLine) (v : LogVerdict) (n : ℕ) → IsVerdictOn m log v → IsMisfit m log n
-    → misfit_at v ≡ Some n
-is_misfit m log Fits n w f = absurd (f.not_open (open_take m log n w))
-is_misfit m log (Misfit k why) n w f =
-    ap (λ (x : ℕ). Some x) (same_number k n (not_before m log k n w f) (not_before m log n k f w))
+fits_exactly m log v w = fits_exactly_by (IsOpen m) (open_front m) log v w
 
 pub misfits_exactly : (m : Monitor) (log : List LogLine) (v : LogVerdict) → IsVerdictOn m log v → MisfitsExactly m log v
-misfits_exactly m log v w n = (misfit_is m log v n w, is_misfit m log v n w)
+misfits_exactly m log v w = misfits_exactly_by (IsOpen m) (open_front m) log v w

@@ -1,13 +1,12 @@
 -- What is found of the lines to come, one line after the other
-use Rattle.std.proofs.Common.{◌≡◌, ℕ, ◌+◌, ◌<◌, ◌≤◌, List, [], ◌∷◌, length, get_or, drop, refl, sym, ap, ◌∙◌}
-use Rattle.std.proofs.lemmas.List.{at_drop_all, at_drop_more}
-use Rattle.std.specs.Prelude.{Result, Ok, Err}
+use Rattle.std.proofs.Common.{◌≡◌, ℕ, ◌+◌, ◌<◌, ◌≤◌, List, [], length, get_or, drop, sym, ap, ◌∙◌}
+use Rattle.std.specs.Prelude.{Ok}
 use Rattle.monk_kinds.specs.declared.mode.Rules.{Rules}
 use Rattle.monk_object.specs.Object.{Object}
 use Rattle.monk_history.specs.Meaning.Monitor.{Monitor, monitor}
 use Rattle.monk_history.specs.Meaning.Situation.{Situation}
 use Rattle.monk_history.specs.Meaning.Step.{opening_situation}
-use Rattle.monk_logs.specs.Stand.{Stand, stand, stand_or, stand_settled, line_behind, verdict_from, verdict_on}
+use Rattle.monk_logs.specs.Stand.{Stand, stand, stand_or, stand_settled, line_behind, line_over, verdict_from, verdict_on}
 use Rattle.monk_logs.specs.declared.blame.Blame.{Blame}
 use Rattle.monk_logs.specs.declared.blame.LineVerdict.{LineVerdict}
 use Rattle.monk_logs.specs.declared.blame.LineVerdict.TheVariants as line
@@ -15,6 +14,7 @@ use Rattle.monk_logs.specs.declared.line.LogLine.{LogLine}
 use Rattle.monk_logs.specs.declared.pending.Pending.{Pending}
 use Rattle.monk_logs.specs.declared.verdict.LogVerdict.{LogVerdict}
 use Rattle.monk_logs.specs.declared.verdict.LogVerdict.TheVariants.{Fits, Misfit}
+use Rattle.monk_logs.proofs.VerdictLaws.Along.{along_fits, along_misfits, along_more}
 use Rattle.monk_logs.proofs.VerdictLaws.Opening.{opening_apart}
 
 pub opens : (k : Rules) (seats conds : ℕ) (o : Object) (d : List ℕ) (t : Situation) (log : List LogLine)
@@ -24,44 +24,19 @@ opens k seats conds o d t log is =
     ap (λ (x : Situation). verdict_from (monitor k seats conds o []) 0 (Ok (stand_settled x)) log) is
     ∙ opening_apart k seats conds o d 0 (Ok (stand_settled (opening_situation (monitor k seats conds o d)))) log
 
-verdict_cons : (m : Monitor) (n : ℕ) (s : Stand) (l : LogLine) (rest : List LogLine)
-    → verdict_from m n (Ok s) (l ∷ rest) ≡ verdict_from m (n + 1) (line_behind m s.now s.pending l) rest
-unfolding verdict_from
-verdict_cons m n s l rest = refl
-
-verdict_err : (m : Monitor) (n : ℕ) (why : Blame) (rest : List LogLine) → verdict_from m n (Err why) rest ≡ Misfit n why
-unfolding verdict_from
-verdict_err m n why rest = refl
-
-verdict_end : (m : Monitor) (n : ℕ) (s : Stand) → verdict_from m n (Ok s) [] ≡ Fits
-unfolding verdict_from
-verdict_end m n s = refl
-
-line_here : (m : Monitor) (log : List LogLine) (i : ℕ) (l : LogLine) (t u : Situation) (p : Pending) (left : LineVerdict)
-    (v : LogVerdict) → i < length log → verdict_from m i (Ok (stand t p)) (drop i log) ≡ v
-    → stand_or u left ≡ line_behind m t p (get_or log i l) → verdict_from m (i + 1) (stand_or u left) (drop (i + 1) log) ≡ v
-line_here m log i l t u p left v within is judged =
-    ap (λ (o : Result Stand Blame). verdict_from m (i + 1) o (drop (i + 1) log)) judged
-    ∙ sym (verdict_cons m i (stand t p) (get_or log i l) (drop (i + 1) log))
-    ∙ sym (at_drop_more (verdict_from m i (Ok (stand t p))) log i l within) ∙ is
-
 pub goes_on : (m : Monitor) (log : List LogLine) (i : ℕ) (l : LogLine) (t u : Situation) (p q : Pending) (left : LineVerdict)
     (v : LogVerdict) → i < length log → verdict_from m i (Ok (stand t p)) (drop i log) ≡ v
     → stand_or u left ≡ line_behind m t p (get_or log i l) → left ≡ line.Fits q
     → verdict_from m (i + 1) (Ok (stand u q)) (drop (i + 1) log) ≡ v
 goes_on m log i l t u p q left v within is judged goes =
-    ap (λ (o : LineVerdict). verdict_from m (i + 1) (stand_or u o) (drop (i + 1) log)) (sym goes)
-    ∙ line_here m log i l t u p left v within is judged
+    along_more (line_over m) log i l (stand t p) (Ok (stand u q)) v within is (ap (stand_or u) (sym goes) ∙ judged)
 
 pub misfits : (m : Monitor) (log : List LogLine) (i : ℕ) (l : LogLine) (t u : Situation) (p : Pending) (left : LineVerdict)
     (why : Blame) (v : LogVerdict) → i < length log → verdict_from m i (Ok (stand t p)) (drop i log) ≡ v
     → stand_or u left ≡ line_behind m t p (get_or log i l) → left ≡ line.Misfits why → Misfit (i + 1) why ≡ v
 misfits m log i l t u p left why v within is judged fails =
-    sym (verdict_err m (i + 1) why (drop (i + 1) log))
-    ∙ ap (λ (o : LineVerdict). verdict_from m (i + 1) (stand_or u o) (drop (i + 1) log)) (sym fails)
-    ∙ line_here m log i l t u p left v within is judged
+    along_misfits (line_over m) log i l (stand t p) why v within is (ap (stand_or u) (sym fails) ∙ judged)
 
 pub fits : (m : Monitor) (log : List LogLine) (i : ℕ) (s : Stand) (v : LogVerdict) → length log ≤ i
     → verdict_from m i (Ok s) (drop i log) ≡ v → Fits ≡ v
-fits m log i s v past is =
-    sym (verdict_end m i s) ∙ sym (at_drop_all (verdict_from m i (Ok s)) log i past) ∙ is
+fits m log i s v past is = along_fits (line_over m) log i s v past is

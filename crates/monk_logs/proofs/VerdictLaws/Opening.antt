@@ -1,5 +1,5 @@
 -- The opening state of the object has no part in how lines are judged from a standing; and each kind's rules are those of a kind
-use Rattle.std.proofs.Common.{◌≡◌, ℕ, ◌+◌, cond, List, [], ◌∷◌, refl, ap, ◌∙◌, arith}
+use Rattle.std.proofs.Common.{◌≡◌, ℕ, cond, List, [], refl, ap, ◌∙◌, arith}
 use Rattle.std.specs.Prelude.{Result, Ok, Err}
 use Rattle.monk_kinds.specs.Kind.{IsKind}
 use Rattle.monk_kinds.specs.Names.{rules_named}
@@ -13,12 +13,13 @@ use Rattle.monk_history.specs.Meaning.Reasons.{reason_in}
 use Rattle.monk_history.specs.Meaning.Situation.{Situation}
 use Rattle.monk_logs.specs.Blame.{is_lapse, release_blame}
 use Rattle.monk_logs.specs.Course.{told_release}
-use Rattle.monk_logs.specs.Stand.{Stand, add_to, line_settled, line_then, line_behind, verdict_from}
+use Rattle.monk_logs.specs.Stand.{Stand, add_to, line_settled, line_then, line_behind, line_over, verdict_from}
 use Rattle.monk_logs.specs.declared.blame.Blame.{Blame}
 use Rattle.monk_logs.specs.declared.line.LogLine.{LogLine}
 use Rattle.monk_logs.specs.declared.line.LogLine.TheVariants.{Enter, Resume, Lapse, Leave, Wait, Signal, Broadcast, Until, Act}
 use Rattle.monk_logs.specs.declared.pending.Pending.{Pending}
 use Rattle.monk_logs.specs.declared.pending.Pending.TheVariants.{Settled, Half, Release}
+use Rattle.monk_logs.proofs.VerdictLaws.Along.{along_same}
 
 settled_line : (k : Rules) (seats conds : ℕ) (o : Object) (d : List ℕ) (t : Situation) (l : LogLine)
     → line_settled (monitor k seats conds o []) t l ≡ line_settled (monitor k seats conds o d) t l
@@ -64,13 +65,9 @@ line_apart k seats conds o d t (Release e) l =
 
 pub opening_apart : (k : Rules) (seats conds : ℕ) (o : Object) (d : List ℕ) (n : ℕ) (s : Result Stand Blame) (log : List LogLine)
     → verdict_from (monitor k seats conds o []) n s log ≡ verdict_from (monitor k seats conds o d) n s log
-unfolding verdict_from
-opening_apart k seats conds o d n (Err why) log = refl
-opening_apart k seats conds o d n (Ok s) [] = refl
-opening_apart k seats conds o d n (Ok s) (l ∷ log) =
-    opening_apart k seats conds o d (n + 1) (line_behind (monitor k seats conds o []) s.now s.pending l) log
-    ∙ ap (λ (x : Result Stand Blame). verdict_from (monitor k seats conds o d) (n + 1) x log)
-    (line_apart k seats conds o d s.now s.pending l)
+opening_apart k seats conds o d n s log =
+    along_same (line_over (monitor k seats conds o [])) (line_over (monitor k seats conds o d)) n s log
+    (λ x l. line_apart k seats conds o d x.now x.pending l)
 
 pub each_is_kind : (k : KindName) → IsKind (rules_named k)
 each_is_kind Pb = record { entry_waiter = omega arith; entry_signaller = omega arith; fits_mode = omega arith }

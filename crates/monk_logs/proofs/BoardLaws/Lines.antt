@@ -1,0 +1,108 @@
+-- What is found of the lines to come over a board, one line after the other
+use Rattle.std.proofs.Common.{◌≡◌, ℕ, ◌+◌, ◌<◌, ◌≤◌, cond, List, [], length, get_or, drop, refl, sym, ap, ◌∙◌}
+use Rattle.std.specs.Prelude.{◌==◌, Result, Ok, Err}
+use Rattle.monk_kinds.specs.declared.mode.Rules.{Rules}
+use Rattle.monk_object.specs.Object.{Object}
+use Rattle.monk_history.specs.declared.event.Event.{Event}
+use Rattle.monk_history.specs.Meaning.Monitor.{Monitor, monitor}
+use Rattle.monk_logs.specs.Board.{Board, board_after, board_reason, opening_board}
+use Rattle.monk_logs.specs.BoardCourse.{BoardCourse, board_course, board_settled, board_told}
+use Rattle.monk_logs.specs.BoardShown.{course_or}
+use Rattle.monk_logs.specs.BoardStand.{IsHeldOver, board_add, board_behind_over, board_half_over, board_line_over, board_over}
+use Rattle.monk_logs.specs.BoardStand.{board_release_blame, board_verdict, board_verdict_from, course_by}
+use Rattle.monk_logs.specs.declared.blame.Blame.{Blame}
+use Rattle.monk_logs.specs.declared.blame.LineVerdict.{LineVerdict}
+use Rattle.monk_logs.specs.declared.blame.LineVerdict.TheVariants as line
+use Rattle.monk_logs.specs.declared.line.LogLine.{LogLine}
+use Rattle.monk_logs.specs.declared.line.LogLine.TheVariants.{Enter, Resume, Lapse, Leave, Wait, Signal, Broadcast, Until, Act}
+use Rattle.monk_logs.specs.declared.order.Order.{Order}
+use Rattle.monk_logs.specs.declared.pending.Pending.{Pending}
+use Rattle.monk_logs.specs.declared.pending.Pending.TheVariants.{Settled, Half, Release}
+use Rattle.monk_logs.specs.declared.verdict.LogVerdict.{LogVerdict}
+use Rattle.monk_logs.specs.declared.verdict.LogVerdict.TheVariants.{Fits, Misfit}
+use Rattle.monk_logs.proofs.BoardLaws.Held.{behind_held}
+use Rattle.monk_logs.proofs.VerdictLaws.Along.{along_fits, along_misfits, along_more, along_same}
+
+-- ---- the opening state of the object has no part in how lines are judged from a board
+
+module _ (o : Order) (k : Rules) (seats conds : ℕ) (ob : Object) (d : List ℕ) where
+  reason_apart : (b : Board) (e : Event)
+      → board_reason o (monitor k seats conds ob []) b e ≡ board_reason o (monitor k seats conds ob d) b e
+  unfolding board_reason
+  reason_apart b e = refl
+
+  settle_apart : (b : Board) (e : Event)
+      → course_by (board_add o (monitor k seats conds ob []) b e) ≡ course_by (board_add o (monitor k seats conds ob d) b e)
+  unfolding board_reason
+  settle_apart b e = refl
+
+  line_apart : (b : Board) (l : LogLine)
+      → board_line_over o (monitor k seats conds ob []) b l ≡ board_line_over o (monitor k seats conds ob d) b l
+  line_apart b (Enter s) = settle_apart b _
+  line_apart b (Resume s) = settle_apart b _
+  line_apart b (Lapse s) = refl
+  line_apart b (Leave s) = refl
+  line_apart b (Wait s c) = refl
+  line_apart b (Signal s c) = refl
+  line_apart b (Broadcast s c) = settle_apart b _
+  line_apart b (Until s p) = refl
+  line_apart b (Act s op r) = settle_apart b _
+
+  half_apart : (b : Board) (s c : ℕ) (l : LogLine)
+      → board_half_over (monitor k seats conds ob []) b s c l ≡ board_half_over (monitor k seats conds ob d) b s c l
+  half_apart b s c (Enter j) = refl
+  half_apart b s c (Resume j) = refl
+  half_apart b s c (Lapse j) = refl
+  half_apart b s c (Leave j) = refl
+  half_apart b s c (Wait j x) = refl
+  half_apart b s c (Signal j x) = refl
+  half_apart b s c (Broadcast j x) = refl
+  half_apart b s c (Until j p) = refl
+  half_apart b s c (Act j op r) = refl
+
+  behind_apart : (b : Board) (p : Pending) (l : LogLine)
+      → board_behind_over o (monitor k seats conds ob []) b p l ≡ board_behind_over o (monitor k seats conds ob d) b p l
+  behind_apart b Settled l = line_apart b l
+  behind_apart b (Half s c) l = half_apart b s c l
+  behind_apart b (Release e) l =
+      let told = board_told b e l in
+      let why = board_release_blame o (monitor k seats conds ob []) b e l in
+      ap (λ (n : ℕ). cond (n == 0) (board_line_over o (monitor k seats conds ob []) (board_after ob b told) l) (Err why))
+      (reason_apart b told)
+      ∙ ap (λ (r : Result BoardCourse Blame). cond (board_reason o (monitor k seats conds ob d) b told == 0) r (Err why))
+      (line_apart (board_after ob b told) l)
+
+  pub board_opens : (b : Board) (log : List LogLine) → b ≡ opening_board (monitor k seats conds ob d)
+      → board_verdict_from o (monitor k seats conds ob []) 0 (Ok (board_settled b)) log
+      ≡ board_verdict o (monitor k seats conds ob d) log
+  board_opens b log is =
+      ap (λ (x : Board). board_verdict_from o (monitor k seats conds ob []) 0 (Ok (board_settled x)) log) is
+      ∙ along_same (board_over o (monitor k seats conds ob [])) (board_over o (monitor k seats conds ob d)) 0
+      (Ok (board_settled (opening_board (monitor k seats conds ob d)))) log (λ x l. behind_apart x.board x.pending l)
+
+-- ---- one line more
+
+pub board_goes_on : (o : Order) (m : Monitor) (log : List LogLine) (i : ℕ) (l : LogLine) (a b : Board) (p q : Pending)
+    (left : LineVerdict) (v : LogVerdict) → i < length log → board_verdict_from o m i (Ok (board_course a p)) (drop i log) ≡ v
+    → course_or b left ≡ board_behind_over o m a p (get_or log i l) → left ≡ line.Fits q
+    → board_verdict_from o m (i + 1) (Ok (board_course b q)) (drop (i + 1) log) ≡ v
+board_goes_on o m log i l a b p q left v within is judged goes =
+    along_more (board_over o m) log i l (board_course a p) (Ok (board_course b q)) v within is
+    (ap (course_or b) (sym goes) ∙ judged)
+
+-- what is pending then is held
+pub board_goes_held : (o : Order) (m : Monitor) (l : LogLine) (a b : Board) (p q : Pending) (left : LineVerdict)
+    → course_or b left ≡ board_behind_over o m a p l → left ≡ line.Fits q → IsHeldOver m b q
+board_goes_held o m l a b p q left judged goes =
+    behind_held o m a p l (board_course b q) (sym judged ∙ ap (course_or b) goes)
+
+pub board_misfits : (o : Order) (m : Monitor) (log : List LogLine) (i : ℕ) (l : LogLine) (a b : Board) (p : Pending)
+    (left : LineVerdict) (why : Blame) (v : LogVerdict) → i < length log
+    → board_verdict_from o m i (Ok (board_course a p)) (drop i log) ≡ v
+    → course_or b left ≡ board_behind_over o m a p (get_or log i l) → left ≡ line.Misfits why → Misfit (i + 1) why ≡ v
+board_misfits o m log i l a b p left why v within is judged fails =
+    along_misfits (board_over o m) log i l (board_course a p) why v within is (ap (course_or b) (sym fails) ∙ judged)
+
+pub board_fits : (o : Order) (m : Monitor) (log : List LogLine) (i : ℕ) (x : BoardCourse) (v : LogVerdict) → length log ≤ i
+    → board_verdict_from o m i (Ok x) (drop i log) ≡ v → Fits ≡ v
+board_fits o m log i x v past is = along_fits (board_over o m) log i x v past is

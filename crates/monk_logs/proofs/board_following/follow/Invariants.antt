@@ -1,0 +1,21 @@
+use Rattle.std.proofs.Common.{◌≡◌, drop}
+use Rattle.std.specs.Prelude.{Ok}
+use Rattle.monk_history.specs.Meaning.Monitor.{monitor}
+use Rattle.monk_logs.specs.BoardCourse.{board_course}
+use Rattle.monk_logs.specs.BoardShown.{IsBoardOf, board_shown}
+use Rattle.monk_logs.specs.BoardStand.{IsHeldOver, board_verdict, board_verdict_from}
+use Rattle.monk_logs.specs.Stand.{monitor_in}
+use Rattle.monk_logs.proofs.board_following.follow.Given as goal
+
+abbrev pub invariant-loop-i : goal.invariant-loop-i
+invariant-loop-i g l =
+    let o = g.T.Guarded.meaning in
+    let m = monitor_in l.setting o in
+    let now = board_shown l.board (g.T.Guarded.state l.object) in
+    record {
+      so_far : board_verdict_from l.order m l.i (Ok (board_course now l.pending)) (drop l.i l.lines)
+          ≡ board_verdict l.order
+          (monitor l.setting.rules l.setting.seats l.setting.conds o (g.T.Guarded.state l.fn.object)) l.lines;
+      sound : IsBoardOf l.setting.seats l.setting.conds g.T.Guarded.PREDICATES l.board;
+      held : IsHeldOver m now l.pending;
+    }

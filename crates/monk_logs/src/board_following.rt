@@ -1,0 +1,86 @@
+//! The lines of a log, one after the other, over a board.
+
+ghost use Rattle.std.specs.Prelude.{◌≡◌, ◌≤◌, ◌<◌, IfOk, OnOk, IsErrOf, length};
+ghost use Rattle.monk_object.specs.Names.{most};
+ghost use Rattle.monk_history.specs.Limits.{most_lines};
+ghost use Rattle.monk_history.specs.Meaning.Monitor.{monitor};
+ghost use Rattle.monk_logs.specs.BoardStand.{board_verdict};
+ghost use Rattle.monk_logs.specs.Verdict.{log_monitor};
+
+use crate::blame::LineVerdict;
+use crate::board::Board;
+use crate::board_lines::line_behind;
+use crate::header::LogHeader;
+use crate::line::LogLine;
+use crate::order::Order;
+use crate::pending::Pending;
+use crate::setting::Setting;
+use crate::verdict::LogVerdict;
+use monk_audit::{AuditFault, rules_by_name};
+use monk_kinds::KindName;
+use monk_object::{Book, Buffer, Guarded, ObjectName, Shop};
+use std::alloc::{AllocError, Global};
+
+/// Judges the lines one after the other, over the object in its opening state.
+fn follow<T: Guarded>(
+    alloc: Global,
+    object: T,
+    order: Order,
+    setting: Setting,
+    lines: &[LogLine],
+) -> Result<LogVerdict, AllocError>
+    requires { length lines.now ≤ most_lines }
+    ensures { IfOk result
+        (λ v. v ≡ board_verdict order
+        (monitor setting.rules setting.seats setting.conds T.meaning (T.state object)) lines.now) }
+{
+    let mut object = object;
+    let mut board = Board::opening::<T>(alloc, setting)?;
+    let mut pending = Pending::Settled;
+    for (i, line) in lines.iter().enumerate() {
+        match line_behind(order, setting, &mut board, &mut object, pending, *line)? {
+            LineVerdict::Fits(left) => pending = left,
+            LineVerdict::Misfits(blame) => {
+                let line = i as u32 + 1;
+                return Ok(LogVerdict::Misfit { line, blame });
+            }
+        }
+    }
+    Ok(LogVerdict::Fits)
+}
+
+/// Makes the object that the header names, and judges the lines.
+pub(crate) fn follow_board(
+    alloc: Global,
+    header: &LogHeader,
+    lines: &[LogLine],
+    kind: KindName,
+    order: Order,
+) -> Result<LogVerdict, AuditFault>
+    requires few { length lines.now ≤ most_lines }
+    ensures verdict { IfOk result (λ v. v ≡ board_verdict order (log_monitor kind header.now) lines.now) }
+    ensures fits { OnOk result (header.now.size ≤ most header.now.object) }
+    ensures object { IsErrOf result AuditFault.Object → most header.now.object < header.now.size }
+    ensures too_big { most header.now.object < header.now.size → IsErrOf result AuditFault.Object }
+{
+    let setting = Setting {
+        rules: rules_by_name(kind),
+        seats: header.seats(),
+        conds: header.conds(),
+    };
+    let size = header.size();
+    match header.object() {
+        ObjectName::Buffer => {
+            let buffer = Buffer::make(alloc, size)?;
+            Ok(follow(alloc, buffer, order, setting, lines)?)
+        }
+        ObjectName::Book => {
+            let book = Book::make(size)?;
+            Ok(follow(alloc, book, order, setting, lines)?)
+        }
+        ObjectName::Shop => {
+            let shop = Shop::make(size)?;
+            Ok(follow(alloc, shop, order, setting, lines)?)
+        }
+    }
+}

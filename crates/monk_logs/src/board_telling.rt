@@ -1,0 +1,175 @@
+//! The line behind a release, whose choice it tells, over a board.
+
+ghost use Rattle.std.specs.Prelude.{◌≡◌, ◌<◌, ℕ, List, Some, [], All, true, IfOk};
+ghost use Rattle.monk_history.specs.Meaning.Events.{next_of};
+ghost use Rattle.monk_history.specs.Meaning.Reasons.{fits_object};
+ghost use Rattle.monk_history.specs.Meaning.Release.{MayCallIn};
+ghost use Rattle.monk_logs.specs.Blame as blames;
+ghost use Rattle.monk_logs.specs.Board.{sight};
+ghost use Rattle.monk_logs.specs.BoardMoves as moves;
+ghost use Rattle.monk_logs.specs.BoardShown.{IsBoardOf, board_shown, course_or};
+ghost use Rattle.monk_logs.specs.BoardStand as stands;
+ghost use Rattle.monk_logs.specs.Stand.{monitor_in};
+ghost use Rattle.monk_logs.specs.declared.blame.LineVerdict.{LineVerdict};
+ghost use Rattle.monk_logs.specs.declared.pending.Pending.{Pending};
+
+use crate::blame::{Blame, LineVerdict};
+use crate::blaming::{early_blame, is_in_place, line_event, may_be_its_turn};
+use crate::board::Board;
+use crate::board_lines::line_settled;
+use crate::board_steps::served_reason;
+use crate::items::{may_lapse, may_resume, waits};
+use crate::items_moves::join;
+use crate::line::LogLine;
+use crate::order::Order;
+use crate::setting::Setting;
+use crate::steps::ALLOWED;
+use crate::telling::with_next;
+use monk_audit::replies;
+use monk_history::{Event, Next};
+use monk_object::Guarded;
+use std::alloc::AllocError;
+
+/// The choice of a seat that goes on, by where it stands.
+fn standing_choice(board: &Board, seat: u8) -> Next
+    ensures { (state : List ℕ) → result ≡ moves.choice_on (board_shown board.now state) seat }
+{
+    if waits(&board.items, seat) {
+        Next::Waiter(seat)
+    } else if board.signallers.contains(&seat) {
+        Next::Signaller(seat)
+    } else {
+        Next::Until(seat)
+    }
+}
+
+/// What the line tells of the choice of the event before it, which has served.
+fn told_next(board: &Board, line: LogLine) -> Next
+    ensures { (state : List ℕ) → result ≡ moves.told_on (board_shown board.now state) line }
+{
+    match line {
+        LogLine::Enter(_) | LogLine::Lapse(_) => Next::Entry,
+        LogLine::Resume(seat) => standing_choice(board, seat),
+        _ => Next::Stay,
+    }
+}
+
+/// Whether the seat stands where a release may choose it from, whatever the priorities.
+fn can_come_back<T: Guarded>(order: Order, board: &Board, object: &T, seat: u8) -> bool
+    requires { All (λ w. w.1 < T.PREDICATES) (board_shown board.now []).untils }
+    ensures { result ≡ moves.comes_back order T.meaning (board_shown board.now (T.state object.now)) seat }
+{
+    may_resume(order, &board.items, seat)
+        || board.signallers.contains(&seat)
+        || board.rest.is_ready(object, seat)
+}
+
+/// What is to blame where the release, which has served, may not have chosen so. The board is of no further use.
+fn choice_blame<T: Guarded>(
+    order: Order,
+    board: &mut Board,
+    object: &T,
+    event: Event,
+    line: LogLine,
+) -> Result<Blame, AllocError>
+    requires { All (λ w. w.1 < T.PREDICATES) (board_shown board.old []).untils }
+    ensures blame { IfOk result
+        (λ why. why ≡ moves.choice_blame_on order T.meaning (board_shown board.old (T.state object.now)) event line) }
+    ensures rest { board.new.rest ≡ board.old.rest }
+{
+    let is_choice = match line {
+        LogLine::Resume(seat) => can_come_back(order, board, object, seat),
+        LogLine::Lapse(seat) => {
+            join(&mut board.items, event)?;
+            may_lapse(order, &board.items, seat)
+        }
+        _ => true,
+    };
+    Ok(match line {
+        LogLine::Resume(_) if !is_choice => Blame::Unserved,
+        LogLine::Lapse(_) if !is_choice => Blame::Served,
+        _ => Blame::Choice,
+    })
+}
+
+/// The first of the tests of the turn and behind it that the line fails, behind a release that has served. The board and the
+/// object are of no further use.
+fn late_blame<T: Guarded>(
+    order: Order,
+    setting: Setting,
+    board: &mut Board,
+    object: &mut T,
+    event: Event,
+    stays: bool,
+    line: LogLine,
+) -> Result<Blame, AllocError>
+    requires sound { IsBoardOf setting.seats setting.conds T.PREDICATES board.old }
+    requires line { fits_object T.CODES T.PREDICATES (blames.line_event setting.rules.mode line) ≡ true }
+    ensures { IfOk result
+        (λ why. why ≡ moves.late_blame_on order (monitor_in setting T.meaning) stays
+        (board_shown board.old (T.state object.old)) event line) }
+{
+    let last = choice_blame(order, board, object, event, line)?;
+    if !may_be_its_turn(stays, &board.rest, event, line) {
+        Ok(Blame::Turn)
+    } else if !is_in_place(&board.rest, event, line) {
+        Ok(Blame::Place)
+    } else if !replies(object, line_event(setting.rules.mode, line)) {
+        Ok(Blame::Reply)
+    } else {
+        Ok(last)
+    }
+}
+
+/// What is to blame where the line can't stand behind the release, which has served. The board and the object are of no further
+/// use.
+fn release_blame<T: Guarded>(
+    order: Order,
+    setting: Setting,
+    board: &mut Board,
+    object: &mut T,
+    event: Event,
+    stays: bool,
+    line: LogLine,
+) -> Result<Blame, AllocError>
+    requires sound { IsBoardOf setting.seats setting.conds T.PREDICATES board.old }
+    ensures { IfOk result
+        (λ why. why ≡ moves.blame_on order (monitor_in setting T.meaning) stays
+        (board_shown board.old (T.state object.old)) event line) }
+{
+    let told = line_event(setting.rules.mode, line);
+    match early_blame(setting, &board.rest, object, told) {
+        Some(blame) => Ok(blame),
+        None => late_blame(order, setting, board, object, event, stays, line),
+    }
+}
+
+/// The line behind a release, whose choice it tells.
+pub(crate) fn line_told<T: Guarded>(
+    order: Order,
+    setting: Setting,
+    board: &mut Board,
+    object: &mut T,
+    event: Event,
+    line: LogLine,
+) -> Result<LineVerdict, AllocError>
+    requires sound { IsBoardOf setting.seats setting.conds T.PREDICATES board.old }
+    requires called { MayCallIn (monitor_in setting T.meaning) (sight (board_shown board.old (T.state object.old))) event }
+    requires release { next_of event ≡ Some Next.Stay }
+    ensures judged { IfOk result
+        (λ v. course_or (board_shown board.new (T.state object.new)) v
+        ≡ stands.board_told_over order (monitor_in setting T.meaning)
+        (board_shown board.old (T.state object.old)) event line) }
+    ensures sound { IfOk result
+        (λ v. (left : Pending) → v ≡ LineVerdict.Fits left → IsBoardOf setting.seats setting.conds T.PREDICATES board.new) }
+{
+    let stays = board.must_stay(object, event);
+    board.serve(event)?;
+    let told = with_next(event, told_next(board, line));
+    if served_reason(order, setting, board, object, told, stays) != ALLOWED {
+        let blame = release_blame(order, setting, board, object, event, stays, line)?;
+        return Ok(LineVerdict::Misfits(blame));
+    }
+    board.settle(told, stays)?;
+    line_settled(order, setting, board, object, line)
+}

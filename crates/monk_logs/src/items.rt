@@ -1,0 +1,179 @@
+//! What the items of a board tell of a condition, and of a seat that waits there.
+
+ghost use Rattle.std.specs.Prelude.{◌≡◌, drop, is_some, length};
+ghost use Rattle.monk_logs.specs.Items as lines;
+ghost use Rattle.monk_logs.specs.Items.{has_service_behind, keeps_up, lapsed, line, seats_in, services, services_in, unserved_in};
+ghost use Rattle.monk_logs.specs.Order.{is_among};
+ghost use Rattle.monk_history.specs.Meaning.Signallers.{is_empty};
+
+use crate::item::Item;
+use crate::order::Order;
+
+/// The condition on which the seat waits.
+fn condition_of(items: &[Item], seat: u8) -> Option<u8>
+    ensures { result ≡ lines.condition_of seat items.now }
+{
+    for item in items {
+        match *item {
+            Item::Waiting(other, cond) if other == seat => return Some(cond),
+            _ => {}
+        }
+    }
+    None
+}
+
+/// Whether the seat waits on a condition.
+pub(crate) fn waits(items: &[Item], seat: u8) -> bool
+    ensures { result ≡ is_some (lines.condition_of seat items.now) }
+{
+    condition_of(items, seat).is_some()
+}
+
+/// Whether no signal has served a seat that hasn't gone on yet.
+pub(crate) fn has_no_service(items: &[Item]) -> bool
+    ensures { result ≡ is_empty (services items.now) }
+{
+    for item in items {
+        if matches!(*item, Item::Service(_)) {
+            return false;
+        }
+    }
+    true
+}
+
+/// How many signals on the condition have served a seat that hasn't gone on yet.
+fn services_at(items: &[Item], cond: u8) -> usize
+    ensures { result ≡ services_in (line cond items.now) }
+{
+    let mut count = 0;
+    for item in items {
+        match *item {
+            Item::Service(at) if at == cond => count += 1,
+            _ => {}
+        }
+    }
+    count
+}
+
+/// How many seats wait on the condition, served or not.
+fn seats_at(items: &[Item], cond: u8) -> usize
+    ensures { result ≡ length (seats_in (line cond items.now)) }
+{
+    let mut count = 0;
+    for item in items {
+        match *item {
+            Item::Waiting(_, at) if at == cond => count += 1,
+            _ => {}
+        }
+    }
+    count
+}
+
+/// How many seats wait unserved on the condition.
+pub(crate) fn unserved_at(items: &[Item], cond: u8) -> usize
+    ensures { result ≡ length (unserved_in (line cond items.now)) }
+{
+    seats_at(items, cond).saturating_sub(services_at(items, cond))
+}
+
+/// Whether the seat is one of the first so many that wait on the condition.
+fn is_among_first(items: &[Item], cond: u8, seat: u8, many: usize) -> bool
+    ensures { result ≡ lines.is_among_first seat many (seats_in (line cond items.now)) }
+{
+    let mut left = many;
+    for item in items {
+        if let Item::Waiting(other, at) = *item {
+            if at == cond {
+                if left == 0 {
+                    return false;
+                }
+                if other == seat {
+                    return true;
+                }
+                left -= 1;
+            }
+        }
+    }
+    false
+}
+
+/// Whether the seat waits on the condition behind the first so many.
+fn is_behind_first(items: &[Item], cond: u8, seat: u8, many: usize) -> bool
+    ensures { result ≡ is_among seat (drop many (seats_in (line cond items.now))) }
+{
+    let mut left = many;
+    for item in items {
+        if let Item::Waiting(other, at) = *item {
+            if at == cond {
+                if left > 0 {
+                    left -= 1;
+                } else if other == seat {
+                    return true;
+                }
+            }
+        }
+    }
+    false
+}
+
+/// Whether a service of the condition stands behind the seat.
+fn has_service_behind(items: &[Item], cond: u8, seat: u8) -> bool
+    ensures { result ≡ has_service_behind seat (line cond items.now) }
+{
+    let mut passed = false;
+    for item in items {
+        match *item {
+            Item::Waiting(other, at) if at == cond && other == seat => passed = true,
+            Item::Service(at) if at == cond && passed => return true,
+            _ => {}
+        }
+    }
+    false
+}
+
+/// Whether each service of the condition has a seat of its own before it, where this seat is left out.
+fn keeps_up_without(items: &[Item], cond: u8, seat: u8) -> bool
+    ensures { result ≡ keeps_up 0 (line cond (lapsed seat items.now)) }
+{
+    let mut unserved: usize = 0;
+    for item in items {
+        match *item {
+            Item::Waiting(other, at) if at == cond && other != seat => unserved += 1,
+            Item::Service(at) if at == cond => {
+                if unserved == 0 {
+                    return false;
+                }
+                unserved -= 1;
+            }
+            _ => {}
+        }
+    }
+    true
+}
+
+/// Whether the seat can be one that a signal served.
+#[tactic(auto, using(crate::proofs::ItemLaws::told_first))]
+pub(crate) fn may_resume(order: Order, items: &[Item], seat: u8) -> bool
+    ensures { result ≡ lines.may_resume order seat items.now }
+{
+    let Some(cond) = condition_of(items, seat) else {
+        return false;
+    };
+    match order {
+        Order::Fifo | Order::Wake => is_among_first(items, cond, seat, services_at(items, cond)),
+        Order::Any => has_service_behind(items, cond, seat),
+    }
+}
+
+/// Whether the seat can be one that waits and that no signal served.
+pub(crate) fn may_lapse(order: Order, items: &[Item], seat: u8) -> bool
+    ensures { result ≡ lines.may_lapse order seat items.now }
+{
+    let Some(cond) = condition_of(items, seat) else {
+        return false;
+    };
+    match order {
+        Order::Fifo | Order::Wake => is_behind_first(items, cond, seat, services_at(items, cond)),
+        Order::Any => keeps_up_without(items, cond, seat),
+    }
+}

@@ -1,0 +1,99 @@
+//! Logs judged where queues are served in another order than that of arrival.
+
+ghost use Rattle.std.specs.Prelude.{◌≤◌, length};
+ghost use Rattle.monk_history.specs.Limits.{most_lines};
+
+use monk_audit::AuditFault;
+use monk_kinds::KindName;
+use monk_logs::{Blame, LogHeader, LogLine, LogVerdict, Order, judge_in};
+use monk_object::ObjectName;
+
+/// What is found of these lines, of a monitor of three seats, a condition and a buffer.
+fn found(
+    rt: &HostRuntime,
+    kind: KindName,
+    order: Order,
+    lines: &[LogLine],
+) -> Option<Result<LogVerdict, AuditFault>>
+    requires { length lines.now ≤ most_lines }
+{
+    let header = LogHeader::new(3, 1, ObjectName::Buffer, 1)?;
+    Some(judge_in(rt.alloc(), &header, lines, kind, order))
+}
+
+/// At which line it misfits, and why; nothing where it fits.
+fn misfit(rt: &HostRuntime, kind: KindName, order: Order, lines: &[LogLine]) -> Option<(u32, Blame)>
+    requires { length lines.now ≤ most_lines }
+{
+    match found(rt, kind, order, lines)? {
+        Ok(LogVerdict::Misfit { line, blame }) => Some((line, blame)),
+        Ok(LogVerdict::Fits) => None,
+        Err(_) => Some((0, Blame::Range)),
+    }
+}
+
+/// Two seats wait, a third serves both, and the second to come goes on first.
+const OVERTAKEN: [LogLine; 8] = [
+    LogLine::Enter(0),
+    LogLine::Wait(0, 0),
+    LogLine::Enter(1),
+    LogLine::Wait(1, 0),
+    LogLine::Enter(2),
+    LogLine::Broadcast(2, 0),
+    LogLine::Leave(2),
+    LogLine::Resume(1),
+];
+
+#[test]
+fn any_of_those_served_goes_on(rt: HostRuntime) {
+    assert!(rt; misfit(&rt, KindName::Npnb, Order::Fifo, &OVERTAKEN) == Some((8, Blame::Order)));
+    assert!(rt; misfit(&rt, KindName::Npnb, Order::Wake, &OVERTAKEN) == None);
+    assert!(rt; misfit(&rt, KindName::Npnb, Order::Any, &OVERTAKEN) == None);
+}
+
+/// Two seats wait, a third serves one, and the second to come goes on.
+const CHOSEN: [LogLine; 8] = [
+    LogLine::Enter(0),
+    LogLine::Wait(0, 0),
+    LogLine::Enter(1),
+    LogLine::Wait(1, 0),
+    LogLine::Enter(2),
+    LogLine::Signal(2, 0),
+    LogLine::Leave(2),
+    LogLine::Resume(1),
+];
+
+#[test]
+fn a_signal_serves_any_seat(rt: HostRuntime) {
+    assert!(rt; misfit(&rt, KindName::Npnb, Order::Wake, &CHOSEN) == Some((8, Blame::Unserved)));
+    assert!(rt; misfit(&rt, KindName::Npnb, Order::Any, &CHOSEN) == None);
+}
+
+#[test]
+fn priorities_hold_in_each_order(rt: HostRuntime) {
+    let barged = [
+        LogLine::Enter(0),
+        LogLine::Wait(0, 0),
+        LogLine::Enter(1),
+        LogLine::Signal(1, 0),
+        LogLine::Leave(1),
+        LogLine::Enter(2),
+    ];
+    assert!(rt; misfit(&rt, KindName::Npnb, Order::Any, &barged) == None);
+    assert!(rt; misfit(&rt, KindName::Pnb, Order::Any, &barged) == Some((6, Blame::Choice)));
+}
+
+#[test]
+fn a_wait_runs_out_unless_a_signal_served_it(rt: HostRuntime) {
+    let alone = [LogLine::Enter(0), LogLine::Wait(0, 0), LogLine::Lapse(0)];
+    assert!(rt; misfit(&rt, KindName::Npnb, Order::Any, &alone) == None);
+    let served = [
+        LogLine::Enter(0),
+        LogLine::Wait(0, 0),
+        LogLine::Enter(1),
+        LogLine::Signal(1, 0),
+        LogLine::Leave(1),
+        LogLine::Lapse(0),
+    ];
+    assert!(rt; misfit(&rt, KindName::Npnb, Order::Any, &served) == Some((6, Blame::Served)));
+}
