@@ -1,6 +1,8 @@
 use monk_audit::AuditFault;
 use monk_kinds::KindName;
-use monk_logs::{Completion, LogHeader, LogLine, LogVerdict, complete, judge, read_log};
+use monk_logs::{
+    Completion, LogHeader, LogLine, LogVerdict, Order, complete, judge, judge_in, read_log,
+};
 use monk_object::ObjectName;
 
 /// Seventeen lines, so that the list of them grows several times.
@@ -61,6 +63,23 @@ fn judged_with_ample_memory(rt: HostRuntime) {
 #[test]
 fn judged_or_refused_memory(rt: HostRuntime) {
     let judged = judged(&rt);
+    assert!(rt; judged == Some(Ok(LogVerdict::Fits)) || judged == Some(Err(AuditFault::Memory)));
+}
+
+/// What is found of these lines where a signal may serve any seat.
+fn judged_in_any_order(rt: &HostRuntime) -> Option<Result<LogVerdict, AuditFault>> {
+    let header = LogHeader::new(3, 2, ObjectName::Buffer, 1)?;
+    Some(judge_in(rt.alloc(), &header, &LINES, KindName::Npnb, Order::Any))
+}
+
+#[test]
+fn judged_in_any_order_with_ample_memory(rt: HostRuntime) {
+    assert!(rt; judged_in_any_order(&rt) == Some(Ok(LogVerdict::Fits)));
+}
+
+#[test]
+fn judged_in_any_order_or_refused_memory(rt: HostRuntime) {
+    let judged = judged_in_any_order(&rt);
     assert!(rt; judged == Some(Ok(LogVerdict::Fits)) || judged == Some(Err(AuditFault::Memory)));
 }
 
