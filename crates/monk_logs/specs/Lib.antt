@@ -22,3 +22,4 @@ pub mod BoardCourse
 pub mod BoardStand
 pub mod BoardShown
 pub mod BoardMoves
+pub mod Counts

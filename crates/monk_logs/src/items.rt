@@ -1,6 +1,7 @@
 //! What the items of a board tell of a condition, and of a seat that waits there.
 
-ghost use Rattle.std.specs.Prelude.{◌≡◌, drop, is_some, length};
+ghost use Rattle.std.specs.Prelude.{◌≡◌, ◌≤◌, drop, is_some, length};
+ghost use Rattle.monk_logs.specs.Counts.{waiting_seats};
 ghost use Rattle.monk_logs.specs.Items as lines;
 ghost use Rattle.monk_logs.specs.Items.{has_service_behind, keeps_up, lapsed, line, seats_in, services, services_in, unserved_in};
 ghost use Rattle.monk_logs.specs.Order.{is_among};
@@ -42,7 +43,7 @@ pub(crate) fn has_no_service(items: &[Item]) -> bool
 }
 
 /// How many signals on the condition have served a seat that hasn't gone on yet.
-fn services_at(items: &[Item], cond: u8) -> usize
+pub(crate) fn services_at(items: &[Item], cond: u8) -> usize
     ensures { result ≡ services_in (line cond items.now) }
 {
     let mut count = 0;
@@ -56,7 +57,7 @@ fn services_at(items: &[Item], cond: u8) -> usize
 }
 
 /// How many seats wait on the condition, served or not.
-fn seats_at(items: &[Item], cond: u8) -> usize
+pub(crate) fn seats_at(items: &[Item], cond: u8) -> usize
     ensures { result ≡ length (seats_in (line cond items.now)) }
 {
     let mut count = 0;
@@ -176,4 +177,31 @@ pub(crate) fn may_lapse(order: Order, items: &[Item], seat: u8) -> bool
         Order::Fifo | Order::Wake => is_behind_first(items, cond, seat, services_at(items, cond)),
         Order::Any => keeps_up_without(items, cond, seat),
     }
+}
+
+/// How many services stand among the items.
+pub(crate) fn services_of(items: &[Item]) -> usize
+    ensures count { result ≡ length (services items.now) }
+    ensures few { result ≤ length items.now }
+{
+    let mut count = 0;
+    for item in items {
+        if matches!(*item, Item::Service(_)) {
+            count += 1;
+        }
+    }
+    count
+}
+
+/// How many seats stand among the items.
+pub(crate) fn seats_of(items: &[Item]) -> usize
+    ensures { result ≡ waiting_seats items.now }
+{
+    let mut count = 0;
+    for item in items {
+        if matches!(*item, Item::Waiting(..)) {
+            count += 1;
+        }
+    }
+    count
 }

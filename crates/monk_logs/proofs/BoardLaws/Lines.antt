@@ -72,13 +72,17 @@ module _ (o : Order) (k : Rules) (seats conds : ℕ) (ob : Object) (d : List ℕ
       ∙ ap (λ (r : Result BoardCourse Blame). cond (board_reason o (monitor k seats conds ob d) b told == 0) r (Err why))
       (line_apart (board_after ob b told) l)
 
+  pub over_apart : (x : BoardCourse) (l : LogLine)
+      → board_over o (monitor k seats conds ob []) x l ≡ board_over o (monitor k seats conds ob d) x l
+  over_apart x l = behind_apart x.board x.pending l
+
   pub board_opens : (b : Board) (log : List LogLine) → b ≡ opening_board (monitor k seats conds ob d)
       → board_verdict_from o (monitor k seats conds ob []) 0 (Ok (board_settled b)) log
       ≡ board_verdict o (monitor k seats conds ob d) log
   board_opens b log is =
       ap (λ (x : Board). board_verdict_from o (monitor k seats conds ob []) 0 (Ok (board_settled x)) log) is
       ∙ along_same (board_over o (monitor k seats conds ob [])) (board_over o (monitor k seats conds ob d)) 0
-      (Ok (board_settled (opening_board (monitor k seats conds ob d)))) log (λ x l. behind_apart x.board x.pending l)
+      (Ok (board_settled (opening_board (monitor k seats conds ob d)))) log over_apart
 
 -- ---- one line more
 

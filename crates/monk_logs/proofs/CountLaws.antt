@@ -1,0 +1,104 @@
+-- What is counted of the lines to come, one line after the other
+use Rattle.std.proofs.Common.{◌≡◌, ℕ, ◌+◌, ◌<◌, ◌≤◌, Bool, List, [], ◌∷◌, length, get_or, drop, refl, sym, ap, ◌∙◌}
+use Rattle.std.proofs.lemmas.List.{at_drop_all, at_drop_more}
+use Rattle.std.specs.Prelude.{◌&&◌, Result, Ok, Err}
+use Rattle.monk_kinds.specs.declared.mode.Rules.{Rules}
+use Rattle.monk_object.specs.Object.{Object}
+use Rattle.monk_history.specs.Meaning.Monitor.{Monitor, monitor}
+use Rattle.monk_logs.specs.Board.{Board, opening_board}
+use Rattle.monk_logs.specs.BoardCourse.{BoardCourse, board_course, board_settled}
+use Rattle.monk_logs.specs.BoardShown.{course_or}
+use Rattle.monk_logs.specs.BoardStand.{board_behind_over, board_over}
+use Rattle.monk_logs.specs.Counts.{Counted, counted, counts_at, counts_from, counts_of, items_now, lacks_some_signal, lets_go}
+use Rattle.monk_logs.specs.Counts.{nothing_tallied, tallied, then_or, with_line, woken_among, woken_now}
+use Rattle.monk_logs.specs.declared.blame.Blame.{Blame}
+use Rattle.monk_logs.specs.declared.blame.LineVerdict.{LineVerdict}
+use Rattle.monk_logs.specs.declared.blame.LineVerdict.TheVariants as line
+use Rattle.monk_logs.specs.declared.counts.Counts.{Counts}
+use Rattle.monk_logs.specs.declared.item.Item.{Item}
+use Rattle.monk_logs.specs.declared.line.LogLine.{LogLine}
+use Rattle.monk_logs.specs.declared.order.Order.TheVariants.{Any}
+use Rattle.monk_logs.specs.declared.pending.Pending.{Pending}
+use Rattle.monk_logs.specs.declared.tally.Tally.{Tally}
+use Rattle.monk_logs.specs.declared.waits_for.WaitsFor.{WaitsFor}
+use Rattle.monk_logs.proofs.BoardLaws.Lines.{over_apart}
+
+-- ---- one line more
+
+module _ (m : Monitor) (means : List WaitsFor) where
+  -- where line n leads
+  abbrev with_next : ℕ → Counted → LogLine → BoardCourse → Counted
+  with_next n s l y = counted y (tallied m.object means n s.course l y s.tally)
+
+  from_cons : (n : ℕ) (s : Counted) (l : LogLine) (rest : List LogLine) → counts_from m means n s (l ∷ rest)
+      ≡ then_or (λ y. counts_from m means (n + 1) (with_next (n + 1) s l y) rest) (counts_at s) (board_over Any m s.course l)
+  unfolding counts_from
+  from_cons n s l rest = refl
+
+  from_end : (n : ℕ) (s : Counted) → counts_from m means n s [] ≡ counts_at s
+  unfolding counts_from
+  from_end n s = refl
+
+  more : (log : List LogLine) (i : ℕ) (l : LogLine) (s : Counted) (r : Result BoardCourse Blame) (v : Counts) → i < length log
+      → counts_from m means i s (drop i log) ≡ v → r ≡ board_over Any m s.course (get_or log i l)
+      → then_or (λ y. counts_from m means (i + 1) (with_next (i + 1) s (get_or log i l) y) (drop (i + 1) log)) (counts_at s) r ≡ v
+  more log i l s r v within is judged =
+      ap (then_or (λ y. counts_from m means (i + 1) (with_next (i + 1) s (get_or log i l) y) (drop (i + 1) log)) (counts_at s)) judged
+      ∙ sym (from_cons i s (get_or log i l) (drop (i + 1) log))
+      ∙ sym (at_drop_more (counts_from m means i s) log i l within) ∙ is
+
+  pub count_goes_on : (log : List LogLine) (i : ℕ) (l : LogLine) (a b : Board) (p q : Pending) (k : Tally) (left : LineVerdict)
+      (t : Tally) (v : Counts) → i < length log → counts_from m means i (counted (board_course a p) k) (drop i log) ≡ v
+      → course_or b left ≡ board_behind_over Any m a p (get_or log i l) → left ≡ line.Fits q
+      → t ≡ tallied m.object means (i + 1) (board_course a p) (get_or log i l) (board_course b q) k
+      → counts_from m means (i + 1) (counted (board_course b q) t) (drop (i + 1) log) ≡ v
+  count_goes_on log i l a b p q k left t v within is judged goes tally =
+      ap (λ (x : Tally). counts_from m means (i + 1) (counted (board_course b q) x) (drop (i + 1) log)) tally
+      ∙ more log i l (counted (board_course a p) k) (Ok (board_course b q)) v within is (ap (course_or b) (sym goes) ∙ judged)
+
+  pub count_misfits : (log : List LogLine) (i : ℕ) (l : LogLine) (a b : Board) (p : Pending) (k : Tally) (left : LineVerdict)
+      (why : Blame) (v : Counts) → i < length log → counts_from m means i (counted (board_course a p) k) (drop i log) ≡ v
+      → course_or b left ≡ board_behind_over Any m a p (get_or log i l) → left ≡ line.Misfits why
+      → counts_at (counted (board_course a p) k) ≡ v
+  count_misfits log i l a b p k left why v within is judged fails =
+      more log i l (counted (board_course a p) k) (Err why) v within is (ap (course_or b) (sym fails) ∙ judged)
+
+  pub count_ends : (log : List LogLine) (i : ℕ) (s : Counted) (v : Counts) → length log ≤ i
+      → counts_from m means i s (drop i log) ≡ v → counts_at s ≡ v
+  count_ends log i s v past is = sym (from_end i s) ∙ sym (at_drop_all (counts_from m means i s) log i past) ∙ is
+
+-- ---- what is counted of a line, by the items before it and behind it
+
+pub line_counted : (o : Object) (means : List WaitsFor) (n : ℕ) (x y : BoardCourse) (l : LogLine) (k t : Tally) (old new seen : List Item)
+    (before after : ℕ) (missed : Bool) → t ≡ with_line n l before after missed k → before ≡ woken_among old → old ≡ items_now x
+    → after ≡ woken_among new → new ≡ items_now y → missed ≡ (lets_go l && lacks_some_signal o y.board.state seen means) → seen ≡ new
+    → t ≡ tallied o means n x l y k
+line_counted o means n x y l k t old new seen before after missed is b from a to m at =
+    is ∙ ap (λ (w : ℕ). with_line n l w after missed k) (b ∙ ap woken_among from)
+    ∙ ap (λ (w : ℕ). with_line n l (woken_now x) w missed k) (a ∙ ap woken_among to)
+    ∙ ap (λ (w : Bool). with_line n l (woken_now x) (woken_now y) w k)
+    (m ∙ ap (λ (items : List Item). lets_go l && lacks_some_signal o y.board.state items means) (at ∙ to))
+
+-- ---- the opening state of the object has no part in what is counted from a board
+
+module _ (k : Rules) (seats conds : ℕ) (ob : Object) (d : List ℕ) (means : List WaitsFor) where
+  then_same : (f g : BoardCourse → Counts) (a : Counts) (r : Result BoardCourse Blame) → ((y : BoardCourse) → f y ≡ g y)
+      → then_or f a r ≡ then_or g a r
+  then_same f g a (Ok y) same = same y
+  then_same f g a (Err why) same = refl
+
+  from_same : (n : ℕ) (s : Counted) (log : List LogLine)
+      → counts_from (monitor k seats conds ob []) means n s log ≡ counts_from (monitor k seats conds ob d) means n s log
+  unfolding counts_from
+  from_same n s [] = refl
+  from_same n s (l ∷ log) =
+      then_same _ _ (counts_at s) (board_over Any (monitor k seats conds ob []) s.course l)
+      (λ y. from_same (n + 1) (counted y (tallied ob means (n + 1) s.course l y s.tally)) log)
+      ∙ ap (then_or _ (counts_at s)) (over_apart Any k seats conds ob d s.course l)
+
+  pub count_opens : (b : Board) (log : List LogLine) → b ≡ opening_board (monitor k seats conds ob d)
+      → counts_from (monitor k seats conds ob []) means 0 (counted (board_settled b) nothing_tallied) log
+      ≡ counts_of (monitor k seats conds ob d) means log
+  count_opens b log is =
+      ap (λ (x : Board). counts_from (monitor k seats conds ob []) means 0 (counted (board_settled x) nothing_tallied) log) is
+      ∙ from_same 0 (counted (board_settled (opening_board (monitor k seats conds ob d))) nothing_tallied) log

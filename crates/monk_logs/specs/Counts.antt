@@ -1,0 +1,197 @@
+-- What happens in a log, counted, up to its first misfit
+use Rattle.std.specs.Prelude.{ℕ, suc, ◌+◌, ◌-◌, ◌≤◌, ◌==◌, nat_lt, Bool, true, false, ◌&&◌, not, List, [], ◌∷◌, ◌++◌, length, Option, Some, None}
+use Rattle.std.specs.Prelude.{Result, Ok, Err, is_some, if◌then◌else◌}
+use Rattle.std.specs.List.{list_any}
+use Rattle.std.specs.Option.{option_map_or}
+use Rattle.monk_object.specs.Object.{Object}
+use Rattle.monk_history.specs.declared.event.Event.{Event}
+use Rattle.monk_history.specs.Meaning.Monitor.{Monitor}
+use Rattle.monk_history.specs.Meaning.Signallers.{is_empty}
+use Rattle.monk_logs.specs.Board.{items_with, opening_board, waiting_item}
+use Rattle.monk_logs.specs.BoardCourse.{BoardCourse, board_settled}
+use Rattle.monk_logs.specs.BoardStand.{board_over}
+use Rattle.monk_logs.specs.Items.{line, seats_in, services, services_in}
+use Rattle.monk_logs.specs.declared.blame.Blame.{Blame}
+use Rattle.monk_logs.specs.declared.counts.Counts.{Counts}
+use Rattle.monk_logs.specs.declared.item.Item.{Item}
+use Rattle.monk_logs.specs.declared.item.Item.TheVariants.{Waiting, Service}
+use Rattle.monk_logs.specs.declared.line.LogLine.{LogLine}
+use Rattle.monk_logs.specs.declared.line.LogLine.TheVariants.{Enter, Resume, Lapse, Leave, Wait, Signal, Broadcast, Until, Act}
+use Rattle.monk_logs.specs.declared.order.Order.TheVariants.{Any}
+use Rattle.monk_logs.specs.declared.pending.Pending.{Pending}
+use Rattle.monk_logs.specs.declared.pending.Pending.TheVariants.{Settled, Half, Release}
+use Rattle.monk_logs.specs.declared.tally.Tally.{Tally}
+use Rattle.monk_logs.specs.declared.waits_for.WaitsFor.{WaitsFor}
+
+-- ---- who waits, behind a line
+
+-- what the event before has made of the items, its choice aside
+abbrev pub items_behind : Pending → List Item → (Event → List Item) → List Item
+items_behind Settled items by = items
+items_behind (Half s c) items by = items
+items_behind (Release e) items by = by e
+
+abbrev pub items_now : BoardCourse → List Item
+items_now x = items_behind x.pending x.board.items (λ e. items_with x.board e ++ waiting_item e)
+
+-- how many seats signals served that are not back
+abbrev pub woken_among : List Item → ℕ
+woken_among items = length (services items)
+
+abbrev pub woken_now : BoardCourse → ℕ
+woken_now x = woken_among (items_now x)
+
+abbrev pub waiting_seats : List Item → ℕ
+waiting_seats [] = 0
+waiting_seats (Waiting s c ∷ items) = suc (waiting_seats items)
+waiting_seats (Service c ∷ items) = waiting_seats items
+
+-- how many wait unserved on conditions
+abbrev pub waiting_among : List Item → ℕ
+waiting_among items = waiting_seats items - woken_among items
+
+abbrev pub waiting_now : BoardCourse → ℕ
+waiting_now x = waiting_among (items_now x)
+
+-- ---- a missed signal
+
+-- somebody waits on the condition, and nobody whom a signal served there is still to come back
+abbrev pub waits_unsignalled : ℕ → List Item → Bool
+waits_unsignalled c items = not (is_empty (seats_in (line c items))) && services_in (line c items) == 0
+
+-- so the signal is missed, where the predicate holds for which they wait there
+abbrev pub lacks_signal : Object → List ℕ → List Item → WaitsFor → Bool
+lacks_signal o state items w = nat_lt w.pred o.predicates && o.holds state w.pred && waits_unsignalled w.cond items
+
+abbrev pub lacks_some_signal : Object → List ℕ → List Item → List WaitsFor → Bool
+lacks_some_signal o state items means = list_any (lacks_signal o state items) means
+
+-- ---- a line more
+
+abbrev pub is_enter : LogLine → Bool
+is_enter (Enter s) = true
+is_enter (Resume s) = false
+is_enter (Lapse s) = false
+is_enter (Leave s) = false
+is_enter (Wait s c) = false
+is_enter (Signal s c) = false
+is_enter (Broadcast s c) = false
+is_enter (Until s p) = false
+is_enter (Act s op r) = false
+
+abbrev pub is_leave : LogLine → Bool
+is_leave (Enter s) = false
+is_leave (Resume s) = false
+is_leave (Lapse s) = false
+is_leave (Leave s) = true
+is_leave (Wait s c) = false
+is_leave (Signal s c) = false
+is_leave (Broadcast s c) = false
+is_leave (Until s p) = false
+is_leave (Act s op r) = false
+
+-- whether a seat goes on that waited
+abbrev pub is_back : LogLine → Bool
+is_back (Enter s) = false
+is_back (Resume s) = true
+is_back (Lapse s) = true
+is_back (Leave s) = false
+is_back (Wait s c) = false
+is_back (Signal s c) = false
+is_back (Broadcast s c) = false
+is_back (Until s p) = false
+is_back (Act s op r) = false
+
+-- whether the monitor is let go
+abbrev pub lets_go : LogLine → Bool
+lets_go (Enter s) = false
+lets_go (Resume s) = false
+lets_go (Lapse s) = false
+lets_go (Leave s) = true
+lets_go (Wait s c) = true
+lets_go (Signal s c) = false
+lets_go (Broadcast s c) = false
+lets_go (Until s p) = false
+lets_go (Act s op r) = false
+
+-- one more, where that is so
+abbrev pub one_if : ℕ → Bool → ℕ
+one_if n is = if is then n + 1 else n
+
+abbrev pub first_missed : Option ℕ → Bool → ℕ → Option ℕ
+first_missed None is n = if is then Some n else None
+first_missed (Some before) is n = Some before
+
+-- whether a seat comes back that a signal served
+abbrev pub takes_service : ℕ → ℕ → Bool
+takes_service before after = nat_lt after before
+
+-- with line n, by how many seats are to come back before it and behind it, and by whether a signal is missed there
+abbrev pub with_line : ℕ → LogLine → ℕ → ℕ → Bool → Tally → Tally
+with_line n l before after missed k = record {
+  back = one_if k.back (is_back l && takes_service before after);
+  lapsed = one_if k.lapsed (is_back l && not (takes_service before after));
+  passed = one_if k.passed (is_enter l && not (after == 0));
+  entered = one_if k.entered (is_enter l);
+  left = one_if k.left (is_leave l);
+  missed = first_missed k.missed missed n;
+}
+
+-- with line n, which leads from x to y
+abbrev pub tallied : Object → List WaitsFor → ℕ → BoardCourse → LogLine → BoardCourse → Tally → Tally
+tallied o means n x l y k =
+    with_line n l (woken_now x) (woken_now y) (lets_go l && lacks_some_signal o y.board.state (items_now y) means) k
+
+abbrev pub nothing_tallied : Tally
+nothing_tallied = record { back = 0; lapsed = 0; passed = 0; entered = 0; left = 0; missed = None }
+
+-- no number is above that
+pub record IsWithin (n : ℕ) (k : Tally) : Type 0 where
+  pub back : k.back ≤ n
+  pub lapsed : k.lapsed ≤ n
+  pub passed : k.passed ≤ n
+  pub entered : k.entered ≤ n
+  pub left : k.left ≤ n
+
+-- ---- a log
+
+-- where the lines so far led, and what was counted
+pub record Counted : Type 0 where
+  pub course : BoardCourse
+  pub tally : Tally
+
+abbrev pub counted : BoardCourse → Tally → Counted
+counted x k = record { course = x; tally = k }
+
+abbrev pub nothing_counted : Monitor → Counted
+nothing_counted m = counted (board_settled (opening_board m)) nothing_tallied
+
+-- behind so many lines, by how many seats wait unserved and how many are to come back
+abbrev pub counts_by : Tally → ℕ → ℕ → Counts
+counts_by k waiting woken = record {
+  served = k.back + woken;
+  passed = k.passed;
+  lapsed = k.lapsed;
+  waiting = waiting;
+  woken = woken;
+  inside = k.entered - k.left;
+  missed = k.missed;
+}
+
+abbrev pub counts_at : Counted → Counts
+counts_at s = counts_by s.tally (waiting_now s.course) (woken_now s.course)
+
+-- what comes of where a line leads, or of that it leads nowhere
+abbrev pub then_or : {A X Y : Type 0} → (X → A) → A → Result X Y → A
+then_or f a (Ok x) = f x
+then_or f a (Err y) = a
+
+-- of the lines to come, up to the first misfit, where n lines led to s
+unfoldable pub counts_from : Monitor → List WaitsFor → ℕ → Counted → List LogLine → Counts
+counts_from m means n s [] = counts_at s
+counts_from m means n s (l ∷ log) =
+    then_or (λ y. counts_from m means (n + 1) (counted y (tallied m.object means (n + 1) s.course l y s.tally)) log) (counts_at s)
+    (board_over Any m s.course l)
+
+abbrev pub counts_of : Monitor → List WaitsFor → List LogLine → Counts
+counts_of m means log = counts_from m means 0 (nothing_counted m) log

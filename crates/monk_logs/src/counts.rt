@@ -1,0 +1,21 @@
+//! What happens in a log, counted.
+
+/// What happens in a log, counted, up to its first misfit.
+#[derive(Clone, Copy, Debug, PartialEq, Eq)]
+pub struct Counts {
+    /// How many seats signals served: those that came back, and those that didn't yet.
+    pub served: u64,
+    /// How many entries there were while a seat that was served was still to come back.
+    pub passed: u64,
+    /// How many waits ran out.
+    pub lapsed: u64,
+    /// How many seats wait unserved on conditions at the end.
+    pub waiting: u64,
+    /// How many seats were served, and are not back at the end.
+    pub woken: u64,
+    /// How many seats are inside at the end: those that came in and didn't leave.
+    pub inside: u64,
+    /// The first line by which the monitor is let go while somebody waits for a predicate that holds, and nobody was signalled who
+    /// is still to come back. The lines behind the log's first one are counted from 1.
+    pub missed: Option<u32>,
+}
