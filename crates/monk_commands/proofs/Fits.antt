@@ -27,7 +27,7 @@ use Rattle.monk_commands.specs.Fitted.{IsFitText, fit_line, fit_lines, fit_of, f
 use Rattle.monk_commands.specs.Legal.{IsTextOf}
 
 -- one of a list that passes the test
-some_of : (p : KindName → Bool) (ks : List KindName) → list_any p ks ≡ true → (k : KindName) × (p k ≡ true)
+pub some_of : (p : KindName → Bool) (ks : List KindName) → list_any p ks ≡ true → (k : KindName) × (p k ≡ true)
 some_of p [] e = absurd (false≢true e)
 some_of p (k ∷ ks) e = go (p k) refl (some_of p ks)
   where
@@ -45,7 +45,7 @@ one_of p (j ∷ front) k back is = go (p j) (one_of p front k back is)
     go false rest = rest
 
 -- one more at the end
-any_more : (p : KindName → Bool) (ks : List KindName) (k : KindName) → list_any p (ks ++ k ∷ []) ≡ (list_any p ks || p k)
+pub any_more : (p : KindName → Bool) (ks : List KindName) (k : KindName) → list_any p (ks ++ k ∷ []) ≡ (list_any p ks || p k)
 any_more p [] k = go (p k)
   where
     go : (b : Bool) → (b || false) ≡ b
@@ -71,7 +71,7 @@ lines_more h es ks k =
     flat_map-append (fit_line h es) ks (k ∷ []) ∙ ap (λ (l : List ℕ). fit_lines h es ks ++ l) (append-nil (fit_line h es k))
 
 -- each kind is one of the ten
-one_of_ten : (p : KindName → Bool) (k : KindName) → p k ≡ true → list_any p kinds ≡ true
+pub one_of_ten : (p : KindName → Bool) (k : KindName) → p k ≡ true → list_any p kinds ≡ true
 one_of_ten p Pb is = one_of p [] Pb (Npb ∷ Pnb ∷ Npnb ∷ Pqb ∷ Npqb ∷ Pir ∷ Npir ∷ Pis ∷ Npis ∷ []) is
 one_of_ten p Npb is = one_of p (Pb ∷ []) Npb (Pnb ∷ Npnb ∷ Pqb ∷ Npqb ∷ Pir ∷ Npir ∷ Pis ∷ Npis ∷ []) is
 one_of_ten p Pnb is = one_of p (Pb ∷ Npb ∷ []) Pnb (Npnb ∷ Pqb ∷ Npqb ∷ Pir ∷ Npir ∷ Pis ∷ Npis ∷ []) is

@@ -53,12 +53,13 @@ pub record IsCompleted (kind : KindName) (h : LogHeading) (log : List LogLine) (
   pub has_text : HasText (completed_heading kind h) history
   pub told : Puts (text (completed_heading kind h) history)
 
+-- what stands behind the kind
+abbrev pub misfit_words : ℕ → Blame → List ℕ
+misfit_words n why =
+    codes " misfit " ++ decimal n ++ codes " " ++ decimal (blame_number why) ++ codes " " ++ blame_word why ++ codes "\n"
+
 abbrev pub misfit_answer : KindName → ℕ → Blame → Answer
-misfit_answer kind n why = record {
-  status = 1;
-  text = kind_word kind ++ codes " misfit " ++ decimal n ++ codes " " ++ decimal (blame_number why) ++ codes " "
-      ++ blame_word why ++ codes "\n";
-}
+misfit_answer kind n why = record { status = 1; text = kind_word kind ++ misfit_words n why }
 
 -- the answer to a log with that verdict
 abbrev pub IsVerdictAnswer : KindName → LogHeading → List LogLine → LogVerdict → ℕ → (List ℕ → Type 0) → Type 0

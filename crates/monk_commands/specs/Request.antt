@@ -1,14 +1,21 @@
 -- The command line of the program, as clap sees it, and what a line asks for
-use Rattle.std.specs.Prelude.{◌≡◌, ℕ, List, [], ◌∷◌, Option, Some, IsSomeAnd, true, map, option_map, codes, pos, string_bytes}
+use Rattle.std.specs.Prelude.{◌≡◌, ◌↔◌, ◌==◌, ℕ, Bool, List, [], ◌∷◌, Option, Some, None, IsSomeAnd, true, map, option_map, codes, pos}
+use Rattle.std.specs.Prelude.{string_bytes}
+use Rattle.core.specs.List.{after_first, before_first}
+use Rattle.std.specs.List.{slice_index}
 use Rattle.std.specs.Str.Parse.{IsNumeral, digits_value, without_leading_plus}
 use Rattle.std.specs.Borrow.{Bor}
-use Rattle.clap.specs.Words.{AddsSubcommand, App, Row, Rule, Text, app_of, first_of, one_of, new_app, new_rule, with_rule, with_subcommand}
+use Rattle.clap.specs.Words.{AddsSubcommand, App, Row, Rule, Text, all_of, app_of, first_of, one_of, new_app, new_rule, with_rule}
+use Rattle.clap.specs.Words.{with_subcommand}
+use Rattle.clap.specs.declared.builder.action.ArgAction.TheVariants.{Append, SetTrue}
 use Rattle.clap.specs.declared.builder.command.Command.{Command}
 use Rattle.clap.specs.declared.builder.value_parser.ValueParser.TheVariants.{Signed, Names}
 use Rattle.clap.specs.declared.builder.value_parser.ValueParser.{ValueParser}
 use Rattle.monk_kinds.specs.Names.{kind_word, kinds as monitor_kinds}
 use Rattle.monk_kinds.specs.declared.name.KindName.{KindName}
 use Rattle.monk_object.specs.Names.{object_word}
+use Rattle.monk_logs.specs.declared.lapses.Lapses.TheVariants.{Allowed}
+use Rattle.monk_logs.specs.declared.waits_for.WaitsFor.{WaitsFor}
 use Rattle.monk_samples.specs.Samples.{IsInRange, sample_object}
 use Rattle.monk_samples.specs.declared.sample.Sample.{Sample}
 use Rattle.monk_samples.specs.declared.sample.Sample.TheVariants.{Buffer, Book, Shop}
@@ -66,6 +73,19 @@ run_app name n =
 abbrev pub file_app : Text → App
 file_app name = with_rule (new_app name) (new_rule (codes "FILE"))
 
+-- a flag, and an option that may stand more than once and takes a value of that name
+abbrev pub flag_rule : Text → Rule
+flag_rule name = record (new_rule name) { long = Some name; action = Some SetTrue }
+
+abbrev pub repeated_rule : Text → Rule
+repeated_rule name = record (new_rule name) { long = Some name; action = Some Append; value_names = 1 }
+
+-- the command that takes what a log may tell, and a file
+abbrev pub fit_app : App
+fit_app =
+    with_rule (with_rule (with_rule (new_app (codes "fit")) (flag_rule (codes "lapses"))) (repeated_rule (codes "means")))
+    (new_rule (codes "FILE"))
+
 -- the command that takes a kind, and a file
 abbrev pub complete_app : KindNames → App
 complete_app n =
@@ -83,7 +103,7 @@ abbrev pub plain_app : App
 plain_app =
     with_subcommand (with_subcommand (with_subcommand (with_subcommand (with_subcommand (with_subcommand
     (with_subcommand (with_subcommand bare_app classify_app.top) (file_app (codes "audit")).top) (file_app (codes "play")).top)
-    (file_app (codes "upgrade")).top) (file_app (codes "fit")).top) (file_app (codes "trace")).top)
+    (file_app (codes "upgrade")).top) fit_app.top) (file_app (codes "trace")).top)
     (file_app (codes "explain")).top) (file_app (codes "draw")).top
 
 abbrev pub monk_app : KindNames → RunNames → RunNames → App
@@ -112,7 +132,7 @@ command_word (Classify e w s) = codes "classify"
 command_word (Audit file) = codes "audit"
 command_word (Play file) = codes "play"
 command_word (Upgrade file) = codes "upgrade"
-command_word (Fit file) = codes "fit"
+command_word (Fit file lapses means) = codes "fit"
 command_word (Trace file) = codes "trace"
 command_word (Explain file) = codes "explain"
 command_word (Draw file) = codes "draw"
@@ -133,6 +153,26 @@ AreRunValues kind sample seats rounds rows =
     (first_of (codes "KIND") rows ≡ Some (kind_word kind)) × (first_of (codes "SAMPLE") rows ≡ Some (sample_word sample))
     × HasNumber (codes "SEATS") seats rows × HasNumber (codes "ROUNDS") rounds rows
 
+-- a whole number in digits
+abbrev pub IsNumberIn : Text → ℕ → Type 0
+IsNumberIn text n = IsNumeral 10 (without_leading_plus text) × (n ≡ digits_value 10 (without_leading_plus text))
+
+-- the numbers before and behind the first sign of equality
+abbrev pub is_equals : ℕ → Bool
+is_equals byte = byte == slice_index (codes "=") 0
+
+abbrev pub IsMeaning : Text → WaitsFor → Type 0
+IsMeaning word w = IsNumberIn (before_first is_equals word) w.cond × IsNumberIn (after_first is_equals word) w.pred
+
+abbrev pub AreMeanings : List Text → List WaitsFor → Type 0
+AreMeanings [] means = means ≡ []
+AreMeanings (word ∷ words) [] = ⊥
+AreMeanings (word ∷ words) (w ∷ means) = IsMeaning word w × AreMeanings words means
+
+abbrev pub texts_of : Option (List Text) → List Text
+texts_of None = []
+texts_of (Some texts) = texts
+
 -- the values of the line are those that clap has found, in the rows of its command
 abbrev pub ValuesAre : Line → List Row → Type 0
 ValuesAre (Classify e w s) rows = HasNumber (codes "ENTRY") e rows × HasNumber (codes "WAITER") w rows
@@ -140,7 +180,9 @@ ValuesAre (Classify e w s) rows = HasNumber (codes "ENTRY") e rows × HasNumber 
 ValuesAre (Audit file) rows = first_of (codes "FILE") rows ≡ option_map string_bytes file
 ValuesAre (Play file) rows = first_of (codes "FILE") rows ≡ option_map string_bytes file
 ValuesAre (Upgrade file) rows = first_of (codes "FILE") rows ≡ option_map string_bytes file
-ValuesAre (Fit file) rows = first_of (codes "FILE") rows ≡ option_map string_bytes file
+ValuesAre (Fit file lapses means) rows = (first_of (codes "FILE") rows ≡ option_map string_bytes file)
+    × ((lapses ≡ Allowed) ↔ (first_of (codes "lapses") rows ≡ Some (codes "true")))
+    × AreMeanings (texts_of (all_of (codes "means") rows)) means.items
 ValuesAre (Trace file) rows = first_of (codes "FILE") rows ≡ option_map string_bytes file
 ValuesAre (Explain file) rows = first_of (codes "FILE") rows ≡ option_map string_bytes file
 ValuesAre (Draw file) rows = first_of (codes "FILE") rows ≡ option_map string_bytes file
@@ -155,7 +197,7 @@ RunIsInRange (Classify e w s) = Unit {0}
 RunIsInRange (Audit file) = Unit {0}
 RunIsInRange (Play file) = Unit {0}
 RunIsInRange (Upgrade file) = Unit {0}
-RunIsInRange (Fit file) = Unit {0}
+RunIsInRange (Fit file lapses means) = Unit {0}
 RunIsInRange (Trace file) = Unit {0}
 RunIsInRange (Explain file) = Unit {0}
 RunIsInRange (Draw file) = Unit {0}

@@ -4,7 +4,7 @@ use Rattle.monk_commands.specs.Answer.{Answer, answer_of}
 use Rattle.monk_commands.specs.Completed.{IsAnswerToLog}
 use Rattle.monk_commands.specs.Drawn.{IsDrawingOf}
 use Rattle.monk_commands.specs.Explained.{IsExplanationOf}
-use Rattle.monk_commands.specs.Fitted.{fit_of}
+use Rattle.monk_commands.specs.LogFitted.{fit_answer_of}
 use Rattle.monk_commands.specs.Played.{IsAnswerTo}
 use Rattle.monk_commands.specs.Upgraded.{upgrade_of}
 use Rattle.monk_commands.specs.declared.report.Report.TheVariants as report
@@ -19,7 +19,7 @@ abbrev pub IsTaskAnswer : Task → List ℕ → ℕ → (List ℕ → Type 0) �
 IsTaskAnswer Audit input status Puts = IsGiven (answer_of input) status Puts
 IsTaskAnswer Play input status Puts = IsAnswerTo report.History input status Puts
 IsTaskAnswer Upgrade input status Puts = IsGiven (upgrade_of input) status Puts
-IsTaskAnswer Fit input status Puts = IsGiven (fit_of input) status Puts
+IsTaskAnswer (Fit lapses means) input status Puts = IsGiven (fit_answer_of lapses means.items input) status Puts
 IsTaskAnswer Trace input status Puts = IsAnswerTo report.Trace input status Puts
 IsTaskAnswer Explain input status Puts = IsExplanationOf input status Puts
 IsTaskAnswer Draw input status Puts = IsDrawingOf input status Puts

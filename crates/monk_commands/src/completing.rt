@@ -35,7 +35,7 @@ fn header_of(kind: KindName, header: &LogHeader) -> Header
 }
 
 /// The line of a misfit.
-fn misfit_line(
+pub(crate) fn misfit_line(
     alloc: Global,
     kind: KindName,
     line: u32,

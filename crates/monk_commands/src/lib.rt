@@ -13,6 +13,7 @@ mod explaining;
 mod fault;
 mod fitting;
 mod input;
+mod log_fitting;
 mod playing;
 mod recording;
 mod report;

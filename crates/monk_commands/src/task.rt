@@ -15,11 +15,12 @@ use crate::tracing::trace_stream;
 use crate::upgrading::upgrade_stream;
 use monk_history::Device;
 use monk_kinds::KindName;
+use monk_logs::{Lapses, WaitsFor};
 use std::alloc::Global;
 use std::io::{Read, Write};
 
 /// A command that reads an input: what is made of it.
-#[derive(Clone, Copy)]
+#[derive(Drop)]
 pub enum Task {
     /// The verdict on a history, by [`audit_stream`].
     Audit,
@@ -27,8 +28,8 @@ pub enum Task {
     Play,
     /// The same history in the newest version, by [`upgrade_stream`].
     Upgrade,
-    /// The verdicts on a history under each of the ten kinds, by [`fit_stream`].
-    Fit,
+    /// The verdicts on a history or a log under each of the ten kinds, by [`fit_stream`]: of a log with what it says of waits.
+    Fit(Lapses, Vec<WaitsFor>),
     /// Each command of a play with its answer, by [`trace_stream`].
     Trace,
     /// The verdict on a history, and why, by [`explain_stream`].
@@ -76,7 +77,7 @@ impl Task {
             Task::Audit => audit_stream(alloc, reader, writer),
             Task::Play => play_stream(alloc, reader, writer),
             Task::Upgrade => upgrade_stream(alloc, reader, writer),
-            Task::Fit => fit_stream(alloc, reader, writer),
+            Task::Fit(lapses, means) => fit_stream(alloc, lapses, &means, reader, writer),
             Task::Trace => trace_stream(alloc, reader, writer),
             Task::Explain => explain_stream(alloc, reader, writer),
             Task::Draw => draw_stream(alloc, reader, writer),

@@ -1,19 +1,20 @@
 //! The program's words, read with `clap`.
 
-ghost use Rattle.std.specs.Prelude.{◌≡◌, IfOk, IfSome, Some, codes, false, map, option_map, string_bytes};
+ghost use Rattle.std.specs.Prelude.{◌≡◌, ◌↔◌, IfOk, IfSome, Some, codes, false, map, option_map, string_bytes};
 ghost use Rattle.monk_kinds.specs.Names.{kind_word};
 ghost use Rattle.monk_object.specs.Names.{object_word};
-ghost use Rattle.clap.specs.Words.{App, app_of, first_of, first_value, found_of, rows_of, rule_of, subcommand_of, subcommand_rows_of};
+ghost use Rattle.clap.specs.Words.{App, all_of, app_of, first_of, first_value, found_of, rows_of, rule_of, subcommand_of, subcommand_rows_of};
 ghost use Rattle.monk_samples.specs.Samples.{IsInRange, sample_object};
 ghost use Rattle.monk_commands.specs.Request.{AreRunValues, IsAsked, IsCompleteCommand, IsMonk, IsRead, IsRunCommand, IsSubcommand};
-ghost use Rattle.monk_commands.specs.Request.{classify_app, file_app, plain_app};
-ghost use Rattle.monk_commands.specs.Request.{required_rule};
+ghost use Rattle.monk_commands.specs.Request.{AreMeanings, IsMeaning, classify_app, file_app, fit_app, flag_rule, plain_app};
+ghost use Rattle.monk_commands.specs.Request.{repeated_rule, required_rule, texts_of};
 
 use crate::request::{Line, LineFault};
 use clap::builder::ValueParser;
 use clap::error::ErrorKind;
-use clap::{Arg, ArgMatches, Command, value_parser};
+use clap::{Arg, ArgAction, ArgMatches, Command, value_parser};
 use monk_kinds::KindName;
+use monk_logs::{Lapses, WaitsFor};
 use monk_object::ObjectName;
 use monk_samples::Sample;
 use std::alloc::{AllocError, Global};
@@ -55,9 +56,13 @@ static UPGRADE: Help = Help {
 };
 
 static FIT: Help = Help {
-    about: "Tells under which kinds a history is legal",
-    example: "Example: monk fit examples/hoare_handover.history",
+    about: "Tells under which kinds a history is legal, or which a log could be of",
+    example: "Example: monk fit examples/threads_at_a_buffer.log --means 0=0 --means 1=1",
 };
+
+const LAPSES: &str = "A log's `resume` may tell of a wait that ran out";
+
+const MEANS: &str = "In a log, those who wait on the condition wait until the predicate holds";
 
 static TRACE: Help = Help {
     about: "Tells what each step of a play came to",
@@ -109,7 +114,7 @@ fn plain<'a>(alloc: Global) -> Result<Command<'a>, AllocError>
     let audit = with_file(alloc, "audit", &AUDIT)?;
     let play = with_file(alloc, "play", &PLAY)?;
     let upgrade = with_file(alloc, "upgrade", &UPGRADE)?;
-    let fit = with_file(alloc, "fit", &FIT)?;
+    let fit = fitting(alloc)?;
     let trace = with_file(alloc, "trace", &TRACE)?;
     let explain = with_file(alloc, "explain", &EXPLAIN)?;
     let draw = with_file(alloc, "draw", &DRAW)?;
@@ -139,6 +144,18 @@ fn classify<'a>(alloc: Global) -> Result<Command<'a>, AllocError>
         .arg(entry)?
         .arg(waiter)?
         .arg(signaller)
+}
+
+/// The command that takes what a log may tell, and a file, or standard input where none is named.
+fn fitting<'a>(alloc: Global) -> Result<Command<'a>, AllocError>
+    ensures { IfOk result (λ c. IsSubcommand c fit_app) }
+{
+    Command::new(alloc, "fit")
+        .about(FIT.about)
+        .after_help(FIT.example)
+        .arg(flag(alloc, "lapses", LAPSES))?
+        .arg(repeated(alloc, "means", MEANS, "COND=PRED"))?
+        .arg(Arg::new(alloc, "FILE").help("The text; with none, standard input"))
 }
 
 /// The command that takes a kind, and a file, or standard input where none is named.
@@ -189,6 +206,29 @@ fn required<'a>(alloc: Global, name: &'a str, help: &'a str, parser: ValueParser
         .help(help)
         .required(true)
         .value_parser(parser)
+}
+
+/// A flag.
+fn flag<'a>(alloc: Global, name: &'a str, help: &'a str) -> Arg<'a>
+    ensures rule { rule_of result ≡ flag_rule name.entry.now }
+    ensures local { result.global ≡ false }
+{
+    Arg::new(alloc, name)
+        .help(help)
+        .long(name)
+        .action(ArgAction::SetTrue)
+}
+
+/// An option that may stand more than once, and takes a value.
+fn repeated<'a>(alloc: Global, name: &'a str, help: &'a str, value: &'a str) -> Arg<'a>
+    ensures rule { rule_of result ≡ repeated_rule name.entry.now }
+    ensures local { result.global ≡ false }
+{
+    Arg::new(alloc, name)
+        .help(help)
+        .long(name)
+        .value_name(value)
+        .action(ArgAction::Append)
 }
 
 fn fault_of(alloc: Global, error: &clap::Error) -> LineFault {
@@ -252,6 +292,59 @@ fn run_of(matches: &ArgMatches<'_>) -> Option<(KindName, Sample, u8, u32)>
     Some((kind, sample, seats, rounds))
 }
 
+/// Which lines of a log may tell of a wait that ran out.
+fn lapses_of(matches: &ArgMatches<'_>) -> Lapses
+    ensures { (result ≡ Lapses.Allowed) ↔ (first_of (codes "lapses") (rows_of (found_of matches.now)) ≡ Some (codes "true")) }
+{
+    match matches.get_str("lapses") {
+        Some("true") => Lapses::Allowed,
+        _ => Lapses::Told,
+    }
+}
+
+/// What a word `COND=PRED` says.
+fn meaning_of(word: &str) -> Option<WaitsFor>
+    ensures { IfSome result (λ w. IsMeaning word.now w) }
+{
+    let (cond, pred) = word.split_once('=')?;
+    Some(WaitsFor {
+        cond: cond.parse().ok()?,
+        pred: pred.parse().ok()?,
+    })
+}
+
+/// The fault of a word that is not `COND=PRED`.
+fn no_meaning(alloc: Global, word: &str) -> LineFault {
+    match format!(in alloc; "error: '{word}' is no COND=PRED, two numbers from 0 to 255") {
+        Ok(text) => LineFault::Words(text),
+        Err(_) => LineFault::Memory,
+    }
+}
+
+/// What those wait for who wait on a condition, word by word.
+fn meanings_of(alloc: Global, matches: &ArgMatches<'_>) -> Result<Vec<WaitsFor>, LineFault>
+    ensures { IfOk result (λ means. AreMeanings (texts_of (all_of (codes "means") (rows_of (found_of matches.now)))) means.items) }
+{
+    let mut means = Vec::new(alloc);
+    if let Some(words) = matches.get_strs("means") {
+        for word in words {
+            match meaning_of(word) {
+                Some(it) => means.push(it)?,
+                None => return Err(no_meaning(alloc, word)),
+            }
+        }
+    }
+    Ok(means)
+}
+
+fn line_to_fit(alloc: Global, matches: &ArgMatches<'_>) -> Result<Line, LineFault>
+    ensures { IfOk result (λ l. IsRead (codes "fit") l (rows_of (found_of matches.now))) }
+{
+    let file = file_of(alloc, matches)?;
+    let means = meanings_of(alloc, matches)?;
+    Ok(Line::Fit(file, lapses_of(matches), means))
+}
+
 fn line_to_complete(alloc: Global, matches: &ArgMatches<'_>) -> Result<Option<Line>, LineFault>
     ensures { IfOk result (λ found. IfSome found (λ l. IsRead (codes "complete") l (rows_of (found_of matches.now)))) }
 {
@@ -284,7 +377,7 @@ fn asked(alloc: Global, matches: &ArgMatches<'_>) -> Result<Option<Line>, LineFa
         Some(("audit", audit)) => Ok(Some(Line::Audit(file_of(alloc, audit)?))),
         Some(("play", play)) => Ok(Some(Line::Play(file_of(alloc, play)?))),
         Some(("upgrade", upgrade)) => Ok(Some(Line::Upgrade(file_of(alloc, upgrade)?))),
-        Some(("fit", fit)) => Ok(Some(Line::Fit(file_of(alloc, fit)?))),
+        Some(("fit", fit)) => Ok(Some(line_to_fit(alloc, fit)?)),
         Some(("trace", trace)) => Ok(Some(Line::Trace(file_of(alloc, trace)?))),
         Some(("explain", explain)) => Ok(Some(Line::Explain(file_of(alloc, explain)?))),
         Some(("draw", draw)) => Ok(Some(Line::Draw(file_of(alloc, draw)?))),

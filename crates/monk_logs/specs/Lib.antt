@@ -23,3 +23,4 @@ pub mod BoardStand
 pub mod BoardShown
 pub mod BoardMoves
 pub mod Counts
+pub mod Fit

@@ -64,12 +64,7 @@ fn lacks_some_signal<T: Guarded>(object: &T, items: &[Item], means: &[WaitsFor])
 }
 
 /// Whether the line lets the monitor go with such a signal missed.
-fn misses_signal<T: Guarded>(
-    line: LogLine,
-    object: &T,
-    items: &[Item],
-    means: &[WaitsFor],
-) -> bool
+fn misses_signal<T: Guarded>(line: LogLine, object: &T, items: &[Item], means: &[WaitsFor]) -> bool
     ensures { result ≡ tallies.lets_go line && tallies.lacks_some_signal T.meaning (T.state object.now) items.now means.now }
 {
     lets_go(line) && lacks_some_signal(object, items, means)

@@ -1,0 +1,101 @@
+-- The answer to a log that is judged under each of the ten kinds
+use Rattle.std.specs.Prelude.{ℕ, Bool, true, false, List, [], ◌∷◌, ◌++◌, ◌^◌, Option, Some, None, Result, Ok, Err, nat_lt, if◌then◌else◌}
+use Rattle.std.specs.Prelude.{◌==◌, codes}
+use Rattle.std.specs.Fmt.{decimal}
+use Rattle.std.specs.List.{flat_map, list_any}
+use Rattle.core.specs.List.{starts_with}
+use Rattle.monk_kinds.specs.Names.{kind_word, kinds}
+use Rattle.monk_kinds.specs.declared.name.KindName.{KindName}
+use Rattle.monk_kinds.specs.declared.name.KindName.TheVariants.{Npnb}
+use Rattle.monk_object.specs.Names.{most}
+use Rattle.monk_history.specs.declared.text.fault.ReadFault.{ReadFault}
+use Rattle.monk_logs.specs.Counts.{counts_of}
+use Rattle.monk_logs.specs.Fit.{fit_of, order_word}
+use Rattle.monk_logs.specs.FitsIn.{IsOpenIn}
+use Rattle.monk_logs.specs.Log.{LogHeading}
+use Rattle.monk_logs.specs.Log.Reading.{Log, log_at}
+use Rattle.monk_logs.specs.Verdict.{log_monitor}
+use Rattle.monk_logs.specs.declared.counts.Counts.{Counts}
+use Rattle.monk_logs.specs.declared.kind_fit.Fit.{Fit}
+use Rattle.monk_logs.specs.declared.kind_fit.Fit.TheVariants.{In, Misfit}
+use Rattle.monk_logs.specs.declared.line.LogLine.{LogLine}
+use Rattle.monk_logs.specs.declared.order.Order.{Order}
+use Rattle.monk_logs.specs.declared.waits_for.WaitsFor.{WaitsFor}
+use Rattle.monk_commands.specs.Answer.{Answer, too_big, unreadable}
+use Rattle.monk_commands.specs.Completed.{IsLogOf, misfit_words}
+
+-- ---- a line for each kind
+
+abbrev pub fit_words : Fit → List ℕ
+fit_words (In o) = codes " fits " ++ order_word o ++ codes "\n"
+fit_words (Misfit n why) = misfit_words n why
+
+abbrev pub is_in : Fit → Bool
+is_in (In o) = true
+is_in (Misfit n why) = false
+
+abbrev pub log_fit : LogHeading → List LogLine → KindName → Fit
+log_fit h log k = fit_of (log_monitor k h) log
+
+abbrev pub log_fit_line : LogHeading → List LogLine → KindName → List ℕ
+log_fit_line h log k = kind_word k ++ fit_words (log_fit h log k)
+
+abbrev pub log_fit_lines : LogHeading → List LogLine → List KindName → List ℕ
+log_fit_lines h log ks = flat_map (log_fit_line h log) ks
+
+abbrev pub fits_some_kind : LogHeading → List LogLine → List KindName → Bool
+fits_some_kind h log ks = list_any (λ k. is_in (log_fit h log k)) ks
+
+-- ---- the counts
+
+abbrev pub counts_words : Counts → List ℕ
+counts_words c =
+    codes "served " ++ decimal c.served ++ codes " passed " ++ decimal c.passed ++ codes " lapsed " ++ decimal c.lapsed
+    ++ codes "\nleft waiting " ++ decimal c.waiting ++ codes " woken " ++ decimal c.woken ++ codes " inside " ++ decimal c.inside
+    ++ codes "\n"
+
+abbrev pub missed_words : Option ℕ → List ℕ
+missed_words None = codes "missed none\n"
+missed_words (Some n) = codes "missed " ++ decimal n ++ codes "\n"
+
+-- a line more where it is told what those wait for who wait on a condition
+abbrev pub missed_line : List WaitsFor → Option ℕ → List ℕ
+missed_line [] missed = []
+missed_line (w ∷ more) missed = missed_words missed
+
+-- of the log as one of no-priority non-blocking, which real libraries promise
+abbrev pub log_counts : LogHeading → List WaitsFor → List LogLine → Counts
+log_counts h means log = counts_of (log_monitor Npnb h) means log
+
+abbrev pub counts_lines : LogHeading → List WaitsFor → List LogLine → List ℕ
+counts_lines h means log =
+    counts_words (log_counts h means log) ++ missed_line means (log_counts h means log).missed
+
+-- ---- an answer
+
+abbrev pub log_fit_answer : List WaitsFor → LogHeading → List LogLine → Answer
+log_fit_answer means h log =
+    if nat_lt (most h.object) h.size then too_big
+    else record {
+      status = if fits_some_kind h log kinds then 0 else 1;
+      text = log_fit_lines h log kinds ++ counts_lines h means log;
+    }
+
+abbrev pub log_fit_reading : List WaitsFor → Result Log ReadFault → Answer
+log_fit_reading means (Ok l) = log_fit_answer means l.0 l.1
+log_fit_reading means (Err f) = unreadable f
+
+abbrev pub log_fit_of : List WaitsFor → List ℕ → Answer
+log_fit_of means input = log_fit_reading means (log_at (2 ^ 25) input)
+
+-- ---- logs, among texts
+
+-- a text whose first word is that of a log
+abbrev pub is_log_text : List ℕ → Bool
+is_log_text input = starts_with (λ (a b : ℕ). a == b) input (codes "log ")
+
+-- the text of a log, of a size within the object's greatest, that is open under one of the kinds in some order
+abbrev pub IsFitLogText : List ℕ → Type 0
+IsFitLogText input =
+    (h : LogHeading) × ((log : List LogLine) × (IsLogOf input h log
+    × ((k : KindName) × ((o : Order) × IsOpenIn o (log_monitor k h) log))))

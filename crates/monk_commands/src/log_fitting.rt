@@ -1,0 +1,195 @@
+//! The answer to a log that is judged under each of the ten kinds.
+
+ghost use Rattle.std.specs.Prelude.{◌≡◌, ◌≤◌, ◌^◌, ◌++◌, false, true, length, IfOk, OnOk, IsErrOf, string_bytes};
+ghost use Rattle.std.specs.Io.KnownBytes.{Appends};
+ghost use Rattle.monk_kinds.specs.Names.{kinds};
+ghost use Rattle.monk_object.specs.Names.{most};
+ghost use Rattle.monk_history.specs.Text.Device.{held, has_failed};
+ghost use Rattle.monk_commands.specs.LogFitted.{counts_lines, fits_some_kind, is_in, log_counts, log_fit, log_fit_answer};
+ghost use Rattle.monk_commands.specs.LogFitted.{log_fit_line, log_fit_lines, log_fit_of, missed_words};
+
+use crate::answer::{put, too_big, unreadable};
+use crate::completing::misfit_line;
+use crate::fault::StreamFault;
+use monk_audit::AuditFault;
+use monk_history::Device;
+use monk_kinds::KindName;
+use monk_logs::{Counts, Fit, LogHeader, LogLine, WaitsFor, count, fit, read_log};
+use std::alloc::Global;
+use std::io::Write;
+
+/// The strictest order in which the log fits the kind, or why it fits in none.
+fn kind_fit(
+    alloc: Global,
+    header: &LogHeader,
+    lines: &[LogLine],
+    kind: KindName,
+) -> Result<Fit, StreamFault>
+    requires few { length lines.now ≤ 2 ^ 25 }
+    requires size { header.now.size ≤ most header.now.object }
+    ensures found { IfOk result (λ f. f ≡ log_fit header.now lines.now kind) }
+    ensures no_file { IsErrOf result StreamFault.File → ⊥ }
+{
+    match fit(alloc, header, lines, kind) {
+        Ok(found) => Ok(found),
+        Err(AuditFault::Memory) => Err(StreamFault::Memory),
+        // The size is within the object's greatest.
+        Err(AuditFault::Object) => unreachable!(),
+    }
+}
+
+/// Puts the line of the kind behind the page. Gives whether the log fits it.
+fn put_line(
+    alloc: Global,
+    page: &mut Vec<u8>,
+    header: &LogHeader,
+    lines: &[LogLine],
+    kind: KindName,
+) -> Result<bool, StreamFault>
+    requires few { length lines.now ≤ 2 ^ 25 }
+    requires size { header.now.size ≤ most header.now.object }
+    ensures line { OnOk result (page.new.items ≡ page.old.items ++ log_fit_line header.now lines.now kind) }
+    ensures fit { IfOk result (λ fits. fits ≡ is_in (log_fit header.now lines.now kind)) }
+    ensures no_file { IsErrOf result StreamFault.File → ⊥ }
+{
+    match kind_fit(alloc, header, lines, kind)? {
+        Fit::In(order) => {
+            page.extend_from_slice(kind.text())?;
+            page.extend_from_slice(b" fits ")?;
+            page.extend_from_slice(order.text().as_bytes())?;
+            page.extend_from_slice(b"\n")?;
+            Ok(true)
+        }
+        Fit::Misfit { line, blame } => {
+            page.extend_from_slice(&misfit_line(alloc, kind, line, blame)?)?;
+            Ok(false)
+        }
+    }
+}
+
+/// A line for each kind, and whether the log fits one of them.
+fn all_lines(
+    alloc: Global,
+    header: &LogHeader,
+    lines: &[LogLine],
+) -> Result<(Vec<u8>, bool), StreamFault>
+    requires few { length lines.now ≤ 2 ^ 25 }
+    requires size { header.now.size ≤ most header.now.object }
+    ensures lines { IfOk result (λ r. r.0.items ≡ log_fit_lines header.now lines.now kinds) }
+    ensures fit { IfOk result (λ r. r.1 ≡ fits_some_kind header.now lines.now kinds) }
+    ensures no_file { IsErrOf result StreamFault.File → ⊥ }
+{
+    let mut page = Vec::new(alloc);
+    let mut is_fit = false;
+    for kind in KindName::ALL.iter() {
+        let fits = put_line(alloc, &mut page, header, lines, *kind)?;
+        is_fit = is_fit || fits;
+    }
+    Ok((page, is_fit))
+}
+
+/// What is counted in the log.
+fn counts(
+    alloc: Global,
+    header: &LogHeader,
+    lines: &[LogLine],
+    means: &[WaitsFor],
+) -> Result<Counts, StreamFault>
+    requires few { length lines.now ≤ 2 ^ 25 }
+    requires size { header.now.size ≤ most header.now.object }
+    ensures counted { IfOk result (λ c. c ≡ log_counts header.now means.now lines.now) }
+    ensures no_file { IsErrOf result StreamFault.File → ⊥ }
+{
+    match count(alloc, header, lines, KindName::Npnb, means) {
+        Ok(counts) => Ok(counts),
+        Err(AuditFault::Memory) => Err(StreamFault::Memory),
+        // The size is within the object's greatest.
+        Err(AuditFault::Object) => unreachable!(),
+    }
+}
+
+/// The line of a missed signal.
+fn missed_line(alloc: Global, missed: Option<u32>) -> Result<String, StreamFault>
+    ensures line { IfOk result (λ line. string_bytes line ≡ missed_words missed) }
+    ensures no_file { IsErrOf result StreamFault.File → ⊥ }
+{
+    let line = match missed {
+        Some(step) => format!(in alloc; "missed {step}\n")?,
+        None => format!(in alloc; "missed none\n")?,
+    };
+    Ok(line)
+}
+
+/// Puts the lines of the counts behind the page.
+fn put_counts(
+    alloc: Global,
+    page: &mut Vec<u8>,
+    header: &LogHeader,
+    lines: &[LogLine],
+    means: &[WaitsFor],
+) -> Result<(), StreamFault>
+    requires few { length lines.now ≤ 2 ^ 25 }
+    requires size { header.now.size ≤ most header.now.object }
+    ensures lines { OnOk result (page.new.items ≡ page.old.items ++ counts_lines header.now means.now lines.now) }
+    ensures no_file { IsErrOf result StreamFault.File → ⊥ }
+{
+    let counts = counts(alloc, header, lines, means)?;
+    let (served, passed, lapsed) = (counts.served, counts.passed, counts.lapsed);
+    let (waiting, woken, inside) = (counts.waiting, counts.woken, counts.inside);
+    let gone = format!(in alloc; "served {served} passed {passed} lapsed {lapsed}\n")?;
+    let left = format!(in alloc; "left waiting {waiting} woken {woken} inside {inside}\n")?;
+    page.extend_from_slice(gone.as_bytes())?;
+    page.extend_from_slice(left.as_bytes())?;
+    if !means.is_empty() {
+        page.extend_from_slice(missed_line(alloc, counts.missed)?.as_bytes())?;
+    }
+    Ok(())
+}
+
+/// Answers a log that was read.
+fn fit_log<W: Write>(
+    alloc: Global,
+    means: &[WaitsFor],
+    header: &LogHeader,
+    lines: &[LogLine],
+    writer: &mut Device<W>,
+) -> Result<u8, StreamFault>
+    requires works { has_failed writer.old ≡ false }
+    requires few { length lines.now ≤ 2 ^ 25 }
+    ensures answer { IfOk result
+        (λ status. (status ≡ (log_fit_answer means.now header.now lines.now).status)
+        × Appends (W.contents (held writer.old)) (W.contents (held writer.new))
+        (log_fit_answer means.now header.now lines.now).text) }
+    ensures file { IsErrOf result StreamFault.File → has_failed writer.new ≡ true }
+    ensures memory { IsErrOf result StreamFault.Memory → writer.new ≡ writer.old }
+{
+    if header.size() > header.object().greatest_size() {
+        return put(&too_big(alloc)?, writer);
+    }
+    let (mut page, is_fit) = all_lines(alloc, header, lines)?;
+    put_counts(alloc, &mut page, header, lines, means)?;
+    match writer.write_all(&page) {
+        Ok(()) => Ok(if is_fit { 0 } else { 1 }),
+        Err(_) => Err(StreamFault::File),
+    }
+}
+
+/// Answers a text whose first word is that of a log.
+pub(crate) fn fit_log_text<W: Write>(
+    alloc: Global,
+    means: &[WaitsFor],
+    bytes: &[u8],
+    writer: &mut Device<W>,
+) -> Result<u8, StreamFault>
+    requires { has_failed writer.old ≡ false }
+    ensures answer { IfOk result
+        (λ status. (status ≡ (log_fit_of means.now bytes.now).status)
+        × Appends (W.contents (held writer.old)) (W.contents (held writer.new)) (log_fit_of means.now bytes.now).text) }
+    ensures file { IsErrOf result StreamFault.File → has_failed writer.new ≡ true }
+    ensures memory { IsErrOf result StreamFault.Memory → writer.new ≡ writer.old }
+{
+    match read_log(alloc, bytes) {
+        Ok((header, lines)) => fit_log(alloc, means, &header, &lines, writer),
+        Err(fault) => put(&unreadable(alloc, fault)?, writer),
+    }
+}

@@ -1,0 +1,50 @@
+-- The strictest order in which a log could be of a monitor
+use Rattle.std.specs.Prelude.{◌≡◌, ℕ, IsTrue, Bool, true, false, List, Option, Some, None, codes}
+use Rattle.monk_history.specs.Meaning.Monitor.{Monitor}
+use Rattle.monk_logs.specs.FitsIn.{IsOpenIn}
+use Rattle.monk_logs.specs.VerdictIn.{verdict_in}
+use Rattle.monk_logs.specs.declared.kind_fit.Fit.{Fit}
+use Rattle.monk_logs.specs.declared.kind_fit.Fit.TheVariants.{In, Misfit}
+use Rattle.monk_logs.specs.declared.line.LogLine.{LogLine}
+use Rattle.monk_logs.specs.declared.order.Order.{Order}
+use Rattle.monk_logs.specs.declared.order.Order.TheVariants.{Fifo, Wake, Any}
+use Rattle.monk_logs.specs.declared.verdict.LogVerdict.{LogVerdict}
+use Rattle.monk_logs.specs.declared.verdict.LogVerdict.TheVariants as verdict
+
+abbrev pub order_word : Order → List ℕ
+order_word Fifo = codes "fifo"
+order_word Wake = codes "wake"
+order_word Any = codes "any"
+
+-- whether the first order allows less than the second
+abbrev pub is_stricter : Order → Order → Bool
+is_stricter Fifo Fifo = false
+is_stricter Fifo Wake = true
+is_stricter Fifo Any = true
+is_stricter Wake Fifo = false
+is_stricter Wake Wake = false
+is_stricter Wake Any = true
+is_stricter Any o = false
+
+-- the log is open in that order, and in no stricter one
+pub record IsStrictest (m : Monitor) (log : List LogLine) (o : Order) : Type 0 where
+  pub is_open : IsOpenIn o m log
+  pub no_stricter : (p : Order) → IsTrue (is_stricter p o) → IsOpenIn p m log → ⊥
+
+-- at which line it misfits
+abbrev pub misfit_line : Fit → Option ℕ
+misfit_line (In o) = None
+misfit_line (Misfit n why) = Some n
+
+-- ---- as it is found, from the strictest order on
+
+abbrev pub or_in : LogVerdict → Order → Fit → Fit
+or_in verdict.Fits o other = In o
+or_in (verdict.Misfit n why) o other = other
+
+abbrev pub last_fit : LogVerdict → Fit
+last_fit verdict.Fits = In Any
+last_fit (verdict.Misfit n why) = Misfit n why
+
+abbrev pub fit_of : Monitor → List LogLine → Fit
+fit_of m log = or_in (verdict_in Fifo m log) Fifo (or_in (verdict_in Wake m log) Wake (last_fit (verdict_in Any m log)))

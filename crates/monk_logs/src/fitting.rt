@@ -1,0 +1,54 @@
+//! The strictest order in which a log could be of a monitor of a kind.
+
+ghost use Rattle.std.specs.Prelude.{◌≡◌, ◌↔◌, ◌≤◌, ◌<◌, ℕ, Some, IfOk, OnOk, IsErrOf, length};
+ghost use Rattle.monk_object.specs.Names.{most};
+ghost use Rattle.monk_history.specs.Limits.{most_lines};
+ghost use Rattle.monk_logs.specs.Fit.{fit_of};
+ghost use Rattle.monk_logs.specs.Verdict.{log_monitor};
+
+use crate::header::LogHeader;
+use crate::judging::judge_in;
+use crate::kind_fit::Fit;
+use crate::line::LogLine;
+use crate::order::Order;
+use crate::verdict::LogVerdict;
+use monk_audit::AuditFault;
+use monk_kinds::KindName;
+use std::alloc::Global;
+
+/// The strictest order in which the log could be of a monitor of the kind; or else the first line with which it could be in no
+/// order.
+///
+/// # Errors
+///
+/// [`AuditFault::Object`] exactly where the size is above the object's greatest. [`AuditFault::Memory`] where a growth
+/// was refused.
+///
+/// # Cost
+///
+/// That of [`judge_in`], in each order that is tried: from the strictest on, up to the first in which the log fits.
+pub fn fit(
+    alloc: Global,
+    header: &LogHeader,
+    lines: &[LogLine],
+    kind: KindName,
+) -> Result<Fit, AuditFault>
+    requires { length lines.now ≤ most_lines }
+    // All else, and what is to blame, is as it is found line by line.
+    ensures found { IfOk result (λ f. f ≡ fit_of (log_monitor kind header.now) lines.now) }
+    // The size is refused exactly where it is above the object's greatest.
+    ensures made { OnOk result (header.now.size ≤ most header.now.object) }
+    ensures object { IsErrOf result AuditFault.Object → most header.now.object < header.now.size }
+    ensures too_big { most header.now.object < header.now.size → IsErrOf result AuditFault.Object }
+{
+    if judge_in(alloc, header, lines, kind, Order::Fifo)? == LogVerdict::Fits {
+        return Ok(Fit::In(Order::Fifo));
+    }
+    if judge_in(alloc, header, lines, kind, Order::Wake)? == LogVerdict::Fits {
+        return Ok(Fit::In(Order::Wake));
+    }
+    match judge_in(alloc, header, lines, kind, Order::Any)? {
+        LogVerdict::Fits => Ok(Fit::In(Order::Any)),
+        LogVerdict::Misfit { line, blame } => Ok(Fit::Misfit { line, blame }),
+    }
+}
