@@ -22,3 +22,5 @@ pub mod BoardCourse
 pub mod BoardStand
 pub mod BoardShown
 pub mod BoardMoves
+pub mod Lapses
+pub mod BoardRead
