@@ -12,3 +12,4 @@ mod MoveLaws
 mod ToldLaws
 mod JudgeLaws
 mod FifoLaws
+mod LapseLaws

@@ -31,7 +31,7 @@ IsReading (l ∷ log) (k ∷ reading) = ((k ≡ l) ⊎ (k ≡ as_lapse l)) × Is
 pub record IsOpenRead (o : Order) (m : Monitor) (log : List LogLine) : Type 0 where
   pub reading : List LogLine
   pub reads : IsReading log reading
-  pub open : IsOpenIn o m reading
+  pub is_open : IsOpenIn o m reading
 
 abbrev pub IsOpenWith : Lapses → Order → Monitor → List LogLine → Type 0
 IsOpenWith Told o m log = IsOpenIn o m log

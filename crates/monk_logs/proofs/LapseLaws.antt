@@ -1,0 +1,5 @@
+-- Logs in which a resume may be a lapse
+pub mod Before
+pub mod FewerIn
+pub mod Fewer
+pub mod Goes
