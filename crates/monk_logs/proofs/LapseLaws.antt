@@ -3,3 +3,4 @@ pub mod Before
 pub mod FewerIn
 pub mod Fewer
 pub mod Goes
+pub mod Moves

@@ -106,3 +106,33 @@ module _ (o : Order) (xs ys : List Item) (h : Fewer o xs ys) (dis : Distinct (al
       same = same_lapsed (lapsed j xs) (taken_out j ys) (waitings_lapsed j xs) (waitings_taken j ys apart_many);
       fewer = λ c. rw (line_lapsed j c xs, line_taken j c ys apart_many) (turned_lines never may c);
     }
+
+-- ---- who may lapse
+
+can_fewer : (o : Order) (j c : ℕ) (xs ys : List Item) → Fewer o xs ys → Distinct (all_seats xs)
+    → is_among j (seats_in (line c xs)) ≡ true → can_be_unserved o j c ys ≡ true → can_be_unserved o j c xs ≡ true
+can_fewer Fifo j c xs ys h dis m can =
+    dropped_more j (services_in (line c xs)) (services_in (line c ys)) (seats_in (line c xs)) (few_in_all Fifo xs ys h c)
+    (subst (λ (l : List ℕ). is_among j (drop (services_in (line c ys)) l) ≡ true) (sym (same_line Fifo xs ys h c)) can)
+can_fewer Wake j c xs ys h dis m can =
+    dropped_more j (services_in (line c xs)) (services_in (line c ys)) (seats_in (line c xs)) (few_in_all Wake xs ys h c)
+    (subst (λ (l : List ℕ). is_among j (drop (services_in (line c ys)) l) ≡ true) (sym (same_line Wake xs ys h c)) can)
+can_fewer Any j c xs ys h dis m can =
+    ap (keeps_up 0) (line_lapsed j c xs)
+    ∙ keeps_fewer j (line c xs) (line c ys) (same_line Any xs ys h c) (distinct_line c xs dis) m (h.fewer c)
+    (ap (keeps_up 0) (sym (line_lapsed j c ys)) ∙ can)
+
+pub may_lapse_fewer : (o : Order) (j : ℕ) (xs ys : List Item) → Fewer o xs ys → Distinct (all_seats xs) → may_lapse o j ys ≡ true
+    → may_lapse o j xs ≡ true
+may_lapse_fewer o j xs ys h dis may =
+    let r = lapses o j ys may in
+    let waits : condition_of j xs ≡ Some r.on = same_condition o xs ys h j ∙ r.waits in
+    lapse_from o j r.on xs waits ∙ can_fewer o j r.on xs ys h dis (waits_there j r.on xs waits) r.can
+
+-- who can't have been served may lapse
+pub keeps_gone : (j c : ℕ) (xs : List Item) → Distinct (all_seats xs) → keeps_up 0 (line c xs) ≡ true → condition_of j xs ≡ Some c
+    → may_resume Any j xs ≡ false → keeps_up 0 (line c (lapsed j xs)) ≡ true
+keeps_gone j c xs dis up waits never =
+    let f : has_service_behind j (line c xs) ≡ false = sym (may_from Any j c xs waits) ∙ never in
+    ap (keeps_up 0) (line_lapsed j c xs)
+    ∙ keeps_unserved j (line c xs) (line c xs) refl (distinct_line c xs dis) (waits_there j c xs waits) up f
