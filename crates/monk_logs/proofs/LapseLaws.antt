@@ -4,3 +4,4 @@ pub mod FewerIn
 pub mod Fewer
 pub mod Goes
 pub mod Moves
+pub mod Moved

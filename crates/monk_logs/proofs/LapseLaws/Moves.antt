@@ -68,7 +68,7 @@ Suits (Some (UntilSeat j)) items = Unit {0}
 -- ---- what may be chosen
 
 module _ (k : Rules) (level : IsLevel k) (us ws : List Item) (able : List ℕ) (s : ℕ) where
-  choose_kept : (sigs : List ℕ) (x : Next) → Suits (Some x) us → may_choose_by k (chances_with ws sigs able) s x ≡ true
+  pub choose_kept : (sigs : List ℕ) (x : Next) → Suits (Some x) us → may_choose_by k (chances_with ws sigs able) s x ≡ true
       → may_choose_by k (chances_with us sigs able) s x ≡ true
   choose_kept sigs Stay suits h = h
   choose_kept sigs Entry suits h =
@@ -82,7 +82,7 @@ module _ (k : Rules) (level : IsLevel k) (us ws : List Item) (able : List ℕ) (
       (or_right (is_empty (services us)) (nat_le k.waiter k.signaller) level.back)) p.1
   choose_kept sigs (UntilSeat j) suits h = h
 
-  until_kept : (sigs : List ℕ) (x : Next) (stays : Bool) → Suits (Some x) us
+  pub until_kept : (sigs : List ℕ) (x : Next) (stays : Bool) → Suits (Some x) us
       → cond stays (is_stay (Some x)) (may_choose_by k (chances_with ws sigs able) s x) ≡ true
       → cond stays (is_stay (Some x)) (may_choose_by k (chances_with us sigs able) s x) ≡ true
   until_kept sigs x true suits h = h
@@ -100,7 +100,7 @@ module _ (k : Rules) (level : IsLevel k) (us ws : List Item) (able : List ℕ) (
   last_among sigs = among-append s sigs (s ∷ []) ∙ or_right (is_among s sigs) (is_among s (s ∷ [])) (among_here s [])
 
   -- the signaller stays at once where its signal serves somebody only where there are fewer services
-  signal_permit : (sigs : List ℕ) (x : Next) (many few : Bool) → (few ≡ true → many ≡ true) → Suits (Some x) us
+  pub signal_permit : (sigs : List ℕ) (x : Next) (many few : Bool) → (few ≡ true → many ≡ true) → Suits (Some x) us
       → cond many (is_stay (Some x)) (may_signal_by k (chances_with ws (sigs ++ cond many [] (s ∷ [])) able) s x) ≡ true
       → cond few (is_stay (Some x)) (may_signal_by k (chances_with us (sigs ++ cond few [] (s ∷ [])) able) s x) ≡ true
   signal_permit sigs x true true so suits h = h
@@ -122,7 +122,7 @@ stays_out s (x ∷ sigs) f =
     (λ ne. rw (ne_eqb s x (λ (e : s ≡ x). ne (sym e)))
     (ap (λ (l : List ℕ). x ∷ l) (stays_out s sigs (rw (ne_eqb x s ne) at f)))) (cases_eq x s)
 
-signal_after : (s : ℕ) (x : Next) (sigs : List ℕ) (many few rest : Bool) → (few ≡ true → many ≡ true) → is_among s sigs ≡ false
+pub signal_after : (s : ℕ) (x : Next) (sigs : List ℕ) (many few rest : Bool) → (few ≡ true → many ≡ true) → is_among s sigs ≡ false
     → cond many (is_stay (Some x)) rest ≡ true
     → apart (taken_signaller (Some x) (cond few [] (s ∷ []))) (sigs ++ cond few [] (s ∷ []))
     ≡ apart (taken_signaller (Some x) (cond many [] (s ∷ []))) (sigs ++ cond many [] (s ∷ []))
