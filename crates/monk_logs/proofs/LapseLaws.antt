@@ -5,3 +5,4 @@ pub mod Fewer
 pub mod Goes
 pub mod Moves
 pub mod Moved
+pub mod Lines

@@ -1,5 +1,5 @@
 use Rattle.monk_logs.proofs.LapseLaws.Goes.{fewer_turned}
-use Rattle.monk_logs.proofs.LapseLaws.Moved.{moved}
+use Rattle.monk_logs.proofs.LapseLaws.Lines.{then_follows}
 use Rattle.monk_logs.proofs.laws.lapses_are_exact.Goals as goal
 
 pub returns : goal.returns
