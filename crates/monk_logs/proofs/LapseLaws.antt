@@ -6,3 +6,4 @@ pub mod Goes
 pub mod Moves
 pub mod Moved
 pub mod Lines
+pub mod Resuming
