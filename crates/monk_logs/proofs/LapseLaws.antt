@@ -7,3 +7,4 @@ pub mod Moves
 pub mod Moved
 pub mod Lines
 pub mod Resuming
+pub mod Released

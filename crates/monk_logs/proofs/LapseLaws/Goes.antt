@@ -19,11 +19,11 @@ use Rattle.monk_logs.proofs.OrderLaws.Led.{can_service}
 use Rattle.monk_logs.proofs.OrderLaws.Lines.{all_seats, distinct_line, line_lapsed, line_taken, unmoved, waits_only, waits_there}
 use Rattle.monk_logs.proofs.OrderLaws.Lists.{Distinct}
 
-may_from : (o : Order) (j c : ℕ) (items : List Item) → condition_of j items ≡ Some c
+pub may_from : (o : Order) (j c : ℕ) (items : List Item) → condition_of j items ≡ Some c
     → may_resume o j items ≡ can_be_served o j (line c items)
 may_from o j c items e = ap (λ (x : Option ℕ). option_map_or (λ (d : ℕ). can_be_served o j (line d items)) x false) e
 
-lapse_from : (o : Order) (j c : ℕ) (items : List Item) → condition_of j items ≡ Some c
+pub lapse_from : (o : Order) (j c : ℕ) (items : List Item) → condition_of j items ≡ Some c
     → may_lapse o j items ≡ can_be_unserved o j c items
 lapse_from o j c items e = ap (λ (x : Option ℕ). option_map_or (λ (d : ℕ). can_be_unserved o j d items) x false) e
 
