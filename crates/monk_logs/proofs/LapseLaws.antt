@@ -8,3 +8,4 @@ pub mod Moved
 pub mod Lines
 pub mod Resuming
 pub mod Released
+pub mod Read

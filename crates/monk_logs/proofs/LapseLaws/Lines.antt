@@ -43,7 +43,7 @@ abbrev pub Follows : Option BoardCourse → BoardCourse → Type 0
 Follows None x = ⊥
 Follows (Some y) x = Below y x
 
-follows_by : (c : Option BoardCourse) (y x : BoardCourse) → c ≡ Some y → Below y x → Follows c x
+pub follows_by : (c : Option BoardCourse) (y x : BoardCourse) → c ≡ Some y → Below y x → Follows c x
 follows_by c y x e h = subst (λ (k : Option BoardCourse). Follows k x) (sym e) h
 
 -- ---- what is known behind a step

@@ -22,7 +22,7 @@ use Rattle.monk_logs.proofs.LapseLaws.Goes.{fewer_mixed, fewer_turned, keeps_gon
 use Rattle.monk_logs.proofs.LapseLaws.Lines.{Below}
 use Rattle.monk_logs.proofs.LapseLaws.Moved.{Moved, items_after, moved}
 use Rattle.monk_logs.proofs.LapseLaws.Moves.{IsLevel, Suits, with_items}
-use Rattle.monk_logs.proofs.LapseLaws.Resuming.{entry_passes, items_behind, items_same, lapsed_same, next_with, owned, resumed}
+use Rattle.monk_logs.proofs.LapseLaws.Resuming.{entry_passes, items_behind, items_same, lapsed_same, may_be_served, next_with, owned, resumed}
 use Rattle.monk_logs.proofs.OrderLaws.Choosing.{resume_there}
 use Rattle.monk_logs.proofs.OrderLaws.Lines.{all_seats, all_seats-append, among_line, waits_there}
 use Rattle.monk_logs.proofs.OrderLaws.Lists.{Distinct, among-append, among_here, among_others}
@@ -98,11 +98,6 @@ module _ (m : Monitor) (level : IsLevel m.kind) (xs : List Item) (b : Board) (h 
     served_sound c is p r =
         sound_after Any m (board_after m.object c (with_next (Waiter s) e)) (event.Resume s q) (sound_after Any m c (with_next (Waiter s) e) is p) r
 
-    resumes : (c : Board) → Passes Any m c (with_next (Waiter s) e) → may_resume Any s (items_with c e) ≡ true
-    resumes c p =
-        subst (λ (l : List Item). may_resume Any s l ≡ true) (items_same c (Waiter s) e)
-        (may_resume_chosen Any m c (with_next (Waiter s) e) p s (next_with (Waiter s) e stays))
-
     -- the items behind entry
     behind_entry : (c : Board) → (board_after m.object c (with_next Entry e)).items ≡ items_with c e ++ came
     behind_entry c = items_behind m.object c Entry e stays
@@ -124,13 +119,13 @@ module _ (m : Monitor) (level : IsLevel m.kind) (xs : List Item) (b : Board) (h 
         let is : served few ≡ with_items (taken_out s us ++ came) (board_lapse opened s) =
         served_is few ∙ ap (λ (c : Board). with_items (taken_out s us ++ came) (board_lapse c s)) t.comes_to in
         let there : is_among s (all_seats ws) ≡ true =
-        subst (λ (l : List ℕ). is_among s l ≡ true) (same_seats Any us ws fewer_with) (resume_there Any s us (resumes few f)) in
+        subst (λ (l : List ℕ). is_among s l ≡ true) (same_seats Any us ws fewer_with) (resume_there Any s us (may_be_served Any m few e s stays f)) in
         record {
           items = taken_out s us ++ came;
           is = ap board_settled is;
           fewer = subst (λ (l : List Item). Fewer Any (taken_out s us ++ came) l) (sym (lapsed_behind b many p there))
               (fewer_came Any e (taken_out s us) (lapsed s ws) (fewer_mixed Any us ws fewer_with (distinct_with few e sound)
-              (keeps_with few e sound) (keeps_with b e many) s (resumes few f)));
+              (keeps_with few e sound) (keeps_with b e many) s (may_be_served Any m few e s stays f)));
           sound = subst Sound is (served_sound few sound f r);
           many = sound_lapse Any opened s (sound_after Any m b (with_next Entry e) many p) may;
         }
@@ -169,7 +164,7 @@ module _ (m : Monitor) (level : IsLevel m.kind) (xs : List Item) (b : Board) (h 
             fewer = subst (λ (l : List Item). Fewer Any l (served b).items) (sym gone)
                 (subst (λ (y : Board). Fewer Any (lapsed s us ++ came) y.items) (sym (served_is b))
                 (fewer_came Any e (lapsed s us) (taken_out s ws) (fewer_turned Any us ws fewer_with (distinct_with few e sound)
-                (keeps_with few e sound) (keeps_with b e many) s never (resumes b p))));
+                (keeps_with few e sound) (keeps_with b e many) s never (may_be_served Any m b e s stays p))));
             sound = subst Sound is (sound_lapse Any after s (sound_after Any m few (with_next Entry e) sound t.passes) may);
             many = served_sound b many p r;
           };

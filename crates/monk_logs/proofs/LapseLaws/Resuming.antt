@@ -21,7 +21,7 @@ use Rattle.monk_history.specs.Meaning.Standing.{times, has_turn}
 use Rattle.monk_logs.specs.Board.{Board, board_after, board_chances, board_lapse, board_permits, chosen_out, items_with, sight}
 use Rattle.monk_logs.specs.Board.{signallers_with, waiting_item}
 use Rattle.monk_logs.specs.Chances.{Chances, may_choose_by, may_signal_by}
-use Rattle.monk_logs.specs.Items.{line, taken_out, unserved_in}
+use Rattle.monk_logs.specs.Items.{line, may_resume, taken_out, unserved_in}
 use Rattle.monk_logs.specs.Order.{apart, is_among}
 use Rattle.monk_logs.specs.declared.item.Item.{Item}
 use Rattle.monk_logs.specs.declared.order.Order.{Order}
@@ -31,7 +31,7 @@ use Rattle.monk_logs.proofs.OrderLaws.Lines.{all_seats}
 use Rattle.monk_logs.proofs.OrderLaws.Lists.{among_counted}
 use Rattle.monk_logs.proofs.OrderLaws.Passes.{Passes}
 use Rattle.monk_logs.proofs.OrderLaws.Seated.{one_at_most}
-use Rattle.monk_logs.proofs.OrderLaws.Sound.{Sound}
+use Rattle.monk_logs.proofs.OrderLaws.Sound.{Sound, may_resume_chosen}
 
 -- ---- a release with another choice
 
@@ -72,6 +72,13 @@ items_behind object b x (Until s p y) h = refl
 items_behind object b x (Resume s q) h = absurd cc
 items_behind object b x (SignalAll s c) h = absurd cc
 items_behind object b x (SignalWait s c d y) h = refl
+
+-- the waiter that it chose can be one that was served
+pub may_be_served : (o : Order) (m : Monitor) (b : Board) (e : Event) (s : ℕ) → next_of e ≡ Some Stay
+    → Passes o m b (with_next (Waiter s) e) → may_resume o s (items_with b e) ≡ true
+may_be_served o m b e s stays p =
+    subst (λ (l : List Item). may_resume o s l ≡ true) (items_same b (Waiter s) e)
+    (may_resume_chosen o m b (with_next (Waiter s) e) p s (next_with (Waiter s) e stays))
 
 -- ---- a seat takes its turn
 
