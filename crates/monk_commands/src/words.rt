@@ -9,6 +9,10 @@ ghost use Rattle.monk_commands.specs.Request.{AreRunValues, IsAsked, IsCompleteC
 ghost use Rattle.monk_commands.specs.Request.{AreMeanings, IsMeaning, classify_app, file_app, fit_app, flag_rule, plain_app};
 ghost use Rattle.monk_commands.specs.Request.{repeated_rule, required_rule, texts_of};
 
+use crate::help::{
+    AUDIT, CLASSIFY, COMPLETE, DRAW, EXPLAIN, FIT, Help, LAPSES, MEANS, PLAY, PRIORITY, RECORD,
+    RUN, TRACE, UPGRADE,
+};
 use crate::request::{Line, LineFault};
 use clap::builder::ValueParser;
 use clap::error::ErrorKind;
@@ -26,73 +30,6 @@ static KINDS: [&str; 10] = [
 static SAMPLES: [&str; 3] = ["buffer", "book", "shop"];
 
 const VERSION: &str = "1.0.0";
-
-const PRIORITY: &str = "A priority, 0 to 255; greater is higher";
-
-/// What the help of a command says of it: what it does, and an example.
-struct Help {
-    about: &'static str,
-    example: &'static str,
-}
-
-static CLASSIFY: Help = Help {
-    about: "Names the ordering of three priorities, and its kind",
-    example: "Example: monk classify 1 3 2",
-};
-
-static AUDIT: Help = Help {
-    about: "Tells whether a history is legal",
-    example: "Example: monk audit examples/hoare_handover.history",
-};
-
-static PLAY: Help = Help {
-    about: "Plays a script of atomic steps",
-    example: "Example: monk play examples/ticket_at_the_drop.play",
-};
-
-static UPGRADE: Help = Help {
-    about: "Writes the same history in the newest version",
-    example: "Example: monk upgrade examples/hoare_handover.history",
-};
-
-static FIT: Help = Help {
-    about: "Tells under which kinds a history is legal, or which a log could be of",
-    example: "Example: monk fit examples/threads_at_a_buffer.log --means 0=0 --means 1=1",
-};
-
-const LAPSES: &str = "A log's `resume` may tell of a wait that ran out";
-
-const MEANS: &str = "In a log, those who wait on the condition wait until the predicate holds";
-
-static TRACE: Help = Help {
-    about: "Tells what each step of a play came to",
-    example: "Example: monk trace examples/ticket_at_the_drop.play",
-};
-
-static EXPLAIN: Help = Help {
-    about: "Tells whether a history is legal, how the monitor stands, and what is wrong",
-    example: "Example: monk explain examples/hoare_handover_under_mesa.history",
-};
-
-static DRAW: Help = Help {
-    about: "Draws a history as a picture",
-    example: "Example: monk draw examples/hoare_handover.history",
-};
-
-static COMPLETE: Help = Help {
-    about: "Writes a history of a kind that tells a log",
-    example: "Example: monk complete NPNB examples/threads_at_a_buffer.log",
-};
-
-static RUN: Help = Help {
-    about: "Runs a sample in threads, and prints its totals",
-    example: "Example: monk run NPQB buffer 8 100",
-};
-
-static RECORD: Help = Help {
-    about: "Runs a sample in threads, and writes its history",
-    example: "Example: monk record PB shop 4 10",
-};
 
 fn command<'a>(alloc: Global) -> Result<Command<'a>, AllocError>
     ensures { IfOk result (λ c. IsMonk (app_of c)) }

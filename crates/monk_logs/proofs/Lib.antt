@@ -13,3 +13,4 @@ mod ToldLaws
 mod JudgeLaws
 mod FifoLaws
 mod CountLaws
+mod LapseLaws

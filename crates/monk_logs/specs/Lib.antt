@@ -24,3 +24,5 @@ pub mod BoardShown
 pub mod BoardMoves
 pub mod Counts
 pub mod Fit
+pub mod Lapses
+pub mod BoardRead

@@ -138,7 +138,7 @@ keeps_came s c d items h =
     ∙ ⊎_elim (λ e. rw (eq-eqb d c e) (keeps_joined 0 s (line c items) h))
     (λ ne. rw (ne_eqb d c ne) (ap (keeps_up 0) (append-nil (line c items)) ∙ h)) (cases_eq d c)
 
-keeps_item : (s c : ℕ) (items : List Item) (x : Option ℕ) → keeps_up 0 (line c items) ≡ true
+pub keeps_item : (s c : ℕ) (items : List Item) (x : Option ℕ) → keeps_up 0 (line c items) ≡ true
     → keeps_up 0 (line c (items ++ option_map_or (λ d. Waiting s d ∷ []) x [])) ≡ true
 keeps_item s c items None h = ap (λ (xs : List Item). keeps_up 0 (line c xs)) (append-nil items) ∙ h
 keeps_item s c items (Some d) h = keeps_came s c d items h

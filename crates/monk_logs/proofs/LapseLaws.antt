@@ -1,0 +1,11 @@
+-- Logs in which a resume may be a lapse
+pub mod Before
+pub mod FewerIn
+pub mod Fewer
+pub mod Goes
+pub mod Moves
+pub mod Moved
+pub mod Lines
+pub mod Resuming
+pub mod Released
+pub mod Read
