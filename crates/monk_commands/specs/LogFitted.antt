@@ -11,18 +11,20 @@ use Rattle.monk_object.specs.Names.{most}
 use Rattle.monk_history.specs.declared.text.fault.ReadFault.{ReadFault}
 use Rattle.monk_logs.specs.Counts.{counts_of}
 use Rattle.monk_logs.specs.Fit.{fit_of, order_word}
-use Rattle.monk_logs.specs.FitsIn.{IsOpenIn}
+use Rattle.monk_logs.specs.Lapses.{IsOpenWith}
 use Rattle.monk_logs.specs.Log.{LogHeading}
 use Rattle.monk_logs.specs.Log.Reading.{Log, log_at}
 use Rattle.monk_logs.specs.Verdict.{log_monitor}
 use Rattle.monk_logs.specs.declared.counts.Counts.{Counts}
 use Rattle.monk_logs.specs.declared.kind_fit.Fit.{Fit}
 use Rattle.monk_logs.specs.declared.kind_fit.Fit.TheVariants.{In, Misfit}
+use Rattle.monk_logs.specs.declared.lapses.Lapses.{Lapses}
 use Rattle.monk_logs.specs.declared.line.LogLine.{LogLine}
 use Rattle.monk_logs.specs.declared.order.Order.{Order}
 use Rattle.monk_logs.specs.declared.waits_for.WaitsFor.{WaitsFor}
 use Rattle.monk_commands.specs.Answer.{Answer, too_big, unreadable}
 use Rattle.monk_commands.specs.Completed.{IsLogOf, misfit_words}
+use Rattle.monk_commands.specs.Fitted.{fit_of as fit_of_history}
 
 -- ---- a line for each kind
 
@@ -34,17 +36,17 @@ abbrev pub is_in : Fit → Bool
 is_in (In o) = true
 is_in (Misfit n why) = false
 
-abbrev pub log_fit : LogHeading → List LogLine → KindName → Fit
-log_fit h log k = fit_of (log_monitor k h) log
+abbrev pub log_fit : Lapses → LogHeading → List LogLine → KindName → Fit
+log_fit x h log k = fit_of x (log_monitor k h) log
 
-abbrev pub log_fit_line : LogHeading → List LogLine → KindName → List ℕ
-log_fit_line h log k = kind_word k ++ fit_words (log_fit h log k)
+abbrev pub log_fit_line : Lapses → LogHeading → List LogLine → KindName → List ℕ
+log_fit_line x h log k = kind_word k ++ fit_words (log_fit x h log k)
 
-abbrev pub log_fit_lines : LogHeading → List LogLine → List KindName → List ℕ
-log_fit_lines h log ks = flat_map (log_fit_line h log) ks
+abbrev pub log_fit_lines : Lapses → LogHeading → List LogLine → List KindName → List ℕ
+log_fit_lines x h log ks = flat_map (log_fit_line x h log) ks
 
-abbrev pub fits_some_kind : LogHeading → List LogLine → List KindName → Bool
-fits_some_kind h log ks = list_any (λ k. is_in (log_fit h log k)) ks
+abbrev pub fits_some_kind : Lapses → LogHeading → List LogLine → List KindName → Bool
+fits_some_kind x h log ks = list_any (λ k. is_in (log_fit x h log k)) ks
 
 -- ---- the counts
 
@@ -73,20 +75,20 @@ counts_lines h means log =
 
 -- ---- an answer
 
-abbrev pub log_fit_answer : List WaitsFor → LogHeading → List LogLine → Answer
-log_fit_answer means h log =
+abbrev pub log_fit_answer : Lapses → List WaitsFor → LogHeading → List LogLine → Answer
+log_fit_answer x means h log =
     if nat_lt (most h.object) h.size then too_big
     else record {
-      status = if fits_some_kind h log kinds then 0 else 1;
-      text = log_fit_lines h log kinds ++ counts_lines h means log;
+      status = if fits_some_kind x h log kinds then 0 else 1;
+      text = log_fit_lines x h log kinds ++ counts_lines h means log;
     }
 
-abbrev pub log_fit_reading : List WaitsFor → Result Log ReadFault → Answer
-log_fit_reading means (Ok l) = log_fit_answer means l.0 l.1
-log_fit_reading means (Err f) = unreadable f
+abbrev pub log_fit_reading : Lapses → List WaitsFor → Result Log ReadFault → Answer
+log_fit_reading x means (Ok l) = log_fit_answer x means l.0 l.1
+log_fit_reading x means (Err f) = unreadable f
 
-abbrev pub log_fit_of : List WaitsFor → List ℕ → Answer
-log_fit_of means input = log_fit_reading means (log_at (2 ^ 25) input)
+abbrev pub log_fit_of : Lapses → List WaitsFor → List ℕ → Answer
+log_fit_of x means input = log_fit_reading x means (log_at (2 ^ 25) input)
 
 -- ---- logs, among texts
 
@@ -94,8 +96,12 @@ log_fit_of means input = log_fit_reading means (log_at (2 ^ 25) input)
 abbrev pub is_log_text : List ℕ → Bool
 is_log_text input = starts_with (λ (a b : ℕ). a == b) input (codes "log ")
 
+-- the answer to a log, or to a history
+abbrev pub fit_answer_of : Lapses → List WaitsFor → List ℕ → Answer
+fit_answer_of x means input = if is_log_text input then log_fit_of x means input else fit_of_history input
+
 -- the text of a log, of a size within the object's greatest, that is open under one of the kinds in some order
-abbrev pub IsFitLogText : List ℕ → Type 0
-IsFitLogText input =
+abbrev pub IsFitLogText : Lapses → List ℕ → Type 0
+IsFitLogText x input =
     (h : LogHeading) × ((log : List LogLine) × (IsLogOf input h log
-    × ((k : KindName) × ((o : Order) × IsOpenIn o (log_monitor k h) log))))
+    × ((k : KindName) × ((o : Order) × IsOpenWith x o (log_monitor k h) log))))

@@ -1,4 +1,4 @@
-//! The fitting stream: the text of a history in, the verdict on its events under each of the ten kinds out.
+//! The fitting stream: the text of a history or of a log in, what it is under each of the ten kinds out.
 
 ghost use Rattle.std.specs.Prelude.{◌≡◌, ◌+◌, ◌≤◌, ◌^◌, ◌⊎◌, ◌++◌, false, true, length, IfOk, OnOk, IfSome, IsErrOf, ◌↔◌};
 ghost use Rattle.std.specs.Io.KnownBytes.{Appends, IsAtEnd};
@@ -6,14 +6,17 @@ ghost use Rattle.monk_object.specs.Names.{most};
 ghost use Rattle.monk_history.specs.Text.Device.{held, has_failed, reads_of};
 ghost use Rattle.monk_kinds.specs.Names.{kinds};
 ghost use Rattle.monk_commands.specs.Fitted.{IsFitText, fit_answer, fit_line, fit_lines, fit_of, fits_some, is_fit, under, verdict_under};
+ghost use Rattle.monk_commands.specs.LogFitted.{IsFitLogText, fit_answer_of, is_log_text};
 ghost use Rattle.monk_commands.specs.Streams.{Answers, IsYoung, IsPastBound};
 
 use crate::answer::{put, too_big, unreadable, verdict_answer};
 use crate::fault::StreamFault;
 use crate::input::read_all;
+use crate::log_fitting::fit_log_text;
 use monk_audit::{AuditFault, Verdict, audit};
 use monk_history::{Device, Event, Header, read};
 use monk_kinds::KindName;
+use monk_logs::{Lapses, WaitsFor};
 use std::alloc::Global;
 use std::io::{Read, Write};
 
@@ -116,8 +119,8 @@ fn fit<W: Write>(
     }
 }
 
-/// Answers a text.
-fn fit_text<W: Write>(
+/// Answers the text of a history.
+fn fit_history<W: Write>(
     alloc: Global,
     bytes: &[u8],
     writer: &mut Device<W>,
@@ -135,11 +138,46 @@ fn fit_text<W: Write>(
     }
 }
 
-/// Reads all of the reader, judges the events under each of the ten kinds in turn, whatever kind the header names, and writes
-/// ten lines, in the order of [`KindName::ALL`]: `KIND legal N` or `KIND forbidden STEP REASON WORD`, where the rest is what an
-/// audit says under that kind. The status is 0 where they are legal under one kind at least, else 1.
+/// Whether the first word of the text is that of a log.
+fn is_log(bytes: &[u8]) -> bool
+    ensures { result ≡ is_log_text bytes.now }
+{
+    bytes.starts_with(b"log ")
+}
+
+/// Answers a text.
+fn fit_text<W: Write>(
+    alloc: Global,
+    lapses: Lapses,
+    means: &[WaitsFor],
+    bytes: &[u8],
+    writer: &mut Device<W>,
+) -> Result<u8, StreamFault>
+    requires { has_failed writer.old ≡ false }
+    ensures answer { IfOk result
+        (λ status. (status ≡ (fit_answer_of lapses means.now bytes.now).status)
+        × Appends (W.contents (held writer.old)) (W.contents (held writer.new)) (fit_answer_of lapses means.now bytes.now).text) }
+    ensures file { IsErrOf result StreamFault.File → has_failed writer.new ≡ true }
+    ensures memory { IsErrOf result StreamFault.Memory → writer.new ≡ writer.old }
+{
+    if is_log(bytes) {
+        fit_log_text(alloc, lapses, means, bytes, writer)
+    } else {
+        fit_history(alloc, bytes, writer)
+    }
+}
+
+/// Reads all of the reader, judges the events of a history under each of the ten kinds in turn, whatever kind the header names, and
+/// writes ten lines, in the order of [`KindName::ALL`]: `KIND legal N` or `KIND forbidden STEP REASON WORD`, where the rest is what
+/// an audit says under that kind. The status is 0 where they are legal under one kind at least, else 1.
 ///
-/// Where the reader has no text of a history, the line `unreadable LINE NUMBER WORD` is written with status 2, and where the
+/// Of a log, whose first word is `log`, it writes `KIND fits ORDER`, with the strictest order in which the log could be of that kind
+/// ([`fit`](monk_logs::fit)), or `KIND misfit STEP NUMBER WORD`, the line that is the first that can't be of that kind in any order,
+/// and what is to blame. Behind these stand two lines of counts, of the log as one of NPNB in any order ([`Counts`](monk_logs::Counts)):
+/// `served N passed N lapsed N` and `left waiting N woken N inside N`; and, where `means` tells what is waited for, `missed STEP` or
+/// `missed none`. The status is 0 where it fits one kind at least, else 1. `lapses` and `means` are for logs alone.
+///
+/// Where the reader has no such text, the line `unreadable LINE NUMBER WORD` is written with status 2, and where the
 /// size is above the object's greatest, `object` with status 2.
 ///
 /// # Errors
@@ -149,9 +187,12 @@ fn fit_text<W: Write>(
 ///
 /// # Cost
 ///
-/// One pass over the text and ten over the events; memory for the text, for the events and for the queues.
+/// One pass over the text and ten over the events; of a log up to three for each kind, and one that counts. Memory for the text, for
+/// the events or lines, and for the queues.
 pub fn fit_stream<R: Read, W: Write>(
     alloc: Global,
+    lapses: Lapses,
+    means: &[WaitsFor],
     reader: &mut Device<R>,
     writer: &mut Device<W>,
 ) -> Result<u8, StreamFault>
@@ -160,10 +201,12 @@ pub fn fit_stream<R: Read, W: Write>(
 
     // What is written, and its status, are the answer to what the reader had.
     ensures answer { IfOk result
-        (Answers fit_of (R.remaining (held reader.old)) (W.contents (held writer.old))
+        (Answers (fit_answer_of lapses means.now) (R.remaining (held reader.old)) (W.contents (held writer.old))
         (W.contents (held writer.new))) }
-    // The status is 0 exactly for the text of a history that is legal under one of the kinds.
-    ensures fits { IfOk result (λ status. IfSome (R.remaining (held reader.old)) (λ input. (status ≡ 0) ↔ IsFitText input)) }
+    // The status is 0 exactly for the text of a history that is legal under one of the kinds, or of a log that is open under one in
+    // some order.
+    ensures fits { IfOk result
+        (λ status. IfSome (R.remaining (held reader.old)) (λ input. (status ≡ 0) ↔ (IsFitText input ⊎ IsFitLogText lapses input))) }
     ensures statuses { IfOk result (λ status. status ≤ 2) }
     ensures all_read { OnOk result (IsAtEnd (R.remaining (held reader.new))) }
 
@@ -174,5 +217,5 @@ pub fn fit_stream<R: Read, W: Write>(
     ensures reads { reads_of reader.new ≤ reads_of reader.old + 2 ^ 31 }
 {
     let bytes = read_all(alloc, reader)?;
-    fit_text(alloc, &bytes, writer)
+    fit_text(alloc, lapses, means, &bytes, writer)
 }

@@ -14,7 +14,7 @@ use crate::fault::StreamFault;
 use monk_audit::AuditFault;
 use monk_history::Device;
 use monk_kinds::KindName;
-use monk_logs::{Counts, Fit, LogHeader, LogLine, WaitsFor, count, fit, read_log};
+use monk_logs::{Counts, Fit, Lapses, LogHeader, LogLine, WaitsFor, count, fit, read_log};
 use std::alloc::Global;
 use std::io::Write;
 
@@ -24,13 +24,14 @@ fn kind_fit(
     header: &LogHeader,
     lines: &[LogLine],
     kind: KindName,
+    lapses: Lapses,
 ) -> Result<Fit, StreamFault>
     requires few { length lines.now ≤ 2 ^ 25 }
     requires size { header.now.size ≤ most header.now.object }
-    ensures found { IfOk result (λ f. f ≡ log_fit header.now lines.now kind) }
+    ensures found { IfOk result (λ f. f ≡ log_fit lapses header.now lines.now kind) }
     ensures no_file { IsErrOf result StreamFault.File → ⊥ }
 {
-    match fit(alloc, header, lines, kind) {
+    match fit(alloc, header, lines, kind, lapses) {
         Ok(found) => Ok(found),
         Err(AuditFault::Memory) => Err(StreamFault::Memory),
         // The size is within the object's greatest.
@@ -45,14 +46,15 @@ fn put_line(
     header: &LogHeader,
     lines: &[LogLine],
     kind: KindName,
+    lapses: Lapses,
 ) -> Result<bool, StreamFault>
     requires few { length lines.now ≤ 2 ^ 25 }
     requires size { header.now.size ≤ most header.now.object }
-    ensures line { OnOk result (page.new.items ≡ page.old.items ++ log_fit_line header.now lines.now kind) }
-    ensures fit { IfOk result (λ fits. fits ≡ is_in (log_fit header.now lines.now kind)) }
+    ensures line { OnOk result (page.new.items ≡ page.old.items ++ log_fit_line lapses header.now lines.now kind) }
+    ensures fit { IfOk result (λ fits. fits ≡ is_in (log_fit lapses header.now lines.now kind)) }
     ensures no_file { IsErrOf result StreamFault.File → ⊥ }
 {
-    match kind_fit(alloc, header, lines, kind)? {
+    match kind_fit(alloc, header, lines, kind, lapses)? {
         Fit::In(order) => {
             page.extend_from_slice(kind.text())?;
             page.extend_from_slice(b" fits ")?;
@@ -72,17 +74,18 @@ fn all_lines(
     alloc: Global,
     header: &LogHeader,
     lines: &[LogLine],
+    lapses: Lapses,
 ) -> Result<(Vec<u8>, bool), StreamFault>
     requires few { length lines.now ≤ 2 ^ 25 }
     requires size { header.now.size ≤ most header.now.object }
-    ensures lines { IfOk result (λ r. r.0.items ≡ log_fit_lines header.now lines.now kinds) }
-    ensures fit { IfOk result (λ r. r.1 ≡ fits_some_kind header.now lines.now kinds) }
+    ensures lines { IfOk result (λ r. r.0.items ≡ log_fit_lines lapses header.now lines.now kinds) }
+    ensures fit { IfOk result (λ r. r.1 ≡ fits_some_kind lapses header.now lines.now kinds) }
     ensures no_file { IsErrOf result StreamFault.File → ⊥ }
 {
     let mut page = Vec::new(alloc);
     let mut is_fit = false;
     for kind in KindName::ALL.iter() {
-        let fits = put_line(alloc, &mut page, header, lines, *kind)?;
+        let fits = put_line(alloc, &mut page, header, lines, *kind, lapses)?;
         is_fit = is_fit || fits;
     }
     Ok((page, is_fit))
@@ -149,6 +152,7 @@ fn put_counts(
 /// Answers a log that was read.
 fn fit_log<W: Write>(
     alloc: Global,
+    lapses: Lapses,
     means: &[WaitsFor],
     header: &LogHeader,
     lines: &[LogLine],
@@ -157,16 +161,16 @@ fn fit_log<W: Write>(
     requires works { has_failed writer.old ≡ false }
     requires few { length lines.now ≤ 2 ^ 25 }
     ensures answer { IfOk result
-        (λ status. (status ≡ (log_fit_answer means.now header.now lines.now).status)
+        (λ status. (status ≡ (log_fit_answer lapses means.now header.now lines.now).status)
         × Appends (W.contents (held writer.old)) (W.contents (held writer.new))
-        (log_fit_answer means.now header.now lines.now).text) }
+        (log_fit_answer lapses means.now header.now lines.now).text) }
     ensures file { IsErrOf result StreamFault.File → has_failed writer.new ≡ true }
     ensures memory { IsErrOf result StreamFault.Memory → writer.new ≡ writer.old }
 {
     if header.size() > header.object().greatest_size() {
         return put(&too_big(alloc)?, writer);
     }
-    let (mut page, is_fit) = all_lines(alloc, header, lines)?;
+    let (mut page, is_fit) = all_lines(alloc, header, lines, lapses)?;
     put_counts(alloc, &mut page, header, lines, means)?;
     match writer.write_all(&page) {
         Ok(()) => Ok(if is_fit { 0 } else { 1 }),
@@ -177,19 +181,20 @@ fn fit_log<W: Write>(
 /// Answers a text whose first word is that of a log.
 pub(crate) fn fit_log_text<W: Write>(
     alloc: Global,
+    lapses: Lapses,
     means: &[WaitsFor],
     bytes: &[u8],
     writer: &mut Device<W>,
 ) -> Result<u8, StreamFault>
     requires { has_failed writer.old ≡ false }
     ensures answer { IfOk result
-        (λ status. (status ≡ (log_fit_of means.now bytes.now).status)
-        × Appends (W.contents (held writer.old)) (W.contents (held writer.new)) (log_fit_of means.now bytes.now).text) }
+        (λ status. (status ≡ (log_fit_of lapses means.now bytes.now).status)
+        × Appends (W.contents (held writer.old)) (W.contents (held writer.new)) (log_fit_of lapses means.now bytes.now).text) }
     ensures file { IsErrOf result StreamFault.File → has_failed writer.new ≡ true }
     ensures memory { IsErrOf result StreamFault.Memory → writer.new ≡ writer.old }
 {
     match read_log(alloc, bytes) {
-        Ok((header, lines)) => fit_log(alloc, means, &header, &lines, writer),
+        Ok((header, lines)) => fit_log(alloc, lapses, means, &header, &lines, writer),
         Err(fault) => put(&unreadable(alloc, fault)?, writer),
     }
 }

@@ -5,6 +5,7 @@ use Rattle.monk_logs.specs.FitsIn.{IsOpenIn}
 use Rattle.monk_logs.specs.VerdictIn.{verdict_in}
 use Rattle.monk_logs.specs.declared.kind_fit.Fit.{Fit}
 use Rattle.monk_logs.specs.declared.kind_fit.Fit.TheVariants.{In, Misfit}
+use Rattle.monk_logs.specs.declared.lapses.Lapses.{Lapses}
 use Rattle.monk_logs.specs.declared.line.LogLine.{LogLine}
 use Rattle.monk_logs.specs.declared.order.Order.{Order}
 use Rattle.monk_logs.specs.declared.order.Order.TheVariants.{Fifo, Wake, Any}
@@ -46,5 +47,5 @@ abbrev pub last_fit : LogVerdict → Fit
 last_fit verdict.Fits = In Any
 last_fit (verdict.Misfit n why) = Misfit n why
 
-abbrev pub fit_of : Monitor → List LogLine → Fit
-fit_of m log = or_in (verdict_in Fifo m log) Fifo (or_in (verdict_in Wake m log) Wake (last_fit (verdict_in Any m log)))
+abbrev pub fit_of : Lapses → Monitor → List LogLine → Fit
+fit_of x m log = or_in (verdict_in Fifo m log) Fifo (or_in (verdict_in Wake m log) Wake (last_fit (verdict_in Any m log)))

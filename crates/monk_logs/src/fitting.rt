@@ -9,6 +9,7 @@ ghost use Rattle.monk_logs.specs.Verdict.{log_monitor};
 use crate::header::LogHeader;
 use crate::judging::judge_in;
 use crate::kind_fit::Fit;
+use crate::lapses::Lapses;
 use crate::line::LogLine;
 use crate::order::Order;
 use crate::verdict::LogVerdict;
@@ -32,10 +33,11 @@ pub fn fit(
     header: &LogHeader,
     lines: &[LogLine],
     kind: KindName,
+    lapses: Lapses,
 ) -> Result<Fit, AuditFault>
     requires { length lines.now ≤ most_lines }
     // All else, and what is to blame, is as it is found line by line.
-    ensures found { IfOk result (λ f. f ≡ fit_of (log_monitor kind header.now) lines.now) }
+    ensures found { IfOk result (λ f. f ≡ fit_of lapses (log_monitor kind header.now) lines.now) }
     // The size is refused exactly where it is above the object's greatest.
     ensures made { OnOk result (header.now.size ≤ most header.now.object) }
     ensures object { IsErrOf result AuditFault.Object → most header.now.object < header.now.size }

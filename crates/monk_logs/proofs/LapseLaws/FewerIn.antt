@@ -121,8 +121,13 @@ module _ (j : ℕ) (k l : List (Option ℕ)) (e : seats_in k ≡ seats_in l) (d 
   all_mixed h n =
       ⊎_elim
       (λ lt. omega (arith, h n, taken_short j n k lt, lapsed_short j n l (omega (arith, at))))
-      (λ ge. omega (arith, h (suc n), taken_at p j n k refl m ge, lapsed_long j n l apart_there there (omega (arith, at)),
-      before_later p (suc n) k (omega arith)))
+      (λ ge. omega (
+        arith,
+        h (suc n),
+        taken_at p j n k refl m ge,
+        lapsed_long j n l apart_there there (omega (arith, at)),
+        before_later p (suc n) k (omega arith),
+      ))
       (split n p)
 
   all_turned : has_service_behind j k ≡ false → ((n : ℕ) → before n k ≤ before n l) → (n : ℕ)

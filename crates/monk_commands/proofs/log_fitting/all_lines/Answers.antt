@@ -10,6 +10,7 @@ use Rattle.monk_commands.proofs.log_fitting.all_lines.Goals.{then-is_fit, else-i
 
 pub loop-kind-preserved : goal.loop-kind-preserved
 loop-kind-preserved c =
+    let x = c.args.lapses in
     let h = c.args.header.now in
     let ls = c.args.lines.now in
     let at = c.loop-kind.kind-index in
@@ -22,8 +23,8 @@ loop-kind-preserved c =
       | else-is_fit w ↦ w.is_fit-is ∙ sym (ap (λ (b : Bool). b || fits) w.if-is_fit.false)
     ] in (
       c.in_ok-fits.ensures.line
-          ∙ (ap (λ (page : List ℕ). page ++ log_fit_line h ls k) c.loop-kind.invariant.0
-          ∙ sym (ap (λ (l : List KindName). log_fit_lines h ls l) taken ∙ log_lines_more h ls ks k)),
-      log_fits_more h ls ks k c.loop-kind.is_fit fits c.if-is_fit.is_fit c.loop-kind.invariant.1 c.in_ok-fits.ensures.fit now
-          ∙ sym (ap (λ (l : List KindName). fits_some_kind h ls l) taken),
+          ∙ (ap (λ (page : List ℕ). page ++ log_fit_line x h ls k) c.loop-kind.invariant.0
+          ∙ sym (ap (λ (l : List KindName). log_fit_lines x h ls l) taken ∙ log_lines_more x h ls ks k)),
+      log_fits_more x h ls ks k c.loop-kind.is_fit fits c.if-is_fit.is_fit c.loop-kind.invariant.1 c.in_ok-fits.ensures.fit now
+          ∙ sym (ap (λ (l : List KindName). fits_some_kind x h ls l) taken),
     )
