@@ -14,3 +14,4 @@ mod JudgeLaws
 mod FifoLaws
 mod CountLaws
 mod LapseLaws
+mod FitLaws

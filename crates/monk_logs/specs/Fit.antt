@@ -1,7 +1,6 @@
 -- The strictest order in which a log could be of a monitor
 use Rattle.std.specs.Prelude.{◌≡◌, ℕ, IsTrue, Bool, true, false, List, Option, Some, None, codes}
 use Rattle.monk_history.specs.Meaning.Monitor.{Monitor}
-use Rattle.monk_logs.specs.FitsIn.{IsOpenIn}
 use Rattle.monk_logs.specs.VerdictIn.{verdict_in}
 use Rattle.monk_logs.specs.declared.kind_fit.Fit.{Fit}
 use Rattle.monk_logs.specs.declared.kind_fit.Fit.TheVariants.{In, Misfit}
@@ -27,10 +26,15 @@ is_stricter Wake Wake = false
 is_stricter Wake Any = true
 is_stricter Any o = false
 
--- the log is open in that order, and in no stricter one
-pub record IsStrictest (m : Monitor) (log : List LogLine) (o : Order) : Type 0 where
-  pub is_open : IsOpenIn o m log
-  pub no_stricter : (p : Order) → IsTrue (is_stricter p o) → IsOpenIn p m log → ⊥
+-- it is so in that order, and in no stricter one
+pub record IsStrictest (Open : Order → Type 0) (o : Order) : Type 0 where
+  pub is_open : Open o
+  pub no_stricter : (p : Order) → IsTrue (is_stricter p o) → Open p → ⊥
+
+-- whether there is an order
+abbrev pub is_in : Fit → Bool
+is_in (In o) = true
+is_in (Misfit n why) = false
 
 -- at which line it misfits
 abbrev pub misfit_line : Fit → Option ℕ
@@ -47,5 +51,8 @@ abbrev pub last_fit : LogVerdict → Fit
 last_fit verdict.Fits = In Any
 last_fit (verdict.Misfit n why) = Misfit n why
 
+abbrev pub fit_by : (Order → LogVerdict) → Fit
+fit_by v = or_in (v Fifo) Fifo (or_in (v Wake) Wake (last_fit (v Any)))
+
 abbrev pub fit_of : Lapses → Monitor → List LogLine → Fit
-fit_of x m log = or_in (verdict_in Fifo m log) Fifo (or_in (verdict_in Wake m log) Wake (last_fit (verdict_in Any m log)))
+fit_of x m log = fit_by (λ o. verdict_in o m log)
