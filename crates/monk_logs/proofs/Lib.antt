@@ -10,5 +10,4 @@ mod ItemLaws
 mod ShownLaws
 mod MoveLaws
 mod ToldLaws
-mod JudgeLaws
 mod FifoLaws
