@@ -79,15 +79,16 @@ services (Service c ∷ items) = c ∷ services items
 abbrev pub was_served : Order → ℕ → List Item → Bool
 was_served o j items = option_map_or (λ c. can_be_served o j (line c items)) (condition_of j items) false
 
--- whether seat j, which waits on condition c, may be chosen of those that were served. In order of arrival it must be the first of
--- them: the first service is of its condition, where it stands in front
-abbrev pub can_be_chosen : Order → ℕ → ℕ → List Item → Bool
-can_be_chosen Fifo j c items = is_front c (services items) && is_front j (seats_in (line c items))
-can_be_chosen Wake j c items = can_be_served Wake j (line c items)
-can_be_chosen Any j c items = can_be_served Any j (line c items)
+-- whether it is the first of all that were served: the first service is of its condition, where it stands in front
+abbrev pub was_served_first : ℕ → List Item → Bool
+was_served_first j items =
+    option_map_or (λ c. is_front c (services items) && is_front j (seats_in (line c items))) (condition_of j items) false
 
+-- whether it may be chosen of those that were served: in order of arrival they go on in order of service
 abbrev pub may_resume : Order → ℕ → List Item → Bool
-may_resume o j items = option_map_or (λ c. can_be_chosen o j c items) (condition_of j items) false
+may_resume Fifo j items = was_served_first j items
+may_resume Wake j items = was_served Wake j items
+may_resume Any j items = was_served Any j items
 
 -- without the first service of a condition
 abbrev pub without_service : ℕ → List Item → List Item

@@ -192,18 +192,24 @@ pub(crate) fn was_served(order: Order, items: &[Item], seat: u8) -> bool
     }
 }
 
-/// Whether the seat may be chosen of those that signals served.
-#[tactic(auto, using(crate::proofs::ItemLaws::told_first))]
+/// Whether the seat is the first of all that signals served.
+fn was_served_first(items: &[Item], seat: u8) -> bool
+    ensures { result ≡ lines.was_served_first seat items.now }
+{
+    match condition_of(items, seat) {
+        Some(cond) => is_first_service(items, cond) && is_first_seat(items, cond, seat),
+        None => false,
+    }
+}
+
+/// Whether the seat may be chosen of those that signals served: in order of arrival they go on in order of service.
 pub(crate) fn may_resume(order: Order, items: &[Item], seat: u8) -> bool
     ensures { result ≡ lines.may_resume order seat items.now }
 {
-    let Some(cond) = condition_of(items, seat) else {
-        return false;
-    };
     match order {
-        Order::Fifo => is_first_service(items, cond) && is_first_seat(items, cond, seat),
-        Order::Wake => is_among_first(items, cond, seat, services_at(items, cond)),
-        Order::Any => has_service_behind(items, cond, seat),
+        Order::Fifo => was_served_first(items, seat),
+        Order::Wake => was_served(Order::Wake, items, seat),
+        Order::Any => was_served(Order::Any, items, seat),
     }
 }
 

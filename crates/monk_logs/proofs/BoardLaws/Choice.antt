@@ -126,7 +126,8 @@ module _ (o : Order) (m : Monitor) (b : Board) (ord : Orderly m b) where
   waiter_there : (e : Event) → is_empty (services (items_with b e)) ≡ false → Someone (λ j. may_resume o j (items_with b e)) m.seats
   waiter_there e some =
       let r = resumer o b e ord.sound some in
-      let counted = among_counted r.seat (all_seats (items_with b e)) (resume_there o r.seat (items_with b e) (resume_served o r.seat (items_with b e) r.may)) in
+      let counted = among_counted r.seat (all_seats (items_with b e))
+      (resume_there o r.seat (items_with b e) (resume_served o r.seat (items_with b e) r.may)) in
       record { seat = r.seat; may = r.may; in_range = seat_inside r.seat (omega (arith, counted, ap (times r.seat) (seats_with b e))) }
 
   signaller_there : (e : Event) (x : Next) → MayCallIn m (sight b) e → next_of e ≡ Some x
@@ -198,10 +199,12 @@ only_it : (s j : ℕ) → is_among j (s ∷ []) ≡ true → s ≡ j
 only_it s j h = ⊎_elim (λ k. eqb-true s j k) (λ k. absurd (false≢true k)) (or_cases (s == j) false h)
 
 -- another that is there signalled before
-joined_seat : (xs : List ℕ) (s j : ℕ) (empty : Bool) → is_among j (xs ++ cond empty [] (s ∷ [])) ≡ true → (j ≡ s → ⊥) → is_among j xs ≡ true
+joined_seat : (xs : List ℕ) (s j : ℕ) (empty : Bool) → is_among j (xs ++ cond empty [] (s ∷ [])) ≡ true → (j ≡ s → ⊥)
+    → is_among j xs ≡ true
 joined_seat xs s j true h ne = subst (λ (ys : List ℕ). is_among j ys ≡ true) (append-nil xs) h
 joined_seat xs s j false h ne =
-    ⊎_elim (λ k. k) (λ k. absurd (ne (sym (only_it s j k)))) (or_cases (is_among j xs) (is_among j (s ∷ [])) (sym (among-append j xs (s ∷ [])) ∙ h))
+    ⊎_elim (λ k. k) (λ k. absurd (ne (sym (only_it s j k))))
+    (or_cases (is_among j xs) (is_among j (s ∷ [])) (sym (among-append j xs (s ∷ [])) ∙ h))
 
 module _ (o : Order) (m : Monitor) (b : Board) (ord : Orderly m b) (s c : ℕ) (x : Next) where
   signal_chooses : is_empty (unserved_in (line c b.items)) ≡ false

@@ -2,7 +2,7 @@
 use Rattle.std.proofs.Common.{◌≡◌, ℕ, ◌≤◌, zero, suc, true, false, eqb, List, [], ◌∷◌, ◌++◌, drop, take}
 use Rattle.std.proofs.Common.{length, map, Option, Some, None, refl, sym, ap, subst, ◌∙◌, ⊎_elim, arith, append-nil}
 use Rattle.std.specs.Option.{option_map_or}
-use Rattle.std.proofs.lemmas.Bool.{and_parts, cases_Bool, cases_eq, eq-eqb, eqb-true, false≢true, ne_eqb, true≢false}
+use Rattle.std.proofs.lemmas.Bool.{cases_Bool, cases_eq, eq-eqb, eqb-true, false≢true, ne_eqb, true≢false}
 use Rattle.std.proofs.lemmas.List.{take_all, take-append-le}
 use Rattle.monk_history.specs.declared.event.Event.{Event}
 use Rattle.monk_history.specs.declared.event.Event.TheVariants.{Enter, Act, Leave, Wait, Signal, SignalLeave, Until, Resume}
@@ -16,7 +16,7 @@ use Rattle.monk_history.specs.Meaning.Signallers.{is_empty}
 use Rattle.monk_history.specs.Meaning.Standing.{times}
 use Rattle.monk_history.specs.Meaning.Waiters.{served_at, serves}
 use Rattle.monk_logs.specs.Board.{Board, chosen_out, items_with}
-use Rattle.monk_logs.specs.Items.{can_be_chosen, can_be_unserved, condition_of, keeps_up, lapsed, line, may_lapse, may_resume, seats_in}
+use Rattle.monk_logs.specs.Items.{can_be_unserved, condition_of, keeps_up, lapsed, line, may_lapse, may_resume, seats_in}
 use Rattle.monk_logs.specs.Items.{services, services_in, taken_out, unserved_in, without_service}
 use Rattle.monk_logs.specs.Order.{apart, is_among}
 use Rattle.monk_logs.specs.Run.{chosen_waiter}
@@ -27,7 +27,7 @@ use Rattle.monk_logs.proofs.FifoLaws.Fronts.{apart_nobody, first_out}
 use Rattle.monk_logs.proofs.FifoLaws.Service.{first_off, first_served, in_service, never_served, same_service, served_more}
 use Rattle.monk_logs.proofs.OrderLaws.After.{among_one, line_with}
 use Rattle.monk_logs.proofs.OrderLaws.Backward.{less_out}
-use Rattle.monk_logs.proofs.OrderLaws.Choosing.{front_resumes}
+use Rattle.monk_logs.proofs.OrderLaws.Choosing.{Comes, comes, front_resumes}
 use Rattle.monk_logs.proofs.OrderLaws.Fits.{not_elsewhere}
 use Rattle.monk_logs.proofs.OrderLaws.Keeps.{few_services}
 use Rattle.monk_logs.proofs.OrderLaws.Leads.{among_dropped, less, without, without_there}
@@ -109,23 +109,6 @@ served_with b e =
     ∙ served_given b.items e (signals_on e)
 
 -- ---- the front of them
-
--- seat j is the first of all
-record Comes (j : ℕ) (items : List Item) : Type 0 where
-  on : ℕ
-  waits : condition_of j items ≡ Some on
-  service : is_front on (services items) ≡ true
-  seat : is_front j (seats_of items on) ≡ true
-
-comes_from : (j : ℕ) (items : List Item) (x : Option ℕ) → condition_of j items ≡ x
-    → option_map_or (λ c. can_be_chosen Fifo j c items) x false ≡ true → Comes j items
-comes_from j items None e h = absurd (false≢true h)
-comes_from j items (Some c) e h =
-    let p = and_parts (is_front c (services items)) (is_front j (seats_of items c)) h in
-    record { on = c; waits = e; service = p.0; seat = p.1 }
-
-comes : (j : ℕ) (items : List Item) → may_resume Fifo j items ≡ true → Comes j items
-comes j items h = comes_from j items (condition_of j items) refl h
 
 -- who may be chosen is the front
 pub resume_front : (j : ℕ) (items : List Item) → may_resume Fifo j items ≡ true → is_front j (served_in items) ≡ true

@@ -1,10 +1,10 @@
 -- A seat that was served goes on, forward and back
-use Rattle.std.proofs.Common.{◌≡◌, ℕ, Bool, true, false, List, [], ◌∷◌, refl, sym, ap, ◌∙◌}
+use Rattle.std.proofs.Common.{◌≡◌, ℕ, Bool, true, false, ◌&&◌, List, [], ◌∷◌, refl, sym, ap, ◌∙◌}
 use Rattle.std.proofs.Common.{⊎_elim, subst, suc, zero, ◌≤◌, arith, take, inl, inr, Option, Some, None}
 use Rattle.std.specs.Option.{option_map_or}
 use Rattle.std.proofs.lemmas.Bool.{and_from, and_parts, cases_Bool, cases_eq, eqb-true, false≢true, ne_eqb, eq-eqb}
 use Rattle.monk_history.specs.Meaning.Choice.{is_front}
-use Rattle.monk_logs.specs.Items.{line, seats_in, services_in, services, keeps_up, can_be_chosen, can_be_served, condition_of}
+use Rattle.monk_logs.specs.Items.{line, seats_in, services_in, services, keeps_up, can_be_served, condition_of}
 use Rattle.monk_logs.specs.Items.{may_resume, taken_out, was_served}
 use Rattle.monk_logs.specs.Order.{is_among}
 use Rattle.monk_logs.specs.declared.item.Item.{Item}
@@ -76,25 +76,36 @@ served_there c [] items is h = absurd (false≢true h)
 served_there c (d ∷ cs) items is h =
     service_there c cs items (is ∙ ap (λ (x : ℕ). x ∷ cs) (eqb-true d c h))
 
-chosen_served : (o : Order) (j c : ℕ) (items : List Item) → can_be_chosen o j c items ≡ true → can_be_served o j (line c items) ≡ true
-chosen_served Fifo j c items h =
-    let p = and_parts (is_front c (services items)) (is_front j (seats_in (line c items))) h in
-    front_first j (services_in (line c items)) (seats_in (line c items)) (served_there c (services items) items refl p.0) p.1
-chosen_served Wake j c items h = h
-chosen_served Any j c items h = h
+-- seat j is the first of all
+pub record Comes (j : ℕ) (items : List Item) : Type 0 where
+  pub on : ℕ
+  pub waits : condition_of j items ≡ Some on
+  pub service : is_front on (services items) ≡ true
+  pub seat : is_front j (seats_in (line on items)) ≡ true
 
-resumed_served : (o : Order) (j : ℕ) (items : List Item) (x : Option ℕ) → option_map_or (λ c. can_be_chosen o j c items) x false ≡ true
-    → option_map_or (λ c. can_be_served o j (line c items)) x false ≡ true
-resumed_served o j items None h = h
-resumed_served o j items (Some c) h = chosen_served o j c items h
+comes_from : (j : ℕ) (items : List Item) (x : Option ℕ) → condition_of j items ≡ x
+    → option_map_or (λ c. is_front c (services items) && is_front j (seats_in (line c items))) x false ≡ true → Comes j items
+comes_from j items None e h = absurd (false≢true h)
+comes_from j items (Some c) e h =
+    let p = and_parts (is_front c (services items)) (is_front j (seats_in (line c items))) h in
+    record { on = c; waits = e; service = p.0; seat = p.1 }
+
+pub comes : (j : ℕ) (items : List Item) → may_resume Fifo j items ≡ true → Comes j items
+comes j items h = comes_from j items (condition_of j items) refl h
 
 pub resume_served : (o : Order) (j : ℕ) (items : List Item) → may_resume o j items ≡ true → was_served o j items ≡ true
-resume_served o j items h = resumed_served o j items (condition_of j items) h
+resume_served Fifo j items h =
+    let r = comes j items h in
+    was_served_from Fifo j r.on items r.waits
+    (front_first j (services_in (line r.on items)) (seats_in (line r.on items)) (served_there r.on (services items) items refl r.service)
+    r.seat)
+resume_served Wake j items h = h
+resume_served Any j items h = h
 
 pub front_resumes : (j c : ℕ) (items : List Item) → condition_of j items ≡ Some c → is_front c (services items) ≡ true
     → is_front j (seats_in (line c items)) ≡ true → may_resume Fifo j items ≡ true
 front_resumes j c items e h k =
-    ap (λ (x : Option ℕ). option_map_or (λ (d : ℕ). can_be_chosen Fifo j d items) x false) e
+    ap (λ (x : Option ℕ). option_map_or (λ (d : ℕ). is_front d (services items) && is_front j (seats_in (line d items))) x false) e
     ∙ and_from (is_front c (services items)) (is_front j (seats_in (line c items))) h k
 
 resumes_at : (o p : Order) → o ≡ p → (j : ℕ) (items : List Item) → (was_served p j items ≡ true → may_resume p j items ≡ true)
