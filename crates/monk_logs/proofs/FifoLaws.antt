@@ -4,3 +4,6 @@ pub mod Tidy
 pub mod Moves
 pub mod Legal
 pub mod Opens
+pub mod Service
+pub mod Served
+pub mod Boards

@@ -10,7 +10,6 @@ mod ItemLaws
 mod ShownLaws
 mod MoveLaws
 mod ToldLaws
-mod JudgeLaws
 mod FifoLaws
 mod CountLaws
 mod LapseLaws

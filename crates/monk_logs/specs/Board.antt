@@ -1,4 +1,4 @@
--- A machine that tells in one pass whether a monitor may do these steps, in the orders `Wake` and `Any`. That it tells exactly that is
+-- A machine that tells in one pass whether a monitor may do these steps, in each order of its queues. That it tells exactly that is
 -- the law `boards_are_exact`
 use Rattle.std.specs.Prelude.{ℕ, ◌==◌, Bool, true, false, ◌&&◌, not, List, [], ◌∷◌, ◌++◌, map, Option, Some, None, if◌then◌else◌}
 use Rattle.std.specs.Option.{option_map_or}
@@ -28,7 +28,7 @@ use Rattle.monk_logs.specs.declared.order.Order.{Order}
 use Rattle.monk_logs.specs.declared.step.Step.{Step}
 use Rattle.monk_logs.specs.declared.step.Step.TheVariants.{Did, Lapsed}
 
--- how a monitor stands, as far as the order of its queues doesn't matter
+-- how a monitor stands, as far as steps tell it: whom a signal served they don't tell
 pub record Board : Type 0 where
   pub items : List Item
   pub signallers : List ℕ

@@ -1,4 +1,4 @@
--- How a log is judged in the orders `Wake` and `Any`: line by line, over a board. That what is judged well is exactly what is open is the
+-- How a log is judged in each order of queues: line by line, over a board. That what is judged well is exactly what is open is the
 -- law `orders_are_exact`
 use Rattle.std.specs.Prelude.{ℕ, ◌==◌, List, [], ◌∷◌, Option, Some, None, if◌then◌else◌, is_some}
 use Rattle.std.specs.Option.{option_map}

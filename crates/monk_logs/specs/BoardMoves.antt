@@ -1,5 +1,6 @@
 -- What an event makes of a board, part by part: first it serves, and then it takes out whom it chose
-use Rattle.std.specs.Prelude.{ℕ, ◌==◌, Bool, true, ◌&&◌, ◌||◌, not, List, [], ◌∷◌, ◌++◌, if◌then◌else◌, is_some}
+use Rattle.std.specs.Prelude.{ℕ, ◌==◌, nat_lt, Bool, true, ◌&&◌, ◌||◌, not, List, [], ◌∷◌, ◌++◌, if◌then◌else◌, is_some}
+use Rattle.monk_kinds.specs.declared.mode.Rules.{Rules}
 use Rattle.monk_object.specs.Object.{Object}
 use Rattle.monk_history.specs.declared.event.Event.{Event}
 use Rattle.monk_history.specs.declared.event.Next.{Next}
@@ -13,7 +14,7 @@ use Rattle.monk_audit.specs.Replay.{has, passed_on}
 use Rattle.monk_logs.specs.Blame.{blame_of, early_blame, first_blame, is_line_in_place, line_event, may_be_its_turn}
 use Rattle.monk_logs.specs.Board.{Board, chosen_out, items_with, sight, signallers_with, waiting_item}
 use Rattle.monk_logs.specs.Chances.{Chances, permits_by}
-use Rattle.monk_logs.specs.Items.{condition_of, may_lapse, may_resume, services}
+use Rattle.monk_logs.specs.Items.{condition_of, may_lapse, may_resume, services, was_served}
 use Rattle.monk_logs.specs.Order.{apart, is_among, may_go}
 use Rattle.monk_logs.specs.Run.{taken_signaller}
 use Rattle.monk_logs.specs.declared.blame.Blame.{Blame}
@@ -92,21 +93,39 @@ told_on b (Broadcast s c) = next.Stay
 told_on b (Until s p) = next.Stay
 told_on b (Act s op r) = next.Stay
 
--- whether the seat stands where a release may choose it from, whatever the priorities
+-- whether the seat stands where a release chooses from
 abbrev pub comes_back : Order → Object → Board → ℕ → Bool
-comes_back o object b s = may_resume o s b.items || is_among s b.signallers || has s (ready_of object b.state b.untils)
+comes_back o object b s = was_served o s b.items || is_among s b.signallers || has s (ready_of object b.state b.untils)
 
--- of a lapse the seat must have been served, of a resume it can't have been; else the priorities forbid the choice
-abbrev pub choice_blame_on : Order → Object → Board → Event → LogLine → Blame
-choice_blame_on o object b e (Enter s) = blame.Choice
-choice_blame_on o object b e (Resume s) = if comes_back o object b s then blame.Choice else blame.Unserved
-choice_blame_on o object b e (Lapse s) = if may_lapse o s (b.items ++ waiting_item e) then blame.Choice else blame.Served
-choice_blame_on o object b e (Leave s) = blame.Choice
-choice_blame_on o object b e (Wait s c) = blame.Choice
-choice_blame_on o object b e (Signal s c) = blame.Choice
-choice_blame_on o object b e (Broadcast s c) = blame.Choice
-choice_blame_on o object b e (Until s p) = blame.Choice
-choice_blame_on o object b e (Act s op r) = blame.Choice
+-- whether it may be chosen there, whatever the priorities: in order of arrival, whether it is in front
+abbrev pub comes_next : Order → Object → Board → ℕ → Bool
+comes_next o object b s = may_resume o s b.items || may_go o s b.signallers || may_go o s (ready_of object b.state b.untils)
+
+-- where a seat goes on: no release could choose it, or somebody was before it, or the priorities forbid it
+abbrev pub resume_blame_on : Order → Object → Board → ℕ → Blame
+resume_blame_on o object b s =
+    if not (comes_back o object b s) then blame.Unserved
+    else if not (comes_next o object b s) then blame.Order
+    else blame.Choice
+
+-- where the caller goes on at once: signallers go before waiters, and another was before it, or the priorities forbid it
+abbrev pub stay_blame_on : Order → Rules → Board → ℕ → Blame
+stay_blame_on o k b s = if nat_lt k.signaller k.waiter || may_go o s b.signallers then blame.Choice else blame.Order
+
+-- where a wait ran out: a signal must have served it, or the priorities forbid it
+abbrev pub lapse_blame_on : Order → Board → Event → ℕ → Blame
+lapse_blame_on o b e s = if may_lapse o s (b.items ++ waiting_item e) then blame.Choice else blame.Served
+
+abbrev pub choice_blame_on : Order → Rules → Object → Board → Event → LogLine → Blame
+choice_blame_on o k object b e (Enter s) = blame.Choice
+choice_blame_on o k object b e (Resume s) = resume_blame_on o object b s
+choice_blame_on o k object b e (Lapse s) = lapse_blame_on o b e s
+choice_blame_on o k object b e (Leave s) = stay_blame_on o k b s
+choice_blame_on o k object b e (Wait s c) = stay_blame_on o k b s
+choice_blame_on o k object b e (Signal s c) = stay_blame_on o k b s
+choice_blame_on o k object b e (Broadcast s c) = stay_blame_on o k b s
+choice_blame_on o k object b e (Until s p) = stay_blame_on o k b s
+choice_blame_on o k object b e (Act s op r) = stay_blame_on o k b s
 
 -- the tests 3 to 9, and all nine
 abbrev pub late_blame_on : Order → Monitor → Bool → Board → Event → LogLine → Blame
@@ -114,7 +133,7 @@ late_blame_on o m stays b e l =
     if not (may_be_its_turn stays b.inside e l) then blame.Turn
     else if not (is_line_in_place b.inside e l) then blame.Place
     else if not (is_right_reply m.object b.state (line_event m.kind.mode l)) then blame.Reply
-    else choice_blame_on o m.object b e l
+    else choice_blame_on o m.kind m.object b e l
 
 abbrev pub blame_on : Order → Monitor → Bool → Board → Event → LogLine → Blame
 blame_on o m stays b e l = first_blame (early_blame m (line_event m.kind.mode l)) (late_blame_on o m stays b e l)

@@ -1,8 +1,9 @@
 -- What is to be known of the conditions where nobody tells whom a signal served: in order of time, who came to wait and what
 -- signals gave. A seat that goes on takes its own coming and one service with it
-use Rattle.std.specs.Prelude.{ℕ, zero, suc, ◌-◌, ◌==◌, Bool, true, false, not, List, [], ◌∷◌, take, drop, filter, Option, Some, None}
-use Rattle.std.specs.Prelude.{if◌then◌else◌}
+use Rattle.std.specs.Prelude.{ℕ, zero, suc, ◌-◌, ◌==◌, Bool, true, false, ◌&&◌, not, List, [], ◌∷◌, take, drop, filter, Option, Some}
+use Rattle.std.specs.Prelude.{None, if◌then◌else◌}
 use Rattle.std.specs.Option.{option_map_or}
+use Rattle.monk_history.specs.Meaning.Choice.{is_front}
 use Rattle.monk_logs.specs.Order.{is_among}
 use Rattle.monk_logs.specs.declared.item.Item.{Item}
 use Rattle.monk_logs.specs.declared.item.Item.TheVariants.{Waiting, Service}
@@ -74,8 +75,20 @@ services [] = []
 services (Waiting s c ∷ items) = services items
 services (Service c ∷ items) = c ∷ services items
 
+-- whether seat j can be one that was served
+abbrev pub was_served : Order → ℕ → List Item → Bool
+was_served o j items = option_map_or (λ c. can_be_served o j (line c items)) (condition_of j items) false
+
+-- whether it is the first of all that were served: the first service is of its condition, where it stands in front
+abbrev pub was_served_first : ℕ → List Item → Bool
+was_served_first j items =
+    option_map_or (λ c. is_front c (services items) && is_front j (seats_in (line c items))) (condition_of j items) false
+
+-- whether it may be chosen of those that were served: in order of arrival they go on in order of service
 abbrev pub may_resume : Order → ℕ → List Item → Bool
-may_resume o j items = option_map_or (λ c. can_be_served o j (line c items)) (condition_of j items) false
+may_resume Fifo j items = was_served_first j items
+may_resume Wake j items = was_served Wake j items
+may_resume Any j items = was_served Any j items
 
 -- without the first service of a condition
 abbrev pub without_service : ℕ → List Item → List Item

@@ -1,5 +1,5 @@
 -- Who of a queue may be chosen or served, by the order in which queues are served
-use Rattle.std.specs.Prelude.{ℕ, ◌≡◌, ◌⊎◌, ◌==◌, Bool, not, List, filter}
+use Rattle.std.specs.Prelude.{ℕ, ◌==◌, Bool, not, List, filter}
 use Rattle.std.specs.List.{list_any}
 use Rattle.monk_history.specs.Meaning.Choice.{is_front}
 use Rattle.monk_logs.specs.declared.order.Order.{Order}
@@ -23,7 +23,3 @@ abbrev pub may_be_served : Order → ℕ → List ℕ → Bool
 may_be_served Fifo j queue = is_front j queue
 may_be_served Wake j queue = is_front j queue
 may_be_served Any j queue = is_among j queue
-
--- the orders in which nothing depends on who came first to a queue of those that may be chosen
-abbrev pub IsLoose : Order → Type 0
-IsLoose o = (o ≡ Wake) ⊎ (o ≡ Any)

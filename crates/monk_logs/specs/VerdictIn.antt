@@ -4,10 +4,8 @@ use Rattle.monk_history.specs.Meaning.Monitor.{Monitor}
 use Rattle.monk_logs.specs.BoardStand.{board_verdict}
 use Rattle.monk_logs.specs.Exactly.{FitsExactlyBy, IsFirstWithout, IsVerdictBy, MisfitsExactlyBy}
 use Rattle.monk_logs.specs.FitsIn.{IsOpenIn}
-use Rattle.monk_logs.specs.Stand.{verdict_on}
 use Rattle.monk_logs.specs.declared.line.LogLine.{LogLine}
 use Rattle.monk_logs.specs.declared.order.Order.{Order}
-use Rattle.monk_logs.specs.declared.order.Order.TheVariants.{Fifo, Wake, Any}
 use Rattle.monk_logs.specs.declared.verdict.LogVerdict.{LogVerdict}
 
 -- line n, counted from 1, is the first with which no run begins
@@ -27,6 +25,4 @@ MisfitsExactlyIn o m log v = MisfitsExactlyBy (IsOpenIn o m) log v
 
 -- the verdict that is found line by line
 abbrev pub verdict_in : Order → Monitor → List LogLine → LogVerdict
-verdict_in Fifo m log = verdict_on m log
-verdict_in Wake m log = board_verdict Wake m log
-verdict_in Any m log = board_verdict Any m log
+verdict_in o m log = board_verdict o m log

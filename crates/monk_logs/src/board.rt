@@ -1,4 +1,4 @@
-//! How a monitor stands, as far as the order of its queues doesn't matter.
+//! How a monitor stands, as far as a log tells it: whom a signal served it doesn't tell.
 
 ghost use Rattle.std.specs.Prelude.{◌≡◌, ◌<◌, ℕ, List, Some, [], true, IfOk, OnOk};
 ghost use Rattle.monk_history.specs.declared.event.Via.{Via};
@@ -25,8 +25,8 @@ use monk_history::Event;
 use monk_object::Guarded;
 use std::alloc::{AllocError, Global};
 
-/// How a monitor stands, as far as the order of its queues doesn't matter. What isn't of queues stands in the replay, whose own
-/// queues are empty.
+/// How a monitor stands, as far as a log tells it: whom a signal served it doesn't tell. What isn't of queues stands in the replay,
+/// whose own queues are empty.
 #[derive(Drop)]
 pub(crate) struct Board {
     pub(crate) items: Vec<Item>,

@@ -15,7 +15,7 @@ use monk_kinds::{Mode, Rules};
 use monk_object::Guarded;
 
 /// Whether the seat may be chosen from the queue.
-fn may_go(order: Order, queue: &[u8], seat: u8) -> bool
+pub(crate) fn may_go(order: Order, queue: &[u8], seat: u8) -> bool
     ensures { result ≡ orders.may_go order seat queue.now }
 {
     match order {
@@ -25,7 +25,7 @@ fn may_go(order: Order, queue: &[u8], seat: u8) -> bool
 }
 
 /// Whether the seat may be chosen from those whose predicate holds.
-fn may_come_ready<T: Guarded>(order: Order, board: &Board, object: &T, seat: u8) -> bool
+pub(crate) fn may_come_ready<T: Guarded>(order: Order, board: &Board, object: &T, seat: u8) -> bool
     requires { All (λ w. w.1 < T.PREDICATES) (board_shown board.now []).untils }
     ensures { result ≡ orders.may_go order seat (ready_of T.meaning (T.state object.now) (board_shown board.now []).untils) }
 {

@@ -16,9 +16,10 @@ ghost use Rattle.monk_logs.specs.declared.pending.Pending.{Pending};
 use crate::blame::{Blame, LineVerdict};
 use crate::blaming::{early_blame, is_in_place, line_event, may_be_its_turn};
 use crate::board::Board;
+use crate::board_choices::{may_come_ready, may_go};
 use crate::board_lines::line_settled;
 use crate::board_steps::served_reason;
-use crate::items::{may_lapse, may_resume, waits};
+use crate::items::{may_lapse, may_resume, waits, was_served};
 use crate::items_moves::join;
 use crate::line::LogLine;
 use crate::order::Order;
@@ -27,6 +28,7 @@ use crate::steps::ALLOWED;
 use crate::telling::with_next;
 use monk_audit::replies;
 use monk_history::{Event, Next};
+use monk_kinds::Rules;
 use monk_object::Guarded;
 use std::alloc::AllocError;
 
@@ -54,19 +56,68 @@ fn told_next(board: &Board, line: LogLine) -> Next
     }
 }
 
-/// Whether the seat stands where a release may choose it from, whatever the priorities.
-fn can_come_back<T: Guarded>(order: Order, board: &Board, object: &T, seat: u8) -> bool
+/// Whether the seat stands where a release chooses from.
+fn comes_back<T: Guarded>(order: Order, board: &Board, object: &T, seat: u8) -> bool
     requires { All (λ w. w.1 < T.PREDICATES) (board_shown board.now []).untils }
     ensures { result ≡ moves.comes_back order T.meaning (board_shown board.now (T.state object.now)) seat }
 {
-    may_resume(order, &board.items, seat)
+    was_served(order, &board.items, seat)
         || board.signallers.contains(&seat)
         || board.rest.is_ready(object, seat)
+}
+
+/// Whether it may be chosen there, whatever the priorities: in order of arrival, whether it is in front.
+fn comes_next<T: Guarded>(order: Order, board: &Board, object: &T, seat: u8) -> bool
+    requires { All (λ w. w.1 < T.PREDICATES) (board_shown board.now []).untils }
+    ensures { result ≡ moves.comes_next order T.meaning (board_shown board.now (T.state object.now)) seat }
+{
+    may_resume(order, &board.items, seat)
+        || may_go(order, &board.signallers, seat)
+        || may_come_ready(order, board, object, seat)
+}
+
+/// What is to blame where the release, which has served, may not have chosen the seat that goes on.
+fn resume_blame<T: Guarded>(order: Order, board: &Board, object: &T, seat: u8) -> Blame
+    requires { All (λ w. w.1 < T.PREDICATES) (board_shown board.now []).untils }
+    ensures { result ≡ moves.resume_blame_on order T.meaning (board_shown board.now (T.state object.now)) seat }
+{
+    if !comes_back(order, board, object, seat) {
+        Blame::Unserved
+    } else if !comes_next(order, board, object, seat) {
+        Blame::Order
+    } else {
+        Blame::Choice
+    }
+}
+
+/// What is to blame where its caller, which goes on at once, may not have stayed.
+fn stay_blame(order: Order, rules: Rules, board: &Board, seat: u8) -> Blame
+    ensures { result ≡ moves.stay_blame_on order rules (board_shown board.now []) seat }
+{
+    if rules.signaller < rules.waiter || may_go(order, &board.signallers, seat) {
+        Blame::Choice
+    } else {
+        Blame::Order
+    }
+}
+
+/// What is to blame where no wait of the seat may have run out behind it. The board is of no further use.
+fn lapse_blame(order: Order, board: &mut Board, event: Event, seat: u8) -> Result<Blame, AllocError>
+    ensures blame { IfOk result (λ why. why ≡ moves.lapse_blame_on order (board_shown board.old []) event seat) }
+    ensures rest { board.new.rest ≡ board.old.rest }
+{
+    join(&mut board.items, event)?;
+    if may_lapse(order, &board.items, seat) {
+        Ok(Blame::Choice)
+    } else {
+        Ok(Blame::Served)
+    }
 }
 
 /// What is to blame where the release, which has served, may not have chosen so. The board is of no further use.
 fn choice_blame<T: Guarded>(
     order: Order,
+    rules: Rules,
     board: &mut Board,
     object: &T,
     event: Event,
@@ -74,22 +125,20 @@ fn choice_blame<T: Guarded>(
 ) -> Result<Blame, AllocError>
     requires { All (λ w. w.1 < T.PREDICATES) (board_shown board.old []).untils }
     ensures blame { IfOk result
-        (λ why. why ≡ moves.choice_blame_on order T.meaning (board_shown board.old (T.state object.now)) event line) }
+        (λ why. why ≡ moves.choice_blame_on order rules T.meaning (board_shown board.old (T.state object.now)) event line) }
     ensures rest { board.new.rest ≡ board.old.rest }
 {
-    let is_choice = match line {
-        LogLine::Resume(seat) => can_come_back(order, board, object, seat),
-        LogLine::Lapse(seat) => {
-            join(&mut board.items, event)?;
-            may_lapse(order, &board.items, seat)
-        }
-        _ => true,
-    };
-    Ok(match line {
-        LogLine::Resume(_) if !is_choice => Blame::Unserved,
-        LogLine::Lapse(_) if !is_choice => Blame::Served,
-        _ => Blame::Choice,
-    })
+    match line {
+        LogLine::Enter(_) => Ok(Blame::Choice),
+        LogLine::Resume(seat) => Ok(resume_blame(order, board, object, seat)),
+        LogLine::Lapse(seat) => lapse_blame(order, board, event, seat),
+        LogLine::Leave(seat)
+        | LogLine::Wait(seat, _)
+        | LogLine::Signal(seat, _)
+        | LogLine::Broadcast(seat, _)
+        | LogLine::Until(seat, _)
+        | LogLine::Act(seat, ..) => Ok(stay_blame(order, rules, board, seat)),
+    }
 }
 
 /// The first of the tests of the turn and behind it that the line fails, behind a release that has served. The board and the
@@ -109,7 +158,7 @@ fn late_blame<T: Guarded>(
         (λ why. why ≡ moves.late_blame_on order (monitor_in setting T.meaning) stays
         (board_shown board.old (T.state object.old)) event line) }
 {
-    let last = choice_blame(order, board, object, event, line)?;
+    let last = choice_blame(order, setting.rules, board, object, event, line)?;
     if !may_be_its_turn(stays, &board.rest, event, line) {
         Ok(Blame::Turn)
     } else if !is_in_place(&board.rest, event, line) {

@@ -5,6 +5,7 @@ ghost use Rattle.monk_logs.specs.Counts.{waiting_seats};
 ghost use Rattle.monk_logs.specs.Items as lines;
 ghost use Rattle.monk_logs.specs.Items.{has_service_behind, keeps_up, lapsed, line, seats_in, services, services_in, unserved_in};
 ghost use Rattle.monk_logs.specs.Order.{is_among};
+ghost use Rattle.monk_history.specs.Meaning.Choice.{is_front};
 ghost use Rattle.monk_history.specs.Meaning.Signallers.{is_empty};
 
 use crate::item::Item;
@@ -40,6 +41,32 @@ pub(crate) fn has_no_service(items: &[Item]) -> bool
         }
     }
     true
+}
+
+/// Whether the first service of all is of the condition.
+fn is_first_service(items: &[Item], cond: u8) -> bool
+    ensures { result ≡ is_front cond (services items.now) }
+{
+    for item in items {
+        if let Item::Service(at) = *item {
+            return at == cond;
+        }
+    }
+    false
+}
+
+/// Whether the seat is the first that waits on the condition.
+fn is_first_seat(items: &[Item], cond: u8, seat: u8) -> bool
+    ensures { result ≡ is_front seat (seats_in (line cond items.now)) }
+{
+    for item in items {
+        if let Item::Waiting(other, at) = *item {
+            if at == cond {
+                return other == seat;
+            }
+        }
+    }
+    false
 }
 
 /// How many signals on the condition have served a seat that hasn't gone on yet.
@@ -154,8 +181,8 @@ fn keeps_up_without(items: &[Item], cond: u8, seat: u8) -> bool
 
 /// Whether the seat can be one that a signal served.
 #[tactic(auto, using(crate::proofs::ItemLaws::told_first))]
-pub(crate) fn may_resume(order: Order, items: &[Item], seat: u8) -> bool
-    ensures { result ≡ lines.may_resume order seat items.now }
+pub(crate) fn was_served(order: Order, items: &[Item], seat: u8) -> bool
+    ensures { result ≡ lines.was_served order seat items.now }
 {
     let Some(cond) = condition_of(items, seat) else {
         return false;
@@ -163,6 +190,27 @@ pub(crate) fn may_resume(order: Order, items: &[Item], seat: u8) -> bool
     match order {
         Order::Fifo | Order::Wake => is_among_first(items, cond, seat, services_at(items, cond)),
         Order::Any => has_service_behind(items, cond, seat),
+    }
+}
+
+/// Whether the seat is the first of all that signals served.
+fn was_served_first(items: &[Item], seat: u8) -> bool
+    ensures { result ≡ lines.was_served_first seat items.now }
+{
+    match condition_of(items, seat) {
+        Some(cond) => is_first_service(items, cond) && is_first_seat(items, cond, seat),
+        None => false,
+    }
+}
+
+/// Whether the seat may be chosen of those that signals served: in order of arrival they go on in order of service.
+pub(crate) fn may_resume(order: Order, items: &[Item], seat: u8) -> bool
+    ensures { result ≡ lines.may_resume order seat items.now }
+{
+    match order {
+        Order::Fifo => was_served_first(items, seat),
+        Order::Wake => was_served(Order::Wake, items, seat),
+        Order::Any => was_served(Order::Any, items, seat),
     }
 }
 

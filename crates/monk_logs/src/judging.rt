@@ -4,7 +4,6 @@ ghost use Rattle.std.specs.Prelude.{◌≡◌, ◌≤◌, ◌<◌, IfOk, OnOk, I
 ghost use Rattle.monk_object.specs.Names.{most};
 ghost use Rattle.monk_history.specs.Limits.{most_lines};
 ghost use Rattle.monk_logs.specs.Stand.{verdict_on};
-ghost use Rattle.monk_logs.specs.Order.{IsLoose};
 ghost use Rattle.monk_logs.specs.Verdict.{FitsExactly, MisfitsExactly, log_monitor};
 ghost use Rattle.monk_logs.specs.VerdictIn.{FitsExactlyIn, MisfitsExactlyIn, verdict_in};
 
@@ -54,8 +53,7 @@ pub fn judge(
 
 /// Tells the same where queues are served in that order: whether some run begins with what the log tells, and else which line is the
 /// first with which none does. Under [`Order::Wake`] any seat of a queue may be chosen, and under [`Order::Any`] a signal may serve
-/// any seat of its condition as well; the priorities of the kind hold in each. A wait may run out, where the log tells it. Under
-/// [`Order::Fifo`] it is [`judge`], to which no history tells that a wait ran out.
+/// any seat of its condition as well; the priorities of the kind hold in each. A wait may run out, where the log tells it.
 ///
 /// # Errors
 ///
@@ -75,9 +73,9 @@ pub fn judge_in(
 ) -> Result<LogVerdict, AuditFault>
     requires { length lines.now ≤ most_lines }
     // It fits exactly where some run begins with the log.
-    ensures fits { IfOk result (λ v. IsLoose order → FitsExactlyIn order (log_monitor kind header.now) lines.now v) }
+    ensures fits { IfOk result (FitsExactlyIn order (log_monitor kind header.now) lines.now) }
     // It misfits exactly at the first line with which none begins.
-    ensures misfit { IfOk result (λ v. IsLoose order → MisfitsExactlyIn order (log_monitor kind header.now) lines.now v) }
+    ensures misfit { IfOk result (MisfitsExactlyIn order (log_monitor kind header.now) lines.now) }
     // What is to blame, and all else, is as it is found line by line.
     ensures verdict { IfOk result (λ v. v ≡ verdict_in order (log_monitor kind header.now) lines.now) }
     // The size is refused exactly where it is above the object's greatest.
@@ -85,9 +83,5 @@ pub fn judge_in(
     ensures object { IsErrOf result AuditFault.Object → most header.now.object < header.now.size }
     ensures too_big { most header.now.object < header.now.size → IsErrOf result AuditFault.Object }
 {
-    match order {
-        Order::Fifo => judge(alloc, header, lines, kind),
-        Order::Wake => follow_board(alloc, header, lines, kind, Order::Wake),
-        Order::Any => follow_board(alloc, header, lines, kind, Order::Any),
-    }
+    follow_board(alloc, header, lines, kind, order)
 }

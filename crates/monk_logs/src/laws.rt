@@ -33,9 +33,9 @@ pub fn judged_is_open()
 
 /// Where any seat of a queue may be chosen, and a signal may serve any seat of its condition, whom it served is known only later,
 /// if at all. Yet one pass tells whether a monitor may do these steps: a board, which keeps who came to wait and what signals
-/// gave, takes all of them exactly where some run has them. That holds for the orders `Wake` and `Any`.
+/// gave, takes all of them exactly where some run has them. In order of arrival too, where waits run out as well.
 pub fn boards_are_exact()
-    ensures { (o : Order) → IsLoose o → (m : Monitor) → (steps : List Step)
+    ensures { (o : Order) → (m : Monitor) → (steps : List Step)
         → IsRun o m steps ↔ IsTrue (is_some (board_steps o m (opening_board m) steps)) }
 {}
 
@@ -48,11 +48,11 @@ pub fn orders_widen()
     ensures any_logs { (m : Monitor) → (log : List LogLine) → IsOpenIn Wake m log → IsOpenIn Any m log }
 {}
 
-/// Whether a log could be of a monitor where any seat of a queue may be chosen, and where a signal may serve any seat as well, one
-/// pass over its lines tells: over a board it is judged to its end exactly where some run begins with what it tells. So the first
-/// line at which that ends is the first with which no run begins. That holds for the orders `Wake` and `Any`.
+/// Whether a log could be of a monitor, in each order of its queues, one pass over its lines tells: over a board it is judged to its
+/// end exactly where some run begins with what it tells. So the first line at which that ends is the first with which no run
+/// begins.
 pub fn orders_are_exact()
-    ensures { (o : Order) → IsLoose o → (m : Monitor) → (log : List LogLine)
+    ensures { (o : Order) → (m : Monitor) → (log : List LogLine)
         → IsTrue (is_some (board_judge o m log)) ↔ IsOpenIn o m log }
 {}
 
@@ -64,15 +64,15 @@ pub fn lapses_are_exact()
         → IsTrue (is_some (judge_read x o m log)) ↔ IsOpenWith x o m log }
 {}
 
-/// So is the verdict that is found over a board, line by line, with what is to blame (`board_verdict`): in every order it fits
-/// exactly where the log is judged to its end. Under `Wake` and under `Any` it fits exactly where some run begins with what the log
-/// tells, and misfits exactly at the first line with which none begins.
+/// So is the verdict that is found over a board, line by line, with what is to blame (`board_verdict`): it fits exactly where the log
+/// is judged to its end, and so where some run begins with what the log tells, and misfits exactly at the first line with which
+/// none begins.
 pub fn board_verdicts_are_exact()
     ensures judged { (o : Order) → (m : Monitor) → (log : List LogLine)
         → (board_verdict o m log ≡ Fits) ↔ IsTrue (is_some (board_judge o m log)) }
-    ensures fits { (o : Order) → IsLoose o → (m : Monitor) → (log : List LogLine)
+    ensures fits { (o : Order) → (m : Monitor) → (log : List LogLine)
         → FitsExactlyIn o m log (board_verdict o m log) }
-    ensures misfit { (o : Order) → IsLoose o → (m : Monitor) → (log : List LogLine)
+    ensures misfit { (o : Order) → (m : Monitor) → (log : List LogLine)
         → MisfitsExactlyIn o m log (board_verdict o m log) }
 {}
 

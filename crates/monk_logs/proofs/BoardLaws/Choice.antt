@@ -1,12 +1,13 @@
--- A release that may be called has a choice that a board permits, where any seat of a queue may be chosen
+-- A release that may be called has a choice that a board permits
 use Rattle.std.proofs.Common.{◌≡◌, ℕ, ◌+◌, ◌<◌, ◌≤◌, Bool, true, false, cond, ◌&&◌, not, List, [], ◌∷◌, ◌++◌, Some}
-use Rattle.std.proofs.Common.{refl, sym, ap, subst, ◌∙◌, ⊎_elim, arith, map, take, append-nil}
-use Rattle.std.proofs.lemmas.Bool.{and_from, cases_Bool, ne_eqb, or_right, true≢false}
+use Rattle.std.proofs.Common.{refl, sym, ap, subst, ◌∙◌, ⊎_elim, arith, length, map, take, append-nil}
+use Rattle.std.proofs.lemmas.Bool.{and_from, cases_Bool, eqb-true, false≢true, ne_eqb, or_cases, true≢false}
 use Rattle.std.specs.Prelude.{◌==◌}
 use Rattle.monk_history.specs.declared.event.Event.{Event}
 use Rattle.monk_history.specs.declared.event.Event.TheVariants as event
 use Rattle.monk_history.specs.declared.event.Next.{Next}
 use Rattle.monk_history.specs.declared.event.Next.TheVariants as next
+use Rattle.monk_history.specs.Meaning.Choice.{is_front}
 use Rattle.monk_history.specs.Meaning.Events.{has_conditions, is_stay, next_of, seat_of}
 use Rattle.monk_history.specs.Meaning.Monitor.{Monitor}
 use Rattle.monk_history.specs.Meaning.Reasons.{is_right_reply}
@@ -16,21 +17,23 @@ use Rattle.monk_history.specs.Meaning.Standing.{has_turn, times}
 use Rattle.monk_history.specs.Meaning.Untils.{ready_of}
 use Rattle.monk_logs.specs.Board.{Board, board_chances, board_permits, items_with, sight, signallers_with}
 use Rattle.monk_logs.specs.Chances.{may_choose_by, may_signal_by}
-use Rattle.monk_logs.specs.Items.{line, may_resume, services, unserved_in}
-use Rattle.monk_logs.specs.Order.{IsLoose, is_among, may_go}
+use Rattle.monk_logs.specs.Items.{keeps_up, line, may_resume, seats_in, services, unserved_in}
+use Rattle.monk_logs.specs.Order.{is_among, may_go}
 use Rattle.monk_logs.specs.declared.item.Item.{Item}
 use Rattle.monk_logs.specs.declared.item.Item.TheVariants.{Service, Waiting}
 use Rattle.monk_logs.specs.declared.order.Order.{Order}
+use Rattle.monk_logs.specs.declared.order.Order.TheVariants.{Fifo, Wake, Any}
 use Rattle.monk_logs.proofs.BoardLaws.Chooses.{Chooses, Offers, Someone, must_choose, served_choose}
 use Rattle.monk_logs.proofs.BoardLaws.Orderly.{Orderly}
 use Rattle.monk_logs.proofs.BoardLaws.Told.{owner_counted}
 use Rattle.monk_logs.proofs.CourseLaws.Tests.{called_with}
-use Rattle.monk_logs.proofs.OrderLaws.Chances.{may_go_from}
-use Rattle.monk_logs.proofs.OrderLaws.Choosing.{may_choose_it, resume_there}
+use Rattle.monk_logs.proofs.OrderLaws.Chances.{IsLoose, loose_or_not}
+use Rattle.monk_logs.proofs.OrderLaws.Choosing.{front_resumes, loose_resume, resume_served, resume_there, was_served_it}
 use Rattle.monk_logs.proofs.OrderLaws.Counts.{ready_waits, until_seats}
 use Rattle.monk_logs.proofs.OrderLaws.Fits.{Fits}
-use Rattle.monk_logs.proofs.OrderLaws.Lines.{all_seats}
-use Rattle.monk_logs.proofs.OrderLaws.Lists.{Distinct, among_counted, among_here, among-append}
+use Rattle.monk_logs.proofs.OrderLaws.Keeps.{few_services}
+use Rattle.monk_logs.proofs.OrderLaws.Lines.{all_seats, service_there, waits_only}
+use Rattle.monk_logs.proofs.OrderLaws.Lists.{Distinct, among_counted, among_here, among-append, same_number}
 use Rattle.monk_logs.proofs.OrderLaws.Passes.{Passes}
 use Rattle.monk_logs.proofs.OrderLaws.Seated.{one_at_most, seats_with}
 use Rattle.monk_logs.proofs.OrderLaws.Sound.{Sound, distinct_with, firsts, firsts_fit, keeps_with}
@@ -42,24 +45,50 @@ some_inside : (b : Bool) → 1 ≤ cond b 1 0 → b ≡ true
 some_inside true h = refl
 some_inside false h = absurd (omega arith)
 
-record First (xs : List ℕ) : Type 0 where
+-- the first of a queue may go in each order
+record First (o : Order) (xs : List ℕ) : Type 0 where
   seat : ℕ
   there : is_among seat xs ≡ true
+  may : may_go o seat xs ≡ true
 
-first : (xs : List ℕ) → is_empty xs ≡ false → First xs
-first [] h = absurd (true≢false h)
-first (x ∷ xs) h = record { seat = x; there = among_here x xs }
+first_goes : (o : Order) (x : ℕ) (xs : List ℕ) → may_go o x (x ∷ xs) ≡ true
+first_goes Fifo x xs = same_number x
+first_goes Wake x xs = among_here x xs
+first_goes Any x xs = among_here x xs
+
+first : (o : Order) (xs : List ℕ) → is_empty xs ≡ false → First o xs
+first o [] h = absurd (true≢false h)
+first o (x ∷ xs) h = record { seat = x; there = among_here x xs; may = first_goes o x xs }
 
 -- where there is a service one can be told as served
 record Resumer (o : Order) (items : List Item) : Type 0 where
   seat : ℕ
   may : may_resume o seat items ≡ true
 
-resumer_of : (o : Order) (items : List Item) (ws : List ℕ) → Distinct (all_seats items) → Fits o (among ws) items
+resumer_of : (o : Order) → IsLoose o → (items : List Item) (ws : List ℕ) → Distinct (all_seats items) → Fits o (among ws) items
     → is_empty ws ≡ false → Resumer o items
-resumer_of o items [] dis f h = absurd (true≢false h)
-resumer_of o items (w ∷ ws) dis f h =
-    record { seat = w; may = may_choose_it o (among (w ∷ ws)) w items dis (among_here w ws) f }
+resumer_of o loose items [] dis f h = absurd (true≢false h)
+resumer_of o loose items (w ∷ ws) dis f h =
+    record { seat = w; may = loose_resume o loose w items (was_served_it o (among (w ∷ ws)) w items dis (among_here w ws) f) }
+
+-- in order of arrival it is the first of its condition, of which the first service is
+front_of : (items : List Item) (c : ℕ) (cs xs : List ℕ) → Distinct (all_seats items) → services items ≡ c ∷ cs
+    → seats_in (line c items) ≡ xs → 1 ≤ length xs → Resumer Fifo items
+front_of items c cs [] dis is seats l = absurd (omega arith)
+front_of items c cs (x ∷ xs) dis is seats l = record {
+  seat = x;
+  may = front_resumes x c items
+      (waits_only x c items dis (subst (λ (ys : List ℕ). is_among x ys ≡ true) (sym seats) (among_here x xs)))
+      (subst (λ (ys : List ℕ). is_front c ys ≡ true) (sym is) (same_number c))
+      (subst (λ (ys : List ℕ). is_front x ys ≡ true) (sym seats) (same_number x));
+}
+
+front_by : (items : List Item) (cs : List ℕ) → Distinct (all_seats items) → ((c : ℕ) → keeps_up 0 (line c items) ≡ true)
+    → services items ≡ cs → is_empty cs ≡ false → Resumer Fifo items
+front_by items [] dis keeps is some = absurd (true≢false some)
+front_by items (c ∷ cs) dis keeps is some =
+    front_of items c cs (seats_in (line c items)) dis is refl
+    (omega (arith, service_there c cs items is, few_services 0 (line c items) (keeps c)))
 
 -- the board with what the event gives
 abbrev board_with : Board → Event → Board
@@ -83,9 +112,11 @@ sound_with b e h = record {
 resumer : (o : Order) (b : Board) (e : Event) → Sound b → is_empty (services (items_with b e)) ≡ false → Resumer o (items_with b e)
 resumer o b e sound some =
     let items = items_with b e in
-    let fits = firsts_fit o (board_with b e) (sound_with b e sound) in
     let dis = distinct_with b e sound in
-    resumer_of o items (firsts items) dis fits (empty_waiters o (firsts items) items dis fits ∙ some)
+    ⊎_elim
+    (λ is. subst (λ (x : Order). Resumer x items) (sym is) (front_by items (services items) dis (keeps_with b e sound) refl some))
+    (λ loose. let fits = firsts_fit o (board_with b e) (sound_with b e sound) in
+    resumer_of o loose items (firsts items) dis fits (empty_waiters o (firsts items) items dis fits ∙ some)) (loose_or_not o)
 
 module _ (o : Order) (m : Monitor) (b : Board) (ord : Orderly m b) where
   seat_inside : (j : ℕ) → 1 ≤ times j (all_seats b.items) + times j b.signallers + times j (until_seats b.untils) + has_turn j b.turn
@@ -95,14 +126,15 @@ module _ (o : Order) (m : Monitor) (b : Board) (ord : Orderly m b) where
   waiter_there : (e : Event) → is_empty (services (items_with b e)) ≡ false → Someone (λ j. may_resume o j (items_with b e)) m.seats
   waiter_there e some =
       let r = resumer o b e ord.sound some in
-      let counted = among_counted r.seat (all_seats (items_with b e)) (resume_there o r.seat (items_with b e) r.may) in
+      let counted = among_counted r.seat (all_seats (items_with b e))
+      (resume_there o r.seat (items_with b e) (resume_served o r.seat (items_with b e) r.may)) in
       record { seat = r.seat; may = r.may; in_range = seat_inside r.seat (omega (arith, counted, ap (times r.seat) (seats_with b e))) }
 
-  signaller_there : IsLoose o → (e : Event) (x : Next) → MayCallIn m (sight b) e → next_of e ≡ Some x
+  signaller_there : (e : Event) (x : Next) → MayCallIn m (sight b) e → next_of e ≡ Some x
       → signallers_with b e ≡ b.signallers → is_empty (signallers_with b e) ≡ false
       → Someone (λ j. may_go o j (signallers_with b e) && not (j == seat_of e)) m.seats
-  signaller_there loose e x may chose none some =
-      let f = first (signallers_with b e) some in
+  signaller_there e x may chose none some =
+      let f = first o (signallers_with b e) some in
       let counted = among_counted f.seat b.signallers (subst (λ (xs : List ℕ). is_among f.seat xs ≡ true) none f.there) in
       let other : f.seat ≡ seat_of e → ⊥ = λ same. omega (
         arith,
@@ -114,14 +146,14 @@ module _ (o : Order) (m : Monitor) (b : Board) (ord : Orderly m b) where
       record {
         seat = f.seat;
         may = and_from (may_go o f.seat (signallers_with b e)) (not (f.seat == seat_of e))
-            (may_go_from o loose f.seat (signallers_with b e) f.there) (ap not (ne_eqb f.seat (seat_of e) other));
+            f.may (ap not (ne_eqb f.seat (seat_of e) other));
         in_range = seat_inside f.seat (omega (arith, counted));
       }
 
-  ready_there : IsLoose o → is_empty (ready_of m.object b.state b.untils) ≡ false
+  ready_there : is_empty (ready_of m.object b.state b.untils) ≡ false
       → Someone (λ j. not (has_conditions m.kind.mode) && may_go o j (ready_of m.object b.state b.untils)) m.seats
-  ready_there loose some =
-      let f = first (ready_of m.object b.state b.untils) some in
+  ready_there some =
+      let f = first o (ready_of m.object b.state b.untils) some in
       let counted = among_counted f.seat (until_seats b.untils) (ready_waits m.object b.state f.seat b.untils f.there) in
       record {
         seat = f.seat;
@@ -129,22 +161,22 @@ module _ (o : Order) (m : Monitor) (b : Board) (ord : Orderly m b) where
             (⊎_elim
             (λ has. absurd (true≢false (ap (λ (us : List (ℕ × ℕ)). is_empty (ready_of m.object b.state us)) (sym (ord.untils has)) ∙ some)))
             (λ has. ap not has) (cases_Bool (has_conditions m.kind.mode)))
-            (may_go_from o loose f.seat (ready_of m.object b.state b.untils) f.there);
+            f.may;
         in_range = seat_inside f.seat (omega (arith, counted));
       }
 
-  offers : IsLoose o → (e : Event) (x : Next) → MayCallIn m (sight b) e → next_of e ≡ Some x → signallers_with b e ≡ b.signallers
+  offers : (e : Event) (x : Next) → MayCallIn m (sight b) e → next_of e ≡ Some x → signallers_with b e ≡ b.signallers
       → Offers m.kind (board_chances o m.object b e) (seat_of e) m.seats
-  offers loose e x may chose none = record {
+  offers e x may chose none = record {
     waiter = waiter_there e;
-    signaller = signaller_there loose e x may chose none;
-    ready = ready_there loose;
+    signaller = signaller_there e x may chose none;
+    ready = ready_there;
   }
 
-  chooses : IsLoose o → (e : Event) (x : Next) → MayCallIn m (sight b) e → next_of e ≡ Some x → signallers_with b e ≡ b.signallers
+  chooses : (e : Event) (x : Next) → MayCallIn m (sight b) e → next_of e ≡ Some x → signallers_with b e ≡ b.signallers
       → Chooses (may_choose_by m.kind (board_chances o m.object b e) (seat_of e)) m.seats
-  chooses loose e x may chose none =
-      must_choose m.kind (board_chances o m.object b e) (seat_of e) m.seats (offers loose e x may chose none)
+  chooses e x may chose none =
+      must_choose m.kind (board_chances o m.object b e) (seat_of e) m.seats (offers e x may chose none)
 
 -- ---- a signal that serves somebody
 
@@ -158,18 +190,38 @@ served_one : (items : List Item) (c : ℕ) (un : List ℕ) → is_empty un ≡ f
 served_one items c [] h = absurd (true≢false h)
 served_one items c (x ∷ un) h = service_last items c
 
-joined_one : (xs : List ℕ) (s : ℕ) (empty : Bool) → empty ≡ false → is_among s (xs ++ cond empty [] (s ∷ [])) ≡ true
+joined_one : (xs : List ℕ) (s : ℕ) (empty : Bool) → empty ≡ false → is_empty (xs ++ cond empty [] (s ∷ [])) ≡ false
 joined_one xs s true h = absurd (true≢false h)
-joined_one xs s false h = among-append s xs (s ∷ []) ∙ or_right (is_among s xs) (is_among s (s ∷ [])) (among_here s [])
+joined_one [] s false h = refl
+joined_one (x ∷ xs) s false h = refl
 
-module _ (o : Order) (loose : IsLoose o) (m : Monitor) (b : Board) (ord : Orderly m b) (s c : ℕ) (x : Next) where
+only_it : (s j : ℕ) → is_among j (s ∷ []) ≡ true → s ≡ j
+only_it s j h = ⊎_elim (λ k. eqb-true s j k) (λ k. absurd (false≢true k)) (or_cases (s == j) false h)
+
+-- another that is there signalled before
+joined_seat : (xs : List ℕ) (s j : ℕ) (empty : Bool) → is_among j (xs ++ cond empty [] (s ∷ [])) ≡ true → (j ≡ s → ⊥)
+    → is_among j xs ≡ true
+joined_seat xs s j true h ne = subst (λ (ys : List ℕ). is_among j ys ≡ true) (append-nil xs) h
+joined_seat xs s j false h ne =
+    ⊎_elim (λ k. k) (λ k. absurd (ne (sym (only_it s j k))))
+    (or_cases (is_among j xs) (is_among j (s ∷ [])) (sym (among-append j xs (s ∷ [])) ∙ h))
+
+module _ (o : Order) (m : Monitor) (b : Board) (ord : Orderly m b) (s c : ℕ) (x : Next) where
   signal_chooses : is_empty (unserved_in (line c b.items)) ≡ false
       → Chooses (may_signal_by m.kind (board_chances o m.object b (event.Signal s c x)) s) m.seats
   signal_chooses some =
       let e = event.Signal s c x in
+      let f = first o (signallers_with b e) (joined_one b.signallers s (is_empty (unserved_in (line c b.items))) some) in
       served_choose m.kind (board_chances o m.object b e) s m.seats
       (waiter_there o m b ord e (served_one b.items c (unserved_in (line c b.items)) some))
-      (may_go_from o loose s (signallers_with b e) (joined_one b.signallers s (is_empty (unserved_in (line c b.items))) some))
+      (record {
+        seat = f.seat;
+        may = f.may;
+        in_range = λ ne. seat_inside o m b ord f.seat (omega (
+          arith,
+          among_counted f.seat b.signallers (joined_seat b.signallers s f.seat (is_empty (unserved_in (line c b.items))) f.there ne),
+        ));
+      })
 
 -- ---- each release
 
@@ -183,7 +235,7 @@ stay_or : (stays : Bool) (p : Next → Bool) (seats : ℕ) → (stays ≡ false 
 stay_or true p seats h = record { choice = next.Stay; may = refl; named = refl }
 stay_or false p seats h = let f = h refl in record { choice = f.choice; may = f.may; named = f.named }
 
-module _ (o : Order) (loose : IsLoose o) (m : Monitor) (b : Board) (ord : Orderly m b) where
+module _ (o : Order) (m : Monitor) (b : Board) (ord : Orderly m b) where
   chosen_by : (e : Event) (p : Next → Bool) → MayCallIn m (sight b) e
       → ((x : Next) → is_right_reply m.object b.state (with_next x e) ≡ true)
       → ((x : Next) → p x ≡ true → board_permits o m.kind m.object b (with_next x e) ≡ true) → Chooses p m.seats → Chosen o m b e
@@ -199,7 +251,7 @@ module _ (o : Order) (loose : IsLoose o) (m : Monitor) (b : Board) (ord : Orderl
   -- one that must choose, and joins no signallers
   goes : (e : Event) (x : Next) → next_of e ≡ Some x → MayCallIn m (sight b) e → signallers_with b e ≡ b.signallers
       → Chooses (may_choose_by m.kind (board_chances o m.object b e) (seat_of e)) m.seats
-  goes e x chose may none = chooses o m b ord loose e x may chose none
+  goes e x chose may none = chooses o m b ord e x may chose none
 
   pub release_chosen : (e : Event) → next_of e ≡ Some next.Stay → MayCallIn m (sight b) e → Chosen o m b e
   release_chosen (event.Enter s via) chose may = absurd cc
@@ -233,4 +285,4 @@ module _ (o : Order) (loose : IsLoose o) (m : Monitor) (b : Board) (ord : Orderl
       let nobody = is_empty (unserved_in (line c b.items)) in
       let may_signal = may_signal_by m.kind (board_chances o m.object b e) s in
       chosen_by e (λ x. cond nobody (is_stay (Some x)) (may_signal x)) may (λ x. refl) (λ x h. h)
-      (stay_or nobody may_signal m.seats (signal_chooses o loose m b ord s c y))
+      (stay_or nobody may_signal m.seats (signal_chooses o m b ord s c y))

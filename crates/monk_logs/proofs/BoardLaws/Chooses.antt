@@ -1,7 +1,7 @@
 -- What a release may choose, by who is there
 use Rattle.std.proofs.Common.{◌≡◌, ℕ, ◌<◌, Bool, true, false, ◌&&◌, ◌||◌, not, [], ◌∷◌, Some}
-use Rattle.std.proofs.Common.{refl, ⊎_elim, arith}
-use Rattle.std.proofs.lemmas.Bool.{and_from, cases_Bool, cases_lt, false≢true, le-leb, or_left, or_right}
+use Rattle.std.proofs.Common.{refl, ⊎_elim, ap, arith, subst}
+use Rattle.std.proofs.lemmas.Bool.{and_from, cases_Bool, cases_eq, cases_lt, false≢true, le-leb, ne_eqb, or_left, or_right}
 use Rattle.std.specs.List.{list_all}
 use Rattle.std.specs.Prelude.{◌==◌, nat_le, nat_lt}
 use Rattle.monk_kinds.specs.declared.mode.Rules.{Rules}
@@ -76,10 +76,34 @@ module _ (k : Rules) (q : Chances) (s seats : ℕ) (offers : Offers k q s seats)
       (λ w. ⊎_elim (λ g. chooses_waiter w (or_left q.no_signaller (nat_le k.signaller k.waiter) g)) (chooses_inner w)
       (cases_Bool q.no_signaller)) (cases_Bool q.no_waiter)
 
--- a signal that served somebody
-pub served_choose : (k : Rules) (q : Chances) (s seats : ℕ) → Someone q.waiter seats → q.signaller s ≡ true
+-- a signaller that may be chosen: the caller s itself, or another seat
+pub record Signaller (q : Chances) (s seats : ℕ) : Type 0 where
+  pub seat : ℕ
+  pub may : q.signaller seat ≡ true
+  pub in_range : (seat ≡ s → ⊥) → seat < seats
+
+signaller_goes : (k : Rules) (q : Chances) (s seats : ℕ) → Signaller q s seats → nat_le k.waiter k.signaller ≡ true
     → Chooses (may_signal_by k q s) seats
-served_choose k q s seats w joined =
+signaller_goes k q s seats g first =
+    ⊎_elim
+    (λ is. record {
+      choice = next.Stay;
+      may = and_from (q.signaller s) (nat_le k.waiter k.signaller) (subst (λ (j : ℕ). q.signaller j ≡ true) is g.may) first;
+      named = refl;
+    })
+    (λ ne. record {
+      choice = next.Signaller g.seat;
+      may = and_from (q.signaller g.seat && (q.no_waiter || nat_le k.waiter k.signaller)) (not (g.seat == s))
+          (and_from (q.signaller g.seat) (q.no_waiter || nat_le k.waiter k.signaller) g.may
+          (or_right q.no_waiter (nat_le k.waiter k.signaller) first)) (ap not (ne_eqb g.seat s ne));
+      named = named_one seats g.seat (g.in_range ne);
+    })
+    (cases_eq g.seat s)
+
+-- a signal that served somebody
+pub served_choose : (k : Rules) (q : Chances) (s seats : ℕ) → Someone q.waiter seats → Signaller q s seats
+    → Chooses (may_signal_by k q s) seats
+served_choose k q s seats w g =
     ⊎_elim
     (λ l. record {
       choice = next.Waiter w.seat;
@@ -87,9 +111,5 @@ served_choose k q s seats w joined =
           (or_right q.no_signaller (nat_le k.signaller k.waiter) (le-leb k.signaller k.waiter (omega (arith, l))));
       named = named_one seats w.seat w.in_range;
     })
-    (λ l. record {
-      choice = next.Stay;
-      may = and_from (q.signaller s) (nat_le k.waiter k.signaller) joined (le-leb k.waiter k.signaller l);
-      named = refl;
-    })
+    (λ l. signaller_goes k q s seats g (le-leb k.waiter k.signaller l))
     (cases_lt k.signaller k.waiter)

@@ -13,7 +13,6 @@ use Rattle.monk_logs.specs.Board.{Board, board_after, board_steps, opening_board
 use Rattle.monk_logs.specs.BoardCourse.{BoardCourse, board_judge}
 use Rattle.monk_logs.specs.Erasure.{erased}
 use Rattle.monk_logs.specs.FitsIn.{IsOpenIn, run_lines}
-use Rattle.monk_logs.specs.Order.{IsLoose}
 use Rattle.monk_logs.specs.declared.line.LogLine.{LogLine}
 use Rattle.monk_logs.specs.declared.line.LogLine.TheVariants.{Leave, Signal}
 use Rattle.monk_logs.specs.declared.order.Order.{Order}
@@ -38,13 +37,13 @@ open_front o m log more x = record {
   tells = x.tells ∙ append_assoc log more x.more;
 }
 
-module _ (o : Order) (loose : IsLoose o) (m : Monitor) (steps : List Step) (b : Board)
+module _ (o : Order) (m : Monitor) (steps : List Step) (b : Board)
     (taken : board_steps o m (opening_board m) steps ≡ Some b)
   where
     steps_open : IsOpenIn o m (run_lines steps)
     steps_open = record {
       steps = steps;
-      run = taken_run o loose m steps (ap is_some taken);
+      run = taken_run o m steps (ap is_some taken);
       more = [];
       tells = sym (append-nil (run_lines steps));
     }
@@ -52,12 +51,12 @@ module _ (o : Order) (loose : IsLoose o) (m : Monitor) (steps : List Step) (b : 
     -- a release that may be called has a choice that goes on
     release_open : (e : Event) → next_of e ≡ Some Stay → MayCallIn m (sight b) e → IsOpenIn o m (run_lines steps ++ erased e)
     release_open e stays may =
-        let c = release_chosen o loose m b (orderly o m steps b taken) e stays may in
+        let c = release_chosen o m b (orderly o m steps b taken) e stays may in
         let f = with_next c.choice e in
         let all = steps ++ Did f ∷ [] in
         record {
           steps = all;
-          run = taken_run o loose m all (ap is_some
+          run = taken_run o m all (ap is_some
               (steps-push o m (opening_board m) b (board_after m.object b f) steps (Did f) taken (step_ok o m b f c.passes)));
           more = [];
           tells = run_lines-push steps (Did f) ∙ ap (λ (ls : List LogLine). run_lines steps ++ ls) (erased_with_next c.choice e)
@@ -72,17 +71,17 @@ module _ (o : Order) (loose : IsLoose o) (m : Monitor) (steps : List Step) (b : 
         (release_open (event.SignalLeave s c Stay) refl still))
     pending_open (Release e) still = release_open e still.1 still.0
 
-told_open : (o : Order) (m : Monitor) (log : List LogLine) (x : BoardCourse) → IsLoose o → StepsTell o m log x → IsOpenIn o m log
-told_open o m log x loose t =
-    subst (IsOpenIn o m) t.told (pending_open o loose m t.steps x.board t.taken x.pending t.still)
+told_open : (o : Order) (m : Monitor) (log : List LogLine) (x : BoardCourse) → StepsTell o m log x → IsOpenIn o m log
+told_open o m log x t =
+    subst (IsOpenIn o m) t.told (pending_open o m t.steps x.board t.taken x.pending t.still)
 
-judged_open_at : (o : Order) (m : Monitor) (log : List LogLine) (x : Option BoardCourse) → IsLoose o → board_judge o m log ≡ x
+judged_open_at : (o : Order) (m : Monitor) (log : List LogLine) (x : Option BoardCourse) → board_judge o m log ≡ x
     → is_some x ≡ true → IsOpenIn o m log
-judged_open_at o m log None loose is h = absurd (false≢true h)
-judged_open_at o m log (Some x) loose is h = told_open o m log x loose (judged_steps o m log x is)
+judged_open_at o m log None is h = absurd (false≢true h)
+judged_open_at o m log (Some x) is h = told_open o m log x (judged_steps o m log x is)
 
-pub judged_open : (o : Order) (m : Monitor) (log : List LogLine) → IsLoose o → is_some (board_judge o m log) ≡ true → IsOpenIn o m log
-judged_open o m log loose h = judged_open_at o m log (board_judge o m log) loose refl h
+pub judged_open : (o : Order) (m : Monitor) (log : List LogLine) → is_some (board_judge o m log) ≡ true → IsOpenIn o m log
+judged_open o m log h = judged_open_at o m log (board_judge o m log) refl h
 
 pub open_judged : (o : Order) (m : Monitor) (log : List LogLine) → IsOpenIn o m log → is_some (board_judge o m log) ≡ true
 open_judged o m log x = taken_judged o m log x.more x.steps x.tells (run_taken o m x.steps x.run)

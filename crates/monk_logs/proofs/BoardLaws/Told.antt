@@ -37,7 +37,7 @@ use Rattle.monk_logs.proofs.OrderLaws.Lines.{all_seats, among_line, waits_there}
 use Rattle.monk_logs.proofs.OrderLaws.Lists.{among-append, among_counted, none_counted}
 use Rattle.monk_logs.proofs.OrderLaws.Passes.{Passes, may_go_among}
 use Rattle.monk_logs.proofs.OrderLaws.Seated.{one_at_most, owned_turn, seats_with}
-use Rattle.monk_logs.proofs.OrderLaws.Sound.{Sound, may_resume_chosen}
+use Rattle.monk_logs.proofs.OrderLaws.Sound.{Sound, was_served_chosen}
 
 -- ---- the first line of a step
 
@@ -192,7 +192,7 @@ module _ (o : Order) (m : Monitor) (b : Board) (e : Event) (sound : Sound b) (p 
 
   waiter_found : (j : ℕ) → next_of e ≡ Some (next.Waiter j) → standing_choice b e j ≡ next.Waiter j
   waiter_found j is =
-      let r = resumes o j (items_with b e) (may_resume_chosen o m b e p j is) in
+      let r = resumes o j (items_with b e) (was_served_chosen o m b e p j is) in
       rw (r.waits) refl
 
   pub found : (x : Next) → next_of e ≡ Some x → IsFound b e x

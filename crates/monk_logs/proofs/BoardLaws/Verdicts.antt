@@ -9,7 +9,6 @@ use Rattle.monk_logs.specs.Board.{opening_board}
 use Rattle.monk_logs.specs.BoardCourse.{BoardCourse, board_behind, board_judge, board_judge_from, board_settled}
 use Rattle.monk_logs.specs.BoardStand.{board_over, board_verdict, board_verdict_from}
 use Rattle.monk_logs.specs.FitsIn.{IsOpenIn}
-use Rattle.monk_logs.specs.Order.{IsLoose}
 use Rattle.monk_logs.specs.VerdictIn.{FitsExactlyIn, IsVerdictIn, MisfitsExactlyIn}
 use Rattle.monk_logs.specs.declared.blame.Blame.{Blame}
 use Rattle.monk_logs.specs.declared.line.LogLine.{LogLine}
@@ -66,9 +65,9 @@ line_leads o m front x l r at is =
 abbrev IsJudgedTo : Order → Monitor → List LogLine → BoardCourse → Type 0
 IsJudgedTo o m log x = board_judge o m log ≡ Some x
 
-judges : (o : Order) (m : Monitor) → IsLoose o → Judges (IsOpenIn o m) (board_over o m) (IsJudgedTo o m)
-judges o m loose = record {
-  opens = λ front x at. judged_open o m front loose (ap is_some at);
+judges : (o : Order) (m : Monitor) → Judges (IsOpenIn o m) (board_over o m) (IsJudgedTo o m)
+judges o m = record {
+  opens = λ front x at. judged_open o m front (ap is_some at);
   leads = λ front x l y at is. line_leads o m front x l (Ok y) at is;
   ends = λ front x l why at is opens. false≢true
       (sym (ap is_some (line_leads o m front x l (Err why) at is)) ∙ open_judged o m (front ++ l ∷ []) opens);
@@ -78,16 +77,16 @@ judged_none : (o : Order) (m : Monitor) → board_judge o m [] ≡ Some (board_s
 unfolding board_judge_from
 judged_none o m = refl
 
-verdict_is : (o : Order) (m : Monitor) (log : List LogLine) → IsLoose o → IsVerdictIn o m log (board_verdict o m log)
-verdict_is o m log loose =
-    verdict_holds (IsOpenIn o m) (board_over o m) (IsJudgedTo o m) (judges o m loose) [] log (board_settled (opening_board m))
+verdict_is : (o : Order) (m : Monitor) (log : List LogLine) → IsVerdictIn o m log (board_verdict o m log)
+verdict_is o m log =
+    verdict_holds (IsOpenIn o m) (board_over o m) (IsJudgedTo o m) (judges o m) [] log (board_settled (opening_board m))
     (judged_none o m)
 
-pub board_fits_exactly : (o : Order) (m : Monitor) (log : List LogLine) → IsLoose o → FitsExactlyIn o m log (board_verdict o m log)
-board_fits_exactly o m log loose =
-    fits_exactly_by (IsOpenIn o m) (open_front o m) log (board_verdict o m log) (verdict_is o m log loose)
+pub board_fits_exactly : (o : Order) (m : Monitor) (log : List LogLine) → FitsExactlyIn o m log (board_verdict o m log)
+board_fits_exactly o m log =
+    fits_exactly_by (IsOpenIn o m) (open_front o m) log (board_verdict o m log) (verdict_is o m log)
 
-pub board_misfits_exactly : (o : Order) (m : Monitor) (log : List LogLine) → IsLoose o
+pub board_misfits_exactly : (o : Order) (m : Monitor) (log : List LogLine)
     → MisfitsExactlyIn o m log (board_verdict o m log)
-board_misfits_exactly o m log loose =
-    misfits_exactly_by (IsOpenIn o m) (open_front o m) log (board_verdict o m log) (verdict_is o m log loose)
+board_misfits_exactly o m log =
+    misfits_exactly_by (IsOpenIn o m) (open_front o m) log (board_verdict o m log) (verdict_is o m log)

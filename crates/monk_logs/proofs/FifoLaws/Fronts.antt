@@ -28,7 +28,7 @@ apart_absent ws xs few =
 
 -- ---- the front goes
 
-first_out : (x : ℕ) (xs ys : List ℕ) → apart (x ∷ []) xs ≡ ys → apart (x ∷ []) (x ∷ xs) ≡ ys
+pub first_out : (x : ℕ) (xs ys : List ℕ) → apart (x ∷ []) xs ≡ ys → apart (x ∷ []) (x ∷ xs) ≡ ys
 first_out x xs ys h = rw (among_here x []) h
 
 pub first_gone : (x : ℕ) (xs : List ℕ) → IsFew (x ∷ xs) → apart (x ∷ []) (x ∷ xs) ≡ xs

@@ -39,7 +39,7 @@ any_is : (queue ws : List ℕ) → ServesAny Fifo queue ws → ws ≡ take 1 que
 any_is [] ws s = s
 any_is (x ∷ xs) ws s = s.is_it ∙ ap (λ (j : ℕ). j ∷ []) (sym (eqb-true x s.seat s.may_be))
 
-serves_is : (queue : ℕ → List ℕ) (e : Event) (ws : List ℕ) → Serves Fifo queue e ws → ws ≡ serves queue e
+pub serves_is : (queue : ℕ → List ℕ) (e : Event) (ws : List ℕ) → Serves Fifo queue e ws → ws ≡ serves queue e
 serves_is queue (Enter s via) ws h = h
 serves_is queue (Act s op r) ws h = h
 serves_is queue (Leave s x) ws h = h
@@ -55,7 +55,7 @@ any_so : (queue : List ℕ) → ServesAny Fifo queue (take 1 queue)
 any_so [] = refl
 any_so (x ∷ xs) = record { seat = x; is_it = refl; may_be = same_number x }
 
-serves_so : (queue : ℕ → List ℕ) (e : Event) → Serves Fifo queue e (serves queue e)
+pub serves_so : (queue : ℕ → List ℕ) (e : Event) → Serves Fifo queue e (serves queue e)
 serves_so queue (Enter s via) = refl
 serves_so queue (Act s op r) = refl
 serves_so queue (Leave s x) = refl

@@ -13,15 +13,15 @@ use Rattle.monk_history.specs.Meaning.Monitor.{Monitor}
 use Rattle.monk_history.specs.Meaning.Signallers.{is_empty, signals}
 use Rattle.monk_logs.specs.Board.{Board, board_after, board_chances, chosen_out, items_with, sight, signallers_with}
 use Rattle.monk_logs.specs.Chances.{chances, permits_by}
-use Rattle.monk_logs.specs.Items.{line, seats_in, keeps_up, may_resume}
-use Rattle.monk_logs.specs.Order.{IsLoose, is_among, apart, may_go}
+use Rattle.monk_logs.specs.Items.{line, seats_in, keeps_up, was_served}
+use Rattle.monk_logs.specs.Order.{is_among, apart, may_go}
 use Rattle.monk_logs.specs.Run.{AreWaiters, IsAfter, IsMove, chosen_waiter, queues_with, taken_signaller}
 use Rattle.monk_logs.specs.declared.item.Item.{Item}
 use Rattle.monk_logs.specs.declared.item.Item.TheVariants.{Waiting}
 use Rattle.monk_logs.specs.declared.order.Order.{Order}
 use Rattle.monk_logs.specs.declared.order.Order.TheVariants.{Wake, Any}
 use Rattle.monk_logs.proofs.OrderLaws.After.{among_apart, apart_it, apart_none, apart_other, apart_same, apart_twice, condition_after}
-use Rattle.monk_logs.proofs.OrderLaws.Chances.{AreLike, may_go_from, permits_like}
+use Rattle.monk_logs.proofs.OrderLaws.Chances.{AreLike, IsLoose, may_go_from, permits_like}
 use Rattle.monk_logs.proofs.OrderLaws.Choosing.{unchoose}
 use Rattle.monk_logs.proofs.OrderLaws.Coming.{unjoin}
 use Rattle.monk_logs.proofs.OrderLaws.Fits.{Fits, fits_same}
@@ -29,7 +29,7 @@ use Rattle.monk_logs.proofs.OrderLaws.Leads.{less}
 use Rattle.monk_logs.proofs.OrderLaws.Lines.{all_seats, all_seats_taken}
 use Rattle.monk_logs.proofs.OrderLaws.Lists.{Distinct, among_here}
 use Rattle.monk_logs.proofs.OrderLaws.Passes.{Passes}
-use Rattle.monk_logs.proofs.OrderLaws.Sound.{Sound, distinct_with, keeps_with, may_resume_chosen, sound_distinct}
+use Rattle.monk_logs.proofs.OrderLaws.Sound.{Sound, distinct_with, keeps_with, was_served_chosen, sound_distinct}
 use Rattle.monk_logs.proofs.OrderLaws.Stands.{Stands, among, call_back, empty_waiters, signals_same, standing, stands_so, stay_same}
 use Rattle.monk_logs.proofs.OrderLaws.Unserving.{Before, unserved}
 
@@ -46,7 +46,7 @@ among_others_too : (j k : ℕ) (vs : List ℕ) → (k ≡ j → ⊥) → is_amon
 among_others_too j k vs ne = rw (ne_eqb j k (λ (e : j ≡ k). ne (sym e))) refl
 
 unchosen : (o : Order) (vs : List ℕ) (n : Option Next) (items : List Item) → Distinct (all_seats items)
-    → ((c : ℕ) → keeps_up 0 (line c items) ≡ true) → ((j : ℕ) → n ≡ Some (next.Waiter j) → may_resume o j items ≡ true)
+    → ((c : ℕ) → keeps_up 0 (line c items) ≡ true) → ((j : ℕ) → n ≡ Some (next.Waiter j) → was_served o j items ≡ true)
     → Fits o (among vs) (chosen_out n items) → Fits o (among (chosen_waiter n ++ vs)) items
 unchosen o vs None items dis keeps may f = f
 unchosen o vs (Some next.Stay) items dis keeps may f = f
@@ -56,7 +56,7 @@ unchosen o vs (Some (next.Waiter j)) items dis keeps may f =
 unchosen o vs (Some (next.Signaller j)) items dis keeps may f = f
 unchosen o vs (Some (next.Until j)) items dis keeps may f = f
 
-less_out : (j : ℕ) (xs : List ℕ) → Distinct xs → is_among j (less j xs) ≡ false
+pub less_out : (j : ℕ) (xs : List ℕ) → Distinct xs → is_among j (less j xs) ≡ false
 less_out j [] d = refl
 less_out j (x ∷ xs) d =
     ⊎_elim (λ e. rw (eq-eqb x j e) (subst (λ (y : ℕ). is_among y xs ≡ false) e d.0))
@@ -112,7 +112,7 @@ module _ (o : Order) (loose : IsLoose o) (m : Monitor) (b : Board) (e : Event) (
 
     fit_before : Fits o (among (chosen_waiter (next_of e) ++ vs)) (items_with b e)
     fit_before =
-        unchosen o vs (next_of e) (items_with b e) (distinct_with b e sound) (keeps_with b e sound) (may_resume_chosen o m b e p) behind.0
+        unchosen o vs (next_of e) (items_with b e) (distinct_with b e sound) (keeps_with b e sound) (was_served_chosen o m b e p) behind.0
 
     before : Before o b e (chosen_waiter (next_of e) ++ vs)
     before = unserved o b (chosen_waiter (next_of e) ++ vs) sound e fit_before

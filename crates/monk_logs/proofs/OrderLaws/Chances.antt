@@ -1,6 +1,6 @@
 -- Who may be chosen on a board and in a situation that it could be
 use Rattle.std.proofs.Common.{◌≡◌, ℕ, Bool, true, false, cond, ◌&&◌, ◌||◌, not, List, Option, Some, None, refl, sym, ap}
-use Rattle.std.proofs.Common.{◌∙◌, subst, inl, inr}
+use Rattle.std.proofs.Common.{◌∙◌, ◌⊎◌, subst, inl, inr}
 use Rattle.std.specs.Option.{option_map_or}
 use Rattle.std.specs.Prelude.{◌==◌, nat_le, is_some}
 use Rattle.std.proofs.lemmas.Bool.{and_from, and_parts}
@@ -10,9 +10,9 @@ use Rattle.monk_history.specs.declared.event.Next.{Next}
 use Rattle.monk_history.specs.declared.event.Next.TheVariants as next
 use Rattle.monk_history.specs.Meaning.Events.{has_conditions, is_stay, next_of, seat_of, steps_back}
 use Rattle.monk_logs.specs.Chances.{Chances, may_choose_by, may_signal_by, permits_by}
-use Rattle.monk_logs.specs.Order.{IsLoose, is_among, may_go}
+use Rattle.monk_logs.specs.Order.{is_among, may_go}
 use Rattle.monk_logs.specs.declared.order.Order.{Order}
-use Rattle.monk_logs.specs.declared.order.Order.TheVariants.{Wake, Any}
+use Rattle.monk_logs.specs.declared.order.Order.TheVariants.{Fifo, Wake, Any}
 
 -- what may be chosen by the first may be chosen by the second, where the waiters that may be are given for one choice
 pub record AreLike (q r : Chances) (n : Option Next) : Type 0 where
@@ -70,6 +70,15 @@ pub permits_like : (k : Rules) (stays : Bool) (q r : Chances) (e : Event) → Ar
 permits_like k stays q r e a h = next_like k q r (seat_of e) stays (is_some (steps_back e)) (next_of e) a h
 
 -- ---- any seat may go
+
+-- the orders in which nothing depends on who came first to a queue of those that may be chosen
+abbrev pub IsLoose : Order → Type 0
+IsLoose o = (o ≡ Wake) ⊎ (o ≡ Any)
+
+pub loose_or_not : (o : Order) → (o ≡ Fifo) ⊎ IsLoose o
+loose_or_not Fifo = inl refl
+loose_or_not Wake = inr (inl refl)
+loose_or_not Any = inr (inr refl)
 
 loose_at : (o p : Order) → o ≡ p → (j : ℕ) (xs : List ℕ) → may_go p j xs ≡ true → may_go o j xs ≡ true
 loose_at o p e j xs h = subst (λ (x : Order). may_go x j xs ≡ true) (sym e) h

@@ -26,8 +26,8 @@ use Rattle.monk_logs.specs.declared.item.Item.TheVariants.{Service, Waiting}
 use Rattle.monk_logs.specs.declared.order.Order.{Order}
 use Rattle.monk_logs.specs.declared.order.Order.TheVariants.{Fifo, Wake, Any}
 use Rattle.monk_logs.proofs.OrderLaws.After.{among_one, apart_it, apart_none, apart_other, apart_twice, comes_new, condition_after}
-use Rattle.monk_logs.proofs.OrderLaws.Chances.{AreLike, permits_like}
-use Rattle.monk_logs.proofs.OrderLaws.Choosing.{choose_fits, may_choose_it}
+use Rattle.monk_logs.proofs.OrderLaws.Chances.{AreLike, IsLoose, permits_like}
+use Rattle.monk_logs.proofs.OrderLaws.Choosing.{choose_fits, loose_resume, was_served_it}
 use Rattle.monk_logs.proofs.OrderLaws.Coming.{join}
 use Rattle.monk_logs.proofs.OrderLaws.Fits.{Fits, as_many, fits_same, serve_one}
 use Rattle.monk_logs.proofs.OrderLaws.Led.{others}
@@ -140,8 +140,8 @@ pub record Follows (o : Order) (m : Monitor) (b : Board) (e : Event) (u : Situat
   pub passes : Passes o m b e
   pub stands : Stands o (board_after m.object b e) u
 
-module _ (o : Order) (m : Monitor) (b : Board) (t : Situation) (e : Event) (ws : List ℕ) (u : Situation) (sound : Sound b)
-    (h : Stands o b t) (move : IsMove o m t e ws u)
+module _ (o : Order) (loose : IsLoose o) (m : Monitor) (b : Board) (t : Situation) (e : Event) (ws : List ℕ) (u : Situation)
+    (sound : Sound b) (h : Stands o b t) (move : IsMove o m t e ws u)
   where
     fit : Fits o (among (t.waiters ++ ws)) (items_with b e)
     fit = served o b t (sound_distinct b sound) h e ws move.serves
@@ -158,8 +158,9 @@ module _ (o : Order) (m : Monitor) (b : Board) (t : Situation) (e : Event) (ws :
       no_ready = ap (λ (xs : List ℕ). is_empty xs) (ready_same m.object b t h.state h.untils);
       signaller = λ j k. subst (λ (xs : List ℕ). may_go o j xs ≡ true) sigs_same k;
       ready = λ j k. subst (λ (xs : List ℕ). may_go o j xs ≡ true) (ready_same m.object b t h.state h.untils) k;
-      waiter = λ j is k. may_choose_it o (among (t.waiters ++ ws)) j (items_with b e) (distinct_with b e sound)
-          (may_go_among o j (t.waiters ++ ws) k) fit;
+      waiter = λ j is k. loose_resume o loose j (items_with b e)
+          (was_served_it o (among (t.waiters ++ ws)) j (items_with b e) (distinct_with b e sound)
+          (may_go_among o j (t.waiters ++ ws) k) fit);
     }
 
     move_passes : Passes o m b e

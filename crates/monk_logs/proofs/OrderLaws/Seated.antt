@@ -31,7 +31,7 @@ use Rattle.monk_logs.specs.Run.{taken_signaller}
 use Rattle.monk_logs.specs.declared.item.Item.{Item}
 use Rattle.monk_logs.specs.declared.item.Item.TheVariants.{Service, Waiting}
 use Rattle.monk_logs.specs.declared.order.Order.{Order}
-use Rattle.monk_logs.proofs.OrderLaws.Choosing.{resume_there}
+use Rattle.monk_logs.proofs.OrderLaws.Choosing.{resume_served, resume_there}
 use Rattle.monk_logs.proofs.OrderLaws.Counts.{counts_one, counts_none, ready_waits, times-append, until_seats}
 use Rattle.monk_logs.proofs.OrderLaws.Lines.{all_seats, all_seats-append, all_seats_given}
 use Rattle.monk_logs.proofs.OrderLaws.Lists.{Distinct, distinct_from_few}
@@ -105,7 +105,7 @@ picked : (o : Order) (object : Object) (b : Board) (e : Event) (v : ℕ) (x : Ne
     → PickedFrom (items_with b e) (signallers_with b e) b.untils v x
 picked o object b e v Stay h = may_go_among o v (signallers_with b e) h
 picked o object b e v Entry h = tt
-picked o object b e v (Waiter j) h = resume_there o j (items_with b e) h
+picked o object b e v (Waiter j) h = resume_there o j (items_with b e) (resume_served o j (items_with b e) h)
 picked o object b e v (Signaller j) h = may_go_among o j (signallers_with b e) h
 picked o object b e v (UntilSeat j) h = ready_waits object b.state j b.untils (may_go_among o j _ h)
 

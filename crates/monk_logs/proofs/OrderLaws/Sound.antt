@@ -21,13 +21,13 @@ use Rattle.monk_history.specs.Meaning.Standing.{times, has_turn}
 use Rattle.monk_logs.specs.Board.{Board, board_after, board_chances, board_lapse, chosen_out, items_with, opening_board}
 use Rattle.monk_logs.specs.Chances.{Chances, may_choose_by, may_signal_by, permits_by}
 use Rattle.monk_logs.specs.Items.{line, seats_in, services_in, unserved_in, keeps_up, lapsed, may_lapse, may_resume, taken_out}
-use Rattle.monk_logs.specs.Items.{can_be_served, can_be_unserved}
+use Rattle.monk_logs.specs.Items.{can_be_served, can_be_unserved, was_served}
 use Rattle.monk_logs.specs.Order.{is_among}
 use Rattle.monk_logs.specs.declared.item.Item.{Item}
 use Rattle.monk_logs.specs.declared.item.Item.TheVariants.{Waiting, Service}
 use Rattle.monk_logs.specs.declared.order.Order.{Order}
 use Rattle.monk_logs.specs.declared.order.Order.TheVariants.{Fifo, Wake, Any}
-use Rattle.monk_logs.proofs.OrderLaws.Choosing.{can_there}
+use Rattle.monk_logs.proofs.OrderLaws.Choosing.{can_there, resume_served}
 use Rattle.monk_logs.proofs.OrderLaws.Coming.{lapses, unlapsed}
 use Rattle.monk_logs.proofs.OrderLaws.Counts.{times_taken}
 use Rattle.monk_logs.proofs.OrderLaws.Fits.{Fits}
@@ -114,7 +114,7 @@ pub waiter_permitted : (k : Rules) (stays : Bool) (q : Chances) (e : Event) (j :
 waiter_permitted k stays q e j h is =
     waiter_picked k stays (is_some (steps_back e)) q (seat_of e) j (subst (λ (n : Option Next). permits_next k stays q e n ≡ true) is h)
 
-keeps_taken_out : (o : Order) (j c : ℕ) (items : List Item) → Distinct (all_seats items) → may_resume o j items ≡ true
+keeps_taken_out : (o : Order) (j c : ℕ) (items : List Item) → Distinct (all_seats items) → was_served o j items ≡ true
     → keeps_up 0 (line c items) ≡ true → keeps_up 0 (line c (taken_out j items)) ≡ true
 keeps_taken_out o j c items dis may h =
     ap (keeps_up 0) (line_taken j c items dis)
@@ -122,8 +122,8 @@ keeps_taken_out o j c items dis may h =
     (λ m. keeps_taken j 0 (line c items) h (can_service o j (line c items) (can_there o j c items dis may m) h))
     (λ m. ap (keeps_up 0) (unmoved j (line c items) m) ∙ h) (cases_Bool (is_among j (seats_in (line c items))))
 
-keeps_chosen : (o : Order) (c : ℕ) (items : List Item) (n : Option Next) → Distinct (all_seats items)
-    → ((j : ℕ) → n ≡ Some (next.Waiter j) → may_resume o j items ≡ true) → keeps_up 0 (line c items) ≡ true
+pub keeps_chosen : (o : Order) (c : ℕ) (items : List Item) (n : Option Next) → Distinct (all_seats items)
+    → ((j : ℕ) → n ≡ Some (next.Waiter j) → was_served o j items ≡ true) → keeps_up 0 (line c items) ≡ true
     → keeps_up 0 (line c (chosen_out n items)) ≡ true
 keeps_chosen o c items None dis may h = h
 keeps_chosen o c items (Some next.Stay) dis may h = h
@@ -147,11 +147,15 @@ pub may_resume_chosen : (o : Order) (m : Monitor) (b : Board) (e : Event) → Pa
     → next_of e ≡ Some (next.Waiter j) → may_resume o j (items_with b e) ≡ true
 may_resume_chosen o m b e p j is = waiter_permitted m.kind _ (board_chances o m.object b e) e j p.permitted is
 
+pub was_served_chosen : (o : Order) (m : Monitor) (b : Board) (e : Event) → Passes o m b e → (j : ℕ)
+    → next_of e ≡ Some (next.Waiter j) → was_served o j (items_with b e) ≡ true
+was_served_chosen o m b e p j is = resume_served o j (items_with b e) (may_resume_chosen o m b e p j is)
+
 pub sound_after : (o : Order) (m : Monitor) (b : Board) (e : Event) → Sound b → Passes o m b e → Sound (board_after m.object b e)
 sound_after o m b e h p = record {
   seated = seated_after o m b e h.seated p;
   keeps = λ c. keeps_item (seat_of e) c (chosen_out (next_of e) (items_with b e)) (waits_on e)
-      (keeps_chosen o c (items_with b e) (next_of e) (distinct_with b e h) (may_resume_chosen o m b e p) (keeps_with b e h c));
+      (keeps_chosen o c (items_with b e) (next_of e) (distinct_with b e h) (was_served_chosen o m b e p) (keeps_with b e h c));
 }
 
 -- ---- a wait that ran out
@@ -201,13 +205,13 @@ sound_opening m = record { seated = λ s. omega arith; keeps = λ c. refl }
 
 -- the first of each line
 abbrev pub firsts : List Item → List ℕ
-firsts items = filter (λ j. may_resume Wake j items) (all_seats items)
+firsts items = filter (λ j. was_served Wake j items) (all_seats items)
 
 first_agree : (c : ℕ) (items : List Item) → Distinct (all_seats items) → (j : ℕ) → is_among j (seats_in (line c items)) ≡ true
     → is_among j (firsts items) ≡ is_among j (take (services_in (line c items)) (seats_in (line c items)))
 first_agree c items dis j m =
-    among_filter (λ k. may_resume Wake k items) j (all_seats items)
-    ∙ ap (λ (x : Bool). x && may_resume Wake j items) (among_line j c items m)
+    among_filter (λ k. was_served Wake k items) j (all_seats items)
+    ∙ ap (λ (x : Bool). x && was_served Wake j items) (among_line j c items m)
     ∙ ap (λ (x : Option ℕ). option_map_or (λ (d : ℕ). can_be_served Wake j (line d items)) x false) (waits_only j c items dis m)
 
 led_firsts : (o : Order) (p : ℕ → Bool) (l : List (Option ℕ)) → Leads p (services_in l) (seats_in l) → Led o p l
@@ -225,6 +229,6 @@ firsts_fit o b h =
     record {
       covers = λ c. covers_first p 0 0 (services_in (line c b.items)) (line c b.items) (omega arith) (inr refl) (h.keeps c) (leads c);
       led = λ c. led_firsts o p (line c b.items) (leads c);
-      stand = λ j k. (and_parts (is_among j (all_seats b.items)) (may_resume Wake j b.items)
-          (sym (among_filter (λ i. may_resume Wake i b.items) j (all_seats b.items)) ∙ k)).0;
+      stand = λ j k. (and_parts (is_among j (all_seats b.items)) (was_served Wake j b.items)
+          (sym (among_filter (λ i. was_served Wake i b.items) j (all_seats b.items)) ∙ k)).0;
     }

@@ -82,6 +82,10 @@ module _ (o w : Order) (wider : IsWider o w) where
   }
   runs_wider m (Lapsed s ∷ steps) t r = record { next = r.next; lapse = r.lapse; goes_on = runs_wider m steps r.next r.goes_on }
 
+pub fifo_move_is_wake : (m : Monitor) (t : Situation) (e : Event) (ws : List ℕ) (u : Situation) → IsMove Fifo m t e ws u
+    → IsMove Wake m t e ws u
+fifo_move_is_wake m t e ws u move = move_wider Fifo Wake wake_is_wider m t e ws u move
+
 pub fifo_is_wake : (m : Monitor) (steps : List Step) (t : Situation) → Runs Fifo m t steps → Runs Wake m t steps
 fifo_is_wake m steps t r = runs_wider Fifo Wake wake_is_wider m steps t r
 

@@ -38,7 +38,8 @@ returns-then-not-may_be_its_turn g c =
     let reply = is_right_reply g.T.Guarded.meaning (g.T.Guarded.state c.args.object.now)
     (line_event c.args.setting.rules.mode c.args.line) in
     let state = g.T.Guarded.state c.args.object.now in
-    let last = choice_blame_on c.args.order g.T.Guarded.meaning (board_shown c.args.board.now state) c.args.event c.args.line in
+    let last = choice_blame_on c.args.order c.args.setting.rules g.T.Guarded.meaning (board_shown c.args.board.now state) c.args.event
+    c.args.line in
     turn_first turn place reply last (sym (turn_is g t) ∙ c.if-not-may_be_its_turn.true)
 
 pub returns-then-not-is_in_place : goal.returns-then-not-is_in_place
@@ -50,7 +51,8 @@ returns-then-not-is_in_place g c =
     let reply = is_right_reply g.T.Guarded.meaning (g.T.Guarded.state c.args.object.now)
     (line_event c.args.setting.rules.mode c.args.line) in
     let state = g.T.Guarded.state c.args.object.now in
-    let last = choice_blame_on c.args.order g.T.Guarded.meaning (board_shown c.args.board.now state) c.args.event c.args.line in
+    let last = choice_blame_on c.args.order c.args.setting.rules g.T.Guarded.meaning (board_shown c.args.board.now state) c.args.event
+    c.args.line in
     place_next turn place reply last (sym (turn_is g t) ∙ c.if-not-may_be_its_turn.false)
     (sym (place_is g p) ∙ c.if-not-is_in_place.true)
 
@@ -64,7 +66,8 @@ returns-then-not-replies g c =
     let reply = is_right_reply g.T.Guarded.meaning (g.T.Guarded.state c.args.object.now)
     (line_event c.args.setting.rules.mode c.args.line) in
     let state = g.T.Guarded.state c.args.object.now in
-    let last = choice_blame_on c.args.order g.T.Guarded.meaning (board_shown c.args.board.now state) c.args.event c.args.line in
+    let last = choice_blame_on c.args.order c.args.setting.rules g.T.Guarded.meaning (board_shown c.args.board.now state) c.args.event
+    c.args.line in
     reply_next turn place reply last (sym (turn_is g t) ∙ c.if-not-may_be_its_turn.false)
     (sym (place_is g p) ∙ c.if-not-is_in_place.false) (sym (reply_is g r) ∙ c.if-not-replies.true)
 
@@ -78,6 +81,7 @@ returns-else-not-replies g c =
     let reply = is_right_reply g.T.Guarded.meaning (g.T.Guarded.state c.args.object.now)
     (line_event c.args.setting.rules.mode c.args.line) in
     let state = g.T.Guarded.state c.args.object.now in
-    let last = choice_blame_on c.args.order g.T.Guarded.meaning (board_shown c.args.board.now state) c.args.event c.args.line in
+    let last = choice_blame_on c.args.order c.args.setting.rules g.T.Guarded.meaning (board_shown c.args.board.now state) c.args.event
+    c.args.line in
     last_left turn place reply c.in_ok-last.last last (sym (turn_is g t) ∙ c.if-not-may_be_its_turn.false)
     (sym (place_is g p) ∙ c.if-not-is_in_place.false) (sym (reply_is g r) ∙ c.if-not-replies.false) c.in_ok-last.ensures.blame

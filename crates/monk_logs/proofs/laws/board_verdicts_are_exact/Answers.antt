@@ -10,7 +10,7 @@ returns-clause-judged c = λ o m log.
     (fits_judged o m 0 opening log, judged_fits o m 0 opening log)
 
 pub returns-clause-fits : goal.returns-clause-fits
-returns-clause-fits c = λ o loose m log. board_fits_exactly o m log loose
+returns-clause-fits c = λ o m log. board_fits_exactly o m log
 
 pub returns-clause-misfit : goal.returns-clause-misfit
-returns-clause-misfit c = λ o loose m log. board_misfits_exactly o m log loose
+returns-clause-misfit c = λ o m log. board_misfits_exactly o m log
