@@ -9,3 +9,4 @@ pub mod Lines
 pub mod Resuming
 pub mod Released
 pub mod Read
+pub mod OneReading

@@ -1,3 +1,4 @@
+use Rattle.monk_logs.proofs.LapseLaws.OneReading.{read_once}
 use Rattle.monk_logs.proofs.LapseLaws.Read.{read_follows}
 use Rattle.monk_logs.proofs.LapseLaws.Released.{lapsed_below}
 use Rattle.monk_logs.proofs.LapseLaws.Resuming.{entry_passes}
