@@ -10,3 +10,4 @@ pub mod Resuming
 pub mod Released
 pub mod Read
 pub mod OneReading
+pub mod Exact
