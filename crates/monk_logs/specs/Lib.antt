@@ -24,3 +24,4 @@ pub mod BoardShown
 pub mod BoardMoves
 pub mod Lapses
 pub mod BoardRead
+pub mod ReadStand
