@@ -9,3 +9,5 @@ pub mod Lines
 pub mod Resuming
 pub mod Released
 pub mod Read
+pub mod OneReading
+pub mod Exact

@@ -26,3 +26,4 @@ pub mod Counts
 pub mod Fit
 pub mod Lapses
 pub mod BoardRead
+pub mod ReadStand

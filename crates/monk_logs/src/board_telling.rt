@@ -33,7 +33,7 @@ use monk_object::Guarded;
 use std::alloc::AllocError;
 
 /// The choice of a seat that goes on, by where it stands.
-fn standing_choice(board: &Board, seat: u8) -> Next
+pub(crate) fn standing_choice(board: &Board, seat: u8) -> Next
     ensures { (state : List ℕ) → result ≡ moves.choice_on (board_shown board.now state) seat }
 {
     if waits(&board.items, seat) {
@@ -172,7 +172,7 @@ fn late_blame<T: Guarded>(
 
 /// What is to blame where the line can't stand behind the release, which has served. The board and the object are of no further
 /// use.
-fn release_blame<T: Guarded>(
+pub(crate) fn release_blame<T: Guarded>(
     order: Order,
     setting: Setting,
     board: &mut Board,

@@ -7,6 +7,7 @@ mod board;
 mod board_choices;
 mod board_following;
 mod board_lines;
+mod board_reading;
 mod board_steps;
 mod board_telling;
 mod completing;

@@ -53,7 +53,7 @@ lapsed_item s t (Some c) ws d m =
     let ne : t ≡ s → ⊥ = not_last s t (all_seats ws) (subst Distinct (all_seats-append ws (Waiting t c ∷ [])) d) m in
     filter_joined (λ i. not (is_waiting_of s i)) ws (Waiting t c ∷ []) ∙ rw (ne_eqb t s ne) refl
 
-condition_came : (j c : ℕ) (us vs : List Item) → condition_of j us ≡ Some c → condition_of j (us ++ vs) ≡ Some c
+pub condition_came : (j c : ℕ) (us vs : List Item) → condition_of j us ≡ Some c → condition_of j (us ++ vs) ≡ Some c
 condition_came j c [] vs h = absurd cc
 condition_came j c (Waiting s d ∷ us) vs h =
     ⊎_elim (λ e. rw (eq-eqb s j e) (rw (eq-eqb s j e) at h)) (λ ne. rw (ne_eqb s j ne) (condition_came j c us vs (rw (ne_eqb s j ne) at h)))

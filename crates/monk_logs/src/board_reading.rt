@@ -1,0 +1,103 @@
+//! A line of a log over a board, where a `resume` may tell of a wait that ran out.
+
+ghost use Rattle.std.specs.Prelude.{◌≡◌, ◌++◌, ℕ, List, Some, IfOk, OnOk, [], if◌then◌else◌};
+ghost use Rattle.monk_history.specs.Meaning.Events.{next_of};
+ghost use Rattle.monk_history.specs.Meaning.Release.{MayCallIn};
+ghost use Rattle.monk_logs.specs.Board.{sight, waiting_item};
+ghost use Rattle.monk_logs.specs.BoardMoves as moves;
+ghost use Rattle.monk_logs.specs.BoardShown.{IsBoardOf, board_shown, course_or};
+ghost use Rattle.monk_logs.specs.BoardStand as stands;
+ghost use Rattle.monk_logs.specs.BoardStand.{IsHeldOver};
+ghost use Rattle.monk_logs.specs.Items as lines;
+ghost use Rattle.monk_logs.specs.ReadStand as reads;
+ghost use Rattle.monk_logs.specs.Stand.{monitor_in};
+ghost use Rattle.monk_logs.specs.declared.blame.Blame.TheVariants as blames;
+ghost use Rattle.monk_logs.specs.declared.blame.LineVerdict.{LineVerdict};
+ghost use Rattle.monk_logs.specs.declared.lapses.Lapses.{Lapses};
+ghost use Rattle.monk_logs.specs.declared.line.LogLine.{LogLine};
+ghost use Rattle.monk_logs.specs.declared.pending.Pending.{Pending};
+
+use crate::blame::{Blame, LineVerdict};
+use crate::board::Board;
+use crate::board_lines::{can_lapse, line_behind, line_settled};
+use crate::board_steps::served_reason;
+use crate::board_telling::{release_blame, standing_choice};
+use crate::item::Item;
+use crate::items::may_lapse;
+use crate::items_moves::join;
+use crate::lapses::Lapses;
+use crate::line::LogLine;
+use crate::order::Order;
+use crate::pending::Pending;
+use crate::setting::Setting;
+use crate::steps::ALLOWED;
+use crate::telling::with_next;
+use monk_history::{Event, Next};
+use monk_object::Guarded;
+use std::alloc::AllocError;
+
+/// Whether a wait of the seat can have run out, behind an event that has served. The items are left as they were.
+fn may_lapse_behind(
+    order: Order,
+    items: &mut Vec<Item>,
+    event: Event,
+    seat: u8,
+) -> Result<bool, AllocError>
+    ensures tells { IfOk result (λ r. r ≡ lines.may_lapse order seat (items.old.items ++ waiting_item event)) }
+    ensures same { OnOk result (items.new.items ≡ items.old.items) }
+{
+    let before = items.len();
+    join(items, event)?;
+    let may = may_lapse(order, items, seat);
+    items.truncate(before);
+    Ok(may)
+}
+
+/// Whether a wait of the seat can have run out, behind an event that has served. The board is left as it was.
+fn is_gone(
+    order: Order,
+    board: &mut Board,
+    event: Event,
+    seat: u8,
+) -> Result<bool, AllocError>
+    ensures tells { IfOk result (λ r. r ≡ lines.may_lapse order seat ((board_shown board.old []).items ++ waiting_item event)) }
+    ensures same { OnOk result ((state : List ℕ) → board_shown board.new state ≡ board_shown board.old state) }
+    ensures sound { OnOk result ((seats conds predicates : ℕ) → IsBoardOf seats conds predicates board.old
+        → IsBoardOf seats conds predicates board.new) }
+{
+    may_lapse_behind(order, &mut board.items, event, seat)
+}
+
+/// What is to blame of a seat that can't have gone on, by what is to blame of it as it stands and whether its wait can have run out.
+fn either_blame(blame: Blame, is_gone: bool) -> Blame
+    ensures { result ≡ reads.either_blame blame (if is_gone then blames.Choice else blames.Served) }
+{
+    match blame {
+        Blame::Unserved if is_gone => Blame::Choice,
+        _ => blame,
+    }
+}
+
+/// The line behind a release, which has served and which may have chosen so.
+fn line_chosen<T: Guarded>(
+    order: Order,
+    setting: Setting,
+    board: &mut Board,
+    object: &mut T,
+    told: Event,
+    stays: bool,
+    line: LogLine,
+) -> Result<LineVerdict, AllocError>
+    requires sound { IsBoardOf setting.seats setting.conds T.PREDICATES board.old }
+    requires allowed { moves.served_reason order (monitor_in setting T.meaning) stays
+        (board_shown board.old (T.state object.old)) told ≡ 0 }
+    ensures judged { IfOk result
+        (λ v. course_or (board_shown board.new (T.state object.new)) v
+        ≡ stands.board_line_over order (monitor_in setting T.meaning)
+        (moves.board_moved stays (board_shown board.old (T.state object.old)) told) line) }
+    ensures sound { IfOk result
+        (λ v. (left : Pending) → v ≡ LineVerdict.Fits left → IsBoardOf setting.seats setting.conds T.PREDICATES board.new) }
+{
+    board.settle(told, stays)?;
+    line_settled(order, setting, board, object, line)
+}
