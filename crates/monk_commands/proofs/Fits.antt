@@ -1,7 +1,6 @@
 -- Status 0 is answered exactly to the texts of histories that are legal under one of the kinds
-use Rattle.std.proofs.Common.{◌≡◌, ℕ, ◌≤◌, ◌^◌, Bool, true, false, cond, ltb, ◌||◌, List, [], ◌∷◌, ◌++◌, Option, Some, None}
+use Rattle.std.proofs.Common.{◌≡◌, ℕ, ◌≤◌, ◌^◌, Bool, true, false, cond, ltb, ◌||◌, List, [], ◌∷◌, ◌++◌}
 use Rattle.std.proofs.Common.{Result, Ok, Err, refl, sym, ap, subst, ◌∙◌, arith}
-use Rattle.std.specs.Prelude.{IfSome, ◌↔◌}
 use Rattle.std.specs.List.{list_any}
 use Rattle.std.proofs.lemmas.Bool.{false≢true, ltb-false, le-ltb}
 use Rattle.std.proofs.lemmas.Grind.{flat_map-append}
@@ -133,12 +132,11 @@ fit_again input h es k t legal =
     ∙ ap (λ b. (cond b too_big (record { status = cond (fits_some h es kinds) 0 1; text = fit_lines h es kinds })).status) size
     ∙ ap status_by fits
 
-pub zero_exactly : (known : Option (List ℕ)) (status : ℕ) (bytes : List ℕ) → IfSome known (λ input. bytes ≡ input)
-    → status ≡ (fit_of bytes).status → IfSome known (λ input. (status ≡ 0) ↔ IsFitText input)
-zero_exactly None status bytes same h = tt
-zero_exactly (Some input) status bytes same h =
-    subst (λ (x : List ℕ). (status ≡ 0) ↔ IsFitText x) same
-    (λ e. fit_read bytes (text_at (2 ^ 25) bytes) refl (sym h ∙ e), λ t. h ∙ fit_again bytes t.0 t.1.0 t.1.1.1.0 t.1.1.0 t.1.1.1.1)
+pub history_read : (input : List ℕ) → (fit_of input).status ≡ 0 → IsFitText input
+history_read input e = fit_read input (text_at (2 ^ 25) input) refl e
+
+pub history_again : (input : List ℕ) → IsFitText input → (fit_of input).status ≡ 0
+history_again input t = fit_again input t.0 t.1.0 t.1.1.1.0 t.1.1.0 t.1.1.1.1
 
 status_most : (r : Result History ReadFault) → (fit_reading r).status ≤ 2
 status_most (Ok x) = go (ltb (most x.0.object) x.0.size) (fits_some x.0 x.1 kinds)

@@ -10,7 +10,7 @@ use Rattle.monk_kinds.specs.declared.name.KindName.TheVariants.{Npnb}
 use Rattle.monk_object.specs.Names.{most}
 use Rattle.monk_history.specs.declared.text.fault.ReadFault.{ReadFault}
 use Rattle.monk_logs.specs.Counts.{counts_of}
-use Rattle.monk_logs.specs.Fit.{fit_of, order_word}
+use Rattle.monk_logs.specs.Fit.{fit_of, is_in, order_word}
 use Rattle.monk_logs.specs.Lapses.{IsOpenWith}
 use Rattle.monk_logs.specs.Log.{LogHeading}
 use Rattle.monk_logs.specs.Log.Reading.{Log, log_at}
@@ -31,10 +31,6 @@ use Rattle.monk_commands.specs.Fitted.{fit_of as fit_of_history}
 abbrev pub fit_words : Fit → List ℕ
 fit_words (In o) = codes " fits " ++ order_word o ++ codes "\n"
 fit_words (Misfit n why) = misfit_words n why
-
-abbrev pub is_in : Fit → Bool
-is_in (In o) = true
-is_in (Misfit n why) = false
 
 abbrev pub log_fit : Lapses → LogHeading → List LogLine → KindName → Fit
 log_fit x h log k = fit_of x (log_monitor k h) log

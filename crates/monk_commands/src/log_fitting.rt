@@ -5,7 +5,8 @@ ghost use Rattle.std.specs.Io.KnownBytes.{Appends};
 ghost use Rattle.monk_kinds.specs.Names.{kinds};
 ghost use Rattle.monk_object.specs.Names.{most};
 ghost use Rattle.monk_history.specs.Text.Device.{held, has_failed};
-ghost use Rattle.monk_commands.specs.LogFitted.{counts_lines, fits_some_kind, is_in, log_counts, log_fit, log_fit_answer};
+ghost use Rattle.monk_logs.specs.Fit.{is_in};
+ghost use Rattle.monk_commands.specs.LogFitted.{counts_lines, fits_some_kind, log_counts, log_fit, log_fit_answer};
 ghost use Rattle.monk_commands.specs.LogFitted.{log_fit_line, log_fit_lines, log_fit_of, missed_words};
 
 use crate::answer::{put, too_big, unreadable};

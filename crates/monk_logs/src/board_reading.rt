@@ -54,12 +54,7 @@ fn may_lapse_behind(
 }
 
 /// Whether a wait of the seat can have run out, behind an event that has served. The board is left as it was.
-fn is_gone(
-    order: Order,
-    board: &mut Board,
-    event: Event,
-    seat: u8,
-) -> Result<bool, AllocError>
+fn is_gone(order: Order, board: &mut Board, event: Event, seat: u8) -> Result<bool, AllocError>
     ensures tells { IfOk result (λ r. r ≡ lines.may_lapse order seat ((board_shown board.old []).items ++ waiting_item event)) }
     ensures same { OnOk result ((state : List ℕ) → board_shown board.new state ≡ board_shown board.old state) }
     ensures sound { OnOk result ((seats conds predicates : ℕ) → IsBoardOf seats conds predicates board.old

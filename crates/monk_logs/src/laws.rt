@@ -14,7 +14,6 @@ ghost use Rattle.monk_logs.specs.BoardStand.{board_verdict};
 ghost use Rattle.monk_logs.specs.BoardRead.{judge_read};
 ghost use Rattle.monk_logs.specs.FitsIn.{IsOpenIn, has_lapse};
 ghost use Rattle.monk_logs.specs.Lapses.{IsOpenWith};
-ghost use Rattle.monk_logs.specs.Order.{IsLoose};
 ghost use Rattle.monk_logs.specs.Run.{IsRun};
 ghost use Rattle.monk_logs.specs.VerdictIn.{FitsExactlyIn, MisfitsExactlyIn};
 ghost use Rattle.monk_logs.specs.declared.lapses.Lapses.{Lapses};
@@ -57,10 +56,10 @@ pub fn orders_are_exact()
 {}
 
 /// The same where a `resume` may tell of a wait that ran out: it is judged as it stands where it can be, and only else as a lapse.
-/// No search over the readings is needed: under `Wake` and under `Any` that comes to the end exactly where some reading of the log
-/// is open, of a monitor of a kind.
+/// No search over the readings is needed: in every order that comes to the end exactly where some reading of the log is open, of a
+/// monitor of a kind.
 pub fn lapses_are_exact()
-    ensures { (o : Order) → IsLoose o → (m : Monitor) → IsKind m.kind → (x : Lapses) → (log : List LogLine)
+    ensures { (o : Order) → (m : Monitor) → IsKind m.kind → (x : Lapses) → (log : List LogLine)
         → IsTrue (is_some (judge_read x o m log)) ↔ IsOpenWith x o m log }
 {}
 

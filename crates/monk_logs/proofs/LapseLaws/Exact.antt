@@ -19,7 +19,6 @@ use Rattle.monk_logs.specs.BoardCourse.{board_judge_from, board_line, board_sett
 use Rattle.monk_logs.specs.BoardRead.{board_read, first_course, judge_read, read_from}
 use Rattle.monk_logs.specs.Course.{due_from}
 use Rattle.monk_logs.specs.Lapses.{IsOpenRead, IsOpenWith, IsReading, as_lapse}
-use Rattle.monk_logs.specs.Order.{IsLoose}
 use Rattle.monk_logs.specs.declared.lapses.Lapses.{Lapses}
 use Rattle.monk_logs.specs.declared.lapses.Lapses.TheVariants.{Told, Allowed}
 use Rattle.monk_logs.specs.declared.line.LogLine.{LogLine}
@@ -283,11 +282,11 @@ open_read Any m kind log r =
     (λ never. along_read Any m (inr never) log r.reading r.reads (board_settled (opening_board m)) (opening_keeps m)
     (open_judged Any m r.reading r.is_open)) (cases_Bool (m.kind.waiter == m.kind.entry))
 
-pub read_open : (o : Order) (m : Monitor) → IsLoose o → (log : List LogLine) → is_some (judge_read Allowed o m log) ≡ true
+pub read_open : (o : Order) (m : Monitor) → (log : List LogLine) → is_some (judge_read Allowed o m log) ≡ true
     → IsOpenRead o m log
-read_open o m loose log k =
+read_open o m log k =
     let r = read_as o m log (board_settled (opening_board m)) k in
-    record { reading = r.reading; reads = r.reads; is_open = judged_open o m r.reading loose r.judged }
+    record { reading = r.reading; reads = r.reads; is_open = judged_open o m r.reading r.judged }
 
 -- where a lapse is told it is judged as ever
 pub read_told : (o : Order) (m : Monitor) (c : Option BoardCourse) (log : List LogLine) → read_from Told o m c log ≡ board_judge_from o m c log
@@ -296,9 +295,9 @@ read_told o m None log = refl
 read_told o m (Some x) [] = refl
 read_told o m (Some x) (l ∷ log) = read_told o m (board_behind o m x.board x.pending l) log
 
-pub lapses_exact : (o : Order) → IsLoose o → (m : Monitor) → IsKind m.kind → (x : Lapses) (log : List LogLine)
+pub lapses_exact : (o : Order) (m : Monitor) → IsKind m.kind → (x : Lapses) (log : List LogLine)
     → (is_some (judge_read x o m log) ≡ true) ↔ IsOpenWith x o m log
-lapses_exact o loose m kind Told log =
+lapses_exact o m kind Told log =
     let same = read_told o m (Some (board_settled (opening_board m))) log in
-    (λ k. judged_open o m log loose (ap is_some (sym same) ∙ k), λ r. ap is_some same ∙ open_judged o m log r)
-lapses_exact o loose m kind Allowed log = (read_open o m loose log, open_read o m kind log)
+    (λ k. judged_open o m log (ap is_some (sym same) ∙ k), λ r. ap is_some same ∙ open_judged o m log r)
+lapses_exact o m kind Allowed log = (read_open o m log, open_read o m kind log)

@@ -105,7 +105,7 @@ module _ (m : Monitor) (level : IsLevel m.kind) (xs : List Item) (b : Board) (h 
         (subst (λ (y : BoardCourse). Below (board_settled (board_lapse few s)) y) p.2 (record {
           items = lapsed s xs;
           is = refl;
-          fewer = fewer_lapsed Any xs b.items h (sound_distinct few sound) sound.keeps many.keeps s;
+          fewer = fewer_lapsed xs b.items h (sound_distinct few sound) sound.keeps many.keeps s;
           sound = sound_lapse Any few s sound may;
           many = sound_lapse Any b s many p.1;
         }))

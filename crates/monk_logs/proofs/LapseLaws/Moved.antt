@@ -49,7 +49,7 @@ chosen_fewer : (n : Option Next) (us ws : List Item) → Fewer Any us ws → Dis
 chosen_fewer None us ws h dis up many suits may = h
 chosen_fewer (Some Stay) us ws h dis up many suits may = h
 chosen_fewer (Some Entry) us ws h dis up many suits may = h
-chosen_fewer (Some (Waiter j)) us ws h dis up many suits may = fewer_taken Any us ws h dis up many j suits (may j refl)
+chosen_fewer (Some (Waiter j)) us ws h dis up many suits may = fewer_taken us ws h dis up many j suits (may j refl)
 chosen_fewer (Some (Signaller j)) us ws h dis up many suits may = h
 chosen_fewer (Some (UntilSeat j)) us ws h dis up many suits may = h
 

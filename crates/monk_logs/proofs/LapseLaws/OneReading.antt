@@ -28,12 +28,12 @@ use Rattle.monk_logs.specs.declared.order.Order.TheVariants.{Fifo, Wake, Any}
 use Rattle.monk_logs.specs.declared.pending.Pending.{Pending}
 use Rattle.monk_logs.specs.declared.pending.Pending.TheVariants.{Settled, Half, Release}
 use Rattle.monk_logs.specs.declared.step.Step.TheVariants.{Did, Lapsed}
-use Rattle.monk_logs.proofs.LapseLaws.Goes.{may_from}
+use Rattle.monk_logs.proofs.LapseLaws.Goes.{served_from}
 use Rattle.monk_logs.proofs.LapseLaws.Lines.{known_did, known_lapsed, then_did}
 use Rattle.monk_logs.proofs.LapseLaws.Read.{IsRelease, goes_as_waiter, lapse_waits, not_due, standing}
 use Rattle.monk_logs.proofs.LapseLaws.Released.{condition_came}
 use Rattle.monk_logs.proofs.LapseLaws.Resuming.{items_behind, may_be_served}
-use Rattle.monk_logs.proofs.OrderLaws.Choosing.{resumes}
+use Rattle.monk_logs.proofs.OrderLaws.Choosing.{resume_served, resumes}
 use Rattle.monk_logs.proofs.OrderLaws.Coming.{lapses}
 use Rattle.monk_logs.proofs.OrderLaws.Leads.{among_dropped}
 use Rattle.monk_logs.proofs.OrderLaws.Led.{can_service}
@@ -47,7 +47,7 @@ use Rattle.monk_logs.proofs.OrderLaws.Sound.{Sound, distinct_with, keeps_with, s
 no_resume : (o : Order) (j : ℕ) (items : List Item) → ((c : ℕ) → keeps_up 0 (line c items) ≡ true) → services items ≡ []
     → may_resume o j items ≡ true → ⊥
 no_resume o j items up none may =
-    let r = resumes o j items may in
+    let r = resumes o j items (resume_served o j items may) in
     omega (arith, no_service r.on items none, services_taken j (line r.on items) (can_service o j (line r.on items) r.can (up r.on)))
 
 -- ---- a task comes in past no waiter
@@ -137,7 +137,7 @@ never_both : (o : Order) → IsFirstServed o → (j t : ℕ) (x : Option ℕ) (w
     → may_lapse o j (ws ++ option_map_or (λ d. Waiting t d ∷ []) x []) ≡ true → ⊥
 never_both o is j t x ws d may lapse =
     let vs = option_map_or (λ (d : ℕ). Waiting t d ∷ []) x [] in
-    let r = resumes o j ws may in
+    let r = resumes o j ws (resume_served o j ws may) in
     let l = lapses o j (ws ++ vs) lapse in
     let same : r.on ≡ l.on = some_same r.on l.on (sym (condition_came j r.on ws vs r.waits) ∙ l.waits) in
     served_or_not o is j r.on ws vs d (none_came r.on t x) r.can

@@ -124,7 +124,7 @@ module _ (m : Monitor) (level : IsLevel m.kind) (xs : List Item) (b : Board) (h 
           items = taken_out s us ++ came;
           is = ap board_settled is;
           fewer = subst (λ (l : List Item). Fewer Any (taken_out s us ++ came) l) (sym (lapsed_behind b many p there))
-              (fewer_came Any e (taken_out s us) (lapsed s ws) (fewer_mixed Any us ws fewer_with (distinct_with few e sound)
+              (fewer_came Any e (taken_out s us) (lapsed s ws) (fewer_mixed us ws fewer_with (distinct_with few e sound)
               (keeps_with few e sound) (keeps_with b e many) s (may_be_served Any m few e s stays f)));
           sound = subst Sound is (served_sound few sound f r);
           many = sound_lapse Any opened s (sound_after Any m b (with_next Entry e) many p) may;
@@ -163,7 +163,7 @@ module _ (m : Monitor) (level : IsLevel m.kind) (xs : List Item) (b : Board) (h 
             is = ap board_settled is;
             fewer = subst (λ (l : List Item). Fewer Any l (served b).items) (sym gone)
                 (subst (λ (y : Board). Fewer Any (lapsed s us ++ came) y.items) (sym (served_is b))
-                (fewer_came Any e (lapsed s us) (taken_out s ws) (fewer_turned Any us ws fewer_with (distinct_with few e sound)
+                (fewer_came Any e (lapsed s us) (taken_out s ws) (fewer_turned us ws fewer_with (distinct_with few e sound)
                 (keeps_with few e sound) (keeps_with b e many) s never (may_be_served Any m b e s stays p))));
             sound = subst Sound is (sound_lapse Any after s (sound_after Any m few (with_next Entry e) sound t.passes) may);
             many = served_sound b many p r;

@@ -34,15 +34,10 @@ returns-in_ok-file_of-in-Some-upgrade-default c =
       in_range = tt;
     })
 
-pub returns-in_ok-file_of-in-Some-fit-default : goal.returns-in_ok-file_of-in-Some-fit-default
-returns-in_ok-file_of-in-Some-fit-default c =
-    let found = found_of c.in-Some-fit-default.fit.now in
-    asked_in (subcommand_rows_of c.args.matches.now) (codes "fit") (rows_of found) _ (search rules)
-    (sym c.in-Some-fit-default.ensures.rows) (record {
-      command = refl;
-      values = sym (first_value-rows found (codes "FILE")) ∙ sym c.in_ok-file_of-in-Some-fit-default.ensures;
-      in_range = tt;
-    })
+pub returns-in_ok-line_to_fit-in-Some-fit-default : goal.returns-in_ok-line_to_fit-in-Some-fit-default
+returns-in_ok-line_to_fit-in-Some-fit-default c =
+    asked_in (subcommand_rows_of c.args.matches.now) (codes "fit") (rows_of (found_of c.in-Some-fit-default.fit.now)) _ (search rules)
+    (sym c.in-Some-fit-default.ensures.rows) c.in_ok-line_to_fit-in-Some-fit-default.ensures
 
 pub returns-in_ok-file_of-in-Some-trace-default : goal.returns-in_ok-file_of-in-Some-trace-default
 returns-in_ok-file_of-in-Some-trace-default c =

@@ -2,7 +2,7 @@ use Rattle.std.proofs.Common.{◌≡◌, ◌∙◌, ap, codes, true}
 use Rattle.std.proofs.lemmas.Result.{IfOk-weaker}
 use Rattle.clap.specs.Simple.{app_of_fields}
 use Rattle.clap.specs.Words.{App, app_of, with_subcommand}
-use Rattle.monk_commands.specs.Request.{bare_app, classify_app, file_app}
+use Rattle.monk_commands.specs.Request.{bare_app, classify_app, file_app, fit_app}
 use Rattle.monk_commands.proofs.words.plain.Goals as goal
 
 pub returns : goal.returns
@@ -21,7 +21,7 @@ returns c =
     let upgrade_is = c.in_ok-upgrade.ensures _ _ c.in_ok-subcommand-4.ensures
     ∙ ap (λ (a : App). with_subcommand a (file_app (codes "upgrade")).top) play_is in
     let fit_is = c.in_ok-fit.ensures _ _ c.in_ok-subcommand-5.ensures
-    ∙ ap (λ (a : App). with_subcommand a (file_app (codes "fit")).top) upgrade_is in
+    ∙ ap (λ (a : App). with_subcommand a fit_app.top) upgrade_is in
     let trace_is = c.in_ok-trace.ensures _ _ c.in_ok-subcommand-6.ensures
     ∙ ap (λ (a : App). with_subcommand a (file_app (codes "trace")).top) fit_is in
     let explain_is = c.in_ok-explain.ensures _ _ c.in_ok-subcommand-7.ensures
