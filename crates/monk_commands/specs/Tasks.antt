@@ -19,7 +19,7 @@ abbrev pub IsTaskAnswer : Task → List ℕ → ℕ → (List ℕ → Type 0) �
 IsTaskAnswer Audit input status Puts = IsGiven (answer_of input) status Puts
 IsTaskAnswer Play input status Puts = IsAnswerTo report.History input status Puts
 IsTaskAnswer Upgrade input status Puts = IsGiven (upgrade_of input) status Puts
-IsTaskAnswer (Fit lapses means) input status Puts = IsGiven (fit_answer_of lapses means.items input) status Puts
+IsTaskAnswer (Fit lapses means) input status Puts = IsGiven (fit_answer_of lapses means.now input) status Puts
 IsTaskAnswer Trace input status Puts = IsAnswerTo report.Trace input status Puts
 IsTaskAnswer Explain input status Puts = IsExplanationOf input status Puts
 IsTaskAnswer Draw input status Puts = IsDrawingOf input status Puts

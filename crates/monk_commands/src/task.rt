@@ -20,8 +20,8 @@ use std::alloc::Global;
 use std::io::{Read, Write};
 
 /// A command that reads an input: what is made of it.
-#[derive(Drop)]
-pub enum Task {
+#[derive(Clone, Copy)]
+pub enum Task<'a> {
     /// The verdict on a history, by [`audit_stream`].
     Audit,
     /// The history that a play leads to, by [`play_stream`].
@@ -29,7 +29,7 @@ pub enum Task {
     /// The same history in the newest version, by [`upgrade_stream`].
     Upgrade,
     /// The verdicts on a history or a log under each of the ten kinds, by [`fit_stream`]: of a log with what it says of waits.
-    Fit(Lapses, Vec<WaitsFor>),
+    Fit(Lapses, &'a [WaitsFor]),
     /// Each command of a play with its answer, by [`trace_stream`].
     Trace,
     /// The verdict on a history, and why, by [`explain_stream`].
@@ -40,7 +40,7 @@ pub enum Task {
     Complete(KindName),
 }
 
-impl Task {
+impl Task<'_> {
     /// Makes it of all of the reader, by the stream that the variant names; the result is the exit status, 0 to 2.
     ///
     /// # Errors
@@ -63,7 +63,7 @@ impl Task {
         // What is written, and its status, are what the command answers to what the reader had.
         ensures answer { IfOk result
             (λ status. IfSome (R.remaining (held reader.old))
-            (λ input. IsTaskAnswer self input status (Appends (W.contents (held writer.old)) (W.contents (held writer.new))))) }
+            (λ input. IsTaskAnswer self.entry input status (Appends (W.contents (held writer.old)) (W.contents (held writer.new))))) }
         ensures statuses { IfOk result (λ status. status ≤ 2) }
         ensures all_read { OnOk result (IsAtEnd (R.remaining (held reader.new))) }
 
@@ -77,7 +77,7 @@ impl Task {
             Task::Audit => audit_stream(alloc, reader, writer),
             Task::Play => play_stream(alloc, reader, writer),
             Task::Upgrade => upgrade_stream(alloc, reader, writer),
-            Task::Fit(lapses, means) => fit_stream(alloc, lapses, &means, reader, writer),
+            Task::Fit(lapses, means) => fit_stream(alloc, lapses, means, reader, writer),
             Task::Trace => trace_stream(alloc, reader, writer),
             Task::Explain => explain_stream(alloc, reader, writer),
             Task::Draw => draw_stream(alloc, reader, writer),

@@ -4,6 +4,7 @@ ghost use Rattle.std.specs.Prelude.{◌<◌};
 use monk_commands::{StreamFault, Task, classify_stream, draw_stream, run_stream};
 use monk_history::Device;
 use monk_kinds::KindName;
+use monk_logs::Lapses;
 use monk_samples::Sample;
 use std::io;
 use std::io::{Read, Write};
@@ -13,7 +14,7 @@ use std::test::Fail;
 /// An input, what is made of it, and what is answered.
 #[derive(Clone, Copy)]
 struct Job<'a> {
-    task: Task,
+    task: Task<'static>,
     input: &'static [u8],
     status: u8,
     answer: &'a [u8],
@@ -45,7 +46,7 @@ static JOBS: [Job<'static>; 10] = [
         answer: b"monk 2 PB 1 0 buffer 1\nenter 0 free\nact 0 0 5 1\nleave 0 entry\n",
     },
     Job {
-        task: Task::Fit,
+        task: Task::Fit(Lapses::Told, &[]),
         input: b"monk 1 PB 1 0 buffer 1\nenter 0 free\nleave 0 entry\n",
         status: 0,
         answer: b"PB legal 2\nNPB legal 2\nPNB legal 2\nNPNB legal 2\nPQB legal 2\nNPQB legal 2\nPIR legal 2\nNPIR legal 2\nPIS legal 2\nNPIS legal 2\n",

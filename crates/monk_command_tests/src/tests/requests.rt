@@ -1,6 +1,7 @@
 use monk_commands::{Line, LineFault, classify_stream, line};
 use monk_history::Device;
 use monk_kinds::KindName;
+use monk_logs::{Lapses, WaitsFor};
 use monk_samples::Sample;
 use std::alloc::Global;
 use std::test::Fail;
@@ -11,11 +12,11 @@ fn asks_for(line: &Line, command: &str, file: Option<&str>) -> bool {
         Line::Audit(name) => ("audit", name),
         Line::Play(name) => ("play", name),
         Line::Upgrade(name) => ("upgrade", name),
-        Line::Fit(name) => ("fit", name),
+        Line::Fit(name, Lapses::Told, means) if means.is_empty() => ("fit", name),
         Line::Trace(name) => ("trace", name),
         Line::Explain(name) => ("explain", name),
         Line::Draw(name) => ("draw", name),
-        Line::Classify(..) | Line::Complete(..) | Line::Run(..) | Line::Record(..) => return false,
+        _ => return false,
     };
     let same = match (name, file) {
         (Some(name), Some(file)) => name.as_str() == file,
@@ -52,6 +53,27 @@ fn words_that_ask_for_a_completion(rt: HostRuntime) -> Result<(), Fail> {
     let named = line(alloc, &["monk", "complete", "NPIR", "x.log"])?;
     assert!(rt;
         matches!(&named, Line::Complete(KindName::Npir, Some(file)) if file.as_str() == "x.log")
+    );
+    Ok(())
+}
+
+/// What is asked of a log: what those wait for who wait on a condition.
+const MEANS: [WaitsFor; 2] = [
+    WaitsFor { cond: 0, pred: 1 },
+    WaitsFor { cond: 7, pred: 255 },
+];
+
+#[test]
+fn words_that_ask_of_a_log(rt: HostRuntime) -> Result<(), Fail> {
+    let alloc = rt.alloc();
+    let lapses = line(alloc, &["monk", "fit", "--lapses", "x.log"])?;
+    assert!(rt;
+        matches!(&lapses, Line::Fit(Some(file), Lapses::Allowed, means) if file.as_str() == "x.log" && means.is_empty())
+    );
+    let words = ["monk", "fit", "--means", "0=1", "--means", "7=255"];
+    let means = line(alloc, &words)?;
+    assert!(rt;
+        matches!(&means, Line::Fit(None, Lapses::Told, means) if means.as_slice() == MEANS.as_slice())
     );
     Ok(())
 }
@@ -94,6 +116,10 @@ fn words_that_ask_for_nothing(rt: HostRuntime) {
     assert!(rt; is_refused(alloc, &["monk", "upgrade", "a", "b"]));
     assert!(rt; is_refused(alloc, &["monk", "explain", "a", "b"]));
     assert!(rt; is_refused(alloc, &["monk", "draw", "a", "b"]));
+    assert!(rt; is_refused(alloc, &["monk", "fit", "a", "b"]));
+    assert!(rt; is_refused(alloc, &["monk", "fit", "--means", "1"]));
+    assert!(rt; is_refused(alloc, &["monk", "fit", "--means", "0=256"]));
+    assert!(rt; is_refused(alloc, &["monk", "fit", "--lapses", "--lapses"]));
     assert!(rt; is_refused(alloc, &["monk", "complete"]));
     assert!(rt; is_refused(alloc, &["monk", "complete", "x.log"]));
     assert!(rt; is_refused(alloc, &["monk", "complete", "PB", "a", "b"]));

@@ -1,12 +1,13 @@
 use monk_commands::{StreamFault, Task};
 use monk_history::Device;
 use monk_kinds::KindName;
+use monk_logs::{Lapses, WaitsFor};
 use std::io;
 use std::io::Write;
 
 /// An input, what is made of it, and what is answered.
 struct Job {
-    task: Task,
+    task: Task<'static>,
     input: &'static [u8],
     status: u8,
     answer: &'static [u8],
@@ -71,10 +72,24 @@ static NOT_UPGRADED: Job = Job {
 };
 
 static FITTED: Job = Job {
-    task: Task::Fit,
+    task: Task::Fit(Lapses::Told, &[]),
     input: b"monk 1 PB 1 0 buffer 1\nenter 0 free\nleave 0 entry\n",
     status: 0,
     answer: b"PB legal 2\nNPB legal 2\nPNB legal 2\nNPNB legal 2\nPQB legal 2\nNPQB legal 2\nPIR legal 2\nNPIR legal 2\nPIS legal 2\nNPIS legal 2\n",
+};
+
+static LOG_FITTED: Job = Job {
+    task: Task::Fit(Lapses::Allowed, &[WaitsFor { cond: 0, pred: 1 }]),
+    input: b"log 1 2 1 buffer 1\nenter 0\nwait 0 0\nresume 0\n",
+    status: 0,
+    answer: b"PB fits fifo\nNPB fits fifo\nPNB fits fifo\nNPNB fits fifo\nPQB fits fifo\nNPQB fits fifo\nPIR fits fifo\nNPIR fits fifo\nPIS misfit 2 2 call\nNPIS misfit 2 2 call\nserved 0 passed 0 lapsed 1\nleft waiting 0 woken 0 inside 1\nmissed none\n",
+};
+
+static LOG_NOT_FITTED: Job = Job {
+    task: Task::Fit(Lapses::Told, &[]),
+    input: b"log 1 1 0 buffer 1\nenter 0\nstay 0\n",
+    status: 2,
+    answer: b"unreadable 3 2 word\n",
 };
 
 static TRACED: Job = Job {
@@ -345,6 +360,26 @@ fn fitted_with_ample_memory(rt: HostRuntime) {
 #[test]
 fn fitted_or_refused_memory(rt: HostRuntime) {
     assert_ne!(rt; end_of(&rt, &FITTED), Outcome::Other);
+}
+
+#[test]
+fn log_fitted_with_ample_memory(rt: HostRuntime) {
+    assert!(rt; end_of(&rt, &LOG_FITTED) == Outcome::Answered);
+}
+
+#[test]
+fn log_fitted_or_refused_memory(rt: HostRuntime) {
+    assert!(rt; end_of(&rt, &LOG_FITTED) != Outcome::Other);
+}
+
+#[test]
+fn log_not_fitted_with_ample_memory(rt: HostRuntime) {
+    assert!(rt; end_of(&rt, &LOG_NOT_FITTED) == Outcome::Answered);
+}
+
+#[test]
+fn log_not_fitted_or_refused_memory(rt: HostRuntime) {
+    assert!(rt; end_of(&rt, &LOG_NOT_FITTED) != Outcome::Other);
 }
 
 #[test]

@@ -9,8 +9,8 @@ returns c =
     record {
       command = refl;
       values = (
-          (sym (first_value-rows found (codes "FILE")) ∙ sym c.in_ok-file.ensures, c.lapses_of.ensures),
-          c.in_ok-means.ensures,
-        );
+        (sym (first_value-rows found (codes "FILE")) ∙ sym c.in_ok-file.ensures, c.lapses_of.ensures),
+        c.in_ok-means.ensures,
+      );
       in_range = tt;
     }
