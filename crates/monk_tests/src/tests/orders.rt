@@ -5,8 +5,11 @@ ghost use Rattle.monk_history.specs.Limits.{most_lines};
 
 use monk_audit::AuditFault;
 use monk_kinds::KindName;
-use monk_logs::{Blame, LogHeader, LogLine, LogVerdict, Order, judge_in};
+use monk_logs::{
+    Blame, Fit, Lapses, LogHeader, LogLine, LogVerdict, Order, WaitsFor, count, fit, judge_in,
+};
 use monk_object::ObjectName;
+use std::test::Fail;
 
 /// What is found of these lines, of a monitor of three seats, a condition and a buffer.
 fn found(
@@ -18,7 +21,7 @@ fn found(
     requires { length lines.now ≤ most_lines }
 {
     let header = LogHeader::new(3, 1, ObjectName::Buffer, 1)?;
-    Some(judge_in(rt.alloc(), &header, lines, kind, order))
+    Some(judge_in(rt.alloc(), &header, lines, kind, order, Lapses::Told))
 }
 
 /// At which line it misfits, and why; nothing where it fits.
@@ -96,4 +99,59 @@ fn a_wait_runs_out_unless_a_signal_served_it(rt: HostRuntime) {
         LogLine::Lapse(0),
     ];
     assert!(rt; misfit(&rt, KindName::Npnb, Order::Any, &served) == Some((6, Blame::Served)));
+}
+
+/// The strictest order in which these lines fit the kind.
+fn strictest(rt: &HostRuntime, kind: KindName, lapses: Lapses, lines: &[LogLine]) -> Option<Fit>
+    requires { length lines.now ≤ most_lines }
+{
+    let header = LogHeader::new(3, 1, ObjectName::Buffer, 1)?;
+    fit(rt.alloc(), &header, lines, kind, lapses).ok()
+}
+
+#[test]
+fn the_strictest_order_is_found(rt: HostRuntime) {
+    let front = [LogLine::Enter(0), LogLine::Wait(0, 0), LogLine::Enter(1)];
+    let found = strictest(&rt, KindName::Pb, Lapses::Told, &front);
+    assert!(rt; found == Some(Fit::In(Order::Fifo)));
+    let overtaken = strictest(&rt, KindName::Npnb, Lapses::Told, &OVERTAKEN);
+    assert!(rt; overtaken == Some(Fit::In(Order::Wake)));
+    let chosen = strictest(&rt, KindName::Npnb, Lapses::Told, &CHOSEN);
+    assert!(rt; chosen == Some(Fit::In(Order::Any)));
+}
+
+/// A waiter wakes though nobody signalled.
+const WOKEN: [LogLine; 3] = [LogLine::Enter(0), LogLine::Wait(0, 0), LogLine::Resume(0)];
+
+#[test]
+fn a_resume_may_be_a_lapse(rt: HostRuntime) {
+    let told = strictest(&rt, KindName::Npnb, Lapses::Told, &WOKEN);
+    let unserved = Fit::Misfit {
+        line: 3,
+        blame: Blame::Unserved,
+    };
+    assert!(rt; told == Some(unserved));
+    let allowed = strictest(&rt, KindName::Npnb, Lapses::Allowed, &WOKEN);
+    assert!(rt; allowed == Some(Fit::In(Order::Fifo)));
+}
+
+/// Seat 0 waits for a room in a buffer of one, which is there, and nobody is signalled.
+const UNSIGNALLED: [LogLine; 4] = [
+    LogLine::Enter(0),
+    LogLine::Wait(0, 0),
+    LogLine::Enter(1),
+    LogLine::Leave(1),
+];
+
+#[test]
+fn a_missed_signal_is_told(rt: HostRuntime) -> Result<(), Fail> {
+    let Some(header) = LogHeader::new(3, 1, ObjectName::Buffer, 1) else {
+        return Ok(());
+    };
+    let means = [WaitsFor { cond: 0, pred: 0 }];
+    let counts = count(rt.alloc(), &header, &UNSIGNALLED, KindName::Npnb, &means)?;
+    assert!(rt; counts.missed == Some(2));
+    assert!(rt; (counts.served, counts.passed, counts.lapsed) == (0, 0, 0));
+    assert!(rt; (counts.waiting, counts.woken, counts.inside) == (1, 0, 1));
+    Ok(())
 }

@@ -1,7 +1,8 @@
 use monk_audit::AuditFault;
 use monk_kinds::KindName;
 use monk_logs::{
-    Completion, LogHeader, LogLine, LogVerdict, Order, complete, judge, judge_in, read_log,
+    Completion, Counts, Fit, Lapses, LogHeader, LogLine, LogVerdict, Order, WaitsFor, complete,
+    count, fit, judge, judge_in, read_log,
 };
 use monk_object::ObjectName;
 
@@ -69,7 +70,14 @@ fn judged_or_refused_memory(rt: HostRuntime) {
 /// What is found of these lines where a signal may serve any seat.
 fn judged_in_any_order(rt: &HostRuntime) -> Option<Result<LogVerdict, AuditFault>> {
     let header = LogHeader::new(3, 2, ObjectName::Buffer, 1)?;
-    Some(judge_in(rt.alloc(), &header, &LINES, KindName::Npnb, Order::Any))
+    Some(judge_in(
+        rt.alloc(),
+        &header,
+        &LINES,
+        KindName::Npnb,
+        Order::Any,
+        Lapses::Allowed,
+    ))
 }
 
 #[test]
@@ -81,6 +89,54 @@ fn judged_in_any_order_with_ample_memory(rt: HostRuntime) {
 fn judged_in_any_order_or_refused_memory(rt: HostRuntime) {
     let judged = judged_in_any_order(&rt);
     assert!(rt; judged == Some(Ok(LogVerdict::Fits)) || judged == Some(Err(AuditFault::Memory)));
+}
+
+/// The strictest order in which these lines fit.
+fn fitted(rt: &HostRuntime) -> Option<Result<Fit, AuditFault>> {
+    let header = LogHeader::new(3, 2, ObjectName::Buffer, 1)?;
+    Some(fit(rt.alloc(), &header, &LINES, KindName::Npnb, Lapses::Told))
+}
+
+#[test]
+fn fitted_with_ample_memory(rt: HostRuntime) {
+    assert!(rt; fitted(&rt) == Some(Ok(Fit::In(Order::Fifo))));
+}
+
+#[test]
+fn fitted_or_refused_memory(rt: HostRuntime) {
+    let fitted = fitted(&rt);
+    assert!(rt;
+        fitted == Some(Ok(Fit::In(Order::Fifo))) || fitted == Some(Err(AuditFault::Memory))
+    );
+}
+
+/// Two were served, one of whom is back; no item is there for those who wait on condition 1.
+const COUNTS: Counts = Counts {
+    served: 2,
+    passed: 0,
+    lapsed: 0,
+    waiting: 0,
+    woken: 1,
+    inside: 1,
+    missed: None,
+};
+
+/// What is counted in these lines.
+fn counted(rt: &HostRuntime) -> Option<Result<Counts, AuditFault>> {
+    let header = LogHeader::new(3, 2, ObjectName::Buffer, 1)?;
+    let means = [WaitsFor { cond: 1, pred: 1 }];
+    Some(count(rt.alloc(), &header, &LINES, KindName::Npnb, &means))
+}
+
+#[test]
+fn counted_with_ample_memory(rt: HostRuntime) {
+    assert!(rt; counted(&rt) == Some(Ok(COUNTS)));
+}
+
+#[test]
+fn counted_or_refused_memory(rt: HostRuntime) {
+    let counted = counted(&rt);
+    assert!(rt; counted == Some(Ok(COUNTS)) || counted == Some(Err(AuditFault::Memory)));
 }
 
 /// Whether these lines are completed to as many events.
