@@ -11,3 +11,4 @@ pub mod Released
 pub mod Read
 pub mod OneReading
 pub mod Exact
+pub mod Over

@@ -66,7 +66,7 @@ first_follows (Some y) d x h = h
 abbrev pub standing : Bool → Bool → ℕ → Next
 standing waits stands s = cond waits (Waiter s) (cond stands (Signaller s) (UntilSeat s))
 
-goes_on : (w i : Bool) (s : ℕ) → is_stay (Some (standing w i s)) ≡ false
+pub goes_on : (w i : Bool) (s : ℕ) → is_stay (Some (standing w i s)) ≡ false
 goes_on true i s = refl
 goes_on false true s = refl
 goes_on false false s = refl
