@@ -8,20 +8,21 @@ use Rattle.monk_history.specs.Meaning.Monitor.{Monitor, monitor}
 use Rattle.monk_logs.specs.Board.{Board, opening_board}
 use Rattle.monk_logs.specs.BoardCourse.{BoardCourse, board_course, board_settled}
 use Rattle.monk_logs.specs.BoardShown.{course_or}
-use Rattle.monk_logs.specs.BoardStand.{board_behind_over, board_over}
 use Rattle.monk_logs.specs.Counts.{Counted, counted, counts_at, counts_from, counts_of, items_now, lacks_some_signal, lets_go}
 use Rattle.monk_logs.specs.Counts.{nothing_tallied, tallied, then_or, with_line, woken_among, woken_now}
+use Rattle.monk_logs.specs.ReadStand.{board_read_over, read_over}
 use Rattle.monk_logs.specs.declared.blame.Blame.{Blame}
 use Rattle.monk_logs.specs.declared.blame.LineVerdict.{LineVerdict}
 use Rattle.monk_logs.specs.declared.blame.LineVerdict.TheVariants as line
 use Rattle.monk_logs.specs.declared.counts.Counts.{Counts}
 use Rattle.monk_logs.specs.declared.item.Item.{Item}
+use Rattle.monk_logs.specs.declared.lapses.Lapses.TheVariants.{Allowed}
 use Rattle.monk_logs.specs.declared.line.LogLine.{LogLine}
 use Rattle.monk_logs.specs.declared.order.Order.TheVariants.{Any}
 use Rattle.monk_logs.specs.declared.pending.Pending.{Pending}
 use Rattle.monk_logs.specs.declared.tally.Tally.{Tally}
 use Rattle.monk_logs.specs.declared.waits_for.WaitsFor.{WaitsFor}
-use Rattle.monk_logs.proofs.BoardLaws.Lines.{over_apart}
+use Rattle.monk_logs.proofs.LapseLaws.Following.{read_apart}
 
 -- ---- one line more
 
@@ -31,7 +32,7 @@ module _ (m : Monitor) (means : List WaitsFor) where
   with_next n s l y = counted y (tallied m.object means n s.course l y s.tally)
 
   from_cons : (n : ℕ) (s : Counted) (l : LogLine) (rest : List LogLine) → counts_from m means n s (l ∷ rest)
-      ≡ then_or (λ y. counts_from m means (n + 1) (with_next (n + 1) s l y) rest) (counts_at s) (board_over Any m s.course l)
+      ≡ then_or (λ y. counts_from m means (n + 1) (with_next (n + 1) s l y) rest) (counts_at s) (read_over Allowed Any m s.course l)
   unfolding counts_from
   from_cons n s l rest = refl
 
@@ -40,7 +41,7 @@ module _ (m : Monitor) (means : List WaitsFor) where
   from_end n s = refl
 
   more : (log : List LogLine) (i : ℕ) (l : LogLine) (s : Counted) (r : Result BoardCourse Blame) (v : Counts) → i < length log
-      → counts_from m means i s (drop i log) ≡ v → r ≡ board_over Any m s.course (get_or log i l)
+      → counts_from m means i s (drop i log) ≡ v → r ≡ read_over Allowed Any m s.course (get_or log i l)
       → then_or (λ y. counts_from m means (i + 1) (with_next (i + 1) s (get_or log i l) y) (drop (i + 1) log)) (counts_at s) r ≡ v
   more log i l s r v within is judged =
       ap (then_or (λ y. counts_from m means (i + 1) (with_next (i + 1) s (get_or log i l) y) (drop (i + 1) log)) (counts_at s)) judged
@@ -49,7 +50,7 @@ module _ (m : Monitor) (means : List WaitsFor) where
 
   pub count_goes_on : (log : List LogLine) (i : ℕ) (l : LogLine) (a b : Board) (p q : Pending) (k : Tally) (left : LineVerdict)
       (t : Tally) (v : Counts) → i < length log → counts_from m means i (counted (board_course a p) k) (drop i log) ≡ v
-      → course_or b left ≡ board_behind_over Any m a p (get_or log i l) → left ≡ line.Fits q
+      → course_or b left ≡ board_read_over Allowed Any m a p (get_or log i l) → left ≡ line.Fits q
       → t ≡ tallied m.object means (i + 1) (board_course a p) (get_or log i l) (board_course b q) k
       → counts_from m means (i + 1) (counted (board_course b q) t) (drop (i + 1) log) ≡ v
   count_goes_on log i l a b p q k left t v within is judged goes tally =
@@ -58,7 +59,7 @@ module _ (m : Monitor) (means : List WaitsFor) where
 
   pub count_misfits : (log : List LogLine) (i : ℕ) (l : LogLine) (a b : Board) (p : Pending) (k : Tally) (left : LineVerdict)
       (why : Blame) (v : Counts) → i < length log → counts_from m means i (counted (board_course a p) k) (drop i log) ≡ v
-      → course_or b left ≡ board_behind_over Any m a p (get_or log i l) → left ≡ line.Misfits why
+      → course_or b left ≡ board_read_over Allowed Any m a p (get_or log i l) → left ≡ line.Misfits why
       → counts_at (counted (board_course a p) k) ≡ v
   count_misfits log i l a b p k left why v within is judged fails =
       more log i l (counted (board_course a p) k) (Err why) v within is (ap (course_or b) (sym fails) ∙ judged)
@@ -92,9 +93,9 @@ module _ (k : Rules) (seats conds : ℕ) (ob : Object) (d : List ℕ) (means : L
   unfolding counts_from
   from_same n s [] = refl
   from_same n s (l ∷ log) =
-      then_same _ _ (counts_at s) (board_over Any (monitor k seats conds ob []) s.course l)
+      then_same _ _ (counts_at s) (read_over Allowed Any (monitor k seats conds ob []) s.course l)
       (λ y. from_same (n + 1) (counted y (tallied ob means (n + 1) s.course l y s.tally)) log)
-      ∙ ap (then_or _ (counts_at s)) (over_apart Any k seats conds ob d s.course l)
+      ∙ ap (then_or _ (counts_at s)) (read_apart Allowed Any k seats conds ob d s.course l)
 
   pub count_opens : (b : Board) (log : List LogLine) → b ≡ opening_board (monitor k seats conds ob d)
       → counts_from (monitor k seats conds ob []) means 0 (counted (board_settled b) nothing_tallied) log

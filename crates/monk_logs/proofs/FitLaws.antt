@@ -1,1 +1,3 @@
+-- In which orders a log is open
 pub mod Strictest
+pub mod Kinds

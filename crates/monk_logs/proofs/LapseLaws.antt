@@ -12,3 +12,5 @@ pub mod Read
 pub mod OneReading
 pub mod Exact
 pub mod Over
+pub mod Verdicts
+pub mod Following

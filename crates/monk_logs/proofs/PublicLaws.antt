@@ -4,3 +4,5 @@
 pub use Rattle.monk_logs.proofs.LogLaws.LogText.{log_again, log_read}
 -- What the verdict on a log says of legal histories, under each kind.
 pub use Rattle.monk_logs.proofs.CompletionLaws.Found.{kind_fits, kind_misfits}
+-- A log fits a kind exactly where it is open under it in some order.
+pub use Rattle.monk_logs.proofs.FitLaws.Kinds.{kind_fit_open, kind_open_fit}

@@ -9,12 +9,13 @@ use Rattle.monk_history.specs.Meaning.Monitor.{Monitor}
 use Rattle.monk_history.specs.Meaning.Signallers.{is_empty}
 use Rattle.monk_logs.specs.Board.{items_with, opening_board, waiting_item}
 use Rattle.monk_logs.specs.BoardCourse.{BoardCourse, board_settled}
-use Rattle.monk_logs.specs.BoardStand.{board_over}
 use Rattle.monk_logs.specs.Items.{line, seats_in, services, services_in}
+use Rattle.monk_logs.specs.ReadStand.{read_over}
 use Rattle.monk_logs.specs.declared.blame.Blame.{Blame}
 use Rattle.monk_logs.specs.declared.counts.Counts.{Counts}
 use Rattle.monk_logs.specs.declared.item.Item.{Item}
 use Rattle.monk_logs.specs.declared.item.Item.TheVariants.{Waiting, Service}
+use Rattle.monk_logs.specs.declared.lapses.Lapses.TheVariants.{Allowed}
 use Rattle.monk_logs.specs.declared.line.LogLine.{LogLine}
 use Rattle.monk_logs.specs.declared.line.LogLine.TheVariants.{Enter, Resume, Lapse, Leave, Wait, Signal, Broadcast, Until, Act}
 use Rattle.monk_logs.specs.declared.order.Order.TheVariants.{Any}
@@ -191,7 +192,7 @@ unfoldable pub counts_from : Monitor → List WaitsFor → ℕ → Counted → L
 counts_from m means n s [] = counts_at s
 counts_from m means n s (l ∷ log) =
     then_or (λ y. counts_from m means (n + 1) (counted y (tallied m.object means (n + 1) s.course l y s.tally)) log) (counts_at s)
-    (board_over Any m s.course l)
+    (read_over Allowed Any m s.course l)
 
 abbrev pub counts_of : Monitor → List WaitsFor → List LogLine → Counts
 counts_of m means log = counts_from m means 0 (nothing_counted m) log

@@ -1,7 +1,7 @@
 -- The strictest order in which a log could be of a monitor
 use Rattle.std.specs.Prelude.{◌≡◌, ℕ, IsTrue, Bool, true, false, List, Option, Some, None, codes}
 use Rattle.monk_history.specs.Meaning.Monitor.{Monitor}
-use Rattle.monk_logs.specs.VerdictIn.{verdict_in}
+use Rattle.monk_logs.specs.ReadStand.{read_verdict}
 use Rattle.monk_logs.specs.declared.kind_fit.Fit.{Fit}
 use Rattle.monk_logs.specs.declared.kind_fit.Fit.TheVariants.{In, Misfit}
 use Rattle.monk_logs.specs.declared.lapses.Lapses.{Lapses}
@@ -55,4 +55,4 @@ abbrev pub fit_by : (Order → LogVerdict) → Fit
 fit_by v = or_in (v Fifo) Fifo (or_in (v Wake) Wake (last_fit (v Any)))
 
 abbrev pub fit_of : Lapses → Monitor → List LogLine → Fit
-fit_of x m log = fit_by (λ o. verdict_in o m log)
+fit_of x m log = fit_by (λ o. read_verdict x o m log)

@@ -7,7 +7,6 @@ use Rattle.monk_logs.specs.BoardCourse.{BoardCourse, board_settled}
 use Rattle.monk_logs.specs.BoardStand.{board_behind_over}
 use Rattle.monk_logs.specs.Exactly.{FitsExactlyBy, MisfitsExactlyBy}
 use Rattle.monk_logs.specs.Lapses.{IsOpenWith, as_lapse}
-use Rattle.monk_logs.specs.VerdictIn.{verdict_in}
 use Rattle.monk_logs.specs.declared.blame.Blame.{Blame}
 use Rattle.monk_logs.specs.declared.blame.Blame.TheVariants.{Range, Call, Turn, Place, Reply, Unserved, Served, Order as OrderBlame, Choice}
 use Rattle.monk_logs.specs.declared.lapses.Lapses.{Lapses}
@@ -72,8 +71,3 @@ FitsExactlyWith x o m log v = FitsExactlyBy (IsOpenWith x o m) log v
 -- it misfits exactly at the first line with which the log isn't open
 abbrev pub MisfitsExactlyWith : Lapses → Order → Monitor → List LogLine → LogVerdict → Type 0
 MisfitsExactlyWith x o m log v = MisfitsExactlyBy (IsOpenWith x o m) log v
-
--- the verdict that is found line by line
-abbrev pub verdict_with : Lapses → Order → Monitor → List LogLine → LogVerdict
-verdict_with Told o m log = verdict_in o m log
-verdict_with Allowed o m log = read_verdict Allowed o m log

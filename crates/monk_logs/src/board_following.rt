@@ -4,13 +4,14 @@ ghost use Rattle.std.specs.Prelude.{◌≡◌, ◌≤◌, ◌<◌, IfOk, OnOk, I
 ghost use Rattle.monk_object.specs.Names.{most};
 ghost use Rattle.monk_history.specs.Limits.{most_lines};
 ghost use Rattle.monk_history.specs.Meaning.Monitor.{monitor};
-ghost use Rattle.monk_logs.specs.BoardStand.{board_verdict};
+ghost use Rattle.monk_logs.specs.ReadStand.{read_verdict};
 ghost use Rattle.monk_logs.specs.Verdict.{log_monitor};
 
 use crate::blame::LineVerdict;
 use crate::board::Board;
-use crate::board_lines::line_behind;
+use crate::board_reading::line_read;
 use crate::header::LogHeader;
+use crate::lapses::Lapses;
 use crate::line::LogLine;
 use crate::order::Order;
 use crate::pending::Pending;
@@ -25,20 +26,29 @@ use std::alloc::{AllocError, Global};
 fn follow<T: Guarded>(
     alloc: Global,
     object: T,
+    lapses: Lapses,
     order: Order,
     setting: Setting,
     lines: &[LogLine],
 ) -> Result<LogVerdict, AllocError>
     requires { length lines.now ≤ most_lines }
     ensures { IfOk result
-        (λ v. v ≡ board_verdict order
+        (λ v. v ≡ read_verdict lapses order
         (monitor setting.rules setting.seats setting.conds T.meaning (T.state object)) lines.now) }
 {
     let mut object = object;
     let mut board = Board::opening::<T>(alloc, setting)?;
     let mut pending = Pending::Settled;
     for (i, line) in lines.iter().enumerate() {
-        match line_behind(order, setting, &mut board, &mut object, pending, *line)? {
+        match line_read(
+            lapses,
+            order,
+            setting,
+            &mut board,
+            &mut object,
+            pending,
+            *line,
+        )? {
             LineVerdict::Fits(left) => pending = left,
             LineVerdict::Misfits(blame) => {
                 let line = i as u32 + 1;
@@ -56,9 +66,10 @@ pub(crate) fn follow_board(
     lines: &[LogLine],
     kind: KindName,
     order: Order,
+    lapses: Lapses,
 ) -> Result<LogVerdict, AuditFault>
     requires few { length lines.now ≤ most_lines }
-    ensures verdict { IfOk result (λ v. v ≡ board_verdict order (log_monitor kind header.now) lines.now) }
+    ensures verdict { IfOk result (λ v. v ≡ read_verdict lapses order (log_monitor kind header.now) lines.now) }
     ensures fits { OnOk result (header.now.size ≤ most header.now.object) }
     ensures object { IsErrOf result AuditFault.Object → most header.now.object < header.now.size }
     ensures too_big { most header.now.object < header.now.size → IsErrOf result AuditFault.Object }
@@ -72,15 +83,15 @@ pub(crate) fn follow_board(
     match header.object() {
         ObjectName::Buffer => {
             let buffer = Buffer::make(alloc, size)?;
-            Ok(follow(alloc, buffer, order, setting, lines)?)
+            Ok(follow(alloc, buffer, lapses, order, setting, lines)?)
         }
         ObjectName::Book => {
             let book = Book::make(size)?;
-            Ok(follow(alloc, book, order, setting, lines)?)
+            Ok(follow(alloc, book, lapses, order, setting, lines)?)
         }
         ObjectName::Shop => {
             let shop = Shop::make(size)?;
-            Ok(follow(alloc, shop, order, setting, lines)?)
+            Ok(follow(alloc, shop, lapses, order, setting, lines)?)
         }
     }
 }

@@ -13,12 +13,13 @@ ghost use Rattle.monk_logs.specs.Verdict.{log_monitor};
 
 use crate::blame::LineVerdict;
 use crate::board::Board;
-use crate::board_lines::line_behind;
+use crate::board_reading::line_read;
 use crate::counts::Counts;
 use crate::header::LogHeader;
 use crate::item::Item;
 use crate::items::{seats_at, services_at, services_of};
 use crate::items_moves::{join, serve};
+use crate::lapses::Lapses;
 use crate::line::LogLine;
 use crate::order::Order;
 use crate::pending::Pending;
@@ -90,7 +91,15 @@ fn count_lines<T: Guarded>(
     let mut tally = Tally::NOTHING;
     for (i, line) in lines.iter().enumerate() {
         let before = services_of(&items);
-        match line_behind(Order::Any, setting, &mut board, &mut object, pending, *line)? {
+        match line_read(
+            Lapses::Allowed,
+            Order::Any,
+            setting,
+            &mut board,
+            &mut object,
+            pending,
+            *line,
+        )? {
             LineVerdict::Fits(left) => pending = left,
             LineVerdict::Misfits(_) => return Ok(tally.counts(&items)),
         }
@@ -102,7 +111,7 @@ fn count_lines<T: Guarded>(
 }
 
 /// Counts what happens in the log, read as one of a monitor of the kind over the object that its first line names, in any order
-/// ([`Order::Any`]), up to its first misfit there. `means` tells what those wait for who wait on a condition.
+/// ([`Order::Any`]) and with lapses allowed ([`Lapses::Allowed`]), up to its first misfit there. `means` tells what those wait for who wait on a condition.
 ///
 /// # Errors
 ///

@@ -3,8 +3,11 @@
 ghost use Rattle.std.specs.Prelude.{◌≡◌, ◌↔◌, ◌≤◌, ◌<◌, ℕ, Some, IfOk, OnOk, IsErrOf, length};
 ghost use Rattle.monk_object.specs.Names.{most};
 ghost use Rattle.monk_history.specs.Limits.{most_lines};
-ghost use Rattle.monk_logs.specs.Fit.{fit_of};
+ghost use Rattle.monk_logs.specs.Exactly.{IsFirstWithout};
+ghost use Rattle.monk_logs.specs.Fit.{IsStrictest, fit_of, misfit_line};
+ghost use Rattle.monk_logs.specs.Lapses.{IsOpenWith};
 ghost use Rattle.monk_logs.specs.Verdict.{log_monitor};
+ghost use Rattle.monk_logs.specs.declared.order.Order.{Order};
 
 use crate::header::LogHeader;
 use crate::judging::judge_in;
@@ -36,6 +39,12 @@ pub fn fit(
     lapses: Lapses,
 ) -> Result<Fit, AuditFault>
     requires { length lines.now ≤ most_lines }
+    // It is an order exactly where the log is open in that order, and in no stricter one.
+    ensures strictest { IfOk result
+        (λ f. (o : Order) → (f ≡ Fit.In o) ↔ IsStrictest (λ p. IsOpenWith lapses p (log_monitor kind header.now) lines.now) o) }
+    // It is a line exactly where that is the first with which the log is open in no order.
+    ensures misfit { IfOk result
+        (λ f. (n : ℕ) → (misfit_line f ≡ Some n) ↔ IsFirstWithout (IsOpenWith lapses Order.Any (log_monitor kind header.now)) lines.now n) }
     // All else, and what is to blame, is as it is found line by line.
     ensures found { IfOk result (λ f. f ≡ fit_of lapses (log_monitor kind header.now) lines.now) }
     // The size is refused exactly where it is above the object's greatest.
@@ -43,13 +52,13 @@ pub fn fit(
     ensures object { IsErrOf result AuditFault.Object → most header.now.object < header.now.size }
     ensures too_big { most header.now.object < header.now.size → IsErrOf result AuditFault.Object }
 {
-    if judge_in(alloc, header, lines, kind, Order::Fifo)? == LogVerdict::Fits {
+    if judge_in(alloc, header, lines, kind, Order::Fifo, lapses)? == LogVerdict::Fits {
         return Ok(Fit::In(Order::Fifo));
     }
-    if judge_in(alloc, header, lines, kind, Order::Wake)? == LogVerdict::Fits {
+    if judge_in(alloc, header, lines, kind, Order::Wake, lapses)? == LogVerdict::Fits {
         return Ok(Fit::In(Order::Wake));
     }
-    match judge_in(alloc, header, lines, kind, Order::Any)? {
+    match judge_in(alloc, header, lines, kind, Order::Any, lapses)? {
         LogVerdict::Fits => Ok(Fit::In(Order::Any)),
         LogVerdict::Misfit { line, blame } => Ok(Fit::Misfit { line, blame }),
     }

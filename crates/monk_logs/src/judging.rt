@@ -5,11 +5,12 @@ ghost use Rattle.monk_object.specs.Names.{most};
 ghost use Rattle.monk_history.specs.Limits.{most_lines};
 ghost use Rattle.monk_logs.specs.Stand.{verdict_on};
 ghost use Rattle.monk_logs.specs.Verdict.{FitsExactly, MisfitsExactly, log_monitor};
-ghost use Rattle.monk_logs.specs.VerdictIn.{FitsExactlyIn, MisfitsExactlyIn, verdict_in};
+ghost use Rattle.monk_logs.specs.ReadStand.{FitsExactlyWith, MisfitsExactlyWith, read_verdict};
 
 use crate::board_following::follow_board;
 use crate::following::follow_log;
 use crate::header::LogHeader;
+use crate::lapses::Lapses;
 use crate::line::LogLine;
 use crate::order::Order;
 use crate::past::Past;
@@ -53,7 +54,9 @@ pub fn judge(
 
 /// Tells the same where queues are served in that order: whether some run begins with what the log tells, and else which line is the
 /// first with which none does. Under [`Order::Wake`] any seat of a queue may be chosen, and under [`Order::Any`] a signal may serve
-/// any seat of its condition as well; the priorities of the kind hold in each. A wait may run out, where the log tells it.
+/// any seat of its condition as well; the priorities of the kind hold in each. A wait may run out, where a `lapse` tells it, and with
+/// [`Lapses::Allowed`] where a `resume` can't be of a seat that was served: then some reading of the log, in which some of its resumes
+/// are lapses, begins a run.
 ///
 /// # Errors
 ///
@@ -70,18 +73,19 @@ pub fn judge_in(
     lines: &[LogLine],
     kind: KindName,
     order: Order,
+    lapses: Lapses,
 ) -> Result<LogVerdict, AuditFault>
     requires { length lines.now ≤ most_lines }
-    // It fits exactly where some run begins with the log.
-    ensures fits { IfOk result (FitsExactlyIn order (log_monitor kind header.now) lines.now) }
-    // It misfits exactly at the first line with which none begins.
-    ensures misfit { IfOk result (MisfitsExactlyIn order (log_monitor kind header.now) lines.now) }
+    // It fits exactly where the log is open in that order: where some run begins with it, or with one of its readings.
+    ensures fits { IfOk result (FitsExactlyWith lapses order (log_monitor kind header.now) lines.now) }
+    // It misfits exactly at the first line with which it isn't.
+    ensures misfit { IfOk result (MisfitsExactlyWith lapses order (log_monitor kind header.now) lines.now) }
     // What is to blame, and all else, is as it is found line by line.
-    ensures verdict { IfOk result (λ v. v ≡ verdict_in order (log_monitor kind header.now) lines.now) }
+    ensures verdict { IfOk result (λ v. v ≡ read_verdict lapses order (log_monitor kind header.now) lines.now) }
     // The size is refused exactly where it is above the object's greatest.
     ensures made { OnOk result (header.now.size ≤ most header.now.object) }
     ensures object { IsErrOf result AuditFault.Object → most header.now.object < header.now.size }
     ensures too_big { most header.now.object < header.now.size → IsErrOf result AuditFault.Object }
 {
-    follow_board(alloc, header, lines, kind, order)
+    follow_board(alloc, header, lines, kind, order, lapses)
 }

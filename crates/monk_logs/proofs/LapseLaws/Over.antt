@@ -22,7 +22,7 @@ use Rattle.monk_history.specs.Meaning.Turn.{turn_by}
 use Rattle.monk_logs.specs.Blame.{blame_of, early_blame, first_blame, half_blame, is_event_in_range, line_event, may_be_its_turn}
 use Rattle.monk_logs.specs.Board.{Board, board_after, board_lapse, board_reason, items_with, sight, signallers_with, waiting_item}
 use Rattle.monk_logs.specs.BoardCourse.{BoardCourse, board_settled, board_told}
-use Rattle.monk_logs.specs.BoardMoves.{board_served, comes_back}
+use Rattle.monk_logs.specs.BoardMoves.{board_served, comes_back, comes_next}
 use Rattle.monk_logs.specs.BoardStand.{board_behind_over, board_line_over, board_lapse_blame, board_release_blame, board_settle, course_by}
 use Rattle.monk_logs.specs.Course.{due_from}
 use Rattle.monk_logs.specs.Items.{condition_of, may_lapse}
@@ -70,17 +70,23 @@ pub read_plain : (r : Result BoardCourse Blame) → first_over r r ≡ r
 read_plain (Ok x) = refl
 read_plain (Err why) = ap (λ (y : Blame). Err y) (same_blame why)
 
+-- what is to blame by the tests of range, of the call and of the turn, and by what comes behind these
+abbrev blame_by : Bool → Bool → Bool → Blame → Blame
+blame_by a b turn late = first_blame (cond (not a) (Some Range) (cond (not b) (Some Call) None)) (cond (not turn) TurnBlame late)
+
+abbrev resumed_by_queue : Bool → Bool → Blame
+resumed_by_queue comes next = cond (not comes) Unserved (cond (not next) OrderBlame Choice)
+
 -- the tests of a resume and of a lapse are the same but for the last
-early_same : (a b turn comes gone : Bool)
-    → either_blame (first_blame (cond (not a) (Some Range) (cond (not b) (Some Call) None)) (cond (not turn) TurnBlame (cond comes Choice Unserved)))
-    (first_blame (cond (not a) (Some Range) (cond (not b) (Some Call) None)) (cond (not turn) TurnBlame (cond gone Choice Served)))
-    ≡ either_blame (first_blame (cond (not a) (Some Range) (cond (not b) (Some Call) None)) (cond (not turn) TurnBlame (cond comes Choice Unserved)))
-    (cond gone Choice Served)
-early_same false b turn comes gone = refl
-early_same true false turn comes gone = refl
-early_same true true false comes gone = refl
-early_same true true true true gone = refl
-early_same true true true false gone = refl
+early_same : (a b turn comes next gone : Bool)
+    → either_blame (blame_by a b turn (resumed_by_queue comes next)) (blame_by a b turn (cond gone Choice Served))
+    ≡ either_blame (blame_by a b turn (resumed_by_queue comes next)) (cond gone Choice Served)
+early_same false b turn comes next gone = refl
+early_same true false turn comes next gone = refl
+early_same true true false comes next gone = refl
+early_same true true true true true gone = refl
+early_same true true true true false gone = refl
+early_same true true true false next gone = refl
 
 lapse_unlike : (a b : Bool) → served_or (cond a Range (cond b TurnBlame Served)) ≡ Unserved
 lapse_unlike true b = refl
@@ -270,4 +276,5 @@ module _ (o : Order) (m : Monitor) (b : Board) (e : Event) (stays : next_of e �
       (Err (board_lapse_blame m (board_after m.object b entry) s))) out)
       (lapse_unlike (not (nat_lt s m.seats)) (not (is_open (board_after m.object b entry).turn && (board_after m.object b entry).inside s)))
       (early_same (is_event_in_range m (line_event m.kind.mode (Resume s))) (is_offered m.kind (line_event m.kind.mode (Resume s)))
-      (may_be_its_turn (must_stay m.object (sight b) e) b.inside e (Resume s)) (comes_back o m.object (board_served b e) s) gone)
+      (may_be_its_turn (must_stay m.object (sight b) e) b.inside e (Resume s)) (comes_back o m.object (board_served b e) s)
+      (comes_next o m.object (board_served b e) s) gone)

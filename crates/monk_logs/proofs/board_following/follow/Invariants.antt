@@ -3,7 +3,8 @@ use Rattle.std.specs.Prelude.{Ok}
 use Rattle.monk_history.specs.Meaning.Monitor.{monitor}
 use Rattle.monk_logs.specs.BoardCourse.{board_course}
 use Rattle.monk_logs.specs.BoardShown.{IsBoardOf, board_shown}
-use Rattle.monk_logs.specs.BoardStand.{IsHeldOver, board_verdict, board_verdict_from}
+use Rattle.monk_logs.specs.BoardStand.{IsHeldOver}
+use Rattle.monk_logs.specs.ReadStand.{read_verdict, read_verdict_from}
 use Rattle.monk_logs.specs.Stand.{monitor_in}
 use Rattle.monk_logs.proofs.board_following.follow.Given as goal
 
@@ -13,8 +14,8 @@ invariant-loop-i g l =
     let m = monitor_in l.setting o in
     let now = board_shown l.board (g.T.Guarded.state l.object) in
     record {
-      so_far : board_verdict_from l.order m l.i (Ok (board_course now l.pending)) (drop l.i l.lines)
-          ≡ board_verdict l.order
+      so_far : read_verdict_from l.lapses l.order m l.i (Ok (board_course now l.pending)) (drop l.i l.lines)
+          ≡ read_verdict l.lapses l.order
           (monitor l.setting.rules l.setting.seats l.setting.conds o (g.T.Guarded.state l.fn.object)) l.lines;
       sound : IsBoardOf l.setting.seats l.setting.conds g.T.Guarded.PREDICATES l.board;
       held : IsHeldOver m now l.pending;

@@ -6,8 +6,9 @@ use Rattle.monk_logs.specs.Counts.{counted, counts_by, waiting_among, woken_amon
 use Rattle.monk_logs.specs.Stand.{monitor_in}
 use Rattle.monk_logs.specs.declared.item.Item.{Item}
 use Rattle.monk_logs.specs.declared.order.Order.TheVariants.{Any}
-use Rattle.monk_logs.proofs.BoardLaws.Lines.{board_goes_held}
+use Rattle.monk_logs.specs.declared.lapses.Lapses.TheVariants.{Allowed}
 use Rattle.monk_logs.proofs.CountLaws.{count_ends, count_goes_on, count_misfits, count_opens, line_counted}
+use Rattle.monk_logs.proofs.LapseLaws.Following.{read_goes_held}
 use Rattle.monk_logs.proofs.counting.count_lines.Goals as goal
 
 pub loop-i-init : goal.loop-i-init
@@ -31,7 +32,7 @@ returns-in-Misfits g c =
     (c.deref-in-Misfits.ensures.value ∙ c.loop-i.invariant.items)
     ∙ count_misfits (monitor_in c.args.setting g.T.Guarded.meaning) c.args.means.now c.args.lines.now c.loop-i.i _
     (board_shown c.loop-i.board (g.T.Guarded.state c.loop-i.object))
-    (board_shown c.line_behind.new.board (g.T.Guarded.state c.line_behind.new.object))
+    (board_shown c.line_read.new.board (g.T.Guarded.state c.line_read.new.object))
     c.loop-i.pending k c.in_ok-left.field-0 _ _ c.loop-i-test.true c.loop-i.invariant.so_far
     c.in_ok-left.ensures.judged c.in-Misfits.is
 
@@ -39,9 +40,9 @@ pub loop-i-preserved : goal.loop-i-preserved
 loop-i-preserved g c =
     let m = monitor_in c.args.setting g.T.Guarded.meaning in
     let a = board_shown c.loop-i.board (g.T.Guarded.state c.loop-i.object) in
-    let b = board_shown c.line_behind.new.board (g.T.Guarded.state c.line_behind.new.object) in
+    let b = board_shown c.line_read.new.board (g.T.Guarded.state c.line_read.new.object) in
     let k = c.loop-i.tally in
-    let now = c.in_ok-take_items.ensures (g.T.Guarded.state c.line_behind.new.object) in
+    let now = c.in_ok-take_items.ensures (g.T.Guarded.state c.line_read.new.object) in
     record {
       so_far = count_goes_on m c.args.means.now c.args.lines.now c.loop-i.i _ a b c.loop-i.pending c.in-Fits.left k
           c.in_ok-left.field-0 c.with_line-tally.result _ c.loop-i-test.true c.loop-i.invariant.so_far c.in_ok-left.ensures.judged
@@ -55,7 +56,7 @@ loop-i-preserved g c =
       items = now;
       few = c.with_line-tally.ensures.within c.loop-i.i c.loop-i.invariant.few;
       sound = c.in_ok-left.ensures.sound c.in-Fits.left c.in-Fits.is;
-      held = board_goes_held Any m _ a b c.loop-i.pending c.in-Fits.left c.in_ok-left.field-0
+      held = read_goes_held Allowed Any m _ a b c.loop-i.pending c.in-Fits.left c.in_ok-left.field-0
           c.in_ok-left.ensures.judged c.in-Fits.is;
     }
 
