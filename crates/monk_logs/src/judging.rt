@@ -53,7 +53,8 @@ pub fn judge(
 
 /// Tells the same where queues are served in that order: whether some run begins with what the log tells, and else which line is the
 /// first with which none does. Under [`Order::Wake`] any seat of a queue may be chosen, and under [`Order::Any`] a signal may serve
-/// any seat of its condition as well; the priorities of the kind hold in each. A wait may run out, where the log tells it.
+/// any seat of its condition as well; the priorities of the kind hold in each. A wait may run out, where the log tells it; where it
+/// tells of none, the verdict under [`Order::Fifo`] is that of [`judge`].
 ///
 /// # Errors
 ///
