@@ -19,8 +19,8 @@ use Rattle.monk_logs.specs.Along.{verdict_along}
 use Rattle.monk_logs.specs.Blame.{blame_of, release_blame}
 use Rattle.monk_logs.specs.Board.{Board, board_after, board_reason}
 use Rattle.monk_logs.specs.BoardCourse.{BoardCourse, board_course, standing_choice}
-use Rattle.monk_logs.specs.BoardStand.{board_behind_over, board_half_over, board_hold_over, board_line_over, board_over, board_release_blame}
-use Rattle.monk_logs.specs.BoardStand.{board_settle, board_told_over, board_verdict, course_by}
+use Rattle.monk_logs.specs.BoardStand.{board_behind_over, board_half_over, board_hold_over, board_line_over, board_over}
+use Rattle.monk_logs.specs.BoardStand.{board_release_blame, board_settle, board_told_over, board_verdict, course_by}
 use Rattle.monk_logs.specs.Course.{chosen_from, due_from}
 use Rattle.monk_logs.specs.FitsIn.{has_lapse, is_lapse}
 use Rattle.monk_logs.specs.Stand.{Stand, add_to, hold_over, line_behind, line_half, line_over, line_settled, line_then, line_told, settle}
