@@ -7,3 +7,7 @@ pub mod Opens
 pub mod Service
 pub mod Served
 pub mod Boards
+pub mod Reasons
+pub mod Blames
+pub mod Releases
+pub mod Verdicts

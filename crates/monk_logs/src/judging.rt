@@ -56,7 +56,8 @@ pub fn judge(
 /// first with which none does. Under [`Order::Wake`] any seat of a queue may be chosen, and under [`Order::Any`] a signal may serve
 /// any seat of its condition as well; the priorities of the kind hold in each. A wait may run out, where a `lapse` tells it, and with
 /// [`Lapses::Allowed`] where a `resume` can't be of a seat that was served: then some reading of the log, in which some of its resumes
-/// are lapses, begins a run.
+/// are lapses, begins a run. Where lapses are only told, and the log tells of none, the verdict under [`Order::Fifo`] is that of
+/// [`judge`].
 ///
 /// # Errors
 ///

@@ -15,6 +15,7 @@ ghost use Rattle.monk_logs.specs.BoardRead.{judge_read};
 ghost use Rattle.monk_logs.specs.FitsIn.{IsOpenIn, has_lapse};
 ghost use Rattle.monk_logs.specs.Lapses.{IsOpenWith};
 ghost use Rattle.monk_logs.specs.Run.{IsRun};
+ghost use Rattle.monk_logs.specs.Stand.{verdict_on};
 ghost use Rattle.monk_logs.specs.VerdictIn.{FitsExactlyIn, MisfitsExactlyIn};
 ghost use Rattle.monk_logs.specs.declared.lapses.Lapses.{Lapses};
 ghost use Rattle.monk_logs.specs.declared.order.Order.{Order};
@@ -77,8 +78,9 @@ pub fn board_verdicts_are_exact()
 
 /// In order of arrival, and where no wait runs out, a monitor may do what its rules allow, and no more: the runs of events are the
 /// legal histories. So a log that tells of no wait that ran out is open in order of arrival exactly where some legal history begins
-/// with what it tells.
+/// with what it tells; and the verdict on it over a board is that by the rules, with the same to blame.
 pub fn fifo_is_legal()
     ensures runs { (m : Monitor) → (h : List Event) → IsRun Fifo m (map Did h) ↔ IsLegal m h }
     ensures logs { (m : Monitor) → (log : List LogLine) → has_lapse log ≡ false → IsOpenIn Fifo m log ↔ IsOpen m log }
+    ensures verdicts { (m : Monitor) → (log : List LogLine) → has_lapse log ≡ false → board_verdict Fifo m log ≡ verdict_on m log }
 {}

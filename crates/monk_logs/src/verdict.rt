@@ -2,7 +2,7 @@
 
 use crate::blame::Blame;
 
-/// What is found of a log under a kind of monitor, with queues in order of arrival.
+/// What is found of a log under a kind of monitor and an order of its queues.
 #[derive(Clone, Copy, Debug, PartialEq, Eq)]
 pub enum LogVerdict {
     /// Some legal history begins with what the log tells.

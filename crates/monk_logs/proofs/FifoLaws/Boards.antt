@@ -48,14 +48,14 @@ same_served f g None e h = refl
 same_served f g (Some c) e h = ap (λ (queue : List ℕ). served_at (λ d. queue) (Some c) e) (h c)
 
 module _ (m : Monitor) (b : Board) (t : Situation) (e : Event) (sound : Sound b) (h : Alike b t) where
-  queue_same : t.waiters ++ serves t.condition e ≡ served_in (items_with b e)
+  pub queue_same : t.waiters ++ serves t.condition e ≡ served_in (items_with b e)
   queue_same =
       ap (λ (xs : List ℕ). xs ++ serves t.condition e) h.waiters
       ∙ ap (λ (xs : List ℕ). served_in b.items ++ xs)
       (same_served t.condition (unserved_of b.items) (signals_on e) e (unserved_same b t h.stands))
       ∙ sym (served_with b e)
 
-  sigs_same : t.signallers ++ signals t.condition e ≡ signallers_with b e
+  pub sigs_same : t.signallers ++ signals t.condition e ≡ signallers_with b e
   sigs_same =
       ap (λ (xs : List ℕ). xs ++ signals t.condition e) h.stands.signallers
       ∙ ap (λ (xs : List ℕ). b.signallers ++ xs) (signals_same Wake b t e h.stands)
@@ -65,7 +65,7 @@ module _ (m : Monitor) (b : Board) (t : Situation) (e : Event) (sound : Sound b)
 
   -- ---- the board follows
 
-  like : AreLike (chances Fifo (queues_with m.object t e (serves t.condition e))) (board_chances Fifo m.object b e) (next_of e)
+  pub like : AreLike (chances Fifo (queues_with m.object t e (serves t.condition e))) (board_chances Fifo m.object b e) (next_of e)
   like = record {
     no_waiter = empty_same;
     no_signaller = ap (λ (xs : List ℕ). is_empty xs) sigs_same;
@@ -74,6 +74,17 @@ module _ (m : Monitor) (b : Board) (t : Situation) (e : Event) (sound : Sound b)
     ready = λ j k. subst (λ (xs : List ℕ). is_front j xs ≡ true) (ready_same m.object b t h.stands.state h.stands.untils) k;
     waiter = λ j is k. front_resume j (items_with b e) (distinct_with b e sound) (keeps_with b e sound)
         (subst (λ (xs : List ℕ). is_front j xs ≡ true) queue_same k);
+  }
+
+  pub back_like : AreLike (board_chances Fifo m.object b e) (chances Fifo (queues_with m.object t e (serves t.condition e))) (next_of e)
+  back_like = record {
+    no_waiter = sym empty_same;
+    no_signaller = ap (λ (xs : List ℕ). is_empty xs) (sym sigs_same);
+    no_ready = ap (λ (xs : List ℕ). is_empty xs) (sym (ready_same m.object b t h.stands.state h.stands.untils));
+    signaller = λ j k. subst (λ (xs : List ℕ). is_front j xs ≡ true) (sym sigs_same) k;
+    ready = λ j k. subst (λ (xs : List ℕ). is_front j xs ≡ true) (sym (ready_same m.object b t h.stands.state h.stands.untils)) k;
+    waiter = λ j is k. subst (λ (xs : List ℕ). is_front j xs ≡ true) (sym queue_same)
+        (resume_front j (items_with b e) k);
   }
 
   -- the waiters behind the event, where it passes the board's tests
@@ -138,17 +149,6 @@ pub record LeadsInTurn (m : Monitor) (t : Situation) (e : Event) : Type 0 where
   pub move : IsMove Fifo m t e served next
 
 module _ (m : Monitor) (b : Board) (t : Situation) (e : Event) (sound : Sound b) (h : Alike b t) (p : Passes Fifo m b e) where
-  back_like : AreLike (board_chances Fifo m.object b e) (chances Fifo (queues_with m.object t e (serves t.condition e))) (next_of e)
-  back_like = record {
-    no_waiter = sym (empty_same m b t e sound h);
-    no_signaller = ap (λ (xs : List ℕ). is_empty xs) (sym (sigs_same m b t e sound h));
-    no_ready = ap (λ (xs : List ℕ). is_empty xs) (sym (ready_same m.object b t h.stands.state h.stands.untils));
-    signaller = λ j k. subst (λ (xs : List ℕ). is_front j xs ≡ true) (sym (sigs_same m b t e sound h)) k;
-    ready = λ j k. subst (λ (xs : List ℕ). is_front j xs ≡ true) (sym (ready_same m.object b t h.stands.state h.stands.untils)) k;
-    waiter = λ j is k. subst (λ (xs : List ℕ). is_front j xs ≡ true) (sym (queue_same m b t e sound h))
-        (resume_front j (items_with b e) k);
-  }
-
   pub leads_in_turn : LeadsInTurn m t e
   leads_in_turn = record {
     served = serves t.condition e;
@@ -160,7 +160,7 @@ module _ (m : Monitor) (b : Board) (t : Situation) (e : Event) (sound : Sound b)
       permitted = subst (λ (x : Bool). permits_by m.kind x (chances Fifo (queues_with m.object t e (serves t.condition e))) e ≡ true)
           (sym (stay_same Wake m.object b t e h.stands))
           (permits_like m.kind (must_stay m.object (sight b) e) (board_chances Fifo m.object b e)
-          (chances Fifo (queues_with m.object t e (serves t.condition e))) e back_like p.permitted);
+          (chances Fifo (queues_with m.object t e (serves t.condition e))) e (back_like m b t e sound h) p.permitted);
       comes_to = record {
         condition = λ c. refl;
         waiters = refl;

@@ -96,7 +96,7 @@ module _ (k : Rules) (q : Queues) (s : ℕ) where
   same_permits false back None = refl
   same_permits false back (Some x) = same_either back x
 
-same_permitted : (k : Rules) (o : Object) (t : Situation) (e : Event) (ws : List ℕ) → ws ≡ serves t.condition e
+pub same_permitted : (k : Rules) (o : Object) (t : Situation) (e : Event) (ws : List ℕ) → ws ≡ serves t.condition e
     → is_permitted_by Fifo k o t e ws ≡ is_permitted k o t e
 same_permitted k o t e ws is =
     ap (is_permitted_by Fifo k o t e) is

@@ -145,7 +145,7 @@ opening_fits o = record { covers = λ c. refl; led = λ c. led_nobody o; stand =
 opening_stands : (o : Order) (m : Monitor) → Stands o (opening_board m) (opening_situation m)
 opening_stands o m = stands_so o (opening_board m) [] (opening_fits o)
 
-opening_alike : (m : Monitor) → Alike (opening_board m) (opening_situation m)
+pub opening_alike : (m : Monitor) → Alike (opening_board m) (opening_situation m)
 opening_alike m = record { stands = opening_stands Wake m; waiters = refl }
 
 nobody_there : (ws : List ℕ) → ((j : ℕ) → is_among j ws ≡ true → is_among j [] ≡ true) → ws ≡ []

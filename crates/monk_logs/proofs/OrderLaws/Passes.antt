@@ -18,7 +18,7 @@ use Rattle.monk_logs.specs.declared.order.Order.TheVariants.{Fifo, Wake, Any}
 
 -- ---- the tests in order
 
-abbrev first_of : ℕ → Bool → Bool → Bool → Bool → ℕ
+abbrev pub first_of : ℕ → Bool → Bool → Bool → Bool → ℕ
 first_of late a b c d = cond (not a) 1 (cond (not b) 2 (cond (not c) 3 (cond (not d) 4 late)))
 
 all_passed : (late : ℕ) (a b c d : Bool) → first_of late a b c d ≡ 0

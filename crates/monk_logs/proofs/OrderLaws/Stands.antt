@@ -142,7 +142,7 @@ module _ (o : Order) (b : Board) (t : Situation) (dis : Distinct (all_seats b.it
       (ready_same object b t h.state h.untils))
   enters_same object Handed = h.begun
 
-  place_same : (object : Object) (e : Event) → is_in_place object t e ≡ is_in_place object (sight b) e
+  pub place_same : (object : Object) (e : Event) → is_in_place object t e ≡ is_in_place object (sight b) e
   place_same object (Enter v via) =
       ap (λ (x : Bool). not x && may_enter object t via) (h.inside v)
       ∙ ap (λ (x : Bool). not (b.inside v) && x) (enters_same object via)

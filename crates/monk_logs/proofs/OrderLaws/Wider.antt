@@ -82,6 +82,9 @@ module _ (o w : Order) (wider : IsWider o w) where
   }
   runs_wider m (Lapsed s ∷ steps) t r = record { next = r.next; lapse = r.lapse; goes_on = runs_wider m steps r.next r.goes_on }
 
+pub fifo_serves_is_wake : (condition : ℕ → List ℕ) (e : Event) (ws : List ℕ) → Serves Fifo condition e ws → Serves Wake condition e ws
+fifo_serves_is_wake condition e ws s = serves_wider Fifo Wake wake_is_wider condition e ws s
+
 pub fifo_move_is_wake : (m : Monitor) (t : Situation) (e : Event) (ws : List ℕ) (u : Situation) → IsMove Fifo m t e ws u
     → IsMove Wake m t e ws u
 fifo_move_is_wake m t e ws u move = move_wider Fifo Wake wake_is_wider m t e ws u move

@@ -11,7 +11,7 @@ use monk_logs::{
 use monk_object::ObjectName;
 use std::test::Fail;
 
-/// What is found of these lines, of a monitor of three seats, a condition and a buffer.
+/// What is found of these lines, of a monitor of three seats, two conditions and a buffer.
 fn found(
     rt: &HostRuntime,
     kind: KindName,
@@ -20,7 +20,7 @@ fn found(
 ) -> Option<Result<LogVerdict, AuditFault>>
     requires { length lines.now ≤ most_lines }
 {
-    let header = LogHeader::new(3, 1, ObjectName::Buffer, 1)?;
+    let header = LogHeader::new(3, 2, ObjectName::Buffer, 1)?;
     Some(judge_in(rt.alloc(), &header, lines, kind, order, Lapses::Told))
 }
 
@@ -86,9 +86,29 @@ fn priorities_hold_in_each_order(rt: HostRuntime) {
     assert!(rt; misfit(&rt, KindName::Pnb, Order::Any, &barged) == Some((6, Blame::Choice)));
 }
 
+/// Two seats wait on a condition each, a third serves the second to come and then the first, which goes on before it.
+const PASSED: [LogLine; 9] = [
+    LogLine::Enter(0),
+    LogLine::Wait(0, 0),
+    LogLine::Enter(1),
+    LogLine::Wait(1, 1),
+    LogLine::Enter(2),
+    LogLine::Signal(2, 1),
+    LogLine::Signal(2, 0),
+    LogLine::Leave(2),
+    LogLine::Resume(0),
+];
+
+#[test]
+fn those_served_go_on_in_order_of_service(rt: HostRuntime) {
+    assert!(rt; misfit(&rt, KindName::Npnb, Order::Fifo, &PASSED) == Some((9, Blame::Order)));
+    assert!(rt; misfit(&rt, KindName::Npnb, Order::Wake, &PASSED) == None);
+}
+
 #[test]
 fn a_wait_runs_out_unless_a_signal_served_it(rt: HostRuntime) {
     let alone = [LogLine::Enter(0), LogLine::Wait(0, 0), LogLine::Lapse(0)];
+    assert!(rt; misfit(&rt, KindName::Npnb, Order::Fifo, &alone) == None);
     assert!(rt; misfit(&rt, KindName::Npnb, Order::Any, &alone) == None);
     let served = [
         LogLine::Enter(0),
@@ -98,6 +118,7 @@ fn a_wait_runs_out_unless_a_signal_served_it(rt: HostRuntime) {
         LogLine::Leave(1),
         LogLine::Lapse(0),
     ];
+    assert!(rt; misfit(&rt, KindName::Npnb, Order::Fifo, &served) == Some((6, Blame::Served)));
     assert!(rt; misfit(&rt, KindName::Npnb, Order::Any, &served) == Some((6, Blame::Served)));
 }
 
