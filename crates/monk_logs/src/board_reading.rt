@@ -101,3 +101,96 @@ fn line_chosen<T: Guarded>(
     board.settle(told, stays)?;
     line_settled(order, setting, board, object, line)
 }
+
+/// A seat that goes on behind a release: one that the release chose, or else one whose wait ran out.
+fn resume_told<T: Guarded>(
+    order: Order,
+    setting: Setting,
+    board: &mut Board,
+    object: &mut T,
+    event: Event,
+    seat: u8,
+) -> Result<LineVerdict, AllocError>
+    requires sound { IsBoardOf setting.seats setting.conds T.PREDICATES board.old }
+    requires called { MayCallIn (monitor_in setting T.meaning) (sight (board_shown board.old (T.state object.old))) event }
+    requires release { next_of event ≡ Some Next.Stay }
+    ensures judged { IfOk result
+        (λ v. course_or (board_shown board.new (T.state object.new)) v
+        ≡ reads.board_read_over Lapses.Allowed order (monitor_in setting T.meaning)
+        (board_shown board.old (T.state object.old)) (Pending.Release event) (LogLine.Resume seat)) }
+    ensures sound { IfOk result
+        (λ v. (left : Pending) → v ≡ LineVerdict.Fits left → IsBoardOf setting.seats setting.conds T.PREDICATES board.new) }
+{
+    let stays = board.must_stay(object, event);
+    board.serve(event)?;
+    let told = with_next(event, standing_choice(board, seat));
+    if served_reason(order, setting, board, object, told, stays) == ALLOWED {
+        return line_chosen(order, setting, board, object, told, stays, LogLine::Resume(seat));
+    }
+    let gone = is_gone(order, board, event, seat)?;
+    let entry = with_next(event, Next::Entry);
+    if gone && served_reason(order, setting, board, object, entry, stays) == ALLOWED {
+        return line_chosen(order, setting, board, object, entry, stays, LogLine::Lapse(seat));
+    }
+    let line = LogLine::Resume(seat);
+    let blame = release_blame(order, setting, board, object, event, stays, line)?;
+    Ok(LineVerdict::Misfits(either_blame(blame, gone)))
+}
+
+/// A seat that goes on, where its wait may have run out.
+fn resume_read<T: Guarded>(
+    order: Order,
+    setting: Setting,
+    board: &mut Board,
+    object: &mut T,
+    pending: Pending,
+    seat: u8,
+) -> Result<LineVerdict, AllocError>
+    requires sound { IsBoardOf setting.seats setting.conds T.PREDICATES board.old }
+    requires held { IsHeldOver (monitor_in setting T.meaning) (board_shown board.old (T.state object.old)) pending }
+    ensures judged { IfOk result
+        (λ v. course_or (board_shown board.new (T.state object.new)) v
+        ≡ reads.board_read_over Lapses.Allowed order (monitor_in setting T.meaning)
+        (board_shown board.old (T.state object.old)) pending (LogLine.Resume seat)) }
+    ensures sound { IfOk result
+        (λ v. (left : Pending) → v ≡ LineVerdict.Fits left → IsBoardOf setting.seats setting.conds T.PREDICATES board.new) }
+{
+    match pending {
+        Pending::Settled if can_lapse(order, board, seat) => {
+            line_settled(order, setting, board, object, LogLine::Lapse(seat))
+        }
+        Pending::Settled => line_settled(order, setting, board, object, LogLine::Resume(seat)),
+        Pending::Half(..) => {
+            line_behind(order, setting, board, object, pending, LogLine::Resume(seat))
+        }
+        Pending::Release(event) => resume_told(order, setting, board, object, event, seat),
+    }
+}
+
+/// A line of a log, by what is still to be known of the last event before it. Where lapses are allowed, a `resume` that can't be of
+/// a seat that a release chose is of one whose wait ran out.
+pub(crate) fn line_read<T: Guarded>(
+    lapses: Lapses,
+    order: Order,
+    setting: Setting,
+    board: &mut Board,
+    object: &mut T,
+    pending: Pending,
+    line: LogLine,
+) -> Result<LineVerdict, AllocError>
+    requires sound { IsBoardOf setting.seats setting.conds T.PREDICATES board.old }
+    requires held { IsHeldOver (monitor_in setting T.meaning) (board_shown board.old (T.state object.old)) pending }
+    ensures judged { IfOk result
+        (λ v. course_or (board_shown board.new (T.state object.new)) v
+        ≡ reads.board_read_over lapses order (monitor_in setting T.meaning)
+        (board_shown board.old (T.state object.old)) pending line) }
+    ensures sound { IfOk result
+        (λ v. (left : Pending) → v ≡ LineVerdict.Fits left → IsBoardOf setting.seats setting.conds T.PREDICATES board.new) }
+{
+    match (lapses, line) {
+        (Lapses::Allowed, LogLine::Resume(seat)) => {
+            resume_read(order, setting, board, object, pending, seat)
+        }
+        _ => line_behind(order, setting, board, object, pending, line),
+    }
+}
