@@ -12,3 +12,4 @@ pub mod Read
 pub mod OneReading
 pub mod Exact
 pub mod Over
+pub mod Reading

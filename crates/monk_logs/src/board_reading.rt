@@ -1,6 +1,6 @@
 //! A line of a log over a board, where a `resume` may tell of a wait that ran out.
 
-ghost use Rattle.std.specs.Prelude.{◌≡◌, ◌++◌, ℕ, List, Some, IfOk, OnOk, [], if◌then◌else◌};
+ghost use Rattle.std.specs.Prelude.{◌≡◌, ◌==◌, ◌&&◌, ◌++◌, ℕ, List, Some, IfOk, OnOk, [], if◌then◌else◌};
 ghost use Rattle.monk_history.specs.Meaning.Events.{next_of};
 ghost use Rattle.monk_history.specs.Meaning.Release.{MayCallIn};
 ghost use Rattle.monk_logs.specs.Board.{sight, waiting_item};
@@ -68,6 +68,13 @@ fn is_gone(
     may_lapse_behind(order, &mut board.items, event, seat)
 }
 
+/// Whether a seat goes on as one whose wait ran out: it can have, and the release may have chosen entry.
+fn is_lapse(is_gone: bool, reason: u8) -> bool
+    ensures { result ≡ (is_gone && reason == 0) }
+{
+    is_gone && reason == ALLOWED
+}
+
 /// What is to blame of a seat that can't have gone on, by what is to blame of it as it stands and whether its wait can have run out.
 fn either_blame(blame: Blame, is_gone: bool) -> Blame
     ensures { result ≡ reads.either_blame blame (if is_gone then blames.Choice else blames.Served) }
@@ -129,7 +136,8 @@ fn resume_told<T: Guarded>(
     }
     let gone = is_gone(order, board, event, seat)?;
     let entry = with_next(event, Next::Entry);
-    if gone && served_reason(order, setting, board, object, entry, stays) == ALLOWED {
+    let reason = served_reason(order, setting, board, object, entry, stays);
+    if is_lapse(gone, reason) {
         return line_chosen(order, setting, board, object, entry, stays, LogLine::Lapse(seat));
     }
     let line = LogLine::Resume(seat);
