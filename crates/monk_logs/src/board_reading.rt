@@ -7,7 +7,6 @@ ghost use Rattle.monk_logs.specs.Board.{sight, waiting_item};
 ghost use Rattle.monk_logs.specs.BoardMoves as moves;
 ghost use Rattle.monk_logs.specs.BoardShown.{IsBoardOf, board_shown, course_or};
 ghost use Rattle.monk_logs.specs.BoardStand as stands;
-ghost use Rattle.monk_logs.specs.BoardStand.{IsHeldOver};
 ghost use Rattle.monk_logs.specs.Items as lines;
 ghost use Rattle.monk_logs.specs.ReadStand as reads;
 ghost use Rattle.monk_logs.specs.Stand.{monitor_in};
@@ -19,16 +18,14 @@ ghost use Rattle.monk_logs.specs.declared.pending.Pending.{Pending};
 
 use crate::blame::{Blame, LineVerdict};
 use crate::board::Board;
-use crate::board_lines::{can_lapse, line_behind, line_settled};
+use crate::board_lines::line_settled;
 use crate::board_steps::served_reason;
 use crate::board_telling::{release_blame, standing_choice};
 use crate::item::Item;
 use crate::items::may_lapse;
 use crate::items_moves::join;
-use crate::lapses::Lapses;
 use crate::line::LogLine;
 use crate::order::Order;
-use crate::pending::Pending;
 use crate::setting::Setting;
 use crate::steps::ALLOWED;
 use crate::telling::with_next;
@@ -143,62 +140,4 @@ fn resume_told<T: Guarded>(
     let line = LogLine::Resume(seat);
     let blame = release_blame(order, setting, board, object, event, stays, line)?;
     Ok(LineVerdict::Misfits(either_blame(blame, gone)))
-}
-
-/// A seat that goes on, where its wait may have run out.
-fn resume_read<T: Guarded>(
-    order: Order,
-    setting: Setting,
-    board: &mut Board,
-    object: &mut T,
-    pending: Pending,
-    seat: u8,
-) -> Result<LineVerdict, AllocError>
-    requires sound { IsBoardOf setting.seats setting.conds T.PREDICATES board.old }
-    requires held { IsHeldOver (monitor_in setting T.meaning) (board_shown board.old (T.state object.old)) pending }
-    ensures judged { IfOk result
-        (λ v. course_or (board_shown board.new (T.state object.new)) v
-        ≡ reads.board_read_over Lapses.Allowed order (monitor_in setting T.meaning)
-        (board_shown board.old (T.state object.old)) pending (LogLine.Resume seat)) }
-    ensures sound { IfOk result
-        (λ v. (left : Pending) → v ≡ LineVerdict.Fits left → IsBoardOf setting.seats setting.conds T.PREDICATES board.new) }
-{
-    match pending {
-        Pending::Settled if can_lapse(order, board, seat) => {
-            line_settled(order, setting, board, object, LogLine::Lapse(seat))
-        }
-        Pending::Settled => line_settled(order, setting, board, object, LogLine::Resume(seat)),
-        Pending::Half(..) => {
-            line_behind(order, setting, board, object, pending, LogLine::Resume(seat))
-        }
-        Pending::Release(event) => resume_told(order, setting, board, object, event, seat),
-    }
-}
-
-/// A line of a log, by what is still to be known of the last event before it. Where lapses are allowed, a `resume` that can't be of
-/// a seat that a release chose is of one whose wait ran out.
-pub(crate) fn line_read<T: Guarded>(
-    lapses: Lapses,
-    order: Order,
-    setting: Setting,
-    board: &mut Board,
-    object: &mut T,
-    pending: Pending,
-    line: LogLine,
-) -> Result<LineVerdict, AllocError>
-    requires sound { IsBoardOf setting.seats setting.conds T.PREDICATES board.old }
-    requires held { IsHeldOver (monitor_in setting T.meaning) (board_shown board.old (T.state object.old)) pending }
-    ensures judged { IfOk result
-        (λ v. course_or (board_shown board.new (T.state object.new)) v
-        ≡ reads.board_read_over lapses order (monitor_in setting T.meaning)
-        (board_shown board.old (T.state object.old)) pending line) }
-    ensures sound { IfOk result
-        (λ v. (left : Pending) → v ≡ LineVerdict.Fits left → IsBoardOf setting.seats setting.conds T.PREDICATES board.new) }
-{
-    match (lapses, line) {
-        (Lapses::Allowed, LogLine::Resume(seat)) => {
-            resume_read(order, setting, board, object, pending, seat)
-        }
-        _ => line_behind(order, setting, board, object, pending, line),
-    }
 }
