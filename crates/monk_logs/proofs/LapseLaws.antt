@@ -14,3 +14,4 @@ pub mod Exact
 pub mod Over
 pub mod Verdicts
 pub mod Following
+pub mod Reading

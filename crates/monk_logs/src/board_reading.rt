@@ -1,7 +1,8 @@
 //! A line of a log over a board, where a `resume` may tell of a wait that ran out.
 
-ghost use Rattle.std.specs.Prelude.{◌≡◌, ◌++◌, ℕ, List, Some, IfOk, OnOk, [], if◌then◌else◌};
+ghost use Rattle.std.specs.Prelude.{◌≡◌, ◌==◌, ◌&&◌, ◌++◌, ℕ, List, Some, IfOk, OnOk, [], if◌then◌else◌};
 ghost use Rattle.monk_history.specs.Meaning.Events.{next_of};
+ghost use Rattle.monk_history.specs.Meaning.Reasons.{is_open};
 ghost use Rattle.monk_history.specs.Meaning.Release.{MayCallIn};
 ghost use Rattle.monk_logs.specs.Board.{sight, waiting_item};
 ghost use Rattle.monk_logs.specs.BoardMoves as moves;
@@ -61,6 +62,13 @@ fn is_gone(order: Order, board: &mut Board, event: Event, seat: u8) -> Result<bo
         → IsBoardOf seats conds predicates board.new) }
 {
     may_lapse_behind(order, &mut board.items, event, seat)
+}
+
+/// Whether a seat goes on as one whose wait ran out: it can have, and the release may have chosen entry.
+fn is_lapse(is_gone: bool, reason: u8) -> bool
+    ensures { result ≡ (is_gone && reason == 0) }
+{
+    is_gone && reason == ALLOWED
 }
 
 /// What is to blame of a seat that can't have gone on, by what is to blame of it as it stands and whether its wait can have run out.
@@ -132,7 +140,8 @@ fn resume_told<T: Guarded>(
     }
     let gone = is_gone(order, board, event, seat)?;
     let entry = with_next(event, Next::Entry);
-    if gone && served_reason(order, setting, board, object, entry, stays) == ALLOWED {
+    let reason = served_reason(order, setting, board, object, entry, stays);
+    if is_lapse(gone, reason) {
         return line_chosen(
             order,
             setting,
@@ -146,6 +155,18 @@ fn resume_told<T: Guarded>(
     let line = LogLine::Resume(seat);
     let blame = release_blame(order, setting, board, object, event, stays, line)?;
     Ok(LineVerdict::Misfits(either_blame(blame, gone)))
+}
+
+/// What a seat that goes on tells where each event before is known: that its wait ran out, where it can have.
+fn settled_line(order: Order, board: &Board, seat: u8) -> LogLine
+    ensures { result ≡ (if is_open (board_shown board.now []).turn && lines.may_lapse order seat (board_shown board.now []).items
+        then LogLine.Lapse seat else LogLine.Resume seat) }
+{
+    if can_lapse(order, board, seat) {
+        LogLine::Lapse(seat)
+    } else {
+        LogLine::Resume(seat)
+    }
 }
 
 /// A seat that goes on, where its wait may have run out.
@@ -167,19 +188,13 @@ fn resume_read<T: Guarded>(
         (λ v. (left : Pending) → v ≡ LineVerdict.Fits left → IsBoardOf setting.seats setting.conds T.PREDICATES board.new) }
 {
     match pending {
-        Pending::Settled if can_lapse(order, board, seat) => {
-            line_settled(order, setting, board, object, LogLine::Lapse(seat))
+        Pending::Settled => {
+            let line = settled_line(order, board, seat);
+            line_settled(order, setting, board, object, line)
         }
-        Pending::Settled => line_settled(order, setting, board, object, LogLine::Resume(seat)),
         Pending::Half(..) => {
-            line_behind(
-                order,
-                setting,
-                board,
-                object,
-                pending,
-                LogLine::Resume(seat),
-            )
+            let line = LogLine::Resume(seat);
+            line_behind(order, setting, board, object, pending, line)
         }
         Pending::Release(event) => resume_told(order, setting, board, object, event, seat),
     }
@@ -205,10 +220,11 @@ pub(crate) fn line_read<T: Guarded>(
     ensures sound { IfOk result
         (λ v. (left : Pending) → v ≡ LineVerdict.Fits left → IsBoardOf setting.seats setting.conds T.PREDICATES board.new) }
 {
-    match (lapses, line) {
-        (Lapses::Allowed, LogLine::Resume(seat)) => {
-            resume_read(order, setting, board, object, pending, seat)
-        }
-        _ => line_behind(order, setting, board, object, pending, line),
+    match lapses {
+        Lapses::Told => line_behind(order, setting, board, object, pending, line),
+        Lapses::Allowed => match line {
+            LogLine::Resume(seat) => resume_read(order, setting, board, object, pending, seat),
+            _ => line_behind(order, setting, board, object, pending, line),
+        },
     }
 }

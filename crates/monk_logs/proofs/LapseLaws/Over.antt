@@ -36,6 +36,7 @@ use Rattle.monk_logs.specs.declared.item.Item.{Item}
 use Rattle.monk_logs.specs.declared.line.LogLine.{LogLine}
 use Rattle.monk_logs.specs.declared.line.LogLine.TheVariants.{Enter, Resume, Lapse, Leave, Wait, Signal, Broadcast, Until, Act}
 use Rattle.monk_logs.specs.declared.order.Order.{Order}
+use Rattle.monk_logs.specs.declared.pending.Pending.{Pending}
 use Rattle.monk_logs.specs.declared.pending.Pending.TheVariants.{Settled, Half, Release}
 use Rattle.monk_logs.proofs.LapseLaws.Read.{goes_on, not_due, standing}
 use Rattle.monk_logs.proofs.LapseLaws.Resuming.{items_behind, next_with}
@@ -76,6 +77,19 @@ blame_by a b turn late = first_blame (cond (not a) (Some Range) (cond (not b) (S
 
 abbrev resumed_by_queue : Bool → Bool → Blame
 resumed_by_queue comes next = cond (not comes) Unserved (cond (not next) OrderBlame Choice)
+
+-- a line of nobody who goes on is judged as ever
+pub read_other : (o : Order) (m : Monitor) (b : Board) (p : Pending) (l : LogLine) → ((s : ℕ) → l ≡ Resume s → ⊥)
+    → board_read_over Allowed o m b p l ≡ board_behind_over o m b p l
+read_other o m b p (Enter s) never = read_plain (board_behind_over o m b p (Enter s))
+read_other o m b p (Resume s) never = absurd (never s refl)
+read_other o m b p (Lapse s) never = read_plain (board_behind_over o m b p (Lapse s))
+read_other o m b p (Leave s) never = read_plain (board_behind_over o m b p (Leave s))
+read_other o m b p (Wait s c) never = read_plain (board_behind_over o m b p (Wait s c))
+read_other o m b p (Signal s c) never = read_plain (board_behind_over o m b p (Signal s c))
+read_other o m b p (Broadcast s c) never = read_plain (board_behind_over o m b p (Broadcast s c))
+read_other o m b p (Until s q) never = read_plain (board_behind_over o m b p (Until s q))
+read_other o m b p (Act s op r) never = read_plain (board_behind_over o m b p (Act s op r))
 
 -- the tests of a resume and of a lapse are the same but for the last
 early_same : (a b turn comes next gone : Bool)

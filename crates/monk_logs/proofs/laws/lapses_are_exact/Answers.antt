@@ -1,5 +1,4 @@
 use Rattle.monk_logs.proofs.LapseLaws.Exact.{lapses_exact}
-use Rattle.monk_logs.proofs.LapseLaws.Over.{read_half}
 use Rattle.monk_logs.proofs.laws.lapses_are_exact.Goals as goal
 
 pub returns : goal.returns
