@@ -45,7 +45,7 @@ fn is_inside_open(board: &Board, seat: u8) -> bool
 }
 
 /// Whether a wait of the seat can have run out now.
-fn can_lapse(order: Order, board: &Board, seat: u8) -> bool
+pub(crate) fn can_lapse(order: Order, board: &Board, seat: u8) -> bool
     ensures { result ≡ is_open (board_shown board.now []).turn && lines.may_lapse order seat (board_shown board.now []).items }
 {
     is_open(board.rest.turn()) && may_lapse(order, &board.items, seat)

@@ -20,6 +20,32 @@ use monk_audit::AuditFault;
 use monk_kinds::KindName;
 use std::alloc::Global;
 
+/// The strictest order in which the log fits the kind, as it is found order by order.
+fn found_fit(
+    alloc: Global,
+    header: &LogHeader,
+    lines: &[LogLine],
+    kind: KindName,
+    lapses: Lapses,
+) -> Result<Fit, AuditFault>
+    requires { length lines.now ≤ most_lines }
+    ensures found { IfOk result (λ f. f ≡ fit_of lapses (log_monitor kind header.now) lines.now) }
+    ensures made { OnOk result (header.now.size ≤ most header.now.object) }
+    ensures object { IsErrOf result AuditFault.Object → most header.now.object < header.now.size }
+    ensures too_big { most header.now.object < header.now.size → IsErrOf result AuditFault.Object }
+{
+    if judge_in(alloc, header, lines, kind, Order::Fifo, lapses)? == LogVerdict::Fits {
+        return Ok(Fit::In(Order::Fifo));
+    }
+    if judge_in(alloc, header, lines, kind, Order::Wake, lapses)? == LogVerdict::Fits {
+        return Ok(Fit::In(Order::Wake));
+    }
+    match judge_in(alloc, header, lines, kind, Order::Any, lapses)? {
+        LogVerdict::Fits => Ok(Fit::In(Order::Any)),
+        LogVerdict::Misfit { line, blame } => Ok(Fit::Misfit { line, blame }),
+    }
+}
+
 /// The strictest order in which the log could be of a monitor of the kind; or else the first line with which it could be in no
 /// order.
 ///
@@ -52,14 +78,5 @@ pub fn fit(
     ensures object { IsErrOf result AuditFault.Object → most header.now.object < header.now.size }
     ensures too_big { most header.now.object < header.now.size → IsErrOf result AuditFault.Object }
 {
-    if judge_in(alloc, header, lines, kind, Order::Fifo, lapses)? == LogVerdict::Fits {
-        return Ok(Fit::In(Order::Fifo));
-    }
-    if judge_in(alloc, header, lines, kind, Order::Wake, lapses)? == LogVerdict::Fits {
-        return Ok(Fit::In(Order::Wake));
-    }
-    match judge_in(alloc, header, lines, kind, Order::Any, lapses)? {
-        LogVerdict::Fits => Ok(Fit::In(Order::Any)),
-        LogVerdict::Misfit { line, blame } => Ok(Fit::Misfit { line, blame }),
-    }
+    found_fit(alloc, header, lines, kind, lapses)
 }

@@ -3,6 +3,7 @@ use Rattle.std.proofs.Common.{◌≡◌, ℕ, true, List, Some, sym, subst}
 use Rattle.std.specs.Prelude.{◌↔◌}
 use Rattle.monk_kinds.specs.declared.name.KindName.{KindName}
 use Rattle.monk_history.specs.Meaning.Monitor.{Monitor}
+use Rattle.monk_history.specs.Meaning.Step.{opening_situation}
 use Rattle.monk_logs.specs.Exactly.{IsFirstWithout}
 use Rattle.monk_logs.specs.Fit.{IsStrictest, fit_of, is_in, misfit_line}
 use Rattle.monk_logs.specs.FitsIn.{IsOpenIn}
@@ -19,7 +20,7 @@ use Rattle.monk_logs.specs.declared.order.Order.{Order}
 use Rattle.monk_logs.specs.declared.order.Order.TheVariants.{Fifo, Wake, Any}
 use Rattle.monk_logs.proofs.FitLaws.Strictest.{fits_open, misfit_exactly, open_fits, strictest_exactly}
 use Rattle.monk_logs.proofs.LapseLaws.Verdicts.{read_fits_exactly, read_misfits_exactly}
-use Rattle.monk_logs.proofs.OrderLaws.Wider.{any_open, wake_open}
+use Rattle.monk_logs.proofs.OrderLaws.Wider.{fifo_is_wake, wake_is_any}
 use Rattle.monk_logs.proofs.VerdictLaws.Opening.{each_is_kind}
 
 pub kind_reads : (x : Lapses) (o : Order) (k : KindName) (h : LogHeading) (log : List LogLine)
@@ -31,6 +32,14 @@ pub kind_misreads : (x : Lapses) (o : Order) (k : KindName) (h : LogHeading) (lo
 kind_misreads x o k h log = read_misfits_exactly x o (log_monitor k h) (each_is_kind k) log
 
 -- ---- what is open in an order is open where a signal may serve any seat
+
+wake_open : (m : Monitor) (log : List LogLine) → IsOpenIn Fifo m log → IsOpenIn Wake m log
+wake_open m log x =
+    record { steps = x.steps; run = fifo_is_wake m x.steps (opening_situation m) x.run; more = x.more; tells = x.tells }
+
+any_open : (m : Monitor) (log : List LogLine) → IsOpenIn Wake m log → IsOpenIn Any m log
+any_open m log x =
+    record { steps = x.steps; run = wake_is_any m x.steps (opening_situation m) x.run; more = x.more; tells = x.tells }
 
 wider_in : (o : Order) (m : Monitor) (log : List LogLine) → IsOpenIn o m log → IsOpenIn Any m log
 wider_in Fifo m log opens = any_open m log (wake_open m log opens)

@@ -20,3 +20,13 @@ returns-in-Settled-clause-judged g c =
     ∙ sym (read_settled c.args.order m b c.args.seat)
     ∙ ap (λ (p : Pending). board_read_over Allowed c.args.order m b p (Resume c.args.seat)) (sym c.in-Settled.is))
     c.line_settled.ensures.judged
+
+pub returns-in-Half-clause-judged : goal.returns-in-Half-clause-judged
+returns-in-Half-clause-judged g c =
+    let m = monitor_in c.args.setting g.T.Guarded.meaning in
+    let b = board_shown c.args.board.now (g.T.Guarded.state c.args.object.now) in
+    ok_same c.line_behind.result _ _ _
+    (ap (λ (p : Pending). board_behind_over c.args.order m b p (Resume c.args.seat)) c.in-Half.is
+    ∙ sym (read_half c.args.order m b c.in-Half.field-0 c.in-Half.field-1 c.args.seat)
+    ∙ ap (λ (p : Pending). board_read_over Allowed c.args.order m b p (Resume c.args.seat)) (sym c.in-Half.is))
+    c.line_behind.ensures.judged
