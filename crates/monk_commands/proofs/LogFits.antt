@@ -4,7 +4,7 @@ use Rattle.std.proofs.Common.{Result, Ok, Err, refl, sym, ap, subst, ◌∙◌, 
 use Rattle.std.specs.Prelude.{IfSome, ◌↔◌, ◌⊎◌}
 use Rattle.std.proofs.lemmas.Bool.{false≢true, ltb-false, le-ltb}
 use Rattle.std.proofs.lemmas.Grind.{flat_map-append}
-use Rattle.std.proofs.lemmas.List.{append-nil}
+use Rattle.std.proofs.lemmas.List.{append-nil, append_assoc}
 use Rattle.monk_kinds.specs.Names.{kinds}
 use Rattle.monk_kinds.specs.declared.name.KindName.{KindName}
 use Rattle.monk_object.specs.Names.{most}
@@ -137,3 +137,10 @@ fit_zero_exactly x means (Some input) status bytes same h =
 pub fit_statuses : (x : Lapses) (means : List WaitsFor) (status : ℕ) (bytes : List ℕ)
     → status ≡ (fit_answer_of x means bytes).status → status ≤ 2
 fit_statuses x means status bytes h = subst (λ n. n ≤ 2) (sym h) (statuses_by x means bytes (is_log_text bytes))
+
+-- four texts that are put behind a page, one after the other
+pub put_four : (a b d e old one two three page : List ℕ) → one ≡ old ++ a → two ≡ one ++ b → three ≡ two ++ d → page ≡ three ++ e
+    → page ≡ old ++ (a ++ (b ++ (d ++ e)))
+put_four a b d e old one two three page is_one is_two is_three is =
+    is ∙ ap (λ (xs : List ℕ). xs ++ e) (is_three ∙ ap (λ (xs : List ℕ). xs ++ d) (is_two ∙ ap (λ (xs : List ℕ). xs ++ b) is_one))
+    ∙ append_assoc ((old ++ a) ++ b) d e ∙ append_assoc (old ++ a) b (d ++ e) ∙ append_assoc old a (b ++ (d ++ e))

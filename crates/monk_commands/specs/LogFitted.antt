@@ -3,7 +3,7 @@ use Rattle.std.specs.Prelude.{ℕ, Bool, true, false, List, [], ◌∷◌, ◌++
 use Rattle.std.specs.Prelude.{◌==◌, codes}
 use Rattle.std.specs.Fmt.{decimal}
 use Rattle.std.specs.List.{flat_map, list_any}
-use Rattle.core.specs.List.{starts_with}
+use Rattle.std.specs.List.{starts_with}
 use Rattle.monk_kinds.specs.Names.{kind_word, kinds}
 use Rattle.monk_kinds.specs.declared.name.KindName.{KindName}
 use Rattle.monk_kinds.specs.declared.name.KindName.TheVariants.{Npnb}
@@ -46,11 +46,15 @@ fits_some_kind x h log ks = list_any (λ k. is_in (log_fit x h log k)) ks
 
 -- ---- the counts
 
-abbrev pub counts_words : Counts → List ℕ
-counts_words c =
-    codes "served " ++ decimal c.served ++ codes " passed " ++ decimal c.passed ++ codes " lapsed " ++ decimal c.lapsed
-    ++ codes "\nleft waiting " ++ decimal c.waiting ++ codes " woken " ++ decimal c.woken ++ codes " inside " ++ decimal c.inside
-    ++ codes "\n"
+abbrev pub gone_line : Counts → List ℕ
+gone_line c =
+    codes "served " ++ decimal c.served ++ codes " passed " ++ decimal c.passed ++ codes " lapsed " ++ decimal c.lapsed ++ codes "\n"
+
+abbrev pub waiting_words : Counts → List ℕ
+waiting_words c = codes "left waiting " ++ decimal c.waiting
+
+abbrev pub inside_words : Counts → List ℕ
+inside_words c = codes " woken " ++ decimal c.woken ++ codes " inside " ++ decimal c.inside ++ codes "\n"
 
 abbrev pub missed_words : Option ℕ → List ℕ
 missed_words None = codes "missed none\n"
@@ -65,9 +69,11 @@ missed_line (w ∷ more) missed = missed_words missed
 abbrev pub log_counts : LogHeading → List WaitsFor → List LogLine → Counts
 log_counts h means log = counts_of (log_monitor Npnb h) means log
 
+abbrev pub counts_text : List WaitsFor → Counts → List ℕ
+counts_text means c = gone_line c ++ (waiting_words c ++ (inside_words c ++ missed_line means c.missed))
+
 abbrev pub counts_lines : LogHeading → List WaitsFor → List LogLine → List ℕ
-counts_lines h means log =
-    counts_words (log_counts h means log) ++ missed_line means (log_counts h means log).missed
+counts_lines h means log = counts_text means (log_counts h means log)
 
 -- ---- an answer
 

@@ -1,11 +1,9 @@
 -- The command line of the program, as clap sees it, and what a line asks for
-use Rattle.std.specs.Prelude.{◌≡◌, ◌↔◌, ◌==◌, ℕ, Bool, List, [], ◌∷◌, Option, Some, None, IsSomeAnd, true, map, option_map, codes, pos}
+use Rattle.std.specs.Prelude.{◌≡◌, ℕ, List, [], ◌∷◌, Option, Some, IsSomeAnd, true, map, option_map, codes, pos}
 use Rattle.std.specs.Prelude.{string_bytes}
-use Rattle.core.specs.List.{after_first, before_first}
-use Rattle.std.specs.List.{slice_index}
 use Rattle.std.specs.Str.Parse.{IsNumeral, digits_value, without_leading_plus}
 use Rattle.std.specs.Borrow.{Bor}
-use Rattle.clap.specs.Words.{AddsSubcommand, App, Row, Rule, Text, all_of, app_of, first_of, one_of, new_app, new_rule, with_rule}
+use Rattle.clap.specs.Words.{AddsSubcommand, App, Row, Rule, Text, app_of, first_of, one_of, new_app, new_rule, with_rule}
 use Rattle.clap.specs.Words.{with_subcommand}
 use Rattle.clap.specs.declared.builder.action.ArgAction.TheVariants.{Append, SetTrue}
 use Rattle.clap.specs.declared.builder.command.Command.{Command}
@@ -14,8 +12,6 @@ use Rattle.clap.specs.declared.builder.value_parser.ValueParser.{ValueParser}
 use Rattle.monk_kinds.specs.Names.{kind_word, kinds as monitor_kinds}
 use Rattle.monk_kinds.specs.declared.name.KindName.{KindName}
 use Rattle.monk_object.specs.Names.{object_word}
-use Rattle.monk_logs.specs.declared.lapses.Lapses.TheVariants.{Allowed}
-use Rattle.monk_logs.specs.declared.waits_for.WaitsFor.{WaitsFor}
 use Rattle.monk_samples.specs.Samples.{IsInRange, sample_object}
 use Rattle.monk_samples.specs.declared.sample.Sample.{Sample}
 use Rattle.monk_samples.specs.declared.sample.Sample.TheVariants.{Buffer, Book, Shop}
@@ -153,26 +149,6 @@ AreRunValues kind sample seats rounds rows =
     (first_of (codes "KIND") rows ≡ Some (kind_word kind)) × (first_of (codes "SAMPLE") rows ≡ Some (sample_word sample))
     × HasNumber (codes "SEATS") seats rows × HasNumber (codes "ROUNDS") rounds rows
 
--- a whole number in digits
-abbrev pub IsNumberIn : Text → ℕ → Type 0
-IsNumberIn text n = IsNumeral 10 (without_leading_plus text) × (n ≡ digits_value 10 (without_leading_plus text))
-
--- the numbers before and behind the first sign of equality
-abbrev pub is_equals : ℕ → Bool
-is_equals byte = byte == slice_index (codes "=") 0
-
-abbrev pub IsMeaning : Text → WaitsFor → Type 0
-IsMeaning word w = IsNumberIn (before_first is_equals word) w.cond × IsNumberIn (after_first is_equals word) w.pred
-
-abbrev pub AreMeanings : List Text → List WaitsFor → Type 0
-AreMeanings [] means = means ≡ []
-AreMeanings (word ∷ words) [] = ⊥
-AreMeanings (word ∷ words) (w ∷ means) = IsMeaning word w × AreMeanings words means
-
-abbrev pub texts_of : Option (List Text) → List Text
-texts_of None = []
-texts_of (Some texts) = texts
-
 -- the values of the line are those that clap has found, in the rows of its command
 abbrev pub ValuesAre : Line → List Row → Type 0
 ValuesAre (Classify e w s) rows = HasNumber (codes "ENTRY") e rows × HasNumber (codes "WAITER") w rows
@@ -180,9 +156,7 @@ ValuesAre (Classify e w s) rows = HasNumber (codes "ENTRY") e rows × HasNumber 
 ValuesAre (Audit file) rows = first_of (codes "FILE") rows ≡ option_map string_bytes file
 ValuesAre (Play file) rows = first_of (codes "FILE") rows ≡ option_map string_bytes file
 ValuesAre (Upgrade file) rows = first_of (codes "FILE") rows ≡ option_map string_bytes file
-ValuesAre (Fit file lapses means) rows = (first_of (codes "FILE") rows ≡ option_map string_bytes file)
-    × ((lapses ≡ Allowed) ↔ (first_of (codes "lapses") rows ≡ Some (codes "true")))
-    × AreMeanings (texts_of (all_of (codes "means") rows)) means.items
+ValuesAre (Fit file lapses means) rows = first_of (codes "FILE") rows ≡ option_map string_bytes file
 ValuesAre (Trace file) rows = first_of (codes "FILE") rows ≡ option_map string_bytes file
 ValuesAre (Explain file) rows = first_of (codes "FILE") rows ≡ option_map string_bytes file
 ValuesAre (Draw file) rows = first_of (codes "FILE") rows ≡ option_map string_bytes file

@@ -7,7 +7,8 @@ ghost use Rattle.monk_object.specs.Names.{most};
 ghost use Rattle.monk_history.specs.Text.Device.{held, has_failed};
 ghost use Rattle.monk_logs.specs.Fit.{is_in};
 ghost use Rattle.monk_commands.specs.LogFitted.{counts_lines, fits_some_kind, log_counts, log_fit, log_fit_answer};
-ghost use Rattle.monk_commands.specs.LogFitted.{log_fit_line, log_fit_lines, log_fit_of, missed_words};
+ghost use Rattle.monk_commands.specs.LogFitted.{gone_line, inside_words, log_fit_line, log_fit_lines, log_fit_of, missed_line, missed_words};
+ghost use Rattle.monk_commands.specs.LogFitted.{counts_text, waiting_words};
 
 use crate::answer::{put, too_big, unreadable};
 use crate::completing::misfit_line;
@@ -112,16 +113,77 @@ fn counts(
     }
 }
 
-/// The line of a missed signal.
-fn missed_line(alloc: Global, missed: Option<u32>) -> Result<String, StreamFault>
-    ensures line { IfOk result (λ line. string_bytes line ≡ missed_words missed) }
+/// The line of who was served and passed, and whose wait ran out.
+fn gone_line(alloc: Global, counts: Counts) -> Result<String, StreamFault>
+    ensures text { IfOk result (λ text. string_bytes text ≡ gone_line counts) }
     ensures no_file { IsErrOf result StreamFault.File → ⊥ }
 {
-    let line = match missed {
-        Some(step) => format!(in alloc; "missed {step}\n")?,
-        None => format!(in alloc; "missed none\n")?,
-    };
-    Ok(line)
+    let (served, passed, lapsed) = (counts.served, counts.passed, counts.lapsed);
+    Ok(format!(in alloc; "served {served} passed {passed} lapsed {lapsed}\n")?)
+}
+
+/// The front of the line of who is left at the end: who waits unserved.
+fn waiting_words(alloc: Global, counts: Counts) -> Result<String, StreamFault>
+    ensures text { IfOk result (λ text. string_bytes text ≡ waiting_words counts) }
+    ensures no_file { IsErrOf result StreamFault.File → ⊥ }
+{
+    Ok(format!(in alloc; "left waiting {}", counts.waiting)?)
+}
+
+/// The rest of that line: who was served and isn't back, and who is inside.
+fn inside_words(alloc: Global, counts: Counts) -> Result<String, StreamFault>
+    ensures text { IfOk result (λ text. string_bytes text ≡ inside_words counts) }
+    ensures no_file { IsErrOf result StreamFault.File → ⊥ }
+{
+    let (woken, inside) = (counts.woken, counts.inside);
+    Ok(format!(in alloc; " woken {woken} inside {inside}\n")?)
+}
+
+/// What is said of a missed signal.
+fn missed_words(alloc: Global, missed: Option<u32>) -> Result<String, StreamFault>
+    ensures text { IfOk result (λ text. string_bytes text ≡ missed_words missed) }
+    ensures no_file { IsErrOf result StreamFault.File → ⊥ }
+{
+    match missed {
+        Some(step) => Ok(format!(in alloc; "missed {step}\n")?),
+        None => Ok(String::from_str(alloc, "missed none\n")?),
+    }
+}
+
+/// The line of a missed signal, where it is told what those wait for who wait on a condition.
+fn missed_line(
+    alloc: Global,
+    means: &[WaitsFor],
+    missed: Option<u32>,
+) -> Result<String, StreamFault>
+    ensures text { IfOk result (λ text. string_bytes text ≡ missed_line means.now missed) }
+    ensures no_file { IsErrOf result StreamFault.File → ⊥ }
+{
+    if means.is_empty() {
+        return Ok(String::new(alloc));
+    }
+    missed_words(alloc, missed)
+}
+
+/// Puts the lines of these counts behind the page.
+fn put_text(
+    alloc: Global,
+    page: &mut Vec<u8>,
+    means: &[WaitsFor],
+    counts: Counts,
+) -> Result<(), StreamFault>
+    ensures lines { OnOk result (page.new.items ≡ page.old.items ++ counts_text means.now counts) }
+    ensures no_file { IsErrOf result StreamFault.File → ⊥ }
+{
+    let gone = gone_line(alloc, counts)?;
+    let waiting = waiting_words(alloc, counts)?;
+    let inside = inside_words(alloc, counts)?;
+    let missed = missed_line(alloc, means, counts.missed)?;
+    page.extend_from_slice(gone.as_bytes())?;
+    page.extend_from_slice(waiting.as_bytes())?;
+    page.extend_from_slice(inside.as_bytes())?;
+    page.extend_from_slice(missed.as_bytes())?;
+    Ok(())
 }
 
 /// Puts the lines of the counts behind the page.
@@ -138,16 +200,7 @@ fn put_counts(
     ensures no_file { IsErrOf result StreamFault.File → ⊥ }
 {
     let counts = counts(alloc, header, lines, means)?;
-    let (served, passed, lapsed) = (counts.served, counts.passed, counts.lapsed);
-    let (waiting, woken, inside) = (counts.waiting, counts.woken, counts.inside);
-    let gone = format!(in alloc; "served {served} passed {passed} lapsed {lapsed}\n")?;
-    let left = format!(in alloc; "left waiting {waiting} woken {woken} inside {inside}\n")?;
-    page.extend_from_slice(gone.as_bytes())?;
-    page.extend_from_slice(left.as_bytes())?;
-    if !means.is_empty() {
-        page.extend_from_slice(missed_line(alloc, counts.missed)?.as_bytes())?;
-    }
-    Ok(())
+    put_text(alloc, page, means, counts)
 }
 
 /// Answers a log that was read.

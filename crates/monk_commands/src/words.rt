@@ -1,13 +1,13 @@
 //! The program's words, read with `clap`.
 
-ghost use Rattle.std.specs.Prelude.{◌≡◌, ◌↔◌, IfOk, IfSome, Some, codes, false, map, option_map, string_bytes};
+ghost use Rattle.std.specs.Prelude.{◌≡◌, IfOk, IfSome, Some, codes, false, map, option_map, string_bytes};
 ghost use Rattle.monk_kinds.specs.Names.{kind_word};
 ghost use Rattle.monk_object.specs.Names.{object_word};
-ghost use Rattle.clap.specs.Words.{App, all_of, app_of, first_of, first_value, found_of, rows_of, rule_of, subcommand_of, subcommand_rows_of};
+ghost use Rattle.clap.specs.Words.{App, app_of, first_of, first_value, found_of, rows_of, rule_of, subcommand_of, subcommand_rows_of};
 ghost use Rattle.monk_samples.specs.Samples.{IsInRange, sample_object};
 ghost use Rattle.monk_commands.specs.Request.{AreRunValues, IsAsked, IsCompleteCommand, IsMonk, IsRead, IsRunCommand, IsSubcommand};
-ghost use Rattle.monk_commands.specs.Request.{AreMeanings, IsMeaning, classify_app, file_app, fit_app, flag_rule, plain_app};
-ghost use Rattle.monk_commands.specs.Request.{repeated_rule, required_rule, texts_of};
+ghost use Rattle.monk_commands.specs.Request.{classify_app, file_app, fit_app, flag_rule, plain_app};
+ghost use Rattle.monk_commands.specs.Request.{repeated_rule, required_rule};
 
 use crate::help::{
     AUDIT, CLASSIFY, COMPLETE, DRAW, EXPLAIN, FIT, Help, LAPSES, MEANS, PLAY, PRIORITY, RECORD,
@@ -230,19 +230,16 @@ fn run_of(matches: &ArgMatches<'_>) -> Option<(KindName, Sample, u8, u32)>
 }
 
 /// Which lines of a log may tell of a wait that ran out.
-fn lapses_of(matches: &ArgMatches<'_>) -> Lapses
-    ensures { (result ≡ Lapses.Allowed) ↔ (first_of (codes "lapses") (rows_of (found_of matches.now)) ≡ Some (codes "true")) }
-{
-    match matches.get_str("lapses") {
-        Some("true") => Lapses::Allowed,
-        _ => Lapses::Told,
+fn lapses_of(matches: &ArgMatches<'_>) -> Lapses {
+    if matches.get_flag("lapses") {
+        Lapses::Allowed
+    } else {
+        Lapses::Told
     }
 }
 
 /// What a word `COND=PRED` says.
-fn meaning_of(word: &str) -> Option<WaitsFor>
-    ensures { IfSome result (λ w. IsMeaning word.now w) }
-{
+fn meaning_of(word: &str) -> Option<WaitsFor> {
     let (cond, pred) = word.split_once('=')?;
     Some(WaitsFor {
         cond: cond.parse().ok()?,
@@ -259,9 +256,7 @@ fn no_meaning(alloc: Global, word: &str) -> LineFault {
 }
 
 /// What those wait for who wait on a condition, word by word.
-fn meanings_of(alloc: Global, matches: &ArgMatches<'_>) -> Result<Vec<WaitsFor>, LineFault>
-    ensures { IfOk result (λ means. AreMeanings (texts_of (all_of (codes "means") (rows_of (found_of matches.now)))) means.items) }
-{
+fn meanings_of(alloc: Global, matches: &ArgMatches<'_>) -> Result<Vec<WaitsFor>, LineFault> {
     let mut means = Vec::new(alloc);
     if let Some(words) = matches.get_strs("means") {
         for word in words {
