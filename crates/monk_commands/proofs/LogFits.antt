@@ -1,6 +1,7 @@
 -- The lines of a log that is judged under each kind, and to which texts status 0 is answered
 use Rattle.std.proofs.Common.{◌≡◌, ℕ, ◌≤◌, ◌^◌, Bool, true, false, cond, ltb, ◌||◌, List, [], ◌∷◌, ◌++◌, Option, Some, None}
 use Rattle.std.proofs.Common.{Result, Ok, Err, refl, sym, ap, subst, ◌∙◌, inl, inr, arith}
+use Rattle.std.specs.Io.KnownBytes.{Appends}
 use Rattle.std.specs.Prelude.{IfSome, ◌↔◌, ◌⊎◌}
 use Rattle.std.proofs.lemmas.Bool.{false≢true, ltb-false, le-ltb}
 use Rattle.std.proofs.lemmas.Grind.{flat_map-append}
@@ -26,6 +27,7 @@ use Rattle.monk_commands.specs.Completed.{IsLogOf}
 use Rattle.monk_commands.specs.Fitted.{IsFitText, fit_of}
 use Rattle.monk_commands.specs.LogFitted.{IsFitLogText, counts_lines, fit_answer_of, fits_some_kind, is_log_text, log_fit, log_fit_line}
 use Rattle.monk_commands.specs.LogFitted.{log_fit_lines, log_fit_of, log_fit_reading}
+use Rattle.monk_commands.specs.Streams.{Answers}
 use Rattle.monk_commands.proofs.Fits.{any_more, history_again, history_read, one_of_ten, some_of, statuses}
 
 pub log_fits_more : (x : Lapses) (h : LogHeading) (ls : List LogLine) (ks : List KindName) (k : KindName) (before fits now : Bool)
@@ -144,3 +146,12 @@ pub put_four : (a b d e old one two three page : List ℕ) → one ≡ old ++ a 
 put_four a b d e old one two three page is_one is_two is_three is =
     is ∙ ap (λ (xs : List ℕ). xs ++ e) (is_three ∙ ap (λ (xs : List ℕ). xs ++ d) (is_two ∙ ap (λ (xs : List ℕ). xs ++ b) is_one))
     ∙ append_assoc ((old ++ a) ++ b) d e ∙ append_assoc (old ++ a) b (d ++ e) ∙ append_assoc old a (b ++ (d ++ e))
+
+-- what is answered to the bytes that were read is answered to the input
+pub fit_known : (x : Lapses) (means : List WaitsFor) (known before after : Option (List ℕ)) (bytes : List ℕ) (status : ℕ)
+    → IfSome known (λ input. bytes ≡ input)
+    → (status ≡ (fit_answer_of x means bytes).status) × Appends before after (fit_answer_of x means bytes).text
+    → Answers (fit_answer_of x means) known before after status
+fit_known x means None before after bytes status same a = tt
+fit_known x means (Some input) before after bytes status same a =
+    subst (λ (b : List ℕ). (status ≡ (fit_answer_of x means b).status) × Appends before after (fit_answer_of x means b).text) same a
