@@ -7,7 +7,8 @@ ghost use Rattle.monk_object.specs.Names.{most};
 ghost use Rattle.monk_history.specs.Text.Device.{held, has_failed};
 ghost use Rattle.monk_logs.specs.Fit.{is_in};
 ghost use Rattle.monk_commands.specs.LogFitted.{counts_lines, fits_some_kind, log_counts, log_fit, log_fit_answer};
-ghost use Rattle.monk_commands.specs.LogFitted.{gone_line, inside_words, log_fit_line, log_fit_lines, log_fit_of, missed_line, missed_words};
+ghost use Rattle.monk_commands.specs.LogFitted.{gone_line, inside_words, log_fit_line, log_fit_lines, log_fit_of, missed_line};
+ghost use Rattle.monk_commands.specs.LogFitted.{missed_words};
 ghost use Rattle.monk_commands.specs.LogFitted.{counts_text, waiting_words};
 
 use crate::answer::{put, too_big, unreadable};

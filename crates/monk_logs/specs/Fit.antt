@@ -1,5 +1,5 @@
 -- The strictest order in which a log could be of a monitor
-use Rattle.std.specs.Prelude.{◌≡◌, ℕ, IsTrue, Bool, true, false, List, Option, Some, None, codes}
+use Rattle.std.specs.Prelude.{ℕ, IsTrue, Bool, true, false, List, Option, Some, None, codes}
 use Rattle.monk_history.specs.Meaning.Monitor.{Monitor}
 use Rattle.monk_logs.specs.ReadStand.{read_verdict}
 use Rattle.monk_logs.specs.declared.kind_fit.Fit.{Fit}

@@ -5,10 +5,9 @@ ghost use Rattle.monk_object.specs.Names.{most};
 ghost use Rattle.monk_history.specs.Limits.{most_lines};
 ghost use Rattle.monk_history.specs.Meaning.Monitor.{monitor};
 ghost use Rattle.monk_logs.specs.BoardCourse.{board_course};
-ghost use Rattle.monk_logs.specs.BoardShown.{IsBoardOf, board_shown};
+ghost use Rattle.monk_logs.specs.BoardShown.{board_shown};
 ghost use Rattle.monk_logs.specs.Counts as tallies;
 ghost use Rattle.monk_logs.specs.Counts.{counts_of};
-ghost use Rattle.monk_logs.specs.Stand.{monitor_in};
 ghost use Rattle.monk_logs.specs.Verdict.{log_monitor};
 
 use crate::blame::LineVerdict;
@@ -111,7 +110,8 @@ fn count_lines<T: Guarded>(
 }
 
 /// Counts what happens in the log, read as one of a monitor of the kind over the object that its first line names, in any order
-/// ([`Order::Any`]) and with lapses allowed ([`Lapses::Allowed`]), up to its first misfit there. `means` tells what those wait for who wait on a condition.
+/// ([`Order::Any`]) and with lapses allowed ([`Lapses::Allowed`]), up to its first misfit there. `means` tells what
+/// those wait for who wait on a condition.
 ///
 /// # Errors
 ///

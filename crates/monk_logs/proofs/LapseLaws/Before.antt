@@ -1,5 +1,5 @@
 -- How many services stand before each seat of a line, and how that changes with the line
-use Rattle.std.proofs.Common.{◌≡◌, ℕ, ◌+◌, ◌-◌, ◌<◌, ◌≤◌, suc, zero, true, false, cond, eqb, List, [], ◌∷◌, ◌++◌, refl, sym, ap, ◌∙◌}
+use Rattle.std.proofs.Common.{◌≡◌, ℕ, ◌+◌, ◌-◌, ◌<◌, ◌≤◌, suc, zero, true, false, cond, eqb, List, [], ◌∷◌, ◌++◌, refl, sym, ap}
 use Rattle.std.proofs.Common.{⊎_elim, arith, length, subst, Option, Some, None}
 use Rattle.std.proofs.lemmas.Bool.{cases_eq, false≢true, ne_eqb, eq-eqb}
 use Rattle.monk_logs.specs.Items.{seats_in, services_in, keeps_up, has_service, has_service_behind}
@@ -7,7 +7,7 @@ use Rattle.monk_logs.specs.Order.{is_among}
 use Rattle.monk_logs.proofs.OrderLaws.Lists.{Distinct, among_others}
 use Rattle.monk_logs.proofs.OrderLaws.Covers.{lapsed_in, one_less, taken_in}
 use Rattle.monk_logs.proofs.OrderLaws.Coming.{unlapsed}
-use Rattle.monk_logs.proofs.OrderLaws.Lines.{gifts, seats_gifts, seats_in-append, services_gifts, services_in-append}
+use Rattle.monk_logs.proofs.OrderLaws.Lines.{gifts}
 
 -- the services before the seat behind n others, or all where there is none
 abbrev pub before : ℕ → List (Option ℕ) → ℕ

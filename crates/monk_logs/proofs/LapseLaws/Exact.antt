@@ -1,7 +1,7 @@
 -- A log is judged to its end, with resumes told as lapses where they must be, exactly where one of its readings is open
-use Rattle.std.proofs.Common.{◌≡◌, ◌↔◌, ℕ, ◌<◌, ◌≤◌, Bool, true, false, cond, ◌==◌, List, [], ◌∷◌, Option, Some, None, refl, sym, ap, ◌∙◌}
+use Rattle.std.proofs.Common.{◌≡◌, ◌↔◌, ℕ, ◌≤◌, Bool, true, false, cond, ◌==◌, List, [], ◌∷◌, Option, Some, None, refl, sym, ap, ◌∙◌}
 use Rattle.std.proofs.Common.{◌⊎◌, inl, inr, ⊎_elim, subst, arith}
-use Rattle.std.specs.Prelude.{is_some, nat_le}
+use Rattle.std.specs.Prelude.{is_some}
 use Rattle.std.proofs.lemmas.Bool.{cases_Bool, eq-eqb, eqb-true, false≢true, le-leb, leb-true}
 use Rattle.monk_kinds.specs.Kind.{FitsMode, IsKind}
 use Rattle.monk_kinds.specs.declared.mode.Mode.{Mode}
@@ -13,8 +13,8 @@ use Rattle.monk_history.specs.declared.event.Next.TheVariants.{Stay}
 use Rattle.monk_history.specs.Meaning.Events.{next_of, returns_at_once}
 use Rattle.monk_history.specs.Meaning.Monitor.{Monitor}
 use Rattle.monk_history.specs.Meaning.Reasons.{reason_before}
-use Rattle.monk_logs.specs.Board.{Board, board_after, board_lapse, opening_board, sight}
-use Rattle.monk_logs.specs.BoardCourse.{BoardCourse, board_behind, board_course, board_half, board_held, board_hold, board_judge, board_known}
+use Rattle.monk_logs.specs.Board.{Board, board_after, opening_board, sight}
+use Rattle.monk_logs.specs.BoardCourse.{BoardCourse, board_behind, board_course, board_half, board_held, board_hold, board_known}
 use Rattle.monk_logs.specs.BoardCourse.{board_judge_from, board_line, board_settled, board_told, board_via}
 use Rattle.monk_logs.specs.BoardRead.{board_read, first_course, judge_read, read_from}
 use Rattle.monk_logs.specs.Course.{due_from}
@@ -31,7 +31,6 @@ use Rattle.monk_logs.specs.declared.step.Step.TheVariants.{Did, Lapsed}
 use Rattle.monk_logs.proofs.BoardLaws.Exact.{judged_open, open_judged}
 use Rattle.monk_logs.proofs.CourseLaws.Soundness.{cond_some}
 use Rattle.monk_logs.proofs.CourseLaws.Tests.{passed}
-use Rattle.monk_logs.proofs.LapseLaws.Fewer.{Fewer}
 use Rattle.monk_logs.proofs.LapseLaws.Lines.{Below, Follows, known_did, known_lapsed, then_did}
 use Rattle.monk_logs.proofs.LapseLaws.Moves.{IsLevel, with_items}
 use Rattle.monk_logs.proofs.LapseLaws.OneReading.{IsFirstServed, read_once}
@@ -250,7 +249,8 @@ read_as : (o : Order) (m : Monitor) (log : List LogLine) (x : BoardCourse) → i
 unfolding board_judge_from read_from
 read_as o m [] x k = record { reading = []; reads = refl; judged = refl }
 read_as o m (l ∷ log) x k =
-    let r = read_line o m x.board x.pending l (board_behind o m x.board x.pending l) (board_behind o m x.board x.pending (as_lapse l)) refl refl in
+    let r = read_line o m x.board x.pending l (board_behind o m x.board x.pending l)
+    (board_behind o m x.board x.pending (as_lapse l)) refl refl in
     read_more o m log (read_as o m log) x l r.0 r.1 (board_read Allowed o m x.board x.pending l) r.2 k
 
 -- ---- a log
@@ -289,7 +289,8 @@ read_open o m log k =
     record { reading = r.reading; reads = r.reads; is_open = judged_open o m r.reading r.judged }
 
 -- where a lapse is told it is judged as ever
-pub read_told : (o : Order) (m : Monitor) (c : Option BoardCourse) (log : List LogLine) → read_from Told o m c log ≡ board_judge_from o m c log
+pub read_told : (o : Order) (m : Monitor) (c : Option BoardCourse) (log : List LogLine)
+    → read_from Told o m c log ≡ board_judge_from o m c log
 unfolding board_judge_from read_from
 read_told o m None log = refl
 read_told o m (Some x) [] = refl

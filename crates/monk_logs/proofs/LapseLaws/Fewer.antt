@@ -1,8 +1,8 @@
 -- Items with the same seats as others, and with fewer services
-use Rattle.std.proofs.Common.{◌≡◌, ℕ, ◌+◌, ◌-◌, ◌≤◌, suc, zero, Bool, true, false, not, eqb, List, [], ◌∷◌, ◌++◌, refl, sym, ap, ◌∙◌}
+use Rattle.std.proofs.Common.{◌≡◌, ℕ, ◌+◌, ◌-◌, ◌≤◌, true, false, List, [], ◌∷◌, ◌++◌, refl, sym, ap, ◌∙◌}
 use Rattle.std.proofs.Common.{⊎_elim, arith, subst, length, map, take, drop, Option, Some, None, append-nil, length-drop, length-take}
 use Rattle.std.specs.Option.{option_map_or}
-use Rattle.std.proofs.lemmas.Bool.{cases_Bool, cases_eq, false≢true, ne_eqb, eq-eqb}
+use Rattle.std.proofs.lemmas.Bool.{cases_eq, false≢true, ne_eqb, eq-eqb}
 use Rattle.monk_history.specs.declared.event.Event.{Event}
 use Rattle.monk_history.specs.declared.event.Event.TheVariants.{Enter, Act, Leave, Wait, Signal, SignalLeave, Until, Resume}
 use Rattle.monk_history.specs.declared.event.Event.TheVariants.{SignalAll, SignalWait}
@@ -16,9 +16,8 @@ use Rattle.monk_logs.specs.declared.item.Item.{Item}
 use Rattle.monk_logs.specs.declared.item.Item.TheVariants.{Waiting, Service}
 use Rattle.monk_logs.specs.declared.order.Order.{Order}
 use Rattle.monk_logs.proofs.LapseLaws.FewerIn.{FewerIn, fewer_all, fewer_gifts, fewer_joined}
-use Rattle.monk_logs.proofs.OrderLaws.Fits.{line_one_other}
-use Rattle.monk_logs.proofs.OrderLaws.Lines.{all_seats, gifts, line-append, line_given, line_given_other, no_service, service_there}
-use Rattle.monk_logs.proofs.OrderLaws.Lists.{Distinct, among_here, among_others}
+use Rattle.monk_logs.proofs.OrderLaws.Lines.{all_seats, line-append, line_given, line_given_other, no_service, service_there}
+use Rattle.monk_logs.proofs.OrderLaws.Lists.{Distinct}
 
 -- who came to wait
 abbrev pub waitings : List Item → List Item

@@ -1,8 +1,8 @@
 -- A line of the same seats with fewer services than another: as far as an order can tell, before each seat or in all
 use Rattle.std.proofs.Common.{◌≡◌, ℕ, ◌+◌, ◌-◌, ◌<◌, ◌≤◌, suc, zero, true, false, List, [], ◌∷◌, ◌++◌, refl, sym, ap, ◌∙◌, ◌⊎◌}
-use Rattle.std.proofs.Common.{inl, inr, ⊎_elim, arith, length, drop, take, subst, Option, Some, None}
+use Rattle.std.proofs.Common.{inl, inr, ⊎_elim, arith, length, drop, take, subst, Option, Some}
 use Rattle.std.proofs.lemmas.Bool.{cases_eq, false≢true, ne_eqb, eq-eqb}
-use Rattle.monk_logs.specs.Items.{seats_in, services_in, keeps_up, has_service_behind, can_be_served, unserved_in}
+use Rattle.monk_logs.specs.Items.{seats_in, services_in, keeps_up, has_service_behind, can_be_served}
 use Rattle.monk_logs.specs.Order.{is_among}
 use Rattle.monk_logs.specs.declared.order.Order.{Order}
 use Rattle.monk_logs.specs.declared.order.Order.TheVariants.{Fifo, Wake, Any}
@@ -90,7 +90,8 @@ behind_first j (suc n) (x ∷ xs) m f =
     ⊎_elim (λ e. absurd (false≢true (sym f ∙ rw (eq-eqb x j e) refl)))
     (λ ne. behind_first j n xs (among_others j x xs ne m) (rw (ne_eqb x j ne) at f)) (cases_eq x j)
 
-module _ (j : ℕ) (k l : List (Option ℕ)) (e : seats_in k ≡ seats_in l) (d : Distinct (seats_in k)) (m : is_among j (seats_in k) ≡ true) where
+module _ (j : ℕ) (k l : List (Option ℕ)) (e : seats_in k ≡ seats_in l)
+    (d : Distinct (seats_in k)) (m : is_among j (seats_in k) ≡ true) where
   abbrev p : ℕ
   p = place j (seats_in k)
 
@@ -107,7 +108,15 @@ module _ (j : ℕ) (k l : List (Option ℕ)) (e : seats_in k ≡ seats_in l) (d 
   all_taken h n =
       ⊎_elim
       (λ lt. omega (arith, h n, taken_short j n k lt, taken_short j n l (omega (arith, at))))
-      (λ ge. omega (arith, h p, h (suc n), taken_at p j n k refl m ge, taken_at p j n l at there ge, before_later p (suc n) k (omega arith)))
+      (λ ge. omega (
+        arith,
+        h p,
+        h (suc n),
+        taken_at p j n k refl m ge,
+        taken_at p j n l at there ge,
+        before_later p
+            (suc n) k (omega arith),
+      ))
       (split n p)
 
   all_lapsed : ((n : ℕ) → before n k ≤ before n l) → (n : ℕ) → before n (lapsed_in j k) ≤ before n (lapsed_in j l)

@@ -1,7 +1,7 @@
 -- A seat goes on, with fewer services and with more, and whether it may
-use Rattle.std.proofs.Common.{◌≡◌, ℕ, Bool, true, false, List, refl, sym, ap, ◌∙◌, ⊎_elim, subst, Option, Some, drop}
+use Rattle.std.proofs.Common.{◌≡◌, ℕ, true, false, List, refl, sym, ap, ◌∙◌, ⊎_elim, subst, Option, Some, drop}
 use Rattle.std.specs.Option.{option_map_or}
-use Rattle.std.proofs.lemmas.Bool.{cases_Bool, false_from_ne_true, false≢true}
+use Rattle.std.proofs.lemmas.Bool.{cases_Bool}
 use Rattle.monk_logs.specs.Items.{line, seats_in, services_in, keeps_up, condition_of, can_be_served, can_be_unserved, lapsed, may_lapse}
 use Rattle.monk_logs.specs.Items.{has_service_behind, may_resume, taken_out, was_served}
 use Rattle.monk_logs.specs.Order.{is_among}
@@ -10,7 +10,7 @@ use Rattle.monk_logs.specs.declared.order.Order.{Order}
 use Rattle.monk_logs.specs.declared.order.Order.TheVariants.{Fifo, Wake, Any}
 use Rattle.monk_logs.proofs.LapseLaws.Fewer.{Fewer, few_in_all, same_condition, same_line, same_seats, waitings, waitings_lapsed}
 use Rattle.monk_logs.proofs.LapseLaws.Fewer.{waitings_taken}
-use Rattle.monk_logs.proofs.LapseLaws.FewerIn.{FewerIn, behind_first, dropped_more, fewer_lapsed_in, fewer_mixed_in, fewer_taken_in}
+use Rattle.monk_logs.proofs.LapseLaws.FewerIn.{FewerIn, dropped_more, fewer_lapsed_in, fewer_mixed_in, fewer_taken_in}
 use Rattle.monk_logs.proofs.LapseLaws.FewerIn.{fewer_turned_in, keeps_fewer, keeps_unserved}
 use Rattle.monk_logs.proofs.OrderLaws.Choosing.{can_there}
 use Rattle.monk_logs.proofs.OrderLaws.Coming.{lapses, unlapsed}
@@ -40,7 +40,8 @@ module _ (xs ys : List Item) (h : Fewer Any xs ys) (dis : Distinct (all_seats xs
     out_too c m = subst (λ (l : List ℕ). is_among j l ≡ false) (same_line Any xs ys h c) m
 
     both_lines : (c : ℕ) (k l : List (Option ℕ)) → line c xs ≡ k → line c ys ≡ l → FewerIn Any k l
-    both_lines c k l e i = subst (λ (x : List (Option ℕ)). FewerIn Any x l) e (subst (λ (x : List (Option ℕ)). FewerIn Any (line c xs) x) i (h.fewer c))
+    both_lines c k l e i = subst (λ (x : List (Option ℕ)). FewerIn Any x l) e
+        (subst (λ (x : List (Option ℕ)). FewerIn Any (line c xs) x) i (h.fewer c))
 
     behind : may_resume Any j xs ≡ true → (c : ℕ) → is_among j (seats_in (line c xs)) ≡ true → has_service_behind j (line c xs) ≡ true
     behind may c m = can_service Any j (line c xs) (can_there Any j c xs dis may m) (up c)
@@ -48,7 +49,8 @@ module _ (xs ys : List Item) (h : Fewer Any xs ys) (dis : Distinct (all_seats xs
     behind_many : may_resume Any j ys ≡ true → (c : ℕ) → is_among j (seats_in (line c xs)) ≡ true → has_service_behind j (line c ys) ≡ true
     behind_many may c m = can_service Any j (line c ys) (can_there Any j c ys apart_many may (there_too c m)) (many c)
 
-    taken_lines : may_resume Any j xs ≡ true → may_resume Any j ys ≡ true → (c : ℕ) → FewerIn Any (taken_in j (line c xs)) (taken_in j (line c ys))
+    taken_lines : may_resume Any j xs ≡ true → may_resume Any j ys ≡ true → (c : ℕ)
+        → FewerIn Any (taken_in j (line c xs)) (taken_in j (line c ys))
     taken_lines may also c =
         ⊎_elim
         (λ m. fewer_taken_in j (line c xs) (line c ys) (same_line Any xs ys h c) (distinct_line c xs dis) m Any (behind may c m)
@@ -66,7 +68,8 @@ module _ (xs ys : List Item) (h : Fewer Any xs ys) (dis : Distinct (all_seats xs
     mixed_lines : may_resume Any j xs ≡ true → (c : ℕ) → FewerIn Any (taken_in j (line c xs)) (lapsed_in j (line c ys))
     mixed_lines may c =
         ⊎_elim
-        (λ m. fewer_mixed_in j (line c xs) (line c ys) (same_line Any xs ys h c) (distinct_line c xs dis) m Any (behind may c m) (h.fewer c))
+        (λ m. fewer_mixed_in j (line c xs) (line c ys) (same_line Any xs ys h c)
+        (distinct_line c xs dis) m Any (behind may c m) (h.fewer c))
         (λ m. both_lines c (taken_in j (line c xs)) (lapsed_in j (line c ys)) (sym (unmoved j (line c xs) m))
         (sym (unlapsed j (line c ys) (out_too c m)))) (cases_Bool (is_among j (seats_in (line c xs))))
 
@@ -80,7 +83,8 @@ module _ (xs ys : List Item) (h : Fewer Any xs ys) (dis : Distinct (all_seats xs
         (λ m. both_lines c (lapsed_in j (line c xs)) (taken_in j (line c ys)) (sym (unlapsed j (line c xs) m))
         (sym (unmoved j (line c ys) (out_too c m)))) (cases_Bool (is_among j (seats_in (line c xs))))
 
-    same_lapsed : (us ws : List Item) → waitings us ≡ lapsed j (waitings xs) → waitings ws ≡ lapsed j (waitings ys) → waitings us ≡ waitings ws
+    same_lapsed : (us ws : List Item) → waitings us ≡ lapsed j (waitings xs) → waitings ws ≡ lapsed j (waitings ys)
+        → waitings us ≡ waitings ws
     same_lapsed us ws e i = e ∙ (ap (lapsed j) h.same ∙ sym i)
 
     pub fewer_taken : may_resume Any j xs ≡ true → may_resume Any j ys ≡ true → Fewer Any (taken_out j xs) (taken_out j ys)

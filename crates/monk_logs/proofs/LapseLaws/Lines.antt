@@ -2,7 +2,7 @@
 use Rattle.std.proofs.Common.{◌≡◌, ℕ, Bool, true, false, cond, ◌&&◌, List, Option, Some, None, refl, sym, ap, ◌∙◌, subst}
 use Rattle.std.specs.Option.{option_map}
 use Rattle.std.specs.Prelude.{◌==◌}
-use Rattle.std.proofs.lemmas.Bool.{and_from, and_parts, eqb-true}
+use Rattle.std.proofs.lemmas.Bool.{and_parts, eqb-true}
 use Rattle.monk_history.specs.declared.event.Event.{Event}
 use Rattle.monk_history.specs.declared.event.Event.TheVariants as event
 use Rattle.monk_history.specs.declared.event.Next.TheVariants.{Stay}
@@ -18,13 +18,12 @@ use Rattle.monk_logs.specs.declared.item.Item.{Item}
 use Rattle.monk_logs.specs.declared.line.LogLine.{LogLine}
 use Rattle.monk_logs.specs.declared.line.LogLine.TheVariants.{Enter, Resume, Lapse, Leave, Wait, Signal, Broadcast, Until, Act}
 use Rattle.monk_logs.specs.declared.order.Order.{Order}
-use Rattle.monk_logs.specs.declared.order.Order.TheVariants.{Fifo, Wake, Any}
+use Rattle.monk_logs.specs.declared.order.Order.TheVariants.{Any}
 use Rattle.monk_logs.specs.declared.pending.Pending.{Pending}
-use Rattle.monk_logs.specs.declared.pending.Pending.TheVariants.{Settled, Half, Release}
+use Rattle.monk_logs.specs.declared.pending.Pending.TheVariants.{Half, Release}
 use Rattle.monk_logs.specs.declared.step.Step.TheVariants.{Did, Lapsed}
-use Rattle.monk_logs.proofs.CourseLaws.Soundness.{cond_some}
 use Rattle.monk_logs.proofs.CourseLaws.Tests.{passed}
-use Rattle.monk_logs.proofs.LapseLaws.Fewer.{Fewer, same_seats}
+use Rattle.monk_logs.proofs.LapseLaws.Fewer.{Fewer}
 use Rattle.monk_logs.proofs.LapseLaws.Goes.{fewer_lapsed, may_lapse_fewer}
 use Rattle.monk_logs.proofs.LapseLaws.Moved.{items_after, moved}
 use Rattle.monk_logs.proofs.LapseLaws.Moves.{IsLevel, Suits, with_items}

@@ -1,6 +1,6 @@
 -- An event that a board takes a board with fewer services takes too, and is again one with fewer services
-use Rattle.std.proofs.Common.{◌≡◌, ℕ, ◌+◌, ◌≤◌, Bool, true, false, cond, ◌&&◌, not, eqb, List, [], ◌∷◌, ◌++◌, Option, Some, None, refl}
-use Rattle.std.proofs.Common.{sym, ap, ◌∙◌, arith, subst}
+use Rattle.std.proofs.Common.{◌≡◌, ℕ, ◌+◌, true, false, ◌&&◌, not, List, [], ◌∷◌, ◌++◌, Option, Some, None, refl}
+use Rattle.std.proofs.Common.{ap, arith}
 use Rattle.std.proofs.lemmas.Bool.{and_from, and_parts, false≢true}
 use Rattle.monk_history.specs.declared.event.Event.{Event}
 use Rattle.monk_history.specs.declared.event.Event.TheVariants.{Enter, Act, Leave, Wait, Signal, SignalLeave, Until, Resume}
@@ -8,19 +8,18 @@ use Rattle.monk_history.specs.declared.event.Event.TheVariants.{SignalAll, Signa
 use Rattle.monk_history.specs.declared.event.Next.{Next}
 use Rattle.monk_history.specs.declared.event.Next.TheVariants.{Stay, Entry, Waiter, Signaller, Until as UntilSeat}
 use Rattle.monk_history.specs.declared.event.Via.TheVariants.{Free, Handed}
-use Rattle.monk_history.specs.Meaning.Events.{is_stay, next_of}
+use Rattle.monk_history.specs.Meaning.Events.{next_of}
 use Rattle.monk_history.specs.Meaning.Monitor.{Monitor}
 use Rattle.monk_history.specs.Meaning.Reasons.{is_in_place}
 use Rattle.monk_history.specs.Meaning.Signallers.{is_empty}
-use Rattle.monk_history.specs.Meaning.Standing.{times, has_turn}
 use Rattle.monk_history.specs.Meaning.Untils.{ready_of}
-use Rattle.monk_logs.specs.Board.{Board, board_after, board_chances, board_permits, chosen_out, given_by, items_with, sight, signallers_with}
+use Rattle.monk_logs.specs.Board.{Board, board_after, board_chances, board_permits, chosen_out, given_by, items_with, sight}
 use Rattle.monk_logs.specs.Board.{waiting_item}
 use Rattle.monk_logs.specs.Chances.{may_signal_by}
 use Rattle.monk_logs.specs.Items.{keeps_up, line, unserved_in, may_resume, services}
-use Rattle.monk_logs.specs.Order.{apart, is_among}
+use Rattle.monk_logs.specs.Order.{is_among}
 use Rattle.monk_logs.specs.declared.item.Item.{Item}
-use Rattle.monk_logs.specs.declared.order.Order.TheVariants.{Fifo, Wake, Any}
+use Rattle.monk_logs.specs.declared.order.Order.TheVariants.{Any}
 use Rattle.monk_logs.proofs.LapseLaws.Fewer.{Fewer, empty_more, fewer_came, fewer_given, no_services}
 use Rattle.monk_logs.proofs.LapseLaws.Goes.{fewer_taken}
 use Rattle.monk_logs.proofs.LapseLaws.Moves.{IsLevel, Suits, choose_kept, signal_after, signal_permit, until_kept, with_items}

@@ -1,6 +1,6 @@
 -- Where signals serve in order of arrival, and where no task comes in past a waiter, no line can be read both as it stands and as a lapse
 use Rattle.std.proofs.Common.{◌≡◌, ℕ, ◌+◌, suc, zero, Bool, true, false, cond, ◌&&◌, ◌||◌, ◌==◌, List, [], ◌∷◌, ◌++◌, Option, Some, None}
-use Rattle.std.proofs.Common.{refl, sym, ap, ◌∙◌, ◌⊎◌, inl, inr, ⊎_elim, subst, take, drop, arith}
+use Rattle.std.proofs.Common.{refl, sym, ap, ◌∙◌, ◌⊎◌, ⊎_elim, subst, take, drop, arith}
 use Rattle.std.specs.Option.{option_map_or}
 use Rattle.std.specs.Prelude.{is_some}
 use Rattle.std.proofs.lemmas.Bool.{and_parts, cases_eq, false≢true, ne_eqb, eq-eqb, or_cases}
@@ -8,27 +8,25 @@ use Rattle.monk_kinds.specs.declared.mode.Rules.{Rules}
 use Rattle.monk_object.specs.Object.{Object}
 use Rattle.monk_history.specs.declared.event.Event.{Event}
 use Rattle.monk_history.specs.declared.event.Event.TheVariants as event
-use Rattle.monk_history.specs.declared.event.Next.TheVariants.{Stay, Entry, Waiter}
-use Rattle.monk_history.specs.Meaning.Events.{is_stay, next_of, seat_of, waits_on}
+use Rattle.monk_history.specs.declared.event.Next.TheVariants.{Stay, Entry}
+use Rattle.monk_history.specs.Meaning.Events.{next_of, seat_of, waits_on}
 use Rattle.monk_history.specs.Meaning.Monitor.{Monitor}
 use Rattle.monk_history.specs.Meaning.Release.{with_next}
 use Rattle.monk_history.specs.Meaning.Signallers.{is_empty}
-use Rattle.monk_logs.specs.Board.{Board, board_after, board_chances, board_permits, board_step, items_with, signallers_with, waiting_item}
-use Rattle.monk_logs.specs.BoardCourse.{BoardCourse, board_behind, board_then}
+use Rattle.monk_logs.specs.Board.{Board, board_after, board_chances, board_permits, items_with, signallers_with, waiting_item}
+use Rattle.monk_logs.specs.BoardCourse.{BoardCourse, board_behind}
 use Rattle.monk_logs.specs.Chances.{Chances, may_choose_by}
 use Rattle.monk_logs.specs.Course.{due_from}
 use Rattle.monk_logs.specs.Items.{can_be_served, can_be_unserved, condition_of, keeps_up, line, may_lapse, may_resume, seats_in, services}
 use Rattle.monk_logs.specs.Items.{services_in, unserved_in}
 use Rattle.monk_logs.specs.Order.{is_among}
 use Rattle.monk_logs.specs.declared.item.Item.{Item}
-use Rattle.monk_logs.specs.declared.item.Item.TheVariants.{Waiting, Service}
+use Rattle.monk_logs.specs.declared.item.Item.TheVariants.{Waiting}
 use Rattle.monk_logs.specs.declared.line.LogLine.TheVariants.{Resume, Lapse}
 use Rattle.monk_logs.specs.declared.order.Order.{Order}
 use Rattle.monk_logs.specs.declared.order.Order.TheVariants.{Fifo, Wake, Any}
 use Rattle.monk_logs.specs.declared.pending.Pending.{Pending}
 use Rattle.monk_logs.specs.declared.pending.Pending.TheVariants.{Settled, Half, Release}
-use Rattle.monk_logs.specs.declared.step.Step.TheVariants.{Did, Lapsed}
-use Rattle.monk_logs.proofs.LapseLaws.Goes.{served_from}
 use Rattle.monk_logs.proofs.LapseLaws.Lines.{known_did, known_lapsed, then_did}
 use Rattle.monk_logs.proofs.LapseLaws.Read.{IsRelease, goes_as_waiter, lapse_waits, not_due, standing}
 use Rattle.monk_logs.proofs.LapseLaws.Released.{condition_came}
@@ -37,10 +35,11 @@ use Rattle.monk_logs.proofs.OrderLaws.Choosing.{resume_served, resumes}
 use Rattle.monk_logs.proofs.OrderLaws.Coming.{lapses}
 use Rattle.monk_logs.proofs.OrderLaws.Leads.{among_dropped}
 use Rattle.monk_logs.proofs.OrderLaws.Led.{can_service}
-use Rattle.monk_logs.proofs.OrderLaws.Lines.{all_seats, distinct_line, line-append, no_service, seats_in-append, services_in-append, services_taken}
+use Rattle.monk_logs.proofs.OrderLaws.Lines.{all_seats, distinct_line, line-append, no_service, seats_in-append}
+use Rattle.monk_logs.proofs.OrderLaws.Lines.{services_in-append, services_taken}
 use Rattle.monk_logs.proofs.OrderLaws.Lists.{Distinct, among_others, apart_from}
 use Rattle.monk_logs.proofs.OrderLaws.Passes.{Passes}
-use Rattle.monk_logs.proofs.OrderLaws.Sound.{Sound, distinct_with, keeps_with, sound_after, sound_distinct}
+use Rattle.monk_logs.proofs.OrderLaws.Sound.{Sound, keeps_with, sound_after, sound_distinct}
 
 -- ---- no service, nobody served
 
@@ -90,7 +89,8 @@ take_joined : (j n : ℕ) (xs ys : List ℕ) → is_among j (take n xs) ≡ true
 take_joined j zero xs ys h = absurd (false≢true h)
 take_joined j (suc n) [] ys h = absurd (false≢true h)
 take_joined j (suc n) (x ∷ xs) ys h =
-    ⊎_elim (λ e. rw (eq-eqb x j e) refl) (λ ne. rw (ne_eqb x j ne) (take_joined j n xs ys (among_others j x (take n xs) ne h))) (cases_eq x j)
+    ⊎_elim (λ e. rw (eq-eqb x j e) refl) (λ ne. rw (ne_eqb x j ne) (take_joined j n xs ys (among_others j x (take n xs) ne h)))
+    (cases_eq x j)
 
 not_both : (j n : ℕ) (xs : List ℕ) → Distinct xs → is_among j (take n xs) ≡ true → is_among j (drop n xs) ≡ true → ⊥
 not_both j zero xs d h k = false≢true h

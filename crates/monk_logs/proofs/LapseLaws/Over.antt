@@ -3,8 +3,7 @@ use Rattle.std.proofs.Common.{◌≡◌, ◌∙◌, ℕ, suc, zero, Bool, true, 
 use Rattle.std.proofs.Common.{refl, sym, ap, subst, arith}
 use Rattle.std.specs.List.{list_all}
 use Rattle.std.specs.Prelude.{Result, Ok, Err, is_some, nat_lt}
-use Rattle.std.specs.Result.{result_ok}
-use Rattle.std.proofs.lemmas.Bool.{and_from, and_parts, cases_Bool, eqb-true, eq-eqb, ne_eqb, false≢true}
+use Rattle.std.proofs.lemmas.Bool.{and_from, and_parts, eqb-true, eq-eqb, ne_eqb}
 use Rattle.monk_history.specs.declared.event.Event.{Event}
 use Rattle.monk_history.specs.declared.event.Event.TheVariants as event
 use Rattle.monk_history.specs.declared.event.Next.{Next}
@@ -19,26 +18,26 @@ use Rattle.monk_history.specs.Meaning.Monitor.{Monitor}
 use Rattle.monk_history.specs.Meaning.Reasons.{fits_object, is_condition, is_due, is_offered, is_open, is_queue}
 use Rattle.monk_history.specs.Meaning.Release.{with_next}
 use Rattle.monk_history.specs.Meaning.Turn.{turn_by}
-use Rattle.monk_logs.specs.Blame.{blame_of, early_blame, first_blame, half_blame, is_event_in_range, line_event, may_be_its_turn}
+use Rattle.monk_logs.specs.Blame.{first_blame, is_event_in_range, line_event, may_be_its_turn}
 use Rattle.monk_logs.specs.Board.{Board, board_after, board_lapse, board_reason, items_with, sight, signallers_with, waiting_item}
 use Rattle.monk_logs.specs.BoardCourse.{BoardCourse, board_settled, board_told}
 use Rattle.monk_logs.specs.BoardMoves.{board_served, comes_back, comes_next}
 use Rattle.monk_logs.specs.BoardStand.{board_behind_over, board_line_over, board_lapse_blame, board_release_blame, board_settle, course_by}
 use Rattle.monk_logs.specs.Course.{due_from}
 use Rattle.monk_logs.specs.Items.{condition_of, may_lapse}
-use Rattle.monk_logs.specs.Lapses.{as_lapse}
 use Rattle.monk_logs.specs.Order.{is_among}
 use Rattle.monk_logs.specs.ReadStand.{board_read_over, either_blame, first_over, served_or}
 use Rattle.monk_logs.specs.declared.blame.Blame.{Blame}
-use Rattle.monk_logs.specs.declared.blame.Blame.TheVariants.{Range, Call, Turn as TurnBlame, Place, Reply, Unserved, Served, Order as OrderBlame, Choice}
-use Rattle.monk_logs.specs.declared.lapses.Lapses.TheVariants.{Told, Allowed}
+use Rattle.monk_logs.specs.declared.blame.Blame.TheVariants.{Range, Call, Turn as TurnBlame, Place, Reply, Unserved, Served}
+use Rattle.monk_logs.specs.declared.blame.Blame.TheVariants.{Order as OrderBlame, Choice}
+use Rattle.monk_logs.specs.declared.lapses.Lapses.TheVariants.{Allowed}
 use Rattle.monk_logs.specs.declared.item.Item.{Item}
 use Rattle.monk_logs.specs.declared.line.LogLine.{LogLine}
 use Rattle.monk_logs.specs.declared.line.LogLine.TheVariants.{Enter, Resume, Lapse, Leave, Wait, Signal, Broadcast, Until, Act}
 use Rattle.monk_logs.specs.declared.order.Order.{Order}
 use Rattle.monk_logs.specs.declared.pending.Pending.{Pending}
 use Rattle.monk_logs.specs.declared.pending.Pending.TheVariants.{Settled, Half, Release}
-use Rattle.monk_logs.proofs.LapseLaws.Read.{goes_on, not_due, standing}
+use Rattle.monk_logs.proofs.LapseLaws.Read.{not_due, standing}
 use Rattle.monk_logs.proofs.LapseLaws.Resuming.{items_behind, next_with}
 use Rattle.monk_logs.proofs.OrderLaws.Passes.{Passes, passes, reason_none}
 
@@ -242,7 +241,8 @@ module _ (o : Order) (m : Monitor) (b : Board) (e : Event) (stays : next_of e �
   course_ok c f p = rw (reason_none o m c f p) refl
 
   resume_ok : board_reason o m b told ≡ 0 → board_line_over o m (board_after m.object b told) (Resume s)
-      ≡ Ok (board_settled (board_after m.object (board_after m.object b told) (event.Resume s (due_from (board_after m.object b told).turn))))
+      ≡ Ok (board_settled (board_after m.object (board_after m.object b told)
+      (event.Resume s (due_from (board_after m.object b told).turn))))
   resume_ok none =
       let w = is_some (condition_of s (items_with b e)) in
       let i = is_among s (signallers_with b e) in
@@ -260,7 +260,8 @@ module _ (o : Order) (m : Monitor) (b : Board) (e : Event) (stays : next_of e �
   entry_open = ap (λ (n : Option Next). is_open (turn_by (seat_of entry) n)) (next_with Entry e stays)
 
   lapse_is : board_line_over o m (board_after m.object b entry) (Lapse s)
-      ≡ cond gone (Ok (board_settled (board_lapse (board_after m.object b entry) s))) (Err (board_lapse_blame m (board_after m.object b entry) s))
+      ≡ cond gone (Ok (board_settled (board_lapse (board_after m.object b entry) s)))
+      (Err (board_lapse_blame m (board_after m.object b entry) s))
   lapse_is =
       let c = board_after m.object b entry in
       ap (λ (t : Bool). cond (t && may_lapse o s c.items) (Ok (board_settled (board_lapse c s))) (Err (board_lapse_blame m c s))) entry_open

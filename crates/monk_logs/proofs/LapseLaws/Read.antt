@@ -1,5 +1,7 @@
--- A line of a reading that a board takes: judged as it stands where it can be, and else as a lapse, a board with fewer services takes it too
-use Rattle.std.proofs.Common.{◌≡◌, ℕ, Bool, true, false, cond, List, [], ◌∷◌, ◌++◌, Option, Some, None, refl, sym, ap, ◌∙◌, ◌⊎◌, inl, inr, ⊎_elim}
+-- A line of a reading that a board takes: judged as it stands where it can be, and else as a lapse, a board with fewer services takes
+-- it too
+use Rattle.std.proofs.Common.{◌≡◌, ℕ, Bool, true, false, cond, List, [], ◌∷◌, ◌++◌, Option, Some, None, refl, sym, ap, ◌∙◌, ◌⊎◌}
+use Rattle.std.proofs.Common.{inl, inr, ⊎_elim}
 use Rattle.std.proofs.Common.{subst}
 use Rattle.std.specs.Prelude.{is_some}
 use Rattle.std.proofs.lemmas.Bool.{cases_Bool, false≢true}
@@ -28,15 +30,16 @@ use Rattle.monk_logs.specs.declared.item.Item.{Item}
 use Rattle.monk_logs.specs.declared.line.LogLine.{LogLine}
 use Rattle.monk_logs.specs.declared.line.LogLine.TheVariants.{Enter, Resume, Lapse, Leave, Wait, Signal, Broadcast, Until, Act}
 use Rattle.monk_logs.specs.declared.order.Order.{Order}
-use Rattle.monk_logs.specs.declared.order.Order.TheVariants.{Fifo, Wake, Any}
+use Rattle.monk_logs.specs.declared.order.Order.TheVariants.{Any}
 use Rattle.monk_logs.specs.declared.pending.Pending.{Pending}
 use Rattle.monk_logs.specs.declared.pending.Pending.TheVariants.{Settled, Half, Release}
-use Rattle.monk_logs.specs.declared.step.Step.TheVariants.{Did, Lapsed}
+use Rattle.monk_logs.specs.declared.step.Step.TheVariants.{Did}
 use Rattle.monk_logs.proofs.LapseLaws.Fewer.{Fewer, empty_more, fewer_came, fewer_given, same_condition, same_seats}
-use Rattle.monk_logs.proofs.LapseLaws.Lines.{Below, Follows, follows_by, half_follows, known_did, known_lapsed, lapsed_ok, line_follows, then_did}
+use Rattle.monk_logs.proofs.LapseLaws.Lines.{Below, Follows, follows_by, half_follows, known_did, known_lapsed, lapsed_ok}
+use Rattle.monk_logs.proofs.LapseLaws.Lines.{line_follows, then_did}
 use Rattle.monk_logs.proofs.LapseLaws.Lines.{then_follows, then_ok}
 use Rattle.monk_logs.proofs.LapseLaws.Moves.{IsLevel, Suits, with_items}
-use Rattle.monk_logs.proofs.LapseLaws.Released.{Lapses, lapsed_below, served_below}
+use Rattle.monk_logs.proofs.LapseLaws.Released.{lapsed_below, served_below}
 use Rattle.monk_logs.proofs.LapseLaws.Resuming.{items_behind, items_same, may_be_served, next_with, stands_once}
 use Rattle.monk_logs.proofs.OrderLaws.Coming.{lapses}
 use Rattle.monk_logs.proofs.OrderLaws.Lines.{all_seats, among_line, waits_there}
@@ -78,11 +81,13 @@ pub goes_as_waiter : (o : Order) (m : Monitor) (b : Board) (e : Event) (s : ℕ)
 goes_as_waiter o m b e s sound stays there true i p = refl
 goes_as_waiter o m b e s sound stays there false true p =
     absurd (stands_once (board_after m.object b (with_next (Signaller s) e)) s (sound_after o m b (with_next (Signaller s) e) sound p)
-    (ap (λ (n : Option Next). has_turn s (turn_by (seat_of (with_next (Signaller s) e)) n)) (next_with (Signaller s) e stays) ∙ counted_one s)
+    (ap (λ (n : Option Next). has_turn s (turn_by (seat_of (with_next (Signaller s) e)) n)) (next_with (Signaller s) e stays)
+    ∙ counted_one s)
     (subst (λ (l : List Item). is_among s (all_seats l) ≡ true) (sym (items_behind m.object b (Signaller s) e stays)) there))
 goes_as_waiter o m b e s sound stays there false false p =
     absurd (stands_once (board_after m.object b (with_next (UntilSeat s) e)) s (sound_after o m b (with_next (UntilSeat s) e) sound p)
-    (ap (λ (n : Option Next). has_turn s (turn_by (seat_of (with_next (UntilSeat s) e)) n)) (next_with (UntilSeat s) e stays) ∙ counted_one s)
+    (ap (λ (n : Option Next). has_turn s (turn_by (seat_of (with_next (UntilSeat s) e)) n)) (next_with (UntilSeat s) e stays)
+    ∙ counted_one s)
     (subst (λ (l : List Item). is_among s (all_seats l) ≡ true) (sym (items_behind m.object b (UntilSeat s) e stays)) there))
 
 pub lapse_waits : (o : Order) (s : ℕ) (items : List Item) → may_lapse o s items ≡ true → is_among s (all_seats items) ≡ true
@@ -118,7 +123,8 @@ module _ (m : Monitor) (level : IsLevel m.kind) (xs : List Item) (b : Board) (h 
         → Follows (board_then Any m (board_step Any m few (Did (with_next n e))) l) x
     plain_then e stays n suits l x k =
         then_follows m level xs b h many sound (with_next n e) l x
-        (subst (λ (y : Option Next). Suits y (items_with few (with_next n e))) (sym (next_with n e stays)) (suits (items_with few (with_next n e))))
+        (subst (λ (y : Option Next). Suits y (items_with few (with_next n e)))
+        (sym (next_with n e stays)) (suits (items_with few (with_next n e))))
         k
 
     abbrev IsPlain : LogLine → Type 0
@@ -228,7 +234,8 @@ module _ (m : Monitor) (level : IsLevel m.kind) (xs : List Item) (b : Board) (h 
         ∙ ap (λ (l : List ℕ). standing w (is_among s l) s) (same_signallers e stays (standing w i s) (goes_on w i s) p)
 
     told_first : (e : Event) → next_of e ≡ Some Stay → (s : ℕ) (x : BoardCourse) (n : Next) → standing_choice b e s ≡ n
-        → Suits (Some n) (us e) → board_behind Any m b (Release e) (Resume s) ≡ Some x → Follows (board_behind Any m few (Release e) (Resume s)) x
+        → Suits (Some n) (us e) → board_behind Any m b (Release e) (Resume s) ≡ Some x
+        → Follows (board_behind Any m few (Release e) (Resume s)) x
     told_first e stays s x n is suits k =
         let p = then_did Any m b (board_told b e (Resume s)) (Resume s) x k in
         subst (λ (y : Next). Follows (board_then Any m (board_step Any m few (Did (with_next y e))) (Resume s)) x)
@@ -269,8 +276,10 @@ module _ (m : Monitor) (level : IsLevel m.kind) (xs : List Item) (b : Board) (h 
         → Follows (first_course (board_behind Any m few (Release e) (Resume s)) (board_behind Any m few (Release e) (Lapse s))) x
     waiter_read e stays s x c waits k =
         let there : condition_of s (items_with b e) ≡ Some c = sym (same_condition Any (us e) (items_with b e) (fewer_with e) s) ∙ waits in
-        let is : standing_choice b e s ≡ Waiter s = ap (λ (y : Option ℕ). standing (is_some y) (is_among s (signallers_with b e)) s) there in
-        let so : standing_choice few e s ≡ Waiter s = ap (λ (y : Option ℕ). standing (is_some y) (is_among s (signallers_with few e)) s) waits in
+        let is : standing_choice b e s ≡ Waiter s = ap (λ (y : Option ℕ). standing
+        (is_some y) (is_among s (signallers_with b e)) s) there in
+        let so : standing_choice few e s ≡ Waiter s = ap (λ (y : Option ℕ). standing
+        (is_some y) (is_among s (signallers_with few e)) s) waits in
         ⊎_elim
         (λ may. first_follows (board_behind Any m few (Release e) (Resume s)) (board_behind Any m few (Release e) (Lapse s)) x
         (told_first e stays s x (Waiter s) is may k))
@@ -322,8 +331,10 @@ module _ (m : Monitor) (level : IsLevel m.kind) (xs : List Item) (b : Board) (h 
     pub read_follows : (p : Pending) → IsRelease p → (l k : LogLine) → (k ≡ l) ⊎ (k ≡ as_lapse l) → (x : BoardCourse)
         → board_behind Any m b p k ≡ Some x → Follows (first_course (board_behind Any m few p l) (board_behind Any m few p (as_lapse l))) x
     read_follows p stays (Enter s) k reads x is = plain_read p stays (Enter s) tt refl k reads x is
-    read_follows p stays (Resume s) k (inl e) x is = resume_read p stays s x (subst (λ (y : LogLine). board_behind Any m b p y ≡ Some x) e is)
-    read_follows p stays (Resume s) k (inr e) x is = lapse_read p stays s x (subst (λ (y : LogLine). board_behind Any m b p y ≡ Some x) e is)
+    read_follows p stays (Resume s) k (inl e) x is = resume_read p stays s x
+        (subst (λ (y : LogLine). board_behind Any m b p y ≡ Some x) e is)
+    read_follows p stays (Resume s) k (inr e) x is = lapse_read p stays s x
+        (subst (λ (y : LogLine). board_behind Any m b p y ≡ Some x) e is)
     read_follows p stays (Lapse s) k reads x is = plain_read p stays (Lapse s) tt refl k reads x is
     read_follows p stays (Leave s) k reads x is = plain_read p stays (Leave s) tt refl k reads x is
     read_follows p stays (Wait s c) k reads x is = plain_read p stays (Wait s c) tt refl k reads x is

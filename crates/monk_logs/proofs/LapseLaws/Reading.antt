@@ -1,15 +1,14 @@
 -- Where a resume leads that may be a lapse, on a board that has served
-use Rattle.std.proofs.Common.{◌≡◌, ◌∙◌, ℕ, Bool, true, false, cond, ◌&&◌, ◌==◌, ◌++◌, List, Some, refl, sym, ap, subst}
+use Rattle.std.proofs.Common.{◌≡◌, ◌∙◌, ℕ, Bool, true, false, cond, ◌&&◌, ◌==◌, ◌++◌, Some, sym, ap}
 use Rattle.std.specs.Prelude.{Err}
 use Rattle.std.proofs.lemmas.Bool.{and_from, and_parts, eq-eqb, eqb-true, false≢true}
 use Rattle.monk_history.specs.declared.event.Event.{Event}
-use Rattle.monk_history.specs.declared.event.Next.{Next}
 use Rattle.monk_history.specs.declared.event.Next.TheVariants.{Stay, Entry}
 use Rattle.monk_history.specs.Meaning.Choice.{must_stay}
 use Rattle.monk_history.specs.Meaning.Events.{next_of}
 use Rattle.monk_history.specs.Meaning.Monitor.{Monitor}
 use Rattle.monk_history.specs.Meaning.Release.{with_next}
-use Rattle.monk_logs.specs.Board.{Board, board_after, board_reason, items_with, sight, waiting_item}
+use Rattle.monk_logs.specs.Board.{Board, board_reason, items_with, sight, waiting_item}
 use Rattle.monk_logs.specs.BoardCourse.{board_told}
 use Rattle.monk_logs.specs.BoardMoves.{blame_on, board_moved, board_served, served_reason}
 use Rattle.monk_logs.specs.BoardStand.{board_line_over}
@@ -31,7 +30,8 @@ module _ (o : Order) (m : Monitor) (b now : Board) (e told : Event) (s : ℕ) (s
     reason_told : n ≡ board_reason o m b (board_told b e (Resume s))
     reason_told = told_found o m b now e told (Resume s) stays n served is release still found
 
-    pub told_leads : n ≡ 0 → board_line_over o m (board_moved stays now told) (Resume s) ≡ board_read_over Allowed o m b (Release e) (Resume s)
+    pub told_leads : n ≡ 0 → board_line_over o m (board_moved stays now told)
+        (Resume s) ≡ board_read_over Allowed o m b (Release e) (Resume s)
     told_leads none =
         ap (λ (y : Board). board_line_over o m y (Resume s)) (told_moved m.object b now e told (Resume s) stays served is release still)
         ∙ sym (read_told_over o m b e release s (sym reason_told ∙ none))
@@ -59,7 +59,8 @@ module _ (o : Order) (m : Monitor) (b now : Board) (e told : Event) (s : ℕ) (s
             ap (λ (y : Blame). Err (either_blame y (cond gone Choice Served)))
             (blamed ∙ ap (λ (y : Board). blame_on o m stays y e (Resume s)) served
             ∙ ap (λ (y : Bool). blame_on o m y (board_served b e) e (Resume s)) still)
-            ∙ ap (λ (y : Bool). Err (either_blame (blame_on o m (must_stay m.object (sight b) e) (board_served b e) e (Resume s)) (cond y Choice Served)))
+            ∙ ap (λ (y : Bool). Err (either_blame (blame_on o m (must_stay m.object (sight b) e) (board_served b e) e (Resume s))
+            (cond y Choice Served)))
             gone_is
             ∙ sym (read_neither_over o m b e release s (λ (z : _). some (reason_told ∙ z))
             (λ out none. false≢true (sym neither ∙ and_from gone (k == 0) (gone_is ∙ out) (eq-eqb k 0 (reason_entry ∙ none)))))

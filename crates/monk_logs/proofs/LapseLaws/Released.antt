@@ -1,12 +1,12 @@
 -- Behind a release a seat goes on that waits: on the board with fewer services it was served or its wait ran out
 use Rattle.std.proofs.Common.{◌≡◌, ℕ, Bool, true, false, not, List, [], ◌∷◌, ◌++◌, Option, Some, None, refl, sym, ap, ◌∙◌, ⊎_elim}
-use Rattle.std.proofs.Common.{subst, filter, append-nil}
+use Rattle.std.proofs.Common.{subst, filter}
 use Rattle.std.specs.Option.{option_map_or}
 use Rattle.std.proofs.lemmas.Bool.{cases_Bool, cases_eq, false≢true, ne_eqb, eq-eqb, or_right}
 use Rattle.monk_history.specs.declared.event.Event.{Event}
 use Rattle.monk_history.specs.declared.event.Event.TheVariants as event
 use Rattle.monk_history.specs.declared.event.From3.{From3}
-use Rattle.monk_history.specs.declared.event.Next.TheVariants.{Stay, Entry, Waiter, Signaller, Until as UntilSeat}
+use Rattle.monk_history.specs.declared.event.Next.TheVariants.{Stay, Entry, Waiter}
 use Rattle.monk_history.specs.Meaning.Events.{next_of, seat_of, waits_on}
 use Rattle.monk_history.specs.Meaning.Monitor.{Monitor}
 use Rattle.monk_history.specs.Meaning.Release.{with_next}
@@ -16,18 +16,18 @@ use Rattle.monk_logs.specs.Items.{condition_of, is_waiting_of, keeps_up, lapsed,
 use Rattle.monk_logs.specs.Order.{is_among}
 use Rattle.monk_logs.specs.declared.item.Item.{Item}
 use Rattle.monk_logs.specs.declared.item.Item.TheVariants.{Waiting, Service}
-use Rattle.monk_logs.specs.declared.order.Order.TheVariants.{Fifo, Wake, Any}
+use Rattle.monk_logs.specs.declared.order.Order.TheVariants.{Any}
 use Rattle.monk_logs.proofs.LapseLaws.Fewer.{Fewer, fewer_came, fewer_given, same_seats}
 use Rattle.monk_logs.proofs.LapseLaws.Goes.{fewer_mixed, fewer_turned, keeps_gone, lapse_from}
 use Rattle.monk_logs.proofs.LapseLaws.Lines.{Below}
-use Rattle.monk_logs.proofs.LapseLaws.Moved.{Moved, items_after, moved}
+use Rattle.monk_logs.proofs.LapseLaws.Moved.{Moved, moved}
 use Rattle.monk_logs.proofs.LapseLaws.Moves.{IsLevel, Suits, with_items}
-use Rattle.monk_logs.proofs.LapseLaws.Resuming.{entry_passes, items_behind, items_same, lapsed_same, may_be_served, next_with, owned, resumed}
+use Rattle.monk_logs.proofs.LapseLaws.Resuming.{entry_passes, items_behind, lapsed_same, may_be_served, next_with, resumed}
 use Rattle.monk_logs.proofs.OrderLaws.Choosing.{resume_there}
 use Rattle.monk_logs.proofs.OrderLaws.Lines.{all_seats, all_seats-append, among_line, waits_there}
 use Rattle.monk_logs.proofs.OrderLaws.Lists.{Distinct, among-append, among_here, among_others}
 use Rattle.monk_logs.proofs.OrderLaws.Passes.{Passes}
-use Rattle.monk_logs.proofs.OrderLaws.Sound.{Sound, distinct_with, keeps_item, keeps_with, may_resume_chosen, sound_after, sound_distinct}
+use Rattle.monk_logs.proofs.OrderLaws.Sound.{Sound, distinct_with, keeps_item, keeps_with, sound_after, sound_distinct}
 use Rattle.monk_logs.proofs.OrderLaws.Sound.{sound_lapse}
 
 -- ---- a seat goes, before who comes to wait
@@ -90,13 +90,15 @@ module _ (m : Monitor) (level : IsLevel m.kind) (xs : List Item) (b : Board) (h 
     entered : Passes Any m b (with_next Entry e) → Moved m xs b (with_next Entry e)
     entered p = moved m level xs b h many sound (with_next Entry e) p entry_suits
 
-    served_is : (c : Board) → served c ≡ with_items (taken_out s (items_with c e) ++ came) (board_lapse (board_after m.object c (with_next Entry e)) s)
+    served_is : (c : Board) → served c ≡ with_items (taken_out s (items_with c e) ++ came)
+        (board_lapse (board_after m.object c (with_next Entry e)) s)
     served_is c = resumed m.object (board_after m.object c (with_next (Waiter s) e)) s q ∙ lapsed_same m.object c e s stays
 
     served_sound : (c : Board) → Sound c → Passes Any m c (with_next (Waiter s) e)
         → Passes Any m (board_after m.object c (with_next (Waiter s) e)) (event.Resume s q) → Sound (served c)
     served_sound c is p r =
-        sound_after Any m (board_after m.object c (with_next (Waiter s) e)) (event.Resume s q) (sound_after Any m c (with_next (Waiter s) e) is p) r
+        sound_after Any m (board_after m.object c (with_next (Waiter s) e))
+        (event.Resume s q) (sound_after Any m c (with_next (Waiter s) e) is p) r
 
     -- the items behind entry
     behind_entry : (c : Board) → (board_after m.object c (with_next Entry e)).items ≡ items_with c e ++ came
@@ -119,7 +121,8 @@ module _ (m : Monitor) (level : IsLevel m.kind) (xs : List Item) (b : Board) (h 
         let is : served few ≡ with_items (taken_out s us ++ came) (board_lapse opened s) =
         served_is few ∙ ap (λ (c : Board). with_items (taken_out s us ++ came) (board_lapse c s)) t.comes_to in
         let there : is_among s (all_seats ws) ≡ true =
-        subst (λ (l : List ℕ). is_among s l ≡ true) (same_seats Any us ws fewer_with) (resume_there Any s us (may_be_served Any m few e s stays f)) in
+        subst (λ (l : List ℕ). is_among s l ≡ true) (same_seats Any us ws fewer_with)
+        (resume_there Any s us (may_be_served Any m few e s stays f)) in
         record {
           items = taken_out s us ++ came;
           is = ap board_settled is;

@@ -1,6 +1,6 @@
 -- A seat that goes on behind a release, as one that was served and as one whose wait ran out
-use Rattle.std.proofs.Common.{◌≡◌, ℕ, ◌+◌, Bool, true, false, cond, ◌&&◌, ◌||◌, not, ◌==◌, List, [], ◌∷◌, ◌++◌, Option, Some, None}
-use Rattle.std.proofs.Common.{refl, sym, ap, ◌∙◌, ◌⊎◌, inl, inr, subst, arith, append-nil, filter}
+use Rattle.std.proofs.Common.{◌≡◌, ℕ, ◌+◌, Bool, true, false, cond, ◌&&◌, ◌||◌, ◌==◌, List, [], ◌∷◌, ◌++◌, Some}
+use Rattle.std.proofs.Common.{refl, ap, ◌⊎◌, inl, inr, subst, arith, append-nil, filter}
 use Rattle.std.specs.Prelude.{nat_le}
 use Rattle.std.proofs.lemmas.Bool.{and_from, and_parts, false≢true, or_cases, or_left, or_right}
 use Rattle.monk_kinds.specs.declared.mode.Rules.{Rules}
@@ -10,17 +10,17 @@ use Rattle.monk_history.specs.declared.event.Event.TheVariants.{Enter, Act, Leav
 use Rattle.monk_history.specs.declared.event.Event.TheVariants.{SignalAll, SignalWait}
 use Rattle.monk_history.specs.declared.event.From3.{From3}
 use Rattle.monk_history.specs.declared.event.Next.{Next}
-use Rattle.monk_history.specs.declared.event.Next.TheVariants.{Stay, Entry, Waiter, Signaller, Until as UntilSeat}
+use Rattle.monk_history.specs.declared.event.Next.TheVariants.{Stay, Entry, Waiter}
 use Rattle.monk_history.specs.declared.event.Turn.TheVariants.{Owned}
-use Rattle.monk_history.specs.Meaning.Events.{is_stay, next_of}
+use Rattle.monk_history.specs.Meaning.Events.{next_of}
 use Rattle.monk_history.specs.Meaning.Monitor.{Monitor}
 use Rattle.monk_history.specs.Meaning.Reasons.{is_right_reply}
 use Rattle.monk_history.specs.Meaning.Release.{MayCallIn, with_next}
 use Rattle.monk_history.specs.Meaning.Signallers.{is_empty}
-use Rattle.monk_history.specs.Meaning.Standing.{times, has_turn}
+use Rattle.monk_history.specs.Meaning.Standing.{has_turn}
 use Rattle.monk_logs.specs.Board.{Board, board_after, board_chances, board_lapse, board_permits, chosen_out, items_with, sight}
-use Rattle.monk_logs.specs.Board.{signallers_with, waiting_item}
-use Rattle.monk_logs.specs.Chances.{Chances, may_choose_by, may_signal_by}
+use Rattle.monk_logs.specs.Board.{waiting_item}
+use Rattle.monk_logs.specs.Chances.{Chances, may_choose_by}
 use Rattle.monk_logs.specs.Items.{line, may_resume, taken_out, unserved_in}
 use Rattle.monk_logs.specs.Order.{apart, is_among}
 use Rattle.monk_logs.specs.declared.item.Item.{Item}

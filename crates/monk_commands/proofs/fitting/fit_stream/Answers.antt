@@ -26,4 +26,5 @@ returns-clause-fits g c =
 
 pub returns-clause-statuses : goal.returns-clause-statuses
 returns-clause-statuses g c =
-    IfOk-weaker c.fit_text.result _ _ (λ status a. fit_statuses c.args.lapses c.args.means.now status c.deref.result.now a.0) c.fit_text.ensures.answer
+    IfOk-weaker c.fit_text.result _ _
+    (λ status a. fit_statuses c.args.lapses c.args.means.now status c.deref.result.now a.0) c.fit_text.ensures.answer

@@ -1,4 +1,4 @@
-use Rattle.std.proofs.Common.{◌≡◌, ◌∙◌, ◌++◌, List, ℕ, ap}
+use Rattle.std.proofs.Common.{◌∙◌, ◌++◌, List, ℕ, ap}
 use Rattle.monk_commands.specs.LogFitted.{gone_line, inside_words, missed_line, waiting_words}
 use Rattle.monk_commands.proofs.LogFits.{put_four}
 use Rattle.monk_commands.proofs.log_fitting.put_text.Goals as goal

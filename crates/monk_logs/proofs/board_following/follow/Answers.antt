@@ -21,8 +21,8 @@ loop-i-preserved g c =
     let a = board_shown c.loop-i.board (g.T.Guarded.state c.loop-i.object) in
     let b = board_shown c.line_read.new.board (g.T.Guarded.state c.line_read.new.object) in
     record {
-      so_far = read_goes_on c.args.lapses c.args.order m c.args.lines.now c.loop-i.i _ a b c.loop-i.pending c.in-Fits.left c.in_ok-left.field-0 _
-          c.loop-i-test.true c.loop-i.invariant.so_far c.in_ok-left.ensures.judged c.in-Fits.is;
+      so_far = read_goes_on c.args.lapses c.args.order m c.args.lines.now c.loop-i.i _ a b c.loop-i.pending c.in-Fits.left
+          c.in_ok-left.field-0 _ c.loop-i-test.true c.loop-i.invariant.so_far c.in_ok-left.ensures.judged c.in-Fits.is;
       sound = c.in_ok-left.ensures.sound c.in-Fits.left c.in-Fits.is;
       held = read_goes_held c.args.lapses c.args.order m _ a b c.loop-i.pending c.in-Fits.left c.in_ok-left.field-0
           c.in_ok-left.ensures.judged c.in-Fits.is;

@@ -1,4 +1,4 @@
-use Rattle.std.proofs.Common.{◌≡◌, ◌∙◌, sym, ap}
+use Rattle.std.proofs.Common.{◌∙◌, sym, ap}
 use Rattle.monk_logs.specs.BoardShown.{board_shown}
 use Rattle.monk_logs.specs.BoardStand.{board_behind_over, board_line_over}
 use Rattle.monk_logs.specs.ReadStand.{board_read_over}

@@ -1,13 +1,11 @@
-use Rattle.std.proofs.Common.{◌≡◌, ◌∙◌, ◌++◌, ℕ, List, sym, ap}
+use Rattle.std.proofs.Common.{◌∙◌, sym, ap}
 use Rattle.std.specs.Prelude.{Err}
 use Rattle.monk_history.specs.declared.event.Next.{Next}
 use Rattle.monk_history.specs.Meaning.Release.{with_next}
-use Rattle.monk_logs.specs.Board.{Board, waiting_item}
-use Rattle.monk_logs.specs.BoardCourse.{board_told}
+use Rattle.monk_logs.specs.Board.{Board}
 use Rattle.monk_logs.specs.BoardMoves.{board_moved, blame_on, choice_on, served_reason}
 use Rattle.monk_logs.specs.BoardShown.{board_shown}
 use Rattle.monk_logs.specs.BoardStand.{board_line_over}
-use Rattle.monk_logs.specs.Items.{may_lapse}
 use Rattle.monk_logs.specs.Stand.{monitor_in}
 use Rattle.monk_logs.specs.declared.blame.Blame.{Blame}
 use Rattle.monk_logs.specs.declared.line.LogLine.TheVariants.{Resume, Lapse}
