@@ -216,6 +216,9 @@ def turn_behind(rules, board, event, line):
     (verb, seat, *_), stays = line, must_stay(rules, board, event)
     if verb == "enter":
         return not stays
+    if verb == "lapse" and permits(rules, board, event, ("entry",)):
+        # (a wait runs out where the monitor is open, so the turn is that of whoever is inside)
+        return seat in release(rules, board, event, ("entry",)).inside
     if verb in ("resume", "lapse"):
         return not stays and (event[0] in ("wait", "signal-wait", "until") if seat == event[1] else seat in board.inside)
     return seat == event[1] and (stays or event[0] == "signal")

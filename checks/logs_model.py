@@ -135,6 +135,10 @@ def read(text):
     return header, made
 
 
+def text_of(header, lines):
+    return "".join(" ".join(map(str, line)) + "\n" for line in [("log", "1", *header), *lines])
+
+
 def meant(word):
     cond, pred = word.split("=")
     return int(cond), int(pred)
