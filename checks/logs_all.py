@@ -156,7 +156,8 @@ def compare(monk, header, longest, acts):
                 print(f"logs: {'with lapses ' * log.lapses}of\n{text_of(header, log.lines)}monk says, with {status}\n{said}where "
                       f"the search says\n{log.searched}\nand the model\n{log.modelled}", flush=True)
     for lapses, word in ((False, "without"), (True, "with")):
-        print(f"logs: of at most {longest} lines, {word} lapses: {tried[lapses, False]}, and {tried[lapses, True]} that only go on from these")
+        some, more = tried[lapses, False], tried[lapses, True]
+        print(f"logs: of at most {longest} lines, {word} lapses: {some}, and {more} that only go on from these")
     print(f"logs: of the answers for each kind: {', '.join(f'{word} {seen[word]}' for word in (*ORDERS, *REASONS))}")
     print(f"logs: monk answers {wrong['search']} otherwise than by search, and {wrong['model']} otherwise than the model")
     return sum(wrong.values())
