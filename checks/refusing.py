@@ -14,12 +14,12 @@ class Refusing:
         source = os.path.join(TOP, "checks", "refuse.c")
         subprocess.run(["cc", "-shared", "-fPIC", "-O1", "-o", self.library, source, "-ldl"], check=True)
 
-    def run(self, words, request=0, thread=0):
+    def run(self, words, request=0, thread=0, **more):
         """What the program prints on both streams, its status, and how many requests and threads there were; nothing of
         these where it ended by a signal. Its request and its thread of these numbers are refused, counted from 1."""
         read, write = os.pipe()
         refused = {"REFUSE": str(request), "REFUSE_THREAD": str(thread)}
-        how = {"env": dict(os.environ, LD_PRELOAD=self.library, TELL=str(write), **refused), "pass_fds": [write]}
+        how = {"env": dict(os.environ, LD_PRELOAD=self.library, TELL=str(write), **refused, **more), "pass_fds": [write]}
         try:
             done = subprocess.run(words, capture_output=True, text=True, timeout=self.seconds, **how)
         finally:

@@ -1,5 +1,7 @@
 -- What clap's matches say of the command and its values.
-use Rattle.std.proofs.Common.{◌≡◌, ℕ, List, Option, Some, None, Result, Ok, true, refl, sym, subst, ◌∙◌}
+use Rattle.std.proofs.Common.{◌≡◌, ℕ, ◌+◌, ◌<◌, ◌≤◌, List, [], ◌∷◌, ◌++◌, length, get_or, take, map, Option, Some, None, Result, Ok, true}
+use Rattle.std.proofs.Common.{refl, sym, ap, subst, ◌∙◌, Bor}
+use Rattle.std.proofs.lemmas.List.{map-append, take_all, take_more}
 use Rattle.std.specs.Str.Parse.{ParsesUnsigned}
 use Rattle.clap.specs.declared.parser.matches.Found.{Found}
 use Rattle.clap.proofs.WalkLemmas.{one_text-rows}
@@ -7,7 +9,8 @@ use Rattle.monk_commands.specs.declared.request.Line.{Line}
 use Rattle.std.specs.Prelude.{◌↔◌, IfSome, option_map}
 use Rattle.clap.specs.Words.{Row, Text, one_text, rows_of, is_simple}
 use Rattle.clap.proofs.OnLiterals.{clap_on_literals}
-use Rattle.monk_commands.specs.Request.{HasNumber, IsAsked, IsRead, KindNames, RunNames, monk_app}
+use Rattle.monk_logs.specs.declared.waits_for.WaitsFor.{WaitsFor}
+use Rattle.monk_commands.specs.Request.{AreMeanings, HasNumber, IsAsked, IsMeaning, IsRead, KindNames, RunNames, monk_app}
 
 -- what is read in the rows of a command is asked for where that command was found
 pub asked_in : (o : Option (Text × List Row)) (word : Text) (rows : List Row) (l : Line)
@@ -41,3 +44,30 @@ pub found_exactly : (A : Type 0) (o : Option A) (F G : A → Type 0) → ((x : A
     → IfSome o G
 found_exactly A None F G exact leads = tt
 found_exactly A (Some x) F G exact leads = leads x ((exact x).0 refl)
+
+-- ---- what those wait for who wait on a condition
+
+words_more : (ts : List Text) (ws : List WaitsFor) (t : Text) (w : WaitsFor) → AreMeanings ts ws → IsMeaning t w
+    → AreMeanings (ts ++ t ∷ []) (ws ++ w ∷ [])
+words_more [] [] t w are is = (is, tt)
+words_more [] (v ∷ ws) t w are is = absurd are
+words_more (s ∷ ts) [] t w are is = absurd are
+words_more (s ∷ ts) (v ∷ ws) t w are is = (are.0, words_more ts ws t w are.1 is)
+
+abbrev pub texts : List (Bor Text) → List Text
+texts words = map (λ w. w.now) words
+
+-- with the meaning of one word more
+pub meanings_more : (words : List (Bor Text)) (i : ℕ) (t : Bor Text) (ws new : List WaitsFor) (w : WaitsFor) → i < length words
+    → AreMeanings (texts (take i words)) ws → IsMeaning (get_or words i t).now w → new ≡ ws ++ w ∷ []
+    → AreMeanings (texts (take (i + 1) words)) new
+meanings_more words i t ws new w within are is more =
+    subst (AreMeanings (texts (take (i + 1) words))) (sym more)
+    (subst (λ (ts : List Text). AreMeanings ts (ws ++ w ∷ []))
+    (sym (ap texts (take_more words i t within) ∙ map-append (λ (x : Bor Text). x.now) (take i words) (get_or words i t ∷ [])))
+    (words_more (texts (take i words)) ws (get_or words i t).now w are is))
+
+-- with the meanings of all
+pub meanings_all : (words : List (Bor Text)) (i : ℕ) (ws : List WaitsFor) → length words ≤ i → AreMeanings (texts (take i words)) ws
+    → AreMeanings (texts words) ws
+meanings_all words i ws past are = subst (λ (xs : List (Bor Text)). AreMeanings (texts xs) ws) (take_all i words past) are

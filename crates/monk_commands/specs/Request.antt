@@ -1,9 +1,9 @@
 -- The command line of the program, as clap sees it, and what a line asks for
-use Rattle.std.specs.Prelude.{◌≡◌, ℕ, List, [], ◌∷◌, Option, Some, IsSomeAnd, true, map, option_map, codes, pos}
+use Rattle.std.specs.Prelude.{◌≡◌, ℕ, List, [], ◌∷◌, ◌++◌, Option, Some, None, IsSomeAnd, true, map, option_map, codes, pos}
 use Rattle.std.specs.Prelude.{string_bytes}
 use Rattle.std.specs.Str.Parse.{IsNumeral, digits_value, without_leading_plus}
 use Rattle.std.specs.Borrow.{Bor}
-use Rattle.clap.specs.Words.{AddsSubcommand, App, Row, Rule, Text, app_of, first_of, one_of, new_app, new_rule, with_rule}
+use Rattle.clap.specs.Words.{AddsSubcommand, App, Row, Rule, Text, all_of, app_of, first_of, one_of, new_app, new_rule, with_rule}
 use Rattle.clap.specs.Words.{with_subcommand}
 use Rattle.clap.specs.declared.builder.action.ArgAction.TheVariants.{Append, SetTrue}
 use Rattle.clap.specs.declared.builder.command.Command.{Command}
@@ -11,6 +11,9 @@ use Rattle.clap.specs.declared.builder.value_parser.ValueParser.TheVariants.{Sig
 use Rattle.clap.specs.declared.builder.value_parser.ValueParser.{ValueParser}
 use Rattle.monk_kinds.specs.Names.{kind_word, kinds as monitor_kinds}
 use Rattle.monk_kinds.specs.declared.name.KindName.{KindName}
+use Rattle.monk_logs.specs.declared.lapses.Lapses.{Lapses}
+use Rattle.monk_logs.specs.declared.lapses.Lapses.TheVariants.{Told, Allowed}
+use Rattle.monk_logs.specs.declared.waits_for.WaitsFor.{WaitsFor}
 use Rattle.monk_object.specs.Names.{object_word}
 use Rattle.monk_samples.specs.Samples.{IsInRange, sample_object}
 use Rattle.monk_samples.specs.declared.sample.Sample.{Sample}
@@ -143,6 +146,37 @@ pub record HasNumber (name : Text) (n : ℕ) (rows : List Row) : Type 0 where
   pub digits : IsNumeral 10 (without_leading_plus text)
   pub number : n ≡ digits_value 10 (without_leading_plus text)
 
+-- the flag `lapses` that clap has found, if any, says so
+pub record AreLapses (lapses : Lapses) (rows : List Row) : Type 0 where
+  pub none : one_of (codes "lapses") rows ≡ None → lapses ≡ Told
+  pub set : one_of (codes "lapses") rows ≡ Some (codes "true") → lapses ≡ Allowed
+  pub unset : one_of (codes "lapses") rows ≡ Some (codes "false") → lapses ≡ Told
+
+-- a whole number in digits
+pub record IsInDigits (text : Text) (n : ℕ) : Type 0 where
+  pub digits : IsNumeral 10 (without_leading_plus text)
+  pub number : n ≡ digits_value 10 (without_leading_plus text)
+
+-- a word COND=PRED says what is waited for there: two numbers, with the sign `=` between them
+pub record IsMeaning (word : Text) (w : WaitsFor) : Type 0 where
+  pub cond : Text
+  pub pred : Text
+  pub parts : word ≡ cond ++ codes "=" ++ pred
+  pub is_cond : IsInDigits cond w.cond
+  pub is_pred : IsInDigits pred w.pred
+
+-- word by word
+abbrev pub AreMeanings : List Text → List WaitsFor → Type 0
+AreMeanings [] [] = Unit {0}
+AreMeanings [] (w ∷ ws) = ⊥
+AreMeanings (t ∷ ts) [] = ⊥
+AreMeanings (t ∷ ts) (w ∷ ws) = IsMeaning t w × AreMeanings ts ws
+
+-- the words that clap has found for a name, if any
+abbrev pub words_or_none : Option (List Text) → List Text
+words_or_none None = []
+words_or_none (Some words) = words
+
 -- a kind, a sample, seats and rounds are those that clap has found
 abbrev pub AreRunValues : KindName → Sample → ℕ → ℕ → List Row → Type 0
 AreRunValues kind sample seats rounds rows =
@@ -156,7 +190,8 @@ ValuesAre (Classify e w s) rows = HasNumber (codes "ENTRY") e rows × HasNumber 
 ValuesAre (Audit file) rows = first_of (codes "FILE") rows ≡ option_map string_bytes file
 ValuesAre (Play file) rows = first_of (codes "FILE") rows ≡ option_map string_bytes file
 ValuesAre (Upgrade file) rows = first_of (codes "FILE") rows ≡ option_map string_bytes file
-ValuesAre (Fit file lapses means) rows = first_of (codes "FILE") rows ≡ option_map string_bytes file
+ValuesAre (Fit file lapses means) rows = (first_of (codes "FILE") rows ≡ option_map string_bytes file)
+    × AreLapses lapses rows × AreMeanings (words_or_none (all_of (codes "means") rows)) means.items
 ValuesAre (Trace file) rows = first_of (codes "FILE") rows ≡ option_map string_bytes file
 ValuesAre (Explain file) rows = first_of (codes "FILE") rows ≡ option_map string_bytes file
 ValuesAre (Draw file) rows = first_of (codes "FILE") rows ≡ option_map string_bytes file

@@ -187,8 +187,9 @@ fn fit_text<W: Write>(
 ///
 /// # Cost
 ///
-/// One pass over the text and ten over the events; of a log up to three for each kind, and one that counts. Memory for the text, for
-/// the events or lines, and for the queues.
+/// One pass over the text and ten over the events, with memory for the text, the events and the queues. Of a log one pass over the
+/// text that looks for its first fault, up to three for each kind, each up to the first misfit there, and one that counts; memory for
+/// the text and the queues alone.
 pub fn fit_stream<R: Read, W: Write>(
     alloc: Global,
     lapses: Lapses,

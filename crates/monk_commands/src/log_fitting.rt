@@ -1,6 +1,6 @@
 //! The answer to a log that is judged under each of the ten kinds.
 
-ghost use Rattle.std.specs.Prelude.{◌≡◌, ◌≤◌, ◌^◌, ◌++◌, false, true, length, IfOk, OnOk, IsErrOf, string_bytes};
+ghost use Rattle.std.specs.Prelude.{◌≡◌, ◌≤◌, ◌++◌, false, true, IfOk, OnOk, IsErrOf, string_bytes};
 ghost use Rattle.std.specs.Io.KnownBytes.{Appends};
 ghost use Rattle.monk_kinds.specs.Names.{kinds};
 ghost use Rattle.monk_object.specs.Names.{most};
@@ -17,24 +17,22 @@ use crate::fault::StreamFault;
 use monk_audit::AuditFault;
 use monk_history::Device;
 use monk_kinds::KindName;
-use monk_logs::{Counts, Fit, Lapses, LogHeader, LogLine, WaitsFor, count, fit, read_log};
+use monk_logs::{Counts, Fit, Lapses, LogLines, WaitsFor};
 use std::alloc::Global;
 use std::io::Write;
 
 /// The strictest order in which the log fits the kind, or why it fits in none.
 fn kind_fit(
     alloc: Global,
-    header: &LogHeader,
-    lines: &[LogLine],
+    log: &LogLines<'_>,
     kind: KindName,
     lapses: Lapses,
 ) -> Result<Fit, StreamFault>
-    requires few { length lines.now ≤ 2 ^ 25 }
-    requires size { header.now.size ≤ most header.now.object }
-    ensures found { IfOk result (λ f. f ≡ log_fit lapses header.now lines.now kind) }
+    requires size { log.now.0.size ≤ most log.now.0.object }
+    ensures found { IfOk result (λ f. f ≡ log_fit lapses log.now.0 log.now.1 kind) }
     ensures no_file { IsErrOf result StreamFault.File → ⊥ }
 {
-    match fit(alloc, header, lines, kind, lapses) {
+    match log.fit(alloc, kind, lapses) {
         Ok(found) => Ok(found),
         Err(AuditFault::Memory) => Err(StreamFault::Memory),
         // The size is within the object's greatest.
@@ -46,18 +44,16 @@ fn kind_fit(
 fn put_line(
     alloc: Global,
     page: &mut Vec<u8>,
-    header: &LogHeader,
-    lines: &[LogLine],
+    log: &LogLines<'_>,
     kind: KindName,
     lapses: Lapses,
 ) -> Result<bool, StreamFault>
-    requires few { length lines.now ≤ 2 ^ 25 }
-    requires size { header.now.size ≤ most header.now.object }
-    ensures line { OnOk result (page.new.items ≡ page.old.items ++ log_fit_line lapses header.now lines.now kind) }
-    ensures fit { IfOk result (λ fits. fits ≡ is_in (log_fit lapses header.now lines.now kind)) }
+    requires size { log.now.0.size ≤ most log.now.0.object }
+    ensures line { OnOk result (page.new.items ≡ page.old.items ++ log_fit_line lapses log.now.0 log.now.1 kind) }
+    ensures fit { IfOk result (λ fits. fits ≡ is_in (log_fit lapses log.now.0 log.now.1 kind)) }
     ensures no_file { IsErrOf result StreamFault.File → ⊥ }
 {
-    match kind_fit(alloc, header, lines, kind, lapses)? {
+    match kind_fit(alloc, log, kind, lapses)? {
         Fit::In(order) => {
             page.extend_from_slice(kind.text())?;
             page.extend_from_slice(b" fits ")?;
@@ -75,38 +71,30 @@ fn put_line(
 /// A line for each kind, and whether the log fits one of them.
 fn all_lines(
     alloc: Global,
-    header: &LogHeader,
-    lines: &[LogLine],
+    log: &LogLines<'_>,
     lapses: Lapses,
 ) -> Result<(Vec<u8>, bool), StreamFault>
-    requires few { length lines.now ≤ 2 ^ 25 }
-    requires size { header.now.size ≤ most header.now.object }
-    ensures lines { IfOk result (λ r. r.0.items ≡ log_fit_lines lapses header.now lines.now kinds) }
-    ensures fit { IfOk result (λ r. r.1 ≡ fits_some_kind lapses header.now lines.now kinds) }
+    requires size { log.now.0.size ≤ most log.now.0.object }
+    ensures lines { IfOk result (λ r. r.0.items ≡ log_fit_lines lapses log.now.0 log.now.1 kinds) }
+    ensures fit { IfOk result (λ r. r.1 ≡ fits_some_kind lapses log.now.0 log.now.1 kinds) }
     ensures no_file { IsErrOf result StreamFault.File → ⊥ }
 {
     let mut page = Vec::new(alloc);
     let mut is_fit = false;
     for kind in KindName::ALL.iter() {
-        let fits = put_line(alloc, &mut page, header, lines, *kind, lapses)?;
+        let fits = put_line(alloc, &mut page, log, *kind, lapses)?;
         is_fit = is_fit || fits;
     }
     Ok((page, is_fit))
 }
 
 /// What is counted in the log.
-fn counts(
-    alloc: Global,
-    header: &LogHeader,
-    lines: &[LogLine],
-    means: &[WaitsFor],
-) -> Result<Counts, StreamFault>
-    requires few { length lines.now ≤ 2 ^ 25 }
-    requires size { header.now.size ≤ most header.now.object }
-    ensures counted { IfOk result (λ c. c ≡ log_counts header.now means.now lines.now) }
+fn counts(alloc: Global, log: &LogLines<'_>, means: &[WaitsFor]) -> Result<Counts, StreamFault>
+    requires size { log.now.0.size ≤ most log.now.0.object }
+    ensures counted { IfOk result (λ c. c ≡ log_counts log.now.0 means.now log.now.1) }
     ensures no_file { IsErrOf result StreamFault.File → ⊥ }
 {
-    match count(alloc, header, lines, KindName::Npnb, means) {
+    match log.count(alloc, KindName::Npnb, means) {
         Ok(counts) => Ok(counts),
         Err(AuditFault::Memory) => Err(StreamFault::Memory),
         // The size is within the object's greatest.
@@ -191,16 +179,14 @@ fn put_text(
 fn put_counts(
     alloc: Global,
     page: &mut Vec<u8>,
-    header: &LogHeader,
-    lines: &[LogLine],
+    log: &LogLines<'_>,
     means: &[WaitsFor],
 ) -> Result<(), StreamFault>
-    requires few { length lines.now ≤ 2 ^ 25 }
-    requires size { header.now.size ≤ most header.now.object }
-    ensures lines { OnOk result (page.new.items ≡ page.old.items ++ counts_lines header.now means.now lines.now) }
+    requires size { log.now.0.size ≤ most log.now.0.object }
+    ensures lines { OnOk result (page.new.items ≡ page.old.items ++ counts_lines log.now.0 means.now log.now.1) }
     ensures no_file { IsErrOf result StreamFault.File → ⊥ }
 {
-    let counts = counts(alloc, header, lines, means)?;
+    let counts = counts(alloc, log, means)?;
     put_text(alloc, page, means, counts)
 }
 
@@ -209,24 +195,23 @@ fn fit_log<W: Write>(
     alloc: Global,
     lapses: Lapses,
     means: &[WaitsFor],
-    header: &LogHeader,
-    lines: &[LogLine],
+    log: &LogLines<'_>,
     writer: &mut Device<W>,
 ) -> Result<u8, StreamFault>
     requires works { has_failed writer.old ≡ false }
-    requires few { length lines.now ≤ 2 ^ 25 }
     ensures answer { IfOk result
-        (λ status. (status ≡ (log_fit_answer lapses means.now header.now lines.now).status)
+        (λ status. (status ≡ (log_fit_answer lapses means.now log.now.0 log.now.1).status)
         × Appends (W.contents (held writer.old)) (W.contents (held writer.new))
-        (log_fit_answer lapses means.now header.now lines.now).text) }
+        (log_fit_answer lapses means.now log.now.0 log.now.1).text) }
     ensures file { IsErrOf result StreamFault.File → has_failed writer.new ≡ true }
     ensures memory { IsErrOf result StreamFault.Memory → writer.new ≡ writer.old }
 {
+    let header = log.header();
     if header.size() > header.object().greatest_size() {
         return put(&too_big(alloc)?, writer);
     }
-    let (mut page, is_fit) = all_lines(alloc, header, lines, lapses)?;
-    put_counts(alloc, &mut page, header, lines, means)?;
+    let (mut page, is_fit) = all_lines(alloc, log, lapses)?;
+    put_counts(alloc, &mut page, log, means)?;
     match writer.write_all(&page) {
         Ok(()) => Ok(if is_fit { 0 } else { 1 }),
         Err(_) => Err(StreamFault::File),
@@ -248,8 +233,8 @@ pub(crate) fn fit_log_text<W: Write>(
     ensures file { IsErrOf result StreamFault.File → has_failed writer.new ≡ true }
     ensures memory { IsErrOf result StreamFault.Memory → writer.new ≡ writer.old }
 {
-    match read_log(alloc, bytes) {
-        Ok((header, lines)) => fit_log(alloc, lapses, means, &header, &lines, writer),
+    match LogLines::check(bytes) {
+        Ok(log) => fit_log(alloc, lapses, means, &log, writer),
         Err(fault) => put(&unreadable(alloc, fault)?, writer),
     }
 }

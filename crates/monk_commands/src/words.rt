@@ -1,11 +1,14 @@
 //! The program's words, read with `clap`.
 
-ghost use Rattle.std.specs.Prelude.{◌≡◌, IfOk, IfSome, Some, codes, false, map, option_map, string_bytes};
+ghost use Rattle.std.specs.Prelude.{◌≡◌, IfOk, IfSome, Some, codes, false, if◌then◌else◌, map, option_map, string_bytes};
 ghost use Rattle.monk_kinds.specs.Names.{kind_word};
 ghost use Rattle.monk_object.specs.Names.{object_word};
-ghost use Rattle.clap.specs.Words.{App, app_of, first_of, first_value, found_of, rows_of, rule_of, subcommand_of, subcommand_rows_of};
+ghost use Rattle.clap.specs.Words.{App, all_of, app_of, first_of, first_value, found_of, rows_of, rule_of, subcommand_of};
+ghost use Rattle.clap.specs.Words.{subcommand_rows_of};
+ghost use Rattle.monk_logs.specs.declared.lapses.Lapses.{Lapses};
 ghost use Rattle.monk_samples.specs.Samples.{IsInRange, sample_object};
-ghost use Rattle.monk_commands.specs.Request.{AreRunValues, IsAsked, IsCompleteCommand, IsMonk, IsRead, IsRunCommand, IsSubcommand};
+ghost use Rattle.monk_commands.specs.Request.{AreLapses, AreMeanings, AreRunValues, IsAsked, IsCompleteCommand, IsInDigits};
+ghost use Rattle.monk_commands.specs.Request.{IsMeaning, IsMonk, IsRead, IsRunCommand, IsSubcommand, words_or_none};
 ghost use Rattle.monk_commands.specs.Request.{classify_app, file_app, fit_app, flag_rule, plain_app};
 ghost use Rattle.monk_commands.specs.Request.{repeated_rule, required_rule};
 
@@ -229,22 +232,36 @@ fn run_of(matches: &ArgMatches<'_>) -> Option<(KindName, Sample, u8, u32)>
     Some((kind, sample, seats, rounds))
 }
 
-/// Which lines of a log may tell of a wait that ran out.
-fn lapses_of(matches: &ArgMatches<'_>) -> Lapses {
-    if matches.get_flag("lapses") {
+/// Which lines of a log may tell of a wait that ran out, by whether the flag is set.
+fn lapses_by(is_set: bool) -> Lapses
+    ensures { result ≡ (if is_set then Lapses.Allowed else Lapses.Told) }
+{
+    if is_set {
         Lapses::Allowed
     } else {
         Lapses::Told
     }
 }
 
+fn lapses_of(matches: &ArgMatches<'_>) -> Lapses
+    ensures { AreLapses result (rows_of (found_of matches.now)) }
+{
+    lapses_by(matches.get_flag("lapses"))
+}
+
+fn number_of(digits: &str) -> Option<u8>
+    ensures { IfSome result (IsInDigits digits.now) }
+{
+    digits.parse().ok()
+}
+
 /// What a word `COND=PRED` says.
-fn meaning_of(word: &str) -> Option<WaitsFor> {
+fn meaning_of(word: &str) -> Option<WaitsFor>
+    ensures { IfSome result (IsMeaning word.now) }
+{
     let (cond, pred) = word.split_once('=')?;
-    Some(WaitsFor {
-        cond: cond.parse().ok()?,
-        pred: pred.parse().ok()?,
-    })
+    let (cond, pred) = (number_of(cond)?, number_of(pred)?);
+    Some(WaitsFor { cond, pred })
 }
 
 /// The fault of a word that is not `COND=PRED`.
@@ -256,17 +273,27 @@ fn no_meaning(alloc: Global, word: &str) -> LineFault {
 }
 
 /// What those wait for who wait on a condition, word by word.
-fn meanings_of(alloc: Global, matches: &ArgMatches<'_>) -> Result<Vec<WaitsFor>, LineFault> {
+fn meanings(alloc: Global, words: &[&str]) -> Result<Vec<WaitsFor>, LineFault>
+    ensures { IfOk result (λ means. AreMeanings (map (λ w. w.now) words.now) means.items) }
+{
     let mut means = Vec::new(alloc);
-    if let Some(words) = matches.get_strs("means") {
-        for word in words {
-            match meaning_of(word) {
-                Some(it) => means.push(it)?,
-                None => return Err(no_meaning(alloc, word)),
-            }
+    for word in words {
+        match meaning_of(word) {
+            Some(it) => means.push(it)?,
+            None => return Err(no_meaning(alloc, word)),
         }
     }
     Ok(means)
+}
+
+fn meanings_of(alloc: Global, matches: &ArgMatches<'_>) -> Result<Vec<WaitsFor>, LineFault>
+    ensures { IfOk result
+        (λ means. AreMeanings (words_or_none (all_of (codes "means") (rows_of (found_of matches.now)))) means.items) }
+{
+    match matches.get_strs("means") {
+        Some(words) => meanings(alloc, words),
+        None => Ok(Vec::new(alloc)),
+    }
 }
 
 fn line_to_fit(alloc: Global, matches: &ArgMatches<'_>) -> Result<Line, LineFault>

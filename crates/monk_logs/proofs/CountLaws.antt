@@ -1,6 +1,5 @@
 -- What is counted of the lines to come, one line after the other
-use Rattle.std.proofs.Common.{◌≡◌, ℕ, ◌+◌, ◌<◌, ◌≤◌, Bool, List, [], ◌∷◌, length, get_or, drop, refl, sym, ap, ◌∙◌}
-use Rattle.std.proofs.lemmas.List.{at_drop_all, at_drop_more}
+use Rattle.std.proofs.Common.{◌≡◌, ℕ, ◌+◌, Bool, List, [], ◌∷◌, refl, sym, ap, ◌∙◌}
 use Rattle.std.specs.Prelude.{◌&&◌, Result, Ok, Err}
 use Rattle.monk_kinds.specs.declared.mode.Rules.{Rules}
 use Rattle.monk_object.specs.Object.{Object}
@@ -40,33 +39,32 @@ module _ (m : Monitor) (means : List WaitsFor) where
   unfolding counts_from
   from_end n s = refl
 
-  more : (log : List LogLine) (i : ℕ) (l : LogLine) (s : Counted) (r : Result BoardCourse Blame) (v : Counts) → i < length log
-      → counts_from m means i s (drop i log) ≡ v → r ≡ read_over Allowed Any m s.course (get_or log i l)
-      → then_or (λ y. counts_from m means (i + 1) (with_next (i + 1) s (get_or log i l) y) (drop (i + 1) log)) (counts_at s) r ≡ v
-  more log i l s r v within is judged =
-      ap (then_or (λ y. counts_from m means (i + 1) (with_next (i + 1) s (get_or log i l) y) (drop (i + 1) log)) (counts_at s)) judged
-      ∙ sym (from_cons i s (get_or log i l) (drop (i + 1) log))
-      ∙ sym (at_drop_more (counts_from m means i s) log i l within) ∙ is
+  more : (old new : List LogLine) (n : ℕ) (l : LogLine) (s : Counted) (r : Result BoardCourse Blame) (v : Counts)
+      → counts_from m means n s old ≡ v → old ≡ l ∷ new → r ≡ read_over Allowed Any m s.course l
+      → then_or (λ y. counts_from m means (n + 1) (with_next (n + 1) s l y) new) (counts_at s) r ≡ v
+  more old new n l s r v is taken judged =
+      ap (then_or (λ y. counts_from m means (n + 1) (with_next (n + 1) s l y) new) (counts_at s)) judged
+      ∙ sym (from_cons n s l new) ∙ sym (ap (counts_from m means n s) taken) ∙ is
 
-  pub count_goes_on : (log : List LogLine) (i : ℕ) (l : LogLine) (a b : Board) (p q : Pending) (k : Tally) (left : LineVerdict)
-      (t : Tally) (v : Counts) → i < length log → counts_from m means i (counted (board_course a p) k) (drop i log) ≡ v
-      → course_or b left ≡ board_read_over Allowed Any m a p (get_or log i l) → left ≡ line.Fits q
-      → t ≡ tallied m.object means (i + 1) (board_course a p) (get_or log i l) (board_course b q) k
-      → counts_from m means (i + 1) (counted (board_course b q) t) (drop (i + 1) log) ≡ v
-  count_goes_on log i l a b p q k left t v within is judged goes tally =
-      ap (λ (x : Tally). counts_from m means (i + 1) (counted (board_course b q) x) (drop (i + 1) log)) tally
-      ∙ more log i l (counted (board_course a p) k) (Ok (board_course b q)) v within is (ap (course_or b) (sym goes) ∙ judged)
+  pub count_goes_on : (old new : List LogLine) (n : ℕ) (l : LogLine) (a b : Board) (p q : Pending) (k : Tally) (left : LineVerdict)
+      (t : Tally) (v : Counts) → counts_from m means n (counted (board_course a p) k) old ≡ v → old ≡ l ∷ new
+      → course_or b left ≡ board_read_over Allowed Any m a p l → left ≡ line.Fits q
+      → t ≡ tallied m.object means (n + 1) (board_course a p) l (board_course b q) k
+      → counts_from m means (n + 1) (counted (board_course b q) t) new ≡ v
+  count_goes_on old new n l a b p q k left t v is taken judged goes tally =
+      ap (λ (x : Tally). counts_from m means (n + 1) (counted (board_course b q) x) new) tally
+      ∙ more old new n l (counted (board_course a p) k) (Ok (board_course b q)) v is taken (ap (course_or b) (sym goes) ∙ judged)
 
-  pub count_misfits : (log : List LogLine) (i : ℕ) (l : LogLine) (a b : Board) (p : Pending) (k : Tally) (left : LineVerdict)
-      (why : Blame) (v : Counts) → i < length log → counts_from m means i (counted (board_course a p) k) (drop i log) ≡ v
-      → course_or b left ≡ board_read_over Allowed Any m a p (get_or log i l) → left ≡ line.Misfits why
+  pub count_misfits : (old new : List LogLine) (n : ℕ) (l : LogLine) (a b : Board) (p : Pending) (k : Tally) (left : LineVerdict)
+      (why : Blame) (v : Counts) → counts_from m means n (counted (board_course a p) k) old ≡ v → old ≡ l ∷ new
+      → course_or b left ≡ board_read_over Allowed Any m a p l → left ≡ line.Misfits why
       → counts_at (counted (board_course a p) k) ≡ v
-  count_misfits log i l a b p k left why v within is judged fails =
-      more log i l (counted (board_course a p) k) (Err why) v within is (ap (course_or b) (sym fails) ∙ judged)
+  count_misfits old new n l a b p k left why v is taken judged fails =
+      more old new n l (counted (board_course a p) k) (Err why) v is taken (ap (course_or b) (sym fails) ∙ judged)
 
-  pub count_ends : (log : List LogLine) (i : ℕ) (s : Counted) (v : Counts) → length log ≤ i
-      → counts_from m means i s (drop i log) ≡ v → counts_at s ≡ v
-  count_ends log i s v past is = sym (from_end i s) ∙ sym (at_drop_all (counts_from m means i s) log i past) ∙ is
+  pub count_ends : (left : List LogLine) (n : ℕ) (s : Counted) (v : Counts) → counts_from m means n s left ≡ v → left ≡ []
+      → counts_at s ≡ v
+  count_ends left n s v is none = sym (from_end n s) ∙ sym (ap (counts_from m means n s) none) ∙ is
 
 -- ---- what is counted of a line, by the items before it and behind it
 

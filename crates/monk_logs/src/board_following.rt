@@ -12,7 +12,7 @@ use crate::board::Board;
 use crate::board_reading::line_read;
 use crate::header::LogHeader;
 use crate::lapses::Lapses;
-use crate::line::LogLine;
+use crate::line_source::LineSource;
 use crate::order::Order;
 use crate::pending::Pending;
 use crate::setting::Setting;
@@ -23,23 +23,26 @@ use monk_object::{Book, Buffer, Guarded, ObjectName, Shop};
 use std::alloc::{AllocError, Global};
 
 /// Judges the lines one after the other, over the object in its opening state.
-fn follow<T: Guarded>(
+fn follow<T: Guarded, L: LineSource>(
     alloc: Global,
     object: T,
     lapses: Lapses,
     order: Order,
     setting: Setting,
-    lines: &[LogLine],
+    lines: L,
 ) -> Result<LogVerdict, AllocError>
-    requires { length lines.now ≤ most_lines }
+    requires { length (L.left lines) ≤ most_lines }
     ensures { IfOk result
         (λ v. v ≡ read_verdict lapses order
-        (monitor setting.rules setting.seats setting.conds T.meaning (T.state object)) lines.now) }
+        (monitor setting.rules setting.seats setting.conds T.meaning (T.state object)) (L.left lines)) }
 {
     let mut object = object;
+    let mut lines = lines;
     let mut board = Board::opening::<T>(alloc, setting)?;
     let mut pending = Pending::Settled;
-    for (i, line) in lines.iter().enumerate() {
+    let mut count = 0;
+    while let Some(line) = lines.next() {
+        count += 1;
         match line_read(
             lapses,
             order,
@@ -47,29 +50,26 @@ fn follow<T: Guarded>(
             &mut board,
             &mut object,
             pending,
-            *line,
+            line,
         )? {
             LineVerdict::Fits(left) => pending = left,
-            LineVerdict::Misfits(blame) => {
-                let line = i as u32 + 1;
-                return Ok(LogVerdict::Misfit { line, blame });
-            }
+            LineVerdict::Misfits(blame) => return Ok(LogVerdict::Misfit { line: count, blame }),
         }
     }
     Ok(LogVerdict::Fits)
 }
 
 /// Makes the object that the header names, and judges the lines.
-pub(crate) fn follow_board(
+pub(crate) fn follow_board<L: LineSource>(
     alloc: Global,
     header: &LogHeader,
-    lines: &[LogLine],
+    lines: L,
     kind: KindName,
     order: Order,
     lapses: Lapses,
 ) -> Result<LogVerdict, AuditFault>
-    requires few { length lines.now ≤ most_lines }
-    ensures verdict { IfOk result (λ v. v ≡ read_verdict lapses order (log_monitor kind header.now) lines.now) }
+    requires few { length (L.left lines) ≤ most_lines }
+    ensures verdict { IfOk result (λ v. v ≡ read_verdict lapses order (log_monitor kind header.now) (L.left lines)) }
     ensures fits { OnOk result (header.now.size ≤ most header.now.object) }
     ensures object { IsErrOf result AuditFault.Object → most header.now.object < header.now.size }
     ensures too_big { most header.now.object < header.now.size → IsErrOf result AuditFault.Object }

@@ -103,6 +103,7 @@ fn signal<T: Guarded>(
 }
 
 /// A line where each event before it is known.
+#[inline(always)]
 pub(crate) fn line_settled<T: Guarded>(
     order: Order,
     setting: Setting,
@@ -177,6 +178,7 @@ fn line_half<T: Guarded>(
 }
 
 /// A line of a log, by what is still to be known of the last event before it.
+#[inline(always)]
 pub(crate) fn line_behind<T: Guarded>(
     order: Order,
     setting: Setting,

@@ -202,6 +202,7 @@ fn resume_read<T: Guarded>(
 
 /// A line of a log, by what is still to be known of the last event before it. Where lapses are allowed, a `resume` that can't be of
 /// a seat that a release chose is of one whose wait ran out.
+#[inline(always)]
 pub(crate) fn line_read<T: Guarded>(
     lapses: Lapses,
     order: Order,

@@ -50,6 +50,7 @@ pub(crate) fn served_reason<T: Guarded>(
 
 /// Adds an event that is no act, if it is allowed. Gives the first test that it fails, or 0; where it fails one, the board is of
 /// no further use.
+#[inline(always)]
 fn choose<T: Guarded>(
     order: Order,
     setting: Setting,
@@ -104,6 +105,7 @@ fn act<T: Guarded>(
 }
 
 /// What is found of a line that tells an event of which nothing is left to be known.
+#[inline(always)]
 fn settled_by(reason: u8) -> LineVerdict
     ensures { result ≡ moves.verdict_by reason }
 {
@@ -115,6 +117,7 @@ fn settled_by(reason: u8) -> LineVerdict
 }
 
 /// Adds an event of which nothing is left to be known, and that is no act.
+#[inline(always)]
 pub(crate) fn settle<T: Guarded>(
     order: Order,
     setting: Setting,
@@ -136,6 +139,7 @@ pub(crate) fn settle<T: Guarded>(
 }
 
 /// Adds an act.
+#[inline(always)]
 pub(crate) fn settle_act<T: Guarded>(
     order: Order,
     setting: Setting,
@@ -155,6 +159,7 @@ pub(crate) fn settle_act<T: Guarded>(
 }
 
 /// What is still to be known, where the event may be called.
+#[inline(always)]
 pub(crate) fn hold<T: Guarded>(
     setting: Setting,
     board: &Board,
@@ -176,6 +181,7 @@ pub(crate) fn hold<T: Guarded>(
 }
 
 /// The same of a release, whose choice is to come.
+#[inline(always)]
 pub(crate) fn release<T: Guarded>(
     setting: Setting,
     board: &Board,

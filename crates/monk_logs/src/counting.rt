@@ -18,8 +18,10 @@ use crate::header::LogHeader;
 use crate::item::Item;
 use crate::items::{seats_at, services_at, services_of};
 use crate::items_moves::{join, serve};
+use crate::kept_lines::KeptLines;
 use crate::lapses::Lapses;
 use crate::line::LogLine;
+use crate::line_source::LineSource;
 use crate::order::Order;
 use crate::pending::Pending;
 use crate::setting::Setting;
@@ -71,24 +73,27 @@ fn misses_signal<T: Guarded>(line: LogLine, object: &T, items: &[Item], means: &
 }
 
 /// Counts line by line, over the object in its opening state, up to the first misfit.
-fn count_lines<T: Guarded>(
+fn count_lines<T: Guarded, L: LineSource>(
     alloc: Global,
     object: T,
     setting: Setting,
     means: &[WaitsFor],
-    lines: &[LogLine],
+    lines: L,
 ) -> Result<Counts, AllocError>
-    requires { length lines.now ≤ most_lines }
+    requires { length (L.left lines) ≤ most_lines }
     ensures { IfOk result
         (λ c. c ≡ counts_of
-        (monitor setting.rules setting.seats setting.conds T.meaning (T.state object)) means.now lines.now) }
+        (monitor setting.rules setting.seats setting.conds T.meaning (T.state object)) means.now (L.left lines)) }
 {
     let mut object = object;
+    let mut lines = lines;
     let mut board = Board::opening::<T>(alloc, setting)?;
     let mut pending = Pending::Settled;
     let mut items = Vec::new(alloc);
     let mut tally = Tally::NOTHING;
-    for (i, line) in lines.iter().enumerate() {
+    let mut number = 0;
+    while let Some(line) = lines.next() {
+        number += 1;
         let before = services_of(&items);
         match line_read(
             Lapses::Allowed,
@@ -97,16 +102,52 @@ fn count_lines<T: Guarded>(
             &mut board,
             &mut object,
             pending,
-            *line,
+            line,
         )? {
             LineVerdict::Fits(left) => pending = left,
             LineVerdict::Misfits(_) => return Ok(tally.counts(&items)),
         }
         take_items(&mut items, &board, pending)?;
-        let is_missed = misses_signal(*line, &object, &items, means);
-        tally = tally.with_line(i as u32 + 1, *line, before, services_of(&items), is_missed);
+        let is_missed = misses_signal(line, &object, &items, means);
+        tally = tally.with_line(number, line, before, services_of(&items), is_missed);
     }
     Ok(tally.counts(&items))
+}
+
+/// Makes the object that the header names, and counts the lines.
+pub(crate) fn count_source<L: LineSource>(
+    alloc: Global,
+    header: &LogHeader,
+    lines: L,
+    kind: KindName,
+    means: &[WaitsFor],
+) -> Result<Counts, AuditFault>
+    requires { length (L.left lines) ≤ most_lines }
+    ensures counted { IfOk result (λ c. c ≡ counts_of (log_monitor kind header.now) means.now (L.left lines)) }
+    ensures made { OnOk result (header.now.size ≤ most header.now.object) }
+    ensures object { IsErrOf result AuditFault.Object → most header.now.object < header.now.size }
+    ensures too_big { most header.now.object < header.now.size → IsErrOf result AuditFault.Object }
+{
+    let setting = Setting {
+        rules: rules_by_name(kind),
+        seats: header.seats(),
+        conds: header.conds(),
+    };
+    let size = header.size();
+    match header.object() {
+        ObjectName::Buffer => {
+            let buffer = Buffer::make(alloc, size)?;
+            Ok(count_lines(alloc, buffer, setting, means, lines)?)
+        }
+        ObjectName::Book => {
+            let book = Book::make(size)?;
+            Ok(count_lines(alloc, book, setting, means, lines)?)
+        }
+        ObjectName::Shop => {
+            let shop = Shop::make(size)?;
+            Ok(count_lines(alloc, shop, setting, means, lines)?)
+        }
+    }
 }
 
 /// Counts what happens in the log, read as one of a monitor of the kind over the object that its first line names, in any order
@@ -137,24 +178,5 @@ pub fn count(
     ensures object { IsErrOf result AuditFault.Object → most header.now.object < header.now.size }
     ensures too_big { most header.now.object < header.now.size → IsErrOf result AuditFault.Object }
 {
-    let setting = Setting {
-        rules: rules_by_name(kind),
-        seats: header.seats(),
-        conds: header.conds(),
-    };
-    let size = header.size();
-    match header.object() {
-        ObjectName::Buffer => {
-            let buffer = Buffer::make(alloc, size)?;
-            Ok(count_lines(alloc, buffer, setting, means, lines)?)
-        }
-        ObjectName::Book => {
-            let book = Book::make(size)?;
-            Ok(count_lines(alloc, book, setting, means, lines)?)
-        }
-        ObjectName::Shop => {
-            let shop = Shop::make(size)?;
-            Ok(count_lines(alloc, shop, setting, means, lines)?)
-        }
-    }
+    count_source(alloc, header, KeptLines { left: lines }, kind, means)
 }

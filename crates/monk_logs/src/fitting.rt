@@ -9,11 +9,13 @@ ghost use Rattle.monk_logs.specs.Lapses.{IsOpenWith};
 ghost use Rattle.monk_logs.specs.Verdict.{log_monitor};
 ghost use Rattle.monk_logs.specs.declared.order.Order.{Order};
 
+use crate::board_following::follow_board;
 use crate::header::LogHeader;
-use crate::judging::judge_in;
+use crate::kept_lines::KeptLines;
 use crate::kind_fit::Fit;
 use crate::lapses::Lapses;
 use crate::line::LogLine;
+use crate::line_source::LineSource;
 use crate::order::Order;
 use crate::verdict::LogVerdict;
 use monk_audit::AuditFault;
@@ -21,26 +23,26 @@ use monk_kinds::KindName;
 use std::alloc::Global;
 
 /// The strictest order in which the log fits the kind, as it is found order by order.
-fn found_fit(
+pub(crate) fn found_fit<L: LineSource>(
     alloc: Global,
     header: &LogHeader,
-    lines: &[LogLine],
+    lines: &L,
     kind: KindName,
     lapses: Lapses,
 ) -> Result<Fit, AuditFault>
-    requires { length lines.now ≤ most_lines }
-    ensures found { IfOk result (λ f. f ≡ fit_of lapses (log_monitor kind header.now) lines.now) }
+    requires { length (L.left lines.now) ≤ most_lines }
+    ensures found { IfOk result (λ f. f ≡ fit_of lapses (log_monitor kind header.now) (L.left lines.now)) }
     ensures made { OnOk result (header.now.size ≤ most header.now.object) }
     ensures object { IsErrOf result AuditFault.Object → most header.now.object < header.now.size }
     ensures too_big { most header.now.object < header.now.size → IsErrOf result AuditFault.Object }
 {
-    if judge_in(alloc, header, lines, kind, Order::Fifo, lapses)? == LogVerdict::Fits {
+    if follow_board(alloc, header, lines.again(), kind, Order::Fifo, lapses)? == LogVerdict::Fits {
         return Ok(Fit::In(Order::Fifo));
     }
-    if judge_in(alloc, header, lines, kind, Order::Wake, lapses)? == LogVerdict::Fits {
+    if follow_board(alloc, header, lines.again(), kind, Order::Wake, lapses)? == LogVerdict::Fits {
         return Ok(Fit::In(Order::Wake));
     }
-    match judge_in(alloc, header, lines, kind, Order::Any, lapses)? {
+    match follow_board(alloc, header, lines.again(), kind, Order::Any, lapses)? {
         LogVerdict::Fits => Ok(Fit::In(Order::Any)),
         LogVerdict::Misfit { line, blame } => Ok(Fit::Misfit { line, blame }),
     }
@@ -78,5 +80,5 @@ pub fn fit(
     ensures object { IsErrOf result AuditFault.Object → most header.now.object < header.now.size }
     ensures too_big { most header.now.object < header.now.size → IsErrOf result AuditFault.Object }
 {
-    found_fit(alloc, header, lines, kind, lapses)
+    found_fit(alloc, header, &KeptLines { left: lines }, kind, lapses)
 }

@@ -10,6 +10,7 @@ ghost use Rattle.monk_logs.specs.ReadStand.{FitsExactlyWith, MisfitsExactlyWith,
 use crate::board_following::follow_board;
 use crate::following::follow_log;
 use crate::header::LogHeader;
+use crate::kept_lines::KeptLines;
 use crate::lapses::Lapses;
 use crate::line::LogLine;
 use crate::order::Order;
@@ -88,5 +89,6 @@ pub fn judge_in(
     ensures object { IsErrOf result AuditFault.Object → most header.now.object < header.now.size }
     ensures too_big { most header.now.object < header.now.size → IsErrOf result AuditFault.Object }
 {
+    let lines = KeptLines { left: lines };
     follow_board(alloc, header, lines, kind, order, lapses)
 }

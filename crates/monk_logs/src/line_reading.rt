@@ -6,11 +6,14 @@ ghost use Rattle.monk_logs.specs.Log.Reading.{log_verb_word, log_verbs, line_aft
 
 use crate::header::LogHeader;
 use crate::line::LogLine;
+use crate::log_front::{WINDOW, line_at_front};
 use crate::verb::Verb;
 use monk_history::lines::{Flaw, LineWords, Record};
 use monk_object::Op;
 
 impl Record<LogHeader> for LogLine {
+    ghost use Rattle.std.specs.Prelude.{IfSome};
+    ghost use Rattle.monk_history.specs.Text.Lines.{IsAtFront};
     ghost use Rattle.monk_history.specs.Text.Words.{Reads};
     ghost use Rattle.monk_logs.specs.Log.Reading.{line_under};
 
@@ -20,6 +23,16 @@ impl Record<LogHeader> for LogLine {
         ensures { Reads result words.new (line_under _header.now words.old) }
     {
         log_line(words)
+    }
+
+    #[inline(always)]
+    fn at_front<Caller>(_header: &LogHeader, bytes: &[u8]) -> Option<(LogLine, usize)>
+        ensures { IfSome result (λ r. IsAtFront (line_under _header.now) bytes.now r.0 r.1) }
+    {
+        if bytes.len() < WINDOW {
+            return None;
+        }
+        line_at_front(bytes)
     }
 }
 

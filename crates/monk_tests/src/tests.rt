@@ -10,6 +10,7 @@ mod floor_steps;
 mod full_floor;
 mod halls;
 mod kinds;
+mod log_texts;
 mod logs;
 mod meeting;
 mod objects;

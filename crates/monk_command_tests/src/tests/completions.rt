@@ -24,12 +24,8 @@ fn is_completed<R: Abort + AllocGlobal>(rt: &R, completing: &Completing) -> Resu
     let mut reader = Device::new(text.as_bytes());
     let mut writer = Device::new(&mut page);
     let status = complete_stream(alloc, completing.kind, &mut reader, &mut writer)?;
-    assert!(rt; status == completing.status, "{}", completing.lines);
-    assert!(rt;
-        page.as_slice() == completing.answer.as_bytes(),
-        "{}",
-        completing.lines
-    );
+    assert!(rt; status == completing.status);
+    assert!(rt; page.as_slice() == completing.answer.as_bytes());
     Ok(())
 }
 

@@ -167,12 +167,9 @@ fn reads_fail<R: Abort + AllocGlobal>(rt: &R, job: &Job<'_>, step: usize) -> Res
             .task
             .stream(alloc, &mut reader, &mut Device::new(&mut taken));
         let fails = fails_at <= last;
-        assert!(rt;
-            is_due(told, &taken, job, fails),
-            "read {fails_at} by {step}"
-        );
-        assert!(rt; reader.failed() == fails, "read {fails_at} by {step}");
-        assert!(rt; !fails || taken.is_empty(), "read {fails_at} by {step}");
+        assert!(rt; is_due(told, &taken, job, fails));
+        assert!(rt; reader.failed() == fails);
+        assert!(rt; !fails || taken.is_empty());
     }
     Ok(())
 }
@@ -210,16 +207,10 @@ fn writes_fail<R: Abort + AllocGlobal>(
             .task
             .stream(alloc, &mut Device::new(job.input), &mut writer);
         let fails = fails_at <= last;
-        assert!(rt; writer.failed() == fails, "write {fails_at} by {step}");
-        assert!(rt;
-            is_due(told, &tight.taken, job, fails),
-            "write {fails_at} by {step}"
-        );
+        assert!(rt; writer.failed() == fails);
+        assert!(rt; is_due(told, &tight.taken, job, fails));
         let before = fails_at.saturating_sub(1).saturating_mul(step);
-        assert!(rt;
-            tight.taken.len() == before.min(job.answer.len()),
-            "write {fails_at} by {step}"
-        );
+        assert!(rt; tight.taken.len() == before.min(job.answer.len()));
     }
     Ok(())
 }
@@ -290,10 +281,7 @@ fn two_lines_fail_in_turn(rt: HostRuntime) -> Result<(), Fail> {
                 let told = classify_stream(1, 3, 2, &mut writer);
                 let fails = fails_at <= last;
                 let wanted = if fails { Err(StreamFault::File) } else { Ok(0) };
-                assert!(rt;
-                    told == wanted && writer.failed() == fails,
-                    "write {fails_at} by {step}"
-                );
+                assert!(rt; told == wanted && writer.failed() == fails);
             }
         }
     }
@@ -316,10 +304,7 @@ fn totals_fail_in_turn(rt: HostRuntime) -> Result<(), Fail> {
                 let told = run_stream(&rt, alloc, KindName::Pir, Sample::Buffer, 2, 1, &mut writer);
                 let fails = fails_at <= last;
                 let wanted = if fails { Err(StreamFault::File) } else { Ok(0) };
-                assert!(rt;
-                    told == wanted && writer.failed() == fails,
-                    "write {fails_at} by {step}"
-                );
+                assert!(rt; told == wanted && writer.failed() == fails);
             }
         }
     }

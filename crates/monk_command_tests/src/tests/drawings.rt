@@ -136,10 +136,10 @@ fn is_drawn<R: Abort + AllocGlobal>(rt: &R, text: &str, wanted: &Drawing) -> Res
     let status = draw_stream(alloc, &mut reader, &mut writer)?;
     let page = str::from_utf8(&bytes)?;
     let is_picture = page.starts_with("<svg xmlns=") && page.ends_with("</svg>\n");
-    assert_eq!(rt; status, wanted.status, "{}", wanted.says);
-    assert!(rt; is_picture == (wanted.status < 2), "{}", wanted.says);
-    assert_eq!(rt; marks_in(page), wanted.marks, "{}", wanted.says);
-    assert!(rt; page.find(wanted.says).is_some(), "{}", wanted.says);
+    assert!(rt; status == wanted.status);
+    assert!(rt; is_picture == (wanted.status < 2));
+    assert!(rt; marks_in(page) == wanted.marks);
+    assert!(rt; page.find(wanted.says).is_some());
     Ok(())
 }
 

@@ -36,12 +36,8 @@ fn is_fitted<R: Abort + AllocGlobal>(rt: &R, fitting: &Fitting) -> Result<(), Fa
     let mut reader = Device::new(text.as_bytes());
     let mut writer = Device::new(&mut page);
     let status = fit_stream(alloc, Lapses::Told, &[], &mut reader, &mut writer)?;
-    assert_eq!(rt; status, fitting.status, "{}", fitting.header);
-    assert!(rt;
-        page.as_slice() == fitting.answer.as_bytes(),
-        "{}",
-        fitting.header
-    );
+    assert!(rt; status == fitting.status);
+    assert!(rt; page.as_slice() == fitting.answer.as_bytes());
     Ok(())
 }
 
@@ -116,12 +112,8 @@ fn is_log_fitted<R: Abort + AllocGlobal>(rt: &R, fitting: &LogFitting) -> Result
         &mut reader,
         &mut writer,
     )?;
-    assert!(rt; status == fitting.status, "{}", fitting.lines);
-    assert!(rt;
-        page.as_slice() == fitting.answer.as_bytes(),
-        "{}",
-        fitting.lines
-    );
+    assert!(rt; status == fitting.status);
+    assert!(rt; page.as_slice() == fitting.answer.as_bytes());
     Ok(())
 }
 

@@ -33,9 +33,9 @@ fn words_that_ask(rt: HostRuntime) -> Result<(), Fail> {
         "audit", "play", "upgrade", "fit", "trace", "explain", "draw",
     ] {
         let bare = line(alloc, &["monk", command])?;
-        assert!(rt; asks_for(&bare, command, None), "{command}");
+        assert!(rt; asks_for(&bare, command, None));
         let named = line(alloc, &["monk", command, "x.text"])?;
-        assert!(rt; asks_for(&named, command, Some("x.text")), "{command}");
+        assert!(rt; asks_for(&named, command, Some("x.text")));
     }
     let classify = line(alloc, &["monk", "classify", "3", "0", "255"])?;
     assert!(rt; matches!(&classify, Line::Classify(3, 0, 255)));
@@ -103,48 +103,60 @@ fn is_refused(alloc: Global, words: &[&str]) -> bool {
     }
 }
 
+/// Words that ask for nothing.
+static NOTHING: [&[&str]; 21] = [
+    &["monk", "adit"],
+    &["monk", "help"],
+    &["monk", "--help"],
+    &["monk", "--version"],
+    &["monk"],
+    &["monk", "audit", "a", "b"],
+    &["monk", "play", "a", "b"],
+    &["monk", "upgrade", "a", "b"],
+    &["monk", "explain", "a", "b"],
+    &["monk", "draw", "a", "b"],
+    &["monk", "fit", "a", "b"],
+    &["monk", "fit", "--means", "1"],
+    &["monk", "fit", "--means", "0=256"],
+    &["monk", "fit", "--lapses", "--lapses"],
+    &["monk", "complete"],
+    &["monk", "complete", "x.log"],
+    &["monk", "complete", "PB", "a", "b"],
+    &["monk", "classify", "1", "2"],
+    &["monk", "classify", "1", "2", "3", "4"],
+    &["monk", "classify", "1", "2", "256"],
+    &["monk", "classify", "1", "2", "x"],
+];
+
 #[test]
 fn words_that_ask_for_nothing(rt: HostRuntime) {
-    let alloc = rt.alloc();
-    assert!(rt; is_refused(alloc, &["monk", "adit"]));
-    assert!(rt; is_refused(alloc, &["monk", "help"]));
-    assert!(rt; is_refused(alloc, &["monk", "--help"]));
-    assert!(rt; is_refused(alloc, &["monk", "--version"]));
-    assert!(rt; is_refused(alloc, &["monk"]));
-    assert!(rt; is_refused(alloc, &["monk", "audit", "a", "b"]));
-    assert!(rt; is_refused(alloc, &["monk", "play", "a", "b"]));
-    assert!(rt; is_refused(alloc, &["monk", "upgrade", "a", "b"]));
-    assert!(rt; is_refused(alloc, &["monk", "explain", "a", "b"]));
-    assert!(rt; is_refused(alloc, &["monk", "draw", "a", "b"]));
-    assert!(rt; is_refused(alloc, &["monk", "fit", "a", "b"]));
-    assert!(rt; is_refused(alloc, &["monk", "fit", "--means", "1"]));
-    assert!(rt; is_refused(alloc, &["monk", "fit", "--means", "0=256"]));
-    assert!(rt; is_refused(alloc, &["monk", "fit", "--lapses", "--lapses"]));
-    assert!(rt; is_refused(alloc, &["monk", "complete"]));
-    assert!(rt; is_refused(alloc, &["monk", "complete", "x.log"]));
-    assert!(rt; is_refused(alloc, &["monk", "complete", "PB", "a", "b"]));
-    assert!(rt; is_refused(alloc, &["monk", "classify", "1", "2"]));
-    assert!(rt; is_refused(alloc, &["monk", "classify", "1", "2", "3", "4"]));
-    assert!(rt; is_refused(alloc, &["monk", "classify", "1", "2", "256"]));
-    assert!(rt; is_refused(alloc, &["monk", "classify", "1", "2", "x"]));
+    for words in NOTHING.iter() {
+        assert!(rt; is_refused(rt.alloc(), words));
+    }
 }
+
+/// Words that ask for no run: a number out of range, another kind or sample, a word too few or too many.
+static NO_RUN: [&[&str]; 13] = [
+    &["monk", "run", "ABC", "buffer", "8", "100"],
+    &["monk", "run", "pb", "buffer", "8", "100"],
+    &["monk", "run", "PB", "Buffer", "8", "100"],
+    &["monk", "run", "PB", "queue", "8", "100"],
+    &["monk", "run", "PB", "buffer", "1", "100"],
+    &["monk", "run", "PB", "buffer", "17", "100"],
+    &["monk", "run", "PB", "buffer", "258", "100"],
+    &["monk", "run", "PB", "buffer", "8", "0"],
+    &["monk", "run", "PB", "buffer", "8", "1001"],
+    &["monk", "run", "PB", "buffer", "8"],
+    &["monk", "run", "PB", "buffer", "8", "100", "1"],
+    &["monk", "record", "PB", "buffer", "17", "100"],
+    &["monk", "record", "PB", "buffer", "8", "1001"],
+];
 
 #[test]
 fn words_that_ask_for_no_run(rt: HostRuntime) {
-    let alloc = rt.alloc();
-    assert!(rt; is_refused(alloc, &["monk", "run", "ABC", "buffer", "8", "100"]));
-    assert!(rt; is_refused(alloc, &["monk", "run", "pb", "buffer", "8", "100"]));
-    assert!(rt; is_refused(alloc, &["monk", "run", "PB", "Buffer", "8", "100"]));
-    assert!(rt; is_refused(alloc, &["monk", "run", "PB", "queue", "8", "100"]));
-    assert!(rt; is_refused(alloc, &["monk", "run", "PB", "buffer", "1", "100"]));
-    assert!(rt; is_refused(alloc, &["monk", "run", "PB", "buffer", "17", "100"]));
-    assert!(rt; is_refused(alloc, &["monk", "run", "PB", "buffer", "258", "100"]));
-    assert!(rt; is_refused(alloc, &["monk", "run", "PB", "buffer", "8", "0"]));
-    assert!(rt; is_refused(alloc, &["monk", "run", "PB", "buffer", "8", "1001"]));
-    assert!(rt; is_refused(alloc, &["monk", "run", "PB", "buffer", "8"]));
-    assert!(rt; is_refused(alloc, &["monk", "run", "PB", "buffer", "8", "100", "1"]));
-    assert!(rt; is_refused(alloc, &["monk", "record", "PB", "buffer", "17", "100"]));
-    assert!(rt; is_refused(alloc, &["monk", "record", "PB", "buffer", "8", "1001"]));
+    for words in NO_RUN.iter() {
+        assert!(rt; is_refused(rt.alloc(), words));
+    }
 }
 
 #[test]
@@ -160,7 +172,7 @@ fn priorities_have_an_ordering(rt: HostRuntime) -> Result<(), Fail> {
         let mut page = Vec::new(alloc);
         let mut writer = Device::new(&mut page);
         let status = classify_stream(priorities.0, priorities.1, priorities.2, &mut writer)?;
-        assert_eq!(rt; status, 0);
+        assert!(rt; status == 0);
         assert!(rt; page.as_slice() == wanted.as_bytes());
     }
     Ok(())

@@ -42,13 +42,13 @@ fn choice_is_told(rt: HostRuntime) -> Result<(), Fail> {
     let Queues::Explicit(conditions, waiters, signallers) = &told.situation.queues else {
         return Err("the queues of an explicit kind")?;
     };
-    assert_eq!(rt; conditions.0.len(), 2);
+    assert!(rt; conditions.0.len() == 2);
     assert!(rt; are(&conditions.0[0], &[]) && are(&conditions.0[1], &[0]));
     assert!(rt; are(waiters, &[]) && are(signallers, &[]));
     let Some(blame) = &told.blame else {
         return Err("what is wrong")?;
     };
-    assert_eq!(rt; blame.step, 6);
+    assert!(rt; blame.step == 6);
     assert!(rt; blame.event == Event::Signal(1, 1, Next::Waiter(0)));
     assert!(rt; blame.reply.is_none());
     let Some(choice) = &blame.choice else {

@@ -69,8 +69,8 @@ fn plays_are_traced(rt: HostRuntime) -> Result<(), Fail> {
         let mut page = Vec::new(alloc);
         let mut reader = Device::new(text.as_bytes());
         let status = trace_stream(alloc, &mut reader, &mut Device::new(&mut page))?;
-        assert_eq!(rt; status, play.status, "{}", play.name);
-        assert!(rt; page.as_slice() == play.answer.as_bytes(), "{}", play.name);
+        assert!(rt; status == play.status);
+        assert!(rt; page.as_slice() == play.answer.as_bytes());
     }
     Ok(())
 }

@@ -248,8 +248,8 @@ fn plays_of_version_two_are_played(rt: HostRuntime) -> Result<(), Fail> {
         let mut page = Vec::new(alloc);
         let mut reader = Device::new(text.as_bytes());
         let status = play_stream(alloc, &mut reader, &mut Device::new(&mut page))?;
-        assert_eq!(rt; status, play.status, "{}", play.first);
-        assert!(rt; page.as_slice() == answer.as_bytes(), "{}", play.first);
+        assert!(rt; status == play.status);
+        assert!(rt; page.as_slice() == answer.as_bytes());
     }
     Ok(())
 }
@@ -269,12 +269,8 @@ fn is_upgraded<R: Abort + AllocGlobal>(
     let mut page = Vec::new(alloc);
     let mut reader = Device::new(text.as_bytes());
     let mut writer = Device::new(&mut page);
-    assert_eq!(rt;
-        upgrade_stream(alloc, &mut reader, &mut writer)?,
-        status,
-        "{text}"
-    );
-    assert!(rt; page.as_slice() == answer.as_bytes(), "{text}");
+    assert!(rt; upgrade_stream(alloc, &mut reader, &mut writer)? == status);
+    assert!(rt; page.as_slice() == answer.as_bytes());
     Ok(())
 }
 

@@ -1,5 +1,5 @@
 -- What is found of the lines to come over a board, where a resume may be a lapse, one line after the other
-use Rattle.std.proofs.Common.{◌≡◌, ℕ, ◌+◌, ◌<◌, ◌≤◌, List, [], length, get_or, drop, sym, ap, ap₂, ◌∙◌}
+use Rattle.std.proofs.Common.{◌≡◌, ℕ, ◌+◌, List, [], ◌∷◌, sym, ap, ap₂, ◌∙◌}
 use Rattle.std.specs.Prelude.{Result, Ok, Err}
 use Rattle.monk_kinds.specs.declared.mode.Rules.{Rules}
 use Rattle.monk_object.specs.Object.{Object}
@@ -22,7 +22,7 @@ use Rattle.monk_logs.specs.declared.verdict.LogVerdict.{LogVerdict}
 use Rattle.monk_logs.specs.declared.verdict.LogVerdict.TheVariants.{Fits, Misfit}
 use Rattle.monk_logs.proofs.BoardLaws.Held.{behind_held}
 use Rattle.monk_logs.proofs.BoardLaws.Lines.{over_apart}
-use Rattle.monk_logs.proofs.VerdictLaws.Along.{along_fits, along_misfits, along_more, along_same}
+use Rattle.monk_logs.proofs.VerdictLaws.Along.{along_done, along_same, along_stopped, along_taken}
 
 -- ---- the opening state of the object has no part in how lines are judged from a board
 
@@ -47,24 +47,23 @@ module _ (x : Lapses) (o : Order) (k : Rules) (seats conds : ℕ) (ob : Object) 
 
 -- ---- one line more
 
-pub read_goes_on : (x : Lapses) (o : Order) (m : Monitor) (log : List LogLine) (i : ℕ) (l : LogLine) (a b : Board) (p q : Pending)
-    (left : LineVerdict) (v : LogVerdict) → i < length log → read_verdict_from x o m i (Ok (board_course a p)) (drop i log) ≡ v
-    → course_or b left ≡ board_read_over x o m a p (get_or log i l) → left ≡ line.Fits q
-    → read_verdict_from x o m (i + 1) (Ok (board_course b q)) (drop (i + 1) log) ≡ v
-read_goes_on x o m log i l a b p q left v within is judged goes =
-    along_more (read_over x o m) log i l (board_course a p) (Ok (board_course b q)) v within is
+pub read_goes_on : (x : Lapses) (o : Order) (m : Monitor) (old new : List LogLine) (n : ℕ) (l : LogLine) (a b : Board) (p q : Pending)
+    (left : LineVerdict) (v : LogVerdict) → read_verdict_from x o m n (Ok (board_course a p)) old ≡ v → old ≡ l ∷ new
+    → course_or b left ≡ board_read_over x o m a p l → left ≡ line.Fits q
+    → read_verdict_from x o m (n + 1) (Ok (board_course b q)) new ≡ v
+read_goes_on x o m old new n l a b p q left v is taken judged goes =
+    along_taken (read_over x o m) n old new l (board_course a p) (Ok (board_course b q)) v is taken
     (ap (course_or b) (sym goes) ∙ judged)
 
-pub read_misfits : (x : Lapses) (o : Order) (m : Monitor) (log : List LogLine) (i : ℕ) (l : LogLine) (a b : Board) (p : Pending)
-    (left : LineVerdict) (why : Blame) (v : LogVerdict) → i < length log
-    → read_verdict_from x o m i (Ok (board_course a p)) (drop i log) ≡ v
-    → course_or b left ≡ board_read_over x o m a p (get_or log i l) → left ≡ line.Misfits why → Misfit (i + 1) why ≡ v
-read_misfits x o m log i l a b p left why v within is judged fails =
-    along_misfits (read_over x o m) log i l (board_course a p) why v within is (ap (course_or b) (sym fails) ∙ judged)
+pub read_misfits : (x : Lapses) (o : Order) (m : Monitor) (old new : List LogLine) (n : ℕ) (l : LogLine) (a b : Board) (p : Pending)
+    (left : LineVerdict) (why : Blame) (v : LogVerdict) → read_verdict_from x o m n (Ok (board_course a p)) old ≡ v → old ≡ l ∷ new
+    → course_or b left ≡ board_read_over x o m a p l → left ≡ line.Misfits why → Misfit (n + 1) why ≡ v
+read_misfits x o m old new n l a b p left why v is taken judged fails =
+    along_stopped (read_over x o m) n old new l (board_course a p) why v is taken (ap (course_or b) (sym fails) ∙ judged)
 
-pub read_fits : (x : Lapses) (o : Order) (m : Monitor) (log : List LogLine) (i : ℕ) (y : BoardCourse) (v : LogVerdict) → length log ≤ i
-    → read_verdict_from x o m i (Ok y) (drop i log) ≡ v → Fits ≡ v
-read_fits x o m log i y v past is = along_fits (read_over x o m) log i y v past is
+pub read_fits : (x : Lapses) (o : Order) (m : Monitor) (left : List LogLine) (n : ℕ) (y : BoardCourse) (v : LogVerdict)
+    → read_verdict_from x o m n (Ok y) left ≡ v → left ≡ [] → Fits ≡ v
+read_fits x o m left n y v is none = along_done (read_over x o m) n left y v is none
 
 -- ---- what is pending then is held
 

@@ -1,9 +1,10 @@
 -- The laws of the text of a log: what is read has that text, and what has a text is read from it.
 use Rattle.std.proofs.Common.{◌≡◌, ℕ, ◌≤◌, List, length, Result, Ok, Err, ap, subst, ◌∙◌, arith}
-use Rattle.std.specs.Prelude.{IfOk}
+use Rattle.std.specs.Prelude.{IfOk, IfSome, Option}
 use Rattle.std.specs.Global.{Vec}
 use Rattle.monk_history.specs.declared.text.fault.ReadFault.{ReadFault}
-use Rattle.monk_history.specs.Text.Lines.{Gives}
+use Rattle.monk_history.specs.Text.Lines.{Gives, IsAtFront, line}
+use Rattle.monk_history.specs.Text.Places.{StandsAt}
 use Rattle.monk_history.proofs.PublicLaws.Formats as formats
 use Rattle.monk_history.proofs.PublicLaws.Formats.{IsFormat}
 use Rattle.monk_logs.specs.Log.{LogHeading, IsLogHeading, HasLogText, LineFits, log_header_words, log_words, log_text}
@@ -71,3 +72,10 @@ pub is_only : (limit : ℕ) (bytes : List ℕ) (r : Result (LogHeading × Vec Lo
     → Gives log_view r (Ok (log h ls))
 is_only limit bytes r h ls has le same given =
     subst (λ (x : Result Log ReadFault). Gives log_view r x) (ap (log_at limit) same ∙ log_again limit h ls has le) given
+
+-- ---- a line that stands at the front
+
+pub line_at_front : (h : LogHeading) (bytes : List ℕ) (r : Option (LogLine × ℕ))
+    → IfSome r (λ x. StandsAt bytes 0 (line (log_words x.0)) x.1) → IfSome r (λ x. LineFits x.0)
+    → IfSome r (λ x. IsAtFront (line_under h) bytes x.0 x.1)
+line_at_front h bytes r stands fits = formats.item_at_front log_words (line_under h) LineFits (lines h) bytes r stands fits

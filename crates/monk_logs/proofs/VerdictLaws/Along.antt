@@ -44,6 +44,22 @@ module _ {X : Type 0} (lead : X → LogLine → Result X Blame) where
   along_fits log i x v past is =
       sym (along_end i x) ∙ sym (at_drop_all (verdict_along lead i (Ok x)) log i past) ∙ is
 
+  -- the same, where the next line is taken from the front of those that are left
+  pub along_taken : (n : ℕ) (old new : List LogLine) (l : LogLine) (x : X) (r : Result X Blame) (v : LogVerdict)
+      → verdict_along lead n (Ok x) old ≡ v → old ≡ l ∷ new → r ≡ lead x l → verdict_along lead (n + 1) r new ≡ v
+  along_taken n old new l x r v is taken judged =
+      ap (λ (o : Result X Blame). verdict_along lead (n + 1) o new) judged ∙ sym (along_cons n x l new)
+      ∙ sym (ap (verdict_along lead n (Ok x)) taken) ∙ is
+
+  pub along_stopped : (n : ℕ) (old new : List LogLine) (l : LogLine) (x : X) (why : Blame) (v : LogVerdict)
+      → verdict_along lead n (Ok x) old ≡ v → old ≡ l ∷ new → Err why ≡ lead x l → Misfit (n + 1) why ≡ v
+  along_stopped n old new l x why v is taken judged =
+      sym (along_err (n + 1) why new) ∙ along_taken n old new l x (Err why) v is taken judged
+
+  pub along_done : (n : ℕ) (left : List LogLine) (x : X) (v : LogVerdict) → verdict_along lead n (Ok x) left ≡ v → left ≡ []
+      → Fits ≡ v
+  along_done n left x v is none = sym (along_end n x) ∙ sym (ap (verdict_along lead n (Ok x)) none) ∙ is
+
 -- what leads the same has the same verdict
 pub along_same : {X : Type 0} (f g : X → LogLine → Result X Blame) (n : ℕ) (r : Result X Blame) (log : List LogLine)
     → ((x : X) (l : LogLine) → f x l ≡ g x l) → verdict_along f n r log ≡ verdict_along g n r log

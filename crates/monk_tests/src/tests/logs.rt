@@ -1,6 +1,6 @@
 use monk_audit::AuditFault;
 use monk_kinds::KindName;
-use monk_logs::{Blame, LogHeader, LogLine, LogVerdict, judge, one_log_each, read_log};
+use monk_logs::{Blame, LogHeader, LogLine, LogLines, LogVerdict, judge, one_log_each, read_log};
 use monk_object::{ObjectName, Op};
 use std::test::Fail;
 
@@ -12,6 +12,14 @@ const EACH: &[u8] =
 fn outcome(rt: &HostRuntime, bytes: &[u8]) -> (u8, u32) {
     match read_log(rt.alloc(), bytes) {
         Ok((_, lines)) => (0, u32::try_from(lines.len()).unwrap_or(0)),
+        Err(fault) => (fault.number, fault.line),
+    }
+}
+
+/// The fault's number and line, or 0 and 0, of a text whose lines are not kept.
+fn checked(bytes: &[u8]) -> (u8, u32) {
+    match LogLines::check(bytes) {
+        Ok(_) => (0, 0),
         Err(fault) => (fault.number, fault.line),
     }
 }
@@ -59,6 +67,7 @@ static FAULTY_LOGS: [(&[u8], u8, u32); 9] = [
 fn faulty_logs(rt: HostRuntime) {
     for (text, number, line) in FAULTY_LOGS.iter() {
         assert!(rt; outcome(&rt, text) == (*number, *line));
+        assert!(rt; checked(text) == (*number, *line));
     }
 }
 

@@ -27,9 +27,19 @@ fn outcome(rt: &HostRuntime, bytes: &[u8]) -> (u8, u32) {
     }
 }
 
+/// Where the header's newline is.
+fn header_end(text: &[u8]) -> usize {
+    for (at, byte) in text.iter().enumerate() {
+        if *byte == b'\n' {
+            return at;
+        }
+    }
+    0
+}
+
 /// A header, and those lines so many times.
 fn repeated(rt: &HostRuntime, text: &[u8], times: usize) -> Result<Vec<u8>, Fail> {
-    let end = text.iter().position(|b| *b == b'\n').unwrap_or(0);
+    let end = header_end(text);
     let mut bytes = Vec::from_slice(rt.alloc(), text)?;
     for _ in 1..times {
         if end < text.len() {
@@ -261,7 +271,7 @@ fn words_of_a_line(rt: HostRuntime) {
     assert!(rt; words.byte() == Ok(255));
     assert!(rt; words.number(1 << 20) == Ok(65536));
     assert!(rt; words.byte() == Err(Flaw::Number));
-    assert!(rt; words.next().is_some_and(|word| word == b"x".as_slice()));
+    assert!(rt; words.next() == Some(b"x".as_slice()));
     assert!(rt; words.end().is_ok());
     assert!(rt; words.byte() == Err(Flaw::Word));
 }

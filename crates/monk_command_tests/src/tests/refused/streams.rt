@@ -168,7 +168,7 @@ impl Write for Expected<'_> {
 }
 
 /// What a stream did.
-#[derive(Clone, Copy, Debug, PartialEq, Eq)]
+#[derive(Clone, Copy, PartialEq, Eq)]
 enum Outcome {
     /// It wrote the answer that was looked for, and nothing else, with its status.
     Answered,
@@ -234,132 +234,132 @@ fn end_of_drawing(rt: &HostRuntime) -> Outcome {
 
 #[test]
 fn explained_with_ample_memory(rt: HostRuntime) {
-    assert_eq!(rt; end_of(&rt, &EXPLAINED), Outcome::Answered);
+    assert!(rt; end_of(&rt, &EXPLAINED) == Outcome::Answered);
 }
 
 #[test]
 fn explained_or_refused_memory(rt: HostRuntime) {
-    assert_ne!(rt; end_of(&rt, &EXPLAINED), Outcome::Other);
+    assert!(rt; end_of(&rt, &EXPLAINED) != Outcome::Other);
 }
 
 #[test]
 fn not_explained_with_ample_memory(rt: HostRuntime) {
-    assert_eq!(rt; end_of(&rt, &NOT_EXPLAINED), Outcome::Answered);
+    assert!(rt; end_of(&rt, &NOT_EXPLAINED) == Outcome::Answered);
 }
 
 #[test]
 fn not_explained_or_refused_memory(rt: HostRuntime) {
-    assert_ne!(rt; end_of(&rt, &NOT_EXPLAINED), Outcome::Other);
+    assert!(rt; end_of(&rt, &NOT_EXPLAINED) != Outcome::Other);
 }
 
 #[test]
 fn drawn_with_ample_memory(rt: HostRuntime) {
-    assert_eq!(rt; end_of_drawing(&rt), Outcome::Answered);
+    assert!(rt; end_of_drawing(&rt) == Outcome::Answered);
 }
 
 #[test]
 fn drawn_or_refused_memory(rt: HostRuntime) {
-    assert_ne!(rt; end_of_drawing(&rt), Outcome::Other);
+    assert!(rt; end_of_drawing(&rt) != Outcome::Other);
 }
 
 #[test]
 fn not_drawn_with_ample_memory(rt: HostRuntime) {
-    assert_eq!(rt; end_of(&rt, &NOT_DRAWN), Outcome::Answered);
+    assert!(rt; end_of(&rt, &NOT_DRAWN) == Outcome::Answered);
 }
 
 #[test]
 fn not_drawn_or_refused_memory(rt: HostRuntime) {
-    assert_ne!(rt; end_of(&rt, &NOT_DRAWN), Outcome::Other);
+    assert!(rt; end_of(&rt, &NOT_DRAWN) != Outcome::Other);
 }
 
 #[test]
 fn legal_with_ample_memory(rt: HostRuntime) {
-    assert_eq!(rt; end_of(&rt, &LEGAL), Outcome::Answered);
+    assert!(rt; end_of(&rt, &LEGAL) == Outcome::Answered);
 }
 
 #[test]
 fn legal_or_refused_memory(rt: HostRuntime) {
-    assert_ne!(rt; end_of(&rt, &LEGAL), Outcome::Other);
+    assert!(rt; end_of(&rt, &LEGAL) != Outcome::Other);
 }
 
 #[test]
 fn forbidden_with_ample_memory(rt: HostRuntime) {
-    assert_eq!(rt; end_of(&rt, &FORBIDDEN), Outcome::Answered);
+    assert!(rt; end_of(&rt, &FORBIDDEN) == Outcome::Answered);
 }
 
 #[test]
 fn forbidden_or_refused_memory(rt: HostRuntime) {
-    assert_ne!(rt; end_of(&rt, &FORBIDDEN), Outcome::Other);
+    assert!(rt; end_of(&rt, &FORBIDDEN) != Outcome::Other);
 }
 
 #[test]
 fn unreadable_with_ample_memory(rt: HostRuntime) {
-    assert_eq!(rt; end_of(&rt, &UNREADABLE), Outcome::Answered);
+    assert!(rt; end_of(&rt, &UNREADABLE) == Outcome::Answered);
 }
 
 #[test]
 fn unreadable_or_refused_memory(rt: HostRuntime) {
-    assert_ne!(rt; end_of(&rt, &UNREADABLE), Outcome::Other);
+    assert!(rt; end_of(&rt, &UNREADABLE) != Outcome::Other);
 }
 
 #[test]
 fn too_big_with_ample_memory(rt: HostRuntime) {
-    assert_eq!(rt; end_of(&rt, &TOO_BIG), Outcome::Answered);
+    assert!(rt; end_of(&rt, &TOO_BIG) == Outcome::Answered);
 }
 
 #[test]
 fn too_big_or_refused_memory(rt: HostRuntime) {
-    assert_ne!(rt; end_of(&rt, &TOO_BIG), Outcome::Other);
+    assert!(rt; end_of(&rt, &TOO_BIG) != Outcome::Other);
 }
 
 #[test]
 fn played_with_ample_memory(rt: HostRuntime) {
-    assert_eq!(rt; end_of(&rt, &PLAYED), Outcome::Answered);
+    assert!(rt; end_of(&rt, &PLAYED) == Outcome::Answered);
 }
 
 #[test]
 fn played_or_refused_memory(rt: HostRuntime) {
-    assert_ne!(rt; end_of(&rt, &PLAYED), Outcome::Other);
+    assert!(rt; end_of(&rt, &PLAYED) != Outcome::Other);
 }
 
 #[test]
 fn not_played_with_ample_memory(rt: HostRuntime) {
-    assert_eq!(rt; end_of(&rt, &NOT_PLAYED), Outcome::Answered);
+    assert!(rt; end_of(&rt, &NOT_PLAYED) == Outcome::Answered);
 }
 
 #[test]
 fn not_played_or_refused_memory(rt: HostRuntime) {
-    assert_ne!(rt; end_of(&rt, &NOT_PLAYED), Outcome::Other);
+    assert!(rt; end_of(&rt, &NOT_PLAYED) != Outcome::Other);
 }
 
 #[test]
 fn upgraded_with_ample_memory(rt: HostRuntime) {
-    assert_eq!(rt; end_of(&rt, &UPGRADED), Outcome::Answered);
+    assert!(rt; end_of(&rt, &UPGRADED) == Outcome::Answered);
 }
 
 #[test]
 fn upgraded_or_refused_memory(rt: HostRuntime) {
-    assert_ne!(rt; end_of(&rt, &UPGRADED), Outcome::Other);
+    assert!(rt; end_of(&rt, &UPGRADED) != Outcome::Other);
 }
 
 #[test]
 fn not_upgraded_with_ample_memory(rt: HostRuntime) {
-    assert_eq!(rt; end_of(&rt, &NOT_UPGRADED), Outcome::Answered);
+    assert!(rt; end_of(&rt, &NOT_UPGRADED) == Outcome::Answered);
 }
 
 #[test]
 fn not_upgraded_or_refused_memory(rt: HostRuntime) {
-    assert_ne!(rt; end_of(&rt, &NOT_UPGRADED), Outcome::Other);
+    assert!(rt; end_of(&rt, &NOT_UPGRADED) != Outcome::Other);
 }
 
 #[test]
 fn fitted_with_ample_memory(rt: HostRuntime) {
-    assert_eq!(rt; end_of(&rt, &FITTED), Outcome::Answered);
+    assert!(rt; end_of(&rt, &FITTED) == Outcome::Answered);
 }
 
 #[test]
 fn fitted_or_refused_memory(rt: HostRuntime) {
-    assert_ne!(rt; end_of(&rt, &FITTED), Outcome::Other);
+    assert!(rt; end_of(&rt, &FITTED) != Outcome::Other);
 }
 
 #[test]
@@ -384,40 +384,40 @@ fn log_not_fitted_or_refused_memory(rt: HostRuntime) {
 
 #[test]
 fn traced_with_ample_memory(rt: HostRuntime) {
-    assert_eq!(rt; end_of(&rt, &TRACED), Outcome::Answered);
+    assert!(rt; end_of(&rt, &TRACED) == Outcome::Answered);
 }
 
 #[test]
 fn traced_or_refused_memory(rt: HostRuntime) {
-    assert_ne!(rt; end_of(&rt, &TRACED), Outcome::Other);
+    assert!(rt; end_of(&rt, &TRACED) != Outcome::Other);
 }
 
 #[test]
 fn completed_with_ample_memory(rt: HostRuntime) {
-    assert_eq!(rt; end_of(&rt, &COMPLETED), Outcome::Answered);
+    assert!(rt; end_of(&rt, &COMPLETED) == Outcome::Answered);
 }
 
 #[test]
 fn completed_or_refused_memory(rt: HostRuntime) {
-    assert_ne!(rt; end_of(&rt, &COMPLETED), Outcome::Other);
+    assert!(rt; end_of(&rt, &COMPLETED) != Outcome::Other);
 }
 
 #[test]
 fn misfit_with_ample_memory(rt: HostRuntime) {
-    assert_eq!(rt; end_of(&rt, &MISFIT), Outcome::Answered);
+    assert!(rt; end_of(&rt, &MISFIT) == Outcome::Answered);
 }
 
 #[test]
 fn misfit_or_refused_memory(rt: HostRuntime) {
-    assert_ne!(rt; end_of(&rt, &MISFIT), Outcome::Other);
+    assert!(rt; end_of(&rt, &MISFIT) != Outcome::Other);
 }
 
 #[test]
 fn not_completed_with_ample_memory(rt: HostRuntime) {
-    assert_eq!(rt; end_of(&rt, &NOT_COMPLETED), Outcome::Answered);
+    assert!(rt; end_of(&rt, &NOT_COMPLETED) == Outcome::Answered);
 }
 
 #[test]
 fn not_completed_or_refused_memory(rt: HostRuntime) {
-    assert_ne!(rt; end_of(&rt, &NOT_COMPLETED), Outcome::Other);
+    assert!(rt; end_of(&rt, &NOT_COMPLETED) != Outcome::Other);
 }

@@ -1,10 +1,9 @@
-use Rattle.std.proofs.Common.{◌≡◌, ◌∙◌, List, ℕ, ap, sym, subst}
+use Rattle.std.proofs.Common.{◌≡◌, ◌∙◌, List, ℕ, ap, subst}
 use Rattle.std.specs.Io.KnownBytes.{Appends}
 use Rattle.std.proofs.lemmas.Result.{IfOk-weaker}
 use Rattle.monk_history.specs.Text.Device.{held}
-use Rattle.monk_logs.specs.declared.line.LogLine.{LogLine}
 use Rattle.monk_commands.specs.Answer.{Answer}
-use Rattle.monk_commands.specs.LogFitted.{log_fit_answer, log_fit_reading}
+use Rattle.monk_commands.specs.LogFitted.{log_fit_reading}
 use Rattle.monk_commands.proofs.log_fitting.fit_log_text.Goals as goal
 
 pub returns-in-Ok-clause-answer : goal.returns-in-Ok-clause-answer
@@ -15,8 +14,7 @@ returns-in-Ok-clause-answer g c =
     let after = g.W.Write.contents (held c.fit_log.new.writer) in
     IfOk-weaker c.fit_log.result _ _ (λ status a.
     subst (λ (y : Answer). (status ≡ y.status) × Appends before after y.text)
-    (ap (λ (ls : List LogLine). log_fit_answer x means c.in-Ok.header-1-given.0.0.0 ls) c.deref.ensures.value
-    ∙ sym (ap (log_fit_reading x means) c.in-Ok.ensures.exact)) a) c.fit_log.ensures.answer
+    (ap (log_fit_reading x means) c.in-Ok.ensures.exact) a) c.fit_log.ensures.answer
 
 pub returns-in_ok-unreadable-in-Err-clause-answer : goal.returns-in_ok-unreadable-in-Err-clause-answer
 returns-in_ok-unreadable-in-Err-clause-answer g c =
@@ -27,5 +25,5 @@ returns-in_ok-unreadable-in-Err-clause-answer g c =
     let told = c.in_ok-unreadable-in-Err.ensures.answer in
     IfOk-weaker c.put.result _ _ (λ status p.
     subst (λ (y : Answer). (status ≡ y.status) × Appends before after y.text)
-    (sym (ap (log_fit_reading x means) (c.in-Err.ensures.exact told.0)))
+    (ap (log_fit_reading x means) c.in-Err.ensures.exact)
     (p.0 ∙ told.1, subst (λ (text : List ℕ). Appends before after text) told.2 p.1)) c.put.ensures.line

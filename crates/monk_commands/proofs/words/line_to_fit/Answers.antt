@@ -8,6 +8,10 @@ returns c =
     let found = found_of c.args.matches.now in
     record {
       command = refl;
-      values = sym (first_value-rows found (codes "FILE")) ∙ sym c.in_ok-file.ensures;
+      values = (
+        sym (first_value-rows found (codes "FILE")) ∙ sym c.in_ok-file.ensures,
+        c.lapses_of.ensures,
+        c.in_ok-means.ensures,
+      );
       in_range = tt;
     }

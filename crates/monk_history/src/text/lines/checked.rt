@@ -55,6 +55,17 @@ impl<'a, H: Head, A: Record<H>> CheckedLines<'a, H, A> {
         self.header
     }
 
+    /// The same items once more. Constant time.
+    pub fn again(&self) -> CheckedLines<'a, H, A>
+        ensures { result ≡ self.now }
+    {
+        CheckedLines {
+            header: self.header,
+            lines: self.lines.again(),
+            item: PhantomData,
+        }
+    }
+
     /// Reads the next item; `None` where all are read. It takes no memory.
     #[inline(always)]
     pub fn next(&mut self) -> Option<A>

@@ -53,6 +53,6 @@ fn history_holds_the_callers_calls(rt: HostRuntime) -> Result<(), Fail> {
     let (hall, mut passes) = hall::<Npnb>(&rt, 2, 0, 4)?;
     let pass = take(&hall, &mut passes)?;
     let closed = visits_and_closes(hall, pass, PUT);
-    assert!(rt; closed.is_some_and(|closed| closed.history.len() == 3));
+    assert!(rt; matches!(&closed, Some(closed) if closed.history.len() == 3));
     Ok(())
 }

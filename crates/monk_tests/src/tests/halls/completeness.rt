@@ -94,7 +94,10 @@ fn second_goes_on(hall: Hall<Pb, Buffer>, first: Pass<Pb, Buffer>, second: Pass<
     if visit(&hall, two).is_none() {
         return false;
     }
-    ends_by_ticket(hall, one, 3).is_some_and(|closed| closed.history.len() == 8)
+    let Some(closed) = ends_by_ticket(hall, one, 3) else {
+        return false;
+    };
+    closed.history.len() == 8
 }
 
 #[test]

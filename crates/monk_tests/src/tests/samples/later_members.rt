@@ -31,7 +31,7 @@ fn puts_seven<R: Wait>(pass: Pass<Npir, Buffer>, rt: &R, hall: &Hall<Npir, Buffe
 
 #[test]
 fn putter_waits_for_the_taker(rt: HostRuntime) -> Result<(), Fail> {
-    for time in 0..TIMES {
+    for _ in 0..TIMES {
         let (hall, mut passes) = hall::<Npir, Buffer>(&rt, Buffer::make(rt.alloc(), 1)?, 8)?;
         let taker = last(&hall, &mut passes)?;
         let putter = last(&hall, &mut passes)?;
@@ -40,7 +40,7 @@ fn putter_waits_for_the_taker(rt: HostRuntime) -> Result<(), Fail> {
             || takes_seven(taker, &rt, &hall),
             || puts_seven(putter, &rt, &hall),
         );
-        assert!(rt; done == (true, true), "time {time}");
+        assert!(rt; done == (true, true));
     }
     Ok(())
 }
