@@ -43,6 +43,7 @@ impl Replay {
     }
 
     /// Carries out what an event does beside the queues of the conditions, of the waiters and of the signallers.
+    #[inline(always)]
     pub fn pass_on(&mut self, event: Event) -> Result<(), AllocError>
         requires { seat_of event < seats_in self.old }
         ensures passed { OnOk result

@@ -26,6 +26,7 @@ impl Replay {
     }
 
     /// The first of the reasons 1 to 4 against an event, or 0. These don't ask what it chooses and what the object replies.
+    #[inline(always)]
     pub fn call_reason<T: Guarded>(&self, rules: Rules, object: &T, conds: u8, event: Event) -> u8
         requires { IsReplayOf (seats_in self.now) conds T.PREDICATES self.now }
         ensures { result ≡ reason_before 0 (monitor rules (seats_in self.now) conds T.meaning [])

@@ -50,6 +50,7 @@ impl Board {
     }
 
     /// The first of the reasons 1 to 4 against an event, or 0.
+    #[inline(always)]
     pub(crate) fn call_reason<T: Guarded>(&self, setting: Setting, object: &T, event: Event) -> u8
         requires sound { IsBoardOf setting.seats setting.conds T.PREDICATES self.now }
         requires first { (via : Via) → entered event ≡ Some via → via ≡ board_via (board_shown self.now []) }
@@ -68,6 +69,7 @@ impl Board {
     }
 
     /// Whether an event must stay: a signal on an empty condition, an until whose predicate holds.
+    #[inline(always)]
     pub(crate) fn must_stay<T: Guarded>(&self, object: &T, event: Event) -> bool
         requires { fits_object T.CODES T.PREDICATES event ≡ true }
         ensures { result ≡ choice.must_stay T.meaning (sight (board_shown self.now (T.state object.now))) event }
@@ -80,6 +82,7 @@ impl Board {
     }
 
     /// Carries out what an event serves, and who joins the signallers by it.
+    #[inline(always)]
     pub(crate) fn serve(&mut self, event: Event) -> Result<(), AllocError>
         ensures served { OnOk result
             ((state : List ℕ) → board_shown self.new state ≡ board_served (board_shown self.old state) event) }
@@ -92,6 +95,7 @@ impl Board {
     }
 
     /// Carries out what an event that has served chose, and the rest of what it does.
+    #[inline(always)]
     pub(crate) fn settle(&mut self, event: Event, stays: bool) -> Result<(), AllocError>
         requires { seat_of event < seats_in self.old.rest }
         ensures moved { OnOk result

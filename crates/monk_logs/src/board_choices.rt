@@ -15,6 +15,7 @@ use monk_kinds::{Mode, Rules};
 use monk_object::Guarded;
 
 /// Whether the seat may be chosen from the queue.
+#[inline(always)]
 pub(crate) fn may_go(order: Order, queue: &[u8], seat: u8) -> bool
     ensures { result ≡ orders.may_go order seat queue.now }
 {
@@ -36,6 +37,7 @@ pub(crate) fn may_come_ready<T: Guarded>(order: Order, board: &Board, object: &T
 }
 
 /// Whether a release of a seat that must choose may choose this.
+#[inline(always)]
 fn may_choose<T: Guarded>(
     order: Order,
     rules: Rules,
@@ -70,6 +72,7 @@ fn may_choose<T: Guarded>(
 }
 
 /// Whether a served signal of a seat may choose this.
+#[inline(always)]
 fn may_signal<T: Guarded>(
     order: Order,
     rules: Rules,
@@ -88,6 +91,7 @@ fn may_signal<T: Guarded>(
 }
 
 /// Whether an event that has served may choose what it chose, where it is known whether it must stay.
+#[inline(always)]
 pub(crate) fn permits<T: Guarded>(
     order: Order,
     rules: Rules,

@@ -82,6 +82,7 @@ fn lapse(order: Order, setting: Setting, board: &mut Board, seat: u8) -> LineVer
 }
 
 /// A signal. Under immediate return the next line says whether its caller leaves or waits.
+#[inline(always)]
 fn signal<T: Guarded>(
     setting: Setting,
     board: &Board,
@@ -152,6 +153,7 @@ pub(crate) fn line_settled<T: Guarded>(
 }
 
 /// The line behind a signal that is half told.
+#[inline(always)]
 fn line_half<T: Guarded>(
     setting: Setting,
     board: &Board,

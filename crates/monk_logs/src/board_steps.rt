@@ -24,6 +24,7 @@ use std::alloc::AllocError;
 
 /// The first test that an event fails, or 0, on a board that has served, where it is known whether the event must stay. The
 /// reply of an act is not tested.
+#[inline(always)]
 pub(crate) fn served_reason<T: Guarded>(
     order: Order,
     setting: Setting,
@@ -78,6 +79,7 @@ fn choose<T: Guarded>(
 }
 
 /// The same of an act, whose reply is tested too.
+#[inline(always)]
 fn act<T: Guarded>(
     order: Order,
     setting: Setting,

@@ -46,6 +46,7 @@ pub(crate) fn standing_choice(board: &Board, seat: u8) -> Next
 }
 
 /// What the line tells of the choice of the event before it, which has served.
+#[inline(always)]
 fn told_next(board: &Board, line: LogLine) -> Next
     ensures { (state : List ℕ) → result ≡ moves.told_on (board_shown board.now state) line }
 {
@@ -194,6 +195,7 @@ pub(crate) fn release_blame<T: Guarded>(
 }
 
 /// The line behind a release, whose choice it tells.
+#[inline(always)]
 pub(crate) fn line_told<T: Guarded>(
     order: Order,
     setting: Setting,

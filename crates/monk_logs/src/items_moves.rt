@@ -24,6 +24,7 @@ fn serve_all(items: &mut Vec<Item>, cond: u8) -> Result<(), AllocError>
 }
 
 /// Serves a seat that waits unserved on the condition, if one does.
+#[inline(always)]
 fn serve_one(items: &mut Vec<Item>, cond: u8) -> Result<(), AllocError>
     ensures { OnOk result (items.new.items
         ≡ items.old.items ++ map (λ s. Item.Service cond) (take 1 (unserved_in (line cond items.old.items)))) }
@@ -35,6 +36,7 @@ fn serve_one(items: &mut Vec<Item>, cond: u8) -> Result<(), AllocError>
 }
 
 /// Adds the services that the event gives.
+#[inline(always)]
 pub(crate) fn serve(items: &mut Vec<Item>, event: Event) -> Result<(), AllocError>
     ensures { OnOk result (items.new.items ≡ items.old.items ++ given_by event items.old.items) }
 {
@@ -74,6 +76,7 @@ fn take_out(items: &mut Vec<Item>, seat: u8)
 }
 
 /// Takes out the waiter that was chosen, with its service.
+#[inline(always)]
 pub(crate) fn take_chosen(items: &mut Vec<Item>, choice: Option<Next>)
     ensures { items.new.items ≡ chosen_out choice items.old.items }
 {
@@ -83,6 +86,7 @@ pub(crate) fn take_chosen(items: &mut Vec<Item>, choice: Option<Next>)
 }
 
 /// Adds the seat that comes to wait.
+#[inline(always)]
 pub(crate) fn join(items: &mut Vec<Item>, event: Event) -> Result<(), AllocError>
     ensures { OnOk result (items.new.items ≡ items.old.items ++ waiting_item event) }
 {

@@ -15,6 +15,7 @@ use monk_history::{Event, Next};
 use std::alloc::AllocError;
 
 /// The caller of a signal that serves somebody joins.
+#[inline(always)]
 pub(crate) fn join(signallers: &mut Vec<u8>, items: &[Item], event: Event) -> Result<(), AllocError>
     ensures { OnOk result
         (signallers.new.items ≡ signallers.old.items ++ signals (λ c. unserved_in (line c items.now)) event) }
@@ -36,6 +37,7 @@ fn leave(signallers: &mut Vec<u8>, seat: u8)
 }
 
 /// Who is taken out: whom the event chose, or its caller, which joined and stays.
+#[inline(always)]
 fn chosen(event: Event, stays: bool) -> Option<u8>
     ensures { just result ≡ taken_signaller (next_of event) (joined_by stays event) }
 {
@@ -49,6 +51,7 @@ fn chosen(event: Event, stays: bool) -> Option<u8>
 }
 
 /// Takes out whom the event chose, or its caller, which joined and stays.
+#[inline(always)]
 pub(crate) fn take_chosen(signallers: &mut Vec<u8>, event: Event, stays: bool)
     ensures { signallers.new.items ≡ apart (taken_signaller (next_of event) (joined_by stays event)) signallers.old.items }
 {

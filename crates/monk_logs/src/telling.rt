@@ -12,6 +12,7 @@ use monk_audit::Replay;
 use monk_history::{Event, Next};
 
 /// The event with this choice, if it is a release.
+#[inline(always)]
 pub(crate) fn with_next(event: Event, next: Next) -> Event
     ensures { result ≡ releases.with_next next event }
 {
