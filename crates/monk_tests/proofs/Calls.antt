@@ -1,85 +1,20 @@
--- When a seat may enter a monitor, by what a caller of a floor can see; and what an audit says of one event more.
-use Rattle.std.proofs.Common.{◌≡◌, ℕ, ◌<◌, ◌-◌, Bool, true, false, ◌&&◌, not, Some, List, [], ◌∷◌, ◌++◌, length, refl}
-use Rattle.std.proofs.Common.{sym, ap, subst, ◌∙◌, arith, length-append}
-use Rattle.std.proofs.lemmas.List.{take_at}
-use Rattle.std.specs.Prelude.{nat_lt, slice_get}
+-- What an audit says of one event more.
+use Rattle.std.proofs.Common.{◌≡◌, ℕ, [], ◌∷◌, ◌++◌, List, refl, subst}
 use Rattle.monk_kinds.specs.Names.{rules_named}
 use Rattle.monk_kinds.specs.declared.mode.Rules.{Rules}
 use Rattle.monk_kinds.specs.declared.name.KindName.{KindName}
 use Rattle.monk_object.specs.Names.{meaning_named}
 use Rattle.monk_object.specs.declared.name.ObjectName.TheVariants.{Buffer}
 use Rattle.monk_history.specs.Text.{Heading, heading}
+use Rattle.monk_history.specs.Meaning.Legal.{IsLegal}
 use Rattle.monk_history.specs.Meaning.Named.{named_monitor}
 use Rattle.monk_history.specs.Meaning.Reasons.{IsAllowed}
+use Rattle.monk_history.specs.declared.event.Event.{Event}
+use Rattle.monk_history.proofs.PublicLaws.Meaning.{legal_last}
 use Rattle.monk_floor.specs.View.{FloorView, monitor_of}
 use Rattle.monk_tests.specs.FloorCalls.{IsRoom, IsAllowedOn}
-use Rattle.monk_history.specs.Meaning.Legal.{IsLegal}
-use Rattle.monk_history.specs.Meaning.Monitor.{Monitor}
-use Rattle.monk_history.specs.Meaning.Release.{MayCall}
-use Rattle.monk_history.specs.Meaning.Signallers.{is_empty}
-use Rattle.monk_history.specs.Meaning.Situation.{Situation, situation}
-use Rattle.monk_history.specs.Meaning.Standing.{has_turn, is_queued}
-use Rattle.monk_history.specs.Meaning.Turn.{turn, turn_after, is_inside}
-use Rattle.monk_history.specs.Meaning.Untils.{ready_of}
-use Rattle.monk_history.specs.declared.event.Event.{Event}
-use Rattle.monk_history.specs.declared.event.Event.TheVariants.{Enter}
-use Rattle.monk_history.specs.declared.event.Turn.{Turn}
-use Rattle.monk_history.specs.declared.event.Turn.TheVariants.{Open}
-use Rattle.monk_history.specs.declared.event.Via.TheVariants.{Free, Handed}
-use Rattle.monk_history.proofs.PublicLaws.Meaning.{may_enter_free, may_enter_handed, queued_is, history_induction}
-use Rattle.monk_history.proofs.PublicLaws.Meaning.{turn-push, legal_placed, situation-none}
 
-inside_by : (a b : Bool) → (a && not (nat_lt 0 0)) ≡ b → b ≡ false → a ≡ false
-inside_by true b h e = h ∙ e
-inside_by false b h e = refl
-
-outside : (m : Monitor) (h : List Event) (s : ℕ) → IsLegal m h → turn h ≡ Open
-    → is_queued m.conds s (situation m h) ≡ false → is_inside s h ≡ false
-outside m h s l t q =
-    inside_by (is_inside s h) (is_queued m.conds s (situation m h))
-    (subst (λ (u : Turn). (is_inside s h && not (nat_lt 0 (has_turn s u))) ≡ is_queued m.conds s (situation m h)) t
-    (queued_is m.conds s (situation m h) (legal_placed m h l))) q
-
-pub may_be_handed : (m : Monitor) (h : List Event) (s : ℕ) → IsLegal m h → turn h ≡ Open → s < m.seats
-    → is_queued m.conds s (situation m h) ≡ false → not (is_empty h) ≡ true → MayCall m h (Enter s Handed)
-may_be_handed m h s l t lt q b = may_enter_handed m h s t lt (outside m h s l t q) b
-
-none_is : (h : List Event) → not (is_empty h) ≡ false → h ≡ []
-none_is [] b = refl
-none_is (x ∷ xs) b = absurd cc
-
-pub may_be_first : (m : Monitor) (h : List Event) (s : ℕ) → IsLegal m h → turn h ≡ Open → s < m.seats
-    → is_queued m.conds s (situation m h) ≡ false → not (is_empty h) ≡ false → MayCall m h (Enter s Free)
-may_be_first m h s l t lt q b =
-    let none : situation m h ≡ situation m [] = ap (λ x. situation m x) (none_is h b) in
-    may_enter_free m h s t lt (outside m h s l t q)
-    (ap (λ (x : Situation). x.waiters) (none ∙ situation-none m)) (ap (λ (x : Situation). x.signallers) (none ∙ situation-none m))
-    (ap (λ (x : Situation). ready_of m.object x.state x.untils) (none ∙ situation-none m))
-
-stands_last : {X : Type 0} (xs : List X) (x : X) → slice_get (xs ++ x ∷ []) (length xs) ≡ Some x
-stands_last [] x = refl
-stands_last (y ∷ xs) x = stands_last xs x
-
-turn_at_none : turn_after (slice_get [] (length {A = Event} [] - 1)) ≡ turn []
-unfolding turn
-turn_at_none = refl
-
-turn_at_more : (x : List Event) (e : Event) → turn_after (slice_get x (length x - 1)) ≡ turn x
-    → turn_after (slice_get (x ++ e ∷ []) (length (x ++ e ∷ []) - 1)) ≡ turn (x ++ e ∷ [])
-turn_at_more x e p =
-    let at : length (x ++ e ∷ []) - 1 ≡ length x = omega (arith, length-append x (e ∷ [])) in
-    ap (λ n. turn_after (slice_get (x ++ e ∷ []) n)) at ∙ (ap turn_after (stands_last x e) ∙ sym (turn-push x e))
-
--- the turn is what the last event makes of it
-pub turn_at_last : (h : List Event) → turn_after (slice_get h (length h - 1)) ≡ turn h
-turn_at_last h = history_induction (λ x. turn_after (slice_get x (length x - 1)) ≡ turn x) turn_at_none turn_at_more h
-
--- in a legal history the last event is allowed after those before it
-pub allowed_last : (m : Monitor) (h : List Event) (e : Event) → IsLegal m (h ++ e ∷ []) → IsAllowed m h e
-allowed_last m h e l =
-    subst (λ x. IsAllowed m x e) (take_at h (e ∷ []) (length h) refl) (l (length h) e (stands_last h e))
-
--- so it is after a floor's history, if the header names the floor's monitor
+-- the last event of a legal history is allowed after a floor's history, if the header names the floor's monitor
 pub allowed_on : (k : Rules) (n : KindName) (seats conds size : ℕ) (h : Heading) (f : FloorView) (e : Event) (events : List Event)
     → h ≡ heading 1 n seats conds Buffer size → k ≡ rules_named n → IsRoom seats conds size f → events ≡ f.history ++ e ∷ []
     → IsLegal (named_monitor h) events → IsAllowedOn k f e
@@ -87,4 +22,4 @@ allowed_on k n seats conds size h f e events is named room grown l =
     let same : named_monitor h ≡ monitor_of k (meaning_named Buffer) f =
     rw (is, named, room.seats_are, room.conds_are, room.opens) refl in
     subst (λ m. IsAllowed m f.history e) same
-    (allowed_last (named_monitor h) f.history e (subst (IsLegal (named_monitor h)) grown l))
+    (legal_last (named_monitor h) f.history e (subst (IsLegal (named_monitor h)) grown l))

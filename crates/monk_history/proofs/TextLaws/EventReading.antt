@@ -121,13 +121,16 @@ cond_next_again : (c : ℕ) (n : Next) (ws : List Word) → c ≤ 255 → NextFi
 unfolding cond_next_at
 cond_next_again c n ws le fits = rw (number_again 255 c (next_words n ++ ws) (lit< tt) le, next_again n ws fits) refl
 
-abbrev acted : Op × ℕ → List Word → List Word
-acted a ws = decimal a.0.code ∷ decimal a.0.arg ∷ decimal a.1 ∷ ws
+-- ---- an act
+
+-- the words of an act: its code, its argument and its reply
+abbrev pub act_words : Op × ℕ → List Word → List Word
+act_words a ws = decimal a.0.code ∷ decimal a.0.arg ∷ decimal a.1 ∷ ws
 
 three_words : (ws a b c : List Word) (x y z : Word) → ws ≡ x ∷ a → a ≡ y ∷ b → b ≡ z ∷ c → ws ≡ x ∷ y ∷ z ∷ c
 three_words ws a b c x y z e0 e1 e2 = cc
 
-act_takes : (ws : List Word) (x : (Op × ℕ) × List Word) → act_at ws ≡ Ok x → (ws ≡ acted x.0 x.1) × (x.0.0.code ≤ 255)
+pub act_takes : (ws : List Word) (x : (Op × ℕ) × List Word) → act_at ws ≡ Ok x → (ws ≡ act_words x.0 x.1) × (x.0.0.code ≤ 255)
     × (x.0.0.arg ≤ 2 ^ 32 - 1) × (x.0.1 ≤ 2 ^ 64 - 1)
 unfolding act_at
 act_takes ws x e =
@@ -141,19 +144,24 @@ act_takes ws x e =
     let u = number_takes (2 ^ 32 - 1) a.0.1 b.0 b.1 in
     let v = number_takes (2 ^ 64 - 1) b.0.1 c.0 c.1 in
     let made : (Op × ℕ) × List Word = ((record { code = a.0.0; arg = b.0.0 }, c.0.0), c.0.1) in
-    subst (λ (y : (Op × ℕ) × List Word). (ws ≡ acted y.0 y.1) × (y.0.0.code ≤ 255) × (y.0.0.arg ≤ 2 ^ 32 - 1)
+    subst (λ (y : (Op × ℕ) × List Word). (ws ≡ act_words y.0 y.1) × (y.0.0.code ≤ 255) × (y.0.0.arg ≤ 2 ^ 32 - 1)
     × (y.0.1 ≤ 2 ^ 64 - 1)) (ok_is made x c.2)
     (three_words ws a.0.1 b.0.1 c.0.1 _ _ _ t.0 u.0 v.0, t.1, u.1, v.1)
 
-after_act : (s : ℕ) (op : Op) (reply : ℕ) → op.code ≤ 255 → op.arg ≤ 2 ^ 32 - 1 → reply ≤ 2 ^ 64 - 1
-    → event_after verb.Act s (decimal op.code ∷ decimal op.arg ∷ decimal reply ∷ []) ≡ Ok (Act s op reply, [])
-unfolding event_after act_at
-after_act s op reply code arg fits =
+pub act_again : (op : Op) (reply : ℕ) → op.code ≤ 255 → op.arg ≤ 2 ^ 32 - 1 → reply ≤ 2 ^ 64 - 1
+    → act_at (decimal op.code ∷ decimal op.arg ∷ decimal reply ∷ []) ≡ Ok ((op, reply), [])
+unfolding act_at
+act_again op reply code arg fits =
     rw (
       number_again 255 op.code (decimal op.arg ∷ decimal reply ∷ []) (lit< tt) code,
       number_again (2 ^ 32 - 1) op.arg (decimal reply ∷ []) (lit< tt) arg,
       number_again (2 ^ 64 - 1) reply [] (lit< tt) fits,
     ) refl
+
+after_act : (s : ℕ) (op : Op) (reply : ℕ) → op.code ≤ 255 → op.arg ≤ 2 ^ 32 - 1 → reply ≤ 2 ^ 64 - 1
+    → event_after verb.Act s (decimal op.code ∷ decimal op.arg ∷ decimal reply ∷ []) ≡ Ok (Act s op reply, [])
+unfolding event_after
+after_act s op reply code arg fits = rw (act_again op reply code arg fits) refl
 
 -- ---- an event
 

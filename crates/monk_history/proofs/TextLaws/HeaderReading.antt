@@ -1,6 +1,5 @@
 -- What is read as a header is how it is written, and a header that is written is read again.
-use Rattle.std.proofs.Common.{lit<, ◌≡◌, ℕ, ◌≤◌, Bool, true, false, cond, List, [], ◌∷◌, ◌++◌, Some, None, Ok, refl}
-use Rattle.std.proofs.Common.{sym, ap, subst, ◌∙◌, arith}
+use Rattle.std.proofs.Common.{lit<, ◌≡◌, ℕ, ◌≤◌, List, [], ◌∷◌, ◌++◌, Some, Ok, refl, sym, ap, subst, ◌∙◌, arith}
 use Rattle.std.specs.Prelude.{◌&&◌, nat_le, codes}
 use Rattle.std.specs.Fmt.{decimal}
 use Rattle.std.proofs.lemmas.Bool.{leb-true, le-leb}
@@ -16,7 +15,7 @@ use Rattle.monk_history.specs.Text.Words.{◌>>=◌, Word, Taken, number_at, wit
 use Rattle.monk_history.specs.Text.Reading.{heading_of, parts_at, header_at}
 use Rattle.monk_history.proofs.TextLaws.LineCuts.{both}
 use Rattle.monk_history.proofs.TextLaws.WordReaders.{bind_ok, ok_is, number_takes, number_again, one_of_takes}
-use Rattle.monk_history.proofs.TextLaws.WordReaders.{one_of_again, literal_takes, end_takes}
+use Rattle.monk_history.proofs.TextLaws.WordReaders.{one_of_again, made_takes, literal_takes, end_takes}
 
 kind_again : (k : KindName) → with_text kind_word kinds (kind_word k) ≡ Some k
 kind_again Pb = refl
@@ -30,21 +29,16 @@ kind_again Npir = refl
 kind_again Pis = refl
 kind_again Npis = refl
 
-object_again : (o : ObjectName) → with_text object_word objects (object_word o) ≡ Some o
+pub object_again : (o : ObjectName) → with_text object_word objects (object_word o) ≡ Some o
 object_again Buffer = refl
 object_again Book = refl
 object_again Shop = refl
-
-heading_made : (b : Bool) (h : Heading) (ws : List Word) (x : Heading × List Word)
-    → with_rest ws (cond b (Some h) None) ≡ Ok x → (b ≡ true) × (x ≡ (h, ws))
-heading_made true h ws x e = (refl, sym (ok_is (h, ws) x e))
-heading_made false h ws x e = absurd cc
 
 heading_fits : (v : ℕ) (k : KindName) (s c : ℕ) (o : ObjectName) (z : ℕ) (ws : List Word) (x : Heading × List Word) → z ≤ 255
     → with_rest ws (heading_of v k s c o z) ≡ Ok x → (x ≡ (heading v k s c o z, ws)) × IsHeading (heading v k s c o z)
 heading_fits v k s c o z ws x le e =
     let versioned = nat_le 1 v && nat_le v newest_version in
-    let h = heading_made (versioned && nat_le 1 s && nat_le s most_seats && nat_le c most_conds && nat_le 1 z)
+    let h = made_takes (versioned && nat_le 1 s && nat_le s most_seats && nat_le c most_conds && nat_le 1 z)
     (heading v k s c o z) ws x e in
     let p = both (versioned && nat_le 1 s && nat_le s most_seats && nat_le c most_conds) (nat_le 1 z) h.0 in
     let q = both (versioned && nat_le 1 s && nat_le s most_seats) (nat_le c most_conds) p.0 in

@@ -1,24 +1,16 @@
 -- What is read as a log's first line is how it is written, and one that is written is read again.
-use Rattle.std.proofs.Common.{lit<, ◌≡◌, ℕ, ◌≤◌, Bool, true, false, cond, List, [], ◌∷◌, Some, None, Ok, refl, sym, subst}
-use Rattle.std.proofs.Common.{arith}
+use Rattle.std.proofs.Common.{lit<, ◌≡◌, ℕ, ◌≤◌, Bool, true, false, List, [], ◌∷◌, Some, Ok, refl, sym, subst, arith}
 use Rattle.std.specs.Prelude.{nat_le, ◌&&◌, codes}
 use Rattle.std.specs.Fmt.{decimal}
 use Rattle.std.proofs.lemmas.Bool.{leb-true, le-leb}
-use Rattle.monk_kinds.specs.Names.{with_text}
 use Rattle.monk_object.specs.declared.name.ObjectName.{ObjectName}
-use Rattle.monk_object.specs.declared.name.ObjectName.TheVariants as object
 use Rattle.monk_object.specs.Names.{object_word, objects}
 use Rattle.monk_history.specs.Limits.{most_seats, most_conds}
 use Rattle.monk_history.specs.Text.Words.{◌>>=◌, Word, Taken, number_at, one_of, with_rest, literal_at, end_at}
-use Rattle.monk_history.proofs.PublicLaws.Texts.{bind_ok, ok_is, number_takes, number_again, literal_takes, end_takes}
-use Rattle.monk_history.proofs.PublicLaws.Texts.{one_of_takes, one_of_again}
+use Rattle.monk_history.proofs.PublicLaws.Texts.{bind_ok, made_takes, number_takes, number_again, literal_takes, end_takes}
+use Rattle.monk_history.proofs.PublicLaws.Texts.{object_again, one_of_takes, one_of_again}
 use Rattle.monk_logs.specs.Log.{LogHeading, IsLogHeading, log_heading, log_header_words}
 use Rattle.monk_logs.specs.Log.Reading.{log_heading_of, log_header_at}
-
-object_again : (o : ObjectName) → with_text object_word objects (object_word o) ≡ Some o
-object_again object.Buffer = refl
-object_again object.Book = refl
-object_again object.Shop = refl
 
 -- the steps of a first line, each with those after it
 abbrev at_end : ℕ → ℕ → ObjectName → ℕ → Unit {0} × List Word → Taken LogHeading
@@ -49,15 +41,10 @@ all_four true true false d h = absurd cc
 all_four true false c d h = absurd cc
 all_four false b c d h = absurd cc
 
-some_made : (b : Bool) (h : LogHeading) (ws : List Word) (x : LogHeading × List Word)
-    → with_rest ws (cond b (Some h) None) ≡ Ok x → (b ≡ true) × (x ≡ (h, ws))
-some_made true h ws x e = (refl, sym (ok_is (h, ws) x e))
-some_made false h ws x e = absurd cc
-
 heading_fits : (s c : ℕ) (o : ObjectName) (z : ℕ) (ws : List Word) (x : LogHeading × List Word) → z ≤ 255
     → with_rest ws (log_heading_of s c o z) ≡ Ok x → (x ≡ (log_heading s c o z, ws)) × IsLogHeading (log_heading s c o z)
 heading_fits s c o z ws x le e =
-    let m = some_made (nat_le 1 s && nat_le s most_seats && nat_le c most_conds && nat_le 1 z) (log_heading s c o z) ws x e in
+    let m = made_takes (nat_le 1 s && nat_le s most_seats && nat_le c most_conds && nat_le 1 z) (log_heading s c o z) ws x e in
     let t = all_four (nat_le 1 s) (nat_le s most_seats) (nat_le c most_conds) (nat_le 1 z) m.0 in (
       m.1,
       record {

@@ -1,11 +1,11 @@
 -- What is read as a line of a log is how it is written, and a line that is written is read again.
-use Rattle.std.proofs.Common.{◌-◌, lit<, ◌≡◌, ℕ, ◌≤◌, ◌^◌, List, [], ◌∷◌, ◌++◌, Some, Ok, refl, ap, subst, ◌∙◌}
+use Rattle.std.proofs.Common.{lit<, ◌≡◌, ℕ, ◌≤◌, List, [], ◌∷◌, ◌++◌, Some, Ok, refl, ap, subst, ◌∙◌}
 use Rattle.std.specs.Fmt.{decimal}
 use Rattle.std.proofs.lemmas.List.{append-nil}
 use Rattle.monk_kinds.specs.Names.{with_text}
-use Rattle.monk_object.specs.declared.op.Op.{Op}
 use Rattle.monk_history.specs.Text.Reading.{act_at}
 use Rattle.monk_history.specs.Text.Words.{◌>>=◌, Word, Taken, number_at, one_of, end_at}
+use Rattle.monk_history.proofs.PublicLaws.Texts.{act_again, act_takes}
 use Rattle.monk_history.proofs.PublicLaws.Texts.{bind_ok, ok_is, number_takes, number_again, one_of_takes, one_of_again, end_takes}
 use Rattle.monk_logs.specs.Log.{log_words, LineFits}
 use Rattle.monk_logs.specs.Log.Reading.{log_verb_word, log_verbs, line_after, log_line_at}
@@ -24,42 +24,6 @@ verb_again verb.Signal = refl
 verb_again verb.Broadcast = refl
 verb_again verb.Until = refl
 verb_again verb.Act = refl
-
--- ---- an act
-
-abbrev act_words : Op × ℕ → List Word → List Word
-act_words a ws = decimal a.0.code ∷ decimal a.0.arg ∷ decimal a.1 ∷ ws
-
-three_words : (ws a b c : List Word) (x y z : Word) → ws ≡ x ∷ a → a ≡ y ∷ b → b ≡ z ∷ c → ws ≡ x ∷ y ∷ z ∷ c
-three_words ws a b c x y z e0 e1 e2 = cc
-
-act_takes : (ws : List Word) (x : (Op × ℕ) × List Word) → act_at ws ≡ Ok x → (ws ≡ act_words x.0 x.1) × (x.0.0.code ≤ 255)
-    × (x.0.0.arg ≤ 2 ^ 32 - 1) × (x.0.1 ≤ 2 ^ 64 - 1)
-unfolding act_at
-act_takes ws x e =
-    let a = bind_ok (number_at 255 ws)
-    (λ c. number_at (2 ^ 32 - 1) c.1 >>= λ a. number_at (2 ^ 64 - 1) a.1 >>= λ r. Ok
-    ((record { code = c.0; arg = a.0 }, r.0), r.1)) x e in
-    let b = bind_ok (number_at (2 ^ 32 - 1) a.0.1)
-    (λ n. number_at (2 ^ 64 - 1) n.1 >>= λ r. Ok ((record { code = a.0.0; arg = n.0 }, r.0), r.1)) x a.2 in
-    let c = bind_ok (number_at (2 ^ 64 - 1) b.0.1) (λ r. Ok ((record { code = a.0.0; arg = b.0.0 }, r.0), r.1)) x b.2 in
-    let t = number_takes 255 ws a.0 a.1 in
-    let u = number_takes (2 ^ 32 - 1) a.0.1 b.0 b.1 in
-    let v = number_takes (2 ^ 64 - 1) b.0.1 c.0 c.1 in
-    let made : (Op × ℕ) × List Word = ((record { code = a.0.0; arg = b.0.0 }, c.0.0), c.0.1) in
-    subst (λ (y : (Op × ℕ) × List Word). (ws ≡ act_words y.0 y.1) × (y.0.0.code ≤ 255) × (y.0.0.arg ≤ 2 ^ 32 - 1)
-    × (y.0.1 ≤ 2 ^ 64 - 1)) (ok_is made x c.2)
-    (three_words ws a.0.1 b.0.1 c.0.1 _ _ _ t.0 u.0 v.0, t.1, u.1, v.1)
-
-act_again : (op : Op) (reply : ℕ) → op.code ≤ 255 → op.arg ≤ 2 ^ 32 - 1 → reply ≤ 2 ^ 64 - 1
-    → act_at (decimal op.code ∷ decimal op.arg ∷ decimal reply ∷ []) ≡ Ok ((op, reply), [])
-unfolding act_at
-act_again op reply code arg fits =
-    rw (
-      number_again 255 op.code (decimal op.arg ∷ decimal reply ∷ []) (lit< tt) code,
-      number_again (2 ^ 32 - 1) op.arg (decimal reply ∷ []) (lit< tt) arg,
-      number_again (2 ^ 64 - 1) reply [] (lit< tt) fits,
-    ) refl
 
 -- ---- behind verb and seat
 

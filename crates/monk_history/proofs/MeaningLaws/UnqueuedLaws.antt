@@ -1,5 +1,5 @@
--- When a seat may enter a monitor, by what a caller of a floor can see
-use Rattle.std.proofs.Common.{◌≡◌, ℕ, ◌<◌, ◌-◌, Bool, true, false, ◌&&◌, not, Some, List, [], ◌∷◌, ◌++◌, length, refl}
+-- When a seat that stands in no queue may enter, and whose turn it is by the last event: what a caller of a floor can see.
+use Rattle.std.proofs.Common.{◌≡◌, ℕ, ◌<◌, ◌-◌, Bool, true, false, ◌&&◌, not, List, [], ◌∷◌, ◌++◌, length, refl}
 use Rattle.std.proofs.Common.{sym, ap, subst, ◌∙◌, arith, length-append}
 use Rattle.std.specs.Prelude.{nat_lt, slice_get}
 use Rattle.monk_history.specs.Meaning.Legal.{IsLegal}
@@ -15,13 +15,18 @@ use Rattle.monk_history.specs.declared.event.Event.TheVariants.{Enter}
 use Rattle.monk_history.specs.declared.event.Turn.{Turn}
 use Rattle.monk_history.specs.declared.event.Turn.TheVariants.{Open}
 use Rattle.monk_history.specs.declared.event.Via.TheVariants.{Free, Handed}
-use Rattle.monk_history.proofs.PublicLaws.Meaning.{may_enter_free, may_enter_handed, queued_is, history_induction}
-use Rattle.monk_history.proofs.PublicLaws.Meaning.{turn-push, legal_placed, situation-none}
+use Rattle.monk_history.proofs.MeaningLaws.CallLaws.{may_enter_free, may_enter_handed, queued_is}
+use Rattle.monk_history.proofs.MeaningLaws.HistoryLaws.{history_induction}
+use Rattle.monk_history.proofs.MeaningLaws.LegalLaws.{get_last}
+use Rattle.monk_history.proofs.MeaningLaws.StandingLaws.{legal_placed}
+use Rattle.monk_history.proofs.MeaningLaws.StepLaws.{situation-none}
+use Rattle.monk_history.proofs.MeaningLaws.TurnLaws.{turn-push}
 
 inside_by : (a b : Bool) → (a && not (nat_lt 0 0)) ≡ b → b ≡ false → a ≡ false
 inside_by true b h e = h ∙ e
 inside_by false b h e = refl
 
+-- where the turn is open, a seat in no queue is outside
 outside : (m : Monitor) (h : List Event) (s : ℕ) → IsLegal m h → turn h ≡ Open
     → is_queued m.conds s (situation m h) ≡ false → is_inside s h ≡ false
 outside m h s l t q =
@@ -29,25 +34,23 @@ outside m h s l t q =
     (subst (λ (u : Turn). (is_inside s h && not (nat_lt 0 (has_turn s u))) ≡ is_queued m.conds s (situation m h)) t
     (queued_is m.conds s (situation m h) (legal_placed m h l))) q
 
-pub may_be_handed : (m : Monitor) (h : List Event) (s : ℕ) → IsLegal m h → turn h ≡ Open → s < m.seats
+-- where the turn is open and the history has begun, a seat in no queue may enter as one that is handed in
+pub may_enter_begun : (m : Monitor) (h : List Event) (s : ℕ) → IsLegal m h → turn h ≡ Open → s < m.seats
     → is_queued m.conds s (situation m h) ≡ false → not (is_empty h) ≡ true → MayCall m h (Enter s Handed)
-may_be_handed m h s l t lt q b = may_enter_handed m h s t lt (outside m h s l t q) b
+may_enter_begun m h s l t lt q b = may_enter_handed m h s t lt (outside m h s l t q) b
 
 none_is : (h : List Event) → not (is_empty h) ≡ false → h ≡ []
 none_is [] b = refl
 none_is (x ∷ xs) b = absurd cc
 
-pub may_be_first : (m : Monitor) (h : List Event) (s : ℕ) → IsLegal m h → turn h ≡ Open → s < m.seats
+-- where the history has not begun, a seat may enter free
+pub may_enter_first : (m : Monitor) (h : List Event) (s : ℕ) → IsLegal m h → turn h ≡ Open → s < m.seats
     → is_queued m.conds s (situation m h) ≡ false → not (is_empty h) ≡ false → MayCall m h (Enter s Free)
-may_be_first m h s l t lt q b =
+may_enter_first m h s l t lt q b =
     let none : situation m h ≡ situation m [] = ap (λ x. situation m x) (none_is h b) in
     may_enter_free m h s t lt (outside m h s l t q)
     (ap (λ (x : Situation). x.waiters) (none ∙ situation-none m)) (ap (λ (x : Situation). x.signallers) (none ∙ situation-none m))
     (ap (λ (x : Situation). ready_of m.object x.state x.untils) (none ∙ situation-none m))
-
-stands_last : {X : Type 0} (xs : List X) (x : X) → slice_get (xs ++ x ∷ []) (length xs) ≡ Some x
-stands_last [] x = refl
-stands_last (y ∷ xs) x = stands_last xs x
 
 turn_at_none : turn_after (slice_get [] (length {A = Event} [] - 1)) ≡ turn []
 unfolding turn
@@ -57,7 +60,7 @@ turn_at_more : (x : List Event) (e : Event) → turn_after (slice_get x (length 
     → turn_after (slice_get (x ++ e ∷ []) (length (x ++ e ∷ []) - 1)) ≡ turn (x ++ e ∷ [])
 turn_at_more x e p =
     let at : length (x ++ e ∷ []) - 1 ≡ length x = omega (arith, length-append x (e ∷ [])) in
-    ap (λ n. turn_after (slice_get (x ++ e ∷ []) n)) at ∙ (ap turn_after (stands_last x e) ∙ sym (turn-push x e))
+    ap (λ n. turn_after (slice_get (x ++ e ∷ []) n)) at ∙ (ap turn_after (get_last x e) ∙ sym (turn-push x e))
 
 -- the turn is what the last event makes of it
 pub turn_at_last : (h : List Event) → turn_after (slice_get h (length h - 1)) ≡ turn h
