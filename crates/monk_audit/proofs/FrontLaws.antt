@@ -12,7 +12,7 @@ use Rattle.monk_history.specs.declared.event.Next.{Next}
 use Rattle.monk_history.specs.declared.event.Next.TheVariants.{Stay, Entry, Waiter, Signaller, Until as UntilSeat}
 use Rattle.monk_history.specs.Just.{just}
 use Rattle.monk_history.specs.Meaning.Choice.{chooses_well, is_front, is_permitted, may_choose, may_signal, must_stay}
-use Rattle.monk_history.specs.Meaning.Events.{acted, is_stay, next_of}
+use Rattle.monk_history.specs.Meaning.Events.{answered_act, is_stay, next_of}
 use Rattle.monk_history.specs.Meaning.Monitor.{Monitor, data_after}
 use Rattle.monk_history.specs.Meaning.Reasons.{is_right_reply, reason_in}
 use Rattle.monk_history.specs.Meaning.Signallers.{signals}
@@ -78,13 +78,13 @@ permits_fronts : (k : Rules) (ws ss rs : List ℕ) (stays : Bool) (e : Event)
 permits_fronts k ws ss rs stays e = ap (λ (b : Bool). cond stays (is_stay (next_of e)) b) (well_fronts k ws ss rs e)
 
 -- an event that is no act leaves the data as they are
-data_stays : (o : Object) (d : List ℕ) (e : Event) → acted e ≡ None → d ≡ data_after o d e
+data_stays : (o : Object) (d : List ℕ) (e : Event) → answered_act e ≡ None → d ≡ data_after o d e
 data_stays o d e none = sym (ap (λ act. option_map_or (λ a. o.after d a.op) act d) none)
 
 pub fronts_said : (k : Rules) (o : Object) (t : Situation) (e : Event) (w s first : Option ℕ) (ws ss : List ℕ) (stays : Bool)
     → w ≡ slice_get (t.waiters ++ serves t.condition e) 0 → s ≡ slice_get (t.signallers ++ signals t.condition e) 0
     → MatchOption w (ws ≡ []) (λ x. ws ≡ x ∷ []) → MatchOption s (ss ≡ []) (λ x. ss ≡ x ∷ [])
-    → acted e ≡ None → (asks_ready e ≡ true → first ≡ slice_get (ready_of o t.state t.untils) 0) → stays ≡ must_stay o t e
+    → answered_act e ≡ None → (asks_ready e ≡ true → first ≡ slice_get (ready_of o t.state t.untils) 0) → stays ≡ must_stay o t e
     → permits k (record { waiters = ws; signallers = ss; ready = just first }) stays e ≡ is_permitted k o t e
 fronts_said k o t e w s first ws ss stays a b listed signalled none c h =
     let front : ws ≡ just (slice_get (t.waiters ++ serves t.condition e) 0) = list_is w ws listed ∙ ap just a in
@@ -99,7 +99,7 @@ fronts_said k o t e w s first ws ss stays a b listed signalled none c h =
     ∙ permits_told k o t e (t.waiters ++ serves t.condition e) (t.signallers ++ signals t.condition e) t.state first stays
     refl refl (data_stays o t.state e none) c h
 
-right_reply : (o : Object) (d : List ℕ) (e : Event) → acted e ≡ None → true ≡ is_right_reply o d e
+right_reply : (o : Object) (d : List ℕ) (e : Event) → answered_act e ≡ None → true ≡ is_right_reply o d e
 right_reply o d e none = sym (ap (λ act. option_map_or (λ a. a.reply == o.reply d a.op) act true) none)
 
 by_choice : (p : Bool) → p ≡ (cond (not p) 6 0 == 0)
@@ -108,7 +108,7 @@ by_choice false = refl
 
 -- the tests 1 to 4, and then the last, are all that an event must pass that is no act
 pub allowed_said : (m : Monitor) (t : Situation) (e : Event) (n : ℕ) (p : Bool) → n ≡ early_reason m t e → n ≡ 0
-    → acted e ≡ None → p ≡ is_permitted m.kind m.object t e → p ≡ (reason_in m t e == 0)
+    → answered_act e ≡ None → p ≡ is_permitted m.kind m.object t e → p ≡ (reason_in m t e == 0)
 allowed_said m t e n p early passes none is =
     by_choice p ∙ ap (λ (r : ℕ). r == 0) (late_said m t e n true p early passes (right_reply m.object t.state e none) is)
 

@@ -32,7 +32,7 @@ use Rattle.monk_object.specs.Shop.{shop_meaning}
 use Rattle.monk_object.specs.Names.{meaning_named, most, opening_named}
 use Rattle.monk_object.specs.declared.name.ObjectName.{ObjectName}
 use Rattle.monk_audit.specs.Replay.{replay_situation}
-use Rattle.monk_audit.specs.Pieces.{events_from, found_from, judged_from_here, monitor_of, owed, verdict_from_here}
+use Rattle.monk_audit.specs.Pieces.{events_from, found_from, judged_from_here, monitor_of, owed_verdict, verdict_from_here}
 use Rattle.monk_audit.specs.Pieces.{stages_left, AsksForNone, IsCarried, IsCourseStep, IsFaulty, IsJudgedStep}
 use Rattle.monk_audit.specs.Pieces.{IsSound, IsSoundCourse, IsStageStep}
 use Rattle.monk_audit.specs.declared.course.Course.{Course}
@@ -82,24 +82,24 @@ piece_forbidden m h n r t e old new rest total item is some so_far number room l
 
 -- ---- what is owed at each stage
 
-pub owed_opening : (x : List ℕ) → owed stage.Opening x ≡ text_verdict x
-unfolding owed
+pub owed_opening : (x : List ℕ) → owed_verdict stage.Opening x ≡ text_verdict x
+unfolding owed_verdict
 owed_opening x = refl
 
-pub owed_buffer : (c : Course) (d x : List ℕ) → owed (stage.Buffer c d) x ≡ judged_from_here buffer_meaning c d x
-unfolding owed
+pub owed_buffer : (c : Course) (d x : List ℕ) → owed_verdict (stage.Buffer c d) x ≡ judged_from_here buffer_meaning c d x
+unfolding owed_verdict
 owed_buffer c d x = refl
 
-pub owed_book : (c : Course) (d x : List ℕ) → owed (stage.Book c d) x ≡ judged_from_here book_meaning c d x
-unfolding owed
+pub owed_book : (c : Course) (d x : List ℕ) → owed_verdict (stage.Book c d) x ≡ judged_from_here book_meaning c d x
+unfolding owed_verdict
 owed_book c d x = refl
 
-pub owed_shop : (c : Course) (d x : List ℕ) → owed (stage.Shop c d) x ≡ judged_from_here shop_meaning c d x
-unfolding owed
+pub owed_shop : (c : Course) (d x : List ℕ) → owed_verdict (stage.Shop c d) x ≡ judged_from_here shop_meaning c d x
+unfolding owed_verdict
 owed_shop c d x = refl
 
-pub owed_found : (h : Heading) (n : ℕ) (v : TextVerdict) (x : List ℕ) → owed (stage.Found h n v) x ≡ found_from v h n x
-unfolding owed
+pub owed_found : (h : Heading) (n : ℕ) (v : TextVerdict) (x : List ℕ) → owed_verdict (stage.Found h n v) x ≡ found_from v h n x
+unfolding owed_verdict
 owed_found h n v x = refl
 
 -- ---- the stage behind a header
@@ -154,14 +154,14 @@ begun h c name d x header rules count opening is state fits =
 -- ---- the header's line
 
 pub opened_from : (bytes rest : List ℕ) (h : Heading) (s : Stage) → IsHeadOf header_at bytes (Ok h) rest
-    → ((x : List ℕ) → owed s x ≡ lines_verdict h (events_from h 0 x))
-    → (more : List ℕ) → owed stage.Opening (bytes ++ more) ≡ owed s (rest ++ more)
+    → ((x : List ℕ) → owed_verdict s x ≡ lines_verdict h (events_from h 0 x))
+    → (more : List ℕ) → owed_verdict stage.Opening (bytes ++ more) ≡ owed_verdict s (rest ++ more)
 opened_from bytes rest h s is behind more =
     owed_opening (bytes ++ more)
     ∙ (opened_text (bytes ++ more) h _ (head_opens header_at (2 ^ 25) bytes rest h is more) ∙ sym (behind (rest ++ more)))
 
 pub refused_from : (bytes rest : List ℕ) (f : ReadFault) → IsHeadOf header_at bytes (Err f) rest
-    → (more : List ℕ) → owed stage.Opening (bytes ++ more) ≡ Err f
+    → (more : List ℕ) → owed_verdict stage.Opening (bytes ++ more) ≡ Err f
 refused_from bytes rest f is more =
     owed_opening (bytes ++ more) ∙ not_opened_text (bytes ++ more) f (head_refused header_at (2 ^ 25) bytes rest f is more)
 
@@ -174,7 +174,7 @@ no_object bytes rest h is none =
 
 -- ---- the end of the text
 
-pub end_opening : owed stage.Opening [] ≡ Err header_fault
+pub end_opening : owed_verdict stage.Opening [] ≡ Err header_fault
 end_opening = owed_opening [] ∙ not_opened_text [] header_fault (head_missing header_at (2 ^ 25) [] refl)
 
 pub end_judged : (o : Object) (c : Course) (d : List ℕ) → judged_from_here o c d [] ≡ Ok (Judged (Legal c.count))
@@ -187,7 +187,7 @@ pub end_found : (h : Heading) (n : ℕ) (v : TextVerdict) → found_from v h n [
 end_found h n v =
     ap (λ r. read_through r >>= λ _. Ok v) (items_end (event_under h) [] (n + 2) (2 ^ 25 - n) refl refl)
 
-pub unfinished_opening : (x : List ℕ) → is_unended x ≡ true → length x ≢ 0 → owed stage.Opening x ≡ Err (end_fault 1)
+pub unfinished_opening : (x : List ℕ) → is_unended x ≡ true → length x ≢ 0 → owed_verdict stage.Opening x ≡ Err (end_fault 1)
 unfinished_opening x one some =
     owed_opening x
     ∙ not_opened_text x (end_fault 1)
@@ -230,7 +230,7 @@ judged_step (Some v) next o c e d f bytes rest step few is =
     found_judged (Err g) v = refl
 
 pub stage_step : (next : Option Stage) (old new : Stage) (total left : List ℕ → Result TextVerdict ReadFault) (bytes rest : List ℕ)
-    → ((x : List ℕ) → owed old x ≡ total x) → ((x : List ℕ) → owed new x ≡ left x) → IsSound new → stages_left old ≡ 1
+    → ((x : List ℕ) → owed_verdict old x ≡ total x) → ((x : List ℕ) → owed_verdict new x ≡ left x) → IsSound new → stages_left old ≡ 1
     → ((x : List ℕ) → AsksForNone old x → ⊥)
     → IsJudgedStep next bytes rest total left → IsStageStep next bytes rest old new
 stage_step None old new total left bytes rest was is sound one asks step =
@@ -259,12 +259,12 @@ gives_same (Ok v) x is = sym is
 gives_same (Err f) x is = λ _. sym is
 
 -- what is owed to bytes behind which nothing comes
-pub at_end : (s t : Stage) (bytes rest : List ℕ) → IsCarried (owed s) bytes (owed t) rest → owed s bytes ≡ owed t rest
+pub at_end : (s t : Stage) (bytes rest : List ℕ) → IsCarried (owed_verdict s) bytes (owed_verdict t) rest → owed_verdict s bytes ≡ owed_verdict t rest
 at_end s t bytes rest carried =
-    ap (owed s) (sym (append-nil bytes)) ∙ (carried [] ∙ ap (owed t) (append-nil rest))
+    ap (owed_verdict s) (sym (append-nil bytes)) ∙ (carried [] ∙ ap (owed_verdict t) (append-nil rest))
 
-pub faulty_end : (s : Stage) (bytes : List ℕ) (f : ReadFault) → IsFaulty (owed s) bytes f → owed s bytes ≡ Err f
-faulty_end s bytes f faulty = ap (owed s) (sym (append-nil bytes)) ∙ faulty []
+pub faulty_end : (s : Stage) (bytes : List ℕ) (f : ReadFault) → IsFaulty (owed_verdict s) bytes f → owed_verdict s bytes ≡ Err f
+faulty_end s bytes f faulty = ap (owed_verdict s) (sym (append-nil bytes)) ∙ faulty []
 
 -- a fault that is want of memory is told only where memory was asked for
 pub never_both : {P : Type 0} (f : ReadFault) (none : Type 0) (a b : ℕ) → f ≡ memory → b ≤ a → (none → a < b)
@@ -276,13 +276,13 @@ never_both f none a b is le lt (inr x) = absurd (omega (arith, lt x))
 abbrev pub IsJudging : Stage → Course → Type 0
 IsJudging s c = ((d : List ℕ) × (s ≡ stage.Buffer c d)) ⊎ (((d : List ℕ) × (s ≡ stage.Book c d)) ⊎ ((d : List ℕ) × (s ≡ stage.Shop c d)))
 
-pub legal_there : (s : Stage) (c : Course) → IsJudging s c → Ok (Judged (Legal c.count)) ≡ owed s []
+pub legal_there : (s : Stage) (c : Course) → IsJudging s c → Ok (Judged (Legal c.count)) ≡ owed_verdict s []
 legal_there s c (inl x) = rw x.1 (sym (owed_buffer c x.0 [] ∙ end_judged buffer_meaning c x.0))
 legal_there s c (inr (inl x)) = rw x.1 (sym (owed_book c x.0 [] ∙ end_judged book_meaning c x.0))
 legal_there s c (inr (inr x)) = rw x.1 (sym (owed_shop c x.0 [] ∙ end_judged shop_meaning c x.0))
 
 pub unfinished_there : (s : Stage) (c : Course) → IsJudging s c → (x : List ℕ) → is_unended x ≡ true → length x ≢ 0
-    → owed s x ≡ Err (end_fault (c.count + 2))
+    → owed_verdict s x ≡ Err (end_fault (c.count + 2))
 unfinished_there s c (inl d) x one some = rw d.1 (owed_buffer c d.0 x ∙ unfinished_judged buffer_meaning c d.0 x one some)
 unfinished_there s c (inr (inl d)) x one some = rw d.1 (owed_book c d.0 x ∙ unfinished_judged book_meaning c d.0 x one some)
 unfinished_there s c (inr (inr d)) x one some = rw d.1 (owed_shop c d.0 x ∙ unfinished_judged shop_meaning c d.0 x one some)
@@ -290,7 +290,7 @@ unfinished_there s c (inr (inr d)) x one some = rw d.1 (owed_shop c d.0 x ∙ un
 -- ---- the three stages that judge, by what they have in common
 
 pub record Judges (make : Course → List ℕ → Stage) (o : Object) : Type 0 where
-  pub owes : (c : Course) (d x : List ℕ) → owed (make c d) x ≡ judged_from_here o c d x
+  pub owes : (c : Course) (d x : List ℕ) → owed_verdict (make c d) x ≡ judged_from_here o c d x
   pub sound : (c : Course) (d : List ℕ) → IsSoundCourse o.predicates c → IsSound (make c d)
   pub one : (c : Course) (d : List ℕ) → stages_left (make c d) ≡ 1
   pub asks : (c : Course) (d x : List ℕ) → AsksForNone (make c d) x → ⊥
@@ -315,16 +315,16 @@ judging_step make o j next old new c e d f bytes rest was is sound step =
 
 pub judging_faulty : (make : Course → List ℕ → Stage) (o : Object) → Judges make o → (s : Stage) (c : Course) (d bytes : List ℕ)
     (f : ReadFault) → s ≡ make c d → (f ≢ memory → IsFaulty (judged_from_here o c d) bytes f)
-    → (f ≢ memory) ⊎ AsksForNone s bytes → IsFaulty (owed s) bytes f
+    → (f ≢ memory) ⊎ AsksForNone s bytes → IsFaulty (owed_verdict s) bytes f
 judging_faulty make o j s c d bytes f is faulty (inl n) =
-    λ more. ap (λ t. owed t (bytes ++ more)) is ∙ (j.owes c d (bytes ++ more) ∙ faulty n more)
+    λ more. ap (λ t. owed_verdict t (bytes ++ more)) is ∙ (j.owes c d (bytes ++ more) ∙ faulty n more)
 judging_faulty make o j s c d bytes f is faulty (inr none) =
     absurd (j.asks c d bytes (subst (λ (t : Stage). AsksForNone t bytes) is none))
 
 pub found_faulty : (s : Stage) (h : Heading) (n : ℕ) (v : TextVerdict) (bytes : List ℕ) (f : ReadFault) → s ≡ stage.Found h n v
-    → IsFaulty (λ x. read_through (events_from h n x)) bytes f → IsFaulty (owed s) bytes f
+    → IsFaulty (λ x. read_through (events_from h n x)) bytes f → IsFaulty (owed_verdict s) bytes f
 found_faulty s h n v bytes f is faulty more =
-    ap (λ t. owed t (bytes ++ more)) is ∙ (owed_found h n v (bytes ++ more) ∙ ap (λ r. r >>= λ _. Ok v) (faulty more))
+    ap (λ t. owed_verdict t (bytes ++ more)) is ∙ (owed_found h n v (bytes ++ more) ∙ ap (λ r. r >>= λ _. Ok v) (faulty more))
 
 -- ---- the end of a text behind its last line
 
@@ -332,13 +332,13 @@ no_bytes : (xs : List ℕ) → (length xs == 0) ≡ true → xs ≡ []
 no_bytes [] e = refl
 no_bytes (x ∷ xs) e = absurd (omega (arith, eqb-true (length (x ∷ xs)) 0 e))
 
-pub whole_ended : (r : Result TextVerdict ReadFault) (s t : Stage) (bytes rest : List ℕ) → IsCarried (owed s) bytes (owed t) rest
-    → (length rest == 0) ≡ true → r ≡ owed t [] → r ≡ owed s bytes
+pub whole_ended : (r : Result TextVerdict ReadFault) (s t : Stage) (bytes rest : List ℕ) → IsCarried (owed_verdict s) bytes (owed_verdict t) rest
+    → (length rest == 0) ≡ true → r ≡ owed_verdict t [] → r ≡ owed_verdict s bytes
 whole_ended r s t bytes rest carried empty is =
-    is ∙ sym (at_end s t bytes rest carried ∙ ap (owed t) (no_bytes rest empty))
+    is ∙ sym (at_end s t bytes rest carried ∙ ap (owed_verdict t) (no_bytes rest empty))
 
-pub whole_unfinished : (s t : Stage) (bytes rest : List ℕ) (f : ReadFault) → IsCarried (owed s) bytes (owed t) rest
+pub whole_unfinished : (s t : Stage) (bytes rest : List ℕ) (f : ReadFault) → IsCarried (owed_verdict s) bytes (owed_verdict t) rest
     → is_unended rest ≡ true → (length rest == 0) ≡ false
-    → ((x : List ℕ) → is_unended x ≡ true → length x ≢ 0 → owed t x ≡ Err f) → owed s bytes ≡ Err f
+    → ((x : List ℕ) → is_unended x ≡ true → length x ≢ 0 → owed_verdict t x ≡ Err f) → owed_verdict s bytes ≡ Err f
 whole_unfinished s t bytes rest f carried ended some is =
     at_end s t bytes rest carried ∙ is rest ended (eqb-false _ _ some)

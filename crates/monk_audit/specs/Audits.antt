@@ -1,13 +1,13 @@
 -- The audit of a text that comes in pieces, as its callers see it
 use Rattle.std.specs.Prelude.{ℕ, List, ◌++◌, Option, Some, None, Result, Err}
 use Rattle.monk_history.specs.declared.text.fault.ReadFault.{ReadFault}
-use Rattle.monk_audit.specs.Pieces.{owed, IsSound}
+use Rattle.monk_audit.specs.Pieces.{owed_verdict, IsSound}
 use Rattle.monk_audit.specs.declared.stage.Stage.{Stage}
 use Rattle.monk_audit.specs.declared.text_audit.TextAudit.{TextAudit}
 use Rattle.monk_audit.specs.declared.text_verdict.TextVerdict.{TextVerdict}
 
 abbrev pub owed_by : Option ReadFault → Stage → List ℕ → List ℕ → Result TextVerdict ReadFault
-owed_by None stage held more = owed stage (held ++ more)
+owed_by None stage held more = owed_verdict stage (held ++ more)
 owed_by (Some f) stage held more = Err f
 
 -- what it answers, where these bytes are all that still comes

@@ -42,12 +42,12 @@ verdict_from_here o c state bytes =
 abbrev pub judged_from_here : Object → Course → List ℕ → List ℕ → Result TextVerdict ReadFault
 judged_from_here o c state bytes = verdict_from_here o c state bytes >>= λ v. Ok (Judged v)
 
-unfoldable pub owed : Stage → List ℕ → Result TextVerdict ReadFault
-owed Opening bytes = text_verdict bytes
-owed (Buffer c object) bytes = judged_from_here buffer_meaning c object bytes
-owed (Book c object) bytes = judged_from_here book_meaning c object bytes
-owed (Shop c object) bytes = judged_from_here shop_meaning c object bytes
-owed (Found h count found) bytes = found_from found h count bytes
+unfoldable pub owed_verdict : Stage → List ℕ → Result TextVerdict ReadFault
+owed_verdict Opening bytes = text_verdict bytes
+owed_verdict (Buffer c object) bytes = judged_from_here buffer_meaning c object bytes
+owed_verdict (Book c object) bytes = judged_from_here book_meaning c object bytes
+owed_verdict (Shop c object) bytes = judged_from_here shop_meaning c object bytes
+owed_verdict (Found h count found) bytes = found_from found h count bytes
 
 -- the replay is of a monitor with that many seats and conditions, and there is room for the events
 pub record IsSoundCourse (predicates : ℕ) (c : Course) : Type 0 where
@@ -98,11 +98,11 @@ IsCourseStep (Some v) bytes rest old new found = IsCarried old bytes (found v) r
 abbrev pub IsJudgedStep : Option Stage → List ℕ → List ℕ → (List ℕ → Result TextVerdict ReadFault)
     → (List ℕ → Result TextVerdict ReadFault) → Type 0
 IsJudgedStep None bytes rest old new = IsCarried old bytes new rest × (is_unended rest ≡ true)
-IsJudgedStep (Some stage) bytes rest old new = IsCarried old bytes (owed stage) rest × IsSound stage × (stages_left stage ≡ 0)
+IsJudgedStep (Some stage) bytes rest old new = IsCarried old bytes (owed_verdict stage) rest × IsSound stage × (stages_left stage ≡ 0)
 
 -- the stage that follows, if one does; else no further line ends in what is left
 abbrev pub IsStageStep : Option Stage → List ℕ → List ℕ → Stage → Stage → Type 0
-IsStageStep None bytes rest old new = IsCarried (owed old) bytes (owed new) rest × (is_unended rest ≡ true) × IsSound new
+IsStageStep None bytes rest old new = IsCarried (owed_verdict old) bytes (owed_verdict new) rest × (is_unended rest ≡ true) × IsSound new
 IsStageStep (Some stage) bytes rest old new =
-    IsCarried (owed old) bytes (owed stage) rest × IsSound stage × (stages_left stage < stages_left old)
+    IsCarried (owed_verdict old) bytes (owed_verdict stage) rest × IsSound stage × (stages_left stage < stages_left old)
     × (AsksForNone old bytes → AsksForNone stage rest)

@@ -6,7 +6,7 @@ ghost use Rattle.monk_history.specs.Meaning.Events.{next_of, seat_of};
 ghost use Rattle.monk_history.specs.Meaning.Reasons.{fits_object};
 ghost use Rattle.monk_history.specs.Meaning.Turn as turns;
 ghost use Rattle.monk_history.specs.Meaning.Untils.{chooses, ready_of, waits_until};
-ghost use Rattle.monk_audit.specs.Replay.{IsReplayOf, has, owned, passed_on, replay_situation, seats_in};
+ghost use Rattle.monk_audit.specs.Replay.{IsReplayOf, has, with_turn_of, passed_on, replay_situation, seats_in};
 
 use crate::inside::mark_inside;
 use crate::moves::{drop_chosen, join_untils};
@@ -57,7 +57,7 @@ impl Replay {
 
     /// Makes it the turn of a seat that nobody has chosen.
     pub fn own(&mut self, seat: u8)
-        ensures owned { (state : List ℕ) → replay_situation self.new state ≡ owned (replay_situation self.old state) seat }
+        ensures owned { (state : List ℕ) → replay_situation self.new state ≡ with_turn_of (replay_situation self.old state) seat }
         ensures sound { (seats conds predicates : ℕ) → IsReplayOf seats conds predicates self.old
             → IsReplayOf seats conds predicates self.new }
     {

@@ -4,7 +4,7 @@ ghost use Rattle.std.specs.Prelude.{◌≡◌, ◌≢◌, ◌≤◌, ◌<◌, �
 ghost use Rattle.monk_object.specs.Names.{most};
 ghost use Rattle.monk_history.specs.Text.Faults.{memory};
 ghost use Rattle.monk_history.specs.Text.Lines.{Gives, is_unended};
-ghost use Rattle.monk_audit.specs.Pieces.{events_from, judged_from_here, owed, stages_left, AsksForNone};
+ghost use Rattle.monk_audit.specs.Pieces.{events_from, judged_from_here, owed_verdict, stages_left, AsksForNone};
 ghost use Rattle.monk_audit.specs.Pieces.{IsCarried, IsFaulty, IsJudgedStep, IsSound, IsSoundCourse, IsStageStep};
 ghost use Rattle.monk_audit.specs.Reading.{lines_verdict, same};
 
@@ -41,11 +41,11 @@ impl Stage {
     /// Goes through the lines that end in the bytes, and gives what stands behind the last of them.
     pub fn judge<'a>(&mut self, alloc: Global, bytes: &'a [u8]) -> Result<&'a [u8], ReadFault>
         requires { IsSound self.old }
-        ensures step { IfOk result (λ rest. IsCarried (owed self.old) bytes.entry.now (owed self.new) rest.now) }
+        ensures step { IfOk result (λ rest. IsCarried (owed_verdict self.old) bytes.entry.now (owed_verdict self.new) rest.now) }
         ensures ended { IfOk result (λ rest. is_unended rest.now ≡ true) }
         ensures sound { OnOk result (IsSound self.new) }
         ensures fault { IfErr result
-            (λ f. (f ≢ memory) ⊎ AsksForNone self.old bytes.entry.now → IsFaulty (owed self.old) bytes.entry.now f) }
+            (λ f. (f ≢ memory) ⊎ AsksForNone self.old bytes.entry.now → IsFaulty (owed_verdict self.old) bytes.entry.now f) }
     {
         let mut rest = bytes;
         loop {
@@ -67,7 +67,7 @@ impl Stage {
         requires { IsSound self.old }
         ensures step { IfOk result (λ r. IsStageStep r.0 bytes.entry.now r.1.now self.old self.new) }
         ensures fault { IfErr result
-            (λ f. (f ≢ memory) ⊎ AsksForNone self.old bytes.entry.now → IsFaulty (owed self.old) bytes.entry.now f) }
+            (λ f. (f ≢ memory) ⊎ AsksForNone self.old bytes.entry.now → IsFaulty (owed_verdict self.old) bytes.entry.now f) }
     {
         let (next, rest) = match self {
             Stage::Opening => open(alloc, bytes)?,
@@ -82,7 +82,7 @@ impl Stage {
     /// What was found of a text that ends here.
     fn found(&self) -> Result<TextVerdict, ReadFault>
         requires { IsSound self.now }
-        ensures { result ≡ owed self.now [] }
+        ensures { result ≡ owed_verdict self.now [] }
     {
         match self {
             Stage::Opening => Err(ReadFault {
@@ -99,7 +99,7 @@ impl Stage {
     /// The fault of a text whose last line is not ended.
     fn unfinished(&self) -> ReadFault
         requires { IsSound self.now }
-        ensures { (bytes : List ℕ) → is_unended bytes ≡ true → length bytes ≢ 0 → owed self.now bytes ≡ Err result }
+        ensures { (bytes : List ℕ) → is_unended bytes ≡ true → length bytes ≢ 0 → owed_verdict self.now bytes ≡ Err result }
     {
         let line = match self {
             Stage::Opening => 1,
@@ -117,8 +117,8 @@ impl Stage {
     /// What was found, where these bytes are the rest of the text.
     pub fn end(self, alloc: Global, bytes: &[u8]) -> Result<TextVerdict, ReadFault>
         requires { IsSound self }
-        ensures verdict { Gives same result (owed self bytes.now) }
-        ensures none { AsksForNone self bytes.now → result ≡ owed self bytes.now }
+        ensures verdict { Gives same result (owed_verdict self bytes.now) }
+        ensures none { AsksForNone self bytes.now → result ≡ owed_verdict self bytes.now }
     {
         let mut stage = self;
         let rest = stage.judge(alloc, bytes)?;
@@ -135,7 +135,7 @@ fn open(alloc: Global, bytes: &[u8]) -> Result<(Option<Stage>, &[u8]), ReadFault
     ensures step { IfOk result (λ r. IsStageStep r.0 bytes.entry.now r.1.now Stage.Opening Stage.Opening) }
     ensures fault { IfErr result
         (λ f. (f ≢ memory) ⊎ AsksForNone Stage.Opening bytes.entry.now
-        → IsFaulty (owed Stage.Opening) bytes.entry.now f) }
+        → IsFaulty (owed_verdict Stage.Opening) bytes.entry.now f) }
 {
     let Some((header, rest)) = header_at_front::<Header>(bytes) else {
         return Ok((None, bytes));
@@ -146,7 +146,7 @@ fn open(alloc: Global, bytes: &[u8]) -> Result<(Option<Stage>, &[u8]), ReadFault
 
 /// The stage in which the events behind that header are judged, or that in which they are only read.
 fn stage_behind(alloc: Global, header: Header) -> Result<Stage, ReadFault>
-    ensures verdict { IfOk result (λ s. (x : List ℕ) → owed s x ≡ lines_verdict header (events_from header 0 x)) }
+    ensures verdict { IfOk result (λ s. (x : List ℕ) → owed_verdict s x ≡ lines_verdict header (events_from header 0 x)) }
     ensures sound { IfOk result IsSound }
     ensures left { IfOk result (λ s. stages_left s < 2) }
     ensures spares { IfOk result (λ s. most header.object < header.size → (x : List ℕ) → AsksForNone s x) }

@@ -3,7 +3,7 @@ use Rattle.std.proofs.Common.{◌≡◌, ℕ, ◌^◌, ◌⊎◌, inl, inr, List
 use Rattle.std.specs.Prelude.{IfSome, ◌↔◌}
 use Rattle.monk_history.specs.declared.event.Event.{Event}
 use Rattle.monk_history.specs.declared.text.fault.ReadFault.{ReadFault}
-use Rattle.monk_history.specs.Text.{Heading, text, upgraded}
+use Rattle.monk_history.specs.Text.{Heading, text, upgraded_heading}
 use Rattle.monk_history.specs.Text.Reading.{History, history, text_at}
 use Rattle.monk_history.proofs.PublicLaws.Texts.{text_again, text_read, upgraded_text}
 use Rattle.monk_commands.specs.Answer.{Answer}
@@ -44,10 +44,10 @@ zero_exactly (Some input) status bytes same h =
 
 pub upgraded_known : (known : Option (List ℕ)) (bytes : List ℕ) (Puts : List ℕ → Type 0) → IfSome known (λ input. bytes ≡ input)
     → Puts (upgrade_of bytes).text
-    → IfSome known (λ input. (h : Heading) (events : List Event) → IsHistoryOf input h events → Puts (text (upgraded h) events))
+    → IfSome known (λ input. (h : Heading) (events : List Event) → IsHistoryOf input h events → Puts (text (upgraded_heading h) events))
 upgraded_known None bytes Puts same puts = tt
 upgraded_known (Some input) bytes Puts same puts =
-    subst (λ (x : List ℕ). (h : Heading) (events : List Event) → IsHistoryOf x h events → Puts (text (upgraded h) events)) same
+    subst (λ (x : List ℕ). (h : Heading) (events : List Event) → IsHistoryOf x h events → Puts (text (upgraded_heading h) events)) same
     (λ h events t. subst (λ (a : Answer). Puts a.text) (text_upgraded bytes h events t) puts)
 
 -- the text of an upgraded history is its own answer
@@ -56,9 +56,9 @@ upgraded_again : (input : List ℕ) (r : Result History ReadFault) (Puts : List 
 upgraded_again input (Ok x) Puts is e puts =
     let t = history_read input x is in
     record {
-      written = text (upgraded x.0) x.1;
+      written = text (upgraded_heading x.0) x.1;
       puts = puts;
-      again = text_upgraded (text (upgraded x.0) x.1) (upgraded x.0) x.1
+      again = text_upgraded (text (upgraded_heading x.0) x.1) (upgraded_heading x.0) x.1
           (record { has_text = upgraded_text x.0 x.1 t.has_text; few = t.few; whole = refl });
     }
 upgraded_again input (Err f) Puts is e puts = absurd (omega (arith, e))

@@ -2,12 +2,12 @@
 use Rattle.std.specs.Prelude.{◌≡◌, ℕ, ◌≤◌, ◌^◌, List, length, Result, Ok, Err}
 use Rattle.monk_history.specs.declared.event.Event.{Event}
 use Rattle.monk_history.specs.declared.text.fault.ReadFault.{ReadFault}
-use Rattle.monk_history.specs.Text.{Heading, HasText, text, upgraded}
+use Rattle.monk_history.specs.Text.{Heading, HasText, text, upgraded_heading}
 use Rattle.monk_history.specs.Text.Reading.{History, text_at}
 use Rattle.monk_commands.specs.Answer.{Answer, unreadable}
 
 abbrev pub upgrade_answer : Result History ReadFault → Answer
-upgrade_answer (Ok h) = record { status = 0; text = text (upgraded h.0) h.1 }
+upgrade_answer (Ok h) = record { status = 0; text = text (upgraded_heading h.0) h.1 }
 upgrade_answer (Err f) = unreadable f
 
 abbrev pub upgrade_of : List ℕ → Answer

@@ -2,7 +2,7 @@
 
 ghost use Rattle.std.specs.Prelude.{◌≡◌, ◌≢◌, ◌≤◌, ℕ, List, false, true, IfOk, OnErr, Err, IsErrOf, string_bytes};
 ghost use Rattle.std.specs.Io.KnownBytes.{Appends};
-ghost use Rattle.monk_history.specs.Text.Device.{held, has_failed};
+ghost use Rattle.monk_history.specs.Text.Device.{inner_of, has_failed};
 ghost use Rattle.monk_history.specs.Text.Faults.{memory};
 ghost use Rattle.monk_history.specs.Text.Lines.{Gives};
 ghost use Rattle.monk_audit.specs.Reading.{same, text_verdict};
@@ -68,7 +68,7 @@ pub(crate) fn too_big(alloc: Global) -> Result<Answer, StreamFault>
 pub(crate) fn put<W: Write>(answer: &Answer, writer: &mut Device<W>) -> Result<u8, StreamFault>
     requires { has_failed writer.old ≡ false }
     ensures line { IfOk result
-        (λ status. (status ≡ answer.now.status) × Appends (W.contents (held writer.old)) (W.contents (held writer.new))
+        (λ status. (status ≡ answer.now.status) × Appends (W.contents (inner_of writer.old)) (W.contents (inner_of writer.new))
         (string_bytes answer.now.text)) }
     ensures fails { OnErr result ((result ≡ Err StreamFault.File) × (has_failed writer.new ≡ true)) }
 {

@@ -4,7 +4,7 @@ ghost use Rattle.std.specs.Prelude.{◌≡◌, ◌+◌, ◌≤◌, ◌^◌, ◌�
 ghost use Rattle.std.specs.Io.KnownBytes.{IsAtEnd};
 ghost use Rattle.monk_audit.specs.Reading.{same, text_verdict};
 ghost use Rattle.monk_history.specs.Text.Lines.{Gives};
-ghost use Rattle.monk_history.specs.Text.Device.{held, has_failed, reads_of};
+ghost use Rattle.monk_history.specs.Text.Device.{inner_of, has_failed, reads_of};
 ghost use Rattle.monk_commands.specs.Answer.{answer_of};
 ghost use Rattle.monk_commands.specs.Legal.{IsLegalText, IsForbiddenText};
 ghost use Rattle.monk_commands.specs.Streams.{Answers, IsYoung, IsPastBound};
@@ -24,8 +24,8 @@ fn audit_all<R: Read>(
     reader: &mut Device<R>,
 ) -> Result<Result<TextVerdict, ReadFault>, StreamFault>
     requires { has_failed reader.old ≡ false }
-    ensures verdict { IfOk result (λ r. IfSome (R.remaining (held reader.old)) (λ input. Gives same r (text_verdict input))) }
-    ensures end { OnOk result (IsAtEnd (R.remaining (held reader.new))) }
+    ensures verdict { IfOk result (λ r. IfSome (R.remaining (inner_of reader.old)) (λ input. Gives same r (text_verdict input))) }
+    ensures end { OnOk result (IsAtEnd (R.remaining (inner_of reader.new))) }
     ensures file { IsErrOf result StreamFault.File → IsYoung reader.old → (has_failed reader.new ≡ true)
         ⊎ IsPastBound reader.old reader.new }
     ensures sound { OnOk result (has_failed reader.new ≡ false) }
@@ -74,12 +74,12 @@ pub fn audit_stream<R: Read, W: Write>(
 
     // The one line, and its status, are the answer to what the reader had.
     ensures answer { IfOk result
-        (Answers answer_of (R.remaining (held reader.old)) (W.contents (held writer.old))
-        (W.contents (held writer.new))) }
-    ensures legal { IfOk result (λ status. IfSome (R.remaining (held reader.old)) (λ input. (status ≡ 0) ↔ IsLegalText input)) }
-    ensures forbidden { IfOk result (λ status. IfSome (R.remaining (held reader.old)) (λ input. (status ≡ 1) ↔ IsForbiddenText input)) }
+        (Answers answer_of (R.remaining (inner_of reader.old)) (W.contents (inner_of writer.old))
+        (W.contents (inner_of writer.new))) }
+    ensures legal { IfOk result (λ status. IfSome (R.remaining (inner_of reader.old)) (λ input. (status ≡ 0) ↔ IsLegalText input)) }
+    ensures forbidden { IfOk result (λ status. IfSome (R.remaining (inner_of reader.old)) (λ input. (status ≡ 1) ↔ IsForbiddenText input)) }
     ensures statuses { IfOk result (λ status. status ≤ 2) }
-    ensures all_read { OnOk result (IsAtEnd (R.remaining (held reader.new))) }
+    ensures all_read { OnOk result (IsAtEnd (R.remaining (inner_of reader.new))) }
 
     ensures file { IsErrOf result StreamFault.File → IsYoung reader.old → (has_failed reader.new ≡ true)
         ⊎ (has_failed writer.new ≡ true) ⊎ IsPastBound reader.old reader.new }

@@ -5,7 +5,7 @@ ghost use Rattle.std.specs.Prelude.{IsTrue, List};
 ghost use Rattle.std.specs.Io.KnownBytes.{Appends, IsAtEnd};
 ghost use Rattle.monk_history.specs.declared.event.Event.{Event};
 ghost use Rattle.monk_history.specs.Text.{HasText, is_writable, text};
-ghost use Rattle.monk_history.specs.Text.Device.{held, has_failed, reads_of};
+ghost use Rattle.monk_history.specs.Text.Device.{inner_of, has_failed, reads_of};
 ghost use Rattle.monk_logs.specs.Log.Reading.{log};
 ghost use Rattle.monk_commands.specs.Completed.{IsAnswerToLog, IsLogAnswer, IsMisfitText, IsOpenText};
 ghost use Rattle.monk_commands.specs.Completed.{completed_heading, misfit_answer};
@@ -56,7 +56,7 @@ pub(crate) fn misfit_line(
 fn put_misfit<W: Write>(line: &[u8], writer: &mut Device<W>) -> Result<u8, StreamFault>
     requires { has_failed writer.old ≡ false }
     ensures told { IfOk result
-        (λ status. (status ≡ 1) × Appends (W.contents (held writer.old)) (W.contents (held writer.new)) line.now) }
+        (λ status. (status ≡ 1) × Appends (W.contents (inner_of writer.old)) (W.contents (inner_of writer.new)) line.now) }
     ensures fails { OnErr result ((result ≡ Err StreamFault.File) × (has_failed writer.new ≡ true)) }
 {
     match writer.write_all(line) {
@@ -76,7 +76,7 @@ fn put_history<W: Write>(
     ensures zero { IfOk result (λ status. status ≡ 0) }
     ensures has_text { IfOk result (λ status. HasText header.now events.now) }
     ensures told { IfOk result
-        (λ status. Appends (W.contents (held writer.old)) (W.contents (held writer.new)) (text header.now events.now)) }
+        (λ status. Appends (W.contents (inner_of writer.old)) (W.contents (inner_of writer.new)) (text header.now events.now)) }
     ensures fails { OnErr result ((result ≡ Err StreamFault.File) × (has_failed writer.new ≡ true)) }
 {
     match write(header, events, writer) {
@@ -97,7 +97,7 @@ fn complete_log<W: Write>(
     requires few { length lines.now ≤ 2 ^ 25 }
     ensures answer { IfOk result
         (λ status. IsLogAnswer kind (log header.now lines.now) status
-        (Appends (W.contents (held writer.old)) (W.contents (held writer.new)))) }
+        (Appends (W.contents (inner_of writer.old)) (W.contents (inner_of writer.new)))) }
     ensures file { IsErrOf result StreamFault.File → has_failed writer.new ≡ true }
     ensures memory { IsErrOf result StreamFault.Memory → writer.new ≡ writer.old }
 {
@@ -121,7 +121,7 @@ fn complete_text<W: Write>(
     requires { has_failed writer.old ≡ false }
     ensures answer { IfOk result
         (λ status. IsAnswerToLog kind bytes.now status
-        (Appends (W.contents (held writer.old)) (W.contents (held writer.new)))) }
+        (Appends (W.contents (inner_of writer.old)) (W.contents (inner_of writer.new)))) }
     ensures file { IsErrOf result StreamFault.File → has_failed writer.new ≡ true }
     ensures memory { IsErrOf result StreamFault.Memory → writer.new ≡ writer.old }
 {
@@ -163,18 +163,18 @@ pub fn complete_stream<R: Read, W: Write>(
     // What is written, and its status, are the answer to what the reader had: to a log that is open, the text of a history that
     // is legal under a monitor of the kind and whose erasure is the log.
     ensures answer { IfOk result
-        (λ status. IfSome (R.remaining (held reader.old))
-        (λ input. IsAnswerToLog kind input status (Appends (W.contents (held writer.old)) (W.contents (held writer.new))))) }
+        (λ status. IfSome (R.remaining (inner_of reader.old))
+        (λ input. IsAnswerToLog kind input status (Appends (W.contents (inner_of writer.old)) (W.contents (inner_of writer.new))))) }
     // The status is 0 exactly for the text of a log with which some legal history begins.
-    ensures open { IfOk result (λ status. IfSome (R.remaining (held reader.old)) (λ input. (status ≡ 0) ↔ IsOpenText kind input)) }
+    ensures open { IfOk result (λ status. IfSome (R.remaining (inner_of reader.old)) (λ input. (status ≡ 0) ↔ IsOpenText kind input)) }
     // The status is 1 exactly for the text of a log that has a first line with which none does.
     ensures misfit { IfOk result
-        (λ status. IfSome (R.remaining (held reader.old)) (λ input. (status ≡ 1) ↔ IsMisfitText kind input)) }
+        (λ status. IfSome (R.remaining (inner_of reader.old)) (λ input. (status ≡ 1) ↔ IsMisfitText kind input)) }
     // What is written with status 0, an audit finds legal.
     ensures found_legal { IfOk result
-        (λ status. status ≡ 0 → IsFoundLegal (Appends (W.contents (held writer.old)) (W.contents (held writer.new)))) }
+        (λ status. status ≡ 0 → IsFoundLegal (Appends (W.contents (inner_of writer.old)) (W.contents (inner_of writer.new)))) }
     ensures statuses { IfOk result (λ status. status ≤ 2) }
-    ensures all_read { OnOk result (IsAtEnd (R.remaining (held reader.new))) }
+    ensures all_read { OnOk result (IsAtEnd (R.remaining (inner_of reader.new))) }
 
     ensures file { IsErrOf result StreamFault.File → IsYoung reader.old → (has_failed reader.new ≡ true)
         ⊎ (has_failed writer.new ≡ true) ⊎ IsPastBound reader.old reader.new }

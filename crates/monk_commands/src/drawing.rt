@@ -2,7 +2,7 @@
 
 ghost use Rattle.std.specs.Prelude.{◌≡◌, ◌+◌, ◌≤◌, ◌^◌, ◌⊎◌, false, true, length, IfOk, OnOk, IfSome, IsErrOf};
 ghost use Rattle.std.specs.Io.KnownBytes.{Appends, IsAtEnd};
-ghost use Rattle.monk_history.specs.Text.Device.{held, has_failed, reads_of};
+ghost use Rattle.monk_history.specs.Text.Device.{inner_of, has_failed, reads_of};
 ghost use Rattle.monk_commands.specs.Answer.{answer_of, verdict_answer};
 ghost use Rattle.monk_commands.specs.Drawn.{IsDrawingOf, IsDrawn, IsPictureBy, forbidden_step};
 ghost use Rattle.monk_commands.specs.Streams.{IsYoung, IsPastBound};
@@ -67,7 +67,7 @@ fn put_picture<W: Write>(
     requires few { length events.now ≤ 2 ^ 25 }
     ensures answer { IfOk result
         (λ status. IsPictureBy verdict header.now events.now status
-        (Appends (W.contents (held writer.old)) (W.contents (held writer.new)))) }
+        (Appends (W.contents (inner_of writer.old)) (W.contents (inner_of writer.new)))) }
     ensures file { IsErrOf result StreamFault.File → has_failed writer.new ≡ true }
     ensures memory { IsErrOf result StreamFault.Memory → writer.new ≡ writer.old }
 {
@@ -95,7 +95,7 @@ fn draw_history<W: Write>(
     requires few { length events.now ≤ 2 ^ 25 }
     ensures answer { IfOk result
         (λ status. IsDrawn header.now events.now status
-        (Appends (W.contents (held writer.old)) (W.contents (held writer.new)))) }
+        (Appends (W.contents (inner_of writer.old)) (W.contents (inner_of writer.new)))) }
     ensures file { IsErrOf result StreamFault.File → has_failed writer.new ≡ true }
     ensures memory { IsErrOf result StreamFault.Memory → writer.new ≡ writer.old }
 {
@@ -114,7 +114,7 @@ fn draw_text<W: Write>(
 ) -> Result<u8, StreamFault>
     requires { has_failed writer.old ≡ false }
     ensures answer { IfOk result
-        (λ status. IsDrawingOf bytes.now status (Appends (W.contents (held writer.old)) (W.contents (held writer.new)))) }
+        (λ status. IsDrawingOf bytes.now status (Appends (W.contents (inner_of writer.old)) (W.contents (inner_of writer.new)))) }
     ensures file { IsErrOf result StreamFault.File → has_failed writer.new ≡ true }
     ensures memory { IsErrOf result StreamFault.Memory → writer.new ≡ writer.old }
 {
@@ -150,13 +150,13 @@ pub fn draw_stream<R: Read, W: Write>(
 
     // What is written, and its status, are the answer to what the reader had: of a history a picture with its marks.
     ensures answer { IfOk result
-        (λ status. IfSome (R.remaining (held reader.old))
-        (λ input. IsDrawingOf input status (Appends (W.contents (held writer.old)) (W.contents (held writer.new))))) }
+        (λ status. IfSome (R.remaining (inner_of reader.old))
+        (λ input. IsDrawingOf input status (Appends (W.contents (inner_of writer.old)) (W.contents (inner_of writer.new))))) }
     // The status is that of an audit.
     ensures status { IfOk result
-        (λ status. IfSome (R.remaining (held reader.old)) (λ input. status ≡ (answer_of input).status)) }
+        (λ status. IfSome (R.remaining (inner_of reader.old)) (λ input. status ≡ (answer_of input).status)) }
     ensures statuses { IfOk result (λ status. status ≤ 2) }
-    ensures all_read { OnOk result (IsAtEnd (R.remaining (held reader.new))) }
+    ensures all_read { OnOk result (IsAtEnd (R.remaining (inner_of reader.new))) }
 
     ensures file { IsErrOf result StreamFault.File → IsYoung reader.old → (has_failed reader.new ≡ true)
         ⊎ (has_failed writer.new ≡ true) ⊎ IsPastBound reader.old reader.new }

@@ -2,7 +2,7 @@
 
 ghost use Rattle.std.specs.Prelude.{◌≡◌, ◌+◌, ◌≤◌, ◌^◌, ◌⊎◌, false, true, length, IfOk, OnOk, IfSome, IsErrOf, ◌↔◌, Ok, string_bytes};
 ghost use Rattle.std.specs.Io.KnownBytes.{Appends, IsAtEnd};
-ghost use Rattle.monk_history.specs.Text.Device.{held, has_failed, reads_of};
+ghost use Rattle.monk_history.specs.Text.Device.{inner_of, has_failed, reads_of};
 ghost use Rattle.monk_history.specs.Text.Reading.{history};
 ghost use Rattle.monk_tell.specs.Told.{telling_of};
 ghost use Rattle.monk_commands.specs.Explained.{BeginsAsAudit, IsExplained, IsExplanationOf, told_answer};
@@ -81,15 +81,15 @@ pub fn explain_stream<R: Read, W: Write>(
 
     // What is written, and its status, are the explanation of what the reader had, with one of the sentences that there are.
     ensures answer { IfOk result
-        (λ status. IfSome (R.remaining (held reader.old))
-        (λ input. IsExplanationOf input status (Appends (W.contents (held writer.old)) (W.contents (held writer.new))))) }
+        (λ status. IfSome (R.remaining (inner_of reader.old))
+        (λ input. IsExplanationOf input status (Appends (W.contents (inner_of writer.old)) (W.contents (inner_of writer.new))))) }
     // The line of an audit comes first, and the status is that of an audit.
     ensures audit { IfOk result
-        (BeginsAsAudit (R.remaining (held reader.old)) (W.contents (held writer.old)) (W.contents (held writer.new))) }
-    ensures legal { IfOk result (λ status. IfSome (R.remaining (held reader.old)) (λ input. (status ≡ 0) ↔ IsLegalText input)) }
-    ensures forbidden { IfOk result (λ status. IfSome (R.remaining (held reader.old)) (λ input. (status ≡ 1) ↔ IsForbiddenText input)) }
+        (BeginsAsAudit (R.remaining (inner_of reader.old)) (W.contents (inner_of writer.old)) (W.contents (inner_of writer.new))) }
+    ensures legal { IfOk result (λ status. IfSome (R.remaining (inner_of reader.old)) (λ input. (status ≡ 0) ↔ IsLegalText input)) }
+    ensures forbidden { IfOk result (λ status. IfSome (R.remaining (inner_of reader.old)) (λ input. (status ≡ 1) ↔ IsForbiddenText input)) }
     ensures statuses { IfOk result (λ status. status ≤ 2) }
-    ensures all_read { OnOk result (IsAtEnd (R.remaining (held reader.new))) }
+    ensures all_read { OnOk result (IsAtEnd (R.remaining (inner_of reader.new))) }
 
     ensures file { IsErrOf result StreamFault.File → IsYoung reader.old → (has_failed reader.new ≡ true)
         ⊎ (has_failed writer.new ≡ true) ⊎ IsPastBound reader.old reader.new }

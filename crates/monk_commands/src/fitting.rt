@@ -3,7 +3,7 @@
 ghost use Rattle.std.specs.Prelude.{◌≡◌, ◌+◌, ◌≤◌, ◌^◌, ◌⊎◌, ◌++◌, false, true, length, IfOk, OnOk, IfSome, IsErrOf, ◌↔◌};
 ghost use Rattle.std.specs.Io.KnownBytes.{Appends, IsAtEnd};
 ghost use Rattle.monk_object.specs.Names.{most};
-ghost use Rattle.monk_history.specs.Text.Device.{held, has_failed, reads_of};
+ghost use Rattle.monk_history.specs.Text.Device.{inner_of, has_failed, reads_of};
 ghost use Rattle.monk_kinds.specs.Names.{kinds};
 ghost use Rattle.monk_commands.specs.Fitted.{IsFitText, fit_answer, fit_line, fit_lines, fit_of, fits_some, is_fit, under, verdict_under};
 ghost use Rattle.monk_commands.specs.LogFitted.{IsFitLogText, fit_answer_of, is_log_text};
@@ -105,7 +105,7 @@ fn fit<W: Write>(
     requires few { length events.now ≤ 2 ^ 25 }
     ensures answer { IfOk result
         (λ status. (status ≡ (fit_answer header.now events.now).status)
-        × Appends (W.contents (held writer.old)) (W.contents (held writer.new)) (fit_answer header.now events.now).text) }
+        × Appends (W.contents (inner_of writer.old)) (W.contents (inner_of writer.new)) (fit_answer header.now events.now).text) }
     ensures file { IsErrOf result StreamFault.File → has_failed writer.new ≡ true }
     ensures memory { IsErrOf result StreamFault.Memory → writer.new ≡ writer.old }
 {
@@ -128,7 +128,7 @@ fn fit_history<W: Write>(
     requires { has_failed writer.old ≡ false }
     ensures answer { IfOk result
         (λ status. (status ≡ (fit_of bytes.now).status)
-        × Appends (W.contents (held writer.old)) (W.contents (held writer.new)) (fit_of bytes.now).text) }
+        × Appends (W.contents (inner_of writer.old)) (W.contents (inner_of writer.new)) (fit_of bytes.now).text) }
     ensures file { IsErrOf result StreamFault.File → has_failed writer.new ≡ true }
     ensures memory { IsErrOf result StreamFault.Memory → writer.new ≡ writer.old }
 {
@@ -156,7 +156,7 @@ fn fit_text<W: Write>(
     requires { has_failed writer.old ≡ false }
     ensures answer { IfOk result
         (λ status. (status ≡ (fit_answer_of lapses means.now bytes.now).status)
-        × Appends (W.contents (held writer.old)) (W.contents (held writer.new)) (fit_answer_of lapses means.now bytes.now).text) }
+        × Appends (W.contents (inner_of writer.old)) (W.contents (inner_of writer.new)) (fit_answer_of lapses means.now bytes.now).text) }
     ensures file { IsErrOf result StreamFault.File → has_failed writer.new ≡ true }
     ensures memory { IsErrOf result StreamFault.Memory → writer.new ≡ writer.old }
 {
@@ -202,14 +202,14 @@ pub fn fit_stream<R: Read, W: Write>(
 
     // What is written, and its status, are the answer to what the reader had.
     ensures answer { IfOk result
-        (Answers (fit_answer_of lapses means.now) (R.remaining (held reader.old)) (W.contents (held writer.old))
-        (W.contents (held writer.new))) }
+        (Answers (fit_answer_of lapses means.now) (R.remaining (inner_of reader.old)) (W.contents (inner_of writer.old))
+        (W.contents (inner_of writer.new))) }
     // The status is 0 exactly for the text of a history that is legal under one of the kinds, or of a log that is open under one in
     // some order.
     ensures fits { IfOk result
-        (λ status. IfSome (R.remaining (held reader.old)) (λ input. (status ≡ 0) ↔ (IsFitText input ⊎ IsFitLogText lapses input))) }
+        (λ status. IfSome (R.remaining (inner_of reader.old)) (λ input. (status ≡ 0) ↔ (IsFitText input ⊎ IsFitLogText lapses input))) }
     ensures statuses { IfOk result (λ status. status ≤ 2) }
-    ensures all_read { OnOk result (IsAtEnd (R.remaining (held reader.new))) }
+    ensures all_read { OnOk result (IsAtEnd (R.remaining (inner_of reader.new))) }
 
     ensures file { IsErrOf result StreamFault.File → IsYoung reader.old → (has_failed reader.new ≡ true)
         ⊎ (has_failed writer.new ≡ true) ⊎ IsPastBound reader.old reader.new }

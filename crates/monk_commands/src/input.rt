@@ -2,7 +2,7 @@
 
 ghost use Rattle.std.specs.Prelude.{◌≡◌, ◌+◌, ◌≤◌, ◌^◌, ◌⊎◌, false, true, length, IfOk, OnOk, IfSome, IsErrOf};
 ghost use Rattle.std.specs.Io.KnownBytes.{IsAtEnd};
-ghost use Rattle.monk_history.specs.Text.Device.{held, has_failed, reads_of};
+ghost use Rattle.monk_history.specs.Text.Device.{inner_of, has_failed, reads_of};
 ghost use Rattle.monk_commands.specs.Streams.{IsYoung, IsPastBound};
 
 use crate::fault::StreamFault;
@@ -28,8 +28,8 @@ pub(crate) fn read_all<R: Read>(
     reader: &mut Device<R>,
 ) -> Result<Vec<u8>, StreamFault>
     requires { has_failed reader.old ≡ false }
-    ensures bytes { IfOk result (λ v. IfSome (R.remaining (held reader.old)) (λ input. v.items ≡ input)) }
-    ensures end { OnOk result (IsAtEnd (R.remaining (held reader.new))) }
+    ensures bytes { IfOk result (λ v. IfSome (R.remaining (inner_of reader.old)) (λ input. v.items ≡ input)) }
+    ensures end { OnOk result (IsAtEnd (R.remaining (inner_of reader.new))) }
     ensures file { IsErrOf result StreamFault.File → IsYoung reader.old → (has_failed reader.new ≡ true)
         ⊎ IsPastBound reader.old reader.new }
     ensures sound { OnOk result (has_failed reader.new ≡ false) }

@@ -4,7 +4,7 @@ ghost use Rattle.std.specs.Prelude.{◌≡◌, ◌≤◌, ◌++◌, false, true,
 ghost use Rattle.std.specs.Io.KnownBytes.{Appends};
 ghost use Rattle.monk_kinds.specs.Names.{kinds};
 ghost use Rattle.monk_object.specs.Names.{most};
-ghost use Rattle.monk_history.specs.Text.Device.{held, has_failed};
+ghost use Rattle.monk_history.specs.Text.Device.{inner_of, has_failed};
 ghost use Rattle.monk_logs.specs.Fit.{is_in};
 ghost use Rattle.monk_commands.specs.LogFitted.{counts_lines, fits_some_kind, log_counts, log_fit, log_fit_answer};
 ghost use Rattle.monk_commands.specs.LogFitted.{gone_line, inside_words, log_fit_line, log_fit_lines, log_fit_of, missed_line};
@@ -201,7 +201,7 @@ fn fit_log<W: Write>(
     requires works { has_failed writer.old ≡ false }
     ensures answer { IfOk result
         (λ status. (status ≡ (log_fit_answer lapses means.now log.now.0 log.now.1).status)
-        × Appends (W.contents (held writer.old)) (W.contents (held writer.new))
+        × Appends (W.contents (inner_of writer.old)) (W.contents (inner_of writer.new))
         (log_fit_answer lapses means.now log.now.0 log.now.1).text) }
     ensures file { IsErrOf result StreamFault.File → has_failed writer.new ≡ true }
     ensures memory { IsErrOf result StreamFault.Memory → writer.new ≡ writer.old }
@@ -229,7 +229,7 @@ pub(crate) fn fit_log_text<W: Write>(
     requires { has_failed writer.old ≡ false }
     ensures answer { IfOk result
         (λ status. (status ≡ (log_fit_of lapses means.now bytes.now).status)
-        × Appends (W.contents (held writer.old)) (W.contents (held writer.new)) (log_fit_of lapses means.now bytes.now).text) }
+        × Appends (W.contents (inner_of writer.old)) (W.contents (inner_of writer.new)) (log_fit_of lapses means.now bytes.now).text) }
     ensures file { IsErrOf result StreamFault.File → has_failed writer.new ≡ true }
     ensures memory { IsErrOf result StreamFault.Memory → writer.new ≡ writer.old }
 {

@@ -6,7 +6,7 @@ ghost use Rattle.std.specs.Io.KnownBytes.{Appends, IsAtEnd};
 ghost use Rattle.monk_kinds.specs.Names.{rules_named};
 ghost use Rattle.monk_object.specs.Names.{most};
 ghost use Rattle.monk_history.specs.Text.{Heading};
-ghost use Rattle.monk_history.specs.Text.Device.{held, has_failed, reads_of};
+ghost use Rattle.monk_history.specs.Text.Device.{inner_of, has_failed, reads_of};
 ghost use Rattle.monk_world.specs.declared.command.Command.{Command};
 ghost use Rattle.monk_world.specs.Records.{AreToldIn};
 ghost use Rattle.monk_commands.specs.Played.{IsPlayAnswer, IsAnswerTo, IsFoundLegal, IsPlayOf, IsPlayText, IsPlayed};
@@ -39,7 +39,7 @@ fn play_as<K: Kind, T: Guarded, W: Write>(
     requires told { AreToldIn play.0.version play.2 }
     ensures played { OnOk result
         (IsReportedBy report K.rules T.meaning (T.state object) play.entry.0 play.entry.1 play.entry.2
-        (Appends (W.contents (held writer.old)) (W.contents (held writer.new)))) }
+        (Appends (W.contents (inner_of writer.old)) (W.contents (inner_of writer.new)))) }
     ensures file { IsErrOf result StreamFault.File → has_failed writer.new ≡ true }
     ensures memory { IsErrOf result StreamFault.Memory → writer.new ≡ writer.old }
 {
@@ -73,7 +73,7 @@ fn play_named<T: Guarded, W: Write>(
     requires told { AreToldIn play.0.version play.2 }
     ensures played { OnOk result
         (IsReportedBy report (rules_named play.entry.0.kind) T.meaning (T.state object) play.entry.0 play.entry.1 play.entry.2
-        (Appends (W.contents (held writer.old)) (W.contents (held writer.new)))) }
+        (Appends (W.contents (inner_of writer.old)) (W.contents (inner_of writer.new)))) }
     ensures file { IsErrOf result StreamFault.File → has_failed writer.new ≡ true }
     ensures memory { IsErrOf result StreamFault.Memory → writer.new ≡ writer.old }
 {
@@ -104,7 +104,7 @@ fn play_object<W: Write>(
     requires size { play.0.size ≤ most play.0.object }
     ensures played { OnOk result
         (IsReported report play.entry.0 play.entry.1 play.entry.2
-        (Appends (W.contents (held writer.old)) (W.contents (held writer.new)))) }
+        (Appends (W.contents (inner_of writer.old)) (W.contents (inner_of writer.new)))) }
     ensures file { IsErrOf result StreamFault.File → has_failed writer.new ≡ true }
     ensures memory { IsErrOf result StreamFault.Memory → writer.new ≡ writer.old }
 {
@@ -139,7 +139,7 @@ fn play_lines<W: Write>(
     requires told { AreToldIn play.0.version play.2 }
     ensures answer { IfOk result
         (λ status. IsPlayAnswer report play.entry status
-        (Appends (W.contents (held writer.old)) (W.contents (held writer.new)))) }
+        (Appends (W.contents (inner_of writer.old)) (W.contents (inner_of writer.new)))) }
     ensures file { IsErrOf result StreamFault.File → has_failed writer.new ≡ true }
     ensures memory { IsErrOf result StreamFault.Memory → writer.new ≡ writer.old }
 {
@@ -160,7 +160,7 @@ pub(crate) fn play_text<W: Write>(
 ) -> Result<u8, StreamFault>
     requires { has_failed writer.old ≡ false }
     ensures answer { IfOk result
-        (λ status. IsAnswerTo report bytes.now status (Appends (W.contents (held writer.old)) (W.contents (held writer.new)))) }
+        (λ status. IsAnswerTo report bytes.now status (Appends (W.contents (inner_of writer.old)) (W.contents (inner_of writer.new)))) }
     ensures file { IsErrOf result StreamFault.File → has_failed writer.new ≡ true }
     ensures memory { IsErrOf result StreamFault.Memory → writer.new ≡ writer.old }
 {
@@ -196,20 +196,20 @@ pub fn play_stream<R: Read, W: Write>(
 
     // What is written, and its status, are the answer to what the reader had.
     ensures answer { IfOk result
-        (λ status. IfSome (R.remaining (held reader.old))
-        (λ input. IsAnswerTo Report.History input status (Appends (W.contents (held writer.old)) (W.contents (held writer.new))))) }
+        (λ status. IfSome (R.remaining (inner_of reader.old))
+        (λ input. IsAnswerTo Report.History input status (Appends (W.contents (inner_of writer.old)) (W.contents (inner_of writer.new))))) }
     // The status is 0 exactly for the text of a play.
-    ensures played { IfOk result (λ status. IfSome (R.remaining (held reader.old)) (λ input. (status ≡ 0) ↔ IsPlayText input)) }
+    ensures played { IfOk result (λ status. IfSome (R.remaining (inner_of reader.old)) (λ input. (status ≡ 0) ↔ IsPlayText input)) }
     // To a play nothing is written but the text of its history, which is legal.
     ensures history { IfOk result
-        (λ status. IfSome (R.remaining (held reader.old))
+        (λ status. IfSome (R.remaining (inner_of reader.old))
         (λ input. (h : Heading) (budget : ℕ) (commands : List (ℕ × Command)) → IsPlayOf input h budget commands
-        → IsPlayed h budget commands (Appends (W.contents (held writer.old)) (W.contents (held writer.new))))) }
+        → IsPlayed h budget commands (Appends (W.contents (inner_of writer.old)) (W.contents (inner_of writer.new))))) }
     // What is written to a play, an audit finds legal.
     ensures plays_are_legal { IfOk result
-        (λ status. status ≡ 0 → IsFoundLegal (Appends (W.contents (held writer.old)) (W.contents (held writer.new)))) }
+        (λ status. status ≡ 0 → IsFoundLegal (Appends (W.contents (inner_of writer.old)) (W.contents (inner_of writer.new)))) }
     ensures statuses { IfOk result (λ status. (status ≡ 0) ⊎ (status ≡ 2)) }
-    ensures all_read { OnOk result (IsAtEnd (R.remaining (held reader.new))) }
+    ensures all_read { OnOk result (IsAtEnd (R.remaining (inner_of reader.new))) }
 
     ensures file { IsErrOf result StreamFault.File → IsYoung reader.old → (has_failed reader.new ≡ true)
         ⊎ (has_failed writer.new ≡ true) ⊎ IsPastBound reader.old reader.new }

@@ -3,7 +3,7 @@
 ghost use Rattle.std.specs.Prelude.{◌≡◌, ◌⊎◌, false, true, Err, IfOk, IsErrOf, IsTrue, OnErr};
 ghost use Rattle.std.specs.Io.KnownBytes.{Appends};
 ghost use Rattle.monk_history.specs.Text.{HasText, is_writable, text};
-ghost use Rattle.monk_history.specs.Text.Device.{held, has_failed};
+ghost use Rattle.monk_history.specs.Text.Device.{inner_of, has_failed};
 ghost use Rattle.monk_samples.specs.Samples.{IsInRange};
 ghost use Rattle.monk_commands.specs.Played.{IsFoundLegal};
 ghost use Rattle.monk_commands.specs.Recorded.{IsRecordAnswer};
@@ -26,7 +26,7 @@ fn put_history<W: Write>(outcome: &Outcome, writer: &mut Device<W>) -> Result<u8
     ensures zero { IfOk result (λ status. status ≡ 0) }
     ensures has_text { IfOk result (λ status. HasText outcome.now.header outcome.now.history.items) }
     ensures told { IfOk result
-        (λ status. Appends (W.contents (held writer.old)) (W.contents (held writer.new))
+        (λ status. Appends (W.contents (inner_of writer.old)) (W.contents (inner_of writer.new))
         (text outcome.now.header outcome.now.history.items)) }
     ensures fails { OnErr result ((result ≡ Err StreamFault.File) × (has_failed writer.new ≡ true)) }
 {
@@ -50,7 +50,7 @@ fn recorded<R: Threads + Wait + Sync, W: Write>(
     requires works { has_failed writer.old ≡ false }
     ensures answer { IfOk result
         (λ status. IsRecordAnswer kind sample seats rounds status
-        (Appends (W.contents (held writer.old)) (W.contents (held writer.new)))) }
+        (Appends (W.contents (inner_of writer.old)) (W.contents (inner_of writer.new)))) }
     ensures file { IsErrOf result StreamFault.File → (has_failed writer.new ≡ true) ⊎ (writer.new ≡ writer.old) }
     ensures memory { IsErrOf result StreamFault.Memory → writer.new ≡ writer.old }
 {
@@ -89,10 +89,10 @@ pub fn record_stream<R: Threads + Wait + Sync, W: Write>(
     // With status 0 the text is that of the legal history that a run of this kind and sample has left.
     ensures answer { IfOk result
         (λ status. IsRecordAnswer kind sample seats rounds status
-        (Appends (W.contents (held writer.old)) (W.contents (held writer.new)))) }
+        (Appends (W.contents (inner_of writer.old)) (W.contents (inner_of writer.new)))) }
     // What is written with status 0, an audit finds legal.
     ensures found_legal { IfOk result
-        (λ status. status ≡ 0 → IsFoundLegal (Appends (W.contents (held writer.old)) (W.contents (held writer.new)))) }
+        (λ status. status ≡ 0 → IsFoundLegal (Appends (W.contents (inner_of writer.old)) (W.contents (inner_of writer.new)))) }
     ensures file { IsErrOf result StreamFault.File → (has_failed writer.new ≡ true) ⊎ (writer.new ≡ writer.old) }
     ensures memory { IsErrOf result StreamFault.Memory → writer.new ≡ writer.old }
 {

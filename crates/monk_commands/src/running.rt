@@ -2,7 +2,7 @@
 
 ghost use Rattle.std.specs.Prelude.{◌≡◌, ◌≢◌, ◌⊎◌, ◌↔◌, false, true, IfErr, IfOk, IsErrOf, OnOk, Some, string_bytes};
 ghost use Rattle.std.specs.Io.KnownBytes.{Appends};
-ghost use Rattle.monk_history.specs.Text.Device.{held, has_failed};
+ghost use Rattle.monk_history.specs.Text.Device.{inner_of, has_failed};
 ghost use Rattle.monk_kinds.specs.Names.{rules_named};
 ghost use Rattle.monk_samples.specs.Runs.{HasRun, IsFaultOfRun};
 ghost use Rattle.monk_samples.specs.Samples.{IsInRange, IsOutcome};
@@ -154,7 +154,7 @@ pub fn run_stream<R: Threads + Wait + Sync, W: Write>(
     // The totals that are told are those of a legal history of this kind and sample, in which the sample's law holds.
     ensures answer { IfOk result
         (λ status. IsRunAnswer kind sample seats rounds status
-        (Appends (W.contents (held writer.old)) (W.contents (held writer.new)))) }
+        (Appends (W.contents (inner_of writer.old)) (W.contents (inner_of writer.new)))) }
     ensures file { IsErrOf result StreamFault.File → (has_failed writer.new ≡ true) ⊎ (writer.new ≡ writer.old) }
     ensures memory { IsErrOf result StreamFault.Memory → writer.new ≡ writer.old }
 {

@@ -1,6 +1,6 @@
 ghost use Rattle.std.specs.Prelude.{◌≡◌, ◌+◌, ◌≤◌, ◌^◌, ◌⊎◌, false, true, IfOk, OnOk, IfSome, IsErrOf};
 ghost use Rattle.std.specs.Io.KnownBytes.{Appends, IsAtEnd};
-ghost use Rattle.monk_history.specs.Text.Device.{held, has_failed, reads_of};
+ghost use Rattle.monk_history.specs.Text.Device.{inner_of, has_failed, reads_of};
 ghost use Rattle.monk_commands.specs.Streams.{IsYoung, IsPastBound};
 ghost use Rattle.monk_commands.specs.Tasks.{IsTaskAnswer};
 
@@ -62,10 +62,10 @@ impl Task<'_> {
 
         // What is written, and its status, are what the command answers to what the reader had.
         ensures answer { IfOk result
-            (λ status. IfSome (R.remaining (held reader.old))
-            (λ input. IsTaskAnswer self.entry input status (Appends (W.contents (held writer.old)) (W.contents (held writer.new))))) }
+            (λ status. IfSome (R.remaining (inner_of reader.old))
+            (λ input. IsTaskAnswer self.entry input status (Appends (W.contents (inner_of writer.old)) (W.contents (inner_of writer.new))))) }
         ensures statuses { IfOk result (λ status. status ≤ 2) }
-        ensures all_read { OnOk result (IsAtEnd (R.remaining (held reader.new))) }
+        ensures all_read { OnOk result (IsAtEnd (R.remaining (inner_of reader.new))) }
 
         ensures file { IsErrOf result StreamFault.File → IsYoung reader.old → (has_failed reader.new ≡ true)
             ⊎ (has_failed writer.new ≡ true) ⊎ IsPastBound reader.old reader.new }

@@ -3,7 +3,7 @@
 ghost use Rattle.std.specs.Prelude.{◌≡◌, ◌+◌, ◌≤◌, ◌^◌, ◌⊎◌, ◌++◌, false, true, IfOk, OnOk, IfSome, IsErrOf, ◌↔◌, ℕ, List, string_bytes};
 ghost use Rattle.std.specs.Io.KnownBytes.{Appends, IsAtEnd};
 ghost use Rattle.monk_history.specs.Text.{Heading};
-ghost use Rattle.monk_history.specs.Text.Device.{held, has_failed, reads_of};
+ghost use Rattle.monk_history.specs.Text.Device.{inner_of, has_failed, reads_of};
 ghost use Rattle.monk_world.specs.Board.{state_of_view};
 ghost use Rattle.monk_world.specs.declared.command.Command.{Command};
 ghost use Rattle.monk_commands.specs.Played.{IsAnswerTo, IsPlayOf, IsPlayText, IsTraced};
@@ -148,7 +148,7 @@ pub(crate) fn put_trace<K: Kind, T: Guarded, W: Write>(
     requires works { has_failed writer.old ≡ false }
     ensures traced { OnOk result
         ((text : List ℕ) × (AreTraced K.rules T.meaning 0 (state_of_view world.old) play.entry.2 (state_of_view world.new) text
-        × Appends (W.contents (held writer.old)) (W.contents (held writer.new)) text)) }
+        × Appends (W.contents (inner_of writer.old)) (W.contents (inner_of writer.new)) text)) }
     ensures file { IsErrOf result StreamFault.File → has_failed writer.new ≡ true }
     ensures memory { IsErrOf result StreamFault.Memory → writer.new ≡ writer.old }
 {
@@ -192,17 +192,17 @@ pub fn trace_stream<R: Read, W: Write>(
 
     // What is written, and its status, are the answer to what the reader had.
     ensures answer { IfOk result
-        (λ status. IfSome (R.remaining (held reader.old))
-        (λ input. IsAnswerTo Report.Trace input status (Appends (W.contents (held writer.old)) (W.contents (held writer.new))))) }
+        (λ status. IfSome (R.remaining (inner_of reader.old))
+        (λ input. IsAnswerTo Report.Trace input status (Appends (W.contents (inner_of writer.old)) (W.contents (inner_of writer.new))))) }
     // The status is 0 exactly for the text of a play.
-    ensures played { IfOk result (λ status. IfSome (R.remaining (held reader.old)) (λ input. (status ≡ 0) ↔ IsPlayText input)) }
+    ensures played { IfOk result (λ status. IfSome (R.remaining (inner_of reader.old)) (λ input. (status ≡ 0) ↔ IsPlayText input)) }
     // Of a play the line of each command is written, in order, and nothing else.
     ensures traced { IfOk result
-        (λ status. IfSome (R.remaining (held reader.old))
+        (λ status. IfSome (R.remaining (inner_of reader.old))
         (λ input. (h : Heading) (budget : ℕ) (commands : List (ℕ × Command)) → IsPlayOf input h budget commands
-        → IsTraced h budget commands (Appends (W.contents (held writer.old)) (W.contents (held writer.new))))) }
+        → IsTraced h budget commands (Appends (W.contents (inner_of writer.old)) (W.contents (inner_of writer.new))))) }
     ensures statuses { IfOk result (λ status. (status ≡ 0) ⊎ (status ≡ 2)) }
-    ensures all_read { OnOk result (IsAtEnd (R.remaining (held reader.new))) }
+    ensures all_read { OnOk result (IsAtEnd (R.remaining (inner_of reader.new))) }
 
     ensures file { IsErrOf result StreamFault.File → IsYoung reader.old → (has_failed reader.new ≡ true)
         ⊎ (has_failed writer.new ≡ true) ⊎ IsPastBound reader.old reader.new }

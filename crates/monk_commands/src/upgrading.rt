@@ -3,8 +3,8 @@
 ghost use Rattle.std.specs.Prelude.{◌≡◌, ◌+◌, ◌≤◌, ◌^◌, ◌⊎◌, ◌↔◌, false, true, IfOk, OnOk, IfSome, IsErrOf, List};
 ghost use Rattle.std.specs.Io.KnownBytes.{Appends, IsAtEnd};
 ghost use Rattle.monk_history.specs.declared.event.Event.{Event};
-ghost use Rattle.monk_history.specs.Text.{Heading, text, upgraded};
-ghost use Rattle.monk_history.specs.Text.Device.{held, has_failed, reads_of};
+ghost use Rattle.monk_history.specs.Text.{Heading, text, upgraded_heading};
+ghost use Rattle.monk_history.specs.Text.Device.{inner_of, has_failed, reads_of};
 ghost use Rattle.monk_commands.specs.Streams.{Answers, IsYoung, IsPastBound};
 ghost use Rattle.monk_commands.specs.Upgraded.{IsHistoryOf, IsHistoryText, IsUpgraded, upgrade_of};
 
@@ -25,7 +25,7 @@ fn upgrade_text<W: Write>(
     requires { has_failed writer.old ≡ false }
     ensures answer { IfOk result
         (λ status. (status ≡ (upgrade_of bytes.now).status)
-        × Appends (W.contents (held writer.old)) (W.contents (held writer.new)) (upgrade_of bytes.now).text) }
+        × Appends (W.contents (inner_of writer.old)) (W.contents (inner_of writer.new)) (upgrade_of bytes.now).text) }
     ensures file { IsErrOf result StreamFault.File → has_failed writer.new ≡ true }
     ensures memory { IsErrOf result StreamFault.Memory → writer.new ≡ writer.old }
 {
@@ -62,20 +62,20 @@ pub fn upgrade_stream<R: Read, W: Write>(
 
     // What is written, and its status, are the answer to what the reader had.
     ensures answer { IfOk result
-        (Answers upgrade_of (R.remaining (held reader.old)) (W.contents (held writer.old))
-        (W.contents (held writer.new))) }
+        (Answers upgrade_of (R.remaining (inner_of reader.old)) (W.contents (inner_of writer.old))
+        (W.contents (inner_of writer.new))) }
     // The status is 0 exactly for the text of a history.
-    ensures histories { IfOk result (λ status. IfSome (R.remaining (held reader.old)) (λ input. (status ≡ 0) ↔ IsHistoryText input)) }
+    ensures histories { IfOk result (λ status. IfSome (R.remaining (inner_of reader.old)) (λ input. (status ≡ 0) ↔ IsHistoryText input)) }
     // To a history, the text of the upgraded header and of the events read is written.
     ensures upgraded { IfOk result
-        (λ status. IfSome (R.remaining (held reader.old))
+        (λ status. IfSome (R.remaining (inner_of reader.old))
         (λ input. (h : Heading) (events : List Event) → IsHistoryOf input h events
-        → Appends (W.contents (held writer.old)) (W.contents (held writer.new)) (text (upgraded h) events))) }
+        → Appends (W.contents (inner_of writer.old)) (W.contents (inner_of writer.new)) (text (upgraded_heading h) events))) }
     // What is written to a history is answered by itself.
     ensures again { IfOk result
-        (λ status. status ≡ 0 → IsUpgraded (Appends (W.contents (held writer.old)) (W.contents (held writer.new)))) }
+        (λ status. status ≡ 0 → IsUpgraded (Appends (W.contents (inner_of writer.old)) (W.contents (inner_of writer.new)))) }
     ensures statuses { IfOk result (λ status. (status ≡ 0) ⊎ (status ≡ 2)) }
-    ensures all_read { OnOk result (IsAtEnd (R.remaining (held reader.new))) }
+    ensures all_read { OnOk result (IsAtEnd (R.remaining (inner_of reader.new))) }
 
     ensures file { IsErrOf result StreamFault.File → IsYoung reader.old → (has_failed reader.new ≡ true)
         ⊎ (has_failed writer.new ≡ true) ⊎ IsPastBound reader.old reader.new }

@@ -4,7 +4,7 @@ use Rattle.std.specs.List.{list_all}
 use Rattle.std.specs.Option.{option_map_or}
 use Rattle.monk_object.specs.Object.{Object}
 use Rattle.monk_history.specs.Limits.{most_seats, most_conds}
-use Rattle.monk_history.specs.Meaning.Events.{seat_of, next_of, named_seat, waits_on, signals_on, awaited, steps_back}
+use Rattle.monk_history.specs.Meaning.Events.{seat_of, next_of, named_seat, waits_on, signals_on, awaited_predicate, steps_back}
 use Rattle.monk_history.specs.Meaning.Reasons.{is_condition}
 use Rattle.monk_history.specs.Meaning.Signallers.{is_empty}
 use Rattle.monk_history.specs.declared.event.Event.{Event}
@@ -26,4 +26,4 @@ pub record HasRoomFor (q : QueueLists) (inside : List Bool) (spent granted : Lis
 -- whether an event must stay, by the queues of the conditions and the data
 abbrev pub stays_by : Object → (ℕ → List ℕ) → List ℕ → Event → Bool
 stays_by o queue d e =
-    option_map_or (λ c. is_empty (queue c)) (steps_back e) (option_map_or (λ p. o.holds d p) (awaited e) false)
+    option_map_or (λ c. is_empty (queue c)) (steps_back e) (option_map_or (λ p. o.holds d p) (awaited_predicate e) false)

@@ -7,8 +7,8 @@ use Rattle.monk_history.specs.Meaning.Monitor.{Monitor, monitor}
 use Rattle.monk_logs.specs.Board.{Board, opening_board}
 use Rattle.monk_logs.specs.BoardCourse.{BoardCourse, board_course, board_settled}
 use Rattle.monk_logs.specs.BoardShown.{course_or}
-use Rattle.monk_logs.specs.Counts.{Counted, counted, counts_at, counts_from, counts_of, items_now, lacks_some_signal, lets_go}
-use Rattle.monk_logs.specs.Counts.{nothing_tallied, tallied, then_or, with_line, woken_among, woken_now}
+use Rattle.monk_logs.specs.Counts.{Counted, count_state, counts_at, counts_from, counts_of, items_now, lacks_some_signal, lets_go}
+use Rattle.monk_logs.specs.Counts.{nothing_tallied, tally_after, then_or, with_line, woken_among, woken_now}
 use Rattle.monk_logs.specs.ReadStand.{board_read_over, read_over}
 use Rattle.monk_logs.specs.declared.blame.Blame.{Blame}
 use Rattle.monk_logs.specs.declared.blame.LineVerdict.{LineVerdict}
@@ -28,7 +28,7 @@ use Rattle.monk_logs.proofs.LapseLaws.Following.{read_apart}
 module _ (m : Monitor) (means : List WaitsFor) where
   -- where line n leads
   abbrev with_next : ℕ → Counted → LogLine → BoardCourse → Counted
-  with_next n s l y = counted y (tallied m.object means n s.course l y s.tally)
+  with_next n s l y = count_state y (tally_after m.object means n s.course l y s.tally)
 
   from_cons : (n : ℕ) (s : Counted) (l : LogLine) (rest : List LogLine) → counts_from m means n s (l ∷ rest)
       ≡ then_or (λ y. counts_from m means (n + 1) (with_next (n + 1) s l y) rest) (counts_at s) (read_over Allowed Any m s.course l)
@@ -47,20 +47,20 @@ module _ (m : Monitor) (means : List WaitsFor) where
       ∙ sym (from_cons n s l new) ∙ sym (ap (counts_from m means n s) taken) ∙ is
 
   pub count_goes_on : (old new : List LogLine) (n : ℕ) (l : LogLine) (a b : Board) (p q : Pending) (k : Tally) (left : LineVerdict)
-      (t : Tally) (v : Counts) → counts_from m means n (counted (board_course a p) k) old ≡ v → old ≡ l ∷ new
+      (t : Tally) (v : Counts) → counts_from m means n (count_state (board_course a p) k) old ≡ v → old ≡ l ∷ new
       → course_or b left ≡ board_read_over Allowed Any m a p l → left ≡ line.Fits q
-      → t ≡ tallied m.object means (n + 1) (board_course a p) l (board_course b q) k
-      → counts_from m means (n + 1) (counted (board_course b q) t) new ≡ v
+      → t ≡ tally_after m.object means (n + 1) (board_course a p) l (board_course b q) k
+      → counts_from m means (n + 1) (count_state (board_course b q) t) new ≡ v
   count_goes_on old new n l a b p q k left t v is taken judged goes tally =
-      ap (λ (x : Tally). counts_from m means (n + 1) (counted (board_course b q) x) new) tally
-      ∙ more old new n l (counted (board_course a p) k) (Ok (board_course b q)) v is taken (ap (course_or b) (sym goes) ∙ judged)
+      ap (λ (x : Tally). counts_from m means (n + 1) (count_state (board_course b q) x) new) tally
+      ∙ more old new n l (count_state (board_course a p) k) (Ok (board_course b q)) v is taken (ap (course_or b) (sym goes) ∙ judged)
 
   pub count_misfits : (old new : List LogLine) (n : ℕ) (l : LogLine) (a b : Board) (p : Pending) (k : Tally) (left : LineVerdict)
-      (why : Blame) (v : Counts) → counts_from m means n (counted (board_course a p) k) old ≡ v → old ≡ l ∷ new
+      (why : Blame) (v : Counts) → counts_from m means n (count_state (board_course a p) k) old ≡ v → old ≡ l ∷ new
       → course_or b left ≡ board_read_over Allowed Any m a p l → left ≡ line.Misfits why
-      → counts_at (counted (board_course a p) k) ≡ v
+      → counts_at (count_state (board_course a p) k) ≡ v
   count_misfits old new n l a b p k left why v is taken judged fails =
-      more old new n l (counted (board_course a p) k) (Err why) v is taken (ap (course_or b) (sym fails) ∙ judged)
+      more old new n l (count_state (board_course a p) k) (Err why) v is taken (ap (course_or b) (sym fails) ∙ judged)
 
   pub count_ends : (left : List LogLine) (n : ℕ) (s : Counted) (v : Counts) → counts_from m means n s left ≡ v → left ≡ []
       → counts_at s ≡ v
@@ -71,7 +71,7 @@ module _ (m : Monitor) (means : List WaitsFor) where
 pub line_counted : (o : Object) (means : List WaitsFor) (n : ℕ) (x y : BoardCourse) (l : LogLine) (k t : Tally) (old new seen : List Item)
     (before after : ℕ) (missed : Bool) → t ≡ with_line n l before after missed k → before ≡ woken_among old → old ≡ items_now x
     → after ≡ woken_among new → new ≡ items_now y → missed ≡ (lets_go l && lacks_some_signal o y.board.state seen means) → seen ≡ new
-    → t ≡ tallied o means n x l y k
+    → t ≡ tally_after o means n x l y k
 line_counted o means n x y l k t old new seen before after missed is b from a to m at =
     is ∙ ap (λ (w : ℕ). with_line n l w after missed k) (b ∙ ap woken_among from)
     ∙ ap (λ (w : ℕ). with_line n l (woken_now x) w missed k) (a ∙ ap woken_among to)
@@ -92,12 +92,12 @@ module _ (k : Rules) (seats conds : ℕ) (ob : Object) (d : List ℕ) (means : L
   from_same n s [] = refl
   from_same n s (l ∷ log) =
       then_same _ _ (counts_at s) (read_over Allowed Any (monitor k seats conds ob []) s.course l)
-      (λ y. from_same (n + 1) (counted y (tallied ob means (n + 1) s.course l y s.tally)) log)
+      (λ y. from_same (n + 1) (count_state y (tally_after ob means (n + 1) s.course l y s.tally)) log)
       ∙ ap (then_or _ (counts_at s)) (read_apart Allowed Any k seats conds ob d s.course l)
 
   pub count_opens : (b : Board) (log : List LogLine) → b ≡ opening_board (monitor k seats conds ob d)
-      → counts_from (monitor k seats conds ob []) means 0 (counted (board_settled b) nothing_tallied) log
+      → counts_from (monitor k seats conds ob []) means 0 (count_state (board_settled b) nothing_tallied) log
       ≡ counts_of (monitor k seats conds ob d) means log
   count_opens b log is =
-      ap (λ (x : Board). counts_from (monitor k seats conds ob []) means 0 (counted (board_settled x) nothing_tallied) log) is
-      ∙ from_same 0 (counted (board_settled (opening_board (monitor k seats conds ob d))) nothing_tallied) log
+      ap (λ (x : Board). counts_from (monitor k seats conds ob []) means 0 (count_state (board_settled x) nothing_tallied) log) is
+      ∙ from_same 0 (count_state (board_settled (opening_board (monitor k seats conds ob d))) nothing_tallied) log

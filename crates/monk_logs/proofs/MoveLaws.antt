@@ -10,7 +10,7 @@ use Rattle.monk_history.specs.declared.event.Event.{Event}
 use Rattle.monk_history.specs.declared.event.Event.TheVariants as event
 use Rattle.monk_history.specs.declared.event.Via.{Via}
 use Rattle.monk_history.specs.Meaning.Choice.{must_stay}
-use Rattle.monk_history.specs.Meaning.Events.{acted, entered, next_of, seat_of}
+use Rattle.monk_history.specs.Meaning.Events.{answered_act, via_of, next_of, seat_of}
 use Rattle.monk_history.specs.Meaning.Monitor.{Monitor, data_after}
 use Rattle.monk_history.specs.Meaning.Reasons.{fits_object, is_in_place, is_in_range, is_in_turn}
 use Rattle.monk_history.specs.Meaning.Reasons.{is_offered, is_right_reply, may_enter, reason_before}
@@ -120,7 +120,7 @@ served_same m b e late =
     ap (λ (x : Bool). four (is_in_range m.seats m.conds m.object.codes m.object.predicates e) (is_offered m.kind e)
     (is_in_turn (sight b) e) x late) (place_same m.object b e)
 
-replied : (o : Object) (d : List ℕ) (e : Event) → acted e ≡ None → is_right_reply o d e ≡ true
+replied : (o : Object) (d : List ℕ) (e : Event) → answered_act e ≡ None → is_right_reply o d e ≡ true
 replied o d (event.Enter s via) h = refl
 replied o d (event.Act s op r) h = absurd cc
 replied o d (event.Leave s x) h = refl
@@ -138,7 +138,7 @@ turned false true h = refl
 turned p false h = absurd (true≢false (sym h))
 
 -- the tests on a board that has served are those of the definitions
-pub reason_is : (o : Order) (m : Monitor) (b : Board) (e : Event) (stays : Bool) → acted e ≡ None
+pub reason_is : (o : Order) (m : Monitor) (b : Board) (e : Event) (stays : Bool) → answered_act e ≡ None
     → stays ≡ must_stay m.object (sight b) e → served_reason o m stays (board_served b e) e ≡ board_reason o m b e
 unfolding board_reason
 reason_is o m b e stays no_act is =
@@ -179,7 +179,7 @@ moved_as b e stays joined = record {
   begun = true;
 }
 
-unchanged : (o : Object) (b : Board) (e : Event) (stays : Bool) → acted e ≡ None
+unchanged : (o : Object) (b : Board) (e : Event) (stays : Bool) → answered_act e ≡ None
     → moved_as (board_served b e) e stays (signals (sight b).condition e) ≡ board_after o b e
 unfolding moved_as
 unchanged o b (event.Enter s via) stays h = refl
@@ -193,7 +193,7 @@ unchanged o b (event.Resume s q) stays h = refl
 unchanged o b (event.SignalAll s c) stays h = refl
 unchanged o b (event.SignalWait s c d x) stays h = refl
 
-pub moved_is : (o : Object) (b : Board) (e : Event) (stays : Bool) → acted e ≡ None → stays ≡ must_stay o (sight b) e
+pub moved_is : (o : Object) (b : Board) (e : Event) (stays : Bool) → answered_act e ≡ None → stays ≡ must_stay o (sight b) e
     → board_moved stays (board_served b e) e ≡ board_after o b e
 unfolding moved_as
 moved_is o b e stays no_act is =
@@ -226,7 +226,7 @@ reply_found o m b e n is none wrong =
     sym (reason_goes m (sight b) e (board_late_reason o m b e) n is none
     ∙ ap (λ (x : Bool). cond (not x) 5 (cond (not (board_permits o m.kind m.object b e)) 6 0)) wrong)
 
-act_late : (o : Order) (m : Monitor) (b : Board) (e : Event) → is_some (acted e) ≡ true → is_right_reply m.object b.state e ≡ true
+act_late : (o : Order) (m : Monitor) (b : Board) (e : Event) → is_some (answered_act e) ≡ true → is_right_reply m.object b.state e ≡ true
     → board_late_reason o m b e ≡ 0
 act_late o m b (event.Enter s via) h right = absurd cc
 act_late o m b (event.Act s op r) h right = ap (λ (x : Bool). cond (not x) 5 0) right
@@ -240,12 +240,12 @@ act_late o m b (event.SignalAll s c) h right = absurd cc
 act_late o m b (event.SignalWait s c d x) h right = absurd cc
 
 pub act_found : (o : Order) (m : Monitor) (b : Board) (e : Event) (n : ℕ) → n ≡ reason_before 0 m (sight b) e → n ≡ 0
-    → is_some (acted e) ≡ true → is_right_reply m.object b.state e ≡ true → 0 ≡ board_reason o m b e
+    → is_some (answered_act e) ≡ true → is_right_reply m.object b.state e ≡ true → 0 ≡ board_reason o m b e
 unfolding board_reason
 act_found o m b e n is none act right =
     sym (reason_goes m (sight b) e (board_late_reason o m b e) n is none ∙ act_late o m b e act right)
 
-pub moved_act : (o : Object) (b : Kept) (state later : List ℕ) (e : Event) → is_some (acted e) ≡ true → later ≡ data_after o state e
+pub moved_act : (o : Object) (b : Kept) (state later : List ℕ) (e : Event) → is_some (answered_act e) ≡ true → later ≡ data_after o state e
     → board_moved false (board_served (board_shown b later) e) e ≡ board_after o (board_shown b state) e
 moved_act o b state later (event.Enter s via) h is = absurd cc
 moved_act o b state later (event.Act s op r) h is =
@@ -259,7 +259,7 @@ moved_act o b state later (event.Resume s q) h is = absurd cc
 moved_act o b state later (event.SignalAll s c) h is = absurd cc
 moved_act o b state later (event.SignalWait s c d x) h is = absurd cc
 
-pub no_entrance : (e : Event) (via : Via) (b : Board) → is_some (acted e) ≡ true → entered e ≡ Some via → via ≡ board_via b
+pub no_entrance : (e : Event) (via : Via) (b : Board) → is_some (answered_act e) ≡ true → via_of e ≡ Some via → via ≡ board_via b
 no_entrance (event.Enter s x) via b h is = absurd cc
 no_entrance (event.Act s op r) via b h is = absurd cc
 no_entrance (event.Leave s x) via b h is = absurd cc
@@ -287,7 +287,7 @@ code_room (event.SignalWait s c d x) = 0
 below_next : (n : ℕ) → nat_lt n (suc n) ≡ true
 below_next n = grind (arith)
 
-pub act_fits : (predicates : ℕ) (e : Event) → is_some (acted e) ≡ true → fits_object (code_room e) predicates e ≡ true
+pub act_fits : (predicates : ℕ) (e : Event) → is_some (answered_act e) ≡ true → fits_object (code_room e) predicates e ≡ true
 unfolding code_room
 act_fits predicates (event.Enter s via) h = absurd cc
 act_fits predicates (event.Act s op r) h = below_next op.code

@@ -7,7 +7,7 @@ use Rattle.monk_history.specs.declared.event.Event.{Event}
 use Rattle.monk_history.specs.declared.event.Event.TheVariants as event
 use Rattle.monk_history.specs.declared.event.Via.{Via}
 use Rattle.monk_history.specs.declared.event.Via.TheVariants.{Free, Handed}
-use Rattle.monk_history.specs.Meaning.Events.{entered}
+use Rattle.monk_history.specs.Meaning.Events.{via_of}
 use Rattle.monk_history.specs.Meaning.Monitor.{Monitor}
 use Rattle.monk_history.specs.Meaning.Reasons.{is_in_place, is_in_range, is_in_turn, is_offered, may_enter, reason_before}
 use Rattle.monk_history.specs.Meaning.Signallers.{is_empty, signals}
@@ -111,7 +111,7 @@ entering seats conds predicates o b state Free is h =
     ∙ ap (λ (l : List Item). is_empty (services l) && is_empty b.signallers.items && ready) (sym (is.no_items fresh))
 
 in_place : (seats conds predicates : ℕ) (o : Object) (b : Board) (state : List ℕ) (e : Event) → IsBoardOf seats conds predicates b
-    → ((via : Via) → entered e ≡ Some via → via ≡ board_via (board_shown b []))
+    → ((via : Via) → via_of e ≡ Some via → via ≡ board_via (board_shown b []))
     → is_in_place o (replay_situation b.rest state) e ≡ is_in_place o (sight (board_shown b state)) e
 in_place seats conds predicates o b state (event.Enter s via) is h =
     ap (λ (x : Bool). not ((replay_situation b.rest state).inside s) && x)
@@ -133,7 +133,7 @@ four_tests m t e place =
 
 pub called_same : (seats conds predicates : ℕ) (m : Monitor) (b : Board) (state : List ℕ) (e : Event)
     → IsBoardOf seats conds predicates b
-    → ((via : Via) → entered e ≡ Some via → via ≡ board_via (board_shown b []))
+    → ((via : Via) → via_of e ≡ Some via → via ≡ board_via (board_shown b []))
     → reason_before 0 m (replay_situation b.rest state) e ≡ reason_before 0 m (sight (board_shown b state)) e
 unfolding four_tests
 called_same seats conds predicates m b state e is h =

@@ -10,7 +10,7 @@ use Rattle.monk_history.specs.declared.event.Event.TheVariants as event
 use Rattle.monk_history.specs.declared.event.Next.{Next}
 use Rattle.monk_history.specs.declared.event.Next.TheVariants.{Stay, Waiter, Signaller, Until}
 use Rattle.monk_history.specs.Meaning.Choice.{Queues, is_front, queues_at}
-use Rattle.monk_history.specs.Meaning.Events.{acted, next_of}
+use Rattle.monk_history.specs.Meaning.Events.{answered_act, next_of}
 use Rattle.monk_history.specs.Meaning.Monitor.{Monitor}
 use Rattle.monk_history.specs.Meaning.Reasons.{reason_in}
 use Rattle.monk_history.specs.Meaning.Release.{with_next}
@@ -90,7 +90,7 @@ told_fits m t u e told l is led h =
     ∙ ap (λ (x : Event). cond (is_lapse l) (Err (release_blame m t e l)) (line_then m (release_blame m t e l) (add_to m t x) l)) is
 
 -- a release is no act, whatever it chooses
-pub no_act : (x : Next) (e : Event) → next_of e ≡ Some Stay → acted (with_next x e) ≡ None
+pub no_act : (x : Next) (e : Event) → next_of e ≡ Some Stay → answered_act (with_next x e) ≡ None
 no_act x (event.Enter s via) h = absurd cc
 no_act x (event.Act s op r) h = absurd cc
 no_act x (event.Leave s y) h = refl
@@ -103,5 +103,5 @@ no_act x (event.SignalAll s c) h = absurd cc
 no_act x (event.SignalWait s c d y) h = refl
 
 pub chosen_no_act : (o : Object) (t : Situation) (e told : Event) (l : LogLine) → told ≡ told_release o t e l
-    → next_of e ≡ Some Stay → acted told ≡ None
-chosen_no_act o t e told l is stays = ap acted is ∙ no_act (told_next (queues_at o t e) l) e stays
+    → next_of e ≡ Some Stay → answered_act told ≡ None
+chosen_no_act o t e told l is stays = ap answered_act is ∙ no_act (told_next (queues_at o t e) l) e stays

@@ -8,7 +8,7 @@ use Rattle.monk_history.specs.declared.event.From3.TheVariants as from
 use Rattle.monk_history.specs.declared.event.Next.TheVariants as next
 use Rattle.monk_history.specs.declared.event.Via.TheVariants.{Handed}
 use Rattle.monk_history.specs.Meaning.Choice.{Queues, is_front, must_stay, queues_at}
-use Rattle.monk_history.specs.Meaning.Events.{awaited, returns_at_once, seat_of, steps_back, waits_on}
+use Rattle.monk_history.specs.Meaning.Events.{awaited_predicate, returns_at_once, seat_of, steps_back, waits_on}
 use Rattle.monk_history.specs.Meaning.Monitor.{Monitor}
 use Rattle.monk_history.specs.Meaning.Reasons.{is_in_range, is_offered, is_right_reply}
 use Rattle.monk_history.specs.Meaning.Situation.{Situation}
@@ -104,7 +104,7 @@ early_blame m e = if not (is_event_in_range m e) then Some Range else if not (is
 -- whether the seat is inside and may be called back: anybody else who is inside, and the caller where it waits by the release
 abbrev pub may_be_called_back : Bool → Bool → Event → ℕ → Bool
 may_be_called_back stays inside e s =
-    not stays && (if s == seat_of e then is_some (waits_on e) || is_some (awaited e) else inside)
+    not stays && (if s == seat_of e then is_some (waits_on e) || is_some (awaited_predicate e) else inside)
 
 -- whether the seat may be active still: the caller of a signal, or of what must stay
 abbrev pub may_be_active : Bool → Event → ℕ → Bool

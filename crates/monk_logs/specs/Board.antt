@@ -19,7 +19,7 @@ use Rattle.monk_history.specs.Meaning.Situation.{Situation}
 use Rattle.monk_history.specs.Meaning.Step.{after}
 use Rattle.monk_history.specs.Meaning.Untils.{ready_of}
 use Rattle.monk_logs.specs.Chances.{Chances, permits_by}
-use Rattle.monk_logs.specs.Items.{line, unserved_in, services, may_resume, taken_out, may_lapse, lapsed}
+use Rattle.monk_logs.specs.Items.{line, unserved_in, services, may_resume, taken_out, may_lapse, without_seat}
 use Rattle.monk_logs.specs.Order.{apart, may_go}
 use Rattle.monk_logs.specs.Run.{taken_signaller}
 use Rattle.monk_logs.specs.declared.item.Item.{Item}
@@ -125,7 +125,7 @@ board_after object b e = record {
 -- the board behind a wait of seat s that ran out
 abbrev pub board_lapse : Board → ℕ → Board
 board_lapse b s = record {
-  items = lapsed s b.items;
+  items = without_seat s b.items;
   signallers = b.signallers;
   untils = b.untils;
   state = b.state;

@@ -39,8 +39,8 @@ abbrev pub other_half : Mode → List LogLine → List LogLine
 other_half k log = if returns_at_once k then leaving (last_or None log) else []
 
 -- what a release chooses where nobody wishes for anything
-abbrev pub unwished : Rules → Object → Situation → Event → Next
-unwished k o t e = choice_of k o t e false WishEntry
+abbrev pub unwished_next : Rules → Object → Situation → Event → Next
+unwished_next k o t e = choice_of k o t e false WishEntry
 
 -- the history is legal and tells the log, by no more events than the log has lines. Where the log ends with a release its choice
 -- is the one without a wish
@@ -49,7 +49,7 @@ pub record Completes (m : Monitor) (log : List LogLine) (h : List Event) : Type 
   pub erases : erasure h ≡ log ++ other_half m.kind.mode log
   pub few : length h ≤ length log
   pub last_choice : (before : List Event) (e : Event) (x : Next) → h ≡ before ++ e ∷ [] → next_of e ≡ Some x
-      → x ≡ unwished m.kind m.object (situation m before) e
+      → x ≡ unwished_next m.kind m.object (situation m before) e
 
 -- the events of such a history are kept, if any are wanted
 pub record IsCompletedBy (m : Monitor) (log : List LogLine) (wanted : Bool) (now : Option (List Event)) : Type 0 where

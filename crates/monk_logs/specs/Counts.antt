@@ -138,8 +138,8 @@ with_line n l before after missed k = record {
 }
 
 -- with line n, which leads from x to y
-abbrev pub tallied : Object → List WaitsFor → ℕ → BoardCourse → LogLine → BoardCourse → Tally → Tally
-tallied o means n x l y k =
+abbrev pub tally_after : Object → List WaitsFor → ℕ → BoardCourse → LogLine → BoardCourse → Tally → Tally
+tally_after o means n x l y k =
     with_line n l (woken_now x) (woken_now y) (lets_go l && lacks_some_signal o y.board.state (items_now y) means) k
 
 abbrev pub nothing_tallied : Tally
@@ -160,11 +160,11 @@ pub record Counted : Type 0 where
   pub course : BoardCourse
   pub tally : Tally
 
-abbrev pub counted : BoardCourse → Tally → Counted
-counted x k = record { course = x; tally = k }
+abbrev pub count_state : BoardCourse → Tally → Counted
+count_state x k = record { course = x; tally = k }
 
 abbrev pub nothing_counted : Monitor → Counted
-nothing_counted m = counted (board_settled (opening_board m)) nothing_tallied
+nothing_counted m = count_state (board_settled (opening_board m)) nothing_tallied
 
 -- behind so many lines, by how many seats wait unserved and how many are to come back
 abbrev pub counts_by : Tally → ℕ → ℕ → Counts
@@ -190,7 +190,7 @@ then_or f a (Err y) = a
 unfoldable pub counts_from : Monitor → List WaitsFor → ℕ → Counted → List LogLine → Counts
 counts_from m means n s [] = counts_at s
 counts_from m means n s (l ∷ log) =
-    then_or (λ y. counts_from m means (n + 1) (counted y (tallied m.object means (n + 1) s.course l y s.tally)) log) (counts_at s)
+    then_or (λ y. counts_from m means (n + 1) (count_state y (tally_after m.object means (n + 1) s.course l y s.tally)) log) (counts_at s)
     (read_over Allowed Any m s.course l)
 
 abbrev pub counts_of : Monitor → List WaitsFor → List LogLine → Counts

@@ -32,8 +32,8 @@ pub record Course : Type 0 where
 abbrev pub course : List Event → Pending → Course
 course past pending = record { past = past; pending = pending }
 
-abbrev pub settled : List Event → Course
-settled past = course past Settled
+abbrev pub settled_course : List Event → Course
+settled_course past = course past Settled
 
 -- ---- what the line behind a release tells of its choice
 
@@ -74,8 +74,8 @@ hold_in m t past e p = if reason_before 0 m t e == 0 then Some (course past p) e
 abbrev pub hold : Monitor → List Event → Event → Pending → Option Course
 hold m past e p = hold_in m (situation m past) past e p
 
-abbrev pub held : Monitor → List Event → Event → Option Course
-held m past e = hold m past e (Release e)
+abbrev pub held_course : Monitor → List Event → Event → Option Course
+held_course m past e = hold m past e (Release e)
 
 -- ---- a line
 
@@ -87,25 +87,25 @@ due_from (Owned j) = from.Waiter
 
 -- where each event is known
 abbrev pub behind_events : Monitor → List Event → LogLine → Option Course
-behind_events m past (Enter s) = option_map settled (add m past (event.Enter s (if is_empty past then Free else Handed)))
-behind_events m past (Resume s) = option_map settled (add m past (event.Resume s (due_from (turn past))))
+behind_events m past (Enter s) = option_map settled_course (add m past (event.Enter s (if is_empty past then Free else Handed)))
+behind_events m past (Resume s) = option_map settled_course (add m past (event.Resume s (due_from (turn past))))
 behind_events m past (Lapse s) = None
-behind_events m past (Leave s) = held m past (event.Leave s next.Stay)
-behind_events m past (Wait s c) = held m past (event.Wait s c next.Stay)
+behind_events m past (Leave s) = held_course m past (event.Leave s next.Stay)
+behind_events m past (Wait s c) = held_course m past (event.Wait s c next.Stay)
 behind_events m past (Signal s c) =
     if returns_at_once m.kind.mode then hold m past (event.SignalLeave s c next.Stay) (Half s c)
-    else held m past (event.Signal s c next.Stay)
-behind_events m past (Broadcast s c) = option_map settled (add m past (event.SignalAll s c))
-behind_events m past (Until s p) = held m past (event.Until s p next.Stay)
-behind_events m past (Act s op r) = option_map settled (add m past (event.Act s op r))
+    else held_course m past (event.Signal s c next.Stay)
+behind_events m past (Broadcast s c) = option_map settled_course (add m past (event.SignalAll s c))
+behind_events m past (Until s p) = held_course m past (event.Until s p next.Stay)
+behind_events m past (Act s op r) = option_map settled_course (add m past (event.Act s op r))
 
 -- where a signal is half told
 abbrev pub behind_half : Monitor → List Event → ℕ → ℕ → LogLine → Option Course
 behind_half m past s c (Enter j) = None
 behind_half m past s c (Resume j) = None
 behind_half m past s c (Lapse j) = None
-behind_half m past s c (Leave j) = if j == s then held m past (event.SignalLeave s c next.Stay) else None
-behind_half m past s c (Wait j d) = if j == s then held m past (event.SignalWait s c d next.Stay) else None
+behind_half m past s c (Leave j) = if j == s then held_course m past (event.SignalLeave s c next.Stay) else None
+behind_half m past s c (Wait j d) = if j == s then held_course m past (event.SignalWait s c d next.Stay) else None
 behind_half m past s c (Signal j d) = None
 behind_half m past s c (Broadcast j d) = None
 behind_half m past s c (Until j p) = None
@@ -129,4 +129,4 @@ judge_from m (Some c) [] = Some c
 judge_from m (Some c) (l ∷ log) = judge_from m (behind m c.past c.pending l) log
 
 abbrev pub judge : Monitor → List LogLine → Option Course
-judge m log = judge_from m (Some (settled [])) log
+judge m log = judge_from m (Some (settled_course [])) log

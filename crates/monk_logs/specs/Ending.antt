@@ -11,7 +11,7 @@ use Rattle.monk_history.specs.Meaning.Choice.{Queues}
 use Rattle.monk_history.specs.Meaning.Events.{has_conditions}
 use Rattle.monk_history.specs.Meaning.Release.{with_next}
 use Rattle.monk_history.specs.Meaning.Situation.{Situation}
-use Rattle.monk_logs.specs.Completion.{unwished}
+use Rattle.monk_logs.specs.Completion.{unwished_next}
 use Rattle.monk_logs.specs.declared.pending.Pending.{Pending}
 use Rattle.monk_logs.specs.declared.pending.Pending.TheVariants.{Settled, Half, Release}
 
@@ -40,4 +40,4 @@ last_release (Release e) = Some e
 
 -- the same with its choice
 abbrev pub last_events : Rules → Object → Situation → Pending → List Event
-last_events k o t p = option_map_or (λ e. with_next (unwished k o t e) e ∷ []) (last_release p) []
+last_events k o t p = option_map_or (λ e. with_next (unwished_next k o t e) e ∷ []) (last_release p) []

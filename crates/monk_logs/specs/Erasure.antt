@@ -7,17 +7,17 @@ use Rattle.monk_logs.specs.declared.line.LogLine.{LogLine}
 use Rattle.monk_logs.specs.declared.line.LogLine.TheVariants.{Enter, Resume, Leave, Wait, Signal, Broadcast, Until, Act}
 
 -- the lines of an event: a signal by which its caller leaves or waits has two
-abbrev pub erased : Event → List LogLine
-erased (event.Enter s via) = Enter s ∷ []
-erased (event.Act s op r) = Act s op r ∷ []
-erased (event.Leave s x) = Leave s ∷ []
-erased (event.Wait s c x) = Wait s c ∷ []
-erased (event.Signal s c x) = Signal s c ∷ []
-erased (event.SignalLeave s c x) = Signal s c ∷ Leave s ∷ []
-erased (event.Until s p x) = Until s p ∷ []
-erased (event.Resume s q) = Resume s ∷ []
-erased (event.SignalAll s c) = Broadcast s c ∷ []
-erased (event.SignalWait s c d x) = Signal s c ∷ Wait s d ∷ []
+abbrev pub erasure_of : Event → List LogLine
+erasure_of (event.Enter s via) = Enter s ∷ []
+erasure_of (event.Act s op r) = Act s op r ∷ []
+erasure_of (event.Leave s x) = Leave s ∷ []
+erasure_of (event.Wait s c x) = Wait s c ∷ []
+erasure_of (event.Signal s c x) = Signal s c ∷ []
+erasure_of (event.SignalLeave s c x) = Signal s c ∷ Leave s ∷ []
+erasure_of (event.Until s p x) = Until s p ∷ []
+erasure_of (event.Resume s q) = Resume s ∷ []
+erasure_of (event.SignalAll s c) = Broadcast s c ∷ []
+erasure_of (event.SignalWait s c d x) = Signal s c ∷ Wait s d ∷ []
 
 abbrev pub erasure : List Event → List LogLine
-erasure h = flat_map erased h
+erasure h = flat_map erasure_of h

@@ -3,7 +3,7 @@
 use Rattle.std.specs.Prelude.{◌≡◌, Bool, true, false, List, [], ◌∷◌, ◌++◌}
 use Rattle.std.specs.List.{flat_map, list_any}
 use Rattle.monk_history.specs.Meaning.Monitor.{Monitor}
-use Rattle.monk_logs.specs.Erasure.{erased}
+use Rattle.monk_logs.specs.Erasure.{erasure_of}
 use Rattle.monk_logs.specs.Run.{IsRun}
 use Rattle.monk_logs.specs.declared.line.LogLine.{LogLine}
 use Rattle.monk_logs.specs.declared.line.LogLine.TheVariants.{Enter, Resume, Lapse, Leave, Wait, Signal, Broadcast, Until, Act}
@@ -13,7 +13,7 @@ use Rattle.monk_logs.specs.declared.step.Step.TheVariants.{Did, Lapsed}
 
 -- what a recorder can write down of a step, and of a run
 abbrev pub step_lines : Step → List LogLine
-step_lines (Did e) = erased e
+step_lines (Did e) = erasure_of e
 step_lines (Lapsed s) = Lapse s ∷ []
 
 abbrev pub run_lines : List Step → List LogLine

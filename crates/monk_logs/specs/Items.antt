@@ -107,14 +107,14 @@ is_waiting_of j (Waiting s c) = s == j
 is_waiting_of j (Service c) = false
 
 -- without seat j, which was not served
-abbrev pub lapsed : ℕ → List Item → List Item
-lapsed j items = filter (λ i. not (is_waiting_of j i)) items
+abbrev pub without_seat : ℕ → List Item → List Item
+without_seat j items = filter (λ i. not (is_waiting_of j i)) items
 
 -- whether seat j, which waits on condition c, can be one that wasn't served
 abbrev pub can_be_unserved : Order → ℕ → ℕ → List Item → Bool
 can_be_unserved Fifo j c items = is_among j (unserved_in (line c items))
 can_be_unserved Wake j c items = is_among j (unserved_in (line c items))
-can_be_unserved Any j c items = keeps_up 0 (line c (lapsed j items))
+can_be_unserved Any j c items = keeps_up 0 (line c (without_seat j items))
 
 abbrev pub may_lapse : Order → ℕ → List Item → Bool
 may_lapse o j items = option_map_or (λ c. can_be_unserved o j c items) (condition_of j items) false

@@ -5,9 +5,9 @@ use Rattle.monk_history.specs.declared.event.Event.{Event}
 use Rattle.monk_logs.specs.declared.past.Past.{Past}
 use Rattle.monk_logs.specs.declared.past.Past.TheVariants.{Dropped, Kept}
 
-abbrev pub kept : Past → Option (List Event)
-kept Dropped = None
-kept (Kept events) = Some events.items
+abbrev pub kept_events : Past → Option (List Event)
+kept_events Dropped = None
+kept_events (Kept events) = Some events.items
 
 -- the same with more events
 abbrev pub grown : Option (List Event) → List Event → Option (List Event)

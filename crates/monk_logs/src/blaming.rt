@@ -2,7 +2,7 @@
 
 ghost use Rattle.std.specs.Prelude.{◌≡◌, ◌==◌, ◌||◌, ◌&&◌, Some, None, [], is_some, true, if◌then◌else◌};
 ghost use Rattle.monk_history.specs.Meaning.Choice.{queues_at};
-ghost use Rattle.monk_history.specs.Meaning.Events.{awaited, next_of, returns_at_once, signals_on, steps_back, waits_on};
+ghost use Rattle.monk_history.specs.Meaning.Events.{awaited_predicate, next_of, returns_at_once, signals_on, steps_back, waits_on};
 ghost use Rattle.monk_history.specs.Meaning.Reasons.{fits_object, is_condition};
 ghost use Rattle.monk_history.specs.Meaning.Release.{MayCallIn};
 ghost use Rattle.monk_history.specs.Meaning.Turn.{is_exit_of};
@@ -89,7 +89,7 @@ pub(crate) fn half_blame<T: Guarded>(
 
 /// Whether the caller waits by the event.
 fn waits(event: Event) -> bool
-    ensures { result ≡ (is_some (waits_on event) || is_some (awaited event)) }
+    ensures { result ≡ (is_some (waits_on event) || is_some (awaited_predicate event)) }
 {
     matches!(
         event,

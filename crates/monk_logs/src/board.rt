@@ -3,7 +3,7 @@
 ghost use Rattle.std.specs.Prelude.{◌≡◌, ◌<◌, ℕ, List, Some, [], true, IfOk, OnOk};
 ghost use Rattle.monk_history.specs.declared.event.Via.{Via};
 ghost use Rattle.monk_history.specs.Meaning.Choice as choice;
-ghost use Rattle.monk_history.specs.Meaning.Events.{entered, seat_of};
+ghost use Rattle.monk_history.specs.Meaning.Events.{via_of, seat_of};
 ghost use Rattle.monk_history.specs.Meaning.Monitor.{monitor};
 ghost use Rattle.monk_history.specs.Meaning.Reasons.{fits_object, reason_before};
 ghost use Rattle.monk_history.specs.Meaning.Signallers.{is_empty};
@@ -53,7 +53,7 @@ impl Board {
     #[inline(always)]
     pub(crate) fn call_reason<T: Guarded>(&self, setting: Setting, object: &T, event: Event) -> u8
         requires sound { IsBoardOf setting.seats setting.conds T.PREDICATES self.now }
-        requires first { (via : Via) → entered event ≡ Some via → via ≡ board_via (board_shown self.now []) }
+        requires first { (via : Via) → via_of event ≡ Some via → via ≡ board_via (board_shown self.now []) }
         ensures { result ≡ reason_before 0 (monitor_in setting T.meaning)
             (sight (board_shown self.now (T.state object.now))) event }
     {

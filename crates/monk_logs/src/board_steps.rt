@@ -2,7 +2,7 @@
 
 ghost use Rattle.std.specs.Prelude.{◌≡◌, ◌==◌, Ok, Err, Some, None, [], true, IfOk, OnOk, is_some, if◌then◌else◌};
 ghost use Rattle.monk_history.specs.declared.event.Via.{Via};
-ghost use Rattle.monk_history.specs.Meaning.Events.{acted, entered};
+ghost use Rattle.monk_history.specs.Meaning.Events.{answered_act, via_of};
 ghost use Rattle.monk_history.specs.Meaning.Reasons.{fits_object};
 ghost use Rattle.monk_logs.specs.BoardCourse.{board_via};
 ghost use Rattle.monk_logs.specs.BoardMoves as moves;
@@ -34,7 +34,7 @@ pub(crate) fn served_reason<T: Guarded>(
     stays: bool,
 ) -> u8
     requires sound { IsBoardOf setting.seats setting.conds T.PREDICATES board.now }
-    requires first { (via : Via) → entered event ≡ Some via → via ≡ board_via (board_shown board.now []) }
+    requires first { (via : Via) → via_of event ≡ Some via → via ≡ board_via (board_shown board.now []) }
     ensures { result ≡ moves.served_reason order (monitor_in setting T.meaning) stays
         (board_shown board.now (T.state object.now)) event }
 {
@@ -60,9 +60,9 @@ fn choose<T: Guarded>(
     event: Event,
 ) -> Result<u8, AllocError>
     requires sound { IsBoardOf setting.seats setting.conds T.PREDICATES board.old }
-    requires first { (via : Via) → entered event ≡ Some via → via ≡ board_via (board_shown board.old []) }
+    requires first { (via : Via) → via_of event ≡ Some via → via ≡ board_via (board_shown board.old []) }
     requires fits { fits_object T.CODES T.PREDICATES event ≡ true }
-    requires no_act { acted event ≡ None }
+    requires no_act { answered_act event ≡ None }
     ensures chosen { IfOk result
         (λ r. (if r == 0 then Ok (board_shown board.new (T.state object.now)) else Err r)
         ≡ stands.board_add order (monitor_in setting T.meaning) (board_shown board.old (T.state object.now)) event) }
@@ -88,7 +88,7 @@ fn act<T: Guarded>(
     event: Event,
 ) -> Result<u8, AllocError>
     requires sound { IsBoardOf setting.seats setting.conds T.PREDICATES board.old }
-    requires act { is_some (acted event) ≡ true }
+    requires act { is_some (answered_act event) ≡ true }
     ensures done { IfOk result
         (λ r. (if r == 0 then Ok (board_shown board.new (T.state object.new)) else Err r)
         ≡ stands.board_add order (monitor_in setting T.meaning) (board_shown board.old (T.state object.old)) event) }
@@ -128,9 +128,9 @@ pub(crate) fn settle<T: Guarded>(
     event: Event,
 ) -> Result<LineVerdict, AllocError>
     requires sound { IsBoardOf setting.seats setting.conds T.PREDICATES board.old }
-    requires first { (via : Via) → entered event ≡ Some via → via ≡ board_via (board_shown board.old []) }
+    requires first { (via : Via) → via_of event ≡ Some via → via ≡ board_via (board_shown board.old []) }
     requires fits { fits_object T.CODES T.PREDICATES event ≡ true }
-    requires no_act { acted event ≡ None }
+    requires no_act { answered_act event ≡ None }
     ensures settled { IfOk result
         (λ v. course_or (board_shown board.new (T.state object.now)) v
         ≡ stands.board_settle order (monitor_in setting T.meaning) (board_shown board.old (T.state object.now)) event) }
@@ -150,7 +150,7 @@ pub(crate) fn settle_act<T: Guarded>(
     event: Event,
 ) -> Result<LineVerdict, AllocError>
     requires sound { IsBoardOf setting.seats setting.conds T.PREDICATES board.old }
-    requires act { is_some (acted event) ≡ true }
+    requires act { is_some (answered_act event) ≡ true }
     ensures settled { IfOk result
         (λ v. course_or (board_shown board.new (T.state object.new)) v
         ≡ stands.board_settle order (monitor_in setting T.meaning) (board_shown board.old (T.state object.old)) event) }
@@ -170,7 +170,7 @@ pub(crate) fn hold<T: Guarded>(
     pending: Pending,
 ) -> LineVerdict
     requires sound { IsBoardOf setting.seats setting.conds T.PREDICATES board.now }
-    requires no_enter { entered event ≡ None }
+    requires no_enter { via_of event ≡ None }
     ensures { course_or (board_shown board.now (T.state object.now)) result
         ≡ stands.board_hold_over (monitor_in setting T.meaning) (board_shown board.now (T.state object.now)) event pending }
 {
@@ -191,7 +191,7 @@ pub(crate) fn release<T: Guarded>(
     event: Event,
 ) -> LineVerdict
     requires sound { IsBoardOf setting.seats setting.conds T.PREDICATES board.now }
-    requires no_enter { entered event ≡ None }
+    requires no_enter { via_of event ≡ None }
     ensures { course_or (board_shown board.now (T.state object.now)) result
         ≡ stands.board_release_over (monitor_in setting T.meaning) (board_shown board.now (T.state object.now)) event }
 {

@@ -11,7 +11,7 @@ ghost use Rattle.monk_history.specs.Meaning.Untils.{ready_of};
 ghost use Rattle.monk_audit.specs.Replay.{IsReplayOf, replay_situation};
 ghost use Rattle.monk_logs.specs.Completion as completion;
 ghost use Rattle.monk_logs.specs.Ending as ending;
-ghost use Rattle.monk_logs.specs.Kept.{grown, kept};
+ghost use Rattle.monk_logs.specs.Kept.{grown, kept_events};
 
 use crate::past::Past;
 use crate::pending::Pending;
@@ -182,7 +182,7 @@ fn unwished<T: Guarded>(
     requires sound { IsReplayOf setting.seats setting.conds T.PREDICATES replay.now }
     requires fits { fits_object T.CODES T.PREDICATES event ≡ true }
     ensures { IfOk result
-        (λ x. x ≡ completion.unwished setting.rules T.meaning (replay_situation replay.now (T.state object.now)) event) }
+        (λ x. x ≡ completion.unwished_next setting.rules T.meaning (replay_situation replay.now (T.state object.now)) event) }
 {
     if must_stay(alloc, replay, object, event)? {
         return Ok(Next::Stay);
@@ -214,7 +214,7 @@ pub(crate) fn end<T: Guarded>(
 ) -> Result<(), AllocError>
     requires sound { IsReplayOf setting.seats setting.conds T.PREDICATES replay.now }
     requires fits { (e : Event) → ending.last_release pending ≡ Some e → fits_object T.CODES T.PREDICATES e ≡ true }
-    ensures { OnOk result (kept past.new ≡ grown (kept past.old)
+    ensures { OnOk result (kept_events past.new ≡ grown (kept_events past.old)
         (ending.last_events setting.rules T.meaning (replay_situation replay.now (T.state object.now)) pending)) }
 {
     if !past.is_kept() {

@@ -6,7 +6,7 @@ ghost use Rattle.monk_history.specs.Limits.{most_lines};
 ghost use Rattle.monk_history.specs.Meaning.Monitor.{monitor};
 ghost use Rattle.monk_kinds.specs.Kind.{IsKind};
 ghost use Rattle.monk_logs.specs.Completion.{IsCompletedBy};
-ghost use Rattle.monk_logs.specs.Kept.{IsKept, kept};
+ghost use Rattle.monk_logs.specs.Kept.{IsKept, kept_events};
 ghost use Rattle.monk_logs.specs.Stand.{verdict_on};
 ghost use Rattle.monk_logs.specs.Verdict.{log_monitor};
 
@@ -35,13 +35,13 @@ fn follow<T: Guarded>(
 ) -> Result<LogVerdict, AllocError>
     requires few { length lines.now ≤ most_lines }
     requires kind { IsKind setting.rules }
-    requires fresh { IsKept (kept past.old) [] }
+    requires fresh { IsKept (kept_events past.old) [] }
     ensures verdict { IfOk result
         (λ v. v ≡ verdict_on (monitor setting.rules setting.seats setting.conds T.meaning (T.state object)) lines.now) }
     ensures completed { IfOk result
         (λ v. v ≡ LogVerdict.Fits → IsCompletedBy
         (monitor setting.rules setting.seats setting.conds T.meaning (T.state object)) lines.now
-        (is_some (kept past.old)) (kept past.new)) }
+        (is_some (kept_events past.old)) (kept_events past.new)) }
 {
     let mut object = object;
     let mut replay = Replay::opening(alloc, setting.seats, setting.conds)?;
@@ -68,11 +68,11 @@ pub(crate) fn follow_log(
     past: &mut Past,
 ) -> Result<LogVerdict, AuditFault>
     requires few { length lines.now ≤ most_lines }
-    requires fresh { IsKept (kept past.old) [] }
+    requires fresh { IsKept (kept_events past.old) [] }
     ensures verdict { IfOk result (λ v. v ≡ verdict_on (log_monitor kind header.now) lines.now) }
     ensures completed { IfOk result
         (λ v. v ≡ LogVerdict.Fits → IsCompletedBy (log_monitor kind header.now) lines.now
-        (is_some (kept past.old)) (kept past.new)) }
+        (is_some (kept_events past.old)) (kept_events past.new)) }
     ensures fits { OnOk result (header.now.size ≤ most header.now.object) }
     ensures object { IsErrOf result AuditFault.Object → most header.now.object < header.now.size }
     ensures too_big { most header.now.object < header.now.size → IsErrOf result AuditFault.Object }

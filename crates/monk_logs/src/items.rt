@@ -3,7 +3,7 @@
 ghost use Rattle.std.specs.Prelude.{◌≡◌, ◌≤◌, drop, is_some, length};
 ghost use Rattle.monk_logs.specs.Counts.{waiting_seats};
 ghost use Rattle.monk_logs.specs.Items as lines;
-ghost use Rattle.monk_logs.specs.Items.{has_service_behind, keeps_up, lapsed, line, seats_in, services, services_in, unserved_in};
+ghost use Rattle.monk_logs.specs.Items.{has_service_behind, keeps_up, without_seat, line, seats_in, services, services_in, unserved_in};
 ghost use Rattle.monk_logs.specs.Order.{is_among};
 ghost use Rattle.monk_history.specs.Meaning.Choice.{is_front};
 ghost use Rattle.monk_history.specs.Meaning.Signallers.{is_empty};
@@ -161,7 +161,7 @@ fn has_service_behind(items: &[Item], cond: u8, seat: u8) -> bool
 
 /// Whether each service of the condition has a seat of its own before it, where this seat is left out.
 fn keeps_up_without(items: &[Item], cond: u8, seat: u8) -> bool
-    ensures { result ≡ keeps_up 0 (line cond (lapsed seat items.now)) }
+    ensures { result ≡ keeps_up 0 (line cond (without_seat seat items.now)) }
 {
     let mut unserved: usize = 0;
     for item in items {

@@ -111,7 +111,7 @@ fn is_waiting_of(item: Item, seat: u8) -> bool
 
 /// Takes out the seat, which no signal served.
 pub(crate) fn lapse(items: &mut Vec<Item>, seat: u8)
-    ensures { items.new.items ≡ lines.lapsed seat items.old.items }
+    ensures { items.new.items ≡ lines.without_seat seat items.old.items }
 {
     items.retain(|item| !is_waiting_of(*item, seat));
 }

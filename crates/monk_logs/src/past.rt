@@ -2,7 +2,7 @@
 
 ghost use Rattle.std.specs.Prelude.{◌≡◌, List, Some, [], ◌∷◌, OnOk, is_some};
 ghost use Rattle.monk_history.specs.declared.event.Event.{Event};
-ghost use Rattle.monk_logs.specs.Kept.{grown, kept};
+ghost use Rattle.monk_logs.specs.Kept.{grown, kept_events};
 
 use monk_history::Event;
 use std::alloc::{AllocError, Global};
@@ -19,14 +19,14 @@ pub(crate) enum Past {
 impl Past {
     /// Whether events are kept.
     pub(crate) fn is_kept(&self) -> bool
-        ensures { result ≡ is_some (kept self.now) }
+        ensures { result ≡ is_some (kept_events self.now) }
     {
         matches!(self, Past::Kept(_))
     }
 
     /// Adds an event at the end, where events are kept.
     pub(crate) fn add(&mut self, event: Event) -> Result<(), AllocError>
-        ensures { OnOk result (kept self.new ≡ grown (kept self.old) (event ∷ [])) }
+        ensures { OnOk result (kept_events self.new ≡ grown (kept_events self.old) (event ∷ [])) }
     {
         match self {
             Past::Kept(events) => {
@@ -39,7 +39,7 @@ impl Past {
 
     /// The events that are kept. None are where they aren't wanted.
     pub(crate) fn into_events(self, alloc: Global) -> Vec<Event>
-        ensures { (h : List Event) → kept self ≡ Some h → result.items ≡ h }
+        ensures { (h : List Event) → kept_events self ≡ Some h → result.items ≡ h }
     {
         match self {
             Past::Kept(events) => events,

@@ -1,13 +1,13 @@
 //! One line of a log, judged by how the monitor stands before it.
 
 ghost use Rattle.std.specs.Prelude.{◌≡◌, ◌==◌, ◌&&◌, not, ℕ, List, [], ◌∷◌, None, Some, Ok, Err, IfOk, OnOk, if◌then◌else◌};
-ghost use Rattle.monk_history.specs.Meaning.Events.{acted, next_of};
+ghost use Rattle.monk_history.specs.Meaning.Events.{answered_act, next_of};
 ghost use Rattle.monk_history.specs.Meaning.Reasons.{reason_in};
 ghost use Rattle.monk_history.specs.Meaning.Release.{MayCallIn};
 ghost use Rattle.monk_audit.specs.Replay.{IsReplayOf, replay_situation};
 ghost use Rattle.monk_logs.specs.Blame as blames;
 ghost use Rattle.monk_logs.specs.Course as course;
-ghost use Rattle.monk_logs.specs.Kept.{grown, kept};
+ghost use Rattle.monk_logs.specs.Kept.{grown, kept_events};
 ghost use Rattle.monk_logs.specs.Stand as stands;
 ghost use Rattle.monk_logs.specs.Stand.{IsHeld, monitor_in, stand_or};
 ghost use Rattle.monk_logs.specs.Told.{line_events, told_events};
@@ -42,7 +42,7 @@ fn add<T: Guarded>(
         (λ r. (if r == 0 then Ok (replay_situation replay.new (T.state object.new)) else Err r)
         ≡ stands.add_to (monitor_in setting T.meaning) (replay_situation replay.old (T.state object.old)) event) }
     ensures sound { OnOk result (IsReplayOf setting.seats setting.conds T.PREDICATES replay.new) }
-    ensures kept { OnOk result (kept past.new ≡ grown (kept past.old) (event ∷ [])) }
+    ensures kept { OnOk result (kept_events past.new ≡ grown (kept_events past.old) (event ∷ [])) }
 {
     past.add(event)?;
     replay.carry_out(setting.rules, object, setting.conds, event)
@@ -61,7 +61,7 @@ fn settle<T: Guarded>(
         (λ v. stand_or (replay_situation replay.new (T.state object.new)) v
         ≡ stands.settle (monitor_in setting T.meaning) (replay_situation replay.old (T.state object.old)) event) }
     ensures sound { OnOk result (IsReplayOf setting.seats setting.conds T.PREDICATES replay.new) }
-    ensures kept { OnOk result (kept past.new ≡ grown (kept past.old) (event ∷ [])) }
+    ensures kept { OnOk result (kept_events past.new ≡ grown (kept_events past.old) (event ∷ [])) }
 {
     let reason = add(setting, replay, object, past, event)?;
     if reason == ALLOWED {
@@ -171,7 +171,7 @@ fn line_settled<T: Guarded>(
         ≡ stands.line_settled (monitor_in setting T.meaning) (replay_situation replay.old (T.state object.old)) line) }
     ensures sound { OnOk result (IsReplayOf setting.seats setting.conds T.PREDICATES replay.new) }
     ensures kept { OnOk result
-        (kept past.new ≡ grown (kept past.old) (line_events (replay_situation replay.old (T.state object.old)) line)) }
+        (kept_events past.new ≡ grown (kept_events past.old) (line_events (replay_situation replay.old (T.state object.old)) line)) }
 {
     match line {
         LogLine::Enter(seat) => {
@@ -236,7 +236,7 @@ fn line_half<T: Guarded>(
 /// Whether an event that is no act is allowed.
 fn allows<T: Guarded>(setting: Setting, replay: &Replay, object: &T, event: Event) -> bool
     requires sound { IsReplayOf setting.seats setting.conds T.PREDICATES replay.now }
-    requires no_act { acted event ≡ None }
+    requires no_act { answered_act event ≡ None }
     ensures { result ≡ (reason_in (monitor_in setting T.meaning) (replay_situation replay.now (T.state object.now)) event == 0) }
 {
     replay.allows(setting.rules, object, setting.conds, event)
@@ -251,7 +251,7 @@ fn follows<T: Guarded>(
     line: LogLine,
 ) -> bool
     requires sound { IsReplayOf setting.seats setting.conds T.PREDICATES replay.now }
-    requires no_act { acted told ≡ None }
+    requires no_act { answered_act told ≡ None }
     ensures { result ≡ (not (blames.is_lapse line)
         && (reason_in (monitor_in setting T.meaning) (replay_situation replay.now (T.state object.now)) told == 0)) }
 {
@@ -275,8 +275,8 @@ fn line_told<T: Guarded>(
         ≡ stands.line_told (monitor_in setting T.meaning) (replay_situation replay.old (T.state object.old)) event line) }
     ensures sound { OnOk result (IsReplayOf setting.seats setting.conds T.PREDICATES replay.new) }
     ensures kept { IfOk result
-        (λ v. (left : Pending) → v ≡ LineVerdict.Fits left → kept past.new
-        ≡ grown (kept past.old) (told_events T.meaning (replay_situation replay.old (T.state object.old)) (Pending.Release event) line)) }
+        (λ v. (left : Pending) → v ≡ LineVerdict.Fits left → kept_events past.new
+        ≡ grown (kept_events past.old) (told_events T.meaning (replay_situation replay.old (T.state object.old)) (Pending.Release event) line)) }
 {
     let told = told_release(replay, event, line);
     if !follows(setting, replay, object, told, line) {
@@ -303,8 +303,8 @@ pub(crate) fn line_behind<T: Guarded>(
         ≡ stands.line_behind (monitor_in setting T.meaning) (replay_situation replay.old (T.state object.old)) pending line) }
     ensures sound { OnOk result (IsReplayOf setting.seats setting.conds T.PREDICATES replay.new) }
     ensures kept { IfOk result
-        (λ v. (left : Pending) → v ≡ LineVerdict.Fits left → kept past.new
-        ≡ grown (kept past.old) (told_events T.meaning (replay_situation replay.old (T.state object.old)) pending line)) }
+        (λ v. (left : Pending) → v ≡ LineVerdict.Fits left → kept_events past.new
+        ≡ grown (kept_events past.old) (told_events T.meaning (replay_situation replay.old (T.state object.old)) pending line)) }
 {
     match pending {
         Pending::Settled => line_settled(setting, replay, object, past, line),

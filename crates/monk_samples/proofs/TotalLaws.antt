@@ -11,7 +11,7 @@ use Rattle.monk_object.specs.Laws.{items_put, items_taken}
 use Rattle.monk_object.specs.Runs.{Answered, is_done, times_done}
 use Rattle.monk_history.specs.Meaning.Acts.{act_of, acts_in}
 use Rattle.monk_history.specs.declared.event.Event.{Event}
-use Rattle.monk_samples.specs.Totals.{done, sum_put, sum_taken}
+use Rattle.monk_samples.specs.Totals.{count_done, sum_put, sum_taken}
 
 last_act : (e : Event) → act_of e ++ [] ≡ act_of e
 last_act e = append-nil (act_of e)
@@ -19,7 +19,7 @@ last_act e = append-nil (act_of e)
 acts_more : (h : List Event) (e : Event) → acts_in (h ++ e ∷ []) ≡ acts_in h ++ act_of e
 acts_more h e = flat_map-append act_of h (e ∷ []) ∙ ap (λ (xs : List Answered). acts_in h ++ xs) (last_act e)
 
-pub done_more : (code : ℕ) (h : List Event) (e : Event) → done code (h ++ e ∷ []) ≡ done code h + times_done code (act_of e)
+pub done_more : (code : ℕ) (h : List Event) (e : Event) → count_done code (h ++ e ∷ []) ≡ count_done code h + times_done code (act_of e)
 done_more code h e = ap (λ (xs : List Answered). times_done code xs) (acts_more h e)
     ∙ sum_by-append (λ a. cond (is_done code a) 1 0) (acts_in h) (act_of e)
 
@@ -56,10 +56,10 @@ pub taken_of_put : (puts takes items : List ℕ) → puts ≡ takes ++ items →
 taken_of_put puts takes items e = let s = ap sum e ∙ sum_by-append (λ n. n) takes items in omega (arith, s)
 
 -- the totals of the events up to a place, and one more
-pub done_next : (code n count more : ℕ) (h : List Event) (d : Event) → n < length h → count ≡ done code (take n h)
-    → times_done code (act_of (slice_index_or h n d)) ≡ more → count + more ≡ done code (take (n + 1) h)
+pub done_next : (code n count more : ℕ) (h : List Event) (d : Event) → n < length h → count ≡ count_done code (take n h)
+    → times_done code (act_of (slice_index_or h n d)) ≡ more → count + more ≡ count_done code (take (n + 1) h)
 done_next code n count more h d l e m =
-    let next = ap (done code) (take_more h n d l) ∙ done_more code (take n h) (slice_index_or h n d) in
+    let next = ap (count_done code) (take_more h n d l) ∙ done_more code (take n h) (slice_index_or h n d) in
     omega (arith, next, e, m)
 
 pub put_next : (n count more : ℕ) (h : List Event) (d : Event) → n < length h → count ≡ sum_put (take n h)

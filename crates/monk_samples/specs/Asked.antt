@@ -14,17 +14,17 @@ use Rattle.monk_hall.specs.declared.setting.Setting.{Setting}
 use Rattle.monk_samples.specs.Trails.{Addition}
 
 -- what was asked for: a release is written with `stay`, whatever it chose
-abbrev pub asked : Addition → Event
-asked d = with_next Stay d.event
+abbrev pub asked_call : Addition → Event
+asked_call d = with_next Stay d.event
 
 -- where it released, it chose by the wish for a waiter
 abbrev pub WishesForWaiter : Rules → Object → Setting → Addition → Type 0
 WishesForWaiter k o c d = (x : Next) → next_of d.event ≡ Some x
-    → x ≡ choice_of k o (stands_of k o (floor_of c d.before)) (asked d) false Waiter
+    → x ≡ choice_of k o (stands_of k o (floor_of c d.before)) (asked_call d) false Waiter
 
 -- a call that asks for this, with the wish for a waiter
 pub record IsCall (k : Rules) (o : Object) (c : Setting) (call : Event) (d : Addition) : Type 0 where
-  pub asks : asked d ≡ call
+  pub asks : asked_call d ≡ call
   pub wishes : WishesForWaiter k o c d
 
 -- these calls and no other, in order

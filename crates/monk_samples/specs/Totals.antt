@@ -11,8 +11,8 @@ use Rattle.monk_samples.specs.declared.sample.Sample.{Sample}
 use Rattle.monk_samples.specs.declared.sample.Sample.TheVariants.{Buffer, Book, Shop}
 
 -- how often that operation was done
-abbrev pub done : ℕ → List Event → ℕ
-done code h = times_done code (acts_in h)
+abbrev pub count_done : ℕ → List Event → ℕ
+count_done code h = times_done code (acts_in h)
 
 -- the items put, and those taken, added up
 abbrev pub sum_put : List Event → ℕ
@@ -22,9 +22,9 @@ abbrev pub sum_taken : List Event → ℕ
 sum_taken h = sum (items_taken (acts_in h))
 
 abbrev pub totals_of : Sample → List Event → List ℕ
-totals_of Buffer h = done PUT h ∷ sum_put h ∷ done TAKE h ∷ sum_taken h ∷ []
-totals_of Book h = done START_READ h ∷ done END_READ h ∷ done START_WRITE h ∷ done END_WRITE h ∷ []
-totals_of Shop h = done SIT h ∷ done CALL h ∷ done FINISH h ∷ done DEPART h ∷ []
+totals_of Buffer h = count_done PUT h ∷ sum_put h ∷ count_done TAKE h ∷ sum_taken h ∷ []
+totals_of Book h = count_done START_READ h ∷ count_done END_READ h ∷ count_done START_WRITE h ∷ count_done END_WRITE h ∷ []
+totals_of Shop h = count_done SIT h ∷ count_done CALL h ∷ count_done FINISH h ∷ count_done DEPART h ∷ []
 
 -- what the totals of a run have to be, by its seats and rounds: of a book those of reads and writes that were begun
 abbrev pub HasTotals : Sample → ℕ → ℕ → List ℕ → Type 0

@@ -2,7 +2,7 @@
 use Rattle.std.specs.Prelude.{◌≡◌, ℕ, Bool, ◌||◌, List, [], ◌∷◌, ◌++◌, map, if◌then◌else◌, is_some}
 use Rattle.std.specs.List.{flat_map}
 use Rattle.atomic_table.specs.Seated.{TableId}
-use Rattle.monk_history.specs.Meaning.Events.{entered, resumed}
+use Rattle.monk_history.specs.Meaning.Events.{via_of, source_of}
 use Rattle.monk_history.specs.declared.event.Event.{Event}
 use Rattle.monk_hall.specs.Floors.{StartsWith}
 use Rattle.monk_hall.specs.Tokens.{Token, Holder}
@@ -49,7 +49,7 @@ pub record Went (x y : Trail) (own : List Addition) : Type 0 where
 
 -- a seat comes in by an enter, or by a resume: nobody calls for these
 abbrev pub is_coming : Event → Bool
-is_coming e = is_some (entered e) || is_some (resumed e)
+is_coming e = is_some (via_of e) || is_some (source_of e)
 
 abbrev pub call_in : Addition → List Addition
 call_in d = if is_coming d.event then [] else d ∷ []

@@ -4,7 +4,7 @@ ghost use Rattle.monk_object.specs.Laws.{items_put, items_taken};
 ghost use Rattle.monk_object.specs.Runs.{times_done};
 ghost use Rattle.monk_history.specs.Meaning.Acts.{act_of};
 ghost use Rattle.monk_samples.specs.Samples.{KeepsLaw};
-ghost use Rattle.monk_samples.specs.Totals.{done, sum_put, sum_taken, totals_of};
+ghost use Rattle.monk_samples.specs.Totals.{count_done, sum_put, sum_taken, totals_of};
 
 use crate::sample::Sample;
 use monk_history::Event;
@@ -40,7 +40,7 @@ pub(crate) fn totals_of(sample: Sample, history: &[Event]) -> [u64; 4]
 
 /// How often the operation of that code was done.
 fn times(history: &[Event], code: u8) -> u64
-    ensures { result ≡ done code history.now }
+    ensures { result ≡ count_done code history.now }
 {
     let mut count = 0;
     for event in history {

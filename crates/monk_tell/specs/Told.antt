@@ -10,7 +10,7 @@ use Rattle.monk_kinds.specs.declared.name.KindName.{KindName}
 use Rattle.monk_object.specs.Object.{Object}
 use Rattle.monk_history.specs.Text.{Heading}
 use Rattle.monk_history.specs.Meaning.Choice.{Queues as Lined, queues_at}
-use Rattle.monk_history.specs.Meaning.Events.{acted}
+use Rattle.monk_history.specs.Meaning.Events.{answered_act}
 use Rattle.monk_history.specs.Meaning.Monitor.{Monitor}
 use Rattle.monk_history.specs.Meaning.Named.{named_monitor}
 use Rattle.monk_history.specs.Meaning.Situation.{Situation as Standing, situation}
@@ -144,8 +144,8 @@ queues_shown QuasiBlocking conds o t = with_conditions conds t (Some t.signaller
 queues_shown ImmediateReturn conds o t = with_conditions conds t None
 queues_shown AutomaticMode conds o t = only_untils t.untils (ready_of o t.state t.untils)
 
-abbrev pub shown : KindName → Rules → ℕ → ℕ → Object → Standing → Shown
-shown kind rules seats conds o t = record {
+abbrev pub shown_standing : KindName → Rules → ℕ → ℕ → Object → Standing → Shown
+shown_standing kind rules seats conds o t = record {
   kind = kind;
   rules = rules;
   turn = t.turn;
@@ -156,13 +156,13 @@ shown kind rules seats conds o t = record {
 
 -- the object's own reply, if the event is an act
 abbrev pub own_reply : Object → List ℕ → Event → Option ℕ
-own_reply o d e = option_map (λ act. o.reply d act.op) (acted e)
+own_reply o d e = option_map (λ act. o.reply d act.op) (answered_act e)
 
 abbrev pub chosen_at : Rules → Object → Standing → Event → Chosen
 chosen_at k o t e = record { fronts = fronts (queues_at o t e); may = permitted_nexts k o t e }
 
-abbrev pub blamed : Rules → Object → Standing → ℕ → ℕ → Event → Why → Blamed
-blamed k o t step reason e why = record {
+abbrev pub blame_of_event : Rules → Object → Standing → ℕ → ℕ → Event → Why → Blamed
+blame_of_event k o t step reason e why = record {
   step = step;
   event = e;
   reply = if reason == 5 then own_reply o t.state e else None;
@@ -172,7 +172,7 @@ blamed k o t step reason e why = record {
 
 -- how the monitor stands after these events
 abbrev pub shown_after : KindName → Monitor → List Event → Shown
-shown_after kind m es = shown kind m.kind m.seats m.conds m.object (situation m es)
+shown_after kind m es = shown_standing kind m.kind m.seats m.conds m.object (situation m es)
 
 -- the event of that step, counted from 1, and those before it
 abbrev pub event_at : List Event → ℕ → Event
@@ -187,7 +187,7 @@ told_by kind m es why (Legal n) = record { verdict = Legal n; situation = shown_
 told_by kind m es why (Forbidden step reason) = record {
   verdict = Forbidden step reason;
   situation = shown_after kind m (events_before es step);
-  blame = Some (blamed m.kind m.object (situation m (events_before es step)) step reason (event_at es step) why);
+  blame = Some (blame_of_event m.kind m.object (situation m (events_before es step)) step reason (event_at es step) why);
 }
 
 abbrev pub told : Heading → List Event → Why → Told

@@ -4,7 +4,7 @@ ghost use Rattle.std.specs.Prelude.{◌≡◌, ◌<◌, [], true, All, IfOk};
 ghost use Rattle.monk_history.specs.Meaning.Monitor.{monitor};
 ghost use Rattle.monk_history.specs.Meaning.Reasons.{fits_object, reason_in};
 ghost use Rattle.monk_audit.specs.Replay.{replay_situation};
-ghost use Rattle.monk_tell.specs.Told.{blame_of, blamed, choice_of, chosen_at, own_reply};
+ghost use Rattle.monk_tell.specs.Told.{blame_of, blame_of_event, choice_of, chosen_at, own_reply};
 
 use crate::blame::Blame;
 use crate::choice::Choice;
@@ -68,7 +68,7 @@ pub(crate) fn blame<T: Guarded>(
     requires reason { reason ≡ reason_in (monitor rules header.now.seats header.now.conds T.meaning [])
         (replay_situation replay.now (T.state object.old)) event }
     ensures { IfOk result
-        (λ b. blame_of b ≡ blamed rules T.meaning (replay_situation replay.now (T.state object.old)) step reason event b.why) }
+        (λ b. blame_of b ≡ blame_of_event rules T.meaning (replay_situation replay.now (T.state object.old)) step reason event b.why) }
 {
     let kind = header.kind();
     if reason == Verdict::CHOICE {

@@ -2,7 +2,7 @@
 
 ghost use Rattle.std.specs.Prelude.{◌≡◌, ◌<◌, [], All, IfOk};
 ghost use Rattle.monk_audit.specs.Replay.{replay_situation};
-ghost use Rattle.monk_tell.specs.Told.{condition_lists, conditions_below, inside_below, queues_of, queues_shown, shown, situation_of};
+ghost use Rattle.monk_tell.specs.Told.{condition_lists, conditions_below, inside_below, queues_of, queues_shown, shown_standing, situation_of};
 
 use crate::lines::{queue_at, ready_seats, signallers, untils, waiters};
 use crate::lists::{Numbers, Seats, Waits};
@@ -88,7 +88,7 @@ pub(crate) fn situation<T: Listed>(
 ) -> Result<Situation, AllocError>
     requires { All (λ w. w.1 < T.PREDICATES) (replay_situation replay.now (T.state object.now)).untils }
     ensures { IfOk result
-        (λ s. situation_of s ≡ shown kind rules seats conds T.meaning (replay_situation replay.now (T.state object.now))) }
+        (λ s. situation_of s ≡ shown_standing kind rules seats conds T.meaning (replay_situation replay.now (T.state object.now))) }
 {
     Ok(Situation {
         kind,

@@ -13,7 +13,7 @@ use Rattle.monk_object.specs.declared.name.ObjectName.{ObjectName}
 use Rattle.monk_object.specs.declared.name.ObjectName.TheVariants.{Buffer, Book, Shop}
 use Rattle.monk_object.specs.declared.op.Op.{Op}
 use Rattle.monk_object.proofs.PublicLaws.{first_in_first_out, exclusive, customers}
-use Rattle.monk_history.specs.Meaning.Events.{acted}
+use Rattle.monk_history.specs.Meaning.Events.{answered_act}
 use Rattle.monk_history.specs.Meaning.Acts.{act_of, acts_in, ops_in, IsRunOf, IsInOrder, ExcludesEachOther, ServesEachOne}
 use Rattle.monk_history.specs.Meaning.Legal.{IsLegal}
 use Rattle.monk_history.specs.Meaning.Monitor.{Monitor, monitor, data_after, data_of}
@@ -38,14 +38,14 @@ ops-push : (h : List Event) (e : Event) → ops_in (h ++ e ∷ []) ≡ ops_in h 
 ops-push h e = ap ops (acts-push h e) ∙ map-append (λ (act : Answered). act.op) (acts_in h) (acts_in (e ∷ []))
 
 data_by : (o : Object) (d : List ℕ) (e : Event) → state_after o d (ops_in (e ∷ [])) ≡ data_after o d e
-data_by o d e = one (acted e)
+data_by o d e = one (answered_act e)
   where
     one : (a : Option Answered) → state_after o d (ops (option_to_list a ++ [])) ≡ option_map_or (λ act. o.after d act.op) a d
     one None = refl
     one (Some act) = refl
 
 reply_by : (o : Object) (d : List ℕ) (e : Event) → is_right_reply o d e ≡ true → answers_of o d (ops_in (e ∷ [])) ≡ acts_in (e ∷ [])
-reply_by o d e = one (acted e)
+reply_by o d e = one (answered_act e)
   where
     one : (a : Option Answered) → option_map_or (λ act. act.reply == o.reply d act.op) a true ≡ true
         → answers_of o d (ops (option_to_list a ++ [])) ≡ option_to_list a ++ []

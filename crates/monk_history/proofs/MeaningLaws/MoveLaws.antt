@@ -5,7 +5,7 @@ use Rattle.std.specs.Prelude.{is_some}
 use Rattle.std.specs.Option.{option_map_or}
 use Rattle.std.proofs.lemmas.Bool.{false≢true, eqb-true, cases_lt}
 use Rattle.monk_kinds.specs.declared.mode.Rules.{Rules}
-use Rattle.monk_history.specs.Meaning.Events.{seat_of, next_of, is_stay, is_way_out, has_conditions, entered, resumed, steps_back}
+use Rattle.monk_history.specs.Meaning.Events.{seat_of, next_of, is_stay, is_way_out, has_conditions, via_of, source_of, steps_back}
 use Rattle.monk_history.specs.Meaning.Monitor.{Monitor}
 use Rattle.monk_history.specs.Meaning.Situation.{Situation, situation}
 use Rattle.monk_history.specs.Meaning.Waiters.{serves}
@@ -63,7 +63,7 @@ not_moved false false false false h = refl
 not_moved i out enter true h = absurd (false≢true (sym h))
 
 other_inside : (j : ℕ) (e : Event) (i : Bool) → j ≢ seat_of e → ((i && not (is_exit_of j e)) || is_enter_of j e) ≡ i
-other_inside j e i n = not_moved i (is_way_out e) (is_some (entered e)) (seat_of e == j) (not_same j (seat_of e) n)
+other_inside j e i n = not_moved i (is_way_out e) (is_some (via_of e)) (seat_of e == j) (not_same j (seat_of e) n)
 
 -- the seat of an event is inside after it, unless it is on its way out
 goes_out : (i b : Bool) → b ≡ true → ((i && not (true && b)) || false) ≡ false
@@ -127,7 +127,7 @@ not_open j (Due i r) h = absurd (false≢true h)
 not_open j (Owned i) h = absurd (false≢true h)
 
 other_turn : (t : Situation) (e : Event) (j : ℕ) → j ≢ seat_of e → is_in_turn t e ≡ true → has_turn j t.turn ≡ 0
-other_turn t e j n = by_source (entered e) (resumed e)
+other_turn t e j n = by_source (via_of e) (source_of e)
   where
     by_source : (v : Option Via) (r : Option From3)
         → cond (is_some v) (is_open t.turn) (option_map_or (λ q. is_due (seat_of e) q t.turn) r (is_owned_by (seat_of e) t.turn)) ≡ true

@@ -13,7 +13,7 @@ use Rattle.monk_kinds.specs.Kind.{IsKind}
 use Rattle.monk_object.specs.Object.{Object}
 use Rattle.monk_history.specs.Meaning.Events.{seat_of, next_of, named_seat, waits_on, signals_on, is_call_of}
 use Rattle.monk_history.specs.Meaning.Events.{has_conditions, has_signaller_queue, returns_at_once, is_non_blocking, is_waiter, is_stay}
-use Rattle.monk_history.specs.Meaning.Events.{entered, resumed, steps_back}
+use Rattle.monk_history.specs.Meaning.Events.{via_of, source_of, steps_back}
 use Rattle.monk_history.specs.Meaning.Monitor.{Monitor}
 use Rattle.monk_history.specs.Meaning.Situation.{Situation, situation}
 use Rattle.monk_history.specs.Meaning.Step.{after}
@@ -181,7 +181,7 @@ seat_in_range seats conds codes predicates e h =
     (and_left _ (is_condition conds (signals_on e)) (and_left _ (fits_object codes predicates e) h))))
 
 enters_seat : (j : ℕ) (e : Event) → is_enter_of j e ≡ true → seat_of e ≡ j
-enters_seat j e h = eqb-true (seat_of e) j (and_right (is_some (entered e)) _ h)
+enters_seat j e h = eqb-true (seat_of e) j (and_right (is_some (via_of e)) _ h)
 
 or_either : (P : Type 0) (a b : Bool) → (a || b) ≡ true → (a ≡ true → P) → (b ≡ true → P) → P
 or_either P true b h f g = f refl
@@ -308,7 +308,7 @@ apart_outside n j t p h = record {
 -- the seat of an event that may be called is in no queue
 pub caller_apart : (m : Monitor) (t : Situation) (e : Event) → IsPlaced m.conds t → is_in_turn t e ≡ true
     → is_in_place m.object t e ≡ true → IsApart m.conds (seat_of e) t
-caller_apart m t e p = by_source (entered e) (resumed e)
+caller_apart m t e p = by_source (via_of e) (source_of e)
   where
     by_source : (v : Option Via) (r : Option From3)
         → cond (is_some v) (is_open t.turn) (option_map_or (λ q. is_due (seat_of e) q t.turn) r (is_owned_by (seat_of e) t.turn)) ≡ true

@@ -8,12 +8,12 @@ use Rattle.monk_object.specs.Laws.{items_put, items_taken}
 use Rattle.monk_object.specs.Runs.{Answered, answers_of, state_after, times_done}
 use Rattle.monk_object.specs.declared.op.Op.{Op}
 use Rattle.monk_history.specs.declared.event.Event.{Event}
-use Rattle.monk_history.specs.Meaning.Events.{acted}
+use Rattle.monk_history.specs.Meaning.Events.{answered_act}
 use Rattle.monk_history.specs.Meaning.Monitor.{Monitor, data_of}
 
 -- the act of an event, with the reply that the history has
 abbrev pub act_of : Event → List Answered
-act_of e = option_to_list (acted e)
+act_of e = option_to_list (answered_act e)
 
 -- the acts of all seats, in order
 abbrev pub acts_in : List Event → List Answered

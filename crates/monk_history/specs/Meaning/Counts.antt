@@ -1,6 +1,6 @@
 -- What is counted of a history seat by seat
 use Rattle.std.specs.Prelude.{ℕ, ◌-◌, ◌==◌, Bool, false, Option, Some, None, List, filter, length, count_by, is_some}
-use Rattle.monk_history.specs.Meaning.Events.{seat_of, next_of, entered}
+use Rattle.monk_history.specs.Meaning.Events.{seat_of, next_of, via_of}
 use Rattle.monk_history.specs.declared.event.Event.{Event}
 use Rattle.monk_history.specs.declared.event.Next.{Next}
 use Rattle.monk_history.specs.declared.event.Next.TheVariants.{Stay, Entry, Waiter, Signaller, Until as UntilSeat}
@@ -14,7 +14,7 @@ abbrev pub left_of : ℕ → List Event → ℕ → ℕ
 left_of budget h s = budget - length (events_of h s)
 
 abbrev pub is_enter : Event → Bool
-is_enter e = is_some (entered e)
+is_enter e = is_some (via_of e)
 
 -- how many enters there are
 unfoldable pub enters_of : List Event → ℕ

@@ -1,6 +1,6 @@
 -- What one event more makes of where seats stand, and of what is counted seat by seat
 use Rattle.std.specs.Prelude.{◌≡◌, ◌≢◌, ℕ, ◌+◌, ◌==◌, Bool, true, ◌&&◌, ◌||◌, not, List, [], ◌∷◌, ◌++◌, length, if◌then◌else◌, is_some}
-use Rattle.monk_history.specs.Meaning.Events.{seat_of, next_of, is_stay, is_way_out, waits_on, awaited, steps_back}
+use Rattle.monk_history.specs.Meaning.Events.{seat_of, next_of, is_stay, is_way_out, waits_on, awaited_predicate, steps_back}
 use Rattle.monk_history.specs.Meaning.Monitor.{Monitor}
 use Rattle.monk_history.specs.Meaning.Situation.{Situation}
 use Rattle.monk_history.specs.Meaning.Turn.{turn, turn_by}
@@ -10,7 +10,7 @@ use Rattle.monk_history.specs.declared.event.Event.{Event}
 
 -- whether an event puts its own seat into a queue: a wait, and a signal or an until that does not stay
 abbrev pub parks : Event → Bool
-parks e = is_some (waits_on e) || ((is_some (steps_back e) || is_some (awaited e)) && not (is_stay (next_of e)))
+parks e = is_some (waits_on e) || ((is_some (steps_back e) || is_some (awaited_predicate e)) && not (is_stay (next_of e)))
 
 -- where seats stand before an event, in the situation t, and after it, in u
 pub record StandsAfter (m : Monitor) (t : Situation) (e : Event) (u : Situation) : Type 0 where

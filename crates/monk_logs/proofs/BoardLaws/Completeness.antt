@@ -20,7 +20,7 @@ use Rattle.monk_logs.specs.Board.{Board, board_after, board_from, board_lapse, b
 use Rattle.monk_logs.specs.BoardCourse.{BoardCourse, board_behind, board_course, board_half, board_hold, board_held, board_judge}
 use Rattle.monk_logs.specs.BoardCourse.{board_judge_from, board_line, board_settled, board_then, board_told, board_told_next, board_via}
 use Rattle.monk_logs.specs.BoardCourse.{standing_choice}
-use Rattle.monk_logs.specs.Erasure.{erased}
+use Rattle.monk_logs.specs.Erasure.{erasure_of}
 use Rattle.monk_logs.specs.FitsIn.{run_lines, step_lines}
 use Rattle.monk_logs.specs.Items.{may_lapse}
 use Rattle.monk_logs.specs.declared.line.LogLine.{LogLine}
@@ -188,7 +188,7 @@ module _ (o : Order) (m : Monitor) (b : Board) (sound : Sound b) where
 
   -- ---- each event
 
-  event_leads : (f : Event) → Passes o m b f → Leads o m (Some (board_settled b)) (erased f) (board_after m.object b f)
+  event_leads : (f : Event) → Passes o m b f → Leads o m (Some (board_settled b)) (erasure_of f) (board_after m.object b f)
   event_leads (event.Enter s via) p =
       let q = enter_passes s via p in
       known_leads o m b (Enter s) (Did (event.Enter s (board_via b))) (board_after m.object b (event.Enter s via))
@@ -218,7 +218,7 @@ module _ (o : Order) (m : Monitor) (b : Board) (sound : Sound b) where
   settled_leads : (step : Step) (c : Board) → board_step o m b step ≡ Some c → Leads o m (Some (board_settled b)) (step_lines step) c
   settled_leads (Did f) c h =
       let g = goes o m b (Did f) c h in
-      subst (λ (x : Board). Leads o m (Some (board_settled b)) (erased f) x) g.comes (event_leads f g.passes)
+      subst (λ (x : Board). Leads o m (Some (board_settled b)) (erasure_of f) x) g.comes (event_leads f g.passes)
   settled_leads (Lapsed s) c h = known_leads o m b (Lapse s) (Lapsed s) c h refl
 
 -- ---- a step behind a release

@@ -11,7 +11,7 @@ use Rattle.monk_history.specs.Meaning.Monitor.{Monitor}
 use Rattle.monk_history.specs.Meaning.Release.{MayCallIn, with_next}
 use Rattle.monk_logs.specs.Board.{Board, board_after, board_steps, opening_board, sight}
 use Rattle.monk_logs.specs.BoardCourse.{BoardCourse, board_judge}
-use Rattle.monk_logs.specs.Erasure.{erased}
+use Rattle.monk_logs.specs.Erasure.{erasure_of}
 use Rattle.monk_logs.specs.FitsIn.{IsOpenIn, run_lines}
 use Rattle.monk_logs.specs.declared.line.LogLine.{LogLine}
 use Rattle.monk_logs.specs.declared.line.LogLine.TheVariants.{Leave, Signal}
@@ -49,7 +49,7 @@ module _ (o : Order) (m : Monitor) (steps : List Step) (b : Board)
     }
 
     -- a release that may be called has a choice that goes on
-    release_open : (e : Event) → next_of e ≡ Some Stay → MayCallIn m (sight b) e → IsOpenIn o m (run_lines steps ++ erased e)
+    release_open : (e : Event) → next_of e ≡ Some Stay → MayCallIn m (sight b) e → IsOpenIn o m (run_lines steps ++ erasure_of e)
     release_open e stays may =
         let c = release_chosen o m b (orderly o m steps b taken) e stays may in
         let f = with_next c.choice e in
@@ -60,7 +60,7 @@ module _ (o : Order) (m : Monitor) (steps : List Step) (b : Board)
               (steps-push o m (opening_board m) b (board_after m.object b f) steps (Did f) taken (step_ok o m b f c.passes)));
           more = [];
           tells = run_lines-push steps (Did f) ∙ ap (λ (ls : List LogLine). run_lines steps ++ ls) (erased_with_next c.choice e)
-              ∙ sym (append-nil (run_lines steps ++ erased e));
+              ∙ sym (append-nil (run_lines steps ++ erasure_of e));
         }
 
     pending_open : (p : Pending) → IsStillOn m b p → IsOpenIn o m (run_lines steps ++ rest_of p)

@@ -6,7 +6,7 @@ use Rattle.std.specs.Prelude.{◌==◌, is_some}
 use Rattle.monk_kinds.specs.declared.mode.Mode.{Mode}
 use Rattle.monk_history.specs.declared.event.Event.{Event}
 use Rattle.monk_history.specs.declared.event.Event.TheVariants as event
-use Rattle.monk_history.specs.Meaning.Events.{entered, has_conditions, is_call_of, seat_of}
+use Rattle.monk_history.specs.Meaning.Events.{via_of, has_conditions, is_call_of, seat_of}
 use Rattle.monk_history.specs.Meaning.Monitor.{Monitor}
 use Rattle.monk_history.specs.Meaning.Turn.{is_enter_of, is_exit_of}
 use Rattle.monk_history.specs.Meaning.Untils.{chooses, waits_until}
@@ -50,7 +50,7 @@ untils_after o m b e p none h =
 
 came_in : (seats j : ℕ) (e : Event) → seat_of e < seats → is_enter_of j e ≡ true → j < seats
 came_in seats j e l h =
-    subst (λ (x : ℕ). x < seats) (eqb-true (seat_of e) j (and_parts (is_some (entered e)) (seat_of e == j) h).1) l
+    subst (λ (x : ℕ). x < seats) (eqb-true (seat_of e) j (and_parts (is_some (via_of e)) (seat_of e == j) h).1) l
 
 seats_after : (o : Order) (m : Monitor) (b : Board) (e : Event) → Passes o m b e → ((j : ℕ) → b.inside j ≡ true → j < m.seats)
     → (j : ℕ) → (board_after m.object b e).inside j ≡ true → j < m.seats

@@ -16,7 +16,7 @@ use Rattle.monk_logs.specs.Board.{Board, board_from, board_step, board_steps, op
 use Rattle.monk_logs.specs.BoardCourse.{BoardCourse, board_behind, board_course, board_half, board_hold, board_judge, board_judge_from}
 use Rattle.monk_logs.specs.BoardCourse.{board_known, board_line, board_settled, board_then, board_told, board_told_next, board_via}
 use Rattle.monk_logs.specs.Course.{due_from}
-use Rattle.monk_logs.specs.Erasure.{erased}
+use Rattle.monk_logs.specs.Erasure.{erasure_of}
 use Rattle.monk_logs.specs.FitsIn.{run_lines, step_lines}
 use Rattle.monk_logs.specs.declared.line.LogLine.{LogLine}
 use Rattle.monk_logs.specs.declared.line.LogLine.TheVariants.{Enter, Resume, Lapse, Leave, Wait, Signal, Broadcast, Until, Act}
@@ -87,7 +87,7 @@ hold_tells o m log b e p x h still lead =
 
 release_tells : (o : Order) (m : Monitor) (log : List LogLine) (b : Board) (e : Event) (x : BoardCourse)
     → board_hold m b e (Release e) ≡ Some x → next_of e ≡ Some Stay → LeadTo o m log b
-    → StepsTell o m (log ++ erased e) x
+    → StepsTell o m (log ++ erasure_of e) x
 release_tells o m log b e x h stays lead = hold_tells o m log b e (Release e) x h (λ may. (may, stays)) lead
 
 -- ---- one line
@@ -132,10 +132,10 @@ half_tells o m log b s c (Wait j d) x h lead =
 -- behind a release whose choice is told
 then_tells : (o : Order) (m : Monitor) (steps : List Step) (b : Board) (y : Next) (e : Event) (l : LogLine) (c : Option Board)
     (x : BoardCourse) → board_step o m b (Did (with_next y e)) ≡ c → board_then o m c l ≡ Some x
-    → board_steps o m (opening_board m) steps ≡ Some b → StepsTell o m ((run_lines steps ++ erased e) ++ l ∷ []) x
+    → board_steps o m (opening_board m) steps ≡ Some b → StepsTell o m ((run_lines steps ++ erasure_of e) ++ l ∷ []) x
 then_tells o m steps b y e l None x is h taken = absurd cc
 then_tells o m steps b y e l (Some c) x is h taken =
-    line_tells o m (run_lines steps ++ erased e) c l x h (record {
+    line_tells o m (run_lines steps ++ erasure_of e) c l x h (record {
       steps = steps ++ Did (with_next y e) ∷ [];
       taken = steps-push o m (opening_board m) b c steps (Did (with_next y e)) taken is;
       told = run_lines-push steps (Did (with_next y e))

@@ -19,10 +19,10 @@ use Rattle.monk_history.specs.Meaning.Reasons.{IsAllowed, fits_object, is_condit
 use Rattle.monk_history.specs.Meaning.Release.{MayCall, with_next}
 use Rattle.monk_history.specs.Meaning.Situation.{Situation, situation}
 use Rattle.monk_history.proofs.PublicLaws.Meaning.{and_right, chosen_allowed, history_induction, legal-push, legal_last, legal_order}
-use Rattle.monk_logs.specs.Completion.{Completes, IsCompletedBy, other_half, unwished}
+use Rattle.monk_logs.specs.Completion.{Completes, IsCompletedBy, other_half, unwished_next}
 use Rattle.monk_logs.specs.Course.{course}
 use Rattle.monk_logs.specs.Ending.{last_events, last_release}
-use Rattle.monk_logs.specs.Erasure.{erased, erasure}
+use Rattle.monk_logs.specs.Erasure.{erasure_of, erasure}
 use Rattle.monk_logs.specs.Kept.{grown}
 use Rattle.monk_logs.specs.Stand.{IsHeld}
 use Rattle.monk_logs.specs.declared.line.LogLine.{LogLine}
@@ -36,7 +36,7 @@ use Rattle.monk_logs.proofs.CourseLaws.Soundness.{IsStill, Tells, erased_with_ne
 
 -- ---- how many events there are
 
-some_line : (e : Event) → 1 ≤ length (erased e)
+some_line : (e : Event) → 1 ≤ length (erasure_of e)
 some_line (event.Enter s via) = omega arith
 some_line (event.Act s op r) = omega arith
 some_line (event.Leave s x) = omega arith
@@ -50,7 +50,7 @@ some_line (event.SignalWait s c d x) = omega arith
 
 few_events : (h : List Event) → length h ≤ length (erasure h)
 few_events [] = omega arith
-few_events (e ∷ h) = omega (arith, length-append (erased e) (erasure h), some_line e, few_events h)
+few_events (e ∷ h) = omega (arith, length-append (erasure_of e) (erasure h), some_line e, few_events h)
 
 one_more : (past : List Event) (e : Event) (rest log : List LogLine) → erasure past ++ rest ≡ log → 1 ≤ length rest
     → length (past ++ e ∷ []) ≤ length log
@@ -60,7 +60,7 @@ one_more past e rest log told some =
 -- ---- a release without a wish
 
 unwished_again : (k : Rules) (o : Object) (t : Situation) (x : Next) (e : Event)
-    → unwished k o t (with_next x e) ≡ unwished k o t e
+    → unwished_next k o t (with_next x e) ≡ unwished_next k o t e
 unwished_again k o t x (event.Enter s via) = refl
 unwished_again k o t x (event.Act s op r) = refl
 unwished_again k o t x (event.Leave s y) = refl
@@ -85,22 +85,22 @@ chosen_is x y (event.SignalAll s c) h k = absurd cc
 chosen_is x y (event.SignalWait s c d z) h k = cc
 
 last_chosen : (m : Monitor) (past before : List Event) (e last : Event) (y : Next) → next_of e ≡ Some Stay
-    → past ++ with_next (unwished m.kind m.object (situation m past) e) e ∷ [] ≡ before ++ last ∷ [] → next_of last ≡ Some y
-    → y ≡ unwished m.kind m.object (situation m before) last
+    → past ++ with_next (unwished_next m.kind m.object (situation m past) e) e ∷ [] ≡ before ++ last ∷ [] → next_of last ≡ Some y
+    → y ≡ unwished_next m.kind m.object (situation m before) last
 last_chosen m past before e last y stays is chose =
-    let x = unwished m.kind m.object (situation m past) e in
+    let x = unwished_next m.kind m.object (situation m past) e in
     let p = same_from_push past before (with_next x e) last is in
     chosen_is x y e stays (ap next_of p.1 ∙ chose)
     ∙ sym (unwished_again m.kind m.object (situation m past) x e)
-    ∙ ap (unwished m.kind m.object (situation m past)) p.1
-    ∙ ap (λ (h : List Event). unwished m.kind m.object (situation m h) last) p.0
+    ∙ ap (unwished_next m.kind m.object (situation m past)) p.1
+    ∙ ap (λ (h : List Event). unwished_next m.kind m.object (situation m h) last) p.0
 
 release_completes : (m : Monitor) (past : List Event) (e : Event) (log : List LogLine) → IsKind m.kind → IsLegal m past
-    → MayCall m past e → next_of e ≡ Some Stay → erasure past ++ erased e ≡ log ++ other_half m.kind.mode log
+    → MayCall m past e → next_of e ≡ Some Stay → erasure past ++ erasure_of e ≡ log ++ other_half m.kind.mode log
     → ((last : Event) → length (past ++ last ∷ []) ≤ length log)
-    → Completes m log (past ++ with_next (unwished m.kind m.object (situation m past) e) e ∷ [])
+    → Completes m log (past ++ with_next (unwished_next m.kind m.object (situation m past) e) e ∷ [])
 release_completes m past e log kind legal may stays told few =
-    let x = unwished m.kind m.object (situation m past) e in
+    let x = unwished_next m.kind m.object (situation m past) e in
     let allowed : IsAllowed m past (with_next x e) =
     chosen_allowed m (situation m past) e false WishEntry (legal_order m past kind legal) may (release_right m past e stays) in
     record {
@@ -139,7 +139,7 @@ settled_completes m past legal known =
 
 half_told : (m : Monitor) (past : List Event) (s c : ℕ) (log : List LogLine) → MayCall m past (event.SignalLeave s c Stay)
     → erasure past ++ Signal s c ∷ [] ≡ log
-    → erasure past ++ erased (event.SignalLeave s c Stay) ≡ log ++ other_half m.kind.mode log
+    → erasure past ++ erasure_of (event.SignalLeave s c Stay) ≡ log ++ other_half m.kind.mode log
 half_told m past s c log may told =
     sym (append_assoc (erasure past) (Signal s c ∷ []) (Leave s ∷ []))
     ∙ ap (λ (x : List LogLine). x ++ Leave s ∷ []) told
@@ -159,7 +159,7 @@ tells_completes m log past (Release e) kind t =
     release_completes m past e log kind t.legal t.still.0 t.still.1
     (t.told ∙ whole m log (subst (λ (x : List LogLine). other_half m.kind.mode x ≡ []) t.told
     (event_whole m.kind.mode (erasure past) e t.still.0.offered)))
-    (λ last. one_more past last (erased e) log t.told (some_line e))
+    (λ last. one_more past last (erasure_of e) log t.told (some_line e))
 
 -- ---- what is kept
 

@@ -12,7 +12,7 @@ use Rattle.monk_history.specs.Meaning.Events.{has_conditions, seat_of}
 use Rattle.monk_history.specs.Meaning.Signallers.{is_empty}
 use Rattle.monk_history.specs.Meaning.Situation.{Situation}
 use Rattle.monk_history.specs.Meaning.Wish.{front, unwished_choice}
-use Rattle.monk_logs.specs.Completion.{unwished}
+use Rattle.monk_logs.specs.Completion.{unwished_next}
 use Rattle.monk_logs.specs.Ending.{by_fronts, inner_next}
 
 abbrev by_lists : Bool → List ℕ → List ℕ → List ℕ → Bool → ℕ → Next
@@ -58,7 +58,7 @@ inner_ready k q first x has front is =
 
 pub unwished_is : (k : Rules) (o : Object) (t : Situation) (e : Event) (inner : Option Next) (signaller : Option ℕ) (s : ℕ) (x : Next)
     → false ≡ must_stay o t e → inner ≡ inner_next k (queues_at o t e) → signaller ≡ slice_get (queues_at o t e).signallers 0
-    → s ≡ seat_of e → x ≡ by_fronts inner signaller (nat_le k.signaller k.waiter) s → x ≡ unwished k o t e
+    → s ≡ seat_of e → x ≡ by_fronts inner signaller (nat_le k.signaller k.waiter) s → x ≡ unwished_next k o t e
 unwished_is k o t e inner signaller s x goes first back seat is =
     let q = queues_at o t e in
     is ∙ ap (λ (i : Option Next). by_fronts i signaller (nat_le k.signaller k.waiter) s) first

@@ -7,7 +7,7 @@ use Rattle.monk_history.specs.declared.event.Event.{Event}
 use Rattle.monk_history.specs.declared.event.Event.TheVariants as event
 use Rattle.monk_history.specs.Meaning.Events.{has_signaller_queue, is_call_of, returns_at_once}
 use Rattle.monk_logs.specs.Completion.{leaving, other_half}
-use Rattle.monk_logs.specs.Erasure.{erased}
+use Rattle.monk_logs.specs.Erasure.{erasure_of}
 use Rattle.monk_logs.specs.declared.line.LogLine.{LogLine}
 use Rattle.monk_logs.specs.declared.line.LogLine.TheVariants.{Leave, Signal}
 
@@ -34,7 +34,7 @@ no_half mode.ImmediateReturn s h = absurd cc
 no_half mode.Automatic s h = absurd cc
 
 whole_event : (k : Mode) (o : Option LogLine) (e : Event) → is_call_of k e ≡ true
-    → cond (returns_at_once k) (leaving (last_or o (erased e))) [] ≡ []
+    → cond (returns_at_once k) (leaving (last_or o (erasure_of e))) [] ≡ []
 whole_event k o (event.Enter s via) h = alike (returns_at_once k) []
 whole_event k o (event.Act s op r) h = alike (returns_at_once k) []
 whole_event k o (event.Leave s x) h = alike (returns_at_once k) []
@@ -47,8 +47,8 @@ whole_event k o (event.SignalAll s c) h = alike (returns_at_once k) []
 whole_event k o (event.SignalWait s c d x) h = alike (returns_at_once k) []
 
 -- behind an event that the mode has nothing is half told
-pub event_whole : (k : Mode) (front : List LogLine) (e : Event) → is_call_of k e ≡ true → other_half k (front ++ erased e) ≡ []
-event_whole k front e h = half_after k front (erased e) ∙ whole_event k (last_or None front) e h
+pub event_whole : (k : Mode) (front : List LogLine) (e : Event) → is_call_of k e ≡ true → other_half k (front ++ erasure_of e) ≡ []
+event_whole k front e h = half_after k front (erasure_of e) ∙ whole_event k (last_or None front) e h
 
 -- behind a signal of immediate return one half is
 pub signal_half : (k : Mode) (front : List LogLine) (s c : ℕ) → returns_at_once k ≡ true

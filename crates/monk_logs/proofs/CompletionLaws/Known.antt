@@ -20,7 +20,7 @@ use Rattle.monk_history.specs.Meaning.Situation.{Situation, situation}
 use Rattle.monk_history.specs.Meaning.Step.{after, opening_situation}
 use Rattle.monk_history.specs.Meaning.Turn.{turn}
 use Rattle.monk_history.proofs.PublicLaws.Meaning.{legal_situation-push, situation-none}
-use Rattle.monk_logs.specs.Course.{Course, course, settled, add, hold, behind_events, behind_half, then_behind, behind, judge}
+use Rattle.monk_logs.specs.Course.{Course, course, settled_course, add, hold, behind_events, behind_half, then_behind, behind, judge}
 use Rattle.monk_logs.specs.Course.{due_from, told_release}
 use Rattle.monk_logs.specs.Kept.{IsKept, grown, kept_if}
 use Rattle.monk_logs.specs.Stand.{Stand, stand, stand_or, line_behind}
@@ -39,10 +39,10 @@ use Rattle.monk_logs.proofs.VerdictLaws.Verdicts.{judged_more, judged_none}
 -- ---- one line
 
 settled_more : (m : Monitor) (past : List Event) (e : Event) (o : Option (List Event)) (d : Course) → add m past e ≡ o
-    → option_map settled o ≡ Some d → IsLegal m past → d.past ≡ past ++ e ∷ []
+    → option_map settled_course o ≡ Some d → IsLegal m past → d.past ≡ past ++ e ∷ []
 settled_more m past e None d is h legal = absurd cc
 settled_more m past e (Some g) d is h legal =
-    let same : settled g ≡ d = cc in
+    let same : settled_course g ≡ d = cc in
     sym (ap (λ (c : Course). c.past) same) ∙ (added m past g e is legal).1
 
 held_more : (m : Monitor) (past : List Event) (e : Event) (p : Pending) (d : Course) → hold m past e p ≡ Some d

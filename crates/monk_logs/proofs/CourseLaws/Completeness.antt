@@ -29,9 +29,9 @@ use Rattle.monk_history.specs.Meaning.Step.{after}
 use Rattle.monk_history.specs.Meaning.Turn.{turn, turn_by}
 use Rattle.monk_history.proofs.PublicLaws.Meaning.{and_left, and_right, history_induction, legal-push, legal_front, legal_last}
 use Rattle.monk_history.proofs.PublicLaws.Meaning.{legal_none, legal_situation-push, situation-none, turn-push}
-use Rattle.monk_logs.specs.Course.{Course, course, settled, add, hold, behind_events, then_behind, behind, judge_from, judge}
+use Rattle.monk_logs.specs.Course.{Course, course, settled_course, add, hold, behind_events, then_behind, behind, judge_from, judge}
 use Rattle.monk_logs.specs.Course.{due_from, told_next, told_release}
-use Rattle.monk_logs.specs.Erasure.{erased, erasure}
+use Rattle.monk_logs.specs.Erasure.{erasure_of, erasure}
 use Rattle.monk_logs.specs.Fits.{IsOpen}
 use Rattle.monk_logs.specs.declared.line.LogLine.{LogLine}
 use Rattle.monk_logs.specs.declared.line.LogLine.TheVariants.{Enter, Resume, Leave, Wait, Signal, Broadcast, Until, Act}
@@ -92,11 +92,11 @@ two_lines m past p l n c d h k = ap (λ (o : Option Course). judge_from m o (n �
 known_leads : (m : Monitor) (h past : List Event) (f g : Event) (l : LogLine) → IsLegal m h → IsLegal m past
     → situation m past ≡ situation m h → IsAllowed m past g
     → after m.object (situation m past) g ≡ after m.object (situation m past) f
-    → behind_events m past l ≡ option_map settled (add m past g) → Leads m (Some (settled past)) (l ∷ []) (h ++ f ∷ [])
+    → behind_events m past l ≡ option_map settled_course (add m past g) → Leads m (Some (settled_course past)) (l ∷ []) (h ++ f ∷ [])
 known_leads m h past f g l legal is_legal same allowed alike line =
     record {
-      to = settled (past ++ g ∷ []);
-      judged = one_line m past Settled l (settled (past ++ g ∷ [])) (line ∙ ap (option_map settled) (add_ok m past g allowed));
+      to = settled_course (past ++ g ∷ []);
+      judged = one_line m past Settled l (settled_course (past ++ g ∷ [])) (line ∙ ap (option_map settled_course) (add_ok m past g allowed));
       follows = record {
         legal = legal-push m past g is_legal allowed;
         at = legal_situation-push m past g is_legal ∙ alike ∙ ap (λ (t : Situation). after m.object t f) same
@@ -114,7 +114,7 @@ held_follows m h past f x legal same chose = record {
 held_leads : (m : Monitor) (h past : List Event) (f : Event) (x : Next) (l : LogLine) → IsLegal m past
     → situation m past ≡ situation m h → IsAllowed m past f → next_of f ≡ Some x
     → behind_events m past l ≡ hold m past (as_called f) (Release (as_called f))
-    → Leads m (Some (settled past)) (l ∷ []) (h ++ f ∷ [])
+    → Leads m (Some (settled_course past)) (l ∷ []) (h ++ f ∷ [])
 held_leads m h past f x l legal same allowed chose line = record {
   to = course past (Release (as_called f));
   judged = one_line m past Settled l (course past (Release (as_called f)))
@@ -127,7 +127,7 @@ half_leads : (m : Monitor) (h past : List Event) (s c : ℕ) (f : Event) (x : Ne
     → situation m past ≡ situation m h → returns_at_once m.kind.mode ≡ true → MayCall m past (event.SignalLeave s c Stay)
     → IsAllowed m past f → next_of f ≡ Some x
     → behind m past (Half s c) n ≡ hold m past (as_called f) (Release (as_called f))
-    → Leads m (Some (settled past)) (Signal s c ∷ n ∷ []) (h ++ f ∷ [])
+    → Leads m (Some (settled_course past)) (Signal s c ∷ n ∷ []) (h ++ f ∷ [])
 half_leads m h past s c f x n legal same returns may allowed chose line = record {
   to = course past (Release (as_called f));
   judged = two_lines m past Settled (Signal s c) n (course past (Half s c)) (course past (Release (as_called f)))
@@ -179,9 +179,9 @@ due_queue (Due j r) s q h = same_queue r q (and_right (j == s) (is_queue r q) h)
 due_queue (Owned j) s q h = absurd cc
 
 resume_line : (m : Monitor) (past : List Event) (s : ℕ) (q : From3) → IsAllowed m past (event.Resume s q)
-    → behind_events m past (Resume s) ≡ option_map settled (add m past (event.Resume s q))
+    → behind_events m past (Resume s) ≡ option_map settled_course (add m past (event.Resume s q))
 resume_line m past s q a =
-    ap (λ (r : From3). option_map settled (add m past (event.Resume s r))) (due_queue (turn past) s q a.in_turn)
+    ap (λ (r : From3). option_map settled_course (add m past (event.Resume s r))) (due_queue (turn past) s q a.in_turn)
 
 pub not_at_once : (k : Mode) → has_signaller_queue k ≡ true → returns_at_once k ≡ false
 not_at_once mode.Blocking h = refl
@@ -218,7 +218,7 @@ half_called m t s c d may = record {
 -- ---- each event behind events that are known
 
 events_lead : (m : Monitor) (h past : List Event) (f : Event) → IsLegal m h → IsLegal m past
-    → situation m past ≡ situation m h → IsAllowed m past f → Leads m (Some (settled past)) (erased f) (h ++ f ∷ [])
+    → situation m past ≡ situation m h → IsAllowed m past f → Leads m (Some (settled_course past)) (erasure_of f) (h ++ f ∷ [])
 events_lead m h past (event.Enter s via) legal l same a =
     known_leads m h past (event.Enter s via) (event.Enter s (cond (is_empty past) Free Handed)) (Enter s) legal l same
     (enter_allowed m past s via a) refl refl
@@ -286,7 +286,7 @@ release_told m g past e f x chose legal allowed same =
 -- then the line is judged as one behind events that are known
 release_lines : (m : Monitor) (past : List Event) (held e : Event) (l : LogLine) (rest : List LogLine)
     → told_release m.object (situation m past) held l ≡ e → IsAllowed m past e
-    → judge_from m (Some (course past (Release held))) (l ∷ rest) ≡ judge_from m (Some (settled (past ++ e ∷ []))) (l ∷ rest)
+    → judge_from m (Some (course past (Release held))) (l ∷ rest) ≡ judge_from m (Some (settled_course (past ++ e ∷ []))) (l ∷ rest)
 unfolding judge_from
 release_lines m past held e l rest told allowed =
     ap (λ (o : Option (List Event)). judge_from m (then_behind m o l) rest)
@@ -295,7 +295,7 @@ release_lines m past held e l rest told allowed =
 -- ---- a history
 
 follows_on : (m : Monitor) (h past : List Event) (pending : Pending) (f : Event) → IsLegal m h → IsAllowed m h f
-    → Follows m h past pending → Leads m (Some (course past pending)) (erased f) (h ++ f ∷ [])
+    → Follows m h past pending → Leads m (Some (course past pending)) (erasure_of f) (h ++ f ∷ [])
 follows_on m h past Settled f legal a w =
     events_lead m h past f legal w.legal w.at (subst (λ (t : Situation). IsAllowedIn m t f) (sym w.at) a)
 follows_on m h past (Half s c) f legal a w = absurd w.at
@@ -318,23 +318,23 @@ follows_on m h past (Release held) f legal a w =
       to = leads.to;
       judged = ap (judge_from m (Some (course past (Release held)))) (erased_lines f)
           ∙ release_lines m past held e (first_line f) (later_lines f) told may
-          ∙ ap (judge_from m (Some (settled known))) (sym (erased_lines f)) ∙ leads.judged;
+          ∙ ap (judge_from m (Some (settled_course known))) (sym (erased_lines f)) ∙ leads.judged;
       follows = leads.follows;
     }
 
-history_leads : (m : Monitor) (h : List Event) → IsLegal m h → Leads m (Some (settled [])) (erasure h) h
+history_leads : (m : Monitor) (h : List Event) → IsLegal m h → Leads m (Some (settled_course [])) (erasure h) h
 unfolding judge_from
-history_leads m h = history_induction (λ x. IsLegal m x → Leads m (Some (settled [])) (erasure x) x)
-    (λ l. record { to = settled []; judged = refl; follows = record { legal = legal_none m; at = refl } })
+history_leads m h = history_induction (λ x. IsLegal m x → Leads m (Some (settled_course [])) (erasure x) x)
+    (λ l. record { to = settled_course []; judged = refl; follows = record { legal = legal_none m; at = refl } })
     (λ x e more l.
     let legal = legal_front m x (e ∷ []) l in
     let w = more legal in
     let v = follows_on m x w.to.past w.to.pending e legal (legal_last m x e l) w.follows in
     record {
       to = v.to;
-      judged = ap (judge_from m (Some (settled []))) (erasure-push x e)
-          ∙ judge_from-append m (Some (settled [])) (erasure x) (erased e)
-          ∙ ap (λ (o : Option Course). judge_from m o (erased e)) w.judged ∙ v.judged;
+      judged = ap (judge_from m (Some (settled_course []))) (erasure-push x e)
+          ∙ judge_from-append m (Some (settled_course [])) (erasure x) (erasure_of e)
+          ∙ ap (λ (o : Option Course). judge_from m o (erasure_of e)) w.judged ∙ v.judged;
       follows = v.follows;
     }) h
 
@@ -346,5 +346,5 @@ pub open_judged : (m : Monitor) (log : List LogLine) → IsOpen m log → is_som
 open_judged m log o =
     let w = history_leads m o.history o.legal in
     some_before m (judge m log) o.more w.to
-    (sym (judge_from-append m (Some (settled [])) log o.more)
-    ∙ ap (judge_from m (Some (settled []))) (sym o.erases) ∙ w.judged)
+    (sym (judge_from-append m (Some (settled_course [])) log o.more)
+    ∙ ap (judge_from m (Some (settled_course []))) (sym o.erases) ∙ w.judged)

@@ -5,11 +5,11 @@ use Rattle.std.proofs.lemmas.List.{append-nil}
 use Rattle.monk_history.specs.declared.event.Event.{Event}
 use Rattle.monk_history.specs.Meaning.Monitor.{Monitor}
 use Rattle.monk_logs.specs.Course.{Course, judge_from, behind}
-use Rattle.monk_logs.specs.Erasure.{erased, erasure}
+use Rattle.monk_logs.specs.Erasure.{erasure_of, erasure}
 use Rattle.monk_logs.specs.declared.line.LogLine.{LogLine}
 
-pub erasure-push : (h : List Event) (e : Event) → erasure (h ++ e ∷ []) ≡ erasure h ++ erased e
-erasure-push h e = flat_map-append erased h (e ∷ []) ∙ ap (λ (x : List LogLine). erasure h ++ x) (append-nil (erased e))
+pub erasure-push : (h : List Event) (e : Event) → erasure (h ++ e ∷ []) ≡ erasure h ++ erasure_of e
+erasure-push h e = flat_map-append erasure_of h (e ∷ []) ∙ ap (λ (x : List LogLine). erasure h ++ x) (append-nil (erasure_of e))
 
 pub none_again : (m : Monitor) (log : List LogLine) → judge_from m None log ≡ None
 unfolding judge_from

@@ -20,9 +20,9 @@ use Rattle.monk_history.specs.Meaning.Signallers.{is_empty}
 use Rattle.monk_history.specs.Meaning.Situation.{situation}
 use Rattle.monk_history.specs.Meaning.Turn.{turn}
 use Rattle.monk_history.proofs.PublicLaws.Meaning.{allowed_from_reason, chosen_allowed, legal-push, legal_none, legal_order}
-use Rattle.monk_logs.specs.Course.{Course, course, settled, add, hold, behind_events, behind_half, then_behind, behind, judge_from, judge}
+use Rattle.monk_logs.specs.Course.{Course, course, settled_course, add, hold, behind_events, behind_half, then_behind, behind, judge_from, judge}
 use Rattle.monk_logs.specs.Course.{due_from}
-use Rattle.monk_logs.specs.Erasure.{erased, erasure}
+use Rattle.monk_logs.specs.Erasure.{erasure_of, erasure}
 use Rattle.monk_logs.specs.Fits.{IsOpen}
 use Rattle.monk_logs.specs.declared.line.LogLine.{LogLine}
 use Rattle.monk_logs.specs.declared.line.LogLine.TheVariants.{Enter, Resume, Lapse, Leave, Wait, Signal, Broadcast, Until, Act}
@@ -35,7 +35,7 @@ use Rattle.monk_logs.proofs.CourseLaws.Tests.{passed, called_from_tests}
 abbrev pub rest_of : Pending → List LogLine
 rest_of Settled = []
 rest_of (Half s c) = Signal s c ∷ []
-rest_of (Release e) = erased e
+rest_of (Release e) = erasure_of e
 
 -- the last of the events has no choice
 abbrev pub EndsSettled : List Event → Type 0
@@ -66,22 +66,22 @@ added m past g e h legal =
     (legal-push m past e legal (allowed_from_reason m (situation m past) e p.0), refl)
 
 told_more : (past g : List Event) (e : Event) (log : List LogLine) → g ≡ past ++ e ∷ [] → erasure past ≡ log
-    → erasure g ≡ log ++ erased e
+    → erasure g ≡ log ++ erasure_of e
 told_more past g e log is told =
-    ap erasure is ∙ erasure-push past e ∙ ap (λ (x : List LogLine). x ++ erased e) told
+    ap erasure is ∙ erasure-push past e ∙ ap (λ (x : List LogLine). x ++ erasure_of e) told
 
 ends_with : (past g : List Event) (e : Event) → g ≡ past ++ e ∷ [] → next_of e ≡ None → EndsSettled g
 ends_with past g e is none = λ before x k.
     ap next_of (sym (same_from_push past before e x (sym is ∙ k)).1) ∙ none
 
 settled_tells : (m : Monitor) (past : List Event) (e : Event) (log : List LogLine) (o : Option (List Event)) (c : Course)
-    → add m past e ≡ o → option_map settled o ≡ Some c → next_of e ≡ None → IsLegal m past → erasure past ≡ log
-    → TellsAt m (log ++ erased e) c
+    → add m past e ≡ o → option_map settled_course o ≡ Some c → next_of e ≡ None → IsLegal m past → erasure past ≡ log
+    → TellsAt m (log ++ erasure_of e) c
 settled_tells m past e log None c is h none legal told = absurd cc
 settled_tells m past e log (Some g) c is h none legal told =
     let a = added m past g e is legal in
-    let same : settled g ≡ c = cc in
-    subst (TellsAt m (log ++ erased e)) same (record {
+    let same : settled_course g ≡ c = cc in
+    subst (TellsAt m (log ++ erasure_of e)) same (record {
       legal = a.0;
       told = append-nil (erasure g) ∙ told_more past g e log a.1 told;
       still = ends_with past g e a.1 none;
@@ -95,11 +95,11 @@ held_tells m past e p c h =
 
 release_tells : (m : Monitor) (past : List Event) (e : Event) (log : List LogLine) (c : Course)
     → hold m past e (Release e) ≡ Some c → next_of e ≡ Some Stay → IsLegal m past → erasure past ≡ log
-    → TellsAt m (log ++ erased e) c
+    → TellsAt m (log ++ erasure_of e) c
 release_tells m past e log c h stays legal told =
     let p = held_tells m past e (Release e) c h in
-    subst (TellsAt m (log ++ erased e)) p.1
-    (record { legal = legal; told = ap (λ (x : List LogLine). x ++ erased e) told; still = (p.0, stays) })
+    subst (TellsAt m (log ++ erasure_of e)) p.1
+    (record { legal = legal; told = ap (λ (x : List LogLine). x ++ erasure_of e) told; still = (p.0, stays) })
 
 -- ---- one line
 
@@ -150,7 +150,7 @@ behind_half_tells m past s c (Wait j x) d h legal =
     subst (λ (k : ℕ). TellsAt m (erasure past ++ Signal s c ∷ Wait k x ∷ []) d) (sym (eqb-true j s p.0))
     (release_tells m past (event.SignalWait s c x Stay) (erasure past) d p.1 refl legal refl)
 
-pub erased_with_next : (x : Next) (e : Event) → erased (with_next x e) ≡ erased e
+pub erased_with_next : (x : Next) (e : Event) → erasure_of (with_next x e) ≡ erasure_of e
 erased_with_next x (event.Enter s via) = refl
 erased_with_next x (event.Act s op r) = refl
 erased_with_next x (event.Leave s y) = refl
@@ -164,7 +164,7 @@ erased_with_next x (event.SignalWait s c d y) = refl
 
 then_behind_tells : (m : Monitor) (past : List Event) (x : Next) (e : Event) (log : List LogLine) (l : LogLine)
     (o : Option (List Event)) (d : Course) → add m past (with_next x e) ≡ o → then_behind m o l ≡ Some d → IsLegal m past
-    → erasure past ++ erased e ≡ log → TellsAt m (log ++ l ∷ []) d
+    → erasure past ++ erasure_of e ≡ log → TellsAt m (log ++ l ∷ []) d
 then_behind_tells m past x e log l None d is h legal told = absurd cc
 then_behind_tells m past x e log l (Some g) d is h legal told =
     let a = added m past g (with_next x e) is legal in
@@ -210,7 +210,7 @@ release_right m past (event.SignalWait s c d y) h = refl
 
 -- a release that may be called has a choice with which it is allowed
 release_open : (m : Monitor) (past : List Event) (e : Event) → IsKind m.kind → IsLegal m past → MayCall m past e
-    → next_of e ≡ Some Stay → IsOpen m (erasure past ++ erased e)
+    → next_of e ≡ Some Stay → IsOpen m (erasure past ++ erasure_of e)
 release_open m past e kind legal may stays =
     let x = choice_of m.kind m.object (situation m past) e false WishWaiter in
     let allowed : IsAllowed m past (with_next x e) =
@@ -220,7 +220,7 @@ release_open m past e kind legal may stays =
       legal = legal-push m past (with_next x e) legal allowed;
       more = [];
       erases = erasure-push past (with_next x e) ∙ ap (λ (y : List LogLine). erasure past ++ y) (erased_with_next x e)
-          ∙ sym (append-nil (erasure past ++ erased e));
+          ∙ sym (append-nil (erasure past ++ erasure_of e));
     }
 
 -- what is open is open up to each of its lines
@@ -249,8 +249,8 @@ nothing_before (x ∷ before) e h = absurd cc
 
 pub tells_from : (m : Monitor) (log : List LogLine) (d : Course) → judge m log ≡ Some d → TellsAt m log d
 tells_from m log d h =
-    judged_tells m [] log (Some (settled [])) d h
-    (λ c is. let same : settled [] ≡ c = cc in
+    judged_tells m [] log (Some (settled_course [])) d h
+    (λ c is. let same : settled_course [] ≡ c = cc in
     subst (TellsAt m []) same (record { legal = legal_none m; told = refl; still = λ before e is. nothing_before before e is }))
 
 -- what was taken for the events of a log is legal

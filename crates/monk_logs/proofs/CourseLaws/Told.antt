@@ -25,7 +25,7 @@ use Rattle.monk_history.specs.Meaning.Step.{after}
 use Rattle.monk_history.specs.Meaning.Turn.{turn_by}
 use Rattle.monk_history.proofs.PublicLaws.Meaning.{and_left, legal_front, legal_last, legal_placed, legal_situation-push}
 use Rattle.monk_logs.specs.Course.{chosen_from, told_next}
-use Rattle.monk_logs.specs.Erasure.{erased}
+use Rattle.monk_logs.specs.Erasure.{erasure_of}
 use Rattle.monk_logs.specs.declared.line.LogLine.{LogLine}
 use Rattle.monk_logs.specs.declared.line.LogLine.TheVariants.{Enter, Resume, Leave, Wait, Signal, Broadcast, Until, Act}
 
@@ -55,7 +55,7 @@ later_lines (event.Resume s q) = []
 later_lines (event.SignalAll s c) = []
 later_lines (event.SignalWait s c d x) = Wait s d ∷ []
 
-pub erased_lines : (e : Event) → erased e ≡ first_line e ∷ later_lines e
+pub erased_lines : (e : Event) → erasure_of e ≡ first_line e ∷ later_lines e
 erased_lines (event.Enter s via) = refl
 erased_lines (event.Act s op r) = refl
 erased_lines (event.Leave s x) = refl

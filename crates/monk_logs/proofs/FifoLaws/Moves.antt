@@ -13,7 +13,7 @@ use Rattle.monk_history.specs.declared.event.Next.{Next}
 use Rattle.monk_history.specs.declared.event.Next.TheVariants as next
 use Rattle.monk_history.specs.Meaning.Choice.{Queues, is_front, is_permitted, may_choose, may_signal, must_stay, queues_at}
 use Rattle.monk_history.specs.Meaning.Conditions.{served_of, waiting_by}
-use Rattle.monk_history.specs.Meaning.Events.{awaited, is_signaller, is_stay, is_waiter, next_of, seat_of, signals_on, steps_back}
+use Rattle.monk_history.specs.Meaning.Events.{awaited_predicate, is_signaller, is_stay, is_waiter, next_of, seat_of, signals_on, steps_back}
 use Rattle.monk_history.specs.Meaning.Monitor.{Monitor}
 use Rattle.monk_history.specs.Meaning.Reasons.{IsAllowedIn, is_in_turn}
 use Rattle.monk_history.specs.Meaning.Signallers.{is_empty, signals}
@@ -144,7 +144,7 @@ signallers_gone : (k : Rules) (o : Object) (t : Situation) (e : Event) (n : Opti
 signallers_gone k o t e None h few = apart_nobody (t.signallers ++ signals t.condition e)
 signallers_gone k o t e (Some next.Stay) h few =
     stayer_gone t.condition (seat_of e) t.signallers (nat_le k.waiter k.signaller)
-    (option_map_or (λ p. o.holds t.state p) (awaited e) false) (steps_back e) h few
+    (option_map_or (λ p. o.holds t.state p) (awaited_predicate e) false) (steps_back e) h few
 signallers_gone k o t e (Some next.Entry) h few = apart_nobody (t.signallers ++ signals t.condition e)
 signallers_gone k o t e (Some (next.Waiter j)) h few = apart_nobody (t.signallers ++ signals t.condition e)
 signallers_gone k o t e (Some (next.Signaller j)) h few =

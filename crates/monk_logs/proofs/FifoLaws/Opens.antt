@@ -7,7 +7,7 @@ use Rattle.monk_history.specs.declared.event.Event.{Event}
 use Rattle.monk_history.specs.Meaning.Monitor.{Monitor}
 use Rattle.monk_history.specs.Meaning.Situation.{Situation}
 use Rattle.monk_history.specs.Meaning.Step.{opening_situation}
-use Rattle.monk_logs.specs.Erasure.{erased, erasure}
+use Rattle.monk_logs.specs.Erasure.{erasure_of, erasure}
 use Rattle.monk_logs.specs.Fits.{IsOpen}
 use Rattle.monk_logs.specs.FitsIn.{IsOpenIn, has_lapse, is_lapse, run_lines}
 use Rattle.monk_logs.specs.Run.{IsRun, Runs}
@@ -23,7 +23,7 @@ use Rattle.monk_logs.proofs.FifoLaws.Legal.{legal_run, run_legal}
 
 told_same : (h : List Event) → run_lines (map Did h) ≡ erasure h
 told_same [] = refl
-told_same (e ∷ h) = ap (λ (ls : List LogLine). erased e ++ ls) (told_same h)
+told_same (e ∷ h) = ap (λ (ls : List LogLine). erasure_of e ++ ls) (told_same h)
 
 pub open_run : (m : Monitor) (log : List LogLine) → IsOpen m log → IsOpenIn Fifo m log
 open_run m log x = record {
@@ -78,17 +78,17 @@ record Tells (steps : List Step) (log : List LogLine) : Type 0 where
 tells_nothing : (steps : List Step) → Tells steps []
 tells_nothing steps = record { history = []; later = steps; is = refl; more = []; erases = refl }
 
-tells_it : (e : Event) (steps : List Step) (log : List LogLine) → Behind (erased e) log → Tells (Did e ∷ steps) log
+tells_it : (e : Event) (steps : List Step) (log : List LogLine) → Behind (erasure_of e) log → Tells (Did e ∷ steps) log
 tells_it e steps log c =
-    record { history = e ∷ []; later = steps; is = refl; more = c.over; erases = append-nil (erased e) ∙ c.is }
+    record { history = e ∷ []; later = steps; is = refl; more = c.over; erases = append-nil (erasure_of e) ∙ c.is }
 
-tells_on : (e : Event) (steps : List Step) (log left : List LogLine) → log ≡ erased e ++ left → Tells steps left → Tells (Did e ∷ steps) log
+tells_on : (e : Event) (steps : List Step) (log left : List LogLine) → log ≡ erasure_of e ++ left → Tells steps left → Tells (Did e ∷ steps) log
 tells_on e steps log left is t = record {
   history = e ∷ t.history;
   later = t.later;
   is = ap (λ (xs : List Step). Did e ∷ xs) t.is;
   more = t.more;
-  erases = ap (λ (ls : List LogLine). erased e ++ ls) t.erases ∙ sym (append_assoc (erased e) left t.more)
+  erases = ap (λ (ls : List LogLine). erasure_of e ++ ls) t.erases ∙ sym (append_assoc (erasure_of e) left t.more)
       ∙ ap (λ (ls : List LogLine). ls ++ t.more) (sym is);
 }
 
@@ -101,10 +101,10 @@ lapse_first s l log is h = true≢false (subst (λ (x : LogLine). has_lapse (x �
 
 tells_by : (e : Event) (steps : List Step) (log more : List LogLine) → has_lapse log ≡ false
     → ((left : List LogLine) → run_lines steps ≡ left ++ more → has_lapse left ≡ false → Tells steps left)
-    → Behind (erased e) log ⊎ Before (erased e) (run_lines steps) log more → Tells (Did e ∷ steps) log
+    → Behind (erasure_of e) log ⊎ Before (erasure_of e) (run_lines steps) log more → Tells (Did e ∷ steps) log
 tells_by e steps log more none on (inl c) = tells_it e steps log c
 tells_by e steps log more none on (inr c) =
-    tells_on e steps log c.left c.front (on c.left c.back (none_left (erased e) log c.left c.front none))
+    tells_on e steps log c.left c.front (on c.left c.back (none_left (erasure_of e) log c.left c.front none))
 
 tells : (steps : List Step) (log more : List LogLine) → run_lines steps ≡ log ++ more → has_lapse log ≡ false → Tells steps log
 tells steps [] more h none = tells_nothing steps
@@ -112,7 +112,7 @@ tells [] (l ∷ log) more h none = absurd cc
 tells (Lapsed s ∷ steps) (l ∷ log) more h none = let first : Lapse s ≡ l = cc in absurd (lapse_first s l log first none)
 tells (Did e ∷ steps) (l ∷ log) more h none =
     tells_by e steps (l ∷ log) more none (λ left k others. tells steps left more k others)
-    (cut (erased e) (run_lines steps) (l ∷ log) more h)
+    (cut (erasure_of e) (run_lines steps) (l ∷ log) more h)
 
 -- ---- what begins a run is one
 

@@ -16,7 +16,7 @@ use Rattle.monk_history.specs.Meaning.Signallers.{is_empty}
 use Rattle.monk_history.specs.Meaning.Standing.{times}
 use Rattle.monk_history.specs.Meaning.Waiters.{served_at, serves}
 use Rattle.monk_logs.specs.Board.{Board, chosen_out, items_with}
-use Rattle.monk_logs.specs.Items.{can_be_unserved, condition_of, keeps_up, lapsed, line, may_lapse, may_resume, seats_in}
+use Rattle.monk_logs.specs.Items.{can_be_unserved, condition_of, keeps_up, without_seat, line, may_lapse, may_resume, seats_in}
 use Rattle.monk_logs.specs.Items.{services, services_in, taken_out, unserved_in, without_service}
 use Rattle.monk_logs.specs.Order.{apart, is_among}
 use Rattle.monk_logs.specs.Run.{chosen_waiter}
@@ -253,7 +253,7 @@ served_came s items (Some d) keeps =
 
 -- ---- a wait runs out
 
-services_lapsed : (j : ℕ) (items : List Item) → services (lapsed j items) ≡ services items
+services_lapsed : (j : ℕ) (items : List Item) → services (without_seat j items) ≡ services items
 services_lapsed j [] = refl
 services_lapsed j (Waiting s c ∷ items) =
     ⊎_elim (λ h. rw h (services_lapsed j items)) (λ h. rw h (services_lapsed j items)) (cases_Bool (eqb s j))
@@ -285,10 +285,10 @@ lapse_behind j c items dis may =
     (cases_Bool (is_among j (seats_of items c)))
 
 pub served_lapsed : (j : ℕ) (items : List Item) → Distinct (all_seats items) → may_lapse Fifo j items ≡ true
-    → served_in (lapsed j items) ≡ served_in items
+    → served_in (without_seat j items) ≡ served_in items
 served_lapsed j items dis may =
-    ap (λ (cs : List ℕ). in_service cs (seats_of (lapsed j items))) (services_lapsed j items)
-    ∙ same_service (services items) (seats_of (lapsed j items)) (seats_of items)
-    (λ c. subst (λ (n : ℕ). take n (seats_of (lapsed j items) c) ≡ take n (seats_of items c)) (sym (services_counted c items))
+    ap (λ (cs : List ℕ). in_service cs (seats_of (without_seat j items))) (services_lapsed j items)
+    ∙ same_service (services items) (seats_of (without_seat j items)) (seats_of items)
+    (λ c. subst (λ (n : ℕ). take n (seats_of (without_seat j items) c) ≡ take n (seats_of items c)) (sym (services_counted c items))
     (ap (λ (xs : List ℕ). take (services_in (line c items)) xs) (ap seats_in (line_lapsed j c items) ∙ seats_lapsed j (line c items))
     ∙ lapse_behind j c items dis may))

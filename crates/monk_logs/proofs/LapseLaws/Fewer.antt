@@ -10,7 +10,7 @@ use Rattle.monk_history.specs.Meaning.Conditions.{served_of}
 use Rattle.monk_history.specs.Meaning.Events.{seat_of, signals_on, waits_on}
 use Rattle.monk_history.specs.Meaning.Signallers.{is_empty}
 use Rattle.monk_logs.specs.Board.{given_by, waiting_item}
-use Rattle.monk_logs.specs.Items.{line, seats_in, services_in, unserved_in, condition_of, services, lapsed, taken_out, without_service}
+use Rattle.monk_logs.specs.Items.{line, seats_in, services_in, unserved_in, condition_of, services, without_seat, taken_out, without_service}
 use Rattle.monk_logs.specs.Order.{is_among}
 use Rattle.monk_logs.specs.declared.item.Item.{Item}
 use Rattle.monk_logs.specs.declared.item.Item.TheVariants.{Waiting, Service}
@@ -199,21 +199,21 @@ waitings_without c (Waiting s d ∷ xs) = ap (λ (l : List Item). Waiting s d �
 waitings_without c (Service d ∷ xs) =
     ⊎_elim (λ e. rw (eq-eqb d c e) refl) (λ ne. rw (ne_eqb d c ne) (waitings_without c xs)) (cases_eq d c)
 
-pub waitings_lapsed : (j : ℕ) (xs : List Item) → waitings (lapsed j xs) ≡ lapsed j (waitings xs)
+pub waitings_lapsed : (j : ℕ) (xs : List Item) → waitings (without_seat j xs) ≡ without_seat j (waitings xs)
 waitings_lapsed j [] = refl
 waitings_lapsed j (Waiting s d ∷ xs) =
     ⊎_elim (λ e. rw (eq-eqb s j e) (waitings_lapsed j xs))
     (λ ne. rw (ne_eqb s j ne) (ap (λ (l : List Item). Waiting s d ∷ l) (waitings_lapsed j xs))) (cases_eq s j)
 waitings_lapsed j (Service d ∷ xs) = waitings_lapsed j xs
 
-not_there : (j : ℕ) (xs : List Item) → is_among j (all_seats xs) ≡ false → lapsed j (waitings xs) ≡ waitings xs
+not_there : (j : ℕ) (xs : List Item) → is_among j (all_seats xs) ≡ false → without_seat j (waitings xs) ≡ waitings xs
 not_there j [] f = refl
 not_there j (Waiting s d ∷ xs) f =
     ⊎_elim (λ e. absurd (false≢true (sym f ∙ rw (eq-eqb s j e) refl)))
     (λ ne. rw (ne_eqb s j ne) (ap (λ (l : List Item). Waiting s d ∷ l) (not_there j xs (rw (ne_eqb s j ne) at f)))) (cases_eq s j)
 not_there j (Service d ∷ xs) f = not_there j xs f
 
-pub waitings_taken : (j : ℕ) (xs : List Item) → Distinct (all_seats xs) → waitings (taken_out j xs) ≡ lapsed j (waitings xs)
+pub waitings_taken : (j : ℕ) (xs : List Item) → Distinct (all_seats xs) → waitings (taken_out j xs) ≡ without_seat j (waitings xs)
 waitings_taken j [] d = refl
 waitings_taken j (Waiting s c ∷ xs) d =
     ⊎_elim

@@ -2,7 +2,7 @@
 use Rattle.std.proofs.Common.{◌≡◌, ℕ, true, false, List, refl, sym, ap, ◌∙◌, ⊎_elim, subst, Option, Some, drop}
 use Rattle.std.specs.Option.{option_map_or}
 use Rattle.std.proofs.lemmas.Bool.{cases_Bool}
-use Rattle.monk_logs.specs.Items.{line, seats_in, services_in, keeps_up, condition_of, can_be_served, can_be_unserved, lapsed, may_lapse}
+use Rattle.monk_logs.specs.Items.{line, seats_in, services_in, keeps_up, condition_of, can_be_served, can_be_unserved, without_seat, may_lapse}
 use Rattle.monk_logs.specs.Items.{has_service_behind, may_resume, taken_out, was_served}
 use Rattle.monk_logs.specs.Order.{is_among}
 use Rattle.monk_logs.specs.declared.item.Item.{Item}
@@ -83,9 +83,9 @@ module _ (xs ys : List Item) (h : Fewer Any xs ys) (dis : Distinct (all_seats xs
         (λ m. both_lines c (lapsed_in j (line c xs)) (taken_in j (line c ys)) (sym (unlapsed j (line c xs) m))
         (sym (unmoved j (line c ys) (out_too c m)))) (cases_Bool (is_among j (seats_in (line c xs))))
 
-    same_lapsed : (us ws : List Item) → waitings us ≡ lapsed j (waitings xs) → waitings ws ≡ lapsed j (waitings ys)
+    same_lapsed : (us ws : List Item) → waitings us ≡ without_seat j (waitings xs) → waitings ws ≡ without_seat j (waitings ys)
         → waitings us ≡ waitings ws
-    same_lapsed us ws e i = e ∙ (ap (lapsed j) h.same ∙ sym i)
+    same_lapsed us ws e i = e ∙ (ap (without_seat j) h.same ∙ sym i)
 
     pub fewer_taken : may_resume Any j xs ≡ true → may_resume Any j ys ≡ true → Fewer Any (taken_out j xs) (taken_out j ys)
     fewer_taken may also = record {
@@ -93,21 +93,21 @@ module _ (xs ys : List Item) (h : Fewer Any xs ys) (dis : Distinct (all_seats xs
       fewer = λ c. rw (line_taken j c xs dis, line_taken j c ys apart_many) (taken_lines may also c);
     }
 
-    pub fewer_lapsed : Fewer Any (lapsed j xs) (lapsed j ys)
+    pub fewer_lapsed : Fewer Any (without_seat j xs) (without_seat j ys)
     fewer_lapsed = record {
-      same = same_lapsed (lapsed j xs) (lapsed j ys) (waitings_lapsed j xs) (waitings_lapsed j ys);
+      same = same_lapsed (without_seat j xs) (without_seat j ys) (waitings_lapsed j xs) (waitings_lapsed j ys);
       fewer = λ c. rw (line_lapsed j c xs, line_lapsed j c ys) (lapsed_lines c);
     }
 
-    pub fewer_mixed : may_resume Any j xs ≡ true → Fewer Any (taken_out j xs) (lapsed j ys)
+    pub fewer_mixed : may_resume Any j xs ≡ true → Fewer Any (taken_out j xs) (without_seat j ys)
     fewer_mixed may = record {
-      same = same_lapsed (taken_out j xs) (lapsed j ys) (waitings_taken j xs dis) (waitings_lapsed j ys);
+      same = same_lapsed (taken_out j xs) (without_seat j ys) (waitings_taken j xs dis) (waitings_lapsed j ys);
       fewer = λ c. rw (line_taken j c xs dis, line_lapsed j c ys) (mixed_lines may c);
     }
 
-    pub fewer_turned : may_resume Any j xs ≡ false → may_resume Any j ys ≡ true → Fewer Any (lapsed j xs) (taken_out j ys)
+    pub fewer_turned : may_resume Any j xs ≡ false → may_resume Any j ys ≡ true → Fewer Any (without_seat j xs) (taken_out j ys)
     fewer_turned never may = record {
-      same = same_lapsed (lapsed j xs) (taken_out j ys) (waitings_lapsed j xs) (waitings_taken j ys apart_many);
+      same = same_lapsed (without_seat j xs) (taken_out j ys) (waitings_lapsed j xs) (waitings_taken j ys apart_many);
       fewer = λ c. rw (line_lapsed j c xs, line_taken j c ys apart_many) (turned_lines never may c);
     }
 
@@ -135,7 +135,7 @@ may_lapse_fewer o j xs ys h dis may =
 
 -- who can't have been served may lapse
 pub keeps_gone : (j c : ℕ) (xs : List Item) → Distinct (all_seats xs) → keeps_up 0 (line c xs) ≡ true → condition_of j xs ≡ Some c
-    → may_resume Any j xs ≡ false → keeps_up 0 (line c (lapsed j xs)) ≡ true
+    → may_resume Any j xs ≡ false → keeps_up 0 (line c (without_seat j xs)) ≡ true
 keeps_gone j c xs dis up waits never =
     let f : has_service_behind j (line c xs) ≡ false = sym (served_from Any j c xs waits) ∙ never in
     ap (keeps_up 0) (line_lapsed j c xs)

@@ -13,7 +13,7 @@ use Rattle.monk_logs.specs.Board.{Board, board_after, board_lapse, board_reason,
 use Rattle.monk_logs.specs.BoardCourse.{BoardCourse, board_course, board_half, board_hold, board_held, board_known, board_line}
 use Rattle.monk_logs.specs.BoardCourse.{board_settled, board_then, board_via}
 use Rattle.monk_logs.specs.Course.{due_from}
-use Rattle.monk_logs.specs.Items.{lapsed, may_lapse}
+use Rattle.monk_logs.specs.Items.{without_seat, may_lapse}
 use Rattle.monk_logs.specs.declared.item.Item.{Item}
 use Rattle.monk_logs.specs.declared.line.LogLine.{LogLine}
 use Rattle.monk_logs.specs.declared.line.LogLine.TheVariants.{Enter, Resume, Lapse, Leave, Wait, Signal, Broadcast, Until, Act}
@@ -102,7 +102,7 @@ module _ (m : Monitor) (level : IsLevel m.kind) (xs : List Item) (b : Board) (h 
         let may = may_lapse_fewer Any s xs b.items h (sound_distinct few sound) p.1 in
         follows_by (board_known Any m few (Lapsed s)) (board_settled (board_lapse few s)) x (lapsed_ok Any m few s p.0 may)
         (subst (λ (y : BoardCourse). Below (board_settled (board_lapse few s)) y) p.2 (record {
-          items = lapsed s xs;
+          items = without_seat s xs;
           is = refl;
           fewer = fewer_lapsed xs b.items h (sound_distinct few sound) sound.keeps many.keeps s;
           sound = sound_lapse Any few s sound may;

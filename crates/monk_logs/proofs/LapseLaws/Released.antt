@@ -12,7 +12,7 @@ use Rattle.monk_history.specs.Meaning.Monitor.{Monitor}
 use Rattle.monk_history.specs.Meaning.Release.{with_next}
 use Rattle.monk_logs.specs.Board.{Board, board_after, board_lapse, items_with, waiting_item}
 use Rattle.monk_logs.specs.BoardCourse.{board_settled}
-use Rattle.monk_logs.specs.Items.{condition_of, is_waiting_of, keeps_up, lapsed, line, may_lapse, may_resume, taken_out}
+use Rattle.monk_logs.specs.Items.{condition_of, is_waiting_of, keeps_up, without_seat, line, may_lapse, may_resume, taken_out}
 use Rattle.monk_logs.specs.Order.{is_among}
 use Rattle.monk_logs.specs.declared.item.Item.{Item}
 use Rattle.monk_logs.specs.declared.item.Item.TheVariants.{Waiting, Service}
@@ -47,7 +47,7 @@ not_last s t (x ∷ xs) d m e =
 
 lapsed_item : (s t : ℕ) (x : Option ℕ) (ws : List Item) → Distinct (all_seats (ws ++ option_map_or (λ c. Waiting t c ∷ []) x []))
     → is_among s (all_seats ws) ≡ true
-    → lapsed s (ws ++ option_map_or (λ c. Waiting t c ∷ []) x []) ≡ lapsed s ws ++ option_map_or (λ c. Waiting t c ∷ []) x []
+    → without_seat s (ws ++ option_map_or (λ c. Waiting t c ∷ []) x []) ≡ without_seat s ws ++ option_map_or (λ c. Waiting t c ∷ []) x []
 lapsed_item s t None ws d m = filter_joined (λ i. not (is_waiting_of s i)) ws []
 lapsed_item s t (Some c) ws d m =
     let ne : t ≡ s → ⊥ = not_last s t (all_seats ws) (subst Distinct (all_seats-append ws (Waiting t c ∷ [])) d) m in
@@ -105,9 +105,9 @@ module _ (m : Monitor) (level : IsLevel m.kind) (xs : List Item) (b : Board) (h 
     behind_entry c = items_behind m.object c Entry e stays
 
     lapsed_behind : (c : Board) → Sound c → Passes Any m c (with_next Entry e) → is_among s (all_seats (items_with c e)) ≡ true
-        → lapsed s (board_after m.object c (with_next Entry e)).items ≡ lapsed s (items_with c e) ++ came
+        → without_seat s (board_after m.object c (with_next Entry e)).items ≡ without_seat s (items_with c e) ++ came
     lapsed_behind c is p there =
-        ap (lapsed s) (behind_entry c)
+        ap (without_seat s) (behind_entry c)
         ∙ lapsed_item s (seat_of e) (waits_on e) (items_with c e)
         (subst (λ (l : List Item). Distinct (all_seats l)) (behind_entry c)
         (sound_distinct (board_after m.object c (with_next Entry e)) (sound_after Any m c (with_next Entry e) is p))) there
@@ -127,7 +127,7 @@ module _ (m : Monitor) (level : IsLevel m.kind) (xs : List Item) (b : Board) (h 
           items = taken_out s us ++ came;
           is = ap board_settled is;
           fewer = subst (λ (l : List Item). Fewer Any (taken_out s us ++ came) l) (sym (lapsed_behind b many p there))
-              (fewer_came Any e (taken_out s us) (lapsed s ws) (fewer_mixed us ws fewer_with (distinct_with few e sound)
+              (fewer_came Any e (taken_out s us) (without_seat s ws) (fewer_mixed us ws fewer_with (distinct_with few e sound)
               (keeps_with few e sound) (keeps_with b e many) s (may_be_served Any m few e s stays f)));
           sound = subst Sound is (served_sound few sound f r);
           many = sound_lapse Any opened s (sound_after Any m b (with_next Entry e) many p) may;
@@ -139,9 +139,9 @@ module _ (m : Monitor) (level : IsLevel m.kind) (xs : List Item) (b : Board) (h 
       pub may : may_lapse Any s (board_after m.object few (with_next Entry e)).items ≡ true
       pub below : Below (board_settled (board_lapse (board_after m.object few (with_next Entry e)) s)) (board_settled x)
 
-    gone_keeps : (c : ℕ) → condition_of s us ≡ Some c → may_resume Any s us ≡ false → keeps_up 0 (line c (lapsed s us ++ came)) ≡ true
+    gone_keeps : (c : ℕ) → condition_of s us ≡ Some c → may_resume Any s us ≡ false → keeps_up 0 (line c (without_seat s us ++ came)) ≡ true
     gone_keeps c waits never =
-        keeps_item (seat_of e) c (lapsed s us) (waits_on e)
+        keeps_item (seat_of e) c (without_seat s us) (waits_on e)
         (keeps_gone s c us (distinct_with few e sound) (keeps_with few e sound c) waits never)
 
     pub lapsed_below : Passes Any m b (with_next (Waiter s) e)
@@ -152,21 +152,21 @@ module _ (m : Monitor) (level : IsLevel m.kind) (xs : List Item) (b : Board) (h 
         let t = entered pe in
         let after = board_after m.object few (with_next Entry e) in
         let there : is_among s (all_seats us) ≡ true = among_line s c us (waits_there s c us waits) in
-        let gone : lapsed s after.items ≡ lapsed s us ++ came = lapsed_behind few sound t.passes there in
+        let gone : without_seat s after.items ≡ without_seat s us ++ came = lapsed_behind few sound t.passes there in
         let on : condition_of s after.items ≡ Some c = ap (condition_of s) (behind_entry few) ∙ condition_came s c us came waits in
         let may : may_lapse Any s after.items ≡ true =
         lapse_from Any s c after.items on ∙ (ap (λ (l : List Item). keeps_up 0 (line c l)) gone ∙ gone_keeps c waits never) in
-        let is : board_lapse after s ≡ with_items (lapsed s after.items) (served b) =
-        ap (λ (y : Board). board_lapse y s) t.comes_to ∙ ap (λ (y : Board). with_items (lapsed s after.items) y) (sym (served_is b)) in
+        let is : board_lapse after s ≡ with_items (without_seat s after.items) (served b) =
+        ap (λ (y : Board). board_lapse y s) t.comes_to ∙ ap (λ (y : Board). with_items (without_seat s after.items) y) (sym (served_is b)) in
         record {
           passes = t.passes;
           may = may;
           below = record {
-            items = lapsed s after.items;
+            items = without_seat s after.items;
             is = ap board_settled is;
             fewer = subst (λ (l : List Item). Fewer Any l (served b).items) (sym gone)
-                (subst (λ (y : Board). Fewer Any (lapsed s us ++ came) y.items) (sym (served_is b))
-                (fewer_came Any e (lapsed s us) (taken_out s ws) (fewer_turned us ws fewer_with (distinct_with few e sound)
+                (subst (λ (y : Board). Fewer Any (without_seat s us ++ came) y.items) (sym (served_is b))
+                (fewer_came Any e (without_seat s us) (taken_out s ws) (fewer_turned us ws fewer_with (distinct_with few e sound)
                 (keeps_with few e sound) (keeps_with b e many) s never (may_be_served Any m b e s stays p))));
             sound = subst Sound is (sound_lapse Any after s (sound_after Any m few (with_next Entry e) sound t.passes) may);
             many = served_sound b many p r;

@@ -4,7 +4,7 @@ use Rattle.std.proofs.Common.{⊎_elim, subst, Option, Some, None, append-nil, a
 use Rattle.std.specs.Option.{option_map_or}
 use Rattle.std.proofs.lemmas.Bool.{cases_Bool, cases_eq, false≢true, false_from_ne_true, ne_eqb, eq-eqb, and_parts, and_right, and_from}
 use Rattle.std.proofs.lemmas.Bool.{or_left, or_cases}
-use Rattle.monk_logs.specs.Items.{line, seats_in, keeps_up, condition_of, lapsed, can_be_unserved, may_lapse}
+use Rattle.monk_logs.specs.Items.{line, seats_in, keeps_up, condition_of, without_seat, can_be_unserved, may_lapse}
 use Rattle.monk_logs.specs.Order.{is_among}
 use Rattle.monk_logs.specs.declared.item.Item.{Item}
 use Rattle.monk_logs.specs.declared.item.Item.TheVariants.{Waiting}
@@ -124,7 +124,7 @@ still_among j k xs ne h = among_filter (λ x. not (eqb x j)) k xs ∙ and_from (
 was_among : (j k : ℕ) (xs : List ℕ) → is_among k (without j xs) ≡ true → is_among k xs ≡ true
 was_among j k xs h = (and_parts (is_among k xs) (not (eqb k j)) (sym (among_filter (λ x. not (eqb x j)) k xs) ∙ h)).0
 
-pub lapse_fits : (o : Order) (p : ℕ → Bool) (j : ℕ) (items : List Item) → p j ≡ false → Fits o p items → Fits o p (lapsed j items)
+pub lapse_fits : (o : Order) (p : ℕ → Bool) (j : ℕ) (items : List Item) → p j ≡ false → Fits o p items → Fits o p (without_seat j items)
 lapse_fits o p j items out f = record {
   covers = λ d. subst (λ (k : List (Option ℕ)). Covers p 0 k) (sym (line_lapsed j d items))
       (lapse_goes p j 0 (line d items) out (f.covers d));
@@ -154,7 +154,7 @@ pub record Lapsing (o : Order) (p : ℕ → Bool) (j : ℕ) (items : List Item) 
   pub fits : Fits o p items
 
 module _ (o : Order) (p : ℕ → Bool) (j : ℕ) (items : List Item) (dis : Distinct (all_seats items))
-    (may : may_lapse o j items ≡ true) (f : Fits o p (lapsed j items))
+    (may : may_lapse o j items ≡ true) (f : Fits o p (without_seat j items))
   where
     unserved : p j ≡ false
     unserved =

@@ -6,7 +6,7 @@ use Rattle.monk_history.specs.declared.event.Turn.{Turn}
 use Rattle.monk_history.specs.Meaning.Reasons.{is_open}
 use Rattle.monk_history.specs.Meaning.Situation.{Situation}
 use Rattle.monk_logs.specs.Board.{Board, board_lapse}
-use Rattle.monk_logs.specs.Items.{line, seats_in, lapsed, may_lapse}
+use Rattle.monk_logs.specs.Items.{line, seats_in, without_seat, may_lapse}
 use Rattle.monk_logs.specs.Order.{is_among, apart}
 use Rattle.monk_logs.specs.Run.{IsLapse}
 use Rattle.monk_logs.specs.declared.item.Item.{Item}
@@ -41,7 +41,7 @@ left_apart s ws xs =
 
 -- the condition behind it
 pub lapse_rest : (s c : ℕ) (ws : List ℕ) (items : List Item)
-    → apart (s ∷ []) (apart ws (seats_in (line c items))) ≡ apart ws (seats_in (line c (lapsed s items)))
+    → apart (s ∷ []) (apart ws (seats_in (line c items))) ≡ apart ws (seats_in (line c (without_seat s items)))
 lapse_rest s c ws items =
     left_apart s ws (seats_in (line c items))
     ∙ ap (λ (xs : List ℕ). apart ws xs) (sym (ap seats_in (line_lapsed s c items) ∙ seats_lapsed s (line c items)))
@@ -66,11 +66,11 @@ module _ (o : Order) (b : Board) (t : Situation) (s : ℕ) (u : Situation) (soun
     free = subst (λ (x : Turn). is_open x ≡ true) h.turn l.free;
     may = may_lapse_it o (among t.waiters) s l.waits_on b.items (sound_distinct b sound) there.0 there.1 h.fits;
     stands = record {
-      fits = subst (λ (ws : List ℕ). Fits o (among ws) (lapsed s b.items)) (sym l.waiters)
+      fits = subst (λ (ws : List ℕ). Fits o (among ws) (without_seat s b.items)) (sym l.waiters)
           (lapse_fits o (among t.waiters) s b.items there.1 h.fits);
       condition = λ c. l.condition c ∙ (ap (λ (xs : List ℕ). apart (s ∷ []) xs) (h.condition c)
           ∙ (lapse_rest s c t.waiters b.items
-          ∙ ap (λ (ws : List ℕ). apart ws (seats_in (line c (lapsed s b.items)))) (sym l.waiters)));
+          ∙ ap (λ (ws : List ℕ). apart ws (seats_in (line c (without_seat s b.items)))) (sym l.waiters)));
       signallers = l.signallers ∙ h.signallers;
       untils = l.untils ∙ h.untils;
       state = l.state ∙ h.state;
@@ -87,7 +87,7 @@ pub record LapseLeads (o : Order) (b : Board) (s : ℕ) (vs : List ℕ) : Type 0
   pub lapse : IsLapse (standing b vs) s (standing (board_lapse b s) vs)
 
 pub lapse_leads : (o : Order) (b : Board) (s : ℕ) (vs : List ℕ) → Sound b → is_open b.turn ≡ true → may_lapse o s b.items ≡ true
-    → Fits o (among vs) (lapsed s b.items) → LapseLeads o b s vs
+    → Fits o (among vs) (without_seat s b.items) → LapseLeads o b s vs
 lapse_leads o b s vs sound free may f =
     let r = unlapse o (among vs) s b.items (sound_distinct b sound) may f in
     record {

@@ -3,7 +3,7 @@ use Rattle.std.proofs.Common.{◌≡◌, ℕ, ◌+◌, ◌≤◌, suc, true, fal
 use Rattle.std.proofs.Common.{⊎_elim, arith, subst, length, Option, Some, None}
 use Rattle.std.proofs.lemmas.Bool.{cases_eq, false≢true, false_from_ne_true, ne_eqb, eq-eqb}
 use Rattle.monk_logs.specs.Items.{line, seats_in, services_in, has_service, has_service_behind, condition_of, services, without_service}
-use Rattle.monk_logs.specs.Items.{taken_out, lapsed}
+use Rattle.monk_logs.specs.Items.{taken_out, without_seat}
 use Rattle.monk_logs.specs.Order.{is_among}
 use Rattle.monk_logs.specs.declared.item.Item.{Item}
 use Rattle.monk_logs.specs.declared.item.Item.TheVariants.{Waiting, Service}
@@ -245,7 +245,7 @@ all_seats_taken j (Service c ∷ items) = all_seats_taken j items
 
 -- ---- a seat that was not served goes
 
-pub line_lapsed : (j c : ℕ) (items : List Item) → line c (lapsed j items) ≡ lapsed_in j (line c items)
+pub line_lapsed : (j c : ℕ) (items : List Item) → line c (without_seat j items) ≡ lapsed_in j (line c items)
 line_lapsed j c [] = refl
 line_lapsed j c (Waiting s d ∷ items) =
     ⊎_elim
@@ -265,7 +265,7 @@ seats_lapsed j (Some s ∷ l) =
     (cases_eq s j)
 seats_lapsed j (None ∷ l) = seats_lapsed j l
 
-pub all_seats_lapsed : (j : ℕ) (items : List Item) → all_seats (lapsed j items) ≡ without j (all_seats items)
+pub all_seats_lapsed : (j : ℕ) (items : List Item) → all_seats (without_seat j items) ≡ without j (all_seats items)
 all_seats_lapsed j [] = refl
 all_seats_lapsed j (Waiting s c ∷ items) =
     ⊎_elim (λ e. rw (eq-eqb s j e) (all_seats_lapsed j items))

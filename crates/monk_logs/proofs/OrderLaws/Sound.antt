@@ -20,7 +20,7 @@ use Rattle.monk_history.specs.Meaning.Reasons.{is_open}
 use Rattle.monk_history.specs.Meaning.Standing.{times, has_turn}
 use Rattle.monk_logs.specs.Board.{Board, board_after, board_chances, board_lapse, chosen_out, items_with, opening_board}
 use Rattle.monk_logs.specs.Chances.{Chances, may_choose_by, may_signal_by, permits_by}
-use Rattle.monk_logs.specs.Items.{line, seats_in, services_in, unserved_in, keeps_up, lapsed, may_lapse, may_resume, taken_out}
+use Rattle.monk_logs.specs.Items.{line, seats_in, services_in, unserved_in, keeps_up, without_seat, may_lapse, may_resume, taken_out}
 use Rattle.monk_logs.specs.Items.{can_be_served, can_be_unserved, was_served}
 use Rattle.monk_logs.specs.Order.{is_among}
 use Rattle.monk_logs.specs.declared.item.Item.{Item}
@@ -166,7 +166,7 @@ open_free s (Due j q) h = absurd (false≢true h)
 open_free s (Owned j) h = absurd (false≢true h)
 
 keeps_gone : (o : Order) (j c : ℕ) (items : List Item) → Distinct (all_seats items) → can_be_unserved o j c items ≡ true
-    → keeps_up 0 (line c items) ≡ true → keeps_up 0 (line c (lapsed j items)) ≡ true
+    → keeps_up 0 (line c items) ≡ true → keeps_up 0 (line c (without_seat j items)) ≡ true
 keeps_gone Fifo j c items dis can h =
     ap (keeps_up 0) (line_lapsed j c items)
     ∙ keeps_lapsed j 0 (services_in (line c items)) (line c items) (distinct_line c items dis) h can (omega arith)
@@ -176,7 +176,7 @@ keeps_gone Wake j c items dis can h =
 keeps_gone Any j c items dis can h = can
 
 keeps_lapse : (o : Order) (j c : ℕ) (items : List Item) → Distinct (all_seats items) → may_lapse o j items ≡ true
-    → keeps_up 0 (line c items) ≡ true → keeps_up 0 (line c (lapsed j items)) ≡ true
+    → keeps_up 0 (line c items) ≡ true → keeps_up 0 (line c (without_seat j items)) ≡ true
 keeps_lapse o j c items dis may h =
     ⊎_elim
     (λ m. keeps_gone o j c items dis
@@ -187,7 +187,7 @@ lapse_there : (o : Order) (j : ℕ) (items : List Item) → may_lapse o j items 
 lapse_there o j items may = let r = lapses o j items may in among_line j r.on items (waits_there j r.on items r.waits)
 
 lapse_times : (j s : ℕ) (items : List Item) → is_among j (all_seats items) ≡ true
-    → times s (all_seats (lapsed j items)) + cond (eqb j s) 1 0 ≤ times s (all_seats items)
+    → times s (all_seats (without_seat j items)) + cond (eqb j s) 1 0 ≤ times s (all_seats items)
 lapse_times j s items m =
     subst (λ (xs : List ℕ). times s xs + cond (eqb j s) 1 0 ≤ times s (all_seats items)) (sym (all_seats_lapsed j items))
     (times_taken (λ x. not (eqb x j)) j s (all_seats items) m (ap not (same_number j)))

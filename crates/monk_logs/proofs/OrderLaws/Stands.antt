@@ -11,7 +11,7 @@ use Rattle.monk_history.specs.declared.event.Turn.{Turn}
 use Rattle.monk_history.specs.declared.event.Via.{Via}
 use Rattle.monk_history.specs.declared.event.Via.TheVariants.{Free, Handed}
 use Rattle.monk_history.specs.Meaning.Choice.{must_stay}
-use Rattle.monk_history.specs.Meaning.Events.{awaited, seat_of, steps_back}
+use Rattle.monk_history.specs.Meaning.Events.{awaited_predicate, seat_of, steps_back}
 use Rattle.monk_history.specs.Meaning.Monitor.{Monitor}
 use Rattle.monk_history.specs.Meaning.Reasons.{fits_turn, is_in_place, is_right_reply, may_enter}
 use Rattle.monk_history.specs.Meaning.Release.{MayCallIn}
@@ -123,9 +123,9 @@ pub stay_same : (o : Order) (object : Object) (b : Board) (t : Situation) (e : E
     → must_stay object t e ≡ must_stay object (sight b) e
 stay_same o object b t e h =
     same_at (λ c. is_empty (t.condition c)) (λ c. is_empty (unserved_in (line c b.items))) (steps_back e)
-    (option_map_or (λ p. object.holds t.state p) (awaited e) false) (empty_condition o b t h)
+    (option_map_or (λ p. object.holds t.state p) (awaited_predicate e) false) (empty_condition o b t h)
     ∙ ap (λ (d : List ℕ). option_map_or (λ c. is_empty (unserved_in (line c b.items))) (steps_back e)
-    (option_map_or (λ p. object.holds d p) (awaited e) false)) h.state
+    (option_map_or (λ p. object.holds d p) (awaited_predicate e) false)) h.state
 
 pub ready_same : (object : Object) (b : Board) (t : Situation) → t.state ≡ b.state → t.untils ≡ b.untils
     → ready_of object t.state t.untils ≡ ready_of object b.state b.untils

@@ -18,7 +18,7 @@ use Rattle.monk_history.specs.Meaning.Step.{after}
 use Rattle.monk_history.specs.Meaning.Turn.{turn}
 use Rattle.monk_history.proofs.PublicLaws.Meaning.{legal_situation-push}
 use Rattle.monk_logs.specs.Blame.{blame_of, half_blame, release_blame}
-use Rattle.monk_logs.specs.Course.{Course, course, settled, add, hold, behind_events, behind_half, then_behind, behind}
+use Rattle.monk_logs.specs.Course.{Course, course, settled_course, add, hold, behind_events, behind_half, then_behind, behind}
 use Rattle.monk_logs.specs.Course.{due_from, told_release}
 use Rattle.monk_logs.specs.Stand.{Stand, stand, stand_settled, add_to, settled_by, settle, hold_over}
 use Rattle.monk_logs.specs.Stand.{line_settled, line_half, line_then, line_told, line_behind}
@@ -47,14 +47,14 @@ added_to m past e legal =
     added_if m past e (reason_in m (situation m past) e) (reason_in m (situation m past) e == 0) legal
 
 settled_same : (m : Monitor) (o : Option (List Event)) (r : Result Situation ℕ) → option_map (situation m) o ≡ result_ok r
-    → option_map (stand_at m) (option_map settled o) ≡ result_ok (settled_by r)
+    → option_map (stand_at m) (option_map settled_course o) ≡ result_ok (settled_by r)
 settled_same m None (Ok t) h = absurd cc
 settled_same m None (Err r) h = refl
 settled_same m (Some g) (Ok t) h = ap (option_map stand_settled) h
 settled_same m (Some g) (Err r) h = absurd cc
 
 settles : (m : Monitor) (past : List Event) (e : Event) → IsLegal m past
-    → option_map (stand_at m) (option_map settled (add m past e)) ≡ result_ok (settle m (situation m past) e)
+    → option_map (stand_at m) (option_map settled_course (add m past e)) ≡ result_ok (settle m (situation m past) e)
 settles m past e legal = settled_same m (add m past e) (add_to m (situation m past) e) (added_to m past e legal)
 
 held_if : (m : Monitor) (past : List Event) (p : Pending) (why : Blame) (b : Bool)

@@ -7,7 +7,7 @@ use Rattle.monk_kinds.specs.Kind.{IsKind}
 use Rattle.monk_history.specs.Meaning.Monitor.{Monitor}
 use Rattle.monk_history.specs.Meaning.Situation.{Situation, situation}
 use Rattle.monk_history.proofs.PublicLaws.Meaning.{situation-none}
-use Rattle.monk_logs.specs.Course.{Course, settled, judge, judge_from, behind}
+use Rattle.monk_logs.specs.Course.{Course, settled_course, judge, judge_from, behind}
 use Rattle.monk_logs.specs.Fits.{IsOpen}
 use Rattle.monk_logs.specs.Stand.{Stand, stand_settled, line_over, verdict_from, verdict_on}
 use Rattle.monk_logs.specs.Verdict.{IsVerdictOn}
@@ -33,10 +33,10 @@ judged_one m c l = judged_end m (behind m c.past c.pending l)
 pub judged_more : (m : Monitor) (front : List LogLine) (c : Course) (l : LogLine) → judge m front ≡ Some c
     → judge m (front ++ l ∷ []) ≡ behind m c.past c.pending l
 judged_more m front c l is =
-    judge_from-append m (Some (settled [])) front (l ∷ [])
+    judge_from-append m (Some (settled_course [])) front (l ∷ [])
     ∙ ap (λ (o : Option Course). judge_from m o (l ∷ [])) is ∙ judged_one m c l
 
-pub judged_none : (m : Monitor) → judge m [] ≡ Some (settled [])
+pub judged_none : (m : Monitor) → judge m [] ≡ Some (settled_course [])
 unfolding judge_from
 judged_none m = refl
 
@@ -78,4 +78,4 @@ pub verdict_is : (m : Monitor) (log : List LogLine) → IsKind m.kind → IsVerd
 verdict_is m log kind =
     subst (λ (t : Situation). IsVerdictOn m log (verdict_from m 0 (Ok (stand_settled t)) log)) (situation-none m)
     (verdict_holds (IsOpen m) (line_over m) (StandsBehind m) (judges m kind) [] log (stand_settled (situation m []))
-    (record { course = settled []; judged = judged_none m; stands = refl }))
+    (record { course = settled_course []; judged = judged_none m; stands = refl }))

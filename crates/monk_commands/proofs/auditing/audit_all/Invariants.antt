@@ -1,5 +1,5 @@
 use Rattle.std.proofs.Common.{◌≡◌, ◌+◌, ◌^◌, ◌<◌, ◌≤◌, length, false}
-use Rattle.monk_history.specs.Text.Device.{held, has_failed, reads_of, bytes_of}
+use Rattle.monk_history.specs.Text.Device.{inner_of, has_failed, reads_of, bytes_of}
 use Rattle.monk_audit.specs.Audits.{IsGoingOn}
 use Rattle.monk_commands.specs.Streams.{IsYoung}
 use Rattle.monk_commands.proofs.Taken.{IsOwed}
@@ -12,7 +12,7 @@ invariant-loop g l = record {
   counted : IsYoung l.fn.reader → reads_of l.reader ≡ reads_of l.fn.reader + l.counter;
   few : reads_of l.reader ≤ reads_of l.fn.reader + l.counter;
   given : IsYoung l.fn.reader → bytes_of l.reader ≡ bytes_of l.fn.reader + l.count;
-  owed : IsOwed (g.R.Read.remaining (held l.fn.reader)) (g.R.Read.remaining (held l.reader)) l.audit;
+  owed : IsOwed (g.R.Read.remaining (inner_of l.fn.reader)) (g.R.Read.remaining (inner_of l.reader)) l.audit;
   going : IsGoingOn l.audit;
   room : 0 < length l.chunk.items;
 }

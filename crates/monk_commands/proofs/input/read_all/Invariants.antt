@@ -1,6 +1,6 @@
 use Rattle.std.proofs.Common.{◌≡◌, ◌+◌, ◌^◌, ◌<◌, ◌≤◌, length, false}
 use Rattle.std.specs.Io.KnownBytes.{Consumes}
-use Rattle.monk_history.specs.Text.Device.{held, has_failed, reads_of, bytes_of}
+use Rattle.monk_history.specs.Text.Device.{inner_of, has_failed, reads_of, bytes_of}
 use Rattle.monk_commands.specs.Streams.{IsYoung}
 use Rattle.monk_commands.proofs.input.read_all.Given as goal
 
@@ -11,6 +11,6 @@ invariant-loop g l = record {
   counted : IsYoung l.fn.reader → reads_of l.reader ≡ reads_of l.fn.reader + l.counter;
   few : reads_of l.reader ≤ reads_of l.fn.reader + l.counter;
   given : IsYoung l.fn.reader → bytes_of l.reader ≡ bytes_of l.fn.reader + length l.bytes.items;
-  taken : Consumes (g.R.Read.remaining (held l.fn.reader)) (g.R.Read.remaining (held l.reader)) l.bytes.items;
+  taken : Consumes (g.R.Read.remaining (inner_of l.fn.reader)) (g.R.Read.remaining (inner_of l.reader)) l.bytes.items;
   room : 0 < length l.chunk.items;
 }

@@ -1,7 +1,7 @@
 use Rattle.std.proofs.Common.{ℕ, sym, subst}
 use Rattle.std.specs.Io.KnownBytes.{Appends}
 use Rattle.monk_history.specs.Text.{Heading}
-use Rattle.monk_history.specs.Text.Device.{held}
+use Rattle.monk_history.specs.Text.Device.{inner_of}
 use Rattle.monk_world.specs.Board.{state_of_view}
 use Rattle.monk_commands.specs.Played.{IsPlayedBy, IsReportedBy}
 use Rattle.monk_commands.specs.declared.report.Report.{Report}
@@ -16,7 +16,7 @@ returns-in-Ok-write-clause-played g c =
     let opening = g.T.Guarded.state c.args.object in
     let first = state_of_view c.in-Ok.world in
     let last = state_of_view c.run_lines.new.self in
-    let puts = Appends (g.W.Write.contents (held c.args.writer.now)) (g.W.Write.contents (held c.write.new.out)) in
+    let puts = Appends (g.W.Write.contents (inner_of c.args.writer.now)) (g.W.Write.contents (inner_of c.write.new.out)) in
     subst (λ (r : Report). IsReportedBy r k o opening play.0 play.1 play.2 puts) (sym c.in-History.is)
     (subst (λ (h : Heading). IsPlayedBy k o opening h play.1 play.2 puts) c.header-header.ensures
     (subst (λ (b : ℕ). IsPlayedBy k o opening c.header-header.result b play.2 puts) c.budget.ensures (

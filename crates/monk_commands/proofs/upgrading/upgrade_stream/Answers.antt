@@ -2,13 +2,13 @@ use Rattle.std.proofs.Common.{◌≡◌, ℕ, List, sym, subst}
 use Rattle.std.specs.Prelude.{IfSome}
 use Rattle.std.specs.Io.KnownBytes.{Appends}
 use Rattle.std.proofs.lemmas.Result.{IfOk-weaker}
-use Rattle.monk_history.specs.Text.Device.{held}
+use Rattle.monk_history.specs.Text.Device.{inner_of}
 use Rattle.monk_commands.proofs.Upgrades.{again, statuses, upgraded_known, zero_exactly}
 use Rattle.monk_commands.proofs.upgrading.upgrade_stream.Goals as goal
 
 pub returns-clause-histories : goal.returns-clause-histories
 returns-clause-histories g c =
-    let known = g.R.Read.remaining (held c.args.reader.now) in
+    let known = g.R.Read.remaining (inner_of c.args.reader.now) in
     IfOk-weaker c.upgrade_text.result _ _ (λ status a.
     zero_exactly known status c.deref.result.now
     (subst (λ (bytes : List ℕ). IfSome known (λ input. bytes ≡ input)) (sym c.deref.ensures.value)
@@ -17,8 +17,8 @@ returns-clause-histories g c =
 
 pub returns-clause-upgraded : goal.returns-clause-upgraded
 returns-clause-upgraded g c =
-    let known = g.R.Read.remaining (held c.args.reader.now) in
-    let puts = Appends (g.W.Write.contents (held c.args.writer.now)) (g.W.Write.contents (held c.upgrade_text.new.writer)) in
+    let known = g.R.Read.remaining (inner_of c.args.reader.now) in
+    let puts = Appends (g.W.Write.contents (inner_of c.args.writer.now)) (g.W.Write.contents (inner_of c.upgrade_text.new.writer)) in
     IfOk-weaker c.upgrade_text.result _ _ (λ status a.
     upgraded_known known c.deref.result.now puts
     (subst (λ (bytes : List ℕ). IfSome known (λ input. bytes ≡ input)) (sym c.deref.ensures.value)

@@ -2,7 +2,7 @@ use Rattle.std.proofs.Common.{ap, sym, ◌∙◌, ◌+◌, List, arith, length}
 use Rattle.monk_logs.specs.Board.{Board}
 use Rattle.monk_logs.specs.BoardCourse.{board_course}
 use Rattle.monk_logs.specs.BoardShown.{board_shown}
-use Rattle.monk_logs.specs.Counts.{counted, counts_by, waiting_among, woken_among}
+use Rattle.monk_logs.specs.Counts.{count_state, counts_by, waiting_among, woken_among}
 use Rattle.monk_logs.specs.Stand.{monitor_in}
 use Rattle.monk_logs.specs.declared.item.Item.{Item}
 use Rattle.monk_logs.specs.declared.order.Order.TheVariants.{Any}
@@ -79,5 +79,5 @@ returns g c =
     (c.deref-2.ensures.value ∙ c.loop-line.invariant.items)
     ∙ count_ends (monitor_in c.args.setting g.T.Guarded.meaning) c.args.means.now (g.L.LineSource.left c.loop-line.lines)
     c.loop-line.number
-    (counted (board_course (board_shown c.loop-line.board (g.T.Guarded.state c.loop-line.object)) c.loop-line.pending) k) _
+    (count_state (board_course (board_shown c.loop-line.board (g.T.Guarded.state c.loop-line.object)) c.loop-line.pending) k) _
     c.loop-line.invariant.so_far c.in_default.ensures

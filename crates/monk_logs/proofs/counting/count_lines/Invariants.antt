@@ -4,7 +4,7 @@ use Rattle.monk_history.specs.Meaning.Monitor.{monitor}
 use Rattle.monk_logs.specs.BoardCourse.{board_course}
 use Rattle.monk_logs.specs.BoardShown.{IsBoardOf, board_shown}
 use Rattle.monk_logs.specs.BoardStand.{IsHeldOver}
-use Rattle.monk_logs.specs.Counts.{IsWithin, counted, counts_from, counts_of, items_now}
+use Rattle.monk_logs.specs.Counts.{IsWithin, count_state, counts_from, counts_of, items_now}
 use Rattle.monk_logs.specs.Stand.{monitor_in}
 use Rattle.monk_logs.proofs.counting.count_lines.Given as goal
 
@@ -14,7 +14,7 @@ invariant-loop-line g l =
     let m = monitor_in l.setting o in
     let now = board_shown l.board (g.T.Guarded.state l.object) in
     record {
-      so_far : counts_from m l.means l.number (counted (board_course now l.pending) l.tally) (g.L.LineSource.left l.lines)
+      so_far : counts_from m l.means l.number (count_state (board_course now l.pending) l.tally) (g.L.LineSource.left l.lines)
           ≡ counts_of (monitor l.setting.rules l.setting.seats l.setting.conds o (g.T.Guarded.state l.fn.object)) l.means
           (g.L.LineSource.left l.fn.lines);
       room : l.number + length (g.L.LineSource.left l.lines) ≤ most_lines;

@@ -3,7 +3,7 @@ use Rattle.std.proofs.lemmas.List.{take_all}
 use Rattle.std.specs.Prelude.{is_some}
 use Rattle.monk_history.specs.Meaning.Monitor.{monitor}
 use Rattle.monk_audit.specs.Replay.{replay_situation}
-use Rattle.monk_logs.specs.Kept.{kept}
+use Rattle.monk_logs.specs.Kept.{kept_events}
 use Rattle.monk_logs.specs.Stand.{monitor_in, stand}
 use Rattle.monk_logs.specs.declared.line.LogLine.{LogLine}
 use Rattle.monk_logs.proofs.CompletionLaws.Endings.{course_ends, course_fits, course_held}
@@ -20,7 +20,7 @@ loop-i-init g c =
     record {
       so_far = opens k.rules k.seats k.conds g.T.Guarded.meaning d t c.args.lines.now stands;
       sound = c.in_ok-replay.ensures.sound g.T.Guarded.PREDICATES;
-      course = course_opens (monitor k.rules k.seats k.conds g.T.Guarded.meaning d) t (kept c.args.past.now) stands
+      course = course_opens (monitor k.rules k.seats k.conds g.T.Guarded.meaning d) t (kept_events c.args.past.now) stands
           c.requires.fresh;
     }
 
@@ -35,8 +35,8 @@ loop-i-preserved g c =
           c.loop-i-test.true c.loop-i.invariant.so_far c.in_ok-left.ensures.judged c.in-Fits.is;
       sound = c.in_ok-left.ensures.sound;
       course = course_goes k.rules k.seats k.conds o (g.T.Guarded.state c.args.object) c.args.lines.now c.loop-i.i _ t u
-          c.loop-i.pending c.in-Fits.left c.in_ok-left.field-0 (is_some (kept c.args.past.now)) (kept c.loop-i.past)
-          (kept c.line_behind.new.past)
+          c.loop-i.pending c.in-Fits.left c.in_ok-left.field-0 (is_some (kept_events c.args.past.now)) (kept_events c.loop-i.past)
+          (kept_events c.line_behind.new.past)
           c.loop-i-test.true c.loop-i.invariant.course c.in_ok-left.ensures.judged c.in-Fits.is
           (c.in_ok-left.ensures.kept c.in-Fits.left c.in-Fits.is);
     }
@@ -61,7 +61,7 @@ end-requires-clause-fits g c =
     let m = monitor k.rules k.seats k.conds g.T.Guarded.meaning (g.T.Guarded.state c.args.object) in
     let t = replay_situation c.loop-i.replay (g.T.Guarded.state c.loop-i.object) in
     λ lives outlives e is. course_fits m (take c.loop-i.i c.args.lines.now) t
-    c.loop-i.pending (is_some (kept c.args.past.now)) (kept c.loop-i.past) g.T.Guarded.CODES g.T.Guarded.PREDICATES e
+    c.loop-i.pending (is_some (kept_events c.args.past.now)) (kept_events c.loop-i.past) g.T.Guarded.CODES g.T.Guarded.PREDICATES e
     c.loop-i.invariant.course g.T.Guarded.codes g.T.Guarded.predicates is
 
 pub returns-clause-completed : goal.returns-clause-completed
@@ -69,9 +69,9 @@ returns-clause-completed g c =
     let k = c.args.setting in
     let m = monitor k.rules k.seats k.conds g.T.Guarded.meaning (g.T.Guarded.state c.args.object) in
     let t = replay_situation c.loop-i.replay (g.T.Guarded.state c.loop-i.object) in
-    let wanted = is_some (kept c.args.past.now) in
-    λ fits. course_ends m c.args.lines.now t c.loop-i.pending wanted (kept c.loop-i.past) (kept c.end.new.past) c.requires.kind
-    (subst (λ (log : List LogLine). IsCourse m log t c.loop-i.pending wanted (kept c.loop-i.past))
+    let wanted = is_some (kept_events c.args.past.now) in
+    λ fits. course_ends m c.args.lines.now t c.loop-i.pending wanted (kept_events c.loop-i.past) (kept_events c.end.new.past) c.requires.kind
+    (subst (λ (log : List LogLine). IsCourse m log t c.loop-i.pending wanted (kept_events c.loop-i.past))
     (take_all c.loop-i.i c.args.lines.now c.loop-i-test.false) c.loop-i.invariant.course) c.in_ok-end.ensures
 
 pub line_behind-requires-clause-held : goal.line_behind-requires-clause-held
@@ -79,4 +79,4 @@ line_behind-requires-clause-held g c =
     let k = c.args.setting in
     let t = replay_situation c.loop-i.replay (g.T.Guarded.state c.loop-i.object) in
     λ lives outlives. course_held k.rules k.seats k.conds g.T.Guarded.meaning (g.T.Guarded.state c.args.object)
-    (take c.loop-i.i c.args.lines.now) t c.loop-i.pending (is_some (kept c.args.past.now)) (kept c.loop-i.past) c.loop-i.invariant.course
+    (take c.loop-i.i c.args.lines.now) t c.loop-i.pending (is_some (kept_events c.args.past.now)) (kept_events c.loop-i.past) c.loop-i.invariant.course

@@ -11,7 +11,7 @@ use Rattle.monk_audit.specs.Replay.{replay_situation}
 use Rattle.monk_history.specs.Meaning.Situation.{Situation}
 use Rattle.monk_kinds.specs.declared.mode.Rules.{Rules}
 use Rattle.monk_audit.specs.declared.verdict.Verdict.TheVariants.{Forbidden}
-use Rattle.monk_tell.specs.Told.{blamed}
+use Rattle.monk_tell.specs.Told.{blame_of_event}
 use Rattle.monk_tell.proofs.TellLaws.{reason_opening, same_told}
 use Rattle.monk_tell.proofs.told.tell_forbidden.Goals as goal
 
@@ -49,6 +49,6 @@ returns g c =
     let event = get_or c.args.events.now (c.args.step - 1) (Enter 0 Free) in
     same_told (Forbidden c.args.step c.args.reason) _ _ _ _ c.in_ok-replay.ensures.shown
     (c.in_ok-blame.ensures
-    ∙ ap (λ (k : Rules). blamed k o (replay_situation c.in_ok-replay.replay (g.T.Guarded.state c.standing.new.object)) c.args.step
+    ∙ ap (λ (k : Rules). blame_of_event k o (replay_situation c.in_ok-replay.replay (g.T.Guarded.state c.standing.new.object)) c.args.step
     c.args.reason event why) (c.rules_by_name-rules.ensures ∙ ap rules_named c.kind.ensures)
-    ∙ ap (λ (t : Situation). blamed rules o t c.args.step c.args.reason event why) c.in_ok-replay.ensures.stands)
+    ∙ ap (λ (t : Situation). blame_of_event rules o t c.args.step c.args.reason event why) c.in_ok-replay.ensures.stands)

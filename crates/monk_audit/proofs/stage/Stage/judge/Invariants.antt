@@ -1,9 +1,9 @@
-use Rattle.monk_audit.specs.Pieces.{owed, stages_left, AsksForNone, IsCarried, IsSound}
+use Rattle.monk_audit.specs.Pieces.{owed_verdict, stages_left, AsksForNone, IsCarried, IsSound}
 use Rattle.monk_audit.proofs.stage.Stage.judge.Given as goal
 
 abbrev pub invariant-loop-next : goal.invariant-loop-next
 invariant-loop-next l = record {
-  carried : IsCarried (owed l.fn.self) l.fn.bytes (owed l.self) l.rest;
+  carried : IsCarried (owed_verdict l.fn.self) l.fn.bytes (owed_verdict l.self) l.rest;
   sound : IsSound l.self;
   none : AsksForNone l.fn.self l.fn.bytes → AsksForNone l.self l.rest;
 }

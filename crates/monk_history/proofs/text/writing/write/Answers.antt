@@ -1,5 +1,5 @@
 use Rattle.std.proofs.Common.{◌≡◌, take, false}
-use Rattle.monk_history.specs.Text.Device.{held, has_failed}
+use Rattle.monk_history.specs.Text.Device.{inner_of, has_failed}
 use Rattle.std.proofs.ByRecursion.{All-more}
 use Rattle.monk_history.specs.Text.{text, EventFits}
 use Rattle.monk_history.proofs.TextLaws.PagedText.{IsOnItsWay, grows, text-more, sends}
@@ -11,7 +11,7 @@ loop-event-preserved g c =
     let k = g.W.Write.contents in
     let here = c.loop-event.invariant in
     let room : (has_failed c.if-room-lt-LONGEST_LINE.out ≡ false)
-    × IsOnItsWay (k (held c.args.out.now)) (k (held c.if-room-lt-LONGEST_LINE.out)) c.if-room-lt-LONGEST_LINE.page
+    × IsOnItsWay (k (inner_of c.args.out.now)) (k (inner_of c.if-room-lt-LONGEST_LINE.out)) c.if-room-lt-LONGEST_LINE.page
     (text c.args.header.now (take c.loop-event.event-index c.args.events.now)) =
     elim c.if-room-lt-LONGEST_LINE.branch [
       | then-room-lt-LONGEST_LINE+in_ok-send w ↦

@@ -1,6 +1,6 @@
 use Rattle.std.proofs.Common.{◌≡◌, false}
 use Rattle.std.proofs.lemmas.Result.{on_ok_weaker}
-use Rattle.monk_history.specs.Text.Device.{held, has_failed}
+use Rattle.monk_history.specs.Text.Device.{inner_of, has_failed}
 use Rattle.monk_history.proofs.TextLaws.PagedText.{IsWritten, written_more, written_out, written_sent}
 use Rattle.monk_history.proofs.text.writing.write_lines.Goals.{then-room-lt-LONGEST_LINE+in_ok-send, else-room-lt-LONGEST_LINE}
 use Rattle.monk_history.proofs.text.writing.write_lines.Goals as goal
@@ -10,7 +10,7 @@ loop-event-preserved g c =
     let k = g.W.Write.contents in
     let here = c.loop-event.invariant in
     let room : (has_failed c.if-room-lt-LONGEST_LINE.out ≡ false)
-    × IsWritten (k (held c.args.out.now)) (k (held c.if-room-lt-LONGEST_LINE.out)) c.if-room-lt-LONGEST_LINE.page
+    × IsWritten (k (inner_of c.args.out.now)) (k (inner_of c.if-room-lt-LONGEST_LINE.out)) c.if-room-lt-LONGEST_LINE.page
     c.args.header.now c.loop-event.lines.1 c.args.lines.1 =
     elim c.if-room-lt-LONGEST_LINE.branch [
       | then-room-lt-LONGEST_LINE+in_ok-send w ↦
@@ -28,7 +28,7 @@ pub returns-clause-ok : goal.returns-clause-ok
 returns-clause-ok g c =
     let k = g.W.Write.contents in
     on_ok_weaker c.send-2.result (λ sent. (
-      written_out (k (held c.args.out.now)) (k (held c.loop-event.out)) (k (held c.send-2.new.out)) c.loop-event.page
+      written_out (k (inner_of c.args.out.now)) (k (inner_of c.loop-event.out)) (k (inner_of c.send-2.new.out)) c.loop-event.page
           c.args.header.now c.loop-event.lines.1 c.args.lines.1 c.in_default.ensures.item c.loop-event.invariant.written sent.0,
       sent.1,
     ))

@@ -1,12 +1,12 @@
 use Rattle.std.proofs.Common.{◌≡◌, false, length}
-use Rattle.monk_history.specs.Text.Device.{held, has_failed}
+use Rattle.monk_history.specs.Text.Device.{inner_of, has_failed}
 use Rattle.monk_history.proofs.TextLaws.PagedText.{IsWritten}
 use Rattle.monk_history.proofs.text.writing.write_lines.Given as goal
 
 abbrev pub invariant-loop-event : goal.invariant-loop-event
 invariant-loop-event g l = record {
   sound : has_failed l.out ≡ false;
-  written : IsWritten (g.W.Write.contents (held l.fn.out)) (g.W.Write.contents (held l.out)) l.page l.header l.lines.1 l.fn.lines.1;
+  written : IsWritten (g.W.Write.contents (inner_of l.fn.out)) (g.W.Write.contents (inner_of l.out)) l.page l.header l.lines.1 l.fn.lines.1;
 }
 
 abbrev pub decreases-loop-event : goal.decreases-loop-event
