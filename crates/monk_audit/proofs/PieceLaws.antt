@@ -259,7 +259,8 @@ gives_same (Ok v) x is = sym is
 gives_same (Err f) x is = λ _. sym is
 
 -- what is owed to bytes behind which nothing comes
-pub at_end : (s t : Stage) (bytes rest : List ℕ) → IsCarried (owed_verdict s) bytes (owed_verdict t) rest → owed_verdict s bytes ≡ owed_verdict t rest
+pub at_end : (s t : Stage) (bytes rest : List ℕ) → IsCarried (owed_verdict s) bytes (owed_verdict t) rest
+    → owed_verdict s bytes ≡ owed_verdict t rest
 at_end s t bytes rest carried =
     ap (owed_verdict s) (sym (append-nil bytes)) ∙ (carried [] ∙ ap (owed_verdict t) (append-nil rest))
 
@@ -332,8 +333,8 @@ no_bytes : (xs : List ℕ) → (length xs == 0) ≡ true → xs ≡ []
 no_bytes [] e = refl
 no_bytes (x ∷ xs) e = absurd (omega (arith, eqb-true (length (x ∷ xs)) 0 e))
 
-pub whole_ended : (r : Result TextVerdict ReadFault) (s t : Stage) (bytes rest : List ℕ) → IsCarried (owed_verdict s) bytes (owed_verdict t) rest
-    → (length rest == 0) ≡ true → r ≡ owed_verdict t [] → r ≡ owed_verdict s bytes
+pub whole_ended : (r : Result TextVerdict ReadFault) (s t : Stage) (bytes rest : List ℕ)
+    → IsCarried (owed_verdict s) bytes (owed_verdict t) rest → (length rest == 0) ≡ true → r ≡ owed_verdict t [] → r ≡ owed_verdict s bytes
 whole_ended r s t bytes rest carried empty is =
     is ∙ sym (at_end s t bytes rest carried ∙ ap (owed_verdict t) (no_bytes rest empty))
 

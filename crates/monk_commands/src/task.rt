@@ -63,7 +63,8 @@ impl Task<'_> {
         // What is written, and its status, are what the command answers to what the reader had.
         ensures answer { IfOk result
             (λ status. IfSome (R.remaining (inner_of reader.old))
-            (λ input. IsTaskAnswer self.entry input status (Appends (W.contents (inner_of writer.old)) (W.contents (inner_of writer.new))))) }
+            (λ input. IsTaskAnswer self.entry input status
+            (Appends (W.contents (inner_of writer.old)) (W.contents (inner_of writer.new))))) }
         ensures statuses { IfOk result (λ status. status ≤ 2) }
         ensures all_read { OnOk result (IsAtEnd (R.remaining (inner_of reader.new))) }
 

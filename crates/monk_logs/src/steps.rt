@@ -276,7 +276,8 @@ fn line_told<T: Guarded>(
     ensures sound { OnOk result (IsReplayOf setting.seats setting.conds T.PREDICATES replay.new) }
     ensures kept { IfOk result
         (λ v. (left : Pending) → v ≡ LineVerdict.Fits left → kept_events past.new
-        ≡ grown (kept_events past.old) (told_events T.meaning (replay_situation replay.old (T.state object.old)) (Pending.Release event) line)) }
+        ≡ grown (kept_events past.old)
+        (told_events T.meaning (replay_situation replay.old (T.state object.old)) (Pending.Release event) line)) }
 {
     let told = told_release(replay, event, line);
     if !follows(setting, replay, object, told, line) {

@@ -2,7 +2,8 @@
 
 ghost use Rattle.std.specs.Prelude.{◌≡◌, ◌<◌, [], All, IfOk};
 ghost use Rattle.monk_audit.specs.Replay.{replay_situation};
-ghost use Rattle.monk_tell.specs.Told.{condition_lists, conditions_below, inside_below, queues_of, queues_shown, shown_standing, situation_of};
+ghost use Rattle.monk_tell.specs.Told.{condition_lists, conditions_below, inside_below, queues_of, queues_shown, shown_standing};
+ghost use Rattle.monk_tell.specs.Told.{situation_of};
 
 use crate::lines::{queue_at, ready_seats, signallers, untils, waiters};
 use crate::lists::{Numbers, Seats, Waits};

@@ -96,7 +96,8 @@ known_leads : (m : Monitor) (h past : List Event) (f g : Event) (l : LogLine) �
 known_leads m h past f g l legal is_legal same allowed alike line =
     record {
       to = settled_course (past ++ g ∷ []);
-      judged = one_line m past Settled l (settled_course (past ++ g ∷ [])) (line ∙ ap (option_map settled_course) (add_ok m past g allowed));
+      judged = one_line m past Settled l (settled_course (past ++ g ∷ []))
+          (line ∙ ap (option_map settled_course) (add_ok m past g allowed));
       follows = record {
         legal = legal-push m past g is_legal allowed;
         at = legal_situation-push m past g is_legal ∙ alike ∙ ap (λ (t : Situation). after m.object t f) same

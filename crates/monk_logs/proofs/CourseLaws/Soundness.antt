@@ -20,7 +20,8 @@ use Rattle.monk_history.specs.Meaning.Signallers.{is_empty}
 use Rattle.monk_history.specs.Meaning.Situation.{situation}
 use Rattle.monk_history.specs.Meaning.Turn.{turn}
 use Rattle.monk_history.proofs.PublicLaws.Meaning.{allowed_from_reason, chosen_allowed, legal-push, legal_none, legal_order}
-use Rattle.monk_logs.specs.Course.{Course, course, settled_course, add, hold, behind_events, behind_half, then_behind, behind, judge_from, judge}
+use Rattle.monk_logs.specs.Course.{Course, course, settled_course, add, hold, behind_events, behind_half, then_behind, behind, judge_from}
+use Rattle.monk_logs.specs.Course.{judge}
 use Rattle.monk_logs.specs.Course.{due_from}
 use Rattle.monk_logs.specs.Erasure.{erasure_of, erasure}
 use Rattle.monk_logs.specs.Fits.{IsOpen}

@@ -82,7 +82,8 @@ tells_it : (e : Event) (steps : List Step) (log : List LogLine) → Behind (eras
 tells_it e steps log c =
     record { history = e ∷ []; later = steps; is = refl; more = c.over; erases = append-nil (erasure_of e) ∙ c.is }
 
-tells_on : (e : Event) (steps : List Step) (log left : List LogLine) → log ≡ erasure_of e ++ left → Tells steps left → Tells (Did e ∷ steps) log
+tells_on : (e : Event) (steps : List Step) (log left : List LogLine) → log ≡ erasure_of e ++ left → Tells steps left
+    → Tells (Did e ∷ steps) log
 tells_on e steps log left is t = record {
   history = e ∷ t.history;
   later = t.later;

@@ -10,7 +10,8 @@ use Rattle.monk_history.specs.Meaning.Conditions.{served_of}
 use Rattle.monk_history.specs.Meaning.Events.{seat_of, signals_on, waits_on}
 use Rattle.monk_history.specs.Meaning.Signallers.{is_empty}
 use Rattle.monk_logs.specs.Board.{given_by, waiting_item}
-use Rattle.monk_logs.specs.Items.{line, seats_in, services_in, unserved_in, condition_of, services, without_seat, taken_out, without_service}
+use Rattle.monk_logs.specs.Items.{line, seats_in, services_in, unserved_in, condition_of, services, without_seat, taken_out}
+use Rattle.monk_logs.specs.Items.{without_service}
 use Rattle.monk_logs.specs.Order.{is_among}
 use Rattle.monk_logs.specs.declared.item.Item.{Item}
 use Rattle.monk_logs.specs.declared.item.Item.TheVariants.{Waiting, Service}

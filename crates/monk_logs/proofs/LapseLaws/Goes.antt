@@ -2,7 +2,8 @@
 use Rattle.std.proofs.Common.{◌≡◌, ℕ, true, false, List, refl, sym, ap, ◌∙◌, ⊎_elim, subst, Option, Some, drop}
 use Rattle.std.specs.Option.{option_map_or}
 use Rattle.std.proofs.lemmas.Bool.{cases_Bool}
-use Rattle.monk_logs.specs.Items.{line, seats_in, services_in, keeps_up, condition_of, can_be_served, can_be_unserved, without_seat, may_lapse}
+use Rattle.monk_logs.specs.Items.{line, seats_in, services_in, keeps_up, condition_of, can_be_served, can_be_unserved, without_seat}
+use Rattle.monk_logs.specs.Items.{may_lapse}
 use Rattle.monk_logs.specs.Items.{has_service_behind, may_resume, taken_out, was_served}
 use Rattle.monk_logs.specs.Order.{is_among}
 use Rattle.monk_logs.specs.declared.item.Item.{Item}

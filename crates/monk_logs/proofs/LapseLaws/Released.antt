@@ -157,7 +157,8 @@ module _ (m : Monitor) (level : IsLevel m.kind) (xs : List Item) (b : Board) (h 
         let may : may_lapse Any s after.items ≡ true =
         lapse_from Any s c after.items on ∙ (ap (λ (l : List Item). keeps_up 0 (line c l)) gone ∙ gone_keeps c waits never) in
         let is : board_lapse after s ≡ with_items (without_seat s after.items) (served b) =
-        ap (λ (y : Board). board_lapse y s) t.comes_to ∙ ap (λ (y : Board). with_items (without_seat s after.items) y) (sym (served_is b)) in
+        ap (λ (y : Board). board_lapse y s) t.comes_to
+        ∙ ap (λ (y : Board). with_items (without_seat s after.items) y) (sym (served_is b)) in
         record {
           passes = t.passes;
           may = may;

@@ -70,7 +70,8 @@ returns-clause-completed g c =
     let m = monitor k.rules k.seats k.conds g.T.Guarded.meaning (g.T.Guarded.state c.args.object) in
     let t = replay_situation c.loop-i.replay (g.T.Guarded.state c.loop-i.object) in
     let wanted = is_some (kept_events c.args.past.now) in
-    λ fits. course_ends m c.args.lines.now t c.loop-i.pending wanted (kept_events c.loop-i.past) (kept_events c.end.new.past) c.requires.kind
+    λ fits. course_ends m c.args.lines.now t c.loop-i.pending wanted (kept_events c.loop-i.past) (kept_events c.end.new.past)
+    c.requires.kind
     (subst (λ (log : List LogLine). IsCourse m log t c.loop-i.pending wanted (kept_events c.loop-i.past))
     (take_all c.loop-i.i c.args.lines.now c.loop-i-test.false) c.loop-i.invariant.course) c.in_ok-end.ensures
 
@@ -79,4 +80,5 @@ line_behind-requires-clause-held g c =
     let k = c.args.setting in
     let t = replay_situation c.loop-i.replay (g.T.Guarded.state c.loop-i.object) in
     λ lives outlives. course_held k.rules k.seats k.conds g.T.Guarded.meaning (g.T.Guarded.state c.args.object)
-    (take c.loop-i.i c.args.lines.now) t c.loop-i.pending (is_some (kept_events c.args.past.now)) (kept_events c.loop-i.past) c.loop-i.invariant.course
+    (take c.loop-i.i c.args.lines.now) t c.loop-i.pending (is_some (kept_events c.args.past.now)) (kept_events c.loop-i.past)
+    c.loop-i.invariant.course
