@@ -22,6 +22,30 @@ const CUSTOMER_SITS: u8 = 1;
 /// The condition that a cut is done.
 const CUT_DONE: u8 = 2;
 
+/// A customer sits down.
+const SIT: Op = Op {
+    code: Shop::SIT,
+    arg: 0,
+};
+
+/// A customer departs.
+const DEPART: Op = Op {
+    code: Shop::DEPART,
+    arg: 0,
+};
+
+/// The barber calls a customer.
+const CALL: Op = Op {
+    code: Shop::CALL,
+    arg: 0,
+};
+
+/// The barber finishes a cut.
+const FINISH: Op = Op {
+    code: Shop::FINISH,
+    arg: 0,
+};
+
 /// Has its hair cut: sits down once a seat is free, and departs once its hair is cut. Customers are not told apart, so
 /// whoever comes first takes the cut that is done.
 pub fn sit_and_cut<K: Style, R: Wait>(
@@ -33,57 +57,27 @@ pub fn sit_and_cut<K: Style, R: Wait>(
     requires conds { Offers K.rules pass.me.setting.conds 3 }
     ensures { HasVisited K.rules shop_meaning pass (sits ∷ departs ∷ []) result.0 result.1 }
 {
-    let (pass, end) = sit(pass, rt, hall);
-    match end {
-        End::Done => depart(pass, rt, hall),
-        _ => (pass, end),
-    }
-}
-
-/// The customer's first visit.
-fn sit<K: Style, R: Wait>(pass: Pass<K, Shop>, rt: &R, hall: &Hall<K, Shop>) -> (Pass<K, Shop>, End)
-    requires hall { pass.hall ≡ hall.now.id }
-    requires conds { Offers K.rules pass.me.setting.conds 3 }
-    ensures { HasVisited K.rules shop_meaning pass (sits ∷ []) result.0 result.1 }
-{
-    let sit = Op {
-        code: Shop::SIT,
-        arg: 0,
-    };
-    act_and_finish(
+    let (pass, end) = act_and_finish(
         pass,
         rt,
         hall,
         SEAT_FREE,
         Shop::HAS_SEAT,
-        sit,
+        SIT,
         CUSTOMER_SITS,
-    )
-}
-
-/// The customer's second visit.
-fn depart<K: Style, R: Wait>(
-    pass: Pass<K, Shop>,
-    rt: &R,
-    hall: &Hall<K, Shop>,
-) -> (Pass<K, Shop>, End)
-    requires hall { pass.hall ≡ hall.now.id }
-    requires conds { Offers K.rules pass.me.setting.conds 3 }
-    ensures { HasVisited K.rules shop_meaning pass (departs ∷ []) result.0 result.1 }
-{
-    let depart = Op {
-        code: Shop::DEPART,
-        arg: 0,
-    };
-    act_and_finish(
-        pass,
-        rt,
-        hall,
-        CUT_DONE,
-        Shop::IS_DONE,
-        depart,
-        CUSTOMER_SITS,
-    )
+    );
+    match end {
+        End::Done => act_and_finish(
+            pass,
+            rt,
+            hall,
+            CUT_DONE,
+            Shop::IS_DONE,
+            DEPART,
+            CUSTOMER_SITS,
+        ),
+        _ => (pass, end),
+    }
 }
 
 /// A turn of the barber: calls the next customer once one sits and the chair is empty, and finishes the cut. Nothing
@@ -97,36 +91,19 @@ pub fn barber_turn<K: Style, R: Wait>(
     requires conds { Offers K.rules pass.me.setting.conds 3 }
     ensures { HasVisited K.rules shop_meaning pass (calls ∷ finishes ∷ []) result.0 result.1 }
 {
-    let (pass, end) = call(pass, rt, hall);
-    match end {
-        End::Done => finish_cut(pass, rt, hall),
-        _ => (pass, end),
-    }
-}
-
-/// The barber's first visit.
-fn call<K: Style, R: Wait>(
-    pass: Pass<K, Shop>,
-    rt: &R,
-    hall: &Hall<K, Shop>,
-) -> (Pass<K, Shop>, End)
-    requires hall { pass.hall ≡ hall.now.id }
-    requires conds { Offers K.rules pass.me.setting.conds 3 }
-    ensures { HasVisited K.rules shop_meaning pass (calls ∷ []) result.0 result.1 }
-{
-    let call = Op {
-        code: Shop::CALL,
-        arg: 0,
-    };
-    act_and_finish(
+    let (pass, end) = act_and_finish(
         pass,
         rt,
         hall,
         CUSTOMER_SITS,
         Shop::CAN_CALL,
-        call,
+        CALL,
         SEAT_FREE,
-    )
+    );
+    match end {
+        End::Done => finish_cut(pass, rt, hall),
+        _ => (pass, end),
+    }
 }
 
 /// The barber's second visit.
@@ -139,11 +116,7 @@ fn finish_cut<K: Style, R: Wait>(
     requires conds { Offers K.rules pass.me.setting.conds 3 }
     ensures { HasVisited K.rules shop_meaning pass (finishes ∷ []) result.0 result.1 }
 {
-    let finish = Op {
-        code: Shop::FINISH,
-        arg: 0,
-    };
-    match act_now(pass, rt, hall, finish) {
+    match act_now(pass, rt, hall, FINISH) {
         Ok((active, _)) => K::finish(active, rt, hall, CUT_DONE),
         Err(pass) => (pass, End::Tired),
     }
