@@ -10,7 +10,7 @@ use Rattle.std.specs.Prelude.{◌⊎◌, IfOk, IfSome}
 use Rattle.monk_history.specs.Text.{Heading}
 use Rattle.monk_history.specs.Text.Words.{◌>>=◌}
 use Rattle.monk_history.specs.Text.Lines.{Gives, LinesLeft, is_unended, lines_of, opened_at}
-use Rattle.monk_history.specs.Text.Pieces.{IsHeadOf, IsNextOfPiece, PieceLeft, items_with, piece_left}
+use Rattle.monk_history.specs.Text.Pieces.{IsHeadOf, IsNextOfPiece, PieceLeft, items_with}
 use Rattle.monk_history.specs.Text.Reading.{event_under, header_at}
 use Rattle.monk_history.specs.declared.event.Event.{Event}
 use Rattle.monk_history.specs.declared.text.fault.ReadFault.{ReadFault}
@@ -33,7 +33,7 @@ use Rattle.monk_object.specs.Names.{meaning_named, most, opening_named}
 use Rattle.monk_object.specs.declared.name.ObjectName.{ObjectName}
 use Rattle.monk_audit.specs.Replay.{replay_situation}
 use Rattle.monk_audit.specs.Pieces.{events_from, found_from, judged_from_here, monitor_of, owed_verdict, verdict_from_here}
-use Rattle.monk_audit.specs.Pieces.{stages_left, AsksForNone, IsCarried, IsCourseStep, IsFaulty, IsJudgedStep}
+use Rattle.monk_audit.specs.Pieces.{stages_left, AsksForNone, IsCarried, IsCourseStep, IsFaulty, IsJudgedStep, IsLast}
 use Rattle.monk_audit.specs.Pieces.{IsSound, IsSoundCourse, IsStageStep}
 use Rattle.monk_audit.specs.declared.course.Course.{Course}
 use Rattle.monk_audit.specs.declared.stage.Stage.{Stage}
@@ -45,11 +45,6 @@ use Rattle.monk_audit.specs.declared.verdict.Verdict.TheVariants.{Forbidden, Leg
 use Rattle.monk_audit.proofs.AuditLaws.{reason_opening}
 use Rattle.monk_audit.proofs.ReadingLaws.{forbidden_then, judged_end, judged_fault, judged_is, not_opened_text}
 use Rattle.monk_audit.proofs.ReadingLaws.{opened_text}
-
--- the lines of a piece behind so many events are those that the piece is opened with
-pub piece_begins : (h : Heading) (count : ℕ) (p : PieceLeft) (bytes : List ℕ) → p ≡ piece_left bytes (count + 2) (2 ^ 25 - count)
-    → (more : List ℕ) → items_with (event_under h) p more ≡ events_from h count (bytes ++ more)
-piece_begins h count p bytes is more = rw is refl
 
 -- and what is left of them is behind the events that were read
 pub piece_ends : (h : Heading) (count : ℕ) (p : PieceLeft) (rest : List ℕ) → p.number ≡ count + 2 → count + p.room ≡ 2 ^ 25
@@ -221,13 +216,20 @@ judged_step (Some v) next o c e d f bytes rest step few is =
           ∙ (found_judged (events_from e.header e.count (rest ++ more)) v
           ∙ sym (owed_found e.header e.count (Judged v) (rest ++ more))),
       few,
-      refl,
+      tt,
     )
   where
     found_judged : (read : Result (List Event) ReadFault) (v : Verdict)
         → ((read_through read >>= λ _. Ok v) >>= λ w. Ok (Judged w)) ≡ (read_through read >>= λ _. Ok (Judged v))
     found_judged (Ok es) v = refl
     found_judged (Err g) v = refl
+
+last_left : (s : Stage) → IsLast s → stages_left s ≡ 0
+last_left stage.Opening last = absurd last
+last_left (stage.Buffer c object) last = absurd last
+last_left (stage.Book c object) last = absurd last
+last_left (stage.Shop c object) last = absurd last
+last_left (stage.Found h count found) last = refl
 
 pub stage_step : (next : Option Stage) (old new : Stage) (total left : List ℕ → Result TextVerdict ReadFault) (bytes rest : List ℕ)
     → ((x : List ℕ) → owed_verdict old x ≡ total x) → ((x : List ℕ) → owed_verdict new x ≡ left x) → IsSound new → stages_left old ≡ 1
@@ -238,7 +240,7 @@ stage_step None old new total left bytes rest was is sound one asks step =
 stage_step (Some s) old new total left bytes rest was is sound one asks step = (
   λ more. was (bytes ++ more) ∙ step.0 more,
   step.1,
-  omega (arith, step.2, one),
+  omega (arith, last_left s step.2, one),
   λ none. absurd (asks bytes none),
 )
 

@@ -72,6 +72,14 @@ stages_left (Book c object) = 1
 stages_left (Shop c object) = 1
 stages_left (Found h count found) = 0
 
+-- nothing more is judged: no stage is still to come
+abbrev pub IsLast : Stage → Type 0
+IsLast Opening = ⊥
+IsLast (Buffer c object) = ⊥
+IsLast (Book c object) = ⊥
+IsLast (Shop c object) = ⊥
+IsLast (Found h count found) = Unit {0}
+
 -- what was owed to a piece and what comes behind it is owed to what is left of the piece and what comes behind it
 abbrev pub IsCarried : {X : Type 0} → (List ℕ → X) → List ℕ → (List ℕ → X) → List ℕ → Type 0
 IsCarried old bytes new rest = (more : List ℕ) → old (bytes ++ more) ≡ new (rest ++ more)
@@ -98,7 +106,7 @@ IsCourseStep (Some v) bytes rest old new found = IsCarried old bytes (found v) r
 abbrev pub IsJudgedStep : Option Stage → List ℕ → List ℕ → (List ℕ → Result TextVerdict ReadFault)
     → (List ℕ → Result TextVerdict ReadFault) → Type 0
 IsJudgedStep None bytes rest old new = IsCarried old bytes new rest × (is_unended rest ≡ true)
-IsJudgedStep (Some stage) bytes rest old new = IsCarried old bytes (owed_verdict stage) rest × IsSound stage × (stages_left stage ≡ 0)
+IsJudgedStep (Some stage) bytes rest old new = IsCarried old bytes (owed_verdict stage) rest × IsSound stage × IsLast stage
 
 -- the stage that follows, if one does; else no further line ends in what is left
 abbrev pub IsStageStep : Option Stage → List ℕ → List ℕ → Stage → Stage → Type 0

@@ -148,7 +148,7 @@ fn open(alloc: Global, bytes: &[u8]) -> Result<(Option<Stage>, &[u8]), ReadFault
 fn stage_behind(alloc: Global, header: Header) -> Result<Stage, ReadFault>
     ensures verdict { IfOk result (λ s. (x : List ℕ) → owed_verdict s x ≡ lines_verdict header (events_from header 0 x)) }
     ensures sound { IfOk result IsSound }
-    ensures left { IfOk result (λ s. stages_left s < 2) }
+    ensures left { IfOk result (λ s. stages_left s < stages_left Stage.Opening) }
     ensures spares { IfOk result (λ s. most header.object < header.size → (x : List ℕ) → AsksForNone s x) }
     ensures fault { IfErr result (λ f. (f ≡ memory) × (header.size ≤ most header.object)) }
 {

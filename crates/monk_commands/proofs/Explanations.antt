@@ -16,7 +16,7 @@ use Rattle.monk_history.specs.Text.Reading.{History, history, text_at}
 use Rattle.monk_audit.specs.Verdict.{verdict_of}
 use Rattle.monk_audit.specs.declared.verdict.Verdict.{Verdict}
 use Rattle.monk_audit.specs.declared.verdict.Verdict.TheVariants.{Legal, Forbidden}
-use Rattle.monk_tell.specs.Told.{Told, told, told_by}
+use Rattle.monk_tell.specs.Told.{Account, account, account_by}
 use Rattle.monk_tell.specs.Words.{telling_text}
 use Rattle.monk_tell.specs.declared.why.Why.{Why}
 use Rattle.monk_tell.specs.declared.why.Why.TheVariants.{Already}
@@ -24,7 +24,7 @@ use Rattle.monk_commands.specs.Answer.{Answer, answer_of, reading_answer, too_bi
 use Rattle.monk_commands.specs.Explained.{BeginsAsAudit, IsExplained, IsExplanationOf, explain_reading, told_answer}
 
 -- the verdict that is told is that of the audit
-verdict_told : (k : KindName) (m : Monitor) (es : List Event) (why : Why) (v : Verdict) → (told_by k m es why v).verdict ≡ v
+verdict_told : (k : KindName) (m : Monitor) (es : List Event) (why : Why) (v : Verdict) → (account_by k m es why v).verdict ≡ v
 verdict_told k m es why (Legal n) = refl
 verdict_told k m es why (Forbidden step reason) = refl
 
@@ -36,11 +36,11 @@ begins_self : (a : Answer) → Begins a a
 begins_self a = (refl, ([], sym (append-nil a.text)))
 
 begins_told : (why : Why) (h : Heading) (es : List Event)
-    → Begins (told_answer (told h es why)) (verdict_answer (verdict_of (named_monitor h) es))
+    → Begins (told_answer (account h es why)) (verdict_answer (verdict_of (named_monitor h) es))
 begins_told why h es =
-    subst (λ (v : Verdict). Begins (told_answer (told h es why)) (verdict_answer v))
+    subst (λ (v : Verdict). Begins (told_answer (account h es why)) (verdict_answer v))
     (verdict_told h.kind (named_monitor h) es why (verdict_of (named_monitor h) es))
-    (refl, (telling_text (told h es why), refl))
+    (refl, (telling_text (account h es why), refl))
 
 begins_by : (b : Bool) (x y : Answer) → Begins x y → Begins (cond b too_big x) (cond b too_big y)
 begins_by true x y begins = begins_self too_big
@@ -48,20 +48,20 @@ begins_by false x y begins = begins
 
 begins_read : (why : Why) (r : Result History ReadFault) → Begins (explain_reading why r) (reading_answer r)
 begins_read why (Ok h) =
-    begins_by (ltb (most h.0.object) h.0.size) (told_answer (told h.0 h.1 why)) (verdict_answer (verdict_of (named_monitor h.0) h.1))
+    begins_by (ltb (most h.0.object) h.0.size) (told_answer (account h.0 h.1 why)) (verdict_answer (verdict_of (named_monitor h.0) h.1))
     (begins_told why h.0 h.1)
 begins_read why (Err f) = begins_self (unreadable f)
 
 -- ---- what was read, and what of it is known
 
 -- the size is within the object's greatest, so the history is told of
-pub explained_told : (h : Heading) (es : List Event) (why : Why) (t : Told) (status : ℕ) (Puts : List ℕ → Type 0)
-    → t ≡ told h es why → h.size ≤ most h.object
+pub explained_told : (h : Heading) (es : List Event) (why : Why) (t : Account) (status : ℕ) (Puts : List ℕ → Type 0)
+    → t ≡ account h es why → h.size ≤ most h.object
     → status ≡ (told_answer t).status → Puts (told_answer t).text → IsExplained (Ok (history h es)) status Puts
 explained_told h es why t status Puts is fits same put =
     let small : ltb (most h.object) h.size ≡ false = le-ltb _ _ fits in
-    let given : cond (ltb (most h.object) h.size) too_big (told_answer (told h es why)) ≡ told_answer t =
-    ap (λ (b : Bool). cond b too_big (told_answer (told h es why))) small ∙ ap told_answer (sym is) in
+    let given : cond (ltb (most h.object) h.size) too_big (told_answer (account h es why)) ≡ told_answer t =
+    ap (λ (b : Bool). cond b too_big (told_answer (account h es why))) small ∙ ap told_answer (sym is) in
     (why, (same ∙ sym (ap (λ (a : Answer). a.status) given), subst (λ (a : Answer). Puts a.text) (sym given) put))
 
 -- the size is too great
@@ -70,8 +70,8 @@ pub explained_too_big : (h : Heading) (es : List Event) (status : ℕ) (Puts : L
 explained_too_big h es status Puts big same put =
     let why = Already 0 in
     let great : ltb (most h.object) h.size ≡ true = lt-ltb _ _ big in
-    let given : cond (ltb (most h.object) h.size) too_big (told_answer (told h es why)) ≡ too_big =
-    ap (λ (b : Bool). cond b too_big (told_answer (told h es why))) great in
+    let given : cond (ltb (most h.object) h.size) too_big (told_answer (account h es why)) ≡ too_big =
+    ap (λ (b : Bool). cond b too_big (told_answer (account h es why))) great in
     (why, (same ∙ sym (ap (λ (a : Answer). a.status) given), subst (λ (a : Answer). Puts a.text) (sym given) put))
 
 -- of no history
@@ -80,20 +80,10 @@ pub refused_explained : (bytes : List ℕ) (f : ReadFault) (status : ℕ) (Puts 
 refused_explained bytes f status Puts read same put =
     subst (λ (r : Result History ReadFault). IsExplained r status Puts) (sym read) (Already 0, (same, put))
 
-pub read_explained : (bytes : List ℕ) (r : Result History ReadFault) (status : ℕ) (Puts : List ℕ → Type 0) → text_at (2 ^ 25) bytes ≡ r
-    → IsExplained r status Puts → IsExplanationOf bytes status Puts
-read_explained bytes r status Puts read told = subst (λ (x : Result History ReadFault). IsExplained x status Puts) (sym read) told
-
 -- what answers a text is written
 pub put_explained : (bytes : List ℕ) (given status : ℕ) (text : List ℕ) (Puts : List ℕ → Type 0) → status ≡ given
     → IsExplanationOf bytes given (λ t. text ≡ t) → Puts text → IsExplanationOf bytes status Puts
 put_explained bytes given status text Puts same told put = (told.0, (same ∙ told.1.0, subst Puts told.1.1 put))
-
-pub explained_known : (known : Option (List ℕ)) (bytes : List ℕ) (status : ℕ) (Puts : List ℕ → Type 0)
-    → IfSome known (λ input. bytes ≡ input) → IsExplanationOf bytes status Puts
-    → IfSome known (λ input. IsExplanationOf input status Puts)
-explained_known None bytes status Puts same told = tt
-explained_known (Some input) bytes status Puts same told = subst (λ (x : List ℕ). IsExplanationOf x status Puts) same told
 
 pub begins_known : (known before after : Option (List ℕ)) (bytes : List ℕ) (status : ℕ) → IfSome known (λ input. bytes ≡ input)
     → IsExplanationOf bytes status (Appends before after) → BeginsAsAudit known before after status

@@ -1,7 +1,7 @@
 -- What clap's matches say of the command and its values.
-use Rattle.std.proofs.Common.{◌≡◌, ℕ, ◌+◌, ◌<◌, ◌≤◌, List, [], ◌∷◌, ◌++◌, length, get_or, take, map, Option, Some, None, Result, Ok, true}
+use Rattle.std.proofs.Common.{◌≡◌, ℕ, ◌+◌, ◌<◌, List, [], ◌∷◌, ◌++◌, length, get_or, take, map, Option, Some, None, Result, Ok, true}
 use Rattle.std.proofs.Common.{refl, sym, ap, subst, ◌∙◌, Bor}
-use Rattle.std.proofs.lemmas.List.{map-append, take_all, take_more}
+use Rattle.std.proofs.lemmas.List.{map-append, take_more}
 use Rattle.std.specs.Str.Parse.{ParsesUnsigned}
 use Rattle.clap.specs.declared.parser.matches.Found.{Found}
 use Rattle.clap.proofs.WalkLemmas.{first_value-rows, one_text-rows}
@@ -75,8 +75,3 @@ meanings_more words i t ws new w within are is more =
     (subst (λ (ts : List Text). AreMeanings ts (ws ++ w ∷ []))
     (sym (ap texts (take_more words i t within) ∙ map-append (λ (x : Bor Text). x.now) (take i words) (get_or words i t ∷ [])))
     (words_more (texts (take i words)) ws (get_or words i t).now w are is))
-
--- with the meanings of all
-pub meanings_all : (words : List (Bor Text)) (i : ℕ) (ws : List WaitsFor) → length words ≤ i → AreMeanings (texts (take i words)) ws
-    → AreMeanings (texts words) ws
-meanings_all words i ws past are = subst (λ (xs : List (Bor Text)). AreMeanings (texts xs) ws) (take_all i words past) are

@@ -6,13 +6,13 @@ use Rattle.monk_history.specs.declared.event.Event.{Event}
 use Rattle.monk_history.specs.declared.text.fault.ReadFault.{ReadFault}
 use Rattle.monk_history.specs.Text.{Heading}
 use Rattle.monk_history.specs.Text.Reading.{History, text_at}
-use Rattle.monk_tell.specs.Told.{Told, told}
+use Rattle.monk_tell.specs.Told.{Account, account}
 use Rattle.monk_tell.specs.Words.{telling_text}
 use Rattle.monk_tell.specs.declared.why.Why.{Why}
 use Rattle.monk_commands.specs.Answer.{Answer, answer_of, too_big, unreadable, verdict_answer}
 
 -- the line of the verdict, and what is told behind it
-abbrev pub told_answer : Told → Answer
+abbrev pub told_answer : Account → Answer
 told_answer t = record {
   status = (verdict_answer t.verdict).status;
   text = (verdict_answer t.verdict).text ++ telling_text t;
@@ -20,7 +20,7 @@ told_answer t = record {
 
 -- `why` is the sentence for a forbidden event
 abbrev pub explain_answer : Why → Heading → List Event → Answer
-explain_answer why h events = if nat_lt (most h.object) h.size then too_big else told_answer (told h events why)
+explain_answer why h events = if nat_lt (most h.object) h.size then too_big else told_answer (account h events why)
 
 abbrev pub explain_reading : Why → Result History ReadFault → Answer
 explain_reading why (Ok h) = explain_answer why h.0 h.1

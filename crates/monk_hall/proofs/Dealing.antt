@@ -16,12 +16,12 @@ use Rattle.monk_object.specs.Object.{Object}
 use Rattle.monk_history.specs.Limits.{most_seats, most_conds, least_budget, most_budget}
 use Rattle.monk_history.specs.Meaning.Counts.{events_of}
 use Rattle.monk_history.proofs.PublicLaws.Meaning.{granted_none, legal_none}
-use Rattle.monk_world.proofs.PublicLaws.{put_here, put_else, opening_kept}
+use Rattle.monk_world.proofs.PublicLaws.{update_here, update_else, opening_kept}
 use Rattle.monk_floor.specs.Making.{make_refusal}
 use Rattle.monk_floor.specs.declared.fault.MakeFault.TheVariants as fault
 use Rattle.monk_floor.specs.View.{FloorView, monitor_of}
 use Rattle.monk_world.specs.Kept.{IsKept}
-use Rattle.monk_world.specs.Put.{put}
+use Rattle.monk_world.specs.Update.{update}
 use Rattle.monk_world.specs.Runs.{opening_state}
 use Rattle.monk_world.specs.State.{State}
 use Rattle.monk_hall.specs.Layout.{tickets, unpassed, word_count, place_word, seat_word, floor_of, shown_state}
@@ -133,10 +133,10 @@ module _ (c : Setting) (views : List View) (at : ℕ → SeatRecord) (sh : AreSh
   left_views = set views id ys
 
   abbrev moved_desk : ℕ → ℕ
-  moved_desk = put sh.desk x.seat (length left_views)
+  moved_desk = update sh.desk x.seat (length left_views)
 
   desk_else : (j : ℕ) → j ≢ x.seat → moved_desk j ≡ sh.desk j
-  desk_else j ne = put_else sh.desk x.seat (length left_views) j ne
+  desk_else j ne = update_else sh.desk x.seat (length left_views) j ne
 
   each_after : (j : ℕ) (u : View) → get_elem? (left_views ++ (x ∷ []) ∷ []) j ≡ maybe.some u → (r : SeatRecord) → In r u
       → (at r.seat ≡ r) × (moved_desk r.seat ≡ j) × (r.seat < c.seats)
@@ -155,7 +155,7 @@ module _ (c : Setting) (views : List View) (at : ℕ → SeatRecord) (sh : AreSh
       let old = sh.each id v view x there_x in
       let seat : r.seat ≡ x.seat = ap (λ (z : SeatRecord). z.seat) is_x in (
         ap at seat ∙ old.0 ∙ sym is_x,
-        ap moved_desk seat ∙ put_here sh.desk x.seat (length left_views) ∙ sym new.1,
+        ap moved_desk seat ∙ update_here sh.desk x.seat (length left_views) ∙ sym new.1,
         subst (λ (z : ℕ). z < c.seats) (sym seat) old.2,
       ))
       (at_end left_views (x ∷ []) u j e)
@@ -165,7 +165,7 @@ module _ (c : Setting) (views : List View) (at : ℕ → SeatRecord) (sh : AreSh
     | inl h ↦ (
       x ∷ [],
       ap (λ (n : ℕ). get_elem? (left_views ++ (x ∷ []) ∷ []) n)
-          (ap moved_desk h.1 ∙ put_here sh.desk x.seat (length left_views))
+          (ap moved_desk h.1 ∙ update_here sh.desk x.seat (length left_views))
           ∙ at_last left_views (x ∷ []) (length left_views) refl,
       inl (ap at h.1 ∙ (sh.each id v view x there_x).0),
     )

@@ -25,11 +25,11 @@ use Rattle.monk_history.specs.declared.event.Next.{Next}
 use Rattle.monk_history.specs.declared.event.Next.TheVariants as next
 use Rattle.monk_history.specs.declared.event.Turn.TheVariants.{Owned}
 use Rattle.monk_history.proofs.PublicLaws.Meaning.{granted_of-push}
-use Rattle.monk_world.proofs.PublicLaws.{held, at_put, put_here, names_chosen}
+use Rattle.monk_world.proofs.PublicLaws.{held, at_update, update_here, names_chosen}
 use Rattle.monk_floor.specs.View.{FloorView, monitor_of, stands_of}
 use Rattle.monk_world.specs.Kept.{IsKept}
 use Rattle.monk_world.specs.Places.{stage, back_turn, due_to, turn_of_next, due_stage, active_stage, back_stage, passing_stage}
-use Rattle.monk_world.specs.Put.{put}
+use Rattle.monk_world.specs.Update.{update}
 use Rattle.monk_world.specs.Sound.{left_within}
 use Rattle.monk_world.specs.State.{State, with_event}
 use Rattle.monk_world.specs.StepTable.{IsStep, out_event}
@@ -213,10 +213,10 @@ module _ (k : Rules) (o : Object) (c : Setting) (kind : IsKind k) (s : table.Sta
     world = after_floor_in old.world r.seat ret.choice ret.to;
     floor =
         with_event (floor_of c before) last;
-  }) (shown_state c s.words (put h.0 r.seat w) f.history)
+  }) (shown_state c s.words (update h.0 r.seat w) f.history)
   same = λ z. record {
     world = record old.world {
-      place = (ap (put old.world.place r.seat) (sym back_is) ∙ stepping.places_after k o c kind s h id r here w) z;
+      place = (ap (update old.world.place r.seat) (sym back_is) ∙ stepping.places_after k o c kind s h id r here w) z;
       count = stepping.counts_stay k o c kind s h id r here w refl z;
     };
     known = stepping.known_stays k o c kind s h id r here w refl z;
@@ -251,14 +251,14 @@ module _ (k : Rules) (o : Object) (c : Setting) (kind : IsKind k) (s : table.Sta
   chose_is : next_of last ≡ Some ret.choice
   chose_is = (releasing.said r.seat ret.to ret.call ret.choice ret.release).chose
 
-  calls_after : CountsCalls (shown_world s.words (put h.0 r.seat w)) f.history
+  calls_after : CountsCalls (shown_world s.words (update h.0 r.seat w)) f.history
   calls_after =
       let at = h.0 in
       let world : World = shown_world s.words at in
       let settled : (m : ℕ) → granted_of before m ≡ world.seat_place m = λ m. before_counts m
       ∙ h.2.told.calls.settled m (λ j. nobody_chose j m) in
       record {
-        choosing = λ j m. at_put at r.seat w (λ n x. back_turn x.place ≡ due_to m → granted_of f.history m ≡ world.seat_place m + 1)
+        choosing = λ j m. at_update at r.seat w (λ n x. back_turn x.place ≡ due_to m → granted_of f.history m ≡ world.seat_place m + 1)
             (λ e. ap (λ (g : List Event). granted_of g m) f_history
             ∙ chosen_counts before last ret.choice m chose_is (sym (ap back_turn back_is) ∙ e)
             ∙ ap (λ (n : ℕ). n + 1) (settled m))
@@ -266,7 +266,7 @@ module _ (k : Rules) (o : Object) (c : Setting) (kind : IsKind k) (s : table.Sta
         settled = λ m none.
             ap (λ (g : List Event). granted_of g m) f_history
             ∙ not_counts before last ret.choice m chose_is
-            (λ e. none r.seat (ap (λ (y : SeatRecord). back_turn y.place) (put_here at r.seat w)
+            (λ e. none r.seat (ap (λ (y : SeatRecord). back_turn y.place) (update_here at r.seat w)
             ∙ ap back_turn back_is ∙ e)) ∙ settled m;
       }
 
@@ -288,8 +288,8 @@ module _ (k : Rules) (o : Object) (c : Setting) (kind : IsKind k) (s : table.Sta
       ∙ frame.other_event past (out_event r.seat q (turn past)) j (λ e. ne (sym e ∙ frame.out_seat r.seat q past))
       ∙ h.2.told.mine j
 
-  told_after : AreTold k o c (set s.homes 0 (maybe.some (Some f))) (put h.0 r.seat w)
-      (shown_world s.words (put h.0 r.seat w)) f.history f.history
+  told_after : AreTold k o c (set s.homes 0 (maybe.some (Some f))) (update h.0 r.seat w)
+      (shown_world s.words (update h.0 r.seat w)) f.history f.history
   told_after =
       let at = h.0 in
       let told = h.2.told in
@@ -297,13 +297,13 @@ module _ (k : Rules) (o : Object) (c : Setting) (kind : IsKind k) (s : table.Sta
       record {
         one_slot = length-set s.homes 0 (maybe.some (Some f)) ∙ told.one_slot;
         legal = (subst (IsKept k o c.seats c.conds) same kept_after).sound.is_sound.legal;
-        starts = at_put at r.seat w (λ j x. StartsWith f.history x.seen) (frame.starts_self f.history)
+        starts = at_update at r.seat w (λ j x. StartsWith f.history x.seen) (frame.starts_self f.history)
             (λ j _. starts_on f.history past (at j).seen past_starts (told.starts j));
-        mine = at_put at r.seat w (λ j x. events_of f.history j ≡ x.mine) refl (λ j ne. others_mine j ne);
-        own = at_put at r.seat w (λ j x. events_of x.seen j ≡ x.mine) refl (λ j _. told.own j);
-        back = at_put at r.seat w (λ j x. stage x.place ≡ back_stage → x.seen ≡ f.history) (λ _. refl)
+        mine = at_update at r.seat w (λ j x. events_of f.history j ≡ x.mine) refl (λ j ne. others_mine j ne);
+        own = at_update at r.seat w (λ j x. events_of x.seen j ≡ x.mine) refl (λ j _. told.own j);
+        back = at_update at r.seat w (λ j x. stage x.place ≡ back_stage → x.seen ≡ f.history) (λ _. refl)
             (λ j ne e. absurd (alone j ne (omega arith) (omega arith)));
-        lent = at_put at r.seat w
+        lent = at_update at r.seat w
             (λ j x. (p : Source) → x.place ≡ Active p
             → (x.seen ≡ f.history) × (f.history ≡ f.history ++ out_event j p (turn f.history) ∷ [])
             × (get_elem? (set s.homes 0 (maybe.some (Some f))) 0 ≡ maybe.some maybe.none))
@@ -321,7 +321,7 @@ module _ (k : Rules) (o : Object) (c : Setting) (kind : IsKind k) (s : table.Sta
       (record { words = s.words; homes = set s.homes 0 (maybe.some (Some f)); views = set s.views id (w ∷ []) })
   gives_at = record {
     hall = (
-      put h.0 r.seat w,
+      update h.0 r.seat w,
       seats.shown_set c s.views h.0 h.1 id r here w refl refl,
       record {
         past = f.history;
@@ -339,7 +339,7 @@ module _ (k : Rules) (o : Object) (c : Setting) (kind : IsKind k) (s : table.Sta
     choice = ret.choice;
     away = ret.away;
     step = subst (λ (g : List Event). IsStep k o (shown_state c s.words h.0 g) r.seat taken.command
-        (answer.Chose ret.choice) (shown_state c s.words (put h.0 r.seat w) f.history)) goes_is
+        (answer.Chose ret.choice) (shown_state c s.words (update h.0 r.seat w) f.history)) goes_is
         (subst (λ (t : State). IsStep k o old r.seat taken.command (answer.Chose ret.choice) t) same taken.step);
   }
 

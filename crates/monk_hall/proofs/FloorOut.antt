@@ -16,12 +16,12 @@ use Rattle.monk_history.specs.Meaning.Counts.{events_of, enters_of}
 use Rattle.monk_history.specs.Meaning.Turn.{turn}
 use Rattle.monk_history.specs.declared.event.Event.{Event}
 use Rattle.monk_history.proofs.PublicLaws.Meaning.{legal_last}
-use Rattle.monk_world.proofs.PublicLaws.{IsReady, entered_here, held, at_put, put_here}
+use Rattle.monk_world.proofs.PublicLaws.{IsReady, entered_here, held, at_update, update_here}
 use Rattle.monk_floor.specs.View.{FloorView, monitor_of}
 use Rattle.monk_world.specs.Enters.{used_at}
 use Rattle.monk_world.specs.Kept.{IsKept}
 use Rattle.monk_world.specs.Places.{stage, ticket, source, back_turn, due_stage, active_stage, back_stage, granted_source}
-use Rattle.monk_world.specs.Put.{put}
+use Rattle.monk_world.specs.Update.{update}
 use Rattle.monk_world.specs.Sound.{left_at}
 use Rattle.monk_world.specs.State.{State, with_event}
 use Rattle.monk_world.specs.StepTable.{IsStep, may_be_told, out_event}
@@ -90,7 +90,7 @@ module _ (k : Rules) (o : Object) (c : Setting) (kind : IsKind k) (s : table.Sta
   after : State
   after = record {
     world = after_floor_out old.world r.seat (source_from r.place);
-    known = put old.known r.seat false;
+    known = update old.known r.seat false;
     floor = with_event floor came;
   }
 
@@ -112,7 +112,7 @@ module _ (k : Rules) (o : Object) (c : Setting) (kind : IsKind k) (s : table.Sta
   unfolding after
   step_after = frame.step_is k o old r.seat command.Out answer.Now after (Due (source_from r.place)) ready at_due (refl, refl)
 
-  same : Path State after (shown_state c s.words (put h.0 r.seat w) (past ++ came ∷ []))
+  same : Path State after (shown_state c s.words (update h.0 r.seat w) (past ++ came ∷ []))
   unfolding after
   same = λ z. record {
     world = record old.world {
@@ -124,7 +124,8 @@ module _ (k : Rules) (o : Object) (c : Setting) (kind : IsKind k) (s : table.Sta
     floor = floor_of c (past ++ came ∷ []);
   }
 
-  told_after : AreTold k o c (set s.homes 0 maybe.none) (put h.0 r.seat w) (shown_world s.words (put h.0 r.seat w)) past (past ++ came ∷ [])
+  told_after : AreTold k o c (set s.homes 0 maybe.none) (update h.0 r.seat w)
+      (shown_world s.words (update h.0 r.seat w)) past (past ++ came ∷ [])
   told_after =
       let told = h.2.told in
       let is = stepping.is k o c kind s h id r here in
@@ -134,11 +135,11 @@ module _ (k : Rules) (o : Object) (c : Setting) (kind : IsKind k) (s : table.Sta
       record {
         one_slot = length-set s.homes 0 maybe.none ∙ told.one_slot;
         legal = told.legal;
-        starts = at_put at r.seat w (λ j x. StartsWith past x.seen) (frame.starts_self past) (λ j _. told.starts j);
-        mine = at_put at r.seat w (λ j x. events_of past j ≡ x.mine) (told.mine r.seat ∙ sym mine) (λ j _. told.mine j);
-        own = at_put at r.seat w (λ j x. events_of x.seen j ≡ x.mine) (told.mine r.seat ∙ sym mine) (λ j _. told.own j);
-        back = at_put at r.seat w (λ j x. stage x.place ≡ back_stage → x.seen ≡ past) (λ e. absurd (omega arith)) (λ j _. told.back j);
-        lent = at_put at r.seat w
+        starts = at_update at r.seat w (λ j x. StartsWith past x.seen) (frame.starts_self past) (λ j _. told.starts j);
+        mine = at_update at r.seat w (λ j x. events_of past j ≡ x.mine) (told.mine r.seat ∙ sym mine) (λ j _. told.mine j);
+        own = at_update at r.seat w (λ j x. events_of x.seen j ≡ x.mine) (told.mine r.seat ∙ sym mine) (λ j _. told.own j);
+        back = at_update at r.seat w (λ j x. stage x.place ≡ back_stage → x.seen ≡ past) (λ e. absurd (omega arith)) (λ j _. told.back j);
+        lent = at_update at r.seat w
             (λ j x. (q : Source) → x.place ≡ Active q
             → (x.seen ≡ past) × (past ++ came ∷ [] ≡ past ++ out_event j q (turn past) ∷ [])
             × (get_elem? (set s.homes 0 maybe.none) 0 ≡ maybe.some maybe.none))
@@ -148,8 +149,8 @@ module _ (k : Rules) (o : Object) (c : Setting) (kind : IsKind k) (s : table.Sta
               set_here s.homes 0 maybe.none (let z = told.one_slot in omega arith),
             ))
             (λ j _ q e. absurd (nobody j (ap stage e)));
-        home = λ none. absurd (none r.seat (ap (λ (y : SeatRecord). stage y.place) (put_here at r.seat w)));
-        calls = calls_stay world (shown_world s.words (put at r.seat w)) past r.seat w.place told.calls
+        home = λ none. absurd (none r.seat (ap (λ (y : SeatRecord). stage y.place) (update_here at r.seat w)));
+        calls = calls_stay world (shown_world s.words (update at r.seat w)) past r.seat w.place told.calls
             (sym (stepping.places_after k o c kind s h id r here w)) refl (ap back_turn at_due) refl;
       }
 
@@ -157,7 +158,7 @@ module _ (k : Rules) (o : Object) (c : Setting) (kind : IsKind k) (s : table.Sta
       (record { words = s.words; homes = set s.homes 0 maybe.none; views = set s.views id (w ∷ []) })
   takes_at = record {
     hall = (
-      put h.0 r.seat w,
+      update h.0 r.seat w,
       seats.shown_set c s.views h.0 h.1 id r here w refl refl,
       record {
         past = past;
@@ -169,7 +170,7 @@ module _ (k : Rules) (o : Object) (c : Setting) (kind : IsKind k) (s : table.Sta
       },
     );
     step = subst (λ (g : List Event). IsStep k o (shown_state c s.words h.0 g) r.seat command.Out answer.Now
-        (shown_state c s.words (put h.0 r.seat w) (past ++ came ∷ []))) (sym (h.2.told.home nobody).0)
+        (shown_state c s.words (update h.0 r.seat w) (past ++ came ∷ []))) (sym (h.2.told.home nobody).0)
         (subst (λ (t : State). IsStep k o old r.seat command.Out answer.Now t) same step_after);
   }
 

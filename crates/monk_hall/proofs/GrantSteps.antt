@@ -18,7 +18,7 @@ use Rattle.monk_history.specs.declared.event.Next.TheVariants as next
 use Rattle.monk_floor.specs.View.{FloorView}
 use Rattle.monk_world.specs.Places.{stage, ticket, back_turn, due_to, turn_of_next, place_of, outside_stage, back_stage}
 use Rattle.monk_world.specs.Places.{passing_stage, inside_stage}
-use Rattle.monk_world.specs.Put.{put}
+use Rattle.monk_world.specs.Update.{update}
 use Rattle.monk_world.specs.State.{State}
 use Rattle.monk_world.specs.StepTable.{IsDone, IsGranted, may_be_told, names_seat}
 use Rattle.monk_world.specs.Steps.{after_ticket_grant, after_seat_grant}
@@ -28,7 +28,7 @@ use Rattle.monk_world.specs.declared.command.Command.TheVariants as command
 use Rattle.monk_world.specs.declared.home.Home.{Home}
 use Rattle.monk_world.specs.declared.place.Place.{Place}
 use Rattle.monk_world.specs.declared.place.Place.TheVariants.{Idle, Ticket, Due, Active, Back, Passing, Inner}
-use Rattle.monk_world.proofs.PublicLaws.{IsReady, held, at_put}
+use Rattle.monk_world.proofs.PublicLaws.{IsReady, held, at_update}
 use Rattle.monk_hall.specs.Changes.{record_after_grant, home_at}
 use Rattle.monk_hall.specs.Laws.{Takes}
 use Rattle.monk_hall.specs.Layout.{tickets, unpassed, shown_state, shown_world, place_word, seat_word}
@@ -124,7 +124,7 @@ module _ (k : Rules) (o : Object) (c : Setting) (kind : IsKind k) (s : table.Sta
       let seat_places = sym (stored.seats_stay s.words (place_word q) (n + 1) (λ m e. omega arith)) in
       let counts = stepping.counts_stay k o c kind s h id r here w refl in
       let knows = stepping.known_stays k o c kind s h id r here w refl in
-      let same : Path State after (shown_state c ws (put at r.seat w) kh.history) = λ z. record {
+      let same : Path State after (shown_state c ws (update at r.seat w) kh.history) = λ z. record {
         world = record {
           drawn = tickets (word z);
           unpassed = unpassed (word z);
@@ -138,7 +138,7 @@ module _ (k : Rules) (o : Object) (c : Setting) (kind : IsKind k) (s : table.Sta
       } in
       let moved : stepping.IsMoved k o c kind s h id r here w = record { seat = refl; setting = refl; seen = refl; mine = refl } in
       let apart = standing.apart_home to in
-      let calls = calls_stay world (shown_world ws (put at r.seat w)) kh.past r.seat w.place kh.told.calls (sym places)
+      let calls = calls_stay world (shown_world ws (update at r.seat w)) kh.past r.seat w.place kh.told.calls (sym places)
       (sym seat_places) (ap back_turn stands) apart.chose in
       stepping.holds_after k o c kind s h id r here w ws moved (length-set s.words (place_word q) (n + 1)) kept same
       (stepping.knows_after k o c kind s h id r here w ws moved calls (λ e. absurd (omega arith)) apart)
@@ -165,9 +165,9 @@ module _ (k : Rules) (o : Object) (c : Setting) (kind : IsKind k) (s : table.Sta
 
   -- the calls are counted once the seat is called
   calls_counted : (m : ℕ) (ws : List ℕ) → back_turn r.place ≡ due_to m
-      → Path (ℕ → ℕ) (put (shown_world s.words h.0).seat_place m ((shown_world s.words h.0).seat_place m + 1))
-      (shown_world ws (put h.0 r.seat (record_after_grant r))).seat_place
-      → CountsCalls (shown_world ws (put h.0 r.seat (record_after_grant r))) h.2.past
+      → Path (ℕ → ℕ) (update (shown_world s.words h.0).seat_place m ((shown_world s.words h.0).seat_place m + 1))
+      (shown_world ws (update h.0 r.seat (record_after_grant r))).seat_place
+      → CountsCalls (shown_world ws (update h.0 r.seat (record_after_grant r))) h.2.past
   calls_counted m ws names places =
       let at = h.0 in
       let kh = h.2 in
@@ -184,13 +184,13 @@ module _ (k : Rules) (o : Object) (c : Setting) (kind : IsKind k) (s : table.Sta
       let theirs = held sound.stands.keeps j (omega arith) (omega arith) in
       absurd (ne cc) in
       let apart = standing.apart_home (home_at r.place) in
-      let nobody : (j n : ℕ) → back_turn (put at r.seat w j).place ≢ due_to n = λ j n.
-      at_put at r.seat w (λ i y. back_turn y.place ≢ due_to n) (λ e. let z = apart.chose in absurd (omega arith))
+      let nobody : (j n : ℕ) → back_turn (update at r.seat w j).place ≢ due_to n = λ j n.
+      at_update at r.seat w (λ i y. back_turn y.place ≢ due_to n) (λ e. let z = apart.chose in absurd (omega arith))
       (λ i ne. alone i n ne) j in
       record {
         choosing = λ j n e. absurd (nobody j n e);
         settled = λ n none. subst (λ (f : ℕ → ℕ). granted_of kh.past n ≡ f n) places
-            (at_put world.seat_place m (world.seat_place m + 1) (λ i y. granted_of kh.past i ≡ y)
+            (at_update world.seat_place m (world.seat_place m + 1) (λ i y. granted_of kh.past i ≡ y)
             (kh.told.calls.choosing r.seat m (ap back_turn stands ∙ x.names))
             (λ i ne. kh.told.calls.settled i (λ j e. elim (eqb_tells j r.seat) [
               | inl b ↦ absurd (ne (let z = ap (λ (a : ℕ). back_turn (at a).place) b.1 in let y = ap back_turn stands
@@ -235,12 +235,12 @@ module _ (k : Rules) (o : Object) (c : Setting) (kind : IsKind k) (s : table.Sta
       (Back x.choice x.to) ready x.is (calls_done k o old r.seat x.choice m x.to x.names) in
       let word : slice_index s.words 0 ≡ slice_index ws 0 = sym (get_or-set_other s.words (seat_word m) 0 calls 0 (λ e. omega arith)) in
       let home_is : x.to ≡ home_at r.place = sym (ap home_at x.is) in
-      let places = ap (λ (y : Home). put world.place r.seat (place_of y)) home_is ∙ stepping.places_after k o c kind s h id r here w in
+      let places = ap (λ (y : Home). update world.place r.seat (place_of y)) home_is ∙ stepping.places_after k o c kind s h id r here w in
       let ticket_places = sym (stored.places_stay s.words (seat_word m) calls (λ i e. omega arith)) in
-      let seat_places = ap (put world.seat_place m) grown ∙ sym (stored.seat_stored s.words m calls (let z = kh.wide in omega arith)) in
+      let seat_places = ap (update world.seat_place m) grown ∙ sym (stored.seat_stored s.words m calls (let z = kh.wide in omega arith)) in
       let counts = stepping.counts_stay k o c kind s h id r here w refl in
       let knows = stepping.known_stays k o c kind s h id r here w refl in
-      let same : Path State after (shown_state c ws (put at r.seat w) kh.history) = λ z. record {
+      let same : Path State after (shown_state c ws (update at r.seat w) kh.history) = λ z. record {
         world = record {
           drawn = tickets (word z);
           unpassed = unpassed (word z);

@@ -21,11 +21,11 @@ use Rattle.monk_history.specs.Meaning.Turn.{turn}
 use Rattle.monk_history.specs.declared.event.Event.{Event}
 use Rattle.monk_history.specs.Meaning.Legal.{IsLegal}
 use Rattle.monk_history.proofs.PublicLaws.Meaning.{legal_front}
-use Rattle.monk_world.proofs.PublicLaws.{at_put, put_here, put_else, all_back}
+use Rattle.monk_world.proofs.PublicLaws.{at_update, update_here, update_else, all_back}
 use Rattle.monk_floor.specs.View.{FloorView, monitor_of}
 use Rattle.monk_world.specs.Kept.{IsKept}
 use Rattle.monk_world.specs.Places.{stage, outside_stage, active_stage, back_stage}
-use Rattle.monk_world.specs.Put.{put}
+use Rattle.monk_world.specs.Update.{update}
 use Rattle.monk_world.specs.State.{State}
 use Rattle.monk_world.specs.StepTable.{out_event}
 use Rattle.monk_world.specs.declared.place.Place.{Place}
@@ -129,7 +129,7 @@ module _ (k : Rules) (o : Object) (c : Setting) (words : List ℕ) (homes : Home
     (place : w.place ≡ (at i).place) (count : w.count ≡ (at i).count) (known : w.known ≡ (at i).known)
     (mine : w.mine ≡ (at i).mine) (idle : stage (at i).place ≡ outside_stage)
     (part : StartsWith kh.past w.seen) (own : events_of w.seen i ≡ w.mine) where
-  same : Path State (shown_state c words at kh.history) (shown_state c words (put at i w) kh.history)
+  same : Path State (shown_state c words at kh.history) (shown_state c words (update at i w) kh.history)
   same = λ z. record {
     world = record (shown_world words at) {
       place = sym (field_stays (λ (y : SeatRecord). y.place) at i w (sym place)) z;
@@ -139,13 +139,13 @@ module _ (k : Rules) (o : Object) (c : Setting) (words : List ℕ) (homes : Home
     floor = floor_of c kh.history;
   }
 
-  recount : CountsCalls (shown_world words (put at i w)) kh.past
+  recount : CountsCalls (shown_world words (update at i w)) kh.past
   recount = subst (λ (p : ℕ → Place). CountsCalls
-      (record (shown_world words at) { place = p; count = λ j. (put at i w j).count }) kh.past)
+      (record (shown_world words at) { place = p; count = λ j. (update at i w j).count }) kh.past)
       (sym (field_stays (λ (y : SeatRecord). y.place) at i w (sym place)))
       (record { choosing = kh.told.calls.choosing; settled = kh.told.calls.settled })
 
-  pub learns : IsKeptHall k o c words homes (put at i w)
+  pub learns : IsKeptHall k o c words homes (update at i w)
   learns =
       let told = kh.told in
       let not_at : (n : ℕ) → n ≢ outside_stage → stage w.place ≢ n = λ n ne e. ne (sym e ∙ ap stage place ∙ idle) in
@@ -158,12 +158,12 @@ module _ (k : Rules) (o : Object) (c : Setting) (words : List ℕ) (homes : Home
         told = record {
           one_slot = told.one_slot;
           legal = told.legal;
-          starts = at_put at i w (λ j x. StartsWith kh.past x.seen) part (λ j _. told.starts j);
-          mine = at_put at i w (λ j x. events_of kh.past j ≡ x.mine) (told.mine i ∙ sym mine) (λ j _. told.mine j);
-          own = at_put at i w (λ j x. events_of x.seen j ≡ x.mine) own (λ j _. told.own j);
-          back = at_put at i w (λ j x. stage x.place ≡ back_stage → x.seen ≡ kh.past)
+          starts = at_update at i w (λ j x. StartsWith kh.past x.seen) part (λ j _. told.starts j);
+          mine = at_update at i w (λ j x. events_of kh.past j ≡ x.mine) (told.mine i ∙ sym mine) (λ j _. told.mine j);
+          own = at_update at i w (λ j x. events_of x.seen j ≡ x.mine) own (λ j _. told.own j);
+          back = at_update at i w (λ j x. stage x.place ≡ back_stage → x.seen ≡ kh.past)
               (λ e. absurd (not_at back_stage (λ z. absurd (omega arith)) e)) (λ j _. told.back j);
-          lent = λ j. at_put at i w
+          lent = λ j. at_update at i w
               (λ n x. (q : Source) → x.place ≡ Active q
               → (x.seen ≡ kh.past) × (kh.history ≡ kh.past ++ out_event n q (turn kh.past) ∷ [])
               × (get_elem? homes 0 ≡ maybe.some maybe.none))
@@ -196,22 +196,22 @@ module _ (c : Setting) (views : List View) (at : ℕ → SeatRecord) (sh : AreSh
   apart = (sh.apart id (a ∷ b ∷ []) view).0 b (inl refl)
 
   abbrev pub at_one : ℕ → SeatRecord
-  at_one = put at a.seat a2
+  at_one = update at a.seat a2
 
   abbrev pub at_two : ℕ → SeatRecord
-  at_two = put at_one b.seat b2
+  at_two = update at_one b.seat b2
 
   pub still_b : at_one b.seat ≡ b
-  still_b = put_else at a.seat a2 b.seat apart ∙ in_b.0
+  still_b = update_else at a.seat a2 b.seat apart ∙ in_b.0
 
   is_a : at_two a.seat ≡ a2
-  is_a = put_else at_one b.seat b2 a.seat (λ e. apart (sym e)) ∙ put_here at a.seat a2
+  is_a = update_else at_one b.seat b2 a.seat (λ e. apart (sym e)) ∙ update_here at a.seat a2
 
   is_b : at_two b.seat ≡ b2
-  is_b = put_here at_one b.seat b2
+  is_b = update_here at_one b.seat b2
 
   other : (j : ℕ) → j ≢ a.seat → j ≢ b.seat → at_two j ≡ at j
-  other j na nb = put_else at_one b.seat b2 j nb ∙ put_else at a.seat a2 j na
+  other j na nb = update_else at_one b.seat b2 j nb ∙ update_else at a.seat a2 j na
 
   pub shown_two : AreShown c (set views id (a2 ∷ b2 ∷ [])) at_two
   shown_two = record {
@@ -240,11 +240,12 @@ module _ (c : Setting) (views : List View) (at : ℕ → SeatRecord) (sh : AreSh
             )
       ]
     ];
-    settings = at_put at_one b.seat b2 (λ j x. x.setting ≡ c) (set_b ∙ ap (λ (x : SeatRecord). x.setting) (sym in_b.0) ∙ sh.settings b.seat)
-        (λ j _. at_put at a.seat a2 (λ m x. x.setting ≡ c) (set_a ∙ ap (λ (x : SeatRecord). x.setting) (sym in_a.0)
+    settings = at_update at_one b.seat b2 (λ j x. x.setting ≡ c)
+        (set_b ∙ ap (λ (x : SeatRecord). x.setting) (sym in_b.0) ∙ sh.settings b.seat)
+        (λ j _. at_update at a.seat a2 (λ m x. x.setting ≡ c) (set_a ∙ ap (λ (x : SeatRecord). x.setting) (sym in_a.0)
         ∙ sh.settings a.seat) (λ m _. sh.settings m) j);
-    seats = at_put at_one b.seat b2 (λ j x. x.seat ≡ j) seat_b
-        (λ j _. at_put at a.seat a2 (λ m x. x.seat ≡ m) seat_a (λ m _. sh.seats m) j);
+    seats = at_update at_one b.seat b2 (λ j x. x.seat ≡ j) seat_b
+        (λ j _. at_update at a.seat a2 (λ m x. x.seat ≡ m) seat_a (λ m _. sh.seats m) j);
   }
     where
       here : (j : ℕ) → sh.desk j ≡ id → get_elem? (set views id (a2 ∷ b2 ∷ [])) (sh.desk j) ≡ maybe.some (a2 ∷ b2 ∷ [])
@@ -293,7 +294,7 @@ compares k o c slots id me two idle_a idle_b s h wide view small =
     (ap (λ (x : SeatRecord). x.count) (sym ia.0)) (ap (λ (x : SeatRecord). x.known) (sym ia.0))
     (ap (λ (x : SeatRecord). x.mine) (sym ia.0))
     (ap (λ (x : SeatRecord). stage x.place) ia.0 ∙ ap stage idle_a) part all_a in
-    let both_kept = learns k o c s.words s.homes (put at a.seat a2) first b.seat b2
+    let both_kept = learns k o c s.words s.homes (update at a.seat a2) first b.seat b2
     (ap (λ (x : SeatRecord). x.place) (sym still)) (ap (λ (x : SeatRecord). x.count) (sym still))
     (ap (λ (x : SeatRecord). x.known) (sym still)) (ap (λ (x : SeatRecord). x.mine) (sym still))
     (ap (λ (x : SeatRecord). stage x.place) still ∙ ap stage idle_b) part all_b in (
@@ -302,7 +303,7 @@ compares k o c slots id me two idle_a idle_b s h wide view small =
       tt,
       subst (λ (ws : List ℕ). IsHall k o c
           record { words = ws; homes = s.homes; views = set s.views id (a2 ∷ b2 ∷ []) }) (sym (set-get_or s.words 0 0))
-          (put (put at a.seat a2) b.seat b2, shown_two c s.views at h.1 id a b a2 b2 here refl refl refl refl, both_kept),
+          (update (update at a.seat a2) b.seat b2, shown_two c s.views at h.1 id a b a2 b2 here refl refl refl refl, both_kept),
       (
         refl,
         one,
@@ -349,10 +350,10 @@ meets k o c id v other w one_v one_w idle s h view ne_id view_w =
     let near_a = is_near c s.views at sh id a here in
     let near_b = is_near c s.views at sh other b there in
     let ne : b.seat ≢ a.seat = λ e. ne_id (sym desk_b ∙ ap sh.desk e ∙ desk_a) in
-    let at_one : ℕ → SeatRecord = put at a.seat a2 in
-    let still : at_one b.seat ≡ b = put_else at a.seat a2 b.seat ne ∙ is_b in
-    let desk_two : ℕ → ℕ = put sh.desk b.seat id in
-    let desk_first : desk_two a.seat ≡ id = put_else sh.desk b.seat id a.seat (λ e. ne (sym e)) ∙ desk_a in
+    let at_one : ℕ → SeatRecord = update at a.seat a2 in
+    let still : at_one b.seat ≡ b = update_else at a.seat a2 b.seat ne ∙ is_b in
+    let desk_two : ℕ → ℕ = update sh.desk b.seat id in
+    let desk_first : desk_two a.seat ≡ id = update_else sh.desk b.seat id a.seat (λ e. ne (sym e)) ∙ desk_a in
     let views_two : List View = set (set s.views id (view_after_join v w)) other [] in
     let at_id : get_elem? views_two id ≡ maybe.some (view_after_join v w) =
     set_else (set s.views id (view_after_join v w)) other id [] (λ e. ne_id (sym e))
@@ -370,12 +371,12 @@ meets k o c id v other w one_v one_w idle s h view ne_id view_w =
             (λ t. absurd (subst (In x) (sym t.1) in_u))
             (λ t. ⊎_elim
             (λ z. two_of a2 b x (subst (In x) (sym z.1) in_u) (λ r. (at_one r.seat ≡ r) × (desk_two r.seat ≡ j) × (r.seat < c.seats))
-            (put_here at a.seat a2, desk_first ∙ sym z.0, near_a) (still, put_here sh.desk b.seat id ∙ sym z.0, near_b))
+            (update_here at a.seat a2, desk_first ∙ sym z.0, near_a) (still, update_here sh.desk b.seat id ∙ sym z.0, near_b))
             (λ z.
             let old = sh.each j u z.1 x in_u in
             let na : x.seat ≢ a.seat = λ q. z.0 (sym old.1 ∙ ap sh.desk q ∙ desk_a) in
             let nb : x.seat ≢ b.seat = λ q. t.0 (sym old.1 ∙ ap sh.desk q ∙ desk_b) in
-            (put_else at a.seat a2 x.seat na ∙ old.0, put_else sh.desk b.seat id x.seat nb ∙ old.1, old.2))
+            (update_else at a.seat a2 x.seat na ∙ old.0, update_else sh.desk b.seat id x.seat nb ∙ old.1, old.2))
             (at_set s.views id j (view_after_join v w) u t.1))
             (at_set (set s.views id (view_after_join v w)) other j [] u e);
         apart = λ j u e. ⊎_elim (λ t. subst Distinct t.1 tt)
@@ -388,30 +389,30 @@ meets k o c id v other w one_v one_w idle s h view ne_id view_w =
             view_after_join v w,
             ap (λ (n : ℕ). get_elem? views_two n) (ap desk_two h.1 ∙ desk_first)
                 ∙ at_id,
-            inl (ap at_one h.1 ∙ put_here at a.seat a2),
+            inl (ap at_one h.1 ∙ update_here at a.seat a2),
           )
           | inr na ↦ elim (eqb_tells j b.seat) [
             | inl h ↦ (
               view_after_join v w,
-              ap (λ (n : ℕ). get_elem? views_two n) (ap desk_two h.1 ∙ put_here sh.desk b.seat id)
+              ap (λ (n : ℕ). get_elem? views_two n) (ap desk_two h.1 ∙ update_here sh.desk b.seat id)
                   ∙ at_id,
               inr (inl (ap at_one h.1 ∙ still)),
             )
             | inr nb ↦
                 let old = sh.there j near in
-                let desk_is : desk_two j ≡ sh.desk j = put_else sh.desk b.seat id j nb.1 in
+                let desk_is : desk_two j ≡ sh.desk j = update_else sh.desk b.seat id j nb.1 in
                 let off_id : sh.desk j ≢ id = λ d. na.1 (alone s.views at sh j old.0 id a old.1 d here old.2) in
                 let off_other : sh.desk j ≢ other = λ d. nb.1 (alone s.views at sh j old.0 other b old.1 d there old.2) in (
                   old.0,
                   ap (λ (n : ℕ). get_elem? views_two n) desk_is
                       ∙ set_else (set s.views id (view_after_join v w)) other (sh.desk j) [] off_other
                       ∙ set_else s.views id (sh.desk j) (view_after_join v w) off_id ∙ old.1,
-                  subst (λ (x : SeatRecord). In x old.0) (sym (put_else at a.seat a2 j na.1)) old.2,
+                  subst (λ (x : SeatRecord). In x old.0) (sym (update_else at a.seat a2 j na.1)) old.2,
                 )
           ]
         ];
-        settings = at_put at a.seat a2 (λ j x. x.setting ≡ c) (is_setting c s.views at sh id a here) (λ j _. sh.settings j);
-        seats = at_put at a.seat a2 (λ j x. x.seat ≡ j) refl (λ j _. sh.seats j);
+        settings = at_update at a.seat a2 (λ j x. x.setting ≡ c) (is_setting c s.views at sh id a here) (λ j _. sh.settings j);
+        seats = at_update at a.seat a2 (λ j x. x.seat ≡ j) refl (λ j _. sh.seats j);
       },
       kept,
     )

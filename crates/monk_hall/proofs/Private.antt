@@ -8,7 +8,7 @@ use Rattle.monk_history.specs.Meaning.Events.{seat_of}
 use Rattle.monk_history.specs.Meaning.Legal.{IsLegal}
 use Rattle.monk_history.specs.declared.event.Event.{Event}
 use Rattle.monk_history.proofs.PublicLaws.Meaning.{events_of-push, legal_front, legal_last}
-use Rattle.monk_world.proofs.PublicLaws.{bounded_floor, no_less, put_same, stays}
+use Rattle.monk_world.proofs.PublicLaws.{bounded_floor, no_less, update_same, stays}
 use Rattle.monk_floor.specs.View.{monitor_of}
 use Rattle.monk_world.specs.Kept.{IsKept}
 use Rattle.monk_world.specs.State.{State, with_event}
@@ -48,7 +48,7 @@ one_kept k o s seats conds i q e kept near active own legal enough = record {
   sound = stays k o s kept.sound.right kept.sound.owner kept.sound.is_sound i e own.seat
       (legal_last (monitor_of k o s.floor) s.floor.history e legal) q active own.enters own.keeps enough;
   bounded = bounded_floor s kept.bounded i near s.world s.known (s.world.place i)
-      (sym (put_same s.world.place i (s.world.place i) refl)) e own.seat (omega arith) (omega arith)
+      (sym (update_same s.world.place i (s.world.place i) refl)) e own.seat (omega arith) (omega arith)
       (λ j. let a = kept.bounded.counted j in let b = no_less s kept.bounded e j in omega arith);
   seats_are = kept.seats_are;
   conds_are = kept.conds_are;

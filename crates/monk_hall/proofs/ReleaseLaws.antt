@@ -1,20 +1,16 @@
 -- What a release makes of an active seat
 use Rattle.std.proofs.Common.{◌≡◌, ◌≢◌, ℕ, suc, ◌+◌, ◌-◌, ◌<◌, ◌≤◌, Bool, true, false, true≢false, not, cond, List, []}
 use Rattle.std.proofs.Common.{◌∷◌, ◌++◌, length, Some, refl, sym, ap, subst, ◌∙◌, arith}
-use Rattle.std.specs.Prelude.{nat_lt}
 use Rattle.atomic_table.specs.Seated.{TableId}
 use Rattle.monk_kinds.specs.declared.mode.Rules.{Rules}
 use Rattle.monk_kinds.specs.declared.mode.Pick.{Pick}
 use Rattle.monk_kinds.specs.declared.mode.Pick.TheVariants.{Entry as WishEntry, Waiter as WishWaiter, Signaller as WishSignaller}
 use Rattle.monk_object.specs.Object.{Object}
 use Rattle.monk_history.specs.Meaning.Choice.{Queues, must_stay, queues_at}
-use Rattle.monk_history.specs.Meaning.Conditions.{condition}
-use Rattle.monk_history.specs.Meaning.Signallers.{is_empty}
 use Rattle.monk_history.specs.Meaning.Counts.{events_of, left_of, is_enter}
 use Rattle.monk_history.specs.Meaning.Events.{seat_of, is_stay, has_conditions, has_signaller_queue, returns_at_once}
 use Rattle.monk_history.proofs.PublicLaws.Meaning.{may_leave, may_wait, may_signal_on, may_signal_leave, may_signal_wait, may_until}
 use Rattle.monk_history.proofs.PublicLaws.Meaning.{legal-push}
-use Rattle.monk_world.proofs.PublicLaws.{some_above}
 use Rattle.monk_history.specs.Meaning.Legal.{IsLegal}
 use Rattle.monk_history.specs.Meaning.Monitor.{Monitor}
 use Rattle.monk_history.specs.Meaning.Reasons.{IsAllowed}
@@ -469,11 +465,3 @@ after_peeked k o call wish to peeks a b x (Active y) m =
     stayed_peeked peeks a b x (call a.me.seat) wish y
     (subst (λ e. HasStayed k o b e wish 0 y) (ap (λ (h : Holder). call h.me.seat) x.is) m)
 after_peeked k o call wish to peeks a b x (Parked p) m = released_after k o call wish to peeks a b x p m
-
-some_there : (xs : List ℕ) → not (is_empty xs) ≡ nat_lt 0 (length xs)
-some_there [] = refl
-some_there (x ∷ xs) = sym (some_above (suc (length xs)) (λ e. absurd (omega arith)))
-
-pub serves_some : (k : Rules) (o : Object) (f : FloorView) (s c n : ℕ) → n ≡ length (condition c f.history)
-    → nat_lt 0 n ≡ not (must_stay o (stands_of k o f) (Signal s c next.Stay))
-serves_some k o f s c n e = ap (λ m. nat_lt 0 m) e ∙ sym (some_there (condition c f.history))

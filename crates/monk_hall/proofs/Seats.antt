@@ -5,8 +5,8 @@ use Rattle.std.proofs.Math.Option.{some-injective}
 use mathlib.Core.Option.{some}
 use lib.ListN.{get_elem?}
 use Rattle.atomic_table.proofs.Lists.{at_set, set_else, set_here}
-use Rattle.monk_world.specs.Put.{put}
-use Rattle.monk_world.proofs.PublicLaws.{at_put, put_here, put_else}
+use Rattle.monk_world.specs.Update.{update}
+use Rattle.monk_world.proofs.PublicLaws.{at_update, update_here, update_else}
 use Rattle.monk_hall.specs.Records.{View, In, Distinct}
 use Rattle.monk_hall.specs.Rule.{AreShown}
 use Rattle.monk_hall.specs.declared.record.SeatRecord.{SeatRecord}
@@ -36,21 +36,21 @@ module _ (c : Setting) (views : List View) (at : ℕ → SeatRecord) (s : AreSho
   is_setting = ap (λ (x : SeatRecord). x.setting) (sym is_at) ∙ s.settings r.seat
 
   -- the record of the seat whose view has it alone changes
-  pub shown_set : (w : SeatRecord) → w.seat ≡ r.seat → w.setting ≡ r.setting → AreShown c (set views id (w ∷ [])) (put at r.seat w)
+  pub shown_set : (w : SeatRecord) → w.seat ≡ r.seat → w.setting ≡ r.setting → AreShown c (set views id (w ∷ [])) (update at r.seat w)
   shown_set w same kept = record {
     desk = s.desk;
     each = λ j v e x in_v. ⊎_elim
         (λ t.
         let is_w : x ≡ w = only x w (subst (λ (z : View). In x z) (sym t.1) in_v) in
         let seat : x.seat ≡ r.seat = ap (λ (z : SeatRecord). z.seat) is_w ∙ same in (
-          ap (put at r.seat w) seat ∙ put_here at r.seat w ∙ sym is_w,
+          ap (update at r.seat w) seat ∙ update_here at r.seat w ∙ sym is_w,
           ap s.desk seat ∙ is_desk
               ∙ sym t.0,
           subst (λ (z : ℕ). z < c.seats) (sym seat) is_near,
         ))
         (λ t.
         let old = s.each j v t.1 x in_v in
-        (put_else at r.seat w x.seat (λ eq. t.0 (sym old.1 ∙ ap s.desk eq ∙ is_desk)) ∙ old.0, old.1, old.2))
+        (update_else at r.seat w x.seat (λ eq. t.0 (sym old.1 ∙ ap s.desk eq ∙ is_desk)) ∙ old.0, old.1, old.2))
         (at_set views id j (w ∷ []) v e);
     apart = λ j v e. ⊎_elim (λ t. subst Distinct t.1 ((λ y h. absurd h), tt)) (λ t. s.apart j v t.1) (at_set views id j (w ∷ []) v e);
     there = λ j near. elim (eqb_tells j r.seat) [
@@ -58,7 +58,7 @@ module _ (c : Setting) (views : List View) (at : ℕ → SeatRecord) (s : AreSho
         w ∷ [],
         ap (λ (n : ℕ). get_elem? (set views id (w ∷ [])) n) (ap s.desk h.1 ∙ is_desk)
             ∙ set_here views id (w ∷ []) (long views id (r ∷ []) here),
-        inl (ap (put at r.seat w) h.1 ∙ put_here at r.seat w),
+        inl (ap (update at r.seat w) h.1 ∙ update_here at r.seat w),
       )
       | inr h ↦
           let old = s.there j near in
@@ -68,12 +68,12 @@ module _ (c : Setting) (views : List View) (at : ℕ → SeatRecord) (s : AreSho
               old.0,
               set_else views id (s.desk j) (w ∷ []) d.1
                   ∙ old.1,
-              subst (λ (x : SeatRecord). In x old.0) (sym (put_else at r.seat w j h.1)) old.2,
+              subst (λ (x : SeatRecord). In x old.0) (sym (update_else at r.seat w j h.1)) old.2,
             )
           ]
     ];
-    settings = at_put at r.seat w (λ j x. x.setting ≡ c) (kept ∙ is_setting) (λ j n. s.settings j);
-    seats = at_put at r.seat w (λ j x. x.seat ≡ j) same (λ j n. s.seats j);
+    settings = at_update at r.seat w (λ j x. x.setting ≡ c) (kept ∙ is_setting) (λ j n. s.settings j);
+    seats = at_update at r.seat w (λ j x. x.seat ≡ j) same (λ j n. s.seats j);
   }
     where
       alone : (j : ℕ) (v : View) → get_elem? views id ≡ some v → In (at j) v → j ≡ r.seat

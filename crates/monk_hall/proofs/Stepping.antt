@@ -12,7 +12,7 @@ use Rattle.monk_history.specs.Meaning.Counts.{enters_of, left_of}
 use Rattle.monk_floor.specs.View.{FloorView}
 use Rattle.monk_world.specs.Kept.{IsKept}
 use Rattle.monk_world.specs.Places.{stage, active_stage}
-use Rattle.monk_world.specs.Put.{put}
+use Rattle.monk_world.specs.Update.{update}
 use Rattle.monk_world.specs.Sound.{IsSound}
 use Rattle.monk_world.specs.State.{State}
 use Rattle.monk_world.specs.World.{World}
@@ -32,7 +32,7 @@ use Rattle.monk_hall.proofs.Frame as frame
 use Rattle.monk_hall.proofs.Knows.{told_moves}
 use Rattle.monk_hall.proofs.Seats as seats
 use Rattle.monk_hall.proofs.Standing.{IsApart}
-use Rattle.monk_hall.proofs.Stored.{field_put, field_stays}
+use Rattle.monk_hall.proofs.Stored.{field_update, field_stays}
 
 module _ (k : Rules) (o : Object) (c : Setting) (kind : IsKind k) (s : table.State (Option FloorView) View)
     (h : IsHall k o c s) (id : ℕ) (r : SeatRecord)
@@ -104,30 +104,31 @@ module _ (k : Rules) (o : Object) (c : Setting) (kind : IsKind k) (s : table.Sta
     pub seen : w.seen ≡ r.seen
     pub mine : w.mine ≡ r.mine
 
-  pub places_after : (w : SeatRecord) → Path (ℕ → Place) (put world.place r.seat w.place) (λ j. (put at r.seat w j).place)
-  places_after w = sym (field_put (λ (y : SeatRecord). y.place) at r.seat w)
+  pub places_after : (w : SeatRecord) → Path (ℕ → Place) (update world.place r.seat w.place) (λ j. (update at r.seat w j).place)
+  places_after w = sym (field_update (λ (y : SeatRecord). y.place) at r.seat w)
 
-  pub counts_after : (w : SeatRecord) (n : ℕ) → n ≡ w.count → Path (ℕ → ℕ) (put world.count r.seat n) (λ j. (put at r.seat w j).count)
-  counts_after w n e = ap (put world.count r.seat) e ∙ sym (field_put (λ (y : SeatRecord). y.count) at r.seat w)
+  pub counts_after : (w : SeatRecord) (n : ℕ) → n ≡ w.count → Path (ℕ → ℕ) (update world.count r.seat n) (λ j. (update at r.seat w j).count)
+  counts_after w n e = ap (update world.count r.seat) e ∙ sym (field_update (λ (y : SeatRecord). y.count) at r.seat w)
 
-  pub counts_stay : (w : SeatRecord) → w.count ≡ r.count → Path (ℕ → ℕ) world.count (λ j. (put at r.seat w j).count)
+  pub counts_stay : (w : SeatRecord) → w.count ≡ r.count → Path (ℕ → ℕ) world.count (λ j. (update at r.seat w j).count)
   counts_stay w e = sym (field_stays (λ (y : SeatRecord). y.count) at r.seat w (ap (λ (y : SeatRecord). y.count) is ∙ sym e))
 
-  pub known_after : (w : SeatRecord) (b : Bool) → b ≡ w.known → Path (ℕ → Bool) (put state.known r.seat b) (λ j. (put at r.seat w j).known)
-  known_after w b e = ap (put state.known r.seat) e ∙ sym (field_put (λ (y : SeatRecord). y.known) at r.seat w)
+  pub known_after : (w : SeatRecord) (b : Bool) → b ≡ w.known
+      → Path (ℕ → Bool) (update state.known r.seat b) (λ j. (update at r.seat w j).known)
+  known_after w b e = ap (update state.known r.seat) e ∙ sym (field_update (λ (y : SeatRecord). y.known) at r.seat w)
 
-  pub known_stays : (w : SeatRecord) → w.known ≡ r.known → Path (ℕ → Bool) state.known (λ j. (put at r.seat w j).known)
+  pub known_stays : (w : SeatRecord) → w.known ≡ r.known → Path (ℕ → Bool) state.known (λ j. (update at r.seat w j).known)
   known_stays w e = sym (field_stays (λ (y : SeatRecord). y.known) at r.seat w (ap (λ (y : SeatRecord). y.known) is ∙ sym e))
 
   -- the rule holds after a step that leaves the history and the floor where they are, and it is a step of the world
   pub holds_after : (w : SeatRecord) (ws : List ℕ) → IsMoved w → length ws ≡ length s.words
       → {m : Command} {a : Answer} {t : State} → IsTaken m a t
-      → Path State t (shown_state c ws (put at r.seat w) kept_hall.history)
-      → AreTold k o c s.homes (put at r.seat w) (shown_world ws (put at r.seat w)) kept_hall.past kept_hall.history
+      → Path State t (shown_state c ws (update at r.seat w) kept_hall.history)
+      → AreTold k o c s.homes (update at r.seat w) (shown_world ws (update at r.seat w)) kept_hall.past kept_hall.history
       → Takes k o c s h r.seat m a (record { words = ws; homes = s.homes; views = set s.views id (w ∷ []) })
   holds_after w ws moved wide {m} {a} {t} taken same told = record {
     hall = (
-      put at r.seat w,
+      update at r.seat w,
       seats.shown_set c s.views at h.1 id r here w moved.seat moved.setting,
       record {
         past = kept_hall.past;
@@ -143,11 +144,11 @@ module _ (k : Rules) (o : Object) (c : Setting) (kind : IsKind k) (s : table.Sta
 
   -- what the seats know after a step of a seat that has neither the floor nor a choice, before and after
   pub knows_after : (w : SeatRecord) (ws : List ℕ) → IsMoved w
-      → CountsCalls (shown_world ws (put at r.seat w)) kept_hall.past → stage r.place ≢ active_stage → IsApart w.place
-      → AreTold k o c s.homes (put at r.seat w) (shown_world ws (put at r.seat w)) kept_hall.past kept_hall.history
+      → CountsCalls (shown_world ws (update at r.seat w)) kept_hall.past → stage r.place ≢ active_stage → IsApart w.place
+      → AreTold k o c s.homes (update at r.seat w) (shown_world ws (update at r.seat w)) kept_hall.past kept_hall.history
   knows_after w ws moved calls was apart =
       told_moves k o c s.homes at world kept_hall.past kept_hall.history kept_hall.told r.seat w
       (moved.seen ∙ ap (λ (y : SeatRecord). y.seen) (sym is))
       (moved.mine ∙ ap (λ (y : SeatRecord). y.mine) (sym is))
-      (shown_world ws (put at r.seat w)) calls (λ e. was (sym (ap (λ (y : SeatRecord). stage y.place) is) ∙ e))
+      (shown_world ws (update at r.seat w)) calls (λ e. was (sym (ap (λ (y : SeatRecord). stage y.place) is) ∙ e))
       apart.not_active apart.not_back

@@ -14,7 +14,7 @@ use Rattle.monk_kinds.specs.declared.mode.Rules.{Rules}
 use Rattle.monk_object.specs.Object.{Object}
 use Rattle.monk_history.specs.declared.event.Event.{Event}
 use Rattle.monk_world.specs.Places.{stage, ticket, back_turn, ticketed_stage, active_stage, back_stage, inside_stage}
-use Rattle.monk_world.specs.Put.{put}
+use Rattle.monk_world.specs.Update.{update}
 use Rattle.monk_world.specs.State.{State}
 use Rattle.monk_world.specs.StepTable.{may_be_told}
 use Rattle.monk_world.specs.Steps.{place_after_seat_look, count_after_seat_look, place_after_drop, after_arrive}
@@ -90,7 +90,7 @@ module _ (k : Rules) (o : Object) (c : Setting) (kind : IsKind k) (s : table.Sta
       let seat_places = sym (seats_stay s.words 0 x (λ m e. omega arith)) in
       let counts = stepping.counts_stay k o c kind s h id r here w refl in
       let knows = stepping.known_stays k o c kind s h id r here w refl in
-      let same : Path State after (shown_state c ws (put at r.seat w) kh.history) = λ z. record {
+      let same : Path State after (shown_state c ws (update at r.seat w) kh.history) = λ z. record {
         world = record {
           drawn = drawn z;
           unpassed = waiting z;
@@ -105,7 +105,7 @@ module _ (k : Rules) (o : Object) (c : Setting) (kind : IsKind k) (s : table.Sta
       } in
       let moved : stepping.IsMoved k o c kind s h id r here w = record { seat = refl; setting = refl; seen = refl; mine = refl } in
       let apart = standing.apart_arrived (tickets found) (unpassed found) in
-      let calls = calls_stay world (shown_world ws (put at r.seat w)) kh.past r.seat w.place kh.told.calls (sym places)
+      let calls = calls_stay world (shown_world ws (update at r.seat w)) kh.past r.seat w.place kh.told.calls (sym places)
       (sym seat_places) (ap back_turn (stepping.stands_at k o c kind s h id r here Idle idle)) apart.chose in
       stepping.holds_after k o c kind s h id r here w ws moved (length-set s.words 0 x) kept same
       (stepping.knows_after k o c kind s h id r here w ws moved calls (λ e. let z = ap stage idle in absurd (omega arith)) apart)
@@ -141,14 +141,14 @@ module _ (k : Rules) (o : Object) (c : Setting) (kind : IsKind k) (s : table.Sta
       let places = stepping.places_after k o c kind s h id r here w in
       let counts = stepping.counts_stay k o c kind s h id r here w refl in
       let knows = stepping.known_stays k o c kind s h id r here w refl in
-      let same : Path State after (shown_state c s.words (put at r.seat w) kh.history) = λ z. record {
+      let same : Path State after (shown_state c s.words (update at r.seat w) kh.history) = λ z. record {
         world = record world { place = places z; count = counts z };
         known = knows z;
         floor = old.floor;
       } in
       let moved : stepping.IsMoved k o c kind s h id r here w = record { seat = refl; setting = refl; seen = refl; mine = refl } in
       let apart = standing.apart_looked n (found == n + 1) in
-      let calls = calls_stay world (shown_world s.words (put at r.seat w)) kh.past r.seat w.place kh.told.calls
+      let calls = calls_stay world (shown_world s.words (update at r.seat w)) kh.past r.seat w.place kh.told.calls
       (sym places) refl (ap back_turn stands) apart.chose in
       stepping.holds_after k o c kind s h id r here w s.words moved refl kept same
       (stepping.knows_after k o c kind s h id r here w s.words moved calls (λ e. absurd (omega arith)) apart)
@@ -179,19 +179,19 @@ module _ (k : Rules) (o : Object) (c : Setting) (kind : IsKind k) (s : table.Sta
       let after : State = record old { world = after_seat_look world r.seat (found == n + 1) } in
       let kept = stepping.takes_step k o c kind s h id r here command.Look (answer.Looked (found == n + 1)) after Inner
       ready place_is (refl, refl) in
-      let places = ap (λ (y : SeatRecord). put world.place r.seat (place_after_seat_look (found == y.count + 1))) is
+      let places = ap (λ (y : SeatRecord). update world.place r.seat (place_after_seat_look (found == y.count + 1))) is
       ∙ stepping.places_after k o c kind s h id r here w in
       let counts = stepping.counts_after k o c kind s h id r here w (count_after_seat_look n (found == n + 1))
       (ap (λ (y : SeatRecord). count_after_seat_look y.count (found == y.count + 1)) is) in
       let knows = stepping.known_stays k o c kind s h id r here w refl in
-      let same : Path State after (shown_state c s.words (put at r.seat w) kh.history) = λ z. record {
+      let same : Path State after (shown_state c s.words (update at r.seat w) kh.history) = λ z. record {
         world = record world { place = places z; count = counts z };
         known = knows z;
         floor = old.floor;
       } in
       let moved : stepping.IsMoved k o c kind s h id r here w = record { seat = refl; setting = refl; seen = refl; mine = refl } in
       let apart = standing.apart_answered (found == r.count + 1) in
-      let calls = calls_stay world (shown_world s.words (put at r.seat w)) kh.past r.seat w.place kh.told.calls
+      let calls = calls_stay world (shown_world s.words (update at r.seat w)) kh.past r.seat w.place kh.told.calls
       (sym (stepping.places_after k o c kind s h id r here w)) refl (ap back_turn stands) apart.chose in
       subst (λ (x : ℕ). Takes k o c s h r.seat command.Look (answer.Looked (found == x + 1))
       (record s { views = set s.views id (w ∷ []) })) counted_is
@@ -220,7 +220,7 @@ module _ (k : Rules) (o : Object) (c : Setting) (kind : IsKind k) (s : table.Sta
         told = ap (λ (p : Place). may_be_told p command.Peek) stands;
         left = omega arith;
       } in
-      let after : State = record old { known = put old.known r.seat (old.known r.seat || nat_le 2 world.unpassed) } in
+      let after : State = record old { known = update old.known r.seat (old.known r.seat || nat_le 2 world.unpassed) } in
       let kept = stepping.takes_step k o c kind s h id r here command.Peek (answer.Found world.unpassed) after
       (Active (source_from r.place)) ready place_is (refl, refl) in
       let learnt : (old.known r.seat || nat_le 2 world.unpassed) ≡ w.known =
@@ -228,19 +228,19 @@ module _ (k : Rules) (o : Object) (c : Setting) (kind : IsKind k) (s : table.Sta
       let places = sym (stored.field_stays (λ (y : SeatRecord). y.place) at r.seat w (ap (λ (y : SeatRecord). y.place) is)) in
       let counts = stepping.counts_stay k o c kind s h id r here w refl in
       let knows = stepping.known_after k o c kind s h id r here w (old.known r.seat || nat_le 2 world.unpassed) learnt in
-      let same : Path State after (shown_state c s.words (put at r.seat w) kh.history) = λ z. record {
+      let same : Path State after (shown_state c s.words (update at r.seat w) kh.history) = λ z. record {
         world = record world { place = places z; count = counts z };
         known = knows z;
         floor = old.floor;
       } in
       let moved : stepping.IsMoved k o c kind s h id r here w = record { seat = refl; setting = refl; seen = refl; mine = refl } in
       let calls = subst (λ (p : ℕ → Place). CountsCalls
-      (record world { place = p; count = λ j. (put at r.seat w j).count }) kh.past) places (recount kh.told.calls)
+      (record world { place = p; count = λ j. (update at r.seat w j).count }) kh.past) places (recount kh.told.calls)
       in
       stepping.holds_after k o c kind s h id r here w s.words moved refl kept same
       (told_stays k o c s.homes at world kh.past kh.history kh.told r.seat w (ap (λ (y : SeatRecord). y.seen) (sym is))
       (ap (λ (y : SeatRecord). y.mine) (sym is))
-      (shown_world s.words (put at r.seat w)) calls (ap (λ (y : SeatRecord). y.place) (sym is)))
+      (shown_world s.words (update at r.seat w)) calls (ap (λ (y : SeatRecord). y.place) (sym is)))
     where
       knew : (b : Bool) (n : ℕ) → (b ≡ true → 2 ≤ n) → (b || nat_le 2 n) ≡ nat_le 2 n
       knew true n l = let two = l refl in sym (two_or_more n two)
@@ -310,13 +310,13 @@ module _ (k : Rules) (o : Object) (c : Setting) (kind : IsKind k) (s : table.Sta
       let drawn : world.drawn ≡ tickets (slice_index ws 0) = sym (ap tickets word ∙ halves.drawn) in
       let waiting : world.unpassed - 1 ≡ unpassed (slice_index ws 0) = sym (ap unpassed word ∙ halves.waiting) in
       let home_is : to ≡ home_at r.place = sym (ap home_at back) in
-      let places = ap (λ (y : Home). put world.place r.seat (place_after_drop (tickets found) (unpassed found) y))
+      let places = ap (λ (y : Home). update world.place r.seat (place_after_drop (tickets found) (unpassed found) y))
       home_is ∙ stepping.places_after k o c kind s h id r here w in
       let ticket_places = sym (places_stay s.words 0 x (λ m e. omega arith)) in
       let seat_places = sym (seats_stay s.words 0 x (λ m e. omega arith)) in
       let counts = stepping.counts_stay k o c kind s h id r here w refl in
       let knows = stepping.known_stays k o c kind s h id r here w refl in
-      let same : Path State after (shown_state c ws (put at r.seat w) kh.history) = λ z. record {
+      let same : Path State after (shown_state c ws (update at r.seat w) kh.history) = λ z. record {
         world = record {
           drawn = drawn z;
           unpassed = waiting z;
@@ -331,7 +331,7 @@ module _ (k : Rules) (o : Object) (c : Setting) (kind : IsKind k) (s : table.Sta
       } in
       let moved : stepping.IsMoved k o c kind s h id r here w = record { seat = refl; setting = refl; seen = refl; mine = refl } in
       let apart = standing.apart_dropped (tickets found) (unpassed found) (home_at r.place) in
-      let calls = calls_stay world (shown_world ws (put at r.seat w)) kh.past r.seat w.place kh.told.calls
+      let calls = calls_stay world (shown_world ws (update at r.seat w)) kh.past r.seat w.place kh.told.calls
       (sym (stepping.places_after k o c kind s h id r here w)) (sym seat_places) (ap back_turn stands) apart.chose
       in
       stepping.holds_after k o c kind s h id r here w ws moved (length-set s.words 0 x) kept same

@@ -1,5 +1,5 @@
 -- The board that is kept shows what an event makes of it
-use Rattle.std.proofs.Common.{◌≡◌, ◌∙◌, ◌++◌, ℕ, Bool, true, false, cond, not, ◌&&◌, List, [], Some, refl, sym, ap, subst}
+use Rattle.std.proofs.Common.{◌≡◌, ◌∙◌, ℕ, Bool, true, false, cond, not, ◌&&◌, List, [], Some, refl, sym, ap}
 use Rattle.std.specs.Prelude.{OnOk, Result, Ok, Err}
 use Rattle.std.proofs.lemmas.Bool.{true≢false}
 use Rattle.monk_object.specs.Object.{Object}
@@ -10,14 +10,14 @@ use Rattle.monk_history.specs.declared.event.Via.TheVariants.{Free, Handed}
 use Rattle.monk_history.specs.Meaning.Events.{via_of}
 use Rattle.monk_history.specs.Meaning.Monitor.{Monitor}
 use Rattle.monk_history.specs.Meaning.Reasons.{is_in_place, is_in_range, is_in_turn, is_offered, may_enter, reason_before}
-use Rattle.monk_history.specs.Meaning.Signallers.{is_empty, signals}
+use Rattle.monk_history.specs.Meaning.Signallers.{is_empty}
 use Rattle.monk_history.specs.Meaning.Situation.{Situation}
 use Rattle.monk_history.specs.Meaning.Untils.{ready_of}
 use Rattle.monk_audit.specs.Replay.{IsReplayOf, replay_situation}
-use Rattle.monk_logs.specs.Board.{given_by, sight}
+use Rattle.monk_logs.specs.Board.{sight}
 use Rattle.monk_logs.specs.BoardCourse.{board_via}
 use Rattle.monk_logs.specs.BoardShown.{IsBoardOf, board_over, board_shown}
-use Rattle.monk_logs.specs.Items.{line, services, unserved_in}
+use Rattle.monk_logs.specs.Items.{services}
 use Rattle.monk_logs.specs.declared.board.Board.{Board}
 use Rattle.monk_logs.specs.declared.item.Item.{Item}
 
@@ -48,48 +48,6 @@ sound_rest seats conds predicates b u is rest conditions waiters signallers begu
   no_signallers = signallers ∙ is.no_signallers;
   no_items = λ h. absurd (true≢false (sym begun ∙ h));
   nobody_back = λ h. absurd (true≢false (sym begun ∙ h));
-}
-
-given_none : (e : Event) → given_by e [] ≡ []
-given_none (event.Enter s via) = refl
-given_none (event.Act s op r) = refl
-given_none (event.Leave s x) = refl
-given_none (event.Wait s c x) = refl
-given_none (event.Signal s c x) = refl
-given_none (event.SignalLeave s c x) = refl
-given_none (event.Until s p x) = refl
-given_none (event.Resume s q) = refl
-given_none (event.SignalAll s c) = refl
-given_none (event.SignalWait s c d x) = refl
-
-nobody_joins : (e : Event) → signals (λ c. unserved_in (line c [])) e ≡ []
-nobody_joins (event.Enter s via) = refl
-nobody_joins (event.Act s op r) = refl
-nobody_joins (event.Leave s x) = refl
-nobody_joins (event.Wait s c x) = refl
-nobody_joins (event.Signal s c x) = refl
-nobody_joins (event.SignalLeave s c x) = refl
-nobody_joins (event.Until s p x) = refl
-nobody_joins (event.Resume s q) = refl
-nobody_joins (event.SignalAll s c) = refl
-nobody_joins (event.SignalWait s c d x) = refl
-
-pub sound_served : (seats conds predicates : ℕ) (b u : Board) (e : Event) → IsBoardOf seats conds predicates b → u.rest ≡ b.rest
-    → u.items.items ≡ b.items.items ++ given_by e b.items.items
-    → u.signallers.items ≡ b.signallers.items ++ signals (λ c. unserved_in (line c b.items.items)) e
-    → IsBoardOf seats conds predicates u
-sound_served seats conds predicates b u e is rest items back = record {
-  rest = subst (IsReplayOf seats conds predicates) (sym rest) is.rest;
-  no_conditions = λ c. ap (λ r. (replay_situation r []).condition c) rest ∙ is.no_conditions c;
-  no_waiters = ap (λ r. (replay_situation r []).waiters) rest ∙ is.no_waiters;
-  no_signallers = ap (λ r. (replay_situation r []).signallers) rest ∙ is.no_signallers;
-  no_items = λ h.
-      let none = is.no_items (sym (ap (λ r. (replay_situation r []).begun) rest) ∙ h) in
-      items ∙ ap (λ (l : List Item). l ++ given_by e l) none ∙ given_none e;
-  nobody_back = λ h.
-      let fresh = sym (ap (λ r. (replay_situation r []).begun) rest) ∙ h in
-      back ∙ ap (λ (l : List ℕ). l ++ signals (λ c. unserved_in (line c b.items.items)) e) (is.nobody_back fresh)
-      ∙ ap (λ (l : List Item). signals (λ c. unserved_in (line c l)) e) (is.no_items fresh) ∙ nobody_joins e;
 }
 
 -- ---- what may be called

@@ -1,16 +1,11 @@
 -- What the verdict on a log says where queues are served in that order
-use Rattle.std.specs.Prelude.{ℕ, List}
+use Rattle.std.specs.Prelude.{List}
 use Rattle.monk_history.specs.Meaning.Monitor.{Monitor}
-use Rattle.monk_logs.specs.BoardStand.{board_verdict}
-use Rattle.monk_logs.specs.Exactly.{FitsExactlyBy, IsFirstWithout, IsVerdictBy, MisfitsExactlyBy}
+use Rattle.monk_logs.specs.Exactly.{FitsExactlyBy, IsVerdictBy, MisfitsExactlyBy}
 use Rattle.monk_logs.specs.FitsIn.{IsOpenIn}
 use Rattle.monk_logs.specs.declared.line.LogLine.{LogLine}
 use Rattle.monk_logs.specs.declared.order.Order.{Order}
 use Rattle.monk_logs.specs.declared.verdict.LogVerdict.{LogVerdict}
-
--- line n, counted from 1, is the first with which no run begins
-abbrev pub IsMisfitIn : Order → Monitor → List LogLine → ℕ → Type 0
-IsMisfitIn o m log n = IsFirstWithout (IsOpenIn o m) log n
 
 abbrev pub IsVerdictIn : Order → Monitor → List LogLine → LogVerdict → Type 0
 IsVerdictIn o m log v = IsVerdictBy (IsOpenIn o m) log v
@@ -22,7 +17,3 @@ FitsExactlyIn o m log v = FitsExactlyBy (IsOpenIn o m) log v
 -- it misfits exactly at the first line with which none begins
 abbrev pub MisfitsExactlyIn : Order → Monitor → List LogLine → LogVerdict → Type 0
 MisfitsExactlyIn o m log v = MisfitsExactlyBy (IsOpenIn o m) log v
-
--- the verdict that is found line by line
-abbrev pub verdict_in : Order → Monitor → List LogLine → LogVerdict
-verdict_in o m log = board_verdict o m log

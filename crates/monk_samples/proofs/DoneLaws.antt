@@ -17,7 +17,7 @@ use Rattle.monk_hall.specs.Tokens.{Token}
 use Rattle.monk_hall.specs.declared.setting.Setting.{Setting}
 use Rattle.monk_samples.specs.Rounds.{rounds_to}
 use Rattle.monk_samples.specs.Trails.{Addition, HasCalled, after, calls_in, events_in, outside}
-use Rattle.monk_samples.specs.Visits.{Plan, Wanted, AreVisits, IsVisit, IsCertain}
+use Rattle.monk_samples.specs.Visits.{Plan, Guard, AreVisits, IsVisit, IsCertain}
 use Rattle.monk_samples.specs.declared.end.End.TheVariants.{Done}
 use Rattle.monk_samples.proofs.VisitLaws.{acts_append, calls_acts, calls_out_acts, paused_acts}
 
@@ -29,12 +29,12 @@ abbrev pub planned : ℕ → (Op → ℕ) → Plan → ℕ
 planned code f v = cond (v.op.code == code) (f v.op) 0
 
 -- a plan of that code waits until it gets done
-abbrev IsSureFor : Option Wanted → Bool → Type 0
+abbrev IsSureFor : Option Guard → Bool → Type 0
 IsSureFor None is = is ≡ false
 IsSureFor (Some w) is = Unit {0}
 
 abbrev pub IsSure : ℕ → Plan → Type 0
-IsSure code v = IsSureFor v.wanted (v.op.code == code)
+IsSure code v = IsSureFor v.guard (v.op.code == code)
 
 abbrev pub AreSure : ℕ → List Plan → Type 0
 AreSure code [] = Unit {0}
@@ -71,12 +71,12 @@ module _ (k : Rules) (o : Object) where
       → acts_in (events_in calls) ≡ record { op = v.op; reply = is.done.reply } ∷ []
   visit_acts c s v calls is =
       ap (λ ds. acts_in (events_in ds)) is.are ∙ acts_append k o is.pauses (is.act ∷ is.out)
-      ∙ (λ i. paused_acts k o c s v.wanted is.pauses is.done.paused i ++ acts_in (is.done.acts.is i ∷ events_in is.out))
+      ∙ (λ i. paused_acts k o c s v.guard is.pauses is.done.paused i ++ acts_in (is.done.acts.is i ∷ events_in is.out))
       ∙ ap (λ acts. record { op = v.op; reply = is.done.reply } ∷ acts)
       (calls_acts k o c _ is.out is.goes ∙ calls_out_acts k o s (v.goes_out (after is.act)))
 
   -- a visit of that code, which is sure, has got it done
-  worth_here : (code : ℕ) (f : Op → ℕ) (w : Option Wanted) (op : Op) (reply : ℕ) → IsSureFor w (op.code == code) → IsCertain w reply
+  worth_here : (code : ℕ) (f : Op → ℕ) (w : Option Guard) (op : Op) (reply : ℕ) → IsSureFor w (op.code == code) → IsCertain w reply
       → worth code f (record { op = op; reply = reply }) ≡ cond (op.code == code) (f op) 0
   worth_here code f None op reply sure certain =
       ap (λ b. cond (b && nat_lt 0 reply) (f op) 0) sure ∙ sym (ap (λ b. cond b (f op) 0) sure)
@@ -95,7 +95,7 @@ module _ (k : Rules) (o : Object) where
       ∙ ap (sum_by (worth code f)) (acts_append k o are.first are.rest)
       ∙ sum_by-append (worth code f) (acts_in (events_in are.first)) (acts_in (events_in are.rest))
       ∙ (λ i. (ap (sum_by (worth code f)) (visit_acts c s v are.first are.is_first) ∙ alone _
-      ∙ worth_here code f v.wanted v.op are.is_first.done.reply sure.0 are.is_first.done.certain) i
+      ∙ worth_here code f v.guard v.op are.is_first.done.reply sure.0 are.is_first.done.certain) i
       + visits_worth code f c s vs are.rest are.is_rest sure.1 i)
       ∙ sym (sum_by-cons (planned code f) v vs)
 

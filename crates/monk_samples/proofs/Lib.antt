@@ -2,7 +2,6 @@ mod TrailLaws
 mod StyleLaws
 mod VisitLaws
 mod RoundLaws
-mod FaultLaws
 mod EndLaws
 mod DoneLaws
 mod ShareLaws

@@ -162,10 +162,6 @@ same_spent p q s spent =
     subst (λ (c : Setting). c.budget ≤ length p.me.mine + 1) s.setting
     (subst (λ (h : List Event). q.me.setting.budget ≤ length h + 1) s.mine spent)
 
-pub first_spent : (ps : List Token) (q : Token) (qs : List Token) → AreSame ps (q ∷ qs) → IsSpent q → IsFirstSpent ps
-first_spent [] q qs same spent = absurd same
-first_spent (p ∷ ps) q qs same spent = same_spent p q same.0 spent
-
 same_back : (p q : Token) → IsSame p q → IsSame q p
 same_back p q s = record { hall = sym s.hall; seat = sym s.seat; setting = sym s.setting; mine = sym s.mine }
 

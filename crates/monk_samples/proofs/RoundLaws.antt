@@ -1,7 +1,7 @@
 -- How the rounds of a seat add up
-use Rattle.std.proofs.Common.{◌≡◌, ℕ, zero, suc, ◌+◌, ◌<◌, ◌≤◌, Bool, true, false, cond, nat_le, nat_lt}
+use Rattle.std.proofs.Common.{◌≡◌, ℕ, zero, suc, ◌+◌, ◌<◌, ◌≤◌, Bool, true, false, cond, nat_le}
 use Rattle.std.proofs.Common.{List, [], ◌∷◌, ◌++◌}
-use Rattle.std.proofs.lemmas.Bool.{false≢true, leb-true, leb-false, ltb-true, ltb-false}
+use Rattle.std.proofs.lemmas.Bool.{false≢true, leb-true, leb-false}
 use Rattle.std.proofs.Common.{append_assoc, refl, sym, ap, subst, ◌∙◌, arith}
 use Rattle.monk_kinds.specs.declared.mode.Rules.{Rules}
 use Rattle.monk_object.specs.Object.{Object}
@@ -122,18 +122,3 @@ module _ {X : Type 0} (P : X → Type 0) where
   pub where_false : (b : Bool) (x y : X) → b ≡ false → P y → P (cond b x y)
   where_false true x y e h = absurd (false≢true (sym e))
   where_false false x y e h = h
-
--- a seat is of the first half, or not
-pub is_below : (s seat half n : ℕ) → s ≡ seat → half ≡ n → s < half → nat_lt seat n ≡ true
-is_below s seat half n a b h = by (nat_lt seat n) refl
-  where
-    by : (x : Bool) → nat_lt seat n ≡ x → nat_lt seat n ≡ true
-    by true e = e
-    by false e = absurd (omega (arith, ltb-false seat n e, a, b, h))
-
-pub is_above : (s seat half n : ℕ) → s ≡ seat → half ≡ n → half ≤ s → nat_lt seat n ≡ false
-is_above s seat half n a b h = by (nat_lt seat n) refl
-  where
-    by : (x : Bool) → nat_lt seat n ≡ x → nat_lt seat n ≡ false
-    by false e = e
-    by true e = absurd (omega (arith, ltb-true seat n e, a, b, h))

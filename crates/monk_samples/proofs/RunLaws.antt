@@ -29,7 +29,6 @@ use Rattle.monk_hall.specs.Closing.{IsEnded}
 use Rattle.monk_hall.specs.Layout.{floor_of}
 use Rattle.monk_hall.specs.Rule.{setting_of}
 use Rattle.monk_samples.specs.Crews.{IsReady, AreReady, IsClosed}
-use Rattle.monk_samples.specs.Runs.{IsFirstSpent}
 use Rattle.monk_samples.specs.Samples.{sample_object, size, conds_of, budget_of, run_heading, KeepsLaw, IsHistoryOf, IsOfFirstVersion}
 use Rattle.monk_samples.specs.Samples.{IsOutcome}
 use Rattle.monk_samples.specs.Totals.{HasTotals, totals_of}
@@ -46,14 +45,8 @@ first_of xs ys x P e h = All-head P x xs (subst (All P) e h)
 pub rest_of : {X : Type 0} (xs ys : List X) (x : X) (P : X → Type 0) → ys ≡ x ∷ xs → All P ys → All P xs
 rest_of xs ys x P e h = All-rest P x xs ys e h
 
-pub first_and : {X : Type 0} (xs ys : List X) (x : X) (P : X → Type 0) → ys ≡ x ∷ xs → P x → All P xs → All P ys
-first_and xs ys x P e p h = All-same P ys (x ∷ xs) e (All-cons P x xs p h)
-
 pub same_all : {X : Type 0} (xs ys : List X) (P : X → Type 0) → xs ≡ ys → All P ys → All P xs
 same_all xs ys P e h = All-same P xs ys e h
-
-pub all_weaker : {X : Type 0} (xs : List X) (P Q : X → Type 0) → ((x : X) → P x → Q x) → All P xs → All Q xs
-all_weaker xs P Q f h = λ k d near. f _ (h k d near)
 
 pub none_yet : {X : Type 0} (xs : List X) (P : X → Type 0) → xs ≡ [] → All P xs
 none_yet xs P e = All-same P xs [] e (All-nil P)
@@ -171,12 +164,6 @@ pub crew_told : {A B E F : Type 0} (r : Result A E) (s : Result B F) (of : F →
 crew_told (Ok a) s of P told why = tt
 crew_told (Err e) (Ok b) of P told why = absurd told
 crew_told (Err e) (Err f) of P told why = subst P (sym told) why
-
--- the first pass is not spent where it has two events left
-pub unspent : (ps rest : List Token) (p : Token) (left : ℕ) → ps ≡ p ∷ rest → left + length p.me.mine ≡ p.me.setting.budget → 2 ≤ left
-    → IsFirstSpent ps → ⊥
-unspent ps rest p left e counted some spent =
-    let now : p.me.setting.budget ≤ length p.me.mine + 1 = subst IsFirstSpent e spent in omega (arith, counted, some, now)
 
 pub if_both : {A E : Type 0} (r : Result A E) (P Q R : A → Type 0) → ((a : A) → P a → Q a → R a) → IfOk r P → IfOk r Q → IfOk r R
 if_both (Ok a) P Q R f p q = f a p q

@@ -51,10 +51,6 @@ taken_within h more =
     ∙ sum_by-append (λ n. n) (items_taken (acts_in h)) (items_taken (acts_in more)) in
     omega (arith, e)
 
--- what was taken adds up to no more than what was put
-pub taken_of_put : (puts takes items : List ℕ) → puts ≡ takes ++ items → sum takes ≤ sum puts
-taken_of_put puts takes items e = let s = ap sum e ∙ sum_by-append (λ n. n) takes items in omega (arith, s)
-
 -- the totals of the events up to a place, and one more
 pub done_next : (code n count more : ℕ) (h : List Event) (d : Event) → n < length h → count ≡ count_done code (take n h)
     → times_done code (act_of (slice_index_or h n d)) ≡ more → count + more ≡ count_done code (take (n + 1) h)

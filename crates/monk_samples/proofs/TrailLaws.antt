@@ -69,13 +69,6 @@ called_then x y z cs ds s t = record {
   called = flat_map-append call_in s.own t.own ∙ (λ i. s.called i ++ t.called i);
 }
 
--- the seat and the setting stay
-pub same_seat : (x y : Trail) (cs : List Addition) → HasCalled x y cs → y.seat ≡ x.seat
-same_seat x y cs s = s.went.seat
-
-pub same_setting : (x y : Trail) (cs : List Addition) → HasCalled x y cs → y.setting ≡ x.setting
-same_setting x y cs s = s.went.setting
-
 -- one event more, of the active seat
 one_added : (h : List Event) (e : Event) (to : List Event) → to ≡ h ++ e ∷ []
     → AreBetween h to (record { before = h; event = e } ∷ [])

@@ -25,7 +25,7 @@ use Rattle.monk_hall.specs.declared.setting.Setting.{Setting}
 use Rattle.monk_samples.specs.Asked.{AreCalls, IsCall}
 use Rattle.monk_samples.specs.Styles.{HasFinished, HasGivenUp, HasGoneOut, HasPaused, IsSpent, pause_call, way_out}
 use Rattle.monk_samples.specs.Trails.{Addition, Trail, HasCalled, events_in, inside, outside}
-use Rattle.monk_samples.specs.Visits.{Wanted, Plan, ArePauses, HasPausedFor, IsCertain, IsLeftWaiting}
+use Rattle.monk_samples.specs.Visits.{Guard, Plan, ArePauses, HasPausedFor, IsCertain, IsLeftWaiting}
 use Rattle.monk_samples.specs.Visits.{IsUnready, AreVisits, HasVisited, HasTired, HasStayedOut, HasPausedUntil, HasActed}
 use Rattle.monk_samples.specs.Visits.{WayOut, Unsignalled, Signals, SignalsAll, SignalsAndWaits, calls_out, data_after}
 use Rattle.monk_samples.specs.declared.end.End.{End}
@@ -38,21 +38,21 @@ module _ (k : Rules) (o : Object) where
   pauses_then c s cond pred [] ys h t = t
   pauses_then c s cond pred (d ∷ xs) ys h t = (h.0, h.1, pauses_then c s cond pred xs ys h.2 t)
 
-  paused_for_then : (c : Setting) (s : ℕ) (w : Option Wanted) (xs ys : List Addition) → HasPausedFor k o c s w xs
+  paused_for_then : (c : Setting) (s : ℕ) (w : Option Guard) (xs ys : List Addition) → HasPausedFor k o c s w xs
       → HasPausedFor k o c s w ys
       → HasPausedFor k o c s w (xs ++ ys)
   paused_for_then c s None xs ys h t = (λ i. h i ++ t i)
   paused_for_then c s (Some w) xs ys h t = pauses_then c s w.cond w.pred xs ys h t
 
-  paused_for_none : (c : Setting) (s : ℕ) (w : Option Wanted) → HasPausedFor k o c s w []
+  paused_for_none : (c : Setting) (s : ℕ) (w : Option Guard) → HasPausedFor k o c s w []
   paused_for_none c s None = refl
   paused_for_none c s (Some w) = tt
 
   -- a seat that is active has yet to pause
-  pub paused_none : (x : Trail) (w : Option Wanted) (a : Holder) → HasCalled x (inside a) [] → HasPausedUntil k o x w a
+  pub paused_none : (x : Trail) (w : Option Guard) (a : Holder) → HasCalled x (inside a) [] → HasPausedUntil k o x w a
   paused_none x w a called = record { pauses = []; called = called; paused = paused_for_none x.setting x.seat w }
 
-  pub paused_then : (x : Trail) (w : Option Wanted) (a b : Holder) → HasPausedUntil k o x w a → HasPausedUntil k o (inside a) w b
+  pub paused_then : (x : Trail) (w : Option Guard) (a b : Holder) → HasPausedUntil k o x w a → HasPausedUntil k o (inside a) w b
       → HasPausedUntil k o x w b
   paused_then x w a b s t = let seat = s.called.went.seat in let setting = s.called.went.setting in record {
     pauses = s.pauses ++ t.pauses;
@@ -61,7 +61,7 @@ module _ (k : Rules) (o : Object) where
   }
 
   -- one pause more, while the predicate was false
-  pub paused_once : (x : Trail) (w : Wanted) (a b : Holder) → HasPausedUntil k o x (Some w) a
+  pub paused_once : (x : Trail) (w : Guard) (a b : Holder) → HasPausedUntil k o x (Some w) a
       → HasPaused k o a (pause_call k a.me.seat w.cond w.pred) b
       → o.holds (data_of (monitor_of k o a.floor) a.floor.history) w.pred ≡ false → HasPausedUntil k o x (Some w) b
   paused_once x w a b s t not_yet = paused_then x (Some w) a b s record {
@@ -94,11 +94,11 @@ module _ (k : Rules) (o : Object) where
   }
 
   -- a seat that paused, and left in place of what was next
-  pub left_after : (x : Trail) (w : Option Wanted) (a : Holder) (q : Token) → HasPausedUntil k o x w a
+  pub left_after : (x : Trail) (w : Option Guard) (a : Holder) (q : Token) → HasPausedUntil k o x w a
       → HasGivenUp k o a q → HasTired k o x (IsLeftWaiting k o x.setting x.seat w) q
   left_after x w a q s t = left_by x w a q s t.gone.made t.gone.called t.gone.are t.spent t.gone.told
     where
-      left_by : (x : Trail) (w : Option Wanted) (a : Holder) (q : Token) → HasPausedUntil k o x w a → (made : List Addition)
+      left_by : (x : Trail) (w : Option Guard) (a : Holder) (q : Token) → HasPausedUntil k o x w a → (made : List Addition)
           → HasCalled (inside a) (outside q) made → AreCalls k o a.me.setting (Leave a.me.seat Stay ∷ []) made → IsSpent q
           → SeesTruly k o q.me
           → HasTired k o x (IsLeftWaiting k o x.setting x.seat w) q
@@ -114,7 +114,7 @@ module _ (k : Rules) (o : Object) where
       left_by x w a q s (d ∷ e ∷ ds) called are spent told = absurd are.1
 
   -- a seat that paused, and was tired before it was done with pausing
-  pub tired_after : (x : Trail) (w : Option Wanted) (a : Holder) (q : Token) → HasPausedUntil k o x w a
+  pub tired_after : (x : Trail) (w : Option Guard) (a : Holder) (q : Token) → HasPausedUntil k o x w a
       → HasTired k o (inside a) (IsLeftWaiting k o a.me.setting a.me.seat w) q → HasTired k o x (IsLeftWaiting k o x.setting x.seat w) q
   tired_after x w a q s t = let seat = s.called.went.seat in let setting = s.called.went.setting in record {
     calls = s.pauses ++ t.calls;
@@ -131,7 +131,7 @@ module _ (k : Rules) (o : Object) where
   }
 
   -- what is left in place of an operation for which nothing more was to be waited
-  pub tired_inside : (x : Trail) (w : Option Wanted) (a : Holder) (q : Token) → HasPausedUntil k o x w a
+  pub tired_inside : (x : Trail) (w : Option Guard) (a : Holder) (q : Token) → HasPausedUntil k o x w a
       → HasTired k o (inside a) (IsLeftWaiting k o a.me.setting a.me.seat None) q → HasTired k o x (IsLeftWaiting k o x.setting x.seat w) q
   tired_inside x w a q s t = tired_after x w a q s record {
     calls = t.calls;
@@ -148,11 +148,11 @@ module _ (k : Rules) (o : Object) where
   }
 
   -- it came in and was tired then, or did not come in
-  pub unready : (x : Trail) (w : Option Wanted) (q : Token) → HasTired k o x (IsLeftWaiting k o x.setting x.seat w) q
+  pub unready : (x : Trail) (w : Option Guard) (q : Token) → HasTired k o x (IsLeftWaiting k o x.setting x.seat w) q
       → HasTired k o x (IsUnready k o x.setting x.seat w) q
   unready x w q t = record { calls = t.calls; called = t.called; are = inr t.are; spent = t.spent; told = t.told }
 
-  pub stayed_out : (p q : Token) (w : Option Wanted) → HasStayedOut k o p q
+  pub stayed_out : (p q : Token) (w : Option Guard) → HasStayedOut k o p q
       → HasTired k o (outside p) (IsUnready k o p.me.setting p.me.seat w) q
   stayed_out p q w t = record {
     calls = [];
@@ -163,7 +163,7 @@ module _ (k : Rules) (o : Object) where
   }
 
   -- a seat that paused, and acted
-  pub acted_after : (x : Trail) (w : Option Wanted) (op : Op) (reply : ℕ) (a b : Holder) → HasPausedUntil k o x w a
+  pub acted_after : (x : Trail) (w : Option Guard) (op : Op) (reply : ℕ) (a b : Holder) → HasPausedUntil k o x w a
       → HasActed k o (inside a) None op reply b → HasActed k o x w op reply b
   acted_after x w op reply a b s t = let seat = s.called.went.seat in let setting = s.called.went.setting in record {
     pauses = s.pauses;
@@ -208,7 +208,7 @@ module _ (k : Rules) (o : Object) where
       (λ i. (call_acts c (pause_call k s cond pred) d h.0 ∙ pause_act (has_conditions k.mode) s cond pred) i
       ++ pauses_acts c s cond pred ds h.2 i)
 
-  pub paused_acts : (c : Setting) (s : ℕ) (w : Option Wanted) (ds : List Addition) → HasPausedFor k o c s w ds → acts_in (events_in ds) ≡ []
+  pub paused_acts : (c : Setting) (s : ℕ) (w : Option Guard) (ds : List Addition) → HasPausedFor k o c s w ds → acts_in (events_in ds) ≡ []
   paused_acts c s None ds h = ap (λ xs. acts_in (events_in xs)) h
   paused_acts c s (Some w) ds h = pauses_acts c s w.cond w.pred ds h
 
@@ -228,7 +228,7 @@ module _ (k : Rules) (o : Object) where
   acts_append xs ys = ap acts_in (map-append (λ (d : Addition). d.event) xs ys) ∙ flat_map-append act_of (events_in xs) (events_in ys)
 
   -- of pauses, an operation, and a way out, the operation alone is one
-  one_act : (x : Trail) (w : Option Wanted) (op : Op) (reply : ℕ) (a : Holder) (s : HasActed k o x w op reply a)
+  one_act : (x : Trail) (w : Option Guard) (op : Op) (reply : ℕ) (a : Holder) (s : HasActed k o x w op reply a)
       → (c : Setting) (es : List Event) (made : List Addition) → AreCalls k o c es made → acts_in es ≡ []
       → acts_in (events_in ((s.pauses ++ s.act ∷ []) ++ made)) ≡ record { op = op; reply = reply } ∷ []
   one_act x w op reply a s c es made are none =
@@ -253,7 +253,7 @@ module _ (k : Rules) (o : Object) where
 
   -- a visit that acted and went out
   gone_telling : (p : Token) (v : Plan) (reply : ℕ) (a : Holder) (q : Token) (end : End)
-      → HasActed k o (outside p) v.wanted v.op reply a → IsCertain v.wanted reply
+      → HasActed k o (outside p) v.guard v.op reply a → IsCertain v.guard reply
       → HasGoneOut k o a (calls_out k a.me.seat (v.goes_out a.floor.history)) q end
       → (visit : HasVisited k o p (v ∷ []) q end) × (acts_in (events_in visit.calls) ≡ record { op = v.op; reply = reply } ∷ [])
   gone_telling p v reply a q Done s certain out =
@@ -278,7 +278,7 @@ module _ (k : Rules) (o : Object) where
           spent = λ e. cc;
           told = out.told;
         },
-        one_act (outside p) v.wanted v.op reply a s a.me.setting (calls_out k a.me.seat (v.goes_out a.floor.history)) out.made out.are
+        one_act (outside p) v.guard v.op reply a s a.me.setting (calls_out k a.me.seat (v.goes_out a.floor.history)) out.made out.are
             (calls_out_acts a.me.seat (v.goes_out a.floor.history)),
       )
   gone_telling p v reply a q Tired s certain out = unsaid out.gone.made out.gone.called out.gone.are
@@ -304,41 +304,41 @@ module _ (k : Rules) (o : Object) where
               spent = λ e. out.spent;
               told = out.gone.told;
             },
-            one_act (outside p) v.wanted v.op reply a s a.me.setting (Leave a.me.seat Stay ∷ []) (d ∷ []) are refl,
+            one_act (outside p) v.guard v.op reply a s a.me.setting (Leave a.me.seat Stay ∷ []) (d ∷ []) are refl,
           )
   gone_telling p v reply a q Late s certain out = absurd out
 
   pub visited_telling : (p : Token) (v : Plan) (reply : ℕ) (a : Holder) (q : Token) (end : End)
-      → HasActed k o (outside p) v.wanted v.op reply a → IsCertain v.wanted reply
+      → HasActed k o (outside p) v.guard v.op reply a → IsCertain v.guard reply
       → HasFinished k o a (calls_out k a.me.seat (v.goes_out a.floor.history)) q end
       → (visit : HasVisited k o p (v ∷ []) q end) × (acts_in (events_in visit.calls) ≡ record { op = v.op; reply = reply } ∷ [])
   visited_telling p v reply a q end s certain out =
       gone_telling p v reply a q end s certain (finished a (calls_out k a.me.seat (v.goes_out a.floor.history)) q end out)
 
   pub visited_out : (p : Token) (v : Plan) (reply : ℕ) (a : Holder) (q : Token) (end : End)
-      → HasActed k o (outside p) v.wanted v.op reply a → IsCertain v.wanted reply
+      → HasActed k o (outside p) v.guard v.op reply a → IsCertain v.guard reply
       → HasGoneOut k o a (calls_out k a.me.seat (v.goes_out a.floor.history)) q end → HasVisited k o p (v ∷ []) q end
   visited_out p v reply a q end s certain out = (gone_telling p v reply a q end s certain out).0
 
   pub visited : (p : Token) (v : Plan) (reply : ℕ) (a : Holder) (q : Token) (end : End)
-      → HasActed k o (outside p) v.wanted v.op reply a → IsCertain v.wanted reply
+      → HasActed k o (outside p) v.guard v.op reply a → IsCertain v.guard reply
       → HasFinished k o a (calls_out k a.me.seat (v.goes_out a.floor.history)) q end → HasVisited k o p (v ∷ []) q end
   visited p v reply a q end s certain out = (visited_telling p v reply a q end s certain out).0
 
   -- a visit that was cut short
-  abbrev pub tired : (p : Token) (v : Plan) (q : Token) → HasTired k o (outside p) (IsUnready k o p.me.setting p.me.seat v.wanted) q
+  abbrev pub tired : (p : Token) (v : Plan) (q : Token) → HasTired k o (outside p) (IsUnready k o p.me.setting p.me.seat v.guard) q
       → HasVisited k o p (v ∷ []) q Tired
   tired p v q t = record { calls = t.calls; called = t.called; are = inl (inl t.are); spent = λ e. t.spent; told = t.told }
 
   -- it did no operation
-  pub tired_tells : (p : Token) (v : Plan) (q : Token) → (t : HasTired k o (outside p) (IsUnready k o p.me.setting p.me.seat v.wanted) q)
+  pub tired_tells : (p : Token) (v : Plan) (q : Token) → (t : HasTired k o (outside p) (IsUnready k o p.me.setting p.me.seat v.guard) q)
       → acts_in (events_in t.calls) ≡ []
   tired_tells p v q t = unready_acts t.calls t.are
     where
-      unready_acts : (calls : List Addition) → IsUnready k o p.me.setting p.me.seat v.wanted calls → acts_in (events_in calls) ≡ []
+      unready_acts : (calls : List Addition) → IsUnready k o p.me.setting p.me.seat v.guard calls → acts_in (events_in calls) ≡ []
       unready_acts calls (inl none) = ap (λ ds. acts_in (events_in ds)) none
       unready_acts calls (inr l) = ap (λ ds. acts_in (events_in ds)) l.are ∙ acts_append l.pauses (l.leave ∷ [])
-          ∙ (λ i. paused_acts p.me.setting p.me.seat v.wanted l.pauses l.paused i
+          ∙ (λ i. paused_acts p.me.setting p.me.seat v.guard l.pauses l.paused i
           ++ calls_acts p.me.setting (Leave p.me.seat Stay ∷ []) (l.leave ∷ []) (l.leaves, tt) i)
 
   -- two visits, the first of which was done

@@ -19,12 +19,12 @@ use Rattle.monk_samples.specs.declared.end.End.{End}
 use Rattle.monk_samples.specs.declared.end.End.TheVariants.{Done, Tired, Late}
 
 -- for what a visit pauses: the condition on which it waits while the predicate is false
-pub record Wanted : Type 0 where
+pub record Guard : Type 0 where
   pub cond : ℕ
   pub pred : ℕ
 
-abbrev pub wanted : ℕ → ℕ → Wanted
-wanted cond pred = record { cond = cond; pred = pred }
+abbrev pub guard : ℕ → ℕ → Guard
+guard cond pred = record { cond = cond; pred = pred }
 
 -- how a visit goes out: without a signal; with a signal of a condition; with a signal to all who wait there; or with a
 -- signal of the first condition and a wait on the second, after which it leaves
@@ -37,7 +37,7 @@ pub data WayOut : Type 0 where
 -- one visit as it is planned: for what it pauses first, if for anything; its operation; and, by the history after that,
 -- its way out
 pub record Plan : Type 0 where
-  pub wanted : Option Wanted
+  pub guard : Option Guard
   pub op : Op
   pub goes_out : List Event → WayOut
 
@@ -46,10 +46,10 @@ op_of code arg = record { code = code; arg = arg }
 
 -- a visit that pauses until a predicate holds, and one that acts at once
 abbrev pub when : ℕ → ℕ → Op → (List Event → WayOut) → Plan
-when cond pred op goes_out = record { wanted = Some (wanted cond pred); op = op; goes_out = goes_out }
+when cond pred op goes_out = record { guard = Some (guard cond pred); op = op; goes_out = goes_out }
 
 abbrev pub at_once : Op → (List Event → WayOut) → Plan
-at_once op goes_out = record { wanted = None; op = op; goes_out = goes_out }
+at_once op goes_out = record { guard = None; op = op; goes_out = goes_out }
 
 -- on its way out it always signals the one condition, or nobody
 abbrev pub always : ℕ → List Event → WayOut
@@ -69,7 +69,7 @@ ArePauses k o c s cond pred (d ∷ ds) =
     IsCall k o c (pause_call k s cond pred) d × (o.holds (data_after k o c d.before) pred ≡ false)
     × ArePauses k o c s cond pred ds
 
-abbrev pub HasPausedFor : Rules → Object → Setting → ℕ → Option Wanted → List Addition → Type 0
+abbrev pub HasPausedFor : Rules → Object → Setting → ℕ → Option Guard → List Addition → Type 0
 HasPausedFor k o c s None ds = ds ≡ []
 HasPausedFor k o c s (Some w) ds = ArePauses k o c s w.cond w.pred ds
 
@@ -79,7 +79,7 @@ pub record IsAct (k : Rules) (o : Object) (c : Setting) (s : ℕ) (op : Op) (rep
   pub replied : reply ≡ o.reply (data_after k o c d.before) op
 
 -- an operation for which a visit paused gets done
-abbrev pub IsCertain : Option Wanted → ℕ → Type 0
+abbrev pub IsCertain : Option Guard → ℕ → Type 0
 IsCertain None reply = Unit {0}
 IsCertain (Some w) reply = 0 < reply
 
@@ -92,10 +92,10 @@ calls_out k s (SignalsAndWaits cond wait_cond) = SignalWait s cond wait_cond Sta
 
 -- the pauses and the operation of a visit
 pub record IsDone (k : Rules) (o : Object) (c : Setting) (s : ℕ) (v : Plan) (pauses : List Addition) (act : Addition) : Type 0 where
-  pub paused : HasPausedFor k o c s v.wanted pauses
+  pub paused : HasPausedFor k o c s v.guard pauses
   pub reply : ℕ
   pub acts : IsAct k o c s v.op reply act
-  pub certain : IsCertain v.wanted reply
+  pub certain : IsCertain v.guard reply
 
 -- these calls of seat s are the visit, to its end
 pub record IsVisit (k : Rules) (o : Object) (c : Setting) (s : ℕ) (v : Plan) (calls : List Addition) : Type 0 where
@@ -107,11 +107,11 @@ pub record IsVisit (k : Rules) (o : Object) (c : Setting) (s : ℕ) (v : Plan) (
   pub goes : AreCalls k o c (calls_out k s (v.goes_out (after act))) out
 
 -- these calls of seat s pause for this, and then it leaves
-pub record IsLeftWaiting (k : Rules) (o : Object) (c : Setting) (s : ℕ) (wanted : Option Wanted) (calls : List Addition) : Type 0 where
+pub record IsLeftWaiting (k : Rules) (o : Object) (c : Setting) (s : ℕ) (guard : Option Guard) (calls : List Addition) : Type 0 where
   pub pauses : List Addition
   pub leave : Addition
   pub are : calls ≡ pauses ++ leave ∷ []
-  pub paused : HasPausedFor k o c s wanted pauses
+  pub paused : HasPausedFor k o c s guard pauses
   pub leaves : IsCall k o c (Leave s Stay) leave
 
 -- they pause and do the operation, and then it leaves without a signal
@@ -125,11 +125,11 @@ pub record IsLeftUnsaid (k : Rules) (o : Object) (c : Setting) (s : ℕ) (v : Pl
 
 -- the visit of a seat that was tired: it did not come in; or it left in place of its next pause or of its operation; or in
 -- place of its signal
-abbrev pub IsUnready : Rules → Object → Setting → ℕ → Option Wanted → List Addition → Type 0
-IsUnready k o c s wanted calls = (calls ≡ []) ⊎ IsLeftWaiting k o c s wanted calls
+abbrev pub IsUnready : Rules → Object → Setting → ℕ → Option Guard → List Addition → Type 0
+IsUnready k o c s guard calls = (calls ≡ []) ⊎ IsLeftWaiting k o c s guard calls
 
 abbrev pub IsCutShort : Rules → Object → Setting → ℕ → Plan → List Addition → Type 0
-IsCutShort k o c s v calls = IsUnready k o c s v.wanted calls ⊎ IsLeftUnsaid k o c s v calls
+IsCutShort k o c s v calls = IsUnready k o c s v.guard calls ⊎ IsLeftUnsaid k o c s v calls
 
 -- first these and then those
 pub record Then (First Rest : List Addition → Type 0) (calls : List Addition) : Type 0 where
@@ -166,10 +166,10 @@ pub record HasTired (k : Rules) (o : Object) (x : Trail) (AreThese : List Additi
   pub told : SeesTruly k o q.me
 
 -- it came in for this, and left before it acted; or it did not come in
-abbrev pub IsTiredWithin : Rules → Object → Holder → Option Wanted → Token → Type 0
+abbrev pub IsTiredWithin : Rules → Object → Holder → Option Guard → Token → Type 0
 IsTiredWithin k o a w q = HasTired k o (inside a) (IsLeftWaiting k o a.me.setting a.me.seat w) q
 
-abbrev pub IsTiredFor : Rules → Object → Token → Option Wanted → Token → Type 0
+abbrev pub IsTiredFor : Rules → Object → Token → Option Guard → Token → Type 0
 IsTiredFor k o p w q = HasTired k o (outside p) (IsUnready k o p.me.setting p.me.seat w) q
 
 -- it did not come in
@@ -179,17 +179,17 @@ pub record HasStayedOut (k : Rules) (o : Object) (p q : Token) : Type 0 where
   pub told : SeesTruly k o q.me
 
 -- from x on the seat has paused for this, and is active
-pub record HasPausedUntil (k : Rules) (o : Object) (x : Trail) (wanted : Option Wanted) (b : Holder) : Type 0 where
+pub record HasPausedUntil (k : Rules) (o : Object) (x : Trail) (guard : Option Guard) (b : Holder) : Type 0 where
   pub pauses : List Addition
   pub called : HasCalled x (inside b) pauses
-  pub paused : HasPausedFor k o x.setting x.seat wanted pauses
+  pub paused : HasPausedFor k o x.setting x.seat guard pauses
 
 -- from x on the seat has paused for this and done the operation, with this reply, and is active: that was its last call
-pub record HasActed (k : Rules) (o : Object) (x : Trail) (wanted : Option Wanted) (op : Op) (reply : ℕ) (b : Holder) : Type 0 where
+pub record HasActed (k : Rules) (o : Object) (x : Trail) (guard : Option Guard) (op : Op) (reply : ℕ) (b : Holder) : Type 0 where
   pub pauses : List Addition
   pub act : Addition
   pub called : HasCalled x (inside b) (pauses ++ act ∷ [])
-  pub paused : HasPausedFor k o x.setting x.seat wanted pauses
+  pub paused : HasPausedFor k o x.setting x.seat guard pauses
   pub acts : IsAct k o x.setting x.seat op reply act
   pub last : b.floor.history ≡ after act
   pub floor : b.floor ≡ floor_of x.setting b.floor.history

@@ -6,7 +6,7 @@ ghost use Rattle.monk_floor.specs.View.{monitor_of};
 ghost use Rattle.monk_samples.specs.Styles.{Offers};
 ghost use Rattle.monk_samples.specs.Trails.{HasCalled, inside, outside};
 ghost use Rattle.monk_samples.specs.Visits.{HasActed, HasPausedUntil, HasStayedOut, IsTiredFor, IsTiredWithin};
-ghost use Rattle.monk_samples.specs.Visits.{HasVisited, Promises, always, wanted, when};
+ghost use Rattle.monk_samples.specs.Visits.{HasVisited, Promises, always, guard, when};
 
 use crate::end::End;
 use crate::style::Style;
@@ -42,9 +42,9 @@ pub(crate) fn pause_until<K: Style, T: Guarded, R: Wait>(
     requires cond { Offers K.rules active.me.setting.conds (cond + 1) }
     requires pred { pred < T.PREDICATES }
     ensures { MatchResult result
-        (λ a. HasPausedUntil K.rules T.meaning (inside active) (Some (wanted cond pred)) a
+        (λ a. HasPausedUntil K.rules T.meaning (inside active) (Some (guard cond pred)) a
         × (T.meaning.holds (data_of (monitor_of K.rules T.meaning a.floor) a.floor.history) pred ≡ true))
-        (λ q. IsTiredWithin K.rules T.meaning active (Some (wanted cond pred)) q) }
+        (λ q. IsTiredWithin K.rules T.meaning active (Some (guard cond pred)) q) }
 {
     let mut active = active;
     while !active.holds(pred) {
@@ -107,9 +107,9 @@ fn come_in_when<K: Style, T: Guarded, R: Wait>(
     requires cond { Offers K.rules pass.me.setting.conds (cond + 1) }
     requires pred { pred < T.PREDICATES }
     ensures { MatchResult result
-        (λ a. HasPausedUntil K.rules T.meaning (outside pass) (Some (wanted cond pred)) a
+        (λ a. HasPausedUntil K.rules T.meaning (outside pass) (Some (guard cond pred)) a
         × (T.meaning.holds (data_of (monitor_of K.rules T.meaning a.floor) a.floor.history) pred ≡ true))
-        (λ q. IsTiredFor K.rules T.meaning pass (Some (wanted cond pred)) q) }
+        (λ q. IsTiredFor K.rules T.meaning pass (Some (guard cond pred)) q) }
 {
     match come_in(pass, rt, hall) {
         Ok(active) => pause_until(active, rt, hall, cond, pred),
@@ -132,8 +132,8 @@ pub(crate) fn act_when<K: Style, T: Guarded, R: Wait>(
     requires code { op.code < T.CODES }
     requires promise { Promises T.meaning pred op }
     ensures acted { MatchResult result
-        (λ r. HasActed K.rules T.meaning (outside pass) (Some (wanted cond pred)) op r.1 r.0 × (0 < r.1))
-        (λ q. IsTiredFor K.rules T.meaning pass (Some (wanted cond pred)) q) }
+        (λ r. HasActed K.rules T.meaning (outside pass) (Some (guard cond pred)) op r.1 r.0 × (0 < r.1))
+        (λ q. IsTiredFor K.rules T.meaning pass (Some (guard cond pred)) q) }
     ensures within { IfOk result (λ r. r.1 ≤ T.greatest_reply) }
 {
     match come_in_when(pass, rt, hall, cond, pred) {

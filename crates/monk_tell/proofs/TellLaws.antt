@@ -17,8 +17,7 @@ use Rattle.monk_history.specs.Meaning.Named.{named_monitor}
 use Rattle.monk_audit.specs.declared.verdict.Verdict.{Verdict}
 use Rattle.monk_audit.specs.Verdict.{IsVerdict, verdict_of}
 use Rattle.monk_audit.proofs.PublicLaws.{is_verdict}
-use Rattle.monk_tell.specs.Told.{Blamed, Shown, ShownQueues, Told, told, told_by}
-use Rattle.monk_tell.specs.declared.why.Why.{Why}
+use Rattle.monk_tell.specs.Told.{Blamed, Shown, ShownQueues, Account}
 
 passed_first : (b : Bool) (n k : ℕ) → cond (not b) 1 n ≡ k → 1 < k → b ≡ true
 passed_first true n k h more = refl
@@ -50,7 +49,7 @@ pub same_shown : (kind : KindName) (rules : Rules) (t u : Turn) (is js ds es : L
     → ds ≡ es → q ≡ r → shown_by kind rules t is ds q ≡ shown_by kind rules u js es r
 same_shown kind rules t u is js ds es q r a b c d = λ i. shown_by kind rules (a i) (b i) (c i) (d i)
 
-abbrev pub told_as : Verdict → Shown → Blamed → Told
+abbrev pub told_as : Verdict → Shown → Blamed → Account
 told_as v s b = record { verdict = v; situation = s; blame = Some b }
 
 pub same_told : (v : Verdict) (s t : Shown) (b d : Blamed) → s ≡ t → b ≡ d → told_as v s b ≡ told_as v t d
@@ -70,11 +69,3 @@ pub over_is : (h : Heading) (o : ObjectName) (size : ℕ) (d : List ℕ) (es : L
 over_is h o size d es v is same made found =
     subst (λ (m : Monitor). IsVerdict m es v) (sym (made_named h o size d is same made))
     (subst (IsVerdict (named_monitor h) es) (sym found) (is_verdict (named_monitor h) es))
-
--- what is told over that object is what is told of the history
-pub over_told : (h : Heading) (o : ObjectName) (size : ℕ) (d : List ℕ) (es : List Event) (v : Verdict) (why : Why) → h.object ≡ o
-    → size ≡ h.size → d ≡ opening_named o size → v ≡ verdict_of (named_monitor h) es
-    → told_by h.kind (monitor (rules_named h.kind) h.seats h.conds (meaning_named o) d) es why v ≡ told h es why
-over_told h o size d es v why is same made found =
-    ap (λ (m : Monitor). told_by h.kind m es why v) (made_named h o size d is same made)
-    ∙ ap (told_by h.kind (named_monitor h) es why) found

@@ -82,7 +82,7 @@ pub record Blamed : Type 0 where
   pub choice : Option Chosen
   pub why : Why
 
-pub record Told : Type 0 where
+pub record Account : Type 0 where
   pub verdict : Verdict
   pub situation : Shown
   pub blame : Option Blamed
@@ -114,7 +114,7 @@ choice_of c = record { fronts = c.fronts.0.items; may = c.may.0.items }
 abbrev pub blame_of : Blame → Blamed
 blame_of b = record { step = b.step; event = b.event; reply = b.reply; choice = option_map choice_of b.choice; why = b.why }
 
-abbrev pub telling_of : Telling → Told
+abbrev pub telling_of : Telling → Account
 telling_of t = record { verdict = t.verdict; situation = situation_of t.situation; blame = option_map blame_of t.blame }
 
 -- the queues that a release chooses from
@@ -182,16 +182,16 @@ abbrev pub events_before : List Event → ℕ → List Event
 events_before es step = take (step - 1) es
 
 -- what is told of a history of a monitor of that kind with that verdict; `why` is told of a forbidden one
-abbrev pub told_by : KindName → Monitor → List Event → Why → Verdict → Told
-told_by kind m es why (Legal n) = record { verdict = Legal n; situation = shown_after kind m es; blame = None }
-told_by kind m es why (Forbidden step reason) = record {
+abbrev pub account_by : KindName → Monitor → List Event → Why → Verdict → Account
+account_by kind m es why (Legal n) = record { verdict = Legal n; situation = shown_after kind m es; blame = None }
+account_by kind m es why (Forbidden step reason) = record {
   verdict = Forbidden step reason;
   situation = shown_after kind m (events_before es step);
   blame = Some (blame_of_event m.kind m.object (situation m (events_before es step)) step reason (event_at es step) why);
 }
 
-abbrev pub told : Heading → List Event → Why → Told
-told h es why = told_by h.kind (named_monitor h) es why (verdict_of (named_monitor h) es)
+abbrev pub account : Heading → List Event → Why → Account
+account h es why = account_by h.kind (named_monitor h) es why (verdict_of (named_monitor h) es)
 
 -- the sentence of a telling, of a legal history any
 abbrev pub why_of : Telling → Why

@@ -12,7 +12,7 @@ use Rattle.monk_history.specs.declared.event.From3.{From3}
 use Rattle.monk_history.specs.declared.event.Next.{Next}
 use Rattle.monk_history.specs.declared.event.Turn.{Turn}
 use Rattle.monk_history.specs.declared.event.Turn.TheVariants.{Open, Due, Owned}
-use Rattle.monk_tell.specs.Told.{Blamed, Chosen, Shown, ShownConditions, ShownQueues, ShownUntils, Told}
+use Rattle.monk_tell.specs.Told.{Blamed, Chosen, Shown, ShownConditions, ShownQueues, ShownUntils, Account}
 use Rattle.monk_tell.specs.Why.{why_text}
 
 abbrev pub mode_word : Mode → List ℕ
@@ -154,5 +154,5 @@ told_text s None = situation_text s
 told_text s (Some b) = head_text b ++ situation_text s ++ tail_text b
 
 -- what stands behind the line of the verdict
-abbrev pub telling_text : Told → List ℕ
+abbrev pub telling_text : Account → List ℕ
 telling_text t = told_text t.situation t.blame

@@ -8,7 +8,7 @@ ghost use Rattle.monk_history.specs.Meaning.Monitor.{monitor};
 ghost use Rattle.monk_history.specs.Meaning.Situation.{situation};
 ghost use Rattle.monk_audit.specs.Replay.{replay_situation};
 ghost use Rattle.monk_audit.specs.Verdict.{IsVerdict};
-ghost use Rattle.monk_tell.specs.Told.{shown_after, situation_of, telling_of, told, told_by, why_of};
+ghost use Rattle.monk_tell.specs.Told.{account, account_by, shown_after, situation_of, telling_of, why_of};
 
 use crate::judging::blame;
 use crate::situation::Situation;
@@ -53,7 +53,7 @@ fn tell_legal<T: Listed>(
 ) -> Result<Telling, AllocError>
     requires { IsLegal (monitor (rules_named header.now.kind) header.now.seats header.now.conds T.meaning (T.state object)) events.now }
     ensures { IfOk result
-        (λ t. telling_of t ≡ told_by header.now.kind
+        (λ t. telling_of t ≡ account_by header.now.kind
         (monitor (rules_named header.now.kind) header.now.seats header.now.conds T.meaning (T.state object)) events.now (why_of t)
         (Verdict.Legal count)) }
 {
@@ -78,7 +78,7 @@ fn tell_forbidden<T: Listed>(
     requires { IsFirstFault
         (monitor (rules_named header.now.kind) header.now.seats header.now.conds T.meaning (T.state object)) events.now step reason }
     ensures { IfOk result
-        (λ t. telling_of t ≡ told_by header.now.kind
+        (λ t. telling_of t ≡ account_by header.now.kind
         (monitor (rules_named header.now.kind) header.now.seats header.now.conds T.meaning (T.state object)) events.now (why_of t)
         (Verdict.Forbidden step reason)) }
 {
@@ -115,7 +115,7 @@ fn tell_over<T: Listed>(
     requires { IsVerdict
         (monitor (rules_named header.now.kind) header.now.seats header.now.conds T.meaning (T.state object)) events.now verdict }
     ensures { IfOk result
-        (λ t. telling_of t ≡ told_by header.now.kind
+        (λ t. telling_of t ≡ account_by header.now.kind
         (monitor (rules_named header.now.kind) header.now.seats header.now.conds T.meaning (T.state object)) events.now (why_of t)
         verdict) }
 {
@@ -142,7 +142,7 @@ fn tell_over<T: Listed>(
 pub fn tell(alloc: Global, header: &Header, events: &[Event]) -> Result<Telling, AuditFault>
     requires { length events.now ≤ 2 ^ 25 }
     // All that is told is so; the sentence alone is any of those that there are.
-    ensures told { IfOk result (λ t. telling_of t ≡ told header.now events.now (why_of t)) }
+    ensures told { IfOk result (λ t. telling_of t ≡ account header.now events.now (why_of t)) }
     ensures fits { OnOk result (header.now.size ≤ most header.now.object) }
     ensures object { IsErrOf result AuditFault.Object → most header.now.object < header.now.size }
     ensures too_big { most header.now.object < header.now.size → IsErrOf result AuditFault.Object }

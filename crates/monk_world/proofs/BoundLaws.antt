@@ -11,30 +11,31 @@ use Rattle.monk_history.specs.Meaning.Standing.{times}
 use Rattle.monk_history.specs.declared.event.Event.{Event}
 use Rattle.monk_history.proofs.PublicLaws.Meaning.{total_le, length_total, length-events_of, length-events_of-push}
 use Rattle.monk_world.specs.Kept.{comes_in, comes_back, sum_below, IsBounded}
-use Rattle.monk_world.specs.Put.{put}
+use Rattle.monk_world.specs.Update.{update}
 use Rattle.monk_world.specs.State.{State, with_event}
 use Rattle.monk_world.specs.World.{World}
 use Rattle.monk_world.specs.declared.place.Place.{Place}
 use Rattle.monk_world.specs.declared.place.Place.TheVariants.{Idle, Ticket, Due, Active, Back, Passing, Inner}
 use Rattle.monk_world.specs.declared.source.Source.TheVariants.{Free, Granted, Called}
-use Rattle.monk_world.proofs.PutLaws.{at_put, put_here, put_else}
+use Rattle.monk_world.proofs.UpdateLaws.{at_update, update_here, update_else}
 
 -- a sum where one number changes
 module _ {X : Type 0} (g : X → ℕ) (at : ℕ → X) (i : ℕ) (x : X) where
-  sum_past : (n : ℕ) → n ≤ i → sum_below n (λ j. g (put at i x j)) ≡ sum_below n (λ j. g (at j))
+  sum_past : (n : ℕ) → n ≤ i → sum_below n (λ j. g (update at i x j)) ≡ sum_below n (λ j. g (at j))
   sum_past zero l = refl
   sum_past (suc n) l =
-      let same : g (put at i x n) ≡ g (at n) = ap g (put_else at i x n (λ e. omega arith)) in
+      let same : g (update at i x n) ≡ g (at n) = ap g (update_else at i x n (λ e. omega arith)) in
       omega (arith, same, sum_past n (omega arith))
 
-  pub sum_put : (n : ℕ) → i < n → sum_below n (λ j. g (put at i x j)) + g (at i) ≡ sum_below n (λ j. g (at j)) + g x
-  sum_put zero l = absurd (omega arith)
-  sum_put (suc n) l =
+  pub sum_update : (n : ℕ) → i < n → sum_below n (λ j. g (update at i x j)) + g (at i) ≡ sum_below n (λ j. g (at j)) + g x
+  sum_update zero l = absurd (omega arith)
+  sum_update (suc n) l =
       ⊎_elim
-      (λ k. let same : g (put at i x n) ≡ g (at n) = ap g (put_else at i x n (λ e. omega arith)) in omega (arith, same, sum_put n k))
+      (λ k. let same : g (update at i x n) ≡ g (at n) = ap g (update_else at i x n (λ e. omega arith))
+      in omega (arith, same, sum_update n k))
       (λ k.
       let e : i ≡ n = omega arith in
-      let here : g (put at i x n) ≡ g x = subst (λ (m : ℕ). g (put at i x m) ≡ g x) e (ap g (put_here at i x)) in
+      let here : g (update at i x n) ≡ g x = subst (λ (m : ℕ). g (update at i x m) ≡ g x) e (ap g (update_here at i x)) in
       let old : g (at i) ≡ g (at n) = ap (λ (m : ℕ). g (at m)) e in
       omega (arith, here, old, sum_past n (omega arith)))
       (cases_lt i n)
@@ -90,7 +91,7 @@ module _ (s : State) (b : IsBounded s) where
   few_calls j = omega (arith, b.counted j, b.within j, b.low, called_once (s.world.place j))
 
   -- seat i goes to p, and nothing is recorded
-  pub bounded_words : (i : ℕ) → i < s.floor.seats → (w : World) (known : ℕ → Bool) (p : Place) → w.place ≡ put s.world.place i p
+  pub bounded_words : (i : ℕ) → i < s.floor.seats → (w : World) (known : ℕ → Bool) (p : Place) → w.place ≡ update s.world.place i p
       → w.drawn + comes_in (s.world.place i) ≤ s.world.drawn + comes_in p
       → ((j : ℕ) → w.count j ≤ length (events_of s.floor.history j) + comes_back (w.place j))
       → IsBounded (record { world = w; known = known; floor = s.floor })
@@ -100,9 +101,10 @@ module _ (s : State) (b : IsBounded s) where
     within = b.within;
     outside = b.outside;
     drawn =
-        let same : sum_below s.floor.seats (λ j. comes_in (w.place j)) ≡ sum_below s.floor.seats (λ j. comes_in (put s.world.place i p j)) =
+        let same : sum_below s.floor.seats (λ j. comes_in (w.place j))
+        ≡ sum_below s.floor.seats (λ j. comes_in (update s.world.place i p j)) =
         ap (λ (place : ℕ → Place). sum_below s.floor.seats (λ j. comes_in (place j))) is in
-        omega (arith, b.drawn, drawn, same, sum_put comes_in s.world.place i p s.floor.seats near);
+        omega (arith, b.drawn, drawn, same, sum_update comes_in s.world.place i p s.floor.seats near);
     counted = counted;
   }
 
@@ -121,7 +123,7 @@ module _ (s : State) (b : IsBounded s) where
   no_less e j = omega (arith, length-events_of-push s.floor.history e j)
 
   -- its event is recorded
-  pub bounded_floor : (i : ℕ) → i < s.floor.seats → (w : World) (known : ℕ → Bool) (p : Place) → w.place ≡ put s.world.place i p
+  pub bounded_floor : (i : ℕ) → i < s.floor.seats → (w : World) (known : ℕ → Bool) (p : Place) → w.place ≡ update s.world.place i p
       → (e : Event) → seat_of e ≡ i → 1 ≤ left_of s.floor.budget s.floor.history i
       → w.drawn + comes_in (s.world.place i) ≤ s.world.drawn + comes_in p + 1
       → ((j : ℕ) → w.count j ≤ length (events_of (s.floor.history ++ e ∷ []) j) + comes_back (w.place j))
@@ -141,23 +143,31 @@ module _ (s : State) (b : IsBounded s) where
     ];
     outside = λ j l. one_more e j (λ z. omega (arith, seat, z)) ∙ b.outside j l;
     drawn =
-        let same : sum_below s.floor.seats (λ j. comes_in (w.place j)) ≡ sum_below s.floor.seats (λ j. comes_in (put s.world.place i p j)) =
+        let same : sum_below s.floor.seats (λ j. comes_in (w.place j))
+        ≡ sum_below s.floor.seats (λ j. comes_in (update s.world.place i p j)) =
         ap (λ (place : ℕ → Place). sum_below s.floor.seats (λ j. comes_in (place j))) is in
-        omega (arith, b.drawn, drawn, same, sum_put comes_in s.world.place i p s.floor.seats near, length-append s.floor.history (e ∷ []));
+        omega (
+          arith,
+          b.drawn,
+          drawn,
+          same,
+          sum_update comes_in s.world.place i p s.floor.seats near,
+          length-append s.floor.history (e ∷ []),
+        );
     counted = counted;
   }
 
   -- its count stays, and it was not on its way back
   pub count_stays : (i : ℕ) (p : Place) → comes_back (s.world.place i) ≡ 0 → (j : ℕ)
-      → s.world.count j ≤ length (events_of s.floor.history j) + comes_back (put s.world.place i p j)
+      → s.world.count j ≤ length (events_of s.floor.history j) + comes_back (update s.world.place i p j)
   count_stays i p none =
-      at_put s.world.place i p (λ j y. s.world.count j ≤ length (events_of s.floor.history j) + comes_back y)
+      at_update s.world.place i p (λ j y. s.world.count j ≤ length (events_of s.floor.history j) + comes_back y)
       (omega (arith, b.counted i, none)) (λ j _. b.counted j)
 
   pub count_grows : (i : ℕ) (p : Place) (e : Event) → seat_of e ≡ i → (j : ℕ)
-      → s.world.count j ≤ length (events_of (s.floor.history ++ e ∷ []) j) + comes_back (put s.world.place i p j)
+      → s.world.count j ≤ length (events_of (s.floor.history ++ e ∷ []) j) + comes_back (update s.world.place i p j)
   count_grows i p e seat =
-      at_put s.world.place i p
+      at_update s.world.place i p
       (λ j y. s.world.count j ≤ length (events_of (s.floor.history ++ e ∷ []) j) + comes_back y)
       (let own : length (events_of (s.floor.history ++ e ∷ []) i) ≡ length (events_of s.floor.history i) + 1 =
       subst (λ (m : ℕ). length (events_of (s.floor.history ++ e ∷ []) m) ≡ length (events_of s.floor.history m) + 1) seat (own_more e) in
@@ -166,6 +176,7 @@ module _ (s : State) (b : IsBounded s) where
 
   -- it counts a call, and is on its way back
   pub count_looks : (i c : ℕ) (p : Place) → c ≤ length (events_of s.floor.history i) + comes_back p → (j : ℕ)
-      → put s.world.count i c j ≤ length (events_of s.floor.history j) + comes_back (put s.world.place i p j)
-  count_looks i c p most = at_put s.world.place i p (λ j y. put s.world.count i c j ≤ length (events_of s.floor.history j) + comes_back y)
-      (omega (arith, put_here s.world.count i c, most)) (λ j ne. omega (arith, put_else s.world.count i c j ne, b.counted j))
+      → update s.world.count i c j ≤ length (events_of s.floor.history j) + comes_back (update s.world.place i p j)
+  count_looks i c p most = at_update s.world.place i p
+      (λ j y. update s.world.count i c j ≤ length (events_of s.floor.history j) + comes_back y)
+      (omega (arith, update_here s.world.count i c, most)) (λ j ne. omega (arith, update_else s.world.count i c j ne, b.counted j))

@@ -17,7 +17,7 @@ use Rattle.monk_history.specs.declared.event.Turn.{Turn}
 use Rattle.monk_floor.specs.View.{monitor_of}
 use Rattle.monk_world.specs.Kept.{comes_in, comes_back, IsBounded, IsKept}
 use Rattle.monk_world.specs.Places.{place_of}
-use Rattle.monk_world.specs.Put.{put}
+use Rattle.monk_world.specs.Update.{update}
 use Rattle.monk_world.specs.Right.{Whereabouts}
 use Rattle.monk_world.specs.Sound.{IsSound, left_at}
 use Rattle.monk_world.specs.State.{State, with_event}
@@ -38,7 +38,7 @@ use Rattle.monk_world.specs.declared.place.Place.TheVariants.{Idle, Ticket, Due,
 use Rattle.monk_world.specs.declared.source.Source.{Source}
 use Rattle.monk_world.specs.declared.source.Source.TheVariants.{Free, Granted, Called}
 use Rattle.monk_world.proofs.BoundLaws.{bounded_words, bounded_floor, count_stays, count_grows, count_looks, no_less}
-use Rattle.monk_world.proofs.PutLaws.{put_same}
+use Rattle.monk_world.proofs.UpdateLaws.{update_same}
 use Rattle.monk_world.proofs.SoundSteps.{step_is_sound}
 
 -- what holds where no refusal applies
@@ -112,7 +112,7 @@ module _ (k : Rules) (o : Object) (s : State) (right : Whereabouts) (owner : ℕ
   stays_bounded : (e : Event) → seat_of e ≡ i → 1 ≤ left_of s.floor.budget s.floor.history i
       → IsBounded (record s { floor = with_event s.floor e })
   stays_bounded e seat left =
-      bounded_floor s b i near s.world s.known (s.world.place i) (sym (put_same s.world.place i (s.world.place i) refl))
+      bounded_floor s b i near s.world s.known (s.world.place i) (sym (update_same s.world.place i (s.world.place i) refl))
       e seat left (omega arith)
       (λ j. omega (arith, b.counted j, no_less s b e j))
 
@@ -147,7 +147,7 @@ module _ (k : Rules) (o : Object) (s : State) (right : Whereabouts) (owner : ℕ
   bounded_done command.Out a t (Due q) at left d =
       let e = out_event i q (turn s.floor.history) in
       subst IsBounded (sym d.1)
-      (bounded_floor s b i near (after_floor_out s.world i q) (put s.known i false) (Active q) refl e
+      (bounded_floor s b i near (after_floor_out s.world i q) (update s.known i false) (Active q) refl e
       (out_seat i q (turn s.floor.history))
       (omega (arith, h.left i, ap left_at at)) (omega (arith, ap comes_in at))
       (count_grows s b i (Active q) e (out_seat i q (turn s.floor.history))))

@@ -10,7 +10,7 @@ use Rattle.monk_history.specs.declared.event.Next.{Next}
 use Rattle.monk_history.specs.declared.event.Next.TheVariants as next
 use Rattle.monk_history.specs.declared.event.Via.{Via}
 use Rattle.monk_world.specs.Places.{place_of}
-use Rattle.monk_world.specs.Put.{put}
+use Rattle.monk_world.specs.Update.{update}
 use Rattle.monk_world.specs.Records.{Recorded, EntersWith, IsRecorded, HasDrawn, TicketsEnterInOrder}
 use Rattle.monk_world.specs.Runs.{opening_state}
 use Rattle.monk_world.specs.State.{State}
@@ -26,7 +26,7 @@ use Rattle.monk_world.specs.declared.home.Home.TheVariants as home
 use Rattle.monk_world.specs.declared.place.Place.{Place}
 use Rattle.monk_world.specs.declared.place.Place.TheVariants.{Idle, Ticket, Due, Active, Back, Passing, Inner}
 use Rattle.monk_world.specs.declared.source.Source.TheVariants.{Free, Granted, Called}
-use Rattle.monk_world.proofs.PutLaws.{at_put}
+use Rattle.monk_world.proofs.UpdateLaws.{at_update}
 use Rattle.monk_world.proofs.RecordLaws.{refused_or_done}
 
 -- a seat that stands there has ticket n, and has not entered with it
@@ -88,10 +88,10 @@ module _ (k : Rules) (o : Object) (s : State) (i j n : ℕ) where
   Before a = HasTicket n (s.world.place j) ⊎ HasJustDrawn i j n a
 
   -- seat i stands at p now
-  moved : (a : Answer) (t : State) (p : Place) → t.world.place ≡ put s.world.place i p
+  moved : (a : Answer) (t : State) (p : Place) → t.world.place ≡ update s.world.place i p
       → (HasTicket n p → (i ≡ j) → Before a) → HasTicket n (t.world.place j) → Before a
   moved a t p is here has =
-      at_put s.world.place i p (λ m y. m ≡ j → HasTicket n y → Before a) (λ e h. here h e)
+      at_update s.world.place i p (λ m y. m ≡ j → HasTicket n y → Before a) (λ e h. here h e)
       (λ m ne e h. inl (subst (λ (z : ℕ). HasTicket n (s.world.place z)) e h)) j refl (subst (λ (f : ℕ → Place). HasTicket n (f j)) is has)
 
   -- no seat has moved

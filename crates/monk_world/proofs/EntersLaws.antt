@@ -4,7 +4,7 @@ use Rattle.monk_history.specs.declared.event.Next.{Next}
 use Rattle.monk_history.specs.declared.event.Next.TheVariants.{Entry}
 use Rattle.monk_world.specs.Enters.{FitsEnters, used_at, used_by, used_in}
 use Rattle.monk_world.specs.Places.{stage, place_of, due_stage, active_stage, passing_stage}
-use Rattle.monk_world.specs.Put.{put}
+use Rattle.monk_world.specs.Update.{update}
 use Rattle.monk_world.specs.Right.{Whereabouts, Nowhere, AtTicket, With, AtSeat, KeepsRight}
 use Rattle.monk_world.specs.Steps.{after_floor_out, after_floor_in, after_ticket_grant, after_seat_grant}
 use Rattle.monk_world.specs.World.{World}
@@ -14,7 +14,7 @@ use Rattle.monk_world.specs.declared.place.Place.TheVariants.{Idle, Ticket, Due,
 use Rattle.monk_world.specs.declared.source.Source.{Source}
 use Rattle.monk_world.specs.declared.source.Source.TheVariants.{Free, Granted, Called}
 use Rattle.monk_world.proofs.Holders.{held, holds}
-use Rattle.monk_world.proofs.PutLaws.{put_here, put_else}
+use Rattle.monk_world.proofs.UpdateLaws.{update_here, update_else}
 
 module _ (seats : ℕ) (s : World) (right : Whereabouts) (owner : ℕ → ℕ) (r : KeepsRight seats s right owner)
     (entered : ℕ) (f : FitsEnters s right entered) (i : ℕ) where
@@ -38,47 +38,47 @@ module _ (seats : ℕ) (s : World) (right : Whereabouts) (owner : ℕ → ℕ) (
       cc
 
   -- seat i has the right after its step
-  taken : (t n entered_new : ℕ) (p : Place) → entered_new + n ≡ t + used_at p → entered_new + n ≡ t + used_at (put s.place i p i)
-  taken t n entered_new p agrees = subst (λ (y : Place). entered_new + n ≡ t + used_at y) (sym (put_here s.place i p)) agrees
+  taken : (t n entered_new : ℕ) (p : Place) → entered_new + n ≡ t + used_at p → entered_new + n ≡ t + used_at (update s.place i p i)
+  taken t n entered_new p agrees = subst (λ (y : Place). entered_new + n ≡ t + used_at y) (sym (update_here s.place i p)) agrees
 
   pub arrives_free : s.unpassed ≡ 0
       → FitsEnters (record s {
         drawn = s.drawn + 1;
         unpassed = s.unpassed + 1;
         place =
-            put s.place i (Due (Free s.drawn));
+            update s.place i (Due (Free s.drawn));
       }) (With i) entered
   arrives_free none =
       let u : entered + s.unpassed ≡ s.drawn + 0 = entered_where Nowhere (r.holder.free.0 none) in
       taken (s.drawn + 1) (s.unpassed + 1) entered (Due (Free s.drawn)) (omega arith)
 
   pub arrives_behind : s.place i ≡ Idle
-      → FitsEnters (record s { drawn = s.drawn + 1; unpassed = s.unpassed + 1; place = put s.place i (Ticket s.drawn) })
+      → FitsEnters (record s { drawn = s.drawn + 1; unpassed = s.unpassed + 1; place = update s.place i (Ticket s.drawn) })
       right entered
   arrives_behind idle = let same =
       elsewhere right (λ e. let z = ap stage idle in let a = holds r i e in let b = a.0 in omega arith) in omega arith
     where
       after : World
-      after = record s { drawn = s.drawn + 1; unpassed = s.unpassed + 1; place = put s.place i (Ticket s.drawn) }
+      after = record s { drawn = s.drawn + 1; unpassed = s.unpassed + 1; place = update s.place i (Ticket s.drawn) }
 
       elsewhere : (x : Whereabouts) → x ≢ With i → used_in after x ≡ used_in s x
       elsewhere Nowhere ne = refl
       elsewhere (AtTicket t) ne = refl
-      elsewhere (With j) ne = ap used_at (put_else s.place i (Ticket s.drawn) j (λ e. ne (ap With e)))
+      elsewhere (With j) ne = ap used_at (update_else s.place i (Ticket s.drawn) j (λ e. ne (ap With e)))
       elsewhere (AtSeat j) ne = refl
 
-  pub takes_grant : (t : ℕ) → right ≡ AtTicket t → FitsEnters (record s { place = put s.place i (Due (Granted t)) }) (With i) entered
+  pub takes_grant : (t : ℕ) → right ≡ AtTicket t → FitsEnters (record s { place = update s.place i (Due (Granted t)) }) (With i) entered
   takes_grant t is = taken s.drawn s.unpassed entered (Due (Granted t)) (entered_where (AtTicket t) is)
 
   pub takes_call : (count : ℕ → ℕ) → right ≡ AtSeat i
-      → FitsEnters (record s { place = put s.place i (Due Called); count = count }) (With i) entered
+      → FitsEnters (record s { place = update s.place i (Due Called); count = count }) (With i) entered
   takes_call count is = taken s.drawn s.unpassed entered (Due Called) (entered_where (AtSeat i) is)
 
   -- seat i has the right before and after its step
   holder : (p : Place) (entered_new : ℕ) → right ≡ With i → entered_new + s.unpassed ≡ s.drawn + used_at p
-      → FitsEnters (record s { place = put s.place i p }) right entered_new
+      → FitsEnters (record s { place = update s.place i p }) right entered_new
   holder p entered_new mine agrees =
-      subst (λ (x : Whereabouts). FitsEnters (record s { place = put s.place i p }) x entered_new) (sym mine)
+      subst (λ (x : Whereabouts). FitsEnters (record s { place = update s.place i p }) x entered_new) (sym mine)
       (taken s.drawn s.unpassed entered_new p agrees)
 
   pub comes_out : (q : Source) (entered_new : ℕ) → s.place i ≡ Due q → entered_new + used_by q ≡ entered + 1
@@ -94,14 +94,14 @@ module _ (seats : ℕ) (s : World) (right : Whereabouts) (owner : ℕ → ℕ) (
       holder (Back next home) entered (held r i (omega arith) (omega arith)) (entered_here (Active q) active (omega arith) (omega arith))
 
   pub drops_last : (home : Home) → s.place i ≡ Back Entry home
-      → FitsEnters (record s { unpassed = s.unpassed - 1; place = put s.place i (place_of home) }) Nowhere entered
+      → FitsEnters (record s { unpassed = s.unpassed - 1; place = update s.place i (place_of home) }) Nowhere entered
   drops_last home back =
       let u : entered + s.unpassed ≡ s.drawn + 1 = entered_here (Back Entry home) back (omega arith) (omega arith) in
       let some = some_left (Back Entry home) back (omega arith) (omega arith) in
       omega arith
 
   pub drops_more : (t : ℕ) (home : Home) → s.place i ≡ Back Entry home
-      → FitsEnters (record s { unpassed = s.unpassed - 1; place = put s.place i (Passing t home) }) (With i) entered
+      → FitsEnters (record s { unpassed = s.unpassed - 1; place = update s.place i (Passing t home) }) (With i) entered
   drops_more t home back =
       let u : entered + s.unpassed ≡ s.drawn + 1 = entered_here (Back Entry home) back (omega arith) (omega arith) in
       let some = some_left (Back Entry home) back (omega arith) (omega arith) in

@@ -2,14 +2,14 @@
 use Rattle.std.proofs.Common.{◌≡◌, ◌≢◌, ℕ, ◌≤◌, ◌⊎◌, ◌↔◌, sym, refl, ap, ◌∙◌, subst, inl, inr, arith}
 use Rattle.std.proofs.lemmas.Bool.Decides.{eqb_tells}
 use Rattle.monk_world.specs.Places.{HoldsRight, stage, ticket, place_of, ticketed_stage, due_stage, passing_stage}
-use Rattle.monk_world.specs.Put.{put}
+use Rattle.monk_world.specs.Update.{update}
 use Rattle.monk_world.specs.Right.{Whereabouts, Nowhere, AtTicket, With, AtSeat, KeepsRight, Waits}
 use Rattle.monk_world.specs.World.{World}
 use Rattle.monk_world.specs.declared.home.Home.{Home}
 use Rattle.monk_world.specs.declared.home.Home.TheVariants as home
 use Rattle.monk_world.specs.declared.place.Place.{Place}
 use Rattle.monk_world.specs.declared.place.Place.TheVariants.{Idle, Ticket, Due, Active, Back, Passing, Inner}
-use Rattle.monk_world.proofs.PutLaws.{at_put, put_else}
+use Rattle.monk_world.proofs.UpdateLaws.{at_update, update_else}
 
 -- who has the right stands between due and passing, and nobody else does
 pub has_right : (p : Place) → HoldsRight p → (due_stage ≤ stage p) × (stage p ≤ passing_stage)
@@ -57,15 +57,16 @@ module _ (place : ℕ → Place) (i : ℕ) (to : Place) (none : (j : ℕ) → j 
   nobody_else j ne a = let b = has_right (place j) a in none j ne b.0 b.1
 
   -- after its step seat i alone has the right
-  pub alone_with : HoldsRight to → (j : ℕ) → HoldsRight (put place i to j) ↔ (With i ≡ With j)
+  pub alone_with : HoldsRight to → (j : ℕ) → HoldsRight (update place i to j) ↔ (With i ≡ With j)
   alone_with here =
-      at_put place i to (λ j p. HoldsRight p ↔ (With i ≡ With j)) ((λ _. refl), (λ _. here))
+      at_update place i to (λ j p. HoldsRight p ↔ (With i ≡ With j)) ((λ _. refl), (λ _. here))
       (λ j ne. ((λ a. absurd (nobody_else j ne a)), (λ e. absurd (ne cc))))
 
   -- after its step no seat has it
-  pub with_none : (x : Whereabouts) → (HoldsRight to → ⊥) → ((j : ℕ) → x ≢ With j) → (j : ℕ) → HoldsRight (put place i to j) ↔ (x ≡ With j)
+  pub with_none : (x : Whereabouts) → (HoldsRight to → ⊥) → ((j : ℕ) → x ≢ With j)
+      → (j : ℕ) → HoldsRight (update place i to j) ↔ (x ≡ With j)
   with_none x here gone =
-      at_put place i to (λ j p. HoldsRight p ↔ (x ≡ With j)) ((λ a. absurd (here a)), (λ e. absurd (gone i e)))
+      at_update place i to (λ j p. HoldsRight p ↔ (x ≡ With j)) ((λ a. absurd (here a)), (λ e. absurd (gone i e)))
       (λ j ne. ((λ a. absurd (nobody_else j ne a)), (λ e. absurd (gone j e))))
 
 -- who stands between due and passing has the right, and who has the right stands there
@@ -79,10 +80,10 @@ holds {s = s} r j e = has_right (s.place j) ((r.holder.with_seat j).1 e)
 
 module _ (seats : ℕ) (s : World) (right : Whereabouts) (owner : ℕ → ℕ) (r : KeepsRight seats s right owner) (i : ℕ) where
   -- who waits with a ticket goes on waiting where another steps
-  pub waiter_stays : (to : Place) (k : ℕ) → stage (s.place i) ≢ ticketed_stage → Waits s.place owner k → Waits (put s.place i to) owner k
+  pub waiter_stays : (to : Place) (k : ℕ) → stage (s.place i) ≢ ticketed_stage → Waits s.place owner k → Waits (update s.place i to) owner k
   waiter_stays to k other h =
       subst (λ (y : Place). (stage y ≡ ticketed_stage) × (ticket y ≡ k))
-      (sym (put_else s.place i to (owner k) (λ e. other (sym (ap (λ (j : ℕ). stage (s.place j)) e) ∙ h.0)))) h
+      (sym (update_else s.place i to (owner k) (λ e. other (sym (ap (λ (j : ℕ). stage (s.place j)) e) ∙ h.0)))) h
 
   -- who has the right has it alone
   pub others : due_stage ≤ stage (s.place i) → stage (s.place i) ≤ passing_stage → (j : ℕ) → j ≢ i

@@ -15,9 +15,6 @@ run-push : (k : Rules) (o : Object) (s t u : State) (told : List Told) (x : Told
 run-push k o s t u [] x r step = (u, subst (λ (v : State). IsStep k o v x.seat x.command x.answer u) r step, refl)
 run-push k o s t u (y ∷ ys) x r step = (r.0, r.1, run-push k o r.0 t u ys x r.2 step)
 
-pub led_none : (k : Rules) (o : Object) (s : State) → IsLed k o s [] s
-led_none k o s = record { told = []; by_commands = refl; is_run = refl }
-
 pub led_more : (k : Rules) (o : Object) (s t u : State) (commands : List (ℕ × Command)) (seat : ℕ) (command : Command)
     (answer : Answer) → IsLed k o s commands t → IsStep k o t seat command answer u
     → IsLed k o s (commands ++ (seat, command) ∷ []) u
@@ -35,9 +32,6 @@ pub record IsLedSoFar (k : Rules) (o : Object) (s : State) (left all : List (ℕ
   pub done : List (ℕ × Command)
   pub led : IsLed k o s done t
   pub whole : done ++ left ≡ all
-
-pub so_far_none : (k : Rules) (o : Object) (s : State) (all : List (ℕ × Command)) → IsLedSoFar k o s all all s
-so_far_none k o s all = record { done = []; led = led_none k o s; whole = refl }
 
 pub so_far_more : (k : Rules) (o : Object) (s t u : State) (old new all : List (ℕ × Command)) (told : ℕ × Command)
     (answer : Answer) → old ≡ told ∷ new → IsStep k o t told.0 told.1 answer u → IsLedSoFar k o s old all t

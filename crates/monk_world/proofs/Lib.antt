@@ -1,4 +1,4 @@
-mod PutLaws
+mod UpdateLaws
 mod Holders
 mod RightArrives
 mod RightLooks

@@ -13,7 +13,7 @@ pub use Rattle.monk_world.proofs.OnePlaceLaws.{in_one_place}
 -- The laws of the text of a play: what is read has that text, and what has a text is read from it.
 pub use Rattle.monk_world.proofs.PlayLaws.PlayText.{play_again, play_found}
 -- One number changes, and the others stay
-pub use Rattle.monk_world.proofs.PutLaws.{all_back, at_put, put_else, put_here, put_same}
+pub use Rattle.monk_world.proofs.UpdateLaws.{all_back, at_update, update_else, update_here, update_same}
 -- What each step of a run adds to the history
 pub use Rattle.monk_world.proofs.RecordLaws.{same_monitor}
 -- What every run leads to

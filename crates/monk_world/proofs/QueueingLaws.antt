@@ -4,7 +4,7 @@ use Rattle.monk_history.specs.declared.event.Next.{Next}
 use Rattle.monk_history.specs.declared.event.Next.TheVariants.{Entry}
 use Rattle.monk_world.specs.Places.{stage, source, back_turn, open_turn, turn_of_next, place_of, stays_inside}
 use Rattle.monk_world.specs.Places.{is_queued_at, due_stage, active_stage, back_stage, passing_stage, free_source}
-use Rattle.monk_world.specs.Put.{put}
+use Rattle.monk_world.specs.Update.{update}
 use Rattle.monk_world.specs.Right.{Whereabouts, KeepsRight}
 use Rattle.monk_world.specs.Queueing.{FitsQueues}
 use Rattle.monk_world.specs.Steps.{after_floor_out, after_floor_in, after_ticket_grant, after_seat_grant}
@@ -16,7 +16,7 @@ use Rattle.monk_world.specs.declared.place.Place.TheVariants.{Idle, Ticket, Due,
 use Rattle.monk_world.specs.declared.source.Source.{Source}
 use Rattle.monk_world.specs.declared.source.Source.TheVariants.{Free, Granted, Called}
 use Rattle.monk_world.proofs.Holders.{held, at_home, others}
-use Rattle.monk_world.proofs.PutLaws.{at_put}
+use Rattle.monk_world.proofs.UpdateLaws.{at_update}
 
 -- a seat that goes home is in a queue exactly where it stays inside
 home_queued : (h : Home) → is_queued_at (place_of h) ≡ stays_inside h
@@ -49,66 +49,67 @@ module _ (seats : ℕ) (s : World) (right : Whereabouts) (owner : ℕ → ℕ) (
   queued_here p at ne = subst (λ (y : Place). stage y ≢ active_stage → queued i ≡ is_queued_at y) at (f.in_queue i) ne
 
   pub arrives_free : s.place i ≡ Idle → s.unpassed ≡ 0
-      → FitsQueues (record s { drawn = s.drawn + 1; unpassed = s.unpassed + 1; place = put s.place i (Due (Free s.drawn)) }) queued quiet
+      → FitsQueues (record s { drawn = s.drawn + 1; unpassed = s.unpassed + 1; place = update s.place i (Due (Free s.drawn)) }) queued quiet
   arrives_free idle none =
       let p : Place = Due (Free s.drawn) in
       record {
-        in_queue = at_put s.place i p (InQueue queued) (λ _. queued_here Idle idle (λ e. omega arith)) (λ j _. f.in_queue j);
+        in_queue = at_update s.place i p (InQueue queued) (λ _. queued_here Idle idle (λ e. omega arith)) (λ j _. f.in_queue j);
         free = λ e. absurd (omega arith);
-        still_free = at_put s.place i p (StillFree quiet) (λ _ _. f.free none) (λ j _. f.still_free j);
-        back_to_entry = at_put s.place i p (ToEntry quiet (s.unpassed + 1)) (λ a. absurd (omega arith))
+        still_free = at_update s.place i p (StillFree quiet) (λ _ _. f.free none) (λ j _. f.still_free j);
+        back_to_entry = at_update s.place i p (ToEntry quiet (s.unpassed + 1)) (λ a. absurd (omega arith))
             (λ j _ a e. weaker quiet s.unpassed (f.back_to_entry j a e));
       }
 
   pub arrives_behind : s.place i ≡ Idle
-      → FitsQueues (record s { drawn = s.drawn + 1; unpassed = s.unpassed + 1; place = put s.place i (Ticket s.drawn) })
+      → FitsQueues (record s { drawn = s.drawn + 1; unpassed = s.unpassed + 1; place = update s.place i (Ticket s.drawn) })
       queued quiet
   arrives_behind idle =
       let p : Place = Ticket s.drawn in
       record {
-        in_queue = at_put s.place i p (InQueue queued) (λ _. queued_here Idle idle (λ e. omega arith)) (λ j _. f.in_queue j);
+        in_queue = at_update s.place i p (InQueue queued) (λ _. queued_here Idle idle (λ e. omega arith)) (λ j _. f.in_queue j);
         free = λ e. absurd (omega arith);
-        still_free = at_put s.place i p (StillFree quiet) (λ a. absurd (omega arith)) (λ j _. f.still_free j);
-        back_to_entry = at_put s.place i p (ToEntry quiet (s.unpassed + 1)) (λ a. absurd (omega arith))
+        still_free = at_update s.place i p (StillFree quiet) (λ a. absurd (omega arith)) (λ j _. f.still_free j);
+        back_to_entry = at_update s.place i p (ToEntry quiet (s.unpassed + 1)) (λ a. absurd (omega arith))
             (λ j _ a e. weaker quiet s.unpassed (f.back_to_entry j a e));
       }
 
-  pub takes_grant : (t : ℕ) → s.place i ≡ Ticket t → FitsQueues (record s { place = put s.place i (Due (Granted t)) }) queued quiet
+  pub takes_grant : (t : ℕ) → s.place i ≡ Ticket t → FitsQueues (record s { place = update s.place i (Due (Granted t)) }) queued quiet
   takes_grant t at =
       let p : Place = Due (Granted t) in
       record {
-        in_queue = at_put s.place i p (InQueue queued) (λ _. queued_here (Ticket t) at (λ e. omega arith)) (λ j _. f.in_queue j);
+        in_queue = at_update s.place i p (InQueue queued) (λ _. queued_here (Ticket t) at (λ e. omega arith)) (λ j _. f.in_queue j);
         free = f.free;
-        still_free = at_put s.place i p (StillFree quiet) (λ _ b. absurd (omega arith)) (λ j _. f.still_free j);
-        back_to_entry = at_put s.place i p (ToEntry quiet s.unpassed) (λ a. absurd (omega arith)) (λ j _. f.back_to_entry j);
+        still_free = at_update s.place i p (StillFree quiet) (λ _ b. absurd (omega arith)) (λ j _. f.still_free j);
+        back_to_entry = at_update s.place i p (ToEntry quiet s.unpassed) (λ a. absurd (omega arith)) (λ j _. f.back_to_entry j);
       }
 
   pub takes_call : (count : ℕ → ℕ) → s.place i ≡ Inner
-      → FitsQueues (record s { place = put s.place i (Due Called); count = count }) queued quiet
+      → FitsQueues (record s { place = update s.place i (Due Called); count = count }) queued quiet
   takes_call count at =
       let p : Place = Due Called in
       record {
-        in_queue = at_put s.place i p (InQueue queued) (λ _. queued_here Inner at (λ e. omega arith)) (λ j _. f.in_queue j);
+        in_queue = at_update s.place i p (InQueue queued) (λ _. queued_here Inner at (λ e. omega arith)) (λ j _. f.in_queue j);
         free = f.free;
-        still_free = at_put s.place i p (StillFree quiet) (λ _ b. absurd (omega arith)) (λ j _. f.still_free j);
-        back_to_entry = at_put s.place i p (ToEntry quiet s.unpassed) (λ a. absurd (omega arith)) (λ j _. f.back_to_entry j);
+        still_free = at_update s.place i p (StillFree quiet) (λ _ b. absurd (omega arith)) (λ j _. f.still_free j);
+        back_to_entry = at_update s.place i p (ToEntry quiet s.unpassed) (λ a. absurd (omega arith)) (λ j _. f.back_to_entry j);
       }
 
   -- the step of seat i, which has the right
   holder : (p : Place) (queued_new : ℕ → Bool) (quiet_new : Bool) → due_stage ≤ stage (s.place i)
       → stage (s.place i) ≤ passing_stage → (stage p ≡ active_stage) ⊎ (stage p ≡ back_stage)
       → ((j : ℕ) → j ≢ i → queued_new j ≡ queued j) → InQueue queued_new i p → ToEntry quiet_new s.unpassed i p
-      → FitsQueues (record s { place = put s.place i p }) queued_new quiet_new
+      → FitsQueues (record s { place = update s.place i p }) queued_new quiet_new
   holder p queued_new quiet_new low high next alike here entry =
       let none : (j : ℕ) → j ≢ i → due_stage ≤ stage (s.place j) → stage (s.place j) ≤ passing_stage → ⊥ =
       others seats s right owner r i low high in
       let mine = held r i low high in
       record {
-        in_queue = at_put s.place i p (InQueue queued_new) here (λ j ne a. alike j ne ∙ f.in_queue j a);
+        in_queue = at_update s.place i p (InQueue queued_new) here (λ j ne a. alike j ne ∙ f.in_queue j a);
         free = λ e. absurd (let a = r.holder.free.0 e in cc);
-        still_free = at_put s.place i p (StillFree quiet_new) (λ a. absurd (later next a))
+        still_free = at_update s.place i p (StillFree quiet_new) (λ a. absurd (later next a))
             (λ j ne a. absurd (none j ne (omega arith) (omega arith)));
-        back_to_entry = at_put s.place i p (ToEntry quiet_new s.unpassed) entry (λ j ne a. absurd (none j ne (omega arith) (omega arith)));
+        back_to_entry = at_update s.place i p (ToEntry quiet_new s.unpassed) entry
+            (λ j ne a. absurd (none j ne (omega arith) (omega arith)));
       }
     where
       later : (stage p ≡ active_stage) ⊎ (stage p ≡ back_stage) → stage p ≡ due_stage → ⊥
@@ -149,23 +150,23 @@ module _ (seats : ℕ) (s : World) (right : Whereabouts) (owner : ℕ → ℕ) (
   -- seat i gives the right away and goes home
   given : (n : ℕ) (home : Home) → queued i ≡ stays_inside home → (n ≡ 0 → quiet ≡ true) → due_stage ≤ stage (s.place i)
       → stage (s.place i) ≤ passing_stage
-      → FitsQueues (record s { unpassed = n; place = put s.place i (place_of home) }) queued quiet
+      → FitsQueues (record s { unpassed = n; place = update s.place i (place_of home) }) queued quiet
   given n home own free low high =
       let p : Place = place_of home in
       let none : (j : ℕ) → j ≢ i → due_stage ≤ stage (s.place j) → stage (s.place j) ≤ passing_stage → ⊥ =
       others seats s right owner r i low high in
       record {
-        in_queue = at_put s.place i p (InQueue queued) (λ _. own ∙ sym (home_queued home)) (λ j _. f.in_queue j);
+        in_queue = at_update s.place i p (InQueue queued) (λ _. own ∙ sym (home_queued home)) (λ j _. f.in_queue j);
         free = free;
-        still_free = at_put s.place i p (StillFree quiet) (λ a. absurd (at_home home 2 (omega arith) (omega arith) a))
+        still_free = at_update s.place i p (StillFree quiet) (λ a. absurd (at_home home 2 (omega arith) (omega arith) a))
             (λ j _. f.still_free j);
-        back_to_entry = at_put s.place i p (ToEntry quiet n)
+        back_to_entry = at_update s.place i p (ToEntry quiet n)
             (λ a. absurd (at_home home 4 (omega arith) (omega arith) a))
             (λ j ne a. absurd (none j ne (omega arith) (omega arith)));
       }
 
   pub drops_last : (home : Home) → s.place i ≡ Back Entry home → s.unpassed ≡ 1
-      → FitsQueues (record s { unpassed = s.unpassed - 1; place = put s.place i (place_of home) }) queued quiet
+      → FitsQueues (record s { unpassed = s.unpassed - 1; place = update s.place i (place_of home) }) queued quiet
   drops_last home back one =
       let four : stage (s.place i) ≡ back_stage = stage_of (Back Entry home) back in
       let entry : back_turn (s.place i) ≡ open_turn = ap back_turn back in
@@ -173,7 +174,7 @@ module _ (seats : ℕ) (s : World) (right : Whereabouts) (owner : ℕ → ℕ) (
       (λ _. sure quiet s.unpassed one (f.back_to_entry i four entry)) (omega arith) (omega arith)
 
   pub drops_more : (t : ℕ) (home : Home) → s.place i ≡ Back Entry home → s.unpassed ≢ 1
-      → FitsQueues (record s { unpassed = s.unpassed - 1; place = put s.place i (Passing t home) }) queued quiet
+      → FitsQueues (record s { unpassed = s.unpassed - 1; place = update s.place i (Passing t home) }) queued quiet
   drops_more t home back more =
       let p : Place = Passing t home in
       let four : stage (s.place i) ≡ back_stage = stage_of (Back Entry home) back in
@@ -182,10 +183,11 @@ module _ (seats : ℕ) (s : World) (right : Whereabouts) (owner : ℕ → ℕ) (
       let mine = held r i (omega arith) (omega arith) in
       let some : s.unpassed ≢ 0 = λ e. let a = r.holder.free.0 e in cc in
       record {
-        in_queue = at_put s.place i p (InQueue queued) (λ _. queued_here (Back Entry home) back (λ e. omega arith)) (λ j _. f.in_queue j);
+        in_queue = at_update s.place i p (InQueue queued)
+            (λ _. queued_here (Back Entry home) back (λ e. omega arith)) (λ j _. f.in_queue j);
         free = λ e. absurd (omega arith);
-        still_free = at_put s.place i p (StillFree quiet) (λ a. absurd (omega arith)) (λ j _. f.still_free j);
-        back_to_entry = at_put s.place i p (ToEntry quiet (s.unpassed - 1)) (λ a. absurd (omega arith))
+        still_free = at_update s.place i p (StillFree quiet) (λ a. absurd (omega arith)) (λ j _. f.still_free j);
+        back_to_entry = at_update s.place i p (ToEntry quiet (s.unpassed - 1)) (λ a. absurd (omega arith))
             (λ j ne a. absurd (none j ne (omega arith) (omega arith)));
       }
 

@@ -46,7 +46,7 @@ use Rattle.monk_world.specs.declared.place.Place.{Place}
 use Rattle.monk_world.specs.declared.place.Place.TheVariants.{Idle, Ticket, Due, Active, Back, Passing, Inner}
 use Rattle.monk_world.specs.declared.source.Source.{Source}
 use Rattle.monk_world.specs.declared.source.Source.TheVariants.{Free, Granted, Called}
-use Rattle.monk_world.proofs.PutLaws.{put_here}
+use Rattle.monk_world.proofs.UpdateLaws.{update_here}
 use Rattle.monk_world.proofs.RunLaws.{well_led}
 use Rattle.monk_world.proofs.SoundSteps.{IsRelease, leaving, waiting, signalling, signal_leaving, signal_waiting, waiting_until}
 use Rattle.monk_world.proofs.SoundSteps.{step_is_sound}
@@ -154,7 +154,7 @@ module _ (k : Rules) (o : Object) (s : State) (kind : IsKind k) (h : Sound k o s
       let went : t.world ≡ after_floor_in s.world i next.Entry to =
       world_is ∙ ap (λ (y : Next). if is_stay (Some y) then s.world else after_floor_in s.world i y to) is in
       let place : t.world.place i ≡ Back next.Entry to = ap (λ (w : World). w.place i) went
-      ∙ put_here s.world.place i (Back next.Entry to) in
+      ∙ update_here s.world.place i (Back next.Entry to) in
       let unpassed : t.world.unpassed ≡ s.world.unpassed = ap (λ (w : World). w.unpassed) went in
       elim (after.is_sound.stands.fits_queues.back_to_entry i (ap stage place) (ap back_turn place)) [
         | inl quiet ↦ inl quiet

@@ -1,7 +1,7 @@
 -- A seat that draws a ticket has the right where the monitor was free, and else waits
 use Rattle.std.proofs.Common.{◌≡◌, ◌≢◌, ℕ, ◌+◌, ◌<◌, ◌≤◌, ◌↔◌, sym, refl, ap, ◌∙◌, subst, arith}
 use Rattle.monk_world.specs.Places.{HoldsRight, stage, ticket, outside_stage, ticketed_stage, due_stage, passing_stage, inside_stage}
-use Rattle.monk_world.specs.Put.{put}
+use Rattle.monk_world.specs.Update.{update}
 use Rattle.monk_world.specs.Right.{Whereabouts, With, KeepsRight, UsesTicket, ChoseInner, Waits, PassesNext, OwnsTicket}
 use Rattle.monk_world.specs.Right.{WasGranted, LeavesLow}
 use Rattle.monk_world.specs.World.{World}
@@ -9,7 +9,7 @@ use Rattle.monk_world.specs.declared.place.Place.{Place}
 use Rattle.monk_world.specs.declared.place.Place.TheVariants.{Ticket, Due}
 use Rattle.monk_world.specs.declared.source.Source.TheVariants.{Free}
 use Rattle.monk_world.proofs.Holders.{held, holds, alone_with, waiter_stays, other_stage}
-use Rattle.monk_world.proofs.PutLaws.{at_put, put_here, put_else, all_back}
+use Rattle.monk_world.proofs.UpdateLaws.{at_update, update_here, update_else, all_back}
 
 module _ (seats : ℕ) (s : World) (right : Whereabouts) (owner : ℕ → ℕ) (r : KeepsRight seats s right owner) (i : ℕ) where
   pub draws_free : stage (s.place i) ≡ outside_stage → s.unpassed ≡ 0
@@ -17,7 +17,7 @@ module _ (seats : ℕ) (s : World) (right : Whereabouts) (owner : ℕ → ℕ) (
         drawn = s.drawn + 1;
         unpassed = s.unpassed + 1;
         place =
-            put s.place i (Due (Free s.drawn));
+            update s.place i (Due (Free s.drawn));
       }) (With i) owner
   draws_free idle none =
       let to : Place = Due (Free s.drawn) in
@@ -32,28 +32,28 @@ module _ (seats : ℕ) (s : World) (right : Whereabouts) (owner : ℕ → ℕ) (
         };
         tickets = record {
           behind = let a = r.tickets.behind in omega arith;
-          in_use = at_put s.place i to (λ _. UsesTicket (s.drawn + 1) (s.unpassed + 1)) (λ _ _. omega arith)
+          in_use = at_update s.place i to (λ _. UsesTicket (s.drawn + 1) (s.unpassed + 1)) (λ _ _. omega arith)
               (λ j _ a. absurd (nobody j (omega arith) (omega arith)));
-          waits = at_put s.place i to (OwnsTicket (s.drawn + 1) (s.unpassed + 1) owner) (λ a. absurd (omega arith))
+          waits = at_update s.place i to (OwnsTicket (s.drawn + 1) (s.unpassed + 1) owner) (λ a. absurd (omega arith))
               (λ j _ a. absurd (alone j a));
           owned = λ k a b. absurd (omega arith);
-          passing = at_put s.place i to (λ _. PassesNext (s.drawn + 1) (s.unpassed + 1) (put s.place i to) owner)
+          passing = at_update s.place i to (λ _. PassesNext (s.drawn + 1) (s.unpassed + 1) (update s.place i to) owner)
               (λ a. absurd (omega arith)) (λ j _ a. absurd (nobody j (omega arith) (omega arith)));
-          granted = at_put s.place i to (λ _. WasGranted (s.drawn + 1) (s.unpassed + 1) (With i) (put s.place i to))
+          granted = at_update s.place i to (λ _. WasGranted (s.drawn + 1) (s.unpassed + 1) (With i) (update s.place i to))
               (λ a. absurd (omega arith)) (λ j _ a. absurd (alone j a));
           grant = λ t e. absurd cc;
         };
         places = record {
           granted = λ t e. absurd cc;
           low = λ p h. let a = r.places.low_free none p h in omega arith;
-          low_passing = at_put s.place i to (λ _. LeavesLow seats (s.drawn + 1) (s.unpassed + 1) s.ticket_place)
+          low_passing = at_update s.place i to (λ _. LeavesLow seats (s.drawn + 1) (s.unpassed + 1) s.ticket_place)
               (λ a. absurd (omega arith)) (λ j _ a. absurd (nobody j (omega arith) (omega arith)));
           low_free = λ e. absurd (omega arith);
         };
         calls = record {
           called = λ j e. absurd cc;
           not_called = λ j _. r.calls.not_called j (λ e. absurd cc);
-          chose = at_put s.place i to (λ _. ChoseInner (put s.place i to)) (λ a. absurd (omega arith))
+          chose = at_update s.place i to (λ _. ChoseInner (update s.place i to)) (λ a. absurd (omega arith))
               (λ j _ a. absurd (nobody j (omega arith) (omega arith)));
         };
       }
@@ -63,42 +63,43 @@ module _ (seats : ℕ) (s : World) (right : Whereabouts) (owner : ℕ → ℕ) (
         drawn = s.drawn + 1;
         unpassed = s.unpassed + 1;
         place =
-            put s.place i (Ticket s.drawn);
-      }) right (put owner s.drawn i)
+            update s.place i (Ticket s.drawn);
+      }) right (update owner s.drawn i)
   draws_wait idle some =
       let to : Place = Ticket s.drawn in
-      let owners = put owner s.drawn i in
-      let keeps : (k : ℕ) → Waits s.place owner k → Waits (put s.place i to) owner k =
+      let owners = update owner s.drawn i in
+      let keeps : (k : ℕ) → Waits s.place owner k → Waits (update s.place i to) owner k =
       λ k h. waiter_stays seats s right owner r i to k (λ e. omega arith) h in
-      let moves : (k : ℕ) → k ≢ s.drawn → Waits s.place owner k → Waits (put s.place i to) owners k =
-      λ k ne h. subst (λ (j : ℕ). (stage (put s.place i to j) ≡ ticketed_stage) × (ticket (put s.place i to j) ≡ k))
-      (sym (put_else owner s.drawn i k ne)) (keeps k h) in
-      let stays : (j : ℕ) → stage (s.place j) ≡ inside_stage → stage (put s.place i to j) ≡ inside_stage =
-      λ j six. ap stage (put_else s.place i to j (other_stage s.place i j (λ e. omega arith))) ∙ six in
+      let moves : (k : ℕ) → k ≢ s.drawn → Waits s.place owner k → Waits (update s.place i to) owners k =
+      λ k ne h. subst (λ (j : ℕ). (stage (update s.place i to j) ≡ ticketed_stage) × (ticket (update s.place i to j) ≡ k))
+      (sym (update_else owner s.drawn i k ne)) (keeps k h) in
+      let stays : (j : ℕ) → stage (s.place j) ≡ inside_stage → stage (update s.place i to j) ≡ inside_stage =
+      λ j six. ap stage (update_else s.place i to j (other_stage s.place i j (λ e. omega arith))) ∙ six in
       record {
         holder = record {
           free = ((λ e. absurd (omega arith)), (λ e. absurd (some (r.holder.free.1 e))));
-          with_seat = at_put s.place i to (λ j p. HoldsRight p ↔ (right ≡ With j))
+          with_seat = at_update s.place i to (λ j p. HoldsRight p ↔ (right ≡ With j))
               ((λ a. absurd a), (λ e. let a = holds r i e in let b = a.0 in absurd (omega arith)))
               (λ j _. r.holder.with_seat j);
         };
         tickets = record {
           behind = let a = r.tickets.behind in omega arith;
-          in_use = at_put s.place i to (λ _. UsesTicket (s.drawn + 1) (s.unpassed + 1)) (λ a. absurd (omega arith))
+          in_use = at_update s.place i to (λ _. UsesTicket (s.drawn + 1) (s.unpassed + 1)) (λ a. absurd (omega arith))
               (λ j _ a b. let d = r.tickets.in_use j a b in omega arith);
-          waits = at_put s.place i to (OwnsTicket (s.drawn + 1) (s.unpassed + 1) owners)
-              (λ _. (omega arith, omega arith, put_here owner s.drawn i))
+          waits = at_update s.place i to (OwnsTicket (s.drawn + 1) (s.unpassed + 1) owners)
+              (λ _. (omega arith, omega arith, update_here owner s.drawn i))
               (λ j _ a. let b = r.tickets.waits j a in let c = b.0 in let d = b.1 in
-              (omega arith, omega arith, put_else owner s.drawn i (ticket (s.place j)) (λ e. omega arith) ∙ b.2));
-          owned = at_put owner s.drawn i (λ k j. k < s.drawn + 1 → s.drawn + 1 < k + (s.unpassed + 1)
-              → (stage (put s.place i to j) ≡ ticketed_stage) × (ticket (put s.place i to j) ≡ k))
-              (λ _ _. subst (λ (y : Place). (stage y ≡ ticketed_stage) × (ticket y ≡ s.drawn)) (sym (put_here s.place i to)) (refl, refl))
+              (omega arith, omega arith, update_else owner s.drawn i (ticket (s.place j)) (λ e. omega arith) ∙ b.2));
+          owned = at_update owner s.drawn i (λ k j. k < s.drawn + 1 → s.drawn + 1 < k + (s.unpassed + 1)
+              → (stage (update s.place i to j) ≡ ticketed_stage) × (ticket (update s.place i to j) ≡ k))
+              (λ _ _. subst (λ (y : Place). (stage y ≡ ticketed_stage) × (ticket y ≡ s.drawn))
+              (sym (update_here s.place i to)) (refl, refl))
               (λ k other a b. let lower : k < s.drawn = omega arith in keeps k (r.tickets.owned k lower (omega arith)));
-          passing = at_put s.place i to (λ _. PassesNext (s.drawn + 1) (s.unpassed + 1) (put s.place i to) owners)
+          passing = at_update s.place i to (λ _. PassesNext (s.drawn + 1) (s.unpassed + 1) (update s.place i to) owners)
               (λ a. absurd (omega arith))
               (λ j _ a. let p = r.tickets.passing j a in let sum = p.0 in
               (omega arith, moves (ticket (s.place j)) (λ z. some (omega arith)) p.1));
-          granted = at_put s.place i to (λ _. WasGranted (s.drawn + 1) (s.unpassed + 1) right (put s.place i to))
+          granted = at_update s.place i to (λ _. WasGranted (s.drawn + 1) (s.unpassed + 1) right (update s.place i to))
               (λ _ e. absurd (some (omega arith)))
               (λ j _ a e none. r.tickets.granted j a (omega arith)
               (all_back s.place i to (λ k y. stage y ≢ passing_stage) none (λ z. omega arith)));
@@ -107,14 +108,14 @@ module _ (seats : ℕ) (s : World) (right : Whereabouts) (owner : ℕ → ℕ) (
         places = record {
           granted = r.places.granted;
           low = λ p h. let a = r.places.low p h in omega arith;
-          low_passing = at_put s.place i to (λ _. LeavesLow seats (s.drawn + 1) (s.unpassed + 1) s.ticket_place)
+          low_passing = at_update s.place i to (λ _. LeavesLow seats (s.drawn + 1) (s.unpassed + 1) s.ticket_place)
               (λ a. absurd (omega arith)) (λ j _ a p near. let b = r.places.low_passing j a p near in omega arith);
           low_free = λ e. absurd (omega arith);
         };
         calls = record {
           called = λ j e. let c = r.calls.called j e in (stays j c.0, c.1);
           not_called = r.calls.not_called;
-          chose = at_put s.place i to (λ _. ChoseInner (put s.place i to)) (λ a. absurd (omega arith))
+          chose = at_update s.place i to (λ _. ChoseInner (update s.place i to)) (λ a. absurd (omega arith))
               (λ j _ a k e. stays k (r.calls.chose j a k e));
         };
       }

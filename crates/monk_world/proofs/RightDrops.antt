@@ -1,7 +1,7 @@
 -- A seat that chose entry takes itself off the ticket word: the monitor is free, or the next ticket is to be granted
 use Rattle.std.proofs.Common.{◌≡◌, ◌≢◌, ℕ, ◌+◌, ◌-◌, ◌<◌, ◌≤◌, refl, ap, arith}
 use Rattle.monk_world.specs.Places.{stage, ticket, place_of, ticketed_stage, due_stage, back_stage, passing_stage}
-use Rattle.monk_world.specs.Put.{put}
+use Rattle.monk_world.specs.Update.{update}
 use Rattle.monk_world.specs.Right.{Whereabouts, Nowhere, With, KeepsRight, UsesTicket, ChoseInner, PassesNext}
 use Rattle.monk_world.specs.Right.{OwnsTicket, WasGranted, LeavesLow}
 use Rattle.monk_world.specs.World.{World}
@@ -9,7 +9,7 @@ use Rattle.monk_world.specs.declared.home.Home.{Home}
 use Rattle.monk_world.specs.declared.place.Place.{Place}
 use Rattle.monk_world.specs.declared.place.Place.TheVariants.{Passing}
 use Rattle.monk_world.proofs.Holders.{held, alone_with, with_none, home_has_none, at_home, waiter_stays, others}
-use Rattle.monk_world.proofs.PutLaws.{at_put, put_here}
+use Rattle.monk_world.proofs.UpdateLaws.{at_update, update_here}
 
 module _ (seats : ℕ) (s : World) (right : Whereabouts) (owner : ℕ → ℕ) (r : KeepsRight seats s right owner) (i : ℕ) where
   nobody_passes : stage (s.place i) ≡ back_stage → (k : ℕ) → stage (s.place k) ≢ passing_stage
@@ -21,7 +21,7 @@ module _ (seats : ℕ) (s : World) (right : Whereabouts) (owner : ℕ → ℕ) (
       omega arith
 
   pub drops_last : (home : Home) → stage (s.place i) ≡ back_stage → s.unpassed ≡ 1
-      → KeepsRight seats (record s { unpassed = s.unpassed - 1; place = put s.place i (place_of home) }) Nowhere owner
+      → KeepsRight seats (record s { unpassed = s.unpassed - 1; place = update s.place i (place_of home) }) Nowhere owner
   drops_last home back one =
       let to : Place = place_of home in
       let mine = held r i (omega arith) (omega arith) in
@@ -39,29 +39,29 @@ module _ (seats : ℕ) (s : World) (right : Whereabouts) (owner : ℕ → ℕ) (
         };
         tickets = record {
           behind = let a = r.tickets.behind in omega arith;
-          in_use = at_put s.place i to (λ _. UsesTicket s.drawn n)
+          in_use = at_update s.place i to (λ _. UsesTicket s.drawn n)
               (λ a. absurd (at_home home due_stage (omega arith) (omega arith) a))
               (λ j ne a. absurd (none j ne (omega arith) (omega arith)));
-          waits = at_put s.place i to (OwnsTicket s.drawn n owner)
+          waits = at_update s.place i to (OwnsTicket s.drawn n owner)
               (λ a. absurd (at_home home ticketed_stage (omega arith) (omega arith) a)) (λ j _ a. absurd (alone j a));
           owned = λ k a b. absurd (omega arith);
-          passing = at_put s.place i to (λ _. PassesNext s.drawn n (put s.place i to) owner)
+          passing = at_update s.place i to (λ _. PassesNext s.drawn n (update s.place i to) owner)
               (λ a. absurd (at_home home passing_stage (omega arith) (omega arith) a)) (λ j _ a. absurd (five j a));
-          granted = at_put s.place i to (λ _. WasGranted s.drawn n Nowhere (put s.place i to))
+          granted = at_update s.place i to (λ _. WasGranted s.drawn n Nowhere (update s.place i to))
               (λ a. absurd (at_home home ticketed_stage (omega arith) (omega arith) a)) (λ j _ a. absurd (alone j a));
           grant = λ t e. absurd cc;
         };
         places = record {
           granted = λ t e. absurd cc;
           low = λ p h. let a = r.places.low p h in omega arith;
-          low_passing = at_put s.place i to (λ _. LeavesLow seats s.drawn n s.ticket_place)
+          low_passing = at_update s.place i to (λ _. LeavesLow seats s.drawn n s.ticket_place)
               (λ a. absurd (at_home home passing_stage (omega arith) (omega arith) a)) (λ j _ a. absurd (five j a));
           low_free = λ _ p h. let a = r.places.low p h in omega arith;
         };
         calls = record {
           called = λ j e. absurd cc;
           not_called = λ j _. r.calls.not_called j (λ e. cc);
-          chose = at_put s.place i to (λ _. ChoseInner (put s.place i to))
+          chose = at_update s.place i to (λ _. ChoseInner (update s.place i to))
               (λ a. absurd (at_home home back_stage (omega arith) (omega arith) a))
               (λ j ne a. absurd (none j ne (omega arith) (omega arith)));
         };
@@ -69,7 +69,7 @@ module _ (seats : ℕ) (s : World) (right : Whereabouts) (owner : ℕ → ℕ) (
 
   pub drops_more : (home : Home) → stage (s.place i) ≡ back_stage → s.unpassed ≢ 1 → s.unpassed ≤ s.drawn
       → KeepsRight seats (record s
-      { unpassed = s.unpassed - 1; place = put s.place i (Passing (s.drawn - s.unpassed + 1) home) }) (With i) owner
+      { unpassed = s.unpassed - 1; place = update s.place i (Passing (s.drawn - s.unpassed + 1) home) }) (With i) owner
   drops_more home back more behind =
       let T : ℕ = s.drawn - s.unpassed + 1 in
       let to : Place = Passing T home in
@@ -88,20 +88,20 @@ module _ (seats : ℕ) (s : World) (right : Whereabouts) (owner : ℕ → ℕ) (
         };
         tickets = record {
           behind = let a = r.tickets.behind in omega arith;
-          in_use = at_put s.place i to (λ _. UsesTicket s.drawn n) (λ a. absurd (omega arith))
+          in_use = at_update s.place i to (λ _. UsesTicket s.drawn n) (λ a. absurd (omega arith))
               (λ j ne a. absurd (none j ne (omega arith) (omega arith)));
-          waits = at_put s.place i to (OwnsTicket s.drawn n owner) (λ a. absurd (omega arith))
+          waits = at_update s.place i to (OwnsTicket s.drawn n owner) (λ a. absurd (omega arith))
               (λ j _ h. let a = r.tickets.waits j h in let b = a.1 in
               let ne : ticket (s.place j) + s.unpassed ≢ s.drawn = λ e. let d = r.tickets.granted j h e five in cc
               in (a.0, omega arith, a.2));
           owned = λ k a b. waiter_stays seats s right owner r i to k (λ e. omega arith) (r.tickets.owned k a (omega arith));
-          passing = at_put s.place i to (λ _. PassesNext s.drawn n (put s.place i to) owner)
+          passing = at_update s.place i to (λ _. PassesNext s.drawn n (update s.place i to) owner)
               (λ _. (
                 sum,
                 waiter_stays seats s right owner r i to T (λ e. omega arith)
                     (r.tickets.owned T (omega arith) (omega arith)),
               )) (λ j _ a. absurd (five j a));
-          granted = λ j h e no. absurd (no i (ap stage (put_here s.place i to)));
+          granted = λ j h e no. absurd (no i (ap stage (update_here s.place i to)));
           grant = λ t e. absurd cc;
         };
         places = record {
@@ -113,7 +113,7 @@ module _ (seats : ℕ) (s : World) (right : Whereabouts) (owner : ℕ → ℕ) (
         calls = record {
           called = λ j e. absurd cc;
           not_called = λ j _. r.calls.not_called j (λ e. cc);
-          chose = at_put s.place i to (λ _. ChoseInner (put s.place i to)) (λ a. absurd (omega arith))
+          chose = at_update s.place i to (λ _. ChoseInner (update s.place i to)) (λ a. absurd (omega arith))
               (λ j ne a. absurd (none j ne (omega arith) (omega arith)));
         };
       }

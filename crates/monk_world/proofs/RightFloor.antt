@@ -3,7 +3,7 @@ use Rattle.std.proofs.Common.{◌≡◌, ◌≢◌, ℕ, ◌≤◌, ◌↔◌, a
 use Rattle.monk_history.specs.declared.event.Next.{Next}
 use Rattle.monk_world.specs.Places.{HoldsRight, stage, due_to, turn_of_next, due_stage, active_stage}
 use Rattle.monk_world.specs.Places.{back_stage, passing_stage, inside_stage}
-use Rattle.monk_world.specs.Put.{put}
+use Rattle.monk_world.specs.Update.{update}
 use Rattle.monk_world.specs.Right.{Whereabouts, With, KeepsRight, UsesTicket, ChoseInner, PassesNext, OwnsTicket, WasGranted, LeavesLow}
 use Rattle.monk_world.specs.Steps.{after_floor_out, after_floor_in}
 use Rattle.monk_world.specs.World.{World}
@@ -12,13 +12,13 @@ use Rattle.monk_world.specs.declared.place.Place.{Place}
 use Rattle.monk_world.specs.declared.place.Place.TheVariants.{Active, Back}
 use Rattle.monk_world.specs.declared.source.Source.{Source}
 use Rattle.monk_world.proofs.Holders.{held, holds_right, waiter_stays, others, other_stage}
-use Rattle.monk_world.proofs.PutLaws.{at_put, put_else, all_back}
+use Rattle.monk_world.proofs.UpdateLaws.{at_update, update_else, all_back}
 
 module _ (seats : ℕ) (s : World) (right : Whereabouts) (owner : ℕ → ℕ) (r : KeepsRight seats s right owner) (i : ℕ) where
   -- the seat that has the right goes to be active, or on from there: the words stay, and so does the right
   keeps_it : (to : Place) → due_stage ≤ stage (s.place i) → stage (s.place i) ≤ active_stage → active_stage ≤ stage to
-      → stage to ≤ back_stage → ChoseInner (put s.place i to) to
-      → KeepsRight seats (record s { place = put s.place i to }) right owner
+      → stage to ≤ back_stage → ChoseInner (update s.place i to) to
+      → KeepsRight seats (record s { place = update s.place i to }) right owner
   keeps_it to from_due to_active active back chose =
       let mine = held r i (omega arith) (omega arith) in
       let none : (j : ℕ) → j ≢ i → due_stage ≤ stage (s.place j) → stage (s.place j) ≤ passing_stage → ⊥ =
@@ -26,32 +26,32 @@ module _ (seats : ℕ) (s : World) (right : Whereabouts) (owner : ℕ → ℕ) (
       record {
         holder = record {
           free = r.holder.free;
-          with_seat = at_put s.place i to (λ j p. HoldsRight p ↔ (right ≡ With j))
+          with_seat = at_update s.place i to (λ j p. HoldsRight p ↔ (right ≡ With j))
               ((λ _. mine), (λ _. holds_right to (omega arith) (omega arith))) (λ j _. r.holder.with_seat j);
         };
         tickets = record {
           behind = r.tickets.behind;
-          in_use = at_put s.place i to (λ _. UsesTicket s.drawn s.unpassed) (λ a. absurd (omega arith))
+          in_use = at_update s.place i to (λ _. UsesTicket s.drawn s.unpassed) (λ a. absurd (omega arith))
               (λ j ne a. absurd (none j ne (omega arith) (omega arith)));
-          waits = at_put s.place i to (OwnsTicket s.drawn s.unpassed owner) (λ a. absurd (omega arith)) (λ j _. r.tickets.waits j);
+          waits = at_update s.place i to (OwnsTicket s.drawn s.unpassed owner) (λ a. absurd (omega arith)) (λ j _. r.tickets.waits j);
           owned = λ k a b. waiter_stays seats s right owner r i to k (λ e. omega arith) (r.tickets.owned k a b);
-          passing = at_put s.place i to (λ _. PassesNext s.drawn s.unpassed (put s.place i to) owner)
+          passing = at_update s.place i to (λ _. PassesNext s.drawn s.unpassed (update s.place i to) owner)
               (λ a. absurd (omega arith)) (λ j ne a. absurd (none j ne (omega arith) (omega arith)));
-          granted = at_put s.place i to (λ _. WasGranted s.drawn s.unpassed right (put s.place i to)) (λ a. absurd (omega arith))
+          granted = at_update s.place i to (λ _. WasGranted s.drawn s.unpassed right (update s.place i to)) (λ a. absurd (omega arith))
               (λ j _ a e no. r.tickets.granted j a e (all_back s.place i to (λ k y. stage y ≢ passing_stage) no (λ z. omega arith)));
           grant = λ t e. absurd cc;
         };
         places = record {
           granted = λ t e. absurd cc;
           low = r.places.low;
-          low_passing = at_put s.place i to (λ _. LeavesLow seats s.drawn s.unpassed s.ticket_place)
+          low_passing = at_update s.place i to (λ _. LeavesLow seats s.drawn s.unpassed s.ticket_place)
               (λ a. absurd (omega arith)) (λ j _. r.places.low_passing j);
           low_free = r.places.low_free;
         };
         calls = record {
           called = λ j e. absurd cc;
           not_called = r.calls.not_called;
-          chose = at_put s.place i to (λ _. ChoseInner (put s.place i to)) chose
+          chose = at_update s.place i to (λ _. ChoseInner (update s.place i to)) chose
               (λ j ne a. absurd (none j ne (omega arith) (omega arith)));
         };
       }
@@ -66,4 +66,4 @@ module _ (seats : ℕ) (s : World) (right : Whereabouts) (owner : ℕ → ℕ) (
   goes_home next home active inner =
       keeps_it (Back next home) (omega arith) (omega arith) (omega arith) (omega arith)
       (λ _ k e. let six = inner k e in
-      ap stage (put_else s.place i (Back next home) k (other_stage s.place i k (λ z. omega arith))) ∙ six)
+      ap stage (update_else s.place i (Back next home) k (other_stage s.place i k (λ z. omega arith))) ∙ six)

@@ -2,7 +2,7 @@
 use Rattle.std.proofs.Common.{◌≡◌, ◌≢◌, ℕ, ◌+◌, ◌%◌, ◌<◌, ◌≤◌, refl, ap, ◌∙◌, subst, arith}
 use Rattle.monk_world.specs.Places.{stage, ticket, back_turn, due_to, place_of, due_stage, back_stage, passing_stage}
 use Rattle.monk_world.specs.Places.{inside_stage, ticketed_stage}
-use Rattle.monk_world.specs.Put.{put}
+use Rattle.monk_world.specs.Update.{update}
 use Rattle.monk_world.specs.Right.{Whereabouts, AtTicket, AtSeat, KeepsRight, IsNext, UsesTicket, ChoseInner, Waits}
 use Rattle.monk_world.specs.Right.{PassesNext, OwnsTicket, WasGranted, LeavesLow}
 use Rattle.monk_world.specs.Steps.{after_ticket_grant, after_seat_grant}
@@ -10,7 +10,7 @@ use Rattle.monk_world.specs.World.{World}
 use Rattle.monk_world.specs.declared.home.Home.{Home}
 use Rattle.monk_world.specs.declared.place.Place.{Place}
 use Rattle.monk_world.proofs.Holders.{held, with_none, home_has_none, at_home, waiter_stays, others, other_stage}
-use Rattle.monk_world.proofs.PutLaws.{at_put, put_here, put_else, all_back}
+use Rattle.monk_world.proofs.UpdateLaws.{at_update, update_here, update_else, all_back}
 
 module _ (seats : ℕ) (s : World) (right : Whereabouts) (owner : ℕ → ℕ) (r : KeepsRight seats s right owner) (i : ℕ) where
   pub grants_ticket : (home : Home) → stage (s.place i) ≡ passing_stage → 0 < seats
@@ -18,7 +18,7 @@ module _ (seats : ℕ) (s : World) (right : Whereabouts) (owner : ℕ → ℕ) (
   grants_ticket home five some =
       let T : ℕ = ticket (s.place i) in
       let p : ℕ = T % seats in
-      let ps = put s.ticket_place p (T + 1) in
+      let ps = update s.ticket_place p (T + 1) in
       let to : Place = place_of home in
       let mine = held r i (omega arith) (omega arith) in
       let next = r.tickets.passing i five in
@@ -33,25 +33,25 @@ module _ (seats : ℕ) (s : World) (right : Whereabouts) (owner : ℕ → ℕ) (
         };
         tickets = record {
           behind = r.tickets.behind;
-          in_use = at_put s.place i to (λ _. UsesTicket s.drawn s.unpassed)
+          in_use = at_update s.place i to (λ _. UsesTicket s.drawn s.unpassed)
               (λ a. absurd (at_home home due_stage (omega arith) (omega arith) a))
               (λ j ne a. absurd (none j ne (omega arith) (omega arith)));
-          waits = at_put s.place i to (OwnsTicket s.drawn s.unpassed owner)
+          waits = at_update s.place i to (OwnsTicket s.drawn s.unpassed owner)
               (λ a. absurd (at_home home ticketed_stage (omega arith) (omega arith) a)) (λ j _. r.tickets.waits j);
           owned = λ k a b. waiter_stays seats s right owner r i to k (λ e. omega arith) (r.tickets.owned k a b);
-          passing = at_put s.place i to (λ _. PassesNext s.drawn s.unpassed (put s.place i to) owner)
+          passing = at_update s.place i to (λ _. PassesNext s.drawn s.unpassed (update s.place i to) owner)
               (λ a. absurd (at_home home passing_stage (omega arith) (omega arith) a))
               (λ j ne a. absurd (none j ne (omega arith) (omega arith)));
-          granted = λ j h e no. let same : T ≡ ticket (put s.place i to j) = omega arith in ap AtTicket same;
+          granted = λ j h e no. let same : T ≡ ticket (update s.place i to j) = omega arith in ap AtTicket same;
           grant = λ t e. let is : T ≡ t = cc in
-              subst (λ (z : ℕ). IsNext s.drawn s.unpassed z × Waits (put s.place i to) owner z) is
+              subst (λ (z : ℕ). IsNext s.drawn s.unpassed z × Waits (update s.place i to) owner z) is
               (sum, waiter_stays seats s right owner r i to T (λ z. omega arith) next.1);
         };
         places = record {
-          granted = λ t e. let is : T ≡ t = cc in subst (λ (z : ℕ). ps (z % seats) ≡ z + 1) is (put_here s.ticket_place p (T + 1));
-          low = at_put s.ticket_place p (T + 1) (λ q x. q < seats → x + s.unpassed ≤ s.drawn + 1) (λ _. omega arith)
+          granted = λ t e. let is : T ≡ t = cc in subst (λ (z : ℕ). ps (z % seats) ≡ z + 1) is (update_here s.ticket_place p (T + 1));
+          low = at_update s.ticket_place p (T + 1) (λ q x. q < seats → x + s.unpassed ≤ s.drawn + 1) (λ _. omega arith)
               (λ q _. r.places.low q);
-          low_passing = at_put s.place i to (λ _. LeavesLow seats s.drawn s.unpassed ps)
+          low_passing = at_update s.place i to (λ _. LeavesLow seats s.drawn s.unpassed ps)
               (λ a. absurd (at_home home passing_stage (omega arith) (omega arith) a))
               (λ j ne a. absurd (none j ne (omega arith) (omega arith)));
           low_free = λ e. absurd (pos e);
@@ -59,7 +59,7 @@ module _ (seats : ℕ) (s : World) (right : Whereabouts) (owner : ℕ → ℕ) (
         calls = record {
           called = λ j e. absurd cc;
           not_called = λ j _. r.calls.not_called j (λ e. cc);
-          chose = at_put s.place i to (λ _. ChoseInner (put s.place i to))
+          chose = at_update s.place i to (λ _. ChoseInner (update s.place i to))
               (λ a. absurd (at_home home back_stage (omega arith) (omega arith) a))
               (λ j ne a. absurd (none j ne (omega arith) (omega arith)));
         };
@@ -82,16 +82,16 @@ module _ (seats : ℕ) (s : World) (right : Whereabouts) (owner : ℕ → ℕ) (
         };
         tickets = record {
           behind = r.tickets.behind;
-          in_use = at_put s.place i to (λ _. UsesTicket s.drawn s.unpassed)
+          in_use = at_update s.place i to (λ _. UsesTicket s.drawn s.unpassed)
               (λ a. absurd (at_home home due_stage (omega arith) (omega arith) a))
               (λ j ne a. absurd (none j ne (omega arith) (omega arith)));
-          waits = at_put s.place i to (OwnsTicket s.drawn s.unpassed owner)
+          waits = at_update s.place i to (OwnsTicket s.drawn s.unpassed owner)
               (λ a. absurd (at_home home ticketed_stage (omega arith) (omega arith) a)) (λ j _. r.tickets.waits j);
           owned = λ m a b. waiter_stays seats s right owner r i to m (λ e. omega arith) (r.tickets.owned m a b);
-          passing = at_put s.place i to (λ _. PassesNext s.drawn s.unpassed (put s.place i to) owner)
+          passing = at_update s.place i to (λ _. PassesNext s.drawn s.unpassed (update s.place i to) owner)
               (λ a. absurd (at_home home passing_stage (omega arith) (omega arith) a))
               (λ j ne a. absurd (none j ne (omega arith) (omega arith)));
-          granted = at_put s.place i to (λ _. WasGranted s.drawn s.unpassed (AtSeat k) (put s.place i to))
+          granted = at_update s.place i to (λ _. WasGranted s.drawn s.unpassed (AtSeat k) (update s.place i to))
               (λ a. absurd (at_home home ticketed_stage (omega arith) (omega arith) a))
               (λ j _ a e no. absurd
               (let g = r.tickets.granted j a e
@@ -101,21 +101,21 @@ module _ (seats : ℕ) (s : World) (right : Whereabouts) (owner : ℕ → ℕ) (
         places = record {
           granted = λ t e. absurd cc;
           low = r.places.low;
-          low_passing = at_put s.place i to (λ _. LeavesLow seats s.drawn s.unpassed s.ticket_place)
+          low_passing = at_update s.place i to (λ _. LeavesLow seats s.drawn s.unpassed s.ticket_place)
               (λ a. absurd (at_home home passing_stage (omega arith) (omega arith) a)) (λ j _. r.places.low_passing j);
           low_free = r.places.low_free;
         };
         calls = record {
           called = λ j e. let same_seat : k ≡ j = cc in
-              subst (λ (m : ℕ). (stage (put s.place i to m) ≡ inside_stage)
-              × (put s.seat_place k (s.seat_place k + 1) m ≡ s.count m + 1)) same_seat (
-                ap stage (put_else s.place i to k apart) ∙ six,
-                put_here s.seat_place k (s.seat_place k + 1)
+              subst (λ (m : ℕ). (stage (update s.place i to m) ≡ inside_stage)
+              × (update s.seat_place k (s.seat_place k + 1) m ≡ s.count m + 1)) same_seat (
+                ap stage (update_else s.place i to k apart) ∙ six,
+                update_here s.seat_place k (s.seat_place k + 1)
                     ∙ ap (λ (m : ℕ). m + 1) (r.calls.not_called k (λ e. cc)),
               );
-          not_called = at_put s.seat_place k (s.seat_place k + 1) (λ j x. AtSeat k ≢ AtSeat j → x ≡ s.count j)
+          not_called = at_update s.seat_place k (s.seat_place k + 1) (λ j x. AtSeat k ≢ AtSeat j → x ≡ s.count j)
               (λ ne. absurd (ne refl)) (λ j ne _. r.calls.not_called j (λ e. cc));
-          chose = at_put s.place i to (λ _. ChoseInner (put s.place i to))
+          chose = at_update s.place i to (λ _. ChoseInner (update s.place i to))
               (λ a. absurd (at_home home back_stage (omega arith) (omega arith) a))
               (λ j ne a. absurd (none j ne (omega arith) (omega arith)));
         };

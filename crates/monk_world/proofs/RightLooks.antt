@@ -1,7 +1,7 @@
 -- A seat that looks finds the right only where it is, and takes it
 use Rattle.std.proofs.Common.{◌≡◌, ◌≢◌, ℕ, true, ◌+◌, ◌%◌, ◌<◌, ◌≤◌, sym, ap, ◌∙◌, subst, inl, inr, mod-lt, arith}
 use Rattle.monk_world.specs.Places.{stage, ticket, ticketed_stage, due_stage, passing_stage, inside_stage}
-use Rattle.monk_world.specs.Put.{put}
+use Rattle.monk_world.specs.Update.{update}
 use Rattle.monk_world.specs.Right.{Whereabouts, AtTicket, With, AtSeat, KeepsRight, IsNext, UsesTicket, ChoseInner}
 use Rattle.monk_world.specs.Right.{PassesNext, OwnsTicket, WasGranted, LeavesLow}
 use Rattle.monk_world.specs.Steps.{after_ticket_look, after_seat_look}
@@ -10,7 +10,7 @@ use Rattle.monk_world.specs.declared.place.Place.{Place}
 use Rattle.monk_world.specs.declared.place.Place.TheVariants.{Due}
 use Rattle.monk_world.specs.declared.source.Source.TheVariants.{Granted, Called}
 use Rattle.monk_world.proofs.Holders.{held, called_tells, alone_with, waiter_stays}
-use Rattle.monk_world.proofs.PutLaws.{at_put, put_else, all_back}
+use Rattle.monk_world.proofs.UpdateLaws.{at_update, update_else, all_back}
 
 module _ (seats : ℕ) (s : World) (right : Whereabouts) (owner : ℕ → ℕ) (r : KeepsRight seats s right owner) (i : ℕ) where
   -- where the place of its ticket holds it, the ticket is next and the right is there
@@ -45,31 +45,31 @@ module _ (seats : ℕ) (s : World) (right : Whereabouts) (owner : ℕ → ℕ) (
         };
         tickets = record {
           behind = r.tickets.behind;
-          in_use = at_put s.place i to (λ _. UsesTicket s.drawn s.unpassed) (λ _ _. sum)
+          in_use = at_update s.place i to (λ _. UsesTicket s.drawn s.unpassed) (λ _ _. sum)
               (λ j _ a. absurd (nobody j (omega arith) (omega arith)));
-          waits = at_put s.place i to (OwnsTicket s.drawn s.unpassed owner) (λ a. absurd (omega arith)) (λ j _. r.tickets.waits j);
+          waits = at_update s.place i to (OwnsTicket s.drawn s.unpassed owner) (λ a. absurd (omega arith)) (λ j _. r.tickets.waits j);
           owned = λ k a b. let o = r.tickets.owned k a b in let tk = o.1 in
               subst (λ (y : Place). (stage y ≡ ticketed_stage) × (ticket y ≡ k))
-              (sym (put_else s.place i to (owner k)
+              (sym (update_else s.place i to (owner k)
               (λ e. let c : ticket (s.place (owner k)) ≡ T = ap (λ (j : ℕ). ticket (s.place j)) e in omega arith)))
               o;
-          passing = at_put s.place i to (λ _. PassesNext s.drawn s.unpassed (put s.place i to) owner)
+          passing = at_update s.place i to (λ _. PassesNext s.drawn s.unpassed (update s.place i to) owner)
               (λ a. absurd (omega arith)) (λ j _ a. absurd (nobody j (omega arith) (omega arith)));
-          granted = at_put s.place i to (λ _. WasGranted s.drawn s.unpassed (With i) (put s.place i to)) (λ a. absurd (omega arith))
+          granted = at_update s.place i to (λ _. WasGranted s.drawn s.unpassed (With i) (update s.place i to)) (λ a. absurd (omega arith))
               (λ j ne h e. absurd (other j ne h (omega arith)));
           grant = λ t e. absurd cc;
         };
         places = record {
           granted = λ t e. absurd cc;
           low = r.places.low;
-          low_passing = at_put s.place i to (λ _. LeavesLow seats s.drawn s.unpassed s.ticket_place)
+          low_passing = at_update s.place i to (λ _. LeavesLow seats s.drawn s.unpassed s.ticket_place)
               (λ a. absurd (omega arith)) (λ j _. r.places.low_passing j);
           low_free = r.places.low_free;
         };
         calls = record {
           called = λ j e. absurd cc;
           not_called = λ j _. r.calls.not_called j (λ e. absurd cc);
-          chose = at_put s.place i to (λ _. ChoseInner (put s.place i to)) (λ a. absurd (omega arith))
+          chose = at_update s.place i to (λ _. ChoseInner (update s.place i to)) (λ a. absurd (omega arith))
               (λ j _ a. absurd (nobody j (omega arith) (omega arith)));
         };
       }
@@ -95,13 +95,13 @@ module _ (seats : ℕ) (s : World) (right : Whereabouts) (owner : ℕ → ℕ) (
         };
         tickets = record {
           behind = r.tickets.behind;
-          in_use = at_put s.place i to (λ _. UsesTicket s.drawn s.unpassed) (λ _ b. absurd (omega arith))
+          in_use = at_update s.place i to (λ _. UsesTicket s.drawn s.unpassed) (λ _ b. absurd (omega arith))
               (λ j _ a. absurd (nobody j (omega arith) (omega arith)));
-          waits = at_put s.place i to (OwnsTicket s.drawn s.unpassed owner) (λ a. absurd (omega arith)) (λ j _. r.tickets.waits j);
+          waits = at_update s.place i to (OwnsTicket s.drawn s.unpassed owner) (λ a. absurd (omega arith)) (λ j _. r.tickets.waits j);
           owned = λ k a b. waiter_stays seats s right owner r i to k (λ e. omega arith) (r.tickets.owned k a b);
-          passing = at_put s.place i to (λ _. PassesNext s.drawn s.unpassed (put s.place i to) owner)
+          passing = at_update s.place i to (λ _. PassesNext s.drawn s.unpassed (update s.place i to) owner)
               (λ a. absurd (omega arith)) (λ j _ a. absurd (nobody j (omega arith) (omega arith)));
-          granted = at_put s.place i to (λ _. WasGranted s.drawn s.unpassed (With i) (put s.place i to)) (λ a. absurd (omega arith))
+          granted = at_update s.place i to (λ _. WasGranted s.drawn s.unpassed (With i) (update s.place i to)) (λ a. absurd (omega arith))
               (λ j _ a e none. absurd
               (let g = r.tickets.granted j a e
               (all_back s.place i to (λ k y. stage y ≢ passing_stage) none (λ z. omega arith)) in cc));
@@ -110,15 +110,15 @@ module _ (seats : ℕ) (s : World) (right : Whereabouts) (owner : ℕ → ℕ) (
         places = record {
           granted = λ t e. absurd cc;
           low = r.places.low;
-          low_passing = at_put s.place i to (λ _. LeavesLow seats s.drawn s.unpassed s.ticket_place)
+          low_passing = at_update s.place i to (λ _. LeavesLow seats s.drawn s.unpassed s.ticket_place)
               (λ a. absurd (omega arith)) (λ j _. r.places.low_passing j);
           low_free = r.places.low_free;
         };
         calls = record {
           called = λ j e. absurd cc;
-          not_called = at_put s.count i (s.count i + 1) (λ j c. With i ≢ AtSeat j → s.seat_place j ≡ c) (λ _. found)
+          not_called = at_update s.count i (s.count i + 1) (λ j c. With i ≢ AtSeat j → s.seat_place j ≡ c) (λ _. found)
               (λ j ne _. r.calls.not_called j (λ e. ne cc));
-          chose = at_put s.place i to (λ _. ChoseInner (put s.place i to)) (λ a. absurd (omega arith))
+          chose = at_update s.place i to (λ _. ChoseInner (update s.place i to)) (λ a. absurd (omega arith))
               (λ j _ a. absurd (nobody j (omega arith) (omega arith)));
         };
       }

@@ -32,7 +32,7 @@ use Rattle.monk_world.specs.Enters.{FitsEnters, used_by}
 use Rattle.monk_world.specs.Places.{stage, ticket, source, open_turn, due_to, turn_of_next, stays_inside}
 use Rattle.monk_world.specs.Places.{comes_from_queue, is_queued_at, outside_stage, ticketed_stage, due_stage}
 use Rattle.monk_world.specs.Places.{active_stage, passing_stage, free_source, granted_source}
-use Rattle.monk_world.specs.Put.{put}
+use Rattle.monk_world.specs.Update.{update}
 use Rattle.monk_world.specs.Right.{Whereabouts}
 use Rattle.monk_world.specs.Sound.{IsSound, Sound, left_at, left_within}
 use Rattle.monk_world.specs.Stands.{Stands}
@@ -49,7 +49,7 @@ use Rattle.monk_world.specs.declared.source.Source.TheVariants.{Free, Granted, C
 use Rattle.monk_world.proofs.EntersLaws as enters
 use Rattle.monk_world.proofs.TurnLaws as turns
 use Rattle.monk_world.proofs.Holders.{others}
-use Rattle.monk_world.proofs.PutLaws.{at_put, put_here}
+use Rattle.monk_world.proofs.UpdateLaws.{at_update, update_here}
 use Rattle.monk_world.proofs.StepLaws.{floor_out_keeps_the_right, activity_keeps_the_right, floor_in_keeps_the_right}
 use Rattle.monk_world.proofs.TestLaws.{none_below, some_above, quiet_is, is_quiet-true, open_is, due_is, number_chosen}
 use Rattle.monk_world.proofs.TestLaws.{names_chosen, entry_chosen, outside_is}
@@ -184,19 +184,19 @@ module _ (k : Rules) (o : Object) (s : State) (right : Whereabouts) (owner : ℕ
                     some_above (standing monitor.conds m (situation monitor (past ++ e ∷ []))) (λ z. omega arith),
               ))
               others_stand own (λ a. entry (entry_chosen x away a)));
-          active = at_put s.world.place i p (λ j y. stage y ≡ active_stage → turn (past ++ e ∷ []) ≡ turn.Owned j)
+          active = at_update s.world.place i p (λ j y. stage y ≡ active_stage → turn (past ++ e ∷ []) ≡ turn.Owned j)
               (λ a. absurd (omega arith))
               (λ j ne a. absurd (none k o s right owner h i (omega arith) (omega arith) j ne (omega arith) (omega arith)));
-          known = at_put s.world.place i p (λ j y. stage y ≡ active_stage → s.known j ≡ true → 2 ≤ s.world.unpassed)
+          known = at_update s.world.place i p (λ j y. stage y ≡ active_stage → s.known j ≡ true → 2 ≤ s.world.unpassed)
               (λ a. absurd (omega arith)) (λ j _. h.known j);
           entered = subst (λ (n : ℕ). FitsEnters (after_floor_in s.world i x home) right n) (sym same)
               (enters.goes_home s.floor.seats s.world right owner h.stands.keeps (enters_of past) h.entered i q x home active);
-          late = at_put s.world.place i p (λ j y. stage y ≡ ticketed_stage → 1 ≤ ticket y) (λ a. absurd (omega arith)) (λ j _. h.late j);
-          granted_late = at_put s.world.place i p (λ j y. stage y ≡ due_stage → source y ≡ granted_source
+          late = at_update s.world.place i p (λ j y. stage y ≡ ticketed_stage → 1 ≤ ticket y) (λ a. absurd (omega arith)) (λ j _. h.late j);
+          granted_late = at_update s.world.place i p (λ j y. stage y ≡ due_stage → source y ≡ granted_source
               → 1 ≤ ticket y) (λ a. absurd (omega arith)) (λ j _. h.granted_late j);
-          left = at_put s.world.place i p (λ j y. left_at y ≤ left_of s.floor.budget (past ++ e ∷ []) j) enough
+          left = at_update s.world.place i p (λ j y. left_at y ≤ left_of s.floor.budget (past ++ e ∷ []) j) enough
               (λ j ne. let l = left_other j ne in let a = h.left j in omega arith);
-          outside = at_put s.world.place i p (λ j y. s.floor.seats ≤ j → stage y ≡ outside_stage)
+          outside = at_update s.world.place i p (λ j y. s.floor.seats ≤ j → stage y ≡ outside_stage)
               (λ a. absurd (omega arith)) (λ j _. h.outside j);
         };
       }
@@ -204,7 +204,7 @@ module _ (k : Rules) (o : Object) (s : State) (right : Whereabouts) (owner : ℕ
   -- the floor comes out to the seat that is due
   comes_out : (q : Source) → i < s.floor.seats → s.world.place i ≡ Due q
       → turn_by (seat_of e) (next_of e) ≡ turn.Owned i → number_of (is_enter e) + used_by q ≡ 1
-      → Sound k o (record { world = after_floor_out s.world i q; known = put s.known i false; floor = with_event s.floor e })
+      → Sound k o (record { world = after_floor_out s.world i q; known = update s.known i false; floor = with_event s.floor e })
   comes_out q near due owns entering =
       let two : stage (s.world.place i) ≡ due_stage = ap stage due in
       let p : Place = Active q in
@@ -220,19 +220,19 @@ module _ (k : Rules) (o : Object) (s : State) (right : Whereabouts) (owner : ℕ
               (is_standing k o s.floor) (is_quiet k o s.floor) i h.stands
               q (turn_number (turn (past ++ e ∷ []))) (is_standing k o (with_event s.floor e))
               (is_quiet k o (with_event s.floor e)) due others_stand;
-          active = at_put s.world.place i p (λ j y. stage y ≡ active_stage → turn (past ++ e ∷ []) ≡ turn.Owned j) (λ _. turn_new)
+          active = at_update s.world.place i p (λ j y. stage y ≡ active_stage → turn (past ++ e ∷ []) ≡ turn.Owned j) (λ _. turn_new)
               (λ j ne a. absurd (none k o s right owner h i (omega arith) (omega arith) j ne (omega arith) (omega arith)));
-          known = at_put s.world.place i p (λ j y. stage y ≡ active_stage → put s.known i false j ≡ true
-              → 2 ≤ s.world.unpassed) (λ _ a. absurd (false_is (sym (put_here s.known i false) ∙ a)))
+          known = at_update s.world.place i p (λ j y. stage y ≡ active_stage → update s.known i false j ≡ true
+              → 2 ≤ s.world.unpassed) (λ _ a. absurd (false_is (sym (update_here s.known i false) ∙ a)))
               (λ j ne a. absurd (none k o s right owner h i (omega arith) (omega arith) j ne (omega arith) (omega arith)));
           entered = enters.comes_out s.floor.seats s.world right owner h.stands.keeps (enters_of past) h.entered i q
               (enters_of (past ++ e ∷ [])) due (omega arith);
-          late = at_put s.world.place i p (λ j y. stage y ≡ ticketed_stage → 1 ≤ ticket y) (λ a. absurd (omega arith)) (λ j _. h.late j);
-          granted_late = at_put s.world.place i p (λ j y. stage y ≡ due_stage → source y ≡ granted_source
+          late = at_update s.world.place i p (λ j y. stage y ≡ ticketed_stage → 1 ≤ ticket y) (λ a. absurd (omega arith)) (λ j _. h.late j);
+          granted_late = at_update s.world.place i p (λ j y. stage y ≡ due_stage → source y ≡ granted_source
               → 1 ≤ ticket y) (λ a. absurd (omega arith)) (λ j _. h.granted_late j);
-          left = at_put s.world.place i p (λ j y. left_at y ≤ left_of s.floor.budget (past ++ e ∷ []) j)
+          left = at_update s.world.place i p (λ j y. left_at y ≤ left_of s.floor.budget (past ++ e ∷ []) j)
               (left_own 1 enough) (λ j ne. let l = left_other j ne in let a = h.left j in omega arith);
-          outside = at_put s.world.place i p (λ j y. s.floor.seats ≤ j → stage y ≡ outside_stage)
+          outside = at_update s.world.place i p (λ j y. s.floor.seats ≤ j → stage y ≡ outside_stage)
               (λ a. absurd (omega arith)) (λ j _. h.outside j);
         };
       }
@@ -266,7 +266,7 @@ module _ (k : Rules) (o : Object) (s : State) (right : Whereabouts) (owner : ℕ
   pub sound_out : (q : Source) → s.world.place i ≡ Due q
       → Sound k o (record {
         world = after_floor_out s.world i q;
-        known = put s.known i false;
+        known = update s.known i false;
         floor =
             with_event s.floor (out_event i q (turn s.floor.history));
       })

@@ -23,7 +23,7 @@ use Rattle.monk_history.specs.declared.event.Turn.TheVariants as turn
 use Rattle.monk_history.proofs.PublicLaws.Meaning.{legal_order, chosen_allowed}
 use Rattle.monk_floor.specs.View.{monitor_of, stands_of}
 use Rattle.monk_world.specs.Places.{stage, stays_inside, active_stage}
-use Rattle.monk_world.specs.Put.{put}
+use Rattle.monk_world.specs.Update.{update}
 use Rattle.monk_world.specs.Right.{Whereabouts}
 use Rattle.monk_world.specs.Sound.{IsSound, Sound, left_within}
 use Rattle.monk_world.specs.State.{State, with_event}
@@ -39,7 +39,7 @@ use Rattle.monk_world.specs.declared.home.Home.TheVariants as home
 use Rattle.monk_world.specs.declared.place.Place.{Place}
 use Rattle.monk_world.specs.declared.place.Place.TheVariants.{Idle, Ticket, Due, Active, Back, Passing, Inner}
 use Rattle.monk_world.specs.declared.source.Source.{Source}
-use Rattle.monk_world.proofs.PutLaws.{at_put}
+use Rattle.monk_world.proofs.UpdateLaws.{at_update}
 use Rattle.monk_world.proofs.SoundFloor.{stays, goes_home, own_stands, quiet_after_entry, left_own, sound_out}
 use Rattle.monk_world.proofs.SoundWords.{sound_arrival, sound_ticket_look, sound_seat_look, sound_drop}
 use Rattle.monk_world.proofs.SoundWords.{sound_ticket_grant, sound_seat_grant}
@@ -147,7 +147,7 @@ module _ (k : Rules) (o : Object) (s : State) (right : Whereabouts) (owner : ℕ
       })
       q active refl refl enough
 
-  looked_in : Sound k o (record s { known = put s.known i (s.known i || nat_le 2 s.world.unpassed) })
+  looked_in : Sound k o (record s { known = update s.known i (s.known i || nat_le 2 s.world.unpassed) })
   looked_in = record {
     right = right;
     owner = owner;
@@ -155,7 +155,7 @@ module _ (k : Rules) (o : Object) (s : State) (right : Whereabouts) (owner : ℕ
       legal = h.legal;
       stands = h.stands;
       active = h.active;
-      known = λ j. at_put s.known i (s.known i || nat_le 2 s.world.unpassed)
+      known = λ j. at_update s.known i (s.known i || nat_le 2 s.world.unpassed)
           (λ m b. stage (s.world.place m) ≡ active_stage → b ≡ true → 2 ≤ s.world.unpassed)
           (λ a e. elim (either (s.known i) (nat_le 2 s.world.unpassed) e)
           [ inl b ↦ h.known i a b | inr b ↦ seen_two s.world.unpassed b ]) (λ m _. h.known m) j;

@@ -12,7 +12,7 @@ use Rattle.monk_history.specs.declared.event.Turn.TheVariants.{Owned}
 use Rattle.monk_world.specs.Enters.{FitsEnters}
 use Rattle.monk_world.specs.Places.{stage, ticket, source, due_to, turn_of_next, place_of, outside_stage}
 use Rattle.monk_world.specs.Places.{ticketed_stage, due_stage, active_stage, back_stage, passing_stage, granted_source}
-use Rattle.monk_world.specs.Put.{put}
+use Rattle.monk_world.specs.Update.{update}
 use Rattle.monk_world.specs.Right.{Whereabouts, Nowhere, AtTicket, With, AtSeat}
 use Rattle.monk_world.specs.Sound.{IsSound, Sound, left_at, left_within}
 use Rattle.monk_world.specs.Stands.{Stands}
@@ -27,7 +27,7 @@ use Rattle.monk_world.specs.declared.place.Place.TheVariants.{Idle, Ticket, Due,
 use Rattle.monk_world.specs.declared.source.Source.TheVariants.{Free, Granted, Called}
 use Rattle.monk_world.proofs.EntersLaws as enters
 use Rattle.monk_world.proofs.Holders.{at_home, others}
-use Rattle.monk_world.proofs.PutLaws.{at_put, put_same}
+use Rattle.monk_world.proofs.UpdateLaws.{at_update, update_same}
 use Rattle.monk_world.proofs.RightLooks.{grant_is_there, call_is_there}
 use Rattle.monk_world.proofs.StepLaws.{arrive_keeps_the_right, ticket_look_keeps_the_right, seat_look_keeps_the_right}
 use Rattle.monk_world.proofs.StepLaws.{drop_keeps_the_right, ticket_grant_keeps_the_right, seat_grant_keeps_the_right}
@@ -53,7 +53,7 @@ module _ (k : Rules) (o : Object) (s : State) (right : Whereabouts) (owner : ℕ
         ticket_place = tickets;
         seat_place = seats_called;
         place =
-            put s.world.place i p;
+            update s.world.place i p;
         count = counts;
       } in
       StandsSo w right_new owner_new → FitsEnters w right_new (enters_of s.floor.history) → stage p ≢ active_stage
@@ -64,16 +64,16 @@ module _ (k : Rules) (o : Object) (s : State) (right : Whereabouts) (owner : ℕ
   word_step t n tickets seats_called counts p right_new owner_new stands entered away late granted_late left more = record {
     legal = h.legal;
     stands = stands;
-    active = at_put s.world.place i p (λ j y. stage y ≡ active_stage → turn s.floor.history ≡ Owned j)
+    active = at_update s.world.place i p (λ j y. stage y ≡ active_stage → turn s.floor.history ≡ Owned j)
         (λ e. absurd (away e)) (λ j _. h.active j);
-    known = at_put s.world.place i p (λ j y. stage y ≡ active_stage → s.known j ≡ true → 2 ≤ n) (λ e. absurd (away e))
+    known = at_update s.world.place i p (λ j y. stage y ≡ active_stage → s.known j ≡ true → 2 ≤ n) (λ e. absurd (away e))
         (λ j ne a b. more j ne a (h.known j a b));
     entered = entered;
-    late = at_put s.world.place i p (λ j y. stage y ≡ ticketed_stage → 1 ≤ ticket y) late (λ j _. h.late j);
-    granted_late = at_put s.world.place i p (λ j y. stage y ≡ due_stage → source y ≡ granted_source → 1 ≤ ticket y)
+    late = at_update s.world.place i p (λ j y. stage y ≡ ticketed_stage → 1 ≤ ticket y) late (λ j _. h.late j);
+    granted_late = at_update s.world.place i p (λ j y. stage y ≡ due_stage → source y ≡ granted_source → 1 ≤ ticket y)
         granted_late (λ j _. h.granted_late j);
-    left = at_put s.world.place i p (λ j y. left_at y ≤ left_of s.floor.budget s.floor.history j) left (λ j _. h.left j);
-    outside = at_put s.world.place i p (λ j y. s.floor.seats ≤ j → stage y ≡ outside_stage) (λ e. absurd (omega arith))
+    left = at_update s.world.place i p (λ j y. left_at y ≤ left_of s.floor.budget s.floor.history j) left (λ j _. h.left j);
+    outside = at_update s.world.place i p (λ j y. s.floor.seats ≤ j → stage y ≡ outside_stage) (λ e. absurd (omega arith))
         (λ j _. h.outside j);
   }
 
@@ -90,9 +90,9 @@ module _ (k : Rules) (o : Object) (s : State) (right : Whereabouts) (owner : ℕ
         drawn = w.drawn + 1;
         unpassed = w.unpassed + 1;
         place =
-            put w.place i (cond b (Due (Free w.drawn)) (Ticket w.drawn));
+            update w.place i (cond b (Due (Free w.drawn)) (Ticket w.drawn));
       } in
-      StandsSo v (cond b (With i) right) (cond b owner (put owner w.drawn i)) → Sound k o (record s { world = v }) in
+      StandsSo v (cond b (With i) right) (cond b owner (update owner w.drawn i)) → Sound k o (record s { world = v }) in
       elim (eqb_tells w.unpassed 0) as (λ _. After (w.unpassed == 0)) [
         | inl e ↦ subst After (sym e.0) (λ st. record {
           right = With i;
@@ -104,9 +104,10 @@ module _ (k : Rules) (o : Object) (s : State) (right : Whereabouts) (owner : ℕ
         })
         | inr e ↦ let some = e.1 in subst After (sym e.0) (λ st. record {
           right = right;
-          owner = put owner w.drawn i;
+          owner = update owner w.drawn i;
           is_sound =
-              word_step (w.drawn + 1) (w.unpassed + 1) w.ticket_place w.seat_place w.count (Ticket w.drawn) right (put owner w.drawn i) st
+              word_step (w.drawn + 1) (w.unpassed + 1) w.ticket_place w.seat_place w.count (Ticket w.drawn)
+              right (update owner w.drawn i) st
               (enters.arrives_behind s.floor.seats w right owner r (enters_of s.floor.history) h.entered i idle)
               (λ a. omega arith) (λ a. omega arith) (λ a. absurd (omega arith)) enough (λ j _ _ a. omega arith);
         })
@@ -136,7 +137,7 @@ module _ (k : Rules) (o : Object) (s : State) (right : Whereabouts) (owner : ℕ
       }
   sound_ticket_look t false at test =
       subst (λ (place : ℕ → Place). Sound k o (record s { world = record s.world { place = place } }))
-      (sym (put_same s.world.place i (Ticket t) at))
+      (sym (update_same s.world.place i (Ticket t) at))
       (record { right = right; owner = owner; is_sound = h })
 
   pub sound_seat_look : (found : Bool) → s.world.place i ≡ Inner → (s.world.seat_place i == s.world.count i + 1) ≡ found
@@ -144,7 +145,7 @@ module _ (k : Rules) (o : Object) (s : State) (right : Whereabouts) (owner : ℕ
   sound_seat_look true at test =
       let w = s.world in
       let r = h.stands.keeps in
-      let count = put w.count i (w.count i + 1) in
+      let count = update w.count i (w.count i + 1) in
       let enough = subst (λ (p : Place). left_at p ≤ left_of s.floor.budget s.floor.history i) at (h.left i) in
       let is = call_is_there s.floor.seats w right owner r i (eqb-true _ _ test) in
       record {
@@ -159,10 +160,10 @@ module _ (k : Rules) (o : Object) (s : State) (right : Whereabouts) (owner : ℕ
       }
   sound_seat_look false at test =
       subst (λ (place : ℕ → Place). Sound k o
-      (record s { world = record s.world { place = place; count = put s.world.count i (s.world.count i) } }))
-      (sym (put_same s.world.place i Inner at))
+      (record s { world = record s.world { place = place; count = update s.world.count i (s.world.count i) } }))
+      (sym (update_same s.world.place i Inner at))
       (subst (λ (count : ℕ → ℕ). Sound k o (record s { world = record s.world { count = count } }))
-      (sym (put_same s.world.count i (s.world.count i) refl))
+      (sym (update_same s.world.count i (s.world.count i) refl))
       (record { right = right; owner = owner; is_sound = h }))
 
   -- nobody else is active where seat i has the right
@@ -180,7 +181,7 @@ module _ (k : Rules) (o : Object) (s : State) (right : Whereabouts) (owner : ℕ
       let stands = drop_keeps_the_right s.floor.seats w right owner (turn_number (turn s.floor.history))
       (is_standing k o s.floor) (is_quiet k o s.floor) i h.stands home back in
       let After : Bool → Type 0 = λ b.
-      let v : World = record w { unpassed = w.unpassed - 1; place = put w.place i (cond b (place_of home) (Passing next home)) } in
+      let v : World = record w { unpassed = w.unpassed - 1; place = update w.place i (cond b (place_of home) (Passing next home)) } in
       StandsSo v (cond b Nowhere (With i)) owner → Sound k o (record s { world = v }) in
       elim (eqb_tells w.unpassed 1) as (λ _. After (w.unpassed == 1)) [
         | inl e ↦ subst After (sym e.0) (λ st. record {
@@ -214,7 +215,7 @@ module _ (k : Rules) (o : Object) (s : State) (right : Whereabouts) (owner : ℕ
         right = AtTicket t;
         owner = owner;
         is_sound =
-            word_step w.drawn w.unpassed (put w.ticket_place (t % s.floor.seats) (t + 1)) w.seat_place w.count
+            word_step w.drawn w.unpassed (update w.ticket_place (t % s.floor.seats) (t + 1)) w.seat_place w.count
             (place_of home) (AtTicket t) owner
             (ticket_grant_keeps_the_right s.floor.seats w right owner (turn_number (turn s.floor.history))
             (is_standing k o s.floor) (is_quiet k o s.floor) i h.stands t home (omega arith) at)
@@ -234,7 +235,8 @@ module _ (k : Rules) (o : Object) (s : State) (right : Whereabouts) (owner : ℕ
         right = AtSeat m;
         owner = owner;
         is_sound =
-            word_step w.drawn w.unpassed w.ticket_place (put w.seat_place m (w.seat_place m + 1)) w.count (place_of home) (AtSeat m) owner
+            word_step w.drawn w.unpassed w.ticket_place (update w.seat_place m (w.seat_place m + 1)) w.count
+            (place_of home) (AtSeat m) owner
             (seat_grant_keeps_the_right s.floor.seats w right owner (turn_number (turn s.floor.history))
             (is_standing k o s.floor) (is_quiet k o s.floor) i h.stands next m home at is)
             (enters.calls_seat s.floor.seats w right owner h.stands.keeps (enters_of s.floor.history) h.entered i next m home at)

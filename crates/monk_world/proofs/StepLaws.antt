@@ -8,7 +8,7 @@ use Rattle.monk_world.specs.Laws.{StandsInOnePlace}
 use Rattle.monk_world.specs.Places.{stage, ticket, back_turn, due_to, turn_of_next, place_of, is_queued_at}
 use Rattle.monk_world.specs.Places.{outside_stage, ticketed_stage, due_stage, active_stage, back_stage, passing_stage}
 use Rattle.monk_world.specs.Places.{inside_stage}
-use Rattle.monk_world.specs.Put.{put}
+use Rattle.monk_world.specs.Update.{update}
 use Rattle.monk_world.specs.Right.{KeepsRight, Nowhere, AtTicket, With}
 use Rattle.monk_world.specs.Stands.{Stands}
 use Rattle.monk_world.specs.Steps.{after_ticket_look, after_ticket_grant}
@@ -17,7 +17,7 @@ use Rattle.monk_world.specs.declared.place.Place.TheVariants.{Idle, Ticket, Due,
 use Rattle.monk_world.specs.declared.source.Source.TheVariants.{Free}
 use Rattle.monk_world.proofs.Holders.{held}
 use Rattle.monk_world.proofs.OnePlaceLaws.{in_one_place}
-use Rattle.monk_world.proofs.PutLaws.{put_same}
+use Rattle.monk_world.proofs.UpdateLaws.{update_same}
 use Rattle.monk_world.proofs.QueueingLaws as queues
 use Rattle.monk_world.proofs.RightArrives.{draws_free, draws_wait}
 use Rattle.monk_world.proofs.RightDrops.{drops_last, drops_more}
@@ -72,9 +72,9 @@ arrive_keeps_the_right seats w right owner turn queued quiet i h idle =
       drawn = w.drawn + 1;
       unpassed = w.unpassed + 1;
       place =
-          put w.place i (cond b (Due (Free w.drawn)) (Ticket w.drawn));
+          update w.place i (cond b (Due (Free w.drawn)) (Ticket w.drawn));
     })
-    (cond b (With i) right) (cond b owner (put owner w.drawn i)) turn queued quiet in
+    (cond b (With i) right) (cond b owner (update owner w.drawn i)) turn queued quiet in
     elim (eqb_tells w.unpassed 0) as (λ _. After (w.unpassed == 0)) [
       | inl e ↦ subst After (sym e.0) (record {
         keeps = draws_free seats w right owner r i zero e.1;
@@ -104,24 +104,24 @@ ticket_look_keeps_the_right seats w right owner turn queued quiet i h t true som
     }
 ticket_look_keeps_the_right seats w right owner turn queued quiet i h t false some at test =
     subst (λ (place : ℕ → Place). Stands seats (record w { place = place }) right owner turn queued quiet)
-    (sym (put_same w.place i (Ticket t) at)) h
+    (sym (update_same w.place i (Ticket t) at)) h
 
 pub seat_look_keeps_the_right : SeatLookKeeps
 seat_look_keeps_the_right seats w right owner turn queued quiet i h true at test =
     let r = h.keeps in
     let six : stage (w.place i) ≡ inside_stage = ap stage at in
     let found : w.seat_place i ≡ w.count i + 1 = eqb-true _ _ test in
-    let count = put w.count i (w.count i + 1) in
+    let count = update w.count i (w.count i + 1) in
     record {
       keeps = finds_call seats w right owner r i six found;
       fits_turn = turns.takes_call seats w right owner r turn h.fits_turn i count (call_is_there seats w right owner r i found);
       fits_queues = queues.takes_call seats w right owner r queued quiet h.fits_queues i count at;
     }
 seat_look_keeps_the_right seats w right owner turn queued quiet i h false at test =
-    subst (λ (place : ℕ → Place). Stands seats (record w { place = place; count = put w.count i (w.count i) }) right
-    owner turn queued quiet) (sym (put_same w.place i Inner at))
+    subst (λ (place : ℕ → Place). Stands seats (record w { place = place; count = update w.count i (w.count i) }) right
+    owner turn queued quiet) (sym (update_same w.place i Inner at))
     (subst (λ (count : ℕ → ℕ). Stands seats (record w { count = count }) right owner turn queued quiet)
-    (sym (put_same w.count i (w.count i) refl)) h)
+    (sym (update_same w.count i (w.count i) refl)) h)
 
 pub floor_out_keeps_the_right : FloorOutKeeps
 floor_out_keeps_the_right seats w right owner turn queued quiet i h q turn_new queued_new quiet_new due alike =
@@ -176,7 +176,7 @@ drop_keeps_the_right seats w right owner turn queued quiet i h home back =
     let next : ℕ = w.drawn - w.unpassed + 1 in
     let After : Bool → Type 0 =
     λ b. Stands seats (record w
-    { unpassed = w.unpassed - 1; place = put w.place i (cond b (place_of home) (Passing next home)) })
+    { unpassed = w.unpassed - 1; place = update w.place i (cond b (place_of home) (Passing next home)) })
     (cond b Nowhere (With i)) owner turn queued quiet in
     elim (eqb_tells w.unpassed 1) as (λ _. After (w.unpassed == 1)) [
       | inl e ↦ subst After (sym e.0) (record {

@@ -10,44 +10,44 @@ use Rattle.monk_world.specs.State.{State}
 use Rattle.monk_world.specs.Steps.{after_floor_in}
 use Rattle.monk_world.specs.declared.home.Home.{Home}
 use mathlib.Core.Path.{Path}
-use Rattle.monk_world.specs.Put.{put}
+use Rattle.monk_world.specs.Update.{update}
 use Rattle.monk_world.specs.Board.{world_on, state_in}
 use Rattle.monk_world.specs.declared.place.Place.{Place}
 use Rattle.monk_world.specs.declared.place.Place.TheVariants.{Idle, Back}
 use Rattle.monk_world.specs.declared.board.Board.{Board}
-use Rattle.monk_world.proofs.PutLaws.{at_put, put_same}
+use Rattle.monk_world.proofs.UpdateLaws.{at_update, update_same}
 
 pub stored : {X : Type 0} (xs : List X) (i : ℕ) (x d : X) → i < length xs
-    → Path (ℕ → X) (λ j. slice_index_or (set xs i x) j d) (put (λ j. slice_index_or xs j d) i x)
+    → Path (ℕ → X) (λ j. slice_index_or (set xs i x) j d) (update (λ j. slice_index_or xs j d) i x)
 stored {X} xs i x d near = λ m j.
-    at_put (λ n. slice_index_or xs n d) i x (λ n y. Path X (slice_index_or (set xs i x) n d) y)
+    at_update (λ n. slice_index_or xs n d) i x (λ n y. Path X (slice_index_or (set xs i x) n d) y)
     (get_or-set_same xs i x d near) (λ n ne. get_or-set_other xs i n x d ne) j m
 
 module _ (w : Board) (i : ℕ) (near : i < w.seats) where
   pub place_stored : (p q : Place) → p ≡ q → Path (ℕ → Place) (λ j. slice_index_or (set w.places.items i p) j Idle)
-      (put (world_on w).place i q)
+      (update (world_on w).place i q)
   place_stored p q e = stored w.places.items i p Idle (omega (arith, near, w.has_places, w.places.ok.0))
-      ∙ ap (λ (x : Place). put (world_on w).place i x) e
+      ∙ ap (λ (x : Place). update (world_on w).place i x) e
 
-  pub count_stored : (x y : ℕ) → x ≡ y → Path (ℕ → ℕ) (λ j. slice_index_or (set w.counts.items i x) j 0) (put (world_on w).count i y)
+  pub count_stored : (x y : ℕ) → x ≡ y → Path (ℕ → ℕ) (λ j. slice_index_or (set w.counts.items i x) j 0) (update (world_on w).count i y)
   count_stored x y e = stored w.counts.items i x 0 (omega (arith, near, w.has_counts, w.counts.ok.0))
-      ∙ ap (λ (n : ℕ). put (world_on w).count i n) e
+      ∙ ap (λ (n : ℕ). update (world_on w).count i n) e
 
   pub call_stored : (x y : ℕ) → x ≡ y
-      → Path (ℕ → ℕ) (λ j. slice_index_or (set w.seat_places.items i x) j 0) (put (world_on w).seat_place i y)
+      → Path (ℕ → ℕ) (λ j. slice_index_or (set w.seat_places.items i x) j 0) (update (world_on w).seat_place i y)
   call_stored x y e = stored w.seat_places.items i x 0 (omega (arith, near, w.has_seats, w.seat_places.ok.0))
-      ∙ ap (λ (n : ℕ). put (world_on w).seat_place i n) e
+      ∙ ap (λ (n : ℕ). update (world_on w).seat_place i n) e
 
   pub ticket_stored : (x y : ℕ) → x ≡ y → Path (ℕ → ℕ) (λ j. slice_index_or (set w.ticket_places.items i x) j 0)
-      (put (world_on w).ticket_place i y)
+      (update (world_on w).ticket_place i y)
   ticket_stored x y e = stored w.ticket_places.items i x 0 (omega (arith, near, w.has_tickets, w.ticket_places.ok.0))
-      ∙ ap (λ (n : ℕ). put (world_on w).ticket_place i n) e
+      ∙ ap (λ (n : ℕ). update (world_on w).ticket_place i n) e
 
   pub known_stored : (x y : Bool) → x ≡ y
       → Path (ℕ → Bool) (λ j. slice_index_or (set w.known.items i x) j false)
-      (put (λ j. slice_index_or w.known.items j false) i y)
+      (update (λ j. slice_index_or w.known.items j false) i y)
   known_stored x y e = stored w.known.items i x false (omega (arith, near, w.has_known, w.known.ok.0))
-      ∙ ap (λ (b : Bool). put (λ j. slice_index_or w.known.items j false) i b) e
+      ∙ ap (λ (b : Bool). update (λ j. slice_index_or w.known.items j false) i b) e
 
   -- a seat that stays keeps its place
   pub settled : (x : Next) (to : Home) (p : Place) → p ≡ cond (is_stay (Some x)) ((world_on w).place i) (Back x to) → (f : FloorView)
@@ -60,11 +60,11 @@ module _ (w : Board) (i : ℕ) (near : i < w.seats) where
     where
       same_world : (b : Bool)
           → Path State (record (state_in w f) {
-            world = record (world_on w) { place = put (world_on w).place i (cond b ((world_on w).place i) (Back x to)) };
+            world = record (world_on w) { place = update (world_on w).place i (cond b ((world_on w).place i) (Back x to)) };
           })
           (record (state_in w f) { world = cond b (world_on w) (after_floor_in (world_on w) i x to) })
       same_world true = ap (λ (place : ℕ → Place). record (state_in w f)
-          { world = record (world_on w) { place = place } }) (put_same (world_on w).place i ((world_on w).place i) refl)
+          { world = record (world_on w) { place = place } }) (update_same (world_on w).place i ((world_on w).place i) refl)
       same_world false = refl
 
   pub ticket_read : (x : ℕ) → x ≡ get_or w.ticket_places.items i x → x ≡ (world_on w).ticket_place i

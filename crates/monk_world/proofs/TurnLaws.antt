@@ -3,7 +3,7 @@ use Rattle.std.proofs.Common.{◌≡◌, ◌≢◌, ℕ, ◌+◌, ◌-◌, ◌�
 use Rattle.monk_history.specs.declared.event.Next.{Next}
 use Rattle.monk_history.specs.declared.event.Next.TheVariants.{Entry}
 use Rattle.monk_world.specs.Places.{stage, due_to, turn_of_next, place_of, due_stage, active_stage, passing_stage}
-use Rattle.monk_world.specs.Put.{put}
+use Rattle.monk_world.specs.Update.{update}
 use Rattle.monk_world.specs.Right.{Whereabouts, Nowhere, AtTicket, With, AtSeat, KeepsRight}
 use Rattle.monk_world.specs.Turns.{FitsTurn, turn_at}
 use Rattle.monk_world.specs.Steps.{after_floor_out, after_floor_in, after_ticket_grant, after_seat_grant}
@@ -14,7 +14,7 @@ use Rattle.monk_world.specs.declared.place.Place.TheVariants.{Idle, Ticket, Due,
 use Rattle.monk_world.specs.declared.source.Source.{Source}
 use Rattle.monk_world.specs.declared.source.Source.TheVariants.{Free, Granted, Called}
 use Rattle.monk_world.proofs.Holders.{held, holds}
-use Rattle.monk_world.proofs.PutLaws.{put_here, put_else}
+use Rattle.monk_world.proofs.UpdateLaws.{update_here, update_else}
 
 module _ (seats : ℕ) (s : World) (right : Whereabouts) (owner : ℕ → ℕ) (r : KeepsRight seats s right owner) (turn : ℕ)
     (f : FitsTurn s right turn) (i : ℕ) where
@@ -30,14 +30,14 @@ module _ (seats : ℕ) (s : World) (right : Whereabouts) (owner : ℕ → ℕ) (
 
   -- seat i has the right after its step
   taken : (p : Place) (turn_new : ℕ) → (stage p ≢ active_stage → turn_new ≡ turn_at i p)
-      → FitsTurn (record s { place = put s.place i p }) (With i) turn_new
-  taken p turn_new agrees = subst (λ (y : Place). stage y ≢ active_stage → turn_new ≡ turn_at i y) (sym (put_here s.place i p)) agrees
+      → FitsTurn (record s { place = update s.place i p }) (With i) turn_new
+  taken p turn_new agrees = subst (λ (y : Place). stage y ≢ active_stage → turn_new ≡ turn_at i y) (sym (update_here s.place i p)) agrees
 
   -- and before it
   holder : (p : Place) (turn_new : ℕ) → right ≡ With i → (stage p ≢ active_stage → turn_new ≡ turn_at i p)
-      → FitsTurn (record s { place = put s.place i p }) right turn_new
+      → FitsTurn (record s { place = update s.place i p }) right turn_new
   holder p turn_new mine agrees =
-      subst (λ (x : Whereabouts). FitsTurn (record s { place = put s.place i p }) x turn_new) (sym mine)
+      subst (λ (x : Whereabouts). FitsTurn (record s { place = update s.place i p }) x turn_new) (sym mine)
       (taken p turn_new agrees)
 
   pub arrives_free : s.unpassed ≡ 0
@@ -45,12 +45,12 @@ module _ (seats : ℕ) (s : World) (right : Whereabouts) (owner : ℕ → ℕ) (
         drawn = s.drawn + 1;
         unpassed = s.unpassed + 1;
         place =
-            put s.place i (Due (Free s.drawn));
+            update s.place i (Due (Free s.drawn));
       }) (With i) turn
   arrives_free none = taken (Due (Free s.drawn)) turn (λ _. turn_where Nowhere (r.holder.free.0 none))
 
   pub arrives_behind : s.place i ≡ Idle
-      → FitsTurn (record s { drawn = s.drawn + 1; unpassed = s.unpassed + 1; place = put s.place i (Ticket s.drawn) })
+      → FitsTurn (record s { drawn = s.drawn + 1; unpassed = s.unpassed + 1; place = update s.place i (Ticket s.drawn) })
       right turn
   arrives_behind idle = elsewhere right f (λ e. let z = ap stage idle in let a = holds r i e in let b = a.0 in omega arith)
     where
@@ -59,20 +59,20 @@ module _ (seats : ℕ) (s : World) (right : Whereabouts) (owner : ℕ → ℕ) (
             drawn = s.drawn + 1;
             unpassed = s.unpassed + 1;
             place =
-                put s.place i (Ticket s.drawn);
+                update s.place i (Ticket s.drawn);
           }) x turn
       elsewhere Nowhere g ne = g
       elsewhere (AtTicket t) g ne = g
       elsewhere (With j) g ne =
           subst (λ (y : Place). stage y ≢ active_stage → turn ≡ turn_at j y)
-          (sym (put_else s.place i (Ticket s.drawn) j (λ e. ne (ap With e)))) g
+          (sym (update_else s.place i (Ticket s.drawn) j (λ e. ne (ap With e)))) g
       elsewhere (AtSeat j) g ne = g
 
-  pub takes_grant : (t : ℕ) → right ≡ AtTicket t → FitsTurn (record s { place = put s.place i (Due (Granted t)) }) (With i) turn
+  pub takes_grant : (t : ℕ) → right ≡ AtTicket t → FitsTurn (record s { place = update s.place i (Due (Granted t)) }) (With i) turn
   takes_grant t is = taken (Due (Granted t)) turn (λ _. turn_where (AtTicket t) is)
 
   pub takes_call : (count : ℕ → ℕ) → right ≡ AtSeat i
-      → FitsTurn (record s { place = put s.place i (Due Called); count = count }) (With i) turn
+      → FitsTurn (record s { place = update s.place i (Due Called); count = count }) (With i) turn
   takes_call count is = taken (Due Called) turn (λ _. turn_where (AtSeat i) is)
 
   pub comes_out : (q : Source) (turn_new : ℕ) → s.place i ≡ Due q → FitsTurn (after_floor_out s i q) right turn_new
@@ -92,11 +92,11 @@ module _ (seats : ℕ) (s : World) (right : Whereabouts) (owner : ℕ → ℕ) (
       holder (Back next home) (turn_of_next next) (held r i (omega arith) (omega arith)) (λ _. refl)
 
   pub drops_last : (home : Home) → s.place i ≡ Back Entry home
-      → FitsTurn (record s { unpassed = s.unpassed - 1; place = put s.place i (place_of home) }) Nowhere turn
+      → FitsTurn (record s { unpassed = s.unpassed - 1; place = update s.place i (place_of home) }) Nowhere turn
   drops_last home back = turn_here (Back Entry home) back (omega arith) (omega arith) (λ e. omega arith)
 
   pub drops_more : (t : ℕ) (home : Home) → s.place i ≡ Back Entry home
-      → FitsTurn (record s { unpassed = s.unpassed - 1; place = put s.place i (Passing t home) }) (With i) turn
+      → FitsTurn (record s { unpassed = s.unpassed - 1; place = update s.place i (Passing t home) }) (With i) turn
   drops_more t home back =
       taken (Passing t home) turn (λ _. turn_here (Back Entry home) back (omega arith) (omega arith) (λ e. omega arith))
 

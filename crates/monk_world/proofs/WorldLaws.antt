@@ -20,30 +20,26 @@ use Rattle.monk_world.proofs.Holders.{held, called_tells}
 use Rattle.monk_world.proofs.RunLaws.{opening_is_sound}
 use Rattle.monk_history.specs.Meaning.Events.{is_stay}
 use Rattle.monk_history.specs.Meaning.Monitor.{data_of}
-use Rattle.monk_history.specs.Meaning.Reasons.{IsAllowed, is_owned_by, is_due, is_queue}
+use Rattle.monk_history.specs.Meaning.Reasons.{IsAllowed, is_owned_by}
 use Rattle.monk_history.specs.Meaning.Release.{with_next}
 use Rattle.monk_history.specs.Meaning.Turn.{turn}
 use Rattle.monk_history.specs.declared.event.Event.{Event}
 use Rattle.monk_history.specs.declared.event.Event.TheVariants.{Act, SignalAll}
-use Rattle.monk_history.specs.declared.event.From3.{From3}
-use Rattle.monk_history.specs.declared.event.From3.TheVariants as from
 use Rattle.monk_history.specs.declared.event.Next.{Next}
 use Rattle.monk_history.specs.declared.event.Next.TheVariants as next
-use Rattle.monk_history.specs.declared.event.Turn.{Turn}
 use Rattle.monk_history.specs.declared.event.Turn.TheVariants as turn
 use Rattle.monk_history.proofs.PublicLaws.Meaning.{legal_last}
-use Rattle.monk_floor.specs.Due.{IsDueTo}
 use Rattle.monk_floor.specs.Grown.{IsGrown}
 use Rattle.monk_floor.specs.View.{FloorView, monitor_of, empty_floor}
 use Rattle.monk_world.specs.Kept.{IsKept}
 use Rattle.monk_world.specs.Places.{stage, ticket, back_turn, turn_of_next, due_to, outside_stage, active_stage, back_stage}
-use Rattle.monk_world.specs.Put.{put}
+use Rattle.monk_world.specs.Update.{update}
 use Rattle.monk_world.specs.Sound.{left_at}
 use Rattle.monk_world.specs.State.{State, with_event}
 use Rattle.monk_world.specs.Steps.{after_arrive, after_ticket_look, after_seat_look, after_floor_out, after_floor_in}
 use Rattle.monk_world.specs.Steps.{after_drop, after_ticket_grant, after_seat_grant}
 use Rattle.monk_world.specs.StepTable.{may_be_told, is_call_in_range, is_call_offered, call_of, left_for, names_entry}
-use Rattle.monk_world.specs.StepTable.{is_back, refusal, release_next, out_event, queue_due, IsDone, IsReleased}
+use Rattle.monk_world.specs.StepTable.{is_back, refusal, release_next, out_event, IsDone, IsReleased}
 use Rattle.monk_world.specs.Telling as telling
 use Rattle.monk_world.specs.Board.{WorldView, state_of_view, view_in, state_in, world_on, Shows, ShowsKnown}
 use Rattle.monk_world.specs.declared.answer.Answer.{Answer}
@@ -152,7 +148,7 @@ module _ (k : Rules) (o : Object) (w : Board) (f : FloorView) (v : WorldView) (i
 
   pub active_peek_goes : (q : Source) (a : Answer) (new : Board) → s.world.place i ≡ Active q → a ≡ answer.Found w.unpassed
       → ShowsKnown w (world_on w)
-      (put (λ j. slice_index_or w.known.items j false) i
+      (update (λ j. slice_index_or w.known.items j false) i
       (slice_index_or w.known.items i false || nat_le 2 w.unpassed)) new → Goes command.Peek a (state_in new f)
   active_peek_goes q a new at is_a shows = at_place (Active q) command.Peek a (state_in new f) at (is_a, shows.state f)
 
@@ -188,7 +184,7 @@ module _ (k : Rules) (o : Object) (w : Board) (f : FloorView) (v : WorldView) (i
 
   pub out_goes : (q : Source) (a : Answer) (new : Board) (g : FloorView) → s.world.place i ≡ Due q
       → g ≡ with_event f (out_event i q (turn f.history)) → a ≡ answer.Now
-      → ShowsKnown w (after_floor_out (world_on w) i q) (put (λ j. slice_index_or w.known.items j false) i false) new
+      → ShowsKnown w (after_floor_out (world_on w) i q) (update (λ j. slice_index_or w.known.items j false) i false) new
       → Goes command.Out a (state_in new g)
   out_goes q a new g at grows is_a shows =
       at_place (Due q) command.Out a (state_in new g) at (
@@ -197,7 +193,7 @@ module _ (k : Rules) (o : Object) (w : Board) (f : FloorView) (v : WorldView) (i
             (λ (x : FloorView). record (state_in w x) {
               world = after_floor_out (world_on w) i q;
               known =
-                  put (λ j. slice_index_or w.known.items j false) i false;
+                  update (λ j. slice_index_or w.known.items j false) i false;
             }) grows,
       )
 
@@ -327,38 +323,6 @@ module _ (k : Rules) (o : Object) (w : Board) (f : FloorView) (v : WorldView) (i
       (λ l. absurd (omega (arith, six, old.sound.is_sound.outside j l))) (cases_lt j f.seats)
 
 -- the floor comes out
-
-due_true : (i : ℕ) (q : From3) (u : Turn) → is_due i q u ≡ true → IsDueTo i u
-due_true i q turn.Open e = absurd cc
-due_true i q (turn.Due j r) e = eqb-true _ _ (both_left (j == i) (is_queue r q) e)
-  where
-    both_left : (a b : Bool) → (a && b) ≡ true → a ≡ true
-    both_left true b h = refl
-    both_left false b h = absurd cc
-due_true i q (turn.Owned j) e = absurd cc
-
-same_queue : (r q : From3) → is_queue r q ≡ true → r ≡ q
-same_queue from.Waiter from.Waiter e = refl
-same_queue from.Waiter from.Signaller e = absurd cc
-same_queue from.Waiter from.Until e = absurd cc
-same_queue from.Signaller from.Waiter e = absurd cc
-same_queue from.Signaller from.Signaller e = refl
-same_queue from.Signaller from.Until e = absurd cc
-same_queue from.Until from.Waiter e = absurd cc
-same_queue from.Until from.Signaller e = absurd cc
-same_queue from.Until from.Until e = refl
-
-pub due_here : (i : ℕ) (u : Turn) → is_due i (queue_due u) u ≡ true → IsDueTo i u
-due_here i u e = due_true i (queue_due u) u e
-
-pub queue_here : (i : ℕ) (q : From3) (u : Turn) → is_due i q u ≡ true → q ≡ queue_due u
-queue_here i q turn.Open e = absurd cc
-queue_here i q (turn.Due j r) e = sym (same_queue r q (both_right (j == i) (is_queue r q) e))
-  where
-    both_right : (a b : Bool) → (a && b) ≡ true → b ≡ true
-    both_right true b h = h
-    both_right false b h = absurd cc
-queue_here i q (turn.Owned j) e = absurd cc
 
 -- a world before any step
 

@@ -1,4 +1,4 @@
-pub mod Put
+pub mod Update
 pub mod Places
 pub mod World
 pub mod Right

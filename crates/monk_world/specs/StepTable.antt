@@ -25,7 +25,7 @@ use Rattle.monk_history.specs.declared.event.Via.TheVariants as via
 use Rattle.monk_history.specs.Text.{first_version}
 use Rattle.monk_floor.specs.View.{FloorView, monitor_of, stands_of}
 use Rattle.monk_world.specs.Places.{stage, outside_stage, ticketed_stage, due_stage, active_stage, passing_stage, inside_stage}
-use Rattle.monk_world.specs.Put.{put}
+use Rattle.monk_world.specs.Update.{update}
 use Rattle.monk_world.specs.State.{State, with_event}
 use Rattle.monk_world.specs.Steps.{after_arrive, after_ticket_look, after_seat_look, after_floor_out, after_floor_in}
 use Rattle.monk_world.specs.Steps.{after_drop, after_ticket_grant, after_seat_grant}
@@ -190,14 +190,14 @@ IsDone k o s i (Due q) command.Out a t =
     (a ≡ answer.Now)
     × (t ≡ record {
       world = after_floor_out s.world i q;
-      known = put s.known i false;
+      known = update s.known i false;
       floor =
           with_event s.floor (out_event i q (turn s.floor.history));
     })
 IsDone k o s i p command.Out a t = ⊥
 IsDone k o s i Idle command.Peek a t = (a ≡ answer.Found s.world.unpassed) × (t ≡ s)
 IsDone k o s i (Active q) command.Peek a t =
-    (a ≡ answer.Found s.world.unpassed) × (t ≡ record s { known = put s.known i (s.known i || nat_le 2 s.world.unpassed) })
+    (a ≡ answer.Found s.world.unpassed) × (t ≡ record s { known = update s.known i (s.known i || nat_le 2 s.world.unpassed) })
 IsDone k o s i p command.Peek a t = ⊥
 IsDone k o s i (Back x home) command.Drop a t = IsDropped s i x home a t
 IsDone k o s i p command.Drop a t = ⊥

@@ -2,7 +2,7 @@
 use Rattle.std.specs.Prelude.{ℕ, ◌+◌, ◌-◌, ◌%◌, ◌==◌, Bool, if◌then◌else◌}
 use Rattle.monk_history.specs.declared.event.Next.{Next}
 use Rattle.monk_world.specs.Places.{place_of}
-use Rattle.monk_world.specs.Put.{put}
+use Rattle.monk_world.specs.Update.{update}
 use Rattle.monk_world.specs.Right.{Whereabouts, Nowhere, With}
 use Rattle.monk_world.specs.World.{World}
 use Rattle.monk_world.specs.declared.home.Home.{Home}
@@ -40,41 +40,41 @@ after_arrive w i = record w {
   drawn = w.drawn + 1;
   unpassed = w.unpassed + 1;
   place =
-      put w.place i (place_after_arrive w.drawn w.unpassed);
+      update w.place i (place_after_arrive w.drawn w.unpassed);
 }
 
 -- look at the place of its ticket, or at its own place
 abbrev pub after_ticket_look : World → ℕ → ℕ → Bool → World
-after_ticket_look w i t found = record w { place = put w.place i (place_after_ticket_look t found) }
+after_ticket_look w i t found = record w { place = update w.place i (place_after_ticket_look t found) }
 
 abbrev pub after_seat_look : World → ℕ → Bool → World
 after_seat_look w i found =
     record w {
-      place = put w.place i (place_after_seat_look found);
+      place = update w.place i (place_after_seat_look found);
       count =
-          put w.count i (count_after_seat_look (w.count i) found);
+          update w.count i (count_after_seat_look (w.count i) found);
     }
 
 -- the floor comes out to the seat, which is due by q
 abbrev pub after_floor_out : World → ℕ → Source → World
-after_floor_out w i q = record w { place = put w.place i (Active q) }
+after_floor_out w i q = record w { place = update w.place i (Active q) }
 
 -- the floor goes home, and has chosen
 abbrev pub after_floor_in : World → ℕ → Next → Home → World
-after_floor_in w i next home = record w { place = put w.place i (Back next home) }
+after_floor_in w i next home = record w { place = update w.place i (Back next home) }
 
 -- drop: one ticket less not passed on
 abbrev pub after_drop : World → ℕ → Home → World
-after_drop w i home = record w { unpassed = w.unpassed - 1; place = put w.place i (place_after_drop w.drawn w.unpassed home) }
+after_drop w i home = record w { unpassed = w.unpassed - 1; place = update w.place i (place_after_drop w.drawn w.unpassed home) }
 
 -- grant a ticket, in its place
 abbrev pub after_ticket_grant : ℕ → World → ℕ → ℕ → Home → World
 after_ticket_grant seats w i t home =
-    record w { ticket_place = put w.ticket_place (t % seats) (t + 1); place = put w.place i (place_of home) }
+    record w { ticket_place = update w.ticket_place (t % seats) (t + 1); place = update w.place i (place_of home) }
 
 -- call seat k, in its place
 abbrev pub after_seat_grant : World → ℕ → ℕ → Home → World
-after_seat_grant w i k home = record w { seat_place = put w.seat_place k (w.seat_place k + 1); place = put w.place i (place_of home) }
+after_seat_grant w i k home = record w { seat_place = update w.seat_place k (w.seat_place k + 1); place = update w.place i (place_of home) }
 
 -- Where the right is after a step that found this, and who owns the ticket that was drawn:
 
@@ -82,7 +82,7 @@ abbrev pub right_after_arrive : World → Whereabouts → ℕ → Whereabouts
 right_after_arrive w right i = if w.unpassed == 0 then With i else right
 
 abbrev pub owner_after_arrive : World → (ℕ → ℕ) → ℕ → ℕ → ℕ
-owner_after_arrive w owner i = if w.unpassed == 0 then owner else put owner w.drawn i
+owner_after_arrive w owner i = if w.unpassed == 0 then owner else update owner w.drawn i
 
 abbrev pub right_after_look : Whereabouts → ℕ → Bool → Whereabouts
 right_after_look right i found = if found then With i else right

@@ -1,7 +1,7 @@
 ghost use Rattle.std.specs.Prelude.{◌≡◌, ◌+◌, ◌%◌, ◌^◌, ◌==◌, ◌<◌, ◌≤◌, ◌||◌, Some, false, IfOk, if◌then◌else◌, nat_le, slice_index_or};
 ghost use Rattle.monk_floor.specs.View.{FloorView};
 ghost use Rattle.monk_history.specs.Meaning.Events.{is_stay};
-ghost use Rattle.monk_world.specs.Put.{put};
+ghost use Rattle.monk_world.specs.Update.{update};
 ghost use Rattle.monk_world.specs.Stands.{opening_world};
 ghost use Rattle.monk_world.specs.Steps.{after_arrive, after_ticket_look, after_seat_look, after_floor_out};
 ghost use Rattle.monk_world.specs.Steps.{after_floor_in, after_drop, after_ticket_grant, after_seat_grant};
@@ -121,7 +121,7 @@ impl Board {
         requires { seat < self.old.seats }
         ensures answer { result ≡ Answer.Found self.old.unpassed }
         ensures shows { ShowsKnown self.old (world_on self.old)
-            (put (λ j. slice_index_or self.old.known.items j false) seat
+            (update (λ j. slice_index_or self.old.known.items j false) seat
             (slice_index_or self.old.known.items seat false || nat_le 2 self.old.unpassed)) self.new }
     {
         let knew = self.known[seat as usize];
@@ -134,7 +134,7 @@ impl Board {
         requires { seat < self.old.seats }
         ensures answer { result ≡ Answer.Now }
         ensures shows { ShowsKnown self.old (after_floor_out (world_on self.old) seat source)
-            (put (λ j. slice_index_or self.old.known.items j false) seat false) self.new }
+            (update (λ j. slice_index_or self.old.known.items j false) seat false) self.new }
     {
         self.places[seat as usize] = Place::Active(source);
         self.known[seat as usize] = false;

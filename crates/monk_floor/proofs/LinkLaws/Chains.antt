@@ -35,9 +35,6 @@ pub length_is : (next : List ℕ) (chains : List Chain) (v : List (List ℕ)) �
 length_is next chains v e c =
     sym (ap length (queue_is next chains v e c) ∙ length-walk next (chain_at chains c).length (chain_at chains c).first)
 
-times_of : (s n c : ℕ) (q : ℕ → List ℕ) → c < n → times s (q c) ≤ times_in_conditions n s q
-times_of s n c q l = times_le_conditions n s c q l
-
 -- one of the queues has changed
 times_changed : (n a s : ℕ) (q r : ℕ → List ℕ) → ((c : ℕ) → a ≢ c → r c ≡ q c) → n ≤ a
     → times_in_conditions n s r ≡ times_in_conditions n s q

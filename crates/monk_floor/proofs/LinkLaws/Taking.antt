@@ -1,6 +1,6 @@
 -- The front of a queue is read, and taken
 use Rattle.std.proofs.Common.{◌≡◌, ℕ, zero, suc, ◌<◌, ◌≤◌, ◌+◌, ◌-◌, ◌==◌, Bool, true, false, cond, Some, None, List, [], ◌∷◌, map}
-use Rattle.std.proofs.Common.{drop, refl, sym, ap, subst, ◌∙◌, arith, eq-eqb, eqb-true, get_or, take}
+use Rattle.std.proofs.Common.{drop, refl, sym, ap, subst, ◌∙◌, arith, eq-eqb, eqb-true, get_or}
 use Rattle.std.specs.Prelude.{slice_set, slice_get, nat_lt, nat_eq}
 use Rattle.monk_history.specs.Limits.{most_seats}
 use Rattle.monk_history.specs.Meaning.Signallers.{is_empty}
@@ -122,11 +122,3 @@ pub nobody : (next : List ℕ) (n f : ℕ) → nat_eq n 0 ≡ is_empty (walk nex
 unfolding walk
 nobody next zero f = refl
 nobody next (suc n) f = let other : nat_eq (suc n) 0 ≡ false = grind arith in other
-
-pub no_first : (xs : List ℕ) → None ≡ slice_get xs 0 → xs ≡ []
-no_first [] e = refl
-no_first (x ∷ xs) e = absurd (cc)
-
-pub first_one : (xs : List ℕ) (s : ℕ) → Some s ≡ slice_get xs 0 → take 1 xs ≡ s ∷ []
-first_one [] s e = absurd (cc)
-first_one (x ∷ xs) s e = let same : s ≡ x = cc in ap (λ y. y ∷ []) (sym same)

@@ -1,7 +1,6 @@
 -- What a caller knows of the turn lets it call; and who is queued
 use Rattle.std.proofs.Common.{◌≡◌, ℕ, ◌+◌, ◌<◌, Bool, true, false, cond, ◌&&◌, not, refl, ap, ◌∙◌, arith, eq-eqb, [], List}
 use Rattle.std.specs.Prelude.{nat_lt}
-use Rattle.monk_object.specs.declared.op.Op.{Op}
 use Rattle.monk_history.specs.Meaning.Monitor.{Monitor, data_of}
 use Rattle.monk_history.specs.Meaning.Situation.{Situation, situation}
 use Rattle.monk_history.specs.Meaning.Events.{has_conditions, has_signaller_queue, returns_at_once, is_non_blocking}
@@ -13,7 +12,7 @@ use Rattle.monk_history.specs.Meaning.Reasons.{is_owned_by, is_open}
 use Rattle.monk_history.specs.Meaning.Standing.{has_turn, in_queues, is_queued, IsPlaced}
 use Rattle.monk_history.specs.Meaning.Release.{MayCall}
 use Rattle.monk_history.specs.declared.event.Event.{Event}
-use Rattle.monk_history.specs.declared.event.Event.TheVariants.{Enter, Act, Leave, Wait, Signal, SignalLeave, Until, SignalAll, SignalWait}
+use Rattle.monk_history.specs.declared.event.Event.TheVariants.{Enter, Leave, Wait, Signal, SignalLeave, Until, SignalAll, SignalWait}
 use Rattle.monk_history.specs.declared.event.Next.TheVariants.{Stay}
 use Rattle.monk_history.specs.declared.event.Turn.{Turn}
 use Rattle.monk_history.specs.declared.event.Turn.TheVariants.{Open, Owned}
@@ -113,17 +112,6 @@ may_until m h s p t l k o =
     record {
       in_range = seat_last _ _ (lt_is s m.seats l) (lt_is p m.object.predicates k);
       offered = o;
-      in_turn =
-          owned s (turn h) t;
-      in_place = refl;
-    }
-
-pub may_act : (m : Monitor) (h : List Event) (s : ℕ) (op : Op) → turn h ≡ Owned s → s < m.seats
-    → op.code < m.object.codes → MayCall m h (Act s op 0)
-may_act m h s op t l k =
-    record {
-      in_range = seat_last _ _ (lt_is s m.seats l) (lt_is op.code m.object.codes k);
-      offered = refl;
       in_turn =
           owned s (turn h) t;
       in_place = refl;

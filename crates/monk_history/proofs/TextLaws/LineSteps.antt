@@ -2,12 +2,10 @@
 use Rattle.std.proofs.Common.{◌≡◌, ◌==◌, ◌≢◌, ℕ, zero, suc, ◌-◌, ◌+◌, Bool, true, false, cond, List, [], ◌∷◌, ◌++◌}
 use Rattle.std.proofs.Common.{length, Result, Ok, Err, refl, sym, ap, ◌∙◌, append_assoc, arith}
 use Rattle.std.specs.List.{slice_split, onto_first}
-use Rattle.std.proofs.lemmas.List.{append-nil}
 use Rattle.monk_history.specs.declared.text.fault.ReadFault.{ReadFault}
 use Rattle.monk_history.specs.Text.Faults.{end_fault, long_fault}
 use Rattle.monk_history.specs.Text.Words.{◌>>=◌, Word, Taken}
 use Rattle.monk_history.specs.Text.Lines.{LinesLeft, lines_of, item_line, header_line, items_at, items_left, lines_at, opened_at}
-use Rattle.monk_history.specs.Text.Lines.{AreSound}
 
 pub some_part : (p : ℕ → Bool) (xs : List ℕ) → (first : List ℕ) × (more : List (List ℕ)) × (slice_split p xs ≡ first ∷ more)
 some_part p [] = ([], [], refl)
@@ -96,14 +94,6 @@ pub one_more : {A : Type 0} → (front : List A) (e : A) (old new total : Result
     → old ≡ (new >>= λ es. Ok (e ∷ es)) → with_front front old ≡ total → with_front (front ++ e ∷ []) new ≡ total
 one_more {A = A} front e old new total more so_far = sym (regroup front e new) ∙ ap (with_front front) (sym more) ∙ so_far
 
-pub all_read : {A : Type 0} → (front : List A) (old total : Result (List A) ReadFault) → old ≡ Ok []
-    → with_front front old ≡ total → total ≡ Ok front
-all_read {A = A} front old total none so_far = sym so_far ∙ ap (with_front front) none ∙ ap (λ (x : List A). Ok x) (append-nil front)
-
-pub fault_found : {A : Type 0} → (front : List A) (old total : Result (List A) ReadFault) (f : ReadFault) → old ≡ Err f
-    → with_front front old ≡ total → total ≡ Err f
-fault_found {A = A} front old total f bad so_far = sym so_far ∙ ap (with_front front) bad
-
 -- ---- the same of a loop that keeps none
 
 -- what is still read, behind a front of what is read in all
@@ -111,24 +101,10 @@ pub record IsBehind {A : Type 0} (left all : Result (List A) ReadFault) : Type 0
   pub front : List A
   pub same : with_front front left ≡ all
 
-no_front : {A : Type 0} → (read : Result (List A) ReadFault) → with_front [] read ≡ read
-no_front {A = A} (Ok es) = refl
-no_front {A = A} (Err f) = refl
-
-pub behind_none : {A : Type 0} → (read : Result (List A) ReadFault) → IsBehind read read
-behind_none {A = A} read = record { front = []; same = no_front read }
-
 pub behind_one : {A : Type 0} → (e : A) (old new all : Result (List A) ReadFault) → old ≡ (new >>= λ es. Ok (e ∷ es))
     → IsBehind old all → IsBehind new all
 behind_one {A = A} e old new all more h =
     record { front = h.front ++ e ∷ []; same = one_more h.front e old new all more h.same }
-
-pub behind_all : {A : Type 0} → (old all : Result (List A) ReadFault) → old ≡ Ok [] → IsBehind old all → AreSound all
-behind_all {A = A} old all none h = rw (all_read h.front old all none h.same) refl
-
-pub behind_fault : {A : Type 0} → (old all : Result (List A) ReadFault) (f : ReadFault) → old ≡ Err f → IsBehind old all
-    → all ≡ Err f
-behind_fault {A = A} old all f bad h = fault_found h.front old all f bad h.same
 
 -- ---- the first line, and the lines behind it
 

@@ -18,9 +18,6 @@ words-last word plain = ap words_of (append-nil word) ∙ cut_none (λ b. b == 3
 pub words-more : (word rest : List ℕ) → is_unbroken word ≡ true → words_of (word ++ 32 ∷ rest) ≡ word ∷ words_of rest
 words-more word rest plain = cut_at (λ b. b == 32) word 32 rest plain refl
 
-pub is_next-first : (word : Word) (ws : List Word) → is_next word (word ∷ ws) ≡ true
-is_next-first word ws = (bytes_eq-Decides word word).1 refl
-
 not_true : (b : Bool) → (b ≡ true → ⊥) → b ≡ false
 not_true true h = absurd (h refl)
 not_true false h = refl

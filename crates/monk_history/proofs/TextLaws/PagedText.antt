@@ -1,5 +1,5 @@
 -- A text that goes out page by page.
-use Rattle.std.proofs.Common.{◌≡◌, ℕ, ◌+◌, ◌<◌, take, get_or, List, [], ◌∷◌, ◌++◌, Option, refl, sym, ap, subst, ◌∙◌, length, append_assoc}
+use Rattle.std.proofs.Common.{◌≡◌, ℕ, ◌+◌, ◌<◌, take, get_or, List, [], ◌∷◌, ◌++◌, Option, sym, ap, subst, ◌∙◌, length, append_assoc}
 use Rattle.std.specs.List.{AllByRecursion, flat_map}
 use Rattle.std.specs.Io.KnownBytes.{Appends}
 use Rattle.std.proofs.KnownBytes.{Appends-trans}
@@ -50,11 +50,6 @@ pub record IsWritten (before now : Option (List ℕ)) (page : List ℕ) (h : Hea
   pub on_its_way : IsOnItsWay before now page (text h done)
   pub heading : IsHeading h
   pub fit : AllByRecursion EventFits done
-
-pub written_none : (before now : Option (List ℕ)) (page : List ℕ) (h : Heading) (all : List Event)
-    → IsOnItsWay before now page (text h []) → IsHeading h → IsWritten before now page h all all
-written_none before now page h all way heading =
-    record { done = []; whole = refl; on_its_way = way; heading = heading; fit = tt }
 
 pub written_sent : (before now later : Option (List ℕ)) (page : List ℕ) (h : Heading) (left all : List Event)
     → IsWritten before now page h left all → Appends now later page → IsWritten before later [] h left all

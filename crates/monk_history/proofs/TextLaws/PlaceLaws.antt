@@ -3,9 +3,9 @@ use Rattle.std.proofs.Common.{◌≡◌, ◌≢◌, ℕ, ◌+◌, ◌-◌, ◌*�
 use Rattle.std.proofs.Common.{ap, subst, ◌∙◌, append_assoc, arith}
 use Rattle.std.specs.Char.{IsAsciiDigit}
 use Rattle.std.specs.Fmt.{decimal}
-use Rattle.std.specs.Int.{w16, w32, from_le_bytes, to_le_bytes}
+use Rattle.std.specs.Int.{w32, from_le_bytes, to_le_bytes}
 use Rattle.std.proofs.lemmas.List.{drop_more}
-use Rattle.std.proofs.lemmas.Nat.{le_bytes_2, le_bytes_4, pow-add, pow_below}
+use Rattle.std.proofs.lemmas.Nat.{le_bytes_4, pow-add, pow_below}
 use Rattle.monk_history.specs.Text.Places.{StandsAt}
 use Rattle.monk_history.proofs.TextLaws.NextWords.{digit-first, digit-more}
 
@@ -46,12 +46,6 @@ four_stand bytes four p l is =
     (ap (λ c. get_or bytes (p + 2) 0 ∷ c ∷ []) third) in
     let end : p + 2 + 2 ≡ p + 4 = omega arith in
     subst (λ (q : ℕ). StandsAt bytes p four q) end (stands_as (stands_then a b) is)
-
--- bytes that are one number are the same bytes
-pub two_same : (xs ys : List ℕ) → length xs ≡ 2 → length ys ≡ 2 → ((i : ℕ) → get_or xs i 0 < 256) → ((i : ℕ) → get_or ys i 0 < 256)
-    → from_le_bytes w16 xs ≡ from_le_bytes w16 ys → xs ≡ ys
-two_same xs ys lx ly bx by_ same =
-    sym (le_bytes_2 xs (from_le_bytes w16 xs) lx bx refl) ∙ (ap (to_le_bytes w16) same ∙ le_bytes_2 ys (from_le_bytes w16 ys) ly by_ refl)
 
 pub four_same : (xs ys : List ℕ) → length xs ≡ 4 → length ys ≡ 4 → ((i : ℕ) → get_or xs i 0 < 256) → ((i : ℕ) → get_or ys i 0 < 256)
     → from_le_bytes w32 xs ≡ from_le_bytes w32 ys → xs ≡ ys

@@ -1,27 +1,21 @@
 -- What is found of the lines to come over a board, one line after the other
-use Rattle.std.proofs.Common.{◌≡◌, ℕ, ◌+◌, ◌<◌, ◌≤◌, cond, List, [], length, get_or, drop, refl, sym, ap, ◌∙◌}
+use Rattle.std.proofs.Common.{◌≡◌, ℕ, cond, List, [], refl, ap, ◌∙◌}
 use Rattle.std.specs.Prelude.{◌==◌, Result, Ok, Err}
 use Rattle.monk_kinds.specs.declared.mode.Rules.{Rules}
 use Rattle.monk_object.specs.Object.{Object}
 use Rattle.monk_history.specs.declared.event.Event.{Event}
-use Rattle.monk_history.specs.Meaning.Monitor.{Monitor, monitor}
+use Rattle.monk_history.specs.Meaning.Monitor.{monitor}
 use Rattle.monk_logs.specs.Board.{Board, board_after, board_reason, opening_board}
-use Rattle.monk_logs.specs.BoardCourse.{BoardCourse, board_course, board_settled, board_told}
-use Rattle.monk_logs.specs.BoardShown.{course_or}
-use Rattle.monk_logs.specs.BoardStand.{IsHeldOver, board_add, board_behind_over, board_half_over, board_line_over, board_over}
+use Rattle.monk_logs.specs.BoardCourse.{BoardCourse, board_settled, board_told}
+use Rattle.monk_logs.specs.BoardStand.{board_add, board_behind_over, board_half_over, board_line_over, board_over}
 use Rattle.monk_logs.specs.BoardStand.{board_release_blame, board_verdict, board_verdict_from, course_by}
 use Rattle.monk_logs.specs.declared.blame.Blame.{Blame}
-use Rattle.monk_logs.specs.declared.blame.LineVerdict.{LineVerdict}
-use Rattle.monk_logs.specs.declared.blame.LineVerdict.TheVariants as line
 use Rattle.monk_logs.specs.declared.line.LogLine.{LogLine}
 use Rattle.monk_logs.specs.declared.line.LogLine.TheVariants.{Enter, Resume, Lapse, Leave, Wait, Signal, Broadcast, Until, Act}
 use Rattle.monk_logs.specs.declared.order.Order.{Order}
 use Rattle.monk_logs.specs.declared.pending.Pending.{Pending}
 use Rattle.monk_logs.specs.declared.pending.Pending.TheVariants.{Settled, Half, Release}
-use Rattle.monk_logs.specs.declared.verdict.LogVerdict.{LogVerdict}
-use Rattle.monk_logs.specs.declared.verdict.LogVerdict.TheVariants.{Fits, Misfit}
-use Rattle.monk_logs.proofs.BoardLaws.Held.{behind_held}
-use Rattle.monk_logs.proofs.VerdictLaws.Along.{along_fits, along_misfits, along_more, along_same}
+use Rattle.monk_logs.proofs.VerdictLaws.Along.{along_same}
 
 -- ---- the opening state of the object has no part in how lines are judged from a board
 
@@ -85,28 +79,3 @@ module _ (o : Order) (k : Rules) (seats conds : ℕ) (ob : Object) (d : List ℕ
       (Ok (board_settled (opening_board (monitor k seats conds ob d)))) log over_apart
 
 -- ---- one line more
-
-pub board_goes_on : (o : Order) (m : Monitor) (log : List LogLine) (i : ℕ) (l : LogLine) (a b : Board) (p q : Pending)
-    (left : LineVerdict) (v : LogVerdict) → i < length log → board_verdict_from o m i (Ok (board_course a p)) (drop i log) ≡ v
-    → course_or b left ≡ board_behind_over o m a p (get_or log i l) → left ≡ line.Fits q
-    → board_verdict_from o m (i + 1) (Ok (board_course b q)) (drop (i + 1) log) ≡ v
-board_goes_on o m log i l a b p q left v within is judged goes =
-    along_more (board_over o m) log i l (board_course a p) (Ok (board_course b q)) v within is
-    (ap (course_or b) (sym goes) ∙ judged)
-
--- what is pending then is held
-pub board_goes_held : (o : Order) (m : Monitor) (l : LogLine) (a b : Board) (p q : Pending) (left : LineVerdict)
-    → course_or b left ≡ board_behind_over o m a p l → left ≡ line.Fits q → IsHeldOver m b q
-board_goes_held o m l a b p q left judged goes =
-    behind_held o m a p l (board_course b q) (sym judged ∙ ap (course_or b) goes)
-
-pub board_misfits : (o : Order) (m : Monitor) (log : List LogLine) (i : ℕ) (l : LogLine) (a b : Board) (p : Pending)
-    (left : LineVerdict) (why : Blame) (v : LogVerdict) → i < length log
-    → board_verdict_from o m i (Ok (board_course a p)) (drop i log) ≡ v
-    → course_or b left ≡ board_behind_over o m a p (get_or log i l) → left ≡ line.Misfits why → Misfit (i + 1) why ≡ v
-board_misfits o m log i l a b p left why v within is judged fails =
-    along_misfits (board_over o m) log i l (board_course a p) why v within is (ap (course_or b) (sym fails) ∙ judged)
-
-pub board_fits : (o : Order) (m : Monitor) (log : List LogLine) (i : ℕ) (x : BoardCourse) (v : LogVerdict) → length log ≤ i
-    → board_verdict_from o m i (Ok x) (drop i log) ≡ v → Fits ≡ v
-board_fits o m log i x v past is = along_fits (board_over o m) log i x v past is

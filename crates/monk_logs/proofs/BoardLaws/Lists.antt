@@ -14,10 +14,6 @@ pub run_lines-push : (steps : List Step) (step : Step) → run_lines (steps ++ s
 run_lines-push steps step =
     flat_map-append step_lines steps (step ∷ []) ∙ ap (λ (x : List LogLine). run_lines steps ++ x) (append-nil (step_lines step))
 
-pub none_taken : (o : Order) (m : Monitor) (steps : List Step) → board_from o m None steps ≡ None
-unfolding board_from
-none_taken o m steps = refl
-
 pub board_from-append : (o : Order) (m : Monitor) (b : Option Board) (xs ys : List Step)
     → board_from o m b (xs ++ ys) ≡ board_from o m (board_from o m b xs) ys
 unfolding board_from

@@ -32,10 +32,8 @@ use Rattle.monk_logs.specs.declared.blame.Blame.TheVariants.{Range, Call, Turn a
 use Rattle.monk_logs.specs.declared.blame.Blame.TheVariants.{Order as OrderBlame, Choice}
 use Rattle.monk_logs.specs.declared.lapses.Lapses.TheVariants.{Allowed}
 use Rattle.monk_logs.specs.declared.item.Item.{Item}
-use Rattle.monk_logs.specs.declared.line.LogLine.{LogLine}
-use Rattle.monk_logs.specs.declared.line.LogLine.TheVariants.{Enter, Resume, Lapse, Leave, Wait, Signal, Broadcast, Until, Act}
+use Rattle.monk_logs.specs.declared.line.LogLine.TheVariants.{Resume, Lapse}
 use Rattle.monk_logs.specs.declared.order.Order.{Order}
-use Rattle.monk_logs.specs.declared.pending.Pending.{Pending}
 use Rattle.monk_logs.specs.declared.pending.Pending.TheVariants.{Settled, Half, Release}
 use Rattle.monk_logs.proofs.LapseLaws.Read.{not_due, standing}
 use Rattle.monk_logs.proofs.LapseLaws.Resuming.{items_behind, next_with}
@@ -54,41 +52,12 @@ none_served Served other h = refl
 none_served OrderBlame other h = refl
 none_served Choice other h = refl
 
-same_blame : (why : Blame) → either_blame why why ≡ why
-same_blame Range = refl
-same_blame Call = refl
-same_blame TurnBlame = refl
-same_blame Place = refl
-same_blame Reply = refl
-same_blame Unserved = refl
-same_blame Served = refl
-same_blame OrderBlame = refl
-same_blame Choice = refl
-
--- a line that tells of no seat that goes on
-pub read_plain : (r : Result BoardCourse Blame) → first_over r r ≡ r
-read_plain (Ok x) = refl
-read_plain (Err why) = ap (λ (y : Blame). Err y) (same_blame why)
-
 -- what is to blame by the tests of range, of the call and of the turn, and by what comes behind these
 abbrev blame_by : Bool → Bool → Bool → Blame → Blame
 blame_by a b turn late = first_blame (cond (not a) (Some Range) (cond (not b) (Some Call) None)) (cond (not turn) TurnBlame late)
 
 abbrev resumed_by_queue : Bool → Bool → Blame
 resumed_by_queue comes next = cond (not comes) Unserved (cond (not next) OrderBlame Choice)
-
--- a line of nobody who goes on is judged as ever
-pub read_other : (o : Order) (m : Monitor) (b : Board) (p : Pending) (l : LogLine) → ((s : ℕ) → l ≡ Resume s → ⊥)
-    → board_read_over Allowed o m b p l ≡ board_behind_over o m b p l
-read_other o m b p (Enter s) never = read_plain (board_behind_over o m b p (Enter s))
-read_other o m b p (Resume s) never = absurd (never s refl)
-read_other o m b p (Lapse s) never = read_plain (board_behind_over o m b p (Lapse s))
-read_other o m b p (Leave s) never = read_plain (board_behind_over o m b p (Leave s))
-read_other o m b p (Wait s c) never = read_plain (board_behind_over o m b p (Wait s c))
-read_other o m b p (Signal s c) never = read_plain (board_behind_over o m b p (Signal s c))
-read_other o m b p (Broadcast s c) never = read_plain (board_behind_over o m b p (Broadcast s c))
-read_other o m b p (Until s q) never = read_plain (board_behind_over o m b p (Until s q))
-read_other o m b p (Act s op r) never = read_plain (board_behind_over o m b p (Act s op r))
 
 -- the tests of a resume and of a lapse are the same but for the last
 early_same : (a b turn comes next gone : Bool)

@@ -98,10 +98,6 @@ not_due Open s h k = false≢true k
 not_due (Due j q) s h k = false≢true h
 not_due (Owned j) s h k = false≢true h
 
-some_there : (c : Option ℕ) → is_some c ≡ true → (d : ℕ) × (c ≡ Some d)
-some_there None h = absurd (false≢true h)
-some_there (Some d) h = (d, refl)
-
 -- who steps back where the release goes on
 stepped : (s : ℕ) (many few : Bool) (n : Option Next) (rest : Bool) → (few ≡ true → many ≡ true) → is_stay n ≡ false
     → cond many (is_stay n) rest ≡ true → few ≡ many

@@ -42,10 +42,6 @@ unfolding read_from
 read_ended x o m None = refl
 read_ended x o m (Some y) = refl
 
-none_read : (x : Lapses) (o : Order) (m : Monitor) (log : List LogLine) → read_from x o m None log ≡ None
-unfolding read_from
-none_read x o m log = refl
-
 read-append : (x : Lapses) (o : Order) (m : Monitor) (y : Option BoardCourse) (front more : List LogLine)
     → read_from x o m y (front ++ more) ≡ read_from x o m (read_from x o m y front) more
 unfolding read_from

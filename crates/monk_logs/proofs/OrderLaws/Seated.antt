@@ -19,7 +19,7 @@ use Rattle.monk_history.specs.declared.event.Via.{Via}
 use Rattle.monk_history.specs.Meaning.Events.{is_stay, is_until, signals_on}
 use Rattle.monk_history.specs.Meaning.Conditions.{served_of}
 use Rattle.monk_history.specs.Meaning.Monitor.{Monitor}
-use Rattle.monk_history.specs.Meaning.Reasons.{is_due, is_open, is_owned_by, is_queue}
+use Rattle.monk_history.specs.Meaning.Reasons.{is_due, is_owned_by, is_queue}
 use Rattle.monk_history.specs.Meaning.Signallers.{is_empty}
 use Rattle.monk_history.specs.Meaning.Standing.{times, has_turn}
 use Rattle.monk_history.specs.Meaning.Turn.{turn_by}
@@ -75,11 +75,6 @@ due_turn : (v s : ℕ) (q : From3) (t : Turn) → is_due v q t ≡ true → has_
 due_turn v s q Open h = absurd (false≢true h)
 due_turn v s q (Due j r) h = ap (λ (x : ℕ). cond {A = ℕ} (eqb x s) 1 0) (eqb-true j v (and_parts (j == v) (is_queue r q) h).0)
 due_turn v s q (Owned j) h = absurd (false≢true h)
-
-open_turn : (s : ℕ) (t : Turn) → is_open t ≡ true → has_turn s t ≡ 0
-open_turn s Open h = refl
-open_turn s (Due j q) h = absurd (false≢true h)
-open_turn s (Owned j) h = absurd (false≢true h)
 
 inside_still : (b : Bool) → ◌≡◌ {A = ℕ} (cond ((b && true) || false) 1 0) (cond b 1 0)
 inside_still true = refl

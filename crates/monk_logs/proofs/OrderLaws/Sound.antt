@@ -11,13 +11,10 @@ use Rattle.monk_history.specs.declared.event.Event.TheVariants.{Enter, Act, Leav
 use Rattle.monk_history.specs.declared.event.Event.TheVariants.{SignalAll, SignalWait}
 use Rattle.monk_history.specs.declared.event.Next.{Next}
 use Rattle.monk_history.specs.declared.event.Next.TheVariants as next
-use Rattle.monk_history.specs.declared.event.Turn.{Turn}
-use Rattle.monk_history.specs.declared.event.Turn.TheVariants.{Open, Due, Owned}
 use Rattle.monk_history.specs.Meaning.Conditions.{served_of}
 use Rattle.monk_history.specs.Meaning.Events.{is_stay, next_of, seat_of, signals_on, steps_back, waits_on}
 use Rattle.monk_history.specs.Meaning.Monitor.{Monitor}
-use Rattle.monk_history.specs.Meaning.Reasons.{is_open}
-use Rattle.monk_history.specs.Meaning.Standing.{times, has_turn}
+use Rattle.monk_history.specs.Meaning.Standing.{times}
 use Rattle.monk_logs.specs.Board.{Board, board_after, board_chances, board_lapse, chosen_out, items_with, opening_board}
 use Rattle.monk_logs.specs.Chances.{Chances, may_choose_by, may_signal_by, permits_by}
 use Rattle.monk_logs.specs.Items.{line, seats_in, services_in, unserved_in, keeps_up, without_seat, may_lapse, may_resume, taken_out}
@@ -159,11 +156,6 @@ sound_after o m b e h p = record {
 }
 
 -- ---- a wait that ran out
-
-open_free : (s : ℕ) (t : Turn) → is_open t ≡ true → has_turn s t ≡ 0
-open_free s Open h = refl
-open_free s (Due j q) h = absurd (false≢true h)
-open_free s (Owned j) h = absurd (false≢true h)
 
 keeps_gone : (o : Order) (j c : ℕ) (items : List Item) → Distinct (all_seats items) → can_be_unserved o j c items ≡ true
     → keeps_up 0 (line c items) ≡ true → keeps_up 0 (line c (without_seat j items)) ≡ true

@@ -3,14 +3,14 @@ use Rattle.std.proofs.lemmas.Result.{MatchResult-weaker}
 use Rattle.monk_history.specs.Meaning.Monitor.{data_of}
 use Rattle.monk_floor.specs.View.{monitor_of}
 use Rattle.monk_samples.specs.Trails.{outside}
-use Rattle.monk_samples.specs.Visits.{wanted}
+use Rattle.monk_samples.specs.Visits.{guard}
 use Rattle.monk_samples.proofs.VisitLaws.{acted_after, tired_inside, unready}
 use Rattle.monk_samples.proofs.visit.act_when.Goals as goal
 
 pub returns-in-Ok-clause-acted : goal.returns-in-Ok-clause-acted
 returns-in-Ok-clause-acted g c =
     let k = g.K.Kind.rules in let o = g.T.Guarded.meaning in let p = c.args.pass in let a = c.in-Ok.active in
-    let w = Some (wanted c.args.cond c.args.pred) in let f = a.floor in
+    let w = Some (guard c.args.cond c.args.pred) in let f = a.floor in
     let done = c.requires.promise (data_of (monitor_of k o f) f.history) c.in-Ok.ensures.1 in
     MatchResult-weaker c.act.result c.act.ensures.acted
     (λ r h. (acted_after k o (outside p) w c.args.op r.1 a r.0 c.in-Ok.ensures.0 h.0, subst (λ (n : ℕ). 0 < n) (sym h.1) done))

@@ -1,6 +1,6 @@
 use Rattle.std.proofs.Common.{ℕ, set, Bool, false, refl, ap, ◌∙◌}
 use Rattle.std.specs.Prelude.{slice_index_or}
-use Rattle.monk_world.specs.Put.{put}
+use Rattle.monk_world.specs.Update.{update}
 use Rattle.monk_world.specs.Board.{world_on, state_in}
 use Rattle.monk_world.specs.declared.place.Place.{Place}
 use Rattle.monk_world.specs.declared.place.Place.TheVariants.{Active}
@@ -19,7 +19,7 @@ returns-clause-shows c =
           })
           (place_stored w c.args.seat c.requires (Active c.args.source) (Active c.args.source) refl)
           ∙ ap (λ (known : ℕ → Bool). record (state_in w f) {
-            world = record (world_on w) { place = put (world_on w).place c.args.seat (Active c.args.source) };
+            world = record (world_on w) { place = update (world_on w).place c.args.seat (Active c.args.source) };
             known = known;
           }) (known_stored w c.args.seat c.requires false false refl);
       seats = refl;

@@ -1,6 +1,6 @@
 use Rattle.std.proofs.Common.{ℕ, ◌+◌, set, refl, ap, ◌∙◌}
 use Rattle.std.specs.Prelude.{slice_index_or}
-use Rattle.monk_world.specs.Put.{put}
+use Rattle.monk_world.specs.Update.{update}
 use Rattle.monk_world.specs.Places.{place_of}
 use Rattle.monk_world.specs.Board.{world_on, state_in}
 use Rattle.monk_world.specs.declared.place.Place.{Place}
@@ -22,7 +22,7 @@ returns-clause-shows c =
           (place_stored w c.args.seat c.requires.seat _ (place_of c.args.home) c.place.ensures)
           ∙ ap (λ (calls : ℕ → ℕ). record (state_in w f) {
             world = record (world_on w)
-                { seat_place = calls; place = put (world_on w).place c.args.seat (place_of c.args.home) };
+                { seat_place = calls; place = update (world_on w).place c.args.seat (place_of c.args.home) };
           })
           (call_stored w c.args.called c.requires.called _ ((world_on w).seat_place c.args.called + 1)
           (ap (λ (n : ℕ). n + 1)

@@ -1,6 +1,6 @@
 use Rattle.std.proofs.Common.{◌≡◌, ℕ, ◌+◌, ◌==◌, set, Bool, refl, ap, ◌∙◌}
 use Rattle.std.specs.Prelude.{slice_index_or}
-use Rattle.monk_world.specs.Put.{put}
+use Rattle.monk_world.specs.Update.{update}
 use Rattle.monk_world.specs.Steps.{place_after_seat_look, count_after_seat_look}
 use Rattle.monk_world.specs.Board.{world_on, state_in}
 use Rattle.monk_world.specs.declared.place.Place.{Place}
@@ -29,7 +29,7 @@ returns-clause-shows c =
           (c.place_after_seat_look.ensures ∙ ap (λ (b : Bool). place_after_seat_look b) same))
           ∙ ap (λ (counts : ℕ → ℕ). record (state_in w f) {
             world = record (world_on w) {
-              place = put (world_on w).place i (place_after_seat_look found);
+              place = update (world_on w).place i (place_after_seat_look found);
               count =
                   counts;
             };

@@ -1,7 +1,7 @@
 use Rattle.std.proofs.Common.{ℕ, ◌+◌, ◌%◌, ◌<◌, set, refl, ap, ◌∙◌, arith}
 use Rattle.std.specs.Prelude.{slice_index_or}
 use Rattle.std.proofs.lemmas.Nat.{mod_below}
-use Rattle.monk_world.specs.Put.{put}
+use Rattle.monk_world.specs.Update.{update}
 use Rattle.monk_world.specs.Places.{place_of}
 use Rattle.monk_world.specs.Board.{world_on, state_in}
 use Rattle.monk_world.specs.declared.place.Place.{Place}
@@ -24,7 +24,7 @@ returns-clause-shows c =
           }) (place_stored w c.args.seat c.requires.seat _ (place_of c.args.home) c.place.ensures)
           ∙ ap (λ (tickets : ℕ → ℕ). record (state_in w f) {
             world = record (world_on w)
-                { ticket_place = tickets; place = put (world_on w).place c.args.seat (place_of c.args.home) };
+                { ticket_place = tickets; place = update (world_on w).place c.args.seat (place_of c.args.home) };
           })
           (ticket_stored w at near (c.args.ticket + 1) (c.args.ticket + 1) refl);
       seats = refl;
