@@ -2,3 +2,4 @@ mod LineLaws
 mod TellLaws
 mod FrontLaws
 mod ConditionLines
+mod ChosenLaws

@@ -1,4 +1,5 @@
 pub mod Permitted
+pub mod Sentence
 pub mod Told
 pub mod Words
 pub mod Why

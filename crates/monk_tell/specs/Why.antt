@@ -1,5 +1,5 @@
 -- Why an event is not allowed, in a sentence
-use Rattle.std.specs.Prelude.{ℕ, List, [], ◌∷◌, ◌++◌, codes}
+use Rattle.std.specs.Prelude.{ℕ, List, [], ◌∷◌, codes}
 use Rattle.std.specs.List.{concat}
 use Rattle.std.specs.Fmt.{decimal}
 use Rattle.monk_kinds.specs.Names.{kind_word}
@@ -19,9 +19,9 @@ why_text (NoSeat seat seats) =
 why_text (NoCondition cond conds) =
     concat (codes "there is no condition " ∷ decimal cond ∷ codes ", since the " ∷ decimal conds ∷
     codes " conditions are counted from 0" ∷ [])
-why_text (NoOperation code) = codes "the object has no operation " ++ decimal code
-why_text (NoPredicate pred) = codes "the object has no predicate " ++ decimal pred
-why_text (NoCall kind) = kind_word kind ++ codes " monitors have no such call"
+why_text (NoOperation code) = concat (codes "the object has no operation " ∷ decimal code ∷ [])
+why_text (NoPredicate pred) = concat (codes "the object has no predicate " ∷ decimal pred ∷ [])
+why_text (NoCall kind) = concat (kind_word kind ∷ codes " monitors have no such call" ∷ [])
 why_text (Open seat) =
     concat (codes "seat " ∷ decimal seat ∷
     codes " isn't active, since the monitor is open to whoever enters next" ∷ [])
@@ -42,9 +42,10 @@ why_text (NotFree seat) =
 why_text (FirstOfAll seat) =
     concat (codes "nobody came before seat " ∷ decimal seat ∷ codes " who could hand the monitor over" ∷ [])
 why_text (Replies right wrong) =
-    codes "the object replies " ++ decimal right ++ (codes " and not " ++ decimal wrong)
+    concat (codes "the object replies " ∷ decimal right ∷ codes " and not " ∷ decimal wrong ∷ [])
 why_text (NobodyWaits cond seat) =
-    codes "seat " ++ decimal seat ++ (codes " has to stay active, since nobody waits on condition " ++ decimal cond)
+    concat (codes "seat " ∷ decimal seat ∷ codes " has to stay active, since nobody waits on condition " ∷
+    decimal cond ∷ [])
 why_text (HoldsAlready pred seat) =
     concat (codes "seat " ∷ decimal seat ∷ codes " has to stay active, since predicate " ∷
     decimal pred ∷ codes " holds already" ∷ [])
@@ -67,7 +68,8 @@ why_text (NotReady seat) =
     concat (codes "seat " ∷ decimal seat ∷ codes " isn't the first of those whose predicate holds" ∷ [])
 why_text (OwnSignal seat) =
     concat (codes "seat " ∷ decimal seat ∷ codes " goes on after its own signal by staying active" ∷ [])
-why_text (NoUntils kind) = kind_word kind ++ codes " monitors have nobody who waits until a predicate holds"
+why_text (NoUntils kind) =
+    concat (kind_word kind ∷ codes " monitors have nobody who waits until a predicate holds" ∷ [])
 why_text (WaitersFirst seat kind) =
     concat (codes "waiter " ∷ decimal seat ∷ codes " has to go on first, since " ∷ kind_word kind ∷
     codes " puts waiters above signallers" ∷ [])

@@ -11,6 +11,7 @@ mod lists;
 mod permitted;
 mod queues;
 mod said;
+mod sentence;
 mod sentences;
 mod situation;
 mod standing;

@@ -1,10 +1,13 @@
 //! Why an event is not allowed, in a sentence.
 
-ghost use Rattle.std.specs.Prelude.{Some};
+ghost use Rattle.std.specs.Prelude.{◌≡◌, Some};
+ghost use Rattle.std.specs.Fmt.{decimal};
+ghost use Rattle.monk_tell.specs.Sentence.{gap_text, sentence_text};
 ghost use Rattle.monk_tell.specs.Why.{why_text};
 
 use crate::kind_word::kind_word;
 use crate::said::queue_word;
+use crate::sentence::{Gap, Sentence};
 use monk_history::From3;
 use monk_kinds::KindName;
 use std::fmt;
@@ -72,136 +75,200 @@ pub enum Why {
     ReadyBeforeEntry(u8, KindName),
 }
 
-/// One sentence for each.
+impl Why {
+    /// One sentence for each.
+    fn sentence(self) -> Sentence
+        ensures { sentence_text result ≡ why_text self }
+    {
+        match self {
+            Why::NoSeat(seat, seats) => Sentence::of_two(
+                "there is no seat ",
+                number(seat),
+                ", since the ",
+                number(seats),
+                " seats are counted from 0",
+            ),
+            Why::NoCondition(cond, conds) => Sentence::of_two(
+                "there is no condition ",
+                number(cond),
+                ", since the ",
+                number(conds),
+                " conditions are counted from 0",
+            ),
+            Why::NoOperation(code) => Sentence::of_one(
+                "the object has no operation ",
+                number(code),
+                "",
+            ),
+            Why::NoPredicate(pred) => Sentence::of_one(
+                "the object has no predicate ",
+                number(pred),
+                "",
+            ),
+            Why::NoCall(kind) => Sentence::of_one(
+                "",
+                Gap::Word(kind_word(kind)),
+                " monitors have no such call",
+            ),
+            Why::Open(seat) => Sentence::of_one(
+                "seat ",
+                number(seat),
+                " isn't active, since the monitor is open to whoever enters next",
+            ),
+            Why::Due(seat, other, queue) => Sentence::of_three(
+                "seat ",
+                number(seat),
+                " isn't next, since seat ",
+                number(other),
+                " has to resume from ",
+                Gap::Word(queue_word(queue)),
+                " first",
+            ),
+            Why::Resumes(seat, queue) => Sentence::of_two(
+                "seat ",
+                number(seat),
+                " has to resume from ",
+                Gap::Word(queue_word(queue)),
+                " first",
+            ),
+            Why::Active(seat, other) => Sentence::of_two(
+                "seat ",
+                number(seat),
+                " isn't next, since seat ",
+                number(other),
+                " is active",
+            ),
+            Why::Already(seat) => Sentence::of_one("seat ", number(seat), " is active already"),
+            Why::Inside(seat) => Sentence::of_one("seat ", number(seat), " is inside already"),
+            Why::NotFree(seat) => Sentence::of_one(
+                "seat ",
+                number(seat),
+                " can't find the monitor free, since somebody inside could go on",
+            ),
+            Why::FirstOfAll(seat) => Sentence::of_one(
+                "nobody came before seat ",
+                number(seat),
+                " who could hand the monitor over",
+            ),
+            Why::Replies(right, wrong) => Sentence::of_two(
+                "the object replies ",
+                Gap::Number(right),
+                " and not ",
+                Gap::Number(wrong),
+                "",
+            ),
+            Why::NobodyWaits(cond, seat) => Sentence::of_two(
+                "seat ",
+                number(seat),
+                " has to stay active, since nobody waits on condition ",
+                number(cond),
+                "",
+            ),
+            Why::HoldsAlready(pred, seat) => Sentence::of_two(
+                "seat ",
+                number(seat),
+                " has to stay active, since predicate ",
+                number(pred),
+                " holds already",
+            ),
+            Why::GivesUp(seat) => Sentence::of_one(
+                "seat ",
+                number(seat),
+                " can't stay active, since its call gives the monitor up",
+            ),
+            Why::MustYield(seat, kind) => Sentence::of_two(
+                "seat ",
+                number(seat),
+                " can't stay active, since ",
+                Gap::Word(kind_word(kind)),
+                " puts waiters above signallers",
+            ),
+            Why::MustStay(seat, kind) => Sentence::of_two(
+                "seat ",
+                number(seat),
+                " has to stay active, since ",
+                Gap::Word(kind_word(kind)),
+                " puts signallers above waiters",
+            ),
+            Why::StepsBehind(seat, other) => Sentence::of_two(
+                "seat ",
+                number(seat),
+                " can't stay active, since seat ",
+                number(other),
+                " is before it in the signaller queue",
+            ),
+            Why::NotFirst(seat, queue) => Sentence::of_two(
+                "seat ",
+                number(seat),
+                " isn't the first of the ",
+                Gap::Word(queue_word(queue)),
+                " queue",
+            ),
+            Why::NotReady(seat) => Sentence::of_one(
+                "seat ",
+                number(seat),
+                " isn't the first of those whose predicate holds",
+            ),
+            Why::OwnSignal(seat) => Sentence::of_one(
+                "seat ",
+                number(seat),
+                " goes on after its own signal by staying active",
+            ),
+            Why::NoUntils(kind) => Sentence::of_one(
+                "",
+                Gap::Word(kind_word(kind)),
+                " monitors have nobody who waits until a predicate holds",
+            ),
+            Why::WaitersFirst(seat, kind) => Sentence::of_two(
+                "waiter ",
+                number(seat),
+                " has to go on first, since ",
+                Gap::Word(kind_word(kind)),
+                " puts waiters above signallers",
+            ),
+            Why::SignallersFirst(seat, kind) => Sentence::of_two(
+                "signaller ",
+                number(seat),
+                " has to go on first, since ",
+                Gap::Word(kind_word(kind)),
+                " puts signallers above waiters",
+            ),
+            Why::WaitersBeforeEntry(seat, kind) => Sentence::of_two(
+                "waiter ",
+                number(seat),
+                " has to go on first, since ",
+                Gap::Word(kind_word(kind)),
+                " puts waiters above entry",
+            ),
+            Why::SignallersBeforeEntry(seat, kind) => Sentence::of_two(
+                "signaller ",
+                number(seat),
+                " has to go on first, since ",
+                Gap::Word(kind_word(kind)),
+                " puts signallers above entry",
+            ),
+            Why::ReadyBeforeEntry(seat, kind) => Sentence::of_two(
+                "seat ",
+                number(seat),
+                " has to go on first, since its predicate holds and ",
+                Gap::Word(kind_word(kind)),
+                " puts it above entry",
+            ),
+        }
+    }
+}
+
 impl fmt::Display for Why {
     ghost output = { λ w. Some (why_text w) };
 
     fn fmt<W: fmt::Write>(&self, f: &mut fmt::Formatter<W>) -> fmt::Result {
-        match *self {
-            Why::NoSeat(seat, seats) => {
-                write!(
-                    f,
-                    "there is no seat {seat}, since the {seats} seats are counted from 0"
-                )
-            }
-            Why::NoCondition(cond, conds) => write!(
-                f,
-                "there is no condition {cond}, since the {conds} conditions are counted from 0"
-            ),
-            Why::NoOperation(code) => write!(f, "the object has no operation {code}"),
-            Why::NoPredicate(pred) => write!(f, "the object has no predicate {pred}"),
-            Why::NoCall(kind) => write!(f, "{} monitors have no such call", kind_word(kind)),
-            Why::Open(seat) => {
-                write!(
-                    f,
-                    "seat {seat} isn't active, since the monitor is open to whoever enters next"
-                )
-            }
-            Why::Due(seat, other, queue) => write!(
-                f,
-                "seat {seat} isn't next, since seat {other} has to resume from {} first",
-                queue_word(queue)
-            ),
-            Why::Resumes(seat, queue) => {
-                write!(
-                    f,
-                    "seat {seat} has to resume from {} first",
-                    queue_word(queue)
-                )
-            }
-            Why::Active(seat, other) => {
-                write!(f, "seat {seat} isn't next, since seat {other} is active")
-            }
-            Why::Already(seat) => write!(f, "seat {seat} is active already"),
-            Why::Inside(seat) => write!(f, "seat {seat} is inside already"),
-            Why::NotFree(seat) => write!(
-                f,
-                "seat {seat} can't find the monitor free, since somebody inside could go on"
-            ),
-            Why::FirstOfAll(seat) => {
-                write!(
-                    f,
-                    "nobody came before seat {seat} who could hand the monitor over"
-                )
-            }
-            Why::Replies(right, wrong) => write!(f, "the object replies {right} and not {wrong}"),
-            Why::NobodyWaits(cond, seat) => write!(
-                f,
-                "seat {seat} has to stay active, since nobody waits on condition {cond}"
-            ),
-            Why::HoldsAlready(pred, seat) => write!(
-                f,
-                "seat {seat} has to stay active, since predicate {pred} holds already"
-            ),
-            Why::GivesUp(seat) => {
-                write!(
-                    f,
-                    "seat {seat} can't stay active, since its call gives the monitor up"
-                )
-            }
-            Why::MustYield(seat, kind) => write!(
-                f,
-                "seat {seat} can't stay active, since {} puts waiters above signallers",
-                kind_word(kind)
-            ),
-            Why::MustStay(seat, kind) => write!(
-                f,
-                "seat {seat} has to stay active, since {} puts signallers above waiters",
-                kind_word(kind)
-            ),
-            Why::StepsBehind(seat, other) => write!(
-                f,
-                "seat {seat} can't stay active, since seat {other} is before it in the signaller queue"
-            ),
-            Why::NotFirst(seat, queue) => {
-                write!(
-                    f,
-                    "seat {seat} isn't the first of the {} queue",
-                    queue_word(queue)
-                )
-            }
-            Why::NotReady(seat) => {
-                write!(
-                    f,
-                    "seat {seat} isn't the first of those whose predicate holds"
-                )
-            }
-            Why::OwnSignal(seat) => {
-                write!(
-                    f,
-                    "seat {seat} goes on after its own signal by staying active"
-                )
-            }
-            Why::NoUntils(kind) => write!(
-                f,
-                "{} monitors have nobody who waits until a predicate holds",
-                kind_word(kind)
-            ),
-            Why::WaitersFirst(seat, kind) => write!(
-                f,
-                "waiter {seat} has to go on first, since {} puts waiters above signallers",
-                kind_word(kind)
-            ),
-            Why::SignallersFirst(seat, kind) => write!(
-                f,
-                "signaller {seat} has to go on first, since {} puts signallers above waiters",
-                kind_word(kind)
-            ),
-            Why::WaitersBeforeEntry(seat, kind) => write!(
-                f,
-                "waiter {seat} has to go on first, since {} puts waiters above entry",
-                kind_word(kind)
-            ),
-            Why::SignallersBeforeEntry(seat, kind) => write!(
-                f,
-                "signaller {seat} has to go on first, since {} puts signallers above entry",
-                kind_word(kind)
-            ),
-            Why::ReadyBeforeEntry(seat, kind) => write!(
-                f,
-                "seat {seat} has to go on first, since its predicate holds and {} puts it above entry",
-                kind_word(kind)
-            ),
-        }
+        write!(f, "{}", self.sentence())
     }
+}
+
+/// A gap with that number.
+fn number(number: u8) -> Gap
+    ensures { gap_text result ≡ decimal number }
+{
+    Gap::Number(u64::from(number))
 }
