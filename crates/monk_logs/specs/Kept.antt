@@ -10,8 +10,8 @@ kept_events Dropped = None
 kept_events (Kept events) = Some events.items
 
 -- the same with more events
-abbrev pub grown : Option (List Event) → List Event → Option (List Event)
-grown o more = option_map (λ h. h ++ more) o
+abbrev pub kept_with : Option (List Event) → List Event → Option (List Event)
+kept_with o more = option_map (λ h. h ++ more) o
 
 -- these, if any are wanted
 abbrev pub kept_if : Bool → List Event → Option (List Event)

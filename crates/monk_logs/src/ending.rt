@@ -11,7 +11,7 @@ ghost use Rattle.monk_history.specs.Meaning.Untils.{ready_of};
 ghost use Rattle.monk_audit.specs.Replay.{IsReplayOf, replay_situation};
 ghost use Rattle.monk_logs.specs.Completion as completion;
 ghost use Rattle.monk_logs.specs.Ending as ending;
-ghost use Rattle.monk_logs.specs.Kept.{grown, kept_events};
+ghost use Rattle.monk_logs.specs.Kept.{kept_events, kept_with};
 
 use crate::past::Past;
 use crate::pending::Pending;
@@ -214,7 +214,7 @@ pub(crate) fn end<T: Guarded>(
 ) -> Result<(), AllocError>
     requires sound { IsReplayOf setting.seats setting.conds T.PREDICATES replay.now }
     requires fits { (e : Event) → ending.last_release pending ≡ Some e → fits_object T.CODES T.PREDICATES e ≡ true }
-    ensures { OnOk result (kept_events past.new ≡ grown (kept_events past.old)
+    ensures { OnOk result (kept_events past.new ≡ kept_with (kept_events past.old)
         (ending.last_events setting.rules T.meaning (replay_situation replay.now (T.state object.now)) pending)) }
 {
     if !past.is_kept() {

@@ -2,7 +2,7 @@
 
 ghost use Rattle.std.specs.Prelude.{◌≡◌, List, Some, [], ◌∷◌, OnOk, is_some};
 ghost use Rattle.monk_history.specs.declared.event.Event.{Event};
-ghost use Rattle.monk_logs.specs.Kept.{grown, kept_events};
+ghost use Rattle.monk_logs.specs.Kept.{kept_events, kept_with};
 
 use monk_history::Event;
 use std::alloc::{AllocError, Global};
@@ -26,7 +26,7 @@ impl Past {
 
     /// Adds an event at the end, where events are kept.
     pub(crate) fn add(&mut self, event: Event) -> Result<(), AllocError>
-        ensures { OnOk result (kept_events self.new ≡ grown (kept_events self.old) (event ∷ [])) }
+        ensures { OnOk result (kept_events self.new ≡ kept_with (kept_events self.old) (event ∷ [])) }
     {
         match self {
             Past::Kept(events) => {

@@ -7,7 +7,7 @@ ghost use Rattle.monk_history.specs.Meaning.Release.{MayCallIn};
 ghost use Rattle.monk_audit.specs.Replay.{IsReplayOf, replay_situation};
 ghost use Rattle.monk_logs.specs.Blame as blames;
 ghost use Rattle.monk_logs.specs.Course as course;
-ghost use Rattle.monk_logs.specs.Kept.{grown, kept_events};
+ghost use Rattle.monk_logs.specs.Kept.{kept_events, kept_with};
 ghost use Rattle.monk_logs.specs.Stand as stands;
 ghost use Rattle.monk_logs.specs.Stand.{IsHeld, monitor_in, stand_or};
 ghost use Rattle.monk_logs.specs.Told.{line_events, told_events};
@@ -42,7 +42,7 @@ fn add<T: Guarded>(
         (λ r. (if r == 0 then Ok (replay_situation replay.new (T.state object.new)) else Err r)
         ≡ stands.add_to (monitor_in setting T.meaning) (replay_situation replay.old (T.state object.old)) event) }
     ensures sound { OnOk result (IsReplayOf setting.seats setting.conds T.PREDICATES replay.new) }
-    ensures kept { OnOk result (kept_events past.new ≡ grown (kept_events past.old) (event ∷ [])) }
+    ensures kept { OnOk result (kept_events past.new ≡ kept_with (kept_events past.old) (event ∷ [])) }
 {
     past.add(event)?;
     replay.carry_out(setting.rules, object, setting.conds, event)
@@ -61,7 +61,7 @@ fn settle<T: Guarded>(
         (λ v. stand_or (replay_situation replay.new (T.state object.new)) v
         ≡ stands.settle (monitor_in setting T.meaning) (replay_situation replay.old (T.state object.old)) event) }
     ensures sound { OnOk result (IsReplayOf setting.seats setting.conds T.PREDICATES replay.new) }
-    ensures kept { OnOk result (kept_events past.new ≡ grown (kept_events past.old) (event ∷ [])) }
+    ensures kept { OnOk result (kept_events past.new ≡ kept_with (kept_events past.old) (event ∷ [])) }
 {
     let reason = add(setting, replay, object, past, event)?;
     if reason == ALLOWED {
@@ -171,7 +171,7 @@ fn line_settled<T: Guarded>(
         ≡ stands.line_settled (monitor_in setting T.meaning) (replay_situation replay.old (T.state object.old)) line) }
     ensures sound { OnOk result (IsReplayOf setting.seats setting.conds T.PREDICATES replay.new) }
     ensures kept { OnOk result
-        (kept_events past.new ≡ grown (kept_events past.old) (line_events (replay_situation replay.old (T.state object.old)) line)) }
+        (kept_events past.new ≡ kept_with (kept_events past.old) (line_events (replay_situation replay.old (T.state object.old)) line)) }
 {
     match line {
         LogLine::Enter(seat) => {
@@ -276,7 +276,7 @@ fn line_told<T: Guarded>(
     ensures sound { OnOk result (IsReplayOf setting.seats setting.conds T.PREDICATES replay.new) }
     ensures kept { IfOk result
         (λ v. (left : Pending) → v ≡ LineVerdict.Fits left → kept_events past.new
-        ≡ grown (kept_events past.old)
+        ≡ kept_with (kept_events past.old)
         (told_events T.meaning (replay_situation replay.old (T.state object.old)) (Pending.Release event) line)) }
 {
     let told = told_release(replay, event, line);
@@ -305,7 +305,7 @@ pub(crate) fn line_behind<T: Guarded>(
     ensures sound { OnOk result (IsReplayOf setting.seats setting.conds T.PREDICATES replay.new) }
     ensures kept { IfOk result
         (λ v. (left : Pending) → v ≡ LineVerdict.Fits left → kept_events past.new
-        ≡ grown (kept_events past.old) (told_events T.meaning (replay_situation replay.old (T.state object.old)) pending line)) }
+        ≡ kept_with (kept_events past.old) (told_events T.meaning (replay_situation replay.old (T.state object.old)) pending line)) }
 {
     match pending {
         Pending::Settled => line_settled(setting, replay, object, past, line),

@@ -23,7 +23,7 @@ use Rattle.monk_logs.specs.Completion.{Completes, IsCompletedBy, other_half, unw
 use Rattle.monk_logs.specs.Course.{course}
 use Rattle.monk_logs.specs.Ending.{last_events, last_release}
 use Rattle.monk_logs.specs.Erasure.{erasure_of, erasure}
-use Rattle.monk_logs.specs.Kept.{grown}
+use Rattle.monk_logs.specs.Kept.{kept_with}
 use Rattle.monk_logs.specs.Stand.{IsHeld}
 use Rattle.monk_logs.specs.declared.line.LogLine.{LogLine}
 use Rattle.monk_logs.specs.declared.line.LogLine.TheVariants.{Leave, Signal}
@@ -164,7 +164,7 @@ tells_completes m log past (Release e) kind t =
 -- ---- what is kept
 
 pub course_ends : (m : Monitor) (log : List LogLine) (t : Situation) (p : Pending) (b : Bool) (o new : Option (List Event))
-    → IsKind m.kind → IsCourse m log t p b o → new ≡ grown o (last_events m.kind m.object t p) → IsCompletedBy m log b new
+    → IsKind m.kind → IsCourse m log t p b o → new ≡ kept_with o (last_events m.kind m.object t p) → IsCompletedBy m log b new
 course_ends m log t p b o new kind c is =
     let more = last_events m.kind m.object t p in
     record {

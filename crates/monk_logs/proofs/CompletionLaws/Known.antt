@@ -22,7 +22,7 @@ use Rattle.monk_history.specs.Meaning.Turn.{turn}
 use Rattle.monk_history.proofs.PublicLaws.Meaning.{legal_situation-push, situation-none}
 use Rattle.monk_logs.specs.Course.{Course, course, settled_course, add, hold, behind_events, behind_half, then_behind, behind, judge}
 use Rattle.monk_logs.specs.Course.{due_from, told_release}
-use Rattle.monk_logs.specs.Kept.{IsKept, grown, kept_if}
+use Rattle.monk_logs.specs.Kept.{IsKept, kept_if, kept_with}
 use Rattle.monk_logs.specs.Stand.{Stand, stand, stand_or, line_behind}
 use Rattle.monk_logs.specs.Told.{line_events, told_events}
 use Rattle.monk_logs.specs.declared.blame.LineVerdict.{LineVerdict}
@@ -128,13 +128,13 @@ course_opens m t o is keeps = record {
   keeps = fresh o keeps;
 }
 
-grows : (b : Bool) (h more : List Event) → grown (kept_if b h) more ≡ kept_if b (h ++ more)
+grows : (b : Bool) (h more : List Event) → kept_with (kept_if b h) more ≡ kept_if b (h ++ more)
 grows true h more = refl
 grows false h more = refl
 
-pub keeps_more : (b : Bool) (o new : Option (List Event)) (h more : List Event) → o ≡ kept_if b h → new ≡ grown o more
+pub keeps_more : (b : Bool) (o new : Option (List Event)) (h more : List Event) → o ≡ kept_if b h → new ≡ kept_with o more
     → new ≡ kept_if b (h ++ more)
-keeps_more b o new h more k is = is ∙ ap (λ (x : Option (List Event)). grown x more) k ∙ grows b h more
+keeps_more b o new h more k is = is ∙ ap (λ (x : Option (List Event)). kept_with x more) k ∙ grows b h more
 
 standing : (m : Monitor) (o : Option Course) (s : Stand) → option_map (stand_at m) o ≡ Some s
     → (d : Course) × (o ≡ Some d) × (stand_at m d ≡ s)
@@ -150,7 +150,7 @@ line_there m known p q l t u legal stands is =
 
 course_line : (m : Monitor) (front : List LogLine) (l : LogLine) (t u : Situation) (p q : Pending) (b : Bool)
     (o new : Option (List Event)) → IsCourse m front t p b o → Ok (stand u q) ≡ line_behind m t p l
-    → new ≡ grown o (told_events m.object t p l)
+    → new ≡ kept_with o (told_events m.object t p l)
     → IsCourse m (front ++ l ∷ []) u q b new
 course_line m front l t u p q b o new c is kept =
     let legal = judged_legal m front (course c.known p) c.judged in
@@ -172,7 +172,7 @@ pub course_goes : (k : Rules) (seats conds : ℕ) (x : Object) (d : List ℕ) (l
     (t u : Situation) (p q : Pending) (left : LineVerdict) (b : Bool) (o new : Option (List Event)) → i < length log
     → IsCourse (monitor k seats conds x d) (take i log) t p b o
     → stand_or u left ≡ line_behind (monitor k seats conds x []) t p (get_or log i l) → left ≡ line.Fits q
-    → new ≡ grown o (told_events x t p (get_or log i l))
+    → new ≡ kept_with o (told_events x t p (get_or log i l))
     → IsCourse (monitor k seats conds x d) (take (i + 1) log) u q b new
 course_goes k seats conds x d log i l t u p q left b o new within c is fits kept =
     subst (λ (front : List LogLine). IsCourse (monitor k seats conds x d) front u q b new) (sym (take_more log i l within))

@@ -6,7 +6,7 @@ use Rattle.monk_history.specs.declared.event.From3.{From3}
 use Rattle.monk_history.specs.declared.event.Via.{Via}
 use Rattle.monk_audit.specs.Replay.{replay_situation}
 use Rattle.monk_logs.specs.Course.{due_from}
-use Rattle.monk_logs.specs.Kept.{grown, kept_events}
+use Rattle.monk_logs.specs.Kept.{kept_events, kept_with}
 use Rattle.monk_logs.specs.Stand.{line_settled, monitor_in, settle}
 use Rattle.monk_logs.specs.Told.{line_events}
 use Rattle.monk_logs.proofs.StepLaws.{ok_same}
@@ -34,7 +34,7 @@ pub returns-in-Enter-clause-kept : goal.returns-in-Enter-clause-kept
 returns-in-Enter-clause-kept g c =
     let state = g.T.Guarded.state c.args.object.now in
     let t = replay_situation c.args.replay.now state in
-    subst (λ (more : List Event). OnOk c.settle.result (kept_events c.settle.new.past ≡ grown (kept_events c.args.past.now) more))
+    subst (λ (more : List Event). OnOk c.settle.result (kept_events c.settle.new.past ≡ kept_with (kept_events c.args.past.now) more))
     (ap (λ (v : Via). event.Enter c.in-Enter.seat v ∷ []) (c.via_now.ensures state)
     ∙ ap (line_events t) (sym c.in-Enter.is)) c.settle.ensures.kept
 
@@ -43,6 +43,6 @@ returns-in-Resume-clause-kept g c =
     let state = g.T.Guarded.state c.args.object.now in
     let t = replay_situation c.args.replay.now state in
     subst (λ (more : List Event). OnOk c.settle-in-Resume.result
-    (kept_events c.settle-in-Resume.new.past ≡ grown (kept_events c.args.past.now) more))
+    (kept_events c.settle-in-Resume.new.past ≡ kept_with (kept_events c.args.past.now) more))
     (ap (λ (q : From3). event.Resume c.in-Resume.seat q ∷ []) (c.due_from.ensures ∙ ap due_from (c.turn.ensures state))
     ∙ ap (line_events t) (sym c.in-Resume.is)) c.settle-in-Resume.ensures.kept

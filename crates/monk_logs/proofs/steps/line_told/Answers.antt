@@ -2,7 +2,7 @@ use Rattle.std.proofs.Common.{◌≡◌, ◌∙◌, sym, not}
 use Rattle.std.proofs.lemmas.Result.{IfOk-weaker}
 use Rattle.monk_audit.specs.Replay.{replay_situation}
 use Rattle.monk_logs.specs.Blame.{is_lapse}
-use Rattle.monk_logs.specs.Kept.{grown, kept_events}
+use Rattle.monk_logs.specs.Kept.{kept_events, kept_with}
 use Rattle.monk_logs.specs.Stand.{monitor_in}
 use Rattle.monk_logs.specs.Told.{line_events, told_events}
 use Rattle.monk_logs.specs.declared.blame.LineVerdict.{LineVerdict}
@@ -52,9 +52,9 @@ returns-clause-kept g c =
     let follows = sym c.follows.ensures ∙ c.if-not-follows.false in
     let was = kept_events c.args.past.now in
     let is = kept_events c.line_settled.new.past in
-    IfOk-weaker c.line_settled.result (λ (v : LineVerdict). is ≡ grown (kept_events c.add.new.past) (line_events u c.args.line))
+    IfOk-weaker c.line_settled.result (λ (v : LineVerdict). is ≡ kept_with (kept_events c.add.new.past) (line_events u c.args.line))
     (λ (v : LineVerdict). (left : Pending) → v ≡ verdict.Fits left
-    → is ≡ grown was (told_events o t (Release c.args.event) c.args.line))
+    → is ≡ kept_with was (told_events o t (Release c.args.event) c.args.line))
     (λ v more left fits. told_kept m t u c.args.event c.told_release-told.result c.args.line
     was (kept_events c.add.new.past) is (c.told_release-told.ensures o state)
     (lands m t u c.told_release-told.result c.in_ok-add.field-0 c.in_ok-add.ensures.added
