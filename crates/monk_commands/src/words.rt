@@ -4,12 +4,12 @@ ghost use Rattle.std.specs.Prelude.{◌≡◌, IfOk, IfSome, Some, codes, false,
 ghost use Rattle.monk_kinds.specs.Names.{kind_word};
 ghost use Rattle.monk_object.specs.Names.{object_word};
 ghost use Rattle.clap.specs.Words.{App, all_of, app_of, first_of, first_value, found_of, rows_of, rule_of, subcommand_of};
-ghost use Rattle.clap.specs.Words.{subcommand_rows_of};
+ghost use Rattle.clap.specs.Words.{subcommand_rows_of, with_subcommand};
 ghost use Rattle.monk_logs.specs.declared.lapses.Lapses.{Lapses};
 ghost use Rattle.monk_samples.specs.Samples.{IsInRange, sample_object};
 ghost use Rattle.monk_commands.specs.Request.{AreLapses, AreMeanings, AreRunValues, IsAsked, IsCompleteCommand, IsInDigits};
 ghost use Rattle.monk_commands.specs.Request.{IsMeaning, IsMonk, IsRead, IsRunCommand, IsSubcommand, words_or_none};
-ghost use Rattle.monk_commands.specs.Request.{classify_app, file_app, fit_app, flag_rule, plain_app};
+ghost use Rattle.monk_commands.specs.Request.{bare_app, classify_app, file_app, fit_app, flag_rule, plain_app};
 ghost use Rattle.monk_commands.specs.Request.{repeated_rule, required_rule};
 
 use crate::help::{
@@ -37,39 +37,55 @@ const VERSION: &str = "1.0.0";
 fn command<'a>(alloc: Global) -> Result<Command<'a>, AllocError>
     ensures { IfOk result (λ c. IsMonk (app_of c)) }
 {
-    let complete = completing(alloc)?;
-    let run = running(alloc, "run", &RUN)?;
-    let record = running(alloc, "record", &RECORD)?;
-    plain(alloc)?
-        .subcommand(complete)?
-        .subcommand(run)?
-        .subcommand(record)
+    let program = plain(alloc)?;
+    let program = program.subcommand(completing(alloc)?)?;
+    let program = program.subcommand(running(alloc, "run", &RUN)?)?;
+    program.subcommand(running(alloc, "record", &RECORD)?)
 }
 
 /// The program with the commands that take no kind.
 fn plain<'a>(alloc: Global) -> Result<Command<'a>, AllocError>
     ensures { IfOk result (λ c. app_of c ≡ plain_app) }
 {
-    let classify = classify(alloc)?;
-    let audit = with_file(alloc, "audit", &AUDIT)?;
-    let play = with_file(alloc, "play", &PLAY)?;
-    let upgrade = with_file(alloc, "upgrade", &UPGRADE)?;
-    let fit = fitting(alloc)?;
-    let trace = with_file(alloc, "trace", &TRACE)?;
-    let explain = with_file(alloc, "explain", &EXPLAIN)?;
-    let draw = with_file(alloc, "draw", &DRAW)?;
-    Command::new(alloc, "monk")
-        .bin_name("monk")?
-        .version(VERSION)
-        .subcommand_required(true)
-        .subcommand(classify)?
-        .subcommand(audit)?
-        .subcommand(play)?
-        .subcommand(upgrade)?
-        .subcommand(fit)?
-        .subcommand(trace)?
-        .subcommand(explain)?
-        .subcommand(draw)
+    let program = with_classify(alloc, bare(alloc)?)?;
+    let program = with_reader(alloc, program, "audit", &AUDIT)?;
+    let program = with_reader(alloc, program, "play", &PLAY)?;
+    let program = with_reader(alloc, program, "upgrade", &UPGRADE)?;
+    let program = with_fit(alloc, program)?;
+    let program = with_reader(alloc, program, "trace", &TRACE)?;
+    let program = with_reader(alloc, program, "explain", &EXPLAIN)?;
+    with_reader(alloc, program, "draw", &DRAW)
+}
+
+/// The program without commands.
+fn bare<'a>(alloc: Global) -> Result<Command<'a>, AllocError>
+    ensures { IfOk result (λ c. app_of c ≡ bare_app) }
+{
+    let program = Command::new(alloc, "monk").bin_name("monk")?;
+    Ok(program.version(VERSION).subcommand_required(true))
+}
+
+fn with_classify<'a>(alloc: Global, program: Command<'a>) -> Result<Command<'a>, AllocError>
+    ensures { IfOk result (λ c. app_of c ≡ with_subcommand (app_of program.entry) classify_app.top) }
+{
+    program.subcommand(classify(alloc)?)
+}
+
+fn with_fit<'a>(alloc: Global, program: Command<'a>) -> Result<Command<'a>, AllocError>
+    ensures { IfOk result (λ c. app_of c ≡ with_subcommand (app_of program.entry) fit_app.top) }
+{
+    program.subcommand(fitting(alloc)?)
+}
+
+fn with_reader<'a>(
+    alloc: Global,
+    program: Command<'a>,
+    name: &'a str,
+    help: &Help,
+) -> Result<Command<'a>, AllocError>
+    ensures { IfOk result (λ c. app_of c ≡ with_subcommand (app_of program.entry) (file_app name.entry.now).top) }
+{
+    program.subcommand(with_file(alloc, name, help)?)
 }
 
 fn classify<'a>(alloc: Global) -> Result<Command<'a>, AllocError>
