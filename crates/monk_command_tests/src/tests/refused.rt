@@ -1,4 +1,26 @@
-//! Calls where a request for memory may be refused. `checks/fail_alloc` refuses each in turn.
+//! Calls where a request for memory may be refused. `checks/fail_alloc` refuses each request in turn.
 
 mod halls;
 mod streams;
+
+use std::test::Fail;
+use streams::{JOBS, is_answered, is_drawn};
+
+/// Names the call that is made next, so that it can be seen in which one a request was refused.
+fn begins(rt: &HostRuntime, call: &str) -> Result<(), Fail> {
+    println!(rt; "{call}")?;
+    Ok(())
+}
+
+/// Each call has its answer, or hands on its fault.
+#[test]
+fn each_call(rt: HostRuntime) -> Result<(), Fail> {
+    assert!(rt; halls::hall(&rt)?);
+    for job in JOBS.iter() {
+        begins(&rt, job.name)?;
+        assert!(rt; is_answered(&rt, job)?);
+    }
+    begins(&rt, "drawn")?;
+    assert!(rt; is_drawn(&rt)?);
+    Ok(())
+}

@@ -1,9 +1,9 @@
-ghost use Rattle.std.specs.Prelude.{◌≤◌, ◌^◌, length};
-
-use monk_audit::{AuditFault, Verdict, audit};
+use super::begins;
+use monk_audit::{Verdict, audit};
 use monk_history::{Event, From3, Header, Next, Via};
 use monk_kinds::KindName;
 use monk_object::{ObjectName, Op};
+use std::test::Fail;
 
 /// Two seats wait, one signals, and both queues are taken from: each list of the audit grows but that of the untils.
 const SIGNALS: [Event; 10] = [
@@ -39,57 +39,28 @@ const UNTILS: [Event; 6] = [
     Event::Resume(0, From3::Until),
 ];
 
-/// The verdict on a history of three seats over a buffer, or the fault.
-fn told(
-    rt: &HostRuntime,
-    kind: KindName,
-    conds: u8,
-    events: &[Event],
-) -> Result<Verdict, AuditFault>
-    requires { length events.now ≤ 2 ^ 25 }
-{
+/// The header of a history of three seats over a buffer.
+fn header(kind: KindName, conds: u8) -> Result<Header, Fail> {
     match Header::new(kind, 3, conds, ObjectName::Buffer, 1) {
-        Some(header) => audit(rt.alloc(), &header, events),
-        None => Ok(Verdict::Legal(0)),
+        Some(header) => Ok(header),
+        None => Err(Fail::new("no header")),
     }
 }
 
-/// Whether it is that verdict, or the memory fault.
-fn is_or_memory(told: Result<Verdict, AuditFault>, verdict: Verdict) -> bool {
-    match told {
-        Ok(found) => found == verdict,
-        Err(fault) => fault == AuditFault::Memory,
-    }
+pub(super) fn signals(rt: &HostRuntime) -> Result<bool, Fail> {
+    begins(rt, "signals")?;
+    let verdict = audit(rt.alloc(), &header(KindName::Pb, 2)?, &SIGNALS)?;
+    Ok(verdict == Verdict::Legal(10))
 }
 
-#[test]
-fn signals_with_ample_memory(rt: HostRuntime) {
-    assert!(rt; told(&rt, KindName::Pb, 2, &SIGNALS) == Ok(Verdict::Legal(10)));
+pub(super) fn returns(rt: &HostRuntime) -> Result<bool, Fail> {
+    begins(rt, "returns")?;
+    let verdict = audit(rt.alloc(), &header(KindName::Pir, 1)?, &RETURNS)?;
+    Ok(verdict == Verdict::Forbidden { step: 6, reason: 6 })
 }
 
-#[test]
-fn signals_or_refused_memory(rt: HostRuntime) {
-    assert!(rt; is_or_memory(told(&rt, KindName::Pb, 2, &SIGNALS), Verdict::Legal(10)));
-}
-
-#[test]
-fn returns_with_ample_memory(rt: HostRuntime) {
-    let verdict = Verdict::Forbidden { step: 6, reason: 6 };
-    assert!(rt; told(&rt, KindName::Pir, 1, &RETURNS) == Ok(verdict));
-}
-
-#[test]
-fn returns_or_refused_memory(rt: HostRuntime) {
-    let verdict = Verdict::Forbidden { step: 6, reason: 6 };
-    assert!(rt; is_or_memory(told(&rt, KindName::Pir, 1, &RETURNS), verdict));
-}
-
-#[test]
-fn untils_with_ample_memory(rt: HostRuntime) {
-    assert!(rt; told(&rt, KindName::Pis, 0, &UNTILS) == Ok(Verdict::Legal(6)));
-}
-
-#[test]
-fn untils_or_refused_memory(rt: HostRuntime) {
-    assert!(rt; is_or_memory(told(&rt, KindName::Pis, 0, &UNTILS), Verdict::Legal(6)));
+pub(super) fn untils(rt: &HostRuntime) -> Result<bool, Fail> {
+    begins(rt, "untils")?;
+    let verdict = audit(rt.alloc(), &header(KindName::Pis, 0)?, &UNTILS)?;
+    Ok(verdict == Verdict::Legal(6))
 }

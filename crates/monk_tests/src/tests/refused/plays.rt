@@ -1,4 +1,7 @@
+use super::begins;
+use monk_history::ReadFault;
 use monk_world::{Command, read_play};
+use std::test::Fail;
 
 /// Seventeen commands, so that the list of them grows several times.
 const LONG: &[u8] =
@@ -8,18 +11,17 @@ const LONG: &[u8] =
 const FAULTY: &[u8] =
     b"play 1 PB 2 2 buffer 1 8\n0 arrive\n1 look\n0 arrive\n1 look\n0 arrive\n1 look\n0 arrive\n1 look\n0 arrive\n1 look\n0 arrive\n1 look\n0 arrive\n1 look\n0 arrive\n1 look\n0 arrive 1\n";
 
-const MEMORY: (u8, u32) = (6, 0);
-
 /// What is told of the text: 0 and the number of commands where these are the right ones, else the fault.
-fn told(rt: &HostRuntime, bytes: &[u8]) -> (u8, u32) {
+fn told(rt: &HostRuntime, bytes: &[u8]) -> Result<(u8, u32), ReadFault> {
     match read_play(rt.alloc(), bytes) {
         Ok((header, budget, commands)) => {
             if header.seats() != 2 || budget != 8 || !alternate(&commands) {
-                return (255, 0);
+                return Ok((255, 0));
             }
-            (0, u32::try_from(commands.len()).unwrap_or(0))
+            Ok((0, u32::try_from(commands.len()).unwrap_or(0)))
         }
-        Err(fault) => (fault.number, fault.line),
+        Err(fault) if fault.number == ReadFault::MEMORY => Err(fault),
+        Err(fault) => Ok((fault.number, fault.line)),
     }
 }
 
@@ -38,24 +40,12 @@ fn alternate(commands: &[(u8, Command)]) -> bool {
     true
 }
 
-#[test]
-fn play_with_ample_memory(rt: HostRuntime) {
-    assert!(rt; told(&rt, LONG) == (0, 17));
+pub(super) fn play(rt: &HostRuntime) -> Result<bool, Fail> {
+    begins(rt, "play")?;
+    Ok(told(rt, LONG)? == (0, 17))
 }
 
-#[test]
-fn play_or_refused_memory(rt: HostRuntime) {
-    let told = told(&rt, LONG);
-    assert!(rt; told == (0, 17) || told == MEMORY);
-}
-
-#[test]
-fn faulty_play_with_ample_memory(rt: HostRuntime) {
-    assert!(rt; told(&rt, FAULTY) == (2, 18));
-}
-
-#[test]
-fn faulty_play_or_refused_memory(rt: HostRuntime) {
-    let told = told(&rt, FAULTY);
-    assert!(rt; told == (2, 18) || told == MEMORY);
+pub(super) fn faulty_play(rt: &HostRuntime) -> Result<bool, Fail> {
+    begins(rt, "faulty_play")?;
+    Ok(told(rt, FAULTY)? == (2, 18))
 }

@@ -1,4 +1,6 @@
-use monk_history::{Event, Next, Via, read};
+use super::begins;
+use monk_history::{Event, Next, ReadFault, Via, read};
+use std::test::Fail;
 
 /// Seventeen events, so that the list of them grows several times.
 const LONG: &[u8] =
@@ -8,18 +10,17 @@ const LONG: &[u8] =
 const FAULTY: &[u8] =
     b"monk 1 PB 2 2 buffer 1\nenter 0 free\nleave 0 entry\nenter 0 free\nleave 0 entry\nenter 0 free\nleave 0 entry\nenter 0 free\nleave 0 entry\nenter 0 free\nleave 0 entry\nenter 0 free\nleave 0 entry\nenter 0 free\nleave 0 entry\nenter 0 free\nleave 0 entry\nenter 0 free 1\n";
 
-const MEMORY: (u8, u32) = (6, 0);
-
 /// What is told of the text: 0 and the number of events where these are the right ones, else the fault.
-fn told(rt: &HostRuntime, bytes: &[u8]) -> (u8, u32) {
+fn told(rt: &HostRuntime, bytes: &[u8]) -> Result<(u8, u32), ReadFault> {
     match read(rt.alloc(), bytes) {
         Ok((header, events)) => {
             if header.seats() != 2 || !alternate(&events) {
-                return (255, 0);
+                return Ok((255, 0));
             }
-            (0, u32::try_from(events.len()).unwrap_or(0))
+            Ok((0, u32::try_from(events.len()).unwrap_or(0)))
         }
-        Err(fault) => (fault.number, fault.line),
+        Err(fault) if fault.number == ReadFault::MEMORY => Err(fault),
+        Err(fault) => Ok((fault.number, fault.line)),
     }
 }
 
@@ -40,24 +41,12 @@ fn alternate(events: &[Event]) -> bool {
     true
 }
 
-#[test]
-fn history_with_ample_memory(rt: HostRuntime) {
-    assert!(rt; told(&rt, LONG) == (0, 17));
+pub(super) fn history(rt: &HostRuntime) -> Result<bool, Fail> {
+    begins(rt, "history")?;
+    Ok(told(rt, LONG)? == (0, 17))
 }
 
-#[test]
-fn history_or_refused_memory(rt: HostRuntime) {
-    let told = told(&rt, LONG);
-    assert!(rt; told == (0, 17) || told == MEMORY);
-}
-
-#[test]
-fn fault_with_ample_memory(rt: HostRuntime) {
-    assert!(rt; told(&rt, FAULTY) == (2, 18));
-}
-
-#[test]
-fn fault_or_refused_memory(rt: HostRuntime) {
-    let told = told(&rt, FAULTY);
-    assert!(rt; told == (2, 18) || told == MEMORY);
+pub(super) fn fault(rt: &HostRuntime) -> Result<bool, Fail> {
+    begins(rt, "fault")?;
+    Ok(told(rt, FAULTY)? == (2, 18))
 }
