@@ -102,35 +102,39 @@ fn automatic_log_is_completed(rt: HostRuntime) -> Result<(), Fail> {
     Ok(())
 }
 
-/// A signal that serves nobody stays, and so does one that ends a log where waiters may not go before signallers.
+const SIGNAL_TO_NOBODY: &[u8] = b"log 1 2 1 buffer 1\nenter 0\nsignal 0 0\n";
+
+const SIGNAL_AT_THE_END: &[u8] = b"log 1 2 1 buffer 1\nenter 0\nwait 0 0\nenter 1\nsignal 1 0\n";
+
+/// A signal that serves nobody stays.
+const NOBODY_SERVED: [Event; 2] = [Event::Enter(0, Via::Free), Event::Signal(0, 0, Next::Stay)];
+
+const STAYS: [Event; 4] = [
+    Event::Enter(0, Via::Free),
+    Event::Wait(0, 0, Next::Entry),
+    Event::Enter(1, Via::Handed),
+    Event::Signal(1, 0, Next::Stay),
+];
+
+const HANDS_OVER: [Event; 4] = [
+    Event::Enter(0, Via::Free),
+    Event::Wait(0, 0, Next::Entry),
+    Event::Enter(1, Via::Handed),
+    Event::Signal(1, 0, Next::Waiter(0)),
+];
+
+/// A signal that ends a log stays where waiters may not go before signallers.
 #[test]
 fn last_signal_is_completed(rt: HostRuntime) -> Result<(), Fail> {
-    let text: &[u8] = b"log 1 2 1 buffer 1\nenter 0\nsignal 0 0\n";
-    let want = [Event::Enter(0, Via::Free), Event::Signal(0, 0, Next::Stay)];
-    assert!(rt; becomes(&rt, KindName::Pb, text, &want)?);
-    assert!(rt; becomes(&rt, KindName::Pqb, text, &want)?);
-    let text: &[u8] = b"log 1 2 1 buffer 1\nenter 0\nwait 0 0\nenter 1\nsignal 1 0\n";
-    let before = [
-        Event::Enter(0, Via::Free),
-        Event::Wait(0, 0, Next::Entry),
-        Event::Enter(1, Via::Handed),
-    ];
-    let stays = [
-        before[0],
-        before[1],
-        before[2],
-        Event::Signal(1, 0, Next::Stay),
-    ];
-    let hands = [
-        before[0],
-        before[1],
-        before[2],
-        Event::Signal(1, 0, Next::Waiter(0)),
-    ];
-    assert!(rt; becomes(&rt, KindName::Pnb, text, &stays)?);
-    assert!(rt; becomes(&rt, KindName::Npnb, text, &stays)?);
-    assert!(rt; becomes(&rt, KindName::Npb, text, &hands)?);
-    assert!(rt; becomes(&rt, KindName::Npqb, text, &hands)?);
+    for kind in [KindName::Pb, KindName::Pqb] {
+        assert!(rt; becomes(&rt, kind, SIGNAL_TO_NOBODY, &NOBODY_SERVED)?);
+    }
+    for kind in [KindName::Pnb, KindName::Npnb] {
+        assert!(rt; becomes(&rt, kind, SIGNAL_AT_THE_END, &STAYS)?);
+    }
+    for kind in [KindName::Npb, KindName::Npqb] {
+        assert!(rt; becomes(&rt, kind, SIGNAL_AT_THE_END, &HANDS_OVER)?);
+    }
     Ok(())
 }
 

@@ -115,16 +115,11 @@ fn steps_plainly<K: Kind>(
     })
 }
 
-fn runs_plainly<K: Kind>(
-    rt: &HostRuntime,
-    floor: &mut Floor<K, Buffer>,
-    events: &[Event],
-    pick: Pick,
-) -> Result<bool, Fail>
-    requires { IsRoom SEATS CONDS SIZE floor.old }
-{
+/// Whether a floor makes exactly these events.
+fn runs_plainly<K: Kind>(rt: &HostRuntime, events: &[Event], pick: Pick) -> Result<bool, Fail> {
+    let mut floor: Floor<K, Buffer> = room(rt)?;
     for event in events {
-        if !steps_plainly(rt, floor, *event, pick)? {
+        if !steps_plainly(rt, &mut floor, *event, pick)? {
             return Ok(false);
         }
     }
@@ -190,16 +185,15 @@ fn steps_non_blocking<K: NonBlocking>(
     steps_explicitly(rt, floor, event, pick)
 }
 
+/// Whether a floor makes exactly these events.
 fn runs_non_blocking<K: NonBlocking>(
     rt: &HostRuntime,
-    floor: &mut Floor<K, Buffer>,
     events: &[Event],
     pick: Pick,
-) -> Result<bool, Fail>
-    requires { IsRoom SEATS CONDS SIZE floor.old }
-{
+) -> Result<bool, Fail> {
+    let mut floor: Floor<K, Buffer> = room(rt)?;
     for event in events {
-        if !steps_non_blocking(rt, floor, *event, pick)? {
+        if !steps_non_blocking(rt, &mut floor, *event, pick)? {
             return Ok(false);
         }
     }
@@ -231,16 +225,15 @@ fn steps_returning<K: ImmediateReturn>(
     })
 }
 
+/// Whether a floor makes exactly these events.
 fn runs_returning<K: ImmediateReturn>(
     rt: &HostRuntime,
-    floor: &mut Floor<K, Buffer>,
     events: &[Event],
     pick: Pick,
-) -> Result<bool, Fail>
-    requires { IsRoom SEATS CONDS SIZE floor.old }
-{
+) -> Result<bool, Fail> {
+    let mut floor: Floor<K, Buffer> = room(rt)?;
     for event in events {
-        if !steps_returning(rt, floor, *event, pick)? {
+        if !steps_returning(rt, &mut floor, *event, pick)? {
             return Ok(false);
         }
     }
@@ -268,16 +261,15 @@ fn steps_automatically<K: Automatic>(
     })
 }
 
+/// Whether a floor makes exactly these events.
 fn runs_automatically<K: Automatic>(
     rt: &HostRuntime,
-    floor: &mut Floor<K, Buffer>,
     events: &[Event],
     pick: Pick,
-) -> Result<bool, Fail>
-    requires { IsRoom SEATS CONDS SIZE floor.old }
-{
+) -> Result<bool, Fail> {
+    let mut floor: Floor<K, Buffer> = room(rt)?;
     for event in events {
-        if !steps_automatically(rt, floor, *event, pick)? {
+        if !steps_automatically(rt, &mut floor, *event, pick)? {
             return Ok(false);
         }
     }
@@ -290,9 +282,11 @@ pub(crate) fn both_explicit<K: Explicit>(
     events: &[Event],
     pick: Pick,
 ) -> Result<bool, Fail> {
-    let mut plain: Floor<K, Buffer> = room(rt)?;
-    let mut path: Floor<K, Buffer> = room(rt)?;
-    Ok(runs_plainly(rt, &mut plain, events, pick)? && runs_explicitly(rt, &mut path, events, pick)?)
+    if !runs_plainly::<K>(rt, events, pick)? {
+        return Ok(false);
+    }
+    let mut floor: Floor<K, Buffer> = room(rt)?;
+    runs_explicitly(rt, &mut floor, events, pick)
 }
 
 pub(crate) fn both_non_blocking<K: NonBlocking>(
@@ -300,12 +294,7 @@ pub(crate) fn both_non_blocking<K: NonBlocking>(
     events: &[Event],
     pick: Pick,
 ) -> Result<bool, Fail> {
-    let mut plain: Floor<K, Buffer> = room(rt)?;
-    let mut path: Floor<K, Buffer> = room(rt)?;
-    Ok(
-        runs_plainly(rt, &mut plain, events, pick)?
-            && runs_non_blocking(rt, &mut path, events, pick)?,
-    )
+    Ok(runs_plainly::<K>(rt, events, pick)? && runs_non_blocking::<K>(rt, events, pick)?)
 }
 
 pub(crate) fn both_returning<K: ImmediateReturn>(
@@ -313,9 +302,7 @@ pub(crate) fn both_returning<K: ImmediateReturn>(
     events: &[Event],
     pick: Pick,
 ) -> Result<bool, Fail> {
-    let mut plain: Floor<K, Buffer> = room(rt)?;
-    let mut path: Floor<K, Buffer> = room(rt)?;
-    Ok(runs_plainly(rt, &mut plain, events, pick)? && runs_returning(rt, &mut path, events, pick)?)
+    Ok(runs_plainly::<K>(rt, events, pick)? && runs_returning::<K>(rt, events, pick)?)
 }
 
 pub(crate) fn both_automatic<K: Automatic>(
@@ -323,10 +310,5 @@ pub(crate) fn both_automatic<K: Automatic>(
     events: &[Event],
     pick: Pick,
 ) -> Result<bool, Fail> {
-    let mut plain: Floor<K, Buffer> = room(rt)?;
-    let mut path: Floor<K, Buffer> = room(rt)?;
-    Ok(
-        runs_plainly(rt, &mut plain, events, pick)?
-            && runs_automatically(rt, &mut path, events, pick)?,
-    )
+    Ok(runs_plainly::<K>(rt, events, pick)? && runs_automatically::<K>(rt, events, pick)?)
 }

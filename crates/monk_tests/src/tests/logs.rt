@@ -108,34 +108,65 @@ const BARGED: &[u8] =
 const OVERTAKEN: &[u8] =
     b"log 1 3 1 buffer 1\nenter 0\nwait 0 0\nenter 1\nwait 1 0\nenter 2\nsignal 2 0\nsignal 2 0\nleave 2\nresume 1\n";
 
+/// Logs that fit the kind.
+static FITTING: [(KindName, &[u8]); 4] = [
+    (KindName::Npnb, SIGNALLER_FIRST),
+    (KindName::Pb, SIGNALLED_FIRST),
+    (KindName::Npnb, BARGED),
+    (KindName::Pb, b"log 1 2 1 buffer 1\n"),
+];
+
 #[test]
-fn logs_under_kinds(rt: HostRuntime) -> Result<(), Fail> {
-    let chosen = Blame::Choice;
-    let fits = LogVerdict::Fits;
-    assert!(rt; verdict(&rt, KindName::Npnb, SIGNALLER_FIRST)? == fits);
-    assert!(rt; verdict(&rt, KindName::Pb, SIGNALLER_FIRST)? == misfit(5, chosen));
-    assert!(rt; verdict(&rt, KindName::Pb, SIGNALLED_FIRST)? == fits);
-    assert!(rt; verdict(&rt, KindName::Npnb, SIGNALLED_FIRST)? == misfit(5, chosen));
-    assert!(rt; verdict(&rt, KindName::Npnb, BARGED)? == fits);
-    assert!(rt; verdict(&rt, KindName::Pnb, BARGED)? == misfit(6, chosen));
-    assert!(rt; verdict(&rt, KindName::Npnb, OVERTAKEN)? == misfit(9, Blame::Order));
+fn logs_that_fit(rt: HostRuntime) -> Result<(), Fail> {
+    for (kind, text) in FITTING.iter() {
+        assert!(rt; verdict(&rt, *kind, text)? == LogVerdict::Fits);
+    }
     Ok(())
 }
 
+/// Logs that don't fit the kind, the line that misfits, and what is to blame.
+static MISFITS: [(KindName, &[u8], u32, Blame); 9] = [
+    (KindName::Pb, SIGNALLER_FIRST, 5, Blame::Choice),
+    (KindName::Npnb, SIGNALLED_FIRST, 5, Blame::Choice),
+    (KindName::Pnb, BARGED, 6, Blame::Choice),
+    (KindName::Npnb, OVERTAKEN, 9, Blame::Order),
+    (
+        KindName::Pb,
+        b"log 1 2 1 buffer 1\nenter 2\n",
+        1,
+        Blame::Range,
+    ),
+    (
+        KindName::Pb,
+        b"log 1 2 1 buffer 1\nenter 0\nbroadcast 0 0\n",
+        2,
+        Blame::Call,
+    ),
+    (
+        KindName::Pb,
+        b"log 1 2 1 buffer 1\nenter 0\nenter 1\n",
+        2,
+        Blame::Turn,
+    ),
+    (
+        KindName::Pb,
+        b"log 1 2 1 buffer 1\nenter 0\nact 0 1 0 7\n",
+        2,
+        Blame::Reply,
+    ),
+    (
+        KindName::Pb,
+        b"log 1 2 1 buffer 1\nenter 0\nlapse 0\n",
+        2,
+        Blame::Turn,
+    ),
+];
+
 #[test]
 fn lines_that_misfit(rt: HostRuntime) -> Result<(), Fail> {
-    let text: &[u8] = b"log 1 2 1 buffer 1\n";
-    assert!(rt; verdict(&rt, KindName::Pb, text)? == LogVerdict::Fits);
-    let text: &[u8] = b"log 1 2 1 buffer 1\nenter 2\n";
-    assert!(rt; verdict(&rt, KindName::Pb, text)? == misfit(1, Blame::Range));
-    let text: &[u8] = b"log 1 2 1 buffer 1\nenter 0\nbroadcast 0 0\n";
-    assert!(rt; verdict(&rt, KindName::Pb, text)? == misfit(2, Blame::Call));
-    let text: &[u8] = b"log 1 2 1 buffer 1\nenter 0\nenter 1\n";
-    assert!(rt; verdict(&rt, KindName::Pb, text)? == misfit(2, Blame::Turn));
-    let text: &[u8] = b"log 1 2 1 buffer 1\nenter 0\nact 0 1 0 7\n";
-    assert!(rt; verdict(&rt, KindName::Pb, text)? == misfit(2, Blame::Reply));
-    let text: &[u8] = b"log 1 2 1 buffer 1\nenter 0\nlapse 0\n";
-    assert!(rt; verdict(&rt, KindName::Pb, text)? == misfit(2, Blame::Turn));
+    for (kind, text, line, blame) in MISFITS.iter() {
+        assert!(rt; verdict(&rt, *kind, text)? == misfit(*line, *blame));
+    }
     Ok(())
 }
 

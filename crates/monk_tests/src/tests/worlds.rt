@@ -178,13 +178,25 @@ fn worn_out_seat_is_refused(rt: HostRuntime) -> Result<(), Fail> {
     Ok(())
 }
 
+/// One seat with a budget of 2, and each refusal once.
+const WITH_REFUSALS: [(u8, Command); 9] = [
+    (1, UNTIL),
+    (0, UNTIL),
+    (0, Command::Drop),
+    (0, Command::Arrive),
+    (0, Command::Out),
+    (0, PUT),
+    (0, LEAVE),
+    (0, Command::Drop),
+    (0, Command::Arrive),
+];
+
 /// `run` takes the commands as `step` does, refused ones too.
 #[test]
 fn runs_go_on_after_refusals(rt: HostRuntime) -> Result<(), Fail> {
     let buffer = Buffer::make(rt.alloc(), 1)?;
     let mut world = World::<Pb, Buffer>::make(rt.alloc(), buffer, 1, 1, 2)?;
-    let commands = REFUSALS.map(|(seat, command, _)| (seat, command));
-    world.run(&commands);
+    world.run(&WITH_REFUSALS);
     let history = [Event::Enter(0, Via::Free), Event::Leave(0, Next::Entry)];
     assert!(rt; world.history() == history.as_slice());
     Ok(())
