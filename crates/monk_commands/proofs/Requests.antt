@@ -4,10 +4,10 @@ use Rattle.std.proofs.Common.{refl, sym, ap, subst, ◌∙◌, Bor}
 use Rattle.std.proofs.lemmas.List.{map-append, take_more}
 use Rattle.std.specs.Str.Parse.{ParsesUnsigned}
 use Rattle.clap.specs.declared.parser.matches.Found.{Found}
-use Rattle.clap.proofs.WalkLemmas.{first_value-rows, one_text-rows}
+use Rattle.clap.proofs.WalkLemmas.{one_text-rows}
 use Rattle.monk_commands.specs.declared.request.Line.{Line}
-use Rattle.std.specs.Prelude.{◌↔◌, IfSome, codes, option_map}
-use Rattle.clap.specs.Words.{Row, Text, first_of, first_value, one_text, rows_of, is_simple}
+use Rattle.std.specs.Prelude.{◌↔◌, IfSome, option_map}
+use Rattle.clap.specs.Words.{Row, Text, one_text, rows_of, is_simple}
 use Rattle.clap.proofs.OnLiterals.{clap_on_literals}
 use Rattle.monk_logs.specs.declared.waits_for.WaitsFor.{WaitsFor}
 use Rattle.monk_commands.specs.Request.{AreMeanings, HasNumber, IsAsked, IsMeaning, IsRead, KindNames, RunNames, monk_app}
@@ -21,15 +21,6 @@ asked_in (Some p) word rows l w r is =
     let same_word : word ≡ p.0 = cc in
     let same_rows : rows ≡ p.1 = cc in
     subst (λ (x : Text). IsRead x l p.1) same_word (subst (λ (x : List Row). IsRead word l x) same_rows is)
-
--- a command that takes a file alone is asked for with the file that clap found
-pub file_asked : (o : Option (Text × List Row)) (word : Text) (found : Found) (file : Option Text) (l : Line)
-    → ((rows : List Row) → first_of (codes "FILE") rows ≡ file → IsRead word l rows)
-    → option_map (λ p. p.0) o ≡ Some word → Some (rows_of found) ≡ option_map (λ p. p.1) o
-    → file ≡ first_value found (codes "FILE") → IsAsked l o
-file_asked o word found file l read w r is =
-    asked_in o word (rows_of found) l w (sym r)
-    (read (rows_of found) (sym (first_value-rows found (codes "FILE")) ∙ sym is))
 
 -- the number that is read by `get_one`
 pub number_read : (E : Type 0) (G : List ℕ → Result ℕ E → Type 0) (bits v : ℕ) (name : Text) (f : Found)

@@ -343,23 +343,38 @@ fn line_to_record(matches: &ArgMatches<'_>) -> Option<Line>
     Some(Line::Record(kind, sample, seats, rounds))
 }
 
+/// What a command of that name asks for that takes a file alone, if there is one.
+fn line_to_read(
+    alloc: Global,
+    name: &str,
+    matches: &ArgMatches<'_>,
+) -> Result<Option<Line>, LineFault>
+    ensures { IfOk result (λ found. IfSome found (λ l. IsRead name.now l (rows_of (found_of matches.now)))) }
+{
+    let file = file_of(alloc, matches)?;
+    match name {
+        "audit" => Ok(Some(Line::Audit(file))),
+        "play" => Ok(Some(Line::Play(file))),
+        "upgrade" => Ok(Some(Line::Upgrade(file))),
+        "trace" => Ok(Some(Line::Trace(file))),
+        "explain" => Ok(Some(Line::Explain(file))),
+        "draw" => Ok(Some(Line::Draw(file))),
+        _ => Ok(None),
+    }
+}
+
 /// What the matches ask for, if it is a command of the program with all its values.
 fn asked(alloc: Global, matches: &ArgMatches<'_>) -> Result<Option<Line>, LineFault>
     ensures { IfOk result (λ found. IfSome found (λ l. IsAsked l (subcommand_rows_of matches.now))) }
 {
     match matches.subcommand() {
         Some(("classify", classify)) => Ok(priorities_of(classify)),
-        Some(("audit", audit)) => Ok(Some(Line::Audit(file_of(alloc, audit)?))),
-        Some(("play", play)) => Ok(Some(Line::Play(file_of(alloc, play)?))),
-        Some(("upgrade", upgrade)) => Ok(Some(Line::Upgrade(file_of(alloc, upgrade)?))),
         Some(("fit", fit)) => Ok(Some(line_to_fit(alloc, fit)?)),
-        Some(("trace", trace)) => Ok(Some(Line::Trace(file_of(alloc, trace)?))),
-        Some(("explain", explain)) => Ok(Some(Line::Explain(file_of(alloc, explain)?))),
-        Some(("draw", draw)) => Ok(Some(Line::Draw(file_of(alloc, draw)?))),
         Some(("complete", complete)) => line_to_complete(alloc, complete),
         Some(("run", run)) => Ok(line_to_run(run)),
         Some(("record", record)) => Ok(line_to_record(record)),
-        _ => Ok(None),
+        Some((name, matches)) => line_to_read(alloc, name, matches),
+        None => Ok(None),
     }
 }
 
