@@ -3,3 +3,4 @@ mod TellLaws
 mod FrontLaws
 mod ConditionLines
 mod ChosenLaws
+mod ListLaws
