@@ -19,7 +19,7 @@ use Rattle.monk_audit.specs.declared.verdict.Verdict.TheVariants.{Legal, Forbidd
 use Rattle.monk_tell.specs.Told.{Account, account, account_by}
 use Rattle.monk_tell.specs.Words.{telling_text}
 use Rattle.monk_tell.specs.declared.why.Why.{Why}
-use Rattle.monk_tell.specs.declared.why.Why.TheVariants.{Already}
+use Rattle.monk_tell.specs.declared.why.Why.TheVariants.{Reply}
 use Rattle.monk_commands.specs.Answer.{Answer, answer_of, reading_answer, too_big, unreadable, verdict_answer}
 use Rattle.monk_commands.specs.Explained.{BeginsAsAudit, IsExplained, IsExplanationOf, explain_reading, told_answer}
 
@@ -68,7 +68,7 @@ explained_told h es why t status Puts is fits same put =
 pub explained_too_big : (h : Heading) (es : List Event) (status : ℕ) (Puts : List ℕ → Type 0) → most h.object < h.size
     → status ≡ too_big.status → Puts too_big.text → IsExplained (Ok (history h es)) status Puts
 explained_too_big h es status Puts big same put =
-    let why = Already 0 in
+    let why = Reply 0 0 in
     let great : ltb (most h.object) h.size ≡ true = lt-ltb _ _ big in
     let given : cond (ltb (most h.object) h.size) too_big (told_answer (account h es why)) ≡ too_big =
     ap (λ (b : Bool). cond b too_big (told_answer (account h es why))) great in
@@ -78,7 +78,7 @@ explained_too_big h es status Puts big same put =
 pub refused_explained : (bytes : List ℕ) (f : ReadFault) (status : ℕ) (Puts : List ℕ → Type 0) → text_at (2 ^ 25) bytes ≡ Err f
     → status ≡ (unreadable f).status → Puts (unreadable f).text → IsExplanationOf bytes status Puts
 refused_explained bytes f status Puts read same put =
-    subst (λ (r : Result History ReadFault). IsExplained r status Puts) (sym read) (Already 0, (same, put))
+    subst (λ (r : Result History ReadFault). IsExplained r status Puts) (sym read) (Reply 0 0, (same, put))
 
 -- what answers a text is written
 pub put_explained : (bytes : List ℕ) (given status : ℕ) (text : List ℕ) (Puts : List ℕ → Type 0) → status ≡ given

@@ -34,7 +34,7 @@ use Rattle.monk_tell.specs.declared.queues.Queues.TheVariants.{Automatic, Return
 use Rattle.monk_tell.specs.declared.situation.Situation.{Situation}
 use Rattle.monk_tell.specs.declared.telling.Telling.{Telling}
 use Rattle.monk_tell.specs.declared.why.Why.{Why}
-use Rattle.monk_tell.specs.declared.why.Why.TheVariants.{Already}
+use Rattle.monk_tell.specs.declared.why.Why.TheVariants.{Reply}
 
 -- ---- the data, as lists
 
@@ -195,4 +195,4 @@ account h es why = account_by h.kind (named_monitor h) es why (verdict_of (named
 
 -- the sentence of a telling, of a legal history any
 abbrev pub why_of : Telling → Why
-why_of t = option_map_or (λ b. b.why) t.blame (Already 0)
+why_of t = option_map_or (λ b. b.why) t.blame (Reply 0 0)

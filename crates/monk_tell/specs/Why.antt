@@ -4,85 +4,112 @@ use Rattle.std.specs.List.{concat}
 use Rattle.std.specs.Fmt.{decimal}
 use Rattle.monk_kinds.specs.Names.{kind_word}
 use Rattle.monk_history.specs.Text.{from_word}
+use Rattle.monk_tell.specs.declared.why.out_of_range.OutOfRange.{OutOfRange}
+use Rattle.monk_tell.specs.declared.why.out_of_range.OutOfRange.TheVariants.{Seat, Condition, Operation, Predicate}
+use Rattle.monk_tell.specs.declared.why.out_of_turn.OutOfTurn.{OutOfTurn}
+use Rattle.monk_tell.specs.declared.why.out_of_turn.OutOfTurn.TheVariants.{Open, Due, Resumes, Active, Already}
+use Rattle.monk_tell.specs.declared.why.out_of_place.OutOfPlace.{OutOfPlace}
+use Rattle.monk_tell.specs.declared.why.out_of_place.OutOfPlace.TheVariants.{Inside, NotFree, FirstOfAll}
+use Rattle.monk_tell.specs.declared.why.staying.Staying.{Staying}
+use Rattle.monk_tell.specs.declared.why.staying.Staying.TheVariants.{NobodyWaits, HoldsAlready, GivesUp, MustYield, MustStay}
+use Rattle.monk_tell.specs.declared.why.staying.Staying.TheVariants.{StepsBehind, OwnSignal}
+use Rattle.monk_tell.specs.declared.why.precedence.Precedence.{Precedence}
+use Rattle.monk_tell.specs.declared.why.precedence.Precedence.TheVariants.{NotFirst, NotReady, NoUntils, WaitersFirst, SignallersFirst}
+use Rattle.monk_tell.specs.declared.why.precedence.Precedence.TheVariants.{WaitersBeforeEntry, SignallersBeforeEntry, ReadyBeforeEntry}
 use Rattle.monk_tell.specs.declared.why.Why.{Why}
-use Rattle.monk_tell.specs.declared.why.Why.TheVariants.{NoSeat, NoCondition, NoOperation, NoPredicate, NoCall}
-use Rattle.monk_tell.specs.declared.why.Why.TheVariants.{Open, Due, Resumes, Active, Already}
-use Rattle.monk_tell.specs.declared.why.Why.TheVariants.{Inside, NotFree, FirstOfAll, Replies, NobodyWaits}
-use Rattle.monk_tell.specs.declared.why.Why.TheVariants.{HoldsAlready, GivesUp, MustYield, MustStay, StepsBehind}
-use Rattle.monk_tell.specs.declared.why.Why.TheVariants.{NotFirst, NotReady, OwnSignal, NoUntils, WaitersFirst}
-use Rattle.monk_tell.specs.declared.why.Why.TheVariants.{SignallersFirst, WaitersBeforeEntry, SignallersBeforeEntry, ReadyBeforeEntry}
+use Rattle.monk_tell.specs.declared.why.Why.TheVariants.{Range, Call, Turn, Place, Reply, Stay, Order}
 
-abbrev pub why_text : Why → List ℕ
-why_text (NoSeat seat seats) =
+-- a number of the event that is out of range
+abbrev pub out_of_range_text : OutOfRange → List ℕ
+out_of_range_text (Seat seat seats) =
     concat (codes "there is no seat " ∷ decimal seat ∷ codes ", since the " ∷ decimal seats ∷
     codes " seats are counted from 0" ∷ [])
-why_text (NoCondition cond conds) =
+out_of_range_text (Condition cond conds) =
     concat (codes "there is no condition " ∷ decimal cond ∷ codes ", since the " ∷ decimal conds ∷
     codes " conditions are counted from 0" ∷ [])
-why_text (NoOperation code) = concat (codes "the object has no operation " ∷ decimal code ∷ [])
-why_text (NoPredicate pred) = concat (codes "the object has no predicate " ∷ decimal pred ∷ [])
-why_text (NoCall kind) = concat (kind_word kind ∷ codes " monitors have no such call" ∷ [])
-why_text (Open seat) =
+out_of_range_text (Operation code) = concat (codes "the object has no operation " ∷ decimal code ∷ [])
+out_of_range_text (Predicate pred) = concat (codes "the object has no predicate " ∷ decimal pred ∷ [])
+
+-- whose turn it is, where the seat may not make the call
+abbrev pub out_of_turn_text : OutOfTurn → List ℕ
+out_of_turn_text (Open seat) =
     concat (codes "seat " ∷ decimal seat ∷
     codes " isn't active, since the monitor is open to whoever enters next" ∷ [])
-why_text (Due seat other queue) =
+out_of_turn_text (Due seat other queue) =
     concat (codes "seat " ∷ decimal seat ∷ codes " isn't next, since seat " ∷ decimal other ∷
     codes " has to resume from " ∷ from_word queue ∷ codes " first" ∷ [])
-why_text (Resumes seat queue) =
+out_of_turn_text (Resumes seat queue) =
     concat (codes "seat " ∷ decimal seat ∷ codes " has to resume from " ∷ from_word queue ∷
     codes " first" ∷ [])
-why_text (Active seat other) =
+out_of_turn_text (Active seat other) =
     concat (codes "seat " ∷ decimal seat ∷ codes " isn't next, since seat " ∷ decimal other ∷
     codes " is active" ∷ [])
-why_text (Already seat) = concat (codes "seat " ∷ decimal seat ∷ codes " is active already" ∷ [])
-why_text (Inside seat) = concat (codes "seat " ∷ decimal seat ∷ codes " is inside already" ∷ [])
-why_text (NotFree seat) =
+out_of_turn_text (Already seat) = concat (codes "seat " ∷ decimal seat ∷ codes " is active already" ∷ [])
+
+-- why the seat may not enter
+abbrev pub out_of_place_text : OutOfPlace → List ℕ
+out_of_place_text (Inside seat) = concat (codes "seat " ∷ decimal seat ∷ codes " is inside already" ∷ [])
+out_of_place_text (NotFree seat) =
     concat (codes "seat " ∷ decimal seat ∷
     codes " can't find the monitor free, since somebody inside could go on" ∷ [])
-why_text (FirstOfAll seat) =
+out_of_place_text (FirstOfAll seat) =
     concat (codes "nobody came before seat " ∷ decimal seat ∷ codes " who could hand the monitor over" ∷ [])
-why_text (Replies right wrong) =
-    concat (codes "the object replies " ∷ decimal right ∷ codes " and not " ∷ decimal wrong ∷ [])
-why_text (NobodyWaits cond seat) =
+
+-- why the seat may not stay active, or has to
+abbrev pub staying_text : Staying → List ℕ
+staying_text (NobodyWaits cond seat) =
     concat (codes "seat " ∷ decimal seat ∷ codes " has to stay active, since nobody waits on condition " ∷
     decimal cond ∷ [])
-why_text (HoldsAlready pred seat) =
+staying_text (HoldsAlready pred seat) =
     concat (codes "seat " ∷ decimal seat ∷ codes " has to stay active, since predicate " ∷
     decimal pred ∷ codes " holds already" ∷ [])
-why_text (GivesUp seat) =
+staying_text (GivesUp seat) =
     concat (codes "seat " ∷ decimal seat ∷
     codes " can't stay active, since its call gives the monitor up" ∷ [])
-why_text (MustYield seat kind) =
+staying_text (MustYield seat kind) =
     concat (codes "seat " ∷ decimal seat ∷ codes " can't stay active, since " ∷ kind_word kind ∷
     codes " puts waiters above signallers" ∷ [])
-why_text (MustStay seat kind) =
+staying_text (MustStay seat kind) =
     concat (codes "seat " ∷ decimal seat ∷ codes " has to stay active, since " ∷ kind_word kind ∷
     codes " puts signallers above waiters" ∷ [])
-why_text (StepsBehind seat other) =
+staying_text (StepsBehind seat other) =
     concat (codes "seat " ∷ decimal seat ∷ codes " can't stay active, since seat " ∷
     decimal other ∷ codes " is before it in the signaller queue" ∷ [])
-why_text (NotFirst seat queue) =
+staying_text (OwnSignal seat) =
+    concat (codes "seat " ∷ decimal seat ∷ codes " goes on after its own signal by staying active" ∷ [])
+
+-- who goes on first, by the priorities and the queues
+abbrev pub precedence_text : Precedence → List ℕ
+precedence_text (NotFirst seat queue) =
     concat (codes "seat " ∷ decimal seat ∷ codes " isn't the first of the " ∷ from_word queue ∷
     codes " queue" ∷ [])
-why_text (NotReady seat) =
+precedence_text (NotReady seat) =
     concat (codes "seat " ∷ decimal seat ∷ codes " isn't the first of those whose predicate holds" ∷ [])
-why_text (OwnSignal seat) =
-    concat (codes "seat " ∷ decimal seat ∷ codes " goes on after its own signal by staying active" ∷ [])
-why_text (NoUntils kind) =
+precedence_text (NoUntils kind) =
     concat (kind_word kind ∷ codes " monitors have nobody who waits until a predicate holds" ∷ [])
-why_text (WaitersFirst seat kind) =
+precedence_text (WaitersFirst seat kind) =
     concat (codes "waiter " ∷ decimal seat ∷ codes " has to go on first, since " ∷ kind_word kind ∷
     codes " puts waiters above signallers" ∷ [])
-why_text (SignallersFirst seat kind) =
+precedence_text (SignallersFirst seat kind) =
     concat (codes "signaller " ∷ decimal seat ∷ codes " has to go on first, since " ∷
     kind_word kind ∷ codes " puts signallers above waiters" ∷ [])
-why_text (WaitersBeforeEntry seat kind) =
+precedence_text (WaitersBeforeEntry seat kind) =
     concat (codes "waiter " ∷ decimal seat ∷ codes " has to go on first, since " ∷ kind_word kind ∷
     codes " puts waiters above entry" ∷ [])
-why_text (SignallersBeforeEntry seat kind) =
+precedence_text (SignallersBeforeEntry seat kind) =
     concat (codes "signaller " ∷ decimal seat ∷ codes " has to go on first, since " ∷
     kind_word kind ∷ codes " puts signallers above entry" ∷ [])
-why_text (ReadyBeforeEntry seat kind) =
+precedence_text (ReadyBeforeEntry seat kind) =
     concat (codes "seat " ∷ decimal seat ∷
     codes " has to go on first, since its predicate holds and " ∷ kind_word kind ∷
     codes " puts it above entry" ∷ [])
+
+abbrev pub why_text : Why → List ℕ
+why_text (Range w) = out_of_range_text w
+why_text (Call kind) = concat (kind_word kind ∷ codes " monitors have no such call" ∷ [])
+why_text (Turn w) = out_of_turn_text w
+why_text (Place w) = out_of_place_text w
+why_text (Reply right wrong) =
+    concat (codes "the object replies " ∷ decimal right ∷ codes " and not " ∷ decimal wrong ∷ [])
+why_text (Stay w) = staying_text w
+why_text (Order w) = precedence_text w

@@ -26,4 +26,4 @@ pub use queues::{Conditions, Queues};
 pub use situation::Situation;
 pub use telling::Telling;
 pub use told::tell;
-pub use why::Why;
+pub use why::{OutOfPlace, OutOfRange, OutOfTurn, Precedence, Staying, Why};

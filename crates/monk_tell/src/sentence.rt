@@ -1,6 +1,7 @@
 //! A sentence with gaps, and what stands in them.
 
 ghost use Rattle.std.specs.Prelude.{◌≡◌, [], ◌∷◌, Some};
+ghost use Rattle.std.specs.Fmt.{decimal};
 ghost use Rattle.std.specs.List.{concat};
 ghost use Rattle.monk_tell.specs.Sentence.{gap_text, sentence_text};
 
@@ -15,6 +16,15 @@ pub(crate) enum Gap {
     Number(u64),
     /// A word.
     Word(&'static str),
+}
+
+impl Gap {
+    /// A gap with that number.
+    pub(crate) fn number(number: u8) -> Gap
+        ensures { gap_text result ≡ decimal number }
+    {
+        Gap::Number(u64::from(number))
+    }
 }
 
 impl fmt::Display for Gap {

@@ -1,51 +1,51 @@
 //! Which sentence tells why an event is not allowed.
 
 use crate::lines::Lines;
-use crate::why::Why;
+use crate::why::{OutOfPlace, OutOfRange, OutOfTurn, Precedence, Staying, Why};
 use monk_audit::{Replay, Verdict};
 use monk_history::{Event, From3, Next, Turn, Via};
 use monk_kinds::{KindName, Mode, Rules};
 
 /// Of the numbers of an event the first that is out of range.
-fn out_of_range(seats: u8, conds: u8, event: Event) -> Why {
+fn out_of_range(seats: u8, conds: u8, event: Event) -> OutOfRange {
     if event.seat() >= seats {
-        return Why::NoSeat(event.seat(), seats);
+        return OutOfRange::Seat(event.seat(), seats);
     }
     if let Some(Next::Waiter(seat) | Next::Signaller(seat) | Next::Until(seat)) = event.choice() {
         if seat >= seats {
-            return Why::NoSeat(seat, seats);
+            return OutOfRange::Seat(seat, seats);
         }
     }
     match event {
-        Event::Act(_, op, _) => Why::NoOperation(op.code),
-        Event::Until(_, pred, _) => Why::NoPredicate(pred),
+        Event::Act(_, op, _) => OutOfRange::Operation(op.code),
+        Event::Until(_, pred, _) => OutOfRange::Predicate(pred),
         Event::SignalWait(_, cond, other, _) => {
-            Why::NoCondition(if cond >= conds { cond } else { other }, conds)
+            OutOfRange::Condition(if cond >= conds { cond } else { other }, conds)
         }
         Event::Wait(_, cond, _)
         | Event::Signal(_, cond, _)
         | Event::SignalLeave(_, cond, _)
-        | Event::SignalAll(_, cond) => Why::NoCondition(cond, conds),
-        _ => Why::NoSeat(event.seat(), seats),
+        | Event::SignalAll(_, cond) => OutOfRange::Condition(cond, conds),
+        _ => OutOfRange::Seat(event.seat(), seats),
     }
 }
 
-fn out_of_turn(turn: Turn, seat: u8) -> Why {
+fn out_of_turn(turn: Turn, seat: u8) -> OutOfTurn {
     match turn {
-        Turn::Open => Why::Open(seat),
-        Turn::Due(other, queue) if other == seat => Why::Resumes(seat, queue),
-        Turn::Due(other, queue) => Why::Due(seat, other, queue),
-        Turn::Owned(other) if other == seat => Why::Already(seat),
-        Turn::Owned(other) => Why::Active(seat, other),
+        Turn::Open => OutOfTurn::Open(seat),
+        Turn::Due(other, queue) if other == seat => OutOfTurn::Resumes(seat, queue),
+        Turn::Due(other, queue) => OutOfTurn::Due(seat, other, queue),
+        Turn::Owned(other) if other == seat => OutOfTurn::Already(seat),
+        Turn::Owned(other) => OutOfTurn::Active(seat, other),
     }
 }
 
-fn out_of_place(replay: &Replay, event: Event) -> Why {
+fn out_of_place(replay: &Replay, event: Event) -> OutOfPlace {
     let seat = event.seat();
     match event {
-        _ if replay.is_inside(seat) => Why::Inside(seat),
-        Event::Enter(_, Via::Handed) => Why::FirstOfAll(seat),
-        _ => Why::NotFree(seat),
+        _ if replay.is_inside(seat) => OutOfPlace::Inside(seat),
+        Event::Enter(_, Via::Handed) => OutOfPlace::FirstOfAll(seat),
+        _ => OutOfPlace::NotFree(seat),
     }
 }
 
@@ -59,38 +59,38 @@ pub(crate) fn early(
     event: Event,
 ) -> Why {
     match reason {
-        Verdict::RANGE => out_of_range(seats, conds, event),
-        Verdict::CALL => Why::NoCall(kind),
-        Verdict::TURN => out_of_turn(replay.turn(), event.seat()),
-        _ => out_of_place(replay, event),
+        Verdict::RANGE => Why::Range(out_of_range(seats, conds, event)),
+        Verdict::CALL => Why::Call(kind),
+        Verdict::TURN => Why::Turn(out_of_turn(replay.turn(), event.seat())),
+        _ => Why::Place(out_of_place(replay, event)),
     }
 }
 
 /// Why an act has another reply.
 pub(crate) fn wrong_reply(reply: Option<u64>, event: Event) -> Why {
     match (reply, event) {
-        (Some(right), Event::Act(_, _, wrong)) => Why::Replies(right, wrong),
-        _ => Why::GivesUp(event.seat()),
+        (Some(right), Event::Act(_, _, wrong)) => Why::Reply(right, wrong),
+        _ => Why::Stay(Staying::GivesUp(event.seat())),
     }
 }
 
 /// Why an event that has to stay may choose nothing else.
-fn has_to_stay(event: Event) -> Why {
+fn has_to_stay(event: Event) -> Staying {
     let seat = event.seat();
     match event {
-        Event::Signal(_, cond, _) => Why::NobodyWaits(cond, seat),
-        Event::Until(_, pred, _) => Why::HoldsAlready(pred, seat),
-        _ => Why::GivesUp(seat),
+        Event::Signal(_, cond, _) => Staying::NobodyWaits(cond, seat),
+        Event::Until(_, pred, _) => Staying::HoldsAlready(pred, seat),
+        _ => Staying::GivesUp(seat),
     }
 }
 
 /// Why the seat may not stay.
-fn may_not_stay(kind: KindName, rules: Rules, lines: &Lines, event: Event) -> Why {
+fn may_not_stay(kind: KindName, rules: Rules, lines: &Lines, event: Event) -> Staying {
     let seat = event.seat();
     match (event, lines.signallers.first()) {
-        (Event::Signal(..), _) if rules.waiter > rules.signaller => Why::MustYield(seat, kind),
-        (Event::Signal(..), Some(first)) => Why::StepsBehind(seat, *first),
-        _ => Why::GivesUp(seat),
+        (Event::Signal(..), _) if rules.waiter > rules.signaller => Staying::MustYield(seat, kind),
+        (Event::Signal(..), Some(first)) => Staying::StepsBehind(seat, *first),
+        _ => Staying::GivesUp(seat),
     }
 }
 
@@ -98,16 +98,16 @@ fn may_not_stay(kind: KindName, rules: Rules, lines: &Lines, event: Event) -> Wh
 fn may_not_admit(kind: KindName, rules: Rules, lines: &Lines, seat: u8) -> Why {
     match (lines.waiters.first(), lines.signallers.first()) {
         (Some(_), Some(signaller)) if rules.signaller > rules.waiter && *signaller == seat => {
-            Why::MustStay(seat, kind)
+            Why::Stay(Staying::MustStay(seat, kind))
         }
         (Some(_), Some(signaller)) if rules.signaller > rules.waiter => {
-            Why::SignallersBeforeEntry(*signaller, kind)
+            Why::Order(Precedence::SignallersBeforeEntry(*signaller, kind))
         }
-        (Some(waiter), _) => Why::WaitersBeforeEntry(*waiter, kind),
-        (None, Some(signaller)) => Why::SignallersBeforeEntry(*signaller, kind),
+        (Some(waiter), _) => Why::Order(Precedence::WaitersBeforeEntry(*waiter, kind)),
+        (None, Some(signaller)) => Why::Order(Precedence::SignallersBeforeEntry(*signaller, kind)),
         (None, None) => match lines.ready.first() {
-            Some(first) => Why::ReadyBeforeEntry(*first, kind),
-            None => Why::GivesUp(seat),
+            Some(first) => Why::Order(Precedence::ReadyBeforeEntry(*first, kind)),
+            None => Why::Stay(Staying::GivesUp(seat)),
         },
     }
 }
@@ -115,20 +115,28 @@ fn may_not_admit(kind: KindName, rules: Rules, lines: &Lines, seat: u8) -> Why {
 /// Why that waiter may not be chosen.
 fn may_not_wake(kind: KindName, lines: &Lines, seat: u8, chosen: u8) -> Why {
     match lines.signallers.first() {
-        _ if lines.waiters.first() != Some(&chosen) => Why::NotFirst(chosen, From3::Waiter),
-        Some(first) if *first == seat => Why::MustStay(seat, kind),
-        Some(first) => Why::SignallersFirst(*first, kind),
-        None => Why::GivesUp(seat),
+        _ if lines.waiters.first() != Some(&chosen) => Why::Order(Precedence::NotFirst(
+            chosen,
+            From3::Waiter,
+        )),
+        Some(first) if *first == seat => Why::Stay(Staying::MustStay(seat, kind)),
+        Some(first) => Why::Order(Precedence::SignallersFirst(*first, kind)),
+        None => Why::Stay(Staying::GivesUp(seat)),
     }
 }
 
 /// Why that signaller may not be chosen.
 fn may_not_recall(kind: KindName, rules: Rules, lines: &Lines, seat: u8, chosen: u8) -> Why {
     match lines.waiters.first() {
-        _ if lines.signallers.first() != Some(&chosen) => Why::NotFirst(chosen, From3::Signaller),
-        Some(first) if rules.waiter > rules.signaller => Why::WaitersFirst(*first, kind),
-        _ if chosen == seat => Why::OwnSignal(seat),
-        _ => Why::GivesUp(seat),
+        _ if lines.signallers.first() != Some(&chosen) => Why::Order(Precedence::NotFirst(
+            chosen,
+            From3::Signaller,
+        )),
+        Some(first) if rules.waiter > rules.signaller => Why::Order(Precedence::WaitersFirst(
+            *first, kind,
+        )),
+        _ if chosen == seat => Why::Stay(Staying::OwnSignal(seat)),
+        _ => Why::Stay(Staying::GivesUp(seat)),
     }
 }
 
@@ -142,12 +150,14 @@ pub(crate) fn wrong_choice(
 ) -> Why {
     let seat = event.seat();
     match event.choice() {
-        _ if stays => has_to_stay(event),
-        None | Some(Next::Stay) => may_not_stay(kind, rules, lines, event),
+        _ if stays => Why::Stay(has_to_stay(event)),
+        None | Some(Next::Stay) => Why::Stay(may_not_stay(kind, rules, lines, event)),
         Some(Next::Entry) => may_not_admit(kind, rules, lines, seat),
         Some(Next::Waiter(chosen)) => may_not_wake(kind, lines, seat, chosen),
         Some(Next::Signaller(chosen)) => may_not_recall(kind, rules, lines, seat, chosen),
-        Some(Next::Until(_)) if rules.mode != Mode::Automatic => Why::NoUntils(kind),
-        Some(Next::Until(chosen)) => Why::NotReady(chosen),
+        Some(Next::Until(_)) if rules.mode != Mode::Automatic => Why::Order(Precedence::NoUntils(
+            kind,
+        )),
+        Some(Next::Until(chosen)) => Why::Order(Precedence::NotReady(chosen)),
     }
 }
