@@ -1,7 +1,8 @@
 //! The auditor's stream: all of a reader in, by pieces, and one line out.
 
-ghost use Rattle.std.specs.Prelude.{◌≡◌, ◌+◌, ◌≤◌, ◌^◌, ◌⊎◌, false, true, IfOk, OnOk, IfSome, IsErrOf, ◌↔◌};
+ghost use Rattle.std.specs.Prelude.{◌≡◌, ◌+◌, ◌<◌, ◌≤◌, ◌^◌, ◌⊎◌, [], false, true, length, IfOk, OnOk, IfSome, IsErrOf, ◌↔◌};
 ghost use Rattle.std.specs.Io.KnownBytes.{IsAtEnd};
+ghost use Rattle.monk_audit.specs.Audits.{owes, IsGoingOn};
 ghost use Rattle.monk_audit.specs.Reading.{same, text_verdict};
 ghost use Rattle.monk_history.specs.Text.Lines.{Gives};
 ghost use Rattle.monk_history.specs.Text.Device.{inner_of, has_failed, reads_of};
@@ -16,6 +17,43 @@ use monk_audit::{TextAudit, TextVerdict};
 use monk_history::{Device, ReadFault};
 use std::alloc::Global;
 use std::io::{Read, Write};
+
+/// The audit takes all that the reader has, at most 2^31 bytes in at most 2^31 reads, a piece of at most the chunk's length
+/// at a time.
+fn take_all<R: Read>(
+    alloc: Global,
+    reader: &mut Device<R>,
+    chunk: &mut [u8],
+    audit: &mut TextAudit,
+) -> Result<(), StreamFault>
+    requires sound { has_failed reader.old ≡ false }
+    requires room { 0 < length chunk.old }
+    requires goes_on { IsGoingOn audit.old }
+    ensures owed { OnOk result (IfSome (R.remaining (inner_of reader.old)) (λ input. owes audit.old input ≡ owes audit.new [])) }
+    ensures goes_on { OnOk result (IsGoingOn audit.new) }
+    ensures end { OnOk result (IsAtEnd (R.remaining (inner_of reader.new))) }
+    ensures file { IsErrOf result StreamFault.File → IsYoung reader.old → (has_failed reader.new ≡ true)
+        ⊎ IsPastBound reader.old reader.new }
+    ensures sound { OnOk result (has_failed reader.new ≡ false) }
+    ensures memory { IsErrOf result StreamFault.Memory → has_failed reader.new ≡ false }
+    ensures reads { reads_of reader.new ≤ reads_of reader.old + 2 ^ 31 }
+{
+    let mut count = 0;
+    for _ in 0..MOST {
+        let Ok(taken) = reader.read(chunk) else {
+            return Err(StreamFault::File);
+        };
+        if taken == 0 {
+            return Ok(());
+        }
+        if taken > MOST - count {
+            return Err(StreamFault::File);
+        }
+        count += taken;
+        audit.push(alloc, &chunk[..taken])?;
+    }
+    Err(StreamFault::File)
+}
 
 /// Audits the text that the reader has, at most 2^31 bytes in at most 2^31 reads: what [`audit_text`](monk_audit::audit_text)
 /// answers to it. Each piece is judged when it comes, and of the text no more is held than that piece and a line.
@@ -32,23 +70,10 @@ fn audit_all<R: Read>(
     ensures memory { IsErrOf result StreamFault.Memory → has_failed reader.new ≡ false }
     ensures reads { reads_of reader.new ≤ reads_of reader.old + 2 ^ 31 }
 {
-    let mut audit = TextAudit::new(alloc);
-    let mut count = 0;
     let mut chunk = zeroes(alloc, CHUNK)?;
-    for _ in 0..MOST {
-        let Ok(taken) = reader.read(&mut chunk) else {
-            return Err(StreamFault::File);
-        };
-        if taken == 0 {
-            return Ok(audit.end(alloc));
-        }
-        if taken > MOST - count {
-            return Err(StreamFault::File);
-        }
-        count += taken;
-        audit.push(alloc, &chunk[..taken])?;
-    }
-    Err(StreamFault::File)
+    let mut audit = TextAudit::new(alloc);
+    take_all(alloc, reader, &mut chunk, &mut audit)?;
+    Ok(audit.end(alloc))
 }
 
 /// Reads all of the reader and writes the one line that answers it; the result is the exit status that goes with it:

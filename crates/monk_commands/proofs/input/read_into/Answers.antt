@@ -1,6 +1,6 @@
 use Rattle.std.proofs.Common.{arith, ◌<◌, length}
 use Rattle.monk_commands.proofs.Taken.{all_taken_at}
-use Rattle.monk_commands.proofs.input.read_all.Goals as goal
+use Rattle.monk_commands.proofs.input.read_into.Goals as goal
 
 pub returns-then-taken-eq0-clause-bytes : goal.returns-then-taken-eq0-clause-bytes
 returns-then-taken-eq0-clause-bytes g c =
