@@ -1,6 +1,7 @@
 //! Readers and writers that fail at each of their calls in turn, that give or take a few bytes at a time, or none.
 ghost use Rattle.std.specs.Prelude.{◌<◌};
 
+use super::jobs::Job;
 use monk_commands::{StreamFault, Task, classify_stream, draw_stream, run_stream};
 use monk_history::Device;
 use monk_kinds::KindName;
@@ -11,71 +12,72 @@ use std::io::{Read, Write};
 use std::process::Abort;
 use std::test::Fail;
 
-/// An input, what is made of it, and what is answered.
-#[derive(Clone, Copy)]
-struct Job<'a> {
-    task: Task<'static>,
-    input: &'static [u8],
-    status: u8,
-    answer: &'a [u8],
-}
-
 static JOBS: [Job<'static>; 10] = [
     Job {
+        name: "legal",
         task: Task::Audit,
         input: b"monk 1 PB 2 2 buffer 1\nenter 0 free\nwait 0 1 entry\nenter 1 free\nsignal 1 1 waiter 0\nresume 0 waiter\nleave 0 signaller 1\nresume 1 signaller\nleave 1 entry\n",
         status: 0,
         answer: b"legal 8\n",
     },
     Job {
+        name: "unreadable",
         task: Task::Audit,
         input: b"monk 1 PB 1 0 buffer 1\nenter 0 free\nleave 0 entry\nenter +1 free\n",
         status: 2,
         answer: b"unreadable 4 3 number\n",
     },
     Job {
+        name: "played",
         task: Task::Play,
         input: b"play 1 PB 2 2 buffer 1 8\n0 arrive\n0 out\n0 leave waiter\n1 arrive\n0 drop\n0 grant\n1 look\n1 out\n",
         status: 0,
         answer: b"monk 1 PB 2 2 buffer 1\nenter 0 free\nleave 0 entry\nenter 1 handed\n",
     },
     Job {
+        name: "upgraded",
         task: Task::Upgrade,
         input: b"monk 1 PB 1 0 buffer 1\nenter 0 free\nact 0 0 5 1\nleave 0 entry\n",
         status: 0,
         answer: b"monk 2 PB 1 0 buffer 1\nenter 0 free\nact 0 0 5 1\nleave 0 entry\n",
     },
     Job {
+        name: "fitted",
         task: Task::Fit(Lapses::Told, &[]),
         input: b"monk 1 PB 1 0 buffer 1\nenter 0 free\nleave 0 entry\n",
         status: 0,
         answer: b"PB legal 2\nNPB legal 2\nPNB legal 2\nNPNB legal 2\nPQB legal 2\nNPQB legal 2\nPIR legal 2\nNPIR legal 2\nPIS legal 2\nNPIS legal 2\n",
     },
     Job {
+        name: "explained",
         task: Task::Explain,
         input: b"monk 1 PB 2 1 buffer 1\nenter 0 free\nwait 0 0 entry\nenter 0 free\n",
         status: 1,
         answer: b"forbidden 3 4 place\nline: 4\nevent: enter 0 free\nkind: PB blocking 1 3 2\nturn: open\ninside: 0\ndata: 1\ncondition 0: 0\nwaiter:\nsignaller:\nwhy: seat 0 is inside already\n",
     },
     Job {
+        name: "not drawn",
         task: Task::Draw,
         input: b"monk 1 PB 1 0 buffer 1\nenter 0 free\nleave +0 entry\n",
         status: 2,
         answer: b"unreadable 3 3 number\n",
     },
     Job {
+        name: "traced",
         task: Task::Trace,
         input: b"play 1 PB 1 0 buffer 1 8\n0 arrive\n0 out\n0 leave waiter\n",
         status: 0,
         answer: b"1 | 0 arrive | arrived 0 0 | t=1 n=1 | due\n2 | 0 out | now | t=1 n=1 | active\n3 | 0 leave waiter | chose entry | t=1 n=1 | back entry\n",
     },
     Job {
+        name: "completed",
         task: Task::Complete(KindName::Npb),
         input: b"log 1 2 1 buffer 1\nenter 0\nwait 0 0\nenter 1\nsignal 1 0\nresume 0\nleave 0\nresume 1\n",
         status: 0,
         answer: b"monk 2 NPB 2 1 buffer 1\nenter 0 free\nwait 0 0 entry\nenter 1 handed\nsignal 1 0 waiter 0\nresume 0 waiter\nleave 0 signaller 1\nresume 1 signaller\n",
     },
     Job {
+        name: "misfit",
         task: Task::Complete(KindName::Npnb),
         input: b"log 1 2 1 buffer 1\nenter 0\nwait 0 0\nresume 0\n",
         status: 1,
@@ -167,9 +169,8 @@ fn reads_fail<R: Abort + AllocGlobal>(rt: &R, job: &Job<'_>, step: usize) -> Res
             .task
             .stream(alloc, &mut reader, &mut Device::new(&mut taken));
         let fails = fails_at <= last;
-        assert!(rt; is_due(told, &taken, job, fails));
-        assert!(rt; reader.failed() == fails);
-        assert!(rt; !fails || taken.is_empty());
+        let is_due = is_due(told, &taken, job, fails) && (!fails || taken.is_empty());
+        assert!(rt; is_due && reader.failed() == fails);
     }
     Ok(())
 }
@@ -207,10 +208,10 @@ fn writes_fail<R: Abort + AllocGlobal>(
             .task
             .stream(alloc, &mut Device::new(job.input), &mut writer);
         let fails = fails_at <= last;
-        assert!(rt; writer.failed() == fails);
-        assert!(rt; is_due(told, &tight.taken, job, fails));
+        let has_failed = writer.failed();
         let before = fails_at.saturating_sub(1).saturating_mul(step);
-        assert!(rt; tight.taken.len() == before.min(job.answer.len()));
+        let is_whole = tight.taken.len() == before.min(job.answer.len());
+        assert!(rt; is_whole && has_failed == fails && is_due(told, &tight.taken, job, fails));
     }
     Ok(())
 }
@@ -234,6 +235,7 @@ fn pictures_fail_in_turn(rt: HostRuntime) -> Result<(), Fail> {
     let mut page = Vec::new(alloc);
     let status = draw_stream(alloc, &mut Device::new(input), &mut Device::new(&mut page))?;
     let job = Job {
+        name: "drawn",
         task: Task::Draw,
         input,
         status,

@@ -1,6 +1,5 @@
 //! Pictures of known histories.
 
-use super::lines::lines;
 use monk_commands::draw_stream;
 use monk_history::Device;
 use std::alloc::Global;
@@ -9,113 +8,94 @@ use std::test::Fail;
 
 /// A text that is to be drawn, how many marks its picture has, and what is written in it.
 #[derive(Clone, Copy)]
-struct Drawing {
-    header: &'static str,
-    events: &'static str,
+struct Drawing<'a> {
+    input: &'a [u8],
     marks: usize,
     says: &'static str,
     status: u8,
 }
 
-/// A hand-over as Hoare's: the signaller waits, and gets the monitor back before anyone else.
-const HAND_OVER: &str =
-    "enter 0 free / act 0 1 0 0 / wait 0 1 entry / enter 1 free / act 1 0 7 1 / signal 1 1 waiter 0 / resume 0 waiter / act 0 1 0 8 / leave 0 signaller 1 / resume 1 signaller / leave 1 entry";
-
-static DRAWINGS: [Drawing; 14] = [
+static DRAWINGS: [Drawing<'static>; 14] = [
     Drawing {
-        header: "1 PB 2 2 buffer 1",
-        events: HAND_OVER,
+        input: b"monk 1 PB 2 2 buffer 1\nenter 0 free\nact 0 1 0 0\nwait 0 1 entry\nenter 1 free\nact 1 0 7 1\nsignal 1 1 waiter 0\nresume 0 waiter\nact 0 1 0 8\nleave 0 signaller 1\nresume 1 signaller\nleave 1 entry\n",
         marks: 11,
         says: "<title>6: signal 1 1 waiter 0</title>\n<text class=\"act\" y=\"-17\">signal</text>\n<text class=\"note\" y=\"25\">c1</text></g>\n",
         status: 0,
     },
     Drawing {
-        header: "1 PB 2 2 buffer 1",
-        events: HAND_OVER,
+        input: b"monk 1 PB 2 2 buffer 1\nenter 0 free\nact 0 1 0 0\nwait 0 1 entry\nenter 1 free\nact 1 0 7 1\nsignal 1 1 waiter 0\nresume 0 waiter\nact 0 1 0 8\nleave 0 signaller 1\nresume 1 signaller\nleave 1 entry\n",
         marks: 11,
         says: ">in the signaller queue</text>",
         status: 0,
     },
     Drawing {
-        header: "1 PNB 2 2 buffer 1",
-        events: HAND_OVER,
+        input: b"monk 1 PNB 2 2 buffer 1\nenter 0 free\nact 0 1 0 0\nwait 0 1 entry\nenter 1 free\nact 1 0 7 1\nsignal 1 1 waiter 0\nresume 0 waiter\nact 0 1 0 8\nleave 0 signaller 1\nresume 1 signaller\nleave 1 entry\n",
         marks: 6,
         says: ">6 is forbidden: choice, this kind lets another seat go on</text>",
         status: 1,
     },
     Drawing {
-        header: "1 PIS 2 0 buffer 1",
-        events: "enter 0 free / until 0 1 entry / enter 1 free / act 1 0 5 1 / leave 1 until 0 / resume 0 until",
+        input: b"monk 1 PIS 2 0 buffer 1\nenter 0 free\nuntil 0 1 entry\nenter 1 free\nact 1 0 5 1\nleave 1 until 0\nresume 0 until\n",
         marks: 6,
         says: ">waits until a predicate</text>",
         status: 0,
     },
     Drawing {
-        header: "1 PB 2 0 buffer 1",
-        events: "enter 0 free / leave 0 entry / enter 1 handed / leave 1 entry",
+        input: b"monk 1 PB 2 0 buffer 1\nenter 0 free\nleave 0 entry\nenter 1 handed\nleave 1 entry\n",
         marks: 4,
         says: ">waits at the entry</text>",
         status: 0,
     },
     Drawing {
-        header: "1 PB 2 0 buffer 1",
-        events: "enter 2 free / enter 0 free",
+        input: b"monk 1 PB 2 0 buffer 1\nenter 2 free\nenter 0 free\n",
         marks: 1,
         says: ">1 is forbidden: range, a number that the monitor doesn't have</text>",
         status: 1,
     },
     Drawing {
-        header: "1 PB 2 0 buffer 1",
-        events: "enter 2 free",
+        input: b"monk 1 PB 2 0 buffer 1\nenter 2 free\n",
         marks: 1,
         says: ">no seat</text>",
         status: 1,
     },
     Drawing {
-        header: "2 PB 2 1 buffer 1",
-        events: "enter 0 free / signal-all 0 0",
+        input: b"monk 2 PB 2 1 buffer 1\nenter 0 free\nsignal-all 0 0\n",
         marks: 2,
         says: ">2 is forbidden: call, this kind has no such call</text>",
         status: 1,
     },
     Drawing {
-        header: "1 PB 2 0 buffer 1",
-        events: "enter 0 free / enter 1 free / leave 0 entry",
+        input: b"monk 1 PB 2 0 buffer 1\nenter 0 free\nenter 1 free\nleave 0 entry\n",
         marks: 2,
         says: ">2 is forbidden: turn, it is not this seat's turn</text>",
         status: 1,
     },
     Drawing {
-        header: "1 PB 2 0 buffer 1",
-        events: "enter 0 handed",
+        input: b"monk 1 PB 2 0 buffer 1\nenter 0 handed\n",
         marks: 1,
         says: ">1 is forbidden: place, this seat may not come in here</text>",
         status: 1,
     },
     Drawing {
-        header: "1 PB 2 0 buffer 1",
-        events: "enter 0 free / act 0 0 7 0",
+        input: b"monk 1 PB 2 0 buffer 1\nenter 0 free\nact 0 0 7 0\n",
         marks: 2,
         says: ">2 is forbidden: reply, the object replies otherwise</text>",
         status: 1,
     },
     Drawing {
-        header: "1 PB 1 1 book 2",
-        events: "",
+        input: b"monk 1 PB 1 1 book 2\n",
         marks: 0,
         says: ">1 seat, 1 condition, book of 2</text>",
         status: 0,
     },
     Drawing {
-        header: "1 PB 2 0 buffer 65",
-        events: "enter 0 free",
+        input: b"monk 1 PB 2 0 buffer 65\nenter 0 free\n",
         marks: 0,
         says: "object\n",
         status: 2,
     },
     Drawing {
-        header: "1 PB 2 0 buffer 1",
-        events: "enter 0 free / stay 0",
+        input: b"monk 1 PB 2 0 buffer 1\nenter 0 free\nstay 0\n",
         marks: 0,
         says: "unreadable 3 2 word\n",
         status: 2,
@@ -127,29 +107,27 @@ fn marks_in(page: &str) -> usize {
     page.split("<g class=\"mark\"").count().saturating_sub(1)
 }
 
-/// Draws the text, and looks at the picture.
-fn is_drawn<R: Abort + AllocGlobal>(rt: &R, text: &str, wanted: &Drawing) -> Result<(), Fail> {
-    let alloc = rt.alloc();
-    let mut bytes = Vec::new(alloc);
-    let mut reader = Device::new(text.as_bytes());
-    let mut writer = Device::new(&mut bytes);
-    let status = draw_stream(alloc, &mut reader, &mut writer)?;
-    let page = str::from_utf8(&bytes)?;
+/// Whether what was written is a picture where there is one, with these marks and words.
+fn shows(page: &str, drawing: &Drawing<'_>) -> bool {
     let is_picture = page.starts_with("<svg xmlns=") && page.ends_with("</svg>\n");
-    assert!(rt; status == wanted.status);
-    assert!(rt; is_picture == (wanted.status < 2));
-    assert!(rt; marks_in(page) == wanted.marks);
-    assert!(rt; page.find(wanted.says).is_some());
-    Ok(())
+    is_picture == (drawing.status < 2)
+        && marks_in(page) == drawing.marks
+        && page.find(drawing.says).is_some()
+}
+
+/// Draws the text, and looks at the picture.
+fn is_drawn<R: Abort + AllocGlobal>(rt: &R, drawing: &Drawing<'_>) -> Result<bool, Fail> {
+    let alloc = rt.alloc();
+    let mut page = Vec::new(alloc);
+    let mut reader = Device::new(drawing.input);
+    let status = draw_stream(alloc, &mut reader, &mut Device::new(&mut page))?;
+    Ok(status == drawing.status && shows(str::from_utf8(&page)?, drawing))
 }
 
 #[test]
 fn histories_are_drawn(rt: HostRuntime) -> Result<(), Fail> {
-    let alloc = rt.alloc();
     for drawing in DRAWINGS.iter() {
-        let first = format!(in alloc; "monk {}", drawing.header)?;
-        let text = lines(alloc, &first, drawing.events)?;
-        is_drawn(&rt, &text, drawing)?;
+        assert!(rt; is_drawn(&rt, drawing)?);
     }
     Ok(())
 }
@@ -167,25 +145,22 @@ fn visits(alloc: Global, count: u32, last: &str) -> Result<String, Fail> {
 /// Of 301 events the last 200 are shown, and of those up to the one that is forbidden the last 200, with its caption beside it.
 #[test]
 fn long_histories_show_their_end(rt: HostRuntime) -> Result<(), Fail> {
-    let alloc = rt.alloc();
-    let mut wanted = Drawing {
-        header: "",
-        events: "",
+    let legal = visits(rt.alloc(), 150, "enter 1 free\n")?;
+    let whole = Drawing {
+        input: legal.as_bytes(),
         marks: 200,
         says: "<text class=\"step\" x=\"122\" y=\"60\">102</text>\n",
         status: 0,
     };
-    is_drawn(&rt, &visits(alloc, 150, "enter 1 free\n")?, &wanted)?;
-    wanted.status = 1;
-    is_drawn(
-        &rt,
-        &visits(alloc, 150, "leave 1 entry\nenter 1 free\n")?,
-        &wanted,
-    )?;
-    wanted.says = "<text class=\"wrong far\" x=\"15246\" y=\"28\">301 is forbidden: turn";
-    is_drawn(
-        &rt,
-        &visits(alloc, 150, "leave 1 entry\nenter 1 free\n")?,
-        &wanted,
-    )
+    assert!(rt; is_drawn(&rt, &whole)?);
+    let forbidden = visits(rt.alloc(), 150, "leave 1 entry\nenter 1 free\n")?;
+    let mut cut = Drawing {
+        input: forbidden.as_bytes(),
+        status: 1,
+        ..whole
+    };
+    assert!(rt; is_drawn(&rt, &cut)?);
+    cut.says = "<text class=\"wrong far\" x=\"15246\" y=\"28\">301 is forbidden: turn";
+    assert!(rt; is_drawn(&rt, &cut)?);
+    Ok(())
 }

@@ -1,162 +1,154 @@
-use super::lines::lines;
-use monk_commands::{audit_stream, play_stream};
-use monk_history::Device;
-use std::alloc::Global;
+//! Known plays, and what is written to them.
+
+use super::jobs::{Job, are_answered, is_answered};
+use monk_commands::Task;
 use std::test::Fail;
 
-/// A play, and what is written to it.
-struct Play {
-    name: &'static str,
-    /// What stands in the first line behind `play 1`.
-    head: &'static str,
-    /// The lines of the commands, with ` / ` between each two.
-    commands: &'static str,
-    /// The lines that are written, with ` / ` between each two.
-    answer: &'static str,
-    status: u8,
-}
-
-static PLAYS: [Play; 11] = [
-    Play {
+static PLAYS: [Job<'static>; 15] = [
+    Job {
         name: "lost_ticket",
-        head: "PB 2 2 buffer 1 8",
-        commands: "0 arrive / 0 out / 0 leave waiter / 1 arrive / 0 drop / 0 grant / 1 look / 1 out",
-        answer: "monk 1 PB 2 2 buffer 1 / enter 0 free / leave 0 entry / enter 1 handed",
+        task: Task::Play,
+        input: b"play 1 PB 2 2 buffer 1 8\n0 arrive\n0 out\n0 leave waiter\n1 arrive\n0 drop\n0 grant\n1 look\n1 out\n",
         status: 0,
+        answer: b"monk 1 PB 2 2 buffer 1\nenter 0 free\nleave 0 entry\nenter 1 handed\n",
     },
-    Play {
+    Job {
         name: "same_place_twice",
-        head: "PB 2 0 buffer 1 8",
-        commands: "0 arrive / 0 out / 1 arrive / 0 leave waiter / 0 drop / 0 grant / 0 arrive / 1 look / 1 out / 1 leave waiter / 1 drop / 1 grant / 1 arrive / 1 look / 1 out",
-        answer: "monk 1 PB 2 0 buffer 1 / enter 0 free / leave 0 entry / enter 1 handed / leave 1 entry",
+        task: Task::Play,
+        input: b"play 1 PB 2 0 buffer 1 8\n0 arrive\n0 out\n1 arrive\n0 leave waiter\n0 drop\n0 grant\n0 arrive\n1 look\n1 out\n1 leave waiter\n1 drop\n1 grant\n1 arrive\n1 look\n1 out\n",
         status: 0,
+        answer: b"monk 1 PB 2 0 buffer 1\nenter 0 free\nleave 0 entry\nenter 1 handed\nleave 1 entry\n",
     },
-    Play {
+    Job {
         name: "hoare_handover",
-        head: "PB 2 2 buffer 1 8",
-        commands: "0 arrive / 0 out / 0 act 1 0 / 0 wait 1 waiter / 0 drop / 1 arrive / 1 out / 1 act 0 7 / 1 signal 1 waiter / 1 grant / 0 look / 0 out / 0 act 1 0 / 0 leave waiter / 0 grant / 1 look / 1 out / 1 leave waiter / 1 drop",
-        answer: "monk 1 PB 2 2 buffer 1 / enter 0 free / act 0 1 0 0 / wait 0 1 entry / enter 1 free / act 1 0 7 1 / signal 1 1 waiter 0 / resume 0 waiter / act 0 1 0 8 / leave 0 signaller 1 / resume 1 signaller / leave 1 entry",
+        task: Task::Play,
+        input: b"play 1 PB 2 2 buffer 1 8\n0 arrive\n0 out\n0 act 1 0\n0 wait 1 waiter\n0 drop\n1 arrive\n1 out\n1 act 0 7\n1 signal 1 waiter\n1 grant\n0 look\n0 out\n0 act 1 0\n0 leave waiter\n0 grant\n1 look\n1 out\n1 leave waiter\n1 drop\n",
         status: 0,
+        answer: b"monk 1 PB 2 2 buffer 1\nenter 0 free\nact 0 1 0 0\nwait 0 1 entry\nenter 1 free\nact 1 0 7 1\nsignal 1 1 waiter 0\nresume 0 waiter\nact 0 1 0 8\nleave 0 signaller 1\nresume 1 signaller\nleave 1 entry\n",
     },
-    Play {
+    Job {
         name: "an entry that was peeked",
-        head: "NPNB 3 1 buffer 1 8",
-        commands: "0 arrive / 0 out / 0 wait 0 waiter / 0 drop / 1 arrive / 1 out / 1 signal 0 entry / 2 arrive / 1 peek / 1 leave entry / 1 drop / 1 grant / 2 look / 2 out",
-        answer: "monk 1 NPNB 3 1 buffer 1 / enter 0 free / wait 0 0 entry / enter 1 free / signal 1 0 stay / leave 1 entry / enter 2 handed",
+        task: Task::Play,
+        input: b"play 1 NPNB 3 1 buffer 1 8\n0 arrive\n0 out\n0 wait 0 waiter\n0 drop\n1 arrive\n1 out\n1 signal 0 entry\n2 arrive\n1 peek\n1 leave entry\n1 drop\n1 grant\n2 look\n2 out\n",
         status: 0,
+        answer: b"monk 1 NPNB 3 1 buffer 1\nenter 0 free\nwait 0 0 entry\nenter 1 free\nsignal 1 0 stay\nleave 1 entry\nenter 2 handed\n",
     },
-    Play {
+    Job {
         name: "an entry that was not peeked",
-        head: "NPNB 3 1 buffer 1 8",
-        commands: "0 arrive / 0 out / 0 wait 0 waiter / 0 drop / 1 arrive / 1 out / 1 signal 0 entry / 2 arrive / 1 leave entry / 1 grant / 0 look / 0 out",
-        answer: "monk 1 NPNB 3 1 buffer 1 / enter 0 free / wait 0 0 entry / enter 1 free / signal 1 0 stay / leave 1 waiter 0 / resume 0 waiter",
+        task: Task::Play,
+        input: b"play 1 NPNB 3 1 buffer 1 8\n0 arrive\n0 out\n0 wait 0 waiter\n0 drop\n1 arrive\n1 out\n1 signal 0 entry\n2 arrive\n1 leave entry\n1 grant\n0 look\n0 out\n",
         status: 0,
+        answer: b"monk 1 NPNB 3 1 buffer 1\nenter 0 free\nwait 0 0 entry\nenter 1 free\nsignal 1 0 stay\nleave 1 waiter 0\nresume 0 waiter\n",
     },
-    Play {
+    Job {
         name: "refusals, and what comes behind them",
-        head: "PB 1 0 buffer 1 2",
-        commands: "1 arrive / 0 until 0 waiter / 0 drop / 0 arrive / 0 out / 0 act 0 5 / 0 wait 0 waiter / 0 leave waiter / 0 drop / 0 arrive",
-        answer: "monk 1 PB 1 0 buffer 1 / enter 0 free / leave 0 entry",
+        task: Task::Play,
+        input: b"play 1 PB 1 0 buffer 1 2\n1 arrive\n0 until 0 waiter\n0 drop\n0 arrive\n0 out\n0 act 0 5\n0 wait 0 waiter\n0 leave waiter\n0 drop\n0 arrive\n",
         status: 0,
+        answer: b"monk 1 PB 1 0 buffer 1\nenter 0 free\nleave 0 entry\n",
     },
-    Play {
+    Job {
         name: "no commands",
-        head: "NPIS 32 8 shop 64 1048576",
-        commands: "",
-        answer: "monk 1 NPIS 32 8 shop 64",
+        task: Task::Play,
+        input: b"play 1 NPIS 32 8 shop 64 1048576\n",
         status: 0,
+        answer: b"monk 1 NPIS 32 8 shop 64\n",
     },
-    Play {
+    Job {
         name: "a budget of one",
-        head: "PB 1 0 buffer 1 1",
-        commands: "",
-        answer: "unreadable 1 1 header",
+        task: Task::Play,
+        input: b"play 1 PB 1 0 buffer 1 1\n",
         status: 2,
+        answer: b"unreadable 1 1 header\n",
     },
-    Play {
+    Job {
         name: "an action that there is none of",
-        head: "PB 1 0 buffer 1 8",
-        commands: "0 arrive / 0 arrives",
-        answer: "unreadable 3 2 word",
+        task: Task::Play,
+        input: b"play 1 PB 1 0 buffer 1 8\n0 arrive\n0 arrives\n",
         status: 2,
+        answer: b"unreadable 3 2 word\n",
     },
-    Play {
+    Job {
         name: "a seat that is no number",
-        head: "PB 1 0 buffer 1 8",
-        commands: "00 arrive",
-        answer: "unreadable 2 3 number",
+        task: Task::Play,
+        input: b"play 1 PB 1 0 buffer 1 8\n00 arrive\n",
         status: 2,
+        answer: b"unreadable 2 3 number\n",
     },
-    Play {
+    Job {
         name: "a size above the greatest",
-        head: "PB 1 0 book 33 8",
-        commands: "0 arrive",
-        answer: "object",
+        task: Task::Play,
+        input: b"play 1 PB 1 0 book 33 8\n0 arrive\n",
         status: 2,
+        answer: b"object\n",
+    },
+    Job {
+        name: "no text",
+        task: Task::Play,
+        input: b"",
+        status: 2,
+        answer: b"unreadable 1 1 header\n",
+    },
+    Job {
+        name: "a first line that is not finished",
+        task: Task::Play,
+        input: b"play 1 PB 1 0 buffer 1 8",
+        status: 2,
+        answer: b"unreadable 1 4 end\n",
+    },
+    Job {
+        name: "a last line that is not finished",
+        task: Task::Play,
+        input: b"play 1 PB 1 0 buffer 1 8\n0 arrive",
+        status: 2,
+        answer: b"unreadable 2 4 end\n",
+    },
+    Job {
+        name: "a history",
+        task: Task::Play,
+        input: b"monk 1 PB 1 0 buffer 1\n",
+        status: 2,
+        answer: b"unreadable 1 1 header\n",
     },
 ];
 
-/// What is written to a play, and the status.
-fn played(alloc: Global, head: &str, commands: &str, page: &mut Vec<u8>) -> Result<u8, Fail> {
-    let first = format!(in alloc; "play 1 {head}")?;
-    let text = lines(alloc, &first, commands)?;
-    let mut reader = Device::new(text.as_bytes());
-    Ok(play_stream(alloc, &mut reader, &mut Device::new(page))?)
-}
-
 #[test]
 fn plays_are_played(rt: HostRuntime) -> Result<(), Fail> {
-    let alloc = rt.alloc();
-    for play in PLAYS.iter() {
-        let mut page = Vec::new(alloc);
-        let status = played(alloc, play.head, play.commands, &mut page)?;
-        assert!(rt; status == play.status);
-        let (first, rest) = play.answer.split_once(" / ").unwrap_or((play.answer, ""));
-        let wanted = lines(alloc, first, rest)?;
-        assert!(rt; page.as_slice() == wanted.as_bytes());
-    }
-    Ok(())
+    are_answered(&rt, &PLAYS)
 }
 
-/// Each kind over each object, of its greatest size; and what was written is audited.
+/// Whether a visit is played under the kind over the object, and what is written of it is legal.
+fn is_visited(rt: &HostRuntime, kind: &str, object: &str) -> Result<bool, Fail> {
+    let commands = "0 arrive\n0 out\n0 act 0 5\n0 leave entry\n0 drop\n";
+    let play = format!(in rt.alloc(); "play 1 {kind} 2 1 {object} 8\n{commands}")?;
+    let events = "enter 0 free\nact 0 0 5 1\nleave 0 entry\n";
+    let history = format!(in rt.alloc(); "monk 1 {kind} 2 1 {object}\n{events}")?;
+    let visit = Job {
+        name: "a visit",
+        task: Task::Play,
+        input: play.as_bytes(),
+        status: 0,
+        answer: history.as_bytes(),
+    };
+    let judged = Job {
+        name: "what is written of it",
+        task: Task::Audit,
+        input: history.as_bytes(),
+        status: 0,
+        answer: b"legal 3\n",
+    };
+    Ok(is_answered(rt, &visit)? && is_answered(rt, &judged)?)
+}
+
+/// Each kind over each object, of its greatest size.
 #[test]
 fn each_kind_and_object(rt: HostRuntime) -> Result<(), Fail> {
-    let alloc = rt.alloc();
     for kind in [
         "PB", "NPB", "PNB", "NPNB", "PQB", "NPQB", "PIR", "NPIR", "PIS", "NPIS",
     ] {
         for object in ["buffer 64", "book 32", "shop 64"] {
-            let head = format!(in alloc; "{kind} 2 1 {object} 8")?;
-            let mut page = Vec::new(alloc);
-            let commands = "0 arrive / 0 out / 0 act 0 5 / 0 leave entry / 0 drop";
-            let status = played(alloc, &head, commands, &mut page)?;
-            assert!(rt; status == 0);
-            let first = format!(in alloc; "monk 1 {kind} 2 1 {object}")?;
-            let wanted = lines(alloc, &first, "enter 0 free / act 0 0 5 1 / leave 0 entry")?;
-            assert!(rt; page.as_slice() == wanted.as_bytes());
-            let mut verdict = Vec::new(alloc);
-            let mut reader = Device::new(page.as_slice());
-            let status = audit_stream(alloc, &mut reader, &mut Device::new(&mut verdict))?;
-            assert!(rt; status == 0 && verdict.as_slice() == b"legal 3\n".as_slice());
+            assert!(rt; is_visited(&rt, kind, object)?);
         }
-    }
-    Ok(())
-}
-
-/// A text of nothing, and one whose last line isn't finished.
-#[test]
-fn plays_cut_short(rt: HostRuntime) -> Result<(), Fail> {
-    let alloc = rt.alloc();
-    for (text, wanted) in [
-        ("", "unreadable 1 1 header\n"),
-        ("play 1 PB 1 0 buffer 1 8", "unreadable 1 4 end\n"),
-        ("play 1 PB 1 0 buffer 1 8\n0 arrive", "unreadable 2 4 end\n"),
-        ("monk 1 PB 1 0 buffer 1\n", "unreadable 1 1 header\n"),
-    ] {
-        let mut page = Vec::new(alloc);
-        let mut reader = Device::new(text.as_bytes());
-        let status = play_stream(alloc, &mut reader, &mut Device::new(&mut page))?;
-        assert!(rt; status == 2 && page.as_slice() == wanted.as_bytes());
     }
     Ok(())
 }

@@ -3,8 +3,9 @@
 mod halls;
 mod streams;
 
+use super::jobs::is_answered;
 use std::test::Fail;
-use streams::{JOBS, is_answered, is_drawn};
+use streams::{JOBS, is_drawn};
 
 /// Names the call that is made next, so that it can be seen in which one a request was refused.
 fn begins(rt: &HostRuntime, call: &str) -> Result<(), Fail> {

@@ -1,97 +1,120 @@
-use monk_commands::{Line, LineFault, classify_stream, line};
+use monk_commands::{LineFault, StreamFault, classify_stream, line};
 use monk_history::Device;
-use monk_kinds::KindName;
-use monk_logs::{Lapses, WaitsFor};
-use monk_samples::Sample;
 use std::alloc::Global;
 use std::test::Fail;
 
-/// Whether the line is for that task, over that file or standard input.
-fn asks_for(line: &Line, command: &str, file: Option<&str>) -> bool {
-    let (found, name) = match line {
-        Line::Audit(name) => ("audit", name),
-        Line::Play(name) => ("play", name),
-        Line::Upgrade(name) => ("upgrade", name),
-        Line::Fit(name, Lapses::Told, means) if means.is_empty() => ("fit", name),
-        Line::Trace(name) => ("trace", name),
-        Line::Explain(name) => ("explain", name),
-        Line::Draw(name) => ("draw", name),
-        _ => return false,
-    };
-    let same = match (name, file) {
-        (Some(name), Some(file)) => name.as_str() == file,
-        (None, None) => true,
-        _ => false,
-    };
-    found == command && same
+/// Words, and what they ask for.
+static ASKING: [(&[&str], &str); 41] = [
+    (&["monk", "audit"], "Audit(None)"),
+    (&["monk", "audit", "x.text"], "Audit(Some(\"x.text\"))"),
+    (&["monk", "play"], "Play(None)"),
+    (&["monk", "play", "x.text"], "Play(Some(\"x.text\"))"),
+    (&["monk", "upgrade"], "Upgrade(None)"),
+    (&["monk", "upgrade", "x.text"], "Upgrade(Some(\"x.text\"))"),
+    (&["monk", "trace"], "Trace(None)"),
+    (&["monk", "trace", "x.text"], "Trace(Some(\"x.text\"))"),
+    (&["monk", "explain"], "Explain(None)"),
+    (&["monk", "explain", "x.text"], "Explain(Some(\"x.text\"))"),
+    (&["monk", "draw"], "Draw(None)"),
+    (&["monk", "draw", "x.text"], "Draw(Some(\"x.text\"))"),
+    (
+        &["monk", "classify", "3", "0", "255"],
+        "Classify(3, 0, 255)",
+    ),
+    (&["monk", "fit"], "Fit(None, Told, [])"),
+    (
+        &["monk", "fit", "x.text"],
+        "Fit(Some(\"x.text\"), Told, [])",
+    ),
+    (
+        &["monk", "fit", "--lapses", "x.log"],
+        "Fit(Some(\"x.log\"), Allowed, [])",
+    ),
+    (
+        &["monk", "fit", "--means", "0=1", "--means", "7=255"],
+        "Fit(None, Told, [WaitsFor { cond: 0, pred: 1 }, WaitsFor { cond: 7, pred: 255 }])",
+    ),
+    (&["monk", "complete", "PB"], "Complete(Pb, None)"),
+    (&["monk", "complete", "NPB"], "Complete(Npb, None)"),
+    (&["monk", "complete", "PNB"], "Complete(Pnb, None)"),
+    (&["monk", "complete", "NPNB"], "Complete(Npnb, None)"),
+    (&["monk", "complete", "PQB"], "Complete(Pqb, None)"),
+    (&["monk", "complete", "NPQB"], "Complete(Npqb, None)"),
+    (&["monk", "complete", "PIR"], "Complete(Pir, None)"),
+    (&["monk", "complete", "NPIR"], "Complete(Npir, None)"),
+    (&["monk", "complete", "PIS"], "Complete(Pis, None)"),
+    (&["monk", "complete", "NPIS"], "Complete(Npis, None)"),
+    (
+        &["monk", "complete", "NPIR", "x.log"],
+        "Complete(Npir, Some(\"x.log\"))",
+    ),
+    (
+        &["monk", "run", "PB", "book", "2", "1"],
+        "Run(Pb, Book, 2, 1)",
+    ),
+    (
+        &["monk", "run", "NPB", "book", "2", "1"],
+        "Run(Npb, Book, 2, 1)",
+    ),
+    (
+        &["monk", "run", "PNB", "book", "2", "1"],
+        "Run(Pnb, Book, 2, 1)",
+    ),
+    (
+        &["monk", "run", "NPNB", "book", "2", "1"],
+        "Run(Npnb, Book, 2, 1)",
+    ),
+    (
+        &["monk", "run", "PQB", "book", "2", "1"],
+        "Run(Pqb, Book, 2, 1)",
+    ),
+    (
+        &["monk", "run", "NPQB", "book", "2", "1"],
+        "Run(Npqb, Book, 2, 1)",
+    ),
+    (
+        &["monk", "run", "PIR", "book", "2", "1"],
+        "Run(Pir, Book, 2, 1)",
+    ),
+    (
+        &["monk", "run", "NPIR", "book", "2", "1"],
+        "Run(Npir, Book, 2, 1)",
+    ),
+    (
+        &["monk", "run", "PIS", "book", "2", "1"],
+        "Run(Pis, Book, 2, 1)",
+    ),
+    (
+        &["monk", "run", "NPIS", "book", "2", "1"],
+        "Run(Npis, Book, 2, 1)",
+    ),
+    (
+        &["monk", "run", "PIR", "shop", "16", "1000"],
+        "Run(Pir, Shop, 16, 1000)",
+    ),
+    (
+        &["monk", "run", "NPQB", "buffer", "8", "100"],
+        "Run(Npqb, Buffer, 8, 100)",
+    ),
+    (
+        &["monk", "record", "PNB", "shop", "3", "7"],
+        "Record(Pnb, Shop, 3, 7)",
+    ),
+];
+
+/// Whether the words ask for that.
+fn ask_for(alloc: Global, words: &[&str], wanted: &str) -> Result<bool, LineFault> {
+    let line = line(alloc, words)?;
+    Ok(format!(in alloc; "{line:?}")?.as_str() == wanted)
 }
 
 #[test]
 fn words_that_ask(rt: HostRuntime) -> Result<(), Fail> {
-    let alloc = rt.alloc();
-    for command in [
-        "audit", "play", "upgrade", "fit", "trace", "explain", "draw",
-    ] {
-        let bare = line(alloc, &["monk", command])?;
-        assert!(rt; asks_for(&bare, command, None));
-        let named = line(alloc, &["monk", command, "x.text"])?;
-        assert!(rt; asks_for(&named, command, Some("x.text")));
+    for (words, wanted) in ASKING.iter() {
+        if !ask_for(rt.alloc(), words, wanted)? {
+            return Err(*wanted)?;
+        }
     }
-    let classify = line(alloc, &["monk", "classify", "3", "0", "255"])?;
-    assert!(rt; matches!(&classify, Line::Classify(3, 0, 255)));
-    Ok(())
-}
-
-#[test]
-fn words_that_ask_for_a_completion(rt: HostRuntime) -> Result<(), Fail> {
-    let alloc = rt.alloc();
-    for kind in KindName::ALL {
-        let name = str::from_utf8(kind.text())?;
-        let bare = line(alloc, &["monk", "complete", name])?;
-        assert!(rt; matches!(&bare, Line::Complete(found, None) if *found == kind));
-    }
-    let named = line(alloc, &["monk", "complete", "NPIR", "x.log"])?;
-    assert!(rt;
-        matches!(&named, Line::Complete(KindName::Npir, Some(file)) if file.as_str() == "x.log")
-    );
-    Ok(())
-}
-
-/// What is asked of a log: what those wait for who wait on a condition.
-const MEANS: [WaitsFor; 2] = [
-    WaitsFor { cond: 0, pred: 1 },
-    WaitsFor { cond: 7, pred: 255 },
-];
-
-#[test]
-fn words_that_ask_of_a_log(rt: HostRuntime) -> Result<(), Fail> {
-    let alloc = rt.alloc();
-    let lapses = line(alloc, &["monk", "fit", "--lapses", "x.log"])?;
-    assert!(rt;
-        matches!(&lapses, Line::Fit(Some(file), Lapses::Allowed, means) if file.as_str() == "x.log" && means.is_empty())
-    );
-    let words = ["monk", "fit", "--means", "0=1", "--means", "7=255"];
-    let means = line(alloc, &words)?;
-    assert!(rt;
-        matches!(&means, Line::Fit(None, Lapses::Told, means) if means.as_slice() == MEANS.as_slice())
-    );
-    Ok(())
-}
-
-#[test]
-fn words_that_ask_for_a_run(rt: HostRuntime) -> Result<(), Fail> {
-    let alloc = rt.alloc();
-    for kind in KindName::ALL {
-        let name = str::from_utf8(kind.text())?;
-        let least = line(alloc, &["monk", "run", name, "book", "2", "1"])?;
-        assert!(rt; matches!(&least, Line::Run(found, Sample::Book, 2, 1) if *found == kind));
-    }
-    let most = line(alloc, &["monk", "run", "PIR", "shop", "16", "1000"])?;
-    assert!(rt; matches!(&most, Line::Run(KindName::Pir, Sample::Shop, 16, 1000)));
-    let buffer = line(alloc, &["monk", "run", "NPQB", "buffer", "8", "100"])?;
-    assert!(rt; matches!(&buffer, Line::Run(KindName::Npqb, Sample::Buffer, 8, 100)));
-    let record = line(alloc, &["monk", "record", "PNB", "shop", "3", "7"])?;
-    assert!(rt; matches!(&record, Line::Record(KindName::Pnb, Sample::Shop, 3, 7)));
     Ok(())
 }
 
@@ -103,8 +126,8 @@ fn is_refused(alloc: Global, words: &[&str]) -> bool {
     }
 }
 
-/// Words that ask for nothing.
-static NOTHING: [&[&str]; 21] = [
+/// Words that ask for nothing; of a run also a number out of range, and another kind or sample.
+static NOTHING: [&[&str]; 34] = [
     &["monk", "adit"],
     &["monk", "help"],
     &["monk", "--help"],
@@ -126,17 +149,6 @@ static NOTHING: [&[&str]; 21] = [
     &["monk", "classify", "1", "2", "3", "4"],
     &["monk", "classify", "1", "2", "256"],
     &["monk", "classify", "1", "2", "x"],
-];
-
-#[test]
-fn words_that_ask_for_nothing(rt: HostRuntime) {
-    for words in NOTHING.iter() {
-        assert!(rt; is_refused(rt.alloc(), words));
-    }
-}
-
-/// Words that ask for no run: a number out of range, another kind or sample, a word too few or too many.
-static NO_RUN: [&[&str]; 13] = [
     &["monk", "run", "ABC", "buffer", "8", "100"],
     &["monk", "run", "pb", "buffer", "8", "100"],
     &["monk", "run", "PB", "Buffer", "8", "100"],
@@ -153,27 +165,31 @@ static NO_RUN: [&[&str]; 13] = [
 ];
 
 #[test]
-fn words_that_ask_for_no_run(rt: HostRuntime) {
-    for words in NO_RUN.iter() {
+fn words_that_ask_for_nothing(rt: HostRuntime) {
+    for words in NOTHING.iter() {
         assert!(rt; is_refused(rt.alloc(), words));
     }
 }
 
+/// Whether that is what is written of the priorities of the entry, waiter and signaller queues.
+fn are_classified(alloc: Global, of: (u8, u8, u8), wanted: &[u8]) -> Result<bool, StreamFault> {
+    let mut page = Vec::new(alloc);
+    let status = classify_stream(of.0, of.1, of.2, &mut Device::new(&mut page))?;
+    Ok(status == 0 && page.as_slice() == wanted)
+}
+
+static ORDERINGS: [((u8, u8, u8), &[u8]); 5] = [
+    ((3, 1, 2), b"Wp<Sp<Ep\nrejected\n"),
+    ((1, 3, 2), b"Ep<Sp<Wp\nPB\n"),
+    ((7, 7, 7), b"Ep=Wp=Sp\nNPQB\n"),
+    ((0, 255, 255), b"Ep<Wp=Sp\nPQB\n"),
+    ((1, 0, 1), b"Wp<Ep=Sp\nrejected\n"),
+];
+
 #[test]
 fn priorities_have_an_ordering(rt: HostRuntime) -> Result<(), Fail> {
-    let alloc = rt.alloc();
-    for (priorities, wanted) in [
-        ((3u8, 1u8, 2u8), "Wp<Sp<Ep\nrejected\n"),
-        ((1, 3, 2), "Ep<Sp<Wp\nPB\n"),
-        ((7, 7, 7), "Ep=Wp=Sp\nNPQB\n"),
-        ((0, 255, 255), "Ep<Wp=Sp\nPQB\n"),
-        ((1, 0, 1), "Wp<Ep=Sp\nrejected\n"),
-    ] {
-        let mut page = Vec::new(alloc);
-        let mut writer = Device::new(&mut page);
-        let status = classify_stream(priorities.0, priorities.1, priorities.2, &mut writer)?;
-        assert!(rt; status == 0);
-        assert!(rt; page.as_slice() == wanted.as_bytes());
+    for (priorities, wanted) in ORDERINGS.iter() {
+        assert!(rt; are_classified(rt.alloc(), *priorities, wanted)?);
     }
     Ok(())
 }

@@ -2,7 +2,7 @@
 
 use monk_audit::{AuditFault, Verdict};
 use monk_history::{Event, From3, Next, Turn, read};
-use monk_tell::{Queues, Seats, Telling, tell};
+use monk_tell::{Blame, Choice, Queues, Seats, Telling, tell};
 use std::test::Fail;
 
 /// A hand-over as Hoare's, of a kind whose signallers go on.
@@ -32,56 +32,87 @@ fn are(seats: &Seats, want: &[u8]) -> bool {
     seats.0.as_slice() == want
 }
 
+/// Whether the seats of the second condition wait, and no others.
+fn wait_on_the_second(queues: &Queues, want: &[u8]) -> bool {
+    let Queues::Explicit(conditions, waiters, signallers) = queues else {
+        return false;
+    };
+    let seats = conditions.0.as_slice();
+    if seats.len() != 2 {
+        return false;
+    }
+    are(&seats[0], &[]) && are(&seats[1], want) && are(waiters, &[]) && are(signallers, &[])
+}
+
+/// Whether the choice was among those first in their queues, and had to be this one.
+fn had_to_be(choice: &Option<Choice>, fronts: &[(From3, u8)], next: Next) -> bool {
+    match choice {
+        Some(choice) => {
+            choice.fronts.0.as_slice() == fronts && choice.may.0.as_slice() == [next].as_slice()
+        }
+        None => false,
+    }
+}
+
+/// Whether the signal is blamed, which had to let its seat go on.
+fn blames_the_signal(blame: &Option<Blame>) -> bool {
+    match blame {
+        Some(blame) => {
+            blame.step == 6
+                && blame.event == Event::Signal(1, 1, Next::Waiter(0))
+                && blame.reply.is_none()
+                && had_to_be(
+                    &blame.choice,
+                    &[(From3::Waiter, 0), (From3::Signaller, 1)],
+                    Next::Stay,
+                )
+        }
+        None => false,
+    }
+}
+
 #[test]
 fn choice_is_told(rt: HostRuntime) -> Result<(), Fail> {
     let told = telling(&rt, UNDER_MESA)?;
-    assert!(rt; told.verdict == Verdict::Forbidden { step: 6, reason: 6 });
-    assert!(rt; told.situation.turn == Turn::Owned(1));
-    assert!(rt; are(&told.situation.inside, &[0, 1]));
-    assert!(rt; told.situation.data.0.as_slice() == [1, 7].as_slice());
-    let Queues::Explicit(conditions, waiters, signallers) = &told.situation.queues else {
-        return Err("the queues of an explicit kind")?;
-    };
-    assert!(rt; conditions.0.len() == 2);
-    assert!(rt; are(&conditions.0[0], &[]) && are(&conditions.0[1], &[0]));
-    assert!(rt; are(waiters, &[]) && are(signallers, &[]));
-    let Some(blame) = &told.blame else {
-        return Err("what is wrong")?;
-    };
-    assert!(rt; blame.step == 6);
-    assert!(rt; blame.event == Event::Signal(1, 1, Next::Waiter(0)));
-    assert!(rt; blame.reply.is_none());
-    let Some(choice) = &blame.choice else {
-        return Err("a choice")?;
-    };
-    assert!(rt;
-        choice.fronts.0.as_slice() == [(From3::Waiter, 0), (From3::Signaller, 1)].as_slice()
-    );
-    assert!(rt; choice.may.0.as_slice() == [Next::Stay].as_slice());
+    let situation = &told.situation;
+    let is_told = told.verdict == Verdict::Forbidden { step: 6, reason: 6 }
+        && situation.turn == Turn::Owned(1)
+        && are(&situation.inside, &[0, 1])
+        && situation.data.0.as_slice() == [1, 7].as_slice();
+    let is_why = wait_on_the_second(&situation.queues, &[0]) && blames_the_signal(&told.blame);
+    assert!(rt; is_told && is_why);
     Ok(())
+}
+
+/// Whether nobody waits until a predicate holds.
+fn nobody_waits(queues: &Queues) -> bool {
+    match queues {
+        Queues::Automatic(untils, ready) => untils.0.is_empty() && ready.0.is_empty(),
+        _ => false,
+    }
 }
 
 #[test]
 fn waits_until_are_told(rt: HostRuntime) -> Result<(), Fail> {
     let told = telling(&rt, UNTIL)?;
-    assert!(rt; told.verdict == Verdict::Legal(5) && told.blame.is_none());
-    assert!(rt; told.situation.turn == Turn::Due(0, From3::Until));
-    assert!(rt; are(&told.situation.inside, &[0]));
-    let Queues::Automatic(untils, ready) = &told.situation.queues else {
-        return Err("the queues of an automatic kind")?;
-    };
-    assert!(rt; untils.0.is_empty() && ready.0.is_empty());
+    let situation = &told.situation;
+    let is_told = told.verdict == Verdict::Legal(5)
+        && told.blame.is_none()
+        && situation.turn == Turn::Due(0, From3::Until)
+        && are(&situation.inside, &[0])
+        && nobody_waits(&situation.queues);
+    assert!(rt; is_told);
     Ok(())
 }
 
 #[test]
 fn reply_is_told(rt: HostRuntime) -> Result<(), Fail> {
     let told = telling(&rt, WRONG_REPLY)?;
-    assert!(rt; told.verdict == Verdict::Forbidden { step: 2, reason: 5 });
-    let Some(blame) = &told.blame else {
-        return Err("what is wrong")?;
+    let is_blamed = match &told.blame {
+        Some(blame) => blame.reply == Some(0) && blame.choice.is_none(),
+        None => false,
     };
-    assert!(rt; blame.reply == Some(0) && blame.choice.is_none());
+    assert!(rt; is_blamed && told.verdict == Verdict::Forbidden { step: 2, reason: 5 });
     Ok(())
 }
 

@@ -1,301 +1,274 @@
 //! Texts of version 2, and what they are upgraded to.
 
-use super::histories::{Story, is_answered};
-use super::lines::lines;
-use monk_commands::{play_stream, upgrade_stream};
-use monk_history::Device;
-use std::process::Abort;
+use super::jobs::{Job, are_answered};
+use monk_commands::Task;
 use std::test::Fail;
 
-/// With the version in front of each header.
-static STORIES: [Story; 26] = [
-    Story {
+static TEXTS: [Job<'static>; 30] = [
+    Job {
         name: "broadcast_wakes_all",
-        header: "2 PNB 3 1 buffer 1",
-        events: "enter 0 free / wait 0 0 entry / enter 1 free / wait 1 0 entry / enter 2 free / signal-all 2 0 / leave 2 waiter 0 / resume 0 waiter / leave 0 waiter 1 / resume 1 waiter / leave 1 entry",
-        answer: "legal 11\n",
+        task: Task::Audit,
+        input: b"monk 2 PNB 3 1 buffer 1\nenter 0 free\nwait 0 0 entry\nenter 1 free\nwait 1 0 entry\nenter 2 free\nsignal-all 2 0\nleave 2 waiter 0\nresume 0 waiter\nleave 0 waiter 1\nresume 1 waiter\nleave 1 entry\n",
         status: 0,
+        answer: b"legal 11\n",
     },
-    Story {
+    Job {
         name: "broadcast past which nobody may enter",
-        header: "2 PNB 3 1 buffer 1",
-        events: "enter 0 free / wait 0 0 entry / enter 1 free / wait 1 0 entry / enter 2 free / signal-all 2 0 / leave 2 entry",
-        answer: "forbidden 7 6 choice\n",
+        task: Task::Audit,
+        input: b"monk 2 PNB 3 1 buffer 1\nenter 0 free\nwait 0 0 entry\nenter 1 free\nwait 1 0 entry\nenter 2 free\nsignal-all 2 0\nleave 2 entry\n",
         status: 1,
+        answer: b"forbidden 7 6 choice\n",
     },
-    Story {
+    Job {
         name: "broadcast past which somebody may enter",
-        header: "2 NPNB 3 1 buffer 1",
-        events: "enter 0 free / wait 0 0 entry / enter 1 free / wait 1 0 entry / enter 2 free / signal-all 2 0 / leave 2 entry",
-        answer: "legal 7\n",
+        task: Task::Audit,
+        input: b"monk 2 NPNB 3 1 buffer 1\nenter 0 free\nwait 0 0 entry\nenter 1 free\nwait 1 0 entry\nenter 2 free\nsignal-all 2 0\nleave 2 entry\n",
         status: 0,
+        answer: b"legal 7\n",
     },
-    Story {
+    Job {
         name: "broadcast serves the first first",
-        header: "2 PNB 3 1 buffer 1",
-        events: "enter 0 free / wait 0 0 entry / enter 1 free / wait 1 0 entry / enter 2 free / signal-all 2 0 / leave 2 waiter 1",
-        answer: "forbidden 7 6 choice\n",
+        task: Task::Audit,
+        input: b"monk 2 PNB 3 1 buffer 1\nenter 0 free\nwait 0 0 entry\nenter 1 free\nwait 1 0 entry\nenter 2 free\nsignal-all 2 0\nleave 2 waiter 1\n",
         status: 1,
+        answer: b"forbidden 7 6 choice\n",
     },
-    Story {
+    Job {
         name: "broadcast under a blocking kind",
-        header: "2 PB 3 1 buffer 1",
-        events: "enter 0 free / wait 0 0 entry / enter 1 free / wait 1 0 entry / enter 2 free / signal-all 2 0 / leave 2 waiter 0 / resume 0 waiter / leave 0 waiter 1 / resume 1 waiter / leave 1 entry",
-        answer: "forbidden 6 2 call\n",
+        task: Task::Audit,
+        input: b"monk 2 PB 3 1 buffer 1\nenter 0 free\nwait 0 0 entry\nenter 1 free\nwait 1 0 entry\nenter 2 free\nsignal-all 2 0\nleave 2 waiter 0\nresume 0 waiter\nleave 0 waiter 1\nresume 1 waiter\nleave 1 entry\n",
         status: 1,
+        answer: b"forbidden 6 2 call\n",
     },
-    Story {
+    Job {
         name: "broadcast under a quasi-blocking kind",
-        header: "2 PQB 3 1 buffer 1",
-        events: "enter 0 free / wait 0 0 entry / enter 1 free / wait 1 0 entry / enter 2 free / signal-all 2 0 / leave 2 waiter 0 / resume 0 waiter / leave 0 waiter 1 / resume 1 waiter / leave 1 entry",
-        answer: "forbidden 6 2 call\n",
+        task: Task::Audit,
+        input: b"monk 2 PQB 3 1 buffer 1\nenter 0 free\nwait 0 0 entry\nenter 1 free\nwait 1 0 entry\nenter 2 free\nsignal-all 2 0\nleave 2 waiter 0\nresume 0 waiter\nleave 0 waiter 1\nresume 1 waiter\nleave 1 entry\n",
         status: 1,
+        answer: b"forbidden 6 2 call\n",
     },
-    Story {
+    Job {
         name: "broadcast under immediate return",
-        header: "2 PIR 3 1 buffer 1",
-        events: "enter 0 free / wait 0 0 entry / enter 1 free / wait 1 0 entry / enter 2 free / signal-all 2 0 / leave 2 waiter 0 / resume 0 waiter / leave 0 waiter 1 / resume 1 waiter / leave 1 entry",
-        answer: "forbidden 6 2 call\n",
+        task: Task::Audit,
+        input: b"monk 2 PIR 3 1 buffer 1\nenter 0 free\nwait 0 0 entry\nenter 1 free\nwait 1 0 entry\nenter 2 free\nsignal-all 2 0\nleave 2 waiter 0\nresume 0 waiter\nleave 0 waiter 1\nresume 1 waiter\nleave 1 entry\n",
         status: 1,
+        answer: b"forbidden 6 2 call\n",
     },
-    Story {
+    Job {
         name: "broadcast in a text of version 1",
-        header: "1 PNB 3 1 buffer 1",
-        events: "enter 0 free / wait 0 0 entry / enter 1 free / wait 1 0 entry / enter 2 free / signal-all 2 0 / leave 2 waiter 0 / resume 0 waiter / leave 0 waiter 1 / resume 1 waiter / leave 1 entry",
-        answer: "unreadable 7 2 word\n",
+        task: Task::Audit,
+        input: b"monk 1 PNB 3 1 buffer 1\nenter 0 free\nwait 0 0 entry\nenter 1 free\nwait 1 0 entry\nenter 2 free\nsignal-all 2 0\nleave 2 waiter 0\nresume 0 waiter\nleave 0 waiter 1\nresume 1 waiter\nleave 1 entry\n",
         status: 2,
+        answer: b"unreadable 7 2 word\n",
     },
-    Story {
+    Job {
         name: "broadcast to nobody",
-        header: "2 PNB 3 1 buffer 1",
-        events: "enter 0 free / signal-all 0 0 / leave 0 entry",
-        answer: "legal 3\n",
+        task: Task::Audit,
+        input: b"monk 2 PNB 3 1 buffer 1\nenter 0 free\nsignal-all 0 0\nleave 0 entry\n",
         status: 0,
+        answer: b"legal 3\n",
     },
-    Story {
+    Job {
         name: "broadcast on no condition",
-        header: "2 PNB 3 1 buffer 1",
-        events: "enter 0 free / signal-all 0 1",
-        answer: "forbidden 2 1 range\n",
+        task: Task::Audit,
+        input: b"monk 2 PNB 3 1 buffer 1\nenter 0 free\nsignal-all 0 1\n",
         status: 1,
+        answer: b"forbidden 2 1 range\n",
     },
-    Story {
+    Job {
         name: "signal_wait_ping_pong",
-        header: "2 PIR 2 2 buffer 1",
-        events: "enter 0 free / wait 0 0 entry / enter 1 free / signal-wait 1 0 1 waiter 0 / resume 0 waiter / signal-wait 0 1 0 waiter 1 / resume 1 waiter / signal-leave 1 0 waiter 0 / resume 0 waiter / leave 0 entry",
-        answer: "legal 10\n",
+        task: Task::Audit,
+        input: b"monk 2 PIR 2 2 buffer 1\nenter 0 free\nwait 0 0 entry\nenter 1 free\nsignal-wait 1 0 1 waiter 0\nresume 0 waiter\nsignal-wait 0 1 0 waiter 1\nresume 1 waiter\nsignal-leave 1 0 waiter 0\nresume 0 waiter\nleave 0 entry\n",
         status: 0,
+        answer: b"legal 10\n",
     },
-    Story {
+    Job {
         name: "signal-wait past a waiter",
-        header: "2 PIR 2 2 buffer 1",
-        events: "enter 0 free / wait 0 0 entry / enter 1 free / signal-wait 1 0 1 entry",
-        answer: "forbidden 4 6 choice\n",
+        task: Task::Audit,
+        input: b"monk 2 PIR 2 2 buffer 1\nenter 0 free\nwait 0 0 entry\nenter 1 free\nsignal-wait 1 0 1 entry\n",
         status: 1,
+        answer: b"forbidden 4 6 choice\n",
     },
-    Story {
+    Job {
         name: "signal-wait past a waiter in a tie",
-        header: "2 NPIR 2 2 buffer 1",
-        events: "enter 0 free / wait 0 0 entry / enter 1 free / signal-wait 1 0 1 entry",
-        answer: "legal 4\n",
+        task: Task::Audit,
+        input: b"monk 2 NPIR 2 2 buffer 1\nenter 0 free\nwait 0 0 entry\nenter 1 free\nsignal-wait 1 0 1 entry\n",
         status: 0,
+        answer: b"legal 4\n",
     },
-    Story {
+    Job {
         name: "signal-wait on one condition",
-        header: "2 PIR 2 2 buffer 1",
-        events: "enter 0 free / wait 0 0 entry / enter 1 free / signal-wait 1 0 0 waiter 0",
-        answer: "legal 4\n",
+        task: Task::Audit,
+        input: b"monk 2 PIR 2 2 buffer 1\nenter 0 free\nwait 0 0 entry\nenter 1 free\nsignal-wait 1 0 0 waiter 0\n",
         status: 0,
+        answer: b"legal 4\n",
     },
-    Story {
+    Job {
         name: "signal-wait serves its seat never",
-        header: "2 PIR 2 2 buffer 1",
-        events: "enter 0 free / wait 0 0 entry / enter 1 free / signal-wait 1 0 0 waiter 1",
-        answer: "forbidden 4 6 choice\n",
+        task: Task::Audit,
+        input: b"monk 2 PIR 2 2 buffer 1\nenter 0 free\nwait 0 0 entry\nenter 1 free\nsignal-wait 1 0 0 waiter 1\n",
         status: 1,
+        answer: b"forbidden 4 6 choice\n",
     },
-    Story {
+    Job {
         name: "signal-wait can't stay",
-        header: "2 PIR 2 2 buffer 1",
-        events: "enter 0 free / wait 0 0 entry / enter 1 free / signal-wait 1 0 1 stay",
-        answer: "forbidden 4 6 choice\n",
+        task: Task::Audit,
+        input: b"monk 2 PIR 2 2 buffer 1\nenter 0 free\nwait 0 0 entry\nenter 1 free\nsignal-wait 1 0 1 stay\n",
         status: 1,
+        answer: b"forbidden 4 6 choice\n",
     },
-    Story {
+    Job {
         name: "signal-wait on an empty condition",
-        header: "2 PIR 2 2 buffer 1",
-        events: "enter 0 free / wait 0 0 entry / enter 1 free / signal-wait 1 1 0 entry",
-        answer: "legal 4\n",
+        task: Task::Audit,
+        input: b"monk 2 PIR 2 2 buffer 1\nenter 0 free\nwait 0 0 entry\nenter 1 free\nsignal-wait 1 1 0 entry\n",
         status: 0,
+        answer: b"legal 4\n",
     },
-    Story {
+    Job {
         name: "signal-wait on no condition",
-        header: "2 PIR 2 2 buffer 1",
-        events: "enter 0 free / wait 0 0 entry / enter 1 free / signal-wait 1 0 2 waiter 0",
-        answer: "forbidden 4 1 range\n",
+        task: Task::Audit,
+        input: b"monk 2 PIR 2 2 buffer 1\nenter 0 free\nwait 0 0 entry\nenter 1 free\nsignal-wait 1 0 2 waiter 0\n",
         status: 1,
+        answer: b"forbidden 4 1 range\n",
     },
-    Story {
+    Job {
         name: "signal-wait signals no condition",
-        header: "2 PIR 2 2 buffer 1",
-        events: "enter 0 free / wait 0 0 entry / enter 1 free / signal-wait 1 2 0 waiter 0",
-        answer: "forbidden 4 1 range\n",
+        task: Task::Audit,
+        input: b"monk 2 PIR 2 2 buffer 1\nenter 0 free\nwait 0 0 entry\nenter 1 free\nsignal-wait 1 2 0 waiter 0\n",
         status: 1,
+        answer: b"forbidden 4 1 range\n",
     },
-    Story {
+    Job {
         name: "signal-wait under a blocking kind",
-        header: "2 PB 2 2 buffer 1",
-        events: "enter 0 free / wait 0 0 entry / enter 1 free / signal-wait 1 0 1 waiter 0",
-        answer: "forbidden 4 2 call\n",
+        task: Task::Audit,
+        input: b"monk 2 PB 2 2 buffer 1\nenter 0 free\nwait 0 0 entry\nenter 1 free\nsignal-wait 1 0 1 waiter 0\n",
         status: 1,
+        answer: b"forbidden 4 2 call\n",
     },
-    Story {
+    Job {
         name: "signal-wait in a text of version 1",
-        header: "1 PIR 2 2 buffer 1",
-        events: "enter 0 free / wait 0 0 entry / enter 1 free / signal-wait 1 0 1 waiter 0",
-        answer: "unreadable 5 2 word\n",
+        task: Task::Audit,
+        input: b"monk 1 PIR 2 2 buffer 1\nenter 0 free\nwait 0 0 entry\nenter 1 free\nsignal-wait 1 0 1 waiter 0\n",
         status: 2,
+        answer: b"unreadable 5 2 word\n",
     },
-    Story {
+    Job {
         name: "a condition too few",
-        header: "2 PIR 2 2 buffer 1",
-        events: "enter 0 free / wait 0 0 entry / enter 1 free / signal-wait 1 0 waiter 0",
-        answer: "unreadable 5 3 number\n",
+        task: Task::Audit,
+        input: b"monk 2 PIR 2 2 buffer 1\nenter 0 free\nwait 0 0 entry\nenter 1 free\nsignal-wait 1 0 waiter 0\n",
         status: 2,
+        answer: b"unreadable 5 3 number\n",
     },
-    Story {
+    Job {
         name: "a next behind a broadcast",
-        header: "2 PNB 2 1 buffer 1",
-        events: "enter 0 free / signal-all 0 0 stay",
-        answer: "unreadable 3 2 word\n",
+        task: Task::Audit,
+        input: b"monk 2 PNB 2 1 buffer 1\nenter 0 free\nsignal-all 0 0 stay\n",
         status: 2,
+        answer: b"unreadable 3 2 word\n",
     },
-    Story {
+    Job {
         name: "a version to come",
-        header: "3 PB 2 2 buffer 1",
-        events: "",
-        answer: "unreadable 1 1 header\n",
+        task: Task::Audit,
+        input: b"monk 3 PB 2 2 buffer 1\n",
         status: 2,
+        answer: b"unreadable 1 1 header\n",
     },
-    Story {
+    Job {
         name: "no version",
-        header: "0 PB 2 2 buffer 1",
-        events: "",
-        answer: "unreadable 1 1 header\n",
+        task: Task::Audit,
+        input: b"monk 0 PB 2 2 buffer 1\n",
         status: 2,
+        answer: b"unreadable 1 1 header\n",
     },
-    Story {
+    Job {
         name: "old events in a text of version 2",
-        header: "2 PB 2 0 buffer 1",
-        events: "enter 0 free / leave 0 entry",
-        answer: "legal 2\n",
+        task: Task::Audit,
+        input: b"monk 2 PB 2 0 buffer 1\nenter 0 free\nleave 0 entry\n",
         status: 0,
+        answer: b"legal 2\n",
+    },
+    Job {
+        name: "broadcast that is played",
+        task: Task::Play,
+        input: b"play 2 PNB 2 1 buffer 1 8\n0 arrive\n0 out\n0 wait 0 waiter\n0 drop\n1 arrive\n1 out\n1 signal-all 0\n1 leave waiter\n1 drop\n1 grant\n0 look\n0 out\n0 leave waiter\n0 drop\n",
+        status: 0,
+        answer: b"monk 2 PNB 2 1 buffer 1\nenter 0 free\nwait 0 0 entry\nenter 1 free\nsignal-all 1 0\nleave 1 waiter 0\nresume 0 waiter\nleave 0 entry\n",
+    },
+    Job {
+        name: "signal-wait that is played",
+        task: Task::Play,
+        input: b"play 2 PIR 2 2 buffer 1 8\n0 arrive\n0 out\n0 wait 0 waiter\n0 drop\n1 arrive\n1 out\n1 signal-wait 0 1 waiter\n1 grant\n0 look\n0 out\n0 signal-wait 1 0 waiter\n0 grant\n1 look\n1 out\n",
+        status: 0,
+        answer: b"monk 2 PIR 2 2 buffer 1\nenter 0 free\nwait 0 0 entry\nenter 1 free\nsignal-wait 1 0 1 waiter 0\nresume 0 waiter\nsignal-wait 0 1 0 waiter 1\nresume 1 waiter\n",
+    },
+    Job {
+        name: "broadcast in a play of version 1",
+        task: Task::Play,
+        input: b"play 1 PNB 2 1 buffer 1 8\n0 arrive\n0 out\n0 signal-all 0\n",
+        status: 2,
+        answer: b"unreadable 4 2 word\n",
+    },
+    Job {
+        name: "play of version 3",
+        task: Task::Play,
+        input: b"play 3 PNB 2 1 buffer 1 8\n",
+        status: 2,
+        answer: b"unreadable 1 1 header\n",
     },
 ];
 
 #[test]
-fn stories_of_version_two_are_answered(rt: HostRuntime) -> Result<(), Fail> {
-    for story in STORIES.iter() {
-        let first = format!(in rt.alloc(); "monk {}", story.header)?;
-        let text = lines(rt.alloc(), first.as_str(), story.events)?;
-        is_answered(&rt, story, text.as_str())?;
-    }
-    Ok(())
+fn texts_of_version_two_are_answered(rt: HostRuntime) -> Result<(), Fail> {
+    are_answered(&rt, &TEXTS)
 }
 
-/// A play of version 2, and the lines that are written to it.
-struct Play {
-    first: &'static str,
-    commands: &'static str,
-    status: u8,
-    answer: &'static str,
-}
-
-static PLAYS: [Play; 4] = [
-    Play {
-        first: "play 2 PNB 2 1 buffer 1 8",
-        commands: "0 arrive / 0 out / 0 wait 0 waiter / 0 drop / 1 arrive / 1 out / 1 signal-all 0 / 1 leave waiter / 1 drop / 1 grant / 0 look / 0 out / 0 leave waiter / 0 drop",
+static UPGRADES: [Job<'static>; 6] = [
+    Job {
+        name: "a text of version 1",
+        task: Task::Upgrade,
+        input: b"monk 1 PB 2 2 buffer 1\nenter 0 free\nwait 0 1 entry\nenter 1 free\nsignal 1 1 waiter 0\nresume 0 waiter\nleave 0 signaller 1\nresume 1 signaller\nleave 1 entry\n",
         status: 0,
-        answer: "monk 2 PNB 2 1 buffer 1 / enter 0 free / wait 0 0 entry / enter 1 free / signal-all 1 0 / leave 1 waiter 0 / resume 0 waiter / leave 0 entry",
+        answer: b"monk 2 PB 2 2 buffer 1\nenter 0 free\nwait 0 1 entry\nenter 1 free\nsignal 1 1 waiter 0\nresume 0 waiter\nleave 0 signaller 1\nresume 1 signaller\nleave 1 entry\n",
     },
-    Play {
-        first: "play 2 PIR 2 2 buffer 1 8",
-        commands: "0 arrive / 0 out / 0 wait 0 waiter / 0 drop / 1 arrive / 1 out / 1 signal-wait 0 1 waiter / 1 grant / 0 look / 0 out / 0 signal-wait 1 0 waiter / 0 grant / 1 look / 1 out",
+    Job {
+        name: "a text of version 2",
+        task: Task::Upgrade,
+        input: b"monk 2 PB 2 2 buffer 1\nenter 0 free\nwait 0 1 entry\nenter 1 free\nsignal 1 1 waiter 0\nresume 0 waiter\nleave 0 signaller 1\nresume 1 signaller\nleave 1 entry\n",
         status: 0,
-        answer: "monk 2 PIR 2 2 buffer 1 / enter 0 free / wait 0 0 entry / enter 1 free / signal-wait 1 0 1 waiter 0 / resume 0 waiter / signal-wait 0 1 0 waiter 1 / resume 1 waiter",
+        answer: b"monk 2 PB 2 2 buffer 1\nenter 0 free\nwait 0 1 entry\nenter 1 free\nsignal 1 1 waiter 0\nresume 0 waiter\nleave 0 signaller 1\nresume 1 signaller\nleave 1 entry\n",
     },
-    Play {
-        first: "play 1 PNB 2 1 buffer 1 8",
-        commands: "0 arrive / 0 out / 0 signal-all 0",
-        status: 2,
-        answer: "unreadable 4 2 word",
+    // Neither the size nor the rules are judged.
+    Job {
+        name: "a size and a rule that no monitor has",
+        task: Task::Upgrade,
+        input: b"monk 1 PNB 1 0 buffer 255\nleave 0 entry\n",
+        status: 0,
+        answer: b"monk 2 PNB 1 0 buffer 255\nleave 0 entry\n",
     },
-    Play {
-        first: "play 3 PNB 2 1 buffer 1 8",
-        commands: "",
+    Job {
+        name: "no version yet",
+        task: Task::Upgrade,
+        input: b"monk 3 PB 2 2 buffer 1\n",
         status: 2,
-        answer: "unreadable 1 1 header",
+        answer: b"unreadable 1 1 header\n",
+    },
+    Job {
+        name: "a broadcast in a text of version 1",
+        task: Task::Upgrade,
+        input: b"monk 1 PB 2 2 buffer 1\nsignal-all 0 0\n",
+        status: 2,
+        answer: b"unreadable 2 2 word\n",
+    },
+    Job {
+        name: "no end",
+        task: Task::Upgrade,
+        input: b"monk 1 PB 2 2 buffer 1",
+        status: 2,
+        answer: b"unreadable 1 4 end\n",
     },
 ];
-
-#[test]
-fn plays_of_version_two_are_played(rt: HostRuntime) -> Result<(), Fail> {
-    let alloc = rt.alloc();
-    for play in PLAYS.iter() {
-        let text = lines(alloc, play.first, play.commands)?;
-        let (first, rest) = play.answer.split_once(" / ").unwrap_or((play.answer, ""));
-        let answer = lines(alloc, first, rest)?;
-        let mut page = Vec::new(alloc);
-        let mut reader = Device::new(text.as_bytes());
-        let status = play_stream(alloc, &mut reader, &mut Device::new(&mut page))?;
-        assert!(rt; status == play.status);
-        assert!(rt; page.as_slice() == answer.as_bytes());
-    }
-    Ok(())
-}
-
-/// The lines of the stored run.
-const RUN: &str =
-    "enter 0 free / wait 0 1 entry / enter 1 free / signal 1 1 waiter 0 / resume 0 waiter / leave 0 signaller 1 / resume 1 signaller / leave 1 entry";
-
-/// Whether the text is upgraded with that status, and to these bytes.
-fn is_upgraded<R: Abort + AllocGlobal>(
-    rt: &R,
-    text: &str,
-    status: u8,
-    answer: &str,
-) -> Result<(), Fail> {
-    let alloc = rt.alloc();
-    let mut page = Vec::new(alloc);
-    let mut reader = Device::new(text.as_bytes());
-    let mut writer = Device::new(&mut page);
-    assert!(rt; upgrade_stream(alloc, &mut reader, &mut writer)? == status);
-    assert!(rt; page.as_slice() == answer.as_bytes());
-    Ok(())
-}
 
 #[test]
 fn texts_are_upgraded(rt: HostRuntime) -> Result<(), Fail> {
-    let alloc = rt.alloc();
-    let old = lines(alloc, "monk 1 PB 2 2 buffer 1", RUN)?;
-    let new = lines(alloc, "monk 2 PB 2 2 buffer 1", RUN)?;
-    is_upgraded(&rt, old.as_str(), 0, new.as_str())?;
-    is_upgraded(&rt, new.as_str(), 0, new.as_str())?;
-    // neither the size nor the rules are judged
-    let big = lines(alloc, "monk 1 PNB 1 0 buffer 255", "leave 0 entry")?;
-    let judged = lines(alloc, "monk 2 PNB 1 0 buffer 255", "leave 0 entry")?;
-    is_upgraded(&rt, big.as_str(), 0, judged.as_str())?;
-    is_upgraded(
-        &rt,
-        "monk 3 PB 2 2 buffer 1\n",
-        2,
-        "unreadable 1 1 header\n",
-    )?;
-    is_upgraded(
-        &rt,
-        "monk 1 PB 2 2 buffer 1\nsignal-all 0 0\n",
-        2,
-        "unreadable 2 2 word\n",
-    )?;
-    is_upgraded(&rt, "monk 1 PB 2 2 buffer 1", 2, "unreadable 1 4 end\n")
+    are_answered(&rt, &UPGRADES)
 }

@@ -1,3 +1,4 @@
+use crate::tests::jobs::Job;
 use monk_commands::{StreamFault, Task};
 use monk_history::Device;
 use monk_kinds::KindName;
@@ -5,16 +6,8 @@ use monk_logs::{Lapses, WaitsFor};
 use std::io;
 use std::io::Write;
 
-/// An input, what is made of it, and what is answered; and what `checks/fail_alloc` calls it.
-pub(super) struct Job {
-    pub(super) name: &'static str,
-    task: Task<'static>,
-    input: &'static [u8],
-    status: u8,
-    answer: &'static [u8],
-}
-
-pub(super) static JOBS: [Job; 18] = [
+/// By the names that `checks/fail_alloc` knows them by.
+pub(super) static JOBS: [Job<'static>; 18] = [
     Job {
         name: "legal",
         task: Task::Audit,
@@ -144,52 +137,6 @@ pub(super) static JOBS: [Job; 18] = [
         answer: b"unreadable 3 2 word\n",
     },
 ];
-
-/// A writer that keeps nothing: it compares what it gets with what is still expected.
-#[derive(Drop)]
-struct Expected<'a> {
-    rest: &'a [u8],
-    differs: bool,
-}
-
-impl Write for Expected<'_> {
-    fn write(&mut self, buf: &[u8]) -> io::Result<usize> {
-        if buf.len() > self.rest.len() {
-            self.differs = true;
-            return Ok(buf.len());
-        }
-        let (front, rest) = self.rest.split_at(buf.len());
-        if front != buf {
-            self.differs = true;
-        }
-        self.rest = rest;
-        Ok(buf.len())
-    }
-
-    fn flush(&mut self) -> io::Result<()> {
-        Ok(())
-    }
-}
-
-/// Whether the stream wrote the answer that was looked for, and nothing else, with its status. Where memory was refused, that
-/// is the fault, and nothing was written.
-pub(super) fn is_answered(rt: &HostRuntime, job: &Job) -> Result<bool, StreamFault> {
-    let mut answer = Expected {
-        rest: job.answer,
-        differs: false,
-    };
-    let mut reader = Device::new(job.input);
-    let told = job
-        .task
-        .stream(rt.alloc(), &mut reader, &mut Device::new(&mut answer));
-    let is_whole = !answer.differs && answer.rest.is_empty();
-    let is_untouched = !answer.differs && answer.rest.len() == job.answer.len();
-    match told {
-        Ok(status) => Ok(status == job.status && is_whole),
-        Err(fault) if is_untouched => Err(fault),
-        Err(_) => Ok(false),
-    }
-}
 
 /// A writer that keeps nothing but how long what it got is, and whether that begins as a picture.
 #[derive(Drop)]
