@@ -1,22 +1,35 @@
 use monk_audit::{Verdict, audit};
 use monk_history::{Event, From3, Header, Next, Via};
 use monk_kinds::KindName;
-use monk_logs::{Blame, Completion, complete, read_log};
+use monk_logs::{Blame, Completion, LogHeader, complete, read_log};
 use monk_object::Op;
 use std::test::Fail;
+
+/// Whether the events are a legal history of the monitor that the log's header names, of that kind.
+fn are_legal(
+    rt: &HostRuntime,
+    kind: KindName,
+    log: &LogHeader,
+    events: &[Event],
+) -> Result<bool, Fail> {
+    let (seats, conds) = (log.seats(), log.conds());
+    let Some(header) = Header::new(kind, seats, conds, log.object(), log.size()) else {
+        return Ok(false);
+    };
+    if events.len() > 1 << 25 {
+        return Ok(false);
+    }
+    Ok(audit(rt.alloc(), &header, events)? == Verdict::Legal(events.len() as u32))
+}
 
 /// Whether the log is completed by these events under the kind, and these are legal.
 fn becomes(rt: &HostRuntime, kind: KindName, text: &[u8], want: &[Event]) -> Result<bool, Fail> {
     let (header, lines) = read_log(rt.alloc(), text)?;
-    let Completion::History(events) = complete(rt.alloc(), &header, &lines, kind)? else {
-        return Ok(false);
+    let is_wanted = match complete(rt.alloc(), &header, &lines, kind)? {
+        Completion::History(events) => events.as_slice() == want,
+        Completion::Misfit { .. } => false,
     };
-    let (seats, conds) = (header.seats(), header.conds());
-    let Some(header) = Header::new(kind, seats, conds, header.object(), header.size()) else {
-        return Ok(false);
-    };
-    let verdict = audit(rt.alloc(), &header, &events)?;
-    Ok(events.as_slice() == want && verdict == Verdict::Legal(want.len() as u32))
+    Ok(is_wanted && are_legal(rt, kind, &header, want)?)
 }
 
 /// The line that misfits, and what is to blame.

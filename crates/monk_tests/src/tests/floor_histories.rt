@@ -23,18 +23,20 @@ fn refusal(rt: &HostRuntime, seats: u8, conds: u8, budget: u32) -> Result<Option
     }
 }
 
+/// Seats, conditions and budgets, and what is told of them.
+static REFUSALS: [(u8, u8, u32, Option<MakeFault>); 6] = [
+    (0, 9, 1, Some(MakeFault::Seats)),
+    (33, 9, 1, Some(MakeFault::Seats)),
+    (32, 9, 1, Some(MakeFault::Conds)),
+    (32, 8, 1, Some(MakeFault::Budget)),
+    (1, 0, 1_048_577, Some(MakeFault::Budget)),
+    (32, 8, 2, None),
+];
+
 #[test]
 fn refusals_in_order(rt: HostRuntime) -> Result<(), Fail> {
-    let calls = [
-        (0, 9, 1, Some(MakeFault::Seats)),
-        (33, 9, 1, Some(MakeFault::Seats)),
-        (32, 9, 1, Some(MakeFault::Conds)),
-        (32, 8, 1, Some(MakeFault::Budget)),
-        (1, 0, 1_048_577, Some(MakeFault::Budget)),
-        (32, 8, 2, None),
-    ];
-    for (seats, conds, budget, fault) in calls {
-        assert!(rt; refusal(&rt, seats, conds, budget)? == fault);
+    for (seats, conds, budget, fault) in REFUSALS.iter() {
+        assert!(rt; refusal(&rt, *seats, *conds, *budget)? == *fault);
     }
     Ok(())
 }
@@ -251,16 +253,23 @@ fn looks<K: Kind>(floor: &Floor<K, Buffer>) -> (u32, u32, bool, u32)
     )
 }
 
+/// Whether the floor tells of both halves of a hand-over what came of them.
+fn tells_of_both(rt: &HostRuntime, floor: &mut Floor<Pb, Buffer>) -> Result<bool, Fail>
+    requires { IsRoom SEATS CONDS SIZE floor.old }
+{
+    let signalled = runs_explicitly(rt, floor, &HOARE_HANDOVER[..5], Pick::Waiter)?
+        && looks(floor) == (13, 0, true, 1)
+        && floor.holds(Buffer::HAS_ITEM);
+    let left = runs_explicitly(rt, floor, &HOARE_HANDOVER[5..], Pick::Waiter)?
+        && looks(floor) == (10, 1, false, 0)
+        && floor.enters() == 2;
+    Ok(signalled && left && floor.history().len() == 11)
+}
+
 #[test]
 fn what_a_floor_tells(rt: HostRuntime) -> Result<(), Fail> {
     let mut floor: Floor<Pb, Buffer> = room(&rt)?;
-    assert!(rt; runs_explicitly(&rt, &mut floor, &HOARE_HANDOVER[..5], Pick::Waiter)?);
-    assert!(rt; looks(&floor) == (13, 0, true, 1));
-    assert!(rt; floor.holds(Buffer::HAS_ITEM));
-    assert!(rt; runs_explicitly(&rt, &mut floor, &HOARE_HANDOVER[5..], Pick::Waiter)?);
-    assert!(rt; looks(&floor) == (10, 1, false, 0));
-    assert!(rt; floor.enters() == 2);
-    assert!(rt; floor.history().len() == 11);
+    assert!(rt; tells_of_both(&rt, &mut floor)?);
     Ok(())
 }
 
@@ -269,7 +278,6 @@ fn what_is_left_when_it_closes(rt: HostRuntime) -> Result<(), Fail> {
     let mut floor: Floor<Pb, Buffer> = room(&rt)?;
     assert!(rt; runs_explicitly(&rt, &mut floor, &HOARE_HANDOVER, Pick::Waiter)?);
     let (buffer, history) = floor.close();
-    assert!(rt; buffer.holds(Buffer::HAS_ROOM));
-    assert!(rt; history.len() == 11);
+    assert!(rt; buffer.holds(Buffer::HAS_ROOM) && history.len() == 11);
     Ok(())
 }

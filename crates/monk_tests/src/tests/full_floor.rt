@@ -84,51 +84,49 @@ fn steps(floor: &mut Floor<Pnb, Buffer>, event: Event) -> bool
     floor.history().last() == Some(&event)
 }
 
-fn runs(floor: &mut Floor<Pnb, Buffer>, events: &[Event]) -> bool
+/// Each of the first seats comes in and waits, on one condition after another.
+fn all_arrive(floor: &mut Floor<Pnb, Buffer>) -> bool
     requires seats { floor.old.seats ≡ SEATS }
     requires conds { floor.old.conds ≡ CONDS }
     ensures { IsSameSize floor.old floor.new }
 {
-    for event in events {
-        if !steps(floor, *event) {
+    for seat in 0..SIGNALLER {
+        let via = if seat == 0 { Via::Free } else { Via::Handed };
+        let entered = steps(floor, Event::Enter(seat, via));
+        if !steps(floor, Event::Wait(seat, seat % CONDS, Next::Entry)) || !entered {
             return false;
         }
     }
     true
 }
 
-/// Each of the first seats comes in and waits, on one condition after another.
-fn arrivals(rt: &HostRuntime) -> Result<Vec<Event>, Fail> {
-    let mut events = Vec::new(rt.alloc());
-    for seat in 0..SIGNALLER {
-        let via = if seat == 0 { Via::Free } else { Via::Handed };
-        events.push(Event::Enter(seat, via))?;
-        events.push(Event::Wait(seat, seat % CONDS, Next::Entry))?;
-    }
-    Ok(events)
-}
-
 /// One seat more signals each condition, and goes on each time.
-fn signals(rt: &HostRuntime) -> Result<Vec<Event>, Fail> {
-    let mut events = Vec::new(rt.alloc());
-    events.push(Event::Enter(SIGNALLER, Via::Handed))?;
+fn all_are_signalled(floor: &mut Floor<Pnb, Buffer>) -> bool
+    requires seats { floor.old.seats ≡ SEATS }
+    requires conds { floor.old.conds ≡ CONDS }
+    ensures { IsSameSize floor.old floor.new }
+{
+    let mut goes_on = steps(floor, Event::Enter(SIGNALLER, Via::Handed));
     for cond in ORDER {
-        events.push(Event::Signal(SIGNALLER, cond, Next::Stay))?;
+        goes_on &= steps(floor, Event::Signal(SIGNALLER, cond, Next::Stay));
     }
-    Ok(events)
+    goes_on
 }
 
 /// The seats that were first on their conditions go on and leave, in the order of the signals.
-fn departures(rt: &HostRuntime) -> Result<Vec<Event>, Fail> {
-    let mut events = Vec::new(rt.alloc());
+fn all_depart(floor: &mut Floor<Pnb, Buffer>) -> bool
+    requires seats { floor.old.seats ≡ SEATS }
+    requires conds { floor.old.conds ≡ CONDS }
+    ensures { IsSameSize floor.old floor.new }
+{
     let mut last = SIGNALLER;
+    let mut well = true;
     for first in ORDER {
-        events.push(Event::Leave(last, Next::Waiter(first)))?;
-        events.push(Event::Resume(first, From3::Waiter))?;
+        well &= steps(floor, Event::Leave(last, Next::Waiter(first)));
+        well &= steps(floor, Event::Resume(first, From3::Waiter));
         last = first;
     }
-    events.push(Event::Leave(last, Next::Entry))?;
-    Ok(events)
+    well & steps(floor, Event::Leave(last, Next::Entry))
 }
 
 /// How many seats wait on each condition.
@@ -146,12 +144,9 @@ fn all_wait(floor: &Floor<Pnb, Buffer>, count: u32) -> bool
 #[test]
 fn first_of_each_condition_is_served_in_order(rt: HostRuntime) -> Result<(), Fail> {
     let mut floor = room(&rt)?;
-    assert!(rt; runs(&mut floor, &arrivals(&rt)?));
-    assert!(rt; all_wait(&floor, 3));
-    assert!(rt; runs(&mut floor, &signals(&rt)?));
-    assert!(rt; all_wait(&floor, 2));
-    assert!(rt; runs(&mut floor, &departures(&rt)?));
-    assert!(rt; all_wait(&floor, 2));
-    assert!(rt; floor.history().len() == 74);
+    let all_came = all_arrive(&mut floor) && all_wait(&floor, 3);
+    let all_signalled = all_are_signalled(&mut floor) && all_wait(&floor, 2);
+    let all_left = all_depart(&mut floor) && all_wait(&floor, 2);
+    assert!(rt; all_came && all_signalled && all_left && floor.history().len() == 74);
     Ok(())
 }

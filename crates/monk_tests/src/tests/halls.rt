@@ -50,6 +50,22 @@ fn take<K: Kind>(
     }
 }
 
+/// A hall of two seats over such a buffer, with their passes.
+fn two<K: Kind>(
+    rt: &HostRuntime,
+    conds: u8,
+    budget: u32,
+) -> Result<(Hall<K, Buffer>, Pass<K, Buffer>, Pass<K, Buffer>), Fail>
+    ensures first { IfOk result (λ r. (r.1.hall ≡ r.0.id) × (r.1.me.setting ≡ r.0.setting)) }
+    ensures second { IfOk result (λ r. (r.2.hall ≡ r.0.id) × (r.2.me.setting ≡ r.0.setting)) }
+    ensures conds { IfOk result (λ r. r.0.setting.conds ≡ conds) }
+{
+    let (hall, mut passes) = hall::<K>(rt, 2, conds, budget)?;
+    let second = take(&hall, &mut passes)?;
+    let first = take(&hall, &mut passes)?;
+    Ok((hall, first, second))
+}
+
 /// Arrives, if it has enough left.
 fn arrive<K: Kind>(hall: &Hall<K, Buffer>, pass: Pass<K, Buffer>) -> Option<Parked<K, Buffer>>
     requires { pass.hall ≡ hall.now.id }

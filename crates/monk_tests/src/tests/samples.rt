@@ -13,6 +13,7 @@ use monk_object::{Book, Buffer, Guarded, Shop};
 use monk_samples::{
     End, Style, barber_turn, put, read_begin, read_end, sit_and_cut, take, write_begin, write_end,
 };
+use std::sync::Wait;
 use std::test::Fail;
 
 /// A hall of two seats, with its passes.
@@ -41,17 +42,28 @@ fn last<K: Style, T: Guarded>(
     }
 }
 
+/// A hall of two seats, and their passes.
+fn two<K: Style, T: Guarded>(
+    rt: &HostRuntime,
+    object: T,
+    budget: u32,
+) -> Result<(Hall<K, T>, Pass<K, T>, Pass<K, T>), Fail>
+    ensures first { IfOk result (λ r. IsSeat r.0.id r.1) }
+    ensures second { IfOk result (λ r. IsSeat r.0.id r.2) }
+{
+    let (hall, mut passes) = hall::<K, T>(rt, object, budget)?;
+    let second = last(&hall, &mut passes)?;
+    let first = last(&hall, &mut passes)?;
+    Ok((hall, first, second))
+}
+
 #[test]
 fn item_goes_through(rt: HostRuntime) -> Result<(), Fail> {
-    let (hall, mut passes) = hall::<Pb, Buffer>(&rt, Buffer::make(rt.alloc(), 1)?, 8)?;
-    let taker = last(&hall, &mut passes)?;
-    let putter = last(&hall, &mut passes)?;
-    let (_, end) = put(putter, &rt, &hall, 7);
-    assert!(rt; end == End::Done);
-    let (pass, item, end) = take(taker, &rt, &hall);
-    assert!(rt; end == End::Done);
-    assert!(rt; item == Some(7));
-    assert!(rt; pass.left() == 4);
+    let (hall, putter, taker) = two::<Pb, Buffer>(&rt, Buffer::make(rt.alloc(), 1)?, 8)?;
+    let (_, is_put) = put(putter, &rt, &hall, 7);
+    let (pass, item, is_taken) = take(taker, &rt, &hall);
+    let are_done = is_put == End::Done && is_taken == End::Done;
+    assert!(rt; are_done && item == Some(7) && pass.left() == 4);
     Ok(())
 }
 
@@ -82,46 +94,53 @@ fn comes_in_and_finds<K: Style, T: Guarded>(
 /// A budget of two events is to come and go, so nothing is put.
 #[test]
 fn tired_putter_leaves(rt: HostRuntime) -> Result<(), Fail> {
-    let (hall, mut passes) = hall::<Pb, Buffer>(&rt, Buffer::make(rt.alloc(), 1)?, 2)?;
-    let other = last(&hall, &mut passes)?;
-    let putter = last(&hall, &mut passes)?;
+    let (hall, putter, other) = two::<Pb, Buffer>(&rt, Buffer::make(rt.alloc(), 1)?, 2)?;
     let (pass, end) = put(putter, &rt, &hall, 7);
-    assert!(rt; end == End::Tired);
-    assert!(rt; pass.left() == 0);
+    let is_tired = end == End::Tired && pass.left() == 0;
     let history = [
         Event::Enter(0, Via::Free),
         Event::Leave(0, Next::Entry),
         Event::Enter(1, Via::Free),
     ];
-    assert!(rt; comes_in_and_finds(other, &hall, history.as_slice()));
+    let found = comes_in_and_finds(other, &hall, history.as_slice());
+    assert!(rt; is_tired && found);
     Ok(())
+}
+
+/// Whether the seat reads the book, and ends.
+fn reads<K: Style, R: Wait>(pass: Pass<K, Book>, rt: &R, hall: &Hall<K, Book>) -> bool
+    requires { IsSeat hall.now.id pass }
+{
+    let (pass, begun) = read_begin(pass, rt, hall);
+    let (_, ended) = read_end(pass, rt, hall);
+    begun == End::Done && ended == End::Done
+}
+
+/// Whether the seat writes the book, and ends.
+fn writes<K: Style, R: Wait>(pass: Pass<K, Book>, rt: &R, hall: &Hall<K, Book>) -> bool
+    requires { IsSeat hall.now.id pass }
+{
+    let (pass, begun) = write_begin(pass, rt, hall);
+    let (_, ended) = write_end(pass, rt, hall);
+    begun == End::Done && ended == End::Done
 }
 
 #[test]
 fn book_is_read_and_written(rt: HostRuntime) -> Result<(), Fail> {
-    let (hall, mut passes) = hall::<Npnb, Book>(&rt, Book::make(1)?, 16)?;
-    let writer = last(&hall, &mut passes)?;
-    let reader = last(&hall, &mut passes)?;
-    let (reader, begun) = read_begin(reader, &rt, &hall);
-    let (_, ended) = read_end(reader, &rt, &hall);
-    assert!(rt; begun == End::Done && ended == End::Done);
-    let (writer, begun) = write_begin(writer, &rt, &hall);
-    let (_, ended) = write_end(writer, &rt, &hall);
-    assert!(rt; begun == End::Done && ended == End::Done);
+    let (hall, reader, writer) = two::<Npnb, Book>(&rt, Book::make(1)?, 16)?;
+    let is_read = reads(reader, &rt, &hall);
+    let is_written = writes(writer, &rt, &hall);
+    assert!(rt; is_read && is_written);
     Ok(())
 }
 
 /// The customer has sat down, and has too few events left to wait for the cut.
 #[test]
 fn barber_serves_a_tired_customer(rt: HostRuntime) -> Result<(), Fail> {
-    let (hall, mut passes) = hall::<Pir, Shop>(&rt, Shop::make(1)?, 6)?;
-    let barber = last(&hall, &mut passes)?;
-    let customer = last(&hall, &mut passes)?;
+    let (hall, customer, barber) = two::<Pir, Shop>(&rt, Shop::make(1)?, 6)?;
     let (customer, end) = sit_and_cut(customer, &rt, &hall);
-    assert!(rt; end == End::Tired);
-    assert!(rt; customer.left() == 1);
+    let is_tired = end == End::Tired && customer.left() == 1;
     let (barber, end) = barber_turn(barber, &rt, &hall);
-    assert!(rt; end == End::Done);
-    assert!(rt; barber.left() == 0);
+    assert!(rt; is_tired && end == End::Done && barber.left() == 0);
     Ok(())
 }

@@ -5,6 +5,7 @@ use monk_history::{
 };
 use monk_kinds::KindName;
 use monk_object::ObjectName;
+use std::io;
 use std::io::{Read, Write};
 use std::test::Fail;
 
@@ -243,24 +244,34 @@ fn writers_fail_in_turn(rt: HostRuntime) -> Result<(), Fail> {
     Ok(())
 }
 
+/// Whether a reader's bytes come through.
+fn gives_its_bytes(bytes: &[u8], front: [u8; 4]) -> io::Result<bool> {
+    let mut reader = Device::new(bytes);
+    let mut piece = [0u8; 4];
+    let count = reader.read(&mut piece)?;
+    Ok(count == 4 && piece == front && !reader.failed())
+}
+
+/// Whether a writer that takes three bytes at a time gets them, until its flush fails.
+fn takes_three<W: Write>(writer: &mut Device<W>) -> io::Result<bool> {
+    let count = writer.write(b"monk")?;
+    writer.write_all(b"onk")?;
+    writer.flush()?;
+    let nothing = writer.write(b"")?;
+    let works = !writer.failed();
+    Ok(count == 3 && nothing == 0 && works && writer.flush().is_err() && writer.failed())
+}
+
 #[test]
 fn devices(rt: HostRuntime) -> Result<(), Fail> {
-    let mut reader = Device::new(RUN);
-    let mut piece = [0u8; 4];
-    assert!(rt; reader.read(&mut piece)? == 4);
-    assert!(rt; &piece == b"monk" && !reader.failed());
+    assert!(rt; gives_its_bytes(RUN, *b"monk")?);
     let mut writer = Device::new(Tight {
         taken: Vec::new(rt.alloc()),
         step: 3,
         writes_left: 4,
         refuses: true,
     });
-    assert!(rt; writer.write(b"monk")? == 3);
-    writer.write_all(b"onk")?;
-    writer.flush()?;
-    assert!(rt; writer.write(b"")? == 0);
-    assert!(rt; !writer.failed());
-    assert!(rt; writer.flush().is_err() && writer.failed());
+    assert!(rt; takes_three(&mut writer)?);
     Ok(())
 }
 

@@ -3,7 +3,7 @@ ghost use Rattle.std.specs.Prelude.{◌≡◌, IfSome};
 ghost use Rattle.monk_hall.specs.Floors.{StartsWith};
 
 use crate::tests::halls::ending::{MET, visit};
-use crate::tests::halls::{hall, take};
+use crate::tests::halls::two;
 use monk_hall::{Busy, Closed, Hall, Pass, close, complete, meet};
 use monk_kinds::{Pb, Pick};
 use monk_object::Buffer;
@@ -71,9 +71,7 @@ fn two_did_it_all(hall: Hall<Pb, Buffer>, first: Pass<Pb, Buffer>, second: Pass<
 
 #[test]
 fn closed_history_holds_two_seats_calls(rt: HostRuntime) -> Result<(), Fail> {
-    let (hall, mut passes) = hall::<Pb>(&rt, 2, 0, 8)?;
-    let second = take(&hall, &mut passes)?;
-    let first = take(&hall, &mut passes)?;
+    let (hall, first, second) = two::<Pb>(&rt, 0, 8)?;
     assert!(rt; two_did_it_all(hall, first, second));
     Ok(())
 }
@@ -102,9 +100,7 @@ fn second_goes_on(hall: Hall<Pb, Buffer>, first: Pass<Pb, Buffer>, second: Pass<
 
 #[test]
 fn seat_that_goes_on_is_in_the_history(rt: HostRuntime) -> Result<(), Fail> {
-    let (hall, mut passes) = hall::<Pb>(&rt, 2, 0, 8)?;
-    let second = take(&hall, &mut passes)?;
-    let first = take(&hall, &mut passes)?;
+    let (hall, first, second) = two::<Pb>(&rt, 0, 8)?;
     assert!(rt; second_goes_on(hall, first, second));
     Ok(())
 }

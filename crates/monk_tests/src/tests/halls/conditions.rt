@@ -3,7 +3,7 @@ ghost use Rattle.std.specs.Prelude.{◌≡◌, ◌<◌, IfSome};
 
 use crate::tests::halls::{
     PUT, TAKE, act, arrive, comes_in_and_finds, comes_in_and_puts, enter, hall, must_wait, signal,
-    signal_stay, take, wait,
+    signal_stay, take, two, wait,
 };
 use monk_hall::{Active, Hall, Parked, Pass};
 use monk_history::{Event, From3, Next, Via};
@@ -87,9 +87,7 @@ fn hands_over(hall: &Hall<Pb, Buffer>, first: Pass<Pb, Buffer>, second: Pass<Pb,
 
 #[test]
 fn signal_hands_over(rt: HostRuntime) -> Result<(), Fail> {
-    let (hall, mut passes) = hall::<Pb>(&rt, 2, 2, 8)?;
-    let second = take(&hall, &mut passes)?;
-    let first = take(&hall, &mut passes)?;
+    let (hall, first, second) = two::<Pb>(&rt, 2, 8)?;
     assert!(rt; hands_over(&hall, first, second));
     Ok(())
 }
@@ -147,9 +145,7 @@ fn goes_on_first(
 
 #[test]
 fn signaller_goes_on(rt: HostRuntime) -> Result<(), Fail> {
-    let (hall, mut passes) = hall::<Pnb>(&rt, 2, 2, 8)?;
-    let second = take(&hall, &mut passes)?;
-    let first = take(&hall, &mut passes)?;
+    let (hall, first, second) = two::<Pnb>(&rt, 2, 8)?;
     assert!(rt; goes_on_first(&hall, first, second));
     Ok(())
 }
@@ -250,9 +246,7 @@ fn lets_the_waiter_in(
 
 #[test]
 fn waiter_goes_on_where_nobody_has_a_ticket(rt: HostRuntime) -> Result<(), Fail> {
-    let (hall, mut passes) = hall::<Npnb>(&rt, 2, 1, 8)?;
-    let second = take(&hall, &mut passes)?;
-    let first = take(&hall, &mut passes)?;
+    let (hall, first, second) = two::<Npnb>(&rt, 1, 8)?;
     assert!(rt; lets_the_waiter_in(&hall, first, second));
     Ok(())
 }

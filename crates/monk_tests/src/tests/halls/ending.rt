@@ -1,7 +1,7 @@
 //! How a hall ends, and that nobody ends it beside a seat that waits.
 ghost use Rattle.std.specs.Prelude.{◌≡◌, ◌<◌, IfSome};
 
-use crate::tests::halls::{arrive, enter, hall, take, wait};
+use crate::tests::halls::{arrive, enter, two, wait};
 use monk_hall::{Active, Busy, Hall, Pass, close, meet};
 use monk_history::{Event, Next, Via};
 use monk_kinds::{Kind, Pb, Pick};
@@ -67,9 +67,7 @@ const HANDED: [Event; 4] = [
 
 #[test]
 fn last_ends_the_hall(rt: HostRuntime) -> Result<(), Fail> {
-    let (hall, mut passes) = hall::<Pb>(&rt, 2, 1, 8)?;
-    let second = take(&hall, &mut passes)?;
-    let first = take(&hall, &mut passes)?;
+    let (hall, first, second) = two::<Pb>(&rt, 1, 8)?;
     assert!(rt; ends_last(hall, first, second));
     Ok(())
 }
@@ -100,9 +98,7 @@ fn goes_on(hall: Hall<Pb, Buffer>, first: Pass<Pb, Buffer>, second: Pass<Pb, Buf
 
 #[test]
 fn waiter_keeps_the_hall_open(rt: HostRuntime) -> Result<(), Fail> {
-    let (hall, mut passes) = hall::<Pb>(&rt, 2, 1, 8)?;
-    let second = take(&hall, &mut passes)?;
-    let first = take(&hall, &mut passes)?;
+    let (hall, first, second) = two::<Pb>(&rt, 1, 8)?;
     assert!(rt; goes_on(hall, first, second));
     Ok(())
 }
@@ -154,9 +150,7 @@ fn meets_and_ends(hall: Hall<Pb, Buffer>, first: Pass<Pb, Buffer>, second: Pass<
 
 #[test]
 fn seats_that_met_go_on(rt: HostRuntime) -> Result<(), Fail> {
-    let (hall, mut passes) = hall::<Pb>(&rt, 2, 0, 8)?;
-    let second = take(&hall, &mut passes)?;
-    let first = take(&hall, &mut passes)?;
+    let (hall, first, second) = two::<Pb>(&rt, 0, 8)?;
     assert!(rt; meets_and_ends(hall, first, second));
     Ok(())
 }

@@ -1,7 +1,7 @@
 //! Tickets, budgets, and who comes in after whom.
 ghost use Rattle.std.specs.Prelude.{◌≡◌};
 
-use crate::tests::halls::{PUT, TAKE, act, arrive, enter, hall, take};
+use crate::tests::halls::{PUT, TAKE, act, arrive, enter, hall, take, two};
 use monk_floor::MakeFault;
 use monk_hall::{Hall, Parked, Pass};
 use monk_history::{Event, Next, Via};
@@ -62,9 +62,7 @@ fn takes_seven(hall: &Hall<Pb, Buffer>, parked: Parked<Pb, Buffer>) -> bool
 
 #[test]
 fn second_takes_over(rt: HostRuntime) -> Result<(), Fail> {
-    let (hall, mut passes) = hall::<Pb>(&rt, 2, 0, 8)?;
-    let second = take(&hall, &mut passes)?;
-    let first = take(&hall, &mut passes)?;
+    let (hall, first, second) = two::<Pb>(&rt, 0, 8)?;
     assert!(rt; takes_over(&hall, first, second));
     Ok(())
 }
@@ -100,9 +98,7 @@ fn resumes<R: Wait>(
 
 #[test]
 fn second_resumes(rt: HostRuntime) -> Result<(), Fail> {
-    let (hall, mut passes) = hall::<Pb>(&rt, 2, 0, 8)?;
-    let second = take(&hall, &mut passes)?;
-    let first = take(&hall, &mut passes)?;
+    let (hall, first, second) = two::<Pb>(&rt, 0, 8)?;
     assert!(rt; resumes(&rt, &hall, first, second));
     Ok(())
 }
@@ -198,9 +194,7 @@ fn loses_a_ticket(
 
 #[test]
 fn lost_ticket_is_never_passed_on(rt: HostRuntime) -> Result<(), Fail> {
-    let (hall, mut passes) = hall::<Pb>(&rt, 2, 0, 8)?;
-    let second = take(&hall, &mut passes)?;
-    let first = take(&hall, &mut passes)?;
+    let (hall, first, second) = two::<Pb>(&rt, 0, 8)?;
     assert!(rt; loses_a_ticket(&hall, first, second));
     Ok(())
 }

@@ -2,7 +2,7 @@
 ghost use Rattle.std.specs.Prelude.{◌≡◌, ◌<◌, IfSome};
 
 use crate::tests::halls::ending::ends;
-use crate::tests::halls::{comes_in_and_finds, enter, hall, take, wait};
+use crate::tests::halls::{comes_in_and_finds, enter, hall, take, two, wait};
 use monk_hall::{Active, Hall, Parked, Pass};
 use monk_history::{Event, From3, Next, Via};
 use monk_kinds::{Conditional, Kind, Pick, Pir, Pnb};
@@ -182,9 +182,7 @@ fn plays_ping_pong(
 
 #[test]
 fn signal_wait_ping_pong(rt: HostRuntime) -> Result<(), Fail> {
-    let (hall, mut passes) = hall::<Pir>(&rt, 2, 2, 8)?;
-    let second = take(&hall, &mut passes)?;
-    let first = take(&hall, &mut passes)?;
+    let (hall, first, second) = two::<Pir>(&rt, 2, 8)?;
     assert!(rt; plays_ping_pong(hall, first, second));
     Ok(())
 }

@@ -1,7 +1,7 @@
 //! A signal that leaves, and waits until a predicate holds.
 ghost use Rattle.std.specs.Prelude.{◌≡◌, ◌<◌, IfSome};
 
-use crate::tests::halls::{PUT, comes_in_and_finds, comes_in_and_puts, enter, hall, take, wait};
+use crate::tests::halls::{PUT, comes_in_and_finds, comes_in_and_puts, enter, two, wait};
 use monk_hall::{After, Hall, Parked, Pass};
 use monk_history::{Event, From3, Next, Via};
 use monk_kinds::{Automatic, Pick, Pir, Pis};
@@ -41,9 +41,7 @@ fn leaves_by_a_signal(
 
 #[test]
 fn signaller_leaves(rt: HostRuntime) -> Result<(), Fail> {
-    let (hall, mut passes) = hall::<Pir>(&rt, 2, 1, 8)?;
-    let second = take(&hall, &mut passes)?;
-    let first = take(&hall, &mut passes)?;
+    let (hall, first, second) = two::<Pir>(&rt, 1, 8)?;
     assert!(rt; leaves_by_a_signal(&hall, first, second));
     Ok(())
 }
@@ -101,9 +99,7 @@ fn finds_its_item(
 
 #[test]
 fn predicate_is_awaited(rt: HostRuntime) -> Result<(), Fail> {
-    let (hall, mut passes) = hall::<Pis>(&rt, 2, 0, 8)?;
-    let second = take(&hall, &mut passes)?;
-    let first = take(&hall, &mut passes)?;
+    let (hall, first, second) = two::<Pis>(&rt, 0, 8)?;
     assert!(rt; finds_its_item(&hall, first, second));
     Ok(())
 }

@@ -1,11 +1,11 @@
 //! The members that use a signal to all, and a signal that is followed by a wait.
 ghost use Rattle.monk_tests.specs.Passes.{IsSeat};
 
-use crate::tests::samples::{hall, last};
+use crate::tests::samples::{reads, two};
 use monk_hall::{Hall, Pass};
 use monk_kinds::{Npir, Pnb};
 use monk_object::{Book, Buffer};
-use monk_samples::{End, put_wait, read_begin, read_end, take, write_begin, write_end_all};
+use monk_samples::{End, put_wait, take, write_begin, write_end_all};
 use std::sync::Wait;
 use std::test::Fail;
 use std::thread;
@@ -32,9 +32,7 @@ fn puts_seven<R: Wait>(pass: Pass<Npir, Buffer>, rt: &R, hall: &Hall<Npir, Buffe
 #[test]
 fn putter_waits_for_the_taker(rt: HostRuntime) -> Result<(), Fail> {
     for _ in 0..TIMES {
-        let (hall, mut passes) = hall::<Npir, Buffer>(&rt, Buffer::make(rt.alloc(), 1)?, 8)?;
-        let taker = last(&hall, &mut passes)?;
-        let putter = last(&hall, &mut passes)?;
+        let (hall, putter, taker) = two::<Npir, Buffer>(&rt, Buffer::make(rt.alloc(), 1)?, 8)?;
         let done = thread::join(
             &rt,
             || takes_seven(taker, &rt, &hall),
@@ -45,17 +43,21 @@ fn putter_waits_for_the_taker(rt: HostRuntime) -> Result<(), Fail> {
     Ok(())
 }
 
+/// Whether the seat writes the book, and wakes all when it ends.
+fn writes_and_wakes<R: Wait>(pass: Pass<Pnb, Book>, rt: &R, hall: &Hall<Pnb, Book>) -> bool
+    requires { IsSeat hall.now.id pass }
+{
+    let (pass, begun) = write_begin(pass, rt, hall);
+    let (_, ended) = write_end_all(pass, rt, hall);
+    begun == End::Done && ended == End::Done
+}
+
 /// Where nobody waits it ends as a write does.
 #[test]
 fn writer_wakes_all(rt: HostRuntime) -> Result<(), Fail> {
-    let (hall, mut passes) = hall::<Pnb, Book>(&rt, Book::make(1)?, 16)?;
-    let writer = last(&hall, &mut passes)?;
-    let reader = last(&hall, &mut passes)?;
-    let (writer, begun) = write_begin(writer, &rt, &hall);
-    let (_, ended) = write_end_all(writer, &rt, &hall);
-    assert!(rt; begun == End::Done && ended == End::Done);
-    let (reader, begun) = read_begin(reader, &rt, &hall);
-    let (_, ended) = read_end(reader, &rt, &hall);
-    assert!(rt; begun == End::Done && ended == End::Done);
+    let (hall, reader, writer) = two::<Pnb, Book>(&rt, Book::make(1)?, 16)?;
+    let is_written = writes_and_wakes(writer, &rt, &hall);
+    let is_read = reads(reader, &rt, &hall);
+    assert!(rt; is_written && is_read);
     Ok(())
 }

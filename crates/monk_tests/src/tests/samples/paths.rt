@@ -3,7 +3,7 @@
 ghost use Rattle.std.specs.Prelude.{IfSome};
 ghost use Rattle.monk_tests.specs.Passes.{IsInside, IsSeat};
 
-use crate::tests::samples::{hall, last};
+use crate::tests::samples::two;
 use monk_hall::{Active, After, Hall, Pass};
 use monk_kinds::{
     Automatic, Conditional, Explicit, ImmediateReturn, Kind, NonBlocking, Pb, Pick, Pir, Pis, Pnb,
@@ -191,9 +191,7 @@ fn puts_and_leaves<K: Kind, R: Wait>(pass: Pass<K, Buffer>, rt: &R, hall: &Hall<
 
 #[test]
 fn signaller_goes_on_later(rt: HostRuntime) -> Result<(), Fail> {
-    let (hall, mut passes) = hall::<Pb, Buffer>(&rt, Buffer::make(rt.alloc(), 1)?, 8)?;
-    let taker = last(&hall, &mut passes)?;
-    let putter = last(&hall, &mut passes)?;
+    let (hall, putter, taker) = two::<Pb, Buffer>(&rt, Buffer::make(rt.alloc(), 1)?, 8)?;
     let done = thread::join(
         &rt,
         || takes_after_a_wait(taker, &rt, &hall),
@@ -205,9 +203,7 @@ fn signaller_goes_on_later(rt: HostRuntime) -> Result<(), Fail> {
 
 #[test]
 fn signaller_goes_on_at_once(rt: HostRuntime) -> Result<(), Fail> {
-    let (hall, mut passes) = hall::<Pnb, Buffer>(&rt, Buffer::make(rt.alloc(), 1)?, 8)?;
-    let taker = last(&hall, &mut passes)?;
-    let putter = last(&hall, &mut passes)?;
+    let (hall, putter, taker) = two::<Pnb, Buffer>(&rt, Buffer::make(rt.alloc(), 1)?, 8)?;
     let done = thread::join(
         &rt,
         || takes_after_a_wait(taker, &rt, &hall),
@@ -219,9 +215,7 @@ fn signaller_goes_on_at_once(rt: HostRuntime) -> Result<(), Fail> {
 
 #[test]
 fn signaller_is_gone(rt: HostRuntime) -> Result<(), Fail> {
-    let (hall, mut passes) = hall::<Pir, Buffer>(&rt, Buffer::make(rt.alloc(), 1)?, 8)?;
-    let taker = last(&hall, &mut passes)?;
-    let putter = last(&hall, &mut passes)?;
+    let (hall, putter, taker) = two::<Pir, Buffer>(&rt, Buffer::make(rt.alloc(), 1)?, 8)?;
     let done = thread::join(
         &rt,
         || takes_after_a_wait(taker, &rt, &hall),
@@ -233,9 +227,7 @@ fn signaller_is_gone(rt: HostRuntime) -> Result<(), Fail> {
 
 #[test]
 fn taker_is_chosen_by_its_predicate(rt: HostRuntime) -> Result<(), Fail> {
-    let (hall, mut passes) = hall::<Pis, Buffer>(&rt, Buffer::make(rt.alloc(), 1)?, 8)?;
-    let taker = last(&hall, &mut passes)?;
-    let putter = last(&hall, &mut passes)?;
+    let (hall, putter, taker) = two::<Pis, Buffer>(&rt, Buffer::make(rt.alloc(), 1)?, 8)?;
     let done = thread::join(
         &rt,
         || takes_when_there(taker, &rt, &hall),

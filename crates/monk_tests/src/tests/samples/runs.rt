@@ -32,18 +32,15 @@ fn known_totals(rt: HostRuntime) -> Result<(), Fail> {
 #[test]
 fn out_of_range_is_refused(rt: HostRuntime) -> Result<(), Fail> {
     for (seats, rounds) in [(1, 1), (17, 1), (2, 0), (2, 1001)] {
-        let fault = match run::<Pb, _, OpenGate>(
+        let outcome = run::<Pb, _, OpenGate>(
             &rt,
             rt.alloc(),
             Sample::Buffer,
             seats,
             rounds,
             &OpenGate,
-        ) {
-            Ok(_) => None,
-            Err(fault) => Some(fault),
-        };
-        assert!(rt; fault == Some(RunFault::Range));
+        );
+        assert!(rt; matches!(outcome, Err(RunFault::Range)));
     }
     Ok(())
 }
@@ -57,7 +54,7 @@ fn many_read_and_write(rt: HostRuntime) -> Result<(), Fail> {
 }
 
 /// A gate that is open in the first round alone.
-#[derive(Clone, Copy, Debug)]
+#[derive(Clone, Copy)]
 struct FirstRound;
 
 impl Gate for FirstRound {
@@ -69,11 +66,8 @@ impl Gate for FirstRound {
 #[test]
 fn second_round_is_late(rt: HostRuntime) -> Result<(), Fail> {
     for sample in [Sample::Buffer, Sample::Book, Sample::Shop] {
-        let fault = match run::<Pb, _, FirstRound>(&rt, rt.alloc(), sample, 2, 2, &FirstRound) {
-            Ok(_) => None,
-            Err(fault) => Some(fault),
-        };
-        assert!(rt; fault == Some(RunFault::Late));
+        let outcome = run::<Pb, _, FirstRound>(&rt, rt.alloc(), sample, 2, 2, &FirstRound);
+        assert!(rt; matches!(outcome, Err(RunFault::Late)));
     }
     Ok(())
 }
