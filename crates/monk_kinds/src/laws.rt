@@ -1,11 +1,14 @@
-//! What holds of the lists of the kinds and of the orderings. Each function does nothing: its contract is the law.
-ghost use Rattle.monk_kinds.specs.Names.{kind_word, StandsOnce};
+//! What holds of the types and of the lists of the kinds and of the orderings. The contract of each function is the law.
+ghost use Rattle.std.specs.Prelude.{◌≡◌};
+ghost use Rattle.monk_kinds.specs.Names.{kind_word, kinds, StandsOnce};
 ghost use Rattle.monk_kinds.specs.Orderings.{ordering_text};
 ghost use Rattle.monk_kinds.specs.declared.name.KindName.{KindName};
 ghost use Rattle.monk_kinds.specs.declared.ordering.Ordering13.{Ordering13};
 
 use crate::name::KindName;
 use crate::ordering::Ordering13;
+use crate::{Automatic, Blocking, ImmediateReturn, NonBlocking, QuasiBlocking};
+use crate::{Npb, Npir, Npis, Npnb, Npqb, Pb, Pir, Pis, Pnb, Pqb};
 
 /// Every kind stands in `KindName::ALL` exactly once.
 pub fn every_kind_is_listed()
@@ -16,3 +19,57 @@ pub fn every_kind_is_listed()
 pub fn every_ordering_is_listed()
     ensures { (o : Ordering13) → StandsOnce ordering_text Ordering13.ALL o }
 {}
+
+/// The ten types, by the names under which this crate exports them, are the ten kinds, in the order of
+/// `KindName::ALL`: so no name leads to another kind's type. Each is asked for its name by the bound of its family.
+pub fn each_type_is_its_kind() -> [KindName; 10]
+    ensures { result ≡ kinds }
+{
+    [
+        blocking::<Pb>(),
+        blocking::<Npb>(),
+        non_blocking::<Pnb>(),
+        non_blocking::<Npnb>(),
+        quasi_blocking::<Pqb>(),
+        quasi_blocking::<Npqb>(),
+        immediate_return::<Pir>(),
+        immediate_return::<Npir>(),
+        automatic::<Pis>(),
+        automatic::<Npis>(),
+    ]
+}
+
+/// The name of a kind whose signaller waits.
+fn blocking<K: Blocking>() -> KindName
+    ensures { result ≡ K.NAME }
+{
+    K::NAME
+}
+
+/// The name of a kind whose signaller goes on.
+fn non_blocking<K: NonBlocking>() -> KindName
+    ensures { result ≡ K.NAME }
+{
+    K::NAME
+}
+
+/// The name of a kind that has both at one priority.
+fn quasi_blocking<K: QuasiBlocking>() -> KindName
+    ensures { result ≡ K.NAME }
+{
+    K::NAME
+}
+
+/// The name of a kind whose signaller leaves.
+fn immediate_return<K: ImmediateReturn>() -> KindName
+    ensures { result ≡ K.NAME }
+{
+    K::NAME
+}
+
+/// The name of a kind without signals.
+fn automatic<K: Automatic>() -> KindName
+    ensures { result ≡ K.NAME }
+{
+    K::NAME
+}
