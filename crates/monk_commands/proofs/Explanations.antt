@@ -18,15 +18,13 @@ use Rattle.monk_audit.specs.declared.verdict.Verdict.{Verdict}
 use Rattle.monk_audit.specs.declared.verdict.Verdict.TheVariants.{Legal, Forbidden}
 use Rattle.monk_tell.specs.Told.{Account, account, account_by}
 use Rattle.monk_tell.specs.Words.{telling_text}
-use Rattle.monk_tell.specs.declared.why.Why.{Why}
-use Rattle.monk_tell.specs.declared.why.Why.TheVariants.{Reply}
 use Rattle.monk_commands.specs.Answer.{Answer, answer_of, reading_answer, too_big, unreadable, verdict_answer}
 use Rattle.monk_commands.specs.Explained.{BeginsAsAudit, IsExplained, IsExplanationOf, explain_reading, told_answer}
 
 -- the verdict that is told is that of the audit
-verdict_told : (k : KindName) (m : Monitor) (es : List Event) (why : Why) (v : Verdict) → (account_by k m es why v).verdict ≡ v
-verdict_told k m es why (Legal n) = refl
-verdict_told k m es why (Forbidden step reason) = refl
+verdict_told : (k : KindName) (m : Monitor) (es : List Event) (v : Verdict) → (account_by k m es v).verdict ≡ v
+verdict_told k m es (Legal n) = refl
+verdict_told k m es (Forbidden step reason) = refl
 
 -- the same status, and the other text first
 abbrev Begins : Answer → Answer → Type 0
@@ -35,63 +33,62 @@ Begins a b = (a.status ≡ b.status) × ((rest : List ℕ) × (a.text ≡ b.text
 begins_self : (a : Answer) → Begins a a
 begins_self a = (refl, ([], sym (append-nil a.text)))
 
-begins_told : (why : Why) (h : Heading) (es : List Event)
-    → Begins (told_answer (account h es why)) (verdict_answer (verdict_of (named_monitor h) es))
-begins_told why h es =
-    subst (λ (v : Verdict). Begins (told_answer (account h es why)) (verdict_answer v))
-    (verdict_told h.kind (named_monitor h) es why (verdict_of (named_monitor h) es))
-    (refl, (telling_text (account h es why), refl))
+begins_told : (h : Heading) (es : List Event)
+    → Begins (told_answer (account h es)) (verdict_answer (verdict_of (named_monitor h) es))
+begins_told h es =
+    subst (λ (v : Verdict). Begins (told_answer (account h es)) (verdict_answer v))
+    (verdict_told h.kind (named_monitor h) es (verdict_of (named_monitor h) es))
+    (refl, (telling_text (account h es), refl))
 
 begins_by : (b : Bool) (x y : Answer) → Begins x y → Begins (cond b too_big x) (cond b too_big y)
 begins_by true x y begins = begins_self too_big
 begins_by false x y begins = begins
 
-begins_read : (why : Why) (r : Result History ReadFault) → Begins (explain_reading why r) (reading_answer r)
-begins_read why (Ok h) =
-    begins_by (ltb (most h.0.object) h.0.size) (told_answer (account h.0 h.1 why)) (verdict_answer (verdict_of (named_monitor h.0) h.1))
-    (begins_told why h.0 h.1)
-begins_read why (Err f) = begins_self (unreadable f)
+begins_read : (r : Result History ReadFault) → Begins (explain_reading r) (reading_answer r)
+begins_read (Ok h) =
+    begins_by (ltb (most h.0.object) h.0.size) (told_answer (account h.0 h.1)) (verdict_answer (verdict_of (named_monitor h.0) h.1))
+    (begins_told h.0 h.1)
+begins_read (Err f) = begins_self (unreadable f)
 
 -- ---- what was read, and what of it is known
 
 -- the size is within the object's greatest, so the history is told of
-pub explained_told : (h : Heading) (es : List Event) (why : Why) (t : Account) (status : ℕ) (Puts : List ℕ → Type 0)
-    → t ≡ account h es why → h.size ≤ most h.object
+pub explained_told : (h : Heading) (es : List Event) (t : Account) (status : ℕ) (Puts : List ℕ → Type 0)
+    → t ≡ account h es → h.size ≤ most h.object
     → status ≡ (told_answer t).status → Puts (told_answer t).text → IsExplained (Ok (history h es)) status Puts
-explained_told h es why t status Puts is fits same put =
+explained_told h es t status Puts is fits same put =
     let small : ltb (most h.object) h.size ≡ false = le-ltb _ _ fits in
-    let given : cond (ltb (most h.object) h.size) too_big (told_answer (account h es why)) ≡ told_answer t =
-    ap (λ (b : Bool). cond b too_big (told_answer (account h es why))) small ∙ ap told_answer (sym is) in
-    (why, (same ∙ sym (ap (λ (a : Answer). a.status) given), subst (λ (a : Answer). Puts a.text) (sym given) put))
+    let given : cond (ltb (most h.object) h.size) too_big (told_answer (account h es)) ≡ told_answer t =
+    ap (λ (b : Bool). cond b too_big (told_answer (account h es))) small ∙ ap told_answer (sym is) in
+    (same ∙ sym (ap (λ (a : Answer). a.status) given), subst (λ (a : Answer). Puts a.text) (sym given) put)
 
 -- the size is too great
 pub explained_too_big : (h : Heading) (es : List Event) (status : ℕ) (Puts : List ℕ → Type 0) → most h.object < h.size
     → status ≡ too_big.status → Puts too_big.text → IsExplained (Ok (history h es)) status Puts
 explained_too_big h es status Puts big same put =
-    let why = Reply 0 0 in
     let great : ltb (most h.object) h.size ≡ true = lt-ltb _ _ big in
-    let given : cond (ltb (most h.object) h.size) too_big (told_answer (account h es why)) ≡ too_big =
-    ap (λ (b : Bool). cond b too_big (told_answer (account h es why))) great in
-    (why, (same ∙ sym (ap (λ (a : Answer). a.status) given), subst (λ (a : Answer). Puts a.text) (sym given) put))
+    let given : cond (ltb (most h.object) h.size) too_big (told_answer (account h es)) ≡ too_big =
+    ap (λ (b : Bool). cond b too_big (told_answer (account h es))) great in
+    (same ∙ sym (ap (λ (a : Answer). a.status) given), subst (λ (a : Answer). Puts a.text) (sym given) put)
 
 -- of no history
 pub refused_explained : (bytes : List ℕ) (f : ReadFault) (status : ℕ) (Puts : List ℕ → Type 0) → text_at (2 ^ 25) bytes ≡ Err f
     → status ≡ (unreadable f).status → Puts (unreadable f).text → IsExplanationOf bytes status Puts
 refused_explained bytes f status Puts read same put =
-    subst (λ (r : Result History ReadFault). IsExplained r status Puts) (sym read) (Reply 0 0, (same, put))
+    subst (λ (r : Result History ReadFault). IsExplained r status Puts) (sym read) (same, put)
 
 -- what answers a text is written
 pub put_explained : (bytes : List ℕ) (given status : ℕ) (text : List ℕ) (Puts : List ℕ → Type 0) → status ≡ given
     → IsExplanationOf bytes given (λ t. text ≡ t) → Puts text → IsExplanationOf bytes status Puts
-put_explained bytes given status text Puts same told put = (told.0, (same ∙ told.1.0, subst Puts told.1.1 put))
+put_explained bytes given status text Puts same told put = (same ∙ told.0, subst Puts told.1 put)
 
 pub begins_known : (known before after : Option (List ℕ)) (bytes : List ℕ) (status : ℕ) → IfSome known (λ input. bytes ≡ input)
     → IsExplanationOf bytes status (Appends before after) → BeginsAsAudit known before after status
 begins_known None before after bytes status same told = tt
 begins_known (Some input) before after bytes status same told =
-    let begins = begins_read told.0 (text_at (2 ^ 25) bytes) in
+    let begins = begins_read (text_at (2 ^ 25) bytes) in
     subst (λ (x : List ℕ). BeginsAsAudit (Some x) before after status) same
-    (told.1.0 ∙ begins.0, (begins.1.0, subst (Appends before after) begins.1.1 told.1.1))
+    (told.0 ∙ begins.0, (begins.1.0, subst (Appends before after) begins.1.1 told.1))
 
 pub audited_known : (known before after : Option (List ℕ)) (status : ℕ) → BeginsAsAudit known before after status
     → IfSome known (λ input. status ≡ (answer_of input).status)

@@ -8,7 +8,6 @@ use Rattle.monk_history.specs.Text.{Heading}
 use Rattle.monk_history.specs.Text.Reading.{History, text_at}
 use Rattle.monk_tell.specs.Told.{Account, account}
 use Rattle.monk_tell.specs.Words.{telling_text}
-use Rattle.monk_tell.specs.declared.why.Why.{Why}
 use Rattle.monk_commands.specs.Answer.{Answer, answer_of, too_big, unreadable, verdict_answer}
 
 -- the line of the verdict, and what is told behind it
@@ -18,17 +17,16 @@ told_answer t = record {
   text = (verdict_answer t.verdict).text ++ telling_text t;
 }
 
--- `why` is the sentence for a forbidden event
-abbrev pub explain_answer : Why → Heading → List Event → Answer
-explain_answer why h events = if nat_lt (most h.object) h.size then too_big else told_answer (account h events why)
+abbrev pub explain_answer : Heading → List Event → Answer
+explain_answer h events = if nat_lt (most h.object) h.size then too_big else told_answer (account h events)
 
-abbrev pub explain_reading : Why → Result History ReadFault → Answer
-explain_reading why (Ok h) = explain_answer why h.0 h.1
-explain_reading why (Err f) = unreadable f
+abbrev pub explain_reading : Result History ReadFault → Answer
+explain_reading (Ok h) = explain_answer h.0 h.1
+explain_reading (Err f) = unreadable f
 
--- with what writing these bytes means: of what was read the explanation is written, with one of the sentences that there are
+-- with what writing these bytes means: of what was read the explanation is written
 abbrev pub IsExplained : Result History ReadFault → ℕ → (List ℕ → Type 0) → Type 0
-IsExplained r status Puts = (why : Why) × ((status ≡ (explain_reading why r).status) × Puts (explain_reading why r).text)
+IsExplained r status Puts = (status ≡ (explain_reading r).status) × Puts (explain_reading r).text
 
 -- the explanation of bytes
 abbrev pub IsExplanationOf : List ℕ → ℕ → (List ℕ → Type 0) → Type 0

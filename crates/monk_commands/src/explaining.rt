@@ -79,7 +79,7 @@ pub fn explain_stream<R: Read, W: Write>(
     requires reader_works { has_failed reader.old ≡ false }
     requires writer_works { has_failed writer.old ≡ false }
 
-    // What is written, and its status, are the explanation of what the reader had, with one of the sentences that there are.
+    // What is written, and its status, are the explanation of what the reader had.
     ensures answer { IfOk result
         (λ status. IfSome (R.remaining (inner_of reader.old))
         (λ input. IsExplanationOf input status (Appends (W.contents (inner_of writer.old)) (W.contents (inner_of writer.new))))) }

@@ -19,7 +19,7 @@ ghost use Rattle.monk_history.specs.Meaning.Release.{MayCall, as_called};
 ghost use Rattle.monk_history.specs.Meaning.Situation.{situation};
 ghost use Rattle.monk_history.specs.Meaning.Standing.{IsPlaced, in_queues};
 ghost use Rattle.monk_history.specs.Meaning.Turn.{is_inside};
-ghost use Rattle.monk_history.specs.Meaning.Untils.{untils, untils_while_false};
+ghost use Rattle.monk_history.specs.Meaning.Untils.{untils, untils_while_false, StaysWhereItHolds};
 
 /// Nothing has happened is legal, and a legal history with one allowed event more is legal.
 pub fn history_grows()
@@ -74,9 +74,11 @@ pub fn allowed_may_be_called()
     ensures { (m : Monitor) (h : List Event) (e : Event) → IsAllowed m h e → MayCall m h (as_called e) }
 {}
 
-/// In a legal history the waits-until are the untils whose predicate was false of the data before them.
+/// In a legal history the waits-until are the untils whose predicate was false of the data before them: an until goes on
+/// at once exactly where its predicate holds.
 pub fn untils_were_false()
-    ensures { (m : Monitor) (h : List Event) → IsLegal m h → untils_while_false m h ≡ untils h }
+    ensures queue { (m : Monitor) (h : List Event) → IsLegal m h → untils_while_false m h ≡ untils h }
+    ensures each { (m : Monitor) (h : List Event) → IsLegal m h → StaysWhereItHolds m h }
 {}
 
 /// The acts of a legal history are a run of its object from the opening state: each reply is the object's, and the data

@@ -1,13 +1,14 @@
 -- Which history completes a log
-use Rattle.std.specs.Prelude.{◌≡◌, ◌≤◌, Bool, List, length, [], ◌∷◌, ◌++◌, Option, Some, None, false, if◌then◌else◌}
-use Rattle.std.specs.List.{last_or}
+use Rattle.std.specs.Prelude.{◌≡◌, ◌≢◌, ◌≤◌, Bool, List, length, drop, [], ◌∷◌, ◌++◌, Option, Some, None, false, if◌then◌else◌}
+use Rattle.std.specs.List.{AllByRecursion, last_or}
 use Rattle.monk_kinds.specs.declared.mode.Mode.{Mode}
 use Rattle.monk_kinds.specs.declared.mode.Pick.TheVariants.{Entry as WishEntry}
 use Rattle.monk_kinds.specs.declared.mode.Rules.{Rules}
 use Rattle.monk_object.specs.Object.{Object}
 use Rattle.monk_history.specs.declared.event.Event.{Event}
 use Rattle.monk_history.specs.declared.event.Next.{Next}
-use Rattle.monk_history.specs.Meaning.Events.{next_of, returns_at_once}
+use Rattle.monk_history.specs.declared.event.Via.TheVariants.{Free}
+use Rattle.monk_history.specs.Meaning.Events.{next_of, returns_at_once, via_of}
 use Rattle.monk_history.specs.Meaning.Legal.{IsLegal}
 use Rattle.monk_history.specs.Meaning.Monitor.{Monitor}
 use Rattle.monk_history.specs.Meaning.Release.{choice_of}
@@ -42,12 +43,21 @@ other_half k log = if returns_at_once k then leaving (last_or None log) else []
 abbrev pub unwished_next : Rules → Object → Situation → Event → Next
 unwished_next k o t e = choice_of k o t e false WishEntry
 
--- the history is legal and tells the log, by no more events than the log has lines. Where the log ends with a release its choice
--- is the one without a wish
+-- it is no enter of a seat that found the monitor free
+abbrev pub IsNoFreeEnter : Event → Type 0
+IsNoFreeEnter e = via_of e ≢ Some Free
+
+-- behind the first event every seat that enters is handed the monitor
+abbrev pub AreHandedOver : List Event → Type 0
+AreHandedOver h = AllByRecursion IsNoFreeEnter (drop 1 h)
+
+-- the history is legal and tells the log, by no more events than the log has lines. A seat is handed the monitor wherever it can
+-- be. Where the log ends with a release its choice is the one without a wish
 pub record Completes (m : Monitor) (log : List LogLine) (h : List Event) : Type 0 where
   pub legal : IsLegal m h
   pub erases : erasure h ≡ log ++ other_half m.kind.mode log
   pub few : length h ≤ length log
+  pub handed : AreHandedOver h
   pub last_choice : (before : List Event) (e : Event) (x : Next) → h ≡ before ++ e ∷ [] → next_of e ≡ Some x
       → x ≡ unwished_next m.kind m.object (situation m before) e
 

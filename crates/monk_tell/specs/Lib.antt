@@ -1,3 +1,4 @@
+pub mod Cause
 pub mod Permitted
 pub mod Sentence
 pub mod Told

@@ -1,7 +1,6 @@
 -- What is told of a history, as data
 use Rattle.std.specs.Prelude.{ℕ, zero, suc, ◌-◌, ◌==◌, Bool, Option, Some, None, List, [], ◌∷◌, ◌++◌, map, take}
 use Rattle.std.specs.Prelude.{if◌then◌else◌, option_map, get_or}
-use Rattle.std.specs.Option.{option_map_or}
 use Rattle.monk_kinds.specs.declared.mode.Mode.{Mode}
 use Rattle.monk_kinds.specs.declared.mode.Mode.TheVariants.{Blocking, NonBlocking}
 use Rattle.monk_kinds.specs.declared.mode.Mode.TheVariants.{QuasiBlocking, ImmediateReturn, Automatic as AutomaticMode}
@@ -10,7 +9,6 @@ use Rattle.monk_kinds.specs.declared.name.KindName.{KindName}
 use Rattle.monk_object.specs.Object.{Object}
 use Rattle.monk_history.specs.Text.{Heading}
 use Rattle.monk_history.specs.Meaning.Choice.{Queues as Lined, queues_at}
-use Rattle.monk_history.specs.Meaning.Events.{answered_act}
 use Rattle.monk_history.specs.Meaning.Monitor.{Monitor}
 use Rattle.monk_history.specs.Meaning.Named.{named_monitor}
 use Rattle.monk_history.specs.Meaning.Situation.{Situation as Standing, situation}
@@ -24,6 +22,7 @@ use Rattle.monk_history.specs.declared.event.Turn.{Turn}
 use Rattle.monk_audit.specs.Verdict.{verdict_of}
 use Rattle.monk_audit.specs.declared.verdict.Verdict.{Verdict}
 use Rattle.monk_audit.specs.declared.verdict.Verdict.TheVariants.{Legal, Forbidden}
+use Rattle.monk_tell.specs.Cause.{cause, own_reply}
 use Rattle.monk_tell.specs.Permitted.{fronts, permitted_nexts}
 use Rattle.monk_tell.specs.declared.blame.Blame.{Blame}
 use Rattle.monk_tell.specs.declared.choice.Choice.{Choice}
@@ -34,7 +33,6 @@ use Rattle.monk_tell.specs.declared.queues.Queues.TheVariants.{Automatic, Return
 use Rattle.monk_tell.specs.declared.situation.Situation.{Situation}
 use Rattle.monk_tell.specs.declared.telling.Telling.{Telling}
 use Rattle.monk_tell.specs.declared.why.Why.{Why}
-use Rattle.monk_tell.specs.declared.why.Why.TheVariants.{Reply}
 
 -- ---- the data, as lists
 
@@ -154,20 +152,17 @@ shown_standing kind rules seats conds o t = record {
   queues = queues_shown rules.mode conds o t;
 }
 
--- the object's own reply, if the event is an act
-abbrev pub own_reply : Object → List ℕ → Event → Option ℕ
-own_reply o d e = option_map (λ act. o.reply d act.op) (answered_act e)
-
 abbrev pub chosen_at : Rules → Object → Standing → Event → Chosen
 chosen_at k o t e = record { fronts = fronts (queues_at o t e); may = permitted_nexts k o t e }
 
-abbrev pub blame_of_event : Rules → Object → Standing → ℕ → ℕ → Event → Why → Blamed
-blame_of_event k o t step reason e why = record {
+-- what is wrong with the event of that step, in this situation and for that reason
+abbrev pub blame_of_event : KindName → Rules → ℕ → ℕ → Object → Standing → ℕ → ℕ → Event → Blamed
+blame_of_event kind k seats conds o t step reason e = record {
   step = step;
   event = e;
   reply = if reason == 5 then own_reply o t.state e else None;
   choice = if reason == 6 then Some (chosen_at k o t e) else None;
-  why = why;
+  why = cause kind k seats conds o t reason e;
 }
 
 -- how the monitor stands after these events
@@ -181,18 +176,15 @@ event_at es step = get_or es (step - 1) (Enter 0 Free)
 abbrev pub events_before : List Event → ℕ → List Event
 events_before es step = take (step - 1) es
 
--- what is told of a history of a monitor of that kind with that verdict; `why` is told of a forbidden one
-abbrev pub account_by : KindName → Monitor → List Event → Why → Verdict → Account
-account_by kind m es why (Legal n) = record { verdict = Legal n; situation = shown_after kind m es; blame = None }
-account_by kind m es why (Forbidden step reason) = record {
+-- what is told of a history of a monitor of that kind with that verdict
+abbrev pub account_by : KindName → Monitor → List Event → Verdict → Account
+account_by kind m es (Legal n) = record { verdict = Legal n; situation = shown_after kind m es; blame = None }
+account_by kind m es (Forbidden step reason) = record {
   verdict = Forbidden step reason;
   situation = shown_after kind m (events_before es step);
-  blame = Some (blame_of_event m.kind m.object (situation m (events_before es step)) step reason (event_at es step) why);
+  blame = Some (blame_of_event kind m.kind m.seats m.conds m.object (situation m (events_before es step)) step reason
+    (event_at es step));
 }
 
-abbrev pub account : Heading → List Event → Why → Account
-account h es why = account_by h.kind (named_monitor h) es why (verdict_of (named_monitor h) es)
-
--- the sentence of a telling, of a legal history any
-abbrev pub why_of : Telling → Why
-why_of t = option_map_or (λ b. b.why) t.blame (Reply 0 0)
+abbrev pub account : Heading → List Event → Account
+account h es = account_by h.kind (named_monitor h) es (verdict_of (named_monitor h) es)

@@ -4,7 +4,9 @@ ghost use Rattle.std.specs.Prelude.{◌≡◌, ◌<◌, [], true, All, IfOk};
 ghost use Rattle.monk_history.specs.Meaning.Monitor.{monitor};
 ghost use Rattle.monk_history.specs.Meaning.Reasons.{fits_object, reason_in};
 ghost use Rattle.monk_audit.specs.Replay.{replay_situation};
-ghost use Rattle.monk_tell.specs.Told.{blame_of, blame_of_event, choice_of, chosen_at, own_reply};
+ghost use Rattle.monk_history.specs.Meaning.Choice.{must_stay, queues_at};
+ghost use Rattle.monk_tell.specs.Cause.{firsts_of, other_choice, own_reply};
+ghost use Rattle.monk_tell.specs.Told.{blame_of, blame_of_event, choice_of, chosen_at};
 
 use crate::blame::Blame;
 use crate::choice::Choice;
@@ -41,8 +43,10 @@ fn choice<T: Guarded>(
 ) -> Result<(Choice, Why), AllocError>
     requires preds { All (λ w. w.1 < T.PREDICATES) (replay_situation replay.now (T.state object.now)).untils }
     requires fits { fits_object T.CODES T.PREDICATES event ≡ true }
-    ensures { IfOk result
+    ensures chosen { IfOk result
         (λ r. choice_of r.0 ≡ chosen_at rules T.meaning (replay_situation replay.now (T.state object.now)) event) }
+    ensures why { IfOk result (λ r. let t = replay_situation replay.now (T.state object.now) in
+        r.1 ≡ other_choice kind rules (firsts_of (queues_at T.meaning t event)) (must_stay T.meaning t event) event) }
 {
     let stays = must_stay(alloc, replay, object, event)?;
     let lines = line_up(alloc, replay, object, event)?;
@@ -50,7 +54,7 @@ fn choice<T: Guarded>(
         fronts: Fronts(fronts(alloc, &lines)?),
         may: Nexts(may(alloc, rules, &lines, stays, event)?),
     };
-    Ok((choice, wrong_choice(kind, rules, &lines, stays, event)))
+    Ok((choice, wrong_choice(kind, rules, lines.firsts(), stays, event)))
 }
 
 /// What is wrong with the event of that step, which is not allowed for that reason.
@@ -68,7 +72,8 @@ pub(crate) fn blame<T: Guarded>(
     requires reason { reason ≡ reason_in (monitor rules header.now.seats header.now.conds T.meaning [])
         (replay_situation replay.now (T.state object.old)) event }
     ensures { IfOk result
-        (λ b. blame_of b ≡ blame_of_event rules T.meaning (replay_situation replay.now (T.state object.old)) step reason event b.why) }
+        (λ b. blame_of b ≡ blame_of_event header.now.kind rules header.now.seats header.now.conds T.meaning
+        (replay_situation replay.now (T.state object.old)) step reason event) }
 {
     let kind = header.kind();
     if reason == Verdict::CHOICE {

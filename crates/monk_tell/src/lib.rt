@@ -3,6 +3,7 @@
 
 mod blame;
 mod choice;
+mod firsts;
 mod judging;
 mod kind_word;
 pub mod laws;

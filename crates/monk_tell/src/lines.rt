@@ -7,8 +7,10 @@ ghost use Rattle.monk_history.specs.Meaning.Signallers.{is_empty, signals};
 ghost use Rattle.monk_history.specs.Meaning.Untils.{ready_of};
 ghost use Rattle.monk_history.specs.Meaning.Waiters.{serves};
 ghost use Rattle.monk_audit.specs.Replay.{replay_situation};
+ghost use Rattle.monk_tell.specs.Cause.{firsts_of};
 ghost use Rattle.monk_tell.specs.Told.{lines_of};
 
+use crate::firsts::Firsts;
 use monk_audit::Replay;
 use monk_history::Event;
 use monk_object::Guarded;
@@ -20,6 +22,19 @@ pub(crate) struct Lines {
     pub(crate) waiters: Vec<u8>,
     pub(crate) signallers: Vec<u8>,
     pub(crate) ready: Vec<u8>,
+}
+
+impl Lines {
+    /// The first of each.
+    pub(crate) fn firsts(&self) -> Firsts
+        ensures { result ≡ firsts_of (lines_of self.now) }
+    {
+        Firsts {
+            waiter: self.waiters.first().copied(),
+            signaller: self.signallers.first().copied(),
+            ready: self.ready.first().copied(),
+        }
+    }
 }
 
 /// The seats whose predicate holds, in order of the waits.

@@ -8,7 +8,7 @@ ghost use Rattle.monk_history.specs.Meaning.Monitor.{monitor};
 ghost use Rattle.monk_history.specs.Meaning.Situation.{situation};
 ghost use Rattle.monk_audit.specs.Replay.{replay_situation};
 ghost use Rattle.monk_audit.specs.Verdict.{IsVerdict};
-ghost use Rattle.monk_tell.specs.Told.{account, account_by, shown_after, situation_of, telling_of, why_of};
+ghost use Rattle.monk_tell.specs.Told.{account, account_by, shown_after, situation_of, telling_of};
 
 use crate::judging::blame;
 use crate::situation::Situation;
@@ -54,7 +54,7 @@ fn tell_legal<T: Listed>(
     requires { IsLegal (monitor (rules_named header.now.kind) header.now.seats header.now.conds T.meaning (T.state object)) events.now }
     ensures { IfOk result
         (λ t. telling_of t ≡ account_by header.now.kind
-        (monitor (rules_named header.now.kind) header.now.seats header.now.conds T.meaning (T.state object)) events.now (why_of t)
+        (monitor (rules_named header.now.kind) header.now.seats header.now.conds T.meaning (T.state object)) events.now
         (Verdict.Legal count)) }
 {
     let mut object = object;
@@ -79,7 +79,7 @@ fn tell_forbidden<T: Listed>(
         (monitor (rules_named header.now.kind) header.now.seats header.now.conds T.meaning (T.state object)) events.now step reason }
     ensures { IfOk result
         (λ t. telling_of t ≡ account_by header.now.kind
-        (monitor (rules_named header.now.kind) header.now.seats header.now.conds T.meaning (T.state object)) events.now (why_of t)
+        (monitor (rules_named header.now.kind) header.now.seats header.now.conds T.meaning (T.state object)) events.now
         (Verdict.Forbidden step reason)) }
 {
     let mut object = object;
@@ -116,7 +116,7 @@ fn tell_over<T: Listed>(
         (monitor (rules_named header.now.kind) header.now.seats header.now.conds T.meaning (T.state object)) events.now verdict }
     ensures { IfOk result
         (λ t. telling_of t ≡ account_by header.now.kind
-        (monitor (rules_named header.now.kind) header.now.seats header.now.conds T.meaning (T.state object)) events.now (why_of t)
+        (monitor (rules_named header.now.kind) header.now.seats header.now.conds T.meaning (T.state object)) events.now
         verdict) }
 {
     match verdict {
@@ -141,8 +141,8 @@ fn tell_over<T: Listed>(
 /// Two passes over the events, each as [`audit`] takes one; memory for the queues, the object and what is told.
 pub fn tell(alloc: Global, header: &Header, events: &[Event]) -> Result<Telling, AuditFault>
     requires { length events.now ≤ 2 ^ 25 }
-    // All that is told is so; the sentence alone is any of those that there are.
-    ensures told { IfOk result (λ t. telling_of t ≡ account header.now events.now (why_of t)) }
+    // All that is told is so, the sentence too.
+    ensures told { IfOk result (λ t. telling_of t ≡ account header.now events.now) }
     ensures fits { OnOk result (header.now.size ≤ most header.now.object) }
     ensures object { IsErrOf result AuditFault.Object → most header.now.object < header.now.size }
     ensures too_big { most header.now.object < header.now.size → IsErrOf result AuditFault.Object }

@@ -19,7 +19,7 @@ use Rattle.monk_history.specs.Meaning.Reasons.{IsAllowed, fits_object, is_condit
 use Rattle.monk_history.specs.Meaning.Release.{MayCall, with_next}
 use Rattle.monk_history.specs.Meaning.Situation.{Situation, situation}
 use Rattle.monk_history.proofs.PublicLaws.Meaning.{and_right, chosen_allowed, history_induction, legal-push, legal_last, legal_order}
-use Rattle.monk_logs.specs.Completion.{Completes, IsCompletedBy, other_half, unwished_next}
+use Rattle.monk_logs.specs.Completion.{AreHandedOver, Completes, IsCompletedBy, other_half, unwished_next}
 use Rattle.monk_logs.specs.Course.{course}
 use Rattle.monk_logs.specs.Ending.{last_events, last_release}
 use Rattle.monk_logs.specs.Erasure.{erasure_of, erasure}
@@ -30,6 +30,7 @@ use Rattle.monk_logs.specs.declared.line.LogLine.TheVariants.{Leave, Signal}
 use Rattle.monk_logs.specs.declared.pending.Pending.{Pending}
 use Rattle.monk_logs.specs.declared.pending.Pending.TheVariants.{Settled, Half, Release}
 use Rattle.monk_logs.proofs.CompletionLaws.Halves.{event_whole, never, signal_half}
+use Rattle.monk_logs.proofs.CompletionLaws.HandedOver.{course_handed, handed-push, no_enter, release_is_no_enter}
 use Rattle.monk_logs.proofs.CompletionLaws.Known.{IsCourse, keeps_more}
 use Rattle.monk_logs.proofs.CourseLaws.Lists.{erasure-push}
 use Rattle.monk_logs.proofs.CourseLaws.Soundness.{IsStill, Tells, erased_with_next, release_right, tells_from}
@@ -97,9 +98,9 @@ last_chosen m past before e last y stays is chose =
 
 release_completes : (m : Monitor) (past : List Event) (e : Event) (log : List LogLine) → IsKind m.kind → IsLegal m past
     → MayCall m past e → next_of e ≡ Some Stay → erasure past ++ erasure_of e ≡ log ++ other_half m.kind.mode log
-    → ((last : Event) → length (past ++ last ∷ []) ≤ length log)
+    → ((last : Event) → length (past ++ last ∷ []) ≤ length log) → AreHandedOver past
     → Completes m log (past ++ with_next (unwished_next m.kind m.object (situation m past) e) e ∷ [])
-release_completes m past e log kind legal may stays told few =
+release_completes m past e log kind legal may stays told few all =
     let x = unwished_next m.kind m.object (situation m past) e in
     let allowed : IsAllowed m past (with_next x e) =
     chosen_allowed m (situation m past) e false WishEntry (legal_order m past kind legal) may (release_right m past e stays) in
@@ -108,6 +109,7 @@ release_completes m past e log kind legal may stays told few =
       erases = erasure-push past (with_next x e)
           ∙ ap (λ (y : List LogLine). erasure past ++ y) (erased_with_next x e) ∙ told;
       few = few (with_next x e);
+      handed = handed-push past (with_next x e) all (λ some. no_enter (with_next x e) (release_is_no_enter x e stays));
       last_choice = λ before last y is chose. last_chosen m past before e last y stays is chose;
     }
 
@@ -128,12 +130,14 @@ history_whole m h = history_induction (λ x. IsLegal m x → other_half m.kind.m
     ∙ event_whole m.kind.mode (erasure x) e (legal_last m x e l).offered) h
 
 settled_completes : (m : Monitor) (past : List Event) → IsLegal m past
-    → ((before : List Event) (e : Event) → past ≡ before ++ e ∷ [] → next_of e ≡ None) → Completes m (erasure past) (past ++ [])
-settled_completes m past legal known =
+    → ((before : List Event) (e : Event) → past ≡ before ++ e ∷ [] → next_of e ≡ None) → AreHandedOver past
+    → Completes m (erasure past) (past ++ [])
+settled_completes m past legal known all =
     subst (Completes m (erasure past)) (sym (append-nil past)) (record {
       legal = legal;
       erases = whole m (erasure past) (history_whole m past legal);
       few = few_events past;
+      handed = all;
       last_choice = λ before e x is chose. let none : next_of e ≡ None = known before e is in absurd cc;
     })
 
@@ -148,18 +152,18 @@ half_told m past s c log may told =
     (signal_half m.kind.mode (erasure past) s c may.offered))
 
 tells_completes : (m : Monitor) (log : List LogLine) (past : List Event) (p : Pending) → IsKind m.kind → Tells m log past p
-    → Completes m log (past ++ last_events m.kind m.object (situation m past) p)
-tells_completes m log past Settled kind t =
+    → AreHandedOver past → Completes m log (past ++ last_events m.kind m.object (situation m past) p)
+tells_completes m log past Settled kind t all =
     subst (λ (x : List LogLine). Completes m x (past ++ [])) (sym (append-nil (erasure past)) ∙ t.told)
-    (settled_completes m past t.legal t.still)
-tells_completes m log past (Half s c) kind t =
+    (settled_completes m past t.legal t.still all)
+tells_completes m log past (Half s c) kind t all =
     release_completes m past (event.SignalLeave s c Stay) log kind t.legal t.still refl
-    (half_told m past s c log t.still t.told) (λ last. one_more past last (Signal s c ∷ []) log t.told (omega arith))
-tells_completes m log past (Release e) kind t =
+    (half_told m past s c log t.still t.told) (λ last. one_more past last (Signal s c ∷ []) log t.told (omega arith)) all
+tells_completes m log past (Release e) kind t all =
     release_completes m past e log kind t.legal t.still.0 t.still.1
     (t.told ∙ whole m log (subst (λ (x : List LogLine). other_half m.kind.mode x ≡ []) t.told
     (event_whole m.kind.mode (erasure past) e t.still.0.offered)))
-    (λ last. one_more past last (erasure_of e) log t.told (some_line e))
+    (λ last. one_more past last (erasure_of e) log t.told (some_line e)) all
 
 -- ---- what is kept
 
@@ -170,7 +174,8 @@ course_ends m log t p b o new kind c is =
     record {
       history = c.known ++ more;
       completes = subst (λ (x : Situation). Completes m log (c.known ++ last_events m.kind m.object x p)) c.stands
-          (tells_completes m log c.known p kind (tells_from m log (course c.known p) c.judged));
+          (tells_completes m log c.known p kind (tells_from m log (course c.known p) c.judged)
+          (course_handed m log (course c.known p) c.judged));
       keeps = keeps_more b o new c.known more c.keeps is;
     }
 

@@ -45,10 +45,10 @@ returns g c =
     let o = g.T.Guarded.meaning in
     let rules = rules_named c.args.header.now.kind in
     let m = monitor rules c.args.header.now.seats c.args.header.now.conds o (g.T.Guarded.state c.args.object) in
-    let why = c.in_ok-blame.blame.why in
+    let h = c.args.header.now in
     let event = get_or c.args.events.now (c.args.step - 1) (Enter 0 Free) in
     same_told (Forbidden c.args.step c.args.reason) _ _ _ _ c.in_ok-replay.ensures.shown
     (c.in_ok-blame.ensures
-    ∙ ap (λ (k : Rules). blame_of_event k o (replay_situation c.in_ok-replay.replay (g.T.Guarded.state c.standing.new.object)) c.args.step
-    c.args.reason event why) (c.rules_by_name-rules.ensures ∙ ap rules_named c.kind.ensures)
-    ∙ ap (λ (t : Situation). blame_of_event rules o t c.args.step c.args.reason event why) c.in_ok-replay.ensures.stands)
+    ∙ ap (λ (k : Rules). blame_of_event h.kind k h.seats h.conds o (replay_situation c.in_ok-replay.replay
+    (g.T.Guarded.state c.standing.new.object)) c.args.step c.args.reason event) (c.rules_by_name-rules.ensures ∙ ap rules_named c.kind.ensures)
+    ∙ ap (λ (t : Situation). blame_of_event h.kind rules h.seats h.conds o t c.args.step c.args.reason event) c.in_ok-replay.ensures.stands)

@@ -1,0 +1,172 @@
+-- Why an event is not allowed: of each reason the sentence that tells it, by how the monitor stands
+use Rattle.std.specs.Prelude.{ℕ, ◌==◌, nat_le, nat_lt, Bool, false, Option, Some, None, List, slice_get, option_map, if◌then◌else◌, is_some}
+use Rattle.std.specs.Option.{option_map_or}
+use Rattle.monk_kinds.specs.declared.mode.Rules.{Rules}
+use Rattle.monk_kinds.specs.declared.name.KindName.{KindName}
+use Rattle.monk_object.specs.Object.{Object}
+use Rattle.monk_history.specs.Meaning.Choice.{Queues, queues_at, must_stay}
+use Rattle.monk_history.specs.Meaning.Events.{seat_of, next_of, via_of, answered_act, awaited_predicate, steps_back, has_conditions}
+use Rattle.monk_history.specs.Meaning.Situation.{Situation}
+use Rattle.monk_history.specs.declared.event.Event.{Event}
+use Rattle.monk_history.specs.declared.event.Event.TheVariants.{Enter, Act, Leave, Wait, Signal, SignalLeave, Until, Resume}
+use Rattle.monk_history.specs.declared.event.Event.TheVariants.{SignalAll, SignalWait}
+use Rattle.monk_history.specs.declared.event.From3.TheVariants as from
+use Rattle.monk_history.specs.declared.event.Next.{Next}
+use Rattle.monk_history.specs.declared.event.Next.TheVariants as next
+use Rattle.monk_history.specs.declared.event.Turn.{Turn}
+use Rattle.monk_history.specs.declared.event.Turn.TheVariants as turn
+use Rattle.monk_history.specs.declared.event.Via.{Via}
+use Rattle.monk_history.specs.declared.event.Via.TheVariants.{Free, Handed}
+use Rattle.monk_tell.specs.declared.firsts.Firsts.{Firsts}
+use Rattle.monk_tell.specs.declared.why.out_of_range.OutOfRange.{OutOfRange}
+use Rattle.monk_tell.specs.declared.why.out_of_range.OutOfRange.TheVariants as range
+use Rattle.monk_tell.specs.declared.why.out_of_turn.OutOfTurn.{OutOfTurn}
+use Rattle.monk_tell.specs.declared.why.out_of_turn.OutOfTurn.TheVariants as away
+use Rattle.monk_tell.specs.declared.why.out_of_place.OutOfPlace.{OutOfPlace}
+use Rattle.monk_tell.specs.declared.why.out_of_place.OutOfPlace.TheVariants as place
+use Rattle.monk_tell.specs.declared.why.staying.Staying.{Staying}
+use Rattle.monk_tell.specs.declared.why.staying.Staying.TheVariants as stay
+use Rattle.monk_tell.specs.declared.why.precedence.Precedence.{Precedence}
+use Rattle.monk_tell.specs.declared.why.precedence.Precedence.TheVariants as order
+use Rattle.monk_tell.specs.declared.why.Why.{Why}
+use Rattle.monk_tell.specs.declared.why.Why.TheVariants.{Range, Call, Turn as Away, Place, Reply, Stay, Order}
+
+-- ---- 1. a number that is out of range: of its seats the first, else what the call is about
+
+abbrev pub call_beyond : ℕ → ℕ → Event → OutOfRange
+call_beyond seats conds (Enter s via) = range.Seat s seats
+call_beyond seats conds (Act s op r) = range.Operation op.code
+call_beyond seats conds (Leave s x) = range.Seat s seats
+call_beyond seats conds (Wait s c x) = range.Condition c conds
+call_beyond seats conds (Signal s c x) = range.Condition c conds
+call_beyond seats conds (SignalLeave s c x) = range.Condition c conds
+call_beyond seats conds (Until s p x) = range.Predicate p
+call_beyond seats conds (Resume s q) = range.Seat s seats
+call_beyond seats conds (SignalAll s c) = range.Condition c conds
+call_beyond seats conds (SignalWait s c d x) = range.Condition (if nat_le conds c then c else d) conds
+
+abbrev pub seat_beyond : ℕ → OutOfRange → ℕ → OutOfRange
+seat_beyond seats other s = if nat_le seats s then range.Seat s seats else other
+
+abbrev pub chosen_beyond : ℕ → OutOfRange → Option Next → OutOfRange
+chosen_beyond seats other None = other
+chosen_beyond seats other (Some next.Stay) = other
+chosen_beyond seats other (Some next.Entry) = other
+chosen_beyond seats other (Some (next.Waiter j)) = seat_beyond seats other j
+chosen_beyond seats other (Some (next.Signaller j)) = seat_beyond seats other j
+chosen_beyond seats other (Some (next.Until j)) = seat_beyond seats other j
+
+abbrev pub number_beyond : ℕ → ℕ → Event → OutOfRange
+number_beyond seats conds e = seat_beyond seats (chosen_beyond seats (call_beyond seats conds e) (next_of e)) (seat_of e)
+
+-- ---- 3. whose turn it is, and not that of seat s
+
+abbrev pub other_turn : Turn → ℕ → OutOfTurn
+other_turn turn.Open s = away.Open s
+other_turn (turn.Due j q) s = if j == s then away.Resumes s q else away.Due s j q
+other_turn (turn.Owned j) s = if j == s then away.Already s else away.Active s j
+
+-- ---- 4. why seat s may not enter
+
+abbrev pub shut_door : Via → ℕ → OutOfPlace
+shut_door Free s = place.NotFree s
+shut_door Handed s = place.FirstOfAll s
+
+abbrev pub no_entry : Bool → Option Via → ℕ → OutOfPlace
+no_entry inside via s = if inside then place.Inside s else option_map_or (λ v. shut_door v s) via (place.NotFree s)
+
+-- ---- 5. the object's own reply, and the event's
+
+-- the object's own reply, if the event is an act
+abbrev pub own_reply : Object → List ℕ → Event → Option ℕ
+own_reply o d e = option_map (λ act. o.reply d act.op) (answered_act e)
+
+abbrev pub other_reply : Option ℕ → Event → Why
+other_reply own e =
+    option_map_or (λ act. option_map_or (λ right. Reply right act.reply) own (Stay (stay.GivesUp (seat_of e)))) (answered_act e)
+    (Stay (stay.GivesUp (seat_of e)))
+
+-- ---- 6. a choice that is not permitted
+
+-- the first seats of the queues
+abbrev pub firsts_of : Queues → Firsts
+firsts_of q = record { waiter = slice_get q.waiters 0; signaller = slice_get q.signallers 0; ready = slice_get q.ready 0 }
+
+-- the event has to stay
+abbrev pub has_to_stay : Event → Staying
+has_to_stay e =
+    option_map_or (λ c. stay.NobodyWaits c (seat_of e)) (steps_back e)
+    (option_map_or (λ p. stay.HoldsAlready p (seat_of e)) (awaited_predicate e) (stay.GivesUp (seat_of e)))
+
+-- it may not stay: waiters go first, or another signaller does, or its call gives the monitor up
+abbrev pub signaller_yields : KindName → Rules → Option ℕ → ℕ → Staying
+signaller_yields kind k first s =
+    if nat_lt k.signaller k.waiter then stay.MustYield s kind
+    else option_map_or (λ j. stay.StepsBehind s j) first (stay.GivesUp s)
+
+abbrev pub may_not_stay : KindName → Rules → Firsts → Event → Staying
+may_not_stay kind k f e =
+    if is_some (steps_back e) then signaller_yields kind k f.signaller (seat_of e) else stay.GivesUp (seat_of e)
+
+-- entry may not be chosen: of those above it the one that comes first
+abbrev pub may_not_admit : KindName → Rules → ℕ → Option ℕ → Option ℕ → Option ℕ → Why
+may_not_admit kind k s (Some w) (Some j) ready =
+    if nat_lt k.waiter k.signaller then (if j == s then Stay (stay.MustStay s kind) else Order (order.SignallersBeforeEntry j kind))
+    else Order (order.WaitersBeforeEntry w kind)
+may_not_admit kind k s (Some w) None ready = Order (order.WaitersBeforeEntry w kind)
+may_not_admit kind k s None (Some j) ready = Order (order.SignallersBeforeEntry j kind)
+may_not_admit kind k s None None (Some r) = Order (order.ReadyBeforeEntry r kind)
+may_not_admit kind k s None None None = Stay (stay.GivesUp s)
+
+-- whether that seat is the first
+abbrev pub is_first : ℕ → Option ℕ → Bool
+is_first j first = option_map_or (λ i. i == j) first false
+
+-- that waiter may not be chosen: it is not the first, or a signaller goes before it
+abbrev pub may_not_wake : KindName → Firsts → ℕ → ℕ → Why
+may_not_wake kind f s j =
+    if is_first j f.waiter
+    then option_map_or (λ i. if i == s then Stay (stay.MustStay s kind) else Order (order.SignallersFirst i kind)) f.signaller
+        (Stay (stay.GivesUp s))
+    else Order (order.NotFirst j from.Waiter)
+
+-- that signaller may not be chosen: it is not the first, or a waiter goes before it, or it is the caller
+abbrev pub caller_or_none : ℕ → ℕ → Why
+caller_or_none s j = if j == s then Stay (stay.OwnSignal s) else Stay (stay.GivesUp s)
+
+abbrev pub may_not_recall : KindName → Rules → Firsts → ℕ → ℕ → Why
+may_not_recall kind k f s j =
+    if is_first j f.signaller
+    then option_map_or (λ w. if nat_lt k.signaller k.waiter then Order (order.WaitersFirst w kind) else caller_or_none s j) f.waiter
+        (caller_or_none s j)
+    else Order (order.NotFirst j from.Signaller)
+
+abbrev pub may_not_choose : KindName → Rules → Firsts → Event → Option Next → Why
+may_not_choose kind k f e None = Stay (may_not_stay kind k f e)
+may_not_choose kind k f e (Some next.Stay) = Stay (may_not_stay kind k f e)
+may_not_choose kind k f e (Some next.Entry) = may_not_admit kind k (seat_of e) f.waiter f.signaller f.ready
+may_not_choose kind k f e (Some (next.Waiter j)) = may_not_wake kind f (seat_of e) j
+may_not_choose kind k f e (Some (next.Signaller j)) = may_not_recall kind k f (seat_of e) j
+may_not_choose kind k f e (Some (next.Until j)) =
+    if has_conditions k.mode then Order (order.NoUntils kind) else Order (order.NotReady j)
+
+abbrev pub other_choice : KindName → Rules → Firsts → Bool → Event → Why
+other_choice kind k f stays e = if stays then Stay (has_to_stay e) else may_not_choose kind k f e (next_of e)
+
+-- ---- one of the first four
+
+abbrev pub early_cause : KindName → ℕ → ℕ → Turn → Bool → ℕ → Event → Why
+early_cause kind seats conds t inside reason e =
+    if reason == 1 then Range (number_beyond seats conds e)
+    else if reason == 2 then Call kind
+    else if reason == 3 then Away (other_turn t (seat_of e))
+    else Place (no_entry inside (via_of e) (seat_of e))
+
+-- ---- all
+
+-- why e is not allowed in this situation, where that is the first reason against it
+abbrev pub cause : KindName → Rules → ℕ → ℕ → Object → Situation → ℕ → Event → Why
+cause kind k seats conds o t reason e =
+    if reason == 6 then other_choice kind k (firsts_of (queues_at o t e)) (must_stay o t e) e
+    else if reason == 5 then other_reply (own_reply o t.state e) e
+    else early_cause kind seats conds t.turn (t.inside (seat_of e)) reason e
