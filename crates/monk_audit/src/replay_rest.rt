@@ -15,7 +15,7 @@ use crate::replay::Replay;
 use crate::replay_queues::is_ready;
 use monk_history::{Event, Turn};
 use monk_object::Guarded;
-use std::alloc::AllocError;
+use std::alloc::{AllocError, Global};
 
 impl Replay {
     /// Carries out what an event does beside the queues of the conditions, of the waiters and of the signallers, part by part.
@@ -42,9 +42,10 @@ impl Replay {
         join_untils(&mut self.untils, event)
     }
 
-    /// Carries out what an event does beside the queues of the conditions, of the waiters and of the signallers.
+    /// Carries out what an event does beside the queues of the conditions, of the waiters and of the signallers. The list
+    /// of waits-until that may grow by it is the replay's own; `_alloc` says that it may.
     #[inline(always)]
-    pub fn pass_on(&mut self, event: Event) -> Result<(), AllocError>
+    pub fn pass_on(&mut self, _alloc: Global, event: Event) -> Result<(), AllocError>
         requires { seat_of event < seats_in self.old }
         ensures passed { OnOk result
             ((state : List ℕ) → replay_situation self.new state ≡ passed_on (replay_situation self.old state) event) }

@@ -36,9 +36,10 @@ impl Replay {
     }
 
     /// Judges an event, and carries it out where no reason is against it. Gives the first reason, or 0; where there is one,
-    /// the replay is of no further use.
+    /// the replay is of no further use. The queues that may grow by it are the replay's own; `_alloc` says that they may.
     pub fn carry_out<T: Guarded>(
         &mut self,
+        _alloc: Global,
         rules: Rules,
         object: &mut T,
         conds: u8,

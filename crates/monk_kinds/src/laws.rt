@@ -7,8 +7,10 @@ ghost use Rattle.monk_kinds.specs.declared.ordering.Ordering13.{Ordering13};
 
 use crate::name::KindName;
 use crate::ordering::Ordering13;
-use crate::{Automatic, Blocking, ImmediateReturn, NonBlocking, QuasiBlocking};
-use crate::{Npb, Npir, Npis, Npnb, Npqb, Pb, Pir, Pis, Pnb, Pqb};
+use crate::{
+    Automatic, Blocking, ImmediateReturn, NonBlocking, Npb, Npir, Npis, Npnb, Npqb, Pb, Pir, Pis,
+    Pnb, Pqb, QuasiBlocking,
+};
 
 /// Every kind stands in `KindName::ALL` exactly once.
 pub fn every_kind_is_listed()

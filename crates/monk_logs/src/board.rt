@@ -96,7 +96,12 @@ impl Board {
 
     /// Carries out what an event that has served chose, and the rest of what it does.
     #[inline(always)]
-    pub(crate) fn settle(&mut self, event: Event, stays: bool) -> Result<(), AllocError>
+    pub(crate) fn settle(
+        &mut self,
+        alloc: Global,
+        event: Event,
+        stays: bool,
+    ) -> Result<(), AllocError>
         requires { seat_of event < seats_in self.old.rest }
         ensures moved { OnOk result
             ((state : List ℕ) → board_shown self.new state ≡ board_moved stays (board_shown self.old state) event) }
@@ -107,7 +112,7 @@ impl Board {
         take_chosen(&mut self.items, event.choice());
         join(&mut self.items, event)?;
         signallers::take_chosen(&mut self.signallers, event, stays);
-        self.rest.pass_on(event)
+        self.rest.pass_on(alloc, event)
     }
 
     /// Lets the seat go on, which waits on a condition and which no signal served.

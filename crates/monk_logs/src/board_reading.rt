@@ -101,7 +101,7 @@ fn line_chosen<T: Guarded>(
     ensures sound { IfOk result
         (λ v. (left : Pending) → v ≡ LineVerdict.Fits left → IsBoardOf setting.seats setting.conds T.PREDICATES board.new) }
 {
-    board.settle(told, stays)?;
+    board.settle(setting.alloc, told, stays)?;
     line_settled(order, setting, board, object, line)
 }
 

@@ -74,7 +74,7 @@ fn choose<T: Guarded>(
     if reason != ALLOWED {
         return Ok(reason);
     }
-    board.settle(event, stays)?;
+    board.settle(setting.alloc, event, stays)?;
     Ok(ALLOWED)
 }
 
@@ -102,7 +102,7 @@ fn act<T: Guarded>(
         return Ok(Verdict::REPLY);
     }
     board.serve(event)?;
-    board.settle(event, false)?;
+    board.settle(setting.alloc, event, false)?;
     Ok(ALLOWED)
 }
 

@@ -221,6 +221,6 @@ pub(crate) fn line_told<T: Guarded>(
         let blame = release_blame(order, setting, board, object, event, stays, line)?;
         return Ok(LineVerdict::Misfits(blame));
     }
-    board.settle(told, stays)?;
+    board.settle(setting.alloc, told, stays)?;
     line_settled(order, setting, board, object, line)
 }

@@ -129,6 +129,7 @@ pub(crate) fn count_source<L: LineSource>(
     ensures too_big { most header.now.object < header.now.size → IsErrOf result AuditFault.Object }
 {
     let setting = Setting {
+        alloc,
         rules: rules_by_name(kind),
         seats: header.seats(),
         conds: header.conds(),

@@ -78,6 +78,7 @@ pub(crate) fn follow_log(
     ensures too_big { most header.now.object < header.now.size → IsErrOf result AuditFault.Object }
 {
     let setting = Setting {
+        alloc,
         rules: rules_by_name(kind),
         seats: header.seats(),
         conds: header.conds(),

@@ -45,7 +45,7 @@ fn add<T: Guarded>(
     ensures kept { OnOk result (kept_events past.new ≡ kept_with (kept_events past.old) (event ∷ [])) }
 {
     past.add(event)?;
-    replay.carry_out(setting.rules, object, setting.conds, event)
+    replay.carry_out(setting.alloc, setting.rules, object, setting.conds, event)
 }
 
 /// The same of an event of which nothing is left to be known.

@@ -1,10 +1,13 @@
 -- What a reason says of an event, and a first fault of a history
-use Rattle.std.proofs.Common.{◌≡◌, ℕ, ◌<◌, Bool, true, false, cond, not, List, [], Some, refl, sym, ap, subst, arith, ◌∙◌}
+use Rattle.std.proofs.Common.{◌≡◌, ◌≢◌, ℕ, ◌<◌, Bool, true, false, cond, not, List, [], Some, None, refl, sym, ap, subst, arith, ◌∙◌}
+use Rattle.std.specs.Prelude.{◌==◌}
+use Rattle.std.proofs.lemmas.Bool.{ne_eqb}
 use Rattle.monk_kinds.specs.declared.mode.Rules.{Rules}
 use Rattle.monk_kinds.specs.declared.name.KindName.{KindName}
 use Rattle.monk_object.specs.Object.{Object}
 use Rattle.monk_history.specs.declared.event.Event.{Event}
 use Rattle.monk_history.specs.declared.event.Turn.{Turn}
+use Rattle.monk_history.specs.Meaning.Events.{seat_of}
 use Rattle.monk_history.specs.Meaning.Monitor.{Monitor, monitor}
 use Rattle.monk_history.specs.Meaning.Reasons.{fits_object, is_in_range, reason_in}
 use Rattle.monk_history.specs.Meaning.Situation.{Situation}
@@ -17,7 +20,9 @@ use Rattle.monk_history.specs.Meaning.Named.{named_monitor}
 use Rattle.monk_audit.specs.declared.verdict.Verdict.{Verdict}
 use Rattle.monk_audit.specs.Verdict.{IsVerdict, verdict_of}
 use Rattle.monk_audit.proofs.PublicLaws.{is_verdict}
-use Rattle.monk_tell.specs.Told.{Blamed, Shown, ShownQueues, Account}
+use Rattle.monk_tell.specs.Cause.{early_cause}
+use Rattle.monk_tell.specs.Told.{Blamed, Shown, ShownQueues, Account, blame_of_event}
+use Rattle.monk_tell.specs.declared.why.Why.{Why}
 
 passed_first : (b : Bool) (n k : ℕ) → cond (not b) 1 n ≡ k → 1 < k → b ≡ true
 passed_first true n k h more = refl
@@ -69,3 +74,16 @@ pub over_is : (h : Heading) (o : ObjectName) (size : ℕ) (d : List ℕ) (es : L
 over_is h o size d es v is same made found =
     subst (λ (m : Monitor). IsVerdict m es v) (sym (made_named h o size d is same made))
     (subst (IsVerdict (named_monitor h) es) (sym found) (is_verdict (named_monitor h) es))
+
+abbrev pub blamed_as : ℕ → Event → Why → Blamed
+blamed_as step e why = record { step = step; event = e; reply = None; choice = None; why = why }
+
+-- what is wrong with an event that fails one of the first four tests
+pub early_blamed : (kind : KindName) (k : Rules) (seats conds : ℕ) (o : Object) (t : Situation) (step reason : ℕ) (e : Event)
+    (why : Why) → reason ≢ 6 → reason ≢ 5
+    → why ≡ early_cause kind seats conds t.turn (t.inside (seat_of e)) reason e
+    → blamed_as step e why ≡ blame_of_event kind k seats conds o t step reason e
+early_blamed kind k seats conds o t step reason e why no_choice no_reply is =
+    let choice : (reason == 6) ≡ false = ne_eqb reason 6 no_choice in
+    let reply : (reason == 5) ≡ false = ne_eqb reason 5 no_reply in
+    rw (choice, reply) (ap (blamed_as step e) is)

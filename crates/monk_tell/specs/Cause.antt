@@ -26,7 +26,6 @@ use Rattle.monk_tell.specs.declared.why.out_of_place.OutOfPlace.{OutOfPlace}
 use Rattle.monk_tell.specs.declared.why.out_of_place.OutOfPlace.TheVariants as place
 use Rattle.monk_tell.specs.declared.why.staying.Staying.{Staying}
 use Rattle.monk_tell.specs.declared.why.staying.Staying.TheVariants as stay
-use Rattle.monk_tell.specs.declared.why.precedence.Precedence.{Precedence}
 use Rattle.monk_tell.specs.declared.why.precedence.Precedence.TheVariants as order
 use Rattle.monk_tell.specs.declared.why.Why.{Why}
 use Rattle.monk_tell.specs.declared.why.Why.TheVariants.{Range, Call, Turn as Away, Place, Reply, Stay, Order}
@@ -127,7 +126,7 @@ abbrev pub may_not_wake : KindName → Firsts → ℕ → ℕ → Why
 may_not_wake kind f s j =
     if is_first j f.waiter
     then option_map_or (λ i. if i == s then Stay (stay.MustStay s kind) else Order (order.SignallersFirst i kind)) f.signaller
-        (Stay (stay.GivesUp s))
+    (Stay (stay.GivesUp s))
     else Order (order.NotFirst j from.Waiter)
 
 -- that signaller may not be chosen: it is not the first, or a waiter goes before it, or it is the caller
@@ -138,7 +137,7 @@ abbrev pub may_not_recall : KindName → Rules → Firsts → ℕ → ℕ → Wh
 may_not_recall kind k f s j =
     if is_first j f.signaller
     then option_map_or (λ w. if nat_lt k.signaller k.waiter then Order (order.WaitersFirst w kind) else caller_or_none s j) f.waiter
-        (caller_or_none s j)
+    (caller_or_none s j)
     else Order (order.NotFirst j from.Signaller)
 
 abbrev pub may_not_choose : KindName → Rules → Firsts → Event → Option Next → Why

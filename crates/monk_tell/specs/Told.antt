@@ -183,7 +183,7 @@ account_by kind m es (Forbidden step reason) = record {
   verdict = Forbidden step reason;
   situation = shown_after kind m (events_before es step);
   blame = Some (blame_of_event kind m.kind m.seats m.conds m.object (situation m (events_before es step)) step reason
-    (event_at es step));
+      (event_at es step));
 }
 
 abbrev pub account : Heading → List Event → Account

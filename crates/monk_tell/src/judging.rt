@@ -54,7 +54,10 @@ fn choice<T: Guarded>(
         fronts: Fronts(fronts(alloc, &lines)?),
         may: Nexts(may(alloc, rules, &lines, stays, event)?),
     };
-    Ok((choice, wrong_choice(kind, rules, lines.firsts(), stays, event)))
+    Ok((
+        choice,
+        wrong_choice(kind, rules, lines.firsts(), stays, event),
+    ))
 }
 
 /// What is wrong with the event of that step, which is not allowed for that reason.
@@ -86,21 +89,30 @@ pub(crate) fn blame<T: Guarded>(
             why,
         });
     }
-    let reply = if reason == Verdict::REPLY {
-        own_reply(object, event)
-    } else {
-        None
-    };
-    let why = if reason == Verdict::REPLY {
-        wrong_reply(reply, event)
-    } else {
-        early(kind, header.seats(), header.conds(), replay, reason, event)
-    };
+    if reason == Verdict::REPLY {
+        let reply = own_reply(object, event);
+        return Ok(Blame {
+            step,
+            event,
+            reply,
+            choice: None,
+            why: wrong_reply(reply, event),
+        });
+    }
+    let (turn, inside) = (replay.turn(), replay.is_inside(event.seat()));
     Ok(Blame {
         step,
         event,
-        reply,
+        reply: None,
         choice: None,
-        why,
+        why: early(
+            kind,
+            header.seats(),
+            header.conds(),
+            turn,
+            inside,
+            reason,
+            event,
+        ),
     })
 }

@@ -1,8 +1,7 @@
 //! Which sentence tells why an event is not allowed.
 
-ghost use Rattle.std.specs.Prelude.{◌≡◌, List, ℕ};
-ghost use Rattle.monk_audit.specs.Replay.{replay_situation};
-ghost use Rattle.monk_history.specs.Meaning.Events.{next_of, seat_of, via_of};
+ghost use Rattle.std.specs.Prelude.{◌≡◌};
+ghost use Rattle.monk_history.specs.Meaning.Events.{seat_of, via_of};
 ghost use Rattle.monk_tell.specs.Cause.{call_beyond, caller_or_none, chosen_beyond, early_cause, has_to_stay};
 ghost use Rattle.monk_tell.specs.Cause.{is_first, may_not_admit, may_not_choose, may_not_recall, may_not_stay};
 ghost use Rattle.monk_tell.specs.Cause.{may_not_wake, no_entry, number_beyond, other_choice, other_reply, other_turn};
@@ -10,7 +9,7 @@ ghost use Rattle.monk_tell.specs.Cause.{signaller_yields};
 
 use crate::firsts::Firsts;
 use crate::why::{OutOfPlace, OutOfRange, OutOfTurn, Precedence, Staying, Why};
-use monk_audit::{Replay, Verdict};
+use monk_audit::Verdict;
 use monk_history::{Event, From3, Next, Turn, Via};
 use monk_kinds::{KindName, Mode, Rules};
 
@@ -83,24 +82,26 @@ fn no_entry(inside: bool, event: Event) -> OutOfPlace
     }
 }
 
-/// Why an event fails one of the first four tests.
+/// Why an event fails one of the first four tests, where that is the turn, and its seat is inside or not.
 pub(crate) fn early(
     kind: KindName,
     seats: u8,
     conds: u8,
-    replay: &Replay,
+    turn: Turn,
+    inside: bool,
     reason: u8,
     event: Event,
 ) -> Why
-    ensures { (state : List ℕ) → let t = replay_situation replay.now state in
-        result ≡ early_cause kind seats conds t.turn (t.inside (seat_of event)) reason event }
+    ensures { result ≡ early_cause kind seats conds turn inside reason event }
 {
-    let inside = replay.is_inside(event.seat());
-    match reason {
-        Verdict::RANGE => Why::Range(number_beyond(seats, conds, event)),
-        Verdict::CALL => Why::Call(kind),
-        Verdict::TURN => Why::Turn(other_turn(replay.turn(), event.seat())),
-        _ => Why::Place(no_entry(inside, event)),
+    if reason == Verdict::RANGE {
+        Why::Range(number_beyond(seats, conds, event))
+    } else if reason == Verdict::CALL {
+        Why::Call(kind)
+    } else if reason == Verdict::TURN {
+        Why::Turn(other_turn(turn, event.seat()))
+    } else {
+        Why::Place(no_entry(inside, event))
     }
 }
 

@@ -1,7 +1,6 @@
 -- A fault names the first line with which no text begins.
 use Rattle.std.proofs.Common.{◌≡◌, ◌==◌, ℕ, zero, suc, ◌+◌, ◌-◌, ◌<◌, Bool, true, false, cond, List, [], ◌∷◌, ◌++◌}
 use Rattle.std.proofs.Common.{length, take, Result, Ok, Err, refl, sym, ap, subst, ◌∙◌, append_assoc, arith}
-use Rattle.std.specs.Prelude.{not}
 use Rattle.std.specs.List.{onto_first, flat_map, AllByRecursion}
 use Rattle.monk_history.specs.declared.text.fault.ReadFault.{ReadFault}
 use Rattle.monk_history.specs.declared.text.fault.Flaw.TheVariants as flaw
@@ -113,37 +112,37 @@ stops_here : {A : Type 0} (parse : List Word → Taken A) (room n : ℕ) (l : Li
     → (0 < length ls → (y : List ℕ) (ys : List (List ℕ)) → items_at parse room n (l ∷ y ∷ ys) ≡ Err f)
     → ItemsStop parse room n (l ∷ ls) f
 stops_here parse room n l ls f at again = (
-      record {
-        behind = 0;
-        at = at ∙ (let same : n ≡ n + 0 = omega arith in same);
-        within = omega arith;
-        again = λ more y ys. again (omega (arith, more)) y ys;
-      },
-      ([], last_part parse room n []),
-    )
+  record {
+    behind = 0;
+    at = at ∙ (let same : n ≡ n + 0 = omega arith in same);
+    within = omega arith;
+    again = λ more y ys. again (omega (arith, more)) y ys;
+  },
+  ([], last_part parse room n []),
+)
 
 -- a line behind the first one has it
 stops_later : {A : Type 0} (parse : List Word → Taken A) (room n : ℕ) (l : List ℕ) (ls : List (List ℕ)) (f : ReadFault) (x : A)
     → item_line parse n l ≡ Ok x → ItemsStop parse room (suc n) ls f → ItemsStop parse (suc room) n (l ∷ ls) f
 stops_later {A = A} parse room n l ls f x read (s, before) = (
-      record {
-        behind = suc s.behind;
-        at = s.at ∙ (let same : suc n + s.behind ≡ n + suc s.behind = omega arith in same);
-        within = omega (arith, s.within);
-        again = λ more y ys.
-            let zs = take (suc s.behind) ls ++ y ∷ ys in
-            one_more_line parse room n l zs (some_behind (take (suc s.behind) ls) y ys)
-            ∙ (ap (λ (r : Result A ReadFault). r >>= λ e. items_at parse room (suc n) zs >>= λ es. Ok (e ∷ es)) read
-            ∙ ap (λ (r : Result (List A) ReadFault). r >>= λ es. Ok (x ∷ es)) (s.again (omega (arith, more)) y ys));
-      },
-      (
-        x ∷ before.0,
-        let zs = take s.behind ls ++ [] ∷ [] in
+  record {
+    behind = suc s.behind;
+    at = s.at ∙ (let same : suc n + s.behind ≡ n + suc s.behind = omega arith in same);
+    within = omega (arith, s.within);
+    again = λ more y ys.
+        let zs = take (suc s.behind) ls ++ y ∷ ys in
+        one_more_line parse room n l zs (some_behind (take (suc s.behind) ls) y ys)
+        ∙ (ap (λ (r : Result A ReadFault). r >>= λ e. items_at parse room (suc n) zs >>= λ es. Ok (e ∷ es)) read
+        ∙ ap (λ (r : Result (List A) ReadFault). r >>= λ es. Ok (x ∷ es)) (s.again (omega (arith, more)) y ys));
+  },
+  (
+    x ∷ before.0,
+    let zs = take s.behind ls ++ [] ∷ [] in
         one_more_line parse room n l zs (some_behind (take s.behind ls) [] [])
         ∙ (ap (λ (r : Result A ReadFault). r >>= λ e. items_at parse room (suc n) zs >>= λ es. Ok (e ∷ es)) read
         ∙ ap (λ (r : Result (List A) ReadFault). r >>= λ es. Ok (x ∷ es)) before.1),
-      ),
-    )
+  ),
+)
 
 -- what stops the lines behind the first one stops all, where that one is read
 stops_by_rest : {A : Type 0} (parse : List Word → Taken A) (room n : ℕ) (l : List ℕ) (ls : List (List ℕ)) (f : ReadFault) (x : A)
@@ -175,7 +174,8 @@ items_stop : {A : Type 0} (parse : List Word → Taken A) (room n : ℕ) (ls : L
     → items_at parse room n ls ≡ Err f → ItemsStop parse room n ls f
 items_stop parse room n [] f e = absurd (let none = none_left parse room n in cc)
 items_stop parse room n (l ∷ []) f e =
-    stops_here parse room n l [] f (last_fault (length l == 0) n f (sym (last_part parse room n l) ∙ e)) (λ more. absurd (omega (arith, more)))
+    stops_here parse room n l [] f (last_fault (length l == 0) n f (sym (last_part parse room n l) ∙ e))
+    (λ more. absurd (omega (arith, more)))
 items_stop {A = A} parse zero n (l ∷ next ∷ more) f e =
     let long : f ≡ long_fault n = sym (same_fault {B = List A} (long_fault n) f (sym (too_long parse n l next more) ∙ e)) in
     stops_here parse zero n l (next ∷ more) f (ap (λ (x : ReadFault). x.line) long)
@@ -216,38 +216,38 @@ stops_behind_header : {H A : Type 0} (head : List Word → Taken H) (parse : H �
     (ls : List (List ℕ)) (f : ReadFault) (h : H) → header_line head l ≡ Ok h → ItemsStop (parse h) limit 2 ls f
     → LinesStop head parse limit (l ∷ ls) f
 stops_behind_header {H = H} {A = A} head parse limit l ls f h read (s, before) = (
-      record {
-        behind = suc s.behind;
-        at = s.at ∙ (let same : 2 + s.behind ≡ 1 + suc s.behind = omega arith in same);
-        within = omega (arith, s.within);
-        again = λ longer y ys.
-            let zs = take (suc s.behind) ls ++ y ∷ ys in
-            opened_line head parse limit l zs (some_behind (take (suc s.behind) ls) y ys)
-            ∙ (ap (λ (r : Result H ReadFault). r >>= λ k. items_at (parse k) limit 2 zs >>= λ es. Ok (k, es)) read
-            ∙ ap (λ (r : Result (List A) ReadFault). r >>= λ es. Ok (h, es)) (s.again (omega (arith, longer)) y ys));
-      },
-      λ some. (
-        (h, before.0),
-        let zs = take s.behind ls ++ [] ∷ [] in
+  record {
+    behind = suc s.behind;
+    at = s.at ∙ (let same : 2 + s.behind ≡ 1 + suc s.behind = omega arith in same);
+    within = omega (arith, s.within);
+    again = λ longer y ys.
+        let zs = take (suc s.behind) ls ++ y ∷ ys in
+        opened_line head parse limit l zs (some_behind (take (suc s.behind) ls) y ys)
+        ∙ (ap (λ (r : Result H ReadFault). r >>= λ k. items_at (parse k) limit 2 zs >>= λ es. Ok (k, es)) read
+        ∙ ap (λ (r : Result (List A) ReadFault). r >>= λ es. Ok (h, es)) (s.again (omega (arith, longer)) y ys));
+  },
+  λ some. (
+    (h, before.0),
+    let zs = take s.behind ls ++ [] ∷ [] in
         opened_line head parse limit l zs (some_behind (take s.behind ls) [] [])
         ∙ (ap (λ (r : Result H ReadFault). r >>= λ k. items_at (parse k) limit 2 zs >>= λ es. Ok (k, es)) read
         ∙ ap (λ (r : Result (List A) ReadFault). r >>= λ es. Ok (h, es)) before.1),
-      ),
-    )
+  ),
+)
 
 stops_at_header : {H A : Type 0} (head : List Word → Taken H) (parse : H → List Word → Taken A) (limit : ℕ) (l : List ℕ)
     (ls : List (List ℕ)) (f : ReadFault) → header_line head l ≡ Err f → LinesStop head parse limit (l ∷ ls) f
 stops_at_header {H = H} {A = A} head parse limit l ls f read = (
-      record {
-        behind = 0;
-        at = ap (λ (y : ReadFault). y.line) (header_fault_is head l (head (words_of l)) f read);
-        within = omega arith;
-        again = λ longer y ys.
-            opened_line head parse limit l (y ∷ ys) (omega arith)
-            ∙ ap (λ (r : Result H ReadFault). r >>= λ k. items_at (parse k) limit 2 (y ∷ ys) >>= λ es. Ok (k, es)) read;
-      },
-      λ some. absurd (omega (arith, some)),
-    )
+  record {
+    behind = 0;
+    at = ap (λ (y : ReadFault). y.line) (header_fault_is head l (head (words_of l)) f read);
+    within = omega arith;
+    again = λ longer y ys.
+        opened_line head parse limit l (y ∷ ys) (omega arith)
+        ∙ ap (λ (r : Result H ReadFault). r >>= λ k. items_at (parse k) limit 2 (y ∷ ys) >>= λ es. Ok (k, es)) read;
+  },
+  λ some. absurd (omega (arith, some)),
+)
 
 abbrev opened_with : {H A : Type 0} → H → List A → Result (H × List A) ReadFault
 opened_with h es = Ok (h, es)
@@ -273,14 +273,14 @@ stops_by_header {H = H} {A = A} head parse limit l ls f (Err g) read all =
 lines_stop : {H A : Type 0} (head : List Word → Taken H) (parse : H → List Word → Taken A) (limit : ℕ) (l : List ℕ)
     (ls : List (List ℕ)) (f : ReadFault) → lines_at head parse limit (l ∷ ls) ≡ Err f → LinesStop head parse limit (l ∷ ls) f
 lines_stop head parse limit l [] f e = (
-      record {
-        behind = 0;
-        at = alone_fault head parse limit l f e;
-        within = omega arith;
-        again = λ more. absurd (omega (arith, more));
-      },
-      λ some. absurd (omega (arith, some)),
-    )
+  record {
+    behind = 0;
+    at = alone_fault head parse limit l f e;
+    within = omega arith;
+    again = λ more. absurd (omega (arith, more));
+  },
+  λ some. absurd (omega (arith, some)),
+)
 lines_stop head parse limit l (next ∷ more) f e =
     stops_by_header head parse limit l (next ∷ more) f (header_line head l) refl
     (sym (opened_line head parse limit l (next ∷ more) (omega arith)) ∙ e)

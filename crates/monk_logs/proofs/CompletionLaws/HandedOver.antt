@@ -1,5 +1,5 @@
 -- Of the events that a log comes to, every enter behind the first event is by a hand-over
-use Rattle.std.proofs.Common.{◌≡◌, ◌≢◌, ℕ, Bool, true, false, cond, List, [], ◌∷◌, ◌++◌, Option, Some, None, refl, sym, ap, subst, ◌∙◌}
+use Rattle.std.proofs.Common.{◌≡◌, ℕ, Bool, true, false, cond, List, [], ◌∷◌, ◌++◌, Option, Some, None, refl, sym, subst, ◌∙◌}
 use Rattle.std.specs.List.{AllByRecursion}
 use Rattle.std.specs.Option.{option_map}
 use Rattle.std.specs.Prelude.{◌==◌}
@@ -107,16 +107,16 @@ behind_events_handed : (m : Monitor) (past : List Event) (l : LogLine) (c : Cour
 behind_events_handed m past (Enter s) c h all =
     settled_handed m past (event.Enter s (cond (is_empty past) Free Handed)) _ c refl h all (handed_enter s (is_empty past))
 behind_events_handed m past (Resume s) c h all =
-    settled_handed m past (event.Resume s (due_from (turn past))) _ c refl h all (λ some. no_enter _ refl)
+    let e = event.Resume s (due_from (turn past)) in settled_handed m past e _ c refl h all (λ some. no_enter e refl)
 behind_events_handed m past (Lapse s) c h all = absurd cc
 behind_events_handed m past (Leave s) c h all = held_handed m past (event.Leave s Stay) (Release (event.Leave s Stay)) c h all refl
 behind_events_handed m past (Wait s d) c h all = held_handed m past (event.Wait s d Stay) (Release (event.Wait s d Stay)) c h all refl
 behind_events_handed m past (Signal s d) c h all = signal_handed m past s d c (returns_at_once m.kind.mode) h all
 behind_events_handed m past (Broadcast s d) c h all =
-    settled_handed m past (event.SignalAll s d) _ c refl h all (λ some. no_enter _ refl)
+    let e = event.SignalAll s d in settled_handed m past e _ c refl h all (λ some. no_enter e refl)
 behind_events_handed m past (Until s p) c h all = held_handed m past (event.Until s p Stay) (Release (event.Until s p Stay)) c h all refl
 behind_events_handed m past (Act s op r) c h all =
-    settled_handed m past (event.Act s op r) _ c refl h all (λ some. no_enter _ refl)
+    let e = event.Act s op r in settled_handed m past e _ c refl h all (λ some. no_enter e refl)
 
 behind_half_handed : (m : Monitor) (past : List Event) (s c : ℕ) (l : LogLine) (d : Course) → behind_half m past s c l ≡ Some d
     → AreHandedOver past → IsHanded d

@@ -1,7 +1,7 @@
-use Rattle.std.proofs.Common.{◌∙◌, sym, [], arith}
+use Rattle.std.proofs.Common.{◌∙◌, sym, [], arith, rules}
 use Rattle.monk_history.specs.Meaning.Monitor.{monitor}
 use Rattle.monk_audit.specs.Replay.{replay_situation}
-use Rattle.monk_tell.proofs.TellLaws.{late_fits}
+use Rattle.monk_tell.proofs.TellLaws.{early_blamed, late_fits}
 use Rattle.monk_tell.proofs.judging.blame.Goals as goal
 
 pub choice-requires-clause-fits : goal.choice-requires-clause-fits
@@ -15,3 +15,10 @@ own_reply-reply-requires-after_bounds g c κs within =
     late_fits (monitor c.args.rules c.args.header.now.seats c.args.header.now.conds g.T.Guarded.meaning [])
     (replay_situation c.args.replay.now (g.T.Guarded.state c.args.object.now)) c.args.event 5 _ _
     (sym c.requires.reason ∙ c.if-reason-eq-REPLY.true) (omega arith) g.T.Guarded.codes g.T.Guarded.predicates
+
+pub returns : goal.returns
+returns g c =
+    let h = c.args.header.now in
+    let t = replay_situation c.args.replay.now (g.T.Guarded.state c.args.object.now) in
+    early_blamed h.kind c.args.rules h.seats h.conds g.T.Guarded.meaning t c.args.step c.args.reason c.args.event c.early.result
+    c.if-reason-eq-CHOICE.false c.if-reason-eq-REPLY.false (search rules)

@@ -50,5 +50,6 @@ returns g c =
     same_told (Forbidden c.args.step c.args.reason) _ _ _ _ c.in_ok-replay.ensures.shown
     (c.in_ok-blame.ensures
     ∙ ap (λ (k : Rules). blame_of_event h.kind k h.seats h.conds o (replay_situation c.in_ok-replay.replay
-    (g.T.Guarded.state c.standing.new.object)) c.args.step c.args.reason event) (c.rules_by_name-rules.ensures ∙ ap rules_named c.kind.ensures)
+    (g.T.Guarded.state c.standing.new.object)) c.args.step c.args.reason event)
+    (c.rules_by_name-rules.ensures ∙ ap rules_named c.kind.ensures)
     ∙ ap (λ (t : Situation). blame_of_event h.kind rules h.seats h.conds o t c.args.step c.args.reason event) c.in_ok-replay.ensures.stands)
