@@ -21,6 +21,12 @@ const TWO_SEATS: Size = Size {
     budget: 8,
 };
 
+const TWO_CONDITIONS: Size = Size {
+    seats: 2,
+    conds: 2,
+    budget: 8,
+};
+
 /// Whether these steps, from the start over a buffer of size 1, have these answers and lead to this history.
 fn plays_as<K: Kind>(
     rt: &HostRuntime,
@@ -72,7 +78,7 @@ fn arrives_at_the_drop(rt: HostRuntime) -> Result<(), Fail> {
         Event::Leave(0, Next::Entry),
         Event::Enter(1, Via::Handed),
     ];
-    assert!(rt; plays(&rt, TWO_SEATS, &ARRIVES_AT_THE_DROP, &history)?);
+    assert!(rt; plays(&rt, TWO_CONDITIONS, &ARRIVES_AT_THE_DROP, &history)?);
     Ok(())
 }
 
@@ -268,12 +274,7 @@ fn signal_wait_hands_over(rt: HostRuntime) -> Result<(), Fail> {
         Event::Enter(1, Via::Free),
         Event::SignalWait(1, 0, 1, Next::Waiter(0)),
     ];
-    let size = Size {
-        seats: 2,
-        conds: 2,
-        budget: 8,
-    };
-    assert!(rt; plays_as::<Pir>(&rt, size, &PING_PONG, &history)?);
+    assert!(rt; plays_as::<Pir>(&rt, TWO_CONDITIONS, &PING_PONG, &history)?);
     Ok(())
 }
 

@@ -213,7 +213,7 @@ fn ticket_barges_past_a_waiter(rt: HostRuntime) -> Result<(), Fail> {
     Ok(())
 }
 
-/// Where nobody has a ticket the same wish lets the waiter go on.
+/// Where nobody has a ticket, though a third seat could, the same wish lets the waiter go on.
 fn lets_the_waiter_in(
     hall: &Hall<Npnb, Buffer>,
     first: Pass<Npnb, Buffer>,
@@ -246,7 +246,10 @@ fn lets_the_waiter_in(
 
 #[test]
 fn waiter_goes_on_where_nobody_has_a_ticket(rt: HostRuntime) -> Result<(), Fail> {
-    let (hall, first, second) = two::<Npnb>(&rt, 1, 8)?;
+    let (hall, mut passes) = hall::<Npnb>(&rt, 3, 1, 8)?;
+    let _third = take(&hall, &mut passes)?;
+    let second = take(&hall, &mut passes)?;
+    let first = take(&hall, &mut passes)?;
     assert!(rt; lets_the_waiter_in(&hall, first, second));
     Ok(())
 }

@@ -1,7 +1,7 @@
 //! Tickets, budgets, and who comes in after whom.
 ghost use Rattle.std.specs.Prelude.{◌≡◌};
 
-use crate::tests::halls::{PUT, TAKE, act, arrive, enter, hall, take, two};
+use crate::tests::halls::{PUT, TAKE, act, arrive, enter, two};
 use monk_floor::MakeFault;
 use monk_hall::{Hall, Parked, Pass};
 use monk_history::{Event, Next, Via};
@@ -126,8 +126,7 @@ fn comes_once(hall: &Hall<Pb, Buffer>, pass: Pass<Pb, Buffer>) -> bool
 
 #[test]
 fn budget_is_spent(rt: HostRuntime) -> Result<(), Fail> {
-    let (hall, mut passes) = hall::<Pb>(&rt, 1, 0, 2)?;
-    let pass = take(&hall, &mut passes)?;
+    let (hall, pass, _other) = two::<Pb>(&rt, 0, 2)?;
     assert!(rt; comes_once(&hall, pass));
     Ok(())
 }
