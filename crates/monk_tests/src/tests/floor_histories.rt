@@ -5,6 +5,7 @@ use super::floor_steps::{
     ITEMS, Size, both_automatic, both_explicit, both_non_blocking, both_returning, room,
     runs_explicitly,
 };
+use super::marks::{from_here, up_to_here};
 use monk_floor::{Floor, MakeFault};
 use monk_history::{Event, From3, Next, Via};
 use monk_kinds::{Kind, Npb, Npir, Npis, Npnb, Npqb, Pb, Pick, Pir, Pis, Pnb, Pqb};
@@ -385,7 +386,11 @@ fn what_a_floor_tells(rt: HostRuntime) -> Result<(), Fail> {
 fn what_is_left_when_it_closes(rt: HostRuntime) -> Result<(), Fail> {
     let mut floor: Floor<Pb, Buffer> = room(&rt, TWO_AND_TWO)?;
     assert!(rt; runs_explicitly(&rt, TWO_AND_TWO, &mut floor, &HOARE_HANDOVER, Pick::Waiter)?);
+    from_here(&rt)?;
+    let told = looks(&floor) == (10, 1, false, 0) && floor.enters() == 2;
+    let told = told && floor.history().len() == 11 && floor.holds(Buffer::HAS_ROOM);
     let (buffer, history) = floor.close();
-    assert!(rt; buffer.holds(Buffer::HAS_ROOM) && history.len() == 11);
+    up_to_here(&rt)?;
+    assert!(rt; told && buffer.holds(Buffer::HAS_ROOM) && history.len() == 11);
     Ok(())
 }

@@ -3,6 +3,7 @@
 ghost use Rattle.std.specs.Prelude.{IfOk, IsTrue};
 ghost use Rattle.monk_tests.specs.FloorCalls.{IsRoom, IsAllowedOn, MayCome};
 
+use super::marks::{from_here, up_to_here};
 use monk_audit::{Verdict, audit};
 use monk_floor::Floor;
 use monk_history::laws::{allowed_may_be_called, seat_resumes};
@@ -108,7 +109,8 @@ fn steps_plainly<K: Kind>(
     }
     allowed_may_be_called();
     let known = pick == Pick::Entry;
-    Ok(match event {
+    from_here(rt)?;
+    let came = match event {
         Event::Leave(seat, next) => floor.plain_leave(seat, pick, known) == next,
         Event::Wait(seat, cond, next) => floor.plain_wait(seat, cond, pick, known) == next,
         Event::Signal(seat, cond, next) => floor.plain_signal(seat, cond, pick, known) == next,
@@ -124,7 +126,9 @@ fn steps_plainly<K: Kind>(
             floor.plain_signal_wait(seat, cond, wait_cond, pick, known) == next
         }
         _ => moves(size, floor, event),
-    })
+    };
+    up_to_here(rt)?;
+    Ok(came)
 }
 
 /// Whether a floor makes exactly these events.
@@ -158,12 +162,15 @@ fn steps_explicitly<K: Explicit>(
     }
     allowed_may_be_called();
     let known = pick == Pick::Entry;
-    Ok(match event {
+    from_here(rt)?;
+    let came = match event {
         Event::Leave(seat, next) => floor.leave(seat, pick, known) == next,
         Event::Wait(seat, cond, next) => floor.wait(seat, cond, pick, known) == next,
         Event::Signal(seat, cond, next) => floor.signal(seat, cond, pick, known) == next,
         _ => moves(size, floor, event),
-    })
+    };
+    up_to_here(rt)?;
+    Ok(came)
 }
 
 pub(crate) fn runs_explicitly<K: Explicit>(
@@ -199,7 +206,9 @@ fn steps_non_blocking<K: NonBlocking>(
             return Ok(false);
         }
         allowed_may_be_called();
+        from_here(rt)?;
         floor.signal_all(seat, cond);
+        up_to_here(rt)?;
         return Ok(true);
     }
     steps_explicitly(rt, size, floor, event, pick)
@@ -236,7 +245,8 @@ fn steps_returning<K: ImmediateReturn>(
     }
     allowed_may_be_called();
     let known = pick == Pick::Entry;
-    Ok(match event {
+    from_here(rt)?;
+    let came = match event {
         Event::Leave(seat, next) => floor.leave(seat, pick, known) == next,
         Event::Wait(seat, cond, next) => floor.wait(seat, cond, pick, known) == next,
         Event::SignalLeave(seat, cond, next) => floor.signal_leave(seat, cond, pick, known) == next,
@@ -244,7 +254,9 @@ fn steps_returning<K: ImmediateReturn>(
             floor.signal_wait(seat, cond, wait_cond, pick, known) == next
         }
         _ => moves(size, floor, event),
-    })
+    };
+    up_to_here(rt)?;
+    Ok(came)
 }
 
 /// Whether a floor makes exactly these events.
@@ -278,11 +290,14 @@ fn steps_automatically<K: Automatic>(
     }
     allowed_may_be_called();
     let known = pick == Pick::Entry;
-    Ok(match event {
+    from_here(rt)?;
+    let came = match event {
         Event::Leave(seat, next) => floor.leave(seat, pick, known) == next,
         Event::Until(seat, pred, next) => floor.until(seat, pred, pick, known) == next,
         _ => moves(size, floor, event),
-    })
+    };
+    up_to_here(rt)?;
+    Ok(came)
 }
 
 /// Whether a floor makes exactly these events.
