@@ -1,6 +1,7 @@
 /* Loaded before the C library: refuses the Nth request for memory, N being the number in REFUSE, and the start of the
    Nth thread, N being that in REFUSE_THREAD, and writes to the file descriptor in TELL how many of each there were. A
-   program that may start threads ends by `_exit`, which runs no destructor, so that is met too. */
+   program that may start threads ends by `_exit`, which runs no destructor, so that is met too. In front of each line of
+   standard output that begins with MARK it writes how many requests there were before that line. */
 #define _GNU_SOURCE
 #include <dlfcn.h>
 #include <errno.h>
@@ -8,6 +9,7 @@
 #include <stddef.h>
 #include <stdio.h>
 #include <stdlib.h>
+#include <string.h>
 #include <unistd.h>
 
 static _Atomic long requests, threads;
@@ -44,6 +46,18 @@ int pthread_create(pthread_t *thread, const pthread_attr_t *attr, void *(*start)
     static int (*real)(pthread_t *, const pthread_attr_t *, void *(*)(void *), void *);
     if (!real) real = (int (*)(pthread_t *, const pthread_attr_t *, void *(*)(void *), void *)) dlsym(RTLD_NEXT, "pthread_create");
     return ++threads == number_in("REFUSE_THREAD") ? EAGAIN : real(thread, attr, start, given);
+}
+
+ssize_t write(int file, const void *bytes, size_t size)
+{
+    static ssize_t (*real)(int, const void *, size_t);
+    const char *mark = getenv("MARK");
+    long before = requests;
+    char count[32];
+    if (!real) real = (ssize_t (*)(int, const void *, size_t)) dlsym(RTLD_NEXT, "write");
+    if (file == STDOUT_FILENO && mark && *mark && size >= strlen(mark) && !memcmp(bytes, mark, strlen(mark)))
+        real(file, count, snprintf(count, sizeof count, "%ld ", before));
+    return real(file, bytes, size);
 }
 
 __attribute__((destructor)) static void tell(void)

@@ -1,8 +1,14 @@
 """Runs a program with one of its requests for memory, or the start of one of its threads, refused (refuse.c)."""
 import os
+import re
 import subprocess
 
 TOP = os.path.dirname(os.path.dirname(os.path.abspath(__file__)))
+
+# How the tests mark that they ask for no memory from one line on up to another (tests/marks.rt); refuse.c writes in front of
+# such a line how many requests there were before it.
+MARK = "no memory"
+MARKED = re.compile(r"(\d+) no memory (from|up to) here")
 
 
 class Refusing:
@@ -27,3 +33,13 @@ class Refusing:
         counts = os.read(read, 64).split() or [0, 0]
         os.close(read)
         return (done.stdout, done.stderr, done.returncode), [int(count) for count in counts]
+
+    def between_marks(self, words, **more):
+        """How many stretches the program has marked, and how many requests it made within them. It must end with status 0."""
+        (said, why, status), _ = self.run(words, MARK=MARK, **more)
+        if status:
+            raise ValueError(f"{words}: ends with {status}: {said[-1000:]}{why[-1000:]}")
+        counts = [(found[2], int(found[1])) for found in map(MARKED.match, said.splitlines()) if found]
+        if [word for word, _ in counts] != ["from", "up to"] * (len(counts) // 2):
+            raise ValueError(f"{words}: a mark is missing")
+        return len(counts) // 2, sum(until - begun for (_, begun), (_, until) in zip(counts[::2], counts[1::2]))

@@ -12,6 +12,7 @@ mod halls;
 mod kinds;
 mod log_texts;
 mod logs;
+mod marks;
 mod meeting;
 mod objects;
 mod orders;

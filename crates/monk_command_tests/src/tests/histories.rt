@@ -5,7 +5,7 @@ use monk_commands::Task;
 use std::alloc::{AllocError, Global};
 use std::test::Fail;
 
-static STORIES: [Job<'static>; 32] = [
+static STORIES: [Job<'static>; 36] = [
     Job {
         name: "hoare_handover",
         task: Task::Audit,
@@ -14,18 +14,46 @@ static STORIES: [Job<'static>; 32] = [
         answer: b"legal 11\n",
     },
     Job {
-        name: "mesa_refuses_hoare",
+        name: "signal_and_continue_refuses_hoare",
         task: Task::Audit,
         input: b"monk 1 PNB 2 2 buffer 1\nenter 0 free\nact 0 1 0 0\nwait 0 1 entry\nenter 1 free\nact 1 0 7 1\nsignal 1 1 waiter 0\nresume 0 waiter\nact 0 1 0 8\nleave 0 signaller 1\nresume 1 signaller\nleave 1 entry\n",
         status: 1,
         answer: b"forbidden 6 6 choice\n",
     },
     Job {
-        name: "mesa_signal_and_continue",
+        name: "signal_and_continue",
         task: Task::Audit,
         input: b"monk 1 PNB 2 2 buffer 1\nenter 0 free\nact 0 1 0 0\nwait 0 1 entry\nenter 1 free\nact 1 0 7 1\nsignal 1 1 stay\nleave 1 waiter 0\nresume 0 waiter\nleave 0 entry\n",
         status: 0,
         answer: b"legal 9\n",
+    },
+    Job {
+        name: "mesa_refuses_hoare",
+        task: Task::Audit,
+        input: b"monk 1 NPNB 2 2 buffer 1\nenter 0 free\nact 0 1 0 0\nwait 0 1 entry\nenter 1 free\nact 1 0 7 1\nsignal 1 1 waiter 0\nresume 0 waiter\nact 0 1 0 8\nleave 0 signaller 1\nresume 1 signaller\nleave 1 entry\n",
+        status: 1,
+        answer: b"forbidden 6 6 choice\n",
+    },
+    Job {
+        name: "mesa_signal_and_continue",
+        task: Task::Audit,
+        input: b"monk 1 NPNB 2 2 buffer 1\nenter 0 free\nact 0 1 0 0\nwait 0 1 entry\nenter 1 free\nact 1 0 7 1\nsignal 1 1 stay\nleave 1 waiter 0\nresume 0 waiter\nleave 0 entry\n",
+        status: 0,
+        answer: b"legal 9\n",
+    },
+    Job {
+        name: "mesa_barging",
+        task: Task::Audit,
+        input: b"monk 1 NPNB 3 2 buffer 1\nenter 0 free\nact 0 1 0 0\nwait 0 1 entry\nenter 1 free\nact 1 0 7 1\nsignal 1 1 stay\nleave 1 entry\nenter 2 handed\nact 2 1 0 8\nleave 2 waiter 0\nresume 0 waiter\nact 0 1 0 0\nwait 0 1 entry\n",
+        status: 0,
+        answer: b"legal 13\n",
+    },
+    Job {
+        name: "barging_past_a_waiter",
+        task: Task::Audit,
+        input: b"monk 1 PNB 3 2 buffer 1\nenter 0 free\nact 0 1 0 0\nwait 0 1 entry\nenter 1 free\nact 1 0 7 1\nsignal 1 1 stay\nleave 1 entry\nenter 2 handed\nact 2 1 0 8\nleave 2 waiter 0\nresume 0 waiter\nact 0 1 0 0\nwait 0 1 entry\n",
+        status: 1,
+        answer: b"forbidden 7 6 choice\n",
     },
     Job {
         name: "leave_past_signaller",

@@ -101,3 +101,27 @@ fn shops_tell_who_came_and_went(rt: HostRuntime) -> Result<(), Fail> {
     }
     Ok(())
 }
+
+/// The line that a run prints where it doesn't serve all its rounds.
+fn end_of(page: &[u8]) -> &'static str {
+    match page {
+        b"tired\n" => "tired",
+        b"late\n" => "late",
+        b"busy\n" => "busy",
+        _ => "served",
+    }
+}
+
+/// It is served; where something is in its way, `checks/refused_by_tests` compares what is printed here.
+#[test]
+fn run_says_how_it_ends(rt: HostRuntime) -> Result<(), Fail> {
+    for sample in [Sample::Buffer, Sample::Book] {
+        let mut page = Vec::new(rt.alloc());
+        let mut writer = Device::new(&mut page);
+        let status = run_stream(&rt, rt.alloc(), KindName::Pb, sample, 2, 1, &mut writer)?;
+        let end = end_of(page.as_slice());
+        println!(rt; "status {status}: {end}")?;
+        assert!(rt; status == 0 && end == "served");
+    }
+    Ok(())
+}

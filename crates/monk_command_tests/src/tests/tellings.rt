@@ -6,7 +6,7 @@ use monk_tell::{Blame, Choice, Queues, Seats, Telling, tell};
 use std::test::Fail;
 
 /// A hand-over as Hoare's, of a kind whose signallers go on.
-const UNDER_MESA: &[u8] =
+const WHERE_SIGNALLERS_GO_ON: &[u8] =
     b"monk 1 PNB 2 2 buffer 1\nenter 0 free\nact 0 1 0 0\nwait 0 1 entry\nenter 1 free\nact 1 0 7 1\nsignal 1 1 waiter 0\nresume 0 waiter\n";
 
 /// A seat waits until there is an item.
@@ -73,7 +73,7 @@ fn blames_the_signal(blame: &Option<Blame>) -> bool {
 
 #[test]
 fn choice_is_told(rt: HostRuntime) -> Result<(), Fail> {
-    let told = telling(&rt, UNDER_MESA)?;
+    let told = telling(&rt, WHERE_SIGNALLERS_GO_ON)?;
     let situation = &told.situation;
     let is_told = told.verdict == Verdict::Forbidden { step: 6, reason: 6 }
         && situation.turn == Turn::Owned(1)

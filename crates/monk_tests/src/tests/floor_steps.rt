@@ -3,6 +3,7 @@
 ghost use Rattle.std.specs.Prelude.{IfOk, IsTrue};
 ghost use Rattle.monk_tests.specs.FloorCalls.{IsRoom, IsAllowedOn, MayCome};
 
+use super::marks::{from_here, up_to_here};
 use monk_audit::{Verdict, audit};
 use monk_floor::Floor;
 use monk_history::laws::{allowed_may_be_called, seat_resumes};
@@ -11,30 +12,36 @@ use monk_kinds::{Automatic, Explicit, ImmediateReturn, Kind, NonBlocking, Pick};
 use monk_object::{Buffer, ObjectName};
 use std::test::Fail;
 
-pub(crate) const SEATS: u8 = 3;
+/// How many seats and conditions a floor has.
+#[derive(Clone, Copy)]
+pub(crate) struct Size {
+    pub(crate) seats: u8,
+    pub(crate) conds: u8,
+}
 
-pub(crate) const CONDS: u8 = 2;
-
-pub(crate) const SIZE: u8 = 1;
+/// How many items its buffer holds.
+pub(crate) const ITEMS: u8 = 1;
 
 /// A floor over a buffer of one item.
-pub(crate) fn room<K: Kind>(rt: &HostRuntime) -> Result<Floor<K, Buffer>, Fail>
-    ensures { IfOk result (IsRoom SEATS CONDS SIZE) }
+pub(crate) fn room<K: Kind>(rt: &HostRuntime, size: Size) -> Result<Floor<K, Buffer>, Fail>
+    ensures { IfOk result (IsRoom size.seats size.conds ITEMS) }
 {
-    let buffer = Buffer::make(rt.alloc(), SIZE)?;
-    Ok(Floor::make(rt.alloc(), buffer, SEATS, CONDS, 16)?)
+    let buffer = Buffer::make(rt.alloc(), ITEMS)?;
+    Ok(Floor::make(rt.alloc(), buffer, size.seats, size.conds, 16)?)
 }
 
 /// Whether the auditor finds this event allowed after the floor's history.
 fn is_allowed<K: Kind>(
     rt: &HostRuntime,
+    size: Size,
     floor: &Floor<K, Buffer>,
     event: Event,
 ) -> Result<bool, Fail>
-    requires { IsRoom SEATS CONDS SIZE floor.now }
+    requires { IsRoom size.seats size.conds ITEMS floor.now }
     ensures { IfOk result (λ allowed. IsTrue allowed → IsAllowedOn K.rules floor.now event) }
 {
-    let Some(header) = Header::new(K::NAME, SEATS, CONDS, ObjectName::Buffer, SIZE) else {
+    let Some(header) = Header::new(K::NAME, size.seats, size.conds, ObjectName::Buffer, ITEMS)
+    else {
         return Ok(false);
     };
     let mut grown = Vec::from_slice(rt.alloc(), floor.history())?;
@@ -50,22 +57,27 @@ fn is_allowed<K: Kind>(
 }
 
 /// Whether an event may come next, and one is left to its seat.
-fn may_come<K: Kind>(rt: &HostRuntime, floor: &Floor<K, Buffer>, event: Event) -> Result<bool, Fail>
-    requires { IsRoom SEATS CONDS SIZE floor.now }
+fn may_come<K: Kind>(
+    rt: &HostRuntime,
+    size: Size,
+    floor: &Floor<K, Buffer>,
+    event: Event,
+) -> Result<bool, Fail>
+    requires { IsRoom size.seats size.conds ITEMS floor.now }
     ensures { IfOk result (λ may. IsTrue may → MayCome K.rules floor.now event) }
 {
     let seat = event.seat();
-    if seat >= SEATS || floor.left(seat) == 0 {
+    if seat >= size.seats || floor.left(seat) == 0 {
         return Ok(false);
     }
-    is_allowed(rt, floor, event)
+    is_allowed(rt, size, floor, event)
 }
 
 /// Makes the call of an event that chooses nobody, and says whether that very event came of it.
-fn moves<K: Kind>(floor: &mut Floor<K, Buffer>, event: Event) -> bool
-    requires room { IsRoom SEATS CONDS SIZE floor.old }
+fn moves<K: Kind>(size: Size, floor: &mut Floor<K, Buffer>, event: Event) -> bool
+    requires room { IsRoom size.seats size.conds ITEMS floor.old }
     requires may_come { MayCome K.rules floor.old event }
-    ensures { IsRoom SEATS CONDS SIZE floor.new }
+    ensures { IsRoom size.seats size.conds ITEMS floor.new }
 {
     allowed_may_be_called();
     seat_resumes();
@@ -84,19 +96,21 @@ fn moves<K: Kind>(floor: &mut Floor<K, Buffer>, event: Event) -> bool
 /// it.
 fn steps_plainly<K: Kind>(
     rt: &HostRuntime,
+    size: Size,
     floor: &mut Floor<K, Buffer>,
     event: Event,
     pick: Pick,
 ) -> Result<bool, Fail>
-    requires { IsRoom SEATS CONDS SIZE floor.old }
-    ensures { IsRoom SEATS CONDS SIZE floor.new }
+    requires { IsRoom size.seats size.conds ITEMS floor.old }
+    ensures { IsRoom size.seats size.conds ITEMS floor.new }
 {
-    if !may_come(rt, floor, event)? {
+    if !may_come(rt, size, floor, event)? {
         return Ok(false);
     }
     allowed_may_be_called();
     let known = pick == Pick::Entry;
-    Ok(match event {
+    from_here(rt)?;
+    let came = match event {
         Event::Leave(seat, next) => floor.plain_leave(seat, pick, known) == next,
         Event::Wait(seat, cond, next) => floor.plain_wait(seat, cond, pick, known) == next,
         Event::Signal(seat, cond, next) => floor.plain_signal(seat, cond, pick, known) == next,
@@ -111,15 +125,22 @@ fn steps_plainly<K: Kind>(
         Event::SignalWait(seat, cond, wait_cond, next) => {
             floor.plain_signal_wait(seat, cond, wait_cond, pick, known) == next
         }
-        _ => moves(floor, event),
-    })
+        _ => moves(size, floor, event),
+    };
+    up_to_here(rt)?;
+    Ok(came)
 }
 
 /// Whether a floor makes exactly these events.
-fn runs_plainly<K: Kind>(rt: &HostRuntime, events: &[Event], pick: Pick) -> Result<bool, Fail> {
-    let mut floor: Floor<K, Buffer> = room(rt)?;
+fn runs_plainly<K: Kind>(
+    rt: &HostRuntime,
+    size: Size,
+    events: &[Event],
+    pick: Pick,
+) -> Result<bool, Fail> {
+    let mut floor: Floor<K, Buffer> = room(rt, size)?;
     for event in events {
-        if !steps_plainly(rt, &mut floor, *event, pick)? {
+        if !steps_plainly(rt, size, &mut floor, *event, pick)? {
             return Ok(false);
         }
     }
@@ -128,37 +149,42 @@ fn runs_plainly<K: Kind>(rt: &HostRuntime, events: &[Event], pick: Pick) -> Resu
 
 fn steps_explicitly<K: Explicit>(
     rt: &HostRuntime,
+    size: Size,
     floor: &mut Floor<K, Buffer>,
     event: Event,
     pick: Pick,
 ) -> Result<bool, Fail>
-    requires { IsRoom SEATS CONDS SIZE floor.old }
-    ensures { IsRoom SEATS CONDS SIZE floor.new }
+    requires { IsRoom size.seats size.conds ITEMS floor.old }
+    ensures { IsRoom size.seats size.conds ITEMS floor.new }
 {
-    if !may_come(rt, floor, event)? {
+    if !may_come(rt, size, floor, event)? {
         return Ok(false);
     }
     allowed_may_be_called();
     let known = pick == Pick::Entry;
-    Ok(match event {
+    from_here(rt)?;
+    let came = match event {
         Event::Leave(seat, next) => floor.leave(seat, pick, known) == next,
         Event::Wait(seat, cond, next) => floor.wait(seat, cond, pick, known) == next,
         Event::Signal(seat, cond, next) => floor.signal(seat, cond, pick, known) == next,
-        _ => moves(floor, event),
-    })
+        _ => moves(size, floor, event),
+    };
+    up_to_here(rt)?;
+    Ok(came)
 }
 
 pub(crate) fn runs_explicitly<K: Explicit>(
     rt: &HostRuntime,
+    size: Size,
     floor: &mut Floor<K, Buffer>,
     events: &[Event],
     pick: Pick,
 ) -> Result<bool, Fail>
-    requires { IsRoom SEATS CONDS SIZE floor.old }
-    ensures { IsRoom SEATS CONDS SIZE floor.new }
+    requires { IsRoom size.seats size.conds ITEMS floor.old }
+    ensures { IsRoom size.seats size.conds ITEMS floor.new }
 {
     for event in events {
-        if !steps_explicitly(rt, floor, *event, pick)? {
+        if !steps_explicitly(rt, size, floor, *event, pick)? {
             return Ok(false);
         }
     }
@@ -167,33 +193,37 @@ pub(crate) fn runs_explicitly<K: Explicit>(
 
 fn steps_non_blocking<K: NonBlocking>(
     rt: &HostRuntime,
+    size: Size,
     floor: &mut Floor<K, Buffer>,
     event: Event,
     pick: Pick,
 ) -> Result<bool, Fail>
-    requires { IsRoom SEATS CONDS SIZE floor.old }
-    ensures { IsRoom SEATS CONDS SIZE floor.new }
+    requires { IsRoom size.seats size.conds ITEMS floor.old }
+    ensures { IsRoom size.seats size.conds ITEMS floor.new }
 {
     if let Event::SignalAll(seat, cond) = event {
-        if !may_come(rt, floor, event)? {
+        if !may_come(rt, size, floor, event)? {
             return Ok(false);
         }
         allowed_may_be_called();
+        from_here(rt)?;
         floor.signal_all(seat, cond);
+        up_to_here(rt)?;
         return Ok(true);
     }
-    steps_explicitly(rt, floor, event, pick)
+    steps_explicitly(rt, size, floor, event, pick)
 }
 
 /// Whether a floor makes exactly these events.
 fn runs_non_blocking<K: NonBlocking>(
     rt: &HostRuntime,
+    size: Size,
     events: &[Event],
     pick: Pick,
 ) -> Result<bool, Fail> {
-    let mut floor: Floor<K, Buffer> = room(rt)?;
+    let mut floor: Floor<K, Buffer> = room(rt, size)?;
     for event in events {
-        if !steps_non_blocking(rt, &mut floor, *event, pick)? {
+        if !steps_non_blocking(rt, size, &mut floor, *event, pick)? {
             return Ok(false);
         }
     }
@@ -202,38 +232,43 @@ fn runs_non_blocking<K: NonBlocking>(
 
 fn steps_returning<K: ImmediateReturn>(
     rt: &HostRuntime,
+    size: Size,
     floor: &mut Floor<K, Buffer>,
     event: Event,
     pick: Pick,
 ) -> Result<bool, Fail>
-    requires { IsRoom SEATS CONDS SIZE floor.old }
-    ensures { IsRoom SEATS CONDS SIZE floor.new }
+    requires { IsRoom size.seats size.conds ITEMS floor.old }
+    ensures { IsRoom size.seats size.conds ITEMS floor.new }
 {
-    if !may_come(rt, floor, event)? {
+    if !may_come(rt, size, floor, event)? {
         return Ok(false);
     }
     allowed_may_be_called();
     let known = pick == Pick::Entry;
-    Ok(match event {
+    from_here(rt)?;
+    let came = match event {
         Event::Leave(seat, next) => floor.leave(seat, pick, known) == next,
         Event::Wait(seat, cond, next) => floor.wait(seat, cond, pick, known) == next,
         Event::SignalLeave(seat, cond, next) => floor.signal_leave(seat, cond, pick, known) == next,
         Event::SignalWait(seat, cond, wait_cond, next) => {
             floor.signal_wait(seat, cond, wait_cond, pick, known) == next
         }
-        _ => moves(floor, event),
-    })
+        _ => moves(size, floor, event),
+    };
+    up_to_here(rt)?;
+    Ok(came)
 }
 
 /// Whether a floor makes exactly these events.
 fn runs_returning<K: ImmediateReturn>(
     rt: &HostRuntime,
+    size: Size,
     events: &[Event],
     pick: Pick,
 ) -> Result<bool, Fail> {
-    let mut floor: Floor<K, Buffer> = room(rt)?;
+    let mut floor: Floor<K, Buffer> = room(rt, size)?;
     for event in events {
-        if !steps_returning(rt, &mut floor, *event, pick)? {
+        if !steps_returning(rt, size, &mut floor, *event, pick)? {
             return Ok(false);
         }
     }
@@ -242,34 +277,39 @@ fn runs_returning<K: ImmediateReturn>(
 
 fn steps_automatically<K: Automatic>(
     rt: &HostRuntime,
+    size: Size,
     floor: &mut Floor<K, Buffer>,
     event: Event,
     pick: Pick,
 ) -> Result<bool, Fail>
-    requires { IsRoom SEATS CONDS SIZE floor.old }
-    ensures { IsRoom SEATS CONDS SIZE floor.new }
+    requires { IsRoom size.seats size.conds ITEMS floor.old }
+    ensures { IsRoom size.seats size.conds ITEMS floor.new }
 {
-    if !may_come(rt, floor, event)? {
+    if !may_come(rt, size, floor, event)? {
         return Ok(false);
     }
     allowed_may_be_called();
     let known = pick == Pick::Entry;
-    Ok(match event {
+    from_here(rt)?;
+    let came = match event {
         Event::Leave(seat, next) => floor.leave(seat, pick, known) == next,
         Event::Until(seat, pred, next) => floor.until(seat, pred, pick, known) == next,
-        _ => moves(floor, event),
-    })
+        _ => moves(size, floor, event),
+    };
+    up_to_here(rt)?;
+    Ok(came)
 }
 
 /// Whether a floor makes exactly these events.
 fn runs_automatically<K: Automatic>(
     rt: &HostRuntime,
+    size: Size,
     events: &[Event],
     pick: Pick,
 ) -> Result<bool, Fail> {
-    let mut floor: Floor<K, Buffer> = room(rt)?;
+    let mut floor: Floor<K, Buffer> = room(rt, size)?;
     for event in events {
-        if !steps_automatically(rt, &mut floor, *event, pick)? {
+        if !steps_automatically(rt, size, &mut floor, *event, pick)? {
             return Ok(false);
         }
     }
@@ -279,36 +319,46 @@ fn runs_automatically<K: Automatic>(
 /// Whether both paths make exactly these events.
 pub(crate) fn both_explicit<K: Explicit>(
     rt: &HostRuntime,
+    size: Size,
     events: &[Event],
     pick: Pick,
 ) -> Result<bool, Fail> {
-    if !runs_plainly::<K>(rt, events, pick)? {
+    if !runs_plainly::<K>(rt, size, events, pick)? {
         return Ok(false);
     }
-    let mut floor: Floor<K, Buffer> = room(rt)?;
-    runs_explicitly(rt, &mut floor, events, pick)
+    let mut floor: Floor<K, Buffer> = room(rt, size)?;
+    runs_explicitly(rt, size, &mut floor, events, pick)
 }
 
 pub(crate) fn both_non_blocking<K: NonBlocking>(
     rt: &HostRuntime,
+    size: Size,
     events: &[Event],
     pick: Pick,
 ) -> Result<bool, Fail> {
-    Ok(runs_plainly::<K>(rt, events, pick)? && runs_non_blocking::<K>(rt, events, pick)?)
+    Ok(
+        runs_plainly::<K>(rt, size, events, pick)?
+            && runs_non_blocking::<K>(rt, size, events, pick)?,
+    )
 }
 
 pub(crate) fn both_returning<K: ImmediateReturn>(
     rt: &HostRuntime,
+    size: Size,
     events: &[Event],
     pick: Pick,
 ) -> Result<bool, Fail> {
-    Ok(runs_plainly::<K>(rt, events, pick)? && runs_returning::<K>(rt, events, pick)?)
+    Ok(runs_plainly::<K>(rt, size, events, pick)? && runs_returning::<K>(rt, size, events, pick)?)
 }
 
 pub(crate) fn both_automatic<K: Automatic>(
     rt: &HostRuntime,
+    size: Size,
     events: &[Event],
     pick: Pick,
 ) -> Result<bool, Fail> {
-    Ok(runs_plainly::<K>(rt, events, pick)? && runs_automatically::<K>(rt, events, pick)?)
+    Ok(
+        runs_plainly::<K>(rt, size, events, pick)?
+            && runs_automatically::<K>(rt, size, events, pick)?,
+    )
 }

@@ -51,7 +51,7 @@ fn take<K: Kind>(
 }
 
 /// A hall of two seats over such a buffer, with their passes.
-fn two<K: Kind>(
+pub(super) fn two<K: Kind>(
     rt: &HostRuntime,
     conds: u8,
     budget: u32,

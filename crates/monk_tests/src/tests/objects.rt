@@ -1,3 +1,4 @@
+use super::marks::{from_here, up_to_here};
 use monk_object::{Book, Buffer, Guarded, ObjectFault, ObjectName, Op, Shop};
 use std::test::Fail;
 
@@ -24,6 +25,7 @@ fn holds_are<T: Guarded>(object: &T, holds: &[bool]) -> bool {
 #[test]
 fn buffer_of_two(rt: HostRuntime) -> Result<(), Fail> {
     let mut buffer = Buffer::make(rt.alloc(), 2)?;
+    from_here(&rt)?;
     assert!(rt; holds_are(&buffer, &[true, false]));
     let first = [(Buffer::PUT, 0, 1), (Buffer::PUT, 4294967295, 1)];
     assert!(rt; replies_are(&mut buffer, &first));
@@ -35,12 +37,14 @@ fn buffer_of_two(rt: HostRuntime) -> Result<(), Fail> {
         (Buffer::TAKE, 0, 0),
     ];
     assert!(rt; replies_are(&mut buffer, &rest));
+    up_to_here(&rt)?;
     Ok(())
 }
 
 #[test]
 fn book_of_two(rt: HostRuntime) -> Result<(), Fail> {
     let mut book = Book::make(2)?;
+    from_here(&rt)?;
     assert!(rt; holds_are(&book, &[true, true]));
     let acts = [
         (Book::START_READ, 0, 1),
@@ -56,12 +60,14 @@ fn book_of_two(rt: HostRuntime) -> Result<(), Fail> {
     assert!(rt; holds_are(&book, &[false, false]));
     let rest = [(Book::END_WRITE, 0, 1), (Book::END_WRITE, 0, 0)];
     assert!(rt; replies_are(&mut book, &rest));
+    up_to_here(&rt)?;
     Ok(())
 }
 
 #[test]
 fn shop_of_one(rt: HostRuntime) -> Result<(), Fail> {
     let mut shop = Shop::make(1)?;
+    from_here(&rt)?;
     assert!(rt; holds_are(&shop, &[true, false, false]));
     assert!(rt; replies_are(&mut shop, &[(Shop::SIT, 0, 1), (Shop::SIT, 0, 0)]));
     assert!(rt; holds_are(&shop, &[false, true, false]));
@@ -80,6 +86,7 @@ fn shop_of_one(rt: HostRuntime) -> Result<(), Fail> {
         (Shop::CALL, 0, 1),
     ];
     assert!(rt; replies_are(&mut shop, &rest));
+    up_to_here(&rt)?;
     Ok(())
 }
 

@@ -1,6 +1,7 @@
 //! Worked plays, each answer compared.
+use super::marks::{from_here, up_to_here};
 use monk_history::{Event, From3, Next, Via};
-use monk_kinds::{Kind, Pb, Pick, Pir, Pnb};
+use monk_kinds::{Kind, Pb, Pick, Pir, Pis, Pnb};
 use monk_object::{Buffer, Op};
 use monk_world::{Answer, Command, World};
 use std::test::Fail;
@@ -21,6 +22,12 @@ const TWO_SEATS: Size = Size {
     budget: 8,
 };
 
+const TWO_CONDITIONS: Size = Size {
+    seats: 2,
+    conds: 2,
+    budget: 8,
+};
+
 /// Whether these steps, from the start over a buffer of size 1, have these answers and lead to this history.
 fn plays_as<K: Kind>(
     rt: &HostRuntime,
@@ -36,12 +43,15 @@ fn plays_as<K: Kind>(
         size.conds,
         size.budget,
     )?;
+    from_here(rt)?;
     for (seat, command, answer) in steps {
         if world.step(*seat, *command) != *answer {
             return Ok(false);
         }
     }
-    Ok(world.history() == history)
+    let is_history = world.history() == history;
+    up_to_here(rt)?;
+    Ok(is_history)
 }
 
 /// The same under the kind PB.
@@ -72,7 +82,7 @@ fn arrives_at_the_drop(rt: HostRuntime) -> Result<(), Fail> {
         Event::Leave(0, Next::Entry),
         Event::Enter(1, Via::Handed),
     ];
-    assert!(rt; plays(&rt, TWO_SEATS, &ARRIVES_AT_THE_DROP, &history)?);
+    assert!(rt; plays(&rt, TWO_CONDITIONS, &ARRIVES_AT_THE_DROP, &history)?);
     Ok(())
 }
 
@@ -196,7 +206,9 @@ const WITH_REFUSALS: [(u8, Command); 9] = [
 fn runs_go_on_after_refusals(rt: HostRuntime) -> Result<(), Fail> {
     let buffer = Buffer::make(rt.alloc(), 1)?;
     let mut world = World::<Pb, Buffer>::make(rt.alloc(), buffer, 1, 1, 2)?;
+    from_here(&rt)?;
     world.run(&WITH_REFUSALS);
+    up_to_here(&rt)?;
     let history = [Event::Enter(0, Via::Free), Event::Leave(0, Next::Entry)];
     assert!(rt; world.history() == history.as_slice());
     Ok(())
@@ -240,6 +252,72 @@ fn broadcast_wakes_a_seat(rt: HostRuntime) -> Result<(), Fail> {
     Ok(())
 }
 
+const UNTIL_AN_ITEM: Command = Command::Until(1, Pick::Waiter);
+
+/// A wait until an item is there, a put, and a look at what has come of it; the waiter comes in once the putter leaves.
+const AUTOMATIC: [(u8, Command, Answer); 13] = [
+    (0, Command::Arrive, Answer::Arrived(0, 0)),
+    (0, Command::Out, Answer::Now),
+    (0, UNTIL_AN_ITEM, Answer::Chose(Next::Entry)),
+    (0, Command::Drop, Answer::Found(1)),
+    (1, Command::Arrive, Answer::Arrived(1, 0)),
+    (1, Command::Out, Answer::Now),
+    (1, Command::Peek, Answer::Found(1)),
+    (1, PUT, Answer::Reply(1)),
+    (1, UNTIL_AN_ITEM, Answer::Chose(Next::Stay)),
+    (1, LEAVE, Answer::Chose(Next::Until(0))),
+    (1, Command::Grant, Answer::GrantedSeat(0)),
+    (0, Command::Look, Answer::Looked(true)),
+    (0, Command::Out, Answer::Now),
+];
+
+#[test]
+fn predicate_is_awaited(rt: HostRuntime) -> Result<(), Fail> {
+    let history = [
+        Event::Enter(0, Via::Free),
+        Event::Until(0, 1, Next::Entry),
+        Event::Enter(1, Via::Free),
+        Event::Act(1, Op { code: 0, arg: 5 }, 1),
+        Event::Until(1, 1, Next::Stay),
+        Event::Leave(1, Next::Until(0)),
+        Event::Resume(0, From3::Until),
+    ];
+    assert!(rt; plays_as::<Pis>(&rt, TWO_SEATS, &AUTOMATIC, &history)?);
+    Ok(())
+}
+
+/// A signal that hands the monitor over, and one that leaves.
+const SIGNAL: Command = Command::Signal(0, Pick::Waiter);
+
+const HANDED_OVER: [(u8, Command, Answer); 12] = [
+    (0, Command::Arrive, Answer::Arrived(0, 0)),
+    (0, Command::Out, Answer::Now),
+    (0, WAIT, Answer::Chose(Next::Entry)),
+    (0, Command::Drop, Answer::Found(1)),
+    (1, Command::Arrive, Answer::Arrived(1, 0)),
+    (1, Command::Out, Answer::Now),
+    (1, SIGNAL, Answer::Chose(Next::Waiter(0))),
+    (1, Command::Grant, Answer::GrantedSeat(0)),
+    (0, Command::Look, Answer::Looked(true)),
+    (0, Command::Out, Answer::Now),
+    (0, LEAVE, Answer::Chose(Next::Signaller(1))),
+    (0, Command::Grant, Answer::GrantedSeat(1)),
+];
+
+#[test]
+fn signal_hands_over(rt: HostRuntime) -> Result<(), Fail> {
+    let history = [
+        Event::Enter(0, Via::Free),
+        Event::Wait(0, 0, Next::Entry),
+        Event::Enter(1, Via::Free),
+        Event::Signal(1, 0, Next::Waiter(0)),
+        Event::Resume(0, From3::Waiter),
+        Event::Leave(0, Next::Signaller(1)),
+    ];
+    assert!(rt; plays(&rt, ONE_CONDITION, &HANDED_OVER, &history)?);
+    Ok(())
+}
+
 const SIGNAL_WAIT: Command = Command::SignalWait(0, 1, Pick::Waiter);
 
 const NO_SUCH_WAIT: Command = Command::SignalWait(0, 2, Pick::Waiter);
@@ -268,12 +346,7 @@ fn signal_wait_hands_over(rt: HostRuntime) -> Result<(), Fail> {
         Event::Enter(1, Via::Free),
         Event::SignalWait(1, 0, 1, Next::Waiter(0)),
     ];
-    let size = Size {
-        seats: 2,
-        conds: 2,
-        budget: 8,
-    };
-    assert!(rt; plays_as::<Pir>(&rt, size, &PING_PONG, &history)?);
+    assert!(rt; plays_as::<Pir>(&rt, TWO_CONDITIONS, &PING_PONG, &history)?);
     Ok(())
 }
 

@@ -4,6 +4,7 @@ ghost use Rattle.monk_hall.specs.Floors.{StartsWith};
 
 use crate::tests::halls::ending::{MET, visit};
 use crate::tests::halls::two;
+use crate::tests::marks::{from_here, up_to_here};
 use monk_hall::{Busy, Closed, Hall, Pass, close, complete, meet};
 use monk_kinds::{Pb, Pick};
 use monk_object::Buffer;
@@ -72,7 +73,10 @@ fn two_did_it_all(hall: Hall<Pb, Buffer>, first: Pass<Pb, Buffer>, second: Pass<
 #[test]
 fn closed_history_holds_two_seats_calls(rt: HostRuntime) -> Result<(), Fail> {
     let (hall, first, second) = two::<Pb>(&rt, 0, 8)?;
-    assert!(rt; two_did_it_all(hall, first, second));
+    from_here(&rt)?;
+    let well = two_did_it_all(hall, first, second);
+    up_to_here(&rt)?;
+    assert!(rt; well);
     Ok(())
 }
 
@@ -101,6 +105,9 @@ fn second_goes_on(hall: Hall<Pb, Buffer>, first: Pass<Pb, Buffer>, second: Pass<
 #[test]
 fn seat_that_goes_on_is_in_the_history(rt: HostRuntime) -> Result<(), Fail> {
     let (hall, first, second) = two::<Pb>(&rt, 0, 8)?;
-    assert!(rt; second_goes_on(hall, first, second));
+    from_here(&rt)?;
+    let well = second_goes_on(hall, first, second);
+    up_to_here(&rt)?;
+    assert!(rt; well);
     Ok(())
 }

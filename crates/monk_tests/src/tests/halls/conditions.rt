@@ -5,6 +5,7 @@ use crate::tests::halls::{
     PUT, TAKE, act, arrive, comes_in_and_finds, comes_in_and_puts, enter, hall, must_wait, signal,
     signal_stay, take, two, wait,
 };
+use crate::tests::marks::{from_here, up_to_here};
 use monk_hall::{Active, Hall, Parked, Pass};
 use monk_history::{Event, From3, Next, Via};
 use monk_kinds::{Conditional, Npnb, Pb, Pick, Pnb};
@@ -28,13 +29,17 @@ fn takes_and_waits<K: Conditional>(
     wait(hall, active, 1)
 }
 
-/// Puts 7, and signals condition 1.
+/// Puts 7, and signals condition 1, where one seat waits.
 fn puts_and_signals(hall: &Hall<Pb, Buffer>, pass: Pass<Pb, Buffer>) -> Option<Parked<Pb, Buffer>>
     requires hall { pass.hall ≡ hall.now.id }
     requires cond { 1 < pass.me.setting.conds }
     ensures { IfSome result (λ p. p.hall ≡ hall.now.id) }
 {
     let active = comes_in_and_puts(hall, pass)?;
+    if active.waiting(1) != 1 {
+        active.leave(hall, Pick::Waiter);
+        return None;
+    }
     signal(hall, active, 1)
 }
 
@@ -88,7 +93,10 @@ fn hands_over(hall: &Hall<Pb, Buffer>, first: Pass<Pb, Buffer>, second: Pass<Pb,
 #[test]
 fn signal_hands_over(rt: HostRuntime) -> Result<(), Fail> {
     let (hall, first, second) = two::<Pb>(&rt, 2, 8)?;
-    assert!(rt; hands_over(&hall, first, second));
+    from_here(&rt)?;
+    let well = hands_over(&hall, first, second);
+    up_to_here(&rt)?;
+    assert!(rt; well);
     Ok(())
 }
 
@@ -146,7 +154,10 @@ fn goes_on_first(
 #[test]
 fn signaller_goes_on(rt: HostRuntime) -> Result<(), Fail> {
     let (hall, first, second) = two::<Pnb>(&rt, 2, 8)?;
-    assert!(rt; goes_on_first(&hall, first, second));
+    from_here(&rt)?;
+    let well = goes_on_first(&hall, first, second);
+    up_to_here(&rt)?;
+    assert!(rt; well);
     Ok(())
 }
 
@@ -209,11 +220,14 @@ fn ticket_barges_past_a_waiter(rt: HostRuntime) -> Result<(), Fail> {
     let third = take(&hall, &mut passes)?;
     let second = take(&hall, &mut passes)?;
     let first = take(&hall, &mut passes)?;
-    assert!(rt; barges(&hall, first, second, third));
+    from_here(&rt)?;
+    let well = barges(&hall, first, second, third);
+    up_to_here(&rt)?;
+    assert!(rt; well);
     Ok(())
 }
 
-/// Where nobody has a ticket the same wish lets the waiter go on.
+/// Where nobody has a ticket, though a third seat could, the same wish lets the waiter go on.
 fn lets_the_waiter_in(
     hall: &Hall<Npnb, Buffer>,
     first: Pass<Npnb, Buffer>,
@@ -246,7 +260,13 @@ fn lets_the_waiter_in(
 
 #[test]
 fn waiter_goes_on_where_nobody_has_a_ticket(rt: HostRuntime) -> Result<(), Fail> {
-    let (hall, first, second) = two::<Npnb>(&rt, 1, 8)?;
-    assert!(rt; lets_the_waiter_in(&hall, first, second));
+    let (hall, mut passes) = hall::<Npnb>(&rt, 3, 1, 8)?;
+    let _third = take(&hall, &mut passes)?;
+    let second = take(&hall, &mut passes)?;
+    let first = take(&hall, &mut passes)?;
+    from_here(&rt)?;
+    let well = lets_the_waiter_in(&hall, first, second);
+    up_to_here(&rt)?;
+    assert!(rt; well);
     Ok(())
 }

@@ -2,6 +2,7 @@
 ghost use Rattle.std.specs.Prelude.{◌≡◌, ◌<◌, IfSome};
 
 use crate::tests::halls::{arrive, enter, two, wait};
+use crate::tests::marks::{from_here, up_to_here};
 use monk_hall::{Active, Busy, Hall, Pass, close, meet};
 use monk_history::{Event, Next, Via};
 use monk_kinds::{Kind, Pb, Pick};
@@ -68,7 +69,10 @@ const HANDED: [Event; 4] = [
 #[test]
 fn last_ends_the_hall(rt: HostRuntime) -> Result<(), Fail> {
     let (hall, first, second) = two::<Pb>(&rt, 1, 8)?;
-    assert!(rt; ends_last(hall, first, second));
+    from_here(&rt)?;
+    let well = ends_last(hall, first, second);
+    up_to_here(&rt)?;
+    assert!(rt; well);
     Ok(())
 }
 
@@ -99,7 +103,10 @@ fn goes_on(hall: Hall<Pb, Buffer>, first: Pass<Pb, Buffer>, second: Pass<Pb, Buf
 #[test]
 fn waiter_keeps_the_hall_open(rt: HostRuntime) -> Result<(), Fail> {
     let (hall, first, second) = two::<Pb>(&rt, 1, 8)?;
-    assert!(rt; goes_on(hall, first, second));
+    from_here(&rt)?;
+    let well = goes_on(hall, first, second);
+    up_to_here(&rt)?;
+    assert!(rt; well);
     Ok(())
 }
 
@@ -151,6 +158,9 @@ fn meets_and_ends(hall: Hall<Pb, Buffer>, first: Pass<Pb, Buffer>, second: Pass<
 #[test]
 fn seats_that_met_go_on(rt: HostRuntime) -> Result<(), Fail> {
     let (hall, first, second) = two::<Pb>(&rt, 0, 8)?;
-    assert!(rt; meets_and_ends(hall, first, second));
+    from_here(&rt)?;
+    let well = meets_and_ends(hall, first, second);
+    up_to_here(&rt)?;
+    assert!(rt; well);
     Ok(())
 }

@@ -1,7 +1,8 @@
 //! Tickets, budgets, and who comes in after whom.
 ghost use Rattle.std.specs.Prelude.{◌≡◌};
 
-use crate::tests::halls::{PUT, TAKE, act, arrive, enter, hall, take, two};
+use crate::tests::halls::{PUT, TAKE, act, arrive, enter, two};
+use crate::tests::marks::{from_here, up_to_here};
 use monk_floor::MakeFault;
 use monk_hall::{Hall, Parked, Pass};
 use monk_history::{Event, Next, Via};
@@ -63,7 +64,10 @@ fn takes_seven(hall: &Hall<Pb, Buffer>, parked: Parked<Pb, Buffer>) -> bool
 #[test]
 fn second_takes_over(rt: HostRuntime) -> Result<(), Fail> {
     let (hall, first, second) = two::<Pb>(&rt, 0, 8)?;
-    assert!(rt; takes_over(&hall, first, second));
+    from_here(&rt)?;
+    let well = takes_over(&hall, first, second);
+    up_to_here(&rt)?;
+    assert!(rt; well);
     Ok(())
 }
 
@@ -99,7 +103,10 @@ fn resumes<R: Wait>(
 #[test]
 fn second_resumes(rt: HostRuntime) -> Result<(), Fail> {
     let (hall, first, second) = two::<Pb>(&rt, 0, 8)?;
-    assert!(rt; resumes(&rt, &hall, first, second));
+    from_here(&rt)?;
+    let well = resumes(&rt, &hall, first, second);
+    up_to_here(&rt)?;
+    assert!(rt; well);
     Ok(())
 }
 
@@ -126,9 +133,11 @@ fn comes_once(hall: &Hall<Pb, Buffer>, pass: Pass<Pb, Buffer>) -> bool
 
 #[test]
 fn budget_is_spent(rt: HostRuntime) -> Result<(), Fail> {
-    let (hall, mut passes) = hall::<Pb>(&rt, 1, 0, 2)?;
-    let pass = take(&hall, &mut passes)?;
-    assert!(rt; comes_once(&hall, pass));
+    let (hall, pass, _other) = two::<Pb>(&rt, 0, 2)?;
+    from_here(&rt)?;
+    let well = comes_once(&hall, pass);
+    up_to_here(&rt)?;
+    assert!(rt; well);
     Ok(())
 }
 
@@ -195,6 +204,9 @@ fn loses_a_ticket(
 #[test]
 fn lost_ticket_is_never_passed_on(rt: HostRuntime) -> Result<(), Fail> {
     let (hall, first, second) = two::<Pb>(&rt, 0, 8)?;
-    assert!(rt; loses_a_ticket(&hall, first, second));
+    from_here(&rt)?;
+    let well = loses_a_ticket(&hall, first, second);
+    up_to_here(&rt)?;
+    assert!(rt; well);
     Ok(())
 }

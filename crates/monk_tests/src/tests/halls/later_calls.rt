@@ -3,6 +3,7 @@ ghost use Rattle.std.specs.Prelude.{◌≡◌, ◌<◌, IfSome};
 
 use crate::tests::halls::ending::ends;
 use crate::tests::halls::{comes_in_and_finds, enter, hall, take, two, wait};
+use crate::tests::marks::{from_here, up_to_here};
 use monk_hall::{Active, Hall, Parked, Pass};
 use monk_history::{Event, From3, Next, Via};
 use monk_kinds::{Conditional, Kind, Pick, Pir, Pnb};
@@ -93,7 +94,10 @@ fn broadcast_wakes_all(rt: HostRuntime) -> Result<(), Fail> {
     let third = take(&hall, &mut passes)?;
     let second = take(&hall, &mut passes)?;
     let first = take(&hall, &mut passes)?;
-    assert!(rt; wakes_both(hall, first, second, third));
+    from_here(&rt)?;
+    let well = wakes_both(hall, first, second, third);
+    up_to_here(&rt)?;
+    assert!(rt; well);
     Ok(())
 }
 
@@ -183,6 +187,9 @@ fn plays_ping_pong(
 #[test]
 fn signal_wait_ping_pong(rt: HostRuntime) -> Result<(), Fail> {
     let (hall, first, second) = two::<Pir>(&rt, 2, 8)?;
-    assert!(rt; plays_ping_pong(hall, first, second));
+    from_here(&rt)?;
+    let well = plays_ping_pong(hall, first, second);
+    up_to_here(&rt)?;
+    assert!(rt; well);
     Ok(())
 }

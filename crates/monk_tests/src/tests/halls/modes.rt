@@ -2,6 +2,7 @@
 ghost use Rattle.std.specs.Prelude.{◌≡◌, ◌<◌, IfSome};
 
 use crate::tests::halls::{PUT, comes_in_and_finds, comes_in_and_puts, enter, two, wait};
+use crate::tests::marks::{from_here, up_to_here};
 use monk_hall::{After, Hall, Parked, Pass};
 use monk_history::{Event, From3, Next, Via};
 use monk_kinds::{Automatic, Pick, Pir, Pis};
@@ -42,7 +43,10 @@ fn leaves_by_a_signal(
 #[test]
 fn signaller_leaves(rt: HostRuntime) -> Result<(), Fail> {
     let (hall, first, second) = two::<Pir>(&rt, 1, 8)?;
-    assert!(rt; leaves_by_a_signal(&hall, first, second));
+    from_here(&rt)?;
+    let well = leaves_by_a_signal(&hall, first, second);
+    up_to_here(&rt)?;
+    assert!(rt; well);
     Ok(())
 }
 
@@ -100,6 +104,9 @@ fn finds_its_item(
 #[test]
 fn predicate_is_awaited(rt: HostRuntime) -> Result<(), Fail> {
     let (hall, first, second) = two::<Pis>(&rt, 0, 8)?;
-    assert!(rt; finds_its_item(&hall, first, second));
+    from_here(&rt)?;
+    let well = finds_its_item(&hall, first, second);
+    up_to_here(&rt)?;
+    assert!(rt; well);
     Ok(())
 }

@@ -1,6 +1,8 @@
 //! The members that use a signal to all, and a signal that is followed by a wait.
+ghost use Rattle.std.specs.Prelude.{◌≡◌, ◌≤◌};
 ghost use Rattle.monk_tests.specs.Passes.{IsSeat};
 
+use crate::tests::halls;
 use crate::tests::samples::{reads, two};
 use monk_hall::{Hall, Pass};
 use monk_kinds::{Npir, Pnb};
@@ -15,7 +17,8 @@ const TIMES: u32 = 1000;
 
 /// Whether a taker gets the item.
 fn takes_seven<R: Wait>(pass: Pass<Npir, Buffer>, rt: &R, hall: &Hall<Npir, Buffer>) -> bool
-    requires { IsSeat hall.now.id pass }
+    requires hall { pass.hall ≡ hall.now.id }
+    requires conds { 2 ≤ pass.me.setting.conds }
 {
     let (_, item, end) = take(pass, rt, hall);
     item == Some(7) && end == End::Done
@@ -23,7 +26,8 @@ fn takes_seven<R: Wait>(pass: Pass<Npir, Buffer>, rt: &R, hall: &Hall<Npir, Buff
 
 /// Whether a putter puts the item, and comes back once it was taken.
 fn puts_seven<R: Wait>(pass: Pass<Npir, Buffer>, rt: &R, hall: &Hall<Npir, Buffer>) -> bool
-    requires { IsSeat hall.now.id pass }
+    requires hall { pass.hall ≡ hall.now.id }
+    requires conds { 2 ≤ pass.me.setting.conds }
 {
     let (_, end) = put_wait(pass, rt, hall, 7);
     end == End::Done
@@ -32,7 +36,7 @@ fn puts_seven<R: Wait>(pass: Pass<Npir, Buffer>, rt: &R, hall: &Hall<Npir, Buffe
 #[test]
 fn putter_waits_for_the_taker(rt: HostRuntime) -> Result<(), Fail> {
     for _ in 0..TIMES {
-        let (hall, putter, taker) = two::<Npir, Buffer>(&rt, Buffer::make(rt.alloc(), 1)?, 8)?;
+        let (hall, putter, taker) = halls::two::<Npir>(&rt, 2, 8)?;
         let done = thread::join(
             &rt,
             || takes_seven(taker, &rt, &hall),

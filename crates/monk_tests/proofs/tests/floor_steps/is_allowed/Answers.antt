@@ -8,11 +8,12 @@ use Rattle.monk_tests.proofs.tests.floor_steps.is_allowed.Goals as goal
 
 pub returns-in-Legal : goal.returns-in-Legal
 returns-in-Legal g c y =
+    let size = c.args.size in
     let events = c.as_slice-events.result.now in
     let grown : events ≡ c.args.floor.now.history ++ c.args.event ∷ [] =
     c.as_slice-events.ensures.value ∙ (c.in_ok-push.ensures.items
     ∙ ap (λ xs. xs ++ c.args.event ∷ []) (c.in_ok-grown.ensures.items ∙ c.history.ensures.history)) in
     let many : c.in-Legal.count ≡ length events = eqb-true _ _ y in
-    let is : c.in-Some.header ≡ heading 1 g.K.Kind.NAME 3 2 Buffer 1 = cc in
-    allowed_on g.K.Kind.rules g.K.Kind.NAME 3 2 1 c.in-Some.header c.args.floor.now c.args.event events is g.K.Kind.are_named
-    c.requires grown (c.in_ok-count.ensures.legal.0 (c.in-Legal.is ∙ ap Legal many))
+    let is : c.in-Some.header ≡ heading 1 g.K.Kind.NAME size.seats size.conds Buffer 1 = cc in
+    allowed_on g.K.Kind.rules g.K.Kind.NAME size.seats size.conds 1 c.in-Some.header c.args.floor.now c.args.event events is
+    g.K.Kind.are_named c.requires grown (c.in_ok-count.ensures.legal.0 (c.in-Legal.is ∙ ap Legal many))
