@@ -21,8 +21,8 @@ pub record Grant : Type 0 where
   pub word : ℕ
 
 -- it was granted to whom the release chose: to the seat that the choice names, in that seat's place; after the choice of
--- entry to a ticket, in its place, if one waits. A grant is a step: the seat's count, `before` the floor went home and
--- `after` the release, tells that none was made where none is told
+-- entry to a ticket, in its place, if one waits. A grant is a step: so the seat's counts of steps, `before` the floor went
+-- home and `after` the release, say whether one was made
 pub record IsGrantFor (h : House) (choice : Next) (before after : ℕ) (g : Option Grant) : Type 0 where
   pub here : IfSome g (λ x. x.table ≡ h.id)
   pub seat : (j : ℕ) → seat_called_by choice ≡ Some j → g ≡ Some (record { table = h.id; word = seat_word j })
