@@ -185,7 +185,7 @@ module _ (k : Rules) (o : Object) (c : Setting) (kind : IsKind k) (s : table.Sta
   old = shown_state c s.words h.0 before
 
   taken : releasing.IsTaken k o old c.seats c.conds r.seat q kind kept_before (stepping.near k o c kind s h id r here)
-      at_active ret.to ret.choice ret.call
+      at_active ret.to ret.wish ret.choice ret.call
   taken =
       releasing.release_kept k o old c.seats c.conds r.seat q kind kept_before (stepping.near k o c kind s h id r here)
       at_active ret.to ret.call ret.wish ret.choice ret.release
@@ -317,7 +317,7 @@ module _ (k : Rules) (o : Object) (c : Setting) (kind : IsKind k) (s : table.Sta
         calls = calls_after;
       }
 
-  pub gives_at : BringsHome k o c s h r.seat
+  pub gives_at : BringsHome k o c s h r f ret
       (record { words = s.words; homes = set s.homes 0 (maybe.some (Some f)); views = set s.views id (w ∷ []) })
   gives_at = record {
     hall = (
@@ -341,6 +341,10 @@ module _ (k : Rules) (o : Object) (c : Setting) (kind : IsKind k) (s : table.Sta
     step = subst (λ (g : List Event). IsStep k o (shown_state c s.words h.0 g) r.seat taken.command
         (answer.Chose ret.choice) (shown_state c s.words (update h.0 r.seat w) f.history)) goes_is
         (subst (λ (t : State). IsStep k o old r.seat taken.command (answer.Chose ret.choice) t) same taken.step);
+    before = before_is ∙ ap (floor_of c) goes_is;
+    call = taken.call;
+    wish = taken.is_wish;
+    chosen = refl;
   }
 
 pub gives_floor : (k : Rules) (o : Object) (c : Setting) → IsKind k → (slots id : ℕ) (me : Me) (f : FloorView)

@@ -22,5 +22,6 @@ mod ResumeLaws
 mod Boxed
 mod Crossing
 mod RuleLaws
+mod HomeLaws
 mod CompleteLaws
 pub mod PublicLaws

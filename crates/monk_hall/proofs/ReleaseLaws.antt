@@ -1,6 +1,6 @@
 -- What a release makes of an active seat
-use Rattle.std.proofs.Common.{◌≡◌, ◌≢◌, ℕ, suc, ◌+◌, ◌-◌, ◌<◌, ◌≤◌, Bool, true, false, true≢false, not, cond, List, []}
-use Rattle.std.proofs.Common.{◌∷◌, ◌++◌, length, Some, refl, sym, ap, subst, ◌∙◌, arith}
+use Rattle.std.proofs.Common.{◌≡◌, ℕ, suc, ◌+◌, ◌<◌, ◌≤◌, Bool, true, false, true≢false, not, cond, List, []}
+use Rattle.std.proofs.Common.{◌∷◌, ◌++◌, length, Option, Some, refl, sym, ap, subst, ◌∙◌, arith}
 use Rattle.atomic_table.specs.Seated.{TableId}
 use Rattle.monk_kinds.specs.declared.mode.Rules.{Rules}
 use Rattle.monk_kinds.specs.declared.mode.Pick.{Pick}
@@ -33,12 +33,13 @@ use Rattle.monk_hall.specs.AfterCalls.{MatchAfter}
 use Rattle.monk_hall.specs.declared.after.After.{After}
 use Rattle.monk_hall.specs.declared.after.After.TheVariants.{Active, Parked}
 use Rattle.monk_hall.specs.Changes.{record_after_peek}
+use Rattle.monk_hall.specs.Granting.{Grant, IsGrantFor, HasGranted, HasStayedAlone}
 use Rattle.monk_hall.specs.Handing.{HasRecordedRelease, HasGone}
 use Rattle.monk_hall.specs.Layout.{floor_of}
 use Rattle.monk_hall.specs.Recorded.{IsRelease}
 use Rattle.monk_hall.specs.Records.{the}
 use Rattle.monk_hall.specs.Tells.{Me, TellsPeek, IsReleaseTo, SeesTruly}
-use Rattle.monk_hall.specs.Tokens.{Token, Holder, IsHolding, with_own, holder}
+use Rattle.monk_hall.specs.Tokens.{Token, Holder, House, IsHolding, with_own, holder}
 use Rattle.monk_hall.specs.declared.record.SeatRecord.{SeatRecord}
 use Rattle.monk_hall.proofs.Private.{own_event}
 use Rattle.monk_hall.proofs.Releasing.{said}
@@ -228,12 +229,17 @@ module _ {k : Rules} {o : Object} {z : TableId} {me : Me} {number calls budget :
   pub released_of : {wish : Pick} {known : Bool} {choice : Next} {to : Home} {g : FloorView} → (call : ℕ → Event)
       → IsHolding k o z me number calls budget f → IsRelease k o (the me.0) f (call number) wish known choice to g
       → is_stay (Some choice) ≡ false
-      → (p : Token) → p.hall ≡ z → HasGone (the me.0) g.history to p.me → SeesTruly k o p.me → (a : Holder)
-      → holder z (the me.0) f ≡ a → HasReleased k o a (call a.me.seat) wish to 0 p
-  released_of {wish} {known} {choice} {to} {g} call h x away p hall gone told a is =
-      subst (λ (b : Holder). HasReleased k o b (call b.me.seat) wish to 0 p) is
-      (subst (λ n. HasReleased k o (holder z (the me.0) f) (call n) wish to 0 p) (sym h.seated.is_seat)
-      (released h x away p hall gone told))
+      → (p : Token) → p.hall ≡ z → HasGone (the me.0) g.history to p.me → SeesTruly k o p.me
+      → (y : House) (granted : Option Grant) → IsGrantFor y choice (the me.0).steps p.me.steps granted → (a : Holder)
+      → holder z (the me.0) f ≡ a → HasGranted k o a (call a.me.seat) wish to 0 p y granted
+  unfolding released
+  released_of {wish} {known} {choice} {to} {g} call h x away p hall gone told y granted for a is =
+      subst (λ (b : Holder). HasGranted k o b (call b.me.seat) wish to 0 p y granted) is
+      (subst (λ n. HasGranted k o (holder z (the me.0) f) (call n) wish to 0 p y granted) (sym h.seated.is_seat)
+      (record {
+        released = released h x away p hall gone told;
+        granted = subst (λ n. IsGrantFor y choice n p.me.steps granted) (plus_none (the me.0).steps) for;
+      }))
 
   pub leaves : IsHolding k o z me number calls budget f → (wish : Pick) (known : Bool) (choice : Next) (g : FloorView)
       → (a : Holder) → holder z (the me.0) f ≡ a → known ≡ is_entry_known wish a.me.known
@@ -449,19 +455,32 @@ must_known {k} {o} {f = f} h a is call told free =
     told ((λ i. must_stay o (stands_of k o (sym is i).floor) (call (sym is i).me.seat))
     ∙ ap (λ n. must_stay o (stands_of k o f) (call n)) h.seated.is_seat ∙ free)
 
+-- the same of a release with what it granted
+granted_peeked : {k : Rules} {o : Object} (peeks : ℕ) (a b : Holder) → HasPeeked peeks a b
+    → (call : Event) (wish : Pick) (to : Home) (p : Token) (h : House) (g : Option Grant)
+    → HasGranted k o b call wish to 0 p h g → HasGranted k o a call wish to peeks p h g
+unfolding released_peeked
+granted_peeked peeks a b x call wish to p h g m = record {
+  released = released_peeked peeks a b x call wish to p m.released;
+  granted = subst (λ n. IsGrantFor h m.released.choice n p.me.steps g)
+      (let steps = ap (λ (y : Holder). y.me.steps) x.is in omega arith) m.granted;
+}
+
 -- a call after a look at the ticket word: one that gives the floor back, and one that may stay
 pub released_after : (k : Rules) (o : Object) (call : ℕ → Event) (wish : Pick) (to : Home) (peeks : ℕ) (a b : Holder)
-    → HasPeeked peeks a b → (p : Token)
-    → HasReleased k o b (call b.me.seat) wish to 0 p → HasReleased k o a (call a.me.seat) wish to peeks p
-released_after k o call wish to peeks a b x p m =
-    released_peeked peeks a b x (call a.me.seat) wish to p
-    (subst (λ e. HasReleased k o b e wish to 0 p) (ap (λ (h : Holder). call h.me.seat) x.is) m)
+    → HasPeeked peeks a b → (p : Token) (h : House) (g : Option Grant)
+    → HasGranted k o b (call b.me.seat) wish to 0 p h g → HasGranted k o a (call a.me.seat) wish to peeks p h g
+released_after k o call wish to peeks a b x p h g m =
+    granted_peeked peeks a b x (call a.me.seat) wish to p h g
+    (subst (λ e. HasGranted k o b e wish to 0 p h g) (ap (λ (h : Holder). call h.me.seat) x.is) m)
 
 pub after_peeked : {K T : Type 0} (k : Rules) (o : Object) (call : ℕ → Event) (wish : Pick) (to : Home) (peeks : ℕ)
-    (a b : Holder) → HasPeeked peeks a b → (r : After K T)
-    → MatchAfter r (λ x. HasStayed k o b (call b.me.seat) wish 0 x) (λ p. HasReleased k o b (call b.me.seat) wish to 0 p)
-    → MatchAfter r (λ x. HasStayed k o a (call a.me.seat) wish peeks x) (λ p. HasReleased k o a (call a.me.seat) wish to peeks p)
-after_peeked k o call wish to peeks a b x (Active y) m =
-    stayed_peeked peeks a b x (call a.me.seat) wish y
-    (subst (λ e. HasStayed k o b e wish 0 y) (ap (λ (h : Holder). call h.me.seat) x.is) m)
-after_peeked k o call wish to peeks a b x (Parked p) m = released_after k o call wish to peeks a b x p m
+    (a b : Holder) → HasPeeked peeks a b → (r : After K T) (h : House) (g : Option Grant)
+    → MatchAfter r (λ x. HasStayedAlone k o b (call b.me.seat) wish 0 x g) (λ p. HasGranted k o b (call b.me.seat) wish to 0 p h g)
+    → MatchAfter r (λ x. HasStayedAlone k o a (call a.me.seat) wish peeks x g) (λ p. HasGranted k o a (call a.me.seat) wish to peeks p h g)
+after_peeked k o call wish to peeks a b x (Active y) h g m = record {
+  stayed = stayed_peeked peeks a b x (call a.me.seat) wish y
+      (subst (λ e. HasStayed k o b e wish 0 y) (ap (λ (h : Holder). call h.me.seat) x.is) m.stayed);
+  none = m.none;
+}
+after_peeked k o call wish to peeks a b x (Parked p) h g m = released_after k o call wish to peeks a b x p h g m

@@ -29,6 +29,7 @@ use Rattle.monk_world.specs.declared.place.Place.TheVariants.{Active, Back}
 use Rattle.monk_world.specs.declared.source.Source.{Source}
 use Rattle.monk_world.proofs.PublicLaws.{IsReady}
 use Rattle.monk_hall.specs.Changes.{back_after}
+use Rattle.monk_hall.specs.Laws.{wish_of}
 use Rattle.monk_hall.specs.Tells.{IsReleaseTo}
 use Rattle.monk_hall.proofs.Frame.{step_kept, step_is}
 
@@ -110,8 +111,10 @@ module _ (k : Rules) (o : Object) (s : State) (seats conds : ℕ) (i : ℕ) (q :
       (subst (λ (z : Next). IsStep k o s i m (answer.Chose z) (by_table z to e)) (sym same) h)
 
   -- a release is a step of the world
-  pub record IsTaken (to : Home) (x : Next) (e : Event) : Type 0 where
+  pub record IsTaken (to : Home) (wish : Pick) (x : Next) (e : Event) : Type 0 where
     pub command : Command
+    pub call : call_of i command ≡ Some e
+    pub is_wish : wish_of command ≡ Some wish
     pub is_kept : IsKept k o seats conds (released x to e)
     pub step : IsStep k o s i command (answer.Chose x) (released x to e)
 
@@ -120,13 +123,13 @@ module _ (k : Rules) (o : Object) (s : State) (seats conds : ℕ) (i : ℕ) (q :
   Keeps to wish x e =
       MayCall (monitor_of k o s.floor) s.floor.history e → left_within to < left_of s.floor.budget s.floor.history i
       → x ≡ release_next k o s i e wish → is_stay (Some x) ≡ false
-      → IsTaken to x e
+      → IsTaken to wish x e
 
-  by_command : (m : Command) (wish : Pick) (to : Home) (e : Event) → call_of i m ≡ Some e
+  by_command : (m : Command) (wish : Pick) (to : Home) (e : Event) → call_of i m ≡ Some e → wish_of m ≡ Some wish
       → may_be_told (Active q) m ≡ true → left_for m ≡ left_within to + 1
       → IsDone k o s i (Active q) m (answer.Chose (release_next k o s i e wish))
       (by_table (release_next k o s i e wish) to e) → (x : Next) → Keeps to wish x e
-  by_command m wish to e call told left_is done x may left chosen stay =
+  by_command m wish to e call is_wish told left_is done x may left chosen stay =
       let ready : IsReady k o s i m = record {
         near = near;
         range = subst (λ (y : Option Event). is_call_in_range o s.floor y ≡ true) (sym call) may.in_range;
@@ -138,6 +141,8 @@ module _ (k : Rules) (o : Object) (s : State) (seats conds : ℕ) (i : ℕ) (q :
       let chose = answer.Chose (release_next k o s i e wish) in
       record {
         command = m;
+        call = call;
+        is_wish = is_wish;
         is_kept = away x (release_next k o s i e wish) to e chosen stay
             (step_kept k o s i m chose table seats conds (Active q) kind kept ready active done);
         step = away_step m x (release_next k o s i e wish) to e chosen stay (step_is k o s i m chose table (Active q) ready active done);
@@ -147,23 +152,23 @@ module _ (k : Rules) (o : Object) (s : State) (seats conds : ℕ) (i : ℕ) (q :
   pub release_kept : (to : Home) (call : Event) (wish : Pick) (x : Next) → IsReleaseTo i to call → Keeps to wish x call
   release_kept home.Idle (Leave j y) wish x r =
       subst (Keeps home.Idle wish x) (λ z. Leave (sym r.0 z) (sym r.1 z))
-      (by_command (command.Leave wish) wish home.Idle (Leave i next.Stay) refl refl refl (refl, refl) x)
+      (by_command (command.Leave wish) wish home.Idle (Leave i next.Stay) refl refl refl refl (refl, refl) x)
   release_kept home.Idle (SignalLeave j c y) wish x r =
       subst (Keeps home.Idle wish x) (λ z. SignalLeave (sym r.0 z) c (sym r.1 z))
-      (by_command (command.SignalLeave c wish) wish home.Idle (SignalLeave i c next.Stay) refl refl refl
+      (by_command (command.SignalLeave c wish) wish home.Idle (SignalLeave i c next.Stay) refl refl refl refl
       (refl, refl) x)
   release_kept home.Inner (Wait j c y) wish x r =
       subst (Keeps home.Inner wish x) (λ z. Wait (sym r.0 z) c (sym r.1 z))
-      (by_command (command.Wait c wish) wish home.Inner (Wait i c next.Stay) refl refl refl (refl, refl) x)
+      (by_command (command.Wait c wish) wish home.Inner (Wait i c next.Stay) refl refl refl refl (refl, refl) x)
   release_kept home.Inner (Signal j c y) wish x r =
       subst (Keeps home.Inner wish x) (λ z. Signal (sym r.0 z) c (sym r.1 z))
-      (by_command (command.Signal c wish) wish home.Inner (Signal i c next.Stay) refl refl refl (refl, refl) x)
+      (by_command (command.Signal c wish) wish home.Inner (Signal i c next.Stay) refl refl refl refl (refl, refl) x)
   release_kept home.Inner (Until j p y) wish x r =
       subst (Keeps home.Inner wish x) (λ z. Until (sym r.0 z) p (sym r.1 z))
-      (by_command (command.Until p wish) wish home.Inner (Until i p next.Stay) refl refl refl (refl, refl) x)
+      (by_command (command.Until p wish) wish home.Inner (Until i p next.Stay) refl refl refl refl (refl, refl) x)
   release_kept home.Inner (SignalWait j c d y) wish x r =
       subst (Keeps home.Inner wish x) (λ z. SignalWait (sym r.0 z) c d (sym r.1 z))
-      (by_command (command.SignalWait c d wish) wish home.Inner (SignalWait i c d next.Stay) refl refl refl
+      (by_command (command.SignalWait c d wish) wish home.Inner (SignalWait i c d next.Stay) refl refl refl refl
       (refl, refl) x)
   release_kept home.Idle (Enter j via) wish x r = absurd r
   release_kept home.Idle (Act j op n) wish x r = absurd r

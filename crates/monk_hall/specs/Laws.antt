@@ -1,12 +1,14 @@
 -- What holds of a hall's table whenever its rule does, and so before and after every step
-use Rattle.std.specs.Prelude.{◌≡◌, ℕ, ◌+◌, ◌%◌, ◌==◌, ◌≤◌, true, false, List, [], ◌∷◌, ◌++◌, length, set, slice_index, Option, Some}
+use Rattle.std.specs.Prelude.{◌≡◌, ◌≢◌, ℕ, ◌+◌, ◌%◌, ◌==◌, ◌≤◌, true, false, List, [], ◌∷◌, ◌++◌, length, set, slice_index}
+use Rattle.std.specs.Prelude.{Option, Some, None}
 use mathlib.Core.Option.{none, some}
 use lib.ListN.{get_elem?}
 use Rattle.atomic_table.specs.Table as table
 use Rattle.monk_kinds.specs.Kind.{IsKind}
 use Rattle.monk_kinds.specs.declared.mode.Rules.{Rules}
+use Rattle.monk_kinds.specs.declared.mode.Pick.{Pick}
 use Rattle.monk_object.specs.Object.{Object}
-use Rattle.monk_history.specs.Meaning.Counts.{granted_of}
+use Rattle.monk_history.specs.Meaning.Counts.{granted_of, events_of}
 use Rattle.monk_history.specs.Meaning.Events.{is_stay}
 use Rattle.monk_history.specs.Meaning.Legal.{IsLegal}
 use Rattle.monk_history.specs.declared.event.Event.{Event}
@@ -18,7 +20,7 @@ use Rattle.monk_world.specs.Places.{HoldsRight, stage, ticket, back_turn, due_to
 use Rattle.monk_world.specs.Places.{active_stage, passing_stage, inside_stage}
 use Rattle.monk_world.specs.Runs.{IsWellLed}
 use Rattle.monk_world.specs.State.{is_quiet}
-use Rattle.monk_world.specs.StepTable.{IsStep}
+use Rattle.monk_world.specs.StepTable.{IsStep, call_of}
 use Rattle.monk_world.specs.declared.answer.Answer.{Answer}
 use Rattle.monk_world.specs.declared.answer.Answer.TheVariants as answer
 use Rattle.monk_world.specs.declared.command.Command.{Command}
@@ -28,7 +30,7 @@ use Rattle.monk_world.specs.declared.place.Place.TheVariants.{Idle, Back}
 use Rattle.monk_hall.specs.Changes.{record_after_arrive, record_after_ticket_look, record_after_seat_look}
 use Rattle.monk_hall.specs.Changes.{record_after_peek, record_after_floor_out, record_after_floor_in, record_after_drop}
 use Rattle.monk_hall.specs.Changes.{record_after_grant}
-use Rattle.monk_hall.specs.Floors.{ArePrivate}
+use Rattle.monk_hall.specs.Floors.{ArePrivate, StartsWith}
 use Rattle.monk_hall.specs.Layout.{tickets, unpassed, ticket_word, seat_word, floor_of, shown_state, shown_world}
 use Rattle.monk_hall.specs.Records.{View, In}
 use Rattle.monk_hall.specs.Rule.{IsHall}
@@ -108,24 +110,47 @@ FloorOutSteps = OfASeat (λ k o c s h id r.
           set s.views id (record_after_floor_out r h.2.past ∷ []);
     }))
 
+-- the wish of a command that releases
+abbrev pub wish_of : Command → Option Pick
+wish_of command.Arrive = None
+wish_of command.Look = None
+wish_of command.Out = None
+wish_of command.Peek = None
+wish_of command.Drop = None
+wish_of command.Grant = None
+wish_of (command.Act op) = None
+wish_of (command.Leave pick) = Some pick
+wish_of (command.Wait c pick) = Some pick
+wish_of (command.Signal c pick) = Some pick
+wish_of (command.SignalLeave c pick) = Some pick
+wish_of (command.Until p pick) = Some pick
+wish_of (command.SignalAll c) = None
+wish_of (command.SignalWait c d pick) = Some pick
+
 -- the active seat brings a floor home: what is shown, events of the seat alone that keep the turn with it, and then a
--- step of the world, a release that chose another
-pub record BringsHome (k : Rules) (o : Object) (c : Setting) (s : HallState) (h : IsHall k o c s) (i : ℕ) (t : HallState) : Type 0 where
+-- step of the world, a release that chose another. The floor before that step is the one that the seat had in its hands
+-- when it released, and the step's command makes that release, with its wish and its choice
+pub record BringsHome (k : Rules) (o : Object) (c : Setting) (s : HallState) (h : IsHall k o c s) (r : SeatRecord) (f : FloorView)
+    (ret : Returns k o r f) (t : HallState) : Type 0 where
   pub hall : IsHall k o c t
   pub since : List Event
-  pub own : ArePrivate i since
+  pub own : ArePrivate r.seat since
   pub legal : IsLegal (monitor_of k o (floor_of c (h.2.history ++ since))) (h.2.history ++ since)
   pub command : Command
   pub choice : Next
   pub away : is_stay (Some choice) ≡ false
-  pub step : IsStep k o (shown_state c s.words h.0 (h.2.history ++ since)) i command (answer.Chose choice)
+  pub step : IsStep k o (shown_state c s.words h.0 (h.2.history ++ since)) r.seat command (answer.Chose choice)
       (shown_state c t.words hall.0 hall.2.history)
+  pub before : ret.before ≡ floor_of c (h.2.history ++ since)
+  pub call : call_of r.seat command ≡ Some ret.call
+  pub wish : wish_of command ≡ Some ret.wish
+  pub chosen : choice ≡ ret.choice
 
 -- step 5, in
 abbrev pub FloorInSteps : Type 0
 FloorInSteps = OfASeat (λ k o c s h id r.
-    (f : FloorView) → stage r.place ≡ active_stage → Returns k o r f
-    → BringsHome k o c s h r.seat
+    (f : FloorView) → stage r.place ≡ active_stage → (ret : Returns k o r f)
+    → BringsHome k o c s h r f ret
     (record {
       words = s.words;
       homes = set s.homes 0 (some (Some f));
@@ -204,3 +229,17 @@ EntryWaits =
     (k : Rules) (o : Object) (c : Setting) (s : HallState) → IsHall k o c s
     → (r : SeatRecord) (to : Home) → IsRecord s r → r.place ≡ Back Entry to → is_quiet k o (floor_of c r.seen) ≡ false
     → 2 ≤ unpassed (slice_index s.words 0)
+
+-- this is the history at home: that of the floor in the slot or, while a seat is active, that which this seat found, and
+-- then the slot is empty. It is legal, begins with all that each seat has seen, and has exactly that seat's own events
+pub record IsHomeHistory (k : Rules) (o : Object) (c : Setting) (s : HallState) (past : List Event) : Type 0 where
+  pub legal : IsLegal (monitor_of k o (floor_of c past)) past
+  pub lent : (r : SeatRecord) → IsRecord s r → stage r.place ≡ active_stage → (s.homes ≡ none ∷ []) × (r.seen ≡ past)
+  pub home : ((r : SeatRecord) → IsRecord s r → stage r.place ≢ active_stage) → s.homes ≡ some (Some (floor_of c past)) ∷ []
+  pub starts : (r : SeatRecord) → IsRecord s r → StartsWith past r.seen
+  pub own : (r : SeatRecord) → IsRecord s r → events_of past r.seat ≡ r.mine
+
+-- a table under the rule has one
+abbrev pub HasHomeHistory : Type 0
+HasHomeHistory =
+    (k : Rules) (o : Object) (c : Setting) (s : HallState) → IsHall k o c s → (past : List Event) × IsHomeHistory k o c s past

@@ -4,6 +4,8 @@ use Rattle.monk_history.specs.declared.event.Event.{Event}
 use Rattle.monk_floor.specs.View.{FloorView}
 use Rattle.monk_world.specs.State.{State}
 use Rattle.monk_world.specs.World.{World}
+use Rattle.monk_world.specs.declared.place.Place.{Place}
+use Rattle.monk_world.specs.declared.place.Place.TheVariants.{Idle, Ticket, Due, Active, Back, Passing, Inner}
 use Rattle.monk_hall.specs.declared.record.SeatRecord.{SeatRecord}
 use Rattle.monk_hall.specs.declared.setting.Setting.{Setting}
 
@@ -23,6 +25,19 @@ ticket_word seats t = place_word (t % seats)
 
 abbrev pub seat_word : ℕ → ℕ
 seat_word j = 2 * j + 2
+
+abbrev pub waiting_word_at : ℕ → ℕ → Place → ℕ
+waiting_word_at seats j Idle = seat_word j
+waiting_word_at seats j (Ticket t) = ticket_word seats t
+waiting_word_at seats j (Due q) = seat_word j
+waiting_word_at seats j (Active q) = seat_word j
+waiting_word_at seats j (Back x to) = seat_word j
+waiting_word_at seats j (Passing t to) = seat_word j
+waiting_word_at seats j Inner = seat_word j
+
+-- where a waiting seat will find its grant
+abbrev pub waiting_word : SeatRecord → ℕ
+waiting_word r = waiting_word_at r.setting.seats r.seat r.place
 
 abbrev pub word_count : ℕ → ℕ
 word_count seats = 2 * seats + 1

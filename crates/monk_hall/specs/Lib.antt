@@ -8,6 +8,7 @@ pub mod Tokens
 pub mod Calls
 pub mod Handing
 pub mod AfterCalls
+pub mod Granting
 pub mod Recorded
 pub mod Closing
 pub mod Complete

@@ -1,5 +1,5 @@
 -- A release that is recorded in the floor and has yet to go home
-use Rattle.std.specs.Prelude.{◌≡◌, ℕ, ◌<◌, Bool, false}
+use Rattle.std.specs.Prelude.{◌≡◌, ℕ, ◌<◌, Bool, false, Option}
 use Rattle.monk_kinds.specs.declared.mode.Pick.{Pick}
 use Rattle.monk_kinds.specs.declared.mode.Rules.{Rules}
 use Rattle.monk_object.specs.Object.{Object}
@@ -14,10 +14,11 @@ use Rattle.monk_world.specs.Sound.{left_within}
 use Rattle.monk_world.specs.declared.home.Home.{Home}
 use Rattle.monk_world.specs.declared.home.Home.TheVariants as home
 use Rattle.monk_hall.specs.AfterCalls.{MatchAfter}
-use Rattle.monk_hall.specs.Calls.{HasReleased, HasStayed, is_entry_known}
+use Rattle.monk_hall.specs.Calls.{is_entry_known}
+use Rattle.monk_hall.specs.Granting.{Grant, HasGranted, HasStayedAlone}
 use Rattle.monk_hall.specs.Records.{the}
 use Rattle.monk_hall.specs.Tells.{IsReleaseTo}
-use Rattle.monk_hall.specs.Tokens.{Token, Holder, IsHolding, holder}
+use Rattle.monk_hall.specs.Tokens.{Token, Holder, House, IsHolding, holder}
 use Rattle.monk_hall.specs.declared.after.After.{After}
 use Rattle.monk_hall.specs.declared.record.SeatRecord.{SeatRecord}
 use Rattle.monk_hall.specs.declared.release.Release.{Release}
@@ -54,19 +55,20 @@ pub record IsRecorded {K T : Type 0} (k : Rules) (o : Object) (to : Home) (r : R
   pub recorded : HasRecorded k o was call wish known to r
 
 -- whatever release was recorded, the seat is outside with it
-abbrev pub GoesOutside : {K T : Type 0} → Rules → Object → Release K T → Token → Type 0
-GoesOutside k o r p =
+abbrev pub GoesOutside : {K T : Type 0} → Rules → Object → Release K T → Token → House → Option Grant → Type 0
+GoesOutside k o r p h g =
     (a : Holder) (call : ℕ → Event) (wish : Pick) (known : Bool) → HasRecorded k o a call wish known home.Idle r
-    → HasReleased k o a (call a.me.seat) wish home.Idle 0 p
+    → HasGranted k o a (call a.me.seat) wish home.Idle 0 p h g
 
 -- it is parked inside
-abbrev pub GoesInside : {K T : Type 0} → Rules → Object → Release K T → Token → Type 0
-GoesInside k o r p =
+abbrev pub GoesInside : {K T : Type 0} → Rules → Object → Release K T → Token → House → Option Grant → Type 0
+GoesInside k o r p h g =
     (a : Holder) (call : ℕ → Event) (wish : Pick) (known : Bool) → HasRecorded k o a call wish known home.Inner r
-    → HasReleased k o a (call a.me.seat) wish home.Inner 0 p
+    → HasGranted k o a (call a.me.seat) wish home.Inner 0 p h g
 
 -- it stays active where it was chosen itself, and else is parked inside
-abbrev pub GoesOnOrInside : {K T K2 T2 : Type 0} → Rules → Object → Release K T → After K2 T2 → Type 0
-GoesOnOrInside k o r to =
+abbrev pub GoesOnOrInside : {K T K2 T2 : Type 0} → Rules → Object → Release K T → After K2 T2 → House → Option Grant → Type 0
+GoesOnOrInside k o r to h g =
     (a : Holder) (call : ℕ → Event) (wish : Pick) (known : Bool) → HasRecorded k o a call wish known home.Inner r
-    → MatchAfter to (λ b. HasStayed k o a (call a.me.seat) wish 0 b) (λ p. HasReleased k o a (call a.me.seat) wish home.Inner 0 p)
+    → MatchAfter to (λ b. HasStayedAlone k o a (call a.me.seat) wish 0 b g)
+    (λ p. HasGranted k o a (call a.me.seat) wish home.Inner 0 p h g)

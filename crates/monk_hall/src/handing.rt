@@ -1,15 +1,18 @@
 //! How a seat brings the floor home and hands the right on.
-ghost use Rattle.std.specs.Prelude.{◌≡◌, ◌+◌, ◌<◌, Option, Some, None, [], ◌∷◌};
+ghost use Rattle.std.specs.Prelude.{◌≡◌, ◌+◌, ◌<◌, ℕ, Option, Some, None, IfSome, MatchOption, [], ◌∷◌};
 ghost use Rattle.monk_history.specs.Meaning.Events.{is_stay};
 ghost use Rattle.monk_history.specs.declared.event.Next.{Next};
 ghost use Rattle.monk_world.specs.declared.home.Home.{Home};
 ghost use Rattle.monk_world.specs.declared.place.Place.TheVariants as at;
 ghost use Rattle.monk_hall.specs.Changes.{record_after_floor_in, home_at};
+ghost use Rattle.monk_hall.specs.Granting.{IsGrantFor};
 ghost use Rattle.monk_hall.specs.Handing.{seat_called_by, HasRecordedRelease, HandsOnWithin, HasGone};
+ghost use Rattle.monk_hall.specs.Layout.{ticket_word};
 ghost use Rattle.monk_hall.specs.Records.{IsOne, the};
 ghost use Rattle.monk_hall.specs.Tells.{IsOfTable, IsSameSeat};
 
 use crate::boxed_floor::BoxedFloor;
+use crate::granted::{Granted, seat_grant, ticket_grant};
 use crate::hall::Hall;
 use crate::places::{tickets, unpassed};
 use crate::rule::{SharedTable, TableSeat};
@@ -45,28 +48,36 @@ pub(crate) fn is_stay(choice: Next) -> bool
 }
 
 /// After the choice of entry: takes the seat off the ticket word, and grants the next ticket if there is one.
-fn let_in<K: Kind, T: Guarded>(words: &SharedTable<K, T>, seat: &mut TableSeat<K, T>, seats: u8)
+fn let_in<K: Kind, T: Guarded>(
+    words: &SharedTable<K, T>,
+    seat: &mut TableSeat<K, T>,
+    seats: u8,
+) -> Option<Granted<K, T>>
     requires table { IsOfTable seat.old words.now.table_id words.now.key.seats }
     requires seats { (seats ≡ words.now.key.seats) × (0 < seats) }
     requires back { IsOne seat.old.me.0 × ((the seat.old.me.0).place ≡ at.Back Next.Entry (home_at (the seat.old.me.0).place)) }
     ensures table { IsSameSeat seat.old seat.new }
     ensures step { HandsOnWithin 2 seat.old.me seat.new.me }
+    ensures here { IfSome result (λ g. g.table ≡ words.now.table_id) }
+    ensures ticket { MatchOption result ((the seat.new.me.0).steps ≡ (the seat.old.me.0).steps + 1)
+        (λ g. ((the seat.new.me.0).steps ≡ (the seat.old.me.0).steps + 2) × ((t : ℕ) × (g.word ≡ ticket_word seats t))) }
 {
     let found = steps::drop_ticket(words, seat);
     let waiting = unpassed(found);
     if waiting == 1 {
-        return;
+        return None;
     }
-    steps::ticket_grant(words, seat, seats, tickets(found) - waiting + 1);
+    Some(ticket_grant(words, seat, seats, tickets(found) - waiting + 1))
 }
 
-/// Brings the floor home with the release that it has recorded, and hands the right on to whom the release chose.
+/// Brings the floor home with the release that it has recorded, and hands the right on to whom the release chose: gives
+/// what it granted, unless nobody waits.
 pub(crate) fn go_home<K: Kind, T: Guarded>(
     hall: &Hall<K, T>,
     seat: &mut TableSeat<K, T>,
     floor: BoxedFloor<K, T>,
     choice: Next,
-)
+) -> Option<Granted<K, T>>
     requires table { seat.old.table_id ≡ hall.now.id }
     requires out { seat.old.me.1 ≡ (0, None) ∷ [] }
     requires released { (to : Home) × HasRecordedRelease K.rules T.meaning seat.old.table_id seat.old.me choice to floor }
@@ -74,17 +85,18 @@ pub(crate) fn go_home<K: Kind, T: Guarded>(
     ensures gone { HasGone (the seat.old.me.0) floor.history
         (home_at (record_after_floor_in (the seat.old.me.0) floor.history).place) (the seat.new.me.0) }
     ensures view { seat.new.me ≡ (the seat.new.me.0 ∷ [], []) }
+    ensures granted { IsGrantFor hall.now choice (the seat.old.me.0).steps (the seat.new.me.0).steps result }
 {
     let words = &hall.table.shared;
     match seat_called_by(choice) {
         Some(called) => {
             let calls = floor.granted(called);
             steps::floor_in(words, seat, floor);
-            steps::seat_grant(words, seat, called, calls);
+            Some(seat_grant(words, seat, called, calls))
         }
         None => {
             steps::floor_in(words, seat, floor);
-            let_in(words, seat, hall.seats);
+            let_in(words, seat, hall.seats)
         }
     }
 }

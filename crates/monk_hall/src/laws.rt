@@ -3,6 +3,7 @@
 ghost use Rattle.monk_hall.specs.Laws.{RightInOnePlace, ShowsWellLed, OneHasTheRight, OneIsActive, KnownWaits};
 ghost use Rattle.monk_hall.specs.Laws.{EntryWaits, ArriveSteps, TicketLookSteps, SeatLookSteps, PeekSteps};
 ghost use Rattle.monk_hall.specs.Laws.{FloorOutSteps, FloorInSteps, DropSteps, TicketGrantSteps, SeatGrantSteps};
+ghost use Rattle.monk_hall.specs.Laws.{HasHomeHistory};
 
 /// The words, the records of the seats and the floor show a state of a world that is well led: the right to be active is
 /// in exactly one place, the history is legal, and turn and queues agree with where the seats stand.
@@ -27,8 +28,16 @@ pub fn chosen_entry_waits()
     ensures { EntryWaits }
 {}
 
+/// The floor is with the seat that is active, and else at home in its slot. The history at home, which is the one that an
+/// active seat found, is legal; it begins with all that each seat has seen, and its events of each seat are exactly those
+/// that the seat knows as its own.
+pub fn home_history_is_shared()
+    ensures { HasHomeHistory }
+{}
+
 /// Each step of the table, from one under the rule, leads to one under the rule, and is the step of the world by the same
-/// command and with the same answer; a floor comes home with what its seat has done and the step that released it.
+/// command and with the same answer; a floor comes home with what its seat has done and the step that released it, which is
+/// the release that the seat made of the floor in its hands, with its wish.
 pub fn table_steps_are_the_worlds()
     ensures arrival { ArriveSteps }
     ensures ticket_look { TicketLookSteps }

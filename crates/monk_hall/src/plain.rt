@@ -8,10 +8,12 @@ ghost use Rattle.monk_floor.specs.View.{stands_of};
 ghost use Rattle.monk_world.specs.declared.home.Home.TheVariants as home;
 ghost use Rattle.monk_hall.specs.AfterCalls.{StaysOrParks};
 ghost use Rattle.monk_hall.specs.Calls.{GoesOut, KnowsForChoice, ParksInside, is_entry_known};
+ghost use Rattle.monk_hall.specs.Granting.{GrantsInside, GrantsOut, StaysOrGrants};
 ghost use Rattle.monk_hall.specs.Recorded.{HasRecorded};
 
 use crate::active::Active;
 use crate::after::After;
+use crate::granted::Granted;
 use crate::hall::Hall;
 use crate::parked::Parked;
 use crate::pass::Pass;
@@ -38,6 +40,22 @@ impl<K: Kind, T: Guarded> Active<K, T> {
         requires cond { cond < self.me.setting.conds }
         requires left { length self.me.mine + 3 ≤ self.me.setting.budget }
         ensures { ParksInside K.rules T.meaning self (Event.Wait self.me.seat cond Next.Stay) pick result }
+    {
+        hall.wake_granted(self.plain_wait_quietly(hall, cond, pick))
+    }
+
+    /// As `plain_wait`, but wakes nobody: it gives out what it granted, which only a wake spends (`Granted`).
+    pub fn plain_wait_quietly(
+        self,
+        hall: &Hall<K, T>,
+        cond: u8,
+        pick: Pick,
+    ) -> (Parked<K, T>, Option<Granted<K, T>>)
+        requires mode { has_conditions K.rules.mode ≡ true }
+        requires hall { self.hall ≡ hall.now.id }
+        requires cond { cond < self.me.setting.conds }
+        requires left { length self.me.mine + 3 ≤ self.me.setting.budget }
+        ensures { GrantsInside K.rules T.meaning self (Event.Wait self.me.seat cond Next.Stay) pick result.0 hall.now result.1 }
     {
         let mut active = self;
         let known = active.look_for_entry(hall, true, pick);
@@ -66,6 +84,22 @@ impl<K: Kind, T: Guarded> Active<K, T> {
         requires left { length self.me.mine + 3 ≤ self.me.setting.budget }
         ensures { StaysOrParks K.rules T.meaning self (Event.Signal self.me.seat cond Next.Stay) pick result }
     {
+        hall.wake_granted(self.plain_signal_quietly(hall, cond, pick))
+    }
+
+    /// As `plain_signal`, but wakes nobody: it gives out what it granted, which only a wake spends (`Granted`).
+    pub fn plain_signal_quietly(
+        self,
+        hall: &Hall<K, T>,
+        cond: u8,
+        pick: Pick,
+    ) -> (After<K, T>, Option<Granted<K, T>>)
+        requires mode { has_signaller_queue K.rules.mode ≡ true }
+        requires hall { self.hall ≡ hall.now.id }
+        requires cond { cond < self.me.setting.conds }
+        requires left { length self.me.mine + 3 ≤ self.me.setting.budget }
+        ensures { StaysOrGrants K.rules T.meaning self (Event.Signal self.me.seat cond Next.Stay) pick result.0 hall.now result.1 }
+    {
         let chooses = self.serves(cond);
         let mut active = self;
         let known = active.look_for_entry(hall, chooses, pick);
@@ -93,6 +127,21 @@ impl<K: Kind, T: Guarded> Active<K, T> {
         requires hall { self.hall ≡ hall.now.id }
         requires cond { cond < self.me.setting.conds }
         ensures { GoesOut K.rules T.meaning self (Event.SignalLeave self.me.seat cond Next.Stay) pick result }
+    {
+        hall.wake_granted(self.plain_signal_leave_quietly(hall, cond, pick))
+    }
+
+    /// As `plain_signal_leave`, but wakes nobody: it gives out what it granted, which only a wake spends (`Granted`).
+    pub fn plain_signal_leave_quietly(
+        self,
+        hall: &Hall<K, T>,
+        cond: u8,
+        pick: Pick,
+    ) -> (Pass<K, T>, Option<Granted<K, T>>)
+        requires mode { returns_at_once K.rules.mode ≡ true }
+        requires hall { self.hall ≡ hall.now.id }
+        requires cond { cond < self.me.setting.conds }
+        ensures { GrantsOut K.rules T.meaning self (Event.SignalLeave self.me.seat cond Next.Stay) pick result.0 hall.now result.1 }
     {
         let mut active = self;
         let known = active.look_for_entry(hall, true, pick);
@@ -123,6 +172,22 @@ impl<K: Kind, T: Guarded> Active<K, T> {
         requires pred { pred < T.PREDICATES }
         requires left { length self.me.mine + 3 ≤ self.me.setting.budget }
         ensures { StaysOrParks K.rules T.meaning self (Event.Until self.me.seat pred Next.Stay) pick result }
+    {
+        hall.wake_granted(self.plain_until_quietly(hall, pred, pick))
+    }
+
+    /// As `plain_until`, but wakes nobody: it gives out what it granted, which only a wake spends (`Granted`).
+    pub fn plain_until_quietly(
+        self,
+        hall: &Hall<K, T>,
+        pred: u8,
+        pick: Pick,
+    ) -> (After<K, T>, Option<Granted<K, T>>)
+        requires mode { has_conditions K.rules.mode ≡ false }
+        requires hall { self.hall ≡ hall.now.id }
+        requires pred { pred < T.PREDICATES }
+        requires left { length self.me.mine + 3 ≤ self.me.setting.budget }
+        ensures { StaysOrGrants K.rules T.meaning self (Event.Until self.me.seat pred Next.Stay) pick result.0 hall.now result.1 }
     {
         let chooses = !self.holds(pred);
         let mut active = self;

@@ -3,7 +3,7 @@ ghost use Rattle.std.specs.Prelude.{[]};
 ghost use Rattle.monk_hall.specs.Changes.{view_after_join};
 ghost use Rattle.monk_hall.specs.Records.{head, tail};
 ghost use Rattle.monk_hall.specs.Tells.{TellsArrive, TellsTicketLook, TellsSeatLook, TellsPeek, TellsFloorOut};
-ghost use Rattle.monk_hall.specs.Tells.{TellsFloorIn, held_history, TellsDrop, TellsGrant, TellsCompare};
+ghost use Rattle.monk_hall.specs.Tells.{TellsFloorIn, held_history, TellsDrop, TellsCompare};
 
 use crate::boxed_floor::BoxedFloor;
 use crate::record::View;
@@ -58,13 +58,6 @@ pub(crate) struct DropStep;
 
 impl<K: Kind, T: Guarded> Play<Option<BoxedFloor<K, T>>, View> for DropStep {
     ghost then = { λ step me found new. TellsDrop me found new };
-}
-
-/// Steps 7 and 8: a seat grants the next ticket, or calls the seat that it chose.
-pub(crate) struct GrantStep;
-
-impl<K: Kind, T: Guarded> Play<Option<BoxedFloor<K, T>>, View> for GrantStep {
-    ghost then = { λ step me found new. TellsGrant me found new };
 }
 
 /// Each seat gets its record from the view that has them all.

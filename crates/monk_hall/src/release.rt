@@ -7,6 +7,7 @@ ghost use Rattle.monk_hall.specs.Recorded.{IsApart, IsRecorded, GoesOutside, Goe
 use crate::active::Active;
 use crate::after::After;
 use crate::boxed_floor::BoxedFloor;
+use crate::granted::Granted;
 use crate::hall::Hall;
 use crate::handing::{go_home, is_stay};
 use crate::parked::Parked;
@@ -51,12 +52,12 @@ impl<K: Kind, T: Guarded> Release<K, T> {
         }
     }
 
-    /// The seat leaves the monitor.
-    pub(crate) fn go_outside(self, hall: &Hall<K, T>) -> Pass<K, T>
+    /// The seat leaves the monitor. Gives what it granted, too.
+    pub(crate) fn go_outside(self, hall: &Hall<K, T>) -> (Pass<K, T>, Option<Granted<K, T>>)
         requires table { self.seat.table_id ≡ hall.now.id }
         requires recorded { IsRecorded K.rules T.meaning home.Idle self }
         requires away { is_stay (Some self.choice) ≡ false }
-        ensures { GoesOutside K.rules T.meaning self result }
+        ensures { GoesOutside K.rules T.meaning self result.0 hall.now result.1 }
     {
         let Release {
             mut seat,
@@ -67,23 +68,24 @@ impl<K: Kind, T: Guarded> Release<K, T> {
             choice,
         } = self;
         let left = floor.left(number);
-        go_home(hall, &mut seat, floor, choice);
-        Pass {
+        let granted = go_home(hall, &mut seat, floor, choice);
+        let pass = Pass {
             badge: seat.into_badge(),
             of: PhantomData,
             number,
             left,
             calls,
             budget,
-        }
+        };
+        (pass, granted)
     }
 
-    /// The seat is parked inside the monitor.
-    pub(crate) fn go_inside(self, hall: &Hall<K, T>) -> Parked<K, T>
+    /// The seat is parked inside the monitor. Gives what it granted, too.
+    pub(crate) fn go_inside(self, hall: &Hall<K, T>) -> (Parked<K, T>, Option<Granted<K, T>>)
         requires table { self.seat.table_id ≡ hall.now.id }
         requires recorded { IsRecorded K.rules T.meaning home.Inner self }
         requires away { is_stay (Some self.choice) ≡ false }
-        ensures { GoesInside K.rules T.meaning self result }
+        ensures { GoesInside K.rules T.meaning self result.0 hall.now result.1 }
     {
         let Release {
             mut seat,
@@ -94,22 +96,23 @@ impl<K: Kind, T: Guarded> Release<K, T> {
             choice,
         } = self;
         let left = floor.left(number);
-        go_home(hall, &mut seat, floor, choice);
-        Parked {
+        let granted = go_home(hall, &mut seat, floor, choice);
+        let parked = Parked {
             seat,
             number,
             left,
             calls,
             budget,
             place: Place::Inner,
-        }
+        };
+        (parked, granted)
     }
 
-    /// The seat stays active where it was chosen itself, and else is parked inside.
-    pub(crate) fn go_on(self, hall: &Hall<K, T>) -> After<K, T>
+    /// The seat stays active where it was chosen itself, and else is parked inside. Gives what it granted, too.
+    pub(crate) fn go_on(self, hall: &Hall<K, T>) -> (After<K, T>, Option<Granted<K, T>>)
         requires table { self.seat.table_id ≡ hall.now.id }
         requires recorded { IsRecorded K.rules T.meaning home.Inner self }
-        ensures { GoesOnOrInside K.rules T.meaning self result }
+        ensures { GoesOnOrInside K.rules T.meaning self result.0 hall.now result.1 }
     {
         if is_stay(self.choice) {
             let Release {
@@ -120,14 +123,16 @@ impl<K: Kind, T: Guarded> Release<K, T> {
                 floor,
                 choice: _,
             } = self;
-            return After::Active(Active {
+            let active = Active {
                 seat,
                 number,
                 calls,
                 budget,
                 floor,
-            });
+            };
+            return (After::Active(active), None);
         }
-        After::Parked(self.go_inside(hall))
+        let (parked, granted) = self.go_inside(hall);
+        (After::Parked(parked), granted)
     }
 }

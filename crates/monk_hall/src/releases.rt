@@ -4,10 +4,12 @@ ghost use Rattle.std.specs.Prelude.{◌≡◌, ◌&&◌, false, true, Some};
 ghost use Rattle.monk_history.specs.Meaning.Events.{is_stay};
 ghost use Rattle.monk_world.specs.declared.home.Home.TheVariants as home;
 ghost use Rattle.monk_hall.specs.Calls.{GoesOut, HasPeeked, is_entry_known, peeks_of, wants_entry};
+ghost use Rattle.monk_hall.specs.Granting.{GrantsOut};
 ghost use Rattle.monk_hall.specs.Recorded.{HasRecorded};
 
 use crate::active::Active;
 use crate::after::After;
+use crate::granted::Granted;
 use crate::hall::Hall;
 use crate::parked::Parked;
 use crate::pass::Pass;
@@ -61,6 +63,14 @@ impl<K: Kind, T: Guarded> Active<K, T> {
         requires { self.hall ≡ hall.now.id }
         ensures { GoesOut K.rules T.meaning self (Event.Leave self.me.seat Next.Stay) pick result }
     {
+        hall.wake_granted(self.leave_quietly(hall, pick))
+    }
+
+    /// As `leave`, but wakes nobody: it gives out what it granted, which only a wake spends (`Granted`).
+    pub fn leave_quietly(self, hall: &Hall<K, T>, pick: Pick) -> (Pass<K, T>, Option<Granted<K, T>>)
+        requires { self.hall ≡ hall.now.id }
+        ensures { GrantsOut K.rules T.meaning self (Event.Leave self.me.seat Next.Stay) pick result.0 hall.now result.1 }
+    {
         let mut active = self;
         let known = active.look_for_entry(hall, true, pick);
         active.record_leave(pick, known).go_outside(hall)
@@ -83,6 +93,7 @@ impl<K: Conditional, T: Guarded> Active<K, T> {
     ghost use Rattle.monk_history.specs.Meaning.Events.{is_stay};
     ghost use Rattle.monk_world.specs.declared.home.Home.TheVariants as home;
     ghost use Rattle.monk_hall.specs.Calls.{ParksInside, is_entry_known};
+    ghost use Rattle.monk_hall.specs.Granting.{GrantsInside};
     ghost use Rattle.monk_hall.specs.Recorded.{HasRecorded};
 
     /// Waits on a condition variable until it is signalled, in at most four steps. The seat is parked inside. The
@@ -92,6 +103,21 @@ impl<K: Conditional, T: Guarded> Active<K, T> {
         requires cond { cond < self.me.setting.conds }
         requires left { length self.me.mine + 3 ≤ self.me.setting.budget }
         ensures { ParksInside K.rules T.meaning self (Event.Wait self.me.seat cond Next.Stay) pick result }
+    {
+        hall.wake_granted(self.wait_quietly(hall, cond, pick))
+    }
+
+    /// As `wait`, but wakes nobody: it gives out what it granted, which only a wake spends (`Granted`).
+    pub fn wait_quietly(
+        self,
+        hall: &Hall<K, T>,
+        cond: u8,
+        pick: Pick,
+    ) -> (Parked<K, T>, Option<Granted<K, T>>)
+        requires hall { self.hall ≡ hall.now.id }
+        requires cond { cond < self.me.setting.conds }
+        requires left { length self.me.mine + 3 ≤ self.me.setting.budget }
+        ensures { GrantsInside K.rules T.meaning self (Event.Wait self.me.seat cond Next.Stay) pick result.0 hall.now result.1 }
     {
         let mut active = self;
         let known = active.look_for_entry(hall, true, pick);
@@ -117,6 +143,7 @@ impl<K: Explicit, T: Guarded> Active<K, T> {
     ghost use Rattle.monk_world.specs.declared.home.Home.TheVariants as home;
     ghost use Rattle.monk_hall.specs.AfterCalls.{StaysOrParks};
     ghost use Rattle.monk_hall.specs.Calls.{KnowsForChoice};
+    ghost use Rattle.monk_hall.specs.Granting.{StaysOrGrants};
     ghost use Rattle.monk_hall.specs.Recorded.{HasRecorded};
 
     /// Signals a condition variable, in at most four steps. The first that waits on it becomes a waiter and the caller
@@ -128,6 +155,21 @@ impl<K: Explicit, T: Guarded> Active<K, T> {
         requires cond { cond < self.me.setting.conds }
         requires left { length self.me.mine + 3 ≤ self.me.setting.budget }
         ensures { StaysOrParks K.rules T.meaning self (Event.Signal self.me.seat cond Next.Stay) pick result }
+    {
+        hall.wake_granted(self.signal_quietly(hall, cond, pick))
+    }
+
+    /// As `signal`, but wakes nobody: it gives out what it granted, which only a wake spends (`Granted`).
+    pub fn signal_quietly(
+        self,
+        hall: &Hall<K, T>,
+        cond: u8,
+        pick: Pick,
+    ) -> (After<K, T>, Option<Granted<K, T>>)
+        requires hall { self.hall ≡ hall.now.id }
+        requires cond { cond < self.me.setting.conds }
+        requires left { length self.me.mine + 3 ≤ self.me.setting.budget }
+        ensures { StaysOrGrants K.rules T.meaning self (Event.Signal self.me.seat cond Next.Stay) pick result.0 hall.now result.1 }
     {
         let chooses = self.serves(cond);
         let mut active = self;
@@ -179,6 +221,7 @@ impl<K: ImmediateReturn, T: Guarded> Active<K, T> {
     ghost use Rattle.monk_history.specs.Meaning.Events.{is_stay};
     ghost use Rattle.monk_world.specs.declared.home.Home.TheVariants as home;
     ghost use Rattle.monk_hall.specs.Calls.{GoesOut, ParksInside, is_entry_known};
+    ghost use Rattle.monk_hall.specs.Granting.{GrantsInside, GrantsOut};
     ghost use Rattle.monk_hall.specs.Recorded.{HasRecorded};
 
     /// Signals a condition variable and leaves the monitor, in at most four steps. It leaves also where nobody waits on
@@ -187,6 +230,20 @@ impl<K: ImmediateReturn, T: Guarded> Active<K, T> {
         requires hall { self.hall ≡ hall.now.id }
         requires cond { cond < self.me.setting.conds }
         ensures { GoesOut K.rules T.meaning self (Event.SignalLeave self.me.seat cond Next.Stay) pick result }
+    {
+        hall.wake_granted(self.signal_leave_quietly(hall, cond, pick))
+    }
+
+    /// As `signal_leave`, but wakes nobody: it gives out what it granted, which only a wake spends (`Granted`).
+    pub fn signal_leave_quietly(
+        self,
+        hall: &Hall<K, T>,
+        cond: u8,
+        pick: Pick,
+    ) -> (Pass<K, T>, Option<Granted<K, T>>)
+        requires hall { self.hall ≡ hall.now.id }
+        requires cond { cond < self.me.setting.conds }
+        ensures { GrantsOut K.rules T.meaning self (Event.SignalLeave self.me.seat cond Next.Stay) pick result.0 hall.now result.1 }
     {
         let mut active = self;
         let known = active.look_for_entry(hall, true, pick);
@@ -219,6 +276,24 @@ impl<K: ImmediateReturn, T: Guarded> Active<K, T> {
         requires left { length self.me.mine + 3 ≤ self.me.setting.budget }
         ensures { ParksInside K.rules T.meaning self (Event.SignalWait self.me.seat cond wait_cond Next.Stay) pick result }
     {
+        hall.wake_granted(self.signal_wait_quietly(hall, cond, wait_cond, pick))
+    }
+
+    /// As `signal_wait`, but wakes nobody: it gives out what it granted, which only a wake spends (`Granted`).
+    pub fn signal_wait_quietly(
+        self,
+        hall: &Hall<K, T>,
+        cond: u8,
+        wait_cond: u8,
+        pick: Pick,
+    ) -> (Parked<K, T>, Option<Granted<K, T>>)
+        requires hall { self.hall ≡ hall.now.id }
+        requires cond { cond < self.me.setting.conds }
+        requires wait_cond { wait_cond < self.me.setting.conds }
+        requires left { length self.me.mine + 3 ≤ self.me.setting.budget }
+        ensures { GrantsInside K.rules T.meaning self (Event.SignalWait self.me.seat cond wait_cond Next.Stay) pick
+            result.0 hall.now result.1 }
+    {
         let mut active = self;
         let known = active.look_for_entry(hall, true, pick);
         active
@@ -249,6 +324,7 @@ impl<K: Automatic, T: Guarded> Active<K, T> {
     ghost use Rattle.monk_world.specs.declared.home.Home.TheVariants as home;
     ghost use Rattle.monk_hall.specs.AfterCalls.{StaysOrParks};
     ghost use Rattle.monk_hall.specs.Calls.{KnowsForChoice};
+    ghost use Rattle.monk_hall.specs.Granting.{StaysOrGrants};
     ghost use Rattle.monk_hall.specs.Recorded.{HasRecorded};
 
     /// Waits until a predicate holds of the data, in at most four steps. Where it holds at once the seat stays active
@@ -259,6 +335,21 @@ impl<K: Automatic, T: Guarded> Active<K, T> {
         requires pred { pred < T.PREDICATES }
         requires left { length self.me.mine + 3 ≤ self.me.setting.budget }
         ensures { StaysOrParks K.rules T.meaning self (Event.Until self.me.seat pred Next.Stay) pick result }
+    {
+        hall.wake_granted(self.until_quietly(hall, pred, pick))
+    }
+
+    /// As `until`, but wakes nobody: it gives out what it granted, which only a wake spends (`Granted`).
+    pub fn until_quietly(
+        self,
+        hall: &Hall<K, T>,
+        pred: u8,
+        pick: Pick,
+    ) -> (After<K, T>, Option<Granted<K, T>>)
+        requires hall { self.hall ≡ hall.now.id }
+        requires pred { pred < T.PREDICATES }
+        requires left { length self.me.mine + 3 ≤ self.me.setting.budget }
+        ensures { StaysOrGrants K.rules T.meaning self (Event.Until self.me.seat pred Next.Stay) pick result.0 hall.now result.1 }
     {
         let chooses = !self.holds(pred);
         let mut active = self;

@@ -1,11 +1,11 @@
-//! One function for each kind of step, and nothing else in it. The calls of the tokens are made of these.
+//! One function for each kind of step, and nothing else in it. The calls of the tokens are made of these. Steps 7 and 8
+//! stand in `granted`.
 ghost use Rattle.std.specs.Prelude.{◌≡◌, ◌+◌, ◌<◌, ◌≤◌, [], ◌∷◌, Some, None, length};
-ghost use Rattle.monk_history.specs.Meaning.Counts.{granted_of};
-ghost use Rattle.monk_world.specs.Places.{stage, ticket, back_turn, due_to, ticketed_stage, due_stage, active_stage};
-ghost use Rattle.monk_world.specs.Places.{passing_stage, inside_stage};
+ghost use Rattle.monk_world.specs.Places.{stage, ticket, ticketed_stage, due_stage, active_stage};
+ghost use Rattle.monk_world.specs.Places.{inside_stage};
 ghost use Rattle.monk_history.specs.declared.event.Next.{Next};
 ghost use Rattle.monk_world.specs.declared.place.Place.TheVariants.{Idle, Back};
-ghost use Rattle.monk_hall.specs.Changes.{record_after_floor_out, record_after_floor_in, home_at, record_after_grant};
+ghost use Rattle.monk_hall.specs.Changes.{record_after_floor_out, record_after_floor_in, home_at};
 ghost use Rattle.monk_hall.specs.Floors.{Finds};
 ghost use Rattle.monk_hall.specs.Layout.{ticket_word, seat_word};
 ghost use Rattle.monk_hall.specs.Records.{IsOne, the};
@@ -13,8 +13,7 @@ ghost use Rattle.monk_hall.specs.Tells.{TellsArrive, TellsTicketLook, TellsSeatL
 
 use crate::boxed_floor::BoxedFloor;
 use crate::plays::{
-    ArriveStep, DropStep, FloorInStep, FloorOutStep, GrantStep, PeekStep, SeatLookStep,
-    TicketLookStep,
+    ArriveStep, DropStep, FloorInStep, FloorOutStep, PeekStep, SeatLookStep, TicketLookStep,
 };
 use crate::rule::{SharedTable, TableSeat};
 use monk_kinds::Kind;
@@ -145,43 +144,4 @@ pub(crate) fn drop_ticket<K: Kind, T: Guarded>(
     ensures step { TellsDrop seat.old.me result seat.new.me }
 {
     words.fetch_sub::<DropStep>(seat, 0, 1)
-}
-
-/// Step 7: grants the ticket that is next, in its place.
-pub(crate) fn ticket_grant<K: Kind, T: Guarded>(
-    words: &SharedTable<K, T>,
-    seat: &mut TableSeat<K, T>,
-    seats: u8,
-    number: u32,
-)
-    requires table { IsOfTable seat.old words.now.table_id words.now.key.seats }
-    requires seats { (seats ≡ words.now.key.seats) × (0 < seats) }
-    requires passing { IsOne seat.old.me.0 × (stage (the seat.old.me.0).place ≡ passing_stage)
-        × (number ≡ ticket (the seat.old.me.0).place) }
-    ensures table { IsSameSeat seat.old seat.new }
-    ensures step { seat.new.me ≡ (record_after_grant (the seat.old.me.0) ∷ [], seat.old.me.1) }
-{
-    let place = ticket_word(seats, number);
-    words.store::<GrantStep>(seat, place, number as u64 + 1);
-    words.wake_one(place);
-}
-
-/// Step 8: calls the seat that it chose, in that seat's place, which from now on has `calls`: how many events have
-/// chosen that seat from a queue.
-pub(crate) fn seat_grant<K: Kind, T: Guarded>(
-    words: &SharedTable<K, T>,
-    seat: &mut TableSeat<K, T>,
-    called: u8,
-    calls: u32,
-)
-    requires table { IsOfTable seat.old words.now.table_id words.now.key.seats }
-    requires near { called < words.now.key.seats }
-    requires back { IsOne seat.old.me.0 × (back_turn (the seat.old.me.0).place ≡ due_to called)
-        × (calls ≡ granted_of (the seat.old.me.0).seen called) }
-    ensures table { IsSameSeat seat.old seat.new }
-    ensures step { seat.new.me ≡ (record_after_grant (the seat.old.me.0) ∷ [], seat.old.me.1) }
-{
-    let place = seat_word(called);
-    words.store::<GrantStep>(seat, place, calls as u64);
-    words.wake_one(place);
 }

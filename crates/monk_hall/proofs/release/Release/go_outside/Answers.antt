@@ -4,6 +4,7 @@ use Rattle.monk_floor.specs.View.{FloorView}
 use Rattle.monk_world.specs.declared.home.Home.{Home}
 use Rattle.monk_world.specs.declared.home.Home.TheVariants as home
 use Rattle.monk_world.specs.declared.place.Place.TheVariants.{Idle}
+use Rattle.monk_hall.specs.Granting.{IsGrantFor}
 use Rattle.monk_hall.specs.Handing.{HasGone}
 use Rattle.monk_hall.specs.Records.{View, the}
 use Rattle.monk_hall.specs.Tells.{SeesTruly}
@@ -12,26 +13,26 @@ use Rattle.monk_hall.proofs.HandingLaws.{gone_rests, home_is}
 use Rattle.monk_hall.proofs.ReleaseLaws.{has_released, released_of}
 use Rattle.monk_hall.proofs.release.Release.go_outside.Goals as goal
 
-pub go_home-requires-clause-released : goal.go_home-requires-clause-released
-go_home-requires-clause-released g c κs within = let x = c.requires.recorded.recorded in
+pub go_home-granted-requires-clause-released : goal.go_home-granted-requires-clause-released
+go_home-granted-requires-clause-released g c κs within = let x = c.requires.recorded.recorded in
     (home.Idle, has_released x.holds x.release c.requires.away)
 
-pub go_home-requires-clause-out : goal.go_home-requires-clause-out
-go_home-requires-clause-out g c κs within = c.requires.recorded.recorded.holds.out
+pub go_home-granted-requires-clause-out : goal.go_home-granted-requires-clause-out
+go_home-granted-requires-clause-out g c κs within = c.requires.recorded.recorded.holds.out
 
-pub invariant_of-result : goal.invariant_of-result
-invariant_of-result g c =
+pub invariant_of-pass : goal.invariant_of-pass
+invariant_of-pass g c =
     let rec = c.requires.recorded.recorded in
     let x = has_released rec.holds rec.release c.requires.away in
-    let now = c.go_home.new.seat in let view = c.into_badge.ensures in
+    let now = c.go_home-granted.new.seat in let view = c.into_badge.ensures in
     let gone = subst (λ (to : Home). HasGone (the c.args.self.seat.me.0) c.args.self.floor.history to (the now.me.0))
-    (home_is x) c.go_home.ensures.gone in
+    (home_is x) c.go_home-granted.ensures.gone in
     let left = c.left-left.ensures ∙ ap (λ (f : FloorView). left_of f.budget f.history c.args.self.number) c.deref.ensures in
     let rests = gone_rests x rec.holds.seated left c.into_badge.result.table_id now.me
-    (view.0 ∙ c.go_home.ensures.table) gone c.go_home.ensures.view in
-    let views : c.into_badge.result.views ≡ (the now.me.0 ∷ []) ∷ [] = view.2 ∙ ap (λ m. m.0 ∷ []) c.go_home.ensures.view in
+    (view.0 ∙ c.go_home-granted.ensures.table) gone c.go_home-granted.ensures.view in
+    let views : c.into_badge.result.views ≡ (the now.me.0 ∷ []) ∷ [] = view.2 ∙ ap (λ m. m.0 ∷ []) c.go_home-granted.ensures.view in
     let has = subst (λ m. IsResting g.K.Kind.rules g.T.Guarded.meaning c.into_badge.result.table_id m c.args.self.number
-    c.left-left.result c.args.self.calls c.args.self.budget) c.go_home.ensures.view rests.0 in
+    c.left-left.result c.args.self.calls c.args.self.budget) c.go_home-granted.ensures.view rests.0 in
     subst (λ (vs : List View). (vs ≡ top vs ∷ [])
     × IsResting g.K.Kind.rules g.T.Guarded.meaning c.into_badge.result.table_id (top vs, []) c.args.self.number
     c.left-left.result c.args.self.calls c.args.self.budget × ((the (top vs)).place ≡ Idle)) (sym views)
@@ -41,11 +42,14 @@ pub returns : goal.returns
 returns g c a call wish known rec =
     let x = has_released rec.holds rec.release c.requires.away in
     let r = the c.args.self.seat.me.0 in
-    let now = c.go_home.new.seat in let view = c.into_badge.ensures in
-    let gone = subst (λ (to : Home). HasGone r c.args.self.floor.history to (the now.me.0)) (home_is x) c.go_home.ensures.gone in
+    let now = c.go_home-granted.new.seat in let view = c.into_badge.ensures in
+    let gone = subst (λ (to : Home). HasGone r c.args.self.floor.history to (the now.me.0)) (home_is x) c.go_home-granted.ensures.gone in
     let left = c.left-left.ensures ∙ ap (λ (f : FloorView). left_of f.budget f.history c.args.self.number) c.deref.ensures in
     let rests = gone_rests x rec.holds.seated left c.into_badge.result.table_id now.me
-    (view.0 ∙ c.go_home.ensures.table) gone c.go_home.ensures.view in
+    (view.0 ∙ c.go_home-granted.ensures.table) gone c.go_home-granted.ensures.view in
     let told = subst (λ (vs : List View). SeesTruly g.K.Kind.rules g.T.Guarded.meaning (the (top vs))) (sym view.2) rests.0.told in
     let at_home = subst (λ (vs : List View). HasGone r c.args.self.floor.history home.Idle (the (top vs))) (sym view.2) gone in
-    released_of call rec.holds rec.release c.requires.away _ (view.0 ∙ c.go_home.ensures.table) at_home told a rec.was
+    let granted = subst
+    (λ (vs : List View). IsGrantFor c.args.hall.now c.args.self.choice r.steps (the (top vs)).steps c.go_home-granted.result)
+    (sym view.2) c.go_home-granted.ensures.granted in
+    released_of call rec.holds rec.release c.requires.away _ (view.0 ∙ c.go_home-granted.ensures.table) at_home told _ _ granted a rec.was

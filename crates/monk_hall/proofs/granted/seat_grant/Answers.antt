@@ -1,0 +1,24 @@
+use Rattle.std.proofs.Common.{arith, ℕ, sym, subst}
+use Rattle.atomic_table.specs.Table.{Allows}
+use Rattle.monk_hall.specs.Rule.{IsHall, setting_of}
+use Rattle.monk_hall.specs.Tells.{TellsGrant}
+use Rattle.monk_hall.proofs.GrantSteps.{calls_seat}
+use Rattle.monk_hall.proofs.granted.seat_grant.Goals as goal
+
+pub store-requires : goal.store-requires
+store-requires g c =
+    let back = c.requires.back in
+    let sized = c.requires.table.1.0 in
+    let key = c.args.words.now.key in
+    let low = c.requires.near in (
+      c.requires.table.0,
+      (let e = c.seat_word-place.ensures in omega arith),
+      subst (λ (p : ℕ). Allows
+          (IsHall g.K.Kind.rules g.T.Guarded.meaning
+          (setting_of (g.T.Guarded.state key.opening.value) key.seats key.conds key.budget))
+          c.args.words.now.table_id.slots c.args.seat.now.id c.args.seat.now.me p (λ _. c.args.calls)
+          (λ _. TellsGrant c.args.seat.now.me c.args.calls)) (sym c.seat_word-place.ensures)
+          (calls_seat g.K.Kind.rules g.T.Guarded.meaning
+          (setting_of (g.T.Guarded.state key.opening.value) key.seats key.conds key.budget) g.K.Kind.is_kind _ _
+          c.args.seat.now.me back.0 c.args.called c.args.calls back.1 back.2),
+    )
