@@ -5,7 +5,7 @@ use Rattle.monk_kinds.specs.Names.{rules_named}
 use Rattle.monk_kinds.specs.declared.name.KindName.{KindName}
 use Rattle.monk_history.specs.Text.{Heading}
 use Rattle.monk_history.specs.declared.event.Event.{Event}
-use Rattle.monk_samples.specs.Runs.{HasRun, IsFaultOfRun}
+use Rattle.monk_samples.specs.Runs.{HasLeft, IsFaultOfRun}
 use Rattle.monk_samples.specs.Samples.{IsOutcome}
 use Rattle.monk_samples.specs.Totals.{HasTotals}
 use Rattle.monk_samples.specs.declared.run_fault.RunFault.{RunFault}
@@ -34,12 +34,12 @@ totals_text Shop t =
 abbrev pub lets_in : ℕ → ℕ → Bool → Type 0
 lets_in seat round answer = answer ≡ true
 
--- a run in which every seat has served to its end has left a legal history, and its totals are told: those of its seats and
--- rounds
+-- a run in which every seat has served to its end has left a legal history, and the totals of this history are told: those
+-- of its seats and rounds
 pub record IsTold (k : KindName) (sample : Sample) (seats rounds : ℕ) (Puts : List ℕ → Type 0) : Type 0 where
-  pub served : HasRun (rules_named k) lets_in sample seats rounds
   pub heading : Heading
   pub history : List Event
+  pub served : HasLeft (rules_named k) lets_in sample seats rounds history
   pub totals : List ℕ
   pub outcome : IsOutcome k sample seats heading history totals
   pub totals_are : HasTotals sample seats rounds totals

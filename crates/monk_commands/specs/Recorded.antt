@@ -4,18 +4,18 @@ use Rattle.monk_kinds.specs.Names.{rules_named}
 use Rattle.monk_kinds.specs.declared.name.KindName.{KindName}
 use Rattle.monk_history.specs.Text.{Heading, HasText, text}
 use Rattle.monk_history.specs.declared.event.Event.{Event}
-use Rattle.monk_samples.specs.Runs.{HasRun}
+use Rattle.monk_samples.specs.Runs.{HasLeft}
 use Rattle.monk_samples.specs.Samples.{IsOutcome}
 use Rattle.monk_samples.specs.Totals.{HasTotals}
 use Rattle.monk_samples.specs.declared.sample.Sample.{Sample}
 use Rattle.monk_commands.specs.Ran.{IsEnd, lets_in}
 
 -- a run in which every seat has served to its end has left a legal history with the totals of its seats and rounds, and the
--- text of that history is told
+-- text of the history that this run has left is told
 pub record IsRecorded (k : KindName) (sample : Sample) (seats rounds : ℕ) (Puts : List ℕ → Type 0) : Type 0 where
-  pub served : HasRun (rules_named k) lets_in sample seats rounds
   pub heading : Heading
   pub history : List Event
+  pub served : HasLeft (rules_named k) lets_in sample seats rounds history
   pub totals : List ℕ
   pub outcome : IsOutcome k sample seats heading history totals
   pub totals_are : HasTotals sample seats rounds totals

@@ -1,4 +1,4 @@
-ghost use Rattle.std.specs.Prelude.{◌≡◌};
+ghost use Rattle.std.specs.Prelude.{◌≡◌, ◌↔◌};
 ghost use Rattle.monk_commands.specs.declared.fault.StreamFault.TheVariants.{Memory};
 
 use std::alloc::AllocError;
@@ -7,12 +7,26 @@ use thiserror::Error;
 /// Why a stream gave no answer. Of what its writer had got by then nothing is said.
 #[derive(Clone, Copy, Debug, PartialEq, Eq, Error)]
 pub enum StreamFault {
-    /// A growth was refused.
+    /// A growth was refused: number 1.
     #[error("memory")]
     Memory,
-    /// The reader or the writer failed, or the input was longer than a stream reads.
+    /// The reader or the writer failed, or the input was longer than a stream reads; of a run, also where a thread was not
+    /// started: number 2.
     #[error("file")]
     File,
+}
+
+impl StreamFault {
+    /// The fault's number: 1 for `Memory`, 2 for `File`.
+    pub fn number(self) -> u8
+        ensures memory { (result ≡ 1) ↔ (self ≡ StreamFault.Memory) }
+        ensures file { (result ≡ 2) ↔ (self ≡ StreamFault.File) }
+    {
+        match self {
+            StreamFault::Memory => 1,
+            StreamFault::File => 2,
+        }
+    }
 }
 
 impl From<AllocError> for StreamFault {

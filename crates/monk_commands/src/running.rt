@@ -1,10 +1,10 @@
 //! The stream of a run: a sample at work in threads, an audit of what it left, and its totals.
 
-ghost use Rattle.std.specs.Prelude.{◌≡◌, ◌≢◌, ◌⊎◌, ◌↔◌, false, true, IfErr, IfOk, IsErrOf, OnOk, Some, string_bytes};
+ghost use Rattle.std.specs.Prelude.{◌≡◌, ◌≢◌, ◌⊎◌, ◌↔◌, false, true, IfErr, IfOk, IsErrOf, Some, string_bytes};
 ghost use Rattle.std.specs.Io.KnownBytes.{Appends};
 ghost use Rattle.monk_history.specs.Text.Device.{inner_of, has_failed};
 ghost use Rattle.monk_kinds.specs.Names.{rules_named};
-ghost use Rattle.monk_samples.specs.Runs.{HasRun, IsFaultOfRun};
+ghost use Rattle.monk_samples.specs.Runs.{HasLeft, IsFaultOfRun};
 ghost use Rattle.monk_samples.specs.Samples.{IsInRange, IsOutcome};
 ghost use Rattle.monk_samples.specs.Totals.{HasTotals};
 ghost use Rattle.monk_samples.specs.declared.sample.Sample.TheVariants as Sample;
@@ -33,7 +33,7 @@ pub(crate) fn run_named<R: Threads + Wait + Sync>(
     requires { IsInRange seats rounds }
     ensures outcome { IfOk result (λ o. IsOutcome kind sample seats o.header o.history.items o.totals) }
     ensures in_range { IsErrOf result RunFault.Range → ⊥ }
-    ensures served { OnOk result (HasRun (rules_named kind) lets_in sample seats rounds) }
+    ensures served { IfOk result (λ o. HasLeft (rules_named kind) lets_in sample seats rounds o.history.items) }
     ensures totals { IfOk result (λ o. HasTotals sample seats rounds o.totals) }
     ensures fault { IfErr result (IsFaultOfRun (rules_named kind) lets_in sample seats rounds) }
 {

@@ -1,5 +1,6 @@
 mod TrailLaws
 mod StyleLaws
+mod ShortLaws
 mod VisitLaws
 mod RoundLaws
 mod EndLaws

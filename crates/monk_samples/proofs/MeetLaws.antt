@@ -28,7 +28,8 @@ use Rattle.monk_samples.specs.Crews.{IsOf}
 use Rattle.monk_samples.specs.Ends.{HaveServed}
 use Rattle.monk_samples.specs.Runs.{IsFirstSpent}
 use Rattle.monk_samples.specs.Styles.{IsSpent}
-use Rattle.monk_samples.specs.Wholes.{IsSame, AreSame, HoldsOperationsOf}
+use Rattle.monk_samples.specs.Trails.{is_coming}
+use Rattle.monk_samples.specs.Wholes.{IsSame, AreSame, HoldsOperationsOf, IsLeftBy}
 use Rattle.monk_samples.specs.declared.sample.Sample.{Sample}
 use Rattle.monk_samples.proofs.TrailLaws.{starts_here, starts_then}
 use Rattle.monk_samples.proofs.WholeLaws.{of_event, acts_worth}
@@ -201,3 +202,44 @@ pub only_here : (h g : List Event) (s seat : ℕ) (qs rs : List Token) (b : Bool
     → s ≡ seat → rs ≡ qs → HoldsOnly h seat qs
 only_here h g s seat qs rs b tells is same here those =
     subst (λ xs. HoldsOnly xs seat qs) same (subst (λ x. HoldsOnly g x qs) here (subst (HoldsOnly g s) those (tells.0 is)))
+
+-- whoever closes comes in first
+pub came_comes : (s : ℕ) (x : Source) (t : Turn) → is_coming (out_event s x t) ≡ true
+came_comes s (Free n) t = refl
+came_comes s (Granted n) t = refl
+came_comes s Called t = refl
+
+pub closed_ends : (h at seen : List Event) (e : Event) (s u : ℕ) → h ≡ at ++ Leave s Entry ∷ [] → at ≡ seen ++ e ∷ [] → s ≡ u
+    → h ≡ seen ++ e ∷ Leave u Entry ∷ []
+closed_ends h at seen e s u closed came same =
+    closed ∙ ap (λ xs. xs ++ Leave s Entry ∷ []) came ∙ append_assoc seen (e ∷ []) (Leave s Entry ∷ [])
+    ∙ ap (λ n. seen ++ e ∷ Leave n Entry ∷ []) same
+
+own_back : (h : List Event) (ps qs : List Token) → AreSame ps qs → All (λ q. events_of h q.me.seat ≡ q.me.mine) qs
+    → All (λ p. events_of h p.me.seat ≡ p.me.mine) ps
+own_back h [] [] s own = All-nil (λ p. events_of h p.me.seat ≡ p.me.mine)
+own_back h [] (q ∷ qs) s own = absurd s
+own_back h (p ∷ ps) [] s own = absurd s
+own_back h (p ∷ ps) (q ∷ qs) s own =
+    All-cons (λ p. events_of h p.me.seat ≡ p.me.mine) p ps
+    (ap (events_of h) (sym s.0.seat) ∙ All-head (λ r. events_of h r.me.seat ≡ r.me.mine) q qs own ∙ s.0.mine)
+    (own_back h ps qs s.1 (All-tail (λ r. events_of h r.me.seat ≡ r.me.mine) q qs own))
+
+-- what these passes left, whose seats have met
+pub left_by : (h before : List Event) (e : Event) (ps : List Token) (q : Token) (qs : List Token) → AreSame ps (q ∷ qs)
+    → is_coming e ≡ true → h ≡ before ++ e ∷ Leave q.me.seat Entry ∷ []
+    → events_of h q.me.seat ≡ q.me.mine ++ e ∷ Leave q.me.seat Entry ∷ [] → HoldsOnly h q.me.seat qs
+    → All (λ p. StartsWith h p.me.seen) ps → IsLeftBy h ps
+left_by h before e [] q qs same comes ends own only seen = absurd same
+left_by h before e (p ∷ ps) q qs same comes ends own only seen = (
+  record {
+    before = before;
+    came = e;
+    comes = comes;
+    ends = subst (λ n. h ≡ before ++ e ∷ Leave n Entry ∷ []) same.0.seat ends;
+    own = ap (events_of h) (sym same.0.seat) ∙ own
+        ∙ (λ i. same.0.mine i ++ e ∷ Leave (same.0.seat i) Entry ∷ []);
+  },
+  own_back h ps qs same.1 only.own,
+  seen,
+)

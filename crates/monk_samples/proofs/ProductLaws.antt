@@ -19,7 +19,7 @@ use Rattle.monk_hall.specs.Tokens.{House, Token, tokens}
 use Rattle.monk_hall.specs.declared.setting.Setting.{Setting}
 use Rattle.monk_samples.specs.Ends.{HaveServed}
 use Rattle.monk_samples.specs.Rounds.{HasServed}
-use Rattle.monk_samples.specs.Totals.{HasTotals, totals_of}
+use Rattle.monk_samples.specs.Totals.{HasEnded, HasTotals, totals_of}
 use Rattle.monk_samples.specs.Wholes.{HoldsOperationsOf}
 use Rattle.monk_samples.specs.declared.end.End.TheVariants.{Done}
 use Rattle.monk_samples.specs.declared.sample.Sample.{Sample}
@@ -122,8 +122,11 @@ module _ (k : Rules) (answers : ℕ → ℕ → Bool → Type 0) (seats rounds :
       λ i. puts i ∷ items i ∷ takes i ∷ taken i ∷ []
 
   pub book_totals : HaveServed k book_meaning answers Book seats rounds house (tokens z (opening_records c seats 0)) qs
-      → HasTotals Book seats rounds (totals_of Book h)
-  book_totals served = (reads_are served, writes_are served)
+      → HasEnded Book h → HasTotals Book seats rounds (totals_of Book h)
+  book_totals served ended =
+      let reads = reads_are served in let writes = writes_are served in
+      let read = ended.0 ∙ reads in let written = ended.1 ∙ writes in
+      λ i. reads i ∷ read i ∷ writes i ∷ written i ∷ []
 
   pub shop_totals : 1 ≤ seats → HaveServed k shop_meaning answers Shop seats rounds house (tokens z (opening_records c seats 0)) qs
       → (size : ℕ) (state : List ℕ) → ServesEachOne size state (acts_in h) → HasTotals Shop seats rounds (totals_of Shop h)

@@ -4,14 +4,16 @@ use Rattle.std.proofs.lemmas.List.Elements.{All-cons, All-nil}
 use Rattle.atomic_table.specs.Seated.{TableId}
 use Rattle.monk_kinds.specs.declared.mode.Rules.{Rules}
 use Rattle.monk_object.specs.Names.{meaning_named}
+use Rattle.monk_history.specs.declared.event.Event.{Event}
 use Rattle.monk_hall.specs.Records.{first_view, opening_records}
 use Rattle.monk_hall.specs.Tokens.{House, Token, tokens}
 use Rattle.monk_hall.specs.declared.setting.Setting.{Setting}
 use Rattle.monk_samples.specs.Crews.{IsOf}
 use Rattle.monk_samples.specs.Ends.{HaveServed, HasEndedFirst, IsFaultOfCrew}
 use Rattle.monk_samples.specs.Faults.{run_fault_of}
-use Rattle.monk_samples.specs.Runs.{HasRun, HasStopped, IsFaultOfRun, IsFirstSpent, run_setting}
+use Rattle.monk_samples.specs.Runs.{HasLeft, HasRun, HasStopped, IsFaultOfRun, IsFirstSpent, run_setting}
 use Rattle.monk_samples.specs.Samples.{sample_object}
+use Rattle.monk_samples.specs.Wholes.{IsLeftBy}
 use Rattle.monk_samples.specs.declared.crew_fault.CrewFault.{CrewFault}
 use Rattle.monk_samples.specs.declared.crew_fault.CrewFault.TheVariants as crew
 use Rattle.monk_samples.specs.declared.end.End.{End}
@@ -60,6 +62,11 @@ module _ (k : Rules) (answers : ℕ → ℕ → Bool → Type 0) (sample : Sampl
           (tokens h.id (first_view (run_setting k sample seats rounds))) qs)
           c (subst (λ (ps : List Token). Served h ps qs) passes_are s);
     }
+
+    pub has_left : (qs : List Token) (history : List Event) → Served h made qs → IsLeftBy history qs
+        → HasLeft k answers sample seats rounds history
+    unfolding has_run
+    has_left qs history s left = record { run = has_run qs s; left = left }
 
     stopped : (end : End) → HasEndedFirst k (meaning_named (sample_object sample)) answers sample seats rounds made end
         → HasStopped k answers sample seats rounds end

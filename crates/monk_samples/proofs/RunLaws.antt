@@ -1,7 +1,7 @@
 -- What a run rests on: lists of workers and threads, a hall's passes, and the header of a closed hall
 use Rattle.std.proofs.Common.{◌≡◌, ℕ, zero, suc, ◌+◌, ◌*◌, ◌^◌, ◌≤◌, Bool, true, false, cond, All, Result, Ok, Err}
-use Rattle.std.specs.Prelude.{IsErrAnd, IsTrue}
-use Rattle.std.proofs.Common.{IfErr, IfOk, OnOk, List, [], ◌∷◌, ◌++◌, map, length, refl, sym, ap, subst}
+use Rattle.std.specs.Prelude.{IsErrAnd, IsOkAnd, IsTrue}
+use Rattle.std.proofs.Common.{IfErr, IfOk, List, [], ◌∷◌, ◌++◌, map, length, refl, sym, ap, subst}
 use Rattle.std.proofs.Common.{◌∙◌, arith}
 use Rattle.std.proofs.lemmas.Bool.{false≢true}
 use Rattle.std.proofs.Math.Nat.{mul-le-mul_right}
@@ -150,13 +150,16 @@ pub if_ok : {A E : Type 0} (r : Result A E) (P Q : A → Type 0) → ((a : A) �
 if_ok (Ok a) P Q f h = f a h
 if_ok (Err e) P Q f h = h
 
-pub if_then : {A E : Type 0} (r : Result A E) (Q : Type 0) → Q → OnOk r Q
-if_then (Ok a) Q q = q
-if_then (Err e) Q q = tt
-
 pub if_fault : {A E : Type 0} (r : Result A E) (P Q : E → Type 0) → ((e : E) → P e → Q e) → IfErr r P → IfErr r Q
 if_fault (Ok a) P Q f h = h
 if_fault (Err e) P Q f h = f e h
+
+-- what is so of the history is so of the outcome that has it
+pub left_told : {A B E F X : Type 0} (r : Result A E) (s : Result B F) (f : A → X) (g : B → X) (P : X → Type 0)
+    → IfOk r (λ a. IsOkAnd s (λ b. g b ≡ f a)) → IfOk s (λ b. P (g b)) → IfOk r (λ a. P (f a))
+left_told (Ok a) (Ok b) f g P same left = subst P same left
+left_told (Ok a) (Err e) f g P same left = absurd same
+left_told (Err e) s f g P same left = tt
 
 -- the fault that a run tells is its crew's
 pub crew_told : {A B E F : Type 0} (r : Result A E) (s : Result B F) (of : F → E) (P : E → Type 0)
@@ -168,3 +171,8 @@ crew_told (Err e) (Err f) of P told why = subst P (sym told) why
 pub if_both : {A E : Type 0} (r : Result A E) (P Q R : A → Type 0) → ((a : A) → P a → Q a → R a) → IfOk r P → IfOk r Q → IfOk r R
 if_both (Ok a) P Q R f p q = f a p q
 if_both (Err e) P Q R f p q = tt
+
+pub if_three : {A E : Type 0} (r : Result A E) (P Q R S : A → Type 0) → ((a : A) → P a → Q a → R a → S a)
+    → IfOk r P → IfOk r Q → IfOk r R → IfOk r S
+if_three (Ok a) P Q R S f p q r = f a p q r
+if_three (Err e) P Q R S f p q r = tt

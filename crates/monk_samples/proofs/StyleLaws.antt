@@ -1,13 +1,16 @@
 -- What the calls of each style come to
-use Rattle.std.proofs.Common.{◌≡◌, ℕ, ◌+◌, ◌<◌, ◌≤◌, [], ◌∷◌, length, length-append, refl, sym, ap, subst, ◌∙◌, arith}
+use Rattle.std.proofs.Common.{◌≡◌, ℕ, ◌+◌, ◌-◌, ◌<◌, ◌≤◌, cond, [], ◌∷◌, ◌++◌, length, length-append, eq-eqb, refl, sym, ap, subst}
+use Rattle.std.proofs.Common.{◌∙◌, arith}
 use Rattle.monk_kinds.specs.declared.mode.Pick.TheVariants.{Waiter}
 use Rattle.monk_kinds.specs.declared.mode.Mode.TheVariants.{Automatic, ImmediateReturn}
 use Rattle.monk_kinds.specs.declared.mode.Rules.{Rules}
 use Rattle.monk_object.specs.Object.{Object}
+use Rattle.monk_history.specs.Meaning.Counts.{events_of}
 use Rattle.monk_history.specs.Meaning.Release.{with_next}
 use Rattle.monk_history.specs.declared.event.Event.{Event}
 use Rattle.monk_history.specs.declared.event.Event.TheVariants.{Leave, SignalLeave}
 use Rattle.monk_history.specs.declared.event.Next.TheVariants.{Stay}
+use Rattle.monk_history.proofs.PublicLaws.Meaning.{length-events_of-push}
 use Rattle.monk_world.specs.declared.home.Home.{Home}
 use Rattle.monk_hall.specs.AfterCalls.{MatchAfter}
 use Rattle.monk_hall.specs.Calls.{HasEntered, HasReleased, HasStayed}
@@ -27,6 +30,17 @@ out_automatic k s c e = rw e refl
 
 pub out_at_once : (k : Rules) (s c : ℕ) → k.mode ≡ ImmediateReturn → way_out k s c ≡ SignalLeave s c Stay ∷ []
 out_at_once k s c e = rw e refl
+
+one_less : (n m : ℕ) → n + 1 ≡ m + 1 → n ≡ m
+one_less n m e = omega (arith, e)
+
+-- the events left by the history are those by what the seat knows as its own
+short_left : (budget n m needed : ℕ) → n ≡ m → budget < m + needed → 1 ≤ needed → budget - n < needed
+short_left budget n m needed same short some = omega (arith, same, short, some)
+
+-- with three events left at most, and one made, one is left at most
+spent_by : (budget rest n m needed : ℕ) → rest ≡ budget → m ≡ n + 1 → budget < n + needed → needed ≤ 3 → rest ≤ m + 1
+spent_by budget rest n m needed same more short few = omega (arith, same, more, short, few)
 
 module _ (k : Rules) (o : Object) where
   -- a seat that released inside, and came in again
@@ -64,15 +78,38 @@ module _ (k : Rules) (o : Object) where
       → HasGoneBy k o a (Leave a.me.seat Stay ∷ []) p
   left a to peeks p r = gone a (Leave a.me.seat Stay) to peeks p (λ x. (refl, refl, refl)) r
 
-  pub given_up : (a : Holder) (to : Home) (peeks : ℕ) (p : Token)
-      → HasReleased k o a (Leave a.me.seat Stay) Waiter to peeks p → a.me.setting.budget < length a.me.mine + 3
-      → HasGivenUp k o a p
-  given_up a to peeks p r short = record {
-    short = short;
-    gone = left a to peeks p r;
-    spent = let more = ap length r.mine ∙ length-append a.me.mine (with_next r.choice (Leave a.me.seat Stay) ∷ []) in
-        let same = ap (λ s. s.budget) r.setting in omega arith;
-  }
+  -- a seat that leaves finds all that it has made in its floor's history
+  own_counted : (a : Holder) (to : Home) (peeks : ℕ) (p : Token) → HasReleased k o a (Leave a.me.seat Stay) Waiter to peeks p
+      → length (events_of a.floor.history a.me.seat) ≡ length a.me.mine
+  own_counted a to peeks p r =
+      let e = with_next r.choice (Leave a.me.seat Stay) in let s = a.me.seat in
+      let all : length (events_of (a.floor.history ++ e ∷ []) s) ≡ length (a.me.mine ++ e ∷ []) =
+      (λ i. length (events_of (sym r.seen i) (sym r.seat i))) ∙ ap length r.told.own ∙ ap length r.mine in
+      let here : length (events_of (a.floor.history ++ e ∷ []) s) ≡ length (events_of a.floor.history s) + 1 =
+      length-events_of-push a.floor.history e s
+      ∙ ap (λ b. length (events_of a.floor.history s) + cond b 1 0) (eq-eqb s s refl) in
+      one_less (length (events_of a.floor.history s)) (length a.me.mine)
+      (sym here ∙ all ∙ length-append a.me.mine (e ∷ []))
+
+  -- a seat that left with too few events left, of which it needs one at least and three at most
+  pub given_up : (a : Holder) (to : Home) (peeks : ℕ) (p : Token) (needed : ℕ)
+      → HasReleased k o a (Leave a.me.seat Stay) Waiter to peeks p → a.me.setting.budget < length a.me.mine + needed
+      → 1 ≤ needed → needed ≤ 3 → HasGivenUp k o needed a p
+  given_up a to peeks p needed r short some few =
+      let one = released k o a (Leave a.me.seat Stay) to peeks p (λ x. (refl, refl, refl)) r in record {
+        short = short_left a.me.setting.budget (length (events_of a.floor.history a.me.seat)) (length a.me.mine) needed
+            (own_counted a to peeks p r) short some;
+        counted = short;
+        leave = one.0;
+        called = one.1;
+        is = one.2;
+        at = one.3;
+        floor = r.floor;
+        spent = spent_by a.me.setting.budget p.me.setting.budget (length a.me.mine) (length p.me.mine) needed
+            (ap (λ s. s.budget) r.setting)
+            (ap length r.mine ∙ length-append a.me.mine (with_next r.choice (Leave a.me.seat Stay) ∷ [])) short few;
+        told = r.told;
+      }
 
   -- a call after which the seat is active, and a leave
   pub called_out : (a : Holder) (call : Event) (b : Holder) (to : Home) (peeks : ℕ) (p : Token)

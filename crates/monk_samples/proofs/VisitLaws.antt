@@ -1,7 +1,7 @@
 -- What a visit of a member comes to
 use Rattle.std.proofs.Common.{◌≡◌, ℕ, Bool, true, false, cond, Option, Some, None, List, [], ◌∷◌, ◌++◌}
 use Rattle.std.proofs.Common.{append-nil, append_assoc}
-use Rattle.std.proofs.Common.{refl, sym, ap, subst, ◌∙◌, inl, inr}
+use Rattle.std.proofs.Common.{◌≤◌, refl, sym, ap, subst, ◌∙◌, inl, inr}
 use Rattle.std.proofs.lemmas.Grind.{flat_map-append}
 use Rattle.std.proofs.lemmas.List.{map-append}
 use Rattle.monk_kinds.specs.declared.mode.Rules.{Rules}
@@ -19,17 +19,17 @@ use Rattle.monk_floor.specs.View.{monitor_of}
 use Rattle.monk_world.specs.State.{with_event}
 use Rattle.monk_hall.specs.Calls.{HasDone}
 use Rattle.monk_hall.specs.Layout.{floor_of}
-use Rattle.monk_hall.specs.Tells.{SeesTruly}
 use Rattle.monk_hall.specs.Tokens.{Token, Holder}
 use Rattle.monk_hall.specs.declared.setting.Setting.{Setting}
 use Rattle.monk_samples.specs.Asked.{AreCalls, IsCall}
-use Rattle.monk_samples.specs.Styles.{HasFinished, HasGivenUp, HasGoneOut, HasPaused, IsSpent, pause_call, way_out}
-use Rattle.monk_samples.specs.Trails.{Addition, Trail, HasCalled, events_in, inside, outside}
+use Rattle.monk_samples.specs.Styles.{HasFinished, HasGivenUp, HasGoneOut, HasPaused, pause_call, way_out}
+use Rattle.monk_samples.specs.Trails.{Addition, Trail, HasCalled, after, events_in, inside, outside}
 use Rattle.monk_samples.specs.Visits.{Guard, Plan, ArePauses, HasPausedFor, IsCertain, IsLeftWaiting}
 use Rattle.monk_samples.specs.Visits.{IsUnready, AreVisits, HasVisited, HasTired, HasStayedOut, HasPausedUntil, HasActed}
-use Rattle.monk_samples.specs.Visits.{WayOut, Unsignalled, Signals, SignalsAll, SignalsAndWaits, calls_out, data_after}
+use Rattle.monk_samples.specs.Visits.{WayOut, Unsignalled, Signals, SignalsAll, SignalsAndWaits, calls_out, data_after, needed_yet}
 use Rattle.monk_samples.specs.declared.end.End.{End}
 use Rattle.monk_samples.specs.declared.end.End.TheVariants.{Done, Tired, Late}
+use Rattle.monk_samples.proofs.ShortLaws.{less_than, needs_two, short_out, short_yet}
 use Rattle.monk_samples.proofs.TrailLaws.{called_none, called_then, did, replied}
 
 module _ (k : Rules) (o : Object) where
@@ -94,24 +94,25 @@ module _ (k : Rules) (o : Object) where
   }
 
   -- a seat that paused, and left in place of what was next
-  pub left_after : (x : Trail) (w : Option Guard) (a : Holder) (q : Token) → HasPausedUntil k o x w a
-      → HasGivenUp k o a q → HasTired k o x (IsLeftWaiting k o x.setting x.seat w) q
-  left_after x w a q s t = left_by x w a q s t.gone.made t.gone.called t.gone.are t.spent t.gone.told
-    where
-      left_by : (x : Trail) (w : Option Guard) (a : Holder) (q : Token) → HasPausedUntil k o x w a → (made : List Addition)
-          → HasCalled (inside a) (outside q) made → AreCalls k o a.me.setting (Leave a.me.seat Stay ∷ []) made → IsSpent q
-          → SeesTruly k o q.me
-          → HasTired k o x (IsLeftWaiting k o x.setting x.seat w) q
-      left_by x w a q s [] called are spent told = absurd are
-      left_by x w a q s (d ∷ []) called are spent told =
-          let seat = s.called.went.seat in let setting = s.called.went.setting in record {
-            calls = s.pauses ++ d ∷ [];
-            called = called_then x (inside a) (outside q) s.pauses (d ∷ []) s.called called;
-            are = record { pauses = s.pauses; leave = d; are = refl; paused = s.paused; leaves = rw (seat, setting) at are.0 };
-            spent = spent;
-            told = told;
-          }
-      left_by x w a q s (d ∷ e ∷ ds) called are spent told = absurd are.1
+  pub left_after : (x : Trail) (w : Option Guard) (a : Holder) (q : Token) → HasPausedUntil k o x w a → (needed : ℕ)
+      → HasGivenUp k o needed a q → needed ≤ needed_yet k o a.me.setting w a.floor.history
+      → HasTired k o x (IsLeftWaiting k o x.setting x.seat w) q
+  left_after x w a q s needed t within =
+      let seat = s.called.went.seat in let setting = s.called.went.setting in record {
+        calls = s.pauses ++ t.leave ∷ [];
+        called = called_then x (inside a) (outside q) s.pauses (t.leave ∷ []) s.called t.called;
+        are = record {
+          pauses = s.pauses;
+          leave = t.leave;
+          are = refl;
+          paused = s.paused;
+          leaves = rw (seat, setting) at t.is;
+          short = short_yet k o w a.me.setting x.setting a.me.seat x.seat a.floor.history t.leave.before setting seat (sym t.at)
+              (less_than _ _ _ t.short within);
+        };
+        spent = t.spent;
+        told = t.told;
+      }
 
   -- a seat that paused, and was tired before it was done with pausing
   pub tired_after : (x : Trail) (w : Option Guard) (a : Holder) (q : Token) → HasPausedUntil k o x w a
@@ -125,6 +126,7 @@ module _ (k : Rules) (o : Object) where
       are = ap (λ ds. s.pauses ++ ds) t.are.are ∙ sym (append_assoc s.pauses t.are.pauses (t.are.leave ∷ []));
       paused = paused_for_then x.setting x.seat w s.pauses t.are.pauses s.paused (rw (seat, setting) at t.are.paused);
       leaves = rw (seat, setting) at t.are.leaves;
+      short = short_yet k o w a.me.setting x.setting a.me.seat x.seat t.are.leave.before t.are.leave.before setting seat refl t.are.short;
     };
     spent = t.spent;
     told = t.told;
@@ -142,6 +144,7 @@ module _ (k : Rules) (o : Object) where
       are = t.are.are;
       paused = subst (λ ds. HasPausedFor k o a.me.setting a.me.seat w ds) (sym t.are.paused) (paused_for_none a.me.setting a.me.seat w);
       leaves = t.are.leaves;
+      short = less_than _ _ _ t.are.short (needs_two k o a.me.setting w t.are.leave.before);
     };
     spent = t.spent;
     told = t.told;
@@ -281,31 +284,26 @@ module _ (k : Rules) (o : Object) where
         one_act (outside p) v.guard v.op reply a s a.me.setting (calls_out k a.me.seat (v.goes_out a.floor.history)) out.made out.are
             (calls_out_acts a.me.seat (v.goes_out a.floor.history)),
       )
-  gone_telling p v reply a q Tired s certain out = unsaid out.gone.made out.gone.called out.gone.are
-    where
-      unsaid : (made : List Addition) → HasCalled (inside a) (outside q) made
-          → AreCalls k o a.me.setting (Leave a.me.seat Stay ∷ []) made
-          → (visit : HasVisited k o p (v ∷ []) q Tired) × (acts_in (events_in visit.calls) ≡ record { op = v.op; reply = reply } ∷ [])
-      unsaid [] called are = absurd are
-      unsaid (d ∷ e ∷ ds) called are = absurd are.1
-      unsaid (d ∷ []) called are =
-          let seat = s.called.went.seat in let setting = s.called.went.setting in (
-            record {
-              calls = (s.pauses ++ s.act ∷ []) ++ d ∷ [];
-              called = called_then (outside p) (inside a) (outside q) (s.pauses ++ s.act ∷ []) (d ∷ []) s.called called;
-              are = inl (inr record {
-                pauses = s.pauses;
-                act = s.act;
-                leave = d;
-                are = append_assoc s.pauses (s.act ∷ []) (d ∷ []);
-                done = record { paused = s.paused; reply = reply; acts = s.acts; certain = certain };
-                leaves = rw (seat, setting) at are.0;
-              });
-              spent = λ e. out.spent;
-              told = out.gone.told;
-            },
-            one_act (outside p) v.guard v.op reply a s a.me.setting (Leave a.me.seat Stay ∷ []) (d ∷ []) are refl,
-          )
+  gone_telling p v reply a q Tired s certain out =
+      let seat = s.called.went.seat in let setting = s.called.went.setting in let d = out.leave in (
+        record {
+          calls = (s.pauses ++ s.act ∷ []) ++ d ∷ [];
+          called = called_then (outside p) (inside a) (outside q) (s.pauses ++ s.act ∷ []) (d ∷ []) s.called out.called;
+          are = inl (inr record {
+            pauses = s.pauses;
+            act = s.act;
+            leave = d;
+            are = append_assoc s.pauses (s.act ∷ []) (d ∷ []);
+            done = record { paused = s.paused; reply = reply; acts = s.acts; certain = certain };
+            leaves = rw (seat, setting) at out.is;
+            short = short_out k o v.goes_out a.me.setting p.me.setting a.me.seat p.me.seat a.floor.history d.before (after s.act)
+                setting seat (sym out.at) s.last out.short;
+          });
+          spent = λ e. out.spent;
+          told = out.told;
+        },
+        one_act (outside p) v.guard v.op reply a s a.me.setting (Leave a.me.seat Stay ∷ []) (d ∷ []) (out.is, tt) refl,
+      )
   gone_telling p v reply a q Late s certain out = absurd out
 
   pub visited_telling : (p : Token) (v : Plan) (reply : ℕ) (a : Holder) (q : Token) (end : End)

@@ -3,6 +3,7 @@ use Rattle.std.specs.Prelude.{ℕ, ◌⊎◌, Bool, List, [], ◌∷◌}
 use Rattle.atomic_table.specs.Seated.{TableId}
 use Rattle.monk_kinds.specs.declared.mode.Rules.{Rules}
 use Rattle.monk_object.specs.Names.{meaning_named, opening_named}
+use Rattle.monk_history.specs.declared.event.Event.{Event}
 use Rattle.monk_hall.specs.Records.{first_view}
 use Rattle.monk_hall.specs.Rule.{setting_of}
 use Rattle.monk_hall.specs.Tokens.{House, Token, tokens}
@@ -10,6 +11,7 @@ use Rattle.monk_hall.specs.declared.setting.Setting.{Setting}
 use Rattle.monk_samples.specs.Ends.{HaveServed, HasEndedFirst}
 use Rattle.monk_samples.specs.Samples.{sample_object, size, conds_of, budget_of}
 use Rattle.monk_samples.specs.Styles.{IsSpent}
+use Rattle.monk_samples.specs.Wholes.{IsLeftBy}
 use Rattle.monk_samples.specs.declared.end.End.{End}
 use Rattle.monk_samples.specs.declared.end.End.TheVariants.{Tired, Late}
 use Rattle.monk_samples.specs.declared.run_fault.RunFault.{RunFault}
@@ -40,6 +42,11 @@ module _ (k : Rules) (answers : ℕ → ℕ → Bool → Type 0) (sample : Sampl
     pub passes : List Token
     pub served : HaveServed k (meaning_named (sample_object sample)) answers sample seats rounds
         (run_house k sample seats rounds hall) (run_passes k sample seats rounds hall) passes
+
+  -- and this is the history that they have left
+  pub record HasLeft (history : List Event) : Type 0 where
+    pub run : HasRun
+    pub left : IsLeftBy history run.passes
 
   -- the lowest seat that did not serve to its end has ended so
   pub record HasStopped (end : End) : Type 0 where

@@ -4,14 +4,17 @@ use Rattle.atomic_table.specs.Seated.{TableId}
 use Rattle.monk_kinds.specs.declared.mode.Rules.{Rules}
 use Rattle.monk_object.specs.Object.{Object}
 use Rattle.monk_history.specs.Meaning.Conditions.{condition}
+use Rattle.monk_history.specs.Meaning.Counts.{left_of}
 use Rattle.monk_history.specs.Meaning.Events.{has_conditions, has_signaller_queue, returns_at_once}
 use Rattle.monk_history.specs.Meaning.Signallers.{is_empty}
 use Rattle.monk_history.specs.declared.event.Event.{Event}
-use Rattle.monk_history.specs.declared.event.Event.TheVariants.{Leave, Wait, Signal, SignalLeave, Until}
+use Rattle.monk_history.specs.declared.event.Event.TheVariants.{Enter, Act, Leave, Wait, Signal, SignalLeave, Until, Resume}
+use Rattle.monk_history.specs.declared.event.Event.TheVariants.{SignalAll, SignalWait}
 use Rattle.monk_history.specs.declared.event.Next.TheVariants.{Stay}
 use Rattle.monk_hall.specs.Layout.{floor_of}
 use Rattle.monk_hall.specs.Tells.{SeesTruly}
 use Rattle.monk_hall.specs.Tokens.{Token, Holder}
+use Rattle.monk_hall.specs.declared.setting.Setting.{Setting}
 use Rattle.monk_samples.specs.Asked.{IsCall, AreCalls}
 use Rattle.monk_samples.specs.Trails.{Addition, HasCalled, inside, outside}
 use Rattle.monk_samples.specs.declared.end.End.{End}
@@ -43,6 +46,35 @@ way_out k s c =
     else if returns_at_once k.mode then SignalLeave s c Stay ∷ []
     else Leave s Stay ∷ []
 
+-- how many events a seat has to have left for its next call: where it stays active, that one and one to leave by; where it
+-- may hand the monitor over, one more to come in again. A call by which it leaves is always left to it
+abbrev pub for_staying : ℕ
+for_staying = 2
+
+abbrev pub for_handing_over : ℕ
+for_handing_over = 3
+
+abbrev pub needed_for : Event → ℕ
+needed_for (Enter s via) = for_staying
+needed_for (Act s op r) = for_staying
+needed_for (SignalAll s c) = for_staying
+needed_for (Wait s c x) = for_handing_over
+needed_for (Signal s c x) = for_handing_over
+needed_for (SignalWait s c d x) = for_handing_over
+needed_for (Until s p x) = for_handing_over
+needed_for (Leave s x) = 0
+needed_for (SignalLeave s c x) = 0
+needed_for (Resume s q) = 0
+
+-- for the first of these calls
+abbrev pub needed_first : List Event → ℕ
+needed_first [] = 0
+needed_first (e ∷ es) = needed_for e
+
+-- fewer events are left to the seat after this history than it needs
+abbrev pub IsShort : Setting → ℕ → List Event → ℕ → Type 0
+IsShort c s h needed = left_of c.budget h s < needed
+
 -- at most one event is left to the seat of a token
 abbrev pub IsSpent : Token → Type 0
 IsSpent p = p.me.setting.budget ≤ length p.me.mine + 1
@@ -63,21 +95,27 @@ pub record HasGoneBy (k : Rules) (o : Object) (a : Holder) (calls : List Event) 
   pub are : AreCalls k o a.me.setting calls made
   pub told : SeesTruly k o p.me
 
--- the seat had fewer than three events left, and has left
-pub record HasGivenUp (k : Rules) (o : Object) (a : Holder) (p : Token) : Type 0 where
-  pub short : a.me.setting.budget < length a.me.mine + 3
-  pub gone : HasGoneBy k o a (Leave a.me.seat Stay ∷ []) p
+-- the seat had fewer events left than it needs for its next call, and has left in place of that
+pub record HasGivenUp (k : Rules) (o : Object) (needed : ℕ) (a : Holder) (p : Token) : Type 0 where
+  pub short : IsShort a.me.setting a.me.seat a.floor.history needed
+  pub counted : a.me.setting.budget < length a.me.mine + needed
+  pub leave : Addition
+  pub called : HasCalled (inside a) (outside p) (leave ∷ [])
+  pub is : IsCall k o a.me.setting (Leave a.me.seat Stay) leave
+  pub at : leave.before ≡ a.floor.history
+  pub floor : a.floor ≡ floor_of a.me.setting a.floor.history
   pub spent : IsSpent p
+  pub told : SeesTruly k o p.me
 
 -- the seat is out by these calls, or tired without them: only a kind with a signaller queue wants more than the event
 -- that is always kept for the way out
 abbrev pub HasFinished : Rules → Object → Holder → List Event → Token → End → Type 0
 HasFinished k o a calls p Done = HasGoneBy k o a calls p
-HasFinished k o a calls p Tired = (has_signaller_queue k.mode ≡ true) × HasGivenUp k o a p
+HasFinished k o a calls p Tired = (has_signaller_queue k.mode ≡ true) × HasGivenUp k o (needed_first calls) a p
 HasFinished k o a calls p Late = ⊥
 
 -- the same of a way out that not only such a kind has
 abbrev pub HasGoneOut : Rules → Object → Holder → List Event → Token → End → Type 0
 HasGoneOut k o a calls p Done = HasGoneBy k o a calls p
-HasGoneOut k o a calls p Tired = HasGivenUp k o a p
+HasGoneOut k o a calls p Tired = HasGivenUp k o (needed_first calls) a p
 HasGoneOut k o a calls p Late = ⊥

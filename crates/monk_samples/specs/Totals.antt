@@ -1,5 +1,5 @@
 -- The totals of a run, as its history has them
-use Rattle.std.specs.Prelude.{◌≡◌, ℕ, ◌+◌, ◌-◌, ◌*◌, ◌/◌, List, [], ◌∷◌, slice_index, sum}
+use Rattle.std.specs.Prelude.{◌≡◌, ℕ, ◌+◌, ◌-◌, ◌*◌, ◌/◌, List, [], ◌∷◌, sum}
 use Rattle.monk_object.specs.Book.{START_READ, END_READ, START_WRITE, END_WRITE}
 use Rattle.monk_object.specs.Buffer.{PUT, TAKE}
 use Rattle.monk_object.specs.Laws.{items_put, items_taken}
@@ -26,10 +26,17 @@ totals_of Buffer h = count_done PUT h ∷ sum_put h ∷ count_done TAKE h ∷ su
 totals_of Book h = count_done START_READ h ∷ count_done END_READ h ∷ count_done START_WRITE h ∷ count_done END_WRITE h ∷ []
 totals_of Shop h = count_done SIT h ∷ count_done CALL h ∷ count_done FINISH h ∷ count_done DEPART h ∷ []
 
--- what the totals of a run have to be, by its seats and rounds: of a book those of reads and writes that were begun
+-- of a book as many reads and writes were ended as were begun
+abbrev pub HasEnded : Sample → List Event → Type 0
+HasEnded Buffer h = Unit {0}
+HasEnded Book h = (count_done END_READ h ≡ count_done START_READ h) × (count_done END_WRITE h ≡ count_done START_WRITE h)
+HasEnded Shop h = Unit {0}
+
+-- what the totals of a run have to be, by its seats and rounds
 abbrev pub HasTotals : Sample → ℕ → ℕ → List ℕ → Type 0
 HasTotals Buffer seats rounds t =
     t ≡ seats / 2 * rounds ∷ seats / 2 * (rounds * (rounds + 1) / 2) ∷ seats / 2 * rounds ∷ seats / 2 * (rounds * (rounds + 1) / 2) ∷ []
-HasTotals Book seats rounds t = (slice_index t 0 ≡ seats / 2 * rounds) × (slice_index t 2 ≡ seats / 2 * rounds)
+HasTotals Book seats rounds t =
+    t ≡ seats / 2 * rounds ∷ seats / 2 * rounds ∷ seats / 2 * rounds ∷ seats / 2 * rounds ∷ []
 HasTotals Shop seats rounds t =
     t ≡ (seats - 1) * rounds ∷ (seats - 1) * rounds ∷ (seats - 1) * rounds ∷ (seats - 1) * rounds ∷ []

@@ -1,5 +1,5 @@
 -- What a member does in the monitor
-use Rattle.std.specs.Prelude.{◌≡◌, ℕ, ◌<◌, ◌⊎◌, true, false, Option, Some, None, List, [], ◌∷◌, ◌++◌}
+use Rattle.std.specs.Prelude.{◌≡◌, ℕ, ◌<◌, ◌⊎◌, true, false, Option, Some, None, List, [], ◌∷◌, ◌++◌, if◌then◌else◌}
 use Rattle.monk_kinds.specs.declared.mode.Rules.{Rules}
 use Rattle.monk_object.specs.Object.{Object}
 use Rattle.monk_object.specs.declared.op.Op.{Op}
@@ -13,7 +13,7 @@ use Rattle.monk_hall.specs.Tells.{SeesTruly}
 use Rattle.monk_hall.specs.Tokens.{Token, Holder}
 use Rattle.monk_hall.specs.declared.setting.Setting.{Setting}
 use Rattle.monk_samples.specs.Asked.{IsCall, AreCalls}
-use Rattle.monk_samples.specs.Styles.{IsSpent, pause_call, way_out}
+use Rattle.monk_samples.specs.Styles.{IsShort, IsSpent, for_handing_over, for_staying, needed_first, pause_call, way_out}
 use Rattle.monk_samples.specs.Trails.{Addition, Trail, HasCalled, after, inside, outside}
 use Rattle.monk_samples.specs.declared.end.End.{End}
 use Rattle.monk_samples.specs.declared.end.End.TheVariants.{Done, Tired, Late}
@@ -106,15 +106,23 @@ pub record IsVisit (k : Rules) (o : Object) (c : Setting) (s : ℕ) (v : Plan) (
   pub done : IsDone k o c s v pauses act
   pub goes : AreCalls k o c (calls_out k s (v.goes_out (after act))) out
 
--- these calls of seat s pause for this, and then it leaves
+-- what a seat needs for its next call where it has yet to act: for its operation, or while the predicate is false for its
+-- next pause
+abbrev pub needed_yet : Rules → Object → Setting → Option Guard → List Event → ℕ
+needed_yet k o c None h = for_staying
+needed_yet k o c (Some w) h = if o.holds (data_after k o c h) w.pred then for_staying else for_handing_over
+
+-- these calls of seat s pause for this, and then it leaves, with too few events left for its next pause or its operation
 pub record IsLeftWaiting (k : Rules) (o : Object) (c : Setting) (s : ℕ) (guard : Option Guard) (calls : List Addition) : Type 0 where
   pub pauses : List Addition
   pub leave : Addition
   pub are : calls ≡ pauses ++ leave ∷ []
   pub paused : HasPausedFor k o c s guard pauses
   pub leaves : IsCall k o c (Leave s Stay) leave
+  pub short : IsShort c s leave.before (needed_yet k o c guard leave.before)
 
--- they pause and do the operation, and then it leaves without a signal
+-- they pause and do the operation, and then it leaves without a signal, with too few events left for the first call of its
+-- way out: none is too few for a leave
 pub record IsLeftUnsaid (k : Rules) (o : Object) (c : Setting) (s : ℕ) (v : Plan) (calls : List Addition) : Type 0 where
   pub pauses : List Addition
   pub act : Addition
@@ -122,6 +130,7 @@ pub record IsLeftUnsaid (k : Rules) (o : Object) (c : Setting) (s : ℕ) (v : Pl
   pub are : calls ≡ pauses ++ act ∷ leave ∷ []
   pub done : IsDone k o c s v pauses act
   pub leaves : IsCall k o c (Leave s Stay) leave
+  pub short : IsShort c s leave.before (needed_first (calls_out k s (v.goes_out (after act))))
 
 -- the visit of a seat that was tired: it did not come in; or it left in place of its next pause or of its operation; or in
 -- place of its signal

@@ -1,5 +1,5 @@
 //! A run: a hall over the object of a sample, with a thread for each seat that works, closed when all have ended.
-ghost use Rattle.std.specs.Prelude.{◌≡◌, ◌≢◌, ◌↔◌, ◌⊎◌, ◌∷◌, ◌<◌, All, AllPairs, IfErr, IfOk, OnOk, IsErrAnd, IsErrOf, IsOk, length};
+ghost use Rattle.std.specs.Prelude.{◌≡◌, ◌≢◌, ◌↔◌, ◌⊎◌, ◌∷◌, ◌<◌, All, AllPairs, IfErr, IfOk, OnOk, IsErrAnd, IsErrOf, IsOkAnd, length};
 ghost use Rattle.monk_object.specs.declared.name.ObjectName.TheVariants as object;
 ghost use Rattle.monk_hall.specs.Floors.{StartsWith};
 ghost use Rattle.monk_hall.specs.Records.{first_view};
@@ -7,10 +7,10 @@ ghost use Rattle.monk_hall.specs.Rule.{setting_of};
 ghost use Rattle.monk_hall.specs.Tokens.{tokens};
 ghost use Rattle.monk_samples.specs.Crews.{AreReady, IsOf, IsClosed};
 ghost use Rattle.monk_samples.specs.Faults.{run_fault_of};
-ghost use Rattle.monk_samples.specs.Runs.{HasRun, IsFaultOfRun, IsFirstSpent};
+ghost use Rattle.monk_samples.specs.Runs.{HasLeft, IsFaultOfRun, IsFirstSpent};
 ghost use Rattle.monk_samples.specs.Samples.{IsHistoryOf, IsInRange, IsOutcome, budget_of, conds_of, run_heading};
-ghost use Rattle.monk_samples.specs.Totals.{HasTotals};
-ghost use Rattle.monk_samples.specs.Wholes.{AreSame, HoldsOperationsOf};
+ghost use Rattle.monk_samples.specs.Totals.{HasEnded, HasTotals};
+ghost use Rattle.monk_samples.specs.Wholes.{AreSame, HoldsOperationsOf, IsLeftBy};
 ghost use Rattle.monk_samples.specs.declared.crew_fault.CrewFault.TheVariants as crew;
 ghost use Rattle.monk_samples.specs.declared.sample.Sample.TheVariants as sample;
 
@@ -22,7 +22,7 @@ use crate::rota::Rota;
 use crate::run_fault::RunFault;
 use crate::sample::Sample;
 use crate::style::Style;
-use crate::totals::totals_of;
+use crate::totals::{has_ended, totals_of};
 use monk_floor::MakeFault;
 use monk_hall::{Busy, Hall, Pass, close, complete, meet};
 use monk_history::{Event, Header, writable};
@@ -48,12 +48,13 @@ const SIZE: u8 = 4;
 /// `Range`, and nothing is started; `Memory` where a growth was refused; `Thread` where a thread was not started, and
 /// then no worker has begun; the end of the lowest seat that did not end well, `Tired` or `Late`; `Tired` where the first
 /// seat has too little left to come in once more; `Busy` where the hall can't be closed, or its history holds more than
-/// these seats did. A worker that ends early may leave others waiting for good: then this does not return.
+/// these seats did, or of a book a read or a write that was not ended. A worker that ends early may leave others waiting
+/// for good: then this does not return.
 ///
 /// # Cost
 ///
 /// Memory for the budgets of all seats, `64 + rounds * (40 + 32 * seats)` events each, at once; two to four passes over
-/// the history for the totals.
+/// the history for the totals, and of a book four more.
 pub fn run<K: Style, R: Threads + Wait + Sync, G: Gate>(
     rt: &R,
     alloc: Global,
@@ -66,8 +67,9 @@ pub fn run<K: Style, R: Threads + Wait + Sync, G: Gate>(
     // The range is refused exactly where a number is out of it.
     ensures range { IsErrOf result RunFault.Range ↔ ((seats < 2) ⊎ (16 < seats) ⊎ (rounds < 1) ⊎ (1000 < rounds)) }
     ensures in_range { OnOk result (IsInRange seats rounds) }
-    // Each seat has served to its end, let in by the gate to each of its rounds; or why it has no outcome.
-    ensures served { OnOk result (HasRun K.rules (G.answers gate.now) sample seats rounds) }
+    // Each seat has served to its end, let in by the gate to each of its rounds, and the history is what they have left;
+    // or why it has no outcome.
+    ensures served { IfOk result (λ o. HasLeft K.rules (G.answers gate.now) sample seats rounds o.history.items) }
     ensures fault { IfErr result (IsFaultOfRun K.rules (G.answers gate.now) sample seats rounds) }
     // The totals are those of the seats and the rounds, whatever the kind and the schedule.
     ensures totals { IfOk result (λ o. HasTotals sample seats rounds o.totals) }
@@ -96,7 +98,7 @@ fn run_buffer<K: Style, R: Threads + Wait + Sync, G: Gate>(
 ) -> Result<Vec<Event>, CrewFault>
     requires { rota.sample ≡ sample.Buffer }
     ensures history { IfOk result (λ v. IsHistoryOf K.rules sample.Buffer rota.seats rota.rounds v.items) }
-    ensures served { OnOk result (HasRun K.rules (G.answers gate.now) sample.Buffer rota.seats rota.rounds) }
+    ensures served { IfOk result (λ v. HasLeft K.rules (G.answers gate.now) sample.Buffer rota.seats rota.rounds v.items) }
     ensures fault { IfErr result (λ e. IsFaultOfRun K.rules (G.answers gate.now) sample.Buffer rota.seats rota.rounds
         (run_fault_of e)) }
 {
@@ -119,7 +121,7 @@ fn run_book<K: Style, R: Threads + Wait + Sync, G: Gate>(
 ) -> Result<Vec<Event>, CrewFault>
     requires { rota.sample ≡ sample.Book }
     ensures history { IfOk result (λ v. IsHistoryOf K.rules sample.Book rota.seats rota.rounds v.items) }
-    ensures served { OnOk result (HasRun K.rules (G.answers gate.now) sample.Book rota.seats rota.rounds) }
+    ensures served { IfOk result (λ v. HasLeft K.rules (G.answers gate.now) sample.Book rota.seats rota.rounds v.items) }
     ensures fault { IfErr result (λ e. IsFaultOfRun K.rules (G.answers gate.now) sample.Book rota.seats rota.rounds
         (run_fault_of e)) }
 {
@@ -140,7 +142,7 @@ fn run_shop<K: Style, R: Threads + Wait + Sync, G: Gate>(
 ) -> Result<Vec<Event>, CrewFault>
     requires { rota.sample ≡ sample.Shop }
     ensures history { IfOk result (λ v. IsHistoryOf K.rules sample.Shop rota.seats rota.rounds v.items) }
-    ensures served { OnOk result (HasRun K.rules (G.answers gate.now) sample.Shop rota.seats rota.rounds) }
+    ensures served { IfOk result (λ v. HasLeft K.rules (G.answers gate.now) sample.Shop rota.seats rota.rounds v.items) }
     ensures fault { IfErr result (λ e. IsFaultOfRun K.rules (G.answers gate.now) sample.Shop rota.seats rota.rounds
         (run_fault_of e)) }
 {
@@ -194,6 +196,7 @@ fn meet_all<K: Kind, T: Guarded>(
     requires some { 0 < length passes.items }
     ensures same { IfOk result (λ r. AreSame passes.items (r.0 ∷ r.1.items)) }
     ensures seen { IfOk result (λ r. All (λ p. StartsWith r.0.me.seen p.me.seen) r.1.items) }
+    ensures had_seen { IfOk result (λ r. All (λ p. StartsWith r.0.me.seen p.me.seen) passes.items) }
     ensures fault { IfErr result (λ e. e ≡ crew.Memory) }
 {
     let mut others = Vec::with_capacity(alloc, passes.len())?;
@@ -210,7 +213,7 @@ fn meet_all<K: Kind, T: Guarded>(
 }
 
 /// The first seat comes in once more and closes the hall, and its history is given out where it holds what these seats
-/// did and nothing else, all of it in the words of the first version.
+/// did and nothing else, all of it in the words of the first version, and of a book each read and write was ended.
 fn close_by<K: Kind, T: Guarded, R: Wait>(
     rt: &R,
     alloc: Global,
@@ -223,6 +226,8 @@ fn close_by<K: Kind, T: Guarded, R: Wait>(
     requires apart { AllPairs (λ p q. p.me.seat ≢ q.me.seat) passes.items }
     ensures closed { IfOk result (λ v. IsClosed K.rules T.meaning hall.setting v.items) }
     ensures whole { IfOk result (λ v. HoldsOperationsOf v.items passes.items) }
+    ensures left { IfOk result (λ v. IsLeftBy v.items passes.items) }
+    ensures ended { IfOk result (λ v. HasEnded rota.sample v.items) }
     ensures fault { IfErr result (λ e. (e ≡ crew.Memory) ⊎ ((e ≡ crew.Busy) × (IsFirstSpent passes.items → ⊥))
         ⊎ ((e ≡ crew.Tired) × IsFirstSpent passes.items)) }
 {
@@ -235,7 +240,10 @@ fn close_by<K: Kind, T: Guarded, R: Wait>(
     match close(hall, active) {
         Ok(closed) => {
             let header = header_of::<K>(rota);
-            if !complete(&closed.history, seat, &others) || !writable(&header, &closed.history) {
+            if !complete(&closed.history, seat, &others)
+                || !writable(&header, &closed.history)
+                || !has_ended(rota.sample, &closed.history)
+            {
                 return Err(CrewFault::Busy);
             }
             Ok(closed.history)
@@ -253,7 +261,7 @@ fn of_run<K: Kind>(rota: Rota, history: Result<Vec<Event>, CrewFault>) -> Result
     ensures outcome { IfOk result (λ o. IsOutcome K.NAME rota.sample rota.seats o.header o.history.items o.totals) }
     ensures in_range { IsErrOf result RunFault.Range → ⊥ }
     ensures totals { IfOk result (λ o. HasTotals rota.sample rota.seats rota.rounds o.totals) }
-    ensures ok { OnOk result (IsOk history) }
+    ensures same { IfOk result (λ o. IsOkAnd history (λ v. v.items ≡ o.history.items)) }
     ensures fault { IfErr result (λ e. IsErrAnd history (λ f. e ≡ run_fault_of f)) }
 {
     match history {
@@ -267,6 +275,7 @@ fn outcome<K: Kind>(rota: Rota, history: Vec<Event>) -> Outcome
     requires { IsHistoryOf K.rules rota.sample rota.seats rota.rounds history.items }
     ensures outcome { IsOutcome K.NAME rota.sample rota.seats result.header result.history.items result.totals }
     ensures totals { HasTotals rota.sample rota.seats rota.rounds result.totals }
+    ensures same { history.items ≡ result.history.items }
 {
     let totals = totals_of(rota.sample, &history);
     Outcome {

@@ -1,6 +1,6 @@
 ghost use Rattle.std.specs.Prelude.{◌≡◌, ◌+◌, MatchResult};
 ghost use Rattle.monk_samples.specs.Styles.{MayFinish, MayPause, Offers, HasPaused, HasGivenUp, HasFinished};
-ghost use Rattle.monk_samples.specs.Styles.{has_waiting, pause_call, way_out};
+ghost use Rattle.monk_samples.specs.Styles.{for_handing_over, has_waiting, pause_call, way_out};
 
 use crate::end::End;
 use crate::styles::{automatic, conditional, explicit};
@@ -28,7 +28,7 @@ pub trait Style: Kind {
     ) -> Result<Active<Self, T>, Pass<Self, T>>
         requires { MayPause Self.rules hall.now.id active cond T.PREDICATES pred }
         ensures { MatchResult result (λ a. HasPaused Self.rules T.meaning active (pause_call Self.rules active.me.seat cond pred) a)
-            (λ p. HasGivenUp Self.rules T.meaning active p) }
+            (λ p. HasGivenUp Self.rules T.meaning for_handing_over active p) }
     {
         match rules_of::<Self>().mode {
             Mode::Automatic => automatic::pause(active, rt, hall, pred),

@@ -1,10 +1,10 @@
 //! The totals of a run, read from its history.
-ghost use Rattle.std.specs.Prelude.{◌≡◌, ◌≤◌, ◌<◌, ◌^◌, length, sum, if◌then◌else◌};
+ghost use Rattle.std.specs.Prelude.{◌≡◌, ◌≤◌, ◌<◌, ◌^◌, true, length, sum, if◌then◌else◌};
 ghost use Rattle.monk_object.specs.Laws.{items_put, items_taken};
 ghost use Rattle.monk_object.specs.Runs.{times_done};
 ghost use Rattle.monk_history.specs.Meaning.Acts.{act_of};
 ghost use Rattle.monk_samples.specs.Samples.{KeepsLaw};
-ghost use Rattle.monk_samples.specs.Totals.{count_done, sum_put, sum_taken, totals_of};
+ghost use Rattle.monk_samples.specs.Totals.{HasEnded, count_done, sum_put, sum_taken, totals_of};
 
 use crate::sample::Sample;
 use monk_history::Event;
@@ -35,6 +35,19 @@ pub(crate) fn totals_of(sample: Sample, history: &[Event]) -> [u64; 4]
             times(history, Shop::FINISH),
             times(history, Shop::DEPART),
         ],
+    }
+}
+
+/// Whether what a run has to end was ended: of a book each read and each write that was begun.
+pub(crate) fn has_ended(sample: Sample, history: &[Event]) -> bool
+    ensures { result ≡ true → HasEnded sample history.now }
+{
+    match sample {
+        Sample::Book => {
+            times(history, Book::END_READ) == times(history, Book::START_READ)
+                && times(history, Book::END_WRITE) == times(history, Book::START_WRITE)
+        }
+        _ => true,
     }
 }
 

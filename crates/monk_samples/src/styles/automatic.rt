@@ -1,7 +1,7 @@
 //! The kinds whose tasks wait until a predicate holds.
 ghost use Rattle.std.specs.Prelude.{◌≡◌, ◌<◌, false, MatchResult};
 ghost use Rattle.monk_history.specs.Meaning.Events.{has_conditions};
-ghost use Rattle.monk_samples.specs.Styles.{HasPaused, HasGivenUp};
+ghost use Rattle.monk_samples.specs.Styles.{HasPaused, HasGivenUp, for_handing_over};
 
 use crate::styles::going_on::go_on;
 use monk_hall::{Active, Hall, Pass};
@@ -21,7 +21,7 @@ pub(crate) fn pause<K: Kind, T: Guarded, R: Wait>(
     requires hall { active.hall ≡ hall.now.id }
     requires pred { pred < T.PREDICATES }
     ensures { MatchResult result (λ a. HasPaused K.rules T.meaning active (Event.Until active.me.seat pred Next.Stay) a)
-        (λ p. HasGivenUp K.rules T.meaning active p) }
+        (λ p. HasGivenUp K.rules T.meaning for_handing_over active p) }
 {
     if active.left() < 3 {
         return Err(active.leave(hall, Pick::Waiter));

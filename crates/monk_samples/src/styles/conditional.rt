@@ -3,7 +3,7 @@ ghost use Rattle.std.specs.Prelude.{◌≡◌, ◌<◌, true, not, MatchResult};
 ghost use Rattle.monk_history.specs.Meaning.Conditions.{condition};
 ghost use Rattle.monk_history.specs.Meaning.Events.{has_conditions};
 ghost use Rattle.monk_history.specs.Meaning.Signallers.{is_empty};
-ghost use Rattle.monk_samples.specs.Styles.{HasPaused, HasGivenUp};
+ghost use Rattle.monk_samples.specs.Styles.{HasPaused, HasGivenUp, for_handing_over};
 
 use monk_hall::{Active, Hall, Pass};
 use monk_history::{Event, Next};
@@ -22,7 +22,7 @@ pub(crate) fn pause<K: Kind, T: Guarded, R: Wait>(
     requires hall { active.hall ≡ hall.now.id }
     requires cond { cond < active.me.setting.conds }
     ensures { MatchResult result (λ a. HasPaused K.rules T.meaning active (Event.Wait active.me.seat cond Next.Stay) a)
-        (λ p. HasGivenUp K.rules T.meaning active p) }
+        (λ p. HasGivenUp K.rules T.meaning for_handing_over active p) }
 {
     if active.left() < 3 {
         return Err(active.leave(hall, Pick::Waiter));

@@ -1,5 +1,9 @@
-use Rattle.std.proofs.Common.{rules, ◌≡◌, true, inl, inr, refl, ap, sym, subst, ◌∙◌, List, ◌∷◌}
+use Rattle.std.proofs.Common.{rules, ◌≡◌, true, inl, inr, refl, ap, sym, subst, ◌∙◌, List, [], ◌∷◌, ◌++◌}
 use Rattle.monk_history.specs.declared.event.Event.{Event}
+use Rattle.monk_history.specs.declared.event.Event.TheVariants.{Leave}
+use Rattle.monk_history.specs.declared.event.Next.TheVariants.{Entry}
+use Rattle.monk_history.specs.Meaning.Counts.{events_of}
+use Rattle.monk_world.specs.StepTable.{out_event}
 use Rattle.monk_history.specs.Meaning.Turn.{turn}
 use Rattle.monk_hall.specs.Changes.{source_from}
 use Rattle.monk_hall.specs.Complete.{AreApart}
@@ -9,7 +13,7 @@ use Rattle.monk_floor.specs.View.{FloorView}
 use Rattle.monk_hall.specs.declared.record.SeatRecord.{SeatRecord}
 use Rattle.std.specs.Prelude.{All}
 use Rattle.monk_samples.proofs.MeetLaws.{apart_from, still_differ, closed_begins, closed_own, first_able, first_is_of, holds_operations}
-use Rattle.monk_samples.proofs.MeetLaws.{nothing_done, only_here}
+use Rattle.monk_samples.proofs.MeetLaws.{came_comes, closed_ends, left_by, nothing_done, only_here}
 use Rattle.monk_samples.proofs.RunLaws.{closed_by, first_words}
 use Rattle.monk_samples.proofs.running.close_by.Goals as goal
 
@@ -69,6 +73,31 @@ returns-in-Ok-clause-whole g c =
     holds_operations h c.args.passes.items first others _ c.in_ok-first.ensures.same c.requires.apart own
     (λ weight. nothing_done weight c.arrive.result.me.seat (source_from c.arrive.result.me.place)
     (turn c.resume-active.result.me.seen) c.resume-active.result.me.seat) only
+
+pub returns-in-Ok-clause-left : goal.returns-in-Ok-clause-left
+returns-in-Ok-clause-left g c =
+    let first = c.in_ok-first.first in let others = c.in_ok-first.others.items in
+    let h = c.in-Ok.closed.history.items in
+    let is : c.complete.result ≡ true = search rules in
+    let only = only_here h c.deref.result.now c.seat-seat.result first.me.seat others c.deref-in-Ok.result.now c.complete.result
+    c.complete.ensures is c.deref.ensures.value c.seat-seat.ensures c.deref-in-Ok.ensures.value in
+    let arrived = ap (λ (r : SeatRecord). r.seat) c.arrive.ensures.me in
+    let seat = c.resume-active.ensures.seat ∙ arrived in
+    let came = ap (λ (f : FloorView). f.history) c.resume-active.ensures.floor in
+    let e = out_event c.arrive.result.me.seat (source_from c.arrive.result.me.place) (turn c.resume-active.result.me.seen) in
+    let own = closed_own h first.me.mine c.arrive.result.me.mine c.resume-active.result.me.mine _ _ c.resume-active.result.me.seat
+    c.arrive.result.me.seat first.me.seat c.in-Ok.ensures.ended.own c.resume-active.ensures.mine
+    (ap (λ (r : SeatRecord). r.mine) c.arrive.ensures.me) c.resume-active.ensures.seat arrived in
+    left_by h c.resume-active.result.me.seen e c.args.passes.items first others c.in_ok-first.ensures.same
+    (came_comes c.arrive.result.me.seat (source_from c.arrive.result.me.place) (turn c.resume-active.result.me.seen))
+    (closed_ends h c.resume-active.result.floor.history c.resume-active.result.me.seen e c.resume-active.result.me.seat
+    first.me.seat c.in-Ok.ensures.ended.leaves came seat)
+    (subst (λ n. events_of h first.me.seat ≡ first.me.mine ++ e ∷ Leave n Entry ∷ []) seat own)
+    only
+    (closed_begins h c.resume-active.result.floor.history c.resume-active.result.me.seen
+    c.arrive.result.me.seen c.in_ok-first.first.me.seen _ _ c.args.passes.items c.in-Ok.ensures.ended.leaves
+    came c.resume-active.ensures.starts
+    (ap (λ (r : SeatRecord). r.seen) c.arrive.ensures.me) c.in_ok-first.ensures.had_seen)
 
 pub returns-then-not-complete-clause-fault : goal.returns-then-not-complete-clause-fault
 returns-then-not-complete-clause-fault g c =

@@ -1,8 +1,8 @@
-use Rattle.std.proofs.Common.{◌≡◌, List, [], ◌∷◌, ◌++◌, append_assoc, append-nil, sym, ap, subst, ◌∙◌}
+use Rattle.std.proofs.Common.{◌≡◌, List, [], ◌∷◌, ◌++◌, append_assoc, append-nil, refl, sym, ap, subst, ◌∙◌}
 use Rattle.std.specs.Prelude.{vec_items}
 use Rattle.std.specs.Vec.Iter.{into_iter_items}
 use Rattle.std.proofs.lemmas.List.{nil_from_length}
-use Rattle.std.proofs.lemmas.List.Elements.{All-cons, All-head, All-tail}
+use Rattle.std.proofs.lemmas.List.Elements.{All-cons, All-head, All-nil, All-tail}
 use Rattle.monk_hall.specs.Floors.{StartsWith}
 use Rattle.monk_hall.specs.Tokens.{Token}
 use Rattle.monk_samples.specs.Crews.{IsOf}
@@ -10,6 +10,7 @@ use Rattle.monk_samples.specs.Wholes.{AreSame}
 use Rattle.monk_samples.specs.declared.crew_fault.CrewFault.TheVariants as crew
 use Rattle.monk_samples.proofs.EndLaws.{if_err}
 use Rattle.monk_samples.proofs.MeetLaws.{same_pass, same_again, same_then, still_begins, met_same, met_begins}
+use Rattle.monk_samples.proofs.TrailLaws.{starts_here}
 use Rattle.monk_samples.proofs.RunLaws.{one_more, first_of, rest_of, same_all, none_yet}
 use Rattle.monk_samples.proofs.running.meet_all.Goals as goal
 
@@ -27,6 +28,8 @@ loop-pass-init g c =
       none_yet (vec_items c.in_ok-others.others) (λ p. StartsWith first.me.seen p.me.seen) c.in_ok-others.ensures.items,
       same_all (first ∷ into_iter_items c.into_iter-pass-iterator.result) (vec_items c.args.passes) (IsOf c.args.hall.now)
           (sym all) c.requires.of,
+      All-cons (λ (p : Token). StartsWith first.me.seen p.me.seen) first [] (starts_here first.me.seen)
+          (All-nil (λ (p : Token). StartsWith first.me.seen p.me.seen)),
     )
 
 pub loop-pass-preserved : goal.loop-pass-preserved
@@ -51,6 +54,9 @@ loop-pass-preserved g c =
       All-cons (IsOf c.args.hall.now) inv.0 rest
           (All-head (IsOf c.args.hall.now) inv.0 (into_iter_items c.loop-pass.pass-iterator) inv.6)
           (rest_of rest (into_iter_items c.loop-pass.pass-iterator) pass (IsOf c.args.hall.now) steps of),
+      one_more (inv.0 ∷ inv.1) (inv.0 ∷ inv.1 ++ pass ∷ []) pass (λ p. StartsWith c.meet.new.a.me.seen p.me.seen) refl
+          (still_begins c.meet.new.a c.loop-pass.first (inv.0 ∷ inv.1) c.meet.ensures.first_learns.0 inv.7)
+          c.meet.ensures.first_learns.1,
     )
 
 pub meet-requires-after_bounds : goal.meet-requires-after_bounds
@@ -70,6 +76,14 @@ returns-clause-same g c =
     (sym c.loop-pass.pass-iterator.rest.ok.0 ∙ c.in-None.ensures.steps.0) in
     subst (λ (ps : List Token). AreSame ps (c.loop-pass.first ∷ vec_items c.loop-pass.others))
     (sym (inv.2 ∙ ap (λ xs. inv.0 ∷ inv.1 ++ xs) rest ∙ ap (λ xs. inv.0 ∷ xs) (append-nil inv.1))) (inv.3, inv.4)
+
+pub returns-clause-had_seen : goal.returns-clause-had_seen
+returns-clause-had_seen g c =
+    let inv = c.loop-pass.invariant in
+    let rest = nil_from_length (into_iter_items c.loop-pass.pass-iterator)
+    (sym c.loop-pass.pass-iterator.rest.ok.0 ∙ c.in-None.ensures.steps.0) in
+    same_all (vec_items c.args.passes) (inv.0 ∷ inv.1) (λ p. StartsWith c.loop-pass.first.me.seen p.me.seen)
+    (inv.2 ∙ ap (λ xs. inv.0 ∷ inv.1 ++ xs) rest ∙ ap (λ xs. inv.0 ∷ xs) (append-nil inv.1)) inv.7
 
 pub returns-in_err-others-clause-fault : goal.returns-in_err-others-clause-fault
 returns-in_err-others-clause-fault g c = if_err c.from_residual.result _ (λ e. e ≡ crew.Memory) c.from_residual.ensures (λ e h. h)

@@ -1,9 +1,9 @@
 use Rattle.std.proofs.Common.{sym, subst}
-use Rattle.std.specs.Prelude.{IfErr}
+use Rattle.std.specs.Prelude.{IfErr, IfOk}
 use Rattle.monk_samples.specs.Faults.{run_fault_of}
-use Rattle.monk_samples.specs.Runs.{IsFaultOfRun}
+use Rattle.monk_samples.specs.Runs.{HasLeft, IsFaultOfRun}
 use Rattle.monk_samples.specs.declared.sample.Sample.{Sample}
-use Rattle.monk_samples.proofs.RunLaws.{crew_told}
+use Rattle.monk_samples.proofs.RunLaws.{crew_told, left_told}
 use Rattle.monk_samples.proofs.running.run.Goals as goal
 
 pub returns-in-Buffer-clause-fault : goal.returns-in-Buffer-clause-fault
@@ -29,3 +29,27 @@ returns-in-Shop-clause-fault g c =
     c.of_run-in-Shop.ensures.fault (subst (λ (s : Sample). IfErr c.run_shop.result (λ f.
     IsFaultOfRun g.K.Kind.rules (g.G.Gate.answers c.args.gate.now) s c.args.seats c.args.rounds (run_fault_of f)))
     (sym c.in-Shop.is) c.run_shop.ensures.fault)
+
+pub returns-in-Buffer-clause-served : goal.returns-in-Buffer-clause-served
+returns-in-Buffer-clause-served g c =
+    left_told c.of_run.result c.run_buffer.result (λ o. o.history.items) (λ v. v.items)
+    (HasLeft g.K.Kind.rules (g.G.Gate.answers c.args.gate.now) c.args.sample c.args.seats c.args.rounds)
+    c.of_run.ensures.same (subst (λ (s : Sample). IfOk c.run_buffer.result (λ v.
+    HasLeft g.K.Kind.rules (g.G.Gate.answers c.args.gate.now) s c.args.seats c.args.rounds v.items))
+    (sym c.in-Buffer.is) c.run_buffer.ensures.served)
+
+pub returns-in-Book-clause-served : goal.returns-in-Book-clause-served
+returns-in-Book-clause-served g c =
+    left_told c.of_run-in-Book.result c.run_book.result (λ o. o.history.items) (λ v. v.items)
+    (HasLeft g.K.Kind.rules (g.G.Gate.answers c.args.gate.now) c.args.sample c.args.seats c.args.rounds)
+    c.of_run-in-Book.ensures.same (subst (λ (s : Sample). IfOk c.run_book.result (λ v.
+    HasLeft g.K.Kind.rules (g.G.Gate.answers c.args.gate.now) s c.args.seats c.args.rounds v.items))
+    (sym c.in-Book.is) c.run_book.ensures.served)
+
+pub returns-in-Shop-clause-served : goal.returns-in-Shop-clause-served
+returns-in-Shop-clause-served g c =
+    left_told c.of_run-in-Shop.result c.run_shop.result (λ o. o.history.items) (λ v. v.items)
+    (HasLeft g.K.Kind.rules (g.G.Gate.answers c.args.gate.now) c.args.sample c.args.seats c.args.rounds)
+    c.of_run-in-Shop.ensures.same (subst (λ (s : Sample). IfOk c.run_shop.result (λ v.
+    HasLeft g.K.Kind.rules (g.G.Gate.answers c.args.gate.now) s c.args.seats c.args.rounds v.items))
+    (sym c.in-Shop.is) c.run_shop.ensures.served)

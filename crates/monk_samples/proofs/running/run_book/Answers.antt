@@ -5,13 +5,15 @@ use Rattle.monk_hall.specs.Rule.{setting_of}
 use Rattle.monk_hall.specs.Tokens.{Token, tokens}
 use Rattle.monk_hall.specs.declared.setting.Setting.{Setting}
 use Rattle.monk_samples.specs.Ends.{HaveServed}
+use Rattle.std.specs.Prelude.{IfOk}
 use Rattle.monk_samples.specs.Samples.{conds_of, budget_of}
+use Rattle.monk_samples.specs.Totals.{HasEnded}
 use Rattle.monk_samples.specs.declared.sample.Sample.{Sample}
 use Rattle.monk_samples.specs.declared.sample.Sample.TheVariants.{Book}
 use Rattle.monk_samples.proofs.MeetLaws.{seats_differ}
 use Rattle.monk_samples.proofs.ProductLaws.{book_totals}
-use Rattle.monk_samples.proofs.RunEndLaws.{some_pass, back_of, some_back, has_run, close_fault}
-use Rattle.monk_samples.proofs.RunLaws.{history_of, if_both, if_fault, if_then}
+use Rattle.monk_samples.proofs.RunEndLaws.{some_pass, back_of, some_back, has_left, close_fault}
+use Rattle.monk_samples.proofs.RunLaws.{history_of, if_fault, if_ok, if_three}
 use Rattle.monk_samples.proofs.running.run_book.Goals as goal
 
 pub close_by-requires-clause-of : goal.close_by-requires-clause-of
@@ -56,11 +58,12 @@ returns-clause-history g c =
     ∙ ap (λ n. tokens hall.id (opening_records hall.setting n 0)) (ap (λ (s : Setting). s.seats) setting) in
     let all = subst (λ (ps : List Token). HaveServed k book_meaning (g.G.Gate.answers c.args.gate.now) Book c.args.rota.seats
     c.args.rota.rounds hall ps c.in_ok-passes.passes.items) made served in
-    if_both c.close_by.result _ _ _
-    (λ v closed whole. history_of k Book c.args.rota.seats c.args.rota.rounds hall.setting v.items setting closed
+    let ended = subst (λ (s : Sample). IfOk c.close_by.result (λ v. HasEnded s v.items)) c.requires c.close_by.ensures.ended in
+    if_three c.close_by.result _ _ _ _
+    (λ v closed whole done. history_of k Book c.args.rota.seats c.args.rota.rounds hall.setting v.items setting closed
     (λ state law. book_totals k (g.G.Gate.answers c.args.gate.now) c.args.rota.seats c.args.rota.rounds hall.id hall.setting
-    hall v.items c.in_ok-passes.passes.items whole all))
-    c.close_by.ensures.closed c.close_by.ensures.whole
+    hall v.items c.in_ok-passes.passes.items whole all done))
+    c.close_by.ensures.closed c.close_by.ensures.whole ended
 
 pub returns-clause-served : goal.returns-clause-served
 returns-clause-served g c =
@@ -71,9 +74,9 @@ returns-clause-served g c =
     let setting = c.in_ok-hall.ensures.setting
     ∙ ap (λ (state : List ℕ). setting_of state c.args.rota.seats (conds_of k)
     (budget_of c.args.rota.seats c.args.rota.rounds)) c.in-Ok.ensures.made in
-    if_then c.close_by.result _ (has_run k (g.G.Gate.answers c.args.gate.now) Book c.args.rota.seats c.args.rota.rounds
+    if_ok c.close_by.result _ _ (λ v left. has_left k (g.G.Gate.answers c.args.gate.now) Book c.args.rota.seats c.args.rota.rounds
     c.in_ok-hall.hall c.in_ok-hall.passes.items c.in_ok-hall.ensures.passes setting c.in_ok-passes.passes.items
-    served)
+    v.items served left) c.close_by.ensures.left
 
 pub returns-clause-fault : goal.returns-clause-fault
 returns-clause-fault g c =

@@ -10,8 +10,8 @@ use Rattle.monk_samples.specs.declared.sample.Sample.{Sample}
 use Rattle.monk_samples.specs.declared.sample.Sample.TheVariants.{Buffer}
 use Rattle.monk_samples.proofs.MeetLaws.{seats_differ}
 use Rattle.monk_samples.proofs.ProductLaws.{buffer_totals}
-use Rattle.monk_samples.proofs.RunEndLaws.{some_pass, back_of, some_back, has_run, close_fault}
-use Rattle.monk_samples.proofs.RunLaws.{history_of, if_both, if_fault, if_then}
+use Rattle.monk_samples.proofs.RunEndLaws.{some_pass, back_of, some_back, has_left, close_fault}
+use Rattle.monk_samples.proofs.RunLaws.{history_of, if_both, if_fault, if_ok}
 use Rattle.monk_samples.proofs.running.run_buffer.Goals as goal
 
 pub close_by-requires-clause-of : goal.close_by-requires-clause-of
@@ -71,9 +71,9 @@ returns-clause-served g c =
     let setting = c.in_ok-hall.ensures.setting
     ∙ ap (λ (state : List ℕ). setting_of state c.args.rota.seats (conds_of k)
     (budget_of c.args.rota.seats c.args.rota.rounds)) c.in-Ok.ensures.made in
-    if_then c.close_by.result _ (has_run k (g.G.Gate.answers c.args.gate.now) Buffer c.args.rota.seats c.args.rota.rounds
+    if_ok c.close_by.result _ _ (λ v left. has_left k (g.G.Gate.answers c.args.gate.now) Buffer c.args.rota.seats c.args.rota.rounds
     c.in_ok-hall.hall c.in_ok-hall.passes.items c.in_ok-hall.ensures.passes setting c.in_ok-passes.passes.items
-    served)
+    v.items served left) c.close_by.ensures.left
 
 pub returns-clause-fault : goal.returns-clause-fault
 returns-clause-fault g c =

@@ -1,6 +1,9 @@
-use Rattle.std.proofs.Common.{Some}
+use Rattle.std.proofs.Common.{◌≡◌, false, Some}
+use Rattle.monk_history.specs.Meaning.Monitor.{data_of}
+use Rattle.monk_floor.specs.View.{monitor_of}
 use Rattle.monk_samples.specs.Trails.{inside}
 use Rattle.monk_samples.specs.Visits.{guard}
+use Rattle.monk_samples.proofs.ShortLaws.{still_pauses}
 use Rattle.monk_samples.proofs.VisitLaws.{left_after, paused_once}
 use Rattle.monk_samples.proofs.visit.pause_until.Goals as goal
 
@@ -9,5 +12,8 @@ loop-active-preserved g c = paused_once g.K.Kind.rules g.T.Guarded.meaning (insi
     (guard c.args.cond c.args.pred) c.loop-active.active c.in-Ok.back c.loop-active.invariant c.in-Ok.ensures cc
 
 pub returns-in-Err : goal.returns-in-Err
-returns-in-Err g c = left_after g.K.Kind.rules g.T.Guarded.meaning (inside c.args.active)
-    (Some (guard c.args.cond c.args.pred)) c.loop-active.active c.in-Err.pass c.loop-active.invariant c.in-Err.ensures
+returns-in-Err g c =
+    let k = g.K.Kind.rules in let o = g.T.Guarded.meaning in let a = c.loop-active.active in
+    let not_yet : o.holds (data_of (monitor_of k o a.floor) a.floor.history) c.args.pred ≡ false = cc in
+    left_after k o (inside c.args.active) (Some (guard c.args.cond c.args.pred)) a c.in-Err.pass c.loop-active.invariant 3 c.in-Err.ensures
+    (still_pauses k o a (guard c.args.cond c.args.pred) c.in-Err.ensures.floor not_yet)

@@ -8,7 +8,7 @@ pub returns-then-left-lt3 : goal.returns-then-left-lt3
 returns-then-left-lt3 g c =
     let has = c.left.ensures.left in let few = c.if-left-lt3.true in
     let short : c.args.active.me.setting.budget < length c.args.active.me.mine + 3 = omega arith in
-    given_up g.K.Kind.rules g.T.Guarded.meaning c.args.active _ _ c.leave.result c.leave.ensures short
+    given_up g.K.Kind.rules g.T.Guarded.meaning c.args.active _ _ c.leave.result 3 c.leave.ensures short (omega arith) (omega arith)
 
 pub returns : goal.returns
 returns g c =
