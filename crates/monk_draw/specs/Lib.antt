@@ -2,4 +2,9 @@ pub mod Layout
 pub mod Label
 pub mod Mark
 pub mod Window
+pub mod Style
+pub mod Heading
+pub mod Surface
+pub mod Tags
+pub mod Frame
 pub mod Picture

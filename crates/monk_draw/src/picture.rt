@@ -4,25 +4,19 @@ ghost use Rattle.std.specs.Prelude.{◌≤◌, IfOk, length, string_bytes};
 ghost use Rattle.monk_history.specs.Limits.{most_lines};
 ghost use Rattle.monk_draw.specs.Picture.{HasMarks};
 
-use crate::frame::{put_caption, put_frame};
+use crate::frame::{forbidden_event, put_wrong};
+use crate::heading::put_heading;
 use crate::legend::{Legend, put_legend};
 use crate::mark::put_marks;
 use crate::scene::{put_hands, put_stretches};
 use crate::seats::seats_behind;
 use crate::style::put_style;
-use crate::surface::{Surface, put_heading};
+use crate::surface::{Surface, put_background};
+use crate::tags::put_tags;
 use crate::view::View;
 use crate::window::{not_shown, shown_last};
 use monk_history::{Event, Header};
 use std::alloc::{AllocError, Global};
-
-/// Whether the last event that is shown is the one that is forbidden.
-fn is_last(forbidden: Option<u32>, last: usize) -> bool {
-    match forbidden {
-        Some(step) => step as usize == last,
-        None => false,
-    }
-}
 
 /// Which lanes and columns there are: one lane for each seat, and one for a forbidden event of no seat.
 fn surface_of(view: View, shown: &[Event]) -> Surface
@@ -58,15 +52,14 @@ fn put_front(
     let surface = surface_of(view, shown);
     surface.put_head(page)?;
     put_style(page)?;
-    surface.put_background(page)?;
+    put_background(page)?;
     put_heading(page, header)?;
     surface.put_columns(page)?;
     surface.put_lanes(page, view.seats)?;
-    let is_forbidden = is_last(forbidden, last) && shown.len() > 0;
-    let allowed = if is_forbidden {
-        shown.len() - 1
-    } else {
-        shown.len()
+    let wrong = forbidden_event(forbidden, last, shown);
+    let allowed = match wrong {
+        Some(_) => shown.len().saturating_sub(1),
+        None => shown.len(),
     };
     let mut legend = Legend::new();
     let seats = seats_behind(&events[..view.before]);
@@ -79,11 +72,8 @@ fn put_front(
         surface.end(),
     )?;
     put_hands(page, &mut legend, view, shown, allowed)?;
-    surface.put_tags(page, view.seats)?;
-    if is_forbidden {
-        put_frame(page, view, allowed as u32, shown[allowed])?;
-        put_caption(page, allowed as u32, last as u32, reason)?;
-    }
+    put_tags(page, view.seats, surface.columns)?;
+    put_wrong(page, view.seats, allowed as u32, last as u32, reason, wrong)?;
     put_legend(page, legend, surface.base())
 }
 
