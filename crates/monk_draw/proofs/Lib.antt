@@ -1,1 +1,3 @@
 mod MarkLaws
+mod StretchLaws
+mod LegendLaws

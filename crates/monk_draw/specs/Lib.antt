@@ -7,4 +7,7 @@ pub mod Heading
 pub mod Surface
 pub mod Tags
 pub mod Frame
+pub mod Stretch
+pub mod Hand
+pub mod Legend
 pub mod Picture

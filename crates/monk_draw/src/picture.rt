@@ -5,10 +5,11 @@ ghost use Rattle.monk_history.specs.Limits.{most_lines};
 ghost use Rattle.monk_draw.specs.Picture.{HasMarks};
 
 use crate::frame::{forbidden_event, put_wrong};
+use crate::hand::put_hands;
 use crate::heading::put_heading;
 use crate::legend::{Legend, put_legend};
 use crate::mark::put_marks;
-use crate::scene::{put_hands, put_stretches};
+use crate::scene::put_stretches;
 use crate::seats::seats_behind;
 use crate::style::put_style;
 use crate::surface::{Surface, put_background};
@@ -71,7 +72,7 @@ fn put_front(
         &shown[..allowed],
         surface.end(),
     )?;
-    put_hands(page, &mut legend, view, shown, allowed)?;
+    put_hands(page, &mut legend, view.seats, shown, allowed)?;
     put_tags(page, view.seats, surface.columns)?;
     put_wrong(page, view.seats, allowed as u32, last as u32, reason, wrong)?;
     put_legend(page, legend, surface.base())
