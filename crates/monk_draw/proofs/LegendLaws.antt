@@ -1,5 +1,5 @@
 -- The entries of a legend, one after the other
-use Rattle.std.proofs.Common.{◌≡◌, ◌≤◌, ◌+◌, ◌<◌, ℕ, suc, Bool, true, false, List, ◌∷◌, ◌++◌, if◌then◌else◌, length}
+use Rattle.std.proofs.Common.{◌≡◌, ◌≤◌, ◌+◌, ◌<◌, ℕ, Bool, true, false, List, ◌∷◌, ◌++◌, if◌then◌else◌, length}
 use Rattle.std.proofs.Common.{drop, get_or, sym, ap, ◌∙◌, append_assoc, arith}
 use Rattle.std.proofs.Common.{add-one}
 use Rattle.std.proofs.Math.Seq.{drop-cons}
