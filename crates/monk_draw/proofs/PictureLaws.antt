@@ -77,6 +77,7 @@ pub is_picture : (h : Heading) (es : List Event) (fault : Option ℕ) (reason : 
     → marked ≡ under ++ marks_by es seats object before last → all ≡ marked ++ codes "</svg>\n"
     → IsPicture h es fault reason all
 is_picture h es fault reason seats object before last empty under marked all of_seats of_object behind at nothing first put ended =
+    let under_marks = front h seats (slice_range es before last) fault last reason first.drawn first.legend in
     let whole = front h h.seats (shown_events fault es) fault (shown_last fault (length es)) reason first.drawn first.legend in
     record {
       drawn = first.drawn;
@@ -84,7 +85,7 @@ is_picture h es fault reason seats object before last empty under marked all of_
       is =
           ended ∙ ap (λ (page : List ℕ). page ++ codes "</svg>\n")
           (put ∙ (ap (λ (page : List ℕ). page ++ marks_by es seats object before last)
-          (first.is ∙ (ap (λ (page : List ℕ). page ++ front h seats (slice_range es before last) fault last reason first.drawn first.legend) nothing
+          (first.is ∙ (ap (λ (page : List ℕ). page ++ under_marks) nothing
           ∙ shown_front h es fault reason seats before last first.drawn first.legend of_seats behind at))
           ∙ ap (λ (text : List ℕ). whole ++ text)
           (same_marks h es fault seats object before last of_seats of_object behind at)));

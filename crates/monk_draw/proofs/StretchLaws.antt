@@ -5,9 +5,6 @@ use Rattle.std.proofs.lemmas.Grind.{flat_map-append}
 use Rattle.monk_draw.specs.Stretch.{PutsStretches, stretch_text, stretches_text}
 use Rattle.monk_draw.specs.declared.stretch.Stretch.{Stretch}
 
-pub no_stretches : (page : List ℕ) → PutsStretches page page
-no_stretches page = record { drawn = []; is = sym (append-nil page) }
-
 pub one_stretch : (old new : List ℕ) (s : Stretch) → new ≡ old ++ stretch_text s → PutsStretches old new
 one_stretch old new s put = record {
   drawn = s ∷ [];

@@ -1,11 +1,60 @@
 -- How everything is drawn: colours, hatchings and the tips of arrows
 use Rattle.std.specs.Prelude.{ℕ, List, ◌++◌, codes}
 use Rattle.std.specs.Fmt.{decimal}
-use Rattle.monk_draw.specs.declared.style.TheConstants.{TEXTS, SHAPES, DARK}
 
--- the style sheet, in three parts
+-- of what is written
+unfoldable pub texts : List ℕ
+texts =
+    codes "<style>\n"
+    ++ (codes "svg { font: 12px ui-sans-serif, system-ui, Helvetica, Arial, sans-serif; }\n"
+    ++ (codes "text { fill: #1f2933; }\n"
+    ++ (codes ".head { font-size: 15px; font-weight: 600; }\n"
+    ++ (codes ".soft, .note, .step { fill: #5d6975; font-size: 11px; }\n"
+    ++ (codes ".act, .what { font-size: 11px; }\n"
+    ++ (codes ".act, .note, .step, .what, .tag { text-anchor: middle; }\n"
+    ++ (codes ".act, .note, .what { stroke: #fff; stroke-width: 3; paint-order: stroke; }\n"
+    ++ (codes ".what, .tag, .wrong { font-weight: 600; }\n"
+    ++ (codes ".tag { font-size: 10px; stroke: #fff; stroke-width: 6; stroke-linejoin: round; "
+    ++ (codes "paint-order: stroke; }\n"
+    ++ (codes ".wrong { fill: #c53030; }\n"
+    ++ codes ".far { text-anchor: end; }\n")))))))))))
+
+-- of what is drawn
+unfoldable pub shapes : List ℕ
+shapes =
+    codes ".background { fill: #fff; }\n"
+    ++ (codes ".grid { stroke: #e4e8ec; }\n"
+    ++ (codes ".rail { stroke: #b8c1ca; stroke-dasharray: 2 4; }\n"
+    ++ (codes ".active { fill: #2f6fdb; }\n"
+    ++ (codes ".entry { fill: url(#entry); stroke: #5d6975; }\n"
+    ++ (codes ".condition { fill: url(#condition); stroke: #b7791f; }\n"
+    ++ (codes ".waiter { fill: url(#waiter); stroke: #2f855a; }\n"
+    ++ (codes ".signaller { fill: url(#signaller); stroke: #6b46c1; }\n"
+    ++ (codes ".until { fill: url(#until); stroke: #0f766e; }\n"
+    ++ (codes ".mark circle { fill: #fff; stroke: #1f2933; stroke-width: 1.4; }\n"
+    ++ (codes ".hand, .wish, .frame { fill: none; stroke-width: 1.6; }\n"
+    ++ (codes ".hand { stroke: #1f2933; }\n"
+    ++ (codes ".hand-tip { fill: #1f2933; }\n"
+    ++ (codes ".frame, .wish { stroke: #c53030; }\n"
+    ++ (codes ".wish { stroke-dasharray: 5 3; }\n"
+    ++ codes ".wish-tip { fill: #c53030; }\n"))))))))))))))
+
+-- in the dark
+unfoldable pub dark : List ℕ
+dark =
+    codes "@media (prefers-color-scheme: dark) {\n"
+    ++ (codes "text { fill: #e6ebf0; } .soft, .note, .step { fill: #a3afbb; }\n"
+    ++ (codes ".act, .note, .what, .tag { stroke: #12171d; } .wrong, .wish-tip { fill: #fc8181; } "
+    ++ (codes ".background { fill: #12171d; }\n"
+    ++ (codes ".grid { stroke: #232b34; } .rail { stroke: #4a5663; } .active { fill: #5b93f0; }\n"
+    ++ (codes ".back { fill-opacity: .16; } .hand { stroke: #e6ebf0; } .hand-tip { fill: #e6ebf0; }\n"
+    ++ (codes ".frame, .wish { stroke: #fc8181; }\n"
+    ++ (codes "}\n"
+    ++ codes "</style>\n")))))))
+
+-- the style sheet
 unfoldable pub sheet : List ℕ
-sheet = TEXTS.now ++ (SHAPES.now ++ DARK.now)
+sheet = texts ++ (shapes ++ dark)
 
 -- stripes of a colour on another, turned by so many degrees
 unfoldable pub pattern_named : List ℕ → List ℕ

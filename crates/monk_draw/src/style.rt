@@ -1,8 +1,8 @@
 //! Colours and hatchings, in light and dark.
 
 ghost use Rattle.std.specs.Prelude.{◌≡◌, ◌++◌, OnOk, string_bytes};
-ghost use Rattle.monk_draw.specs.Style.{definitions, hatching, hatchings, pattern_back, pattern_named, pattern_stripe};
-ghost use Rattle.monk_draw.specs.Style.{pattern_turned, sheet, style, tip, tip_named, tip_shape, tip_turned};
+ghost use Rattle.monk_draw.specs.Style.{dark, definitions, hatching, hatchings, pattern_back, pattern_named, pattern_stripe};
+ghost use Rattle.monk_draw.specs.Style.{pattern_turned, shapes, sheet, style, texts, tip, tip_named, tip_shape, tip_turned};
 
 use std::alloc::AllocError;
 
@@ -165,13 +165,34 @@ fn put_definitions(page: &mut String) -> Result<(), AllocError>
     page.push_str("</defs>\n")
 }
 
+#[tactic(auto, unfolding(crate::specs::Style::texts))]
+fn texts() -> &'static str
+    ensures { result.now ≡ texts }
+{
+    TEXTS
+}
+
+#[tactic(auto, unfolding(crate::specs::Style::shapes))]
+fn shapes() -> &'static str
+    ensures { result.now ≡ shapes }
+{
+    SHAPES
+}
+
+#[tactic(auto, unfolding(crate::specs::Style::dark))]
+fn dark() -> &'static str
+    ensures { result.now ≡ dark }
+{
+    DARK
+}
+
 #[tactic(auto, unfolding(crate::specs::Style::sheet))]
 fn put_sheet(page: &mut String) -> Result<(), AllocError>
     ensures { OnOk result (string_bytes page.new ≡ string_bytes page.old ++ sheet) }
 {
-    page.push_str(TEXTS)?;
-    page.push_str(SHAPES)?;
-    page.push_str(DARK)
+    page.push_str(texts())?;
+    page.push_str(shapes())?;
+    page.push_str(dark())
 }
 
 /// Puts how everything is drawn.
