@@ -1,1 +1,4 @@
 mod MarkLaws
+mod StretchLaws
+mod LegendLaws
+mod PictureLaws

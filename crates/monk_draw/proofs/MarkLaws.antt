@@ -46,12 +46,12 @@ pub first_so_many : (es : List Event) (n : ℕ) → n < length es → n ≡ leng
 first_so_many es n below = omega (arith, length-take n es, below)
 
 -- the marks of these events, looked at so
-abbrev marks_by : List Event → ℕ → ObjectName → ℕ → ℕ → List ℕ
+abbrev pub marks_by : List Event → ℕ → ObjectName → ℕ → ℕ → List ℕ
 marks_by es seats object before last =
     marks (record { seats = seats; object = object; before = before }) 0 (slice_range es before last)
 
 -- they are those of the picture
-same_marks : (h : Heading) (es : List Event) (fault : Option ℕ) (seats : ℕ) (object : ObjectName) (before last : ℕ)
+pub same_marks : (h : Heading) (es : List Event) (fault : Option ℕ) (seats : ℕ) (object : ObjectName) (before last : ℕ)
     → seats ≡ h.seats → object ≡ h.object → before ≡ not_shown last → last ≡ shown_last fault (length es)
     → marks_by es seats object before last ≡ all_marks h es fault
 same_marks h es fault seats object before last of_seats of_object behind at =

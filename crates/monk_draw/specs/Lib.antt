@@ -2,4 +2,12 @@ pub mod Layout
 pub mod Label
 pub mod Mark
 pub mod Window
+pub mod Style
+pub mod Heading
+pub mod Surface
+pub mod Tags
+pub mod Frame
+pub mod Stretch
+pub mod Hand
+pub mod Legend
 pub mod Picture

@@ -1,9 +1,22 @@
 -- What a picture of a history has
-use Rattle.std.specs.Prelude.{◌≡◌, ℕ, List, Option, ◌++◌, length, codes}
+use Rattle.std.specs.Prelude.{◌≡◌, ℕ, ◌+◌, ◌-◌, List, Option, Some, None, ◌++◌, length, nat_lt, slice_get}
+use Rattle.std.specs.Prelude.{if◌then◌else◌, codes}
+use Rattle.monk_history.specs.Meaning.Events.{seat_of}
 use Rattle.monk_history.specs.Text.{Heading}
 use Rattle.monk_history.specs.declared.event.Event.{Event}
+use Rattle.monk_draw.specs.Frame.{forbidden_event, wrong}
+use Rattle.monk_draw.specs.Hand.{hands}
+use Rattle.monk_draw.specs.Heading.{heading_text}
+use Rattle.monk_draw.specs.Layout.{lane_at}
+use Rattle.monk_draw.specs.Legend.{legend_text}
 use Rattle.monk_draw.specs.Mark.{marks}
+use Rattle.monk_draw.specs.Stretch.{stretches_text}
+use Rattle.monk_draw.specs.Style.{style}
+use Rattle.monk_draw.specs.Surface.{background, columns_below, columns_foot, head, lanes_below, lanes_end}
+use Rattle.monk_draw.specs.Tags.{tags}
 use Rattle.monk_draw.specs.Window.{not_shown, shown_events, shown_last}
+use Rattle.monk_draw.specs.declared.legend.Legend.{Legend}
+use Rattle.monk_draw.specs.declared.stretch.Stretch.{Stretch}
 use Rattle.monk_draw.specs.declared.view.View.{View}
 
 -- how a history is looked at: its seats, its object, and how many events before those that are shown
@@ -19,3 +32,50 @@ all_marks h events fault = marks (view_of h events fault) 0 (shown_events fault 
 abbrev pub HasMarks : Heading → List Event → Option ℕ → List ℕ → Type 0
 HasMarks h events fault bytes =
     (under : List ℕ) × (bytes ≡ (under ++ all_marks h events fault) ++ codes "</svg>\n")
+
+-- how many lanes there are: one for each seat, and one more where the event that is shown last is of no seat
+abbrev pub lanes_with : ℕ → Option Event → ℕ
+lanes_with seats None = seats
+lanes_with seats (Some e) = if nat_lt (seat_of e) seats then seats else seats + 1
+
+abbrev pub lanes_for : ℕ → List Event → ℕ
+lanes_for seats shown = lanes_with seats (slice_get shown (length shown - 1))
+
+-- of so many events that are shown those that are allowed: all but the last, where that one is forbidden
+abbrev pub allowed_with : Option Event → ℕ → ℕ
+allowed_with None count = count
+allowed_with (Some e) count = count - 1
+
+-- what everything stands on
+unfoldable pub ground : Heading → ℕ → ℕ → ℕ → List ℕ
+ground h seats columns lanes =
+    head columns lanes ++ (style ++ (background ++ (heading_text h ++ (columns_below (columns_foot lanes) columns
+    ++ lanes_below (lanes_end columns) seats lanes))))
+
+-- what stands over stretches and arrows
+unfoldable pub above : ℕ → ℕ → ℕ → ℕ → List ℕ → ℕ → Option Event → Legend → List ℕ
+above seats columns lanes allowed reason last e legend =
+    tags seats columns ++ (wrong seats allowed last reason e ++ legend_text legend (lane_at lanes))
+
+-- all but the marks and the end, of some stretches, and with a legend
+unfoldable pub front : Heading → ℕ → List Event → Option ℕ → ℕ → List ℕ → List Stretch → Legend → List ℕ
+front h seats shown fault last reason drawn legend =
+    let e = forbidden_event fault last shown in
+    let allowed = allowed_with e (length shown) in
+    let lanes = lanes_for seats shown in
+    ground h seats (length shown) lanes ++ (stretches_text drawn ++ (hands seats allowed shown
+    ++ above seats (length shown) lanes allowed reason last e legend))
+
+-- behind the one text all but the marks and the end make the other
+pub record PutsFront (h : Heading) (seats : ℕ) (shown : List Event) (fault : Option ℕ) (last : ℕ) (reason : List ℕ)
+    (old new : List ℕ) : Type 0 where
+  pub drawn : List Stretch
+  pub legend : Legend
+  pub is : new ≡ old ++ front h seats shown fault last reason drawn legend
+
+-- the whole picture: all that stands under the marks, the marks and the end
+pub record IsPicture (h : Heading) (events : List Event) (fault : Option ℕ) (reason : List ℕ) (bytes : List ℕ) : Type 0 where
+  pub drawn : List Stretch
+  pub legend : Legend
+  pub is : bytes ≡ (front h h.seats (shown_events fault events) fault (shown_last fault (length events)) reason drawn legend
+      ++ all_marks h events fault) ++ codes "</svg>\n"

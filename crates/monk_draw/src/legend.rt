@@ -1,6 +1,8 @@
 //! What the colours and hatchings mean, of those that occur.
 
-ghost use Rattle.std.specs.Prelude.{◌≤◌};
+ghost use Rattle.std.specs.Prelude.{◌≡◌, ◌≤◌, ◌++◌, OnOk, string_bytes};
+ghost use Rattle.monk_draw.specs.Legend.{bar_sample, corner, corner_at, entries_then, entry_words, hand_entry, hand_sample};
+ghost use Rattle.monk_draw.specs.Legend.{legend_text, occurs, place_entry, place_sample, rail_sample};
 
 use crate::place::Place;
 use std::alloc::AllocError;
@@ -49,7 +51,9 @@ impl Legend {
         }
     }
 
-    fn has(self, place: Place) -> bool {
+    fn has(self, place: Place) -> bool
+        ensures { result ≡ occurs self place }
+    {
         match place {
             Place::Outside => true,
             Place::Entry => self.entry,
@@ -73,57 +77,117 @@ const PLACES: [Place; 7] = [
     Place::Outside,
 ];
 
-/// Puts where an entry of the legend begins, four of them in a row.
-fn put_corner(page: &mut String, at: u8, top: u64) -> Result<(), AllocError>
-    requires { top ≤ 100000 }
+#[tactic(auto, unfolding(crate::specs::Legend::corner_at))]
+fn put_corner_at(page: &mut String, x: u64, y: u64) -> Result<(), AllocError>
+    ensures { OnOk result (string_bytes page.new ≡ string_bytes page.old ++ corner_at x y) }
 {
-    let (x, y) = (16 + 180 * u64::from(at % 4), top + 22 * u64::from(at / 4));
     write!(page, "<g transform=\"translate({x} {y})\">")
 }
 
+/// Puts where an entry of the legend begins, four of them in a row.
+fn put_corner(page: &mut String, at: u8, top: u64) -> Result<(), AllocError>
+    requires { top ≤ 100000 }
+    ensures { OnOk result (string_bytes page.new ≡ string_bytes page.old ++ corner top at) }
+{
+    let (x, y) = (16 + 180 * u64::from(at % 4), top + 22 * u64::from(at / 4));
+    put_corner_at(page, x, y)
+}
+
 /// Puts what an entry says, and its end.
-fn put_words(page: &mut String, words: &str) -> Result<(), AllocError> {
+#[tactic(auto, unfolding(crate::specs::Legend::entry_words))]
+fn put_words(page: &mut String, words: &str) -> Result<(), AllocError>
+    ensures { OnOk result (string_bytes page.new ≡ string_bytes page.old ++ entry_words words.now) }
+{
     write!(
         page,
         "<text class=\"soft\" x=\"28\" y=\"10\">{words}</text></g>\n"
     )
 }
 
-/// Puts a sample of the place, and its words.
-fn put_place(page: &mut String, place: Place) -> Result<(), AllocError> {
-    if place == Place::Outside {
-        page.push_str("<path class=\"rail\" d=\"M0 6h22\"/>")?;
+#[tactic(auto, unfolding(crate::specs::Legend::rail_sample))]
+fn put_rail_sample(page: &mut String) -> Result<(), AllocError>
+    ensures { OnOk result (string_bytes page.new ≡ string_bytes page.old ++ rail_sample) }
+{
+    page.push_str("<path class=\"rail\" d=\"M0 6h22\"/>")
+}
+
+#[tactic(auto, unfolding(crate::specs::Legend::bar_sample))]
+fn put_bar_sample(page: &mut String, class: &str) -> Result<(), AllocError>
+    ensures { OnOk result (string_bytes page.new ≡ string_bytes page.old ++ bar_sample class.now) }
+{
+    write!(
+        page,
+        "<rect class=\"{class}\" width=\"22\" height=\"12\" rx=\"3\"/>"
+    )
+}
+
+#[tactic(auto, unfolding(crate::specs::Legend::hand_sample))]
+fn put_hand_sample(page: &mut String) -> Result<(), AllocError>
+    ensures { OnOk result (string_bytes page.new ≡ string_bytes page.old ++ hand_sample) }
+{
+    page.push_str("<path class=\"hand\" marker-end=\"url(#hand-tip)\" d=\"M0 6h20\"/>")
+}
+
+/// Puts a sample of the place.
+fn put_place_sample(page: &mut String, place: Place) -> Result<(), AllocError>
+    ensures { OnOk result (string_bytes page.new ≡ string_bytes page.old ++ place_sample place) }
+{
+    if place.is_outside() {
+        put_rail_sample(page)
     } else {
-        let class = place.class();
-        write!(
-            page,
-            "<rect class=\"{class}\" width=\"22\" height=\"12\" rx=\"3\"/>"
-        )?;
+        put_bar_sample(page, place.class())
     }
+}
+
+/// Puts the entry of the place behind so many entries, if it occurs.
+fn put_place_entry(
+    page: &mut String,
+    legend: Legend,
+    top: u64,
+    at: u8,
+    place: Place,
+) -> Result<(), AllocError>
+    requires { top ≤ 100000 }
+    ensures { OnOk result (string_bytes page.new ≡ string_bytes page.old ++ place_entry legend top at place) }
+{
+    if !legend.has(place) {
+        return Ok(());
+    }
+    put_corner(page, at, top)?;
+    put_place_sample(page, place)?;
     put_words(page, place.words())
 }
 
-/// Puts a sample of an arrow, and its words.
-fn put_hand(page: &mut String) -> Result<(), AllocError> {
-    page.push_str("<path class=\"hand\" marker-end=\"url(#hand-tip)\" d=\"M0 6h20\"/>")?;
+/// How many entries there are with that of the place.
+fn entries_then(legend: Legend, at: u8, place: Place) -> u8
+    requires { at ≤ 100 }
+    ensures { result ≡ entries_then legend at place }
+{
+    if legend.has(place) { at + 1 } else { at }
+}
+
+/// Puts the entry of an arrow behind so many entries, if one occurs.
+fn put_hand_entry(page: &mut String, legend: Legend, top: u64, at: u8) -> Result<(), AllocError>
+    requires { top ≤ 100000 }
+    ensures { OnOk result (string_bytes page.new ≡ string_bytes page.old ++ hand_entry legend top at) }
+{
+    if !legend.hand {
+        return Ok(());
+    }
+    put_corner(page, at, top)?;
+    put_hand_sample(page)?;
     put_words(page, "goes on by a release")
 }
 
 /// Puts the legend of what occurs.
 pub(crate) fn put_legend(page: &mut String, legend: Legend, top: u64) -> Result<(), AllocError>
     requires { top ≤ 100000 }
+    ensures { OnOk result (string_bytes page.new ≡ string_bytes page.old ++ legend_text legend top) }
 {
     let mut at: u8 = 0;
     for place in PLACES.iter() {
-        if legend.has(*place) {
-            put_corner(page, at, top)?;
-            put_place(page, *place)?;
-            at = at.saturating_add(1);
-        }
+        put_place_entry(page, legend, top, at, *place)?;
+        at = entries_then(legend, at, *place);
     }
-    if legend.hand {
-        put_corner(page, at, top)?;
-        put_hand(page)?;
-    }
-    Ok(())
+    put_hand_entry(page, legend, top, at)
 }

@@ -3,6 +3,7 @@
 
 mod frame;
 mod hand;
+mod heading;
 mod label;
 mod layout;
 mod legend;
@@ -14,6 +15,7 @@ mod seats;
 mod stretch;
 mod style;
 mod surface;
+mod tags;
 mod view;
 mod window;
 

@@ -1,43 +1,98 @@
 //! The picture of a history.
 
-ghost use Rattle.std.specs.Prelude.{◌≤◌, IfOk, length, string_bytes};
+ghost use Rattle.std.specs.Prelude.{◌≡◌, ◌≤◌, ◌++◌, IfOk, OnOk, length, slice_range, string_bytes};
 ghost use Rattle.monk_history.specs.Limits.{most_lines};
-ghost use Rattle.monk_draw.specs.Picture.{HasMarks};
+ghost use Rattle.monk_draw.specs.Picture.{HasMarks, IsPicture, PutsFront, above, allowed_with, ground, lanes_for};
 
-use crate::frame::{put_caption, put_frame};
+use crate::frame::{forbidden_event, put_wrong};
+use crate::hand::put_hands;
+use crate::heading::put_heading;
 use crate::legend::{Legend, put_legend};
 use crate::mark::put_marks;
-use crate::scene::{put_hands, put_stretches};
+use crate::scene::put_stretches;
 use crate::seats::seats_behind;
 use crate::style::put_style;
-use crate::surface::{Surface, put_heading};
+use crate::surface::{Surface, put_background};
+use crate::tags::put_tags;
 use crate::view::View;
 use crate::window::{not_shown, shown_last};
 use monk_history::{Event, Header};
 use std::alloc::{AllocError, Global};
 
-/// Whether the last event that is shown is the one that is forbidden.
-fn is_last(forbidden: Option<u32>, last: usize) -> bool {
-    match forbidden {
-        Some(step) => step as usize == last,
-        None => false,
+/// How many seats there are. The size is asked since it is its contract that says that a header's numbers are in range.
+fn seats_of(header: &Header) -> u8
+    ensures value { result ≡ header.now.seats }
+    ensures few { result ≤ 32 }
+{
+    let _ = header.size();
+    header.seats()
+}
+
+/// How many lanes there are: one for each seat, and one for a forbidden event of no seat.
+fn lanes_for(seats: u8, shown: &[Event]) -> u8
+    requires { seats ≤ 32 }
+    ensures { result ≡ lanes_for seats shown.now }
+{
+    match shown.last().copied() {
+        Some(event) => {
+            if event.seat() < seats {
+                seats
+            } else {
+                seats + 1
+            }
+        }
+        None => seats,
     }
 }
 
-/// Which lanes and columns there are: one lane for each seat, and one for a forbidden event of no seat.
-fn surface_of(view: View, shown: &[Event]) -> Surface
-    requires few { length shown.now ≤ most_lines }
+/// How many of those shown are allowed.
+fn allowed_with(forbidden: Option<Event>, count: usize) -> usize
+    ensures value { result ≡ allowed_with forbidden count }
+    ensures few { result ≤ count }
 {
-    let mut lanes = view.seats;
-    if let Some(event) = shown.last() {
-        if event.seat() >= view.seats {
-            lanes = view.seats.saturating_add(1);
-        }
+    match forbidden {
+        Some(_) => count.saturating_sub(1),
+        None => count,
     }
-    Surface {
-        columns: shown.len() as u32,
-        lanes,
-    }
+}
+
+/// Puts what everything stands on.
+#[tactic(auto, unfolding(crate::specs::Picture::ground))]
+fn put_ground(
+    page: &mut String,
+    header: &Header,
+    seats: u8,
+    surface: Surface,
+) -> Result<(), AllocError>
+    ensures { OnOk result (string_bytes page.new
+        ≡ string_bytes page.old ++ ground header.now seats surface.columns surface.lanes) }
+{
+    surface.put_head(page)?;
+    put_style(page)?;
+    put_background(page)?;
+    put_heading(page, header)?;
+    surface.put_columns(page)?;
+    surface.put_lanes(page, seats)
+}
+
+/// Puts what stands over stretches and arrows.
+#[tactic(auto, unfolding(crate::specs::Picture::above))]
+fn put_above(
+    page: &mut String,
+    seats: u8,
+    surface: Surface,
+    allowed: u32,
+    reason: &str,
+    last: u32,
+    forbidden: Option<Event>,
+    legend: Legend,
+) -> Result<(), AllocError>
+    ensures { OnOk result (string_bytes page.new ≡ string_bytes page.old
+        ++ above seats surface.columns surface.lanes allowed reason.now last forbidden legend) }
+{
+    put_tags(page, seats, surface.columns)?;
+    put_wrong(page, seats, allowed, last, reason, forbidden)?;
+    put_legend(page, legend, surface.base())
 }
 
 /// Puts all but the marks and the end.
@@ -50,41 +105,37 @@ fn put_front(
     forbidden: Option<u32>,
     reason: &str,
 ) -> Result<(), AllocError>
+    requires seats { view.seats ≤ 32 }
     requires before { view.before ≤ last }
     requires last { last ≤ length events.now }
     requires few { length events.now ≤ most_lines }
+    ensures { OnOk result (PutsFront header.now view.seats (slice_range events.now view.before last) forbidden last
+        reason.now (string_bytes page.old) (string_bytes page.new)) }
 {
     let shown = &events[view.before..last];
-    let surface = surface_of(view, shown);
-    surface.put_head(page)?;
-    put_style(page)?;
-    surface.put_background(page)?;
-    put_heading(page, header)?;
-    surface.put_columns(page)?;
-    surface.put_lanes(page, view.seats)?;
-    let is_forbidden = is_last(forbidden, last) && shown.len() > 0;
-    let allowed = if is_forbidden {
-        shown.len() - 1
-    } else {
-        shown.len()
+    let surface = Surface {
+        columns: shown.len() as u32,
+        lanes: lanes_for(view.seats, shown),
     };
+    put_ground(page, header, view.seats, surface)?;
+    let wrong = forbidden_event(forbidden, last, shown);
+    let allowed = allowed_with(wrong, shown.len());
     let mut legend = Legend::new();
     let seats = seats_behind(&events[..view.before]);
-    put_stretches(
+    let end = surface.end();
+    put_stretches(page, &mut legend, view, seats, &shown[..allowed], end)?;
+    put_hands(page, &mut legend, view.seats, shown, allowed)?;
+    let column = allowed as u32;
+    put_above(
         page,
-        &mut legend,
-        view,
-        seats,
-        &shown[..allowed],
-        surface.end(),
-    )?;
-    put_hands(page, &mut legend, view, shown, allowed)?;
-    surface.put_tags(page, view.seats)?;
-    if is_forbidden {
-        put_frame(page, view, allowed as u32, shown[allowed])?;
-        put_caption(page, allowed as u32, last as u32, reason)?;
-    }
-    put_legend(page, legend, surface.base())
+        view.seats,
+        surface,
+        column,
+        reason,
+        last as u32,
+        wrong,
+        legend,
+    )
 }
 
 /// The picture of a history as an SVG text: a lane for each seat, a column for each event, to the right.
@@ -110,10 +161,12 @@ pub fn draw(
     requires few { length events.now ≤ most_lines }
     // Behind everything else stand the marks of the events that are shown, in order, and the end.
     ensures marks { IfOk result (λ page. HasMarks header.now events.now forbidden (string_bytes page)) }
+    // Byte for byte the picture is its definition, for some stretches and a legend.
+    ensures picture { IfOk result (λ page. IsPicture header.now events.now forbidden reason.now (string_bytes page)) }
 {
     let last = shown_last(forbidden, events.len());
     let view = View {
-        seats: header.seats(),
+        seats: seats_of(header),
         object: header.object(),
         before: not_shown(last),
     };

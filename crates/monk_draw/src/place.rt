@@ -1,3 +1,9 @@
+//! Where a seat is.
+
+ghost use Rattle.std.specs.Prelude.{◌≡◌};
+ghost use Rattle.monk_draw.specs.Legend.{place_words};
+ghost use Rattle.monk_draw.specs.Stretch.{is_outside, place_class};
+
 /// Where a seat is.
 #[derive(Clone, Copy, Debug, PartialEq, Eq)]
 pub(crate) enum Place {
@@ -19,7 +25,9 @@ pub(crate) enum Place {
 
 impl Place {
     /// The class of its stretches, by which the style gives them colour and hatching.
-    pub(crate) fn class(self) -> &'static str {
+    pub(crate) fn class(self) -> &'static str
+        ensures { result.now ≡ place_class self }
+    {
         match self {
             Place::Outside => "outside",
             Place::Entry => "entry",
@@ -32,7 +40,9 @@ impl Place {
     }
 
     /// What the legend calls it.
-    pub(crate) fn words(self) -> &'static str {
+    pub(crate) fn words(self) -> &'static str
+        ensures { result.now ≡ place_words self }
+    {
         match self {
             Place::Outside => "outside",
             Place::Entry => "waits at the entry",
@@ -41,6 +51,20 @@ impl Place {
             Place::Waiter => "in the waiter queue",
             Place::Signaller => "in the signaller queue",
             Place::Until(_) => "waits until a predicate",
+        }
+    }
+    /// Whether it is outside.
+    pub(crate) fn is_outside(self) -> bool
+        ensures { result ≡ is_outside self }
+    {
+        match self {
+            Place::Outside => true,
+            Place::Entry
+            | Place::Active
+            | Place::Condition(_)
+            | Place::Waiter
+            | Place::Signaller
+            | Place::Until(_) => false,
         }
     }
 }

@@ -1,9 +1,9 @@
-//! What stands behind the marks of the events: stretches and arrows.
+//! Which stretches there are.
 
-ghost use Rattle.std.specs.Prelude.{◌≤◌, length};
+ghost use Rattle.std.specs.Prelude.{◌≤◌, ◌^◌, OnOk, length, string_bytes};
 ghost use Rattle.monk_history.specs.Limits.{most_lines};
+ghost use Rattle.monk_draw.specs.Stretch.{PutsStretches};
 
-use crate::hand::{Hand, goes_on, put_hand};
 use crate::layout::{COLUMN, LEFT, column_at, lane_of};
 use crate::legend::Legend;
 use crate::place::Place;
@@ -14,7 +14,9 @@ use monk_history::{Event, Via};
 use std::alloc::AllocError;
 
 /// Where the event stands, behind which a seat came to where it is: at the left edge, if it is not shown.
-fn start_of(view: View, stay: Stay) -> u64 {
+fn start_of(view: View, stay: Stay) -> u64
+    ensures { result ≤ 2 ^ 40 }
+{
     if stay.since > view.before {
         let column = stay.since - view.before - 1;
         match u32::try_from(column) {
@@ -34,7 +36,9 @@ fn put_stay(
     seat: u8,
     stay: Stay,
     to: u64,
-) -> Result<(), AllocError> {
+) -> Result<(), AllocError>
+    ensures { OnOk result (PutsStretches (string_bytes page.old) (string_bytes page.new)) }
+{
     legend.note(stay.place);
     let stretch = Stretch {
         lane: seat,
@@ -45,6 +49,25 @@ fn put_stay(
     put_stretch(page, stretch)
 }
 
+/// Puts the stretch of a seat that ends where it moves from `old` to `new`, if it does.
+fn put_change(
+    page: &mut String,
+    legend: &mut Legend,
+    view: View,
+    seat: u8,
+    old: Stay,
+    new: Stay,
+    x: u64,
+) -> Result<(), AllocError>
+    ensures { OnOk result (PutsStretches (string_bytes page.old) (string_bytes page.new)) }
+{
+    if old.place != new.place {
+        put_stay(page, legend, view, seat, old, x)
+    } else {
+        Ok(())
+    }
+}
+
 /// Puts the stretches that end where the seats move from `old` to `new`.
 fn put_changes(
     page: &mut String,
@@ -53,12 +76,11 @@ fn put_changes(
     old: &Seats,
     new: &Seats,
     x: u64,
-) -> Result<(), AllocError> {
+) -> Result<(), AllocError>
+    ensures { OnOk result (PutsStretches (string_bytes page.old) (string_bytes page.new)) }
+{
     for seat in 0..view.seats {
-        let stay = old.stay(seat);
-        if stay.place != new.stay(seat).place {
-            put_stay(page, legend, view, seat, stay, x)?;
-        }
+        put_change(page, legend, view, seat, old.stay(seat), new.stay(seat), x)?;
     }
     Ok(())
 }
@@ -70,7 +92,10 @@ fn put_entry(
     view: View,
     event: Event,
     x: u64,
-) -> Result<(), AllocError> {
+) -> Result<(), AllocError>
+    requires { x ≤ 2 ^ 40 }
+    ensures { OnOk result (PutsStretches (string_bytes page.old) (string_bytes page.new)) }
+{
     let Event::Enter(seat, Via::Handed) = event else {
         return Ok(());
     };
@@ -92,7 +117,9 @@ fn put_last(
     view: View,
     seats: &Seats,
     end: u64,
-) -> Result<(), AllocError> {
+) -> Result<(), AllocError>
+    ensures { OnOk result (PutsStretches (string_bytes page.old) (string_bytes page.new)) }
+{
     for seat in 0..view.seats {
         put_stay(page, legend, view, seat, seats.stay(seat), end)?;
     }
@@ -109,6 +136,7 @@ pub(crate) fn put_stretches(
     end: u64,
 ) -> Result<(), AllocError>
     requires few { length events.now ≤ most_lines }
+    ensures { OnOk result (PutsStretches (string_bytes page.old) (string_bytes page.new)) }
 {
     let mut seats = seats;
     for (column, event) in events.iter().enumerate() {
@@ -119,36 +147,4 @@ pub(crate) fn put_stretches(
         put_changes(page, legend, view, &old, &seats, x)?;
     }
     put_last(page, legend, view, &seats, end)
-}
-
-/// Puts an arrow for each event that hands the monitor to another seat.
-pub(crate) fn put_hands(
-    page: &mut String,
-    legend: &mut Legend,
-    view: View,
-    events: &[Event],
-    allowed: usize,
-) -> Result<(), AllocError>
-    requires few { length events.now ≤ most_lines }
-{
-    for (column, event) in events.iter().enumerate() {
-        let after = if column + 1 < events.len() {
-            Some(events[column + 1])
-        } else {
-            None
-        };
-        if let Some(seat) = goes_on(*event, after) {
-            if column < allowed {
-                legend.note_hand();
-            }
-            let hand = Hand {
-                class: if column < allowed { "hand" } else { "wish" },
-                from: lane_of(view.seats, event.seat()),
-                to: lane_of(view.seats, seat),
-                column: column as u32,
-            };
-            put_hand(page, hand)?;
-        }
-    }
-    Ok(())
 }

@@ -1,13 +1,13 @@
-//! The background with its lanes, columns and words.
+//! The ground of a picture: how it begins, its background, columns and lanes.
 
-ghost use Rattle.std.specs.Prelude.{◌≤◌};
+ghost use Rattle.std.specs.Prelude.{◌≡◌, ◌≤◌, ◌+◌, ◌*◌, ◌^◌, ◌++◌, OnOk, string_bytes};
+ghost use Rattle.monk_draw.specs.Layout.{lane_at};
+ghost use Rattle.monk_draw.specs.Surface.{background, column_line, columns_below, columns_foot, head, head_title};
+ghost use Rattle.monk_draw.specs.Surface.{lane_name, lane_text, lanes_below, lanes_end, no_seat_name, opening};
+ghost use Rattle.monk_draw.specs.Surface.{picture_height, picture_width, rail, seat_name, sized};
 
 use crate::layout::{COLUMN, LANE, LEFT, column_at, lane_at};
-use monk_history::Header;
 use std::alloc::AllocError;
-
-/// The most columns of which all are seen at once.
-const NARROW: u32 = 20;
 
 /// How large a picture is.
 #[derive(Clone, Copy)]
@@ -20,126 +20,156 @@ pub(crate) struct Surface {
 
 impl Surface {
     /// Where the lanes end, a little behind the last column.
-    pub(crate) fn end(self) -> u64 {
+    pub(crate) fn end(self) -> u64
+        ensures { result ≡ lanes_end self.columns }
+    {
         LEFT + COLUMN * u64::from(self.columns) + 16
     }
 
-    fn width(self) -> u64 {
+    fn width(self) -> u64
+        ensures { result ≡ picture_width self.columns }
+    {
         let width = self.end();
-        if width < 744 {
-            760
-        } else {
-            width.saturating_add(16)
-        }
+        if width < 744 { 760 } else { width + 16 }
+    }
+
+    fn height(self) -> u64
+        ensures { result ≡ picture_height self.lanes }
+    {
+        self.base() + 70
     }
 
     /// The line below the last lane.
     pub(crate) fn base(self) -> u64
-        ensures some { 31 ≤ result }
+        ensures at { result ≡ lane_at self.lanes }
         ensures few { result ≤ 20000 }
     {
         lane_at(self.lanes)
     }
 
-    /// Puts how the picture begins.
-    pub(crate) fn put_head(self, page: &mut String) -> Result<(), AllocError> {
-        let (width, height) = (self.width(), self.base() + 70);
-        write!(
-            page,
-            "<svg xmlns=\"http://www.w3.org/2000/svg\" role=\"img\" "
-        )?;
-        write!(
-            page,
-            "viewBox=\"0 0 {width} {height}\" width=\"{width}\" height=\"{height}\">\n"
-        )?;
-        page.push_str("<title>The history of a monitor</title>\n")
+    /// Where the lines of the columns end.
+    fn foot(self) -> u64
+        ensures { result ≡ columns_foot self.lanes }
+    {
+        self.base() - LANE / 2
     }
 
-    /// Puts the background.
-    pub(crate) fn put_background(self, page: &mut String) -> Result<(), AllocError> {
-        page.push_str("<rect class=\"background\" width=\"100%\" height=\"100%\"/>\n")
+    /// Puts how the picture begins.
+    pub(crate) fn put_head(self, page: &mut String) -> Result<(), AllocError>
+        ensures { OnOk result (string_bytes page.new ≡ string_bytes page.old ++ head self.columns self.lanes) }
+    {
+        put_opening(page)?;
+        put_sized(page, self.width(), self.height())?;
+        put_head_title(page)
     }
 
     /// Puts a thin line for each column.
-    pub(crate) fn put_columns(self, page: &mut String) -> Result<(), AllocError> {
-        let foot = self.base() - LANE / 2;
+    #[tactic(auto, unfolding(crate::specs::Surface::columns_below))]
+    pub(crate) fn put_columns(self, page: &mut String) -> Result<(), AllocError>
+        ensures { OnOk result (string_bytes page.new
+            ≡ string_bytes page.old ++ columns_below (columns_foot self.lanes) self.columns) }
+    {
+        let foot = self.foot();
         for column in 0..self.columns {
-            let x = column_at(column);
-            write!(
-                page,
-                "<line class=\"grid\" x1=\"{x}\" x2=\"{x}\" y1=\"68\" y2=\"{foot}\"/>\n"
-            )?;
-        }
-        Ok(())
-    }
-
-    /// Puts the number of each seat once more, at the left edge of a column.
-    fn put_tags_at(self, page: &mut String, seats: u8, column: u32) -> Result<(), AllocError> {
-        let x = LEFT + COLUMN * u64::from(column);
-        for seat in 0..seats {
-            let y = lane_at(seat) + 4;
-            write!(
-                page,
-                "<text class=\"tag\" x=\"{x}\" y=\"{y}\">{seat}</text>\n"
-            )?;
-        }
-        Ok(())
-    }
-
-    /// Puts the numbers of the seats once more at each tenth column of a wide picture, for who looks at a part of it.
-    pub(crate) fn put_tags(self, page: &mut String, seats: u8) -> Result<(), AllocError> {
-        if self.columns <= NARROW {
-            return Ok(());
-        }
-        for column in 1..self.columns {
-            if column % 10 == 0 {
-                self.put_tags_at(page, seats, column)?;
-            }
+            put_column_line(page, foot, column_at(column))?;
         }
         Ok(())
     }
 
     /// Puts a rail for each lane, with its seat.
-    pub(crate) fn put_lanes(self, page: &mut String, seats: u8) -> Result<(), AllocError> {
+    #[tactic(auto, unfolding(crate::specs::Surface::lanes_below))]
+    pub(crate) fn put_lanes(self, page: &mut String, seats: u8) -> Result<(), AllocError>
+        ensures { OnOk result (string_bytes page.new
+            ≡ string_bytes page.old ++ lanes_below (lanes_end self.columns) seats self.lanes) }
+    {
         let end = self.end();
         for lane in 0..self.lanes {
-            let y = lane_at(lane);
-            write!(
-                page,
-                "<line class=\"rail\" x1=\"{LEFT}\" x2=\"{end}\" y1=\"{y}\" y2=\"{y}\"/>\n"
-            )?;
-            let base = y + 4;
-            if lane < seats {
-                write!(page, "<text x=\"16\" y=\"{base}\">seat {lane}</text>\n")?;
-            } else {
-                write!(page, "<text x=\"16\" y=\"{base}\">no seat</text>\n")?;
-            }
+            put_lane(page, end, seats, lane)?;
         }
         Ok(())
     }
 }
 
-/// The ending of a word of which there are so many.
-fn plural(number: u8) -> &'static str {
-    if number == 1 { "" } else { "s" }
+#[tactic(auto, unfolding(crate::specs::Surface::opening))]
+fn put_opening(page: &mut String) -> Result<(), AllocError>
+    ensures { OnOk result (string_bytes page.new ≡ string_bytes page.old ++ opening) }
+{
+    page.push_str("<svg xmlns=\"http://www.w3.org/2000/svg\" role=\"img\" ")
 }
 
-/// Puts what the history is of: its kind, its seats, its conditions and its object.
-pub(crate) fn put_heading(page: &mut String, header: &Header) -> Result<(), AllocError> {
-    let (seats, conds, size) = (header.seats(), header.conds(), header.size());
-    let kind = str::from_utf8(header.kind().text()).unwrap_or("");
-    let object = str::from_utf8(header.object().text()).unwrap_or("");
+#[tactic(auto, unfolding(crate::specs::Surface::sized))]
+fn put_sized(page: &mut String, width: u64, height: u64) -> Result<(), AllocError>
+    ensures { OnOk result (string_bytes page.new ≡ string_bytes page.old ++ sized width height) }
+{
     write!(
         page,
-        "<text class=\"head\" x=\"16\" y=\"28\">{kind}</text>\n"
-    )?;
-    let (more_seats, more_conds) = (plural(seats), plural(conds));
-    write!(
-        page,
-        "<text class=\"soft\" x=\"{LEFT}\" y=\"28\">{seats} seat{more_seats}, "
-    )?;
-    write!(
-        page,
-        "{conds} condition{more_conds}, {object} of {size}</text>\n"
+        "viewBox=\"0 0 {width} {height}\" width=\"{width}\" height=\"{height}\">\n"
     )
+}
+
+#[tactic(auto, unfolding(crate::specs::Surface::head_title))]
+fn put_head_title(page: &mut String) -> Result<(), AllocError>
+    ensures { OnOk result (string_bytes page.new ≡ string_bytes page.old ++ head_title) }
+{
+    page.push_str("<title>The history of a monitor</title>\n")
+}
+
+/// Puts the background.
+#[tactic(auto, unfolding(crate::specs::Surface::background))]
+pub(crate) fn put_background(page: &mut String) -> Result<(), AllocError>
+    ensures { OnOk result (string_bytes page.new ≡ string_bytes page.old ++ background) }
+{
+    page.push_str("<rect class=\"background\" width=\"100%\" height=\"100%\"/>\n")
+}
+
+#[tactic(auto, unfolding(crate::specs::Surface::column_line))]
+fn put_column_line(page: &mut String, foot: u64, x: u64) -> Result<(), AllocError>
+    ensures { OnOk result (string_bytes page.new ≡ string_bytes page.old ++ column_line foot x) }
+{
+    write!(
+        page,
+        "<line class=\"grid\" x1=\"{x}\" x2=\"{x}\" y1=\"68\" y2=\"{foot}\"/>\n"
+    )
+}
+
+#[tactic(auto, unfolding(crate::specs::Surface::rail))]
+fn put_rail(page: &mut String, end: u64, y: u64) -> Result<(), AllocError>
+    ensures { OnOk result (string_bytes page.new ≡ string_bytes page.old ++ rail end y) }
+{
+    write!(
+        page,
+        "<line class=\"rail\" x1=\"{LEFT}\" x2=\"{end}\" y1=\"{y}\" y2=\"{y}\"/>\n"
+    )
+}
+
+#[tactic(auto, unfolding(crate::specs::Surface::seat_name))]
+fn put_seat_name(page: &mut String, base: u64, seat: u8) -> Result<(), AllocError>
+    ensures { OnOk result (string_bytes page.new ≡ string_bytes page.old ++ seat_name base seat) }
+{
+    write!(page, "<text x=\"16\" y=\"{base}\">seat {seat}</text>\n")
+}
+
+#[tactic(auto, unfolding(crate::specs::Surface::no_seat_name))]
+fn put_no_seat_name(page: &mut String, base: u64) -> Result<(), AllocError>
+    ensures { OnOk result (string_bytes page.new ≡ string_bytes page.old ++ no_seat_name base) }
+{
+    write!(page, "<text x=\"16\" y=\"{base}\">no seat</text>\n")
+}
+
+fn put_lane_name(page: &mut String, seats: u8, lane: u8) -> Result<(), AllocError>
+    ensures { OnOk result (string_bytes page.new ≡ string_bytes page.old ++ lane_name seats lane) }
+{
+    let base = lane_at(lane) + 4;
+    if lane < seats {
+        put_seat_name(page, base, lane)
+    } else {
+        put_no_seat_name(page, base)
+    }
+}
+
+fn put_lane(page: &mut String, end: u64, seats: u8, lane: u8) -> Result<(), AllocError>
+    ensures { OnOk result (string_bytes page.new ≡ string_bytes page.old ++ lane_text end seats lane) }
+{
+    put_rail(page, end, lane_at(lane))?;
+    put_lane_name(page, seats, lane)
 }

@@ -1,12 +1,19 @@
 use Rattle.std.specs.Prelude.{string_bytes}
 use Rattle.monk_draw.proofs.MarkLaws.{has_marks}
+use Rattle.monk_draw.proofs.PictureLaws.{is_picture}
 use Rattle.monk_draw.proofs.picture.draw.Goals as goal
 
 pub returns : goal.returns
 returns c = record {
   marks =
-      has_marks c.args.header.now c.args.events.now c.args.forbidden c.seats.result c.object.result c.not_shown.result
+      has_marks c.args.header.now c.args.events.now c.args.forbidden c.seats_of.result c.object.result c.not_shown.result
       c.shown_last-last.result (string_bytes c.put_front.new.page) (string_bytes c.put_marks.new.page)
-      (string_bytes c.push_str.new.self) c.seats.ensures c.object.ensures c.not_shown.ensures.before
+      (string_bytes c.push_str.new.self) c.seats_of.ensures.value c.object.ensures c.not_shown.ensures.before
       c.shown_last-last.ensures.last c.in_ok-put_marks.ensures c.in_ok-push_str.ensures.bytes;
+  picture =
+      is_picture c.args.header.now c.args.events.now c.args.forbidden c.args.reason.now c.seats_of.result c.object.result
+      c.not_shown.result c.shown_last-last.result (string_bytes c.new-page.result) (string_bytes c.put_front.new.page)
+      (string_bytes c.put_marks.new.page) (string_bytes c.push_str.new.self) c.seats_of.ensures.value c.object.ensures
+      c.not_shown.ensures.before c.shown_last-last.ensures.last c.new-page.ensures.bytes c.in_ok-put_front.ensures
+      c.in_ok-put_marks.ensures c.in_ok-push_str.ensures.bytes;
 }

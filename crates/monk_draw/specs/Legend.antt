@@ -1,0 +1,72 @@
+-- What the colours and hatchings mean, of the places that occur
+use Rattle.std.specs.Prelude.{ℕ, ◌+◌, ◌*◌, ◌/◌, ◌%◌, Bool, true, List, [], ◌∷◌, ◌++◌, if◌then◌else◌, codes}
+use Rattle.std.specs.Fmt.{decimal}
+use Rattle.monk_draw.specs.Stretch.{is_outside, place_class}
+use Rattle.monk_draw.specs.declared.legend.Legend.{Legend}
+use Rattle.monk_draw.specs.declared.place.Place.{Place}
+use Rattle.monk_draw.specs.declared.place.Place.TheVariants.{Outside, Entry, Active, Condition, Waiter, Signaller, Until}
+
+abbrev pub place_words : Place → List ℕ
+place_words Outside = codes "outside"
+place_words Entry = codes "waits at the entry"
+place_words Active = codes "active"
+place_words (Condition c) = codes "waits on a condition"
+place_words Waiter = codes "in the waiter queue"
+place_words Signaller = codes "in the signaller queue"
+place_words (Until p) = codes "waits until a predicate"
+
+-- whether the place occurs; outside always does
+abbrev pub occurs : Legend → Place → Bool
+occurs l Outside = true
+occurs l Entry = l.entry
+occurs l Active = l.active
+occurs l (Condition c) = l.condition
+occurs l Waiter = l.waiter
+occurs l Signaller = l.signaller
+occurs l (Until p) = l.until
+
+-- where an entry begins, four of them in a row
+unfoldable pub corner_at : ℕ → ℕ → List ℕ
+corner_at x y = codes "<g transform=\"translate(" ++ (decimal x ++ (codes " " ++ (decimal y ++ codes ")\">")))
+
+abbrev pub corner : ℕ → ℕ → List ℕ
+corner top at = corner_at (16 + 180 * (at % 4)) (top + 22 * (at / 4))
+
+-- a sample, and what an entry says
+unfoldable pub rail_sample : List ℕ
+rail_sample = codes "<path class=\"rail\" d=\"M0 6h22\"/>"
+
+unfoldable pub bar_sample : List ℕ → List ℕ
+bar_sample class = codes "<rect class=\"" ++ (class ++ codes "\" width=\"22\" height=\"12\" rx=\"3\"/>")
+
+unfoldable pub hand_sample : List ℕ
+hand_sample = codes "<path class=\"hand\" marker-end=\"url(#hand-tip)\" d=\"M0 6h20\"/>"
+
+abbrev pub place_sample : Place → List ℕ
+place_sample p = if is_outside p then rail_sample else bar_sample (place_class p)
+
+unfoldable pub entry_words : List ℕ → List ℕ
+entry_words words = codes "<text class=\"soft\" x=\"28\" y=\"10\">" ++ (words ++ codes "</text></g>\n")
+
+-- the entry of a place that occurs, behind so many entries, and how many there are then
+abbrev pub place_entry : Legend → ℕ → ℕ → Place → List ℕ
+place_entry l top at p =
+    if occurs l p then corner top at ++ (place_sample p ++ entry_words (place_words p)) else []
+
+abbrev pub entries_then : Legend → ℕ → Place → ℕ
+entries_then l at p = if occurs l p then at + 1 else at
+
+abbrev pub hand_entry : Legend → ℕ → ℕ → List ℕ
+hand_entry l top at =
+    if l.hand then corner top at ++ (hand_sample ++ entry_words (codes "goes on by a release")) else []
+
+-- the entries of these places in order, and that of an arrow
+unfoldable pub entries : Legend → ℕ → ℕ → List Place → List ℕ
+entries l top at [] = hand_entry l top at
+entries l top at (p ∷ ps) = place_entry l top at p ++ entries l top (entries_then l at p) ps
+
+abbrev pub legend_places : List Place
+legend_places = Active ∷ Entry ∷ Condition 0 ∷ Waiter ∷ Signaller ∷ Until 0 ∷ Outside ∷ []
+
+abbrev pub legend_text : Legend → ℕ → List ℕ
+legend_text l top = entries l top 0 legend_places
