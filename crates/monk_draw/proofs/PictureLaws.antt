@@ -48,14 +48,14 @@ pub puts_front : (h : Heading) (seats : ℕ) (shown : List Event) (fault : Optio
     → handed ≡ stretched ++ hands seats allowed shown
     → new ≡ handed ++ above seats (length shown) lanes allowed reason last e legend
     → PutsFront h seats shown fault last reason old new
-puts_front h seats shown fault last reason old grounded stretched handed new legend lanes e allowed of_lanes of_event of_allowed first second third fourth = record {
+puts_front h seats shown fault last reason old grounded stretched handed new legend lanes e allowed lanes_is e_is allowed_is first second third fourth = record {
   drawn = second.drawn;
   legend = legend;
   is =
       four_put old (ground h seats (length shown) lanes) (stretches_text second.drawn) (hands seats allowed shown)
       (above seats (length shown) lanes allowed reason last e legend) grounded stretched handed new first second.is third fourth
       ∙ ap (λ (text : List ℕ). old ++ text)
-      (same_front h seats shown fault last reason second.drawn legend lanes e allowed of_lanes of_event of_allowed);
+      (same_front h seats shown fault last reason second.drawn legend lanes e allowed lanes_is e_is allowed_is);
 }
 
 -- what stands in front of the marks is that of the events that are shown

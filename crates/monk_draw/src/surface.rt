@@ -1,6 +1,6 @@
 //! The ground of a picture: how it begins, its background, columns and lanes.
 
-ghost use Rattle.std.specs.Prelude.{◌≡◌, ◌≤◌, ◌+◌, ◌*◌, ◌^◌, ◌++◌, OnOk, string_bytes};
+ghost use Rattle.std.specs.Prelude.{◌≡◌, ◌≤◌, ◌+◌, ◌*◌, ◌++◌, OnOk, string_bytes};
 ghost use Rattle.monk_draw.specs.Layout.{lane_at};
 ghost use Rattle.monk_draw.specs.Surface.{background, column_line, columns_below, columns_foot, head, head_title};
 ghost use Rattle.monk_draw.specs.Surface.{lane_name, lane_text, lanes_below, lanes_end, no_seat_name, opening};
