@@ -1,4 +1,5 @@
 mod MarkLaws
 mod StretchLaws
+mod HandLaws
 mod LegendLaws
 mod PictureLaws

@@ -10,4 +10,5 @@ pub mod Frame
 pub mod Stretch
 pub mod Hand
 pub mod Legend
+pub mod Scene
 pub mod Picture

@@ -10,6 +10,7 @@ use Rattle.monk_draw.specs.Heading.{heading_text}
 use Rattle.monk_draw.specs.Layout.{lane_at}
 use Rattle.monk_draw.specs.Legend.{legend_text}
 use Rattle.monk_draw.specs.Mark.{marks}
+use Rattle.monk_draw.specs.Scene.{legend_of}
 use Rattle.monk_draw.specs.Stretch.{stretches_text}
 use Rattle.monk_draw.specs.Style.{style}
 use Rattle.monk_draw.specs.Surface.{background, columns_below, columns_foot, head, lanes_below, lanes_end}
@@ -57,25 +58,23 @@ unfoldable pub above : ℕ → ℕ → ℕ → ℕ → List ℕ → ℕ → Opti
 above seats columns lanes allowed reason last e legend =
     tags seats columns ++ (wrong seats allowed last reason e ++ legend_text legend (lane_at lanes))
 
--- all but the marks and the end, of some stretches, and with a legend
-unfoldable pub front : Heading → ℕ → List Event → Option ℕ → ℕ → List ℕ → List Stretch → Legend → List ℕ
-front h seats shown fault last reason drawn legend =
+-- all but the marks and the end, of some stretches
+unfoldable pub front : Heading → ℕ → List Event → Option ℕ → ℕ → List ℕ → List Stretch → List ℕ
+front h seats shown fault last reason drawn =
     let e = forbidden_event fault last shown in
     let allowed = allowed_with e (length shown) in
     let lanes = lanes_for seats shown in
     ground h seats (length shown) lanes ++ (stretches_text drawn ++ (hands seats allowed shown
-    ++ above seats (length shown) lanes allowed reason last e legend))
+    ++ above seats (length shown) lanes allowed reason last e (legend_of drawn allowed shown)))
 
 -- behind the one text all but the marks and the end make the other
 pub record PutsFront (h : Heading) (seats : ℕ) (shown : List Event) (fault : Option ℕ) (last : ℕ) (reason : List ℕ)
     (old new : List ℕ) : Type 0 where
   pub drawn : List Stretch
-  pub legend : Legend
-  pub is : new ≡ old ++ front h seats shown fault last reason drawn legend
+  pub is : new ≡ old ++ front h seats shown fault last reason drawn
 
 -- the whole picture: all that stands under the marks, the marks and the end
 pub record IsPicture (h : Heading) (events : List Event) (fault : Option ℕ) (reason : List ℕ) (bytes : List ℕ) : Type 0 where
   pub drawn : List Stretch
-  pub legend : Legend
-  pub is : bytes ≡ (front h h.seats (shown_events fault events) fault (shown_last fault (length events)) reason drawn legend
+  pub is : bytes ≡ (front h h.seats (shown_events fault events) fault (shown_last fault (length events)) reason drawn
       ++ all_marks h events fault) ++ codes "</svg>\n"

@@ -1,5 +1,5 @@
 -- A stretch: a seat's time in one place, drawn along its lane
-use Rattle.std.specs.Prelude.{◌≡◌, ℕ, ◌+◌, ◌-◌, ◌/◌, Bool, true, false, List, [], ◌++◌, nat_lt, if◌then◌else◌, codes}
+use Rattle.std.specs.Prelude.{ℕ, ◌+◌, ◌-◌, ◌/◌, Bool, true, false, List, [], ◌++◌, nat_lt, if◌then◌else◌, codes}
 use Rattle.std.specs.List.{flat_map}
 use Rattle.std.specs.Fmt.{decimal}
 use Rattle.monk_draw.specs.Layout.{lane_at}
@@ -63,8 +63,3 @@ stretch_text s =
 
 abbrev pub stretches_text : List Stretch → List ℕ
 stretches_text drawn = flat_map stretch_text drawn
-
--- behind the one text some stretches make the other
-pub record PutsStretches (old new : List ℕ) : Type 0 where
-  pub drawn : List Stretch
-  pub is : new ≡ old ++ stretches_text drawn

@@ -3,6 +3,7 @@
 ghost use Rattle.std.specs.Prelude.{◌≡◌, ◌≤◌, ◌^◌, ◌++◌, OnOk, length, slice_get, string_bytes};
 ghost use Rattle.monk_history.specs.Limits.{most_lines};
 ghost use Rattle.monk_draw.specs.Hand.{arrow, arrow_class, arrow_line, arrow_path, goes_on, hand_behind, hand_class};
+ghost use Rattle.monk_draw.specs.Scene.{hand_noted, hand_noted_behind, hands_noted_below};
 ghost use Rattle.monk_draw.specs.Hand.{hand_to, handed, hands, hands_below};
 
 use crate::layout::{column_at, lane_at, lane_of};
@@ -127,7 +128,8 @@ fn put_hand_to(
     from: u8,
     to: Option<u8>,
 ) -> Result<(), AllocError>
-    ensures { OnOk result (string_bytes page.new ≡ string_bytes page.old ++ hand_to seats allowed column from to) }
+    ensures page { OnOk result (string_bytes page.new ≡ string_bytes page.old ++ hand_to seats allowed column from to) }
+    ensures legend { OnOk result (legend.new ≡ hand_noted legend.old allowed column to) }
 {
     let Some(to) = to else {
         return Ok(());
@@ -146,7 +148,7 @@ fn put_hand_to(
 }
 
 /// Puts the arrow behind the event in this column.
-#[tactic(auto, unfolding(crate::specs::Hand::hand_behind))]
+#[tactic(auto, unfolding(crate::specs::Hand::hand_behind, crate::specs::Scene::hand_noted_behind))]
 fn put_hand_behind(
     page: &mut String,
     legend: &mut Legend,
@@ -156,8 +158,9 @@ fn put_hand_behind(
     event: Option<Event>,
     after: Option<Event>,
 ) -> Result<(), AllocError>
-    ensures { OnOk result (string_bytes page.new
+    ensures page { OnOk result (string_bytes page.new
         ≡ string_bytes page.old ++ hand_behind seats allowed column event after) }
+    ensures legend { OnOk result (legend.new ≡ hand_noted_behind legend.old allowed column event after) }
 {
     match event {
         Some(event) => {
@@ -175,7 +178,7 @@ fn event_at(events: &[Event], index: usize) -> Option<Event>
 }
 
 /// Puts an arrow for each event that hands the monitor to another seat.
-#[tactic(auto, unfolding(crate::specs::Hand::hands_below))]
+#[tactic(auto, unfolding(crate::specs::Hand::hands_below, crate::specs::Scene::hands_noted_below))]
 pub(crate) fn put_hands(
     page: &mut String,
     legend: &mut Legend,
@@ -184,7 +187,9 @@ pub(crate) fn put_hands(
     allowed: usize,
 ) -> Result<(), AllocError>
     requires few { length events.now ≤ most_lines }
-    ensures { OnOk result (string_bytes page.new ≡ string_bytes page.old ++ hands seats allowed events.now) }
+    ensures page { OnOk result (string_bytes page.new ≡ string_bytes page.old ++ hands seats allowed events.now) }
+    ensures legend { OnOk result
+        (legend.new ≡ hands_noted_below legend.old allowed events.now (length events.now)) }
 {
     for column in 0..events.len() {
         let (event, after) = (event_at(events, column), event_at(events, column + 1));

@@ -1,6 +1,7 @@
 //! What the colours and hatchings mean, of those that occur.
 
-ghost use Rattle.std.specs.Prelude.{◌≡◌, ◌≤◌, ◌++◌, OnOk, string_bytes};
+ghost use Rattle.std.specs.Prelude.{◌≡◌, ◌≤◌, ◌++◌, OnOk, string_bytes, true};
+ghost use Rattle.monk_draw.specs.Scene.{empty_legend, noted};
 ghost use Rattle.monk_draw.specs.Legend.{bar_sample, corner, corner_at, entries_then, entry_words, hand_entry, hand_sample};
 ghost use Rattle.monk_draw.specs.Legend.{legend_text, occurs, place_entry, place_sample, rail_sample};
 
@@ -21,7 +22,9 @@ pub(crate) struct Legend {
 
 impl Legend {
     /// None.
-    pub(crate) fn new() -> Legend {
+    pub(crate) fn new() -> Legend
+        ensures { result ≡ empty_legend }
+    {
         Legend {
             entry: false,
             active: false,
@@ -34,12 +37,17 @@ impl Legend {
     }
 
     /// An arrow too.
-    pub(crate) fn note_hand(&mut self) {
+    pub(crate) fn note_hand(&mut self)
+        ensures { self.new ≡ record self.old { hand = true } }
+    {
         self.hand = true;
     }
 
     /// That place too.
-    pub(crate) fn note(&mut self, place: Place) {
+    #[tactic(auto, unfolding(crate::specs::Scene::noted))]
+    pub(crate) fn note(&mut self, place: Place)
+        ensures { self.new ≡ noted self.old place }
+    {
         match place {
             Place::Outside => {}
             Place::Entry => self.entry = true,

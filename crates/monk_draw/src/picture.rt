@@ -161,7 +161,7 @@ pub fn draw(
     requires few { length events.now ≤ most_lines }
     // Behind everything else stand the marks of the events that are shown, in order, and the end.
     ensures marks { IfOk result (λ page. HasMarks header.now events.now forbidden (string_bytes page)) }
-    // Byte for byte the picture is its definition, for some stretches and a legend.
+    // Byte for byte the picture is its definition, for some stretches.
     ensures picture { IfOk result (λ page. IsPicture header.now events.now forbidden reason.now (string_bytes page)) }
 {
     let last = shown_last(forbidden, events.len());

@@ -2,7 +2,7 @@
 
 ghost use Rattle.std.specs.Prelude.{◌≤◌, ◌^◌, OnOk, length, string_bytes};
 ghost use Rattle.monk_history.specs.Limits.{most_lines};
-ghost use Rattle.monk_draw.specs.Stretch.{PutsStretches};
+ghost use Rattle.monk_draw.specs.Scene.{PutsStretches};
 
 use crate::layout::{COLUMN, LEFT, column_at, lane_of};
 use crate::legend::Legend;
@@ -37,7 +37,7 @@ fn put_stay(
     stay: Stay,
     to: u64,
 ) -> Result<(), AllocError>
-    ensures { OnOk result (PutsStretches (string_bytes page.old) (string_bytes page.new)) }
+    ensures { OnOk result (PutsStretches (string_bytes page.old) (string_bytes page.new) legend.old legend.new) }
 {
     legend.note(stay.place);
     let stretch = Stretch {
@@ -59,7 +59,7 @@ fn put_change(
     new: Stay,
     x: u64,
 ) -> Result<(), AllocError>
-    ensures { OnOk result (PutsStretches (string_bytes page.old) (string_bytes page.new)) }
+    ensures { OnOk result (PutsStretches (string_bytes page.old) (string_bytes page.new) legend.old legend.new) }
 {
     if old.place != new.place {
         put_stay(page, legend, view, seat, old, x)
@@ -77,7 +77,7 @@ fn put_changes(
     new: &Seats,
     x: u64,
 ) -> Result<(), AllocError>
-    ensures { OnOk result (PutsStretches (string_bytes page.old) (string_bytes page.new)) }
+    ensures { OnOk result (PutsStretches (string_bytes page.old) (string_bytes page.new) legend.old legend.new) }
 {
     for seat in 0..view.seats {
         put_change(page, legend, view, seat, old.stay(seat), new.stay(seat), x)?;
@@ -86,6 +86,7 @@ fn put_changes(
 }
 
 /// Puts how a seat that was handed the monitor waited at the entry.
+#[tactic(auto, using(crate::proofs::StretchLaws::no_stretches))]
 fn put_entry(
     page: &mut String,
     legend: &mut Legend,
@@ -94,7 +95,7 @@ fn put_entry(
     x: u64,
 ) -> Result<(), AllocError>
     requires { x ≤ 2 ^ 40 }
-    ensures { OnOk result (PutsStretches (string_bytes page.old) (string_bytes page.new)) }
+    ensures { OnOk result (PutsStretches (string_bytes page.old) (string_bytes page.new) legend.old legend.new) }
 {
     let Event::Enter(seat, Via::Handed) = event else {
         return Ok(());
@@ -118,7 +119,7 @@ fn put_last(
     seats: &Seats,
     end: u64,
 ) -> Result<(), AllocError>
-    ensures { OnOk result (PutsStretches (string_bytes page.old) (string_bytes page.new)) }
+    ensures { OnOk result (PutsStretches (string_bytes page.old) (string_bytes page.new) legend.old legend.new) }
 {
     for seat in 0..view.seats {
         put_stay(page, legend, view, seat, seats.stay(seat), end)?;
@@ -136,7 +137,7 @@ pub(crate) fn put_stretches(
     end: u64,
 ) -> Result<(), AllocError>
     requires few { length events.now ≤ most_lines }
-    ensures { OnOk result (PutsStretches (string_bytes page.old) (string_bytes page.new)) }
+    ensures { OnOk result (PutsStretches (string_bytes page.old) (string_bytes page.new) legend.old legend.new) }
 {
     let mut seats = seats;
     for (column, event) in events.iter().enumerate() {

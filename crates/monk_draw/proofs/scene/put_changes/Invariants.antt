@@ -1,7 +1,7 @@
 use Rattle.std.specs.Prelude.{string_bytes}
-use Rattle.monk_draw.specs.Stretch.{PutsStretches}
+use Rattle.monk_draw.specs.Scene.{PutsStretches}
 use Rattle.monk_draw.proofs.scene.put_changes.Given as goal
 
 -- some stretches were put
 abbrev pub invariant-loop-seat : goal.invariant-loop-seat
-invariant-loop-seat l = PutsStretches (string_bytes l.fn.page) (string_bytes l.page)
+invariant-loop-seat l = PutsStretches (string_bytes l.fn.page) (string_bytes l.page) l.fn.legend l.legend
