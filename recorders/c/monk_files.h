@@ -180,16 +180,37 @@ static int next_file(const char *prefix, char name[NAME]) {
     return file;
 }
 
-/* Gives how many words the line has. */
+static void put_text(struct page *page, const char *text) {
+    while (*text)
+        page->text[page->length++] = *text++;
+}
+
+/* Behind a space. */
+static void put_number(struct page *page, unsigned long number) {
+    char digits[32];
+    int count = 0;
+    do
+        digits[count++] = '0' + number % 10;
+    while (number /= 10);
+    page->text[page->length++] = ' ';
+    while (count)
+        page->text[page->length++] = digits[--count];
+}
+
+/* Gives how many words the line has. (There may be a million of them, for which printf takes too long.) */
 static size_t print_line(struct page *page, const uint32_t *at) {
     enum verb verb = *at & 0xff;
-    unsigned seat = *at >> VERB_BITS & 0xff, number = *at >> 2 * VERB_BITS;
-    if (verb == ACT)
-        print(page, "act %u %u %u %lu\n", seat, number, at[1], at[2] | (unsigned long)at[3] << 32);
-    else if (verb >= WAIT)
-        print(page, "%s %u %u\n", verbs[verb], seat, number);
-    else
-        print(page, "%s %u\n", verbs[verb], seat);
+    if (page->length + LONGEST > PAGE)
+        flush(page);
+    put_text(page, verbs[verb]);
+    put_number(page, *at >> VERB_BITS & 0xff);
+    if (verb >= WAIT)
+        put_number(page, *at >> 2 * VERB_BITS);
+    if (verb == ACT) {
+        put_number(page, at[1]);
+        put_number(page, at[2] | (unsigned long)at[3] << 32);
+    }
+    page->text[page->length++] = '\n';
     return verb == ACT ? WORDS_OF_ACT : 1;
 }
 

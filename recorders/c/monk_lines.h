@@ -253,15 +253,15 @@ static int number_of(struct log *log, struct condition *c) {
 static int has_room(struct log *log, size_t more) {
     if (log->length + more <= log->room)
         return 1;
-    size_t room = log->room ? 2 * log->room : WORDS_AT_FIRST;
-    uint32_t *words = log->room < WORDS ? take_block(room * sizeof *words) : 0;
+    size_t room = log->room ? 2 * log->room : WORDS_AT_FIRST, size = sizeof *log->words;
+    uint32_t *words = 0;
+    if (!log->room)
+        words = take_block(room * size);
+    else if (log->room < WORDS)
+        words = grow_block(log->words, log->length * size, log->room * size, room * size);
     if (!words) {
         stop(log, log->room < WORDS ? "there is no memory" : "it is long enough");
         return 0;
-    }
-    if (log->room) {
-        memcpy(words, log->words, log->length * sizeof *words);
-        give_block(log->words, log->room * sizeof *words);
     }
     log->words = words;
     log->room = room;

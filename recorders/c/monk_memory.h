@@ -3,6 +3,10 @@
 #ifndef MONK_MEMORY_H
 #define MONK_MEMORY_H
 
+#ifndef _GNU_SOURCE
+#define _GNU_SOURCE
+#endif
+
 #include <stdatomic.h>
 #include <stddef.h>
 #include <stdint.h>
@@ -12,6 +16,7 @@
 enum {
     CHUNK = 1 << 20,   /* bytes that are asked for at once */
     LARGE = 1 << 16,   /* what is as large is asked for by itself */
+    PAGE_BYTES = 4096,
     CLASSES = 17,      /* of sizes below, each twice the one before */
     GRAIN_BITS = 5,    /* a mutex and a condition have more bytes than a grain, so at most one begins in it */
     LEVEL_BITS = 14,   /* three levels of a tree over grains, which is what 47 bits of an address need */
@@ -97,6 +102,23 @@ static void give_block(void *block, size_t size) {
     *(void **)block = free_blocks[class_of(size)];
     free_blocks[class_of(size)] = block;
     unlock_memory();
+}
+
+/* A larger block with what the smaller one has, which is given back. Its pages are asked for at once, since to meet each when a
+   line is written there takes longer than the line. Null where there is no memory. */
+static void *grow_block(void *block, size_t used, size_t size, size_t larger) {
+    void *grown = size >= LARGE ? mremap(block, size, larger, MREMAP_MAYMOVE) : take_block(larger);
+    if (!grown || grown == MAP_FAILED)
+        return 0;
+    if (size < LARGE) {
+        memcpy(grown, block, used);
+        give_block(block, size);
+    }
+#ifdef MADV_POPULATE_WRITE
+    if (larger >= LARGE)
+        madvise((char *)grown + used / PAGE_BYTES * PAGE_BYTES, larger - used / PAGE_BYTES * PAGE_BYTES, MADV_POPULATE_WRITE);
+#endif
+    return grown;
 }
 
 /* One of a pool's, all zero but for what is given and its serial. Null where there is no memory. */
