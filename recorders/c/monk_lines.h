@@ -129,9 +129,12 @@ static void close_log(struct monitor *m) {
         return;
     for (int i = 0; i < log->nconds; i++)
         release(log->conds[i]);
+    memset(log->seats, 0, sizeof log->seats);
+    memset(log->conds, 0, sizeof log->conds);
     log->nconds = log->nseats = log->latest = 0;
     log->length = 0;
     log->stopped = 0;
+    atomic_fetch_add(&seen.strays, atomic_exchange(&log->strays, 0));
     lock_memory();
     log->known.next_free = idle_logs;
     idle_logs = &log->known;
