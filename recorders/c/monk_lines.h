@@ -30,6 +30,7 @@ struct monitor;
 struct thread {
     struct known known;
     unsigned long number, dice; /* which one it is, and where its dice stand (monk_shake.h) */
+    unsigned calls_left, is_slow;
     struct monitor *held[HELD]; /* the mutexes that it holds, the last at the end; some may be another's by now */
     int depth, id, has_ended;
     char name[NAME_OF_THREAD];

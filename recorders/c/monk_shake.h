@@ -7,11 +7,9 @@
 
 #include "monk_lines.h"
 
-enum {
-    SIDES = 8,            /* of the dice: 0 sleeps, and so many more let others go first */
-    YIELDS = 3,
-    NAP = 1 << 17         /* nanoseconds that a thread sleeps at most */
-};
+/* A thread is slow for some calls and then fast for some, so many at most: a woken thread that is slow meets others that are fast.
+   How often in 16 it is slow, and sleeps so many nanoseconds at most; and how often in 16 it lets others go first while it is fast. */
+enum { CALLS = 8, SLOW = 6, NAP = 1 << 18, YIELDS = 4, SIDES = 16 };
 
 static const char *shake_seed;
 static unsigned long seed;
@@ -27,12 +25,18 @@ static unsigned long roll(struct thread *thread) {
 }
 
 static void shake_now(struct thread *thread) {
-    unsigned long dice = roll(thread), side = dice % SIDES;
-    struct timespec nap = {0, (long)(dice / SIDES % NAP)};
+    unsigned long dice = roll(thread);
     int error = errno;
-    if (side == 0)
+    if (!thread->calls_left) {
+        thread->calls_left = 1 + dice / SIDES % CALLS;
+        thread->is_slow = dice % SIDES < SLOW;
+        dice = roll(thread);
+    }
+    thread->calls_left--;
+    struct timespec nap = {0, (long)(dice % NAP)};
+    if (thread->is_slow)
         nanosleep(&nap, 0);
-    else if (side <= YIELDS)
+    else if (dice % SIDES < YIELDS)
         sched_yield();
     errno = error;
 }
