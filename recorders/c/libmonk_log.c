@@ -30,6 +30,10 @@ static inline void hold(struct monitor *m, struct thread *thread, int times) {
 static inline void let_go(struct monitor *m, struct thread *thread) {
     int at = thread->depth - 1;
     atomic_store_explicit(&m->owner, 0, memory_order_relaxed);
+    if (at >= 0 && thread->held[at] == m) {
+        thread->depth = at;
+        return;
+    }
     while (at >= 0 && thread->held[at] != m)
         at--;
     if (at < 0)
@@ -62,12 +66,16 @@ static inline int entered(const void *mutex, int result, const void *caller) {
     return result;
 }
 
+/* Mostly it is the one that was locked last, which need not be looked for. */
 static inline void leave(const void *mutex, const void *caller) {
-    struct monitor *m = monitor_of(mutex, caller);
-    if (!holds(me, m) || --m->times > 0)
+    struct thread *thread = me;
+    struct monitor *m = thread && thread->depth ? thread->held[thread->depth - 1] : 0;
+    if (!holds(thread, m) || m->known.address != mutex)
+        m = monitor_of(mutex, caller);
+    if (!holds(thread, m) || --m->times > 0)
         return;
-    put(m->log, me, LEAVE, 0);
-    let_go(m, me);
+    put(m->log, thread, LEAVE, 0);
+    let_go(m, thread);
 }
 
 /* ---- acts, which the program tells (monk_log.h) */

@@ -53,7 +53,7 @@ struct log {
     size_t length, room;
     struct thread *seats[SEATS];
     struct condition *conds[CONDS];
-    int nconds, nseats, latest; /* the seat of the last line */
+    int nconds, nseats, latest, latest_cond; /* the seat and the condition that were asked for last */
     int waits, waiting;         /* how many there were, and are */
     const char *stopped;        /* why no more lines are written, if so */
     atomic_int strays;          /* signals by threads that didn't hold the mutex */
@@ -102,7 +102,7 @@ static void thread_ends(void *it) {
     give(&threads, &thread->known);
 }
 
-static struct thread *meet_thread(void) {
+SELDOM static struct thread *meet_thread(void) {
     struct thread *thread = take(&threads, 0, 0);
     if (!thread)
         return 0;
@@ -132,7 +132,7 @@ static void close_log(struct monitor *m) {
         release(log->conds[i]);
     memset(log->seats, 0, sizeof log->seats);
     memset(log->conds, 0, sizeof log->conds);
-    log->nconds = log->nseats = log->latest = 0;
+    log->nconds = log->nseats = log->latest = log->latest_cond = 0;
     log->length = 0;
     log->stopped = 0;
     atomic_fetch_add(&seen.strays, atomic_exchange(&log->strays, 0));
@@ -154,7 +154,7 @@ static struct known *replace(place *at, void *old, void *made, struct pool *pool
     return old;
 }
 
-static struct monitor *meet_mutex(place *at, void *old, const void *mutex, const void *caller) {
+SELDOM static struct monitor *meet_mutex(place *at, void *old, const void *mutex, const void *caller) {
     struct known *it = replace(at, old, take(&monitors, mutex, caller), &monitors);
     return it && it->address == mutex ? (struct monitor *)it : 0;
 }
@@ -168,7 +168,7 @@ static inline struct monitor *monitor_of(const void *mutex, const void *caller) 
     return there && there->address == mutex ? (struct monitor *)there : meet_mutex(at, there, mutex, caller);
 }
 
-static struct condition *meet_condition(place *at, void *old, const void *cond, const void *caller) {
+SELDOM static struct condition *meet_condition(place *at, void *old, const void *cond, const void *caller) {
     struct condition *made = take(&conditions, cond, caller);
     if (made)
         made->uses = 1;
@@ -220,9 +220,7 @@ static void stop(struct log *log, const char *why) {
 static const char MORE_THREADS[] = "there are more than 32 threads, and a log has no more seats";
 static const char MORE_CONDS[] = "there are more than 8 conditions, and a log has no more";
 
-static int seat_of(struct log *log, struct thread *thread) {
-    if (log->seats[log->latest] == thread)
-        return log->latest;
+SELDOM static int find_seat(struct log *log, struct thread *thread) {
     for (int i = 0; i < log->nseats; i++)
         if (log->seats[i] == thread)
             return log->latest = i;
@@ -234,12 +232,16 @@ static int seat_of(struct log *log, struct thread *thread) {
     return log->latest = log->nseats++;
 }
 
+static inline int seat_of(struct log *log, struct thread *thread) {
+    return log->seats[log->latest] == thread ? log->latest : find_seat(log, thread);
+}
+
 /* The number of a condition that is gone is used again where there is no other. */
-static int number_of(struct log *log, struct condition *c) {
+SELDOM static int find_number(struct log *log, struct condition *c) {
     int gone = CONDS;
     for (int i = log->nconds - 1; i >= 0; i--) {
         if (log->conds[i] == c)
-            return i;
+            return log->latest_cond = i;
         if (atomic_load(&log->conds[i]->is_gone))
             gone = i;
     }
@@ -251,12 +253,14 @@ static int number_of(struct log *log, struct condition *c) {
     release(log->conds[number]);
     atomic_fetch_add(&c->uses, 1);
     log->conds[number] = c;
-    return number;
+    return log->latest_cond = number;
 }
 
-static int has_room(struct log *log, size_t more) {
-    if (log->length + more <= log->room)
-        return 1;
+static inline int number_of(struct log *log, struct condition *c) {
+    return log->conds[log->latest_cond] == c ? log->latest_cond : find_number(log, c);
+}
+
+SELDOM static int grow(struct log *log) {
     size_t room = log->room ? 2 * log->room : WORDS_AT_FIRST, size = sizeof *log->words;
     uint32_t *words = 0;
     if (!log->room)
@@ -271,6 +275,8 @@ static int has_room(struct log *log, size_t more) {
     log->room = room;
     return 1;
 }
+
+static inline int has_room(struct log *log, size_t more) { return log->length + more <= log->room || grow(log); }
 
 /* What stands before a line that isn't written is a log too. */
 static inline void put(struct log *log, struct thread *thread, enum verb verb, unsigned number) {
@@ -293,7 +299,7 @@ static void put_act(struct log *log, struct thread *thread, unsigned code, unsig
     log->words[log->length++] = (uint32_t)(reply >> 32);
 }
 
-static struct log *new_log(const struct monitor *m) {
+SELDOM static struct log *new_log(const struct monitor *m) {
     lock_memory();
     struct known *idle = idle_logs;
     if (idle)
@@ -323,7 +329,7 @@ static inline void refresh(struct monitor *m) {
 
 /* Memory may be that of another mutex, though nobody has destroyed the one before, as in C++. It is taken for another where all the
    conditions of a log were destroyed, and nobody waits. */
-static void renew(struct monitor *m) {
+SELDOM static void renew(struct monitor *m) {
     struct log *log = m->log;
     atomic_store(&m->lost_one, 0);
     if (!log || log->waiting)
@@ -335,9 +341,7 @@ static void renew(struct monitor *m) {
 }
 
 /* The log of a mutex that its caller holds; it begins where more than coming in and leaving is told. */
-static struct log *log_of(struct monitor *m, struct thread *thread) {
-    if (m->log)
-        return m->log;
+SELDOM static struct log *begin_log(struct monitor *m, struct thread *thread) {
     struct log *log = new_log(m);
     if (!log)
         return 0;
@@ -345,6 +349,10 @@ static struct log *log_of(struct monitor *m, struct thread *thread) {
     if (atomic_load(&m->owner) == thread)
         put(log, thread, ENTER, 0);
     return log;
+}
+
+static inline struct log *log_of(struct monitor *m, struct thread *thread) {
+    return m->log ? m->log : begin_log(m, thread);
 }
 
 #endif

@@ -24,6 +24,9 @@ enum {
     LEVEL = 1 << LEVEL_BITS
 };
 
+/* What is seldom called stands by itself, so that the usual way keeps no registers for it. */
+#define SELDOM __attribute__((noinline, cold))
+
 /* Begins what is known of a mutex or a condition. Its memory never becomes that of another kind of thing, since a signal may look at
    it while another thread gives it back. */
 struct known {
@@ -150,7 +153,7 @@ static void give(struct pool *pool, struct known *it) {
 typedef _Atomic(void *) place;
 static place root[LEVEL];
 
-static void *below(place *at) {
+SELDOM static void *below(place *at) {
     void *found = atomic_load_explicit(at, memory_order_acquire);
     if (found)
         return found;

@@ -81,7 +81,7 @@ static void find_conditions(void) {
     FIND(cnd_broadcast, "cnd_broadcast");
 }
 
-static void find_all(void) {
+__attribute__((noinline, cold)) static void find_all(void) {
     static int is_busy;
     if (is_busy)
         return;

@@ -24,7 +24,7 @@ static unsigned long roll(struct thread *thread) {
     return z ^ z >> 31;
 }
 
-static void shake_now(struct thread *thread) {
+SELDOM static void shake_now(struct thread *thread) {
     unsigned long dice = roll(thread);
     int error = errno;
     if (!thread->calls_left) {
