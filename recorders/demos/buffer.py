@@ -22,10 +22,10 @@ sys.path.insert(0, os.path.join(os.path.dirname(os.path.abspath(__file__)), "../
 import monk_log
 
 # As many putters as takers; a pair has less room, so that no later notify makes up for one that was lost.
-PUTTERS, SIZE, SIZE_OF_PAIR, ITEMS = 3, 2, 1, 12
+PUTTERS, SIZE, SIZE_OF_PAIR, ITEMS, ITEMS_OF_TWO = 3, 2, 1, 12, 40
 PUT, TAKE = 0, 1
 # How long a timed wait lasts, when threads take turns, and how long a run may last, in seconds; of those that may hang.
-SHORT, SWITCH, LONG, LONG_IF_HANGING = 0.0002, 0.00002, 20, 0.4
+SHORT, SWITCH, LONG, LONG_IF_HANGING, LONG_IF_SHAKEN = 0.0002, 0.00002, 20, 0.4, 2
 HANGING = ("if", "two", "forgotten", "drop")
 EVERY = 7
 
@@ -91,19 +91,19 @@ def run(style):
         recorder = buffer.recorder
 
     def put():
-        for item in range(1, takers // putters * ITEMS + 1):
+        for item in range(1, takers // putters * items + 1):
             buffer.put(item)
 
     def take():
-        for _ in range(ITEMS):
+        for _ in range(items):
             buffer.get()
 
     putters = 1 if is_pair(style) or style == "two" else PUTTERS
-    takers = 2 if style == "two" else putters
+    takers, items = (2, ITEMS_OF_TWO) if style == "two" else (putters, ITEMS)
     threads = [threading.Thread(target=work, daemon=True) for work in [put] * putters + [take] * takers]
     for thread in threads:
         thread.start()
-    end = time.monotonic() + (LONG_IF_HANGING if style in HANGING else LONG)
+    end = time.monotonic() + (LONG_IF_SHAKEN if style == "two" else LONG_IF_HANGING if style in HANGING else LONG)
     for thread in threads:
         thread.join(max(0, end - time.monotonic()))
     return recorder.text(f"buffer {SIZE_OF_PAIR if is_pair(style) else SIZE}")

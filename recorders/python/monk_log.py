@@ -29,8 +29,10 @@ from typing import Any, Callable
 
 SEATS, CONDITIONS = 32, 8  # of a log
 # A thread is slow for some calls and then fast for some: so many at most. How often it is slow, and sleeps so many seconds at
-# most; and how often it lets others go first while it is fast.
+# most; and how often it lets others go first while it is fast. One that was woken is slow more often, and so many times as long:
+# then others come in before it.
 CALLS, SLOW, NAP, YIELD = 8, 0.4, 0.001, 0.25
+SLOW_WOKEN, TIMES_WOKEN = 0.7, 4
 
 
 class Shaker:
@@ -39,21 +41,23 @@ class Shaker:
     def __init__(self, seed: str):
         self._seed, self._of_thread, self._numbers = seed, threading.local(), itertools.count()
 
-    def __call__(self) -> None:
+    def __call__(self, is_woken: bool = False) -> None:
         here = self._of_thread
         if not hasattr(here, "dice"):
             here.dice, here.left, here.is_slow = random.Random(f"{self._seed} {next(self._numbers)}"), 0, False
         if not here.left:
             here.left, here.is_slow = here.dice.randint(1, CALLS), here.dice.random() < SLOW
         here.left -= 1
-        if here.is_slow:
+        if is_woken and here.dice.random() < SLOW_WOKEN:
+            time.sleep(here.dice.random() * NAP * TIMES_WOKEN)
+        elif here.is_slow:
             time.sleep(here.dice.random() * NAP)
         elif here.dice.random() < YIELD:
             time.sleep(0)
 
 
 SEED = os.environ.get("MONK_SHAKE")
-shake: Callable[[], None] = Shaker(SEED) if SEED else lambda: None
+shake: Callable[..., None] = Shaker(SEED) if SEED else lambda is_woken=False: None
 
 
 class Recorder:
@@ -179,7 +183,7 @@ class Lock:
         return times
 
     def _acquire_restore(self, times: int) -> None:
-        shake()
+        shake(is_woken=True)
         for _ in range(times):
             self._raw.acquire()
         self._times, self._owner = times, threading.get_ident()
