@@ -159,8 +159,9 @@ class Lock:
         shake()
         if self._times == 1 and self._is_owned():
             self.recorder.put("leave")
-            self._owner = 0
         self._times = max(0, self._times - 1)
+        if not self._times:
+            self._owner = 0
         self._raw.release()
 
     def locked(self) -> bool:

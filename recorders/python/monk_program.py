@@ -15,6 +15,7 @@ import monk_log
 from monk_log import SEED, Condition, Lock, Recorder, threading_lock, threading_rlock
 
 STATUS_LATE = 124
+exit_at_once = os._exit
 
 
 class Program:
@@ -22,6 +23,7 @@ class Program:
 
     def __init__(self) -> None:
         self.recorders: list[Recorder] = []
+        self.front = ""  # of the last line, of a child that was forked
         self.prefix, self._is_written, self._is_refused = os.environ.get("MONK_LOG"), threading_lock(), False
 
     def recorder(self) -> Recorder | None:
@@ -59,9 +61,16 @@ class Program:
         setattr(threading, "Lock", self.lock)
         setattr(threading, "RLock", self.rlock)
         setattr(threading, "Condition", ProgramCondition)
+        setattr(os, "_exit", self.exit_at_once)
         os.register_at_fork(after_in_child=self.forked)
 
+    def exit_at_once(self, status: int) -> None:
+        """A child of multiprocessing ends so."""
+        self.write()
+        exit_at_once(status)
+
     def forked(self) -> None:
+        self.front, self._is_written = f"process {os.getpid()}: ", threading_lock()
         if self.prefix:
             self.prefix += f".{os.getpid()}"
         for recorder in self.recorders:
@@ -81,7 +90,7 @@ class Program:
                 parts.append(f"cut at {what}: {cut}")
         if SEED:
             parts.append(f"shaken by seed {SEED}")
-        say("; ".join(parts))
+        say(self.front + "; ".join(parts))
 
     def _told(self, waited: list[Recorder], written: list[str]) -> str:
         if written:
@@ -144,7 +153,7 @@ def names_of(recorder: Recorder) -> list[str]:
 def end_late(program: Program, seconds: float) -> None:
     time.sleep(seconds)
     program.write()
-    os._exit(STATUS_LATE)
+    exit_at_once(STATUS_LATE)
 
 
 def end_by_signal(program: Program) -> Callable[[int, types.FrameType | None], None]:
