@@ -119,4 +119,9 @@ def run(language, style, folder, times):
                 subprocess.run([os.path.join(folder, "hoare"), *style.split()[1:]], stdout=file, check=True)
         else:
             said += run_recorded(folder, style, name)
-    return sorted(glob.glob(f"{prefix}.*")), said
+    return logs_of(prefix), said
+
+
+def logs_of(prefix):
+    """The logs whose names begin so; beside each stands a file of names."""
+    return sorted(path for path in glob.glob(f"{prefix}.*") if not path.endswith(".names"))

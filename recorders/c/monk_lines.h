@@ -1,215 +1,358 @@
-/* The lines of each mutex: where they are kept, how one is added, and how they are written into files. Part of libmonk_log.c. */
+/* What is known of threads, mutexes and conditions, and the lines of each mutex. Part of libmonk_log.c. */
 #ifndef MONK_LINES_H
 #define MONK_LINES_H
 
-#include <errno.h>
-#include <fcntl.h>
 #include <pthread.h>
-#include <stdatomic.h>
-#include <stdint.h>
-#include <stdio.h>
-#include <stdlib.h>
-#include <string.h>
-#include <time.h>
+#include <sys/prctl.h>
 #include <unistd.h>
 
+#include "monk_memory.h"
+
 enum {
-    MONITORS = 4096,       /* mutexes, and conditions, of a program */
-    SEATS = 32,            /* threads of one mutex, and its conditions: what the text of a log allows */
+    SEATS = 32, /* threads of one mutex, and its conditions: what the text of a log allows */
     CONDS = 8,
-    LINES = 1 << 20,       /* of one log */
-    LINES_AT_FIRST = 256,
-    NAME = 4096,
-    MILLISECOND = 1000000, /* in nanoseconds */
-    TO_SETTLE = 10         /* milliseconds for lines that are being written when the program ends */
+    WORDS = 1 << 22, /* of one log */
+    WORDS_AT_FIRST = 64,
+    WORDS_OF_ACT = 4,
+    HELD = 64, /* mutexes that a thread holds at once, to know which it locked last */
+    NAME_OF_THREAD = 16,
+    VERB_BITS = 8
 };
+
+/* In each thread, without a call that might ask for memory. */
+#define OF_THREAD static __thread __attribute__((tls_model("initial-exec")))
 
 enum verb { ENTER, RESUME, LAPSE, LEAVE, WAIT, SIGNAL, BROADCAST, ACT };
-static const char *const words[] = {"enter", "resume", "lapse", "leave", "wait", "signal", "broadcast", "act"};
 
-struct line {
-    unsigned char verb, seat, number; /* the condition, or the code of an act */
-    unsigned arg;
-    unsigned long reply;
+struct monitor;
+
+/* A thread; one that begins when it has ended may have its place. */
+struct thread {
+    struct known known;
+    unsigned long number, dice; /* which one it is, and where its dice stand (monk_shake.h) */
+    unsigned calls_left, is_slow;
+    struct monitor *held[HELD]; /* the mutexes that it holds, the last at the end; some may be another's by now */
+    int depth, id, has_ended;
+    char name[NAME_OF_THREAD];
 };
 
-/* What is known of a mutex. It is changed by the thread that holds the mutex, but for what is atomic. */
-struct monitor {
-    _Atomic(pthread_mutex_t *) mutex;
-    struct line *lines;
+struct condition {
+    struct known known;
+    _Atomic(struct monitor *) monitor; /* with which it was last waited on */
+    atomic_ulong of;                   /* and the serial of that */
+    atomic_int uses;                   /* by its place in the tree, and by logs */
+    atomic_int is_gone;
+};
+
+/* The lines of a mutex. Changed by the thread that holds the mutex, but for what is atomic. A line is one word: verb, seat and
+   condition, each of 8 bits. An act has its code there, and three words more. */
+struct log {
+    struct known known;
+    struct log *next;
+    uint32_t *words;
     size_t length, room;
-    pthread_cond_t *conds[CONDS];
-    pthread_t seats[SEATS];
-    int nconds, nseats;
-    int used, waits;     /* whether more than coming in and leaving was told, and how many waits */
-    const char *stopped; /* why no more lines are written, if so */
-    atomic_int strays;   /* signals by threads that didn't hold the mutex */
+    struct thread *seats[SEATS];
+    struct condition *conds[CONDS];
+    int nconds, nseats, latest, latest_cond; /* the seat and the condition that were asked for last */
+    int waits, waiting;         /* how many there were, and are */
+    const char *stopped;        /* why no more lines are written, if so */
+    atomic_int strays;          /* signals by threads that didn't hold the mutex */
 };
 
-static struct monitor monitors[MONITORS];
-/* the mutex with which a condition was last waited on */
+/* A mutex. Most have no conditions, and so no log. */
+struct monitor {
+    struct known known;
+    _Atomic(struct thread *) owner;
+    struct log *log;
+    int times;           /* how often its owner has locked it */
+    int process;         /* the one that it was last locked in */
+    atomic_int lost_one; /* a condition of it was destroyed */
+};
+
+static struct pool threads = {sizeof(struct thread), 0}, monitors = {sizeof(struct monitor), 0};
+static struct pool conditions = {sizeof(struct condition), 0}, logs = {sizeof(struct log), 0};
+static _Atomic(struct log *) all_logs;
+static struct known *idle_logs; /* of those, the ones that no mutex has */
 static struct {
-    _Atomic(pthread_cond_t *) cond;
-    _Atomic(struct monitor *) monitor;
-} owners[MONITORS];
-/* stands in place of a mutex that was destroyed, so that another one at its address has a log of its own */
-static pthread_mutex_t gone;
+    atomic_int mutexes, strays, stray_acts, without_memory;
+    atomic_ulong threads;
+} seen;
 /* no line is written any more */
 static atomic_int closed;
+static int process;
+static pthread_key_t end_of_thread;
+OF_THREAD struct thread *me;
 
-/* ---- where a mutex or a condition is kept, by its address */
+/* ---- threads */
 
-static size_t place_of(const void *address) { return ((uintptr_t)address >> 3) * 2654435761u % MONITORS; }
-
-/* Null where there are too many. */
-static struct monitor *monitor_of(pthread_mutex_t *mutex) {
-    size_t at = place_of(mutex);
-    for (int n = 0; n < MONITORS; n++, at = (at + 1) % MONITORS) {
-        pthread_mutex_t *there = atomic_load(&monitors[at].mutex);
-        if (!there && atomic_compare_exchange_strong(&monitors[at].mutex, &there, mutex))
-            there = mutex;
-        if (there == mutex)
-            return &monitors[at];
-    }
-    return 0;
+/* The mutex that a thread locked last, of those that it holds. */
+static struct monitor *last_held(struct thread *thread) {
+    while (thread->depth && atomic_load(&thread->held[thread->depth - 1]->owner) != thread)
+        thread->depth--;
+    return thread->depth ? thread->held[thread->depth - 1] : 0;
 }
 
-/* -1 where there are too many. */
-static int owner_at(pthread_cond_t *cond) {
-    size_t at = place_of(cond);
-    for (int n = 0; n < MONITORS; n++, at = (at + 1) % MONITORS) {
-        pthread_cond_t *there = atomic_load(&owners[at].cond);
-        if (!there && atomic_compare_exchange_strong(&owners[at].cond, &there, cond))
-            there = cond;
-        if (there == cond)
-            return (int)at;
+static void thread_ends(void *it) {
+    struct thread *thread = it;
+    if (last_held(thread) || thread != me)
+        return;
+    prctl(PR_GET_NAME, thread->name);
+    thread->has_ended = 1;
+    me = 0;
+    give(&threads, &thread->known);
+}
+
+SELDOM static struct thread *meet_thread(void) {
+    struct thread *thread = take(&threads, 0, 0);
+    if (!thread)
+        return 0;
+    thread->number = atomic_fetch_add(&seen.threads, 1);
+    thread->id = gettid();
+    me = thread;
+    pthread_setspecific(end_of_thread, thread);
+    return thread;
+}
+
+static inline struct thread *self(void) { return me ? me : meet_thread(); }
+
+/* ---- mutexes and conditions, by their addresses */
+
+static void release(struct condition *it) {
+    if (it && atomic_fetch_sub(&it->uses, 1) == 1)
+        give(&conditions, &it->known);
+}
+
+/* Lines without a wait tell nothing; others are kept to the end. */
+static void close_log(struct monitor *m) {
+    struct log *log = m->log;
+    m->log = 0;
+    if (!log || log->waits)
+        return;
+    for (int i = 0; i < log->nconds; i++)
+        release(log->conds[i]);
+    memset(log->seats, 0, sizeof log->seats);
+    memset(log->conds, 0, sizeof log->conds);
+    log->nconds = log->nseats = log->latest = log->latest_cond = 0;
+    log->length = 0;
+    log->stopped = 0;
+    atomic_fetch_add(&seen.strays, atomic_exchange(&log->strays, 0));
+    lock_memory();
+    log->known.next_free = idle_logs;
+    idle_logs = &log->known;
+    unlock_memory();
+}
+
+/* What stands at the place of an address is not, or no longer, what is there. */
+static struct known *replace(place *at, void *old, void *made, struct pool *pool) {
+    if (!made) {
+        atomic_fetch_add(&seen.without_memory, 1);
+        return 0;
     }
-    return -1;
+    if (atomic_compare_exchange_strong(at, &old, made))
+        return made;
+    give(pool, made);
+    return old;
+}
+
+SELDOM static struct monitor *meet_mutex(place *at, void *old, const void *mutex, const void *caller) {
+    struct known *it = replace(at, old, take(&monitors, mutex, caller), &monitors);
+    return it && it->address == mutex ? (struct monitor *)it : 0;
+}
+
+/* Null where there is no memory. */
+static inline struct monitor *monitor_of(const void *mutex, const void *caller) {
+    place *at = place_of(mutex);
+    if (!at)
+        return 0;
+    struct known *there = atomic_load_explicit(at, memory_order_acquire);
+    return there && there->address == mutex ? (struct monitor *)there : meet_mutex(at, there, mutex, caller);
+}
+
+SELDOM static struct condition *meet_condition(place *at, void *old, const void *cond, const void *caller) {
+    struct condition *made = take(&conditions, cond, caller);
+    if (made)
+        made->uses = 1;
+    struct known *it = replace(at, old, made, &conditions);
+    return it && it->address == cond ? (struct condition *)it : 0;
+}
+
+static inline struct condition *condition_of(const void *cond, const void *caller) {
+    place *at = place_of(cond);
+    if (!at)
+        return 0;
+    struct known *there = atomic_load_explicit(at, memory_order_acquire);
+    return there && there->address == cond ? (struct condition *)there : meet_condition(at, there, cond, caller);
+}
+
+/* A mutex that is made or destroyed: what was known of it is of another one. */
+static void forget_mutex(const void *mutex) {
+    place *at = place_of(mutex);
+    struct monitor *m = at ? atomic_load(at) : 0;
+    if (!m || m->known.address != mutex)
+        return;
+    atomic_store(at, 0);
+    close_log(m);
+    if (!atomic_load(&m->owner))
+        give(&monitors, &m->known);
+}
+
+static void forget_condition(const void *cond) {
+    place *at = place_of(cond);
+    struct condition *c = at ? atomic_load(at) : 0;
+    if (!c || c->known.address != cond)
+        return;
+    atomic_store(at, 0);
+    atomic_store(&c->is_gone, 1);
+    struct monitor *m = atomic_load(&c->monitor);
+    if (m && atomic_load(&c->of) == m->known.serial)
+        atomic_store(&m->lost_one, 1);
+    release(c);
 }
 
 /* ---- a line, by the thread that holds the mutex */
 
 /* The first reason stays. */
-static void stop(struct monitor *m, const char *why) {
-    if (m && !m->stopped)
-        m->stopped = why;
+static void stop(struct log *log, const char *why) {
+    if (!log->stopped)
+        log->stopped = why;
 }
 
-static int seat_of(struct monitor *m) {
-    pthread_t self = pthread_self();
-    for (int i = 0; i < m->nseats; i++)
-        if (pthread_equal(m->seats[i], self))
-            return i;
-    if (m->nseats == SEATS) {
-        stop(m, "there are more threads than a log has seats");
+static const char MORE_THREADS[] = "there are more than 32 threads, and a log has no more seats";
+static const char MORE_CONDS[] = "there are more than 8 conditions, and a log has no more";
+
+SELDOM static int find_seat(struct log *log, struct thread *thread) {
+    for (int i = 0; i < log->nseats; i++)
+        if (log->seats[i] == thread)
+            return log->latest = i;
+    if (log->nseats == SEATS) {
+        stop(log, MORE_THREADS);
         return 0;
     }
-    m->seats[m->nseats] = self;
-    return m->nseats++;
+    log->seats[log->nseats] = thread;
+    return log->latest = log->nseats++;
 }
 
-static int number_of(struct monitor *m, pthread_cond_t *cond) {
-    for (int i = 0; i < m->nconds; i++)
-        if (m->conds[i] == cond)
-            return i;
-    if (m->nconds == CONDS) {
-        stop(m, "there are more conditions than a log has");
-        return 0;
-    }
-    m->conds[m->nconds] = cond;
-    return m->nconds++;
+static inline int seat_of(struct log *log, struct thread *thread) {
+    return log->seats[log->latest] == thread ? log->latest : find_seat(log, thread);
 }
 
-static int has_room(struct monitor *m) {
-    if (m->length < m->room)
-        return 1;
-    size_t room = m->room ? 2 * m->room : LINES_AT_FIRST;
-    struct line *lines = m->room < LINES ? realloc(m->lines, room * sizeof *lines) : 0;
-    if (!lines) {
-        stop(m, m->room < LINES ? "there is no memory" : "it is long enough");
+/* The number of a condition that is gone is used again where there is no other. */
+SELDOM static int find_number(struct log *log, struct condition *c) {
+    int gone = CONDS;
+    for (int i = log->nconds - 1; i >= 0; i--) {
+        if (log->conds[i] == c)
+            return log->latest_cond = i;
+        if (atomic_load(&log->conds[i]->is_gone))
+            gone = i;
+    }
+    int number = log->nconds < CONDS ? log->nconds++ : gone;
+    if (number == CONDS) {
+        stop(log, MORE_CONDS);
         return 0;
     }
-    m->lines = lines;
-    m->room = room;
+    release(log->conds[number]);
+    atomic_fetch_add(&c->uses, 1);
+    log->conds[number] = c;
+    return log->latest_cond = number;
+}
+
+static inline int number_of(struct log *log, struct condition *c) {
+    return log->conds[log->latest_cond] == c ? log->latest_cond : find_number(log, c);
+}
+
+SELDOM static int grow(struct log *log) {
+    size_t room = log->room ? 2 * log->room : WORDS_AT_FIRST, size = sizeof *log->words;
+    uint32_t *words = 0;
+    if (!log->room)
+        words = take_block(room * size);
+    else if (log->room < WORDS)
+        words = grow_block(log->words, log->length * size, log->room * size, room * size);
+    if (!words) {
+        stop(log, log->room < WORDS ? "there is no memory" : "it is long enough");
+        return 0;
+    }
+    log->words = words;
+    log->room = room;
     return 1;
 }
 
+static inline int has_room(struct log *log, size_t more) { return log->length + more <= log->room || grow(log); }
+
 /* What stands before a line that isn't written is a log too. */
-static void put_line(struct monitor *m, enum verb verb, unsigned number, unsigned arg, unsigned long reply) {
-    if (!m || m->stopped || atomic_load_explicit(&closed, memory_order_relaxed))
+static inline void put(struct log *log, struct thread *thread, enum verb verb, unsigned number) {
+    if (!log || log->stopped || atomic_load_explicit(&closed, memory_order_relaxed))
         return;
-    int seat = seat_of(m);
-    if (!m->stopped && has_room(m))
-        m->lines[m->length++] = (struct line){verb, seat, number, arg, reply};
-    m->used |= verb > LEAVE;
-    /* who came and left before tells nothing, and most mutexes have no conditions */
-    if (verb == LEAVE && !m->used)
-        m->length = 0;
+    int seat = seat_of(log, thread);
+    if (!log->stopped && has_room(log, 1))
+        log->words[log->length++] = verb | (unsigned)seat << VERB_BITS | number << 2 * VERB_BITS;
 }
 
-static void put(struct monitor *m, enum verb verb) { put_line(m, verb, 0, 0, 0); }
-
-static void put_on(struct monitor *m, enum verb verb, pthread_cond_t *cond) {
-    if (m)
-        put_line(m, verb, number_of(m, cond), 0, 0);
-}
-
-/* ---- the end */
-
-static void write_line(FILE *file, const struct line *line) {
-    fprintf(file, "%s %d", words[line->verb], line->seat);
-    if (line->verb >= WAIT)
-        fprintf(file, " %d", line->number);
-    if (line->verb == ACT)
-        fprintf(file, " %u %lu", line->arg, line->reply);
-    fputc('\n', file);
-}
-
-/* A new file with the next free number; its name is left in `name`. */
-static FILE *next_file(const char *prefix, int *number, char name[NAME]) {
-    int file;
-    do {
-        snprintf(name, NAME, "%s.%d", prefix, ++*number);
-        file = open(name, O_WRONLY | O_CREAT | O_EXCL | O_CLOEXEC, 0666);
-    } while (file < 0 && errno == EEXIST);
-    return file < 0 ? 0 : fdopen(file, "w");
-}
-
-static void write_log(const struct monitor *m, const char *prefix, int *number) {
-    const char *object = getenv("MONK_OBJECT");
-    char name[NAME];
-    FILE *file = next_file(prefix, number, name);
-    if (!file) {
-        fprintf(stderr, "monk: %s: %s\n", name, strerror(errno));
+static void put_act(struct log *log, struct thread *thread, unsigned code, unsigned arg, unsigned long reply) {
+    if (!log || log->stopped || !has_room(log, WORDS_OF_ACT))
         return;
+    size_t before = log->length;
+    put(log, thread, ACT, code);
+    if (log->length == before)
+        return;
+    log->words[log->length++] = arg;
+    log->words[log->length++] = (uint32_t)reply;
+    log->words[log->length++] = (uint32_t)(reply >> 32);
+}
+
+SELDOM static struct log *new_log(const struct monitor *m) {
+    lock_memory();
+    struct known *idle = idle_logs;
+    if (idle)
+        idle_logs = idle->next_free;
+    unlock_memory();
+    if (idle) {
+        *idle = m->known;
+        return (struct log *)idle;
     }
-    fprintf(file, "log 1 %d %d %s\n", m->nseats, m->nconds, object ? object : "buffer 1");
-    for (size_t i = 0; i < m->length; i++)
-        write_line(file, &m->lines[i]);
-    if (fclose(file))
-        fprintf(stderr, "monk: %s: %s\n", name, strerror(errno));
-    if (m->strays)
-        fprintf(stderr, "monk: %s: %d signals by threads that did not hold the mutex; it lacks them\n", name, m->strays);
-    if (m->stopped)
-        fprintf(stderr, "monk: %s: it ends early, since %s\n", name, m->stopped);
+    struct log *log = take(&logs, m->known.address, m->known.caller);
+    if (!log)
+        return 0;
+    log->next = atomic_load(&all_logs);
+    while (!atomic_compare_exchange_weak(&all_logs, &log->next, log))
+        ;
+    return log;
 }
 
-static void write_logs(void) {
-    const char *prefix = getenv("MONK_LOG");
-    struct timespec settle = {0, TO_SETTLE * MILLISECOND};
-    int number = 0;
-    if (!prefix || atomic_exchange(&closed, 1))
+/* What a mutex has of the process before a fork is not of this one. */
+static inline void refresh(struct monitor *m) {
+    if (m->process == process)
         return;
-    nanosleep(&settle, 0);
-    for (int i = 0; i < MONITORS; i++)
-        if (monitors[i].waits && monitors[i].length)
-            write_log(&monitors[i], prefix, &number);
+    m->process = process;
+    m->log = 0;
+    atomic_fetch_add_explicit(&seen.mutexes, 1, memory_order_relaxed);
 }
 
-/* Whoever comes second waits until the logs are written. */
-static void finish(void) {
-    static pthread_once_t once = PTHREAD_ONCE_INIT;
-    pthread_once(&once, write_logs);
+/* Memory may be that of another mutex, though nobody has destroyed the one before, as in C++. It is taken for another where all the
+   conditions of a log were destroyed, and nobody waits. */
+SELDOM static void renew(struct monitor *m) {
+    struct log *log = m->log;
+    atomic_store(&m->lost_one, 0);
+    if (!log || log->waiting)
+        return;
+    for (int i = 0; i < log->nconds; i++)
+        if (!atomic_load(&log->conds[i]->is_gone))
+            return;
+    close_log(m);
+}
+
+/* The log of a mutex that its caller holds; it begins where more than coming in and leaving is told. */
+SELDOM static struct log *begin_log(struct monitor *m, struct thread *thread) {
+    struct log *log = new_log(m);
+    if (!log)
+        return 0;
+    m->log = log;
+    if (atomic_load(&m->owner) == thread)
+        put(log, thread, ENTER, 0);
+    return log;
+}
+
+static inline struct log *log_of(struct monitor *m, struct thread *thread) {
+    return m->log ? m->log : begin_log(m, thread);
 }
 
 #endif

@@ -5,6 +5,7 @@ all        one condition, and notify_all
 timed      as good, with waits that run out
 queue      queue.Queue of the standard library
 if         a fault: who waited doesn't test again
+two        the same fault, one putter and two takers, and threads take turns as seldom as ever
 forgotten  a fault: who takes notifies nobody
 pair       one putter and one taker, with room for one item
 drop       the same, and a fault of the library: every seventh notify wakes nobody
@@ -21,11 +22,11 @@ sys.path.insert(0, os.path.join(os.path.dirname(os.path.abspath(__file__)), "../
 import monk_log
 
 # As many putters as takers; a pair has less room, so that no later notify makes up for one that was lost.
-PUTTERS, SIZE, SIZE_OF_PAIR, ITEMS = 3, 2, 1, 12
+PUTTERS, SIZE, SIZE_OF_PAIR, ITEMS, ITEMS_OF_TWO = 3, 2, 1, 12, 40
 PUT, TAKE = 0, 1
 # How long a timed wait lasts, when threads take turns, and how long a run may last, in seconds; of those that may hang.
-SHORT, SWITCH, LONG, LONG_IF_HANGING = 0.0002, 0.00002, 20, 0.4
-HANGING = ("if", "forgotten", "drop")
+SHORT, SWITCH, LONG, LONG_IF_HANGING, LONG_IF_SHAKEN = 0.0002, 0.00002, 20, 0.4, 2
+HANGING = ("if", "two", "forgotten", "drop")
 EVERY = 7
 
 
@@ -44,7 +45,7 @@ class Buffer:
     def wait_while(self, holds, condition):
         while holds():
             condition.wait(SHORT if self.style == "timed" else None)
-            if self.style == "if":
+            if self.style in ("if", "two"):
                 break
 
     def tell(self, condition):
@@ -90,18 +91,19 @@ def run(style):
         recorder = buffer.recorder
 
     def put():
-        for item in range(1, ITEMS + 1):
+        for item in range(1, takers // putters * items + 1):
             buffer.put(item)
 
     def take():
-        for _ in range(ITEMS):
+        for _ in range(items):
             buffer.get()
 
-    each = 1 if is_pair(style) else PUTTERS
-    threads = [threading.Thread(target=work, daemon=True) for work in [put] * each + [take] * each]
+    putters = 1 if is_pair(style) or style == "two" else PUTTERS
+    takers, items = (2, ITEMS_OF_TWO) if style == "two" else (putters, ITEMS)
+    threads = [threading.Thread(target=work, daemon=True) for work in [put] * putters + [take] * takers]
     for thread in threads:
         thread.start()
-    end = time.monotonic() + (LONG_IF_HANGING if style in HANGING else LONG)
+    end = time.monotonic() + (LONG_IF_SHAKEN if style == "two" else LONG_IF_HANGING if style in HANGING else LONG)
     for thread in threads:
         thread.join(max(0, end - time.monotonic()))
     return recorder.text(f"buffer {SIZE_OF_PAIR if is_pair(style) else SIZE}")
@@ -109,7 +111,8 @@ def run(style):
 
 def main():
     prefix, runs, style = sys.argv[1], int(sys.argv[2]), sys.argv[3]
-    sys.setswitchinterval(SWITCH)
+    if style != "two":
+        sys.setswitchinterval(SWITCH)
     if style == "drop":
         # what the recorder stands on is now the library with the fault
         monk_log.Condition.__bases__ = (Dropping,)

@@ -6,15 +6,36 @@ package monklog
 
 import (
 	"fmt"
+	"os"
 	"strings"
 	"sync"
+	"sync/atomic"
+	"time"
 )
+
+// Of a log; and the status of a program that is ended.
+const (
+	seats      = 32
+	conditions = 8
+	statusLate = 124
+)
+
+func min(one, other int) int {
+	if one < other {
+		return one
+	}
+	return other
+}
 
 // Monitor stands in place of a sync.Mutex.
 type Monitor struct {
-	mutex sync.Mutex
-	lines strings.Builder
-	conds int
+	mutex   sync.Mutex
+	lines   strings.Builder
+	count   int
+	conds   int
+	stopped string
+	active  atomic.Uint64 // the seat that has the mutex, from 1
+	strays  atomic.Int64  // signals of seats that hadn't
 }
 
 // Cond stands in place of a sync.Cond.
@@ -24,8 +45,15 @@ type Cond struct {
 	number  int
 }
 
-// put writes a line: a verb, and the seat and what else belongs to it.
+// put writes a line: a verb, and the seat and what else belongs to it. What stands before a line that isn't written is a log too.
 func (m *Monitor) put(verb string, numbers ...uint64) {
+	if m.stopped == "" && numbers[0] >= seats {
+		m.stopped = fmt.Sprintf("there are more than %d threads, and a log has no more seats", seats)
+	}
+	if m.stopped != "" {
+		return
+	}
+	m.count++
 	m.lines.WriteString(verb)
 	for _, number := range numbers {
 		fmt.Fprintf(&m.lines, " %d", number)
@@ -41,11 +69,13 @@ func (m *Monitor) Cond() *Cond {
 
 func (m *Monitor) Lock(seat uint64) {
 	m.mutex.Lock()
+	m.active.Store(seat + 1)
 	m.put("enter", seat)
 }
 
 func (m *Monitor) Unlock(seat uint64) {
 	m.put("leave", seat)
+	m.active.Store(0)
 	m.mutex.Unlock()
 }
 
@@ -54,25 +84,90 @@ func (m *Monitor) Act(seat, code, arg, reply uint64) {
 	m.put("act", seat, code, arg, reply)
 }
 
+// on writes a line of the condition.
+func (c *Cond) on(verb string, seat uint64) {
+	if c.number >= conditions && c.monitor.stopped == "" {
+		c.monitor.stopped = fmt.Sprintf("there are more than %d conditions, and a log has no more", conditions)
+	}
+	c.monitor.put(verb, seat, uint64(c.number))
+}
+
+// tell writes a signal down where its caller has the mutex; else it is counted.
+func (c *Cond) tell(verb string, seat uint64) {
+	if c.monitor.active.Load() == seat+1 {
+		c.on(verb, seat)
+	} else {
+		c.monitor.strays.Add(1)
+	}
+}
+
 func (c *Cond) Wait(seat uint64) {
-	c.monitor.put("wait", seat, uint64(c.number))
+	c.on("wait", seat)
+	c.monitor.active.Store(0)
 	c.raw.Wait()
+	c.monitor.active.Store(seat + 1)
 	c.monitor.put("resume", seat)
 }
 
 func (c *Cond) Signal(seat uint64) {
-	c.monitor.put("signal", seat, uint64(c.number))
+	c.tell("signal", seat)
 	c.raw.Signal()
 }
 
 func (c *Cond) Broadcast(seat uint64) {
-	c.monitor.put("broadcast", seat, uint64(c.number))
+	c.tell("broadcast", seat)
 	c.raw.Broadcast()
 }
 
-// Text is the log so far, of so many seats; the words are the object and its size, as "buffer 4".
-func (m *Monitor) Text(seats int, object string) string {
+// Summary is what was seen, in words.
+func (m *Monitor) Summary() string {
 	m.mutex.Lock()
 	defer m.mutex.Unlock()
-	return fmt.Sprintf("log 1 %d %d %s\n", seats, m.conds, object) + m.lines.String()
+	said := fmt.Sprintf("%d lines, %d conditions", m.count, m.conds)
+	if m.stopped != "" {
+		said += "; it ends early, since " + m.stopped
+	}
+	if strays := m.strays.Load(); strays > 0 {
+		said += fmt.Sprintf("; signals without the mutex: %d; it lacks them", strays)
+	}
+	return said
+}
+
+// comesFree tells whether the mutex is free in a moment.
+func (m *Monitor) comesFree() bool {
+	for tries := 0; tries < 100; tries++ {
+		if m.mutex.TryLock() {
+			m.mutex.Unlock()
+			return true
+		}
+		time.Sleep(time.Millisecond)
+	}
+	return false
+}
+
+// EndAfter is for a program that hangs: after so long its log is written into a new file, and it ends with status 124.
+func (m *Monitor) EndAfter(long time.Duration, path string, seats int, object string) {
+	time.AfterFunc(long, func() {
+		if !m.comesFree() {
+			fmt.Fprintf(os.Stderr, "monk: %s: no log, since a thread keeps the mutex\n", path)
+			os.Exit(statusLate)
+		}
+		file, err := os.OpenFile(path, os.O_WRONLY|os.O_CREATE|os.O_EXCL, 0o666)
+		if err == nil {
+			_, err = file.WriteString(m.Text(seats, object))
+		}
+		if err == nil {
+			fmt.Fprintf(os.Stderr, "monk: %s: %s\n", path, m.Summary())
+		} else {
+			fmt.Fprintf(os.Stderr, "monk: %s: no log, since %v\n", path, err)
+		}
+		os.Exit(statusLate)
+	})
+}
+
+// Text is the log so far, of so many seats; the words are the object and its size, as "buffer 4".
+func (m *Monitor) Text(count int, object string) string {
+	m.mutex.Lock()
+	defer m.mutex.Unlock()
+	return fmt.Sprintf("log 1 %d %d %s\n", min(count, seats), min(m.conds, conditions), object) + m.lines.String()
 }

@@ -1,8 +1,13 @@
+import java.io.IOException;
+import java.nio.file.Files;
+import java.nio.file.Path;
+import java.nio.file.StandardOpenOption;
 import java.util.ArrayList;
 import java.util.HashMap;
 import java.util.List;
 import java.util.Map;
 import java.util.concurrent.TimeUnit;
+import java.util.concurrent.atomic.AtomicInteger;
 import java.util.concurrent.locks.Condition;
 import java.util.concurrent.locks.ReentrantLock;
 
@@ -17,19 +22,83 @@ import java.util.concurrent.locks.ReentrantLock;
  * <p>What a recorder can't see is told in recorders/README.md.
  */
 public final class MonkLog {
+    /** Of a log. */
+    private static final int SEATS = 32, CONDITIONS = 8;
+
+    private static final int STATUS_LATE = 124;
+
     private final List<String> lines = new ArrayList<>();
     private final Map<Thread, Integer> seats = new HashMap<>();
+    private final AtomicInteger strays = new AtomicInteger();
     private int conditions;
+    private String stopped = "";
 
+    /** What stands before a line that isn't written is a log too. */
     private void put(String verb, String numbers) {
-        Integer seat = seats.computeIfAbsent(Thread.currentThread(), thread -> seats.size());
+        Integer seat = seats.get(Thread.currentThread());
+        if (seat == null && seats.size() == SEATS) {
+            stop("there are more than " + SEATS + " threads, and a log has no more seats");
+        }
+        if (!stopped.isEmpty()) {
+            return;
+        }
+        if (seat == null) {
+            seat = seats.size();
+            seats.put(Thread.currentThread(), seat);
+        }
         lines.add(verb + " " + seat + numbers);
+    }
+
+    private void put(String verb, int condition) {
+        if (condition >= CONDITIONS) {
+            stop("there are more than " + CONDITIONS + " conditions, and a log has no more");
+        }
+        put(verb, " " + condition);
+    }
+
+    /** The first reason stays. */
+    private void stop(String why) {
+        if (stopped.isEmpty()) {
+            stopped = why;
+        }
+    }
+
+    /** A signal is written down where its caller holds the lock; else it is counted, and the library refuses it. */
+    private void tell(boolean isHeld, String verb, int condition) {
+        if (isHeld) {
+            put(verb, condition);
+        } else {
+            strays.incrementAndGet();
+        }
     }
 
     /** The log so far; the words are the object and its size, as {@code buffer 4}. No thread may be active. */
     public String text(String object) {
-        String first = "log 1 " + seats.size() + " " + conditions + " " + object + "\n";
+        String first = "log 1 " + seats.size() + " " + Math.min(conditions, CONDITIONS) + " " + object + "\n";
         return first + String.join("\n", lines) + (lines.isEmpty() ? "" : "\n");
+    }
+
+    /** What was seen, in words. */
+    public String summary() {
+        String seen = lines.size() + " lines, " + seats.size() + " threads, " + conditions + " conditions";
+        String cut = stopped.isEmpty() ? "" : "; it ends early, since " + stopped;
+        return seen + cut + (strays.get() == 0 ? "" : "; signals without the lock, refused: " + strays);
+    }
+
+    /** For a program that hangs: after so many milliseconds its log is written into a new file, and it ends with status 124. */
+    public void endAfter(long milliseconds, Path file, String object) {
+        Thread watch = new Thread(() -> {
+            try {
+                Thread.sleep(milliseconds);
+                Files.writeString(file, text(object), StandardOpenOption.CREATE_NEW);
+                System.err.println("monk: " + file + ": " + summary());
+            } catch (InterruptedException | IOException error) {
+                System.err.println("monk: " + file + ": no log, since " + error);
+            }
+            Runtime.getRuntime().halt(STATUS_LATE);
+        });
+        watch.setDaemon(true);
+        watch.start();
     }
 
     /** An operation on what the lock guards: its code, what it was given, what it replied (docs/MONITORS.md). */
@@ -54,7 +123,7 @@ public final class MonkLog {
     /** Nothing tells whether a wait with a time ran out, so it is always told as a {@code resume}. */
     public void await(Object monitor, long milliseconds) throws InterruptedException {
         conditions = 1;
-        put("wait", " 0");
+        put("wait", 0);
         String end = "lapse";
         try {
             monitor.wait(milliseconds);
@@ -66,13 +135,13 @@ public final class MonkLog {
 
     public void signal(Object monitor) {
         conditions = 1;
-        put("signal", " 0");
+        tell(Thread.holdsLock(monitor), "signal", 0);
         monitor.notify();
     }
 
     public void signalAll(Object monitor) {
         conditions = 1;
-        put("broadcast", " 0");
+        tell(Thread.holdsLock(monitor), "broadcast", 0);
         monitor.notifyAll();
     }
 
@@ -97,6 +166,31 @@ public final class MonkLog {
             }
         }
 
+        /** Whether it was free. */
+        public boolean tryLock() {
+            boolean got = raw.tryLock();
+            if (got && raw.getHoldCount() == 1) {
+                enter();
+            }
+            return got;
+        }
+
+        /** Whether it came free before the time was over. */
+        public boolean tryLock(long time, TimeUnit unit) throws InterruptedException {
+            boolean got = raw.tryLock(time, unit);
+            if (got && raw.getHoldCount() == 1) {
+                enter();
+            }
+            return got;
+        }
+
+        public void lockInterruptibly() throws InterruptedException {
+            raw.lockInterruptibly();
+            if (raw.getHoldCount() == 1) {
+                enter();
+            }
+        }
+
         public void unlock() {
             if (raw.getHoldCount() == 1) {
                 leave();
@@ -105,22 +199,24 @@ public final class MonkLog {
         }
 
         public Waiters newCondition() {
-            return new Waiters(raw.newCondition(), conditions++);
+            return new Waiters(raw, raw.newCondition(), conditions++);
         }
     }
 
     /** A condition of a lock. */
     public final class Waiters {
+        private final ReentrantLock lock;
         private final Condition raw;
         private final int number;
 
-        private Waiters(Condition raw, int number) {
+        private Waiters(ReentrantLock lock, Condition raw, int number) {
+            this.lock = lock;
             this.raw = raw;
             this.number = number;
         }
 
         public void await() throws InterruptedException {
-            put("wait", " " + number);
+            put("wait", number);
             String end = "lapse";
             try {
                 raw.await();
@@ -132,7 +228,7 @@ public final class MonkLog {
 
         /** Whether the wait ended before its time. */
         public boolean await(long time, TimeUnit unit) throws InterruptedException {
-            put("wait", " " + number);
+            put("wait", number);
             boolean early = false;
             try {
                 early = raw.await(time, unit);
@@ -143,12 +239,12 @@ public final class MonkLog {
         }
 
         public void signal() {
-            put("signal", " " + number);
+            tell(lock.isHeldByCurrentThread(), "signal", number);
             raw.signal();
         }
 
         public void signalAll() {
-            put("broadcast", " " + number);
+            tell(lock.isHeldByCurrentThread(), "broadcast", number);
             raw.signalAll();
         }
     }

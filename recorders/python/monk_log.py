@@ -5,99 +5,206 @@
     not_full = recorder.condition(lock)     # in place of threading.Condition(lock)
     recorder.act(code, arg, reply)          # while the lock is held, behind an operation on what it guards, if that is to be judged
     recorder.text("buffer 4")               # the log; the words are the object and its size
+    recorder.summary()                      # what was seen, in words
 
 `record_queue(queue.Queue(4))` puts a recorder into a queue of the standard library. Each line is written by the thread that holds
-the lock. What a recorder can't see is told in recorders/README.md.
+the lock. A program as it is, with monk_program.py beside this file:
+
+    MONK_LOG=PREFIX PYTHONPATH=recorders/python python -m monk_log PROGRAM ARGS ..
+
+writes PREFIX.1, PREFIX.2, .. when it ends, one for each lock with a wait, beside each the names in it, PREFIX.1.names, and a last
+line on standard error. MONK_OBJECT is the end of the first line of a log. After MONK_SECONDS the logs are written, and the
+program ends with status 124. With MONK_SHAKE=SEED threads let others go first at random, here and with a recorder of one's own.
+What a recorder can't see is told in recorders/README.md.
 """
+from __future__ import annotations
+
+import itertools
+import os
+import random
+import sys
 import threading
+import time
+from typing import Any, Callable
+
+SEATS, CONDITIONS = 32, 8  # of a log
+# A thread is slow for some calls and then fast for some: so many at most. How often it is slow, and sleeps so many seconds at
+# most; and how often it lets others go first while it is fast. One that was woken is slow more often, and so many times as long:
+# then others come in before it.
+CALLS, SLOW, NAP, YIELD = 8, 0.4, 0.001, 0.25
+SLOW_WOKEN, TIMES_WOKEN = 0.7, 4
+
+
+class Shaker:
+    """Lets others go first at random. Each thread has numbers of its own, by the seed and the thread's number."""
+
+    def __init__(self, seed: str):
+        self._seed, self._of_thread, self._numbers = seed, threading.local(), itertools.count()
+
+    def __call__(self, is_woken: bool = False) -> None:
+        here = self._of_thread
+        if not hasattr(here, "dice"):
+            here.dice, here.left, here.is_slow = random.Random(f"{self._seed} {next(self._numbers)}"), 0, False
+        if not here.left:
+            here.left, here.is_slow = here.dice.randint(1, CALLS), here.dice.random() < SLOW
+        here.left -= 1
+        if is_woken and here.dice.random() < SLOW_WOKEN:
+            time.sleep(here.dice.random() * NAP * TIMES_WOKEN)
+        elif here.is_slow:
+            time.sleep(here.dice.random() * NAP)
+        elif here.dice.random() < YIELD:
+            time.sleep(0)
+
+
+SEED = os.environ.get("MONK_SHAKE")
+shake: Callable[..., None] = Shaker(SEED) if SEED else lambda is_woken=False: None
 
 
 class Recorder:
     """The lines of one monitor."""
 
-    def __init__(self):
-        self._lines, self._seats, self._conditions = [], {}, 0
+    def __init__(self) -> None:
+        self._lines: list[tuple] = []
+        self._seats: dict[int, int] = {}
+        self._conditions, self._is_used = 0, False
+        self.waits, self.strays, self.stopped = 0, 0, ""
+        self.sites: list[str] = []  # where the lock and its conditions were made
+        self.names: list[str] = []  # of threads
 
-    def lock(self):
-        return Lock(self, threading.Lock())
+    def lock(self) -> Lock:
+        return Lock(self, threading_lock())
 
-    def rlock(self):
-        return Lock(self, threading.RLock())
+    def rlock(self) -> Lock:
+        return Lock(self, threading_rlock())
 
-    def condition(self, lock=None):
+    def condition(self, lock: Lock | None = None) -> Condition:
+        return Condition(self, self.next_number(), lock or self.rlock())
+
+    def next_number(self) -> int:
         self._conditions += 1
-        return Condition(self, self._conditions - 1, lock or self.rlock())
+        return self._conditions - 1
 
-    def act(self, code, arg, reply):
+    def act(self, code: int, arg: int, reply: int) -> None:
         """An operation on what the lock guards: its code, what it was given, what it replied (docs/MONITORS.md)."""
         self.put("act", code, arg, reply)
 
-    def text(self, thing="buffer 1"):
+    def text(self, thing: str = "buffer 1") -> str:
         """The log so far. No thread may be active."""
-        first = f"log 1 {len(self._seats)} {self._conditions} {thing}"
+        first = f"log 1 {len(self._seats)} {min(self._conditions, CONDITIONS)} {thing}"
         return "".join(" ".join(map(str, line)) + "\n" for line in [(first,), *self._lines])
 
-    def put(self, verb, *numbers):
-        seat = self._seats.setdefault(threading.get_ident(), len(self._seats))
-        self._lines.append((verb, seat, *numbers))
+    def summary(self) -> str:
+        """What was seen, in words."""
+        parts = [f"{len(self._lines)} lines, {self.waits} waits, {len(self._seats)} threads, {self._conditions} conditions"]
+        if self.stopped:
+            parts.append(f"it ends early, since {self.stopped}")
+        if self.strays:
+            parts.append(f"signals without the lock, refused: {self.strays}")
+        if SEED:
+            parts.append(f"shaken by seed {SEED}")
+        return "; ".join(parts)
+
+    def put(self, verb: str, *numbers: int) -> None:
+        """A line. What stands before a line that isn't written is a log too."""
+        if self.stopped:
+            return
+        thread = threading.get_ident()
+        if thread not in self._seats and len(self._seats) == SEATS:
+            self.stopped = f"there are more than {SEATS} threads, and a log has no more seats"
+        elif verb in ("wait", "signal", "broadcast") and numbers[0] >= CONDITIONS:
+            self.stopped = f"there are more than {CONDITIONS} conditions, and a log has no more"
+        else:
+            self._add(verb, thread, numbers)
+
+    def _add(self, verb: str, thread: int, numbers: tuple[int, ...]) -> None:
+        if thread not in self._seats:
+            self._seats[thread] = len(self._seats)
+            # (current_thread() would make a new one of a thread that is only beginning)
+            self.names.append(getattr(threading._active.get(thread), "name", "?"))  # type: ignore[attr-defined]
+        self._lines.append((verb, self._seats[thread], *numbers))
+        self.waits += verb == "wait"
+        self._is_used |= verb not in ("enter", "leave")
+        # who came and left before tells nothing, and most locks have no conditions
+        if verb == "leave" and not self._is_used:
+            self._lines.clear()
+
+    def forget(self) -> None:
+        """In a child that was forked."""
+        self._lines.clear()
+        self._seats.clear()
+        self.names.clear()
+        self.waits, self.strays, self.stopped, self._is_used = 0, 0, "", False
+
+
+# What stands behind a lock, though a program sees others in its place.
+threading_lock, threading_rlock, ThreadingCondition = threading.Lock, threading.RLock, threading.Condition
 
 
 class Lock:
     """A lock that tells who comes in and leaves. Who has it already comes in but once."""
 
-    def __init__(self, recorder, raw):
-        self._recorder, self._raw, self._owner, self._times = recorder, raw, None, 0
+    def __init__(self, recorder: Recorder, raw: Any):
+        self.recorder, self._raw, self._owner, self._times = recorder, raw, 0, 0
 
-    def acquire(self, blocking=True, timeout=-1):
+    def acquire(self, blocking: bool = True, timeout: float = -1) -> bool:
+        shake()
         got = self._raw.acquire(blocking, timeout)
         if got:
             self._owner, self._times = threading.get_ident(), self._times + 1
             if self._times == 1:
-                self._recorder.put("enter")
+                self.recorder.put("enter")
         return got
 
-    def release(self):
-        if self._times == 1:
-            self._recorder.put("leave")
-            self._owner = None
-        self._times -= 1
+    def release(self) -> None:
+        shake()
+        if self._times == 1 and self._is_owned():
+            self.recorder.put("leave")
+        self._times = max(0, self._times - 1)
+        if not self._times:
+            self._owner = 0
         self._raw.release()
 
-    def locked(self):
+    def locked(self) -> bool:
         return self._times > 0
 
     __enter__ = acquire
 
-    def __exit__(self, *_):
+    def __exit__(self, *_: object) -> None:
         self.release()
 
     # What a condition asks of its lock; a wait is no `leave`, and its end no `enter`.
 
-    def _is_owned(self):
+    def _is_owned(self) -> bool:
         return self._owner == threading.get_ident()
 
-    def _release_save(self):
-        times, self._times, self._owner = self._times, 0, None
+    def _release_save(self) -> int:
+        times, self._times, self._owner = self._times, 0, 0
         for _ in range(times):
             self._raw.release()
         return times
 
-    def _acquire_restore(self, times):
+    def _acquire_restore(self, times: int) -> None:
+        shake(is_woken=True)
         for _ in range(times):
             self._raw.acquire()
         self._times, self._owner = times, threading.get_ident()
 
+    def _at_fork_reinit(self) -> None:
+        self._raw._at_fork_reinit()
+        self._times, self._owner = 0, 0
+
 
 class Condition(threading.Condition):
-    """A condition that tells who waits, goes on and signals."""
+    """A condition that tells who waits, goes on and signals; without a recorder one as any other."""
 
-    def __init__(self, recorder, number, lock):
+    def __init__(self, recorder: Recorder | None, number: int, lock: Any):
         super().__init__(lock)
         self._recorder, self._number = recorder, number
 
-    def wait(self, timeout=None):
-        if not self._is_owned():
-            return super().wait(timeout)  # (which refuses it)
+    def wait(self, timeout: float | None = None) -> bool:
+        if not self._recorder or not self._is_owned():
+            return super().wait(timeout)  # (which may refuse it)
+        shake()
         self._recorder.put("wait", self._number)
         got = False
         try:
@@ -106,19 +213,26 @@ class Condition(threading.Condition):
             self._recorder.put("resume" if got else "lapse")
         return got
 
-    def notify(self, n=1):
-        if self._is_owned():
-            for _ in range(n):
-                self._recorder.put("signal", self._number)
+    def _tell(self, verb: str, times: int) -> None:
+        if not self._recorder:
+            return
+        shake()
+        if not self._is_owned():
+            self._recorder.strays += 1
+            return
+        for _ in range(times):
+            self._recorder.put(verb, self._number)
+
+    def notify(self, n: int = 1) -> None:
+        self._tell("signal", n)
         super().notify(n)
 
-    def notify_all(self):
-        if self._is_owned():
-            self._recorder.put("broadcast", self._number)
+    def notify_all(self) -> None:
+        self._tell("broadcast", 1)
         super().notify(len(self._waiters))
 
 
-def record_queue(queue, number=None):
+def record_queue(queue: Any, number: Callable[[Any], int] | None = None) -> Recorder:
     """Puts a recorder into a queue that no thread uses yet, and gives it. Condition 0 is `not_full`, 1 `not_empty`, 2
     `all_tasks_done`. Where `number` tells an item's number, a queue.Queue is recorded as a buffer."""
     recorder = Recorder()
@@ -129,16 +243,25 @@ def record_queue(queue, number=None):
     return recorder
 
 
-def _record_items(queue, recorder, number):
+def _record_items(queue: Any, recorder: Recorder, number: Callable[[Any], int]) -> None:
     put, get = queue._put, queue._get
 
-    def record_put(item):
+    def record_put(item: Any) -> None:
         put(item)
         recorder.act(0, number(item), 1)
 
-    def record_get():
+    def record_get() -> Any:
         item = get()
         recorder.act(1, 0, number(item) + 1)
         return item
 
     queue._put, queue._get = record_put, record_get
+
+
+if __name__ == "__main__":
+    if len(sys.argv) < 2:
+        sys.exit("monk_log: MONK_LOG=PREFIX python -m monk_log PROGRAM ARGS ..")
+    del sys.argv[0]
+    import monk_program
+
+    monk_program.run_program(sys.argv[0])

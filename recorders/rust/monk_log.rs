@@ -2,9 +2,14 @@
 //!
 //! What a recorder can't see is told in recorders/README.md.
 
-use std::fmt::{Arguments, Write};
+use std::fmt::{Arguments, Write as _};
+use std::fs::OpenOptions;
+use std::io::Write as _;
 use std::ops::{Deref, DerefMut};
-use std::sync::{Condvar, Mutex, MutexGuard};
+use std::path::PathBuf;
+use std::process::exit;
+use std::sync::{Arc, Condvar, Mutex, MutexGuard};
+use std::thread;
 use std::time::Duration;
 
 /// Stands in place of a `Mutex<T>` and its conditions, which are numbered from 0.
@@ -15,8 +20,15 @@ pub struct Monitor<T, const CONDITIONS: usize> {
 
 struct Recorded<T> {
     lines: String,
+    // why no more lines are written, if so
+    stopped: Option<&'static str>,
     data: T,
 }
+
+// Of a log.
+const SEATS: usize = 32;
+const MOST_CONDITIONS: usize = 8;
+const STATUS_LATE: i32 = 124;
 
 /// A seat that is inside; it leaves when this is dropped.
 pub struct Inside<'a, T, const CONDITIONS: usize> {
@@ -30,7 +42,9 @@ impl<T, const CONDITIONS: usize> Monitor<T, CONDITIONS> {
     pub fn new(data: T) -> Self {
         let lines = String::new();
         let conditions = std::array::from_fn(|_| Condvar::new());
-        Monitor { inner: Mutex::new(Recorded { lines, data }), conditions }
+        let many = "there are more than 8 conditions, and a log has no more";
+        let stopped = (CONDITIONS > MOST_CONDITIONS).then_some(many);
+        Monitor { inner: Mutex::new(Recorded { lines, stopped, data }), conditions }
     }
 
     /// Comes in. Each thread has a seat of its own, from 0.
@@ -43,14 +57,60 @@ impl<T, const CONDITIONS: usize> Monitor<T, CONDITIONS> {
 
     /// The log so far, of so many seats; `object` is the object and its size, as `buffer 4`.
     pub fn text(&self, seats: usize, object: &str) -> String {
-        format!("log 1 {seats} {CONDITIONS} {object}\n{}", self.inner.lock().unwrap().lines)
+        let (seats, conditions) = (seats.min(SEATS), CONDITIONS.min(MOST_CONDITIONS));
+        format!("log 1 {seats} {conditions} {object}\n{}", self.inner.lock().unwrap().lines)
+    }
+
+    /// What was seen, in words.
+    pub fn summary(&self) -> String {
+        let inner = self.inner.lock().unwrap();
+        let cut = inner.stopped.map_or(String::new(), |why| format!("; it ends early, since {why}"));
+        format!("{} lines, {CONDITIONS} conditions{cut}", inner.lines.lines().count())
+    }
+
+    // In a moment.
+    fn comes_free(&self) -> bool {
+        (0..100).any(|_| {
+            let is_free = self.inner.try_lock().is_ok();
+            if !is_free {
+                thread::sleep(Duration::from_millis(1));
+            }
+            is_free
+        })
+    }
+
+    /// For a program that hangs: after so long its log is written into a new file, and it ends with status 124.
+    pub fn end_after(self: &Arc<Self>, time: Duration, path: PathBuf, seats: usize, object: String)
+    where
+        T: Send + 'static,
+    {
+        let monitor = Arc::clone(self);
+        thread::spawn(move || {
+            thread::sleep(time);
+            if !monitor.comes_free() {
+                eprintln!("monk: {}: no log, since a thread keeps the mutex", path.display());
+                exit(STATUS_LATE);
+            }
+            let file = OpenOptions::new().write(true).create_new(true).open(&path);
+            let wrote = file.and_then(|mut file| file.write_all(monitor.text(seats, &object).as_bytes()));
+            match wrote {
+                Ok(()) => eprintln!("monk: {}: {}", path.display(), monitor.summary()),
+                Err(error) => eprintln!("monk: {}: no log, since {error}", path.display()),
+            }
+            exit(STATUS_LATE);
+        });
     }
 }
 
 impl<T, const CONDITIONS: usize> Inside<'_, T, CONDITIONS> {
     fn put(&mut self, verb: &str, numbers: Arguments<'_>) {
         let seat = self.seat;
-        if let Some(guard) = &mut self.guard {
+        let Some(guard) = &mut self.guard else { return };
+        if seat >= SEATS && guard.stopped.is_none() {
+            guard.stopped = Some("there are more than 32 threads, and a log has no more seats");
+        }
+        // what stands before a line that isn't written is a log too
+        if guard.stopped.is_none() {
             writeln!(guard.lines, "{verb} {seat}{numbers}").unwrap();
         }
     }

@@ -1,0 +1,244 @@
+/* How logs are written into files, and what is said at the end. Part of libmonk_log.c. A signal may be what ends the program, so
+   nothing here asks for memory or writes through stdio. */
+#ifndef MONK_FILES_H
+#define MONK_FILES_H
+
+#include <dlfcn.h>
+#include <errno.h>
+#include <fcntl.h>
+#include <signal.h>
+#include <stdarg.h>
+#include <stdio.h>
+#include <stdlib.h>
+#include <sys/stat.h>
+#include <time.h>
+
+#include "monk_lines.h"
+
+enum {
+    PREFIX = 4096,
+    NAME = PREFIX + 64,
+    PAGE = 1 << 14,
+    LONGEST = 8192,         /* line that is written */
+    MILLISECOND = 1000000,  /* in nanoseconds */
+    TO_SETTLE = 10,         /* milliseconds for lines that are being written when the program ends */
+    HIGH_FILE = 200         /* the number of a file that no program asks for */
+};
+
+static const char *const verbs[] = {"enter", "resume", "lapse", "leave", "wait", "signal", "broadcast", "act"};
+
+/* ---- standard error: a program may close it, or have something else at its number, before it ends */
+
+static struct {
+    struct stat is;
+    int copy;
+} errors = {.copy = -1};
+
+static int is_errors(int file) {
+    struct stat now;
+    return file >= 0 && !fstat(file, &now) && now.st_dev == errors.is.st_dev && now.st_ino == errors.is.st_ino;
+}
+
+static void keep_errors(void) {
+    if (!fstat(STDERR_FILENO, &errors.is))
+        errors.copy = fcntl(STDERR_FILENO, F_DUPFD_CLOEXEC, HIGH_FILE);
+}
+
+/* A program that goes on in the background must not keep its caller waiting for the end of this file. */
+static void drop_errors(void) {
+    if (is_errors(errors.copy))
+        close(errors.copy);
+    errors.copy = -1;
+}
+
+__attribute__((format(printf, 1, 2))) static void say(const char *format, ...) {
+    char line[LONGEST];
+    int file = is_errors(STDERR_FILENO) ? STDERR_FILENO : errors.copy, length;
+    va_list words;
+    va_start(words, format);
+    length = vsnprintf(line, sizeof line, format, words);
+    va_end(words);
+    if (is_errors(file) && write(file, line, length < LONGEST ? length : LONGEST - 1) < 0)
+        return;
+}
+
+/* ---- a file, of which whole lines are written */
+
+struct page {
+    int file, error;
+    off_t whole; /* what stands in the file */
+    size_t length;
+    char text[PAGE];
+};
+
+static void flush(struct page *page) {
+    for (size_t at = 0; at < page->length && !page->error;) {
+        ssize_t wrote = write(page->file, page->text + at, page->length - at);
+        if (wrote < 0 && errno != EINTR)
+            page->error = errno;
+        else if (wrote > 0)
+            at += wrote;
+    }
+    if (!page->error)
+        page->whole += page->length;
+    page->length = 0;
+}
+
+__attribute__((format(printf, 2, 3))) static void print(struct page *page, const char *format, ...) {
+    va_list words;
+    if (page->length + LONGEST > PAGE)
+        flush(page);
+    va_start(words, format);
+    int length = vsnprintf(page->text + page->length, LONGEST, format, words);
+    va_end(words);
+    page->length += length < LONGEST ? length : LONGEST - 1;
+}
+
+/* Lines that were not written as a whole are taken away again. */
+static void close_page(struct page *page, const char *name) {
+    flush(page);
+    if (page->error && (!page->whole || ftruncate(page->file, page->whole)))
+        unlink(name);
+    if (page->error)
+        say("monk: %s: %s; %s\n", name, strerror(page->error), page->whole ? "it ends early" : "it is left out");
+    close(page->file);
+}
+
+/* ---- the names that stand beside a log */
+
+/* Where an address stands: the name of a symbol, or the file and how far in. */
+static void print_place(struct page *page, const void *address) {
+    Dl_info info;
+    if (!address || !dladdr(address, &info) || !info.dli_fname) {
+        print(page, "%p", address);
+        return;
+    }
+    size_t in = (const char *)address - (const char *)info.dli_fbase;
+    if (info.dli_sname)
+        print(page, "%s+%zu of ", info.dli_sname, (size_t)((const char *)address - (const char *)info.dli_saddr));
+    print(page, "%s+0x%zx", info.dli_fname, in);
+}
+
+static void print_known(struct page *page, const char *what, const struct known *it) {
+    print(page, "%s ", what);
+    print_place(page, it->address);
+    print(page, ", first used at ");
+    print_place(page, it->caller);
+    print(page, "\n");
+}
+
+/* The name as it is now, or was when the thread ended. */
+static void read_name(struct thread *thread) {
+    char path[64];
+    snprintf(path, sizeof path, "/proc/self/task/%d/comm", thread->id);
+    int file = thread->has_ended ? -1 : open(path, O_RDONLY | O_CLOEXEC);
+    if (file < 0)
+        return;
+    ssize_t length = read(file, thread->name, NAME_OF_THREAD);
+    thread->name[length > 0 ? length - 1 : 0] = 0;
+    close(file);
+}
+
+static void write_names(const struct log *log, const char *name) {
+    static struct page page;
+    char beside[NAME + 8];
+    snprintf(beside, sizeof beside, "%s.names", name);
+    page = (struct page){.file = open(beside, O_WRONLY | O_CREAT | O_EXCL | O_CLOEXEC, 0666)};
+    if (page.file < 0) {
+        say("monk: %s: %s\n", beside, strerror(errno));
+        return;
+    }
+    print_known(&page, "mutex", &log->known);
+    for (int i = 0; i < log->nconds; i++) {
+        char what[32];
+        snprintf(what, sizeof what, "condition %d", i);
+        print_known(&page, what, &log->conds[i]->known);
+    }
+    for (int i = 0; i < log->nseats; i++) {
+        read_name(log->seats[i]);
+        print(&page, "seat %d thread %d %s\n", i, log->seats[i]->id, log->seats[i]->name);
+    }
+    close_page(&page, beside);
+}
+
+/* ---- the logs */
+
+static struct {
+    int number, first, written, taken; /* of files; how many names there were already */
+    int cut_by_threads, cut_by_conds, strays;
+    int error;
+} told;
+
+/* A new file with the next free number; its name is left in `name`. */
+static int next_file(const char *prefix, char name[NAME]) {
+    int file;
+    do {
+        snprintf(name, NAME, "%s.%d", prefix, ++told.number);
+        file = open(name, O_WRONLY | O_CREAT | O_EXCL | O_CLOEXEC, 0666);
+        told.taken += file < 0 && errno == EEXIST;
+    } while (file < 0 && errno == EEXIST);
+    return file;
+}
+
+static void put_text(struct page *page, const char *text) {
+    while (*text)
+        page->text[page->length++] = *text++;
+}
+
+/* Behind a space. */
+static void put_number(struct page *page, unsigned long number) {
+    char digits[32];
+    int count = 0;
+    do
+        digits[count++] = '0' + number % 10;
+    while (number /= 10);
+    page->text[page->length++] = ' ';
+    while (count)
+        page->text[page->length++] = digits[--count];
+}
+
+/* Gives how many words the line has. (There may be a million of them, for which printf takes too long.) */
+static size_t print_line(struct page *page, const uint32_t *at) {
+    enum verb verb = *at & 0xff;
+    if (page->length + LONGEST > PAGE)
+        flush(page);
+    put_text(page, verbs[verb]);
+    put_number(page, *at >> VERB_BITS & 0xff);
+    if (verb >= WAIT)
+        put_number(page, *at >> 2 * VERB_BITS);
+    if (verb == ACT) {
+        put_number(page, at[1]);
+        put_number(page, at[2] | (unsigned long)at[3] << 32);
+    }
+    page->text[page->length++] = '\n';
+    return verb == ACT ? WORDS_OF_ACT : 1;
+}
+
+static void write_log(const struct log *log, const char *prefix) {
+    static struct page page;
+    const char *object = getenv("MONK_OBJECT");
+    char name[NAME];
+    page = (struct page){.file = next_file(prefix, name)};
+    if (page.file < 0) {
+        if (!told.error)
+            say("monk: %s: %s\n", name, strerror(errno));
+        told.error = errno;
+        return;
+    }
+    print(&page, "log 1 %d %d %s\n", log->nseats, log->nconds, object ? object : "buffer 1");
+    for (size_t at = 0; at < log->length && !page.error;)
+        at += print_line(&page, log->words + at);
+    close_page(&page, name);
+    if (page.error)
+        told.error = page.error;
+    if (!page.whole)
+        return;
+    told.first = told.written++ ? told.first : told.number;
+    write_names(log, name);
+    if (log->strays)
+        say("monk: %s: %d signals by threads that did not hold the mutex; it lacks them\n", name, log->strays);
+    if (log->stopped)
+        say("monk: %s: it ends early, since %s\n", name, log->stopped);
+}
+
+#endif

@@ -1,0 +1,25 @@
+package main
+
+import (
+	"demo/monklog"
+	"os"
+	"time"
+)
+
+// Forty seats, ten conditions and a signal without the mutex; then one waits for ever: beyond FILE.
+func main() {
+	var monitor monklog.Monitor
+	var conds [10]*monklog.Cond
+	for i := range conds {
+		conds[i] = monitor.Cond()
+	}
+	conds[0].Signal(0)
+	monitor.EndAfter(300*time.Millisecond, os.Args[1], 40, "buffer 1")
+	for seat := uint64(0); seat < 40; seat++ {
+		monitor.Lock(seat)
+		monitor.Unlock(seat)
+	}
+	for {
+		time.Sleep(time.Second)
+	}
+}

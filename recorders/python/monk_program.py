@@ -1,0 +1,188 @@
+"""Runs a program of Python as it is, and records its locks and conditions: the part of monk_log.py for `python -m monk_log`."""
+from __future__ import annotations
+
+import atexit
+import itertools
+import os
+import signal
+import sys
+import threading
+import time
+import types
+from typing import Any, Callable
+
+import monk_log
+from monk_log import SEED, Condition, Lock, Recorder, threading_lock, threading_rlock
+
+STATUS_LATE = 124
+exit_at_once = os._exit
+
+
+class Program:
+    """The locks of a program, and their logs."""
+
+    def __init__(self) -> None:
+        self.recorders: list[Recorder] = []
+        self.front = ""  # of the last line, of a child that was forked
+        self.prefix, self._is_written, self._is_refused = os.environ.get("MONK_LOG"), threading_lock(), False
+
+    def recorder(self) -> Recorder | None:
+        """A new one, or none for what `threading` makes for each thread of its own."""
+        frame: types.FrameType | None = sys._getframe(2)
+        while frame and frame.f_code.co_filename == threading.__file__:
+            if isinstance(frame.f_locals.get("self"), threading.Thread):
+                return None
+            frame = frame.f_back
+        made = Recorder()
+        made.sites.append(site())
+        self.recorders.append(made)
+        return made
+
+    def lock(self) -> Any:
+        made = self.recorder()
+        return made.lock() if made else threading_lock()
+
+    def rlock(self) -> Any:
+        made = self.recorder()
+        return made.rlock() if made else threading_rlock()
+
+    def stand_in(self) -> None:
+        """In place of what `threading` has, of which `queue` and others make their own."""
+        program = self
+
+        class ProgramCondition(Condition):
+            def __init__(self, lock: Any = None):
+                lock = lock or program.rlock()
+                recorder = lock.recorder if isinstance(lock, Lock) else None
+                if recorder:
+                    recorder.sites.append(site())
+                super().__init__(recorder, recorder.next_number() if recorder else 0, lock)
+
+        setattr(threading, "Lock", self.lock)
+        setattr(threading, "RLock", self.rlock)
+        setattr(threading, "Condition", ProgramCondition)
+        setattr(os, "_exit", self.exit_at_once)
+        os.register_at_fork(after_in_child=self.forked)
+
+    def exit_at_once(self, status: int) -> None:
+        """A child of multiprocessing ends so."""
+        self.write()
+        exit_at_once(status)
+
+    def forked(self) -> None:
+        self.front, self._is_written = f"process {os.getpid()}: ", threading_lock()
+        if self.prefix:
+            self.prefix += f".{os.getpid()}"
+        for recorder in self.recorders:
+            recorder.forget()
+
+    def write(self) -> None:
+        """All logs, once, and the last line."""
+        if not self._is_written.acquire(blocking=False):
+            return
+        waited = [it for it in self.recorders if it.waits]
+        written = [name for name in map(self._write_log, waited) if name] if self.prefix else []
+        parts = [f"{len(self.recorders)} lock{'s' * (len(self.recorders) != 1)}, {len(waited)} with waits, {self._told(waited, written)}"]
+        if strays := sum(it.strays for it in self.recorders):
+            parts.append(f"signals without the lock, refused: {strays}")
+        for what, word in (("thread 33", "threads"), ("condition 9", "conditions")):
+            if cut := sum(word in it.stopped for it in waited):
+                parts.append(f"cut at {what}: {cut}")
+        if SEED:
+            parts.append(f"shaken by seed {SEED}")
+        say(self.front + "; ".join(parts))
+
+    def _told(self, waited: list[Recorder], written: list[str]) -> str:
+        if written:
+            return f"{len(written)} logs, {written[0]} to {written[-1]}" if len(written) > 1 else f"1 log, {written[0]}"
+        if not self.prefix:
+            return "no log, since MONK_LOG isn't set"
+        return "no log, since none could be written" if waited else "no log, since nobody waited on a condition"
+
+    def _write_log(self, recorder: Recorder) -> str:
+        """The name of its file, or none."""
+        for number in itertools.count(1):
+            name = f"{self.prefix}.{number}"
+            try:
+                with open(name, "x") as file:
+                    file.write(recorder.text(os.environ.get("MONK_OBJECT", "buffer 1")))
+                with open(f"{name}.names", "x") as file:
+                    file.writelines(names_of(recorder))
+            except FileExistsError:
+                continue
+            except OSError as error:
+                if not self._is_refused:
+                    say(f"{name}: {error.strerror}; it is left out")
+                self._is_refused = True
+                remove(name)
+                return ""
+            if recorder.stopped:
+                say(f"{name}: it ends early, since {recorder.stopped}")
+            return name
+        return ""
+
+
+def say(text: str) -> None:
+    try:
+        os.write(2, f"monk: {text}\n".encode())
+    except OSError:
+        pass
+
+
+def remove(name: str) -> None:
+    try:
+        os.unlink(name)
+    except OSError:
+        pass
+
+
+def site() -> str:
+    """The file and line outside this module and `threading` that is being run."""
+    frame: types.FrameType | None = sys._getframe(1)
+    while frame and frame.f_code.co_filename in (__file__, monk_log.__file__, threading.__file__):
+        frame = frame.f_back
+    return f"{frame.f_code.co_filename}:{frame.f_lineno}" if frame else "?"
+
+
+def names_of(recorder: Recorder) -> list[str]:
+    whats = ["lock", *(f"condition {number}" for number in range(len(recorder.sites) - 1))]
+    made = [f"{what} made at {where}\n" for what, where in zip(whats, recorder.sites)]
+    return made + [f"seat {seat} {name}\n" for seat, name in enumerate(recorder.names)]
+
+
+def end_late(program: Program, seconds: float) -> None:
+    time.sleep(seconds)
+    program.write()
+    exit_at_once(STATUS_LATE)
+
+
+def end_by_signal(program: Program) -> Callable[[int, types.FrameType | None], None]:
+    def end(number: int, _: types.FrameType | None) -> None:
+        program.write()
+        signal.signal(number, signal.SIG_DFL)
+        os.kill(os.getpid(), number)
+
+    return end
+
+
+def run_program(path: str) -> None:
+    """Runs a program as if it were run by itself, and writes its logs when it ends."""
+    program, module = Program(), types.ModuleType("__main__")
+    sys.path[0] = os.path.dirname(os.path.abspath(path))
+    module.__file__ = path
+    sys.modules["__main__"] = module
+    atexit.register(program.write)
+    if signal.getsignal(signal.SIGTERM) == signal.SIG_DFL:
+        signal.signal(signal.SIGTERM, end_by_signal(program))
+    if seconds := os.environ.get("MONK_SECONDS"):
+        threading.Thread(target=end_late, args=(program, float(seconds)), daemon=True).start()
+    program.stand_in()
+    with open(path, "rb") as file:
+        code = compile(file.read(), path, "exec")
+    try:
+        exec(code, module.__dict__)
+    except Exception as error:
+        # as it would be told without this function
+        trace = error.__traceback__ and error.__traceback__.tb_next
+        sys.excepthook(type(error), error.with_traceback(trace), trace)
+        sys.exit(1)
