@@ -1,11 +1,12 @@
 -- What an audit says of one event more.
-use Rattle.std.proofs.Common.{◌≡◌, ℕ, [], ◌∷◌, ◌++◌, List, refl, subst}
+use Rattle.std.proofs.Common.{◌≡◌, ℕ, Bool, true, false, cond, [], ◌∷◌, ◌++◌, List, Some, None, refl, subst}
 use Rattle.monk_kinds.specs.Names.{rules_named}
 use Rattle.monk_kinds.specs.declared.mode.Rules.{Rules}
 use Rattle.monk_kinds.specs.declared.name.KindName.{KindName}
 use Rattle.monk_object.specs.Names.{meaning_named}
 use Rattle.monk_object.specs.declared.name.ObjectName.TheVariants.{Buffer}
 use Rattle.monk_history.specs.Text.{Heading, heading}
+use Rattle.monk_history.specs.Text.Reading.{heading_of}
 use Rattle.monk_history.specs.Meaning.Legal.{IsLegal}
 use Rattle.monk_history.specs.Meaning.Named.{named_monitor}
 use Rattle.monk_history.specs.Meaning.Reasons.{IsAllowed}
@@ -23,3 +24,13 @@ allowed_on k n seats conds size h f e events is named room grown l =
     rw (is, named, room.seats_are, room.conds_are, room.opens) refl in
     subst (λ m. IsAllowed m f.history e) same
     (legal_last (named_monitor h) f.history e (subst (IsLegal (named_monitor h)) grown l))
+
+-- what is made of a choice is the one that is there
+made_is : (b : Bool) (x y : Heading) → cond b (Some x) None ≡ Some y → y ≡ x
+made_is true x y made = cc
+made_is false x y made = absurd cc
+
+-- a header that was made has the numbers that were given
+pub header_made : (n : KindName) (seats conds size : ℕ) (h : Heading) → heading_of 1 n seats conds Buffer size ≡ Some h
+    → h ≡ heading 1 n seats conds Buffer size
+header_made n seats conds size h made = made_is _ (heading 1 n seats conds Buffer size) h made
