@@ -1,6 +1,6 @@
 -- The bits of flags are those of the last set that was done
 use Rattle.std.proofs.Common.{◌≡◌, ℕ, ◌^◌, ◌<◌, ◌==◌, Bool, true, false, ◌&&◌, cond, List, [], ◌∷◌, ◌++◌}
-use Rattle.std.proofs.Common.{map, refl, ap, ◌∙◌, arith, pow_pos}
+use Rattle.std.proofs.Common.{map, refl, ap, ◌∙◌, pow_pos}
 use Rattle.std.specs.Prelude.{nat_lt, filter}
 use Rattle.std.proofs.lemmas.Bool.{ltb-true}
 use Rattle.monk_object.specs.Flags.{SET, flags_meaning, flags_after, flags_reply}
