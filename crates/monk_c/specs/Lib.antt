@@ -1,0 +1,11 @@
+pub mod Answers
+pub mod Dealing
+pub mod Deals
+pub mod Flags
+pub mod Handles
+pub mod Making
+pub mod Refusal
+pub mod Stands
+pub mod Taken
+pub mod Tokens
+pub mod Told
