@@ -69,6 +69,7 @@ struct monk_monitor {
     bell bells[BELLS];
     int kind;
     unsigned seat_count;
+    uint32_t bits;                              /* a copy of the flags, touched by the seat that is inside */
     _Atomic int stopped, closed, abandoned;     /* abandoned: how many seats are, and still wait */
     pthread_mutex_t lock;                       /* of lending: no call that comes in, waits or goes out takes it */
     monk_seat *reader;                          /* the seat that closed it, through which the history is read */
@@ -257,13 +258,16 @@ int monk_broadcast(monk_seat *s, unsigned condition) {
 
 int monk_set_flags(monk_seat *s, uint32_t bits) {
     int r = begin(s);
-    return r ? r : done(end(s, monk_k_set_flags(s->token, bits)));
+    if (r) return r;
+    r = monk_k_set_flags(s->token, bits);
+    if (r == MONK_INSIDE) s->monitor->bits = bits;
+    return done(end(s, r));
 }
 
 int monk_waiting(monk_seat *s, unsigned condition) {
     int r = begin(s);
     if (r) return r;
-    r = monk_k_waiting(s->token, byte_of(condition));
+    r = (int)monk_k_waiting(s->token, byte_of(condition));
     atomic_store(&s->calling, 0);
     return r;
 }
@@ -271,7 +275,11 @@ int monk_waiting(monk_seat *s, unsigned condition) {
 int monk_flags(monk_seat *s, uint32_t *bits) {
     if (!bits) return MONK_RANGE;
     int r = begin(s);
-    return r ? r : done(end(s, monk_k_flags(s->token, bits)));
+    if (r) return r;
+    r = monk_k_place(s->token) == MONK_INSIDE ? MONK_OK : MONK_NOT_NOW;
+    if (!r) *bits = s->monitor->bits;
+    atomic_store(&s->calling, 0);
+    return r;
 }
 
 /* ---- Calls that wait */

@@ -16,9 +16,9 @@ IMMEDIATE = ("PIR", "NPIR")
 NON_BLOCKING = ("PNB", "NPNB")
 WISHES = ("entry", "waiter", "signaller", "any")
 MOST_FLAGS = 5
-LONGEST = 60
-# How often a call is one that the kind has and that is likely where its seat stands: mostly, but misuse has to come too.
-LIKELY = 0.9
+LONGEST = 200
+# How often a call is one that is probably taken: mostly, but misuse has to come too. And how often it is of the seat that is inside.
+LIKELY, BUSY = 0.93, 0.5
 
 Call = tuple[int, str, tuple[int, ...]]
 Shape = tuple[str, int, int, int, int]
@@ -26,37 +26,62 @@ Shape = tuple[str, int, int, int, int]
 
 def shape_at_random(kind: str, dice: random.Random) -> Shape:
     conditions = 0 if kind in AUTOMATIC and dice.random() < 0.5 else dice.randint(1, 3)
-    return kind, dice.randint(1, 4), conditions, dice.randint(0, MOST_FLAGS), dice.choice((2, 3, 5, 12, 200))
+    return kind, dice.randint(2, 5), conditions, dice.randint(0, MOST_FLAGS), dice.choice((2, 5, 30, 200, 200))
 
 
-def call_at_random(shape: Shape, dice: random.Random) -> Call:
-    kind, seats, conditions, flags, _ = shape
-    seat, condition, other = dice.randrange(seats), dice.randrange(conditions + 1), dice.randrange(conditions + 1)
+class Guess:
+    """Where the seats probably stand, so that most calls are taken: whoever polls comes in where nobody is known to be inside."""
+
+    def __init__(self, seats: int) -> None:
+        self.outside, self.inside = set(range(seats)), -1
+
+    def seat(self, dice: random.Random, seats: int) -> int:
+        return self.inside if self.inside >= 0 and dice.random() < BUSY else dice.randrange(seats)
+
+    def names(self, seat: int, kind: str) -> list[str]:
+        if seat == self.inside:
+            return inside_names(kind)
+        return ["arrive"] if seat in self.outside else ["poll"]
+
+    def note(self, seat: int, name: str) -> None:
+        if name == "arrive":
+            self.outside.discard(seat)
+        elif name == "poll" and self.inside < 0 and seat not in self.outside:
+            self.inside = seat
+        elif seat == self.inside and name in ("leave", "signal-leave", "wait", "signal-wait", "until", "signal"):
+            self.inside = -1
+            self.outside |= {seat} if name in ("leave", "signal-leave") else set()
+
+
+def inside_names(kind: str) -> list[str]:
+    names = ["leave", "wish", "set", "left"] + (["until", "until"] if kind in AUTOMATIC else ["wait", "wait", "waiting"])
+    names += ["signal-leave", "signal-wait"] if kind in IMMEDIATE else [] if kind in AUTOMATIC else ["signal", "signal"]
+    return names + (["signal-all"] if kind in NON_BLOCKING else [])
+
+
+def call_at_random(shape: Shape, seats: int, guess: Guess, dice: random.Random) -> Call:
+    kind, _, conditions, flags, _ = shape
+    seat, condition, other = guess.seat(dice, seats), dice.randrange(conditions + 1), dice.randrange(conditions + 1)
     if conditions and dice.random() < LIKELY:
         condition, other = condition % conditions, other % conditions
     flag = dice.randrange(max(flags, 1)) if dice.random() < LIKELY else flags
     every: dict[str, tuple[int, ...]] = {
         "arrive": (), "poll": (), "leave": (), "wait": (condition,), "signal": (condition,), "signal-all": (condition,),
-        "signal-leave": (condition,), "signal-wait": (condition, other), "until": (flag,), "set": (dice.randrange(1 << flags) if flags else 1,),
-        "wish": (dice.randrange(3),), "waiting": (condition,), "left": (),
+        "signal-leave": (condition,), "signal-wait": (condition, other), "until": (flag,),
+        "set": (dice.randrange(1 << flags) if flags else 1,), "wish": (dice.randrange(3),), "waiting": (condition,), "left": (),
     }
-    names = list(every)
-    if dice.random() < LIKELY:
-        names = ["arrive", "poll", "poll", "leave", "wish", "set", "left"]
-        names += ["until", "until"] if kind in AUTOMATIC else ["wait", "wait", "waiting"]
-        names += ["signal-leave", "signal-wait"] if kind in IMMEDIATE else [] if kind in AUTOMATIC else ["signal", "signal"]
-        names += ["signal-all"] if kind in NON_BLOCKING else []
-    name = dice.choice(names)
+    name = dice.choice(guess.names(seat, kind) if dice.random() < LIKELY else list(every))
+    guess.note(seat, name)
     return seat, name, every[name]
 
 
 def script_at_random(kind: str, dice: random.Random) -> tuple[Shape, list[Call]]:
-    """At its end each seat comes in that can, so that somebody is inside and can read the history."""
+    """The last seat is spared for the end: then each seat comes in that can, so that somebody is inside and can read the history."""
     shape = shape_at_random(kind, dice)
-    calls = [call_at_random(shape, dice) for _ in range(dice.randrange(LONGEST))]
-    for name in ("poll", "arrive", "poll"):
-        calls += [(seat, name, ()) for seat in range(shape[1])]
-    return shape, calls
+    spare = shape[1] - 1
+    guess = Guess(spare)
+    calls = [call_at_random(shape, spare, guess, dice) for _ in range(dice.randrange(LONGEST))]
+    return shape, calls + [(seat, "poll", ()) for seat in range(spare)] + [(spare, "arrive", ()), (spare, "poll", ())]
 
 
 def text_of(shape: Shape, calls: list[Call]) -> str:
