@@ -32,7 +32,7 @@ SEATS, CONDITIONS = 32, 8  # of a log
 # most; and how often it lets others go first while it is fast. One that was woken is slow more often, and so many times as long:
 # then others come in before it.
 CALLS, SLOW, NAP, YIELD = 8, 0.4, 0.001, 0.25
-SLOW_WOKEN, TIMES_WOKEN = 0.7, 4
+SLOW_WOKEN, TIMES_WOKEN = 0.9, 8
 
 
 class Shaker:
