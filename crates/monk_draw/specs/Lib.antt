@@ -10,5 +10,8 @@ pub mod Frame
 pub mod Stretch
 pub mod Hand
 pub mod Legend
+pub mod Stand
+pub mod Stretches
+pub mod Seats
 pub mod Scene
 pub mod Picture
