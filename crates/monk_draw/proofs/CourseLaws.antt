@@ -1,6 +1,6 @@
 -- Stretches end column by column
 use Rattle.std.proofs.Common.{◌≡◌, ℕ, ◌+◌, ◌<◌, ◌≤◌, zero, suc, List, [], ◌∷◌, ◌++◌, length, take, get_or, refl, sym, ap, subst, ◌∙◌}
-use Rattle.std.proofs.Common.{append_assoc, arith, add-one, Option, Some, true, false, if◌then◌else◌}
+use Rattle.std.proofs.Common.{append_assoc, arith, add-one, Option, Some, true, if◌then◌else◌}
 use Rattle.std.specs.Prelude.{slice_get, slice_set}
 use Rattle.std.proofs.lemmas.List.{append-nil, take_more}
 use Rattle.monk_history.specs.declared.event.Event.{Event}
@@ -186,7 +186,3 @@ all_drawn seats past es column end stays at stay =
 -- a seat that comes to the same place ends no stretch
 pub none_ended : (s : ℕ) (stay : Stay) (place : Place) (x : ℕ) → same_place stay.place place ≡ true → [] ≡ ended s stay place x
 none_ended s stay place x same = ap (λ b. if b then [] else stretch_to s stay x ∷ []) (sym same)
-
-pub one_ended : (s : ℕ) (stay : Stay) (place : Place) (x : ℕ) → same_place stay.place place ≡ false
-    → stretch_to s stay x ∷ [] ≡ ended s stay place x
-one_ended s stay place x same = ap (λ b. if b then [] else stretch_to s stay x ∷ []) (sym same)

@@ -53,7 +53,9 @@ same_front h seats past shown fault last reason lanes e allowed of_lanes of_even
 -- all but the marks and the end, from the texts that are put one after the other
 pub puts_front : (h : Heading) (seats : ℕ) (past shown : List Event) (fault : Option ℕ) (last : ℕ) (reason : List ℕ)
     (old grounded stretched handed new : List ℕ) (start between legend : Legend) (lanes : ℕ) (e : Option Event)
-    (allowed end : ℕ) → end ≡ lanes_end (length shown) → lanes ≡ lanes_for seats shown → e ≡ forbidden_event fault last shown → allowed ≡ allowed_with e (length shown)
+    (allowed end : ℕ)
+    → end ≡ lanes_end (length shown) → lanes ≡ lanes_for seats shown → e ≡ forbidden_event fault last shown
+    → allowed ≡ allowed_with e (length shown)
     → start ≡ empty_legend → grounded ≡ old ++ ground h seats (length shown) lanes
     → PutsStretches (stretches seats past (take allowed shown) end) grounded stretched start between
     → handed ≡ stretched ++ hands seats allowed shown

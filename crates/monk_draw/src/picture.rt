@@ -157,7 +157,8 @@ fn put_front(
 ///
 /// # Cost
 ///
-/// One pass over the events, and memory for the picture: at most some 200 kB.
+/// One pass over the events, and one over the seats for each that is shown. Memory for the picture, at most some 200 kB, and
+/// some 7 kB for where the seats stand. The same of a history that isn't legal, where no seat waits twice before it goes on.
 pub fn draw(
     alloc: Global,
     header: &Header,

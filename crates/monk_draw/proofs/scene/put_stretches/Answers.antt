@@ -10,7 +10,6 @@ use Rattle.monk_draw.proofs.CourseLaws.{after_event, all_drawn, drawn_more, stay
 use Rattle.monk_draw.proofs.MarkLaws.{some_event}
 use Rattle.monk_draw.proofs.StretchLaws.{more_stretches, no_stretches, same_stretches}
 use Rattle.monk_draw.proofs.scene.put_stretches.Goals as goal
-use Rattle.monk_draw.proofs.scene.put_stretches.Goals.{After-follow}
 
 pub loop-column-init : goal.loop-column-init
 unfolding ended_before
