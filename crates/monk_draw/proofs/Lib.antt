@@ -2,6 +2,8 @@ mod MarkLaws
 mod StretchLaws
 mod QueueLaws
 mod SeatLaws
+mod TakenLaws
+mod StandLaws
 mod CourseLaws
 mod HandLaws
 mod LegendLaws

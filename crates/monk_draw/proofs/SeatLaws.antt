@@ -1,8 +1,8 @@
 -- What is kept of the seats shows where they stand, after one event more
-use Rattle.std.proofs.Common.{◌≡◌, ℕ, ◌<◌, ◌==◌, zero, suc, eqb, cond, Bool, true, false, Option, Some, None, List, [], ◌∷◌, ◌++◌}
+use Rattle.std.proofs.Common.{◌≡◌, ℕ, ◌<◌, zero, suc, eqb, cond, Bool, true, false, Option, Some, None, List, [], ◌∷◌, ◌++◌}
 use Rattle.std.proofs.Common.{length, drop, refl, sym, ap, ◌∙◌, arith, replicate}
 use Rattle.std.specs.Prelude.{slice_set}
-use Rattle.std.specs.List.{last_or, list_any}
+use Rattle.std.specs.List.{last_or}
 use Rattle.std.proofs.lemmas.List.{append-nil}
 use Rattle.std.proofs.Math.Dec.{eqb-suc-zero, eqb-zero-suc, eqb-suc-suc}
 use Rattle.monk_history.specs.Meaning.Conditions.{condition, served_by, served_so_far, waiting_by, waits}
@@ -11,7 +11,7 @@ use Rattle.monk_history.specs.Meaning.Events.{seat_of}
 use Rattle.monk_history.specs.declared.event.Event.{Event}
 use Rattle.monk_history.proofs.PublicLaws.Meaning.{condition-push, events_of-push}
 use Rattle.monk_draw.specs.Seats.{AreAfter, IsWhole, left_in, place_in, queue_in}
-use Rattle.monk_draw.specs.Stand.{if_served, left_at, left_by, place_after}
+use Rattle.monk_draw.specs.Stand.{has, if_served, left_at, left_by, place_after}
 use Rattle.monk_draw.specs.declared.place.Place.{Place}
 use Rattle.monk_draw.specs.declared.place.Place.TheVariants.{Outside}
 use Rattle.monk_draw.specs.declared.seats.Seats.{Seats}
@@ -21,7 +21,7 @@ last_put o [] x = refl
 last_put o (y ∷ ys) x = last_put (Some y) ys x
 
 -- behind events of a seat comes one of its own, or one of another's
-left_more : (b : Bool) (es : List Event) (e : Event)
+pub left_more : (b : Bool) (es : List Event) (e : Event)
     → left_at (last_or None (es ++ cond b (e ∷ []) [])) ≡ cond b (left_by e) (left_at (last_or None es))
 left_more true es e = ap left_at (last_put None es e)
 left_more false es e = ap (λ (l : List Event). left_at (last_or None l)) (append-nil es)
@@ -73,6 +73,6 @@ after_none seats whole outside empty = record {
 pub place_is : (h : List Event) (seats : Seats) (s : ℕ) → AreAfter h seats → place_in seats s ≡ place_after h s
 unfolding place_after
 place_is h seats s are =
-    ap (λ (p : Place). if_served (λ c. list_any (λ j. j == s) (queue_in seats.queues c)) p) (are.lefts s)
-    ∙ ap (λ (q : ℕ → List ℕ). if_served (λ c. list_any (λ j. j == s) (q c)) (left_at (last_or None (events_of h s))))
+    ap (λ (p : Place). if_served (λ c. has s (queue_in seats.queues c)) p) (are.lefts s)
+    ∙ ap (λ (q : ℕ → List ℕ). if_served (λ c. has s (q c)) (left_at (last_or None (events_of h s))))
     (λ i c. are.queues c i)

@@ -11,6 +11,7 @@ pub mod Stretch
 pub mod Hand
 pub mod Legend
 pub mod Stand
+pub mod AtPlace
 pub mod Stretches
 pub mod Seats
 pub mod Scene

@@ -1,13 +1,13 @@
 -- What the code keeps of the seats, and what it shows of a history
-use Rattle.std.specs.Prelude.{◌≡◌, ℕ, ◌==◌, None, List, length, slice_index_or}
-use Rattle.std.specs.List.{last_or, list_any}
+use Rattle.std.specs.Prelude.{◌≡◌, ℕ, None, List, length, slice_index_or}
+use Rattle.std.specs.List.{last_or}
 use Rattle.std.specs.declared.alloc.Global.{Global}
 use Rattle.std.specs.declared.vec.Vec.{Vec}
 use Rattle.monk_history.specs.Meaning.Conditions.{condition}
 use Rattle.monk_history.specs.Meaning.Counts.{events_of}
 use Rattle.monk_history.specs.QueueAt.{seats_at}
 use Rattle.monk_history.specs.declared.event.Event.{Event}
-use Rattle.monk_draw.specs.Stand.{if_served, left_at}
+use Rattle.monk_draw.specs.Stand.{has, if_served, left_at}
 use Rattle.monk_draw.specs.declared.place.Place.{Place}
 use Rattle.monk_draw.specs.declared.place.Place.TheVariants.{Outside}
 use Rattle.monk_draw.specs.declared.queues.Queues.{Queues}
@@ -27,7 +27,7 @@ left_in places s = slice_index_or places s Outside
 
 -- where a seat stands by them
 abbrev pub place_in : Seats → ℕ → Place
-place_in seats s = if_served (λ c. list_any (λ j. j == s) (queue_in seats.queues c)) (left_in seats.left.items s)
+place_in seats s = if_served (λ c. has s (queue_in seats.queues c)) (left_in seats.left.items s)
 
 -- there is a place for each number of a seat, and a queue for each of a condition
 pub record IsWhole (seats : Seats) : Type 0 where

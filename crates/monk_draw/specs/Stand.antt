@@ -39,7 +39,10 @@ if_served waits Waiter = Waiter
 if_served waits Signaller = Signaller
 if_served waits (Until p) = Until p
 
+-- whether a queue has the seat
+abbrev pub has : ℕ → List ℕ → Bool
+has s queue = list_any (λ j. j == s) queue
+
 -- where it stands
 unfoldable pub place_after : List Event → ℕ → Place
-place_after h s =
-    if_served (λ c. list_any (λ j. j == s) (condition c h)) (left_at (last_or None (events_of h s)))
+place_after h s = if_served (λ c. has s (condition c h)) (left_at (last_or None (events_of h s)))

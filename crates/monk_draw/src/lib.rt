@@ -5,6 +5,7 @@ mod frame;
 mod hand;
 mod heading;
 mod label;
+pub mod laws;
 mod layout;
 mod legend;
 mod mark;

@@ -1,9 +1,9 @@
 //! Who waits on each condition.
 
 ghost use Rattle.std.specs.Prelude.{◌≡◌, ℕ, ◌<◌, ◌==◌, OnOk, IfOk, [], ◌∷◌, ◌++◌, drop, length, if◌then◌else◌};
-ghost use Rattle.std.specs.List.{list_any};
 ghost use Rattle.monk_history.specs.Meaning.Conditions.{served_by, waiting_by};
 ghost use Rattle.monk_draw.specs.Seats.{queue_in};
+ghost use Rattle.monk_draw.specs.Stand.{has};
 
 use monk_history::Event;
 use std::alloc::{AllocError, Global};
@@ -91,7 +91,7 @@ impl Queues {
     /// Whether the seat waits on the condition.
     pub(crate) fn has(&self, cond: u8, seat: u8) -> bool
         requires { length self.now.waiting.items ≡ 256 }
-        ensures { result ≡ list_any (λ j. j == seat) (queue_in self.now cond) }
+        ensures { result ≡ has seat (queue_in self.now cond) }
     {
         self.waiting[cond as usize].contains(&seat)
     }

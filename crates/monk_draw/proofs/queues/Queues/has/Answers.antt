@@ -1,7 +1,7 @@
-use Rattle.std.proofs.Common.{◌≡◌, ◌∙◌, ◌==◌, ℕ, List, sym, ap, subst, arith, rules}
-use Rattle.std.specs.List.{list_any}
+use Rattle.std.proofs.Common.{◌≡◌, ◌∙◌, ℕ, List, sym, ap, subst, arith, rules}
 use Rattle.monk_history.proofs.PublicLaws.Queues.{seats_at-get}
 use Rattle.monk_draw.specs.Seats.{items_of, queue_in}
+use Rattle.monk_draw.specs.Stand.{has}
 use Rattle.monk_draw.proofs.queues.Queues.has.Goals as goal
 
 pub returns : goal.returns
@@ -11,4 +11,4 @@ returns c =
     ∙ ap (λ v. v.items) c.index.ensures
     ∙ sym (seats_at-get items_of c.args.self.now.waiting.items c.args.cond c.index.result.now
     (omega (arith, c.ranges.cond.fits, c.requires))) in
-    subst (λ (xs : List ℕ). c.contains.result ≡ list_any (λ j. j == c.args.seat) xs) is (search rules)
+    subst (λ (xs : List ℕ). c.contains.result ≡ has c.args.seat xs) is (search rules)
