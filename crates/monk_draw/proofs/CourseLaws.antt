@@ -6,9 +6,9 @@ use Rattle.std.proofs.lemmas.List.{append-nil, take_more}
 use Rattle.monk_history.specs.declared.event.Event.{Event}
 use Rattle.monk_draw.specs.Hand.{handed, handed_by}
 use Rattle.monk_draw.specs.Layout.{column_at, left_edge}
-use Rattle.monk_draw.specs.Seats.{AreAfter, place_in, stay_in}
+use Rattle.monk_draw.specs.Seats.{AreAfter, moved, place_in, stay_in}
 use Rattle.monk_draw.specs.Stand.{place_after}
-use Rattle.monk_draw.specs.Stretches.{ended, ended_before, ended_below, entry_stretches, last_below, moved, place_at, start}
+use Rattle.monk_draw.specs.Stretches.{ended, ended_before, ended_below, entry_stretches, last_below, place_at, start}
 use Rattle.monk_draw.specs.Stretches.{same_place, stay_at, stretch_to, stretches}
 use Rattle.monk_draw.specs.declared.place.Place.{Place}
 use Rattle.monk_draw.specs.declared.seats.Seats.{Seats}

@@ -10,7 +10,7 @@ use Rattle.monk_history.specs.Meaning.Counts.{events_of}
 use Rattle.monk_history.specs.Meaning.Events.{seat_of}
 use Rattle.monk_history.specs.declared.event.Event.{Event}
 use Rattle.monk_history.proofs.PublicLaws.Meaning.{condition-push, events_of-push}
-use Rattle.monk_draw.specs.Seats.{AreAfter, IsWhole, left_in, place_in, queue_in}
+use Rattle.monk_draw.specs.Seats.{AreAfter, IsWhole, left_in, numbers, place_in, queue_in}
 use Rattle.monk_draw.specs.Stand.{has, if_served, left_at, left_by, place_after}
 use Rattle.monk_draw.specs.declared.place.Place.{Place}
 use Rattle.monk_draw.specs.declared.place.Place.TheVariants.{Outside}
@@ -60,12 +60,12 @@ outside_all (suc n) zero = refl
 outside_all (suc n) (suc s) = outside_all n s
 
 -- before any event
-pub after_none : (seats : Seats) → IsWhole seats → seats.left.items ≡ replicate 256 Outside
+pub after_none : (seats : Seats) → IsWhole seats → seats.left.items ≡ replicate numbers Outside
     → ((c : ℕ) → queue_in seats.queues c ≡ []) → AreAfter [] seats
 unfolding condition waits served_so_far events_of
 after_none seats whole outside empty = record {
   whole = whole;
-  lefts = λ s. ap (λ (ps : List Place). left_in ps s) outside ∙ outside_all 256 s;
+  lefts = λ s. ap (λ (ps : List Place). left_in ps s) outside ∙ outside_all numbers s;
   queues = empty;
 }
 

@@ -1,5 +1,5 @@
 -- What the code keeps of the seats, and what it shows of a history
-use Rattle.std.specs.Prelude.{◌≡◌, ℕ, None, List, length, slice_index_or}
+use Rattle.std.specs.Prelude.{◌≡◌, ℕ, None, List, length, slice_index_or, if◌then◌else◌}
 use Rattle.std.specs.List.{last_or}
 use Rattle.std.specs.declared.alloc.Global.{Global}
 use Rattle.std.specs.declared.vec.Vec.{Vec}
@@ -8,6 +8,7 @@ use Rattle.monk_history.specs.Meaning.Counts.{events_of}
 use Rattle.monk_history.specs.QueueAt.{seats_at}
 use Rattle.monk_history.specs.declared.event.Event.{Event}
 use Rattle.monk_draw.specs.Stand.{has, if_served, left_at}
+use Rattle.monk_draw.specs.Stretches.{same_place}
 use Rattle.monk_draw.specs.declared.place.Place.{Place}
 use Rattle.monk_draw.specs.declared.place.Place.TheVariants.{Outside}
 use Rattle.monk_draw.specs.declared.queues.Queues.{Queues}
@@ -29,10 +30,14 @@ left_in places s = slice_index_or places s Outside
 abbrev pub place_in : Seats → ℕ → Place
 place_in seats s = if_served (λ c. has s (queue_in seats.queues c)) (left_in seats.left.items s)
 
--- there is a place for each number of a seat, and a queue for each of a condition
+-- how many numbers there are: of seats, and of conditions
+abbrev pub numbers : ℕ
+numbers = 256
+
+-- there is a place for each seat, and a queue for each condition
 pub record IsWhole (seats : Seats) : Type 0 where
-  pub lefts : length seats.left.items ≡ 256
-  pub queues : length seats.queues.waiting.items ≡ 256
+  pub lefts : length seats.left.items ≡ numbers
+  pub queues : length seats.queues.waiting.items ≡ numbers
 
 -- they are those of that history
 pub record AreAfter (h : List Event) (seats : Seats) : Type 0 where
@@ -43,3 +48,7 @@ pub record AreAfter (h : List Event) (seats : Seats) : Type 0 where
 -- how a seat has stayed, as it is kept
 abbrev pub stay_in : List Stay → ℕ → Stay
 stay_in stays s = slice_index_or stays s (record { place = Outside; from = 0 })
+
+-- and how it stays where it comes to that place there, or stays at it
+abbrev pub moved : Stay → Place → ℕ → Stay
+moved stay place x = record { place = place; from = if same_place stay.place place then stay.from else x }

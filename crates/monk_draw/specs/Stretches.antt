@@ -38,11 +38,7 @@ stretch_to s stay to = record { lane = s; place = stay.place; from = stay.from; 
 abbrev pub ended : ℕ → Stay → Place → ℕ → List Stretch
 ended s stay place x = if same_place stay.place place then [] else stretch_to s stay x ∷ []
 
--- and the next begins there
-abbrev pub moved : Stay → Place → ℕ → Stay
-moved stay place x = record { place = place; from = if same_place stay.place place then stay.from else x }
-
--- those that end there, of the seats below that number
+-- those that end so, of the seats below that number
 unfoldable pub ended_below : (ℕ → Stay) → (ℕ → Place) → ℕ → ℕ → List Stretch
 ended_below stays places x zero = []
 ended_below stays places x (suc s) = ended_below stays places x s ++ ended s (stays s) (places s) x

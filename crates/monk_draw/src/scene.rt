@@ -4,8 +4,8 @@ ghost use Rattle.std.specs.Prelude.{◌≡◌, ℕ, ◌<◌, ◌≤◌, IfOk, On
 ghost use Rattle.monk_history.specs.Limits.{most_lines};
 ghost use Rattle.monk_draw.specs.Layout.{left_edge};
 ghost use Rattle.monk_draw.specs.Scene.{PutsStretches};
-ghost use Rattle.monk_draw.specs.Seats.{IsWhole, place_in, stay_in};
-ghost use Rattle.monk_draw.specs.Stretches.{ended, ended_below, entry_stretch, entry_stretches, last_below, moved, stretch_to, stretches};
+ghost use Rattle.monk_draw.specs.Seats.{IsWhole, moved, place_in, stay_in};
+ghost use Rattle.monk_draw.specs.Stretches.{ended, ended_below, entry_stretch, entry_stretches, last_below, stretch_to, stretches};
 
 use crate::hand::handed;
 use crate::layout::{COLUMN, LEFT, column_at, lane_of};

@@ -1,7 +1,7 @@
 use Rattle.std.proofs.Common.{◌≡◌, ◌<◌, ◌∙◌, length, refl, ap, arith}
 use Rattle.std.proofs.lemmas.List.{length-set}
-use Rattle.monk_draw.specs.Seats.{place_in, stay_in}
-use Rattle.monk_draw.specs.Stretches.{ended_below, moved}
+use Rattle.monk_draw.specs.Seats.{moved, place_in, stay_in}
+use Rattle.monk_draw.specs.Stretches.{ended_below}
 use Rattle.monk_draw.specs.declared.place.Place.{Place}
 use Rattle.monk_draw.specs.declared.stay.Stay.{Stay}
 use Rattle.monk_draw.proofs.CourseLaws.{done_more, ended_more, kept_at, rest_more}

@@ -1,8 +1,8 @@
 use Rattle.std.proofs.Common.{◌≡◌, ◌<◌, ◌≤◌, ℕ, length}
 use Rattle.std.specs.Prelude.{string_bytes}
 use Rattle.monk_draw.specs.Scene.{PutsStretches}
-use Rattle.monk_draw.specs.Seats.{place_in, stay_in}
-use Rattle.monk_draw.specs.Stretches.{ended_below, moved}
+use Rattle.monk_draw.specs.Seats.{moved, place_in, stay_in}
+use Rattle.monk_draw.specs.Stretches.{ended_below}
 use Rattle.monk_draw.proofs.scene.put_changes.Given as goal
 
 -- the stretches of the seats so far were put, and how these stay is noted
