@@ -4,6 +4,8 @@ use Rattle.std.specs.List.{list_any}
 use Rattle.monk_kinds.specs.declared.mode.Mode.{Mode}
 use Rattle.monk_kinds.specs.declared.mode.Mode.TheVariants.{Blocking, NonBlocking, QuasiBlocking, ImmediateReturn, Automatic}
 use Rattle.monk_kinds.specs.declared.mode.Rules.{Rules}
+use Rattle.monk_kinds.specs.declared.name.KindName.{KindName}
+use Rattle.monk_kinds.specs.declared.name.KindName.TheVariants.{Pb, Npb, Pnb, Npnb, Pqb, Npqb, Pir, Npir, Pis, Npis}
 use Rattle.monk_history.specs.Meaning.Events.{returns_at_once, via_of}
 use Rattle.monk_history.specs.Meaning.Monitor.{Monitor, data_of}
 use Rattle.monk_history.specs.Meaning.Conditions.{condition}
@@ -24,6 +26,32 @@ is_blocking Automatic = false
 -- return where waiters go before callers
 abbrev pub hands_over : Rules → Bool
 hands_over k = is_blocking k.mode || (returns_at_once k.mode && nat_lt k.entry k.waiter)
+
+-- which of the ten kinds these are
+abbrev pub has_hoares_rule : KindName → Bool
+has_hoares_rule Pb = true
+has_hoares_rule Npb = true
+has_hoares_rule Pnb = false
+has_hoares_rule Npnb = false
+has_hoares_rule Pqb = false
+has_hoares_rule Npqb = false
+has_hoares_rule Pir = true
+has_hoares_rule Npir = false
+has_hoares_rule Pis = false
+has_hoares_rule Npis = false
+
+-- the kinds that put waiters before callers
+abbrev pub puts_callers_last : KindName → Bool
+puts_callers_last Pb = true
+puts_callers_last Npb = true
+puts_callers_last Pnb = true
+puts_callers_last Npnb = false
+puts_callers_last Pqb = true
+puts_callers_last Npqb = false
+puts_callers_last Pir = true
+puts_callers_last Npir = false
+puts_callers_last Pis = true
+puts_callers_last Npis = false
 
 abbrev pub is_among : ℕ → List ℕ → Bool
 is_among w ss = list_any (λ s. s == w) ss
