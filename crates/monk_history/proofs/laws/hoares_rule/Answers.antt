@@ -1,4 +1,4 @@
-use Rattle.monk_history.proofs.MeaningLaws.PromiseLaws.{hoares_rule as hoares_rule_lemma, hands_over_kinds}
+use Rattle.monk_history.proofs.MeaningLaws.HandOverLaws.{hoares_rule as hoares_rule_lemma, hands_over_kinds}
 use Rattle.monk_history.proofs.laws.hoares_rule.Goals as goal
 
 pub returns-clause-rule : goal.returns-clause-rule

@@ -1,4 +1,4 @@
-use Rattle.monk_history.proofs.MeaningLaws.PromiseLaws.{nobody_comes_between as nobody_comes_between_lemma, callers_last_kinds}
+use Rattle.monk_history.proofs.MeaningLaws.BetweenLaws.{nobody_comes_between as nobody_comes_between_lemma, callers_last_kinds}
 use Rattle.monk_history.proofs.laws.nobody_comes_between.Goals as goal
 
 pub returns-clause-rule : goal.returns-clause-rule
