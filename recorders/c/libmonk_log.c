@@ -334,7 +334,7 @@ __attribute__((constructor)) static void start(void) {
     init();
     process = 1;
     this_process = getpid();
-    pthread_key_create(&end_of_thread, thread_ends);
+    make_key();
     pthread_atfork(0, 0, forked);
     at_quick_exit(finish);
     keep_errors();

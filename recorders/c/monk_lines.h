@@ -81,6 +81,7 @@ static struct {
 static atomic_int closed;
 static int process;
 static pthread_key_t end_of_thread;
+static int has_key;
 OF_THREAD struct thread *me;
 
 /* ---- threads */
@@ -102,14 +103,22 @@ static void thread_ends(void *it) {
     give(&threads, &thread->known);
 }
 
+/* Libraries that begin before this one lock mutexes, and the first key is theirs: so the key is made before it is used. */
+static void make_key(void) {
+    if (!has_key)
+        has_key = !pthread_key_create(&end_of_thread, thread_ends);
+}
+
 SELDOM static struct thread *meet_thread(void) {
     struct thread *thread = take(&threads, 0, 0);
     if (!thread)
         return 0;
+    make_key();
     thread->number = atomic_fetch_add(&seen.threads, 1);
     thread->id = gettid();
     me = thread;
-    pthread_setspecific(end_of_thread, thread);
+    if (has_key)
+        pthread_setspecific(end_of_thread, thread);
     return thread;
 }
 

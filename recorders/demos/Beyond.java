@@ -1,13 +1,15 @@
 import java.nio.file.Path;
+import java.util.concurrent.locks.Condition;
+import java.util.concurrent.locks.Lock;
 
-/** Forty threads, ten conditions and a signal without the lock; then a thread that waits for ever: Beyond FILE. */
+/** Forty threads, or the last of ten conditions, and a signal without the lock; then a wait for ever: Beyond FILE [conditions]. */
 public final class Beyond {
     private static final int THREADS = 40, CONDITIONS = 10, MOMENT = 300;
 
     public static void main(String[] words) throws Exception {
         MonkLog log = new MonkLog();
-        MonkLog.Lock lock = log.lock(false);
-        MonkLog.Waiters[] conditions = new MonkLog.Waiters[CONDITIONS];
+        Lock lock = log.lock(false);
+        Condition[] conditions = new Condition[CONDITIONS];
         for (int i = 0; i < CONDITIONS; i++) {
             conditions[i] = lock.newCondition();
         }
@@ -17,7 +19,8 @@ public final class Beyond {
             System.out.println("refused");
         }
         log.endAfter(MOMENT, Path.of(words[0]), "buffer 1");
-        for (int i = 0; i < THREADS; i++) {
+        boolean isOfConditions = words.length > 1;
+        for (int i = 0; i < (isOfConditions ? 1 : THREADS); i++) {
             Thread thread = new Thread(() -> {
                 lock.lock();
                 lock.unlock();
@@ -26,6 +29,6 @@ public final class Beyond {
             thread.join();
         }
         lock.lock();
-        conditions[0].await();
+        conditions[isOfConditions ? CONDITIONS - 1 : 0].await();
     }
 }

@@ -22,7 +22,7 @@ sys.path.insert(0, os.path.join(os.path.dirname(os.path.abspath(__file__)), "../
 import monk_log
 
 # As many putters as takers; a pair has less room, so that no later notify makes up for one that was lost.
-PUTTERS, SIZE, SIZE_OF_PAIR, ITEMS, ITEMS_OF_TWO = 3, 2, 1, 12, 40
+PUTTERS, SIZE, SIZE_OF_PAIR, ITEMS, ITEMS_OF_TWO = 3, 2, 1, 12, 20
 PUT, TAKE = 0, 1
 # How long a timed wait lasts, when threads take turns, and how long a run may last, in seconds; of those that may hang.
 SHORT, SWITCH, LONG, LONG_IF_HANGING, LONG_IF_SHAKEN = 0.0002, 0.00002, 20, 0.4, 2

@@ -9,6 +9,7 @@
      Exit       ends by _Exit
      hang       waits for ever
      forks      a child that waits too, and one that ends at once
+     early      a key of the program's, and a mutex, from before any library begins; ends with 3 if the key's value is another's
      c11        mtx_t and cnd_t
      acts       two mutexes held at once; the acts are of the first
      threads    40 threads of one mutex
@@ -26,7 +27,7 @@
 
 #include "../c/monk_log.h"
 
-enum { MANY = 100000, AGAIN = 10, THREADS = 40, CONDS = 10, STATUS = 7, PUT = 0, ITEM = 5 };
+enum { MANY = 100000, AGAIN = 10, THREADS = 40, CONDS = 10, STATUS = 7, WRONG = 3, PUT = 0, ITEM = 5 };
 
 struct monitor {
     pthread_mutex_t lock;
@@ -44,6 +45,19 @@ static void *set(void *it) {
     pthread_mutex_unlock(&m->lock);
     return 0;
 }
+
+static pthread_key_t early_key;
+
+/* Runs before the constructors of libraries, as those of the program's own libraries may. */
+static void begin_early(int words, char **word, char **setting) {
+    (void)setting;
+    if (words < 2 || strcmp(word[1], "early"))
+        return;
+    pthread_key_create(&early_key, 0);
+    pthread_mutex_lock(&fixed.lock);
+    pthread_mutex_unlock(&fixed.lock);
+}
+__attribute__((section(".preinit_array"), used)) static void (*const early)(int, char **, char **) = begin_early;
 
 static void await(struct monitor *m) {
     pthread_mutex_lock(&m->lock);
@@ -230,6 +244,12 @@ static void lost(void) {
     meet(&fixed);
 }
 
+static void is_its_own(void) {
+    if (pthread_getspecific(early_key))
+        _Exit(WRONG);
+    meet(&fixed);
+}
+
 static void none(void) {}
 
 static void unwaited(void) { set(&fixed); }
@@ -240,7 +260,7 @@ static const struct {
 } styles[] = {
     {"many", many}, {"living", living}, {"again", again}, {"renewed", renewed}, {"quick", quick}, {"at-once", at_once},
     {"Exit", Exit}, {"hang", hang}, {"forks", forks}, {"c11", c11}, {"acts", acts}, {"threads", threads}, {"conds", conds},
-    {"lost", lost}, {"none", none}, {"unwaited", unwaited},
+    {"lost", lost}, {"early", is_its_own}, {"none", none}, {"unwaited", unwaited},
 };
 
 int main(int words, char **word) {

@@ -3,6 +3,7 @@ import java.nio.file.Files;
 import java.nio.file.Path;
 import java.nio.file.StandardOpenOption;
 import java.util.ArrayList;
+import java.util.Date;
 import java.util.HashMap;
 import java.util.List;
 import java.util.Map;
@@ -151,14 +152,15 @@ public final class MonkLog {
         return new Lock(fair);
     }
 
-    /** Who has the lock already comes in but once. */
-    public final class Lock {
+    /** In place of a {@code ReentrantLock}. Who has the lock already comes in but once. */
+    public final class Lock implements java.util.concurrent.locks.Lock {
         private final ReentrantLock raw;
 
         private Lock(boolean fair) {
             raw = new ReentrantLock(fair);
         }
 
+        @Override
         public void lock() {
             raw.lock();
             if (raw.getHoldCount() == 1) {
@@ -167,6 +169,7 @@ public final class MonkLog {
         }
 
         /** Whether it was free. */
+        @Override
         public boolean tryLock() {
             boolean got = raw.tryLock();
             if (got && raw.getHoldCount() == 1) {
@@ -176,6 +179,7 @@ public final class MonkLog {
         }
 
         /** Whether it came free before the time was over. */
+        @Override
         public boolean tryLock(long time, TimeUnit unit) throws InterruptedException {
             boolean got = raw.tryLock(time, unit);
             if (got && raw.getHoldCount() == 1) {
@@ -184,6 +188,7 @@ public final class MonkLog {
             return got;
         }
 
+        @Override
         public void lockInterruptibly() throws InterruptedException {
             raw.lockInterruptibly();
             if (raw.getHoldCount() == 1) {
@@ -191,6 +196,7 @@ public final class MonkLog {
             }
         }
 
+        @Override
         public void unlock() {
             if (raw.getHoldCount() == 1) {
                 leave();
@@ -198,13 +204,14 @@ public final class MonkLog {
             raw.unlock();
         }
 
+        @Override
         public Waiters newCondition() {
             return new Waiters(raw, raw.newCondition(), conditions++);
         }
     }
 
     /** A condition of a lock. */
-    public final class Waiters {
+    public final class Waiters implements Condition {
         private final ReentrantLock lock;
         private final Condition raw;
         private final int number;
@@ -215,34 +222,73 @@ public final class MonkLog {
             this.number = number;
         }
 
-        public void await() throws InterruptedException {
-            put("wait", number);
-            String end = "lapse";
-            try {
-                raw.await();
-                end = "resume";
-            } finally {
-                put(end, "");
-            }
+        /** How a wait ended: whether before its time. */
+        private interface Waiting {
+            boolean endsEarly() throws InterruptedException;
         }
 
-        /** Whether the wait ended before its time. */
-        public boolean await(long time, TimeUnit unit) throws InterruptedException {
+        /** A wait with its two lines. Who doesn't hold the lock has none: the library refuses the wait. */
+        private boolean recorded(Waiting waiting) throws InterruptedException {
+            if (!lock.isHeldByCurrentThread()) {
+                return waiting.endsEarly();
+            }
             put("wait", number);
             boolean early = false;
             try {
-                early = raw.await(time, unit);
+                early = waiting.endsEarly();
             } finally {
                 put(early ? "resume" : "lapse", "");
             }
             return early;
         }
 
+        @Override
+        public void await() throws InterruptedException {
+            recorded(() -> {
+                raw.await();
+                return true;
+            });
+        }
+
+        @Override
+        public void awaitUninterruptibly() {
+            if (lock.isHeldByCurrentThread()) {
+                put("wait", number);
+            }
+            raw.awaitUninterruptibly();
+            put("resume", "");
+        }
+
+        /** Whether the wait ended before its time. */
+        @Override
+        public boolean await(long time, TimeUnit unit) throws InterruptedException {
+            return recorded(() -> raw.await(time, unit));
+        }
+
+        /** Whether the wait ended before that date. */
+        @Override
+        public boolean awaitUntil(Date deadline) throws InterruptedException {
+            return recorded(() -> raw.awaitUntil(deadline));
+        }
+
+        /** How many nanoseconds were left when it ended. */
+        @Override
+        public long awaitNanos(long nanoseconds) throws InterruptedException {
+            long[] left = {0};
+            recorded(() -> {
+                left[0] = raw.awaitNanos(nanoseconds);
+                return left[0] > 0;
+            });
+            return left[0];
+        }
+
+        @Override
         public void signal() {
             tell(lock.isHeldByCurrentThread(), "signal", number);
             raw.signal();
         }
 
+        @Override
         public void signalAll() {
             tell(lock.isHeldByCurrentThread(), "broadcast", number);
             raw.signalAll();

@@ -28,11 +28,12 @@ import time
 from typing import Any, Callable
 
 SEATS, CONDITIONS = 32, 8  # of a log
+STATUS_LATE = 124
 # A thread is slow for some calls and then fast for some: so many at most. How often it is slow, and sleeps so many seconds at
 # most; and how often it lets others go first while it is fast. One that was woken is slow more often, and so many times as long:
 # then others come in before it.
 CALLS, SLOW, NAP, YIELD = 8, 0.4, 0.001, 0.25
-SLOW_WOKEN, TIMES_WOKEN = 0.7, 4
+SLOW_WOKEN, TIMES_WOKEN = 0.9, 8
 
 
 class Shaker:
@@ -57,14 +58,22 @@ class Shaker:
 
 
 SEED = os.environ.get("MONK_SHAKE")
-shake: Callable[..., None] = Shaker(SEED) if SEED else lambda is_woken=False: None
+
+
+def _be_still(is_woken: bool = False) -> None:
+    """Without a seed nobody is shaken."""
+
+
+shake: Callable[..., None] = _be_still
+if SEED:
+    shake = Shaker(SEED)
 
 
 class Recorder:
     """The lines of one monitor."""
 
     def __init__(self) -> None:
-        self._lines: list[tuple] = []
+        self._lines: list[tuple[object, ...]] = []
         self._seats: dict[int, int] = {}
         self._conditions, self._is_used = 0, False
         self.waits, self.strays, self.stopped = 0, 0, ""
@@ -103,6 +112,21 @@ class Recorder:
         if SEED:
             parts.append(f"shaken by seed {SEED}")
         return "; ".join(parts)
+
+    def end_after(self, seconds: float, path: str, thing: str = "buffer 1") -> None:
+        """For a program that hangs: after so many seconds its log is written into a new file, and it ends with status 124."""
+        threading.Thread(target=self._end_late, args=(seconds, path, thing), daemon=True).start()
+
+    def _end_late(self, seconds: float, path: str, thing: str) -> None:
+        time.sleep(seconds)
+        try:
+            with open(path, "x") as file:
+                file.write(self.text(thing))
+            said = self.summary()
+        except OSError as fault:
+            said = f"no log, since {fault}"
+        print(f"monk: {path}: {said}", file=sys.stderr, flush=True)
+        os._exit(STATUS_LATE)
 
     def put(self, verb: str, *numbers: int) -> None:
         """A line. What stands before a line that isn't written is a log too."""
@@ -148,7 +172,7 @@ class Lock:
 
     def acquire(self, blocking: bool = True, timeout: float = -1) -> bool:
         shake()
-        got = self._raw.acquire(blocking, timeout)
+        got: bool = self._raw.acquire(blocking, timeout)
         if got:
             self._owner, self._times = threading.get_ident(), self._times + 1
             if self._times == 1:
@@ -196,6 +220,10 @@ class Lock:
 
 class Condition(threading.Condition):
     """A condition that tells who waits, goes on and signals; without a recorder one as any other."""
+
+    # what threading.Condition has behind its public names
+    _is_owned: Callable[[], bool]
+    _waiters: Any
 
     def __init__(self, recorder: Recorder | None, number: int, lock: Any):
         super().__init__(lock)

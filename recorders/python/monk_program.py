@@ -12,9 +12,8 @@ import types
 from typing import Any, Callable
 
 import monk_log
-from monk_log import SEED, Condition, Lock, Recorder, threading_lock, threading_rlock
+from monk_log import SEED, STATUS_LATE, Condition, Lock, Recorder, threading_lock, threading_rlock
 
-STATUS_LATE = 124
 exit_at_once = os._exit
 
 
