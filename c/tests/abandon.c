@@ -79,9 +79,12 @@ int main(int words, char **word) {
     monk_shape shape = {.kind = kind, .seats = SEATS, .conditions = is_automatic() ? 0 : QUEUES, .flags = QUEUES, .budget = BUDGET,
                         .seed = seed};
     pthread_t threads[THREADS];
+    monk_seat *spare;                   /* for the end: all others may have been given up in waits */
     MUST(monk_make(&monitor, &shape));
+    MUST(monk_take_seat(monitor, &spare));
     for (uintptr_t i = 0; i < THREADS; i++) HOLDS(!pthread_create(&threads[i], NULL, play, (void *)i));
     for (int i = 0; i < THREADS; i++) HOLDS(!pthread_join(threads[i], NULL));
+    MUST(monk_give_seat(spare));
     int answer;
     while ((answer = monk_close(monitor)) == MONK_BUSY) HOLDS(lets_all_go());
     MUST(answer);
