@@ -52,6 +52,11 @@ int32_t monk_k_place(monk_k_seat *seat);
 uint32_t monk_k_left(monk_k_seat *seat);
 size_t monk_k_word(monk_k_seat *seat);
 
+/* From inside: how many wait on a condition; and the text of the history up to now, of which the length is answered. It
+   stands in `out` where that has room for it. Below 0: why not. */
+int64_t monk_k_waiting(monk_k_seat *seat, uint8_t condition);
+int64_t monk_k_history(monk_k_seat *seat, uint8_t *out, size_t room);
+
 /* Gives the seat up; the handle has none then. One that is inside leaves, and nobody is told whom that let in; one that
    waits keeps its place, and the monitor once its turn comes. */
 void monk_k_drop(monk_k_seat *seat);
