@@ -1,6 +1,7 @@
 -- A new hall and its passes, by their seats
 use Rattle.std.specs.Prelude.{Option, None, is_some, ◌||◌}
-use Rattle.std.proofs.Common.{◌≡◌, ℕ, zero, suc, ◌+◌, ◌<◌, ◌≤◌, max, nat_lt, Bool, true, false, List, [], ◌∷◌, ◌++◌, length, slice_index_or, refl, ap, sym, subst, ◌∙◌, arith}
+use Rattle.std.proofs.Common.{◌≡◌, ℕ, zero, suc, ◌+◌, ◌<◌, ◌≤◌, max, nat_lt, Bool}
+use Rattle.std.proofs.Common.{true, false, List, length, slice_index_or, refl, ap, sym, subst, ◌∙◌, arith}
 use Rattle.std.proofs.Math.Nat.{not-suc-le-zero, le_of_suc-le-suc}
 use Rattle.atomic_table.specs.Seated.{TableId}
 use Rattle.monk_hall.specs.Records.{opening_record, opening_records, first_view}
@@ -10,7 +11,8 @@ use Rattle.monk_floor.specs.Making.{make_refusal}
 use Rattle.monk_floor.specs.declared.fault.MakeFault.{MakeFault}
 use Rattle.monk_hall.specs.Rule.{setting_of}
 use Rattle.monk_c.specs.Dealing.{ArePasses, IsMadeOf, fresh_pass}
-use Rattle.monk_c.specs.Flags.{opening_flags}
+use Rattle.monk_object.specs.Names.{opening_named}
+use Rattle.monk_object.specs.declared.name.ObjectName.TheVariants.{Flags as FlagsName}
 use Rattle.monk_c.specs.declared.numbers.Numbers.{Numbers}
 use Rattle.monk_c.specs.Stands.{RoomView}
 
@@ -47,13 +49,13 @@ not_above n low = grind (arith, low)
 
 -- a hall that was made is made of numbers in range, and has a pass for each seat
 module _ (n : Numbers) (h : House) (object : List ℕ) (size : ℕ) (e : size ≡ max n.flags 1) (low : size ≤ 32)
-    (opens : object ≡ opening_flags size) (none : make_refusal n.seats n.conds n.budget ≡ None)
+    (opens : object ≡ opening_named FlagsName size) (none : make_refusal n.seats n.conds n.budget ≡ None)
     (setting : h.setting ≡ setting_of object n.seats n.conds n.budget) where
   pub is_made : IsMadeOf n (record { house = h; flags = n.flags })
   is_made = record {
     in_range = neither (nat_lt 32 n.flags) (is_some (make_refusal n.seats n.conds n.budget))
         (not_above n.flags (subst (λ (k : ℕ). k ≤ 32) e low)) (ap (λ (x : Option MakeFault). is_some x) none);
-    setting = setting ∙ ap (λ (x : List ℕ). setting_of x n.seats n.conds n.budget) (opens ∙ ap (λ (k : ℕ). opening_flags k) e);
+    setting = setting ∙ ap (λ (x : List ℕ). setting_of x n.seats n.conds n.budget) (opens ∙ ap (λ (k : ℕ). opening_named FlagsName k) e);
     flags = refl;
   }
 

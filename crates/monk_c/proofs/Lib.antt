@@ -1,3 +1,3 @@
 pub mod Dealing
 pub mod Handling
-pub mod Ready
+pub mod Texts

@@ -1,5 +1,5 @@
 -- What an export answers
-use Rattle.std.specs.Prelude.{ℕ, ℤ, pos, negsuc}
+use Rattle.std.specs.Prelude.{ℤ, pos, negsuc}
 use Rattle.monk_c.specs.Stands.{At}
 use Rattle.monk_c.specs.Stands.At.{Outside, Waiting, Inside}
 use Rattle.monk_c.specs.declared.fault.Fault.{Fault}

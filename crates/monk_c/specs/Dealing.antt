@@ -1,10 +1,12 @@
 -- A new hall, and the passes of its seats
-use Rattle.std.specs.Prelude.{◌≡◌, ℕ, Bool, false, max, nat_lt, ◌<◌, ◌||◌, List, length, slice_index_or, is_some, if◌then◌else◌}
+use Rattle.std.specs.Prelude.{◌≡◌, ℕ, Bool, false, nat_lt, ◌<◌, ◌||◌, List, length, slice_index_or, is_some, if◌then◌else◌}
 use Rattle.monk_floor.specs.Making.{make_refusal}
 use Rattle.monk_hall.specs.Records.{opening_record}
 use Rattle.monk_hall.specs.Rule.{setting_of}
 use Rattle.monk_hall.specs.Tokens.{Token}
-use Rattle.monk_c.specs.Flags.{opening_flags}
+use Rattle.monk_object.specs.Names.{opening_named}
+use Rattle.monk_object.specs.declared.name.ObjectName.TheVariants.{Flags as FlagsName}
+use Rattle.monk_c.specs.Headings.{flags_made}
 use Rattle.monk_c.specs.Stands.{RoomView, SeatView}
 use Rattle.monk_c.specs.Stands.At.{Outside}
 use Rattle.monk_c.specs.declared.fault.Fault.{Fault}
@@ -28,9 +30,9 @@ ArePasses r ps = (i : ℕ) (d : Token) → i < length ps → slice_index_or ps i
 abbrev pub fresh_view : RoomView → ℕ → SeatView
 fresh_view r i = record { room = r; at = Outside (fresh_pass r i) }
 
--- there is no monitor without a flag
+-- no flag is set
 abbrev pub first_bits : ℕ → List ℕ
-first_bits flags = opening_flags (max flags 1)
+first_bits flags = opening_named FlagsName (flags_made flags)
 
 -- whether a number is out of its range
 abbrev pub is_out_of_range : Numbers → Bool

@@ -1,11 +1,13 @@
 pub mod Answers
 pub mod Dealing
 pub mod Deals
-pub mod Flags
 pub mod Handles
+pub mod Headings
+pub mod Looking
 pub mod Making
 pub mod Refusal
 pub mod Stands
 pub mod Taken
+pub mod Texts
 pub mod Tokens
 pub mod Told

@@ -7,7 +7,8 @@ use Rattle.monk_hall.specs.declared.record.SeatRecord.{SeatRecord}
 use Rattle.monk_c.specs.Stands.{At, SeatView, Booked, me_of}
 use Rattle.monk_c.specs.Stands.At.{Outside, Waiting, Inside}
 use Rattle.monk_c.specs.declared.call.Call.{Call}
-use Rattle.monk_c.specs.declared.call.Call.TheVariants.{Arrive, Poll, Leave, Wait, Signal, Broadcast, SignalLeave, SignalWait, SetFlags, WaitUntil}
+use Rattle.monk_c.specs.declared.call.Call.TheVariants.{Arrive, Poll, Leave, Wait, Signal, Broadcast}
+use Rattle.monk_c.specs.declared.call.Call.TheVariants.{SignalLeave, SignalWait, SetFlags, WaitUntil}
 use Rattle.monk_c.specs.declared.fault.Fault.{Fault}
 use Rattle.monk_c.specs.declared.fault.Fault.TheVariants.{NotNow, Spent, NotOfKind, Range, Closed}
 

@@ -3,7 +3,6 @@ use Rattle.std.specs.Prelude.{◌≡◌, ◌≢◌, ℕ, ℤ, ◌==◌, Option, 
 use Rattle.monk_kinds.specs.declared.mode.Pick.{Pick}
 use Rattle.monk_kinds.specs.declared.mode.Pick.TheVariants as pick
 use Rattle.monk_kinds.specs.declared.mode.Rules.{Rules}
-use Rattle.monk_object.specs.declared.op.Op.{Op}
 use Rattle.monk_history.specs.declared.event.Event.{Event}
 use Rattle.monk_history.specs.declared.event.Event.TheVariants as event
 use Rattle.monk_history.specs.declared.event.Next.TheVariants.{Stay}
@@ -13,7 +12,7 @@ use Rattle.monk_hall.specs.Calls.{HasArrived, HasEntered, StillWaits, HasStayed,
 use Rattle.monk_hall.specs.Granting.{Grant, HasGranted, GrantsOut, GrantsInside}
 use Rattle.monk_hall.specs.Tokens.{House, Token, Holder}
 use Rattle.monk_c.specs.Answers.{fault_number, place_number}
-use Rattle.monk_c.specs.Flags.{SET, flags_meaning}
+use Rattle.monk_object.specs.Flags.{SET, flags_meaning}
 use Rattle.monk_c.specs.Refusal.{refusal_of}
 use Rattle.monk_c.specs.Stands.{At, SeatView}
 use Rattle.monk_c.specs.Stands.At.{Outside, Waiting, Inside}

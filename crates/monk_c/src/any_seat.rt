@@ -1,8 +1,10 @@
 //! A seat of a monitor of any kind.
-ghost use Rattle.std.specs.Prelude.{◌≡◌, true};
+ghost use Rattle.std.specs.Prelude.{◌≡◌, true, IfOk, IfErr};
 ghost use Rattle.monk_kinds.specs.declared.mode.Pick.TheVariants as pick;
 ghost use Rattle.monk_c.specs.Handles.{IfRefusedAt, IfTakenAt, IfUntoldAt, booked};
+ghost use Rattle.monk_c.specs.Looking.{IsCountOf};
 ghost use Rattle.monk_c.specs.Refusal.{is_plain};
+ghost use Rattle.monk_c.specs.Texts.{HasTextBooked, IsTextFaultOf};
 ghost use Rattle.monk_c.specs.Told.{IsLeft, place_at, word_at};
 
 use crate::call::Call;
@@ -10,6 +12,7 @@ use crate::fault::Fault;
 use crate::reply::Reply;
 use crate::seat::Seat;
 use monk_kinds::{Npb, Npir, Npis, Npnb, Npqb, Pb, Pick, Pir, Pis, Pnb, Pqb};
+use std::alloc::Global;
 
 /// What a handle has: nothing, or a seat of a monitor of a kind.
 pub enum AnySeat {
@@ -164,6 +167,45 @@ impl AnySeat {
             AnySeat::Npir(seat) => seat.word(),
             AnySeat::Pis(seat) => seat.word(),
             AnySeat::Npis(seat) => seat.word(),
+        }
+    }
+
+    /// How many wait on a condition, or why that isn't told: its number is below 0.
+    pub fn waiting(&self, cond: u8) -> i64
+        ensures { IsCountOf (booked self.now) cond result }
+    {
+        match self {
+            AnySeat::Empty => i64::from(Fault::Closed.number()),
+            AnySeat::Pb(seat) => seat.waiting(cond),
+            AnySeat::Npb(seat) => seat.waiting(cond),
+            AnySeat::Pnb(seat) => seat.waiting(cond),
+            AnySeat::Npnb(seat) => seat.waiting(cond),
+            AnySeat::Pqb(seat) => seat.waiting(cond),
+            AnySeat::Npqb(seat) => seat.waiting(cond),
+            AnySeat::Pir(seat) => seat.waiting(cond),
+            AnySeat::Npir(seat) => seat.waiting(cond),
+            AnySeat::Pis(seat) => seat.waiting(cond),
+            AnySeat::Npis(seat) => seat.waiting(cond),
+        }
+    }
+
+    /// The text of the history up to now, or why there is none.
+    pub fn text(&self, alloc: Global) -> Result<Vec<u8>, Fault>
+        ensures text { IfOk result (λ v. HasTextBooked (booked self.now) v.items) }
+        ensures refused { IfErr result (λ f. IsTextFaultOf (booked self.now) f) }
+    {
+        match self {
+            AnySeat::Empty => Err(Fault::Closed),
+            AnySeat::Pb(seat) => seat.text(alloc),
+            AnySeat::Npb(seat) => seat.text(alloc),
+            AnySeat::Pnb(seat) => seat.text(alloc),
+            AnySeat::Npnb(seat) => seat.text(alloc),
+            AnySeat::Pqb(seat) => seat.text(alloc),
+            AnySeat::Npqb(seat) => seat.text(alloc),
+            AnySeat::Pir(seat) => seat.text(alloc),
+            AnySeat::Npir(seat) => seat.text(alloc),
+            AnySeat::Pis(seat) => seat.text(alloc),
+            AnySeat::Npis(seat) => seat.text(alloc),
         }
     }
 }

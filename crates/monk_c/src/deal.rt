@@ -1,17 +1,19 @@
 //! A new hall whose seats are yet to be given to handles.
-ghost use Rattle.std.specs.Prelude.{◌≡◌, ◌+◌, length, All, IfSome, IfOk, IfErr, MatchOption};
+ghost use Rattle.std.specs.Prelude.{◌≡◌, ◌≤◌, ◌+◌, length, All, IfSome, IfOk, IfErr, MatchOption};
 ghost use Rattle.std.specs.Arc.{arc_value};
-ghost use Rattle.monk_c.specs.Dealing.{ArePasses, IsMadeOf, IsMakeFault, fresh_view};
+ghost use Rattle.monk_hall.specs.Rule.{setting_of};
+ghost use Rattle.monk_c.specs.Dealing.{ArePasses, IsMadeOf, IsMakeFault, first_bits, fresh_view};
 
 use crate::fault::Fault;
-use crate::flags::Flags;
 use crate::numbers::Numbers;
 use crate::room::Room;
 use crate::seat::{Seat, Shared};
 use crate::token::SeatToken;
 use monk_floor::MakeFault;
 use monk_hall::{Hall, Pass};
+use monk_history::Header;
 use monk_kinds::Kind;
+use monk_object::{Flags, ObjectName};
 use std::alloc::Global;
 use std::marker::Model;
 use std::sync::Arc;
@@ -38,6 +40,26 @@ impl<K: Kind> Model for Deal<K> {
         × ArePasses (arc_value d.first) d.passes.items };
 }
 
+/// The hall with its header. A hall's numbers always have one.
+fn headed<K: Kind>(hall: Hall<K, Flags>, numbers: Numbers) -> Option<Room<K>>
+    requires setting { hall.setting ≡ setting_of (first_bits numbers.flags) numbers.seats numbers.conds numbers.budget }
+    requires few { numbers.flags ≤ 32 }
+    ensures { IfSome result (λ r. r ≡ record { house = hall; flags = numbers.flags }) }
+{
+    let Numbers {
+        seats,
+        conds,
+        flags,
+        budget: _,
+    } = numbers;
+    let header = Header::new(K::NAME, seats, conds, ObjectName::Flags, flags.max(1))?;
+    Some(Room {
+        hall,
+        header: header.upgraded(),
+        flags,
+    })
+}
+
 /// A hall and its passes.
 fn open<K: Kind>(alloc: Global, numbers: Numbers) -> Result<(Room<K>, Vec<Pass<K, Flags>>), Fault>
     ensures made { IfOk result (λ r. IsMadeOf numbers r.0) }
@@ -56,7 +78,9 @@ fn open<K: Kind>(alloc: Global, numbers: Numbers) -> Result<(Room<K>, Vec<Pass<K
     };
     match Hall::make(alloc, object, seats, conds, budget) {
         Ok((hall, passes)) => {
-            let room = Room { hall, conds, flags };
+            let Some(room) = headed(hall, numbers) else {
+                return Err(Fault::Memory);
+            };
             Ok((room, passes))
         }
         Err(MakeFault::Memory) => Err(Fault::Memory),

@@ -1,15 +1,19 @@
 //! What a C program has of a seat.
-ghost use Rattle.std.specs.Prelude.{◌≡◌, true};
+ghost use Rattle.std.specs.Prelude.{◌≡◌, true, IfOk, IfErr};
 ghost use Rattle.monk_kinds.specs.declared.mode.Pick.TheVariants as pick;
 ghost use Rattle.monk_c.specs.Handles.{IfRefusedAt, IfTakenAt, IfUntoldAt, booked};
+ghost use Rattle.monk_c.specs.Looking.{IsCountOf};
 ghost use Rattle.monk_c.specs.Refusal.{is_plain};
+ghost use Rattle.monk_c.specs.Texts.{HasTextBooked, IsTextFaultOf};
 ghost use Rattle.monk_c.specs.Told.{IsLeft, place_at, word_at};
 ghost use Rattle.monk_c.specs.declared.any_seat.AnySeat.{AnySeat as Any};
 
 use crate::any_seat::AnySeat;
 use crate::call::Call;
+use crate::fault::Fault;
 use crate::reply::Reply;
 use monk_kinds::Pick;
+use std::alloc::Global;
 use std::marker::Model;
 
 /// A handle of a C program: a pointer to memory of the program's, where an `AnySeat` stands.
@@ -118,5 +122,28 @@ impl MonkSeat {
         let word = seat.word();
         self.swap(seat);
         word
+    }
+
+    /// How many wait on a condition, or why that isn't told: its number is below 0.
+    pub fn waiting(&mut self, cond: u8) -> i64
+        ensures same { self.new ≡ self.old }
+        ensures count { IsCountOf (booked self.old.has) cond result }
+    {
+        let seat = self.swap(AnySeat::Empty);
+        let count = seat.waiting(cond);
+        self.swap(seat);
+        count
+    }
+
+    /// The text of the history up to now, or why there is none.
+    pub fn text(&mut self, alloc: Global) -> Result<Vec<u8>, Fault>
+        ensures same { self.new ≡ self.old }
+        ensures text { IfOk result (λ v. HasTextBooked (booked self.old.has) v.items) }
+        ensures refused { IfErr result (λ f. IsTextFaultOf (booked self.old.has) f) }
+    {
+        let seat = self.swap(AnySeat::Empty);
+        let text = seat.text(alloc);
+        self.swap(seat);
+        text
     }
 }

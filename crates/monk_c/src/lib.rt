@@ -1,10 +1,18 @@
 //! The monitor behind C exports: a handle of a C program stands for a seat of a hall of any of the ten kinds.
+//!
+//! A call answers where the seat stands then (1 outside, 2 waiting, 3 inside), or below 0 why it is refused. Then the
+//! handle is as it was, and no grant is told. The first reason that applies is answered: -10, the handle has no seat; -3,
+//! the kind has no such call; -4, a condition, a flag or bits are out of range; -1, the seat stands elsewhere; -2, the seat
+//! has too few events left of its budget (`Call::wants`). No call waits or wakes: a release tells the word that it granted,
+//! and C wakes the thread whose seat waits there (`monk_k_word`). A word is 1 or more.
 #![tactic(auto)]
 
 ghost use Rattle.std.specs.Prelude.{◌≡◌};
 ghost use Rattle.monk_c.specs.Handles.{IfRefusedAt, IfTakenAt, IfUntoldAt, booked};
+ghost use Rattle.monk_c.specs.Looking.{IsCountOf};
 ghost use Rattle.monk_c.specs.Making.{IsMade};
 ghost use Rattle.monk_c.specs.Taken.{wish_of};
+ghost use Rattle.monk_c.specs.Texts.{IsPut, IsTold};
 ghost use Rattle.monk_c.specs.Told.{IsLeft, place_at, word_at};
 ghost use Rattle.monk_c.specs.declared.any_seat.AnySeat.TheVariants as any;
 ghost use Rattle.monk_kinds.specs.declared.mode.Pick.TheVariants as pick;
@@ -14,8 +22,8 @@ mod any_seat;
 mod call;
 mod deal;
 mod fault;
-mod flags;
 mod handle;
+mod looking;
 mod making;
 mod modes;
 mod numbers;
@@ -27,6 +35,7 @@ mod token;
 
 use crate::any_seat::AnySeat;
 use crate::call::Call;
+use crate::fault::Fault;
 use crate::handle::MonkSeat;
 use crate::making::make;
 use monk_kinds::Pick;
@@ -50,7 +59,11 @@ pub extern "C" fn monk_k_seat_size() -> usize {
     size_of::<AnySeat>()
 }
 
-/// Makes a monitor of a kind, with a seat for each handle.
+/// Makes a monitor of a kind, with a seat for each handle, and gives up what the handles had. The kinds are numbered as in
+/// `KindName::ALL`; with no flags it has one that C can't set. 0; -4 where a number is out of its range (1 to 32 handles, at
+/// most 8 conditions and 32 flags, 2 to 2^20 events of each seat), or -5 where memory was refused: then nothing has changed.
+///
+/// It takes memory for all events of all seats at once, and no later call keeps any.
 #[unsafe(no_mangle)]
 pub extern "C" fn monk_k_make(
     alloc: Global,
@@ -239,7 +252,43 @@ pub extern "C" fn monk_k_word(seat: &mut MonkSeat) -> usize
     seat.word()
 }
 
-/// Gives a seat up, and the handle has none then.
+/// How many wait on a condition, as the seat sees it from inside; or -10, -3, -4 or -1, as of a wait there.
+#[unsafe(no_mangle)]
+pub extern "C" fn monk_k_waiting(seat: &mut MonkSeat, condition: u8) -> i64
+    ensures same { seat.new ≡ seat.old }
+    ensures count { IsCountOf (booked seat.old.has) condition result }
+{
+    seat.waiting(condition)
+}
+
+/// Puts the text of the history up to now into `out`, where there is room for it. Its length; or -10 where the handle has
+/// no seat, -1 where that isn't inside, -5 where memory for the text was refused. One pass over the history.
+#[unsafe(no_mangle)]
+pub extern "C" fn monk_k_history(alloc: Global, seat: &mut MonkSeat, out: &mut [u8]) -> i64
+    ensures same { seat.new ≡ seat.old }
+    ensures told { IsTold (booked seat.old.has) result out.old out.new }
+{
+    match seat.text(alloc) {
+        Ok(text) => tell(&text, out),
+        Err(fault) => i64::from(fault.number()),
+    }
+}
+
+/// Puts the text where there is room for it, and gives its length.
+fn tell(text: &[u8], out: &mut [u8]) -> i64
+    ensures { IsPut text.now result out.old out.new }
+{
+    let Ok(length) = i64::try_from(text.len()) else {
+        return i64::from(Fault::Memory.number());
+    };
+    if text.len() <= out.len() {
+        out[..text.len()].copy_from_slice(text);
+    }
+    length
+}
+
+/// Gives a seat up, and the handle has none then. One that is inside leaves, and nobody is told whom that let in; one that
+/// waits keeps its place, and the monitor for good once its turn comes.
 #[unsafe(no_mangle)]
 pub extern "C" fn monk_k_drop(seat: &mut MonkSeat)
     ensures { seat.new ≡ record seat.old { has = any.Empty } }

@@ -1,8 +1,13 @@
 //! A seat of a hall as one value: what a handle of a C program stands for.
-ghost use Rattle.std.specs.Prelude.{◌≡◌, ◌+◌, true, length};
+ghost use Rattle.std.specs.Prelude.{◌≡◌, ◌+◌, true, length, List, IsTrue};
 ghost use Rattle.std.specs.Arc.{arc_value};
 ghost use Rattle.monk_kinds.specs.declared.mode.Pick.TheVariants as pick;
+ghost use Rattle.monk_object.specs.Names.{opening_named};
+ghost use Rattle.monk_object.specs.declared.name.ObjectName.TheVariants as object;
+ghost use Rattle.monk_history.specs.Text.{is_writable};
+ghost use Rattle.monk_history.specs.declared.event.Event.{Event};
 ghost use Rattle.monk_c.specs.Answers.{place_number};
+ghost use Rattle.monk_c.specs.Headings.{flags_made, heading_for};
 ghost use Rattle.monk_c.specs.Refusal.{IsReady, is_plain, refusal_of};
 ghost use Rattle.monk_c.specs.Stands.{IsAtHome, me_of};
 ghost use Rattle.monk_c.specs.Tokens.{at_of};
@@ -16,6 +21,7 @@ use crate::room::Room;
 use crate::taking::told;
 use crate::token::SeatToken;
 use core::mem;
+use monk_history::Header;
 use monk_kinds::{ImmediateReturn, Kind, NonBlocking, Pick, rules_of};
 use std::alloc::Global;
 use std::marker::Model;
@@ -60,6 +66,30 @@ impl<K: Kind> Seat<K> {
         (room, token)
     }
 
+    /// Its hall.
+    pub fn room(&self) -> &Room<K>
+        ensures { result.now ≡ self.now.room }
+    {
+        &self.room
+    }
+
+    /// The header of its hall's history, in a version that has every event.
+    pub fn header(&self) -> Header
+        ensures header { result ≡ heading_for K.NAME self.now.room }
+        ensures writable { (events : List Event) → IsTrue (is_writable result events) }
+        ensures opening { self.now.room.house.setting.opening ≡ opening_named object.Flags (flags_made self.now.room.flags) }
+    {
+        self.room.header()
+    }
+
+    /// Its token.
+    pub fn token(&self) -> &SeatToken<K>
+        ensures token { at_of result.now ≡ self.now.at }
+        ensures home { IsAtHome self.now.room self.now.at }
+    {
+        &self.token
+    }
+
     /// Gives the seat up. One that is inside leaves, and nobody is told whom that let in; where one that waits is given
     /// up, its place stays, and the monitor with it once its turn comes.
     pub fn shut(self) {
@@ -81,7 +111,7 @@ impl<K: Kind> Seat<K> {
         if !call.is_of(rules_of::<K>().mode) {
             return Some(Fault::NotOfKind);
         }
-        if !call.is_within(self.room.conds, self.room.flags) {
+        if !call.is_within(self.room.conds(), self.room.flags) {
             return Some(Fault::Range);
         }
         if !self.token.is_from(call) {

@@ -9,13 +9,12 @@ ghost use Rattle.monk_c.specs.Tokens.{at_after, at_of};
 ghost use Rattle.monk_c.specs.Taken.{Answers, told_word};
 
 use crate::call::Call;
-use crate::flags::Flags;
 use crate::reply::Reply;
 use crate::seat::{Seat, Shared};
 use crate::token::SeatToken;
 use monk_hall::{After, Granted};
 use monk_kinds::{ImmediateReturn, Kind, NonBlocking, Pick};
-use monk_object::Op;
+use monk_object::{Flags, Op};
 
 /// The word that was granted, or 0.
 pub fn told<K: Kind>(granted: Option<Granted<K, Flags>>) -> usize

@@ -6,9 +6,9 @@ ghost use Rattle.monk_c.specs.Stands.{me_of};
 ghost use Rattle.monk_c.specs.Tokens.{at_of};
 
 use crate::call::Call;
-use crate::flags::Flags;
 use monk_hall::{Active, Parked, Pass};
 use monk_kinds::Kind;
+use monk_object::Flags;
 
 /// The token of a seat, by where the seat stands.
 pub enum SeatToken<K: Kind> {
