@@ -171,6 +171,9 @@ class Endings(unittest.TestCase):
         os.remove(str(told[0].message).split()[-1])
 
     def test_an_interrupt(self) -> None:
+        # a process in the background may have begun with this signal ignored
+        before = signal.signal(signal.SIGINT, signal.default_int_handler)
+        self.addCleanup(signal.signal, signal.SIGINT, before)
         monitor = made("PB")
         threading.Timer(0.2, signal.raise_signal, [signal.SIGINT]).start()
         with self.assertRaises(KeyboardInterrupt):
