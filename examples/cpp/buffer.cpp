@@ -1,71 +1,50 @@
-// A bounded buffer of one place by monk.hpp: two threads put and two take, under every kind that has a signal which goes on.
-#include "monk.hpp"
-#include <iostream>
-#include <thread>
-#include <vector>
+// A bounded buffer of one place, two threads that put and two that take, under each of the ten kinds.    buffer [KIND [WISH [ROUNDS [FILE]]]]
+#include "shared.hpp"
 
 namespace {
 
-constexpr int ITEMS = 500;
-constexpr monk::condition not_full(0), not_empty(1);
+enum { NOT_FULL, NOT_EMPTY, QUEUES, PUTTERS = 2, TAKERS = 2 };
 
 class buffer {
 public:
-    explicit buffer(int kind) : monitor_({kind, 4, 2, 0, 20000, 1}) {}
+    explicit buffer(const asked &by)
+        : rounds_(by.rounds), program_(by, QUEUES, PUTTERS + TAKERS, by.rounds, [this](unsigned queue) { return may(queue); }) {}
 
-    void put(monk::seat &by, int item) {
-        monk::visit in(by);
-        in.wait(not_full, [this] { return items_.empty(); });
-        items_.push_back(item);
-        in.notify_one(not_empty);
+    bool may(unsigned queue) const { return items_.empty() == (queue == NOT_FULL); }
+
+    void put(monk::seat &by) {
+        for (int item = 1; item <= rounds_; item++) {
+            monk::visit in(by);
+            program_.wait_until_may(in, NOT_FULL);
+            items_.push_back(item);
+            program_.let_go(in, NOT_EMPTY);
+        }
     }
 
-    int take(monk::seat &by) {
-        monk::visit in(by);
-        in.wait(not_empty, [this] { return !items_.empty(); });
-        int item = items_.back();
-        items_.pop_back();
-        in.notify_one(not_full);
-        return item;
+    void take(monk::seat &by) {
+        for (int i = 0; i < rounds_; i++) {
+            monk::visit in(by);
+            program_.wait_until_may(in, NOT_EMPTY);
+            sum_ += items_.back();
+            items_.pop_back();
+            program_.let_go(in, NOT_FULL);
+        }
     }
 
-    monk::monitor &monitor() { return monitor_; }
+    int run() {
+        std::vector<program::work> works(PUTTERS, [this](monk::seat &by) { put(by); });
+        works.insert(works.end(), TAKERS, [this](monk::seat &by) { take(by); });
+        int failed = program_.run(works, "buffer", [this] { return "sum " + std::to_string(sum_); });
+        return failed || sum_ != PUTTERS * rounds_ * (rounds_ + 1L) / 2;
+    }
 
 private:
-    monk::monitor monitor_;
+    int rounds_;
+    long sum_ = 0;
     std::vector<int> items_;
+    program program_;
 };
-
-long run(buffer &shared) {
-    long sums[2] = {0, 0};
-    std::vector<std::thread> crew;
-    for (long &sum : sums) {
-        crew.emplace_back([&shared] {
-            monk::seat seat(shared.monitor());
-            for (int item = 1; item <= ITEMS; item++) shared.put(seat, item);
-        });
-        crew.emplace_back([&shared, &sum] {
-            monk::seat seat(shared.monitor());
-            for (int i = 0; i < ITEMS; i++) sum += shared.take(seat);
-        });
-    }
-    for (auto &thread : crew) thread.join();
-    return sums[0] + sums[1];
-}
 
 }  // namespace
 
-// buffer [KIND]: prints what was taken under each kind, or under one its history.
-int main(int count, char **words) {
-    if (count > 1) {
-        buffer shared(monk_kind_named(words[1]));
-        run(shared);
-        shared.monitor().close();
-        std::cout << shared.monitor().history();
-        return 0;
-    }
-    for (int kind = MONK_PB; kind <= MONK_NPQB; kind++) {
-        buffer shared(kind);
-        std::cout << monk_kind_name(kind) << ": taken " << run(shared) << "\n";
-    }
-}
+int main(int count, char **words) { return buffer(asked(count, words)).run(); }
