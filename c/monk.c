@@ -127,17 +127,21 @@ static int begin(monk_seat *s) {
     return answer;
 }
 
-static void note(monk_seat *s) {
-    atomic_store_explicit(&s->place, monk_k_place(s->token), memory_order_relaxed);
-    atomic_store_explicit(&s->left, monk_k_left(s->token), memory_order_relaxed);
-}
-
 static int end(monk_seat *s, int answer) {
-    if (answer >= 0) note(s);
-    if (answer == MONK_INSIDE) __tsan_acquire(s->monitor);
-    atomic_store(&s->calling, 0);
+    atomic_store_explicit(&s->calling, 0, memory_order_release);
     return answer;
 }
+
+/* Notes where the seat stands after a call that the kernel took, and that so many events were recorded. */
+static int noted(monk_seat *s, int answer, uint32_t recorded) {
+    if (answer < 0) return answer;
+    uint32_t left = atomic_load_explicit(&s->left, memory_order_relaxed);
+    atomic_store_explicit(&s->place, answer, memory_order_relaxed);
+    atomic_store_explicit(&s->left, left - recorded, memory_order_relaxed);
+    return answer;
+}
+
+static int place_of(const monk_seat *s) { return atomic_load_explicit(&s->place, memory_order_relaxed); }
 
 /* Of a call that doesn't wait: its place becomes MONK_OK. */
 static int done(int answer) { return answer > 0 ? MONK_OK : answer; }
@@ -150,11 +154,6 @@ static uint8_t wish_of(monk_seat *s) {
     return (uint8_t)((s->dice >> 32) % MONK_ANY);
 }
 
-static void give_back(monk_seat *s) {
-    note(s);
-    atomic_store(&s->lent, FREE);
-}
-
 /* Lets seats that were abandoned come in where it is their turn, and leave. Under the lock. */
 static void settle(monk_monitor *m) {
     unsigned i = 0;
@@ -162,84 +161,130 @@ static void settle(monk_monitor *m) {
         monk_seat *s = &m->seats[i++];
         if (atomic_load(&s->lent) != ABANDONED || monk_k_poll(s->token) != MONK_INSIDE) continue;
         size_t word = NOBODY;
-        monk_k_leave(s->token, MONK_WAITER, &word);
+        noted(s, monk_k_leave(s->token, MONK_WAITER, &word), VISIT);
         ring(m, word);
-        give_back(s);
+        atomic_store(&s->lent, FREE);
         atomic_fetch_sub(&m->abandoned, 1);
         i = 0;                          /* this leave may have let in a seat that was looked at before */
     }
 }
 
-/* The end of a release that the kernel took: rings, and looks after abandoned seats. Who abandons a seat counts it first and
- * then polls; who releases grants first and then reads the count: so one of the two sees the grant. */
-static int released(monk_seat *s, int answer, size_t word) {
+/* What follows a release: it rings, and looks after abandoned seats. Who abandons a seat counts it first and then polls; who
+ * releases grants first and then reads the count: so one of the two sees the grant. */
+static int handed_on(monk_seat *s, int answer, size_t word) {
     monk_monitor *m = s->monitor;
-    if (answer >= 0) {
-        ring(m, word);
-        if (atomic_load(&m->abandoned) > 0) {
-            pthread_mutex_lock(&m->lock);
-            settle(m);
-            pthread_mutex_unlock(&m->lock);
-        }
+    if (answer < 0) return answer;
+    noted(s, answer, 1);
+    ring(m, word);
+    if (atomic_load(&m->abandoned) > 0) {
+        pthread_mutex_lock(&m->lock);
+        settle(m);
+        pthread_mutex_unlock(&m->lock);
     }
-    return end(s, answer);
+    return answer;
+}
+
+/* ---- Steps of a call that is under way */
+
+static int poll_once(monk_seat *s) {
+    int answer = monk_k_poll(s->token);
+    if (answer != MONK_INSIDE) return answer;
+    __tsan_acquire(s->monitor);
+    return noted(s, answer, 1);
+}
+
+static int go_out(monk_seat *s) {
+    size_t word = NOBODY;
+    __tsan_release(s->monitor);
+    int answer = monk_k_leave(s->token, wish_of(s), &word);
+    return handed_on(s, answer, word);
+}
+
+static int wait_on(monk_seat *s, unsigned condition) {
+    size_t word = NOBODY;
+    __tsan_release(s->monitor);
+    int answer = monk_k_start_wait(s->token, byte_of(condition), wish_of(s), &word);
+    return handed_on(s, answer, word);
+}
+
+static int signal_on(monk_seat *s, unsigned condition) {
+    size_t word = NOBODY;
+    __tsan_release(s->monitor);
+    int answer = monk_k_start_signal(s->token, byte_of(condition), wish_of(s), &word);
+    return handed_on(s, answer, word);
+}
+
+static int signal_and_wait(monk_seat *s, unsigned condition, unsigned wait_condition) {
+    size_t word = NOBODY;
+    __tsan_release(s->monitor);
+    int answer = monk_k_start_signal_wait(s->token, byte_of(condition), byte_of(wait_condition), wish_of(s), &word);
+    return handed_on(s, answer, word);
+}
+
+static int wait_for_flag(monk_seat *s, unsigned flag) {
+    size_t word = NOBODY;
+    __tsan_release(s->monitor);
+    int answer = monk_k_start_wait_until(s->token, byte_of(flag), wish_of(s), &word);
+    return handed_on(s, answer, word);
+}
+
+/* Waits until the seat is inside. The bell is read before the poll and the stop flag: a grant or a stop that the two missed rings
+ * later, and then the thread doesn't sleep, or is woken. */
+static int come_in(monk_seat *s, const struct timespec *limit) {
+    monk_monitor *m = s->monitor;
+    int answer = poll_once(s), in_time = 1;
+    if (answer != MONK_WAITING) return answer;
+    bell *b = bell_of(m, monk_k_word(s->token));
+    for (;;) {
+        uint32_t seen = atomic_load(&b->rings);
+        answer = poll_once(s);
+        if (answer != MONK_WAITING) return answer;
+        if (atomic_load(&m->stopped)) return MONK_STOPPED;
+        if (!in_time) return MONK_WAITING;
+        if (!rings_soon(b, seen, m->seat_count)) in_time = sleep_on(b, seen, limit);
+    }
+}
+
+/* The rest of a call that has started, and may have to wait. */
+static int finished(monk_seat *s, int started) {
+    return done(end(s, started == MONK_WAITING ? come_in(s, NULL) : started));
 }
 
 /* ---- Calls that don't wait */
 
 int monk_arrive(monk_seat *s) {
     int r = begin(s);
-    return r ? r : end(s, monk_k_arrive(s->token));
+    return r ? r : end(s, noted(s, monk_k_arrive(s->token), 0));
 }
 
 int monk_poll(monk_seat *s) {
     int r = begin(s);
-    return r ? r : end(s, monk_k_poll(s->token));
+    return r ? r : end(s, poll_once(s));
 }
 
 int monk_leave(monk_seat *s) {
-    size_t word = NOBODY;
     int r = begin(s);
-    if (r) return r;
-    __tsan_release(s->monitor);
-    r = monk_k_leave(s->token, wish_of(s), &word);
-    return done(released(s, r, word));
+    return r ? r : done(end(s, go_out(s)));
 }
 
 int monk_start_wait(monk_seat *s, unsigned condition) {
-    size_t word = NOBODY;
     int r = begin(s);
-    if (r) return r;
-    __tsan_release(s->monitor);
-    r = monk_k_start_wait(s->token, byte_of(condition), wish_of(s), &word);
-    return released(s, r, word);
+    return r ? r : end(s, wait_on(s, condition));
 }
 
 int monk_start_signal(monk_seat *s, unsigned condition) {
-    size_t word = NOBODY;
     int r = begin(s);
-    if (r) return r;
-    __tsan_release(s->monitor);
-    r = monk_k_start_signal(s->token, byte_of(condition), wish_of(s), &word);
-    return released(s, r, word);
+    return r ? r : end(s, signal_on(s, condition));
 }
 
 int monk_start_signal_wait(monk_seat *s, unsigned condition, unsigned wait_condition) {
-    size_t word = NOBODY;
     int r = begin(s);
-    if (r) return r;
-    __tsan_release(s->monitor);
-    r = monk_k_start_signal_wait(s->token, byte_of(condition), byte_of(wait_condition), wish_of(s), &word);
-    return released(s, r, word);
+    return r ? r : end(s, signal_and_wait(s, condition, wait_condition));
 }
 
 int monk_start_wait_until(monk_seat *s, unsigned flag) {
-    size_t word = NOBODY;
     int r = begin(s);
-    if (r) return r;
-    __tsan_release(s->monitor);
-    r = monk_k_start_wait_until(s->token, byte_of(flag), wish_of(s), &word);
-    return released(s, r, word);
+    return r ? r : end(s, wait_for_flag(s, flag));
 }
 
 int monk_signal_leave(monk_seat *s, unsigned condition) {
@@ -248,64 +293,42 @@ int monk_signal_leave(monk_seat *s, unsigned condition) {
     if (r) return r;
     __tsan_release(s->monitor);
     r = monk_k_signal_leave(s->token, byte_of(condition), wish_of(s), &word);
-    return done(released(s, r, word));
+    return done(end(s, handed_on(s, r, word)));
 }
 
 int monk_broadcast(monk_seat *s, unsigned condition) {
     int r = begin(s);
-    return r ? r : done(end(s, monk_k_broadcast(s->token, byte_of(condition))));
+    return r ? r : done(end(s, noted(s, monk_k_broadcast(s->token, byte_of(condition)), 1)));
 }
 
 int monk_set_flags(monk_seat *s, uint32_t bits) {
     int r = begin(s);
     if (r) return r;
-    r = monk_k_set_flags(s->token, bits);
+    r = noted(s, monk_k_set_flags(s->token, bits), 1);
     if (r == MONK_INSIDE) s->monitor->bits = bits;
     return done(end(s, r));
 }
 
 int monk_waiting(monk_seat *s, unsigned condition) {
     int r = begin(s);
-    if (r) return r;
-    r = (int)monk_k_waiting(s->token, byte_of(condition));
-    atomic_store(&s->calling, 0);
-    return r;
+    return r ? r : end(s, (int)monk_k_waiting(s->token, byte_of(condition)));
 }
 
 int monk_flags(monk_seat *s, uint32_t *bits) {
     if (!bits) return MONK_RANGE;
     int r = begin(s);
     if (r) return r;
-    r = monk_k_place(s->token) == MONK_INSIDE ? MONK_OK : MONK_NOT_NOW;
-    if (!r) *bits = s->monitor->bits;
-    atomic_store(&s->calling, 0);
-    return r;
+    if (place_of(s) != MONK_INSIDE) return end(s, MONK_NOT_NOW);
+    *bits = s->monitor->bits;
+    return end(s, MONK_OK);
 }
 
 /* ---- Calls that wait */
 
-/* Waits until the seat is inside, in a call that is under way. The bell is read before the poll and the stop flag: a grant or a
- * stop that the two missed rings later, and then the thread doesn't sleep, or is woken. */
-static int come_in(monk_seat *s, const struct timespec *limit) {
-    monk_monitor *m = s->monitor;
-    bell *b = bell_of(m, monk_k_word(s->token));        /* any bell where the seat waits for no word: then the poll ends it */
-    int in_time = 1;
-    for (;;) {
-        uint32_t seen = atomic_load(&b->rings);
-        int answer = monk_k_poll(s->token);
-        if (answer != MONK_WAITING) return answer;
-        if (atomic_load(&m->stopped)) return MONK_STOPPED;
-        if (!in_time) return MONK_WAITING;
-        if (!rings_soon(b, seen, m->seat_count)) in_time = sleep_on(b, seen, limit);
-    }
-}
-
 static int await(monk_seat *s, const struct timespec *limit) {
     int r = begin(s);
     if (r) return r;
-    if (atomic_load_explicit(&s->place, memory_order_relaxed) == MONK_INSIDE) return end(s, MONK_INSIDE);
-    r = come_in(s, limit);
-    return end(s, r);
+    return end(s, place_of(s) == MONK_INSIDE ? MONK_INSIDE : come_in(s, limit));
 }
 
 int monk_await(monk_seat *s, long milliseconds) {
@@ -319,16 +342,29 @@ int monk_await(monk_seat *s, long milliseconds) {
     return await(s, &limit);
 }
 
-/* The rest of a call that has started. */
-static int finished(monk_seat *s, int started) { return done(started == MONK_WAITING ? await(s, NULL) : started); }
+int monk_enter(monk_seat *s) {
+    int r = begin(s);
+    return r ? r : finished(s, noted(s, monk_k_arrive(s->token), 0));
+}
 
-int monk_enter(monk_seat *s) { return finished(s, monk_arrive(s)); }
-int monk_wait(monk_seat *s, unsigned condition) { return finished(s, monk_start_wait(s, condition)); }
-int monk_signal(monk_seat *s, unsigned condition) { return finished(s, monk_start_signal(s, condition)); }
-int monk_wait_until(monk_seat *s, unsigned flag) { return finished(s, monk_start_wait_until(s, flag)); }
+int monk_wait(monk_seat *s, unsigned condition) {
+    int r = begin(s);
+    return r ? r : finished(s, wait_on(s, condition));
+}
+
+int monk_signal(monk_seat *s, unsigned condition) {
+    int r = begin(s);
+    return r ? r : finished(s, signal_on(s, condition));
+}
 
 int monk_signal_wait(monk_seat *s, unsigned condition, unsigned wait_condition) {
-    return finished(s, monk_start_signal_wait(s, condition, wait_condition));
+    int r = begin(s);
+    return r ? r : finished(s, signal_and_wait(s, condition, wait_condition));
+}
+
+int monk_wait_until(monk_seat *s, unsigned flag) {
+    int r = begin(s);
+    return r ? r : finished(s, wait_for_flag(s, flag));
 }
 
 int monk_pause(monk_seat *s, unsigned n) {
@@ -379,7 +415,7 @@ int monk_give_seat(monk_seat *s) {
     int r = begin(s);
     if (r) return r;
     monk_monitor *m = s->monitor;
-    if (monk_k_place(s->token) != MONK_OUTSIDE) return end(s, MONK_NOT_NOW);
+    if (place_of(s) != MONK_OUTSIDE) return end(s, MONK_NOT_NOW);
     pthread_mutex_lock(&m->lock);
     atomic_store(&s->calling, 0);
     atomic_store(&s->lent, FREE);
@@ -393,18 +429,18 @@ int monk_abandon(monk_seat *s) {
     if (r) return r;
     monk_monitor *m = s->monitor;
     pthread_mutex_lock(&m->lock);
-    if (monk_k_place(s->token) == MONK_WAITING) {
+    if (place_of(s) == MONK_WAITING) {
         atomic_store(&s->lent, ABANDONED);
         atomic_fetch_add(&m->abandoned, 1);
     } else {
         __tsan_release(m);
-        monk_k_leave(s->token, wish_of(s), &word);      /* refused where the seat is outside */
+        noted(s, monk_k_leave(s->token, wish_of(s), &word), 1);     /* refused if the seat is outside */
         ring(m, word);
-        give_back(s);
+        atomic_store(&s->lent, FREE);
     }
     settle(m);
-    atomic_store(&s->calling, 0);
-    pthread_mutex_unlock(&m->lock);
+    end(s, MONK_OK);
+    pthread_mutex_unlock(&m->lock);         /* behind this the monitor may be freed */
     return MONK_OK;
 }
 
@@ -415,10 +451,9 @@ uint32_t monk_left(const monk_seat *s) { return s ? atomic_load(&s->left) : 0; }
 int monk_set_wish(monk_seat *s, int wish) {
     int r = begin(s);
     if (r) return r;
-    if (wish < MONK_ENTRY || wish > MONK_ANY) r = MONK_RANGE;
-    else s->wish = wish;
-    atomic_store(&s->calling, 0);
-    return r;
+    if (wish < MONK_ENTRY || wish > MONK_ANY) return end(s, MONK_RANGE);
+    s->wish = wish;
+    return end(s, MONK_OK);
 }
 
 /* ---- Making and ending */
@@ -435,11 +470,12 @@ static uint64_t dice_of(uint64_t seed, unsigned number) {
     return dice ? dice : 1;
 }
 
-static void set_up(monk_monitor *m, const monk_shape *shape, uint64_t seed) {
+static void set_up(monk_monitor *m, const monk_shape *shape, uint32_t budget) {
     for (unsigned i = 0; i < shape->seats; i++) {
         monk_seat *s = &m->seats[i];
-        s->monitor = m, s->token = &m->tokens[i], s->number = i, s->wish = MONK_WAITER, s->dice = dice_of(seed, i);
-        note(s);
+        s->monitor = m, s->token = &m->tokens[i], s->number = i, s->wish = MONK_WAITER, s->dice = dice_of(shape->seed, i);
+        s->place = MONK_OUTSIDE;
+        s->left = budget;
     }
 }
 
@@ -452,11 +488,11 @@ int monk_make(monk_monitor **out, const monk_shape *shape) {
     *m = (monk_monitor){.kind = shape->kind, .seat_count = shape->seats, .room = room};
     for (size_t at = 0; at < each * shape->seats; at++) ((char *)room)[at] = 0;
     for (unsigned i = 0; i < shape->seats; i++) m->tokens[i].at = (char *)room + each * i;
-    int answer = monk_k_make((uint8_t)shape->kind, (uint8_t)shape->conditions, (uint8_t)shape->flags,
-                             shape->budget ? shape->budget : USUAL_BUDGET, m->tokens, shape->seats);
+    uint32_t budget = shape->budget ? shape->budget : USUAL_BUDGET;
+    int answer = monk_k_make((uint8_t)shape->kind, (uint8_t)shape->conditions, (uint8_t)shape->flags, budget, m->tokens, shape->seats);
     if (answer) return free(m), free(room), answer;
     pthread_mutex_init(&m->lock, NULL);
-    set_up(m, shape, shape->seed);
+    set_up(m, shape, budget);
     *out = m;
     return MONK_OK;
 }
@@ -509,9 +545,7 @@ static int text_of_closed(monk_monitor *m, char **text, size_t *length) {
 static int history_by(monk_seat *s, char **text, size_t *length) {
     int r = begin(s);
     if (r) return r;
-    r = text_of(s, text, length);
-    atomic_store(&s->calling, 0);
-    return r;
+    return end(s, text_of(s, text, length));
 }
 
 int monk_history(monk_monitor *m, monk_seat *by, char **text, size_t *length) {
