@@ -325,21 +325,38 @@ int monk_flags(monk_seat *s, uint32_t *bits) {
 
 /* ---- Calls that wait */
 
-static int await(monk_seat *s, const struct timespec *limit) {
-    int r = begin(s);
-    if (r) return r;
-    return end(s, place_of(s) == MONK_INSIDE ? MONK_INSIDE : come_in(s, limit));
-}
-
-int monk_await(monk_seat *s, long milliseconds) {
+/* So many milliseconds from now. */
+static struct timespec limit_in(long milliseconds) {
     enum { MS_A_SECOND = 1000, NS_A_MS = 1000000, NS_A_SECOND = 1000000000 };
     struct timespec limit;
-    if (milliseconds < 0) return await(s, NULL);
     clock_gettime(CLOCK_MONOTONIC, &limit);
     limit.tv_sec += milliseconds / MS_A_SECOND;
     limit.tv_nsec += milliseconds % MS_A_SECOND * NS_A_MS;
     if (limit.tv_nsec >= NS_A_SECOND) limit.tv_sec++, limit.tv_nsec -= NS_A_SECOND;
-    return await(s, &limit);
+    return limit;
+}
+
+/* As come_in. The clock isn't asked if the seat comes in at once, or if there is no time to wait. */
+static int come_in_within(monk_seat *s, long milliseconds) {
+    if (milliseconds < 0) return come_in(s, NULL);
+    int answer = poll_once(s);
+    if (answer != MONK_WAITING) return answer;
+    if (milliseconds == 0) return atomic_load(&s->monitor->stopped) ? MONK_STOPPED : MONK_WAITING;
+    struct timespec limit = limit_in(milliseconds);
+    return come_in(s, &limit);
+}
+
+int monk_await(monk_seat *s, long milliseconds) {
+    int r = begin(s);
+    if (r) return r;
+    return end(s, place_of(s) == MONK_INSIDE ? MONK_INSIDE : come_in_within(s, milliseconds));
+}
+
+int monk_enter_within(monk_seat *s, long milliseconds) {
+    int r = begin(s);
+    if (r) return r;
+    r = noted(s, monk_k_arrive(s->token), 0);
+    return end(s, r == MONK_WAITING ? come_in_within(s, milliseconds) : r);
 }
 
 int monk_enter(monk_seat *s) {

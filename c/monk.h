@@ -205,6 +205,9 @@ int monk_start_wait_until(monk_seat *s, unsigned flag);           /* inside    i
  * where the time is over, and the seat waits on, at its place in its queue; MONK_STOPPED. */
 int monk_await(monk_seat *s, long milliseconds);
 
+/* monk_arrive and monk_await as one call.                                             outside   inside, or waiting */
+int monk_enter_within(monk_seat *s, long milliseconds);
+
 /* ---- The history ------------------------------------------------------------------------------------------------- */
 /* The text of all events up to now, in version 3 of monk's format: header `monk 3 KIND SEATS CONDITIONS flags FLAGS`
  * (without flags: `flags 1`, none of which is ever set). It is legal at every moment, however the run ends.

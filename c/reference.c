@@ -358,6 +358,11 @@ int monk_await(monk_seat *s, long milliseconds) {
     return await(s, &limit);
 }
 
+int monk_enter_within(monk_seat *s, long milliseconds) {
+    int started = monk_arrive(s);
+    return started == MONK_WAITING ? monk_await(s, milliseconds) : started;
+}
+
 /* The rest of a call that has started. */
 static int finished(monk_seat *s, int started) {
     if (started == MONK_WAITING) started = await(s, NULL);

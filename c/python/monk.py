@@ -41,11 +41,12 @@ KINDS = ("PB", "NPB", "PNB", "NPNB", "PQB", "NPQB", "PIR", "NPIR", "PIS", "NPIS"
 MODES = ("blocking", "non-blocking", "quasi-blocking", "immediate return", "automatic")
 KINDS_OF_A_MODE = 2
 WISHES = ("entry", "waiter", "signaller", "any")
-OUTSIDE, WAITING, INSIDE, NOT_NOW = 1, 2, 3, -1
+OUTSIDE, WAITING, INSIDE, NOT_NOW, STOPPED = 1, 2, 3, -1, -9
 PLACES = {OUTSIDE: "outside", WAITING: "waiting", INSIDE: "inside"}
 FOREVER = -1
 # The main thread waits in slices, so that it sees an interrupt.
 SLICE_MS = 100
+AT_ONCE = 0
 MS_A_SECOND = 1000
 
 T = TypeVar("T")
@@ -104,25 +105,25 @@ class _Shape(ctypes.Structure):
                 ("budget", ctypes.c_uint32), ("seed", ctypes.c_uint64)]
 
 
-def _opened() -> ctypes.CDLL:
+def _opened(way: Type[ctypes.CDLL]) -> ctypes.CDLL:
     named = os.environ.get("MONK_LIBRARY")
     beside = os.path.join(os.path.dirname(os.path.abspath(__file__)), "libmonk.so")
     path = named or (beside if os.path.exists(beside) else "libmonk.so.0")
     try:
-        return ctypes.CDLL(path)
+        return way(path)
     except OSError as fault:
         looked = [f"MONK_LIBRARY ({named or 'not set'})", beside, "libmonk.so.0 where the system's loader looks"]
         raise ImportError(f"libmonk can't be loaded: {fault}. Looked for: {'; '.join(looked)}. docs/C.md says how it is built.") from fault
 
 
-def _load() -> ctypes.CDLL:
+def _load(way: Type[ctypes.CDLL]) -> ctypes.CDLL:
     """The library, with the types of each of its calls."""
-    library = _opened()
+    library = _opened(way)
     pointer, number, unsigned, text = ctypes.c_void_p, ctypes.c_int, ctypes.c_uint, ctypes.c_char_p
     out = ctypes.POINTER(pointer)
     answers: dict[str, List[Any]] = {
         "make": [out, ctypes.POINTER(_Shape)], "take_seat": [pointer, out], "set_wish": [pointer, number],
-        "await": [pointer, ctypes.c_long], "start_signal_wait": [pointer, unsigned, unsigned],
+        "await": [pointer, ctypes.c_long], "enter_within": [pointer, ctypes.c_long], "start_signal_wait": [pointer, unsigned, unsigned],
         "set_flags": [pointer, ctypes.c_uint32], "flags": [pointer, ctypes.POINTER(ctypes.c_uint32)],
         "history": [pointer, pointer, out, ctypes.POINTER(ctypes.c_size_t)],
     }
@@ -137,13 +138,16 @@ def _load() -> ctypes.CDLL:
     return library
 
 
-_library = _load()
+_library = _load(ctypes.CDLL)
+# The same for the calls of each visit that never wait: they keep Python's own lock, which is faster.
+_library_now = _load(ctypes.PyDLL)
 _free = ctypes.CDLL(None).free
 _free.argtypes, _free.restype = [ctypes.c_void_p], None
 
 
 # Those of each visit, looked up once.
-_arrive, _poll, _leave = _library.monk_arrive, _library.monk_poll, _library.monk_leave
+_enter_within, _leave = _library_now.monk_enter_within, _library_now.monk_leave
+_start_signal = _library_now.monk_start_signal
 
 
 def _checked(answer: int) -> int:
@@ -244,11 +248,13 @@ class Seat:
 
     def enter(self) -> None:
         """Comes in. If an interrupt ends the wait, the seat is given up."""
-        answer = _arrive(self._at)
-        if answer < 0:
+        answer = _enter_within(self._at, AT_ONCE)
+        if answer != INSIDE:
+            self._go_on_entering(answer)
+
+    def _go_on_entering(self, answer: int) -> None:
+        if answer < 0 and answer != STOPPED:
             _checked(answer if self._at is not None else NOT_NOW)
-        if _poll(self._at) == INSIDE:
-            return
         try:
             self.await_()
         except BaseException:
@@ -264,7 +270,10 @@ class Seat:
 
     def signal(self, condition: int) -> None:
         """Serves the first who waits there. Under a blocking kind that one goes on first."""
-        self._finished(_checked(_library.monk_start_signal(self._pointer(), condition)))
+        place = _start_signal(self._at, condition)
+        if place != INSIDE:
+            self._pointer()
+            self._finished(_checked(place))
 
     def broadcast(self, condition: int) -> None:
         """Serves all who wait there; non-blocking kinds."""
@@ -322,7 +331,7 @@ class Seat:
 
     def go_out(self) -> None:
         """Leaves if it is inside. If it waits still, since its wait was stopped or interrupted, it is given up."""
-        if _leave(self._at) < 0 and _library.monk_place(self._at) == WAITING:
+        if self._at is not None and _leave(self._at) < 0 and _library.monk_place(self._at) == WAITING:
             self.give()
 
     def __enter__(self) -> Seat:
@@ -413,13 +422,17 @@ class Monitor:
         self.here.go_out()
 
     def __enter__(self) -> Monitor:
-        seat = self._here.seat
-        (self.here if seat is None or seat._at is None else seat).enter()
+        seat = self._here.seat or self.here
+        if seat._at is None:
+            seat = self.here
+        answer = _enter_within(seat._at, AT_ONCE)
+        if answer != INSIDE:
+            seat._go_on_entering(answer)
         return self
 
     def __exit__(self, *_: object) -> None:
         seat = self._here.seat
-        if seat is not None and seat._at is not None:
+        if seat is not None and _leave(seat._at) < 0:
             seat.go_out()
 
     def set_flags(self, *flags: Union[int, Flag, Tuple[Union[int, Flag], bool]]) -> None:
@@ -509,8 +522,9 @@ class Condition:
     def notify(self, n: int = 1) -> None:
         """Signals n times. Under a blocking kind whoever is served goes on first. Under immediate return the caller is outside then."""
         if self.monitor.mode != "immediate return":
+            seat = self.monitor.here
             for _ in range(n):
-                self.monitor.here.signal(self.number)
+                seat.signal(self.number)
         elif n == 1:
             self.monitor.here.signal_leave(self.number)
         else:

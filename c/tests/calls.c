@@ -103,10 +103,13 @@ static void hoare(void) {
     IS(monk_enter(a), MONK_OK); IS(monk_start_wait(a, 1), MONK_WAITING);
     IS(monk_enter(b), MONK_OK); IS(monk_waiting(b, 1), 1); IS(monk_start_signal(b, 1), MONK_WAITING); IS(monk_poll(b), MONK_WAITING);
     IS(monk_poll(a), MONK_INSIDE); IS(monk_signal(a, 0), MONK_OK); IS(monk_leave(a), MONK_OK);
-    IS(monk_await(b, 0), MONK_INSIDE); IS(monk_leave(b), MONK_OK);
+    IS(monk_enter_within(a, 10), MONK_WAITING); IS(monk_enter_within(a, 10), MONK_NOT_NOW);
+    IS(monk_await(b, 0), MONK_INSIDE); IS(monk_leave(b), MONK_OK); IS(monk_poll(a), MONK_INSIDE); IS(monk_leave(a), MONK_OK);
+    IS(monk_enter_within(b, 0), MONK_INSIDE); IS(monk_leave(b), MONK_OK); IS(monk_enter_within(NULL, 0), MONK_RANGE);
     IS(monk_enter(a), MONK_OK);
     ENDS(a, "monk 3 PB 2 2 flags 1\nenter 0 free\nwait 0 1 entry\nenter 1 free\nsignal 1 1 waiter 0\nresume 0 waiter\n"
-            "signal 0 0 stay\nleave 0 signaller 1\nresume 1 signaller\nleave 1 entry\nenter 0 free\n");
+            "signal 0 0 stay\nleave 0 signaller 1\nresume 1 signaller\nleave 1 entry\nenter 0 handed\nleave 0 entry\n"
+            "enter 1 free\nleave 1 entry\nenter 0 free\n");
     end();
 }
 
