@@ -1,7 +1,8 @@
 /* The proved part of the library: seats of monitors of any of the ten kinds. See crates/monk_c/src/lib.rt for what each
    function ensures. No function waits or wakes, and none but monk_k_make takes memory that it keeps.
 
-   A handle is used by one call at a time, and by no other code. What it points to is the kernel's alone. */
+   A handle is used by one call at a time, and by no other code. What it points to is the kernel's alone. A handle may go from
+   thread to thread: the program orders that by a lock, a thread's start or join, or a sequentially consistent atomic. */
 #ifndef MONK_KERNEL_H
 #define MONK_KERNEL_H
 

@@ -1,3 +1,5 @@
 pub mod Dealing
 pub mod Handling
+mod HallSendable
+mod Sendable
 pub mod Texts

@@ -31,6 +31,9 @@ impl Model for MonkSeat {
     ghost also_owns = { λ s. lies_at seat_row full_share s.at s.has };
 }
 
+// C passes handles from thread to thread (`crossing`).
+unsafe impl Send for MonkSeat {}
+
 impl MonkSeat {
     /// Puts another in its place, and gives what was there.
     fn swap(&mut self, next: AnySeat) -> AnySeat

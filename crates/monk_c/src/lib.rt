@@ -20,6 +20,7 @@ ghost use Rattle.monk_kinds.specs.declared.mode.Pick.TheVariants as pick;
 mod any_deal;
 mod any_seat;
 mod call;
+mod crossing;
 mod deal;
 mod fault;
 mod handle;
