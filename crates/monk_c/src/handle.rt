@@ -6,7 +6,7 @@ ghost use Rattle.monk_c.specs.Looking.{IsCountOf};
 ghost use Rattle.monk_c.specs.Refusal.{is_plain};
 ghost use Rattle.monk_c.specs.Texts.{HasTextBooked, IsTextFaultOf};
 ghost use Rattle.monk_c.specs.Told.{IsLeft, place_at, word_at};
-ghost use Rattle.monk_c.specs.declared.any_seat.AnySeat.{AnySeat as Any};
+ghost use Rattle.monk_c.specs.declared.any_seat.AnySeat.{AnySeat as Held};
 
 use crate::any_seat::AnySeat;
 use crate::call::Call;
@@ -20,7 +20,7 @@ use std::marker::Model;
 #[repr(C)]
 pub struct MonkSeat {
     pub at: *mut u8,
-    pub ghost has: { Any },
+    pub ghost has: { Held },
 }
 
 impl Model for MonkSeat {
