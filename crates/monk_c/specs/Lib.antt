@@ -1,4 +1,6 @@
 pub mod Answers
+pub mod Closing
+pub mod Coming
 pub mod Dealing
 pub mod Deals
 pub mod Handles

@@ -1,9 +1,10 @@
 //! What a C program has of a seat.
-ghost use Rattle.std.specs.Prelude.{◌≡◌, true, IfOk, IfErr};
+ghost use Rattle.std.specs.Prelude.{◌≡◌, true, None, IfOk, IfErr};
 ghost use Rattle.monk_kinds.specs.declared.mode.Pick.TheVariants as pick;
+ghost use Rattle.monk_c.specs.Coming.{HasCome};
 ghost use Rattle.monk_c.specs.Handles.{IfRefusedAt, IfTakenAt, IfUntoldAt, booked};
 ghost use Rattle.monk_c.specs.Looking.{IsCountOf};
-ghost use Rattle.monk_c.specs.Refusal.{is_plain};
+ghost use Rattle.monk_c.specs.Refusal.{is_plain, refusal_at};
 ghost use Rattle.monk_c.specs.Texts.{HasTextBooked, IsTextFaultOf};
 ghost use Rattle.monk_c.specs.Told.{IsLeft, place_at, word_at};
 ghost use Rattle.monk_c.specs.declared.any_seat.AnySeat.{AnySeat as Held};
@@ -66,6 +67,19 @@ impl MonkSeat {
         let reply = seat.ask(call, wish);
         self.swap(seat);
         reply
+    }
+
+    /// Comes to the monitor and looks whether it may come in. The place where it stands then, or why it can't come.
+    pub fn come(&mut self) -> i32
+        ensures same { self.new ≡ record self.old { has = self.new.has } }
+        ensures refused { IfRefusedAt Call.Arrive self.old.has result self.new.has }
+        ensures come { refusal_at (booked self.old.has) Call.Arrive ≡ None → HasCome self.old.has result self.new.has }
+    {
+        let arrived = self.ask(Call::Arrive, Pick::Waiter).code;
+        if arrived < 0 {
+            return arrived;
+        }
+        self.ask(Call::Poll, Pick::Waiter).code
     }
 
     /// Signals a condition to all who wait there, or refuses it.

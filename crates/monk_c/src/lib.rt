@@ -8,6 +8,7 @@
 #![tactic(auto)]
 
 ghost use Rattle.std.specs.Prelude.{◌≡◌};
+ghost use Rattle.monk_c.specs.Closing.{IfCloseRefused, IfClosed};
 ghost use Rattle.monk_c.specs.Handles.{IfRefusedAt, IfTakenAt, IfUntoldAt, booked};
 ghost use Rattle.monk_c.specs.Looking.{IsCountOf};
 ghost use Rattle.monk_c.specs.Making.{IsMade};
@@ -20,6 +21,7 @@ ghost use Rattle.monk_kinds.specs.declared.mode.Pick.TheVariants as pick;
 mod any_deal;
 mod any_seat;
 mod call;
+mod closing;
 mod crossing;
 mod deal;
 mod fault;
@@ -36,6 +38,7 @@ mod token;
 
 use crate::any_seat::AnySeat;
 use crate::call::Call;
+use crate::closing::close;
 use crate::fault::Fault;
 use crate::handle::MonkSeat;
 use crate::making::make;
@@ -286,6 +289,20 @@ fn tell(text: &[u8], out: &mut [u8]) -> i64
         out[..text.len()].copy_from_slice(text);
     }
     length
+}
+
+/// Closes the monitor that these handles are of: the seat of handle `by` comes to it, polls and stays there. The place of
+/// that seat, which is inside where the monitor was free.
+///
+/// It is refused for the first of these reasons that applies: -4, there is no handle `by`; -10, a handle has no seat; -1, a
+/// seat isn't outside; -2, the seat of `by` has too few events left to arrive. Then nothing has changed. It looks once at
+/// each handle.
+#[unsafe(no_mangle)]
+pub extern "C" fn monk_k_close(seats: &mut [MonkSeat], by: usize) -> i32
+    ensures refused { IfCloseRefused seats.old by result seats.new }
+    ensures closed { IfClosed seats.old by result seats.new }
+{
+    close(seats, by)
 }
 
 /// Gives a seat up, and the handle has none then. One that is inside leaves, and nobody is told whom that let in; one that
