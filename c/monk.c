@@ -594,8 +594,9 @@ int monk_save(monk_monitor *m, monk_seat *by, FILE *to) {
 /* The last visit. Everybody is outside, so the monitor is free, and the seat comes in at once. It stays: nobody comes in any
  * more, and the history can be read through it for as long as the monitor is there. Under the lock. */
 static int close_by(monk_monitor *m, monk_seat *s) {
-    monk_k_arrive(s->token);
-    if (monk_k_poll(s->token) != MONK_INSIDE) return MONK_BUSY;
+    int answer = monk_k_close(m->tokens, m->seat_count, s->number);
+    if (answer < 0) return answer;
+    if (answer != MONK_INSIDE) return MONK_BUSY;
     m->reader = s;
     return MONK_OK;
 }

@@ -58,6 +58,11 @@ size_t monk_k_word(monk_k_seat *seat);
 int64_t monk_k_waiting(monk_k_seat *seat, uint8_t condition);
 int64_t monk_k_history(monk_k_seat *seat, uint8_t *out, size_t room);
 
+/* Closes the monitor whose handles these all are, through handle `by`: that seat comes to the monitor and in, and stays. Its place is
+   answered. MONK_K_RANGE where there is no handle `by`, MONK_K_CLOSED where a handle has no seat, MONK_K_NOT_NOW where a seat isn't
+   outside, MONK_K_SPENT: the first of these. */
+int32_t monk_k_close(monk_k_seat *seats, size_t count, size_t by);
+
 /* Gives the seat up; the handle has none then. One that is inside leaves, and nobody is told whom that let in; one that
    waits keeps its place, and the monitor once its turn comes. */
 void monk_k_drop(monk_k_seat *seat);
