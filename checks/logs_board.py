@@ -35,7 +35,7 @@ Rules = namedtuple("Rules", "kind header order lapses")
 
 
 def opening(header):
-    state = (header.size,) if header.object == "buffer" else (header.size, 0, 0)
+    state = tuple(formats.Thing.opening(header.object, header.size))
     return Course(Board((), (), (), state, None, frozenset()), None, None)
 
 

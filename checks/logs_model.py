@@ -22,7 +22,7 @@ VERBS = {
     **dict.fromkeys(("wait", "signal", "broadcast", "until"), (BYTE,)),
     "act": (BYTE, 2**32 - 1, 2**64 - 1),
 }
-MOST = {"seats": 32, "conds": 8, "buffer": 64, "book": 32, "shop": 64}
+MOST = {"seats": 32, "conds": 8, "buffer": 64, "book": 32, "shop": 64, "flags": 32}
 NUMBER = re.compile("0|[1-9][0-9]*")
 
 
@@ -97,9 +97,14 @@ def number(word, most):
     return int(word) if NUMBER.fullmatch(word) and int(word) <= most else None
 
 
+def version_of(thing):
+    """The version of the logs that name the object, as it is written, or None where there is no such object."""
+    return "2" if thing == "flags" else "1" if thing in formats.CODES else None
+
+
 def header_of(words):
     """The header that these words are of, or None."""
-    if words[:2] != ["log", "1"] or len(words) != 6 or words[4] not in formats.CODES:
+    if words[:1] != ["log"] or len(words) != 6 or words[1] != version_of(words[4]):
         return None
     seats, conds, size = number(words[2], MOST["seats"]), number(words[3], MOST["conds"]), number(words[5], BYTE)
     return Header(seats, conds, words[4], size) if seats and conds is not None and size else None
@@ -136,7 +141,7 @@ def read(text):
 
 
 def text_of(header, lines):
-    return "".join(" ".join(map(str, line)) + "\n" for line in [("log", "1", *header), *lines])
+    return "".join(" ".join(map(str, line)) + "\n" for line in [("log", version_of(header.object), *header), *lines])
 
 
 def meant(word):

@@ -78,7 +78,7 @@ class Search:
         self.kind, self.header, self.order, self.lapses = kind, header, order, lapses
         self.acts = [(code, arg) for code in range(formats.CODES[header.object]) for arg in range(2 if code == 0 else 1)]
         self.steps, self.lines = {}, {}
-        state = (header.size,) if header.object == "buffer" else (header.size, 0, 0)
+        state = tuple(formats.Thing.opening(header.object, header.size))
         self.opening = frozenset([((((),) * header.conds, (), (), (), state, "open", (), False), ())])
 
     def events(self, seat, thing):

@@ -1,6 +1,6 @@
 /* For programs whose object is to be judged too. MONK_ACT tells of an operation on what a mutex guards. It is
    called while the mutex is held, behind the operation: its code, what it was given, and what it replied, as
-   docs/MONITORS.md has them for a buffer, a book and a shop. Without the recorder it does nothing.
+   docs/MONITORS.md has them for a buffer, a book, a shop and flags. Without the recorder it does nothing.
 
        MONK_ACT(&mutex, code, arg, reply);    of that mutex; of a std::mutex: mutex.native_handle()
        MONK_ACT(code, arg, reply);            of the mutex that its thread has locked last */

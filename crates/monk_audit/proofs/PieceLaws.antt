@@ -29,6 +29,7 @@ use Rattle.monk_object.specs.Object.{Object}
 use Rattle.monk_object.specs.Buffer.{buffer_meaning}
 use Rattle.monk_object.specs.Book.{book_meaning}
 use Rattle.monk_object.specs.Shop.{shop_meaning}
+use Rattle.monk_object.specs.Flags.{flags_meaning}
 use Rattle.monk_object.specs.Names.{meaning_named, most, opening_named}
 use Rattle.monk_object.specs.declared.name.ObjectName.{ObjectName}
 use Rattle.monk_audit.specs.Replay.{replay_situation}
@@ -92,6 +93,10 @@ owed_book c d x = refl
 pub owed_shop : (c : Course) (d x : List ℕ) → owed_verdict (stage.Shop c d) x ≡ judged_from_here shop_meaning c d x
 unfolding owed_verdict
 owed_shop c d x = refl
+
+pub owed_flags : (c : Course) (d x : List ℕ) → owed_verdict (stage.Flags c d) x ≡ judged_from_here flags_meaning c d x
+unfolding owed_verdict
+owed_flags c d x = refl
 
 pub owed_found : (h : Heading) (n : ℕ) (v : TextVerdict) (x : List ℕ) → owed_verdict (stage.Found h n v) x ≡ found_from v h n x
 unfolding owed_verdict
@@ -229,6 +234,7 @@ last_left stage.Opening last = absurd last
 last_left (stage.Buffer c object) last = absurd last
 last_left (stage.Book c object) last = absurd last
 last_left (stage.Shop c object) last = absurd last
+last_left (stage.Flags c object) last = absurd last
 last_left (stage.Found h count found) last = refl
 
 pub stage_step : (next : Option Stage) (old new : Stage) (total left : List ℕ → Result TextVerdict ReadFault) (bytes rest : List ℕ)
@@ -277,18 +283,22 @@ never_both f none a b is le lt (inr x) = absurd (omega (arith, lt x))
 
 -- events are judged there, all of them legal so far
 abbrev pub IsJudging : Stage → Course → Type 0
-IsJudging s c = ((d : List ℕ) × (s ≡ stage.Buffer c d)) ⊎ (((d : List ℕ) × (s ≡ stage.Book c d)) ⊎ ((d : List ℕ) × (s ≡ stage.Shop c d)))
+IsJudging s c =
+    ((d : List ℕ) × (s ≡ stage.Buffer c d)) ⊎ (((d : List ℕ) × (s ≡ stage.Book c d))
+    ⊎ (((d : List ℕ) × (s ≡ stage.Shop c d)) ⊎ ((d : List ℕ) × (s ≡ stage.Flags c d))))
 
 pub legal_there : (s : Stage) (c : Course) → IsJudging s c → Ok (Judged (Legal c.count)) ≡ owed_verdict s []
 legal_there s c (inl x) = rw x.1 (sym (owed_buffer c x.0 [] ∙ end_judged buffer_meaning c x.0))
 legal_there s c (inr (inl x)) = rw x.1 (sym (owed_book c x.0 [] ∙ end_judged book_meaning c x.0))
-legal_there s c (inr (inr x)) = rw x.1 (sym (owed_shop c x.0 [] ∙ end_judged shop_meaning c x.0))
+legal_there s c (inr (inr (inl x))) = rw x.1 (sym (owed_shop c x.0 [] ∙ end_judged shop_meaning c x.0))
+legal_there s c (inr (inr (inr x))) = rw x.1 (sym (owed_flags c x.0 [] ∙ end_judged flags_meaning c x.0))
 
 pub unfinished_there : (s : Stage) (c : Course) → IsJudging s c → (x : List ℕ) → is_unended x ≡ true → length x ≢ 0
     → owed_verdict s x ≡ Err (end_fault (c.count + 2))
 unfinished_there s c (inl d) x one some = rw d.1 (owed_buffer c d.0 x ∙ unfinished_judged buffer_meaning c d.0 x one some)
 unfinished_there s c (inr (inl d)) x one some = rw d.1 (owed_book c d.0 x ∙ unfinished_judged book_meaning c d.0 x one some)
-unfinished_there s c (inr (inr d)) x one some = rw d.1 (owed_shop c d.0 x ∙ unfinished_judged shop_meaning c d.0 x one some)
+unfinished_there s c (inr (inr (inl d))) x one some = rw d.1 (owed_shop c d.0 x ∙ unfinished_judged shop_meaning c d.0 x one some)
+unfinished_there s c (inr (inr (inr d))) x one some = rw d.1 (owed_flags c d.0 x ∙ unfinished_judged flags_meaning c d.0 x one some)
 
 -- ---- the three stages that judge, by what they have in common
 
@@ -306,6 +316,9 @@ judges_book = record { owes = owed_book; sound = λ c d s. s; one = λ c d. refl
 
 pub judges_shop : Judges stage.Shop shop_meaning
 judges_shop = record { owes = owed_shop; sound = λ c d s. s; one = λ c d. refl; asks = λ c d x n. n }
+
+pub judges_flags : Judges stage.Flags flags_meaning
+judges_flags = record { owes = owed_flags; sound = λ c d s. s; one = λ c d. refl; asks = λ c d x n. n }
 
 pub judging_step : (make : Course → List ℕ → Stage) (o : Object) → Judges make o → (next : Option Stage) (old new : Stage)
     (c e : Course) (d f bytes rest : List ℕ) → old ≡ make c d → new ≡ make e f → IsSoundCourse o.predicates e

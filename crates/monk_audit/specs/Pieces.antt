@@ -5,6 +5,7 @@ use Rattle.monk_object.specs.Object.{Object}
 use Rattle.monk_object.specs.Buffer.{buffer_meaning}
 use Rattle.monk_object.specs.Book.{book_meaning}
 use Rattle.monk_object.specs.Shop.{shop_meaning}
+use Rattle.monk_object.specs.Flags.{flags_meaning}
 use Rattle.monk_history.specs.Text.{Heading}
 use Rattle.monk_history.specs.Text.Words.{◌>>=◌}
 use Rattle.monk_history.specs.Text.Lines.{lines_of, items_at, is_unended}
@@ -16,7 +17,7 @@ use Rattle.monk_audit.specs.Replay.{replay_situation}
 use Rattle.monk_audit.specs.Reading.{verdict_read, read_through, text_verdict, MakesNoObject}
 use Rattle.monk_audit.specs.declared.course.Course.{Course}
 use Rattle.monk_audit.specs.declared.stage.Stage.{Stage}
-use Rattle.monk_audit.specs.declared.stage.Stage.TheVariants.{Opening, Buffer, Book, Shop, Found}
+use Rattle.monk_audit.specs.declared.stage.Stage.TheVariants.{Opening, Buffer, Book, Shop, Flags, Found}
 use Rattle.monk_audit.specs.declared.verdict.Verdict.{Verdict}
 use Rattle.monk_audit.specs.declared.text_verdict.TextVerdict.{TextVerdict}
 use Rattle.monk_audit.specs.declared.text_verdict.TextVerdict.TheVariants.{Judged}
@@ -47,6 +48,7 @@ owed_verdict Opening bytes = text_verdict bytes
 owed_verdict (Buffer c object) bytes = judged_from_here buffer_meaning c object bytes
 owed_verdict (Book c object) bytes = judged_from_here book_meaning c object bytes
 owed_verdict (Shop c object) bytes = judged_from_here shop_meaning c object bytes
+owed_verdict (Flags c object) bytes = judged_from_here flags_meaning c object bytes
 owed_verdict (Found h count found) bytes = found_from found h count bytes
 
 -- the replay is of a monitor with that many seats and conditions, and there is room for the events
@@ -62,6 +64,7 @@ IsSound Opening = Unit {0}
 IsSound (Buffer c object) = IsSoundCourse buffer_meaning.predicates c
 IsSound (Book c object) = IsSoundCourse book_meaning.predicates c
 IsSound (Shop c object) = IsSoundCourse shop_meaning.predicates c
+IsSound (Flags c object) = IsSoundCourse flags_meaning.predicates c
 IsSound (Found h count found) = count ≤ 2 ^ 25
 
 -- how many stages are still to come
@@ -70,6 +73,7 @@ stages_left Opening = 2
 stages_left (Buffer c object) = 1
 stages_left (Book c object) = 1
 stages_left (Shop c object) = 1
+stages_left (Flags c object) = 1
 stages_left (Found h count found) = 0
 
 -- nothing more is judged: no stage is still to come
@@ -78,6 +82,7 @@ IsLast Opening = ⊥
 IsLast (Buffer c object) = ⊥
 IsLast (Book c object) = ⊥
 IsLast (Shop c object) = ⊥
+IsLast (Flags c object) = ⊥
 IsLast (Found h count found) = Unit {0}
 
 -- what was owed to a piece and what comes behind it is owed to what is left of the piece and what comes behind it
@@ -94,6 +99,7 @@ AsksForNone Opening bytes = MakesNoObject bytes
 AsksForNone (Buffer c object) bytes = ⊥
 AsksForNone (Book c object) bytes = ⊥
 AsksForNone (Shop c object) bytes = ⊥
+AsksForNone (Flags c object) bytes = ⊥
 AsksForNone (Found h count found) bytes = Unit {0}
 
 -- what the lines of a piece came to: the verdict, where the last of them is forbidden; else all are legal, and no further line ends

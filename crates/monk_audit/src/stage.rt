@@ -13,7 +13,7 @@ use crate::text_verdict::TextVerdict;
 use crate::verdict::Verdict;
 use monk_history::lines::header_at_front;
 use monk_history::{Header, ReadFault};
-use monk_object::{Book, Buffer, Guarded, ObjectName, Shop};
+use monk_object::{Book, Buffer, Flags, Guarded, ObjectName, Shop};
 use std::alloc::Global;
 
 /// A growth was refused.
@@ -33,6 +33,8 @@ pub(crate) enum Stage {
     Book(Course, Book),
     /// The same over a shop.
     Shop(Course, Shop),
+    /// The same over flags.
+    Flags(Course, Flags),
     /// What was found, if all further lines can be read: so many events were read.
     Found(Header, u32, TextVerdict),
 }
@@ -74,6 +76,7 @@ impl Stage {
             Stage::Buffer(course, buffer) => judge_stage(course, buffer, bytes)?,
             Stage::Book(course, book) => judge_stage(course, book, bytes)?,
             Stage::Shop(course, shop) => judge_stage(course, shop, bytes)?,
+            Stage::Flags(course, flags) => judge_stage(course, flags, bytes)?,
             Stage::Found(header, count, _) => (None, read_lines(header, count, bytes)?),
         };
         Ok((next, rest))
@@ -89,9 +92,10 @@ impl Stage {
                 number: ReadFault::HEADER,
                 line: 1,
             }),
-            Stage::Buffer(course, _) | Stage::Book(course, _) | Stage::Shop(course, _) => {
-                Ok(TextVerdict::Judged(Verdict::Legal(course.count)))
-            }
+            Stage::Buffer(course, _)
+            | Stage::Book(course, _)
+            | Stage::Shop(course, _)
+            | Stage::Flags(course, _) => { Ok(TextVerdict::Judged(Verdict::Legal(course.count))) }
             Stage::Found(_, _, found) => Ok(*found),
         }
     }
@@ -103,9 +107,10 @@ impl Stage {
     {
         let line = match self {
             Stage::Opening => 1,
-            Stage::Buffer(course, _) | Stage::Book(course, _) | Stage::Shop(course, _) => {
-                course.count + 2
-            }
+            Stage::Buffer(course, _)
+            | Stage::Book(course, _)
+            | Stage::Shop(course, _)
+            | Stage::Flags(course, _) => { course.count + 2 }
             Stage::Found(_, count, _) => *count + 2,
         };
         ReadFault {
@@ -168,6 +173,10 @@ fn stage_behind(alloc: Global, header: Header) -> Result<Stage, ReadFault>
         },
         ObjectName::Shop => match Shop::make(size) {
             Ok(shop) => Ok(Stage::Shop(course, shop)),
+            Err(_) => Err(MEMORY),
+        },
+        ObjectName::Flags => match Flags::make(size) {
+            Ok(flags) => Ok(Stage::Flags(course, flags)),
             Err(_) => Err(MEMORY),
         },
     }

@@ -1,9 +1,11 @@
 -- A text is upgraded exactly where it is of a history, and then by the text of the same events
-use Rattle.std.proofs.Common.{◌≡◌, ℕ, ◌^◌, ◌⊎◌, inl, inr, List, Option, Some, None, Result, Ok, Err, refl, sym, ap, subst, ◌∙◌, arith}
-use Rattle.std.specs.Prelude.{IfSome, ◌↔◌}
+use Rattle.std.proofs.Common.{◌≡◌, ℕ, ◌^◌, ◌⊎◌, inl, inr, Bool, true, false, cond, List, Option, Some, None, Result, Ok, Err}
+use Rattle.std.proofs.Common.{refl, sym, ap, subst, ◌∙◌, arith}
+use Rattle.std.specs.Prelude.{IfSome, ◌↔◌, nat_le}
+use Rattle.monk_history.specs.Limits.{all_events_version}
 use Rattle.monk_history.specs.declared.event.Event.{Event}
 use Rattle.monk_history.specs.declared.text.fault.ReadFault.{ReadFault}
-use Rattle.monk_history.specs.Text.{Heading, text, upgraded_heading}
+use Rattle.monk_history.specs.Text.{Heading, heading, text, upgraded_heading}
 use Rattle.monk_history.specs.Text.Reading.{History, history, text_at}
 use Rattle.monk_history.proofs.PublicLaws.Texts.{text_again, text_read, upgraded_text}
 use Rattle.monk_commands.specs.Answer.{Answer}
@@ -50,6 +52,20 @@ upgraded_known (Some input) bytes Puts same puts =
     subst (λ (x : List ℕ). (h : Heading) (events : List Event) → IsHistoryOf x h events → Puts (text (upgraded_heading h) events)) same
     (λ h events t. subst (λ (a : Answer). Puts a.text) (text_upgraded bytes h events t) puts)
 
+-- what was upgraded stays as it is
+twice_by : (v : ℕ) (b : Bool) → nat_le all_events_version v ≡ b → let u = cond b v all_events_version in
+    cond (nat_le all_events_version u) u all_events_version ≡ u
+twice_by v true e = rw e refl
+twice_by v false e = refl
+
+upgraded_twice : (h : Heading) → upgraded_heading (upgraded_heading h) ≡ upgraded_heading h
+upgraded_twice h =
+    ap (λ (v : ℕ). heading v h.kind h.seats h.conds h.object h.size)
+    (twice_by h.version (nat_le all_events_version h.version) refl)
+
+abbrev answer_with : List Event → Heading → Answer
+answer_with events h = record { status = 0; text = text h events }
+
 -- the text of an upgraded history is its own answer
 upgraded_again : (input : List ℕ) (r : Result History ReadFault) (Puts : List ℕ → Type 0) → text_at (2 ^ 25) input ≡ r
     → (upgrade_answer r).status ≡ 0 → Puts (upgrade_answer r).text → IsUpgraded Puts
@@ -59,7 +75,8 @@ upgraded_again input (Ok x) Puts is e puts =
       written = text (upgraded_heading x.0) x.1;
       puts = puts;
       again = text_upgraded (text (upgraded_heading x.0) x.1) (upgraded_heading x.0) x.1
-          (record { has_text = upgraded_text x.0 x.1 t.has_text; few = t.few; whole = refl });
+          (record { has_text = upgraded_text x.0 x.1 t.has_text; few = t.few; whole = refl })
+          ∙ ap (answer_with x.1) (upgraded_twice x.0);
     }
 upgraded_again input (Err f) Puts is e puts = absurd (omega (arith, e))
 

@@ -4,10 +4,9 @@ use Rattle.std.specs.Fmt.{decimal}
 use Rattle.monk_kinds.specs.Names.{kind_word}
 use Rattle.monk_kinds.specs.declared.name.KindName.{KindName}
 use Rattle.monk_object.specs.Names.{most}
-use Rattle.monk_history.specs.Limits.{newest_version}
 use Rattle.monk_history.specs.declared.event.Event.{Event}
 use Rattle.monk_history.specs.declared.text.fault.ReadFault.{ReadFault}
-use Rattle.monk_history.specs.Text.{Heading, HasText, heading, text}
+use Rattle.monk_history.specs.Text.{Heading, HasText, heading, object_version, text, upgraded_heading}
 use Rattle.monk_logs.specs.Blame.{blame_number, blame_word}
 use Rattle.monk_logs.specs.Completion.{Completes}
 use Rattle.monk_logs.specs.Fits.{IsOpen}
@@ -42,9 +41,9 @@ IsMisfitText kind input =
 
 -- ---- what is written
 
--- the header of a history of that kind over what the first line of a log names
+-- the header of a history of that kind over what the first line of a log names, in a version that has every event
 abbrev pub completed_heading : KindName → LogHeading → Heading
-completed_heading kind h = heading newest_version kind h.seats h.conds h.object h.size
+completed_heading kind h = upgraded_heading (heading (object_version h.object) kind h.seats h.conds h.object h.size)
 
 -- with what writing these bytes means: the text of a history is written that is legal and tells the log
 pub record IsCompleted (kind : KindName) (h : LogHeading) (log : List LogLine) (Puts : List ℕ → Type 0) : Type 0 where

@@ -1,4 +1,4 @@
--- The answer to a text that is to be upgraded: the text of the same events in the newest version
+-- The answer to a text that is to be upgraded: the text of the same events in a version that has every event
 use Rattle.std.specs.Prelude.{◌≡◌, ℕ, ◌≤◌, ◌^◌, List, length, Result, Ok, Err}
 use Rattle.monk_history.specs.declared.event.Event.{Event}
 use Rattle.monk_history.specs.declared.text.fault.ReadFault.{ReadFault}

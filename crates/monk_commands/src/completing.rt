@@ -133,7 +133,8 @@ fn complete_text<W: Write>(
 
 /// Reads all of the reader, the text of a log, and writes the text of a history of a monitor of the kind that tells the log,
 /// with status 0: what a recorder would write down of it is the log. The history is legal, and its queues are in order of arrival.
-/// It is that of [`complete`], which says what it makes of the release with which a log ends; its text is in version 2.
+/// It is that of [`complete`], which says what it makes of the release with which a log ends; its text is in version 2,
+/// or in version 3 where the log's object is flags.
 ///
 /// Where no such history begins with the log, the line `KIND misfit STEP NUMBER WORD` is written with status 1: the first
 /// line of the log with which none does, counted from 1 behind the log's first line, and the number and the word of what is

@@ -4,7 +4,7 @@ ghost use Rattle.std.specs.Prelude.{◌≡◌, ◌+◌, ◌≤◌, ◌^◌, ◌�
 ghost use Rattle.std.specs.Io.KnownBytes.{Appends, IsAtEnd};
 ghost use Rattle.monk_history.specs.Text.Device.{inner_of, has_failed, reads_of};
 ghost use Rattle.monk_commands.specs.Answer.{answer_of, verdict_answer};
-ghost use Rattle.monk_commands.specs.Drawn.{IsDrawingOf, IsDrawn, IsPictureBy, forbidden_step};
+ghost use Rattle.monk_commands.specs.Drawn.{IsDrawingOf, IsDrawn, IsPictureBy, forbidden_step, why, why_of};
 ghost use Rattle.monk_commands.specs.Streams.{IsYoung, IsPastBound};
 
 use crate::answer::{put, too_big, unreadable};
@@ -27,7 +27,9 @@ fn forbidden_step(verdict: Verdict) -> Option<u32>
 }
 
 /// Why a step is forbidden, as a picture says it.
-fn why(reason: u8) -> &'static str {
+fn why(reason: u8) -> &'static str
+    ensures { result.now ≡ why reason }
+{
     match reason {
         Verdict::RANGE => "range, a number that the monitor doesn't have",
         Verdict::CALL => "call, this kind has no such call",
@@ -39,7 +41,9 @@ fn why(reason: u8) -> &'static str {
 }
 
 /// Why the verdict forbids one.
-fn why_of(verdict: Verdict) -> &'static str {
+fn why_of(verdict: Verdict) -> &'static str
+    ensures { result.now ≡ why_of verdict }
+{
     match verdict {
         Verdict::Legal(_) => "",
         Verdict::Forbidden { reason, .. } => why(reason),
@@ -148,7 +152,7 @@ pub fn draw_stream<R: Read, W: Write>(
     requires reader_works { has_failed reader.old ≡ false }
     requires writer_works { has_failed writer.old ≡ false }
 
-    // What is written, and its status, are the answer to what the reader had: of a history a picture with its marks.
+    // What is written, and its status, are the answer to what the reader had: of a history its picture, byte for byte.
     ensures answer { IfOk result
         (λ status. IfSome (R.remaining (inner_of reader.old))
         (λ input. IsDrawingOf input status (Appends (W.contents (inner_of writer.old)) (W.contents (inner_of writer.new))))) }

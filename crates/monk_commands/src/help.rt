@@ -24,7 +24,7 @@ pub(crate) static PLAY: Help = Help {
 };
 
 pub(crate) static UPGRADE: Help = Help {
-    about: "Writes the same history in the newest version",
+    about: "Writes the same history in a version that has every event",
     example: "Example: monk upgrade examples/hoare_handover.history",
 };
 

@@ -21,7 +21,7 @@ use crate::tracing::put_trace;
 use monk_floor::MakeFault;
 use monk_history::{Device, write};
 use monk_kinds::{Kind, KindName, Npb, Npir, Npis, Npnb, Npqb, Pb, Pir, Pis, Pnb, Pqb};
-use monk_object::{Book, Buffer, Guarded, ObjectFault, ObjectName, Shop};
+use monk_object::{Book, Buffer, Flags, Guarded, ObjectFault, ObjectName, Shop};
 use monk_world::{PlayLines, World};
 use std::alloc::Global;
 use std::io::{Read, Write};
@@ -122,6 +122,10 @@ fn play_object<W: Write>(
         },
         ObjectName::Shop => match Shop::make(size) {
             Ok(shop) => play_named(alloc, report, shop, play, writer),
+            Err(_) => unreachable!(),
+        },
+        ObjectName::Flags => match Flags::make(size) {
+            Ok(flags) => play_named(alloc, report, flags, play, writer),
             Err(_) => unreachable!(),
         },
     }

@@ -26,7 +26,7 @@ pub enum Task<'a> {
     Audit,
     /// The history that a play leads to, by [`play_stream`].
     Play,
-    /// The same history in the newest version, by [`upgrade_stream`].
+    /// The same history in a version that has every event, by [`upgrade_stream`].
     Upgrade,
     /// The verdicts on a history or a log under each of the ten kinds, by [`fit_stream`]: of a log with what it says of waits.
     Fit(Lapses, &'a [WaitsFor]),

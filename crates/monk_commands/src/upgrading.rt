@@ -1,4 +1,4 @@
-//! The upgrading stream: the text of a history in, the text of the same events in the newest version out.
+//! The upgrading stream: the text of a history in, the text of the same events in a version that has every event out.
 
 ghost use Rattle.std.specs.Prelude.{◌≡◌, ◌+◌, ◌≤◌, ◌^◌, ◌⊎◌, ◌↔◌, false, true, IfOk, OnOk, IfSome, IsErrOf, List};
 ghost use Rattle.std.specs.Io.KnownBytes.{Appends, IsAtEnd};
@@ -38,8 +38,8 @@ fn upgrade_text<W: Write>(
     }
 }
 
-/// Reads all of the reader and writes the text of the same events in version 2, with status 0, from a text of either
-/// version. It judges neither the size nor whether the history is legal: an illegal history stays the same.
+/// Reads all of the reader and writes the text of the same events with status 0: a text of version 1 in version 2, any
+/// other as it is. It judges neither the size nor whether the history is legal: an illegal history stays the same.
 ///
 /// Where the reader has no text of a history, the line `unreadable LINE NUMBER WORD` is written with status 2.
 ///

@@ -229,6 +229,7 @@ fn sample_of(name: &str) -> Option<Sample>
         ObjectName::Buffer => Some(Sample::Buffer),
         ObjectName::Book => Some(Sample::Book),
         ObjectName::Shop => Some(Sample::Shop),
+        ObjectName::Flags => None,
     }
 }
 

@@ -1,5 +1,10 @@
 mod MarkLaws
 mod StretchLaws
+mod QueueLaws
+mod SeatLaws
+mod TakenLaws
+mod StandLaws
+mod CourseLaws
 mod HandLaws
 mod LegendLaws
 mod PictureLaws

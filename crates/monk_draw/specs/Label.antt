@@ -3,7 +3,7 @@ use Rattle.std.specs.Prelude.{ℕ, ◌==◌, List, [], ◌++◌, if◌then◌els
 use Rattle.std.specs.List.{join_with_byte}
 use Rattle.std.specs.Fmt.{decimal}
 use Rattle.monk_object.specs.declared.name.ObjectName.{ObjectName}
-use Rattle.monk_object.specs.declared.name.ObjectName.TheVariants.{Buffer, Book, Shop}
+use Rattle.monk_object.specs.declared.name.ObjectName.TheVariants.{Buffer, Book, Shop, Flags}
 use Rattle.monk_history.specs.declared.event.Event.{Event}
 use Rattle.monk_history.specs.declared.event.Event.TheVariants.{Enter, Act, Leave, Wait, Signal, SignalLeave, Until, Resume}
 use Rattle.monk_history.specs.declared.event.Event.TheVariants.{SignalAll, SignalWait}
@@ -30,10 +30,14 @@ shop_act code =
     else if code == 3 then codes "depart"
     else codes "act"
 
+abbrev pub flags_act : ℕ → List ℕ
+flags_act code = if code == 0 then codes "set" else codes "act"
+
 abbrev pub act_word : ObjectName → ℕ → List ℕ
 act_word Buffer code = buffer_act code
 act_word Book code = book_act code
 act_word Shop code = shop_act code
+act_word Flags code = flags_act code
 
 -- what the event is, in a word or two
 abbrev pub event_word : ObjectName → Event → List ℕ

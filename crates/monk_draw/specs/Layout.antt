@@ -1,6 +1,10 @@
 -- Where what is drawn stands: a column for each event, a lane for each seat
 use Rattle.std.specs.Prelude.{ℕ, ◌+◌, ◌*◌, nat_lt, if◌then◌else◌}
 
+-- the left edge of the first column
+abbrev pub left_edge : ℕ
+left_edge = 84
+
 -- the middle of a column, numbered from 0, and of a lane
 abbrev pub column_at : ℕ → ℕ
 column_at column = 122 + 76 * column

@@ -10,5 +10,9 @@ pub mod Frame
 pub mod Stretch
 pub mod Hand
 pub mod Legend
+pub mod Stand
+pub mod AtPlace
+pub mod Stretches
+pub mod Seats
 pub mod Scene
 pub mod Picture

@@ -1,5 +1,5 @@
 -- What a picture of a history has
-use Rattle.std.specs.Prelude.{◌≡◌, ℕ, ◌+◌, ◌-◌, List, Option, Some, None, ◌++◌, length, nat_lt, slice_get}
+use Rattle.std.specs.Prelude.{◌≡◌, ℕ, ◌+◌, ◌-◌, List, Option, Some, None, ◌++◌, length, nat_lt, slice_get, take}
 use Rattle.std.specs.Prelude.{if◌then◌else◌, codes}
 use Rattle.monk_history.specs.Meaning.Events.{seat_of}
 use Rattle.monk_history.specs.Text.{Heading}
@@ -12,12 +12,12 @@ use Rattle.monk_draw.specs.Legend.{legend_text}
 use Rattle.monk_draw.specs.Mark.{marks}
 use Rattle.monk_draw.specs.Scene.{legend_of}
 use Rattle.monk_draw.specs.Stretch.{stretches_text}
+use Rattle.monk_draw.specs.Stretches.{stretches}
 use Rattle.monk_draw.specs.Style.{style}
 use Rattle.monk_draw.specs.Surface.{background, columns_below, columns_foot, head, lanes_below, lanes_end}
 use Rattle.monk_draw.specs.Tags.{tags}
 use Rattle.monk_draw.specs.Window.{not_shown, shown_events, shown_last}
 use Rattle.monk_draw.specs.declared.legend.Legend.{Legend}
-use Rattle.monk_draw.specs.declared.stretch.Stretch.{Stretch}
 use Rattle.monk_draw.specs.declared.view.View.{View}
 
 -- how a history is looked at: its seats, its object, and how many events before those that are shown
@@ -58,23 +58,22 @@ unfoldable pub above : ℕ → ℕ → ℕ → ℕ → List ℕ → ℕ → Opti
 above seats columns lanes allowed reason last e legend =
     tags seats columns ++ (wrong seats allowed last reason e ++ legend_text legend (lane_at lanes))
 
--- all but the marks and the end, of some stretches
-unfoldable pub front : Heading → ℕ → List Event → Option ℕ → ℕ → List ℕ → List Stretch → List ℕ
-front h seats shown fault last reason drawn =
+-- all but the marks and the end, of these events behind those that aren't shown
+unfoldable pub front : Heading → ℕ → List Event → List Event → Option ℕ → ℕ → List ℕ → List ℕ
+front h seats past shown fault last reason =
     let e = forbidden_event fault last shown in
     let allowed = allowed_with e (length shown) in
     let lanes = lanes_for seats shown in
+    let drawn = stretches seats past (take allowed shown) (lanes_end (length shown)) in
     ground h seats (length shown) lanes ++ (stretches_text drawn ++ (hands seats allowed shown
     ++ above seats (length shown) lanes allowed reason last e (legend_of drawn allowed shown)))
 
--- behind the one text all but the marks and the end make the other
-pub record PutsFront (h : Heading) (seats : ℕ) (shown : List Event) (fault : Option ℕ) (last : ℕ) (reason : List ℕ)
-    (old new : List ℕ) : Type 0 where
-  pub drawn : List Stretch
-  pub is : new ≡ old ++ front h seats shown fault last reason drawn
+-- the picture: all that stands under the marks, the marks and the end
+abbrev pub picture : Heading → List Event → Option ℕ → List ℕ → List ℕ
+picture h events fault reason =
+    let last = shown_last fault (length events) in
+    (front h h.seats (take (not_shown last) events) (shown_events fault events) fault last reason
+    ++ all_marks h events fault) ++ codes "</svg>\n"
 
--- the whole picture: all that stands under the marks, the marks and the end
-pub record IsPicture (h : Heading) (events : List Event) (fault : Option ℕ) (reason : List ℕ) (bytes : List ℕ) : Type 0 where
-  pub drawn : List Stretch
-  pub is : bytes ≡ (front h h.seats (shown_events fault events) fault (shown_last fault (length events)) reason drawn
-      ++ all_marks h events fault) ++ codes "</svg>\n"
+abbrev pub IsPicture : Heading → List Event → Option ℕ → List ℕ → List ℕ → Type 0
+IsPicture h events fault reason bytes = bytes ≡ picture h events fault reason

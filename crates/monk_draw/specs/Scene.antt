@@ -53,8 +53,7 @@ hands_noted_below l allowed es (suc column) =
 abbrev pub legend_of : List Stretch → ℕ → List Event → Legend
 legend_of drawn allowed es = hands_noted_below (all_noted empty_legend drawn) allowed es (length es)
 
--- behind the one text some stretches make the other, and their places are noted
-pub record PutsStretches (old new : List ℕ) (before after : Legend) : Type 0 where
-  pub drawn : List Stretch
+-- behind the one text these stretches make the other, and their places are noted
+pub record PutsStretches (drawn : List Stretch) (old new : List ℕ) (before after : Legend) : Type 0 where
   pub is : new ≡ old ++ stretches_text drawn
   pub names : after ≡ all_noted before drawn

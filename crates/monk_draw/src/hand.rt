@@ -11,8 +11,8 @@ use crate::legend::Legend;
 use monk_history::{Event, Next, Via};
 use std::alloc::AllocError;
 
-/// Who comes in by the next event because it was handed the monitor.
-fn handed(after: Option<Event>) -> Option<u8>
+/// Who comes in by the event because it was handed the monitor.
+pub(crate) fn handed(after: Option<Event>) -> Option<u8>
     ensures { result ≡ handed after }
 {
     match after {

@@ -35,6 +35,7 @@ fn object_word(object: ObjectName) -> &'static str
         ObjectName::Buffer => "buffer",
         ObjectName::Book => "book",
         ObjectName::Shop => "shop",
+        ObjectName::Flags => "flags",
     }
 }
 

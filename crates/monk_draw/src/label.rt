@@ -5,7 +5,7 @@ ghost use Rattle.monk_history.specs.Text.{via_word, from_word};
 ghost use Rattle.monk_draw.specs.Label.{act_note, act_word, event_note, event_text, event_word};
 
 use monk_history::{Event, From3, Via};
-use monk_object::{Book, Buffer, ObjectName, Shop};
+use monk_object::{Book, Buffer, Flags, ObjectName, Shop};
 use std::alloc::AllocError;
 
 fn via_word(via: Via) -> &'static str
@@ -42,6 +42,7 @@ fn act_word(object: ObjectName, code: u8) -> &'static str
         (ObjectName::Shop, Shop::CALL) => "call",
         (ObjectName::Shop, Shop::FINISH) => "finish",
         (ObjectName::Shop, Shop::DEPART) => "depart",
+        (ObjectName::Flags, Flags::SET) => "set",
         _ => "act",
     }
 }

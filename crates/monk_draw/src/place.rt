@@ -2,7 +2,10 @@
 
 ghost use Rattle.std.specs.Prelude.{◌≡◌};
 ghost use Rattle.monk_draw.specs.Legend.{place_words};
+ghost use Rattle.monk_draw.specs.Stand.{left_by};
 ghost use Rattle.monk_draw.specs.Stretch.{is_outside, place_class};
+
+use monk_history::{Event, Next};
 
 /// Where a seat is.
 #[derive(Clone, Copy, Debug, PartialEq, Eq)]
@@ -24,6 +27,22 @@ pub(crate) enum Place {
 }
 
 impl Place {
+    /// Where the event leaves its own seat.
+    pub(crate) fn left_by(event: Event) -> Place
+        ensures { result ≡ left_by event }
+    {
+        match event {
+            Event::Enter(..) | Event::Act(..) | Event::Resume(..) | Event::SignalAll(..) => {
+                Place::Active
+            }
+            Event::Leave(..) | Event::SignalLeave(..) => Place::Outside,
+            Event::Wait(_, cond, _) | Event::SignalWait(_, _, cond, _) => Place::Condition(cond),
+            Event::Signal(_, _, Next::Stay) | Event::Until(_, _, Next::Stay) => Place::Active,
+            Event::Signal(..) => Place::Signaller,
+            Event::Until(_, pred, _) => Place::Until(pred),
+        }
+    }
+
     /// The class of its stretches, by which the style gives them colour and hatching.
     pub(crate) fn class(self) -> &'static str
         ensures { result.now ≡ place_class self }
@@ -53,6 +72,7 @@ impl Place {
             Place::Until(_) => "waits until a predicate",
         }
     }
+
     /// Whether it is outside.
     pub(crate) fn is_outside(self) -> bool
         ensures { result ≡ is_outside self }

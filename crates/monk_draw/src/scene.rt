@@ -1,151 +1,181 @@
 //! Which stretches there are.
 
-ghost use Rattle.std.specs.Prelude.{◌≤◌, ◌^◌, OnOk, length, string_bytes};
+ghost use Rattle.std.specs.Prelude.{◌≡◌, ℕ, ◌<◌, ◌≤◌, IfOk, OnOk, [], ◌∷◌, length, string_bytes};
 ghost use Rattle.monk_history.specs.Limits.{most_lines};
+ghost use Rattle.monk_draw.specs.Layout.{left_edge};
 ghost use Rattle.monk_draw.specs.Scene.{PutsStretches};
+ghost use Rattle.monk_draw.specs.Seats.{IsWhole, moved, place_in, stay_in};
+ghost use Rattle.monk_draw.specs.Stretches.{ended, ended_below, entry_stretch, entry_stretches, last_below, stretch_to, stretches};
 
+use crate::hand::handed;
 use crate::layout::{COLUMN, LEFT, column_at, lane_of};
 use crate::legend::Legend;
 use crate::place::Place;
-use crate::seats::{Seats, Stay};
+use crate::seats::Seats;
+use crate::stay::Stay;
 use crate::stretch::{Stretch, put_stretch};
 use crate::view::View;
-use monk_history::{Event, Via};
-use std::alloc::AllocError;
+use monk_history::Event;
+use std::alloc::{AllocError, Global};
 
-/// Where the event stands, behind which a seat came to where it is: at the left edge, if it is not shown.
-fn start_of(view: View, stay: Stay) -> u64
-    ensures { result ≤ 2 ^ 40 }
-{
-    if stay.since > view.before {
-        let column = stay.since - view.before - 1;
-        match u32::try_from(column) {
-            Ok(column) => column_at(column),
-            Err(_) => LEFT,
-        }
-    } else {
-        LEFT
-    }
-}
-
-/// Puts the stretch of a seat up to there.
+/// Puts the stretch of a seat that has stayed so, up to there.
 fn put_stay(
     page: &mut String,
     legend: &mut Legend,
-    view: View,
     seat: u8,
     stay: Stay,
     to: u64,
 ) -> Result<(), AllocError>
-    ensures { OnOk result (PutsStretches (string_bytes page.old) (string_bytes page.new) legend.old legend.new) }
+    ensures { OnOk result (PutsStretches (stretch_to seat stay to ∷ []) (string_bytes page.old) (string_bytes page.new)
+        legend.old legend.new) }
 {
     legend.note(stay.place);
     let stretch = Stretch {
         lane: seat,
         place: stay.place,
-        from: start_of(view, stay),
+        from: stay.from,
         to,
     };
     put_stretch(page, stretch)
 }
 
-/// Puts the stretch of a seat that ends where it moves from `old` to `new`, if it does.
+/// Puts the stretch of a seat that ends there, if the seat comes to another place. Gives how the seat stays then.
 fn put_change(
     page: &mut String,
     legend: &mut Legend,
-    view: View,
     seat: u8,
-    old: Stay,
-    new: Stay,
+    stay: Stay,
+    place: Place,
     x: u64,
-) -> Result<(), AllocError>
-    ensures { OnOk result (PutsStretches (string_bytes page.old) (string_bytes page.new) legend.old legend.new) }
+) -> Result<Stay, AllocError>
+    ensures page { OnOk result (PutsStretches (ended seat stay place x) (string_bytes page.old) (string_bytes page.new)
+        legend.old legend.new) }
+    ensures stay { IfOk result (λ now. now ≡ moved stay place x) }
 {
-    if old.place != new.place {
-        put_stay(page, legend, view, seat, old, x)
-    } else {
-        Ok(())
+    if stay.place == place {
+        return Ok(Stay {
+            place,
+            from: stay.from,
+        });
     }
+    put_stay(page, legend, seat, stay, x)?;
+    Ok(Stay { place, from: x })
 }
 
-/// Puts the stretches that end where the seats move from `old` to `new`.
+/// Puts the stretches that end there, since seats come to where they stand now, and notes how they stay then.
 fn put_changes(
     page: &mut String,
     legend: &mut Legend,
-    view: View,
-    old: &Seats,
-    new: &Seats,
+    stays: &mut Vec<Stay>,
+    seats: &Seats,
+    count: u8,
     x: u64,
 ) -> Result<(), AllocError>
-    ensures { OnOk result (PutsStretches (string_bytes page.old) (string_bytes page.new) legend.old legend.new) }
+    requires whole { IsWhole seats.now }
+    requires count { length stays.old.items ≡ count }
+    ensures page { OnOk result (PutsStretches (ended_below (stay_in stays.old.items) (place_in seats.now) x count)
+        (string_bytes page.old) (string_bytes page.new) legend.old legend.new) }
+    ensures stays { OnOk result
+        ((s : ℕ) → s < count → stay_in stays.new.items s ≡ moved (stay_in stays.old.items s) (place_in seats.now s) x) }
+    ensures count { length stays.new.items ≡ count }
 {
-    for seat in 0..view.seats {
-        put_change(page, legend, view, seat, old.stay(seat), new.stay(seat), x)?;
+    for seat in 0..count {
+        let stay = stays[seat as usize];
+        stays[seat as usize] = put_change(page, legend, seat, stay, seats.place(seat), x)?;
     }
     Ok(())
 }
 
-/// Puts how a seat that was handed the monitor waited at the entry.
-#[tactic(auto, using(crate::proofs::StretchLaws::no_stretches))]
-fn put_entry(
-    page: &mut String,
-    legend: &mut Legend,
-    view: View,
-    event: Event,
-    x: u64,
-) -> Result<(), AllocError>
-    requires { x ≤ 2 ^ 40 }
-    ensures { OnOk result (PutsStretches (string_bytes page.old) (string_bytes page.new) legend.old legend.new) }
+/// How the seat waited at the entry, up to there: for one column.
+fn entry_stretch(seats: u8, x: u64, seat: u8) -> Stretch
+    ensures { result ≡ entry_stretch seats x seat }
 {
-    let Event::Enter(seat, Via::Handed) = event else {
-        return Ok(());
-    };
-    legend.note(Place::Entry);
     let from = x.saturating_sub(COLUMN);
-    let stretch = Stretch {
-        lane: lane_of(view.seats, seat),
+    Stretch {
+        lane: lane_of(seats, seat),
         place: Place::Entry,
         from: if from < LEFT { LEFT } else { from },
         to: x,
-    };
-    put_stretch(page, stretch)
+    }
+}
+
+/// Puts how a seat that was handed the monitor waited at the entry.
+fn put_entry(
+    page: &mut String,
+    legend: &mut Legend,
+    seats: u8,
+    entered: Option<u8>,
+    x: u64,
+) -> Result<(), AllocError>
+    ensures { OnOk result (PutsStretches (entry_stretches seats x entered) (string_bytes page.old)
+        (string_bytes page.new) legend.old legend.new) }
+{
+    match entered {
+        Some(seat) => {
+            legend.note(Place::Entry);
+            put_stretch(page, entry_stretch(seats, x, seat))
+        }
+        None => Ok(()),
+    }
 }
 
 /// Puts the stretches that last to the end.
 fn put_last(
     page: &mut String,
     legend: &mut Legend,
-    view: View,
-    seats: &Seats,
+    stays: &[Stay],
+    count: u8,
     end: u64,
 ) -> Result<(), AllocError>
-    ensures { OnOk result (PutsStretches (string_bytes page.old) (string_bytes page.new) legend.old legend.new) }
+    requires { length stays.now ≡ count }
+    ensures { OnOk result (PutsStretches (last_below (stay_in stays.now) end count) (string_bytes page.old)
+        (string_bytes page.new) legend.old legend.new) }
 {
-    for seat in 0..view.seats {
-        put_stay(page, legend, view, seat, seats.stay(seat), end)?;
+    for seat in 0..count {
+        let stay = stays[seat as usize];
+        put_stay(page, legend, seat, stay, end)?;
     }
     Ok(())
 }
 
-/// Puts the stretches of all seats over the allowed events that are shown, from where they were before, up to the end.
+/// How the seats stay before the first event that is shown.
+fn first_stays(alloc: Global, seats: &Seats, count: u8) -> Result<Vec<Stay>, AllocError>
+    requires { IsWhole seats.now }
+    ensures count { IfOk result (λ v. length v.items ≡ count) }
+    ensures stays { IfOk result
+        (λ v. (s : ℕ) → s < count → stay_in v.items s ≡ record { place = place_in seats.now s; from = left_edge }) }
+{
+    let mut stays = Vec::new(alloc);
+    for seat in 0..count {
+        stays.push(Stay {
+            place: seats.place(seat),
+            from: LEFT,
+        })?;
+    }
+    Ok(stays)
+}
+
+/// Puts the stretches of the allowed events that are shown, up to the end; `past` are the events before them.
 pub(crate) fn put_stretches(
+    alloc: Global,
     page: &mut String,
     legend: &mut Legend,
-    view: View,
-    seats: Seats,
+    count: u8,
+    past: &[Event],
     events: &[Event],
     end: u64,
 ) -> Result<(), AllocError>
     requires few { length events.now ≤ most_lines }
-    ensures { OnOk result (PutsStretches (string_bytes page.old) (string_bytes page.new) legend.old legend.new) }
+    ensures { OnOk result (PutsStretches (stretches count past.now events.now end) (string_bytes page.old)
+        (string_bytes page.new) legend.old legend.new) }
 {
-    let mut seats = seats;
+    let mut seats = Seats::after(alloc, past)?;
+    let mut stays = first_stays(alloc, &seats, count)?;
     for (column, event) in events.iter().enumerate() {
-        let old = seats;
         let x = column_at(column as u32);
-        seats.follow(*event, view.before.saturating_add(column).saturating_add(1));
-        put_entry(page, legend, view, *event, x)?;
-        put_changes(page, legend, view, &old, &seats, x)?;
+        seats.follow(*event)?;
+        put_entry(page, legend, count, handed(Some(*event)), x)?;
+        put_changes(page, legend, &mut stays, &seats, count, x)?;
     }
-    put_last(page, legend, view, &seats, end)
+    put_last(page, legend, &stays, count, end)
 }

@@ -1,6 +1,6 @@
 //! The stretches of the seats.
 
-ghost use Rattle.std.specs.Prelude.{◌≡◌, ◌≤◌, ◌^◌, ◌++◌, OnOk, string_bytes};
+ghost use Rattle.std.specs.Prelude.{◌≡◌, ◌++◌, OnOk, string_bytes};
 ghost use Rattle.monk_draw.specs.Stretch.{bar, condition_at, predicate_at, stretch_text, what, what_at};
 
 use crate::layout::{COLUMN, lane_at};
@@ -19,7 +19,6 @@ pub(crate) struct Stretch {
 /// Where the condition or the predicate stands: behind the arrow that may begin with the stretch, in front of the next
 /// column.
 fn what_at(from: u64, to: u64) -> u64
-    requires { from ≤ 2 ^ 40 }
     ensures { result ≡ what_at from to }
 {
     let width = to.saturating_sub(from);
@@ -74,7 +73,6 @@ fn put_bar(page: &mut String, class: &str, x: u64, y: u64, width: u64) -> Result
 /// Puts the stretch. Of a time outside nothing is drawn.
 #[tactic(auto, unfolding(crate::specs::Stretch::stretch_text))]
 pub(crate) fn put_stretch(page: &mut String, stretch: Stretch) -> Result<(), AllocError>
-    requires { stretch.from ≤ 2 ^ 40 }
     ensures { OnOk result (string_bytes page.new ≡ string_bytes page.old ++ stretch_text stretch) }
 {
     let Stretch {

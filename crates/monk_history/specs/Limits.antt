@@ -9,7 +9,11 @@ most_conds = 8
 
 -- of the versions of a text, the first of which is 1
 abbrev pub newest_version : ℕ
-newest_version = 2
+newest_version = 3
+
+-- the first that has every event
+abbrev pub all_events_version : ℕ
+all_events_version = 2
 
 -- of the events of one seat: 2 to 2 ^ 20
 abbrev pub least_budget : ℕ

@@ -1,5 +1,8 @@
 //! What holds of every history, as laws that other crates may cite.
-ghost use Rattle.std.specs.Prelude.{◌≡◌, ◌≢◌, ◌≤◌, ◌↔◌, ℕ, List, [], ◌∷◌, ◌++◌};
+ghost use Rattle.std.specs.Prelude.{◌≡◌, ◌≢◌, ◌≤◌, ◌<◌, ◌↔◌, ℕ, nat_lt, IsTrue, List, [], ◌∷◌, ◌++◌};
+ghost use Rattle.monk_kinds.specs.Kind.{IsKind};
+ghost use Rattle.monk_kinds.specs.Names.{rules_named};
+ghost use Rattle.monk_kinds.specs.declared.name.KindName.{KindName};
 ghost use Rattle.monk_kinds.specs.declared.mode.Pick.{Pick};
 ghost use Rattle.monk_history.specs.declared.event.Event.{Event};
 ghost use Rattle.monk_history.specs.declared.event.From3.{From3};
@@ -14,6 +17,8 @@ ghost use Rattle.monk_history.specs.Meaning.Entry.{AdmitsUnknown, IsAtDoor, IsDu
 ghost use Rattle.monk_history.specs.Meaning.Legal.{IsLegal};
 ghost use Rattle.monk_history.specs.Meaning.Monitor.{Monitor, monitor, data_of};
 ghost use Rattle.monk_history.specs.Meaning.Moves.{CountsAfter, StandsAfter};
+ghost use Rattle.monk_history.specs.Meaning.Promises.{HoaresRule, NobodyComesBetween, ThePredicateHolds};
+ghost use Rattle.monk_history.specs.Meaning.Promises.{hands_over, has_hoares_rule, puts_callers_last};
 ghost use Rattle.monk_history.specs.Meaning.Reasons.{IsAllowed};
 ghost use Rattle.monk_history.specs.Meaning.Release.{MayCall, as_called};
 ghost use Rattle.monk_history.specs.Meaning.Situation.{situation};
@@ -79,6 +84,26 @@ pub fn allowed_may_be_called()
 pub fn untils_were_false()
     ensures queue { (m : Monitor) (h : List Event) → IsLegal m h → untils_while_false m h ≡ untils h }
     ensures each { (m : Monitor) (h : List Event) → IsLegal m h → StaysWhereItHolds m h }
+{}
+
+/// Hoare's rule: under a blocking kind, and under immediate return where waiters go before callers, whoever a signal
+/// serves goes on next, and over the data of the signal. So what held at the signal holds when it goes on, and an `if`
+/// suffices. Of the ten kinds these are PB, NPB and PIR.
+pub fn hoares_rule()
+    ensures rule { (m : Monitor) (h : List Event) → IsKind m.kind → IsTrue (hands_over m.kind) → IsLegal m h → HoaresRule m h }
+    ensures kinds { (k : KindName) → hands_over (rules_named k) ≡ has_hoares_rule k }
+{}
+
+/// Under each kind that puts waiters before callers, nobody enters behind a signal before whoever it served has gone on.
+/// So only seats that were inside already can have changed the data. Of the ten kinds these are the P kinds and NPB.
+pub fn nobody_comes_between()
+    ensures rule { (m : Monitor) (h : List Event) → m.kind.entry < m.kind.waiter → IsLegal m h → NobodyComesBetween h }
+    ensures kinds { (k : KindName) → nat_lt (rules_named k).entry (rules_named k).waiter ≡ puts_callers_last k }
+{}
+
+/// Whoever goes on from a wait-until awaits a predicate that holds of the data.
+pub fn the_predicate_holds()
+    ensures { (m : Monitor) (h : List Event) → IsLegal m h → ThePredicateHolds m h }
 {}
 
 /// The acts of a legal history are a run of its object from the opening state: each reply is the object's, and the data

@@ -7,7 +7,10 @@ pub const MOST_SEATS: u8 = 32;
 pub const MOST_CONDS: u8 = 8;
 
 /// The newest version of a text. The first is 1.
-pub(crate) const NEWEST_VERSION: u8 = 2;
+pub(crate) const NEWEST_VERSION: u8 = 3;
+
+/// The first version that has every event.
+pub(crate) const ALL_EVENTS_VERSION: u8 = 2;
 
 /// The least number of events of one seat.
 pub const LEAST_BUDGET: u32 = 2;

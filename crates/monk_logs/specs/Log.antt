@@ -5,6 +5,7 @@ use Rattle.std.specs.Prelude.{◌-◌, ℕ, ◌≤◌, ◌^◌, List, [], ◌∷
 use Rattle.std.specs.List.{flat_map, AllByRecursion}
 use Rattle.std.specs.Fmt.{decimal}
 use Rattle.monk_object.specs.declared.name.ObjectName.{ObjectName}
+use Rattle.monk_object.specs.declared.name.ObjectName.TheVariants.{Buffer, Book, Shop, Flags}
 use Rattle.monk_object.specs.Names.{object_word}
 use Rattle.monk_history.specs.Limits.{most_seats, most_conds}
 use Rattle.monk_history.specs.Text.Lines.{line}
@@ -22,11 +23,18 @@ pub record LogHeading : Type 0 where
 abbrev pub log_heading : ℕ → ℕ → ObjectName → ℕ → LogHeading
 log_heading seats conds object size = record { seats = seats; conds = conds; object = object; size = size }
 
+-- the version of the logs that name the object
+abbrev pub log_version : ObjectName → ℕ
+log_version Buffer = 1
+log_version Book = 1
+log_version Shop = 1
+log_version Flags = 2
+
 -- ---- words
 
 abbrev pub log_header_words : LogHeading → List Word
 log_header_words h =
-    codes "log" ∷ codes "1" ∷ decimal h.seats ∷ decimal h.conds ∷ object_word h.object ∷ decimal h.size ∷ []
+    codes "log" ∷ decimal (log_version h.object) ∷ decimal h.seats ∷ decimal h.conds ∷ object_word h.object ∷ decimal h.size ∷ []
 
 abbrev pub log_words : LogLine → List Word
 log_words (Enter s) = codes "enter" ∷ decimal s ∷ []

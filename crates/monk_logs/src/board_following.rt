@@ -19,7 +19,7 @@ use crate::setting::Setting;
 use crate::verdict::LogVerdict;
 use monk_audit::{AuditFault, rules_by_name};
 use monk_kinds::KindName;
-use monk_object::{Book, Buffer, Guarded, ObjectName, Shop};
+use monk_object::{Book, Buffer, Flags, Guarded, ObjectName, Shop};
 use std::alloc::{AllocError, Global};
 
 /// Judges the lines one after the other, over the object in its opening state.
@@ -93,6 +93,10 @@ pub(crate) fn follow_board<L: LineSource>(
         ObjectName::Shop => {
             let shop = Shop::make(size)?;
             Ok(follow(alloc, shop, lapses, order, setting, lines)?)
+        }
+        ObjectName::Flags => {
+            let flags = Flags::make(size)?;
+            Ok(follow(alloc, flags, lapses, order, setting, lines)?)
         }
     }
 }

@@ -29,7 +29,7 @@ use crate::tally::{Tally, lets_go};
 use crate::waits_for::WaitsFor;
 use monk_audit::{AuditFault, rules_by_name};
 use monk_kinds::KindName;
-use monk_object::{Book, Buffer, Guarded, ObjectName, Shop};
+use monk_object::{Book, Buffer, Flags, Guarded, ObjectName, Shop};
 use std::alloc::{AllocError, Global};
 
 /// Makes the list that of the items, with what the event before has made of them, its choice aside.
@@ -147,6 +147,10 @@ pub(crate) fn count_source<L: LineSource>(
         ObjectName::Shop => {
             let shop = Shop::make(size)?;
             Ok(count_lines(alloc, shop, setting, means, lines)?)
+        }
+        ObjectName::Flags => {
+            let flags = Flags::make(size)?;
+            Ok(count_lines(alloc, flags, setting, means, lines)?)
         }
     }
 }

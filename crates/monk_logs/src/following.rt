@@ -21,7 +21,7 @@ use crate::steps::line_behind;
 use crate::verdict::LogVerdict;
 use monk_audit::{AuditFault, Replay, rules_by_name};
 use monk_kinds::KindName;
-use monk_object::{Book, Buffer, Guarded, ObjectName, Shop};
+use monk_object::{Book, Buffer, Flags, Guarded, ObjectName, Shop};
 use std::alloc::{AllocError, Global};
 
 /// Judges the lines one after the other, over the object in its opening state. Where they fit and events are kept, those of a
@@ -96,6 +96,10 @@ pub(crate) fn follow_log(
         ObjectName::Shop => {
             let shop = Shop::make(size)?;
             Ok(follow(alloc, shop, setting, lines, past)?)
+        }
+        ObjectName::Flags => {
+            let flags = Flags::make(size)?;
+            Ok(follow(alloc, flags, setting, lines, past)?)
         }
     }
 }

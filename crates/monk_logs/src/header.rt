@@ -3,7 +3,7 @@
 ghost use Rattle.std.specs.Prelude.{◌≡◌};
 ghost use Rattle.monk_object.specs.Names.{object_word, objects};
 ghost use Rattle.monk_history.specs.Text.Words.{Reads, one_of};
-ghost use Rattle.monk_logs.specs.Log.{LogHeading, IsLogHeading};
+ghost use Rattle.monk_logs.specs.Log.{LogHeading, IsLogHeading, log_version};
 ghost use Rattle.monk_logs.specs.Log.Reading.{log_header_at, log_heading_of};
 
 use monk_history::lines::{Flaw, Head, LineWords};
@@ -98,12 +98,15 @@ fn log_header(words: &mut LineWords<'_>) -> Result<LogHeader, Flaw>
     ensures { Reads result words.new (log_header_at words.old) }
 {
     words.literal(b"log")?;
-    words.literal(b"1")?;
+    let version = words.byte()?;
     let seats = words.byte()?;
     let conds = words.byte()?;
     let object = object(words)?;
     let size = words.byte()?;
     words.end()?;
+    if version != log_version(object) {
+        return Err(Flaw::Word);
+    }
     LogHeader::new(seats, conds, object, size).ok_or(Flaw::Word)
 }
 
@@ -113,4 +116,14 @@ fn object(words: &mut LineWords<'_>) -> Result<ObjectName, Flaw>
 {
     let word = words.next().ok_or(Flaw::Word)?;
     ObjectName::of_text(word).ok_or(Flaw::Word)
+}
+
+/// The version of the logs that name the object.
+fn log_version(object: ObjectName) -> u8
+    ensures { result ≡ log_version object }
+{
+    match object {
+        ObjectName::Buffer | ObjectName::Book | ObjectName::Shop => 1,
+        ObjectName::Flags => 2,
+    }
 }

@@ -20,7 +20,8 @@ pub const MOST_LOG_LINES: u32 = MOST_LINES;
 /// The header and the lines of the log, or the first fault of its text.
 ///
 /// Each line ends by one byte 10, and exactly one byte 32 separates the words of a line. The first line is
-/// `log 1 SEATS CONDS OBJECT SIZE`, as behind the kind in the header of a history. Each further line is one of
+/// `log VERSION SEATS CONDS OBJECT SIZE`, as behind the kind in the header of a history; the version is 2 where the object is
+/// flags, else 1. Each further line is one of
 ///
 /// - `enter SEAT`, `resume SEAT`, `lapse SEAT`, `leave SEAT`;
 /// - `wait SEAT COND`, `signal SEAT COND`, `broadcast SEAT COND`, `until SEAT PRED`;

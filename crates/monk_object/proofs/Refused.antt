@@ -4,9 +4,10 @@ use Rattle.std.specs.Prelude.{nat_lt}
 use Rattle.monk_object.specs.Buffer.{PUT, TAKE, take_reply}
 use Rattle.monk_object.specs.Book.{book_serves, book_served}
 use Rattle.monk_object.specs.Shop.{shop_serves, shop_served}
+use Rattle.monk_object.specs.Flags.{flags_serves}
 use Rattle.monk_object.specs.Laws.{IsUnchangedByRefusal}
 use Rattle.monk_object.specs.declared.name.ObjectName.{ObjectName}
-use Rattle.monk_object.specs.declared.name.ObjectName.TheVariants.{Buffer, Book, Shop}
+use Rattle.monk_object.specs.declared.name.ObjectName.TheVariants.{Buffer, Book, Shop, Flags}
 use Rattle.monk_object.specs.declared.op.Op.{Op}
 
 items_stay : (put take room : Bool) (items : List ℕ) (arg : ℕ) → ◌≡◌ {A = ℕ} (cond put (cond room 1 0) (cond take (take_reply items) 0)) 0
@@ -35,3 +36,6 @@ refused Shop (size ∷ []) op e = refl
 refused Shop (size ∷ sitting ∷ []) op e = refl
 refused Shop (size ∷ sitting ∷ chair ∷ more) op e =
     state_stays (shop_serves size sitting chair op.code) (shop_served size sitting chair op.code) (size ∷ sitting ∷ chair ∷ more) e
+refused Flags [] op e = refl
+refused Flags (size ∷ []) op e = refl
+refused Flags (size ∷ bits ∷ more) op e = state_stays (flags_serves size op) (size ∷ op.arg ∷ []) (size ∷ bits ∷ more) e

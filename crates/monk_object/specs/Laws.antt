@@ -1,12 +1,13 @@
 -- What holds of every list of operations on an object made with some size
-use Rattle.std.specs.Prelude.{◌≡◌, ℕ, ◌+◌, ◌-◌, ◌≤◌, ◌==◌, ◌⊎◌, List, [], ◌∷◌, ◌++◌, length, map, filter, if◌then◌else◌}
+use Rattle.std.specs.Prelude.{◌≡◌, ℕ, ◌+◌, ◌-◌, ◌^◌, ◌<◌, ◌≤◌, ◌==◌, ◌⊎◌, List, [], ◌∷◌, ◌++◌, length, map, filter, if◌then◌else◌}
 use Rattle.monk_object.specs.Buffer.{PUT, TAKE}
 use Rattle.monk_object.specs.Book.{START_READ, END_READ, START_WRITE, END_WRITE}
 use Rattle.monk_object.specs.Shop.{SIT, CALL, FINISH, DEPART}
+use Rattle.monk_object.specs.Flags.{SET}
 use Rattle.monk_object.specs.Names.{meaning_named, opening_named}
 use Rattle.monk_object.specs.Runs.{Answered, state_after, answers_of, is_done, times_done}
 use Rattle.monk_object.specs.declared.name.ObjectName.{ObjectName}
-use Rattle.monk_object.specs.declared.name.ObjectName.TheVariants.{Buffer, Book, Shop}
+use Rattle.monk_object.specs.declared.name.ObjectName.TheVariants.{Buffer, Book, Shop, Flags}
 use Rattle.monk_object.specs.declared.op.Op.{Op}
 
 -- of the object of that name and size: its state after the operations, and these with their replies
@@ -51,6 +52,17 @@ pub record LosesNoCustomer (size : ℕ) (ops : List Op) : Type 0 where
   pub sat : times_done SIT (acts_of Shop size ops) ≡ times_done CALL (acts_of Shop size ops) + sitting
   pub called : times_done CALL (acts_of Shop size ops) ≡ times_done FINISH (acts_of Shop size ops) + (if chair == 1 then 1 else 0)
   pub finished : times_done FINISH (acts_of Shop size ops) ≡ times_done DEPART (acts_of Shop size ops) + (if chair == 2 then 1 else 0)
+
+abbrev pub bits_set : List Answered → List ℕ
+bits_set acts = map (λ act. act.op.arg) (filter (is_done SET) acts)
+
+-- flags: the bits are those of the last set that was done, and none before the first; there is a flag for each
+pub record HoldsTheLastSet (size : ℕ) (ops : List Op) : Type 0 where
+  pub bits : ℕ
+  pub earlier : List ℕ
+  pub state : state_of Flags size ops ≡ size ∷ bits ∷ []
+  pub in_order : 0 ∷ bits_set (acts_of Flags size ops) ≡ earlier ++ bits ∷ []
+  pub within : bits < 2 ^ size
 
 -- an operation that is answered 0 changes nothing
 abbrev pub IsUnchangedByRefusal : ObjectName → List ℕ → Op → Type 0

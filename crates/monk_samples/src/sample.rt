@@ -1,4 +1,5 @@
 ghost use Rattle.std.specs.Prelude.{◌≡◌};
+ghost use Rattle.monk_history.specs.Text.{object_version};
 ghost use Rattle.monk_samples.specs.Samples.{sample_object};
 
 use monk_object::ObjectName;
@@ -15,9 +16,10 @@ pub enum Sample {
 }
 
 impl Sample {
-    /// The object that the sample's monitor guards.
+    /// The object that the sample's monitor guards. Each version of a text names it.
     pub fn object(self) -> ObjectName
-        ensures { result ≡ sample_object self }
+        ensures object { result ≡ sample_object self }
+        ensures early { object_version result ≡ 1 }
     {
         match self {
             Sample::Buffer => ObjectName::Buffer,

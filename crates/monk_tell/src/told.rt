@@ -16,7 +16,7 @@ use crate::standing::situation;
 use crate::telling::Telling;
 use monk_audit::{AuditFault, Replay, Verdict, audit, rules_by_name};
 use monk_history::{Event, Header};
-use monk_object::{Book, Buffer, Listed, ObjectName, Shop};
+use monk_object::{Book, Buffer, Flags, Listed, ObjectName, Shop};
 use std::alloc::{AllocError, Global};
 
 /// How the monitor stands after the events, which are legal, as a replay and for a reader.
@@ -161,6 +161,10 @@ pub fn tell(alloc: Global, header: &Header, events: &[Event]) -> Result<Telling,
         ObjectName::Shop => {
             let shop = Shop::make(size)?;
             Ok(tell_over(alloc, header, shop, verdict, events)?)
+        }
+        ObjectName::Flags => {
+            let flags = Flags::make(size)?;
+            Ok(tell_over(alloc, header, flags, verdict, events)?)
         }
     }
 }

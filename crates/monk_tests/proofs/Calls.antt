@@ -6,7 +6,7 @@ use Rattle.monk_kinds.specs.declared.name.KindName.{KindName}
 use Rattle.monk_object.specs.Names.{meaning_named}
 use Rattle.monk_object.specs.declared.name.ObjectName.TheVariants.{Buffer}
 use Rattle.monk_history.specs.Text.{Heading, heading}
-use Rattle.monk_history.specs.Text.Reading.{heading_of}
+use Rattle.monk_history.specs.Text.Reading.{first_heading_of}
 use Rattle.monk_history.specs.Meaning.Legal.{IsLegal}
 use Rattle.monk_history.specs.Meaning.Named.{named_monitor}
 use Rattle.monk_history.specs.Meaning.Reasons.{IsAllowed}
@@ -31,6 +31,6 @@ made_is true x y made = cc
 made_is false x y made = absurd cc
 
 -- a header that was made has the numbers that were given
-pub header_made : (n : KindName) (seats conds size : ℕ) (h : Heading) → heading_of 1 n seats conds Buffer size ≡ Some h
+pub header_made : (n : KindName) (seats conds size : ℕ) (h : Heading) → first_heading_of n seats conds Buffer size ≡ Some h
     → h ≡ heading 1 n seats conds Buffer size
 header_made n seats conds size h made = made_is _ (heading 1 n seats conds Buffer size) h made

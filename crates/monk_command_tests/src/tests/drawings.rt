@@ -15,7 +15,13 @@ struct Drawing<'a> {
     status: u8,
 }
 
-static DRAWINGS: [Drawing<'static>; 14] = [
+static DRAWINGS: [Drawing<'static>; 15] = [
+    Drawing {
+        input: b"monk 3 PIS 2 0 flags 2\nenter 0 free\nact 0 0 1 1\nuntil 0 1 entry\nenter 1 free\nact 1 0 2 1\nleave 1 until 0\nresume 0 until\nact 0 0 1 1\nleave 0 entry\n",
+        marks: 9,
+        says: "<title>5: act 1 0 2 1</title>\n<text class=\"act\" y=\"-17\">set</text>\n<text class=\"note\" y=\"25\">2, replied 1</text></g>\n",
+        status: 0,
+    },
     Drawing {
         input: b"monk 1 PB 2 2 buffer 1\nenter 0 free\nact 0 1 0 0\nwait 0 1 entry\nenter 1 free\nact 1 0 7 1\nsignal 1 1 waiter 0\nresume 0 waiter\nact 0 1 0 8\nleave 0 signaller 1\nresume 1 signaller\nleave 1 entry\n",
         marks: 11,

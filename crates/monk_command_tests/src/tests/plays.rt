@@ -117,12 +117,12 @@ fn plays_are_played(rt: HostRuntime) -> Result<(), Fail> {
     are_answered(&rt, &PLAYS)
 }
 
-/// Whether a visit is played under the kind over the object, and what is written of it is legal.
-fn is_visited(rt: &HostRuntime, kind: &str, object: &str) -> Result<bool, Fail> {
+/// Whether a visit is played under the kind over the object, and what is written of it in that version is legal.
+fn is_visited(rt: &HostRuntime, version: u8, kind: &str, object: &str) -> Result<bool, Fail> {
     let commands = "0 arrive\n0 out\n0 act 0 5\n0 leave entry\n0 drop\n";
-    let play = format!(in rt.alloc(); "play 1 {kind} 2 1 {object} 8\n{commands}")?;
+    let play = format!(in rt.alloc(); "play {version} {kind} 2 1 {object} 8\n{commands}")?;
     let events = "enter 0 free\nact 0 0 5 1\nleave 0 entry\n";
-    let history = format!(in rt.alloc(); "monk 1 {kind} 2 1 {object}\n{events}")?;
+    let history = format!(in rt.alloc(); "monk {version} {kind} 2 1 {object}\n{events}")?;
     let visit = Job {
         name: "a visit",
         task: Task::Play,
@@ -147,8 +147,9 @@ fn each_kind_and_object(rt: HostRuntime) -> Result<(), Fail> {
         "PB", "NPB", "PNB", "NPNB", "PQB", "NPQB", "PIR", "NPIR", "PIS", "NPIS",
     ] {
         for object in ["buffer 64", "book 32", "shop 64"] {
-            assert!(rt; is_visited(&rt, kind, object)?);
+            assert!(rt; is_visited(&rt, 1, kind, object)?);
         }
+        assert!(rt; is_visited(&rt, 3, kind, "flags 32")?);
     }
     Ok(())
 }

@@ -127,7 +127,7 @@ fn is_refused(alloc: Global, words: &[&str]) -> bool {
 }
 
 /// Words that ask for nothing; of a run also a number out of range, and another kind or sample.
-static NOTHING: [&[&str]; 34] = [
+static NOTHING: [&[&str]; 35] = [
     &["monk", "adit"],
     &["monk", "help"],
     &["monk", "--help"],
@@ -153,6 +153,7 @@ static NOTHING: [&[&str]; 34] = [
     &["monk", "run", "pb", "buffer", "8", "100"],
     &["monk", "run", "PB", "Buffer", "8", "100"],
     &["monk", "run", "PB", "queue", "8", "100"],
+    &["monk", "run", "PB", "flags", "8", "100"],
     &["monk", "run", "PB", "buffer", "1", "100"],
     &["monk", "run", "PB", "buffer", "17", "100"],
     &["monk", "run", "PB", "buffer", "258", "100"],

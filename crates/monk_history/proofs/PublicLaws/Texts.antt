@@ -10,8 +10,8 @@ pub use Rattle.monk_history.proofs.TextLaws.HistoryText.{text_again, text_read}
 pub use Rattle.monk_history.proofs.TextLaws.LineCuts.{AreWords, IsWord, IsWord-decimal}
 -- Reading a text line after line, as a loop does, whatever its lines hold.
 pub use Rattle.monk_history.proofs.TextLaws.LineSteps.{behind, lines_behind}
--- The newest version has a line of each event.
-pub use Rattle.monk_history.proofs.TextLaws.NewestVersion.{upgraded_text}
+-- An upgraded header has a line of each event.
+pub use Rattle.monk_history.proofs.TextLaws.Upgrading.{upgraded_text}
 -- A text that comes in pieces: its header, and its end.
 pub use Rattle.monk_history.proofs.TextLaws.PieceLaws.{head_missing, head_opens, head_refused, items_end, items_unfinished}
 -- No word of an event or of a header has a byte 32 or 10.

@@ -298,6 +298,7 @@ any_text limit =
         header_fits = record {
           some_version = omega arith;
           version = omega arith;
+          named = omega arith;
           some_seat = omega arith;
           seats = omega arith;
           conds = omega arith;

@@ -6,13 +6,13 @@ use Rattle.std.proofs.lemmas.Bool.{leb-true, le-leb}
 use Rattle.monk_kinds.specs.declared.name.KindName.{KindName}
 use Rattle.monk_kinds.specs.declared.name.KindName.TheVariants.{Pb, Npb, Pnb, Npnb, Pqb, Npqb, Pir, Npir, Pis, Npis}
 use Rattle.monk_object.specs.declared.name.ObjectName.{ObjectName}
-use Rattle.monk_object.specs.declared.name.ObjectName.TheVariants.{Buffer, Book, Shop}
+use Rattle.monk_object.specs.declared.name.ObjectName.TheVariants.{Buffer, Book, Shop, Flags}
 use Rattle.monk_kinds.specs.Names.{kind_word, with_text, kinds}
 use Rattle.monk_object.specs.Names.{object_word, objects}
 use Rattle.monk_history.specs.Limits.{newest_version, most_seats, most_conds}
-use Rattle.monk_history.specs.Text.{Heading, heading, part_words, header_words, IsHeading}
+use Rattle.monk_history.specs.Text.{Heading, heading, object_version, part_words, header_words, IsHeading}
 use Rattle.monk_history.specs.Text.Words.{◌>>=◌, Word, Taken, number_at, with_rest, one_of, literal_at, end_at}
-use Rattle.monk_history.specs.Text.Reading.{heading_of, parts_at, header_at}
+use Rattle.monk_history.specs.Text.Reading.{first_heading_of, heading_of, parts_at, header_at}
 use Rattle.monk_history.proofs.TextLaws.LineCuts.{both}
 use Rattle.monk_history.proofs.TextLaws.WordReaders.{bind_ok, ok_is, number_takes, number_again, one_of_takes}
 use Rattle.monk_history.proofs.TextLaws.WordReaders.{one_of_again, made_takes, literal_takes, end_takes}
@@ -33,22 +33,25 @@ pub object_again : (o : ObjectName) → with_text object_word objects (object_wo
 object_again Buffer = refl
 object_again Book = refl
 object_again Shop = refl
+object_again Flags = refl
 
 heading_fits : (v : ℕ) (k : KindName) (s c : ℕ) (o : ObjectName) (z : ℕ) (ws : List Word) (x : Heading × List Word) → z ≤ 255
     → with_rest ws (heading_of v k s c o z) ≡ Ok x → (x ≡ (heading v k s c o z, ws)) × IsHeading (heading v k s c o z)
 heading_fits v k s c o z ws x le e =
-    let versioned = nat_le 1 v && nat_le v newest_version in
+    let versioned = nat_le 1 v && nat_le v newest_version && nat_le (object_version o) v in
     let h = made_takes (versioned && nat_le 1 s && nat_le s most_seats && nat_le c most_conds && nat_le 1 z)
     (heading v k s c o z) ws x e in
     let p = both (versioned && nat_le 1 s && nat_le s most_seats && nat_le c most_conds) (nat_le 1 z) h.0 in
     let q = both (versioned && nat_le 1 s && nat_le s most_seats) (nat_le c most_conds) p.0 in
     let r = both (versioned && nat_le 1 s) (nat_le s most_seats) q.0 in
     let t = both versioned (nat_le 1 s) r.0 in
-    let u = both (nat_le 1 v) (nat_le v newest_version) t.0 in (
+    let n = both (nat_le 1 v && nat_le v newest_version) (nat_le (object_version o) v) t.0 in
+    let u = both (nat_le 1 v) (nat_le v newest_version) n.0 in (
       h.1,
       record {
         some_version = leb-true _ _ u.0;
         version = leb-true _ _ u.1;
+        named = leb-true _ _ n.1;
         some_seat = leb-true _ _ t.1;
         seats = leb-true _ _ r.1;
         conds = leb-true _ _ q.1;
@@ -57,6 +60,12 @@ heading_fits v k s c o z ws x le e =
         size = le;
       },
     )
+
+pub first_is : (k : KindName) (s c : ℕ) (o : ObjectName) (z : ℕ) → heading_of (object_version o) k s c o z ≡ first_heading_of k s c o z
+first_is k s c Buffer z = refl
+first_is k s c Book z = refl
+first_is k s c Shop z = refl
+first_is k s c Flags z = refl
 
 -- the steps of the parts, each with those after it
 abbrev Numbered : Type 0
@@ -111,6 +120,7 @@ heading_again h fits =
     rw (
       le-leb 1 h.version fits.some_version,
       le-leb h.version newest_version fits.version,
+      le-leb (object_version h.object) h.version fits.named,
       le-leb 1 h.seats fits.some_seat,
       le-leb h.seats most_seats fits.seats,
       le-leb h.conds most_conds fits.conds,

@@ -1,10 +1,11 @@
-//! Which events the versions of a text have.
+//! Which events and objects the versions of a text have.
 
 ghost use Rattle.std.specs.Prelude.{◌≡◌};
-ghost use Rattle.monk_history.specs.Text.{first_version, is_writable};
+ghost use Rattle.monk_history.specs.Text.{first_version, object_version, is_writable};
 
 use crate::event::Event;
 use crate::text::header::Header;
+use monk_object::ObjectName;
 
 /// The first version of a text that has a line of the event.
 fn first_version(event: Event) -> u8
@@ -23,7 +24,17 @@ fn first_version(event: Event) -> u8
     }
 }
 
-/// Whether the header and the events have a text: the header's version is 2, or none of the events is an
+/// The first version of a text that names the object.
+pub(crate) fn object_version(object: ObjectName) -> u8
+    ensures { result ≡ object_version object }
+{
+    match object {
+        ObjectName::Buffer | ObjectName::Book | ObjectName::Shop => 1,
+        ObjectName::Flags => 3,
+    }
+}
+
+/// Whether the header and the events have a text: the header's version is 2 or more, or none of the events is an
 /// [`Event::SignalAll`] or an [`Event::SignalWait`].
 ///
 /// It looks at the events up to the first that has no line in the header's version, each once, and takes no memory.

@@ -1,8 +1,9 @@
 -- No word of a line or of a log's first line has a byte 32 or 10.
 use Rattle.std.proofs.Common.{refl, arith}
 use Rattle.monk_history.proofs.PublicLaws.Texts.{AreWords, IsWord-decimal, decimal_word, object_is_word}
-use Rattle.monk_logs.specs.Log.{LogHeading, IsLogHeading, log_header_words, log_words, LineFits}
+use Rattle.monk_logs.specs.Log.{LogHeading, IsLogHeading, log_header_words, log_version, log_words, LineFits}
 use Rattle.monk_logs.specs.declared.line.LogLine.{LogLine}
+use Rattle.monk_logs.proofs.LogLaws.HeaderReading.{small_version}
 use Rattle.monk_logs.specs.declared.line.LogLine.TheVariants.{Enter, Resume, Lapse, Leave, Wait, Signal, Broadcast, Until, Act}
 
 pub line_are_words : (l : LogLine) → LineFits l → AreWords (log_words l)
@@ -25,6 +26,7 @@ line_are_words (Act s op reply) fits =
 pub header_are_words : (h : LogHeading) → IsLogHeading h → AreWords (log_header_words h)
 header_are_words h fits =
     rw (
+      decimal_word (log_version h.object) (small_version h.object),
       decimal_word h.seats (omega (arith, fits.seats)),
       decimal_word h.conds (omega (arith, fits.conds)),
       object_is_word h.object,

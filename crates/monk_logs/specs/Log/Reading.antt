@@ -1,5 +1,5 @@
 -- How the first line and the others of a log are read from their words, and the whole log from its text.
-use Rattle.std.specs.Prelude.{ℕ, List, [], ◌∷◌, ◌&&◌, Option, Some, None, Result, Ok, nat_le, if◌then◌else◌, codes}
+use Rattle.std.specs.Prelude.{ℕ, List, [], ◌∷◌, ◌==◌, ◌&&◌, Option, Some, None, Result, Ok, nat_le, if◌then◌else◌, codes}
 use Rattle.std.specs.Global.{Vec}
 use Rattle.monk_object.specs.declared.name.ObjectName.{ObjectName}
 use Rattle.monk_object.specs.Names.{object_word, objects}
@@ -8,7 +8,7 @@ use Rattle.monk_history.specs.declared.text.fault.ReadFault.{ReadFault}
 use Rattle.monk_history.specs.Text.Lines.{lines_of, lines_at}
 use Rattle.monk_history.specs.Text.Reading.{act_at}
 use Rattle.monk_history.specs.Text.Words.{◌>>=◌, Word, Taken, number_at, one_of, literal_at, end_at, with_rest}
-use Rattle.monk_logs.specs.Log.{LogHeading, log_heading}
+use Rattle.monk_logs.specs.Log.{LogHeading, log_heading, log_version}
 use Rattle.monk_logs.specs.declared.line.LogLine.{LogLine}
 use Rattle.monk_logs.specs.declared.line.LogLine.TheVariants.{Enter, Resume, Lapse, Leave, Wait, Signal, Broadcast, Until, Act}
 use Rattle.monk_logs.specs.declared.verb.Verb.{Verb}
@@ -61,13 +61,13 @@ log_heading_of seats conds object size =
 unfoldable pub log_header_at : List Word → Taken LogHeading
 log_header_at ws = do
   l ← literal_at (codes "log") ws
-  v ← literal_at (codes "1") l.1
+  v ← number_at 255 l.1
   s ← number_at 255 v.1
   c ← number_at 255 s.1
   o ← one_of object_word objects c.1
   z ← number_at 255 o.1
   end ← end_at z.1
-  with_rest end.1 (log_heading_of s.0 c.0 o.0 z.0)
+  with_rest end.1 (if v.0 == log_version o.0 then log_heading_of s.0 c.0 o.0 z.0 else None)
 
 -- ---- a text
 

@@ -21,7 +21,7 @@ fn audited(
 #[test]
 fn each_kind_and_object_is_audited(rt: HostRuntime) {
     for kind in KindName::ALL {
-        for object in [ObjectName::Buffer, ObjectName::Book, ObjectName::Shop] {
+        for object in ObjectName::ALL {
             assert!(rt; audited(&rt, kind, object, 1) == Some(Ok(Verdict::Legal(2))));
             assert!(rt; audited(&rt, kind, object, 65) == Some(Err(AuditFault::Object)));
         }

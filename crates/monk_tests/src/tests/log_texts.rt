@@ -89,6 +89,22 @@ fn a_text_is_counted(rt: HostRuntime) -> Result<(), Fail> {
     Ok(())
 }
 
+/// Seat 0 waits until flag 1 is set, and seat 1 sets it and signals nobody.
+const FLAGGED: &[u8] =
+    b"log 2 2 1 flags 2\nenter 0\nwait 0 0\nenter 1\nact 1 0 2 1\nact 1 0 4 0\nleave 1\n";
+
+#[test]
+fn a_log_of_flags(rt: HostRuntime) -> Result<(), Fail> {
+    let log = LogLines::check(FLAGGED)?;
+    assert!(rt; log.header().object() == ObjectName::Flags);
+    assert!(rt; log.fit(rt.alloc(), KindName::Npnb, Lapses::Told)? == Fit::In(Order::Fifo));
+    let second = [WaitsFor { cond: 0, pred: 1 }];
+    assert!(rt; log.count(rt.alloc(), KindName::Npnb, &second)?.missed == Some(6));
+    let first = [WaitsFor { cond: 0, pred: 0 }];
+    assert!(rt; log.count(rt.alloc(), KindName::Npnb, &first)?.missed == None);
+    Ok(())
+}
+
 #[test]
 fn too_great_an_object_of_a_text(rt: HostRuntime) -> Result<(), Fail> {
     let log = LogLines::check(b"log 1 2 1 book 33\n")?;

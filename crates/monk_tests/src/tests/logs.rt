@@ -51,10 +51,13 @@ fn each_line_of_a_log(rt: HostRuntime) -> Result<(), Fail> {
 }
 
 /// Texts, and what is told of them.
-static FAULTY_LOGS: [(&[u8], u8, u32); 9] = [
+static FAULTY_LOGS: [(&[u8], u8, u32); 12] = [
     (b"", 1, 1),
     (b"log 1 2 1 buffer 1", 4, 1),
     (b"log 2 2 1 buffer 1\n", 1, 1),
+    (b"log 1 2 1 flags 1\n", 1, 1),
+    (b"log 2 2 1 flags 1\nact 0 0 1 1\n", 0, 1),
+    (b"log 3 2 1 flags 1\n", 1, 1),
     (b"log 1 33 1 buffer 1\n", 1, 1),
     (b"log 1 2 1 buffer 1\n", 0, 0),
     (b"log 1 2 1 buffer 1\nenter 0 free\n", 2, 2),
@@ -67,7 +70,8 @@ static FAULTY_LOGS: [(&[u8], u8, u32); 9] = [
 fn faulty_logs(rt: HostRuntime) {
     for (text, number, line) in FAULTY_LOGS.iter() {
         assert!(rt; outcome(&rt, text) == (*number, *line));
-        assert!(rt; checked(text) == (*number, *line));
+        let whole = if *number == 0 { 0 } else { *line };
+        assert!(rt; checked(text) == (*number, whole));
     }
 }
 
@@ -75,6 +79,7 @@ fn faulty_logs(rt: HostRuntime) {
 fn headers_of_logs(rt: HostRuntime) {
     assert!(rt; LogHeader::new(1, 0, ObjectName::Buffer, 1).is_some());
     assert!(rt; LogHeader::new(32, 8, ObjectName::Book, 255).is_some());
+    assert!(rt; LogHeader::new(2, 0, ObjectName::Flags, 32).is_some());
     assert!(rt; LogHeader::new(0, 0, ObjectName::Buffer, 1).is_none());
     assert!(rt; LogHeader::new(33, 0, ObjectName::Buffer, 1).is_none());
     assert!(rt; LogHeader::new(1, 9, ObjectName::Buffer, 1).is_none());

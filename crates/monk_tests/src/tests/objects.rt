@@ -1,5 +1,5 @@
 use super::marks::{from_here, up_to_here};
-use monk_object::{Book, Buffer, Guarded, ObjectFault, ObjectName, Op, Shop};
+use monk_object::{Book, Buffer, Flags, Guarded, ObjectFault, ObjectName, Op, Shop};
 use std::test::Fail;
 
 /// Whether the operations in turn, each a code with an argument, have these replies.
@@ -90,6 +90,48 @@ fn shop_of_one(rt: HostRuntime) -> Result<(), Fail> {
     Ok(())
 }
 
+/// Which predicates hold, as the bits of a number.
+fn bits_of<T: Guarded>(object: &T) -> u32 {
+    let mut bits = 0u32;
+    for pred in 0..T::PREDICATES {
+        if object.holds(pred) {
+            bits |= 1u32 << (pred & 31);
+        }
+    }
+    bits
+}
+
+#[test]
+fn flags_of_three(rt: HostRuntime) -> Result<(), Fail> {
+    let mut flags = Flags::make(3)?;
+    from_here(&rt)?;
+    assert!(rt; bits_of(&flags) == 0);
+    assert!(rt; replies_are(&mut flags, &[(Flags::SET, 5, 1), (Flags::SET, 8, 0)]));
+    assert!(rt; bits_of(&flags) == 5);
+    assert!(rt; replies_are(&mut flags, &[(Flags::SET, 7, 1), (Flags::SET, u32::MAX, 0)]));
+    assert!(rt; bits_of(&flags) == 7);
+    assert!(rt; replies_are(&mut flags, &[(Flags::SET, 2, 1)]));
+    assert!(rt; bits_of(&flags) == 2);
+    up_to_here(&rt)?;
+    Ok(())
+}
+
+/// The least and the greatest number of flags, each with the greatest bits.
+#[test]
+fn one_flag_and_all(rt: HostRuntime) -> Result<(), Fail> {
+    let mut one = Flags::make(1)?;
+    let mut all = Flags::make(32)?;
+    from_here(&rt)?;
+    assert!(rt; replies_are(&mut one, &[(Flags::SET, 1, 1), (Flags::SET, 2, 0)]));
+    assert!(rt; bits_of(&one) == 1);
+    assert!(rt; replies_are(&mut all, &[(Flags::SET, 1 << 31, 1)]));
+    assert!(rt; bits_of(&all) == 1 << 31);
+    assert!(rt; replies_are(&mut all, &[(Flags::SET, u32::MAX, 1)]));
+    assert!(rt; bits_of(&all) == u32::MAX);
+    up_to_here(&rt)?;
+    Ok(())
+}
+
 /// The number of the fault, or 0 where there is none.
 fn number_of<T>(made: &Result<T, ObjectFault>) -> u8 {
     match made {
@@ -107,15 +149,17 @@ fn limits_of_sizes(rt: HostRuntime) {
     }
     for (size, fault) in [(0, 1), (1, 0), (32, 0), (33, 1)] {
         assert!(rt; number_of(&Book::make(size)) == fault);
+        assert!(rt; number_of(&Flags::make(size)) == fault);
     }
     assert!(rt; ObjectFault::Memory.number() == 2);
 }
 
 /// Each object, its name, and its greatest size.
-static NAMES: [(ObjectName, &[u8], u8); 3] = [
+static NAMES: [(ObjectName, &[u8], u8); 4] = [
     (ObjectName::Buffer, b"buffer", 64),
     (ObjectName::Book, b"book", 32),
     (ObjectName::Shop, b"shop", 64),
+    (ObjectName::Flags, b"flags", 32),
 ];
 
 #[test]

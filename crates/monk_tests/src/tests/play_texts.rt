@@ -12,6 +12,10 @@ const LOST_TICKET: &[u8] =
 const EACH: &[u8] =
     b"play 1 NPIS 32 8 shop 255 1048576\n255 arrive\n0 look\n1 out\n2 peek\n3 drop\n4 grant\n5 act 255 4294967295\n6 act 0 0\n7 leave entry\n8 wait 255 waiter\n9 signal 0 signaller\n10 signal-leave 255 entry\n11 until 3 waiter\n";
 
+/// The object that version 3 names besides, and actions of each version.
+const EACH_OF_VERSION_THREE: &[u8] =
+    b"play 3 PIS 2 0 flags 32 8\n0 act 0 4294967295\n0 until 31 entry\n0 signal-all 0\n";
+
 /// The fault's number and line, or 0 and the number of commands.
 fn outcome(rt: &HostRuntime, bytes: &[u8]) -> (u8, u32) {
     match read_play(rt.alloc(), bytes) {
@@ -87,6 +91,23 @@ fn each_action_of_version_two(rt: HostRuntime) -> Result<(), Fail> {
     Ok(())
 }
 
+#[test]
+fn each_action_of_version_three(rt: HostRuntime) -> Result<(), Fail> {
+    let (header, _, commands) = read_play(rt.alloc(), EACH_OF_VERSION_THREE)?;
+    assert!(rt; header.version() == 3 && header.object() == ObjectName::Flags);
+    let all = Op {
+        code: 0,
+        arg: u32::MAX,
+    };
+    let want = [
+        (0, Command::Act(all)),
+        (0, Command::Until(31, Pick::Entry)),
+        (0, Command::SignalAll(0)),
+    ];
+    assert!(rt; commands.as_slice() == want.as_slice());
+    Ok(())
+}
+
 /// What is told of the one text behind the other.
 fn outcome_of_both(rt: &HostRuntime, first: &[u8], second: &[u8]) -> Result<(u8, u32), Fail> {
     let mut text = Vec::from_slice(rt.alloc(), first)?;
@@ -114,7 +135,7 @@ fn actions_in_both_versions(rt: HostRuntime) -> Result<(), Fail> {
 }
 
 /// First lines, and what is told of them.
-static FIRST_LINES: [(&[u8], u8, u32); 12] = [
+static FIRST_LINES: [(&[u8], u8, u32); 16] = [
     (b"", 1, 1),
     (b"play 1 PB 1 0 buffer 1 2\n", 0, 0),
     (b"play 1 PB 1 0 buffer 1 1\n", 1, 1),
@@ -126,7 +147,11 @@ static FIRST_LINES: [(&[u8], u8, u32); 12] = [
     (b"play 1 PB 1 0 buffer 1 1", 4, 1),
     (b"play 2 PB 1 0 buffer 1 2\n", 0, 0),
     (b"play 0 PB 1 0 buffer 1 2\n", 1, 1),
-    (b"play 3 PB 1 0 buffer 1 2\n", 1, 1),
+    (b"play 3 PB 1 0 buffer 1 2\n", 0, 0),
+    (b"play 3 PIS 1 0 flags 1 2\n", 0, 0),
+    (b"play 2 PIS 1 0 flags 1 2\n", 1, 1),
+    (b"play 1 PIS 1 0 flags 1 2\n", 1, 1),
+    (b"play 4 PIS 1 0 flags 1 2\n", 1, 1),
 ];
 
 #[test]

@@ -20,6 +20,10 @@ const EACH: &[u8] =
 const EACH_OF_VERSION_TWO: &[u8] =
     b"monk 2 NPIR 32 8 shop 255\nenter 255 free\nsignal-all 255 255\nsignal-all 0 10\nsignal-wait 255 255 255 signaller 255\nsignal-wait 0 10 9 stay\nleave 0 entry\n";
 
+/// The object that version 3 names besides, and words of each version.
+const EACH_OF_VERSION_THREE: &[u8] =
+    b"monk 3 PIS 32 8 flags 32\nenter 0 free\nact 0 0 4294967295 1\nsignal-all 255 255\nsignal-wait 255 255 255 stay\nuntil 0 31 stay\nleave 0 entry\n";
+
 /// The fault's number and line, or 0 and the number of events.
 fn outcome(rt: &HostRuntime, bytes: &[u8]) -> (u8, u32) {
     match read(rt.alloc(), bytes) {
@@ -141,10 +145,50 @@ fn versions(rt: HostRuntime) -> Result<(), Fail> {
     let (new, events) = read(rt.alloc(), EACH_OF_VERSION_TWO)?;
     assert!(rt; (new.version(), new.upgraded().version()) == (2, 2));
     assert!(rt; writable(&new, &events) && !writable(&old, &events));
+    let (named, events) = read(rt.alloc(), EACH_OF_VERSION_THREE)?;
+    assert!(rt; (named.version(), named.upgraded().version()) == (3, 3));
+    assert!(rt; writable(&named, &events) && !writable(&old, &events));
     Ok(())
 }
 
-/// Lines that version 2 has besides, or that look like one, and what is told of each in both versions.
+/// Each object, and the version of a new header that names it.
+static FIRST_VERSIONS: [(ObjectName, u8); 4] = [
+    (ObjectName::Buffer, 1),
+    (ObjectName::Book, 1),
+    (ObjectName::Shop, 1),
+    (ObjectName::Flags, 3),
+];
+
+#[test]
+fn first_versions(rt: HostRuntime) -> Result<(), Fail> {
+    for (object, version) in FIRST_VERSIONS.iter() {
+        let Some(header) = Header::new(KindName::Pis, 1, 0, *object, 1) else {
+            return Err(Fail::new("no header"));
+        };
+        assert!(rt; header.version() == *version);
+    }
+    Ok(())
+}
+
+/// Headers of each object, and what is told of each in the three versions.
+static OBJECTS_OF_VERSIONS: [(&[u8], [(u8, u32); 3]); 4] = [
+    (b" PIS 2 0 buffer 1\n", [(0, 0), (0, 0), (0, 0)]),
+    (b" PIS 2 0 flags 1\n", [(1, 1), (1, 1), (0, 0)]),
+    (b" PIS 2 0 flags 0\n", [(1, 1), (1, 1), (1, 1)]),
+    (b" PIS 2 0 flag 1\n", [(1, 1), (1, 1), (1, 1)]),
+];
+
+#[test]
+fn objects_of_versions(rt: HostRuntime) -> Result<(), Fail> {
+    for (header, told) in OBJECTS_OF_VERSIONS.iter() {
+        assert!(rt; outcome_of_both(&rt, b"monk 1", header)? == told[0]);
+        assert!(rt; outcome_of_both(&rt, b"monk 2", header)? == told[1]);
+        assert!(rt; outcome_of_both(&rt, b"monk 3", header)? == told[2]);
+    }
+    Ok(())
+}
+
+/// Lines that version 2 has besides, or that look like one, and what is told of each in version 1 and in the later ones.
 static WORDS_OF_VERSION_TWO: [(&[u8], (u8, u32), (u8, u32)); 7] = [
     (b"signal-all 0 0\n", (2, 2), (0, 1)),
     (b"signal-all x 0\n", (2, 2), (3, 2)),
@@ -160,12 +204,13 @@ fn words_of_version_two(rt: HostRuntime) -> Result<(), Fail> {
     for (line, old, new) in WORDS_OF_VERSION_TWO.iter() {
         assert!(rt; outcome_of_both(&rt, b"monk 1 PIR 2 2 buffer 1\n", line)? == *old);
         assert!(rt; outcome_of_both(&rt, b"monk 2 PIR 2 2 buffer 1\n", line)? == *new);
+        assert!(rt; outcome_of_both(&rt, b"monk 3 PIR 2 2 buffer 1\n", line)? == *new);
     }
     Ok(())
 }
 
 /// The first words of texts of no version.
-static OTHER_VERSIONS: [&[u8]; 5] = [b"monk 0", b"monk 3", b"monk 02", b"monk 256", b"monk x"];
+static OTHER_VERSIONS: [&[u8]; 5] = [b"monk 0", b"monk 4", b"monk 02", b"monk 256", b"monk x"];
 
 #[test]
 fn other_versions(rt: HostRuntime) -> Result<(), Fail> {
@@ -191,7 +236,7 @@ fn is_written_again(rt: &HostRuntime, bytes: &[u8], step: usize) -> Result<bool,
 
 #[test]
 fn written_and_read(rt: HostRuntime) -> Result<(), Fail> {
-    for text in [RUN, EACH, EACH_OF_VERSION_TWO] {
+    for text in [RUN, EACH, EACH_OF_VERSION_TWO, EACH_OF_VERSION_THREE] {
         assert!(rt; is_written_again(&rt, text, 1)?);
         let long = repeated(&rt, text, 90)?;
         assert!(rt; is_written_again(&rt, &long, 4095)?);

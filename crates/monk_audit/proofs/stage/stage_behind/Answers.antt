@@ -2,11 +2,12 @@ use Rattle.std.proofs.Common.{◌<◌, ◌≤◌, ap, arith}
 use Rattle.monk_object.specs.Buffer.{buffer_meaning}
 use Rattle.monk_object.specs.Book.{book_meaning}
 use Rattle.monk_object.specs.Shop.{shop_meaning}
+use Rattle.monk_object.specs.Flags.{flags_meaning}
 use Rattle.monk_object.specs.Names.{most}
 use Rattle.monk_object.specs.declared.name.ObjectName.TheVariants as name
 use Rattle.monk_audit.specs.Pieces.{events_from}
 use Rattle.monk_audit.specs.declared.text_verdict.TextVerdict.TheVariants.{TooBig}
-use Rattle.monk_audit.proofs.PieceLaws.{begun, owed_book, owed_buffer, owed_found, owed_shop, too_big_verdict}
+use Rattle.monk_audit.proofs.PieceLaws.{begun, owed_book, owed_buffer, owed_flags, owed_found, owed_shop, too_big_verdict}
 use Rattle.monk_audit.proofs.stage.stage_behind.Goals as goal
 use Rattle.std.proofs.Common.{◌∙◌}
 
@@ -54,3 +55,16 @@ returns-in-Ok-make-2-clause-verdict c =
 
 pub returns-in-Ok-make-2-clause-sound : goal.returns-in-Ok-make-2-clause-sound
 returns-in-Ok-make-2-clause-sound c = c.in_ok-course.ensures.sound 3
+
+pub returns-in-Ok-make-3-clause-verdict : goal.returns-in-Ok-make-3-clause-verdict
+returns-in-Ok-make-3-clause-verdict c =
+    let fits : c.args.header.size ≤ most c.args.header.object =
+    omega (arith, c.if-size-greatest_size.false, c.greatest_size.ensures, ap most c.object.ensures, c.size-size.ensures.value) in
+    let made = c.in_ok-course.ensures in
+    λ x. owed_flags c.in_ok-course.course c.in-Ok-make-3.flags x
+    ∙ begun c.args.header c.in_ok-course.course name.Flags c.in-Ok-make-3.flags x made.header made.rules made.count
+    (made.opening flags_meaning c.in-Ok-make-3.flags) c.in-Flags.ensures
+    (rw c.size-size.ensures.value at c.in-Ok-make-3.ensures.made) fits
+
+pub returns-in-Ok-make-3-clause-sound : goal.returns-in-Ok-make-3-clause-sound
+returns-in-Ok-make-3-clause-sound c = c.in_ok-course.ensures.sound 32

@@ -1,8 +1,42 @@
-use Rattle.monk_draw.proofs.StretchLaws.{more_stretches, no_stretches}
+use Rattle.std.proofs.Common.{◌≡◌, ◌<◌, ◌∙◌, length, refl, ap, arith}
+use Rattle.std.proofs.lemmas.List.{length-set}
+use Rattle.monk_draw.specs.Seats.{moved, place_in, stay_in}
+use Rattle.monk_draw.specs.Stretches.{ended_below}
+use Rattle.monk_draw.specs.declared.place.Place.{Place}
+use Rattle.monk_draw.specs.declared.stay.Stay.{Stay}
+use Rattle.monk_draw.proofs.CourseLaws.{done_more, ended_more, kept_at, rest_more}
+use Rattle.monk_draw.proofs.StretchLaws.{more_stretches, no_stretches, same_stretches}
 use Rattle.monk_draw.proofs.scene.put_changes.Goals as goal
 
-pub loop-seat-preserved : goal.loop-seat-preserved
-loop-seat-preserved c = more_stretches _ _ _ _ _ _ c.loop-seat.invariant c.in_ok-put_change.ensures
-
 pub loop-seat-init : goal.loop-seat-init
-loop-seat-init c = no_stretches _ _
+unfolding ended_below
+loop-seat-init c = record {
+  page = no_stretches _ _;
+  count = c.requires.count;
+  done = λ s below. absurd (omega (arith, below));
+  rest = λ s above. refl;
+}
+
+pub loop-seat-preserved : goal.loop-seat-preserved
+loop-seat-preserved c =
+    let i = c.loop-seat.seat in
+    let kept = c.loop-seat.stays.items in
+    let stays = stay_in c.args.stays.now.items in
+    let places = place_in c.args.seats.now in
+    let below : i < length kept = omega (arith, c.loop-seat-test.true, c.loop-seat.invariant.count) in
+    let at : c.index-stay.result.now ≡ stays i =
+    kept_at kept i c.index-stay.result.now below c.index-stay.ensures ∙ c.loop-seat.invariant.rest i (omega arith) in
+    let now : c.in_ok-stays.field-0 ≡ moved (stays i) (places i) c.args.x =
+    c.in_ok-stays.ensures.stay
+    ∙ (ap (λ (stay : Stay). moved stay c.place.result c.args.x) at
+    ∙ ap (λ (place : Place). moved (stays i) place c.args.x) c.place.ensures) in
+    record {
+      page =
+          same_stretches _ _ _ _ _ _ (ended_more stays places c.args.x i c.index-stay.result.now c.place.result at c.place.ensures)
+          (more_stretches _ _ _ _ _ _ _ _ c.loop-seat.invariant.page c.in_ok-stays.ensures.page);
+      count = length-set kept i c.in_ok-stays.field-0 ∙ c.loop-seat.invariant.count;
+      done =
+          done_more kept (λ s. moved (stays s) (places s) c.args.x) i c.in_ok-stays.field-0 below c.loop-seat.invariant.done
+          now;
+      rest = rest_more kept stays i c.in_ok-stays.field-0 below c.loop-seat.invariant.rest;
+    }

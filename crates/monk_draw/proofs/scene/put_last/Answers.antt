@@ -1,8 +1,18 @@
-use Rattle.monk_draw.proofs.StretchLaws.{more_stretches, no_stretches}
+use Rattle.std.proofs.Common.{[], ◌∷◌, ◌++◌, refl}
+use Rattle.monk_draw.specs.Seats.{stay_in}
+use Rattle.monk_draw.specs.Stretches.{last_below, stretch_to}
+use Rattle.monk_draw.proofs.CourseLaws.{last_more}
+use Rattle.monk_draw.proofs.StretchLaws.{more_stretches, no_stretches, same_stretches}
 use Rattle.monk_draw.proofs.scene.put_last.Goals as goal
 
-pub loop-seat-preserved : goal.loop-seat-preserved
-loop-seat-preserved c = more_stretches _ _ _ _ _ _ c.loop-seat.invariant c.in_ok-put_stay.ensures
-
 pub loop-seat-init : goal.loop-seat-init
+unfolding last_below
 loop-seat-init c = no_stretches _ _
+
+pub loop-seat-preserved : goal.loop-seat-preserved
+loop-seat-preserved c =
+    let stays = stay_in c.args.stays.now in
+    let i = c.loop-seat.seat in
+    same_stretches (last_below stays c.args.end i ++ stretch_to i (stays i) c.args.end ∷ []) _ _ _ _ _
+    (last_more stays c.args.end i (stays i) refl)
+    (more_stretches (last_below stays c.args.end i) _ _ _ _ _ _ _ c.loop-seat.invariant c.in_ok-put_stay.ensures)

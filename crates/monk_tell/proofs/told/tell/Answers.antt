@@ -1,5 +1,5 @@
 use Rattle.std.proofs.Common.{◌∙◌, sym}
-use Rattle.monk_object.specs.declared.name.ObjectName.TheVariants.{Buffer, Book, Shop}
+use Rattle.monk_object.specs.declared.name.ObjectName.TheVariants.{Buffer, Book, Shop, Flags}
 use Rattle.monk_tell.proofs.TellLaws.{over_is}
 use Rattle.monk_tell.proofs.told.tell.Goals as goal
 
@@ -17,3 +17,8 @@ pub tell_over-requires-in-Shop-after_bounds : goal.tell_over-requires-in-Shop-af
 tell_over-requires-in-Shop-after_bounds c κs =
     over_is c.args.header.now Shop _ _ c.args.events.now c.in_ok-verdict.verdict (sym c.object.ensures ∙ c.in-Shop.is)
     c.size-size.ensures.value c.in_ok-shop-in-Shop.ensures.made c.in_ok-verdict.ensures.verdict
+
+pub tell_over-requires-in-Flags-after_bounds : goal.tell_over-requires-in-Flags-after_bounds
+tell_over-requires-in-Flags-after_bounds c κs =
+    over_is c.args.header.now Flags _ _ c.args.events.now c.in_ok-verdict.verdict (sym c.object.ensures ∙ c.in-Flags.is)
+    c.size-size.ensures.value c.in_ok-flags-in-Flags.ensures.made c.in_ok-verdict.ensures.verdict

@@ -3,12 +3,13 @@ use Rattle.std.proofs.lemmas.Result.{err_from_is_err_and}
 use Rattle.monk_object.specs.Buffer.{buffer_meaning}
 use Rattle.monk_object.specs.Book.{book_meaning}
 use Rattle.monk_object.specs.Shop.{shop_meaning}
+use Rattle.monk_object.specs.Flags.{flags_meaning}
 use Rattle.monk_audit.specs.declared.stage.Stage.TheVariants as stage
-use Rattle.monk_audit.proofs.PieceLaws.{found_faulty, found_step, judges_book, judges_buffer, judges_shop}
+use Rattle.monk_audit.proofs.PieceLaws.{found_faulty, found_step, judges_book, judges_buffer, judges_flags, judges_shop}
 use Rattle.monk_audit.proofs.PieceLaws.{judging_faulty, judging_step}
 use Rattle.monk_audit.proofs.stage.Stage.advance.Goals.{in-Opening+in_ok-open-in-Opening, in-Buffer+in_ok-judge_stage-in-Buffer}
 use Rattle.monk_audit.proofs.stage.Stage.advance.Goals.{in-Book+in_ok-judge_stage-in-Book, in-Shop+in_ok-judge_stage-in-Shop}
-use Rattle.monk_audit.proofs.stage.Stage.advance.Goals.{in-Found+in_ok-read_lines-in-Found}
+use Rattle.monk_audit.proofs.stage.Stage.advance.Goals.{in-Flags+in_ok-judge_stage-in-Flags, in-Found+in_ok-read_lines-in-Found}
 use Rattle.monk_audit.proofs.stage.Stage.advance.Goals as goal
 
 pub returns-in_err-judge_stage-in-Buffer-clause-fault : goal.returns-in_err-judge_stage-in-Buffer-clause-fault
@@ -34,6 +35,14 @@ returns-in_err-judge_stage-in-Shop-clause-fault c =
     rw (p.1, p.2) (judging_faulty stage.Shop shop_meaning judges_shop c.args.self.now c.in-Shop.course
     c.in-Shop.shop c.args.bytes.now c.in_err-judge_stage-in-Shop.field-0.0 c.in-Shop.is
     c.in_err-judge_stage-in-Shop.ensures.fault)
+
+pub returns-in_err-judge_stage-in-Flags-clause-fault : goal.returns-in_err-judge_stage-in-Flags-clause-fault
+returns-in_err-judge_stage-in-Flags-clause-fault c =
+    let p = err_from_is_err_and c.from_residual-in_err-judge_stage-in-Flags.result
+    c.from_residual-in_err-judge_stage-in-Flags.ensures.1 in
+    rw (p.1, p.2) (judging_faulty stage.Flags flags_meaning judges_flags c.args.self.now c.in-Flags.course
+    c.in-Flags.flags c.args.bytes.now c.in_err-judge_stage-in-Flags.field-0.0 c.in-Flags.is
+    c.in_err-judge_stage-in-Flags.ensures.fault)
 
 pub returns-in_err-read_lines-in-Found-clause-fault : goal.returns-in_err-read_lines-in-Found-clause-fault
 returns-in_err-read_lines-in-Found-clause-fault c =
@@ -61,6 +70,11 @@ returns-clause-step c = elim c.match-self.branch [
       (judging_step stage.Shop shop_meaning judges_shop _ c.args.self.now _ w.in-Shop.course _ w.in-Shop.shop _
       c.args.bytes.now _ w.in-Shop.is refl w.in_ok-judge_stage-in-Shop.ensures.sound
       w.in_ok-judge_stage-in-Shop.ensures.step)
+  | in-Flags+in_ok-judge_stage-in-Flags w ↦
+      rw (w.next-is, w.self-is)
+      (judging_step stage.Flags flags_meaning judges_flags _ c.args.self.now _ w.in-Flags.course _ w.in-Flags.flags _
+      c.args.bytes.now _ w.in-Flags.is refl w.in_ok-judge_stage-in-Flags.ensures.sound
+      w.in_ok-judge_stage-in-Flags.ensures.step)
   | in-Found+in_ok-read_lines-in-Found w ↦
       rw (w.next-is, w.self-is)
       (found_step c.args.self.now _ w.in-Found.header w.in-Found.count w.read_lines.new.count w.in-Found.field-2

@@ -1,7 +1,7 @@
 use Rattle.std.proofs.Common.{◌≡◌, ◌∙◌, ap, sym, [], ◌∷◌, ◌++◌, length}
 use Rattle.std.proofs.lemmas.Bool.{eqb-true}
 use Rattle.monk_object.specs.declared.name.ObjectName.TheVariants.{Buffer}
-use Rattle.monk_history.specs.Text.Reading.{heading_of}
+use Rattle.monk_history.specs.Text.Reading.{first_heading_of}
 use Rattle.monk_audit.specs.declared.verdict.Verdict.TheVariants.{Legal}
 use Rattle.monk_tests.proofs.Calls.{allowed_on, header_made}
 use Rattle.monk_tests.proofs.tests.floor_steps.is_allowed.Goals as goal
@@ -16,6 +16,6 @@ returns-in-Legal g c y =
     let many : c.in-Legal.count ≡ length events = eqb-true _ _ y in
     let is =
     header_made g.K.Kind.NAME size.seats size.conds 1 c.in-Some.header
-    (ap (λ n. heading_of 1 n size.seats size.conds Buffer 1) (sym c.NAME.ensures) ∙ sym c.new.ensures ∙ c.in-Some.is) in
+    (ap (λ n. first_heading_of n size.seats size.conds Buffer 1) (sym c.NAME.ensures) ∙ sym c.new.ensures ∙ c.in-Some.is) in
     allowed_on g.K.Kind.rules g.K.Kind.NAME size.seats size.conds 1 c.in-Some.header c.args.floor.now c.args.event events is
     g.K.Kind.are_named c.requires grown (c.in_ok-count.ensures.legal.0 (c.in-Legal.is ∙ ap Legal many))

@@ -1,5 +1,16 @@
-use Rattle.monk_history.proofs.TextLaws.NewestVersion.{all_writable}
+use Rattle.std.proofs.Common.{arith}
+use Rattle.monk_history.specs.Limits.{all_events_version}
+use Rattle.monk_history.specs.Text.{heading}
+use Rattle.monk_history.proofs.TextLaws.Upgrading.{all_writable}
 use Rattle.monk_history.proofs.text.header.Header.upgraded.Goals as goal
 
+pub returns-then-self-ge-ALL_EVENTS_VERSION-clause-all : goal.returns-then-self-ge-ALL_EVENTS_VERSION-clause-all
+returns-then-self-ge-ALL_EVENTS_VERSION-clause-all c =
+    let h = c.self.inside in
+    all_writable (heading h.version h.kind h.seats h.conds h.object h.size)
+    (omega (arith, c.if-self-ge-ALL_EVENTS_VERSION.true))
+
 pub returns-clause-all : goal.returns-clause-all
-returns-clause-all c = all_writable c.args.self.now
+returns-clause-all c =
+    let h = c.self.inside in
+    all_writable (heading all_events_version h.kind h.seats h.conds h.object h.size) (omega arith)

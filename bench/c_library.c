@@ -1,0 +1,158 @@
+/* What a visit costs, and a bounded buffer: bench/c_library builds this with libmonk, with the plain reference, and with -DPLAIN by a
+ * pthread mutex and its conditions.
+ *
+ *     c_library visits THREADS ROUNDS       the nanoseconds of a visit, by the clock
+ *     c_library buffer KIND ROUNDS          the seconds of so many puts and as many takes, by two threads each */
+#include <pthread.h>
+#include <stdio.h>
+#include <stdlib.h>
+#include <string.h>
+#include <time.h>
+#ifndef PLAIN
+#include "monk.h"
+#endif
+
+enum { MOST_THREADS = 32, NOT_FULL = 0, NOT_EMPTY = 1, CONDITIONS = 2, SIZE = 8, NS_A_SECOND = 1000000000 };
+
+static pthread_barrier_t line;
+static long rounds, count;                  /* touched inside alone, as the buffer is */
+static long buffer[SIZE], first, filled, taken_sum;
+
+#ifdef PLAIN
+typedef struct { int unused; } seat;
+static pthread_mutex_t lock = PTHREAD_MUTEX_INITIALIZER;
+static pthread_cond_t conditions[CONDITIONS] = {PTHREAD_COND_INITIALIZER, PTHREAD_COND_INITIALIZER};
+
+static void make(const char *kind, unsigned threads) { (void)kind, (void)threads; }
+static void end(void) {}
+static void take(seat *s) { s->unused = 0; }
+static void give(seat *s) { (void)s; }
+static void enter(seat *s) { (void)s, pthread_mutex_lock(&lock); }
+static void leave(seat *s) { (void)s, pthread_mutex_unlock(&lock); }
+static void pause_on(seat *s, unsigned n) { (void)s, pthread_cond_wait(&conditions[n], &lock); }
+static void say(seat *s) { (void)s; }
+
+static void finish(seat *s, unsigned n) {
+    pthread_cond_signal(&conditions[n]);
+    leave(s);
+}
+#else
+enum { BUDGET = 1 << 20 };
+typedef struct { monk_seat *of; } seat;
+static monk_monitor *monitor;
+static int is_automatic;
+
+static void must(int answer) {
+    if (answer >= 0) return;
+    fprintf(stderr, "c_library: %s\n", monk_strerror(answer));
+    exit(1);
+}
+
+static void make(const char *kind, unsigned threads) {
+    int number = monk_kind_named(kind);
+    must(number);
+    is_automatic = monk_mode_of(number) == MONK_AUTOMATIC;
+    monk_shape shape = {.kind = number, .seats = threads, .conditions = is_automatic ? 0 : CONDITIONS, .flags = CONDITIONS,
+                        .budget = BUDGET, .seed = 1};
+    must(monk_make(&monitor, &shape));
+}
+
+static void end(void) {
+    must(monk_close(monitor));
+    must(monk_free(monitor));
+}
+
+static void take(seat *s) { must(monk_take_seat(monitor, &s->of)); }
+static void give(seat *s) { must(monk_give_seat(s->of)); }
+static void enter(seat *s) { must(monk_enter(s->of)); }
+static void leave(seat *s) { must(monk_leave(s->of)); }
+static void pause_on(seat *s, unsigned n) { must(monk_pause(s->of, n)); }
+static void finish(seat *s, unsigned n) { must(monk_finish(s->of, n)); }
+
+static void say(seat *s) {
+    if (is_automatic) must(monk_set_flags(s->of, (filled < SIZE ? 1u << NOT_FULL : 0) | (filled > 0 ? 1u << NOT_EMPTY : 0)));
+}
+#endif
+
+static double now(void) {
+    struct timespec time;
+    clock_gettime(CLOCK_MONOTONIC, &time);
+    return (double)time.tv_sec + (double)time.tv_nsec / NS_A_SECOND;
+}
+
+static void *visit(void *unused) {
+    seat s;
+    take(&s);
+    pthread_barrier_wait(&line);
+    for (long i = 0; i < rounds; i++) {
+        enter(&s);
+        count++;
+        leave(&s);
+    }
+    pthread_barrier_wait(&line);
+    give(&s);
+    return unused;
+}
+
+static void *put(void *unused) {
+    seat s;
+    take(&s);
+    pthread_barrier_wait(&line);
+    for (long i = 0; i < rounds; i++) {
+        enter(&s);
+        say(&s);
+        while (filled == SIZE) pause_on(&s, NOT_FULL);
+        buffer[(first + filled++) % SIZE] = i;
+        say(&s);
+        finish(&s, NOT_EMPTY);
+    }
+    pthread_barrier_wait(&line);
+    give(&s);
+    return unused;
+}
+
+static void *get(void *unused) {
+    seat s;
+    take(&s);
+    pthread_barrier_wait(&line);
+    for (long i = 0; i < rounds; i++) {
+        enter(&s);
+        say(&s);
+        while (filled == 0) pause_on(&s, NOT_EMPTY);
+        taken_sum += buffer[first];
+        first = (first + 1) % SIZE, filled--;
+        say(&s);
+        finish(&s, NOT_FULL);
+    }
+    pthread_barrier_wait(&line);
+    give(&s);
+    return unused;
+}
+
+/* How many seconds the threads take, from the line on until the last is done. */
+static double timed(void *(*play[])(void *), unsigned threads) {
+    pthread_t crew[MOST_THREADS];
+    pthread_barrier_init(&line, NULL, threads + 1);
+    for (unsigned i = 0; i < threads; i++) pthread_create(&crew[i], NULL, play[i], NULL);
+    pthread_barrier_wait(&line);
+    double began = now();
+    pthread_barrier_wait(&line);
+    double took = now() - began;
+    for (unsigned i = 0; i < threads; i++) pthread_join(crew[i], NULL);
+    return took;
+}
+
+int main(int words, char **word) {
+    void *(*play[MOST_THREADS])(void *);
+    if (words != 4) return 2;
+    int is_buffer = !strcmp(word[1], "buffer");
+    unsigned threads = is_buffer ? 4 : (unsigned)atoi(word[2]);
+    if (threads < 1 || threads > MOST_THREADS) return 2;
+    rounds = atol(word[3]);
+    for (unsigned i = 0; i < threads; i++) play[i] = !is_buffer ? visit : i % 2 ? get : put;
+    make(is_buffer ? word[2] : "PNB", threads);
+    double took = timed(play, threads);
+    end();
+    printf("%.6g\n", is_buffer ? took : took * NS_A_SECOND / ((double)rounds * threads));
+    return 0;
+}

@@ -1,0 +1,629 @@
+/* monk.c - monk.h over the proved kernel (monk_kernel.h). The kernel decides who goes on, and records it; here threads sleep
+ * and are woken, seats are lent and given back, and histories become files. Nothing of this file is proved. docs/C.md argues
+ * why no wake-up is missed. */
+#define _GNU_SOURCE
+#include "monk.h"
+#include "monk_kernel.h"
+#include <errno.h>
+#include <linux/futex.h>
+#include <pthread.h>
+#include <stdatomic.h>
+#include <stdlib.h>
+#include <sys/syscall.h>
+#include <time.h>
+#include <unistd.h>
+
+enum {
+    MOST_SEATS = 32,
+    MOST_CONDITIONS = 8,
+    MOST_FLAGS = 32,
+    MOST_BUDGET = 1 << 20,
+    USUAL_BUDGET = 65536,
+    BELLS = 2 * MOST_SEATS,     /* one for each word of a hall at which seats wait: 1 to 64 */
+    LINE = 64,                  /* bytes that processors pass on together */
+    SPINS = 1024,               /* as the hall spins: so many looks over the square of the number of seats */
+    PATIENCE_MS = 1000,
+    VISIT = 2,                  /* events that a visit wants: an enter and a leave */
+    NOBODY = 0                  /* the word that was granted where none was */
+};
+
+#ifndef MONK_BUILT
+#define MONK_BUILT "proved kernel"
+#endif
+
+/* The threads' sanitizer doesn't see the kernel's atomic words: it is told where one seat hands the monitor to the next. */
+#if defined __SANITIZE_THREAD__
+#define SEEN_BY_SANITIZER 1
+#elif defined __has_feature
+#if __has_feature(thread_sanitizer)
+#define SEEN_BY_SANITIZER 1
+#endif
+#endif
+#ifdef SEEN_BY_SANITIZER
+void __tsan_acquire(void *at);
+void __tsan_release(void *at);
+#else
+#define __tsan_acquire(at) ((void)(at))
+#define __tsan_release(at) ((void)(at))
+#endif
+
+typedef enum lent { FREE, TAKEN, ABANDONED } lent;
+
+typedef struct bell {
+    _Alignas(LINE) _Atomic uint32_t rings;
+} bell;
+
+struct monk_seat {
+    _Alignas(LINE) monk_monitor *monitor;
+    monk_k_seat *token;
+    _Atomic int calling;                /* a call by this seat is under way */
+    _Atomic int lent;                   /* changed under the monitor's lock alone */
+    _Atomic int place;                  /* copies of what the token says, for any thread that asks */
+    _Atomic uint32_t left;
+    unsigned number;
+    int wish;
+    uint64_t dice;
+};
+
+struct monk_monitor {
+    bell bells[BELLS];
+    int kind;
+    unsigned seat_count;
+    uint32_t bits;                              /* a copy of the flags, touched by the seat that is inside */
+    _Atomic int stopped, closed, abandoned;     /* abandoned: how many seats are, and still wait */
+    pthread_mutex_t lock;                       /* of lending: no call that comes in, waits or goes out takes it */
+    monk_seat *reader;                          /* the seat that closed it, through which the history is read */
+    void *room;                                 /* the tokens' */
+    monk_k_seat tokens[MOST_SEATS];
+    struct monk_seat seats[MOST_SEATS];
+};
+
+/* ---- Bells: where threads sleep */
+
+static void futex_wake(bell *b, int most) {
+    syscall(SYS_futex, &b->rings, FUTEX_WAKE_PRIVATE, most, NULL, NULL, 0);
+}
+
+/* Sleeps unless the bell has rung since; until then at most, where there is a limit. 0 if the time is over. */
+static int sleep_on(bell *b, uint32_t seen, const struct timespec *limit) {
+    long slept = syscall(SYS_futex, &b->rings, FUTEX_WAIT_BITSET_PRIVATE, seen, limit, NULL, FUTEX_BITSET_MATCH_ANY);
+    return slept == 0 || errno != ETIMEDOUT;
+}
+
+/* The bell of a word: each has one of its own, since words count from 1 and there are two for each seat. */
+static bell *bell_of(monk_monitor *m, size_t word) { return &m->bells[(word - 1) % BELLS]; }
+
+/* Wakes whoever waits for that word. The kernel has granted it before. */
+static void ring(monk_monitor *m, size_t word) {
+    if (word == NOBODY) return;
+    bell *b = bell_of(m, word);
+    atomic_fetch_add(&b->rings, 1);
+    futex_wake(b, 1);
+}
+
+static void pause_processor(void) {
+#if defined __x86_64__ || defined __i386__
+    __builtin_ia32_pause();
+#endif
+}
+
+/* Looks at the bell for a while before its thread sleeps. */
+static int rings_soon(bell *b, uint32_t seen, unsigned seats) {
+    for (unsigned looks = SPINS / (seats * seats) + 1; looks > 0; looks--) {
+        if (atomic_load_explicit(&b->rings, memory_order_relaxed) != seen) return 1;
+        pause_processor();
+    }
+    return 0;
+}
+
+/* ---- The frame of each call */
+
+/* What a call finds before the kernel is asked. Where it answers MONK_OK the call is under way, until `end`. */
+static int begin(monk_seat *s) {
+    if (!s) return MONK_RANGE;
+    if (atomic_exchange(&s->calling, 1)) return MONK_IN_USE;
+    int answer = atomic_load(&s->monitor->closed) ? MONK_CLOSED : atomic_load(&s->lent) != TAKEN ? MONK_NOT_NOW : MONK_OK;
+    if (answer) atomic_store(&s->calling, 0);
+    return answer;
+}
+
+static int end(monk_seat *s, int answer) {
+    atomic_store_explicit(&s->calling, 0, memory_order_release);
+    return answer;
+}
+
+/* Notes where the seat stands after a call that the kernel took, and that so many events were recorded. */
+static int noted(monk_seat *s, int answer, uint32_t recorded) {
+    if (answer < 0) return answer;
+    uint32_t left = atomic_load_explicit(&s->left, memory_order_relaxed);
+    atomic_store_explicit(&s->place, answer, memory_order_relaxed);
+    atomic_store_explicit(&s->left, left - recorded, memory_order_relaxed);
+    return answer;
+}
+
+static int place_of(const monk_seat *s) { return atomic_load_explicit(&s->place, memory_order_relaxed); }
+
+/* Of a call that doesn't wait: its place becomes MONK_OK. */
+static int done(int answer) { return answer > 0 ? MONK_OK : answer; }
+
+static uint8_t byte_of(unsigned number) { return number < UINT8_MAX ? (uint8_t)number : UINT8_MAX; }
+
+static uint8_t wish_of(monk_seat *s) {
+    if (s->wish != MONK_ANY) return (uint8_t)s->wish;
+    s->dice ^= s->dice << 13, s->dice ^= s->dice >> 7, s->dice ^= s->dice << 17;
+    return (uint8_t)((s->dice >> 32) % MONK_ANY);
+}
+
+/* Lets seats that were abandoned come in where it is their turn, and leave. Under the lock. */
+static void settle(monk_monitor *m) {
+    unsigned i = 0;
+    while (i < m->seat_count) {
+        monk_seat *s = &m->seats[i++];
+        if (atomic_load(&s->lent) != ABANDONED || monk_k_poll(s->token) != MONK_INSIDE) continue;
+        size_t word = NOBODY;
+        noted(s, monk_k_leave(s->token, MONK_WAITER, &word), VISIT);
+        ring(m, word);
+        atomic_store(&s->lent, FREE);
+        atomic_fetch_sub(&m->abandoned, 1);
+        i = 0;                          /* this leave may have let in a seat that was looked at before */
+    }
+}
+
+/* What follows a release: it rings, and looks after abandoned seats. Who abandons a seat counts it first and then polls; who
+ * releases grants first and then reads the count: so one of the two sees the grant. */
+static int handed_on(monk_seat *s, int answer, size_t word) {
+    monk_monitor *m = s->monitor;
+    if (answer < 0) return answer;
+    noted(s, answer, 1);
+    ring(m, word);
+    if (atomic_load(&m->abandoned) > 0) {
+        pthread_mutex_lock(&m->lock);
+        settle(m);
+        pthread_mutex_unlock(&m->lock);
+    }
+    return answer;
+}
+
+/* ---- Steps of a call that is under way */
+
+static int poll_once(monk_seat *s) {
+    int answer = monk_k_poll(s->token);
+    if (answer != MONK_INSIDE) return answer;
+    __tsan_acquire(s->monitor);
+    return noted(s, answer, 1);
+}
+
+static int go_out(monk_seat *s) {
+    size_t word = NOBODY;
+    __tsan_release(s->monitor);
+    int answer = monk_k_leave(s->token, wish_of(s), &word);
+    return handed_on(s, answer, word);
+}
+
+static int wait_on(monk_seat *s, unsigned condition) {
+    size_t word = NOBODY;
+    __tsan_release(s->monitor);
+    int answer = monk_k_start_wait(s->token, byte_of(condition), wish_of(s), &word);
+    return handed_on(s, answer, word);
+}
+
+static int signal_on(monk_seat *s, unsigned condition) {
+    size_t word = NOBODY;
+    __tsan_release(s->monitor);
+    int answer = monk_k_start_signal(s->token, byte_of(condition), wish_of(s), &word);
+    return handed_on(s, answer, word);
+}
+
+static int signal_and_wait(monk_seat *s, unsigned condition, unsigned wait_condition) {
+    size_t word = NOBODY;
+    __tsan_release(s->monitor);
+    int answer = monk_k_start_signal_wait(s->token, byte_of(condition), byte_of(wait_condition), wish_of(s), &word);
+    return handed_on(s, answer, word);
+}
+
+static int wait_for_flag(monk_seat *s, unsigned flag) {
+    size_t word = NOBODY;
+    __tsan_release(s->monitor);
+    int answer = monk_k_start_wait_until(s->token, byte_of(flag), wish_of(s), &word);
+    return handed_on(s, answer, word);
+}
+
+/* Waits until the seat is inside. The bell is read before the poll and the stop flag: a grant or a stop that the two missed rings
+ * later, and then the thread doesn't sleep, or is woken. */
+static int come_in(monk_seat *s, const struct timespec *limit) {
+    monk_monitor *m = s->monitor;
+    int answer = poll_once(s), in_time = 1;
+    if (answer != MONK_WAITING) return answer;
+    bell *b = bell_of(m, monk_k_word(s->token));
+    for (;;) {
+        uint32_t seen = atomic_load(&b->rings);
+        answer = poll_once(s);
+        if (answer != MONK_WAITING) return answer;
+        if (atomic_load(&m->stopped)) return MONK_STOPPED;
+        if (!in_time) return MONK_WAITING;
+        if (!rings_soon(b, seen, m->seat_count)) in_time = sleep_on(b, seen, limit);
+    }
+}
+
+/* The rest of a call that has started, and may have to wait. */
+static int finished(monk_seat *s, int started) {
+    return done(end(s, started == MONK_WAITING ? come_in(s, NULL) : started));
+}
+
+/* ---- Calls that don't wait */
+
+int monk_arrive(monk_seat *s) {
+    int r = begin(s);
+    return r ? r : end(s, noted(s, monk_k_arrive(s->token), 0));
+}
+
+int monk_poll(monk_seat *s) {
+    int r = begin(s);
+    return r ? r : end(s, poll_once(s));
+}
+
+int monk_leave(monk_seat *s) {
+    int r = begin(s);
+    return r ? r : done(end(s, go_out(s)));
+}
+
+int monk_start_wait(monk_seat *s, unsigned condition) {
+    int r = begin(s);
+    return r ? r : end(s, wait_on(s, condition));
+}
+
+int monk_start_signal(monk_seat *s, unsigned condition) {
+    int r = begin(s);
+    return r ? r : end(s, signal_on(s, condition));
+}
+
+int monk_start_signal_wait(monk_seat *s, unsigned condition, unsigned wait_condition) {
+    int r = begin(s);
+    return r ? r : end(s, signal_and_wait(s, condition, wait_condition));
+}
+
+int monk_start_wait_until(monk_seat *s, unsigned flag) {
+    int r = begin(s);
+    return r ? r : end(s, wait_for_flag(s, flag));
+}
+
+int monk_signal_leave(monk_seat *s, unsigned condition) {
+    size_t word = NOBODY;
+    int r = begin(s);
+    if (r) return r;
+    __tsan_release(s->monitor);
+    r = monk_k_signal_leave(s->token, byte_of(condition), wish_of(s), &word);
+    return done(end(s, handed_on(s, r, word)));
+}
+
+int monk_broadcast(monk_seat *s, unsigned condition) {
+    int r = begin(s);
+    return r ? r : done(end(s, noted(s, monk_k_broadcast(s->token, byte_of(condition)), 1)));
+}
+
+int monk_set_flags(monk_seat *s, uint32_t bits) {
+    int r = begin(s);
+    if (r) return r;
+    r = noted(s, monk_k_set_flags(s->token, bits), 1);
+    if (r == MONK_INSIDE) s->monitor->bits = bits;
+    return done(end(s, r));
+}
+
+int monk_waiting(monk_seat *s, unsigned condition) {
+    int r = begin(s);
+    return r ? r : end(s, (int)monk_k_waiting(s->token, byte_of(condition)));
+}
+
+int monk_flags(monk_seat *s, uint32_t *bits) {
+    if (!bits) return MONK_RANGE;
+    int r = begin(s);
+    if (r) return r;
+    if (place_of(s) != MONK_INSIDE) return end(s, MONK_NOT_NOW);
+    *bits = s->monitor->bits;
+    return end(s, MONK_OK);
+}
+
+/* ---- Calls that wait */
+
+/* So many milliseconds from now. */
+static struct timespec limit_in(long milliseconds) {
+    enum { MS_A_SECOND = 1000, NS_A_MS = 1000000, NS_A_SECOND = 1000000000 };
+    struct timespec limit;
+    clock_gettime(CLOCK_MONOTONIC, &limit);
+    limit.tv_sec += milliseconds / MS_A_SECOND;
+    limit.tv_nsec += milliseconds % MS_A_SECOND * NS_A_MS;
+    if (limit.tv_nsec >= NS_A_SECOND) limit.tv_sec++, limit.tv_nsec -= NS_A_SECOND;
+    return limit;
+}
+
+/* As come_in. The clock isn't asked if the seat comes in at once, or if there is no time to wait. */
+static int come_in_within(monk_seat *s, long milliseconds) {
+    if (milliseconds < 0) return come_in(s, NULL);
+    int answer = poll_once(s);
+    if (answer != MONK_WAITING) return answer;
+    if (milliseconds == 0) return atomic_load(&s->monitor->stopped) ? MONK_STOPPED : MONK_WAITING;
+    struct timespec limit = limit_in(milliseconds);
+    return come_in(s, &limit);
+}
+
+int monk_await(monk_seat *s, long milliseconds) {
+    int r = begin(s);
+    if (r) return r;
+    return end(s, place_of(s) == MONK_INSIDE ? MONK_INSIDE : come_in_within(s, milliseconds));
+}
+
+int monk_enter_within(monk_seat *s, long milliseconds) {
+    int r = begin(s);
+    if (r) return r;
+    r = noted(s, monk_k_arrive(s->token), 0);
+    return end(s, r == MONK_WAITING ? come_in_within(s, milliseconds) : r);
+}
+
+int monk_enter(monk_seat *s) {
+    int r = begin(s);
+    return r ? r : finished(s, noted(s, monk_k_arrive(s->token), 0));
+}
+
+int monk_wait(monk_seat *s, unsigned condition) {
+    int r = begin(s);
+    return r ? r : finished(s, wait_on(s, condition));
+}
+
+int monk_signal(monk_seat *s, unsigned condition) {
+    int r = begin(s);
+    return r ? r : finished(s, signal_on(s, condition));
+}
+
+int monk_signal_wait(monk_seat *s, unsigned condition, unsigned wait_condition) {
+    int r = begin(s);
+    return r ? r : finished(s, signal_and_wait(s, condition, wait_condition));
+}
+
+int monk_wait_until(monk_seat *s, unsigned flag) {
+    int r = begin(s);
+    return r ? r : finished(s, wait_for_flag(s, flag));
+}
+
+int monk_pause(monk_seat *s, unsigned n) {
+    if (!s) return MONK_RANGE;
+    return monk_mode_of(s->monitor->kind) == MONK_AUTOMATIC ? monk_wait_until(s, n) : monk_wait(s, n);
+}
+
+int monk_finish(monk_seat *s, unsigned n) {
+    if (!s) return MONK_RANGE;
+    int mode = monk_mode_of(s->monitor->kind);
+    if (mode == MONK_IMMEDIATE_RETURN) return monk_signal_leave(s, n);
+    int r = mode == MONK_AUTOMATIC ? MONK_OK : monk_signal(s, n);
+    return r ? r : monk_leave(s);
+}
+
+/* ---- Seats */
+
+/* The first seat that nobody has and that can pay a visit, from the lowest on or from the highest. Under the lock. */
+static monk_seat *spare_seat(monk_monitor *m, int from_highest, int *answer) {
+    *answer = MONK_NO_SEAT;
+    for (unsigned i = 0; i < m->seat_count; i++) {
+        monk_seat *s = &m->seats[from_highest ? m->seat_count - 1 - i : i];
+        if (atomic_load(&s->lent) != FREE) continue;
+        if (monk_left(s) >= VISIT) return *answer = MONK_OK, s;
+        *answer = MONK_SPENT;
+    }
+    return NULL;
+}
+
+static int lend(monk_monitor *m, int from_highest, monk_seat **seat) {
+    int answer = MONK_CLOSED;
+    pthread_mutex_lock(&m->lock);
+    if (!atomic_load(&m->closed)) {
+        monk_seat *s = spare_seat(m, from_highest, &answer);
+        if (s) {
+            s->wish = MONK_WAITER;
+            atomic_store(&s->lent, TAKEN);
+            *seat = s;
+        }
+    }
+    pthread_mutex_unlock(&m->lock);
+    return answer;
+}
+
+int monk_take_seat(monk_monitor *m, monk_seat **seat) { return m && seat ? lend(m, 0, seat) : MONK_RANGE; }
+
+int monk_give_seat(monk_seat *s) {
+    int r = begin(s);
+    if (r) return r;
+    monk_monitor *m = s->monitor;
+    if (place_of(s) != MONK_OUTSIDE) return end(s, MONK_NOT_NOW);
+    pthread_mutex_lock(&m->lock);
+    atomic_store(&s->calling, 0);
+    atomic_store(&s->lent, FREE);
+    pthread_mutex_unlock(&m->lock);         /* behind this the monitor may be freed */
+    return MONK_OK;
+}
+
+int monk_abandon(monk_seat *s) {
+    size_t word = NOBODY;
+    int r = begin(s);
+    if (r) return r;
+    monk_monitor *m = s->monitor;
+    pthread_mutex_lock(&m->lock);
+    if (place_of(s) == MONK_WAITING) {
+        atomic_store(&s->lent, ABANDONED);
+        atomic_fetch_add(&m->abandoned, 1);
+    } else {
+        __tsan_release(m);
+        noted(s, monk_k_leave(s->token, wish_of(s), &word), 1);     /* refused if the seat is outside */
+        ring(m, word);
+        atomic_store(&s->lent, FREE);
+    }
+    settle(m);
+    end(s, MONK_OK);
+    pthread_mutex_unlock(&m->lock);         /* behind this the monitor may be freed */
+    return MONK_OK;
+}
+
+unsigned monk_seat_number(const monk_seat *s) { return s ? s->number : 0; }
+int monk_place(const monk_seat *s) { return s ? atomic_load(&s->place) : MONK_RANGE; }
+uint32_t monk_left(const monk_seat *s) { return s ? atomic_load(&s->left) : 0; }
+
+int monk_set_wish(monk_seat *s, int wish) {
+    int r = begin(s);
+    if (r) return r;
+    if (wish < MONK_ENTRY || wish > MONK_ANY) return end(s, MONK_RANGE);
+    s->wish = wish;
+    return end(s, MONK_OK);
+}
+
+/* ---- Making and ending */
+
+static int is_in_range(const monk_shape *shape) {
+    return shape->kind >= 0 && shape->kind <= MONK_NPIS && shape->seats >= 1 && shape->seats <= MOST_SEATS
+        && shape->conditions <= MOST_CONDITIONS && shape->flags <= MOST_FLAGS && shape->budget <= MOST_BUDGET
+        && shape->budget != 1;
+}
+
+/* The dice of a seat: never 0, and of no other seat. */
+static uint64_t dice_of(uint64_t seed, unsigned number) {
+    uint64_t dice = (seed + 1) * 0x9e3779b97f4a7c15u + (number + 1) * 0xbf58476d1ce4e5b9u;
+    return dice ? dice : 1;
+}
+
+static void set_up(monk_monitor *m, const monk_shape *shape, uint32_t budget) {
+    for (unsigned i = 0; i < shape->seats; i++) {
+        monk_seat *s = &m->seats[i];
+        s->monitor = m, s->token = &m->tokens[i], s->number = i, s->wish = MONK_WAITER, s->dice = dice_of(shape->seed, i);
+        s->place = MONK_OUTSIDE;
+        s->left = budget;
+    }
+}
+
+int monk_make(monk_monitor **out, const monk_shape *shape) {
+    if (!out || !shape || !is_in_range(shape)) return MONK_RANGE;
+    size_t each = (monk_k_seat_size() + LINE - 1) / LINE * LINE;
+    monk_monitor *m = aligned_alloc(LINE, sizeof *m);
+    void *room = aligned_alloc(LINE, each * shape->seats);
+    if (!m || !room) return free(m), free(room), MONK_MEMORY;
+    *m = (monk_monitor){.kind = shape->kind, .seat_count = shape->seats, .room = room};
+    for (size_t at = 0; at < each * shape->seats; at++) ((char *)room)[at] = 0;
+    for (unsigned i = 0; i < shape->seats; i++) m->tokens[i].at = (char *)room + each * i;
+    uint32_t budget = shape->budget ? shape->budget : USUAL_BUDGET;
+    int answer = monk_k_make((uint8_t)shape->kind, (uint8_t)shape->conditions, (uint8_t)shape->flags, budget, m->tokens, shape->seats);
+    if (answer) return free(m), free(room), answer;
+    pthread_mutex_init(&m->lock, NULL);
+    set_up(m, shape, budget);
+    *out = m;
+    return MONK_OK;
+}
+
+int monk_stop(monk_monitor *m) {
+    if (!m) return MONK_RANGE;
+    atomic_store(&m->stopped, 1);
+    for (unsigned i = 0; i < BELLS; i++) {
+        atomic_fetch_add(&m->bells[i].rings, 1);
+        futex_wake(&m->bells[i], INT32_MAX);
+    }
+    return MONK_OK;
+}
+
+static int has_lent(monk_monitor *m, int also_abandoned) {
+    for (unsigned i = 0; i < m->seat_count; i++) {
+        int how = atomic_load(&m->seats[i].lent);
+        if (how == TAKEN || (also_abandoned && how == ABANDONED)) return 1;
+    }
+    return 0;
+}
+
+int monk_kind_of(const monk_monitor *m) { return m ? m->kind : MONK_RANGE; }
+const char *monk_build(void) { return MONK_BUILT; }
+
+/* ---- The history */
+
+/* The text by a seat that is inside, whose call is under way. */
+static int text_of(monk_seat *s, char **text, size_t *length) {
+    int64_t size = monk_k_history(s->token, NULL, 0);
+    if (size < 0) return (int)size;
+    char *page = malloc((size_t)size + 1);
+    if (!page) return MONK_MEMORY;
+    int64_t written = monk_k_history(s->token, (uint8_t *)page, (size_t)size);
+    if (written != size) return free(page), written < 0 ? (int)written : MONK_MEMORY;
+    page[size] = 0;
+    *text = page;
+    if (length) *length = (size_t)size;
+    return MONK_OK;
+}
+
+/* Any thread may ask for it, and a token is used by one call at a time. */
+static int text_of_closed(monk_monitor *m, char **text, size_t *length) {
+    pthread_mutex_lock(&m->lock);
+    int r = text_of(m->reader, text, length);
+    pthread_mutex_unlock(&m->lock);
+    return r;
+}
+
+static int history_by(monk_seat *s, char **text, size_t *length) {
+    int r = begin(s);
+    if (r) return r;
+    return end(s, text_of(s, text, length));
+}
+
+int monk_history(monk_monitor *m, monk_seat *by, char **text, size_t *length) {
+    if (!m || !text || (by && by->monitor != m)) return MONK_RANGE;
+    if (atomic_load(&m->closed)) return text_of_closed(m, text, length);
+    if (by) return history_by(by, text, length);
+    monk_seat *visitor;
+    int r = lend(m, 1, &visitor);
+    if (r == MONK_CLOSED) return text_of_closed(m, text, length);
+    if (r) return r;
+    monk_arrive(visitor);
+    r = monk_await(visitor, PATIENCE_MS) == MONK_INSIDE ? history_by(visitor, text, length) : MONK_BUSY;
+    monk_abandon(visitor);
+    return r;
+}
+
+int monk_save(monk_monitor *m, monk_seat *by, FILE *to) {
+    char *text;
+    size_t length;
+    int r = to ? monk_history(m, by, &text, &length) : MONK_RANGE;
+    if (r) return r;
+    if (fwrite(text, 1, length, to) != length || fflush(to)) r = MONK_IO;
+    free(text);
+    return r;
+}
+
+/* ---- Closing and freeing */
+
+/* The last visit. Everybody is outside, so the monitor is free, and the seat comes in at once. It stays: nobody comes in any
+ * more, and the history can be read through it for as long as the monitor is there. Under the lock. */
+static int close_by(monk_monitor *m, monk_seat *s) {
+    int answer = monk_k_close(m->tokens, m->seat_count, s->number);
+    if (answer < 0) return answer;
+    if (answer != MONK_INSIDE) return MONK_BUSY;
+    m->reader = s;
+    return MONK_OK;
+}
+
+int monk_close(monk_monitor *m) {
+    int answer = MONK_CLOSED;
+    if (!m) return MONK_RANGE;
+    pthread_mutex_lock(&m->lock);
+    if (!atomic_load(&m->closed)) {
+        monk_seat *s = spare_seat(m, 0, &answer);
+        if (has_lent(m, 1)) answer = MONK_BUSY;
+        else if (s) answer = close_by(m, s);
+        if (!answer) atomic_store(&m->closed, 1);
+    }
+    pthread_mutex_unlock(&m->lock);
+    return answer;
+}
+
+int monk_free(monk_monitor *m) {
+    if (!m) return MONK_OK;
+    pthread_mutex_lock(&m->lock);
+    int busy = has_lent(m, 0);
+    pthread_mutex_unlock(&m->lock);
+    if (busy) return MONK_BUSY;
+    for (unsigned i = 0; i < m->seat_count; i++) monk_k_drop(&m->tokens[i]);
+    pthread_mutex_destroy(&m->lock);
+    free(m->room);
+    free(m);
+    return MONK_OK;
+}

@@ -1,0 +1,165 @@
+// monk.hpp - monk.h for C++17: monitors, seats and visits that end by themselves, errors as exceptions.
+//
+//     monk::monitor monitor({MONK_PB, 4, 2, 0, 10000, 0});       // kind, seats, conditions, flags, budget, seed
+//     monk::condition not_full(0), not_empty(1);
+//
+//     void put(monk::seat &seat, int item) {                      // a seat for each thread
+//         monk::visit in(seat);                                   // comes in, and leaves at the end, also by an exception
+//         in.wait(not_full, [] { return items.size() < SIZE; });
+//         items.push_back(item);
+//         in.notify_one(not_empty);
+//     }
+//
+// Every call that monk.h refuses throws monk::error, and nothing has changed then. Nothing here can leave a seat inside: a visit that ends
+// leaves, and a seat that ends is given up wherever it stands.
+#ifndef MONK_HPP
+#define MONK_HPP
+
+#include "monk.h"
+#include <cstdint>
+#include <cstdlib>
+#include <memory>
+#include <stdexcept>
+#include <string>
+#include <utility>
+
+namespace monk {
+
+/// A refused call. `answer` is one of monk.h's, below 0.
+class error : public std::runtime_error {
+public:
+    explicit error(int answer) : std::runtime_error(monk_strerror(answer)), answer(answer) {}
+    const int answer;
+};
+
+/// An answer that is none of an error; else throws it.
+inline int checked(int answer) {
+    if (answer < 0) throw error(answer);
+    return answer;
+}
+
+/// A condition of a monitor, by its number.
+class condition {
+public:
+    explicit constexpr condition(unsigned number) : number_(number) {}
+    constexpr unsigned number() const { return number_; }
+
+private:
+    unsigned number_;
+};
+
+/// A flag of a monitor, by its number: what threads of automatic kinds wait for.
+class flag {
+public:
+    explicit constexpr flag(unsigned number) : number_(number) {}
+    constexpr unsigned number() const { return number_; }
+
+private:
+    unsigned number_;
+};
+
+/// A monitor. It has to live longer than its seats: one that ends before them is kept in memory, and its history with it.
+class monitor {
+public:
+    explicit monitor(const monk_shape &shape) { checked(monk_make(&at_, &shape)); }
+    monitor(const monitor &) = delete;
+    monitor &operator=(const monitor &) = delete;
+    ~monitor() { monk_free(at_); }
+
+    monk_monitor *get() const { return at_; }
+    int kind() const { return monk_kind_of(at_); }
+
+    /// Ends all waiting: whoever waits gets an error with MONK_STOPPED.
+    void stop() { checked(monk_stop(at_)); }
+
+    /// No seat may be taken. From then on the history is whole.
+    void close() { checked(monk_close(at_)); }
+
+    /// The text of all events up to now, by a seat that nobody has, or of the closed monitor.
+    std::string history() const { return history_by(nullptr); }
+
+private:
+    friend class visit;
+    monk_monitor *at_ = nullptr;
+
+    std::string history_by(monk_seat *by) const {
+        char *text = nullptr;
+        std::size_t length = 0;
+        checked(monk_history(at_, by, &text, &length));
+        std::unique_ptr<char, void (*)(void *)> owner(text, std::free);
+        return std::string(text, length);
+    }
+};
+
+/// A seat: one thread at a time uses it. It is given up when it ends, wherever it stands.
+class seat {
+public:
+    explicit seat(const monitor &of) { checked(monk_take_seat(of.get(), &at_)); }
+    seat(seat &&other) noexcept : at_(std::exchange(other.at_, nullptr)) {}
+    seat &operator=(seat &&other) noexcept {
+        std::swap(at_, other.at_);
+        return *this;
+    }
+    ~seat() {
+        if (at_) monk_abandon(at_);
+    }
+
+    monk_seat *get() const { return at_; }
+    unsigned number() const { return monk_seat_number(at_); }
+    std::uint32_t left() const { return monk_left(at_); }
+    void set_wish(monk_wish wish) { checked(monk_set_wish(at_, wish)); }
+
+private:
+    monk_seat *at_ = nullptr;
+};
+
+/// A visit: inside from its beginning to its end. A call that leads outside ends it before its scope does.
+class visit {
+public:
+    explicit visit(seat &by) : seat_(by.get()) { checked(monk_enter(seat_)); }
+    visit(const visit &) = delete;
+    visit &operator=(const visit &) = delete;
+    /// Leaves, if the seat is inside still. One whose wait was stopped isn't: its seat gives it up.
+    ~visit() {
+        if (monk_place(seat_) == MONK_INSIDE) monk_leave(seat_);
+    }
+
+    void wait(condition on) { checked(monk_wait(seat_, on.number())); }
+
+    /// Waits until that holds, and tests it each time: right under every kind that has conditions.
+    template <class Ready> void wait(condition on, Ready ready) {
+        while (!ready()) wait(on);
+    }
+
+    /// Goes on once the flag is set; automatic kinds.
+    void wait(flag until) { checked(monk_wait_until(seat_, until.number())); }
+
+    /// Signals. Under a blocking kind whoever is served goes on first.
+    void notify_one(condition on) { checked(monk_signal(seat_, on.number())); }
+
+    /// Serves all who wait; non-blocking kinds.
+    void notify_all(condition on) { checked(monk_broadcast(seat_, on.number())); }
+
+    /// Signals and leaves; immediate return.
+    void notify_and_leave(condition on) { checked(monk_signal_leave(seat_, on.number())); }
+
+    /// Signals the first and waits on the second, as one; immediate return.
+    void notify_and_wait(condition on, condition then) { checked(monk_signal_wait(seat_, on.number(), then.number())); }
+
+    void set_flags(std::uint32_t bits) { checked(monk_set_flags(seat_, bits)); }
+
+    /// For code under all ten kinds: monk_pause and monk_finish of monk.h.
+    void pause(unsigned number) { checked(monk_pause(seat_, number)); }
+    void finish(unsigned number) { checked(monk_finish(seat_, number)); }
+
+    void leave() { checked(monk_leave(seat_)); }
+    unsigned waiting(condition on) const { return static_cast<unsigned>(checked(monk_waiting(seat_, on.number()))); }
+    std::string history(const monitor &of) const { return of.history_by(seat_); }
+
+private:
+    monk_seat *seat_;
+};
+
+}  // namespace monk
+
+#endif

@@ -1,0 +1,59 @@
+-- What a close through a handle is refused for, or has done
+use Rattle.std.specs.Prelude.{◌≡◌, ◌<◌, ℕ, ℤ, List, length, slice_get, slice_index_or, slice_set, Option, Some, None, IfSome}
+use Rattle.std.proofs.Common.{sym, ap, subst, ◌∙◌}
+use Rattle.std.proofs.lemmas.List.{set-get_or}
+use Rattle.std.proofs.lemmas.Option.{get_or_from_slice_get, slice_get-get_or}
+use Rattle.monk_c.specs.Answers.{fault_number}
+use Rattle.monk_c.specs.Closing.{IfCloseRefused, IfClosed, close_refusal, refusal_of_seats, refusal_through}
+use Rattle.monk_c.specs.Coming.{HasCome}
+use Rattle.monk_c.specs.Handles.{IfRefusedAt, booked}
+use Rattle.monk_c.specs.Refusal.{refusal_at}
+use Rattle.monk_c.specs.declared.any_seat.AnySeat.{AnySeat}
+use Rattle.monk_c.specs.declared.call.Call.TheVariants.{Arrive}
+use Rattle.monk_c.specs.declared.fault.Fault.{Fault}
+use Rattle.monk_c.specs.declared.handle.MonkSeat.{MonkSeat}
+
+set_back : (handles : List MonkSeat) (i : ℕ) (h : MonkSeat) → slice_get handles i ≡ Some h → slice_set handles i h ≡ handles
+set_back handles i h chosen =
+    ap (λ (x : MonkSeat). slice_set handles i x) (sym (get_or_from_slice_get handles i h h chosen)) ∙ set-get_or handles i h
+
+also : (r : Option Fault) (P Q : Type 0) (R : Fault → Type 0) → (P → Q) → IfSome r (λ f. P × R f) → IfSome r (λ f. Q × R f)
+also None P Q R more has = tt
+also (Some f) P Q R more has = (more has.0, has.1)
+
+-- through a handle of the list, where the seats refuse nothing; it is t then
+module _ (old seen : List MonkSeat) (by : ℕ) (d t : MonkSeat) (code shown : ℤ) (kept : seen ≡ old) (low : by < length old)
+    (fine : refusal_of_seats old ≡ None) (same : t ≡ record (slice_index_or seen by d) { has = t.has }) (e : shown ≡ code) where
+  abbrev h : MonkSeat
+  h = slice_index_or seen by d
+
+  chosen : slice_get old by ≡ Some h
+  chosen = subst (λ (xs : List MonkSeat). slice_get old by ≡ Some (slice_index_or xs by d)) (sym kept) (slice_get-get_or old by d low)
+
+  arrival : close_refusal old by ≡ refusal_at (booked h.has) Arrive
+  arrival =
+      ap (λ (x : Option MonkSeat). refusal_through x (refusal_of_seats old)) chosen
+      ∙ ap (λ (f : Option Fault). refusal_through (Some h) f) fine
+
+  others : slice_set seen by t ≡ slice_set old by t
+  others = ap (λ (xs : List MonkSeat). slice_set xs by t) kept
+
+  pub is_closed : (refusal_at (booked h.has) Arrive ≡ None → HasCome h.has code t.has) → IfClosed old by shown (slice_set seen by t)
+  is_closed come none = record {
+    handle = h;
+    last = t.has;
+    chosen = chosen;
+    come = subst (λ (z : ℤ). HasCome h.has z t.has) (sym e) (come (sym arrival ∙ none));
+    others = others ∙ ap (λ (x : MonkSeat). slice_set old by x) same;
+  }
+
+  unchanged : t.has ≡ h.has → slice_set seen by t ≡ old
+  unchanged is =
+      others ∙ ap (λ (x : MonkSeat). slice_set old by x) (same ∙ ap (λ (x : AnySeat). record h { has = x }) is)
+      ∙ set_back old by h chosen
+
+  pub is_refused : IfRefusedAt Arrive h.has code t.has → IfCloseRefused old by shown (slice_set seen by t)
+  is_refused refused =
+      subst (λ (r : Option Fault). IfSome r (λ f. (slice_set seen by t ≡ old) × (shown ≡ fault_number f))) (sym arrival)
+      (also (refusal_at (booked h.has) Arrive) (t.has ≡ h.has) (slice_set seen by t ≡ old) (λ f. shown ≡ fault_number f) unchanged
+      (subst (λ (z : ℤ). IfRefusedAt Arrive h.has z t.has) (sym e) refused))

@@ -1,0 +1,7 @@
+pub mod Closes
+pub mod Coming
+pub mod Dealing
+pub mod Handling
+mod HallSendable
+mod Sendable
+pub mod Texts

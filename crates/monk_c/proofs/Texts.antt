@@ -1,0 +1,44 @@
+-- The text that C gets is one of a legal history
+use Rattle.std.proofs.Common.{◌≡◌, ℕ, List, ap, subst, ◌∙◌}
+use Rattle.monk_kinds.specs.Names.{rules_named}
+use Rattle.monk_kinds.specs.declared.mode.Rules.{Rules}
+use Rattle.monk_kinds.specs.declared.name.KindName.{KindName}
+use Rattle.monk_object.specs.Flags.{flags_meaning}
+use Rattle.monk_object.specs.Names.{opening_named}
+use Rattle.monk_object.specs.declared.name.ObjectName.TheVariants.{Flags}
+use Rattle.monk_history.specs.Meaning.Legal.{IsLegal}
+use Rattle.monk_history.specs.Text.{Heading, HasText, text}
+use Rattle.monk_history.specs.declared.event.Event.{Event}
+use Rattle.monk_floor.specs.Headed.{IsHeadedBy}
+use Rattle.monk_floor.specs.View.{FloorView, monitor_of}
+use Rattle.monk_floor.proofs.PublicLaws.{legal_as_headed}
+use Rattle.monk_hall.specs.Layout.{floor_of}
+use Rattle.monk_hall.specs.Tokens.{Holder}
+use Rattle.monk_hall.specs.declared.setting.Setting.{Setting}
+use Rattle.monk_c.specs.Headings.{flags_made, heading_for}
+use Rattle.monk_c.specs.Stands.{IsAtHome, RoomView}
+use Rattle.monk_c.specs.Stands.At.{Inside}
+use Rattle.monk_c.specs.Texts.{IsTextOf}
+
+module _ (k : KindName) (r : RoomView) (a : Holder)
+    (opening : r.house.setting.opening ≡ opening_named Flags (flags_made r.flags)) (home : IsAtHome r (Inside a))
+    (floor : a.floor ≡ floor_of a.me.setting a.floor.history) where
+  setting : floor_of a.me.setting a.floor.history ≡ floor_of r.house.setting a.floor.history
+  setting = ap (λ (c : Setting). floor_of c a.floor.history) home.setting
+
+  headed : IsHeadedBy a.floor (heading_for k r)
+  headed = record {
+    opening = ap (λ (f : FloorView). f.opening) (floor ∙ setting) ∙ opening;
+    seats = ap (λ (f : FloorView). f.seats) (floor ∙ setting);
+    conds = ap (λ (f : FloorView). f.conds) (floor ∙ setting);
+  }
+
+  pub is_text : (rules : Rules) (h : Heading) (events : List Event) (bytes : List ℕ) → rules ≡ rules_named k
+      → IsLegal (monitor_of rules flags_meaning a.floor) a.floor.history → h ≡ heading_for k r → events ≡ a.floor.history
+      → HasText h events → bytes ≡ text h events → IsTextOf k r a bytes
+  is_text rules h events bytes named legal is same has written = record {
+    is = written ∙ ap (λ (x : Heading). text x events) is ∙ ap (λ (es : List Event). text (heading_for k r) es) same;
+    has_text = subst (λ (es : List Event). HasText (heading_for k r) es) same (subst (λ (x : Heading). HasText x events) is has);
+    legal = legal_as_headed (heading_for k r) a.floor a.floor.history headed
+        (subst (λ (x : Rules). IsLegal (monitor_of x flags_meaning a.floor) a.floor.history) named legal);
+  }

@@ -1,0 +1,17 @@
+use Rattle.std.proofs.Common.{◌≡◌, ◌≤◌, ◌<◌, ℕ, length, slice_index_or}
+use Rattle.monk_c.specs.Deals.{deal_in, kind_dealt}
+use Rattle.monk_c.specs.Making.{AreFresh}
+use Rattle.monk_c.specs.declared.handle.MonkSeat.{MonkSeat}
+use Rattle.monk_c.proofs.making.seat_all.Given as goal
+
+abbrev pub invariant-loop-at : goal.invariant-loop-at
+invariant-loop-at l =
+    ((deal_in l.deal).left ≡ l.at) × (kind_dealt l.deal ≡ kind_dealt l.fn.deal)
+    × ((deal_in l.deal).room ≡ (deal_in l.fn.deal).room)
+    × (l.at ≤ length l.fn.handles)
+    × (length l.handles ≡ length l.fn.handles)
+    × ((i : ℕ) (d : MonkSeat) → i < l.at → slice_index_or l.handles i d ≡ slice_index_or l.fn.handles i d)
+    × AreFresh (kind_dealt l.fn.deal) (deal_in l.fn.deal).room l.at l.fn.handles l.handles
+
+abbrev pub decreases-loop-at : goal.decreases-loop-at
+decreases-loop-at l = l.at

@@ -1,0 +1,55 @@
+-- The close of a monitor through one of its handles
+use Rattle.std.specs.Prelude.{◌≡◌, ℕ, ℤ, Bool, false, not, is_some, List, slice_get, slice_set, Option, Some, None, IfSome, if◌then◌else◌}
+use Rattle.std.specs.List.{list_all}
+use Rattle.monk_c.specs.Answers.{fault_number}
+use Rattle.monk_c.specs.Coming.{HasCome}
+use Rattle.monk_c.specs.Handles.{booked}
+use Rattle.monk_c.specs.Refusal.{is_outside, refusal_at}
+use Rattle.monk_c.specs.Stands.{Booked}
+use Rattle.monk_c.specs.declared.any_seat.AnySeat.{AnySeat}
+use Rattle.monk_c.specs.declared.call.Call.TheVariants.{Arrive}
+use Rattle.monk_c.specs.declared.fault.Fault.{Fault}
+use Rattle.monk_c.specs.declared.fault.Fault.TheVariants.{NotNow, Range, Closed}
+use Rattle.monk_c.specs.declared.handle.MonkSeat.{MonkSeat}
+
+abbrev pub has_seat_outside : Option Booked → Bool
+has_seat_outside None = false
+has_seat_outside (Some b) = is_outside b.seat.at
+
+-- each handle has a seat
+abbrev pub are_seated : List MonkSeat → Bool
+are_seated handles = list_all (λ h. is_some (booked h.has)) handles
+
+-- each handle has a seat outside
+abbrev pub are_outside : List MonkSeat → Bool
+are_outside handles = list_all (λ h. has_seat_outside (booked h.has)) handles
+
+-- why the monitor can't be closed through any handle, if it can't
+abbrev pub refusal_of_seats : List MonkSeat → Option Fault
+refusal_of_seats handles =
+    if not (are_seated handles) then Some Closed
+    else if not (are_outside handles) then Some NotNow
+    else None
+
+-- the first of the refusals that apply: no handle has the number, or the seats stand so, or its own seat can't arrive
+abbrev pub refusal_through : Option MonkSeat → Option Fault → Option Fault
+refusal_through None seats = Some Range
+refusal_through (Some h) (Some f) = Some f
+refusal_through (Some h) None = refusal_at (booked h.has) Arrive
+
+abbrev pub close_refusal : List MonkSeat → ℕ → Option Fault
+close_refusal handles by = refusal_through (slice_get handles by) (refusal_of_seats handles)
+
+-- the handle's seat has arrived and polled, and each other handle is as before
+pub record IsClosed (old : List MonkSeat) (by : ℕ) (code : ℤ) (new : List MonkSeat) : Type 0 where
+  pub handle : MonkSeat
+  pub last : AnySeat
+  pub chosen : slice_get old by ≡ Some handle
+  pub come : HasCome handle.has code last
+  pub others : new ≡ slice_set old by (record handle { has = last })
+
+abbrev pub IfCloseRefused : List MonkSeat → ℕ → ℤ → List MonkSeat → Type 0
+IfCloseRefused old by code new = IfSome (close_refusal old by) (λ f. (new ≡ old) × (code ≡ fault_number f))
+
+abbrev pub IfClosed : List MonkSeat → ℕ → ℤ → List MonkSeat → Type 0
+IfClosed old by code new = close_refusal old by ≡ None → IsClosed old by code new

@@ -1,0 +1,15 @@
+pub mod Answers
+pub mod Closing
+pub mod Coming
+pub mod Dealing
+pub mod Deals
+pub mod Handles
+pub mod Headings
+pub mod Looking
+pub mod Making
+pub mod Refusal
+pub mod Stands
+pub mod Taken
+pub mod Texts
+pub mod Tokens
+pub mod Told

@@ -1,0 +1,33 @@
+-- How many wait, as a seat that is inside sees it
+use Rattle.std.specs.Prelude.{◌≡◌, ℕ, ℤ, pos, nat_lt, not, length, Option, Some, None, MatchOption, if◌then◌else◌}
+use Rattle.monk_kinds.specs.Names.{rules_named}
+use Rattle.monk_kinds.specs.declared.mode.Mode.{Mode}
+use Rattle.monk_history.specs.Meaning.Conditions.{condition}
+use Rattle.monk_history.specs.Meaning.Events.{has_conditions}
+use Rattle.monk_c.specs.Answers.{fault_number}
+use Rattle.monk_c.specs.Refusal.{is_inside}
+use Rattle.monk_c.specs.Stands.{At, Booked, SeatView}
+use Rattle.monk_c.specs.Stands.At.{Outside, Waiting, Inside}
+use Rattle.monk_c.specs.declared.fault.Fault.{Fault}
+use Rattle.monk_c.specs.declared.fault.Fault.TheVariants.{NotNow, NotOfKind, Range, Closed}
+
+-- why it isn't told, if it isn't
+abbrev pub look_refusal : Mode → SeatView → ℕ → Option Fault
+look_refusal m s c =
+    if not (has_conditions m) then Some NotOfKind
+    else if not (nat_lt c s.room.house.setting.conds) then Some Range
+    else if not (is_inside s.at) then Some NotNow
+    else None
+
+-- how many wait on the condition; 0 as seen from elsewhere
+abbrev pub waiting_at : At → ℕ → ℕ
+waiting_at (Outside p) c = 0
+waiting_at (Waiting p) c = 0
+waiting_at (Inside a) c = length (condition c a.floor.history)
+
+abbrev pub IsCount : Mode → SeatView → ℕ → ℤ → Type 0
+IsCount m s c code = MatchOption (look_refusal m s c) (code ≡ pos (waiting_at s.at c)) (λ f. code ≡ fault_number f)
+
+abbrev pub IsCountOf : Option Booked → ℕ → ℤ → Type 0
+IsCountOf None c code = code ≡ fault_number Closed
+IsCountOf (Some b) c code = IsCount (rules_named b.kind).mode b.seat c code

@@ -1,0 +1,16 @@
+-- Where a seat stands by its token
+use Rattle.monk_hall.specs.declared.after.After.{After}
+use Rattle.monk_hall.specs.declared.after.After.TheVariants as after
+use Rattle.monk_c.specs.Stands.{At}
+use Rattle.monk_c.specs.Stands.At.{Outside, Waiting, Inside}
+use Rattle.monk_c.specs.declared.token.SeatToken.{SeatToken}
+use Rattle.monk_c.specs.declared.token.SeatToken.TheVariants as token
+
+abbrev pub at_of : {K : Type 0} → SeatToken K → At
+at_of (token.Outside p) = Outside p
+at_of (token.Waiting p) = Waiting p
+at_of (token.Inside a) = Inside a
+
+abbrev pub at_after : {K T : Type 0} → After K T → At
+at_after (after.Active a) = Inside a
+at_after (after.Parked p) = Waiting p

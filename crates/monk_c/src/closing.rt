@@ -1,0 +1,42 @@
+//! How a monitor is closed.
+ghost use Rattle.std.specs.Prelude.{◌≡◌};
+ghost use Rattle.monk_c.specs.Closing.{IfCloseRefused, IfClosed, refusal_of_seats};
+
+use crate::fault::Fault;
+use crate::handle::MonkSeat;
+
+/// Why the monitor can't be closed through any handle, if it can't.
+fn refusal_of_seats(handles: &mut [MonkSeat]) -> Option<Fault>
+    ensures same { handles.new ≡ handles.old }
+    ensures refusal { result ≡ refusal_of_seats handles.old }
+{
+    let mut are_outside = true;
+    let mut at = 0;
+    while at < handles.len() {
+        match handles[at].place() {
+            0 => return Some(Fault::Closed),
+            1 => {}
+            _ => are_outside = false,
+        }
+        at += 1;
+    }
+    if are_outside {
+        None
+    } else {
+        Some(Fault::NotNow)
+    }
+}
+
+/// Closes the monitor of these handles through the handle of that number, or refuses it.
+pub fn close(handles: &mut [MonkSeat], by: usize) -> i32
+    ensures refused { IfCloseRefused handles.old by result handles.new }
+    ensures closed { IfClosed handles.old by result handles.new }
+{
+    if by >= handles.len() {
+        return Fault::Range.number();
+    }
+    match refusal_of_seats(handles) {
+        Some(fault) => fault.number(),
+        None => handles[by].come(),
+    }
+}

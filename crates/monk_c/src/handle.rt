@@ -1,0 +1,166 @@
+//! What a C program has of a seat.
+ghost use Rattle.std.specs.Prelude.{◌≡◌, true, None, IfOk, IfErr};
+ghost use Rattle.monk_kinds.specs.declared.mode.Pick.TheVariants as pick;
+ghost use Rattle.monk_c.specs.Coming.{HasCome};
+ghost use Rattle.monk_c.specs.Handles.{IfRefusedAt, IfTakenAt, IfUntoldAt, booked};
+ghost use Rattle.monk_c.specs.Looking.{IsCountOf};
+ghost use Rattle.monk_c.specs.Refusal.{is_plain, refusal_at};
+ghost use Rattle.monk_c.specs.Texts.{HasTextBooked, IsTextFaultOf};
+ghost use Rattle.monk_c.specs.Told.{IsLeft, place_at, word_at};
+ghost use Rattle.monk_c.specs.declared.any_seat.AnySeat.{AnySeat as Held};
+
+use crate::any_seat::AnySeat;
+use crate::call::Call;
+use crate::fault::Fault;
+use crate::reply::Reply;
+use monk_kinds::Pick;
+use std::alloc::Global;
+use std::marker::Model;
+
+/// A handle of a C program: a pointer to memory of the program's, where an `AnySeat` stands.
+#[repr(C)]
+pub struct MonkSeat {
+    pub at: *mut u8,
+    pub ghost has: { Held },
+}
+
+impl Model for MonkSeat {
+    ghost use Rattle.std.specs.Borrow.{full_share};
+    ghost use Rattle.std.specs.Ptr.{lies_at};
+    ghost use Rattle.monk_c.specs.contracts.any_seat.AnySeat.{the_row as seat_row};
+
+    ghost also_owns = { λ s. lies_at seat_row full_share s.at s.has };
+}
+
+// C passes handles from thread to thread (`crossing`).
+unsafe impl Send for MonkSeat {}
+
+impl MonkSeat {
+    /// Puts another in its place, and gives what was there.
+    fn swap(&mut self, next: AnySeat) -> AnySeat
+        ensures { (result ≡ self.old.has) × (self.new ≡ record self.old { has = next }) }
+    {
+        unsafe {
+            let at = self.at as *mut AnySeat;
+            let old = at.read();
+            at.write(next);
+            old
+        }
+    }
+
+    /// Puts another in its place, and gives up what was there.
+    pub fn put(&mut self, next: AnySeat)
+        ensures { self.new ≡ record self.old { has = next } }
+    {
+        self.swap(next);
+    }
+
+    /// Does what is asked, or refuses it.
+    pub fn ask(&mut self, call: Call, wish: Pick) -> Reply
+        requires { is_plain call ≡ true }
+        ensures same { self.new ≡ record self.old { has = self.new.has } }
+        ensures refused { IfRefusedAt call self.old.has result.code self.new.has }
+        ensures untold { IfUntoldAt call self.old.has result.granted }
+        ensures taken { IfTakenAt call wish self.old.has result.code result.granted self.new.has }
+    {
+        let mut seat = self.swap(AnySeat::Empty);
+        let reply = seat.ask(call, wish);
+        self.swap(seat);
+        reply
+    }
+
+    /// Comes to the monitor and looks whether it may come in. The place where it stands then, or why it can't come.
+    pub fn come(&mut self) -> i32
+        ensures same { self.new ≡ record self.old { has = self.new.has } }
+        ensures refused { IfRefusedAt Call.Arrive self.old.has result self.new.has }
+        ensures come { refusal_at (booked self.old.has) Call.Arrive ≡ None → HasCome self.old.has result self.new.has }
+    {
+        let arrived = self.ask(Call::Arrive, Pick::Waiter).code;
+        if arrived < 0 {
+            return arrived;
+        }
+        self.ask(Call::Poll, Pick::Waiter).code
+    }
+
+    /// Signals a condition to all who wait there, or refuses it.
+    pub fn broadcast(&mut self, cond: u8) -> Reply
+        ensures same { self.new ≡ record self.old { has = self.new.has } }
+        ensures refused { IfRefusedAt (Call.Broadcast cond) self.old.has result.code self.new.has }
+        ensures untold { IfUntoldAt (Call.Broadcast cond) self.old.has result.granted }
+        ensures taken { IfTakenAt (Call.Broadcast cond) pick.Waiter self.old.has result.code result.granted self.new.has }
+    {
+        let mut seat = self.swap(AnySeat::Empty);
+        let reply = seat.broadcast(cond);
+        self.swap(seat);
+        reply
+    }
+
+    /// Signals the first condition and waits on the second, or refuses it.
+    pub fn signal_wait(&mut self, cond: u8, wait_cond: u8, wish: Pick) -> Reply
+        ensures same { self.new ≡ record self.old { has = self.new.has } }
+        ensures refused { IfRefusedAt (Call.SignalWait cond wait_cond) self.old.has result.code self.new.has }
+        ensures untold { IfUntoldAt (Call.SignalWait cond wait_cond) self.old.has result.granted }
+        ensures taken { IfTakenAt (Call.SignalWait cond wait_cond) wish self.old.has result.code result.granted self.new.has }
+    {
+        let mut seat = self.swap(AnySeat::Empty);
+        let reply = seat.signal_wait(cond, wait_cond, wish);
+        self.swap(seat);
+        reply
+    }
+
+    /// The number for C of where it stands.
+    pub fn place(&mut self) -> i32
+        ensures same { self.new ≡ self.old }
+        ensures place { result ≡ place_at (booked self.old.has) }
+    {
+        let seat = self.swap(AnySeat::Empty);
+        let place = seat.place();
+        self.swap(seat);
+        place
+    }
+
+    /// How many events it has left.
+    pub fn left(&mut self) -> u32
+        ensures same { self.new ≡ self.old }
+        ensures left { IsLeft (booked self.old.has) result }
+    {
+        let seat = self.swap(AnySeat::Empty);
+        let left = seat.left();
+        self.swap(seat);
+        left
+    }
+
+    /// The word where its grant will come, if it waits.
+    pub fn word(&mut self) -> usize
+        ensures same { self.new ≡ self.old }
+        ensures word { result ≡ word_at (booked self.old.has) }
+    {
+        let seat = self.swap(AnySeat::Empty);
+        let word = seat.word();
+        self.swap(seat);
+        word
+    }
+
+    /// How many wait on a condition, or why that isn't told: its number is below 0.
+    pub fn waiting(&mut self, cond: u8) -> i64
+        ensures same { self.new ≡ self.old }
+        ensures count { IsCountOf (booked self.old.has) cond result }
+    {
+        let seat = self.swap(AnySeat::Empty);
+        let count = seat.waiting(cond);
+        self.swap(seat);
+        count
+    }
+
+    /// The text of the history up to now, or why there is none.
+    pub fn text(&mut self, alloc: Global) -> Result<Vec<u8>, Fault>
+        ensures same { self.new ≡ self.old }
+        ensures text { IfOk result (λ v. HasTextBooked (booked self.old.has) v.items) }
+        ensures refused { IfErr result (λ f. IsTextFaultOf (booked self.old.has) f) }
+    {
+        let seat = self.swap(AnySeat::Empty);
+        let text = seat.text(alloc);
+        self.swap(seat);
+        text
+    }
+}

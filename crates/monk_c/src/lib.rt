@@ -1,0 +1,315 @@
+//! The monitor behind C exports: a handle of a C program stands for a seat of a hall of any of the ten kinds.
+//!
+//! A call answers where the seat stands then (1 outside, 2 waiting, 3 inside), or below 0 why it is refused. Then the
+//! handle is as it was, and no grant is told. The first reason that applies is answered: -10, the handle has no seat; -3,
+//! the kind has no such call; -4, a condition, a flag or bits are out of range; -1, the seat stands elsewhere; -2, the seat
+//! has too few events left of its budget (`Call::wants`). No call waits or wakes: a release tells the word that it granted,
+//! and C wakes the thread whose seat waits there (`monk_k_word`). A word is 1 or more.
+#![tactic(auto)]
+
+ghost use Rattle.std.specs.Prelude.{◌≡◌};
+ghost use Rattle.monk_c.specs.Closing.{IfCloseRefused, IfClosed};
+ghost use Rattle.monk_c.specs.Handles.{IfRefusedAt, IfTakenAt, IfUntoldAt, booked};
+ghost use Rattle.monk_c.specs.Looking.{IsCountOf};
+ghost use Rattle.monk_c.specs.Making.{IsMade};
+ghost use Rattle.monk_c.specs.Taken.{wish_of};
+ghost use Rattle.monk_c.specs.Texts.{IsPut, IsTold};
+ghost use Rattle.monk_c.specs.Told.{IsLeft, place_at, word_at};
+ghost use Rattle.monk_c.specs.declared.any_seat.AnySeat.TheVariants as any;
+ghost use Rattle.monk_kinds.specs.declared.mode.Pick.TheVariants as pick;
+
+mod any_deal;
+mod any_seat;
+mod call;
+mod closing;
+mod crossing;
+mod deal;
+mod fault;
+mod handle;
+mod looking;
+mod making;
+mod modes;
+mod numbers;
+mod reply;
+mod room;
+mod seat;
+mod taking;
+mod token;
+
+use crate::any_seat::AnySeat;
+use crate::call::Call;
+use crate::closing::close;
+use crate::fault::Fault;
+use crate::handle::MonkSeat;
+use crate::making::make;
+use monk_kinds::Pick;
+use std::alloc::Global;
+use std::mem::size_of;
+
+/// A wish as C writes it: 0 for entry, 2 for a signaller, and any other for a waiter.
+fn wished(wish: u8) -> Pick
+    ensures { result ≡ wish_of wish }
+{
+    match wish {
+        0 => Pick::Entry,
+        2 => Pick::Signaller,
+        _ => Pick::Waiter,
+    }
+}
+
+/// How many bytes the memory behind a handle has. All of them 0 are no seat.
+#[unsafe(no_mangle)]
+pub extern "C" fn monk_k_seat_size() -> usize {
+    size_of::<AnySeat>()
+}
+
+/// Makes a monitor of a kind, with a seat for each handle, and gives up what the handles had. The kinds are numbered as in
+/// `KindName::ALL`; with no flags it has one that C can't set. 0; -4 where a number is out of its range (1 to 32 handles, at
+/// most 8 conditions and 32 flags, 2 to 2^20 events of each seat), or -5 where memory was refused: then nothing has changed.
+///
+/// It takes memory for all events of all seats at once, and no later call keeps any.
+#[unsafe(no_mangle)]
+pub extern "C" fn monk_k_make(
+    alloc: Global,
+    kind: u8,
+    conds: u8,
+    flags: u8,
+    budget: u32,
+    seats: &mut [MonkSeat],
+) -> i32
+    ensures { IsMade kind conds flags budget seats.old result seats.new }
+{
+    match make(alloc, kind, conds, flags, budget, seats) {
+        Ok(()) => 0,
+        Err(fault) => fault.number(),
+    }
+}
+
+/// The seat comes to the monitor.
+#[unsafe(no_mangle)]
+pub extern "C" fn monk_k_arrive(seat: &mut MonkSeat) -> i32
+    ensures same { seat.new ≡ record seat.old { has = seat.new.has } }
+    ensures refused { IfRefusedAt Call.Arrive seat.old.has result seat.new.has }
+    ensures taken { IfTakenAt Call.Arrive pick.Waiter seat.old.has result 0 seat.new.has }
+{
+    seat.ask(Call::Arrive, Pick::Waiter).code
+}
+
+/// The seat looks whether it may come in.
+#[unsafe(no_mangle)]
+pub extern "C" fn monk_k_poll(seat: &mut MonkSeat) -> i32
+    ensures same { seat.new ≡ record seat.old { has = seat.new.has } }
+    ensures refused { IfRefusedAt Call.Poll seat.old.has result seat.new.has }
+    ensures taken { IfTakenAt Call.Poll pick.Waiter seat.old.has result 0 seat.new.has }
+{
+    seat.ask(Call::Poll, Pick::Waiter).code
+}
+
+/// The seat leaves the monitor.
+#[unsafe(no_mangle)]
+pub extern "C" fn monk_k_leave(seat: &mut MonkSeat, wish: u8, granted: &mut usize) -> i32
+    ensures same { seat.new ≡ record seat.old { has = seat.new.has } }
+    ensures refused { IfRefusedAt Call.Leave seat.old.has result seat.new.has }
+    ensures untold { IfUntoldAt Call.Leave seat.old.has granted.new }
+    ensures taken { IfTakenAt Call.Leave (wish_of wish) seat.old.has result granted.new seat.new.has }
+{
+    let reply = seat.ask(Call::Leave, wished(wish));
+    *granted = reply.granted;
+    reply.code
+}
+
+/// The seat waits on a condition.
+#[unsafe(no_mangle)]
+pub extern "C" fn monk_k_start_wait(
+    seat: &mut MonkSeat,
+    condition: u8,
+    wish: u8,
+    granted: &mut usize,
+) -> i32
+    ensures same { seat.new ≡ record seat.old { has = seat.new.has } }
+    ensures refused { IfRefusedAt (Call.Wait condition) seat.old.has result seat.new.has }
+    ensures untold { IfUntoldAt (Call.Wait condition) seat.old.has granted.new }
+    ensures taken { IfTakenAt (Call.Wait condition) (wish_of wish) seat.old.has result granted.new seat.new.has }
+{
+    let reply = seat.ask(Call::Wait(condition), wished(wish));
+    *granted = reply.granted;
+    reply.code
+}
+
+/// The seat signals a condition.
+#[unsafe(no_mangle)]
+pub extern "C" fn monk_k_start_signal(
+    seat: &mut MonkSeat,
+    condition: u8,
+    wish: u8,
+    granted: &mut usize,
+) -> i32
+    ensures same { seat.new ≡ record seat.old { has = seat.new.has } }
+    ensures refused { IfRefusedAt (Call.Signal condition) seat.old.has result seat.new.has }
+    ensures untold { IfUntoldAt (Call.Signal condition) seat.old.has granted.new }
+    ensures taken { IfTakenAt (Call.Signal condition) (wish_of wish) seat.old.has result granted.new seat.new.has }
+{
+    let reply = seat.ask(Call::Signal(condition), wished(wish));
+    *granted = reply.granted;
+    reply.code
+}
+
+/// The seat signals a condition and leaves.
+#[unsafe(no_mangle)]
+pub extern "C" fn monk_k_signal_leave(
+    seat: &mut MonkSeat,
+    condition: u8,
+    wish: u8,
+    granted: &mut usize,
+) -> i32
+    ensures same { seat.new ≡ record seat.old { has = seat.new.has } }
+    ensures refused { IfRefusedAt (Call.SignalLeave condition) seat.old.has result seat.new.has }
+    ensures untold { IfUntoldAt (Call.SignalLeave condition) seat.old.has granted.new }
+    ensures taken { IfTakenAt (Call.SignalLeave condition) (wish_of wish) seat.old.has result granted.new seat.new.has }
+{
+    let reply = seat.ask(Call::SignalLeave(condition), wished(wish));
+    *granted = reply.granted;
+    reply.code
+}
+
+/// The seat sets the flags.
+#[unsafe(no_mangle)]
+pub extern "C" fn monk_k_set_flags(seat: &mut MonkSeat, bits: u32) -> i32
+    ensures same { seat.new ≡ record seat.old { has = seat.new.has } }
+    ensures refused { IfRefusedAt (Call.SetFlags bits) seat.old.has result seat.new.has }
+    ensures taken { IfTakenAt (Call.SetFlags bits) pick.Waiter seat.old.has result 0 seat.new.has }
+{
+    seat.ask(Call::SetFlags(bits), Pick::Waiter).code
+}
+
+/// The seat waits until a flag is set.
+#[unsafe(no_mangle)]
+pub extern "C" fn monk_k_start_wait_until(
+    seat: &mut MonkSeat,
+    flag: u8,
+    wish: u8,
+    granted: &mut usize,
+) -> i32
+    ensures same { seat.new ≡ record seat.old { has = seat.new.has } }
+    ensures refused { IfRefusedAt (Call.WaitUntil flag) seat.old.has result seat.new.has }
+    ensures untold { IfUntoldAt (Call.WaitUntil flag) seat.old.has granted.new }
+    ensures taken { IfTakenAt (Call.WaitUntil flag) (wish_of wish) seat.old.has result granted.new seat.new.has }
+{
+    let reply = seat.ask(Call::WaitUntil(flag), wished(wish));
+    *granted = reply.granted;
+    reply.code
+}
+
+/// The seat signals a condition to all who wait there.
+#[unsafe(no_mangle)]
+pub extern "C" fn monk_k_broadcast(seat: &mut MonkSeat, condition: u8) -> i32
+    ensures same { seat.new ≡ record seat.old { has = seat.new.has } }
+    ensures refused { IfRefusedAt (Call.Broadcast condition) seat.old.has result seat.new.has }
+    ensures taken { IfTakenAt (Call.Broadcast condition) pick.Waiter seat.old.has result 0 seat.new.has }
+{
+    seat.broadcast(condition).code
+}
+
+/// The seat signals the first condition and waits on the second.
+#[unsafe(no_mangle)]
+pub extern "C" fn monk_k_start_signal_wait(
+    seat: &mut MonkSeat,
+    condition: u8,
+    wait_condition: u8,
+    wish: u8,
+    granted: &mut usize,
+) -> i32
+    ensures same { seat.new ≡ record seat.old { has = seat.new.has } }
+    ensures refused { IfRefusedAt (Call.SignalWait condition wait_condition) seat.old.has result seat.new.has }
+    ensures untold { IfUntoldAt (Call.SignalWait condition wait_condition) seat.old.has granted.new }
+    ensures taken { IfTakenAt (Call.SignalWait condition wait_condition) (wish_of wish) seat.old.has result granted.new seat.new.has }
+{
+    let reply = seat.signal_wait(condition, wait_condition, wished(wish));
+    *granted = reply.granted;
+    reply.code
+}
+
+/// Where the seat stands: 1 outside, 2 waiting, 3 inside, and 0 where the handle has no seat.
+#[unsafe(no_mangle)]
+pub extern "C" fn monk_k_place(seat: &mut MonkSeat) -> i32
+    ensures same { seat.new ≡ seat.old }
+    ensures place { result ≡ place_at (booked seat.old.has) }
+{
+    seat.place()
+}
+
+/// How many events the seat has left of its budget; 0 where the handle has no seat.
+#[unsafe(no_mangle)]
+pub extern "C" fn monk_k_left(seat: &mut MonkSeat) -> u32
+    ensures same { seat.new ≡ seat.old }
+    ensures left { IsLeft (booked seat.old.has) result }
+{
+    seat.left()
+}
+
+/// The word where the grant of a waiting seat will come; 0 of any other.
+#[unsafe(no_mangle)]
+pub extern "C" fn monk_k_word(seat: &mut MonkSeat) -> usize
+    ensures same { seat.new ≡ seat.old }
+    ensures word { result ≡ word_at (booked seat.old.has) }
+{
+    seat.word()
+}
+
+/// How many wait on a condition, as the seat sees it from inside; or -10, -3, -4 or -1, as of a wait there.
+#[unsafe(no_mangle)]
+pub extern "C" fn monk_k_waiting(seat: &mut MonkSeat, condition: u8) -> i64
+    ensures same { seat.new ≡ seat.old }
+    ensures count { IsCountOf (booked seat.old.has) condition result }
+{
+    seat.waiting(condition)
+}
+
+/// Puts the text of the history up to now into `out`, where there is room for it. Its length; or -10 where the handle has
+/// no seat, -1 where that isn't inside, -5 where memory for the text was refused. One pass over the history.
+#[unsafe(no_mangle)]
+pub extern "C" fn monk_k_history(alloc: Global, seat: &mut MonkSeat, out: &mut [u8]) -> i64
+    ensures same { seat.new ≡ seat.old }
+    ensures told { IsTold (booked seat.old.has) result out.old out.new }
+{
+    match seat.text(alloc) {
+        Ok(text) => tell(&text, out),
+        Err(fault) => i64::from(fault.number()),
+    }
+}
+
+/// Puts the text where there is room for it, and gives its length.
+fn tell(text: &[u8], out: &mut [u8]) -> i64
+    ensures { IsPut text.now result out.old out.new }
+{
+    let Ok(length) = i64::try_from(text.len()) else {
+        return i64::from(Fault::Memory.number());
+    };
+    if text.len() <= out.len() {
+        out[..text.len()].copy_from_slice(text);
+    }
+    length
+}
+
+/// Closes the monitor that these handles are of: the seat of handle `by` comes to it, polls and stays there. The place of
+/// that seat, which is inside where the monitor was free.
+///
+/// It is refused for the first of these reasons that applies: -4, there is no handle `by`; -10, a handle has no seat; -1, a
+/// seat isn't outside; -2, the seat of `by` has too few events left to arrive. Then nothing has changed. It looks once at
+/// each handle.
+#[unsafe(no_mangle)]
+pub extern "C" fn monk_k_close(seats: &mut [MonkSeat], by: usize) -> i32
+    ensures refused { IfCloseRefused seats.old by result seats.new }
+    ensures closed { IfClosed seats.old by result seats.new }
+{
+    close(seats, by)
+}
+
+/// Gives a seat up, and the handle has none then. One that is inside leaves, and nobody is told whom that let in; one that
+/// waits keeps its place, and the monitor for good once its turn comes.
+#[unsafe(no_mangle)]
+pub extern "C" fn monk_k_drop(seat: &mut MonkSeat)
+    ensures { seat.new ≡ record seat.old { has = any.Empty } }
+{
+    seat.put(AnySeat::Empty);
+}

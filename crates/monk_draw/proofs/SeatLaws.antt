@@ -1,0 +1,78 @@
+-- What is kept of the seats shows where they stand, after one event more
+use Rattle.std.proofs.Common.{◌≡◌, ℕ, ◌<◌, zero, suc, eqb, cond, Bool, true, false, Option, Some, None, List, [], ◌∷◌, ◌++◌}
+use Rattle.std.proofs.Common.{length, drop, refl, sym, ap, ◌∙◌, arith, replicate}
+use Rattle.std.specs.Prelude.{slice_set}
+use Rattle.std.specs.List.{last_or}
+use Rattle.std.proofs.lemmas.List.{append-nil}
+use Rattle.std.proofs.Math.Dec.{eqb-suc-zero, eqb-zero-suc, eqb-suc-suc}
+use Rattle.monk_history.specs.Meaning.Conditions.{condition, served_by, served_so_far, waiting_by, waits}
+use Rattle.monk_history.specs.Meaning.Counts.{events_of}
+use Rattle.monk_history.specs.Meaning.Events.{seat_of}
+use Rattle.monk_history.specs.declared.event.Event.{Event}
+use Rattle.monk_history.proofs.PublicLaws.Meaning.{condition-push, events_of-push}
+use Rattle.monk_draw.specs.Seats.{AreAfter, IsWhole, left_in, numbers, place_in, queue_in}
+use Rattle.monk_draw.specs.Stand.{has, if_served, left_at, left_by, place_after}
+use Rattle.monk_draw.specs.declared.place.Place.{Place}
+use Rattle.monk_draw.specs.declared.place.Place.TheVariants.{Outside}
+use Rattle.monk_draw.specs.declared.seats.Seats.{Seats}
+
+last_put : {X : Type 0} (o : Option X) (xs : List X) (x : X) → last_or o (xs ++ x ∷ []) ≡ Some x
+last_put o [] x = refl
+last_put o (y ∷ ys) x = last_put (Some y) ys x
+
+-- behind events of a seat comes one of its own, or one of another's
+pub left_more : (b : Bool) (es : List Event) (e : Event)
+    → left_at (last_or None (es ++ cond b (e ∷ []) [])) ≡ cond b (left_by e) (left_at (last_or None es))
+left_more true es e = ap left_at (last_put None es e)
+left_more false es e = ap (λ (l : List Event). left_at (last_or None l)) (append-nil es)
+
+put_at : (ps : List Place) (i : ℕ) (p : Place) (s : ℕ) → i < length ps
+    → left_in (slice_set ps i p) s ≡ cond (eqb i s) p (left_in ps s)
+put_at [] i p s l = absurd (omega arith)
+put_at (q ∷ qs) zero p zero l = refl
+put_at (q ∷ qs) zero p (suc s) l = rw (eqb-zero-suc s) refl
+put_at (q ∷ qs) (suc i) p zero l = rw (eqb-suc-zero i) refl
+put_at (q ∷ qs) (suc i) p (suc s) l = rw (eqb-suc-suc i s) (put_at qs i p s (omega arith))
+
+-- one event more: it leaves its own seat somewhere, and moves the queues
+pub after_more : (h : List Event) (e : Event) (old new : Seats)
+    → seat_of e < length old.left.items → IsWhole new
+    → new.left.items ≡ slice_set old.left.items (seat_of e) (left_by e)
+    → ((c : ℕ) → queue_in new.queues c ≡ drop (length (served_by c e (queue_in old.queues c))) (queue_in old.queues c)
+    ++ waiting_by c e)
+    → AreAfter h old → AreAfter (h ++ e ∷ []) new
+after_more h e old new below whole put moved was = record {
+  whole = whole;
+  lefts =
+      λ s. ap (λ (ps : List Place). left_in ps s) put
+      ∙ (put_at old.left.items (seat_of e) (left_by e) s below
+      ∙ (ap (λ (p : Place). cond (eqb (seat_of e) s) (left_by e) p) (was.lefts s)
+      ∙ (sym (left_more (eqb (seat_of e) s) (events_of h s) e)
+      ∙ ap (λ (l : List Event). left_at (last_or None l)) (sym (events_of-push h e s)))));
+  queues =
+      λ c. moved c
+      ∙ (ap (λ (q : List ℕ). drop (length (served_by c e q)) q ++ waiting_by c e) (was.queues c) ∙ sym (condition-push c h e));
+}
+
+outside_all : (n s : ℕ) → left_in (replicate n Outside) s ≡ Outside
+outside_all zero s = refl
+outside_all (suc n) zero = refl
+outside_all (suc n) (suc s) = outside_all n s
+
+-- before any event
+pub after_none : (seats : Seats) → IsWhole seats → seats.left.items ≡ replicate numbers Outside
+    → ((c : ℕ) → queue_in seats.queues c ≡ []) → AreAfter [] seats
+unfolding condition waits served_so_far events_of
+after_none seats whole outside empty = record {
+  whole = whole;
+  lefts = λ s. ap (λ (ps : List Place). left_in ps s) outside ∙ outside_all numbers s;
+  queues = empty;
+}
+
+-- where a seat stands by them is where it stands
+pub place_is : (h : List Event) (seats : Seats) (s : ℕ) → AreAfter h seats → place_in seats s ≡ place_after h s
+unfolding place_after
+place_is h seats s are =
+    ap (λ (p : Place). if_served (λ c. has s (queue_in seats.queues c)) p) (are.lefts s)
+    ∙ ap (λ (q : ℕ → List ℕ). if_served (λ c. has s (q c)) (left_at (last_or None (events_of h s))))
+    (λ i c. are.queues c i)

@@ -1,0 +1,8 @@
+use crate::place::Place;
+
+/// Where a seat stands, and from where on it is drawn there.
+#[derive(Clone, Copy)]
+pub(crate) struct Stay {
+    pub(crate) place: Place,
+    pub(crate) from: u64,
+}

@@ -1,0 +1,123 @@
+-- Whoever goes on from a wait-until awaits what holds
+use Rattle.std.proofs.Common.{◌≡◌, ℕ, ◌+◌, ◌<◌, Bool, true, false, cond, ◌&&◌, ◌==◌, Option, Some, None, List}
+use Rattle.std.proofs.Common.{[], ◌∷◌, ◌++◌}
+use Rattle.std.proofs.Common.{length, get_or, ◌-◌, take, refl, sym, ap, subst, ◌∙◌, arith, eq-eqb}
+use Rattle.std.specs.Prelude.{slice_get, is_some, filter, map}
+use Rattle.std.specs.List.{list_any}
+use Rattle.std.specs.Option.{option_map_or}
+use Rattle.std.proofs.lemmas.Bool.{false≢true, eqb-true}
+use Rattle.std.proofs.lemmas.Option.{slice_get_within, slice_get-get_or}
+use Rattle.monk_kinds.specs.declared.mode.Rules.{Rules}
+use Rattle.monk_object.specs.Object.{Object}
+use Rattle.monk_history.specs.Meaning.Events.{seat_of, next_of, is_stay}
+use Rattle.monk_history.specs.Meaning.Events.{steps_back, answered_act}
+use Rattle.monk_history.specs.Meaning.Monitor.{Monitor, data_of}
+use Rattle.monk_history.specs.Meaning.Situation.{situation}
+use Rattle.monk_history.specs.Meaning.Choice.{Queues, queues_at, may_choose, may_signal, must_stay, is_front}
+use Rattle.monk_history.specs.Meaning.Turn.{turn, turn_by}
+use Rattle.monk_history.specs.Meaning.Reasons.{is_due}
+use Rattle.monk_history.specs.Meaning.Legal.{IsLegal}
+use Rattle.monk_history.specs.Meaning.Promises.{AwaitsWhatHolds, ThePredicateHolds}
+use Rattle.monk_history.specs.Meaning.Untils.{untils, ready_of}
+use Rattle.monk_history.specs.declared.event.Event.{Event}
+use Rattle.monk_history.specs.declared.event.Event.TheVariants.{Enter, Act, Leave, Wait, Signal, SignalLeave}
+use Rattle.monk_history.specs.declared.event.Event.TheVariants.{Until, Resume}
+use Rattle.monk_history.specs.declared.event.Event.TheVariants.{SignalAll, SignalWait}
+use Rattle.monk_history.specs.declared.event.Turn.{Turn}
+use Rattle.monk_history.specs.declared.event.Turn.TheVariants.{Open, Due, Owned}
+use Rattle.monk_history.specs.declared.event.Next.{Next}
+use Rattle.monk_history.specs.declared.event.Next.TheVariants.{Stay, Entry, Waiter, Signaller}
+use Rattle.monk_history.specs.declared.event.Next.TheVariants.{Until as UntilSeat}
+use Rattle.monk_history.specs.declared.event.From3.{From3}
+use Rattle.monk_history.specs.declared.event.From3.TheVariants.{Until as FromUntil}
+use Rattle.monk_history.proofs.MeaningLaws.TestLaws.{and_left, and_right}
+use Rattle.monk_history.proofs.MeaningLaws.TurnLaws.{turn-push, data-push}
+use Rattle.monk_history.proofs.MeaningLaws.HandOverLaws.{take_more_by_one, same_queue, or_left, or_right}
+use Rattle.monk_history.proofs.MeaningLaws.HandOverLaws.{both, by_stay}
+
+-- seat s is among them with a predicate that holds
+abbrev AwaitsAmong : Object → List ℕ → ℕ → List (ℕ × ℕ) → Type 0
+AwaitsAmong o d s ws = (p : ℕ) × (list_any (λ u. u.0 == s && u.1 == p) ws ≡ true) × (o.holds d p ≡ true)
+
+ready_by : (o : Object) (d : List ℕ) (s : ℕ) (u : ℕ × ℕ) (us : List (ℕ × ℕ)) (b : Bool) → o.holds d u.1 ≡ b
+    → (is_front s (ready_of o d us) ≡ true → AwaitsAmong o d s us)
+    → is_front s (map (λ (v : ℕ × ℕ). v.0) (cond b (u ∷ filter (λ v. o.holds d v.1) us) (filter (λ v. o.holds d v.1) us))) ≡ true
+    → AwaitsAmong o d s (u ∷ us)
+ready_by o d s u us true e f g = (
+  u.1,
+  or_left (u.0 == s && u.1 == u.1) (list_any (λ v. v.0 == s && v.1 == u.1) us) (both (u.0 == s) (u.1 == u.1) g (eq-eqb u.1 u.1 refl)),
+  e,
+)
+ready_by o d s u us false e f g =
+    let r = f g in (r.0, or_right (u.0 == s && u.1 == r.0) (list_any (λ v. v.0 == s && v.1 == r.0) us) r.1, r.2)
+
+-- whoever stands first among those that are ready waits until a predicate that holds
+ready_front : (o : Object) (d : List ℕ) (s : ℕ) (ws : List (ℕ × ℕ)) → is_front s (ready_of o d ws) ≡ true → AwaitsAmong o d s ws
+ready_front o d s [] h = absurd (false≢true h)
+ready_front o d s (u ∷ us) h = ready_by o d s u us (o.holds d u.1) refl (λ g. ready_front o d s us g) h
+
+-- what was chosen from the waits-until stood first among those that were ready
+until_chosen : (k : Rules) (q : Queues) (s : ℕ) (b : Bool) (x : Option Next) (j : ℕ) → x ≡ Some (UntilSeat j)
+    → option_map_or (λ n. cond b (may_signal k q s n) (may_choose k q s n)) x true ≡ true → is_front j q.ready ≡ true
+until_chosen k q s b None j e p = absurd (cc)
+until_chosen k q s b (Some Stay) j e p = absurd (cc)
+until_chosen k q s b (Some Entry) j e p = absurd (cc)
+until_chosen k q s b (Some (Waiter i)) j e p = absurd (cc)
+until_chosen k q s b (Some (Signaller i)) j e p = absurd (cc)
+until_chosen k q s true (Some (UntilSeat i)) j e p = let same : i ≡ j = cc in subst (λ z. is_front z q.ready ≡ true) same (and_right _ _ p)
+until_chosen k q s false (Some (UntilSeat i)) j e p = let same : i ≡ j = cc in subst (λ z. is_front z q.ready ≡ true) same (and_right _ _ p)
+
+-- a turn that is due from the waits-until was given by that choice
+due_from_until : (s j : ℕ) (x : Option Next) → turn_by s x ≡ Due j FromUntil → x ≡ Some (UntilSeat j)
+due_from_until s j None e = absurd (cc)
+due_from_until s j (Some Stay) e = absurd (cc)
+due_from_until s j (Some Entry) e = absurd (cc)
+due_from_until s j (Some (Waiter i)) e = absurd (cc)
+due_from_until s j (Some (Signaller i)) e = absurd (cc)
+due_from_until s j (Some (UntilSeat i)) e = let same : i ≡ j = cc in ap (λ z. Some (UntilSeat z)) same
+
+-- whoever chooses does nothing on the object
+choice_without_act : (e : Event) (x : Next) → next_of e ≡ Some x → answered_act e ≡ None
+choice_without_act (Enter s via) x h = refl
+choice_without_act (Act s op r) x h = absurd (cc)
+choice_without_act (Leave s y) x h = refl
+choice_without_act (Wait s c y) x h = refl
+choice_without_act (Signal s c y) x h = refl
+choice_without_act (SignalLeave s c y) x h = refl
+choice_without_act (Until s p y) x h = refl
+choice_without_act (Resume s q) x h = refl
+choice_without_act (SignalAll s c) x h = refl
+choice_without_act (SignalWait s c d y) x h = refl
+
+resume_is_due : (s : ℕ) (q : From3) (t : Turn) → is_due s q t ≡ true → t ≡ Due s q
+resume_is_due s q Open h = absurd (false≢true h)
+resume_is_due s q (Due j r) h =
+    ap (λ z. Due z r) (eqb-true j s (and_left _ _ h)) ∙ ap (Due s) (sym (same_queue q r (and_right _ _ h)))
+resume_is_due s q (Owned j) h = absurd (false≢true h)
+
+awaits_what_holds : (m : Monitor) (h : List Event) (i s : ℕ) (e : Event) → IsLegal m h → slice_get h i ≡ Some e
+    → slice_get h (i + 1) ≡ Some (Resume s FromUntil) → (p : ℕ) × AwaitsWhatHolds m h i s p
+awaits_what_holds m h i s e l here there =
+    let past = take i h in
+    let one : take (i + 1) h ≡ past ++ e ∷ [] = take_more_by_one h i e here in
+    let due : turn_by (seat_of e) (next_of e) ≡ Due s FromUntil =
+    sym (ap turn one ∙ turn-push past e)
+    ∙ resume_is_due s FromUntil (turn (take (i + 1) h)) ((l (i + 1) (Resume s FromUntil) there).in_turn) in
+    let chosen : next_of e ≡ Some (UntilSeat s) = due_from_until (seat_of e) s (next_of e) due in
+    let found = ready_front m.object (data_of m past) s (untils past)
+    (by_stay (is_front s (ready_of m.object (data_of m past) (untils past)) ≡ true) (must_stay m.object (situation m past) e)
+    (is_stay (next_of e)) _ ((l i e here).permitted)
+    (λ p. absurd (false≢true (sym (ap is_stay chosen) ∙ p)))
+    (λ p. until_chosen m.kind (queues_at m.object (situation m past) e) (seat_of e) (is_some (steps_back e)) (next_of e) s chosen p)) in
+    let same : data_of m (take (i + 1) h) ≡ data_of m past =
+    ap (data_of m) one
+    ∙ (data-push m past e
+    ∙ ap (λ a. option_map_or (λ act. m.object.after (data_of m past) act.op) a (data_of m past))
+    (choice_without_act e (UntilSeat s) chosen)) in
+    (found.0, (found.1, ap (λ d. m.object.holds d found.0) same ∙ found.2))
+
+pub the_predicate_holds : (m : Monitor) (h : List Event) → IsLegal m h → ThePredicateHolds m h
+the_predicate_holds m h l i s there =
+    let within : i + 1 < length h = slice_get_within h (i + 1) (Resume s FromUntil) there in
+    let e = get_or h i (Resume s FromUntil) in
+    awaits_what_holds m h i s e l (slice_get-get_or h i (Resume s FromUntil) (omega (arith, within))) there

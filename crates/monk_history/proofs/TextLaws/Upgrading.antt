@@ -1,0 +1,63 @@
+-- An upgraded header has a line of each event.
+use Rattle.std.proofs.Common.{◌≡◌, ℕ, ◌≤◌, ◌<◌, Bool, true, false, cond, List, [], ◌∷◌, refl, arith}
+use Rattle.std.specs.Prelude.{nat_le}
+use Rattle.std.proofs.lemmas.Bool.{leb-true, leb-false, le-leb}
+use Rattle.monk_history.specs.declared.event.Event.{Event}
+use Rattle.monk_history.specs.declared.event.Event.TheVariants.{Enter, Act, Leave, Wait, Signal, SignalLeave, Until, Resume}
+use Rattle.monk_history.specs.declared.event.Event.TheVariants.{SignalAll, SignalWait}
+use Rattle.monk_history.specs.Limits.{newest_version, all_events_version}
+use Rattle.monk_history.specs.Text.{Heading, upgraded_heading, first_version, is_writable, HasText}
+
+has_line : (e : Event) → first_version e ≤ all_events_version
+has_line (Enter s via) = omega arith
+has_line (Act s op reply) = omega arith
+has_line (Leave s n) = omega arith
+has_line (Wait s c n) = omega arith
+has_line (Signal s c n) = omega arith
+has_line (SignalLeave s c n) = omega arith
+has_line (Until s p n) = omega arith
+has_line (Resume s q) = omega arith
+has_line (SignalAll s c) = omega arith
+has_line (SignalWait s c d n) = omega arith
+
+record Upgrades (v u : ℕ) : Type 0 where
+  from : v ≤ u
+  all_events : all_events_version ≤ u
+  newest : v ≤ newest_version → u ≤ newest_version
+
+upgrades_by : (v : ℕ) (b : Bool) → nat_le all_events_version v ≡ b → Upgrades v (cond b v all_events_version)
+upgrades_by v true e =
+    record { from = omega arith; all_events = leb-true all_events_version v e; newest = λ m. m }
+upgrades_by v false e =
+    let less : v < all_events_version = leb-false all_events_version v e in
+    record { from = omega (arith, less); all_events = omega arith; newest = λ m. omega arith }
+
+upgrades : (h : Heading) → Upgrades h.version (upgraded_heading h).version
+upgrades h = upgrades_by h.version (nat_le all_events_version h.version) refl
+
+pub all_writable : (h : Heading) → all_events_version ≤ h.version → (es : List Event) → is_writable h es ≡ true
+all_writable h all [] = refl
+all_writable h all (e ∷ es) =
+    rw (le-leb (first_version e) h.version (omega (arith, all, has_line e)), all_writable h all es) refl
+
+-- what has a text has one under the upgraded header
+pub upgraded_text : (h : Heading) (es : List Event) → HasText h es → HasText (upgraded_heading h) es
+upgraded_text h es has =
+    let fits = has.header_fits in
+    let u = upgrades h in
+    let from = u.from in
+    let all = u.all_events in
+    record {
+      header_fits = record {
+        some_version = omega (arith, all);
+        version = u.newest fits.version;
+        named = omega (arith, from, fits.named);
+        some_seat = fits.some_seat;
+        seats = fits.seats;
+        conds = fits.conds;
+        some_size = fits.some_size;
+        size = fits.size;
+      };
+      events_fit = has.events_fit;
+      writable = all_writable (upgraded_heading h) all es;
+    }
