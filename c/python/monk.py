@@ -46,7 +46,7 @@ PLACES = {OUTSIDE: "outside", WAITING: "waiting", INSIDE: "inside"}
 FOREVER = -1
 # The main thread waits in slices, so that it sees an interrupt.
 SLICE_MS = 100
-AT_ONCE = 0
+AT_ONCE = ctypes.c_long(0)
 MS_A_SECOND = 1000
 
 T = TypeVar("T")
@@ -145,9 +145,10 @@ _free = ctypes.CDLL(None).free
 _free.argtypes, _free.restype = [ctypes.c_void_p], None
 
 
-# Those of each visit, looked up once.
+# Those of each visit, looked up once. A seat's pointer and the time are ctypes values already, so nothing is converted.
 _enter_within, _leave = _library_now.monk_enter_within, _library_now.monk_leave
 _start_signal = _library_now.monk_start_signal
+_enter_within.argtypes = _leave.argtypes = None
 
 
 def _checked(answer: int) -> int:
@@ -175,7 +176,7 @@ class _Handle:
         _checked(_library.monk_make(ctypes.byref(self.at), ctypes.byref(shape)))
         self.kind, self.mode = KINDS[shape.kind], MODES[shape.kind // KINDS_OF_A_MODE]
 
-    def history(self, by: Optional[int]) -> str:
+    def history(self, by: Optional[ctypes.c_void_p]) -> str:
         text, length = ctypes.c_void_p(), ctypes.c_size_t()
         _checked(_library.monk_history(self.at, by, ctypes.byref(text), ctypes.byref(length)))
         try:
@@ -193,13 +194,13 @@ class Seat:
 
     def __init__(self, handle: _Handle, wish: str) -> None:
         at = ctypes.c_void_p()
-        self._at: Optional[int] = None
+        self._at: Optional[ctypes.c_void_p] = None
         _checked(_library.monk_take_seat(handle.at, ctypes.byref(at)))
-        self._handle, self._at = handle, at.value
+        self._handle, self._at = handle, at
         if wish != "waiter":
             self.wish(wish)
 
-    def _pointer(self) -> int:
+    def _pointer(self) -> ctypes.c_void_p:
         if self._at is None:
             raise NotNow("the seat was given back")
         return self._at
@@ -422,13 +423,19 @@ class Monitor:
         self.here.go_out()
 
     def __enter__(self) -> Monitor:
-        seat = self._here.seat or self.here
-        if seat._at is None:
-            seat = self.here
-        answer = _enter_within(seat._at, AT_ONCE)
+        seat = self._here.seat
+        # A seat that was given back is the null pointer, which the library refuses.
+        answer = NOT_NOW if seat is None else _enter_within(seat._at, AT_ONCE)
         if answer != INSIDE:
-            seat._go_on_entering(answer)
+            self._go_on_entering(answer)
         return self
+
+    def _go_on_entering(self, answer: int) -> None:
+        seat = self._here.seat
+        if seat is None or seat._at is None:
+            self.here.enter()
+        else:
+            seat._go_on_entering(answer)
 
     def __exit__(self, *_: object) -> None:
         seat = self._here.seat
