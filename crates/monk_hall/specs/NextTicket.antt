@@ -26,15 +26,15 @@ pub record OneWaits (c : Setting) (s : HallState) (t : ℕ) : Type 0 where
   pub word : waiting_word seat ≡ ticket_word c.seats t
   pub alone : (q : SeatRecord) → IsRecord s q → q.place ≡ Ticket t → q ≡ seat
 
--- a seat has released by entry, and two tickets are not passed on: its own, and another. Then one seat waits with the
--- ticket whose number is that of the enters so far
+-- a release by entry has brought the floor home, and two tickets are not passed on: its own, and another. Then one seat
+-- waits with the ticket whose number is that of the enters so far
 abbrev pub NextTicketWaits : Type 0
 NextTicketWaits =
     (k : Rules) (o : Object) (c : Setting) (s : HallState) → IsHall k o c s
     → (r : SeatRecord) (to : Home) → IsRecord s r → r.place ≡ Back Entry to → 2 ≤ unpassed (first_word s)
     → OneWaits c s (enters_of r.seen)
 
--- a release chose entry and granted a word. Who then enters with a ticket, before anybody else enters, waited at that word
+-- a release chose entry and granted a word. If the next seat that enters waited with a ticket, it waited at that word
 abbrev pub GrantedEntersNext : Type 0
 GrantedEntersNext =
     (k : Rules) (o : Object) (a : Holder) (call : Event) (wish : Pick) (to : Home) (peeks : ℕ) (p : Token) (h : House) (x : Grant)

@@ -29,13 +29,14 @@ pub fn chosen_entry_waits()
     ensures { EntryWaits }
 {}
 
-/// While a release by entry has yet to let somebody in, exactly one seat waits with the ticket that is next. The number of
-/// that ticket is the number of enters so far.
+/// A release by entry has brought the floor home, and another ticket than its own is not passed on: then exactly one seat
+/// waits with the ticket that is next. The number of that ticket is the number of enters so far.
 pub fn next_ticket_waits()
     ensures { NextTicketWaits }
 {}
 
-/// After a release that chose entry and granted a word, the next that enters with a ticket had waited at that word.
+/// A release chose entry and granted a word: if the next seat that enters has waited with a ticket, it has waited at that
+/// word.
 pub fn granted_ticket_enters_next()
     ensures { GrantedEntersNext }
 {}
