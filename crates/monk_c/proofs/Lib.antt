@@ -2,6 +2,5 @@ pub mod Closes
 pub mod Coming
 pub mod Dealing
 pub mod Handling
-mod HallSendable
 mod Sendable
 pub mod Texts

@@ -9,9 +9,8 @@ use Rattle.monk_kinds.specs.declared.kind.Kind as Kind
 use Rattle.monk_object.specs.contracts.flags.Flags as Flags
 use Rattle.monk_object.specs.contracts.flags.FlagsGuarded.TheImpl.{ghosts}
 use Rattle.monk_history.specs.contracts.text.header.Header as Header
-use Rattle.monk_hall.proofs.PublicLaws.{hall_sync, pass_send}
+use Rattle.monk_hall.proofs.PublicLaws.{active_send, hall_send, hall_sync, parked_send, pass_send}
 use Rattle.monk_hall.specs.contracts.hall.Hall as Hall
-use Rattle.monk_c.proofs.HallSendable.{active_send, hall_send, parked_send}
 use Rattle.monk_c.specs.contracts.any_seat.AnySeat as AnySeat
 use Rattle.monk_c.specs.contracts.room.Room as Room
 use Rattle.monk_c.specs.contracts.room.Room.TheInside as RoomInside

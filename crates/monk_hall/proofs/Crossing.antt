@@ -1,25 +1,29 @@
--- Threads may share a hall, and a pass may go to another thread, where the object may
+-- Threads may share a hall, and a hall and its tokens may go to another thread, where the kind and the object may
 use denote.RattleType.{RattleType}
 use denote.Param.Send.{IsSend, IsSync, AllSend, AllSync, sendable, part_keyless, struct_send, struct_sync}
 use denote.Param.Send.{recorded_send, recorded_sync, view_send, view_sync}
 use denote.Struct.Declared.{shape}
 use denote.Struct.Owning as owning
 use denote.Struct.Struct.{Struct}
-use Rattle.std.proofs.Crossing.{frees, Box-send, sync as heap_sync}
+use Rattle.std.proofs.Crossing.{frees, Box-send, send as heap_send, sync as heap_sync}
 use Rattle.std.specs.contracts.alloc.Global as Heap
 use Rattle.std.specs.contracts.impls.GlobalAllocator.TheImpl.{ghosts}
 use Rattle.std.specs.contracts.option.Option as Option
-use Rattle.atomic_table.proofs.Sent.{shares_keyless, badge_keyless}
+use Rattle.atomic_table.proofs.Sent.{owns_keyless, shares_keyless, badge_keyless, seat_keyless}
 use Rattle.atomic_table.proofs.Rights.{right_send}
 use Rattle.atomic_table.specs.contracts.badge.Badge as Badge
 use Rattle.atomic_table.specs.contracts.owned.Table as Table
 use Rattle.atomic_table.specs.contracts.send_lease.SendLease as SendLease
+use Rattle.atomic_table.specs.contracts.shared.Seat as TableSeat
 use Rattle.atomic_table.specs.contracts.shared.Shared as Shared
 use Rattle.atomic_table.specs.declared.shared.TableRule as TableRule
 use Rattle.monk_kinds.specs.declared.kind.Kind as Kind
 use Rattle.monk_object.specs.declared.guarded.Guarded as Guarded
 use Rattle.monk_floor.proofs.PublicLaws.{floor_send}
+use Rattle.monk_world.specs.contracts.place.Place as Place
 use Rattle.std.specs.contracts.collections.LinkedList as LinkedList
+use Rattle.monk_hall.specs.contracts.active.Active as Active
+use Rattle.monk_hall.specs.contracts.active.Active.TheInside as ActiveInside
 use Rattle.monk_hall.specs.contracts.boxed_floor.BoxedFloor as BoxedFloor
 use Rattle.monk_hall.specs.contracts.boxed_floor.BoxedFloor.TheInside as BoxedFloorInside
 use Rattle.monk_hall.specs.contracts.record.SeatRecord as SeatRecord
@@ -28,6 +32,8 @@ use Rattle.monk_hall.specs.contracts.rule.HallRuleTableRuleOptionBoxedFloorViewS
 use Rattle.monk_hall.specs.contracts.setup.Setup as Setup
 use Rattle.monk_hall.specs.contracts.hall.Hall as Hall
 use Rattle.monk_hall.specs.contracts.hall.Hall.TheInside as HallInside
+use Rattle.monk_hall.specs.contracts.parked.Parked as Parked
+use Rattle.monk_hall.specs.contracts.parked.Parked.TheInside as ParkedInside
 use Rattle.monk_hall.specs.contracts.pass.Pass as Pass
 use Rattle.monk_hall.specs.contracts.pass.Pass.TheInside as PassInside
 
@@ -102,3 +108,70 @@ pass_inside K T k t sk st =
 pub pass_send : (K T : RattleType) (k : Kind.Ghosts K.Denot) (t : Guarded.Ghosts T.Denot) → IsSend K → IsSend T
     → IsSend (Pass.the_row K T k t)
 pass_send K T k t sk st = view_send (PassInside.the_row K T k t) _ _ _ _ (pass_inside K T k t sk st)
+
+seat_send : (S V : RattleType) → IsSend S → IsSend (TableSeat.the_row S V)
+seat_send S V s = record {
+  owned =
+      λ d vs. ((λ vss. (tt, ((λ uss. (tt, tt)), tt))), seat_keyless S s V.coded.code d.table_id d.id d.me);
+  leaving =
+      λ k f vs. tt;
+}
+
+shared_send : (S V K P : RattleType) (g : TableRule.Ghosts P.Denot S.Denot V.Denot K.Denot) → IsSend S → IsSend (Shared.the_row S V K P g)
+shared_send S V K P g s = record {
+  owned =
+      λ d vs. (
+        (λ vss. (tt, (tt, (tt, ((λ uss. (tt, tt)), tt))))),
+        owns_keyless S s V.coded.code d.table_id (g.holds d.key) d.words d.slots,
+      );
+  leaving =
+      λ k f vs. tt;
+}
+
+place_send : IsSend (Place.the_field).row
+place_send = search sendable depth 20
+
+pub active_send : (K T : RattleType) (k : Kind.Ghosts K.Denot) (t : Guarded.Ghosts T.Denot) → IsSend K → IsSend T
+    → IsSend (Active.the_row K T k t)
+active_send K T k t sk st =
+    let floor : IsSend (BoxedFloor.the_row K T k t) = boxed_floor_send K T k t sk st in
+    let all : AllSend (shape (ActiveInside.the_type K T k t)).fields =
+    (seat_send _ _ (option_send _ floor), (search sendable, (search sendable, (search sendable, (floor, tt))))) in
+    view_send (ActiveInside.the_row K T k t) _ _ _ _
+    (recorded_send _ _ _ ((ActiveInside.the_type K T k t).to_one) (struct_send (shape (ActiveInside.the_type K T k t)) all))
+
+pub parked_send : (K T : RattleType) (k : Kind.Ghosts K.Denot) (t : Guarded.Ghosts T.Denot) → IsSend K → IsSend T
+    → IsSend (Parked.the_row K T k t)
+parked_send K T k t sk st =
+    let floor : IsSend (BoxedFloor.the_row K T k t) = boxed_floor_send K T k t sk st in
+    let all : AllSend (shape (ParkedInside.the_type K T k t)).fields = (
+      seat_send _ _ (option_send _ floor),
+      (search sendable, (search sendable, (search sendable, (search sendable, (place_send, tt))))),
+    ) in
+    view_send (ParkedInside.the_row K T k t) _ _ _ _
+    (recorded_send _ _ _ ((ParkedInside.the_type K T k t).to_one) (struct_send (shape (ParkedInside.the_type K T k t)) all))
+
+table_send : (S V K P : RattleType) (g : TableRule.Ghosts P.Denot S.Denot V.Denot K.Denot) → IsSend S
+    → IsSend (Table.the_field S V K P Heap.the_row g ghosts).row
+table_send S V K P g s =
+    let all : AllSend (shape (Table.the_type S V K P Heap.the_row g ghosts)).fields = (
+      shared_send S V K P g s,
+      (
+        search sendable,
+        (search sendable, (right_send _ Heap.the_row ghosts frees, (right_send S Heap.the_row ghosts frees, (heap_send, tt)))),
+      ),
+    ) in
+    struct_send (shape (Table.the_type S V K P Heap.the_row g ghosts)) all
+
+pub hall_send : (K T : RattleType) (k : Kind.Ghosts K.Denot) (t : Guarded.Ghosts T.Denot) → IsSend K → IsSend T
+    → IsSend (Hall.the_row K T k t)
+hall_send K T k t sk st =
+    let all : AllSend (shape (HallInside.the_type K T k t)).fields = (
+      table_send (Option.the_row (BoxedFloor.the_row K T k t)) (LinkedList.the_row SeatRecord.the_row Heap.the_row ghosts)
+          (Setup.the_row T) (HallRule.the_row K T)
+          (RuleImpl.ghosts K T k RuleImpl.no_dict t RuleImpl.no_dict RuleImpl.no_dict RuleImpl.no_dict)
+          (option_send (BoxedFloor.the_row K T k t) (boxed_floor_send K T k t sk st)),
+      (search sendable, tt),
+    ) in
+    view_send (HallInside.the_row K T k t) _ _ _ _
+    (recorded_send _ _ _ ((HallInside.the_type K T k t).to_one) (struct_send (shape (HallInside.the_type K T k t)) all))

@@ -7,6 +7,7 @@ mod Knows
 mod Frame
 mod Standing
 mod Stepping
+mod RecordLaws
 mod WordSteps
 mod GrantSteps
 mod FloorOut
@@ -23,5 +24,6 @@ mod Boxed
 mod Crossing
 mod RuleLaws
 mod HomeLaws
+mod NextTicketLaws
 mod CompleteLaws
 pub mod PublicLaws

@@ -230,7 +230,7 @@ module _ {k : Rules} {o : Object} {z : TableId} {me : Me} {number calls budget :
       → IsHolding k o z me number calls budget f → IsRelease k o (the me.0) f (call number) wish known choice to g
       → is_stay (Some choice) ≡ false
       → (p : Token) → p.hall ≡ z → HasGone (the me.0) g.history to p.me → SeesTruly k o p.me
-      → (y : House) (granted : Option Grant) → IsGrantFor y choice (the me.0).steps p.me.steps granted → (a : Holder)
+      → (y : House) (granted : Option Grant) → IsGrantFor y choice p.me.seen (the me.0).steps p.me.steps granted → (a : Holder)
       → holder z (the me.0) f ≡ a → HasGranted k o a (call a.me.seat) wish to 0 p y granted
   unfolding released
   released_of {wish} {known} {choice} {to} {g} call h x away p hall gone told y granted for a is =
@@ -238,7 +238,7 @@ module _ {k : Rules} {o : Object} {z : TableId} {me : Me} {number calls budget :
       (subst (λ n. HasGranted k o (holder z (the me.0) f) (call n) wish to 0 p y granted) (sym h.seated.is_seat)
       (record {
         released = released h x away p hall gone told;
-        granted = subst (λ n. IsGrantFor y choice n p.me.steps granted) (plus_none (the me.0).steps) for;
+        granted = subst (λ n. IsGrantFor y choice p.me.seen n p.me.steps granted) (plus_none (the me.0).steps) for;
       }))
 
   pub leaves : IsHolding k o z me number calls budget f → (wish : Pick) (known : Bool) (choice : Next) (g : FloorView)
@@ -462,7 +462,7 @@ granted_peeked : {k : Rules} {o : Object} (peeks : ℕ) (a b : Holder) → HasPe
 unfolding released_peeked
 granted_peeked peeks a b x call wish to p h g m = record {
   released = released_peeked peeks a b x call wish to p m.released;
-  granted = subst (λ n. IsGrantFor h m.released.choice n p.me.steps g)
+  granted = subst (λ n. IsGrantFor h m.released.choice p.me.seen n p.me.steps g)
       (let steps = ap (λ (y : Holder). y.me.steps) x.is in omega arith) m.granted;
 }
 

@@ -1,16 +1,16 @@
 -- What holds of a hall's table whenever its rule does
-use Rattle.std.proofs.Common.{◌≡◌, ◌≢◌, ℕ, ◌≤◌, false, true≢false, refl, sym, ap, ◌∙◌, inl, inr, arith}
+use Rattle.std.proofs.Common.{◌≡◌, ◌≤◌, false, true≢false, refl, sym, ap, ◌∙◌, inl, inr, arith}
 use Rattle.monk_kinds.specs.declared.mode.Rules.{Rules}
 use Rattle.monk_object.specs.Object.{Object}
 use Rattle.monk_history.specs.declared.event.Event.{Event}
 use Rattle.std.specs.Prelude.{List}
-use Rattle.monk_world.specs.Places.{stage, back_turn, due_stage, active_stage, back_stage, passing_stage}
-use Rattle.monk_world.specs.Right.{With}
+use Rattle.monk_world.specs.Places.{stage, back_turn, due_stage, passing_stage}
 use Rattle.monk_world.specs.State.{is_quiet}
-use Rattle.monk_world.proofs.PublicLaws.{held, has_right, in_one_place, well_led}
+use Rattle.monk_world.proofs.PublicLaws.{has_right, in_one_place, well_led}
 use Rattle.monk_hall.proofs.FloorIn.{gives_at}
 use Rattle.monk_hall.proofs.FloorOut.{takes_at}
 use Rattle.monk_hall.proofs.GrantSteps.{grants_ticket_at, calls_seat_at}
+use Rattle.monk_hall.proofs.RecordLaws.{is, desk, place, with, back}
 use Rattle.monk_hall.proofs.WordSteps.{arrives_at, looks_for_ticket_at, looks_for_call_at, peeks_at, takes_off_at}
 use Rattle.monk_hall.specs.Laws.{HallState, IsRecord, RightInOnePlace, ShowsWellLed, OneHasTheRight, OneIsActive}
 use Rattle.monk_hall.specs.Laws.{KnownWaits, EntryWaits, ArriveSteps, TicketLookSteps, SeatLookSteps, PeekSteps}
@@ -27,35 +27,6 @@ shows_well_led k o c s h = let kept = h.2.kept in
 pub right_in_one_place : RightInOnePlace
 right_in_one_place k o c s h = in_one_place c.seats (shown_world s.words h.0) h.2.kept.sound.right h.2.kept.sound.owner
     h.2.kept.sound.is_sound.stands.keeps h.2.some_seat
-
-module _ (k : Rules) (o : Object) (c : Setting) (s : HallState) (h : IsHall k o c s) (r : SeatRecord) (x : IsRecord s r) where
-  is : h.0 r.seat ≡ r
-  is = (h.1.each x.id x.view x.at r x.there).0
-
-  desk : h.1.desk r.seat ≡ x.id
-  desk = (h.1.each x.id x.view x.at r x.there).1
-
-  place : (h.0 r.seat).place ≡ r.place
-  place = ap (λ (y : SeatRecord). y.place) is
-
-  -- the right is with a seat that stands where it has it
-  with : due_stage ≤ stage r.place → stage r.place ≤ passing_stage → h.2.kept.sound.right ≡ With r.seat
-  with low high = let at = ap stage place in held h.2.kept.sound.is_sound.stands.keeps r.seat (omega arith) (omega arith)
-
-  -- while it has the floor back, what it has seen is the history
-  back : stage r.place ≡ back_stage → h.2.history ≡ r.seen
-  back four =
-      let mine = with (omega arith) (omega arith) in
-      let none : (j : ℕ) → stage (h.0 j).place ≢ active_stage = λ j three. alone j three mine in
-      (h.2.told.home none).0 ∙ sym (h.2.told.back r.seat (ap stage place ∙ four)) ∙ ap (λ (y : SeatRecord). y.seen) is
-    where
-      alone : (j : ℕ) → stage (h.0 j).place ≡ active_stage → h.2.kept.sound.right ≡ With r.seat → ⊥
-      alone j three mine =
-          let theirs = held h.2.kept.sound.is_sound.stands.keeps j (omega arith) (omega arith) in
-          let same : j ≡ r.seat = cc in
-          let at = ap (λ (n : ℕ). stage (h.0 n).place) same in
-          let here = ap stage place in
-          omega arith
 
 -- two with the right are one
 one : (k : Rules) (o : Object) (c : Setting) (s : HallState) → IsHall k o c s → (r q : SeatRecord) → (x : IsRecord s r) → (y : IsRecord s q)

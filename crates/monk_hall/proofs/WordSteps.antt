@@ -1,6 +1,6 @@
 -- Each step that changes or looks at a word keeps the rule
 use Rattle.std.proofs.Common.{◌≡◌, ◌≢◌, ℕ, ◌+◌, ◌-◌, ◌%◌, ◌==◌, ◌<◌, ◌≤◌, Bool, true, false, nat_le, List, [], ◌∷◌}
-use Rattle.std.proofs.Common.{length, set, sym, refl, ap, ◌∙◌, subst, arith, length-set, get_or-set_same}
+use Rattle.std.proofs.Common.{length, set, sym, refl, ap, ◌∙◌, subst, inl, arith, length-set, get_or-set_same}
 use Rattle.std.specs.Prelude.{Option, slice_index, ◌||◌}
 use Rattle.std.proofs.lemmas.List.{set-get_or}
 use mathlib.Core.Option as maybe
@@ -38,6 +38,7 @@ use Rattle.monk_hall.specs.declared.record.SeatRecord.{SeatRecord}
 use Rattle.monk_hall.specs.declared.setting.Setting.{Setting}
 use Rattle.monk_hall.proofs.Knows.{calls_stay, told_stays}
 use Rattle.monk_hall.proofs.Packed.{after_draw, after_take_off}
+use Rattle.monk_hall.proofs.RecordLaws.{next_ticket}
 use Rattle.monk_hall.proofs.Standing as standing
 use Rattle.monk_hall.proofs.Stepping as stepping
 use Rattle.monk_hall.proofs.Stored as stored
@@ -411,5 +412,6 @@ module _ (k : Rules) (o : Object) (c : Setting) (kind : IsKind k) (slots id : �
           refl,
           some_unpassed k o c kind s h id (the me.0) here (ap stage back),
           (stepping.sound k o c kind s h id (the me.0) here).stands.keeps.tickets.behind,
+          next_ticket k o c s h (the me.0) (record { id = id; view = the me.0 ∷ []; at = here; there = inl refl }) next.Entry to back,
         ),
       )

@@ -1,9 +1,10 @@
 -- What is granted as the right is handed on, and to whom
-use Rattle.std.specs.Prelude.{◌≡◌, ℕ, ◌+◌, true, Option, Some, None, IfSome, MatchOption}
+use Rattle.std.specs.Prelude.{◌≡◌, ℕ, ◌+◌, true, List, Option, Some, None, IfSome, MatchOption}
 use Rattle.atomic_table.specs.Seated.{TableId}
 use Rattle.monk_kinds.specs.declared.mode.Pick.{Pick}
 use Rattle.monk_kinds.specs.declared.mode.Rules.{Rules}
 use Rattle.monk_object.specs.Object.{Object}
+use Rattle.monk_history.specs.Meaning.Counts.{enters_of}
 use Rattle.monk_history.specs.declared.event.Event.{Event}
 use Rattle.monk_history.specs.declared.event.Next.{Next}
 use Rattle.monk_world.specs.declared.home.Home.{Home}
@@ -21,19 +22,21 @@ pub record Grant : Type 0 where
   pub word : ℕ
 
 -- it was granted to whom the release chose: to the seat that the choice names, in that seat's place; after the choice of
--- entry to a ticket, in its place, if one waits. A grant is a step: so the seat's counts of steps, `before` the floor went
--- home and `after` the release, say whether one was made
-pub record IsGrantFor (h : House) (choice : Next) (before after : ℕ) (g : Option Grant) : Type 0 where
+-- entry to the next ticket, in its place, if one waits. That ticket's number is the number of enters in the history that
+-- ends with the release, `seen`: the ticket enters next. A grant is a step: so the seat's counts of steps, `before` the
+-- floor went home and `after` the release, say whether one was made
+pub record IsGrantFor (h : House) (choice : Next) (seen : List Event) (before after : ℕ) (g : Option Grant) : Type 0 where
   pub here : IfSome g (λ x. x.table ≡ h.id)
   pub seat : (j : ℕ) → seat_called_by choice ≡ Some j → g ≡ Some (record { table = h.id; word = seat_word j })
   pub ticket : seat_called_by choice ≡ None
-      → MatchOption g (after ≡ before + 2) (λ x. (after ≡ before + 3) × ((t : ℕ) × (x.word ≡ ticket_word h.setting.seats t)))
+      → MatchOption g (after ≡ before + 2)
+      (λ x. (after ≡ before + 3) × (x.word ≡ ticket_word h.setting.seats (enters_of seen)))
 
 -- a release, and a grant to whom it chose
 pub record HasGranted (k : Rules) (o : Object) (a : Holder) (call : Event) (wish : Pick) (to : Home) (peeks : ℕ) (p : Token)
     (h : House) (g : Option Grant) : Type 0 where
   pub released : HasReleased k o a call wish to peeks p
-  pub granted : IsGrantFor h released.choice (a.me.steps + peeks) p.me.steps g
+  pub granted : IsGrantFor h released.choice p.me.seen (a.me.steps + peeks) p.me.steps g
 
 abbrev pub GrantsOut : Rules → Object → Holder → Event → Pick → Token → House → Option Grant → Type 0
 GrantsOut k o a call wish p h g = HasGranted k o a call wish home.Idle (peeks_of true wish) p h g

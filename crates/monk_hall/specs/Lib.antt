@@ -13,3 +13,4 @@ pub mod Recorded
 pub mod Closing
 pub mod Complete
 pub mod Laws
+pub mod NextTicket

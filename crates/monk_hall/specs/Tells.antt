@@ -1,5 +1,5 @@
 -- What each step tells the seat that takes it
-use Rattle.std.specs.Prelude.{◌≡◌, ℕ, ◌<◌, ◌≤◌, ◌⊎◌, true, false, List, [], ◌∷◌, Option, Some, None}
+use Rattle.std.specs.Prelude.{◌≡◌, ℕ, ◌+◌, ◌<◌, ◌≤◌, ◌⊎◌, true, false, List, [], ◌∷◌, Option, Some, None}
 use Rattle.atomic_table.specs.Seated.{TableId}
 use Rattle.atomic_table.specs.Table as table
 use Rattle.atomic_table.specs.declared.shared.Seat.{Seat}
@@ -62,8 +62,12 @@ held_history [] = []
 held_history ((k, None) ∷ xs) = []
 held_history ((k, Some f) ∷ xs) = f.history
 
+-- its own ticket is the first that isn't passed on, and the last that entered; so the number of the next ticket is that of
+-- the enters in the history that it brought home
 abbrev pub TellsDrop : Me → ℕ → Me → Type 0
-TellsDrop me found new = (new ≡ (record_after_drop (the me.0) found ∷ [], me.1)) × (0 < unpassed found) × (unpassed found ≤ tickets found)
+TellsDrop me found new =
+    (new ≡ (record_after_drop (the me.0) found ∷ [], me.1)) × (0 < unpassed found) × (unpassed found ≤ tickets found)
+    × (tickets found + 1 ≡ unpassed found + enters_of (the me.0).seen)
 
 abbrev pub TellsGrant : Me → ℕ → Me → Type 0
 TellsGrant me found new = new ≡ (record_after_grant (the me.0) ∷ [], me.1)

@@ -1,5 +1,6 @@
 //! How a seat brings the floor home and hands the right on.
-ghost use Rattle.std.specs.Prelude.{◌≡◌, ◌+◌, ◌<◌, ℕ, Option, Some, None, IfSome, MatchOption, [], ◌∷◌};
+ghost use Rattle.std.specs.Prelude.{◌≡◌, ◌+◌, ◌<◌, Option, Some, None, IfSome, MatchOption, [], ◌∷◌};
+ghost use Rattle.monk_history.specs.Meaning.Counts.{enters_of};
 ghost use Rattle.monk_history.specs.Meaning.Events.{is_stay};
 ghost use Rattle.monk_history.specs.declared.event.Next.{Next};
 ghost use Rattle.monk_world.specs.declared.home.Home.{Home};
@@ -60,7 +61,8 @@ fn let_in<K: Kind, T: Guarded>(
     ensures step { HandsOnWithin 2 seat.old.me seat.new.me }
     ensures here { IfSome result (λ g. g.table ≡ words.now.table_id) }
     ensures ticket { MatchOption result ((the seat.new.me.0).steps ≡ (the seat.old.me.0).steps + 1)
-        (λ g. ((the seat.new.me.0).steps ≡ (the seat.old.me.0).steps + 2) × ((t : ℕ) × (g.word ≡ ticket_word seats t))) }
+        (λ g. ((the seat.new.me.0).steps ≡ (the seat.old.me.0).steps + 2)
+        × (g.word ≡ ticket_word seats (enters_of (the seat.old.me.0).seen))) }
 {
     let found = steps::drop_ticket(words, seat);
     let waiting = unpassed(found);
@@ -85,7 +87,8 @@ pub(crate) fn go_home<K: Kind, T: Guarded>(
     ensures gone { HasGone (the seat.old.me.0) floor.history
         (home_at (record_after_floor_in (the seat.old.me.0) floor.history).place) (the seat.new.me.0) }
     ensures view { seat.new.me ≡ (the seat.new.me.0 ∷ [], []) }
-    ensures granted { IsGrantFor hall.now choice (the seat.old.me.0).steps (the seat.new.me.0).steps result }
+    ensures granted { IsGrantFor hall.now choice (the seat.new.me.0).seen (the seat.old.me.0).steps
+        (the seat.new.me.0).steps result }
 {
     let words = &hall.table.shared;
     match seat_called_by(choice) {

@@ -4,6 +4,7 @@ ghost use Rattle.monk_hall.specs.Laws.{RightInOnePlace, ShowsWellLed, OneHasTheR
 ghost use Rattle.monk_hall.specs.Laws.{EntryWaits, ArriveSteps, TicketLookSteps, SeatLookSteps, PeekSteps};
 ghost use Rattle.monk_hall.specs.Laws.{FloorOutSteps, FloorInSteps, DropSteps, TicketGrantSteps, SeatGrantSteps};
 ghost use Rattle.monk_hall.specs.Laws.{HasHomeHistory};
+ghost use Rattle.monk_hall.specs.NextTicket.{NextTicketWaits, GrantedEntersNext};
 
 /// The words, the records of the seats and the floor show a state of a world that is well led: the right to be active is
 /// in exactly one place, the history is legal, and turn and queues agree with where the seats stand.
@@ -26,6 +27,18 @@ pub fn known_entry_waits()
 /// A seat goes out by entry beside somebody who could be chosen from a queue only while a ticket waits.
 pub fn chosen_entry_waits()
     ensures { EntryWaits }
+{}
+
+/// A release by entry has brought the floor home, and another ticket than its own is not passed on: then exactly one seat
+/// waits with the ticket that is next. The number of that ticket is the number of enters so far.
+pub fn next_ticket_waits()
+    ensures { NextTicketWaits }
+{}
+
+/// A release chose entry and granted a word: if the next seat that enters has waited with a ticket, it has waited at that
+/// word.
+pub fn granted_ticket_enters_next()
+    ensures { GrantedEntersNext }
 {}
 
 /// The floor is with the seat that is active, and else at home in its slot. The history at home, which is the one that an

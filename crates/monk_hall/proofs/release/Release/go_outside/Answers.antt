@@ -50,6 +50,7 @@ returns g c a call wish known rec =
     let told = subst (λ (vs : List View). SeesTruly g.K.Kind.rules g.T.Guarded.meaning (the (top vs))) (sym view.2) rests.0.told in
     let at_home = subst (λ (vs : List View). HasGone r c.args.self.floor.history home.Idle (the (top vs))) (sym view.2) gone in
     let granted = subst
-    (λ (vs : List View). IsGrantFor c.args.hall.now c.args.self.choice r.steps (the (top vs)).steps c.go_home-granted.result)
+    (λ (vs : List View). IsGrantFor c.args.hall.now c.args.self.choice (the (top vs)).seen r.steps (the (top vs)).steps
+    c.go_home-granted.result)
     (sym view.2) c.go_home-granted.ensures.granted in
     released_of call rec.holds rec.release c.requires.away _ (view.0 ∙ c.go_home-granted.ensures.table) at_home told _ _ granted a rec.was

@@ -1,0 +1,43 @@
+-- Who enters next after a release that chose entry
+use Rattle.std.specs.Prelude.{◌≡◌, ℕ, ◌≤◌, Some, None}
+use Rattle.monk_kinds.specs.declared.mode.Rules.{Rules}
+use Rattle.monk_kinds.specs.declared.mode.Pick.{Pick}
+use Rattle.monk_object.specs.Object.{Object}
+use Rattle.monk_history.specs.Meaning.Counts.{enters_of}
+use Rattle.monk_history.specs.declared.event.Event.{Event}
+use Rattle.monk_history.specs.declared.event.Next.TheVariants.{Entry}
+use Rattle.monk_world.specs.declared.home.Home.{Home}
+use Rattle.monk_world.specs.declared.place.Place.TheVariants.{Ticket, Back}
+use Rattle.monk_hall.specs.Calls.{HasEntered}
+use Rattle.monk_hall.specs.Granting.{Grant, HasGranted}
+use Rattle.monk_hall.specs.Handing.{seat_called_by}
+use Rattle.monk_hall.specs.Laws.{HallState, IsRecord, first_word}
+use Rattle.monk_hall.specs.Layout.{unpassed, ticket_word, waiting_word}
+use Rattle.monk_hall.specs.Rule.{IsHall}
+use Rattle.monk_hall.specs.Tokens.{Token, Holder, House}
+use Rattle.monk_hall.specs.declared.record.SeatRecord.{SeatRecord}
+use Rattle.monk_hall.specs.declared.setting.Setting.{Setting}
+
+-- one seat waits with this ticket, and no other does
+pub record OneWaits (c : Setting) (s : HallState) (t : ℕ) : Type 0 where
+  pub seat : SeatRecord
+  pub recorded : IsRecord s seat
+  pub waits : seat.place ≡ Ticket t
+  pub word : waiting_word seat ≡ ticket_word c.seats t
+  pub alone : (q : SeatRecord) → IsRecord s q → q.place ≡ Ticket t → q ≡ seat
+
+-- a release by entry has brought the floor home, and two tickets are not passed on: its own, and another. Then one seat
+-- waits with the ticket whose number is that of the enters so far
+abbrev pub NextTicketWaits : Type 0
+NextTicketWaits =
+    (k : Rules) (o : Object) (c : Setting) (s : HallState) → IsHall k o c s
+    → (r : SeatRecord) (to : Home) → IsRecord s r → r.place ≡ Back Entry to → 2 ≤ unpassed (first_word s)
+    → OneWaits c s (enters_of r.seen)
+
+-- a release chose entry and granted a word. If the next seat that enters waited with a ticket, it waited at that word
+abbrev pub GrantedEntersNext : Type 0
+GrantedEntersNext =
+    (k : Rules) (o : Object) (a : Holder) (call : Event) (wish : Pick) (to : Home) (peeks : ℕ) (p : Token) (h : House) (x : Grant)
+    → (granted : HasGranted k o a call wish to peeks p h (Some x)) → seat_called_by granted.released.choice ≡ None
+    → (q : Token) (b : Holder) (t : ℕ) → HasEntered k o q b → q.me.setting ≡ h.setting → q.me.place ≡ Ticket t
+    → enters_of b.me.seen ≡ enters_of p.me.seen → waiting_word q.me ≡ x.word
