@@ -13,11 +13,12 @@ use Rattle.monk_history.specs.Meaning.Acts.{acts_in}
 use Rattle.monk_history.specs.declared.event.Event.{Event}
 use Rattle.monk_history.specs.declared.event.Event.TheVariants.{Enter, Act, Leave, Wait, Signal, SignalLeave, Until, Resume}
 use Rattle.monk_history.specs.declared.event.Event.TheVariants.{SignalAll, SignalWait}
+use Rattle.monk_history.specs.declared.event.Next.TheVariants.{Stay}
 use Rattle.monk_hall.specs.Tokens.{Token}
 use Rattle.monk_hall.specs.declared.setting.Setting.{Setting}
 use Rattle.monk_samples.specs.Rounds.{rounds_to}
 use Rattle.monk_samples.specs.Trails.{Addition, HasCalled, after, calls_in, events_in, outside}
-use Rattle.monk_samples.specs.Visits.{Plan, Guard, AreVisits, IsVisit, IsCertain}
+use Rattle.monk_samples.specs.Visits.{Plan, Guard, AreMisses, AreVisits, IsCertain, IsMiss, IsTry, IsVisit, wish_in}
 use Rattle.monk_samples.specs.declared.end.End.TheVariants.{Done}
 use Rattle.monk_samples.proofs.VisitLaws.{acts_append, calls_acts, calls_out_acts, paused_acts}
 
@@ -67,13 +68,39 @@ alone : (n : ℕ) → 0 + n ≡ n
 alone n = omega arith
 
 module _ (k : Rules) (o : Object) where
-  visit_acts : (c : Setting) (s : ℕ) (v : Plan) (calls : List Addition) (is : IsVisit k o c s v calls)
+  try_acts : (c : Setting) (s : ℕ) (v : Plan) (calls : List Addition) (is : IsTry k o c s v calls)
       → acts_in (events_in calls) ≡ record { op = v.op; reply = is.done.reply } ∷ []
-  visit_acts c s v calls is =
+  try_acts c s v calls is =
       ap (λ ds. acts_in (events_in ds)) is.are ∙ acts_append k o is.pauses (is.act ∷ is.out)
       ∙ (λ i. paused_acts k o c s v.guard is.pauses is.done.paused i ++ acts_in (is.done.acts.is i ∷ events_in is.out))
       ∙ ap (λ acts. record { op = v.op; reply = is.done.reply } ∷ acts)
-      (calls_acts k o c _ is.out is.goes ∙ calls_out_acts k o s (v.goes_out (after is.act)))
+      (calls_acts k o (wish_in v.guard) c _ is.out is.goes ∙ calls_out_acts k o s (v.goes_out (after is.act)))
+
+  -- a try that missed did no operation that counts
+  miss_acts : (c : Setting) (s : ℕ) (v : Plan) (calls : List Addition) (is : IsMiss k o c s v calls)
+      → acts_in (events_in calls) ≡ record { op = v.op; reply = 0 } ∷ []
+  miss_acts c s v calls is =
+      ap (λ ds. acts_in (events_in ds)) is.are ∙ acts_append k o is.pauses (is.act ∷ is.leave ∷ [])
+      ∙ (λ i. paused_acts k o c s v.guard is.pauses is.paused i ++ acts_in (is.acts.is i ∷ events_in (is.leave ∷ [])))
+      ∙ ap (λ acts. record { op = v.op; reply = 0 } ∷ acts)
+      (calls_acts k o (wish_in v.guard) c (Leave s Stay ∷ []) (is.leave ∷ []) (is.leaves, tt))
+
+  worth_nothing : (code : ℕ) (f : Op → ℕ) (op : Op) → worth code f (record { op = op; reply = 0 }) ≡ 0
+  worth_nothing code f op = by (op.code == code)
+    where
+      by : (b : Bool) → cond (b && nat_lt 0 0) (f op) 0 ≡ 0
+      by true = refl
+      by false = refl
+
+  misses_worth : (code : ℕ) (f : Op → ℕ) (c : Setting) (s : ℕ) (v : Plan) (n : ℕ) (calls : List Addition)
+      → AreMisses k o c s v n calls → sum_by (worth code f) (acts_in (events_in calls)) ≡ 0
+  misses_worth code f c s v zero calls are = ap (λ ds. sum_by (worth code f) (acts_in (events_in ds))) are
+  misses_worth code f c s v (suc n) calls are =
+      ap (λ ds. sum_by (worth code f) (acts_in (events_in ds))) are.are
+      ∙ ap (sum_by (worth code f)) (acts_append k o are.first are.rest)
+      ∙ sum_by-append (worth code f) (acts_in (events_in are.first)) (acts_in (events_in are.rest))
+      ∙ (λ i. misses_worth code f c s v n are.first are.is_first i
+      + (ap (sum_by (worth code f)) (miss_acts c s v are.rest are.is_rest) ∙ alone _ ∙ worth_nothing code f v.op) i)
 
   -- a visit of that code, which is sure, has got it done
   worth_here : (code : ℕ) (f : Op → ℕ) (w : Option Guard) (op : Op) (reply : ℕ) → IsSureFor w (op.code == code) → IsCertain w reply
@@ -86,6 +113,17 @@ module _ (k : Rules) (o : Object) where
       by true = ap (λ b. cond b (f op) 0) (lt-ltb 0 reply certain)
       by false = refl
 
+  visit_worth : (code : ℕ) (f : Op → ℕ) (c : Setting) (s : ℕ) (v : Plan) (calls : List Addition) → IsVisit k o c s v calls
+      → IsSure code v → sum_by (worth code f) (acts_in (events_in calls)) ≡ planned code f v
+  visit_worth code f c s v calls is sure = let tries = is.tries in
+      ap (λ ds. sum_by (worth code f) (acts_in (events_in ds))) tries.are
+      ∙ ap (sum_by (worth code f)) (acts_append k o tries.first tries.rest)
+      ∙ sum_by-append (worth code f) (acts_in (events_in tries.first)) (acts_in (events_in tries.rest))
+      ∙ (λ i. misses_worth code f c s v is.misses tries.first tries.is_first i
+      + (ap (sum_by (worth code f)) (try_acts c s v tries.rest tries.is_rest) ∙ alone _
+      ∙ worth_here code f v.guard v.op tries.is_rest.done.reply sure tries.is_rest.done.certain) i)
+      ∙ alone _
+
   pub visits_worth : (code : ℕ) (f : Op → ℕ) (c : Setting) (s : ℕ) (vs : List Plan) (calls : List Addition)
       → AreVisits k o c s Done vs calls → AreSure code vs
       → sum_by (worth code f) (acts_in (events_in calls)) ≡ sum_by (planned code f) vs
@@ -94,9 +132,7 @@ module _ (k : Rules) (o : Object) where
       ap (λ ds. sum_by (worth code f) (acts_in (events_in ds))) are.are
       ∙ ap (sum_by (worth code f)) (acts_append k o are.first are.rest)
       ∙ sum_by-append (worth code f) (acts_in (events_in are.first)) (acts_in (events_in are.rest))
-      ∙ (λ i. (ap (sum_by (worth code f)) (visit_acts c s v are.first are.is_first) ∙ alone _
-      ∙ worth_here code f v.guard v.op are.is_first.done.reply sure.0 are.is_first.done.certain) i
-      + visits_worth code f c s vs are.rest are.is_rest sure.1 i)
+      ∙ (λ i. visit_worth code f c s v are.first are.is_first sure.0 i + visits_worth code f c s vs are.rest are.is_rest sure.1 i)
       ∙ sym (sum_by-cons (planned code f) v vs)
 
   -- a seat without events before has done what its visits planned

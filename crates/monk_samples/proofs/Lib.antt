@@ -2,6 +2,7 @@ mod TrailLaws
 mod StyleLaws
 mod ShortLaws
 mod VisitLaws
+mod HasteLaws
 mod RoundLaws
 mod EndLaws
 mod DoneLaws

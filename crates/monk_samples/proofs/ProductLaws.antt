@@ -18,15 +18,16 @@ use Rattle.monk_hall.specs.Records.{opening_records}
 use Rattle.monk_hall.specs.Tokens.{House, Token, tokens}
 use Rattle.monk_hall.specs.declared.setting.Setting.{Setting}
 use Rattle.monk_samples.specs.Ends.{HaveServed}
-use Rattle.monk_samples.specs.Rounds.{HasServed}
-use Rattle.monk_samples.specs.Totals.{HasEnded, HasTotals, totals_of}
+use Rattle.monk_samples.specs.Rounds.{HasServed, round_of, rounds_of}
+use Rattle.monk_samples.specs.Totals.{HasEnded, HasPutAndTaken, HasTotals, totals_of, totals_of_buffer}
+use Rattle.monk_samples.specs.Visits.{Manner}
 use Rattle.monk_samples.specs.Wholes.{HoldsOperationsOf}
 use Rattle.monk_samples.specs.declared.end.End.TheVariants.{Done}
 use Rattle.monk_samples.specs.declared.sample.Sample.{Sample}
 use Rattle.monk_samples.specs.declared.sample.Sample.TheVariants.{Buffer, Book, Shop}
 use Rattle.monk_samples.proofs.DoneLaws.{worth, sum_to}
 use Rattle.monk_samples.proofs.SeatSums.{over, first_half, second_half, first_items, calls_all, visits_all, sum_is}
-use Rattle.monk_samples.proofs.ShareLaws.{once, item, puts_of, takes_of, items_of, reads_of, writes_of, calls_of, sits_of, departs_of}
+use Rattle.monk_samples.proofs.ShareLaws.{once, item, rounds_by, puts_of, takes_of, items_of, reads_of, writes_of, calls_of, sits_of, departs_of}
 use Rattle.monk_samples.proofs.WholeLaws.{shares}
 
 -- the items put weigh what the puts that got done weigh by their items
@@ -75,18 +76,24 @@ module _ (k : Rules) (answers : ℕ → ℕ → Bool → Type 0) (seats rounds :
   total_is o sample weight share served each =
       holds weight ∙ shares k o answers sample seats rounds house c z weight share each seats 0 qs served
 
-  module _ (served : HaveServed k buffer_meaning answers Buffer seats rounds house (tokens z (opening_records c seats 0)) qs) where
+  module _ (sample : Sample) (m : Manner)
+      (plans : (d : Setting) (seat round : ℕ) → round_of sample k d seats seat round ≡ rounds_by m seats seat round)
+      (works : (seat : ℕ) → rounds_of sample seats rounds seat ≡ rounds_of Buffer seats rounds seat)
+      (served : HaveServed k buffer_meaning answers sample seats rounds house (tokens z (opening_records c seats 0)) qs) where
     pub puts_are : times_done PUT (acts_in h) ≡ seats / 2 * rounds
-    puts_are = total_is buffer_meaning Buffer (worth PUT once) _ served (puts_of k buffer_meaning answers seats rounds)
+    puts_are = total_is buffer_meaning sample (worth PUT once) _ served
+        (puts_of k buffer_meaning answers sample m seats rounds plans works)
         ∙ first_half seats rounds
 
     pub takes_are : times_done TAKE (acts_in h) ≡ seats / 2 * rounds
-    takes_are = total_is buffer_meaning Buffer (worth TAKE once) _ served (takes_of k buffer_meaning answers seats rounds)
+    takes_are = total_is buffer_meaning sample (worth TAKE once) _ served
+        (takes_of k buffer_meaning answers sample m seats rounds plans works)
         ∙ second_half seats rounds
 
     pub items_are : sum (items_put (acts_in h)) ≡ seats / 2 * sum_to rounds
     items_are = put_sum (acts_in h)
-        ∙ total_is buffer_meaning Buffer (worth PUT item) _ served (items_of k buffer_meaning answers seats rounds)
+        ∙ total_is buffer_meaning sample (worth PUT item) _ served
+        (items_of k buffer_meaning answers sample m seats rounds plans works)
         ∙ first_items seats rounds
 
   module _ (served : HaveServed k book_meaning answers Book seats rounds house (tokens z (opening_records c seats 0)) qs) where
@@ -113,11 +120,14 @@ module _ (k : Rules) (answers : ℕ → ℕ → Bool → Type 0) (seats rounds :
         ∙ visits_all seats rounds some
 
   -- all totals of each sample
-  pub buffer_totals : HaveServed k buffer_meaning answers Buffer seats rounds house (tokens z (opening_records c seats 0)) qs
-      → (size : ℕ) (state : List ℕ) → IsInOrder size state (acts_in h) → HasTotals Buffer seats rounds (totals_of Buffer h)
-  buffer_totals served size state law =
-      let puts = puts_are served in let takes = takes_are served in
-      let items = items_are served ∙ ap (λ n. seats / 2 * n) (sum_is rounds) in
+  pub buffer_totals : (sample : Sample) (m : Manner)
+      → ((d : Setting) (seat round : ℕ) → round_of sample k d seats seat round ≡ rounds_by m seats seat round)
+      → ((seat : ℕ) → rounds_of sample seats rounds seat ≡ rounds_of Buffer seats rounds seat)
+      → HaveServed k buffer_meaning answers sample seats rounds house (tokens z (opening_records c seats 0)) qs
+      → (size : ℕ) (state : List ℕ) → IsInOrder size state (acts_in h) → HasPutAndTaken seats rounds (totals_of_buffer h)
+  buffer_totals sample m plans works served size state law =
+      let puts = puts_are sample m plans works served in let takes = takes_are sample m plans works served in
+      let items = items_are sample m plans works served ∙ ap (λ n. seats / 2 * n) (sum_is rounds) in
       let taken = taken_all size state (acts_in h) law (puts ∙ sym takes) ∙ items in
       λ i. puts i ∷ items i ∷ takes i ∷ taken i ∷ []
 

@@ -33,7 +33,7 @@ use Rattle.monk_samples.specs.Samples.{sample_object, size, conds_of, budget_of,
 use Rattle.monk_samples.specs.Samples.{IsOutcome}
 use Rattle.monk_samples.specs.Totals.{HasTotals, totals_of}
 use Rattle.monk_samples.specs.declared.sample.Sample.{Sample}
-use Rattle.monk_samples.specs.declared.sample.Sample.TheVariants.{Buffer, Book, Shop}
+use Rattle.monk_samples.specs.declared.sample.Sample.TheVariants.{Buffer, Book, Shop, Hasty}
 use Rattle.monk_samples.specs.Styles.{Offers}
 
 pub one_more : {X : Type 0} (xs ys : List X) (x : X) (P : X → Type 0) → ys ≡ xs ++ x ∷ [] → All P xs → P x → All P ys
@@ -111,6 +111,7 @@ pub law_of : (k : Rules) (sample : Sample) (seats : ℕ) (h : List Event) → le
 law_of k Buffer seats h legal = in_order k seats (conds_of k) size h legal
 law_of k Book seats h legal = excludes k seats (conds_of k) size h legal
 law_of k Shop seats h legal = serves_each k seats (conds_of k) size h legal
+law_of k Hasty seats h legal = in_order k seats (conds_of k) size h legal
 
 pub history_of : (k : Rules) (sample : Sample) (seats rounds : ℕ) (c : Setting) (h : List Event)
     → c ≡ setting_of (opening_named (sample_object sample) size) seats (conds_of k) (budget_of seats rounds)

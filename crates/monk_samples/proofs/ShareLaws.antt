@@ -1,19 +1,20 @@
 -- What each seat of a run is worth to its totals
-use Rattle.std.proofs.Common.{◌≡◌, ℕ, ◌*◌, ◌/◌, Bool, true, false, cond, nat_lt, nat_eq, List, [], ◌∷◌}
+use Rattle.std.proofs.Common.{◌≡◌, ℕ, ◌*◌, ◌/◌, Bool, true, false, cond, nat_lt, nat_eq, List, [], ◌∷◌, Some}
 use Rattle.std.proofs.Common.{refl, sym, ap, subst, ◌∙◌, arith}
 use Rattle.std.specs.List.{sum_by}
 use Rattle.monk_kinds.specs.declared.mode.Rules.{Rules}
 use Rattle.monk_object.specs.Object.{Object}
-use Rattle.monk_object.specs.Buffer.{PUT, TAKE}
+use Rattle.monk_object.specs.Buffer.{PUT, TAKE, HAS_ROOM, HAS_ITEM}
 use Rattle.monk_object.specs.Book.{START_READ, START_WRITE}
 use Rattle.monk_object.specs.Shop.{SIT, CALL, DEPART}
 use Rattle.monk_object.specs.declared.op.Op.{Op}
 use Rattle.monk_history.specs.Meaning.Acts.{acts_in}
 use Rattle.monk_hall.specs.Tokens.{Token}
-use Rattle.monk_samples.specs.Members.{puts, takes, begins_to_read, ends_to_read, begins_to_write, ends_to_write}
+use Rattle.monk_hall.specs.declared.setting.Setting.{Setting}
+use Rattle.monk_samples.specs.Members.{NOT_EMPTY, NOT_FULL, begins_to_read, ends_to_read, begins_to_write, ends_to_write}
 use Rattle.monk_samples.specs.Members.{sits, departs, calls, finishes}
 use Rattle.monk_samples.specs.Rounds.{HasServed, round_of, rounds_of, rounds_to}
-use Rattle.monk_samples.specs.Visits.{Plan}
+use Rattle.monk_samples.specs.Visits.{Manner, Plan, always, op_of}
 use Rattle.monk_samples.specs.declared.end.End.TheVariants.{Done}
 use Rattle.monk_samples.specs.declared.sample.Sample.{Sample}
 use Rattle.monk_samples.specs.declared.sample.Sample.TheVariants.{Buffer, Book, Shop}
@@ -61,31 +62,55 @@ module _ (k : Rules) (o : Object) (answers : ℕ → ℕ → Bool → Type 0) (s
       ∙ rounds_worth code f (round_of sample k p.me.setting seats p.me.seat) (cond b x y) (rounds_of sample seats rounds p.me.seat)
       (λ r. ap (sum_by (planned code f)) (are r) ∙ either_round code f b (mine r) (others r) x y (here r) (there r))
 
+-- what a seat of a buffer does, in haste or not
+abbrev pub put_by : Manner → ℕ → Plan
+put_by m number = record {
+  guard = Some (record { cond = NOT_FULL; pred = HAS_ROOM; manner = m });
+  op = op_of PUT number;
+  goes_out = always NOT_EMPTY;
+}
+
+abbrev pub take_by : Manner → Plan
+take_by m = record {
+  guard = Some (record { cond = NOT_EMPTY; pred = HAS_ITEM; manner = m });
+  op = op_of TAKE 0;
+  goes_out = always NOT_FULL;
+}
+
+abbrev pub rounds_by : Manner → ℕ → ℕ → ℕ → List Plan
+rounds_by m seats seat round = cond (nat_lt seat (seats / 2)) (put_by m round ∷ []) (take_by m ∷ [])
+
 -- of a buffer
-module _ (k : Rules) (o : Object) (answers : ℕ → ℕ → Bool → Type 0) (seats rounds : ℕ) (p q : Token)
-    (s : HasServed k o answers Buffer seats rounds p q Done) (none : p.me.mine ≡ []) where
+module _ (k : Rules) (o : Object) (answers : ℕ → ℕ → Bool → Type 0) (sample : Sample) (m : Manner) (seats rounds : ℕ)
+    (plans : (c : Setting) (seat round : ℕ) → round_of sample k c seats seat round ≡ rounds_by m seats seat round)
+    (works : (seat : ℕ) → rounds_of sample seats rounds seat ≡ rounds_of Buffer seats rounds seat) (p q : Token)
+    (s : HasServed k o answers sample seats rounds p q Done) (none : p.me.mine ≡ []) where
   abbrev first : Bool
   first = nat_lt p.me.seat (seats / 2)
 
   pub puts_of : sum_by (worth PUT once) (acts_in q.me.mine) ≡ rounds_of Buffer seats rounds p.me.seat * cond first 1 0
   puts_of =
-      share_of k o answers Buffer seats rounds p q s none PUT once first (λ r. puts r ∷ []) (λ r. takes ∷ []) 1 0
-      (λ r. refl) (λ r. (tt, tt)) (λ r. (tt, tt)) (λ r. refl) (λ r. refl)
+      share_of k o answers sample seats rounds p q s none PUT once first (λ r. put_by m r ∷ []) (λ r. take_by m ∷ []) 1 0
+      (plans p.me.setting p.me.seat) (λ r. (tt, tt)) (λ r. (tt, tt)) (λ r. refl) (λ r. refl)
+      ∙ ap (λ n. n * cond first 1 0) (works p.me.seat)
 
   pub takes_of : sum_by (worth TAKE once) (acts_in q.me.mine) ≡ rounds_of Buffer seats rounds p.me.seat * cond first 0 1
   takes_of =
-      share_of k o answers Buffer seats rounds p q s none TAKE once first (λ r. puts r ∷ []) (λ r. takes ∷ []) 0 1
-      (λ r. refl) (λ r. (tt, tt)) (λ r. (tt, tt)) (λ r. refl) (λ r. refl)
+      share_of k o answers sample seats rounds p q s none TAKE once first (λ r. put_by m r ∷ []) (λ r. take_by m ∷ []) 0 1
+      (plans p.me.setting p.me.seat) (λ r. (tt, tt)) (λ r. (tt, tt)) (λ r. refl) (λ r. refl)
+      ∙ ap (λ n. n * cond first 0 1) (works p.me.seat)
 
   items_in : (b : Bool) (n : ℕ)
-      → sum_by (planned PUT item) (rounds_to (λ r. cond b (puts r ∷ []) (takes ∷ [])) n) ≡ cond b (sum_to n) 0
-  items_in true n = numbers_worth PUT item (λ r. puts r ∷ []) n (λ r. omega arith)
-  items_in false n = rounds_worth PUT item (λ r. takes ∷ []) 0 n (λ r. refl) ∙ omega arith
+      → sum_by (planned PUT item) (rounds_to (λ r. cond b (put_by m r ∷ []) (take_by m ∷ [])) n) ≡ cond b (sum_to n) 0
+  items_in true n = numbers_worth PUT item (λ r. put_by m r ∷ []) n (λ r. omega arith)
+  items_in false n = rounds_worth PUT item (λ r. take_by m ∷ []) 0 n (λ r. refl) ∙ omega arith
 
   pub items_of : sum_by (worth PUT item) (acts_in q.me.mine) ≡ cond first (sum_to (rounds_of Buffer seats rounds p.me.seat)) 0
   items_of =
-      served_worth k o answers Buffer seats rounds p q PUT item s none
-      (λ r. either_sure PUT item first (puts r ∷ []) (takes ∷ []) (tt, tt) (tt, tt))
+      served_worth k o answers sample seats rounds p q PUT item s none
+      (λ r. subst (AreSure PUT) (sym (plans p.me.setting p.me.seat r))
+      (either_sure PUT item first (put_by m r ∷ []) (take_by m ∷ []) (tt, tt) (tt, tt)))
+      ∙ (λ i. sum_by (planned PUT item) (rounds_to (λ r. plans p.me.setting p.me.seat r i) (works p.me.seat i)))
       ∙ items_in first (rounds_of Buffer seats rounds p.me.seat)
 
 -- of a book

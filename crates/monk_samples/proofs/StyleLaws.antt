@@ -1,6 +1,7 @@
 -- What the calls of each style come to
 use Rattle.std.proofs.Common.{◌≡◌, ℕ, ◌+◌, ◌-◌, ◌<◌, ◌≤◌, cond, [], ◌∷◌, ◌++◌, length, length-append, eq-eqb, refl, sym, ap, subst}
 use Rattle.std.proofs.Common.{◌∙◌, arith}
+use Rattle.monk_kinds.specs.declared.mode.Pick.{Pick}
 use Rattle.monk_kinds.specs.declared.mode.Pick.TheVariants.{Waiter}
 use Rattle.monk_kinds.specs.declared.mode.Mode.TheVariants.{Automatic, ImmediateReturn}
 use Rattle.monk_kinds.specs.declared.mode.Rules.{Rules}
@@ -44,39 +45,39 @@ spent_by budget rest n m needed same more short few = omega (arith, same, more, 
 
 module _ (k : Rules) (o : Object) where
   -- a seat that released inside, and came in again
-  pub came_back : (a : Holder) (call : Event) (to : Home) (peeks : ℕ) (q : Token) (b : Holder) → Releases call
-      → HasReleased k o a call Waiter to peeks q → HasEntered k o q b
-      → (d : Addition) × HasCalled (inside a) (inside b) (d ∷ []) × IsCall k o a.me.setting call d × (d.before ≡ a.floor.history)
-  came_back a call to peeks q b releases r e =
-      let one = released k o a call to peeks q releases r in
+  pub came_back : (w : Pick) (a : Holder) (call : Event) (to : Home) (peeks : ℕ) (q : Token) (b : Holder) → Releases call
+      → HasReleased k o a call w to peeks q → HasEntered k o q b
+      → (d : Addition) × HasCalled (inside a) (inside b) (d ∷ []) × IsCall k o w a.me.setting call d × (d.before ≡ a.floor.history)
+  came_back w a call to peeks q b releases r e =
+      let one = released k o w a call to peeks q releases r in
       (one.0, called_then (inside a) (outside q) (inside b) (one.0 ∷ []) [] one.1 (came k o q b e), one.2, one.3)
 
   -- a seat that stayed, or came in again
-  pub went_on : {K T : Type 0} (x : After K T) (a : Holder) (call : Event) (to : Home) (peeks : ℕ) (b : Holder) → Releases call
-      → MatchAfter x (λ y. HasStayed k o a call Waiter peeks y) (λ p. HasReleased k o a call Waiter to peeks p)
+  pub went_on : {K T : Type 0} (w : Pick) (x : After K T) (a : Holder) (call : Event) (to : Home) (peeks : ℕ) (b : Holder) → Releases call
+      → MatchAfter x (λ y. HasStayed k o a call w peeks y) (λ p. HasReleased k o a call w to peeks p)
       → MatchAfter x (λ y. b ≡ y) (λ p. HasEntered k o p b)
-      → (d : Addition) × HasCalled (inside a) (inside b) (d ∷ []) × IsCall k o a.me.setting call d × (d.before ≡ a.floor.history)
-  went_on (Active y) a call to peeks b releases s same =
-      let one = stayed k o a call peeks y releases s in
+      → (d : Addition) × HasCalled (inside a) (inside b) (d ∷ []) × IsCall k o w a.me.setting call d × (d.before ≡ a.floor.history)
+  went_on w (Active y) a call to peeks b releases s same =
+      let one = stayed k o w a call peeks y releases s in
       (one.0, subst (λ (h : Holder). HasCalled (inside a) (inside h) (one.0 ∷ [])) (sym same) one.1, one.2, one.3)
-  went_on (Parked p) a call to peeks b releases r e = came_back a call to peeks p b releases r e
+  went_on w (Parked p) a call to peeks b releases r e = came_back w a call to peeks p b releases r e
 
-  pub paused : (a : Holder) (call : Event) (b : Holder) → length a.me.mine + 3 ≤ a.me.setting.budget
+  pub paused : (w : Pick) (a : Holder) (call : Event) (b : Holder) → length a.me.mine + 3 ≤ a.me.setting.budget
       → a.floor ≡ floor_of a.me.setting a.floor.history
-      → ((d : Addition) × HasCalled (inside a) (inside b) (d ∷ []) × IsCall k o a.me.setting call d × (d.before ≡ a.floor.history))
-      → HasPaused k o a call b
-  paused a call b room floor x = record { room = room; pause = x.0; called = x.1; is = x.2; at = x.3; floor = floor }
+      → ((d : Addition) × HasCalled (inside a) (inside b) (d ∷ []) × IsCall k o w a.me.setting call d × (d.before ≡ a.floor.history))
+      → HasPaused k o w a call b
+  paused w a call b room floor x = record { room = room; pause = x.0; called = x.1; is = x.2; at = x.3; floor = floor }
 
   -- a seat that went out by one call
-  pub gone : (a : Holder) (call : Event) (to : Home) (peeks : ℕ) (p : Token) → Releases call → HasReleased k o a call Waiter to peeks p
-      → HasGoneBy k o a (call ∷ []) p
-  gone a call to peeks p releases r =
-      let one = released k o a call to peeks p releases r in
+  pub gone : (w : Pick) (a : Holder) (call : Event) (to : Home) (peeks : ℕ) (p : Token) → Releases call
+      → HasReleased k o a call w to peeks p → HasGoneBy k o w a (call ∷ []) p
+  gone w a call to peeks p releases r =
+      let one = released k o w a call to peeks p releases r in
       record { made = one.0 ∷ []; called = one.1; are = (one.2, tt); told = r.told }
 
-  pub left : (a : Holder) (to : Home) (peeks : ℕ) (p : Token) → HasReleased k o a (Leave a.me.seat Stay) Waiter to peeks p
-      → HasGoneBy k o a (Leave a.me.seat Stay ∷ []) p
-  left a to peeks p r = gone a (Leave a.me.seat Stay) to peeks p (λ x. (refl, refl, refl)) r
+  pub left : (w : Pick) (a : Holder) (to : Home) (peeks : ℕ) (p : Token) → HasReleased k o a (Leave a.me.seat Stay) w to peeks p
+      → HasGoneBy k o w a (Leave a.me.seat Stay ∷ []) p
+  left w a to peeks p r = gone w a (Leave a.me.seat Stay) to peeks p (λ x. (refl, refl, refl)) r
 
   -- a seat that leaves finds all that it has made in its floor's history
   own_counted : (a : Holder) (to : Home) (peeks : ℕ) (p : Token) → HasReleased k o a (Leave a.me.seat Stay) Waiter to peeks p
@@ -96,7 +97,7 @@ module _ (k : Rules) (o : Object) where
       → HasReleased k o a (Leave a.me.seat Stay) Waiter to peeks p → a.me.setting.budget < length a.me.mine + needed
       → 1 ≤ needed → needed ≤ 3 → HasGivenUp k o needed a p
   given_up a to peeks p needed r short some few =
-      let one = released k o a (Leave a.me.seat Stay) to peeks p (λ x. (refl, refl, refl)) r in record {
+      let one = released k o Waiter a (Leave a.me.seat Stay) to peeks p (λ x. (refl, refl, refl)) r in record {
         short = short_left a.me.setting.budget (length (events_of a.floor.history a.me.seat)) (length a.me.mine) needed
             (own_counted a to peeks p r) short some;
         counted = short;
@@ -112,13 +113,13 @@ module _ (k : Rules) (o : Object) where
       }
 
   -- a call after which the seat is active, and a leave
-  pub called_out : (a : Holder) (call : Event) (b : Holder) (to : Home) (peeks : ℕ) (p : Token)
-      → ((d : Addition) × HasCalled (inside a) (inside b) (d ∷ []) × IsCall k o a.me.setting call d
+  pub called_out : (w : Pick) (a : Holder) (call : Event) (b : Holder) (to : Home) (peeks : ℕ) (p : Token)
+      → ((d : Addition) × HasCalled (inside a) (inside b) (d ∷ []) × IsCall k o w a.me.setting call d
       × (d.before ≡ a.floor.history))
-      → HasReleased k o b (Leave b.me.seat Stay) Waiter to peeks p
-      → HasGoneBy k o a (call ∷ Leave a.me.seat Stay ∷ []) p
-  called_out a call b to peeks p one r =
-      let leave = released k o b (Leave b.me.seat Stay) to peeks p (λ x. (refl, refl, refl)) r in
+      → HasReleased k o b (Leave b.me.seat Stay) w to peeks p
+      → HasGoneBy k o w a (call ∷ Leave a.me.seat Stay ∷ []) p
+  called_out w a call b to peeks p one r =
+      let leave = released k o w b (Leave b.me.seat Stay) to peeks p (λ x. (refl, refl, refl)) r in
       let seat = one.1.went.seat in let setting = one.1.went.setting in
       record {
         made = one.0 ∷ leave.0 ∷ [];
@@ -126,8 +127,8 @@ module _ (k : Rules) (o : Object) where
         are = (
           one.2,
           (
-            subst (λ (s : ℕ). IsCall k o a.me.setting (Leave s Stay) leave.0) seat
-                (subst (λ (c : Setting). IsCall k o c (Leave b.me.seat Stay) leave.0) setting leave.2),
+            subst (λ (s : ℕ). IsCall k o w a.me.setting (Leave s Stay) leave.0) seat
+                (subst (λ (c : Setting). IsCall k o w c (Leave b.me.seat Stay) leave.0) setting leave.2),
             tt,
           ),
         );

@@ -1,5 +1,5 @@
 -- One event more in the totals
-use Rattle.std.proofs.Common.{◌≡◌, ℕ, ◌+◌, ◌-◌, ◌≤◌, ◌<◌, cond, List, [], ◌∷◌, ◌++◌, length, map, take, drop, subst}
+use Rattle.std.proofs.Common.{◌≡◌, ℕ, ◌+◌, ◌-◌, ◌≤◌, ◌<◌, ◌==◌, cond, List, [], ◌∷◌, ◌++◌, length, map, take, drop, subst}
 use Rattle.std.proofs.Common.{append-nil, slice_index_or, ap, ◌∙◌, arith}
 use Rattle.std.specs.Prelude.{filter, sum}
 use Rattle.std.proofs.lemmas.Grind.{flat_map-append}
@@ -11,7 +11,7 @@ use Rattle.monk_object.specs.Laws.{items_put, items_taken}
 use Rattle.monk_object.specs.Runs.{Answered, is_done, times_done}
 use Rattle.monk_history.specs.Meaning.Acts.{act_of, acts_in}
 use Rattle.monk_history.specs.declared.event.Event.{Event}
-use Rattle.monk_samples.specs.Totals.{count_done, sum_put, sum_taken}
+use Rattle.monk_samples.specs.Totals.{count_done, missed_in, refusals_in, sum_put, sum_taken}
 
 last_act : (e : Event) → act_of e ++ [] ≡ act_of e
 last_act e = append-nil (act_of e)
@@ -22,6 +22,9 @@ acts_more h e = flat_map-append act_of h (e ∷ []) ∙ ap (λ (xs : List Answer
 pub done_more : (code : ℕ) (h : List Event) (e : Event) → count_done code (h ++ e ∷ []) ≡ count_done code h + times_done code (act_of e)
 done_more code h e = ap (λ (xs : List Answered). times_done code xs) (acts_more h e)
     ∙ sum_by-append (λ a. cond (is_done code a) 1 0) (acts_in h) (act_of e)
+
+missed_more : (h : List Event) (e : Event) → missed_in (h ++ e ∷ []) ≡ missed_in h + refusals_in (act_of e)
+missed_more h e = ap refusals_in (acts_more h e) ∙ sum_by-append (λ a. cond (a.reply == 0) 1 0) (acts_in h) (act_of e)
 
 items_put_append : (us vs : List Answered) → items_put (us ++ vs) ≡ items_put us ++ items_put vs
 items_put_append us vs = ap (λ (xs : List Answered). map (λ act. act.op.arg) xs) (filter-append (is_done PUT) us vs)
@@ -56,6 +59,12 @@ pub done_next : (code n count more : ℕ) (h : List Event) (d : Event) → n < l
     → times_done code (act_of (slice_index_or h n d)) ≡ more → count + more ≡ count_done code (take (n + 1) h)
 done_next code n count more h d l e m =
     let next = ap (count_done code) (take_more h n d l) ∙ done_more code (take n h) (slice_index_or h n d) in
+    omega (arith, next, e, m)
+
+pub missed_next : (n count more : ℕ) (h : List Event) (d : Event) → n < length h → count ≡ missed_in (take n h)
+    → refusals_in (act_of (slice_index_or h n d)) ≡ more → count + more ≡ missed_in (take (n + 1) h)
+missed_next n count more h d l e m =
+    let next = ap missed_in (take_more h n d l) ∙ missed_more (take n h) (slice_index_or h n d) in
     omega (arith, next, e, m)
 
 pub put_next : (n count more : ℕ) (h : List Event) (d : Event) → n < length h → count ≡ sum_put (take n h)

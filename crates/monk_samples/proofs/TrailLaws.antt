@@ -1,9 +1,9 @@
 -- How the steps of a seat make a longer way
-use Rattle.std.proofs.Common.{◌≡◌, ℕ, false, Some, List, [], ◌∷◌, ◌++◌, append-nil, append_assoc, refl, sym, ap, subst, ◌∙◌}
+use Rattle.std.proofs.Common.{◌≡◌, ℕ, Bool, false, Some, List, [], ◌∷◌, ◌++◌, append-nil, append_assoc, refl, sym, ap, subst, ◌∙◌}
 use Rattle.std.proofs.lemmas.Bool.{eqb-true}
 use Rattle.std.proofs.lemmas.Grind.{flat_map-append}
 use Rattle.std.proofs.lemmas.List.{map-append}
-use Rattle.monk_kinds.specs.declared.mode.Pick.TheVariants.{Waiter}
+use Rattle.monk_kinds.specs.declared.mode.Pick.{Pick}
 use Rattle.monk_kinds.specs.declared.mode.Rules.{Rules}
 use Rattle.monk_object.specs.Object.{Object}
 use Rattle.monk_object.specs.declared.op.Op.{Op}
@@ -24,7 +24,7 @@ use Rattle.monk_world.specs.declared.home.Home.{Home}
 use Rattle.monk_world.specs.declared.source.Source.{Source}
 use Rattle.monk_world.specs.declared.source.Source.TheVariants.{Free, Granted, Called}
 use Rattle.monk_hall.specs.Changes.{source_from}
-use Rattle.monk_hall.specs.Calls.{HasArrived, HasEntered, HasReleased, HasStayed, HasDone}
+use Rattle.monk_hall.specs.Calls.{HasArrived, HasEntered, HasReleased, HasStayed, HasDone, is_entry_known}
 use Rattle.monk_hall.specs.Floors.{StartsWith}
 use Rattle.monk_hall.specs.Layout.{floor_of}
 use Rattle.monk_hall.specs.Tokens.{Token, Holder}
@@ -119,24 +119,28 @@ module _ (k : Rules) (o : Object) where
       }
 
   -- the choice that a release made, of the hall's setting
-  wished : (a : Holder) (call : Event) (x : Next) → Releases call → a.floor ≡ floor_of a.me.setting a.floor.history
-      → x ≡ choice_of k o (stands_of k o a.floor) call false Waiter
-      → IsCall k o a.me.setting call (record { before = a.floor.history; event = with_next x call })
-  wished a call x releases floor chosen = record {
+  wished : (w : Pick) (a : Holder) (call : Event) (x : Next) (known : Bool) → Releases call
+      → a.floor ≡ floor_of a.me.setting a.floor.history
+      → x ≡ choice_of k o (stands_of k o a.floor) call (is_entry_known w known) w
+      → IsCall k o w a.me.setting call (record { before = a.floor.history; event = with_next x call })
+  wished w a call x known releases floor chosen = let knows = is_entry_known w known in record {
     asks = (releases x).1;
-    wishes = λ y is. some_is y x (sym is ∙ (releases x).2) ∙ chosen
-        ∙ ap (λ (f : FloorView). choice_of k o (stands_of k o f) call false Waiter) floor
-        ∙ ap (λ e. choice_of k o (stands_of k o (floor_of a.me.setting a.floor.history)) e false Waiter) (sym (releases x).1);
+    wishes = λ y is. (
+      known,
+      some_is y x (sym is ∙ (releases x).2) ∙ chosen
+          ∙ ap (λ (f : FloorView). choice_of k o (stands_of k o f) call knows w) floor
+          ∙ ap (λ e. choice_of k o (stands_of k o (floor_of a.me.setting a.floor.history)) e knows w) (sym (releases x).1),
+    );
   }
     where
       some_is : (y z : Next) → Some y ≡ Some z → y ≡ z
       some_is y z e = cc
 
   -- a release is one call
-  pub released : (a : Holder) (call : Event) (to : Home) (peeks : ℕ) (p : Token) → Releases call
-      → HasReleased k o a call Waiter to peeks p
-      → (d : Addition) × HasCalled (inside a) (outside p) (d ∷ []) × IsCall k o a.me.setting call d × (d.before ≡ a.floor.history)
-  released a call to peeks p releases r = let d : Addition = record { before = a.floor.history; event = with_next r.choice call } in (
+  pub released : (w : Pick) (a : Holder) (call : Event) (to : Home) (peeks : ℕ) (p : Token) → Releases call
+      → HasReleased k o a call w to peeks p
+      → (d : Addition) × HasCalled (inside a) (outside p) (d ∷ []) × IsCall k o w a.me.setting call d × (d.before ≡ a.floor.history)
+  released w a call to peeks p releases r = let d : Addition = record { before = a.floor.history; event = with_next r.choice call } in (
     d,
     record {
       own = d ∷ [];
@@ -149,13 +153,13 @@ module _ (k : Rules) (o : Object) where
       };
       called = no_coming d (releases r.choice).0;
     },
-    wished a call r.choice releases r.floor r.chosen,
+    wished w a call r.choice p.me.known releases r.floor r.chosen,
     refl,
   )
 
-  pub stayed : (a : Holder) (call : Event) (peeks : ℕ) (b : Holder) → Releases call → HasStayed k o a call Waiter peeks b
-      → (d : Addition) × HasCalled (inside a) (inside b) (d ∷ []) × IsCall k o a.me.setting call d × (d.before ≡ a.floor.history)
-  stayed a call peeks b releases s = let d : Addition = record { before = a.floor.history; event = with_next Stay call } in (
+  pub stayed : (w : Pick) (a : Holder) (call : Event) (peeks : ℕ) (b : Holder) → Releases call → HasStayed k o a call w peeks b
+      → (d : Addition) × HasCalled (inside a) (inside b) (d ∷ []) × IsCall k o w a.me.setting call d × (d.before ≡ a.floor.history)
+  stayed w a call peeks b releases s = let d : Addition = record { before = a.floor.history; event = with_next Stay call } in (
     d,
     record {
       own = d ∷ [];
@@ -168,7 +172,7 @@ module _ (k : Rules) (o : Object) where
       };
       called = no_coming d (releases Stay).0;
     },
-    wished a call Stay releases s.floor s.chosen,
+    wished w a call Stay b.me.known releases s.floor s.chosen,
     refl,
   )
 
@@ -188,10 +192,10 @@ module _ (k : Rules) (o : Object) where
   }
 
   -- a signal to all is one call, which chooses nobody
-  pub woke : (a : Holder) (s c : ℕ) (b : Holder) → HasDone k o a (SignalAll s c) b
-      → (d : Addition) × HasCalled (inside a) (inside b) (d ∷ []) × IsCall k o a.me.setting (SignalAll s c) d
+  pub woke : (w : Pick) (a : Holder) (s c : ℕ) (b : Holder) → HasDone k o a (SignalAll s c) b
+      → (d : Addition) × HasCalled (inside a) (inside b) (d ∷ []) × IsCall k o w a.me.setting (SignalAll s c) d
       × (d.before ≡ a.floor.history)
-  woke a s c b d = let made : Addition = record { before = a.floor.history; event = SignalAll s c } in (
+  woke w a s c b d = let made : Addition = record { before = a.floor.history; event = SignalAll s c } in (
     made,
     record {
       own = made ∷ [];

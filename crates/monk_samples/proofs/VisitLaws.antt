@@ -1,9 +1,11 @@
 -- What a visit of a member comes to
 use Rattle.std.proofs.Common.{◌≡◌, ℕ, Bool, true, false, cond, Option, Some, None, List, [], ◌∷◌, ◌++◌}
 use Rattle.std.proofs.Common.{append-nil, append_assoc}
-use Rattle.std.proofs.Common.{◌≤◌, refl, sym, ap, subst, ◌∙◌, inl, inr}
+use Rattle.std.proofs.Common.{◌≤◌, refl, sym, ap, subst, ◌∙◌, inl, inr, arith}
 use Rattle.std.proofs.lemmas.Grind.{flat_map-append}
 use Rattle.std.proofs.lemmas.List.{map-append}
+use Rattle.monk_kinds.specs.declared.mode.Pick.{Pick}
+use Rattle.monk_kinds.specs.declared.mode.Pick.TheVariants.{Waiter}
 use Rattle.monk_kinds.specs.declared.mode.Rules.{Rules}
 use Rattle.monk_object.specs.Object.{Object}
 use Rattle.monk_object.specs.declared.op.Op.{Op}
@@ -24,7 +26,8 @@ use Rattle.monk_hall.specs.declared.setting.Setting.{Setting}
 use Rattle.monk_samples.specs.Asked.{AreCalls, IsCall}
 use Rattle.monk_samples.specs.Styles.{HasFinished, HasGivenUp, HasGoneOut, HasPaused, pause_call, way_out}
 use Rattle.monk_samples.specs.Trails.{Addition, Trail, HasCalled, after, events_in, inside, outside}
-use Rattle.monk_samples.specs.Visits.{Guard, Plan, ArePauses, HasPausedFor, IsCertain, IsLeftWaiting}
+use Rattle.monk_samples.specs.Visits.{Guard, Manner, Patient, Hasty, Plan, AreFew, ArePauses, HasPausedFor, IsCertain, IsLeftWaiting}
+use Rattle.monk_samples.specs.Visits.{AreMisses, HasMissed, HasTried, IsTried, IsVisitTo, Misses, MissesIn, wish_in, wish_of}
 use Rattle.monk_samples.specs.Visits.{IsUnready, AreVisits, HasVisited, HasTired, HasStayedOut, HasPausedUntil, HasActed}
 use Rattle.monk_samples.specs.Visits.{WayOut, Unsignalled, Signals, SignalsAll, SignalsAndWaits, calls_out, data_after, needed_yet}
 use Rattle.monk_samples.specs.declared.end.End.{End}
@@ -33,47 +36,71 @@ use Rattle.monk_samples.proofs.ShortLaws.{less_than, needs_two, short_out, short
 use Rattle.monk_samples.proofs.TrailLaws.{called_none, called_then, did, replied}
 
 module _ (k : Rules) (o : Object) where
-  pauses_then : (c : Setting) (s cond pred : ℕ) (xs ys : List Addition) → ArePauses k o c s cond pred xs → ArePauses k o c s cond pred ys
-      → ArePauses k o c s cond pred (xs ++ ys)
-  pauses_then c s cond pred [] ys h t = t
-  pauses_then c s cond pred (d ∷ xs) ys h t = (h.0, h.1, pauses_then c s cond pred xs ys h.2 t)
+  pauses_then : (c : Setting) (s : ℕ) (w : Guard) (xs ys : List Addition) → ArePauses k o c s w xs → ArePauses k o c s w ys
+      → ArePauses k o c s w (xs ++ ys)
+  pauses_then c s w [] ys h t = t
+  pauses_then c s w (d ∷ xs) ys h t = (h.0, h.1, pauses_then c s w xs ys h.2 t)
 
-  paused_for_then : (c : Setting) (s : ℕ) (w : Option Guard) (xs ys : List Addition) → HasPausedFor k o c s w xs
+  -- a patient visit pauses as often as it has to
+  abbrev pub IsPatient : Option Guard → Type 0
+  IsPatient None = Unit {0}
+  IsPatient (Some w) = w.manner ≡ Patient
+
+  few_patient : (m : Manner) (ds : List Addition) → m ≡ Patient → AreFew m ds
+  few_patient m ds e = subst (λ (x : Manner). AreFew x ds) (sym e) tt
+
+  few_none : (m : Manner) → AreFew m []
+  few_none Patient = tt
+  few_none Hasty = omega arith
+
+  few_one : (m : Manner) (d : Addition) → AreFew m (d ∷ [])
+  few_one Patient d = tt
+  few_one Hasty d = omega arith
+
+  paused_for_then : (c : Setting) (s : ℕ) (w : Option Guard) → IsPatient w → (xs ys : List Addition) → HasPausedFor k o c s w xs
       → HasPausedFor k o c s w ys
       → HasPausedFor k o c s w (xs ++ ys)
-  paused_for_then c s None xs ys h t = (λ i. h i ++ t i)
-  paused_for_then c s (Some w) xs ys h t = pauses_then c s w.cond w.pred xs ys h t
+  paused_for_then c s None patient xs ys h t = (λ i. h i ++ t i)
+  paused_for_then c s (Some w) patient xs ys h t = (pauses_then c s w xs ys h.0 t.0, few_patient w.manner (xs ++ ys) patient)
 
   paused_for_none : (c : Setting) (s : ℕ) (w : Option Guard) → HasPausedFor k o c s w []
   paused_for_none c s None = refl
-  paused_for_none c s (Some w) = tt
+  paused_for_none c s (Some w) = (tt, few_none w.manner)
 
   -- a seat that is active has yet to pause
   pub paused_none : (x : Trail) (w : Option Guard) (a : Holder) → HasCalled x (inside a) [] → HasPausedUntil k o x w a
   paused_none x w a called = record { pauses = []; called = called; paused = paused_for_none x.setting x.seat w }
 
-  pub paused_then : (x : Trail) (w : Option Guard) (a b : Holder) → HasPausedUntil k o x w a → HasPausedUntil k o (inside a) w b
-      → HasPausedUntil k o x w b
-  paused_then x w a b s t = let seat = s.called.went.seat in let setting = s.called.went.setting in record {
+  pub paused_then : (x : Trail) (w : Option Guard) → IsPatient w → (a b : Holder) → HasPausedUntil k o x w a
+      → HasPausedUntil k o (inside a) w b → HasPausedUntil k o x w b
+  paused_then x w patient a b s t = let seat = s.called.went.seat in let setting = s.called.went.setting in record {
     pauses = s.pauses ++ t.pauses;
     called = called_then x (inside a) (inside b) s.pauses t.pauses s.called t.called;
-    paused = paused_for_then x.setting x.seat w s.pauses t.pauses s.paused (rw (seat, setting) at t.paused);
+    paused = paused_for_then x.setting x.seat w patient s.pauses t.pauses s.paused (rw (seat, setting) at t.paused);
   }
 
-  -- one pause more, while the predicate was false
-  pub paused_once : (x : Trail) (w : Guard) (a b : Holder) → HasPausedUntil k o x (Some w) a
-      → HasPaused k o a (pause_call k a.me.seat w.cond w.pred) b
-      → o.holds (data_of (monitor_of k o a.floor) a.floor.history) w.pred ≡ false → HasPausedUntil k o x (Some w) b
-  paused_once x w a b s t not_yet = paused_then x (Some w) a b s record {
+  -- a pause, where the predicate was false
+  pub paused_first : (w : Guard) (a b : Holder) → HasPaused k o (wish_of w.manner) a (pause_call k a.me.seat w.cond w.pred) b
+      → o.holds (data_of (monitor_of k o a.floor) a.floor.history) w.pred ≡ false → HasPausedUntil k o (inside a) (Some w) b
+  paused_first w a b t not_yet = record {
     pauses = t.pause ∷ [];
     called = t.called;
     paused = (
-      t.is,
-      ap (λ h. o.holds (data_after k o a.me.setting h) w.pred) t.at
-          ∙ sym (ap (λ f. o.holds (data_of (monitor_of k o f) a.floor.history) w.pred) t.floor) ∙ not_yet,
-      tt,
+      (
+        t.is,
+        ap (λ h. o.holds (data_after k o a.me.setting h) w.pred) t.at
+            ∙ sym (ap (λ f. o.holds (data_of (monitor_of k o f) a.floor.history) w.pred) t.floor) ∙ not_yet,
+        tt,
+      ),
+      few_one w.manner t.pause,
     );
   }
+
+  -- one pause more, while the predicate was false
+  pub paused_once : (x : Trail) (w : Guard) → w.manner ≡ Patient → (a b : Holder) → HasPausedUntil k o x (Some w) a
+      → HasPaused k o (wish_of w.manner) a (pause_call k a.me.seat w.cond w.pred) b
+      → o.holds (data_of (monitor_of k o a.floor) a.floor.history) w.pred ≡ false → HasPausedUntil k o x (Some w) b
+  paused_once x w patient a b s t not_yet = paused_then x (Some w) patient a b s (paused_first w a b t not_yet)
 
   -- the active seat acted
   pub acted_now : (a : Holder) (op : Op) (reply : ℕ) (b : Holder) → HasDone k o a (Act a.me.seat op reply) b
@@ -115,16 +142,16 @@ module _ (k : Rules) (o : Object) where
       }
 
   -- a seat that paused, and was tired before it was done with pausing
-  pub tired_after : (x : Trail) (w : Option Guard) (a : Holder) (q : Token) → HasPausedUntil k o x w a
+  pub tired_after : (x : Trail) (w : Option Guard) → IsPatient w → (a : Holder) (q : Token) → HasPausedUntil k o x w a
       → HasTired k o (inside a) (IsLeftWaiting k o a.me.setting a.me.seat w) q → HasTired k o x (IsLeftWaiting k o x.setting x.seat w) q
-  tired_after x w a q s t = let seat = s.called.went.seat in let setting = s.called.went.setting in record {
+  tired_after x w patient a q s t = let seat = s.called.went.seat in let setting = s.called.went.setting in record {
     calls = s.pauses ++ t.calls;
     called = called_then x (inside a) (outside q) s.pauses t.calls s.called t.called;
     are = record {
       pauses = s.pauses ++ t.are.pauses;
       leave = t.are.leave;
       are = ap (λ ds. s.pauses ++ ds) t.are.are ∙ sym (append_assoc s.pauses t.are.pauses (t.are.leave ∷ []));
-      paused = paused_for_then x.setting x.seat w s.pauses t.are.pauses s.paused (rw (seat, setting) at t.are.paused);
+      paused = paused_for_then x.setting x.seat w patient s.pauses t.are.pauses s.paused (rw (seat, setting) at t.are.paused);
       leaves = rw (seat, setting) at t.are.leaves;
       short = short_yet k o w a.me.setting x.setting a.me.seat x.seat t.are.leave.before t.are.leave.before setting seat refl t.are.short;
     };
@@ -135,16 +162,17 @@ module _ (k : Rules) (o : Object) where
   -- what is left in place of an operation for which nothing more was to be waited
   pub tired_inside : (x : Trail) (w : Option Guard) (a : Holder) (q : Token) → HasPausedUntil k o x w a
       → HasTired k o (inside a) (IsLeftWaiting k o a.me.setting a.me.seat None) q → HasTired k o x (IsLeftWaiting k o x.setting x.seat w) q
-  tired_inside x w a q s t = tired_after x w a q s record {
-    calls = t.calls;
-    called = t.called;
+  tired_inside x w a q s t = let seat = s.called.went.seat in let setting = s.called.went.setting in record {
+    calls = s.pauses ++ t.calls;
+    called = called_then x (inside a) (outside q) s.pauses t.calls s.called t.called;
     are = record {
-      pauses = t.are.pauses;
+      pauses = s.pauses;
       leave = t.are.leave;
-      are = t.are.are;
-      paused = subst (λ ds. HasPausedFor k o a.me.setting a.me.seat w ds) (sym t.are.paused) (paused_for_none a.me.setting a.me.seat w);
-      leaves = t.are.leaves;
-      short = less_than _ _ _ t.are.short (needs_two k o a.me.setting w t.are.leave.before);
+      are = ap (λ ds. s.pauses ++ ds) (t.are.are ∙ ap (λ ds. ds ++ t.are.leave ∷ []) t.are.paused);
+      paused = s.paused;
+      leaves = rw (seat, setting) at t.are.leaves;
+      short = short_yet k o w a.me.setting x.setting a.me.seat x.seat t.are.leave.before t.are.leave.before setting seat refl
+          (less_than _ _ _ t.are.short (needs_two k o a.me.setting w t.are.leave.before));
     };
     spent = t.spent;
     told = t.told;
@@ -192,28 +220,30 @@ module _ (k : Rules) (o : Object) where
   next_acts (SignalAll s c) = refl
   next_acts (SignalWait s c d x) = refl
 
-  call_acts : (c : Setting) (e : Event) (d : Addition) → IsCall k o c e d → act_of d.event ≡ act_of e
-  call_acts c e d is = sym (next_acts d.event) ∙ ap act_of is.asks
+  call_acts : (u : Pick) (c : Setting) (e : Event) (d : Addition) → IsCall k o u c e d → act_of d.event ≡ act_of e
+  call_acts u c e d is = sym (next_acts d.event) ∙ ap act_of is.asks
 
-  pub calls_acts : (c : Setting) (es : List Event) (ds : List Addition) → AreCalls k o c es ds → acts_in (events_in ds) ≡ acts_in es
-  calls_acts c [] [] are = refl
-  calls_acts c [] (d ∷ ds) are = absurd are
-  calls_acts c (e ∷ es) [] are = absurd are
-  calls_acts c (e ∷ es) (d ∷ ds) are = (λ i. call_acts c e d are.0 i ++ calls_acts c es ds are.1 i)
+  pub calls_acts : (u : Pick) (c : Setting) (es : List Event) (ds : List Addition) → AreCalls k o u c es ds
+      → acts_in (events_in ds) ≡ acts_in es
+  calls_acts u c [] [] are = refl
+  calls_acts u c [] (d ∷ ds) are = absurd are
+  calls_acts u c (e ∷ es) [] are = absurd are
+  calls_acts u c (e ∷ es) (d ∷ ds) are = (λ i. call_acts u c e d are.0 i ++ calls_acts u c es ds are.1 i)
 
   pause_act : (b : Bool) (s c p : ℕ) → act_of (cond b (Wait s c Stay) (Until s p Stay)) ≡ []
   pause_act true s c p = refl
   pause_act false s c p = refl
 
-  pauses_acts : (c : Setting) (s cond pred : ℕ) (ds : List Addition) → ArePauses k o c s cond pred ds → acts_in (events_in ds) ≡ []
-  pauses_acts c s cond pred [] h = refl
-  pauses_acts c s cond pred (d ∷ ds) h =
-      (λ i. (call_acts c (pause_call k s cond pred) d h.0 ∙ pause_act (has_conditions k.mode) s cond pred) i
-      ++ pauses_acts c s cond pred ds h.2 i)
+  pauses_acts : (c : Setting) (s : ℕ) (w : Guard) (ds : List Addition) → ArePauses k o c s w ds → acts_in (events_in ds) ≡ []
+  pauses_acts c s w [] h = refl
+  pauses_acts c s w (d ∷ ds) h =
+      (λ i. (call_acts (wish_of w.manner) c (pause_call k s w.cond w.pred) d h.0
+      ∙ pause_act (has_conditions k.mode) s w.cond w.pred) i
+      ++ pauses_acts c s w ds h.2 i)
 
   pub paused_acts : (c : Setting) (s : ℕ) (w : Option Guard) (ds : List Addition) → HasPausedFor k o c s w ds → acts_in (events_in ds) ≡ []
   paused_acts c s None ds h = ap (λ xs. acts_in (events_in xs)) h
-  paused_acts c s (Some w) ds h = pauses_acts c s w.cond w.pred ds h
+  paused_acts c s (Some w) ds h = pauses_acts c s w ds h.0
 
   out_acts : (b d : Bool) (s c : ℕ)
       → acts_in (cond b (Signal s c Stay ∷ Leave s Stay ∷ []) (cond d (SignalLeave s c Stay ∷ []) (Leave s Stay ∷ []))) ≡ []
@@ -232,64 +262,105 @@ module _ (k : Rules) (o : Object) where
 
   -- of pauses, an operation, and a way out, the operation alone is one
   one_act : (x : Trail) (w : Option Guard) (op : Op) (reply : ℕ) (a : Holder) (s : HasActed k o x w op reply a)
-      → (c : Setting) (es : List Event) (made : List Addition) → AreCalls k o c es made → acts_in es ≡ []
+      → (u : Pick) (c : Setting) (es : List Event) (made : List Addition) → AreCalls k o u c es made → acts_in es ≡ []
       → acts_in (events_in ((s.pauses ++ s.act ∷ []) ++ made)) ≡ record { op = op; reply = reply } ∷ []
-  one_act x w op reply a s c es made are none =
+  one_act x w op reply a s u c es made are none =
       let paused = paused_acts x.setting x.seat w s.pauses s.paused in
       let here : acts_in (events_in (s.pauses ++ s.act ∷ [])) ≡ record { op = op; reply = reply } ∷ [] =
       acts_append s.pauses (s.act ∷ []) ∙ (λ i. paused i ++ acts_in (s.acts.is i ∷ [])) in
-      acts_append (s.pauses ++ s.act ∷ []) made ∙ (λ i. here i ++ (calls_acts c es made are ∙ none) i)
+      acts_append (s.pauses ++ s.act ∷ []) made ∙ (λ i. here i ++ (calls_acts u c es made are ∙ none) i)
 
   -- a way out by the one condition or the other
   pub finished_by : (b : Bool) (m n next : ℕ) (a : Holder) (q : Token) (end : End) → (b ≡ true → next ≡ m) → (b ≡ false → next ≡ n)
-      → HasFinished k o a (way_out k a.me.seat next) q end
-      → HasFinished k o a (calls_out k a.me.seat (cond b (Signals m) (Signals n))) q end
+      → HasFinished k o Waiter a (way_out k a.me.seat next) q end
+      → HasFinished k o Waiter a (calls_out k a.me.seat (cond b (Signals m) (Signals n))) q end
   finished_by true m n next a q end is_m is_n out =
-      subst (λ (c : ℕ). HasFinished k o a (way_out k a.me.seat c) q end) (is_m refl) out
+      subst (λ (c : ℕ). HasFinished k o Waiter a (way_out k a.me.seat c) q end) (is_m refl) out
   finished_by false m n next a q end is_m is_n out =
-      subst (λ (c : ℕ). HasFinished k o a (way_out k a.me.seat c) q end) (is_n refl) out
+      subst (λ (c : ℕ). HasFinished k o Waiter a (way_out k a.me.seat c) q end) (is_n refl) out
 
-  pub finished : (a : Holder) (calls : List Event) (q : Token) (end : End) → HasFinished k o a calls q end → HasGoneOut k o a calls q end
-  finished a calls q Done out = out
-  finished a calls q Tired out = out.1
-  finished a calls q Late out = out
+  pub finished : (u : Pick) (a : Holder) (calls : List Event) (q : Token) (end : End) → HasFinished k o u a calls q end
+      → HasGoneOut k o u a calls q end
+  finished u a calls q Done out = out
+  finished u a calls q Tired out = out.1
+  finished u a calls q Late out = out
 
-  -- a visit that acted and went out
-  gone_telling : (p : Token) (v : Plan) (reply : ℕ) (a : Holder) (q : Token) (end : End)
+  -- no try has missed
+  pub no_miss : (w : Option Guard) → Misses w 0
+  no_miss None = refl
+  no_miss (Some w) = none_in w.manner
+    where
+      none_in : (m : Manner) → MissesIn m 0
+      none_in Patient = refl
+      none_in Hasty = tt
+
+  -- the tries that missed, and a last one
+  tries_to : (c : Setting) (s : ℕ) (v : Plan) (misses : ℕ) (first rest : List Addition) → Misses v.guard misses
+      → AreMisses k o c s v misses first → (end : End) → IsTried k o c s v end rest → IsVisitTo k o c s v end (first ++ rest)
+  tries_to c s v misses first rest may missed end tried = record {
+    misses = misses;
+    may = may;
+    tries = record { first = first; rest = rest; are = refl; is_first = missed; is_rest = tried };
+  }
+
+  pub one_visit : (c : Setting) (s : ℕ) (v : Plan) (misses : ℕ) (first rest : List Addition) → Misses v.guard misses
+      → AreMisses k o c s v misses first → (end : End) → IsTried k o c s v end rest
+      → AreVisits k o c s end (v ∷ []) (first ++ rest)
+  one_visit c s v misses first rest may missed Done tried = record {
+    first = first ++ rest;
+    rest = [];
+    are = sym (append-nil (first ++ rest));
+    is_first = tries_to c s v misses first rest may missed Done tried;
+    is_rest = refl;
+  }
+  one_visit c s v misses first rest may missed Tired tried = inl (tries_to c s v misses first rest may missed Tired tried)
+  one_visit c s v misses first rest may missed Late tried = absurd tried
+
+  abbrev pub visited_by : (p m q : Token) (v : Plan) (end : End) (misses : ℕ) → Misses v.guard misses → HasMissed k o p v misses m
+      → HasTried k o m v q end → HasVisited k o p (v ∷ []) q end
+  visited_by p m q v end misses may s t = let seat = s.called.went.seat in let setting = s.called.went.setting in record {
+    calls = s.calls ++ t.calls;
+    called = called_then (outside p) (outside m) (outside q) s.calls t.calls s.called t.called;
+    are = one_visit p.me.setting p.me.seat v misses s.calls t.calls may s.are end (rw (seat, setting) at t.are);
+    spent = t.spent;
+    told = t.told;
+  }
+
+  abbrev pub none_missed : (p : Token) (v : Plan) → HasMissed k o p v 0 p
+  none_missed p v = record { calls = []; called = called_none (outside p); are = refl }
+
+  abbrev pub visited_first : (p q : Token) (v : Plan) (end : End) → HasTried k o p v q end → HasVisited k o p (v ∷ []) q end
+  visited_first p q v end t = visited_by p p q v end 0 (no_miss v.guard) (none_missed p v) t
+
+  -- a try that acted and went out
+  pub tried_telling : (p : Token) (v : Plan) (reply : ℕ) (a : Holder) (q : Token) (end : End)
       → HasActed k o (outside p) v.guard v.op reply a → IsCertain v.guard reply
-      → HasGoneOut k o a (calls_out k a.me.seat (v.goes_out a.floor.history)) q end
-      → (visit : HasVisited k o p (v ∷ []) q end) × (acts_in (events_in visit.calls) ≡ record { op = v.op; reply = reply } ∷ [])
-  gone_telling p v reply a q Done s certain out =
-      let seat = s.called.went.seat in let setting = s.called.went.setting in let calls = (s.pauses ++ s.act ∷ []) ++ out.made in (
-        record {
-          calls = calls;
-          called = called_then (outside p) (inside a) (outside q) (s.pauses ++ s.act ∷ []) out.made s.called out.called;
-          are = record {
-            first = calls;
-            rest = [];
-            are = sym (append-nil calls);
-            is_first = record {
-              pauses = s.pauses;
-              act = s.act;
-              out = out.made;
-              are = append_assoc s.pauses (s.act ∷ []) out.made;
-              done = record { paused = s.paused; reply = reply; acts = s.acts; certain = certain };
-              goes = rw (seat, setting, s.last) at out.are;
-            };
-            is_rest = refl;
-          };
-          spent = λ e. cc;
-          told = out.told;
-        },
-        one_act (outside p) v.guard v.op reply a s a.me.setting (calls_out k a.me.seat (v.goes_out a.floor.history)) out.made out.are
-            (calls_out_acts a.me.seat (v.goes_out a.floor.history)),
-      )
-  gone_telling p v reply a q Tired s certain out =
+      → HasGoneOut k o (wish_in v.guard) a (calls_out k a.me.seat (v.goes_out a.floor.history)) q end
+      → (t : HasTried k o p v q end) × (acts_in (events_in t.calls) ≡ record { op = v.op; reply = reply } ∷ [])
+  tried_telling p v reply a q Done s certain out = let seat = s.called.went.seat in let setting = s.called.went.setting in (
+    record {
+      calls = (s.pauses ++ s.act ∷ []) ++ out.made;
+      called = called_then (outside p) (inside a) (outside q) (s.pauses ++ s.act ∷ []) out.made s.called out.called;
+      are = record {
+        pauses = s.pauses;
+        act = s.act;
+        out = out.made;
+        are = append_assoc s.pauses (s.act ∷ []) out.made;
+        done = record { paused = s.paused; reply = reply; acts = s.acts; certain = certain };
+        goes = rw (seat, setting, s.last) at out.are;
+      };
+      spent = λ e. cc;
+      told = out.told;
+    },
+    one_act (outside p) v.guard v.op reply a s (wish_in v.guard) a.me.setting (calls_out k a.me.seat (v.goes_out a.floor.history))
+        out.made out.are (calls_out_acts a.me.seat (v.goes_out a.floor.history)),
+  )
+  tried_telling p v reply a q Tired s certain out =
       let seat = s.called.went.seat in let setting = s.called.went.setting in let d = out.leave in (
         record {
           calls = (s.pauses ++ s.act ∷ []) ++ d ∷ [];
           called = called_then (outside p) (inside a) (outside q) (s.pauses ++ s.act ∷ []) (d ∷ []) s.called out.called;
-          are = inl (inr record {
+          are = inr record {
             pauses = s.pauses;
             act = s.act;
             leave = d;
@@ -298,35 +369,53 @@ module _ (k : Rules) (o : Object) where
             leaves = rw (seat, setting) at out.is;
             short = short_out k o v.goes_out a.me.setting p.me.setting a.me.seat p.me.seat a.floor.history d.before (after s.act)
                 setting seat (sym out.at) s.last out.short;
-          });
+          };
           spent = λ e. out.spent;
           told = out.told;
         },
-        one_act (outside p) v.guard v.op reply a s a.me.setting (Leave a.me.seat Stay ∷ []) (d ∷ []) (out.is, tt) refl,
+        one_act (outside p) v.guard v.op reply a s Waiter a.me.setting (Leave a.me.seat Stay ∷ []) (d ∷ []) (out.is, tt) refl,
       )
-  gone_telling p v reply a q Late s certain out = absurd out
+  tried_telling p v reply a q Late s certain out = absurd out
+
+  pub tried_in : (p : Token) (v : Plan) (reply : ℕ) (a : Holder) (q : Token) (end : End)
+      → HasActed k o (outside p) v.guard v.op reply a → IsCertain v.guard reply
+      → HasFinished k o (wish_in v.guard) a (calls_out k a.me.seat (v.goes_out a.floor.history)) q end → HasTried k o p v q end
+  tried_in p v reply a q end s certain out = (tried_telling p v reply a q end s certain
+      (finished (wish_in v.guard) a (calls_out k a.me.seat (v.goes_out a.floor.history)) q end out)).0
+
+  -- a visit that acted and went out
+  gone_telling : (p : Token) (v : Plan) (reply : ℕ) (a : Holder) (q : Token) (end : End)
+      → HasActed k o (outside p) v.guard v.op reply a → IsCertain v.guard reply
+      → HasGoneOut k o (wish_in v.guard) a (calls_out k a.me.seat (v.goes_out a.floor.history)) q end
+      → (visit : HasVisited k o p (v ∷ []) q end) × (acts_in (events_in visit.calls) ≡ record { op = v.op; reply = reply } ∷ [])
+  gone_telling p v reply a q end s certain out =
+      let t = tried_telling p v reply a q end s certain out in (visited_first p q v end t.0, t.1)
 
   pub visited_telling : (p : Token) (v : Plan) (reply : ℕ) (a : Holder) (q : Token) (end : End)
       → HasActed k o (outside p) v.guard v.op reply a → IsCertain v.guard reply
-      → HasFinished k o a (calls_out k a.me.seat (v.goes_out a.floor.history)) q end
+      → HasFinished k o (wish_in v.guard) a (calls_out k a.me.seat (v.goes_out a.floor.history)) q end
       → (visit : HasVisited k o p (v ∷ []) q end) × (acts_in (events_in visit.calls) ≡ record { op = v.op; reply = reply } ∷ [])
   visited_telling p v reply a q end s certain out =
-      gone_telling p v reply a q end s certain (finished a (calls_out k a.me.seat (v.goes_out a.floor.history)) q end out)
+      gone_telling p v reply a q end s certain (finished (wish_in v.guard) a (calls_out k a.me.seat (v.goes_out a.floor.history)) q end out)
 
   pub visited_out : (p : Token) (v : Plan) (reply : ℕ) (a : Holder) (q : Token) (end : End)
       → HasActed k o (outside p) v.guard v.op reply a → IsCertain v.guard reply
-      → HasGoneOut k o a (calls_out k a.me.seat (v.goes_out a.floor.history)) q end → HasVisited k o p (v ∷ []) q end
+      → HasGoneOut k o (wish_in v.guard) a (calls_out k a.me.seat (v.goes_out a.floor.history)) q end → HasVisited k o p (v ∷ []) q end
   visited_out p v reply a q end s certain out = (gone_telling p v reply a q end s certain out).0
 
   pub visited : (p : Token) (v : Plan) (reply : ℕ) (a : Holder) (q : Token) (end : End)
       → HasActed k o (outside p) v.guard v.op reply a → IsCertain v.guard reply
-      → HasFinished k o a (calls_out k a.me.seat (v.goes_out a.floor.history)) q end → HasVisited k o p (v ∷ []) q end
+      → HasFinished k o (wish_in v.guard) a (calls_out k a.me.seat (v.goes_out a.floor.history)) q end → HasVisited k o p (v ∷ []) q end
   visited p v reply a q end s certain out = (visited_telling p v reply a q end s certain out).0
 
-  -- a visit that was cut short
+  -- a try that was cut short before it acted, and a visit that was
+  abbrev pub untried : (p : Token) (v : Plan) (q : Token) → HasTired k o (outside p) (IsUnready k o p.me.setting p.me.seat v.guard) q
+      → HasTried k o p v q Tired
+  untried p v q t = record { calls = t.calls; called = t.called; are = inl t.are; spent = λ e. t.spent; told = t.told }
+
   abbrev pub tired : (p : Token) (v : Plan) (q : Token) → HasTired k o (outside p) (IsUnready k o p.me.setting p.me.seat v.guard) q
       → HasVisited k o p (v ∷ []) q Tired
-  tired p v q t = record { calls = t.calls; called = t.called; are = inl (inl t.are); spent = λ e. t.spent; told = t.told }
+  tired p v q t = visited_first p q v Tired (untried p v q t)
 
   -- it did no operation
   pub tired_tells : (p : Token) (v : Plan) (q : Token) → (t : HasTired k o (outside p) (IsUnready k o p.me.setting p.me.seat v.guard) q)
@@ -337,7 +426,7 @@ module _ (k : Rules) (o : Object) where
       unready_acts calls (inl none) = ap (λ ds. acts_in (events_in ds)) none
       unready_acts calls (inr l) = ap (λ ds. acts_in (events_in ds)) l.are ∙ acts_append l.pauses (l.leave ∷ [])
           ∙ (λ i. paused_acts p.me.setting p.me.seat v.guard l.pauses l.paused i
-          ++ calls_acts p.me.setting (Leave p.me.seat Stay ∷ []) (l.leave ∷ []) (l.leaves, tt) i)
+          ++ calls_acts Waiter p.me.setting (Leave p.me.seat Stay ∷ []) (l.leave ∷ []) (l.leaves, tt) i)
 
   -- two visits, the first of which was done
   pub visited_twice : (p q r : Token) (end : End) (v w : Plan) → HasVisited k o p (v ∷ []) q Done

@@ -1,6 +1,6 @@
 -- What a call of a seat asks for, and by which wish a release chooses
-use Rattle.std.specs.Prelude.{◌≡◌, List, [], ◌∷◌, Some, false}
-use Rattle.monk_kinds.specs.declared.mode.Pick.TheVariants.{Waiter}
+use Rattle.std.specs.Prelude.{◌≡◌, Bool, List, [], ◌∷◌, Some}
+use Rattle.monk_kinds.specs.declared.mode.Pick.{Pick}
 use Rattle.monk_kinds.specs.declared.mode.Rules.{Rules}
 use Rattle.monk_object.specs.Object.{Object}
 use Rattle.monk_history.specs.Meaning.Events.{next_of}
@@ -9,6 +9,7 @@ use Rattle.monk_history.specs.declared.event.Event.{Event}
 use Rattle.monk_history.specs.declared.event.Next.{Next}
 use Rattle.monk_history.specs.declared.event.Next.TheVariants.{Stay}
 use Rattle.monk_floor.specs.View.{stands_of}
+use Rattle.monk_hall.specs.Calls.{is_entry_known}
 use Rattle.monk_hall.specs.Layout.{floor_of}
 use Rattle.monk_hall.specs.declared.setting.Setting.{Setting}
 use Rattle.monk_samples.specs.Trails.{Addition}
@@ -17,19 +18,20 @@ use Rattle.monk_samples.specs.Trails.{Addition}
 abbrev pub asked_call : Addition → Event
 asked_call d = with_next Stay d.event
 
--- where it released, it chose by the wish for a waiter
-abbrev pub WishesForWaiter : Rules → Object → Setting → Addition → Type 0
-WishesForWaiter k o c d = (x : Next) → next_of d.event ≡ Some x
-    → x ≡ choice_of k o (stands_of k o (floor_of c d.before)) (asked_call d) false Waiter
+-- where it released, it chose by this wish. `known` is what it knew of the entry, which a wish for entry alone asks
+abbrev pub WishesFor : Rules → Object → Pick → Setting → Addition → Type 0
+WishesFor k o wish c d = (x : Next) → next_of d.event ≡ Some x
+    → (known : Bool)
+    × (x ≡ choice_of k o (stands_of k o (floor_of c d.before)) (asked_call d) (is_entry_known wish known) wish)
 
--- a call that asks for this, with the wish for a waiter
-pub record IsCall (k : Rules) (o : Object) (c : Setting) (call : Event) (d : Addition) : Type 0 where
+-- a call that asks for this, with that wish
+pub record IsCall (k : Rules) (o : Object) (wish : Pick) (c : Setting) (call : Event) (d : Addition) : Type 0 where
   pub asks : asked_call d ≡ call
-  pub wishes : WishesForWaiter k o c d
+  pub wishes : WishesFor k o wish c d
 
 -- these calls and no other, in order
-abbrev pub AreCalls : Rules → Object → Setting → List Event → List Addition → Type 0
-AreCalls k o c [] [] = Unit {0}
-AreCalls k o c [] (d ∷ ds) = ⊥
-AreCalls k o c (e ∷ es) [] = ⊥
-AreCalls k o c (e ∷ es) (d ∷ ds) = IsCall k o c e d × AreCalls k o c es ds
+abbrev pub AreCalls : Rules → Object → Pick → Setting → List Event → List Addition → Type 0
+AreCalls k o wish c [] [] = Unit {0}
+AreCalls k o wish c [] (d ∷ ds) = ⊥
+AreCalls k o wish c (e ∷ es) [] = ⊥
+AreCalls k o wish c (e ∷ es) (d ∷ ds) = IsCall k o wish c e d × AreCalls k o wish c es ds

@@ -7,7 +7,7 @@ use Rattle.monk_object.specs.Buffer.{PUT, TAKE, HAS_ROOM, HAS_ITEM}
 use Rattle.monk_object.specs.Shop.{SIT, CALL, FINISH, DEPART, HAS_SEAT, CAN_CALL, IS_DONE}
 use Rattle.monk_hall.specs.declared.setting.Setting.{Setting}
 use Rattle.monk_samples.specs.Styles.{has_waiting}
-use Rattle.monk_samples.specs.Visits.{Plan, Signals, SignalsAll, SignalsAndWaits, when, at_once, always, nobody, op_of, data_after}
+use Rattle.monk_samples.specs.Visits.{Plan, Signals, SignalsAll, SignalsAndWaits, when, at_once, hastily, always, nobody, op_of, data_after}
 
 -- the conditions of a buffer: there is room; an item is there
 abbrev pub NOT_FULL : ℕ
@@ -42,6 +42,13 @@ puts_and_waits item = when NOT_FULL HAS_ROOM (op_of PUT item) (λ h. SignalsAndW
 
 abbrev pub takes : Plan
 takes = when NOT_EMPTY HAS_ITEM (op_of TAKE 0) (always NOT_FULL)
+
+-- the same in haste
+abbrev pub puts_hastily : ℕ → Plan
+puts_hastily item = hastily NOT_FULL HAS_ROOM (op_of PUT item) (always NOT_EMPTY)
+
+abbrev pub takes_hastily : Plan
+takes_hastily = hastily NOT_EMPTY HAS_ITEM (op_of TAKE 0) (always NOT_FULL)
 
 abbrev pub begins_to_read : Plan
 begins_to_read = when CAN_READ book.CAN_READ (op_of START_READ 0) (always CAN_READ)

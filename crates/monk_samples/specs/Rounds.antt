@@ -5,25 +5,27 @@ use Rattle.monk_kinds.specs.declared.mode.Rules.{Rules}
 use Rattle.monk_object.specs.Object.{Object}
 use Rattle.monk_hall.specs.Tokens.{Token}
 use Rattle.monk_hall.specs.declared.setting.Setting.{Setting}
-use Rattle.monk_samples.specs.Members.{puts, takes, begins_to_read, ends_to_read, begins_to_write, ends_to_write}
+use Rattle.monk_samples.specs.Members.{puts, takes, puts_hastily, takes_hastily, begins_to_read, ends_to_read, begins_to_write, ends_to_write}
 use Rattle.monk_samples.specs.Members.{sits, departs, calls, finishes}
 use Rattle.monk_samples.specs.Trails.{Addition, HasCalled, outside}
 use Rattle.monk_samples.specs.Visits.{Plan, AreVisits, HasVisited}
 use Rattle.monk_samples.specs.declared.end.End.{End}
 use Rattle.monk_samples.specs.declared.end.End.TheVariants.{Done, Tired, Late}
 use Rattle.monk_samples.specs.declared.sample.Sample.{Sample}
-use Rattle.monk_samples.specs.declared.sample.Sample.TheVariants.{Buffer, Book, Shop}
+use Rattle.monk_samples.specs.declared.sample.Sample.TheVariants.{Buffer, Book, Shop, Hasty}
 
 -- how many rounds a seat has: of a buffer and a book two halves work, and in a shop the first seat is the barber, who has
 -- one for each of every other's
 abbrev pub rounds_of : Sample → ℕ → ℕ → ℕ → ℕ
 rounds_of Buffer seats rounds seat = if nat_lt seat (seats / 2 * 2) then rounds else 0
 rounds_of Book seats rounds seat = if nat_lt seat (seats / 2 * 2) then rounds else 0
+rounds_of Hasty seats rounds seat = if nat_lt seat (seats / 2 * 2) then rounds else 0
 rounds_of Shop seats rounds seat = if nat_eq seat 0 then (seats - 1) * rounds else rounds
 
 -- the visits of a seat in a round, counted from 1
 abbrev pub round_of : Sample → Rules → Setting → ℕ → ℕ → ℕ → List Plan
 round_of Buffer k c seats seat round = if nat_lt seat (seats / 2) then puts round ∷ [] else takes ∷ []
+round_of Hasty k c seats seat round = if nat_lt seat (seats / 2) then puts_hastily round ∷ [] else takes_hastily ∷ []
 round_of Book k c seats seat round =
     if nat_lt seat (seats / 2) then begins_to_read ∷ ends_to_read k c ∷ []
     else begins_to_write ∷ ends_to_write k ∷ []

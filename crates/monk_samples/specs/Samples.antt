@@ -1,5 +1,5 @@
 -- The samples: their objects, and what a run of one leaves
-use Rattle.std.specs.Prelude.{◌≡◌, ℕ, ◌*◌, ◌+◌, ◌^◌, ◌≤◌, IsTrue, List, length, nat_le, if◌then◌else◌}
+use Rattle.std.specs.Prelude.{◌≡◌, ℕ, ◌*◌, ◌+◌, ◌^◌, ◌≤◌, ◌⊎◌, IsTrue, List, length, nat_le, if◌then◌else◌}
 use Rattle.std.specs.List.{list_all}
 use Rattle.monk_kinds.specs.Names.{rules_named}
 use Rattle.monk_kinds.specs.declared.mode.Rules.{Rules}
@@ -16,12 +16,17 @@ use Rattle.monk_history.specs.Text.{Heading, first_version, heading, is_writable
 use Rattle.monk_history.specs.declared.event.Event.{Event}
 use Rattle.monk_samples.specs.Totals.{HasTotals, totals_of}
 use Rattle.monk_samples.specs.declared.sample.Sample.{Sample}
-use Rattle.monk_samples.specs.declared.sample.Sample.TheVariants.{Buffer, Book, Shop}
+use Rattle.monk_samples.specs.declared.sample.Sample.TheVariants.{Buffer, Book, Shop, Hasty}
 
 abbrev pub sample_object : Sample → ObjectName
 sample_object Buffer = object.Buffer
 sample_object Book = object.Book
 sample_object Shop = object.Shop
+sample_object Hasty = object.Buffer
+
+-- its seats put and take
+abbrev pub IsOverBuffer : Sample → Type 0
+IsOverBuffer s = (s ≡ Buffer) ⊎ (s ≡ Hasty)
 
 -- the size of each sample's object
 abbrev pub size : ℕ
@@ -50,6 +55,7 @@ abbrev pub KeepsLaw : Sample → List ℕ → List Event → Type 0
 KeepsLaw Buffer state h = IsInOrder size state (acts_in h)
 KeepsLaw Book state h = ExcludesEachOther size state (acts_in h)
 KeepsLaw Shop state h = ServesEachOne size state (acts_in h)
+KeepsLaw Hasty state h = IsInOrder size state (acts_in h)
 
 -- the history of a run: legal, within the budgets of all seats, with events of the first version alone, and with the
 -- totals of its seats and rounds

@@ -1,6 +1,8 @@
 -- How a seat waits and signals under each mode
 use Rattle.std.specs.Prelude.{◌≡◌, ℕ, ◌+◌, ◌<◌, ◌≤◌, ◌&&◌, not, Bool, true, List, [], ◌∷◌, length, if◌then◌else◌}
 use Rattle.atomic_table.specs.Seated.{TableId}
+use Rattle.monk_kinds.specs.declared.mode.Pick.{Pick}
+use Rattle.monk_kinds.specs.declared.mode.Pick.TheVariants.{Waiter}
 use Rattle.monk_kinds.specs.declared.mode.Rules.{Rules}
 use Rattle.monk_object.specs.Object.{Object}
 use Rattle.monk_history.specs.Meaning.Conditions.{condition}
@@ -79,29 +81,30 @@ IsShort c s h needed = left_of c.budget h s < needed
 abbrev pub IsSpent : Token → Type 0
 IsSpent p = p.me.setting.budget ≤ length p.me.mine + 1
 
--- the seat had three events left, has paused by this call, and is active again
-pub record HasPaused (k : Rules) (o : Object) (a : Holder) (call : Event) (b : Holder) : Type 0 where
+-- the seat had three events left, has paused by this call, with that wish, and is active again
+pub record HasPaused (k : Rules) (o : Object) (wish : Pick) (a : Holder) (call : Event) (b : Holder) : Type 0 where
   pub room : length a.me.mine + 3 ≤ a.me.setting.budget
   pub pause : Addition
   pub called : HasCalled (inside a) (inside b) (pause ∷ [])
-  pub is : IsCall k o a.me.setting call pause
+  pub is : IsCall k o wish a.me.setting call pause
   pub at : pause.before ≡ a.floor.history
   pub floor : a.floor ≡ floor_of a.me.setting a.floor.history
 
--- the seat is out by these calls
-pub record HasGoneBy (k : Rules) (o : Object) (a : Holder) (calls : List Event) (p : Token) : Type 0 where
+-- the seat is out by these calls, with that wish
+pub record HasGoneBy (k : Rules) (o : Object) (wish : Pick) (a : Holder) (calls : List Event) (p : Token) : Type 0 where
   pub made : List Addition
   pub called : HasCalled (inside a) (outside p) made
-  pub are : AreCalls k o a.me.setting calls made
+  pub are : AreCalls k o wish a.me.setting calls made
   pub told : SeesTruly k o p.me
 
--- the seat had fewer events left than it needs for its next call, and has left in place of that
+-- the seat had fewer events left than it needs for its next call, and has left in place of that, with the wish for a
+-- waiter
 pub record HasGivenUp (k : Rules) (o : Object) (needed : ℕ) (a : Holder) (p : Token) : Type 0 where
   pub short : IsShort a.me.setting a.me.seat a.floor.history needed
   pub counted : a.me.setting.budget < length a.me.mine + needed
   pub leave : Addition
   pub called : HasCalled (inside a) (outside p) (leave ∷ [])
-  pub is : IsCall k o a.me.setting (Leave a.me.seat Stay) leave
+  pub is : IsCall k o Waiter a.me.setting (Leave a.me.seat Stay) leave
   pub at : leave.before ≡ a.floor.history
   pub floor : a.floor ≡ floor_of a.me.setting a.floor.history
   pub spent : IsSpent p
@@ -109,13 +112,13 @@ pub record HasGivenUp (k : Rules) (o : Object) (needed : ℕ) (a : Holder) (p : 
 
 -- the seat is out by these calls, or tired without them: only a kind with a signaller queue wants more than the event
 -- that is always kept for the way out
-abbrev pub HasFinished : Rules → Object → Holder → List Event → Token → End → Type 0
-HasFinished k o a calls p Done = HasGoneBy k o a calls p
-HasFinished k o a calls p Tired = (has_signaller_queue k.mode ≡ true) × HasGivenUp k o (needed_first calls) a p
-HasFinished k o a calls p Late = ⊥
+abbrev pub HasFinished : Rules → Object → Pick → Holder → List Event → Token → End → Type 0
+HasFinished k o wish a calls p Done = HasGoneBy k o wish a calls p
+HasFinished k o wish a calls p Tired = (has_signaller_queue k.mode ≡ true) × HasGivenUp k o (needed_first calls) a p
+HasFinished k o wish a calls p Late = ⊥
 
 -- the same of a way out that not only such a kind has
-abbrev pub HasGoneOut : Rules → Object → Holder → List Event → Token → End → Type 0
-HasGoneOut k o a calls p Done = HasGoneBy k o a calls p
-HasGoneOut k o a calls p Tired = HasGivenUp k o (needed_first calls) a p
-HasGoneOut k o a calls p Late = ⊥
+abbrev pub HasGoneOut : Rules → Object → Pick → Holder → List Event → Token → End → Type 0
+HasGoneOut k o wish a calls p Done = HasGoneBy k o wish a calls p
+HasGoneOut k o wish a calls p Tired = HasGivenUp k o (needed_first calls) a p
+HasGoneOut k o wish a calls p Late = ⊥

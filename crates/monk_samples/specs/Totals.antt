@@ -1,14 +1,15 @@
 -- The totals of a run, as its history has them
-use Rattle.std.specs.Prelude.{◌≡◌, ℕ, ◌+◌, ◌-◌, ◌*◌, ◌/◌, List, [], ◌∷◌, sum}
+use Rattle.std.specs.Prelude.{◌≡◌, ℕ, ◌+◌, ◌-◌, ◌*◌, ◌/◌, ◌==◌, List, [], ◌∷◌, sum, if◌then◌else◌}
+use Rattle.std.specs.List.{sum_by}
 use Rattle.monk_object.specs.Book.{START_READ, END_READ, START_WRITE, END_WRITE}
 use Rattle.monk_object.specs.Buffer.{PUT, TAKE}
 use Rattle.monk_object.specs.Laws.{items_put, items_taken}
-use Rattle.monk_object.specs.Runs.{times_done}
+use Rattle.monk_object.specs.Runs.{Answered, times_done}
 use Rattle.monk_object.specs.Shop.{SIT, CALL, FINISH, DEPART}
 use Rattle.monk_history.specs.Meaning.Acts.{acts_in}
 use Rattle.monk_history.specs.declared.event.Event.{Event}
 use Rattle.monk_samples.specs.declared.sample.Sample.{Sample}
-use Rattle.monk_samples.specs.declared.sample.Sample.TheVariants.{Buffer, Book, Shop}
+use Rattle.monk_samples.specs.declared.sample.Sample.TheVariants.{Buffer, Book, Shop, Hasty}
 
 -- how often that operation was done
 abbrev pub count_done : ℕ → List Event → ℕ
@@ -21,8 +22,19 @@ sum_put h = sum (items_put (acts_in h))
 abbrev pub sum_taken : List Event → ℕ
 sum_taken h = sum (items_taken (acts_in h))
 
+-- how many of these acts were refused: their reply is 0
+abbrev pub refusals_in : List Answered → ℕ
+refusals_in acts = sum_by (λ a. if a.reply == 0 then 1 else 0) acts
+
+abbrev pub missed_in : List Event → ℕ
+missed_in h = refusals_in (acts_in h)
+
+abbrev pub totals_of_buffer : List Event → List ℕ
+totals_of_buffer h = count_done PUT h ∷ sum_put h ∷ count_done TAKE h ∷ sum_taken h ∷ []
+
 abbrev pub totals_of : Sample → List Event → List ℕ
-totals_of Buffer h = count_done PUT h ∷ sum_put h ∷ count_done TAKE h ∷ sum_taken h ∷ []
+totals_of Buffer h = totals_of_buffer h
+totals_of Hasty h = totals_of_buffer h
 totals_of Book h = count_done START_READ h ∷ count_done END_READ h ∷ count_done START_WRITE h ∷ count_done END_WRITE h ∷ []
 totals_of Shop h = count_done SIT h ∷ count_done CALL h ∷ count_done FINISH h ∷ count_done DEPART h ∷ []
 
@@ -31,11 +43,17 @@ abbrev pub HasEnded : Sample → List Event → Type 0
 HasEnded Buffer h = Unit {0}
 HasEnded Book h = (count_done END_READ h ≡ count_done START_READ h) × (count_done END_WRITE h ≡ count_done START_WRITE h)
 HasEnded Shop h = Unit {0}
+HasEnded Hasty h = Unit {0}
+
+-- half of the seats put the numbers of their rounds, and as many take as often
+abbrev pub HasPutAndTaken : ℕ → ℕ → List ℕ → Type 0
+HasPutAndTaken seats rounds t =
+    t ≡ seats / 2 * rounds ∷ seats / 2 * (rounds * (rounds + 1) / 2) ∷ seats / 2 * rounds ∷ seats / 2 * (rounds * (rounds + 1) / 2) ∷ []
 
 -- what the totals of a run have to be, by its seats and rounds
 abbrev pub HasTotals : Sample → ℕ → ℕ → List ℕ → Type 0
-HasTotals Buffer seats rounds t =
-    t ≡ seats / 2 * rounds ∷ seats / 2 * (rounds * (rounds + 1) / 2) ∷ seats / 2 * rounds ∷ seats / 2 * (rounds * (rounds + 1) / 2) ∷ []
+HasTotals Buffer seats rounds t = HasPutAndTaken seats rounds t
+HasTotals Hasty seats rounds t = HasPutAndTaken seats rounds t
 HasTotals Book seats rounds t =
     t ≡ seats / 2 * rounds ∷ seats / 2 * rounds ∷ seats / 2 * rounds ∷ seats / 2 * rounds ∷ []
 HasTotals Shop seats rounds t =

@@ -1,5 +1,7 @@
 -- What a member does in the monitor
-use Rattle.std.specs.Prelude.{◌≡◌, ℕ, ◌<◌, ◌⊎◌, true, false, Option, Some, None, List, [], ◌∷◌, ◌++◌, if◌then◌else◌}
+use Rattle.std.specs.Prelude.{◌≡◌, ℕ, zero, suc, ◌<◌, ◌≤◌, ◌⊎◌, true, false, Option, Some, None, List, [], ◌∷◌, ◌++◌, length, if◌then◌else◌}
+use Rattle.monk_kinds.specs.declared.mode.Pick.{Pick}
+use Rattle.monk_kinds.specs.declared.mode.Pick.TheVariants.{Entry, Waiter}
 use Rattle.monk_kinds.specs.declared.mode.Rules.{Rules}
 use Rattle.monk_object.specs.Object.{Object}
 use Rattle.monk_object.specs.declared.op.Op.{Op}
@@ -18,13 +20,31 @@ use Rattle.monk_samples.specs.Trails.{Addition, Trail, HasCalled, after, inside,
 use Rattle.monk_samples.specs.declared.end.End.{End}
 use Rattle.monk_samples.specs.declared.end.End.TheVariants.{Done, Tired, Late}
 
--- for what a visit pauses: the condition on which it waits while the predicate is false
+-- how a visit looks at its predicate: a patient one pauses while it is false (`while`), and wishes for a waiter in each
+-- release; a hasty one pauses at most once where it is false (`if`), acts then whatever holds, and wishes for entry
+pub data Manner : Type 0 where
+  Patient : Manner
+  Hasty : Manner
+
+-- for what a visit pauses: the condition on which it waits where the predicate is false
 pub record Guard : Type 0 where
   pub cond : ℕ
   pub pred : ℕ
+  pub manner : Manner
 
 abbrev pub guard : ℕ → ℕ → Guard
-guard cond pred = record { cond = cond; pred = pred }
+guard cond pred = record { cond = cond; pred = pred; manner = Patient }
+
+abbrev pub hasty_guard : ℕ → ℕ → Guard
+hasty_guard cond pred = record { cond = cond; pred = pred; manner = Hasty }
+
+abbrev pub wish_of : Manner → Pick
+wish_of Patient = Waiter
+wish_of Hasty = Entry
+
+abbrev pub wish_in : Option Guard → Pick
+wish_in None = Waiter
+wish_in (Some w) = wish_of w.manner
 
 -- how a visit goes out: without a signal; with a signal of a condition; with a signal to all who wait there; or with a
 -- signal of the first condition and a wait on the second, after which it leaves
@@ -48,6 +68,10 @@ op_of code arg = record { code = code; arg = arg }
 abbrev pub when : ℕ → ℕ → Op → (List Event → WayOut) → Plan
 when cond pred op goes_out = record { guard = Some (guard cond pred); op = op; goes_out = goes_out }
 
+-- a hasty visit
+abbrev pub hastily : ℕ → ℕ → Op → (List Event → WayOut) → Plan
+hastily cond pred op goes_out = record { guard = Some (hasty_guard cond pred); op = op; goes_out = goes_out }
+
 abbrev pub at_once : Op → (List Event → WayOut) → Plan
 at_once op goes_out = record { guard = None; op = op; goes_out = goes_out }
 
@@ -63,15 +87,20 @@ abbrev pub data_after : Rules → Object → Setting → List Event → List ℕ
 data_after k o c h = data_of (monitor_of k o (floor_of c h)) h
 
 -- each is a pause of seat s for this, and the predicate was false when it paused
-abbrev pub ArePauses : Rules → Object → Setting → ℕ → ℕ → ℕ → List Addition → Type 0
-ArePauses k o c s cond pred [] = Unit {0}
-ArePauses k o c s cond pred (d ∷ ds) =
-    IsCall k o c (pause_call k s cond pred) d × (o.holds (data_after k o c d.before) pred ≡ false)
-    × ArePauses k o c s cond pred ds
+abbrev pub ArePauses : Rules → Object → Setting → ℕ → Guard → List Addition → Type 0
+ArePauses k o c s w [] = Unit {0}
+ArePauses k o c s w (d ∷ ds) =
+    IsCall k o (wish_of w.manner) c (pause_call k s w.cond w.pred) d
+    × (o.holds (data_after k o c d.before) w.pred ≡ false) × ArePauses k o c s w ds
+
+-- a hasty visit pauses once at most
+abbrev pub AreFew : Manner → List Addition → Type 0
+AreFew Patient ds = Unit {0}
+AreFew Hasty ds = length ds ≤ 1
 
 abbrev pub HasPausedFor : Rules → Object → Setting → ℕ → Option Guard → List Addition → Type 0
 HasPausedFor k o c s None ds = ds ≡ []
-HasPausedFor k o c s (Some w) ds = ArePauses k o c s w.cond w.pred ds
+HasPausedFor k o c s (Some w) ds = ArePauses k o c s w ds × AreFew w.manner ds
 
 -- seat s does this operation, with the object's reply
 pub record IsAct (k : Rules) (o : Object) (c : Setting) (s : ℕ) (op : Op) (reply : ℕ) (d : Addition) : Type 0 where
@@ -97,14 +126,14 @@ pub record IsDone (k : Rules) (o : Object) (c : Setting) (s : ℕ) (v : Plan) (p
   pub acts : IsAct k o c s v.op reply act
   pub certain : IsCertain v.guard reply
 
--- these calls of seat s are the visit, to its end
-pub record IsVisit (k : Rules) (o : Object) (c : Setting) (s : ℕ) (v : Plan) (calls : List Addition) : Type 0 where
+-- these calls of seat s are one try of the visit, to its end
+pub record IsTry (k : Rules) (o : Object) (c : Setting) (s : ℕ) (v : Plan) (calls : List Addition) : Type 0 where
   pub pauses : List Addition
   pub act : Addition
   pub out : List Addition
   pub are : calls ≡ pauses ++ act ∷ out
   pub done : IsDone k o c s v pauses act
-  pub goes : AreCalls k o c (calls_out k s (v.goes_out (after act))) out
+  pub goes : AreCalls k o (wish_in v.guard) c (calls_out k s (v.goes_out (after act))) out
 
 -- what a seat needs for its next call where it has yet to act: for its operation, or while the predicate is false for its
 -- next pause
@@ -118,7 +147,7 @@ pub record IsLeftWaiting (k : Rules) (o : Object) (c : Setting) (s : ℕ) (guard
   pub leave : Addition
   pub are : calls ≡ pauses ++ leave ∷ []
   pub paused : HasPausedFor k o c s guard pauses
-  pub leaves : IsCall k o c (Leave s Stay) leave
+  pub leaves : IsCall k o Waiter c (Leave s Stay) leave
   pub short : IsShort c s leave.before (needed_yet k o c guard leave.before)
 
 -- they pause and do the operation, and then it leaves without a signal, with too few events left for the first call of its
@@ -129,7 +158,7 @@ pub record IsLeftUnsaid (k : Rules) (o : Object) (c : Setting) (s : ℕ) (v : Pl
   pub leave : Addition
   pub are : calls ≡ pauses ++ act ∷ leave ∷ []
   pub done : IsDone k o c s v pauses act
-  pub leaves : IsCall k o c (Leave s Stay) leave
+  pub leaves : IsCall k o Waiter c (Leave s Stay) leave
   pub short : IsShort c s leave.before (needed_first (calls_out k s (v.goes_out (after act))))
 
 -- the visit of a seat that was tired: it did not come in; or it left in place of its next pause or of its operation; or in
@@ -137,8 +166,11 @@ pub record IsLeftUnsaid (k : Rules) (o : Object) (c : Setting) (s : ℕ) (v : Pl
 abbrev pub IsUnready : Rules → Object → Setting → ℕ → Option Guard → List Addition → Type 0
 IsUnready k o c s guard calls = (calls ≡ []) ⊎ IsLeftWaiting k o c s guard calls
 
-abbrev pub IsCutShort : Rules → Object → Setting → ℕ → Plan → List Addition → Type 0
-IsCutShort k o c s v calls = IsUnready k o c s v.guard calls ⊎ IsLeftUnsaid k o c s v calls
+-- these calls of seat s are one try of the visit, which ended so
+abbrev pub IsTried : Rules → Object → Setting → ℕ → Plan → End → List Addition → Type 0
+IsTried k o c s v Done calls = IsTry k o c s v calls
+IsTried k o c s v Tired calls = IsUnready k o c s v.guard calls ⊎ IsLeftUnsaid k o c s v calls
+IsTried k o c s v Late calls = ⊥
 
 -- first these and then those
 pub record Then (First Rest : List Addition → Type 0) (calls : List Addition) : Type 0 where
@@ -147,6 +179,41 @@ pub record Then (First Rest : List Addition → Type 0) (calls : List Addition) 
   pub are : calls ≡ first ++ rest
   pub is_first : First first
   pub is_rest : Rest rest
+
+-- a try whose operation was refused, after which the seat left without a signal
+pub record IsMiss (k : Rules) (o : Object) (c : Setting) (s : ℕ) (v : Plan) (calls : List Addition) : Type 0 where
+  pub pauses : List Addition
+  pub act : Addition
+  pub leave : Addition
+  pub are : calls ≡ pauses ++ act ∷ leave ∷ []
+  pub paused : HasPausedFor k o c s v.guard pauses
+  pub acts : IsAct k o c s v.op 0 act
+  pub leaves : IsCall k o (wish_in v.guard) c (Leave s Stay) leave
+
+abbrev pub AreMisses : Rules → Object → Setting → ℕ → Plan → ℕ → List Addition → Type 0
+AreMisses k o c s v zero calls = calls ≡ []
+AreMisses k o c s v (suc n) calls = Then (AreMisses k o c s v n) (IsMiss k o c s v) calls
+
+-- a hasty visit alone is tried again where its operation was refused
+abbrev pub MissesIn : Manner → ℕ → Type 0
+MissesIn Patient n = n ≡ 0
+MissesIn Hasty n = Unit {0}
+
+abbrev pub Misses : Option Guard → ℕ → Type 0
+Misses None n = n ≡ 0
+Misses (Some w) n = MissesIn w.manner n
+
+-- these calls of seat s are the visit, which ended so: the tries that missed, and a last one
+pub record IsVisitTo (k : Rules) (o : Object) (c : Setting) (s : ℕ) (v : Plan) (end : End) (calls : List Addition) : Type 0 where
+  pub misses : ℕ
+  pub may : Misses v.guard misses
+  pub tries : Then (AreMisses k o c s v misses) (IsTried k o c s v end) calls
+
+abbrev pub IsVisit : Rules → Object → Setting → ℕ → Plan → List Addition → Type 0
+IsVisit k o c s v calls = IsVisitTo k o c s v Done calls
+
+abbrev pub IsCutShort : Rules → Object → Setting → ℕ → Plan → List Addition → Type 0
+IsCutShort k o c s v calls = IsVisitTo k o c s v Tired calls
 
 -- these calls are the visits, each once, in order: to the end of the last, or of one that was cut short
 abbrev pub AreVisits : Rules → Object → Setting → ℕ → End → List Plan → List Addition → Type 0
@@ -165,6 +232,20 @@ pub record HasVisited (k : Rules) (o : Object) (p : Token) (plans : List Plan) (
   pub are : AreVisits k o p.me.setting p.me.seat end plans calls
   pub spent : end ≡ Tired → IsSpent q
   pub told : SeesTruly k o q.me
+
+-- a member was called with p and has tried a visit once, which ended so
+pub record HasTried (k : Rules) (o : Object) (p : Token) (v : Plan) (q : Token) (end : End) : Type 0 where
+  pub calls : List Addition
+  pub called : HasCalled (outside p) (outside q) calls
+  pub are : IsTried k o p.me.setting p.me.seat v end calls
+  pub spent : end ≡ Tired → IsSpent q
+  pub told : SeesTruly k o q.me
+
+-- it has tried a visit so often and missed, and is out with fewer events left
+pub record HasMissed (k : Rules) (o : Object) (p : Token) (v : Plan) (misses : ℕ) (q : Token) : Type 0 where
+  pub calls : List Addition
+  pub called : HasCalled (outside p) (outside q) calls
+  pub are : AreMisses k o p.me.setting p.me.seat v misses calls
 
 -- a seat was tired: it has made calls like these from x on, and is out
 pub record HasTired (k : Rules) (o : Object) (x : Trail) (AreThese : List Addition → Type 0) (q : Token) : Type 0 where

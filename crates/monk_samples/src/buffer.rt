@@ -4,12 +4,13 @@ ghost use Rattle.std.specs.Option.{option_to_list};
 ghost use Rattle.monk_object.specs.Buffer.{buffer_meaning};
 ghost use Rattle.monk_object.specs.Laws.{items_taken};
 ghost use Rattle.monk_history.specs.Meaning.Acts.{acts_in};
-ghost use Rattle.monk_samples.specs.Members.{puts, puts_and_waits, takes};
+ghost use Rattle.monk_samples.specs.Members.{puts, puts_and_waits, puts_hastily, takes, takes_hastily};
 ghost use Rattle.monk_samples.specs.Styles.{Offers};
 ghost use Rattle.monk_samples.specs.Trails.{events_in};
 ghost use Rattle.monk_samples.specs.Visits.{HasVisited};
 
 use crate::end::End;
+use crate::haste::act_and_finish_in_haste;
 use crate::style::Style;
 use crate::styles::passing::signal_wait_and_leave;
 use crate::visit::{act_and_finish, act_when};
@@ -89,6 +90,43 @@ pub fn take<K: Style, R: Wait>(
         }
         Err(pass) => (pass, None, End::Tired),
     }
+}
+
+/// Puts an item into the buffer in haste, and lets a taker go on: it looks for room once, and comes again where the put was
+/// refused.
+pub(crate) fn put_hastily<K: Style, R: Wait>(
+    pass: Pass<K, Buffer>,
+    rt: &R,
+    hall: &Hall<K, Buffer>,
+    item: u32,
+) -> (Pass<K, Buffer>, End)
+    requires hall { pass.hall ≡ hall.now.id }
+    requires conds { Offers K.rules pass.me.setting.conds 2 }
+    ensures { HasVisited K.rules buffer_meaning pass (puts_hastily item ∷ []) result.0 result.1 }
+{
+    let put = Op {
+        code: Buffer::PUT,
+        arg: item,
+    };
+    act_and_finish_in_haste(pass, rt, hall, NOT_FULL, Buffer::HAS_ROOM, put, NOT_EMPTY)
+}
+
+/// Takes the oldest item out of the buffer in haste, and lets a putter go on: it looks for an item once, and comes again where
+/// the take was refused.
+pub(crate) fn take_hastily<K: Style, R: Wait>(
+    pass: Pass<K, Buffer>,
+    rt: &R,
+    hall: &Hall<K, Buffer>,
+) -> (Pass<K, Buffer>, End)
+    requires hall { pass.hall ≡ hall.now.id }
+    requires conds { Offers K.rules pass.me.setting.conds 2 }
+    ensures { HasVisited K.rules buffer_meaning pass (takes_hastily ∷ []) result.0 result.1 }
+{
+    let take = Op {
+        code: Buffer::TAKE,
+        arg: 0,
+    };
+    act_and_finish_in_haste(pass, rt, hall, NOT_EMPTY, Buffer::HAS_ITEM, take, NOT_FULL)
 }
 
 /// The item that a take took out, by the buffer's reply.

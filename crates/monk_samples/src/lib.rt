@@ -13,6 +13,7 @@ mod crew_fault;
 mod duty;
 mod end;
 mod gate;
+mod haste;
 mod line;
 mod outcome;
 mod rota;

@@ -9,7 +9,7 @@ ghost use Rattle.monk_samples.specs.Crews.{AreReady, IsOf, IsClosed};
 ghost use Rattle.monk_samples.specs.Faults.{run_fault_of};
 ghost use Rattle.monk_samples.specs.Runs.{HasLeft, IsFaultOfRun, IsFirstSpent};
 ghost use Rattle.monk_samples.specs.Samples.{IsHistoryOf, IsInRange, IsOutcome, budget_of, conds_of, run_heading};
-ghost use Rattle.monk_samples.specs.Totals.{HasEnded, HasTotals};
+ghost use Rattle.monk_samples.specs.Totals.{HasEnded, HasTotals, missed_in};
 ghost use Rattle.monk_samples.specs.Wholes.{AreSame, HoldsOperationsOf, IsLeftBy};
 ghost use Rattle.monk_samples.specs.declared.crew_fault.CrewFault.TheVariants as crew;
 ghost use Rattle.monk_samples.specs.declared.sample.Sample.TheVariants as sample;
@@ -22,7 +22,7 @@ use crate::rota::Rota;
 use crate::run_fault::RunFault;
 use crate::sample::Sample;
 use crate::style::Style;
-use crate::totals::{has_ended, totals_of};
+use crate::totals::{has_ended, missed_in, totals_of};
 use monk_floor::MakeFault;
 use monk_hall::{Busy, Hall, Pass, close, complete, meet};
 use monk_history::{Event, Header, writable};
@@ -38,7 +38,7 @@ const SIZE: u8 = 4;
 /// Runs a sample under the kind K with 2 to 16 seats, each at work for 1 to 1000 rounds in a thread of its own, and reads
 /// the totals from its history.
 ///
-/// Of a buffer and a book one half of the seats does the one thing and as many do the other; an odd last seat stays
+/// Of a buffer, hasty or not, and a book one half of the seats does the one thing and as many do the other; an odd last seat stays
 /// idle. In a shop the first seat is the barber, who has a turn for each visit of the other seats. No worker begins before
 /// all are there, and none waits for another to end before it begins. When all have ended, every other pass meets the
 /// first seat's, which comes in once more and closes the hall.
@@ -53,7 +53,7 @@ const SIZE: u8 = 4;
 ///
 /// # Cost
 ///
-/// Memory for the budgets of all seats, `64 + rounds * (40 + 32 * seats)` events each, at once; two to four passes over
+/// Memory for the budgets of all seats, `64 + rounds * (40 + 32 * seats)` events each, at once; three to five passes over
 /// the history for the totals, and of a book four more.
 pub fn run<K: Style, R: Threads + Wait + Sync, G: Gate>(
     rt: &R,
@@ -73,6 +73,8 @@ pub fn run<K: Style, R: Threads + Wait + Sync, G: Gate>(
     ensures fault { IfErr result (IsFaultOfRun K.rules (G.answers gate.now) sample seats rounds) }
     // The totals are those of the seats and the rounds, whatever the kind and the schedule.
     ensures totals { IfOk result (λ o. HasTotals sample seats rounds o.totals) }
+    // And so many of its acts were refused.
+    ensures missed { IfOk result (λ o. o.missed ≡ missed_in o.history.items) }
 {
     if !(2..=16).contains(&seats) || !(1..=1000).contains(&rounds) {
         return Err(RunFault::Range);
@@ -86,6 +88,7 @@ pub fn run<K: Style, R: Threads + Wait + Sync, G: Gate>(
         Sample::Buffer => of_run::<K>(rota, run_buffer::<K, R, G>(rt, alloc, rota, gate)),
         Sample::Book => of_run::<K>(rota, run_book::<K, R, G>(rt, alloc, rota, gate)),
         Sample::Shop => of_run::<K>(rota, run_shop::<K, R, G>(rt, alloc, rota, gate)),
+        Sample::Hasty => of_run::<K>(rota, run_hasty::<K, R, G>(rt, alloc, rota, gate)),
     }
 }
 
@@ -100,6 +103,29 @@ fn run_buffer<K: Style, R: Threads + Wait + Sync, G: Gate>(
     ensures history { IfOk result (λ v. IsHistoryOf K.rules sample.Buffer rota.seats rota.rounds v.items) }
     ensures served { IfOk result (λ v. HasLeft K.rules (G.answers gate.now) sample.Buffer rota.seats rota.rounds v.items) }
     ensures fault { IfErr result (λ e. IsFaultOfRun K.rules (G.answers gate.now) sample.Buffer rota.seats rota.rounds
+        (run_fault_of e)) }
+{
+    let buffer = match Buffer::make(alloc, SIZE) {
+        Ok(buffer) => buffer,
+        Err(ObjectFault::Memory) => return Err(CrewFault::Memory),
+        Err(ObjectFault::Size) => unreachable!(),
+    };
+    let (hall, passes) = open::<K, Buffer>(alloc, buffer, rota)?;
+    let passes = work_buffer(rt, alloc, &hall, passes, gate, rota)?;
+    close_by(rt, alloc, rota, hall, passes)
+}
+
+/// The history of a run over a buffer in haste.
+fn run_hasty<K: Style, R: Threads + Wait + Sync, G: Gate>(
+    rt: &R,
+    alloc: Global,
+    rota: Rota,
+    gate: &G,
+) -> Result<Vec<Event>, CrewFault>
+    requires { rota.sample ≡ sample.Hasty }
+    ensures history { IfOk result (λ v. IsHistoryOf K.rules sample.Hasty rota.seats rota.rounds v.items) }
+    ensures served { IfOk result (λ v. HasLeft K.rules (G.answers gate.now) sample.Hasty rota.seats rota.rounds v.items) }
+    ensures fault { IfErr result (λ e. IsFaultOfRun K.rules (G.answers gate.now) sample.Hasty rota.seats rota.rounds
         (run_fault_of e)) }
 {
     let buffer = match Buffer::make(alloc, SIZE) {
@@ -261,6 +287,7 @@ fn of_run<K: Kind>(rota: Rota, history: Result<Vec<Event>, CrewFault>) -> Result
     ensures outcome { IfOk result (λ o. IsOutcome K.NAME rota.sample rota.seats o.header o.history.items o.totals) }
     ensures in_range { IsErrOf result RunFault.Range → ⊥ }
     ensures totals { IfOk result (λ o. HasTotals rota.sample rota.seats rota.rounds o.totals) }
+    ensures missed { IfOk result (λ o. o.missed ≡ missed_in o.history.items) }
     ensures same { IfOk result (λ o. IsOkAnd history (λ v. v.items ≡ o.history.items)) }
     ensures fault { IfErr result (λ e. IsErrAnd history (λ f. e ≡ run_fault_of f)) }
 {
@@ -275,11 +302,14 @@ fn outcome<K: Kind>(rota: Rota, history: Vec<Event>) -> Outcome
     requires { IsHistoryOf K.rules rota.sample rota.seats rota.rounds history.items }
     ensures outcome { IsOutcome K.NAME rota.sample rota.seats result.header result.history.items result.totals }
     ensures totals { HasTotals rota.sample rota.seats rota.rounds result.totals }
+    ensures missed { result.missed ≡ missed_in result.history.items }
     ensures same { history.items ≡ result.history.items }
 {
     let totals = totals_of(rota.sample, &history);
+    let missed = missed_in(&history);
     Outcome {
         totals,
+        missed,
         header: header_of::<K>(rota),
         history,
     }

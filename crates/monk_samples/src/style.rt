@@ -12,8 +12,8 @@ use std::sync::Wait;
 /// How a seat waits for others and lets them go on, under a kind of monitor. A member that is generic over `K: Style`
 /// serves all ten kinds.
 ///
-/// A member names a condition variable and the predicate that goes with it; a kind uses the one that it has. Every wish
-/// is for a waiter, so that whoever was signalled goes on where the priorities leave it open.
+/// A member names a condition variable and the predicate that goes with it; a kind uses the one that it has. The wish of
+/// `pause` and `finish` is for a waiter, so that whoever was signalled goes on where the priorities leave it open.
 pub trait Style: Kind {
     /// Pauses: waits on the condition until it is signalled, or under an automatic kind until the predicate holds. The
     /// predicate need not hold afterwards where others may come in between, so a caller looks again.
@@ -27,12 +27,30 @@ pub trait Style: Kind {
         pred: u8,
     ) -> Result<Active<Self, T>, Pass<Self, T>>
         requires { MayPause Self.rules hall.now.id active cond T.PREDICATES pred }
-        ensures { MatchResult result (λ a. HasPaused Self.rules T.meaning active (pause_call Self.rules active.me.seat cond pred) a)
+        ensures { MatchResult result
+            (λ a. HasPaused Self.rules T.meaning Pick.Waiter active (pause_call Self.rules active.me.seat cond pred) a)
+            (λ p. HasGivenUp Self.rules T.meaning for_handing_over active p) }
+    {
+        Self::pause_by(active, rt, hall, cond, pred, Pick::Waiter)
+    }
+
+    /// Pauses as [`pause`](Style::pause) does, with a wish of its own for whom its release lets go on.
+    final fn pause_by<T: Guarded, R: Wait>(
+        active: Active<Self, T>,
+        rt: &R,
+        hall: &Hall<Self, T>,
+        cond: u8,
+        pred: u8,
+        wish: Pick,
+    ) -> Result<Active<Self, T>, Pass<Self, T>>
+        requires { MayPause Self.rules hall.now.id active cond T.PREDICATES pred }
+        ensures { MatchResult result
+            (λ a. HasPaused Self.rules T.meaning wish active (pause_call Self.rules active.me.seat cond pred) a)
             (λ p. HasGivenUp Self.rules T.meaning for_handing_over active p) }
     {
         match rules_of::<Self>().mode {
-            Mode::Automatic => automatic::pause(active, rt, hall, pred),
-            _ => conditional::pause(active, rt, hall, cond),
+            Mode::Automatic => automatic::pause(active, rt, hall, pred, wish),
+            _ => conditional::pause(active, rt, hall, cond, wish),
         }
     }
 
@@ -48,17 +66,32 @@ pub trait Style: Kind {
         cond: u8,
     ) -> (Pass<Self, T>, End)
         requires { MayFinish Self.rules hall.now.id active cond }
-        ensures { HasFinished Self.rules T.meaning active (way_out Self.rules active.me.seat cond) result.0 result.1 }
+        ensures { HasFinished Self.rules T.meaning Pick.Waiter active (way_out Self.rules active.me.seat cond)
+            result.0 result.1 }
+    {
+        Self::finish_by(active, rt, hall, cond, Pick::Waiter)
+    }
+
+    /// Goes out as [`finish`](Style::finish) does, with a wish of its own for whom its releases let go on.
+    final fn finish_by<T: Guarded, R: Wait>(
+        active: Active<Self, T>,
+        rt: &R,
+        hall: &Hall<Self, T>,
+        cond: u8,
+        wish: Pick,
+    ) -> (Pass<Self, T>, End)
+        requires { MayFinish Self.rules hall.now.id active cond }
+        ensures { HasFinished Self.rules T.meaning wish active (way_out Self.rules active.me.seat cond) result.0 result.1 }
     {
         match rules_of::<Self>().mode {
-            Mode::Automatic => (active.leave(hall, Pick::Waiter), End::Done),
+            Mode::Automatic => (active.leave(hall, wish), End::Done),
             Mode::ImmediateReturn => {
                 (
-                    active.plain_signal_leave(hall, cond, Pick::Waiter),
+                    active.plain_signal_leave(hall, cond, wish),
                     End::Done,
                 )
             }
-            _ => explicit::finish(active, rt, hall, cond),
+            _ => explicit::finish(active, rt, hall, cond, wish),
         }
     }
 

@@ -4,7 +4,7 @@ ghost use Rattle.monk_object.specs.Laws.{items_put, items_taken};
 ghost use Rattle.monk_object.specs.Runs.{times_done};
 ghost use Rattle.monk_history.specs.Meaning.Acts.{act_of};
 ghost use Rattle.monk_samples.specs.Samples.{KeepsLaw};
-ghost use Rattle.monk_samples.specs.Totals.{HasEnded, count_done, sum_put, sum_taken, totals_of};
+ghost use Rattle.monk_samples.specs.Totals.{HasEnded, count_done, missed_in, refusals_in, sum_put, sum_taken, totals_of};
 
 use crate::sample::Sample;
 use monk_history::Event;
@@ -17,7 +17,7 @@ pub(crate) fn totals_of(sample: Sample, history: &[Event]) -> [u64; 4]
     ensures { result ≡ totals_of sample history.now }
 {
     match sample {
-        Sample::Buffer => [
+        Sample::Buffer | Sample::Hasty => [
             times(history, Buffer::PUT),
             items_put(history),
             times(history, Buffer::TAKE),
@@ -64,6 +64,19 @@ fn times(history: &[Event], code: u8) -> u64
     count
 }
 
+/// How many acts were refused.
+pub(crate) fn missed_in(history: &[Event]) -> u64
+    ensures { result ≡ missed_in history.now }
+{
+    let mut count = 0;
+    for event in history {
+        if is_refused(event) {
+            count += 1;
+        }
+    }
+    count
+}
+
 /// The items put, added up.
 fn items_put(history: &[Event]) -> u64
     requires { length history.now ≤ 2 ^ 26 }
@@ -94,6 +107,16 @@ fn is_done(event: &Event, code: u8) -> bool
 {
     match *event {
         Event::Act(_, op, reply) => op.code == code && reply > 0,
+        _ => false,
+    }
+}
+
+/// Whether it is an act that was refused.
+fn is_refused(event: &Event) -> bool
+    ensures { refusals_in (act_of event.now) ≡ (if result then 1 else 0) }
+{
+    match *event {
+        Event::Act(_, _, reply) => reply == 0,
         _ => false,
     }
 }

@@ -1,6 +1,6 @@
 //! What members share: coming in, pausing while a predicate is false, an operation, and going out. Each step gives the
 //! pass back where the seat has too few events left for it; then it is outside the monitor.
-ghost use Rattle.std.specs.Prelude.{◌≡◌, ◌+◌, ◌<◌, ◌≤◌, true, [], ◌∷◌, Some, None, IfOk, MatchResult};
+ghost use Rattle.std.specs.Prelude.{◌≡◌, ◌+◌, ◌<◌, ◌≤◌, true, [], ◌∷◌, Some, None, IfOk, MatchResult, length};
 ghost use Rattle.monk_history.specs.Meaning.Monitor.{data_of};
 ghost use Rattle.monk_floor.specs.View.{monitor_of};
 ghost use Rattle.monk_samples.specs.Styles.{Offers};
@@ -22,7 +22,8 @@ pub(crate) fn come_in<K: Kind, T: Guarded, R: Wait>(
     hall: &Hall<K, T>,
 ) -> Result<Active<K, T>, Pass<K, T>>
     requires { pass.hall ≡ hall.now.id }
-    ensures { MatchResult result (λ a. HasCalled (outside pass) (inside a) []) (λ q. HasStayedOut K.rules T.meaning pass q) }
+    ensures came { MatchResult result (λ a. HasCalled (outside pass) (inside a) []) (λ q. HasStayedOut K.rules T.meaning pass q) }
+    ensures room { IfOk result (λ _. length pass.me.mine + 2 ≤ pass.me.setting.budget) }
 {
     if pass.left() < 2 {
         return Err(pass);

@@ -4,11 +4,11 @@ ghost use Rattle.monk_object.specs.Buffer.{buffer_meaning};
 ghost use Rattle.monk_samples.specs.Crews.{AreReady, IsOf, IsReady};
 ghost use Rattle.monk_samples.specs.Ends.{HaveServed, IsFaultOfCrew, IsWantOfRoom};
 ghost use Rattle.monk_samples.specs.Rounds.{HasServed, round_of};
+ghost use Rattle.monk_samples.specs.Samples.{IsOverBuffer};
 ghost use Rattle.monk_samples.specs.Visits.{HasVisited};
 ghost use Rattle.monk_samples.specs.declared.crew_fault.CrewFault.TheVariants as crew;
-ghost use Rattle.monk_samples.specs.declared.sample.Sample.TheVariants as sample;
 
-use crate::buffer::{put, take};
+use crate::buffer::{put, put_hastily, take, take_hastily};
 use crate::crew::{join_all, part_idle, with_idle, workers};
 use crate::crew_fault::CrewFault;
 use crate::duty::{Duty, Shift};
@@ -16,6 +16,7 @@ use crate::end::End;
 use crate::gate::Gate;
 use crate::line::StartingLine;
 use crate::rota::Rota;
+use crate::sample::Sample;
 use crate::style::Style;
 use crate::worker::Worker;
 use monk_hall::{Hall, Pass};
@@ -25,7 +26,7 @@ use std::sync::Wait;
 use std::thread;
 use std::thread::{Scope, Threads};
 
-/// Half of the seats put the items 1 to `rounds`, and as many take as often. Gives their passes back, in order.
+/// Half of the seats put the items 1 to `rounds`, and as many take as often, in haste or not. Gives their passes back, in order.
 pub(crate) fn work_buffer<K: Style, R: Threads + Wait + Sync, G: Gate>(
     rt: &R,
     alloc: Global,
@@ -35,7 +36,7 @@ pub(crate) fn work_buffer<K: Style, R: Threads + Wait + Sync, G: Gate>(
     rota: Rota,
 ) -> Result<Vec<Pass<K, Buffer>>, CrewFault>
     requires ready { AreReady K.rules hall.now passes.items }
-    requires sample { rota.sample ≡ sample.Buffer }
+    requires sample { IsOverBuffer rota.sample }
     ensures served { IfOk result (λ v. HaveServed K.rules buffer_meaning (G.answers gate.now) rota.sample rota.seats rota.rounds
         hall.now passes.items v.items) }
     ensures fault { IfErr result (IsFaultOfCrew K.rules buffer_meaning (G.answers gate.now) rota.sample rota.seats rota.rounds
@@ -50,7 +51,7 @@ pub(crate) fn work_buffer<K: Style, R: Threads + Wait + Sync, G: Gate>(
         |scope| -> Result<Vec<Pass<K, Buffer>>, CrewFault>
             requires each { All (λ w. ((w.hall.now ≡ hall.now) × IsReady K.rules hall.now w.pass)
                 × (w.gate.now ≡ gate.now) × (w.rota ≡ rota)) workers.items }
-            requires sample { rota.sample ≡ sample.Buffer }
+            requires sample { IsOverBuffer rota.sample }
             ensures served { IfOk result (λ v. HaveServed K.rules buffer_meaning (G.answers gate.entry.now) rota.sample
                 rota.seats rota.rounds hall.entry.now (map (λ w. w.pass) workers.entry.items) v.items) }
             ensures fault { IfErr result (IsFaultOfCrew K.rules buffer_meaning (G.answers gate.entry.now) rota.sample
@@ -76,7 +77,7 @@ fn start_all<'s, E, K: Style, R: Wait + Sync, G: Gate>(
 ) -> Result<Vec<Shift<K, Buffer, G>>, CrewFault>
     requires each { All (λ w. ((w.hall.now ≡ hall.now) × IsReady K.rules hall.now w.pass)
         × (w.gate.now ≡ gate.now) × (w.rota ≡ rota)) workers.items }
-    requires sample { rota.sample ≡ sample.Buffer }
+    requires sample { IsOverBuffer rota.sample }
     ensures each { IfOk result (λ v. All (λ s. (s.promise.hall.value ≡ hall.now) × (s.promise.gate.value ≡ gate.now)
         × (s.promise.rota.value ≡ rota)) v.items) }
     ensures passes { IfOk result (λ v. map (λ s. s.promise.pass.value) v.items ≡ map (λ w. w.pass) workers.entry.items) }
@@ -95,7 +96,7 @@ fn start<'s, E, K: Style, R: Wait + Sync, G: Gate>(
     worker: Worker<'s, K, Buffer, R, G>,
 ) -> Result<Shift<K, Buffer, G>, CrewFault>
     requires ready { IsReady K.rules worker.hall.now worker.pass }
-    requires sample { worker.rota.sample ≡ sample.Buffer }
+    requires sample { IsOverBuffer worker.rota.sample }
     ensures hall { IfOk result (λ s. s.promise.hall.value ≡ worker.entry.hall.now) }
     ensures gate { IfOk result (λ s. s.promise.gate.value ≡ worker.entry.gate.now) }
     ensures pass { IfOk result (λ s. s.promise.pass.value ≡ worker.entry.pass) }
@@ -107,7 +108,7 @@ fn start<'s, E, K: Style, R: Wait + Sync, G: Gate>(
         promise,
         move || -> Option<(Pass<K, Buffer>, End)>
             requires ready { IsReady K.rules worker.hall.now worker.pass }
-            requires sample { worker.rota.sample ≡ sample.Buffer }
+            requires sample { IsOverBuffer worker.rota.sample }
             ensures { IfSome result (λ r. IsOf worker.entry.hall.now r.0
                 × HasServed K.rules buffer_meaning (G.answers worker.entry.gate.now) worker.entry.rota.sample
                 worker.entry.rota.seats worker.entry.rota.rounds worker.entry.pass r.0 r.1) }
@@ -127,7 +128,7 @@ fn start<'s, E, K: Style, R: Wait + Sync, G: Gate>(
 /// Works all rounds of a seat, and asks the gate before each.
 fn work<K: Style, R: Wait, G: Gate>(worker: Worker<'_, K, Buffer, R, G>) -> (Pass<K, Buffer>, End)
     requires ready { IsReady K.rules worker.hall.now worker.pass }
-    requires sample { worker.rota.sample ≡ sample.Buffer }
+    requires sample { IsOverBuffer worker.rota.sample }
     ensures back { IsOf worker.entry.hall.now result.0 }
     ensures served { HasServed K.rules buffer_meaning (G.answers worker.entry.gate.now) worker.entry.rota.sample
         worker.entry.rota.seats worker.entry.rota.rounds worker.entry.pass result.0 result.1 }
@@ -164,16 +165,19 @@ fn do_round<K: Style, R: Wait>(
     round: u32,
 ) -> (Pass<K, Buffer>, End)
     requires ready { IsReady K.rules hall.now pass }
-    requires sample { rota.sample ≡ sample.Buffer }
+    requires sample { IsOverBuffer rota.sample }
     ensures back { IsOf hall.now result.0 }
     ensures visited { HasVisited K.rules buffer_meaning pass
         (round_of rota.sample K.rules pass.me.setting rota.seats pass.me.seat round) result.0 result.1 }
 {
-    let seat = pass.seat();
-    if seat < rota.seats / 2 {
-        put(pass, rt, hall, round)
-    } else {
-        let (pass, _, end) = take(pass, rt, hall);
-        (pass, end)
+    let puts = pass.seat() < rota.seats / 2;
+    match rota.sample {
+        Sample::Hasty if puts => put_hastily(pass, rt, hall, round),
+        Sample::Hasty => take_hastily(pass, rt, hall),
+        _ if puts => put(pass, rt, hall, round),
+        _ => {
+            let (pass, _, end) = take(pass, rt, hall);
+            (pass, end)
+        }
     }
 }

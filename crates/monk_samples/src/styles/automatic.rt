@@ -10,21 +10,22 @@ use monk_kinds::{Kind, Pick};
 use monk_object::Guarded;
 use std::sync::Wait;
 
-/// Waits until the predicate holds, and resumes if that parked it; or leaves with fewer than three events left.
+/// Waits until the predicate holds, with that wish, and resumes if that parked it; or leaves with fewer than three events left.
 pub(crate) fn pause<K: Kind, T: Guarded, R: Wait>(
     active: Active<K, T>,
     rt: &R,
     hall: &Hall<K, T>,
     pred: u8,
+    wish: Pick,
 ) -> Result<Active<K, T>, Pass<K, T>>
     requires mode { has_conditions K.rules.mode ≡ false }
     requires hall { active.hall ≡ hall.now.id }
     requires pred { pred < T.PREDICATES }
-    ensures { MatchResult result (λ a. HasPaused K.rules T.meaning active (Event.Until active.me.seat pred Next.Stay) a)
+    ensures { MatchResult result (λ a. HasPaused K.rules T.meaning wish active (Event.Until active.me.seat pred Next.Stay) a)
         (λ p. HasGivenUp K.rules T.meaning for_handing_over active p) }
 {
     if active.left() < 3 {
         return Err(active.leave(hall, Pick::Waiter));
     }
-    Ok(go_on(active.plain_until(hall, pred, Pick::Waiter), rt, hall))
+    Ok(go_on(active.plain_until(hall, pred, wish), rt, hall))
 }

@@ -11,23 +11,24 @@ use monk_kinds::{Kind, Pick};
 use monk_object::Guarded;
 use std::sync::Wait;
 
-/// Waits on the condition, and resumes; or leaves with fewer than three events left.
+/// Waits on the condition, with that wish, and resumes; or leaves with fewer than three events left.
 pub(crate) fn pause<K: Kind, T: Guarded, R: Wait>(
     active: Active<K, T>,
     rt: &R,
     hall: &Hall<K, T>,
     cond: u8,
+    wish: Pick,
 ) -> Result<Active<K, T>, Pass<K, T>>
     requires mode { has_conditions K.rules.mode ≡ true }
     requires hall { active.hall ≡ hall.now.id }
     requires cond { cond < active.me.setting.conds }
-    ensures { MatchResult result (λ a. HasPaused K.rules T.meaning active (Event.Wait active.me.seat cond Next.Stay) a)
+    ensures { MatchResult result (λ a. HasPaused K.rules T.meaning wish active (Event.Wait active.me.seat cond Next.Stay) a)
         (λ p. HasGivenUp K.rules T.meaning for_handing_over active p) }
 {
     if active.left() < 3 {
         return Err(active.leave(hall, Pick::Waiter));
     }
-    Ok(active.plain_wait(hall, cond, Pick::Waiter).resume(rt, hall))
+    Ok(active.plain_wait(hall, cond, wish).resume(rt, hall))
 }
 
 /// Whether the condition's queue has somebody.

@@ -11,23 +11,24 @@ use monk_kinds::{Kind, Pick};
 use monk_object::Guarded;
 use std::sync::Wait;
 
-/// Signals the condition, resumes if the signal parked it, and leaves; or leaves alone with fewer than three events
+/// Signals the condition, resumes if the signal parked it, and leaves, each with that wish; or leaves alone with fewer than three events
 /// left.
 pub(crate) fn finish<K: Kind, T: Guarded, R: Wait>(
     active: Active<K, T>,
     rt: &R,
     hall: &Hall<K, T>,
     cond: u8,
+    wish: Pick,
 ) -> (Pass<K, T>, End)
     requires mode { has_signaller_queue K.rules.mode ≡ true }
     requires hall { active.hall ≡ hall.now.id }
     requires cond { cond < active.me.setting.conds }
-    ensures { HasFinished K.rules T.meaning active
+    ensures { HasFinished K.rules T.meaning wish active
         (Event.Signal active.me.seat cond Next.Stay ∷ Event.Leave active.me.seat Next.Stay ∷ []) result.0 result.1 }
 {
     if active.left() < 3 {
         return (active.leave(hall, Pick::Waiter), End::Tired);
     }
-    let active = go_on(active.plain_signal(hall, cond, Pick::Waiter), rt, hall);
-    (active.leave(hall, Pick::Waiter), End::Done)
+    let active = go_on(active.plain_signal(hall, cond, wish), rt, hall);
+    (active.leave(hall, wish), End::Done)
 }

@@ -21,7 +21,7 @@ pub(crate) fn signal_wait_and_leave<K: ImmediateReturn, T: Guarded, R: Wait>(
     requires hall { active.hall ≡ hall.now.id }
     requires cond { cond < active.me.setting.conds }
     requires wait_cond { wait_cond < active.me.setting.conds }
-    ensures { HasGoneOut K.rules T.meaning active
+    ensures { HasGoneOut K.rules T.meaning Pick.Waiter active
         (Event.SignalWait active.me.seat cond wait_cond Next.Stay ∷ Event.Leave active.me.seat Next.Stay ∷ []) result.0 result.1 }
 {
     if active.left() < 3 {

@@ -16,7 +16,7 @@ pub(crate) fn wake_all_and_leave<K: NonBlocking, T: Guarded>(
 ) -> (Pass<K, T>, End)
     requires hall { active.hall ≡ hall.now.id }
     requires cond { cond < active.me.setting.conds }
-    ensures { HasGoneOut K.rules T.meaning active
+    ensures { HasGoneOut K.rules T.meaning Pick.Waiter active
         (Event.SignalAll active.me.seat cond ∷ Event.Leave active.me.seat Next.Stay ∷ []) result.0 result.1 }
 {
     let mut active = active;

@@ -53,3 +53,19 @@ returns-in-Shop-clause-served g c =
     c.of_run-in-Shop.ensures.same (subst (λ (s : Sample). IfOk c.run_shop.result (λ v.
     HasLeft g.K.Kind.rules (g.G.Gate.answers c.args.gate.now) s c.args.seats c.args.rounds v.items))
     (sym c.in-Shop.is) c.run_shop.ensures.served)
+
+pub returns-in-Hasty-clause-fault : goal.returns-in-Hasty-clause-fault
+returns-in-Hasty-clause-fault g c =
+    crew_told c.of_run-in-Hasty.result c.run_hasty.result run_fault_of
+    (IsFaultOfRun g.K.Kind.rules (g.G.Gate.answers c.args.gate.now) c.args.sample c.args.seats c.args.rounds)
+    c.of_run-in-Hasty.ensures.fault (subst (λ (s : Sample). IfErr c.run_hasty.result (λ f.
+    IsFaultOfRun g.K.Kind.rules (g.G.Gate.answers c.args.gate.now) s c.args.seats c.args.rounds (run_fault_of f)))
+    (sym c.in-Hasty.is) c.run_hasty.ensures.fault)
+
+pub returns-in-Hasty-clause-served : goal.returns-in-Hasty-clause-served
+returns-in-Hasty-clause-served g c =
+    left_told c.of_run-in-Hasty.result c.run_hasty.result (λ o. o.history.items) (λ v. v.items)
+    (HasLeft g.K.Kind.rules (g.G.Gate.answers c.args.gate.now) c.args.sample c.args.seats c.args.rounds)
+    c.of_run-in-Hasty.ensures.same (subst (λ (s : Sample). IfOk c.run_hasty.result (λ v.
+    HasLeft g.K.Kind.rules (g.G.Gate.answers c.args.gate.now) s c.args.seats c.args.rounds v.items))
+    (sym c.in-Hasty.is) c.run_hasty.ensures.served)

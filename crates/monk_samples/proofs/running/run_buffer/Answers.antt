@@ -1,4 +1,4 @@
-use Rattle.std.proofs.Common.{ap, sym, subst, ◌∙◌, ◌<◌, ◌≤◌, List, ℕ, length}
+use Rattle.std.proofs.Common.{refl, ap, sym, subst, ◌∙◌, ◌<◌, ◌≤◌, List, ℕ, length}
 use Rattle.monk_object.specs.Buffer.{buffer_meaning}
 use Rattle.monk_hall.specs.Records.{opening_records}
 use Rattle.monk_hall.specs.Rule.{setting_of}
@@ -6,6 +6,7 @@ use Rattle.monk_hall.specs.Tokens.{Token, tokens}
 use Rattle.monk_hall.specs.declared.setting.Setting.{Setting}
 use Rattle.monk_samples.specs.Ends.{HaveServed}
 use Rattle.monk_samples.specs.Samples.{conds_of, budget_of, size}
+use Rattle.monk_samples.specs.Visits.{Patient}
 use Rattle.monk_samples.specs.declared.sample.Sample.{Sample}
 use Rattle.monk_samples.specs.declared.sample.Sample.TheVariants.{Buffer}
 use Rattle.monk_samples.proofs.MeetLaws.{seats_differ}
@@ -59,7 +60,7 @@ returns-clause-history g c =
     if_both c.close_by.result _ _ _
     (λ v closed whole. history_of k Buffer c.args.rota.seats c.args.rota.rounds hall.setting v.items setting closed
     (λ state law. buffer_totals k (g.G.Gate.answers c.args.gate.now) c.args.rota.seats c.args.rota.rounds hall.id hall.setting
-    hall v.items c.in_ok-passes.passes.items whole all size state law))
+    hall v.items c.in_ok-passes.passes.items whole Buffer Patient (λ z s r. refl) (λ s. refl) all size state law))
     c.close_by.ensures.closed c.close_by.ensures.whole
 
 pub returns-clause-served : goal.returns-clause-served

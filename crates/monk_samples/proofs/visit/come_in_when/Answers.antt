@@ -1,4 +1,4 @@
-use Rattle.std.proofs.Common.{Some}
+use Rattle.std.proofs.Common.{refl, Some}
 use Rattle.std.proofs.lemmas.Result.{MatchResult-weaker}
 use Rattle.monk_samples.specs.Trails.{outside}
 use Rattle.monk_samples.specs.Visits.{guard}
@@ -8,11 +8,11 @@ use Rattle.monk_samples.proofs.visit.come_in_when.Goals as goal
 pub returns-in-Ok : goal.returns-in-Ok
 returns-in-Ok g c =
     let k = g.K.Kind.rules in let o = g.T.Guarded.meaning in let p = c.args.pass in let a = c.in-Ok.active in
-    let w = Some (guard c.args.cond c.args.pred) in let came = paused_none k o (outside p) w a c.in-Ok.ensures in
+    let w = Some (guard c.args.cond c.args.pred) in let came = paused_none k o (outside p) w a c.in-Ok.ensures.came in
     MatchResult-weaker c.pause_until.result c.pause_until.ensures
-    (λ b h. (paused_then k o (outside p) w a b came h.0, h.1))
-    (λ q t. unready k o (outside p) w q (tired_after k o (outside p) w a q came t))
+    (λ b h. (paused_then k o (outside p) w refl a b came h.0, h.1))
+    (λ q t. unready k o (outside p) w q (tired_after k o (outside p) w refl a q came t))
 
 pub returns-in-Err : goal.returns-in-Err
 returns-in-Err g c =
-    stayed_out g.K.Kind.rules g.T.Guarded.meaning c.args.pass c.in-Err.pass (Some (guard c.args.cond c.args.pred)) c.in-Err.ensures
+    stayed_out g.K.Kind.rules g.T.Guarded.meaning c.args.pass c.in-Err.pass (Some (guard c.args.cond c.args.pred)) c.in-Err.ensures.came

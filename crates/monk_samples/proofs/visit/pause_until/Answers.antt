@@ -1,15 +1,20 @@
-use Rattle.std.proofs.Common.{◌≡◌, false, Some}
+use Rattle.std.proofs.Common.{◌≡◌, false, refl, Some}
 use Rattle.monk_history.specs.Meaning.Monitor.{data_of}
 use Rattle.monk_floor.specs.View.{monitor_of}
 use Rattle.monk_samples.specs.Trails.{inside}
 use Rattle.monk_samples.specs.Visits.{guard}
 use Rattle.monk_samples.proofs.ShortLaws.{still_pauses}
-use Rattle.monk_samples.proofs.VisitLaws.{left_after, paused_once}
+use Rattle.monk_samples.proofs.TrailLaws.{called_none}
+use Rattle.monk_samples.proofs.VisitLaws.{left_after, paused_none, paused_once}
 use Rattle.monk_samples.proofs.visit.pause_until.Goals as goal
+
+pub loop-active-init : goal.loop-active-init
+loop-active-init g c = let a = c.args.active in
+    paused_none g.K.Kind.rules g.T.Guarded.meaning (inside a) (Some (guard c.args.cond c.args.pred)) a (called_none (inside a))
 
 pub loop-active-preserved : goal.loop-active-preserved
 loop-active-preserved g c = paused_once g.K.Kind.rules g.T.Guarded.meaning (inside c.args.active)
-    (guard c.args.cond c.args.pred) c.loop-active.active c.in-Ok.back c.loop-active.invariant c.in-Ok.ensures cc
+    (guard c.args.cond c.args.pred) refl c.loop-active.active c.in-Ok.back c.loop-active.invariant c.in-Ok.ensures cc
 
 pub returns-in-Err : goal.returns-in-Err
 returns-in-Err g c =

@@ -15,6 +15,6 @@ returns g c =
     let has = c.left.ensures.left in let enough = c.if-left-lt3.false in
     let k = g.K.Kind.rules in let o = g.T.Guarded.meaning in let a = c.args.active in
     let room : length a.me.mine + 3 ≤ a.me.setting.budget = omega arith in
-    paused k o a (Until a.me.seat c.args.pred Stay) c.go_on.result room c.left.ensures.floor
-    (went_on k o c.plain_until.result a (Until a.me.seat c.args.pred Stay) _ _ c.go_on.result (λ x. (refl, refl, refl))
+    paused k o c.args.wish a (Until a.me.seat c.args.pred Stay) c.go_on.result room c.left.ensures.floor
+    (went_on k o c.args.wish c.plain_until.result a (Until a.me.seat c.args.pred Stay) _ _ c.go_on.result (λ x. (refl, refl, refl))
     c.plain_until.ensures c.go_on.ensures)

@@ -15,6 +15,6 @@ returns g c =
     let has = c.left.ensures.left in let enough = c.if-left-lt3.false in
     let k = g.K.Kind.rules in let o = g.T.Guarded.meaning in let a = c.args.active in
     let room : length a.me.mine + 3 ≤ a.me.setting.budget = omega arith in
-    paused k o a (Wait a.me.seat c.args.cond Stay) c.resume.result room c.left.ensures.floor
-    (came_back k o a (Wait a.me.seat c.args.cond Stay) _ _ c.plain_wait.result c.resume.result (λ x. (refl, refl, refl))
+    paused k o c.args.wish a (Wait a.me.seat c.args.cond Stay) c.resume.result room c.left.ensures.floor
+    (came_back k o c.args.wish a (Wait a.me.seat c.args.cond Stay) _ _ c.plain_wait.result c.resume.result (λ x. (refl, refl, refl))
     c.plain_wait.ensures c.resume.ensures)

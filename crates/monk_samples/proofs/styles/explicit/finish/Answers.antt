@@ -15,7 +15,7 @@ returns-then-left-lt3 g c =
 pub returns : goal.returns
 returns g c =
     let k = g.K.Kind.rules in let o = g.T.Guarded.meaning in
-    called_out k o c.args.active (Signal c.args.active.me.seat c.args.cond Stay) c.go_on-active.result _ _ c.leave-2.result
-    (went_on k o c.plain_signal.result c.args.active (Signal c.args.active.me.seat c.args.cond Stay) _ _
+    called_out k o c.args.wish c.args.active (Signal c.args.active.me.seat c.args.cond Stay) c.go_on-active.result _ _ c.leave-2.result
+    (went_on k o c.args.wish c.plain_signal.result c.args.active (Signal c.args.active.me.seat c.args.cond Stay) _ _
     c.go_on-active.result (λ x. (refl, refl, refl)) c.plain_signal.ensures c.go_on-active.ensures)
     c.leave-2.ensures

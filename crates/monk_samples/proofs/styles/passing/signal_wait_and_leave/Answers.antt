@@ -1,4 +1,5 @@
 use Rattle.std.proofs.Common.{arith, ◌<◌, ◌+◌, length, refl}
+use Rattle.monk_kinds.specs.declared.mode.Pick.TheVariants.{Waiter}
 use Rattle.monk_history.specs.declared.event.Event.TheVariants.{SignalWait}
 use Rattle.monk_history.specs.declared.event.Next.TheVariants.{Stay}
 use Rattle.monk_samples.proofs.StyleLaws.{called_out, came_back, given_up}
@@ -13,7 +14,7 @@ returns-then-left-lt3 g c =
 pub returns : goal.returns
 returns g c =
     let k = g.K.Kind.rules in let o = g.T.Guarded.meaning in let a = c.args.active in
-    called_out k o a (SignalWait a.me.seat c.args.cond c.args.wait_cond Stay) c.resume-active.result _ _ c.leave-2.result
-    (came_back k o a (SignalWait a.me.seat c.args.cond c.args.wait_cond Stay) _ _ c.signal_wait.result c.resume-active.result
+    called_out k o Waiter a (SignalWait a.me.seat c.args.cond c.args.wait_cond Stay) c.resume-active.result _ _ c.leave-2.result
+    (came_back k o Waiter a (SignalWait a.me.seat c.args.cond c.args.wait_cond Stay) _ _ c.signal_wait.result c.resume-active.result
     (λ x. (refl, refl, refl)) c.signal_wait.ensures c.resume-active.ensures)
     c.leave-2.ensures

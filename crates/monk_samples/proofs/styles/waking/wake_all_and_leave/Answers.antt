@@ -1,4 +1,5 @@
 use Rattle.std.proofs.Common.{arith, ◌<◌, ◌+◌, length}
+use Rattle.monk_kinds.specs.declared.mode.Pick.TheVariants.{Waiter}
 use Rattle.monk_history.specs.declared.event.Event.TheVariants.{SignalAll}
 use Rattle.monk_samples.proofs.StyleLaws.{called_out, given_up}
 use Rattle.monk_samples.proofs.TrailLaws.{woke}
@@ -13,6 +14,6 @@ returns-then-left-lt2 g c =
 pub returns : goal.returns
 returns g c =
     let k = g.K.Kind.rules in let o = g.T.Guarded.meaning in let a = c.args.active in
-    called_out k o a (SignalAll a.me.seat c.args.cond) c.signal_all.new.self _ _ c.leave-2.result
-    (woke k o a a.me.seat c.args.cond c.signal_all.new.self c.signal_all.ensures.done)
+    called_out k o Waiter a (SignalAll a.me.seat c.args.cond) c.signal_all.new.self _ _ c.leave-2.result
+    (woke k o Waiter a a.me.seat c.args.cond c.signal_all.new.self c.signal_all.ensures.done)
     c.leave-2.ensures

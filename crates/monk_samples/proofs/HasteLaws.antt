@@ -1,0 +1,87 @@
+-- What a hasty visit comes to, try by try
+use Rattle.std.proofs.Common.{◌≡◌, ℕ, suc, ◌+◌, ◌<◌, ◌≤◌, Option, List, [], ◌∷◌, ◌++◌, append_assoc, length, length-append}
+use Rattle.std.proofs.Common.{refl, sym, ap, subst, ◌∙◌, arith}
+use Rattle.monk_kinds.specs.declared.mode.Rules.{Rules}
+use Rattle.monk_object.specs.Object.{Object}
+use Rattle.monk_history.specs.declared.event.Event.TheVariants.{Leave}
+use Rattle.monk_history.specs.declared.event.Next.TheVariants.{Stay}
+use Rattle.monk_hall.specs.Tokens.{Token, Holder}
+use Rattle.monk_samples.specs.Asked.{IsCall}
+use Rattle.monk_samples.specs.Trails.{Addition, Trail, HasCalled, calls_in, events_in, inside, outside}
+use Rattle.monk_samples.specs.Visits.{Guard, Plan, HasActed, HasMissed, HasPausedUntil, HasTired, IsLeftWaiting, IsMiss, wish_in}
+use Rattle.monk_samples.proofs.TrailLaws.{called_then}
+
+module _ (k : Rules) (o : Object) where
+  -- what follows once the seat has come in
+  pub paused_since : (x : Trail) (w : Option Guard) (a b : Holder) → HasCalled x (inside a) [] → HasPausedUntil k o (inside a) w b
+      → HasPausedUntil k o x w b
+  paused_since x w a b came t = let seat = came.went.seat in let setting = came.went.setting in record {
+    pauses = t.pauses;
+    called = called_then x (inside a) (inside b) [] t.pauses came t.called;
+    paused = rw (seat, setting) at t.paused;
+  }
+
+  pub tired_since : (x : Trail) (w : Option Guard) (a : Holder) (q : Token) → HasCalled x (inside a) []
+      → HasTired k o (inside a) (IsLeftWaiting k o a.me.setting a.me.seat w) q → HasTired k o x (IsLeftWaiting k o x.setting x.seat w) q
+  tired_since x w a q came t = let seat = came.went.seat in let setting = came.went.setting in record {
+    calls = t.calls;
+    called = called_then x (inside a) (outside q) [] t.calls came t.called;
+    are = rw (seat, setting) at t.are;
+    spent = t.spent;
+    told = t.told;
+  }
+
+  -- a try whose operation was refused, and then a leave
+  pub missed_once : (p : Token) (v : Plan) (a : Holder) (q : Token) → HasActed k o (outside p) v.guard v.op 0 a
+      → ((d : Addition) × HasCalled (inside a) (outside q) (d ∷ []) × IsCall k o (wish_in v.guard) a.me.setting (Leave a.me.seat Stay) d
+      × (d.before ≡ a.floor.history))
+      → HasMissed k o p v 1 q
+  missed_once p v a q s one = let seat = s.called.went.seat in let setting = s.called.went.setting in record {
+    calls = (s.pauses ++ s.act ∷ []) ++ one.0 ∷ [];
+    called = called_then (outside p) (inside a) (outside q) (s.pauses ++ s.act ∷ []) (one.0 ∷ []) s.called one.1;
+    are = record {
+      first = [];
+      rest = (s.pauses ++ s.act ∷ []) ++ one.0 ∷ [];
+      are = refl;
+      is_first = refl;
+      is_rest = record {
+        pauses = s.pauses;
+        act = s.act;
+        leave = one.0;
+        are = append_assoc s.pauses (s.act ∷ []) (one.0 ∷ []);
+        paused = s.paused;
+        acts = s.acts;
+        leaves = rw (seat, setting) at one.2;
+      };
+    };
+  }
+
+  -- and once more
+  pub missed_then : (p m q : Token) (v : Plan) (n : ℕ) → HasMissed k o p v n m → HasMissed k o m v 1 q → HasMissed k o p v (suc n) q
+  missed_then p m q v n s t =
+      let seat = s.called.went.seat in let setting = s.called.went.setting in let last = t.are in
+      let same = last.are ∙ ap (λ ds. ds ++ last.rest) last.is_first in
+      let miss : IsMiss k o m.me.setting m.me.seat v t.calls = subst (IsMiss k o m.me.setting m.me.seat v) (sym same) last.is_rest in
+      record {
+        calls = s.calls ++ t.calls;
+        called = called_then (outside p) (outside m) (outside q) s.calls t.calls s.called t.called;
+        are = record { first = s.calls; rest = t.calls; are = refl; is_first = s.are; is_rest = rw (seat, setting) at miss };
+      }
+
+  -- a seat that has missed has one event more at least
+  some_own : (own calls pauses : List Addition) (d : Addition) (ds : List Addition) → calls_in own ≡ calls → calls ≡ pauses ++ d ∷ ds
+      → 1 ≤ length (events_in own)
+  some_own [] calls pauses d ds called are = absurd (none pauses (called ∙ are))
+    where
+      none : (xs : List Addition) → [] ≡ xs ++ d ∷ ds → ⊥
+      none [] e = absurd cc
+      none (x ∷ xs) e = absurd cc
+  some_own (x ∷ own) calls pauses d ds called are = omega arith
+
+  pub has_grown : (p q : Token) (v : Plan) → HasMissed k o p v 1 q → length p.me.mine < length q.me.mine
+  has_grown p q v t =
+      let last = t.are in let miss = last.is_rest in
+      let same = last.are ∙ ap (λ ds. ds ++ last.rest) last.is_first ∙ miss.are in
+      let more = some_own t.called.own t.calls miss.pauses miss.act (miss.leave ∷ []) t.called.called same in
+      let all = ap length t.called.went.mine ∙ length-append p.me.mine (events_in t.called.own) in
+      omega (arith, more, all)

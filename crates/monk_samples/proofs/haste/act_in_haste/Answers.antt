@@ -1,0 +1,29 @@
+use Rattle.std.proofs.Common.{Some}
+use Rattle.std.proofs.lemmas.Result.{MatchResult-weaker}
+use Rattle.monk_samples.specs.Trails.{outside}
+use Rattle.monk_samples.specs.Visits.{hasty_guard}
+use Rattle.monk_samples.proofs.HasteLaws.{paused_since, tired_since}
+use Rattle.monk_samples.proofs.VisitLaws.{acted_after, stayed_out, tired_inside, unready}
+use Rattle.monk_samples.proofs.haste.act_in_haste.Goals as goal
+
+pub returns-in-Err-clause-acted : goal.returns-in-Err-clause-acted
+returns-in-Err-clause-acted g c =
+    stayed_out g.K.Kind.rules g.T.Guarded.meaning c.args.pass c.in-Err.pass (Some (hasty_guard c.args.cond c.args.pred))
+    c.in-Err.ensures.came
+
+pub returns-in-Ok-pause_once-clause-acted : goal.returns-in-Ok-pause_once-clause-acted
+returns-in-Ok-pause_once-clause-acted g c =
+    let k = g.K.Kind.rules in let o = g.T.Guarded.meaning in let p = c.args.pass in
+    let w = Some (hasty_guard c.args.cond c.args.pred) in
+    let b = c.in-Ok-pause_once.active in
+    let s = paused_since k o (outside p) w c.in-Ok.active b c.in-Ok.ensures.came c.in-Ok-pause_once.ensures in
+    MatchResult-weaker c.act.result c.act.ensures.acted
+    (λ r h. acted_after k o (outside p) w c.args.op r.1 b r.0 s h.0)
+    (λ q t. unready k o (outside p) w q (tired_inside k o (outside p) w b q s t))
+
+pub returns-in-Err-pause_once-clause-acted : goal.returns-in-Err-pause_once-clause-acted
+returns-in-Err-pause_once-clause-acted g c =
+    let k = g.K.Kind.rules in let o = g.T.Guarded.meaning in let p = c.args.pass in
+    let w = Some (hasty_guard c.args.cond c.args.pred) in
+    unready k o (outside p) w c.in-Err-pause_once.pass
+    (tired_since k o (outside p) w c.in-Ok.active c.in-Err-pause_once.pass c.in-Ok.ensures.came c.in-Err-pause_once.ensures)

@@ -1,0 +1,26 @@
+use Rattle.std.proofs.Common.{ℕ, refl, subst, arith, ◌≡◌, ◌<◌}
+use Rattle.monk_kinds.specs.declared.mode.Pick.TheVariants.{Entry}
+use Rattle.monk_history.specs.declared.event.Event.TheVariants.{Leave}
+use Rattle.monk_history.specs.declared.event.Next.TheVariants.{Stay}
+use Rattle.monk_samples.specs.Trails.{outside}
+use Rattle.monk_samples.specs.Visits.{HasActed, always, hastily}
+use Rattle.monk_samples.proofs.HasteLaws.{missed_once}
+use Rattle.monk_samples.proofs.TrailLaws.{released}
+use Rattle.monk_samples.proofs.VisitLaws.{tried_in}
+use Rattle.monk_samples.proofs.haste.try_once.Goals as goal
+
+some : (n : ℕ) → (n ≡ 0 → ⊥) → 0 < n
+some n nonzero = omega (arith, nonzero)
+
+pub returns-then-reply-eq0-clause-tried : goal.returns-then-reply-eq0-clause-tried
+returns-then-reply-eq0-clause-tried g c =
+    let k = g.K.Kind.rules in let o = g.T.Guarded.meaning in let p = c.args.pass in let a = c.in-Ok.acted.0 in
+    let v = hastily c.args.cond c.args.pred c.args.op (always c.args.next) in
+    missed_once k o p v a c.leave.result
+    (subst (λ (n : ℕ). HasActed k o (outside p) v.guard v.op n a) c.if-reply-eq0.true c.in-Ok.ensures.acted)
+    (released k o Entry a (Leave a.me.seat Stay) _ _ c.leave.result (λ x. (refl, refl, refl)) c.leave.ensures)
+
+pub returns-clause-tried : goal.returns-clause-tried
+returns-clause-tried g c = tried_in g.K.Kind.rules g.T.Guarded.meaning c.args.pass
+    (hastily c.args.cond c.args.pred c.args.op (always c.args.next)) c.in-Ok.acted.1 c.in-Ok.acted.0
+    c.finish_by.result.0 c.finish_by.result.1 c.in-Ok.ensures.acted (some c.in-Ok.acted.1 c.if-reply-eq0.false) c.finish_by.ensures

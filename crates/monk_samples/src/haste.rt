@@ -1,0 +1,123 @@
+//! Visits in haste: an `if` where a `while` belongs. Under some kinds that is right, and under others what was waited for may
+//! be gone when the seat goes on.
+ghost use Rattle.std.specs.Prelude.{◌≡◌, ◌+◌, ◌<◌, ◌≤◌, [], ◌∷◌, Some, IfOk, IfErr, MatchResult, length};
+ghost use Rattle.monk_samples.specs.Styles.{Offers};
+ghost use Rattle.monk_samples.specs.Trails.{inside, outside};
+ghost use Rattle.monk_samples.specs.Visits.{HasActed, HasMissed, HasPausedUntil, HasTried, HasVisited, IsTiredFor};
+ghost use Rattle.monk_samples.specs.Visits.{IsTiredWithin, Promises, always, hastily, hasty_guard};
+
+use crate::end::End;
+use crate::style::Style;
+use crate::visit::{act, come_in};
+use monk_hall::{Active, Hall, Pass};
+use monk_kinds::Pick;
+use monk_object::{Guarded, Op};
+use std::sync::Wait;
+use std::thread;
+
+/// Pauses once, where the predicate is false.
+fn pause_once<K: Style, T: Guarded, R: Wait>(
+    active: Active<K, T>,
+    rt: &R,
+    hall: &Hall<K, T>,
+    cond: u8,
+    pred: u8,
+) -> Result<Active<K, T>, Pass<K, T>>
+    requires hall { active.hall ≡ hall.now.id }
+    requires cond { Offers K.rules active.me.setting.conds (cond + 1) }
+    requires pred { pred < T.PREDICATES }
+    ensures { MatchResult result
+        (λ a. HasPausedUntil K.rules T.meaning (inside active) (Some (hasty_guard cond pred)) a)
+        (λ q. IsTiredWithin K.rules T.meaning active (Some (hasty_guard cond pred)) q) }
+{
+    if active.holds(pred) {
+        return Ok(active);
+    }
+    K::pause_by(active, rt, hall, cond, pred, Pick::Entry)
+}
+
+/// Comes in, pauses once where the predicate is false, and asks for the operation then, whatever holds.
+fn act_in_haste<K: Style, T: Guarded, R: Wait>(
+    pass: Pass<K, T>,
+    rt: &R,
+    hall: &Hall<K, T>,
+    cond: u8,
+    pred: u8,
+    op: Op,
+) -> Result<(Active<K, T>, u64), Pass<K, T>>
+    requires hall { pass.hall ≡ hall.now.id }
+    requires cond { Offers K.rules pass.me.setting.conds (cond + 1) }
+    requires pred { pred < T.PREDICATES }
+    requires code { op.code < T.CODES }
+    ensures acted { MatchResult result
+        (λ r. HasActed K.rules T.meaning (outside pass) (Some (hasty_guard cond pred)) op r.1 r.0)
+        (λ q. IsTiredFor K.rules T.meaning pass (Some (hasty_guard cond pred)) q) }
+    ensures room { IfOk result (λ _. length pass.me.mine + 2 ≤ pass.me.setting.budget) }
+{
+    let active = match come_in(pass, rt, hall) {
+        Ok(active) => active,
+        Err(pass) => return Err(pass),
+    };
+    match pause_once(active, rt, hall, cond, pred) {
+        Ok(active) => act(active, hall, op),
+        Err(pass) => Err(pass),
+    }
+}
+
+/// Tries a visit once. Gives the pass alone where the operation was refused; then it has left without a signal.
+fn try_once<K: Style, T: Guarded, R: Wait>(
+    pass: Pass<K, T>,
+    rt: &R,
+    hall: &Hall<K, T>,
+    cond: u8,
+    pred: u8,
+    op: Op,
+    next: u8,
+) -> Result<(Pass<K, T>, End), Pass<K, T>>
+    requires hall { pass.hall ≡ hall.now.id }
+    requires cond { Offers K.rules pass.me.setting.conds (cond + 1) }
+    requires pred { pred < T.PREDICATES }
+    requires code { op.code < T.CODES }
+    requires next { Offers K.rules pass.me.setting.conds (next + 1) }
+    ensures tried { MatchResult result
+        (λ r. HasTried K.rules T.meaning pass (hastily cond pred op (always next)) r.0 r.1)
+        (λ q. HasMissed K.rules T.meaning pass (hastily cond pred op (always next)) 1 q) }
+    ensures room { IfErr result (λ q. length pass.me.mine + 2 ≤ pass.me.setting.budget) }
+{
+    let (active, reply) = match act_in_haste(pass, rt, hall, cond, pred, op) {
+        Ok(acted) => acted,
+        Err(pass) => return Ok((pass, End::Tired)),
+    };
+    if reply == 0 {
+        return Err(active.leave(hall, Pick::Entry));
+    }
+    Ok(K::finish_by(active, rt, hall, next, Pick::Entry))
+}
+
+/// Comes in, pauses once where the predicate is false, does an operation, and goes out letting a seat of the condition
+/// `next` go on. Where the operation was refused it leaves, and comes again. Each of its releases wishes for entry.
+pub(crate) fn act_and_finish_in_haste<K: Style, T: Guarded, R: Wait>(
+    pass: Pass<K, T>,
+    rt: &R,
+    hall: &Hall<K, T>,
+    cond: u8,
+    pred: u8,
+    op: Op,
+    next: u8,
+) -> (Pass<K, T>, End)
+    requires hall { pass.hall ≡ hall.now.id }
+    requires cond { Offers K.rules pass.me.setting.conds (cond + 1) }
+    requires pred { pred < T.PREDICATES }
+    requires code { op.code < T.CODES }
+    requires next { Offers K.rules pass.me.setting.conds (next + 1) }
+    ensures { HasVisited K.rules T.meaning pass (hastily cond pred op (always next) ∷ []) result.0 result.1 }
+{
+    let mut pass = pass;
+    loop {
+        match try_once(pass, rt, hall, cond, pred, op, next) {
+            Ok(done) => return done,
+            Err(back) => pass = back,
+        }
+        thread::yield_now();
+    }
+}
