@@ -117,8 +117,8 @@ fn of_shop(alloc: Global, totals: &[u64; 4]) -> Result<String, AllocError>
 fn of_hasty(alloc: Global, totals: &[u64; 4], missed: u64) -> Result<String, AllocError>
     ensures { IfOk result (λ text. string_bytes text ≡ totals_text Sample.Hasty totals.now missed) }
 {
-    let [puts, put, takes, taken] = *totals;
-    format!(in alloc; "put {puts} {put}\ntaken {takes} {taken}\nmissed {missed}\nlegal\n")
+    let [puts, sum_put, takes, sum_taken] = *totals;
+    format!(in alloc; "put {puts} {sum_put}\ntaken {takes} {sum_taken}\nmissed {missed}\nlegal\n")
 }
 
 /// The answer to a run without an outcome, of which this is the end.
