@@ -3,17 +3,18 @@ use Rattle.std.proofs.Common.{◌≡◌, ℕ, ◌≤◌, inl, inr, List, length,
 use Rattle.monk_kinds.specs.declared.name.KindName.{KindName}
 use Rattle.monk_object.specs.Names.{most}
 use Rattle.monk_history.specs.Text.{Heading, text}
-use Rattle.monk_samples.specs.Samples.{sample_object, size}
+use Rattle.monk_samples.specs.Samples.{sample_object, size_of}
 use Rattle.monk_samples.specs.declared.sample.Sample.{Sample}
-use Rattle.monk_samples.specs.declared.sample.Sample.TheVariants.{Buffer, Book, Shop}
+use Rattle.monk_samples.specs.declared.sample.Sample.TheVariants.{Buffer, Book, Shop, Hasty}
 use Rattle.monk_commands.specs.Played.{IsFoundLegal}
 use Rattle.monk_commands.specs.Recorded.{IsRecordAnswer}
 use Rattle.monk_commands.proofs.Exact.{legal_found}
 
-size_fits : (sample : Sample) → size ≤ most (sample_object sample)
+size_fits : (sample : Sample) → size_of sample ≤ most (sample_object sample)
 size_fits Buffer = omega arith
 size_fits Book = omega arith
 size_fits Shop = omega arith
+size_fits Hasty = omega arith
 
 pub legal_recorded : (k : KindName) (sample : Sample) (seats rounds status : ℕ) (Puts : List ℕ → Type 0)
     → IsRecordAnswer k sample seats rounds status Puts → status ≡ 0 → IsFoundLegal Puts

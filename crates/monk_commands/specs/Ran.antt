@@ -7,11 +7,11 @@ use Rattle.monk_history.specs.Text.{Heading}
 use Rattle.monk_history.specs.declared.event.Event.{Event}
 use Rattle.monk_samples.specs.Runs.{HasLeft, IsFaultOfRun}
 use Rattle.monk_samples.specs.Samples.{IsOutcome}
-use Rattle.monk_samples.specs.Totals.{HasTotals}
+use Rattle.monk_samples.specs.Totals.{HasTotals, missed_in}
 use Rattle.monk_samples.specs.declared.run_fault.RunFault.{RunFault}
 use Rattle.monk_samples.specs.declared.run_fault.RunFault.TheVariants.{Range, Memory, Tired, Late, Busy, Thread}
 use Rattle.monk_samples.specs.declared.sample.Sample.{Sample}
-use Rattle.monk_samples.specs.declared.sample.Sample.TheVariants.{Buffer, Book, Shop}
+use Rattle.monk_samples.specs.declared.sample.Sample.TheVariants.{Buffer, Book, Shop, Hasty}
 
 -- a word and a number, or two
 abbrev pub count_line : List ℕ → ℕ → List ℕ
@@ -20,15 +20,17 @@ count_line word n = word ++ codes " " ++ decimal n ++ codes "\n"
 abbrev pub pair_line : List ℕ → ℕ → ℕ → List ℕ
 pair_line word n m = word ++ codes " " ++ decimal n ++ codes " " ++ decimal m ++ codes "\n"
 
--- the lines that tell the totals of a legal run
-abbrev pub totals_text : Sample → List ℕ → List ℕ
-totals_text Buffer t = pair_line (codes "put") (slice_index t 0) (slice_index t 1)
+-- the lines that tell the totals of a legal run, and of a hasty one how many acts were refused
+abbrev pub totals_text : Sample → List ℕ → ℕ → List ℕ
+totals_text Buffer t missed = pair_line (codes "put") (slice_index t 0) (slice_index t 1)
     ++ pair_line (codes "taken") (slice_index t 2) (slice_index t 3) ++ codes "legal\n"
-totals_text Book t = pair_line (codes "reads") (slice_index t 0) (slice_index t 1)
+totals_text Book t missed = pair_line (codes "reads") (slice_index t 0) (slice_index t 1)
     ++ pair_line (codes "writes") (slice_index t 2) (slice_index t 3) ++ codes "legal\n"
-totals_text Shop t =
+totals_text Shop t missed =
     count_line (codes "sat") (slice_index t 0) ++ count_line (codes "called") (slice_index t 1)
     ++ count_line (codes "finished") (slice_index t 2) ++ count_line (codes "departed") (slice_index t 3) ++ codes "legal\n"
+totals_text Hasty t missed = pair_line (codes "put") (slice_index t 0) (slice_index t 1)
+    ++ pair_line (codes "taken") (slice_index t 2) (slice_index t 3) ++ count_line (codes "missed") missed ++ codes "legal\n"
 
 -- the gate of the program's runs has let every seat into every round
 abbrev pub lets_in : ℕ → ℕ → Bool → Type 0
@@ -43,7 +45,7 @@ pub record IsTold (k : KindName) (sample : Sample) (seats rounds : ℕ) (Puts : 
   pub totals : List ℕ
   pub outcome : IsOutcome k sample seats heading history totals
   pub totals_are : HasTotals sample seats rounds totals
-  pub told : Puts (totals_text sample totals)
+  pub told : Puts (totals_text sample totals (missed_in history))
 
 -- the line that tells how a run has ended that left nothing; of want of memory, and of a thread that was not started,
 -- none is told, since the stream itself fails

@@ -17,7 +17,7 @@ use Rattle.monk_logs.specs.declared.waits_for.WaitsFor.{WaitsFor}
 use Rattle.monk_object.specs.Names.{object_word}
 use Rattle.monk_samples.specs.Samples.{IsInRange, sample_object}
 use Rattle.monk_samples.specs.declared.sample.Sample.{Sample}
-use Rattle.monk_samples.specs.declared.sample.Sample.TheVariants.{Buffer, Book, Shop}
+use Rattle.monk_samples.specs.declared.sample.Sample.TheVariants.{Buffer, Book, Shop, Hasty}
 use Rattle.monk_commands.specs.declared.request.Line.{Line}
 use Rattle.monk_commands.specs.declared.request.Line.TheVariants.{Classify, Audit, Play, Upgrade, Fit, Trace, Explain, Draw, Complete}
 use Rattle.monk_commands.specs.declared.request.Line.TheVariants.{Run, Record}
@@ -47,12 +47,15 @@ pub record KindNames : Type 0 where
   pub kinds : NameList
   pub all_kinds : words_in kinds ≡ map kind_word monitor_kinds
 
--- a sample is called as its object is
+-- a sample is called as its object is, but for the hasty one
 abbrev pub sample_word : Sample → Text
-sample_word s = object_word (sample_object s)
+sample_word Buffer = object_word (sample_object Buffer)
+sample_word Book = object_word (sample_object Book)
+sample_word Shop = object_word (sample_object Shop)
+sample_word Hasty = codes "hasty"
 
 abbrev pub every_sample : List Sample
-every_sample = Buffer ∷ Book ∷ Shop ∷ []
+every_sample = Buffer ∷ Book ∷ Shop ∷ Hasty ∷ []
 
 -- lists that have exactly the names of the kinds and of the samples
 pub record RunNames : Type 0 where

@@ -1,12 +1,12 @@
 //! The stream of a run: a sample at work in threads, an audit of what it left, and its totals.
 
-ghost use Rattle.std.specs.Prelude.{◌≡◌, ◌≢◌, ◌⊎◌, ◌↔◌, false, true, IfErr, IfOk, IsErrOf, Some, string_bytes};
+ghost use Rattle.std.specs.Prelude.{◌≡◌, ◌≢◌, ◌⊎◌, ◌↔◌, ℕ, false, true, IfErr, IfOk, IsErrOf, Some, string_bytes};
 ghost use Rattle.std.specs.Io.KnownBytes.{Appends};
 ghost use Rattle.monk_history.specs.Text.Device.{inner_of, has_failed};
 ghost use Rattle.monk_kinds.specs.Names.{rules_named};
 ghost use Rattle.monk_samples.specs.Runs.{HasLeft, IsFaultOfRun};
 ghost use Rattle.monk_samples.specs.Samples.{IsInRange, IsOutcome};
-ghost use Rattle.monk_samples.specs.Totals.{HasTotals};
+ghost use Rattle.monk_samples.specs.Totals.{HasTotals, missed_in};
 ghost use Rattle.monk_samples.specs.declared.sample.Sample.TheVariants as Sample;
 ghost use Rattle.monk_commands.specs.Ran.{IsRunAnswer, end_word, lets_in, totals_text};
 
@@ -35,6 +35,7 @@ pub(crate) fn run_named<R: Threads + Wait + Sync>(
     ensures in_range { IsErrOf result RunFault.Range → ⊥ }
     ensures served { IfOk result (λ o. HasLeft (rules_named kind) lets_in sample seats rounds o.history.items) }
     ensures totals { IfOk result (λ o. HasTotals sample seats rounds o.totals) }
+    ensures missed { IfOk result (λ o. o.missed ≡ missed_in o.history.items) }
     ensures fault { IfErr result (IsFaultOfRun (rules_named kind) lets_in sample seats rounds) }
 {
     let gate = OpenGate;
@@ -56,11 +57,12 @@ pub(crate) fn run_named<R: Threads + Wait + Sync>(
 fn audited(alloc: Global, sample: Sample, outcome: &Outcome) -> Result<Answer, StreamFault>
     requires { IsOutcome outcome.now.header.kind sample outcome.now.header.seats outcome.now.header
         outcome.now.history.items outcome.now.totals }
-    ensures answer { IfOk result (λ a. (a.status ≡ 0) × (string_bytes a.text ≡ totals_text sample outcome.now.totals)) }
+    ensures answer { IfOk result (λ a. (a.status ≡ 0)
+        × (string_bytes a.text ≡ totals_text sample outcome.now.totals outcome.now.missed)) }
     ensures no_file { IsErrOf result StreamFault.File → ⊥ }
 {
     match audit(alloc, &outcome.header, &outcome.history) {
-        Ok(Verdict::Legal(_)) => told(alloc, sample, &outcome.totals),
+        Ok(Verdict::Legal(_)) => told(alloc, sample, &outcome.totals, outcome.missed),
         Ok(Verdict::Forbidden { step, reason }) => {
             verdict_answer(alloc, Verdict::Forbidden { step, reason })
         }
@@ -71,39 +73,52 @@ fn audited(alloc: Global, sample: Sample, outcome: &Outcome) -> Result<Answer, S
 }
 
 /// The totals of a legal run.
-fn told(alloc: Global, sample: Sample, totals: &[u64; 4]) -> Result<Answer, StreamFault>
-    ensures answer { IfOk result (λ a. (a.status ≡ 0) × (string_bytes a.text ≡ totals_text sample totals.now)) }
+fn told(
+    alloc: Global,
+    sample: Sample,
+    totals: &[u64; 4],
+    missed: u64,
+) -> Result<Answer, StreamFault>
+    ensures answer { IfOk result (λ a. (a.status ≡ 0) × (string_bytes a.text ≡ totals_text sample totals.now missed)) }
     ensures no_file { IsErrOf result StreamFault.File → ⊥ }
 {
     let text = match sample {
         Sample::Buffer => of_buffer(alloc, totals)?,
         Sample::Book => of_book(alloc, totals)?,
         Sample::Shop => of_shop(alloc, totals)?,
+        Sample::Hasty => of_hasty(alloc, totals, missed)?,
     };
     Ok(Answer { status: 0, text })
 }
 
 fn of_buffer(alloc: Global, totals: &[u64; 4]) -> Result<String, AllocError>
-    ensures { IfOk result (λ text. string_bytes text ≡ totals_text Sample.Buffer totals.now) }
+    ensures { IfOk result (λ text. (missed : ℕ) → string_bytes text ≡ totals_text Sample.Buffer totals.now missed) }
 {
     let [puts, put, takes, taken] = *totals;
     format!(in alloc; "put {puts} {put}\ntaken {takes} {taken}\nlegal\n")
 }
 
 fn of_book(alloc: Global, totals: &[u64; 4]) -> Result<String, AllocError>
-    ensures { IfOk result (λ text. string_bytes text ≡ totals_text Sample.Book totals.now) }
+    ensures { IfOk result (λ text. (missed : ℕ) → string_bytes text ≡ totals_text Sample.Book totals.now missed) }
 {
     let [read, ended, written, finished] = *totals;
     format!(in alloc; "reads {read} {ended}\nwrites {written} {finished}\nlegal\n")
 }
 
 fn of_shop(alloc: Global, totals: &[u64; 4]) -> Result<String, AllocError>
-    ensures { IfOk result (λ text. string_bytes text ≡ totals_text Sample.Shop totals.now) }
+    ensures { IfOk result (λ text. (missed : ℕ) → string_bytes text ≡ totals_text Sample.Shop totals.now missed) }
 {
     let [sat, called, finished, departed] = *totals;
     format!(in alloc;
         "sat {sat}\ncalled {called}\nfinished {finished}\ndeparted {departed}\nlegal\n"
     )
+}
+
+fn of_hasty(alloc: Global, totals: &[u64; 4], missed: u64) -> Result<String, AllocError>
+    ensures { IfOk result (λ text. string_bytes text ≡ totals_text Sample.Hasty totals.now missed) }
+{
+    let [puts, sum_put, takes, sum_taken] = *totals;
+    format!(in alloc; "put {puts} {sum_put}\ntaken {takes} {sum_taken}\nmissed {missed}\nlegal\n")
 }
 
 /// The answer to a run without an outcome, of which this is the end.
@@ -128,7 +143,8 @@ pub(crate) fn ended(alloc: Global, fault: RunFault) -> Result<Answer, StreamFaul
 /// writes its totals with status 0, once its history was audited and found legal.
 ///
 /// Of a buffer the totals are the lines `put N SUM` and `taken N SUM`, of a book `reads BEGUN ENDED` and
-/// `writes BEGUN ENDED`, of a shop `sat N`, `called N`, `finished N` and `departed N`; the line `legal` ends them. Where
+/// `writes BEGUN ENDED`, of a shop `sat N`, `called N`, `finished N` and `departed N`, and of a hasty buffer those of a buffer
+/// and `missed N`, how many acts were refused; the line `legal` ends them. Where
 /// [`run`] ends as `Tired`, `Late` or `Busy`, the line `tired`, `late` or `busy` is written with status 1.
 ///
 /// # Errors

@@ -2,15 +2,14 @@
 
 ghost use Rattle.std.specs.Prelude.{◌≡◌, IfOk, IfSome, Some, codes, false, if◌then◌else◌, map, option_map, string_bytes};
 ghost use Rattle.monk_kinds.specs.Names.{kind_word};
-ghost use Rattle.monk_object.specs.Names.{object_word};
 ghost use Rattle.clap.specs.Words.{App, all_of, app_of, first_of, first_value, found_of, rows_of, rule_of, subcommand_of};
 ghost use Rattle.clap.specs.Words.{subcommand_rows_of, with_subcommand};
 ghost use Rattle.monk_logs.specs.declared.lapses.Lapses.{Lapses};
-ghost use Rattle.monk_samples.specs.Samples.{IsInRange, sample_object};
+ghost use Rattle.monk_samples.specs.Samples.{IsInRange};
 ghost use Rattle.monk_commands.specs.Request.{AreLapses, AreMeanings, AreRunValues, IsAsked, IsCompleteCommand, IsInDigits};
 ghost use Rattle.monk_commands.specs.Request.{IsMeaning, IsMonk, IsRead, IsRunCommand, IsSubcommand, words_or_none};
 ghost use Rattle.monk_commands.specs.Request.{bare_app, classify_app, file_app, fit_app, flag_rule, plain_app};
-ghost use Rattle.monk_commands.specs.Request.{repeated_rule, required_rule};
+ghost use Rattle.monk_commands.specs.Request.{repeated_rule, required_rule, sample_word};
 
 use crate::help::{
     AUDIT, CLASSIFY, COMPLETE, DRAW, EXPLAIN, FIT, Help, LAPSES, MEANS, PLAY, PRIORITY, RECORD,
@@ -30,7 +29,7 @@ static KINDS: [&str; 10] = [
     "PB", "NPB", "PNB", "NPNB", "PQB", "NPQB", "PIR", "NPIR", "PIS", "NPIS",
 ];
 
-static SAMPLES: [&str; 3] = ["buffer", "book", "shop"];
+static SAMPLES: [&str; 4] = ["buffer", "book", "shop", "hasty"];
 
 const VERSION: &str = "1.0.0";
 
@@ -223,8 +222,11 @@ fn kind_of(matches: &ArgMatches<'_>) -> Option<KindName>
 }
 
 fn sample_of(name: &str) -> Option<Sample>
-    ensures { IfSome result (λ sample. name.now ≡ object_word (sample_object sample)) }
+    ensures { IfSome result (λ sample. name.now ≡ sample_word sample) }
 {
+    if name == "hasty" {
+        return Some(Sample::Hasty);
+    }
     match ObjectName::of_text(name.as_bytes())? {
         ObjectName::Buffer => Some(Sample::Buffer),
         ObjectName::Book => Some(Sample::Book),

@@ -1,13 +1,13 @@
 -- What a hasty visit comes to, try by try
-use Rattle.std.proofs.Common.{◌≡◌, ℕ, suc, ◌+◌, ◌<◌, ◌≤◌, Option, List, [], ◌∷◌, ◌++◌, append_assoc, length, length-append}
-use Rattle.std.proofs.Common.{refl, sym, ap, subst, ◌∙◌, arith}
+use Rattle.std.proofs.Common.{◌≡◌, ℕ, suc, Option, [], ◌∷◌, ◌++◌, append_assoc}
+use Rattle.std.proofs.Common.{refl, sym, ap, subst, ◌∙◌}
 use Rattle.monk_kinds.specs.declared.mode.Rules.{Rules}
 use Rattle.monk_object.specs.Object.{Object}
 use Rattle.monk_history.specs.declared.event.Event.TheVariants.{Leave}
 use Rattle.monk_history.specs.declared.event.Next.TheVariants.{Stay}
 use Rattle.monk_hall.specs.Tokens.{Token, Holder}
 use Rattle.monk_samples.specs.Asked.{IsCall}
-use Rattle.monk_samples.specs.Trails.{Addition, Trail, HasCalled, calls_in, events_in, inside, outside}
+use Rattle.monk_samples.specs.Trails.{Addition, Trail, HasCalled, inside, outside}
 use Rattle.monk_samples.specs.Visits.{Guard, Plan, HasActed, HasMissed, HasPausedUntil, HasTired, IsLeftWaiting, IsMiss, wish_in}
 use Rattle.monk_samples.proofs.TrailLaws.{called_then}
 
@@ -67,21 +67,3 @@ module _ (k : Rules) (o : Object) where
         called = called_then (outside p) (outside m) (outside q) s.calls t.calls s.called t.called;
         are = record { first = s.calls; rest = t.calls; are = refl; is_first = s.are; is_rest = rw (seat, setting) at miss };
       }
-
-  -- a seat that has missed has one event more at least
-  some_own : (own calls pauses : List Addition) (d : Addition) (ds : List Addition) → calls_in own ≡ calls → calls ≡ pauses ++ d ∷ ds
-      → 1 ≤ length (events_in own)
-  some_own [] calls pauses d ds called are = absurd (none pauses (called ∙ are))
-    where
-      none : (xs : List Addition) → [] ≡ xs ++ d ∷ ds → ⊥
-      none [] e = absurd cc
-      none (x ∷ xs) e = absurd cc
-  some_own (x ∷ own) calls pauses d ds called are = omega arith
-
-  pub has_grown : (p q : Token) (v : Plan) → HasMissed k o p v 1 q → length p.me.mine < length q.me.mine
-  has_grown p q v t =
-      let last = t.are in let miss = last.is_rest in
-      let same = last.are ∙ ap (λ ds. ds ++ last.rest) last.is_first ∙ miss.are in
-      let more = some_own t.called.own t.calls miss.pauses miss.act (miss.leave ∷ []) t.called.called same in
-      let all = ap length t.called.went.mine ∙ length-append p.me.mine (events_in t.called.own) in
-      omega (arith, more, all)

@@ -27,7 +27,8 @@ use Rattle.monk_samples.specs.declared.sample.Sample.{Sample}
 use Rattle.monk_samples.specs.declared.sample.Sample.TheVariants.{Buffer, Book, Shop}
 use Rattle.monk_samples.proofs.DoneLaws.{worth, sum_to}
 use Rattle.monk_samples.proofs.SeatSums.{over, first_half, second_half, first_items, calls_all, visits_all, sum_is}
-use Rattle.monk_samples.proofs.ShareLaws.{once, item, rounds_by, puts_of, takes_of, items_of, reads_of, writes_of, calls_of, sits_of, departs_of}
+use Rattle.monk_samples.proofs.ShareLaws.{once, item, rounds_by, puts_of, takes_of, items_of, reads_of, writes_of}
+use Rattle.monk_samples.proofs.ShareLaws.{calls_of, sits_of, departs_of}
 use Rattle.monk_samples.proofs.WholeLaws.{shares}
 
 -- the items put weigh what the puts that got done weigh by their items

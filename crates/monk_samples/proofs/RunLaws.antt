@@ -29,7 +29,8 @@ use Rattle.monk_hall.specs.Closing.{IsEnded}
 use Rattle.monk_hall.specs.Layout.{floor_of}
 use Rattle.monk_hall.specs.Rule.{setting_of}
 use Rattle.monk_samples.specs.Crews.{IsReady, AreReady, IsClosed}
-use Rattle.monk_samples.specs.Samples.{sample_object, size, conds_of, budget_of, run_heading, KeepsLaw, IsHistoryOf, IsOfFirstVersion}
+use Rattle.monk_samples.specs.Samples.{sample_object, size, hasty_size, size_of, conds_of, budget_of, run_heading}
+use Rattle.monk_samples.specs.Samples.{KeepsLaw, IsHistoryOf, IsOfFirstVersion}
 use Rattle.monk_samples.specs.Samples.{IsOutcome}
 use Rattle.monk_samples.specs.Totals.{HasTotals, totals_of}
 use Rattle.monk_samples.specs.declared.sample.Sample.{Sample}
@@ -106,15 +107,15 @@ first_words name sample seats header h lent answer told is same holds =
     subst IsOfFirstVersion same (sym (told ∙ ap (λ (x : Heading). is_writable x lent) is) ∙ holds)
 
 pub law_of : (k : Rules) (sample : Sample) (seats : ℕ) (h : List Event) → let m =
-    monitor k seats (conds_of k) (meaning_named (sample_object sample)) (opening_named (sample_object sample) size) in
+    monitor k seats (conds_of k) (meaning_named (sample_object sample)) (opening_named (sample_object sample) (size_of sample)) in
     IsLegal m h → KeepsLaw sample (data_of m h) h
 law_of k Buffer seats h legal = in_order k seats (conds_of k) size h legal
 law_of k Book seats h legal = excludes k seats (conds_of k) size h legal
 law_of k Shop seats h legal = serves_each k seats (conds_of k) size h legal
-law_of k Hasty seats h legal = in_order k seats (conds_of k) size h legal
+law_of k Hasty seats h legal = in_order k seats (conds_of k) hasty_size h legal
 
 pub history_of : (k : Rules) (sample : Sample) (seats rounds : ℕ) (c : Setting) (h : List Event)
-    → c ≡ setting_of (opening_named (sample_object sample) size) seats (conds_of k) (budget_of seats rounds)
+    → c ≡ setting_of (opening_named (sample_object sample) (size_of sample)) seats (conds_of k) (budget_of seats rounds)
     → IsClosed k (meaning_named (sample_object sample)) c h
     → ((state : List ℕ) → KeepsLaw sample state h → HasTotals sample seats rounds (totals_of sample h))
     → IsHistoryOf k sample seats rounds h
@@ -128,7 +129,7 @@ pub outcome_of : (k : Rules) (name : KindName) (sample : Sample) (seats rounds :
     → IsOutcome name sample seats h history totals
 outcome_of k name sample seats rounds h history totals near short named of header same =
     let m : Rules → Monitor = λ r. monitor r seats (conds_of r) (meaning_named (sample_object sample))
-    (opening_named (sample_object sample) size) in
+    (opening_named (sample_object sample) (size_of sample)) in
     let legal = subst (λ (r : Rules). IsLegal (m r) history) named of.legal in
     record {
       header = header;
@@ -144,7 +145,7 @@ outcome_of k name sample seats rounds h history totals near short named of heade
 pub law_here : (k : Rules) (sample : Sample) (seats rounds : ℕ) (h lent : List Event) → lent ≡ h
     → IsHistoryOf k sample seats rounds h → (state : List ℕ) × KeepsLaw sample state lent
 law_here k sample seats rounds h lent e of =
-    let m = monitor k seats (conds_of k) (meaning_named (sample_object sample)) (opening_named (sample_object sample) size) in
+    let m = monitor k seats (conds_of k) (meaning_named (sample_object sample)) (opening_named (sample_object sample) (size_of sample)) in
     (data_of m h, subst (λ (x : List Event). KeepsLaw sample (data_of m h) x) (sym e) (law_of k sample seats h of.legal))
 
 pub if_ok : {A E : Type 0} (r : Result A E) (P Q : A → Type 0) → ((a : A) → P a → Q a) → IfOk r P → IfOk r Q

@@ -5,7 +5,8 @@ use Rattle.monk_kinds.specs.declared.mode.Rules.{Rules}
 use Rattle.monk_object.specs.Object.{Object}
 use Rattle.monk_hall.specs.Tokens.{Token}
 use Rattle.monk_hall.specs.declared.setting.Setting.{Setting}
-use Rattle.monk_samples.specs.Members.{puts, takes, puts_hastily, takes_hastily, begins_to_read, ends_to_read, begins_to_write, ends_to_write}
+use Rattle.monk_samples.specs.Members.{puts, takes, puts_hastily, takes_hastily}
+use Rattle.monk_samples.specs.Members.{begins_to_read, ends_to_read, begins_to_write, ends_to_write}
 use Rattle.monk_samples.specs.Members.{sits, departs, calls, finishes}
 use Rattle.monk_samples.specs.Trails.{Addition, HasCalled, outside}
 use Rattle.monk_samples.specs.Visits.{Plan, AreVisits, HasVisited}

@@ -9,7 +9,7 @@ use Rattle.monk_hall.specs.Rule.{setting_of}
 use Rattle.monk_hall.specs.Tokens.{House, Token, tokens}
 use Rattle.monk_hall.specs.declared.setting.Setting.{Setting}
 use Rattle.monk_samples.specs.Ends.{HaveServed, HasEndedFirst}
-use Rattle.monk_samples.specs.Samples.{sample_object, size, conds_of, budget_of}
+use Rattle.monk_samples.specs.Samples.{sample_object, size_of, conds_of, budget_of}
 use Rattle.monk_samples.specs.Styles.{IsSpent}
 use Rattle.monk_samples.specs.Wholes.{IsLeftBy}
 use Rattle.monk_samples.specs.declared.end.End.{End}
@@ -21,7 +21,7 @@ use Rattle.monk_samples.specs.declared.sample.Sample.{Sample}
 -- how the hall of a run is made
 abbrev pub run_setting : Rules → Sample → ℕ → ℕ → Setting
 run_setting k sample seats rounds =
-    setting_of (opening_named (sample_object sample) size) seats (conds_of k) (budget_of seats rounds)
+    setting_of (opening_named (sample_object sample) (size_of sample)) seats (conds_of k) (budget_of seats rounds)
 
 -- the hall of a run, and the passes that it gave out, one for each seat in order
 abbrev pub run_house : Rules → Sample → ℕ → ℕ → TableId → House

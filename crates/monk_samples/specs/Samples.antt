@@ -10,7 +10,7 @@ use Rattle.monk_object.specs.declared.name.ObjectName.TheVariants as object
 use Rattle.monk_history.specs.Meaning.Acts.{IsInOrder, ExcludesEachOther, ServesEachOne, acts_in}
 use Rattle.monk_history.specs.Meaning.Events.{has_conditions}
 use Rattle.monk_history.specs.Meaning.Legal.{IsLegal}
-use Rattle.monk_history.specs.Meaning.Monitor.{monitor, data_of}
+use Rattle.monk_history.specs.Meaning.Monitor.{Monitor, monitor, data_of}
 use Rattle.monk_history.specs.Meaning.Named.{named_monitor}
 use Rattle.monk_history.specs.Text.{Heading, first_version, heading, is_writable}
 use Rattle.monk_history.specs.declared.event.Event.{Event}
@@ -28,9 +28,18 @@ sample_object Hasty = object.Buffer
 abbrev pub IsOverBuffer : Sample → Type 0
 IsOverBuffer s = (s ≡ Buffer) ⊎ (s ≡ Hasty)
 
--- the size of each sample's object
+-- the size of a sample's object, and of the hasty one's: with one place its seats wait for each other most often
 abbrev pub size : ℕ
 size = 4
+
+abbrev pub hasty_size : ℕ
+hasty_size = 1
+
+abbrev pub size_of : Sample → ℕ
+size_of Buffer = size
+size_of Book = size
+size_of Shop = size
+size_of Hasty = hasty_size
 
 -- how many conditions a run has
 abbrev pub conds_of : Rules → ℕ
@@ -44,7 +53,7 @@ abbrev pub IsInRange : ℕ → ℕ → Type 0
 IsInRange seats rounds = (2 ≤ seats) × (seats ≤ 16) × (1 ≤ rounds) × (rounds ≤ 1000)
 
 abbrev pub run_heading : KindName → Sample → ℕ → Heading
-run_heading k sample seats = heading 1 k seats (conds_of (rules_named k)) (sample_object sample) size
+run_heading k sample seats = heading 1 k seats (conds_of (rules_named k)) (sample_object sample) (size_of sample)
 
 -- each event has a line in the first version of a text
 abbrev pub IsOfFirstVersion : List Event → Type 0
@@ -55,12 +64,17 @@ abbrev pub KeepsLaw : Sample → List ℕ → List Event → Type 0
 KeepsLaw Buffer state h = IsInOrder size state (acts_in h)
 KeepsLaw Book state h = ExcludesEachOther size state (acts_in h)
 KeepsLaw Shop state h = ServesEachOne size state (acts_in h)
-KeepsLaw Hasty state h = IsInOrder size state (acts_in h)
+KeepsLaw Hasty state h = IsInOrder hasty_size state (acts_in h)
+
+-- the monitor of a run
+abbrev pub run_monitor : Rules → Sample → ℕ → Monitor
+run_monitor k sample seats = monitor k seats (conds_of k) (meaning_named (sample_object sample))
+    (opening_named (sample_object sample) (size_of sample))
 
 -- the history of a run: legal, within the budgets of all seats, with events of the first version alone, and with the
 -- totals of its seats and rounds
 pub record IsHistoryOf (k : Rules) (sample : Sample) (seats rounds : ℕ) (h : List Event) : Type 0 where
-  pub legal : IsLegal (monitor k seats (conds_of k) (meaning_named (sample_object sample)) (opening_named (sample_object sample) size)) h
+  pub legal : IsLegal (run_monitor k sample seats) h
   pub few : length h ≤ seats * budget_of seats rounds
   pub early : IsOfFirstVersion h
   pub totals : HasTotals sample seats rounds (totals_of sample h)

@@ -4,7 +4,7 @@ ghost use Rattle.std.specs.Prelude.{◌≡◌, ◌+◌, ◌<◌, ◌≤◌, [], 
 ghost use Rattle.monk_samples.specs.Styles.{Offers};
 ghost use Rattle.monk_samples.specs.Trails.{inside, outside};
 ghost use Rattle.monk_samples.specs.Visits.{HasActed, HasMissed, HasPausedUntil, HasTried, HasVisited, IsTiredFor};
-ghost use Rattle.monk_samples.specs.Visits.{IsTiredWithin, Promises, always, hastily, hasty_guard};
+ghost use Rattle.monk_samples.specs.Visits.{IsTiredWithin, always, hastily, hasty_guard};
 
 use crate::end::End;
 use crate::style::Style;
@@ -14,6 +14,9 @@ use monk_kinds::Pick;
 use monk_object::{Guarded, Op};
 use std::sync::Wait;
 use std::thread;
+
+/// How often a hasty seat lets other threads run before it goes out.
+const TURNS_INSIDE: u8 = 4;
 
 /// Pauses once, where the predicate is false.
 fn pause_once<K: Style, T: Guarded, R: Wait>(
@@ -64,6 +67,13 @@ fn act_in_haste<K: Style, T: Guarded, R: Wait>(
     }
 }
 
+/// Lets other threads run, so that callers come to the entry while the seat is inside.
+fn let_callers_come() {
+    for _ in 0..TURNS_INSIDE {
+        thread::yield_now();
+    }
+}
+
 /// Tries a visit once. Gives the pass alone where the operation was refused; then it has left without a signal.
 fn try_once<K: Style, T: Guarded, R: Wait>(
     pass: Pass<K, T>,
@@ -88,6 +98,7 @@ fn try_once<K: Style, T: Guarded, R: Wait>(
         Ok(acted) => acted,
         Err(pass) => return Ok((pass, End::Tired)),
     };
+    let_callers_come();
     if reply == 0 {
         return Err(active.leave(hall, Pick::Entry));
     }
@@ -118,6 +129,5 @@ pub(crate) fn act_and_finish_in_haste<K: Style, T: Guarded, R: Wait>(
             Ok(done) => return done,
             Err(back) => pass = back,
         }
-        thread::yield_now();
     }
 }

@@ -8,7 +8,7 @@ ghost use Rattle.monk_hall.specs.Tokens.{tokens};
 ghost use Rattle.monk_samples.specs.Crews.{AreReady, IsOf, IsClosed};
 ghost use Rattle.monk_samples.specs.Faults.{run_fault_of};
 ghost use Rattle.monk_samples.specs.Runs.{HasLeft, IsFaultOfRun, IsFirstSpent};
-ghost use Rattle.monk_samples.specs.Samples.{IsHistoryOf, IsInRange, IsOutcome, budget_of, conds_of, run_heading};
+ghost use Rattle.monk_samples.specs.Samples.{IsHistoryOf, IsInRange, IsOutcome, budget_of, conds_of, run_heading, size_of};
 ghost use Rattle.monk_samples.specs.Totals.{HasEnded, HasTotals, missed_in};
 ghost use Rattle.monk_samples.specs.Wholes.{AreSame, HoldsOperationsOf, IsLeftBy};
 ghost use Rattle.monk_samples.specs.declared.crew_fault.CrewFault.TheVariants as crew;
@@ -32,8 +32,11 @@ use std::alloc::Global;
 use std::sync::Wait;
 use std::thread::Threads;
 
-/// The size of each sample's object.
+/// The size of a sample's object.
 const SIZE: u8 = 4;
+
+/// That of the hasty sample's: with one place its seats wait for each other most often.
+const HASTY_SIZE: u8 = 1;
 
 /// Runs a sample under the kind K with 2 to 16 seats, each at work for 1 to 1000 rounds in a thread of its own, and reads
 /// the totals from its history.
@@ -128,7 +131,7 @@ fn run_hasty<K: Style, R: Threads + Wait + Sync, G: Gate>(
     ensures fault { IfErr result (λ e. IsFaultOfRun K.rules (G.answers gate.now) sample.Hasty rota.seats rota.rounds
         (run_fault_of e)) }
 {
-    let buffer = match Buffer::make(alloc, SIZE) {
+    let buffer = match Buffer::make(alloc, HASTY_SIZE) {
         Ok(buffer) => buffer,
         Err(ObjectFault::Memory) => return Err(CrewFault::Memory),
         Err(ObjectFault::Size) => unreachable!(),
@@ -320,8 +323,19 @@ fn header_of<K: Kind>(rota: Rota) -> Header
     ensures { result ≡ run_heading K.NAME rota.sample rota.seats }
 {
     let object = rota.sample.object();
-    match Header::new(K::NAME, rota.seats, conds_of::<K>(), object, SIZE) {
+    let size = size_of(rota.sample);
+    match Header::new(K::NAME, rota.seats, conds_of::<K>(), object, size) {
         Some(header) => header,
         None => unreachable!(),
+    }
+}
+
+/// The size of the sample's object.
+fn size_of(sample: Sample) -> u8
+    ensures { result ≡ size_of sample }
+{
+    match sample {
+        Sample::Hasty => HASTY_SIZE,
+        _ => SIZE,
     }
 }

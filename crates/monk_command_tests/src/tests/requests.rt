@@ -93,6 +93,10 @@ static ASKING: [(&[&str], &str); 41] = [
         "Run(Pir, Shop, 16, 1000)",
     ),
     (
+        &["monk", "run", "NPNB", "hasty", "4", "200"],
+        "Run(Npnb, Hasty, 4, 200)",
+    ),
+    (
         &["monk", "run", "NPQB", "buffer", "8", "100"],
         "Run(Npqb, Buffer, 8, 100)",
     ),

@@ -26,6 +26,12 @@ use std::sync::Wait;
 use std::thread;
 use std::thread::{Scope, Threads};
 
+/// A prime: rounds of one seat go through its remainders in another order than those of the next.
+const STRIDE: u32 = 251;
+
+/// A hasty seat lets others run fewer times than this before a visit.
+const MOST_TURNS: u32 = 11;
+
 /// Half of the seats put the items 1 to `rounds`, and as many take as often, in haste or not. Gives their passes back, in order.
 pub(crate) fn work_buffer<K: Style, R: Threads + Wait + Sync, G: Gate>(
     rt: &R,
@@ -171,6 +177,9 @@ fn do_round<K: Style, R: Wait>(
         (round_of rota.sample K.rules pass.me.setting rota.seats pass.me.seat round) result.0 result.1 }
 {
     let puts = pass.seat() < rota.seats / 2;
+    if rota.sample == Sample::Hasty {
+        let_others_run(pass.seat(), round);
+    }
     match rota.sample {
         Sample::Hasty if puts => put_hastily(pass, rt, hall, round),
         Sample::Hasty => take_hastily(pass, rt, hall),
@@ -179,5 +188,14 @@ fn do_round<K: Style, R: Wait>(
             let (pass, _, end) = take(pass, rt, hall);
             (pass, end)
         }
+    }
+}
+
+/// Lets other threads run, for a while that differs from seat to seat and from round to round. So the seats of a hasty run
+/// don't fall into step, and meet in many orders.
+fn let_others_run(seat: u8, round: u32) {
+    let turns = (round % STRIDE * (u32::from(seat) + 1)) % STRIDE % MOST_TURNS;
+    for _ in 0..turns {
+        thread::yield_now();
     }
 }

@@ -13,7 +13,8 @@ returns-then-waits g c =
     let q = c.wake_all_and_leave.result.0 in let end = c.wake_all_and_leave.result.1 in
     let waits : has_waiting k CAN_READ a.floor.history ≡ true = sym c.waits.ensures ∙ c.if-waits.true in
     visited_out k book_meaning c.args.pass (ends_to_write_for_all k) _ a q end c.in-Ok.ensures tt
-    (subst (λ (b : Bool). HasGoneOut k book_meaning Waiter a (calls_out k a.me.seat (cond b (SignalsAll CAN_READ) (Signals CAN_WRITE))) q end)
+    (subst (λ (b : Bool). HasGoneOut k book_meaning Waiter a
+    (calls_out k a.me.seat (cond b (SignalsAll CAN_READ) (Signals CAN_WRITE))) q end)
     (sym waits) c.wake_all_and_leave.ensures)
 
 pub returns-else-waits : goal.returns-else-waits
@@ -22,7 +23,8 @@ returns-else-waits g c =
     let q = c.finish.result.0 in let end = c.finish.result.1 in
     let waits : has_waiting k CAN_READ a.floor.history ≡ false = sym c.waits.ensures ∙ c.if-waits.false in
     visited_out k book_meaning c.args.pass (ends_to_write_for_all k) _ a q end c.in-Ok.ensures tt
-    (subst (λ (b : Bool). HasGoneOut k book_meaning Waiter a (calls_out k a.me.seat (cond b (SignalsAll CAN_READ) (Signals CAN_WRITE))) q end)
+    (subst (λ (b : Bool). HasGoneOut k book_meaning Waiter a
+    (calls_out k a.me.seat (cond b (SignalsAll CAN_READ) (Signals CAN_WRITE))) q end)
     (sym waits) (finished k book_meaning Waiter a (way_out k a.me.seat CAN_WRITE) q end c.finish.ensures))
 
 pub returns-in-Err : goal.returns-in-Err

@@ -1,6 +1,6 @@
-use Rattle.std.proofs.Common.{ℕ, suc}
+use Rattle.std.proofs.Common.{suc}
 use Rattle.monk_samples.specs.Visits.{always, hastily}
-use Rattle.monk_samples.proofs.HasteLaws.{has_grown, missed_then}
+use Rattle.monk_samples.proofs.HasteLaws.{missed_then}
 use Rattle.monk_samples.proofs.VisitLaws.{none_missed, visited_by}
 use Rattle.monk_samples.proofs.haste.act_and_finish_in_haste.Goals as goal
 

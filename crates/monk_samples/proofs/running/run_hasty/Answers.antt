@@ -5,7 +5,7 @@ use Rattle.monk_hall.specs.Rule.{setting_of}
 use Rattle.monk_hall.specs.Tokens.{Token, tokens}
 use Rattle.monk_hall.specs.declared.setting.Setting.{Setting}
 use Rattle.monk_samples.specs.Ends.{HaveServed}
-use Rattle.monk_samples.specs.Samples.{conds_of, budget_of, size}
+use Rattle.monk_samples.specs.Samples.{conds_of, budget_of, hasty_size}
 use Rattle.monk_samples.specs.Visits.{Hasty as InHaste}
 use Rattle.monk_samples.specs.declared.sample.Sample.{Sample}
 use Rattle.monk_samples.specs.declared.sample.Sample.TheVariants.{Hasty}
@@ -60,7 +60,7 @@ returns-clause-history g c =
     if_both c.close_by.result _ _ _
     (λ v closed whole. history_of k Hasty c.args.rota.seats c.args.rota.rounds hall.setting v.items setting closed
     (λ state law. buffer_totals k (g.G.Gate.answers c.args.gate.now) c.args.rota.seats c.args.rota.rounds hall.id hall.setting
-    hall v.items c.in_ok-passes.passes.items whole Hasty InHaste (λ z s r. refl) (λ s. refl) all size state law))
+    hall v.items c.in_ok-passes.passes.items whole Hasty InHaste (λ z s r. refl) (λ s. refl) all hasty_size state law))
     c.close_by.ensures.closed c.close_by.ensures.whole
 
 pub returns-clause-served : goal.returns-clause-served

@@ -26,6 +26,17 @@ fn known_totals(rt: HostRuntime) -> Result<(), Fail> {
     assert!(rt; has_totals::<Pb, _>(&rt, Sample::Buffer, 4, 100, put_and_taken));
     assert!(rt; has_totals::<Pb, _>(&rt, Sample::Book, 4, 10, [20, 20, 20, 20]));
     assert!(rt; has_totals::<Pb, _>(&rt, Sample::Shop, 4, 10, [30, 30, 30, 30]));
+    assert!(rt; has_totals::<Pb, _>(&rt, Sample::Hasty, 4, 100, put_and_taken));
+    Ok(())
+}
+
+/// Under Hoare's kind an `if` suffices: a hasty seat finds what it waited for.
+#[test]
+fn no_hasty_seat_misses_under_hoares_kind(rt: HostRuntime) -> Result<(), Fail> {
+    match run::<Pb, _, OpenGate>(&rt, rt.alloc(), Sample::Hasty, 4, 50, &OpenGate) {
+        Ok(outcome) => assert!(rt; outcome.missed == 0),
+        Err(_) => assert!(rt; false),
+    }
     Ok(())
 }
 
@@ -65,7 +76,12 @@ impl Gate for FirstRound {
 
 #[test]
 fn second_round_is_late(rt: HostRuntime) -> Result<(), Fail> {
-    for sample in [Sample::Buffer, Sample::Book, Sample::Shop] {
+    for sample in [
+        Sample::Buffer,
+        Sample::Book,
+        Sample::Shop,
+        Sample::Hasty,
+    ] {
         let outcome = run::<Pb, _, FirstRound>(&rt, rt.alloc(), sample, 2, 2, &FirstRound);
         assert!(rt; matches!(outcome, Err(RunFault::Late)));
     }
