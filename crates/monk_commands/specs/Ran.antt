@@ -21,16 +21,28 @@ abbrev pub pair_line : List ℕ → ℕ → ℕ → List ℕ
 pair_line word n m = word ++ codes " " ++ decimal n ++ codes " " ++ decimal m ++ codes "\n"
 
 -- the lines that tell the totals of a legal run, and of a hasty one how many acts were refused
-abbrev pub totals_text : Sample → List ℕ → ℕ → List ℕ
-totals_text Buffer t missed = pair_line (codes "put") (slice_index t 0) (slice_index t 1)
+abbrev pub buffer_text : List ℕ → List ℕ
+buffer_text t = pair_line (codes "put") (slice_index t 0) (slice_index t 1)
     ++ pair_line (codes "taken") (slice_index t 2) (slice_index t 3) ++ codes "legal\n"
-totals_text Book t missed = pair_line (codes "reads") (slice_index t 0) (slice_index t 1)
+
+abbrev pub book_text : List ℕ → List ℕ
+book_text t = pair_line (codes "reads") (slice_index t 0) (slice_index t 1)
     ++ pair_line (codes "writes") (slice_index t 2) (slice_index t 3) ++ codes "legal\n"
-totals_text Shop t missed =
+
+abbrev pub shop_text : List ℕ → List ℕ
+shop_text t =
     count_line (codes "sat") (slice_index t 0) ++ count_line (codes "called") (slice_index t 1)
     ++ count_line (codes "finished") (slice_index t 2) ++ count_line (codes "departed") (slice_index t 3) ++ codes "legal\n"
-totals_text Hasty t missed = pair_line (codes "put") (slice_index t 0) (slice_index t 1)
+
+abbrev pub hasty_text : List ℕ → ℕ → List ℕ
+hasty_text t missed = pair_line (codes "put") (slice_index t 0) (slice_index t 1)
     ++ pair_line (codes "taken") (slice_index t 2) (slice_index t 3) ++ count_line (codes "missed") missed ++ codes "legal\n"
+
+abbrev pub totals_text : Sample → List ℕ → ℕ → List ℕ
+totals_text Buffer t missed = buffer_text t
+totals_text Book t missed = book_text t
+totals_text Shop t missed = shop_text t
+totals_text Hasty t missed = hasty_text t missed
 
 -- the gate of the program's runs has let every seat into every round
 abbrev pub lets_in : ℕ → ℕ → Bool → Type 0

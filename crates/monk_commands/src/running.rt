@@ -1,14 +1,14 @@
 //! The stream of a run: a sample at work in threads, an audit of what it left, and its totals.
 
-ghost use Rattle.std.specs.Prelude.{◌≡◌, ◌≢◌, ◌⊎◌, ◌↔◌, ℕ, false, true, IfErr, IfOk, IsErrOf, Some, string_bytes};
+ghost use Rattle.std.specs.Prelude.{◌≡◌, ◌≢◌, ◌⊎◌, ◌↔◌, false, true, IfErr, IfOk, IsErrOf, Some, string_bytes};
 ghost use Rattle.std.specs.Io.KnownBytes.{Appends};
 ghost use Rattle.monk_history.specs.Text.Device.{inner_of, has_failed};
 ghost use Rattle.monk_kinds.specs.Names.{rules_named};
 ghost use Rattle.monk_samples.specs.Runs.{HasLeft, IsFaultOfRun};
 ghost use Rattle.monk_samples.specs.Samples.{IsInRange, IsOutcome};
 ghost use Rattle.monk_samples.specs.Totals.{HasTotals, missed_in};
-ghost use Rattle.monk_samples.specs.declared.sample.Sample.TheVariants as Sample;
 ghost use Rattle.monk_commands.specs.Ran.{IsRunAnswer, end_word, lets_in, totals_text};
+ghost use Rattle.monk_commands.specs.Ran.{book_text, buffer_text, hasty_text, shop_text};
 
 use crate::answer::{Answer, put, verdict_answer};
 use crate::fault::StreamFault;
@@ -92,21 +92,21 @@ fn told(
 }
 
 fn of_buffer(alloc: Global, totals: &[u64; 4]) -> Result<String, AllocError>
-    ensures { IfOk result (λ text. (missed : ℕ) → string_bytes text ≡ totals_text Sample.Buffer totals.now missed) }
+    ensures { IfOk result (λ text. string_bytes text ≡ buffer_text totals.now) }
 {
     let [puts, put, takes, taken] = *totals;
     format!(in alloc; "put {puts} {put}\ntaken {takes} {taken}\nlegal\n")
 }
 
 fn of_book(alloc: Global, totals: &[u64; 4]) -> Result<String, AllocError>
-    ensures { IfOk result (λ text. (missed : ℕ) → string_bytes text ≡ totals_text Sample.Book totals.now missed) }
+    ensures { IfOk result (λ text. string_bytes text ≡ book_text totals.now) }
 {
     let [read, ended, written, finished] = *totals;
     format!(in alloc; "reads {read} {ended}\nwrites {written} {finished}\nlegal\n")
 }
 
 fn of_shop(alloc: Global, totals: &[u64; 4]) -> Result<String, AllocError>
-    ensures { IfOk result (λ text. (missed : ℕ) → string_bytes text ≡ totals_text Sample.Shop totals.now missed) }
+    ensures { IfOk result (λ text. string_bytes text ≡ shop_text totals.now) }
 {
     let [sat, called, finished, departed] = *totals;
     format!(in alloc;
@@ -115,7 +115,7 @@ fn of_shop(alloc: Global, totals: &[u64; 4]) -> Result<String, AllocError>
 }
 
 fn of_hasty(alloc: Global, totals: &[u64; 4], missed: u64) -> Result<String, AllocError>
-    ensures { IfOk result (λ text. string_bytes text ≡ totals_text Sample.Hasty totals.now missed) }
+    ensures { IfOk result (λ text. string_bytes text ≡ hasty_text totals.now missed) }
 {
     let [puts, sum_put, takes, sum_taken] = *totals;
     format!(in alloc; "put {puts} {sum_put}\ntaken {takes} {sum_taken}\nmissed {missed}\nlegal\n")

@@ -8,5 +8,5 @@ pub returns : goal.returns
 returns c =
     let n : ℕ → List ℕ = λ i. decimal (slice_index c.args.totals.now i) in
     IfOk-weaker c.format.result _ _
-    (λ text h missed. h ∙ four_counts (codes "sat") (codes "called") (codes "finished") (codes "departed") (n 0) (n 1)
+    (λ text h. h ∙ four_counts (codes "sat") (codes "called") (codes "finished") (codes "departed") (n 0) (n 1)
     (n 2) (n 3)) c.format.ensures.ok
