@@ -1,3 +1,4 @@
+pub mod Told
 pub mod Kept
 pub mod Known
 pub mod HandedOver
@@ -5,3 +6,4 @@ pub mod Halves
 pub mod Endings
 pub mod Fronts
 pub mod Found
+pub mod OnBoard

@@ -8,8 +8,8 @@ ghost use Rattle.monk_logs.specs.Stand.{verdict_on};
 ghost use Rattle.monk_logs.specs.Verdict.{FitsExactly, MisfitsExactly, log_monitor};
 
 use crate::completion::Completion;
-use crate::following::follow_log;
 use crate::header::LogHeader;
+use crate::legal_following::follow_log;
 use crate::line::LogLine;
 use crate::past::Past;
 use crate::verdict::LogVerdict;

@@ -14,17 +14,16 @@ use Rattle.monk_history.specs.declared.event.Next.{Next}
 use Rattle.monk_history.specs.declared.event.Next.TheVariants.{Stay}
 use Rattle.monk_history.specs.Meaning.Events.{named_seat, next_of, seat_of, signals_on, waits_on}
 use Rattle.monk_history.specs.Meaning.Legal.{IsLegal}
-use Rattle.monk_history.specs.Meaning.Monitor.{Monitor, monitor}
+use Rattle.monk_history.specs.Meaning.Monitor.{Monitor}
 use Rattle.monk_history.specs.Meaning.Reasons.{IsAllowed, fits_object, is_condition}
 use Rattle.monk_history.specs.Meaning.Release.{MayCall, with_next}
 use Rattle.monk_history.specs.Meaning.Situation.{Situation, situation}
 use Rattle.monk_history.proofs.PublicLaws.Meaning.{and_right, chosen_allowed, history_induction, legal-push, legal_last, legal_order}
 use Rattle.monk_logs.specs.Completion.{AreHandedOver, Completes, IsCompletedBy, other_half, unwished_next}
 use Rattle.monk_logs.specs.Course.{course}
-use Rattle.monk_logs.specs.Ending.{last_events, last_release}
+use Rattle.monk_logs.specs.Ending.{last_release}
 use Rattle.monk_logs.specs.Erasure.{erasure_of, erasure}
 use Rattle.monk_logs.specs.Kept.{kept_with}
-use Rattle.monk_logs.specs.Stand.{IsHeld}
 use Rattle.monk_logs.specs.declared.line.LogLine.{LogLine}
 use Rattle.monk_logs.specs.declared.line.LogLine.TheVariants.{Leave, Signal}
 use Rattle.monk_logs.specs.declared.pending.Pending.{Pending}
@@ -32,6 +31,7 @@ use Rattle.monk_logs.specs.declared.pending.Pending.TheVariants.{Settled, Half, 
 use Rattle.monk_logs.proofs.CompletionLaws.Halves.{event_whole, never, signal_half}
 use Rattle.monk_logs.proofs.CompletionLaws.HandedOver.{course_handed, handed-push, no_enter, release_is_no_enter}
 use Rattle.monk_logs.proofs.CompletionLaws.Known.{IsCourse, keeps_more}
+use Rattle.monk_logs.proofs.CompletionLaws.Told.{last_events}
 use Rattle.monk_logs.proofs.CourseLaws.Lists.{erasure-push}
 use Rattle.monk_logs.proofs.CourseLaws.Soundness.{IsStill, Tells, erased_with_next, release_right, tells_from}
 
@@ -207,30 +207,3 @@ course_fits m log t p b o codes predicates e c few fewer is =
     let fits = still_fits m c.known p e (tells_from m log (course c.known p) c.judged).still is in
     subst (λ (n : ℕ). fits_object codes n e ≡ true) fewer
     (subst (λ (n : ℕ). fits_object n m.object.predicates e ≡ true) few fits)
-
-still_held : (m : Monitor) (past : List Event) (p : Pending) → IsStill m past p → IsHeld m (situation m past) p
-still_held m past Settled still = tt
-still_held m past (Half s c) still = tt
-still_held m past (Release e) still = still
-
--- the opening state of the object has no part in what may be called
-held_apart : (k : Rules) (seats conds : ℕ) (o : Object) (d : List ℕ) (t : Situation) (p : Pending)
-    → IsHeld (monitor k seats conds o d) t p → IsHeld (monitor k seats conds o []) t p
-held_apart k seats conds o d t Settled held = tt
-held_apart k seats conds o d t (Half s c) held = tt
-held_apart k seats conds o d t (Release e) held = (
-  record {
-    in_range = held.0.in_range;
-    offered = held.0.offered;
-    in_turn = held.0.in_turn;
-    in_place = held.0.in_place;
-  },
-  held.1,
-)
-
-pub course_held : (k : Rules) (seats conds : ℕ) (x : Object) (d : List ℕ) (log : List LogLine) (t : Situation) (p : Pending)
-    (b : Bool) (o : Option (List Event)) → IsCourse (monitor k seats conds x d) log t p b o → IsHeld (monitor k seats conds x []) t p
-course_held k seats conds x d log t p b o c =
-    let m = monitor k seats conds x d in
-    held_apart k seats conds x d t p (subst (λ (u : Situation). IsHeld m u p) c.stands
-    (still_held m c.known p (tells_from m log (course c.known p) c.judged).still))

@@ -1,12 +1,10 @@
 -- The events that are known behind each line are those behind the line before it and those that the line tells
-use Rattle.std.proofs.Common.{◌≡◌, ℕ, ◌+◌, ◌<◌, Bool, true, false, cond, List, [], ◌∷◌, ◌++◌, length, get_or, take, Option, Some}
-use Rattle.std.proofs.Common.{None, refl, sym, ap, subst, ◌∙◌}
-use Rattle.std.proofs.lemmas.List.{append-nil, append_assoc, take_more}
+use Rattle.std.proofs.Common.{◌≡◌, ℕ, Bool, true, false, cond, List, [], ◌∷◌, ◌++◌, Option, Some}
+use Rattle.std.proofs.Common.{None, refl, sym, ap, ◌∙◌}
+use Rattle.std.proofs.lemmas.List.{append-nil, append_assoc}
 use Rattle.std.specs.Option.{option_map}
 use Rattle.std.specs.Prelude.{◌==◌, Ok, is_some}
 use Rattle.std.specs.Result.{result_ok}
-use Rattle.monk_kinds.specs.declared.mode.Rules.{Rules}
-use Rattle.monk_object.specs.Object.{Object}
 use Rattle.monk_history.specs.declared.event.Event.{Event}
 use Rattle.monk_history.specs.declared.event.Event.TheVariants as event
 use Rattle.monk_history.specs.declared.event.Next.TheVariants.{Stay}
@@ -14,7 +12,7 @@ use Rattle.monk_history.specs.declared.event.Via.{Via}
 use Rattle.monk_history.specs.declared.event.Via.TheVariants.{Free, Handed}
 use Rattle.monk_history.specs.Meaning.Events.{returns_at_once}
 use Rattle.monk_history.specs.Meaning.Legal.{IsLegal}
-use Rattle.monk_history.specs.Meaning.Monitor.{Monitor, monitor}
+use Rattle.monk_history.specs.Meaning.Monitor.{Monitor}
 use Rattle.monk_history.specs.Meaning.Signallers.{is_empty}
 use Rattle.monk_history.specs.Meaning.Situation.{Situation, situation}
 use Rattle.monk_history.specs.Meaning.Step.{after, opening_situation}
@@ -23,16 +21,13 @@ use Rattle.monk_history.proofs.PublicLaws.Meaning.{legal_situation-push, situati
 use Rattle.monk_logs.specs.Course.{Course, course, settled_course, add, hold, behind_events, behind_half, then_behind, behind, judge}
 use Rattle.monk_logs.specs.Course.{due_from, told_release}
 use Rattle.monk_logs.specs.Kept.{IsKept, kept_if, kept_with}
-use Rattle.monk_logs.specs.Stand.{Stand, stand, stand_or, line_behind}
-use Rattle.monk_logs.specs.Told.{line_events, told_events}
-use Rattle.monk_logs.specs.declared.blame.LineVerdict.{LineVerdict}
-use Rattle.monk_logs.specs.declared.blame.LineVerdict.TheVariants as line
+use Rattle.monk_logs.specs.Stand.{Stand, stand, line_behind}
 use Rattle.monk_logs.specs.declared.line.LogLine.{LogLine}
 use Rattle.monk_logs.specs.declared.line.LogLine.TheVariants.{Enter, Resume, Lapse, Leave, Wait, Signal, Broadcast, Until, Act}
 use Rattle.monk_logs.specs.declared.pending.Pending.{Pending}
 use Rattle.monk_logs.specs.declared.pending.Pending.TheVariants.{Settled, Half, Release}
+use Rattle.monk_logs.proofs.CompletionLaws.Told.{line_events, told_events}
 use Rattle.monk_logs.proofs.CourseLaws.Soundness.{added, cond_some, held_tells, judged_legal}
-use Rattle.monk_logs.proofs.VerdictLaws.Opening.{line_apart}
 use Rattle.monk_logs.proofs.VerdictLaws.Standing.{line_same, stand_at, via_same}
 use Rattle.monk_logs.proofs.VerdictLaws.Verdicts.{judged_more, judged_none}
 
@@ -148,7 +143,7 @@ line_there m known p q l t u legal stands is =
     line_same m known p l legal
     ∙ ap (λ (x : Situation). result_ok (line_behind m x p l)) stands ∙ ap result_ok (sym is)
 
-course_line : (m : Monitor) (front : List LogLine) (l : LogLine) (t u : Situation) (p q : Pending) (b : Bool)
+pub course_line : (m : Monitor) (front : List LogLine) (l : LogLine) (t u : Situation) (p q : Pending) (b : Bool)
     (o new : Option (List Event)) → IsCourse m front t p b o → Ok (stand u q) ≡ line_behind m t p l
     → new ≡ kept_with o (told_events m.object t p l)
     → IsCourse m (front ++ l ∷ []) u q b new
@@ -166,15 +161,3 @@ course_line m front l t u p q b o new c is kept =
       stands = ap (λ (s : Stand). s.now) d.2;
       keeps = keeps_more b o new c.known (told_events m.object t p l) c.keeps kept ∙ ap (kept_if b) (sym more);
     }
-
--- the opening state has no part in how the line was judged
-pub course_goes : (k : Rules) (seats conds : ℕ) (x : Object) (d : List ℕ) (log : List LogLine) (i : ℕ) (l : LogLine)
-    (t u : Situation) (p q : Pending) (left : LineVerdict) (b : Bool) (o new : Option (List Event)) → i < length log
-    → IsCourse (monitor k seats conds x d) (take i log) t p b o
-    → stand_or u left ≡ line_behind (monitor k seats conds x []) t p (get_or log i l) → left ≡ line.Fits q
-    → new ≡ kept_with o (told_events x t p (get_or log i l))
-    → IsCourse (monitor k seats conds x d) (take (i + 1) log) u q b new
-course_goes k seats conds x d log i l t u p q left b o new within c is fits kept =
-    subst (λ (front : List LogLine). IsCourse (monitor k seats conds x d) front u q b new) (sym (take_more log i l within))
-    (course_line (monitor k seats conds x d) (take i log) (get_or log i l) t u p q b o new c
-    (sym (ap (stand_or u) fits) ∙ is ∙ line_apart k seats conds x d t p (get_or log i l)) kept)
