@@ -1,5 +1,6 @@
 -- The lines that have been judged over a board by the rules alone, with the events that they told
-use Rattle.std.proofs.Common.{◌≡◌, ℕ, ◌+◌, ◌<◌, ◌≤◌, Bool, List, [], length, get_or, take, drop, Option, Some, true, refl, sym, ap, subst, ◌∙◌}
+use Rattle.std.proofs.Common.{◌≡◌, ℕ, ◌+◌, ◌<◌, ◌≤◌, Bool, List, [], length, get_or, take, drop, Option, Some, true}
+use Rattle.std.proofs.Common.{refl, sym, ap, subst, ◌∙◌}
 use Rattle.std.proofs.lemmas.List.{take_all, take_more}
 use Rattle.std.specs.Prelude.{Result, Ok, Err, is_some}
 use Rattle.monk_kinds.specs.Kind.{IsKind}

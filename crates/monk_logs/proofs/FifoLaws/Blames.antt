@@ -166,7 +166,8 @@ module _ (m : Monitor) (b : Board) (t : Situation) (e : Event) (sound : Sound b)
 
   -- the tests before that of the choice
   tests_same : (l : LogLine) (x y : Blame) → x ≡ y
-      → cond (not (may_be_its_turn (must_stay m.object t e) t.inside e l)) blame.Turn (cond (not (is_line_in_place t.inside e l)) blame.Place
+      → cond (not (may_be_its_turn (must_stay m.object t e) t.inside e l)) blame.Turn
+      (cond (not (is_line_in_place t.inside e l)) blame.Place
       (cond (not (is_right_reply m.object t.state (line_event m.kind.mode l))) blame.Reply x))
       ≡ cond (not (may_be_its_turn (must_stay m.object (sight b) e) b.inside e l)) blame.Turn
       (cond (not (is_line_in_place b.inside e l)) blame.Place
