@@ -1,7 +1,5 @@
-pub mod Told
 pub mod Kept
 pub mod Known
-pub mod HandedOver
 pub mod Halves
 pub mod Endings
 pub mod Fronts

@@ -13,3 +13,4 @@ pub mod Releases
 pub mod Verdicts
 pub mod Known
 pub mod Endings
+pub mod Exact

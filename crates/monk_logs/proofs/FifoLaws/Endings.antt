@@ -21,7 +21,7 @@ use Rattle.monk_logs.specs.declared.order.Order.TheVariants.{Wake}
 use Rattle.monk_logs.specs.declared.pending.Pending.{Pending}
 use Rattle.monk_logs.specs.declared.pending.Pending.TheVariants.{Settled, Half, Release}
 use Rattle.monk_logs.proofs.CompletionLaws.Fronts.{fronts_choose, inner_next}
-use Rattle.monk_logs.proofs.CompletionLaws.Told.{last_events}
+use Rattle.monk_logs.proofs.CompletionLaws.Endings.{last_events}
 use Rattle.monk_logs.proofs.FifoLaws.Boards.{Alike, queue_same, sigs_same}
 use Rattle.monk_logs.proofs.FifoLaws.Served.{first_in}
 use Rattle.monk_logs.proofs.OrderLaws.Sound.{Sound, keeps_with}

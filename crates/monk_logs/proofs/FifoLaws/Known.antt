@@ -26,7 +26,7 @@ use Rattle.monk_logs.specs.declared.line.LogLine.TheVariants.{Enter, Resume, Lap
 use Rattle.monk_logs.specs.declared.order.Order.TheVariants.{Fifo}
 use Rattle.monk_logs.specs.declared.pending.Pending.{Pending}
 use Rattle.monk_logs.specs.declared.pending.Pending.TheVariants.{Settled, Half, Release}
-use Rattle.monk_logs.proofs.CompletionLaws.Told.{line_events, told_events}
+use Rattle.monk_logs.proofs.CourseLaws.Events.{line_events, told_events}
 use Rattle.monk_logs.proofs.FifoLaws.Reasons.{Same, same_after, same_reason}
 use Rattle.monk_logs.proofs.FifoLaws.Releases.{passed_same}
 use Rattle.monk_logs.proofs.FifoLaws.Verdicts.{IsWritten}

@@ -17,8 +17,8 @@ use Rattle.monk_history.specs.Meaning.Situation.{Situation}
 use Rattle.monk_history.specs.Meaning.Step.{after}
 use Rattle.monk_logs.specs.Along.{verdict_along}
 use Rattle.monk_logs.specs.Blame.{blame_of, release_blame}
-use Rattle.monk_logs.specs.Board.{Board, board_after, board_reason}
-use Rattle.monk_logs.specs.BoardCourse.{BoardCourse, board_course, standing_choice}
+use Rattle.monk_logs.specs.Board.{Board, board_after, board_reason, opening_board}
+use Rattle.monk_logs.specs.BoardCourse.{BoardCourse, board_course, board_settled, standing_choice}
 use Rattle.monk_logs.specs.BoardLegal.{legal_behind}
 use Rattle.monk_logs.specs.BoardStand.{board_behind_over, board_half_over, board_hold_over, board_line_over, board_over}
 use Rattle.monk_logs.specs.BoardStand.{board_release_blame, board_settle, board_told_over, board_verdict, course_by}
@@ -208,3 +208,23 @@ verdicts_match m n (Ok x) (Ok s) (l ∷ log) h none =
 
 pub verdict_same : (m : Monitor) (log : List LogLine) → has_lapse log ≡ false → board_verdict Fifo m log ≡ verdict_on m log
 verdict_same m log none = verdicts_match m 0 _ _ log (refl, same_opening m, tt) none
+
+-- the verdict over a board by the rules alone is that by how the monitor stands
+abbrev pub legal_over : Monitor → BoardCourse → LogLine → Result BoardCourse Blame
+legal_over m x l = legal_behind m x.board x.pending l
+
+legals_match : (m : Monitor) (n : ℕ) (r : Result BoardCourse Blame) (q : Result Stand Blame) (log : List LogLine) → Matches m r q
+    → verdict_along (legal_over m) n r log ≡ verdict_along (line_over m) n q log
+unfolding verdict_along
+legals_match m n (Err why) (Err because) log h = ap (λ (x : Blame). Misfit n x) h
+legals_match m n (Err why) (Ok s) log h = absurd h
+legals_match m n (Ok x) (Err because) log h = absurd h
+legals_match m n (Ok x) (Ok s) [] h = refl
+legals_match m n (Ok x) (Ok s) (l ∷ log) h =
+    legals_match m (n + 1) (legal_over m x l) (line_over m s l) log
+    (subst (λ (y : Pending). Matches m (legal_behind m x.board y l) (line_behind m s.now s.pending l)) (sym h.0)
+    (legal_matches m x.board s.now s.pending l h.1 h.2))
+
+pub legal_same : (m : Monitor) (log : List LogLine)
+    → verdict_along (legal_over m) 0 (Ok (board_settled (opening_board m))) log ≡ verdict_on m log
+legal_same m log = legals_match m 0 _ _ log (refl, same_opening m, tt)
