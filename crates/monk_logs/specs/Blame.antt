@@ -69,17 +69,6 @@ blame_of n =
 abbrev pub lapse_blame : ℕ → ℕ → Blame
 lapse_blame seats s = if nat_lt s seats then Turn else Range
 
-abbrev pub is_lapse : LogLine → Bool
-is_lapse (Enter s) = false
-is_lapse (Resume s) = false
-is_lapse (Lapse s) = true
-is_lapse (Leave s) = false
-is_lapse (Wait s c) = false
-is_lapse (Signal s c) = false
-is_lapse (Broadcast s c) = false
-is_lapse (Until s p) = false
-is_lapse (Act s op r) = false
-
 -- ---- behind a release, whose choice is not known: the tests of a line that hold whatever it chose
 
 -- what the line does, whatever is chosen and however a seat came in; a lapse is tested as a resume

@@ -1,5 +1,5 @@
--- The same judging as a function of how the monitor stands, so that no event needs to be kept. That it comes to the same is the
--- lemma `line_same` of proofs/VerdictLaws/Standing
+-- The same judging as a function of how the monitor stands. That it comes to the same is the lemma `line_same` of
+-- proofs/VerdictLaws/Standing; and that logs are judged so over a board is the lemma `legal_same` of proofs/FifoLaws/Verdicts
 use Rattle.std.specs.Prelude.{ℕ, ◌==◌, List, [], Result, Ok, Err, if◌then◌else◌}
 use Rattle.monk_object.specs.Object.{Object}
 use Rattle.monk_history.specs.declared.event.Event.{Event}
@@ -13,8 +13,9 @@ use Rattle.monk_history.specs.Meaning.Reasons.{reason_before, reason_in}
 use Rattle.monk_history.specs.Meaning.Situation.{Situation}
 use Rattle.monk_history.specs.Meaning.Step.{after, opening_situation}
 use Rattle.monk_logs.specs.Along.{verdict_along}
-use Rattle.monk_logs.specs.Blame.{blame_of, half_blame, is_lapse, lapse_blame, release_blame}
+use Rattle.monk_logs.specs.Blame.{blame_of, half_blame, lapse_blame, release_blame}
 use Rattle.monk_logs.specs.Course.{due_from, told_release}
+use Rattle.monk_logs.specs.FitsIn.{is_lapse}
 use Rattle.monk_logs.specs.declared.line.LogLine.{LogLine}
 use Rattle.monk_logs.specs.declared.line.LogLine.TheVariants.{Enter, Resume, Lapse, Leave, Wait, Signal, Broadcast, Until, Act}
 use Rattle.monk_logs.specs.declared.pending.Pending.{Pending}
