@@ -25,3 +25,16 @@ no_act x (event.Until s p y) h = refl
 no_act x (event.Resume s q) h = absurd cc
 no_act x (event.SignalAll s c) h = absurd cc
 no_act x (event.SignalWait s c d y) h = refl
+
+-- and its choice is that
+pub next_with : (x : Next) (e : Event) → next_of e ≡ Some Stay → next_of (with_next x e) ≡ Some x
+next_with x (event.Enter s via) h = absurd cc
+next_with x (event.Act s op r) h = absurd cc
+next_with x (event.Leave s y) h = refl
+next_with x (event.Wait s c y) h = refl
+next_with x (event.Signal s c y) h = refl
+next_with x (event.SignalLeave s c y) h = refl
+next_with x (event.Until s p y) h = refl
+next_with x (event.Resume s q) h = absurd cc
+next_with x (event.SignalAll s c) h = absurd cc
+next_with x (event.SignalWait s c d y) h = refl

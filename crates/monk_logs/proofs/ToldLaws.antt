@@ -24,7 +24,7 @@ use Rattle.monk_logs.proofs.StepLaws.{no_act}
 
 -- ---- what an event serves doesn't depend on its choice
 
-served_with : (b : Board) (x : Next) (e : Event) → board_served b e ≡ board_served b (with_next x e)
+pub served_with : (b : Board) (x : Next) (e : Event) → board_served b e ≡ board_served b (with_next x e)
 served_with b x (event.Enter s via) = refl
 served_with b x (event.Act s op r) = refl
 served_with b x (event.Leave s y) = refl

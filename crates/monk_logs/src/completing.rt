@@ -33,7 +33,7 @@ use std::alloc::Global;
 ///
 /// # Cost
 ///
-/// One pass. A line takes as long as an event or two of an audit. Memory for the events, the queues and the object.
+/// That of [`judge_in`](crate::judge_in), and memory for the events.
 pub fn complete(
     alloc: Global,
     header: &LogHeader,

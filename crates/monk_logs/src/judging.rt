@@ -31,7 +31,7 @@ use std::alloc::Global;
 ///
 /// # Cost
 ///
-/// One pass. A line takes as long as an event or two of an audit. Memory for the queues and the object alone.
+/// That of [`judge_in`].
 pub fn judge(
     alloc: Global,
     header: &LogHeader,

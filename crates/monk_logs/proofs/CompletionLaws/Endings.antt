@@ -32,6 +32,7 @@ use Rattle.monk_logs.proofs.CompletionLaws.Halves.{event_whole, never, signal_ha
 use Rattle.monk_logs.proofs.CompletionLaws.Known.{IsCourse, keeps_more}
 use Rattle.monk_logs.proofs.CourseLaws.Events.{handed-push, no_enter, release_is_no_enter}
 use Rattle.monk_logs.proofs.CourseLaws.Lists.{erasure-push}
+use Rattle.monk_logs.proofs.StepLaws.{next_with}
 use Rattle.monk_logs.proofs.CourseLaws.Soundness.{IsStill, Tells, erased_with_next, release_right}
 
 -- the release whose choice no line tells
@@ -77,16 +78,7 @@ unwished_again k o t x (event.SignalAll s c) = refl
 unwished_again k o t x (event.SignalWait s c d y) = refl
 
 chosen_is : (x y : Next) (e : Event) → next_of e ≡ Some Stay → next_of (with_next x e) ≡ Some y → y ≡ x
-chosen_is x y (event.Enter s via) h k = absurd cc
-chosen_is x y (event.Act s op r) h k = absurd cc
-chosen_is x y (event.Leave s z) h k = cc
-chosen_is x y (event.Wait s c z) h k = cc
-chosen_is x y (event.Signal s c z) h k = cc
-chosen_is x y (event.SignalLeave s c z) h k = cc
-chosen_is x y (event.Until s p z) h k = cc
-chosen_is x y (event.Resume s q) h k = absurd cc
-chosen_is x y (event.SignalAll s c) h k = absurd cc
-chosen_is x y (event.SignalWait s c d z) h k = cc
+chosen_is x y e h k = let same : Some y ≡ Some x = sym k ∙ next_with x e h in cc
 
 last_chosen : (m : Monitor) (past before : List Event) (e last : Event) (y : Next) → next_of e ≡ Some Stay
     → past ++ with_next (unwished_next m.kind m.object (situation m past) e) e ∷ [] ≡ before ++ last ∷ [] → next_of last ≡ Some y

@@ -38,7 +38,7 @@ pub record Moved (m : Monitor) (xs : List Item) (b : Board) (e : Event) : Type 0
   pub comes_to : board_after m.object (with_items xs b) e ≡ with_items (items_after xs e) (board_after m.object b e)
   pub fewer : Fewer Any (items_after xs e) (board_after m.object b e).items
 
-empty_is : (l : List ℕ) → is_empty l ≡ true → l ≡ []
+pub empty_is : (l : List ℕ) → is_empty l ≡ true → l ≡ []
 empty_is [] h = refl
 empty_is (x ∷ l) h = absurd (false≢true h)
 
