@@ -1,4 +1,4 @@
--- The parts of a step are the step
+-- A release with another choice
 use Rattle.std.proofs.Common.{◌≡◌, ◌∙◌, Some, None, refl}
 use Rattle.std.specs.Prelude.{Result, IfOk}
 use Rattle.std.proofs.lemmas.Result.{IfOk-weaker}

@@ -1,4 +1,4 @@
--- The verdict that is found by how the monitor stands is the verdict on the log
+-- A log with which some legal history begins is judged to its end, line by line
 use Rattle.std.proofs.Common.{◌≡◌, ℕ, ◌+◌, true, List, [], ◌∷◌, ◌++◌, Option, Some, None, refl, ap, subst, ◌∙◌}
 use Rattle.std.proofs.lemmas.List.{append-nil, append_assoc}
 use Rattle.std.specs.Option.{option_map}
