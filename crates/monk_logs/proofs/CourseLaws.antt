@@ -1,5 +1,6 @@
 pub mod Tests
 pub mod Lists
+pub mod Events
 pub mod Soundness
 pub mod Told
-pub mod Completeness
+pub mod Calls

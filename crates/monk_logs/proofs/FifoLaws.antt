@@ -11,3 +11,6 @@ pub mod Reasons
 pub mod Blames
 pub mod Releases
 pub mod Verdicts
+pub mod Known
+pub mod Endings
+pub mod Exact

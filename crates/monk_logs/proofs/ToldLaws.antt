@@ -1,6 +1,6 @@
 -- The line behind a release, told on a board that has served
-use Rattle.std.proofs.Common.{◌≡◌, ◌∙◌, ℕ, zero, suc, Bool, cond, Some, refl, sym, ap, arith}
-use Rattle.std.specs.Prelude.{◌==◌, Result, Err}
+use Rattle.std.proofs.Common.{◌≡◌, ◌∙◌, ℕ, zero, suc, Bool, true, false, cond, Some, refl, sym, ap, arith}
+use Rattle.std.specs.Prelude.{◌==◌, Result, Ok, Err}
 use Rattle.std.proofs.Math.Dec.{eqb-suc-zero}
 use Rattle.monk_object.specs.Object.{Object}
 use Rattle.monk_history.specs.declared.event.Event.{Event}
@@ -14,6 +14,7 @@ use Rattle.monk_history.specs.Meaning.Release.{with_next}
 use Rattle.monk_logs.specs.Board.{Board, board_after, board_reason, sight}
 use Rattle.monk_logs.specs.BoardCourse.{BoardCourse, board_told, board_told_next}
 use Rattle.monk_logs.specs.BoardMoves.{board_moved, board_served, served_reason, told_on}
+use Rattle.monk_logs.specs.BoardStand.{board_chosen, board_line_over, board_release_blame, board_told_over}
 use Rattle.monk_logs.specs.declared.blame.Blame.{Blame}
 use Rattle.monk_logs.specs.declared.line.LogLine.{LogLine}
 use Rattle.monk_logs.specs.declared.line.LogLine.TheVariants as line
@@ -23,7 +24,7 @@ use Rattle.monk_logs.proofs.StepLaws.{no_act}
 
 -- ---- what an event serves doesn't depend on its choice
 
-served_with : (b : Board) (x : Next) (e : Event) → board_served b e ≡ board_served b (with_next x e)
+pub served_with : (b : Board) (x : Next) (e : Event) → board_served b e ≡ board_served b (with_next x e)
 served_with b x (event.Enter s via) = refl
 served_with b x (event.Act s op r) = refl
 served_with b x (event.Leave s y) = refl
@@ -82,12 +83,30 @@ told_moved o b now e told l stays served is release still =
 
 -- ---- where it may be and where it can't
 
-pub told_goes : (n r : ℕ) (to : Result BoardCourse Blame) (why : Blame) → n ≡ r → n ≡ 0 → to ≡ cond (r == 0) to (Err why)
+pub told_goes : {X : Type 0} (n r : ℕ) (to : Result X Blame) (why : Blame) → n ≡ r → n ≡ 0 → to ≡ cond (r == 0) to (Err why)
 told_goes n zero to why is none = refl
 told_goes n (suc r) to why is none = absurd (omega (arith, is, none))
 
-pub told_stops : (n r : ℕ) (to : Result BoardCourse Blame) (found why : Blame) → n ≡ r → (n ≡ 0 → ⊥) → found ≡ why
+pub told_stops : {X : Type 0} (n r : ℕ) (to : Result X Blame) (found why : Blame) → n ≡ r → (n ≡ 0 → ⊥) → found ≡ why
     → Err found ≡ cond (r == 0) to (Err why)
 told_stops n zero to found why is some same = absurd (some is)
 told_stops n (suc r) to found why is some same =
     ap (λ (y : Blame). Err y) same ∙ sym (ap (λ (b : Bool). cond b to (Err why)) (eqb-suc-zero r))
+
+-- ---- the line behind a release that has chosen
+
+abbrev pub then_over : Order → Monitor → LogLine → Result Board Blame → Result BoardCourse Blame
+then_over o m l (Ok b) = board_line_over o m b l
+then_over o m l (Err why) = Err why
+
+then_by : (o : Order) (m : Monitor) (l : LogLine) (b : Board) (why : Blame) (test : Bool)
+    → then_over o m l (cond test (Ok b) (Err why)) ≡ cond test (board_line_over o m b l) (Err why)
+then_by o m l b why true = refl
+then_by o m l b why false = refl
+
+pub told_then : (o : Order) (m : Monitor) (b : Board) (e : Event) (l : LogLine) (r : Result Board Blame)
+    → r ≡ board_chosen o m b e l → then_over o m l r ≡ board_told_over o m b e l
+told_then o m b e l r is =
+    ap (then_over o m l) is
+    ∙ then_by o m l (board_after m.object b (board_told b e l)) (board_release_blame o m b e l)
+    (board_reason o m b (board_told b e l) == 0)

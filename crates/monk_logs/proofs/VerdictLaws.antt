@@ -3,4 +3,3 @@ pub mod Exactly
 pub mod Along
 pub mod Verdicts
 pub mod Opening
-pub mod Lines

@@ -1,5 +1,5 @@
 -- Why a line can't be of a monitor: the first of nine tests that it fails
-use Rattle.std.specs.Prelude.{ℕ, ◌==◌, nat_lt, Bool, true, false, ◌&&◌, ◌||◌, not, List, Option, Some, None, if◌then◌else◌, is_some, codes}
+use Rattle.std.specs.Prelude.{ℕ, ◌==◌, nat_lt, Bool, true, ◌&&◌, ◌||◌, not, List, Option, Some, None, if◌then◌else◌, is_some, codes}
 use Rattle.monk_kinds.specs.declared.mode.Mode.{Mode}
 use Rattle.monk_kinds.specs.declared.mode.Rules.{Rules}
 use Rattle.monk_history.specs.declared.event.Event.{Event}
@@ -68,17 +68,6 @@ blame_of n =
 -- no seat's timed wait runs out while somebody is active
 abbrev pub lapse_blame : ℕ → ℕ → Blame
 lapse_blame seats s = if nat_lt s seats then Turn else Range
-
-abbrev pub is_lapse : LogLine → Bool
-is_lapse (Enter s) = false
-is_lapse (Resume s) = false
-is_lapse (Lapse s) = true
-is_lapse (Leave s) = false
-is_lapse (Wait s c) = false
-is_lapse (Signal s c) = false
-is_lapse (Broadcast s c) = false
-is_lapse (Until s p) = false
-is_lapse (Act s op r) = false
 
 -- ---- behind a release, whose choice is not known: the tests of a line that hold whatever it chose
 

@@ -96,6 +96,17 @@ board_half_over m b s c (Act j op r) = Err (half_blame m (Act j op r))
 abbrev pub board_release_blame : Order → Monitor → Board → Event → LogLine → Blame
 board_release_blame o m b e l = blame_on o m (must_stay m.object (sight b) e) (board_served b e) e l
 
+-- the board behind a release with the choice that the line tells, or what is to blame
+abbrev pub board_chosen : Order → Monitor → Board → Event → LogLine → Result Board Blame
+board_chosen o m b e l =
+    if board_reason o m b (board_told b e l) == 0 then Ok (board_after m.object b (board_told b e l))
+    else Err (board_release_blame o m b e l)
+
+-- this board, where there is an event
+abbrev pub board_or : Board → Result Event Blame → Result Board Blame
+board_or b (Ok e) = Ok b
+board_or b (Err why) = Err why
+
 abbrev pub board_told_over : Order → Monitor → Board → Event → LogLine → Result BoardCourse Blame
 board_told_over o m b e l =
     if board_reason o m b (board_told b e l) == 0 then board_line_over o m (board_after m.object b (board_told b e l)) l

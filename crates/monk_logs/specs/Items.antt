@@ -1,7 +1,7 @@
 -- What is to be known of the conditions where nobody tells whom a signal served: in order of time, who came to wait and what
 -- signals gave. A seat that goes on takes its own coming and one service with it
 use Rattle.std.specs.Prelude.{ℕ, zero, suc, ◌-◌, ◌==◌, Bool, true, false, ◌&&◌, not, List, [], ◌∷◌, take, drop, filter, Option, Some}
-use Rattle.std.specs.Prelude.{None, if◌then◌else◌}
+use Rattle.std.specs.Prelude.{None, if◌then◌else◌, slice_get}
 use Rattle.std.specs.Option.{option_map_or}
 use Rattle.monk_history.specs.Meaning.Choice.{is_front}
 use Rattle.monk_logs.specs.Order.{is_among}
@@ -83,6 +83,14 @@ was_served o j items = option_map_or (λ c. can_be_served o j (line c items)) (c
 abbrev pub was_served_first : ℕ → List Item → Bool
 was_served_first j items =
     option_map_or (λ c. is_front c (services items) && is_front j (seats_in (line c items))) (condition_of j items) false
+
+abbrev pub first_seat_at : Option ℕ → List Item → Option ℕ
+first_seat_at None items = None
+first_seat_at (Some c) items = slice_get (seats_in (line c items)) 0
+
+-- the first of all that were served, in order of arrival
+abbrev pub first_served : List Item → Option ℕ
+first_served items = first_seat_at (slice_get (services items) 0) items
 
 -- whether it may be chosen of those that were served: in order of arrival they go on in order of service
 abbrev pub may_resume : Order → ℕ → List Item → Bool

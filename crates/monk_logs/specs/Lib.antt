@@ -8,7 +8,6 @@ pub mod Stand
 pub mod Exactly
 pub mod Verdict
 pub mod Kept
-pub mod Told
 pub mod Completion
 pub mod Ending
 pub mod Order
@@ -20,6 +19,7 @@ pub mod FitsIn
 pub mod VerdictIn
 pub mod BoardCourse
 pub mod BoardStand
+pub mod BoardLegal
 pub mod BoardShown
 pub mod BoardMoves
 pub mod Counts

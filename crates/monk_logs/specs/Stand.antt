@@ -1,28 +1,26 @@
--- The same judging as a function of how the monitor stands, so that no event needs to be kept. That it comes to the same is the
--- lemma `line_same` of proofs/VerdictLaws/Standing
-use Rattle.std.specs.Prelude.{◌≡◌, ℕ, ◌==◌, List, [], Some, Result, Ok, Err, if◌then◌else◌}
+-- The same judging as a function of how the monitor stands. That it comes to the same is the lemma `line_same` of
+-- proofs/VerdictLaws/Standing; and that logs are judged so over a board is the lemma `legal_same` of proofs/FifoLaws/Verdicts
+use Rattle.std.specs.Prelude.{ℕ, ◌==◌, List, [], Result, Ok, Err, if◌then◌else◌}
 use Rattle.monk_object.specs.Object.{Object}
 use Rattle.monk_history.specs.declared.event.Event.{Event}
 use Rattle.monk_history.specs.declared.event.Event.TheVariants as event
 use Rattle.monk_history.specs.declared.event.Next.TheVariants as next
 use Rattle.monk_history.specs.declared.event.Via.{Via}
 use Rattle.monk_history.specs.declared.event.Via.TheVariants.{Free, Handed}
-use Rattle.monk_history.specs.Meaning.Events.{next_of, returns_at_once}
+use Rattle.monk_history.specs.Meaning.Events.{returns_at_once}
 use Rattle.monk_history.specs.Meaning.Monitor.{Monitor, monitor}
 use Rattle.monk_history.specs.Meaning.Reasons.{reason_before, reason_in}
-use Rattle.monk_history.specs.Meaning.Release.{MayCallIn}
 use Rattle.monk_history.specs.Meaning.Situation.{Situation}
 use Rattle.monk_history.specs.Meaning.Step.{after, opening_situation}
 use Rattle.monk_logs.specs.Along.{verdict_along}
-use Rattle.monk_logs.specs.Blame.{blame_of, half_blame, is_lapse, lapse_blame, release_blame}
+use Rattle.monk_logs.specs.Blame.{blame_of, half_blame, lapse_blame, release_blame}
 use Rattle.monk_logs.specs.Course.{due_from, told_release}
+use Rattle.monk_logs.specs.FitsIn.{is_lapse}
 use Rattle.monk_logs.specs.declared.line.LogLine.{LogLine}
 use Rattle.monk_logs.specs.declared.line.LogLine.TheVariants.{Enter, Resume, Lapse, Leave, Wait, Signal, Broadcast, Until, Act}
 use Rattle.monk_logs.specs.declared.pending.Pending.{Pending}
 use Rattle.monk_logs.specs.declared.pending.Pending.TheVariants.{Settled, Half, Release}
 use Rattle.monk_logs.specs.declared.blame.Blame.{Blame}
-use Rattle.monk_logs.specs.declared.blame.LineVerdict.{LineVerdict}
-use Rattle.monk_logs.specs.declared.blame.LineVerdict.TheVariants as verdict
 use Rattle.monk_logs.specs.declared.setting.Setting.{Setting}
 use Rattle.monk_logs.specs.declared.verdict.LogVerdict.{LogVerdict}
 
@@ -36,11 +34,6 @@ stand t p = record { now = t; pending = p }
 
 abbrev pub stand_settled : Situation → Stand
 stand_settled t = stand t Settled
-
--- where a line leads that was judged so, and where it can't
-abbrev pub stand_or : Situation → LineVerdict → Result Stand Blame
-stand_or t (verdict.Fits p) = Ok (stand t p)
-stand_or t (verdict.Misfits why) = Err why
 
 -- the monitor of that setting; its opening state has no part in what is still to come
 abbrev pub monitor_in : Setting → Object → Monitor
@@ -115,12 +108,6 @@ abbrev pub line_behind : Monitor → Situation → Pending → LogLine → Resul
 line_behind m t Settled l = line_settled m t l
 line_behind m t (Half s c) l = line_half m t s c l
 line_behind m t (Release e) l = line_told m t e l
-
--- what is still to be known is of a release that may be called, and that is written with `stay`
-abbrev pub IsHeld : Monitor → Situation → Pending → Type 0
-IsHeld m t Settled = Unit {0}
-IsHeld m t (Half s c) = Unit {0}
-IsHeld m t (Release e) = MayCallIn m t e × (next_of e ≡ Some next.Stay)
 
 -- ---- a log
 

@@ -1,10 +1,7 @@
 //! What is to blame where a line can't stand behind a release, or behind a signal that is half told.
 
-ghost use Rattle.std.specs.Prelude.{◌≡◌, ◌==◌, ◌||◌, ◌&&◌, Some, None, [], is_some, true, if◌then◌else◌};
-ghost use Rattle.monk_history.specs.Meaning.Choice.{queues_at};
-ghost use Rattle.monk_history.specs.Meaning.Events.{awaited_predicate, next_of, returns_at_once, signals_on, steps_back, waits_on};
-ghost use Rattle.monk_history.specs.Meaning.Reasons.{fits_object, is_condition};
-ghost use Rattle.monk_history.specs.Meaning.Release.{MayCallIn};
+ghost use Rattle.std.specs.Prelude.{◌≡◌, ◌||◌, [], is_some, if◌then◌else◌};
+ghost use Rattle.monk_history.specs.Meaning.Events.{awaited_predicate, returns_at_once, steps_back, waits_on};
 ghost use Rattle.monk_history.specs.Meaning.Turn.{is_exit_of};
 ghost use Rattle.monk_audit.specs.Replay.{IsReplayOf, replay_situation};
 ghost use Rattle.monk_logs.specs.Blame as blames;
@@ -14,17 +11,10 @@ ghost use Rattle.monk_logs.specs.Stand.{monitor_in};
 use crate::blame::Blame;
 use crate::line::LogLine;
 use crate::setting::Setting;
-use monk_audit::{Replay, Verdict, replies};
+use monk_audit::{Replay, Verdict};
 use monk_history::{Event, From3, Next, Via};
 use monk_kinds::Mode;
 use monk_object::Guarded;
-
-/// Whether the line tells that a timed wait ran out.
-pub(crate) fn is_lapse(line: LogLine) -> bool
-    ensures { result ≡ blames.is_lapse line }
-{
-    matches!(line, LogLine::Lapse(_))
-}
 
 /// What the line does, whatever is chosen and however a seat came in.
 pub(crate) fn line_event(mode: Mode, line: LogLine) -> Event
@@ -166,121 +156,5 @@ pub(crate) fn is_in_place(replay: &Replay, event: Event, line: LogLine) -> bool
     match line {
         LogLine::Enter(seat) => !(is_inside(replay, seat) && !is_exit_of(seat, event)),
         _ => true,
-    }
-}
-
-/// What is to blame where a seat goes on.
-fn resume_blame<T: Guarded>(
-    setting: Setting,
-    replay: &Replay,
-    object: &T,
-    event: Event,
-    seat: u8,
-) -> Blame
-    requires sound { IsReplayOf setting.seats setting.conds T.PREDICATES replay.now }
-    requires release { is_some (next_of event) ≡ true }
-    ensures { result ≡ blames.resume_blame
-        (queues_at T.meaning (replay_situation replay.now (T.state object.now)) event) seat }
-{
-    if !replay.may_come_back(object, setting.conds, event, seat) {
-        Blame::Unserved
-    } else if !replay.may_come_first(object, setting.conds, event, seat) {
-        Blame::Order
-    } else {
-        Blame::Choice
-    }
-}
-
-/// What is to blame where the caller goes on at once.
-fn stay_blame<T: Guarded>(
-    setting: Setting,
-    replay: &Replay,
-    object: &T,
-    event: Event,
-    seat: u8,
-) -> Blame
-    ensures { result ≡ blames.stay_blame setting.rules
-        (queues_at T.meaning (replay_situation replay.now (T.state object.now)) event) seat }
-{
-    if setting.rules.signaller < setting.rules.waiter || replay.is_first_signaller(event, seat) {
-        Blame::Choice
-    } else {
-        Blame::Order
-    }
-}
-
-/// What is to blame where the release may not have chosen so.
-fn choice_blame<T: Guarded>(
-    setting: Setting,
-    replay: &Replay,
-    object: &T,
-    event: Event,
-    line: LogLine,
-) -> Blame
-    requires sound { IsReplayOf setting.seats setting.conds T.PREDICATES replay.now }
-    requires release { is_some (next_of event) ≡ true }
-    ensures { result ≡ blames.choice_blame setting.rules
-        (queues_at T.meaning (replay_situation replay.now (T.state object.now)) event) line }
-{
-    match line {
-        LogLine::Enter(_) => Blame::Choice,
-        LogLine::Resume(seat) => resume_blame(setting, replay, object, event, seat),
-        LogLine::Lapse(_) => Blame::Served,
-        LogLine::Leave(seat)
-        | LogLine::Wait(seat, _)
-        | LogLine::Signal(seat, _)
-        | LogLine::Broadcast(seat, _)
-        | LogLine::Until(seat, _)
-        | LogLine::Act(seat, ..) => stay_blame(setting, replay, object, event, seat),
-    }
-}
-
-/// The first of the tests of the turn and behind it that the line fails. The object is of no further use.
-fn late_blame<T: Guarded>(
-    setting: Setting,
-    replay: &Replay,
-    object: &mut T,
-    event: Event,
-    line: LogLine,
-) -> Blame
-    requires sound { IsReplayOf setting.seats setting.conds T.PREDICATES replay.now }
-    requires signals { is_condition setting.conds (signals_on event) ≡ true }
-    requires object { fits_object T.CODES T.PREDICATES event ≡ true }
-    requires release { is_some (next_of event) ≡ true }
-    requires line { fits_object T.CODES T.PREDICATES (blames.line_event setting.rules.mode line) ≡ true }
-    ensures { result ≡ blames.late_blame (monitor_in setting T.meaning)
-        (replay_situation replay.now (T.state object.old)) event line }
-{
-    let stays = replay.must_stay(object, event);
-    let last = choice_blame(setting, replay, object, event, line);
-    if !may_be_its_turn(stays, replay, event, line) {
-        Blame::Turn
-    } else if !is_in_place(replay, event, line) {
-        Blame::Place
-    } else if !replies(object, line_event(setting.rules.mode, line)) {
-        Blame::Reply
-    } else {
-        last
-    }
-}
-
-/// What is to blame where the line can't stand behind the release. The object is of no further use.
-pub(crate) fn release_blame<T: Guarded>(
-    setting: Setting,
-    replay: &Replay,
-    object: &mut T,
-    event: Event,
-    line: LogLine,
-) -> Blame
-    requires sound { IsReplayOf setting.seats setting.conds T.PREDICATES replay.now }
-    requires called { MayCallIn (monitor_in setting T.meaning) (replay_situation replay.now (T.state object.old)) event }
-    requires release { next_of event ≡ Some Next.Stay }
-    ensures { result ≡ blames.release_blame (monitor_in setting T.meaning)
-        (replay_situation replay.now (T.state object.old)) event line }
-{
-    let told = line_event(setting.rules.mode, line);
-    match early_blame(setting, replay, object, told) {
-        Some(blame) => blame,
-        None => late_blame(setting, replay, object, event, line),
     }
 }

@@ -3,11 +3,13 @@
 ghost use Rattle.std.specs.Prelude.{◌≡◌, ◌&&◌, ℕ, List, [], IfOk, OnOk};
 ghost use Rattle.monk_object.specs.Object.{Object};
 ghost use Rattle.monk_history.specs.Meaning.Reasons.{is_open};
+ghost use Rattle.monk_audit.specs.Replay.{replay_situation};
 ghost use Rattle.monk_logs.specs.BoardShown.{IsBoardOf, board_shown, course_or};
 ghost use Rattle.monk_logs.specs.BoardStand as stands;
 ghost use Rattle.monk_logs.specs.BoardStand.{IsHeldOver};
+ghost use Rattle.monk_logs.specs.Course.{due_from};
 ghost use Rattle.monk_logs.specs.Items as lines;
-ghost use Rattle.monk_logs.specs.Stand.{monitor_in};
+ghost use Rattle.monk_logs.specs.Stand.{monitor_in, via_now};
 ghost use Rattle.monk_logs.specs.declared.blame.LineVerdict.{LineVerdict};
 ghost use Rattle.monk_logs.specs.declared.pending.Pending.{Pending};
 
@@ -21,11 +23,32 @@ use crate::line::LogLine;
 use crate::order::Order;
 use crate::pending::Pending;
 use crate::setting::Setting;
-use crate::steps::{due_from, via_now};
-use monk_history::{Event, Next, Turn};
+use monk_audit::Replay;
+use monk_history::{Event, From3, Next, Turn, Via};
 use monk_kinds::Mode;
 use monk_object::Guarded;
 use std::alloc::AllocError;
+
+/// From which queue the turn is due.
+pub(crate) fn due_from(turn: Turn) -> From3
+    ensures { result ≡ due_from turn }
+{
+    match turn {
+        Turn::Due(_, queue) => queue,
+        _ => From3::Waiter,
+    }
+}
+
+/// How a task comes in now. It matters only whether it is the first.
+pub(crate) fn via_now(replay: &Replay) -> Via
+    ensures { (state : List ℕ) → result ≡ via_now (replay_situation replay.now state) }
+{
+    if replay.begun() {
+        Via::Handed
+    } else {
+        Via::Free
+    }
+}
 
 /// Whether nobody has the turn.
 fn is_open(turn: Turn) -> bool
@@ -154,7 +177,7 @@ pub(crate) fn line_settled<T: Guarded>(
 
 /// The line behind a signal that is half told.
 #[inline(always)]
-fn line_half<T: Guarded>(
+pub(crate) fn line_half<T: Guarded>(
     setting: Setting,
     board: &Board,
     object: &T,

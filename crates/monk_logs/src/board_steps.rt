@@ -16,11 +16,13 @@ use crate::board_choices::permits;
 use crate::order::Order;
 use crate::pending::Pending;
 use crate::setting::Setting;
-use crate::steps::ALLOWED;
 use monk_audit::{Verdict, replies};
 use monk_history::Event;
 use monk_object::Guarded;
 use std::alloc::AllocError;
+
+/// What stands for no test that an event fails.
+pub(crate) const ALLOWED: u8 = 0;
 
 /// The first test that an event fails, or 0, on a board that has served, where it is known whether the event must stay. The
 /// reply of an act is not tested.

@@ -1,11 +1,14 @@
 //! The line behind a release, whose choice it tells, over a board.
 
-ghost use Rattle.std.specs.Prelude.{◌≡◌, ◌<◌, ℕ, List, Some, [], All, true, IfOk};
+ghost use Rattle.std.specs.Prelude.{◌≡◌, ◌<◌, ℕ, List, Some, Ok, [], All, true, IfOk};
 ghost use Rattle.monk_history.specs.Meaning.Events.{next_of};
+ghost use Rattle.monk_history.specs.declared.event.Event.{Event};
 ghost use Rattle.monk_history.specs.Meaning.Reasons.{fits_object};
+ghost use Rattle.monk_history.specs.Meaning.Release as releases;
 ghost use Rattle.monk_history.specs.Meaning.Release.{MayCallIn};
 ghost use Rattle.monk_logs.specs.Blame as blames;
 ghost use Rattle.monk_logs.specs.Board.{sight};
+ghost use Rattle.monk_logs.specs.BoardCourse.{board_told};
 ghost use Rattle.monk_logs.specs.BoardMoves as moves;
 ghost use Rattle.monk_logs.specs.BoardShown.{IsBoardOf, board_shown, course_or};
 ghost use Rattle.monk_logs.specs.BoardStand as stands;
@@ -18,19 +21,33 @@ use crate::blaming::{early_blame, is_in_place, line_event, may_be_its_turn};
 use crate::board::Board;
 use crate::board_choices::{may_come_ready, may_go};
 use crate::board_lines::line_settled;
-use crate::board_steps::served_reason;
+use crate::board_steps::{ALLOWED, served_reason};
 use crate::items::{may_lapse, may_resume, waits, was_served};
 use crate::items_moves::join;
 use crate::line::LogLine;
 use crate::order::Order;
 use crate::setting::Setting;
-use crate::steps::ALLOWED;
-use crate::telling::with_next;
 use monk_audit::replies;
 use monk_history::{Event, Next};
 use monk_kinds::Rules;
 use monk_object::Guarded;
 use std::alloc::AllocError;
+
+/// The event with this choice, if it is a release.
+#[inline(always)]
+pub(crate) fn with_next(event: Event, next: Next) -> Event
+    ensures { result ≡ releases.with_next next event }
+{
+    match event {
+        Event::Leave(seat, _) => Event::Leave(seat, next),
+        Event::Wait(seat, cond, _) => Event::Wait(seat, cond, next),
+        Event::Signal(seat, cond, _) => Event::Signal(seat, cond, next),
+        Event::SignalLeave(seat, cond, _) => Event::SignalLeave(seat, cond, next),
+        Event::Until(seat, pred, _) => Event::Until(seat, pred, next),
+        Event::SignalWait(seat, cond, second, _) => Event::SignalWait(seat, cond, second, next),
+        _ => event,
+    }
+}
 
 /// The choice of a seat that goes on, by where it stands.
 pub(crate) fn standing_choice(board: &Board, seat: u8) -> Next
@@ -194,6 +211,40 @@ pub(crate) fn release_blame<T: Guarded>(
     }
 }
 
+/// Carries out a release with the choice that the line tells, and gives it so; or else what is to blame. Then the board and the
+/// object are of no further use.
+#[inline(always)]
+pub(crate) fn choose_told<T: Guarded>(
+    order: Order,
+    setting: Setting,
+    board: &mut Board,
+    object: &mut T,
+    event: Event,
+    line: LogLine,
+) -> Result<Result<Event, Blame>, AllocError>
+    requires sound { IsBoardOf setting.seats setting.conds T.PREDICATES board.old }
+    requires called { MayCallIn (monitor_in setting T.meaning) (sight (board_shown board.old (T.state object.old))) event }
+    requires release { next_of event ≡ Some Next.Stay }
+    ensures chosen { IfOk result
+        (λ r. stands.board_or (board_shown board.new (T.state object.new)) r
+        ≡ stands.board_chosen order (monitor_in setting T.meaning)
+        (board_shown board.old (T.state object.old)) event line) }
+    ensures told { IfOk result
+        (λ r. (told : Event) → r ≡ Ok told → told ≡ board_told (board_shown board.old (T.state object.old)) event line) }
+    ensures sound { IfOk result
+        (λ r. (told : Event) → r ≡ Ok told → IsBoardOf setting.seats setting.conds T.PREDICATES board.new) }
+{
+    let stays = board.must_stay(object, event);
+    board.serve(event)?;
+    let told = with_next(event, told_next(board, line));
+    if served_reason(order, setting, board, object, told, stays) != ALLOWED {
+        let blame = release_blame(order, setting, board, object, event, stays, line)?;
+        return Ok(Err(blame));
+    }
+    board.settle(setting.alloc, told, stays)?;
+    Ok(Ok(told))
+}
+
 /// The line behind a release, whose choice it tells.
 #[inline(always)]
 pub(crate) fn line_told<T: Guarded>(
@@ -214,13 +265,8 @@ pub(crate) fn line_told<T: Guarded>(
     ensures sound { IfOk result
         (λ v. (left : Pending) → v ≡ LineVerdict.Fits left → IsBoardOf setting.seats setting.conds T.PREDICATES board.new) }
 {
-    let stays = board.must_stay(object, event);
-    board.serve(event)?;
-    let told = with_next(event, told_next(board, line));
-    if served_reason(order, setting, board, object, told, stays) != ALLOWED {
-        let blame = release_blame(order, setting, board, object, event, stays, line)?;
-        return Ok(LineVerdict::Misfits(blame));
+    match choose_told(order, setting, board, object, event, line)? {
+        Ok(_) => line_settled(order, setting, board, object, line),
+        Err(blame) => Ok(LineVerdict::Misfits(blame)),
     }
-    board.settle(setting.alloc, told, stays)?;
-    line_settled(order, setting, board, object, line)
 }

@@ -8,8 +8,8 @@ ghost use Rattle.monk_logs.specs.Stand.{verdict_on};
 ghost use Rattle.monk_logs.specs.Verdict.{FitsExactly, MisfitsExactly, log_monitor};
 
 use crate::completion::Completion;
-use crate::following::follow_log;
 use crate::header::LogHeader;
+use crate::legal_following::follow_log;
 use crate::line::LogLine;
 use crate::past::Past;
 use crate::verdict::LogVerdict;
@@ -33,7 +33,7 @@ use std::alloc::Global;
 ///
 /// # Cost
 ///
-/// One pass. A line takes as long as an event or two of an audit. Memory for the events, the queues and the object.
+/// That of [`judge_in`](crate::judge_in), and memory for the events.
 pub fn complete(
     alloc: Global,
     header: &LogHeader,

@@ -1,95 +1,24 @@
 //! The choice with which a log ends, where it ends with a release.
 
-ghost use Rattle.std.specs.Prelude.{◌≡◌, ◌<◌, [], Some, true, All, IfOk, OnOk, nat_le, slice_get};
+ghost use Rattle.std.specs.Prelude.{◌≡◌, ℕ, List, Some, true, IfOk, OnOk, nat_le, slice_get};
 ghost use Rattle.std.specs.Option.{option_map};
 ghost use Rattle.monk_history.specs.declared.event.Event.{Event};
-ghost use Rattle.monk_history.specs.Meaning.Choice as choice;
 ghost use Rattle.monk_history.specs.Meaning.Events.{has_conditions};
 ghost use Rattle.monk_history.specs.Meaning.Reasons.{fits_object};
-ghost use Rattle.monk_history.specs.Meaning.Signallers.{is_empty};
-ghost use Rattle.monk_history.specs.Meaning.Untils.{ready_of};
-ghost use Rattle.monk_audit.specs.Replay.{IsReplayOf, replay_situation};
-ghost use Rattle.monk_logs.specs.Completion as completion;
+ghost use Rattle.monk_logs.specs.BoardShown.{IsBoardOf, board_shown};
 ghost use Rattle.monk_logs.specs.Ending as ending;
 ghost use Rattle.monk_logs.specs.Kept.{kept_events, kept_with};
 
+use crate::board::Board;
+use crate::board_telling::with_next;
+use crate::items::first_served;
 use crate::past::Past;
 use crate::pending::Pending;
 use crate::setting::Setting;
-use crate::telling::with_next;
-use monk_audit::Replay;
 use monk_history::{Event, Next};
 use monk_kinds::{Mode, Rules};
 use monk_object::Guarded;
-use std::alloc::{AllocError, Global};
-
-/// Whether nobody waits on the condition.
-fn is_empty_at(alloc: Global, replay: &Replay, cond: u8) -> Result<bool, AllocError>
-    ensures { IfOk result (λ empty. empty ≡ is_empty ((replay_situation replay.now []).condition cond)) }
-{
-    let queue = queue_at(alloc, replay, cond)?;
-    Ok(queue.first().is_none())
-}
-
-/// The seats that wait on the condition.
-fn queue_at(alloc: Global, replay: &Replay, cond: u8) -> Result<Vec<u8>, AllocError>
-    ensures { IfOk result (λ v. v.items ≡ (replay_situation replay.now []).condition cond) }
-{
-    replay.condition(alloc, cond)
-}
-
-/// Whether the event must stay.
-fn must_stay<T: Guarded>(
-    alloc: Global,
-    replay: &Replay,
-    object: &T,
-    event: Event,
-) -> Result<bool, AllocError>
-    requires { fits_object T.CODES T.PREDICATES event ≡ true }
-    ensures { IfOk result
-        (λ stays. stays ≡ choice.must_stay T.meaning (replay_situation replay.now (T.state object.now)) event) }
-{
-    match event {
-        Event::Signal(_, cond, _) => is_empty_at(alloc, replay, cond),
-        Event::Until(_, pred, _) => Ok(object.holds(pred)),
-        _ => Ok(false),
-    }
-}
-
-/// The first of the waits-until whose predicate holds.
-fn first_ready<T: Guarded>(object: &T, untils: &[(u8, u8)]) -> Option<u8>
-    requires { All (λ w. w.1 < T.PREDICATES) untils.now }
-    ensures { result ≡ slice_get (ready_of T.meaning (T.state object.now) untils.now) 0 }
-{
-    for wait in untils {
-        if object.holds(wait.1) {
-            return Some(wait.0);
-        }
-    }
-    None
-}
-
-/// The seats that wait until a predicate holds, each with its predicate.
-fn untils(alloc: Global, replay: &Replay) -> Result<Vec<(u8, u8)>, AllocError>
-    ensures { IfOk result (λ v. v.items ≡ (replay_situation replay.now []).untils) }
-{
-    replay.untils(alloc)
-}
-
-/// The first seat whose predicate holds.
-fn ready<T: Guarded>(
-    alloc: Global,
-    setting: Setting,
-    replay: &Replay,
-    object: &T,
-) -> Result<Option<u8>, AllocError>
-    requires { IsReplayOf setting.seats setting.conds T.PREDICATES replay.now }
-    ensures { IfOk result
-        (λ x. x ≡ slice_get (ready_of T.meaning (T.state object.now) (replay_situation replay.now []).untils) 0) }
-{
-    let untils = untils(alloc, replay)?;
-    Ok(first_ready(object, &untils))
-}
+use std::alloc::AllocError;
 
 /// Whether waits are on conditions, and not until predicates hold.
 fn has_conditions(mode: Mode) -> bool
@@ -121,24 +50,15 @@ fn until(seat: Option<u8>) -> Option<Next>
     }
 }
 
-/// The choice of the front of the waiter queue; under automatic signalling of the first who is ready.
-fn inner_next<T: Guarded>(
-    alloc: Global,
-    setting: Setting,
-    replay: &Replay,
-    object: &T,
-    event: Event,
-) -> Result<Option<Next>, AllocError>
-    requires { IsReplayOf setting.seats setting.conds T.PREDICATES replay.now }
-    ensures { IfOk result
-        (λ x. x ≡ ending.inner_next setting.rules
-        (choice.queues_at T.meaning (replay_situation replay.now (T.state object.now)) event)) }
+/// The choice of the first that signals served; under automatic signalling of the first who is ready. The board has served.
+fn inner_next<T: Guarded>(setting: Setting, board: &Board, object: &T) -> Option<Next>
+    requires { IsBoardOf setting.seats setting.conds T.PREDICATES board.now }
+    ensures { result ≡ ending.inner_on setting.rules T.meaning (board_shown board.now (T.state object.now)) }
 {
     if has_conditions(setting.rules.mode) {
-        Ok(waiter(replay.first_waiter(event)))
+        waiter(first_served(&board.items))
     } else {
-        let seat = ready(alloc, setting, replay, object)?;
-        Ok(until(seat))
+        until(board.rest.first_ready(object))
     }
 }
 
@@ -171,24 +91,34 @@ fn by_fronts(rules: Rules, inner: Option<Next>, signaller: Option<u8>, caller: u
     }
 }
 
-/// What the release chooses where nobody wishes for anything.
+/// The front of the signaller queue.
+fn first_signaller(board: &Board) -> Option<u8>
+    ensures { (state : List ℕ) → result ≡ slice_get (board_shown board.now state).signallers 0 }
+{
+    match board.signallers.first() {
+        Some(seat) => Some(*seat),
+        None => None,
+    }
+}
+
+/// What the release chooses where nobody wishes for anything. The board is of no further use.
 fn unwished<T: Guarded>(
-    alloc: Global,
     setting: Setting,
-    replay: &Replay,
+    board: &mut Board,
     object: &T,
     event: Event,
 ) -> Result<Next, AllocError>
-    requires sound { IsReplayOf setting.seats setting.conds T.PREDICATES replay.now }
+    requires sound { IsBoardOf setting.seats setting.conds T.PREDICATES board.old }
     requires fits { fits_object T.CODES T.PREDICATES event ≡ true }
     ensures { IfOk result
-        (λ x. x ≡ completion.unwished_next setting.rules T.meaning (replay_situation replay.now (T.state object.now)) event) }
+        (λ x. x ≡ ending.unwished_on setting.rules T.meaning (board_shown board.old (T.state object.now)) event) }
 {
-    if must_stay(alloc, replay, object, event)? {
+    if board.must_stay(object, event) {
         return Ok(Next::Stay);
     }
-    let inner = inner_next(alloc, setting, replay, object, event)?;
-    let signaller = replay.first_signaller(event);
+    board.serve(event)?;
+    let inner = inner_next(setting, board, object);
+    let signaller = first_signaller(board);
     Ok(by_fronts(setting.rules, inner, signaller, event.seat()))
 }
 
@@ -203,19 +133,18 @@ fn last_release(pending: Pending) -> Option<Event>
     }
 }
 
-/// Adds the release with which a log ends, where events are kept.
+/// Adds the release with which a log ends, where events are kept. The board is of no further use.
 pub(crate) fn end<T: Guarded>(
-    alloc: Global,
     setting: Setting,
-    replay: &Replay,
+    board: &mut Board,
     object: &T,
     past: &mut Past,
     pending: Pending,
 ) -> Result<(), AllocError>
-    requires sound { IsReplayOf setting.seats setting.conds T.PREDICATES replay.now }
+    requires sound { IsBoardOf setting.seats setting.conds T.PREDICATES board.old }
     requires fits { (e : Event) → ending.last_release pending ≡ Some e → fits_object T.CODES T.PREDICATES e ≡ true }
     ensures { OnOk result (kept_events past.new ≡ kept_with (kept_events past.old)
-        (ending.last_events setting.rules T.meaning (replay_situation replay.now (T.state object.now)) pending)) }
+        (ending.last_on setting.rules T.meaning (board_shown board.old (T.state object.now)) pending)) }
 {
     if !past.is_kept() {
         return Ok(());
@@ -223,7 +152,7 @@ pub(crate) fn end<T: Guarded>(
     match last_release(pending) {
         None => Ok(()),
         Some(event) => {
-            let next = unwished(alloc, setting, replay, object, event)?;
+            let next = unwished(setting, board, object, event)?;
             past.add(with_next(event, next))
         }
     }

@@ -1,6 +1,6 @@
 //! What the items of a board tell of a condition, and of a seat that waits there.
 
-ghost use Rattle.std.specs.Prelude.{◌≡◌, ◌≤◌, drop, is_some, length};
+ghost use Rattle.std.specs.Prelude.{◌≡◌, ◌≤◌, drop, is_some, length, slice_get};
 ghost use Rattle.monk_logs.specs.Counts.{waiting_seats};
 ghost use Rattle.monk_logs.specs.Items as lines;
 ghost use Rattle.monk_logs.specs.Items.{has_service_behind, keeps_up, without_seat, line, seats_in, services, services_in, unserved_in};
@@ -41,6 +41,42 @@ pub(crate) fn has_no_service(items: &[Item]) -> bool
         }
     }
     true
+}
+
+/// The condition of the first service of all.
+fn first_service(items: &[Item]) -> Option<u8>
+    ensures { result ≡ slice_get (services items.now) 0 }
+{
+    for item in items {
+        if let Item::Service(cond) = *item {
+            return Some(cond);
+        }
+    }
+    None
+}
+
+/// The first seat that waits on the condition.
+fn first_seat(items: &[Item], cond: u8) -> Option<u8>
+    ensures { result ≡ slice_get (seats_in (line cond items.now)) 0 }
+{
+    for item in items {
+        if let Item::Waiting(seat, at) = *item {
+            if at == cond {
+                return Some(seat);
+            }
+        }
+    }
+    None
+}
+
+/// The first of all that signals served, in order of arrival.
+pub(crate) fn first_served(items: &[Item]) -> Option<u8>
+    ensures { result ≡ lines.first_served items.now }
+{
+    match first_service(items) {
+        Some(cond) => first_seat(items, cond),
+        None => None,
+    }
 }
 
 /// Whether the first service of all is of the condition.

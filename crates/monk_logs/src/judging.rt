@@ -8,10 +8,10 @@ ghost use Rattle.monk_logs.specs.Verdict.{FitsExactly, MisfitsExactly, log_monit
 ghost use Rattle.monk_logs.specs.ReadStand.{FitsExactlyWith, MisfitsExactlyWith, read_verdict};
 
 use crate::board_following::follow_board;
-use crate::following::follow_log;
 use crate::header::LogHeader;
 use crate::kept_lines::KeptLines;
 use crate::lapses::Lapses;
+use crate::legal_following::follow_log;
 use crate::line::LogLine;
 use crate::order::Order;
 use crate::past::Past;
@@ -31,7 +31,7 @@ use std::alloc::Global;
 ///
 /// # Cost
 ///
-/// One pass. A line takes as long as an event or two of an audit. Memory for the queues and the object alone.
+/// That of [`judge_in`].
 pub fn judge(
     alloc: Global,
     header: &LogHeader,

@@ -1,21 +1,20 @@
 -- What is found of the lines to come over a board, one line after the other
 use Rattle.std.proofs.Common.{◌≡◌, ℕ, cond, List, [], refl, ap, ◌∙◌}
-use Rattle.std.specs.Prelude.{◌==◌, Result, Ok, Err}
+use Rattle.std.specs.Prelude.{◌==◌, Result, Err}
 use Rattle.monk_kinds.specs.declared.mode.Rules.{Rules}
 use Rattle.monk_object.specs.Object.{Object}
 use Rattle.monk_history.specs.declared.event.Event.{Event}
 use Rattle.monk_history.specs.Meaning.Monitor.{monitor}
-use Rattle.monk_logs.specs.Board.{Board, board_after, board_reason, opening_board}
-use Rattle.monk_logs.specs.BoardCourse.{BoardCourse, board_settled, board_told}
+use Rattle.monk_logs.specs.Board.{Board, board_after, board_reason}
+use Rattle.monk_logs.specs.BoardCourse.{BoardCourse, board_told}
 use Rattle.monk_logs.specs.BoardStand.{board_add, board_behind_over, board_half_over, board_line_over, board_over}
-use Rattle.monk_logs.specs.BoardStand.{board_release_blame, board_verdict, board_verdict_from, course_by}
+use Rattle.monk_logs.specs.BoardStand.{board_release_blame, course_by}
 use Rattle.monk_logs.specs.declared.blame.Blame.{Blame}
 use Rattle.monk_logs.specs.declared.line.LogLine.{LogLine}
 use Rattle.monk_logs.specs.declared.line.LogLine.TheVariants.{Enter, Resume, Lapse, Leave, Wait, Signal, Broadcast, Until, Act}
 use Rattle.monk_logs.specs.declared.order.Order.{Order}
 use Rattle.monk_logs.specs.declared.pending.Pending.{Pending}
 use Rattle.monk_logs.specs.declared.pending.Pending.TheVariants.{Settled, Half, Release}
-use Rattle.monk_logs.proofs.VerdictLaws.Along.{along_same}
 
 -- ---- the opening state of the object has no part in how lines are judged from a board
 
@@ -69,13 +68,3 @@ module _ (o : Order) (k : Rules) (seats conds : ℕ) (ob : Object) (d : List ℕ
   pub over_apart : (x : BoardCourse) (l : LogLine)
       → board_over o (monitor k seats conds ob []) x l ≡ board_over o (monitor k seats conds ob d) x l
   over_apart x l = behind_apart x.board x.pending l
-
-  pub board_opens : (b : Board) (log : List LogLine) → b ≡ opening_board (monitor k seats conds ob d)
-      → board_verdict_from o (monitor k seats conds ob []) 0 (Ok (board_settled b)) log
-      ≡ board_verdict o (monitor k seats conds ob d) log
-  board_opens b log is =
-      ap (λ (x : Board). board_verdict_from o (monitor k seats conds ob []) 0 (Ok (board_settled x)) log) is
-      ∙ along_same (board_over o (monitor k seats conds ob [])) (board_over o (monitor k seats conds ob d)) 0
-      (Ok (board_settled (opening_board (monitor k seats conds ob d)))) log over_apart
-
--- ---- one line more

@@ -52,7 +52,7 @@ one_line : (o : Order) (m : Monitor) (x : BoardCourse) (l : LogLine)
 unfolding board_judge_from
 one_line o m x l = ended o m (board_behind o m x.board x.pending l)
 
-line_leads : (o : Order) (m : Monitor) (front : List LogLine) (x : BoardCourse) (l : LogLine) (r : Result BoardCourse Blame)
+pub line_leads : (o : Order) (m : Monitor) (front : List LogLine) (x : BoardCourse) (l : LogLine) (r : Result BoardCourse Blame)
     → board_judge o m front ≡ Some x → board_over o m x l ≡ r → board_judge o m (front ++ l ∷ []) ≡ result_ok r
 line_leads o m front x l r at is =
     judge-append o m (Some (board_settled (opening_board m))) front (l ∷ [])
@@ -73,7 +73,7 @@ judges o m = record {
       (sym (ap is_some (line_leads o m front x l (Err why) at is)) ∙ open_judged o m (front ++ l ∷ []) opens);
 }
 
-judged_none : (o : Order) (m : Monitor) → board_judge o m [] ≡ Some (board_settled (opening_board m))
+pub judged_none : (o : Order) (m : Monitor) → board_judge o m [] ≡ Some (board_settled (opening_board m))
 unfolding board_judge_from
 judged_none o m = refl
 

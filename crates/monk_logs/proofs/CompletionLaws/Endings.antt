@@ -3,6 +3,7 @@ use Rattle.std.proofs.Common.{◌≡◌, ℕ, ◌≤◌, ◌&&◌, Bool, true, f
 use Rattle.std.proofs.Common.{refl, sym, ap, subst, ◌∙◌, arith}
 use Rattle.std.proofs.lemmas.List.{append-nil, append_assoc, length-append, same_from_push}
 use Rattle.std.specs.List.{list_all}
+use Rattle.std.specs.Option.{option_map_or}
 use Rattle.std.specs.Prelude.{nat_lt}
 use Rattle.monk_kinds.specs.Kind.{IsKind}
 use Rattle.monk_kinds.specs.declared.mode.Pick.TheVariants.{Entry as WishEntry}
@@ -14,26 +15,29 @@ use Rattle.monk_history.specs.declared.event.Next.{Next}
 use Rattle.monk_history.specs.declared.event.Next.TheVariants.{Stay}
 use Rattle.monk_history.specs.Meaning.Events.{named_seat, next_of, seat_of, signals_on, waits_on}
 use Rattle.monk_history.specs.Meaning.Legal.{IsLegal}
-use Rattle.monk_history.specs.Meaning.Monitor.{Monitor, monitor}
+use Rattle.monk_history.specs.Meaning.Monitor.{Monitor}
 use Rattle.monk_history.specs.Meaning.Reasons.{IsAllowed, fits_object, is_condition}
 use Rattle.monk_history.specs.Meaning.Release.{MayCall, with_next}
 use Rattle.monk_history.specs.Meaning.Situation.{Situation, situation}
 use Rattle.monk_history.proofs.PublicLaws.Meaning.{and_right, chosen_allowed, history_induction, legal-push, legal_last, legal_order}
 use Rattle.monk_logs.specs.Completion.{AreHandedOver, Completes, IsCompletedBy, other_half, unwished_next}
-use Rattle.monk_logs.specs.Course.{course}
-use Rattle.monk_logs.specs.Ending.{last_events, last_release}
+use Rattle.monk_logs.specs.Ending.{last_release}
 use Rattle.monk_logs.specs.Erasure.{erasure_of, erasure}
 use Rattle.monk_logs.specs.Kept.{kept_with}
-use Rattle.monk_logs.specs.Stand.{IsHeld}
 use Rattle.monk_logs.specs.declared.line.LogLine.{LogLine}
 use Rattle.monk_logs.specs.declared.line.LogLine.TheVariants.{Leave, Signal}
 use Rattle.monk_logs.specs.declared.pending.Pending.{Pending}
 use Rattle.monk_logs.specs.declared.pending.Pending.TheVariants.{Settled, Half, Release}
 use Rattle.monk_logs.proofs.CompletionLaws.Halves.{event_whole, never, signal_half}
-use Rattle.monk_logs.proofs.CompletionLaws.HandedOver.{course_handed, handed-push, no_enter, release_is_no_enter}
 use Rattle.monk_logs.proofs.CompletionLaws.Known.{IsCourse, keeps_more}
+use Rattle.monk_logs.proofs.CourseLaws.Events.{handed-push, no_enter, release_is_no_enter}
 use Rattle.monk_logs.proofs.CourseLaws.Lists.{erasure-push}
-use Rattle.monk_logs.proofs.CourseLaws.Soundness.{IsStill, Tells, erased_with_next, release_right, tells_from}
+use Rattle.monk_logs.proofs.StepLaws.{next_with}
+use Rattle.monk_logs.proofs.CourseLaws.Soundness.{IsStill, Tells, erased_with_next, release_right}
+
+-- the release whose choice no line tells
+abbrev pub last_events : Rules → Object → Situation → Pending → List Event
+last_events k o t p = option_map_or (λ e. with_next (unwished_next k o t e) e ∷ []) (last_release p) []
 
 -- ---- how many events there are
 
@@ -74,16 +78,7 @@ unwished_again k o t x (event.SignalAll s c) = refl
 unwished_again k o t x (event.SignalWait s c d y) = refl
 
 chosen_is : (x y : Next) (e : Event) → next_of e ≡ Some Stay → next_of (with_next x e) ≡ Some y → y ≡ x
-chosen_is x y (event.Enter s via) h k = absurd cc
-chosen_is x y (event.Act s op r) h k = absurd cc
-chosen_is x y (event.Leave s z) h k = cc
-chosen_is x y (event.Wait s c z) h k = cc
-chosen_is x y (event.Signal s c z) h k = cc
-chosen_is x y (event.SignalLeave s c z) h k = cc
-chosen_is x y (event.Until s p z) h k = cc
-chosen_is x y (event.Resume s q) h k = absurd cc
-chosen_is x y (event.SignalAll s c) h k = absurd cc
-chosen_is x y (event.SignalWait s c d z) h k = cc
+chosen_is x y e h k = let same : Some y ≡ Some x = sym k ∙ next_with x e h in cc
 
 last_chosen : (m : Monitor) (past before : List Event) (e last : Event) (y : Next) → next_of e ≡ Some Stay
     → past ++ with_next (unwished_next m.kind m.object (situation m past) e) e ∷ [] ≡ before ++ last ∷ [] → next_of last ≡ Some y
@@ -152,18 +147,18 @@ half_told m past s c log may told =
     (signal_half m.kind.mode (erasure past) s c may.offered))
 
 tells_completes : (m : Monitor) (log : List LogLine) (past : List Event) (p : Pending) → IsKind m.kind → Tells m log past p
-    → AreHandedOver past → Completes m log (past ++ last_events m.kind m.object (situation m past) p)
-tells_completes m log past Settled kind t all =
+    → Completes m log (past ++ last_events m.kind m.object (situation m past) p)
+tells_completes m log past Settled kind t =
     subst (λ (x : List LogLine). Completes m x (past ++ [])) (sym (append-nil (erasure past)) ∙ t.told)
-    (settled_completes m past t.legal t.still all)
-tells_completes m log past (Half s c) kind t all =
+    (settled_completes m past t.legal t.still t.handed)
+tells_completes m log past (Half s c) kind t =
     release_completes m past (event.SignalLeave s c Stay) log kind t.legal t.still refl
-    (half_told m past s c log t.still t.told) (λ last. one_more past last (Signal s c ∷ []) log t.told (omega arith)) all
-tells_completes m log past (Release e) kind t all =
+    (half_told m past s c log t.still t.told) (λ last. one_more past last (Signal s c ∷ []) log t.told (omega arith)) t.handed
+tells_completes m log past (Release e) kind t =
     release_completes m past e log kind t.legal t.still.0 t.still.1
     (t.told ∙ whole m log (subst (λ (x : List LogLine). other_half m.kind.mode x ≡ []) t.told
     (event_whole m.kind.mode (erasure past) e t.still.0.offered)))
-    (λ last. one_more past last (erasure_of e) log t.told (some_line e)) all
+    (λ last. one_more past last (erasure_of e) log t.told (some_line e)) t.handed
 
 -- ---- what is kept
 
@@ -174,8 +169,7 @@ course_ends m log t p b o new kind c is =
     record {
       history = c.known ++ more;
       completes = subst (λ (x : Situation). Completes m log (c.known ++ last_events m.kind m.object x p)) c.stands
-          (tells_completes m log c.known p kind (tells_from m log (course c.known p) c.judged)
-          (course_handed m log (course c.known p) c.judged));
+          (tells_completes m log c.known p kind c.tells);
       keeps = keeps_more b o new c.known more c.keeps is;
     }
 
@@ -204,33 +198,6 @@ pub course_fits : (m : Monitor) (log : List LogLine) (t : Situation) (p : Pendin
     → last_release p ≡ Some e
     → fits_object codes predicates e ≡ true
 course_fits m log t p b o codes predicates e c few fewer is =
-    let fits = still_fits m c.known p e (tells_from m log (course c.known p) c.judged).still is in
+    let fits = still_fits m c.known p e c.tells.still is in
     subst (λ (n : ℕ). fits_object codes n e ≡ true) fewer
     (subst (λ (n : ℕ). fits_object n m.object.predicates e ≡ true) few fits)
-
-still_held : (m : Monitor) (past : List Event) (p : Pending) → IsStill m past p → IsHeld m (situation m past) p
-still_held m past Settled still = tt
-still_held m past (Half s c) still = tt
-still_held m past (Release e) still = still
-
--- the opening state of the object has no part in what may be called
-held_apart : (k : Rules) (seats conds : ℕ) (o : Object) (d : List ℕ) (t : Situation) (p : Pending)
-    → IsHeld (monitor k seats conds o d) t p → IsHeld (monitor k seats conds o []) t p
-held_apart k seats conds o d t Settled held = tt
-held_apart k seats conds o d t (Half s c) held = tt
-held_apart k seats conds o d t (Release e) held = (
-  record {
-    in_range = held.0.in_range;
-    offered = held.0.offered;
-    in_turn = held.0.in_turn;
-    in_place = held.0.in_place;
-  },
-  held.1,
-)
-
-pub course_held : (k : Rules) (seats conds : ℕ) (x : Object) (d : List ℕ) (log : List LogLine) (t : Situation) (p : Pending)
-    (b : Bool) (o : Option (List Event)) → IsCourse (monitor k seats conds x d) log t p b o → IsHeld (monitor k seats conds x []) t p
-course_held k seats conds x d log t p b o c =
-    let m = monitor k seats conds x d in
-    held_apart k seats conds x d t p (subst (λ (u : Situation). IsHeld m u p) c.stands
-    (still_held m c.known p (tells_from m log (course c.known p) c.judged).still))

@@ -10,9 +10,7 @@ use Rattle.monk_history.specs.declared.event.Event.{Event}
 use Rattle.monk_history.specs.declared.event.Event.TheVariants.{Enter, Act, Leave, Wait, Signal, SignalLeave, Until, Resume}
 use Rattle.monk_history.specs.declared.event.Event.TheVariants.{SignalAll, SignalWait}
 use Rattle.monk_history.specs.Meaning.Monitor.{Monitor}
-use Rattle.monk_history.specs.Meaning.Reasons.{IsAllowedIn, reason_before, reason_in, is_in_range, is_offered, is_in_turn, is_in_place}
-use Rattle.monk_history.specs.Meaning.Reasons.{is_right_reply}
-use Rattle.monk_history.specs.Meaning.Choice.{is_permitted}
+use Rattle.monk_history.specs.Meaning.Reasons.{reason_before, is_in_range, is_offered, is_in_turn, is_in_place}
 use Rattle.monk_history.specs.Meaning.Release.{MayCallIn, as_called, with_next}
 use Rattle.monk_history.specs.Meaning.Situation.{Situation}
 
@@ -51,22 +49,6 @@ pub tests_from_called : (m : Monitor) (t : Situation) (e : Event) → MayCallIn 
 tests_from_called m t e c =
     none_of_four (is_in_range m.seats m.conds m.object.codes m.object.predicates e) (is_offered m.kind e)
     (is_in_turn t e) (is_in_place m.object t e) c.in_range c.offered c.in_turn c.in_place
-
--- ---- all six
-
-abbrev pub first_of_six : Bool → Bool → Bool → Bool → Bool → Bool → ℕ
-first_of_six a b c d e f = cond (not a) 1 (cond (not b) 2 (cond (not c) 3 (cond (not d) 4 (cond (not e) 5 (cond (not f) 6 0)))))
-
-pub none_of_six : (a b c d e f : Bool) → a ≡ true → b ≡ true → c ≡ true → d ≡ true → e ≡ true → f ≡ true
-    → first_of_six a b c d e f ≡ 0
-none_of_six a b c d e f g h i j k l = rw (g, h, i, j, k, l) refl
-
-pub reason_from_allowed : (m : Monitor) (t : Situation) (e : Event) → IsAllowedIn m t e → reason_in m t e ≡ 0
-unfolding reason_in
-reason_from_allowed m t e a =
-    none_of_six (is_in_range m.seats m.conds m.object.codes m.object.predicates e) (is_offered m.kind e)
-    (is_in_turn t e) (is_in_place m.object t e) (is_right_reply m.object t.state e)
-    (is_permitted m.kind m.object t e) a.in_range a.offered a.in_turn a.in_place a.right_reply a.permitted
 
 -- ---- what may be called or is allowed may be called with another choice
 
@@ -135,6 +117,3 @@ module _ (m : Monitor) (t : Situation) where
   called_again (SignalLeave s c y) a = called_with (SignalLeave s c y) Stay a refl
   called_again (Until s p y) a = called_with (Until s p y) Stay a refl
   called_again (SignalWait s c d y) a = called_with (SignalWait s c d y) Stay a refl
-
-  pub allowed_called : (e : Event) → IsAllowedIn m t e → MayCallIn m t (as_called e)
-  allowed_called e a = called_again e (record { in_range = a.in_range; offered = a.offered; in_turn = a.in_turn; in_place = a.in_place })

@@ -17,14 +17,14 @@ use Rattle.monk_history.specs.Meaning.Choice.{Queues, queues_at, is_front, may_c
 use Rattle.monk_history.specs.Meaning.Events.{next_of, seat_of, steps_back, is_signaller, is_stay, is_waiter}
 use Rattle.monk_history.specs.Meaning.Legal.{IsLegal}
 use Rattle.monk_history.specs.Meaning.Monitor.{Monitor}
-use Rattle.monk_history.specs.Meaning.Reasons.{fits_turn, is_due, is_open, is_owned_by}
+use Rattle.monk_history.specs.Meaning.Reasons.{is_open, is_owned_by}
 use Rattle.monk_history.specs.Meaning.Signallers.{is_empty, signals, takes_signaller}
 use Rattle.monk_history.specs.Meaning.Situation.{Situation, situation}
 use Rattle.monk_history.specs.Meaning.Standing.{has_turn, in_queues, standing, times}
 use Rattle.monk_history.specs.Meaning.Step.{after}
 use Rattle.monk_history.specs.Meaning.Turn.{turn_by}
 use Rattle.monk_history.proofs.PublicLaws.Meaning.{and_left, legal_front, legal_last, legal_placed, legal_situation-push}
-use Rattle.monk_logs.specs.Course.{chosen_from, told_next}
+use Rattle.monk_logs.specs.Course.{chosen_from}
 use Rattle.monk_logs.specs.Erasure.{erasure_of}
 use Rattle.monk_logs.specs.declared.line.LogLine.{LogLine}
 use Rattle.monk_logs.specs.declared.line.LogLine.TheVariants.{Enter, Resume, Leave, Wait, Signal, Broadcast, Until, Act}
@@ -93,28 +93,6 @@ IsChosen q (next.Until j) = chosen_from q j ≡ next.Until j
 
 pub due_seat : (j r : ℕ) (b : Bool) → ((j == r) && b) ≡ true → j ≡ r
 due_seat j r b h = eqb-true j r (and_left (j == r) b h)
-
-due_is : (q : Queues) (s r : ℕ) (from : From3) (x : Next) → is_due r from (turn_by s (Some x)) ≡ true → IsChosen q x
-    → chosen_from q r ≡ x
-due_is q s r from next.Stay h is = absurd cc
-due_is q s r from next.Entry h is = absurd cc
-due_is q s r from (next.Waiter j) h is = subst (λ (k : ℕ). chosen_from q k ≡ next.Waiter j) (due_seat j r _ h) is
-due_is q s r from (next.Signaller j) h is = subst (λ (k : ℕ). chosen_from q k ≡ next.Signaller j) (due_seat j r _ h) is
-due_is q s r from (next.Until j) h is = subst (λ (k : ℕ). chosen_from q k ≡ next.Until j) (due_seat j r _ h) is
-
--- whoever has an event then, its line tells what the release of seat s chose
-pub line_tells : (q : Queues) (s : ℕ) (x : Next) (f : Event) → fits_turn (turn_by s (Some x)) f ≡ true → IsChosen q x
-    → told_next q (first_line f) ≡ x
-line_tells q s x (event.Enter r via) h is = entry_is s x h
-line_tells q s x (event.Act r op y) h is = stay_is s r x h
-line_tells q s x (event.Leave r y) h is = stay_is s r x h
-line_tells q s x (event.Wait r c y) h is = stay_is s r x h
-line_tells q s x (event.Signal r c y) h is = stay_is s r x h
-line_tells q s x (event.SignalLeave r c y) h is = stay_is s r x h
-line_tells q s x (event.Until r p y) h is = stay_is s r x h
-line_tells q s x (event.Resume r from) h is = due_is q s r from x h is
-line_tells q s x (event.SignalAll r c) h is = stay_is s r x h
-line_tells q s x (event.SignalWait r c d y) h is = stay_is s r x h
 
 -- ---- who was chosen is the front of its queue, and of no other
 

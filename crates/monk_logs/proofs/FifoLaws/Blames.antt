@@ -1,24 +1,25 @@
 -- In order of arrival the same is to blame over a board and in the situation that it is
 use Rattle.std.proofs.Common.{◌≡◌, ℕ, zero, suc, Bool, true, false, cond, ◌&&◌, ◌||◌, not, List, [], ◌∷◌, ◌++◌, take, refl, sym, ap}
-use Rattle.std.proofs.Common.{subst, ◌∙◌, ⊎_elim}
+use Rattle.std.proofs.Common.{subst, ◌∙◌, ⊎_elim, Some, None}
 use Rattle.std.proofs.lemmas.Bool.{cases_eq, false≢true, true≢false}
 use Rattle.std.specs.Prelude.{nat_lt}
 use Rattle.monk_history.specs.declared.event.Event.{Event}
 use Rattle.monk_history.specs.Meaning.Choice.{is_front, must_stay, queues_at}
 use Rattle.monk_history.specs.Meaning.Monitor.{Monitor}
-use Rattle.monk_history.specs.Meaning.Reasons.{is_right_reply}
+use Rattle.monk_history.specs.Meaning.Reasons.{is_offered, is_right_reply}
 use Rattle.monk_history.specs.Meaning.Situation.{Situation}
 use Rattle.monk_history.specs.Meaning.Turn.{is_exit_of}
 use Rattle.monk_history.specs.Meaning.Untils.{ready_of}
 use Rattle.monk_history.specs.Meaning.Waiters.{serves}
 use Rattle.monk_audit.specs.Replay.{has, is_front_in, stands_in}
 use Rattle.monk_logs.specs.Blame.{choice_blame, early_blame, first_blame, is_line_in_place, late_blame, line_event, may_be_called_back}
-use Rattle.monk_logs.specs.Blame.{may_be_its_turn, release_blame, resume_blame, stay_blame}
-use Rattle.monk_logs.specs.Board.{Board, items_with, sight, signallers_with}
+use Rattle.monk_logs.specs.Blame.{is_event_in_range, may_be_its_turn, release_blame, resume_blame, stay_blame}
+use Rattle.monk_logs.specs.Board.{Board, items_with, sight, signallers_with, waiting_item}
+use Rattle.monk_logs.specs.BoardLegal.{without_lapses}
 use Rattle.monk_logs.specs.BoardMoves.{board_served, choice_blame_on, comes_back, comes_next, late_blame_on, resume_blame_on, stay_blame_on}
 use Rattle.monk_logs.specs.BoardStand.{board_release_blame}
 use Rattle.monk_logs.specs.FitsIn.{is_lapse}
-use Rattle.monk_logs.specs.Items.{line, may_resume, seats_in, services_in, was_served}
+use Rattle.monk_logs.specs.Items.{line, may_lapse, may_resume, seats_in, services_in, was_served}
 use Rattle.monk_logs.specs.Order.{is_among}
 use Rattle.monk_logs.specs.declared.blame.Blame.{Blame}
 use Rattle.monk_logs.specs.declared.blame.Blame.TheVariants as blame
@@ -89,6 +90,23 @@ first_test : (a b c d e f : Bool) (x y : Blame) → a ≡ d → b ≡ e → c �
     ≡ cond (not d) blame.Turn (cond (not e) blame.Place (cond (not f) blame.Reply y))
 first_test a b c d e f x y h k l n = cc
 
+-- ---- a lapse
+
+late_without : (a b c may : Bool) → without_lapses (cond (not a) blame.Turn (cond (not b) blame.Place (cond (not c) blame.Reply
+    (cond may blame.Choice blame.Served)))) ≡ cond (not a) blame.Turn (cond (not b) blame.Place (cond (not c) blame.Reply blame.Served))
+late_without true true true true = refl
+late_without true true true false = refl
+late_without true true false may = refl
+late_without true false c may = refl
+late_without false b c may = refl
+
+early_without : (a b : Bool) (late : Blame)
+    → without_lapses (first_blame (cond (not a) (Some blame.Range) (cond (not b) (Some blame.Call) None)) late)
+    ≡ first_blame (cond (not a) (Some blame.Range) (cond (not b) (Some blame.Call) None)) (without_lapses late)
+early_without true true late = refl
+early_without true false late = refl
+early_without false b late = refl
+
 -- ---- the choice
 
 module _ (m : Monitor) (b : Board) (t : Situation) (e : Event) (sound : Sound b) (h : Alike b t) where
@@ -146,19 +164,42 @@ module _ (m : Monitor) (b : Board) (t : Situation) (e : Event) (sound : Sound b)
   choice_same (Until s p) none = stays_same s
   choice_same (Act s op r) none = stays_same s
 
-  late_same : (l : LogLine) → is_lapse l ≡ false
-      → late_blame m t e l ≡ late_blame_on Fifo m (must_stay m.object (sight b) e) (board_served b e) e l
-  late_same l none =
+  -- the tests before that of the choice
+  tests_same : (l : LogLine) (x y : Blame) → x ≡ y
+      → cond (not (may_be_its_turn (must_stay m.object t e) t.inside e l)) blame.Turn
+      (cond (not (is_line_in_place t.inside e l)) blame.Place
+      (cond (not (is_right_reply m.object t.state (line_event m.kind.mode l))) blame.Reply x))
+      ≡ cond (not (may_be_its_turn (must_stay m.object (sight b) e) b.inside e l)) blame.Turn
+      (cond (not (is_line_in_place b.inside e l)) blame.Place
+      (cond (not (is_right_reply m.object b.state (line_event m.kind.mode l))) blame.Reply y))
+  tests_same l x y same =
       first_test (may_be_its_turn (must_stay m.object t e) t.inside e l) (is_line_in_place t.inside e l)
       (is_right_reply m.object t.state (line_event m.kind.mode l))
       (may_be_its_turn (must_stay m.object (sight b) e) b.inside e l) (is_line_in_place b.inside e l)
-      (is_right_reply m.object b.state (line_event m.kind.mode l)) (choice_blame m.kind (queues_at m.object t e) l)
-      (choice_blame_on Fifo m.kind m.object (board_served b e) e l)
+      (is_right_reply m.object b.state (line_event m.kind.mode l)) x y
       (inside_turn (must_stay m.object t e) t.inside b.inside h.stands.inside e l
-      ∙ ap (λ (x : Bool). may_be_its_turn x b.inside e l) (stay_same Wake m.object b t e h.stands))
+      ∙ ap (λ (s : Bool). may_be_its_turn s b.inside e l) (stay_same Wake m.object b t e h.stands))
       (inside_place t.inside b.inside h.stands.inside e l)
-      (ap (λ (d : List ℕ). is_right_reply m.object d (line_event m.kind.mode l)) h.stands.state) (choice_same l none)
+      (ap (λ (d : List ℕ). is_right_reply m.object d (line_event m.kind.mode l)) h.stands.state) same
+
+  late_same : (l : LogLine) → is_lapse l ≡ false
+      → late_blame m t e l ≡ late_blame_on Fifo m (must_stay m.object (sight b) e) (board_served b e) e l
+  late_same l none =
+      tests_same l (choice_blame m.kind (queues_at m.object t e) l) (choice_blame_on Fifo m.kind m.object (board_served b e) e l)
+      (choice_same l none)
 
   pub blame_same : (l : LogLine) → is_lapse l ≡ false → release_blame m t e l ≡ board_release_blame Fifo m b e l
   blame_same l none =
       ap (λ (x : Blame). first_blame (early_blame m (line_event m.kind.mode l)) x) (late_same l none)
+
+  -- a lapse is forbidden where only the priorities forbid it, too
+  pub lapse_same : (s : ℕ) → release_blame m t e (Lapse s) ≡ without_lapses (board_release_blame Fifo m b e (Lapse s))
+  lapse_same s =
+      let told = line_event m.kind.mode (Lapse s) in
+      let late = late_blame_on Fifo m (must_stay m.object (sight b) e) (board_served b e) e (Lapse s) in
+      ap (λ (x : Blame). first_blame (early_blame m told) x)
+      (tests_same (Lapse s) blame.Served blame.Served refl
+      ∙ sym (late_without (may_be_its_turn (must_stay m.object (sight b) e) b.inside e (Lapse s))
+      (is_line_in_place b.inside e (Lapse s)) (is_right_reply m.object b.state told)
+      (may_lapse Fifo s (items_with b e ++ waiting_item e))))
+      ∙ sym (early_without (is_event_in_range m told) (is_offered m.kind told) late)

@@ -16,6 +16,7 @@ use Rattle.monk_history.proofs.PublicLaws.Meaning.{allowed_from_reason, legal-pu
 use Rattle.monk_logs.specs.Board.{Board, board_reason, items_with, signallers_with}
 use Rattle.monk_logs.specs.BoardCourse.{standing_choice}
 use Rattle.monk_logs.specs.Course.{chosen_from}
+use Rattle.monk_logs.specs.BoardMoves.{choice_on}
 use Rattle.monk_logs.specs.Items.{condition_of}
 use Rattle.monk_logs.specs.Order.{is_among}
 use Rattle.monk_logs.specs.declared.order.Order.TheVariants.{Fifo}
@@ -23,20 +24,10 @@ use Rattle.monk_logs.proofs.BoardLaws.Told.{IsFound, found}
 use Rattle.monk_logs.proofs.CourseLaws.Told.{IsChosen, chosen}
 use Rattle.monk_logs.proofs.FifoLaws.Reasons.{Same, same_reason}
 use Rattle.monk_logs.proofs.OrderLaws.Passes.{passes}
+use Rattle.monk_logs.proofs.StepLaws.{next_with}
+use Rattle.monk_logs.proofs.ToldLaws.{served_with}
 
 -- ---- with another choice
-
-next_with : (x : Next) (e : Event) → next_of e ≡ Some next.Stay → next_of (with_next x e) ≡ Some x
-next_with x (event.Enter s via) h = absurd cc
-next_with x (event.Act s op r) h = absurd cc
-next_with x (event.Leave s y) h = refl
-next_with x (event.Wait s c y) h = refl
-next_with x (event.Signal s c y) h = refl
-next_with x (event.SignalLeave s c y) h = refl
-next_with x (event.Until s p y) h = refl
-next_with x (event.Resume s q) h = absurd cc
-next_with x (event.SignalAll s c) h = absurd cc
-next_with x (event.SignalWait s c d y) h = refl
 
 queues_with : (o : Object) (t : Situation) (x : Next) (e : Event) → queues_at o t (with_next x e) ≡ queues_at o t e
 queues_with o t x (event.Enter s via) = refl
@@ -51,16 +42,7 @@ queues_with o t x (event.SignalAll s c) = refl
 queues_with o t x (event.SignalWait s c d y) = refl
 
 stands_with : (b : Board) (x : Next) (e : Event) (j : ℕ) → standing_choice b (with_next x e) j ≡ standing_choice b e j
-stands_with b x (event.Enter s via) j = refl
-stands_with b x (event.Act s op r) j = refl
-stands_with b x (event.Leave s y) j = refl
-stands_with b x (event.Wait s c y) j = refl
-stands_with b x (event.Signal s c y) j = refl
-stands_with b x (event.SignalLeave s c y) j = refl
-stands_with b x (event.Until s p y) j = refl
-stands_with b x (event.Resume s q) j = refl
-stands_with b x (event.SignalAll s c) j = refl
-stands_with b x (event.SignalWait s c d y) j = refl
+stands_with b x e j = ap (λ (y : Board). choice_on y j) (sym (served_with b x e))
 
 -- ---- the choice of a seat, from the one queue or the other
 

@@ -2,6 +2,7 @@
 use Rattle.std.proofs.Common.{◌≡◌, ℕ, ◌≤◌, zero, suc, true, false, eqb, List, [], ◌∷◌, ◌++◌, drop, take}
 use Rattle.std.proofs.Common.{length, map, Option, Some, None, refl, sym, ap, subst, ◌∙◌, ⊎_elim, arith, append-nil}
 use Rattle.std.specs.Option.{option_map_or}
+use Rattle.std.specs.Prelude.{slice_get}
 use Rattle.std.proofs.lemmas.Bool.{cases_Bool, cases_eq, eq-eqb, eqb-true, false≢true, ne_eqb, true≢false}
 use Rattle.std.proofs.lemmas.List.{take_all, take-append-le}
 use Rattle.monk_history.specs.declared.event.Event.{Event}
@@ -17,7 +18,8 @@ use Rattle.monk_history.specs.Meaning.Standing.{times}
 use Rattle.monk_history.specs.Meaning.Waiters.{served_at, serves}
 use Rattle.monk_logs.specs.Board.{Board, chosen_out, items_with}
 use Rattle.monk_logs.specs.Items.{can_be_unserved, condition_of, keeps_up, without_seat, line, may_lapse, may_resume, seats_in}
-use Rattle.monk_logs.specs.Items.{services, services_in, taken_out, unserved_in, without_service}
+use Rattle.monk_logs.specs.Items.{first_seat_at, first_served as first_of_all, services, services_in, taken_out, unserved_in}
+use Rattle.monk_logs.specs.Items.{without_service}
 use Rattle.monk_logs.specs.Order.{apart, is_among}
 use Rattle.monk_logs.specs.Run.{chosen_waiter}
 use Rattle.monk_logs.specs.declared.item.Item.{Item}
@@ -147,6 +149,20 @@ none_of items (c ∷ cs) keeps is =
 
 pub none_served : (items : List Item) → KeepsUp items → is_empty (served_in items) ≡ is_empty (services items)
 none_served items keeps = none_of items (services items) keeps refl
+
+first_at : (xs more : List ℕ) → 1 ≤ length xs → slice_get (take 1 xs ++ more) 0 ≡ slice_get xs 0
+first_at [] more l = absurd (omega arith)
+first_at (x ∷ xs) more l = refl
+
+first_seat_of : (items : List Item) (cs : List ℕ) → KeepsUp items → services items ≡ cs
+    → slice_get (in_service cs (seats_of items)) 0 ≡ first_seat_at (slice_get cs 0) items
+first_seat_of items [] keeps is = refl
+first_seat_of items (c ∷ cs) keeps is =
+    first_at (seats_of items c) (in_service cs (first_off c (seats_of items)))
+    (omega (arith, service_there c cs items is, few_services 0 (line c items) (keeps c)))
+
+pub first_in : (items : List Item) → KeepsUp items → slice_get (served_in items) 0 ≡ first_of_all items
+first_in items keeps = first_seat_of items (services items) keeps refl
 
 -- ---- the front goes on
 

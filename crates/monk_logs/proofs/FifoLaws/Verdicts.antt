@@ -17,8 +17,9 @@ use Rattle.monk_history.specs.Meaning.Situation.{Situation}
 use Rattle.monk_history.specs.Meaning.Step.{after}
 use Rattle.monk_logs.specs.Along.{verdict_along}
 use Rattle.monk_logs.specs.Blame.{blame_of, release_blame}
-use Rattle.monk_logs.specs.Board.{Board, board_after, board_reason}
-use Rattle.monk_logs.specs.BoardCourse.{BoardCourse, board_course, standing_choice}
+use Rattle.monk_logs.specs.Board.{Board, board_after, board_reason, opening_board}
+use Rattle.monk_logs.specs.BoardCourse.{BoardCourse, board_course, board_settled, standing_choice}
+use Rattle.monk_logs.specs.BoardLegal.{legal_behind}
 use Rattle.monk_logs.specs.BoardStand.{board_behind_over, board_half_over, board_hold_over, board_line_over, board_over}
 use Rattle.monk_logs.specs.BoardStand.{board_release_blame, board_settle, board_told_over, board_verdict, course_by}
 use Rattle.monk_logs.specs.Course.{chosen_from, due_from}
@@ -32,18 +33,18 @@ use Rattle.monk_logs.specs.declared.order.Order.TheVariants.{Fifo}
 use Rattle.monk_logs.specs.declared.pending.Pending.{Pending}
 use Rattle.monk_logs.specs.declared.pending.Pending.TheVariants.{Settled, Half, Release}
 use Rattle.monk_logs.specs.declared.verdict.LogVerdict.TheVariants.{Misfit}
-use Rattle.monk_logs.proofs.FifoLaws.Blames.{blame_same}
+use Rattle.monk_logs.proofs.FifoLaws.Blames.{blame_same, lapse_same}
 use Rattle.monk_logs.proofs.FifoLaws.Reasons.{Same, before_same, same_after, same_opening, same_reason}
 use Rattle.monk_logs.proofs.FifoLaws.Releases.{allowed_same, passed_same}
 
 -- what is pending is written with `stay`
-abbrev IsWritten : Pending → Type 0
+abbrev pub IsWritten : Pending → Type 0
 IsWritten Settled = Unit {0}
 IsWritten (Half s c) = Unit {0}
 IsWritten (Release e) = next_of e ≡ Some next.Stay
 
 -- both lead to the same, or the same is to blame
-abbrev Matches : Monitor → Result BoardCourse Blame → Result Stand Blame → Type 0
+abbrev pub Matches : Monitor → Result BoardCourse Blame → Result Stand Blame → Type 0
 Matches m (Ok x) (Ok s) = (x.pending ≡ s.pending) × Same m x.board s.now × IsWritten s.pending
 Matches m (Ok x) (Err why) = ⊥
 Matches m (Err why) (Ok s) = ⊥
@@ -177,6 +178,21 @@ behind_matches m b t Settled l same written none = line_matches m b t same l non
 behind_matches m b t (Half s c) l same written none = half_matches m b t same s c l
 behind_matches m b t (Release e) l same written none = told_matches m b t e same l written none
 
+-- by the rules alone, whatever the line
+pub legal_matches : (m : Monitor) (b : Board) (t : Situation) (p : Pending) (l : LogLine) → Same m b t → IsWritten p
+    → Matches m (legal_behind m b p l) (line_behind m t p l)
+legal_matches m b t p (Enter s) same written = behind_matches m b t p (Enter s) same written refl
+legal_matches m b t p (Resume s) same written = behind_matches m b t p (Resume s) same written refl
+legal_matches m b t Settled (Lapse s) same written = refl
+legal_matches m b t (Half j c) (Lapse s) same written = refl
+legal_matches m b t (Release e) (Lapse s) same written = sym (lapse_same m b t e same.sound same.alike s)
+legal_matches m b t p (Leave s) same written = behind_matches m b t p (Leave s) same written refl
+legal_matches m b t p (Wait s c) same written = behind_matches m b t p (Wait s c) same written refl
+legal_matches m b t p (Signal s c) same written = behind_matches m b t p (Signal s c) same written refl
+legal_matches m b t p (Broadcast s c) same written = behind_matches m b t p (Broadcast s c) same written refl
+legal_matches m b t p (Until s q) same written = behind_matches m b t p (Until s q) same written refl
+legal_matches m b t p (Act s op r) same written = behind_matches m b t p (Act s op r) same written refl
+
 verdicts_match : (m : Monitor) (n : ℕ) (r : Result BoardCourse Blame) (q : Result Stand Blame) (log : List LogLine) → Matches m r q
     → has_lapse log ≡ false → verdict_along (board_over Fifo m) n r log ≡ verdict_along (line_over m) n q log
 unfolding verdict_along
@@ -192,3 +208,23 @@ verdicts_match m n (Ok x) (Ok s) (l ∷ log) h none =
 
 pub verdict_same : (m : Monitor) (log : List LogLine) → has_lapse log ≡ false → board_verdict Fifo m log ≡ verdict_on m log
 verdict_same m log none = verdicts_match m 0 _ _ log (refl, same_opening m, tt) none
+
+-- the verdict over a board by the rules alone is that by how the monitor stands
+abbrev pub legal_over : Monitor → BoardCourse → LogLine → Result BoardCourse Blame
+legal_over m x l = legal_behind m x.board x.pending l
+
+legals_match : (m : Monitor) (n : ℕ) (r : Result BoardCourse Blame) (q : Result Stand Blame) (log : List LogLine) → Matches m r q
+    → verdict_along (legal_over m) n r log ≡ verdict_along (line_over m) n q log
+unfolding verdict_along
+legals_match m n (Err why) (Err because) log h = ap (λ (x : Blame). Misfit n x) h
+legals_match m n (Err why) (Ok s) log h = absurd h
+legals_match m n (Ok x) (Err because) log h = absurd h
+legals_match m n (Ok x) (Ok s) [] h = refl
+legals_match m n (Ok x) (Ok s) (l ∷ log) h =
+    legals_match m (n + 1) (legal_over m x l) (line_over m s l) log
+    (subst (λ (y : Pending). Matches m (legal_behind m x.board y l) (line_behind m s.now s.pending l)) (sym h.0)
+    (legal_matches m x.board s.now s.pending l h.1 h.2))
+
+pub legal_same : (m : Monitor) (log : List LogLine)
+    → verdict_along (legal_over m) 0 (Ok (board_settled (opening_board m))) log ≡ verdict_on m log
+legal_same m log = legals_match m 0 _ _ log (refl, same_opening m, tt)

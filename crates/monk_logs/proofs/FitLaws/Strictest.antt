@@ -1,5 +1,5 @@
 -- The strictest order in which a log is open, where each verdict is exact
-use Rattle.std.proofs.Common.{◌≡◌, ℕ, true, false, List, Some, refl, sym, ◌∙◌}
+use Rattle.std.proofs.Common.{◌≡◌, ℕ, true, List, Some, refl, sym, ◌∙◌}
 use Rattle.std.specs.Prelude.{◌↔◌}
 use Rattle.std.proofs.lemmas.Bool.{false≢true}
 use Rattle.monk_logs.specs.Exactly.{FitsExactlyBy, IsFirstWithout, MisfitsExactlyBy, misfit_at}

@@ -82,14 +82,6 @@ dropped_more j (suc n) zero xs le h = absurd (omega arith)
 dropped_more j (suc n) (suc m) [] le h = h
 dropped_more j (suc n) (suc m) (x ∷ xs) le h = dropped_more j n m xs (omega arith) h
 
--- who isn't among the first is among the rest
-pub behind_first : (j n : ℕ) (xs : List ℕ) → is_among j xs ≡ true → is_among j (take n xs) ≡ false → is_among j (drop n xs) ≡ true
-behind_first j zero xs m f = m
-behind_first j (suc n) [] m f = m
-behind_first j (suc n) (x ∷ xs) m f =
-    ⊎_elim (λ e. absurd (false≢true (sym f ∙ rw (eq-eqb x j e) refl)))
-    (λ ne. behind_first j n xs (among_others j x xs ne m) (rw (ne_eqb x j ne) at f)) (cases_eq x j)
-
 module _ (j : ℕ) (k l : List (Option ℕ)) (e : seats_in k ≡ seats_in l)
     (d : Distinct (seats_in k)) (m : is_among j (seats_in k) ≡ true) where
   abbrev p : ℕ

@@ -22,12 +22,13 @@ use Rattle.monk_logs.specs.declared.order.Order.TheVariants.{Any}
 use Rattle.monk_logs.specs.declared.pending.Pending.{Pending}
 use Rattle.monk_logs.specs.declared.pending.Pending.TheVariants.{Half, Release}
 use Rattle.monk_logs.specs.declared.step.Step.TheVariants.{Did, Lapsed}
+use Rattle.monk_logs.proofs.BoardLaws.Completeness.{step_ok}
 use Rattle.monk_logs.proofs.CourseLaws.Tests.{passed}
 use Rattle.monk_logs.proofs.LapseLaws.Fewer.{Fewer}
 use Rattle.monk_logs.proofs.LapseLaws.Goes.{fewer_lapsed, may_lapse_fewer}
 use Rattle.monk_logs.proofs.LapseLaws.Moved.{items_after, moved}
 use Rattle.monk_logs.proofs.LapseLaws.Moves.{IsLevel, Suits, with_items}
-use Rattle.monk_logs.proofs.OrderLaws.Passes.{Passes, passes, reason_none}
+use Rattle.monk_logs.proofs.OrderLaws.Passes.{Passes, passes}
 use Rattle.monk_logs.proofs.OrderLaws.Sound.{Sound, sound_after, sound_distinct, sound_lapse}
 
 -- a course with the same behind it, but for fewer services
@@ -58,9 +59,6 @@ known_did o m b e x h =
     let p = known_if (board_reason o m b e == 0) (board_after m.object b e) x h in
     (passes o m b e (eqb-true (board_reason o m b e) 0 p.0), p.1)
 
-pub did_ok : (o : Order) (m : Monitor) (b : Board) (e : Event) → Passes o m b e → board_step o m b (Did e) ≡ Some (board_after m.object b e)
-did_ok o m b e p = rw (reason_none o m b e p) refl
-
 pub known_lapsed : (o : Order) (m : Monitor) (b : Board) (s : ℕ) (x : BoardCourse) → board_known o m b (Lapsed s) ≡ Some x
     → (is_open b.turn ≡ true) × (may_lapse o s b.items ≡ true) × (board_settled (board_lapse b s) ≡ x)
 known_lapsed o m b s x h =
@@ -86,7 +84,7 @@ module _ (m : Monitor) (level : IsLevel m.kind) (xs : List Item) (b : Board) (h 
         let p = known_did Any m b e x k in
         let r = moved m level xs b h many sound e p.0 suits in
         follows_by (board_known Any m few (Did e)) (board_settled (board_after m.object few e)) x
-        (ap (option_map board_settled) (did_ok Any m few e r.passes))
+        (ap (option_map board_settled) (step_ok Any m few e r.passes))
         (subst (λ (y : BoardCourse). Below (board_settled (board_after m.object few e)) y) p.1 (record {
           items = items_after xs e;
           is = ap board_settled r.comes_to;
@@ -166,7 +164,7 @@ then_did o m b f l x h =
 
 pub then_ok : (o : Order) (m : Monitor) (b c : Board) (f : Event) (l : LogLine) → Passes o m b f → board_after m.object b f ≡ c
     → board_then o m (board_step o m b (Did f)) l ≡ board_line o m c l
-then_ok o m b c f l p e = ap (λ (y : Option Board). board_then o m y l) (did_ok o m b f p ∙ ap (λ (y : Board). Some y) e)
+then_ok o m b c f l p e = ap (λ (y : Option Board). board_then o m y l) (step_ok o m b f p ∙ ap (λ (y : Board). Some y) e)
 
 pub then_follows : (m : Monitor) → IsLevel m.kind → (xs : List Item) (b : Board) → Fewer Any xs b.items → Sound b
     → Sound (with_items xs b) → (f : Event) (l : LogLine) (x : BoardCourse) → Suits (next_of f) (items_with (with_items xs b) f)

@@ -1,5 +1,5 @@
 -- An event that a board takes a board with fewer services takes too, and is again one with fewer services
-use Rattle.std.proofs.Common.{◌≡◌, ℕ, ◌+◌, true, false, ◌&&◌, not, List, [], ◌∷◌, ◌++◌, Option, Some, None, refl}
+use Rattle.std.proofs.Common.{◌≡◌, ℕ, true, false, ◌&&◌, not, List, [], ◌∷◌, ◌++◌, Option, Some, None, refl}
 use Rattle.std.proofs.Common.{ap, arith}
 use Rattle.std.proofs.lemmas.Bool.{and_from, and_parts, false≢true}
 use Rattle.monk_history.specs.declared.event.Event.{Event}
@@ -38,7 +38,7 @@ pub record Moved (m : Monitor) (xs : List Item) (b : Board) (e : Event) : Type 0
   pub comes_to : board_after m.object (with_items xs b) e ≡ with_items (items_after xs e) (board_after m.object b e)
   pub fewer : Fewer Any (items_after xs e) (board_after m.object b e).items
 
-empty_is : (l : List ℕ) → is_empty l ≡ true → l ≡ []
+pub empty_is : (l : List ℕ) → is_empty l ≡ true → l ≡ []
 empty_is [] h = refl
 empty_is (x ∷ l) h = absurd (false≢true h)
 

@@ -1,5 +1,5 @@
 -- Where signals serve in order of arrival, and where no task comes in past a waiter, no line can be read both as it stands and as a lapse
-use Rattle.std.proofs.Common.{◌≡◌, ℕ, ◌+◌, suc, zero, Bool, true, false, cond, ◌&&◌, ◌||◌, ◌==◌, List, [], ◌∷◌, ◌++◌, Option, Some, None}
+use Rattle.std.proofs.Common.{◌≡◌, ℕ, suc, zero, Bool, true, false, cond, ◌&&◌, ◌||◌, ◌==◌, List, [], ◌∷◌, ◌++◌, Option, Some, None}
 use Rattle.std.proofs.Common.{refl, sym, ap, ◌∙◌, ◌⊎◌, ⊎_elim, subst, take, drop, arith}
 use Rattle.std.specs.Option.{option_map_or}
 use Rattle.std.specs.Prelude.{is_some}
@@ -28,7 +28,8 @@ use Rattle.monk_logs.specs.declared.order.Order.TheVariants.{Fifo, Wake, Any}
 use Rattle.monk_logs.specs.declared.pending.Pending.{Pending}
 use Rattle.monk_logs.specs.declared.pending.Pending.TheVariants.{Settled, Half, Release}
 use Rattle.monk_logs.proofs.LapseLaws.Lines.{known_did, known_lapsed, then_did}
-use Rattle.monk_logs.proofs.LapseLaws.Read.{IsRelease, goes_as_waiter, lapse_waits, not_due, standing}
+use Rattle.monk_logs.proofs.LapseLaws.Moved.{empty_is}
+use Rattle.monk_logs.proofs.LapseLaws.Read.{IsRelease, goes_as_waiter, not_due, standing}
 use Rattle.monk_logs.proofs.LapseLaws.Released.{condition_came}
 use Rattle.monk_logs.proofs.LapseLaws.Resuming.{items_behind, may_be_served}
 use Rattle.monk_logs.proofs.OrderLaws.Choosing.{resume_served, resumes}
@@ -36,10 +37,10 @@ use Rattle.monk_logs.proofs.OrderLaws.Coming.{lapses}
 use Rattle.monk_logs.proofs.OrderLaws.Leads.{among_dropped}
 use Rattle.monk_logs.proofs.OrderLaws.Led.{can_service}
 use Rattle.monk_logs.proofs.OrderLaws.Lines.{all_seats, distinct_line, line-append, no_service, seats_in-append}
-use Rattle.monk_logs.proofs.OrderLaws.Lines.{services_in-append, services_taken}
+use Rattle.monk_logs.proofs.OrderLaws.Lines.{services_in-append, services_taken, some_same}
 use Rattle.monk_logs.proofs.OrderLaws.Lists.{Distinct, among_others, apart_from}
 use Rattle.monk_logs.proofs.OrderLaws.Passes.{Passes}
-use Rattle.monk_logs.proofs.OrderLaws.Sound.{Sound, keeps_with, sound_after, sound_distinct}
+use Rattle.monk_logs.proofs.OrderLaws.Sound.{Sound, keeps_with, lapse_there, sound_after, sound_distinct}
 
 -- ---- no service, nobody served
 
@@ -50,10 +51,6 @@ no_resume o j items up none may =
     omega (arith, no_service r.on items none, services_taken j (line r.on items) (can_service o j (line r.on items) r.can (up r.on)))
 
 -- ---- a task comes in past no waiter
-
-empty_is : (l : List ℕ) → is_empty l ≡ true → l ≡ []
-empty_is [] h = refl
-empty_is (x ∷ l) h = absurd (false≢true h)
 
 choose_alone : (k : Rules) → (k.waiter == k.entry) ≡ false → (q : Chances) (v : ℕ) → may_choose_by k q v Entry ≡ true → q.no_waiter ≡ true
 choose_alone k never q v h =
@@ -117,9 +114,6 @@ first_or_rest j c ws vs d none h k =
     (subst (λ (l : List ℕ). is_among j (take (services_in (line c ws)) l) ≡ true) (sym seats)
     (take_joined j (services_in (line c ws)) (seats_in (line c ws)) (seats_in (line c vs)) h))) k
 
-some_same : (c d : ℕ) → Some c ≡ Some d → c ≡ d
-some_same c d h = cc
-
 -- in such an order
 abbrev pub IsFirstServed : Order → Type 0
 IsFirstServed Fifo = Unit {0}
@@ -172,7 +166,7 @@ module _ (o : Order) (m : Monitor) (alone : IsFirstServed o ⊎ ((m.kind.waiter 
       let i = is_among s (signallers_with b e) in
       let f = then_did o m b (with_next (standing w i s) e) (Resume s) y is in
       waiter_goes e stays s w i p.0 lapse f.0
-      (goes_as_waiter o m b e s sound stays (lapse_waits o s (items_with b e ++ waiting_item e) lapse) w i f.0)
+      (goes_as_waiter o m b e s sound stays (lapse_there o s (items_with b e ++ waiting_item e) lapse) w i f.0)
 
   pub read_once : (p : Pending) → IsRelease p → (s : ℕ) (x y : BoardCourse) → board_behind o m b p (Lapse s) ≡ Some x
       → board_behind o m b p (Resume s) ≡ Some y → ⊥

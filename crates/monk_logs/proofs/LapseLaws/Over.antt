@@ -36,7 +36,8 @@ use Rattle.monk_logs.specs.declared.line.LogLine.TheVariants.{Resume, Lapse}
 use Rattle.monk_logs.specs.declared.order.Order.{Order}
 use Rattle.monk_logs.specs.declared.pending.Pending.TheVariants.{Settled, Half, Release}
 use Rattle.monk_logs.proofs.LapseLaws.Read.{not_due, standing}
-use Rattle.monk_logs.proofs.LapseLaws.Resuming.{items_behind, next_with}
+use Rattle.monk_logs.proofs.LapseLaws.Resuming.{items_behind}
+use Rattle.monk_logs.proofs.StepLaws.{next_with}
 use Rattle.monk_logs.proofs.OrderLaws.Passes.{Passes, passes, reason_none}
 
 -- ---- two blames

@@ -40,12 +40,12 @@ use Rattle.monk_logs.proofs.LapseLaws.Lines.{line_follows, then_did}
 use Rattle.monk_logs.proofs.LapseLaws.Lines.{then_follows, then_ok}
 use Rattle.monk_logs.proofs.LapseLaws.Moves.{IsLevel, Suits, with_items}
 use Rattle.monk_logs.proofs.LapseLaws.Released.{lapsed_below, served_below}
-use Rattle.monk_logs.proofs.LapseLaws.Resuming.{items_behind, items_same, may_be_served, next_with, stands_once}
-use Rattle.monk_logs.proofs.OrderLaws.Coming.{lapses}
-use Rattle.monk_logs.proofs.OrderLaws.Lines.{all_seats, among_line, waits_there}
+use Rattle.monk_logs.proofs.LapseLaws.Resuming.{items_behind, items_same, may_be_served, stands_once}
+use Rattle.monk_logs.proofs.StepLaws.{next_with}
+use Rattle.monk_logs.proofs.OrderLaws.Lines.{all_seats}
 use Rattle.monk_logs.proofs.OrderLaws.Lists.{counted_one}
 use Rattle.monk_logs.proofs.OrderLaws.Passes.{Passes}
-use Rattle.monk_logs.proofs.OrderLaws.Sound.{Sound, sound_after}
+use Rattle.monk_logs.proofs.OrderLaws.Sound.{Sound, lapse_there, sound_after}
 
 -- what is still to be known is of a release that is written with `stay`
 abbrev pub IsRelease : Pending → Type 0
@@ -89,9 +89,6 @@ goes_as_waiter o m b e s sound stays there false false p =
     (ap (λ (n : Option Next). has_turn s (turn_by (seat_of (with_next (UntilSeat s) e)) n)) (next_with (UntilSeat s) e stays)
     ∙ counted_one s)
     (subst (λ (l : List Item). is_among s (all_seats l) ≡ true) (sym (items_behind m.object b (UntilSeat s) e stays)) there))
-
-pub lapse_waits : (o : Order) (s : ℕ) (items : List Item) → may_lapse o s items ≡ true → is_among s (all_seats items) ≡ true
-lapse_waits o s items may = let r = lapses o s items may in among_line s r.on items (waits_there s r.on items r.waits)
 
 pub not_due : (t : Turn) (s : ℕ) → is_open t ≡ true → is_due s (due_from t) t ≡ true → ⊥
 not_due Open s h k = false≢true k
@@ -163,7 +160,7 @@ module _ (m : Monitor) (level : IsLevel m.kind) (xs : List Item) (b : Board) (h 
         (sym (same_seats Any (us e ++ waiting_item e) (items_with b e ++ waiting_item e)
         (fewer_came Any e (us e) (items_with b e) (fewer_with e))))
         (subst (λ (l : List Item). is_among s (all_seats l) ≡ true) (items_behind m.object b Entry e stays)
-        (lapse_waits Any s (board_after m.object b (with_next Entry e)).items may))
+        (lapse_there Any s (board_after m.object b (with_next Entry e)).items may))
 
     served_goes : (e : Event) → next_of e ≡ Some Stay → (s : ℕ) (x y : BoardCourse) (w i : Bool)
         → board_then Any m (board_step Any m b (Did (with_next Entry e))) (Lapse s) ≡ Some x

@@ -22,7 +22,8 @@ use Rattle.monk_logs.proofs.LapseLaws.Goes.{fewer_mixed, fewer_turned, keeps_gon
 use Rattle.monk_logs.proofs.LapseLaws.Lines.{Below}
 use Rattle.monk_logs.proofs.LapseLaws.Moved.{Moved, moved}
 use Rattle.monk_logs.proofs.LapseLaws.Moves.{IsLevel, Suits, with_items}
-use Rattle.monk_logs.proofs.LapseLaws.Resuming.{entry_passes, items_behind, lapsed_same, may_be_served, next_with, resumed}
+use Rattle.monk_logs.proofs.LapseLaws.Resuming.{entry_passes, items_behind, lapsed_same, may_be_served, resumed}
+use Rattle.monk_logs.proofs.StepLaws.{next_with}
 use Rattle.monk_logs.proofs.OrderLaws.Choosing.{resume_there}
 use Rattle.monk_logs.proofs.OrderLaws.Lines.{all_seats, all_seats-append, among_line, waits_there}
 use Rattle.monk_logs.proofs.OrderLaws.Lists.{Distinct, among-append, among_here, among_others}

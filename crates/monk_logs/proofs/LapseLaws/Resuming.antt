@@ -1,6 +1,6 @@
 -- A seat that goes on behind a release, as one that was served and as one whose wait ran out
-use Rattle.std.proofs.Common.{◌≡◌, ℕ, ◌+◌, Bool, true, false, cond, ◌&&◌, ◌||◌, ◌==◌, List, [], ◌∷◌, ◌++◌, Some}
-use Rattle.std.proofs.Common.{refl, ap, ◌⊎◌, inl, inr, subst, arith, append-nil, filter}
+use Rattle.std.proofs.Common.{◌≡◌, ℕ, Bool, true, false, cond, ◌&&◌, ◌||◌, ◌==◌, List, [], ◌∷◌, ◌++◌, Some}
+use Rattle.std.proofs.Common.{refl, sym, ap, ◌⊎◌, inl, inr, subst, arith, append-nil, filter}
 use Rattle.std.specs.Prelude.{nat_le}
 use Rattle.std.proofs.lemmas.Bool.{and_from, and_parts, false≢true, or_cases, or_left, or_right}
 use Rattle.monk_kinds.specs.declared.mode.Rules.{Rules}
@@ -32,32 +32,13 @@ use Rattle.monk_logs.proofs.OrderLaws.Lists.{among_counted}
 use Rattle.monk_logs.proofs.OrderLaws.Passes.{Passes}
 use Rattle.monk_logs.proofs.OrderLaws.Seated.{one_at_most}
 use Rattle.monk_logs.proofs.OrderLaws.Sound.{Sound, may_resume_chosen}
+use Rattle.monk_logs.proofs.StepLaws.{next_with}
+use Rattle.monk_logs.proofs.ToldLaws.{served_with}
 
 -- ---- a release with another choice
 
-pub next_with : (x : Next) (e : Event) → next_of e ≡ Some Stay → next_of (with_next x e) ≡ Some x
-next_with x (Enter s via) h = absurd cc
-next_with x (Act s op r) h = absurd cc
-next_with x (Leave s y) h = refl
-next_with x (Wait s c y) h = refl
-next_with x (Signal s c y) h = refl
-next_with x (SignalLeave s c y) h = refl
-next_with x (Until s p y) h = refl
-next_with x (Resume s q) h = absurd cc
-next_with x (SignalAll s c) h = absurd cc
-next_with x (SignalWait s c d y) h = refl
-
 pub items_same : (b : Board) (x : Next) (e : Event) → items_with b (with_next x e) ≡ items_with b e
-items_same b x (Enter s via) = refl
-items_same b x (Act s op r) = refl
-items_same b x (Leave s y) = refl
-items_same b x (Wait s c y) = refl
-items_same b x (Signal s c y) = refl
-items_same b x (SignalLeave s c y) = refl
-items_same b x (Until s p y) = refl
-items_same b x (Resume s q) = refl
-items_same b x (SignalAll s c) = refl
-items_same b x (SignalWait s c d y) = refl
+items_same b x e = ap (λ (y : Board). y.items) (sym (served_with b x e))
 
 -- the items behind it
 pub items_behind : (object : Object) (b : Board) (x : Next) (e : Event) → next_of e ≡ Some Stay

@@ -34,6 +34,7 @@ use Rattle.monk_logs.proofs.OrderLaws.Led.{others}
 use Rattle.monk_logs.proofs.OrderLaws.Lines.{all_seats}
 use Rattle.monk_logs.proofs.OrderLaws.Lists.{AgreeBut, Distinct, among-append, among_here}
 use Rattle.monk_logs.proofs.OrderLaws.Passes.{Passes, may_go_among}
+use Rattle.monk_logs.proofs.OrderLaws.Rests.{or-false}
 use Rattle.monk_logs.proofs.OrderLaws.Serving.{serve_all}
 use Rattle.monk_logs.proofs.OrderLaws.Sound.{Sound, distinct_with, sound_distinct, waiter_permitted}
 use Rattle.monk_logs.proofs.OrderLaws.Stands.{Stands, among, call_seen, empty_condition, empty_waiters, ready_same}
@@ -51,12 +52,8 @@ same_services c (x ∷ xs) (y ∷ ys) h = ap (λ (l : List Item). Service c ∷ 
 pub with_it : (w : ℕ) (vs : List ℕ) → is_among w (vs ++ w ∷ []) ≡ true
 with_it w vs = among-append w vs (w ∷ []) ∙ or_right (is_among w vs) (is_among w (w ∷ [])) (among_here w [])
 
-or_none : (x y : Bool) → y ≡ false → x ≡ (x || y)
-or_none true y h = refl
-or_none false y h = sym h
-
 pub with_other : (w : ℕ) (vs : List ℕ) → AgreeBut w (among vs) (among (vs ++ w ∷ []))
-with_other w vs j ne = or_none (is_among j vs) (is_among j (w ∷ [])) (among_one w j ne) ∙ sym (among-append j vs (w ∷ []))
+with_other w vs j ne = or-false (is_among j vs) (is_among j (w ∷ [])) (among_one w j ne) ∙ sym (among-append j vs (w ∷ []))
 
 module _ (o : Order) (b : Board) (t : Situation) (dis : Distinct (all_seats b.items)) (h : Stands o b t) where
   none_served : (ws : List ℕ) → ws ≡ [] → Fits o (among (t.waiters ++ ws)) (b.items ++ [])

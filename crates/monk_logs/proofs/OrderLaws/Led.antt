@@ -2,7 +2,6 @@
 use Rattle.std.proofs.Common.{◌≡◌, ℕ, suc, Bool, true, false, not, List, [], ◌∷◌, ◌++◌, refl, sym, ◌∙◌}
 use Rattle.std.proofs.Common.{arith, subst, take, Option, Some, None, filter, append-nil}
 use Rattle.std.proofs.lemmas.Bool.{and_parts, and_from, not_from_false, not-true}
-use Rattle.monk_history.specs.Meaning.Choice.{is_front}
 use Rattle.monk_logs.specs.Items.{seats_in, services_in, keeps_up, has_service_behind, can_be_served, unserved_in}
 use Rattle.monk_logs.specs.Order.{is_among, may_be_served}
 use Rattle.monk_logs.specs.declared.order.Order.{Order}
@@ -13,6 +12,7 @@ use Rattle.monk_logs.proofs.OrderLaws.Keeps.{service_of_first, services_lapsed}
 use Rattle.monk_logs.proofs.OrderLaws.Leads.{Leads, leads_agree, leads_back, leads_chosen, leads_joined, leads_lapsed}
 use Rattle.monk_logs.proofs.OrderLaws.Leads.{leads_rest, leads_served}
 use Rattle.monk_logs.proofs.OrderLaws.Leads.{leads_unjoined, leads_unlapsed, leads_unserved, led_first, less}
+use Rattle.monk_logs.proofs.OrderLaws.Passes.{front_among}
 use Rattle.monk_logs.proofs.OrderLaws.Lines.{seats_in-append, seats_lapsed, seats_taken, services_in-append, services_taken}
 
 -- where signals serve in order of arrival, those that were served are the first
@@ -30,10 +30,6 @@ led_agree Wake p q l a h = leads_agree p q (services_in l) (seats_in l) a h
 led_agree Any p q l a h = tt
 
 -- ---- who may be served is there, and wasn't
-
-front_among : (w : ℕ) (xs : List ℕ) → is_front w xs ≡ true → is_among w xs ≡ true
-front_among w [] h = h
-front_among w (x ∷ xs) h = rw h refl
 
 may_be_among : (o : Order) (w : ℕ) (xs : List ℕ) → may_be_served o w xs ≡ true → is_among w xs ≡ true
 may_be_among Fifo w xs h = front_among w xs h

@@ -94,7 +94,7 @@ distinct_line c (Service b ∷ items) d =
 
 -- ---- on which condition a seat waits
 
-some_same : (c d : ℕ) → Some c ≡ Some d → c ≡ d
+pub some_same : (c d : ℕ) → Some c ≡ Some d → c ≡ d
 some_same c d h = cc
 
 pub waits_there : (j c : ℕ) (items : List Item) → condition_of j items ≡ Some c → is_among j (seats_in (line c items)) ≡ true

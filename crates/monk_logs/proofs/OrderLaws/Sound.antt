@@ -175,7 +175,7 @@ keeps_lapse o j c items dis may h =
     (ap (λ (x : Option ℕ). option_map_or (λ (d : ℕ). can_be_unserved o j d items) x false) (sym (waits_only j c items dis m)) ∙ may) h)
     (λ m. ap (keeps_up 0) (line_lapsed j c items ∙ unlapsed j (line c items) m) ∙ h) (cases_Bool (is_among j (seats_in (line c items))))
 
-lapse_there : (o : Order) (j : ℕ) (items : List Item) → may_lapse o j items ≡ true → is_among j (all_seats items) ≡ true
+pub lapse_there : (o : Order) (j : ℕ) (items : List Item) → may_lapse o j items ≡ true → is_among j (all_seats items) ≡ true
 lapse_there o j items may = let r = lapses o j items may in among_line j r.on items (waits_there j r.on items r.waits)
 
 lapse_times : (j s : ℕ) (items : List Item) → is_among j (all_seats items) ≡ true

@@ -1,5 +1,5 @@
 -- A line judged by how the monitor stands leads where it leads by the events that are known
-use Rattle.std.proofs.Common.{◌≡◌, ℕ, Bool, true, false, cond, not, List, [], ◌∷◌, ◌++◌, Option, Some, None, refl, ap, ◌∙◌}
+use Rattle.std.proofs.Common.{◌≡◌, ℕ, Bool, true, false, cond, List, [], ◌∷◌, ◌++◌, Option, Some, None, refl, ap, ◌∙◌}
 use Rattle.std.specs.Option.{option_map}
 use Rattle.std.specs.Prelude.{◌==◌, Result, Ok, Err}
 use Rattle.std.specs.Result.{result_ok}
@@ -27,6 +27,7 @@ use Rattle.monk_logs.specs.declared.line.LogLine.{LogLine}
 use Rattle.monk_logs.specs.declared.line.LogLine.TheVariants.{Enter, Resume, Lapse, Leave, Wait, Signal, Broadcast, Until, Act}
 use Rattle.monk_logs.specs.declared.pending.Pending.{Pending}
 use Rattle.monk_logs.specs.declared.pending.Pending.TheVariants.{Settled, Half, Release}
+use Rattle.monk_logs.proofs.CourseLaws.Events.{via_same}
 use Rattle.monk_logs.proofs.CourseLaws.Soundness.{added}
 
 -- where a log has come to, by how the monitor stands there
@@ -68,10 +69,6 @@ holds m past e p =
     held_if m past p (blame_of (reason_before 0 m (situation m past) e)) (reason_before 0 m (situation m past) e == 0)
 
 -- ---- a line
-
-pub via_same : (b : Bool) → cond b Free Handed ≡ cond (not b) Handed Free
-via_same true = refl
-via_same false = refl
 
 either : {X Y E : Type 0} (f : X → Y) (b : Bool) (o p : Option X) (q r : Result Y E) → option_map f o ≡ result_ok q
     → option_map f p ≡ result_ok r → option_map f (cond b o p) ≡ result_ok (cond b q r)

@@ -2,7 +2,6 @@ use Rattle.std.proofs.Common.{sym, subst}
 use Rattle.monk_logs.specs.Completion.{Completes}
 use Rattle.monk_logs.specs.Verdict.{log_monitor}
 use Rattle.monk_logs.proofs.CompletionLaws.Found.{found_fits, found_misfits}
-use Rattle.monk_logs.proofs.VerdictLaws.Opening.{each_is_kind}
 use Rattle.monk_logs.proofs.completing.complete.Goals as goal
 
 pub returns-in-Fits-clause-completes : goal.returns-in-Fits-clause-completes
@@ -14,19 +13,19 @@ returns-in-Fits-clause-completes c =
 pub returns-in-Fits-clause-fits : goal.returns-in-Fits-clause-fits
 returns-in-Fits-clause-fits c =
     found_fits (log_monitor c.args.kind c.args.header.now) c.args.lines.now c.in_ok-follow_log.field-0 _
-    (each_is_kind c.args.kind) c.in_ok-follow_log.ensures.verdict c.in-Fits.is
+    c.in_ok-follow_log.ensures.verdict c.in-Fits.is
 
 pub returns-in-Fits-clause-misfit : goal.returns-in-Fits-clause-misfit
 returns-in-Fits-clause-misfit c =
     found_misfits (log_monitor c.args.kind c.args.header.now) c.args.lines.now c.in_ok-follow_log.field-0 _
-    (each_is_kind c.args.kind) c.in_ok-follow_log.ensures.verdict c.in-Fits.is
+    c.in_ok-follow_log.ensures.verdict c.in-Fits.is
 
 pub returns-in-Misfit-clause-fits : goal.returns-in-Misfit-clause-fits
 returns-in-Misfit-clause-fits c =
     found_fits (log_monitor c.args.kind c.args.header.now) c.args.lines.now c.in_ok-follow_log.field-0 _
-    (each_is_kind c.args.kind) c.in_ok-follow_log.ensures.verdict c.in-Misfit.is
+    c.in_ok-follow_log.ensures.verdict c.in-Misfit.is
 
 pub returns-in-Misfit-clause-misfit : goal.returns-in-Misfit-clause-misfit
 returns-in-Misfit-clause-misfit c =
     found_misfits (log_monitor c.args.kind c.args.header.now) c.args.lines.now c.in_ok-follow_log.field-0 _
-    (each_is_kind c.args.kind) c.in_ok-follow_log.ensures.verdict c.in-Misfit.is
+    c.in_ok-follow_log.ensures.verdict c.in-Misfit.is

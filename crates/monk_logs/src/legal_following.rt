@@ -1,4 +1,4 @@
-//! The lines of a log, one after the other.
+//! The lines of a log, one after the other, by the rules alone: in order of arrival, where no wait runs out.
 
 ghost use Rattle.std.specs.Prelude.{◌≡◌, ◌≤◌, ◌<◌, [], IfOk, OnOk, IsErrOf, is_some, length};
 ghost use Rattle.monk_object.specs.Names.{most};
@@ -11,15 +11,16 @@ ghost use Rattle.monk_logs.specs.Stand.{verdict_on};
 ghost use Rattle.monk_logs.specs.Verdict.{log_monitor};
 
 use crate::blame::LineVerdict;
+use crate::board::Board;
 use crate::ending::end;
 use crate::header::LogHeader;
+use crate::legal_lines::line_known;
 use crate::line::LogLine;
 use crate::past::Past;
 use crate::pending::Pending;
 use crate::setting::Setting;
-use crate::steps::line_behind;
 use crate::verdict::LogVerdict;
-use monk_audit::{AuditFault, Replay, rules_by_name};
+use monk_audit::{AuditFault, rules_by_name};
 use monk_kinds::KindName;
 use monk_object::{Book, Buffer, Flags, Guarded, ObjectName, Shop};
 use std::alloc::{AllocError, Global};
@@ -44,10 +45,10 @@ fn follow<T: Guarded>(
         (is_some (kept_events past.old)) (kept_events past.new)) }
 {
     let mut object = object;
-    let mut replay = Replay::opening(alloc, setting.seats, setting.conds)?;
+    let mut board = Board::opening::<T>(alloc, setting)?;
     let mut pending = Pending::Settled;
     for (i, line) in lines.iter().enumerate() {
-        match line_behind(setting, &mut replay, &mut object, past, pending, *line)? {
+        match line_known(setting, &mut board, &mut object, past, pending, *line)? {
             LineVerdict::Fits(left) => pending = left,
             LineVerdict::Misfits(blame) => {
                 let line = i as u32 + 1;
@@ -55,7 +56,7 @@ fn follow<T: Guarded>(
             }
         }
     }
-    end(alloc, setting, &replay, &object, past, pending)?;
+    end(setting, &mut board, &object, past, pending)?;
     Ok(LogVerdict::Fits)
 }
 
