@@ -85,12 +85,7 @@ pub trait Style: Kind {
     {
         match rules_of::<Self>().mode {
             Mode::Automatic => (active.leave(hall, wish), End::Done),
-            Mode::ImmediateReturn => {
-                (
-                    active.plain_signal_leave(hall, cond, wish),
-                    End::Done,
-                )
-            }
+            Mode::ImmediateReturn => { (active.plain_signal_leave(hall, cond, wish), End::Done) }
             _ => explicit::finish(active, rt, hall, cond, wish),
         }
     }

@@ -76,12 +76,7 @@ impl Gate for FirstRound {
 
 #[test]
 fn second_round_is_late(rt: HostRuntime) -> Result<(), Fail> {
-    for sample in [
-        Sample::Buffer,
-        Sample::Book,
-        Sample::Shop,
-        Sample::Hasty,
-    ] {
+    for sample in [Sample::Buffer, Sample::Book, Sample::Shop, Sample::Hasty] {
         let outcome = run::<Pb, _, FirstRound>(&rt, rt.alloc(), sample, 2, 2, &FirstRound);
         assert!(rt; matches!(outcome, Err(RunFault::Late)));
     }
