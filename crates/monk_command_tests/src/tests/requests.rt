@@ -4,7 +4,7 @@ use std::alloc::Global;
 use std::test::Fail;
 
 /// Words, and what they ask for.
-static ASKING: [(&[&str], &str); 41] = [
+static ASKING: [(&[&str], &str); 42] = [
     (&["monk", "audit"], "Audit(None)"),
     (&["monk", "audit", "x.text"], "Audit(Some(\"x.text\"))"),
     (&["monk", "play"], "Play(None)"),
