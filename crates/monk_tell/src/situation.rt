@@ -56,9 +56,9 @@ impl fmt::Display for Ranks {
     }
 }
 
-/// The data as numbers, and in words.
+/// The data as numbers, and in words: ` 1 7 (buffer of 1: 7)`.
 #[derive(Drop)]
-struct Data<'a>(ObjectName, &'a Numbers);
+pub struct Data<'a>(pub ObjectName, pub &'a Numbers);
 
 impl fmt::Display for Data<'_> {
     ghost output = { λ d. Some (data_text d.0 d.1.now.0.items) };

@@ -30,8 +30,12 @@ fn inside_seats(alloc: Global, replay: &Replay, seats: u8) -> Result<Vec<u8>, Al
     Ok(inside)
 }
 
-/// The state of the object.
-fn data_numbers<T: Listed>(alloc: Global, object: &T) -> Result<Vec<u64>, AllocError>
+/// The state of the object, as numbers. Takes memory and time as long as it.
+///
+/// # Errors
+///
+/// `AllocError` where a growth was refused.
+pub fn data_numbers<T: Listed>(alloc: Global, object: &T) -> Result<Vec<u64>, AllocError>
     ensures { IfOk result (λ v. v.items ≡ T.state object.now) }
 {
     let mut data = Vec::new(alloc);

@@ -11,7 +11,7 @@ use monk_history::{Event, Next};
 use std::alloc::{AllocError, Global};
 
 /// Whether the seat stands in the queue.
-fn has(queue: &[u8], seat: u8) -> bool
+pub(crate) fn has(queue: &[u8], seat: u8) -> bool
     ensures { result ≡ has seat queue.now }
 {
     queue.contains(&seat)

@@ -92,7 +92,7 @@ pub(super) static JOBS: [Job<'static>; 18] = [
         task: Task::Trace,
         input: b"play 1 PB 1 0 buffer 1 8\n0 arrive\n0 out\n0 leave waiter\n",
         status: 0,
-        answer: b"1 | 0 arrive | arrived 0 0 | t=1 n=1 | due\n2 | 0 out | now | t=1 n=1 | active\n3 | 0 leave waiter | chose entry | t=1 n=1 | back entry\n",
+        answer: b"1 | 0 arrive | arrived 0 0 | t=1 n=1 | data: 1 (buffer of 1: empty) | due\n2 | 0 out | now | t=1 n=1 | data: 1 (buffer of 1: empty) | active\n3 | 0 leave waiter | chose entry | t=1 n=1 | data: 1 (buffer of 1: empty) | back entry\n",
     },
     Job {
         name: "explained",
