@@ -7,6 +7,7 @@ use Rattle.std.proofs.lemmas.Bool.{le-ltb, lt-ltb}
 use Rattle.std.proofs.lemmas.List.{append-nil}
 use Rattle.monk_kinds.specs.declared.name.KindName.{KindName}
 use Rattle.monk_object.specs.Names.{most}
+use Rattle.monk_object.specs.declared.name.ObjectName.{ObjectName}
 use Rattle.monk_history.specs.declared.event.Event.{Event}
 use Rattle.monk_history.specs.declared.text.fault.ReadFault.{ReadFault}
 use Rattle.monk_history.specs.Meaning.Monitor.{Monitor}
@@ -22,9 +23,10 @@ use Rattle.monk_commands.specs.Answer.{Answer, answer_of, reading_answer, too_bi
 use Rattle.monk_commands.specs.Explained.{BeginsAsAudit, IsExplained, IsExplanationOf, explain_reading, told_answer}
 
 -- the verdict that is told is that of the audit
-verdict_told : (k : KindName) (m : Monitor) (es : List Event) (v : Verdict) → (account_by k m es v).verdict ≡ v
-verdict_told k m es (Legal n) = refl
-verdict_told k m es (Forbidden step reason) = refl
+verdict_told : (k : KindName) (o : ObjectName) (m : Monitor) (es : List Event) (v : Verdict)
+    → (account_by k o m es v).verdict ≡ v
+verdict_told k o m es (Legal n) = refl
+verdict_told k o m es (Forbidden step reason) = refl
 
 -- the same status, and the other text first
 abbrev Begins : Answer → Answer → Type 0
@@ -37,7 +39,7 @@ begins_told : (h : Heading) (es : List Event)
     → Begins (told_answer (account h es)) (verdict_answer (verdict_of (named_monitor h) es))
 begins_told h es =
     subst (λ (v : Verdict). Begins (told_answer (account h es)) (verdict_answer v))
-    (verdict_told h.kind (named_monitor h) es (verdict_of (named_monitor h) es))
+    (verdict_told h.kind h.object (named_monitor h) es (verdict_of (named_monitor h) es))
     (refl, (telling_text (account h es), refl))
 
 begins_by : (b : Bool) (x y : Answer) → Begins x y → Begins (cond b too_big x) (cond b too_big y)

@@ -1,10 +1,16 @@
--- The trace of a play: a line for each command, with its answer, the words and where each seat stands after it
+-- The trace of a play: a line for each command, with its answer, the words, the data and where each seat stands after it
 use Rattle.std.specs.Prelude.{◌≡◌, ℕ, zero, suc, ◌+◌, ◌==◌, List, [], ◌∷◌, ◌++◌, if◌then◌else◌, codes}
 use Rattle.std.specs.List.{join_with_byte}
 use Rattle.std.specs.Fmt.{decimal}
 use Rattle.monk_kinds.specs.declared.mode.Rules.{Rules}
 use Rattle.monk_object.specs.Object.{Object}
+use Rattle.monk_object.specs.declared.name.ObjectName.{ObjectName}
+use Rattle.monk_history.specs.Meaning.Monitor.{Monitor, monitor}
+use Rattle.monk_history.specs.Meaning.Situation.{Situation, situation}
 use Rattle.monk_history.specs.Text.{Heading}
+use Rattle.monk_tell.specs.Standing.{stand, stand_text}
+use Rattle.monk_tell.specs.Words.{data_text}
+use Rattle.monk_tell.specs.declared.stand.Stand.{Stand}
 use Rattle.monk_world.specs.declared.answer.Answer.{Answer}
 use Rattle.monk_world.specs.declared.command.Command.{Command}
 use Rattle.monk_world.specs.Play.{command_words}
@@ -13,16 +19,17 @@ use Rattle.monk_world.specs.Shown.{answer_words, is_granted, place_words}
 use Rattle.monk_world.specs.State.{State}
 use Rattle.monk_world.specs.StepTable.{IsStep}
 
--- where seat j stands, and whether the grant is there that it looks for; a comma before each but the first
-abbrev pub seat_text : State → ℕ → List ℕ
-seat_text s j =
-    (if j == 0 then [] else codes ", ") ++ join_with_byte 32 (place_words (s.world.place j))
+-- where seat j stands, on which queue if it waits inside, and whether the grant is there that it looks for; a comma before
+-- each but the first
+abbrev pub seat_text : State → (ℕ → Stand) → ℕ → List ℕ
+seat_text s stands j =
+    (if j == 0 then [] else codes ", ") ++ join_with_byte 32 (place_words (s.world.place j)) ++ stand_text (stands j)
     ++ (if is_granted s j then codes " granted" else [])
 
 -- of the seats below that
-unfoldable pub places_text : State → ℕ → List ℕ
-places_text s zero = []
-places_text s (suc j) = places_text s j ++ seat_text s j
+unfoldable pub places_text : State → (ℕ → Stand) → ℕ → List ℕ
+places_text s stands zero = []
+places_text s stands (suc j) = places_text s stands j ++ seat_text s stands j
 
 -- what a seat was told, and what it answered
 abbrev pub told_text : ℕ × Command → Answer → List ℕ
@@ -34,18 +41,27 @@ line_front number c a s =
     decimal number ++ codes " | " ++ told_text c a
     ++ codes " | t=" ++ decimal s.world.drawn ++ codes " n=" ++ decimal s.world.unpassed ++ codes " | "
 
-abbrev pub trace_line : ℕ → ℕ × Command → Answer → State → List ℕ
-trace_line number c a s = line_front number c a s ++ places_text s s.floor.seats ++ codes "\n"
+-- the data of an object of that name
+unfoldable pub data_part : ObjectName → List ℕ → List ℕ
+data_part name state = codes "data:" ++ (data_text name state ++ codes " | ")
 
--- the commands in turn, behind so many others, from state to state, each with its line
-abbrev pub AreTraced : Rules → Object → ℕ → State → List (ℕ × Command) → State → List ℕ → Type 0
-AreTraced k o before s [] t text = (t ≡ s) × (text ≡ [])
-AreTraced k o before s (c ∷ cs) t text =
-    (a : Answer) × ((u : State) × ((rest : List ℕ) × (IsStep k o s c.0 c.1 a u
-    × ((text ≡ trace_line (before + 1) c a u ++ rest) × AreTraced k o (before + 1) u cs t rest))))
+-- by the situation of a monitor with so many conditions over the object of that name
+abbrev pub trace_line : ObjectName → ℕ → ℕ → ℕ × Command → Answer → State → Situation → List ℕ
+trace_line name conds number c a s t =
+    line_front number c a s ++ data_part name t.state ++ places_text s (stand conds t) s.floor.seats ++ codes "\n"
+
+-- the commands in turn, behind so many others, from state to state, each with its line, by the situation of the monitor
+-- after its history
+abbrev pub AreTraced : ObjectName → Monitor → ℕ → State → List (ℕ × Command) → State → List ℕ → Type 0
+AreTraced name m before s [] t text = (t ≡ s) × (text ≡ [])
+AreTraced name m before s (c ∷ cs) t text =
+    (a : Answer) × ((u : State) × ((rest : List ℕ) × (IsStep m.kind m.object s c.0 c.1 a u
+    × ((text ≡ trace_line name m.conds (before + 1) c a u (situation m u.floor.history) ++ rest)
+    × AreTraced name m (before + 1) u cs t rest))))
 
 -- with what writing these bytes means: the lines of all commands, from the start, are written
 abbrev pub IsTracedBy : Rules → Object → List ℕ → Heading → ℕ → List (ℕ × Command) → (List ℕ → Type 0) → Type 0
 IsTracedBy k o opening h budget commands Puts =
     (last : State) × ((text : List ℕ)
-    × (AreTraced k o 0 (opening_state opening h.seats h.conds budget) commands last text × Puts text))
+    × (AreTraced h.object (monitor k h.seats h.conds o opening) 0 (opening_state opening h.seats h.conds budget) commands last
+    text × Puts text))

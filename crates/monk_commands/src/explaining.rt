@@ -59,9 +59,9 @@ fn answer_to_text(alloc: Global, bytes: &[u8]) -> Result<Answer, StreamFault>
 }
 
 /// Reads all of the reader, and writes the line and ends with the status of an audit of it. Of a legal history it goes on with the
-/// situation in which the history ends: the kind, the turn, who is inside, the data and the queues. Of a forbidden one it goes
-/// on with the event that is not allowed, the situation before it, the object's own reply or what might have been chosen, and
-/// a sentence that says why. docs/TEXT.md has the lines.
+/// situation in which the history ends: the kind, the turn, who is inside, the data, the acts that the object refused and the
+/// queues. Of a forbidden one it goes on with the event that is not allowed, the situation before it, the object's own reply or
+/// what might have been chosen, and a sentence that says why. docs/TEXT.md has the lines.
 ///
 /// # Errors
 ///

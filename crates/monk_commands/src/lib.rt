@@ -12,6 +12,7 @@ mod drawing;
 mod explaining;
 mod fault;
 mod fitting;
+mod following;
 mod help;
 mod input;
 mod log_fitting;

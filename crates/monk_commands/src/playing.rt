@@ -21,22 +21,25 @@ use crate::tracing::put_trace;
 use monk_floor::MakeFault;
 use monk_history::{Device, write};
 use monk_kinds::{Kind, KindName, Npb, Npir, Npis, Npnb, Npqb, Pb, Pir, Pis, Pnb, Pqb};
-use monk_object::{Book, Buffer, Flags, Guarded, ObjectFault, ObjectName, Shop};
+use monk_object::{Book, Buffer, Flags, Listed, ObjectFault, ObjectName, Shop};
 use monk_world::{PlayLines, World};
 use std::alloc::Global;
 use std::io::{Read, Write};
 
-/// Plays the commands over the object, by the kind K, and writes what is to be told of it.
-fn play_as<K: Kind, T: Guarded, W: Write>(
+/// Plays the commands over the object, by the kind K, and writes what is to be told of it. The second object is as the first: a
+/// trace shows its data, since nobody sees the world's own.
+fn play_as<K: Kind, T: Listed, W: Write>(
     alloc: Global,
     report: Report,
     object: T,
+    shown: T,
     play: PlayLines<'_>,
     writer: &mut Device<W>,
 ) -> Result<(), StreamFault>
     requires works { has_failed writer.old ≡ false }
     requires in_range { make_refusal play.0.seats play.0.conds play.1 ≡ None }
     requires told { AreToldIn play.0.version play.2 }
+    requires alike { T.state shown ≡ T.state object }
     ensures played { OnOk result
         (IsReportedBy report K.rules T.meaning (T.state object) play.entry.0 play.entry.1 play.entry.2
         (Appends (W.contents (inner_of writer.old)) (W.contents (inner_of writer.new)))) }
@@ -53,7 +56,7 @@ fn play_as<K: Kind, T: Guarded, W: Write>(
                     Err(_) => Err(StreamFault::File),
                 }
             }
-            Report::Trace => put_trace(alloc, &mut world, play, writer),
+            Report::Trace => put_trace(alloc, &mut world, shown, play, writer),
         },
         Err(MakeFault::Memory) => Err(StreamFault::Memory),
         Err(_) => unreachable!(),
@@ -61,16 +64,18 @@ fn play_as<K: Kind, T: Guarded, W: Write>(
 }
 
 /// The same by the kind that the header names.
-fn play_named<T: Guarded, W: Write>(
+fn play_named<T: Listed, W: Write>(
     alloc: Global,
     report: Report,
     object: T,
+    shown: T,
     play: PlayLines<'_>,
     writer: &mut Device<W>,
 ) -> Result<(), StreamFault>
     requires works { has_failed writer.old ≡ false }
     requires in_range { make_refusal play.0.seats play.0.conds play.1 ≡ None }
     requires told { AreToldIn play.0.version play.2 }
+    requires alike { T.state shown ≡ T.state object }
     ensures played { OnOk result
         (IsReportedBy report (rules_named play.entry.0.kind) T.meaning (T.state object) play.entry.0 play.entry.1 play.entry.2
         (Appends (W.contents (inner_of writer.old)) (W.contents (inner_of writer.new)))) }
@@ -78,16 +83,16 @@ fn play_named<T: Guarded, W: Write>(
     ensures memory { IsErrOf result StreamFault.Memory → writer.new ≡ writer.old }
 {
     match play.header().kind() {
-        KindName::Pb => play_as::<Pb, T, W>(alloc, report, object, play, writer),
-        KindName::Npb => play_as::<Npb, T, W>(alloc, report, object, play, writer),
-        KindName::Pnb => play_as::<Pnb, T, W>(alloc, report, object, play, writer),
-        KindName::Npnb => play_as::<Npnb, T, W>(alloc, report, object, play, writer),
-        KindName::Pqb => play_as::<Pqb, T, W>(alloc, report, object, play, writer),
-        KindName::Npqb => play_as::<Npqb, T, W>(alloc, report, object, play, writer),
-        KindName::Pir => play_as::<Pir, T, W>(alloc, report, object, play, writer),
-        KindName::Npir => play_as::<Npir, T, W>(alloc, report, object, play, writer),
-        KindName::Pis => play_as::<Pis, T, W>(alloc, report, object, play, writer),
-        KindName::Npis => play_as::<Npis, T, W>(alloc, report, object, play, writer),
+        KindName::Pb => play_as::<Pb, T, W>(alloc, report, object, shown, play, writer),
+        KindName::Npb => play_as::<Npb, T, W>(alloc, report, object, shown, play, writer),
+        KindName::Pnb => play_as::<Pnb, T, W>(alloc, report, object, shown, play, writer),
+        KindName::Npnb => play_as::<Npnb, T, W>(alloc, report, object, shown, play, writer),
+        KindName::Pqb => play_as::<Pqb, T, W>(alloc, report, object, shown, play, writer),
+        KindName::Npqb => play_as::<Npqb, T, W>(alloc, report, object, shown, play, writer),
+        KindName::Pir => play_as::<Pir, T, W>(alloc, report, object, shown, play, writer),
+        KindName::Npir => play_as::<Npir, T, W>(alloc, report, object, shown, play, writer),
+        KindName::Pis => play_as::<Pis, T, W>(alloc, report, object, shown, play, writer),
+        KindName::Npis => play_as::<Npis, T, W>(alloc, report, object, shown, play, writer),
     }
 }
 
@@ -111,22 +116,22 @@ fn play_object<W: Write>(
     let header = play.header();
     let size = header.size();
     match header.object() {
-        ObjectName::Buffer => match Buffer::make(alloc, size) {
-            Ok(buffer) => play_named(alloc, report, buffer, play, writer),
-            Err(ObjectFault::Memory) => Err(StreamFault::Memory),
-            Err(ObjectFault::Size) => unreachable!(),
+        ObjectName::Buffer => match (Buffer::make(alloc, size), Buffer::make(alloc, size)) {
+            (Ok(buffer), Ok(shown)) => play_named(alloc, report, buffer, shown, play, writer),
+            (Err(ObjectFault::Size), _) | (_, Err(ObjectFault::Size)) => unreachable!(),
+            _ => Err(StreamFault::Memory),
         },
-        ObjectName::Book => match Book::make(size) {
-            Ok(book) => play_named(alloc, report, book, play, writer),
-            Err(_) => unreachable!(),
+        ObjectName::Book => match (Book::make(size), Book::make(size)) {
+            (Ok(book), Ok(shown)) => play_named(alloc, report, book, shown, play, writer),
+            _ => unreachable!(),
         },
-        ObjectName::Shop => match Shop::make(size) {
-            Ok(shop) => play_named(alloc, report, shop, play, writer),
-            Err(_) => unreachable!(),
+        ObjectName::Shop => match (Shop::make(size), Shop::make(size)) {
+            (Ok(shop), Ok(shown)) => play_named(alloc, report, shop, shown, play, writer),
+            _ => unreachable!(),
         },
-        ObjectName::Flags => match Flags::make(size) {
-            Ok(flags) => play_named(alloc, report, flags, play, writer),
-            Err(_) => unreachable!(),
+        ObjectName::Flags => match (Flags::make(size), Flags::make(size)) {
+            (Ok(flags), Ok(shown)) => play_named(alloc, report, flags, shown, play, writer),
+            _ => unreachable!(),
         },
     }
 }

@@ -1,6 +1,7 @@
 //! The tracer's stream: the text of a play in, a line for each of its commands out.
 
-ghost use Rattle.std.specs.Prelude.{◌≡◌, ◌+◌, ◌≤◌, ◌^◌, ◌⊎◌, ◌++◌, false, true, IfOk, OnOk, IfSome, IsErrOf, ◌↔◌, ℕ, List, string_bytes};
+ghost use Rattle.std.specs.Prelude.{◌≡◌, ◌+◌, ◌≤◌, ◌^◌, ◌⊎◌, ◌++◌, false, true, IfOk, OnOk, IfSome, IsErrOf, ◌↔◌, ℕ, List, []};
+ghost use Rattle.std.specs.Prelude.{string_bytes};
 ghost use Rattle.std.specs.Io.KnownBytes.{Appends, IsAtEnd};
 ghost use Rattle.monk_history.specs.Text.{Heading};
 ghost use Rattle.monk_history.specs.Text.Device.{inner_of, has_failed, reads_of};
@@ -8,15 +9,24 @@ ghost use Rattle.monk_world.specs.Board.{state_of_view};
 ghost use Rattle.monk_world.specs.declared.command.Command.{Command};
 ghost use Rattle.monk_commands.specs.Played.{IsAnswerTo, IsPlayOf, IsPlayText, IsTraced};
 ghost use Rattle.monk_commands.specs.Streams.{IsYoung, IsPastBound};
-ghost use Rattle.monk_commands.specs.Traced.{AreTraced, line_front, places_text, seat_text, trace_line};
+ghost use Rattle.monk_history.specs.Meaning.Monitor.{monitor};
+ghost use Rattle.monk_audit.specs.Replay.{IsReplayOf, replay_situation};
+ghost use Rattle.monk_floor.specs.View.{empty_floor, monitor_of};
+ghost use Rattle.monk_tell.specs.Standing.{stand};
+ghost use Rattle.monk_tell.specs.declared.stand.Stand.{Stand};
+ghost use Rattle.monk_commands.specs.Following.{IsBehind};
+ghost use Rattle.monk_commands.specs.Traced.{AreTraced, data_part, line_front, places_text, seat_text, trace_line};
 
 use crate::fault::StreamFault;
+use crate::following::step_followed;
 use crate::input::read_all;
 use crate::playing::play_text;
 use crate::report::Report;
+use monk_audit::Replay;
 use monk_history::Device;
 use monk_kinds::Kind;
-use monk_object::Guarded;
+use monk_object::{Guarded, Listed, ObjectName};
+use monk_tell::{Data, Numbers, Stand, data_numbers, stand_of};
 use monk_world::{Answer, Command, PlayLines, World};
 use std::alloc::{AllocError, Global};
 use std::fmt;
@@ -41,18 +51,21 @@ impl fmt::Display for Told {
     }
 }
 
-/// Where a seat stands, and whether the grant is there that it looks for.
+/// Where a seat stands, on which queue if it waits inside, and whether the grant is there that it looks for.
 fn put_place<K: Kind, T: Guarded>(
     page: &mut String,
     world: &World<K, T>,
+    stand: Stand,
     seat: u8,
 ) -> Result<(), AllocError>
-    ensures { OnOk result (string_bytes page.new ≡ string_bytes page.old ++ seat_text (state_of_view world.now) seat) }
+    ensures { OnOk result
+        ((stands : ℕ → Stand) → stand ≡ stands seat
+        → string_bytes page.new ≡ string_bytes page.old ++ seat_text (state_of_view world.now) stands seat) }
 {
     if seat > 0 {
         page.push_str(", ")?;
     }
-    write!(page, "{}", world.place(seat))?;
+    write!(page, "{}{stand}", world.place(seat))?;
     if world.is_granted(seat) {
         page.push_str(" granted")?;
     }
@@ -61,15 +74,37 @@ fn put_place<K: Kind, T: Guarded>(
 
 /// The same of each seat.
 #[tactic(auto, unfolding(crate::specs::Traced::places_text))]
-fn put_places<K: Kind, T: Guarded>(page: &mut String, world: &World<K, T>) -> Result<(), AllocError>
+fn put_places<K: Kind, T: Guarded>(
+    alloc: Global,
+    page: &mut String,
+    world: &World<K, T>,
+    replay: &Replay,
+    conds: u8,
+) -> Result<(), AllocError>
     ensures { OnOk result
         (string_bytes page.new ≡ string_bytes page.old
-        ++ places_text (state_of_view world.now) (state_of_view world.now).floor.seats) }
+        ++ places_text (state_of_view world.now) (stand conds (replay_situation replay.now []))
+        (state_of_view world.now).floor.seats) }
 {
     for seat in 0..world.seats() {
-        put_place(page, world, seat)?;
+        let stand = stand_of(alloc, replay, conds, seat)?;
+        put_place(page, world, stand, seat)?;
     }
     Ok(())
+}
+
+/// The data.
+#[tactic(auto, unfolding(crate::specs::Traced::data_part))]
+fn put_data<T: Listed>(
+    alloc: Global,
+    page: &mut String,
+    name: ObjectName,
+    object: &T,
+) -> Result<(), AllocError>
+    ensures { OnOk result (string_bytes page.new ≡ string_bytes page.old ++ data_part name (T.state object.now)) }
+{
+    let numbers = Numbers(data_numbers(alloc, object)?);
+    write!(page, "data:{} | ", Data(name, &numbers))
 }
 
 /// What stands in a line before the places: the command's number, what it came to, and the words after it.
@@ -89,39 +124,65 @@ fn put_front<K: Kind, T: Guarded>(
 }
 
 /// The line of the command of that number, which has brought the world to where it is.
-fn put_line<K: Kind, T: Guarded>(
+fn put_line<K: Kind, T: Listed>(
+    alloc: Global,
     page: &mut String,
     number: usize,
     told: &Told,
     world: &World<K, T>,
+    replay: &Replay,
+    object: &T,
+    name: ObjectName,
+    conds: u8,
 ) -> Result<(), AllocError>
     ensures { OnOk result
         (string_bytes page.new ≡ string_bytes page.old
-        ++ trace_line number (told.now.seat, told.now.command) told.now.answer (state_of_view world.now)) }
+        ++ trace_line name conds number (told.now.seat, told.now.command) told.now.answer (state_of_view world.now)
+        (replay_situation replay.now (T.state object.now))) }
 {
     put_front(page, number, told, world)?;
-    put_places(page, world)?;
+    put_data(alloc, page, name, object)?;
+    put_places(alloc, page, world, replay, conds)?;
     page.push_str("\n")
 }
 
-/// Carries out the commands in order, and gives the lines of all of them.
-fn lines_of<K: Kind, T: Guarded>(
+/// Carries out the commands in order, and gives the lines of all of them. The replay follows the world, over an object of its own.
+fn lines_of<K: Kind, T: Listed>(
     alloc: Global,
     world: &mut World<K, T>,
+    replay: &mut Replay,
+    object: &mut T,
+    name: ObjectName,
+    conds: u8,
     commands: &[(u8, Command)],
 ) -> Result<String, AllocError>
+    requires behind { IsBehind (monitor_of K.rules T.meaning (state_of_view world.old).floor) replay.old (T.state object.old)
+        (state_of_view world.old).floor.history }
+    requires sound { IsReplayOf (state_of_view world.old).floor.seats conds T.PREDICATES replay.old }
+    requires conds { conds ≡ (state_of_view world.old).floor.conds }
     ensures { IfOk result
-        (λ page. AreTraced K.rules T.meaning 0 (state_of_view world.old) commands.now (state_of_view world.new)
-        (string_bytes page)) }
+        (λ page. AreTraced name (monitor_of K.rules T.meaning (state_of_view world.old).floor) 0 (state_of_view world.old)
+        commands.now (state_of_view world.new) (string_bytes page)) }
 {
     let mut page = String::new(alloc);
     for (index, (seat, command)) in commands.iter().enumerate() {
+        let answer = step_followed(alloc, world, replay, object, conds, *seat, *command)?;
         let told = Told {
             seat: *seat,
             command: *command,
-            answer: world.step(*seat, *command),
+            answer,
         };
-        put_line(&mut page, index + 1, &told, world)?;
+        put_line(
+            alloc,
+            &mut page,
+            index + 1,
+            &told,
+            world,
+            replay,
+            object,
+            name,
+            conds,
+        )?;
     }
     Ok(page)
 }
@@ -138,22 +199,39 @@ fn commands_of(alloc: Global, play: PlayLines<'_>) -> Result<Vec<(u8, Command)>,
     Ok(commands)
 }
 
-/// Carries out the commands of the play in order, and writes the lines of all of them.
-pub(crate) fn put_trace<K: Kind, T: Guarded, W: Write>(
+/// Carries out the commands of the play in order, and writes the lines of all of them. The world hasn't begun, and the object is
+/// one as the world's own is.
+pub(crate) fn put_trace<K: Kind, T: Listed, W: Write>(
     alloc: Global,
     world: &mut World<K, T>,
+    object: T,
     play: PlayLines<'_>,
     writer: &mut Device<W>,
 ) -> Result<(), StreamFault>
     requires works { has_failed writer.old ≡ false }
+    requires floor { (state_of_view world.old).floor ≡ empty_floor (T.state object) play.0.seats play.0.conds play.1 }
     ensures traced { OnOk result
-        ((text : List ℕ) × (AreTraced K.rules T.meaning 0 (state_of_view world.old) play.entry.2 (state_of_view world.new) text
+        ((text : List ℕ)
+        × (AreTraced play.entry.0.object (monitor K.rules play.entry.0.seats play.entry.0.conds T.meaning (T.state object)) 0
+        (state_of_view world.old) play.entry.2 (state_of_view world.new) text
         × Appends (W.contents (inner_of writer.old)) (W.contents (inner_of writer.new)) text)) }
     ensures file { IsErrOf result StreamFault.File → has_failed writer.new ≡ true }
     ensures memory { IsErrOf result StreamFault.Memory → writer.new ≡ writer.old }
 {
+    let header = play.header();
     let commands = commands_of(alloc, play)?;
-    let page = lines_of(alloc, world, &commands)?;
+    let mut object = object;
+    let (name, seats, conds) = (header.object(), header.seats(), header.conds());
+    let mut replay = Replay::opening(alloc, seats, conds)?;
+    let page = lines_of(
+        alloc,
+        world,
+        &mut replay,
+        &mut object,
+        name,
+        conds,
+        &commands,
+    )?;
     match writer.write_all(page.as_bytes()) {
         Ok(()) => Ok(()),
         Err(_) => Err(StreamFault::File),
@@ -163,12 +241,13 @@ pub(crate) fn put_trace<K: Kind, T: Guarded, W: Write>(
 /// Reads all of the reader, plays its commands in order from the start, and writes a line for each of them, with status 0:
 ///
 /// ```text
-/// 4 | 1 arrive | arrived 1 1 | t=2 n=1 | back entry, ticket 1
+/// 4 | 1 arrive | arrived 1 1 | t=2 n=1 | data: 1 (buffer of 1: empty) | inner condition 0, ticket 1
 /// ```
 ///
-/// its number, the seat and what it is told, its answer, how many tickets are drawn (`t`) and not passed on (`n`) after it,
-/// and where each seat stands then. `granted` stands behind a place where the grant is there that the seat looks for. So each
-/// line shows where the right to be active is. A command that is refused has its line too, and changes nothing.
+/// its number, the seat and what it is told, its answer, how many tickets are drawn (`t`) and not passed on (`n`) after it, the
+/// data as numbers and in words, and where each seat stands then. The queue of a seat that waits inside stands behind its place,
+/// and `granted` where the grant is there that the seat looks for. So each line shows where the right to be active is. A command
+/// that is refused has its line too, and changes nothing.
 ///
 /// Where the reader has no play, the line `unreadable LINE NUMBER WORD` is written with status 2, and where the size is
 /// above the object's greatest, `object` with status 2.
@@ -180,8 +259,8 @@ pub(crate) fn put_trace<K: Kind, T: Guarded, W: Write>(
 ///
 /// # Cost
 ///
-/// That of [`play_stream`](crate::play_stream), and for each command a line with the place of each seat; memory for the
-/// list of commands and for all lines beside that of the play.
+/// That of [`play_stream`](crate::play_stream), and for each command a line with the place of each seat, for which each queue is
+/// looked through; memory for the list of commands, for all lines and for the queues beside that of the play.
 pub fn trace_stream<R: Read, W: Write>(
     alloc: Global,
     reader: &mut Device<R>,

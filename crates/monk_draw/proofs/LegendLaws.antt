@@ -3,7 +3,7 @@ use Rattle.std.proofs.Common.{◌≡◌, ◌≤◌, ◌+◌, ◌<◌, ℕ, Bool,
 use Rattle.std.proofs.Common.{drop, get_or, sym, ap, ◌∙◌, append_assoc, arith}
 use Rattle.std.proofs.Common.{add-one}
 use Rattle.std.proofs.Math.Seq.{drop-cons}
-use Rattle.monk_draw.specs.Legend.{entries, entries_then, hand_entry, legend_places, occurs, place_entry}
+use Rattle.monk_draw.specs.Legend.{entries, entries_then, hand_entry, hands_then, legend_places, occurs, place_entry, refused_entry}
 use Rattle.monk_draw.specs.declared.legend.Legend.{Legend}
 use Rattle.monk_draw.specs.declared.place.Place.{Place}
 use Rattle.monk_draw.specs.declared.place.Place.TheVariants.{Outside}
@@ -38,9 +38,12 @@ one_or_none false at = omega arith
 pub entries_few : (l : Legend) (at : ℕ) (p : Place) → entries_then l at p ≤ at + 1
 entries_few l at p = one_or_none (occurs l p) at
 
--- behind all places stands the entry of an arrow
-pub last_entry : (page new all : List ℕ) (l : Legend) (top at i : ℕ) → i ≡ 7
-    → page ++ entries l top at (drop i legend_places) ≡ all → new ≡ page ++ hand_entry l top at → new ≡ all
+-- behind all places stand the entries of an arrow and of a refused act
+pub last_entries : (page more new all : List ℕ) (l : Legend) (top at behind i : ℕ) → i ≡ 7 → behind ≡ hands_then l at
+    → page ++ entries l top at (drop i legend_places) ≡ all → more ≡ page ++ hand_entry l top at
+    → new ≡ more ++ refused_entry l top behind → new ≡ all
 unfolding entries
-last_entry page new all l top at i ended left put =
-    put ∙ (ap (λ n. page ++ entries l top at (drop n legend_places)) (sym ended) ∙ left)
+last_entries page more new all l top at behind i ended is left put last =
+    last ∙ (λ j. put j ++ refused_entry l top (is j))
+    ∙ append_assoc page (hand_entry l top at) (refused_entry l top (hands_then l at))
+    ∙ (ap (λ n. page ++ entries l top at (drop n legend_places)) (sym ended) ∙ left)

@@ -8,7 +8,7 @@ use Rattle.monk_history.specs.declared.event.Via.TheVariants.{Free}
 use Rattle.std.specs.List.{slice_range}
 use Rattle.monk_object.specs.declared.name.ObjectName.{ObjectName}
 use Rattle.monk_history.specs.Text.{Heading}
-use Rattle.monk_draw.specs.Picture.{HasMarks, all_marks}
+use Rattle.monk_draw.specs.Picture.{HasMarks, all_marks, allowed_of}
 use Rattle.monk_draw.specs.Window.{not_shown, shown_last}
 use Rattle.monk_draw.specs.Mark.{mark, marks}
 use Rattle.monk_draw.specs.declared.view.View.{View}
@@ -46,29 +46,32 @@ pub first_so_many : (es : List Event) (n : ℕ) → n < length es → n ≡ leng
 first_so_many es n below = omega (arith, length-take n es, below)
 
 -- the marks of these events, looked at so
-abbrev pub marks_by : List Event → ℕ → ObjectName → ℕ → ℕ → List ℕ
-marks_by es seats object before last =
-    marks (record { seats = seats; object = object; before = before }) 0 (slice_range es before last)
+abbrev pub marks_by : List Event → ℕ → ObjectName → ℕ → ℕ → ℕ → List ℕ
+marks_by es seats object before allowed last =
+    marks (record { seats = seats; object = object; before = before; allowed = allowed }) 0 (slice_range es before last)
 
 -- they are those of the picture
-pub same_marks : (h : Heading) (es : List Event) (fault : Option ℕ) (seats : ℕ) (object : ObjectName) (before last : ℕ)
-    → seats ≡ h.seats → object ≡ h.object → before ≡ not_shown last → last ≡ shown_last fault (length es)
-    → marks_by es seats object before last ≡ all_marks h es fault
-same_marks h es fault seats object before last of_seats of_object behind at =
-    ap (λ n. marks_by es n object before last) of_seats
-    ∙ (ap (λ (o : ObjectName). marks_by es h.seats o before last) of_object
-    ∙ (ap (λ n. marks_by es h.seats h.object n last) behind
-    ∙ ap (λ n. marks_by es h.seats h.object (not_shown n) n) at))
+pub same_marks : (h : Heading) (es : List Event) (fault : Option ℕ) (seats : ℕ) (object : ObjectName) (before allowed last : ℕ)
+    → seats ≡ h.seats → object ≡ h.object → before ≡ not_shown last
+    → allowed ≡ allowed_of fault last (slice_range es before last) → last ≡ shown_last fault (length es)
+    → marks_by es seats object before allowed last ≡ all_marks h es fault
+same_marks h es fault seats object before allowed last of_seats of_object behind fine at =
+    ap (λ n. marks_by es n object before allowed last) of_seats
+    ∙ (ap (λ (o : ObjectName). marks_by es h.seats o before allowed last) of_object
+    ∙ (ap (λ n. marks_by es h.seats h.object before n last) fine
+    ∙ (ap (λ n. marks_by es h.seats h.object n (allowed_of fault last (slice_range es n last)) last) behind
+    ∙ ap (λ n. marks_by es h.seats h.object (not_shown n) (allowed_of fault n (slice_range es (not_shown n) n)) n) at)))
 
 -- a page, the marks behind it, and the end
-pub has_marks : (h : Heading) (es : List Event) (fault : Option ℕ) (seats : ℕ) (object : ObjectName) (before last : ℕ)
-    (under marked all : List ℕ)
-    → seats ≡ h.seats → object ≡ h.object → before ≡ not_shown last → last ≡ shown_last fault (length es)
-    → marked ≡ under ++ marks_by es seats object before last → all ≡ marked ++ codes "</svg>\n"
+pub has_marks : (h : Heading) (es : List Event) (fault : Option ℕ) (seats : ℕ) (object : ObjectName)
+    (before allowed last : ℕ) (under marked all : List ℕ)
+    → seats ≡ h.seats → object ≡ h.object → before ≡ not_shown last
+    → allowed ≡ allowed_of fault last (slice_range es before last) → last ≡ shown_last fault (length es)
+    → marked ≡ under ++ marks_by es seats object before allowed last → all ≡ marked ++ codes "</svg>\n"
     → HasMarks h es fault all
-has_marks h es fault seats object before last under marked all of_seats of_object behind at put ended = (
+has_marks h es fault seats object before allowed last under marked all of_seats of_object behind fine at put ended = (
   under,
   ended
       ∙ ap (λ (page : List ℕ). page ++ codes "</svg>\n")
-      (put ∙ ap (λ (m : List ℕ). under ++ m) (same_marks h es fault seats object before last of_seats of_object behind at)),
+      (put ∙ ap (λ (m : List ℕ). under ++ m) (same_marks h es fault seats object before allowed last of_seats of_object behind fine at)),
 )

@@ -1,13 +1,14 @@
 -- A picture from its parts
-use Rattle.std.proofs.Common.{◌≡◌, ℕ, Option, List, [], ◌++◌, codes, length, take, ap, ◌∙◌, append_assoc}
-use Rattle.std.specs.List.{slice_range}
+use Rattle.std.proofs.Common.{◌≡◌, ℕ, Bool, Option, List, [], ◌++◌, codes, length, take, ap, ◌∙◌, append_assoc}
+use Rattle.std.specs.List.{list_any, slice_range}
 use Rattle.monk_object.specs.declared.name.ObjectName.{ObjectName}
+use Rattle.monk_history.specs.Meaning.Acts.{is_refused_act}
 use Rattle.monk_history.specs.Text.{Heading}
 use Rattle.monk_history.specs.declared.event.Event.{Event}
 use Rattle.monk_draw.specs.Frame.{forbidden_event}
 use Rattle.monk_draw.specs.Hand.{hands}
-use Rattle.monk_draw.specs.Picture.{IsPicture, above, allowed_with, front, ground, lanes_for}
-use Rattle.monk_draw.specs.Scene.{PutsStretches, all_noted, empty_legend, hands_noted_below, legend_of}
+use Rattle.monk_draw.specs.Picture.{IsPicture, above, allowed_of, allowed_with, front, ground, lanes_for}
+use Rattle.monk_draw.specs.Scene.{PutsStretches, all_noted, empty_legend, hands_noted_below, legend_of, refused_noted}
 use Rattle.monk_draw.specs.Stretch.{stretches_text}
 use Rattle.monk_draw.specs.Stretches.{stretches}
 use Rattle.monk_draw.specs.Surface.{lanes_end}
@@ -52,25 +53,27 @@ same_front h seats past shown fault last reason lanes e allowed of_lanes of_even
 
 -- all but the marks and the end, from the texts that are put one after the other
 pub puts_front : (h : Heading) (seats : ℕ) (past shown : List Event) (fault : Option ℕ) (last : ℕ) (reason : List ℕ)
-    (old grounded stretched handed new : List ℕ) (start between legend : Legend) (lanes : ℕ) (e : Option Event)
-    (allowed end : ℕ)
+    (old grounded stretched handed new : List ℕ) (start between with_hands legend : Legend) (lanes : ℕ) (e : Option Event)
+    (allowed end : ℕ) (some : Bool)
     → end ≡ lanes_end (length shown) → lanes ≡ lanes_for seats shown → e ≡ forbidden_event fault last shown
     → allowed ≡ allowed_with e (length shown)
     → start ≡ empty_legend → grounded ≡ old ++ ground h seats (length shown) lanes
     → PutsStretches (stretches seats past (take allowed shown) end) grounded stretched start between
     → handed ≡ stretched ++ hands seats allowed shown
-    → legend ≡ hands_noted_below between allowed shown (length shown)
+    → with_hands ≡ hands_noted_below between allowed shown (length shown)
+    → some ≡ list_any is_refused_act (take allowed shown) → legend ≡ refused_noted with_hands some
     → new ≡ handed ++ above seats (length shown) lanes allowed reason last e legend
     → new ≡ old ++ front h seats past shown fault last reason
-puts_front h seats past shown fault last reason old grounded stretched handed new start between legend lanes e allowed end
-    end_is lanes_is e_is allowed_is start_is first put third noted fourth =
+puts_front h seats past shown fault last reason old grounded stretched handed new start between with_hands legend lanes e allowed end
+    some end_is lanes_is e_is allowed_is start_is first put third noted some_is legend_is fourth =
     let drawn = drawn_of seats past shown allowed in
     let second =
     same_stretches (stretches seats past (take allowed shown) end) drawn grounded stretched start between
     (ap (λ n. stretches seats past (take allowed shown) n) end_is) put in
-    let named =
+    let of_hands =
     noted ∙ ap (λ (l : Legend). hands_noted_below l allowed shown (length shown))
     (second.names ∙ ap (λ (l : Legend). all_noted l drawn) start_is) in
+    let named = legend_is ∙ (λ i. refused_noted (of_hands i) (some_is i)) in
     four_put old (ground h seats (length shown) lanes) (stretches_text drawn) (hands seats allowed shown)
     (above seats (length shown) lanes allowed reason last e (legend_of drawn allowed shown)) grounded stretched handed
     new first second.is third
@@ -91,20 +94,22 @@ shown_front h es fault reason seats before last of_seats behind at =
 
 -- a page with all but the marks, the marks behind it, and the end
 pub is_picture : (h : Heading) (es : List Event) (fault : Option ℕ) (reason : List ℕ) (seats : ℕ) (object : ObjectName)
-    (before last : ℕ) (empty under marked all : List ℕ)
-    → seats ≡ h.seats → object ≡ h.object → before ≡ not_shown last → last ≡ shown_last fault (length es)
+    (before allowed last : ℕ) (empty under marked all : List ℕ)
+    → seats ≡ h.seats → object ≡ h.object → before ≡ not_shown last
+    → allowed ≡ allowed_of fault last (slice_range es before last) → last ≡ shown_last fault (length es)
     → empty ≡ []
     → under ≡ empty ++ front h seats (take before es) (slice_range es before last) fault last reason
-    → marked ≡ under ++ marks_by es seats object before last → all ≡ marked ++ codes "</svg>\n"
+    → marked ≡ under ++ marks_by es seats object before allowed last → all ≡ marked ++ codes "</svg>\n"
     → IsPicture h es fault reason all
-is_picture h es fault reason seats object before last empty under marked all of_seats of_object behind at nothing first put ended =
+is_picture h es fault reason seats object before allowed last empty under marked all of_seats of_object behind fine at nothing
+    first put ended =
     let under_marks = front h seats (take before es) (slice_range es before last) fault last reason in
     let whole =
     front h h.seats (take (not_shown (shown_last fault (length es))) es) (shown_events fault es) fault
     (shown_last fault (length es)) reason in
     ended ∙ ap (λ (page : List ℕ). page ++ codes "</svg>\n")
-    (put ∙ (ap (λ (page : List ℕ). page ++ marks_by es seats object before last)
+    (put ∙ (ap (λ (page : List ℕ). page ++ marks_by es seats object before allowed last)
     (first ∙ (ap (λ (page : List ℕ). page ++ under_marks) nothing
     ∙ shown_front h es fault reason seats before last of_seats behind at))
     ∙ ap (λ (text : List ℕ). whole ++ text)
-    (same_marks h es fault seats object before last of_seats of_object behind at)))
+    (same_marks h es fault seats object before allowed last of_seats of_object behind fine at)))

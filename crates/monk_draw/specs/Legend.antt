@@ -45,6 +45,11 @@ hand_sample = codes "<path class=\"hand\" marker-end=\"url(#hand-tip)\" d=\"M0 6
 abbrev pub place_sample : Place → List ℕ
 place_sample p = if is_outside p then rail_sample else bar_sample (place_class p)
 
+unfoldable pub refused_sample : List ℕ
+refused_sample =
+    codes "<g class=\"mark refused\" transform=\"translate(11 6)\"><circle r=\"6\"/>"
+    ++ codes "<path d=\"M-4 -4L4 4M-4 4L4 -4\"/></g>"
+
 unfoldable pub entry_words : List ℕ → List ℕ
 entry_words words = codes "<text class=\"soft\" x=\"28\" y=\"10\">" ++ (words ++ codes "</text></g>\n")
 
@@ -60,9 +65,16 @@ abbrev pub hand_entry : Legend → ℕ → ℕ → List ℕ
 hand_entry l top at =
     if l.hand then corner top at ++ (hand_sample ++ entry_words (codes "goes on by a release")) else []
 
--- the entries of these places in order, and that of an arrow
+abbrev pub hands_then : Legend → ℕ → ℕ
+hands_then l at = if l.hand then at + 1 else at
+
+abbrev pub refused_entry : Legend → ℕ → ℕ → List ℕ
+refused_entry l top at =
+    if l.refused then corner top at ++ (refused_sample ++ entry_words (codes "refused by the object")) else []
+
+-- the entries of these places in order, and those of an arrow and of a refused act
 unfoldable pub entries : Legend → ℕ → ℕ → List Place → List ℕ
-entries l top at [] = hand_entry l top at
+entries l top at [] = hand_entry l top at ++ refused_entry l top (hands_then l at)
 entries l top at (p ∷ ps) = place_entry l top at p ++ entries l top (entries_then l at p) ps
 
 abbrev pub legend_places : List Place

@@ -20,10 +20,26 @@ use Rattle.monk_draw.specs.Window.{not_shown, shown_events, shown_last}
 use Rattle.monk_draw.specs.declared.legend.Legend.{Legend}
 use Rattle.monk_draw.specs.declared.view.View.{View}
 
--- how a history is looked at: its seats, its object, and how many events before those that are shown
+-- of so many events that are shown those that are allowed: all but the last, where that one is forbidden
+abbrev pub allowed_with : Option Event → ℕ → ℕ
+allowed_with None count = count
+allowed_with (Some e) count = count - 1
+
+-- of the events that are shown those that are allowed
+abbrev pub allowed_of : Option ℕ → ℕ → List Event → ℕ
+allowed_of fault last shown = allowed_with (forbidden_event fault last shown) (length shown)
+
+-- how a history is looked at: its seats, its object, how many events before those that are shown, and how many of these
+-- are allowed
 abbrev pub view_of : Heading → List Event → Option ℕ → View
 view_of h events fault =
-    record { seats = h.seats; object = h.object; before = not_shown (shown_last fault (length events)) }
+    let last = shown_last fault (length events) in
+    record {
+      seats = h.seats;
+      object = h.object;
+      before = not_shown last;
+      allowed = allowed_of fault last (shown_events fault events);
+    }
 
 -- the marks of the events that are shown
 abbrev pub all_marks : Heading → List Event → Option ℕ → List ℕ
@@ -41,11 +57,6 @@ lanes_with seats (Some e) = if nat_lt (seat_of e) seats then seats else seats + 
 
 abbrev pub lanes_for : ℕ → List Event → ℕ
 lanes_for seats shown = lanes_with seats (slice_get shown (length shown - 1))
-
--- of so many events that are shown those that are allowed: all but the last, where that one is forbidden
-abbrev pub allowed_with : Option Event → ℕ → ℕ
-allowed_with None count = count
-allowed_with (Some e) count = count - 1
 
 -- what everything stands on
 unfoldable pub ground : Heading → ℕ → ℕ → ℕ → List ℕ

@@ -1,6 +1,8 @@
 -- Stretches put on a page, and which places the legend names by them
-use Rattle.std.specs.Prelude.{◌≡◌, ℕ, zero, suc, ◌+◌, true, false, Option, Some, None, List, [], ◌∷◌, ◌++◌, length}
-use Rattle.std.specs.Prelude.{nat_lt, if◌then◌else◌, slice_get}
+use Rattle.std.specs.Prelude.{◌≡◌, ℕ, zero, suc, ◌+◌, Bool, true, false, Option, Some, None, List, [], ◌∷◌, ◌++◌, length}
+use Rattle.std.specs.Prelude.{nat_lt, if◌then◌else◌, slice_get, take}
+use Rattle.std.specs.List.{list_any}
+use Rattle.monk_history.specs.Meaning.Acts.{is_refused_act}
 use Rattle.monk_history.specs.declared.event.Event.{Event}
 use Rattle.monk_draw.specs.Hand.{goes_on}
 use Rattle.monk_draw.specs.Stretch.{stretches_text}
@@ -19,6 +21,7 @@ empty_legend = record {
   signaller = false;
   until = false;
   hand = false;
+  refused = false;
 }
 
 unfoldable pub noted : Legend → Place → Legend
@@ -49,9 +52,15 @@ hands_noted_below l allowed es zero = l
 hands_noted_below l allowed es (suc column) =
     hand_noted_behind (hands_noted_below l allowed es column) allowed column (slice_get es column) (slice_get es (column + 1))
 
--- the legend of these stretches, and of the arrows of these events, of which the first so many are allowed
+-- whether there is a refused act
+abbrev pub refused_noted : Legend → Bool → Legend
+refused_noted l some = record l { refused = some }
+
+-- the legend of these stretches, and of the arrows and refused acts of these events, of which the first so many are allowed
 abbrev pub legend_of : List Stretch → ℕ → List Event → Legend
-legend_of drawn allowed es = hands_noted_below (all_noted empty_legend drawn) allowed es (length es)
+legend_of drawn allowed es =
+    refused_noted (hands_noted_below (all_noted empty_legend drawn) allowed es (length es))
+    (list_any is_refused_act (take allowed es))
 
 -- behind the one text these stretches make the other, and their places are noted
 pub record PutsStretches (drawn : List Stretch) (old new : List ℕ) (before after : Legend) : Type 0 where

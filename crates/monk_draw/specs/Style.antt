@@ -32,12 +32,13 @@ shapes =
     ++ (codes ".signaller { fill: url(#signaller); stroke: #6b46c1; }\n"
     ++ (codes ".until { fill: url(#until); stroke: #0f766e; }\n"
     ++ (codes ".mark circle { fill: #fff; stroke: #1f2933; stroke-width: 1.4; }\n"
+    ++ (codes ".refused path { stroke: #1f2933; stroke-width: 1.8; }\n"
     ++ (codes ".hand, .wish, .frame { fill: none; stroke-width: 1.6; }\n"
     ++ (codes ".hand { stroke: #1f2933; }\n"
     ++ (codes ".hand-tip { fill: #1f2933; }\n"
     ++ (codes ".frame, .wish { stroke: #c53030; }\n"
     ++ (codes ".wish { stroke-dasharray: 5 3; }\n"
-    ++ codes ".wish-tip { fill: #c53030; }\n"))))))))))))))
+    ++ codes ".wish-tip { fill: #c53030; }\n")))))))))))))))
 
 -- in the dark
 unfoldable pub dark : List ℕ

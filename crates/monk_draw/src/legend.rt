@@ -1,14 +1,15 @@
 //! What the colours and hatchings mean, of those that occur.
 
 ghost use Rattle.std.specs.Prelude.{◌≡◌, ◌≤◌, ◌++◌, OnOk, string_bytes, true};
-ghost use Rattle.monk_draw.specs.Scene.{empty_legend, noted};
+ghost use Rattle.monk_draw.specs.Scene.{empty_legend, noted, refused_noted};
 ghost use Rattle.monk_draw.specs.Legend.{bar_sample, corner, corner_at, entries_then, entry_words, hand_entry, hand_sample};
-ghost use Rattle.monk_draw.specs.Legend.{legend_text, occurs, place_entry, place_sample, rail_sample};
+ghost use Rattle.monk_draw.specs.Legend.{hands_then, legend_text, occurs, place_entry, place_sample, rail_sample};
+ghost use Rattle.monk_draw.specs.Legend.{refused_entry, refused_sample};
 
 use crate::place::Place;
 use std::alloc::AllocError;
 
-/// Which places occur.
+/// Which places occur, whether an arrow does, and whether a refused act.
 #[derive(Clone, Copy)]
 pub(crate) struct Legend {
     entry: bool,
@@ -18,6 +19,7 @@ pub(crate) struct Legend {
     signaller: bool,
     until: bool,
     hand: bool,
+    refused: bool,
 }
 
 impl Legend {
@@ -33,6 +35,7 @@ impl Legend {
             signaller: false,
             until: false,
             hand: false,
+            refused: false,
         }
     }
 
@@ -41,6 +44,13 @@ impl Legend {
         ensures { self.new ≡ record self.old { hand = true } }
     {
         self.hand = true;
+    }
+
+    /// Whether there is a refused act.
+    pub(crate) fn note_refused(&mut self, some: bool)
+        ensures { self.new ≡ refused_noted self.old some }
+    {
+        self.refused = some;
     }
 
     /// That place too.
@@ -187,6 +197,36 @@ fn put_hand_entry(page: &mut String, legend: Legend, top: u64, at: u8) -> Result
     put_words(page, "goes on by a release")
 }
 
+/// How many entries there are with that of an arrow.
+fn hands_then(legend: Legend, at: u8) -> u8
+    requires { at ≤ 100 }
+    ensures { result ≡ hands_then legend at }
+{
+    if legend.hand { at + 1 } else { at }
+}
+
+#[tactic(auto, unfolding(crate::specs::Legend::refused_sample))]
+fn put_refused_sample(page: &mut String) -> Result<(), AllocError>
+    ensures { OnOk result (string_bytes page.new ≡ string_bytes page.old ++ refused_sample) }
+{
+    let dot = "<g class=\"mark refused\" transform=\"translate(11 6)\"><circle r=\"6\"/>";
+    let cross = "<path d=\"M-4 -4L4 4M-4 4L4 -4\"/></g>";
+    write!(page, "{dot}{cross}")
+}
+
+/// Puts the entry of a refused act behind so many entries, if one occurs.
+fn put_refused_entry(page: &mut String, legend: Legend, top: u64, at: u8) -> Result<(), AllocError>
+    requires { top ≤ 100000 }
+    ensures { OnOk result (string_bytes page.new ≡ string_bytes page.old ++ refused_entry legend top at) }
+{
+    if !legend.refused {
+        return Ok(());
+    }
+    put_corner(page, at, top)?;
+    put_refused_sample(page)?;
+    put_words(page, "refused by the object")
+}
+
 /// Puts the legend of what occurs.
 pub(crate) fn put_legend(page: &mut String, legend: Legend, top: u64) -> Result<(), AllocError>
     requires { top ≤ 100000 }
@@ -197,5 +237,6 @@ pub(crate) fn put_legend(page: &mut String, legend: Legend, top: u64) -> Result<
         put_place_entry(page, legend, top, at, *place)?;
         at = entries_then(legend, at, *place);
     }
-    put_hand_entry(page, legend, top, at)
+    put_hand_entry(page, legend, top, at)?;
+    put_refused_entry(page, legend, top, hands_then(legend, at))
 }

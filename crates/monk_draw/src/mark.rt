@@ -2,7 +2,8 @@
 
 ghost use Rattle.std.specs.Prelude.{◌≡◌, ◌≤◌, ◌+◌, ◌++◌, OnOk, length, string_bytes};
 ghost use Rattle.monk_history.specs.Limits.{most_lines};
-ghost use Rattle.monk_draw.specs.Mark.{dot, dot_at, mark, marks, note_below, step_text, title, word_above, words};
+ghost use Rattle.monk_draw.specs.Mark.{crossed_dot, dot, dot_at, mark, marks, note_below, refusal, step_text, title};
+ghost use Rattle.monk_draw.specs.Mark.{word_above, words};
 
 use crate::label::{event_word, put_note, put_text};
 use crate::layout::{column_at, lane_at, lane_of};
@@ -39,6 +40,24 @@ fn put_dot(page: &mut String, view: View, column: u32, event: Event) -> Result<(
 {
     let lane = lane_of(view.seats, event.seat());
     put_dot_at(page, column_at(column), lane_at(lane))
+}
+
+#[tactic(auto, unfolding(crate::specs::Mark::crossed_dot))]
+fn put_crossed_dot(page: &mut String) -> Result<(), AllocError>
+    ensures { OnOk result (string_bytes page.new ≡ string_bytes page.old ++ crossed_dot) }
+{
+    page.push_str("<g class=\"refused\"><circle r=\"7\"/><path d=\"M-4 -4L4 4M-4 4L4 -4\"/></g>\n")
+}
+
+/// Puts what shows that the object refused the act, if the event is one and is allowed.
+fn put_refusal(page: &mut String, view: View, column: u32, event: Event) -> Result<(), AllocError>
+    ensures { OnOk result (string_bytes page.new ≡ string_bytes page.old ++ refusal view column event) }
+{
+    if (column as usize) < view.allowed && event.is_refused() {
+        put_crossed_dot(page)
+    } else {
+        Ok(())
+    }
 }
 
 /// Puts the line of the event, which shows where its mark is pointed at.
@@ -85,6 +104,7 @@ fn put_mark(page: &mut String, view: View, column: u32, event: Event) -> Result<
     let step = view.before + column as usize + 1;
     put_step(page, column, step)?;
     put_dot(page, view, column, event)?;
+    put_refusal(page, view, column, event)?;
     put_title(page, step, event)?;
     put_words(page, view, event)
 }

@@ -1,7 +1,9 @@
 //! The picture of a history.
 
 ghost use Rattle.std.specs.Prelude.{◌≡◌, ◌≤◌, ◌++◌, IfOk, OnOk, length, slice_range, string_bytes, take};
+ghost use Rattle.std.specs.List.{list_any};
 ghost use Rattle.monk_history.specs.Limits.{most_lines};
+ghost use Rattle.monk_history.specs.Meaning.Acts.{is_refused_act};
 ghost use Rattle.monk_draw.specs.Picture.{HasMarks, IsPicture, above, allowed_with, front, ground, lanes_for};
 
 use crate::frame::{forbidden_event, put_wrong};
@@ -53,6 +55,17 @@ fn allowed_with(forbidden: Option<Event>, count: usize) -> usize
         Some(_) => count.saturating_sub(1),
         None => count,
     }
+}
+
+/// Whether one of the events is an act that the object refused.
+fn has_refused(events: &[Event]) -> bool
+    ensures { result ≡ list_any is_refused_act events.now }
+{
+    let mut some = false;
+    for event in events {
+        some |= event.is_refused();
+    }
+    some
 }
 
 /// Puts what everything stands on.
@@ -132,6 +145,7 @@ fn put_front(
         surface.end(),
     )?;
     put_hands(page, &mut legend, view.seats, shown, allowed)?;
+    legend.note_refused(has_refused(&shown[..allowed]));
     let column = allowed as u32;
     put_above(
         page,
@@ -173,16 +187,19 @@ pub fn draw(
     ensures picture { IfOk result (λ page. IsPicture header.now events.now forbidden reason.now (string_bytes page)) }
 {
     let last = shown_last(forbidden, events.len());
+    let before = not_shown(last);
+    let shown = &events[before..last];
     let view = View {
         seats: seats_of(header),
         object: header.object(),
-        before: not_shown(last),
+        before,
+        allowed: allowed_with(forbidden_event(forbidden, last, shown), shown.len()),
     };
     let mut page = String::new(alloc);
     put_front(
         alloc, &mut page, header, view, events, last, forbidden, reason,
     )?;
-    put_marks(&mut page, view, &events[view.before..last])?;
+    put_marks(&mut page, view, shown)?;
     page.push_str("</svg>\n")?;
     Ok(page)
 }

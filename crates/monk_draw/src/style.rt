@@ -32,6 +32,7 @@ const SHAPES: &str = ".background { fill: #fff; }
 .signaller { fill: url(#signaller); stroke: #6b46c1; }
 .until { fill: url(#until); stroke: #0f766e; }
 .mark circle { fill: #fff; stroke: #1f2933; stroke-width: 1.4; }
+.refused path { stroke: #1f2933; stroke-width: 1.8; }
 .hand, .wish, .frame { fill: none; stroke-width: 1.6; }
 .hand { stroke: #1f2933; }
 .hand-tip { fill: #1f2933; }

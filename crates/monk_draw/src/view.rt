@@ -9,4 +9,6 @@ pub(crate) struct View {
     pub(crate) object: ObjectName,
     /// How many events there are before those that are shown.
     pub(crate) before: usize,
+    /// How many of those that are shown are allowed.
+    pub(crate) allowed: usize,
 }

@@ -24,3 +24,7 @@ is_done code act = act.op.code == code && nat_lt 0 act.reply
 
 abbrev pub times_done : ℕ → List Answered → ℕ
 times_done code acts = count_by (is_done code) acts
+
+-- the object refused it, and so is as it was (`IsUnchangedByRefusal`)
+abbrev pub is_refused : Answered → Bool
+is_refused act = act.reply == 0

@@ -4,3 +4,4 @@ mod FrontLaws
 mod ConditionLines
 mod ChosenLaws
 mod ListLaws
+mod RefusedLaws

@@ -1,9 +1,11 @@
 -- One item more of what a loop has gone through
 use Rattle.std.proofs.Common.{◌≡◌, ℕ, ◌+◌, ◌<◌, Bool, cond, List, [], ◌∷◌}
-use Rattle.std.proofs.Common.{◌++◌, length, take, get_or, map, ap, subst, suc, arith, ◌∙◌}
+use Rattle.std.proofs.Common.{◌++◌, length, take, get_or, map, Some, ap, subst, suc, arith, ◌∙◌}
 use Rattle.std.proofs.lemmas.List.{map-append, take_more}
 use Rattle.std.proofs.lemmas.List.Elements.{filter-append}
 use Rattle.std.specs.Prelude.{filter}
+use Rattle.monk_audit.specs.Replay.{has}
+use Rattle.monk_tell.specs.Cause.{waits_at}
 use Rattle.monk_tell.specs.Told.{inside_below}
 use Rattle.monk_tell.specs.declared.lists.Seats.{Seats}
 
@@ -27,3 +29,14 @@ pub inside_more : (inside : ℕ → Bool) (j : ℕ) (b : Bool) → inside j ≡ 
 inside_more inside j b is =
     let e : suc j ≡ j + 1 = omega arith in
     subst (λ (n : ℕ). inside_below inside n ≡ inside_below inside j ++ cond b (j ∷ []) []) e (inside_next inside j b is)
+
+waits_next : (queue : ℕ → List ℕ) (c s : ℕ) (b : Bool) → has s (queue c) ≡ b
+    → waits_at queue (suc c) s ≡ cond b (Some c) (waits_at queue c s)
+unfolding waits_at
+waits_next queue c s b is = ap (λ (d : Bool). cond d (Some c) (waits_at queue c s)) is
+
+pub waits_more : (queue : ℕ → List ℕ) (c s : ℕ) (b : Bool) → has s (queue c) ≡ b
+    → waits_at queue (c + 1) s ≡ cond b (Some c) (waits_at queue c s)
+waits_more queue c s b is =
+    let e : suc c ≡ c + 1 = omega arith in
+    subst (λ (n : ℕ). waits_at queue n s ≡ cond b (Some c) (waits_at queue c s)) e (waits_next queue c s b is)

@@ -7,7 +7,7 @@ use Rattle.monk_kinds.specs.declared.name.KindName.{KindName}
 use Rattle.monk_object.specs.Object.{Object}
 use Rattle.monk_history.specs.declared.event.Event.{Event}
 use Rattle.monk_history.specs.declared.event.Turn.{Turn}
-use Rattle.monk_history.specs.Meaning.Events.{seat_of}
+use Rattle.monk_history.specs.Meaning.Events.{seat_of, via_of}
 use Rattle.monk_history.specs.Meaning.Monitor.{Monitor, monitor}
 use Rattle.monk_history.specs.Meaning.Reasons.{fits_object, is_in_range, reason_in}
 use Rattle.monk_history.specs.Meaning.Situation.{Situation}
@@ -20,9 +20,10 @@ use Rattle.monk_history.specs.Meaning.Named.{named_monitor}
 use Rattle.monk_audit.specs.declared.verdict.Verdict.{Verdict}
 use Rattle.monk_audit.specs.Verdict.{IsVerdict, verdict_of}
 use Rattle.monk_audit.proofs.PublicLaws.{is_verdict}
-use Rattle.monk_tell.specs.Cause.{early_cause}
-use Rattle.monk_tell.specs.Told.{Blamed, Shown, ShownQueues, Account, blame_of_event}
+use Rattle.monk_tell.specs.Cause.{early_cause, no_entry, out_of_turn, waits_at}
+use Rattle.monk_tell.specs.Told.{Blamed, Shown, ShownQueues, ShownSteps, Account, blame_of_event}
 use Rattle.monk_tell.specs.declared.why.Why.{Why}
+use Rattle.monk_tell.specs.declared.why.Why.TheVariants.{Place}
 
 passed_first : (b : Bool) (n k : ℕ) → cond (not b) 1 n ≡ k → 1 < k → b ≡ true
 passed_first true n k h more = refl
@@ -46,13 +47,22 @@ pub reason_opening : (k : Rules) (seats conds : ℕ) (o : Object) (d : List ℕ)
 unfolding reason_in
 reason_opening k seats conds o d t e = refl
 
-abbrev pub shown_by : KindName → Rules → Turn → List ℕ → List ℕ → ShownQueues → Shown
-shown_by kind rules turn inside state queues =
-    record { kind = kind; rules = rules; turn = turn; inside = inside; state = state; queues = queues }
+abbrev pub shown_by : KindName → Rules → Turn → List ℕ → ObjectName → List ℕ → ShownSteps → ShownQueues → Shown
+shown_by kind rules turn inside object state refused queues = record {
+  kind = kind;
+  rules = rules;
+  turn = turn;
+  inside = inside;
+  object = object;
+  state = state;
+  refused = refused;
+  queues = queues;
+}
 
-pub same_shown : (kind : KindName) (rules : Rules) (t u : Turn) (is js ds es : List ℕ) (q r : ShownQueues) → t ≡ u → is ≡ js
-    → ds ≡ es → q ≡ r → shown_by kind rules t is ds q ≡ shown_by kind rules u js es r
-same_shown kind rules t u is js ds es q r a b c d = λ i. shown_by kind rules (a i) (b i) (c i) (d i)
+pub same_shown : (k l : KindName) (rules : Rules) (t u : Turn) (is js ds es : List ℕ) (n o : ObjectName) (r s : ShownSteps)
+    (p q : ShownQueues) → k ≡ l → t ≡ u → is ≡ js → n ≡ o → ds ≡ es → r ≡ s → p ≡ q
+    → shown_by k rules t is n ds r p ≡ shown_by l rules u js o es s q
+same_shown k l rules t u is js ds es n o r s p q a b c d e f g = λ i. shown_by (a i) rules (b i) (c i) (d i) (e i) (f i) (g i)
 
 abbrev pub told_as : Verdict → Shown → Blamed → Account
 told_as v s b = record { verdict = v; situation = s; blame = Some b }
@@ -81,9 +91,24 @@ blamed_as step e why = record { step = step; event = e; reply = None; choice = N
 -- what is wrong with an event that fails one of the first four tests
 pub early_blamed : (kind : KindName) (k : Rules) (seats conds : ℕ) (o : Object) (t : Situation) (step reason : ℕ) (e : Event)
     (why : Why) → reason ≢ 6 → reason ≢ 5
-    → why ≡ early_cause kind seats conds t.turn (t.inside (seat_of e)) reason e
+    → why ≡ early_cause kind seats conds t reason e
     → blamed_as step e why ≡ blame_of_event kind k seats conds o t step reason e
 early_blamed kind k seats conds o t step reason e why no_choice no_reply is =
     let choice : (reason == 6) ≡ false = ne_eqb reason 6 no_choice in
     let reply : (reason == 5) ≡ false = ne_eqb reason 5 no_reply in
     rw (choice, reply) (ap (blamed_as step e) is)
+
+-- why it is not the turn of an event's seat, and why it may not enter, as causes by their reasons
+pub turn_caused : (kind : KindName) (seats conds : ℕ) (t : Situation) (reason : ℕ) (e : Event) (why : Why) → reason ≡ 3
+    → why ≡ out_of_turn (waits_at t.condition conds (seat_of e)) t.turn (seat_of e) → why ≡ early_cause kind seats conds t reason e
+turn_caused kind seats conds t reason e why three is =
+    is ∙ ap (λ (r : ℕ). early_cause kind seats conds t r e) (sym three)
+
+pub place_caused : (kind : KindName) (seats conds : ℕ) (t : Situation) (reason : ℕ) (e : Event) (why : Why) → reason ≢ 1
+    → reason ≢ 2 → reason ≢ 3 → why ≡ Place (no_entry (t.inside (seat_of e)) (via_of e) (seat_of e))
+    → why ≡ early_cause kind seats conds t reason e
+place_caused kind seats conds t reason e why a b c is =
+    let one : (reason == 1) ≡ false = ne_eqb reason 1 a in
+    let two : (reason == 2) ≡ false = ne_eqb reason 2 b in
+    let three : (reason == 3) ≡ false = ne_eqb reason 3 c in
+    rw (one, two, three) is

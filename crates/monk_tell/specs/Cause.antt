@@ -1,5 +1,6 @@
 -- Why an event is not allowed: of each reason the sentence that tells it, by how the monitor stands
-use Rattle.std.specs.Prelude.{ℕ, ◌==◌, nat_le, nat_lt, Bool, false, Option, Some, None, List, slice_get, option_map, if◌then◌else◌, is_some}
+use Rattle.std.specs.Prelude.{ℕ, zero, suc, ◌==◌, nat_le, nat_lt, Bool, false, Option, Some, None, List, slice_get}
+use Rattle.std.specs.Prelude.{option_map, if◌then◌else◌, is_some}
 use Rattle.std.specs.Option.{option_map_or}
 use Rattle.monk_kinds.specs.declared.mode.Rules.{Rules}
 use Rattle.monk_kinds.specs.declared.name.KindName.{KindName}
@@ -10,6 +11,7 @@ use Rattle.monk_history.specs.Meaning.Situation.{Situation}
 use Rattle.monk_history.specs.declared.event.Event.{Event}
 use Rattle.monk_history.specs.declared.event.Event.TheVariants.{Enter, Act, Leave, Wait, Signal, SignalLeave, Until, Resume}
 use Rattle.monk_history.specs.declared.event.Event.TheVariants.{SignalAll, SignalWait}
+use Rattle.monk_history.specs.declared.event.From3.{From3}
 use Rattle.monk_history.specs.declared.event.From3.TheVariants as from
 use Rattle.monk_history.specs.declared.event.Next.{Next}
 use Rattle.monk_history.specs.declared.event.Next.TheVariants as next
@@ -17,6 +19,7 @@ use Rattle.monk_history.specs.declared.event.Turn.{Turn}
 use Rattle.monk_history.specs.declared.event.Turn.TheVariants as turn
 use Rattle.monk_history.specs.declared.event.Via.{Via}
 use Rattle.monk_history.specs.declared.event.Via.TheVariants.{Free, Handed}
+use Rattle.monk_audit.specs.Replay.{has}
 use Rattle.monk_tell.specs.declared.firsts.Firsts.{Firsts}
 use Rattle.monk_tell.specs.declared.why.out_of_range.OutOfRange.{OutOfRange}
 use Rattle.monk_tell.specs.declared.why.out_of_range.OutOfRange.TheVariants as range
@@ -28,7 +31,7 @@ use Rattle.monk_tell.specs.declared.why.staying.Staying.{Staying}
 use Rattle.monk_tell.specs.declared.why.staying.Staying.TheVariants as stay
 use Rattle.monk_tell.specs.declared.why.precedence.Precedence.TheVariants as order
 use Rattle.monk_tell.specs.declared.why.Why.{Why}
-use Rattle.monk_tell.specs.declared.why.Why.TheVariants.{Range, Call, Turn as Away, Place, Reply, Stay, Order}
+use Rattle.monk_tell.specs.declared.why.Why.TheVariants.{Range, Call, Turn as Away, Unsignalled, Place, Reply, Stay, Order}
 
 -- ---- 1. a number that is out of range: of its seats the first, else what the call is about
 
@@ -60,10 +63,19 @@ number_beyond seats conds e = seat_beyond seats (chosen_beyond seats (call_beyon
 
 -- ---- 3. whose turn it is, and not that of seat s
 
+-- the condition below that number on which the seat waits, if it waits on one
+unfoldable pub waits_at : (ℕ → List ℕ) → ℕ → ℕ → Option ℕ
+waits_at queue zero s = None
+waits_at queue (suc c) s = if has s (queue c) then Some c else waits_at queue c s
+
 abbrev pub other_turn : Turn → ℕ → OutOfTurn
 other_turn turn.Open s = away.Open s
 other_turn (turn.Due j q) s = if j == s then away.Resumes s q else away.Due s j q
 other_turn (turn.Owned j) s = if j == s then away.Already s else away.Active s j
+
+-- it waits on a condition, or the turn is another's
+abbrev pub out_of_turn : Option ℕ → Turn → ℕ → Why
+out_of_turn waits t s = option_map_or (λ c. Unsignalled s c) waits (Away (other_turn t s))
 
 -- ---- 4. why seat s may not enter
 
@@ -121,13 +133,26 @@ may_not_admit kind k s None None None = Stay (stay.GivesUp s)
 abbrev pub is_first : ℕ → Option ℕ → Bool
 is_first j first = option_map_or (λ i. i == j) first false
 
--- that waiter may not be chosen: it is not the first, or a signaller goes before it
-abbrev pub may_not_wake : KindName → Firsts → ℕ → ℕ → Why
-may_not_wake kind f s j =
+-- it is not the first of that queue, where one is
+abbrev pub behind_first : Option ℕ → ℕ → From3 → Why
+behind_first first j queue = option_map_or (λ i. Order (order.NotFirst j queue)) first (Order (order.NobodyIn queue))
+
+-- of a seat that was chosen as a waiter and isn't in the waiter queue, the condition on which it waits
+abbrev pub still_waits : ℕ → (ℕ → List ℕ) → List ℕ → Option Next → Option ℕ
+still_waits conds queue waiters None = None
+still_waits conds queue waiters (Some next.Stay) = None
+still_waits conds queue waiters (Some next.Entry) = None
+still_waits conds queue waiters (Some (next.Waiter j)) = if has j waiters then None else waits_at queue conds j
+still_waits conds queue waiters (Some (next.Signaller j)) = None
+still_waits conds queue waiters (Some (next.Until j)) = None
+
+-- that waiter may not be chosen: nobody has signalled it, it is not the first, or a signaller goes before it
+abbrev pub may_not_wake : KindName → Firsts → Option ℕ → ℕ → ℕ → Why
+may_not_wake kind f waits s j =
     if is_first j f.waiter
     then option_map_or (λ i. if i == s then Stay (stay.MustStay s kind) else Order (order.SignallersFirst i kind)) f.signaller
     (Stay (stay.GivesUp s))
-    else Order (order.NotFirst j from.Waiter)
+    else option_map_or (λ c. Unsignalled j c) waits (behind_first f.waiter j from.Waiter)
 
 -- that signaller may not be chosen: it is not the first, or a waiter goes before it, or it is the caller
 abbrev pub caller_or_none : ℕ → ℕ → Why
@@ -138,34 +163,46 @@ may_not_recall kind k f s j =
     if is_first j f.signaller
     then option_map_or (λ w. if nat_lt k.signaller k.waiter then Order (order.WaitersFirst w kind) else caller_or_none s j) f.waiter
     (caller_or_none s j)
-    else Order (order.NotFirst j from.Signaller)
+    else behind_first f.signaller j from.Signaller
 
-abbrev pub may_not_choose : KindName → Rules → Firsts → Event → Option Next → Why
-may_not_choose kind k f e None = Stay (may_not_stay kind k f e)
-may_not_choose kind k f e (Some next.Stay) = Stay (may_not_stay kind k f e)
-may_not_choose kind k f e (Some next.Entry) = may_not_admit kind k (seat_of e) f.waiter f.signaller f.ready
-may_not_choose kind k f e (Some (next.Waiter j)) = may_not_wake kind f (seat_of e) j
-may_not_choose kind k f e (Some (next.Signaller j)) = may_not_recall kind k f (seat_of e) j
-may_not_choose kind k f e (Some (next.Until j)) =
-    if has_conditions k.mode then Order (order.NoUntils kind) else Order (order.NotReady j)
+-- that seat may not be chosen of those whose predicate holds: it is not the first of them, where there is one
+abbrev pub may_not_continue : KindName → Rules → Option ℕ → ℕ → Why
+may_not_continue kind k first j =
+    if has_conditions k.mode then Order (order.NoUntils kind)
+    else option_map_or (λ i. Order (order.NotReady j)) first (Order order.NobodyReady)
 
-abbrev pub other_choice : KindName → Rules → Firsts → Bool → Event → Why
-other_choice kind k f stays e = if stays then Stay (has_to_stay e) else may_not_choose kind k f e (next_of e)
+abbrev pub may_not_choose : KindName → Rules → Firsts → Option ℕ → Event → Option Next → Why
+may_not_choose kind k f waits e None = Stay (may_not_stay kind k f e)
+may_not_choose kind k f waits e (Some next.Stay) = Stay (may_not_stay kind k f e)
+may_not_choose kind k f waits e (Some next.Entry) = may_not_admit kind k (seat_of e) f.waiter f.signaller f.ready
+may_not_choose kind k f waits e (Some (next.Waiter j)) = may_not_wake kind f waits (seat_of e) j
+may_not_choose kind k f waits e (Some (next.Signaller j)) = may_not_recall kind k f (seat_of e) j
+may_not_choose kind k f waits e (Some (next.Until j)) = may_not_continue kind k f.ready j
+
+abbrev pub other_choice : KindName → Rules → Firsts → Option ℕ → Bool → Event → Why
+other_choice kind k f waits stays e =
+    if stays then Stay (has_to_stay e) else may_not_choose kind k f waits e (next_of e)
+
+-- why the event may not choose what it chose, in this situation
+abbrev pub choice_cause : KindName → Rules → ℕ → Object → Situation → Event → Why
+choice_cause kind k conds o t e =
+    let q = queues_at o t e in
+    other_choice kind k (firsts_of q) (still_waits conds t.condition q.waiters (next_of e)) (must_stay o t e) e
 
 -- ---- one of the first four
 
-abbrev pub early_cause : KindName → ℕ → ℕ → Turn → Bool → ℕ → Event → Why
-early_cause kind seats conds t inside reason e =
+abbrev pub early_cause : KindName → ℕ → ℕ → Situation → ℕ → Event → Why
+early_cause kind seats conds t reason e =
     if reason == 1 then Range (number_beyond seats conds e)
     else if reason == 2 then Call kind
-    else if reason == 3 then Away (other_turn t (seat_of e))
-    else Place (no_entry inside (via_of e) (seat_of e))
+    else if reason == 3 then out_of_turn (waits_at t.condition conds (seat_of e)) t.turn (seat_of e)
+    else Place (no_entry (t.inside (seat_of e)) (via_of e) (seat_of e))
 
 -- ---- all
 
 -- why e is not allowed in this situation, where that is the first reason against it
 abbrev pub cause : KindName → Rules → ℕ → ℕ → Object → Situation → ℕ → Event → Why
 cause kind k seats conds o t reason e =
-    if reason == 6 then other_choice kind k (firsts_of (queues_at o t e)) (must_stay o t e) e
+    if reason == 6 then choice_cause kind k conds o t e
     else if reason == 5 then other_reply (own_reply o t.state e) e
-    else early_cause kind seats conds t.turn (t.inside (seat_of e)) reason e
+    else early_cause kind seats conds t reason e

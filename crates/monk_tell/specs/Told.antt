@@ -1,5 +1,5 @@
 -- What is told of a history, as data
-use Rattle.std.specs.Prelude.{ℕ, zero, suc, ◌-◌, ◌==◌, Bool, Option, Some, None, List, [], ◌∷◌, ◌++◌, map, take}
+use Rattle.std.specs.Prelude.{ℕ, zero, suc, ◌-◌, ◌==◌, Bool, Option, Some, None, List, [], ◌∷◌, ◌++◌, length, map, take}
 use Rattle.std.specs.Prelude.{if◌then◌else◌, option_map, get_or}
 use Rattle.monk_kinds.specs.declared.mode.Mode.{Mode}
 use Rattle.monk_kinds.specs.declared.mode.Mode.TheVariants.{Blocking, NonBlocking}
@@ -7,7 +7,9 @@ use Rattle.monk_kinds.specs.declared.mode.Mode.TheVariants.{QuasiBlocking, Immed
 use Rattle.monk_kinds.specs.declared.mode.Rules.{Rules}
 use Rattle.monk_kinds.specs.declared.name.KindName.{KindName}
 use Rattle.monk_object.specs.Object.{Object}
+use Rattle.monk_object.specs.declared.name.ObjectName.{ObjectName}
 use Rattle.monk_history.specs.Text.{Heading}
+use Rattle.monk_history.specs.Meaning.Acts.{refused_steps}
 use Rattle.monk_history.specs.Meaning.Choice.{Queues as Lined, queues_at}
 use Rattle.monk_history.specs.Meaning.Monitor.{Monitor}
 use Rattle.monk_history.specs.Meaning.Named.{named_monitor}
@@ -30,6 +32,7 @@ use Rattle.monk_tell.specs.declared.lines.Lines.{Lines}
 use Rattle.monk_tell.specs.declared.queues.Conditions.{Conditions}
 use Rattle.monk_tell.specs.declared.queues.Queues.{Queues}
 use Rattle.monk_tell.specs.declared.queues.Queues.TheVariants.{Automatic, Returning, Explicit}
+use Rattle.monk_tell.specs.declared.refused.Refused.{Refused}
 use Rattle.monk_tell.specs.declared.situation.Situation.{Situation}
 use Rattle.monk_tell.specs.declared.telling.Telling.{Telling}
 use Rattle.monk_tell.specs.declared.why.Why.{Why}
@@ -61,12 +64,19 @@ only_conditions conditions waiters signallers = record {
   conditional = Some (record { conditions = conditions; waiters = waiters; signallers = signallers });
 }
 
+-- of some steps the first that are told, and how many more there are
+pub record ShownSteps : Type 0 where
+  pub first : List ℕ
+  pub more : ℕ
+
 pub record Shown : Type 0 where
   pub kind : KindName
   pub rules : Rules
   pub turn : Turn
   pub inside : List ℕ
+  pub object : ObjectName
   pub state : List ℕ
+  pub refused : ShownSteps
   pub queues : ShownQueues
 
 pub record Chosen : Type 0 where
@@ -96,13 +106,18 @@ queues_of (Returning conditions waiters) = only_conditions (condition_lists cond
 queues_of (Explicit conditions waiters signallers) =
     only_conditions (condition_lists conditions) waiters.0.items (Some signallers.0.items)
 
+abbrev pub refused_of : Refused → ShownSteps
+refused_of r = record { first = r.first.0.items; more = r.more }
+
 abbrev pub situation_of : Situation → Shown
 situation_of s = record {
   kind = s.kind;
   rules = s.rules;
   turn = s.turn;
   inside = s.inside.0.items;
+  object = s.object;
   state = s.data.0.items;
+  refused = refused_of s.refused;
   queues = queues_of s.queues;
 }
 
@@ -142,13 +157,23 @@ queues_shown QuasiBlocking conds o t = with_conditions conds t (Some t.signaller
 queues_shown ImmediateReturn conds o t = with_conditions conds t None
 queues_shown AutomaticMode conds o t = only_untils t.untils (ready_of o t.state t.untils)
 
-abbrev pub shown_standing : KindName → Rules → ℕ → ℕ → Object → Standing → Shown
-shown_standing kind rules seats conds o t = record {
+-- at most so many steps are told by their numbers
+abbrev pub most_told : ℕ
+most_told = 10
+
+abbrev pub told_steps : List ℕ → ShownSteps
+told_steps steps = record { first = take most_told steps; more = length steps - most_told }
+
+-- how a monitor stands whose object has that name, after these events
+abbrev pub shown_standing : KindName → Rules → ℕ → ℕ → ObjectName → Object → List Event → Standing → Shown
+shown_standing kind rules seats conds name o es t = record {
   kind = kind;
   rules = rules;
   turn = t.turn;
   inside = inside_below t.inside seats;
+  object = name;
   state = t.state;
+  refused = told_steps (refused_steps es);
   queues = queues_shown rules.mode conds o t;
 }
 
@@ -166,8 +191,8 @@ blame_of_event kind k seats conds o t step reason e = record {
 }
 
 -- how the monitor stands after these events
-abbrev pub shown_after : KindName → Monitor → List Event → Shown
-shown_after kind m es = shown_standing kind m.kind m.seats m.conds m.object (situation m es)
+abbrev pub shown_after : KindName → ObjectName → Monitor → List Event → Shown
+shown_after kind name m es = shown_standing kind m.kind m.seats m.conds name m.object es (situation m es)
 
 -- the event of that step, counted from 1, and those before it
 abbrev pub event_at : List Event → ℕ → Event
@@ -176,15 +201,15 @@ event_at es step = get_or es (step - 1) (Enter 0 Free)
 abbrev pub events_before : List Event → ℕ → List Event
 events_before es step = take (step - 1) es
 
--- what is told of a history of a monitor of that kind with that verdict
-abbrev pub account_by : KindName → Monitor → List Event → Verdict → Account
-account_by kind m es (Legal n) = record { verdict = Legal n; situation = shown_after kind m es; blame = None }
-account_by kind m es (Forbidden step reason) = record {
+-- what is told of a history of a monitor of that kind over the object of that name, with that verdict
+abbrev pub account_by : KindName → ObjectName → Monitor → List Event → Verdict → Account
+account_by kind name m es (Legal n) = record { verdict = Legal n; situation = shown_after kind name m es; blame = None }
+account_by kind name m es (Forbidden step reason) = record {
   verdict = Forbidden step reason;
-  situation = shown_after kind m (events_before es step);
+  situation = shown_after kind name m (events_before es step);
   blame = Some (blame_of_event kind m.kind m.seats m.conds m.object (situation m (events_before es step)) step reason
       (event_at es step));
 }
 
 abbrev pub account : Heading → List Event → Account
-account h es = account_by h.kind (named_monitor h) es (verdict_of (named_monitor h) es)
+account h es = account_by h.kind h.object (named_monitor h) es (verdict_of (named_monitor h) es)

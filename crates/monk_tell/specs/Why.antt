@@ -14,10 +14,11 @@ use Rattle.monk_tell.specs.declared.why.staying.Staying.{Staying}
 use Rattle.monk_tell.specs.declared.why.staying.Staying.TheVariants.{NobodyWaits, HoldsAlready, GivesUp, MustYield, MustStay}
 use Rattle.monk_tell.specs.declared.why.staying.Staying.TheVariants.{StepsBehind, OwnSignal}
 use Rattle.monk_tell.specs.declared.why.precedence.Precedence.{Precedence}
-use Rattle.monk_tell.specs.declared.why.precedence.Precedence.TheVariants.{NotFirst, NotReady, NoUntils, WaitersFirst, SignallersFirst}
+use Rattle.monk_tell.specs.declared.why.precedence.Precedence.TheVariants.{NotFirst, NobodyIn, NotReady, NobodyReady, NoUntils}
+use Rattle.monk_tell.specs.declared.why.precedence.Precedence.TheVariants.{WaitersFirst, SignallersFirst}
 use Rattle.monk_tell.specs.declared.why.precedence.Precedence.TheVariants.{WaitersBeforeEntry, SignallersBeforeEntry, ReadyBeforeEntry}
 use Rattle.monk_tell.specs.declared.why.Why.{Why}
-use Rattle.monk_tell.specs.declared.why.Why.TheVariants.{Range, Call, Turn, Place, Reply, Stay, Order}
+use Rattle.monk_tell.specs.declared.why.Why.TheVariants.{Range, Call, Turn, Unsignalled, Place, Reply, Stay, Order}
 
 -- a number of the event that is out of range
 abbrev pub out_of_range_text : OutOfRange → List ℕ
@@ -83,8 +84,10 @@ abbrev pub precedence_text : Precedence → List ℕ
 precedence_text (NotFirst seat queue) =
     concat (codes "seat " ∷ decimal seat ∷ codes " isn't the first of the " ∷ from_word queue ∷
     codes " queue" ∷ [])
+precedence_text (NobodyIn queue) = concat (codes "the " ∷ from_word queue ∷ codes " queue is empty" ∷ [])
 precedence_text (NotReady seat) =
     concat (codes "seat " ∷ decimal seat ∷ codes " isn't the first of those whose predicate holds" ∷ [])
+precedence_text NobodyReady = codes "there is nobody whose predicate holds"
 precedence_text (NoUntils kind) =
     concat (kind_word kind ∷ codes " monitors have nobody who waits until a predicate holds" ∷ [])
 precedence_text (WaitersFirst seat kind) =
@@ -108,6 +111,9 @@ abbrev pub why_text : Why → List ℕ
 why_text (Range w) = out_of_range_text w
 why_text (Call kind) = concat (kind_word kind ∷ codes " monitors have no such call" ∷ [])
 why_text (Turn w) = out_of_turn_text w
+why_text (Unsignalled seat cond) =
+    concat (codes "seat " ∷ decimal seat ∷ codes " waits on condition " ∷ decimal cond ∷
+    codes ", and nobody has signalled it" ∷ [])
 why_text (Place w) = out_of_place_text w
 why_text (Reply right wrong) =
     concat (codes "the object replies " ∷ decimal right ∷ codes " and not " ∷ decimal wrong ∷ [])

@@ -1,18 +1,20 @@
 -- What is told of a history, in lines
-use Rattle.std.specs.Prelude.{ℕ, ◌+◌, Option, Some, None, List, [], ◌∷◌, ◌++◌, codes}
+use Rattle.std.specs.Prelude.{ℕ, ◌+◌, ◌==◌, Option, Some, None, List, [], ◌∷◌, ◌++◌, if◌then◌else◌, codes}
 use Rattle.std.specs.List.{concat, flat_map, join_with_byte}
 use Rattle.std.specs.Fmt.{decimal}
 use Rattle.monk_kinds.specs.Names.{kind_word}
 use Rattle.monk_kinds.specs.declared.mode.Mode.{Mode}
 use Rattle.monk_kinds.specs.declared.mode.Mode.TheVariants.{Blocking, NonBlocking, QuasiBlocking, ImmediateReturn, Automatic}
 use Rattle.monk_kinds.specs.declared.mode.Rules.{Rules}
+use Rattle.monk_object.specs.InWords.{state_in_words}
+use Rattle.monk_object.specs.declared.name.ObjectName.{ObjectName}
 use Rattle.monk_history.specs.Text.{event_words, from_word, next_words}
 use Rattle.monk_history.specs.declared.event.Event.{Event}
 use Rattle.monk_history.specs.declared.event.From3.{From3}
 use Rattle.monk_history.specs.declared.event.Next.{Next}
 use Rattle.monk_history.specs.declared.event.Turn.{Turn}
 use Rattle.monk_history.specs.declared.event.Turn.TheVariants.{Open, Due, Owned}
-use Rattle.monk_tell.specs.Told.{Blamed, Chosen, Shown, ShownConditions, ShownQueues, ShownUntils, Account}
+use Rattle.monk_tell.specs.Told.{Blamed, Chosen, Shown, ShownConditions, ShownQueues, ShownSteps, ShownUntils, Account}
 use Rattle.monk_tell.specs.Why.{why_text}
 
 abbrev pub mode_word : Mode → List ℕ
@@ -119,12 +121,29 @@ turn_line t = codes "turn: " ++ turn_text t ++ codes "\n"
 abbrev pub inside_line : List ℕ → List ℕ
 inside_line seats = codes "inside:" ++ seats_text seats ++ codes "\n"
 
-abbrev pub data_line : List ℕ → List ℕ
-data_line state = codes "data:" ++ numbers_text state ++ codes "\n"
+-- the data as numbers, and in words
+abbrev pub data_text : ObjectName → List ℕ → List ℕ
+data_text o state = numbers_text state ++ (codes " (" ++ (state_in_words o state ++ codes ")"))
+
+abbrev pub data_line : ObjectName → List ℕ → List ℕ
+data_line o state = codes "data:" ++ data_text o state ++ codes "\n"
+
+-- how many more steps there are than are told
+abbrev pub more_text : ℕ → List ℕ
+more_text more = if more == 0 then [] else codes " and " ++ (decimal more ++ codes " more")
+
+-- the steps of the refused acts, where there is one
+abbrev pub refused_line : List ℕ → ℕ → List ℕ
+refused_line [] more = []
+refused_line (step ∷ steps) more = codes "refused:" ++ (numbers_text (step ∷ steps) ++ (more_text more ++ codes "\n"))
+
+abbrev pub refused_text : ShownSteps → List ℕ
+refused_text r = refused_line r.first r.more
 
 abbrev pub situation_text : Shown → List ℕ
 situation_text s =
-    kind_line s ++ (turn_line s.turn ++ (inside_line s.inside ++ (data_line s.state ++ queues_text s.queues)))
+    kind_line s ++ (turn_line s.turn ++ (inside_line s.inside ++ (data_line s.object s.state ++ (refused_text s.refused
+    ++ queues_text s.queues))))
 
 abbrev pub choice_text : Chosen → List ℕ
 choice_text c =

@@ -4,8 +4,7 @@ ghost use Rattle.std.specs.Prelude.{◌≡◌, ◌<◌, [], true, All, IfOk};
 ghost use Rattle.monk_history.specs.Meaning.Monitor.{monitor};
 ghost use Rattle.monk_history.specs.Meaning.Reasons.{fits_object, reason_in};
 ghost use Rattle.monk_audit.specs.Replay.{replay_situation};
-ghost use Rattle.monk_history.specs.Meaning.Choice.{must_stay, queues_at};
-ghost use Rattle.monk_tell.specs.Cause.{firsts_of, other_choice, own_reply};
+ghost use Rattle.monk_tell.specs.Cause.{choice_cause, own_reply};
 ghost use Rattle.monk_tell.specs.Told.{blame_of, blame_of_event, choice_of, chosen_at};
 
 use crate::blame::Blame;
@@ -14,10 +13,11 @@ use crate::lines::{line_up, must_stay};
 use crate::lists::{Fronts, Nexts};
 use crate::permitted::{fronts, may};
 use crate::sentences::{early, wrong_choice, wrong_reply};
+use crate::waiting::still_waits;
 use crate::why::Why;
 use monk_audit::{Replay, Verdict};
 use monk_history::{Event, Header};
-use monk_kinds::{KindName, Rules};
+use monk_kinds::Rules;
 use monk_object::Guarded;
 use std::alloc::{AllocError, Global};
 
@@ -35,7 +35,7 @@ fn own_reply<T: Guarded>(object: &mut T, event: Event) -> Option<u64>
 /// What the event chose from and might have chosen, and why not what it chose.
 fn choice<T: Guarded>(
     alloc: Global,
-    kind: KindName,
+    header: &Header,
     rules: Rules,
     replay: &Replay,
     object: &T,
@@ -45,18 +45,19 @@ fn choice<T: Guarded>(
     requires fits { fits_object T.CODES T.PREDICATES event ≡ true }
     ensures chosen { IfOk result
         (λ r. choice_of r.0 ≡ chosen_at rules T.meaning (replay_situation replay.now (T.state object.now)) event) }
-    ensures why { IfOk result (λ r. let t = replay_situation replay.now (T.state object.now) in
-        r.1 ≡ other_choice kind rules (firsts_of (queues_at T.meaning t event)) (must_stay T.meaning t event) event) }
+    ensures why { IfOk result (λ r. r.1 ≡ choice_cause header.now.kind rules header.now.conds T.meaning
+        (replay_situation replay.now (T.state object.now)) event) }
 {
     let stays = must_stay(alloc, replay, object, event)?;
     let lines = line_up(alloc, replay, object, event)?;
+    let waits = still_waits(alloc, replay, header.conds(), &lines.waiters, event)?;
     let choice = Choice {
         fronts: Fronts(fronts(alloc, &lines)?),
         may: Nexts(may(alloc, rules, &lines, stays, event)?),
     };
     Ok((
         choice,
-        wrong_choice(kind, rules, lines.firsts(), stays, event),
+        wrong_choice(header.kind(), rules, lines.firsts(), waits, stays, event),
     ))
 }
 
@@ -78,9 +79,8 @@ pub(crate) fn blame<T: Guarded>(
         (λ b. blame_of b ≡ blame_of_event header.now.kind rules header.now.seats header.now.conds T.meaning
         (replay_situation replay.now (T.state object.old)) step reason event) }
 {
-    let kind = header.kind();
     if reason == Verdict::CHOICE {
-        let (choice, why) = choice(alloc, kind, rules, replay, object, event)?;
+        let (choice, why) = choice(alloc, header, rules, replay, object, event)?;
         return Ok(Blame {
             step,
             event,
@@ -99,20 +99,11 @@ pub(crate) fn blame<T: Guarded>(
             why: wrong_reply(reply, event),
         });
     }
-    let (turn, inside) = (replay.turn(), replay.is_inside(event.seat()));
     Ok(Blame {
         step,
         event,
         reply: None,
         choice: None,
-        why: early(
-            kind,
-            header.seats(),
-            header.conds(),
-            turn,
-            inside,
-            reason,
-            event,
-        ),
+        why: early(alloc, header, replay, reason, event)?,
     })
 }

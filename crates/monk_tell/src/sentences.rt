@@ -1,17 +1,20 @@
 //! Which sentence tells why an event is not allowed.
 
-ghost use Rattle.std.specs.Prelude.{◌≡◌};
+ghost use Rattle.std.specs.Prelude.{◌≡◌, [], IfOk};
 ghost use Rattle.monk_history.specs.Meaning.Events.{seat_of, via_of};
-ghost use Rattle.monk_tell.specs.Cause.{call_beyond, caller_or_none, chosen_beyond, early_cause, has_to_stay};
-ghost use Rattle.monk_tell.specs.Cause.{is_first, may_not_admit, may_not_choose, may_not_recall, may_not_stay};
-ghost use Rattle.monk_tell.specs.Cause.{may_not_wake, no_entry, number_beyond, other_choice, other_reply, other_turn};
-ghost use Rattle.monk_tell.specs.Cause.{signaller_yields};
+ghost use Rattle.monk_audit.specs.Replay.{replay_situation};
+ghost use Rattle.monk_tell.specs.Cause.{behind_first, call_beyond, caller_or_none, chosen_beyond, early_cause, has_to_stay};
+ghost use Rattle.monk_tell.specs.Cause.{is_first, may_not_admit, may_not_choose, may_not_continue, may_not_recall};
+ghost use Rattle.monk_tell.specs.Cause.{may_not_stay, may_not_wake, no_entry, number_beyond, other_choice, other_reply};
+ghost use Rattle.monk_tell.specs.Cause.{other_turn, out_of_turn, signaller_yields};
 
 use crate::firsts::Firsts;
+use crate::waiting::waits_at;
 use crate::why::{OutOfPlace, OutOfRange, OutOfTurn, Precedence, Staying, Why};
-use monk_audit::Verdict;
-use monk_history::{Event, From3, Next, Turn, Via};
+use monk_audit::{Replay, Verdict};
+use monk_history::{Event, From3, Header, Next, Turn, Via};
 use monk_kinds::{KindName, Mode, Rules};
+use std::alloc::{AllocError, Global};
 
 /// What the call is about, where that is out of range.
 fn call_beyond(seats: u8, conds: u8, event: Event) -> OutOfRange
@@ -70,6 +73,16 @@ fn other_turn(turn: Turn, seat: u8) -> OutOfTurn
     }
 }
 
+/// Why it is not the turn of the seat, which waits on that condition, if it waits on one.
+fn out_of_turn(waits: Option<u8>, turn: Turn, seat: u8) -> Why
+    ensures { result ≡ out_of_turn waits turn seat }
+{
+    match waits {
+        Some(cond) => Why::Unsignalled(seat, cond),
+        None => Why::Turn(other_turn(turn, seat)),
+    }
+}
+
 /// Why the seat may not enter.
 fn no_entry(inside: bool, event: Event) -> OutOfPlace
     ensures { result ≡ no_entry inside (via_of event) (seat_of event) }
@@ -82,26 +95,27 @@ fn no_entry(inside: bool, event: Event) -> OutOfPlace
     }
 }
 
-/// Why an event fails one of the first four tests, where that is the turn, and its seat is inside or not.
+/// Why an event fails one of the first four tests.
 pub(crate) fn early(
-    kind: KindName,
-    seats: u8,
-    conds: u8,
-    turn: Turn,
-    inside: bool,
+    alloc: Global,
+    header: &Header,
+    replay: &Replay,
     reason: u8,
     event: Event,
-) -> Why
-    ensures { result ≡ early_cause kind seats conds turn inside reason event }
+) -> Result<Why, AllocError>
+    ensures { IfOk result (λ w. w ≡ early_cause header.now.kind header.now.seats header.now.conds
+        (replay_situation replay.now []) reason event) }
 {
+    let seat = event.seat();
     if reason == Verdict::RANGE {
-        Why::Range(number_beyond(seats, conds, event))
+        Ok(Why::Range(number_beyond(header.seats(), header.conds(), event)))
     } else if reason == Verdict::CALL {
-        Why::Call(kind)
+        Ok(Why::Call(header.kind()))
     } else if reason == Verdict::TURN {
-        Why::Turn(other_turn(turn, event.seat()))
+        let waits = waits_at(alloc, replay, header.conds(), seat)?;
+        Ok(out_of_turn(waits, replay.turn(), seat))
     } else {
-        Why::Place(no_entry(inside, event))
+        Ok(Why::Place(no_entry(replay.is_inside(seat), event)))
     }
 }
 
@@ -179,12 +193,25 @@ fn is_first(seat: u8, first: Option<u8>) -> bool
     }
 }
 
-/// Why that waiter may not be chosen.
-fn may_not_wake(kind: KindName, firsts: Firsts, seat: u8, chosen: u8) -> Why
-    ensures { result ≡ may_not_wake kind firsts seat chosen }
+/// Why a seat may not be chosen that is not the first of that queue.
+fn behind_first(first: Option<u8>, chosen: u8, queue: From3) -> Why
+    ensures { result ≡ behind_first first chosen queue }
+{
+    match first {
+        Some(_) => Why::Order(Precedence::NotFirst(chosen, queue)),
+        None => Why::Order(Precedence::NobodyIn(queue)),
+    }
+}
+
+/// Why that waiter may not be chosen, which waits on that condition, if nobody has signalled it.
+fn may_not_wake(kind: KindName, firsts: Firsts, waits: Option<u8>, seat: u8, chosen: u8) -> Why
+    ensures { result ≡ may_not_wake kind firsts waits seat chosen }
 {
     if !is_first(chosen, firsts.waiter) {
-        return Why::Order(Precedence::NotFirst(chosen, From3::Waiter));
+        return match waits {
+            Some(cond) => Why::Unsignalled(chosen, cond),
+            None => behind_first(firsts.waiter, chosen, From3::Waiter),
+        };
     }
     match firsts.signaller {
         Some(first) if first == seat => Why::Stay(Staying::MustStay(seat, kind)),
@@ -209,7 +236,7 @@ fn may_not_recall(kind: KindName, rules: Rules, firsts: Firsts, seat: u8, chosen
     ensures { result ≡ may_not_recall kind rules firsts seat chosen }
 {
     if !is_first(chosen, firsts.signaller) {
-        return Why::Order(Precedence::NotFirst(chosen, From3::Signaller));
+        return behind_first(firsts.signaller, chosen, From3::Signaller);
     }
     match firsts.waiter {
         Some(first) if rules.waiter > rules.signaller => {
@@ -219,42 +246,52 @@ fn may_not_recall(kind: KindName, rules: Rules, firsts: Firsts, seat: u8, chosen
     }
 }
 
+/// Why that seat may not be chosen of those whose predicate holds.
+fn may_not_continue(kind: KindName, rules: Rules, first: Option<u8>, chosen: u8) -> Why
+    ensures { result ≡ may_not_continue kind rules first chosen }
+{
+    match (rules.mode, first) {
+        (Mode::Automatic, Some(_)) => Why::Order(Precedence::NotReady(chosen)),
+        (Mode::Automatic, None) => Why::Order(Precedence::NobodyReady),
+        _ => Why::Order(Precedence::NoUntils(kind)),
+    }
+}
+
 /// Why an event that need not stay may not choose that.
 fn may_not_choose(
     kind: KindName,
     rules: Rules,
     firsts: Firsts,
+    waits: Option<u8>,
     event: Event,
     choice: Option<Next>,
 ) -> Why
-    ensures { result ≡ may_not_choose kind rules firsts event choice }
+    ensures { result ≡ may_not_choose kind rules firsts waits event choice }
 {
     let seat = event.seat();
     match choice {
         None | Some(Next::Stay) => Why::Stay(may_not_stay(kind, rules, firsts, event)),
         Some(Next::Entry) => may_not_admit(kind, rules, firsts, seat),
-        Some(Next::Waiter(chosen)) => may_not_wake(kind, firsts, seat, chosen),
+        Some(Next::Waiter(chosen)) => may_not_wake(kind, firsts, waits, seat, chosen),
         Some(Next::Signaller(chosen)) => may_not_recall(kind, rules, firsts, seat, chosen),
-        Some(Next::Until(chosen)) => match rules.mode {
-            Mode::Automatic => Why::Order(Precedence::NotReady(chosen)),
-            _ => Why::Order(Precedence::NoUntils(kind)),
-        },
+        Some(Next::Until(chosen)) => may_not_continue(kind, rules, firsts.ready, chosen),
     }
 }
 
-/// Why an event may not choose what it chose.
+/// Why an event may not choose what it chose. If it chose a waiter whom nobody has signalled, that one waits on the condition.
 pub(crate) fn wrong_choice(
     kind: KindName,
     rules: Rules,
     firsts: Firsts,
+    waits: Option<u8>,
     stays: bool,
     event: Event,
 ) -> Why
-    ensures { result ≡ other_choice kind rules firsts stays event }
+    ensures { result ≡ other_choice kind rules firsts waits stays event }
 {
     if stays {
         Why::Stay(has_to_stay(event))
     } else {
-        may_not_choose(kind, rules, firsts, event, event.choice())
+        may_not_choose(kind, rules, firsts, waits, event, event.choice())
     }
 }

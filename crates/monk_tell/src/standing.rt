@@ -8,9 +8,11 @@ ghost use Rattle.monk_tell.specs.Told.{situation_of};
 use crate::lines::{queue_at, ready_seats, signallers, untils, waiters};
 use crate::lists::{Numbers, Seats, Waits};
 use crate::queues::{Conditions, Queues};
+use crate::refused::refused_acts;
 use crate::situation::Situation;
 use monk_audit::Replay;
-use monk_kinds::{KindName, Mode, Rules};
+use monk_history::{Event, Header};
+use monk_kinds::{Mode, Rules};
 use monk_object::Listed;
 use std::alloc::{AllocError, Global};
 
@@ -28,8 +30,12 @@ fn inside_seats(alloc: Global, replay: &Replay, seats: u8) -> Result<Vec<u8>, Al
     Ok(inside)
 }
 
-/// The state of the object.
-fn data_numbers<T: Listed>(alloc: Global, object: &T) -> Result<Vec<u64>, AllocError>
+/// The state of the object, as numbers. Takes memory and time as long as it.
+///
+/// # Errors
+///
+/// `AllocError` where a growth was refused.
+pub fn data_numbers<T: Listed>(alloc: Global, object: &T) -> Result<Vec<u64>, AllocError>
     ensures { IfOk result (λ v. v.items ≡ T.state object.now) }
 {
     let mut data = Vec::new(alloc);
@@ -77,26 +83,28 @@ fn queues<T: Listed>(
     Ok(Queues::Explicit(conditions, waiters, signallers))
 }
 
-/// How the monitor stands.
+/// How the monitor stands after the events, over the object of that name.
 pub(crate) fn situation<T: Listed>(
     alloc: Global,
-    kind: KindName,
+    header: &Header,
     rules: Rules,
-    seats: u8,
-    conds: u8,
     replay: &Replay,
     object: &T,
+    events: &[Event],
 ) -> Result<Situation, AllocError>
     requires { All (λ w. w.1 < T.PREDICATES) (replay_situation replay.now (T.state object.now)).untils }
     ensures { IfOk result
-        (λ s. situation_of s ≡ shown_standing kind rules seats conds T.meaning (replay_situation replay.now (T.state object.now))) }
+        (λ s. situation_of s ≡ shown_standing header.now.kind rules header.now.seats header.now.conds header.now.object T.meaning
+        events.now (replay_situation replay.now (T.state object.now))) }
 {
     Ok(Situation {
-        kind,
+        kind: header.kind(),
         rules,
         turn: replay.turn(),
-        inside: Seats(inside_seats(alloc, replay, seats)?),
+        inside: Seats(inside_seats(alloc, replay, header.seats())?),
+        object: header.object(),
         data: Numbers(data_numbers(alloc, object)?),
-        queues: queues(alloc, rules.mode, conds, replay, object)?,
+        refused: refused_acts(alloc, events)?,
+        queues: queues(alloc, rules.mode, header.conds(), replay, object)?,
     })
 }

@@ -32,14 +32,13 @@ fn standing<T: Listed>(
         (monitor (rules_named header.now.kind) header.now.seats header.now.conds T.meaning (T.state object.old)) events.now) }
     ensures preds { IfOk result (λ r. All (λ w. w.1 < T.PREDICATES) (replay_situation r.0 (T.state object.new)).untils) }
     ensures shown { IfOk result
-        (λ r. situation_of r.1 ≡ shown_after header.now.kind
+        (λ r. situation_of r.1 ≡ shown_after header.now.kind header.now.object
         (monitor (rules_named header.now.kind) header.now.seats header.now.conds T.meaning (T.state object.old)) events.now) }
 {
-    let kind = header.kind();
-    let rules = rules_by_name(kind);
+    let rules = rules_by_name(header.kind());
     let (seats, conds) = (header.seats(), header.conds());
     let replay = Replay::after_all(alloc, object, rules, seats, conds, events)?;
-    let shown = situation(alloc, kind, rules, seats, conds, &replay, object)?;
+    let shown = situation(alloc, header, rules, &replay, object, events)?;
     Ok((replay, shown))
 }
 
@@ -53,7 +52,7 @@ fn tell_legal<T: Listed>(
 ) -> Result<Telling, AllocError>
     requires { IsLegal (monitor (rules_named header.now.kind) header.now.seats header.now.conds T.meaning (T.state object)) events.now }
     ensures { IfOk result
-        (λ t. telling_of t ≡ account_by header.now.kind
+        (λ t. telling_of t ≡ account_by header.now.kind header.now.object
         (monitor (rules_named header.now.kind) header.now.seats header.now.conds T.meaning (T.state object)) events.now
         (Verdict.Legal count)) }
 {
@@ -78,7 +77,7 @@ fn tell_forbidden<T: Listed>(
     requires { IsFirstFault
         (monitor (rules_named header.now.kind) header.now.seats header.now.conds T.meaning (T.state object)) events.now step reason }
     ensures { IfOk result
-        (λ t. telling_of t ≡ account_by header.now.kind
+        (λ t. telling_of t ≡ account_by header.now.kind header.now.object
         (monitor (rules_named header.now.kind) header.now.seats header.now.conds T.meaning (T.state object)) events.now
         (Verdict.Forbidden step reason)) }
 {
@@ -115,7 +114,7 @@ fn tell_over<T: Listed>(
     requires { IsVerdict
         (monitor (rules_named header.now.kind) header.now.seats header.now.conds T.meaning (T.state object)) events.now verdict }
     ensures { IfOk result
-        (λ t. telling_of t ≡ account_by header.now.kind
+        (λ t. telling_of t ≡ account_by header.now.kind header.now.object
         (monitor (rules_named header.now.kind) header.now.seats header.now.conds T.meaning (T.state object)) events.now
         verdict) }
 {
@@ -128,8 +127,9 @@ fn tell_over<T: Listed>(
 }
 
 /// Tells of a history what [`audit`] finds, how the monitor stands before the first event that is not allowed, or at the end of
-/// a legal history, and of an event that is not allowed what is wrong with it: the event, the object's own reply where the
-/// reply is wrong, and where the choice is wrong, what the event chose from and each next that is permitted.
+/// a legal history, with the acts that the object refused up to there, and of an event that is not allowed what is wrong with
+/// it: the event, the object's own reply where the reply is wrong, and where the choice is wrong, what the event chose from and
+/// each next that is permitted.
 ///
 /// # Errors
 ///
@@ -138,7 +138,8 @@ fn tell_over<T: Listed>(
 ///
 /// # Cost
 ///
-/// Two passes over the events, each as [`audit`] takes one; memory for the queues, the object and what is told.
+/// Two passes over the events, each as [`audit`] takes one, and a third that looks for refused acts; memory for the queues, the
+/// object and what is told.
 pub fn tell(alloc: Global, header: &Header, events: &[Event]) -> Result<Telling, AuditFault>
     requires { length events.now ≤ 2 ^ 25 }
     // All that is told is so, the sentence too.

@@ -29,6 +29,8 @@ pub enum Why {
     Call(KindName),
     /// It is not the seat's turn.
     Turn(OutOfTurn),
+    /// The seat waits on that condition, and nobody has signalled it.
+    Unsignalled(u8, u8),
     /// The seat may not enter.
     Place(OutOfPlace),
     /// The object replies the first number, and not the second.
@@ -52,6 +54,13 @@ impl Why {
                 " monitors have no such call",
             ),
             Why::Turn(found) => found.sentence(),
+            Why::Unsignalled(seat, cond) => Sentence::of_two(
+                "seat ",
+                Gap::number(seat),
+                " waits on condition ",
+                Gap::number(cond),
+                ", and nobody has signalled it",
+            ),
             Why::Place(found) => found.sentence(),
             Why::Reply(right, wrong) => Sentence::of_two(
                 "the object replies ",

@@ -53,7 +53,7 @@ static JOBS: [Job<'static>; 10] = [
         task: Task::Explain,
         input: b"monk 1 PB 2 1 buffer 1\nenter 0 free\nwait 0 0 entry\nenter 0 free\n",
         status: 1,
-        answer: b"forbidden 3 4 place\nline: 4\nevent: enter 0 free\nkind: PB blocking 1 3 2\nturn: open\ninside: 0\ndata: 1\ncondition 0: 0\nwaiter:\nsignaller:\nwhy: seat 0 is inside already\n",
+        answer: b"forbidden 3 4 place\nline: 4\nevent: enter 0 free\nkind: PB blocking 1 3 2\nturn: open\ninside: 0\ndata: 1 (buffer of 1: empty)\ncondition 0: 0\nwaiter:\nsignaller:\nwhy: seat 0 is inside already\n",
     },
     Job {
         name: "not drawn",
@@ -67,7 +67,7 @@ static JOBS: [Job<'static>; 10] = [
         task: Task::Trace,
         input: b"play 1 PB 1 0 buffer 1 8\n0 arrive\n0 out\n0 leave waiter\n",
         status: 0,
-        answer: b"1 | 0 arrive | arrived 0 0 | t=1 n=1 | due\n2 | 0 out | now | t=1 n=1 | active\n3 | 0 leave waiter | chose entry | t=1 n=1 | back entry\n",
+        answer: b"1 | 0 arrive | arrived 0 0 | t=1 n=1 | data: 1 (buffer of 1: empty) | due\n2 | 0 out | now | t=1 n=1 | data: 1 (buffer of 1: empty) | active\n3 | 0 leave waiter | chose entry | t=1 n=1 | data: 1 (buffer of 1: empty) | back entry\n",
     },
     Job {
         name: "completed",

@@ -15,7 +15,7 @@ struct Drawing<'a> {
     status: u8,
 }
 
-static DRAWINGS: [Drawing<'static>; 15] = [
+static DRAWINGS: [Drawing<'static>; 18] = [
     Drawing {
         input: b"monk 3 PIS 2 0 flags 2\nenter 0 free\nact 0 0 1 1\nuntil 0 1 entry\nenter 1 free\nact 1 0 2 1\nleave 1 until 0\nresume 0 until\nact 0 0 1 1\nleave 0 entry\n",
         marks: 9,
@@ -33,6 +33,25 @@ static DRAWINGS: [Drawing<'static>; 15] = [
         marks: 11,
         says: ">in the signaller queue</text>",
         status: 0,
+    },
+    Drawing {
+        input: b"monk 1 PB 2 0 buffer 1\nenter 0 free\nact 0 1 0 0\nleave 0 entry\n",
+        marks: 3,
+        says: "<circle r=\"4\"/>\n<g class=\"refused\"><circle r=\"7\"/><path d=\"M-4 -4L4 4M-4 4L4 -4\"/></g>\n<title>2: act 0 1 0 0</title>\n",
+        status: 0,
+    },
+    Drawing {
+        input: b"monk 1 PB 2 0 buffer 1\nenter 0 free\nact 0 0 7 1\nact 0 0 8 0\n",
+        marks: 3,
+        says: "<path d=\"M-4 -4L4 4M-4 4L4 -4\"/></g><text class=\"soft\" x=\"28\" y=\"10\">refused by the object</text></g>\n",
+        status: 0,
+    },
+    // The object would not have refused it.
+    Drawing {
+        input: b"monk 1 PB 2 0 buffer 1\nenter 0 free\nact 0 0 7 0\n",
+        marks: 2,
+        says: "<circle r=\"4\"/>\n<title>2: act 0 0 7 0</title>\n",
+        status: 1,
     },
     Drawing {
         input: b"monk 1 PNB 2 2 buffer 1\nenter 0 free\nact 0 1 0 0\nwait 0 1 entry\nenter 1 free\nact 1 0 7 1\nsignal 1 1 waiter 0\nresume 0 waiter\nact 0 1 0 8\nleave 0 signaller 1\nresume 1 signaller\nleave 1 entry\n",

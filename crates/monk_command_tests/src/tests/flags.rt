@@ -101,21 +101,21 @@ static TOLD: [Job<'static>; 4] = [
         task: Task::Explain,
         input: SET_FOR_A_WAITER,
         status: 0,
-        answer: b"legal 9\nkind: PIS automatic 1 2\nturn: open\ninside:\ndata: 2 1\nuntil:\nready:\n",
+        answer: b"legal 9\nkind: PIS automatic 1 2\nturn: open\ninside:\ndata: 2 1 (bits set: 0)\nuntil:\nready:\n",
     },
     Job {
         name: "a reply",
         task: Task::Explain,
         input: b"monk 3 PIS 2 0 flags 1\nenter 0 free\nact 0 0 1 1\nact 0 0 2 1\n",
         status: 1,
-        answer: b"forbidden 3 5 reply\nline: 4\nevent: act 0 0 2 1\nkind: PIS automatic 1 2\nturn: of 0\ninside: 0\ndata: 1 1\nuntil:\nready:\nreply: 0\nwhy: the object replies 0 and not 1\n",
+        answer: b"forbidden 3 5 reply\nline: 4\nevent: act 0 0 2 1\nkind: PIS automatic 1 2\nturn: of 0\ninside: 0\ndata: 1 1 (bits set: 0)\nuntil:\nready:\nreply: 0\nwhy: the object replies 0 and not 1\n",
     },
     Job {
         name: "a predicate that there is none of",
         task: Task::Explain,
         input: b"monk 3 PIS 2 0 flags 1\nenter 0 free\nuntil 0 32 entry\n",
         status: 1,
-        answer: b"forbidden 2 1 range\nline: 3\nevent: until 0 32 entry\nkind: PIS automatic 1 2\nturn: of 0\ninside: 0\ndata: 1 0\nuntil:\nready:\nwhy: the object has no predicate 32\n",
+        answer: b"forbidden 2 1 range\nline: 3\nevent: until 0 32 entry\nkind: PIS automatic 1 2\nturn: of 0\ninside: 0\ndata: 1 0 (no bit set)\nuntil:\nready:\nwhy: the object has no predicate 32\n",
     },
     Job {
         name: "under each kind",
@@ -144,7 +144,7 @@ static PLAYS: [Job<'static>; 4] = [
         task: Task::Trace,
         input: b"play 3 PIS 1 0 flags 2 8\n0 arrive\n0 out\n0 act 0 3\n0 act 0 4\n0 until 1 waiter\n0 until 32 waiter\n",
         status: 0,
-        answer: b"1 | 0 arrive | arrived 0 0 | t=1 n=1 | due\n2 | 0 out | now | t=1 n=1 | active\n3 | 0 act 0 3 | replied 1 | t=1 n=1 | active\n4 | 0 act 0 4 | replied 0 | t=1 n=1 | active\n5 | 0 until 1 waiter | chose stay | t=1 n=1 | active\n6 | 0 until 32 waiter | refused range | t=1 n=1 | active\n",
+        answer: b"1 | 0 arrive | arrived 0 0 | t=1 n=1 | data: 2 0 (no bit set) | due\n2 | 0 out | now | t=1 n=1 | data: 2 0 (no bit set) | active\n3 | 0 act 0 3 | replied 1 | t=1 n=1 | data: 2 3 (bits set: 0 1) | active\n4 | 0 act 0 4 | replied 0 | t=1 n=1 | data: 2 3 (bits set: 0 1) | active\n5 | 0 until 1 waiter | chose stay | t=1 n=1 | data: 2 3 (bits set: 0 1) | active\n6 | 0 until 32 waiter | refused range | t=1 n=1 | data: 2 3 (bits set: 0 1) | active\n",
     },
     Job {
         name: "flags in a play of version 2",

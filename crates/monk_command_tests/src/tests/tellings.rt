@@ -78,7 +78,9 @@ fn choice_is_told(rt: HostRuntime) -> Result<(), Fail> {
     let is_told = told.verdict == Verdict::Forbidden { step: 6, reason: 6 }
         && situation.turn == Turn::Owned(1)
         && are(&situation.inside, &[0, 1])
-        && situation.data.0.as_slice() == [1, 7].as_slice();
+        && situation.data.0.as_slice() == [1, 7].as_slice()
+        && situation.refused.first.0.as_slice() == [2].as_slice()
+        && situation.refused.more == 0;
     let is_why = wait_on_the_second(&situation.queues, &[0]) && blames_the_signal(&told.blame);
     assert!(rt; is_told && is_why);
     Ok(())

@@ -1,11 +1,12 @@
 -- The acts of a history, and what they mean where the monitor guards a buffer, a book or a shop: what a reader of the history sees of
 -- the object, in the words of `monk_object`
-use Rattle.std.specs.Prelude.{◌≡◌, ℕ, ◌+◌, ◌≤◌, ◌==◌, ◌⊎◌, List, [], ◌∷◌, ◌++◌, length, map, if◌then◌else◌, option_to_list}
+use Rattle.std.specs.Prelude.{◌≡◌, ℕ, ◌+◌, ◌≤◌, ◌==◌, ◌⊎◌, Bool, false, List, [], ◌∷◌, ◌++◌, length, map, if◌then◌else◌, option_to_list}
 use Rattle.std.specs.List.{flat_map}
+use Rattle.std.specs.Option.{option_map_or}
 use Rattle.monk_object.specs.Book.{START_READ, END_READ, START_WRITE, END_WRITE}
 use Rattle.monk_object.specs.Shop.{SIT, CALL, FINISH, DEPART}
 use Rattle.monk_object.specs.Laws.{items_put, items_taken}
-use Rattle.monk_object.specs.Runs.{Answered, answers_of, state_after, times_done}
+use Rattle.monk_object.specs.Runs.{Answered, answers_of, is_refused, state_after, times_done}
 use Rattle.monk_object.specs.declared.op.Op.{Op}
 use Rattle.monk_history.specs.declared.event.Event.{Event}
 use Rattle.monk_history.specs.Meaning.Events.{answered_act}
@@ -18,6 +19,19 @@ act_of e = option_to_list (answered_act e)
 -- the acts of all seats, in order
 abbrev pub acts_in : List Event → List Answered
 acts_in h = flat_map act_of h
+
+-- whether it is an act that the object refused, by the reply that the history has
+abbrev pub is_refused_act : Event → Bool
+is_refused_act e = option_map_or is_refused (answered_act e) false
+
+-- the steps of the refused acts, where the first event has that step
+unfoldable pub refused_from : ℕ → List Event → List ℕ
+refused_from step [] = []
+refused_from step (e ∷ es) = (if is_refused_act e then step ∷ [] else []) ++ refused_from (step + 1) es
+
+-- the same of a whole history, whose steps are counted from 1
+abbrev pub refused_steps : List Event → List ℕ
+refused_steps h = refused_from 1 h
 
 abbrev pub ops_in : List Event → List Op
 ops_in h = map (λ act. act.op) (acts_in h)

@@ -15,8 +15,12 @@ use monk_kinds::KindName;
 pub enum Precedence {
     /// The seat isn't the first of that queue.
     NotFirst(u8, From3),
+    /// That queue is empty.
+    NobodyIn(From3),
     /// The seat isn't the first of those whose predicate holds.
     NotReady(u8),
+    /// There is nobody whose predicate holds.
+    NobodyReady,
     /// Monitors of that kind have nobody who waits until a predicate holds.
     NoUntils(KindName),
     /// The kind puts waiters above signallers, and the seat is the first waiter.
@@ -44,11 +48,17 @@ impl Precedence {
                 Gap::Word(queue_word(queue)),
                 " queue",
             ),
+            Precedence::NobodyIn(queue) => {
+                Sentence::of_one("the ", Gap::Word(queue_word(queue)), " queue is empty")
+            }
             Precedence::NotReady(seat) => Sentence::of_one(
                 "seat ",
                 Gap::number(seat),
                 " isn't the first of those whose predicate holds",
             ),
+            Precedence::NobodyReady => {
+                Sentence::of_one("there is nobody whose predicate holds", Gap::Nothing, "")
+            }
             Precedence::NoUntils(kind) => Sentence::of_one(
                 "",
                 Gap::Word(kind_word(kind)),

@@ -92,14 +92,14 @@ pub(super) static JOBS: [Job<'static>; 18] = [
         task: Task::Trace,
         input: b"play 1 PB 1 0 buffer 1 8\n0 arrive\n0 out\n0 leave waiter\n",
         status: 0,
-        answer: b"1 | 0 arrive | arrived 0 0 | t=1 n=1 | due\n2 | 0 out | now | t=1 n=1 | active\n3 | 0 leave waiter | chose entry | t=1 n=1 | back entry\n",
+        answer: b"1 | 0 arrive | arrived 0 0 | t=1 n=1 | data: 1 (buffer of 1: empty) | due\n2 | 0 out | now | t=1 n=1 | data: 1 (buffer of 1: empty) | active\n3 | 0 leave waiter | chose entry | t=1 n=1 | data: 1 (buffer of 1: empty) | back entry\n",
     },
     Job {
         name: "explained",
         task: Task::Explain,
         input: b"monk 1 PNB 2 1 buffer 1\nenter 0 free\nwait 0 0 entry\nenter 1 free\nsignal 1 0 waiter 0\n",
         status: 1,
-        answer: b"forbidden 4 6 choice\nline: 5\nevent: signal 1 0 waiter 0\nkind: PNB non-blocking 1 2 3\nturn: of 1\ninside: 0 1\ndata: 1\ncondition 0: 0\nwaiter:\nsignaller:\nfronts: waiter 0, signaller 1\nmay: stay\nwhy: seat 1 has to stay active, since PNB puts signallers above waiters\n",
+        answer: b"forbidden 4 6 choice\nline: 5\nevent: signal 1 0 waiter 0\nkind: PNB non-blocking 1 2 3\nturn: of 1\ninside: 0 1\ndata: 1 (buffer of 1: empty)\ncondition 0: 0\nwaiter:\nsignaller:\nfronts: waiter 0, signaller 1\nmay: stay\nwhy: seat 1 has to stay active, since PNB puts signallers above waiters\n",
     },
     Job {
         name: "not_explained",

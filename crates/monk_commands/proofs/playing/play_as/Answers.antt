@@ -1,8 +1,13 @@
-use Rattle.std.proofs.Common.{ℕ, sym, subst}
+use Rattle.std.proofs.Common.{◌≡◌, ◌∙◌, ℕ, List, sym, ap, subst}
+use Rattle.std.proofs.lemmas.Result.{on_ok_weaker}
 use Rattle.std.specs.Io.KnownBytes.{Appends}
 use Rattle.monk_history.specs.Text.{Heading}
 use Rattle.monk_history.specs.Text.Device.{inner_of}
+use Rattle.monk_history.specs.Meaning.Monitor.{monitor}
 use Rattle.monk_world.specs.Board.{state_of_view}
+use Rattle.monk_world.specs.Runs.{opening_state}
+use Rattle.monk_world.specs.State.{State}
+use Rattle.monk_commands.specs.Traced.{AreTraced}
 use Rattle.monk_commands.specs.Played.{IsPlayedBy, IsReportedBy}
 use Rattle.monk_commands.specs.declared.report.Report.{Report}
 use Rattle.monk_commands.proofs.PlayExact.{led_to}
@@ -28,3 +33,32 @@ returns-in-Ok-write-clause-played g c =
         c.in-Ok-write.ensures.ok.0,
       ),
     )))
+
+pub returns-in-Ok-clause-played : goal.returns-in-Ok-clause-played
+returns-in-Ok-clause-played g c =
+    let k = g.K.Kind.rules in
+    let o = g.T.Guarded.meaning in
+    let opening = g.T.Guarded.state c.args.object in
+    let play = c.args.play in
+    let h = play.0 in
+    let puts = Appends (g.W.Write.contents (inner_of c.args.writer.now)) (g.W.Write.contents (inner_of c.put_trace.new.writer)) in
+    let seats : c.seats.result ≡ h.seats = c.seats.ensures ∙ ap (λ (x : Heading). x.seats) c.header-header.ensures in
+    let conds : c.conds.result ≡ h.conds = c.conds.ensures ∙ ap (λ (x : Heading). x.conds) c.header-header.ensures in
+    let first : state_of_view c.in-Ok.world ≡ opening_state opening h.seats h.conds play.1 =
+    c.in-Ok.ensures.made.1 ∙ (λ i. opening_state opening (seats i) (conds i) (c.budget.ensures i)) in
+    let last = state_of_view c.put_trace.new.world in
+    on_ok_weaker c.put_trace.result (λ traced.
+    subst (λ (r : Report). IsReportedBy r k o opening h play.1 play.2 puts) (sym c.in-Trace.is) (
+      last,
+      (
+        traced.0,
+        (
+          subst (λ (s : State). AreTraced h.object (monitor k h.seats h.conds o opening) 0 s play.2 last traced.0) first
+              (subst
+              (λ (d : List ℕ). AreTraced h.object (monitor k h.seats h.conds o d) 0 (state_of_view c.in-Ok.world) play.2 last traced.0)
+              c.requires.alike traced.1.0),
+          traced.1.1,
+        ),
+      ),
+    ))
+    c.put_trace.ensures.traced

@@ -1,9 +1,13 @@
-use Rattle.std.proofs.Common.{◌≡◌, ◌++◌}
+use Rattle.std.proofs.Common.{◌≡◌, ◌++◌, []}
 use Rattle.std.specs.Prelude.{string_bytes}
+use Rattle.monk_audit.specs.Replay.{replay_situation}
 use Rattle.monk_world.specs.Board.{state_of_view}
+use Rattle.monk_tell.specs.Standing.{stand}
 use Rattle.monk_commands.specs.Traced.{places_text}
 use Rattle.monk_commands.proofs.tracing.put_places.Given as goal
 
 -- the places of the seats so far stand behind the page
 abbrev pub invariant-loop-seat : goal.invariant-loop-seat
-invariant-loop-seat g l = string_bytes l.page ≡ string_bytes l.fn.page ++ places_text (state_of_view l.world) l.seat
+invariant-loop-seat g l =
+    string_bytes l.page ≡ string_bytes l.fn.page
+    ++ places_text (state_of_view l.world) (stand l.conds (replay_situation l.replay [])) l.seat

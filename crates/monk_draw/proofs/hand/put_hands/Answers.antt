@@ -1,4 +1,6 @@
+use Rattle.std.proofs.Common.{◌≡◌, ◌∙◌, ℕ, ap, arith, length}
 use Rattle.std.specs.Prelude.{string_bytes}
+use Rattle.monk_draw.specs.Scene.{hands_noted_below}
 use Rattle.monk_draw.proofs.HandLaws.{hands_more, noted_more}
 use Rattle.monk_draw.proofs.hand.put_hands.Goals as goal
 
@@ -13,3 +15,9 @@ loop-column-preserved c = record {
       c.loop-column.column c.event_at-event.result c.event_at-after.result c.loop-column.invariant.legend
       c.event_at-event.ensures c.event_at-after.ensures c.in_ok-put_hand_behind.ensures.legend;
 }
+
+pub returns-clause-legend : goal.returns-clause-legend
+returns-clause-legend c =
+    let all : c.loop-column.column ≡ length c.args.events.now = omega (arith, c.loop-column.auto.column-end, c.loop-column-test.false) in
+    c.loop-column.invariant.legend
+    ∙ ap (λ (n : ℕ). hands_noted_below c.args.legend.now c.args.allowed c.args.events.now n) all

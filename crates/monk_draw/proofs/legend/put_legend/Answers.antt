@@ -3,7 +3,7 @@ use Rattle.std.specs.Prelude.{string_bytes}
 use Rattle.std.proofs.lemmas.Result.{on_ok_weaker}
 use Rattle.monk_draw.specs.Legend.{legend_places}
 use Rattle.monk_draw.specs.declared.place.Place.TheVariants.{Outside}
-use Rattle.monk_draw.proofs.LegendLaws.{entries_few, entries_left, last_entry}
+use Rattle.monk_draw.proofs.LegendLaws.{entries_few, entries_left, last_entries}
 use Rattle.monk_draw.proofs.legend.put_legend.Goals as goal
 
 pub loop-place-preserved : goal.loop-place-preserved
@@ -21,7 +21,8 @@ loop-place-preserved c =
 
 pub returns : goal.returns
 returns c =
-    on_ok_weaker c.put_hand_entry.result
-    (last_entry (string_bytes c.loop-place.page) (string_bytes c.put_hand_entry.new.page) _ c.args.legend c.args.top
-    c.loop-place.at c.loop-place.place-index (omega arith) c.loop-place.invariant.left)
-    c.put_hand_entry.ensures
+    on_ok_weaker c.put_refused_entry.result
+    (last_entries (string_bytes c.loop-place.page) (string_bytes c.put_hand_entry.new.page)
+    (string_bytes c.put_refused_entry.new.page) _ c.args.legend c.args.top c.loop-place.at c.hands_then.result
+    c.loop-place.place-index (omega arith) c.hands_then.ensures c.loop-place.invariant.left c.in_ok-put_hand_entry.ensures)
+    c.put_refused_entry.ensures

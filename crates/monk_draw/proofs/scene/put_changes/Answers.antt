@@ -1,4 +1,6 @@
-use Rattle.std.proofs.Common.{◌≡◌, ◌<◌, ◌∙◌, length, refl, ap, arith}
+use Rattle.std.proofs.Common.{◌≡◌, ◌<◌, ◌∙◌, ℕ, length, refl, ap, subst, arith}
+use Rattle.std.specs.Prelude.{string_bytes}
+use Rattle.monk_draw.specs.Scene.{PutsStretches}
 use Rattle.std.proofs.lemmas.List.{length-set}
 use Rattle.monk_draw.specs.Seats.{moved, place_in, stay_in}
 use Rattle.monk_draw.specs.Stretches.{ended_below}
@@ -40,3 +42,10 @@ loop-seat-preserved c =
           now;
       rest = rest_more kept stays i c.in_ok-stays.field-0 below c.loop-seat.invariant.rest;
     }
+
+pub returns-clause-page : goal.returns-clause-page
+returns-clause-page c =
+    let all : c.loop-seat.seat ≡ c.args.count = omega (arith, c.loop-seat.auto.seat-end, c.loop-seat-test.false) in
+    subst (λ (n : ℕ). PutsStretches (ended_below (stay_in c.args.stays.now.items) (place_in c.args.seats.now) c.args.x n)
+    (string_bytes c.args.page.now) (string_bytes c.loop-seat.page) c.args.legend.now c.loop-seat.legend) all
+    c.loop-seat.invariant.page

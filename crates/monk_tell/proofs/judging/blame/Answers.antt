@@ -1,8 +1,6 @@
-use Rattle.std.proofs.Common.{◌≡◌, ◌∙◌, sym, ap, [], arith}
+use Rattle.std.proofs.Common.{◌∙◌, sym, [], arith}
 use Rattle.monk_history.specs.Meaning.Monitor.{monitor}
 use Rattle.monk_audit.specs.Replay.{replay_situation}
-use Rattle.monk_history.specs.Meaning.Events.{seat_of}
-use Rattle.monk_tell.specs.Cause.{early_cause}
 use Rattle.monk_tell.proofs.TellLaws.{early_blamed, late_fits}
 use Rattle.monk_tell.proofs.judging.blame.Goals as goal
 
@@ -21,14 +19,6 @@ own_reply-reply-requires-after_bounds g c κs within =
 pub returns : goal.returns
 returns g c =
     let h = c.args.header.now in
-    let e = c.args.event in
-    let state = g.T.Guarded.state c.args.object.now in
-    let t = replay_situation c.args.replay.now state in
-    let kind : c.kind-kind.result ≡ h.kind = c.kind-kind.ensures in
-    let seats : c.seats.result ≡ h.seats = c.seats.ensures in
-    let conds : c.conds.result ≡ h.conds = c.conds.ensures in
-    let turn : c.turn-turn.result ≡ t.turn = c.turn-turn.ensures state in
-    let inside : c.is_inside-inside.result ≡ t.inside (seat_of e) = c.is_inside-inside.ensures state ∙ ap t.inside c.seat.ensures in
-    early_blamed h.kind c.args.rules h.seats h.conds g.T.Guarded.meaning t c.args.step c.args.reason e c.early.result
-    c.if-reason-eq-CHOICE.false c.if-reason-eq-REPLY.false
-    (c.early.ensures ∙ (λ i. early_cause (kind i) (seats i) (conds i) (turn i) (inside i) c.args.reason e))
+    let t = replay_situation c.args.replay.now (g.T.Guarded.state c.args.object.now) in
+    early_blamed h.kind c.args.rules h.seats h.conds g.T.Guarded.meaning t c.args.step c.args.reason c.args.event
+    c.in_ok-early.field-0 c.if-reason-eq-CHOICE.false c.if-reason-eq-REPLY.false c.in_ok-early.ensures

@@ -1,7 +1,13 @@
+use Rattle.std.proofs.Common.{◌∙◌, ap, ℕ}
+use Rattle.monk_audit.specs.Replay.{replay_situation}
+use Rattle.monk_tell.specs.Told.{inside_below, queues_shown}
 use Rattle.monk_tell.proofs.TellLaws.{same_shown}
 use Rattle.monk_tell.proofs.standing.situation.Goals as goal
 
 pub returns : goal.returns
 returns g c =
-    same_shown c.args.kind c.args.rules _ _ _ _ _ _ _ _ (c.turn.ensures (g.T.Guarded.state c.args.object.now))
-    c.in_ok-inside_seats.ensures c.in_ok-data_numbers.ensures c.in_ok-queues.ensures
+    let t = replay_situation c.args.replay.now (g.T.Guarded.state c.args.object.now) in
+    same_shown _ _ c.args.rules _ _ _ _ _ _ _ _ _ _ _ _ c.kind.ensures (c.turn.ensures t.state)
+    (c.in_ok-inside_seats.ensures ∙ ap (inside_below t.inside) c.seats.ensures) c.object.ensures
+    c.in_ok-data_numbers.ensures c.in_ok-refused_acts.ensures
+    (c.in_ok-queues.ensures ∙ ap (λ (n : ℕ). queues_shown c.args.rules.mode n g.T.Guarded.meaning t) c.conds.ensures)

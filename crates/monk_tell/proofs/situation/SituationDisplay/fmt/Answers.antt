@@ -9,6 +9,6 @@ returns-clause-writes g c = λ plain ok.
     let turn = c.in_ok-write-2.ensures.writes kind.plain refl in
     let inside = c.in_ok-write-3.ensures.writes turn.plain refl in
     let state = c.in_ok-write-4.ensures.writes inside.plain refl in
-    let queues = c.write-5.ensures.writes state.plain ok in
+    let rest = c.write-5.ensures.writes state.plain ok in
     rw (← c.kind_word-kind.ensures, ← c.mode_word-mode.ensures)
-    (append _ _ _ _ _ kind (append _ _ _ _ _ turn (append _ _ _ _ _ inside (append _ _ _ _ _ state queues))))
+    (append _ _ _ _ _ kind (append _ _ _ _ _ turn (append _ _ _ _ _ inside (append _ _ _ _ _ state rest))))

@@ -1,0 +1,31 @@
+use Rattle.std.proofs.Common.{◌≡◌, ◌∙◌, ℕ, [], sym, ap, subst}
+use Rattle.monk_history.specs.Meaning.Monitor.{monitor}
+use Rattle.monk_history.specs.Meaning.Situation.{situation}
+use Rattle.monk_history.specs.Meaning.Step.{opening_situation}
+use Rattle.monk_history.specs.Text.{Heading}
+use Rattle.monk_history.proofs.PublicLaws.Meaning.{situation-none}
+use Rattle.monk_audit.specs.Replay.{IsReplayOf, replay_situation}
+use Rattle.monk_floor.specs.View.{FloorView, monitor_of}
+use Rattle.monk_commands.specs.Following.{IsBehind}
+use Rattle.monk_commands.proofs.tracing.put_trace.Goals as goal
+
+pub lines_of-requires-clause-behind : goal.lines_of-requires-clause-behind
+lines_of-requires-clause-behind g c κs within =
+    let k = g.K.Kind.rules in
+    let o = g.T.Guarded.meaning in
+    let opening = g.T.Guarded.state c.args.object in
+    let h = c.args.play.0 in
+    let r = c.in_ok-replay.replay in
+    let seats : c.seats-seats.result ≡ h.seats = c.seats-seats.ensures ∙ ap (λ (x : Heading). x.seats) c.header-header.ensures in
+    let conds : c.conds-conds.result ≡ h.conds = c.conds-conds.ensures ∙ ap (λ (x : Heading). x.conds) c.header-header.ensures in
+    let none : replay_situation r opening ≡ situation (monitor k h.seats h.conds o opening) [] =
+    c.in_ok-replay.ensures.stands k o opening ∙ (λ i. opening_situation (monitor k (seats i) (conds i) o opening))
+    ∙ sym (situation-none (monitor k h.seats h.conds o opening)) in
+    subst (λ (f : FloorView). IsBehind (monitor_of k o f) r opening f.history) (sym c.requires.floor) none
+
+pub lines_of-requires-clause-sound : goal.lines_of-requires-clause-sound
+lines_of-requires-clause-sound g c κs within =
+    let seats : c.seats-seats.result ≡ c.args.play.0.seats =
+    c.seats-seats.ensures ∙ ap (λ (x : Heading). x.seats) c.header-header.ensures in
+    subst (λ (s : ℕ). IsReplayOf s c.conds-conds.result g.T.Guarded.PREDICATES c.in_ok-replay.replay)
+    (seats ∙ sym (ap (λ (f : FloorView). f.seats) c.requires.floor)) (c.in_ok-replay.ensures.sound g.T.Guarded.PREDICATES)

@@ -1,0 +1,76 @@
+-- The steps of refused acts, one more at a time
+use Rattle.std.proofs.Common.{◌≡◌, ℕ, zero, suc, ◌+◌, ◌-◌, ◌<◌, ◌≤◌, Bool, cond, List, [], ◌∷◌, ◌++◌, length, take, get_or}
+use Rattle.std.proofs.Common.{sym, ap, arith, ◌∙◌, append_assoc}
+use Rattle.std.proofs.lemmas.List.{append-nil, length-append, length-take-le, take_all, take-append-le, take_more}
+use Rattle.monk_history.specs.declared.event.Event.{Event}
+use Rattle.monk_history.specs.Meaning.Acts.{is_refused_act, refused_from, refused_steps}
+use Rattle.monk_tell.specs.Told.{ShownSteps, most_told, told_steps}
+
+-- ---- the steps of one event more
+
+abbrev step_of : Event → ℕ → List ℕ
+step_of e step = cond (is_refused_act e) (step ∷ []) []
+
+refused_next : (n : ℕ) (es : List Event) (e : Event)
+    → refused_from n (es ++ e ∷ []) ≡ refused_from n es ++ step_of e (n + length es)
+unfolding refused_from
+refused_next n [] e = append-nil (step_of e n) ∙ ap (λ (k : ℕ). step_of e k) (omega arith)
+refused_next n (d ∷ es) e =
+    ap (λ (l : List ℕ). step_of d n ++ l)
+    (refused_next (n + 1) es e ∙ ap (λ (k : ℕ). refused_from (n + 1) es ++ step_of e k) (omega arith))
+    ∙ sym (append_assoc (step_of d n) (refused_from (n + 1) es) (step_of e (n + length (d ∷ es))))
+
+pub refused_more : (es : List Event) (i : ℕ) (d : Event) (b : Bool) → i < length es → is_refused_act (get_or es i d) ≡ b
+    → refused_steps (take (i + 1) es) ≡ refused_steps (take i es) ++ cond b ((i + 1) ∷ []) []
+refused_more es i d b there is =
+    let at : 1 + length (take i es) ≡ i + 1 = (let same = length-take-le i es (omega (arith, there)) in omega (arith, same)) in
+    ap (λ (l : List Event). refused_from 1 l) (take_more es i d there)
+    ∙ (refused_next 1 (take i es) (get_or es i d)
+    ∙ (λ j. refused_from 1 (take i es) ++ cond (is j) (at j ∷ []) []))
+
+-- ---- of these the first ten, and how many more there are
+
+take_short : (n : ℕ) (l : List ℕ) → length (take n l) < n → length l < n
+take_short zero l h = absurd (omega (arith, h))
+take_short (suc n) [] h = omega arith
+take_short (suc n) (x ∷ l) h = let less = take_short n l (omega (arith, h)) in omega (arith, less)
+
+take_no_longer : (n : ℕ) (l : List ℕ) → length (take n l) ≤ length l
+take_no_longer zero l = omega arith
+take_no_longer (suc n) [] = omega arith
+take_no_longer (suc n) (x ∷ l) = let less = take_no_longer n l in omega (arith, less)
+
+abbrev pub shown : List ℕ → ℕ → ShownSteps
+shown first more = record { first = first; more = more }
+
+same_steps : (f g : List ℕ) (m n : ℕ) → f ≡ g → m ≡ n → shown f m ≡ shown g n
+same_steps f g m n a b = λ i. shown (a i) (b i)
+
+-- one more step is told while there are fewer
+pub told_within : (first : List ℕ) (more step : ℕ) (steps : List ℕ) → length first < most_told
+    → shown first more ≡ told_steps steps → shown (first ++ step ∷ []) more ≡ told_steps (steps ++ step ∷ [])
+told_within first more step steps few is =
+    let held : first ≡ take 10 steps = ap (λ (s : ShownSteps). s.first) is in
+    let counted : more ≡ length steps - 10 = ap (λ (s : ShownSteps). s.more) is in
+    let long : length first ≡ length (take 10 steps) = ap (λ (l : List ℕ). length l) held in
+    let less : length steps < 10 = take_short 10 steps (omega (arith, few, long)) in
+    let whole : take 10 steps ≡ steps = take_all 10 steps (omega (arith, less)) in
+    let longer : length (steps ++ step ∷ []) ≡ length steps + 1 = length-append steps (step ∷ []) in
+    same_steps (first ++ step ∷ []) (take 10 (steps ++ step ∷ [])) more (length (steps ++ step ∷ []) - 10)
+    (ap (λ (l : List ℕ). l ++ step ∷ []) (held ∙ whole)
+    ∙ sym (take_all 10 (steps ++ step ∷ []) (omega (arith, longer, less))))
+    (omega (arith, counted, longer, less))
+
+-- and else counted
+pub told_past : (first : List ℕ) (more step : ℕ) (steps : List ℕ) → most_told ≤ length first
+    → shown first more ≡ told_steps steps → shown first (more + 1) ≡ told_steps (steps ++ step ∷ [])
+told_past first more step steps many is =
+    let held : first ≡ take 10 steps = ap (λ (s : ShownSteps). s.first) is in
+    let counted : more ≡ length steps - 10 = ap (λ (s : ShownSteps). s.more) is in
+    let long : length first ≡ length (take 10 steps) = ap (λ (l : List ℕ). length l) held in
+    let no_longer = take_no_longer 10 steps in
+    let enough : 10 ≤ length steps = omega (arith, many, long, no_longer) in
+    let longer : length (steps ++ step ∷ []) ≡ length steps + 1 = length-append steps (step ∷ []) in
+    same_steps first (take 10 (steps ++ step ∷ [])) (more + 1) (length (steps ++ step ∷ []) - 10)
+    (held ∙ sym (take-append-le 10 steps (step ∷ []) enough))
+    (omega (arith, counted, longer, enough))

@@ -1,0 +1,84 @@
+//! The acts that the object refused, by their steps.
+
+ghost use Rattle.std.specs.Prelude.{◌≡◌, ◌+◌, ◌-◌, ◌<◌, ◌≤◌, ◌^◌, ◌++◌, [], ◌∷◌, ℕ, List, Some, IfOk, OnOk};
+ghost use Rattle.monk_history.specs.Meaning.Acts.{refused_steps};
+ghost use Rattle.monk_tell.specs.Told.{refused_of, told_steps};
+ghost use Rattle.monk_tell.specs.Words.{more_text, refused_text};
+
+use crate::lists::Numbers;
+use monk_history::Event;
+use std::alloc::{AllocError, Global};
+use std::fmt;
+
+/// The most steps that are told by their numbers.
+const MOST_TOLD: usize = 10;
+
+/// The steps of the acts that the object refused: the first of them, at most ten, and how many more there are.
+#[derive(Debug, Drop)]
+pub struct Refused {
+    /// The steps, counted from 1, rising.
+    pub first: Numbers,
+    /// How many more there are.
+    pub more: usize,
+}
+
+impl Refused {
+    /// One more step.
+    #[tactic(auto, using(crate::proofs::RefusedLaws::told_within, crate::proofs::RefusedLaws::told_past))]
+    fn note(&mut self, step: u64) -> Result<(), AllocError>
+        requires { self.old.more < 2 ^ 64 - 1 }
+        ensures noted { OnOk result ((steps : List ℕ) → refused_of self.old ≡ told_steps steps
+            → refused_of self.new ≡ told_steps (steps ++ step ∷ [])) }
+        ensures few { self.new.more ≤ self.old.more + 1 }
+    {
+        if self.first.0.len() < MOST_TOLD {
+            self.first.0.push(step)?;
+        } else {
+            self.more += 1;
+        }
+        Ok(())
+    }
+}
+
+/// The acts that the object refused.
+pub(crate) fn refused_acts(alloc: Global, events: &[Event]) -> Result<Refused, AllocError>
+    ensures { IfOk result (λ r. refused_of r ≡ told_steps (refused_steps events.now)) }
+{
+    let mut refused = Refused {
+        first: Numbers(Vec::new(alloc)),
+        more: 0,
+    };
+    for (index, event) in events.iter().enumerate() {
+        if event.is_refused() {
+            refused.note(index as u64 + 1)?;
+        }
+    }
+    Ok(refused)
+}
+
+/// How many more steps there are than are told.
+#[derive(Clone, Copy)]
+struct More(usize);
+
+impl fmt::Display for More {
+    ghost output = { λ m. Some (more_text m.0) };
+
+    fn fmt<W: fmt::Write>(&self, f: &mut fmt::Formatter<W>) -> fmt::Result {
+        match self.0 {
+            0 => Ok(()),
+            more => write!(f, " and {more} more"),
+        }
+    }
+}
+
+/// A line, where there is one: `refused: 3 11`.
+impl fmt::Display for Refused {
+    ghost output = { λ r. Some (refused_text (refused_of r)) };
+
+    fn fmt<W: fmt::Write>(&self, f: &mut fmt::Formatter<W>) -> fmt::Result {
+        if self.first.0.is_empty() {
+            return Ok(());
+        }
+        write!(f, "refused:{}{}\n", self.first, More(self.more))
+    }
+}
