@@ -1,23 +1,53 @@
-//! A reader that keeps what the system said where a read of it failed.
+//! A reader that keeps the front of what was read, and what the system said where a read failed.
+
+ghost use Rattle.std.specs.Prelude.{◌≡◌};
 
 use std::io;
 use std::io::Read;
 
-/// A reader that passes its reads on, and keeps the system's number for the last one that failed.
+/// How many bytes of the front are kept.
+const FRONT: usize = 4096;
+
+/// A reader that passes its reads on, and keeps the first bytes that came, and the system's number for the last read that
+/// failed.
 #[derive(Drop)]
 pub(crate) struct Heard<R> {
     inner: R,
     code: Option<i32>,
+    front: [u8; FRONT],
+    kept: usize,
 }
 
 impl<R> Heard<R> {
     pub(crate) fn new(inner: R) -> Heard<R> {
-        Heard { inner, code: None }
+        Heard {
+            inner,
+            code: None,
+            front: [0; FRONT],
+            kept: 0,
+        }
     }
 
     /// What the system said of the last read that failed, if it said anything.
     pub(crate) fn error(&self) -> Option<io::Error> {
         self.code.map(io::Error::from_raw_os_error)
+    }
+
+    /// The first bytes that were read, as many as are kept.
+    pub(crate) fn front(&self) -> &[u8] {
+        self.front.get(..self.kept).unwrap_or(&[])
+    }
+
+    /// Keeps of these bytes, which came behind those that are kept, as many as there is room for.
+    fn keep(&mut self, bytes: &[u8])
+        ensures { self.new.inner ≡ self.old.inner }
+    {
+        if let Some(room) = self.front.get_mut(self.kept..) {
+            for (place, byte) in room.iter_mut().zip(bytes) {
+                *place = *byte;
+            }
+            self.kept = self.kept.saturating_add(bytes.len()).min(FRONT);
+        }
     }
 }
 
@@ -26,8 +56,9 @@ impl<R: Read> Read for Heard<R> {
 
     fn read(&mut self, buf: &mut [u8]) -> io::Result<usize> {
         let result = self.inner.read(buf);
-        if let Err(error) = &result {
-            self.code = error.raw_os_error();
+        match &result {
+            Ok(taken) => self.keep(buf.get(..*taken).unwrap_or(&[])),
+            Err(error) => self.code = error.raw_os_error(),
         }
         result
     }

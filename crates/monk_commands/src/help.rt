@@ -2,7 +2,7 @@
 
 pub(crate) const PRIORITY: &str = "A priority, 0 to 255; greater is higher";
 
-/// What the help of a command says of it: what it does, and an example.
+/// What the help of a command says of it: what it does; then an example, its exit statuses, and the page to read.
 pub(crate) struct Help {
     pub(crate) about: &'static str,
     pub(crate) example: &'static str,
@@ -10,27 +10,37 @@ pub(crate) struct Help {
 
 pub(crate) static CLASSIFY: Help = Help {
     about: "Names the ordering of three priorities, and its kind",
-    example: "Example: monk classify 1 3 2",
+    example: "Example: monk classify 1 3 2\n\
+        Status: 0 answered; 3 wrong words, 4 a failed file or no memory\n\
+        Read: docs/MONITORS.md",
 };
 
 pub(crate) static AUDIT: Help = Help {
     about: "Tells whether a history is legal",
-    example: "Example: monk audit examples/hoare_handover.history",
+    example: "Example: monk audit examples/hoare_handover.history\n\
+        Status: 0 legal, 1 forbidden, 2 unreadable; 3 wrong words, 4 a failed file or no memory\n\
+        Read: docs/TEXT.md",
 };
 
 pub(crate) static PLAY: Help = Help {
     about: "Plays a script of atomic steps",
-    example: "Example: monk play examples/ticket_at_the_drop.play",
+    example: "Example: monk play examples/ticket_at_the_drop.play\n\
+        Status: 0 played, 2 unreadable; 3 wrong words, 4 a failed file or no memory\n\
+        Read: docs/TEXT.md",
 };
 
 pub(crate) static UPGRADE: Help = Help {
     about: "Writes the same history in a version that has every event",
-    example: "Example: monk upgrade examples/hoare_handover.history",
+    example: "Example: monk upgrade examples/hoare_handover.history\n\
+        Status: 0 written, 2 unreadable; 3 wrong words, 4 a failed file or no memory\n\
+        Read: docs/TEXT.md",
 };
 
 pub(crate) static FIT: Help = Help {
     about: "Tells under which kinds a history is legal, or which a log could be of",
-    example: "Example: monk fit examples/threads_at_a_buffer.log --means 0=0 --means 1=1",
+    example: "Example: monk fit examples/threads_at_a_buffer.log --means 0=0 --means 1=1\n\
+        Status: 0 fits a kind, 1 fits none, 2 unreadable; 3 wrong words, 4 a failed file or no memory\n\
+        Read: docs/LOGS.md",
 };
 
 pub(crate) const LAPSES: &str = "A log's `resume` may tell of a wait that ran out";
@@ -40,30 +50,42 @@ pub(crate) const MEANS: &str =
 
 pub(crate) static TRACE: Help = Help {
     about: "Tells what each step of a play came to",
-    example: "Example: monk trace examples/ticket_at_the_drop.play",
+    example: "Example: monk trace examples/ticket_at_the_drop.play\n\
+        Status: 0 traced, 2 unreadable; 3 wrong words, 4 a failed file or no memory\n\
+        Read: docs/TEXT.md",
 };
 
 pub(crate) static EXPLAIN: Help = Help {
     about: "Tells whether a history is legal, how the monitor stands, and what is wrong",
-    example: "Example: monk explain examples/hoare_handover_under_mesa.history",
+    example: "Example: monk explain examples/hoare_handover_under_mesa.history\n\
+        Status: 0 legal, 1 forbidden, 2 unreadable; 3 wrong words, 4 a failed file or no memory\n\
+        Read: docs/TEXT.md",
 };
 
 pub(crate) static DRAW: Help = Help {
     about: "Draws a history as a picture",
-    example: "Example: monk draw examples/hoare_handover.history",
+    example: "Example: monk draw examples/hoare_handover.history\n\
+        Status: 0 legal, 1 forbidden, 2 unreadable; 3 wrong words, 4 a failed file or no memory\n\
+        Read: docs/TEXT.md",
 };
 
 pub(crate) static COMPLETE: Help = Help {
     about: "Writes a history of a kind that tells a log",
-    example: "Example: monk complete NPNB examples/threads_at_a_buffer.log",
+    example: "Example: monk complete NPNB examples/threads_at_a_buffer.log\n\
+        Status: 0 completed, 1 a misfit, 2 unreadable; 3 wrong words, 4 a failed file or no memory\n\
+        Read: docs/LOGS.md",
 };
 
 pub(crate) static RUN: Help = Help {
     about: "Runs a sample in threads, and prints its totals",
-    example: "Example: monk run NPQB buffer 8 100",
+    example: "Example: monk run NPQB buffer 8 100\n\
+        Status: 0 legal, 1 tired, late or busy; 3 wrong words, 4 a failed file or no memory\n\
+        Read: docs/SAMPLES.md",
 };
 
 pub(crate) static RECORD: Help = Help {
     about: "Runs a sample in threads, and writes its history",
-    example: "Example: monk record PB shop 4 10",
+    example: "Example: monk record PB shop 4 10\n\
+        Status: 0 written, 1 tired, late or busy; 3 wrong words, 4 a failed file or no memory\n\
+        Read: docs/SAMPLES.md",
 };

@@ -1,0 +1,124 @@
+//! The sentences of the hints.
+
+ghost use Rattle.std.specs.Prelude.{◌≡◌};
+ghost use Rattle.monk_kinds.specs.Names.{kind_word};
+ghost use Rattle.monk_object.specs.Names.{object_word};
+ghost use Rattle.monk_commands.specs.Hint.{commands_that_read, header_form};
+
+use crate::hint::Hint;
+use crate::text_name::TextName;
+use monk_kinds::KindName;
+use monk_object::ObjectName;
+use std::fmt;
+
+/// One sentence, without a line's end: what is odd, and what to do.
+impl fmt::Display for Hint {
+    ghost use Rattle.std.specs.Prelude.{Some};
+    ghost use Rattle.monk_commands.specs.Hint.{sentence};
+
+    ghost output = { λ h. Some (sentence h) };
+
+    fn fmt<W: fmt::Write>(&self, f: &mut fmt::Formatter<W>) -> fmt::Result {
+        match *self {
+            Hint::Empty(text) => {
+                write!(
+                    f,
+                    "the input is empty: {text} begins with `{}`",
+                    header_form(text)
+                )
+            }
+            Hint::Mark => write!(
+                f,
+                "a byte-order mark stands in front: save the text as UTF-8 without one"
+            ),
+            Hint::Binary => write!(
+                f,
+                "the input is binary: a text has printable characters alone"
+            ),
+            Hint::Return => write!(f, "a line ends in CR LF: end each line in LF alone"),
+            Hint::Another(text) => {
+                write!(f, "this is {text}: give it to {}", commands_that_read(text))
+            }
+            Hint::Capitals(kind) => {
+                write!(
+                    f,
+                    "a kind has capital letters: did you mean {}?",
+                    kind_word(kind)
+                )
+            }
+            Hint::NoKind => write!(
+                f,
+                "there is no such kind: the kinds are PB, NPB, PNB, NPNB, PQB, NPQB, PIR, NPIR, PIS, NPIS"
+            ),
+            Hint::NoObject => write!(
+                f,
+                "there is no such object: the objects are buffer, book, shop, flags"
+            ),
+            Hint::Size(object) => write!(
+                f,
+                "the size is out of range: that of a {} is 1 to {}",
+                object_word(object),
+                object.greatest_size()
+            ),
+            Hint::Comment => write!(f, "a line begins with #: a text has no comments"),
+            Hint::Blank => write!(f, "a line is blank: a text has no blank lines"),
+            Hint::NoHeader(text) => {
+                write!(
+                    f,
+                    "the first line is no header: {text} begins with `{}`",
+                    header_form(text)
+                )
+            }
+        }
+    }
+}
+
+/// How the text's first line is written in version 1.
+fn header_form(text: TextName) -> &'static str
+    ensures { result.now ≡ header_form text }
+{
+    match text {
+        TextName::History => "monk 1 KIND SEATS CONDS OBJECT SIZE",
+        TextName::Play => "play 1 KIND SEATS CONDS OBJECT SIZE BUDGET",
+        TextName::Log => "log 1 SEATS CONDS OBJECT SIZE",
+    }
+}
+
+/// The commands that read it.
+fn commands_that_read(text: TextName) -> &'static str
+    ensures { result.now ≡ commands_that_read text }
+{
+    match text {
+        TextName::History => "monk audit, explain, draw, fit or upgrade",
+        TextName::Play => "monk play or trace",
+        TextName::Log => "monk fit or complete",
+    }
+}
+
+fn kind_word(kind: KindName) -> &'static str
+    ensures { result.now ≡ kind_word kind }
+{
+    match kind {
+        KindName::Pb => "PB",
+        KindName::Npb => "NPB",
+        KindName::Pnb => "PNB",
+        KindName::Npnb => "NPNB",
+        KindName::Pqb => "PQB",
+        KindName::Npqb => "NPQB",
+        KindName::Pir => "PIR",
+        KindName::Npir => "NPIR",
+        KindName::Pis => "PIS",
+        KindName::Npis => "NPIS",
+    }
+}
+
+fn object_word(object: ObjectName) -> &'static str
+    ensures { result.now ≡ object_word object }
+{
+    match object {
+        ObjectName::Buffer => "buffer",
+        ObjectName::Book => "book",
+        ObjectName::Shop => "shop",
+        ObjectName::Flags => "flags",
+    }
+}

@@ -1,0 +1,71 @@
+//! The texts that the commands read.
+
+ghost use Rattle.std.specs.Prelude.{◌≡◌};
+ghost use Rattle.monk_commands.specs.Hint.{reads, text_named, wanted};
+
+use crate::task::Task;
+use std::fmt;
+
+/// A text that a command reads.
+#[derive(Clone, Copy, Debug, PartialEq, Eq)]
+pub enum TextName {
+    /// A history: events, each with its choice.
+    History,
+    /// A play: commands of seats, one atomic step each.
+    Play,
+    /// A log: events without the choices of the scheduler.
+    Log,
+}
+
+impl TextName {
+    /// The text whose first word this is, byte for byte; `None` where it is the first word of none.
+    pub fn of_word(word: &[u8]) -> Option<TextName>
+        ensures { result ≡ text_named word.now }
+    {
+        match word {
+            b"monk" => Some(TextName::History),
+            b"play" => Some(TextName::Play),
+            b"log" => Some(TextName::Log),
+            _ => None,
+        }
+    }
+
+    /// Whether the task reads it.
+    pub fn is_read_by(self, task: &Task<'_>) -> bool
+        ensures { result ≡ reads task.now self }
+    {
+        match task {
+            Task::Audit | Task::Upgrade | Task::Explain | Task::Draw => self == TextName::History,
+            Task::Play | Task::Trace => self == TextName::Play,
+            Task::Complete(_) => self == TextName::Log,
+            Task::Fit(_, _) => self != TextName::Play,
+        }
+    }
+
+    /// The text that the task reads; a history where it reads two.
+    pub fn wanted_by(task: &Task<'_>) -> TextName
+        ensures { result ≡ wanted task.now }
+    {
+        match task {
+            Task::Play | Task::Trace => TextName::Play,
+            Task::Complete(_) => TextName::Log,
+            _ => TextName::History,
+        }
+    }
+}
+
+/// With its article: `a history`.
+impl fmt::Display for TextName {
+    ghost use Rattle.std.specs.Prelude.{Some};
+    ghost use Rattle.monk_commands.specs.Hint.{text_called};
+
+    ghost output = { λ t. Some (text_called t) };
+
+    fn fmt<W: fmt::Write>(&self, f: &mut fmt::Formatter<W>) -> fmt::Result {
+        match *self {
+            TextName::History => write!(f, "a history"),
+            TextName::Play => write!(f, "a play"),
+            TextName::Log => write!(f, "a log"),
+        }
+    }
+}
