@@ -16,7 +16,7 @@ use std::sync::Wait;
 use std::thread;
 
 /// How often a hasty seat lets other threads run before it goes out.
-const TURNS_INSIDE: u8 = 4;
+const TURNS_INSIDE: u8 = 8;
 
 /// Pauses once, where the predicate is false.
 fn pause_once<K: Style, T: Guarded, R: Wait>(

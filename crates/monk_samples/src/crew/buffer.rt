@@ -30,7 +30,7 @@ use std::thread::{Scope, Threads};
 const STRIDE: u32 = 251;
 
 /// A hasty seat lets others run fewer times than this before a visit.
-const MOST_TURNS: u32 = 11;
+const MOST_TURNS: u32 = 101;
 
 /// Half of the seats put the items 1 to `rounds`, and as many take as often, in haste or not. Gives their passes back, in order.
 pub(crate) fn work_buffer<K: Style, R: Threads + Wait + Sync, G: Gate>(
