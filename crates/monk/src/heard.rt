@@ -8,8 +8,8 @@ use std::io::Read;
 /// How many bytes of the front are kept.
 const FRONT: usize = 4096;
 
-/// A reader that passes its reads on, and keeps the first bytes that came, and the system's number for the last read that
-/// failed.
+/// A reader that passes its reads on, and keeps the first bytes that came, and the system's number
+/// for the last read that failed.
 #[derive(Drop)]
 pub(crate) struct Heard<R> {
     inner: R,

@@ -81,10 +81,12 @@ permits_fronts k ws ss rs stays e = ap (λ (b : Bool). cond stays (is_stay (next
 data_stays : (o : Object) (d : List ℕ) (e : Event) → answered_act e ≡ None → d ≡ data_after o d e
 data_stays o d e none = sym (ap (λ act. option_map_or (λ a. o.after d a.op) act d) none)
 
-pub fronts_said : (k : Rules) (o : Object) (t : Situation) (e : Event) (w s first : Option ℕ) (ws ss : List ℕ) (stays : Bool)
+pub fronts_said : (k : Rules) (o : Object) (t : Situation) (e : Event) (w s first : Option ℕ) (ws ss : List ℕ)
+    (stays : Bool)
     → w ≡ slice_get (t.waiters ++ serves t.condition e) 0 → s ≡ slice_get (t.signallers ++ signals t.condition e) 0
     → MatchOption w (ws ≡ []) (λ x. ws ≡ x ∷ []) → MatchOption s (ss ≡ []) (λ x. ss ≡ x ∷ [])
-    → answered_act e ≡ None → (asks_ready e ≡ true → first ≡ slice_get (ready_of o t.state t.untils) 0) → stays ≡ must_stay o t e
+    → answered_act e ≡ None → (asks_ready e ≡ true → first ≡ slice_get (ready_of o t.state t.untils) 0)
+    → stays ≡ must_stay o t e
     → permits k (record { waiters = ws; signallers = ss; ready = just first }) stays e ≡ is_permitted k o t e
 fronts_said k o t e w s first ws ss stays a b listed signalled none c h =
     let front : ws ≡ just (slice_get (t.waiters ++ serves t.condition e) 0) = list_is w ws listed ∙ ap just a in
@@ -96,7 +98,8 @@ fronts_said k o t e w s first ws ss stays a b listed signalled none c h =
       ready = just first;
     }) stays e) back
     ∙ permits_fronts k (t.waiters ++ serves t.condition e) (t.signallers ++ signals t.condition e) (just first) stays e
-    ∙ permits_told k o t e (t.waiters ++ serves t.condition e) (t.signallers ++ signals t.condition e) t.state first stays
+    ∙ permits_told k o t e (t.waiters ++ serves t.condition e)
+    (t.signallers ++ signals t.condition e) t.state first stays
     refl refl (data_stays o t.state e none) c h
 
 right_reply : (o : Object) (d : List ℕ) (e : Event) → answered_act e ≡ None → true ≡ is_right_reply o d e
@@ -110,7 +113,8 @@ by_choice false = refl
 pub allowed_said : (m : Monitor) (t : Situation) (e : Event) (n : ℕ) (p : Bool) → n ≡ early_reason m t e → n ≡ 0
     → answered_act e ≡ None → p ≡ is_permitted m.kind m.object t e → p ≡ (reason_in m t e == 0)
 allowed_said m t e n p early passes none is =
-    by_choice p ∙ ap (λ (r : ℕ). r == 0) (late_said m t e n true p early passes (right_reply m.object t.state e none) is)
+    by_choice p
+    ∙ ap (λ (r : ℕ). r == 0) (late_said m t e n true p early passes (right_reply m.object t.state e none) is)
 
 pub refused_said : (m : Monitor) (t : Situation) (e : Event) (n : ℕ) → n ≡ early_reason m t e → n ≢ 0
     → (n == 0) ≡ (reason_in m t e == 0)

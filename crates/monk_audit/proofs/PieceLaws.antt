@@ -48,7 +48,8 @@ use Rattle.monk_audit.proofs.ReadingLaws.{forbidden_then, judged_end, judged_fau
 use Rattle.monk_audit.proofs.ReadingLaws.{opened_text}
 
 -- and what is left of them is behind the events that were read
-pub piece_ends : (h : Heading) (count : ℕ) (p : PieceLeft) (rest : List ℕ) → p.number ≡ count + 2 → count + p.room ≡ 2 ^ 25
+pub piece_ends : (h : Heading) (count : ℕ) (p : PieceLeft) (rest : List ℕ) → p.number ≡ count + 2
+    → count + p.room ≡ 2 ^ 25
     → rest ≡ p.bytes
     → (more : List ℕ) → items_with (event_under h) p more ≡ events_from h count (rest ++ more)
 piece_ends h count p rest number room is more =
@@ -56,7 +57,8 @@ piece_ends h count p rest number room is more =
     rw (number, left, is) refl
 
 -- what the next line of a piece gave
-pub piece_item_found : (r : Result (Option Event) ReadFault) (old new : List ℕ → Result (List Event) ReadFault) (e : Event)
+pub piece_item_found : (r : Result (Option Event) ReadFault) (old new : List ℕ → Result (List Event) ReadFault)
+    (e : Event)
     → r ≡ Ok (Some e) → IsNextOfPiece r old new → (more : List ℕ) → old more ≡ (new more >>= λ es. Ok (e ∷ es))
 piece_item_found r old new e is h = subst (λ (x : Result (Option Event) ReadFault). IsNextOfPiece x old new) is h
 
@@ -65,10 +67,13 @@ pub said_of_item : (r : Result (Option Event) ReadFault) (e : Event) (said : Typ
 said_of_item r e said is h = subst (λ (x : Result (Option Event) ReadFault). IfOk x (λ y. IfSome y (λ _. said))) is h
 
 -- the verdict on a history whose last event so far is forbidden
-pub piece_forbidden : (m : Monitor) (h : Heading) (n r : ℕ) (t : Situation) (e : Event) (old new : PieceLeft) (rest : List ℕ)
+pub piece_forbidden : (m : Monitor) (h : Heading) (n r : ℕ) (t : Situation) (e : Event) (old new : PieceLeft)
+    (rest : List ℕ)
     (total : List ℕ → Result Verdict ReadFault)
-    → ((more : List ℕ) → items_with (event_under h) old more ≡ (items_with (event_under h) new more >>= λ es. Ok (e ∷ es)))
-    → r ≡ reason_in m t e → r ≢ 0 → ((more : List ℕ) → verdict_read m n t (items_with (event_under h) old more) ≡ total more)
+    → ((more : List ℕ)
+    → items_with (event_under h) old more ≡ (items_with (event_under h) new more >>= λ es. Ok (e ∷ es)))
+    → r ≡ reason_in m t e → r ≢ 0
+    → ((more : List ℕ) → verdict_read m n t (items_with (event_under h) old more) ≡ total more)
     → new.number ≡ n + 1 + 2 → n + 1 + new.room ≡ 2 ^ 25 → rest ≡ new.bytes
     → (more : List ℕ) → total more ≡ found_from (Forbidden (n + 1) r) h (n + 1) (rest ++ more)
 piece_forbidden m h n r t e old new rest total item is some so_far number room left more =
@@ -82,7 +87,8 @@ pub owed_opening : (x : List ℕ) → owed_verdict stage.Opening x ≡ text_verd
 unfolding owed_verdict
 owed_opening x = refl
 
-pub owed_buffer : (c : Course) (d x : List ℕ) → owed_verdict (stage.Buffer c d) x ≡ judged_from_here buffer_meaning c d x
+pub owed_buffer : (c : Course) (d x : List ℕ)
+    → owed_verdict (stage.Buffer c d) x ≡ judged_from_here buffer_meaning c d x
 unfolding owed_verdict
 owed_buffer c d x = refl
 
@@ -98,7 +104,8 @@ pub owed_flags : (c : Course) (d x : List ℕ) → owed_verdict (stage.Flags c d
 unfolding owed_verdict
 owed_flags c d x = refl
 
-pub owed_found : (h : Heading) (n : ℕ) (v : TextVerdict) (x : List ℕ) → owed_verdict (stage.Found h n v) x ≡ found_from v h n x
+pub owed_found : (h : Heading) (n : ℕ) (v : TextVerdict) (x : List ℕ)
+    → owed_verdict (stage.Found h n v) x ≡ found_from v h n x
 unfolding owed_verdict
 owed_found h n v x = refl
 
@@ -125,7 +132,8 @@ opening_apart k seats conds o d n t (e ∷ es) =
     (Forbidden (n + 1) (reason_in (monitor k seats conds o d) t e)))
     (opening_apart k seats conds o d (n + 1) (after o t e) es))
 
-opening_apart_read : (k : Rules) (seats conds : ℕ) (o : Object) (d : List ℕ) (n : ℕ) (t : Situation) (read : Result (List Event) ReadFault)
+opening_apart_read : (k : Rules) (seats conds : ℕ) (o : Object) (d : List ℕ) (n : ℕ) (t : Situation)
+    (read : Result (List Event) ReadFault)
     → verdict_read (monitor k seats conds o []) n t read ≡ verdict_read (monitor k seats conds o d) n t read
 opening_apart_read k seats conds o d n t (Ok es) = ap (λ v. Ok v) (opening_apart k seats conds o d n t es)
 opening_apart_read k seats conds o d n t (Err f) = refl
@@ -133,7 +141,8 @@ opening_apart_read k seats conds o d n t (Err f) = refl
 begun_at : (h : Heading) (t : Situation) (name : ObjectName) (d : List ℕ) (read : Result (List Event) ReadFault)
     → t ≡ opening_situation (monitor (rules_named h.kind) h.seats h.conds (meaning_named name) d)
     → name ≡ h.object → d ≡ opening_named name h.size → h.size ≤ most h.object
-    → (verdict_read (monitor (rules_named h.kind) h.seats h.conds (meaning_named name) []) 0 t read >>= λ v. Ok (Judged v))
+    → (verdict_read (monitor (rules_named h.kind) h.seats h.conds (meaning_named name) []) 0 t read >>=
+    λ v. Ok (Judged v))
     ≡ lines_verdict h read
 begun_at h t name d read opening is state fits =
     let m = monitor (rules_named h.kind) h.seats h.conds (meaning_named name) d in
@@ -145,11 +154,13 @@ begun_at h t name d read opening is state fits =
 
 pub begun : (h : Heading) (c : Course) (name : ObjectName) (d x : List ℕ) → c.header ≡ h → c.rules ≡ rules_named h.kind
     → c.count ≡ 0
-    → replay_situation c.replay d ≡ opening_situation (monitor (rules_named h.kind) h.seats h.conds (meaning_named name) d)
+    → replay_situation c.replay d ≡ opening_situation
+    (monitor (rules_named h.kind) h.seats h.conds (meaning_named name) d)
     → name ≡ h.object → d ≡ opening_named name h.size → h.size ≤ most h.object
     → judged_from_here (meaning_named name) c d x ≡ lines_verdict h (events_from h 0 x)
 begun h c name d x header rules count opening is state fits =
-    rw (rules, header, count) (begun_at h (replay_situation c.replay d) name d (events_from h 0 x) opening is state fits)
+    rw (rules, header, count) (begun_at h (replay_situation c.replay d) name d
+    (events_from h 0 x) opening is state fits)
 
 -- ---- the header's line
 
@@ -158,19 +169,23 @@ pub opened_from : (bytes rest : List ℕ) (h : Heading) (s : Stage) → IsHeadOf
     → (more : List ℕ) → owed_verdict stage.Opening (bytes ++ more) ≡ owed_verdict s (rest ++ more)
 opened_from bytes rest h s is behind more =
     owed_opening (bytes ++ more)
-    ∙ (opened_text (bytes ++ more) h _ (head_opens header_at (2 ^ 25) bytes rest h is more) ∙ sym (behind (rest ++ more)))
+    ∙ (opened_text (bytes ++ more) h _ (head_opens header_at (2 ^ 25) bytes rest h is more)
+    ∙ sym (behind (rest ++ more)))
 
 pub refused_from : (bytes rest : List ℕ) (f : ReadFault) → IsHeadOf header_at bytes (Err f) rest
     → (more : List ℕ) → owed_verdict stage.Opening (bytes ++ more) ≡ Err f
 refused_from bytes rest f is more =
-    owed_opening (bytes ++ more) ∙ not_opened_text (bytes ++ more) f (head_refused header_at (2 ^ 25) bytes rest f is more)
+    owed_opening (bytes ++ more)
+    ∙ not_opened_text (bytes ++ more) f (head_refused header_at (2 ^ 25) bytes rest f is more)
 
-pub no_object : (bytes rest : List ℕ) (h : Heading) → IsHeadOf header_at bytes (Ok h) rest → MakesNoObject bytes → most h.object < h.size
+pub no_object : (bytes rest : List ℕ) (h : Heading) → IsHeadOf header_at bytes (Ok h) rest
+    → MakesNoObject bytes → most h.object < h.size
 no_object bytes rest h is none =
     let left : LinesLeft = record { lines = lines_of (rest ++ []); number = 2; room = 2 ^ 25 } in
     let opened = head_opens header_at (2 ^ 25) bytes rest h is [] in
     subst (λ (r : Result (Heading × LinesLeft) ReadFault). IfOk r (λ o. most o.0.object < o.0.size))
-    (sym (subst (λ (x : List ℕ). Ok (h, left) ≡ opened_at header_at (2 ^ 25) (lines_of x)) (append-nil bytes) opened)) none
+    (sym (subst (λ (x : List ℕ). Ok (h, left) ≡ opened_at header_at (2 ^ 25) (lines_of x))
+    (append-nil bytes) opened)) none
 
 -- ---- the end of the text
 
@@ -187,7 +202,8 @@ pub end_found : (h : Heading) (n : ℕ) (v : TextVerdict) → found_from v h n [
 end_found h n v =
     ap (λ r. read_through r >>= λ _. Ok v) (items_end (event_under h) [] (n + 2) (2 ^ 25 - n) refl refl)
 
-pub unfinished_opening : (x : List ℕ) → is_unended x ≡ true → length x ≢ 0 → owed_verdict stage.Opening x ≡ Err (end_fault 1)
+pub unfinished_opening : (x : List ℕ) → is_unended x ≡ true → length x ≢ 0
+    → owed_verdict stage.Opening x ≡ Err (end_fault 1)
 unfinished_opening x one some =
     owed_opening x
     ∙ not_opened_text x (end_fault 1)
@@ -209,7 +225,8 @@ unfinished_found h n v x one some =
 -- ---- one step of a stage that judges, as one of the whole
 
 pub judged_step : (found : Option Verdict) (next : Option Stage) (o : Object) (c e : Course) (d f bytes rest : List ℕ)
-    → IsCourseStep found bytes rest (verdict_from_here o c d) (verdict_from_here o e f) (λ v. found_from v e.header e.count)
+    → IsCourseStep found bytes rest (verdict_from_here o c d) (verdict_from_here o e f)
+    (λ v. found_from v e.header e.count)
     → e.count ≤ 2 ^ 25
     → next ≡ option_map (λ v. stage.Found e.header e.count (Judged v)) found
     → IsJudgedStep next bytes rest (judged_from_here o c d) (judged_from_here o e f)
@@ -237,8 +254,10 @@ last_left (stage.Shop c object) last = absurd last
 last_left (stage.Flags c object) last = absurd last
 last_left (stage.Found h count found) last = refl
 
-pub stage_step : (next : Option Stage) (old new : Stage) (total left : List ℕ → Result TextVerdict ReadFault) (bytes rest : List ℕ)
-    → ((x : List ℕ) → owed_verdict old x ≡ total x) → ((x : List ℕ) → owed_verdict new x ≡ left x) → IsSound new → stages_left old ≡ 1
+pub stage_step : (next : Option Stage) (old new : Stage) (total left : List ℕ → Result TextVerdict ReadFault)
+    (bytes rest : List ℕ)
+    → ((x : List ℕ) → owed_verdict old x ≡ total x) → ((x : List ℕ) → owed_verdict new x ≡ left x)
+    → IsSound new → stages_left old ≡ 1
     → ((x : List ℕ) → AsksForNone old x → ⊥)
     → IsJudgedStep next bytes rest total left → IsStageStep next bytes rest old new
 stage_step None old new total left bytes rest was is sound one asks step =
@@ -250,7 +269,8 @@ stage_step (Some s) old new total left bytes rest was is sound one asks step = (
   λ none. absurd (asks bytes none),
 )
 
-pub found_step : (old new : Stage) (h : Heading) (n k : ℕ) (v : TextVerdict) (bytes rest : List ℕ) → old ≡ stage.Found h n v
+pub found_step : (old new : Stage) (h : Heading) (n k : ℕ) (v : TextVerdict) (bytes rest : List ℕ)
+    → old ≡ stage.Found h n v
     → new ≡ stage.Found h k v
     → IsCarried (λ x. read_through (events_from h n x)) bytes (λ x. read_through (events_from h k x)) rest
     → is_unended rest ≡ true → k ≤ 2 ^ 25 → IsStageStep None bytes rest old new
@@ -272,7 +292,8 @@ pub at_end : (s t : Stage) (bytes rest : List ℕ) → IsCarried (owed_verdict s
 at_end s t bytes rest carried =
     ap (owed_verdict s) (sym (append-nil bytes)) ∙ (carried [] ∙ ap (owed_verdict t) (append-nil rest))
 
-pub faulty_end : (s : Stage) (bytes : List ℕ) (f : ReadFault) → IsFaulty (owed_verdict s) bytes f → owed_verdict s bytes ≡ Err f
+pub faulty_end : (s : Stage) (bytes : List ℕ) (f : ReadFault) → IsFaulty (owed_verdict s) bytes f
+    → owed_verdict s bytes ≡ Err f
 faulty_end s bytes f faulty = ap (owed_verdict s) (sym (append-nil bytes)) ∙ faulty []
 
 -- a fault that is want of memory is told only where memory was asked for
@@ -295,10 +316,14 @@ legal_there s c (inr (inr (inr x))) = rw x.1 (sym (owed_flags c x.0 [] ∙ end_j
 
 pub unfinished_there : (s : Stage) (c : Course) → IsJudging s c → (x : List ℕ) → is_unended x ≡ true → length x ≢ 0
     → owed_verdict s x ≡ Err (end_fault (c.count + 2))
-unfinished_there s c (inl d) x one some = rw d.1 (owed_buffer c d.0 x ∙ unfinished_judged buffer_meaning c d.0 x one some)
-unfinished_there s c (inr (inl d)) x one some = rw d.1 (owed_book c d.0 x ∙ unfinished_judged book_meaning c d.0 x one some)
-unfinished_there s c (inr (inr (inl d))) x one some = rw d.1 (owed_shop c d.0 x ∙ unfinished_judged shop_meaning c d.0 x one some)
-unfinished_there s c (inr (inr (inr d))) x one some = rw d.1 (owed_flags c d.0 x ∙ unfinished_judged flags_meaning c d.0 x one some)
+unfinished_there s c (inl d) x one some =
+    rw d.1 (owed_buffer c d.0 x ∙ unfinished_judged buffer_meaning c d.0 x one some)
+unfinished_there s c (inr (inl d)) x one some =
+    rw d.1 (owed_book c d.0 x ∙ unfinished_judged book_meaning c d.0 x one some)
+unfinished_there s c (inr (inr (inl d))) x one some =
+    rw d.1 (owed_shop c d.0 x ∙ unfinished_judged shop_meaning c d.0 x one some)
+unfinished_there s c (inr (inr (inr d))) x one some =
+    rw d.1 (owed_flags c d.0 x ∙ unfinished_judged flags_meaning c d.0 x one some)
 
 -- ---- the three stages that judge, by what they have in common
 
@@ -320,16 +345,20 @@ judges_shop = record { owes = owed_shop; sound = λ c d s. s; one = λ c d. refl
 pub judges_flags : Judges stage.Flags flags_meaning
 judges_flags = record { owes = owed_flags; sound = λ c d s. s; one = λ c d. refl; asks = λ c d x n. n }
 
-pub judging_step : (make : Course → List ℕ → Stage) (o : Object) → Judges make o → (next : Option Stage) (old new : Stage)
+pub judging_step : (make : Course → List ℕ → Stage) (o : Object) → Judges make o
+    → (next : Option Stage) (old new : Stage)
     (c e : Course) (d f bytes rest : List ℕ) → old ≡ make c d → new ≡ make e f → IsSoundCourse o.predicates e
-    → IsJudgedStep next bytes rest (judged_from_here o c d) (judged_from_here o e f) → IsStageStep next bytes rest old new
+    → IsJudgedStep next bytes rest (judged_from_here o c d) (judged_from_here o e f)
+    → IsStageStep next bytes rest old new
 judging_step make o j next old new c e d f bytes rest was is sound step =
     subst (λ (s : Stage). IsStageStep next bytes rest s new) (sym was)
     (subst (λ (s : Stage). IsStageStep next bytes rest (make c d) s) (sym is)
-    (stage_step next (make c d) (make e f) (judged_from_here o c d) (judged_from_here o e f) bytes rest (j.owes c d) (j.owes e f)
+    (stage_step next (make c d) (make e f) (judged_from_here o c d) (judged_from_here o e f) bytes rest
+    (j.owes c d) (j.owes e f)
     (j.sound e f sound) (j.one c d) (j.asks c d) step))
 
-pub judging_faulty : (make : Course → List ℕ → Stage) (o : Object) → Judges make o → (s : Stage) (c : Course) (d bytes : List ℕ)
+pub judging_faulty : (make : Course → List ℕ → Stage) (o : Object) → Judges make o
+    → (s : Stage) (c : Course) (d bytes : List ℕ)
     (f : ReadFault) → s ≡ make c d → (f ≢ memory → IsFaulty (judged_from_here o c d) bytes f)
     → (f ≢ memory) ⊎ AsksForNone s bytes → IsFaulty (owed_verdict s) bytes f
 judging_faulty make o j s c d bytes f is faulty (inl n) =
@@ -337,10 +366,12 @@ judging_faulty make o j s c d bytes f is faulty (inl n) =
 judging_faulty make o j s c d bytes f is faulty (inr none) =
     absurd (j.asks c d bytes (subst (λ (t : Stage). AsksForNone t bytes) is none))
 
-pub found_faulty : (s : Stage) (h : Heading) (n : ℕ) (v : TextVerdict) (bytes : List ℕ) (f : ReadFault) → s ≡ stage.Found h n v
+pub found_faulty : (s : Stage) (h : Heading) (n : ℕ) (v : TextVerdict) (bytes : List ℕ) (f : ReadFault)
+    → s ≡ stage.Found h n v
     → IsFaulty (λ x. read_through (events_from h n x)) bytes f → IsFaulty (owed_verdict s) bytes f
 found_faulty s h n v bytes f is faulty more =
-    ap (λ t. owed_verdict t (bytes ++ more)) is ∙ (owed_found h n v (bytes ++ more) ∙ ap (λ r. r >>= λ _. Ok v) (faulty more))
+    ap (λ t. owed_verdict t (bytes ++ more)) is
+    ∙ (owed_found h n v (bytes ++ more) ∙ ap (λ r. r >>= λ _. Ok v) (faulty more))
 
 -- ---- the end of a text behind its last line
 
@@ -349,11 +380,13 @@ no_bytes [] e = refl
 no_bytes (x ∷ xs) e = absurd (omega (arith, eqb-true (length (x ∷ xs)) 0 e))
 
 pub whole_ended : (r : Result TextVerdict ReadFault) (s t : Stage) (bytes rest : List ℕ)
-    → IsCarried (owed_verdict s) bytes (owed_verdict t) rest → (length rest == 0) ≡ true → r ≡ owed_verdict t [] → r ≡ owed_verdict s bytes
+    → IsCarried (owed_verdict s) bytes (owed_verdict t) rest → (length rest == 0) ≡ true
+    → r ≡ owed_verdict t [] → r ≡ owed_verdict s bytes
 whole_ended r s t bytes rest carried empty is =
     is ∙ sym (at_end s t bytes rest carried ∙ ap (owed_verdict t) (no_bytes rest empty))
 
-pub whole_unfinished : (s t : Stage) (bytes rest : List ℕ) (f : ReadFault) → IsCarried (owed_verdict s) bytes (owed_verdict t) rest
+pub whole_unfinished : (s t : Stage) (bytes rest : List ℕ) (f : ReadFault)
+    → IsCarried (owed_verdict s) bytes (owed_verdict t) rest
     → is_unended rest ≡ true → (length rest == 0) ≡ false
     → ((x : List ℕ) → is_unended x ≡ true → length x ≢ 0 → owed_verdict t x ≡ Err f) → owed_verdict s bytes ≡ Err f
 whole_unfinished s t bytes rest f carried ended some is =

@@ -31,7 +31,8 @@ more_count past e = sym (length-append past (e ∷ []))
 
 by_reason : (m : Monitor) (past es : List Event) (e : Event) (b : Bool) (u v : Verdict) → (reason_of m past e == 0) ≡ b
     → (reason_of m past e ≡ 0 → u ≡ v)
-    → cond b u (Forbidden (length past + 1) (reason_of m past e)) ≡ cond b v (Forbidden (length past + 1) (reason_of m past e))
+    → cond b u (Forbidden (length past + 1) (reason_of m past e))
+    ≡ cond b v (Forbidden (length past + 1) (reason_of m past e))
 by_reason m past es e true u v is f = f (eqb-true _ _ is)
 by_reason m past es e false u v is f = refl
 
@@ -111,7 +112,8 @@ forbidden_then m n r t e read new total more is some so_far =
 -- the reason that a replay gives is that of the monitor
 pub reason_there : (k : Rules) (seats n conds : ℕ) (o : Object) (d : List ℕ) (t : Situation) (e : Event) (r : ℕ)
     → n ≡ seats → r ≡ reason_in (monitor k n conds o []) t e → r ≡ reason_in (monitor k seats conds o d) t e
-reason_there k seats n conds o d t e r a b = b ∙ (ap (λ x. reason_in (monitor k x conds o []) t e) a ∙ reason_opening k seats conds o d t e)
+reason_there k seats n conds o d t e r a b = b
+    ∙ (ap (λ x. reason_in (monitor k x conds o []) t e) a ∙ reason_opening k seats conds o d t e)
 
 -- ---- the whole text
 
@@ -127,7 +129,8 @@ opened_text bytes h left opened =
     ap (λ r. r >>= λ x. Ok (history_verdict x)) (lines_behind header_at event_under (2 ^ 25) (lines_of bytes)
     ∙ ap (behind event_under) (sym opened)) ∙ behind_verdict h (events_left h left)
 
-pub not_opened_text : (bytes : List ℕ) (f : ReadFault) → Err f ≡ opened_at header_at (2 ^ 25) (lines_of bytes) → text_verdict bytes ≡ Err f
+pub not_opened_text : (bytes : List ℕ) (f : ReadFault) → Err f ≡ opened_at header_at (2 ^ 25) (lines_of bytes)
+    → text_verdict bytes ≡ Err f
 not_opened_text bytes f bad =
     ap (λ r. r >>= λ x. Ok (history_verdict x)) (lines_behind header_at event_under (2 ^ 25) (lines_of bytes)
     ∙ ap (behind event_under) (sym bad))

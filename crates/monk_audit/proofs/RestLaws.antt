@@ -19,7 +19,8 @@ still_of seats conds codes predicates r u e size conditions untils is fits = rec
   has_seats = size ∙ is.has_seats;
   few_seats = is.few_seats;
   has_conds = ap (λ v. length v.items) conditions ∙ is.has_conds;
-  preds = subst (All (λ (w : ℕ × ℕ). w.1 < predicates)) (sym untils) (joins_in_range codes predicates e r.untils.items fits is.preds);
+  preds = subst (All (λ (w : ℕ × ℕ). w.1 < predicates)) (sym untils)
+      (joins_in_range codes predicates e r.untils.items fits is.preds);
 }
 
 -- and shows what passed_on says
@@ -31,5 +32,6 @@ pub went_on : (r u : Replay) (state : List ℕ) (e : Event) → u.conditions ≡
     → replay_situation u state ≡ passed_on (replay_situation r state) e
 went_on r u state e conditions waiters signallers untils turn inside begun =
     same_situation (replay_situation u state) (passed_on (replay_situation r state) e)
-    (λ c. ap (λ v. queue_at v.items c) conditions) (ap (λ v. v.items) waiters) (ap (λ v. v.items) signallers) untils refl turn inside
+    (λ c. ap (λ v. queue_at v.items c) conditions) (ap (λ v. v.items) waiters)
+    (ap (λ v. v.items) signallers) untils refl turn inside
     begun

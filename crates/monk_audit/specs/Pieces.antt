@@ -102,7 +102,8 @@ AsksForNone (Shop c object) bytes = ⊥
 AsksForNone (Flags c object) bytes = ⊥
 AsksForNone (Found h count found) bytes = Unit {0}
 
--- what the lines of a piece came to: the verdict, where the last of them is forbidden; else all are legal, and no further line ends
+-- what the lines of a piece came to: the verdict, where the last of them is forbidden; else all are
+-- legal, and no further line ends
 abbrev pub IsCourseStep : Option Verdict → List ℕ → List ℕ → (List ℕ → Result Verdict ReadFault)
     → (List ℕ → Result Verdict ReadFault) → (Verdict → List ℕ → Result Verdict ReadFault) → Type 0
 IsCourseStep None bytes rest old new found = IsCarried old bytes new rest × (is_unended rest ≡ true)
@@ -112,11 +113,13 @@ IsCourseStep (Some v) bytes rest old new found = IsCarried old bytes (found v) r
 abbrev pub IsJudgedStep : Option Stage → List ℕ → List ℕ → (List ℕ → Result TextVerdict ReadFault)
     → (List ℕ → Result TextVerdict ReadFault) → Type 0
 IsJudgedStep None bytes rest old new = IsCarried old bytes new rest × (is_unended rest ≡ true)
-IsJudgedStep (Some stage) bytes rest old new = IsCarried old bytes (owed_verdict stage) rest × IsSound stage × IsLast stage
+IsJudgedStep (Some stage) bytes rest old new = IsCarried old bytes (owed_verdict stage) rest × IsSound stage
+    × IsLast stage
 
 -- the stage that follows, if one does; else no further line ends in what is left
 abbrev pub IsStageStep : Option Stage → List ℕ → List ℕ → Stage → Stage → Type 0
-IsStageStep None bytes rest old new = IsCarried (owed_verdict old) bytes (owed_verdict new) rest × (is_unended rest ≡ true) × IsSound new
+IsStageStep None bytes rest old new = IsCarried (owed_verdict old) bytes (owed_verdict new) rest
+    × (is_unended rest ≡ true) × IsSound new
 IsStageStep (Some stage) bytes rest old new =
     IsCarried (owed_verdict old) bytes (owed_verdict stage) rest × IsSound stage × (stages_left stage < stages_left old)
     × (AsksForNone old bytes → AsksForNone stage rest)

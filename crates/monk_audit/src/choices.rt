@@ -18,7 +18,8 @@ pub fn permits(
     stays: bool,
     event: Event,
 ) -> bool
-    ensures { result ≡ permits rules (record { waiters = waiters.now; signallers = signallers.now; ready = just ready }) stays event }
+    ensures { result ≡ permits rules
+        (record { waiters = waiters.now; signallers = signallers.now; ready = just ready }) stays event }
 {
     if stays {
         event.choice() == Some(Next::Stay)
@@ -36,7 +37,8 @@ pub fn chooses_well(
     ready: Option<u8>,
     event: Event,
 ) -> bool
-    ensures { result ≡ choice.chooses_well rules (record { waiters = waiters.now; signallers = signallers.now; ready = just ready }) event }
+    ensures { result ≡ choice.chooses_well rules
+        (record { waiters = waiters.now; signallers = signallers.now; ready = just ready }) event }
 {
     match event {
         Event::Enter(..) | Event::Act(..) | Event::Resume(..) | Event::SignalAll(..) => true,

@@ -52,8 +52,8 @@ impl Course {
     }
 }
 
-/// Judges the events whose lines end in the bytes, up to the first that is not allowed. Gives the verdict on that one, and
-/// what stands behind the last line that was read.
+/// Judges the events whose lines end in the bytes, up to the first that is not allowed. Gives the
+/// verdict on that one, and what stands behind the last line that was read.
 pub(crate) fn judge_lines<'a, T: Guarded>(
     course: &mut Course,
     object: &mut T,
@@ -111,7 +111,8 @@ pub(crate) fn read_lines<'a>(
         (λ x. read_through (events_from header.now count.new x)) rest.now) }
     ensures ended { IfOk result (λ rest. is_unended rest.now ≡ true) }
     ensures few { OnOk result (count.new ≤ 2 ^ 25) }
-    ensures fault { IfErr result (λ f. IsFaulty (λ x. read_through (events_from header.now count.old x)) bytes.entry.now f) }
+    ensures fault { IfErr result (λ f. IsFaulty
+        (λ x. read_through (events_from header.now count.old x)) bytes.entry.now f) }
 {
     let mut lines = PieceLines::of(bytes, *count + 2, MOST_EVENTS - *count);
     loop {

@@ -9,7 +9,8 @@ use crate::text_verdict::TextVerdict;
 use monk_history::ReadFault;
 use std::alloc::Global;
 
-/// Reads a text as [`read`](monk_history::read) does and judges its history as [`audit`](crate::audit) does, in one pass.
+/// Reads a text as [`read`](monk_history::read) does and judges its history as
+/// [`audit`](crate::audit) does, in one pass.
 ///
 /// # Errors
 ///

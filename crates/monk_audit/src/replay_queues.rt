@@ -82,7 +82,8 @@ impl Replay {
     /// Whether the seat is the front of one of the queues from which the event chooses, once it has served.
     pub fn may_come_first<T: Guarded>(&self, object: &T, conds: u8, event: Event, seat: u8) -> bool
         requires { IsReplayOf (seats_in self.now) conds T.PREDICATES self.now }
-        ensures { result ≡ is_front_in (queues_at T.meaning (replay_situation self.now (T.state object.now)) event) seat }
+        ensures { result ≡ is_front_in (queues_at T.meaning
+            (replay_situation self.now (T.state object.now)) event) seat }
     {
         self.is_first_waiter(event, seat)
             || self.is_first_signaller(event, seat)

@@ -1,4 +1,5 @@
-//! A replay beside queues that are kept elsewhere: whose turn it is, who is inside, and who waits until a predicate holds.
+//! A replay beside queues that are kept elsewhere: whose turn it is, who is inside, and who waits
+//! until a predicate holds.
 
 ghost use Rattle.std.specs.Prelude.{◌≡◌, ◌<◌, ◌++◌, ◌&&◌, ◌||◌, ℕ, List, []};
 ghost use Rattle.std.specs.Prelude.{All, OnOk, filter, length, not, slice_get, slice_index_or, false, true};
@@ -18,7 +19,8 @@ use monk_object::Guarded;
 use std::alloc::{AllocError, Global};
 
 impl Replay {
-    /// Carries out what an event does beside the queues of the conditions, of the waiters and of the signallers, part by part.
+    /// Carries out what an event does beside the queues of the conditions, of the waiters and of
+    /// the signallers, part by part.
     #[inline(always)]
     pub(crate) fn go_on(&mut self, event: Event) -> Result<(), AllocError>
         requires { seat_of event < length self.old.inside.items }
@@ -42,8 +44,9 @@ impl Replay {
         join_untils(&mut self.untils, event)
     }
 
-    /// Carries out what an event does beside the queues of the conditions, of the waiters and of the signallers. The list
-    /// of waits-until that may grow by it is the replay's own; `_alloc` says that it may.
+    /// Carries out what an event does beside the queues of the conditions, of the waiters and of
+    /// the signallers. The list of waits-until that may grow by it is the replay's own; `_alloc`
+    /// says that it may.
     #[inline(always)]
     pub fn pass_on(&mut self, _alloc: Global, event: Event) -> Result<(), AllocError>
         requires { seat_of event < seats_in self.old }
@@ -58,7 +61,8 @@ impl Replay {
 
     /// Makes it the turn of a seat that nobody has chosen.
     pub fn own(&mut self, seat: u8)
-        ensures owned { (state : List ℕ) → replay_situation self.new state ≡ with_turn_of (replay_situation self.old state) seat }
+        ensures owned { (state : List ℕ)
+            → replay_situation self.new state ≡ with_turn_of (replay_situation self.old state) seat }
         ensures sound { (seats conds predicates : ℕ) → IsReplayOf seats conds predicates self.old
             → IsReplayOf seats conds predicates self.new }
     {

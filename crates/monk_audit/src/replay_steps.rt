@@ -25,7 +25,8 @@ impl Replay {
         Replay::new(alloc, seats, conds)
     }
 
-    /// The first of the reasons 1 to 4 against an event, or 0. These don't ask what it chooses and what the object replies.
+    /// The first of the reasons 1 to 4 against an event, or 0. These don't ask what it chooses and
+    /// what the object replies.
     #[inline(always)]
     pub fn call_reason<T: Guarded>(&self, rules: Rules, object: &T, conds: u8, event: Event) -> u8
         requires { IsReplayOf (seats_in self.now) conds T.PREDICATES self.now }
@@ -35,8 +36,9 @@ impl Replay {
         self.early_reason(rules, object, conds, event)
     }
 
-    /// Judges an event, and carries it out where no reason is against it. Gives the first reason, or 0; where there is one,
-    /// the replay is of no further use. The queues that may grow by it are the replay's own; `_alloc` says that they may.
+    /// Judges an event, and carries it out where no reason is against it. Gives the first reason,
+    /// or 0; where there is one, the replay is of no further use. The queues that may grow by it
+    /// are the replay's own; `_alloc` says that they may.
     pub fn carry_out<T: Guarded>(
         &mut self,
         _alloc: Global,

@@ -13,8 +13,8 @@ use monk_object::Guarded;
 use std::alloc::{AllocError, Global};
 
 impl Replay {
-    /// How the monitor of those rules stands after the events, which are legal. The object comes in its opening state, and is
-    /// then in the one that the events lead to. One pass over the events.
+    /// How the monitor of those rules stands after the events, which are legal. The object comes in
+    /// its opening state, and is then in the one that the events lead to. One pass over the events.
     pub fn after_all<T: Guarded>(
         alloc: Global,
         object: &mut T,

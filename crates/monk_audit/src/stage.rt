@@ -43,11 +43,13 @@ impl Stage {
     /// Goes through the lines that end in the bytes, and gives what stands behind the last of them.
     pub fn judge<'a>(&mut self, alloc: Global, bytes: &'a [u8]) -> Result<&'a [u8], ReadFault>
         requires { IsSound self.old }
-        ensures step { IfOk result (λ rest. IsCarried (owed_verdict self.old) bytes.entry.now (owed_verdict self.new) rest.now) }
+        ensures step { IfOk result (λ rest. IsCarried (owed_verdict self.old) bytes.entry.now
+            (owed_verdict self.new) rest.now) }
         ensures ended { IfOk result (λ rest. is_unended rest.now ≡ true) }
         ensures sound { OnOk result (IsSound self.new) }
         ensures fault { IfErr result
-            (λ f. (f ≢ memory) ⊎ AsksForNone self.old bytes.entry.now → IsFaulty (owed_verdict self.old) bytes.entry.now f) }
+            (λ f. (f ≢ memory) ⊎ AsksForNone self.old bytes.entry.now
+            → IsFaulty (owed_verdict self.old) bytes.entry.now f) }
     {
         let mut rest = bytes;
         loop {
@@ -69,7 +71,8 @@ impl Stage {
         requires { IsSound self.old }
         ensures step { IfOk result (λ r. IsStageStep r.0 bytes.entry.now r.1.now self.old self.new) }
         ensures fault { IfErr result
-            (λ f. (f ≢ memory) ⊎ AsksForNone self.old bytes.entry.now → IsFaulty (owed_verdict self.old) bytes.entry.now f) }
+            (λ f. (f ≢ memory) ⊎ AsksForNone self.old bytes.entry.now
+            → IsFaulty (owed_verdict self.old) bytes.entry.now f) }
     {
         let (next, rest) = match self {
             Stage::Opening => open(alloc, bytes)?,
@@ -103,7 +106,8 @@ impl Stage {
     /// The fault of a text whose last line is not ended.
     fn unfinished(&self) -> ReadFault
         requires { IsSound self.now }
-        ensures { (bytes : List ℕ) → is_unended bytes ≡ true → length bytes ≢ 0 → owed_verdict self.now bytes ≡ Err result }
+        ensures { (bytes : List ℕ) → is_unended bytes ≡ true → length bytes ≢ 0
+            → owed_verdict self.now bytes ≡ Err result }
     {
         let line = match self {
             Stage::Opening => 1,
@@ -151,7 +155,8 @@ fn open(alloc: Global, bytes: &[u8]) -> Result<(Option<Stage>, &[u8]), ReadFault
 
 /// The stage in which the events behind that header are judged, or that in which they are only read.
 fn stage_behind(alloc: Global, header: Header) -> Result<Stage, ReadFault>
-    ensures verdict { IfOk result (λ s. (x : List ℕ) → owed_verdict s x ≡ lines_verdict header (events_from header 0 x)) }
+    ensures verdict { IfOk result (λ s. (x : List ℕ)
+        → owed_verdict s x ≡ lines_verdict header (events_from header 0 x)) }
     ensures sound { IfOk result IsSound }
     ensures left { IfOk result (λ s. stages_left s < stages_left Stage.Opening) }
     ensures spares { IfOk result (λ s. most header.object < header.size → (x : List ℕ) → AsksForNone s x) }

@@ -12,11 +12,11 @@ use monk_history::ReadFault;
 use std::alloc::{AllocError, Global};
 use std::mem;
 
-/// The audit of a text that comes in pieces. A line is judged when it ends, and of the text no more is kept than the line
-/// that has not ended; behind the first fault nothing is.
+/// The audit of a text that comes in pieces. A line is judged when it ends, and of the text no more
+/// is kept than the line that has not ended; behind the first fault nothing is.
 ///
-/// Contracts see what it owes to bytes that are still to come: what [`audit_text`](crate::audit_text) answers to the text
-/// that they complete.
+/// Contracts see what it owes to bytes that are still to come: what
+/// [`audit_text`](crate::audit_text) answers to the text that they complete.
 #[derive(Drop)]
 pub struct TextAudit {
     stage: Stage,
@@ -45,8 +45,8 @@ impl TextAudit {
     ///
     /// # Cost
     ///
-    /// Time by the length of the piece and of a line that ends in it; memory for a line that began in an earlier piece and for
-    /// the one that has not ended, for the queues and for the object.
+    /// Time by the length of the piece and of a line that ends in it; memory for a line that began
+    /// in an earlier piece and for the one that has not ended, for the queues and for the object.
     pub fn push(&mut self, alloc: Global, piece: &[u8]) -> Result<(), AllocError>
         requires { IsGoingOn self.old }
         ensures carried { OnOk result (IsCarried (owes self.old) piece.now (owes self.new) []) }

@@ -13,22 +13,29 @@ use Rattle.monk_c.specs.declared.call.Call.TheVariants.{Arrive}
 use Rattle.monk_c.specs.declared.fault.Fault.{Fault}
 use Rattle.monk_c.specs.declared.handle.MonkSeat.{MonkSeat}
 
-set_back : (handles : List MonkSeat) (i : ℕ) (h : MonkSeat) → slice_get handles i ≡ Some h → slice_set handles i h ≡ handles
+set_back : (handles : List MonkSeat) (i : ℕ) (h : MonkSeat) → slice_get handles i ≡ Some h
+    → slice_set handles i h ≡ handles
 set_back handles i h chosen =
-    ap (λ (x : MonkSeat). slice_set handles i x) (sym (get_or_from_slice_get handles i h h chosen)) ∙ set-get_or handles i h
+    ap (λ (x : MonkSeat). slice_set handles i x) (sym (get_or_from_slice_get handles i h h chosen))
+    ∙ set-get_or handles i h
 
-also : (r : Option Fault) (P Q : Type 0) (R : Fault → Type 0) → (P → Q) → IfSome r (λ f. P × R f) → IfSome r (λ f. Q × R f)
+also : (r : Option Fault) (P Q : Type 0) (R : Fault → Type 0) → (P → Q) → IfSome r (λ f. P × R f)
+    → IfSome r (λ f. Q × R f)
 also None P Q R more has = tt
 also (Some f) P Q R more has = (more has.0, has.1)
 
 -- through a handle of the list, where the seats refuse nothing; it is t then
-module _ (old seen : List MonkSeat) (by : ℕ) (d t : MonkSeat) (code shown : ℤ) (kept : seen ≡ old) (low : by < length old)
-    (fine : refusal_of_seats old ≡ None) (same : t ≡ record (slice_index_or seen by d) { has = t.has }) (e : shown ≡ code) where
+module _ (old seen : List MonkSeat) (by : ℕ) (d t : MonkSeat) (code shown : ℤ) (kept : seen ≡ old)
+    (low : by < length old)
+    (fine : refusal_of_seats old ≡ None) (same : t ≡ record (slice_index_or seen by d) { has = t.has })
+    (e : shown ≡ code) where
   abbrev h : MonkSeat
   h = slice_index_or seen by d
 
   chosen : slice_get old by ≡ Some h
-  chosen = subst (λ (xs : List MonkSeat). slice_get old by ≡ Some (slice_index_or xs by d)) (sym kept) (slice_get-get_or old by d low)
+  chosen =
+      subst (λ (xs : List MonkSeat). slice_get old by ≡ Some (slice_index_or xs by d)) (sym kept)
+      (slice_get-get_or old by d low)
 
   arrival : close_refusal old by ≡ refusal_at (booked h.has) Arrive
   arrival =
@@ -38,7 +45,8 @@ module _ (old seen : List MonkSeat) (by : ℕ) (d t : MonkSeat) (code shown : �
   others : slice_set seen by t ≡ slice_set old by t
   others = ap (λ (xs : List MonkSeat). slice_set xs by t) kept
 
-  pub is_closed : (refusal_at (booked h.has) Arrive ≡ None → HasCome h.has code t.has) → IfClosed old by shown (slice_set seen by t)
+  pub is_closed : (refusal_at (booked h.has) Arrive ≡ None → HasCome h.has code t.has)
+      → IfClosed old by shown (slice_set seen by t)
   is_closed come none = record {
     handle = h;
     last = t.has;
@@ -55,5 +63,6 @@ module _ (old seen : List MonkSeat) (by : ℕ) (d t : MonkSeat) (code shown : �
   pub is_refused : IfRefusedAt Arrive h.has code t.has → IfCloseRefused old by shown (slice_set seen by t)
   is_refused refused =
       subst (λ (r : Option Fault). IfSome r (λ f. (slice_set seen by t ≡ old) × (shown ≡ fault_number f))) (sym arrival)
-      (also (refusal_at (booked h.has) Arrive) (t.has ≡ h.has) (slice_set seen by t ≡ old) (λ f. shown ≡ fault_number f) unchanged
+      (also (refusal_at (booked h.has) Arrive) (t.has ≡ h.has) (slice_set seen by t ≡ old)
+      (λ f. shown ≡ fault_number f) unchanged
       (subst (λ (z : ℤ). IfRefusedAt Arrive h.has z t.has) (sym e) refused))

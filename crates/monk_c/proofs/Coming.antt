@@ -35,8 +35,10 @@ module _ (k : Rules) (p q : Token) where
       subst (λ (r : SeatRecord). is_spent r Poll ≡ false) (sym has.me)
       (room_for_less p.me.setting.budget (length p.me.mine) left)
 
-polls_at : (k : Rules) (m n : Mode) (a b : RoomView) (s t : At) → refusal_of m (record { room = a; at = s }) Arrive ≡ None
-    → IsOutside s (λ p. IsWaiting t (λ q. HasArrived k flags_meaning p q)) → refusal_of n (record { room = b; at = t }) Poll ≡ None
+polls_at : (k : Rules) (m n : Mode) (a b : RoomView) (s t : At)
+    → refusal_of m (record { room = a; at = s }) Arrive ≡ None
+    → IsOutside s (λ p. IsWaiting t (λ q. HasArrived k flags_meaning p q))
+    → refusal_of n (record { room = b; at = t }) Poll ≡ None
 polls_at k m n a b (Outside p) (Outside q) none has = absurd has
 polls_at k m n a b (Outside p) (Waiting q) none has =
     ap (λ (x : Bool). if x then Some Spent else None) (may_poll k p q (unless (is_spent p.me Arrive) Spent none) has)
@@ -44,12 +46,14 @@ polls_at k m n a b (Outside p) (Inside c) none has = absurd has
 polls_at k m n a b (Waiting p) t none has = absurd has
 polls_at k m n a b (Inside c) t none has = absurd has
 
-polls : (s t : Option Booked) (code : ℤ) (told : ℕ) → refusal_at s Arrive ≡ None → AnswersAt Arrive pick.Waiter s code told t
+polls : (s t : Option Booked) (code : ℤ) (told : ℕ) → refusal_at s Arrive ≡ None
+    → AnswersAt Arrive pick.Waiter s code told t
     → refusal_at t Poll ≡ None
 polls None t code told none has = absurd has
 polls (Some a) None code told none has = absurd has
 polls (Some a) (Some b) code told none has =
-    polls_at (rules_named a.kind) (rules_named a.kind).mode (rules_named b.kind).mode a.seat.room b.seat.room a.seat.at b.seat.at
+    polls_at (rules_named a.kind) (rules_named a.kind).mode
+    (rules_named b.kind).mode a.seat.room b.seat.room a.seat.at b.seat.at
     none has.1.2.1
 
 arrival_tells_none : (s t : Option Booked) (code : ℤ) (told : ℕ) → AnswersAt Arrive pick.Waiter s code told t
@@ -93,7 +97,8 @@ module _ (s m t : AnySeat) (answer code shown : ℤ) (high : int_lt answer (pos 
   pub unrefused : IfRefusedAt Arrive s shown t
   unrefused = if_none (refusal_at (booked s) Arrive) (λ f. (t ≡ s) × (shown ≡ fault_number f)) arrives
 
-  pub has_come : (told more : ℕ) → IfTakenAt Arrive pick.Waiter s answer told m → IfTakenAt Poll pick.Waiter m code more t
+  pub has_come : (told more : ℕ) → IfTakenAt Arrive pick.Waiter s answer told m
+      → IfTakenAt Poll pick.Waiter m code more t
       → shown ≡ code → HasCome s shown t
   has_come told more first second e = record {
     between = m;
@@ -105,4 +110,5 @@ module _ (s m t : AnySeat) (answer code shown : ℤ) (high : int_lt answer (pos 
     arrived = arrival_tells_none (booked s) (booked m) answer told (first arrives)
 
     polled : AnswersAt Poll pick.Waiter (booked m) code 0 (booked t)
-    polled = poll_tells_none (booked m) (booked t) code more (second (polls (booked s) (booked m) answer 0 arrives arrived))
+    polled =
+        poll_tells_none (booked m) (booked t) code more (second (polls (booked s) (booked m) answer 0 arrives arrived))

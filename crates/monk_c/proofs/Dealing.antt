@@ -55,7 +55,9 @@ module _ (n : Numbers) (h : House) (object : List ℕ) (size : ℕ) (e : size �
   is_made = record {
     in_range = neither (nat_lt 32 n.flags) (is_some (make_refusal n.seats n.conds n.budget))
         (not_above n.flags (subst (λ (k : ℕ). k ≤ 32) e low)) (ap (λ (x : Option MakeFault). is_some x) none);
-    setting = setting ∙ ap (λ (x : List ℕ). setting_of x n.seats n.conds n.budget) (opens ∙ ap (λ (k : ℕ). opening_named FlagsName k) e);
+    setting = setting
+        ∙ ap (λ (x : List ℕ). setting_of x n.seats n.conds n.budget)
+        (opens ∙ ap (λ (k : ℕ). opening_named FlagsName k) e);
     flags = refl;
   }
 

@@ -34,11 +34,14 @@ module _ (k : KindName) (r : RoomView) (a : Holder)
   }
 
   pub is_text : (rules : Rules) (h : Heading) (events : List Event) (bytes : List ℕ) → rules ≡ rules_named k
-      → IsLegal (monitor_of rules flags_meaning a.floor) a.floor.history → h ≡ heading_for k r → events ≡ a.floor.history
+      → IsLegal (monitor_of rules flags_meaning a.floor) a.floor.history → h ≡ heading_for k r
+      → events ≡ a.floor.history
       → HasText h events → bytes ≡ text h events → IsTextOf k r a bytes
   is_text rules h events bytes named legal is same has written = record {
     is = written ∙ ap (λ (x : Heading). text x events) is ∙ ap (λ (es : List Event). text (heading_for k r) es) same;
-    has_text = subst (λ (es : List Event). HasText (heading_for k r) es) same (subst (λ (x : Heading). HasText x events) is has);
+    has_text =
+        subst (λ (es : List Event). HasText (heading_for k r) es) same
+        (subst (λ (x : Heading). HasText x events) is has);
     legal = legal_as_headed (heading_for k r) a.floor a.floor.history headed
         (subst (λ (x : Rules). IsLegal (monitor_of x flags_meaning a.floor) a.floor.history) named legal);
   }

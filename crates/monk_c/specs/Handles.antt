@@ -47,7 +47,8 @@ AnswersAt call wish (Some a) code told (Some b) =
     (b.kind ≡ a.kind) × Answers (rules_named a.kind) call wish a.seat code told b.seat
 
 abbrev pub IfTakenAt : Call → Pick → AnySeat → ℤ → ℕ → AnySeat → Type 0
-IfTakenAt call wish s code told t = refusal_at (booked s) call ≡ None → AnswersAt call wish (booked s) code told (booked t)
+IfTakenAt call wish s code told t = refusal_at (booked s) call ≡ None
+    → AnswersAt call wish (booked s) code told (booked t)
 
 abbrev pub IfRefusedAt : Call → AnySeat → ℤ → AnySeat → Type 0
 IfRefusedAt call s code t = IfSome (refusal_at (booked s) call) (λ f. (t ≡ s) × (code ≡ fault_number f))

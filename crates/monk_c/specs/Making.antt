@@ -42,7 +42,8 @@ MadeOf (Some k) n old (Err f) new = IsMakeFault n f × (new ≡ old)
 
 -- the numbers of a hall with a seat for each of these handles
 abbrev pub numbers_for : ℕ → ℕ → ℕ → List MonkSeat → Numbers
-numbers_for conds flags budget handles = record { seats = length handles; conds = conds; flags = flags; budget = budget }
+numbers_for conds flags budget handles =
+    record { seats = length handles; conds = conds; flags = flags; budget = budget }
 
 -- what C is answered: 0 where each handle has its seat, or why not, and then nothing has changed
 abbrev pub Answered : Option KindName → Numbers → List MonkSeat → ℤ → List MonkSeat → Type 0

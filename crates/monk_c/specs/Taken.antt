@@ -49,8 +49,9 @@ HasPolled k p (Outside q) = ⊥
 HasPolled k p (Waiting q) = StillWaits k flags_meaning p q × (stage p.me.place ≢ due_stage)
 HasPolled k p (Inside a) = HasEntered k flags_meaning p a
 
--- by this release it went out, or parked inside, and told C what it granted: the word of the seat that the release chose,
--- or the word of the ticket that enters next, whose number is that of the enters so far
+-- by this release it went out, or parked inside, and told C what it granted: the word of the seat
+-- that the release chose, or the word of the ticket that enters next, whose number is that of the
+-- enters so far
 abbrev pub WentOut : Rules → House → Holder → Event → Pick → Token → ℕ → Type 0
 WentOut k h a e wish p told = (g : Option Grant) × (told ≡ told_word g) × GrantsOut k flags_meaning a e wish p h g
 

@@ -29,7 +29,8 @@ pub enum AnyDeal {
 impl AnyDeal {
     /// Makes a hall of that kind.
     pub fn open(alloc: Global, kind: KindName, numbers: Numbers) -> Result<AnyDeal, Fault>
-        ensures made { IfOk result (λ d. (kind_dealt d ≡ kind) × IsMadeOf numbers (deal_in d).room × ((deal_in d).left ≡ numbers.seats)) }
+        ensures made { IfOk result (λ d. (kind_dealt d ≡ kind) × IsMadeOf numbers (deal_in d).room
+            × ((deal_in d).left ≡ numbers.seats)) }
         ensures refused { IfErr result (λ f. IsMakeFault numbers f) }
     {
         match kind {
@@ -50,7 +51,8 @@ impl AnyDeal {
     pub fn deal(&mut self) -> Option<AnySeat>
         ensures kind { kind_dealt self.new ≡ kind_dealt self.old }
         ensures room { (deal_in self.new).room ≡ (deal_in self.old).room }
-        ensures seat { MatchOption result ((deal_in self.old).left ≡ 0) (λ s. ((deal_in self.old).left ≡ (deal_in self.new).left + 1)
+        ensures seat { MatchOption result ((deal_in self.old).left ≡ 0)
+            (λ s. ((deal_in self.old).left ≡ (deal_in self.new).left + 1)
             × (s ≡ fresh_seat (kind_dealt self.new) (deal_in self.new).room (deal_in self.new).left)) }
     {
         match self {

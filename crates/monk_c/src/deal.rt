@@ -18,8 +18,8 @@ use std::alloc::Global;
 use std::marker::Model;
 use std::sync::Arc;
 
-/// A new hall and the passes of its first seats, with as many shares of the hall. To contracts it is the hall and how many
-/// passes are left.
+/// A new hall and the passes of its first seats, with as many shares of the hall. To contracts it
+/// is the hall and how many passes are left.
 #[derive(Drop)]
 pub struct Deal<K: Kind> {
     first: Shared<K>,
@@ -36,7 +36,8 @@ impl<K: Kind> Model for Deal<K> {
 
     ghost view = { λ d. record { room = arc_value d.first; left = length d.passes.items } };
 
-    ghost invariant = { λ d. (length d.rooms.items ≡ length d.passes.items) × All (λ r. arc_value r ≡ arc_value d.first) d.rooms.items
+    ghost invariant = { λ d. (length d.rooms.items ≡ length d.passes.items)
+        × All (λ r. arc_value r ≡ arc_value d.first) d.rooms.items
         × ArePasses (arc_value d.first) d.passes.items };
 }
 

@@ -87,7 +87,8 @@ impl MonkSeat {
         ensures same { self.new ≡ record self.old { has = self.new.has } }
         ensures refused { IfRefusedAt (Call.Broadcast cond) self.old.has result.code self.new.has }
         ensures untold { IfUntoldAt (Call.Broadcast cond) self.old.has result.granted }
-        ensures taken { IfTakenAt (Call.Broadcast cond) pick.Waiter self.old.has result.code result.granted self.new.has }
+        ensures taken { IfTakenAt (Call.Broadcast cond) pick.Waiter self.old.has result.code result.granted
+            self.new.has }
     {
         let mut seat = self.swap(AnySeat::Empty);
         let reply = seat.broadcast(cond);
@@ -100,7 +101,8 @@ impl MonkSeat {
         ensures same { self.new ≡ record self.old { has = self.new.has } }
         ensures refused { IfRefusedAt (Call.SignalWait cond wait_cond) self.old.has result.code self.new.has }
         ensures untold { IfUntoldAt (Call.SignalWait cond wait_cond) self.old.has result.granted }
-        ensures taken { IfTakenAt (Call.SignalWait cond wait_cond) wish self.old.has result.code result.granted self.new.has }
+        ensures taken { IfTakenAt (Call.SignalWait cond wait_cond) wish self.old.has result.code result.granted
+            self.new.has }
     {
         let mut seat = self.swap(AnySeat::Empty);
         let reply = seat.signal_wait(cond, wait_cond, wish);

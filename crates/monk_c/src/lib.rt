@@ -1,10 +1,11 @@
 //! The monitor behind C exports: a handle of a C program stands for a seat of a hall of any of the ten kinds.
 //!
 //! A call answers where the seat stands then (1 outside, 2 waiting, 3 inside), or below 0 why it is refused. Then the
-//! handle is as it was, and no grant is told. The first reason that applies is answered: -10, the handle has no seat; -3,
-//! the kind has no such call; -4, a condition, a flag or bits are out of range; -1, the seat stands elsewhere; -2, the seat
-//! has too few events left of its budget (`Call::wants`). No call waits or wakes: a release tells the word that it granted,
-//! and C wakes the thread whose seat waits there (`monk_k_word`). A word is 1 or more.
+//! handle is as it was, and no grant is told. The first reason that applies is answered: -10, the
+//! handle has no seat; -3, the kind has no such call; -4, a condition, a flag or bits are out of
+//! range; -1, the seat stands elsewhere; -2, the seat has too few events left of its budget
+//! (`Call::wants`). No call waits or wakes: a release tells the word that it granted, and C wakes
+//! the thread whose seat waits there (`monk_k_word`). A word is 1 or more.
 #![tactic(auto)]
 
 ghost use Rattle.std.specs.Prelude.{◌≡◌};
@@ -63,9 +64,10 @@ pub extern "C" fn monk_k_seat_size() -> usize {
     size_of::<AnySeat>()
 }
 
-/// Makes a monitor of a kind, with a seat for each handle, and gives up what the handles had. The kinds are numbered as in
-/// `KindName::ALL`; with no flags it has one that C can't set. 0; -4 where a number is out of its range (1 to 32 handles, at
-/// most 8 conditions and 32 flags, 2 to 2^20 events of each seat), or -5 where memory was refused: then nothing has changed.
+/// Makes a monitor of a kind, with a seat for each handle, and gives up what the handles had. The
+/// kinds are numbered as in `KindName::ALL`; with no flags it has one that C can't set. 0; -4 where
+/// a number is out of its range (1 to 32 handles, at most 8 conditions and 32 flags, 2 to 2^20
+/// events of each seat), or -5 where memory was refused: then nothing has changed.
 ///
 /// It takes memory for all events of all seats at once, and no later call keeps any.
 #[unsafe(no_mangle)]
@@ -222,7 +224,8 @@ pub extern "C" fn monk_k_start_signal_wait(
     ensures same { seat.new ≡ record seat.old { has = seat.new.has } }
     ensures refused { IfRefusedAt (Call.SignalWait condition wait_condition) seat.old.has result seat.new.has }
     ensures untold { IfUntoldAt (Call.SignalWait condition wait_condition) seat.old.has granted.new }
-    ensures taken { IfTakenAt (Call.SignalWait condition wait_condition) (wish_of wish) seat.old.has result granted.new seat.new.has }
+    ensures taken { IfTakenAt (Call.SignalWait condition wait_condition)
+        (wish_of wish) seat.old.has result granted.new seat.new.has }
 {
     let reply = seat.signal_wait(condition, wait_condition, wished(wish));
     *granted = reply.granted;
@@ -265,8 +268,9 @@ pub extern "C" fn monk_k_waiting(seat: &mut MonkSeat, condition: u8) -> i64
     seat.waiting(condition)
 }
 
-/// Puts the text of the history up to now into `out`, where there is room for it. Its length; or -10 where the handle has
-/// no seat, -1 where that isn't inside, -5 where memory for the text was refused. One pass over the history.
+/// Puts the text of the history up to now into `out`, where there is room for it. Its length; or
+/// -10 where the handle has no seat, -1 where that isn't inside, -5 where memory for the text was
+/// refused. One pass over the history.
 #[unsafe(no_mangle)]
 pub extern "C" fn monk_k_history(alloc: Global, seat: &mut MonkSeat, out: &mut [u8]) -> i64
     ensures same { seat.new ≡ seat.old }
@@ -291,12 +295,12 @@ fn tell(text: &[u8], out: &mut [u8]) -> i64
     length
 }
 
-/// Closes the monitor that these handles are of: the seat of handle `by` comes to it, polls and stays there. The place of
-/// that seat, which is inside where the monitor was free.
+/// Closes the monitor that these handles are of: the seat of handle `by` comes to it, polls and
+/// stays there. The place of that seat, which is inside where the monitor was free.
 ///
-/// It is refused for the first of these reasons that applies: -4, there is no handle `by`; -10, a handle has no seat; -1, a
-/// seat isn't outside; -2, the seat of `by` has too few events left to arrive. Then nothing has changed. It looks once at
-/// each handle.
+/// It is refused for the first of these reasons that applies: -4, there is no handle `by`; -10, a
+/// handle has no seat; -1, a seat isn't outside; -2, the seat of `by` has too few events left to
+/// arrive. Then nothing has changed. It looks once at each handle.
 #[unsafe(no_mangle)]
 pub extern "C" fn monk_k_close(seats: &mut [MonkSeat], by: usize) -> i32
     ensures refused { IfCloseRefused seats.old by result seats.new }
@@ -305,8 +309,8 @@ pub extern "C" fn monk_k_close(seats: &mut [MonkSeat], by: usize) -> i32
     close(seats, by)
 }
 
-/// Gives a seat up, and the handle has none then. One that is inside leaves, and nobody is told whom that let in; one that
-/// waits keeps its place, and the monitor for good once its turn comes.
+/// Gives a seat up, and the handle has none then. One that is inside leaves, and nobody is told
+/// whom that let in; one that waits keeps its place, and the monitor for good once its turn comes.
 #[unsafe(no_mangle)]
 pub extern "C" fn monk_k_drop(seat: &mut MonkSeat)
     ensures { seat.new ≡ record seat.old { has = any.Empty } }

@@ -40,7 +40,8 @@ impl<K: Kind> Room<K> {
         self.header.conds()
     }
 
-    /// The header of its history, in a version that has every event. The hall has its numbers, and no flag was set at first.
+    /// The header of its history, in a version that has every event. The hall has its numbers, and
+    /// no flag was set at first.
     pub fn header(&self) -> Header
         ensures header { result ≡ heading_for K.NAME self.now }
         ensures writable { (events : List Event) → IsTrue (is_writable result events) }

@@ -77,7 +77,8 @@ impl<K: Kind> Seat<K> {
     pub fn header(&self) -> Header
         ensures header { result ≡ heading_for K.NAME self.now.room }
         ensures writable { (events : List Event) → IsTrue (is_writable result events) }
-        ensures opening { self.now.room.house.setting.opening ≡ opening_named object.Flags (flags_made self.now.room.flags) }
+        ensures opening { self.now.room.house.setting.opening
+            ≡ opening_named object.Flags (flags_made self.now.room.flags) }
     {
         self.room.header()
     }
@@ -211,7 +212,8 @@ impl<K: ImmediateReturn> Seat<K> {
     pub fn signal_wait(&mut self, cond: u8, wait_cond: u8, wish: Pick) -> Reply
         ensures refused { IfRefused K.rules (Call.SignalWait cond wait_cond) self.old result.code self.new }
         ensures untold { IfUntold K.rules (Call.SignalWait cond wait_cond) self.old result.granted }
-        ensures taken { IfTaken K.rules (Call.SignalWait cond wait_cond) wish self.old result.code result.granted self.new }
+        ensures taken { IfTaken K.rules
+            (Call.SignalWait cond wait_cond) wish self.old result.code result.granted self.new }
     {
         match self.refusal(Call::SignalWait(cond, wait_cond)) {
             Some(fault) => Reply::refused(fault),

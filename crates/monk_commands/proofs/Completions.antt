@@ -21,17 +21,20 @@ use Rattle.monk_commands.specs.Played.{IsFoundLegal}
 use Rattle.monk_commands.proofs.Exact.{legal_found}
 
 -- the verdict on a log, where it is known under another name
-fits_is : (kind : KindName) (h : LogHeading) (ls : List LogLine) (v : LogVerdict) → verdict_on (log_monitor kind h) ls ≡ v
+fits_is : (kind : KindName) (h : LogHeading) (ls : List LogLine) (v : LogVerdict)
+    → verdict_on (log_monitor kind h) ls ≡ v
     → FitsExactly (log_monitor kind h) ls v
 fits_is kind h ls v is = subst (FitsExactly (log_monitor kind h) ls) is (kind_fits kind h ls)
 
-misfits_is : (kind : KindName) (h : LogHeading) (ls : List LogLine) (v : LogVerdict) → verdict_on (log_monitor kind h) ls ≡ v
+misfits_is : (kind : KindName) (h : LogHeading) (ls : List LogLine) (v : LogVerdict)
+    → verdict_on (log_monitor kind h) ls ≡ v
     → MisfitsExactly (log_monitor kind h) ls v
 misfits_is kind h ls v is = subst (MisfitsExactly (log_monitor kind h) ls) is (kind_misfits kind h ls)
 
 -- of the answer to a log
 module _ (kind : KindName) (h : LogHeading) (ls : List LogLine) (status : ℕ) (Puts : List ℕ → Type 0) where
-  open_by : (v : LogVerdict) → verdict_on (log_monitor kind h) ls ≡ v → IsVerdictAnswer kind h ls v status Puts → status ≡ 0
+  open_by : (v : LogVerdict) → verdict_on (log_monitor kind h) ls ≡ v → IsVerdictAnswer kind h ls v status Puts
+      → status ≡ 0
       → IsOpen (log_monitor kind h) ls
   open_by Fits is a none = (fits_is kind h ls Fits is).0 refl
   open_by (Misfit n why) is a none = absurd (omega (arith, a.0, none))
@@ -39,9 +42,11 @@ module _ (kind : KindName) (h : LogHeading) (ls : List LogLine) (status : ℕ) (
   zero_by : (v : LogVerdict) → verdict_on (log_monitor kind h) ls ≡ v → IsVerdictAnswer kind h ls v status Puts
       → IsOpen (log_monitor kind h) ls → status ≡ 0
   zero_by Fits is a o = a.0
-  zero_by (Misfit n why) is a o = absurd (let fits : Misfit n why ≡ Fits = (fits_is kind h ls (Misfit n why) is).1 o in cc)
+  zero_by (Misfit n why) is a o =
+      absurd (let fits : Misfit n why ≡ Fits = (fits_is kind h ls (Misfit n why) is).1 o in cc)
 
-  misfit_by : (v : LogVerdict) → verdict_on (log_monitor kind h) ls ≡ v → IsVerdictAnswer kind h ls v status Puts → status ≡ 1
+  misfit_by : (v : LogVerdict) → verdict_on (log_monitor kind h) ls ≡ v
+      → IsVerdictAnswer kind h ls v status Puts → status ≡ 1
       → (n : ℕ) × IsMisfit (log_monitor kind h) ls n
   misfit_by Fits is a one = absurd (omega (arith, a.0, one))
   misfit_by (Misfit n why) is a one = (n, (misfits_is kind h ls (Misfit n why) is n).0 refl)
@@ -55,7 +60,8 @@ module _ (kind : KindName) (h : LogHeading) (ls : List LogLine) (status : ℕ) (
   most_by Fits a = omega (arith, a.0)
   most_by (Misfit n why) a = omega (arith, a.0)
 
-  legal_by : (v : LogVerdict) → length ls ≤ 2 ^ 25 → h.size ≤ most h.object → IsVerdictAnswer kind h ls v status Puts → status ≡ 0
+  legal_by : (v : LogVerdict) → length ls ≤ 2 ^ 25 → h.size ≤ most h.object
+      → IsVerdictAnswer kind h ls v status Puts → status ≡ 0
       → IsFoundLegal Puts
   legal_by Fits few size a none =
       let c = a.1 in
@@ -144,8 +150,10 @@ module _ (kind : KindName) (known : Option (List ℕ)) (bytes : List ℕ) (statu
 
   pub zero_exactly : IfSome known (λ input. bytes ≡ input) → IsAnswerToLog kind bytes status Puts
       → IfSome known (λ input. (status ≡ 0) ↔ IsOpenText kind input)
-  zero_exactly same a = on_known (λ input. (status ≡ 0) ↔ IsOpenText kind input) same (exactly_open kind bytes status Puts a)
+  zero_exactly same a =
+      on_known (λ input. (status ≡ 0) ↔ IsOpenText kind input) same (exactly_open kind bytes status Puts a)
 
   pub one_exactly : IfSome known (λ input. bytes ≡ input) → IsAnswerToLog kind bytes status Puts
       → IfSome known (λ input. (status ≡ 1) ↔ IsMisfitText kind input)
-  one_exactly same a = on_known (λ input. (status ≡ 1) ↔ IsMisfitText kind input) same (exactly_misfit kind bytes status Puts a)
+  one_exactly same a =
+      on_known (λ input. (status ≡ 1) ↔ IsMisfitText kind input) same (exactly_misfit kind bytes status Puts a)

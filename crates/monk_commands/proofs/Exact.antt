@@ -33,11 +33,13 @@ zero_is : (m : Monitor) (h : List Event) (v : Verdict) → IsVerdict m h v → (
 zero_is m h (Legal n) w e = w.0
 zero_is m h (Forbidden s r) w e = absurd (omega (arith, e))
 
-one_is : (h : Heading) (es : List Event) (v : Verdict) → IsVerdict (named_monitor h) es v → (verdict_answer v).status ≡ 1 → HasFault h es
+one_is : (h : Heading) (es : List Event) (v : Verdict) → IsVerdict (named_monitor h) es v
+    → (verdict_answer v).status ≡ 1 → HasFault h es
 one_is h es (Legal n) w e = absurd (omega (arith, e))
 one_is h es (Forbidden s r) w e = record { step = s; reason = r; first = w }
 
-text_is : (input : List ℕ) (x : History) → text_at (2 ^ 25) input ≡ Ok x → x.0.size ≤ most x.0.object → IsTextOf input x.0 x.1
+text_is : (input : List ℕ) (x : History) → text_at (2 ^ 25) input ≡ Ok x → x.0.size ≤ most x.0.object
+    → IsTextOf input x.0 x.1
 text_is input x is size =
     let t = text_read (2 ^ 25) input x is in
     record { has_text = t.has_text; few = t.few; whole = t.whole; size = size }
@@ -45,7 +47,8 @@ text_is input x is size =
 legal_read : (input : List ℕ) (r : Result History ReadFault) → text_at (2 ^ 25) input ≡ r
     → (reading_answer r).status ≡ 0 → IsLegalText input
 legal_read input (Ok x) is e =
-    let j = judged_by x (ltb (most x.0.object) x.0.size) (verdict_of (named_monitor x.0) x.1) 0 refl e (omega arith) in (
+    let j = judged_by x (ltb (most x.0.object) x.0.size) (verdict_of (named_monitor x.0) x.1) 0 refl e
+    (omega arith) in (
       x.0,
       (
         x.1,
@@ -61,17 +64,28 @@ legal_read input (Err f) is e = absurd (omega (arith, e))
 forbidden_read : (input : List ℕ) (r : Result History ReadFault) → text_at (2 ^ 25) input ≡ r
     → (reading_answer r).status ≡ 1 → IsForbiddenText input
 forbidden_read input (Ok x) is e =
-    let j = judged_by x (ltb (most x.0.object) x.0.size) (verdict_of (named_monitor x.0) x.1) 1 refl e (omega arith) in
-    (x.0, (x.1, (text_is input x is j.0, one_is x.0 x.1 (verdict_of (named_monitor x.0) x.1) (is_verdict (named_monitor x.0) x.1) j.1)))
+    let j = judged_by x (ltb (most x.0.object) x.0.size) (verdict_of (named_monitor x.0) x.1) 1 refl e (omega arith) in (
+      x.0,
+      (
+        x.1,
+        (
+          text_is input x is j.0,
+          one_is x.0 x.1 (verdict_of (named_monitor x.0) x.1)
+              (is_verdict (named_monitor x.0) x.1) j.1,
+        ),
+      ),
+    )
 forbidden_read input (Err f) is e = absurd (omega (arith, e))
 
 -- the answer to the text of a history with that verdict
 answered_by : (input : List ℕ) (h : Heading) (es : List Event) (v : Verdict) → IsTextOf input h es
     → verdict_of (named_monitor h) es ≡ v → answer_of input ≡ verdict_answer v
 answered_by input h es v t is =
-    let read_is : text_at (2 ^ 25) input ≡ Ok (history h es) = ap (text_at (2 ^ 25)) t.whole ∙ text_again (2 ^ 25) h es t.has_text t.few in
+    let read_is : text_at (2 ^ 25) input ≡ Ok (history h es) = ap (text_at (2 ^ 25)) t.whole
+    ∙ text_again (2 ^ 25) h es t.has_text t.few in
     let size : ltb (most h.object) h.size ≡ false = le-ltb _ _ t.size in
-    subst (λ (r : Result History ReadFault). reading_answer r ≡ verdict_answer v) (sym read_is) (rw size (ap verdict_answer is))
+    subst (λ (r : Result History ReadFault). reading_answer r ≡ verdict_answer v) (sym read_is)
+    (rw size (ap verdict_answer is))
 
 pub legal_found : (input : List ℕ) (h : Heading) (es : List Event) → IsTextOf input h es → IsLegal (named_monitor h) es
     → answer_of input ≡ verdict_answer (Legal (length es))

@@ -48,7 +48,8 @@ begins_by false x y begins = begins
 
 begins_read : (r : Result History ReadFault) → Begins (explain_reading r) (reading_answer r)
 begins_read (Ok h) =
-    begins_by (ltb (most h.0.object) h.0.size) (told_answer (account h.0 h.1)) (verdict_answer (verdict_of (named_monitor h.0) h.1))
+    begins_by (ltb (most h.0.object) h.0.size) (told_answer (account h.0 h.1))
+    (verdict_answer (verdict_of (named_monitor h.0) h.1))
     (begins_told h.0 h.1)
 begins_read (Err f) = begins_self (unreadable f)
 
@@ -74,7 +75,8 @@ explained_too_big h es status Puts big same put =
     (same ∙ sym (ap (λ (a : Answer). a.status) given), subst (λ (a : Answer). Puts a.text) (sym given) put)
 
 -- of no history
-pub refused_explained : (bytes : List ℕ) (f : ReadFault) (status : ℕ) (Puts : List ℕ → Type 0) → text_at (2 ^ 25) bytes ≡ Err f
+pub refused_explained : (bytes : List ℕ) (f : ReadFault) (status : ℕ) (Puts : List ℕ → Type 0)
+    → text_at (2 ^ 25) bytes ≡ Err f
     → status ≡ (unreadable f).status → Puts (unreadable f).text → IsExplanationOf bytes status Puts
 refused_explained bytes f status Puts read same put =
     subst (λ (r : Result History ReadFault). IsExplained r status Puts) (sym read) (same, put)
@@ -84,7 +86,8 @@ pub put_explained : (bytes : List ℕ) (given status : ℕ) (text : List ℕ) (P
     → IsExplanationOf bytes given (λ t. text ≡ t) → Puts text → IsExplanationOf bytes status Puts
 put_explained bytes given status text Puts same told put = (same ∙ told.0, subst Puts told.1 put)
 
-pub begins_known : (known before after : Option (List ℕ)) (bytes : List ℕ) (status : ℕ) → IfSome known (λ input. bytes ≡ input)
+pub begins_known : (known before after : Option (List ℕ)) (bytes : List ℕ) (status : ℕ)
+    → IfSome known (λ input. bytes ≡ input)
     → IsExplanationOf bytes status (Appends before after) → BeginsAsAudit known before after status
 begins_known None before after bytes status same told = tt
 begins_known (Some input) before after bytes status same told =

@@ -44,7 +44,8 @@ one_of p (j ∷ front) k back is = go (p j) (one_of p front k back is)
     go false rest = rest
 
 -- one more at the end
-pub any_more : (p : KindName → Bool) (ks : List KindName) (k : KindName) → list_any p (ks ++ k ∷ []) ≡ (list_any p ks || p k)
+pub any_more : (p : KindName → Bool) (ks : List KindName) (k : KindName)
+    → list_any p (ks ++ k ∷ []) ≡ (list_any p ks || p k)
 any_more p [] k = go (p k)
   where
     go : (b : Bool) → (b || false) ≡ b
@@ -67,7 +68,8 @@ fits_more h es ks k before fits now so_far here is =
 pub lines_more : (h : Heading) (es : List Event) (ks : List KindName) (k : KindName)
     → fit_lines h es (ks ++ k ∷ []) ≡ fit_lines h es ks ++ fit_line h es k
 lines_more h es ks k =
-    flat_map-append (fit_line h es) ks (k ∷ []) ∙ ap (λ (l : List ℕ). fit_lines h es ks ++ l) (append-nil (fit_line h es k))
+    flat_map-append (fit_line h es) ks (k ∷ [])
+    ∙ ap (λ (l : List ℕ). fit_lines h es ks ++ l) (append-nil (fit_line h es k))
 
 -- each kind is one of the ten
 pub one_of_ten : (p : KindName → Bool) (k : KindName) → p k ≡ true → list_any p kinds ≡ true
@@ -100,7 +102,8 @@ judged_by h es true f is fits e = absurd (omega (arith, e))
 judged_by h es false true is fits e = (ltb-false _ _ is, refl)
 judged_by h es false false is fits e = absurd (omega (arith, e))
 
-fit_read : (input : List ℕ) (r : Result History ReadFault) → text_at (2 ^ 25) input ≡ r → (fit_reading r).status ≡ 0 → IsFitText input
+fit_read : (input : List ℕ) (r : Result History ReadFault) → text_at (2 ^ 25) input ≡ r
+    → (fit_reading r).status ≡ 0 → IsFitText input
 fit_read input (Ok x) is e =
     let j = judged_by x.0 x.1 (ltb (most x.0.object) x.0.size) (fits_some x.0 x.1 kinds) refl refl e in
     let t = text_read (2 ^ 25) input x is in
@@ -124,12 +127,16 @@ fit_read input (Err f) is e = absurd (omega (arith, e))
 fit_again : (input : List ℕ) (h : Heading) (es : List Event) (k : KindName) → IsTextOf input h es
     → IsLegal (named_monitor (under k h)) es → (fit_of input).status ≡ 0
 fit_again input h es k t legal =
-    let read_is : text_at (2 ^ 25) input ≡ Ok (history h es) = ap (text_at (2 ^ 25)) t.whole ∙ text_again (2 ^ 25) h es t.has_text t.few in
+    let read_is : text_at (2 ^ 25) input ≡ Ok (history h es) = ap (text_at (2 ^ 25)) t.whole
+    ∙ text_again (2 ^ 25) h es t.has_text t.few in
     let size : ltb (most h.object) h.size ≡ false = le-ltb _ _ t.size in
     let fits : fits_some h es kinds ≡ true =
     one_of_ten (λ j. is_fit (verdict_under h es j)) k (legal_is (named_monitor (under k h)) es legal) in
     ap (λ (r : Result History ReadFault). (fit_reading r).status) read_is
-    ∙ ap (λ b. (cond b too_big (record { status = cond (fits_some h es kinds) 0 1; text = fit_lines h es kinds })).status) size
+    ∙ ap (λ b. (cond b too_big (record {
+      status = cond (fits_some h es kinds) 0 1;
+      text = fit_lines h es kinds;
+    })).status) size
     ∙ ap status_by fits
 
 pub history_read : (input : List ℕ) → (fit_of input).status ≡ 0 → IsFitText input

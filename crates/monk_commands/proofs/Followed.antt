@@ -19,7 +19,8 @@ last_is [] x = refl
 last_is (y ∷ xs) x = last_is xs x
 
 -- against the last event of a legal history is no reason
-no_reason : (m : Monitor) (h : List Event) (e : Event) (r : ℕ) → IsLegal m (h ++ e ∷ []) → r ≡ reason_in m (situation m h) e
+no_reason : (m : Monitor) (h : List Event) (e : Event) (r : ℕ) → IsLegal m (h ++ e ∷ [])
+    → r ≡ reason_in m (situation m h) e
     → r ≡ 0
 no_reason m h e zero legal is = refl
 no_reason m h e (suc r) legal is =
@@ -40,7 +41,8 @@ reason_opening : (k : Rules) (seats conds : ℕ) (o : Object) (d : List ℕ) (t 
 unfolding reason_in
 reason_opening k seats conds o d t e = refl
 
-one_more : (k : Rules) (seats conds : ℕ) (o : Object) (d : List ℕ) (h : List Event) (e : Event) (t u : Situation) (r : ℕ)
+one_more : (k : Rules) (seats conds : ℕ) (o : Object) (d : List ℕ) (h : List Event) (e : Event)
+    (t u : Situation) (r : ℕ)
     → IsLegal (monitor k seats conds o d) (h ++ e ∷ []) → t ≡ situation (monitor k seats conds o d) h
     → r ≡ reason_in (monitor k seats conds o []) t e → (r ≡ 0 → u ≡ after o t e)
     → u ≡ situation (monitor k seats conds o d) (h ++ e ∷ [])
@@ -67,6 +69,7 @@ followed_more k seats conds o d before es i f t u r there legal stands is goes =
     ∙ sym (append_assoc before (take (i + 1) es) (drop (i + 1) es)) in
     let legal_so_far : IsLegal m ((before ++ take i es) ++ e ∷ []) =
     subst (λ (x : List Event). IsLegal m x) more
-    (legal_front m (before ++ take (i + 1) es) (drop (i + 1) es) (subst (λ (x : List Event). IsLegal m x) whole legal)) in
+    (legal_front m (before ++ take (i + 1) es) (drop (i + 1) es)
+    (subst (λ (x : List Event). IsLegal m x) whole legal)) in
     one_more k seats conds o d (before ++ take i es) e t u r legal_so_far stands is goes
     ∙ ap (λ (x : List Event). situation m x) (sym more)

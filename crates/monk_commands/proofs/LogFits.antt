@@ -30,7 +30,8 @@ use Rattle.monk_commands.specs.LogFitted.{log_fit_lines, log_fit_of, log_fit_rea
 use Rattle.monk_commands.specs.Streams.{Answers}
 use Rattle.monk_commands.proofs.Fits.{any_more, history_again, history_read, one_of_ten, some_of, statuses}
 
-pub log_fits_more : (x : Lapses) (h : LogHeading) (ls : List LogLine) (ks : List KindName) (k : KindName) (before fits now : Bool)
+pub log_fits_more : (x : Lapses) (h : LogHeading) (ls : List LogLine) (ks : List KindName) (k : KindName)
+    (before fits now : Bool)
     → before ≡ fits_some_kind x h ls ks → fits ≡ is_in (log_fit x h ls k) → now ≡ (before || fits)
     → now ≡ fits_some_kind x h ls (ks ++ k ∷ [])
 log_fits_more x h ls ks k before fits now so_far here is =
@@ -47,7 +48,10 @@ log_lines_more x h ls ks k =
 
 judged_by : (x : Lapses) (means : List WaitsFor) (h : LogHeading) (ls : List LogLine) (big fits : Bool)
     → ltb (most h.object) h.size ≡ big → fits_some_kind x h ls kinds ≡ fits
-    → (cond big too_big (record { status = cond fits 0 1; text = log_fit_lines x h ls kinds ++ counts_lines h means ls })).status ≡ 0
+    → (cond big too_big (record {
+      status = cond fits 0 1;
+      text = log_fit_lines x h ls kinds ++ counts_lines h means ls;
+    })).status ≡ 0
     → (h.size ≤ most h.object) × (fits_some_kind x h ls kinds ≡ true)
 judged_by x means h ls true f is fits e = absurd (omega (arith, e))
 judged_by x means h ls false true is fits e = (ltb-false _ _ is, fits)
@@ -69,12 +73,15 @@ status_by : (fits : Bool) → fits ≡ true → ◌≡◌ {A = ℕ} (cond fits 0
 status_by true h = refl
 status_by false h = absurd (false≢true h)
 
-fit_again : (x : Lapses) (means : List WaitsFor) (input : List ℕ) (h : LogHeading) (ls : List LogLine) (k : KindName) (o : Order)
+fit_again : (x : Lapses) (means : List WaitsFor) (input : List ℕ) (h : LogHeading) (ls : List LogLine)
+    (k : KindName) (o : Order)
     → IsLogOf input h ls → IsOpenWith x o (log_monitor k h) ls → (log_fit_of x means input).status ≡ 0
 fit_again x means input h ls k o t opens =
-    let read_is : log_at (2 ^ 25) input ≡ Ok (log h ls) = ap (log_at (2 ^ 25)) t.whole ∙ log_again (2 ^ 25) h ls t.has_text t.few in
+    let read_is : log_at (2 ^ 25) input ≡ Ok (log h ls) = ap (log_at (2 ^ 25)) t.whole
+    ∙ log_again (2 ^ 25) h ls t.has_text t.few in
     let size : ltb (most h.object) h.size ≡ false = le-ltb _ _ t.size in
-    let fits : fits_some_kind x h ls kinds ≡ true = one_of_ten (λ j. is_in (log_fit x h ls j)) k (kind_open_fit x k h ls o opens) in
+    let fits : fits_some_kind x h ls kinds ≡ true =
+    one_of_ten (λ j. is_in (log_fit x h ls j)) k (kind_open_fit x k h ls o opens) in
     ap (λ (r : Result Log ReadFault). (log_fit_reading x means r).status) read_is
     ∙ ap (λ b. (cond b too_big (record {
       status = cond (fits_some_kind x h ls kinds) 0 1;
@@ -141,17 +148,21 @@ pub fit_statuses : (x : Lapses) (means : List WaitsFor) (status : ℕ) (bytes : 
 fit_statuses x means status bytes h = subst (λ n. n ≤ 2) (sym h) (statuses_by x means bytes (is_log_text bytes))
 
 -- four texts that are put behind a page, one after the other
-pub put_four : (a b d e old one two three page : List ℕ) → one ≡ old ++ a → two ≡ one ++ b → three ≡ two ++ d → page ≡ three ++ e
+pub put_four : (a b d e old one two three page : List ℕ) → one ≡ old ++ a → two ≡ one ++ b → three ≡ two ++ d
+    → page ≡ three ++ e
     → page ≡ old ++ (a ++ (b ++ (d ++ e)))
 put_four a b d e old one two three page is_one is_two is_three is =
-    is ∙ ap (λ (xs : List ℕ). xs ++ e) (is_three ∙ ap (λ (xs : List ℕ). xs ++ d) (is_two ∙ ap (λ (xs : List ℕ). xs ++ b) is_one))
+    is ∙ ap (λ (xs : List ℕ). xs ++ e)
+    (is_three ∙ ap (λ (xs : List ℕ). xs ++ d) (is_two ∙ ap (λ (xs : List ℕ). xs ++ b) is_one))
     ∙ append_assoc ((old ++ a) ++ b) d e ∙ append_assoc (old ++ a) b (d ++ e) ∙ append_assoc old a (b ++ (d ++ e))
 
 -- what is answered to the bytes that were read is answered to the input
-pub fit_known : (x : Lapses) (means : List WaitsFor) (known before after : Option (List ℕ)) (bytes : List ℕ) (status : ℕ)
+pub fit_known : (x : Lapses) (means : List WaitsFor) (known before after : Option (List ℕ)) (bytes : List ℕ)
+    (status : ℕ)
     → IfSome known (λ input. bytes ≡ input)
     → (status ≡ (fit_answer_of x means bytes).status) × Appends before after (fit_answer_of x means bytes).text
     → Answers (fit_answer_of x means) known before after status
 fit_known x means None before after bytes status same a = tt
 fit_known x means (Some input) before after bytes status same a =
-    subst (λ (b : List ℕ). (status ≡ (fit_answer_of x means b).status) × Appends before after (fit_answer_of x means b).text) same a
+    subst (λ (b : List ℕ). (status ≡ (fit_answer_of x means b).status)
+    × Appends before after (fit_answer_of x means b).text) same a

@@ -33,7 +33,8 @@ module _ (report : Report) (input : List ℕ) (status : ℕ) (Puts : List ℕ �
       let t = play_found (2 ^ 25) input p is in
       record { has_text = t.has_text; few = t.few; whole = t.whole; size = size }
 
-  is_text : (r : Result Play ReadFault) → play_at (2 ^ 25) input ≡ r → IsAnswer report r status Puts → status ≡ 0 → IsPlayText input
+  is_text : (r : Result Play ReadFault) → play_at (2 ^ 25) input ≡ r → IsAnswer report r status Puts
+      → status ≡ 0 → IsPlayText input
   is_text (Ok p) is (inl a) none = (p.0, (p.1, (p.2, text_is p is a.0)))
   is_text (Ok p) is (inr a) none = absurd (omega (arith, a.1, none))
   is_text (Err f) is a none = absurd (omega (arith, a.0, none))
@@ -80,7 +81,8 @@ module _ (report : Report) (known : Option (List ℕ)) (bytes : List ℕ) (statu
       → IsReported report h budget cs Puts)
   reported_known same a =
       on_known
-      (λ input. (h : Heading) (budget : ℕ) (cs : List (ℕ × Command)) → IsPlayOf input h budget cs → IsReported report h budget cs Puts) same
+      (λ input. (h : Heading) (budget : ℕ) (cs : List (ℕ × Command)) → IsPlayOf input h budget cs
+      → IsReported report h budget cs Puts) same
       (λ h budget cs t. (answer_of report bytes status Puts h budget cs t a).1)
 
   pub status_known : IsAnswerTo report bytes status Puts → (status ≡ 0) ⊎ (status ≡ 2)
@@ -90,15 +92,19 @@ module _ (report : Report) (known : Option (List ℕ)) (bytes : List ℕ) (statu
 pub led_to : (k : Rules) (o : Object) (opening : List ℕ) (h : Heading) (budget : ℕ) (commands : List (ℕ × Command))
     (events : List Event) (seats conds : ℕ) (s t : State)
     → seats ≡ h.seats → conds ≡ h.conds → s ≡ opening_state opening seats conds budget
-    → IsLed k o s commands t → IsRecordedBy k o s commands t → events ≡ t.floor.history → IsLegal (monitor_of k o t.floor) t.floor.history
+    → IsLed k o s commands t → IsRecordedBy k o s commands t → events ≡ t.floor.history
+    → IsLegal (monitor_of k o t.floor) t.floor.history
     → length t.floor.history ≤ 2 ^ 25 → HasText h events → IsLedTo k o opening h budget commands events
-led_to k o opening h budget commands events seats conds s t seats_are conds_are opens led recorded is legal few has_text =
+led_to k o opening h budget commands events seats conds s t seats_are conds_are opens led recorded is legal few
+    has_text =
     let kept = same_monitor k o s recorded.steps t recorded.recorded in
     let opening_is : t.floor.opening ≡ opening = kept.opening ∙ ap (λ (u : State). u.floor.opening) opens in
     let seats_is : t.floor.seats ≡ h.seats = kept.seats ∙ (ap (λ (u : State). u.floor.seats) opens ∙ seats_are) in
     let conds_is : t.floor.conds ≡ h.conds = kept.conds ∙ (ap (λ (u : State). u.floor.conds) opens ∙ conds_are) in
-    let monitor_is : monitor_of k o t.floor ≡ monitor k h.seats h.conds o opening = rw (opening_is, seats_is, conds_is) refl in
-    let opened : opening_state opening seats conds budget ≡ opening_state opening h.seats h.conds budget = rw (seats_are, conds_are) refl in
+    let monitor_is : monitor_of k o t.floor ≡ monitor k h.seats h.conds o opening =
+    rw (opening_is, seats_is, conds_is) refl in
+    let opened : opening_state opening seats conds budget ≡ opening_state opening h.seats h.conds budget =
+    rw (seats_are, conds_are) refl in
     record {
       last = t;
       is_led = subst (λ (u : State). IsLed k o u commands t) (opens ∙ opened) led;

@@ -35,12 +35,14 @@ number_read E G bits v name f only none value = go (one_text f name) refl
         let read = only t (Ok v) (value t e) in
         record { text = t; found = sym (one_text-rows f name) ∙ e; digits = read.0.0; number = read.1 }
 
-pub monk_is_simple : (completed : KindNames) (run recorded : RunNames) → is_simple (monk_app completed run recorded) ≡ true
+pub monk_is_simple : (completed : KindNames) (run recorded : RunNames)
+    → is_simple (monk_app completed run recorded) ≡ true
 unfolding clap_on_literals
 monk_is_simple completed run recorded = refl
 
 -- what a test that is exact says of what it has found
-pub found_exactly : (A : Type 0) (o : Option A) (F G : A → Type 0) → ((x : A) → (o ≡ Some x) ↔ F x) → ((x : A) → F x → G x)
+pub found_exactly : (A : Type 0) (o : Option A) (F G : A → Type 0) → ((x : A) → (o ≡ Some x) ↔ F x)
+    → ((x : A) → F x → G x)
     → IfSome o G
 found_exactly A None F G exact leads = tt
 found_exactly A (Some x) F G exact leads = leads x ((exact x).0 refl)
@@ -58,11 +60,13 @@ abbrev pub texts : List (Bor Text) → List Text
 texts words = map (λ w. w.now) words
 
 -- with the meaning of one word more
-pub meanings_more : (words : List (Bor Text)) (i : ℕ) (t : Bor Text) (ws new : List WaitsFor) (w : WaitsFor) → i < length words
+pub meanings_more : (words : List (Bor Text)) (i : ℕ) (t : Bor Text) (ws new : List WaitsFor) (w : WaitsFor)
+    → i < length words
     → AreMeanings (texts (take i words)) ws → IsMeaning (get_or words i t).now w → new ≡ ws ++ w ∷ []
     → AreMeanings (texts (take (i + 1) words)) new
 meanings_more words i t ws new w within are is more =
     subst (AreMeanings (texts (take (i + 1) words))) (sym more)
     (subst (λ (ts : List Text). AreMeanings ts (ws ++ w ∷ []))
-    (sym (ap texts (take_more words i t within) ∙ map-append (λ (x : Bor Text). x.now) (take i words) (get_or words i t ∷ [])))
+    (sym (ap texts (take_more words i t within)
+    ∙ map-append (λ (x : Bor Text). x.now) (take i words) (get_or words i t ∷ [])))
     (words_more (texts (take i words)) ws (get_or words i t).now w are is))

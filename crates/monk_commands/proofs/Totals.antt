@@ -23,12 +23,14 @@ two_pairs w v a b c d = simp append_assoc
 
 -- the same with a line of a word and a number before that
 pub two_pairs_and_count : (w v u a b c d e : List ℕ)
-    → w ++ (32 ∷ (a ++ (32 ∷ (b ++ (10 ∷ (v ++ (32 ∷ (c ++ (32 ∷ (d ++ (10 ∷ (u ++ (32 ∷ (e ++ (10 ∷ codes "legal\n")))))))))))))))
+    → w ++ (32 ∷ (a
+    ++ (32 ∷ (b ++ (10 ∷ (v ++ (32 ∷ (c ++ (32 ∷ (d ++ (10 ∷ (u ++ (32 ∷ (e ++ (10 ∷ codes "legal\n")))))))))))))))
     ≡ pair_text w a b ++ pair_text v c d ++ count_text u e ++ codes "legal\n"
 two_pairs_and_count w v u a b c d e = simp append_assoc
 
 -- four lines of a word and a number, and the line that ends them
 pub four_counts : (w v u t a b c d : List ℕ)
-    → w ++ (32 ∷ (a ++ (10 ∷ (v ++ (32 ∷ (b ++ (10 ∷ (u ++ (32 ∷ (c ++ (10 ∷ (t ++ (32 ∷ (d ++ (10 ∷ codes "legal\n")))))))))))))))
+    → w ++ (32 ∷ (a
+    ++ (10 ∷ (v ++ (32 ∷ (b ++ (10 ∷ (u ++ (32 ∷ (c ++ (10 ∷ (t ++ (32 ∷ (d ++ (10 ∷ codes "legal\n")))))))))))))))
     ≡ count_text w a ++ count_text v b ++ count_text u c ++ count_text t d ++ codes "legal\n"
 four_counts w v u t a b c d = simp append_assoc

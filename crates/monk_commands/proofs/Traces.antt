@@ -33,10 +33,12 @@ pub with_seat : (page places seat more : List ℕ) → more ≡ places ++ seat �
 with_seat page places seat more is = append_assoc page places seat ∙ ap (λ (all : List ℕ). page ++ all) (sym is)
 
 -- behind these commands and their lines, one more
-pub traced_more : (name : ObjectName) (m : Monitor) (before : ℕ) (s : State) (cs : List (ℕ × Command)) (t : State) (lines : List ℕ)
+pub traced_more : (name : ObjectName) (m : Monitor) (before : ℕ) (s : State) (cs : List (ℕ × Command))
+    (t : State) (lines : List ℕ)
     (c : ℕ × Command) (a : Answer) (u : State) (number : ℕ)
     → AreTraced name m before s cs t lines → IsStep m.kind m.object t c.0 c.1 a u → number ≡ before + length cs + 1
-    → AreTraced name m before s (cs ++ c ∷ []) u (lines ++ trace_line name m.conds number c a u (situation m u.floor.history))
+    → AreTraced name m before s (cs ++ c ∷ []) u
+    (lines ++ trace_line name m.conds number c a u (situation m u.floor.history))
 traced_more name m before s [] t lines c a u number are step at =
     let at_first : number ≡ before + 1 = omega (arith, at) in (
       a,
@@ -68,7 +70,8 @@ traced_more name m before s (d ∷ cs) t lines c a u number are step at =
             first.0,
             (
               ap (λ (front : List ℕ). front ++ line) first.1.0
-                  ∙ append_assoc (trace_line name m.conds (before + 1) d are.0 are.1.0 (situation m are.1.0.floor.history))
+                  ∙ append_assoc (trace_line name m.conds (before + 1) d are.0 are.1.0
+                  (situation m are.1.0.floor.history))
                   are.1.1.0 line,
               traced_more name m (before + 1) are.1.0 cs t are.1.1.0 c a u number first.1.1 step (omega (arith, at)),
             ),

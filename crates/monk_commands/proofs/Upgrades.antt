@@ -44,12 +44,15 @@ zero_exactly (Some input) status bytes same h =
           h ∙ ap (λ (a : Answer). a.status) (text_upgraded bytes t.0 t.1.0 t.1.1),
     )
 
-pub upgraded_known : (known : Option (List ℕ)) (bytes : List ℕ) (Puts : List ℕ → Type 0) → IfSome known (λ input. bytes ≡ input)
+pub upgraded_known : (known : Option (List ℕ)) (bytes : List ℕ) (Puts : List ℕ → Type 0)
+    → IfSome known (λ input. bytes ≡ input)
     → Puts (upgrade_of bytes).text
-    → IfSome known (λ input. (h : Heading) (events : List Event) → IsHistoryOf input h events → Puts (text (upgraded_heading h) events))
+    → IfSome known (λ input. (h : Heading) (events : List Event) → IsHistoryOf input h events
+    → Puts (text (upgraded_heading h) events))
 upgraded_known None bytes Puts same puts = tt
 upgraded_known (Some input) bytes Puts same puts =
-    subst (λ (x : List ℕ). (h : Heading) (events : List Event) → IsHistoryOf x h events → Puts (text (upgraded_heading h) events)) same
+    subst (λ (x : List ℕ). (h : Heading) (events : List Event) → IsHistoryOf x h events
+    → Puts (text (upgraded_heading h) events)) same
     (λ h events t. subst (λ (a : Answer). Puts a.text) (text_upgraded bytes h events t) puts)
 
 -- what was upgraded stays as it is

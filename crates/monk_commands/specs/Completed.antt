@@ -1,4 +1,5 @@
--- The answer to a log that is completed: the text of a history of a kind that tells it, or the line with which none begins
+-- The answer to a log that is completed: the text of a history of a kind that tells it, or the line
+-- with which none begins
 use Rattle.std.specs.Prelude.{◌≡◌, ℕ, ◌<◌, ◌≤◌, ◌^◌, ◌⊎◌, List, length, ◌++◌, Result, Ok, Err, codes}
 use Rattle.std.specs.Fmt.{decimal}
 use Rattle.monk_kinds.specs.Names.{kind_word}
@@ -55,7 +56,8 @@ pub record IsCompleted (kind : KindName) (h : LogHeading) (log : List LogLine) (
 -- what stands behind the kind
 abbrev pub misfit_words : ℕ → Blame → List ℕ
 misfit_words n why =
-    codes " misfit " ++ decimal n ++ codes " " ++ decimal (blame_number why) ++ codes " " ++ blame_word why ++ codes "\n"
+    codes " misfit " ++ decimal n ++ codes " " ++ decimal (blame_number why) ++ codes " " ++ blame_word why
+    ++ codes "\n"
 
 abbrev pub misfit_answer : KindName → ℕ → Blame → Answer
 misfit_answer kind n why = record { status = 1; text = kind_word kind ++ misfit_words n why }

@@ -33,8 +33,8 @@ abbrev pub why_of : Verdict → List ℕ
 why_of (Legal n) = []
 why_of (Forbidden step reason) = why reason
 
--- with what writing these bytes means: the picture of the events up to the one that the verdict forbids is written, with
--- the verdict's status
+-- with what writing these bytes means: the picture of the events up to the one that the verdict
+-- forbids is written, with the verdict's status
 abbrev pub IsPictureBy : Verdict → Heading → List Event → ℕ → (List ℕ → Type 0) → Type 0
 IsPictureBy v h events status Puts =
     (status ≡ (verdict_answer v).status) × Puts (picture h events (forbidden_step v) (why_of v))

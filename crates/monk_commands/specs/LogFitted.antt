@@ -48,7 +48,8 @@ fits_some_kind x h log ks = list_any (λ k. is_in (log_fit x h log k)) ks
 
 abbrev pub gone_line : Counts → List ℕ
 gone_line c =
-    codes "served " ++ decimal c.served ++ codes " passed " ++ decimal c.passed ++ codes " lapsed " ++ decimal c.lapsed ++ codes "\n"
+    codes "served " ++ decimal c.served ++ codes " passed " ++ decimal c.passed ++ codes " lapsed "
+    ++ decimal c.lapsed ++ codes "\n"
 
 abbrev pub waiting_words : Counts → List ℕ
 waiting_words c = codes "left waiting " ++ decimal c.waiting

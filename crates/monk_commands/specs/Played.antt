@@ -48,7 +48,8 @@ IsPlayedBy k o opening h budget commands Puts =
     (events : List Event) × (IsLedTo k o opening h budget commands events × Puts (text h events))
 
 -- the same of what is to be told of the play
-abbrev pub IsReportedBy : Report → Rules → Object → List ℕ → Heading → ℕ → List (ℕ × Command) → (List ℕ → Type 0) → Type 0
+abbrev pub IsReportedBy : Report → Rules → Object → List ℕ → Heading → ℕ → List (ℕ × Command)
+    → (List ℕ → Type 0) → Type 0
 IsReportedBy History k o opening h budget commands Puts = IsPlayedBy k o opening h budget commands Puts
 IsReportedBy Trace k o opening h budget commands Puts = IsTracedBy k o opening h budget commands Puts
 

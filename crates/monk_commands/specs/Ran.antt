@@ -32,11 +32,13 @@ book_text t = pair_line (codes "reads") (slice_index t 0) (slice_index t 1)
 abbrev pub shop_text : List ℕ → List ℕ
 shop_text t =
     count_line (codes "sat") (slice_index t 0) ++ count_line (codes "called") (slice_index t 1)
-    ++ count_line (codes "finished") (slice_index t 2) ++ count_line (codes "departed") (slice_index t 3) ++ codes "legal\n"
+    ++ count_line (codes "finished") (slice_index t 2) ++ count_line (codes "departed") (slice_index t 3)
+    ++ codes "legal\n"
 
 abbrev pub hasty_text : List ℕ → ℕ → List ℕ
 hasty_text t missed = pair_line (codes "put") (slice_index t 0) (slice_index t 1)
-    ++ pair_line (codes "taken") (slice_index t 2) (slice_index t 3) ++ count_line (codes "missed") missed ++ codes "legal\n"
+    ++ pair_line (codes "taken") (slice_index t 2) (slice_index t 3) ++ count_line (codes "missed") missed
+    ++ codes "legal\n"
 
 abbrev pub totals_text : Sample → List ℕ → ℕ → List ℕ
 totals_text Buffer t missed = buffer_text t
@@ -48,8 +50,8 @@ totals_text Hasty t missed = hasty_text t missed
 abbrev pub lets_in : ℕ → ℕ → Bool → Type 0
 lets_in seat round answer = answer ≡ true
 
--- a run in which every seat has served to its end has left a legal history, and the totals of this history are told: those
--- of its seats and rounds
+-- a run in which every seat has served to its end has left a legal history, and the totals of this
+-- history are told: those of its seats and rounds
 pub record IsTold (k : KindName) (sample : Sample) (seats rounds : ℕ) (Puts : List ℕ → Type 0) : Type 0 where
   pub heading : Heading
   pub history : List Event

@@ -10,8 +10,8 @@ use Rattle.monk_samples.specs.Totals.{HasTotals}
 use Rattle.monk_samples.specs.declared.sample.Sample.{Sample}
 use Rattle.monk_commands.specs.Ran.{IsEnd, lets_in}
 
--- a run in which every seat has served to its end has left a legal history with the totals of its seats and rounds, and the
--- text of the history that this run has left is told
+-- a run in which every seat has served to its end has left a legal history with the totals of its
+-- seats and rounds, and the text of the history that this run has left is told
 pub record IsRecorded (k : KindName) (sample : Sample) (seats rounds : ℕ) (Puts : List ℕ → Type 0) : Type 0 where
   pub heading : Heading
   pub history : List Event

@@ -69,7 +69,8 @@ abbrev pub run_app : Text → RunNames → App
 run_app name n =
     with_rule (with_rule (with_rule (with_rule (new_app name) (required_rule (codes "KIND") (Names n.kinds)))
     (required_rule (codes "SAMPLE") (Names n.samples)))
-    (required_rule (codes "SEATS") (Signed (pos 2) (pos 16)))) (required_rule (codes "ROUNDS") (Signed (pos 1) (pos 1000)))
+    (required_rule (codes "SEATS") (Signed (pos 2) (pos 16))))
+    (required_rule (codes "ROUNDS") (Signed (pos 1) (pos 1000)))
 
 -- a command of that name that takes a file
 abbrev pub file_app : Text → App
@@ -85,26 +86,33 @@ repeated_rule name = record (new_rule name) { long = Some name; action = Some Ap
 -- the command that takes what a log may tell, and a file
 abbrev pub fit_app : App
 fit_app =
-    with_rule (with_rule (with_rule (new_app (codes "fit")) (flag_rule (codes "lapses"))) (repeated_rule (codes "means")))
+    with_rule (with_rule (with_rule (new_app (codes "fit")) (flag_rule (codes "lapses")))
+    (repeated_rule (codes "means")))
     (new_rule (codes "FILE"))
 
 -- the command that takes a kind, and a file
 abbrev pub complete_app : KindNames → App
 complete_app n =
-    with_rule (with_rule (new_app (codes "complete")) (required_rule (codes "KIND") (Names n.kinds))) (new_rule (codes "FILE"))
+    with_rule (with_rule (new_app (codes "complete")) (required_rule (codes "KIND") (Names n.kinds)))
+    (new_rule (codes "FILE"))
 
 -- where the command is added to another, it is a subcommand like this
 abbrev pub IsSubcommand : Command → App → Type 0
 IsSubcommand c a = (old new : Command) → AddsSubcommand old c new → app_of new ≡ with_subcommand (app_of old) a.top
 
 abbrev pub bare_app : App
-bare_app = record (new_app (codes "monk")) { top = record (new_app (codes "monk")).top { has_version = true; subcommand_required = true } }
+bare_app =
+    record (new_app (codes "monk")) {
+      top =
+          record (new_app (codes "monk")).top { has_version = true; subcommand_required = true };
+    }
 
 -- with the commands that take no kind, and with all
 abbrev pub plain_app : App
 plain_app =
     with_subcommand (with_subcommand (with_subcommand (with_subcommand (with_subcommand (with_subcommand
-    (with_subcommand (with_subcommand bare_app classify_app.top) (file_app (codes "audit")).top) (file_app (codes "play")).top)
+    (with_subcommand (with_subcommand bare_app classify_app.top) (file_app (codes "audit")).top)
+    (file_app (codes "play")).top)
     (file_app (codes "upgrade")).top) fit_app.top) (file_app (codes "trace")).top)
     (file_app (codes "explain")).top) (file_app (codes "draw")).top
 
@@ -183,7 +191,8 @@ words_or_none (Some words) = words
 -- a kind, a sample, seats and rounds are those that clap has found
 abbrev pub AreRunValues : KindName → Sample → ℕ → ℕ → List Row → Type 0
 AreRunValues kind sample seats rounds rows =
-    (first_of (codes "KIND") rows ≡ Some (kind_word kind)) × (first_of (codes "SAMPLE") rows ≡ Some (sample_word sample))
+    (first_of (codes "KIND") rows ≡ Some (kind_word kind))
+    × (first_of (codes "SAMPLE") rows ≡ Some (sample_word sample))
     × HasNumber (codes "SEATS") seats rows × HasNumber (codes "ROUNDS") rounds rows
 
 -- the values of the line are those that clap has found, in the rows of its command

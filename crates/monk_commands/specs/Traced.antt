@@ -1,4 +1,5 @@
--- The trace of a play: a line for each command, with its answer, the words, the data and where each seat stands after it
+-- The trace of a play: a line for each command, with its answer, the words, the data and where each
+-- seat stands after it
 use Rattle.std.specs.Prelude.{◌≡◌, ℕ, zero, suc, ◌+◌, ◌==◌, List, [], ◌∷◌, ◌++◌, if◌then◌else◌, codes}
 use Rattle.std.specs.List.{join_with_byte}
 use Rattle.std.specs.Fmt.{decimal}
@@ -19,8 +20,8 @@ use Rattle.monk_world.specs.Shown.{answer_words, is_granted, place_words}
 use Rattle.monk_world.specs.State.{State}
 use Rattle.monk_world.specs.StepTable.{IsStep}
 
--- where seat j stands, on which queue if it waits inside, and whether the grant is there that it looks for; a comma before
--- each but the first
+-- where seat j stands, on which queue if it waits inside, and whether the grant is there that it
+-- looks for; a comma before each but the first
 abbrev pub seat_text : State → (ℕ → Stand) → ℕ → List ℕ
 seat_text s stands j =
     (if j == 0 then [] else codes ", ") ++ join_with_byte 32 (place_words (s.world.place j)) ++ stand_text (stands j)
@@ -63,5 +64,6 @@ AreTraced name m before s (c ∷ cs) t text =
 abbrev pub IsTracedBy : Rules → Object → List ℕ → Heading → ℕ → List (ℕ × Command) → (List ℕ → Type 0) → Type 0
 IsTracedBy k o opening h budget commands Puts =
     (last : State) × ((text : List ℕ)
-    × (AreTraced h.object (monitor k h.seats h.conds o opening) 0 (opening_state opening h.seats h.conds budget) commands last
+    × (AreTraced h.object (monitor k h.seats h.conds o opening) 0
+    (opening_state opening h.seats h.conds budget) commands last
     text × Puts text))

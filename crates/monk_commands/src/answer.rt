@@ -68,7 +68,8 @@ pub(crate) fn too_big(alloc: Global) -> Result<Answer, StreamFault>
 pub(crate) fn put<W: Write>(answer: &Answer, writer: &mut Device<W>) -> Result<u8, StreamFault>
     requires { has_failed writer.old ≡ false }
     ensures line { IfOk result
-        (λ status. (status ≡ answer.now.status) × Appends (W.contents (inner_of writer.old)) (W.contents (inner_of writer.new))
+        (λ status. (status ≡ answer.now.status)
+        × Appends (W.contents (inner_of writer.old)) (W.contents (inner_of writer.new))
         (string_bytes answer.now.text)) }
     ensures fails { OnErr result ((result ≡ Err StreamFault.File) × (has_failed writer.new ≡ true)) }
 {
@@ -104,7 +105,8 @@ fn reason_word(reason: u8) -> &'static str
 }
 
 pub(crate) fn verdict_answer(alloc: Global, verdict: Verdict) -> Result<Answer, StreamFault>
-    ensures answer { IfOk result (λ a. let j = verdict_answer verdict in (a.status ≡ j.status) × (string_bytes a.text ≡ j.text)) }
+    ensures answer { IfOk result (λ a. let j = verdict_answer verdict in
+        (a.status ≡ j.status) × (string_bytes a.text ≡ j.text)) }
     ensures status { IfOk result (λ a. a.status ≤ 2) }
     ensures no_file { IsErrOf result StreamFault.File → ⊥ }
 {

@@ -18,8 +18,8 @@ use monk_history::{Device, ReadFault};
 use std::alloc::Global;
 use std::io::{Read, Write};
 
-/// The audit takes all that the reader has, at most 2^31 bytes in at most 2^31 reads, a piece of at most the chunk's length
-/// at a time.
+/// The audit takes all that the reader has, at most 2^31 bytes in at most 2^31 reads, a piece of at
+/// most the chunk's length at a time.
 fn take_all<R: Read>(
     alloc: Global,
     reader: &mut Device<R>,
@@ -29,7 +29,8 @@ fn take_all<R: Read>(
     requires sound { has_failed reader.old ≡ false }
     requires room { 0 < length chunk.old }
     requires goes_on { IsGoingOn audit.old }
-    ensures owed { OnOk result (IfSome (R.remaining (inner_of reader.old)) (λ input. owes audit.old input ≡ owes audit.new [])) }
+    ensures owed { OnOk result (IfSome (R.remaining (inner_of reader.old))
+        (λ input. owes audit.old input ≡ owes audit.new [])) }
     ensures goes_on { OnOk result (IsGoingOn audit.new) }
     ensures end { OnOk result (IsAtEnd (R.remaining (inner_of reader.new))) }
     ensures file { IsErrOf result StreamFault.File → IsYoung reader.old → (has_failed reader.new ≡ true)
@@ -55,14 +56,16 @@ fn take_all<R: Read>(
     Err(StreamFault::File)
 }
 
-/// Audits the text that the reader has, at most 2^31 bytes in at most 2^31 reads: what [`audit_text`](monk_audit::audit_text)
-/// answers to it. Each piece is judged when it comes, and of the text no more is held than that piece and a line.
+/// Audits the text that the reader has, at most 2^31 bytes in at most 2^31 reads: what
+/// [`audit_text`](monk_audit::audit_text) answers to it. Each piece is judged when it comes, and of
+/// the text no more is held than that piece and a line.
 fn audit_all<R: Read>(
     alloc: Global,
     reader: &mut Device<R>,
 ) -> Result<Result<TextVerdict, ReadFault>, StreamFault>
     requires { has_failed reader.old ≡ false }
-    ensures verdict { IfOk result (λ r. IfSome (R.remaining (inner_of reader.old)) (λ input. Gives same r (text_verdict input))) }
+    ensures verdict { IfOk result (λ r. IfSome (R.remaining (inner_of reader.old))
+        (λ input. Gives same r (text_verdict input))) }
     ensures end { OnOk result (IsAtEnd (R.remaining (inner_of reader.new))) }
     ensures file { IsErrOf result StreamFault.File → IsYoung reader.old → (has_failed reader.new ≡ true)
         ⊎ IsPastBound reader.old reader.new }
@@ -87,8 +90,9 @@ fn audit_all<R: Read>(
 ///
 /// # Cost
 ///
-/// One pass over the text, in which each event takes time independent of how long the history is; memory for a piece of the
-/// text, for its longest line and for the queues, so that it doesn't depend on how long the text is.
+/// One pass over the text, in which each event takes time independent of how long the history is;
+/// memory for a piece of the text, for its longest line and for the queues, so that it doesn't
+/// depend on how long the text is.
 pub fn audit_stream<R: Read, W: Write>(
     alloc: Global,
     reader: &mut Device<R>,
@@ -101,8 +105,10 @@ pub fn audit_stream<R: Read, W: Write>(
     ensures answer { IfOk result
         (Answers answer_of (R.remaining (inner_of reader.old)) (W.contents (inner_of writer.old))
         (W.contents (inner_of writer.new))) }
-    ensures legal { IfOk result (λ status. IfSome (R.remaining (inner_of reader.old)) (λ input. (status ≡ 0) ↔ IsLegalText input)) }
-    ensures forbidden { IfOk result (λ status. IfSome (R.remaining (inner_of reader.old)) (λ input. (status ≡ 1) ↔ IsForbiddenText input)) }
+    ensures legal { IfOk result (λ status. IfSome (R.remaining (inner_of reader.old))
+        (λ input. (status ≡ 0) ↔ IsLegalText input)) }
+    ensures forbidden { IfOk result
+        (λ status. IfSome (R.remaining (inner_of reader.old)) (λ input. (status ≡ 1) ↔ IsForbiddenText input)) }
     ensures statuses { IfOk result (λ status. status ≤ 2) }
     ensures all_read { OnOk result (IsAtEnd (R.remaining (inner_of reader.new))) }
 

@@ -28,7 +28,8 @@ pub fn classify_stream<W: Write>(
     requires { has_failed writer.old ≡ false }
     ensures zero { IfOk result (λ status. status ≡ 0) }
     ensures lines { IfOk result
-        (λ status. (o : Ordering13) × (IsOrdered o e w s × Writes W.contents writer.old writer.new (ordering_lines o))) }
+        (λ status. (o : Ordering13)
+        × (IsOrdered o e w s × Writes W.contents writer.old writer.new (ordering_lines o))) }
     ensures file { OnErr result ((result ≡ Err StreamFault.File) × (has_failed writer.new ≡ true)) }
 {
     match put_ordering(classify(e, w, s), writer) {

@@ -56,7 +56,8 @@ pub(crate) fn misfit_line(
 fn put_misfit<W: Write>(line: &[u8], writer: &mut Device<W>) -> Result<u8, StreamFault>
     requires { has_failed writer.old ≡ false }
     ensures told { IfOk result
-        (λ status. (status ≡ 1) × Appends (W.contents (inner_of writer.old)) (W.contents (inner_of writer.new)) line.now) }
+        (λ status. (status ≡ 1)
+        × Appends (W.contents (inner_of writer.old)) (W.contents (inner_of writer.new)) line.now) }
     ensures fails { OnErr result ((result ≡ Err StreamFault.File) × (has_failed writer.new ≡ true)) }
 {
     match writer.write_all(line) {
@@ -76,7 +77,8 @@ fn put_history<W: Write>(
     ensures zero { IfOk result (λ status. status ≡ 0) }
     ensures has_text { IfOk result (λ status. HasText header.now events.now) }
     ensures told { IfOk result
-        (λ status. Appends (W.contents (inner_of writer.old)) (W.contents (inner_of writer.new)) (text header.now events.now)) }
+        (λ status. Appends (W.contents (inner_of writer.old)) (W.contents (inner_of writer.new))
+        (text header.now events.now)) }
     ensures fails { OnErr result ((result ≡ Err StreamFault.File) × (has_failed writer.new ≡ true)) }
 {
     match write(header, events, writer) {
@@ -131,17 +133,18 @@ fn complete_text<W: Write>(
     }
 }
 
-/// Reads all of the reader, the text of a log, and writes the text of a history of a monitor of the kind that tells the log,
-/// with status 0: what a recorder would write down of it is the log. The history is legal, and its queues are in order of arrival.
-/// It is that of [`complete`], which says what it makes of the release with which a log ends; its text is in version 2,
-/// or in version 3 where the log's object is flags.
+/// Reads all of the reader, the text of a log, and writes the text of a history of a monitor of the
+/// kind that tells the log, with status 0: what a recorder would write down of it is the log. The
+/// history is legal, and its queues are in order of arrival. It is that of [`complete`], which says
+/// what it makes of the release with which a log ends; its text is in version 2, or in version 3
+/// where the log's object is flags.
 ///
-/// Where no such history begins with the log, the line `KIND misfit STEP NUMBER WORD` is written with status 1: the first
-/// line of the log with which none does, counted from 1 behind the log's first line, and the number and the word of what is
-/// to blame ([`Blame`]).
+/// Where no such history begins with the log, the line `KIND misfit STEP NUMBER WORD` is written
+/// with status 1: the first line of the log with which none does, counted from 1 behind the log's
+/// first line, and the number and the word of what is to blame ([`Blame`]).
 ///
-/// Where the reader has no text of a log, the line `unreadable LINE NUMBER WORD` is written with status 2, and where the
-/// size is above the object's greatest, `object` with status 2.
+/// Where the reader has no text of a log, the line `unreadable LINE NUMBER WORD` is written with
+/// status 2, and where the size is above the object's greatest, `object` with status 2.
 ///
 /// # Errors
 ///
@@ -150,8 +153,9 @@ fn complete_text<W: Write>(
 ///
 /// # Cost
 ///
-/// One pass over the text, one over its lines, in which a line takes as long as an event or two of an audit, and one over
-/// the events. Memory for the text, for its lines, for the events and for the queues.
+/// One pass over the text, one over its lines, in which a line takes as long as an event or two of
+/// an audit, and one over the events. Memory for the text, for its lines, for the events and for
+/// the queues.
 pub fn complete_stream<R: Read, W: Write>(
     alloc: Global,
     kind: KindName,
@@ -161,19 +165,23 @@ pub fn complete_stream<R: Read, W: Write>(
     requires reader_works { has_failed reader.old ≡ false }
     requires writer_works { has_failed writer.old ≡ false }
 
-    // What is written, and its status, are the answer to what the reader had: to a log that is open, the text of a history that
-    // is legal under a monitor of the kind and whose erasure is the log.
+    // What is written, and its status, are the answer to what the reader had: to a log that is
+    // open, the text of a history that is legal under a monitor of the kind and whose erasure is
+    // the log.
     ensures answer { IfOk result
         (λ status. IfSome (R.remaining (inner_of reader.old))
-        (λ input. IsAnswerToLog kind input status (Appends (W.contents (inner_of writer.old)) (W.contents (inner_of writer.new))))) }
+        (λ input. IsAnswerToLog kind input status
+        (Appends (W.contents (inner_of writer.old)) (W.contents (inner_of writer.new))))) }
     // The status is 0 exactly for the text of a log with which some legal history begins.
-    ensures open { IfOk result (λ status. IfSome (R.remaining (inner_of reader.old)) (λ input. (status ≡ 0) ↔ IsOpenText kind input)) }
+    ensures open { IfOk result (λ status. IfSome (R.remaining (inner_of reader.old))
+        (λ input. (status ≡ 0) ↔ IsOpenText kind input)) }
     // The status is 1 exactly for the text of a log that has a first line with which none does.
     ensures misfit { IfOk result
         (λ status. IfSome (R.remaining (inner_of reader.old)) (λ input. (status ≡ 1) ↔ IsMisfitText kind input)) }
     // What is written with status 0, an audit finds legal.
     ensures found_legal { IfOk result
-        (λ status. status ≡ 0 → IsFoundLegal (Appends (W.contents (inner_of writer.old)) (W.contents (inner_of writer.new)))) }
+        (λ status. status ≡ 0
+        → IsFoundLegal (Appends (W.contents (inner_of writer.old)) (W.contents (inner_of writer.new)))) }
     ensures statuses { IfOk result (λ status. status ≤ 2) }
     ensures all_read { OnOk result (IsAtEnd (R.remaining (inner_of reader.new))) }
 

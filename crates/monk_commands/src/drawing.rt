@@ -118,7 +118,8 @@ fn draw_text<W: Write>(
 ) -> Result<u8, StreamFault>
     requires { has_failed writer.old ≡ false }
     ensures answer { IfOk result
-        (λ status. IsDrawingOf bytes.now status (Appends (W.contents (inner_of writer.old)) (W.contents (inner_of writer.new)))) }
+        (λ status. IsDrawingOf bytes.now status
+        (Appends (W.contents (inner_of writer.old)) (W.contents (inner_of writer.new)))) }
     ensures file { IsErrOf result StreamFault.File → has_failed writer.new ≡ true }
     ensures memory { IsErrOf result StreamFault.Memory → writer.new ≡ writer.old }
 {
@@ -128,13 +129,14 @@ fn draw_text<W: Write>(
     }
 }
 
-/// Reads all of the reader, and writes a picture of its history, an SVG text that stands alone: a lane for each seat and a
-/// column for each event, where each seat was, and who went on by a release. The first forbidden event is framed, with
-/// its reason, and what comes behind it is not shown. Of a longer history the last 200 events up to it are shown, or up to
-/// the end. The status is that of an audit: 0 where the history is legal, else 1.
+/// Reads all of the reader, and writes a picture of its history, an SVG text that stands alone: a
+/// lane for each seat and a column for each event, where each seat was, and who went on by a
+/// release. The first forbidden event is framed, with its reason, and what comes behind it is not
+/// shown. Of a longer history the last 200 events up to it are shown, or up to the end. The status
+/// is that of an audit: 0 where the history is legal, else 1.
 ///
-/// Where the reader has no text of a history, the line `unreadable LINE NUMBER WORD` is written with status 2, and where the
-/// size is above the object's greatest, `object` with status 2.
+/// Where the reader has no text of a history, the line `unreadable LINE NUMBER WORD` is written
+/// with status 2, and where the size is above the object's greatest, `object` with status 2.
 ///
 /// # Errors
 ///
@@ -155,7 +157,8 @@ pub fn draw_stream<R: Read, W: Write>(
     // What is written, and its status, are the answer to what the reader had: of a history its picture, byte for byte.
     ensures answer { IfOk result
         (λ status. IfSome (R.remaining (inner_of reader.old))
-        (λ input. IsDrawingOf input status (Appends (W.contents (inner_of writer.old)) (W.contents (inner_of writer.new))))) }
+        (λ input. IsDrawingOf input status
+        (Appends (W.contents (inner_of writer.old)) (W.contents (inner_of writer.new))))) }
     // The status is that of an audit.
     ensures status { IfOk result
         (λ status. IfSome (R.remaining (inner_of reader.old)) (λ input. status ≡ (answer_of input).status)) }

@@ -58,10 +58,11 @@ fn answer_to_text(alloc: Global, bytes: &[u8]) -> Result<Answer, StreamFault>
     }
 }
 
-/// Reads all of the reader, and writes the line and ends with the status of an audit of it. Of a legal history it goes on with the
-/// situation in which the history ends: the kind, the turn, who is inside, the data, the acts that the object refused and the
-/// queues. Of a forbidden one it goes on with the event that is not allowed, the situation before it, the object's own reply or
-/// what might have been chosen, and a sentence that says why. docs/TEXT.md has the lines.
+/// Reads all of the reader, and writes the line and ends with the status of an audit of it. Of a
+/// legal history it goes on with the situation in which the history ends: the kind, the turn, who
+/// is inside, the data, the acts that the object refused and the queues. Of a forbidden one it goes
+/// on with the event that is not allowed, the situation before it, the object's own reply or what
+/// might have been chosen, and a sentence that says why. docs/TEXT.md has the lines.
 ///
 /// # Errors
 ///
@@ -82,12 +83,16 @@ pub fn explain_stream<R: Read, W: Write>(
     // What is written, and its status, are the explanation of what the reader had.
     ensures answer { IfOk result
         (λ status. IfSome (R.remaining (inner_of reader.old))
-        (λ input. IsExplanationOf input status (Appends (W.contents (inner_of writer.old)) (W.contents (inner_of writer.new))))) }
+        (λ input. IsExplanationOf input status
+        (Appends (W.contents (inner_of writer.old)) (W.contents (inner_of writer.new))))) }
     // The line of an audit comes first, and the status is that of an audit.
     ensures audit { IfOk result
-        (BeginsAsAudit (R.remaining (inner_of reader.old)) (W.contents (inner_of writer.old)) (W.contents (inner_of writer.new))) }
-    ensures legal { IfOk result (λ status. IfSome (R.remaining (inner_of reader.old)) (λ input. (status ≡ 0) ↔ IsLegalText input)) }
-    ensures forbidden { IfOk result (λ status. IfSome (R.remaining (inner_of reader.old)) (λ input. (status ≡ 1) ↔ IsForbiddenText input)) }
+        (BeginsAsAudit (R.remaining (inner_of reader.old)) (W.contents (inner_of writer.old))
+        (W.contents (inner_of writer.new))) }
+    ensures legal { IfOk result (λ status. IfSome (R.remaining (inner_of reader.old))
+        (λ input. (status ≡ 0) ↔ IsLegalText input)) }
+    ensures forbidden { IfOk result
+        (λ status. IfSome (R.remaining (inner_of reader.old)) (λ input. (status ≡ 1) ↔ IsForbiddenText input)) }
     ensures statuses { IfOk result (λ status. status ≤ 2) }
     ensures all_read { OnOk result (IsAtEnd (R.remaining (inner_of reader.new))) }
 

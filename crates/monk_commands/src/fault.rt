@@ -10,8 +10,8 @@ pub enum StreamFault {
     /// A growth was refused: number 1.
     #[error("memory")]
     Memory,
-    /// The reader or the writer failed, or the input was longer than a stream reads; of a run, also where a thread was not
-    /// started: number 2.
+    /// The reader or the writer failed, or the input was longer than a stream reads; of a run, also
+    /// where a thread was not started: number 2.
     #[error("file")]
     File,
 }

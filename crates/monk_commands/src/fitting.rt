@@ -105,7 +105,8 @@ fn fit<W: Write>(
     requires few { length events.now ≤ 2 ^ 25 }
     ensures answer { IfOk result
         (λ status. (status ≡ (fit_answer header.now events.now).status)
-        × Appends (W.contents (inner_of writer.old)) (W.contents (inner_of writer.new)) (fit_answer header.now events.now).text) }
+        × Appends (W.contents (inner_of writer.old)) (W.contents (inner_of writer.new))
+        (fit_answer header.now events.now).text) }
     ensures file { IsErrOf result StreamFault.File → has_failed writer.new ≡ true }
     ensures memory { IsErrOf result StreamFault.Memory → writer.new ≡ writer.old }
 {
@@ -156,7 +157,8 @@ fn fit_text<W: Write>(
     requires { has_failed writer.old ≡ false }
     ensures answer { IfOk result
         (λ status. (status ≡ (fit_answer_of lapses means.now bytes.now).status)
-        × Appends (W.contents (inner_of writer.old)) (W.contents (inner_of writer.new)) (fit_answer_of lapses means.now bytes.now).text) }
+        × Appends (W.contents (inner_of writer.old)) (W.contents (inner_of writer.new))
+        (fit_answer_of lapses means.now bytes.now).text) }
     ensures file { IsErrOf result StreamFault.File → has_failed writer.new ≡ true }
     ensures memory { IsErrOf result StreamFault.Memory → writer.new ≡ writer.old }
 {
@@ -167,15 +169,18 @@ fn fit_text<W: Write>(
     }
 }
 
-/// Reads all of the reader, judges the events of a history under each of the ten kinds in turn, whatever kind the header names, and
-/// writes ten lines, in the order of [`KindName::ALL`]: `KIND legal N` or `KIND forbidden STEP REASON WORD`, where the rest is what
-/// an audit says under that kind. The status is 0 where they are legal under one kind at least, else 1.
+/// Reads all of the reader, judges the events of a history under each of the ten kinds in turn,
+/// whatever kind the header names, and writes ten lines, in the order of [`KindName::ALL`]: `KIND
+/// legal N` or `KIND forbidden STEP REASON WORD`, where the rest is what an audit says under that
+/// kind. The status is 0 where they are legal under one kind at least, else 1.
 ///
-/// Of a log, whose first word is `log`, it writes `KIND fits ORDER`, with the strictest order in which the log could be of that kind
-/// ([`fit`](monk_logs::fit)), or `KIND misfit STEP NUMBER WORD`, the line that is the first that can't be of that kind in any order,
-/// and what is to blame. Behind these stand two lines of counts, of the log as one of NPNB in any order ([`Counts`](monk_logs::Counts)):
-/// `served N passed N lapsed N` and `left waiting N woken N inside N`; and, where `means` tells what is waited for, `missed STEP` or
-/// `missed none`. The status is 0 where it fits one kind at least, else 1. `lapses` and `means` are for logs alone.
+/// Of a log, whose first word is `log`, it writes `KIND fits ORDER`, with the strictest order in
+/// which the log could be of that kind ([`fit`](monk_logs::fit)), or `KIND misfit STEP NUMBER
+/// WORD`, the line that is the first that can't be of that kind in any order, and what is to blame.
+/// Behind these stand two lines of counts, of the log as one of NPNB in any order
+/// ([`Counts`](monk_logs::Counts)): `served N passed N lapsed N` and `left waiting N woken N inside
+/// N`; and, where `means` tells what is waited for, `missed STEP` or `missed none`. The status is 0
+/// where it fits one kind at least, else 1. `lapses` and `means` are for logs alone.
 ///
 /// Where the reader has no such text, the line `unreadable LINE NUMBER WORD` is written with status 2, and where the
 /// size is above the object's greatest, `object` with status 2.
@@ -187,9 +192,10 @@ fn fit_text<W: Write>(
 ///
 /// # Cost
 ///
-/// One pass over the text and ten over the events, with memory for the text, the events and the queues. Of a log one pass over the
-/// text that looks for its first fault, up to three for each kind, each up to the first misfit there, and one that counts; memory for
-/// the text and the queues alone.
+/// One pass over the text and ten over the events, with memory for the text, the events and the
+/// queues. Of a log one pass over the text that looks for its first fault, up to three for each
+/// kind, each up to the first misfit there, and one that counts; memory for the text and the queues
+/// alone.
 pub fn fit_stream<R: Read, W: Write>(
     alloc: Global,
     lapses: Lapses,
@@ -204,10 +210,11 @@ pub fn fit_stream<R: Read, W: Write>(
     ensures answer { IfOk result
         (Answers (fit_answer_of lapses means.now) (R.remaining (inner_of reader.old)) (W.contents (inner_of writer.old))
         (W.contents (inner_of writer.new))) }
-    // The status is 0 exactly for the text of a history that is legal under one of the kinds, or of a log that is open under one in
-    // some order.
+    // The status is 0 exactly for the text of a history that is legal under one of the kinds, or of
+    // a log that is open under one in some order.
     ensures fits { IfOk result
-        (λ status. IfSome (R.remaining (inner_of reader.old)) (λ input. (status ≡ 0) ↔ (IsFitText input ⊎ IsFitLogText lapses input))) }
+        (λ status. IfSome (R.remaining (inner_of reader.old))
+        (λ input. (status ≡ 0) ↔ (IsFitText input ⊎ IsFitLogText lapses input))) }
     ensures statuses { IfOk result (λ status. status ≤ 2) }
     ensures all_read { OnOk result (IsAtEnd (R.remaining (inner_of reader.new))) }
 

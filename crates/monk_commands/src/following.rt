@@ -50,7 +50,8 @@ pub(crate) fn step_followed<K: Kind, T: Guarded>(
     seat: u8,
     command: Command,
 ) -> Result<Answer, AllocError>
-    requires behind { IsBehind (monitor_of K.rules T.meaning (state_of_view world.old).floor) replay.old (T.state object.old)
+    requires behind { IsBehind (monitor_of K.rules T.meaning (state_of_view world.old).floor) replay.old
+        (T.state object.old)
         (state_of_view world.old).floor.history }
     requires sound { IsReplayOf (state_of_view world.old).floor.seats conds T.PREDICATES replay.old }
     requires conds { conds ≡ (state_of_view world.old).floor.conds }

@@ -43,12 +43,13 @@ pub enum Hint {
     NoHeader(TextName),
 }
 
-/// The hint for an input that the task can't read, by the front of the input; `None` where the front has nothing of what a
-/// hint tells.
+/// The hint for an input that the task can't read, by the front of the input; `None` where the
+/// front has nothing of what a hint tells.
 ///
-/// The first of these that the front has decides: no bytes, a byte-order mark, a control character, a carriage return, a
-/// header of another text, a header whose kind, object or size there isn't (in this order), a line that begins with `#`, a
-/// line of no bytes, a first line of none of the three texts.
+/// The first of these that the front has decides: no bytes, a byte-order mark, a control character,
+/// a carriage return, a header of another text, a header whose kind, object or size there isn't (in
+/// this order), a line that begins with `#`, a line of no bytes, a first line of none of the three
+/// texts.
 ///
 /// # Cost
 ///

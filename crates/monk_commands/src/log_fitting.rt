@@ -229,7 +229,8 @@ pub(crate) fn fit_log_text<W: Write>(
     requires { has_failed writer.old ≡ false }
     ensures answer { IfOk result
         (λ status. (status ≡ (log_fit_of lapses means.now bytes.now).status)
-        × Appends (W.contents (inner_of writer.old)) (W.contents (inner_of writer.new)) (log_fit_of lapses means.now bytes.now).text) }
+        × Appends (W.contents (inner_of writer.old)) (W.contents (inner_of writer.new))
+        (log_fit_of lapses means.now bytes.now).text) }
     ensures file { IsErrOf result StreamFault.File → has_failed writer.new ≡ true }
     ensures memory { IsErrOf result StreamFault.Memory → writer.new ≡ writer.old }
 {

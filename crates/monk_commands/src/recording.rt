@@ -63,13 +63,13 @@ fn recorded<R: Threads + Wait + Sync, W: Write>(
 /// Runs the sample under the kind, with 2 to 16 seats at work for 1 to 1000 rounds each in threads of their own, and
 /// writes the text of the history that they left, in version 1, with status 0. An audit finds it legal.
 ///
-/// Where [`run`](monk_samples::run) ends as `Tired`, `Late` or `Busy`, the line `tired`, `late` or `busy` is written alone,
-/// with status 1.
+/// Where [`run`](monk_samples::run) ends as `Tired`, `Late` or `Busy`, the line `tired`, `late` or
+/// `busy` is written alone, with status 1.
 ///
 /// # Errors
 ///
-/// [`StreamFault::File`] where a thread was not started, or the writer failed. [`StreamFault::Memory`] where a growth was
-/// refused. The writer has changed only where it failed.
+/// [`StreamFault::File`] where a thread was not started, or the writer failed.
+/// [`StreamFault::Memory`] where a growth was refused. The writer has changed only where it failed.
 ///
 /// # Cost
 ///
@@ -92,7 +92,8 @@ pub fn record_stream<R: Threads + Wait + Sync, W: Write>(
         (Appends (W.contents (inner_of writer.old)) (W.contents (inner_of writer.new)))) }
     // What is written with status 0, an audit finds legal.
     ensures found_legal { IfOk result
-        (λ status. status ≡ 0 → IsFoundLegal (Appends (W.contents (inner_of writer.old)) (W.contents (inner_of writer.new)))) }
+        (λ status. status ≡ 0
+        → IsFoundLegal (Appends (W.contents (inner_of writer.old)) (W.contents (inner_of writer.new)))) }
     ensures file { IsErrOf result StreamFault.File → (has_failed writer.new ≡ true) ⊎ (writer.new ≡ writer.old) }
     ensures memory { IsErrOf result StreamFault.Memory → writer.new ≡ writer.old }
 {

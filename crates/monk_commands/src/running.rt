@@ -143,14 +143,15 @@ pub(crate) fn ended(alloc: Global, fault: RunFault) -> Result<Answer, StreamFaul
 /// writes its totals with status 0, once its history was audited and found legal.
 ///
 /// Of a buffer the totals are the lines `put N SUM` and `taken N SUM`, of a book `reads BEGUN ENDED` and
-/// `writes BEGUN ENDED`, of a shop `sat N`, `called N`, `finished N` and `departed N`, and of a hasty buffer those of a buffer
-/// and `missed N`, how many acts were refused; the line `legal` ends them. Where
-/// [`run`] ends as `Tired`, `Late` or `Busy`, the line `tired`, `late` or `busy` is written with status 1.
+/// `writes BEGUN ENDED`, of a shop `sat N`, `called N`, `finished N` and `departed N`, and of a
+/// hasty buffer those of a buffer and `missed N`, how many acts were refused; the line `legal` ends
+/// them. Where [`run`] ends as `Tired`, `Late` or `Busy`, the line `tired`, `late` or `busy` is
+/// written with status 1.
 ///
 /// # Errors
 ///
-/// [`StreamFault::File`] where a thread was not started, or the writer failed. [`StreamFault::Memory`] where a growth was
-/// refused. The writer has changed only where it failed.
+/// [`StreamFault::File`] where a thread was not started, or the writer failed.
+/// [`StreamFault::Memory`] where a growth was refused. The writer has changed only where it failed.
 ///
 /// # Cost
 ///

@@ -28,7 +28,8 @@ pub enum Task<'a> {
     Play,
     /// The same history in a version that has every event, by [`upgrade_stream`].
     Upgrade,
-    /// The verdicts on a history or a log under each of the ten kinds, by [`fit_stream`]: of a log with what it says of waits.
+    /// The verdicts on a history or a log under each of the ten kinds, by [`fit_stream`]: of a log
+    /// with what it says of waits.
     Fit(Lapses, &'a [WaitsFor]),
     /// Each command of a play with its answer, by [`trace_stream`].
     Trace,
@@ -45,8 +46,9 @@ impl Task<'_> {
     ///
     /// # Errors
     ///
-    /// [`StreamFault::File`] where the reader or the writer failed, or where the input has more than 2^31 bytes or takes
-    /// more than 2^31 reads. [`StreamFault::Memory`] where a growth was refused.
+    /// [`StreamFault::File`] where the reader or the writer failed, or where the input has more
+    /// than 2^31 bytes or takes more than 2^31 reads. [`StreamFault::Memory`] where a growth was
+    /// refused.
     ///
     /// # Cost
     ///
@@ -71,7 +73,8 @@ impl Task<'_> {
         ensures file { IsErrOf result StreamFault.File → IsYoung reader.old → (has_failed reader.new ≡ true)
             ⊎ (has_failed writer.new ≡ true) ⊎ IsPastBound reader.old reader.new }
         // Where memory is told for, no call has failed, and nothing was written.
-        ensures memory { IsErrOf result StreamFault.Memory → (has_failed reader.new ≡ false) × (writer.new ≡ writer.old) }
+        ensures memory { IsErrOf result StreamFault.Memory
+            → (has_failed reader.new ≡ false) × (writer.new ≡ writer.old) }
         ensures reads { reads_of reader.new ≤ reads_of reader.old + 2 ^ 31 }
     {
         match self {

@@ -146,7 +146,8 @@ fn put_line<K: Kind, T: Listed>(
     page.push_str("\n")
 }
 
-/// Carries out the commands in order, and gives the lines of all of them. The replay follows the world, over an object of its own.
+/// Carries out the commands in order, and gives the lines of all of them. The replay follows the
+/// world, over an object of its own.
 fn lines_of<K: Kind, T: Listed>(
     alloc: Global,
     world: &mut World<K, T>,
@@ -156,12 +157,14 @@ fn lines_of<K: Kind, T: Listed>(
     conds: u8,
     commands: &[(u8, Command)],
 ) -> Result<String, AllocError>
-    requires behind { IsBehind (monitor_of K.rules T.meaning (state_of_view world.old).floor) replay.old (T.state object.old)
+    requires behind { IsBehind (monitor_of K.rules T.meaning (state_of_view world.old).floor) replay.old
+        (T.state object.old)
         (state_of_view world.old).floor.history }
     requires sound { IsReplayOf (state_of_view world.old).floor.seats conds T.PREDICATES replay.old }
     requires conds { conds ≡ (state_of_view world.old).floor.conds }
     ensures { IfOk result
-        (λ page. AreTraced name (monitor_of K.rules T.meaning (state_of_view world.old).floor) 0 (state_of_view world.old)
+        (λ page. AreTraced name (monitor_of K.rules T.meaning (state_of_view world.old).floor) 0
+        (state_of_view world.old)
         commands.now (state_of_view world.new) (string_bytes page)) }
 {
     let mut page = String::new(alloc);
@@ -199,8 +202,8 @@ fn commands_of(alloc: Global, play: PlayLines<'_>) -> Result<Vec<(u8, Command)>,
     Ok(commands)
 }
 
-/// Carries out the commands of the play in order, and writes the lines of all of them. The world hasn't begun, and the object is
-/// one as the world's own is.
+/// Carries out the commands of the play in order, and writes the lines of all of them. The world
+/// hasn't begun, and the object is one as the world's own is.
 pub(crate) fn put_trace<K: Kind, T: Listed, W: Write>(
     alloc: Global,
     world: &mut World<K, T>,
@@ -212,7 +215,8 @@ pub(crate) fn put_trace<K: Kind, T: Listed, W: Write>(
     requires floor { (state_of_view world.old).floor ≡ empty_floor (T.state object) play.0.seats play.0.conds play.1 }
     ensures traced { OnOk result
         ((text : List ℕ)
-        × (AreTraced play.entry.0.object (monitor K.rules play.entry.0.seats play.entry.0.conds T.meaning (T.state object)) 0
+        × (AreTraced play.entry.0.object
+        (monitor K.rules play.entry.0.seats play.entry.0.conds T.meaning (T.state object)) 0
         (state_of_view world.old) play.entry.2 (state_of_view world.new) text
         × Appends (W.contents (inner_of writer.old)) (W.contents (inner_of writer.new)) text)) }
     ensures file { IsErrOf result StreamFault.File → has_failed writer.new ≡ true }
@@ -238,15 +242,17 @@ pub(crate) fn put_trace<K: Kind, T: Listed, W: Write>(
     }
 }
 
-/// Reads all of the reader, plays its commands in order from the start, and writes a line for each of them, with status 0:
+/// Reads all of the reader, plays its commands in order from the start, and writes a line for each
+/// of them, with status 0:
 ///
 /// ```text
 /// 4 | 1 arrive | arrived 1 1 | t=2 n=1 | data: 1 (buffer of 1: empty) | inner condition 0, ticket 1
 /// ```
 ///
-/// its number, the seat and what it is told, its answer, how many tickets are drawn (`t`) and not passed on (`n`) after it, the
-/// data as numbers and in words, and where each seat stands then. The queue of a seat that waits inside stands behind its place,
-/// and `granted` where the grant is there that the seat looks for. So each line shows where the right to be active is. A command
+/// its number, the seat and what it is told, its answer, how many tickets are drawn (`t`) and not
+/// passed on (`n`) after it, the data as numbers and in words, and where each seat stands then. The
+/// queue of a seat that waits inside stands behind its place, and `granted` where the grant is
+/// there that the seat looks for. So each line shows where the right to be active is. A command
 /// that is refused has its line too, and changes nothing.
 ///
 /// Where the reader has no play, the line `unreadable LINE NUMBER WORD` is written with status 2, and where the size is
@@ -259,8 +265,9 @@ pub(crate) fn put_trace<K: Kind, T: Listed, W: Write>(
 ///
 /// # Cost
 ///
-/// That of [`play_stream`](crate::play_stream), and for each command a line with the place of each seat, for which each queue is
-/// looked through; memory for the list of commands, for all lines and for the queues beside that of the play.
+/// That of [`play_stream`](crate::play_stream), and for each command a line with the place of each
+/// seat, for which each queue is looked through; memory for the list of commands, for all lines and
+/// for the queues beside that of the play.
 pub fn trace_stream<R: Read, W: Write>(
     alloc: Global,
     reader: &mut Device<R>,
@@ -272,9 +279,11 @@ pub fn trace_stream<R: Read, W: Write>(
     // What is written, and its status, are the answer to what the reader had.
     ensures answer { IfOk result
         (λ status. IfSome (R.remaining (inner_of reader.old))
-        (λ input. IsAnswerTo Report.Trace input status (Appends (W.contents (inner_of writer.old)) (W.contents (inner_of writer.new))))) }
+        (λ input. IsAnswerTo Report.Trace input status
+        (Appends (W.contents (inner_of writer.old)) (W.contents (inner_of writer.new))))) }
     // The status is 0 exactly for the text of a play.
-    ensures played { IfOk result (λ status. IfSome (R.remaining (inner_of reader.old)) (λ input. (status ≡ 0) ↔ IsPlayText input)) }
+    ensures played { IfOk result (λ status. IfSome (R.remaining (inner_of reader.old))
+        (λ input. (status ≡ 0) ↔ IsPlayText input)) }
     // Of a play the line of each command is written, in order, and nothing else.
     ensures traced { IfOk result
         (λ status. IfSome (R.remaining (inner_of reader.old))

@@ -50,8 +50,8 @@ fn upgrade_text<W: Write>(
 ///
 /// # Cost
 ///
-/// Two passes over the text: one that looks for its first fault, and one that writes each event as it is read. Memory for
-/// the text alone.
+/// Two passes over the text: one that looks for its first fault, and one that writes each event as
+/// it is read. Memory for the text alone.
 pub fn upgrade_stream<R: Read, W: Write>(
     alloc: Global,
     reader: &mut Device<R>,
@@ -65,15 +65,18 @@ pub fn upgrade_stream<R: Read, W: Write>(
         (Answers upgrade_of (R.remaining (inner_of reader.old)) (W.contents (inner_of writer.old))
         (W.contents (inner_of writer.new))) }
     // The status is 0 exactly for the text of a history.
-    ensures histories { IfOk result (λ status. IfSome (R.remaining (inner_of reader.old)) (λ input. (status ≡ 0) ↔ IsHistoryText input)) }
+    ensures histories { IfOk result
+        (λ status. IfSome (R.remaining (inner_of reader.old)) (λ input. (status ≡ 0) ↔ IsHistoryText input)) }
     // To a history, the text of the upgraded header and of the events read is written.
     ensures upgraded { IfOk result
         (λ status. IfSome (R.remaining (inner_of reader.old))
         (λ input. (h : Heading) (events : List Event) → IsHistoryOf input h events
-        → Appends (W.contents (inner_of writer.old)) (W.contents (inner_of writer.new)) (text (upgraded_heading h) events))) }
+        → Appends (W.contents (inner_of writer.old)) (W.contents (inner_of writer.new))
+        (text (upgraded_heading h) events))) }
     // What is written to a history is answered by itself.
     ensures again { IfOk result
-        (λ status. status ≡ 0 → IsUpgraded (Appends (W.contents (inner_of writer.old)) (W.contents (inner_of writer.new)))) }
+        (λ status. status ≡ 0
+        → IsUpgraded (Appends (W.contents (inner_of writer.old)) (W.contents (inner_of writer.new)))) }
     ensures statuses { IfOk result (λ status. (status ≡ 0) ⊎ (status ≡ 2)) }
     ensures all_read { OnOk result (IsAtEnd (R.remaining (inner_of reader.new))) }
 

@@ -235,8 +235,8 @@ fn sample_of(name: &str) -> Option<Sample>
     }
 }
 
-/// The kind, the sample, the seats and the rounds that are asked for. clap has tested the ranges, and has no contract that
-/// says so of a subcommand's numbers, so they are tested once more.
+/// The kind, the sample, the seats and the rounds that are asked for. clap has tested the ranges,
+/// and has no contract that says so of a subcommand's numbers, so they are tested once more.
 fn run_of(matches: &ArgMatches<'_>) -> Option<(KindName, Sample, u8, u32)>
     ensures values { IfSome result (λ r. AreRunValues r.0 r.1 r.2 r.3 (rows_of (found_of matches.now))) }
     ensures in_range { IfSome result (λ r. IsInRange r.2 r.3) }
@@ -383,16 +383,17 @@ fn asked(alloc: Global, matches: &ArgMatches<'_>) -> Result<Option<Line>, LineFa
 
 /// Reads the words, the program's own name first.
 ///
-/// The line is for the command that clap finds in the words, with the values that clap finds there: a file, a kind, or a kind
-/// and a sample, and whole numbers: of `classify` from 0 to 255, of `run` and `record` from 2 to 16 and from 1 to 1000.
+/// The line is for the command that clap finds in the words, with the values that clap finds there:
+/// a file, a kind, or a kind and a sample, and whole numbers: of `classify` from 0 to 255, of `run`
+/// and `record` from 2 to 16 and from 1 to 1000.
 ///
 /// # Errors
 ///
-/// [`LineFault::Words`] with clap's own text where the words are no command of the program, and where they ask for help or for the
-/// version.
-/// [`LineFault::Memory`] where a growth was refused.
+/// [`LineFault::Words`] with clap's own text where the words are no command of the program, and
+/// where they ask for help or for the version. [`LineFault::Memory`] where a growth was refused.
 pub fn line(alloc: Global, words: &[&str]) -> Result<Line, LineFault>
-    ensures { IfOk result (λ l. (a : App) × (IsMonk a × IsAsked l (subcommand_of a (map (λ w. w.now) words.entry.now)))) }
+    ensures { IfOk result (λ l. (a : App)
+        × (IsMonk a × IsAsked l (subcommand_of a (map (λ w. w.now) words.entry.now)))) }
 {
     let matches = match command(alloc)?.try_get_matches_from(words) {
         Ok(matches) => matches,

@@ -39,7 +39,8 @@ last_same stays others end (suc n) stay =
 
 -- how a seat stays after one event more
 pub stay_more : (past es : List Event) (column s : ℕ)
-    → moved (stay_at past es column s) (place_at past es (suc column) s) (column_at column) ≡ stay_at past es (suc column) s
+    → moved (stay_at past es column s) (place_at past es (suc column) s) (column_at column)
+    ≡ stay_at past es (suc column) s
 unfolding start
 stay_more past es column s = refl
 
@@ -118,9 +119,11 @@ pub column_more : (seats : ℕ) (past es : List Event) (column : ℕ) (e : Event
 unfolding ended_before
 column_more seats past es column e here at is =
     append_assoc (ended_before seats past es column) (entry_stretches seats (column_at column) (handed_by e)) here
-    ∙ (ap (λ (l : List Stretch). ended_before seats past es column ++ (entry_stretches seats (column_at column) (handed_by e) ++ l))
+    ∙ (ap (λ (l : List Stretch). ended_before seats past es column
+    ++ (entry_stretches seats (column_at column) (handed_by e) ++ l))
     is
-    ∙ (ap (λ (o : Option Event). ended_before seats past es column ++ (entry_stretches seats (column_at column) (handed o)
+    ∙ (ap (λ (o : Option Event). ended_before seats past es column
+    ++ (entry_stretches seats (column_at column) (handed o)
     ++ ended_below (stay_at past es column) (place_at past es (suc column)) (column_at column) seats)) (sym at)
     ∙ ap (λ n. ended_before seats past es n) (sym (add-one column))))
 
@@ -138,7 +141,8 @@ event_at (e ∷ es) (suc i) d below = event_at es i d (omega (arith, below))
 -- ---- one event more, by what is kept
 
 pub after_event : (past es : List Event) (column : ℕ) (d : Event) (seats : Seats) → column < length es
-    → AreAfter ((past ++ take column es) ++ get_or es column d ∷ []) seats → AreAfter (past ++ take (column + 1) es) seats
+    → AreAfter ((past ++ take column es) ++ get_or es column d ∷ []) seats
+    → AreAfter (past ++ take (column + 1) es) seats
 after_event past es column d seats below are =
     subst (λ (h : List Event). AreAfter h seats)
     (one_more past es column d below ∙ ap (λ n. past ++ take n es) (sym (add-one column))) are
@@ -159,9 +163,11 @@ pub drawn_more : (seats : ℕ) (past es : List Event) (column : ℕ) (d : Event)
 drawn_more seats past es column d stays now x below at are stay =
     ap (λ n. (ended_before seats past es column ++ entry_stretches seats n (handed_by (get_or es column d)))
     ++ ended_below (stay_in stays) (place_in now) n seats) at
-    ∙ column_more seats past es column (get_or es column d) (ended_below (stay_in stays) (place_in now) (column_at column) seats)
+    ∙ column_more seats past es column (get_or es column d)
+    (ended_below (stay_in stays) (place_in now) (column_at column) seats)
     (event_at es column d below)
-    (ended_same (stay_in stays) (stay_at past es column) (place_in now) (place_at past es (suc column)) (column_at column) seats
+    (ended_same (stay_in stays) (stay_at past es column) (place_in now) (place_at past es (suc column))
+    (column_at column) seats
     stay (λ s. stands_at past es column now s are))
 
 -- and how the seats stay then
@@ -184,5 +190,6 @@ all_drawn seats past es column end stays at stay =
     ∙ ap (λ n. ended_before seats past es n ++ last_below (stay_at past es n) end seats) at
 
 -- a seat that comes to the same place ends no stretch
-pub none_ended : (s : ℕ) (stay : Stay) (place : Place) (x : ℕ) → same_place stay.place place ≡ true → [] ≡ ended s stay place x
+pub none_ended : (s : ℕ) (stay : Stay) (place : Place) (x : ℕ) → same_place stay.place place ≡ true
+    → [] ≡ ended s stay place x
 none_ended s stay place x same = ap (λ b. if b then [] else stretch_to s stay x ∷ []) (sym same)

@@ -14,9 +14,11 @@ unfolding hands_below
 hands_more old here new seats allowed es column e after so_far e_is after_is put =
     put ∙ (ap (λ (text : List ℕ). text ++ hand_behind seats allowed column e after) so_far
     ∙ (append_assoc old (hands_below seats allowed es column) (hand_behind seats allowed column e after)
-    ∙ (ap (λ (x : Option Event). old ++ (hands_below seats allowed es column ++ hand_behind seats allowed column x after)) e_is
+    ∙ (ap (λ (x : Option Event). old
+    ++ (hands_below seats allowed es column ++ hand_behind seats allowed column x after)) e_is
     ∙ (ap
-    (λ (x : Option Event). old ++ (hands_below seats allowed es column ++ hand_behind seats allowed column (slice_get es column) x))
+    (λ (x : Option Event). old
+    ++ (hands_below seats allowed es column ++ hand_behind seats allowed column (slice_get es column) x))
     after_is
     ∙ ap (λ n. old ++ hands_below seats allowed es n) (sym (add-one column))))))
 
@@ -29,6 +31,7 @@ noted_more l here new allowed es column e after so_far e_is after_is put =
     put ∙ (ap (λ (x : Legend). hand_noted_behind x allowed column e after) so_far
     ∙ (ap (λ (x : Option Event). hand_noted_behind (hands_noted_below l allowed es column) allowed column x after) e_is
     ∙ (ap
-    (λ (x : Option Event). hand_noted_behind (hands_noted_below l allowed es column) allowed column (slice_get es column) x)
+    (λ (x : Option Event). hand_noted_behind (hands_noted_below l allowed es column) allowed column
+    (slice_get es column) x)
     after_is
     ∙ ap (λ n. hands_noted_below l allowed es n) (sym (add-one column)))))

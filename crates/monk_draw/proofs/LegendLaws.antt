@@ -18,7 +18,8 @@ next_entry page more l top at p ps put =
     ∙ append_assoc page (place_entry l top at p) (entries l top (entries_then l at p) ps)
 
 one_dropped : (ps : List Place) (i : ℕ) → i < length ps → get_or ps i Outside ∷ drop (i + 1) ps ≡ drop i ps
-one_dropped ps i below = sym (drop-cons ps i Outside below ∙ ap (λ n. get_or ps i Outside ∷ drop n ps) (sym (add-one i)))
+one_dropped ps i below =
+    sym (drop-cons ps i Outside below ∙ ap (λ n. get_or ps i Outside ∷ drop n ps) (sym (add-one i)))
 
 -- the entries that are left, before one of them is put and behind it
 pub entries_left : (page more : List ℕ) (l : Legend) (top at behind : ℕ) (ps : List Place) (i : ℕ)

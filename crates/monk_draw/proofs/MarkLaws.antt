@@ -51,7 +51,8 @@ marks_by es seats object before allowed last =
     marks (record { seats = seats; object = object; before = before; allowed = allowed }) 0 (slice_range es before last)
 
 -- they are those of the picture
-pub same_marks : (h : Heading) (es : List Event) (fault : Option ℕ) (seats : ℕ) (object : ObjectName) (before allowed last : ℕ)
+pub same_marks : (h : Heading) (es : List Event) (fault : Option ℕ) (seats : ℕ) (object : ObjectName)
+    (before allowed last : ℕ)
     → seats ≡ h.seats → object ≡ h.object → before ≡ not_shown last
     → allowed ≡ allowed_of fault last (slice_range es before last) → last ≡ shown_last fault (length es)
     → marks_by es seats object before allowed last ≡ all_marks h es fault
@@ -73,5 +74,6 @@ has_marks h es fault seats object before allowed last under marked all of_seats 
   under,
   ended
       ∙ ap (λ (page : List ℕ). page ++ codes "</svg>\n")
-      (put ∙ ap (λ (m : List ℕ). under ++ m) (same_marks h es fault seats object before allowed last of_seats of_object behind fine at)),
+      (put ∙ ap (λ (m : List ℕ). under ++ m)
+      (same_marks h es fault seats object before allowed last of_seats of_object behind fine at)),
 )

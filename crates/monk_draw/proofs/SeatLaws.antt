@@ -51,7 +51,8 @@ after_more h e old new below whole put moved was = record {
       ∙ ap (λ (l : List Event). left_at (last_or None l)) (sym (events_of-push h e s)))));
   queues =
       λ c. moved c
-      ∙ (ap (λ (q : List ℕ). drop (length (served_by c e q)) q ++ waiting_by c e) (was.queues c) ∙ sym (condition-push c h e));
+      ∙ (ap (λ (q : List ℕ). drop (length (served_by c e q)) q ++ waiting_by c e) (was.queues c)
+      ∙ sym (condition-push c h e));
 }
 
 outside_all : (n s : ℕ) → left_in (replicate n Outside) s ≡ Outside

@@ -68,7 +68,8 @@ not_due : (P : Type 0) (e : Event) (t : Turn) (s : ℕ) (q : From3) → (seat_of
 not_due P e t s q other fits due =
     absurd (false≢true (sym other ∙ due_only e s q (ap (λ (w : Turn). fits_turn w e) (sym due) ∙ fits)))
 
-not_owned : (P : Type 0) (e : Event) (t : Turn) (s : ℕ) → (seat_of e == s) ≡ false → fits_turn t e ≡ true → t ≡ Owned s → P
+not_owned : (P : Type 0) (e : Event) (t : Turn) (s : ℕ) → (seat_of e == s) ≡ false → fits_turn t e ≡ true
+    → t ≡ Owned s → P
 not_owned P e t s other fits owned =
     absurd (false≢true (sym other ∙ owner_only e s (ap (λ (w : Turn). fits_turn w e) (sym owned) ∙ fits)))
 
@@ -87,7 +88,8 @@ split_at : (s : ℕ) (served rest queue : List ℕ) → served ++ rest ≡ queue
     → has s served ≡ true
 split_at s [] rest queue is h none = absurd (false≢true (sym none ∙ (ap (has s) is ∙ h)))
 split_at s (x ∷ xs) rest queue is h none =
-    or_cases ((x == s || has s xs) ≡ true) (x == s) (has s (xs ++ rest)) (ap (has s) is ∙ h) (or_left (x == s) (has s xs))
+    or_cases ((x == s || has s xs) ≡ true) (x == s) (has s (xs ++ rest)) (ap (has s) is ∙ h)
+    (or_left (x == s) (has s xs))
     (λ later. or_right (x == s) (has s xs) (split_at s xs rest (xs ++ rest) refl later none))
 
 front_one : (q : List ℕ) → take 1 q ++ drop (length (take 1 q)) q ≡ q
@@ -112,19 +114,22 @@ served_front (event.SignalWait s c d x) q = front_one q
 
 -- a seat that waits on a condition goes on waiting, or is served
 still_or_served : (queue : ℕ → List ℕ) (e : Event) (s c : ℕ) → has s (queue c) ≡ true
-    → has s (drop (length (served_by c e (queue c))) (queue c) ++ waiting_by c e) ≡ false → has s (serves queue e) ≡ true
+    → has s (drop (length (served_by c e (queue c))) (queue c) ++ waiting_by c e) ≡ false
+    → has s (serves queue e) ≡ true
 still_or_served queue e s c waits gone = one (signals_on e) gone
   where
     behind : (xs ys : List ℕ) → has s (xs ++ ys) ≡ false → has s xs ≡ false
     behind xs ys none =
-        by_cases (has s xs ≡ false) (has s xs) (λ there. absurd (false≢true (sym none ∙ has_before s xs ys there))) (λ not. not)
+        by_cases (has s xs ≡ false) (has s xs)
+        (λ there. absurd (false≢true (sym none ∙ has_before s xs ys there))) (λ not. not)
 
     two : (d : ℕ) (b : Bool) → (d == c) ≡ b
         → has s (drop (length (cond b (served_of e (queue c)) [])) (queue c) ++ waiting_by c e) ≡ false
         → has s (served_of e (queue d)) ≡ true
     two d true at none =
         subst (λ n. has s (served_of e (queue n)) ≡ true) (sym (eqb-true d c at))
-        (split_at s (served_of e (queue c)) _ (queue c) (served_front e (queue c)) waits (behind _ (waiting_by c e) none))
+        (split_at s (served_of e (queue c)) _ (queue c) (served_front e (queue c)) waits
+        (behind _ (waiting_by c e) none))
     two d false at none = absurd (false≢true (sym (behind (queue c) (waiting_by c e) none) ∙ waits))
 
     one : (o : Option ℕ)
@@ -255,7 +260,8 @@ awaits s p us =
     (or_left ((s == s) && (p == p)) false (ap (λ b. b && (p == p)) (same_seat s) ∙ same_seat p))
 
 own_event : (m : Monitor) (t : Situation) (e : Event) → IsAllowedIn m t e
-    → IsAt (if_served (λ c. has (seat_of e) ((after m.object t e).condition c)) (left_by e)) (after m.object t e) (seat_of e)
+    → IsAt (if_served (λ c. has (seat_of e) ((after m.object t e).condition c)) (left_by e))
+    (after m.object t e) (seat_of e)
 own_event m t (event.Enter s via) a = refl
 own_event m t (event.Act s op r) a = refl
 own_event m t (event.Leave s x) a = goes_out t s (s == s) (same_seat s)
@@ -283,7 +289,8 @@ any_event : (m : Monitor) (t : Situation) (e : Event) (s : ℕ) (rest : Place) �
     (after m.object t e) s
 any_event m t e s rest a is =
     let u = after m.object t e in
-    by_cases (IsAt (if_served (λ c. has s (u.condition c)) (cond (seat_of e == s) (left_by e) rest)) u s) (seat_of e == s)
+    by_cases (IsAt (if_served (λ c. has s (u.condition c)) (cond (seat_of e == s) (left_by e) rest)) u s)
+    (seat_of e == s)
     (λ own. subst (λ b. IsAt (if_served (λ c. has s (u.condition c)) (cond b (left_by e) rest)) u s) (sym own)
     (subst (λ n. IsAt (if_served (λ c. has n (u.condition c)) (left_by e)) u n) (eqb-true (seat_of e) s own)
     (own_event m t e a)))

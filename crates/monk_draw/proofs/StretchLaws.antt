@@ -19,7 +19,8 @@ one_stretch old new s before after names put = record {
   names = names;
 }
 
-noted_behind : (l : Legend) (first then : List Stretch) → all_noted l (first ++ then) ≡ all_noted (all_noted l first) then
+noted_behind : (l : Legend) (first then : List Stretch)
+    → all_noted l (first ++ then) ≡ all_noted (all_noted l first) then
 unfolding all_noted
 noted_behind l [] then = refl
 noted_behind l (s ∷ first) then = noted_behind (noted l s.place) first then

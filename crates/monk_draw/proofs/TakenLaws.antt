@@ -122,7 +122,8 @@ waiter_in k o t e s p h =
     taken _ (is_waiter (next_of e)) s (t.waiters ++ serves t.condition e) h
     (λ front chose. inr (waiter_due k o t e s p front chose)) (λ there. inl there)
 
-signaller_chosen : (k : Rules) (q : Queues) (v s : ℕ) (x : Next) → may_choose k q v x ≡ true → is_signaller (Some x) ≡ true
+signaller_chosen : (k : Rules) (q : Queues) (v s : ℕ) (x : Next) → may_choose k q v x ≡ true
+    → is_signaller (Some x) ≡ true
     → is_front s q.signallers ≡ true → turn_by v (Some x) ≡ Due s FromSignaller
 signaller_chosen k q v s Stay h i f = absurd (false≢true i)
 signaller_chosen k q v s Entry h i f = absurd (false≢true i)

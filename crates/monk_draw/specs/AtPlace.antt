@@ -1,5 +1,6 @@
--- That the queues and the turn have a seat at a place: a seat that was chosen from a queue has its turn from there. A law says
--- that each seat of a legal history is where it stands; no definition of a picture rests on this one
+-- That the queues and the turn have a seat at a place: a seat that was chosen from a queue has its
+-- turn from there. A law says that each seat of a legal history is where it stands; no definition
+-- of a picture rests on this one
 use Rattle.std.specs.Prelude.{◌≡◌, ℕ, ◌==◌, ◌&&◌, ◌⊎◌, Bool, true, false, List}
 use Rattle.std.specs.List.{list_any}
 use Rattle.monk_history.specs.Meaning.Situation.{Situation}

@@ -8,7 +8,8 @@ use Rattle.monk_draw.specs.Layout.{column_at, lane_at, lane_of}
 
 unfoldable pub frame_at : ℕ → ℕ → List ℕ
 frame_at x y =
-    codes "<rect class=\"frame\" x=\"" ++ (decimal x ++ (codes "\" y=\"" ++ (decimal y ++ codes "\" width=\"66\" height=\"62\" rx=\"6\"/>\n")))
+    codes "<rect class=\"frame\" x=\""
+    ++ (decimal x ++ (codes "\" y=\"" ++ (decimal y ++ codes "\" width=\"66\" height=\"62\" rx=\"6\"/>\n")))
 
 -- round the event in this column, in its seat's lane
 abbrev pub frame : ℕ → ℕ → Event → List ℕ

@@ -50,13 +50,15 @@ hand_noted_behind l allowed column (Some e) after = hand_noted l allowed column 
 unfoldable pub hands_noted_below : Legend → ℕ → List Event → ℕ → Legend
 hands_noted_below l allowed es zero = l
 hands_noted_below l allowed es (suc column) =
-    hand_noted_behind (hands_noted_below l allowed es column) allowed column (slice_get es column) (slice_get es (column + 1))
+    hand_noted_behind (hands_noted_below l allowed es column) allowed column (slice_get es column)
+    (slice_get es (column + 1))
 
 -- whether there is a refused act
 abbrev pub refused_noted : Legend → Bool → Legend
 refused_noted l some = record l { refused = some }
 
--- the legend of these stretches, and of the arrows and refused acts of these events, of which the first so many are allowed
+-- the legend of these stretches, and of the arrows and refused acts of these events, of which the
+-- first so many are allowed
 abbrev pub legend_of : List Stretch → ℕ → List Event → Legend
 legend_of drawn allowed es =
     refused_noted (hands_noted_below (all_noted empty_legend drawn) allowed es (length es))

@@ -1,5 +1,5 @@
--- Where a seat stands after a history: where its own last event left it, and of a seat that waits on a condition whether
--- the condition's queue still has it
+-- Where a seat stands after a history: where its own last event left it, and of a seat that waits
+-- on a condition whether the condition's queue still has it
 use Rattle.std.specs.Prelude.{ℕ, ◌==◌, Bool, Option, Some, None, List, if◌then◌else◌}
 use Rattle.std.specs.List.{last_or, list_any}
 use Rattle.monk_history.specs.Meaning.Conditions.{condition}

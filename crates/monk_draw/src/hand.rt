@@ -21,8 +21,8 @@ pub(crate) fn handed(after: Option<Event>) -> Option<u8>
     }
 }
 
-/// The seat that goes on after the event: the one that it chose, or who comes in by the next event because it was handed the
-/// monitor.
+/// The seat that goes on after the event: the one that it chose, or who comes in by the next event
+/// because it was handed the monitor.
 fn goes_on(event: Event, after: Option<Event>) -> Option<u8>
     ensures { result ≡ goes_on event after }
 {

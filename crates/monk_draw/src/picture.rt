@@ -161,9 +161,9 @@ fn put_front(
 
 /// The picture of a history as an SVG text: a lane for each seat, a column for each event, to the right.
 ///
-/// `forbidden` is the step, counted from 1, of the first event that is not allowed, and `reason` a word for why; what comes
-/// behind it is not shown. Of a longer history the last [`MOST_SHOWN`](crate::MOST_SHOWN) events up to that one, or up to the end,
-/// are shown.
+/// `forbidden` is the step, counted from 1, of the first event that is not allowed, and `reason` a
+/// word for why; what comes behind it is not shown. Of a longer history the last
+/// [`MOST_SHOWN`](crate::MOST_SHOWN) events up to that one, or up to the end, are shown.
 ///
 /// # Errors
 ///
@@ -171,8 +171,9 @@ fn put_front(
 ///
 /// # Cost
 ///
-/// One pass over the events, and one over the seats for each that is shown. Memory for the picture, at most some 200 kB, and
-/// some 7 kB for where the seats stand. The same of a history that isn't legal, where no seat waits twice before it goes on.
+/// One pass over the events, and one over the seats for each that is shown. Memory for the picture,
+/// at most some 200 kB, and some 7 kB for where the seats stand. The same of a history that isn't
+/// legal, where no seat waits twice before it goes on.
 pub fn draw(
     alloc: Global,
     header: &Header,

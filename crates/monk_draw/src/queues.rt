@@ -34,7 +34,8 @@ impl Queues {
     /// The first that waits on the condition, if there is one, goes.
     fn serve_first(&mut self, cond: u8)
         requires { length self.old.waiting.items ≡ numbers }
-        ensures rest { (c : ℕ) → queue_in self.new c ≡ (if cond == c then drop 1 (queue_in self.old c) else queue_in self.old c) }
+        ensures rest { (c : ℕ)
+            → queue_in self.new c ≡ (if cond == c then drop 1 (queue_in self.old c) else queue_in self.old c) }
         ensures count { length self.new.waiting.items ≡ numbers }
     {
         let queue = &mut self.waiting[cond as usize];
@@ -67,7 +68,8 @@ impl Queues {
     pub(crate) fn follow(&mut self, event: Event) -> Result<(), AllocError>
         requires { length self.old.waiting.items ≡ numbers }
         ensures moved { OnOk result
-            ((c : ℕ) → queue_in self.new c ≡ drop (length (served_by c event (queue_in self.old c))) (queue_in self.old c)
+            ((c : ℕ)
+            → queue_in self.new c ≡ drop (length (served_by c event (queue_in self.old c))) (queue_in self.old c)
             ++ waiting_by c event) }
         ensures count { length self.new.waiting.items ≡ numbers }
     {

@@ -63,7 +63,8 @@ front_first : (xs : List ℕ) → front (just (slice_get xs 0)) ≡ front xs
 front_first [] = refl
 front_first (x ∷ xs) = refl
 
-inner_first : (b : Bool) (ws rs : List ℕ) → is_empty (cond b (just (slice_get ws 0)) (just (slice_get rs 0))) ≡ is_empty (cond b ws rs)
+inner_first : (b : Bool) (ws rs : List ℕ)
+    → is_empty (cond b (just (slice_get ws 0)) (just (slice_get rs 0))) ≡ is_empty (cond b ws rs)
 inner_first true ws rs = empty_first ws
 inner_first false ws rs = empty_first rs
 
@@ -76,7 +77,11 @@ choice_first : (k : Rules) (ws ss rs : List ℕ) (s : ℕ) (known : Bool) (wish 
     }) s known wish ≡ choice_by k (record { waiters = ws; signallers = ss; ready = rs }) s known
     wish
 choice_first k ws ss rs s known wish =
-    parts_are k (record { waiters = just (slice_get ws 0); signallers = just (slice_get ss 0); ready = just (slice_get rs 0) }) s known wish
+    parts_are k (record {
+      waiters = just (slice_get ws 0);
+      signallers = just (slice_get ss 0);
+      ready = just (slice_get rs 0);
+    }) s known wish
     ∙ ((λ i. parts k (inner_first (has_conditions k.mode) ws rs i)
     (cond (has_conditions k.mode) (Waiter (front_first ws i)) (UntilSeat (front_first rs i))) (empty_first ss i)
     (front_first ss i) s known wish)
@@ -98,7 +103,8 @@ chosen_next : (k : Rules) (o : Object) (t : Situation) (e : Event) (known : Bool
     → n ≡ choice_of k o t e known wish
 chosen_next k o t e known wish b f h w s r n x y z c =
     c
-    ∙ (ap (λ q. choice_by k q (seat_of e) known wish) (λ i. record { waiters = just (x i); signallers = just (y i); ready = just (z i) })
+    ∙ (ap (λ q. choice_by k q (seat_of e) known wish)
+    (λ i. record { waiters = just (x i); signallers = just (y i); ready = just (z i) })
     ∙ (choice_first k (t.waiters ++ serves t.condition e) (t.signallers ++ signals t.condition e)
     (ready_of o t.state t.untils) (seat_of e) known wish
     ∙ ap (λ v. cond v Stay (choice_by k (queues_at o t e) (seat_of e) known wish)) (sym h ∙ (f ∙ stays_is o t e))))
@@ -120,10 +126,12 @@ module _ {m : Monitor} {budget : ℕ} {h : List Event} {capacity : ℕ} {q : Que
       → w ≡ slice_get (q.waiters ++ serves (queue_at q.conditions) e) 0
       → s ≡ slice_get (q.signallers ++ signals (queue_at q.conditions) e) 0
       → r ≡ slice_get (ready_of m.object state q.untils) 0
-      → k ≡ m.kind → v ≡ seat_of e → n ≡ choice_by k (record { waiters = just w; signallers = just s; ready = just r }) v known wish
+      → k ≡ m.kind → v ≡ seat_of e
+      → n ≡ choice_by k (record { waiters = just w; signallers = just s; ready = just r }) v known wish
       → n ≡ choice_of m.kind m.object (situation m h) e known wish
   kept_next kept e known wish b f g w s r n k v x y z a c d =
-      chosen_next m.kind m.object (shown_situation q state turn inside (not (is_empty h))) e known wish b f g w s r n x y z
+      chosen_next m.kind m.object (shown_situation q state turn inside (not (is_empty h))) e known wish b f g w
+      s r n x y z
       (d ∙ (ap (λ j. choice_by j (record { waiters = just w; signallers = just s; ready = just r }) v known wish) a
       ∙ ap (λ j. choice_by m.kind (record { waiters = just w; signallers = just s; ready = just r }) j known wish)
       c))
@@ -134,7 +142,8 @@ module _ {m : Monitor} {budget : ℕ} {h : List Event} {capacity : ℕ} {q : Que
       → ((d : List ℕ) → is_right_reply m.object d e ≡ true)
       → n ≡ choice_of m.kind m.object (situation m h) e known wish → IsAllowed m h (with_next n e)
   kept_allowed kept k e known wish n c r x =
-      subst (λ z. IsAllowed m h (with_next z e)) (sym x) (chosen_allowed m (situation m h) e known wish (in_order kept k) c (r _))
+      subst (λ z. IsAllowed m h (with_next z e)) (sym x)
+      (chosen_allowed m (situation m h) e known wish (in_order kept k) c (r _))
 
   -- an act with the object's reply is allowed
   pub kept_act : KeepsHistory m budget h capacity q state turn inside spent granted entered

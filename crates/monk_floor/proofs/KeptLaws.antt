@@ -99,7 +99,8 @@ past_none (x ∷ xs) (suc i) l = past_none xs i (omega (arith, l))
 
 module _ {m : Monitor} {budget : ℕ} {h : List Event} {capacity : ℕ} {q : QueueLists} {state : List ℕ} {turn : Turn}
     {inside : List Bool} {spent granted : List ℕ} {entered : ℕ} where
-  pub in_order : KeepsHistory m budget h capacity q state turn inside spent granted entered → IsKind m.kind → IsInOrder m (situation m h)
+  pub in_order : KeepsHistory m budget h capacity q state turn inside spent granted entered → IsKind m.kind
+      → IsInOrder m (situation m h)
   in_order kept k = legal_order m h k kept.legal
 
   -- whoever calls stands in no queue
@@ -135,14 +136,16 @@ module _ {m : Monitor} {budget : ℕ} {h : List Event} {capacity : ℕ} {q : Que
             (named_in_range m e a.in_range);
         low_granted = λ j. let n = few_kept kept e a l in let c = kept.grants_counted j in let f = granted_few h j in
             grind (arith, n, c, f);
-        low_entered = let n = few_kept kept e a l in let c = kept.enters_counted in let f = enters_few h in grind (arith, n, c, f);
+        low_entered = let n = few_kept kept e a l in let c = kept.enters_counted in let f = enters_few h in
+            grind (arith, n, c, f);
         waits = wider m.conds most_conds (waits_on e) kept.conds (range_waits m e a.in_range);
         signals = wider m.conds most_conds (signals_on e) kept.conds (range_signals m e a.in_range);
         apart = apart_kept kept k e a;
       }
 
   -- the history is no longer than the budgets of all seats
-  pub within_budgets : KeepsHistory m budget h capacity q state turn inside spent granted entered → length h ≤ m.seats * budget
+  pub within_budgets : KeepsHistory m budget h capacity q state turn inside spent granted entered
+      → length h ≤ m.seats * budget
   within_budgets kept =
       history_few m.seats budget h (λ j n. sym (kept.counts j) ∙ past_none spent j (omega (arith, n, kept.spent_seats)))
       kept.within
@@ -159,39 +162,45 @@ module _ {m : Monitor} {budget : ℕ} {h : List Event} {capacity : ℕ} {q : Que
   -- what is kept after an event that is allowed
   pub kept_push : KeepsHistory m budget h capacity q state turn inside spent granted entered → (e : Event)
       → IsAllowed m h e → length (events_of h (seat_of e)) < budget
-      → (capacity2 : ℕ) (q2 : QueueLists) (state2 : List ℕ) (turn2 : Turn) (inside2 : List Bool) (spent2 granted2 : List ℕ) (entered2 : ℕ)
-      → capacity2 ≡ capacity → IsMoved q e q2 → state2 ≡ data_after m.object state e → turn2 ≡ turn_by (seat_of e) (next_of e)
-      → ((j : ℕ) → slice_index_or inside2 j false ≡ (slice_index_or inside j false && not (is_exit_of j e)) || is_enter_of j e)
+      → (capacity2 : ℕ) (q2 : QueueLists) (state2 : List ℕ) (turn2 : Turn) (inside2 : List Bool)
+      (spent2 granted2 : List ℕ) (entered2 : ℕ)
+      → capacity2 ≡ capacity → IsMoved q e q2 → state2 ≡ data_after m.object state e
+      → turn2 ≡ turn_by (seat_of e) (next_of e)
+      → ((j : ℕ)
+      → slice_index_or inside2 j false ≡ (slice_index_or inside j false && not (is_exit_of j e)) || is_enter_of j e)
       → ((j : ℕ) → slice_index_or spent2 j 0 ≡ slice_index_or spent j 0 + cond (seat_of e == j) 1 0)
       → ((j : ℕ) → slice_index_or granted2 j 0 ≡ slice_index_or granted j 0 + cond (grants j e) 1 0)
       → entered2 ≡ entered + cond (is_enter e) 1 0 → length granted2 ≡ length granted
       → length inside2 ≡ length inside → length spent2 ≡ length spent
       → KeepsHistory m budget (h ++ e ∷ []) capacity2 q2 state2 turn2 inside2 spent2 granted2 entered2
-  kept_push kept e a l capacity2 q2 state2 turn2 inside2 spent2 granted2 entered2 cap moved st tu ins sp gr en lg li ls = record {
-    legal = legal-push m h e kept.legal a;
-    stands =
-        same_situation (shown_situation q2 state2 turn2 inside2 (not (is_empty (h ++ e ∷ []))))
-        (after m.object (shown_situation q state turn inside (not (is_empty h))) e)
-        moved.condition moved.waiters moved.signallers moved.untils st tu ins (begun h)
-        ∙ (ap (λ t. after m.object t e) kept.stands ∙ sym (legal_situation-push m h e kept.legal));
-    counts = λ s. sp s ∙ (ap (λ n. n + cond (seat_of e == s) 1 0) (kept.counts s) ∙ sym (length-events_of-push h e s));
-    grants_counted = λ s. gr s ∙ (ap (λ n. n + cond (grants s e) 1 0) (kept.grants_counted s) ∙ sym (granted_of-push h e s));
-    enters_counted = en ∙ (ap (λ n. n + cond (is_enter e) 1 0) kept.enters_counted ∙ sym (enters_of-push h e));
-    granted_seats = lg ∙ kept.granted_seats;
-    within = λ s. subst (λ n. n ≤ budget) (sym (length-events_of-push h e s))
-        (one_within (seat_of e == s) (length (events_of h s)) budget
-        (λ b. subst (λ j. length (events_of h j) < budget) (eqb-true (seat_of e) s b) l) (kept.within s));
-    room = subst (λ n. m.seats * budget ≤ n) (sym cap) kept.room;
-    inside_seats = li ∙ kept.inside_seats;
-    spent_seats = ls ∙ kept.spent_seats;
-    conds = kept.conds;
-    unused = λ c l. moved.condition c
-        ∙ still_unused c e (queue_at q.conditions c) (kept.unused c l) (nobody_waits m.conds c e l (range_waits m e a.in_range));
-    few = kept.few;
-    low = kept.low;
-    predicates = subst (All (λ (w : ℕ × ℕ). w.1 < m.object.predicates)) (sym moved.untils)
-        (joins_in_range m.object.codes m.object.predicates e q.untils (range_object m e a.in_range) kept.predicates);
-  }
+  kept_push kept e a l capacity2 q2 state2 turn2 inside2 spent2 granted2 entered2 cap moved st tu ins sp gr en
+      lg li ls = record {
+        legal = legal-push m h e kept.legal a;
+        stands =
+            same_situation (shown_situation q2 state2 turn2 inside2 (not (is_empty (h ++ e ∷ []))))
+            (after m.object (shown_situation q state turn inside (not (is_empty h))) e)
+            moved.condition moved.waiters moved.signallers moved.untils st tu ins (begun h)
+            ∙ (ap (λ t. after m.object t e) kept.stands ∙ sym (legal_situation-push m h e kept.legal));
+        counts = λ s. sp s ∙ (ap (λ n. n + cond (seat_of e == s) 1 0) (kept.counts s) ∙ sym (length-events_of-push h e s));
+        grants_counted = λ s. gr s
+            ∙ (ap (λ n. n + cond (grants s e) 1 0) (kept.grants_counted s) ∙ sym (granted_of-push h e s));
+        enters_counted = en ∙ (ap (λ n. n + cond (is_enter e) 1 0) kept.enters_counted ∙ sym (enters_of-push h e));
+        granted_seats = lg ∙ kept.granted_seats;
+        within = λ s. subst (λ n. n ≤ budget) (sym (length-events_of-push h e s))
+            (one_within (seat_of e == s) (length (events_of h s)) budget
+            (λ b. subst (λ j. length (events_of h j) < budget) (eqb-true (seat_of e) s b) l) (kept.within s));
+        room = subst (λ n. m.seats * budget ≤ n) (sym cap) kept.room;
+        inside_seats = li ∙ kept.inside_seats;
+        spent_seats = ls ∙ kept.spent_seats;
+        conds = kept.conds;
+        unused = λ c l. moved.condition c
+            ∙ still_unused c e (queue_at q.conditions c) (kept.unused c l)
+            (nobody_waits m.conds c e l (range_waits m e a.in_range));
+        few = kept.few;
+        low = kept.low;
+        predicates = subst (All (λ (w : ℕ × ℕ). w.1 < m.object.predicates)) (sym moved.untils)
+            (joins_in_range m.object.codes m.object.predicates e q.untils (range_object m e a.in_range) kept.predicates);
+      }
     where
       begun : (xs : List Event) → not (is_empty (xs ++ e ∷ [])) ≡ true
       begun [] = refl
@@ -209,7 +218,8 @@ pub call_here : (k : Rules) (o : Object) (f g : FloorView) (e : Event) → g ≡
     → MayCall (monitor_of k o g) g.history e
 call_here k o f g e s a = subst (λ x. MayCall (monitor_of k o x) x.history e) (sym s) a
 
-pub left_here : (f g : FloorView) (s : ℕ) → g ≡ f → 0 < left_of f.budget f.history s → length (events_of g.history s) < g.budget
+pub left_here : (f g : FloorView) (s : ℕ) → g ≡ f → 0 < left_of f.budget f.history s
+    → length (events_of g.history s) < g.budget
 left_here f g s e l = subst (λ (x : FloorView). length (events_of x.history s) < x.budget) (sym e)
     (some_left (length (events_of f.history s)) f.budget l)
 
@@ -230,22 +240,27 @@ pub kept_none : (m : Monitor) (budget : ℕ) (h : List Event) (capacity : ℕ) (
     → length inside ≡ m.seats → length spent ≡ m.seats
     → ((j : ℕ) → slice_index_or granted j 0 ≡ 0) → entered ≡ 0 → length granted ≡ m.seats
     → KeepsHistory m budget h capacity q state turn inside spent granted entered
-kept_none m budget h capacity q state turn inside spent granted entered e cap st few low qs cs ws ss us tu ins sp li ls gr en lg = record {
-  grants_counted = λ s. gr s ∙ (sym (granted_none s) ∙ ap (λ x. granted_of x s) (sym e));
-  enters_counted = en ∙ (sym enters_none ∙ ap enters_of (sym e));
-  granted_seats = lg;
-  legal = subst (IsLegal m) (sym e) (legal_none m);
-  stands =
-      same_situation (shown_situation q state turn inside (not (is_empty h))) (opening_situation m) qs ws ss us st tu ins (none_kept h e)
-      ∙ (sym (situation-none m) ∙ ap (situation m) (sym e));
-  counts = λ s. sp s ∙ (sym (no_events s) ∙ ap (λ x. length (events_of x s)) (sym e));
-  within = λ s. let n : length (events_of h s) ≡ 0 = ap (λ x. length (events_of x s)) e ∙ no_events s in omega (arith, n);
-  room = omega (arith, cap);
-  inside_seats = li;
-  spent_seats = ls;
-  conds = cs;
-  unused = λ c l. qs c;
-  few = few;
-  low = grind (arith, low);
-  predicates = subst (All (λ (w : ℕ × ℕ). w.1 < m.object.predicates)) (sym us) (All-nil (λ (w : ℕ × ℕ). w.1 < m.object.predicates));
-}
+kept_none m budget h capacity q state turn inside spent granted entered e cap st few low qs cs ws ss us tu ins
+    sp li ls gr en lg = record {
+      grants_counted = λ s. gr s ∙ (sym (granted_none s) ∙ ap (λ x. granted_of x s) (sym e));
+      enters_counted = en ∙ (sym enters_none ∙ ap enters_of (sym e));
+      granted_seats = lg;
+      legal = subst (IsLegal m) (sym e) (legal_none m);
+      stands =
+          same_situation (shown_situation q state turn inside (not (is_empty h)))
+          (opening_situation m) qs ws ss us st tu ins (none_kept h e)
+          ∙ (sym (situation-none m) ∙ ap (situation m) (sym e));
+      counts = λ s. sp s ∙ (sym (no_events s) ∙ ap (λ x. length (events_of x s)) (sym e));
+      within = λ s. let n : length (events_of h s) ≡ 0 = ap (λ x. length (events_of x s)) e ∙ no_events s in
+          omega (arith, n);
+      room = omega (arith, cap);
+      inside_seats = li;
+      spent_seats = ls;
+      conds = cs;
+      unused = λ c l. qs c;
+      few = few;
+      low = grind (arith, low);
+      predicates =
+          subst (All (λ (w : ℕ × ℕ). w.1 < m.object.predicates)) (sym us)
+          (All-nil (λ (w : ℕ × ℕ). w.1 < m.object.predicates));
+    }

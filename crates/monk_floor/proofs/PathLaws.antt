@@ -41,7 +41,8 @@ module _ {m : Monitor} {budget : ℕ} {h : List Event} {capacity : ℕ} {q : Que
       → MayCall (monitor_of m.kind m.object f) f.history e → IsReplyless m.object e
       → n ≡ choice_of m.kind m.object (situation m h) e known wish → IsChosen m.kind m.object f e known wish n
   chosen_here kept k f v e known wish n a r x =
-      subst (λ (y : FloorView). MayCall (monitor_of m.kind m.object y) y.history e → IsChosen m.kind m.object y e known wish n) v
+      subst (λ (y : FloorView). MayCall (monitor_of m.kind m.object y) y.history e
+      → IsChosen m.kind m.object y e known wish n) v
       (λ c. record { choice = x; allowed = kept_allowed kept k e known wish n c r x }) a
 
   -- what must stay stays
@@ -50,7 +51,8 @@ module _ {m : Monitor} {budget : ℕ} {h : List Event} {capacity : ℕ} {q : Que
       → MayCall (monitor_of m.kind m.object f) f.history e → IsReplyless m.object e → (b : Bool)
       → b ≡ stays_by m.object (queue_at q.conditions) state e → b ≡ true
       → IsChosen m.kind m.object f e known wish Stay
-  stay_here kept k f v e known wish a r b x y = chosen_here kept k f v e known wish Stay a r (kept_stay kept e known wish b x y)
+  stay_here kept k f v e known wish a r b x y =
+      chosen_here kept k f v e known wish Stay a r (kept_stay kept e known wish b x y)
 
   goes_on : KeepsHistory m budget h capacity q state turn inside spent granted entered → (e : Event) (b : Bool)
       → b ≡ stays_by m.object (queue_at q.conditions) state e → b ≡ false → must_stay m.object (situation m h) e ≡ false
@@ -62,19 +64,24 @@ module _ {m : Monitor} {budget : ℕ} {h : List Event} {capacity : ℕ} {q : Que
       → (f : FloorView) → view m budget h ≡ f → (e : Event) (known : Bool) (wish : Pick)
       → MayCall (monitor_of m.kind m.object f) f.history e → MakesNoSignaller m.object e
       → has_conditions m.kind.mode ≡ true → keeps_signallers m.kind.mode ≡ false
-      → (k : Rules) (front : Option ℕ) (n : Next) → k ≡ m.kind → front ≡ slice_get (q.waiters ++ serves (queue_at q.conditions) e) 0
-      → n ≡ single_choice FromWaiter (nat_le k.waiter k.entry) front known wish → IsChosen m.kind m.object f e known wish n
+      → (k : Rules) (front : Option ℕ) (n : Next) → k ≡ m.kind
+      → front ≡ slice_get (q.waiters ++ serves (queue_at q.conditions) e) 0
+      → n ≡ single_choice FromWaiter (nat_le k.waiter k.entry) front known wish
+      → IsChosen m.kind m.object f e known wish n
   waiter_here kept i f v e known wish a r x y k front n b c d =
       chosen_here kept i f v e known wish n a r.replyless
       (d ∙ ((λ j. single_choice FromWaiter (nat_le (b j).waiter (b j).entry)
       ((c ∙ ap (λ t. slice_get (t.waiters ++ serves t.condition e) 0) kept.stands) j) known wish)
-      ∙ waiter_path m h e known wish i kept.legal x y (r.chooses (situation m h)) (r.signals (situation m h).condition)))
+      ∙ waiter_path m h e known wish i kept.legal x y (r.chooses (situation m h))
+      (r.signals (situation m h).condition)))
 
   pub signaller_here : KeepsHistory m budget h capacity q state turn inside spent granted entered → IsKind m.kind
       → (f : FloorView) → view m budget h ≡ f → (e : Event) (known : Bool) (wish : Pick)
       → MayCall (monitor_of m.kind m.object f) f.history e → ServesNobody m.object e → m.kind.mode ≡ Blocking
-      → (k : Rules) (front : Option ℕ) (n : Next) → k ≡ m.kind → front ≡ slice_get (q.signallers ++ signals (queue_at q.conditions) e) 0
-      → n ≡ single_choice FromSignaller (nat_le k.signaller k.entry) front known wish → IsChosen m.kind m.object f e known wish n
+      → (k : Rules) (front : Option ℕ) (n : Next) → k ≡ m.kind
+      → front ≡ slice_get (q.signallers ++ signals (queue_at q.conditions) e) 0
+      → n ≡ single_choice FromSignaller (nat_le k.signaller k.entry) front known wish
+      → IsChosen m.kind m.object f e known wish n
   signaller_here kept i f v e known wish a r x k front n b c d =
       chosen_here kept i f v e known wish n a r.replyless
       (d ∙ ((λ j. single_choice FromSignaller (nat_le (b j).signaller (b j).entry)
@@ -90,7 +97,8 @@ module _ {m : Monitor} {budget : ℕ} {h : List Event} {capacity : ℕ} {q : Que
       → (k : Rules) (w g : Option ℕ) (caller : ℕ) (n : Next) → k ≡ m.kind
       → w ≡ slice_get (q.waiters ++ serves (queue_at q.conditions) e) 0
       → g ≡ slice_get (q.signallers ++ signals (queue_at q.conditions) e) 0
-      → caller ≡ seat_of e → n ≡ equal_choice (nat_le k.waiter k.entry) w g caller known wish → IsChosen m.kind m.object f e known wish n
+      → caller ≡ seat_of e → n ≡ equal_choice (nat_le k.waiter k.entry) w g caller known wish
+      → IsChosen m.kind m.object f e known wish n
   equal_here kept i f v e known wish a r x z zs zf k w g caller n b c d u y =
       chosen_here kept i f v e known wish n a r
       (y ∙ ((λ j. equal_choice (nat_le (b j).waiter (b j).entry)
@@ -103,7 +111,8 @@ module _ {m : Monitor} {budget : ℕ} {h : List Event} {capacity : ℕ} {q : Que
       → MayCall (monitor_of m.kind m.object f) f.history e → IsReplyless m.object e → m.kind.mode ≡ Automatic
       → (z : Bool) → z ≡ stays_by m.object (queue_at q.conditions) state e → z ≡ false
       → (k : Rules) (front : Option ℕ) (n : Next) → k ≡ m.kind → front ≡ slice_get (ready_of m.object state q.untils) 0
-      → n ≡ single_choice FromUntil (nat_le k.waiter k.entry) front known wish → IsChosen m.kind m.object f e known wish n
+      → n ≡ single_choice FromUntil (nat_le k.waiter k.entry) front known wish
+      → IsChosen m.kind m.object f e known wish n
   ready_here kept i f v e known wish a r x z zs zf k front n b c d =
       chosen_here kept i f v e known wish n a r
       (d ∙ ((λ j. single_choice FromUntil (nat_le (b j).waiter (b j).entry)

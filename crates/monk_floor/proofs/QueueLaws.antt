@@ -14,8 +14,10 @@ times_fewer s p (w ∷ ws) = kept (p w) (times_fewer s p ws)
     kept false h = omega (arith, h)
 
 -- whoever is in none of the queues is in none after some have gone
-pub still_apart : (s : ℕ) (old left : QueueLists) (p : ℕ × ℕ → Bool) → ((c : ℕ) → queue_at left.conditions c ≡ queue_at old.conditions c)
-    → left.waiters ≡ old.waiters → left.signallers ≡ old.signallers → left.untils ≡ filter p old.untils → in_lists s old ≡ 0
+pub still_apart : (s : ℕ) (old left : QueueLists) (p : ℕ × ℕ → Bool)
+    → ((c : ℕ) → queue_at left.conditions c ≡ queue_at old.conditions c)
+    → left.waiters ≡ old.waiters → left.signallers ≡ old.signallers → left.untils ≡ filter p old.untils
+    → in_lists s old ≡ 0
     → in_lists s left ≡ 0
 still_apart s old left p c w g u h =
     let same : queue_at left.conditions ≡ queue_at old.conditions = λ i x. c x i in

@@ -42,12 +42,14 @@ times_split zero s q = omega arith
 times_split (suc n) s q = omega (arith, times_split n s q, ap (λ c. times s (q c)) (three_more n))
 
 -- whoever is in none of the lists is in none of the linked queues
-pub places_none : (s : ℕ) (p : List ℕ) (qs : List (List ℕ)) → in_lists s (lists_of p qs) ≡ 0 → places s (queue_at qs) ≡ 0
+pub places_none : (s : ℕ) (p : List ℕ) (qs : List (List ℕ)) → in_lists s (lists_of p qs) ≡ 0
+    → places s (queue_at qs) ≡ 0
 unfolding places
 places_none s p qs h =
     let same : times_in_conditions 8 s (queue_at (drop 3 qs)) ≡ times_in_conditions 8 s (λ c. queue_at qs (3 + c)) =
     ap (times_in_conditions 8 s) (λ i c. condition_at qs c i) in
-    let waits : times_in_waits s (waits_in p (queue_at qs 2)) ≡ times s (queue_at qs 2) = ap (times s) (seats_back p (queue_at qs 2)) in
+    let waits : times_in_waits s (waits_in p (queue_at qs 2)) ≡ times s (queue_at qs 2) =
+    ap (times s) (seats_back p (queue_at qs 2)) in
     let all = times_split 8 s (queue_at qs) in
     omega (arith, h, same, waits, all)
 
@@ -64,7 +66,8 @@ filtered p (x ∷ xs) f g h =
     both false = refl
 
 -- a wait-until is taken out
-pub no_wait_left : (e : Event) (us : List (ℕ × ℕ)) → None ≡ chosen_until (next_of e) → us ≡ filter (λ w. not (chooses e w)) us
+pub no_wait_left : (e : Event) (us : List (ℕ × ℕ)) → None ≡ chosen_until (next_of e)
+    → us ≡ filter (λ w. not (chooses e w)) us
 no_wait_left e us h = all (next_of e) us h
   where
     all : (o : Option Next) (us : List (ℕ × ℕ)) → None ≡ chosen_until o → us ≡ filter (λ w. not (is_until w.0 o)) us
@@ -85,7 +88,8 @@ pub wait_left : (e : Event) (s : ℕ) (p : List ℕ) (qs rs : List (List ℕ)) �
     → waits_in p (queue_at rs 2) ≡ filter (λ w. not (chooses e w)) (waits_in p (queue_at qs 2))
 wait_left e s p qs rs h r =
     ap (waits_in p) r
-    ∙ sym (filtered p (queue_at qs 2) (λ w. not (chooses e w)) (λ x. not (s == x)) (λ x. ap not (chosen (next_of e) x h)))
+    ∙ sym (filtered p (queue_at qs 2) (λ w. not (chooses e w)) (λ x. not (s == x))
+    (λ x. ap not (chosen (next_of e) x h)))
   where
     chosen : (o : Option Next) (x : ℕ) → Some s ≡ chosen_until o → is_until x o ≡ s == x
     chosen None x h = absurd (cc)
@@ -108,7 +112,8 @@ pub none_shown : (qs : List (List ℕ)) → ((c : ℕ) → queue_at qs c ≡ [])
 none_shown qs h c = condition_at qs c ∙ h (3 + c)
 
 -- the front of another queue has been taken
-pub others_popped : (n : ℕ) (qs rs : List (List ℕ)) → n < 3 → ((c : ℕ) → queue_at rs c ≡ drop (cond (n == c) 1 0) (queue_at qs c))
+pub others_popped : (n : ℕ) (qs rs : List (List ℕ)) → n < 3
+    → ((c : ℕ) → queue_at rs c ≡ drop (cond (n == c) 1 0) (queue_at qs c))
     → (c : ℕ) → queue_at (drop 3 rs) c ≡ queue_at (drop 3 qs) c
 others_popped n qs rs l r c =
     condition_at rs c ∙ (r (3 + c)
@@ -144,13 +149,15 @@ served_now qs rs d c r =
     ++ cond (not_condition 0 c (omega arith) j) (take 1 (queue_at qs (3 + d))) [])
     ∙ append-nil (drop (cond (d == c) 1 0) (queue_at (drop 3 qs) c))))
 
-other_same : (qs : List (List ℕ)) (d n : ℕ) (rs : List (List ℕ)) → 0 < n → n < 3 → IsPassed qs d rs → queue_at rs n ≡ queue_at qs n
+other_same : (qs : List (List ℕ)) (d n : ℕ) (rs : List (List ℕ)) → 0 < n → n < 3 → IsPassed qs d rs
+    → queue_at rs n ≡ queue_at qs n
 other_same qs d n rs m l r =
     r n ∙ ((λ j. drop (cond (not_other n d l j) 1 0) (queue_at qs n)
     ++ cond (let later : ◌≡◌ {A = Bool} (0 == n) false = grind (arith, m) in later j) (take 1 (queue_at qs (3 + d))) [])
     ∙ append-nil (queue_at qs n))
 
-served_waiters : (qs rs : List (List ℕ)) (d : ℕ) → IsPassed qs d rs → queue_at rs 0 ≡ queue_at qs 0 ++ take 1 (queue_at (drop 3 qs) d)
+served_waiters : (qs rs : List (List ℕ)) (d : ℕ) → IsPassed qs d rs
+    → queue_at rs 0 ≡ queue_at qs 0 ++ take 1 (queue_at (drop 3 qs) d)
 served_waiters qs rs d r =
     r 0 ∙ (λ j. drop (cond (not_other 0 d (omega arith) j) 1 0) (queue_at qs 0) ++ take 1 (sym (condition_at qs d) j))
 
@@ -176,7 +183,8 @@ none_moved s b d xs ys h k =
     moved false ys h = refl
 
 pub passed_apart : (s d at : ℕ) (qs rs : List (List ℕ)) → at ≡ 3 + d → d < 8
-    → ((c : ℕ) → queue_at rs c ≡ drop (cond (at == c) 1 0) (queue_at qs c) ++ cond (0 == c) (take 1 (queue_at qs at)) [])
+    → ((c : ℕ)
+    → queue_at rs c ≡ drop (cond (at == c) 1 0) (queue_at qs c) ++ cond (0 == c) (take 1 (queue_at qs at)) [])
     → places s (queue_at qs) ≡ 0 → places s (queue_at rs) ≡ 0
 unfolding places
 passed_apart s d at qs rs e l r h = all most_queues (λ c m. here c m)
@@ -186,7 +194,8 @@ passed_apart s d at qs rs e l r h = all most_queues (λ c m. here c m)
 
     here : (c : ℕ) → c < most_queues → times s (queue_at rs c) ≡ 0
     here c m = ap (times s) (r c)
-        ∙ none_moved s (at == c) (0 == c) (queue_at qs c) (queue_at qs at) (nobody c m) (nobody at (omega (arith, e, l)))
+        ∙ none_moved s (at == c) (0 == c) (queue_at qs c) (queue_at qs at) (nobody c m)
+        (nobody at (omega (arith, e, l)))
 
     all : (n : ℕ) → ((c : ℕ) → c < n → times s (queue_at rs c) ≡ 0) → times_in_conditions n s (queue_at rs) ≡ 0
     all zero f = refl
@@ -194,11 +203,13 @@ passed_apart s d at qs rs e l r h = all most_queues (λ c m. here c m)
         let last = f n (omega arith) in omega (arith, last, all n (λ c m. f c (omega (arith, m))))
 
 -- a seat joins one of the other queues
-others_kept : (n s : ℕ) (qs rs : List (List ℕ)) → n < 3 → ((c : ℕ) → queue_at rs c ≡ queue_at qs c ++ cond (n == c) (s ∷ []) [])
+others_kept : (n s : ℕ) (qs rs : List (List ℕ)) → n < 3
+    → ((c : ℕ) → queue_at rs c ≡ queue_at qs c ++ cond (n == c) (s ∷ []) [])
     → (c : ℕ) → queue_at (drop 3 rs) c ≡ queue_at (drop 3 qs) c
 others_kept n s qs rs l r c =
     condition_at rs c ∙ (r (3 + c)
-    ∙ ((λ j. sym (condition_at qs c) j ++ cond (not_condition n c l j) (s ∷ []) []) ∙ append-nil (queue_at (drop 3 qs) c)))
+    ∙ ((λ j. sym (condition_at qs c) j ++ cond (not_condition n c l j) (s ∷ []) [])
+    ∙ append-nil (queue_at (drop 3 qs) c)))
 
 waits_push : (p xs : List ℕ) (s : ℕ) → waits_in p (xs ++ s ∷ []) ≡ waits_in p xs ++ (s, get_or p s 0) ∷ []
 waits_push p [] s = refl
@@ -211,7 +222,8 @@ waits_set p (x ∷ xs) s v h =
 
 module _ (p : List ℕ) (qs : List (List ℕ)) (e : Event) where
   pub waiting : (s d : ℕ) (x : Next) (at : ℕ) (rs : List (List ℕ)) → e ≡ Wait s d x → at ≡ 3 + d
-      → ((c : ℕ) → queue_at rs c ≡ queue_at qs c ++ cond (at == c) (s ∷ []) []) → IsServed (lists_of p qs) e (lists_of p rs)
+      → ((c : ℕ) → queue_at rs c ≡ queue_at qs c ++ cond (at == c) (s ∷ []) [])
+      → IsServed (lists_of p qs) e (lists_of p rs)
   waiting s d x at rs i h r =
       subst (λ y. IsServed (lists_of p qs) y (lists_of p rs)) (sym i) (record {
         condition = λ c. condition_at rs c ∙ (there (3 + c)
@@ -219,7 +231,9 @@ module _ (p : List ℕ) (qs : List (List ℕ)) (e : Event) where
         waiters = there 0 ∙ ap (λ b. queue_at qs 0 ++ cond b (s ∷ []) []) (not_other 0 d (omega arith));
         signallers = there 1 ∙ ap (λ b. queue_at qs 1 ++ cond b (s ∷ []) []) (not_other 1 d (omega arith));
         untils = ap (waits_in p)
-            (there 2 ∙ (ap (λ b. queue_at qs 2 ++ cond b (s ∷ []) []) (not_other 2 d (omega arith)) ∙ append-nil (queue_at qs 2)))
+            (there 2
+            ∙ (ap (λ b. queue_at qs 2 ++ cond b (s ∷ []) []) (not_other 2 d (omega arith))
+            ∙ append-nil (queue_at qs 2)))
             ∙ sym (append-nil (waits_in p (queue_at qs 2)));
       })
     where
@@ -227,14 +241,16 @@ module _ (p : List ℕ) (qs : List (List ℕ)) (e : Event) where
       there c = r c ∙ ap (λ y. queue_at qs c ++ cond (y == c) (s ∷ []) []) h
 
   pub leaving : (s d : ℕ) (x : Next) (at : ℕ) (rs : List (List ℕ)) → e ≡ SignalLeave s d x → at ≡ 3 + d
-      → ((c : ℕ) → queue_at rs c ≡ drop (cond (at == c) 1 0) (queue_at qs c) ++ cond (0 == c) (take 1 (queue_at qs at)) [])
+      → ((c : ℕ)
+      → queue_at rs c ≡ drop (cond (at == c) 1 0) (queue_at qs c) ++ cond (0 == c) (take 1 (queue_at qs at)) [])
       → IsServed (lists_of p qs) e (lists_of p rs)
   leaving s d x at rs i h r =
       subst (λ y. IsServed (lists_of p qs) y (lists_of p rs)) (sym i) (record {
         condition = λ c. served_now qs rs d c there ∙ served_one (d == c) (queue_at (drop 3 qs) c);
         waiters = served_waiters qs rs d there;
         signallers = other_same qs d 1 rs (omega arith) (omega arith) there ∙ sym (append-nil (queue_at qs 1));
-        untils = ap (waits_in p) (other_same qs d 2 rs (omega arith) (omega arith) there) ∙ sym (append-nil (waits_in p (queue_at qs 2)));
+        untils = ap (waits_in p) (other_same qs d 2 rs (omega arith) (omega arith) there)
+            ∙ sym (append-nil (waits_in p (queue_at qs 2)));
       })
     where
       there : IsPassed qs d rs
@@ -253,7 +269,9 @@ module _ (p : List ℕ) (qs : List (List ℕ)) (e : Event) where
         waiters = there 0 ∙ (λ j. cond (not_other 0 d (omega arith) j) [] (queue_at qs 0) ++ sym (condition_at qs d) j);
         signallers = there 1 ∙ ap (λ b. cond b [] (queue_at qs 1) ++ []) (not_other 1 d (omega arith));
         untils = ap (waits_in p)
-            (there 2 ∙ (ap (λ b. cond b [] (queue_at qs 2) ++ []) (not_other 2 d (omega arith)) ∙ append-nil (queue_at qs 2)))
+            (there 2
+            ∙ (ap (λ b. cond b [] (queue_at qs 2) ++ []) (not_other 2 d (omega arith))
+            ∙ append-nil (queue_at qs 2)))
             ∙ sym (append-nil (waits_in p (queue_at qs 2)));
       })
     where
@@ -261,21 +279,27 @@ module _ (p : List ℕ) (qs : List (List ℕ)) (e : Event) where
       there c = r c ∙ ap (λ y. cond (y == c) [] (queue_at qs c) ++ cond (0 == c) (queue_at qs y) []) h
 
   -- the front is served, and then the caller waits
-  pub serving_waiting : (s d f : ℕ) (x : Next) (at by : ℕ) (ms rs : List (List ℕ)) → e ≡ SignalWait s d f x → at ≡ 3 + d → by ≡ 3 + f
-      → ((c : ℕ) → queue_at ms c ≡ drop (cond (at == c) 1 0) (queue_at qs c) ++ cond (0 == c) (take 1 (queue_at qs at)) [])
+  pub serving_waiting : (s d f : ℕ) (x : Next) (at by : ℕ) (ms rs : List (List ℕ)) → e ≡ SignalWait s d f x
+      → at ≡ 3 + d → by ≡ 3 + f
+      → ((c : ℕ)
+      → queue_at ms c ≡ drop (cond (at == c) 1 0) (queue_at qs c) ++ cond (0 == c) (take 1 (queue_at qs at)) [])
       → ((c : ℕ) → queue_at rs c ≡ queue_at ms c ++ cond (by == c) (s ∷ []) [])
       → IsServed (lists_of p qs) e (lists_of p rs)
   serving_waiting s d f x at by ms rs i h k m r =
       subst (λ y. IsServed (lists_of p qs) y (lists_of p rs)) (sym i) (record {
         condition = λ c. condition_at rs c ∙ (there (3 + c)
-            ∙ (λ j. (sym (condition_at ms c) ∙ (served_now qs ms d c passed ∙ (served_one (d == c) (queue_at (drop 3 qs) c)
+            ∙ (λ j. (sym (condition_at ms c)
+            ∙ (served_now qs ms d c passed ∙ (served_one (d == c) (queue_at (drop 3 qs) c)
             ∙ append-nil _))) j ++ cond (same_condition f c j) (s ∷ []) []));
         waiters = there 0 ∙ (ap (λ b. queue_at ms 0 ++ cond b (s ∷ []) []) (not_other 0 f (omega arith))
             ∙ (append-nil (queue_at ms 0) ∙ served_waiters qs ms d passed));
         signallers = there 1
-            ∙ (λ j. other_same qs d 1 ms (omega arith) (omega arith) passed j ++ cond (not_other 1 f (omega arith) j) (s ∷ []) []);
+            ∙ (λ j. other_same qs d 1 ms (omega arith) (omega arith) passed j
+            ++ cond (not_other 1 f (omega arith) j) (s ∷ []) []);
         untils = ap (waits_in p)
-            (there 2 ∙ ((λ j. other_same qs d 2 ms (omega arith) (omega arith) passed j ++ cond (not_other 2 f (omega arith) j) (s ∷ []) [])
+            (there 2
+            ∙ ((λ j. other_same qs d 2 ms (omega arith) (omega arith) passed j
+            ++ cond (not_other 2 f (omega arith) j) (s ∷ []) [])
             ∙ append-nil (queue_at qs 2)))
             ∙ sym (append-nil (waits_in p (queue_at qs 2)));
       })
@@ -290,7 +314,8 @@ module _ (p : List ℕ) (qs : List (List ℕ)) (e : Event) where
   pub signalling : (s d : ℕ) (x : Next) (at : ℕ) (ms rs : List (List ℕ)) → e ≡ Signal s d x → at ≡ 3 + d
       → false ≡ is_empty (queue_at (drop 3 qs) d)
       → ((c : ℕ) → queue_at ms c ≡ queue_at qs c ++ cond (1 == c) (s ∷ []) [])
-      → ((c : ℕ) → queue_at rs c ≡ drop (cond (at == c) 1 0) (queue_at ms c) ++ cond (0 == c) (take 1 (queue_at ms at)) [])
+      → ((c : ℕ)
+      → queue_at rs c ≡ drop (cond (at == c) 1 0) (queue_at ms c) ++ cond (0 == c) (take 1 (queue_at ms at)) [])
       → IsServed (lists_of p qs) e (lists_of p rs)
   signalling s d x at ms rs i h some m r =
       let kept = others_kept 1 s qs ms (omega arith) m in
@@ -301,7 +326,9 @@ module _ (p : List ℕ) (qs : List (List ℕ)) (e : Event) where
             ∙ (λ j. (m 0 ∙ append-nil (queue_at qs 0)) j ++ take 1 (kept d j));
         signallers = other_same ms d 1 rs (omega arith) (omega arith) there
             ∙ (m 1 ∙ ap (λ b. queue_at qs 1 ++ cond b [] (s ∷ [])) some);
-        untils = ap (waits_in p) (other_same ms d 2 rs (omega arith) (omega arith) there ∙ (m 2 ∙ append-nil (queue_at qs 2)))
+        untils =
+            ap (waits_in p) (other_same ms d 2 rs (omega arith) (omega arith) there
+            ∙ (m 2 ∙ append-nil (queue_at qs 2)))
             ∙ sym (append-nil (waits_in p (queue_at qs 2)));
       })
     where
@@ -309,7 +336,8 @@ module _ (p : List ℕ) (qs : List (List ℕ)) (e : Event) where
       there c = r c ∙ ap (λ y. drop (cond (y == c) 1 0) (queue_at ms c) ++ cond (0 == c) (take 1 (queue_at ms y)) []) h
 
   -- a seat waits until a predicate holds
-  pub until : (s pred : ℕ) (x : Next) (rs : List (List ℕ)) → e ≡ Until s pred x → false ≡ is_stay (Some x) → s < length p
+  pub until : (s pred : ℕ) (x : Next) (rs : List (List ℕ)) → e ≡ Until s pred x → false ≡ is_stay (Some x)
+      → s < length p
       → places s (queue_at qs) ≡ 0 → ((c : ℕ) → queue_at rs c ≡ queue_at qs c ++ cond (2 == c) (s ∷ []) [])
       → IsServed (lists_of p qs) e (lists_of (slice_set p s pred) rs)
   until s pred x rs i stay l none r =
@@ -319,7 +347,8 @@ module _ (p : List ℕ) (qs : List (List ℕ)) (e : Event) where
         signallers = r 1;
         untils = ap (waits_in (slice_set p s pred)) (r 2)
             ∙ (waits_push (slice_set p s pred) (queue_at qs 2) s
-            ∙ ((λ j. waits_set p (queue_at qs 2) s pred (let few = times_le 2 s (queue_at qs) (omega arith) in omega (arith, few, none)) j
+            ∙ ((λ j. waits_set p (queue_at qs 2) s pred
+            (let few = times_le 2 s (queue_at qs) (omega arith) in omega (arith, few, none)) j
             ++ (s, get_or-set_same p s pred 0 l j) ∷ [])
             ∙ ap (λ b. waits_in p (queue_at qs 2) ++ cond b [] ((s, pred) ∷ [])) stay));
       })

@@ -30,11 +30,13 @@ one_wait p (x ∷ xs) zero s h = let same : s ≡ x = cc in ap (λ y. Some (y, g
 one_wait p (x ∷ xs) (suc i) s h = one_wait p xs i s h
 
 -- what is behind a seat in the waits-until, by what is behind it in its queue
-pub none_after : (p xs : List ℕ) (s : ℕ) (o : Option ℕ) → ((i : ℕ) → slice_get xs i ≡ Some s → o ≡ slice_get xs (i + 1)) → o ≡ None
+pub none_after : (p xs : List ℕ) (s : ℕ) (o : Option ℕ)
+    → ((i : ℕ) → slice_get xs i ≡ Some s → o ≡ slice_get xs (i + 1)) → o ≡ None
     → (i r : ℕ) → slice_get (waits_in p xs) i ≡ Some (s, r) → None ≡ slice_get (waits_in p xs) (i + 1)
 none_after p xs s o f e i r h = no_wait p xs (i + 1) (sym e ∙ f i (seat_at p xs i s r h))
 
-pub some_after : (p xs : List ℕ) (s n : ℕ) (o : Option ℕ) → ((i : ℕ) → slice_get xs i ≡ Some s → o ≡ slice_get xs (i + 1)) → o ≡ Some n
+pub some_after : (p xs : List ℕ) (s n : ℕ) (o : Option ℕ)
+    → ((i : ℕ) → slice_get xs i ≡ Some s → o ≡ slice_get xs (i + 1)) → o ≡ Some n
     → (i r : ℕ) → slice_get (waits_in p xs) i ≡ Some (s, r) → Some (n, get_or p n 0) ≡ slice_get (waits_in p xs) (i + 1)
 some_after p xs s n o f e i r h = one_wait p xs (i + 1) n (sym e ∙ f i (seat_at p xs i s r h))
 

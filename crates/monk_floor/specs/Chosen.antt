@@ -12,7 +12,8 @@ use Rattle.monk_floor.specs.Grown.{IsGrown}
 use Rattle.monk_floor.specs.View.{FloorView, monitor_of, stands_of}
 
 -- the choice by the wish rules, with which the event is allowed
-pub record IsChosen (k : Rules) (o : Object) (f : FloorView) (e : Event) (known : Bool) (pick : Pick) (next : Next) : Type 0 where
+pub record IsChosen (k : Rules) (o : Object) (f : FloorView) (e : Event) (known : Bool) (pick : Pick)
+    (next : Next) : Type 0 where
   pub choice : next ≡ choice_of k o (stands_of k o f) e known pick
   pub allowed : IsAllowed (monitor_of k o f) f.history (with_next next e)
 

@@ -71,7 +71,8 @@ finds_none queue e = option_map_or (λ c. is_empty (queue c)) (steps_back e) fal
 pub record IsMoved (old : QueueLists) (e : Event) (new : QueueLists) : Type 0 where
   pub condition : (c : ℕ) → queue_at new.conditions c ≡ drop (length (served_by c e (queue_at old.conditions c)))
       (queue_at old.conditions c) ++ waiting_by c e
-  pub waiters : new.waiters ≡ drop (if is_waiter (next_of e) then 1 else 0) (old.waiters ++ serves (queue_at old.conditions) e)
+  pub waiters : new.waiters ≡ drop (if is_waiter (next_of e) then 1 else 0)
+      (old.waiters ++ serves (queue_at old.conditions) e)
   pub signallers : new.signallers ≡ drop (if takes_signaller (queue_at old.conditions) e then 1 else 0)
       (old.signallers ++ signals (queue_at old.conditions) e)
   pub untils : new.untils ≡ filter (λ w. not (chooses e w)) old.untils ++ waits_until e

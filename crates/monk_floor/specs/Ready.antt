@@ -11,7 +11,8 @@ use Rattle.monk_history.specs.declared.event.Event.{Event}
 use Rattle.monk_floor.specs.Queues.{QueueLists, in_lists}
 
 -- an event fits what a floor keeps
-pub record HasRoomFor (q : QueueLists) (inside : List Bool) (spent granted : List ℕ) (entered : ℕ) (e : Event) : Type 0 where
+pub record HasRoomFor (q : QueueLists) (inside : List Bool) (spent granted : List ℕ) (entered : ℕ)
+    (e : Event) : Type 0 where
   pub few : seat_of e < most_seats
   pub seat : seat_of e < length inside
   pub counted : seat_of e < length spent
@@ -26,4 +27,5 @@ pub record HasRoomFor (q : QueueLists) (inside : List Bool) (spent granted : Lis
 -- whether an event must stay, by the queues of the conditions and the data
 abbrev pub stays_by : Object → (ℕ → List ℕ) → List ℕ → Event → Bool
 stays_by o queue d e =
-    option_map_or (λ c. is_empty (queue c)) (steps_back e) (option_map_or (λ p. o.holds d p) (awaited_predicate e) false)
+    option_map_or (λ c. is_empty (queue c)) (steps_back e)
+    (option_map_or (λ p. o.holds d p) (awaited_predicate e) false)

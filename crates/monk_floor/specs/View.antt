@@ -24,4 +24,5 @@ stands_of k o f = situation (monitor_of k o f) f.history
 
 -- a floor before any event
 abbrev pub empty_floor : List ℕ → ℕ → ℕ → ℕ → FloorView
-empty_floor opening seats conds budget = record { opening = opening; seats = seats; conds = conds; budget = budget; history = [] }
+empty_floor opening seats conds budget =
+    record { opening = opening; seats = seats; conds = conds; budget = budget; history = [] }

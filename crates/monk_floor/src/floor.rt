@@ -86,7 +86,8 @@ impl<K: Kind, T: Guarded> Floor<K, T> {
         conds: u8,
         budget: u32,
     ) -> Result<Floor<K, T>, MakeFault>
-        ensures made { IfOk result (λ f. (make_refusal seats conds budget ≡ None) × (f ≡ empty_floor (T.state object) seats conds budget)) }
+        ensures made { IfOk result (λ f. (make_refusal seats conds budget ≡ None)
+            × (f ≡ empty_floor (T.state object) seats conds budget)) }
         ensures refused { IfErr result (λ e. IsRefused seats conds budget e) }
     {
         if seats < 1 || seats > MOST_SEATS {

@@ -36,7 +36,8 @@ pub fn mark_inside(inside: &mut [bool], event: Event)
 pub fn count_one(counts: &mut [u32], seat: u8)
     requires within { seat < length counts.old }
     requires low { slice_index_or counts.old seat 0 < 2 ^ 25 }
-    ensures counted { (j : ℕ) → slice_index_or counts.new j 0 ≡ slice_index_or counts.old j 0 + (if seat == j then 1 else 0) }
+    ensures counted { (j : ℕ)
+        → slice_index_or counts.new j 0 ≡ slice_index_or counts.old j 0 + (if seat == j then 1 else 0) }
     ensures count { length counts.new ≡ length counts.old }
 {
     counts[seat as usize] += 1;
@@ -46,7 +47,8 @@ pub fn count_one(counts: &mut [u32], seat: u8)
 fn grant(granted: &mut [u32], event: Event)
     requires named { list_all (λ j. nat_lt j (length granted.old)) (events.named_seat (events.next_of event)) ≡ true }
     requires low { (j : ℕ) → slice_index_or granted.old j 0 < 2 ^ 25 }
-    ensures counted { (j : ℕ) → slice_index_or granted.new j 0 ≡ slice_index_or granted.old j 0 + (if counts.grants j event then 1 else 0) }
+    ensures counted { (j : ℕ)
+        → slice_index_or granted.new j 0 ≡ slice_index_or granted.old j 0 + (if counts.grants j event then 1 else 0) }
     ensures count { length granted.new ≡ length granted.old }
 {
     match event.choice() {
@@ -110,7 +112,8 @@ impl Ledger {
 
     /// Notes one event more.
     pub fn note(&mut self, event: Event)
-        requires { HasRoomFor self.old.queues self.old.inside.items self.old.spent.items self.old.granted.items self.old.entered event }
+        requires { HasRoomFor self.old.queues self.old.inside.items self.old.spent.items self.old.granted.items
+            self.old.entered event }
         ensures queues { IsMoved self.old.queues event self.new.queues }
         ensures turn { self.new.turn ≡ turns.turn_by (events.seat_of event) (events.next_of event) }
         ensures inside { (j : ℕ)

@@ -77,7 +77,8 @@ impl Queues {
     /// The wait-until behind that of a seat. Constant time.
     pub fn until_after(&self, seat: u8) -> Option<(u8, u8)>
         requires { 1 ≤ lists.times_in_waits seat self.now.untils }
-        ensures { (i pred : ℕ) → slice_get self.now.untils i ≡ Some (seat, pred) → result ≡ slice_get self.now.untils (i + 1) }
+        ensures { (i pred : ℕ) → slice_get self.now.untils i ≡ Some (seat, pred)
+            → result ≡ slice_get self.now.untils (i + 1) }
     {
         let next = self.links.after(UNTILS, seat)?;
         Some((next, self.predicates[next as usize]))
@@ -217,7 +218,8 @@ impl Queues {
     /// Takes the fronts that an event chose, once it has served.
     fn settle(&mut self, event: Event, none: bool)
         ensures conditions { (c : ℕ) → lists.queue_at self.new.conditions c ≡ lists.queue_at self.old.conditions c }
-        ensures waiters { self.new.waiters ≡ drop (if events.is_waiter (events.next_of event) then 1 else 0) self.old.waiters }
+        ensures waiters { self.new.waiters
+            ≡ drop (if events.is_waiter (events.next_of event) then 1 else 0) self.old.waiters }
         ensures signallers { self.new.signallers ≡ drop (if takes_front none event then 1 else 0) self.old.signallers }
         ensures untils { self.new.untils ≡ self.old.untils }
     {

@@ -44,14 +44,17 @@ length_seats [] = refl
 length_seats (u ∷ us) = ap suc (length_seats us)
 
 -- a seat that isn't one of the monitor's is in no queue
-far_unqueued : (m : Monitor) (t : Situation) (j : ℕ) → IsPlaced m.conds t → IsSeated m.seats t → m.seats ≤ j → in_queues m.conds j t ≡ 0
+far_unqueued : (m : Monitor) (t : Situation) (j : ℕ) → IsPlaced m.conds t → IsSeated m.seats t → m.seats ≤ j
+    → in_queues m.conds j t ≡ 0
 far_unqueued m t j placed seated far = by_inside (t.inside j) refl
   where
     by_inside : (b : Bool) → t.inside j ≡ b → in_queues m.conds j t ≡ 0
     by_inside true e = let low = seated j e in absurd (omega arith)
-    by_inside false e = let p = placed j in let z : ◌≡◌ {A = ℕ} (cond (t.inside j) 1 0) 0 = ap (λ (b : Bool). cond b 1 0) e in omega arith
+    by_inside false e = let p = placed j in
+        let z : ◌≡◌ {A = ℕ} (cond (t.inside j) 1 0) 0 = ap (λ (b : Bool). cond b 1 0) e in omega arith
 
-pub nobody : (k : Rules) (o : Object) (f : FloorView) → IsLegal (monitor_of k o f) f.history → IsUnqueued k o f f.seats → HasNobody f
+pub nobody : (k : Rules) (o : Object) (f : FloorView) → IsLegal (monitor_of k o f) f.history
+    → IsUnqueued k o f f.seats → HasNobody f
 nobody k o f legal unqueued =
     let m = monitor_of k o f in
     let t = situation m f.history in
@@ -83,9 +86,12 @@ both_empty false = refl
 entry_by : (k : Rules) (ws ss rs : List ℕ) (s : ℕ) → ws ≡ [] → ss ≡ [] → rs ≡ []
     → choice_by k (record { waiters = ws; signallers = ss; ready = rs }) s false WishEntry ≡ next.Entry
 entry_by k ws ss rs s w z r =
-    subst (λ (x : List ℕ). choice_by k (record { waiters = x; signallers = ss; ready = rs }) s false WishEntry ≡ next.Entry) (sym w)
-    (subst (λ (x : List ℕ). choice_by k (record { waiters = []; signallers = x; ready = rs }) s false WishEntry ≡ next.Entry) (sym z)
-    (subst (λ (x : List ℕ). choice_by k (record { waiters = []; signallers = []; ready = x }) s false WishEntry ≡ next.Entry) (sym r)
+    subst (λ (x : List ℕ). choice_by k (record { waiters = x; signallers = ss; ready = rs }) s false WishEntry
+    ≡ next.Entry) (sym w)
+    (subst (λ (x : List ℕ). choice_by k (record { waiters = []; signallers = x; ready = rs }) s false WishEntry
+    ≡ next.Entry) (sym z)
+    (subst (λ (x : List ℕ). choice_by k (record { waiters = []; signallers = []; ready = x }) s false WishEntry
+    ≡ next.Entry) (sym r)
     (ap (λ (b : Bool). cond b next.Entry
     (cond (is_waiter_open k none) (waiter_choice k none) (signaller_choice none s)))
     (both_empty (has_conditions k.mode)))))
@@ -98,7 +104,8 @@ pub leaves_last : (k : Rules) (o : Object) (f : FloorView) (s : ℕ) → HasNobo
 leaves_last k o f s none =
     let t = stands_of k o f in
     let call = Leave s next.Stay in
-    entry_by k (t.waiters ++ serves t.condition call) (t.signallers ++ signals t.condition call) (ready_of o t.state t.untils) s
+    entry_by k (t.waiters ++ serves t.condition call) (t.signallers ++ signals t.condition call)
+    (ready_of o t.state t.untils) s
     (ap (λ (x : List ℕ). x ++ serves t.condition call) none.waiters)
     (ap (λ (x : List ℕ). x ++ signals t.condition call) none.signallers) (ap (ready_of o t.state) none.untils)
 
@@ -115,12 +122,14 @@ pub ended : (k : Rules) (o : Object) (a : Holder) (f : FloorView) (number : ℕ)
     → choice ≡ choice_of k o (stands_of k o f) (Leave number next.Stay) false WishEntry
     → history ≡ g.history → IsLegal (monitor_of k o g) g.history → state ≡ data_of (monitor_of k o g) g.history
     → length g.history ≤ g.seats * g.budget → IsEnded k o a history state
-ended k o a f number choice g history state floor seat own legal unqueued grows chosen is_history all_legal is_state within =
+ended k o a f number choice g history state floor seat own legal unqueued grows chosen is_history all_legal
+    is_state within =
     let none : HasNobody f = nobody k o f legal (subst (λ (x : FloorView). IsUnqueued k o x x.seats) floor unqueued) in
     let entry : choice ≡ next.Entry = chosen ∙ leaves_last k o f number none in
     let past : g.history ≡ a.floor.history ++ Leave a.me.seat next.Entry ∷ [] =
     ap (λ (x : FloorView). x.history) grows.grown ∙ (λ i. (sym floor i).history ++ Leave (sym seat i) (entry i) ∷ []) in
-    let same : monitor_of k o g ≡ monitor_of k o a.floor = ap (monitor_of k o) grows.grown ∙ ap (monitor_of k o) (sym floor) in
+    let same : monitor_of k o g ≡ monitor_of k o a.floor = ap (monitor_of k o) grows.grown
+    ∙ ap (monitor_of k o) (sym floor) in
     record {
       nobody = subst HasNobody (sym floor) none;
       leaves = is_history ∙ past;
@@ -128,7 +137,8 @@ ended k o a f number choice g history state floor seat own legal unqueued grows 
           ap (λ (x : List Event). events_of x a.me.seat) (is_history ∙ past)
           ∙ own_event a.floor.history (Leave a.me.seat next.Entry) a.me.seat refl
           ∙ ap (λ (x : List Event). x ++ Leave a.me.seat next.Entry ∷ []) own;
-      legal = subst (λ (m : Monitor). IsLegal m history) same (subst (IsLegal (monitor_of k o g)) (sym is_history) all_legal);
+      legal = subst (λ (m : Monitor). IsLegal m history) same
+          (subst (IsLegal (monitor_of k o g)) (sym is_history) all_legal);
       contents = is_state ∙ (λ i. data_of (same i) (sym is_history i));
       few =
           let seats = ap (λ (x : FloorView). x.seats) grows.grown ∙ ap (λ (x : FloorView). x.seats) (sym floor) in

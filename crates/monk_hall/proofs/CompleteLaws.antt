@@ -73,7 +73,8 @@ sum_map f (p ∷ ps) =
     sum_by-cons f p.me.seat (map (λ q. q.me.seat) ps) ∙ ap (λ n. f p.me.seat + n) (sum_map f ps)
     ∙ sym (sum_by-cons (λ q. f q.me.seat) p ps)
 
--- the sum of a weight over a history that holds only these calls is that over the closing seat's, and over each pass's own
+-- the sum of a weight over a history that holds only these calls is that over the closing seat's,
+-- and over each pass's own
 pub holds_sum : (w : Event → ℕ) (h : List Event) (seat : ℕ) (ps : List Token) → AreApart seat ps → HoldsOnly h seat ps
     → sum_by w h ≡ sum_by w (events_of h seat) + sum_by (λ p. sum_by w p.me.mine) ps
 holds_sum w h seat ps apart only =
@@ -83,11 +84,14 @@ holds_sum w h seat ps apart only =
     (λ t none. only.others t (All-head (λ s. s ≢ t) seat seats none)
     (all_back (λ s. s ≢ t) ps (All-tail (λ s. s ≢ t) seat seats none))) in
     let first = sum_by-cons f seat seats in
-    let own = same_sums (λ p. f p.me.seat) (λ p. sum_by w p.me.mine) ps (λ k d within. ap (sum_by w) (only.own k d within)) in
+    let own =
+    same_sums (λ p. f p.me.seat) (λ p. sum_by w p.me.mine) ps (λ k d within. ap (sum_by w) (only.own k d within)) in
     omega (arith, all, first, sum_map f ps, own)
 
 lengths : (ps : List Token) → sum_by (λ p. sum_by (λ (e : Event). 1) p.me.mine) ps ≡ made_by ps
-lengths ps = same_sums (λ p. sum_by (λ (e : Event). 1) p.me.mine) (λ p. length p.me.mine) ps (λ k d within. sym (length-sum_by _))
+lengths ps =
+    same_sums (λ p. sum_by (λ (e : Event). 1) p.me.mine) (λ p. length p.me.mine) ps
+    (λ k d within. sym (length-sum_by _))
 
 -- so it is as long as they have made events
 pub holds_length : (h : List Event) (seat : ℕ) (ps : List Token) → AreApart seat ps → HoldsOnly h seat ps
@@ -97,13 +101,15 @@ holds_length h seat ps apart only =
     omega (arith, all, length-sum_by h, length-sum_by (events_of h seat), lengths ps)
 
 -- each of these seats has all that it knows as its own in a history that begins with what it has seen
-own_le : (h : List Event) (p : Token) → StartsWith h p.me.seen → KnowsItsOwn p → length p.me.mine ≤ length (events_of h p.me.seat)
+own_le : (h : List Event) (p : Token) → StartsWith h p.me.seen → KnowsItsOwn p
+    → length p.me.mine ≤ length (events_of h p.me.seat)
 own_le h p seen own =
     let is = ap (λ (g : List Event). events_of g p.me.seat) seen.1 ∙ events_of-append p.me.seen seen.0 p.me.seat in
     let long = ap length is ∙ length-append (events_of p.me.seen p.me.seat) (events_of seen.0 p.me.seat) in
     omega (arith, long, ap length own)
 
-own_is : (h : List Event) (p : Token) → StartsWith h p.me.seen → KnowsItsOwn p → length p.me.mine ≡ length (events_of h p.me.seat)
+own_is : (h : List Event) (p : Token) → StartsWith h p.me.seen → KnowsItsOwn p
+    → length p.me.mine ≡ length (events_of h p.me.seat)
     → events_of h p.me.seat ≡ p.me.mine
 own_is h p seen own same =
     let is = ap (λ (g : List Event). events_of g p.me.seat) seen.1 ∙ events_of-append p.me.seen seen.0 p.me.seat in
@@ -137,13 +143,15 @@ sum_tight a b (x ∷ xs) h same =
 
 -- a history's length, seat by seat
 counted : (h : List Event) (seat : ℕ) (ps : List Token) → AreApart seat ps
-    → length h ≡ length (events_of h seat) + sum_by (λ p. length (events_of h p.me.seat)) ps + length (rest_of (seats_of seat ps) h)
+    → length h ≡ length (events_of h seat) + sum_by (λ p. length (events_of h p.me.seat)) ps
+    + length (rest_of (seats_of seat ps) h)
 counted h seat ps apart =
     let one : Event → ℕ = λ e. 1 in
     let f : ℕ → ℕ = λ s. sum_by one (events_of h s) in
     let all = sum_by_seats one (seats_of seat ps) h (distinct seat ps apart) in
     let first = sum_by-cons f seat (map (λ p. p.me.seat) ps) in
-    let same = same_sums (λ p. f p.me.seat) (λ p. length (events_of h p.me.seat)) ps (λ k d within. sym (length-sum_by _)) in
+    let same =
+    same_sums (λ p. f p.me.seat) (λ p. length (events_of h p.me.seat)) ps (λ k d within. sym (length-sum_by _)) in
     omega (
       arith,
       all,
@@ -160,10 +168,16 @@ all_le : (h : List Event) (ps : List Token) → HaveSeenPart h ps → All KnowsI
 all_le h ps seen own k d within = own_le h (slice_index_or ps k d) (seen k d within) (own k d within)
 
 -- their events fit in it
-pub known_fits : (h : List Event) (seat : ℕ) (ps : List Token) → AreApart seat ps → HaveSeenPart h ps → All KnowsItsOwn ps
+pub known_fits : (h : List Event) (seat : ℕ) (ps : List Token) → AreApart seat ps → HaveSeenPart h ps
+    → All KnowsItsOwn ps
     → length (events_of h seat) + made_by ps ≤ length h
 known_fits h seat ps apart seen own =
-    omega (arith, counted h seat ps apart, sum_le (λ p. length p.me.mine) (λ p. length (events_of h p.me.seat)) ps (all_le h ps seen own))
+    omega (
+      arith,
+      counted h seat ps apart,
+      sum_le (λ p. length p.me.mine)
+          (λ p. length (events_of h p.me.seat)) ps (all_le h ps seen own),
+    )
 
 -- and so do those of the first of them
 pub some_fit : (h : List Event) (seat : ℕ) (ps : List Token) (n : ℕ) → AreApart seat ps → HaveSeenPart h ps
@@ -176,13 +190,16 @@ unfolding events_of
 nothing s = refl
 
 -- where they are as many as it has events, it holds nothing else
-pub holds_only : (h : List Event) (seat : ℕ) (ps : List Token) → AreApart seat ps → HaveSeenPart h ps → All KnowsItsOwn ps
+pub holds_only : (h : List Event) (seat : ℕ) (ps : List Token) → AreApart seat ps → HaveSeenPart h ps
+    → All KnowsItsOwn ps
     → length (events_of h seat) + made_by ps ≡ length h → HoldsOnly h seat ps
 holds_only h seat ps apart seen own same =
     let le = all_le h ps seen own in
     let whole = counted h seat ps apart in
     let few = sum_le (λ p. length p.me.mine) (λ p. length (events_of h p.me.seat)) ps le in
-    let tight = sum_tight (λ p. length p.me.mine) (λ p. length (events_of h p.me.seat)) ps le (omega (arith, whole, few, same)) in
+    let tight =
+    sum_tight (λ p. length p.me.mine) (λ p. length (events_of h p.me.seat)) ps le
+    (omega (arith, whole, few, same)) in
     let none = nil_from_length (rest_of (seats_of seat ps) h) (omega (arith, whole, few, same)) in
     record {
       own = λ k d within. own_is h (slice_index_or ps k d) (seen k d within) (own k d within) (tight k d within);
@@ -202,10 +219,12 @@ one_counted h s n count d lt is =
 pub own_counted : (h : List Event) (s n count : ℕ) (d : Event) → n < length h → count ≡ length (events_of (take n h) s)
     → seat_of (slice_index_or h n d) ≡ s → count + 1 ≡ length (events_of (take (n + 1) h) s)
 own_counted h s n count d lt is same =
-    let one : ◌≡◌ {A = ℕ} (cond (seat_of (slice_index_or h n d) == s) 1 0) 1 = ap (λ (b : Bool). cond b 1 0) (eq-eqb _ s same) in
+    let one : ◌≡◌ {A = ℕ} (cond (seat_of (slice_index_or h n d) == s) 1 0) 1 =
+    ap (λ (b : Bool). cond b 1 0) (eq-eqb _ s same) in
     omega (arith, one_counted h s n count d lt is, one)
 
-pub other_counted : (h : List Event) (s n count : ℕ) (d : Event) → n < length h → count ≡ length (events_of (take n h) s)
+pub other_counted : (h : List Event) (s n count : ℕ) (d : Event) → n < length h
+    → count ≡ length (events_of (take n h) s)
     → seat_of (slice_index_or h n d) ≢ s → count ≡ length (events_of (take (n + 1) h) s)
 other_counted h s n count d lt is ne =
     let none : ◌≡◌ {A = ℕ} (cond (seat_of (slice_index_or h n d) == s) 1 0) 0 = ⊎_elim (λ t. absurd (ne t.1))
@@ -216,7 +235,8 @@ pub starts_counted : (h : List Event) (s : ℕ) → (0 ≡ length (events_of [] 
 starts_counted h s = (sym (ap length (nothing s)), omega arith, omega arith)
 
 -- one pass more, in how many events are known
-pub one_made : (ps : List Token) (n base known more : ℕ) (d : Token) → n < length ps → known ≡ base + made_by (take n ps)
+pub one_made : (ps : List Token) (n base known more : ℕ) (d : Token) → n < length ps
+    → known ≡ base + made_by (take n ps)
     → more ≡ length (slice_index_or ps n d).me.mine → known + more ≡ base + made_by (take (n + 1) ps)
 one_made ps n base known more d lt is one =
     let next = sum_by_more (λ p. length p.me.mine) ps n d lt in omega (arith, next, is, one)

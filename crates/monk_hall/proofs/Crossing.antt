@@ -37,7 +37,8 @@ use Rattle.monk_hall.specs.contracts.parked.Parked.TheInside as ParkedInside
 use Rattle.monk_hall.specs.contracts.pass.Pass as Pass
 use Rattle.monk_hall.specs.contracts.pass.Pass.TheInside as PassInside
 
-shared_sync : (S V K P : RattleType) (g : TableRule.Ghosts P.Denot S.Denot V.Denot K.Denot) → IsSend S → IsSync (Shared.the_row S V K P g)
+shared_sync : (S V K P : RattleType) (g : TableRule.Ghosts P.Denot S.Denot V.Denot K.Denot) → IsSend S
+    → IsSync (Shared.the_row S V K P g)
 shared_sync S V K P g s =
     let fields : IsSync (Struct (owning.shape (Shared.the_type S V K P g))) = search sendable depth 20 in
     record {
@@ -50,7 +51,8 @@ shared_sync S V K P g s =
 lease_sync : (S : RattleType) → IsSync (SendLease.the_row S Heap.the_row ghosts)
 lease_sync S = record {
   shared =
-      λ d b o ν q. part_keyless (SendLease.the_row S Heap.the_row ghosts) (right_send S Heap.the_row ghosts frees) q d b o;
+      λ d b o ν q. part_keyless (SendLease.the_row S Heap.the_row ghosts)
+      (right_send S Heap.the_row ghosts frees) q d b o;
 }
 
 badge_send : (V : RattleType) → IsSend (Badge.the_row V)
@@ -75,8 +77,10 @@ table_sync S V K P g s =
 boxed_floor_inside : (K T : RattleType) (k : Kind.Ghosts K.Denot) (t : Guarded.Ghosts T.Denot) → IsSend K → IsSend T
     → IsSend (BoxedFloorInside.the_row K T k t)
 boxed_floor_inside K T k t sk st =
-    let all : AllSend (shape (BoxedFloorInside.the_type K T k t)).fields = (Box-send _ (floor_send K T k t sk st), tt) in
-    recorded_send _ _ _ ((BoxedFloorInside.the_type K T k t).to_one) (struct_send (shape (BoxedFloorInside.the_type K T k t)) all)
+    let all : AllSend (shape (BoxedFloorInside.the_type K T k t)).fields =
+    (Box-send _ (floor_send K T k t sk st), tt) in
+    recorded_send _ _ _ ((BoxedFloorInside.the_type K T k t).to_one)
+    (struct_send (shape (BoxedFloorInside.the_type K T k t)) all)
 
 boxed_floor_send : (K T : RattleType) (k : Kind.Ghosts K.Denot) (t : Guarded.Ghosts T.Denot) → IsSend K → IsSend T
     → IsSend (BoxedFloor.the_row K T k t)
@@ -86,7 +90,8 @@ hall_inside : (K T : RattleType) (k : Kind.Ghosts K.Denot) (t : Guarded.Ghosts T
     → IsSync (HallInside.the_row K T k t)
 hall_inside K T k t sk st =
     let all : AllSync (shape (HallInside.the_type K T k t)).fields = (
-      table_sync (Option.the_row (BoxedFloor.the_row K T k t)) (LinkedList.the_row SeatRecord.the_row Heap.the_row ghosts)
+      table_sync (Option.the_row (BoxedFloor.the_row K T k t))
+          (LinkedList.the_row SeatRecord.the_row Heap.the_row ghosts)
           (Setup.the_row T) (HallRule.the_row K T)
           (RuleImpl.ghosts K T k RuleImpl.no_dict t RuleImpl.no_dict RuleImpl.no_dict RuleImpl.no_dict)
           (option_send (BoxedFloor.the_row K T k t) (boxed_floor_send K T k t sk st)),
@@ -117,7 +122,8 @@ seat_send S V s = record {
       λ k f vs. tt;
 }
 
-shared_send : (S V K P : RattleType) (g : TableRule.Ghosts P.Denot S.Denot V.Denot K.Denot) → IsSend S → IsSend (Shared.the_row S V K P g)
+shared_send : (S V K P : RattleType) (g : TableRule.Ghosts P.Denot S.Denot V.Denot K.Denot) → IsSend S
+    → IsSend (Shared.the_row S V K P g)
 shared_send S V K P g s = record {
   owned =
       λ d vs. (
@@ -138,7 +144,8 @@ active_send K T k t sk st =
     let all : AllSend (shape (ActiveInside.the_type K T k t)).fields =
     (seat_send _ _ (option_send _ floor), (search sendable, (search sendable, (search sendable, (floor, tt))))) in
     view_send (ActiveInside.the_row K T k t) _ _ _ _
-    (recorded_send _ _ _ ((ActiveInside.the_type K T k t).to_one) (struct_send (shape (ActiveInside.the_type K T k t)) all))
+    (recorded_send _ _ _ ((ActiveInside.the_type K T k t).to_one)
+    (struct_send (shape (ActiveInside.the_type K T k t)) all))
 
 pub parked_send : (K T : RattleType) (k : Kind.Ghosts K.Denot) (t : Guarded.Ghosts T.Denot) → IsSend K → IsSend T
     → IsSend (Parked.the_row K T k t)
@@ -149,7 +156,8 @@ parked_send K T k t sk st =
       (search sendable, (search sendable, (search sendable, (search sendable, (place_send, tt))))),
     ) in
     view_send (ParkedInside.the_row K T k t) _ _ _ _
-    (recorded_send _ _ _ ((ParkedInside.the_type K T k t).to_one) (struct_send (shape (ParkedInside.the_type K T k t)) all))
+    (recorded_send _ _ _ ((ParkedInside.the_type K T k t).to_one)
+    (struct_send (shape (ParkedInside.the_type K T k t)) all))
 
 table_send : (S V K P : RattleType) (g : TableRule.Ghosts P.Denot S.Denot V.Denot K.Denot) → IsSend S
     → IsSend (Table.the_field S V K P Heap.the_row g ghosts).row
@@ -158,7 +166,13 @@ table_send S V K P g s =
       shared_send S V K P g s,
       (
         search sendable,
-        (search sendable, (right_send _ Heap.the_row ghosts frees, (right_send S Heap.the_row ghosts frees, (heap_send, tt)))),
+        (
+          search sendable,
+          (
+            right_send _ Heap.the_row ghosts frees,
+            (right_send S Heap.the_row ghosts frees, (heap_send, tt)),
+          ),
+        ),
       ),
     ) in
     struct_send (shape (Table.the_type S V K P Heap.the_row g ghosts)) all
@@ -167,7 +181,8 @@ pub hall_send : (K T : RattleType) (k : Kind.Ghosts K.Denot) (t : Guarded.Ghosts
     → IsSend (Hall.the_row K T k t)
 hall_send K T k t sk st =
     let all : AllSend (shape (HallInside.the_type K T k t)).fields = (
-      table_send (Option.the_row (BoxedFloor.the_row K T k t)) (LinkedList.the_row SeatRecord.the_row Heap.the_row ghosts)
+      table_send (Option.the_row (BoxedFloor.the_row K T k t))
+          (LinkedList.the_row SeatRecord.the_row Heap.the_row ghosts)
           (Setup.the_row T) (HallRule.the_row K T)
           (RuleImpl.ghosts K T k RuleImpl.no_dict t RuleImpl.no_dict RuleImpl.no_dict RuleImpl.no_dict)
           (option_send (BoxedFloor.the_row K T k t) (boxed_floor_send K T k t sk st)),

@@ -54,7 +54,8 @@ fresh_in c (suc n) i j low high = elim (eqb_tells j i) [
 
 distinct_fresh : (c : Setting) (n i : ℕ) → Distinct (opening_records c n i)
 distinct_fresh c zero i = tt
-distinct_fresh c (suc n) i = ((λ y h e. let l = (in_fresh c n (suc i) y h).low in omega arith), distinct_fresh c n (suc i))
+distinct_fresh c (suc n) i =
+    ((λ y h e. let l = (in_fresh c n (suc i) y h).low in omega arith), distinct_fresh c n (suc i))
 
 none_of : (j : ℕ) → events_of [] j ≡ []
 unfolding events_of
@@ -97,7 +98,10 @@ opens k o c words made some wide zeros = (
       back = λ j e. absurd (omega arith);
       lent = λ j q e. absurd cc;
       home = λ _. (refl, refl);
-      calls = record { choosing = λ j m e. absurd (omega arith); settled = λ m _. granted_none m ∙ sym (zeros (seat_word m)) };
+      calls = record {
+        choosing = λ j m e. absurd (omega arith);
+        settled = λ m _. granted_none m ∙ sym (zeros (seat_word m));
+      };
     };
   },
 )
@@ -147,8 +151,12 @@ module _ (c : Setting) (views : List View) (at : ℕ → SeatRecord) (sh : AreSh
       let was = sh.each id v view r (there_ys r stays) in
       (was.0, desk_else r.seat (apart r stays) ∙ was.1 ∙ sym t.0, was.2))
       (λ t.
-      let was = sh.each j u t.1 r in_u in
-      (was.0, desk_else r.seat (λ eq. t.0 (sym was.1 ∙ ap sh.desk eq ∙ (sh.each id v view x there_x).1)) ∙ was.1, was.2))
+      let was = sh.each j u t.1 r in_u in (
+        was.0,
+        desk_else r.seat (λ eq. t.0 (sym was.1 ∙ ap sh.desk eq ∙ (sh.each id v view x there_x).1))
+            ∙ was.1,
+        was.2,
+      ))
       (at_set views id j ys u old))
       (λ new.
       let is_x = only r x (subst (λ (z : View). In r z) (sym new.0) in_u) in
@@ -160,7 +168,8 @@ module _ (c : Setting) (views : List View) (at : ℕ → SeatRecord) (sh : AreSh
       ))
       (at_end left_views (x ∷ []) u j e)
 
-  there_after : (j : ℕ) → j < c.seats → (u : View) × (get_elem? (left_views ++ (x ∷ []) ∷ []) (moved_desk j) ≡ maybe.some u) × In (at j) u
+  there_after : (j : ℕ) → j < c.seats
+      → (u : View) × (get_elem? (left_views ++ (x ∷ []) ∷ []) (moved_desk j) ≡ maybe.some u) × In (at j) u
   there_after j near = elim (eqb_tells j x.seat) [
     | inl h ↦ (
       x ∷ [],
@@ -173,7 +182,8 @@ module _ (c : Setting) (views : List View) (at : ℕ → SeatRecord) (sh : AreSh
         let old = sh.there j near in
         elim (eqb_tells (sh.desk j) id) [
           | inl d ↦
-              let is_v : old.0 ≡ v = some-injective old.0 v (sym old.1 ∙ ap (λ (n : ℕ). get_elem? views n) d.1 ∙ view) in
+              let is_v : old.0 ≡ v =
+              some-injective old.0 v (sym old.1 ∙ ap (λ (n : ℕ). get_elem? views n) d.1 ∙ view) in
               elim (either (at j) (subst (λ (z : View). In (at j) z) is_v old.2)) [
                 | inl e ↦ absurd (h.1 (sym (sh.seats j) ∙ ap (λ (z : SeatRecord). z.seat) e))
                 | inr e ↦ (
@@ -208,17 +218,23 @@ module _ (c : Setting) (views : List View) (at : ℕ → SeatRecord) (sh : AreSh
 deals : (k : Rules) (o : Object) (c : Setting) (id : ℕ) (r : SeatRecord) (rs : View)
     → Splits {S = Option FloorView} (IsHall k o c) id (r ∷ rs) (tail (r ∷ rs)) (head (r ∷ rs))
 deals k o c id r rs s h view =
-    let distinct = h.1.apart id (r ∷ rs) view in
-    (h.0, shown_moved c s.views h.0 h.1 id (r ∷ rs) rs r view (inl refl) (λ z i. inr i) (λ z i. i) distinct.0 distinct.1, h.2)
+    let distinct = h.1.apart id (r ∷ rs) view in (
+      h.0,
+      shown_moved c s.views h.0 h.1 id (r ∷ rs) rs r view (inl refl) (λ z i. inr i)
+          (λ z i. i) distinct.0 distinct.1,
+      h.2,
+    )
 
 pub deals_next : (k : Rules) (o : Object) (c : Setting) (id : ℕ) (v : View) (r : SeatRecord) (rs : View) → v ≡ r ∷ rs
     → Splits {S = Option FloorView} (IsHall k o c) id v (tail v) (head v)
 deals_next k o c id v r rs e = subst (λ (x : View). Splits {S = Option FloorView} (IsHall k o c) id x (tail x) (head x))
     (sym e) (deals k o c id r rs)
 
-fresh_step : (c : Setting) (n d : ℕ) → 0 < n → opening_records c n d ≡ opening_record c d ∷ opening_records c (n - 1) (suc d)
+fresh_step : (c : Setting) (n d : ℕ) → 0 < n
+    → opening_records c n d ≡ opening_record c d ∷ opening_records c (n - 1) (suc d)
 fresh_step c zero d h = absurd (omega arith)
-fresh_step c (suc n) d h = let e : n ≡ suc n - 1 = omega arith in ap (λ (m : ℕ). opening_record c d ∷ opening_records c m (suc d)) e
+fresh_step c (suc n) d h = let e : n ≡ suc n - 1 = omega arith in
+    ap (λ (m : ℕ). opening_record c d ∷ opening_records c m (suc d)) e
 
 -- the view of the seats from d on, of m in all
 pub fresh_next : (c : Setting) (v : View) (m d : ℕ) → d < m → v ≡ opening_records c (m - d) d

@@ -67,7 +67,8 @@ starts_on h g f a b = (b.0 ++ a.0, a.1 ∙ ap (λ (x : List Event). x ++ a.0) b.
 chosen_counts : (h : List Event) (e : Event) (x : Next) (m : ℕ) → next_of e ≡ Some x → turn_of_next x ≡ due_to m
     → granted_of (h ++ e ∷ []) m ≡ granted_of h m + 1
 chosen_counts h e x m chose names_m =
-    granted_of-push h e m ∙ ap (λ (b : Bool). granted_of h m + cond b 1 0) (ap (chooses_seat m) chose ∙ names_chosen x m names_m)
+    granted_of-push h e m
+    ∙ ap (λ (b : Bool). granted_of h m + cond b 1 0) (ap (chooses_seat m) chose ∙ names_chosen x m names_m)
 
 names_not : (x : Next) (m : ℕ) → turn_of_next x ≢ due_to m → chooses_seat m (Some x) ≡ false
 names_not next.Stay m ne = refl
@@ -145,7 +146,8 @@ module _ (k : Rules) (o : Object) (c : Setting) (kind : IsKind k) (s : table.Sta
   at_active = stepping.stands_at k o c kind s h id r here (Active q) (standing.active_at r.place active)
 
   seen_past : r.seen ≡ past
-  seen_past = sym (ap (λ (y : SeatRecord). y.seen) (stepping.is k o c kind s h id r here)) ∙ (h.2.told.lent r.seat q at_active).0
+  seen_past = sym (ap (λ (y : SeatRecord). y.seen) (stepping.is k o c kind s h id r here))
+      ∙ (h.2.told.lent r.seat q at_active).0
 
   history_is : h.2.history ≡ past ++ out_event r.seat q (turn past) ∷ []
   history_is = (h.2.told.lent r.seat q at_active).1
@@ -165,7 +167,8 @@ module _ (k : Rules) (o : Object) (c : Setting) (kind : IsKind k) (s : table.Sta
   f_history = ap (λ (g : FloorView). g.history) grown_is
 
   mine_long : events_of before r.seat ≡ events_of h.2.history r.seat ++ ret.goes_on.since
-  mine_long = ap (λ (g : List Event). events_of g r.seat) goes_is ∙ private.own_more r.seat h.2.history ret.goes_on.since ret.goes_on.own
+  mine_long = ap (λ (g : List Event). events_of g r.seat) goes_is
+      ∙ private.own_more r.seat h.2.history ret.goes_on.since ret.goes_on.own
 
   legal_before : IsLegal (monitor_of k o (floor_of c before)) before
   legal_before = subst (λ (g : FloorView). IsLegal (monitor_of k o g) before) before_is ret.goes_on.legal
@@ -258,7 +261,9 @@ module _ (k : Rules) (o : Object) (c : Setting) (kind : IsKind k) (s : table.Sta
       let settled : (m : ℕ) → granted_of before m ≡ world.seat_place m = λ m. before_counts m
       ∙ h.2.told.calls.settled m (λ j. nobody_chose j m) in
       record {
-        choosing = λ j m. at_update at r.seat w (λ n x. back_turn x.place ≡ due_to m → granted_of f.history m ≡ world.seat_place m + 1)
+        choosing =
+            λ j m. at_update at r.seat w (λ n x. back_turn x.place ≡ due_to m
+            → granted_of f.history m ≡ world.seat_place m + 1)
             (λ e. ap (λ (g : List Event). granted_of g m) f_history
             ∙ chosen_counts before last ret.choice m chose_is (sym (ap back_turn back_is) ∙ e)
             ∙ ap (λ (n : ℕ). n + 1) (settled m))
@@ -273,7 +278,8 @@ module _ (k : Rules) (o : Object) (c : Setting) (kind : IsKind k) (s : table.Sta
   past_starts : StartsWith f.history past
   past_starts = (
     out_event r.seat q (turn past) ∷ (ret.goes_on.since ++ last ∷ []),
-    f_history ∙ ap (λ (g : List Event). g ++ last ∷ []) goes_is ∙ ap (λ (g : List Event). (g ++ ret.goes_on.since) ++ last ∷ []) history_is
+    f_history ∙ ap (λ (g : List Event). g ++ last ∷ []) goes_is
+        ∙ ap (λ (g : List Event). (g ++ ret.goes_on.since) ++ last ∷ []) history_is
         ∙ append_assoc (past ++ out_event r.seat q (turn past) ∷ []) ret.goes_on.since (last ∷ [])
         ∙ append_assoc past (out_event r.seat q (turn past) ∷ []) (ret.goes_on.since ++ last ∷ []),
   )
@@ -281,7 +287,8 @@ module _ (k : Rules) (o : Object) (c : Setting) (kind : IsKind k) (s : table.Sta
   others_mine : (j : ℕ) → j ≢ r.seat → events_of f.history j ≡ (h.0 j).mine
   others_mine j ne =
       ap (λ (g : List Event). events_of g j) f_history
-      ∙ frame.other_event before last j (λ e. ne (sym e ∙ (releasing.said r.seat ret.to ret.call ret.choice ret.release).seat))
+      ∙ frame.other_event before last j
+      (λ e. ne (sym e ∙ (releasing.said r.seat ret.to ret.call ret.choice ret.release).seat))
       ∙ ap (λ (g : List Event). events_of g j) goes_is
       ∙ private.others_same r.seat j ne h.2.history ret.goes_on.since ret.goes_on.own
       ∙ ap (λ (g : List Event). events_of g j) history_is

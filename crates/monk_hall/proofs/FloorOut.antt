@@ -85,7 +85,9 @@ module _ (k : Rules) (o : Object) (c : Setting) (kind : IsKind k) (s : table.Sta
   at_home = (h.2.told.home nobody).1
 
   kept_old : IsKept k o c.seats c.conds old
-  kept_old = subst (λ (g : List Event). IsKept k o c.seats c.conds (shown_state c s.words h.0 g)) (h.2.told.home nobody).0 h.2.kept
+  kept_old =
+      subst (λ (g : List Event). IsKept k o c.seats c.conds (shown_state c s.words h.0 g))
+      (h.2.told.home nobody).0 h.2.kept
 
   after : State
   after = record {
@@ -110,7 +112,8 @@ module _ (k : Rules) (o : Object) (c : Setting) (kind : IsKind k) (s : table.Sta
 
   step_after : IsStep k o old r.seat command.Out answer.Now after
   unfolding after
-  step_after = frame.step_is k o old r.seat command.Out answer.Now after (Due (source_from r.place)) ready at_due (refl, refl)
+  step_after =
+      frame.step_is k o old r.seat command.Out answer.Now after (Due (source_from r.place)) ready at_due (refl, refl)
 
   same : Path State after (shown_state c s.words (update h.0 r.seat w) (past ++ came ∷ []))
   unfolding after
@@ -136,9 +139,12 @@ module _ (k : Rules) (o : Object) (c : Setting) (kind : IsKind k) (s : table.Sta
         one_slot = length-set s.homes 0 maybe.none ∙ told.one_slot;
         legal = told.legal;
         starts = at_update at r.seat w (λ j x. StartsWith past x.seen) (frame.starts_self past) (λ j _. told.starts j);
-        mine = at_update at r.seat w (λ j x. events_of past j ≡ x.mine) (told.mine r.seat ∙ sym mine) (λ j _. told.mine j);
-        own = at_update at r.seat w (λ j x. events_of x.seen j ≡ x.mine) (told.mine r.seat ∙ sym mine) (λ j _. told.own j);
-        back = at_update at r.seat w (λ j x. stage x.place ≡ back_stage → x.seen ≡ past) (λ e. absurd (omega arith)) (λ j _. told.back j);
+        mine = at_update at r.seat w (λ j x. events_of past j ≡ x.mine) (told.mine r.seat ∙ sym mine)
+            (λ j _. told.mine j);
+        own = at_update at r.seat w (λ j x. events_of x.seen j ≡ x.mine) (told.mine r.seat ∙ sym mine)
+            (λ j _. told.own j);
+        back = at_update at r.seat w (λ j x. stage x.place ≡ back_stage → x.seen ≡ past)
+            (λ e. absurd (omega arith)) (λ j _. told.back j);
         lent = at_update at r.seat w
             (λ j x. (q : Source) → x.place ≡ Active q
             → (x.seen ≡ past) × (past ++ came ∷ [] ≡ past ++ out_event j q (turn past) ∷ [])
@@ -200,7 +206,9 @@ module _ (k : Rules) (o : Object) (c : Setting) (kind : IsKind k) (s : table.Sta
         legal = told.legal;
         starts = subst (λ (y : SeatRecord). StartsWith past y.seen) is (told.starts r.seat);
         mine = mine;
-        allowed = legal_last (monitor_of k o floor) past came (subst (IsKept k o c.seats c.conds) same kept_after).sound.is_sound.legal;
+        allowed =
+            legal_last (monitor_of k o floor) past came
+            (subst (IsKept k o c.seats c.conds) same kept_after).sound.is_sound.legal;
         left = let l = sound.left r.seat in let p = ap left_at at_due in omega arith;
         within = let b = kept_old.bounded.within r.seat in let l = ap length mine in let y =
             ap (λ (x : Setting). x.budget) setting in omega arith;

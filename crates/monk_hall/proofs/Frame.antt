@@ -55,12 +55,14 @@ below n m l = grind (arith, l)
 not_below : (n m : ℕ) → m ≤ n → nat_lt n m ≡ false
 not_below n m l = grind (arith, l)
 
-pub not_refused : (k : Rules) (o : Object) (s : State) (i : ℕ) (c : Command) → IsReady k o s i c → refusal k o s i c ≡ None
+pub not_refused : (k : Rules) (o : Object) (s : State) (i : ℕ) (c : Command) → IsReady k o s i c
+    → refusal k o s i c ≡ None
 not_refused k o s i c r =
     passes (nat_lt i s.floor.seats && is_call_in_range o s.floor (call_of i c)) (is_call_offered k (call_of i c))
     (may_be_told (s.world.place i) c)
     (nat_lt (left_of s.floor.budget s.floor.history i) (left_for c))
-    (both (nat_lt i s.floor.seats) (is_call_in_range o s.floor (call_of i c)) (below i s.floor.seats r.near) r.range) r.offered r.told
+    (both (nat_lt i s.floor.seats) (is_call_in_range o s.floor (call_of i c))
+    (below i s.floor.seats r.near) r.range) r.offered r.told
     (not_below (left_of s.floor.budget s.floor.history i) (left_for c) r.left)
 
 -- it is a step of the world
@@ -97,7 +99,8 @@ who seats w right owner r = by right (λ j three. held r j (omega arith) (omega 
     by (AtSeat m) is = inr (λ j three. let e = is j three in cc)
     by (With m) is = elim (eqb_tells (stage (w.place m)) active_stage) [
       | inl h ↦ inl (m, active_at m h.0)
-      | inr h ↦ inr (λ j three. let e = is j three in let same : j ≡ m = cc in h.1 (sym (ap (λ (n : ℕ). stage (w.place n)) same) ∙ three))
+      | inr h ↦ inr (λ j three. let e = is j three in let same : j ≡ m = cc in
+          h.1 (sym (ap (λ (n : ℕ). stage (w.place n)) same) ∙ three))
     ]
 
 pub out_seat : (i : ℕ) (q : Source) (h : List Event) → seat_of (out_event i q (turn h)) ≡ i
@@ -149,7 +152,8 @@ entered_few k o s right owner h = by right h.entered h.stands.keeps.holder.free.
         omega arith
     by (AtSeat m) e free = let some : s.world.unpassed ≢ 0 = λ z. let f = free z in cc in omega arith
 
-module _ (k : Rules) (o : Object) (c : Setting) (homes : Homes) (at : ℕ → SeatRecord) (words : List ℕ) (past history : List Event)
+module _ (k : Rules) (o : Object) (c : Setting) (homes : Homes) (at : ℕ → SeatRecord) (words : List ℕ)
+    (past history : List Event)
     (told : AreTold k o c homes at (shown_world words at) past history) (right : Whereabouts) (owner : ℕ → ℕ)
     (keeps : KeepsRight c.seats (shown_world words at) right owner) where
   -- what is shown is what the floor at home has, and perhaps the event of the active seat

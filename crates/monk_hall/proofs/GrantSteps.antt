@@ -71,7 +71,8 @@ calls_chosen s i (next.Until j) m to e = let same : m ≡ j = omega arith in
     (ap answer.GrantedSeat same, λ z. record s { world = after_seat_grant s.world i (same z) to })
 
 calls_done : (k : Rules) (o : Object) (s : State) (i : ℕ) (x : Next) (m : ℕ) (to : Home) → turn_of_next x ≡ due_to m
-    → IsDone k o s i (Back x to) command.Grant (answer.GrantedSeat m) (record s { world = after_seat_grant s.world i m to })
+    → IsDone k o s i (Back x to) command.Grant (answer.GrantedSeat m)
+    (record s { world = after_seat_grant s.world i m to })
 calls_done k o s i x m to e = calls_chosen s i x m to e
 
 names_seat_due : (x : Next) (m : ℕ) → turn_of_next x ≡ due_to m → names_seat x ≡ true
@@ -81,7 +82,8 @@ names_seat_due (next.Waiter j) m e = refl
 names_seat_due (next.Signaller j) m e = refl
 names_seat_due (next.Until j) m e = refl
 
-told_to_grant : (x : Next) (m : ℕ) (to : Home) → turn_of_next x ≡ due_to m → may_be_told (Back x to) command.Grant ≡ true
+told_to_grant : (x : Next) (m : ℕ) (to : Home) → turn_of_next x ≡ due_to m
+    → may_be_told (Back x to) command.Grant ≡ true
 told_to_grant x m to e = names_seat_due x m e
 
 module _ (k : Rules) (o : Object) (c : Setting) (kind : IsKind k) (s : table.State (Option FloorView) View)
@@ -118,7 +120,8 @@ module _ (k : Rules) (o : Object) (c : Setting) (kind : IsKind k) (s : table.Sta
       let after : State = record old { world = after_ticket_grant c.seats world r.seat n to } in
       let kept = stepping.takes_step k o c kind s h id r here command.Grant (answer.GrantedTicket n) after
       (Passing n to) ready place_is (refl, refl) in
-      let word : slice_index s.words 0 ≡ slice_index ws 0 = sym (get_or-set_other s.words (place_word q) 0 (n + 1) 0 (λ e. omega arith)) in
+      let word : slice_index s.words 0 ≡ slice_index ws 0 =
+      sym (get_or-set_other s.words (place_word q) 0 (n + 1) 0 (λ e. omega arith)) in
       let places = stepping.places_after k o c kind s h id r here w in
       let ticket_places = sym (stored.place_stored s.words q (n + 1) (let z = kh.wide in omega arith)) in
       let seat_places = sym (stored.seats_stay s.words (place_word q) (n + 1) (λ m e. omega arith)) in
@@ -136,9 +139,11 @@ module _ (k : Rules) (o : Object) (c : Setting) (kind : IsKind k) (s : table.Sta
         known = knows z;
         floor = old.floor;
       } in
-      let moved : stepping.IsMoved k o c kind s h id r here w = record { seat = refl; setting = refl; seen = refl; mine = refl } in
+      let moved : stepping.IsMoved k o c kind s h id r here w =
+      record { seat = refl; setting = refl; seen = refl; mine = refl } in
       let apart = standing.apart_home to in
-      let calls = calls_stay world (shown_world ws (update at r.seat w)) kh.past r.seat w.place kh.told.calls (sym places)
+      let calls =
+      calls_stay world (shown_world ws (update at r.seat w)) kh.past r.seat w.place kh.told.calls (sym places)
       (sym seat_places) (ap back_turn stands) apart.chose in
       stepping.holds_after k o c kind s h id r here w ws moved (length-set s.words (place_word q) (n + 1)) kept same
       (stepping.knows_after k o c kind s h id r here w ws moved calls (λ e. absurd (omega arith)) apart)
@@ -233,11 +238,14 @@ module _ (k : Rules) (o : Object) (c : Setting) (kind : IsKind k) (s : table.Sta
       let after : State = record old { world = after_seat_grant world r.seat m x.to } in
       let kept = stepping.takes_step k o c kind s h id r here command.Grant (answer.GrantedSeat m) after
       (Back x.choice x.to) ready x.is (calls_done k o old r.seat x.choice m x.to x.names) in
-      let word : slice_index s.words 0 ≡ slice_index ws 0 = sym (get_or-set_other s.words (seat_word m) 0 calls 0 (λ e. omega arith)) in
+      let word : slice_index s.words 0 ≡ slice_index ws 0 =
+      sym (get_or-set_other s.words (seat_word m) 0 calls 0 (λ e. omega arith)) in
       let home_is : x.to ≡ home_at r.place = sym (ap home_at x.is) in
-      let places = ap (λ (y : Home). update world.place r.seat (place_of y)) home_is ∙ stepping.places_after k o c kind s h id r here w in
+      let places = ap (λ (y : Home). update world.place r.seat (place_of y)) home_is
+      ∙ stepping.places_after k o c kind s h id r here w in
       let ticket_places = sym (stored.places_stay s.words (seat_word m) calls (λ i e. omega arith)) in
-      let seat_places = ap (update world.seat_place m) grown ∙ sym (stored.seat_stored s.words m calls (let z = kh.wide in omega arith)) in
+      let seat_places = ap (update world.seat_place m) grown
+      ∙ sym (stored.seat_stored s.words m calls (let z = kh.wide in omega arith)) in
       let counts = stepping.counts_stay k o c kind s h id r here w refl in
       let knows = stepping.known_stays k o c kind s h id r here w refl in
       let same : Path State after (shown_state c ws (update at r.seat w) kh.history) = λ z. record {
@@ -252,7 +260,8 @@ module _ (k : Rules) (o : Object) (c : Setting) (kind : IsKind k) (s : table.Sta
         known = knows z;
         floor = old.floor;
       } in
-      let moved : stepping.IsMoved k o c kind s h id r here w = record { seat = refl; setting = refl; seen = refl; mine = refl } in
+      let moved : stepping.IsMoved k o c kind s h id r here w =
+      record { seat = refl; setting = refl; seen = refl; mine = refl } in
       stepping.holds_after k o c kind s h id r here w ws moved (length-set s.words (seat_word m) calls) kept same
       (stepping.knows_after k o c kind s h id r here w ws moved (calls_counted m ws names seat_places)
       (λ e. let z = ap stage x.is in absurd (omega arith)) (standing.apart_home (home_at r.place)))
@@ -262,11 +271,21 @@ module _ (k : Rules) (o : Object) (c : Setting) (kind : IsKind k) (slots id : �
       → Allows (IsHall k o c) slots id me (place_word (ticket (the me.0).place % c.seats))
       (λ _. ticket (the me.0).place + 1) (λ _. TellsGrant me (ticket (the me.0).place + 1))
   grants_ticket passing s h wide view small =
-      let here : get_elem? s.views id ≡ maybe.some (the me.0 ∷ []) = view ∙ ap maybe.some one in
-      (record_after_grant (the me.0) ∷ [], keeps, tt, (grants_ticket_at k o c kind s h id (the me.0) here passing).hall, refl)
+      let here : get_elem? s.views id ≡ maybe.some (the me.0 ∷ []) = view ∙ ap maybe.some one in (
+        record_after_grant (the me.0) ∷ [],
+        keeps,
+        tt,
+        (grants_ticket_at k o c kind s h id (the me.0) here passing).hall,
+        refl,
+      )
 
   pub calls_seat : (m calls : ℕ) → back_turn (the me.0).place ≡ due_to m → calls ≡ granted_of (the me.0).seen m
       → Allows (IsHall k o c) slots id me (seat_word m) (λ _. calls) (λ _. TellsGrant me calls)
   calls_seat m calls names calls_are s h wide view small =
-      let here : get_elem? s.views id ≡ maybe.some (the me.0 ∷ []) = view ∙ ap maybe.some one in
-      (record_after_grant (the me.0) ∷ [], keeps, tt, (calls_seat_at k o c kind s h id (the me.0) here m names calls calls_are).hall, refl)
+      let here : get_elem? s.views id ≡ maybe.some (the me.0 ∷ []) = view ∙ ap maybe.some one in (
+        record_after_grant (the me.0) ∷ [],
+        keeps,
+        tt,
+        (calls_seat_at k o c kind s h id (the me.0) here m names calls calls_are).hall,
+        refl,
+      )

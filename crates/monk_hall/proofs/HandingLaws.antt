@@ -56,7 +56,8 @@ entry_is (next.Until j) s e = absurd (subst is_some e tt)
 
 module _ {k : Rules} {o : Object} {z : TableId} {me : Me} {choice : Next} {to : Home} {f : FloorView} where
   -- where the seat stands that has brought the floor home
-  pub back_place : HasRecordedRelease k o z me choice to f → (record_after_floor_in (the me.0) f.history).place ≡ Back choice to
+  pub back_place : HasRecordedRelease k o z me choice to f
+      → (record_after_floor_in (the me.0) f.history).place ≡ Back choice to
   back_place x = let r = x.returns in
       ap (λ (y : FloorView). back_after (last_or None y.history)) r.grows
       ∙ ap back_after (last_is None r.before.history (with_next r.choice r.call))
@@ -71,9 +72,11 @@ module _ {k : Rules} {o : Object} {z : TableId} {me : Me} {choice : Next} {to : 
       → (record_after_floor_in (the me.0) f.history).place ≡ Back next.Entry
       (home_at (record_after_floor_in (the me.0) f.history).place)
   chosen_entry x e = let b = back_place x in
-      b ∙ (λ i. Back (entry_is choice (ap (λ n. is_stay (Some n)) (sym x.is_choice) ∙ x.returns.away) e i) (sym (ap home_at b) i))
+      b ∙ (λ i. Back (entry_is choice (ap (λ n. is_stay (Some n)) (sym x.is_choice) ∙ x.returns.away) e i)
+      (sym (ap home_at b) i))
 
-  pub home_is : HasRecordedRelease k o z me choice to f → home_at (record_after_floor_in (the me.0) f.history).place ≡ to
+  pub home_is : HasRecordedRelease k o z me choice to f
+      → home_at (record_after_floor_in (the me.0) f.history).place ≡ to
   home_is x = ap home_at (back_place x)
 
   -- what the seat knows then
@@ -91,12 +94,14 @@ module _ {k : Rules} {o : Object} {z : TableId} {me : Me} {choice : Next} {to : 
       let more = ap (λ g. length (events_of g r.seat)) history ∙ own_longer ret.before.history e r.seat seat in
       let low = ret.left in let budget_then = ap (λ (g : FloorView). g.budget) ret.goes_on.is_floor in
       let budget_now = ap (λ (g : FloorView). g.budget) is_floor in
-      let left_is : left ≡ f.budget - length mine = rest ∙ ap (λ n. f.budget - length (events_of h n)) (sym s.is_seat) in
+      let left_is : left ≡ f.budget - length mine = rest
+      ∙ ap (λ n. f.budget - length (events_of h n)) (sym s.is_seat) in
       let to_is = ap left_within x.is_to in
       let rests : IsResting k o z (w ∷ [], []) number left calls budget = record {
         one = refl;
         free = refl;
-        seated = record { is_seat = s.is_seat; near = s.near; sized = s.sized; counted = s.counted; budgeted = s.budgeted };
+        seated =
+            record { is_seat = s.is_seat; near = s.near; sized = s.sized; counted = s.counted; budgeted = s.budgeted };
         spent = omega arith;
         told = record {
           legal = subst (λ (g : FloorView). IsLegal (monitor_of k o g) g.history)

@@ -23,7 +23,8 @@ alone_in (y ∷ z ∷ zs) x one first = absurd (omega arith)
 
 module _ (k : Rules) (o : Object) (c : Setting) (s : HallState) (h : IsHall k o c s) where
   -- each seat of the hall has its record, and no other is active
-  nobody : ((r : SeatRecord) → IsRecord s r → stage r.place ≢ active_stage) → (j : ℕ) → stage (h.0 j).place ≢ active_stage
+  nobody : ((r : SeatRecord) → IsRecord s r → stage r.place ≢ active_stage) → (j : ℕ)
+      → stage (h.0 j).place ≢ active_stage
   nobody none j active = none (h.0 j) (recorded k o c s h j (λ e. absurd (omega arith))) active
 
   home_history : IsHomeHistory k o c s h.2.past

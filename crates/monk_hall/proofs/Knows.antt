@@ -24,8 +24,10 @@ use Rattle.monk_hall.specs.declared.setting.Setting.{Setting}
 pub calls_stay : (s t : World) (h : List Event) (i : ℕ) (p : Place) → CountsCalls s h → t.place ≡ update s.place i p
     → t.seat_place ≡ s.seat_place → back_turn (s.place i) ≡ open_turn → back_turn p ≡ open_turn → CountsCalls t h
 calls_stay s t h i p c place seat_place old new = record {
-  choosing = λ j m. subst (λ (at : ℕ → Place). back_turn (at j) ≡ due_to m → granted_of h m ≡ t.seat_place m + 1) (sym place)
-      (at_update s.place i p (λ n y. back_turn y ≡ due_to m → granted_of h m ≡ t.seat_place m + 1) (λ e. absurd (omega arith))
+  choosing =
+      λ j m. subst (λ (at : ℕ → Place). back_turn (at j) ≡ due_to m → granted_of h m ≡ t.seat_place m + 1) (sym place)
+      (at_update s.place i p (λ n y. back_turn y ≡ due_to m → granted_of h m ≡ t.seat_place m + 1)
+      (λ e. absurd (omega arith))
       (λ n ne e. c.choosing n m e ∙ ap (λ (f : ℕ → ℕ). f m + 1) (sym seat_place)) j);
   settled = λ m none.
       c.settled m (all_back s.place i p (λ n y. back_turn y ≢ due_to m)
@@ -38,7 +40,9 @@ module _ (k : Rules) (o : Object) (c : Setting) (homes : Homes) (at : ℕ → Se
     (i : ℕ) (w : SeatRecord) (same_seen : w.seen ≡ (at i).seen) (same_mine : w.mine ≡ (at i).mine) (t : World)
     (calls : CountsCalls t past) where
   starts : (j : ℕ) → StartsWith past (update at i w j).seen
-  starts = at_update at i w (λ j x. StartsWith past x.seen) (subst (StartsWith past) (sym same_seen) (told.starts i)) (λ j _. told.starts j)
+  starts =
+      at_update at i w (λ j x. StartsWith past x.seen)
+      (subst (StartsWith past) (sym same_seen) (told.starts i)) (λ j _. told.starts j)
 
   mine : (j : ℕ) → events_of past j ≡ (update at i w j).mine
   mine = at_update at i w (λ j x. events_of past j ≡ x.mine) (told.mine i ∙ sym same_mine) (λ j _. told.mine j)
@@ -56,7 +60,8 @@ module _ (k : Rules) (o : Object) (c : Setting) (homes : Homes) (at : ℕ → Se
     starts = starts;
     mine = mine;
     own = own;
-    back = at_update at i w (λ j x. stage x.place ≡ back_stage → x.seen ≡ past) (λ e. absurd (back e)) (λ j _. told.back j);
+    back = at_update at i w (λ j x. stage x.place ≡ back_stage → x.seen ≡ past) (λ e. absurd (back e))
+        (λ j _. told.back j);
     lent = λ j. at_update at i w
         (λ n x. (q : Source) → x.place ≡ Active q → (x.seen ≡ past) × (history ≡ past ++ out_event n q (turn past) ∷ [])
         × (get_elem? homes 0 ≡ some none))

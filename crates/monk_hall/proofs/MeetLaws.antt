@@ -168,7 +168,8 @@ module _ (k : Rules) (o : Object) (c : Setting) (words : List ℕ) (homes : Home
               → (x.seen ≡ kh.past) × (kh.history ≡ kh.past ++ out_event n q (turn kh.past) ∷ [])
               × (get_elem? homes 0 ≡ maybe.some maybe.none))
               (λ q e. absurd (not_at active_stage (λ z. absurd (omega arith)) (ap stage e))) (λ n _. told.lent n) j;
-          home = λ none. told.home (all_back at i w (λ j x. stage x.place ≢ active_stage) none (λ e. absurd (omega arith)));
+          home = λ none. told.home (all_back at i w (λ j x. stage x.place ≢ active_stage) none
+              (λ e. absurd (omega arith)));
           calls = recount;
         };
       }
@@ -185,7 +186,8 @@ same_seat x r (inr h) = absurd h
 -- both records of one view change, and no other's
 module _ (c : Setting) (views : List View) (at : ℕ → SeatRecord) (sh : AreShown c views at) (id : ℕ)
     (a b a2 b2 : SeatRecord) (view : get_elem? views id ≡ maybe.some (a ∷ b ∷ []))
-    (seat_a : a2.seat ≡ a.seat) (seat_b : b2.seat ≡ b.seat) (set_a : a2.setting ≡ a.setting) (set_b : b2.setting ≡ b.setting) where
+    (seat_a : a2.seat ≡ a.seat) (seat_b : b2.seat ≡ b.seat) (set_a : a2.setting ≡ a.setting)
+    (set_b : b2.setting ≡ b.setting) where
   pub in_a : (at a.seat ≡ a) × (sh.desk a.seat ≡ id) × (a.seat < c.seats)
   in_a = sh.each id (a ∷ b ∷ []) view a (inl refl)
 
@@ -217,15 +219,31 @@ module _ (c : Setting) (views : List View) (at : ℕ → SeatRecord) (sh : AreSh
   shown_two = record {
     desk = sh.desk;
     each = λ j u e x in_u. ⊎_elim
-        (λ z. two_of a2 b2 x (subst (In x) (sym z.1) in_u) (λ r. (at_two r.seat ≡ r) × (sh.desk r.seat ≡ j) × (r.seat < c.seats))
-        (ap at_two seat_a ∙ is_a, ap sh.desk seat_a ∙ in_a.1 ∙ sym z.0, subst (λ (m : ℕ). m < c.seats) (sym seat_a) in_a.2)
-        (ap at_two seat_b ∙ is_b, ap sh.desk seat_b ∙ in_b.1 ∙ sym z.0, subst (λ (m : ℕ). m < c.seats) (sym seat_b) in_b.2))
+        (λ z. two_of a2 b2 x (subst (In x) (sym z.1) in_u)
+        (λ r. (at_two r.seat ≡ r) × (sh.desk r.seat ≡ j) × (r.seat < c.seats)) (
+          ap at_two seat_a ∙ is_a,
+          ap sh.desk seat_a ∙ in_a.1
+              ∙ sym z.0,
+          subst (λ (m : ℕ). m < c.seats) (sym seat_a) in_a.2,
+        ) (
+          ap at_two seat_b ∙ is_b,
+          ap sh.desk seat_b ∙ in_b.1
+              ∙ sym z.0,
+          subst (λ (m : ℕ). m < c.seats) (sym seat_b) in_b.2,
+        ))
         (λ z.
-        let old = sh.each j u z.1 x in_u in
-        (other x.seat (λ q. z.0 (sym old.1 ∙ ap sh.desk q ∙ in_a.1)) (λ q. z.0 (sym old.1 ∙ ap sh.desk q ∙ in_b.1)) ∙ old.0, old.1, old.2))
+        let old = sh.each j u z.1 x in_u in (
+          other x.seat (λ q. z.0 (sym old.1 ∙ ap sh.desk q ∙ in_a.1))
+              (λ q. z.0 (sym old.1 ∙ ap sh.desk q ∙ in_b.1)) ∙ old.0,
+          old.1,
+          old.2,
+        ))
         (at_set views id j (a2 ∷ b2 ∷ []) u e);
     apart = λ j u e. ⊎_elim
-        (λ z. subst Distinct z.1 ((λ y in_y q. apart (sym seat_b ∙ sym (same_seat b2 y in_y) ∙ q ∙ seat_a)), ((λ y none. absurd none), tt)))
+        (λ z. subst Distinct z.1 (
+          (λ y in_y q. apart (sym seat_b ∙ sym (same_seat b2 y in_y) ∙ q ∙ seat_a)),
+          ((λ y none. absurd none), tt),
+        ))
         (λ z. sh.apart j u z.1) (at_set views id j (a2 ∷ b2 ∷ []) u e);
     there = λ j near. elim (eqb_tells j a.seat) [
       | inl h ↦ (a2 ∷ b2 ∷ [], here j (ap sh.desk h.1 ∙ in_a.1), inl (ap at_two h.1 ∙ is_a))
@@ -252,9 +270,11 @@ module _ (c : Setting) (views : List View) (at : ℕ → SeatRecord) (sh : AreSh
       here j e = ap (λ (n : ℕ). get_elem? (set views id (a2 ∷ b2 ∷ [])) n) e
           ∙ set_here views id (a2 ∷ b2 ∷ []) (long views id (a ∷ b ∷ []) view)
 
-      away : (j : ℕ) (v : View) → get_elem? views (sh.desk j) ≡ maybe.some v → In (at j) v → j ≢ a.seat → j ≢ b.seat → sh.desk j ≢ id
+      away : (j : ℕ) (v : View) → get_elem? views (sh.desk j) ≡ maybe.some v → In (at j) v → j ≢ a.seat
+          → j ≢ b.seat → sh.desk j ≢ id
       away j v e i na nb d =
-          let is_v : v ≡ a ∷ b ∷ [] = some-injective v (a ∷ b ∷ []) (sym e ∙ ap (λ (n : ℕ). get_elem? views n) d ∙ view) in
+          let is_v : v ≡ a ∷ b ∷ [] =
+          some-injective v (a ∷ b ∷ []) (sym e ∙ ap (λ (n : ℕ). get_elem? views n) d ∙ view) in
           two_of a b (at j) (subst (λ (z : View). In (at j) z) is_v i) (λ r. r ≡ at j → ⊥)
           (λ q. na (sym (sh.seats j) ∙ ap (λ (x : SeatRecord). x.seat) (sym q)))
           (λ q. nb (sym (sh.seats j) ∙ ap (λ (x : SeatRecord). x.seat) (sym q))) refl
@@ -275,8 +295,10 @@ compares k o c slots id me two idle_a idle_b s h wide view small =
     let ia = in_a c s.views at h.1 id a b a2 b2 here refl refl refl refl in
     let ib = in_b c s.views at h.1 id a b a2 b2 here refl refl refl refl in
     let still = still_b c s.views at h.1 id a b a2 b2 here refl refl refl refl in
-    let begins_a : StartsWith kh.past a.seen = subst (λ (x : SeatRecord). StartsWith kh.past x.seen) ia.0 (kh.told.starts a.seat) in
-    let begins_b : StartsWith kh.past b.seen = subst (λ (x : SeatRecord). StartsWith kh.past x.seen) ib.0 (kh.told.starts b.seat) in
+    let begins_a : StartsWith kh.past a.seen =
+    subst (λ (x : SeatRecord). StartsWith kh.past x.seen) ia.0 (kh.told.starts a.seat) in
+    let begins_b : StartsWith kh.past b.seen =
+    subst (λ (x : SeatRecord). StartsWith kh.past x.seen) ib.0 (kh.told.starts b.seat) in
     let one : AreOne a.seen b.seen = parts kh.past a.seen b.seen begins_a.0 begins_b.0 begins_a.1 begins_b.1 in
     let long_both = longer_both a.seen b.seen one in
     let part : StartsWith kh.past both = longer_part kh.past a.seen b.seen begins_a begins_b in
@@ -302,8 +324,12 @@ compares k o c slots id me two idle_a idle_b s h wide view small =
       keeps,
       tt,
       subst (λ (ws : List ℕ). IsHall k o c
-          record { words = ws; homes = s.homes; views = set s.views id (a2 ∷ b2 ∷ []) }) (sym (set-get_or s.words 0 0))
-          (update (update at a.seat a2) b.seat b2, shown_two c s.views at h.1 id a b a2 b2 here refl refl refl refl, both_kept),
+          record { words = ws; homes = s.homes; views = set s.views id (a2 ∷ b2 ∷ []) }) (sym (set-get_or s.words 0 0)) (
+            update (update at a.seat a2) b.seat b2,
+            shown_two c s.views at h.1 id a b a2 b2 here refl refl refl
+                refl,
+            both_kept,
+          ),
       (
         refl,
         one,
@@ -363,15 +389,18 @@ meets k o c id v other w one_v one_w idle s h view ne_id view_w =
     (ap (λ (x : SeatRecord). x.mine) (sym is_a))
     (ap (λ (x : SeatRecord). stage x.place) is_a ∙ ap stage idle)
     (subst (λ (x : SeatRecord). StartsWith kh.past x.seen) is_a (kh.told.starts a.seat))
-    (ap (λ (x : SeatRecord). events_of x.seen a.seat) (sym is_a) ∙ kh.told.own a.seat ∙ ap (λ (x : SeatRecord). x.mine) is_a) in (
+    (ap (λ (x : SeatRecord). events_of x.seen a.seat) (sym is_a) ∙ kh.told.own a.seat
+    ∙ ap (λ (x : SeatRecord). x.mine) is_a) in (
       at_one,
       record {
         desk = desk_two;
         each = λ j u e x in_u. ⊎_elim
             (λ t. absurd (subst (In x) (sym t.1) in_u))
             (λ t. ⊎_elim
-            (λ z. two_of a2 b x (subst (In x) (sym z.1) in_u) (λ r. (at_one r.seat ≡ r) × (desk_two r.seat ≡ j) × (r.seat < c.seats))
-            (update_here at a.seat a2, desk_first ∙ sym z.0, near_a) (still, update_here sh.desk b.seat id ∙ sym z.0, near_b))
+            (λ z. two_of a2 b x (subst (In x) (sym z.1) in_u)
+            (λ r. (at_one r.seat ≡ r) × (desk_two r.seat ≡ j) × (r.seat < c.seats))
+            (update_here at a.seat a2, desk_first ∙ sym z.0, near_a)
+            (still, update_here sh.desk b.seat id ∙ sym z.0, near_b))
             (λ z.
             let old = sh.each j u z.1 x in_u in
             let na : x.seat ≢ a.seat = λ q. z.0 (sym old.1 ∙ ap sh.desk q ∙ desk_a) in
@@ -402,7 +431,8 @@ meets k o c id v other w one_v one_w idle s h view ne_id view_w =
                 let old = sh.there j near in
                 let desk_is : desk_two j ≡ sh.desk j = update_else sh.desk b.seat id j nb.1 in
                 let off_id : sh.desk j ≢ id = λ d. na.1 (alone s.views at sh j old.0 id a old.1 d here old.2) in
-                let off_other : sh.desk j ≢ other = λ d. nb.1 (alone s.views at sh j old.0 other b old.1 d there old.2) in (
+                let off_other : sh.desk j ≢ other =
+                λ d. nb.1 (alone s.views at sh j old.0 other b old.1 d there old.2) in (
                   old.0,
                   ap (λ (n : ℕ). get_elem? views_two n) desk_is
                       ∙ set_else (set s.views id (view_after_join v w)) other (sh.desk j) [] off_other
@@ -411,7 +441,8 @@ meets k o c id v other w one_v one_w idle s h view ne_id view_w =
                 )
           ]
         ];
-        settings = at_update at a.seat a2 (λ j x. x.setting ≡ c) (is_setting c s.views at sh id a here) (λ j _. sh.settings j);
+        settings =
+            at_update at a.seat a2 (λ j x. x.setting ≡ c) (is_setting c s.views at sh id a here) (λ j _. sh.settings j);
         seats = at_update at a.seat a2 (λ j x. x.seat ≡ j) refl (λ j _. sh.seats j);
       },
       kept,
@@ -451,7 +482,8 @@ parts_again k o c id v m e =
     (parted k o c id (the (view_after_compare m)) (the (tail (view_after_compare m))))
 
 -- whoever has seen the longer of two has seen what begins with both
-pub has_learned : (a b x y g : List Event) → AreOne a b → a ≡ x → b ≡ y → g ≡ longer a b → StartsWith g x × StartsWith g y
+pub has_learned : (a b x y g : List Event) → AreOne a b → a ≡ x → b ≡ y → g ≡ longer a b
+    → StartsWith g x × StartsWith g y
 has_learned a b x y g one is_x is_y is_longer =
     let long : IsLonger a b g = subst (IsLonger a b) (sym is_longer) (longer_both a b one) in
     (subst (StartsWith g) is_x long.first, subst (StartsWith g) is_y long.second)
@@ -461,7 +493,8 @@ pub met_rests : (k : Rules) (o : Object) (y z : TableId) (v : View) (number left
     (views : List View) → IsResting k o z (v, []) number left calls budget → (the v).place ≡ Idle → y ≡ z
     → r.seat ≡ (the v).seat → r.setting ≡ (the v).setting → r.place ≡ (the v).place → r.count ≡ (the v).count
     → r.mine ≡ (the v).mine → SeesTruly k o r → views ≡ (r ∷ []) ∷ []
-    → (views ≡ top views ∷ []) × IsResting k o y (top views, []) number left calls budget × ((the (top views)).place ≡ Idle)
+    → (views ≡ top views ∷ []) × IsResting k o y (top views, []) number left calls budget
+    × ((the (top views)).place ≡ Idle)
 met_rests k o y z v number left calls budget r views old idle table seat setting place count mine truly are =
     subst (λ (vs : List View). (vs ≡ top vs ∷ []) × IsResting k o y (top vs, []) number left calls budget
     × ((the (top vs)).place ≡ Idle)) (sym are) (
@@ -472,11 +505,13 @@ met_rests k o y z v number left calls budget r views old idle table seat setting
         seated = record {
           is_seat = seat ∙ old.seated.is_seat;
           near = subst (λ (x : Setting). number < x.seats) (sym setting) old.seated.near;
-          sized = ap (λ (x : TableId). x.words) table ∙ old.seated.sized ∙ ap (λ (x : Setting). word_count x.seats) (sym setting);
+          sized = ap (λ (x : TableId). x.words) table ∙ old.seated.sized
+              ∙ ap (λ (x : Setting). word_count x.seats) (sym setting);
           counted = old.seated.counted ∙ sym count;
           budgeted = old.seated.budgeted ∙ sym (ap (λ (x : Setting). x.budget) setting);
         };
-        spent = ap (λ (es : List Event). left + length es) mine ∙ old.spent ∙ ap (λ (x : Setting). x.budget) (sym setting);
+        spent = ap (λ (es : List Event). left + length es) mine ∙ old.spent
+            ∙ ap (λ (x : Setting). x.budget) (sym setting);
         told = truly;
       },
       place ∙ idle,

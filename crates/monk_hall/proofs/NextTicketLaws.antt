@@ -15,7 +15,8 @@ use Rattle.monk_hall.proofs.Standing.{ticket_at}
 -- where a seat of this setting finds its grant that waits with this ticket
 word_is : (c : Setting) (r : SeatRecord) (t : ℕ) → r.setting ≡ c → r.place ≡ Ticket t
     → waiting_word_at r.setting.seats r.seat r.place ≡ ticket_word c.seats t
-word_is c r t same at = ap (λ (p : Place). waiting_word_at r.setting.seats r.seat p) at ∙ ap (λ (d : Setting). ticket_word d.seats t) same
+word_is c r t same at = ap (λ (p : Place). waiting_word_at r.setting.seats r.seat p) at
+    ∙ ap (λ (d : Setting). ticket_word d.seats t) same
 
 pub next_ticket_waits : NextTicketWaits
 next_ticket_waits k o c s h r to x back_at two =

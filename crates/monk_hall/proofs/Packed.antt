@@ -21,12 +21,14 @@ reduced x h =
     let e : 0 * 18446744073709551616 + x ≡ x = omega arith in
     sym (ap (λ (y : ℕ). y % 18446744073709551616) e) ∙ mod-mul-add 0 18446744073709551616 x h
 
-drawn_word : (t n : ℕ) → t < 2147483648 → n < 2147483648 → (packed t n + 4294967297) % 18446744073709551616 ≡ packed (suc t) (suc n)
+drawn_word : (t n : ℕ) → t < 2147483648 → n < 2147483648
+    → (packed t n + 4294967297) % 18446744073709551616 ≡ packed (suc t) (suc n)
 drawn_word t n a b =
     let e : packed t n + 4294967297 ≡ packed (suc t) (suc n) = omega arith in
     ap (λ (x : ℕ). x % 18446744073709551616) e ∙ reduced (packed (suc t) (suc n)) (omega arith)
 
-dropped_word : (t n : ℕ) → t < 2147483648 → n < 2147483648 → (packed t (suc n) + 18446744073709551615) % 18446744073709551616 ≡ packed t n
+dropped_word : (t n : ℕ) → t < 2147483648 → n < 2147483648
+    → (packed t (suc n) + 18446744073709551615) % 18446744073709551616 ≡ packed t n
 dropped_word t n a b =
     let e : packed t (suc n) + 18446744073709551615 ≡ 1 * 18446744073709551616 + packed t n = omega arith in
     ap (λ (x : ℕ). x % 18446744073709551616) e ∙ mod-mul-add 1 18446744073709551616 (packed t n) (omega arith)

@@ -17,8 +17,10 @@ use Rattle.monk_world.specs.declared.source.Source.{Source}
 use Rattle.monk_hall.specs.Floors.{IsPrivate, ArePrivate}
 use Rattle.monk_hall.proofs.Frame.{other_event}
 
-pub own_event : (h : List Event) (e : Event) (i : ℕ) → seat_of e ≡ i → events_of (h ++ e ∷ []) i ≡ events_of h i ++ e ∷ []
-own_event h e i same = events_of-push h e i ∙ ap (λ (b : Bool). events_of h i ++ cond b (e ∷ []) []) (eq-eqb (seat_of e) i same)
+pub own_event : (h : List Event) (e : Event) (i : ℕ) → seat_of e ≡ i
+    → events_of (h ++ e ∷ []) i ≡ events_of h i ++ e ∷ []
+own_event h e i same = events_of-push h e i
+    ∙ ap (λ (b : Bool). events_of h i ++ cond b (e ∷ []) []) (eq-eqb (seat_of e) i same)
 
 -- its own events are all that is more
 pub own_more : (i : ℕ) (h es : List Event) → ArePrivate i es → events_of (h ++ es) i ≡ events_of h i ++ es
@@ -67,7 +69,10 @@ more_kept k o s seats conds i q (e ∷ es) kept near active own legal room =
     let m = monitor_of k o s.floor in
     let split : past ++ e ∷ es ≡ (past ++ e ∷ []) ++ es = sym (append_assoc past (e ∷ []) es) in
     let legal_all : IsLegal m ((past ++ e ∷ []) ++ es) = subst (IsLegal m) split legal in
-    let one = one_kept k o s seats conds i q e kept near active own.0 (legal_front m (past ++ e ∷ []) es legal_all) (omega arith) in
+    let one =
+    one_kept k o s seats conds i q e kept near active own.0 (legal_front m (past ++ e ∷ []) es legal_all)
+    (omega arith) in
     let long = ap length (own_event past e i own.0.seat) ∙ length-append (events_of past i) (e ∷ []) in
     subst (λ (g : List Event). IsKept k o seats conds (record s { floor = record s.floor { history = g } })) (sym split)
-    (more_kept k o (record s { floor = with_event s.floor e }) seats conds i q es one near active own.1 legal_all (omega arith))
+    (more_kept k o (record s { floor = with_event s.floor e }) seats conds i q es one near active own.1
+    legal_all (omega arith))

@@ -27,10 +27,12 @@ pub recorded : (k : Rules) (o : Object) (c : Setting) (s : HallState) (h : IsHal
     → stage (h.0 j).place ≢ outside_stage → IsRecord s (h.0 j)
 recorded k o c s h j inside = elim (cases_le c.seats j) [
   | inl far ↦ absurd (inside (h.2.kept.sound.is_sound.outside j far))
-  | inr near ↦ (let there = h.1.there j near in record { id = h.1.desk j; view = there.0; at = there.1; there = there.2 })
+  | inr near ↦ (let there = h.1.there j near in
+      record { id = h.1.desk j; view = there.0; at = there.1; there = there.2 })
 ]
 
-module _ (k : Rules) (o : Object) (c : Setting) (s : HallState) (h : IsHall k o c s) (r : SeatRecord) (x : IsRecord s r) where
+module _ (k : Rules) (o : Object) (c : Setting) (s : HallState) (h : IsHall k o c s) (r : SeatRecord)
+    (x : IsRecord s r) where
   pub is : h.0 r.seat ≡ r
   is = (h.1.each x.id x.view x.at r x.there).0
 
@@ -42,7 +44,8 @@ module _ (k : Rules) (o : Object) (c : Setting) (s : HallState) (h : IsHall k o 
 
   -- the right is with a seat that stands where it has it
   pub with : due_stage ≤ stage r.place → stage r.place ≤ passing_stage → h.2.kept.sound.right ≡ With r.seat
-  with low high = let at = ap stage place in held h.2.kept.sound.is_sound.stands.keeps r.seat (omega arith) (omega arith)
+  with low high = let at = ap stage place in
+      held h.2.kept.sound.is_sound.stands.keeps r.seat (omega arith) (omega arith)
 
   -- while it has the floor back, what it has seen is the history
   pub back : stage r.place ≡ back_stage → h.2.history ≡ r.seen

@@ -59,21 +59,24 @@ choice_knows true kept by x y e = refl
 choice_knows false kept by x y e = e refl
 
 -- a leave, a wait and a signal and leave never stay
-pub leave_goes : (m : Monitor) (h : List Event) (s : ℕ) (x : Next) → IsAllowed m h (Leave s x) → is_stay (Some x) ≡ false
+pub leave_goes : (m : Monitor) (h : List Event) (s : ℕ) (x : Next) → IsAllowed m h (Leave s x)
+    → is_stay (Some x) ≡ false
 leave_goes m h s next.Stay a = absurd (true≢false (sym a.permitted))
 leave_goes m h s next.Entry a = refl
 leave_goes m h s (next.Waiter j) a = refl
 leave_goes m h s (next.Signaller j) a = refl
 leave_goes m h s (next.Until j) a = refl
 
-pub wait_goes : (m : Monitor) (h : List Event) (s c : ℕ) (x : Next) → IsAllowed m h (Wait s c x) → is_stay (Some x) ≡ false
+pub wait_goes : (m : Monitor) (h : List Event) (s c : ℕ) (x : Next) → IsAllowed m h (Wait s c x)
+    → is_stay (Some x) ≡ false
 wait_goes m h s c next.Stay a = absurd (true≢false (sym a.permitted))
 wait_goes m h s c next.Entry a = refl
 wait_goes m h s c (next.Waiter j) a = refl
 wait_goes m h s c (next.Signaller j) a = refl
 wait_goes m h s c (next.Until j) a = refl
 
-pub signal_leave_goes : (m : Monitor) (h : List Event) (s c : ℕ) (x : Next) → IsAllowed m h (SignalLeave s c x) → is_stay (Some x) ≡ false
+pub signal_leave_goes : (m : Monitor) (h : List Event) (s c : ℕ) (x : Next) → IsAllowed m h (SignalLeave s c x)
+    → is_stay (Some x) ≡ false
 signal_leave_goes m h s c next.Stay a = absurd (true≢false (sym a.permitted))
 signal_leave_goes m h s c next.Entry a = refl
 signal_leave_goes m h s c (next.Waiter j) a = refl
@@ -115,7 +118,8 @@ never_enters i to (SignalWait s c d y) x h = refl
 
 chosen_as_known : {k : Rules} {o : Object} {r : SeatRecord} {f : FloorView} {call : Event} {wish : Pick} {known : Bool}
     {choice : Next} {to : Home} {g : FloorView}
-    → IsRelease k o r f call wish known choice to g → choice ≡ choice_of k o (stands_of k o f) call (is_entry_known wish r.known) wish
+    → IsRelease k o r f call wish known choice to g
+    → choice ≡ choice_of k o (stands_of k o f) call (is_entry_known wish r.known) wish
 chosen_as_known {k} {o} {r} {f} {call} {wish} {known} x = let t = stands_of k o f in x.chosen
     ∙ choice_knows (must_stay o t call) next.Stay (λ b. choice_by k (queues_at o t call) (seat_of call) b wish) known
     (is_entry_known wish r.known)
@@ -160,7 +164,8 @@ module _ {k : Rules} {o : Object} {z : TableId} {me : Me} {number calls budget :
       let r = the me.0 in let history = ap (λ (y : FloorView). y.history) x.is_grown.grown in let is_known =
       ap (λ w. w.known) gone.is in let few = gone.few in let steps = ap (λ w. w.steps) gone.is in record {
         choice = choice;
-        chosen = chosen_as_known x ∙ ap (λ b. choice_of k o (stands_of k o f) call (is_entry_known wish b) wish) (sym is_known);
+        chosen = chosen_as_known x
+            ∙ ap (λ b. choice_of k o (stands_of k o f) call (is_entry_known wish b) wish) (sym is_known);
         away = away;
         hall = hall;
         seat = ap (λ w. w.seat) gone.is;
@@ -180,14 +185,16 @@ remembers_twice : (peeks : ℕ) (a b : Holder) → HasPeeked peeks a b → (w : 
     → b.me.looks ≤ w.looks → Remembers a.me w
 remembers_twice peeks a b x w y more = record {
   knew = λ knew. y.knew (x.remembers.knew knew);
-  unlooked = λ same. let n = ap (λ (h : Holder). h.me.looks) x.is in y.unlooked (omega arith) ∙ x.remembers.unlooked (omega arith);
+  unlooked = λ same. let n = ap (λ (h : Holder). h.me.looks) x.is in
+      y.unlooked (omega arith) ∙ x.remembers.unlooked (omega arith);
 }
 
 -- a look changes neither the floor nor the setting
 of_setting : (a b : Holder) {known : Bool} {looks steps : ℕ}
     → b ≡ record a { me = record a.me { known = known; looks = looks; steps = steps } }
     → b.floor ≡ floor_of b.me.setting b.floor.history → a.floor ≡ floor_of a.me.setting a.floor.history
-of_setting a b is floor = sym (ap (λ (h : Holder). h.floor) is) ∙ floor ∙ ap (λ (h : Holder). floor_of h.me.setting h.floor.history) is
+of_setting a b is floor = sym (ap (λ (h : Holder). h.floor) is) ∙ floor
+    ∙ ap (λ (h : Holder). floor_of h.me.setting h.floor.history) is
 
 -- a look at the ticket word before the release
 module _ {k : Rules} {o : Object} where
@@ -197,7 +204,8 @@ module _ {k : Rules} {o : Object} where
   released_peeked peeks a b x call wish to p y = let is = x.is in let few = y.steps in let steps =
       ap (λ (h : Holder). h.me.steps) is in record {
         choice = y.choice;
-        chosen = y.chosen ∙ ap (λ (h : Holder). choice_of k o (stands_of k o h.floor) call (is_entry_known wish p.me.known) wish) is;
+        chosen = y.chosen
+            ∙ ap (λ (h : Holder). choice_of k o (stands_of k o h.floor) call (is_entry_known wish p.me.known) wish) is;
         away = y.away;
         hall = y.hall ∙ ap (λ (h : Holder). h.hall) is;
         seat = y.seat ∙ ap (λ (h : Holder). h.me.seat) is;
@@ -230,7 +238,8 @@ module _ {k : Rules} {o : Object} {z : TableId} {me : Me} {number calls budget :
       → IsHolding k o z me number calls budget f → IsRelease k o (the me.0) f (call number) wish known choice to g
       → is_stay (Some choice) ≡ false
       → (p : Token) → p.hall ≡ z → HasGone (the me.0) g.history to p.me → SeesTruly k o p.me
-      → (y : House) (granted : Option Grant) → IsGrantFor y choice p.me.seen (the me.0).steps p.me.steps granted → (a : Holder)
+      → (y : House) (granted : Option Grant)
+      → IsGrantFor y choice p.me.seen (the me.0).steps p.me.steps granted → (a : Holder)
       → holder z (the me.0) f ≡ a → HasGranted k o a (call a.me.seat) wish to 0 p y granted
   unfolding released
   released_of {wish} {known} {choice} {to} {g} call h x away p hall gone told y granted for a is =
@@ -264,7 +273,8 @@ module _ {k : Rules} {o : Object} {z : TableId} {me : Me} {number calls budget :
   waits h c low has wish known choice g a is room reads chosen grows = record {
     release = (sym h.seated.is_seat, refl);
     may = may_wait (monitor_of k o f) f.history number c (owns h) (is_near h) low has;
-    left = has_left h 2 (let more = subst (λ (b : Holder). length b.me.mine + 3 ≤ b.me.setting.budget) (sym is) room in omega arith);
+    left = has_left h 2 (let more =
+        subst (λ (b : Holder). length b.me.mine + 3 ≤ b.me.setting.budget) (sym is) room in omega arith);
     known_is = λ _. reads ∙ ap (λ (b : Holder). is_entry_known wish b.me.known) (sym is);
     chosen = chosen;
     is_grown = grows;
@@ -280,13 +290,15 @@ module _ {k : Rules} {o : Object} {z : TableId} {me : Me} {number calls budget :
   signals h c low has wish known choice g a is room reads chosen grows = record {
     release = (sym h.seated.is_seat, refl);
     may = may_signal_on (monitor_of k o f) f.history number c (owns h) (is_near h) low has;
-    left = has_left h 2 (let more = subst (λ (b : Holder). length b.me.mine + 3 ≤ b.me.setting.budget) (sym is) room in omega arith);
+    left = has_left h 2 (let more =
+        subst (λ (b : Holder). length b.me.mine + 3 ≤ b.me.setting.budget) (sym is) room in omega arith);
     known_is = λ free. reads free ∙ ap (λ (b : Holder). is_entry_known wish b.me.known) (sym is);
     chosen = chosen;
     is_grown = grows;
   }
 
-  pub signals_and_leaves : IsHolding k o z me number calls budget f → (c : ℕ) → c < f.conds → returns_at_once k.mode ≡ true
+  pub signals_and_leaves : IsHolding k o z me number calls budget f → (c : ℕ) → c < f.conds
+      → returns_at_once k.mode ≡ true
       → (wish : Pick) (known : Bool) (choice : Next) (g : FloorView) → (a : Holder) → holder z (the me.0) f ≡ a
       → known ≡ is_entry_known wish a.me.known
       → choice ≡ choice_of k o (stands_of k o f) (SignalLeave number c next.Stay) known wish
@@ -311,13 +323,15 @@ module _ {k : Rules} {o : Object} {z : TableId} {me : Me} {number calls budget :
   signals_and_waits h c d low low_too has wish known choice g a is room reads chosen grows = record {
     release = (sym h.seated.is_seat, refl);
     may = may_signal_wait (monitor_of k o f) f.history number c d (owns h) (is_near h) low low_too has;
-    left = has_left h 2 (let more = subst (λ (b : Holder). length b.me.mine + 3 ≤ b.me.setting.budget) (sym is) room in omega arith);
+    left = has_left h 2 (let more =
+        subst (λ (b : Holder). length b.me.mine + 3 ≤ b.me.setting.budget) (sym is) room in omega arith);
     known_is = λ _. reads ∙ ap (λ (b : Holder). is_entry_known wish b.me.known) (sym is);
     chosen = chosen;
     is_grown = grows;
   }
 
-  pub waits_until : IsHolding k o z me number calls budget f → (p : ℕ) → p < o.predicates → not (has_conditions k.mode) ≡ true
+  pub waits_until : IsHolding k o z me number calls budget f → (p : ℕ) → p < o.predicates
+      → not (has_conditions k.mode) ≡ true
       → (wish : Pick) (known : Bool) (choice : Next) (g : FloorView) → (a : Holder) → holder z (the me.0) f ≡ a
       → length a.me.mine + 3 ≤ a.me.setting.budget
       → (must_stay o (stands_of k o f) (Until number p next.Stay) ≡ false → known ≡ is_entry_known wish a.me.known)
@@ -327,7 +341,8 @@ module _ {k : Rules} {o : Object} {z : TableId} {me : Me} {number calls budget :
   waits_until h p low has wish known choice g a is room reads chosen grows = record {
     release = (sym h.seated.is_seat, refl);
     may = may_until (monitor_of k o f) f.history number p (owns h) (is_near h) low has;
-    left = has_left h 2 (let more = subst (λ (b : Holder). length b.me.mine + 3 ≤ b.me.setting.budget) (sym is) room in omega arith);
+    left = has_left h 2 (let more =
+        subst (λ (b : Holder). length b.me.mine + 3 ≤ b.me.setting.budget) (sym is) room in omega arith);
     known_is = λ free. reads free ∙ ap (λ (b : Holder). is_entry_known wish b.me.known) (sym is);
     chosen = chosen;
     is_grown = grows;
@@ -343,7 +358,8 @@ module _ {k : Rules} {o : Object} {z : TableId} {me : Me} {number calls budget :
   pub stays_holding : (call : Event) {wish : Pick} {known : Bool} {choice : Next} {to : Home} {g : FloorView}
       → IsHolding k o z me number calls budget f → IsRelease k o (the me.0) f call wish known choice to g
       → is_stay (Some choice) ≡ true
-      → length (events_of f.history (the me.0).seat) + 2 ≤ (the me.0).setting.budget → IsHolding k o z me number calls budget g
+      → length (events_of f.history (the me.0).seat) + 2 ≤ (the me.0).setting.budget
+      → IsHolding k o z me number calls budget g
   stays_holding call {wish} {known} {choice} {to} {g} h x stays room =
       let s = said (the me.0).seat to call choice x.release in let n = h.seated.is_seat in
       grown_holds h (with_next choice call) (s.seat ∙ n)
@@ -384,7 +400,8 @@ module _ {k : Rules} {o : Object} where
   pub stayed_peeked : (peeks : ℕ) (a b : Holder) → HasPeeked peeks a b → (call : Event) (wish : Pick) (c : Holder)
       → HasStayed k o b call wish 0 c → HasStayed k o a call wish peeks c
   stayed_peeked peeks a b x call wish c y = let is = x.is in record {
-    chosen = y.chosen ∙ ap (λ (h : Holder). choice_of k o (stands_of k o h.floor) call (is_entry_known wish c.me.known) wish) is;
+    chosen = y.chosen
+        ∙ ap (λ (h : Holder). choice_of k o (stands_of k o h.floor) call (is_entry_known wish c.me.known) wish) is;
     is = y.is
         ∙ ap (λ (h : Holder). let z : Holder =
         record h {
@@ -409,7 +426,8 @@ module _ {k : Rules} {o : Object} where
           floor =
               with_event a.floor (with_next next.Stay call);
         });
-    remembers = remembers_twice peeks a b x c.me y.remembers (let n = ap (λ (h : Holder). h.me.looks) y.is in omega arith);
+    remembers =
+        remembers_twice peeks a b x c.me y.remembers (let n = ap (λ (h : Holder). h.me.looks) y.is in omega arith);
     legal = y.legal;
     own = y.own;
     floor = of_setting a b is y.floor;
@@ -421,7 +439,12 @@ pub peeked_once : (z y : TableId) (me new : Me) (f : FloorView) (found : ℕ) �
 peeked_once z y me new f found same step a is =
     let r = the me.0 in let w = record_after_peek r found in let one : (n : ℕ) → suc n ≡ n + 1 = λ n. omega arith in
     subst (λ (b : Holder). HasPeeked 1 b (holder y (the new.0) f)) is record {
-      remembers = record { knew = step.1; unlooked = λ e. let more = ap (λ (m : Me). (the m.0).looks) step.0 in absurd (omega arith) };
+      remembers =
+          record {
+            knew = step.1;
+            unlooked = λ e. let more = ap (λ (m : Me). (the m.0).looks) step.0 in
+                absurd (omega arith);
+          };
       known = w.known;
       is = (λ i. holder (same i) (the (step.0 i).0) f)
           ∙ (λ i. record {
@@ -449,8 +472,10 @@ module _ {k : Rules} {o : Object} {z : TableId} {me : Me} {number calls budget :
 
 -- what is known where there is something to choose, of the floor in its hands
 pub must_known : {k : Rules} {o : Object} {z : TableId} {me : Me} {number calls budget : ℕ} {f : FloorView}
-    → IsHolding k o z me number calls budget f → (a : Holder) → holder z (the me.0) f ≡ a → (call : ℕ → Event) {R : Type 0}
-    → (must_stay o (stands_of k o a.floor) (call a.me.seat) ≡ false → R) → must_stay o (stands_of k o f) (call number) ≡ false → R
+    → IsHolding k o z me number calls budget f → (a : Holder) → holder z (the me.0) f ≡ a
+    → (call : ℕ → Event) {R : Type 0}
+    → (must_stay o (stands_of k o a.floor) (call a.me.seat) ≡ false → R)
+    → must_stay o (stands_of k o f) (call number) ≡ false → R
 must_known {k} {o} {f = f} h a is call told free =
     told ((λ i. must_stay o (stands_of k o (sym is i).floor) (call (sym is i).me.seat))
     ∙ ap (λ n. must_stay o (stands_of k o f) (call n)) h.seated.is_seat ∙ free)
@@ -476,8 +501,10 @@ released_after k o call wish to peeks a b x p h g m =
 
 pub after_peeked : {K T : Type 0} (k : Rules) (o : Object) (call : ℕ → Event) (wish : Pick) (to : Home) (peeks : ℕ)
     (a b : Holder) → HasPeeked peeks a b → (r : After K T) (h : House) (g : Option Grant)
-    → MatchAfter r (λ x. HasStayedAlone k o b (call b.me.seat) wish 0 x g) (λ p. HasGranted k o b (call b.me.seat) wish to 0 p h g)
-    → MatchAfter r (λ x. HasStayedAlone k o a (call a.me.seat) wish peeks x g) (λ p. HasGranted k o a (call a.me.seat) wish to peeks p h g)
+    → MatchAfter r (λ x. HasStayedAlone k o b (call b.me.seat) wish 0 x g)
+    (λ p. HasGranted k o b (call b.me.seat) wish to 0 p h g)
+    → MatchAfter r (λ x. HasStayedAlone k o a (call a.me.seat) wish peeks x g)
+    (λ p. HasGranted k o a (call a.me.seat) wish to peeks p h g)
 after_peeked k o call wish to peeks a b x (Active y) h g m = record {
   stayed = stayed_peeked peeks a b x (call a.me.seat) wish y
       (subst (λ e. HasStayed k o b e wish 0 y) (ap (λ (h : Holder). call h.me.seat) x.is) m.stayed);

@@ -34,7 +34,8 @@ use Rattle.monk_hall.specs.Tells.{IsReleaseTo}
 use Rattle.monk_hall.proofs.Frame.{step_kept, step_is}
 
 -- where the seat stands after its release
-pub back_is : (i : ℕ) (to : Home) (call : Event) (x : Next) → IsReleaseTo i to call → back_after (Some (with_next x call)) ≡ Back x to
+pub back_is : (i : ℕ) (to : Home) (call : Event) (x : Next) → IsReleaseTo i to call
+    → back_after (Some (with_next x call)) ≡ Back x to
 back_is i to (Enter s via) x r = absurd r
 back_is i to (Act s op n) x r = absurd r
 back_is i home.Idle (Leave s y) x r = refl
@@ -145,7 +146,8 @@ module _ (k : Rules) (o : Object) (s : State) (seats conds : ℕ) (i : ℕ) (q :
         is_wish = is_wish;
         is_kept = away x (release_next k o s i e wish) to e chosen stay
             (step_kept k o s i m chose table seats conds (Active q) kind kept ready active done);
-        step = away_step m x (release_next k o s i e wish) to e chosen stay (step_is k o s i m chose table (Active q) ready active done);
+        step = away_step m x (release_next k o s i e wish) to e chosen stay
+            (step_is k o s i m chose table (Active q) ready active done);
       }
 
   -- each of the six

@@ -29,14 +29,18 @@ right_in_one_place k o c s h = in_one_place c.seats (shown_world s.words h.0) h.
     h.2.kept.sound.is_sound.stands.keeps h.2.some_seat
 
 -- two with the right are one
-one : (k : Rules) (o : Object) (c : Setting) (s : HallState) → IsHall k o c s → (r q : SeatRecord) → (x : IsRecord s r) → (y : IsRecord s q)
+one : (k : Rules) (o : Object) (c : Setting) (s : HallState) → IsHall k o c s → (r q : SeatRecord)
+    → (x : IsRecord s r) → (y : IsRecord s q)
     → (due_stage ≤ stage r.place) × (stage r.place ≤ passing_stage) → (due_stage ≤ stage q.place)
     × (stage q.place ≤ passing_stage) → (r ≡ q) × (x.id ≡ y.id)
 one k o c s h r q x y a b =
     let mine = with k o c s h r x a.0 a.1 in
     let theirs = with k o c s h q y b.0 b.1 in
-    let same : r.seat ≡ q.seat = cc in
-    (sym (is k o c s h r x) ∙ ap h.0 same ∙ is k o c s h q y, sym (desk k o c s h r x) ∙ ap h.1.desk same ∙ desk k o c s h q y)
+    let same : r.seat ≡ q.seat = cc in (
+      sym (is k o c s h r x) ∙ ap h.0 same ∙ is k o c s h q y,
+      sym (desk k o c s h r x) ∙ ap h.1.desk same
+          ∙ desk k o c s h q y,
+    )
 
 pub one_has_the_right : OneHasTheRight
 one_has_the_right k o c s h r q x y a b = one k o c s h r q x y (has_right r.place a) (has_right q.place b)
@@ -47,13 +51,15 @@ one_is_active k o c s h r q x y a b = one k o c s h r q x y (omega arith, omega 
 pub known_waits : KnownWaits
 known_waits k o c s h r x active known =
     let at = is k o c s h r x in
-    h.2.kept.sound.is_sound.known r.seat (ap (λ (y : SeatRecord). stage y.place) at ∙ active) (ap (λ (y : SeatRecord). y.known) at ∙ known)
+    h.2.kept.sound.is_sound.known r.seat (ap (λ (y : SeatRecord). stage y.place) at ∙ active)
+    (ap (λ (y : SeatRecord). y.known) at ∙ known)
 
 pub entry_waits : EntryWaits
 entry_waits k o c s h r to x back_at some =
     let at = place k o c s h r x ∙ back_at in
     let history = back k o c s h r x (ap stage back_at) in
-    let loud : is_quiet k o (floor_of c h.2.history) ≡ false = ap (λ (past : List Event). is_quiet k o (floor_of c past)) history ∙ some in
+    let loud : is_quiet k o (floor_of c h.2.history) ≡ false =
+    ap (λ (past : List Event). is_quiet k o (floor_of c past)) history ∙ some in
     elim (h.2.kept.sound.is_sound.stands.fits_queues.back_to_entry r.seat (ap stage at) (ap back_turn at)) [
       | inl quiet ↦ absurd (true≢false (sym quiet ∙ loud))
       | inr two ↦ two

@@ -36,7 +36,8 @@ module _ (c : Setting) (views : List View) (at : ℕ → SeatRecord) (s : AreSho
   is_setting = ap (λ (x : SeatRecord). x.setting) (sym is_at) ∙ s.settings r.seat
 
   -- the record of the seat whose view has it alone changes
-  pub shown_set : (w : SeatRecord) → w.seat ≡ r.seat → w.setting ≡ r.setting → AreShown c (set views id (w ∷ [])) (update at r.seat w)
+  pub shown_set : (w : SeatRecord) → w.seat ≡ r.seat → w.setting ≡ r.setting
+      → AreShown c (set views id (w ∷ [])) (update at r.seat w)
   shown_set w same kept = record {
     desk = s.desk;
     each = λ j v e x in_v. ⊎_elim
@@ -52,7 +53,8 @@ module _ (c : Setting) (views : List View) (at : ℕ → SeatRecord) (s : AreSho
         let old = s.each j v t.1 x in_v in
         (update_else at r.seat w x.seat (λ eq. t.0 (sym old.1 ∙ ap s.desk eq ∙ is_desk)) ∙ old.0, old.1, old.2))
         (at_set views id j (w ∷ []) v e);
-    apart = λ j v e. ⊎_elim (λ t. subst Distinct t.1 ((λ y h. absurd h), tt)) (λ t. s.apart j v t.1) (at_set views id j (w ∷ []) v e);
+    apart = λ j v e. ⊎_elim (λ t. subst Distinct t.1 ((λ y h. absurd h), tt)) (λ t. s.apart j v t.1)
+        (at_set views id j (w ∷ []) v e);
     there = λ j near. elim (eqb_tells j r.seat) [
       | inl h ↦ (
         w ∷ [],

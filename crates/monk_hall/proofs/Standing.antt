@@ -71,7 +71,8 @@ pub apart_inner : IsApart Inner
 apart_inner = record { not_active = λ e. absurd (omega arith); not_back = λ e. absurd (omega arith); chose = refl }
 
 pub apart_passing : (t : ℕ) (to : Home) → IsApart (Passing t to)
-apart_passing t to = record { not_active = λ e. absurd (omega arith); not_back = λ e. absurd (omega arith); chose = refl }
+apart_passing t to =
+    record { not_active = λ e. absurd (omega arith); not_back = λ e. absurd (omega arith); chose = refl }
 
 pub apart_home : (to : Home) → IsApart (place_of to)
 apart_home home.Idle = apart_idle
@@ -85,11 +86,13 @@ apart_arrived t n = by_free (n == 0)
     by_free false = apart_ticket t
 
 pub apart_looked : (t : ℕ) (found : Bool) → IsApart (place_after_ticket_look t found)
-apart_looked t true = record { not_active = λ e. absurd (omega arith); not_back = λ e. absurd (omega arith); chose = refl }
+apart_looked t true =
+    record { not_active = λ e. absurd (omega arith); not_back = λ e. absurd (omega arith); chose = refl }
 apart_looked t false = apart_ticket t
 
 pub apart_answered : (found : Bool) → IsApart (place_after_seat_look found)
-apart_answered true = record { not_active = λ e. absurd (omega arith); not_back = λ e. absurd (omega arith); chose = refl }
+apart_answered true =
+    record { not_active = λ e. absurd (omega arith); not_back = λ e. absurd (omega arith); chose = refl }
 apart_answered false = apart_inner
 
 pub apart_dropped : (t n : ℕ) (to : Home) → IsApart (place_after_drop t n to)

@@ -65,11 +65,13 @@ module _ (k : Rules) (o : Object) (c : Setting) (kind : IsKind k) (s : table.Sta
   stands_at p e = ap (λ (y : SeatRecord). y.place) is ∙ e
 
   -- what a seat has left that isn't active
-  pub left_is : stage r.place ≢ active_stage → left_of c.budget kept_hall.history r.seat ≡ r.setting.budget - length r.mine
+  pub left_is : stage r.place ≢ active_stage
+      → left_of c.budget kept_hall.history r.seat ≡ r.setting.budget - length r.mine
   left_is not_active =
       let mine = frame.shows_mine k o c s.homes at s.words kept_hall.past kept_hall.history kept_hall.told
       kept_hall.kept.sound.right kept_hall.kept.sound.owner sound.stands.keeps
-      r.seat (λ e. not_active (sym (ap (λ (y : SeatRecord). stage y.place) is) ∙ e)) ∙ ap (λ (y : SeatRecord). y.mine) is in
+      r.seat (λ e. not_active (sym (ap (λ (y : SeatRecord). stage y.place) is) ∙ e))
+      ∙ ap (λ (y : SeatRecord). y.mine) is in
       let long = ap length mine in
       let budget : r.setting.budget ≡ c.budget = ap (λ (y : Setting). y.budget) setting in
       omega arith
@@ -78,7 +80,9 @@ module _ (k : Rules) (o : Object) (c : Setting) (kind : IsKind k) (s : table.Sta
   pub seen_few : enters_of r.seen ≤ world.drawn
   seen_few =
       let kh = kept_hall in
-      let seen = frame.starts_enters kh.past r.seen (subst (λ (y : SeatRecord). StartsWith kh.past y.seen) is (kh.told.starts r.seat)) in
+      let seen =
+      frame.starts_enters kh.past r.seen
+      (subst (λ (y : SeatRecord). StartsWith kh.past y.seen) is (kh.told.starts r.seat)) in
       let shows = frame.starts_enters kh.history kh.past
       (frame.shows_past k o c s.homes at s.words kh.past kh.history kh.told kh.kept.sound.right kh.kept.sound.owner
       sound.stands.keeps) in
@@ -104,27 +108,33 @@ module _ (k : Rules) (o : Object) (c : Setting) (kind : IsKind k) (s : table.Sta
     pub seen : w.seen ≡ r.seen
     pub mine : w.mine ≡ r.mine
 
-  pub places_after : (w : SeatRecord) → Path (ℕ → Place) (update world.place r.seat w.place) (λ j. (update at r.seat w j).place)
+  pub places_after : (w : SeatRecord)
+      → Path (ℕ → Place) (update world.place r.seat w.place) (λ j. (update at r.seat w j).place)
   places_after w = sym (field_update (λ (y : SeatRecord). y.place) at r.seat w)
 
-  pub counts_after : (w : SeatRecord) (n : ℕ) → n ≡ w.count → Path (ℕ → ℕ) (update world.count r.seat n) (λ j. (update at r.seat w j).count)
+  pub counts_after : (w : SeatRecord) (n : ℕ) → n ≡ w.count
+      → Path (ℕ → ℕ) (update world.count r.seat n) (λ j. (update at r.seat w j).count)
   counts_after w n e = ap (update world.count r.seat) e ∙ sym (field_update (λ (y : SeatRecord). y.count) at r.seat w)
 
   pub counts_stay : (w : SeatRecord) → w.count ≡ r.count → Path (ℕ → ℕ) world.count (λ j. (update at r.seat w j).count)
-  counts_stay w e = sym (field_stays (λ (y : SeatRecord). y.count) at r.seat w (ap (λ (y : SeatRecord). y.count) is ∙ sym e))
+  counts_stay w e =
+      sym (field_stays (λ (y : SeatRecord). y.count) at r.seat w (ap (λ (y : SeatRecord). y.count) is ∙ sym e))
 
   pub known_after : (w : SeatRecord) (b : Bool) → b ≡ w.known
       → Path (ℕ → Bool) (update state.known r.seat b) (λ j. (update at r.seat w j).known)
   known_after w b e = ap (update state.known r.seat) e ∙ sym (field_update (λ (y : SeatRecord). y.known) at r.seat w)
 
-  pub known_stays : (w : SeatRecord) → w.known ≡ r.known → Path (ℕ → Bool) state.known (λ j. (update at r.seat w j).known)
-  known_stays w e = sym (field_stays (λ (y : SeatRecord). y.known) at r.seat w (ap (λ (y : SeatRecord). y.known) is ∙ sym e))
+  pub known_stays : (w : SeatRecord) → w.known ≡ r.known
+      → Path (ℕ → Bool) state.known (λ j. (update at r.seat w j).known)
+  known_stays w e =
+      sym (field_stays (λ (y : SeatRecord). y.known) at r.seat w (ap (λ (y : SeatRecord). y.known) is ∙ sym e))
 
   -- the rule holds after a step that leaves the history and the floor where they are, and it is a step of the world
   pub holds_after : (w : SeatRecord) (ws : List ℕ) → IsMoved w → length ws ≡ length s.words
       → {m : Command} {a : Answer} {t : State} → IsTaken m a t
       → Path State t (shown_state c ws (update at r.seat w) kept_hall.history)
-      → AreTold k o c s.homes (update at r.seat w) (shown_world ws (update at r.seat w)) kept_hall.past kept_hall.history
+      → AreTold k o c s.homes (update at r.seat w)
+      (shown_world ws (update at r.seat w)) kept_hall.past kept_hall.history
       → Takes k o c s h r.seat m a (record { words = ws; homes = s.homes; views = set s.views id (w ∷ []) })
   holds_after w ws moved wide {m} {a} {t} taken same told = record {
     hall = (
@@ -144,8 +154,10 @@ module _ (k : Rules) (o : Object) (c : Setting) (kind : IsKind k) (s : table.Sta
 
   -- what the seats know after a step of a seat that has neither the floor nor a choice, before and after
   pub knows_after : (w : SeatRecord) (ws : List ℕ) → IsMoved w
-      → CountsCalls (shown_world ws (update at r.seat w)) kept_hall.past → stage r.place ≢ active_stage → IsApart w.place
-      → AreTold k o c s.homes (update at r.seat w) (shown_world ws (update at r.seat w)) kept_hall.past kept_hall.history
+      → CountsCalls (shown_world ws (update at r.seat w)) kept_hall.past → stage r.place ≢ active_stage
+      → IsApart w.place
+      → AreTold k o c s.homes (update at r.seat w)
+      (shown_world ws (update at r.seat w)) kept_hall.past kept_hall.history
   knows_after w ws moved calls was apart =
       told_moves k o c s.homes at world kept_hall.past kept_hall.history kept_hall.told r.seat w
       (moved.seen ∙ ap (λ (y : SeatRecord). y.seen) (sym is))

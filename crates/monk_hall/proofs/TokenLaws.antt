@@ -33,7 +33,8 @@ use Rattle.monk_hall.specs.Tokens.{Token, Holder, IsResting, IsHolding, IsWaitin
 use Rattle.monk_hall.specs.declared.record.SeatRecord.{SeatRecord}
 
 -- a seat's own event is one more of its own
-pub own_longer : (h : List Event) (e : Event) (s : ℕ) → seat_of e ≡ s → length (events_of (h ++ e ∷ []) s) ≡ length (events_of h s) + 1
+pub own_longer : (h : List Event) (e : Event) (s : ℕ) → seat_of e ≡ s
+    → length (events_of (h ++ e ∷ []) s) ≡ length (events_of h s) + 1
 own_longer h e s is = ap length (own_event h e s is) ∙ length-append (events_of h s) (e ∷ [])
 
 pub out_seat : (i : ℕ) (q : Source) (u : Turn) → seat_of (out_event i q u) ≡ i
@@ -41,7 +42,8 @@ out_seat i (Free t) u = refl
 out_seat i (Granted t) u = refl
 out_seat i Called u = refl
 
-pub out_owns : (i : ℕ) (q : Source) (u : Turn) → turn_by (seat_of (out_event i q u)) (next_of (out_event i q u)) ≡ Owned i
+pub out_owns : (i : ℕ) (q : Source) (u : Turn)
+    → turn_by (seat_of (out_event i q u)) (next_of (out_event i q u)) ≡ Owned i
 out_owns i (Free t) u = refl
 out_owns i (Granted t) u = refl
 out_owns i Called u = refl
@@ -119,7 +121,8 @@ module _ {k : Rules} {o : Object} where
     goes = sym (append-nil (f.history ++ e ∷ []));
     own = tt;
     owned = turn-push f.history e ∙ out_owns r.seat (source_from r.place) (turn f.history);
-    mine = own_event f.history e r.seat (out_seat r.seat (source_from r.place) (turn f.history)) ∙ ap (λ es. es ++ e ∷ []) x.mine;
+    mine = own_event f.history e r.seat (out_seat r.seat (source_from r.place) (turn f.history))
+        ∙ ap (λ es. es ++ e ∷ []) x.mine;
     within = let more = own_longer f.history e r.seat (out_seat r.seat (source_from r.place) (turn f.history)) in
         let two = x.left in let b = ap (λ y. y.budget) x.is_floor in omega arith;
   }
@@ -130,7 +133,8 @@ module _ {k : Rules} {o : Object} where
       → IsHolding k o z (record_after_floor_out (the me.0) f.history ∷ [], (0, None) ∷ []) number calls budget g
   came_in {z} {me} {number} {left} {calls} {budget} x f g finds grows =
       let r = the me.0 in let e = out_event r.seat (source_from r.place) (turn f.history) in
-      subst (λ y. IsHolding k o z (record_after_floor_out r f.history ∷ [], (0, None) ∷ []) number calls budget y) (sym grows) record {
+      subst (λ y. IsHolding k o z (record_after_floor_out r f.history ∷ [], (0, None) ∷ []) number calls budget
+      y) (sym grows) record {
         one = refl;
         out = refl;
         active = refl;
@@ -182,7 +186,8 @@ module _ {k : Rules} {o : Object} where
       (subst (λ m. IsResting k o z m number left calls budget) (sym is) x)
 
   -- an idle seat has drawn a ticket
-  pub arrival_rests : {z : TableId} {v : View} {number left calls budget : ℕ} → IsResting k o z (v, []) number left calls budget
+  pub arrival_rests : {z : TableId} {v : View} {number left calls budget : ℕ}
+      → IsResting k o z (v, []) number left calls budget
       → (me : Me) → me.0 ≡ v → me.1 ≡ []
       → (y : TableId) (new : Me) (found : ℕ) (p : Place) → y ≡ z
       → new ≡ (record_after_arrive (the me.0) found ∷ [], me.1) → length (the v).mine + 2 ≤ (the v).setting.budget
@@ -190,7 +195,8 @@ module _ {k : Rules} {o : Object} where
       → IsResting k o y new number left calls budget × (2 ≤ left) × (p ≡ (the new.0).place) × IsWaiting p
   arrival_rests {z} {v} {number} {left} {calls} {budget} x me view free y new found p same is two at =
       let r = the v in let spent = x.spent in
-      let drawn : new ≡ (record_after_arrive r found ∷ [], []) = is ∙ (λ i. (record_after_arrive (the (view i)) found ∷ [], free i)) in (
+      let drawn : new ≡ (record_after_arrive r found ∷ [], []) = is
+      ∙ (λ i. (record_after_arrive (the (view i)) found ∷ [], free i)) in (
         rests_at (rests_moved x (place_after_arrive (tickets found) (unpassed found)) r.known r.count r.looks
             (suc r.steps) calls x.seated.counted) y new same drawn,
         omega arith,
@@ -198,11 +204,14 @@ module _ {k : Rules} {o : Object} where
         subst IsWaiting (sym at) (arrived_waits (tickets found) (unpassed found)),
       )
 
-  pub arrival : {z : TableId} {v : View} {number left calls budget : ℕ} → IsResting k o z (v, []) number left calls budget → (me : Me)
+  pub arrival : {z : TableId} {v : View} {number left calls budget : ℕ}
+      → IsResting k o z (v, []) number left calls budget → (me : Me)
       → me.0 ≡ v → me.1 ≡ []
-      → (y : TableId) (new : Me) (found : ℕ) → y ≡ z → TellsArrive me found new → HasArrived k o (token z (the v)) (token y (the new.0))
+      → (y : TableId) (new : Me) (found : ℕ) → y ≡ z → TellsArrive me found new
+      → HasArrived k o (token z (the v)) (token y (the new.0))
   arrival {z} {v} x me view free y new found same step =
-      let r = the v in let drawn = ap (λ m. the m.0) step.0 ∙ ap (λ w. record_after_arrive (the w) found) view in record {
+      let r = the v in
+      let drawn = ap (λ m. the m.0) step.0 ∙ ap (λ w. record_after_arrive (the w) found) view in record {
         found = found;
         hall = same;
         me = drawn;
@@ -212,9 +221,11 @@ module _ {k : Rules} {o : Object} where
       }
 
   -- a seat with a ticket has looked for it
-  pub ticket_look_rests : {z : TableId} {me : Me} {number left calls budget : ℕ} → IsResting k o z me number left calls budget
+  pub ticket_look_rests : {z : TableId} {me : Me} {number left calls budget : ℕ}
+      → IsResting k o z me number left calls budget
       → (t found : ℕ) → (the me.0).place ≡ Ticket t → (y : TableId) (new : Me) (p : Place)
-      → y ≡ z → new ≡ (record_after_ticket_look (the me.0) found ∷ [], me.1) → p ≡ place_after_ticket_look t (found == t + 1)
+      → y ≡ z → new ≡ (record_after_ticket_look (the me.0) found ∷ [], me.1)
+      → p ≡ place_after_ticket_look t (found == t + 1)
       → IsResting k o y new number left calls budget × (p ≡ (the new.0).place) × IsWaiting p
   ticket_look_rests {z} {me} {number} {left} {calls} {budget} x t found at y new p same is looks =
       let r = the me.0 in let n = Rattle.monk_world.specs.Places.ticket r.place in (
@@ -226,7 +237,8 @@ module _ {k : Rules} {o : Object} where
       )
 
   -- a parked seat has looked for its call
-  pub call_look_rests : {z : TableId} {me : Me} {number left calls budget : ℕ} → IsResting k o z me number left calls budget
+  pub call_look_rests : {z : TableId} {me : Me} {number left calls budget : ℕ}
+      → IsResting k o z me number left calls budget
       → (found : ℕ) → (y : TableId) (new : Me) (p : Place) (b : Bool) (now : ℕ)
       → y ≡ z → new ≡ (record_after_seat_look (the me.0) found ∷ [], me.1) → b ≡ (found == calls + 1)
       → p ≡ place_after_seat_look b → now ≡ count_after_seat_look calls (found == calls + 1)
@@ -245,7 +257,8 @@ module _ {k : Rules} {o : Object} where
       → (f g : FloorView) (q : Source) → (the me.0).place ≡ Due q
       → g ≡ with_event f (out_event number q (turn f.history))
       → g ≡ with_event f (out_event (the me.0).seat (source_from (the me.0).place) (turn f.history))
-  out_is x f g q at grows = grows ∙ (λ i. with_event f (out_event (sym x.seated.is_seat i) (sym (ap source_from at) i) (turn f.history)))
+  out_is x f g q at grows = grows
+      ∙ (λ i. with_event f (out_event (sym x.seated.is_seat i) (sym (ap source_from at) i) (turn f.history)))
 
   pub entry_holds : {z : TableId} {me : Me} {number left calls budget : ℕ} → IsResting k o z me number left calls budget
       → (f g : FloorView) (q : Source) → Finds k o (the me.0) f → (the me.0).place ≡ Due q
@@ -276,14 +289,20 @@ pub record IsAsBefore (r w : SeatRecord) : Type 0 where
   pub steps : w.steps ≤ r.steps + 1
 
 look_leaves : (p : Place) (r : SeatRecord) (found : ℕ) → IsAsBefore r (record_after_look p r found)
-look_leaves Idle r found = record { seat = refl; setting = refl; seen = refl; mine = refl; looks = omega arith; steps = omega arith }
-look_leaves (Ticket t) r found = record { seat = refl; setting = refl; seen = refl; mine = refl; looks = omega arith; steps = omega arith }
-look_leaves (Due q) r found = record { seat = refl; setting = refl; seen = refl; mine = refl; looks = omega arith; steps = omega arith }
-look_leaves (Active q) r found = record { seat = refl; setting = refl; seen = refl; mine = refl; looks = omega arith; steps = omega arith }
-look_leaves (Back x to) r found = record { seat = refl; setting = refl; seen = refl; mine = refl; looks = omega arith; steps = omega arith }
+look_leaves Idle r found =
+    record { seat = refl; setting = refl; seen = refl; mine = refl; looks = omega arith; steps = omega arith }
+look_leaves (Ticket t) r found =
+    record { seat = refl; setting = refl; seen = refl; mine = refl; looks = omega arith; steps = omega arith }
+look_leaves (Due q) r found =
+    record { seat = refl; setting = refl; seen = refl; mine = refl; looks = omega arith; steps = omega arith }
+look_leaves (Active q) r found =
+    record { seat = refl; setting = refl; seen = refl; mine = refl; looks = omega arith; steps = omega arith }
+look_leaves (Back x to) r found =
+    record { seat = refl; setting = refl; seen = refl; mine = refl; looks = omega arith; steps = omega arith }
 look_leaves (Passing t to) r found =
     record { seat = refl; setting = refl; seen = refl; mine = refl; looks = omega arith; steps = omega arith }
-look_leaves Inner r found = record { seat = refl; setting = refl; seen = refl; mine = refl; looks = omega arith; steps = omega arith }
+look_leaves Inner r found =
+    record { seat = refl; setting = refl; seen = refl; mine = refl; looks = omega arith; steps = omega arith }
 
 came_looked : (t : ℕ) (b : Bool) → source_from (place_after_ticket_look t b) ≡ Granted t
 came_looked t true = refl
@@ -293,7 +312,8 @@ came_answered : (b : Bool) → source_from (place_after_seat_look b) ≡ Called
 came_answered true = refl
 came_answered false = refl
 
-came_same : (p : Place) (r : SeatRecord) (found : ℕ) → r.place ≡ p → source_from (record_after_look p r found).place ≡ source_from p
+came_same : (p : Place) (r : SeatRecord) (found : ℕ) → r.place ≡ p
+    → source_from (record_after_look p r found).place ≡ source_from p
 came_same Idle r found at = ap source_from at
 came_same (Ticket t) r found at = came_looked t (found == t + 1)
 came_same (Due q) r found at = ap source_from at
@@ -314,7 +334,8 @@ module _ {k : Rules} {o : Object} where
         setting = x.setting ∙ setting;
         place = x.place ∙ ap Active came;
         known = x.known;
-        starts = subst (λ h. Rattle.monk_hall.specs.Floors.StartsWith a.me.seen h) (ap (λ w. w.seen) l.me ∙ s.seen) x.starts;
+        starts =
+            subst (λ h. Rattle.monk_hall.specs.Floors.StartsWith a.me.seen h) (ap (λ w. w.seen) l.me ∙ s.seen) x.starts;
         floor = x.floor ∙ (λ i. floor_of (setting i) (a.me.seen ++ out_event (seat i) (came i) (turn a.me.seen) ∷ []));
         mine = x.mine ∙ (λ i. (ap (λ w. w.mine) l.me ∙ s.mine) i ++ out_event (seat i) (came i) (turn a.me.seen) ∷ []);
         first = λ t is. x.first t (came ∙ is);
@@ -347,12 +368,14 @@ module _ {k : Rules} {o : Object} where
     within = let more = own_longer f.history e r.seat seat in omega arith;
   }
 
-  pub grown_holds : {z : TableId} {me : Me} {number calls budget : ℕ} {f : FloorView} → IsHolding k o z me number calls budget f
+  pub grown_holds : {z : TableId} {me : Me} {number calls budget : ℕ} {f : FloorView}
+      → IsHolding k o z me number calls budget f
       → (e : Event) → seat_of e ≡ number → turn_by (seat_of e) (next_of e) ≡ Owned number
       → is_enter e ≡ false → IsAllowed (monitor_of k o f) f.history e
       → length (events_of f.history (the me.0).seat) + 2 ≤ (the me.0).setting.budget → (g : FloorView)
       → g ≡ with_event f e → IsHolding k o z me number calls budget g
-  grown_holds {z} {me} {number} {calls} {budget} {f} x e seat keeps enters allowed room g grows = let n = x.seated.is_seat in
+  grown_holds {z} {me} {number} {calls} {budget} {f} x e seat keeps enters allowed room g grows = let n =
+      x.seated.is_seat in
       subst (λ y. IsHolding k o z me number calls budget y) (sym grows) record {
         one = x.one;
         out = x.out;
@@ -373,6 +396,7 @@ module _ {k : Rules} {o : Object} where
           floor =
               with_event f e;
         });
-    legal = subst (λ y. IsLegal (monitor_of k o y) y.history) (sym grows) (legal-push (monitor_of k o f) f.history e legal allowed);
+    legal = subst (λ y. IsLegal (monitor_of k o y) y.history) (sym grows)
+        (legal-push (monitor_of k o f) f.history e legal allowed);
     own = refl;
   }

@@ -104,12 +104,15 @@ module _ (k : Rules) (o : Object) (c : Setting) (kind : IsKind k) (s : table.Sta
         known = knows z;
         floor = old.floor;
       } in
-      let moved : stepping.IsMoved k o c kind s h id r here w = record { seat = refl; setting = refl; seen = refl; mine = refl } in
+      let moved : stepping.IsMoved k o c kind s h id r here w =
+      record { seat = refl; setting = refl; seen = refl; mine = refl } in
       let apart = standing.apart_arrived (tickets found) (unpassed found) in
-      let calls = calls_stay world (shown_world ws (update at r.seat w)) kh.past r.seat w.place kh.told.calls (sym places)
+      let calls =
+      calls_stay world (shown_world ws (update at r.seat w)) kh.past r.seat w.place kh.told.calls (sym places)
       (sym seat_places) (ap back_turn (stepping.stands_at k o c kind s h id r here Idle idle)) apart.chose in
       stepping.holds_after k o c kind s h id r here w ws moved (length-set s.words 0 x) kept same
-      (stepping.knows_after k o c kind s h id r here w ws moved calls (λ e. let z = ap stage idle in absurd (omega arith)) apart)
+      (stepping.knows_after k o c kind s h id r here w ws moved calls
+      (λ e. let z = ap stage idle in absurd (omega arith)) apart)
 
   -- step 2
   pub looks_for_ticket_at : stage r.place ≡ ticketed_stage
@@ -147,7 +150,8 @@ module _ (k : Rules) (o : Object) (c : Setting) (kind : IsKind k) (s : table.Sta
         known = knows z;
         floor = old.floor;
       } in
-      let moved : stepping.IsMoved k o c kind s h id r here w = record { seat = refl; setting = refl; seen = refl; mine = refl } in
+      let moved : stepping.IsMoved k o c kind s h id r here w =
+      record { seat = refl; setting = refl; seen = refl; mine = refl } in
       let apart = standing.apart_looked n (found == n + 1) in
       let calls = calls_stay world (shown_world s.words (update at r.seat w)) kh.past r.seat w.place kh.told.calls
       (sym places) refl (ap back_turn stands) apart.chose in
@@ -190,7 +194,8 @@ module _ (k : Rules) (o : Object) (c : Setting) (kind : IsKind k) (s : table.Sta
         known = knows z;
         floor = old.floor;
       } in
-      let moved : stepping.IsMoved k o c kind s h id r here w = record { seat = refl; setting = refl; seen = refl; mine = refl } in
+      let moved : stepping.IsMoved k o c kind s h id r here w =
+      record { seat = refl; setting = refl; seen = refl; mine = refl } in
       let apart = standing.apart_answered (found == r.count + 1) in
       let calls = calls_stay world (shown_world s.words (update at r.seat w)) kh.past r.seat w.place kh.told.calls
       (sym (stepping.places_after k o c kind s h id r here w)) refl (ap back_turn stands) apart.chose in
@@ -221,20 +226,24 @@ module _ (k : Rules) (o : Object) (c : Setting) (kind : IsKind k) (s : table.Sta
         told = ap (λ (p : Place). may_be_told p command.Peek) stands;
         left = omega arith;
       } in
-      let after : State = record old { known = update old.known r.seat (old.known r.seat || nat_le 2 world.unpassed) } in
+      let after : State =
+      record old { known = update old.known r.seat (old.known r.seat || nat_le 2 world.unpassed) } in
       let kept = stepping.takes_step k o c kind s h id r here command.Peek (answer.Found world.unpassed) after
       (Active (source_from r.place)) ready place_is (refl, refl) in
       let learnt : (old.known r.seat || nat_le 2 world.unpassed) ≡ w.known =
       knew (old.known r.seat) world.unpassed (sound.known r.seat (ap stage stands)) in
-      let places = sym (stored.field_stays (λ (y : SeatRecord). y.place) at r.seat w (ap (λ (y : SeatRecord). y.place) is)) in
+      let places =
+      sym (stored.field_stays (λ (y : SeatRecord). y.place) at r.seat w (ap (λ (y : SeatRecord). y.place) is)) in
       let counts = stepping.counts_stay k o c kind s h id r here w refl in
-      let knows = stepping.known_after k o c kind s h id r here w (old.known r.seat || nat_le 2 world.unpassed) learnt in
+      let knows =
+      stepping.known_after k o c kind s h id r here w (old.known r.seat || nat_le 2 world.unpassed) learnt in
       let same : Path State after (shown_state c s.words (update at r.seat w) kh.history) = λ z. record {
         world = record world { place = places z; count = counts z };
         known = knows z;
         floor = old.floor;
       } in
-      let moved : stepping.IsMoved k o c kind s h id r here w = record { seat = refl; setting = refl; seen = refl; mine = refl } in
+      let moved : stepping.IsMoved k o c kind s h id r here w =
+      record { seat = refl; setting = refl; seen = refl; mine = refl } in
       let calls = subst (λ (p : ℕ → Place). CountsCalls
       (record world { place = p; count = λ j. (update at r.seat w j).count }) kh.past) places (recount kh.told.calls)
       in
@@ -250,7 +259,8 @@ module _ (k : Rules) (o : Object) (c : Setting) (kind : IsKind k) (s : table.Sta
           two_or_more m l = grind (arith, l)
       knew false n l = refl
 
-      recount : {w : World} {past : List Event} → CountsCalls w past → {count : ℕ → ℕ} → CountsCalls (record w { count = count }) past
+      recount : {w : World} {past : List Event} → CountsCalls w past → {count : ℕ → ℕ}
+          → CountsCalls (record w { count = count }) past
       recount x = record { choosing = x.choosing; settled = x.settled }
 
   -- what it knew it finds again
@@ -330,13 +340,15 @@ module _ (k : Rules) (o : Object) (c : Setting) (kind : IsKind k) (s : table.Sta
         known = knows z;
         floor = old.floor;
       } in
-      let moved : stepping.IsMoved k o c kind s h id r here w = record { seat = refl; setting = refl; seen = refl; mine = refl } in
+      let moved : stepping.IsMoved k o c kind s h id r here w =
+      record { seat = refl; setting = refl; seen = refl; mine = refl } in
       let apart = standing.apart_dropped (tickets found) (unpassed found) (home_at r.place) in
       let calls = calls_stay world (shown_world ws (update at r.seat w)) kh.past r.seat w.place kh.told.calls
       (sym (stepping.places_after k o c kind s h id r here w)) (sym seat_places) (ap back_turn stands) apart.chose
       in
       stepping.holds_after k o c kind s h id r here w ws moved (length-set s.words 0 x) kept same
-      (stepping.knows_after k o c kind s h id r here w ws moved calls (λ e. let z = ap stage back in absurd (omega arith)) apart)
+      (stepping.knows_after k o c kind s h id r here w ws moved calls
+      (λ e. let z = ap stage back in absurd (omega arith)) apart)
 
 module _ (k : Rules) (o : Object) (c : Setting) (kind : IsKind k) (slots id : ℕ) (me : Me) (one : IsOne me.0) where
   -- a load leaves the words
@@ -367,7 +379,8 @@ module _ (k : Rules) (o : Object) (c : Setting) (kind : IsKind k) (slots id : �
       → Allows (IsHall k o c) slots id me (place_word (ticket (the me.0).place % c.seats)) (λ n. n) (TellsTicketLook me)
   looks_for_ticket waits s h wide view small =
       let here : get_elem? s.views id ≡ maybe.some (the me.0 ∷ []) = view ∙ ap maybe.some one in
-      let w = record_after_ticket_look (the me.0) (slice_index s.words (place_word (ticket (the me.0).place % c.seats))) in (
+      let w = record_after_ticket_look (the me.0)
+      (slice_index s.words (place_word (ticket (the me.0).place % c.seats))) in (
         w ∷ [],
         keeps,
         tt,
@@ -412,6 +425,7 @@ module _ (k : Rules) (o : Object) (c : Setting) (kind : IsKind k) (slots id : �
           refl,
           some_unpassed k o c kind s h id (the me.0) here (ap stage back),
           (stepping.sound k o c kind s h id (the me.0) here).stands.keeps.tickets.behind,
-          next_ticket k o c s h (the me.0) (record { id = id; view = the me.0 ∷ []; at = here; there = inl refl }) next.Entry to back,
+          next_ticket k o c s h (the me.0)
+              (record { id = id; view = the me.0 ∷ []; at = here; there = inl refl }) next.Entry to back,
         ),
       )

@@ -83,7 +83,8 @@ pub record HasEntered (k : Rules) (o : Object) (p : Token) (a : Holder) : Type 0
   pub place : a.me.place ≡ Active (source_from p.me.place)
   pub known : a.me.known ≡ false
   pub starts : StartsWith a.me.seen p.me.seen
-  pub floor : a.floor ≡ floor_of p.me.setting (a.me.seen ++ out_event p.me.seat (source_from p.me.place) (turn a.me.seen) ∷ [])
+  pub floor : a.floor ≡ floor_of p.me.setting
+      (a.me.seen ++ out_event p.me.seat (source_from p.me.place) (turn a.me.seen) ∷ [])
   pub mine : a.me.mine ≡ p.me.mine ++ out_event p.me.seat (source_from p.me.place) (turn a.me.seen) ∷ []
   pub first : (t : ℕ) → source_from p.me.place ≡ Free t → enters_of a.me.seen ≡ t
   pub next : (t : ℕ) → source_from p.me.place ≡ Granted t → enters_of a.me.seen ≡ t
@@ -128,7 +129,8 @@ pub record HasPeeked (peeks : ℕ) (a b : Holder) : Type 0 where
 
 -- the seat has given the floor back with this release, whose next is that of the wish rules; it stands outside or is
 -- parked inside. `known` of the token given back tells whether its look found somebody at the entry
-pub record HasReleased (k : Rules) (o : Object) (a : Holder) (call : Event) (wish : Pick) (to : Home) (peeks : ℕ) (p : Token) : Type 0 where
+pub record HasReleased (k : Rules) (o : Object) (a : Holder) (call : Event) (wish : Pick) (to : Home)
+    (peeks : ℕ) (p : Token) : Type 0 where
   pub choice : Next
   pub chosen : choice ≡ choice_of k o (stands_of k o a.floor) call (is_entry_known wish p.me.known) wish
   pub away : is_stay (Some choice) ≡ false
@@ -145,7 +147,8 @@ pub record HasReleased (k : Rules) (o : Object) (a : Holder) (call : Event) (wis
   pub floor : a.floor ≡ floor_of a.me.setting a.floor.history
 
 -- the seat has stayed active by this release, since the wish rules chose so
-pub record HasStayed (k : Rules) (o : Object) (a : Holder) (call : Event) (wish : Pick) (peeks : ℕ) (b : Holder) : Type 0 where
+pub record HasStayed (k : Rules) (o : Object) (a : Holder) (call : Event) (wish : Pick) (peeks : ℕ)
+    (b : Holder) : Type 0 where
   pub chosen : next.Stay ≡ choice_of k o (stands_of k o a.floor) call (is_entry_known wish b.me.known) wish
   pub is : b ≡ record a {
     me = record a.me {
@@ -168,8 +171,8 @@ pub record HasDone (k : Rules) (o : Object) (a : Holder) (e : Event) (b : Holder
   pub legal : IsLegal (monitor_of k o b.floor) b.floor.history
   pub own : events_of b.floor.history b.me.seat ≡ b.me.mine
 
--- a release that always leads outside, and one that always parks inside: each looks at the ticket word where its wish is
--- for entry
+-- a release that always leads outside, and one that always parks inside: each looks at the ticket
+-- word where its wish is for entry
 abbrev pub GoesOut : Rules → Object → Holder → Event → Pick → Token → Type 0
 GoesOut k o a call wish p = HasReleased k o a call wish home.Idle (peeks_of true wish) p
 
@@ -178,4 +181,5 @@ ParksInside k o a call wish p = HasReleased k o a call wish home.Inner (peeks_of
 
 -- what a release must know of the entry where it has something to choose
 abbrev pub KnowsForChoice : Rules → Object → Holder → Event → Pick → Bool → Type 0
-KnowsForChoice k o a call wish known = must_stay o (stands_of k o a.floor) call ≡ false → known ≡ is_entry_known wish a.me.known
+KnowsForChoice k o a call wish known = must_stay o (stands_of k o a.floor) call ≡ false
+    → known ≡ is_entry_known wish a.me.known

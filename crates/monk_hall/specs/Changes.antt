@@ -50,7 +50,8 @@ back_after (Some e) = Back (choice_in (next_of e)) (if is_way_out e then home.Id
 
 -- it drew a ticket
 abbrev pub record_after_arrive : SeatRecord → ℕ → SeatRecord
-record_after_arrive r found = record r { place = place_after_arrive (tickets found) (unpassed found); steps = suc r.steps }
+record_after_arrive r found =
+    record r { place = place_after_arrive (tickets found) (unpassed found); steps = suc r.steps }
 
 -- it looked at the place of its ticket
 abbrev pub record_after_ticket_look : SeatRecord → ℕ → SeatRecord
@@ -78,7 +79,8 @@ record_after_peek r found = record r { known = nat_le 2 (unpassed found); looks 
 
 -- the floor came out to it, with this history
 abbrev pub record_after_floor_out : SeatRecord → List Event → SeatRecord
-record_after_floor_out r history = record r { place = Active (source_from r.place); known = false; seen = history; steps = suc r.steps }
+record_after_floor_out r history =
+    record r { place = Active (source_from r.place); known = false; seen = history; steps = suc r.steps }
 
 -- it brought the floor back, with this history
 abbrev pub record_after_floor_in : SeatRecord → List Event → SeatRecord
@@ -93,7 +95,8 @@ record_after_floor_in r history =
 
 -- it took itself off the ticket word
 abbrev pub record_after_drop : SeatRecord → ℕ → SeatRecord
-record_after_drop r found = record r { place = place_after_drop (tickets found) (unpassed found) (home_at r.place); steps = suc r.steps }
+record_after_drop r found =
+    record r { place = place_after_drop (tickets found) (unpassed found) (home_at r.place); steps = suc r.steps }
 
 -- it handed the right on
 abbrev pub record_after_grant : SeatRecord → SeatRecord

@@ -21,11 +21,13 @@ pub record Grant : Type 0 where
   pub table : TableId
   pub word : ℕ
 
--- it was granted to whom the release chose: to the seat that the choice names, in that seat's place; after the choice of
--- entry to the next ticket, in its place, if one waits. That ticket's number is the number of enters in the history that
--- ends with the release, `seen`: the ticket enters next. A grant is a step: so the seat's counts of steps, `before` the
--- floor went home and `after` the release, say whether one was made
-pub record IsGrantFor (h : House) (choice : Next) (seen : List Event) (before after : ℕ) (g : Option Grant) : Type 0 where
+-- it was granted to whom the release chose: to the seat that the choice names, in that seat's
+-- place; after the choice of entry to the next ticket, in its place, if one waits. That ticket's
+-- number is the number of enters in the history that ends with the release, `seen`: the ticket
+-- enters next. A grant is a step: so the seat's counts of steps, `before` the floor went home and
+-- `after` the release, say whether one was made
+pub record IsGrantFor (h : House) (choice : Next) (seen : List Event) (before after : ℕ)
+    (g : Option Grant) : Type 0 where
   pub here : IfSome g (λ x. x.table ≡ h.id)
   pub seat : (j : ℕ) → seat_called_by choice ≡ Some j → g ≡ Some (record { table = h.id; word = seat_word j })
   pub ticket : seat_called_by choice ≡ None
@@ -33,7 +35,8 @@ pub record IsGrantFor (h : House) (choice : Next) (seen : List Event) (before af
       (λ x. (after ≡ before + 3) × (x.word ≡ ticket_word h.setting.seats (enters_of seen)))
 
 -- a release, and a grant to whom it chose
-pub record HasGranted (k : Rules) (o : Object) (a : Holder) (call : Event) (wish : Pick) (to : Home) (peeks : ℕ) (p : Token)
+pub record HasGranted (k : Rules) (o : Object) (a : Holder) (call : Event) (wish : Pick) (to : Home)
+    (peeks : ℕ) (p : Token)
     (h : House) (g : Option Grant) : Type 0 where
   pub released : HasReleased k o a call wish to peeks p
   pub granted : IsGrantFor h released.choice p.me.seen (a.me.steps + peeks) p.me.steps g
@@ -50,7 +53,8 @@ pub record HasStayedAlone (k : Rules) (o : Object) (a : Holder) (call : Event) (
   pub stayed : HasStayed k o a call wish peeks b
   pub none : g ≡ None
 
-abbrev pub StaysOrGrants : {K T : Type 0} → Rules → Object → Holder → Event → Pick → After K T → House → Option Grant → Type 0
+abbrev pub StaysOrGrants : {K T : Type 0} → Rules → Object → Holder → Event → Pick → After K T → House
+    → Option Grant → Type 0
 StaysOrGrants k o a call wish to h g =
     MatchAfter to (λ b. HasStayedAlone k o a call wish (peeks_for k o a.floor call wish) b g)
     (λ p. HasGranted k o a call wish home.Inner (peeks_for k o a.floor call wish) p h g)

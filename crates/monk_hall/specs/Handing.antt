@@ -26,7 +26,8 @@ seat_called_by (Signaller j) = Some j
 seat_called_by (Until j) = Some j
 
 -- the active seat has recorded a release in its floor, which chose `choice` and leads to `to`
-pub record HasRecordedRelease (k : Rules) (o : Object) (z : TableId) (me : Me) (choice : Next) (to : Home) (f : FloorView) : Type 0 where
+pub record HasRecordedRelease (k : Rules) (o : Object) (z : TableId) (me : Me) (choice : Next) (to : Home)
+    (f : FloorView) : Type 0 where
   pub one : IsOne me.0
   pub active : stage (the me.0).place ≡ active_stage
   pub sized : z.words ≡ word_count (the me.0).setting.seats

@@ -56,7 +56,8 @@ pub record Takes (k : Rules) (o : Object) (c : Setting) (s : HallState) (h : IsH
   pub step : IsStep k o (shown_state c s.words h.0 h.2.history) i m a (shown_state c t.words hall.0 hall.2.history)
 
 -- a seat whose view has it alone
-abbrev pub OfASeat : ((k : Rules) (o : Object) (c : Setting) (s : HallState) → IsHall k o c s → ℕ → SeatRecord → Type 0) → Type 0
+abbrev pub OfASeat : ((k : Rules) (o : Object) (c : Setting) (s : HallState) → IsHall k o c s → ℕ → SeatRecord
+    → Type 0) → Type 0
 OfASeat Step = (k : Rules) (o : Object) (c : Setting) → IsKind k
     → (s : HallState) (h : IsHall k o c s) (id : ℕ) (r : SeatRecord) → get_elem? s.views id ≡ some (r ∷ [])
     → Step k o c s h id r
@@ -81,8 +82,13 @@ ArriveSteps = OfASeat (λ k o c s h id r.
 abbrev pub TicketLookSteps : Type 0
 TicketLookSteps = OfASeat (λ k o c s h id r.
     stage r.place ≡ ticketed_stage
-    → Takes k o c s h r.seat command.Look (answer.Looked (slice_index s.words (ticket_word c.seats (ticket r.place)) == ticket r.place + 1))
-    (record s { views = set s.views id (record_after_ticket_look r (slice_index s.words (ticket_word c.seats (ticket r.place))) ∷ []) }))
+    → Takes k o c s h r.seat command.Look
+    (answer.Looked (slice_index s.words (ticket_word c.seats (ticket r.place)) == ticket r.place + 1))
+    (record s {
+      views =
+          set s.views id (record_after_ticket_look r (slice_index s.words (ticket_word c.seats (ticket r.place)))
+          ∷ []);
+    }))
 
 -- step 3
 abbrev pub SeatLookSteps : Type 0
@@ -130,7 +136,8 @@ wish_of (command.SignalWait c d pick) = Some pick
 -- the active seat brings a floor home: what is shown, events of the seat alone that keep the turn with it, and then a
 -- step of the world, a release that chose another. The floor before that step is the one that the seat had in its hands
 -- when it released, and the step's command makes that release, with its wish and its choice
-pub record BringsHome (k : Rules) (o : Object) (c : Setting) (s : HallState) (h : IsHall k o c s) (r : SeatRecord) (f : FloorView)
+pub record BringsHome (k : Rules) (o : Object) (c : Setting) (s : HallState) (h : IsHall k o c s)
+    (r : SeatRecord) (f : FloorView)
     (ret : Returns k o r f) (t : HallState) : Type 0 where
   pub hall : IsHall k o c t
   pub since : List Event
@@ -208,7 +215,8 @@ ShowsWellLed = (k : Rules) (o : Object) (c : Setting) (s : HallState) → (h : I
 abbrev pub OneHasTheRight : Type 0
 OneHasTheRight =
     (k : Rules) (o : Object) (c : Setting) (s : HallState) → IsHall k o c s
-    → (r q : SeatRecord) → (x : IsRecord s r) → (y : IsRecord s q) → HoldsRight r.place → HoldsRight q.place → (r ≡ q) × (x.id ≡ y.id)
+    → (r q : SeatRecord) → (x : IsRecord s r) → (y : IsRecord s q) → HoldsRight r.place → HoldsRight q.place
+    → (r ≡ q) × (x.id ≡ y.id)
 
 -- so two that are active are one
 abbrev pub OneIsActive : Type 0
@@ -221,7 +229,8 @@ OneIsActive =
 abbrev pub KnownWaits : Type 0
 KnownWaits =
     (k : Rules) (o : Object) (c : Setting) (s : HallState) → IsHall k o c s
-    → (r : SeatRecord) → IsRecord s r → stage r.place ≡ active_stage → r.known ≡ true → 2 ≤ unpassed (slice_index s.words 0)
+    → (r : SeatRecord) → IsRecord s r → stage r.place ≡ active_stage → r.known ≡ true
+    → 2 ≤ unpassed (slice_index s.words 0)
 
 -- a seat that goes out by entry, where somebody could have been chosen from a queue after its release: a ticket waits
 abbrev pub EntryWaits : Type 0
@@ -230,16 +239,19 @@ EntryWaits =
     → (r : SeatRecord) (to : Home) → IsRecord s r → r.place ≡ Back Entry to → is_quiet k o (floor_of c r.seen) ≡ false
     → 2 ≤ unpassed (slice_index s.words 0)
 
--- this is the history at home: that of the floor in the slot or, while a seat is active, that which this seat found, and
--- then the slot is empty. It is legal, begins with all that each seat has seen, and has exactly that seat's own events
+-- this is the history at home: that of the floor in the slot or, while a seat is active, that which
+-- this seat found, and then the slot is empty. It is legal, begins with all that each seat has
+-- seen, and has exactly that seat's own events
 pub record IsHomeHistory (k : Rules) (o : Object) (c : Setting) (s : HallState) (past : List Event) : Type 0 where
   pub legal : IsLegal (monitor_of k o (floor_of c past)) past
   pub lent : (r : SeatRecord) → IsRecord s r → stage r.place ≡ active_stage → (s.homes ≡ none ∷ []) × (r.seen ≡ past)
-  pub home : ((r : SeatRecord) → IsRecord s r → stage r.place ≢ active_stage) → s.homes ≡ some (Some (floor_of c past)) ∷ []
+  pub home : ((r : SeatRecord) → IsRecord s r → stage r.place ≢ active_stage)
+      → s.homes ≡ some (Some (floor_of c past)) ∷ []
   pub starts : (r : SeatRecord) → IsRecord s r → StartsWith past r.seen
   pub own : (r : SeatRecord) → IsRecord s r → events_of past r.seat ≡ r.mine
 
 -- a table under the rule has one
 abbrev pub HasHomeHistory : Type 0
 HasHomeHistory =
-    (k : Rules) (o : Object) (c : Setting) (s : HallState) → IsHall k o c s → (past : List Event) × IsHomeHistory k o c s past
+    (k : Rules) (o : Object) (c : Setting) (s : HallState) → IsHall k o c s
+    → (past : List Event) × IsHomeHistory k o c s past

@@ -37,7 +37,8 @@ NextTicketWaits =
 -- a release chose entry and granted a word. If the next seat that enters waited with a ticket, it waited at that word
 abbrev pub GrantedEntersNext : Type 0
 GrantedEntersNext =
-    (k : Rules) (o : Object) (a : Holder) (call : Event) (wish : Pick) (to : Home) (peeks : ℕ) (p : Token) (h : House) (x : Grant)
+    (k : Rules) (o : Object) (a : Holder) (call : Event) (wish : Pick) (to : Home) (peeks : ℕ) (p : Token)
+    (h : House) (x : Grant)
     → (granted : HasGranted k o a call wish to peeks p h (Some x)) → seat_called_by granted.released.choice ≡ None
     → (q : Token) (b : Holder) (t : ℕ) → HasEntered k o q b → q.me.setting ≡ h.setting → q.me.place ≡ Ticket t
     → enters_of b.me.seen ≡ enters_of p.me.seen → waiting_word q.me ≡ x.word

@@ -67,7 +67,8 @@ GoesInside k o r p h g =
     → HasGranted k o a (call a.me.seat) wish home.Inner 0 p h g
 
 -- it stays active where it was chosen itself, and else is parked inside
-abbrev pub GoesOnOrInside : {K T K2 T2 : Type 0} → Rules → Object → Release K T → After K2 T2 → House → Option Grant → Type 0
+abbrev pub GoesOnOrInside : {K T K2 T2 : Type 0} → Rules → Object → Release K T → After K2 T2 → House
+    → Option Grant → Type 0
 GoesOnOrInside k o r to h g =
     (a : Holder) (call : ℕ → Event) (wish : Pick) (known : Bool) → HasRecorded k o a call wish known home.Inner r
     → MatchAfter to (λ b. HasStayedAlone k o a (call a.me.seat) wish 0 b g)

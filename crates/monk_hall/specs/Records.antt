@@ -18,7 +18,8 @@ Distinct (x ∷ xs) = ((y : SeatRecord) → In y xs → y.seat ≢ x.seat) × Di
 
 -- a seat before any step
 abbrev pub opening_record : Setting → ℕ → SeatRecord
-opening_record c j = record { seat = j; setting = c; place = Idle; count = 0; known = false; seen = []; mine = []; looks = 0; steps = 0 }
+opening_record c j =
+    record { seat = j; setting = c; place = Idle; count = 0; known = false; seen = []; mine = []; looks = 0; steps = 0 }
 
 -- the records of n seats from i on
 abbrev pub opening_records : Setting → ℕ → ℕ → View

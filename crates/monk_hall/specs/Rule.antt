@@ -56,12 +56,14 @@ pub record AreTold (k : Rules) (o : Object) (c : Setting) (homes : Homes) (at : 
   pub back : (j : ℕ) → stage (at j).place ≡ back_stage → (at j).seen ≡ past
   pub lent : (j : ℕ) (q : Source) → (at j).place ≡ Active q
       → ((at j).seen ≡ past) × (history ≡ past ++ out_event j q (turn past) ∷ []) × (get_elem? homes 0 ≡ some none)
-  pub home : ((j : ℕ) → stage (at j).place ≢ active_stage) → (history ≡ past) × (get_elem? homes 0 ≡ some (some (Some (floor_of c past))))
+  pub home : ((j : ℕ) → stage (at j).place ≢ active_stage)
+      → (history ≡ past) × (get_elem? homes 0 ≡ some (some (Some (floor_of c past))))
   pub calls : CountsCalls w past
 
 -- the words and the records show a world that is kept as every world is: its history legal, the right to be active in
 -- one place
-pub record IsKeptHall (k : Rules) (o : Object) (c : Setting) (words : List ℕ) (homes : Homes) (at : ℕ → SeatRecord) : Type 0 where
+pub record IsKeptHall (k : Rules) (o : Object) (c : Setting) (words : List ℕ) (homes : Homes)
+    (at : ℕ → SeatRecord) : Type 0 where
   pub past : List Event
   pub history : List Event
   pub some_seat : 0 < c.seats

@@ -34,7 +34,8 @@ Me = table.Me (Option FloorView) View
 
 -- it draws a ticket, with a number not below the enters that it has seen
 abbrev pub TellsArrive : Me → ℕ → Me → Type 0
-TellsArrive me found new = (new ≡ (record_after_arrive (the me.0) found ∷ [], me.1)) × (enters_of (the me.0).seen ≤ tickets found)
+TellsArrive me found new = (new ≡ (record_after_arrive (the me.0) found ∷ [], me.1))
+    × (enters_of (the me.0).seen ≤ tickets found)
 
 abbrev pub TellsTicketLook : Me → ℕ → Me → Type 0
 TellsTicketLook me found new = new ≡ (record_after_ticket_look (the me.0) found ∷ [], me.1)
@@ -44,7 +45,8 @@ TellsSeatLook me found new = new ≡ (record_after_seat_look (the me.0) found �
 
 -- what it knew it finds again: while it is active no ticket is passed on
 abbrev pub TellsPeek : Me → ℕ → Me → Type 0
-TellsPeek me found new = (new ≡ (record_after_peek (the me.0) found ∷ [], me.1)) × ((the me.0).known ≡ true → (the new.0).known ≡ true)
+TellsPeek me found new = (new ≡ (record_after_peek (the me.0) found ∷ [], me.1))
+    × ((the me.0).known ≡ true → (the new.0).known ≡ true)
 
 -- the floor comes out
 abbrev pub TellsFloorOut : Rules → Object → Me → ℕ → Me → Type 0
@@ -62,8 +64,8 @@ held_history [] = []
 held_history ((k, None) ∷ xs) = []
 held_history ((k, Some f) ∷ xs) = f.history
 
--- its own ticket is the first that isn't passed on, and the last that entered; so the number of the next ticket is that of
--- the enters in the history that it brought home
+-- its own ticket is the first that isn't passed on, and the last that entered; so the number of the
+-- next ticket is that of the enters in the history that it brought home
 abbrev pub TellsDrop : Me → ℕ → Me → Type 0
 TellsDrop me found new =
     (new ≡ (record_after_drop (the me.0) found ∷ [], me.1)) × (0 < unpassed found) × (unpassed found ≤ tickets found)

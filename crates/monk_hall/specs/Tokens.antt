@@ -66,7 +66,8 @@ pub record IsResting (k : Rules) (o : Object) (z : TableId) (me : Me) (number le
   pub told : SeesTruly k o (the me.0)
 
 -- a seat with the floor, from which it can still go out
-pub record IsHolding (k : Rules) (o : Object) (z : TableId) (me : Me) (number calls budget : ℕ) (f : FloorView) : Type 0 where
+pub record IsHolding (k : Rules) (o : Object) (z : TableId) (me : Me) (number calls budget : ℕ)
+    (f : FloorView) : Type 0 where
   pub one : IsOne me.0
   pub out : me.1 ≡ (0, None) ∷ []
   pub active : stage (the me.0).place ≡ active_stage

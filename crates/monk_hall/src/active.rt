@@ -64,7 +64,8 @@ impl<K: Kind, T: Guarded> Active<K, T> {
     /// Whether a predicate holds of the data.
     pub fn holds(&self, pred: u8) -> bool
         requires { pred < T.PREDICATES }
-        ensures { result ≡ T.meaning.holds (data_of (monitor_of K.rules T.meaning self.now.floor) self.now.floor.history) pred }
+        ensures { result ≡ T.meaning.holds
+            (data_of (monitor_of K.rules T.meaning self.now.floor) self.now.floor.history) pred }
     {
         self.floor.holds(pred)
     }

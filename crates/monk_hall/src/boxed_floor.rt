@@ -57,7 +57,8 @@ impl<K: Kind, T: Guarded> DerefMut for BoxedFloor<K, T> {
     ghost deref_mut_gives = { λ b f. f ≡ b };
 
     fn deref_mut(&mut self) -> &mut Floor<K, T>
-        ensures* writes_back { sem 𝓛 (Lends (the_row K.row T.row K.Kind T.Guarded) (floor_row K.row T.row K.Kind T.Guarded)
+        ensures* writes_back { sem 𝓛 (Lends (the_row K.row T.row K.Kind T.Guarded)
+            (floor_row K.row T.row K.Kind T.Guarded)
             self.entry result (λ f. f)) }
         ensures shows { result.now ≡ self.old }
     {

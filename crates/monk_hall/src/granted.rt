@@ -25,9 +25,10 @@ impl<K: Kind, T: Guarded> Play<Option<BoxedFloor<K, T>>, View> for GrantStep {
     ghost then = { λ step me found new. TellsGrant me found new };
 }
 
-/// A grant that was stored in a word of a hall's table, and whose sleeper is yet to be woken. It can't be dropped, and only
-/// these two calls spend it: `wake` wakes the thread that sleeps on the word, and `into_word` gives the word to a program
-/// whose threads sleep elsewhere, which has to wake the one that waits for it.
+/// A grant that was stored in a word of a hall's table, and whose sleeper is yet to be woken. It
+/// can't be dropped, and only these two calls spend it: `wake` wakes the thread that sleeps on the
+/// word, and `into_word` gives the word to a program whose threads sleep elsewhere, which has to
+/// wake the one that waits for it.
 pub struct Granted<K: Kind, T: Guarded> {
     word: usize,
     of: Snapshot<SharedTable<K, T>>,
@@ -45,8 +46,8 @@ impl<K: Kind, T: Guarded> Model for Granted<K, T> {
 }
 
 impl<K: Kind, T: Guarded> Granted<K, T> {
-    /// Wakes the thread that sleeps on the word, if there is one: one atomic load, and a call of the system where somebody
-    /// may sleep.
+    /// Wakes the thread that sleeps on the word, if there is one: one atomic load, and a call of
+    /// the system where somebody may sleep.
     pub fn wake(self, hall: &Hall<K, T>)
         requires { self.table ≡ hall.now.id }
     {
@@ -113,7 +114,8 @@ pub(crate) fn seat_grant<K: Kind, T: Guarded>(
 }
 
 impl<K: Kind, T: Guarded> Hall<K, T> {
-    /// Wakes the thread that sleeps on what a release granted, if it granted something, and gives the rest of its answer.
+    /// Wakes the thread that sleeps on what a release granted, if it granted something, and gives
+    /// the rest of its answer.
     pub(crate) fn wake_granted<X>(&self, released: (X, Option<Granted<K, T>>)) -> X
         requires { IfSome released.1 (λ g. g.table ≡ self.now.id) }
         ensures { result ≡ released.0 }

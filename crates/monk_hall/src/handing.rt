@@ -56,7 +56,8 @@ fn let_in<K: Kind, T: Guarded>(
 ) -> Option<Granted<K, T>>
     requires table { IsOfTable seat.old words.now.table_id words.now.key.seats }
     requires seats { (seats ≡ words.now.key.seats) × (0 < seats) }
-    requires back { IsOne seat.old.me.0 × ((the seat.old.me.0).place ≡ at.Back Next.Entry (home_at (the seat.old.me.0).place)) }
+    requires back { IsOne seat.old.me.0
+        × ((the seat.old.me.0).place ≡ at.Back Next.Entry (home_at (the seat.old.me.0).place)) }
     ensures table { IsSameSeat seat.old seat.new }
     ensures step { HandsOnWithin 2 seat.old.me seat.new.me }
     ensures here { IfSome result (λ g. g.table ≡ words.now.table_id) }
@@ -82,7 +83,8 @@ pub(crate) fn go_home<K: Kind, T: Guarded>(
 ) -> Option<Granted<K, T>>
     requires table { seat.old.table_id ≡ hall.now.id }
     requires out { seat.old.me.1 ≡ (0, None) ∷ [] }
-    requires released { (to : Home) × HasRecordedRelease K.rules T.meaning seat.old.table_id seat.old.me choice to floor }
+    requires released { (to : Home)
+        × HasRecordedRelease K.rules T.meaning seat.old.table_id seat.old.me choice to floor }
     ensures table { seat.new.table_id ≡ seat.old.table_id }
     ensures gone { HasGone (the seat.old.me.0) floor.history
         (home_at (record_after_floor_in (the seat.old.me.0) floor.history).place) (the seat.new.me.0) }

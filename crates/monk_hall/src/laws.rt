@@ -6,8 +6,9 @@ ghost use Rattle.monk_hall.specs.Laws.{FloorOutSteps, FloorInSteps, DropSteps, T
 ghost use Rattle.monk_hall.specs.Laws.{HasHomeHistory};
 ghost use Rattle.monk_hall.specs.NextTicket.{NextTicketWaits, GrantedEntersNext};
 
-/// The words, the records of the seats and the floor show a state of a world that is well led: the right to be active is
-/// in exactly one place, the history is legal, and turn and queues agree with where the seats stand.
+/// The words, the records of the seats and the floor show a state of a world that is well led: the
+/// right to be active is in exactly one place, the history is legal, and turn and queues agree with
+/// where the seats stand.
 pub fn hall_is_well_led()
     ensures right { RightInOnePlace }
     ensures led { ShowsWellLed }
@@ -29,28 +30,30 @@ pub fn chosen_entry_waits()
     ensures { EntryWaits }
 {}
 
-/// A release by entry has brought the floor home, and another ticket than its own is not passed on: then exactly one seat
-/// waits with the ticket that is next. The number of that ticket is the number of enters so far.
+/// A release by entry has brought the floor home, and another ticket than its own is not passed on:
+/// then exactly one seat waits with the ticket that is next. The number of that ticket is the
+/// number of enters so far.
 pub fn next_ticket_waits()
     ensures { NextTicketWaits }
 {}
 
-/// A release chose entry and granted a word: if the next seat that enters has waited with a ticket, it has waited at that
-/// word.
+/// A release chose entry and granted a word: if the next seat that enters has waited with a ticket,
+/// it has waited at that word.
 pub fn granted_ticket_enters_next()
     ensures { GrantedEntersNext }
 {}
 
-/// The floor is with the seat that is active, and else at home in its slot. The history at home, which is the one that an
-/// active seat found, is legal; it begins with all that each seat has seen, and its events of each seat are exactly those
-/// that the seat knows as its own.
+/// The floor is with the seat that is active, and else at home in its slot. The history at home,
+/// which is the one that an active seat found, is legal; it begins with all that each seat has
+/// seen, and its events of each seat are exactly those that the seat knows as its own.
 pub fn home_history_is_shared()
     ensures { HasHomeHistory }
 {}
 
-/// Each step of the table, from one under the rule, leads to one under the rule, and is the step of the world by the same
-/// command and with the same answer; a floor comes home with what its seat has done and the step that released it, which is
-/// the release that the seat made of the floor in its hands, with its wish.
+/// Each step of the table, from one under the rule, leads to one under the rule, and is the step of
+/// the world by the same command and with the same answer; a floor comes home with what its seat
+/// has done and the step that released it, which is the release that the seat made of the floor in
+/// its hands, with its wish.
 pub fn table_steps_are_the_worlds()
     ensures arrival { ArriveSteps }
     ensures ticket_look { TicketLookSteps }

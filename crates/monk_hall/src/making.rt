@@ -60,7 +60,8 @@ fn open<K: Kind, T: Guarded>(
     setup: Setup<T>,
 ) -> Result<(Hall<K, T>, Vec<Pass<K, T>>), AllocError>
     requires made { make_refusal setup.seats setup.conds setup.budget ≡ None }
-    requires floor { floor ≡ floor_of (setting_of (T.state setup.opening.value) setup.seats setup.conds setup.budget) [] }
+    requires floor { floor ≡ floor_of
+        (setting_of (T.state setup.opening.value) setup.seats setup.conds setup.budget) [] }
     ensures { IfOk result
         (λ r. (r.0.setting ≡ setting_of (T.state setup.opening.value) setup.seats setup.conds setup.budget)
         × (r.1.items ≡ tokens r.0.id (first_view r.0.setting))) }
@@ -95,7 +96,11 @@ fn deal<K: Kind, T: Guarded>(
 ) -> Result<Vec<Pass<K, T>>, AllocError>
     requires table { (first.table_id ≡ words.now.table_id) × IsSized words.now.table_id words.now.key.seats }
     requires numbers { (seats ≡ words.now.key.seats) × (budget ≡ words.now.key.budget) }
-    requires view { first.me ≡ (first_view (setting_of (T.state words.now.key.opening.value) seats words.now.key.conds budget), []) }
+    requires view { first.me ≡ (
+      first_view
+          (setting_of (T.state words.now.key.opening.value) seats words.now.key.conds budget),
+      [],
+    ) }
     ensures { IfOk result
         (λ v. v.items ≡ tokens words.now.table_id
         (first_view (setting_of (T.state words.now.key.opening.value) seats words.now.key.conds budget))) }

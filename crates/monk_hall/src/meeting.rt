@@ -24,7 +24,8 @@ fn lift<K: Kind, T: Guarded>(badge: &mut Badge<View>) -> TableSeat<K, T>
 }
 
 /// Two seats that are outside tell each other what they have seen of the history: of the two one begins the other, and
-/// both know the longer from now on, which begins with what either had seen. Nothing that a program can read changes; each takes one step.
+/// both know the longer from now on, which begins with what either had seen. Nothing that a program
+/// can read changes; each takes one step.
 pub fn meet<K: Kind, T: Guarded>(hall: &Hall<K, T>, a: &mut Pass<K, T>, b: &mut Pass<K, T>)
     requires { (a.old.hall ≡ hall.now.id) × (b.old.hall ≡ hall.now.id) }
     ensures one { AreOne a.old.me.seen b.old.me.seen }

@@ -55,7 +55,8 @@ impl<K: Kind, T: Guarded> Active<K, T> {
         requires hall { self.hall ≡ hall.now.id }
         requires cond { cond < self.me.setting.conds }
         requires left { length self.me.mine + 3 ≤ self.me.setting.budget }
-        ensures { GrantsInside K.rules T.meaning self (Event.Wait self.me.seat cond Next.Stay) pick result.0 hall.now result.1 }
+        ensures { GrantsInside K.rules T.meaning self
+            (Event.Wait self.me.seat cond Next.Stay) pick result.0 hall.now result.1 }
     {
         let mut active = self;
         let known = active.look_for_entry(hall, true, pick);
@@ -68,7 +69,8 @@ impl<K: Kind, T: Guarded> Active<K, T> {
         requires left { length self.me.mine + 3 ≤ self.me.setting.budget }
         requires known { known ≡ is_entry_known pick self.me.known }
         ensures table { result.seat.table_id ≡ self.hall }
-        ensures recorded { HasRecorded K.rules T.meaning self (λ n. Event.Wait n cond Next.Stay) pick known home.Inner result }
+        ensures recorded { HasRecorded K.rules T.meaning self
+            (λ n. Event.Wait n cond Next.Stay) pick known home.Inner result }
         ensures away { is_stay (Some result.choice) ≡ false }
     {
         let mut release = Release::of(self);
@@ -98,7 +100,8 @@ impl<K: Kind, T: Guarded> Active<K, T> {
         requires hall { self.hall ≡ hall.now.id }
         requires cond { cond < self.me.setting.conds }
         requires left { length self.me.mine + 3 ≤ self.me.setting.budget }
-        ensures { StaysOrGrants K.rules T.meaning self (Event.Signal self.me.seat cond Next.Stay) pick result.0 hall.now result.1 }
+        ensures { StaysOrGrants K.rules T.meaning self
+            (Event.Signal self.me.seat cond Next.Stay) pick result.0 hall.now result.1 }
     {
         let chooses = self.serves(cond);
         let mut active = self;
@@ -112,7 +115,8 @@ impl<K: Kind, T: Guarded> Active<K, T> {
         requires left { length self.me.mine + 3 ≤ self.me.setting.budget }
         requires known { KnowsForChoice K.rules T.meaning self (Event.Signal self.me.seat cond Next.Stay) pick known }
         ensures table { result.seat.table_id ≡ self.hall }
-        ensures recorded { HasRecorded K.rules T.meaning self (λ n. Event.Signal n cond Next.Stay) pick known home.Inner result }
+        ensures recorded { HasRecorded K.rules T.meaning self
+            (λ n. Event.Signal n cond Next.Stay) pick known home.Inner result }
     {
         let mut release = Release::of(self);
         release.choice = release
@@ -141,7 +145,8 @@ impl<K: Kind, T: Guarded> Active<K, T> {
         requires mode { returns_at_once K.rules.mode ≡ true }
         requires hall { self.hall ≡ hall.now.id }
         requires cond { cond < self.me.setting.conds }
-        ensures { GrantsOut K.rules T.meaning self (Event.SignalLeave self.me.seat cond Next.Stay) pick result.0 hall.now result.1 }
+        ensures { GrantsOut K.rules T.meaning self
+            (Event.SignalLeave self.me.seat cond Next.Stay) pick result.0 hall.now result.1 }
     {
         let mut active = self;
         let known = active.look_for_entry(hall, true, pick);
@@ -155,7 +160,8 @@ impl<K: Kind, T: Guarded> Active<K, T> {
         requires cond { cond < self.me.setting.conds }
         requires known { known ≡ is_entry_known pick self.me.known }
         ensures table { result.seat.table_id ≡ self.hall }
-        ensures recorded { HasRecorded K.rules T.meaning self (λ n. Event.SignalLeave n cond Next.Stay) pick known home.Idle result }
+        ensures recorded { HasRecorded K.rules T.meaning self
+            (λ n. Event.SignalLeave n cond Next.Stay) pick known home.Idle result }
         ensures away { is_stay (Some result.choice) ≡ false }
     {
         let mut release = Release::of(self);
@@ -187,7 +193,8 @@ impl<K: Kind, T: Guarded> Active<K, T> {
         requires hall { self.hall ≡ hall.now.id }
         requires pred { pred < T.PREDICATES }
         requires left { length self.me.mine + 3 ≤ self.me.setting.budget }
-        ensures { StaysOrGrants K.rules T.meaning self (Event.Until self.me.seat pred Next.Stay) pick result.0 hall.now result.1 }
+        ensures { StaysOrGrants K.rules T.meaning self
+            (Event.Until self.me.seat pred Next.Stay) pick result.0 hall.now result.1 }
     {
         let chooses = !self.holds(pred);
         let mut active = self;
@@ -201,7 +208,8 @@ impl<K: Kind, T: Guarded> Active<K, T> {
         requires left { length self.me.mine + 3 ≤ self.me.setting.budget }
         requires known { KnowsForChoice K.rules T.meaning self (Event.Until self.me.seat pred Next.Stay) pick known }
         ensures table { result.seat.table_id ≡ self.hall }
-        ensures recorded { HasRecorded K.rules T.meaning self (λ n. Event.Until n pred Next.Stay) pick known home.Inner result }
+        ensures recorded { HasRecorded K.rules T.meaning self
+            (λ n. Event.Until n pred Next.Stay) pick known home.Inner result }
     {
         let mut release = Release::of(self);
         release.choice = release.floor.plain_until(release.number, pred, pick, known);

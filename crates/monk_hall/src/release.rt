@@ -19,8 +19,8 @@ use monk_object::Guarded;
 use monk_world::Place;
 use std::marker::PhantomData;
 
-/// The active seat, taken apart, with a release recorded in its floor, which has chosen who goes on. The floor has yet to
-/// go home, unless the seat stays.
+/// The active seat, taken apart, with a release recorded in its floor, which has chosen who goes
+/// on. The floor has yet to go home, unless the seat stays.
 pub struct Release<K: Kind, T: Guarded> {
     pub(crate) seat: TableSeat<K, T>,
     pub(crate) number: u8,

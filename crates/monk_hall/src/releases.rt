@@ -69,7 +69,8 @@ impl<K: Kind, T: Guarded> Active<K, T> {
     /// As `leave`, but wakes nobody: it gives out what it granted, which only a wake spends (`Granted`).
     pub fn leave_quietly(self, hall: &Hall<K, T>, pick: Pick) -> (Pass<K, T>, Option<Granted<K, T>>)
         requires { self.hall ≡ hall.now.id }
-        ensures { GrantsOut K.rules T.meaning self (Event.Leave self.me.seat Next.Stay) pick result.0 hall.now result.1 }
+        ensures { GrantsOut K.rules T.meaning self
+            (Event.Leave self.me.seat Next.Stay) pick result.0 hall.now result.1 }
     {
         let mut active = self;
         let known = active.look_for_entry(hall, true, pick);
@@ -79,7 +80,8 @@ impl<K: Kind, T: Guarded> Active<K, T> {
     fn record_leave(self, pick: Pick, known: bool) -> Release<K, T>
         requires known { known ≡ is_entry_known pick self.me.known }
         ensures table { result.seat.table_id ≡ self.hall }
-        ensures recorded { HasRecorded K.rules T.meaning self (λ n. Event.Leave n Next.Stay) pick known home.Idle result }
+        ensures recorded { HasRecorded K.rules T.meaning self
+            (λ n. Event.Leave n Next.Stay) pick known home.Idle result }
         ensures away { is_stay (Some result.choice) ≡ false }
     {
         let mut release = Release::of(self);
@@ -117,7 +119,8 @@ impl<K: Conditional, T: Guarded> Active<K, T> {
         requires hall { self.hall ≡ hall.now.id }
         requires cond { cond < self.me.setting.conds }
         requires left { length self.me.mine + 3 ≤ self.me.setting.budget }
-        ensures { GrantsInside K.rules T.meaning self (Event.Wait self.me.seat cond Next.Stay) pick result.0 hall.now result.1 }
+        ensures { GrantsInside K.rules T.meaning self
+            (Event.Wait self.me.seat cond Next.Stay) pick result.0 hall.now result.1 }
     {
         let mut active = self;
         let known = active.look_for_entry(hall, true, pick);
@@ -129,7 +132,8 @@ impl<K: Conditional, T: Guarded> Active<K, T> {
         requires left { length self.me.mine + 3 ≤ self.me.setting.budget }
         requires known { known ≡ is_entry_known pick self.me.known }
         ensures table { result.seat.table_id ≡ self.hall }
-        ensures recorded { HasRecorded K.rules T.meaning self (λ n. Event.Wait n cond Next.Stay) pick known home.Inner result }
+        ensures recorded { HasRecorded K.rules T.meaning self
+            (λ n. Event.Wait n cond Next.Stay) pick known home.Inner result }
         ensures away { is_stay (Some result.choice) ≡ false }
     {
         let mut release = Release::of(self);
@@ -147,9 +151,10 @@ impl<K: Explicit, T: Guarded> Active<K, T> {
     ghost use Rattle.monk_hall.specs.Recorded.{HasRecorded};
 
     /// Signals a condition variable, in at most four steps. The first that waits on it becomes a waiter and the caller
-    /// a signaller, and the scheduler step chooses among all of them; the wish is as at `leave`. Where the caller itself
-    /// is chosen it stays active, and takes no step but the look. Where nobody waits on the condition the signal has no
-    /// effect and is forgotten: the caller goes on, and takes no step at all.
+    /// a signaller, and the scheduler step chooses among all of them; the wish is as at `leave`.
+    /// Where the caller itself is chosen it stays active, and takes no step but the look. Where
+    /// nobody waits on the condition the signal has no effect and is forgotten: the caller goes on,
+    /// and takes no step at all.
     pub fn signal(self, hall: &Hall<K, T>, cond: u8, pick: Pick) -> After<K, T>
         requires hall { self.hall ≡ hall.now.id }
         requires cond { cond < self.me.setting.conds }
@@ -169,7 +174,8 @@ impl<K: Explicit, T: Guarded> Active<K, T> {
         requires hall { self.hall ≡ hall.now.id }
         requires cond { cond < self.me.setting.conds }
         requires left { length self.me.mine + 3 ≤ self.me.setting.budget }
-        ensures { StaysOrGrants K.rules T.meaning self (Event.Signal self.me.seat cond Next.Stay) pick result.0 hall.now result.1 }
+        ensures { StaysOrGrants K.rules T.meaning self
+            (Event.Signal self.me.seat cond Next.Stay) pick result.0 hall.now result.1 }
     {
         let chooses = self.serves(cond);
         let mut active = self;
@@ -182,7 +188,8 @@ impl<K: Explicit, T: Guarded> Active<K, T> {
         requires left { length self.me.mine + 3 ≤ self.me.setting.budget }
         requires known { KnowsForChoice K.rules T.meaning self (Event.Signal self.me.seat cond Next.Stay) pick known }
         ensures table { result.seat.table_id ≡ self.hall }
-        ensures recorded { HasRecorded K.rules T.meaning self (λ n. Event.Signal n cond Next.Stay) pick known home.Inner result }
+        ensures recorded { HasRecorded K.rules T.meaning self
+            (λ n. Event.Signal n cond Next.Stay) pick known home.Inner result }
     {
         let mut release = Release::of(self);
         release.choice = release.floor.signal(release.number, cond, pick, known);
@@ -204,8 +211,8 @@ impl<K: NonBlocking, T: Guarded> Active<K, T> {
         self.floor.signal(self.number, cond, Pick::Signaller, false);
     }
 
-    /// Signals all who wait on a condition variable, and goes on. They become waiters in the order of their waits; tells
-    /// how many they are. No step is taken.
+    /// Signals all who wait on a condition variable, and goes on. They become waiters in the order
+    /// of their waits; tells how many they are. No step is taken.
     pub fn signal_all(&mut self, cond: u8) -> u32
         requires cond { cond < self.old.me.setting.conds }
         requires left { length self.old.me.mine + 2 ≤ self.old.me.setting.budget }
@@ -243,7 +250,8 @@ impl<K: ImmediateReturn, T: Guarded> Active<K, T> {
     ) -> (Pass<K, T>, Option<Granted<K, T>>)
         requires hall { self.hall ≡ hall.now.id }
         requires cond { cond < self.me.setting.conds }
-        ensures { GrantsOut K.rules T.meaning self (Event.SignalLeave self.me.seat cond Next.Stay) pick result.0 hall.now result.1 }
+        ensures { GrantsOut K.rules T.meaning self
+            (Event.SignalLeave self.me.seat cond Next.Stay) pick result.0 hall.now result.1 }
     {
         let mut active = self;
         let known = active.look_for_entry(hall, true, pick);
@@ -256,7 +264,8 @@ impl<K: ImmediateReturn, T: Guarded> Active<K, T> {
         requires cond { cond < self.me.setting.conds }
         requires known { known ≡ is_entry_known pick self.me.known }
         ensures table { result.seat.table_id ≡ self.hall }
-        ensures recorded { HasRecorded K.rules T.meaning self (λ n. Event.SignalLeave n cond Next.Stay) pick known home.Idle result }
+        ensures recorded { HasRecorded K.rules T.meaning self
+            (λ n. Event.SignalLeave n cond Next.Stay) pick known home.Idle result }
         ensures away { is_stay (Some result.choice) ≡ false }
     {
         let mut release = Release::of(self);
@@ -266,15 +275,17 @@ impl<K: ImmediateReturn, T: Guarded> Active<K, T> {
         release
     }
 
-    /// Signals the first condition variable and then waits on the second, in at most four steps. The first that waits on
-    /// the one becomes a waiter, and then the caller is parked inside, at the back of those who wait on the other; it
-    /// never serves itself, also where both are one. The scheduler step and the wish are as at `leave`.
+    /// Signals the first condition variable and then waits on the second, in at most four steps.
+    /// The first that waits on the one becomes a waiter, and then the caller is parked inside, at
+    /// the back of those who wait on the other; it never serves itself, also where both are one.
+    /// The scheduler step and the wish are as at `leave`.
     pub fn signal_wait(self, hall: &Hall<K, T>, cond: u8, wait_cond: u8, pick: Pick) -> Parked<K, T>
         requires hall { self.hall ≡ hall.now.id }
         requires cond { cond < self.me.setting.conds }
         requires wait_cond { wait_cond < self.me.setting.conds }
         requires left { length self.me.mine + 3 ≤ self.me.setting.budget }
-        ensures { ParksInside K.rules T.meaning self (Event.SignalWait self.me.seat cond wait_cond Next.Stay) pick result }
+        ensures { ParksInside K.rules T.meaning self
+            (Event.SignalWait self.me.seat cond wait_cond Next.Stay) pick result }
     {
         hall.wake_granted(self.signal_wait_quietly(hall, cond, wait_cond, pick))
     }
@@ -307,7 +318,8 @@ impl<K: ImmediateReturn, T: Guarded> Active<K, T> {
         requires left { length self.me.mine + 3 ≤ self.me.setting.budget }
         requires known { known ≡ is_entry_known pick self.me.known }
         ensures table { result.seat.table_id ≡ self.hall }
-        ensures recorded { HasRecorded K.rules T.meaning self (λ n. Event.SignalWait n cond wait_cond Next.Stay) pick known
+        ensures recorded { HasRecorded K.rules T.meaning self
+            (λ n. Event.SignalWait n cond wait_cond Next.Stay) pick known
             home.Inner result }
         ensures away { is_stay (Some result.choice) ≡ false }
     {
@@ -349,7 +361,8 @@ impl<K: Automatic, T: Guarded> Active<K, T> {
         requires hall { self.hall ≡ hall.now.id }
         requires pred { pred < T.PREDICATES }
         requires left { length self.me.mine + 3 ≤ self.me.setting.budget }
-        ensures { StaysOrGrants K.rules T.meaning self (Event.Until self.me.seat pred Next.Stay) pick result.0 hall.now result.1 }
+        ensures { StaysOrGrants K.rules T.meaning self
+            (Event.Until self.me.seat pred Next.Stay) pick result.0 hall.now result.1 }
     {
         let chooses = !self.holds(pred);
         let mut active = self;
@@ -362,7 +375,8 @@ impl<K: Automatic, T: Guarded> Active<K, T> {
         requires left { length self.me.mine + 3 ≤ self.me.setting.budget }
         requires known { KnowsForChoice K.rules T.meaning self (Event.Until self.me.seat pred Next.Stay) pick known }
         ensures table { result.seat.table_id ≡ self.hall }
-        ensures recorded { HasRecorded K.rules T.meaning self (λ n. Event.Until n pred Next.Stay) pick known home.Inner result }
+        ensures recorded { HasRecorded K.rules T.meaning self
+            (λ n. Event.Until n pred Next.Stay) pick known home.Inner result }
     {
         let mut release = Release::of(self);
         release.choice = release.floor.until(release.number, pred, pick, known);

@@ -17,9 +17,11 @@ pub struct HallRule<K, T> {
 }
 
 impl<K: Kind, T: Guarded> TableRule<Option<BoxedFloor<K, T>>, View, Setup<T>> for HallRule<K, T> {
-    ghost holds = { λ setup s. IsHall K.rules T.meaning (setting_of (T.state setup.opening.value) setup.seats setup.conds setup.budget) s };
+    ghost holds = { λ setup s. IsHall K.rules T.meaning
+        (setting_of (T.state setup.opening.value) setup.seats setup.conds setup.budget) s };
 
-    ghost first = { λ setup. first_view (setting_of (T.state setup.opening.value) setup.seats setup.conds setup.budget) };
+    ghost first = { λ setup. first_view
+        (setting_of (T.state setup.opening.value) setup.seats setup.conds setup.budget) };
 }
 
 /// A seat of the table.

@@ -77,7 +77,8 @@ pub(crate) fn seat_look<K: Kind, T: Guarded>(
 ) -> u64
     requires table { IsOfTable seat.old words.now.table_id words.now.key.seats }
     requires near { number < words.now.key.seats }
-    requires parked { IsOne seat.old.me.0 × (stage (the seat.old.me.0).place ≡ inside_stage) × (number ≡ (the seat.old.me.0).seat) }
+    requires parked { IsOne seat.old.me.0 × (stage (the seat.old.me.0).place ≡ inside_stage)
+        × (number ≡ (the seat.old.me.0).seat) }
     ensures table { IsSameSeat seat.old seat.new }
     ensures step { TellsSeatLook seat.old.me result seat.new.me }
 {
@@ -120,7 +121,8 @@ pub(crate) fn floor_in<K: Kind, T: Guarded>(
     floor: BoxedFloor<K, T>,
 )
     requires table { IsOfTable seat.old words.now.table_id words.now.key.seats }
-    requires active { IsOne seat.old.me.0 × (seat.old.me.1 ≡ (0, None) ∷ []) × (stage (the seat.old.me.0).place ≡ active_stage) }
+    requires active { IsOne seat.old.me.0 × (seat.old.me.1 ≡ (0, None) ∷ [])
+        × (stage (the seat.old.me.0).place ≡ active_stage) }
     requires returns { Returns K.rules T.meaning (the seat.old.me.0) floor }
     ensures table { IsSameSeat seat.old seat.new }
     ensures step { seat.new.me ≡ (record_after_floor_in (the seat.old.me.0) floor.history ∷ [], []) }
@@ -139,7 +141,8 @@ pub(crate) fn drop_ticket<K: Kind, T: Guarded>(
     seat: &mut TableSeat<K, T>,
 ) -> u64
     requires table { IsOfTable seat.old words.now.table_id words.now.key.seats }
-    requires back { IsOne seat.old.me.0 × ((the seat.old.me.0).place ≡ Back Next.Entry (home_at (the seat.old.me.0).place)) }
+    requires back { IsOne seat.old.me.0
+        × ((the seat.old.me.0).place ≡ Back Next.Entry (home_at (the seat.old.me.0).place)) }
     ensures table { IsSameSeat seat.old seat.new }
     ensures step { TellsDrop seat.old.me result seat.new.me }
 {

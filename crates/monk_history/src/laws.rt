@@ -29,7 +29,8 @@ ghost use Rattle.monk_history.specs.Meaning.Untils.{untils, untils_while_false, 
 /// Nothing has happened is legal, and a legal history with one allowed event more is legal.
 pub fn history_grows()
     ensures none { (m : Monitor) → IsLegal m [] }
-    ensures more { (m : Monitor) (h : List Event) (e : Event) → IsLegal m h → IsAllowed m h e → IsLegal m (h ++ e ∷ []) }
+    ensures more { (m : Monitor) (h : List Event) (e : Event) → IsLegal m h → IsAllowed m h e
+        → IsLegal m (h ++ e ∷ []) }
     ensures front { (m : Monitor) (h more : List Event) → IsLegal m (h ++ more) → IsLegal m h }
 {}
 
@@ -41,7 +42,8 @@ pub fn event_counts()
 /// A legal history has each seat inside in exactly one place, a queue or the turn, and no other seat in any.
 pub fn seats_stand_once()
     ensures placed { (m : Monitor) (h : List Event) → IsLegal m h → IsPlaced m.conds (situation m h) }
-    ensures queued_once { (m : Monitor) (h : List Event) → IsLegal m h → (s : ℕ) → in_queues m.conds s (situation m h) ≤ 1 }
+    ensures queued_once { (m : Monitor) (h : List Event) → IsLegal m h → (s : ℕ)
+        → in_queues m.conds s (situation m h) ≤ 1 }
 {}
 
 /// What one allowed event more makes of where its own seat, the seat that it chose and every other seat stand.
@@ -53,8 +55,10 @@ pub fn event_moves_seats()
 /// A seat may enter exactly where it stands at the door: past nobody who could be chosen from a queue if it is let in
 /// by a free monitor, and not as the first if it is let in by another seat.
 pub fn seat_enters()
-    ensures free { (m : Monitor) (h : List Event) (s : ℕ) → IsAllowed m h (Enter s Free) ↔ (IsAtDoor m h s × IsQuiet m h) }
-    ensures handed { (m : Monitor) (h : List Event) (s : ℕ) → IsAllowed m h (Enter s Handed) ↔ (IsAtDoor m h s × (h ≢ [])) }
+    ensures free { (m : Monitor) (h : List Event) (s : ℕ)
+        → IsAllowed m h (Enter s Free) ↔ (IsAtDoor m h s × IsQuiet m h) }
+    ensures handed { (m : Monitor) (h : List Event) (s : ℕ)
+        → IsAllowed m h (Enter s Handed) ↔ (IsAtDoor m h s × (h ≢ [])) }
 {}
 
 /// A release that lets the entry in, with nobody known to wait for it, leaves nobody who could be chosen from a queue:
@@ -79,8 +83,8 @@ pub fn allowed_may_be_called()
     ensures { (m : Monitor) (h : List Event) (e : Event) → IsAllowed m h e → MayCall m h (as_called e) }
 {}
 
-/// In a legal history the waits-until are the untils whose predicate was false of the data before them: an until goes on
-/// at once exactly where its predicate holds.
+/// In a legal history the waits-until are the untils whose predicate was false of the data before
+/// them: an until goes on at once exactly where its predicate holds.
 pub fn untils_were_false()
     ensures queue { (m : Monitor) (h : List Event) → IsLegal m h → untils_while_false m h ≡ untils h }
     ensures each { (m : Monitor) (h : List Event) → IsLegal m h → StaysWhereItHolds m h }
@@ -90,12 +94,14 @@ pub fn untils_were_false()
 /// serves goes on next, and over the data of the signal. So what held at the signal holds when it goes on, and an `if`
 /// suffices. Of the ten kinds these are PB, NPB and PIR.
 pub fn hoares_rule()
-    ensures rule { (m : Monitor) (h : List Event) → IsKind m.kind → IsTrue (hands_over m.kind) → IsLegal m h → HoaresRule m h }
+    ensures rule { (m : Monitor) (h : List Event) → IsKind m.kind → IsTrue (hands_over m.kind) → IsLegal m h
+        → HoaresRule m h }
     ensures kinds { (k : KindName) → hands_over (rules_named k) ≡ has_hoares_rule k }
 {}
 
-/// Under each kind that puts waiters before callers, nobody enters behind a signal before whoever it served has gone on.
-/// So only seats that were inside already can have changed the data. Of the ten kinds these are the P kinds and NPB.
+/// Under each kind that puts waiters before callers, nobody enters behind a signal before whoever
+/// it served has gone on. So only seats that were inside already can have changed the data. Of the
+/// ten kinds these are the P kinds and NPB.
 pub fn nobody_comes_between()
     ensures rule { (m : Monitor) (h : List Event) → m.kind.entry < m.kind.waiter → IsLegal m h → NobodyComesBetween h }
     ensures kinds { (k : KindName) → nat_lt (rules_named k).entry (rules_named k).waiter ≡ puts_callers_last k }
@@ -126,8 +132,8 @@ pub fn legal_book_excludes()
         → ExcludesEachOther size (data_of m h) (acts_in h) }
 {}
 
-/// In a legal history over a shop no customer is lost: who sat was called or sits, who was called was served or is being
-/// served, who was served departed or is about to.
+/// In a legal history over a shop no customer is lost: who sat was called or sits, who was called
+/// was served or is being served, who was served departed or is about to.
 pub fn legal_shop_loses_nobody()
     ensures { (rules : Rules) (seats conds size : ℕ) (h : List Event) → let m =
         monitor rules seats conds (meaning_named Shop) (opening_named Shop size) in IsLegal m h

@@ -1,4 +1,5 @@
-//! What holds of the types and of the lists of the kinds and of the orderings. The contract of each function is the law.
+//! What holds of the types and of the lists of the kinds and of the orderings. The contract of each
+//! function is the law.
 ghost use Rattle.std.specs.Prelude.{◌≡◌};
 ghost use Rattle.monk_kinds.specs.Names.{kind_word, kinds, StandsOnce};
 ghost use Rattle.monk_kinds.specs.Orderings.{ordering_text};

@@ -31,7 +31,8 @@ module _ (m : Monitor) (means : List WaitsFor) where
   with_next n s l y = count_state y (tally_after m.object means n s.course l y s.tally)
 
   from_cons : (n : ℕ) (s : Counted) (l : LogLine) (rest : List LogLine) → counts_from m means n s (l ∷ rest)
-      ≡ then_or (λ y. counts_from m means (n + 1) (with_next (n + 1) s l y) rest) (counts_at s) (read_over Allowed Any m s.course l)
+      ≡ then_or (λ y. counts_from m means (n + 1) (with_next (n + 1) s l y) rest) (counts_at s)
+      (read_over Allowed Any m s.course l)
   unfolding counts_from
   from_cons n s l rest = refl
 
@@ -46,31 +47,38 @@ module _ (m : Monitor) (means : List WaitsFor) where
       ap (then_or (λ y. counts_from m means (n + 1) (with_next (n + 1) s l y) new) (counts_at s)) judged
       ∙ sym (from_cons n s l new) ∙ sym (ap (counts_from m means n s) taken) ∙ is
 
-  pub count_goes_on : (old new : List LogLine) (n : ℕ) (l : LogLine) (a b : Board) (p q : Pending) (k : Tally) (left : LineVerdict)
+  pub count_goes_on : (old new : List LogLine) (n : ℕ) (l : LogLine) (a b : Board) (p q : Pending) (k : Tally)
+      (left : LineVerdict)
       (t : Tally) (v : Counts) → counts_from m means n (count_state (board_course a p) k) old ≡ v → old ≡ l ∷ new
       → course_or b left ≡ board_read_over Allowed Any m a p l → left ≡ line.Fits q
       → t ≡ tally_after m.object means (n + 1) (board_course a p) l (board_course b q) k
       → counts_from m means (n + 1) (count_state (board_course b q) t) new ≡ v
   count_goes_on old new n l a b p q k left t v is taken judged goes tally =
       ap (λ (x : Tally). counts_from m means (n + 1) (count_state (board_course b q) x) new) tally
-      ∙ more old new n l (count_state (board_course a p) k) (Ok (board_course b q)) v is taken (ap (course_or b) (sym goes) ∙ judged)
+      ∙ more old new n l (count_state (board_course a p) k) (Ok (board_course b q)) v is taken
+      (ap (course_or b) (sym goes) ∙ judged)
 
-  pub count_misfits : (old new : List LogLine) (n : ℕ) (l : LogLine) (a b : Board) (p : Pending) (k : Tally) (left : LineVerdict)
+  pub count_misfits : (old new : List LogLine) (n : ℕ) (l : LogLine) (a b : Board) (p : Pending) (k : Tally)
+      (left : LineVerdict)
       (why : Blame) (v : Counts) → counts_from m means n (count_state (board_course a p) k) old ≡ v → old ≡ l ∷ new
       → course_or b left ≡ board_read_over Allowed Any m a p l → left ≡ line.Misfits why
       → counts_at (count_state (board_course a p) k) ≡ v
   count_misfits old new n l a b p k left why v is taken judged fails =
       more old new n l (count_state (board_course a p) k) (Err why) v is taken (ap (course_or b) (sym fails) ∙ judged)
 
-  pub count_ends : (left : List LogLine) (n : ℕ) (s : Counted) (v : Counts) → counts_from m means n s left ≡ v → left ≡ []
+  pub count_ends : (left : List LogLine) (n : ℕ) (s : Counted) (v : Counts) → counts_from m means n s left ≡ v
+      → left ≡ []
       → counts_at s ≡ v
   count_ends left n s v is none = sym (from_end n s) ∙ sym (ap (counts_from m means n s) none) ∙ is
 
 -- ---- what is counted of a line, by the items before it and behind it
 
-pub line_counted : (o : Object) (means : List WaitsFor) (n : ℕ) (x y : BoardCourse) (l : LogLine) (k t : Tally) (old new seen : List Item)
-    (before after : ℕ) (missed : Bool) → t ≡ with_line n l before after missed k → before ≡ woken_among old → old ≡ items_now x
-    → after ≡ woken_among new → new ≡ items_now y → missed ≡ (lets_go l && lacks_some_signal o y.board.state seen means) → seen ≡ new
+pub line_counted : (o : Object) (means : List WaitsFor) (n : ℕ) (x y : BoardCourse) (l : LogLine) (k t : Tally)
+    (old new seen : List Item)
+    (before after : ℕ) (missed : Bool) → t ≡ with_line n l before after missed k → before ≡ woken_among old
+    → old ≡ items_now x
+    → after ≡ woken_among new → new ≡ items_now y
+    → missed ≡ (lets_go l && lacks_some_signal o y.board.state seen means) → seen ≡ new
     → t ≡ tally_after o means n x l y k
 line_counted o means n x y l k t old new seen before after missed is b from a to m at =
     is ∙ ap (λ (w : ℕ). with_line n l w after missed k) (b ∙ ap woken_among from)
@@ -99,5 +107,6 @@ module _ (k : Rules) (seats conds : ℕ) (ob : Object) (d : List ℕ) (means : L
       → counts_from (monitor k seats conds ob []) means 0 (count_state (board_settled b) nothing_tallied) log
       ≡ counts_of (monitor k seats conds ob d) means log
   count_opens b log is =
-      ap (λ (x : Board). counts_from (monitor k seats conds ob []) means 0 (count_state (board_settled x) nothing_tallied) log) is
+      ap (λ (x : Board). counts_from (monitor k seats conds ob []) means 0
+      (count_state (board_settled x) nothing_tallied) log) is
       ∙ from_same 0 (count_state (board_settled (opening_board (monitor k seats conds ob d))) nothing_tallied) log

@@ -59,20 +59,24 @@ first false b c d late h = absurd cc
 pub reason_goes : (m : Monitor) (t : Situation) (e : Event) (late n : ℕ) → n ≡ reason_before 0 m t e → n ≡ 0
     → reason_before late m t e ≡ late
 unfolding four
-reason_goes m t e late n is h = goes (is_in_range m.seats m.conds m.object.codes m.object.predicates e) (is_offered m.kind e)
+reason_goes m t e late n is h =
+    goes (is_in_range m.seats m.conds m.object.codes m.object.predicates e) (is_offered m.kind e)
     (is_in_turn t e) (is_in_place m.object t e) late (sym is ∙ h)
 
 pub reason_stops : (m : Monitor) (t : Situation) (e : Event) (late n : ℕ) → n ≡ reason_before 0 m t e → (n ≡ 0 → ⊥)
     → n ≡ reason_before late m t e
 unfolding four
 reason_stops m t e late n is h =
-    is ∙ sym (stops (is_in_range m.seats m.conds m.object.codes m.object.predicates e) (is_offered m.kind e) (is_in_turn t e)
+    is ∙ sym (stops (is_in_range m.seats m.conds m.object.codes m.object.predicates e) (is_offered m.kind e)
+    (is_in_turn t e)
     (is_in_place m.object t e) late (λ z. h (is ∙ z)))
 
-pub seat_there : (m : Monitor) (t : Situation) (e : Event) (late : ℕ) → reason_before late m t e ≡ 0 → seat_of e < m.seats
+pub seat_there : (m : Monitor) (t : Situation) (e : Event) (late : ℕ) → reason_before late m t e ≡ 0
+    → seat_of e < m.seats
 unfolding four
 seat_there m t e late h =
-    let ranged = first (is_in_range m.seats m.conds m.object.codes m.object.predicates e) (is_offered m.kind e) (is_in_turn t e)
+    let ranged =
+    first (is_in_range m.seats m.conds m.object.codes m.object.predicates e) (is_offered m.kind e) (is_in_turn t e)
     (is_in_place m.object t e) late h in
     let seat : nat_lt (seat_of e) m.seats ≡ true = and_left _ _ (and_left _ _ (and_left _ _ (and_left _ _ ranged))) in
     grind (arith, seat)
@@ -101,7 +105,8 @@ entered_same o b s via =
       begun = b.begun;
     })) via) (append-nil b.signallers)
 
-place_same : (o : Object) (b : Board) (e : Event) → is_in_place o (sight (board_served b e)) e ≡ is_in_place o (sight b) e
+place_same : (o : Object) (b : Board) (e : Event)
+    → is_in_place o (sight (board_served b e)) e ≡ is_in_place o (sight b) e
 place_same o b (event.Enter s via) = ap (λ (x : Bool). not (b.inside s) && x) (entered_same o b s via)
 place_same o b (event.Act s op r) = refl
 place_same o b (event.Leave s x) = refl
@@ -145,7 +150,8 @@ reason_is o m b e stays no_act is =
     served_same m b e (cond (permits_by m.kind stays (chances_on o m.object (board_served b e)) e) 0 6)
     ∙ ap (λ (n : ℕ). reason_before n m (sight b) e)
     (ap (λ (x : Bool). cond (permits_by m.kind x (chances_on o m.object (board_served b e)) e) 0 6) is
-    ∙ turned (board_permits o m.kind m.object b e) (is_right_reply m.object b.state e) (replied m.object b.state e no_act))
+    ∙ turned (board_permits o m.kind m.object b e) (is_right_reply m.object b.state e)
+    (replied m.object b.state e no_act))
 
 -- ---- and what it makes of the board
 
@@ -193,7 +199,8 @@ unchanged o b (event.Resume s q) stays h = refl
 unchanged o b (event.SignalAll s c) stays h = refl
 unchanged o b (event.SignalWait s c d x) stays h = refl
 
-pub moved_is : (o : Object) (b : Board) (e : Event) (stays : Bool) → answered_act e ≡ None → stays ≡ must_stay o (sight b) e
+pub moved_is : (o : Object) (b : Board) (e : Event) (stays : Bool) → answered_act e ≡ None
+    → stays ≡ must_stay o (sight b) e
     → board_moved stays (board_served b e) e ≡ board_after o b e
 unfolding moved_as
 moved_is o b e stays no_act is =
@@ -205,7 +212,8 @@ pub added : (r n : ℕ) (x y : Board) → r ≡ n → r ≡ 0 → x ≡ y → Ok
 added r zero x y is none same = ap (λ (z : Board). Ok z) same
 added r (suc n) x y is none same = absurd (omega (arith, is, none))
 
-pub not_added : (r n : ℕ) (x y : Board) → r ≡ n → (r ≡ 0 → ⊥) → cond (r == 0) (Ok x) (Err r) ≡ cond (n == 0) (Ok y) (Err n)
+pub not_added : (r n : ℕ) (x y : Board) → r ≡ n → (r ≡ 0 → ⊥)
+    → cond (r == 0) (Ok x) (Err r) ≡ cond (n == 0) (Ok y) (Err n)
 not_added r zero x y is some = absurd (some is)
 not_added zero (suc n) x y is some = absurd (some refl)
 not_added (suc r) (suc n) x y is some =
@@ -214,7 +222,8 @@ not_added (suc r) (suc n) x y is some =
 
 -- ---- an act
 
-pub early_found : (o : Order) (m : Monitor) (b : Board) (e : Event) (n : ℕ) → n ≡ reason_before 0 m (sight b) e → (n ≡ 0 → ⊥)
+pub early_found : (o : Order) (m : Monitor) (b : Board) (e : Event) (n : ℕ) → n ≡ reason_before 0 m (sight b) e
+    → (n ≡ 0 → ⊥)
     → n ≡ board_reason o m b e
 unfolding board_reason
 early_found o m b e n is h = reason_stops m (sight b) e (board_late_reason o m b e) n is h
@@ -226,7 +235,8 @@ reply_found o m b e n is none wrong =
     sym (reason_goes m (sight b) e (board_late_reason o m b e) n is none
     ∙ ap (λ (x : Bool). cond (not x) 5 (cond (not (board_permits o m.kind m.object b e)) 6 0)) wrong)
 
-act_late : (o : Order) (m : Monitor) (b : Board) (e : Event) → is_some (answered_act e) ≡ true → is_right_reply m.object b.state e ≡ true
+act_late : (o : Order) (m : Monitor) (b : Board) (e : Event) → is_some (answered_act e) ≡ true
+    → is_right_reply m.object b.state e ≡ true
     → board_late_reason o m b e ≡ 0
 act_late o m b (event.Enter s via) h right = absurd cc
 act_late o m b (event.Act s op r) h right = ap (λ (x : Bool). cond (not x) 5 0) right
@@ -245,7 +255,8 @@ unfolding board_reason
 act_found o m b e n is none act right =
     sym (reason_goes m (sight b) e (board_late_reason o m b e) n is none ∙ act_late o m b e act right)
 
-pub moved_act : (o : Object) (b : Kept) (state later : List ℕ) (e : Event) → is_some (answered_act e) ≡ true → later ≡ data_after o state e
+pub moved_act : (o : Object) (b : Kept) (state later : List ℕ) (e : Event) → is_some (answered_act e) ≡ true
+    → later ≡ data_after o state e
     → board_moved false (board_served (board_shown b later) e) e ≡ board_after o (board_shown b state) e
 moved_act o b state later (event.Enter s via) h is = absurd cc
 moved_act o b state later (event.Act s op r) h is =
@@ -259,7 +270,8 @@ moved_act o b state later (event.Resume s q) h is = absurd cc
 moved_act o b state later (event.SignalAll s c) h is = absurd cc
 moved_act o b state later (event.SignalWait s c d x) h is = absurd cc
 
-pub no_entrance : (e : Event) (via : Via) (b : Board) → is_some (answered_act e) ≡ true → via_of e ≡ Some via → via ≡ board_via b
+pub no_entrance : (e : Event) (via : Via) (b : Board) → is_some (answered_act e) ≡ true → via_of e ≡ Some via
+    → via ≡ board_via b
 no_entrance (event.Enter s x) via b h is = absurd cc
 no_entrance (event.Act s op r) via b h is = absurd cc
 no_entrance (event.Leave s x) via b h is = absurd cc
@@ -287,7 +299,8 @@ code_room (event.SignalWait s c d x) = 0
 below_next : (n : ℕ) → nat_lt n (suc n) ≡ true
 below_next n = grind (arith)
 
-pub act_fits : (predicates : ℕ) (e : Event) → is_some (answered_act e) ≡ true → fits_object (code_room e) predicates e ≡ true
+pub act_fits : (predicates : ℕ) (e : Event) → is_some (answered_act e) ≡ true
+    → fits_object (code_room e) predicates e ≡ true
 unfolding code_room
 act_fits predicates (event.Enter s via) h = absurd cc
 act_fits predicates (event.Act s op r) h = below_next op.code
@@ -320,7 +333,8 @@ reply_next true true true last h i j = absurd (true≢false j)
 reply_next true false reply last h i j = absurd (true≢false (sym i))
 reply_next false place reply last h i j = absurd (true≢false (sym h))
 
-pub last_left : (turn place reply : Bool) (found last : Blame) → turn ≡ true → place ≡ true → reply ≡ true → found ≡ last
+pub last_left : (turn place reply : Bool) (found last : Blame) → turn ≡ true → place ≡ true → reply ≡ true
+    → found ≡ last
     → found ≡ cond (not turn) blame.Turn (cond (not place) blame.Place (cond (not reply) blame.Reply last))
 last_left true true true found last h i j k = k
 last_left true true false found last h i j k = absurd (true≢false (sym j))

@@ -27,7 +27,8 @@ on_ok_both P Q (Err y) p q = p
 
 -- ---- what it shows, part by part
 
-pub shows : (is items : List Item) (back signallers : List ℕ) (now t : Situation) → is ≡ items → back ≡ signallers → now ≡ t
+pub shows : (is items : List Item) (back signallers : List ℕ) (now t : Situation) → is ≡ items
+    → back ≡ signallers → now ≡ t
     → board_over is back now ≡ board_over items signallers t
 shows is items back signallers now t h i j =
     ap (λ (l : List Item). board_over l back now) h ∙ ap (λ (l : List ℕ). board_over items l now) i
@@ -56,7 +57,8 @@ unbegun : (x : Bool) → Free ≡ cond x Handed Free → x ≡ false
 unbegun true h = absurd cc
 unbegun false h = refl
 
-entering : (seats conds predicates : ℕ) (o : Object) (b : Board) (state : List ℕ) (via : Via) → IsBoardOf seats conds predicates b
+entering : (seats conds predicates : ℕ) (o : Object) (b : Board) (state : List ℕ) (via : Via)
+    → IsBoardOf seats conds predicates b
     → via ≡ board_via (board_shown b [])
     → may_enter o (replay_situation b.rest state) via ≡ may_enter o (sight (board_shown b state)) via
 entering seats conds predicates o b state Handed is h = refl
@@ -68,7 +70,8 @@ entering seats conds predicates o b state Free is h =
     ∙ ap (λ (l : List ℕ). true && is_empty l && ready) (sym (is.nobody_back fresh))
     ∙ ap (λ (l : List Item). is_empty (services l) && is_empty b.signallers.items && ready) (sym (is.no_items fresh))
 
-in_place : (seats conds predicates : ℕ) (o : Object) (b : Board) (state : List ℕ) (e : Event) → IsBoardOf seats conds predicates b
+in_place : (seats conds predicates : ℕ) (o : Object) (b : Board) (state : List ℕ) (e : Event)
+    → IsBoardOf seats conds predicates b
     → ((via : Via) → via_of e ≡ Some via → via ≡ board_via (board_shown b []))
     → is_in_place o (replay_situation b.rest state) e ≡ is_in_place o (sight (board_shown b state)) e
 in_place seats conds predicates o b state (event.Enter s via) is h =

@@ -10,7 +10,8 @@ use Rattle.monk_history.specs.Meaning.Events.{answered_act, next_of}
 use Rattle.monk_history.specs.Meaning.Release.{with_next}
 
 -- what is the same as something else is the same as what that is
-pub ok_same : {A E X : Type 0} (r : Result A E) (f : A → X) (a b : X) → a ≡ b → IfOk r (λ p. f p ≡ a) → IfOk r (λ p. f p ≡ b)
+pub ok_same : {A E X : Type 0} (r : Result A E) (f : A → X) (a b : X) → a ≡ b → IfOk r (λ p. f p ≡ a)
+    → IfOk r (λ p. f p ≡ b)
 ok_same r f a b h k = IfOk-weaker r (λ p. f p ≡ a) (λ p. f p ≡ b) (λ p is. is ∙ h) k
 
 -- a release is no act, whatever it chooses

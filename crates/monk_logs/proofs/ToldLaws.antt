@@ -36,7 +36,8 @@ served_with b x (event.Resume s q) = refl
 served_with b x (event.SignalAll s c) = refl
 served_with b x (event.SignalWait s c d y) = refl
 
-stays_with : (o : Object) (b : Board) (x : Next) (e : Event) → must_stay o (sight b) e ≡ must_stay o (sight b) (with_next x e)
+stays_with : (o : Object) (b : Board) (x : Next) (e : Event)
+    → must_stay o (sight b) e ≡ must_stay o (sight b) (with_next x e)
 stays_with o b x (event.Enter s via) = refl
 stays_with o b x (event.Act s op r) = refl
 stays_with o b x (event.Leave s y) = refl
@@ -83,7 +84,8 @@ told_moved o b now e told l stays served is release still =
 
 -- ---- where it may be and where it can't
 
-pub told_goes : {X : Type 0} (n r : ℕ) (to : Result X Blame) (why : Blame) → n ≡ r → n ≡ 0 → to ≡ cond (r == 0) to (Err why)
+pub told_goes : {X : Type 0} (n r : ℕ) (to : Result X Blame) (why : Blame) → n ≡ r → n ≡ 0
+    → to ≡ cond (r == 0) to (Err why)
 told_goes n zero to why is none = refl
 told_goes n (suc r) to why is none = absurd (omega (arith, is, none))
 

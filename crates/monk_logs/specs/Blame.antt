@@ -88,9 +88,11 @@ is_event_in_range m e = is_in_range m.seats m.conds m.object.codes m.object.pred
 
 -- the first of the tests of range and of the call that an event fails
 abbrev pub early_blame : Monitor → Event → Option Blame
-early_blame m e = if not (is_event_in_range m e) then Some Range else if not (is_offered m.kind e) then Some Call else None
+early_blame m e = if not (is_event_in_range m e) then Some Range else if not (is_offered m.kind e)
+    then Some Call else None
 
--- whether the seat is inside and may be called back: anybody else who is inside, and the caller where it waits by the release
+-- whether the seat is inside and may be called back: anybody else who is inside, and the caller
+-- where it waits by the release
 abbrev pub may_be_called_back : Bool → Bool → Event → ℕ → Bool
 may_be_called_back stays inside e s =
     not stays && (if s == seat_of e then is_some (waits_on e) || is_some (awaited_predicate e) else inside)
@@ -125,7 +127,8 @@ is_line_in_place inside e (Act s op r) = true
 
 -- ---- and those that ask whether the release may have chosen so
 
--- what is to blame where a seat goes on: it stands in none of the queues from which the release chooses, or not in front
+-- what is to blame where a seat goes on: it stands in none of the queues from which the release
+-- chooses, or not in front
 abbrev pub resume_blame : Queues → ℕ → Blame
 resume_blame q s = if not (stands_in q s) then Unserved else if not (is_front_in q s) then Order else Choice
 

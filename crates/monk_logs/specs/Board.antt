@@ -1,5 +1,5 @@
--- A machine that tells in one pass whether a monitor may do these steps, in each order of its queues. That it tells exactly that is
--- the law `boards_are_exact`
+-- A machine that tells in one pass whether a monitor may do these steps, in each order of its
+-- queues. That it tells exactly that is the law `boards_are_exact`
 use Rattle.std.specs.Prelude.{ℕ, ◌==◌, Bool, true, false, ◌&&◌, not, List, [], ◌∷◌, ◌++◌, map, Option, Some, None, if◌then◌else◌}
 use Rattle.std.specs.Option.{option_map_or}
 use Rattle.monk_kinds.specs.declared.mode.Rules.{Rules}
@@ -66,7 +66,8 @@ sight b = record {
 
 -- the services that it gives: as many as it would in order of arrival
 abbrev pub given_by : Event → List Item → List Item
-given_by e items = option_map_or (λ c. map (λ s. Service c) (served_of e (unserved_in (line c items)))) (signals_on e) []
+given_by e items =
+    option_map_or (λ c. map (λ s. Service c) (served_of e (unserved_in (line c items)))) (signals_on e) []
 
 abbrev pub items_with : Board → Event → List Item
 items_with b e = b.items ++ given_by e b.items

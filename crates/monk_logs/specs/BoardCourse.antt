@@ -1,5 +1,5 @@
--- How a log is judged in each order of queues: line by line, over a board. That what is judged well is exactly what is open is the
--- law `orders_are_exact`
+-- How a log is judged in each order of queues: line by line, over a board. That what is judged well
+-- is exactly what is open is the law `orders_are_exact`
 use Rattle.std.specs.Prelude.{ℕ, ◌==◌, List, [], ◌∷◌, Option, Some, None, if◌then◌else◌, is_some}
 use Rattle.std.specs.Option.{option_map}
 use Rattle.monk_history.specs.declared.event.Event.{Event}

@@ -1,5 +1,6 @@
--- How a log is judged over a board by the rules alone: in order of arrival, where no wait runs out. Then a board is one situation, and
--- each line tells events. That the verdict is that by how the monitor stands is the lemma `legal_same` of proofs/FifoLaws/Verdicts
+-- How a log is judged over a board by the rules alone: in order of arrival, where no wait runs out.
+-- Then a board is one situation, and each line tells events. That the verdict is that by how the
+-- monitor stands is the lemma `legal_same` of proofs/FifoLaws/Verdicts
 use Rattle.std.specs.Prelude.{ℕ, List, [], ◌∷◌, Result, Err}
 use Rattle.monk_object.specs.Object.{Object}
 use Rattle.monk_history.specs.declared.event.Event.{Event}

@@ -67,7 +67,8 @@ board_moved stays b e = record {
 
 -- the first test that an event fails on a board that has served, but for the reply of an act
 abbrev pub served_reason : Order → Monitor → Bool → Board → Event → ℕ
-served_reason o m stays b e = reason_before (if permits_by m.kind stays (chances_on o m.object b) e then 0 else 6) m (sight b) e
+served_reason o m stays b e =
+    reason_before (if permits_by m.kind stays (chances_on o m.object b) e then 0 else 6) m (sight b) e
 
 -- what is found of a line that tells an event, by the first test that the event fails
 abbrev pub verdict_by : ℕ → LineVerdict
@@ -99,7 +100,8 @@ comes_back o object b s = was_served o s b.items || is_among s b.signallers || h
 
 -- whether it may be chosen there, whatever the priorities: in order of arrival, whether it is in front
 abbrev pub comes_next : Order → Object → Board → ℕ → Bool
-comes_next o object b s = may_resume o s b.items || may_go o s b.signallers || may_go o s (ready_of object b.state b.untils)
+comes_next o object b s = may_resume o s b.items || may_go o s b.signallers
+    || may_go o s (ready_of object b.state b.untils)
 
 -- where a seat goes on: no release could choose it, or somebody was before it, or the priorities forbid it
 abbrev pub resume_blame_on : Order → Object → Board → ℕ → Blame
@@ -108,7 +110,8 @@ resume_blame_on o object b s =
     else if not (comes_next o object b s) then blame.Order
     else blame.Choice
 
--- where the caller goes on at once: signallers go before waiters, and another was before it, or the priorities forbid it
+-- where the caller goes on at once: signallers go before waiters, and another was before it, or the
+-- priorities forbid it
 abbrev pub stay_blame_on : Order → Rules → Board → ℕ → Blame
 stay_blame_on o k b s = if nat_lt k.signaller k.waiter || may_go o s b.signallers then blame.Choice else blame.Order
 

@@ -1,5 +1,6 @@
--- How a log is judged over a board where a `resume` may tell of a wait that ran out: a line that can be judged as it stands is, and
--- only else a `resume` is judged as a `lapse`. That what is judged well is exactly what is open is the law `lapses_are_exact`
+-- How a log is judged over a board where a `resume` may tell of a wait that ran out: a line that
+-- can be judged as it stands is, and only else a `resume` is judged as a `lapse`. That what is
+-- judged well is exactly what is open is the law `lapses_are_exact`
 use Rattle.std.specs.Prelude.{List, [], ◌∷◌, Option, Some, None}
 use Rattle.monk_history.specs.Meaning.Monitor.{Monitor}
 use Rattle.monk_logs.specs.Board.{Board, opening_board}

@@ -55,7 +55,8 @@ board_lapse_blame m b s =
 
 abbrev pub board_lapse_over : Order → Monitor → Board → ℕ → Result BoardCourse Blame
 board_lapse_over o m b s =
-    if is_open b.turn && may_lapse o s b.items then Ok (board_settled (board_lapse b s)) else Err (board_lapse_blame m b s)
+    if is_open b.turn && may_lapse o s b.items then Ok (board_settled (board_lapse b s))
+    else Err (board_lapse_blame m b s)
 
 -- ---- where each event before the line is known
 

@@ -1,5 +1,5 @@
--- What a release may choose, where the order of the queues may be any: as `is_permitted` of a history's events, which is this in
--- order of arrival
+-- What a release may choose, where the order of the queues may be any: as `is_permitted` of a
+-- history's events, which is this in order of arrival
 use Rattle.std.specs.Prelude.{ℕ, ◌==◌, nat_le, Bool, true, false, ◌&&◌, ◌||◌, not, if◌then◌else◌, is_some}
 use Rattle.std.specs.Option.{option_map_or}
 use Rattle.monk_kinds.specs.declared.mode.Rules.{Rules}
@@ -51,7 +51,8 @@ may_signal_by k q s (UntilSeat j) = may_choose_by k q s (UntilSeat j)
 -- whether an event that need not stay may choose what it chose, if it is a release
 abbrev pub chooses_well_by : Rules → Chances → Event → Bool
 chooses_well_by k q e =
-    option_map_or (λ x. if is_some (steps_back e) then may_signal_by k q (seat_of e) x else may_choose_by k q (seat_of e) x)
+    option_map_or (λ x. if is_some (steps_back e) then may_signal_by k q (seat_of e) x
+    else may_choose_by k q (seat_of e) x)
     (next_of e) true
 
 -- the same of an event that may have to stay

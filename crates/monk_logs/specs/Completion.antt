@@ -51,8 +51,9 @@ IsNoFreeEnter e = via_of e ≢ Some Free
 abbrev pub AreHandedOver : List Event → Type 0
 AreHandedOver h = AllByRecursion IsNoFreeEnter (drop 1 h)
 
--- the history is legal and tells the log, by no more events than the log has lines. A seat is handed the monitor wherever it can
--- be. Where the log ends with a release its choice is the one without a wish
+-- the history is legal and tells the log, by no more events than the log has lines. A seat is
+-- handed the monitor wherever it can be. Where the log ends with a release its choice is the one
+-- without a wish
 pub record Completes (m : Monitor) (log : List LogLine) (h : List Event) : Type 0 where
   pub legal : IsLegal m h
   pub erases : erasure h ≡ log ++ other_half m.kind.mode log

@@ -190,7 +190,8 @@ then_or f a (Err y) = a
 unfoldable pub counts_from : Monitor → List WaitsFor → ℕ → Counted → List LogLine → Counts
 counts_from m means n s [] = counts_at s
 counts_from m means n s (l ∷ log) =
-    then_or (λ y. counts_from m means (n + 1) (count_state y (tally_after m.object means (n + 1) s.course l y s.tally)) log) (counts_at s)
+    then_or (λ y. counts_from m means (n + 1)
+    (count_state y (tally_after m.object means (n + 1) s.course l y s.tally)) log) (counts_at s)
     (read_over Allowed Any m s.course l)
 
 abbrev pub counts_of : Monitor → List WaitsFor → List LogLine → Counts

@@ -87,7 +87,8 @@ due_from (Owned j) = from.Waiter
 
 -- where each event is known
 abbrev pub behind_events : Monitor → List Event → LogLine → Option Course
-behind_events m past (Enter s) = option_map settled_course (add m past (event.Enter s (if is_empty past then Free else Handed)))
+behind_events m past (Enter s) =
+    option_map settled_course (add m past (event.Enter s (if is_empty past then Free else Handed)))
 behind_events m past (Resume s) = option_map settled_course (add m past (event.Resume s (due_from (turn past))))
 behind_events m past (Lapse s) = None
 behind_events m past (Leave s) = held_course m past (event.Leave s next.Stay)

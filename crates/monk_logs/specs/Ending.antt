@@ -17,8 +17,9 @@ use Rattle.monk_logs.specs.Items.{first_served}
 use Rattle.monk_logs.specs.declared.pending.Pending.{Pending}
 use Rattle.monk_logs.specs.declared.pending.Pending.TheVariants.{Settled, Half, Release}
 
--- what is chosen without a wish, by the choice of that first one, by the front of the signaller queue, and by whether waiters
--- may go before signallers: the caller stays where it is that front itself
+-- what is chosen without a wish, by the choice of that first one, by the front of the signaller
+-- queue, and by whether waiters may go before signallers: the caller stays where it is that front
+-- itself
 abbrev pub own_or : ℕ → ℕ → Next
 own_or j s = if j == s then next.Stay else next.Signaller j
 
@@ -46,7 +47,8 @@ inner_on k o b =
 abbrev pub unwished_on : Rules → Object → Board → Event → Next
 unwished_on k o b e =
     if must_stay o (sight b) e then next.Stay
-    else by_fronts (inner_on k o (board_served b e)) (slice_get (signallers_with b e) 0) (nat_le k.signaller k.waiter) (seat_of e)
+    else by_fronts (inner_on k o (board_served b e)) (slice_get (signallers_with b e) 0)
+    (nat_le k.signaller k.waiter) (seat_of e)
 
 -- the last release with that choice
 abbrev pub last_on : Rules → Object → Board → Pending → List Event

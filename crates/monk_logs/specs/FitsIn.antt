@@ -1,5 +1,5 @@
--- Which logs could be of a monitor, by the order in which its queues are served. That those are the ones that are judged to their end
--- over a board is the law `orders_are_exact`
+-- Which logs could be of a monitor, by the order in which its queues are served. That those are the
+-- ones that are judged to their end over a board is the law `orders_are_exact`
 use Rattle.std.specs.Prelude.{◌≡◌, Bool, true, false, List, [], ◌∷◌, ◌++◌}
 use Rattle.std.specs.List.{flat_map, list_any}
 use Rattle.monk_history.specs.Meaning.Monitor.{Monitor}

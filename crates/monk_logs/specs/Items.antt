@@ -1,5 +1,6 @@
--- What is to be known of the conditions where nobody tells whom a signal served: in order of time, who came to wait and what
--- signals gave. A seat that goes on takes its own coming and one service with it
+-- What is to be known of the conditions where nobody tells whom a signal served: in order of time,
+-- who came to wait and what signals gave. A seat that goes on takes its own coming and one service
+-- with it
 use Rattle.std.specs.Prelude.{ℕ, zero, suc, ◌-◌, ◌==◌, Bool, true, false, ◌&&◌, not, List, [], ◌∷◌, take, drop, filter, Option, Some}
 use Rattle.std.specs.Prelude.{None, if◌then◌else◌, slice_get}
 use Rattle.std.specs.Option.{option_map_or}
@@ -82,7 +83,8 @@ was_served o j items = option_map_or (λ c. can_be_served o j (line c items)) (c
 -- whether it is the first of all that were served: the first service is of its condition, where it stands in front
 abbrev pub was_served_first : ℕ → List Item → Bool
 was_served_first j items =
-    option_map_or (λ c. is_front c (services items) && is_front j (seats_in (line c items))) (condition_of j items) false
+    option_map_or (λ c. is_front c (services items) && is_front j (seats_in (line c items)))
+    (condition_of j items) false
 
 abbrev pub first_seat_at : Option ℕ → List Item → Option ℕ
 first_seat_at None items = None

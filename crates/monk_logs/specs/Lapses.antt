@@ -1,5 +1,5 @@
--- Which logs could be of a monitor where a `resume` may tell of a wait that ran out: a spurious wake-up, which a recorder can't tell
--- from one that a signal made
+-- Which logs could be of a monitor where a `resume` may tell of a wait that ran out: a spurious
+-- wake-up, which a recorder can't tell from one that a signal made
 use Rattle.std.specs.Prelude.{◌≡◌, ◌⊎◌, List, [], ◌∷◌}
 use Rattle.monk_history.specs.Meaning.Monitor.{Monitor}
 use Rattle.monk_logs.specs.FitsIn.{IsOpenIn}

@@ -34,7 +34,8 @@ log_version Flags = 2
 
 abbrev pub log_header_words : LogHeading → List Word
 log_header_words h =
-    codes "log" ∷ decimal (log_version h.object) ∷ decimal h.seats ∷ decimal h.conds ∷ object_word h.object ∷ decimal h.size ∷ []
+    codes "log" ∷ decimal (log_version h.object) ∷ decimal h.seats ∷ decimal h.conds ∷ object_word h.object
+    ∷ decimal h.size ∷ []
 
 abbrev pub log_words : LogLine → List Word
 log_words (Enter s) = codes "enter" ∷ decimal s ∷ []

@@ -1,4 +1,5 @@
--- The same judging where a `resume` may tell of a wait that ran out, with what is to blame where a line can't be of the monitor
+-- The same judging where a `resume` may tell of a wait that ran out, with what is to blame where a
+-- line can't be of the monitor
 use Rattle.std.specs.Prelude.{ℕ, List, Result, Ok, Err}
 use Rattle.monk_history.specs.Meaning.Monitor.{Monitor}
 use Rattle.monk_logs.specs.Along.{verdict_along}

@@ -91,7 +91,8 @@ AreWaiters Wake waiters these = (j : ℕ) → is_among j waiters ≡ is_among j 
 AreWaiters Any waiters these = (j : ℕ) → is_among j waiters ≡ is_among j these
 
 -- the situation u is what e makes of t, where it serves ws
-pub record IsAfter (o : Order) (object : Object) (t : Situation) (e : Event) (ws : List ℕ) (u : Situation) : Type 0 where
+pub record IsAfter (o : Order) (object : Object) (t : Situation) (e : Event) (ws : List ℕ)
+    (u : Situation) : Type 0 where
   pub condition : (c : ℕ) → u.condition c ≡ apart ws (t.condition c) ++ waiting_by c e
   pub waiters : AreWaiters o u.waiters (apart (chosen_waiter (next_of e)) (t.waiters ++ ws))
   pub signallers : u.signallers

@@ -1,5 +1,6 @@
 -- The same judging as a function of how the monitor stands. That it comes to the same is the lemma `line_same` of
--- proofs/VerdictLaws/Standing; and that logs are judged so over a board is the lemma `legal_same` of proofs/FifoLaws/Verdicts
+-- proofs/VerdictLaws/Standing; and that logs are judged so over a board is the lemma `legal_same`
+-- of proofs/FifoLaws/Verdicts
 use Rattle.std.specs.Prelude.{ℕ, ◌==◌, List, [], Result, Ok, Err, if◌then◌else◌}
 use Rattle.monk_object.specs.Object.{Object}
 use Rattle.monk_history.specs.declared.event.Event.{Event}
@@ -93,8 +94,8 @@ line_half m t s c (Broadcast j d) = Err (half_blame m (Broadcast j d))
 line_half m t s c (Until j p) = Err (half_blame m (Until j p))
 line_half m t s c (Act j op r) = Err (half_blame m (Act j op r))
 
--- behind a release, with what is to blame where it may not have chosen what the line tells. What a lapse tells of the choice
--- isn't known, since no history has one
+-- behind a release, with what is to blame where it may not have chosen what the line tells. What a
+-- lapse tells of the choice isn't known, since no history has one
 abbrev pub line_then : Monitor → Blame → Result Situation ℕ → LogLine → Result Stand Blame
 line_then m why (Err reason) l = Err why
 line_then m why (Ok t) l = line_settled m t l

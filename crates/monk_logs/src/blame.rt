@@ -6,17 +6,17 @@ ghost use Rattle.monk_logs.specs.Blame.{blame_number, blame_of, blame_word};
 use crate::pending::Pending;
 use monk_audit::Verdict;
 
-/// Why a line can't be of a monitor, behind the lines before it: the first of these that applies. They stand in the order in
-/// which a line is tested.
+/// Why a line can't be of a monitor, behind the lines before it: the first of these that applies.
+/// They stand in the order in which a line is tested.
 #[derive(Clone, Copy, Debug, PartialEq, Eq)]
 pub enum Blame {
     /// A seat, a condition, a predicate or a code of the line is out of range.
     Range,
-    /// The kind of monitor has no such call. Or under immediate return a signal is followed by something else than a `leave`
-    /// or a `wait` of its own seat.
+    /// The kind of monitor has no such call. Or under immediate return a signal is followed by
+    /// something else than a `leave` or a `wait` of its own seat.
     Call,
-    /// It is not the turn of the line's seat, whatever the release before it chose: the seat is outside or active, or somebody
-    /// else is active.
+    /// It is not the turn of the line's seat, whatever the release before it chose: the seat is
+    /// outside or active, or somebody else is active.
     Turn,
     /// A task comes in that is inside already.
     Place,
@@ -24,8 +24,8 @@ pub enum Blame {
     Reply,
     /// A seat goes on that waits on a condition, where no signal has served it, or until a predicate that doesn't hold.
     Unserved,
-    /// A timed wait is told to have run out, of a seat that a signal has served. No history tells of timed waits, so each
-    /// `lapse` has this reason or one before it.
+    /// A timed wait is told to have run out, of a seat that a signal has served. No history tells
+    /// of timed waits, so each `lapse` has this reason or one before it.
     Served,
     /// A seat goes on that stands in its queue, but not at the front.
     Order,

@@ -34,7 +34,8 @@ pub(crate) fn line_event(mode: Mode, line: LogLine) -> Event
 
 /// The signal that a mode has.
 fn signal_event(mode: Mode, seat: u8, cond: u8) -> Event
-    ensures { result ≡ (if returns_at_once mode then Event.SignalLeave seat cond Next.Stay else Event.Signal seat cond Next.Stay) }
+    ensures { result ≡ (if returns_at_once mode then Event.SignalLeave seat cond Next.Stay
+        else Event.Signal seat cond Next.Stay) }
 {
     if mode == Mode::ImmediateReturn {
         Event::SignalLeave(seat, cond, Next::Stay)

@@ -25,8 +25,8 @@ use monk_history::Event;
 use monk_object::Guarded;
 use std::alloc::{AllocError, Global};
 
-/// How a monitor stands, as far as a log tells it: whom a signal served it doesn't tell. What isn't of queues stands in the replay,
-/// whose own queues are empty.
+/// How a monitor stands, as far as a log tells it: whom a signal served it doesn't tell. What isn't
+/// of queues stands in the replay, whose own queues are empty.
 #[derive(Drop)]
 pub(crate) struct Board {
     pub(crate) items: Vec<Item>,
@@ -117,7 +117,8 @@ impl Board {
 
     /// Lets the seat go on, which waits on a condition and which no signal served.
     pub(crate) fn lapse(&mut self, seat: u8)
-        ensures lapsed { (state : List ℕ) → board_shown self.new state ≡ boards.board_lapse (board_shown self.old state) seat }
+        ensures lapsed { (state : List ℕ)
+            → board_shown self.new state ≡ boards.board_lapse (board_shown self.old state) seat }
         ensures sound { (seats conds predicates : ℕ) → IsBoardOf seats conds predicates self.old
             → IsBoardOf seats conds predicates self.new }
     {

@@ -28,7 +28,8 @@ pub(crate) fn may_go(order: Order, queue: &[u8], seat: u8) -> bool
 /// Whether the seat may be chosen from those whose predicate holds.
 pub(crate) fn may_come_ready<T: Guarded>(order: Order, board: &Board, object: &T, seat: u8) -> bool
     requires { All (λ w. w.1 < T.PREDICATES) (board_shown board.now []).untils }
-    ensures { result ≡ orders.may_go order seat (ready_of T.meaning (T.state object.now) (board_shown board.now []).untils) }
+    ensures { result ≡ orders.may_go order seat
+        (ready_of T.meaning (T.state object.now) (board_shown board.now []).untils) }
 {
     match order {
         Order::Fifo => board.rest.first_ready(object) == Some(seat),
@@ -47,7 +48,8 @@ fn may_choose<T: Guarded>(
     next: Next,
 ) -> bool
     requires { All (λ w. w.1 < T.PREDICATES) (board_shown board.now []).untils }
-    ensures { result ≡ may_choose_by rules (chances_on order T.meaning (board_shown board.now (T.state object.now))) seat next }
+    ensures { result ≡ may_choose_by rules
+        (chances_on order T.meaning (board_shown board.now (T.state object.now))) seat next }
 {
     match next {
         Next::Stay => false,
@@ -82,7 +84,8 @@ fn may_signal<T: Guarded>(
     next: Next,
 ) -> bool
     requires { All (λ w. w.1 < T.PREDICATES) (board_shown board.now []).untils }
-    ensures { result ≡ may_signal_by rules (chances_on order T.meaning (board_shown board.now (T.state object.now))) seat next }
+    ensures { result ≡ may_signal_by rules
+        (chances_on order T.meaning (board_shown board.now (T.state object.now))) seat next }
 {
     match next {
         Next::Stay => { may_go(order, &board.signallers, seat) && rules.waiter <= rules.signaller }
@@ -101,7 +104,8 @@ pub(crate) fn permits<T: Guarded>(
     stays: bool,
 ) -> bool
     requires { All (λ w. w.1 < T.PREDICATES) (board_shown board.now []).untils }
-    ensures { result ≡ permits_by rules stays (chances_on order T.meaning (board_shown board.now (T.state object.now))) event }
+    ensures { result ≡ permits_by rules stays
+        (chances_on order T.meaning (board_shown board.now (T.state object.now))) event }
 {
     if stays {
         return event.choice() == Some(Next::Stay);

@@ -69,7 +69,8 @@ fn is_inside_open(board: &Board, seat: u8) -> bool
 
 /// Whether a wait of the seat can have run out now.
 pub(crate) fn can_lapse(order: Order, board: &Board, seat: u8) -> bool
-    ensures { result ≡ is_open (board_shown board.now []).turn && lines.may_lapse order seat (board_shown board.now []).items }
+    ensures { result ≡ is_open (board_shown board.now []).turn
+        && lines.may_lapse order seat (board_shown board.now []).items }
 {
     is_open(board.rest.turn()) && may_lapse(order, &board.items, seat)
 }
@@ -115,7 +116,8 @@ fn signal<T: Guarded>(
 ) -> LineVerdict
     requires { IsBoardOf setting.seats setting.conds T.PREDICATES board.now }
     ensures { course_or (board_shown board.now (T.state object.now)) result
-        ≡ stands.board_signal_over (monitor_in setting T.meaning) (board_shown board.now (T.state object.now)) seat cond }
+        ≡ stands.board_signal_over (monitor_in setting T.meaning)
+        (board_shown board.now (T.state object.now)) seat cond }
 {
     if setting.rules.mode == Mode::ImmediateReturn {
         let event = Event::SignalLeave(seat, cond, Next::Stay);
@@ -138,7 +140,8 @@ pub(crate) fn line_settled<T: Guarded>(
     requires { IsBoardOf setting.seats setting.conds T.PREDICATES board.old }
     ensures judged { IfOk result
         (λ v. course_or (board_shown board.new (T.state object.new)) v
-        ≡ stands.board_line_over order (monitor_in setting T.meaning) (board_shown board.old (T.state object.old)) line) }
+        ≡ stands.board_line_over order (monitor_in setting T.meaning)
+        (board_shown board.old (T.state object.old)) line) }
     ensures sound { OnOk result (IsBoardOf setting.seats setting.conds T.PREDICATES board.new) }
 {
     match line {
@@ -187,7 +190,8 @@ pub(crate) fn line_half<T: Guarded>(
 ) -> LineVerdict
     requires { IsBoardOf setting.seats setting.conds T.PREDICATES board.now }
     ensures { course_or (board_shown board.now (T.state object.now)) result
-        ≡ stands.board_half_over (monitor_in setting T.meaning) (board_shown board.now (T.state object.now)) seat cond line }
+        ≡ stands.board_half_over (monitor_in setting T.meaning)
+        (board_shown board.now (T.state object.now)) seat cond line }
 {
     match line {
         LogLine::Leave(other) if other == seat => {
@@ -219,7 +223,8 @@ pub(crate) fn line_behind<T: Guarded>(
         ≡ stands.board_behind_over order (monitor_in setting T.meaning)
         (board_shown board.old (T.state object.old)) pending line) }
     ensures sound { IfOk result
-        (λ v. (left : Pending) → v ≡ LineVerdict.Fits left → IsBoardOf setting.seats setting.conds T.PREDICATES board.new) }
+        (λ v. (left : Pending) → v ≡ LineVerdict.Fits left
+        → IsBoardOf setting.seats setting.conds T.PREDICATES board.new) }
 {
     match pending {
         Pending::Settled => line_settled(order, setting, board, object, line),

@@ -54,7 +54,8 @@ fn may_lapse_behind(
 
 /// Whether a wait of the seat can have run out, behind an event that has served. The board is left as it was.
 fn is_gone(order: Order, board: &mut Board, event: Event, seat: u8) -> Result<bool, AllocError>
-    ensures tells { IfOk result (λ r. r ≡ lines.may_lapse order seat ((board_shown board.old []).items ++ waiting_item event)) }
+    ensures tells { IfOk result (λ r. r
+        ≡ lines.may_lapse order seat ((board_shown board.old []).items ++ waiting_item event)) }
     ensures same { OnOk result ((state : List ℕ) → board_shown board.new state ≡ board_shown board.old state) }
     ensures sound { OnOk result ((seats conds predicates : ℕ) → IsBoardOf seats conds predicates board.old
         → IsBoardOf seats conds predicates board.new) }
@@ -69,7 +70,8 @@ fn is_lapse(is_gone: bool, reason: u8) -> bool
     is_gone && reason == ALLOWED
 }
 
-/// What is to blame of a seat that can't have gone on, by what is to blame of it as it stands and whether its wait can have run out.
+/// What is to blame of a seat that can't have gone on, by what is to blame of it as it stands and
+/// whether its wait can have run out.
 fn either_blame(blame: Blame, is_gone: bool) -> Blame
     ensures { result ≡ reads.either_blame blame (if is_gone then blames.Choice else blames.Served) }
 {
@@ -97,7 +99,8 @@ fn line_chosen<T: Guarded>(
         ≡ stands.board_line_over order (monitor_in setting T.meaning)
         (moves.board_moved stays (board_shown board.old (T.state object.old)) told) line) }
     ensures sound { IfOk result
-        (λ v. (left : Pending) → v ≡ LineVerdict.Fits left → IsBoardOf setting.seats setting.conds T.PREDICATES board.new) }
+        (λ v. (left : Pending) → v ≡ LineVerdict.Fits left
+        → IsBoardOf setting.seats setting.conds T.PREDICATES board.new) }
 {
     board.settle(setting.alloc, told, stays)?;
     line_settled(order, setting, board, object, line)
@@ -113,14 +116,16 @@ fn resume_told<T: Guarded>(
     seat: u8,
 ) -> Result<LineVerdict, AllocError>
     requires sound { IsBoardOf setting.seats setting.conds T.PREDICATES board.old }
-    requires called { MayCallIn (monitor_in setting T.meaning) (sight (board_shown board.old (T.state object.old))) event }
+    requires called { MayCallIn (monitor_in setting T.meaning)
+        (sight (board_shown board.old (T.state object.old))) event }
     requires release { next_of event ≡ Some Next.Stay }
     ensures judged { IfOk result
         (λ v. course_or (board_shown board.new (T.state object.new)) v
         ≡ reads.board_read_over Lapses.Allowed order (monitor_in setting T.meaning)
         (board_shown board.old (T.state object.old)) (Pending.Release event) (LogLine.Resume seat)) }
     ensures sound { IfOk result
-        (λ v. (left : Pending) → v ≡ LineVerdict.Fits left → IsBoardOf setting.seats setting.conds T.PREDICATES board.new) }
+        (λ v. (left : Pending) → v ≡ LineVerdict.Fits left
+        → IsBoardOf setting.seats setting.conds T.PREDICATES board.new) }
 {
     let stays = board.must_stay(object, event);
     board.serve(event)?;
@@ -157,7 +162,8 @@ fn resume_told<T: Guarded>(
 
 /// What a seat that goes on tells where each event before is known: that its wait ran out, where it can have.
 fn settled_line(order: Order, board: &Board, seat: u8) -> LogLine
-    ensures { result ≡ (if is_open (board_shown board.now []).turn && lines.may_lapse order seat (board_shown board.now []).items
+    ensures { result ≡ (if is_open (board_shown board.now []).turn
+        && lines.may_lapse order seat (board_shown board.now []).items
         then LogLine.Lapse seat else LogLine.Resume seat) }
 {
     if can_lapse(order, board, seat) {
@@ -183,7 +189,8 @@ fn resume_read<T: Guarded>(
         ≡ reads.board_read_over Lapses.Allowed order (monitor_in setting T.meaning)
         (board_shown board.old (T.state object.old)) pending (LogLine.Resume seat)) }
     ensures sound { IfOk result
-        (λ v. (left : Pending) → v ≡ LineVerdict.Fits left → IsBoardOf setting.seats setting.conds T.PREDICATES board.new) }
+        (λ v. (left : Pending) → v ≡ LineVerdict.Fits left
+        → IsBoardOf setting.seats setting.conds T.PREDICATES board.new) }
 {
     match pending {
         Pending::Settled => {
@@ -198,8 +205,8 @@ fn resume_read<T: Guarded>(
     }
 }
 
-/// A line of a log, by what is still to be known of the last event before it. Where lapses are allowed, a `resume` that can't be of
-/// a seat that a release chose is of one whose wait ran out.
+/// A line of a log, by what is still to be known of the last event before it. Where lapses are
+/// allowed, a `resume` that can't be of a seat that a release chose is of one whose wait ran out.
 #[inline(always)]
 pub(crate) fn line_read<T: Guarded>(
     lapses: Lapses,
@@ -217,7 +224,8 @@ pub(crate) fn line_read<T: Guarded>(
         ≡ reads.board_read_over lapses order (monitor_in setting T.meaning)
         (board_shown board.old (T.state object.old)) pending line) }
     ensures sound { IfOk result
-        (λ v. (left : Pending) → v ≡ LineVerdict.Fits left → IsBoardOf setting.seats setting.conds T.PREDICATES board.new) }
+        (λ v. (left : Pending) → v ≡ LineVerdict.Fits left
+        → IsBoardOf setting.seats setting.conds T.PREDICATES board.new) }
 {
     match lapses {
         Lapses::Told => line_behind(order, setting, board, object, pending, line),

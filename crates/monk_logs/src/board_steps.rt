@@ -24,8 +24,8 @@ use std::alloc::AllocError;
 /// What stands for no test that an event fails.
 pub(crate) const ALLOWED: u8 = 0;
 
-/// The first test that an event fails, or 0, on a board that has served, where it is known whether the event must stay. The
-/// reply of an act is not tested.
+/// The first test that an event fails, or 0, on a board that has served, where it is known whether
+/// the event must stay. The reply of an act is not tested.
 #[inline(always)]
 pub(crate) fn served_reason<T: Guarded>(
     order: Order,
@@ -51,8 +51,8 @@ pub(crate) fn served_reason<T: Guarded>(
     }
 }
 
-/// Adds an event that is no act, if it is allowed. Gives the first test that it fails, or 0; where it fails one, the board is of
-/// no further use.
+/// Adds an event that is no act, if it is allowed. Gives the first test that it fails, or 0; where
+/// it fails one, the board is of no further use.
 #[inline(always)]
 fn choose<T: Guarded>(
     order: Order,
@@ -174,7 +174,8 @@ pub(crate) fn hold<T: Guarded>(
     requires sound { IsBoardOf setting.seats setting.conds T.PREDICATES board.now }
     requires no_enter { via_of event ≡ None }
     ensures { course_or (board_shown board.now (T.state object.now)) result
-        ≡ stands.board_hold_over (monitor_in setting T.meaning) (board_shown board.now (T.state object.now)) event pending }
+        ≡ stands.board_hold_over (monitor_in setting T.meaning)
+        (board_shown board.now (T.state object.now)) event pending }
 {
     let reason = board.call_reason(setting, object, event);
     if reason == ALLOWED {

@@ -143,7 +143,8 @@ fn choice_blame<T: Guarded>(
 ) -> Result<Blame, AllocError>
     requires { All (λ w. w.1 < T.PREDICATES) (board_shown board.old []).untils }
     ensures blame { IfOk result
-        (λ why. why ≡ moves.choice_blame_on order rules T.meaning (board_shown board.old (T.state object.now)) event line) }
+        (λ why. why ≡ moves.choice_blame_on order rules T.meaning
+        (board_shown board.old (T.state object.now)) event line) }
     ensures rest { board.new.rest ≡ board.old.rest }
 {
     match line {
@@ -159,8 +160,8 @@ fn choice_blame<T: Guarded>(
     }
 }
 
-/// The first of the tests of the turn and behind it that the line fails, behind a release that has served. The board and the
-/// object are of no further use.
+/// The first of the tests of the turn and behind it that the line fails, behind a release that has
+/// served. The board and the object are of no further use.
 fn late_blame<T: Guarded>(
     order: Order,
     setting: Setting,
@@ -188,8 +189,8 @@ fn late_blame<T: Guarded>(
     }
 }
 
-/// What is to blame where the line can't stand behind the release, which has served. The board and the object are of no further
-/// use.
+/// What is to blame where the line can't stand behind the release, which has served. The board and
+/// the object are of no further use.
 pub(crate) fn release_blame<T: Guarded>(
     order: Order,
     setting: Setting,
@@ -211,8 +212,8 @@ pub(crate) fn release_blame<T: Guarded>(
     }
 }
 
-/// Carries out a release with the choice that the line tells, and gives it so; or else what is to blame. Then the board and the
-/// object are of no further use.
+/// Carries out a release with the choice that the line tells, and gives it so; or else what is to
+/// blame. Then the board and the object are of no further use.
 #[inline(always)]
 pub(crate) fn choose_told<T: Guarded>(
     order: Order,
@@ -223,14 +224,16 @@ pub(crate) fn choose_told<T: Guarded>(
     line: LogLine,
 ) -> Result<Result<Event, Blame>, AllocError>
     requires sound { IsBoardOf setting.seats setting.conds T.PREDICATES board.old }
-    requires called { MayCallIn (monitor_in setting T.meaning) (sight (board_shown board.old (T.state object.old))) event }
+    requires called { MayCallIn (monitor_in setting T.meaning)
+        (sight (board_shown board.old (T.state object.old))) event }
     requires release { next_of event ≡ Some Next.Stay }
     ensures chosen { IfOk result
         (λ r. stands.board_or (board_shown board.new (T.state object.new)) r
         ≡ stands.board_chosen order (monitor_in setting T.meaning)
         (board_shown board.old (T.state object.old)) event line) }
     ensures told { IfOk result
-        (λ r. (told : Event) → r ≡ Ok told → told ≡ board_told (board_shown board.old (T.state object.old)) event line) }
+        (λ r. (told : Event) → r ≡ Ok told
+        → told ≡ board_told (board_shown board.old (T.state object.old)) event line) }
     ensures sound { IfOk result
         (λ r. (told : Event) → r ≡ Ok told → IsBoardOf setting.seats setting.conds T.PREDICATES board.new) }
 {
@@ -256,14 +259,16 @@ pub(crate) fn line_told<T: Guarded>(
     line: LogLine,
 ) -> Result<LineVerdict, AllocError>
     requires sound { IsBoardOf setting.seats setting.conds T.PREDICATES board.old }
-    requires called { MayCallIn (monitor_in setting T.meaning) (sight (board_shown board.old (T.state object.old))) event }
+    requires called { MayCallIn (monitor_in setting T.meaning)
+        (sight (board_shown board.old (T.state object.old))) event }
     requires release { next_of event ≡ Some Next.Stay }
     ensures judged { IfOk result
         (λ v. course_or (board_shown board.new (T.state object.new)) v
         ≡ stands.board_told_over order (monitor_in setting T.meaning)
         (board_shown board.old (T.state object.old)) event line) }
     ensures sound { IfOk result
-        (λ v. (left : Pending) → v ≡ LineVerdict.Fits left → IsBoardOf setting.seats setting.conds T.PREDICATES board.new) }
+        (λ v. (left : Pending) → v ≡ LineVerdict.Fits left
+        → IsBoardOf setting.seats setting.conds T.PREDICATES board.new) }
 {
     match choose_told(order, setting, board, object, event, line)? {
         Ok(_) => line_settled(order, setting, board, object, line),

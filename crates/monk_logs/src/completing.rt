@@ -17,14 +17,16 @@ use monk_audit::AuditFault;
 use monk_kinds::KindName;
 use std::alloc::Global;
 
-/// Gives a history of a monitor of the kind that tells the log, with queues in order of arrival, over the object that the
-/// log's first line names; and else the first line with which no such history begins.
+/// Gives a history of a monitor of the kind that tells the log, with queues in order of arrival,
+/// over the object that the log's first line names; and else the first line with which no such
+/// history begins.
 ///
-/// The history is legal, and what a recorder would write down of it is the log. Two things a log may leave open at its end.
-/// Where it ends with a release, the history's last choice is the one that the kind's rules make without a wish: the caller
-/// stays where it must, entry has it where nobody waits inside, else a waiter where the priorities permit, else a signaller.
-/// Where it ends, under immediate return, with a signal, the signaller leaves, and the history tells one line more. A task
-/// that doesn't come in first is written as handed over, as it always may be.
+/// The history is legal, and what a recorder would write down of it is the log. Two things a log
+/// may leave open at its end. Where it ends with a release, the history's last choice is the one
+/// that the kind's rules make without a wish: the caller stays where it must, entry has it where
+/// nobody waits inside, else a waiter where the priorities permit, else a signaller. Where it ends,
+/// under immediate return, with a signal, the signaller leaves, and the history tells one line
+/// more. A task that doesn't come in first is written as handed over, as it always may be.
 ///
 /// # Errors
 ///

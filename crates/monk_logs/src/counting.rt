@@ -67,7 +67,8 @@ fn lacks_some_signal<T: Guarded>(object: &T, items: &[Item], means: &[WaitsFor])
 
 /// Whether the line lets the monitor go with such a signal missed.
 fn misses_signal<T: Guarded>(line: LogLine, object: &T, items: &[Item], means: &[WaitsFor]) -> bool
-    ensures { result ≡ tallies.lets_go line && tallies.lacks_some_signal T.meaning (T.state object.now) items.now means.now }
+    ensures { result ≡ tallies.lets_go line
+        && tallies.lacks_some_signal T.meaning (T.state object.now) items.now means.now }
 {
     lets_go(line) && lacks_some_signal(object, items, means)
 }
@@ -155,9 +156,9 @@ pub(crate) fn count_source<L: LineSource>(
     }
 }
 
-/// Counts what happens in the log, read as one of a monitor of the kind over the object that its first line names, in any order
-/// ([`Order::Any`]) and with lapses allowed ([`Lapses::Allowed`]), up to its first misfit there. `means` tells what
-/// those wait for who wait on a condition.
+/// Counts what happens in the log, read as one of a monitor of the kind over the object that its
+/// first line names, in any order ([`Order::Any`]) and with lapses allowed ([`Lapses::Allowed`]),
+/// up to its first misfit there. `means` tells what those wait for who wait on a condition.
 ///
 /// # Errors
 ///
@@ -166,8 +167,9 @@ pub(crate) fn count_source<L: LineSource>(
 ///
 /// # Cost
 ///
-/// One pass. A line takes time by how many seats wait on conditions and how many signals served there, and, where it lets the monitor
-/// go, by that for each of `means`. Memory for them, the queues and the object alone.
+/// One pass. A line takes time by how many seats wait on conditions and how many signals served
+/// there, and, where it lets the monitor go, by that for each of `means`. Memory for them, the
+/// queues and the object alone.
 pub fn count(
     alloc: Global,
     header: &LogHeader,

@@ -15,7 +15,8 @@ pub struct Counts {
     pub woken: u64,
     /// How many seats are inside at the end: those that came in and didn't leave.
     pub inside: u64,
-    /// The first line by which the monitor is let go while somebody waits for a predicate that holds, and nobody was signalled who
-    /// is still to come back. The lines behind the log's first one are counted from 1.
+    /// The first line by which the monitor is let go while somebody waits for a predicate that
+    /// holds, and nobody was signalled who is still to come back. The lines behind the log's first
+    /// one are counted from 1.
     pub missed: Option<u32>,
 }

@@ -50,7 +50,8 @@ fn until(seat: Option<u8>) -> Option<Next>
     }
 }
 
-/// The choice of the first that signals served; under automatic signalling of the first who is ready. The board has served.
+/// The choice of the first that signals served; under automatic signalling of the first who is
+/// ready. The board has served.
 fn inner_next<T: Guarded>(setting: Setting, board: &Board, object: &T) -> Option<Next>
     requires { IsBoardOf setting.seats setting.conds T.PREDICATES board.now }
     ensures { result ≡ ending.inner_on setting.rules T.meaning (board_shown board.now (T.state object.now)) }

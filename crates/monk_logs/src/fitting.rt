@@ -48,8 +48,8 @@ pub(crate) fn found_fit<L: LineSource>(
     }
 }
 
-/// The strictest order in which the log could be of a monitor of the kind; or else the first line with which it could be in no
-/// order.
+/// The strictest order in which the log could be of a monitor of the kind; or else the first line
+/// with which it could be in no order.
 ///
 /// # Errors
 ///
@@ -69,10 +69,13 @@ pub fn fit(
     requires { length lines.now ≤ most_lines }
     // It is an order exactly where the log is open in that order, and in no stricter one.
     ensures strictest { IfOk result
-        (λ f. (o : Order) → (f ≡ Fit.In o) ↔ IsStrictest (λ p. IsOpenWith lapses p (log_monitor kind header.now) lines.now) o) }
+        (λ f. (o : Order)
+        → (f ≡ Fit.In o) ↔ IsStrictest (λ p. IsOpenWith lapses p (log_monitor kind header.now) lines.now) o) }
     // It is a line exactly where that is the first with which the log is open in no order.
     ensures misfit { IfOk result
-        (λ f. (n : ℕ) → (misfit_line f ≡ Some n) ↔ IsFirstWithout (IsOpenWith lapses Order.Any (log_monitor kind header.now)) lines.now n) }
+        (λ f. (n : ℕ)
+        → (misfit_line f ≡ Some n) ↔ IsFirstWithout
+        (IsOpenWith lapses Order.Any (log_monitor kind header.now)) lines.now n) }
     // All else, and what is to blame, is as it is found line by line.
     ensures found { IfOk result (λ f. f ≡ fit_of lapses (log_monitor kind header.now) lines.now) }
     // The size is refused exactly where it is above the object's greatest.

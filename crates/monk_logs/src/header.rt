@@ -11,8 +11,8 @@ use monk_history::{MOST_CONDS, MOST_SEATS};
 use monk_object::ObjectName;
 use std::marker::Model;
 
-/// What stands before the lines of a log: a monitor of which the kind isn't known. Contracts see a `LogHeading` with the
-/// same parts.
+/// What stands before the lines of a log: a monitor of which the kind isn't known. Contracts see a
+/// `LogHeading` with the same parts.
 #[derive(Clone, Copy)]
 pub struct LogHeader {
     seats: u8,
@@ -34,8 +34,8 @@ impl Model for LogHeader {
 }
 
 impl LogHeader {
-    /// `None` unless there are 1 to [`MOST_SEATS`] seats, at most [`MOST_CONDS`] conditions and a size of 1 or more. The
-    /// greatest size of the object isn't tested here.
+    /// `None` unless there are 1 to [`MOST_SEATS`] seats, at most [`MOST_CONDS`] conditions and a
+    /// size of 1 or more. The greatest size of the object isn't tested here.
     pub fn new(seats: u8, conds: u8, object: ObjectName, size: u8) -> Option<LogHeader>
         ensures { result ≡ log_heading_of seats conds object size }
     {

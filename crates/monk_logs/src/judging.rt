@@ -53,12 +53,13 @@ pub fn judge(
     follow_log(alloc, header, lines, kind, &mut Past::Dropped)
 }
 
-/// Tells the same where queues are served in that order: whether some run begins with what the log tells, and else which line is the
-/// first with which none does. Under [`Order::Wake`] any seat of a queue may be chosen, and under [`Order::Any`] a signal may serve
-/// any seat of its condition as well; the priorities of the kind hold in each. A wait may run out, where a `lapse` tells it, and with
-/// [`Lapses::Allowed`] where a `resume` can't be of a seat that was served: then some reading of the log, in which some of its resumes
-/// are lapses, begins a run. Where lapses are only told, and the log tells of none, the verdict under [`Order::Fifo`] is that of
-/// [`judge`].
+/// Tells the same where queues are served in that order: whether some run begins with what the log
+/// tells, and else which line is the first with which none does. Under [`Order::Wake`] any seat of
+/// a queue may be chosen, and under [`Order::Any`] a signal may serve any seat of its condition as
+/// well; the priorities of the kind hold in each. A wait may run out, where a `lapse` tells it, and
+/// with [`Lapses::Allowed`] where a `resume` can't be of a seat that was served: then some reading
+/// of the log, in which some of its resumes are lapses, begins a run. Where lapses are only told,
+/// and the log tells of none, the verdict under [`Order::Fifo`] is that of [`judge`].
 ///
 /// # Errors
 ///
@@ -67,8 +68,8 @@ pub fn judge(
 ///
 /// # Cost
 ///
-/// One pass. A line takes time by how many seats wait on conditions and how many signals served there. Memory for them, the queues
-/// and the object alone.
+/// One pass. A line takes time by how many seats wait on conditions and how many signals served
+/// there. Memory for them, the queues and the object alone.
 pub fn judge_in(
     alloc: Global,
     header: &LogHeader,

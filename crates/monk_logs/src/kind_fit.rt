@@ -8,7 +8,7 @@ use crate::order::Order;
 pub enum Fit {
     /// The strictest order in which it could: in those that allow more it could as well.
     In(Order),
-    /// In none: under [`Order::Any`] this line is the first that can't be, counted from 1 behind the log's first, and that is to
-    /// blame.
+    /// In none: under [`Order::Any`] this line is the first that can't be, counted from 1 behind
+    /// the log's first, and that is to blame.
     Misfit { line: u32, blame: Blame },
 }

@@ -24,23 +24,26 @@ ghost use Rattle.monk_logs.specs.declared.step.Step.{Step};
 ghost use Rattle.monk_logs.specs.declared.step.Step.TheVariants.{Did};
 ghost use Rattle.monk_logs.specs.declared.verdict.LogVerdict.TheVariants.{Fits};
 
-/// No search is needed to tell whether a log could be of a monitor of a kind, in the order of its queues: judged line by line,
-/// it comes to its end exactly where some legal history begins with what the log tells. So the first line with which it
-/// doesn't is the first that no such history has.
+/// No search is needed to tell whether a log could be of a monitor of a kind, in the order of its
+/// queues: judged line by line, it comes to its end exactly where some legal history begins with
+/// what the log tells. So the first line with which it doesn't is the first that no such history
+/// has.
 pub fn judged_is_open()
     ensures { (m : Monitor) (log : List LogLine) → IsKind m.kind → IsTrue (is_some (judge m log)) ↔ IsOpen m log }
 {}
 
-/// Where any seat of a queue may be chosen, and a signal may serve any seat of its condition, whom it served is known only later,
-/// if at all. Yet one pass tells whether a monitor may do these steps: a board, which keeps who came to wait and what signals
-/// gave, takes all of them exactly where some run has them. In order of arrival too, where waits run out as well.
+/// Where any seat of a queue may be chosen, and a signal may serve any seat of its condition, whom
+/// it served is known only later, if at all. Yet one pass tells whether a monitor may do these
+/// steps: a board, which keeps who came to wait and what signals gave, takes all of them exactly
+/// where some run has them. In order of arrival too, where waits run out as well.
 pub fn boards_are_exact()
     ensures { (o : Order) → (m : Monitor) → (steps : List Step)
         → IsRun o m steps ↔ IsTrue (is_some (board_steps o m (opening_board m) steps)) }
 {}
 
-/// What a monitor may do in order of arrival it may do where any seat of a queue may be chosen, and what it may do then also where
-/// a signal may serve any seat of its condition. So a log that fits one of these orders fits those behind it.
+/// What a monitor may do in order of arrival it may do where any seat of a queue may be chosen, and
+/// what it may do then also where a signal may serve any seat of its condition. So a log that fits
+/// one of these orders fits those behind it.
 pub fn orders_widen()
     ensures wake { (m : Monitor) → (steps : List Step) → IsRun Fifo m steps → IsRun Wake m steps }
     ensures any { (m : Monitor) → (steps : List Step) → IsRun Wake m steps → IsRun Any m steps }
@@ -48,25 +51,25 @@ pub fn orders_widen()
     ensures any_logs { (m : Monitor) → (log : List LogLine) → IsOpenIn Wake m log → IsOpenIn Any m log }
 {}
 
-/// Whether a log could be of a monitor, in each order of its queues, one pass over its lines tells: over a board it is judged to its
-/// end exactly where some run begins with what it tells. So the first line at which that ends is the first with which no run
-/// begins.
+/// Whether a log could be of a monitor, in each order of its queues, one pass over its lines tells:
+/// over a board it is judged to its end exactly where some run begins with what it tells. So the
+/// first line at which that ends is the first with which no run begins.
 pub fn orders_are_exact()
     ensures { (o : Order) → (m : Monitor) → (log : List LogLine)
         → IsTrue (is_some (board_judge o m log)) ↔ IsOpenIn o m log }
 {}
 
-/// The same where a `resume` may tell of a wait that ran out: it is judged as it stands where it can be, and only else as a lapse.
-/// No search over the readings is needed: in every order that comes to the end exactly where some reading of the log is open, of a
-/// monitor of a kind.
+/// The same where a `resume` may tell of a wait that ran out: it is judged as it stands where it
+/// can be, and only else as a lapse. No search over the readings is needed: in every order that
+/// comes to the end exactly where some reading of the log is open, of a monitor of a kind.
 pub fn lapses_are_exact()
     ensures { (o : Order) → (m : Monitor) → IsKind m.kind → (x : Lapses) → (log : List LogLine)
         → IsTrue (is_some (judge_read x o m log)) ↔ IsOpenWith x o m log }
 {}
 
-/// So is the verdict that is found over a board, line by line, with what is to blame (`board_verdict`): it fits exactly where the log
-/// is judged to its end, and so where some run begins with what the log tells, and misfits exactly at the first line with which
-/// none begins.
+/// So is the verdict that is found over a board, line by line, with what is to blame
+/// (`board_verdict`): it fits exactly where the log is judged to its end, and so where some run
+/// begins with what the log tells, and misfits exactly at the first line with which none begins.
 pub fn board_verdicts_are_exact()
     ensures judged { (o : Order) → (m : Monitor) → (log : List LogLine)
         → (board_verdict o m log ≡ Fits) ↔ IsTrue (is_some (board_judge o m log)) }
@@ -76,11 +79,13 @@ pub fn board_verdicts_are_exact()
         → MisfitsExactlyIn o m log (board_verdict o m log) }
 {}
 
-/// In order of arrival, and where no wait runs out, a monitor may do what its rules allow, and no more: the runs of events are the
-/// legal histories. So a log that tells of no wait that ran out is open in order of arrival exactly where some legal history begins
-/// with what it tells; and the verdict on it over a board is that by the rules, with the same to blame.
+/// In order of arrival, and where no wait runs out, a monitor may do what its rules allow, and no
+/// more: the runs of events are the legal histories. So a log that tells of no wait that ran out is
+/// open in order of arrival exactly where some legal history begins with what it tells; and the
+/// verdict on it over a board is that by the rules, with the same to blame.
 pub fn fifo_is_legal()
     ensures runs { (m : Monitor) → (h : List Event) → IsRun Fifo m (map Did h) ↔ IsLegal m h }
     ensures logs { (m : Monitor) → (log : List LogLine) → has_lapse log ≡ false → IsOpenIn Fifo m log ↔ IsOpen m log }
-    ensures verdicts { (m : Monitor) → (log : List LogLine) → has_lapse log ≡ false → board_verdict Fifo m log ≡ verdict_on m log }
+    ensures verdicts { (m : Monitor) → (log : List LogLine) → has_lapse log ≡ false
+        → board_verdict Fifo m log ≡ verdict_on m log }
 {}

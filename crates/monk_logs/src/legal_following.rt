@@ -25,8 +25,8 @@ use monk_kinds::KindName;
 use monk_object::{Book, Buffer, Flags, Guarded, ObjectName, Shop};
 use std::alloc::{AllocError, Global};
 
-/// Judges the lines one after the other, over the object in its opening state. Where they fit and events are kept, those of a
-/// history that completes the log are.
+/// Judges the lines one after the other, over the object in its opening state. Where they fit and
+/// events are kept, those of a history that completes the log are.
 fn follow<T: Guarded>(
     alloc: Global,
     object: T,

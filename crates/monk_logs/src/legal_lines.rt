@@ -1,4 +1,5 @@
-//! One line of a log, judged over a board by the rules alone: in order of arrival, where no wait runs out. Then each line tells events.
+//! One line of a log, judged over a board by the rules alone: in order of arrival, where no wait
+//! runs out. Then each line tells events.
 
 ghost use Rattle.std.specs.Prelude.{◌≡◌, ℕ, List, Some, IfOk, OnOk};
 ghost use Rattle.monk_history.specs.declared.event.Next.{Next};
@@ -61,7 +62,8 @@ fn late_lapse_blame<T: Guarded>(
     seat: u8,
 ) -> Result<Blame, AllocError>
     requires sound { IsBoardOf setting.seats setting.conds T.PREDICATES board.old }
-    requires called { MayCallIn (monitor_in setting T.meaning) (sight (board_shown board.old (T.state object.old))) event }
+    requires called { MayCallIn (monitor_in setting T.meaning)
+        (sight (board_shown board.old (T.state object.old))) event }
     ensures { IfOk result
         (λ why. why ≡ legals.without_lapses (stands.board_release_blame Fifo (monitor_in setting T.meaning)
         (board_shown board.old (T.state object.old)) event (lines.Lapse seat))) }
@@ -123,7 +125,8 @@ fn line_alone<T: Guarded>(
     requires { IsBoardOf setting.seats setting.conds T.PREDICATES board.old }
     ensures judged { IfOk result
         (λ v. course_or (board_shown board.new (T.state object.new)) v
-        ≡ stands.board_line_over Fifo (monitor_in setting T.meaning) (board_shown board.old (T.state object.old)) line) }
+        ≡ stands.board_line_over Fifo (monitor_in setting T.meaning)
+        (board_shown board.old (T.state object.old)) line) }
     ensures sound { OnOk result (IsBoardOf setting.seats setting.conds T.PREDICATES board.new) }
     ensures kept { OnOk result ((state : List ℕ)
         → kept_events past.new ≡ kept_with (kept_events past.old) (own_events (board_shown board.old state) line)) }
@@ -142,14 +145,16 @@ fn line_behind_release<T: Guarded>(
     line: LogLine,
 ) -> Result<LineVerdict, AllocError>
     requires sound { IsBoardOf setting.seats setting.conds T.PREDICATES board.old }
-    requires called { MayCallIn (monitor_in setting T.meaning) (sight (board_shown board.old (T.state object.old))) event }
+    requires called { MayCallIn (monitor_in setting T.meaning)
+        (sight (board_shown board.old (T.state object.old))) event }
     requires release { next_of event ≡ Some Next.Stay }
     ensures judged { IfOk result
         (λ v. course_or (board_shown board.new (T.state object.new)) v
         ≡ stands.board_told_over Fifo (monitor_in setting T.meaning)
         (board_shown board.old (T.state object.old)) event line) }
     ensures sound { IfOk result
-        (λ v. (left : Pending) → v ≡ LineVerdict.Fits left → IsBoardOf setting.seats setting.conds T.PREDICATES board.new) }
+        (λ v. (left : Pending) → v ≡ LineVerdict.Fits left
+        → IsBoardOf setting.seats setting.conds T.PREDICATES board.new) }
     ensures kept { IfOk result
         (λ v. (left : Pending) → v ≡ LineVerdict.Fits left → kept_events past.new
         ≡ kept_with (kept_events past.old)
@@ -180,7 +185,8 @@ fn line_behind<T: Guarded>(
         ≡ stands.board_behind_over Fifo (monitor_in setting T.meaning)
         (board_shown board.old (T.state object.old)) pending line) }
     ensures sound { IfOk result
-        (λ v. (left : Pending) → v ≡ LineVerdict.Fits left → IsBoardOf setting.seats setting.conds T.PREDICATES board.new) }
+        (λ v. (left : Pending) → v ≡ LineVerdict.Fits left
+        → IsBoardOf setting.seats setting.conds T.PREDICATES board.new) }
     ensures kept { IfOk result
         (λ v. (left : Pending) → v ≡ LineVerdict.Fits left → kept_events past.new
         ≡ kept_with (kept_events past.old)
@@ -193,7 +199,8 @@ fn line_behind<T: Guarded>(
     }
 }
 
-/// A line, by what is still to be known of the last event before it, with the events that it tells, where they are kept.
+/// A line, by what is still to be known of the last event before it, with the events that it tells,
+/// where they are kept.
 pub(crate) fn line_known<T: Guarded>(
     setting: Setting,
     board: &mut Board,
@@ -206,9 +213,11 @@ pub(crate) fn line_known<T: Guarded>(
     requires held { IsHeldOver (monitor_in setting T.meaning) (board_shown board.old (T.state object.old)) pending }
     ensures judged { IfOk result
         (λ v. course_or (board_shown board.new (T.state object.new)) v
-        ≡ legals.legal_behind (monitor_in setting T.meaning) (board_shown board.old (T.state object.old)) pending line) }
+        ≡ legals.legal_behind (monitor_in setting T.meaning)
+        (board_shown board.old (T.state object.old)) pending line) }
     ensures sound { IfOk result
-        (λ v. (left : Pending) → v ≡ LineVerdict.Fits left → IsBoardOf setting.seats setting.conds T.PREDICATES board.new) }
+        (λ v. (left : Pending) → v ≡ LineVerdict.Fits left
+        → IsBoardOf setting.seats setting.conds T.PREDICATES board.new) }
     ensures kept { IfOk result
         (λ v. (left : Pending) → v ≡ LineVerdict.Fits left → kept_events past.new
         ≡ kept_with (kept_events past.old)

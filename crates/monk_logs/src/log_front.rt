@@ -1,5 +1,6 @@
-//! The line of a log that stands at the front of some bytes, read with no search for the line's end, where the line is short and
-//! each of its seats, conditions, predicates and codes has at most two digits. Recorders write such lines.
+//! The line of a log that stands at the front of some bytes, read with no search for the line's
+//! end, where the line is short and each of its seats, conditions, predicates and codes has at most
+//! two digits. Recorders write such lines.
 
 ghost use Rattle.std.specs.Prelude.{◌∷◌, [], ◌+◌, ◌≤◌, IfSome, length, codes, decimal};
 ghost use Rattle.monk_history.specs.Text.Lines.{line};

@@ -58,7 +58,8 @@ impl<'a> LogLines<'a> {
     /// One pass over the bytes, which keeps no line and takes no memory.
     pub fn check(bytes: &'a [u8]) -> Result<LogLines<'a>, ReadFault>
         // What is found has this text.
-        ensures found { IfOk result (λ l. HasLogText l.0 l.1 × (length l.1 ≤ most_lines) × (bytes.entry.now ≡ log_text l.0 l.1)) }
+        ensures found { IfOk result (λ l. HasLogText l.0 l.1 × (length l.1 ≤ most_lines)
+            × (bytes.entry.now ≡ log_text l.0 l.1)) }
         // What has a text is found in it.
         ensures only { (h : LogHeading) (ls : List LogLine) → HasLogText h ls → length ls ≤ most_lines
             → bytes.entry.now ≡ log_text h ls → result ≡ Ok (log h ls) }
@@ -103,12 +104,13 @@ impl<'a> LogLines<'a> {
     ///
     /// # Cost
     ///
-    /// In each order that is tried a pass over the text that is left, up to the first misfit there. Memory for the queues and the
-    /// object alone.
+    /// In each order that is tried a pass over the text that is left, up to the first misfit there.
+    /// Memory for the queues and the object alone.
     pub fn fit(&self, alloc: Global, kind: KindName, lapses: Lapses) -> Result<Fit, AuditFault>
         // It is an order exactly where the log is open in that order, and in no stricter one.
         ensures strictest { IfOk result
-            (λ f. (o : Order) → (f ≡ Fit.In o) ↔ IsStrictest (λ p. IsOpenWith lapses p (log_monitor kind self.now.0) self.now.1) o) }
+            (λ f. (o : Order)
+            → (f ≡ Fit.In o) ↔ IsStrictest (λ p. IsOpenWith lapses p (log_monitor kind self.now.0) self.now.1) o) }
         // It is a line exactly where that is the first with which the log is open in no order.
         ensures misfit { IfOk result
             (λ f. (n : ℕ) → (misfit_line f ≡ Some n)

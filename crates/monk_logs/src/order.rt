@@ -8,8 +8,8 @@ ghost use Rattle.monk_logs.specs.Fit.{order_word};
 pub enum Order {
     /// First come, first served, in each queue.
     Fifo,
-    /// Conditions serve in order of arrival. Of the seats that were served, of those that signalled, and of those whose predicate
-    /// holds, any may be chosen.
+    /// Conditions serve in order of arrival. Of the seats that were served, of those that
+    /// signalled, and of those whose predicate holds, any may be chosen.
     Wake,
     /// As `Wake`, and a signal may serve any seat that waits on its condition.
     Any,

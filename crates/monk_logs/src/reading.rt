@@ -20,15 +20,15 @@ pub const MOST_LOG_LINES: u32 = MOST_LINES;
 /// The header and the lines of the log, or the first fault of its text.
 ///
 /// Each line ends by one byte 10, and exactly one byte 32 separates the words of a line. The first line is
-/// `log VERSION SEATS CONDS OBJECT SIZE`, as behind the kind in the header of a history; the version is 2 where the object is
-/// flags, else 1. Each further line is one of
+/// `log VERSION SEATS CONDS OBJECT SIZE`, as behind the kind in the header of a history; the
+/// version is 2 where the object is flags, else 1. Each further line is one of
 ///
 /// - `enter SEAT`, `resume SEAT`, `lapse SEAT`, `leave SEAT`;
 /// - `wait SEAT COND`, `signal SEAT COND`, `broadcast SEAT COND`, `until SEAT PRED`;
 /// - `act SEAT CODE ARG REPLY`.
 ///
-/// A seat, a code, a condition and a predicate are 0 to 255, an argument 0 to 2^32 - 1, a reply 0 to 2^64 - 1; whether the
-/// monitor has them isn't tested here.
+/// A seat, a code, a condition and a predicate are 0 to 255, an argument 0 to 2^32 - 1, a reply 0
+/// to 2^64 - 1; whether the monitor has them isn't tested here.
 ///
 /// # Errors
 ///

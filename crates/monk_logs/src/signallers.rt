@@ -53,7 +53,8 @@ fn chosen(event: Event, stays: bool) -> Option<u8>
 /// Takes out whom the event chose, or its caller, which joined and stays.
 #[inline(always)]
 pub(crate) fn take_chosen(signallers: &mut Vec<u8>, event: Event, stays: bool)
-    ensures { signallers.new.items ≡ apart (taken_signaller (next_of event) (joined_by stays event)) signallers.old.items }
+    ensures { signallers.new.items ≡ apart
+        (taken_signaller (next_of event) (joined_by stays event)) signallers.old.items }
 {
     match chosen(event, stays) {
         Some(seat) => leave(signallers, seat),

@@ -59,8 +59,8 @@ impl Tally {
         missed: None,
     };
 
-    /// With a line more, by its number, by how many seats are to come back before it and behind it, and by whether a signal is
-    /// missed there.
+    /// With a line more, by its number, by how many seats are to come back before it and behind it,
+    /// and by whether a signal is missed there.
     pub(crate) fn with_line(
         self,
         number: u32,

@@ -7,6 +7,7 @@ use crate::blame::Blame;
 pub enum LogVerdict {
     /// Some legal history begins with what the log tells.
     Fits,
-    /// The first line with which none does, and what is to blame. The lines behind the log's first one are counted from 1.
+    /// The first line with which none does, and what is to blame. The lines behind the log's first
+    /// one are counted from 1.
     Misfit { line: u32, blame: Blame },
 }

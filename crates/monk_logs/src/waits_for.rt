@@ -1,7 +1,7 @@
 //! What those wait for who wait on a condition.
 
-/// Those who wait on the condition wait until the predicate of the object holds. So somebody has to be signalled there where it
-/// holds.
+/// Those who wait on the condition wait until the predicate of the object holds. So somebody has to
+/// be signalled there where it holds.
 #[derive(Clone, Copy, Debug, PartialEq, Eq)]
 pub struct WaitsFor {
     /// The condition, from 0. A log with fewer conditions has nobody who waits there.

@@ -17,7 +17,8 @@ by_code P p0 p1 p2 p3 other (suc (suc zero)) = p2
 by_code P p0 p1 p2 p3 other (suc (suc (suc zero))) = p3
 by_code P p0 p1 p2 p3 other (suc (suc (suc (suc n)))) =
     let c : ℕ = suc (suc (suc (suc n))) in
-    other c (ne_eqb c 0 (λ h. omega arith)) (ne_eqb c 1 (λ h. omega arith)) (ne_eqb c 2 (λ h. omega arith)) (ne_eqb c 3 (λ h. omega arith))
+    other c (ne_eqb c 0 (λ h. omega arith)) (ne_eqb c 1 (λ h. omega arith)) (ne_eqb c 2 (λ h. omega arith))
+    (ne_eqb c 3 (λ h. omega arith))
 
 -- what an operation of this code adds to the times that k was done
 abbrev pub once : ℕ → ℕ → Bool → ℕ
@@ -34,7 +35,8 @@ times_done-cons : (code : ℕ) (act : Answered) (acts : List Answered)
     → times_done code (act ∷ acts) ≡ cond (is_done code act) 1 0 + times_done code acts
 times_done-cons code act acts = sum_by-cons (λ a. cond (is_done code a) 1 0) act acts
 
-joined : (first second rest others before between after : ℕ) → first + before ≡ second + between → rest + between ≡ others + after
+joined : (first second rest others before between after : ℕ) → first + before ≡ second + between
+    → rest + between ≡ others + after
     → first + rest + before ≡ second + others + after
 joined first second rest others before between after one more = omega arith
 

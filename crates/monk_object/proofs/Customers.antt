@@ -21,9 +21,11 @@ record Step (size sitting chair code : ℕ) (served : Bool) (next : List ℕ) : 
   finished : once FINISH code served + where_it_is 2 chair ≡ once DEPART code served + where_it_is 2 chair_next
 
 done : (size sitting chair : ℕ) → sitting ≤ size → (code : ℕ)
-    → shop_serves size sitting chair code ≡ true → Step size sitting chair code true (shop_served size sitting chair code)
+    → shop_serves size sitting chair code ≡ true
+    → Step size sitting chair code true (shop_served size sitting chair code)
 done size sitting chair within = by_code
-    (λ code. shop_serves size sitting chair code ≡ true → Step size sitting chair code true (shop_served size sitting chair code))
+    (λ code. shop_serves size sitting chair code ≡ true
+    → Step size sitting chair code true (shop_served size sitting chair code))
     (λ e. let less : sitting < size = ltb-true _ _ e in
     record {
       sitting_next = sitting + 1;
@@ -73,8 +75,10 @@ done size sitting chair within = by_code
         → shop_serves size sitting chair code ≡ true → ⊥
     none code n0 n1 n2 n3 e = let f : false ≡ true = rw (n0, n1, n2, n3) at e in absurd cc
 
-step : (size sitting chair : ℕ) → sitting ≤ size → (code : ℕ) (served : Bool) → shop_serves size sitting chair code ≡ served
-    → Step size sitting chair code served (cond served (shop_served size sitting chair code) (size ∷ sitting ∷ chair ∷ []))
+step : (size sitting chair : ℕ) → sitting ≤ size → (code : ℕ) (served : Bool)
+    → shop_serves size sitting chair code ≡ served
+    → Step size sitting chair code served
+    (cond served (shop_served size sitting chair code) (size ∷ sitting ∷ chair ∷ []))
 step size sitting chair within code true e = done size sitting chair within code e
 step size sitting chair within code false e = record {
   sitting_next = sitting;
@@ -92,15 +96,25 @@ record Run (size sitting chair : ℕ) (start : List ℕ) (ops : List Op) : Type 
   chair_last : ℕ
   state : state_after shop_meaning start ops ≡ size ∷ sitting_last ∷ chair_last ∷ []
   within : sitting_last ≤ size
-  sat : times_done SIT (answers_of shop_meaning start ops) + sitting ≡ times_done CALL (answers_of shop_meaning start ops) + sitting_last
+  sat : times_done SIT (answers_of shop_meaning start ops) + sitting
+      ≡ times_done CALL (answers_of shop_meaning start ops) + sitting_last
   called : times_done CALL (answers_of shop_meaning start ops) + where_it_is 1 chair ≡ times_done FINISH
       (answers_of shop_meaning start ops) + where_it_is 1 chair_last
   finished : times_done FINISH (answers_of shop_meaning start ops) + where_it_is 2 chair ≡ times_done DEPART
       (answers_of shop_meaning start ops) + where_it_is 2 chair_last
 
-run : (size sitting chair : ℕ) → sitting ≤ size → (ops : List Op) → Run size sitting chair (size ∷ sitting ∷ chair ∷ []) ops
+run : (size sitting chair : ℕ) → sitting ≤ size → (ops : List Op)
+    → Run size sitting chair (size ∷ sitting ∷ chair ∷ []) ops
 run size sitting chair within [] =
-    record { sitting_last = sitting; chair_last = chair; state = refl; within = within; sat = refl; called = refl; finished = refl }
+    record {
+      sitting_last = sitting;
+      chair_last = chair;
+      state = refl;
+      within = within;
+      sat = refl;
+      called = refl;
+      finished = refl;
+    }
 run size sitting chair within (op ∷ ops) =
     let s = step size sitting chair within op.code (shop_serves size sitting chair op.code) refl in
     let r = subst (λ start. Run size s.sitting_next s.chair_next start ops) (sym s.state)

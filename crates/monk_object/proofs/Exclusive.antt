@@ -22,9 +22,11 @@ record Step (size readers writers code : ℕ) (served : Bool) (next : List ℕ) 
   writes : once START_WRITE code served + writers ≡ once END_WRITE code served + writers_next
 
 done : (size readers writers : ℕ) → readers ≤ size → writers ≤ 1 → (readers ≡ 0) ⊎ (writers ≡ 0) → (code : ℕ)
-    → book_serves size readers writers code ≡ true → Step size readers writers code true (book_served size readers writers code)
+    → book_serves size readers writers code ≡ true
+    → Step size readers writers code true (book_served size readers writers code)
 done size readers writers within one alone = by_code
-    (λ code. book_serves size readers writers code ≡ true → Step size readers writers code true (book_served size readers writers code))
+    (λ code. book_serves size readers writers code ≡ true
+    → Step size readers writers code true (book_served size readers writers code))
     (λ e. let parts = both (writers == 0) (nat_lt readers size) e in
     let none : writers ≡ 0 = eqb-true _ _ parts.0 in
     let less : readers < size = ltb-true _ _ parts.1 in
@@ -82,9 +84,11 @@ done size readers writers within one alone = by_code
         → book_serves size readers writers code ≡ true → ⊥
     none code n0 n1 n2 n3 e = let f : false ≡ true = rw (n0, n1, n2, n3) at e in absurd cc
 
-step : (size readers writers : ℕ) → readers ≤ size → writers ≤ 1 → (readers ≡ 0) ⊎ (writers ≡ 0) → (code : ℕ) (served : Bool)
+step : (size readers writers : ℕ) → readers ≤ size → writers ≤ 1 → (readers ≡ 0) ⊎ (writers ≡ 0)
+    → (code : ℕ) (served : Bool)
     → book_serves size readers writers code ≡ served
-    → Step size readers writers code served (cond served (book_served size readers writers code) (size ∷ readers ∷ writers ∷ []))
+    → Step size readers writers code served
+    (cond served (book_served size readers writers code) (size ∷ readers ∷ writers ∷ []))
 step size readers writers within one alone code true e = done size readers writers within one alone code e
 step size readers writers within one alone code false e = record {
   readers_next = readers;

@@ -35,7 +35,8 @@ step_by false true room (x ∷ xs) arg one =
     rw (above, item) (append-nil (x ∷ xs))
 step_by false false room items arg one = append-nil items
 
-fits_by : (size : ℕ) (put take room : Bool) (items : List ℕ) (arg : ℕ) → length items ≤ size → (room ≡ true → length items < size)
+fits_by : (size : ℕ) (put take room : Bool) (items : List ℕ) (arg : ℕ) → length items ≤ size
+    → (room ≡ true → length items < size)
     → length (after_by put take room items arg) ≤ size
 fits_by size true take true items arg fits less = omega (arith, less refl, length-append items (arg ∷ []))
 fits_by size true take false items arg fits less = fits
@@ -81,7 +82,8 @@ run size items (op ∷ ops) fits =
           ∙ (append_assoc (taken_by take reply) next (items_put acts)
           ∙ (ap (λ xs. taken_by take reply ++ xs) rest.in_order
           ∙ (sym (append_assoc (taken_by take reply) (items_taken acts) rest.left)
-          ∙ ap (λ xs. xs ++ rest.left) (sym (mapped (λ a. a.reply - 1) (is_done TAKE act) act (filter (is_done TAKE) acts))))))));
+          ∙ ap (λ xs. xs
+          ++ rest.left) (sym (mapped (λ a. a.reply - 1) (is_done TAKE act) act (filter (is_done TAKE) acts))))))));
       within = rest.within;
     }
 

@@ -57,7 +57,9 @@ run size bits within (op ∷ ops) =
     let fits = nat_lt op.arg (2 ^ size) in
     let next = bits_by (code && fits) op.arg bits in
     let start : flags_after (size ∷ bits ∷ []) op ≡ size ∷ next ∷ [] = next_state (code && fits) size bits op.arg in
-    let rest = run size next (next_within (code && fits) size bits op.arg within (λ e. ltb-true _ _ (both code fits e).1)) ops in
+    let rest =
+    run size next (next_within (code && fits) size bits op.arg within
+    (λ e. ltb-true _ _ (both code fits e).1)) ops in
     let act : Answered = record { op = op; reply = flags_reply (size ∷ bits ∷ []) op } in
     let acts = answers_of flags_meaning (size ∷ next ∷ []) ops in
     let g = goes code fits bits op.arg (bits_set acts) rest.earlier rest.last rest.in_order in

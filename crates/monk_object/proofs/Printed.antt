@@ -28,4 +28,5 @@ pub bits_more : (bits i : ℕ) (b : Bool) → (bit_at bits i == 1) ≡ b
     → bits_below bits (i + 1) ≡ bits_below bits i ++ cond b (codes " " ++ decimal i) []
 bits_more bits i b is =
     let e : suc i ≡ i + 1 = omega arith in
-    subst (λ (n : ℕ). bits_below bits n ≡ bits_below bits i ++ cond b (codes " " ++ decimal i) []) e (bits_next bits i b is)
+    subst (λ (n : ℕ). bits_below bits n ≡ bits_below bits i ++ cond b (codes " " ++ decimal i) []) e
+    (bits_next bits i b is)

@@ -10,7 +10,8 @@ use Rattle.monk_object.specs.declared.name.ObjectName.{ObjectName}
 use Rattle.monk_object.specs.declared.name.ObjectName.TheVariants.{Buffer, Book, Shop, Flags}
 use Rattle.monk_object.specs.declared.op.Op.{Op}
 
-items_stay : (put take room : Bool) (items : List ℕ) (arg : ℕ) → ◌≡◌ {A = ℕ} (cond put (cond room 1 0) (cond take (take_reply items) 0)) 0
+items_stay : (put take room : Bool) (items : List ℕ) (arg : ℕ)
+    → ◌≡◌ {A = ℕ} (cond put (cond room 1 0) (cond take (take_reply items) 0)) 0
     → cond put (cond room (items ++ arg ∷ []) items) (cond take (drop 1 items) items) ≡ items
 items_stay true take true items arg e = absurd (omega (arith, e))
 items_stay true take false items arg e = refl
@@ -30,12 +31,14 @@ refused Book [] op e = refl
 refused Book (size ∷ []) op e = refl
 refused Book (size ∷ readers ∷ []) op e = refl
 refused Book (size ∷ readers ∷ writing ∷ more) op e =
-    state_stays (book_serves size readers writing op.code) (book_served size readers writing op.code) (size ∷ readers ∷ writing ∷ more) e
+    state_stays (book_serves size readers writing op.code) (book_served size readers writing op.code)
+    (size ∷ readers ∷ writing ∷ more) e
 refused Shop [] op e = refl
 refused Shop (size ∷ []) op e = refl
 refused Shop (size ∷ sitting ∷ []) op e = refl
 refused Shop (size ∷ sitting ∷ chair ∷ more) op e =
-    state_stays (shop_serves size sitting chair op.code) (shop_served size sitting chair op.code) (size ∷ sitting ∷ chair ∷ more) e
+    state_stays (shop_serves size sitting chair op.code) (shop_served size sitting chair op.code)
+    (size ∷ sitting ∷ chair ∷ more) e
 refused Flags [] op e = refl
 refused Flags (size ∷ []) op e = refl
 refused Flags (size ∷ bits ∷ more) op e = state_stays (flags_serves size op) (size ∷ op.arg ∷ []) (size ∷ bits ∷ more) e

@@ -50,8 +50,10 @@ pub record LosesNoCustomer (size : ℕ) (ops : List Op) : Type 0 where
   pub state : state_of Shop size ops ≡ size ∷ sitting ∷ chair ∷ []
   pub within : sitting ≤ size
   pub sat : times_done SIT (acts_of Shop size ops) ≡ times_done CALL (acts_of Shop size ops) + sitting
-  pub called : times_done CALL (acts_of Shop size ops) ≡ times_done FINISH (acts_of Shop size ops) + (if chair == 1 then 1 else 0)
-  pub finished : times_done FINISH (acts_of Shop size ops) ≡ times_done DEPART (acts_of Shop size ops) + (if chair == 2 then 1 else 0)
+  pub called : times_done CALL (acts_of Shop size ops)
+      ≡ times_done FINISH (acts_of Shop size ops) + (if chair == 1 then 1 else 0)
+  pub finished : times_done FINISH (acts_of Shop size ops)
+      ≡ times_done DEPART (acts_of Shop size ops) + (if chair == 2 then 1 else 0)
 
 abbrev pub bits_set : List Answered → List ℕ
 bits_set acts = map (λ act. act.op.arg) (filter (is_done SET) acts)

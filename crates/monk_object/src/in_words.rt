@@ -8,9 +8,10 @@ ghost use Rattle.monk_object.specs.InWords.{how_many, items_in_words, shop_in_wo
 use crate::name::ObjectName;
 use std::fmt;
 
-/// The state of an object in words, as a reader sees it: `buffer of 1: 7`, `2 read, none writes`, `none sits, chair empty` or
-/// `bits set: 0 3`. `state` is the object's list of whole numbers, as [`Listed`](crate::Listed) gives it. A number that the list
-/// lacks is taken as 0. Printing takes no memory of its own, and time as long as the list.
+/// The state of an object in words, as a reader sees it: `buffer of 1: 7`, `2 read, none writes`,
+/// `none sits, chair empty` or `bits set: 0 3`. `state` is the object's list of whole numbers, as
+/// [`Listed`](crate::Listed) gives it. A number that the list lacks is taken as 0. Printing takes
+/// no memory of its own, and time as long as the list.
 #[derive(Clone, Copy)]
 pub struct InWords<'a> {
     /// Which object it is.

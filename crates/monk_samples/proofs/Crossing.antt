@@ -26,10 +26,14 @@ worker_send ℓ K T R G k t sk st yr yg =
       pass_send K T k t sk st,
       (
         search sendable,
-        (search (sendable, hall) depth 20, (search sendable, (search sendable depth 20, (search (sendable, line_sync) depth 20, tt)))),
+        (
+          search (sendable, hall) depth 20,
+          (search sendable, (search sendable depth 20, (search (sendable, line_sync) depth 20, tt))),
+        ),
       ),
     ) in
-    recorded_send _ _ _ ((Worker.the_type ℓ K T R G k t).to_one) (struct_send (shape (Worker.the_type ℓ K T R G k t)) all)
+    recorded_send _ _ _ ((Worker.the_type ℓ K T R G k t).to_one)
+    (struct_send (shape (Worker.the_type ℓ K T R G k t)) all)
 
 pub buffer_send : IsSend Buffer.the_row
 buffer_send = search (sendable, crosses, Cells-send, Deed-send) depth 40 fits 100000

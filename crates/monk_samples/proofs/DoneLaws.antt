@@ -46,7 +46,8 @@ sure_then code [] ws s t = t
 sure_then code (v ∷ vs) ws s t = (s.0, sure_then code vs ws s.1 t)
 
 -- nobody calls for a coming, and it does no operation
-own_act : (before : List Event) (e : Event) (own : List Addition) → acts_in (events_in own) ≡ acts_in (events_in (calls_in own))
+own_act : (before : List Event) (e : Event) (own : List Addition)
+    → acts_in (events_in own) ≡ acts_in (events_in (calls_in own))
     → acts_in (events_in (record { before = before; event = e } ∷ own))
     ≡ acts_in (events_in (calls_in (record { before = before; event = e } ∷ own)))
 own_act before (Enter s via) own same = same
@@ -103,7 +104,8 @@ module _ (k : Rules) (o : Object) where
       + (ap (sum_by (worth code f)) (miss_acts c s v are.rest are.is_rest) ∙ alone _ ∙ worth_nothing code f v.op) i)
 
   -- a visit of that code, which is sure, has got it done
-  worth_here : (code : ℕ) (f : Op → ℕ) (w : Option Guard) (op : Op) (reply : ℕ) → IsSureFor w (op.code == code) → IsCertain w reply
+  worth_here : (code : ℕ) (f : Op → ℕ) (w : Option Guard) (op : Op) (reply : ℕ) → IsSureFor w (op.code == code)
+      → IsCertain w reply
       → worth code f (record { op = op; reply = reply }) ≡ cond (op.code == code) (f op) 0
   worth_here code f None op reply sure certain =
       ap (λ b. cond (b && nat_lt 0 reply) (f op) 0) sure ∙ sym (ap (λ b. cond b (f op) 0) sure)
@@ -113,7 +115,8 @@ module _ (k : Rules) (o : Object) where
       by true = ap (λ b. cond b (f op) 0) (lt-ltb 0 reply certain)
       by false = refl
 
-  visit_worth : (code : ℕ) (f : Op → ℕ) (c : Setting) (s : ℕ) (v : Plan) (calls : List Addition) → IsVisit k o c s v calls
+  visit_worth : (code : ℕ) (f : Op → ℕ) (c : Setting) (s : ℕ) (v : Plan) (calls : List Addition)
+      → IsVisit k o c s v calls
       → IsSure code v → sum_by (worth code f) (acts_in (events_in calls)) ≡ planned code f v
   visit_worth code f c s v calls is sure = let tries = is.tries in
       ap (λ ds. sum_by (worth code f) (acts_in (events_in ds))) tries.are
@@ -132,7 +135,8 @@ module _ (k : Rules) (o : Object) where
       ap (λ ds. sum_by (worth code f) (acts_in (events_in ds))) are.are
       ∙ ap (sum_by (worth code f)) (acts_append k o are.first are.rest)
       ∙ sum_by-append (worth code f) (acts_in (events_in are.first)) (acts_in (events_in are.rest))
-      ∙ (λ i. visit_worth code f c s v are.first are.is_first sure.0 i + visits_worth code f c s vs are.rest are.is_rest sure.1 i)
+      ∙ (λ i. visit_worth code f c s v are.first are.is_first sure.0 i
+      + visits_worth code f c s vs are.rest are.is_rest sure.1 i)
       ∙ sym (sum_by-cons (planned code f) v vs)
 
   -- a seat without events before has done what its visits planned
@@ -145,7 +149,8 @@ module _ (k : Rules) (o : Object) where
       ∙ visits_worth code f p.me.setting p.me.seat vs calls are sure
 
 -- what the rounds of a seat are worth, each the same
-pub rounds_worth : (code : ℕ) (f : Op → ℕ) (round : ℕ → List Plan) (each n : ℕ) → ((r : ℕ) → sum_by (planned code f) (round r) ≡ each)
+pub rounds_worth : (code : ℕ) (f : Op → ℕ) (round : ℕ → List Plan) (each n : ℕ)
+    → ((r : ℕ) → sum_by (planned code f) (round r) ≡ each)
     → sum_by (planned code f) (rounds_to round n) ≡ n * each
 rounds_worth code f round each zero same = omega arith
 rounds_worth code f round each (suc n) same =
@@ -157,12 +162,16 @@ abbrev pub sum_to : ℕ → ℕ
 sum_to zero = 0
 sum_to (suc n) = sum_to n + suc n
 
-pub numbers_worth : (code : ℕ) (f : Op → ℕ) (round : ℕ → List Plan) (n : ℕ) → ((r : ℕ) → sum_by (planned code f) (round r) ≡ r)
+pub numbers_worth : (code : ℕ) (f : Op → ℕ) (round : ℕ → List Plan) (n : ℕ)
+    → ((r : ℕ) → sum_by (planned code f) (round r) ≡ r)
     → sum_by (planned code f) (rounds_to round n) ≡ sum_to n
 numbers_worth code f round zero same = refl
 numbers_worth code f round (suc n) same =
-    sum_by-append (planned code f) (rounds_to round n) (round (suc n)) ∙ (λ i. numbers_worth code f round n same i + same (suc n) i)
+    sum_by-append (planned code f) (rounds_to round n) (round (suc n))
+    ∙ (λ i. numbers_worth code f round n same i + same (suc n) i)
 
-pub sure_rounds : (code : ℕ) (round : ℕ → List Plan) (n : ℕ) → ((r : ℕ) → AreSure code (round r)) → AreSure code (rounds_to round n)
+pub sure_rounds : (code : ℕ) (round : ℕ → List Plan) (n : ℕ) → ((r : ℕ) → AreSure code (round r))
+    → AreSure code (rounds_to round n)
 sure_rounds code round zero sure = tt
-sure_rounds code round (suc n) sure = sure_then code (rounds_to round n) (round (suc n)) (sure_rounds code round n sure) (sure (suc n))
+sure_rounds code round (suc n) sure =
+    sure_then code (rounds_to round n) (round (suc n)) (sure_rounds code round n sure) (sure (suc n))

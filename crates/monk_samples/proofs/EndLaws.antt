@@ -29,17 +29,20 @@ module _ (k : Rules) (o : Object) (answers : ℕ → ℕ → Bool → Type 0) (s
   Faulted = IsFaultOfCrew k o answers sample seats rounds
 
   -- some, and then others
-  pub served_then : (h : House) (ps qs more back : List Token) → Served h ps qs → Served h more back → Served h (ps ++ more) (qs ++ back)
+  pub served_then : (h : House) (ps qs more back : List Token) → Served h ps qs → Served h more back
+      → Served h (ps ++ more) (qs ++ back)
   served_then h [] [] more back s t = t
   served_then h [] (q ∷ qs) more back s t = absurd s
   served_then h (p ∷ ps) [] more back s t = absurd s
   served_then h (p ∷ ps) (q ∷ qs) more back s t = (s.0, served_then h ps qs more back s.1 t)
 
   -- each to its end
-  pub to_end : (h : House) (ps qs : List Token) → Served h ps qs → All (HasServedToEnd k o answers sample seats rounds) ps
+  pub to_end : (h : House) (ps qs : List Token) → Served h ps qs
+      → All (HasServedToEnd k o answers sample seats rounds) ps
   to_end h [] qs s = All-nil (HasServedToEnd k o answers sample seats rounds)
   to_end h (p ∷ ps) [] s = absurd s
-  to_end h (p ∷ ps) (q ∷ qs) s = All-cons (HasServedToEnd k o answers sample seats rounds) p ps (q, s.0.1) (to_end h ps qs s.1)
+  to_end h (p ∷ ps) (q ∷ qs) s =
+      All-cons (HasServedToEnd k o answers sample seats rounds) p ps (q, s.0.1) (to_end h ps qs s.1)
 
   ended_then : (ps more : List Token) (end : End) → EndedFirst ps end → EndedFirst (ps ++ more) end
   ended_then ps more end s = record {
@@ -75,7 +78,8 @@ module _ (k : Rules) (o : Object) (answers : ℕ → ℕ → Bool → Type 0) (s
   HaveJoined h ps qs None = Served h ps qs
   HaveJoined h ps qs (Some fault) = Faulted ps fault
 
-  last_of : (h : House) (ps qs : List Token) (p q : Token) (end : End) → Served h ps qs → HasServed k o answers sample seats rounds p q end
+  last_of : (h : House) (ps qs : List Token) (p q : Token) (end : End) → Served h ps qs
+      → HasServed k o answers sample seats rounds p q end
       → EndedFirst (ps ++ p ∷ []) end
   last_of h ps qs p q end s t = record {
     before = ps;
@@ -88,7 +92,8 @@ module _ (k : Rules) (o : Object) (answers : ℕ → ℕ → Bool → Type 0) (s
   }
 
   -- and one more
-  pub joined_then : (h : House) (ps qs : List Token) (p q : Token) (end : End) (fault : Option CrewFault) → HaveJoined h ps qs fault
+  pub joined_then : (h : House) (ps qs : List Token) (p q : Token) (end : End) (fault : Option CrewFault)
+      → HaveJoined h ps qs fault
       → IsOf h q → HasServed k o answers sample seats rounds p q end
       → HaveJoined h (ps ++ p ∷ []) (qs ++ q ∷ []) (fault_after fault end)
   joined_then h ps qs p q Done None s of t = served_then h ps qs (p ∷ []) (q ∷ []) s ((of, t), tt)
@@ -97,22 +102,27 @@ module _ (k : Rules) (o : Object) (answers : ℕ → ℕ → Bool → Type 0) (s
   joined_then h ps qs p q end (Some fault) s of t = fault_then ps (p ∷ []) fault s
 
   -- a seat without rounds has served
-  idle_served : (p : Token) → rounds_of sample seats rounds p.me.seat ≡ 0 → HasServed k o answers sample seats rounds p p Done
-  idle_served p none = subst (λ n. HasDoneRounds k o (answers p.me.seat) (round_of sample k p.me.setting seats p.me.seat) n p p)
+  idle_served : (p : Token) → rounds_of sample seats rounds p.me.seat ≡ 0
+      → HasServed k o answers sample seats rounds p p Done
+  idle_served p none =
+      subst (λ n. HasDoneRounds k o (answers p.me.seat) (round_of sample k p.me.setting seats p.me.seat) n p p)
       (sym none) (no_round k o answers (λ (c : Setting) (s r : ℕ). round_of sample k c seats s r) p)
 
   -- those who worked, and behind them one who may have been idle
-  pub all_served : (h : House) (ps working back all : List Token) (idle : Option Token) → ps ≡ working ++ option_to_list idle
+  pub all_served : (h : House) (ps working back all : List Token) (idle : Option Token)
+      → ps ≡ working ++ option_to_list idle
       → all ≡ back ++ option_to_list idle → Served h working back → IfSome idle (IsReady k h)
       → IfSome idle (λ p. rounds_of sample seats rounds p.me.seat ≡ 0) → Served h ps all
   all_served h ps working back all None are gives s of none =
-      subst (λ xs. Served h xs all) (sym (are ∙ append-nil working)) (subst (Served h working) (sym (gives ∙ append-nil back)) s)
+      subst (λ xs. Served h xs all) (sym (are ∙ append-nil working))
+      (subst (Served h working) (sym (gives ∙ append-nil back)) s)
   all_served h ps working back all (Some p) are gives s of none =
       subst (λ xs. Served h xs all) (sym are) (subst (Served h (working ++ p ∷ [])) (sym gives)
       (served_then h working back (p ∷ []) (p ∷ []) s ((of.0, idle_served p none), tt)))
 
 -- what is so of an error is so of the result
-pub if_err : {A E : Type 0} (r : Result A E) (P Q : E → Type 0) → IsErr r × IsErrAnd r P → ((e : E) → P e → Q e) → IfErr r Q
+pub if_err : {A E : Type 0} (r : Result A E) (P Q : E → Type 0) → IsErr r × IsErrAnd r P
+    → ((e : E) → P e → Q e) → IfErr r Q
 if_err (Ok a) P Q s f = tt
 if_err (Err e) P Q s f = f e s.1
 

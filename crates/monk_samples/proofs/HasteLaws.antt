@@ -13,7 +13,8 @@ use Rattle.monk_samples.proofs.TrailLaws.{called_then}
 
 module _ (k : Rules) (o : Object) where
   -- what follows once the seat has come in
-  pub paused_since : (x : Trail) (w : Option Guard) (a b : Holder) → HasCalled x (inside a) [] → HasPausedUntil k o (inside a) w b
+  pub paused_since : (x : Trail) (w : Option Guard) (a b : Holder) → HasCalled x (inside a) []
+      → HasPausedUntil k o (inside a) w b
       → HasPausedUntil k o x w b
   paused_since x w a b came t = let seat = came.went.seat in let setting = came.went.setting in record {
     pauses = t.pauses;
@@ -22,7 +23,8 @@ module _ (k : Rules) (o : Object) where
   }
 
   pub tired_since : (x : Trail) (w : Option Guard) (a : Holder) (q : Token) → HasCalled x (inside a) []
-      → HasTired k o (inside a) (IsLeftWaiting k o a.me.setting a.me.seat w) q → HasTired k o x (IsLeftWaiting k o x.setting x.seat w) q
+      → HasTired k o (inside a) (IsLeftWaiting k o a.me.setting a.me.seat w) q
+      → HasTired k o x (IsLeftWaiting k o x.setting x.seat w) q
   tired_since x w a q came t = let seat = came.went.seat in let setting = came.went.setting in record {
     calls = t.calls;
     called = called_then x (inside a) (outside q) [] t.calls came t.called;
@@ -33,7 +35,8 @@ module _ (k : Rules) (o : Object) where
 
   -- a try whose operation was refused, and then a leave
   pub missed_once : (p : Token) (v : Plan) (a : Holder) (q : Token) → HasActed k o (outside p) v.guard v.op 0 a
-      → ((d : Addition) × HasCalled (inside a) (outside q) (d ∷ []) × IsCall k o (wish_in v.guard) a.me.setting (Leave a.me.seat Stay) d
+      → ((d : Addition) × HasCalled (inside a) (outside q) (d ∷ [])
+      × IsCall k o (wish_in v.guard) a.me.setting (Leave a.me.seat Stay) d
       × (d.before ≡ a.floor.history))
       → HasMissed k o p v 1 q
   missed_once p v a q s one = let seat = s.called.went.seat in let setting = s.called.went.setting in record {
@@ -57,13 +60,21 @@ module _ (k : Rules) (o : Object) where
   }
 
   -- and once more
-  pub missed_then : (p m q : Token) (v : Plan) (n : ℕ) → HasMissed k o p v n m → HasMissed k o m v 1 q → HasMissed k o p v (suc n) q
+  pub missed_then : (p m q : Token) (v : Plan) (n : ℕ) → HasMissed k o p v n m → HasMissed k o m v 1 q
+      → HasMissed k o p v (suc n) q
   missed_then p m q v n s t =
       let seat = s.called.went.seat in let setting = s.called.went.setting in let last = t.are in
       let same = last.are ∙ ap (λ ds. ds ++ last.rest) last.is_first in
-      let miss : IsMiss k o m.me.setting m.me.seat v t.calls = subst (IsMiss k o m.me.setting m.me.seat v) (sym same) last.is_rest in
+      let miss : IsMiss k o m.me.setting m.me.seat v t.calls =
+      subst (IsMiss k o m.me.setting m.me.seat v) (sym same) last.is_rest in
       record {
         calls = s.calls ++ t.calls;
         called = called_then (outside p) (outside m) (outside q) s.calls t.calls s.called t.called;
-        are = record { first = s.calls; rest = t.calls; are = refl; is_first = s.are; is_rest = rw (seat, setting) at miss };
+        are = record {
+          first = s.calls;
+          rest = t.calls;
+          are = refl;
+          is_first = s.are;
+          is_rest = rw (seat, setting) at miss;
+        };
       }

@@ -38,7 +38,8 @@ pub same_pass : (p : Token) → IsSame p p
 same_pass p = record { hall = refl; seat = refl; setting = refl; mine = refl }
 
 pub same_again : (p q r : Token) → IsSame p q → IsSame q r → IsSame p r
-same_again p q r s t = record { hall = t.hall ∙ s.hall; seat = t.seat ∙ s.seat; setting = t.setting ∙ s.setting; mine = t.mine ∙ s.mine }
+same_again p q r s t =
+    record { hall = t.hall ∙ s.hall; seat = t.seat ∙ s.seat; setting = t.setting ∙ s.setting; mine = t.mine ∙ s.mine }
 
 pub same_then : (ps qs : List Token) (p q : Token) → AreSame ps qs → IsSame p q → AreSame (ps ++ p ∷ []) (qs ++ q ∷ [])
 same_then [] [] p q s t = (t, tt)
@@ -47,7 +48,8 @@ same_then (r ∷ ps) [] p q s t = absurd s
 same_then (a ∷ ps) (b ∷ qs) p q s t = (s.0, same_then ps qs p q s.1 t)
 
 -- whoever has seen more still begins so
-pub still_begins : (new old : Token) (qs : List Token) → StartsWith new.me.seen old.me.seen → All (λ p. StartsWith old.me.seen p.me.seen) qs
+pub still_begins : (new old : Token) (qs : List Token) → StartsWith new.me.seen old.me.seen
+    → All (λ p. StartsWith old.me.seen p.me.seen) qs
     → All (λ p. StartsWith new.me.seen p.me.seen) qs
 still_begins new old qs more all k d near = starts_then _ old.me.seen new.me.seen (all k d near) more
 
@@ -127,8 +129,10 @@ from_on k o answers sample seats rounds h z c (suc n) i (q ∷ qs) s =
     All-cons (λ q. i ≤ q.me.seat) q qs (subst (λ x. i ≤ x) (sym s.0.1.called.went.seat) (omega arith))
     (λ k d near. omega (arith, from_on _ o answers sample seats rounds h z c n (suc i) qs s.1 k d near))
 
-pub seats_differ : (k : Rules) (o : Object) (answers : ℕ → ℕ → Bool → Type 0) (sample : Sample) (seats rounds : ℕ) (h : House) (z : TableId)
-    (c : Setting) → (n i : ℕ) (qs : List Token) → HaveServed k o answers sample seats rounds h (tokens z (opening_records c n i)) qs
+pub seats_differ : (k : Rules) (o : Object) (answers : ℕ → ℕ → Bool → Type 0) (sample : Sample)
+    (seats rounds : ℕ) (h : House) (z : TableId)
+    (c : Setting) → (n i : ℕ) (qs : List Token)
+    → HaveServed k o answers sample seats rounds h (tokens z (opening_records c n i)) qs
     → AllDiffer qs
 seats_differ k o answers sample seats rounds h z c zero i [] s = λ i j d lt within. absurd (omega (arith, within))
 seats_differ k o answers sample seats rounds h z c zero i (q ∷ qs) s = absurd s
@@ -140,20 +144,24 @@ seats_differ k o answers sample seats rounds h z c (suc n) i (q ∷ qs) s =
     (seats_differ k o answers sample seats rounds h z c n (suc i) qs s.1)
 
 -- of two passes that have met
-met_as : (p : Token) (seen : List Event) (steps : ℕ) → IsSame p (record p { me = record p.me { seen = seen; steps = steps } })
+met_as : (p : Token) (seen : List Event) (steps : ℕ)
+    → IsSame p (record p { me = record p.me { seen = seen; steps = steps } })
 met_as p seen steps = record { hall = refl; seat = refl; setting = refl; mine = refl }
 
-pub met_same : (p q : Token) (seen : List Event) (steps : ℕ) → q ≡ record p { me = record p.me { seen = seen; steps = steps } } → IsSame p q
+pub met_same : (p q : Token) (seen : List Event) (steps : ℕ)
+    → q ≡ record p { me = record p.me { seen = seen; steps = steps } } → IsSame p q
 met_same p q seen steps e = subst (IsSame p) (sym e) (met_as p seen steps)
 
-pub met_begins : (p q r s : Token) (seen : List Event) (m n : ℕ) → q ≡ record p { me = record p.me { seen = seen; steps = m } }
+pub met_begins : (p q r s : Token) (seen : List Event) (m n : ℕ)
+    → q ≡ record p { me = record p.me { seen = seen; steps = m } }
     → s ≡ record r { me = record r.me { seen = seen; steps = n } } → StartsWith q.me.seen s.me.seen
 met_begins p q r s seen m n e f =
     let same : q.me.seen ≡ s.me.seen = ap (λ (t : Token). t.me.seen) e ∙ sym (ap (λ (t : Token). t.me.seen) f) in
     subst (λ h. StartsWith q.me.seen h) same (starts_here q.me.seen)
 
 -- the first of passes that have met
-pub first_is_of : (h : House) (ps : List Token) (q : Token) (qs : List Token) → AreSame ps (q ∷ qs) → All (IsOf h) ps → IsOf h q
+pub first_is_of : (h : House) (ps : List Token) (q : Token) (qs : List Token) → AreSame ps (q ∷ qs)
+    → All (IsOf h) ps → IsOf h q
 first_is_of h [] q qs same all = absurd same
 first_is_of h (p ∷ ps) q qs same all =
     let of = All-head (IsOf h) p ps all in (same.0.hall ∙ of.0, same.0.setting ∙ of.1)
@@ -174,10 +182,13 @@ first_able (p ∷ ps) q qs left same counted some spent =
     omega (arith, counted, some, now)
 
 -- a closed history begins with what the first seat had seen, and so with what all had seen that it met
-pub closed_begins : (h at seen before own : List Event) (e l : Event) (qs : List Token) → h ≡ at ++ l ∷ [] → at ≡ seen ++ e ∷ []
-    → StartsWith seen before → before ≡ own → All (λ p. StartsWith own p.me.seen) qs → All (λ p. StartsWith h p.me.seen) qs
+pub closed_begins : (h at seen before own : List Event) (e l : Event) (qs : List Token) → h ≡ at ++ l ∷ []
+    → at ≡ seen ++ e ∷ []
+    → StartsWith seen before → before ≡ own → All (λ p. StartsWith own p.me.seen) qs
+    → All (λ p. StartsWith h p.me.seen) qs
 closed_begins h at seen before own e l qs closed came starts same all k d near =
-    let first : StartsWith h seen = (e ∷ l ∷ [], closed ∙ ap (λ xs. xs ++ l ∷ []) came ∙ append_assoc seen (e ∷ []) (l ∷ [])) in
+    let first : StartsWith h seen =
+    (e ∷ l ∷ [], closed ∙ ap (λ xs. xs ++ l ∷ []) came ∙ append_assoc seen (e ∷ []) (l ∷ [])) in
     starts_then _ own h (all k d near) (subst (λ xs. StartsWith h xs) same (starts_then before seen h starts first))
 
 came_acts : (s : ℕ) (x : Source) (t : Turn) → act_of (out_event s x t) ≡ []
@@ -192,16 +203,19 @@ nothing_done weight s x t n =
     ∙ ap (λ acts. sum_by weight acts + sum_by (of_event weight) (Leave n Entry ∷ [])) (came_acts s x t)
 
 -- the first seat's events are its own, and those by which it came in and closed
-pub closed_own : (h own before mine : List Event) (e l : Event) (s t u : ℕ) → events_of h s ≡ mine ++ l ∷ [] → mine ≡ before ++ e ∷ []
+pub closed_own : (h own before mine : List Event) (e l : Event) (s t u : ℕ) → events_of h s ≡ mine ++ l ∷ []
+    → mine ≡ before ++ e ∷ []
     → before ≡ own → s ≡ t → t ≡ u → events_of h u ≡ own ++ e ∷ l ∷ []
 closed_own h own before mine e l s t u is came same a b =
     ap (events_of h) (sym (a ∙ b)) ∙ is ∙ ap (λ xs. xs ++ l ∷ []) (came ∙ ap (λ xs. xs ++ e ∷ []) same)
     ∙ append_assoc own (e ∷ []) (l ∷ [])
 
-pub only_here : (h g : List Event) (s seat : ℕ) (qs rs : List Token) (b : Bool) → ((b ≡ true) ↔ HoldsOnly g s rs) → b ≡ true → g ≡ h
+pub only_here : (h g : List Event) (s seat : ℕ) (qs rs : List Token) (b : Bool)
+    → ((b ≡ true) ↔ HoldsOnly g s rs) → b ≡ true → g ≡ h
     → s ≡ seat → rs ≡ qs → HoldsOnly h seat qs
 only_here h g s seat qs rs b tells is same here those =
-    subst (λ xs. HoldsOnly xs seat qs) same (subst (λ x. HoldsOnly g x qs) here (subst (HoldsOnly g s) those (tells.0 is)))
+    subst (λ xs. HoldsOnly xs seat qs) same
+    (subst (λ x. HoldsOnly g x qs) here (subst (HoldsOnly g s) those (tells.0 is)))
 
 -- whoever closes comes in first
 pub came_comes : (s : ℕ) (x : Source) (t : Turn) → is_coming (out_event s x t) ≡ true
@@ -209,7 +223,8 @@ came_comes s (Free n) t = refl
 came_comes s (Granted n) t = refl
 came_comes s Called t = refl
 
-pub closed_ends : (h at seen : List Event) (e : Event) (s u : ℕ) → h ≡ at ++ Leave s Entry ∷ [] → at ≡ seen ++ e ∷ [] → s ≡ u
+pub closed_ends : (h at seen : List Event) (e : Event) (s u : ℕ) → h ≡ at ++ Leave s Entry ∷ []
+    → at ≡ seen ++ e ∷ [] → s ≡ u
     → h ≡ seen ++ e ∷ Leave u Entry ∷ []
 closed_ends h at seen e s u closed came same =
     closed ∙ ap (λ xs. xs ++ Leave s Entry ∷ []) came ∙ append_assoc seen (e ∷ []) (Leave s Entry ∷ [])

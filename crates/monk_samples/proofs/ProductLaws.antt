@@ -80,7 +80,8 @@ module _ (k : Rules) (answers : ℕ → ℕ → Bool → Type 0) (seats rounds :
   module _ (sample : Sample) (m : Manner)
       (plans : (d : Setting) (seat round : ℕ) → round_of sample k d seats seat round ≡ rounds_by m seats seat round)
       (works : (seat : ℕ) → rounds_of sample seats rounds seat ≡ rounds_of Buffer seats rounds seat)
-      (served : HaveServed k buffer_meaning answers sample seats rounds house (tokens z (opening_records c seats 0)) qs) where
+      (served : HaveServed k buffer_meaning answers sample seats rounds house
+      (tokens z (opening_records c seats 0)) qs) where
     pub puts_are : times_done PUT (acts_in h) ≡ seats / 2 * rounds
     puts_are = total_is buffer_meaning sample (worth PUT once) _ served
         (puts_of k buffer_meaning answers sample m seats rounds plans works)
@@ -97,17 +98,21 @@ module _ (k : Rules) (answers : ℕ → ℕ → Bool → Type 0) (seats rounds :
         (items_of k buffer_meaning answers sample m seats rounds plans works)
         ∙ first_items seats rounds
 
-  module _ (served : HaveServed k book_meaning answers Book seats rounds house (tokens z (opening_records c seats 0)) qs) where
+  module _ (served : HaveServed k book_meaning answers Book seats rounds house
+      (tokens z (opening_records c seats 0)) qs) where
     pub reads_are : times_done START_READ (acts_in h) ≡ seats / 2 * rounds
-    reads_are = total_is book_meaning Book (worth START_READ once) _ served (reads_of k book_meaning answers seats rounds)
+    reads_are =
+        total_is book_meaning Book (worth START_READ once) _ served (reads_of k book_meaning answers seats rounds)
         ∙ first_half seats rounds
 
     pub writes_are : times_done START_WRITE (acts_in h) ≡ seats / 2 * rounds
-    writes_are = total_is book_meaning Book (worth START_WRITE once) _ served (writes_of k book_meaning answers seats rounds)
+    writes_are =
+        total_is book_meaning Book (worth START_WRITE once) _ served (writes_of k book_meaning answers seats rounds)
         ∙ second_half seats rounds
 
   module _ (some : 1 ≤ seats)
-      (served : HaveServed k shop_meaning answers Shop seats rounds house (tokens z (opening_records c seats 0)) qs) where
+      (served : HaveServed k shop_meaning answers Shop seats rounds house
+      (tokens z (opening_records c seats 0)) qs) where
     pub calls_are : times_done CALL (acts_in h) ≡ (seats - 1) * rounds
     calls_are = total_is shop_meaning Shop (worth CALL once) _ served (calls_of k shop_meaning answers seats rounds)
         ∙ calls_all seats rounds some
@@ -117,7 +122,8 @@ module _ (k : Rules) (answers : ℕ → ℕ → Bool → Type 0) (seats rounds :
         ∙ visits_all seats rounds some
 
     pub departs_are : times_done DEPART (acts_in h) ≡ (seats - 1) * rounds
-    departs_are = total_is shop_meaning Shop (worth DEPART once) _ served (departs_of k shop_meaning answers seats rounds)
+    departs_are =
+        total_is shop_meaning Shop (worth DEPART once) _ served (departs_of k shop_meaning answers seats rounds)
         ∙ visits_all seats rounds some
 
   -- all totals of each sample
@@ -125,7 +131,8 @@ module _ (k : Rules) (answers : ℕ → ℕ → Bool → Type 0) (seats rounds :
       → ((d : Setting) (seat round : ℕ) → round_of sample k d seats seat round ≡ rounds_by m seats seat round)
       → ((seat : ℕ) → rounds_of sample seats rounds seat ≡ rounds_of Buffer seats rounds seat)
       → HaveServed k buffer_meaning answers sample seats rounds house (tokens z (opening_records c seats 0)) qs
-      → (size : ℕ) (state : List ℕ) → IsInOrder size state (acts_in h) → HasPutAndTaken seats rounds (totals_of_buffer h)
+      → (size : ℕ) (state : List ℕ) → IsInOrder size state (acts_in h)
+      → HasPutAndTaken seats rounds (totals_of_buffer h)
   buffer_totals sample m plans works served size state law =
       let puts = puts_are sample m plans works served in let takes = takes_are sample m plans works served in
       let items = items_are sample m plans works served ∙ ap (λ n. seats / 2 * n) (sum_is rounds) in
@@ -139,8 +146,10 @@ module _ (k : Rules) (answers : ℕ → ℕ → Bool → Type 0) (seats rounds :
       let read = ended.0 ∙ reads in let written = ended.1 ∙ writes in
       λ i. reads i ∷ read i ∷ writes i ∷ written i ∷ []
 
-  pub shop_totals : 1 ≤ seats → HaveServed k shop_meaning answers Shop seats rounds house (tokens z (opening_records c seats 0)) qs
-      → (size : ℕ) (state : List ℕ) → ServesEachOne size state (acts_in h) → HasTotals Shop seats rounds (totals_of Shop h)
+  pub shop_totals : 1 ≤ seats
+      → HaveServed k shop_meaning answers Shop seats rounds house (tokens z (opening_records c seats 0)) qs
+      → (size : ℕ) (state : List ℕ) → ServesEachOne size state (acts_in h)
+      → HasTotals Shop seats rounds (totals_of Shop h)
   shop_totals some served size state law =
       let sits = sits_are some served in let calls = calls_are some served in let departs = departs_are some served in
       let finishes : times_done FINISH (acts_in h) ≡ (seats - 1) * rounds =

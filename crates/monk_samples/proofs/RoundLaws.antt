@@ -16,7 +16,8 @@ use Rattle.monk_samples.specs.declared.end.End.TheVariants.{Done, Tired, Late}
 use Rattle.monk_samples.proofs.TrailLaws.{called_none, called_then}
 
 -- a seat stays of its hall
-pub still_of : (h : House) (p q : Token) (calls : List Addition) → HasCalled (outside p) (outside q) calls → IsOf h p → IsOf h q
+pub still_of : (h : House) (p q : Token) (calls : List Addition) → HasCalled (outside p) (outside q) calls
+    → IsOf h p → IsOf h q
 still_of h p q calls s of = (s.went.hall ∙ of.0, s.went.setting ∙ of.1)
 
 module _ (k : Rules) (o : Object) where
@@ -39,7 +40,8 @@ module _ (k : Rules) (o : Object) where
       where
         by : (b : Bool) → nat_le r n ≡ b → answers s r true
         by true e = before r some (leb-true r n e)
-        by false e = let same : suc n ≡ r = omega (arith, leb-false r n e, most) in subst (λ x. answers s x true) same now
+        by false e = let same : suc n ≡ r = omega (arith, leb-false r n e, most) in
+            subst (λ x. answers s x true) same now
 
     -- a seat in some of its rounds
     abbrev Did : ℕ → Token → Token → Type 0
@@ -61,23 +63,27 @@ module _ (k : Rules) (o : Object) where
     one_round n p m q s now t = let seat = s.called.went.seat in let setting = s.called.went.setting in record {
       calls = s.calls ++ t.calls;
       called = called_then (outside p) (outside m) (outside q) s.calls t.calls s.called t.called;
-      are = visits_then p.me.setting p.me.seat (rounds_to (plan p.me.setting p.me.seat) n) (plan p.me.setting p.me.seat (suc n))
+      are = visits_then p.me.setting p.me.seat (rounds_to (plan p.me.setting p.me.seat) n)
+          (plan p.me.setting p.me.seat (suc n))
           s.calls t.calls s.are (rw (seat, setting) at t.are);
       let_in = let_in_then p.me.seat n s.let_in now;
     }
 
     -- what the gate answered, of the seat that asked
-    answered : (s r : ℕ) (b answer : Bool) (p : Token) → s ≡ p.me.seat → answers s r b → b ≡ answer → answers p.me.seat r answer
+    answered : (s r : ℕ) (b answer : Bool) (p : Token) → s ≡ p.me.seat → answers s r b → b ≡ answer
+        → answers p.me.seat r answer
     answered s r b answer p is given e = subst (λ x. answers p.me.seat r x) e (subst (λ x. answers x r b) is given)
 
     -- the plan of the seat that it still is
-    planned : (n : ℕ) (p m q : Token) (end : End) → Did n p m → HasVisited k o m (plan m.me.setting m.me.seat (n + 1)) q end
+    planned : (n : ℕ) (p m q : Token) (end : End) → Did n p m
+        → HasVisited k o m (plan m.me.setting m.me.seat (n + 1)) q end
         → HasVisited k o m (plan p.me.setting p.me.seat (n + 1)) q end
     planned n p m q end s t = subst (λ c. HasVisited k o m (plan c p.me.seat (n + 1)) q end) s.called.went.setting
         (subst (λ x. HasVisited k o m (plan m.me.setting x (n + 1)) q end) s.called.went.seat t)
 
     -- the next round was done
-    pub round_done : (n s : ℕ) (b : Bool) (p m q : Token) (end : End) → s ≡ p.me.seat → Did n p m → answers s (n + 1) b → b ≡ true
+    pub round_done : (n s : ℕ) (b : Bool) (p m q : Token) (end : End) → s ≡ p.me.seat → Did n p m
+        → answers s (n + 1) b → b ≡ true
         → HasVisited k o m (plan m.me.setting m.me.seat (n + 1)) q end → end ≡ Done → Did (n + 1) p q
     round_done n s b p m q end is did given e t ends = let next : n + 1 ≡ suc n = omega arith in
         subst (λ x. Did x p q) (sym next) (one_round n p m q did
@@ -86,8 +92,10 @@ module _ (k : Rules) (o : Object) where
         (subst (λ x. HasVisited k o m (plan p.me.setting p.me.seat (n + 1)) q x) ends (planned n p m q end did t))))
 
     -- or not
-    pub round_short : (n s all rounds : ℕ) (b : Bool) (p m q : Token) (end : End) → s ≡ p.me.seat → all ≡ rounds → n < all → Did n p m
-        → answers s (n + 1) b → b ≡ true → HasVisited k o m (plan m.me.setting m.me.seat (n + 1)) q end → (end ≡ Done → ⊥)
+    pub round_short : (n s all rounds : ℕ) (b : Bool) (p m q : Token) (end : End) → s ≡ p.me.seat
+        → all ≡ rounds → n < all → Did n p m
+        → answers s (n + 1) b → b ≡ true → HasVisited k o m (plan m.me.setting m.me.seat (n + 1)) q end
+        → (end ≡ Done → ⊥)
         → Came rounds p q end
     round_short n s all rounds b p m q Done is same fewer did given e t undone = absurd (undone refl)
     round_short n s all rounds b p m q Tired is same fewer did given e t undone = record {
@@ -109,7 +117,8 @@ module _ (k : Rules) (o : Object) where
       sent_away = answered s (n + 1) b false p is given e;
     }
 
-    pub all_done : (n all rounds : ℕ) (p m : Token) → all ≡ rounds → n ≤ all → all ≤ n → Did n p m → Came rounds p m Done
+    pub all_done : (n all rounds : ℕ) (p m : Token) → all ≡ rounds → n ≤ all → all ≤ n → Did n p m
+        → Came rounds p m Done
     all_done n all rounds p m same most least did =
         let is : n ≡ all = omega (arith, most, least) in subst (λ x. Did x p m) (is ∙ same) did
 

@@ -45,7 +45,8 @@ module _ (k : Rules) (answers : ℕ → ℕ → Bool → Type 0) (sample : Sampl
   some_back h (p ∷ ps) (q ∷ qs) s some = omega arith
 
   -- there was no memory
-  pub no_memory : (fault : CrewFault) → fault ≡ crew.Memory → IsFaultOfRun k answers sample seats rounds (run_fault_of fault)
+  pub no_memory : (fault : CrewFault) → fault ≡ crew.Memory
+      → IsFaultOfRun k answers sample seats rounds (run_fault_of fault)
   no_memory fault e = subst (λ f. IsFaultOfRun k answers sample seats rounds (run_fault_of f)) (sym e) tt
 
   module _ (h : House) (made : List Token) (e : made ≡ tokens h.id (first_view h.setting))
@@ -72,12 +73,14 @@ module _ (k : Rules) (answers : ℕ → ℕ → Bool → Type 0) (sample : Sampl
         → HasStopped k answers sample seats rounds end
     stopped end s = record {
       hall = h.id;
-      first = subst (λ (ps : List Token). HasEndedFirst k (meaning_named (sample_object sample)) answers sample seats rounds ps end)
+      first = subst (λ (ps : List Token). HasEndedFirst k
+          (meaning_named (sample_object sample)) answers sample seats rounds ps end)
           passes_are s;
     }
 
     -- or the crew has no passes
-    pub crew_fault : (fault : CrewFault) → IsFaultOfCrew k (meaning_named (sample_object sample)) answers sample seats rounds made fault
+    pub crew_fault : (fault : CrewFault)
+        → IsFaultOfCrew k (meaning_named (sample_object sample)) answers sample seats rounds made fault
         → IsFaultOfRun k answers sample seats rounds (run_fault_of fault)
     crew_fault crew.Memory s = tt
     crew_fault crew.Thread s = tt
@@ -87,11 +90,14 @@ module _ (k : Rules) (answers : ℕ → ℕ → Bool → Type 0) (sample : Sampl
 
     -- or it can't be closed
     pub close_fault : (qs : List Token) (fault : CrewFault) → Served h made qs
-        → (fault ≡ crew.Memory) ⊎ ((fault ≡ crew.Busy) × (IsFirstSpent qs → ⊥)) ⊎ ((fault ≡ crew.Tired) × IsFirstSpent qs)
+        → (fault ≡ crew.Memory) ⊎ ((fault ≡ crew.Busy) × (IsFirstSpent qs → ⊥))
+        ⊎ ((fault ≡ crew.Tired) × IsFirstSpent qs)
         → IsFaultOfRun k answers sample seats rounds (run_fault_of fault)
     unfolding has_run
     close_fault qs fault s (inl is) = no_memory fault is
-    close_fault qs fault s (inr (inl is)) = subst (λ f. IsFaultOfRun k answers sample seats rounds (run_fault_of f)) (sym is.0)
+    close_fault qs fault s (inr (inl is)) =
+        subst (λ f. IsFaultOfRun k answers sample seats rounds (run_fault_of f)) (sym is.0)
         (record { run = has_run qs s; able = is.1 })
-    close_fault qs fault s (inr (inr is)) = subst (λ f. IsFaultOfRun k answers sample seats rounds (run_fault_of f)) (sym is.0)
+    close_fault qs fault s (inr (inr is)) =
+        subst (λ f. IsFaultOfRun k answers sample seats rounds (run_fault_of f)) (sym is.0)
         (inr (record { run = has_run qs s; spent = is.1 }))

@@ -53,9 +53,11 @@ pub none_yet : {X : Type 0} (xs : List X) (P : X → Type 0) → xs ≡ [] → A
 none_yet xs P e = All-same P xs [] e (All-nil P)
 
 -- what was at the front of the one list has gone to the back of the other
-pub mapped_more : {X Y : Type 0} (xs ys : List X) (x : X) (f : X → Y) → ys ≡ xs ++ x ∷ [] → (rest all : List Y) → all ≡ f x ∷ rest
+pub mapped_more : {X Y : Type 0} (xs ys : List X) (x : X) (f : X → Y) → ys ≡ xs ++ x ∷ [] → (rest all : List Y)
+    → all ≡ f x ∷ rest
     → map f ys ++ rest ≡ map f xs ++ all
-mapped_more xs ys x f e rest all front = ap (λ zs. map f zs ++ rest) e ∙ through xs ∙ ap (λ zs. map f xs ++ zs) (sym front)
+mapped_more xs ys x f e rest all front = ap (λ zs. map f zs ++ rest) e ∙ through xs
+    ∙ ap (λ zs. map f xs ++ zs) (sym front)
   where
     through : (zs : List _) → map f (zs ++ x ∷ []) ++ rest ≡ map f zs ++ f x ∷ rest
     through [] = refl
@@ -74,7 +76,8 @@ offers_all k = by_mode k.mode
 ready_from : (k : Rules) (z : TableId) (c : Setting) → Offers k c.conds 3 → (n i : ℕ)
     → AreReady k (record { id = z; setting = c }) (tokens z (opening_records c n i))
 ready_from k z c o zero i = All-nil (IsReady k (record { id = z; setting = c }))
-ready_from k z c o (suc n) i = All-cons (IsReady k (record { id = z; setting = c })) _ _ ((refl, refl), o) (ready_from k z c o n (suc i))
+ready_from k z c o (suc n) i =
+    All-cons (IsReady k (record { id = z; setting = c })) _ _ ((refl, refl), o) (ready_from k z c o n (suc i))
 
 -- the passes of a hall with a run's conditions
 pub passes_ready : (k : Rules) (h : House) (ps : List Token) → h.setting.conds ≡ conds_of k
@@ -87,7 +90,8 @@ passes_ready k h ps conds e =
 pub few_events : (seats rounds n : ℕ) → seats ≤ 16 → rounds ≤ 1000 → n ≤ seats * budget_of seats rounds → n ≤ 2 ^ 24
 few_events seats rounds n s r l =
     let a : rounds * (40 + 32 * seats) ≤ 1000 * (40 + 32 * seats) = mul-le-mul_right (40 + 32 * seats) r in
-    let b : seats * budget_of seats rounds ≤ 16 * budget_of seats rounds = mul-le-mul_right (budget_of seats rounds) s in
+    let b : seats * budget_of seats rounds ≤ 16 * budget_of seats rounds =
+    mul-le-mul_right (budget_of seats rounds) s in
     omega (arith, a, b, l, s)
 
 -- a hall was closed by a seat whose floor is the hall's
@@ -101,13 +105,16 @@ closed_by k o b c a before h state s f e early =
     }
 
 -- what may be written under the run's header is of the first version
-pub first_words : (name : KindName) (sample : Sample) (seats : ℕ) (header : Heading) (h lent : List Event) (answer : Bool)
-    → answer ≡ is_writable header lent → header ≡ run_heading name sample seats → lent ≡ h → answer ≡ true → IsOfFirstVersion h
+pub first_words : (name : KindName) (sample : Sample) (seats : ℕ) (header : Heading) (h lent : List Event)
+    (answer : Bool)
+    → answer ≡ is_writable header lent → header ≡ run_heading name sample seats → lent ≡ h → answer ≡ true
+    → IsOfFirstVersion h
 first_words name sample seats header h lent answer told is same holds =
     subst IsOfFirstVersion same (sym (told ∙ ap (λ (x : Heading). is_writable x lent) is) ∙ holds)
 
 pub law_of : (k : Rules) (sample : Sample) (seats : ℕ) (h : List Event) → let m =
-    monitor k seats (conds_of k) (meaning_named (sample_object sample)) (opening_named (sample_object sample) (size_of sample)) in
+    monitor k seats (conds_of k) (meaning_named (sample_object sample))
+    (opening_named (sample_object sample) (size_of sample)) in
     IsLegal m h → KeepsLaw sample (data_of m h) h
 law_of k Buffer seats h legal = in_order k seats (conds_of k) size h legal
 law_of k Book seats h legal = excludes k seats (conds_of k) size h legal
@@ -145,8 +152,12 @@ outcome_of k name sample seats rounds h history totals near short named of heade
 pub law_here : (k : Rules) (sample : Sample) (seats rounds : ℕ) (h lent : List Event) → lent ≡ h
     → IsHistoryOf k sample seats rounds h → (state : List ℕ) × KeepsLaw sample state lent
 law_here k sample seats rounds h lent e of =
-    let m = monitor k seats (conds_of k) (meaning_named (sample_object sample)) (opening_named (sample_object sample) (size_of sample)) in
-    (data_of m h, subst (λ (x : List Event). KeepsLaw sample (data_of m h) x) (sym e) (law_of k sample seats h of.legal))
+    let m = monitor k seats (conds_of k) (meaning_named (sample_object sample))
+    (opening_named (sample_object sample) (size_of sample)) in (
+      data_of m h,
+      subst (λ (x : List Event). KeepsLaw sample (data_of m h) x) (sym e)
+          (law_of k sample seats h of.legal),
+    )
 
 pub if_ok : {A E : Type 0} (r : Result A E) (P Q : A → Type 0) → ((a : A) → P a → Q a) → IfOk r P → IfOk r Q
 if_ok (Ok a) P Q f h = f a h
@@ -170,7 +181,8 @@ crew_told (Ok a) s of P told why = tt
 crew_told (Err e) (Ok b) of P told why = absurd told
 crew_told (Err e) (Err f) of P told why = subst P (sym told) why
 
-pub if_both : {A E : Type 0} (r : Result A E) (P Q R : A → Type 0) → ((a : A) → P a → Q a → R a) → IfOk r P → IfOk r Q → IfOk r R
+pub if_both : {A E : Type 0} (r : Result A E) (P Q R : A → Type 0) → ((a : A) → P a → Q a → R a) → IfOk r P
+    → IfOk r Q → IfOk r R
 if_both (Ok a) P Q R f p q = f a p q
 if_both (Err e) P Q R f p q = tt
 

@@ -30,7 +30,8 @@ over_then f zero b i =
     ap (λ n. over f n i) here ∙ ap (over f b) there ∙ sym (none_before (over f b (i + 0)))
 over_then f (suc a) b i =
     let here : suc a + b ≡ suc (a + b) = omega arith in let there : suc i + a ≡ i + suc a = omega arith in
-    ap (λ n. over f n i) here ∙ ap (λ x. f i + x) (over_then f a b (suc i) ∙ ap (λ j. over f a (suc i) + over f b j) there)
+    ap (λ n. over f n i) here
+    ∙ ap (λ x. f i + x) (over_then f a b (suc i) ∙ ap (λ j. over f a (suc i) + over f b j) there)
     ∙ sym (plus (f i) (over f a (suc i)) (over f b (i + suc a)))
 
 above : (s m : ℕ) → m ≤ s → nat_lt s m ≡ false
@@ -41,7 +42,8 @@ above s m h = by (nat_lt s m) refl
     by true e = absurd (omega (arith, h, ltb-true s m e))
 
 -- over a first half, as many more, and what is left
-module _ (f : ℕ → ℕ) (m rest x y : ℕ) (first : (s : ℕ) → s < m → f s ≡ x) (second : (s : ℕ) → m ≤ s → s < m + m → f s ≡ y)
+module _ (f : ℕ → ℕ) (m rest x y : ℕ) (first : (s : ℕ) → s < m → f s ≡ x)
+    (second : (s : ℕ) → m ≤ s → s < m + m → f s ≡ y)
     (last : (s : ℕ) → m + m ≤ s → f s ≡ 0) where
   pub halves : over f (m + (m + rest)) 0 ≡ m * x + m * y
   halves =
@@ -73,7 +75,8 @@ module _ (seats rounds : ℕ) where
       ∙ halves (λ s. rounds_of Buffer seats rounds s * cond (nat_lt s half) 1 0) half (seats - half - half) rounds 0
       (λ s near. (λ i. works s (omega (arith, near)) i * cond (lt-ltb s half near i) 1 0) ∙ omega arith)
       (λ s low high. ap (λ b. rounds_of Buffer seats rounds s * cond b 1 0) (above s half low) ∙ omega arith)
-      (λ s far. ap (λ b. rounds_of Buffer seats rounds s * cond b 1 0) (above s half (omega (arith, far))) ∙ omega arith)
+      (λ s far. ap (λ b. rounds_of Buffer seats rounds s * cond b 1 0) (above s half (omega (arith, far)))
+      ∙ omega arith)
       ∙ omega arith
 
   pub second_half : over (λ s. rounds_of Buffer seats rounds s * cond (nat_lt s half) 0 1) seats 0 ≡ half * rounds
@@ -86,10 +89,12 @@ module _ (seats rounds : ℕ) where
       ∙ omega arith
 
   -- each of the first half has the numbers to its rounds
-  pub first_items : over (λ s. cond (nat_lt s half) (sum_to (rounds_of Buffer seats rounds s)) 0) seats 0 ≡ half * sum_to rounds
+  pub first_items : over (λ s. cond (nat_lt s half) (sum_to (rounds_of Buffer seats rounds s)) 0) seats 0
+      ≡ half * sum_to rounds
   first_items =
       ap (λ n. over (λ s. cond (nat_lt s half) (sum_to (rounds_of Buffer seats rounds s)) 0) n 0) all_seats
-      ∙ halves (λ s. cond (nat_lt s half) (sum_to (rounds_of Buffer seats rounds s)) 0) half (seats - half - half) (sum_to rounds) 0
+      ∙ halves (λ s. cond (nat_lt s half) (sum_to (rounds_of Buffer seats rounds s)) 0) half
+      (seats - half - half) (sum_to rounds) 0
       (λ s near. (λ i. cond (lt-ltb s half near i) (sum_to (works s (omega (arith, near)) i)) 0))
       (λ s low high. ap (λ b. cond b (sum_to (rounds_of Buffer seats rounds s)) 0) (above s half low))
       (λ s far. ap (λ b. cond b (sum_to (rounds_of Buffer seats rounds s)) 0) (above s half (omega (arith, far))))
@@ -112,12 +117,14 @@ module _ (seats rounds : ℕ) (some : 1 ≤ seats) where
   pub calls_all : over (λ s. rounds_of Shop seats rounds s * cond (nat_eq s 0) 1 0) seats 0 ≡ (seats - 1) * rounds
   calls_all =
       barber {f = λ s. rounds_of Shop seats rounds s * cond (nat_eq s 0) 1 0} ((seats - 1) * rounds) 0 (omega arith)
-      (λ s low. ap (λ b. cond b ((seats - 1) * rounds) rounds * cond b 1 0) (others_are s low) ∙ omega arith) ∙ omega arith
+      (λ s low. ap (λ b. cond b ((seats - 1) * rounds) rounds * cond b 1 0) (others_are s low) ∙ omega arith)
+      ∙ omega arith
 
   pub visits_all : over (λ s. rounds_of Shop seats rounds s * cond (nat_eq s 0) 0 1) seats 0 ≡ (seats - 1) * rounds
   visits_all =
       barber {f = λ s. rounds_of Shop seats rounds s * cond (nat_eq s 0) 0 1} 0 rounds (omega arith)
-      (λ s low. ap (λ b. cond b ((seats - 1) * rounds) rounds * cond b 0 1) (others_are s low) ∙ omega arith) ∙ omega arith
+      (λ s low. ap (λ b. cond b ((seats - 1) * rounds) rounds * cond b 0 1) (others_are s low) ∙ omega arith)
+      ∙ omega arith
 
 twice : (n : ℕ) → sum_to n + sum_to n ≡ n * (n + 1)
 twice zero = omega arith

@@ -28,23 +28,28 @@ abbrev pub item : Op → ℕ
 item op = op.arg
 
 -- a seat that has served to its end, and had no event before
-pub served_worth : (k : Rules) (o : Object) (answers : ℕ → ℕ → Bool → Type 0) (sample : Sample) (seats rounds : ℕ) (p q : Token)
+pub served_worth : (k : Rules) (o : Object) (answers : ℕ → ℕ → Bool → Type 0) (sample : Sample)
+    (seats rounds : ℕ) (p q : Token)
     (code : ℕ) (f : Op → ℕ) → HasServed k o answers sample seats rounds p q Done → p.me.mine ≡ []
     → ((r : ℕ) → AreSure code (round_of sample k p.me.setting seats p.me.seat r))
     → sum_by (worth code f) (acts_in q.me.mine)
-    ≡ sum_by (planned code f) (rounds_to (round_of sample k p.me.setting seats p.me.seat) (rounds_of sample seats rounds p.me.seat))
+    ≡ sum_by (planned code f) (rounds_to (round_of sample k p.me.setting seats p.me.seat)
+    (rounds_of sample seats rounds p.me.seat))
 served_worth k o answers sample seats rounds p q code f s none sure =
     calls_worth k o code f p q _ s.calls s.called s.are
-    (sure_rounds code (round_of sample k p.me.setting seats p.me.seat) (rounds_of sample seats rounds p.me.seat) sure) none
+    (sure_rounds code (round_of sample k p.me.setting seats p.me.seat)
+    (rounds_of sample seats rounds p.me.seat) sure) none
 
 -- a round of a seat is worth each time the same, by which of two it has
 module _ (code : ℕ) (f : Op → ℕ) where
-  either_round : (b : Bool) (mine others : List Plan) (x y : ℕ) → sum_by (planned code f) mine ≡ x → sum_by (planned code f) others ≡ y
+  either_round : (b : Bool) (mine others : List Plan) (x y : ℕ) → sum_by (planned code f) mine ≡ x
+      → sum_by (planned code f) others ≡ y
       → sum_by (planned code f) (cond b mine others) ≡ cond b x y
   either_round true mine others x y s t = s
   either_round false mine others x y s t = t
 
-  either_sure : (b : Bool) (mine others : List Plan) → AreSure code mine → AreSure code others → AreSure code (cond b mine others)
+  either_sure : (b : Bool) (mine others : List Plan) → AreSure code mine → AreSure code others
+      → AreSure code (cond b mine others)
   either_sure true mine others s t = s
   either_sure false mine others s t = t
 
@@ -59,7 +64,8 @@ module _ (k : Rules) (o : Object) (answers : ℕ → ℕ → Bool → Type 0) (s
   share_of code f b mine others x y are sure more here there =
       served_worth k o answers sample seats rounds p q code f s none
       (λ r. subst (AreSure code) (sym (are r)) (either_sure code f b (mine r) (others r) (sure r) (more r)))
-      ∙ rounds_worth code f (round_of sample k p.me.setting seats p.me.seat) (cond b x y) (rounds_of sample seats rounds p.me.seat)
+      ∙ rounds_worth code f (round_of sample k p.me.setting seats p.me.seat) (cond b x y)
+      (rounds_of sample seats rounds p.me.seat)
       (λ r. ap (sum_by (planned code f)) (are r) ∙ either_round code f b (mine r) (others r) x y (here r) (there r))
 
 -- what a seat of a buffer does, in haste or not
@@ -90,13 +96,15 @@ module _ (k : Rules) (o : Object) (answers : ℕ → ℕ → Bool → Type 0) (s
 
   pub puts_of : sum_by (worth PUT once) (acts_in q.me.mine) ≡ rounds_of Buffer seats rounds p.me.seat * cond first 1 0
   puts_of =
-      share_of k o answers sample seats rounds p q s none PUT once first (λ r. put_by m r ∷ []) (λ r. take_by m ∷ []) 1 0
+      share_of k o answers sample seats rounds p q s none PUT once first (λ r. put_by m r ∷ [])
+      (λ r. take_by m ∷ []) 1 0
       (plans p.me.setting p.me.seat) (λ r. (tt, tt)) (λ r. (tt, tt)) (λ r. refl) (λ r. refl)
       ∙ ap (λ n. n * cond first 1 0) (works p.me.seat)
 
   pub takes_of : sum_by (worth TAKE once) (acts_in q.me.mine) ≡ rounds_of Buffer seats rounds p.me.seat * cond first 0 1
   takes_of =
-      share_of k o answers sample seats rounds p q s none TAKE once first (λ r. put_by m r ∷ []) (λ r. take_by m ∷ []) 0 1
+      share_of k o answers sample seats rounds p q s none TAKE once first (λ r. put_by m r ∷ [])
+      (λ r. take_by m ∷ []) 0 1
       (plans p.me.setting p.me.seat) (λ r. (tt, tt)) (λ r. (tt, tt)) (λ r. refl) (λ r. refl)
       ∙ ap (λ n. n * cond first 0 1) (works p.me.seat)
 
@@ -105,7 +113,8 @@ module _ (k : Rules) (o : Object) (answers : ℕ → ℕ → Bool → Type 0) (s
   items_in true n = numbers_worth PUT item (λ r. put_by m r ∷ []) n (λ r. omega arith)
   items_in false n = rounds_worth PUT item (λ r. take_by m ∷ []) 0 n (λ r. refl) ∙ omega arith
 
-  pub items_of : sum_by (worth PUT item) (acts_in q.me.mine) ≡ cond first (sum_to (rounds_of Buffer seats rounds p.me.seat)) 0
+  pub items_of : sum_by (worth PUT item) (acts_in q.me.mine)
+      ≡ cond first (sum_to (rounds_of Buffer seats rounds p.me.seat)) 0
   items_of =
       served_worth k o answers sample seats rounds p q PUT item s none
       (λ r. subst (AreSure PUT) (sym (plans p.me.setting p.me.seat r))
@@ -143,17 +152,20 @@ module _ (k : Rules) (o : Object) (answers : ℕ → ℕ → Bool → Type 0) (s
   abbrev visits : ℕ → List Plan
   visits r = sits ∷ departs ∷ []
 
-  pub calls_of : sum_by (worth CALL once) (acts_in q.me.mine) ≡ rounds_of Shop seats rounds p.me.seat * cond (nat_eq p.me.seat 0) 1 0
+  pub calls_of : sum_by (worth CALL once) (acts_in q.me.mine)
+      ≡ rounds_of Shop seats rounds p.me.seat * cond (nat_eq p.me.seat 0) 1 0
   calls_of =
       share_of k o answers Shop seats rounds p q s none CALL once (nat_eq p.me.seat 0) turns visits 1 0
       (λ r. refl) (λ r. (tt, (refl, tt))) (λ r. (tt, (tt, tt))) (λ r. refl) (λ r. refl)
 
-  pub sits_of : sum_by (worth SIT once) (acts_in q.me.mine) ≡ rounds_of Shop seats rounds p.me.seat * cond (nat_eq p.me.seat 0) 0 1
+  pub sits_of : sum_by (worth SIT once) (acts_in q.me.mine)
+      ≡ rounds_of Shop seats rounds p.me.seat * cond (nat_eq p.me.seat 0) 0 1
   sits_of =
       share_of k o answers Shop seats rounds p q s none SIT once (nat_eq p.me.seat 0) turns visits 0 1
       (λ r. refl) (λ r. (tt, (refl, tt))) (λ r. (tt, (tt, tt))) (λ r. refl) (λ r. refl)
 
-  pub departs_of : sum_by (worth DEPART once) (acts_in q.me.mine) ≡ rounds_of Shop seats rounds p.me.seat * cond (nat_eq p.me.seat 0) 0 1
+  pub departs_of : sum_by (worth DEPART once) (acts_in q.me.mine)
+      ≡ rounds_of Shop seats rounds p.me.seat * cond (nat_eq p.me.seat 0) 0 1
   departs_of =
       share_of k o answers Shop seats rounds p q s none DEPART once (nat_eq p.me.seat 0) turns visits 0 1
       (λ r. refl) (λ r. (tt, (refl, tt))) (λ r. (tt, (tt, tt))) (λ r. refl) (λ r. refl)

@@ -23,7 +23,8 @@ module _ (k : Rules) (o : Object) where
       (subst (λ (n : ℕ). IsShort c n g (needed_yet k o c w g)) same_seat
       (subst (λ (x : List Event). IsShort c s x (needed_yet k o c w x)) same short))
 
-  pub short_out : (ways : List Event → WayOut) (c d : Setting) (s t : ℕ) (h g now : List Event) → c ≡ d → s ≡ t → h ≡ g → h ≡ now
+  pub short_out : (ways : List Event → WayOut) (c d : Setting) (s t : ℕ) (h g now : List Event) → c ≡ d → s ≡ t
+      → h ≡ g → h ≡ now
       → IsShort c s h (needed_first (calls_out k s (ways h))) → IsShort d t g (needed_first (calls_out k t (ways now)))
   short_out ways c d s t h g now same_setting same_seat same here short =
       subst (λ (x : Setting). IsShort x t g (needed_first (calls_out k t (ways now)))) same_setting

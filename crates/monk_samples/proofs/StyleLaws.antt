@@ -45,18 +45,22 @@ spent_by budget rest n m needed same more short few = omega (arith, same, more, 
 
 module _ (k : Rules) (o : Object) where
   -- a seat that released inside, and came in again
-  pub came_back : (w : Pick) (a : Holder) (call : Event) (to : Home) (peeks : ℕ) (q : Token) (b : Holder) → Releases call
+  pub came_back : (w : Pick) (a : Holder) (call : Event) (to : Home) (peeks : ℕ) (q : Token) (b : Holder)
+      → Releases call
       → HasReleased k o a call w to peeks q → HasEntered k o q b
-      → (d : Addition) × HasCalled (inside a) (inside b) (d ∷ []) × IsCall k o w a.me.setting call d × (d.before ≡ a.floor.history)
+      → (d : Addition) × HasCalled (inside a) (inside b) (d ∷ []) × IsCall k o w a.me.setting call d
+      × (d.before ≡ a.floor.history)
   came_back w a call to peeks q b releases r e =
       let one = released k o w a call to peeks q releases r in
       (one.0, called_then (inside a) (outside q) (inside b) (one.0 ∷ []) [] one.1 (came k o q b e), one.2, one.3)
 
   -- a seat that stayed, or came in again
-  pub went_on : {K T : Type 0} (w : Pick) (x : After K T) (a : Holder) (call : Event) (to : Home) (peeks : ℕ) (b : Holder) → Releases call
+  pub went_on : {K T : Type 0} (w : Pick) (x : After K T) (a : Holder) (call : Event) (to : Home) (peeks : ℕ)
+      (b : Holder) → Releases call
       → MatchAfter x (λ y. HasStayed k o a call w peeks y) (λ p. HasReleased k o a call w to peeks p)
       → MatchAfter x (λ y. b ≡ y) (λ p. HasEntered k o p b)
-      → (d : Addition) × HasCalled (inside a) (inside b) (d ∷ []) × IsCall k o w a.me.setting call d × (d.before ≡ a.floor.history)
+      → (d : Addition) × HasCalled (inside a) (inside b) (d ∷ []) × IsCall k o w a.me.setting call d
+      × (d.before ≡ a.floor.history)
   went_on w (Active y) a call to peeks b releases s same =
       let one = stayed k o w a call peeks y releases s in
       (one.0, subst (λ (h : Holder). HasCalled (inside a) (inside h) (one.0 ∷ [])) (sym same) one.1, one.2, one.3)
@@ -64,7 +68,8 @@ module _ (k : Rules) (o : Object) where
 
   pub paused : (w : Pick) (a : Holder) (call : Event) (b : Holder) → length a.me.mine + 3 ≤ a.me.setting.budget
       → a.floor ≡ floor_of a.me.setting a.floor.history
-      → ((d : Addition) × HasCalled (inside a) (inside b) (d ∷ []) × IsCall k o w a.me.setting call d × (d.before ≡ a.floor.history))
+      → ((d : Addition) × HasCalled (inside a) (inside b) (d ∷ []) × IsCall k o w a.me.setting call d
+      × (d.before ≡ a.floor.history))
       → HasPaused k o w a call b
   paused w a call b room floor x = record { room = room; pause = x.0; called = x.1; is = x.2; at = x.3; floor = floor }
 
@@ -75,12 +80,14 @@ module _ (k : Rules) (o : Object) where
       let one = released k o w a call to peeks p releases r in
       record { made = one.0 ∷ []; called = one.1; are = (one.2, tt); told = r.told }
 
-  pub left : (w : Pick) (a : Holder) (to : Home) (peeks : ℕ) (p : Token) → HasReleased k o a (Leave a.me.seat Stay) w to peeks p
+  pub left : (w : Pick) (a : Holder) (to : Home) (peeks : ℕ) (p : Token)
+      → HasReleased k o a (Leave a.me.seat Stay) w to peeks p
       → HasGoneBy k o w a (Leave a.me.seat Stay ∷ []) p
   left w a to peeks p r = gone w a (Leave a.me.seat Stay) to peeks p (λ x. (refl, refl, refl)) r
 
   -- a seat that leaves finds all that it has made in its floor's history
-  own_counted : (a : Holder) (to : Home) (peeks : ℕ) (p : Token) → HasReleased k o a (Leave a.me.seat Stay) Waiter to peeks p
+  own_counted : (a : Holder) (to : Home) (peeks : ℕ) (p : Token)
+      → HasReleased k o a (Leave a.me.seat Stay) Waiter to peeks p
       → length (events_of a.floor.history a.me.seat) ≡ length a.me.mine
   own_counted a to peeks p r =
       let e = with_next r.choice (Leave a.me.seat Stay) in let s = a.me.seat in

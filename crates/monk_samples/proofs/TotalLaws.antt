@@ -19,7 +19,8 @@ last_act e = append-nil (act_of e)
 acts_more : (h : List Event) (e : Event) → acts_in (h ++ e ∷ []) ≡ acts_in h ++ act_of e
 acts_more h e = flat_map-append act_of h (e ∷ []) ∙ ap (λ (xs : List Answered). acts_in h ++ xs) (last_act e)
 
-pub done_more : (code : ℕ) (h : List Event) (e : Event) → count_done code (h ++ e ∷ []) ≡ count_done code h + times_done code (act_of e)
+pub done_more : (code : ℕ) (h : List Event) (e : Event)
+    → count_done code (h ++ e ∷ []) ≡ count_done code h + times_done code (act_of e)
 done_more code h e = ap (λ (xs : List Answered). times_done code xs) (acts_more h e)
     ∙ sum_by-append (λ a. cond (is_done code a) 1 0) (acts_in h) (act_of e)
 
@@ -78,4 +79,6 @@ taken_next n count more h d l e m = let next = ap sum_taken (take_more h n d l)
     ∙ sum_taken_more (take n h) (slice_index_or h n d) in omega (arith, next, e, m)
 
 pub taken_first : (n : ℕ) (h : List Event) → sum_taken (take n h) ≤ sum_taken h
-taken_first n h = subst (λ (x : List Event). sum_taken (take n h) ≤ sum_taken x) (take-append-drop n h) (taken_within (take n h) (drop n h))
+taken_first n h =
+    subst (λ (x : List Event). sum_taken (take n h) ≤ sum_taken x) (take-append-drop n h)
+    (taken_within (take n h) (drop n h))

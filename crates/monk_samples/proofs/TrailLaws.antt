@@ -42,12 +42,14 @@ between_since : (a b c : List Event) (own : List Addition) → StartsWith b a �
 between_since a b c [] s t = starts_then a b c s t
 between_since a b c (d ∷ own) s t = (starts_then a b d.before s t.0, t.1)
 
-between_then : (a b c : List Event) (own more : List Addition) → AreBetween a b own → AreBetween b c more → AreBetween a c (own ++ more)
+between_then : (a b c : List Event) (own more : List Addition) → AreBetween a b own → AreBetween b c more
+    → AreBetween a c (own ++ more)
 between_then a b c [] more s t = between_since a b c more s t
 between_then a b c (d ∷ own) more s t = (s.0, between_then (after d) b c own more s.1 t)
 
 went_nowhere : (x : Trail) → Went x x []
-went_nowhere x = record { hall = refl; seat = refl; setting = refl; seen = starts_here x.seen; mine = sym (append-nil x.mine) }
+went_nowhere x =
+    record { hall = refl; seat = refl; setting = refl; seen = starts_here x.seen; mine = sym (append-nil x.mine) }
 
 went_then : (x y z : Trail) (a b : List Addition) → Went x y a → Went y z b → Went x z (a ++ b)
 went_then x y z a b s t = record {
@@ -62,7 +64,8 @@ went_then x y z a b s t = record {
 pub called_none : (x : Trail) → HasCalled x x []
 called_none x = record { own = []; went = went_nowhere x; called = refl }
 
-pub called_then : (x y z : Trail) (cs ds : List Addition) → HasCalled x y cs → HasCalled y z ds → HasCalled x z (cs ++ ds)
+pub called_then : (x y z : Trail) (cs ds : List Addition) → HasCalled x y cs → HasCalled y z ds
+    → HasCalled x z (cs ++ ds)
 called_then x y z cs ds s t = record {
   own = s.own ++ t.own;
   went = went_then x y z s.own t.own s.went t.went;
@@ -106,7 +109,8 @@ module _ (k : Rules) (o : Object) where
       }
 
   -- nor is to arrive first
-  pub arrived : (p q : Token) (a : Holder) → HasArrived k o p q → HasEntered k o q a → HasCalled (outside p) (inside a) []
+  pub arrived : (p q : Token) (a : Holder) → HasArrived k o p q → HasEntered k o q a
+      → HasCalled (outside p) (inside a) []
   arrived p q a h e = subst (λ (x : Trail). HasCalled x (inside a) []) same (came q a e)
     where
       same : outside q ≡ outside p
@@ -129,7 +133,8 @@ module _ (k : Rules) (o : Object) where
       known,
       some_is y x (sym is ∙ (releases x).2) ∙ chosen
           ∙ ap (λ (f : FloorView). choice_of k o (stands_of k o f) call knows w) floor
-          ∙ ap (λ e. choice_of k o (stands_of k o (floor_of a.me.setting a.floor.history)) e knows w) (sym (releases x).1),
+          ∙ ap (λ e. choice_of k o (stands_of k o (floor_of a.me.setting a.floor.history)) e knows w)
+          (sym (releases x).1),
     );
   }
     where
@@ -139,42 +144,47 @@ module _ (k : Rules) (o : Object) where
   -- a release is one call
   pub released : (w : Pick) (a : Holder) (call : Event) (to : Home) (peeks : ℕ) (p : Token) → Releases call
       → HasReleased k o a call w to peeks p
-      → (d : Addition) × HasCalled (inside a) (outside p) (d ∷ []) × IsCall k o w a.me.setting call d × (d.before ≡ a.floor.history)
-  released w a call to peeks p releases r = let d : Addition = record { before = a.floor.history; event = with_next r.choice call } in (
-    d,
-    record {
-      own = d ∷ [];
-      went = record {
-        hall = r.hall;
-        seat = r.seat;
-        setting = r.setting;
-        seen = one_added a.floor.history (with_next r.choice call) p.me.seen r.seen;
-        mine = r.mine;
-      };
-      called = no_coming d (releases r.choice).0;
-    },
-    wished w a call r.choice p.me.known releases r.floor r.chosen,
-    refl,
-  )
+      → (d : Addition) × HasCalled (inside a) (outside p) (d ∷ []) × IsCall k o w a.me.setting call d
+      × (d.before ≡ a.floor.history)
+  released w a call to peeks p releases r = let d : Addition =
+      record { before = a.floor.history; event = with_next r.choice call } in (
+        d,
+        record {
+          own = d ∷ [];
+          went = record {
+            hall = r.hall;
+            seat = r.seat;
+            setting = r.setting;
+            seen = one_added a.floor.history (with_next r.choice call) p.me.seen r.seen;
+            mine = r.mine;
+          };
+          called = no_coming d (releases r.choice).0;
+        },
+        wished w a call r.choice p.me.known releases r.floor r.chosen,
+        refl,
+      )
 
-  pub stayed : (w : Pick) (a : Holder) (call : Event) (peeks : ℕ) (b : Holder) → Releases call → HasStayed k o a call w peeks b
-      → (d : Addition) × HasCalled (inside a) (inside b) (d ∷ []) × IsCall k o w a.me.setting call d × (d.before ≡ a.floor.history)
-  stayed w a call peeks b releases s = let d : Addition = record { before = a.floor.history; event = with_next Stay call } in (
-    d,
-    record {
-      own = d ∷ [];
-      went = record {
-        hall = ap (λ h. h.hall) s.is;
-        seat = ap (λ h. h.me.seat) s.is;
-        setting = ap (λ h. h.me.setting) s.is;
-        seen = one_added a.floor.history (with_next Stay call) b.floor.history (ap (λ h. h.floor.history) s.is);
-        mine = ap (λ h. h.me.mine) s.is;
-      };
-      called = no_coming d (releases Stay).0;
-    },
-    wished w a call Stay b.me.known releases s.floor s.chosen,
-    refl,
-  )
+  pub stayed : (w : Pick) (a : Holder) (call : Event) (peeks : ℕ) (b : Holder) → Releases call
+      → HasStayed k o a call w peeks b
+      → (d : Addition) × HasCalled (inside a) (inside b) (d ∷ []) × IsCall k o w a.me.setting call d
+      × (d.before ≡ a.floor.history)
+  stayed w a call peeks b releases s = let d : Addition =
+      record { before = a.floor.history; event = with_next Stay call } in (
+        d,
+        record {
+          own = d ∷ [];
+          went = record {
+            hall = ap (λ h. h.hall) s.is;
+            seat = ap (λ h. h.me.seat) s.is;
+            setting = ap (λ h. h.me.setting) s.is;
+            seen = one_added a.floor.history (with_next Stay call) b.floor.history (ap (λ h. h.floor.history) s.is);
+            mine = ap (λ h. h.me.mine) s.is;
+          };
+          called = no_coming d (releases Stay).0;
+        },
+        wished w a call Stay b.me.known releases s.floor s.chosen,
+        refl,
+      )
 
   -- an operation is one call
   pub did : (a : Holder) (s : ℕ) (op : Op) (r : ℕ) (b : Holder) → HasDone k o a (Act s op r) b
@@ -218,4 +228,5 @@ module _ (k : Rules) (o : Object) where
       let m = monitor_of k o a.floor in
       let legal : IsLegal m (a.floor.history ++ Act s op r ∷ []) =
       subst (λ (h : Holder). IsLegal (monitor_of k o h.floor) h.floor.history) d.is d.legal in
-      eqb-true r (o.reply (data_of m a.floor.history) op) ((legal_last m a.floor.history (Act s op r) legal).right_reply)
+      eqb-true r (o.reply (data_of m a.floor.history) op)
+      ((legal_last m a.floor.history (Act s op r) legal).right_reply)

@@ -36,7 +36,8 @@ use Rattle.monk_samples.proofs.ShortLaws.{less_than, needs_two, short_out, short
 use Rattle.monk_samples.proofs.TrailLaws.{called_none, called_then, did, replied}
 
 module _ (k : Rules) (o : Object) where
-  pauses_then : (c : Setting) (s : ℕ) (w : Guard) (xs ys : List Addition) → ArePauses k o c s w xs → ArePauses k o c s w ys
+  pauses_then : (c : Setting) (s : ℕ) (w : Guard) (xs ys : List Addition) → ArePauses k o c s w xs
+      → ArePauses k o c s w ys
       → ArePauses k o c s w (xs ++ ys)
   pauses_then c s w [] ys h t = t
   pauses_then c s w (d ∷ xs) ys h t = (h.0, h.1, pauses_then c s w xs ys h.2 t)
@@ -57,11 +58,13 @@ module _ (k : Rules) (o : Object) where
   few_one Patient d = tt
   few_one Hasty d = omega arith
 
-  paused_for_then : (c : Setting) (s : ℕ) (w : Option Guard) → IsPatient w → (xs ys : List Addition) → HasPausedFor k o c s w xs
+  paused_for_then : (c : Setting) (s : ℕ) (w : Option Guard) → IsPatient w → (xs ys : List Addition)
+      → HasPausedFor k o c s w xs
       → HasPausedFor k o c s w ys
       → HasPausedFor k o c s w (xs ++ ys)
   paused_for_then c s None patient xs ys h t = (λ i. h i ++ t i)
-  paused_for_then c s (Some w) patient xs ys h t = (pauses_then c s w xs ys h.0 t.0, few_patient w.manner (xs ++ ys) patient)
+  paused_for_then c s (Some w) patient xs ys h t =
+      (pauses_then c s w xs ys h.0 t.0, few_patient w.manner (xs ++ ys) patient)
 
   paused_for_none : (c : Setting) (s : ℕ) (w : Option Guard) → HasPausedFor k o c s w []
   paused_for_none c s None = refl
@@ -80,8 +83,10 @@ module _ (k : Rules) (o : Object) where
   }
 
   -- a pause, where the predicate was false
-  pub paused_first : (w : Guard) (a b : Holder) → HasPaused k o (wish_of w.manner) a (pause_call k a.me.seat w.cond w.pred) b
-      → o.holds (data_of (monitor_of k o a.floor) a.floor.history) w.pred ≡ false → HasPausedUntil k o (inside a) (Some w) b
+  pub paused_first : (w : Guard) (a b : Holder)
+      → HasPaused k o (wish_of w.manner) a (pause_call k a.me.seat w.cond w.pred) b
+      → o.holds (data_of (monitor_of k o a.floor) a.floor.history) w.pred ≡ false
+      → HasPausedUntil k o (inside a) (Some w) b
   paused_first w a b t not_yet = record {
     pauses = t.pause ∷ [];
     called = t.called;
@@ -134,7 +139,8 @@ module _ (k : Rules) (o : Object) where
           are = refl;
           paused = s.paused;
           leaves = rw (seat, setting) at t.is;
-          short = short_yet k o w a.me.setting x.setting a.me.seat x.seat a.floor.history t.leave.before setting seat (sym t.at)
+          short = short_yet k o w a.me.setting x.setting a.me.seat x.seat a.floor.history t.leave.before
+              setting seat (sym t.at)
               (less_than _ _ _ t.short within);
         };
         spent = t.spent;
@@ -143,7 +149,8 @@ module _ (k : Rules) (o : Object) where
 
   -- a seat that paused, and was tired before it was done with pausing
   pub tired_after : (x : Trail) (w : Option Guard) → IsPatient w → (a : Holder) (q : Token) → HasPausedUntil k o x w a
-      → HasTired k o (inside a) (IsLeftWaiting k o a.me.setting a.me.seat w) q → HasTired k o x (IsLeftWaiting k o x.setting x.seat w) q
+      → HasTired k o (inside a) (IsLeftWaiting k o a.me.setting a.me.seat w) q
+      → HasTired k o x (IsLeftWaiting k o x.setting x.seat w) q
   tired_after x w patient a q s t = let seat = s.called.went.seat in let setting = s.called.went.setting in record {
     calls = s.pauses ++ t.calls;
     called = called_then x (inside a) (outside q) s.pauses t.calls s.called t.called;
@@ -151,9 +158,12 @@ module _ (k : Rules) (o : Object) where
       pauses = s.pauses ++ t.are.pauses;
       leave = t.are.leave;
       are = ap (λ ds. s.pauses ++ ds) t.are.are ∙ sym (append_assoc s.pauses t.are.pauses (t.are.leave ∷ []));
-      paused = paused_for_then x.setting x.seat w patient s.pauses t.are.pauses s.paused (rw (seat, setting) at t.are.paused);
+      paused =
+          paused_for_then x.setting x.seat w patient s.pauses t.are.pauses s.paused
+          (rw (seat, setting) at t.are.paused);
       leaves = rw (seat, setting) at t.are.leaves;
-      short = short_yet k o w a.me.setting x.setting a.me.seat x.seat t.are.leave.before t.are.leave.before setting seat refl t.are.short;
+      short = short_yet k o w a.me.setting x.setting a.me.seat x.seat t.are.leave.before t.are.leave.before
+          setting seat refl t.are.short;
     };
     spent = t.spent;
     told = t.told;
@@ -161,7 +171,8 @@ module _ (k : Rules) (o : Object) where
 
   -- what is left in place of an operation for which nothing more was to be waited
   pub tired_inside : (x : Trail) (w : Option Guard) (a : Holder) (q : Token) → HasPausedUntil k o x w a
-      → HasTired k o (inside a) (IsLeftWaiting k o a.me.setting a.me.seat None) q → HasTired k o x (IsLeftWaiting k o x.setting x.seat w) q
+      → HasTired k o (inside a) (IsLeftWaiting k o a.me.setting a.me.seat None) q
+      → HasTired k o x (IsLeftWaiting k o x.setting x.seat w) q
   tired_inside x w a q s t = let seat = s.called.went.seat in let setting = s.called.went.setting in record {
     calls = s.pauses ++ t.calls;
     called = called_then x (inside a) (outside q) s.pauses t.calls s.called t.called;
@@ -171,7 +182,8 @@ module _ (k : Rules) (o : Object) where
       are = ap (λ ds. s.pauses ++ ds) (t.are.are ∙ ap (λ ds. ds ++ t.are.leave ∷ []) t.are.paused);
       paused = s.paused;
       leaves = rw (seat, setting) at t.are.leaves;
-      short = short_yet k o w a.me.setting x.setting a.me.seat x.seat t.are.leave.before t.are.leave.before setting seat refl
+      short = short_yet k o w a.me.setting x.setting a.me.seat x.seat t.are.leave.before t.are.leave.before
+          setting seat refl
           (less_than _ _ _ t.are.short (needs_two k o a.me.setting w t.are.leave.before));
     };
     spent = t.spent;
@@ -234,19 +246,22 @@ module _ (k : Rules) (o : Object) where
   pause_act true s c p = refl
   pause_act false s c p = refl
 
-  pauses_acts : (c : Setting) (s : ℕ) (w : Guard) (ds : List Addition) → ArePauses k o c s w ds → acts_in (events_in ds) ≡ []
+  pauses_acts : (c : Setting) (s : ℕ) (w : Guard) (ds : List Addition) → ArePauses k o c s w ds
+      → acts_in (events_in ds) ≡ []
   pauses_acts c s w [] h = refl
   pauses_acts c s w (d ∷ ds) h =
       (λ i. (call_acts (wish_of w.manner) c (pause_call k s w.cond w.pred) d h.0
       ∙ pause_act (has_conditions k.mode) s w.cond w.pred) i
       ++ pauses_acts c s w ds h.2 i)
 
-  pub paused_acts : (c : Setting) (s : ℕ) (w : Option Guard) (ds : List Addition) → HasPausedFor k o c s w ds → acts_in (events_in ds) ≡ []
+  pub paused_acts : (c : Setting) (s : ℕ) (w : Option Guard) (ds : List Addition) → HasPausedFor k o c s w ds
+      → acts_in (events_in ds) ≡ []
   paused_acts c s None ds h = ap (λ xs. acts_in (events_in xs)) h
   paused_acts c s (Some w) ds h = pauses_acts c s w ds h.0
 
   out_acts : (b d : Bool) (s c : ℕ)
-      → acts_in (cond b (Signal s c Stay ∷ Leave s Stay ∷ []) (cond d (SignalLeave s c Stay ∷ []) (Leave s Stay ∷ []))) ≡ []
+      → acts_in (cond b (Signal s c Stay ∷ Leave s Stay ∷ [])
+      (cond d (SignalLeave s c Stay ∷ []) (Leave s Stay ∷ []))) ≡ []
   out_acts true d s c = refl
   out_acts false true s c = refl
   out_acts false false s c = refl
@@ -257,8 +272,10 @@ module _ (k : Rules) (o : Object) where
   calls_out_acts s (SignalsAll cond) = refl
   calls_out_acts s (SignalsAndWaits cond wait_cond) = refl
 
-  pub acts_append : (xs ys : List Addition) → acts_in (events_in (xs ++ ys)) ≡ acts_in (events_in xs) ++ acts_in (events_in ys)
-  acts_append xs ys = ap acts_in (map-append (λ (d : Addition). d.event) xs ys) ∙ flat_map-append act_of (events_in xs) (events_in ys)
+  pub acts_append : (xs ys : List Addition)
+      → acts_in (events_in (xs ++ ys)) ≡ acts_in (events_in xs) ++ acts_in (events_in ys)
+  acts_append xs ys = ap acts_in (map-append (λ (d : Addition). d.event) xs ys)
+      ∙ flat_map-append act_of (events_in xs) (events_in ys)
 
   -- of pauses, an operation, and a way out, the operation alone is one
   one_act : (x : Trail) (w : Option Guard) (op : Op) (reply : ℕ) (a : Holder) (s : HasActed k o x w op reply a)
@@ -271,7 +288,8 @@ module _ (k : Rules) (o : Object) where
       acts_append (s.pauses ++ s.act ∷ []) made ∙ (λ i. here i ++ (calls_acts u c es made are ∙ none) i)
 
   -- a way out by the one condition or the other
-  pub finished_by : (b : Bool) (m n next : ℕ) (a : Holder) (q : Token) (end : End) → (b ≡ true → next ≡ m) → (b ≡ false → next ≡ n)
+  pub finished_by : (b : Bool) (m n next : ℕ) (a : Holder) (q : Token) (end : End) → (b ≡ true → next ≡ m)
+      → (b ≡ false → next ≡ n)
       → HasFinished k o Waiter a (way_out k a.me.seat next) q end
       → HasFinished k o Waiter a (calls_out k a.me.seat (cond b (Signals m) (Signals n))) q end
   finished_by true m n next a q end is_m is_n out =
@@ -296,7 +314,8 @@ module _ (k : Rules) (o : Object) where
 
   -- the tries that missed, and a last one
   tries_to : (c : Setting) (s : ℕ) (v : Plan) (misses : ℕ) (first rest : List Addition) → Misses v.guard misses
-      → AreMisses k o c s v misses first → (end : End) → IsTried k o c s v end rest → IsVisitTo k o c s v end (first ++ rest)
+      → AreMisses k o c s v misses first → (end : End) → IsTried k o c s v end rest
+      → IsVisitTo k o c s v end (first ++ rest)
   tries_to c s v misses first rest may missed end tried = record {
     misses = misses;
     may = may;
@@ -313,23 +332,27 @@ module _ (k : Rules) (o : Object) where
     is_first = tries_to c s v misses first rest may missed Done tried;
     is_rest = refl;
   }
-  one_visit c s v misses first rest may missed Tired tried = inl (tries_to c s v misses first rest may missed Tired tried)
+  one_visit c s v misses first rest may missed Tired tried =
+      inl (tries_to c s v misses first rest may missed Tired tried)
   one_visit c s v misses first rest may missed Late tried = absurd tried
 
-  abbrev pub visited_by : (p m q : Token) (v : Plan) (end : End) (misses : ℕ) → Misses v.guard misses → HasMissed k o p v misses m
+  abbrev pub visited_by : (p m q : Token) (v : Plan) (end : End) (misses : ℕ) → Misses v.guard misses
+      → HasMissed k o p v misses m
       → HasTried k o m v q end → HasVisited k o p (v ∷ []) q end
-  visited_by p m q v end misses may s t = let seat = s.called.went.seat in let setting = s.called.went.setting in record {
-    calls = s.calls ++ t.calls;
-    called = called_then (outside p) (outside m) (outside q) s.calls t.calls s.called t.called;
-    are = one_visit p.me.setting p.me.seat v misses s.calls t.calls may s.are end (rw (seat, setting) at t.are);
-    spent = t.spent;
-    told = t.told;
-  }
+  visited_by p m q v end misses may s t = let seat = s.called.went.seat in
+      let setting = s.called.went.setting in record {
+        calls = s.calls ++ t.calls;
+        called = called_then (outside p) (outside m) (outside q) s.calls t.calls s.called t.called;
+        are = one_visit p.me.setting p.me.seat v misses s.calls t.calls may s.are end (rw (seat, setting) at t.are);
+        spent = t.spent;
+        told = t.told;
+      }
 
   abbrev pub none_missed : (p : Token) (v : Plan) → HasMissed k o p v 0 p
   none_missed p v = record { calls = []; called = called_none (outside p); are = refl }
 
-  abbrev pub visited_first : (p q : Token) (v : Plan) (end : End) → HasTried k o p v q end → HasVisited k o p (v ∷ []) q end
+  abbrev pub visited_first : (p q : Token) (v : Plan) (end : End) → HasTried k o p v q end
+      → HasVisited k o p (v ∷ []) q end
   visited_first p q v end t = visited_by p p q v end 0 (no_miss v.guard) (none_missed p v) t
 
   -- a try that acted and went out
@@ -337,24 +360,26 @@ module _ (k : Rules) (o : Object) where
       → HasActed k o (outside p) v.guard v.op reply a → IsCertain v.guard reply
       → HasGoneOut k o (wish_in v.guard) a (calls_out k a.me.seat (v.goes_out a.floor.history)) q end
       → (t : HasTried k o p v q end) × (acts_in (events_in t.calls) ≡ record { op = v.op; reply = reply } ∷ [])
-  tried_telling p v reply a q Done s certain out = let seat = s.called.went.seat in let setting = s.called.went.setting in (
-    record {
-      calls = (s.pauses ++ s.act ∷ []) ++ out.made;
-      called = called_then (outside p) (inside a) (outside q) (s.pauses ++ s.act ∷ []) out.made s.called out.called;
-      are = record {
-        pauses = s.pauses;
-        act = s.act;
-        out = out.made;
-        are = append_assoc s.pauses (s.act ∷ []) out.made;
-        done = record { paused = s.paused; reply = reply; acts = s.acts; certain = certain };
-        goes = rw (seat, setting, s.last) at out.are;
-      };
-      spent = λ e. cc;
-      told = out.told;
-    },
-    one_act (outside p) v.guard v.op reply a s (wish_in v.guard) a.me.setting (calls_out k a.me.seat (v.goes_out a.floor.history))
-        out.made out.are (calls_out_acts a.me.seat (v.goes_out a.floor.history)),
-  )
+  tried_telling p v reply a q Done s certain out = let seat = s.called.went.seat in
+      let setting = s.called.went.setting in (
+        record {
+          calls = (s.pauses ++ s.act ∷ []) ++ out.made;
+          called = called_then (outside p) (inside a) (outside q) (s.pauses ++ s.act ∷ []) out.made s.called out.called;
+          are = record {
+            pauses = s.pauses;
+            act = s.act;
+            out = out.made;
+            are = append_assoc s.pauses (s.act ∷ []) out.made;
+            done = record { paused = s.paused; reply = reply; acts = s.acts; certain = certain };
+            goes = rw (seat, setting, s.last) at out.are;
+          };
+          spent = λ e. cc;
+          told = out.told;
+        },
+        one_act (outside p) v.guard v.op reply a s (wish_in v.guard) a.me.setting
+            (calls_out k a.me.seat (v.goes_out a.floor.history))
+            out.made out.are (calls_out_acts a.me.seat (v.goes_out a.floor.history)),
+      )
   tried_telling p v reply a q Tired s certain out =
       let seat = s.called.went.seat in let setting = s.called.went.setting in let d = out.leave in (
         record {
@@ -367,19 +392,22 @@ module _ (k : Rules) (o : Object) where
             are = append_assoc s.pauses (s.act ∷ []) (d ∷ []);
             done = record { paused = s.paused; reply = reply; acts = s.acts; certain = certain };
             leaves = rw (seat, setting) at out.is;
-            short = short_out k o v.goes_out a.me.setting p.me.setting a.me.seat p.me.seat a.floor.history d.before (after s.act)
+            short = short_out k o v.goes_out a.me.setting p.me.setting a.me.seat p.me.seat a.floor.history
+                d.before (after s.act)
                 setting seat (sym out.at) s.last out.short;
           };
           spent = λ e. out.spent;
           told = out.told;
         },
-        one_act (outside p) v.guard v.op reply a s Waiter a.me.setting (Leave a.me.seat Stay ∷ []) (d ∷ []) (out.is, tt) refl,
+        one_act (outside p) v.guard v.op reply a s Waiter a.me.setting (Leave a.me.seat Stay ∷ []) (d ∷ [])
+            (out.is, tt) refl,
       )
   tried_telling p v reply a q Late s certain out = absurd out
 
   pub tried_in : (p : Token) (v : Plan) (reply : ℕ) (a : Holder) (q : Token) (end : End)
       → HasActed k o (outside p) v.guard v.op reply a → IsCertain v.guard reply
-      → HasFinished k o (wish_in v.guard) a (calls_out k a.me.seat (v.goes_out a.floor.history)) q end → HasTried k o p v q end
+      → HasFinished k o (wish_in v.guard) a (calls_out k a.me.seat (v.goes_out a.floor.history)) q end
+      → HasTried k o p v q end
   tried_in p v reply a q end s certain out = (tried_telling p v reply a q end s certain
       (finished (wish_in v.guard) a (calls_out k a.me.seat (v.goes_out a.floor.history)) q end out)).0
 
@@ -387,42 +415,51 @@ module _ (k : Rules) (o : Object) where
   gone_telling : (p : Token) (v : Plan) (reply : ℕ) (a : Holder) (q : Token) (end : End)
       → HasActed k o (outside p) v.guard v.op reply a → IsCertain v.guard reply
       → HasGoneOut k o (wish_in v.guard) a (calls_out k a.me.seat (v.goes_out a.floor.history)) q end
-      → (visit : HasVisited k o p (v ∷ []) q end) × (acts_in (events_in visit.calls) ≡ record { op = v.op; reply = reply } ∷ [])
+      → (visit : HasVisited k o p (v ∷ []) q end)
+      × (acts_in (events_in visit.calls) ≡ record { op = v.op; reply = reply } ∷ [])
   gone_telling p v reply a q end s certain out =
       let t = tried_telling p v reply a q end s certain out in (visited_first p q v end t.0, t.1)
 
   pub visited_telling : (p : Token) (v : Plan) (reply : ℕ) (a : Holder) (q : Token) (end : End)
       → HasActed k o (outside p) v.guard v.op reply a → IsCertain v.guard reply
       → HasFinished k o (wish_in v.guard) a (calls_out k a.me.seat (v.goes_out a.floor.history)) q end
-      → (visit : HasVisited k o p (v ∷ []) q end) × (acts_in (events_in visit.calls) ≡ record { op = v.op; reply = reply } ∷ [])
+      → (visit : HasVisited k o p (v ∷ []) q end)
+      × (acts_in (events_in visit.calls) ≡ record { op = v.op; reply = reply } ∷ [])
   visited_telling p v reply a q end s certain out =
-      gone_telling p v reply a q end s certain (finished (wish_in v.guard) a (calls_out k a.me.seat (v.goes_out a.floor.history)) q end out)
+      gone_telling p v reply a q end s certain
+      (finished (wish_in v.guard) a (calls_out k a.me.seat (v.goes_out a.floor.history)) q end out)
 
   pub visited_out : (p : Token) (v : Plan) (reply : ℕ) (a : Holder) (q : Token) (end : End)
       → HasActed k o (outside p) v.guard v.op reply a → IsCertain v.guard reply
-      → HasGoneOut k o (wish_in v.guard) a (calls_out k a.me.seat (v.goes_out a.floor.history)) q end → HasVisited k o p (v ∷ []) q end
+      → HasGoneOut k o (wish_in v.guard) a (calls_out k a.me.seat (v.goes_out a.floor.history)) q end
+      → HasVisited k o p (v ∷ []) q end
   visited_out p v reply a q end s certain out = (gone_telling p v reply a q end s certain out).0
 
   pub visited : (p : Token) (v : Plan) (reply : ℕ) (a : Holder) (q : Token) (end : End)
       → HasActed k o (outside p) v.guard v.op reply a → IsCertain v.guard reply
-      → HasFinished k o (wish_in v.guard) a (calls_out k a.me.seat (v.goes_out a.floor.history)) q end → HasVisited k o p (v ∷ []) q end
+      → HasFinished k o (wish_in v.guard) a (calls_out k a.me.seat (v.goes_out a.floor.history)) q end
+      → HasVisited k o p (v ∷ []) q end
   visited p v reply a q end s certain out = (visited_telling p v reply a q end s certain out).0
 
   -- a try that was cut short before it acted, and a visit that was
-  abbrev pub untried : (p : Token) (v : Plan) (q : Token) → HasTired k o (outside p) (IsUnready k o p.me.setting p.me.seat v.guard) q
+  abbrev pub untried : (p : Token) (v : Plan) (q : Token)
+      → HasTired k o (outside p) (IsUnready k o p.me.setting p.me.seat v.guard) q
       → HasTried k o p v q Tired
   untried p v q t = record { calls = t.calls; called = t.called; are = inl t.are; spent = λ e. t.spent; told = t.told }
 
-  abbrev pub tired : (p : Token) (v : Plan) (q : Token) → HasTired k o (outside p) (IsUnready k o p.me.setting p.me.seat v.guard) q
+  abbrev pub tired : (p : Token) (v : Plan) (q : Token)
+      → HasTired k o (outside p) (IsUnready k o p.me.setting p.me.seat v.guard) q
       → HasVisited k o p (v ∷ []) q Tired
   tired p v q t = visited_first p q v Tired (untried p v q t)
 
   -- it did no operation
-  pub tired_tells : (p : Token) (v : Plan) (q : Token) → (t : HasTired k o (outside p) (IsUnready k o p.me.setting p.me.seat v.guard) q)
+  pub tired_tells : (p : Token) (v : Plan) (q : Token)
+      → (t : HasTired k o (outside p) (IsUnready k o p.me.setting p.me.seat v.guard) q)
       → acts_in (events_in t.calls) ≡ []
   tired_tells p v q t = unready_acts t.calls t.are
     where
-      unready_acts : (calls : List Addition) → IsUnready k o p.me.setting p.me.seat v.guard calls → acts_in (events_in calls) ≡ []
+      unready_acts : (calls : List Addition) → IsUnready k o p.me.setting p.me.seat v.guard calls
+          → acts_in (events_in calls) ≡ []
       unready_acts calls (inl none) = ap (λ ds. acts_in (events_in ds)) none
       unready_acts calls (inr l) = ap (λ ds. acts_in (events_in ds)) l.are ∙ acts_append l.pauses (l.leave ∷ [])
           ∙ (λ i. paused_acts p.me.setting p.me.seat v.guard l.pauses l.paused i

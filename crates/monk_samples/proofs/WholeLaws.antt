@@ -25,10 +25,12 @@ module _ (worth : Answered → ℕ) where
   pub acts_worth : (h : List Event) → sum_by worth (acts_in h) ≡ sum_by of_event h
   acts_worth [] = refl
   acts_worth (e ∷ h) =
-      sum_by-append worth (act_of e) (acts_in h) ∙ ap (λ n. of_event e + n) (acts_worth h) ∙ sym (sum_by-cons of_event e h)
+      sum_by-append worth (act_of e) (acts_in h) ∙ ap (λ n. of_event e + n) (acts_worth h)
+      ∙ sym (sum_by-cons of_event e h)
 
 -- over the passes that came back, what each seat's own events are worth
-module _ (k : Rules) (o : Object) (answers : ℕ → ℕ → Bool → Type 0) (sample : Sample) (seats rounds : ℕ) (h : House) (c : Setting)
+module _ (k : Rules) (o : Object) (answers : ℕ → ℕ → Bool → Type 0) (sample : Sample) (seats rounds : ℕ)
+    (h : House) (c : Setting)
     (z : TableId) (worth : Answered → ℕ) (share : ℕ → ℕ)
     (each : (p q : Token) → HasServed k o answers sample seats rounds p q Done → p.me.mine ≡ []
     → sum_by worth (acts_in q.me.mine) ≡ share p.me.seat) where

@@ -56,7 +56,8 @@ begins_to_read = when CAN_READ book.CAN_READ (op_of START_READ 0) (always CAN_RE
 -- the last reader signals a writer if one waits, and others a reader
 abbrev pub ends_to_read : Rules → Setting → Plan
 ends_to_read k c = at_once (op_of END_READ 0)
-    (λ h. if book_meaning.holds (data_after k book_meaning c h) book.CAN_WRITE && has_waiting k CAN_WRITE h then Signals CAN_WRITE
+    (λ h. if book_meaning.holds (data_after k book_meaning c h) book.CAN_WRITE && has_waiting k CAN_WRITE h
+    then Signals CAN_WRITE
     else Signals CAN_READ)
 
 abbrev pub begins_to_write : Plan
@@ -64,7 +65,8 @@ begins_to_write = when CAN_WRITE book.CAN_WRITE (op_of START_WRITE 0) nobody
 
 -- a reader if one waits, else a writer
 abbrev pub ends_to_write : Rules → Plan
-ends_to_write k = at_once (op_of END_WRITE 0) (λ h. if has_waiting k CAN_READ h then Signals CAN_READ else Signals CAN_WRITE)
+ends_to_write k =
+    at_once (op_of END_WRITE 0) (λ h. if has_waiting k CAN_READ h then Signals CAN_READ else Signals CAN_WRITE)
 
 -- all readers if one waits, else a writer
 abbrev pub ends_to_write_for_all : Rules → Plan

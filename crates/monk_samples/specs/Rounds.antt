@@ -15,8 +15,8 @@ use Rattle.monk_samples.specs.declared.end.End.TheVariants.{Done, Tired, Late}
 use Rattle.monk_samples.specs.declared.sample.Sample.{Sample}
 use Rattle.monk_samples.specs.declared.sample.Sample.TheVariants.{Buffer, Book, Shop, Hasty}
 
--- how many rounds a seat has: of a buffer and a book two halves work, and in a shop the first seat is the barber, who has
--- one for each of every other's
+-- how many rounds a seat has: of a buffer and a book two halves work, and in a shop the first seat
+-- is the barber, who has one for each of every other's
 abbrev pub rounds_of : Sample → ℕ → ℕ → ℕ → ℕ
 rounds_of Buffer seats rounds seat = if nat_lt seat (seats / 2 * 2) then rounds else 0
 rounds_of Book seats rounds seat = if nat_lt seat (seats / 2 * 2) then rounds else 0

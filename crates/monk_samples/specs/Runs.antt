@@ -54,7 +54,8 @@ module _ (k : Rules) (answers : ℕ → ℕ → Bool → Type 0) (sample : Sampl
     pub first : HasEndedFirst k (meaning_named (sample_object sample)) answers sample seats rounds
         (run_passes k sample seats rounds hall) end
 
-  -- every seat has served to its end, and then the first has too few events left to come in once more and close the hall
+  -- every seat has served to its end, and then the first has too few events left to come in once
+  -- more and close the hall
   pub record IsOverspent : Type 0 where
     pub run : HasRun
     pub spent : IsFirstSpent run.passes

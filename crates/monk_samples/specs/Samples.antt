@@ -81,7 +81,8 @@ pub record IsHistoryOf (k : Rules) (sample : Sample) (seats rounds : ℕ) (h : L
 
 -- a run has left this history, which is legal for the monitor that its header names, and not too long for an audit. It
 -- has a text under that header. The sample's law holds of it, and the totals are its own
-pub record IsOutcome (k : KindName) (sample : Sample) (seats : ℕ) (h : Heading) (history : List Event) (totals : List ℕ) : Type 0 where
+pub record IsOutcome (k : KindName) (sample : Sample) (seats : ℕ) (h : Heading) (history : List Event)
+    (totals : List ℕ) : Type 0 where
   pub header : h ≡ run_heading k sample seats
   pub legal : IsLegal (named_monitor h) history
   pub few : length history ≤ 2 ^ 24

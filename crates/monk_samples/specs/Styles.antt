@@ -48,8 +48,9 @@ way_out k s c =
     else if returns_at_once k.mode then SignalLeave s c Stay ∷ []
     else Leave s Stay ∷ []
 
--- how many events a seat has to have left for its next call: where it stays active, that one and one to leave by; where it
--- may hand the monitor over, one more to come in again. A call by which it leaves is always left to it
+-- how many events a seat has to have left for its next call: where it stays active, that one and
+-- one to leave by; where it may hand the monitor over, one more to come in again. A call by which
+-- it leaves is always left to it
 abbrev pub for_staying : ℕ
 for_staying = 2
 

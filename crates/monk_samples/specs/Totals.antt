@@ -35,20 +35,23 @@ totals_of_buffer h = count_done PUT h ∷ sum_put h ∷ count_done TAKE h ∷ su
 abbrev pub totals_of : Sample → List Event → List ℕ
 totals_of Buffer h = totals_of_buffer h
 totals_of Hasty h = totals_of_buffer h
-totals_of Book h = count_done START_READ h ∷ count_done END_READ h ∷ count_done START_WRITE h ∷ count_done END_WRITE h ∷ []
+totals_of Book h =
+    count_done START_READ h ∷ count_done END_READ h ∷ count_done START_WRITE h ∷ count_done END_WRITE h ∷ []
 totals_of Shop h = count_done SIT h ∷ count_done CALL h ∷ count_done FINISH h ∷ count_done DEPART h ∷ []
 
 -- of a book as many reads and writes were ended as were begun
 abbrev pub HasEnded : Sample → List Event → Type 0
 HasEnded Buffer h = Unit {0}
-HasEnded Book h = (count_done END_READ h ≡ count_done START_READ h) × (count_done END_WRITE h ≡ count_done START_WRITE h)
+HasEnded Book h = (count_done END_READ h ≡ count_done START_READ h)
+    × (count_done END_WRITE h ≡ count_done START_WRITE h)
 HasEnded Shop h = Unit {0}
 HasEnded Hasty h = Unit {0}
 
 -- half of the seats put the numbers of their rounds, and as many take as often
 abbrev pub HasPutAndTaken : ℕ → ℕ → List ℕ → Type 0
 HasPutAndTaken seats rounds t =
-    t ≡ seats / 2 * rounds ∷ seats / 2 * (rounds * (rounds + 1) / 2) ∷ seats / 2 * rounds ∷ seats / 2 * (rounds * (rounds + 1) / 2) ∷ []
+    t ≡ seats / 2 * rounds ∷ seats / 2 * (rounds * (rounds + 1) / 2) ∷ seats / 2 * rounds
+    ∷ seats / 2 * (rounds * (rounds + 1) / 2) ∷ []
 
 -- what the totals of a run have to be, by its seats and rounds
 abbrev pub HasTotals : Sample → ℕ → ℕ → List ℕ → Type 0

@@ -120,7 +120,8 @@ calls_out k s (SignalsAll cond) = SignalAll s cond ∷ Leave s Stay ∷ []
 calls_out k s (SignalsAndWaits cond wait_cond) = SignalWait s cond wait_cond Stay ∷ Leave s Stay ∷ []
 
 -- the pauses and the operation of a visit
-pub record IsDone (k : Rules) (o : Object) (c : Setting) (s : ℕ) (v : Plan) (pauses : List Addition) (act : Addition) : Type 0 where
+pub record IsDone (k : Rules) (o : Object) (c : Setting) (s : ℕ) (v : Plan) (pauses : List Addition)
+    (act : Addition) : Type 0 where
   pub paused : HasPausedFor k o c s v.guard pauses
   pub reply : ℕ
   pub acts : IsAct k o c s v.op reply act
@@ -135,14 +136,16 @@ pub record IsTry (k : Rules) (o : Object) (c : Setting) (s : ℕ) (v : Plan) (ca
   pub done : IsDone k o c s v pauses act
   pub goes : AreCalls k o (wish_in v.guard) c (calls_out k s (v.goes_out (after act))) out
 
--- what a seat needs for its next call where it has yet to act: for its operation, or while the predicate is false for its
--- next pause
+-- what a seat needs for its next call where it has yet to act: for its operation, or while the
+-- predicate is false for its next pause
 abbrev pub needed_yet : Rules → Object → Setting → Option Guard → List Event → ℕ
 needed_yet k o c None h = for_staying
 needed_yet k o c (Some w) h = if o.holds (data_after k o c h) w.pred then for_staying else for_handing_over
 
--- these calls of seat s pause for this, and then it leaves, with too few events left for its next pause or its operation
-pub record IsLeftWaiting (k : Rules) (o : Object) (c : Setting) (s : ℕ) (guard : Option Guard) (calls : List Addition) : Type 0 where
+-- these calls of seat s pause for this, and then it leaves, with too few events left for its next
+-- pause or its operation
+pub record IsLeftWaiting (k : Rules) (o : Object) (c : Setting) (s : ℕ) (guard : Option Guard)
+    (calls : List Addition) : Type 0 where
   pub pauses : List Addition
   pub leave : Addition
   pub are : calls ≡ pauses ++ leave ∷ []
@@ -150,8 +153,8 @@ pub record IsLeftWaiting (k : Rules) (o : Object) (c : Setting) (s : ℕ) (guard
   pub leaves : IsCall k o Waiter c (Leave s Stay) leave
   pub short : IsShort c s leave.before (needed_yet k o c guard leave.before)
 
--- they pause and do the operation, and then it leaves without a signal, with too few events left for the first call of its
--- way out: none is too few for a leave
+-- they pause and do the operation, and then it leaves without a signal, with too few events left
+-- for the first call of its way out: none is too few for a leave
 pub record IsLeftUnsaid (k : Rules) (o : Object) (c : Setting) (s : ℕ) (v : Plan) (calls : List Addition) : Type 0 where
   pub pauses : List Addition
   pub act : Addition
@@ -161,8 +164,8 @@ pub record IsLeftUnsaid (k : Rules) (o : Object) (c : Setting) (s : ℕ) (v : Pl
   pub leaves : IsCall k o Waiter c (Leave s Stay) leave
   pub short : IsShort c s leave.before (needed_first (calls_out k s (v.goes_out (after act))))
 
--- the visit of a seat that was tired: it did not come in; or it left in place of its next pause or of its operation; or in
--- place of its signal
+-- the visit of a seat that was tired: it did not come in; or it left in place of its next pause or
+-- of its operation; or in place of its signal
 abbrev pub IsUnready : Rules → Object → Setting → ℕ → Option Guard → List Addition → Type 0
 IsUnready k o c s guard calls = (calls ≡ []) ⊎ IsLeftWaiting k o c s guard calls
 
@@ -204,7 +207,8 @@ Misses None n = n ≡ 0
 Misses (Some w) n = MissesIn w.manner n
 
 -- these calls of seat s are the visit, which ended so: the tries that missed, and a last one
-pub record IsVisitTo (k : Rules) (o : Object) (c : Setting) (s : ℕ) (v : Plan) (end : End) (calls : List Addition) : Type 0 where
+pub record IsVisitTo (k : Rules) (o : Object) (c : Setting) (s : ℕ) (v : Plan) (end : End)
+    (calls : List Addition) : Type 0 where
   pub misses : ℕ
   pub may : Misses v.guard misses
   pub tries : Then (AreMisses k o c s v misses) (IsTried k o c s v end) calls
@@ -220,12 +224,13 @@ abbrev pub AreVisits : Rules → Object → Setting → ℕ → End → List Pla
 AreVisits k o c s Done [] calls = calls ≡ []
 AreVisits k o c s Done (v ∷ vs) calls = Then (IsVisit k o c s v) (AreVisits k o c s Done vs) calls
 AreVisits k o c s Tired [] calls = ⊥
-AreVisits k o c s Tired (v ∷ vs) calls = IsCutShort k o c s v calls ⊎ Then (IsVisit k o c s v) (AreVisits k o c s Tired vs) calls
+AreVisits k o c s Tired (v ∷ vs) calls = IsCutShort k o c s v calls
+    ⊎ Then (IsVisit k o c s v) (AreVisits k o c s Tired vs) calls
 AreVisits k o c s Late vs calls = ⊥
 
--- a member was called with p and gives q back: the same seat, out again, which has made the calls of these visits and no
--- other. It is tired only where at most one event is left. What it has seen is legal, with its own events those that it
--- knows
+-- a member was called with p and gives q back: the same seat, out again, which has made the calls
+-- of these visits and no other. It is tired only where at most one event is left. What it has seen
+-- is legal, with its own events those that it knows
 pub record HasVisited (k : Rules) (o : Object) (p : Token) (plans : List Plan) (q : Token) (end : End) : Type 0 where
   pub calls : List Addition
   pub called : HasCalled (outside p) (outside q) calls
@@ -275,7 +280,8 @@ pub record HasPausedUntil (k : Rules) (o : Object) (x : Trail) (guard : Option G
   pub paused : HasPausedFor k o x.setting x.seat guard pauses
 
 -- from x on the seat has paused for this and done the operation, with this reply, and is active: that was its last call
-pub record HasActed (k : Rules) (o : Object) (x : Trail) (guard : Option Guard) (op : Op) (reply : ℕ) (b : Holder) : Type 0 where
+pub record HasActed (k : Rules) (o : Object) (x : Trail) (guard : Option Guard) (op : Op) (reply : ℕ)
+    (b : Holder) : Type 0 where
   pub pauses : List Addition
   pub act : Addition
   pub called : HasCalled x (inside b) (pauses ++ act ∷ [])

@@ -40,4 +40,5 @@ pub record IsClosedBy (h : List Event) (p : Token) : Type 0 where
 -- seat has made in it exactly what its pass knows
 abbrev pub IsLeftBy : List Event → List Token → Type 0
 IsLeftBy h [] = ⊥
-IsLeftBy h (p ∷ ps) = IsClosedBy h p × All (λ q. events_of h q.me.seat ≡ q.me.mine) ps × All (λ q. StartsWith h q.me.seen) (p ∷ ps)
+IsLeftBy h (p ∷ ps) = IsClosedBy h p × All (λ q. events_of h q.me.seat ≡ q.me.mine) ps
+    × All (λ q. StartsWith h q.me.seen) (p ∷ ps)

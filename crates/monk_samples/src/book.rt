@@ -1,5 +1,5 @@
-//! Readers and writers: several read at once, one writes alone. A reader begins and ends with two visits of its own, as a
-//! writer does, and reads or writes outside the monitor between them.
+//! Readers and writers: several read at once, one writes alone. A reader begins and ends with two
+//! visits of its own, as a writer does, and reads or writes outside the monitor between them.
 ghost use Rattle.std.specs.Prelude.{◌≡◌, ◌≤◌, [], ◌∷◌};
 ghost use Rattle.monk_object.specs.Book.{book_meaning};
 ghost use Rattle.monk_samples.specs.Members.{begins_to_read, ends_to_read, begins_to_write, ends_to_write, ends_to_write_for_all};
@@ -111,8 +111,8 @@ pub fn write_end<K: Style, R: Wait>(
     }
 }
 
-/// Ends its write, and lets all readers go on that wait, by one signal to all; if none waits, it lets a writer go on. For
-/// kinds whose signaller goes on.
+/// Ends its write, and lets all readers go on that wait, by one signal to all; if none waits, it
+/// lets a writer go on. For kinds whose signaller goes on.
 pub fn write_end_all<K: Style + NonBlocking, R: Wait>(
     pass: Pass<K, Book>,
     rt: &R,

@@ -92,8 +92,8 @@ pub fn take<K: Style, R: Wait>(
     }
 }
 
-/// Puts an item into the buffer in haste, and lets a taker go on: it looks for room once, and comes again where the put was
-/// refused.
+/// Puts an item into the buffer in haste, and lets a taker go on: it looks for room once, and comes
+/// again where the put was refused.
 pub(crate) fn put_hastily<K: Style, R: Wait>(
     pass: Pass<K, Buffer>,
     rt: &R,
@@ -111,8 +111,8 @@ pub(crate) fn put_hastily<K: Style, R: Wait>(
     act_and_finish_in_haste(pass, rt, hall, NOT_FULL, Buffer::HAS_ROOM, put, NOT_EMPTY)
 }
 
-/// Takes the oldest item out of the buffer in haste, and lets a putter go on: it looks for an item once, and comes again where
-/// the take was refused.
+/// Takes the oldest item out of the buffer in haste, and lets a putter go on: it looks for an item
+/// once, and comes again where the take was refused.
 pub(crate) fn take_hastily<K: Style, R: Wait>(
     pass: Pass<K, Buffer>,
     rt: &R,

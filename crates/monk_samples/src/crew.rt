@@ -97,11 +97,14 @@ pub(crate) fn join_all<K: Kind, T: Guarded, R: Threads, G: Gate>(
     rota: Rota,
     crew: Vec<Shift<K, T, G>>,
 ) -> Result<Vec<Pass<K, T>>, CrewFault>
-    requires { All (λ s. (s.promise.hall.value ≡ hall.now) × (s.promise.gate.value ≡ gate.now) × (s.promise.rota.value ≡ rota))
+    requires { All (λ s. (s.promise.hall.value ≡ hall.now) × (s.promise.gate.value ≡ gate.now)
+        × (s.promise.rota.value ≡ rota))
         crew.items }
-    ensures served { IfOk result (λ v. HaveServed K.rules T.meaning (G.answers gate.now) rota.sample rota.seats rota.rounds
+    ensures served { IfOk result (λ v. HaveServed K.rules T.meaning
+        (G.answers gate.now) rota.sample rota.seats rota.rounds
         hall.now (map (λ s. s.promise.pass.value) crew.items) v.items) }
-    ensures fault { IfErr result (IsFaultOfCrew K.rules T.meaning (G.answers gate.now) rota.sample rota.seats rota.rounds
+    ensures fault { IfErr result (IsFaultOfCrew K.rules T.meaning
+        (G.answers gate.now) rota.sample rota.seats rota.rounds
         (map (λ s. s.promise.pass.value) crew.items)) }
 {
     let mut passes = Vec::with_capacity(alloc, crew.len() + 1)?;

@@ -12,7 +12,8 @@ use monk_object::Guarded;
 use std::snapshot::Snapshot;
 use std::thread::{Promise, PromisedHandle};
 
-/// What a worker promises: if it has begun, the pass that it gives back is of its hall, and its seat has served by its rota.
+/// What a worker promises: if it has begun, the pass that it gives back is of its hall, and its
+/// seat has served by its rota.
 #[derive(Drop)]
 pub(crate) struct Duty<K: Kind, T: Guarded, G: Gate> {
     pub(crate) hall: Snapshot<Hall<K, T>>,
@@ -40,7 +41,8 @@ impl<K: Kind, T: Guarded, G: Gate> Duty<K, T, G> {
 
 impl<K: Kind, T: Guarded, G: Gate> Promise<Option<(Pass<K, T>, End)>> for Duty<K, T, G> {
     ghost kept_by = { λ p back. IfSome back (λ r. IsOf p.hall.value r.0
-        × HasServed K.rules T.meaning (G.answers p.gate.value) p.rota.value.sample p.rota.value.seats p.rota.value.rounds
+        × HasServed K.rules T.meaning (G.answers p.gate.value) p.rota.value.sample p.rota.value.seats
+        p.rota.value.rounds
         p.pass.value r.0 r.1) };
 }
 

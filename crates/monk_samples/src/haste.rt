@@ -1,5 +1,5 @@
-//! Visits in haste: an `if` where a `while` belongs. Under some kinds that is right, and under others what was waited for may
-//! be gone when the seat goes on.
+//! Visits in haste: an `if` where a `while` belongs. Under some kinds that is right, and under
+//! others what was waited for may be gone when the seat goes on.
 ghost use Rattle.std.specs.Prelude.{◌≡◌, ◌+◌, ◌<◌, ◌≤◌, [], ◌∷◌, Some, IfOk, IfErr, MatchResult, length};
 ghost use Rattle.monk_samples.specs.Styles.{Offers};
 ghost use Rattle.monk_samples.specs.Trails.{inside, outside};

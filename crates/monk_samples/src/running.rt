@@ -38,26 +38,28 @@ const SIZE: u8 = 4;
 /// That of the hasty sample's: with one place its seats wait for each other most often.
 const HASTY_SIZE: u8 = 1;
 
-/// Runs a sample under the kind K with 2 to 16 seats, each at work for 1 to 1000 rounds in a thread of its own, and reads
-/// the totals from its history.
+/// Runs a sample under the kind K with 2 to 16 seats, each at work for 1 to 1000 rounds in a thread
+/// of its own, and reads the totals from its history.
 ///
-/// Of a buffer, hasty or not, and a book one half of the seats does the one thing and as many do the other; an odd last seat stays
-/// idle. In a shop the first seat is the barber, who has a turn for each visit of the other seats. No worker begins before
-/// all are there, and none waits for another to end before it begins. When all have ended, every other pass meets the
-/// first seat's, which comes in once more and closes the hall.
+/// Of a buffer, hasty or not, and a book one half of the seats does the one thing and as many do
+/// the other; an odd last seat stays idle. In a shop the first seat is the barber, who has a turn
+/// for each visit of the other seats. No worker begins before all are there, and none waits for
+/// another to end before it begins. When all have ended, every other pass meets the first seat's,
+/// which comes in once more and closes the hall.
 ///
 /// # Errors
 ///
 /// `Range`, and nothing is started; `Memory` where a growth was refused; `Thread` where a thread was not started, and
-/// then no worker has begun; the end of the lowest seat that did not end well, `Tired` or `Late`; `Tired` where the first
-/// seat has too little left to come in once more; `Busy` where the hall can't be closed, or its history holds more than
-/// these seats did, or of a book a read or a write that was not ended. A worker that ends early may leave others waiting
-/// for good: then this does not return.
+/// then no worker has begun; the end of the lowest seat that did not end well, `Tired` or `Late`;
+/// `Tired` where the first seat has too little left to come in once more; `Busy` where the hall
+/// can't be closed, or its history holds more than these seats did, or of a book a read or a write
+/// that was not ended. A worker that ends early may leave others waiting for good: then this does
+/// not return.
 ///
 /// # Cost
 ///
-/// Memory for the budgets of all seats, `64 + rounds * (40 + 32 * seats)` events each, at once; three to five passes over
-/// the history for the totals, and of a book four more.
+/// Memory for the budgets of all seats, `64 + rounds * (40 + 32 * seats)` events each, at once;
+/// three to five passes over the history for the totals, and of a book four more.
 pub fn run<K: Style, R: Threads + Wait + Sync, G: Gate>(
     rt: &R,
     alloc: Global,
@@ -70,8 +72,8 @@ pub fn run<K: Style, R: Threads + Wait + Sync, G: Gate>(
     // The range is refused exactly where a number is out of it.
     ensures range { IsErrOf result RunFault.Range ↔ ((seats < 2) ⊎ (16 < seats) ⊎ (rounds < 1) ⊎ (1000 < rounds)) }
     ensures in_range { OnOk result (IsInRange seats rounds) }
-    // Each seat has served to its end, let in by the gate to each of its rounds, and the history is what they have left;
-    // or why it has no outcome.
+    // Each seat has served to its end, let in by the gate to each of its rounds, and the history is
+    // what they have left; or why it has no outcome.
     ensures served { IfOk result (λ o. HasLeft K.rules (G.answers gate.now) sample seats rounds o.history.items) }
     ensures fault { IfErr result (IsFaultOfRun K.rules (G.answers gate.now) sample seats rounds) }
     // The totals are those of the seats and the rounds, whatever the kind and the schedule.
@@ -104,7 +106,8 @@ fn run_buffer<K: Style, R: Threads + Wait + Sync, G: Gate>(
 ) -> Result<Vec<Event>, CrewFault>
     requires { rota.sample ≡ sample.Buffer }
     ensures history { IfOk result (λ v. IsHistoryOf K.rules sample.Buffer rota.seats rota.rounds v.items) }
-    ensures served { IfOk result (λ v. HasLeft K.rules (G.answers gate.now) sample.Buffer rota.seats rota.rounds v.items) }
+    ensures served { IfOk result (λ v. HasLeft K.rules
+        (G.answers gate.now) sample.Buffer rota.seats rota.rounds v.items) }
     ensures fault { IfErr result (λ e. IsFaultOfRun K.rules (G.answers gate.now) sample.Buffer rota.seats rota.rounds
         (run_fault_of e)) }
 {
@@ -127,7 +130,8 @@ fn run_hasty<K: Style, R: Threads + Wait + Sync, G: Gate>(
 ) -> Result<Vec<Event>, CrewFault>
     requires { rota.sample ≡ sample.Hasty }
     ensures history { IfOk result (λ v. IsHistoryOf K.rules sample.Hasty rota.seats rota.rounds v.items) }
-    ensures served { IfOk result (λ v. HasLeft K.rules (G.answers gate.now) sample.Hasty rota.seats rota.rounds v.items) }
+    ensures served { IfOk result (λ v. HasLeft K.rules
+        (G.answers gate.now) sample.Hasty rota.seats rota.rounds v.items) }
     ensures fault { IfErr result (λ e. IsFaultOfRun K.rules (G.answers gate.now) sample.Hasty rota.seats rota.rounds
         (run_fault_of e)) }
 {
@@ -150,7 +154,8 @@ fn run_book<K: Style, R: Threads + Wait + Sync, G: Gate>(
 ) -> Result<Vec<Event>, CrewFault>
     requires { rota.sample ≡ sample.Book }
     ensures history { IfOk result (λ v. IsHistoryOf K.rules sample.Book rota.seats rota.rounds v.items) }
-    ensures served { IfOk result (λ v. HasLeft K.rules (G.answers gate.now) sample.Book rota.seats rota.rounds v.items) }
+    ensures served { IfOk result (λ v. HasLeft K.rules
+        (G.answers gate.now) sample.Book rota.seats rota.rounds v.items) }
     ensures fault { IfErr result (λ e. IsFaultOfRun K.rules (G.answers gate.now) sample.Book rota.seats rota.rounds
         (run_fault_of e)) }
 {
@@ -171,7 +176,8 @@ fn run_shop<K: Style, R: Threads + Wait + Sync, G: Gate>(
 ) -> Result<Vec<Event>, CrewFault>
     requires { rota.sample ≡ sample.Shop }
     ensures history { IfOk result (λ v. IsHistoryOf K.rules sample.Shop rota.seats rota.rounds v.items) }
-    ensures served { IfOk result (λ v. HasLeft K.rules (G.answers gate.now) sample.Shop rota.seats rota.rounds v.items) }
+    ensures served { IfOk result (λ v. HasLeft K.rules
+        (G.answers gate.now) sample.Shop rota.seats rota.rounds v.items) }
     ensures fault { IfErr result (λ e. IsFaultOfRun K.rules (G.answers gate.now) sample.Shop rota.seats rota.rounds
         (run_fault_of e)) }
 {

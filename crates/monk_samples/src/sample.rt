@@ -13,9 +13,9 @@ pub enum Sample {
     Book,
     /// The first seat is the barber of a shop, and every other a customer.
     Shop,
-    /// As of a buffer, in haste: a seat looks at its predicate once (`if`, where `while` belongs), acts then whatever holds, and
-    /// comes again where its act was refused. Its releases wish for entry. So under some kinds an item is gone when the seat
-    /// that was signalled goes on.
+    /// As of a buffer, in haste: a seat looks at its predicate once (`if`, where `while` belongs),
+    /// acts then whatever holds, and comes again where its act was refused. Its releases wish for
+    /// entry. So under some kinds an item is gone when the seat that was signalled goes on.
     Hasty,
 }
 

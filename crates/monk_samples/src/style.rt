@@ -12,8 +12,9 @@ use std::sync::Wait;
 /// How a seat waits for others and lets them go on, under a kind of monitor. A member that is generic over `K: Style`
 /// serves all ten kinds.
 ///
-/// A member names a condition variable and the predicate that goes with it; a kind uses the one that it has. The wish of
-/// `pause` and `finish` is for a waiter, so that whoever was signalled goes on where the priorities leave it open.
+/// A member names a condition variable and the predicate that goes with it; a kind uses the one
+/// that it has. The wish of `pause` and `finish` is for a waiter, so that whoever was signalled
+/// goes on where the priorities leave it open.
 pub trait Style: Kind {
     /// Pauses: waits on the condition until it is signalled, or under an automatic kind until the predicate holds. The
     /// predicate need not hold afterwards where others may come in between, so a caller looks again.
@@ -81,7 +82,8 @@ pub trait Style: Kind {
         wish: Pick,
     ) -> (Pass<Self, T>, End)
         requires { MayFinish Self.rules hall.now.id active cond }
-        ensures { HasFinished Self.rules T.meaning wish active (way_out Self.rules active.me.seat cond) result.0 result.1 }
+        ensures { HasFinished Self.rules T.meaning wish active
+            (way_out Self.rules active.me.seat cond) result.0 result.1 }
     {
         match rules_of::<Self>().mode {
             Mode::Automatic => (active.leave(hall, wish), End::Done),

@@ -22,7 +22,8 @@ pub(crate) fn come_in<K: Kind, T: Guarded, R: Wait>(
     hall: &Hall<K, T>,
 ) -> Result<Active<K, T>, Pass<K, T>>
     requires { pass.hall ≡ hall.now.id }
-    ensures came { MatchResult result (λ a. HasCalled (outside pass) (inside a) []) (λ q. HasStayedOut K.rules T.meaning pass q) }
+    ensures came { MatchResult result (λ a. HasCalled (outside pass) (inside a) [])
+        (λ q. HasStayedOut K.rules T.meaning pass q) }
     ensures room { IfOk result (λ _. length pass.me.mine + 2 ≤ pass.me.setting.budget) }
 {
     if pass.left() < 2 {
@@ -143,8 +144,8 @@ pub(crate) fn act_when<K: Style, T: Guarded, R: Wait>(
     }
 }
 
-/// Comes in, pauses while the predicate is false, does an operation, which gets done then, and goes out letting a seat of
-/// the condition `next` go on.
+/// Comes in, pauses while the predicate is false, does an operation, which gets done then, and goes
+/// out letting a seat of the condition `next` go on.
 pub(crate) fn act_and_finish<K: Style, T: Guarded, R: Wait>(
     pass: Pass<K, T>,
     rt: &R,

@@ -29,11 +29,13 @@ permitted_same k o t (Resume s q) x = refl
 permitted_same k o t (SignalAll s c) x = refl
 permitted_same k o t (SignalWait s c d y) x = refl
 
-pub chosen_found : (k : Rules) (o : Object) (t : Situation) (e : Event) (q : Queues) (stays : Bool) (first : List (From3 × ℕ))
+pub chosen_found : (k : Rules) (o : Object) (t : Situation) (e : Event) (q : Queues) (stays : Bool)
+    (first : List (From3 × ℕ))
     (may : List Next) → q ≡ queues_at o t e → stays ≡ must_stay o t e → first ≡ fronts q
     → may ≡ filter (λ x. permits k q stays (with_next x e)) (candidates q)
     → record { fronts = first; may = may } ≡ chosen_at k o t e
-chosen_found k o t e q stays first may lined stay fronts_are may_are = λ i. record { fronts = fronts_path i; may = may_path i }
+chosen_found k o t e q stays first may lined stay fronts_are may_are =
+    λ i. record { fronts = fronts_path i; may = may_path i }
   where
     fronts_path : first ≡ fronts (queues_at o t e)
     fronts_path = fronts_are ∙ ap fronts lined
@@ -41,5 +43,6 @@ chosen_found k o t e q stays first may lined stay fronts_are may_are = λ i. rec
     may_path : may ≡ filter (may_be k o t e) (candidates (queues_at o t e))
     may_path =
         may_are ∙ (ap (λ (r : Queues). filter (λ x. permits k r stays (with_next x e)) (candidates r)) lined
-        ∙ (ap (λ (b : Bool). filter (λ x. permits k (queues_at o t e) b (with_next x e)) (candidates (queues_at o t e))) stay
+        ∙ (ap (λ (b : Bool). filter (λ x. permits k (queues_at o t e) b (with_next x e))
+        (candidates (queues_at o t e))) stay
         ∙ (λ i. filter (λ x. permitted_same k o t e x i) (candidates (queues_at o t e)))))

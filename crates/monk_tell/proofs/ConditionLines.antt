@@ -24,7 +24,8 @@ taken_more xs c x is there =
     let front = map held (take c xs) in
     let long : length (take c xs) ≡ c = length-take-le c xs (omega (arith, there)) in
     let here : 0 + length front ≡ c = (let same = length-map (take c xs) held in omega (arith, long, same)) in
-    let last : take (c + 1) xs ≡ take c xs ++ x ∷ [] = take_more xs c x there ∙ ap (λ (y : Seats). take c xs ++ y ∷ []) (sym is) in
+    let last : take (c + 1) xs ≡ take c xs ++ x ∷ [] = take_more xs c x there
+    ∙ ap (λ (y : Seats). take c xs ++ y ∷ []) (sym is) in
     sym (ap (λ (l : List Seats). conditions_text (map held l)) last
     ∙ (ap (λ (l : List (List ℕ)). conditions_text l) (map-append held (take c xs) (x ∷ []))
     ∙ (one_more 0 front (held x) ∙ ap (λ n. conditions_text front ++ condition_line n (held x)) here)))

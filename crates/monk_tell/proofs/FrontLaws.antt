@@ -26,7 +26,8 @@ first_is_in : {X : Type 0} (xs : List X) (x : X) → Contains (x ∷ xs) x
 first_is_in xs x = (0, omega arith, refl)
 
 only_one : {X : Type 0} (y x : X) → Contains (y ∷ []) x → y ≡ x
-only_one y x (k, within, is) = let e : k ≡ 0 = omega (arith, within) in subst (λ (n : ℕ). slice_index_or (y ∷ []) n x ≡ x) e is
+only_one y x (k, within, is) = let e : k ≡ 0 = omega (arith, within) in
+    subst (λ (n : ℕ). slice_index_or (y ∷ []) n x ≡ x) e is
 
 kept : {X : Type 0} (b : Bool) (y x : X) (zs : List X) → Contains zs x → Contains (cond b (y ∷ zs) zs) x
 kept true y x zs c = Contains-append_right (y ∷ []) zs x c
@@ -80,7 +81,8 @@ front_is_in f j (x ∷ xs) h = subst (λ (n : ℕ). Contains (f n ∷ []) (f j))
 
 -- what is permitted by a rule, by what was chosen from which queues
 abbrev permits : Rules → Bool → Bool → ℕ → Queues → Option Next → Bool
-permits k stays back s q n = cond stays (is_stay n) (option_map_or (λ x. cond back (may_signal k q s x) (may_choose k q s x)) n true)
+permits k stays back s q n =
+    cond stays (is_stay n) (option_map_or (λ x. cond back (may_signal k q s x) (may_choose k q s x)) n true)
 
 abbrev waiting : Queues → List Next
 waiting q = map (λ i. next.Waiter i) (take 1 q.waiters)
@@ -94,9 +96,11 @@ ready q = map (λ i. next.Until i) (take 1 q.ready)
 behind : (q : Queues) (x : Next) → Contains (waiting q ++ (signalling q ++ ready q)) x → Contains (candidates q) x
 behind q x c = Contains-append_right (next.Stay ∷ next.Entry ∷ []) (waiting q ++ (signalling q ++ ready q)) x c
 
-is_candidate : (k : Rules) (stays back : Bool) (s : ℕ) (q : Queues) (x : Next) → permits k stays back s q (Some x) ≡ true
+is_candidate : (k : Rules) (stays back : Bool) (s : ℕ) (q : Queues) (x : Next)
+    → permits k stays back s q (Some x) ≡ true
     → Contains (candidates q) x
-is_candidate k stays back s q next.Stay h = first_is_in (next.Entry ∷ (waiting q ++ (signalling q ++ ready q))) next.Stay
+is_candidate k stays back s q next.Stay h =
+    first_is_in (next.Entry ∷ (waiting q ++ (signalling q ++ ready q))) next.Stay
 is_candidate k stays back s q next.Entry h =
     Contains-append_right (next.Stay ∷ []) (next.Entry ∷ (waiting q ++ (signalling q ++ ready q))) next.Entry
     (first_is_in (waiting q ++ (signalling q ++ ready q)) next.Entry)
@@ -119,7 +123,8 @@ pub all_told : (k : Rules) (o : Object) (t : Situation) (e : Event) (x : Next) �
 all_told k o t e x releases may =
     let f = with_next x e in
     let by_next : permits k (must_stay o t f) (is_some (steps_back f)) (seat_of f) (queues_at o t f) (Some x) ≡ true =
-    subst (λ (n : Option Next). permits k (must_stay o t f) (is_some (steps_back f)) (seat_of f) (queues_at o t f) n ≡ true)
+    subst (λ (n : Option Next). permits k (must_stay o t f) (is_some (steps_back f)) (seat_of f)
+    (queues_at o t f) n ≡ true)
     (named e x releases) may in
     let by_queues : permits k (must_stay o t f) (is_some (steps_back f)) (seat_of f) (queues_at o t e) (Some x) ≡ true =
     subst (λ (q : Queues). permits k (must_stay o t f) (is_some (steps_back f)) (seat_of f) q (Some x) ≡ true)

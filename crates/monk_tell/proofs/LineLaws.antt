@@ -9,7 +9,8 @@ use Rattle.monk_tell.specs.Cause.{waits_at}
 use Rattle.monk_tell.specs.Told.{inside_below}
 use Rattle.monk_tell.specs.declared.lists.Seats.{Seats}
 
-pub filter_more : {X : Type 0} (p : X → Bool) (xs : List X) (i : ℕ) (d : X) (b : Bool) → i < length xs → p (get_or xs i d) ≡ b
+pub filter_more : {X : Type 0} (p : X → Bool) (xs : List X) (i : ℕ) (d : X) (b : Bool) → i < length xs
+    → p (get_or xs i d) ≡ b
     → filter p (take (i + 1) xs) ≡ filter p (take i xs) ++ cond b (get_or xs i d ∷ []) []
 filter_more p xs i d b within is =
     ap (filter p) (take_more xs i d within) ∙ filter-append p (take i xs) (get_or xs i d ∷ [])

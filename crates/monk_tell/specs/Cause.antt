@@ -59,7 +59,8 @@ chosen_beyond seats other (Some (next.Signaller j)) = seat_beyond seats other j
 chosen_beyond seats other (Some (next.Until j)) = seat_beyond seats other j
 
 abbrev pub number_beyond : ℕ → ℕ → Event → OutOfRange
-number_beyond seats conds e = seat_beyond seats (chosen_beyond seats (call_beyond seats conds e) (next_of e)) (seat_of e)
+number_beyond seats conds e =
+    seat_beyond seats (chosen_beyond seats (call_beyond seats conds e) (next_of e)) (seat_of e)
 
 -- ---- 3. whose turn it is, and not that of seat s
 
@@ -94,14 +95,16 @@ own_reply o d e = option_map (λ act. o.reply d act.op) (answered_act e)
 
 abbrev pub other_reply : Option ℕ → Event → Why
 other_reply own e =
-    option_map_or (λ act. option_map_or (λ right. Reply right act.reply) own (Stay (stay.GivesUp (seat_of e)))) (answered_act e)
+    option_map_or (λ act. option_map_or (λ right. Reply right act.reply) own (Stay (stay.GivesUp (seat_of e))))
+    (answered_act e)
     (Stay (stay.GivesUp (seat_of e)))
 
 -- ---- 6. a choice that is not permitted
 
 -- the first seats of the queues
 abbrev pub firsts_of : Queues → Firsts
-firsts_of q = record { waiter = slice_get q.waiters 0; signaller = slice_get q.signallers 0; ready = slice_get q.ready 0 }
+firsts_of q =
+    record { waiter = slice_get q.waiters 0; signaller = slice_get q.signallers 0; ready = slice_get q.ready 0 }
 
 -- the event has to stay
 abbrev pub has_to_stay : Event → Staying
@@ -122,7 +125,8 @@ may_not_stay kind k f e =
 -- entry may not be chosen: of those above it the one that comes first
 abbrev pub may_not_admit : KindName → Rules → ℕ → Option ℕ → Option ℕ → Option ℕ → Why
 may_not_admit kind k s (Some w) (Some j) ready =
-    if nat_lt k.waiter k.signaller then (if j == s then Stay (stay.MustStay s kind) else Order (order.SignallersBeforeEntry j kind))
+    if nat_lt k.waiter k.signaller
+    then (if j == s then Stay (stay.MustStay s kind) else Order (order.SignallersBeforeEntry j kind))
     else Order (order.WaitersBeforeEntry w kind)
 may_not_admit kind k s (Some w) None ready = Order (order.WaitersBeforeEntry w kind)
 may_not_admit kind k s None (Some j) ready = Order (order.SignallersBeforeEntry j kind)
@@ -150,7 +154,8 @@ still_waits conds queue waiters (Some (next.Until j)) = None
 abbrev pub may_not_wake : KindName → Firsts → Option ℕ → ℕ → ℕ → Why
 may_not_wake kind f waits s j =
     if is_first j f.waiter
-    then option_map_or (λ i. if i == s then Stay (stay.MustStay s kind) else Order (order.SignallersFirst i kind)) f.signaller
+    then option_map_or (λ i. if i == s then Stay (stay.MustStay s kind)
+    else Order (order.SignallersFirst i kind)) f.signaller
     (Stay (stay.GivesUp s))
     else option_map_or (λ c. Unsignalled j c) waits (behind_first f.waiter j from.Waiter)
 
@@ -161,7 +166,8 @@ caller_or_none s j = if j == s then Stay (stay.OwnSignal s) else Stay (stay.Give
 abbrev pub may_not_recall : KindName → Rules → Firsts → ℕ → ℕ → Why
 may_not_recall kind k f s j =
     if is_first j f.signaller
-    then option_map_or (λ w. if nat_lt k.signaller k.waiter then Order (order.WaitersFirst w kind) else caller_or_none s j) f.waiter
+    then option_map_or (λ w. if nat_lt k.signaller k.waiter then Order (order.WaitersFirst w kind)
+    else caller_or_none s j) f.waiter
     (caller_or_none s j)
     else behind_first f.signaller j from.Signaller
 

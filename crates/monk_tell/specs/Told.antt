@@ -125,7 +125,8 @@ abbrev pub choice_of : Choice → Chosen
 choice_of c = record { fronts = c.fronts.0.items; may = c.may.0.items }
 
 abbrev pub blame_of : Blame → Blamed
-blame_of b = record { step = b.step; event = b.event; reply = b.reply; choice = option_map choice_of b.choice; why = b.why }
+blame_of b =
+    record { step = b.step; event = b.event; reply = b.reply; choice = option_map choice_of b.choice; why = b.why }
 
 abbrev pub telling_of : Telling → Account
 telling_of t = record { verdict = t.verdict; situation = situation_of t.situation; blame = option_map blame_of t.blame }

@@ -106,14 +106,16 @@ untils_text (Some u) =
 abbrev pub conditional_text : Option ShownConditions → List ℕ
 conditional_text None = []
 conditional_text (Some c) =
-    conditions_text c.conditions ++ codes "waiter:" ++ seats_text c.waiters ++ codes "\n" ++ signallers_text c.signallers
+    conditions_text c.conditions ++ codes "waiter:" ++ seats_text c.waiters ++ codes "\n"
+    ++ signallers_text c.signallers
 
 abbrev pub queues_text : ShownQueues → List ℕ
 queues_text q = untils_text q.automatic ++ conditional_text q.conditional
 
 abbrev pub kind_line : Shown → List ℕ
 kind_line s =
-    concat (codes "kind: " ∷ kind_word s.kind ∷ codes " " ∷ mode_word s.rules.mode ∷ codes " " ∷ ranks_text s.rules ∷ codes "\n" ∷ [])
+    concat (codes "kind: " ∷ kind_word s.kind ∷ codes " " ∷ mode_word s.rules.mode ∷ codes " "
+    ∷ ranks_text s.rules ∷ codes "\n" ∷ [])
 
 abbrev pub turn_line : Turn → List ℕ
 turn_line t = codes "turn: " ++ turn_text t ++ codes "\n"

@@ -85,7 +85,8 @@ pub(crate) fn may(
     event: Event,
 ) -> Result<Vec<Next>, AllocError>
     ensures { IfOk result
-        (λ v. v.items ≡ filter (λ x. permits rules (lines_of lines.now) stays (with_next x event)) (candidates (lines_of lines.now))) }
+        (λ v. v.items ≡ filter (λ x. permits rules (lines_of lines.now) stays (with_next x event))
+        (candidates (lines_of lines.now))) }
 {
     let nexts = candidates(alloc, lines)?;
     let mut may = Vec::new(alloc);

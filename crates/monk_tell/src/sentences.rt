@@ -278,7 +278,8 @@ fn may_not_choose(
     }
 }
 
-/// Why an event may not choose what it chose. If it chose a waiter whom nobody has signalled, that one waits on the condition.
+/// Why an event may not choose what it chose. If it chose a waiter whom nobody has signalled, that
+/// one waits on the condition.
 pub(crate) fn wrong_choice(
     kind: KindName,
     rules: Rules,

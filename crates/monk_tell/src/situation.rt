@@ -73,8 +73,8 @@ impl fmt::Display for Data<'_> {
     }
 }
 
-/// In lines: the kind with its mode and priorities, the turn, who is inside, the data, also in words, the refused acts and the
-/// queues.
+/// In lines: the kind with its mode and priorities, the turn, who is inside, the data, also in
+/// words, the refused acts and the queues.
 impl fmt::Display for Situation {
     ghost output = { λ s. Some (situation_text (situation_of s)) };
 

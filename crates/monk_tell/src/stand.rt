@@ -10,7 +10,8 @@ use monk_audit::Replay;
 use std::alloc::{AllocError, Global};
 use std::fmt;
 
-/// On which queue a seat stands. Printed ` condition 1`, with a space before it; nothing is printed of a seat that stands on none.
+/// On which queue a seat stands. Printed ` condition 1`, with a space before it; nothing is printed
+/// of a seat that stands on none.
 #[derive(Clone, Copy, Debug, PartialEq, Eq)]
 pub enum Stand {
     /// On none.

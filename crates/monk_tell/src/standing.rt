@@ -94,7 +94,8 @@ pub(crate) fn situation<T: Listed>(
 ) -> Result<Situation, AllocError>
     requires { All (λ w. w.1 < T.PREDICATES) (replay_situation replay.now (T.state object.now)).untils }
     ensures { IfOk result
-        (λ s. situation_of s ≡ shown_standing header.now.kind rules header.now.seats header.now.conds header.now.object T.meaning
+        (λ s. situation_of s ≡ shown_standing header.now.kind rules header.now.seats header.now.conds
+        header.now.object T.meaning
         events.now (replay_situation replay.now (T.state object.now))) }
 {
     Ok(Situation {

@@ -26,14 +26,18 @@ fn standing<T: Listed>(
     object: &mut T,
     events: &[Event],
 ) -> Result<(Replay, Situation), AllocError>
-    requires { IsLegal (monitor (rules_named header.now.kind) header.now.seats header.now.conds T.meaning (T.state object.old)) events.now }
+    requires { IsLegal (monitor (rules_named header.now.kind) header.now.seats header.now.conds T.meaning
+        (T.state object.old)) events.now }
     ensures stands { IfOk result
         (λ r. replay_situation r.0 (T.state object.new) ≡ situation
-        (monitor (rules_named header.now.kind) header.now.seats header.now.conds T.meaning (T.state object.old)) events.now) }
-    ensures preds { IfOk result (λ r. All (λ w. w.1 < T.PREDICATES) (replay_situation r.0 (T.state object.new)).untils) }
+        (monitor (rules_named header.now.kind) header.now.seats header.now.conds T.meaning
+        (T.state object.old)) events.now) }
+    ensures preds { IfOk result (λ r. All (λ w. w.1 < T.PREDICATES)
+        (replay_situation r.0 (T.state object.new)).untils) }
     ensures shown { IfOk result
         (λ r. situation_of r.1 ≡ shown_after header.now.kind header.now.object
-        (monitor (rules_named header.now.kind) header.now.seats header.now.conds T.meaning (T.state object.old)) events.now) }
+        (monitor (rules_named header.now.kind) header.now.seats header.now.conds T.meaning
+        (T.state object.old)) events.now) }
 {
     let rules = rules_by_name(header.kind());
     let (seats, conds) = (header.seats(), header.conds());
@@ -50,7 +54,8 @@ fn tell_legal<T: Listed>(
     count: u32,
     events: &[Event],
 ) -> Result<Telling, AllocError>
-    requires { IsLegal (monitor (rules_named header.now.kind) header.now.seats header.now.conds T.meaning (T.state object)) events.now }
+    requires { IsLegal (monitor (rules_named header.now.kind) header.now.seats header.now.conds T.meaning
+        (T.state object)) events.now }
     ensures { IfOk result
         (λ t. telling_of t ≡ account_by header.now.kind header.now.object
         (monitor (rules_named header.now.kind) header.now.seats header.now.conds T.meaning (T.state object)) events.now
@@ -75,7 +80,8 @@ fn tell_forbidden<T: Listed>(
     events: &[Event],
 ) -> Result<Telling, AllocError>
     requires { IsFirstFault
-        (monitor (rules_named header.now.kind) header.now.seats header.now.conds T.meaning (T.state object)) events.now step reason }
+        (monitor (rules_named header.now.kind) header.now.seats header.now.conds T.meaning (T.state object))
+        events.now step reason }
     ensures { IfOk result
         (λ t. telling_of t ≡ account_by header.now.kind header.now.object
         (monitor (rules_named header.now.kind) header.now.seats header.now.conds T.meaning (T.state object)) events.now
@@ -112,7 +118,8 @@ fn tell_over<T: Listed>(
     events: &[Event],
 ) -> Result<Telling, AllocError>
     requires { IsVerdict
-        (monitor (rules_named header.now.kind) header.now.seats header.now.conds T.meaning (T.state object)) events.now verdict }
+        (monitor (rules_named header.now.kind) header.now.seats header.now.conds T.meaning (T.state object))
+        events.now verdict }
     ensures { IfOk result
         (λ t. telling_of t ≡ account_by header.now.kind header.now.object
         (monitor (rules_named header.now.kind) header.now.seats header.now.conds T.meaning (T.state object)) events.now
@@ -126,9 +133,10 @@ fn tell_over<T: Listed>(
     }
 }
 
-/// Tells of a history what [`audit`] finds, how the monitor stands before the first event that is not allowed, or at the end of
-/// a legal history, with the acts that the object refused up to there, and of an event that is not allowed what is wrong with
-/// it: the event, the object's own reply where the reply is wrong, and where the choice is wrong, what the event chose from and
+/// Tells of a history what [`audit`] finds, how the monitor stands before the first event that is
+/// not allowed, or at the end of a legal history, with the acts that the object refused up to
+/// there, and of an event that is not allowed what is wrong with it: the event, the object's own
+/// reply where the reply is wrong, and where the choice is wrong, what the event chose from and
 /// each next that is permitted.
 ///
 /// # Errors
@@ -138,8 +146,8 @@ fn tell_over<T: Listed>(
 ///
 /// # Cost
 ///
-/// Two passes over the events, each as [`audit`] takes one, and a third that looks for refused acts; memory for the queues, the
-/// object and what is told.
+/// Two passes over the events, each as [`audit`] takes one, and a third that looks for refused
+/// acts; memory for the queues, the object and what is told.
 pub fn tell(alloc: Global, header: &Header, events: &[Event]) -> Result<Telling, AuditFault>
     requires { length events.now ≤ 2 ^ 25 }
     // All that is told is so, the sentence too.

@@ -45,7 +45,8 @@ pub(crate) fn still_waits(
     waiters: &[u8],
     event: Event,
 ) -> Result<Option<u8>, AllocError>
-    ensures { IfOk result (λ c. c ≡ still_waits conds (replay_situation replay.now []).condition waiters.now (next_of event)) }
+    ensures { IfOk result (λ c. c ≡ still_waits conds (replay_situation replay.now []).condition waiters.now
+        (next_of event)) }
 {
     match event.choice() {
         Some(Next::Waiter(chosen)) if !has(waiters, chosen) => {

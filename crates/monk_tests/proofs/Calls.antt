@@ -16,8 +16,10 @@ use Rattle.monk_floor.specs.View.{FloorView, monitor_of}
 use Rattle.monk_tests.specs.FloorCalls.{IsRoom, IsAllowedOn}
 
 -- the last event of a legal history is allowed after a floor's history, if the header names the floor's monitor
-pub allowed_on : (k : Rules) (n : KindName) (seats conds size : ℕ) (h : Heading) (f : FloorView) (e : Event) (events : List Event)
-    → h ≡ heading 1 n seats conds Buffer size → k ≡ rules_named n → IsRoom seats conds size f → events ≡ f.history ++ e ∷ []
+pub allowed_on : (k : Rules) (n : KindName) (seats conds size : ℕ) (h : Heading) (f : FloorView) (e : Event)
+    (events : List Event)
+    → h ≡ heading 1 n seats conds Buffer size → k ≡ rules_named n → IsRoom seats conds size f
+    → events ≡ f.history ++ e ∷ []
     → IsLegal (named_monitor h) events → IsAllowedOn k f e
 allowed_on k n seats conds size h f e events is named room grown l =
     let same : named_monitor h ≡ monitor_of k (meaning_named Buffer) f =
@@ -31,6 +33,7 @@ made_is true x y made = cc
 made_is false x y made = absurd cc
 
 -- a header that was made has the numbers that were given
-pub header_made : (n : KindName) (seats conds size : ℕ) (h : Heading) → first_heading_of n seats conds Buffer size ≡ Some h
+pub header_made : (n : KindName) (seats conds size : ℕ) (h : Heading)
+    → first_heading_of n seats conds Buffer size ≡ Some h
     → h ≡ heading 1 n seats conds Buffer size
 header_made n seats conds size h made = made_is _ (heading 1 n seats conds Buffer size) h made

@@ -6,7 +6,8 @@ use Rattle.monk_hall.specs.Tokens.{Token, AreOf, tokens}
 use Rattle.monk_hall.specs.declared.setting.Setting.{Setting}
 use Rattle.monk_tests.specs.Passes.{IsSeat, AreSeats}
 
-pub tokens_are_seats : (z : TableId) (c : Setting) (n i : ℕ) → c.conds ≡ 3 → AreSeats z (tokens z (opening_records c n i))
+pub tokens_are_seats : (z : TableId) (c : Setting) (n i : ℕ) → c.conds ≡ 3
+    → AreSeats z (tokens z (opening_records c n i))
 tokens_are_seats z c zero i e = tt
 tokens_are_seats z c (suc n) i e = ((refl, e), tokens_are_seats z c n (suc i) e)
 

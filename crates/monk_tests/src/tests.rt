@@ -1,5 +1,5 @@
-//! What no clause says of the crates below the program: the values and texts that people know, known histories and plays,
-//! readers and writers that fail in mid-stream, and refused memory.
+//! What no clause says of the crates below the program: the values and texts that people know,
+//! known histories and plays, readers and writers that fail in mid-stream, and refused memory.
 
 mod audits;
 mod calls;

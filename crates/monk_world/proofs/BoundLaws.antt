@@ -27,7 +27,8 @@ module _ {X : Type 0} (g : X → ℕ) (at : ℕ → X) (i : ℕ) (x : X) where
       let same : g (update at i x n) ≡ g (at n) = ap g (update_else at i x n (λ e. omega arith)) in
       omega (arith, same, sum_past n (omega arith))
 
-  pub sum_update : (n : ℕ) → i < n → sum_below n (λ j. g (update at i x j)) + g (at i) ≡ sum_below n (λ j. g (at j)) + g x
+  pub sum_update : (n : ℕ) → i < n
+      → sum_below n (λ j. g (update at i x j)) + g (at i) ≡ sum_below n (λ j. g (at j)) + g x
   sum_update zero l = absurd (omega arith)
   sum_update (suc n) l =
       ⊎_elim
@@ -35,7 +36,8 @@ module _ {X : Type 0} (g : X → ℕ) (at : ℕ → X) (i : ℕ) (x : X) where
       in omega (arith, same, sum_update n k))
       (λ k.
       let e : i ≡ n = omega arith in
-      let here : g (update at i x n) ≡ g x = subst (λ (m : ℕ). g (update at i x m) ≡ g x) e (ap g (update_here at i x)) in
+      let here : g (update at i x n) ≡ g x =
+      subst (λ (m : ℕ). g (update at i x m) ≡ g x) e (ap g (update_here at i x)) in
       let old : g (at i) ≡ g (at n) = ap (λ (m : ℕ). g (at m)) e in
       omega (arith, here, old, sum_past n (omega arith)))
       (cases_lt i n)
@@ -91,7 +93,8 @@ module _ (s : State) (b : IsBounded s) where
   few_calls j = omega (arith, b.counted j, b.within j, b.low, called_once (s.world.place j))
 
   -- seat i goes to p, and nothing is recorded
-  pub bounded_words : (i : ℕ) → i < s.floor.seats → (w : World) (known : ℕ → Bool) (p : Place) → w.place ≡ update s.world.place i p
+  pub bounded_words : (i : ℕ) → i < s.floor.seats → (w : World) (known : ℕ → Bool) (p : Place)
+      → w.place ≡ update s.world.place i p
       → w.drawn + comes_in (s.world.place i) ≤ s.world.drawn + comes_in p
       → ((j : ℕ) → w.count j ≤ length (events_of s.floor.history j) + comes_back (w.place j))
       → IsBounded (record { world = w; known = known; floor = s.floor })
@@ -108,22 +111,27 @@ module _ (s : State) (b : IsBounded s) where
     counted = counted;
   }
 
-  one_more : (e : Event) (j : ℕ) → j ≢ seat_of e → length (events_of (s.floor.history ++ e ∷ []) j) ≡ length (events_of s.floor.history j)
+  one_more : (e : Event) (j : ℕ) → j ≢ seat_of e
+      → length (events_of (s.floor.history ++ e ∷ []) j) ≡ length (events_of s.floor.history j)
   one_more e j ne = length-events_of-push s.floor.history e j ∙ other (seat_of e == j) (λ z. ne (grind (arith, z)))
     where
-      other : (c : Bool) → (c ≡ true → ⊥) → length (events_of s.floor.history j) + cond c 1 0 ≡ length (events_of s.floor.history j)
+      other : (c : Bool) → (c ≡ true → ⊥)
+          → length (events_of s.floor.history j) + cond c 1 0 ≡ length (events_of s.floor.history j)
       other true h = absurd (h refl)
       other false h = omega arith
 
-  own_more : (e : Event) → length (events_of (s.floor.history ++ e ∷ []) (seat_of e)) ≡ length (events_of s.floor.history (seat_of e)) + 1
+  own_more : (e : Event)
+      → length (events_of (s.floor.history ++ e ∷ []) (seat_of e)) ≡ length (events_of s.floor.history (seat_of e)) + 1
   own_more e = length-events_of-push s.floor.history e (seat_of e)
       ∙ ap (λ c. length (events_of s.floor.history (seat_of e)) + cond c 1 0) (eq-eqb (seat_of e) (seat_of e) refl)
 
-  pub no_less : (e : Event) (j : ℕ) → length (events_of s.floor.history j) ≤ length (events_of (s.floor.history ++ e ∷ []) j)
+  pub no_less : (e : Event) (j : ℕ)
+      → length (events_of s.floor.history j) ≤ length (events_of (s.floor.history ++ e ∷ []) j)
   no_less e j = omega (arith, length-events_of-push s.floor.history e j)
 
   -- its event is recorded
-  pub bounded_floor : (i : ℕ) → i < s.floor.seats → (w : World) (known : ℕ → Bool) (p : Place) → w.place ≡ update s.world.place i p
+  pub bounded_floor : (i : ℕ) → i < s.floor.seats → (w : World) (known : ℕ → Bool) (p : Place)
+      → w.place ≡ update s.world.place i p
       → (e : Event) → seat_of e ≡ i → 1 ≤ left_of s.floor.budget s.floor.history i
       → w.drawn + comes_in (s.world.place i) ≤ s.world.drawn + comes_in p + 1
       → ((j : ℕ) → w.count j ≤ length (events_of (s.floor.history ++ e ∷ []) j) + comes_back (w.place j))
@@ -170,7 +178,8 @@ module _ (s : State) (b : IsBounded s) where
       at_update s.world.place i p
       (λ j y. s.world.count j ≤ length (events_of (s.floor.history ++ e ∷ []) j) + comes_back y)
       (let own : length (events_of (s.floor.history ++ e ∷ []) i) ≡ length (events_of s.floor.history i) + 1 =
-      subst (λ (m : ℕ). length (events_of (s.floor.history ++ e ∷ []) m) ≡ length (events_of s.floor.history m) + 1) seat (own_more e) in
+      subst (λ (m : ℕ). length (events_of (s.floor.history ++ e ∷ []) m)
+      ≡ length (events_of s.floor.history m) + 1) seat (own_more e) in
       omega (arith, b.counted i, own, called_once (s.world.place i)))
       (λ j _. omega (arith, b.counted j, no_less e j))
 
@@ -179,4 +188,5 @@ module _ (s : State) (b : IsBounded s) where
       → update s.world.count i c j ≤ length (events_of s.floor.history j) + comes_back (update s.world.place i p j)
   count_looks i c p most = at_update s.world.place i p
       (λ j y. update s.world.count i c j ≤ length (events_of s.floor.history j) + comes_back y)
-      (omega (arith, update_here s.world.count i c, most)) (λ j ne. omega (arith, update_else s.world.count i c j ne, b.counted j))
+      (omega (arith, update_here s.world.count i c, most))
+      (λ j ne. omega (arith, update_else s.world.count i c j ne, b.counted j))

@@ -112,7 +112,8 @@ module _ (k : Rules) (o : Object) (s : State) (right : Whereabouts) (owner : ℕ
   stays_bounded : (e : Event) → seat_of e ≡ i → 1 ≤ left_of s.floor.budget s.floor.history i
       → IsBounded (record s { floor = with_event s.floor e })
   stays_bounded e seat left =
-      bounded_floor s b i near s.world s.known (s.world.place i) (sym (update_same s.world.place i (s.world.place i) refl))
+      bounded_floor s b i near s.world s.known (s.world.place i)
+      (sym (update_same s.world.place i (s.world.place i) refl))
       e seat left (omega arith)
       (λ j. omega (arith, b.counted j, no_less s b e j))
 
@@ -136,10 +137,12 @@ module _ (k : Rules) (o : Object) (s : State) (right : Whereabouts) (owner : ℕ
       let found = s.world.ticket_place (n % s.floor.seats) == n + 1 in
       subst IsBounded (sym d.1)
       (bounded_words s b i near (after_ticket_look s.world i n found) s.known (place_after_ticket_look n found) refl
-      (omega (arith, ap comes_in at, looks_in found n)) (count_stays s b i (place_after_ticket_look n found) (ap comes_back at)))
+      (omega (arith, ap comes_in at, looks_in found n))
+      (count_stays s b i (place_after_ticket_look n found) (ap comes_back at)))
   bounded_done command.Look a t Inner at left d =
       let found = s.world.seat_place i == s.world.count i + 1 in
-      subst IsBounded (sym d.1) (bounded_words s b i near (after_seat_look s.world i found) s.known (place_after_seat_look found) refl
+      subst IsBounded (sym d.1) (bounded_words s b i near (after_seat_look s.world i found) s.known
+      (place_after_seat_look found) refl
       (omega (arith, ap comes_in at))
       (count_looks s b i (count_after_seat_look (s.world.count i) found) (place_after_seat_look found)
       (looks_back found (s.world.count i) (length (events_of s.floor.history i))
@@ -167,7 +170,8 @@ module _ (k : Rules) (o : Object) (s : State) (right : Whereabouts) (owner : ℕ
       subst IsBounded (sym d.1)
       (bounded_words s b i near (after_drop s.world i to) s.known
       (place_after_drop s.world.drawn s.world.unpassed to) refl
-      (omega (arith, ap comes_in at)) (count_stays s b i (place_after_drop s.world.drawn s.world.unpassed to) (ap comes_back at)))
+      (omega (arith, ap comes_in at))
+      (count_stays s b i (place_after_drop s.world.drawn s.world.unpassed to) (ap comes_back at)))
   bounded_done command.Grant a t (Back (next.Waiter j) to) at left d =
       subst IsBounded (sym d.1)
       (bounded_words s b i near (after_seat_grant s.world i j to) s.known (place_of to) refl
@@ -196,10 +200,12 @@ module _ (k : Rules) (o : Object) (s : State) (right : Whereabouts) (owner : ℕ
       subst IsBounded (sym d.1) (released (Wait i c x) refl (omega (arith, left)) q at x home.Inner (is_stay (Some x)))
   bounded_done (command.Signal c pick) a t (Active q) at left d =
       let x = release_next k o s i (Signal i c next.Stay) pick in
-      subst IsBounded (sym d.1) (released (Signal i c x) refl (omega (arith, left)) q at x home.Inner (is_stay (Some x)))
+      subst IsBounded (sym d.1) (released (Signal i c x) refl (omega (arith, left)) q at x home.Inner
+      (is_stay (Some x)))
   bounded_done (command.SignalLeave c pick) a t (Active q) at left d =
       let x = release_next k o s i (SignalLeave i c next.Stay) pick in
-      subst IsBounded (sym d.1) (released (SignalLeave i c x) refl (omega (arith, left)) q at x home.Idle (is_stay (Some x)))
+      subst IsBounded (sym d.1) (released (SignalLeave i c x) refl (omega (arith, left)) q at x home.Idle
+      (is_stay (Some x)))
   bounded_done (command.Until p pick) a t (Active q) at left d =
       let x = release_next k o s i (Until i p next.Stay) pick in
       subst IsBounded (sym d.1) (released (Until i p x) refl (omega (arith, left)) q at x home.Inner (is_stay (Some x)))
@@ -207,7 +213,8 @@ module _ (k : Rules) (o : Object) (s : State) (right : Whereabouts) (owner : ℕ
       subst IsBounded (sym d.1) (stays_bounded (SignalAll i c) refl (omega (arith, left)))
   bounded_done (command.SignalWait c v pick) a t (Active q) at left d =
       let x = release_next k o s i (SignalWait i c v next.Stay) pick in
-      subst IsBounded (sym d.1) (released (SignalWait i c v x) refl (omega (arith, left)) q at x home.Inner (is_stay (Some x)))
+      subst IsBounded (sym d.1) (released (SignalWait i c v x) refl (omega (arith, left)) q at x home.Inner
+      (is_stay (Some x)))
   bounded_done c a t p at left d = absurd d
 
 record HasNumbers (s t : State) : Type 0 where
@@ -253,7 +260,8 @@ kept_done k o s i c a t seats conds kind kept free d =
     let r = ready k o s i c free in
     let n = numbers_stay k o s i c a t (s.world.place i) d in
     record {
-      sound = step_is_sound k o s i c a t kind kept.sound (subst (λ (x : Option Answer). IsAnswered k o s i c x a t) (sym free) d);
+      sound = step_is_sound k o s i c a t kind kept.sound
+          (subst (λ (x : Option Answer). IsAnswered k o s i c x a t) (sym free) d);
       bounded = bounded_done k o s kept.sound.right kept.sound.owner kept.sound.is_sound kept.bounded i r.near c a t
           (s.world.place i) refl r.left d;
       seats_are = kept.seats_are ∙ n.seats;

@@ -92,7 +92,8 @@ module _ (k : Rules) (o : Object) (s : State) (i j n : ℕ) where
       → (HasTicket n p → (i ≡ j) → Before a) → HasTicket n (t.world.place j) → Before a
   moved a t p is here has =
       at_update s.world.place i p (λ m y. m ≡ j → HasTicket n y → Before a) (λ e h. here h e)
-      (λ m ne e h. inl (subst (λ (z : ℕ). HasTicket n (s.world.place z)) e h)) j refl (subst (λ (f : ℕ → Place). HasTicket n (f j)) is has)
+      (λ m ne e h. inl (subst (λ (z : ℕ). HasTicket n (s.world.place z)) e h)) j refl
+      (subst (λ (f : ℕ → Place). HasTicket n (f j)) is has)
 
   -- no seat has moved
   unmoved : (a : Answer) (t : State) → t.world ≡ s.world → HasTicket n (t.world.place j) → Before a
@@ -122,7 +123,8 @@ module _ (k : Rules) (o : Object) (s : State) (i j n : ℕ) where
       ))
   done command.Look a t (Ticket m) at d =
       moved a t (place_after_ticket_look m _) (ap (λ (u : State). u.world.place) d.1)
-      (λ h e. inl (subst (λ (z : ℕ). HasTicket n (s.world.place z)) e (subst (HasTicket n) (sym at) (looked_at n m _ h))))
+      (λ h e. inl (subst (λ (z : ℕ). HasTicket n (s.world.place z)) e
+      (subst (HasTicket n) (sym at) (looked_at n m _ h))))
   done command.Look a t Inner at d = moved a t (place_after_seat_look _) (ap (λ (u : State). u.world.place) d.1)
       (λ h e. absurd (no_ticket_called n _ h))
   done command.Out a t (Due q) at d = moved a t (Active q) (ap (λ (u : State). u.world.place) d.1) (λ h e. absurd h)
@@ -165,7 +167,8 @@ drawn_before j n [] ys h = absurd h
 drawn_before j n (x ∷ xs) ys (inl h) = inl h
 drawn_before j n (x ∷ xs) ys (inr h) = inr (drawn_before j n xs ys h)
 
-drawn_last : (j n : ℕ) (xs : List Recorded) (x : Recorded) → HasJustDrawn x.told.seat j n x.told.answer → HasDrawn j n (xs ++ x ∷ [])
+drawn_last : (j n : ℕ) (xs : List Recorded) (x : Recorded) → HasJustDrawn x.told.seat j n x.told.answer
+    → HasDrawn j n (xs ++ x ∷ [])
 drawn_last j n [] x h = inl h
 drawn_last j n (y ∷ xs) x h = inr (drawn_last j n xs x h)
 
@@ -188,5 +191,6 @@ drawn_in k o s (x ∷ xs) t r past all j n has =
 
 pub tickets_enter_in_order : TicketsEnterInOrder
 tickets_enter_in_order k o opening seats conds budget before s x t v kind r taken is =
-    drawn_in k o (opening_state opening seats conds budget) before s r [] (λ j n h. absurd h) x.told.seat (enters_of s.floor.history)
+    drawn_in k o (opening_state opening seats conds budget) before s r [] (λ j n h. absurd h) x.told.seat
+    (enters_of s.floor.history)
     (with_ticket (s.world.place x.told.seat) v (enters_of s.floor.history) (taken.in_turn v is))

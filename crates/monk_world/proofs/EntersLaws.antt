@@ -27,7 +27,8 @@ module _ (seats : ℕ) (s : World) (right : Whereabouts) (owner : ℕ → ℕ) (
       → entered + s.unpassed ≡ s.drawn + used_at p
   entered_here p at low high =
       let z : stage (s.place i) ≡ stage p = ap stage at in
-      subst (λ (y : Place). entered + s.unpassed ≡ s.drawn + used_at y) at (entered_where (With i) (held r i (omega arith) (omega arith)))
+      subst (λ (y : Place). entered + s.unpassed ≡ s.drawn + used_at y) at
+      (entered_where (With i) (held r i (omega arith) (omega arith)))
 
   -- some ticket is not passed on where seat i has the right
   some_left : (p : Place) → s.place i ≡ p → due_stage ≤ stage p → stage p ≤ passing_stage → s.unpassed ≢ 0
@@ -38,8 +39,10 @@ module _ (seats : ℕ) (s : World) (right : Whereabouts) (owner : ℕ → ℕ) (
       cc
 
   -- seat i has the right after its step
-  taken : (t n entered_new : ℕ) (p : Place) → entered_new + n ≡ t + used_at p → entered_new + n ≡ t + used_at (update s.place i p i)
-  taken t n entered_new p agrees = subst (λ (y : Place). entered_new + n ≡ t + used_at y) (sym (update_here s.place i p)) agrees
+  taken : (t n entered_new : ℕ) (p : Place) → entered_new + n ≡ t + used_at p
+      → entered_new + n ≡ t + used_at (update s.place i p i)
+  taken t n entered_new p agrees =
+      subst (λ (y : Place). entered_new + n ≡ t + used_at y) (sym (update_here s.place i p)) agrees
 
   pub arrives_free : s.unpassed ≡ 0
       → FitsEnters (record s {
@@ -53,7 +56,11 @@ module _ (seats : ℕ) (s : World) (right : Whereabouts) (owner : ℕ → ℕ) (
       taken (s.drawn + 1) (s.unpassed + 1) entered (Due (Free s.drawn)) (omega arith)
 
   pub arrives_behind : s.place i ≡ Idle
-      → FitsEnters (record s { drawn = s.drawn + 1; unpassed = s.unpassed + 1; place = update s.place i (Ticket s.drawn) })
+      → FitsEnters (record s {
+        drawn = s.drawn + 1;
+        unpassed = s.unpassed + 1;
+        place = update s.place i (Ticket s.drawn);
+      })
       right entered
   arrives_behind idle = let same =
       elsewhere right (λ e. let z = ap stage idle in let a = holds r i e in let b = a.0 in omega arith) in omega arith
@@ -67,7 +74,8 @@ module _ (seats : ℕ) (s : World) (right : Whereabouts) (owner : ℕ → ℕ) (
       elsewhere (With j) ne = ap used_at (update_else s.place i (Ticket s.drawn) j (λ e. ne (ap With e)))
       elsewhere (AtSeat j) ne = refl
 
-  pub takes_grant : (t : ℕ) → right ≡ AtTicket t → FitsEnters (record s { place = update s.place i (Due (Granted t)) }) (With i) entered
+  pub takes_grant : (t : ℕ) → right ≡ AtTicket t
+      → FitsEnters (record s { place = update s.place i (Due (Granted t)) }) (With i) entered
   takes_grant t is = taken s.drawn s.unpassed entered (Due (Granted t)) (entered_where (AtTicket t) is)
 
   pub takes_call : (count : ℕ → ℕ) → right ≡ AtSeat i
@@ -88,10 +96,12 @@ module _ (seats : ℕ) (s : World) (right : Whereabouts) (owner : ℕ → ℕ) (
       let u : entered + s.unpassed ≡ s.drawn + used_by q = entered_here (Due q) due (omega arith) (omega arith) in
       holder (Active q) entered_new (held r i (omega arith) (omega arith)) (omega arith)
 
-  pub goes_home : (q : Source) (next : Next) (home : Home) → s.place i ≡ Active q → FitsEnters (after_floor_in s i next home) right entered
+  pub goes_home : (q : Source) (next : Next) (home : Home) → s.place i ≡ Active q
+      → FitsEnters (after_floor_in s i next home) right entered
   goes_home q next home active =
       let z : stage (s.place i) ≡ active_stage = ap stage active in
-      holder (Back next home) entered (held r i (omega arith) (omega arith)) (entered_here (Active q) active (omega arith) (omega arith))
+      holder (Back next home) entered (held r i (omega arith) (omega arith))
+      (entered_here (Active q) active (omega arith) (omega arith))
 
   pub drops_last : (home : Home) → s.place i ≡ Back Entry home
       → FitsEnters (record s { unpassed = s.unpassed - 1; place = update s.place i (place_of home) }) Nowhere entered

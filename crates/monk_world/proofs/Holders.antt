@@ -78,9 +78,11 @@ pub holds : {seats : ℕ} {s : World} {right : Whereabouts} {owner : ℕ → ℕ
     → right ≡ With j → (due_stage ≤ stage (s.place j)) × (stage (s.place j) ≤ passing_stage)
 holds {s = s} r j e = has_right (s.place j) ((r.holder.with_seat j).1 e)
 
-module _ (seats : ℕ) (s : World) (right : Whereabouts) (owner : ℕ → ℕ) (r : KeepsRight seats s right owner) (i : ℕ) where
+module _ (seats : ℕ) (s : World) (right : Whereabouts) (owner : ℕ → ℕ) (r : KeepsRight seats s right owner)
+    (i : ℕ) where
   -- who waits with a ticket goes on waiting where another steps
-  pub waiter_stays : (to : Place) (k : ℕ) → stage (s.place i) ≢ ticketed_stage → Waits s.place owner k → Waits (update s.place i to) owner k
+  pub waiter_stays : (to : Place) (k : ℕ) → stage (s.place i) ≢ ticketed_stage → Waits s.place owner k
+      → Waits (update s.place i to) owner k
   waiter_stays to k other h =
       subst (λ (y : Place). (stage y ≡ ticketed_stage) × (ticket y ≡ k))
       (sym (update_else s.place i to (owner k) (λ e. other (sym (ap (λ (j : ℕ). stage (s.place j)) e) ∙ h.0)))) h

@@ -49,11 +49,17 @@ module _ (seats : ℕ) (s : World) (right : Whereabouts) (owner : ℕ → ℕ) (
   queued_here p at ne = subst (λ (y : Place). stage y ≢ active_stage → queued i ≡ is_queued_at y) at (f.in_queue i) ne
 
   pub arrives_free : s.place i ≡ Idle → s.unpassed ≡ 0
-      → FitsQueues (record s { drawn = s.drawn + 1; unpassed = s.unpassed + 1; place = update s.place i (Due (Free s.drawn)) }) queued quiet
+      → FitsQueues (record s {
+        drawn = s.drawn + 1;
+        unpassed = s.unpassed + 1;
+        place = update s.place i (Due (Free s.drawn));
+      }) queued quiet
   arrives_free idle none =
       let p : Place = Due (Free s.drawn) in
       record {
-        in_queue = at_update s.place i p (InQueue queued) (λ _. queued_here Idle idle (λ e. omega arith)) (λ j _. f.in_queue j);
+        in_queue =
+            at_update s.place i p (InQueue queued) (λ _. queued_here Idle idle (λ e. omega arith))
+            (λ j _. f.in_queue j);
         free = λ e. absurd (omega arith);
         still_free = at_update s.place i p (StillFree quiet) (λ _ _. f.free none) (λ j _. f.still_free j);
         back_to_entry = at_update s.place i p (ToEntry quiet (s.unpassed + 1)) (λ a. absurd (omega arith))
@@ -61,26 +67,36 @@ module _ (seats : ℕ) (s : World) (right : Whereabouts) (owner : ℕ → ℕ) (
       }
 
   pub arrives_behind : s.place i ≡ Idle
-      → FitsQueues (record s { drawn = s.drawn + 1; unpassed = s.unpassed + 1; place = update s.place i (Ticket s.drawn) })
+      → FitsQueues (record s {
+        drawn = s.drawn + 1;
+        unpassed = s.unpassed + 1;
+        place = update s.place i (Ticket s.drawn);
+      })
       queued quiet
   arrives_behind idle =
       let p : Place = Ticket s.drawn in
       record {
-        in_queue = at_update s.place i p (InQueue queued) (λ _. queued_here Idle idle (λ e. omega arith)) (λ j _. f.in_queue j);
+        in_queue =
+            at_update s.place i p (InQueue queued) (λ _. queued_here Idle idle (λ e. omega arith))
+            (λ j _. f.in_queue j);
         free = λ e. absurd (omega arith);
         still_free = at_update s.place i p (StillFree quiet) (λ a. absurd (omega arith)) (λ j _. f.still_free j);
         back_to_entry = at_update s.place i p (ToEntry quiet (s.unpassed + 1)) (λ a. absurd (omega arith))
             (λ j _ a e. weaker quiet s.unpassed (f.back_to_entry j a e));
       }
 
-  pub takes_grant : (t : ℕ) → s.place i ≡ Ticket t → FitsQueues (record s { place = update s.place i (Due (Granted t)) }) queued quiet
+  pub takes_grant : (t : ℕ) → s.place i ≡ Ticket t
+      → FitsQueues (record s { place = update s.place i (Due (Granted t)) }) queued quiet
   takes_grant t at =
       let p : Place = Due (Granted t) in
       record {
-        in_queue = at_update s.place i p (InQueue queued) (λ _. queued_here (Ticket t) at (λ e. omega arith)) (λ j _. f.in_queue j);
+        in_queue =
+            at_update s.place i p (InQueue queued) (λ _. queued_here (Ticket t) at (λ e. omega arith))
+            (λ j _. f.in_queue j);
         free = f.free;
         still_free = at_update s.place i p (StillFree quiet) (λ _ b. absurd (omega arith)) (λ j _. f.still_free j);
-        back_to_entry = at_update s.place i p (ToEntry quiet s.unpassed) (λ a. absurd (omega arith)) (λ j _. f.back_to_entry j);
+        back_to_entry =
+            at_update s.place i p (ToEntry quiet s.unpassed) (λ a. absurd (omega arith)) (λ j _. f.back_to_entry j);
       }
 
   pub takes_call : (count : ℕ → ℕ) → s.place i ≡ Inner
@@ -88,10 +104,12 @@ module _ (seats : ℕ) (s : World) (right : Whereabouts) (owner : ℕ → ℕ) (
   takes_call count at =
       let p : Place = Due Called in
       record {
-        in_queue = at_update s.place i p (InQueue queued) (λ _. queued_here Inner at (λ e. omega arith)) (λ j _. f.in_queue j);
+        in_queue =
+            at_update s.place i p (InQueue queued) (λ _. queued_here Inner at (λ e. omega arith)) (λ j _. f.in_queue j);
         free = f.free;
         still_free = at_update s.place i p (StillFree quiet) (λ _ b. absurd (omega arith)) (λ j _. f.still_free j);
-        back_to_entry = at_update s.place i p (ToEntry quiet s.unpassed) (λ a. absurd (omega arith)) (λ j _. f.back_to_entry j);
+        back_to_entry =
+            at_update s.place i p (ToEntry quiet s.unpassed) (λ a. absurd (omega arith)) (λ j _. f.back_to_entry j);
       }
 
   -- the step of seat i, which has the right
@@ -116,7 +134,8 @@ module _ (seats : ℕ) (s : World) (right : Whereabouts) (owner : ℕ → ℕ) (
       later (inl a) b = omega arith
       later (inr a) b = omega arith
 
-  pub comes_out : (q : Source) (queued_new : ℕ → Bool) (quiet_new : Bool) → s.place i ≡ Due q → ((j : ℕ) → j ≢ i → queued_new j ≡ queued j)
+  pub comes_out : (q : Source) (queued_new : ℕ → Bool) (quiet_new : Bool) → s.place i ≡ Due q
+      → ((j : ℕ) → j ≢ i → queued_new j ≡ queued j)
       → FitsQueues (after_floor_out s i q) queued_new quiet_new
   comes_out q queued_new quiet_new due alike =
       let two : stage (s.place i) ≡ due_stage = stage_of (Due q) due in
@@ -131,7 +150,8 @@ module _ (seats : ℕ) (s : World) (right : Whereabouts) (owner : ℕ → ℕ) (
       let none : (j : ℕ) → j ≢ i → due_stage ≤ stage (s.place j) → stage (s.place j) ≤ passing_stage → ⊥ =
       others seats s right owner r i (omega arith) (omega arith) in
       let mine = held r i (omega arith) (omega arith) in
-      let apart : (j : ℕ) → stage (s.place j) ≢ active_stage → j ≢ i = λ j ne e. ne (ap (λ (k : ℕ). stage (s.place k)) e ∙ three) in
+      let apart : (j : ℕ) → stage (s.place j) ≢ active_stage
+      → j ≢ i = λ j ne e. ne (ap (λ (k : ℕ). stage (s.place k)) e ∙ three) in
       record {
         in_queue = λ j ne. alike j (apart j ne) ∙ f.in_queue j ne;
         free = λ e. absurd (let a = r.holder.free.0 e in cc);
@@ -158,7 +178,8 @@ module _ (seats : ℕ) (s : World) (right : Whereabouts) (owner : ℕ → ℕ) (
       record {
         in_queue = at_update s.place i p (InQueue queued) (λ _. own ∙ sym (home_queued home)) (λ j _. f.in_queue j);
         free = free;
-        still_free = at_update s.place i p (StillFree quiet) (λ a. absurd (at_home home 2 (omega arith) (omega arith) a))
+        still_free =
+            at_update s.place i p (StillFree quiet) (λ a. absurd (at_home home 2 (omega arith) (omega arith) a))
             (λ j _. f.still_free j);
         back_to_entry = at_update s.place i p (ToEntry quiet n)
             (λ a. absurd (at_home home 4 (omega arith) (omega arith) a))
@@ -191,14 +212,18 @@ module _ (seats : ℕ) (s : World) (right : Whereabouts) (owner : ℕ → ℕ) (
             (λ j ne a. absurd (none j ne (omega arith) (omega arith)));
       }
 
-  pub grants_ticket : (t : ℕ) (home : Home) → s.place i ≡ Passing t home → FitsQueues (after_ticket_grant seats s i t home) queued quiet
+  pub grants_ticket : (t : ℕ) (home : Home) → s.place i ≡ Passing t home
+      → FitsQueues (after_ticket_grant seats s i t home) queued quiet
   grants_ticket t home five =
       let z : stage (s.place i) ≡ passing_stage = stage_of (Passing t home) five in
-      let g = given s.unpassed home (queued_here (Passing t home) five (λ e. omega arith)) f.free (omega arith) (omega arith) in
+      let g = given s.unpassed home (queued_here (Passing t home) five (λ e. omega arith)) f.free (omega arith)
+      (omega arith) in
       record { in_queue = g.in_queue; free = g.free; still_free = g.still_free; back_to_entry = g.back_to_entry }
 
-  pub calls_seat : (next : Next) (k : ℕ) (home : Home) → s.place i ≡ Back next home → FitsQueues (after_seat_grant s i k home) queued quiet
+  pub calls_seat : (next : Next) (k : ℕ) (home : Home) → s.place i ≡ Back next home
+      → FitsQueues (after_seat_grant s i k home) queued quiet
   calls_seat next k home back =
       let z : stage (s.place i) ≡ back_stage = stage_of (Back next home) back in
-      let g = given s.unpassed home (queued_here (Back next home) back (λ e. omega arith)) f.free (omega arith) (omega arith) in
+      let g = given s.unpassed home (queued_here (Back next home) back (λ e. omega arith)) f.free (omega arith)
+      (omega arith) in
       record { in_queue = g.in_queue; free = g.free; still_free = g.still_free; back_to_entry = g.back_to_entry }

@@ -72,7 +72,8 @@ lets_in answer.NotNow = false
 lets_in answer.Tired = false
 
 another : (a r : Answer) → a ≡ r → lets_in r ≡ false → a ≡ answer.Chose next.Entry → ⊥
-another a r is differs entry = let z : false ≡ true = sym differs ∙ (ap lets_in (sym is) ∙ ap lets_in entry) in absurd cc
+another a r is differs entry = let z : false ≡ true = sym differs ∙ (ap lets_in (sym is) ∙ ap lets_in entry) in
+    absurd cc
 
 -- a refusal, or a step
 pub refused_or_done : (k : Rules) (o : Object) (s : State) (i : ℕ) (c : Command) (a : Answer) (t : State)
@@ -109,7 +110,8 @@ module _ (k : Rules) (o : Object) (s : State) (kind : IsKind k) (h : Sound k o s
   Outcome c a t = (events : List Event) × IsTaken k o s (recording i c a events) t
 
   well_after : (c : Command) (a : Answer) (t : State) → IsStep k o s i c a t → IsWellLed k o t
-  well_after c a t step = let after = step_is_sound k o s i c a t kind h step in well_led k o t after.right after.owner after.is_sound
+  well_after c a t step = let after = step_is_sound k o s i c a t kind h step in
+      well_led k o t after.right after.owner after.is_sound
 
   -- nothing is appended
   still : (c : Command) (a : Answer) (t : State) → IsStep k o s i c a t → (r : Answer) → a ≡ r → lets_in r ≡ false
@@ -128,7 +130,8 @@ module _ (k : Rules) (o : Object) (s : State) (kind : IsKind k) (h : Sound k o s
   )
 
   -- one event is
-  grew : (c : Command) (a : Answer) (t : State) → IsStep k o s i c a t → (e : Event) → t.floor ≡ with_event s.floor e → seat_of e ≡ i
+  grew : (c : Command) (a : Answer) (t : State) → IsStep k o s i c a t → (e : Event)
+      → t.floor ≡ with_event s.floor e → seat_of e ≡ i
       → first_version e ≤ command_version c
       → ((v : Via) → e ≡ Enter i v → EntersWith (s.world.place i) v (enters_of s.floor.history))
       → (a ≡ answer.Chose next.Entry → (is_quiet k o t.floor ≡ true) ⊎ (2 ≤ s.world.unpassed)) → Outcome c a t
@@ -194,11 +197,16 @@ module _ (k : Rules) (o : Object) (s : State) (kind : IsKind k) (h : Sound k o s
       (enters_so q (turn s.floor.history) at) (λ e. absurd (another a answer.Now d.0 refl e))
   done command.Peek a t Idle step at d = still command.Peek a t step _ d.0 refl (ap (λ (u : State). u.floor) d.1)
   done command.Peek a t (Active q) step at d = still command.Peek a t step _ d.0 refl (ap (λ (u : State). u.floor) d.1)
-  done command.Drop a t (Back next.Entry to) step at d = still command.Drop a t step _ d.0 refl (ap (λ (u : State). u.floor) d.1)
-  done command.Grant a t (Back (next.Waiter j) to) step at d = still command.Grant a t step _ d.0 refl (ap (λ (u : State). u.floor) d.1)
-  done command.Grant a t (Back (next.Signaller j) to) step at d = still command.Grant a t step _ d.0 refl (ap (λ (u : State). u.floor) d.1)
-  done command.Grant a t (Back (next.Until j) to) step at d = still command.Grant a t step _ d.0 refl (ap (λ (u : State). u.floor) d.1)
-  done command.Grant a t (Passing n to) step at d = still command.Grant a t step _ d.0 refl (ap (λ (u : State). u.floor) d.1)
+  done command.Drop a t (Back next.Entry to) step at d =
+      still command.Drop a t step _ d.0 refl (ap (λ (u : State). u.floor) d.1)
+  done command.Grant a t (Back (next.Waiter j) to) step at d =
+      still command.Grant a t step _ d.0 refl (ap (λ (u : State). u.floor) d.1)
+  done command.Grant a t (Back (next.Signaller j) to) step at d =
+      still command.Grant a t step _ d.0 refl (ap (λ (u : State). u.floor) d.1)
+  done command.Grant a t (Back (next.Until j) to) step at d =
+      still command.Grant a t step _ d.0 refl (ap (λ (u : State). u.floor) d.1)
+  done command.Grant a t (Passing n to) step at d =
+      still command.Grant a t step _ d.0 refl (ap (λ (u : State). u.floor) d.1)
   done (command.Act op) a t (Active q) step at d =
       grew (command.Act op) a t step _ (ap (λ (u : State). u.floor) d.1) refl (omega arith) (λ v is. absurd cc)
       (λ e. absurd (another a _ d.0 refl e))
@@ -207,16 +215,21 @@ module _ (k : Rules) (o : Object) (s : State) (kind : IsKind k) (h : Sound k o s
   done (command.Wait c pick) a t (Active q) step at d =
       released (command.Wait c pick) a t step (Wait i c next.Stay) pick home.Inner (waiting i c) (λ x. omega arith) d
   done (command.Signal c pick) a t (Active q) step at d =
-      released (command.Signal c pick) a t step (Signal i c next.Stay) pick home.Inner (signalling i c) (λ x. omega arith) d
+      released (command.Signal c pick) a t step (Signal i c next.Stay) pick home.Inner (signalling i c)
+      (λ x. omega arith) d
   done (command.SignalLeave c pick) a t (Active q) step at d =
-      released (command.SignalLeave c pick) a t step (SignalLeave i c next.Stay) pick home.Idle (signal_leaving i c) (λ x. omega arith) d
+      released (command.SignalLeave c pick) a t step (SignalLeave i c next.Stay) pick home.Idle
+      (signal_leaving i c) (λ x. omega arith) d
   done (command.Until p pick) a t (Active q) step at d =
-      released (command.Until p pick) a t step (Until i p next.Stay) pick home.Inner (waiting_until i p) (λ x. omega arith) d
+      released (command.Until p pick) a t step (Until i p next.Stay) pick home.Inner (waiting_until i p)
+      (λ x. omega arith) d
   done (command.SignalAll c) a t (Active q) step at d =
-      grew (command.SignalAll c) a t step (SignalAll i c) (ap (λ (u : State). u.floor) d.1) refl (omega arith) (λ v is. absurd cc)
+      grew (command.SignalAll c) a t step (SignalAll i c) (ap (λ (u : State). u.floor) d.1) refl (omega arith)
+      (λ v is. absurd cc)
       (λ e. absurd (another a _ d.0 refl e))
   done (command.SignalWait c v pick) a t (Active q) step at d =
-      released (command.SignalWait c v pick) a t step (SignalWait i c v next.Stay) pick home.Inner (signal_waiting i c v)
+      released (command.SignalWait c v pick) a t step (SignalWait i c v next.Stay) pick home.Inner
+      (signal_waiting i c v)
       (λ x. omega arith) d
   done c a t p step at d = absurd d
 
@@ -252,7 +265,8 @@ events_of-append past more j = filter-append (λ e. seat_of e == j) past more
 
 own_events : (k : Rules) (o : Object) (s : State) (steps : List Recorded) (t : State) → IsRecorded k o s steps t
     → (j : ℕ) → events_of t.floor.history j ≡ events_of s.floor.history j ++ recorded_by j steps
-own_events k o s [] t r j = ap (λ (u : State). events_of u.floor.history j) r ∙ sym (append-nil (events_of s.floor.history j))
+own_events k o s [] t r j = ap (λ (u : State). events_of u.floor.history j) r
+    ∙ sym (append-nil (events_of s.floor.history j))
 own_events k o s (x ∷ xs) t r j =
     let u = r.0 in
     let here : events_of u.floor.history j ≡ events_of s.floor.history j ++ cond (x.told.seat == j) x.events [] =
@@ -261,7 +275,8 @@ own_events k o s (x ∷ xs) t r j =
     own_events k o u xs t r.2 j ∙ (ap (λ es. es ++ recorded_by j xs) here
     ∙ append_assoc (events_of s.floor.history j) (cond (x.told.seat == j) x.events []) (recorded_by j xs))
 
-run_recorded : (k : Rules) (o : Object) (s : State) (told : List Told) (t : State) → IsKind k → Sound k o s → IsRun k o s told t
+run_recorded : (k : Rules) (o : Object) (s : State) (told : List Told) (t : State) → IsKind k → Sound k o s
+    → IsRun k o s told t
     → (steps : List Recorded) × ((map recorded_command steps ≡ map command_of told) × IsRecorded k o s steps t)
 run_recorded k o s [] t kind h run = ([], (refl, run))
 run_recorded k o s (x ∷ xs) t kind h run =
@@ -279,9 +294,11 @@ versions_split false b h = absurd (false≢true h)
 versions_join : (a b : Bool) → a ≡ true → b ≡ true → (a && b) ≡ true
 versions_join a b h l = ap (λ x. x && b) h ∙ l
 
-same_version : (k : Rules) (o : Object) (s : State) (steps : List Recorded) (t : State) (v : ℕ) → IsRecorded k o s steps t
+same_version : (k : Rules) (o : Object) (s : State) (steps : List Recorded) (t : State) (v : ℕ)
+    → IsRecorded k o s steps t
     → are_in_version v s.floor.history ≡ true
-    → list_all (λ c. nat_le (command_version c.1) v) (map recorded_command steps) ≡ true → are_in_version v t.floor.history ≡ true
+    → list_all (λ c. nat_le (command_version c.1) v) (map recorded_command steps) ≡ true
+    → are_in_version v t.floor.history ≡ true
 same_version k o s [] t v r here all = ap (λ (u : State). are_in_version v u.floor.history) r ∙ here
 same_version k o s (x ∷ xs) t v r here all =
     let both = versions_split (nat_le (command_version x.told.command) v) _ all in

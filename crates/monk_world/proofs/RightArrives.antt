@@ -11,7 +11,8 @@ use Rattle.monk_world.specs.declared.source.Source.TheVariants.{Free}
 use Rattle.monk_world.proofs.Holders.{held, holds, alone_with, waiter_stays, other_stage}
 use Rattle.monk_world.proofs.UpdateLaws.{at_update, update_here, update_else, all_back}
 
-module _ (seats : ℕ) (s : World) (right : Whereabouts) (owner : ℕ → ℕ) (r : KeepsRight seats s right owner) (i : ℕ) where
+module _ (seats : ℕ) (s : World) (right : Whereabouts) (owner : ℕ → ℕ) (r : KeepsRight seats s right owner)
+    (i : ℕ) where
   pub draws_free : stage (s.place i) ≡ outside_stage → s.unpassed ≡ 0
       → KeepsRight seats (record s {
         drawn = s.drawn + 1;
@@ -22,7 +23,8 @@ module _ (seats : ℕ) (s : World) (right : Whereabouts) (owner : ℕ → ℕ) (
   draws_free idle none =
       let to : Place = Due (Free s.drawn) in
       let free = r.holder.free.0 none in
-      let nobody : (j : ℕ) → due_stage ≤ stage (s.place j) → stage (s.place j) ≤ passing_stage → ⊥ = λ j a b. let h = held r j a b in cc in
+      let nobody : (j : ℕ) → due_stage ≤ stage (s.place j) → stage (s.place j) ≤ passing_stage
+      → ⊥ = λ j a b. let h = held r j a b in cc in
       let alone : (j : ℕ) → stage (s.place j) ≡ ticketed_stage → ⊥ = λ j h. let a = r.tickets.waits j h in let b = a.0
       in let d = a.1 in omega arith in
       record {
@@ -39,7 +41,8 @@ module _ (seats : ℕ) (s : World) (right : Whereabouts) (owner : ℕ → ℕ) (
           owned = λ k a b. absurd (omega arith);
           passing = at_update s.place i to (λ _. PassesNext (s.drawn + 1) (s.unpassed + 1) (update s.place i to) owner)
               (λ a. absurd (omega arith)) (λ j _ a. absurd (nobody j (omega arith) (omega arith)));
-          granted = at_update s.place i to (λ _. WasGranted (s.drawn + 1) (s.unpassed + 1) (With i) (update s.place i to))
+          granted =
+              at_update s.place i to (λ _. WasGranted (s.drawn + 1) (s.unpassed + 1) (With i) (update s.place i to))
               (λ a. absurd (omega arith)) (λ j _ a. absurd (alone j a));
           grant = λ t e. absurd cc;
         };
@@ -71,7 +74,8 @@ module _ (seats : ℕ) (s : World) (right : Whereabouts) (owner : ℕ → ℕ) (
       let keeps : (k : ℕ) → Waits s.place owner k → Waits (update s.place i to) owner k =
       λ k h. waiter_stays seats s right owner r i to k (λ e. omega arith) h in
       let moves : (k : ℕ) → k ≢ s.drawn → Waits s.place owner k → Waits (update s.place i to) owners k =
-      λ k ne h. subst (λ (j : ℕ). (stage (update s.place i to j) ≡ ticketed_stage) × (ticket (update s.place i to j) ≡ k))
+      λ k ne h. subst (λ (j : ℕ). (stage (update s.place i to j) ≡ ticketed_stage)
+      × (ticket (update s.place i to j) ≡ k))
       (sym (update_else owner s.drawn i k ne)) (keeps k h) in
       let stays : (j : ℕ) → stage (s.place j) ≡ inside_stage → stage (update s.place i to j) ≡ inside_stage =
       λ j six. ap stage (update_else s.place i to j (other_stage s.place i j (λ e. omega arith))) ∙ six in
@@ -103,7 +107,8 @@ module _ (seats : ℕ) (s : World) (right : Whereabouts) (owner : ℕ → ℕ) (
               (λ _ e. absurd (some (omega arith)))
               (λ j _ a e none. r.tickets.granted j a (omega arith)
               (all_back s.place i to (λ k y. stage y ≢ passing_stage) none (λ z. omega arith)));
-          grant = λ t e. let old = r.tickets.grant t e in let sum = old.0 in (omega arith, moves t (λ z. some (omega arith)) old.1);
+          grant = λ t e. let old = r.tickets.grant t e in let sum = old.0 in
+              (omega arith, moves t (λ z. some (omega arith)) old.1);
         };
         places = record {
           granted = r.places.granted;

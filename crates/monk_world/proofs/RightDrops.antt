@@ -11,7 +11,8 @@ use Rattle.monk_world.specs.declared.place.Place.TheVariants.{Passing}
 use Rattle.monk_world.proofs.Holders.{held, alone_with, with_none, home_has_none, at_home, waiter_stays, others}
 use Rattle.monk_world.proofs.UpdateLaws.{at_update, update_here}
 
-module _ (seats : ℕ) (s : World) (right : Whereabouts) (owner : ℕ → ℕ) (r : KeepsRight seats s right owner) (i : ℕ) where
+module _ (seats : ℕ) (s : World) (right : Whereabouts) (owner : ℕ → ℕ) (r : KeepsRight seats s right owner)
+    (i : ℕ) where
   nobody_passes : stage (s.place i) ≡ back_stage → (k : ℕ) → stage (s.place k) ≢ passing_stage
   nobody_passes back k h =
       let a = held r k (omega arith) (omega arith) in
@@ -21,7 +22,8 @@ module _ (seats : ℕ) (s : World) (right : Whereabouts) (owner : ℕ → ℕ) (
       omega arith
 
   pub drops_last : (home : Home) → stage (s.place i) ≡ back_stage → s.unpassed ≡ 1
-      → KeepsRight seats (record s { unpassed = s.unpassed - 1; place = update s.place i (place_of home) }) Nowhere owner
+      → KeepsRight seats (record s { unpassed = s.unpassed - 1; place = update s.place i (place_of home) })
+      Nowhere owner
   drops_last home back one =
       let to : Place = place_of home in
       let mine = held r i (omega arith) (omega arith) in
@@ -94,7 +96,8 @@ module _ (seats : ℕ) (s : World) (right : Whereabouts) (owner : ℕ → ℕ) (
               (λ j _ h. let a = r.tickets.waits j h in let b = a.1 in
               let ne : ticket (s.place j) + s.unpassed ≢ s.drawn = λ e. let d = r.tickets.granted j h e five in cc
               in (a.0, omega arith, a.2));
-          owned = λ k a b. waiter_stays seats s right owner r i to k (λ e. omega arith) (r.tickets.owned k a (omega arith));
+          owned = λ k a b. waiter_stays seats s right owner r i to k (λ e. omega arith)
+              (r.tickets.owned k a (omega arith));
           passing = at_update s.place i to (λ _. PassesNext s.drawn n (update s.place i to) owner)
               (λ _. (
                 sum,

@@ -14,7 +14,8 @@ use Rattle.monk_world.specs.declared.source.Source.{Source}
 use Rattle.monk_world.proofs.Holders.{held, holds_right, waiter_stays, others, other_stage}
 use Rattle.monk_world.proofs.UpdateLaws.{at_update, update_else, all_back}
 
-module _ (seats : ℕ) (s : World) (right : Whereabouts) (owner : ℕ → ℕ) (r : KeepsRight seats s right owner) (i : ℕ) where
+module _ (seats : ℕ) (s : World) (right : Whereabouts) (owner : ℕ → ℕ) (r : KeepsRight seats s right owner)
+    (i : ℕ) where
   -- the seat that has the right goes to be active, or on from there: the words stay, and so does the right
   keeps_it : (to : Place) → due_stage ≤ stage (s.place i) → stage (s.place i) ≤ active_stage → active_stage ≤ stage to
       → stage to ≤ back_stage → ChoseInner (update s.place i to) to
@@ -33,12 +34,16 @@ module _ (seats : ℕ) (s : World) (right : Whereabouts) (owner : ℕ → ℕ) (
           behind = r.tickets.behind;
           in_use = at_update s.place i to (λ _. UsesTicket s.drawn s.unpassed) (λ a. absurd (omega arith))
               (λ j ne a. absurd (none j ne (omega arith) (omega arith)));
-          waits = at_update s.place i to (OwnsTicket s.drawn s.unpassed owner) (λ a. absurd (omega arith)) (λ j _. r.tickets.waits j);
+          waits = at_update s.place i to (OwnsTicket s.drawn s.unpassed owner) (λ a. absurd (omega arith))
+              (λ j _. r.tickets.waits j);
           owned = λ k a b. waiter_stays seats s right owner r i to k (λ e. omega arith) (r.tickets.owned k a b);
           passing = at_update s.place i to (λ _. PassesNext s.drawn s.unpassed (update s.place i to) owner)
               (λ a. absurd (omega arith)) (λ j ne a. absurd (none j ne (omega arith) (omega arith)));
-          granted = at_update s.place i to (λ _. WasGranted s.drawn s.unpassed right (update s.place i to)) (λ a. absurd (omega arith))
-              (λ j _ a e no. r.tickets.granted j a e (all_back s.place i to (λ k y. stage y ≢ passing_stage) no (λ z. omega arith)));
+          granted =
+              at_update s.place i to (λ _. WasGranted s.drawn s.unpassed right (update s.place i to))
+              (λ a. absurd (omega arith))
+              (λ j _ a e no. r.tickets.granted j a e
+              (all_back s.place i to (λ k y. stage y ≢ passing_stage) no (λ z. omega arith)));
           grant = λ t e. absurd cc;
         };
         places = record {
@@ -57,7 +62,8 @@ module _ (seats : ℕ) (s : World) (right : Whereabouts) (owner : ℕ → ℕ) (
       }
 
   pub comes_out : (q : Source) → stage (s.place i) ≡ due_stage → KeepsRight seats (after_floor_out s i q) right owner
-  comes_out q two = keeps_it (Active q) (omega arith) (omega arith) (omega arith) (omega arith) (λ a. absurd (omega arith))
+  comes_out q two =
+      keeps_it (Active q) (omega arith) (omega arith) (omega arith) (omega arith) (λ a. absurd (omega arith))
 
   -- whom it has chosen is another, and parked inside
   pub goes_home : (next : Next) (home : Home) → stage (s.place i) ≡ active_stage

@@ -12,7 +12,8 @@ use Rattle.monk_world.specs.declared.place.Place.{Place}
 use Rattle.monk_world.proofs.Holders.{held, with_none, home_has_none, at_home, waiter_stays, others, other_stage}
 use Rattle.monk_world.proofs.UpdateLaws.{at_update, update_here, update_else, all_back}
 
-module _ (seats : ℕ) (s : World) (right : Whereabouts) (owner : ℕ → ℕ) (r : KeepsRight seats s right owner) (i : ℕ) where
+module _ (seats : ℕ) (s : World) (right : Whereabouts) (owner : ℕ → ℕ) (r : KeepsRight seats s right owner)
+    (i : ℕ) where
   pub grants_ticket : (home : Home) → stage (s.place i) ≡ passing_stage → 0 < seats
       → KeepsRight seats (after_ticket_grant seats s i (ticket (s.place i)) home) (AtTicket (ticket (s.place i))) owner
   grants_ticket home five some =
@@ -48,7 +49,8 @@ module _ (seats : ℕ) (s : World) (right : Whereabouts) (owner : ℕ → ℕ) (
               (sum, waiter_stays seats s right owner r i to T (λ z. omega arith) next.1);
         };
         places = record {
-          granted = λ t e. let is : T ≡ t = cc in subst (λ (z : ℕ). ps (z % seats) ≡ z + 1) is (update_here s.ticket_place p (T + 1));
+          granted = λ t e. let is : T ≡ t = cc in
+              subst (λ (z : ℕ). ps (z % seats) ≡ z + 1) is (update_here s.ticket_place p (T + 1));
           low = at_update s.ticket_place p (T + 1) (λ q x. q < seats → x + s.unpassed ≤ s.drawn + 1) (λ _. omega arith)
               (λ q _. r.places.low q);
           low_passing = at_update s.place i to (λ _. LeavesLow seats s.drawn s.unpassed ps)

@@ -12,9 +12,11 @@ use Rattle.monk_world.specs.declared.source.Source.TheVariants.{Granted, Called}
 use Rattle.monk_world.proofs.Holders.{held, called_tells, alone_with, waiter_stays}
 use Rattle.monk_world.proofs.UpdateLaws.{at_update, update_else, all_back}
 
-module _ (seats : ℕ) (s : World) (right : Whereabouts) (owner : ℕ → ℕ) (r : KeepsRight seats s right owner) (i : ℕ) where
+module _ (seats : ℕ) (s : World) (right : Whereabouts) (owner : ℕ → ℕ) (r : KeepsRight seats s right owner)
+    (i : ℕ) where
   -- where the place of its ticket holds it, the ticket is next and the right is there
-  pub grant_is_there : stage (s.place i) ≡ ticketed_stage → s.ticket_place (ticket (s.place i) % seats) ≡ ticket (s.place i) + 1 → 0 < seats
+  pub grant_is_there : stage (s.place i) ≡ ticketed_stage
+      → s.ticket_place (ticket (s.place i) % seats) ≡ ticket (s.place i) + 1 → 0 < seats
       → IsNext s.drawn s.unpassed (ticket (s.place i)) × (right ≡ AtTicket (ticket (s.place i)))
   grant_is_there waits found some =
       let T : ℕ = ticket (s.place i) in
@@ -22,11 +24,15 @@ module _ (seats : ℕ) (s : World) (right : Whereabouts) (owner : ℕ → ℕ) (
       let near = mod-lt T some in
       let below = r.places.low (T % seats) near in
       let least = mine.1 in
-      let sum : T + s.unpassed ≡ s.drawn = omega arith in
-      (sum, r.tickets.granted i waits sum (λ j five. let low = r.places.low_passing j five (T % seats) near in omega arith))
+      let sum : T + s.unpassed ≡ s.drawn = omega arith in (
+        sum,
+        r.tickets.granted i waits sum
+            (λ j five. let low = r.places.low_passing j five (T % seats) near in omega arith),
+      )
 
   -- it finds its ticket granted
-  pub finds_grant : stage (s.place i) ≡ ticketed_stage → s.ticket_place (ticket (s.place i) % seats) ≡ ticket (s.place i) + 1 → 0 < seats
+  pub finds_grant : stage (s.place i) ≡ ticketed_stage
+      → s.ticket_place (ticket (s.place i) % seats) ≡ ticket (s.place i) + 1 → 0 < seats
       → KeepsRight seats (after_ticket_look s i (ticket (s.place i)) true) (With i) owner
   finds_grant waits found some =
       let T : ℕ = ticket (s.place i) in
@@ -35,7 +41,8 @@ module _ (seats : ℕ) (s : World) (right : Whereabouts) (owner : ℕ → ℕ) (
       let there = grant_is_there waits found some in
       let sum = there.0 in
       let is = there.1 in
-      let nobody : (j : ℕ) → due_stage ≤ stage (s.place j) → stage (s.place j) ≤ passing_stage → ⊥ = λ j a b. let h = held r j a b in cc in
+      let nobody : (j : ℕ) → due_stage ≤ stage (s.place j) → stage (s.place j) ≤ passing_stage
+      → ⊥ = λ j a b. let h = held r j a b in cc in
       let other : (j : ℕ) → j ≢ i → stage (s.place j) ≡ ticketed_stage → ticket (s.place j) ≢ T =
       λ j ne h e. ne (sym (r.tickets.waits j h).2 ∙ ap owner e ∙ mine.2) in
       record {
@@ -47,7 +54,8 @@ module _ (seats : ℕ) (s : World) (right : Whereabouts) (owner : ℕ → ℕ) (
           behind = r.tickets.behind;
           in_use = at_update s.place i to (λ _. UsesTicket s.drawn s.unpassed) (λ _ _. sum)
               (λ j _ a. absurd (nobody j (omega arith) (omega arith)));
-          waits = at_update s.place i to (OwnsTicket s.drawn s.unpassed owner) (λ a. absurd (omega arith)) (λ j _. r.tickets.waits j);
+          waits = at_update s.place i to (OwnsTicket s.drawn s.unpassed owner) (λ a. absurd (omega arith))
+              (λ j _. r.tickets.waits j);
           owned = λ k a b. let o = r.tickets.owned k a b in let tk = o.1 in
               subst (λ (y : Place). (stage y ≡ ticketed_stage) × (ticket y ≡ k))
               (sym (update_else s.place i to (owner k)
@@ -55,7 +63,9 @@ module _ (seats : ℕ) (s : World) (right : Whereabouts) (owner : ℕ → ℕ) (
               o;
           passing = at_update s.place i to (λ _. PassesNext s.drawn s.unpassed (update s.place i to) owner)
               (λ a. absurd (omega arith)) (λ j _ a. absurd (nobody j (omega arith) (omega arith)));
-          granted = at_update s.place i to (λ _. WasGranted s.drawn s.unpassed (With i) (update s.place i to)) (λ a. absurd (omega arith))
+          granted =
+              at_update s.place i to (λ _. WasGranted s.drawn s.unpassed (With i) (update s.place i to))
+              (λ a. absurd (omega arith))
               (λ j ne h e. absurd (other j ne h (omega arith)));
           grant = λ t e. absurd cc;
         };
@@ -87,7 +97,8 @@ module _ (seats : ℕ) (s : World) (right : Whereabouts) (owner : ℕ → ℕ) (
   finds_call six found =
       let to : Place = Due Called in
       let is : right ≡ AtSeat i = call_is_there found in
-      let nobody : (j : ℕ) → due_stage ≤ stage (s.place j) → stage (s.place j) ≤ passing_stage → ⊥ = λ j a b. let h = held r j a b in cc in
+      let nobody : (j : ℕ) → due_stage ≤ stage (s.place j) → stage (s.place j) ≤ passing_stage
+      → ⊥ = λ j a b. let h = held r j a b in cc in
       record {
         holder = record {
           free = ((λ e. absurd (let a = r.holder.free.0 e in cc)), (λ e. absurd cc));
@@ -97,11 +108,14 @@ module _ (seats : ℕ) (s : World) (right : Whereabouts) (owner : ℕ → ℕ) (
           behind = r.tickets.behind;
           in_use = at_update s.place i to (λ _. UsesTicket s.drawn s.unpassed) (λ _ b. absurd (omega arith))
               (λ j _ a. absurd (nobody j (omega arith) (omega arith)));
-          waits = at_update s.place i to (OwnsTicket s.drawn s.unpassed owner) (λ a. absurd (omega arith)) (λ j _. r.tickets.waits j);
+          waits = at_update s.place i to (OwnsTicket s.drawn s.unpassed owner) (λ a. absurd (omega arith))
+              (λ j _. r.tickets.waits j);
           owned = λ k a b. waiter_stays seats s right owner r i to k (λ e. omega arith) (r.tickets.owned k a b);
           passing = at_update s.place i to (λ _. PassesNext s.drawn s.unpassed (update s.place i to) owner)
               (λ a. absurd (omega arith)) (λ j _ a. absurd (nobody j (omega arith) (omega arith)));
-          granted = at_update s.place i to (λ _. WasGranted s.drawn s.unpassed (With i) (update s.place i to)) (λ a. absurd (omega arith))
+          granted =
+              at_update s.place i to (λ _. WasGranted s.drawn s.unpassed (With i) (update s.place i to))
+              (λ a. absurd (omega arith))
               (λ j _ a e none. absurd
               (let g = r.tickets.granted j a e
               (all_back s.place i to (λ k y. stage y ≢ passing_stage) none (λ z. omega arith)) in cc));

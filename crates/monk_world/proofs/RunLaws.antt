@@ -52,9 +52,12 @@ opening_holds k o f e =
       signallers = ap (λ (t : Situation). t.signallers) nothing;
       ready = ap (λ (t : Situation). ready_of o t.state t.untils) nothing;
     }) in
-    let nobody : (λ (j : ℕ). false) ≡ is_standing k o f = λ i j. sym (ap (λ (n : ℕ). nat_lt 0 n) (stands_nowhere j)) i in
-    subst (λ (q : Bool). Stands f.seats opening_world Nowhere (λ t. 0) (turn_number (turn f.history)) (is_standing k o f) q) (sym quiet)
-    (subst (λ (b : ℕ → Bool). Stands f.seats opening_world Nowhere (λ t. 0) (turn_number (turn f.history)) b true) nobody
+    let nobody : (λ (j : ℕ). false) ≡ is_standing k o f =
+    λ i j. sym (ap (λ (n : ℕ). nat_lt 0 n) (stands_nowhere j)) i in
+    subst (λ (q : Bool). Stands f.seats opening_world Nowhere (λ t. 0) (turn_number (turn f.history))
+    (is_standing k o f) q) (sym quiet)
+    (subst (λ (b : ℕ → Bool). Stands f.seats opening_world Nowhere (λ t. 0)
+    (turn_number (turn f.history)) b true) nobody
     (subst (λ (u : Turn). Stands f.seats opening_world Nowhere (λ t. 0) (turn_number u) (λ j. false) true)
     (sym open_turn_is) (opening_stands f.seats)))
 
@@ -111,7 +114,8 @@ owner_of Open = 0
 owner_of (DueTurn j q) = 0
 owner_of (Owned j) = j
 
-module _ (k : Rules) (o : Object) (s : State) (right : Whereabouts) (owner : ℕ → ℕ) (h : IsSound k o s right owner) where
+module _ (k : Rules) (o : Object) (s : State) (right : Whereabouts) (owner : ℕ → ℕ)
+    (h : IsSound k o s right owner) where
   -- whoever owns the turn is active
   owner_stands : (j : ℕ) → turn s.floor.history ≡ Owned j → stage (s.world.place j) ≡ active_stage
   owner_stands j own = by right h.stands.fits_turn
@@ -119,7 +123,8 @@ module _ (k : Rules) (o : Object) (s : State) (right : Whereabouts) (owner : ℕ
       number : turn_number (turn s.floor.history) ≡ owned_by j
       number = ap turn_number own
 
-      by : (x : Whereabouts) → FitsTurn s.world x (turn_number (turn s.floor.history)) → stage (s.world.place j) ≡ active_stage
+      by : (x : Whereabouts) → FitsTurn s.world x (turn_number (turn s.floor.history))
+          → stage (s.world.place j) ≡ active_stage
       by Nowhere f = absurd (let n = number in omega arith)
       by (AtTicket t) f = absurd (let n = number in omega arith)
       by (With m) f = elim (cases_eq (stage (s.world.place m)) active_stage) [
@@ -153,5 +158,6 @@ module _ (k : Rules) (o : Object) (s : State) (right : Whereabouts) (owner : ℕ
 
 pub runs_are_well_led : RunsAreWellLed
 runs_are_well_led k o opening seats conds budget told s kind run =
-    let h = run_is_sound k o (opening_state opening seats conds budget) told s kind (opening_is_sound k o opening seats conds budget) run in
+    let h = run_is_sound k o (opening_state opening seats conds budget) told s kind
+    (opening_is_sound k o opening seats conds budget) run in
     well_led k o s h.right h.owner h.is_sound

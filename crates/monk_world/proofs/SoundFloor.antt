@@ -60,7 +60,8 @@ number_of b = if b then 1 else 0
 false_is : false ≡ true → ⊥
 false_is e = absurd cc
 
-module _ (k : Rules) (o : Object) (s : State) (right : Whereabouts) (owner : ℕ → ℕ) (h : IsSound k o s right owner) (i : ℕ) where
+module _ (k : Rules) (o : Object) (s : State) (right : Whereabouts) (owner : ℕ → ℕ)
+    (h : IsSound k o s right owner) (i : ℕ) where
   none : due_stage ≤ stage (s.world.place i) → stage (s.world.place i) ≤ passing_stage → (j : ℕ) → j ≢ i
       → due_stage ≤ stage (s.world.place j) → stage (s.world.place j) ≤ passing_stage → ⊥
   none low high = others s.floor.seats s.world right owner h.stands.keeps i low high
@@ -73,7 +74,8 @@ at_way home.Idle = refl
 at_way home.Inner = refl
 
 -- one event more, of seat i
-module _ (k : Rules) (o : Object) (s : State) (right : Whereabouts) (owner : ℕ → ℕ) (h : IsSound k o s right owner) (i : ℕ)
+module _ (k : Rules) (o : Object) (s : State) (right : Whereabouts) (owner : ℕ → ℕ)
+    (h : IsSound k o s right owner) (i : ℕ)
     (e : Event) (of_seat : seat_of e ≡ i) (allowed : IsAllowed (monitor_of k o s.floor) s.floor.history e) where
   abbrev past : List Event
   past = s.floor.history
@@ -99,24 +101,28 @@ module _ (k : Rules) (o : Object) (s : State) (right : Whereabouts) (owner : ℕ
       let spent = counts.spent j in
       omega arith
 
-  pub left_own : (least : ℕ) → least + 1 ≤ left_of s.floor.budget past i → least ≤ left_of s.floor.budget (past ++ e ∷ []) i
+  pub left_own : (least : ℕ) → least + 1 ≤ left_of s.floor.budget past i
+      → least ≤ left_of s.floor.budget (past ++ e ∷ []) i
   left_own least enough =
       let yes : number_of (seat_of e == i) ≡ 1 = ap number_of (eq-eqb (seat_of e) i of_seat) in
       let spent = counts.spent i in
       omega arith
 
-  pub own_stands : (home : Home) → is_way_out e ≡ not (stays_inside home) → is_standing k o (with_event s.floor e) i ≡ stays_inside home
+  pub own_stands : (home : Home) → is_way_out e ≡ not (stays_inside home)
+      → is_standing k o (with_event s.floor e) i ≡ stays_inside home
   own_stands home way =
       let c = moved.caller_stands in
       let stands : standing monitor.conds i (situation monitor (past ++ e ∷ [])) ≡ way_number (is_way_out e) =
-      subst (λ (j : ℕ). standing monitor.conds j (situation monitor (past ++ e ∷ [])) ≡ way_number (is_way_out e)) of_seat c in
+      subst (λ (j : ℕ). standing monitor.conds j (situation monitor (past ++ e ∷ []))
+      ≡ way_number (is_way_out e)) of_seat c in
       ap (λ (n : ℕ). nat_lt 0 n) (stands ∙ ap way_number way) ∙ at_way home
 
   pub quiet_after_entry : (wish : Pick) → next_of e ≡ Some next.Entry
       → choice_of k o (stands_of k o s.floor) (as_called e) false wish ≡ next.Entry
       → is_quiet k o (with_event s.floor e) ≡ true
   quiet_after_entry wish entry choice =
-      is_quiet-true k o (with_event s.floor e) (quiet_after monitor past e wish h.legal allowed (record { entry = entry; choice = choice }))
+      is_quiet-true k o (with_event s.floor e)
+      (quiet_after monitor past e wish h.legal allowed (record { entry = entry; choice = choice }))
 
   -- the active seat goes on
   pub stays : (q : Source) → s.world.place i ≡ Active q → is_enter e ≡ false
@@ -146,7 +152,8 @@ module _ (k : Rules) (o : Object) (s : State) (right : Whereabouts) (owner : ℕ
           granted_late = h.granted_late;
           left = λ j. elim (eqb_tells j i) [
             | inl c ↦ subst (λ (m : ℕ). left_at (s.world.place m) ≤ left_of s.floor.budget (past ++ e ∷ []) m) (sym c.1)
-                (subst (λ (p : Place). left_at p ≤ left_of s.floor.budget (past ++ e ∷ []) i) (sym active) (left_own 1 enough))
+                (subst (λ (p : Place). left_at p ≤ left_of s.floor.budget (past ++ e ∷ []) i) (sym active)
+                (left_own 1 enough))
             | inr c ↦ let l = left_other j c.1 in let a = h.left j in omega arith
           ];
           outside = h.outside;
@@ -156,14 +163,16 @@ module _ (k : Rules) (o : Object) (s : State) (right : Whereabouts) (owner : ℕ
   -- the active seat brings the floor home
   pub goes_home : (q : Source) (x : Next) (home : Home) → i < s.floor.seats → s.world.place i ≡ Active q
       → is_enter e ≡ false → next_of e ≡ Some x → is_stay (Some x) ≡ false
-      → is_standing k o (with_event s.floor e) i ≡ stays_inside home → left_within home ≤ left_of s.floor.budget (past ++ e ∷ []) i
+      → is_standing k o (with_event s.floor e) i ≡ stays_inside home
+      → left_within home ≤ left_of s.floor.budget (past ++ e ∷ []) i
       → (x ≡ next.Entry → (is_quiet k o (with_event s.floor e) ≡ true) ⊎ (2 ≤ s.world.unpassed))
       → Sound k o (record s { world = after_floor_in s.world i x home; floor = with_event s.floor e })
   goes_home q x home near active no_enter chose away own enough entry =
       let three : stage (s.world.place i) ≡ active_stage = ap stage active in
       let p : Place = Back x home in
       let turned : turn_number (turn (past ++ e ∷ [])) ≡ turn_of_next x =
-      ap turn_number (counts.turn ∙ ap (λ (y : Option Next). turn_by (seat_of e) y) chose) ∙ number_chosen (seat_of e) x away in
+      ap turn_number (counts.turn ∙ ap (λ (y : Option Next). turn_by (seat_of e) y) chose)
+      ∙ number_chosen (seat_of e) x away in
       let named : (m : ℕ) → turn_of_next x ≡ due_to m → grants m e ≡ true =
       λ m a. ap (λ (y : Option Next). chooses_seat m y) chose ∙ names_chosen x m a in
       let same : enters_of (past ++ e ∷ []) ≡ enters_of past =
@@ -178,7 +187,8 @@ module _ (k : Rules) (o : Object) (s : State) (right : Whereabouts) (owner : ℕ
               (floor_in_keeps_the_right s.floor.seats s.world right owner (turn_number (turn past))
               (is_standing k o s.floor) (is_quiet k o s.floor) i h.stands
               q x home (is_standing k o (with_event s.floor e)) (is_quiet k o (with_event s.floor e)) active
-              (λ m a. let g = named m a in let other = moved.chosen_other m g in let ne : m ≢ i = λ z. other (z ∙ sym of_seat) in (
+              (λ m a. let g = named m a in let other = moved.chosen_other m g in
+              let ne : m ≢ i = λ z. other (z ∙ sym of_seat) in (
                 ne,
                 let before = moved.chosen_before m g in let stand = moved.others_stand m other in
                     some_above (standing monitor.conds m (situation monitor (past ++ e ∷ []))) (λ z. omega arith),
@@ -186,12 +196,15 @@ module _ (k : Rules) (o : Object) (s : State) (right : Whereabouts) (owner : ℕ
               others_stand own (λ a. entry (entry_chosen x away a)));
           active = at_update s.world.place i p (λ j y. stage y ≡ active_stage → turn (past ++ e ∷ []) ≡ turn.Owned j)
               (λ a. absurd (omega arith))
-              (λ j ne a. absurd (none k o s right owner h i (omega arith) (omega arith) j ne (omega arith) (omega arith)));
+              (λ j ne a. absurd (none k o s right owner h i (omega arith) (omega arith) j ne (omega arith)
+              (omega arith)));
           known = at_update s.world.place i p (λ j y. stage y ≡ active_stage → s.known j ≡ true → 2 ≤ s.world.unpassed)
               (λ a. absurd (omega arith)) (λ j _. h.known j);
           entered = subst (λ (n : ℕ). FitsEnters (after_floor_in s.world i x home) right n) (sym same)
-              (enters.goes_home s.floor.seats s.world right owner h.stands.keeps (enters_of past) h.entered i q x home active);
-          late = at_update s.world.place i p (λ j y. stage y ≡ ticketed_stage → 1 ≤ ticket y) (λ a. absurd (omega arith)) (λ j _. h.late j);
+              (enters.goes_home s.floor.seats s.world right owner h.stands.keeps
+              (enters_of past) h.entered i q x home active);
+          late = at_update s.world.place i p (λ j y. stage y ≡ ticketed_stage → 1 ≤ ticket y)
+              (λ a. absurd (omega arith)) (λ j _. h.late j);
           granted_late = at_update s.world.place i p (λ j y. stage y ≡ due_stage → source y ≡ granted_source
               → 1 ≤ ticket y) (λ a. absurd (omega arith)) (λ j _. h.granted_late j);
           left = at_update s.world.place i p (λ j y. left_at y ≤ left_of s.floor.budget (past ++ e ∷ []) j) enough
@@ -204,7 +217,11 @@ module _ (k : Rules) (o : Object) (s : State) (right : Whereabouts) (owner : ℕ
   -- the floor comes out to the seat that is due
   comes_out : (q : Source) → i < s.floor.seats → s.world.place i ≡ Due q
       → turn_by (seat_of e) (next_of e) ≡ turn.Owned i → number_of (is_enter e) + used_by q ≡ 1
-      → Sound k o (record { world = after_floor_out s.world i q; known = update s.known i false; floor = with_event s.floor e })
+      → Sound k o (record {
+        world = after_floor_out s.world i q;
+        known = update s.known i false;
+        floor = with_event s.floor e;
+      })
   comes_out q near due owns entering =
       let two : stage (s.world.place i) ≡ due_stage = ap stage due in
       let p : Place = Active q in
@@ -220,14 +237,19 @@ module _ (k : Rules) (o : Object) (s : State) (right : Whereabouts) (owner : ℕ
               (is_standing k o s.floor) (is_quiet k o s.floor) i h.stands
               q (turn_number (turn (past ++ e ∷ []))) (is_standing k o (with_event s.floor e))
               (is_quiet k o (with_event s.floor e)) due others_stand;
-          active = at_update s.world.place i p (λ j y. stage y ≡ active_stage → turn (past ++ e ∷ []) ≡ turn.Owned j) (λ _. turn_new)
-              (λ j ne a. absurd (none k o s right owner h i (omega arith) (omega arith) j ne (omega arith) (omega arith)));
+          active =
+              at_update s.world.place i p (λ j y. stage y ≡ active_stage
+              → turn (past ++ e ∷ []) ≡ turn.Owned j) (λ _. turn_new)
+              (λ j ne a. absurd (none k o s right owner h i (omega arith) (omega arith) j ne (omega arith)
+              (omega arith)));
           known = at_update s.world.place i p (λ j y. stage y ≡ active_stage → update s.known i false j ≡ true
               → 2 ≤ s.world.unpassed) (λ _ a. absurd (false_is (sym (update_here s.known i false) ∙ a)))
-              (λ j ne a. absurd (none k o s right owner h i (omega arith) (omega arith) j ne (omega arith) (omega arith)));
+              (λ j ne a. absurd (none k o s right owner h i (omega arith) (omega arith) j ne (omega arith)
+              (omega arith)));
           entered = enters.comes_out s.floor.seats s.world right owner h.stands.keeps (enters_of past) h.entered i q
               (enters_of (past ++ e ∷ [])) due (omega arith);
-          late = at_update s.world.place i p (λ j y. stage y ≡ ticketed_stage → 1 ≤ ticket y) (λ a. absurd (omega arith)) (λ j _. h.late j);
+          late = at_update s.world.place i p (λ j y. stage y ≡ ticketed_stage → 1 ≤ ticket y)
+              (λ a. absurd (omega arith)) (λ j _. h.late j);
           granted_late = at_update s.world.place i p (λ j y. stage y ≡ due_stage → source y ≡ granted_source
               → 1 ≤ ticket y) (λ a. absurd (omega arith)) (λ j _. h.granted_late j);
           left = at_update s.world.place i p (λ j y. left_at y ≤ left_of s.floor.budget (past ++ e ∷ []) j)
@@ -287,7 +309,8 @@ module _ (k : Rules) (o : Object) (s : State) (right : Whereabouts) (owner : ℕ
       let used : enters_of s.floor.history + s.world.unpassed ≡ s.world.drawn + 0 =
       enters.entered_here s.floor.seats s.world right owner r (enters_of s.floor.history) h.entered i (Due (Granted t))
       due (omega arith) (omega arith) in
-      let begun : s.floor.history ≢ [] = λ z. let n : enters_of s.floor.history ≡ 0 = ap enters_of z ∙ enters_none in omega arith in
+      let begun : s.floor.history ≢ [] = λ z. let n : enters_of s.floor.history ≡ 0 = ap enters_of z
+      ∙ enters_none in omega arith in
       comes_out k o s right owner h i (Enter i via.Handed) refl
       ((enters_handed (monitor_of k o s.floor) s.floor.history i).1 (at_door (Granted t) due refl refl, begun))
       (Granted t) near due refl refl

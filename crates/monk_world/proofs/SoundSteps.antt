@@ -73,11 +73,14 @@ module _ (k : Rules) (o : Object) (s : State) (right : Whereabouts) (owner : ℕ
   owns : is_owned_by i (turn s.floor.history) ≡ true
   owns = ap (is_owned_by i) (h.active i (ap stage active)) ∙ eq-eqb i i refl
 
-  released : (e : Event) (wish : Pick) (to : Home) → IsRelease e i to → MayCall (monitor_of k o s.floor) s.floor.history e
-      → (IsAllowed (monitor_of k o s.floor) s.floor.history (with_next next.Stay e) → 2 ≤ left_of s.floor.budget s.floor.history i)
+  released : (e : Event) (wish : Pick) (to : Home) → IsRelease e i to
+      → MayCall (monitor_of k o s.floor) s.floor.history e
+      → (IsAllowed (monitor_of k o s.floor) s.floor.history (with_next next.Stay e)
+      → 2 ≤ left_of s.floor.budget s.floor.history i)
       → left_within to + 1 ≤ left_of s.floor.budget s.floor.history i
       → Sound k o (record s {
-        world = if is_stay (Some (release_next k o s i e wish)) then s.world else after_floor_in s.world i (release_next k o s i e wish) to;
+        world = if is_stay (Some (release_next k o s i e wish)) then s.world
+            else after_floor_in s.world i (release_next k o s i e wish) to;
         floor = with_event s.floor (with_next (release_next k o s i e wish) e);
       })
   released e wish to r may stay_left home_left =
@@ -98,7 +101,8 @@ module _ (k : Rules) (o : Object) (s : State) (right : Whereabouts) (owner : ℕ
             (ap (λ (y : Option Next). turn_by (seat_of f) y)
             (r.chooses x ∙ ap (λ (y : Next). Some y) (stay_is x e_stay)) ∙ ap turn.Owned (r.seat x))
             (stay_left (subst (λ (y : Next). IsAllowed m s.floor.history (with_next y e)) (stay_is x e_stay) allowed))
-        | false ↦ λ e_away. goes_home k o s right owner h i f (r.seat x) allowed q x to near active (r.no_enter x) (r.chooses x) e_away
+        | false ↦ λ e_away. goes_home k o s right owner h i f (r.seat x) allowed q x to near active
+            (r.no_enter x) (r.chooses x) e_away
             (own_stands k o s right owner h i f (r.seat x) allowed to (r.way x))
             (left_own k o s right owner h i f (r.seat x) allowed (left_within to) home_left)
             (λ entry. elim (known_or (s.known i)) [
@@ -116,7 +120,8 @@ module _ (k : Rules) (o : Object) (s : State) (right : Whereabouts) (owner : ℕ
       known_or false = inr refl
 
   acted : (op : Op) (reply : ℕ) → reply ≡ o.reply (data_of (monitor_of k o s.floor) s.floor.history) op
-      → is_in_range s.floor.seats s.floor.conds o.codes o.predicates (Act i op 0) ≡ true → 2 ≤ left_of s.floor.budget s.floor.history i
+      → is_in_range s.floor.seats s.floor.conds o.codes o.predicates (Act i op 0) ≡ true
+      → 2 ≤ left_of s.floor.budget s.floor.history i
       → Sound k o (record s { floor = with_event s.floor (Act i op reply) })
   acted op reply is range enough =
       stays k o s right owner h i (Act i op reply) refl
@@ -239,16 +244,20 @@ module _ (k : Rules) (o : Object) (s : State) (right : Whereabouts) (owner : ℕ
   done : (c : Command) (a : Answer) (t : State) (p : Place) → s.world.place i ≡ p
       → is_call_in_range o s.floor (call_of i c) ≡ true → is_call_offered k (call_of i c) ≡ true
       → left_for c ≤ left_of s.floor.budget s.floor.history i → IsDone k o s i p c a t → Sound k o t
-  done command.Arrive a t Idle at range offered left d = subst (Sound k o) (sym d.1) (sound_arrival k o s right owner h i near at left)
+  done command.Arrive a t Idle at range offered left d =
+      subst (Sound k o) (sym d.1) (sound_arrival k o s right owner h i near at left)
   done command.Look a t (Ticket n) at range offered left d =
       subst (Sound k o) (sym d.1)
       (sound_ticket_look k o s right owner h i near n (s.world.ticket_place (n % s.floor.seats) == n + 1) at refl)
   done command.Look a t Inner at range offered left d =
       subst (Sound k o) (sym d.1)
       (sound_seat_look k o s right owner h i near (s.world.seat_place i == s.world.count i + 1) at refl)
-  done command.Out a t (Due q) at range offered left d = subst (Sound k o) (sym d.1) (sound_out k o s right owner h i near q at)
-  done command.Peek a t Idle at range offered left d = subst (Sound k o) (sym d.1) (record { right = right; owner = owner; is_sound = h })
-  done command.Peek a t (Active q) at range offered left d = subst (Sound k o) (sym d.1) (looked_in k o s right owner kind h i near q at)
+  done command.Out a t (Due q) at range offered left d =
+      subst (Sound k o) (sym d.1) (sound_out k o s right owner h i near q at)
+  done command.Peek a t Idle at range offered left d =
+      subst (Sound k o) (sym d.1) (record { right = right; owner = owner; is_sound = h })
+  done command.Peek a t (Active q) at range offered left d =
+      subst (Sound k o) (sym d.1) (looked_in k o s right owner kind h i near q at)
   done command.Drop a t (Back next.Entry to) at range offered left d =
       subst (Sound k o) (sym d.1) (sound_drop k o s right owner h i near to at)
   done command.Grant a t (Back (next.Waiter j) to) at range offered left d =
@@ -264,7 +273,8 @@ module _ (k : Rules) (o : Object) (s : State) (right : Whereabouts) (owner : ℕ
       (acted k o s right owner kind h i near q at op (o.reply (data_of (monitor_of k o s.floor) s.floor.history) op)
       refl range left)
   done (command.Leave pick) a t (Active q) at range offered left d =
-      subst (Sound k o) (sym d.1) (released k o s right owner kind h i near q at (Leave i next.Stay) pick home.Idle (leaving i)
+      subst (Sound k o) (sym d.1) (released k o s right owner kind h i near q at
+      (Leave i next.Stay) pick home.Idle (leaving i)
       (record {
         in_range = range;
         offered = offered;
@@ -273,7 +283,8 @@ module _ (k : Rules) (o : Object) (s : State) (right : Whereabouts) (owner : ℕ
             refl;
       }) (λ e. let z : false ≡ true = e.permitted in absurd cc) left)
   done (command.Wait c pick) a t (Active q) at range offered left d =
-      subst (Sound k o) (sym d.1) (released k o s right owner kind h i near q at (Wait i c next.Stay) pick home.Inner (waiting i c)
+      subst (Sound k o) (sym d.1) (released k o s right owner kind h i near q at
+      (Wait i c next.Stay) pick home.Inner (waiting i c)
       (record {
         in_range = range;
         offered = offered;
@@ -282,7 +293,8 @@ module _ (k : Rules) (o : Object) (s : State) (right : Whereabouts) (owner : ℕ
             refl;
       }) (λ e. omega arith) left)
   done (command.Signal c pick) a t (Active q) at range offered left d =
-      subst (Sound k o) (sym d.1) (released k o s right owner kind h i near q at (Signal i c next.Stay) pick home.Inner (signalling i c)
+      subst (Sound k o) (sym d.1) (released k o s right owner kind h i near q at
+      (Signal i c next.Stay) pick home.Inner (signalling i c)
       (record {
         in_range = range;
         offered = offered;
@@ -301,7 +313,8 @@ module _ (k : Rules) (o : Object) (s : State) (right : Whereabouts) (owner : ℕ
             refl;
       }) (λ e. let z : false ≡ true = e.permitted in absurd cc) left)
   done (command.Until p pick) a t (Active q) at range offered left d =
-      subst (Sound k o) (sym d.1) (released k o s right owner kind h i near q at (Until i p next.Stay) pick home.Inner (waiting_until i p)
+      subst (Sound k o) (sym d.1) (released k o s right owner kind h i near q at
+      (Until i p next.Stay) pick home.Inner (waiting_until i p)
       (record {
         in_range = range;
         offered = offered;
@@ -324,7 +337,8 @@ module _ (k : Rules) (o : Object) (s : State) (right : Whereabouts) (owner : ℕ
   done c a t p at range offered left d = absurd d
 
 -- by what the tests for a refusal say
-split : (k : Rules) (o : Object) (s : State) (i : ℕ) (c : Command) (a : Answer) (t : State) (in_reach offered told tired : Bool)
+split : (k : Rules) (o : Object) (s : State) (i : ℕ) (c : Command) (a : Answer) (t : State)
+    (in_reach offered told tired : Bool)
     → IsAnswered k o s i c
     (cond (not in_reach) (Some answer.Range)
     (cond (not offered) (Some answer.NoCall)
@@ -352,6 +366,7 @@ step_is_sound k o s i c a t kind h step =
       | inl same ↦ subst (Sound k o) (sym same) h
       | inr d ↦
           let parts = conjuncts (nat_lt i s.floor.seats) (is_call_in_range o s.floor (call_of i c)) d.0 in
-          done k o s h.right h.owner kind h.is_sound i (ltb-true i s.floor.seats parts.0) c a t (s.world.place i) refl parts.1 d.1
+          done k o s h.right h.owner kind h.is_sound i (ltb-true i s.floor.seats parts.0) c a t
+          (s.world.place i) refl parts.1 d.1
           (not_less (left_of s.floor.budget s.floor.history i) (left_for c) d.2) d.3
     ]

@@ -61,21 +61,25 @@ module _ (k : Rules) (o : Object) (s : State) (right : Whereabouts) (owner : ℕ
       → left_at p ≤ left_of s.floor.budget s.floor.history i
       → ((j : ℕ) → j ≢ i → stage (s.world.place j) ≡ active_stage → 2 ≤ s.world.unpassed → 2 ≤ n)
       → IsSound k o (record s { world = w }) right_new owner_new
-  word_step t n tickets seats_called counts p right_new owner_new stands entered away late granted_late left more = record {
-    legal = h.legal;
-    stands = stands;
-    active = at_update s.world.place i p (λ j y. stage y ≡ active_stage → turn s.floor.history ≡ Owned j)
-        (λ e. absurd (away e)) (λ j _. h.active j);
-    known = at_update s.world.place i p (λ j y. stage y ≡ active_stage → s.known j ≡ true → 2 ≤ n) (λ e. absurd (away e))
-        (λ j ne a b. more j ne a (h.known j a b));
-    entered = entered;
-    late = at_update s.world.place i p (λ j y. stage y ≡ ticketed_stage → 1 ≤ ticket y) late (λ j _. h.late j);
-    granted_late = at_update s.world.place i p (λ j y. stage y ≡ due_stage → source y ≡ granted_source → 1 ≤ ticket y)
-        granted_late (λ j _. h.granted_late j);
-    left = at_update s.world.place i p (λ j y. left_at y ≤ left_of s.floor.budget s.floor.history j) left (λ j _. h.left j);
-    outside = at_update s.world.place i p (λ j y. s.floor.seats ≤ j → stage y ≡ outside_stage) (λ e. absurd (omega arith))
-        (λ j _. h.outside j);
-  }
+  word_step t n tickets seats_called counts p right_new owner_new stands entered away late granted_late left
+      more = record {
+        legal = h.legal;
+        stands = stands;
+        active = at_update s.world.place i p (λ j y. stage y ≡ active_stage → turn s.floor.history ≡ Owned j)
+            (λ e. absurd (away e)) (λ j _. h.active j);
+        known = at_update s.world.place i p (λ j y. stage y ≡ active_stage → s.known j ≡ true → 2 ≤ n)
+            (λ e. absurd (away e))
+            (λ j ne a b. more j ne a (h.known j a b));
+        entered = entered;
+        late = at_update s.world.place i p (λ j y. stage y ≡ ticketed_stage → 1 ≤ ticket y) late (λ j _. h.late j);
+        granted_late = at_update s.world.place i p (λ j y. stage y ≡ due_stage → source y ≡ granted_source → 1 ≤ ticket y)
+            granted_late (λ j _. h.granted_late j);
+        left = at_update s.world.place i p (λ j y. left_at y ≤ left_of s.floor.budget s.floor.history j) left
+            (λ j _. h.left j);
+        outside =
+            at_update s.world.place i p (λ j y. s.floor.seats ≤ j → stage y ≡ outside_stage) (λ e. absurd (omega arith))
+            (λ j _. h.outside j);
+      }
 
   pub sound_arrival : s.world.place i ≡ Idle → 2 ≤ left_of s.floor.budget s.floor.history i
       → Sound k o (record s { world = after_arrive s.world i })
@@ -98,9 +102,11 @@ module _ (k : Rules) (o : Object) (s : State) (right : Whereabouts) (owner : ℕ
           right = With i;
           owner = owner;
           is_sound =
-              word_step (w.drawn + 1) (w.unpassed + 1) w.ticket_place w.seat_place w.count (Due (Free w.drawn)) (With i) owner st
+              word_step (w.drawn + 1) (w.unpassed + 1) w.ticket_place w.seat_place w.count (Due (Free w.drawn))
+              (With i) owner st
               (enters.arrives_free s.floor.seats w right owner r (enters_of s.floor.history) h.entered i e.1)
-              (λ a. omega arith) (λ a. absurd (omega arith)) (λ a b. absurd (omega arith)) enough (λ j _ _ a. omega arith);
+              (λ a. omega arith) (λ a. absurd (omega arith)) (λ a b. absurd (omega arith)) enough
+              (λ j _ _ a. omega arith);
         })
         | inr e ↦ let some = e.1 in subst After (sym e.0) (λ st. record {
           right = right;
@@ -113,7 +119,8 @@ module _ (k : Rules) (o : Object) (s : State) (right : Whereabouts) (owner : ℕ
         })
       ] stands
 
-  pub sound_ticket_look : (t : ℕ) (found : Bool) → s.world.place i ≡ Ticket t → (s.world.ticket_place (t % s.floor.seats) == t + 1) ≡ found
+  pub sound_ticket_look : (t : ℕ) (found : Bool) → s.world.place i ≡ Ticket t
+      → (s.world.ticket_place (t % s.floor.seats) == t + 1) ≡ found
       → Sound k o (record s { world = after_ticket_look s.world i t found })
   sound_ticket_look t true at test =
       let w = s.world in
@@ -132,7 +139,8 @@ module _ (k : Rules) (o : Object) (s : State) (right : Whereabouts) (owner : ℕ
             word_step w.drawn w.unpassed w.ticket_place w.seat_place w.count (Due (Granted t)) (With i) owner
             (ticket_look_keeps_the_right s.floor.seats w right owner (turn_number (turn s.floor.history))
             (is_standing k o s.floor) (is_quiet k o s.floor) i h.stands t true some at test)
-            (enters.takes_grant s.floor.seats w right owner r (enters_of s.floor.history) h.entered i t (there.1 ∙ ap AtTicket same))
+            (enters.takes_grant s.floor.seats w right owner r (enters_of s.floor.history) h.entered i t
+            (there.1 ∙ ap AtTicket same))
             (λ a. omega arith) (λ a. absurd (omega arith)) (λ a b. omega arith) enough (λ j _ _ a. a);
       }
   sound_ticket_look t false at test =
@@ -169,9 +177,11 @@ module _ (k : Rules) (o : Object) (s : State) (right : Whereabouts) (owner : ℕ
   -- nobody else is active where seat i has the right
   alone : due_stage ≤ stage (s.world.place i) → stage (s.world.place i) ≤ passing_stage → (n : ℕ) (j : ℕ) → j ≢ i
       → stage (s.world.place j) ≡ active_stage → 2 ≤ s.world.unpassed → 2 ≤ n
-  alone low high n j ne a b = absurd (others s.floor.seats s.world right owner h.stands.keeps i low high j ne (omega arith) (omega arith))
+  alone low high n j ne a b =
+      absurd (others s.floor.seats s.world right owner h.stands.keeps i low high j ne (omega arith) (omega arith))
 
-  pub sound_drop : (home : Home) → s.world.place i ≡ Back Entry home → Sound k o (record s { world = after_drop s.world i home })
+  pub sound_drop : (home : Home) → s.world.place i ≡ Back Entry home
+      → Sound k o (record s { world = after_drop s.world i home })
   sound_drop home back =
       let w = s.world in
       let r = h.stands.keeps in
@@ -181,7 +191,11 @@ module _ (k : Rules) (o : Object) (s : State) (right : Whereabouts) (owner : ℕ
       let stands = drop_keeps_the_right s.floor.seats w right owner (turn_number (turn s.floor.history))
       (is_standing k o s.floor) (is_quiet k o s.floor) i h.stands home back in
       let After : Bool → Type 0 = λ b.
-      let v : World = record w { unpassed = w.unpassed - 1; place = update w.place i (cond b (place_of home) (Passing next home)) } in
+      let v : World =
+      record w {
+        unpassed = w.unpassed - 1;
+        place = update w.place i (cond b (place_of home) (Passing next home));
+      } in
       StandsSo v (cond b Nowhere (With i)) owner → Sound k o (record s { world = v }) in
       elim (eqb_tells w.unpassed 1) as (λ _. After (w.unpassed == 1)) [
         | inl e ↦ subst After (sym e.0) (λ st. record {
@@ -198,7 +212,8 @@ module _ (k : Rules) (o : Object) (s : State) (right : Whereabouts) (owner : ℕ
           right = With i;
           owner = owner;
           is_sound =
-              word_step w.drawn (w.unpassed - 1) w.ticket_place w.seat_place w.count (Passing next home) (With i) owner st
+              word_step w.drawn (w.unpassed - 1) w.ticket_place w.seat_place w.count (Passing next home)
+              (With i) owner st
               (enters.drops_more s.floor.seats w right owner r (enters_of s.floor.history) h.entered i next home back)
               (λ a. omega arith) (λ a. absurd (omega arith)) (λ a b. absurd (omega arith)) enough
               (alone (omega arith) (omega arith) (w.unpassed - 1));
@@ -219,7 +234,8 @@ module _ (k : Rules) (o : Object) (s : State) (right : Whereabouts) (owner : ℕ
             (place_of home) (AtTicket t) owner
             (ticket_grant_keeps_the_right s.floor.seats w right owner (turn_number (turn s.floor.history))
             (is_standing k o s.floor) (is_quiet k o s.floor) i h.stands t home (omega arith) at)
-            (enters.grants_ticket s.floor.seats w right owner h.stands.keeps (enters_of s.floor.history) h.entered i t home at)
+            (enters.grants_ticket s.floor.seats w right owner h.stands.keeps
+            (enters_of s.floor.history) h.entered i t home at)
             (at_home home 3 (omega arith) (omega arith)) (λ a. absurd (at_home home 1 (omega arith) (omega arith) a))
             (λ a b. absurd (at_home home 2 (omega arith) (omega arith) a))
             (rw (home_left home) enough) (alone (omega arith) (omega arith) w.unpassed);
@@ -239,7 +255,8 @@ module _ (k : Rules) (o : Object) (s : State) (right : Whereabouts) (owner : ℕ
             (place_of home) (AtSeat m) owner
             (seat_grant_keeps_the_right s.floor.seats w right owner (turn_number (turn s.floor.history))
             (is_standing k o s.floor) (is_quiet k o s.floor) i h.stands next m home at is)
-            (enters.calls_seat s.floor.seats w right owner h.stands.keeps (enters_of s.floor.history) h.entered i next m home at)
+            (enters.calls_seat s.floor.seats w right owner h.stands.keeps
+            (enters_of s.floor.history) h.entered i next m home at)
             (at_home home 3 (omega arith) (omega arith)) (λ a. absurd (at_home home 1 (omega arith) (omega arith) a))
             (λ a b. absurd (at_home home 2 (omega arith) (omega arith) a))
             (rw (home_left home) enough) (alone (omega arith) (omega arith) w.unpassed);

@@ -54,7 +54,8 @@ module _ (k : Rules) (o : Object) (s : State) (i : ℕ) where
   answered c true true true true e = (_, _, (refl, refl))
   answered c true true true false e = done (s.world.place i) c e
 
-  same_done : (p : Place) (c : Command) (a b : Answer) (t u : State) → IsDone k o s i p c a t → IsDone k o s i p c b u → (a ≡ b) × (t ≡ u)
+  same_done : (p : Place) (c : Command) (a b : Answer) (t u : State) → IsDone k o s i p c a t
+      → IsDone k o s i p c b u → (a ≡ b) × (t ≡ u)
   same_done Idle command.Arrive a b t u d e = (d.0 ∙ sym e.0, d.1 ∙ sym e.1)
   same_done (Ticket n) command.Look a b t u d e = (d.0 ∙ sym e.0, d.1 ∙ sym e.1)
   same_done Inner command.Look a b t u d e = (d.0 ∙ sym e.0, d.1 ∙ sym e.1)

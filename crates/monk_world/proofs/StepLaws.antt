@@ -114,7 +114,8 @@ seat_look_keeps_the_right seats w right owner turn queued quiet i h true at test
     let count = update w.count i (w.count i + 1) in
     record {
       keeps = finds_call seats w right owner r i six found;
-      fits_turn = turns.takes_call seats w right owner r turn h.fits_turn i count (call_is_there seats w right owner r i found);
+      fits_turn =
+          turns.takes_call seats w right owner r turn h.fits_turn i count (call_is_there seats w right owner r i found);
       fits_queues = queues.takes_call seats w right owner r queued quiet h.fits_queues i count at;
     }
 seat_look_keeps_the_right seats w right owner turn queued quiet i h false at test =
@@ -129,7 +130,8 @@ floor_out_keeps_the_right seats w right owner turn queued quiet i h q turn_new q
     record {
       keeps = comes_out seats w right owner r i q (ap stage due);
       fits_turn = turns.comes_out seats w right owner r turn h.fits_turn i q turn_new due;
-      fits_queues = queues.comes_out seats w right owner r queued quiet h.fits_queues i q queued_new quiet_new due alike;
+      fits_queues =
+          queues.comes_out seats w right owner r queued quiet h.fits_queues i q queued_new quiet_new due alike;
     }
 
 pub activity_keeps_the_right : ActiveKeeps
@@ -138,11 +140,13 @@ activity_keeps_the_right seats w right owner turn queued quiet i h q turn_new qu
     record {
       keeps = r;
       fits_turn = turns.stays_active seats w right owner r turn h.fits_turn i q turn_new active;
-      fits_queues = queues.stays_active seats w right owner r queued quiet h.fits_queues i q queued_new quiet_new active alike;
+      fits_queues =
+          queues.stays_active seats w right owner r queued quiet h.fits_queues i q queued_new quiet_new active alike;
     }
 
 -- a seat in a queue that has not the right is parked inside
-parked : (p : Place) → is_queued_at p ≡ true → (due_stage ≤ stage p → stage p ≤ passing_stage → ⊥) → stage p ≡ inside_stage
+parked : (p : Place) → is_queued_at p ≡ true → (due_stage ≤ stage p → stage p ≤ passing_stage → ⊥)
+    → stage p ≡ inside_stage
 parked Idle e none = absurd cc
 parked (Ticket t) e none = absurd cc
 parked (Due q) e none = absurd (none (omega arith) (omega arith))
@@ -152,7 +156,8 @@ parked (Passing t home) e none = absurd (none (omega arith) (omega arith))
 parked Inner e none = refl
 
 pub floor_in_keeps_the_right : FloorInKeeps
-floor_in_keeps_the_right seats w right owner turn queued quiet i h q next home queued_new quiet_new active chosen_seat alike own entry =
+floor_in_keeps_the_right seats w right owner turn queued quiet i h q next home queued_new quiet_new active
+    chosen_seat alike own entry =
     let r = h.keeps in
     let three : stage (w.place i) ≡ active_stage = ap stage active in
     let mine = held r i (omega arith) (omega arith) in

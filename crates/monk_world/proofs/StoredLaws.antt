@@ -29,7 +29,8 @@ module _ (w : Board) (i : ℕ) (near : i < w.seats) where
   place_stored p q e = stored w.places.items i p Idle (omega (arith, near, w.has_places, w.places.ok.0))
       ∙ ap (λ (x : Place). update (world_on w).place i x) e
 
-  pub count_stored : (x y : ℕ) → x ≡ y → Path (ℕ → ℕ) (λ j. slice_index_or (set w.counts.items i x) j 0) (update (world_on w).count i y)
+  pub count_stored : (x y : ℕ) → x ≡ y
+      → Path (ℕ → ℕ) (λ j. slice_index_or (set w.counts.items i x) j 0) (update (world_on w).count i y)
   count_stored x y e = stored w.counts.items i x 0 (omega (arith, near, w.has_counts, w.counts.ok.0))
       ∙ ap (λ (n : ℕ). update (world_on w).count i n) e
 
@@ -50,8 +51,12 @@ module _ (w : Board) (i : ℕ) (near : i < w.seats) where
       ∙ ap (λ (b : Bool). update (λ j. slice_index_or w.known.items j false) i b) e
 
   -- a seat that stays keeps its place
-  pub settled : (x : Next) (to : Home) (p : Place) → p ≡ cond (is_stay (Some x)) ((world_on w).place i) (Back x to) → (f : FloorView)
-      → Path State (record (state_in w f) { world = record (world_on w) { place = λ j. slice_index_or (set w.places.items i p) j Idle } })
+  pub settled : (x : Next) (to : Home) (p : Place)
+      → p ≡ cond (is_stay (Some x)) ((world_on w).place i) (Back x to) → (f : FloorView)
+      → Path State (record (state_in w f) {
+        world =
+            record (world_on w) { place = λ j. slice_index_or (set w.places.items i p) j Idle };
+      })
       (record (state_in w f) { world = cond (is_stay (Some x)) (world_on w) (after_floor_in (world_on w) i x to) })
   settled x to p e f =
       ap (λ (place : ℕ → Place). record (state_in w f) { world = record (world_on w) { place = place } })
@@ -60,11 +65,15 @@ module _ (w : Board) (i : ℕ) (near : i < w.seats) where
     where
       same_world : (b : Bool)
           → Path State (record (state_in w f) {
-            world = record (world_on w) { place = update (world_on w).place i (cond b ((world_on w).place i) (Back x to)) };
+            world = record (world_on w) {
+              place =
+                  update (world_on w).place i (cond b ((world_on w).place i) (Back x to));
+            };
           })
           (record (state_in w f) { world = cond b (world_on w) (after_floor_in (world_on w) i x to) })
       same_world true = ap (λ (place : ℕ → Place). record (state_in w f)
-          { world = record (world_on w) { place = place } }) (update_same (world_on w).place i ((world_on w).place i) refl)
+          { world = record (world_on w) { place = place } })
+          (update_same (world_on w).place i ((world_on w).place i) refl)
       same_world false = refl
 
   pub ticket_read : (x : ℕ) → x ≡ get_or w.ticket_places.items i x → x ≡ (world_on w).ticket_place i

@@ -39,7 +39,8 @@ quiet_is k o f e =
     let b = both _ _ a.0 in
     record { waiters = empty _ b.0; signallers = empty _ b.1; ready = empty _ a.1 }
 
-pub is_quiet-true : (k : Rules) (o : Object) (f : FloorView) → IsQuiet (monitor_of k o f) f.history → is_quiet k o f ≡ true
+pub is_quiet-true : (k : Rules) (o : Object) (f : FloorView) → IsQuiet (monitor_of k o f) f.history
+    → is_quiet k o f ≡ true
 is_quiet-true k o f q = rw (q.waiters, q.signallers, q.ready) refl
 
 pub open_is : (u : Turn) → turn_number u ≡ open_turn → u ≡ Open

@@ -23,15 +23,18 @@ module _ (seats : ℕ) (s : World) (right : Whereabouts) (owner : ℕ → ℕ) (
   turn_where x is = subst (λ (y : Whereabouts). FitsTurn s y turn) is f
 
   -- whose turn it is where seat i has the right and is not active
-  pub turn_here : (p : Place) → s.place i ≡ p → due_stage ≤ stage p → stage p ≤ passing_stage → stage p ≢ active_stage → turn ≡ turn_at i p
+  pub turn_here : (p : Place) → s.place i ≡ p → due_stage ≤ stage p → stage p ≤ passing_stage
+      → stage p ≢ active_stage → turn ≡ turn_at i p
   turn_here p at low high ne =
       let z : stage (s.place i) ≡ stage p = ap stage at in
-      subst (λ (y : Place). stage y ≢ active_stage → turn ≡ turn_at i y) at (turn_where (With i) (held r i (omega arith) (omega arith))) ne
+      subst (λ (y : Place). stage y ≢ active_stage → turn ≡ turn_at i y) at
+      (turn_where (With i) (held r i (omega arith) (omega arith))) ne
 
   -- seat i has the right after its step
   taken : (p : Place) (turn_new : ℕ) → (stage p ≢ active_stage → turn_new ≡ turn_at i p)
       → FitsTurn (record s { place = update s.place i p }) (With i) turn_new
-  taken p turn_new agrees = subst (λ (y : Place). stage y ≢ active_stage → turn_new ≡ turn_at i y) (sym (update_here s.place i p)) agrees
+  taken p turn_new agrees =
+      subst (λ (y : Place). stage y ≢ active_stage → turn_new ≡ turn_at i y) (sym (update_here s.place i p)) agrees
 
   -- and before it
   holder : (p : Place) (turn_new : ℕ) → right ≡ With i → (stage p ≢ active_stage → turn_new ≡ turn_at i p)
@@ -50,9 +53,14 @@ module _ (seats : ℕ) (s : World) (right : Whereabouts) (owner : ℕ → ℕ) (
   arrives_free none = taken (Due (Free s.drawn)) turn (λ _. turn_where Nowhere (r.holder.free.0 none))
 
   pub arrives_behind : s.place i ≡ Idle
-      → FitsTurn (record s { drawn = s.drawn + 1; unpassed = s.unpassed + 1; place = update s.place i (Ticket s.drawn) })
+      → FitsTurn (record s {
+        drawn = s.drawn + 1;
+        unpassed = s.unpassed + 1;
+        place = update s.place i (Ticket s.drawn);
+      })
       right turn
-  arrives_behind idle = elsewhere right f (λ e. let z = ap stage idle in let a = holds r i e in let b = a.0 in omega arith)
+  arrives_behind idle =
+      elsewhere right f (λ e. let z = ap stage idle in let a = holds r i e in let b = a.0 in omega arith)
     where
       elsewhere : (x : Whereabouts) → FitsTurn s x turn → x ≢ With i
           → FitsTurn (record s {
@@ -68,7 +76,8 @@ module _ (seats : ℕ) (s : World) (right : Whereabouts) (owner : ℕ → ℕ) (
           (sym (update_else s.place i (Ticket s.drawn) j (λ e. ne (ap With e)))) g
       elsewhere (AtSeat j) g ne = g
 
-  pub takes_grant : (t : ℕ) → right ≡ AtTicket t → FitsTurn (record s { place = update s.place i (Due (Granted t)) }) (With i) turn
+  pub takes_grant : (t : ℕ) → right ≡ AtTicket t
+      → FitsTurn (record s { place = update s.place i (Due (Granted t)) }) (With i) turn
   takes_grant t is = taken (Due (Granted t)) turn (λ _. turn_where (AtTicket t) is)
 
   pub takes_call : (count : ℕ → ℕ) → right ≡ AtSeat i
@@ -83,7 +92,8 @@ module _ (seats : ℕ) (s : World) (right : Whereabouts) (owner : ℕ → ℕ) (
   pub stays_active : (q : Source) (turn_new : ℕ) → s.place i ≡ Active q → FitsTurn s right turn_new
   stays_active q turn_new active =
       let three : stage (s.place i) ≡ active_stage = ap stage active in
-      subst (λ (x : Whereabouts). FitsTurn s x turn_new) (sym (held r i (omega arith) (omega arith))) (λ ne. absurd (ne three))
+      subst (λ (x : Whereabouts). FitsTurn s x turn_new) (sym (held r i (omega arith) (omega arith)))
+      (λ ne. absurd (ne three))
 
   pub goes_home : (q : Source) (next : Next) (home : Home) → s.place i ≡ Active q
       → FitsTurn (after_floor_in s i next home) right (turn_of_next next)
@@ -100,7 +110,8 @@ module _ (seats : ℕ) (s : World) (right : Whereabouts) (owner : ℕ → ℕ) (
   drops_more t home back =
       taken (Passing t home) turn (λ _. turn_here (Back Entry home) back (omega arith) (omega arith) (λ e. omega arith))
 
-  pub grants_ticket : (t : ℕ) (home : Home) → s.place i ≡ Passing t home → FitsTurn (after_ticket_grant seats s i t home) (AtTicket t) turn
+  pub grants_ticket : (t : ℕ) (home : Home) → s.place i ≡ Passing t home
+      → FitsTurn (after_ticket_grant seats s i t home) (AtTicket t) turn
   grants_ticket t home five = turn_here (Passing t home) five (omega arith) (omega arith) (λ e. omega arith)
 
   pub calls_seat : (next : Next) (k : ℕ) (home : Home) → s.place i ≡ Back next home → turn_of_next next ≡ due_to k

@@ -20,7 +20,8 @@ module _ {X : Type 0} where
   update_else at i x j = at_update at i x (λ k y. k ≢ i → Path X y (at k)) (λ n. absurd (n refl)) (λ k n _. refl) j
 
   -- what holds after the change held before it, if it did of the one that changed
-  pub all_back : (at : ℕ → X) (i : ℕ) (x : X) (F : ℕ → X → Type 0) → ((j : ℕ) → F j (update at i x j)) → F i (at i) → (j : ℕ) → F j (at j)
+  pub all_back : (at : ℕ → X) (i : ℕ) (x : X) (F : ℕ → X → Type 0) → ((j : ℕ) → F j (update at i x j))
+      → F i (at i) → (j : ℕ) → F j (at j)
   all_back at i x F all old j = elim (eqb_tells j i) as (λ _. F j (at j)) [
     | inl h ↦ subst (λ (k : ℕ). F k (at k)) (sym h.1) old
     | inr h ↦ subst (F j) (update_else at i x j h.1) (all j)

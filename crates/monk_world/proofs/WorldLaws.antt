@@ -85,7 +85,8 @@ entry_of (next.Signaller j) to e = absurd cc
 entry_of (next.Until j) to e = absurd cc
 
 -- where it may drop, it chose entry
-pub entry_is : (p : Place) (x : Next) (to : Home) → p ≡ Back x to → is_back names_entry p ≡ true → p ≡ Back next.Entry to
+pub entry_is : (p : Place) (x : Next) (to : Home) → p ≡ Back x to → is_back names_entry p ≡ true
+    → p ≡ Back next.Entry to
 entry_is p x to is e = is ∙ entry_of x to (sym (ap (λ (q : Place). is_back names_entry q) is) ∙ e)
 
 -- of a world with these words and this floor, seen as v
@@ -98,7 +99,8 @@ module _ (k : Rules) (o : Object) (w : Board) (f : FloorView) (v : WorldView) (i
 
   pub returned : (c : Command) (a : Answer) (t : State) → IsDone k o s i (s.world.place i) c a t
       → IsDone k o (state_of_view v) i ((state_of_view v).world.place i) c a t
-  returned c a t d = subst (λ (u : WorldView). IsDone k o (state_of_view u) i ((state_of_view u).world.place i) c a t) is d
+  returned c a t d =
+      subst (λ (u : WorldView). IsDone k o (state_of_view u) i ((state_of_view u).world.place i) c a t) is d
 
   pub kept : (c : Command) (a : Answer) (new : Board) (g : FloorView) (conds : ℕ) → IsKind k
       → IsKept k o w.seats conds s → refusal k o (state_of_view v) i c ≡ None → new.seats ≡ w.seats
@@ -110,13 +112,15 @@ module _ (k : Rules) (o : Object) (w : Board) (f : FloorView) (v : WorldView) (i
   pub ready_here : (c : Command) → refusal k o (state_of_view v) i c ≡ None → IsReady k o s i c
   ready_here c free = ready k o s i c (free_here c free)
 
-  pub near_here : (c : Command) (conds : ℕ) → IsKept k o w.seats conds s → refusal k o (state_of_view v) i c ≡ None → i < w.seats
+  pub near_here : (c : Command) (conds : ℕ) → IsKept k o w.seats conds s
+      → refusal k o (state_of_view v) i c ≡ None → i < w.seats
   near_here c conds old free = subst (λ (n : ℕ). i < n) (sym old.seats_are) ((ready_here c free).near)
 
   abbrev Goes : Command → Answer → State → Type 0
   Goes c a t = IsDone k o s i (s.world.place i) c a t
 
-  at_place : (p : Place) (c : Command) (a : Answer) (t : State) → s.world.place i ≡ p → IsDone k o s i p c a t → Goes c a t
+  at_place : (p : Place) (c : Command) (a : Answer) (t : State) → s.world.place i ≡ p → IsDone k o s i p c a t
+      → Goes c a t
   at_place p c a t at d = subst (λ (q : Place). IsDone k o s i q c a t) (sym at) d
 
   pub arrive_goes : (a : Answer) (new : Board) → refusal k o (state_of_view v) i command.Arrive ≡ None
@@ -126,7 +130,8 @@ module _ (k : Rules) (o : Object) (w : Board) (f : FloorView) (v : WorldView) (i
       at_place Idle command.Arrive a (state_in new f)
       (idle_is (s.world.place i) ((ready_here command.Arrive free).told)) (is_a, shows.state f)
 
-  pub ticket_look_goes : (n : ℕ) (a : Answer) (new : Board) (conds : ℕ) → IsKept k o w.seats conds s → s.world.place i ≡ Ticket n
+  pub ticket_look_goes : (n : ℕ) (a : Answer) (new : Board) (conds : ℕ) → IsKept k o w.seats conds s
+      → s.world.place i ≡ Ticket n
       → a ≡ answer.Looked ((world_on w).ticket_place (n % w.seats) == n + 1)
       → Shows w (after_ticket_look (world_on w) i n ((world_on w).ticket_place (n % w.seats) == n + 1)) new
       → Goes command.Look a (state_in new f)
@@ -146,7 +151,8 @@ module _ (k : Rules) (o : Object) (w : Board) (f : FloorView) (v : WorldView) (i
   pub idle_peek_goes : (a : Answer) → s.world.place i ≡ Idle → a ≡ answer.Found w.unpassed → Goes command.Peek a s
   idle_peek_goes a at is_a = at_place Idle command.Peek a s at (is_a, refl)
 
-  pub active_peek_goes : (q : Source) (a : Answer) (new : Board) → s.world.place i ≡ Active q → a ≡ answer.Found w.unpassed
+  pub active_peek_goes : (q : Source) (a : Answer) (new : Board) → s.world.place i ≡ Active q
+      → a ≡ answer.Found w.unpassed
       → ShowsKnown w (world_on w)
       (update (λ j. slice_index_or w.known.items j false) i
       (slice_index_or w.known.items i false || nat_le 2 w.unpassed)) new → Goes command.Peek a (state_in new f)
@@ -154,11 +160,13 @@ module _ (k : Rules) (o : Object) (w : Board) (f : FloorView) (v : WorldView) (i
 
   pub drop_goes : (to : Home) (a : Answer) (new : Board) → s.world.place i ≡ Back next.Entry to
       → a ≡ answer.Found w.unpassed → Shows w (after_drop (world_on w) i to) new → Goes command.Drop a (state_in new f)
-  drop_goes to a new at is_a shows = at_place (Back next.Entry to) command.Drop a (state_in new f) at (is_a, shows.state f)
+  drop_goes to a new at is_a shows =
+      at_place (Back next.Entry to) command.Drop a (state_in new f) at (is_a, shows.state f)
 
   pub ticket_grant_goes : (n : ℕ) (to : Home) (a : Answer) (new : Board) (conds : ℕ) → IsKept k o w.seats conds s
       → s.world.place i ≡ Passing n to
-      → a ≡ answer.GrantedTicket n → Shows w (after_ticket_grant w.seats (world_on w) i n to) new → Goes command.Grant a (state_in new f)
+      → a ≡ answer.GrantedTicket n → Shows w (after_ticket_grant w.seats (world_on w) i n to) new
+      → Goes command.Grant a (state_in new f)
   ticket_grant_goes n to a new conds old at is_a shows =
       at_place (Passing n to) command.Grant a (state_in new f) at (
         is_a,
@@ -169,7 +177,8 @@ module _ (k : Rules) (o : Object) (w : Board) (f : FloorView) (v : WorldView) (i
   pub waiter_grant_goes : (j : ℕ) (to : Home) (a : Answer) (new : Board) → s.world.place i ≡ Back (next.Waiter j) to
       → a ≡ answer.GrantedSeat j → Shows w (after_seat_grant (world_on w) i j to) new
       → Goes command.Grant a (state_in new f)
-  waiter_grant_goes j to a new at is_a shows = at_place (Back (next.Waiter j) to) command.Grant a (state_in new f) at (is_a, shows.state f)
+  waiter_grant_goes j to a new at is_a shows =
+      at_place (Back (next.Waiter j) to) command.Grant a (state_in new f) at (is_a, shows.state f)
 
   pub signaller_grant_goes : (j : ℕ) (to : Home) (a : Answer) (new : Board)
       → s.world.place i ≡ Back (next.Signaller j) to → a ≡ answer.GrantedSeat j
@@ -180,7 +189,8 @@ module _ (k : Rules) (o : Object) (w : Board) (f : FloorView) (v : WorldView) (i
   pub until_grant_goes : (j : ℕ) (to : Home) (a : Answer) (new : Board) → s.world.place i ≡ Back (next.Until j) to
       → a ≡ answer.GrantedSeat j → Shows w (after_seat_grant (world_on w) i j to) new
       → Goes command.Grant a (state_in new f)
-  until_grant_goes j to a new at is_a shows = at_place (Back (next.Until j) to) command.Grant a (state_in new f) at (is_a, shows.state f)
+  until_grant_goes j to a new at is_a shows =
+      at_place (Back (next.Until j) to) command.Grant a (state_in new f) at (is_a, shows.state f)
 
   pub out_goes : (q : Source) (a : Answer) (new : Board) (g : FloorView) → s.world.place i ≡ Due q
       → g ≡ with_event f (out_event i q (turn f.history)) → a ≡ answer.Now
@@ -246,10 +256,13 @@ module _ (k : Rules) (o : Object) (w : Board) (f : FloorView) (v : WorldView) (i
       → refusal k o (state_of_view v) i command.Out ≡ None → s.world.place i ≡ Due q
       → IsAllowed (monitor_of k o f) f.history (out_event i q (turn f.history))
   out_allowed q conds old free at =
-      let out = sound_out k o s old.sound.right old.sound.owner old.sound.is_sound i ((ready_here command.Out free).near) q at in
+      let out =
+      sound_out k o s old.sound.right old.sound.owner old.sound.is_sound i
+      ((ready_here command.Out free).near) q at in
       legal_last (monitor_of k o f) f.history (out_event i q (turn f.history)) out.is_sound.legal
 
-  pub out_left : (q : Source) (conds : ℕ) → IsKept k o w.seats conds s → s.world.place i ≡ Due q → 0 < left_of f.budget f.history i
+  pub out_left : (q : Source) (conds : ℕ) → IsKept k o w.seats conds s → s.world.place i ≡ Due q
+      → 0 < left_of f.budget f.history i
   out_left q conds old at = omega (arith, old.sound.is_sound.left i, ap left_at at)
 
   at_active : (c : Command) (a : Answer) (t : State) → refusal k o (state_of_view v) i c ≡ None
@@ -263,13 +276,16 @@ module _ (k : Rules) (o : Object) (w : Board) (f : FloorView) (v : WorldView) (i
   pub release_done : {x : Next} {known : Bool} {a : Answer} {new : Board} {g : FloorView} (c : Command) (e : Event)
       (pick : Pick) (to : Home) → refusal k o (state_of_view v) i c ≡ None
       → may_be_told (s.world.place i) c ≡ (stage (s.world.place i) == active_stage)
-      → ((q : Source) → IsReleased k o s i e pick to a (state_in new g) → IsDone k o s i (Active q) c a (state_in new g))
+      → ((q : Source) → IsReleased k o s i e pick to a (state_in new g)
+      → IsDone k o s i (Active q) c a (state_in new g))
       → known ≡ slice_index_or w.known.items i false
       → x ≡ release_next k o (record s { known = λ j. known }) i e pick → g ≡ with_event f (with_next x e)
       → a ≡ answer.Chose x → Shows w (cond (is_stay (Some x)) (world_on w) (after_floor_in (world_on w) i x to)) new
       → IsDone k o (state_of_view v) i ((state_of_view v).world.place i) c a (state_in new g)
-      × ((conds : ℕ) → IsKind k → IsKept k o w.seats conds s → new.seats ≡ w.seats → IsKept k o new.seats conds (state_in new g))
-  release_done {x = x} {known = known} {a = a} {new = new} {g = g} c e pick to free active does knows chooses grows is_a shows =
+      × ((conds : ℕ) → IsKind k → IsKept k o w.seats conds s → new.seats ≡ w.seats
+      → IsKept k o new.seats conds (state_in new g))
+  release_done {x = x} {known = known} {a = a} {new = new}
+      {g = g} c e pick to free active does knows chooses grows is_a shows =
       let goes = at_active c a (state_in new g) free active
       (λ q. does q (release_goes e pick to x known a new g knows chooses grows is_a shows)) in
       (returned c a (state_in new g) goes, λ conds kind old same. kept c a new g conds kind old free same goes)
@@ -287,7 +303,8 @@ module _ (k : Rules) (o : Object) (w : Board) (f : FloorView) (v : WorldView) (i
       let mine = r.tickets.waits i (ap stage at) in
       omega (arith, mine.0, ap ticket at, drawn_here conds old)
 
-  pub passing_here : (n : ℕ) (to : Home) (conds : ℕ) → IsKept k o w.seats conds s → s.world.place i ≡ Passing n to → n < 2147483648
+  pub passing_here : (n : ℕ) (to : Home) (conds : ℕ) → IsKept k o w.seats conds s
+      → s.world.place i ≡ Passing n to → n < 2147483648
   passing_here n to conds old at =
       let r = old.sound.is_sound.stands.keeps in
       let mine = r.tickets.passing i (ap stage at) in
@@ -304,7 +321,8 @@ module _ (k : Rules) (o : Object) (w : Board) (f : FloorView) (v : WorldView) (i
         | inr e ↦ omega (arith, r.calls.not_called j e, few_calls s old.bounded j)
       ]
 
-  pub some_here : (x : Next) (to : Home) (conds : ℕ) → IsKept k o w.seats conds s → s.world.place i ≡ Back x to → 0 < w.unpassed
+  pub some_here : (x : Next) (to : Home) (conds : ℕ) → IsKept k o w.seats conds s → s.world.place i ≡ Back x to
+      → 0 < w.unpassed
   some_here x to conds old at =
       let r = old.sound.is_sound.stands.keeps in
       let four : stage (s.world.place i) ≡ back_stage = ap stage at in
@@ -393,7 +411,8 @@ not_now k o s i c reach offered told =
 pub not_refused : (k : Rules) (o : Object) (s : State) (i : ℕ) (c : Command)
     → (nat_lt i s.floor.seats && is_call_in_range o s.floor (call_of i c)) ≡ true
     → is_call_offered k (call_of i c) ≡ true
-    → may_be_told (s.world.place i) c ≡ true → left_for c ≤ left_of s.floor.budget s.floor.history i → None ≡ refusal k o s i c
+    → may_be_told (s.world.place i) c ≡ true → left_for c ≤ left_of s.floor.budget s.floor.history i
+    → None ≡ refusal k o s i c
 not_refused k o s i c reach offered told enough =
     by_tests (nat_lt i s.floor.seats && is_call_in_range o s.floor (call_of i c)) (is_call_offered k (call_of i c))
     (may_be_told (s.world.place i) c) (nat_lt (left_of s.floor.budget s.floor.history i) (left_for c)) reach offered

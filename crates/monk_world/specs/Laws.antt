@@ -35,7 +35,9 @@ OpeningStands = (seats : ℕ) → Stands seats opening_world Nowhere (λ t. 0) o
 -- an idle seat draws a ticket
 abbrev pub ArriveKeeps : Type 0
 ArriveKeeps = Kept (λ seats w right owner turn queued quiet i.
-    w.place i ≡ Idle → Stands seats (after_arrive w i) (right_after_arrive w right i) (owner_after_arrive w owner i) turn queued quiet)
+    w.place i ≡ Idle
+    → Stands seats (after_arrive w i) (right_after_arrive w right i)
+    (owner_after_arrive w owner i) turn queued quiet)
 
 -- a seat with a ticket looks whether the place of its ticket holds it
 abbrev pub TicketLookKeeps : Type 0
@@ -52,7 +54,8 @@ SeatLookKeeps = Kept (λ seats w right owner turn queued quiet i.
 -- the floor comes out to the seat that is due; the history may grow, which leaves the others in their queues
 abbrev pub FloorOutKeeps : Type 0
 FloorOutKeeps = Kept (λ seats w right owner turn queued quiet i.
-    (q : Source) (turn_new : ℕ) (queued_new : ℕ → Bool) (quiet_new : Bool) → w.place i ≡ Due q → ((j : ℕ) → j ≢ i → queued_new j ≡ queued j)
+    (q : Source) (turn_new : ℕ) (queued_new : ℕ → Bool) (quiet_new : Bool) → w.place i ≡ Due q
+    → ((j : ℕ) → j ≢ i → queued_new j ≡ queued j)
     → Stands seats (after_floor_out w i q) right owner turn_new queued_new quiet_new)
 
 -- the active seat lets the history grow, which leaves the others in their queues
@@ -76,7 +79,8 @@ FloorInKeeps = Kept (λ seats w right owner turn queued quiet i.
 -- a seat that chose entry takes itself off the ticket word
 abbrev pub DropKeeps : Type 0
 DropKeeps = Kept (λ seats w right owner turn queued quiet i.
-    (home : Home) → w.place i ≡ Back Entry home → Stands seats (after_drop w i home) (right_after_drop w i) owner turn queued quiet)
+    (home : Home) → w.place i ≡ Back Entry home
+    → Stands seats (after_drop w i home) (right_after_drop w i) owner turn queued quiet)
 
 -- it grants the next ticket
 abbrev pub TicketGrantKeeps : Type 0
@@ -102,11 +106,13 @@ StepsStaySound = (k : Rules) (o : Object) (s : State) (i : ℕ) (c : Command) (a
     → Sound k o s → IsStep k o s i c a t → Sound k o t
 
 abbrev pub OpeningIsSound : Type 0
-OpeningIsSound = (k : Rules) (o : Object) (opening : List ℕ) (seats conds budget : ℕ) → Sound k o (opening_state opening seats conds budget)
+OpeningIsSound = (k : Rules) (o : Object) (opening : List ℕ) (seats conds budget : ℕ)
+    → Sound k o (opening_state opening seats conds budget)
 
 -- each command of each seat in each state has exactly one answer and one next state
 abbrev pub StepsAreAnswered : Type 0
-StepsAreAnswered = (k : Rules) (o : Object) (s : State) (i : ℕ) (c : Command) → (a : Answer) × (t : State) × IsStep k o s i c a t
+StepsAreAnswered = (k : Rules) (o : Object) (s : State) (i : ℕ) (c : Command)
+    → (a : Answer) × (t : State) × IsStep k o s i c a t
 
 abbrev pub StepsAreDetermined : Type 0
 StepsAreDetermined =

@@ -8,4 +8,5 @@ pub record FitsQueues (w : World) (queued : ℕ → Bool) (quiet : Bool) : Type 
   pub in_queue : (j : ℕ) → stage (w.place j) ≢ active_stage → queued j ≡ is_queued_at (w.place j)
   pub free : w.unpassed ≡ 0 → quiet ≡ true
   pub still_free : (j : ℕ) → stage (w.place j) ≡ due_stage → source (w.place j) ≡ free_source → quiet ≡ true
-  pub back_to_entry : (j : ℕ) → stage (w.place j) ≡ back_stage → back_turn (w.place j) ≡ open_turn → (quiet ≡ true) ⊎ (2 ≤ w.unpassed)
+  pub back_to_entry : (j : ℕ) → stage (w.place j) ≡ back_stage → back_turn (w.place j) ≡ open_turn
+      → (quiet ≡ true) ⊎ (2 ≤ w.unpassed)

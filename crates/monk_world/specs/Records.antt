@@ -57,7 +57,8 @@ pub record IsTaken (k : Rules) (o : Object) (s : State) (x : Recorded) (t : Stat
   pub grows : t.floor ≡ record s.floor { history = s.floor.history ++ x.events }
   pub own : IsOwn x.told.seat x.events
   -- the enter with n enters before it is that of ticket n
-  pub in_turn : (v : Via) → x.events ≡ Enter x.told.seat v ∷ [] → EntersWith (s.world.place x.told.seat) v (enters_of s.floor.history)
+  pub in_turn : (v : Via) → x.events ≡ Enter x.told.seat v ∷ []
+      → EntersWith (s.world.place x.told.seat) v (enters_of s.floor.history)
   -- what it appended is in each version that has its command: a later event is there by its own command alone
   pub versions : (v : ℕ) → command_version x.told.command ≤ v → IsTrue (are_in_version v x.events)
   -- the right is in one place again, the history legal, and active exactly the seat that owns its turn

@@ -59,7 +59,8 @@ pub record KeepsHolder (w : World) (right : Whereabouts) : Type 0 where
   pub free : (w.unpassed ≡ 0) ↔ (right ≡ Nowhere)
   pub with_seat : (j : ℕ) → HoldsRight (w.place j) ↔ (right ≡ With j)
 
--- of the tickets not passed on, the first is in use, granted or to be granted, and the owner of each other waits with it
+-- of the tickets not passed on, the first is in use, granted or to be granted, and the owner of
+-- each other waits with it
 pub record KeepsTickets (w : World) (right : Whereabouts) (owner : ℕ → ℕ) : Type 0 where
   pub behind : w.unpassed ≤ w.drawn
   pub in_use : (j : ℕ) → UsesTicket w.drawn w.unpassed (w.place j)

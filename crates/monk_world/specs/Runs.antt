@@ -43,9 +43,10 @@ pub record IsWellLed (k : Rules) (o : Object) (s : State) : Type 0 where
   pub in_one_place : 0 < s.floor.seats → IsInOnePlace s.floor.seats s.world
   -- a seat is active exactly where the turn is owned by it
   pub active : (j : ℕ) → (stage (s.world.place j) ≡ active_stage) ↔ (turn s.floor.history ≡ Owned j)
-  -- any other seat is in a queue of the history, or due from one, exactly where it is parked inside or on its way there,
-  -- or called back from there
-  pub queued : (j : ℕ) → stage (s.world.place j) ≢ active_stage → is_standing k o s.floor j ≡ is_queued_at (s.world.place j)
+  -- any other seat is in a queue of the history, or due from one, exactly where it is parked inside
+  -- or on its way there, or called back from there
+  pub queued : (j : ℕ) → stage (s.world.place j) ≢ active_stage
+      → is_standing k o s.floor j ≡ is_queued_at (s.world.place j)
   -- the enter with t enters before it is that of ticket t
   pub enters_first : (j t : ℕ) → s.world.place j ≡ Due (Free t) → enters_of s.floor.history ≡ t
   pub enters_next : (j t : ℕ) → s.world.place j ≡ Due (Granted t) → enters_of s.floor.history ≡ t

@@ -155,7 +155,8 @@ abbrev pub IsReleased : Rules → Object → State → ℕ → Event → Pick �
 IsReleased k o s i e pick home a t =
     (a ≡ answer.Chose (release_next k o s i e pick))
     × (t ≡ record s {
-      world = if is_stay (Some (release_next k o s i e pick)) then s.world else after_floor_in s.world i (release_next k o s i e pick) home;
+      world = if is_stay (Some (release_next k o s i e pick)) then s.world
+          else after_floor_in s.world i (release_next k o s i e pick) home;
       floor = with_event s.floor (with_next (release_next k o s i e pick) e);
     })
 
@@ -163,13 +164,17 @@ IsReleased k o s i e pick home a t =
 abbrev pub IsGranted : State → ℕ → Next → Home → Answer → State → Type 0
 IsGranted s i next.Stay home a t = ⊥
 IsGranted s i next.Entry home a t = ⊥
-IsGranted s i (next.Waiter j) home a t = (a ≡ answer.GrantedSeat j) × (t ≡ record s { world = after_seat_grant s.world i j home })
-IsGranted s i (next.Signaller j) home a t = (a ≡ answer.GrantedSeat j) × (t ≡ record s { world = after_seat_grant s.world i j home })
-IsGranted s i (next.Until j) home a t = (a ≡ answer.GrantedSeat j) × (t ≡ record s { world = after_seat_grant s.world i j home })
+IsGranted s i (next.Waiter j) home a t = (a ≡ answer.GrantedSeat j)
+    × (t ≡ record s { world = after_seat_grant s.world i j home })
+IsGranted s i (next.Signaller j) home a t = (a ≡ answer.GrantedSeat j)
+    × (t ≡ record s { world = after_seat_grant s.world i j home })
+IsGranted s i (next.Until j) home a t = (a ≡ answer.GrantedSeat j)
+    × (t ≡ record s { world = after_seat_grant s.world i j home })
 
 abbrev pub IsDropped : State → ℕ → Next → Home → Answer → State → Type 0
 IsDropped s i next.Stay home a t = ⊥
-IsDropped s i next.Entry home a t = (a ≡ answer.Found s.world.unpassed) × (t ≡ record s { world = after_drop s.world i home })
+IsDropped s i next.Entry home a t = (a ≡ answer.Found s.world.unpassed)
+    × (t ≡ record s { world = after_drop s.world i home })
 IsDropped s i (next.Waiter j) home a t = ⊥
 IsDropped s i (next.Signaller j) home a t = ⊥
 IsDropped s i (next.Until j) home a t = ⊥
@@ -197,7 +202,8 @@ IsDone k o s i (Due q) command.Out a t =
 IsDone k o s i p command.Out a t = ⊥
 IsDone k o s i Idle command.Peek a t = (a ≡ answer.Found s.world.unpassed) × (t ≡ s)
 IsDone k o s i (Active q) command.Peek a t =
-    (a ≡ answer.Found s.world.unpassed) × (t ≡ record s { known = update s.known i (s.known i || nat_le 2 s.world.unpassed) })
+    (a ≡ answer.Found s.world.unpassed)
+    × (t ≡ record s { known = update s.known i (s.known i || nat_le 2 s.world.unpassed) })
 IsDone k o s i p command.Peek a t = ⊥
 IsDone k o s i (Back x home) command.Drop a t = IsDropped s i x home a t
 IsDone k o s i p command.Drop a t = ⊥
@@ -207,7 +213,10 @@ IsDone k o s i (Passing n home) command.Grant a t = (a ≡ answer.GrantedTicket 
 IsDone k o s i p command.Grant a t = ⊥
 IsDone k o s i (Active q) (command.Act op) a t =
     (a ≡ answer.Reply (o.reply (data_of (monitor_of k o s.floor) s.floor.history) op))
-    × (t ≡ record s { floor = with_event s.floor (Act i op (o.reply (data_of (monitor_of k o s.floor) s.floor.history) op)) })
+    × (t ≡ record s {
+      floor =
+          with_event s.floor (Act i op (o.reply (data_of (monitor_of k o s.floor) s.floor.history) op));
+    })
 IsDone k o s i p (command.Act op) a t = ⊥
 IsDone k o s i (Active q) (command.Leave pick) a t = IsReleased k o s i (Leave i next.Stay) pick home.Idle a t
 IsDone k o s i p (command.Leave pick) a t = ⊥
@@ -215,12 +224,14 @@ IsDone k o s i (Active q) (command.Wait c pick) a t = IsReleased k o s i (Wait i
 IsDone k o s i p (command.Wait c pick) a t = ⊥
 IsDone k o s i (Active q) (command.Signal c pick) a t = IsReleased k o s i (Signal i c next.Stay) pick home.Inner a t
 IsDone k o s i p (command.Signal c pick) a t = ⊥
-IsDone k o s i (Active q) (command.SignalLeave c pick) a t = IsReleased k o s i (SignalLeave i c next.Stay) pick home.Idle a t
+IsDone k o s i (Active q) (command.SignalLeave c pick) a t =
+    IsReleased k o s i (SignalLeave i c next.Stay) pick home.Idle a t
 IsDone k o s i p (command.SignalLeave c pick) a t = ⊥
 IsDone k o s i (Active q) (command.Until p pick) a t = IsReleased k o s i (Until i p next.Stay) pick home.Inner a t
 IsDone k o s i p (command.Until q pick) a t = ⊥
 IsDone k o s i (Active q) (command.SignalAll c) a t =
-    (a ≡ answer.Woke (length (condition c s.floor.history))) × (t ≡ record s { floor = with_event s.floor (SignalAll i c) })
+    (a ≡ answer.Woke (length (condition c s.floor.history)))
+    × (t ≡ record s { floor = with_event s.floor (SignalAll i c) })
 IsDone k o s i p (command.SignalAll c) a t = ⊥
 IsDone k o s i (Active q) (command.SignalWait c d pick) a t =
     IsReleased k o s i (SignalWait i c d next.Stay) pick home.Inner a t

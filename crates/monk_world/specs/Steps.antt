@@ -65,7 +65,8 @@ after_floor_in w i next home = record w { place = update w.place i (Back next ho
 
 -- drop: one ticket less not passed on
 abbrev pub after_drop : World → ℕ → Home → World
-after_drop w i home = record w { unpassed = w.unpassed - 1; place = update w.place i (place_after_drop w.drawn w.unpassed home) }
+after_drop w i home =
+    record w { unpassed = w.unpassed - 1; place = update w.place i (place_after_drop w.drawn w.unpassed home) }
 
 -- grant a ticket, in its place
 abbrev pub after_ticket_grant : ℕ → World → ℕ → ℕ → Home → World
@@ -74,7 +75,8 @@ after_ticket_grant seats w i t home =
 
 -- call seat k, in its place
 abbrev pub after_seat_grant : World → ℕ → ℕ → Home → World
-after_seat_grant w i k home = record w { seat_place = update w.seat_place k (w.seat_place k + 1); place = update w.place i (place_of home) }
+after_seat_grant w i k home =
+    record w { seat_place = update w.seat_place k (w.seat_place k + 1); place = update w.place i (place_of home) }
 
 -- Where the right is after a step that found this, and who owns the ticket that was drawn:
 

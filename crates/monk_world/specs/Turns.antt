@@ -30,7 +30,8 @@ turn_at j (at.Back next home) = turn_of_next next
 turn_at j (at.Passing t home) = open_turn
 turn_at j at.Inner = open_turn
 
--- `turn` is the number of the turn, by where the right is. Of an active seat it says nothing: the history may have grown
+-- `turn` is the number of the turn, by where the right is. Of an active seat it says nothing: the
+-- history may have grown
 abbrev pub FitsTurn : World → Whereabouts → ℕ → Type 0
 FitsTurn w Nowhere turn = turn ≡ open_turn
 FitsTurn w (AtTicket t) turn = turn ≡ open_turn

@@ -33,8 +33,9 @@ pub enum Answer {
     Tired,
 }
 
-/// In words: `arrived 2 1`, `looked no`, `found 2`, `now`, `chose entry`, `granted ticket 3`, `granted seat 1`, `replied 7`,
-/// `woke 2`, or `refused` and why: `range`, `no-call`, `not-now` or `tired`.
+/// In words: `arrived 2 1`, `looked no`, `found 2`, `now`, `chose entry`, `granted ticket 3`,
+/// `granted seat 1`, `replied 7`, `woke 2`, or `refused` and why: `range`, `no-call`, `not-now` or
+/// `tired`.
 impl fmt::Display for Answer {
     ghost use Rattle.std.specs.Prelude.{Some};
     ghost use Rattle.std.specs.List.{join_with_byte};

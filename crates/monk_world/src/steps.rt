@@ -90,7 +90,8 @@ impl Board {
     pub fn ticket_look(&mut self, seat: u8, ticket: u32) -> Answer
         requires seat { seat < self.old.seats }
         requires ticket { ticket < 2 ^ 31 }
-        ensures answer { result ≡ Answer.Looked ((world_on self.old).ticket_place (ticket % self.old.seats) == ticket + 1) }
+        ensures answer { result ≡ Answer.Looked
+            ((world_on self.old).ticket_place (ticket % self.old.seats) == ticket + 1) }
         ensures shows { Shows self.old
             (after_ticket_look (world_on self.old) seat ticket
             ((world_on self.old).ticket_place (ticket % self.old.seats) == ticket + 1)) self.new }
@@ -104,7 +105,8 @@ impl Board {
     pub fn seat_look(&mut self, seat: u8) -> Answer
         requires seat { seat < self.old.seats }
         requires count { (world_on self.old).count seat < 2 ^ 31 }
-        ensures answer { result ≡ Answer.Looked ((world_on self.old).seat_place seat == (world_on self.old).count seat + 1) }
+        ensures answer { result ≡ Answer.Looked
+            ((world_on self.old).seat_place seat == (world_on self.old).count seat + 1) }
         ensures shows { Shows self.old
             (after_seat_look (world_on self.old) seat
             ((world_on self.old).seat_place seat == (world_on self.old).count seat + 1)) self.new }
@@ -174,7 +176,8 @@ impl Board {
         requires seat { seat < self.old.seats }
         requires ticket { ticket < 2 ^ 31 }
         ensures answer { result ≡ Answer.GrantedTicket ticket }
-        ensures shows { Shows self.old (after_ticket_grant self.old.seats (world_on self.old) seat ticket home) self.new }
+        ensures shows { Shows self.old (after_ticket_grant self.old.seats (world_on self.old) seat ticket home)
+            self.new }
     {
         self.ticket_places[ticket as usize % self.seats as usize] = ticket + 1;
         self.places[seat as usize] = home.place();

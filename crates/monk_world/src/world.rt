@@ -139,15 +139,17 @@ impl<K: Kind, T: Guarded> World<K, T> {
 
     /// Tells a seat to do this. Where it can't, the first refusal that applies is answered, and nothing has changed:
     /// `Range` where seat, condition, predicate or code is out of range, `NoCall` where the kind has no such call,
-    /// `NotNow` where the seat stands elsewhere, and `Tired` where too few events are left to it: an arrival, an act and
-    /// a signal to all need 2, a wait, a signal, an until and a signal followed by a wait 3; a leave and a signal-leave
-    /// always have theirs.
+    /// `NotNow` where the seat stands elsewhere, and `Tired` where too few events are left to it:
+    /// an arrival, an act and a signal to all need 2, a wait, a signal, an until and a signal
+    /// followed by a wait 3; a leave and a signal-leave always have theirs.
     ///
     /// Takes no memory. Costs what the floor's call costs, else constant time.
     pub fn step(&mut self, seat: u8, command: Command) -> Answer
-        ensures by_table { IsStep K.rules T.meaning (state_of_view self.old) seat command result (state_of_view self.new) }
+        ensures by_table { IsStep K.rules T.meaning (state_of_view self.old) seat command result
+            (state_of_view self.new) }
         // The history grows by at most one event, the seat's own, and the right is in one place as before.
-        ensures taken { IsTakenBy K.rules T.meaning (state_of_view self.old) seat command result (state_of_view self.new) }
+        ensures taken { IsTakenBy K.rules T.meaning (state_of_view self.old) seat command result
+            (state_of_view self.new) }
     {
         let _ = &self.words; // from here on it is known to be sound
         self.tell(seat, command)
@@ -157,7 +159,8 @@ impl<K: Kind, T: Guarded> World<K, T> {
     pub fn run(&mut self, commands: &[(u8, Command)])
         ensures led { IsLed K.rules T.meaning (state_of_view self.old) commands.now (state_of_view self.new) }
         // Each seat's events are those that its own commands appended, each once, and tickets enter in their order.
-        ensures recorded { IsRecordedBy K.rules T.meaning (state_of_view self.old) commands.now (state_of_view self.new) }
+        ensures recorded { IsRecordedBy K.rules T.meaning (state_of_view self.old) commands.now
+            (state_of_view self.new) }
         // A version of the text that has all the commands has all the events that they append.
         ensures versions { KeepsVersion (state_of_view self.old) commands.now (state_of_view self.new) }
         ensures well_led { IsWellLed K.rules T.meaning (state_of_view self.new) }
@@ -173,7 +176,8 @@ impl<K: Kind, T: Guarded> World<K, T> {
     /// One pass over the bytes; no list of commands is made, and no memory is taken.
     pub fn run_lines(&mut self, play: PlayLines<'_>)
         ensures led { IsLed K.rules T.meaning (state_of_view self.old) play.entry.2 (state_of_view self.new) }
-        ensures recorded { IsRecordedBy K.rules T.meaning (state_of_view self.old) play.entry.2 (state_of_view self.new) }
+        ensures recorded { IsRecordedBy K.rules T.meaning (state_of_view self.old) play.entry.2
+            (state_of_view self.new) }
         ensures versions { KeepsVersion (state_of_view self.old) play.entry.2 (state_of_view self.new) }
         ensures well_led { IsWellLed K.rules T.meaning (state_of_view self.new) }
     {
@@ -384,7 +388,8 @@ impl<K: Kind, T: Guarded> World<K, T> {
 
     /// Signals a condition and then waits on one.
     fn signal_wait(&mut self, seat: u8, cond: u8, wait_cond: u8, pick: Pick) -> Answer
-        requires { refusal K.rules T.meaning (state_of_view self.old) seat (Command.SignalWait cond wait_cond pick) ≡ None }
+        requires { refusal K.rules T.meaning (state_of_view self.old) seat
+            (Command.SignalWait cond wait_cond pick) ≡ None }
         ensures { IsDone K.rules T.meaning (state_of_view self.old) seat ((state_of_view self.old).world.place seat)
             (Command.SignalWait cond wait_cond pick) result (state_of_view self.new) }
     {

@@ -18,6 +18,8 @@ returns c =
     let history = c.in-Ok-close.closed.history.items in
     let headed : IsHeadedBy c.in-Ok.active.floor (heading 1 Pb 3 2 Buffer 1) =
     record { opening = opening; seats = seats; conds = conds } in
-    let legal = legal_as_headed (heading 1 Pb 3 2 Buffer 1) c.in-Ok.active.floor history headed c.in-Ok-close.ensures.ended.legal in
+    let legal =
+    legal_as_headed (heading 1 Pb 3 2 Buffer 1) c.in-Ok.active.floor history headed
+    c.in-Ok-close.ensures.ended.legal in
     let is_legal = subst (λ h. IsLegal (named.named_monitor h) history) (sym c.header.ensures) legal in
     (length history, (rw c.deref.ensures.value at c.in_ok-audit.ensures.legal).1 is_legal)

@@ -167,7 +167,8 @@ fn visits(alloc: Global, count: u32, last: &str) -> Result<String, Fail> {
     Ok(text)
 }
 
-/// Of 301 events the last 200 are shown, and of those up to the one that is forbidden the last 200, with its caption beside it.
+/// Of 301 events the last 200 are shown, and of those up to the one that is forbidden the last 200,
+/// with its caption beside it.
 #[test]
 fn long_histories_show_their_end(rt: HostRuntime) -> Result<(), Fail> {
     let legal = visits(rt.alloc(), 150, "enter 1 free\n")?;

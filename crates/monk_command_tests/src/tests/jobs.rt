@@ -42,8 +42,8 @@ impl Write for Expected<'_> {
     }
 }
 
-/// Whether the answer that was looked for was written, and nothing else, with its status. Where memory was refused, that is
-/// the fault, and nothing was written.
+/// Whether the answer that was looked for was written, and nothing else, with its status. Where
+/// memory was refused, that is the fault, and nothing was written.
 pub(crate) fn is_answered(rt: &HostRuntime, job: &Job<'_>) -> Result<bool, StreamFault> {
     let mut answer = Expected {
         rest: job.answer,

@@ -93,7 +93,8 @@ fn books_tell_who_read_and_wrote(rt: HostRuntime) -> Result<(), Fail> {
     Ok(())
 }
 
-/// The kinds in which no caller comes between a signal and the seat that it serves, or a wait goes on where its predicate holds.
+/// The kinds in which no caller comes between a signal and the seat that it serves, or a wait goes
+/// on where its predicate holds.
 #[test]
 fn hasty_buffers_tell_what_was_missed(rt: HostRuntime) -> Result<(), Fail> {
     for kind in [

@@ -28,7 +28,8 @@ behind_last s (x ∷ y ∷ ys) zero e o h =
 behind_last s (x ∷ y ∷ ys) (suc i) e o h = behind_last s (y ∷ ys) i e (omega (arith, o)) h
 
 -- behind any other the seat to which it is linked
-behind_linked : (next : List ℕ) (n f l s i : ℕ) → EndsWith (walk next n f) l → (l ≡ s → ⊥) → slice_get (walk next n f) i ≡ Some s
+behind_linked : (next : List ℕ) (n f l s i : ℕ) → EndsWith (walk next n f) l → (l ≡ s → ⊥)
+    → slice_get (walk next n f) i ≡ Some s
     → Some (get_or next s 0) ≡ slice_get (walk next n f) (suc i)
 unfolding walk
 behind_linked next zero f l s i e d h = absurd (cc)
@@ -72,7 +73,8 @@ module _ (next : List ℕ) (chains : List Chain) (k : IsLinked next chains) (a s
   nobody_behind q i g =
       subst (λ n. None ≡ slice_get (queue_at v a) n) (sym (add-one i))
       (subst (λ xs. None ≡ slice_get xs (suc i)) (sym (queue_is next chains v e a))
-      (behind_last s (queue_in next chains a) i (subst (EndsWith (queue_in next chains a)) q (k.last a)) (at_most_once k a s l)
+      (behind_last s (queue_in next chains a) i (subst (EndsWith (queue_in next chains a)) q (k.last a))
+      (at_most_once k a s l)
       (subst (λ xs. slice_get xs i ≡ Some s) (queue_is next chains v e a) g)))
 
   pub linked_behind : ((chain_at chains a).last ≡ s → ⊥) → (i : ℕ) → slice_get (queue_at v a) i ≡ Some s
@@ -86,4 +88,5 @@ module _ (next : List ℕ) (chains : List Chain) (k : IsLinked next chains) (a s
   pub behind_below : ((chain_at chains a).last ≡ s → ⊥) → get_or next s 0 < most_seats
   behind_below d =
       in_range k a (get_or next s 0) l
-      (linked_there next (chain_at chains a).length (chain_at chains a).first (chain_at chains a).last s (k.last a) d there)
+      (linked_there next (chain_at chains a).length (chain_at chains a).first (chain_at chains a).last s
+      (k.last a) d there)

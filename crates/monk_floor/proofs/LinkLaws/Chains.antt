@@ -75,7 +75,8 @@ cond_lt s n h = grind (arith, h)
 cond_none : (s n : ℕ) → n ≤ s → ◌≡◌ {A = ℕ} (cond (nat_lt s n) 1 0) 0
 cond_none s n h = grind (arith, h)
 
-at_other : (chains : List Chain) (a c : ℕ) (new : Chain) → a ≢ c → chain_at (slice_set chains a new) c ≡ chain_at chains c
+at_other : (chains : List Chain) (a c : ℕ) (new : Chain) → a ≢ c
+    → chain_at (slice_set chains a new) c ≡ chain_at chains c
 at_other chains a c new d = get_or-set_other chains a c new empty_chain (λ e. d (sym e))
 
 module _ {next : List ℕ} {chains : List Chain} where
@@ -83,7 +84,8 @@ module _ {next : List ℕ} {chains : List Chain} where
   pub at_most_once : IsLinked next chains → (a s : ℕ) → a < most_queues → times s (queue_in next chains a) ≤ 1
   at_most_once k a s l = omega (arith, times_le a s (queue_in next chains) l, k.once s, cond_le (nat_lt s most_seats))
 
-  pub in_range : IsLinked next chains → (a s : ℕ) → a < most_queues → 1 ≤ times s (queue_in next chains a) → s < most_seats
+  pub in_range : IsLinked next chains → (a s : ℕ) → a < most_queues → 1 ≤ times s (queue_in next chains a)
+      → s < most_seats
   in_range k a s l h = cond_lt s most_seats (omega (arith, times_le a s (queue_in next chains) l, k.once s, h))
 
   pub few : IsLinked next chains → (a : ℕ) → a < most_queues → (chain_at chains a).length ≤ most_seats
@@ -91,11 +93,19 @@ module _ {next : List ℕ} {chains : List Chain} where
       let long = length-walk next (chain_at chains a).length (chain_at chains a).first in
       let all = length_total most_seats (queue_in next chains a)
       (λ s n. omega (arith, times_le a s (queue_in next chains) l, k.once s, cond_none s most_seats n)) in
-      omega (arith, long, all, total_le most_seats 1 (λ s. times s (queue_in next chains a)) (λ s. at_most_once k a s l))
+      omega (
+        arith,
+        long,
+        all,
+        total_le most_seats 1 (λ s. times s (queue_in next chains a))
+            (λ s. at_most_once k a s l),
+      )
 
   -- past the last queue there is nobody
   past : IsLinked next chains → (c : ℕ) → most_queues ≤ c → queue_in next chains c ≡ []
-  past k c l = ap (λ x. walk next x.length x.first) (get_or_past chains c empty_chain (omega (arith, k.count, l))) ∙ sym (walk-none next 0)
+  past k c l =
+      ap (λ x. walk next x.length x.first) (get_or_past chains c empty_chain (omega (arith, k.count, l)))
+      ∙ sym (walk-none next 0)
 
   pub last_there : IsLinked next chains → (a n : ℕ) → (chain_at chains a).length ≡ suc n
       → 1 ≤ times (chain_at chains a).last (queue_in next chains a)
@@ -138,13 +148,15 @@ module _ {next : List ℕ} {chains : List Chain} where
   pub linked_again : IsLinked next chains → (others : List ℕ) (a : ℕ) (new : Chain) → a < most_queues
       → ((c : ℕ) → a ≢ c → seats_of others (chain_at chains c) ≡ queue_in next chains c)
       → EndsWith (seats_of others new) new.last
-      → ((s : ℕ) → places s (queue_in next chains) + times s (seats_of others new) ≤ cond (nat_lt s most_seats) 1 0 + times s
+      → ((s : ℕ)
+      → places s (queue_in next chains) + times s (seats_of others new) ≤ cond (nat_lt s most_seats) 1 0 + times s
       (queue_in next chains a))
       → IsLinked others (slice_set chains a new)
   linked_again k others a new l same last once = record {
     count = length-set chains a new ∙ k.count;
     last = λ c. ⊎_elim
-        (λ e. subst (λ x. EndsWith (seats_of others (chain_at (slice_set chains a new) x)) (chain_at (slice_set chains a new) x).last) e
+        (λ e. subst (λ x. EndsWith (seats_of others (chain_at (slice_set chains a new) x))
+        (chain_at (slice_set chains a new) x).last) e
         (subst (λ x. EndsWith (seats_of others x) x.last) (sym here) last))
         (λ d. subst (λ x. EndsWith (seats_of others x) x.last) (sym (at_other chains a c new d))
         (subst (λ x. EndsWith x (chain_at chains c).last) (sym (same c d)) (k.last c)))
@@ -161,7 +173,8 @@ module _ {next : List ℕ} {chains : List Chain} where
       here = get_or-set_same chains a new empty_chain (omega (arith, l, k.count))
 
   -- and what is seen of it
-  pub seen_again : IsLinked next chains → (v : List (List ℕ)) → map (seats_of next) chains ≡ v → (others : List ℕ) (a : ℕ)
+  pub seen_again : IsLinked next chains → (v : List (List ℕ)) → map (seats_of next) chains ≡ v
+      → (others : List ℕ) (a : ℕ)
       (new : Chain) → a < most_queues → ((c : ℕ) → a ≢ c → seats_of others (chain_at chains c) ≡ queue_in next chains c)
       → (q : ℕ → List ℕ) → q a ≡ seats_of others new → ((c : ℕ) → a ≢ c → q c ≡ queue_at v c)
       → (c : ℕ) → queue_at (map (seats_of others) (slice_set chains a new)) c ≡ q c
@@ -170,5 +183,6 @@ module _ {next : List ℕ} {chains : List Chain} where
       ⊎_elim
       (λ x. subst (λ y. queue_in others (slice_set chains a new) y ≡ q y) x
       (ap (seats_of others) (get_or-set_same chains a new empty_chain (omega (arith, l, k.count))) ∙ sym here))
-      (λ d. ap (seats_of others) (at_other chains a c new d) ∙ (same c d ∙ (sym (queue_is next chains v e c) ∙ sym (rest c d))))
+      (λ d. ap (seats_of others) (at_other chains a c new d)
+      ∙ (same c d ∙ (sym (queue_is next chains v e c) ∙ sym (rest c d))))
       (cases_eq a c)

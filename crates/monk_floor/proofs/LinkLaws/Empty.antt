@@ -38,7 +38,8 @@ none_linked : (next : List ℕ) (n : ℕ) → n ≡ most_queues → IsLinked nex
 none_linked next n e = record {
   count = count_is n ∙ e;
   last = λ c. subst (λ xs. EndsWith xs (chain_at (empty_chains n) c).last) (sym (empty_in next n c)) tt;
-  once = λ s. let no : places s (queue_in next (empty_chains n)) ≡ 0 = no_places s (queue_in next (empty_chains n)) (empty_in next n) in
+  once = λ s. let no : places s (queue_in next (empty_chains n)) ≡ 0 =
+      no_places s (queue_in next (empty_chains n)) (empty_in next n) in
       omega (arith, no);
 }
 

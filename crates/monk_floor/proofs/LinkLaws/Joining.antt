@@ -18,7 +18,8 @@ pub times_push : (x : ℕ) (xs : List ℕ) (s : ℕ) → times x (xs ++ s ∷ []
 times_push x [] s = omega arith
 times_push x (y ∷ ys) s = omega (arith, times_push x ys s)
 
-joins_once : (b : Bool) (s x n : ℕ) → (b ≡ true → s ≡ x) → (s ≡ x → n ≡ 0) → s < most_seats → n ≤ cond (nat_lt x most_seats) 1 0
+joins_once : (b : Bool) (s x n : ℕ) → (b ≡ true → s ≡ x) → (s ≡ x → n ≡ 0) → s < most_seats
+    → n ≤ cond (nat_lt x most_seats) 1 0
     → n + cond b 1 0 ≤ cond (nat_lt x most_seats) 1 0
 joins_once true s x n h none l o = let e = h refl in let z = none e in grind (arith, e, z, l)
 joins_once false s x n h none l o = omega (arith, o)
@@ -29,12 +30,14 @@ when false xs s h = append-nil xs
 
 module _ {next : List ℕ} {chains : List Chain} (k : IsLinked next chains) (a s : ℕ) (l : a < most_queues) where
   -- one more seat in a queue
-  joined_linked : (others : List ℕ) (new : Chain) → seats_of others new ≡ queue_in next chains a ++ s ∷ [] → new.last ≡ s
+  joined_linked : (others : List ℕ) (new : Chain) → seats_of others new ≡ queue_in next chains a ++ s ∷ []
+      → new.last ≡ s
       → ((c : ℕ) → a ≢ c → seats_of others (chain_at chains c) ≡ queue_in next chains c)
       → s < most_seats → places s (queue_in next chains) ≡ 0 → IsLinked others (slice_set chains a new)
   joined_linked others new is last same low none =
       linked_again k others a new l same
-      (subst (EndsWith (seats_of others new)) (sym last) (subst (λ xs. EndsWith xs s) (sym is) (ends_push (queue_in next chains a) s)))
+      (subst (EndsWith (seats_of others new)) (sym last)
+      (subst (λ xs. EndsWith xs s) (sym is) (ends_push (queue_in next chains a) s)))
       (λ x. let more : times x (seats_of others new) ≡ times x (queue_in next chains a) + cond (s == x) 1 0 =
       ap (times x) is ∙ times_push x (queue_in next chains a) s in
       let once = joins_once (s == x) s x (places x (queue_in next chains)) (eqb-true s x)
@@ -44,7 +47,8 @@ module _ {next : List ℕ} {chains : List Chain} (k : IsLinked next chains) (a s
   joined_seen : (v : List (List ℕ)) → map (seats_of next) chains ≡ v → (others : List ℕ) (new : Chain)
       → seats_of others new ≡ queue_in next chains a ++ s ∷ []
       → ((c : ℕ) → a ≢ c → seats_of others (chain_at chains c) ≡ queue_in next chains c)
-      → (c : ℕ) → queue_at (map (seats_of others) (slice_set chains a new)) c ≡ queue_at v c ++ cond (a == c) (s ∷ []) []
+      → (c : ℕ)
+      → queue_at (map (seats_of others) (slice_set chains a new)) c ≡ queue_at v c ++ cond (a == c) (s ∷ []) []
   joined_seen v e others new is same =
       seen_again k v e others a new l same (λ c. queue_at v c ++ cond (a == c) (s ∷ []) [])
       (ap (λ b. queue_at v a ++ cond b (s ∷ []) []) (eq-eqb a a refl)
@@ -61,7 +65,9 @@ module _ {next : List ℕ} {chains : List Chain} (k : IsLinked next chains) (a s
   first_linked e = joined_linked next (record { first = s; last = s; length = 1 }) (first_is e) refl (λ c d. refl)
 
   pub first_seen : (v : List (List ℕ)) → map (seats_of next) chains ≡ v → (chain_at chains a).length ≡ 0
-      → (c : ℕ) → queue_at (map (seats_of next) (slice_set chains a (record { first = s; last = s; length = 1 }))) c ≡ queue_at v c
+      → (c : ℕ)
+      → queue_at (map (seats_of next) (slice_set chains a (record { first = s; last = s; length = 1 }))) c
+      ≡ queue_at v c
       ++ cond (a == c) (s ∷ []) []
   first_seen v e z = joined_seen v e next (record { first = s; last = s; length = 1 }) (first_is z) (λ c d. refl)
 
@@ -89,7 +95,8 @@ module _ {next : List ℕ} {chains : List Chain} (k : IsLinked next chains) (a s
   longer = record { first = (chain_at chains a).first; last = s; length = (chain_at chains a).length + 1 }
 
   pub behind_linked : ((chain_at chains a).length ≡ 0 → ⊥) → length next ≡ most_seats → s < most_seats
-      → places s (queue_in next chains) ≡ 0 → IsLinked (slice_set next (chain_at chains a).last s) (slice_set chains a longer)
+      → places s (queue_in next chains) ≡ 0
+      → IsLinked (slice_set next (chain_at chains a).last s) (slice_set chains a longer)
   behind_linked e b =
       let e = some_more (chain_at chains a).length e in
       joined_linked (slice_set next (chain_at chains a).last s) longer (behind_is _ e b) refl (others_stay _ e)

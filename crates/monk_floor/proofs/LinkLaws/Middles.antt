@@ -30,7 +30,8 @@ times_without s x (y ∷ ys) =
     ⊎_elim
     (λ e. let less : times x (without s (y ∷ ys)) ≡ times x (without s ys) = ap (times x) (skips s y ys e) in
     omega (arith, less, times_without s x ys))
-    (λ d. let same : times x (without s (y ∷ ys)) ≡ cond (y == x) 1 0 + times x (without s ys) = ap (times x) (keeps s y ys d) in
+    (λ d. let same : times x (without s (y ∷ ys)) ≡ cond (y == x) 1 0 + times x (without s ys) =
+    ap (times x) (keeps s y ys d) in
     omega (arith, same, times_without s x ys))
     (cases_eq y s)
 
@@ -91,7 +92,8 @@ walk-unlink next (suc n) f s b h o p l =
     let here : f ≡ b = same_some f b (sym (first_before s f g tail e) ∙ h) in
     let alone : f ≢ s = behind f s _ p (omega (arith, one_of g s e)) in
     let link : get_or (slice_set next b v) f 0 ≡ get_or next g 0 =
-    ap (λ x. get_or (slice_set next b v) x 0) here ∙ (get_or-set_same next b v 0 l ∙ ap (λ x. get_or next x 0) (sym e)) in
+    ap (λ x. get_or (slice_set next b v) x 0) here
+    ∙ (get_or-set_same next b v 0 l ∙ ap (λ x. get_or next x 0) (sym e)) in
     let gone : times b tail ≡ 0 = omega (arith, o, one_of f b here) in
     let none : times s tail ≡ 0 = omega (arith, p, one_of g s e) in
     ap (λ ys. f ∷ ys) (ap (walk (slice_set next b v) n) link ∙ walk-set next n (get_or next g 0) b v gone)

@@ -52,14 +52,16 @@ none_passed true false xs ys h f = f refl
 none_passed false true xs ys h f = sym (ap (λ zs. xs ++ zs) h ∙ append-nil xs)
 none_passed false false xs ys h f = sym (append-nil xs)
 
-module _ {next : List ℕ} {chains : List Chain} (k : IsLinked next chains) (a b : ℕ) (l : a < most_queues) (m : b < most_queues)
+module _ {next : List ℕ} {chains : List Chain} (k : IsLinked next chains) (a b : ℕ) (l : a < most_queues)
+    (m : b < most_queues)
     (d : a ≢ b) where
   -- first the one queue is empty
   abbrev emptied : List Chain
   emptied = slice_set chains a empty_chain
 
   emptied_here : queue_in next emptied a ≡ []
-  emptied_here = ap (seats_of next) (get_or-set_same chains a empty_chain empty_chain (omega (arith, l, k.count))) ∙ none next
+  emptied_here =
+      ap (seats_of next) (get_or-set_same chains a empty_chain empty_chain (omega (arith, l, k.count))) ∙ none next
 
   emptied_other : (c : ℕ) → a ≢ c → queue_in next emptied c ≡ queue_in next chains c
   emptied_other c x = ap (seats_of next) (get_or-set_other chains a c empty_chain empty_chain (λ e. x (sym e)))
@@ -84,13 +86,15 @@ module _ {next : List ℕ} {chains : List Chain} (k : IsLinked next chains) (a b
       omega (arith, one, no, k.once s)
 
   -- then they stand behind those of the other
-  passed_linked : (others : List ℕ) (new : Chain) → seats_of others new ≡ queue_in next chains b ++ queue_in next chains a
+  passed_linked : (others : List ℕ) (new : Chain)
+      → seats_of others new ≡ queue_in next chains b ++ queue_in next chains a
       → EndsWith (seats_of others new) new.last
       → ((c : ℕ) → b ≢ c → seats_of others (chain_at emptied c) ≡ queue_in next emptied c)
       → IsLinked others (slice_set emptied b new)
   passed_linked others new is last same =
       linked_again emptied_linked others b new m same last
-      (λ s. let more : times s (seats_of others new) ≡ times s (queue_in next emptied b) + times s (queue_in next chains a) =
+      (λ s. let more : times s (seats_of others new)
+      ≡ times s (queue_in next emptied b) + times s (queue_in next chains a) =
       ap (times s) is ∙ (times_both s (queue_in next chains b) (queue_in next chains a)
       ∙ ap (λ xs. times s xs + times s (queue_in next chains a)) (sym (emptied_other b d))) in
       omega (arith, more, once s))
@@ -101,10 +105,13 @@ module _ {next : List ℕ} {chains : List Chain} (k : IsLinked next chains) (a b
       → (c : ℕ) → queue_at (map (seats_of others) (slice_set emptied b new)) c ≡ cond (a == c) [] (queue_at v c)
       ++ cond (b == c) (queue_at v a) []
   passed_seen v e others new is same =
-      seen_again emptied_linked _ refl others b new m same (λ c. cond (a == c) [] (queue_at v c) ++ cond (b == c) (queue_at v a) [])
-      ((λ i. when_not (a == b) [] (queue_at v b) (λ z. d (eqb-true a b z)) i ++ cond (eq-eqb b b refl i) (queue_at v a) [])
+      seen_again emptied_linked _ refl others b new m same
+      (λ c. cond (a == c) [] (queue_at v c) ++ cond (b == c) (queue_at v a) [])
+      ((λ i. when_not (a == b) [] (queue_at v b) (λ z. d (eqb-true a b z)) i
+      ++ cond (eq-eqb b b refl i) (queue_at v a) [])
       ∙ ((λ i. queue_is next chains v e b i ++ queue_is next chains v e a i) ∙ sym is))
-      (λ c x. ap (λ ys. cond (a == c) [] (queue_at v c) ++ ys) (when_not (b == c) (queue_at v a) [] (λ z. x (eqb-true b c z)))
+      (λ c x. ap (λ ys. cond (a == c) [] (queue_at v c) ++ ys)
+      (when_not (b == c) (queue_at v a) [] (λ z. x (eqb-true b c z)))
       ∙ (append-nil (cond (a == c) [] (queue_at v c)) ∙ sym (emptied_seen v e c)))
 
   -- nobody was there to pass
@@ -116,13 +123,16 @@ module _ {next : List ℕ} {chains : List Chain} (k : IsLinked next chains) (a b
 
   -- nobody was there to stand behind
   alone_is : (chain_at chains b).length ≡ 0 → queue_in next chains a ≡ queue_in next chains b ++ queue_in next chains a
-  alone_is z = ap (λ xs. xs ++ queue_in next chains a) (sym (none_here next (chain_at chains b).length (chain_at chains b).first z))
+  alone_is z =
+      ap (λ xs. xs ++ queue_in next chains a)
+      (sym (none_here next (chain_at chains b).length (chain_at chains b).first z))
 
   pub alone_linked : (chain_at chains b).length ≡ 0 → IsLinked next (slice_set emptied b (chain_at chains a))
   alone_linked z = passed_linked next (chain_at chains a) (alone_is z) (k.last a) (λ c x. refl)
 
   pub alone_seen : (v : List (List ℕ)) → map (seats_of next) chains ≡ v → (chain_at chains b).length ≡ 0
-      → (c : ℕ) → queue_at (map (seats_of next) (slice_set emptied b (chain_at chains a))) c ≡ cond (a == c) [] (queue_at v c)
+      → (c : ℕ)
+      → queue_at (map (seats_of next) (slice_set emptied b (chain_at chains a))) c ≡ cond (a == c) [] (queue_at v c)
       ++ cond (b == c) (queue_at v a) []
   alone_seen v e z = passed_seen v e next (chain_at chains a) (alone_is z) (λ c x. refl)
 
@@ -150,7 +160,8 @@ module _ {next : List ℕ} {chains : List Chain} (k : IsLinked next chains) (a b
       ((chain_at chains b).length + (chain_at chains a).length) (omega (arith, e))
       ∙ ap (λ x. walk next x f ++ queue_in next chains a) (sym e)
 
-  both_ends : (n : ℕ) → (chain_at chains b).length ≡ suc n → length next ≡ most_seats → ((chain_at chains a).length ≡ 0 → ⊥)
+  both_ends : (n : ℕ) → (chain_at chains b).length ≡ suc n → length next ≡ most_seats
+      → ((chain_at chains a).length ≡ 0 → ⊥)
       → EndsWith (seats_of links both) (chain_at chains a).last
   both_ends n e c z =
       let some = some_here next (chain_at chains a).length (chain_at chains a).first z in
@@ -162,11 +173,13 @@ module _ {next : List ℕ} {chains : List Chain} (k : IsLinked next chains) (a b
   others_stay : (n : ℕ) → (chain_at chains b).length ≡ suc n → (c : ℕ) → b ≢ c
       → seats_of links (chain_at emptied c) ≡ queue_in next emptied c
   others_stay n e c x =
-      walk-set next (chain_at emptied c).length (chain_at emptied c).first (chain_at chains b).last (chain_at chains a).first
+      walk-set next (chain_at emptied c).length (chain_at emptied c).first (chain_at chains b).last
+      (chain_at chains a).first
       (apart emptied_linked b c (chain_at chains b).last m x
       (subst (λ xs. 1 ≤ times (chain_at chains b).last xs) (sym (emptied_other b d)) (last_there k b n e)))
 
-  pub both_linked : ((chain_at chains b).length ≡ 0 → ⊥) → length next ≡ most_seats → ((chain_at chains a).length ≡ 0 → ⊥)
+  pub both_linked : ((chain_at chains b).length ≡ 0 → ⊥) → length next ≡ most_seats
+      → ((chain_at chains a).length ≡ 0 → ⊥)
       → IsLinked links (slice_set emptied b both)
   both_linked y c z =
       let e = some_more (chain_at chains b).length y in

@@ -60,7 +60,8 @@ module _ (next : List ℕ) (chains : List Chain) (k : IsLinked next chains) (a s
       (apart k a c b l d (before_there s b (queue_in next chains a) found))
 
   pub unlinked_linked : length next ≡ most_seats → (last : ℕ)
-      → last ≡ cond ((chain_at chains a).last == s) b (chain_at chains a).last → IsLinked links (slice_set chains a (chain last))
+      → last ≡ cond ((chain_at chains a).last == s) b (chain_at chains a).last
+      → IsLinked links (slice_set chains a (chain last))
   unlinked_linked c last is =
       linked_again k links a (chain last) l others_stay
       (subst (λ xs. EndsWith xs last) (sym (unlinked c last))
@@ -72,7 +73,8 @@ module _ (next : List ℕ) (chains : List Chain) (k : IsLinked next chains) (a s
       omega (arith, less, k.once x))
 
   seen : length next ≡ most_seats → (last c : ℕ)
-      → queue_at (map (seats_of links) (slice_set chains a (chain last))) c ≡ cond (a == c) (without s (queue_at v c)) (queue_at v c)
+      → queue_at (map (seats_of links) (slice_set chains a (chain last))) c
+      ≡ cond (a == c) (without s (queue_at v c)) (queue_at v c)
   seen x last =
       seen_again k v e links a (chain last) l others_stay (λ c. cond (a == c) (without s (queue_at v c)) (queue_at v c))
       (ap (λ z. cond z (without s (queue_at v a)) (queue_at v a)) (eq-eqb a a refl)
@@ -89,7 +91,8 @@ module _ (next : List ℕ) (chains : List Chain) (k : IsLinked next chains) (a s
       seen x last c ∙ when (a == c) (without s (queue_at v c)) (queue_at v c) (λ z. d (eqb-true a c z))
 
 -- where the seat is the front
-front_taken : (s : ℕ) (xs ys : List ℕ) → true ≡ option_eq nat_eq (slice_get xs 0) (Some s) → ys ≡ drop 1 xs → times s ys ≡ 0
+front_taken : (s : ℕ) (xs ys : List ℕ) → true ≡ option_eq nat_eq (slice_get xs 0) (Some s) → ys ≡ drop 1 xs
+    → times s ys ≡ 0
     → ys ≡ without s xs
 front_taken s [] ys h d n = absurd (cc)
 front_taken s (x ∷ xs) ys h d n =
@@ -109,7 +112,8 @@ removed_front a s v w r l e h m p =
     front_taken s (queue_at v a) (queue_at w a) (h ∙ ap (λ o. option_eq nat_eq o (Some s)) e)
     (m a ∙ ap (λ z. drop (cond z 1 0) (queue_at v a)) (eq-eqb a a refl)) (omega (arith, few, none))
 
-pub others_stay_here : (a : ℕ) (v w : List (List ℕ)) → ((c : ℕ) → queue_at w c ≡ drop (cond (a == c) 1 0) (queue_at v c))
+pub others_stay_here : (a : ℕ) (v w : List (List ℕ))
+    → ((c : ℕ) → queue_at w c ≡ drop (cond (a == c) 1 0) (queue_at v c))
     → (c : ℕ) → a ≢ c → queue_at w c ≡ queue_at v c
 others_stay_here a v w m c d = m c ∙ none_dropped (a == c) (queue_at v c) (λ z. d (eqb-true a c z))
   where

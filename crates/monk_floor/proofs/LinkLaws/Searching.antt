@@ -23,7 +23,8 @@ front_times : (next : List ℕ) (n b : ℕ) → 1 ≤ times b (walk next (suc n)
 unfolding walk
 front_times next n b = omega (arith, ap {B = ℕ} (λ z. cond z 1 0) (eq-eqb b b refl))
 
-one_further : (next : List ℕ) (s : ℕ) (all : List ℕ) (n b : ℕ) → IsLeft next s all (suc (suc n)) b → (get_or next b 0 ≡ s → ⊥)
+one_further : (next : List ℕ) (s : ℕ) (all : List ℕ) (n b : ℕ) → IsLeft next s all (suc (suc n)) b
+    → (get_or next b 0 ≡ s → ⊥)
     → IsLeft next s all (suc n) (get_or next b 0)
 unfolding walk
 one_further next s all n b k d = record {
@@ -31,7 +32,8 @@ one_further next s all n b k d = record {
   within = λ x. let more = k.within x in omega (arith, more);
 }
 
-found_here : (next : List ℕ) (s : ℕ) (n b : ℕ) → get_or next b 0 ≡ s → Some b ≡ seat_before s (walk next (suc (suc n)) b)
+found_here : (next : List ℕ) (s : ℕ) (n b : ℕ) → get_or next b 0 ≡ s
+    → Some b ≡ seat_before s (walk next (suc (suc n)) b)
 unfolding walk
 found_here next s n b e =
     sym (ap (λ z. cond z (Some b) (seat_before s (walk next (suc n) (get_or next b 0)))) (eq-eqb (get_or next b 0) s e))
@@ -60,14 +62,16 @@ module _ (next : List ℕ) (chains : List Chain) (a s : ℕ) where
       → IsLeft next s (queue_in next chains a) (suc (suc ((chain_at chains a).length - suc i))) b
   here i b h l = h.left _ (omega (arith, l))
 
-  pub before_is_seat : IsLinked next chains → a < most_queues → (i b : ℕ) → left i b → i < (chain_at chains a).length → b < most_seats
+  pub before_is_seat : IsLinked next chains → a < most_queues → (i b : ℕ) → left i b
+      → i < (chain_at chains a).length → b < most_seats
   before_is_seat k l i b h m =
       let at = here i b h m in
       let some = front_times next (suc ((chain_at chains a).length - suc i)) b in
       let less = at.within b in
       in_range k a b l (omega (arith, some, less))
 
-  pub left_next : (i b : ℕ) → left i b → i < (chain_at chains a).length → (get_or next b 0 ≡ s → ⊥) → left (i + 1) (get_or next b 0)
+  pub left_next : (i b : ℕ) → left i b → i < (chain_at chains a).length → (get_or next b 0 ≡ s → ⊥)
+      → left (i + 1) (get_or next b 0)
   left_next i b h m d = record {
     bound = omega (arith, m);
     left = λ n e.
@@ -78,13 +82,16 @@ module _ (next : List ℕ) (chains : List Chain) (a s : ℕ) where
         (subst (λ x. IsLeft next s (queue_in next chains a) (suc x) b) more at) d);
   }
 
-  pub found : (v : List (List ℕ)) → map (seats_of next) chains ≡ v → (i b : ℕ) → left i b → i < (chain_at chains a).length
+  pub found : (v : List (List ℕ)) → map (seats_of next) chains ≡ v → (i b : ℕ) → left i b
+      → i < (chain_at chains a).length
       → get_or next b 0 ≡ s → Some b ≡ seat_before s (queue_at v a)
   found v e i b h m f =
       let at = here i b h m in
-      found_here next s ((chain_at chains a).length - suc i) b f ∙ (at.same ∙ sym (ap (seat_before s) (queue_is next chains v e a)))
+      found_here next s ((chain_at chains a).length - suc i) b f
+      ∙ (at.same ∙ sym (ap (seat_before s) (queue_is next chains v e a)))
 
-  pub not_found : (v : List (List ℕ)) → map (seats_of next) chains ≡ v → (i b : ℕ) → left i b → (chain_at chains a).length ≤ i
+  pub not_found : (v : List (List ℕ)) → map (seats_of next) chains ≡ v → (i b : ℕ) → left i b
+      → (chain_at chains a).length ≤ i
       → None ≡ seat_before s (queue_at v a)
   not_found v e i b h m =
       let n = (chain_at chains a).length + 1 - i in

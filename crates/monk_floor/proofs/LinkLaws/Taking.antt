@@ -31,7 +31,8 @@ none_here next (suc n) f e = absurd (omega (arith, e))
 pub some_here : (next : List ℕ) (n f : ℕ) → (n ≡ 0 → ⊥) → walk next n f ≡ f ∷ walk next (n - 1) (get_or next f 0)
 unfolding walk
 some_here next zero f e = absurd (e refl)
-some_here next (suc n) f e = ap (λ m. f ∷ walk next m (get_or next f 0)) (let less : n ≡ suc n - 1 = omega arith in less)
+some_here next (suc n) f e =
+    ap (λ m. f ∷ walk next m (get_or next f 0)) (let less : n ≡ suc n - 1 = omega arith in less)
 
 times_front : (x : ℕ) (xs : List ℕ) → 1 ≤ times x (x ∷ xs)
 times_front x xs = omega (arith, ap {B = ℕ} (λ b. cond b 1 0) (eq-eqb x x refl))
@@ -45,7 +46,8 @@ times_first x xs ys {zs} e d =
 
 module _ (next : List ℕ) (chains : List Chain) (a : ℕ) where
   -- of a queue with nobody in it
-  pub none_seen : (v : List (List ℕ)) → map (seats_of next) chains ≡ v → (chain_at chains a).length ≡ 0 → queue_at v a ≡ []
+  pub none_seen : (v : List (List ℕ)) → map (seats_of next) chains ≡ v → (chain_at chains a).length ≡ 0
+      → queue_at v a ≡ []
   none_seen v e z = queue_is next chains v e a ∙ none_here next (chain_at chains a).length (chain_at chains a).first z
 
   pub some_seen : (v : List (List ℕ)) → map (seats_of next) chains ≡ v → ((chain_at chains a).length ≡ 0 → ⊥)
@@ -66,7 +68,8 @@ module _ (next : List ℕ) (chains : List Chain) (a : ℕ) where
   front_in_range k l z =
       in_range k a (chain_at chains a).first l
       (subst (λ xs. 1 ≤ times (chain_at chains a).first xs)
-      (sym (some_here next (chain_at chains a).length (chain_at chains a).first z)) (times_front (chain_at chains a).first _))
+      (sym (some_here next (chain_at chains a).length (chain_at chains a).first z))
+      (times_front (chain_at chains a).first _))
 
   pub taken_none : (v : List (List ℕ)) → map (seats_of next) chains ≡ v → (chain_at chains a).length ≡ 0
       → (c : ℕ) → queue_at v c ≡ drop (cond (a == c) 1 0) (queue_at v c)
@@ -88,14 +91,17 @@ module _ (next : List ℕ) (chains : List Chain) (a : ℕ) where
       → IsLinked next (slice_set chains a shorter)
   taken_linked k l z =
       linked_again k next a shorter l (λ c d. refl)
-      (subst (λ xs. EndsWith xs (chain_at chains a).last) (sym (shorter_is z)) (ends_drop (queue_in next chains a) _ (k.last a)))
+      (subst (λ xs. EndsWith xs (chain_at chains a).last) (sym (shorter_is z))
+      (ends_drop (queue_in next chains a) _ (k.last a)))
       (λ s. let less : times s (seats_of next shorter) ≤ times s (queue_in next chains a) =
-      subst (λ xs. times s xs ≤ times s (queue_in next chains a)) (sym (shorter_is z)) (times_drop s (queue_in next chains a)) in
+      subst (λ xs. times s xs ≤ times s (queue_in next chains a)) (sym (shorter_is z))
+      (times_drop s (queue_in next chains a)) in
       omega (arith, less, k.once s))
 
   pub taken_seen : IsLinked next chains → a < most_queues → (v : List (List ℕ)) → map (seats_of next) chains ≡ v
       → ((chain_at chains a).length ≡ 0 → ⊥)
-      → (c : ℕ) → queue_at (map (seats_of next) (slice_set chains a shorter)) c ≡ drop (cond (a == c) 1 0) (queue_at v c)
+      → (c : ℕ)
+      → queue_at (map (seats_of next) (slice_set chains a shorter)) c ≡ drop (cond (a == c) 1 0) (queue_at v c)
   taken_seen k l v e z =
       seen_again k v e next a shorter l (λ c d. refl) (λ c. drop (cond (a == c) 1 0) (queue_at v c))
       (ap (λ b. drop (cond b 1 0) (queue_at v a)) (eq-eqb a a refl)
@@ -111,10 +117,13 @@ module _ (next : List ℕ) (chains : List Chain) (a : ℕ) where
       let one = places_one a s (queue_at v) new l
       (λ c d. taken_seen k l v e z c ∙ drop_when (a == c) (queue_at v c) (λ b. d (eqb-true a c b))) in
       let old : times s (queue_at v a) ≡ 1 + times s (new a) =
-      let here : new a ≡ drop 1 (queue_at v a) = taken_seen k l v e z a ∙ ap (λ b. drop (cond b 1 0) (queue_at v a)) (eq-eqb a a refl) in
+      let here : new a ≡ drop 1 (queue_at v a) = taken_seen k l v e z a
+      ∙ ap (λ b. drop (cond b 1 0) (queue_at v a)) (eq-eqb a a refl) in
       times_first s (queue_at v a) (new a) (some_seen v e z) here in
-      let few : places s (queue_in next chains) ≤ 1 = let o = k.once s in omega (arith, o, cond_le (nat_lt s most_seats)) in
-      let once : places s (queue_at v) ≤ 1 = subst (λ q. places s q ≤ 1) (λ i c. sym (queue_is next chains v e c) i) few in
+      let few : places s (queue_in next chains) ≤ 1 = let o = k.once s in
+      omega (arith, o, cond_le (nat_lt s most_seats)) in
+      let once : places s (queue_at v) ≤ 1 =
+      subst (λ q. places s q ≤ 1) (λ i c. sym (queue_is next chains v e c) i) few in
       omega (arith, one, old, once)
 
 -- whether there is a front, and who it is

@@ -22,7 +22,8 @@ length-walk next zero f = refl
 length-walk next (suc n) f = ap suc (length-walk next n (get_or next f 0))
 
 -- a link of a seat that the walk does not meet
-pub walk-set : (next : List ℕ) (n f l v : ℕ) → times l (walk next n f) ≡ 0 → walk (slice_set next l v) n f ≡ walk next n f
+pub walk-set : (next : List ℕ) (n f l v : ℕ) → times l (walk next n f) ≡ 0
+    → walk (slice_set next l v) n f ≡ walk next n f
 unfolding walk
 walk-set next zero f l v h = refl
 walk-set next (suc n) f l v h =

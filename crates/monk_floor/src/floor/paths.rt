@@ -103,7 +103,8 @@ impl<K: Kind, T: Guarded> Floor<K, T> {
     fn next_served(&self, seat: u8, cond: u8) -> Next
         requires mode { K.rules.mode ≡ Mode.Blocking }
         requires call { MayCallOn K.rules T.meaning self.now (Event.Signal seat cond Next.Stay) }
-        ensures { (known : Bool) (pick : Pick) → IsChosen K.rules T.meaning self.now (Event.Signal seat cond Next.Stay) known pick result }
+        ensures { (known : Bool) (pick : Pick)
+            → IsChosen K.rules T.meaning self.now (Event.Signal seat cond Next.Stay) known pick result }
     {
         served_choice(self.ledger.queues.front_of(cond))
     }
@@ -112,7 +113,8 @@ impl<K: Kind, T: Guarded> Floor<K, T> {
     fn next_staying(&self, seat: u8, cond: u8) -> Next
         requires mode { K.rules.mode ≡ Mode.NonBlocking }
         requires call { MayCallOn K.rules T.meaning self.now (Event.Signal seat cond Next.Stay) }
-        ensures { (known : Bool) (pick : Pick) → IsChosen K.rules T.meaning self.now (Event.Signal seat cond Next.Stay) known pick result }
+        ensures { (known : Bool) (pick : Pick)
+            → IsChosen K.rules T.meaning self.now (Event.Signal seat cond Next.Stay) known pick result }
     {
         let _ = &self.history;
         Next::Stay
@@ -133,8 +135,9 @@ impl<K: Kind, T: Guarded> Floor<K, T> {
         }
     }
 
-    /// The active seat leaves the monitor: `plain_leave` by the path of the mode. Constant time; under an automatic kind
-    /// it costs a judgement of the predicate of each wait-until up to the first that is ready.
+    /// The active seat leaves the monitor: `plain_leave` by the path of the mode. Constant time;
+    /// under an automatic kind it costs a judgement of the predicate of each wait-until up to the
+    /// first that is ready.
     pub fn leave(&mut self, seat: u8, pick: Pick, entry_known: bool) -> Next
         requires call { MayCallOn K.rules T.meaning self.old (Event.Leave seat Next.Stay) }
         requires left { 0 < left_of self.old.budget self.old.history seat }
@@ -232,7 +235,8 @@ impl<K: ImmediateReturn, T: Guarded> Floor<K, T> {
     ) -> Next
         requires call { MayCallOn K.rules T.meaning self.old (Event.SignalWait seat cond wait_cond Next.Stay) }
         requires left { 0 < left_of self.old.budget self.old.history seat }
-        ensures { HasChosen K.rules T.meaning self.old (Event.SignalWait seat cond wait_cond) entry_known pick result self.new }
+        ensures { HasChosen K.rules T.meaning self.old
+            (Event.SignalWait seat cond wait_cond) entry_known pick result self.new }
     {
         let next = self.next_waiter(
             Event::SignalWait(seat, cond, wait_cond, Next::Stay),

@@ -89,7 +89,8 @@ impl<K: Kind, T: Guarded> Floor<K, T> {
     ) -> Next
         requires call { MayCallOn K.rules T.meaning self.old (Event.SignalWait seat cond wait_cond Next.Stay) }
         requires left { 0 < left_of self.old.budget self.old.history seat }
-        ensures { HasChosen K.rules T.meaning self.old (Event.SignalWait seat cond wait_cond) entry_known pick result self.new }
+        ensures { HasChosen K.rules T.meaning self.old
+            (Event.SignalWait seat cond wait_cond) entry_known pick result self.new }
     {
         let next = self.next_by(
             Event::SignalWait(seat, cond, wait_cond, Next::Stay),
@@ -100,8 +101,9 @@ impl<K: Kind, T: Guarded> Floor<K, T> {
         next
     }
 
-    /// The active seat signals all who wait on a condition variable, and goes on. They join the back of the waiter queue
-    /// in their order. Answers how many they are. Nobody is chosen. Constant time.
+    /// The active seat signals all who wait on a condition variable, and goes on. They join the
+    /// back of the waiter queue in their order. Answers how many they are. Nobody is chosen.
+    /// Constant time.
     pub fn plain_signal_all(&mut self, seat: u8, cond: u8) -> u32
         requires call { MayCallOn K.rules T.meaning self.old (Event.SignalAll seat cond) }
         requires left { 0 < left_of self.old.budget self.old.history seat }

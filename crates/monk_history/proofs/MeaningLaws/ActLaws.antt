@@ -29,7 +29,8 @@ ops acts = map (λ act. act.op) acts
 answered-append : (o : Object) (d : List ℕ) (xs ys : List Op) → answers_of o d (xs ++ ys) ≡ answers_of o d xs
     ++ answers_of o (state_after o d xs) ys
 answered-append o d [] ys = refl
-answered-append o d (x ∷ xs) ys = ap (λ acts. record { op = x; reply = o.reply d x } ∷ acts) (answered-append o (o.after d x) xs ys)
+answered-append o d (x ∷ xs) ys =
+    ap (λ acts. record { op = x; reply = o.reply d x } ∷ acts) (answered-append o (o.after d x) xs ys)
 
 acts-push : (h : List Event) (e : Event) → acts_in (h ++ e ∷ []) ≡ acts_in h ++ acts_in (e ∷ [])
 acts-push h e = flat_map-append act_of h (e ∷ [])
@@ -40,11 +41,13 @@ ops-push h e = ap ops (acts-push h e) ∙ map-append (λ (act : Answered). act.o
 data_by : (o : Object) (d : List ℕ) (e : Event) → state_after o d (ops_in (e ∷ [])) ≡ data_after o d e
 data_by o d e = one (answered_act e)
   where
-    one : (a : Option Answered) → state_after o d (ops (option_to_list a ++ [])) ≡ option_map_or (λ act. o.after d act.op) a d
+    one : (a : Option Answered)
+        → state_after o d (ops (option_to_list a ++ [])) ≡ option_map_or (λ act. o.after d act.op) a d
     one None = refl
     one (Some act) = refl
 
-reply_by : (o : Object) (d : List ℕ) (e : Event) → is_right_reply o d e ≡ true → answers_of o d (ops_in (e ∷ [])) ≡ acts_in (e ∷ [])
+reply_by : (o : Object) (d : List ℕ) (e : Event) → is_right_reply o d e ≡ true
+    → answers_of o d (ops_in (e ∷ [])) ≡ acts_in (e ∷ [])
 reply_by o d e = one (answered_act e)
   where
     one : (a : Option Answered) → option_map_or (λ act. act.reply == o.reply d act.op) a true ≡ true
@@ -58,7 +61,8 @@ data_none m = refl
 
 -- the data are the state that the acts lead to, in each history
 data_is : (m : Monitor) (h : List Event) → state_after m.object m.opening (ops_in h) ≡ data_of m h
-data_is m h = history_induction (λ x. state_after m.object m.opening (ops_in x) ≡ data_of m x) (data_none m) (λ x e more.
+data_is m h =
+    history_induction (λ x. state_after m.object m.opening (ops_in x) ≡ data_of m x) (data_none m) (λ x e more.
     ap (λ xs. state_after m.object m.opening xs) (ops-push x e)
     ∙ (fold-append m.object.after m.opening (ops_in x) (ops_in (e ∷ []))
     ∙ (data_by m.object (state_after m.object m.opening (ops_in x)) e
@@ -66,7 +70,9 @@ data_is m h = history_induction (λ x. state_after m.object m.opening (ops_in x)
     ∙ sym (data-push m x e))))) h
 
 replies_are : (m : Monitor) (h : List Event) → IsLegal m h → answers_of m.object m.opening (ops_in h) ≡ acts_in h
-replies_are m h = history_induction (λ x. IsLegal m x → answers_of m.object m.opening (ops_in x) ≡ acts_in x) (λ l. refl) (λ x e more l.
+replies_are m h =
+    history_induction (λ x. IsLegal m x → answers_of m.object m.opening (ops_in x) ≡ acts_in x) (λ l. refl)
+    (λ x e more l.
     ap (λ xs. answers_of m.object m.opening xs) (ops-push x e)
     ∙ (answered-append m.object m.opening (ops_in x) (ops_in (e ∷ []))
     ∙ (ap (λ acts. acts ++ answers_of m.object (state_after m.object m.opening (ops_in x)) (ops_in (e ∷ [])))
@@ -105,7 +111,8 @@ pub excludes : (rules : Rules) (seats conds size : ℕ) (h : List Event)
 excludes rules seats conds size h l =
     let run = acts_are_run (over rules seats conds Book size) h l in
     let law = exclusive size (ops_in h) in
-    subst (λ (acts : List Answered). ExcludesEachOther size (data_of (over rules seats conds Book size) h) acts) run.replies
+    subst (λ (acts : List Answered). ExcludesEachOther size
+    (data_of (over rules seats conds Book size) h) acts) run.replies
     (record {
       readers = law.readers;
       writers = law.writers;

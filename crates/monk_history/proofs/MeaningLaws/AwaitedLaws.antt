@@ -41,18 +41,21 @@ AwaitsAmong o d s ws = (p : ℕ) × (list_any (λ u. u.0 == s && u.1 == p) ws �
 
 ready_by : (o : Object) (d : List ℕ) (s : ℕ) (u : ℕ × ℕ) (us : List (ℕ × ℕ)) (b : Bool) → o.holds d u.1 ≡ b
     → (is_front s (ready_of o d us) ≡ true → AwaitsAmong o d s us)
-    → is_front s (map (λ (v : ℕ × ℕ). v.0) (cond b (u ∷ filter (λ v. o.holds d v.1) us) (filter (λ v. o.holds d v.1) us))) ≡ true
+    → is_front s (map (λ (v : ℕ × ℕ). v.0)
+    (cond b (u ∷ filter (λ v. o.holds d v.1) us) (filter (λ v. o.holds d v.1) us))) ≡ true
     → AwaitsAmong o d s (u ∷ us)
 ready_by o d s u us true e f g = (
   u.1,
-  or_left (u.0 == s && u.1 == u.1) (list_any (λ v. v.0 == s && v.1 == u.1) us) (both (u.0 == s) (u.1 == u.1) g (eq-eqb u.1 u.1 refl)),
+  or_left (u.0 == s && u.1 == u.1) (list_any (λ v. v.0 == s && v.1 == u.1) us)
+      (both (u.0 == s) (u.1 == u.1) g (eq-eqb u.1 u.1 refl)),
   e,
 )
 ready_by o d s u us false e f g =
     let r = f g in (r.0, or_right (u.0 == s && u.1 == r.0) (list_any (λ v. v.0 == s && v.1 == r.0) us) r.1, r.2)
 
 -- whoever stands first among those that are ready waits until a predicate that holds
-ready_front : (o : Object) (d : List ℕ) (s : ℕ) (ws : List (ℕ × ℕ)) → is_front s (ready_of o d ws) ≡ true → AwaitsAmong o d s ws
+ready_front : (o : Object) (d : List ℕ) (s : ℕ) (ws : List (ℕ × ℕ)) → is_front s (ready_of o d ws) ≡ true
+    → AwaitsAmong o d s ws
 ready_front o d s [] h = absurd (false≢true h)
 ready_front o d s (u ∷ us) h = ready_by o d s u us (o.holds d u.1) refl (λ g. ready_front o d s us g) h
 
@@ -64,8 +67,10 @@ until_chosen k q s b (Some Stay) j e p = absurd (cc)
 until_chosen k q s b (Some Entry) j e p = absurd (cc)
 until_chosen k q s b (Some (Waiter i)) j e p = absurd (cc)
 until_chosen k q s b (Some (Signaller i)) j e p = absurd (cc)
-until_chosen k q s true (Some (UntilSeat i)) j e p = let same : i ≡ j = cc in subst (λ z. is_front z q.ready ≡ true) same (and_right _ _ p)
-until_chosen k q s false (Some (UntilSeat i)) j e p = let same : i ≡ j = cc in subst (λ z. is_front z q.ready ≡ true) same (and_right _ _ p)
+until_chosen k q s true (Some (UntilSeat i)) j e p = let same : i ≡ j = cc in
+    subst (λ z. is_front z q.ready ≡ true) same (and_right _ _ p)
+until_chosen k q s false (Some (UntilSeat i)) j e p = let same : i ≡ j = cc in
+    subst (λ z. is_front z q.ready ≡ true) same (and_right _ _ p)
 
 -- a turn that is due from the waits-until was given by that choice
 due_from_until : (s j : ℕ) (x : Option Next) → turn_by s x ≡ Due j FromUntil → x ≡ Some (UntilSeat j)
@@ -105,10 +110,12 @@ awaits_what_holds m h i s e l here there =
     ∙ resume_is_due s FromUntil (turn (take (i + 1) h)) ((l (i + 1) (Resume s FromUntil) there).in_turn) in
     let chosen : next_of e ≡ Some (UntilSeat s) = due_from_until (seat_of e) s (next_of e) due in
     let found = ready_front m.object (data_of m past) s (untils past)
-    (by_stay (is_front s (ready_of m.object (data_of m past) (untils past)) ≡ true) (must_stay m.object (situation m past) e)
+    (by_stay (is_front s (ready_of m.object (data_of m past) (untils past)) ≡ true)
+    (must_stay m.object (situation m past) e)
     (is_stay (next_of e)) _ ((l i e here).permitted)
     (λ p. absurd (false≢true (sym (ap is_stay chosen) ∙ p)))
-    (λ p. until_chosen m.kind (queues_at m.object (situation m past) e) (seat_of e) (is_some (steps_back e)) (next_of e) s chosen p)) in
+    (λ p. until_chosen m.kind (queues_at m.object (situation m past) e) (seat_of e) (is_some (steps_back e))
+    (next_of e) s chosen p)) in
     let same : data_of m (take (i + 1) h) ≡ data_of m past =
     ap (data_of m) one
     ∙ (data-push m past e

@@ -99,11 +99,13 @@ on_its_way : (m : Monitor) (t : Situation) (e : Event) (w : ℕ) → m.kind.entr
 on_its_way m t e w l h a =
     by_stay (IsOnItsWay w (after m.object t e)) (must_stay m.object t e) (is_stay (next_of e)) _ a.permitted
     (λ p. stayed_way w (seat_of e) (t.waiters ++ serves t.condition e) (next_of e) (after m.object t e) h p refl refl)
-    (λ p. chosen_way m.kind w (seat_of e) (queues_at m.object t e) (is_some (steps_back e)) (next_of e) (after m.object t e) l h p
+    (λ p. chosen_way m.kind w (seat_of e) (queues_at m.object t e) (is_some (steps_back e)) (next_of e)
+    (after m.object t e) l h p
     refl refl)
 
 -- nobody enters while a seat is on its way
-cannot_enter : (w : ℕ) (t : Situation) (x : Event) → IsOnItsWay w t → is_some (via_of x) ≡ true → fits_turn t.turn x ≡ true → ⊥
+cannot_enter : (w : ℕ) (t : Situation) (x : Event) → IsOnItsWay w t → is_some (via_of x) ≡ true
+    → fits_turn t.turn x ≡ true → ⊥
 cannot_enter w t x o v f =
     let other = option_map_or (λ q. is_due (seat_of x) q t.turn) (source_of x) (is_owned_by (seat_of x) t.turn) in
     let free : is_open t.turn ≡ true = sym (ap (λ b. cond b (is_open t.turn) other) v) ∙ f in
@@ -142,7 +144,8 @@ way_from m h i w (suc n) e l k here g r =
     way)
     (way_from m h i w n e l k here g (omega (arith, r)))
 
-pub nobody_comes_between : (m : Monitor) (h : List Event) → m.kind.entry < m.kind.waiter → IsLegal m h → NobodyComesBetween h
+pub nobody_comes_between : (m : Monitor) (h : List Event) → m.kind.entry < m.kind.waiter → IsLegal m h
+    → NobodyComesBetween h
 nobody_comes_between m h l k i j w e x here there r g v =
     let n = j - (i + 1) in
     let at : i + 1 + n ≡ j = omega (arith, r) in

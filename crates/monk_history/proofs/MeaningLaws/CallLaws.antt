@@ -50,7 +50,8 @@ seat_last false b h k = h
 
 -- the seat that owns the turn may call
 pub may_leave : (m : Monitor) (h : List Event) (s : ℕ) → turn h ≡ Owned s → s < m.seats → MayCall m h (Leave s Stay)
-may_leave m h s t l = record { in_range = one_seat _ (lt_is s m.seats l); offered = refl; in_turn = owned s (turn h) t; in_place = refl }
+may_leave m h s t l =
+    record { in_range = one_seat _ (lt_is s m.seats l); offered = refl; in_turn = owned s (turn h) t; in_place = refl }
 
 pub may_wait : (m : Monitor) (h : List Event) (s c : ℕ) → turn h ≡ Owned s → s < m.seats → c < m.conds
     → has_conditions m.kind.mode ≡ true → MayCall m h (Wait s c Stay)
@@ -95,7 +96,8 @@ may_signal_all m h s c t l k o =
       in_place = refl;
     }
 
-pub may_signal_wait : (m : Monitor) (h : List Event) (s c d : ℕ) → turn h ≡ Owned s → s < m.seats → c < m.conds → d < m.conds
+pub may_signal_wait : (m : Monitor) (h : List Event) (s c d : ℕ) → turn h ≡ Owned s → s < m.seats → c < m.conds
+    → d < m.conds
     → returns_at_once m.kind.mode ≡ true → MayCall m h (SignalWait s c d Stay)
 may_signal_wait m h s c d t l k j o =
     record {
@@ -122,7 +124,8 @@ queued_by true x y h = grind (arith, h)
 queued_by false x y h = grind (arith, h)
 
 -- a seat is in a queue exactly where it is inside and has not the turn
-pub queued_is : (n s : ℕ) (t : Situation) → IsPlaced n t → (t.inside s && not (nat_lt 0 (has_turn s t.turn))) ≡ is_queued n s t
+pub queued_is : (n s : ℕ) (t : Situation) → IsPlaced n t
+    → (t.inside s && not (nat_lt 0 (has_turn s t.turn))) ≡ is_queued n s t
 queued_is n s t p = queued_by (t.inside s) (in_queues n s t) (has_turn s t.turn) (p s)
 
 opened : (t : Turn) → t ≡ Open → is_open t ≡ true

@@ -73,12 +73,14 @@ filter_one : (b : Bool) (e : Event) (es ds : List Event) → cond b (e ∷ (es +
 filter_one true e es ds = refl
 filter_one false e es ds = refl
 
-filter-push : (p : Event → Bool) (h : List Event) (e : Event) → filter p (h ++ e ∷ []) ≡ filter p h ++ cond (p e) (e ∷ []) []
+filter-push : (p : Event → Bool) (h : List Event) (e : Event)
+    → filter p (h ++ e ∷ []) ≡ filter p h ++ cond (p e) (e ∷ []) []
 filter-push p [] e = refl
 filter-push p (x ∷ xs) e = ap (λ es. cond (p x) (x ∷ es) es) (filter-push p xs e)
     ∙ filter_one (p x) x (filter p xs) (cond (p e) (e ∷ []) [])
 
-pub events_of-push : (h : List Event) (e : Event) (s : ℕ) → events_of (h ++ e ∷ []) s ≡ events_of h s ++ cond (seat_of e == s) (e ∷ []) []
+pub events_of-push : (h : List Event) (e : Event) (s : ℕ)
+    → events_of (h ++ e ∷ []) s ≡ events_of h s ++ cond (seat_of e == s) (e ∷ []) []
 unfolding events_of
 events_of-push h e s = filter-push (λ x. seat_of x == s) h e
 
@@ -96,7 +98,8 @@ pub enters_of-push : (h : List Event) (e : Event) → enters_of (h ++ e ∷ []) 
 unfolding enters_of
 enters_of-push h e = sum_by-append (λ x. cond (is_enter x) 1 0) h (e ∷ []) ∙ omega arith
 
-pub granted_of-push : (h : List Event) (e : Event) (s : ℕ) → granted_of (h ++ e ∷ []) s ≡ granted_of h s + cond (grants s e) 1 0
+pub granted_of-push : (h : List Event) (e : Event) (s : ℕ)
+    → granted_of (h ++ e ∷ []) s ≡ granted_of h s + cond (grants s e) 1 0
 unfolding granted_of
 granted_of-push h e s = sum_by-append (λ x. cond (grants s x) 1 0) h (e ∷ []) ∙ omega arith
 
@@ -120,7 +123,9 @@ pub room_left : (seats budget i : ℕ) (h : List Event) → i < seats → ((s : 
     → ((s : ℕ) → length (events_of h s) ≤ budget) → length (events_of h i) < budget → length h < seats * budget
 room_left seats budget i h l none within less =
     let long = length_total seats (map seat_of h) (λ s k. sym (length-events_of h s) ∙ none s k) in
-    let rest = total_rest seats budget i (λ s. times s (map seat_of h)) l (λ s. omega (arith, within s, length-events_of h s)) in
+    let rest =
+    total_rest seats budget i (λ s. times s (map seat_of h)) l
+    (λ s. omega (arith, within s, length-events_of h s)) in
     omega (arith, long, rest, length_map h, length-events_of h i)
 
 -- where each seat has at most its budget, the history is no longer than the budgets of all
@@ -128,7 +133,8 @@ pub history_few : (seats budget : ℕ) (h : List Event) → ((s : ℕ) → seats
     → ((s : ℕ) → length (events_of h s) ≤ budget) → length h ≤ seats * budget
 history_few seats budget h none within =
     let long = length_total seats (map seat_of h) (λ s k. sym (length-events_of h s) ∙ none s k) in
-    let most = total_le seats budget (λ s. times s (map seat_of h)) (λ s. omega (arith, within s, length-events_of h s)) in
+    let most =
+    total_le seats budget (λ s. times s (map seat_of h)) (λ s. omega (arith, within s, length-events_of h s)) in
     omega (arith, long, most, length_map h)
 
 pub enters_few : (h : List Event) → enters_of h ≤ length h

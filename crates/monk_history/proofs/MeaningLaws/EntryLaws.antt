@@ -74,7 +74,8 @@ enters_free m h s = (
     (let q = and_right (not (is_inside s h)) _ a.in_place in
         record {
           waiters = empty_is _ (and_left _ _ (and_left _ (is_empty (ready_of m.object (data_of m h) (untils h))) q));
-          signallers = empty_is _ (and_right _ _ (and_left _ (is_empty (ready_of m.object (data_of m h) (untils h))) q));
+          signallers =
+              empty_is _ (and_right _ _ (and_left _ (is_empty (ready_of m.object (data_of m h) (untils h))) q));
           ready = empty_is _ (and_right _ (is_empty (ready_of m.object (data_of m h) (untils h))) q);
         }),
   ),
@@ -82,7 +83,8 @@ enters_free m h s = (
 )
 
 -- `enter s handed` is allowed exactly where the seat stands at the door and it is not the first event
-pub enters_handed : (m : Monitor) (h : List Event) (s : ℕ) → IsAllowed m h (Enter s Handed) ↔ (IsAtDoor m h s × (h ≢ []))
+pub enters_handed : (m : Monitor) (h : List Event) (s : ℕ)
+    → IsAllowed m h (Enter s Handed) ↔ (IsAtDoor m h s × (h ≢ []))
 enters_handed m h s = (
   λ a. (
     record {
@@ -123,7 +125,8 @@ same_queue FromUntil = refl
 
 due_is : (s : ℕ) (q : From3) (t : Turn) → is_due s q t ≡ true → t ≡ Due s q
 due_is s q Open h = absurd (false≢true h)
-due_is s q (Due j r) h = λ i. Due (eqb-true j s (and_left _ (is_queue r q) h) i) (queue_is r q (and_right (j == s) _ h) i)
+due_is s q (Due j r) h =
+    λ i. Due (eqb-true j s (and_left _ (is_queue r q) h) i) (queue_is r q (and_right (j == s) _ h) i)
 due_is s q (Owned j) h = absurd (false≢true h)
 
 both : (a b : Bool) → a ≡ true → b ≡ true → (a && b) ≡ true
@@ -155,8 +158,10 @@ names_none false y b c d h = h
 
 -- what is allowed may be called, whatever it chose and replied
 pub allowed_called : (m : Monitor) (t : Situation) (e : Event) → IsAllowedIn m t e → MayCallIn m t (as_called e)
-allowed_called m t (Enter s via) a = record { in_range = a.in_range; offered = a.offered; in_turn = a.in_turn; in_place = a.in_place }
-allowed_called m t (Act s op r) a = record { in_range = a.in_range; offered = a.offered; in_turn = a.in_turn; in_place = a.in_place }
+allowed_called m t (Enter s via) a =
+    record { in_range = a.in_range; offered = a.offered; in_turn = a.in_turn; in_place = a.in_place }
+allowed_called m t (Act s op r) a =
+    record { in_range = a.in_range; offered = a.offered; in_turn = a.in_turn; in_place = a.in_place }
 allowed_called m t (Leave s x) a =
     record {
       in_range = names_none (nat_lt s m.seats) _ _ _ _ a.in_range;
@@ -205,8 +210,10 @@ allowed_called m t (SignalWait s c d x) a =
           a.in_turn;
       in_place = a.in_place;
     }
-allowed_called m t (SignalAll s c) a = record { in_range = a.in_range; offered = a.offered; in_turn = a.in_turn; in_place = a.in_place }
-allowed_called m t (Resume s q) a = record { in_range = a.in_range; offered = a.offered; in_turn = a.in_turn; in_place = a.in_place }
+allowed_called m t (SignalAll s c) a =
+    record { in_range = a.in_range; offered = a.offered; in_turn = a.in_turn; in_place = a.in_place }
+allowed_called m t (Resume s q) a =
+    record { in_range = a.in_range; offered = a.offered; in_turn = a.in_turn; in_place = a.in_place }
 
 -- an event of another seat says nothing of whether this one is inside
 not_theirs : (b : Bool) (w : Bool) → b ≡ false → (w && b) ≡ false
@@ -226,7 +233,8 @@ leaves_more : (j : ℕ) (e : Event) (own es : List Event) (b : Bool) → (seat_o
 leaves_more j e own es true h k = ap (λ b. is_exit_of j e || b) k
 leaves_more j e own es false h k = k ∙ sym (ap (λ b. b || list_any (is_exit_of j) es) (leaves_other j e h))
 
-leaves_own : (j : ℕ) (h : List Event) → list_any (is_exit_of j) (filter (λ e. seat_of e == j) h) ≡ list_any (is_exit_of j) h
+leaves_own : (j : ℕ) (h : List Event)
+    → list_any (is_exit_of j) (filter (λ e. seat_of e == j) h) ≡ list_any (is_exit_of j) h
 leaves_own j [] = refl
 leaves_own j (e ∷ es) = leaves_more j e (filter (λ x. seat_of x == j) es) es (seat_of e == j) refl (leaves_own j es)
 
@@ -234,11 +242,13 @@ inside_more : (j : ℕ) (e : Event) (own es : List Event) (b : Bool) → (seat_o
     → list_any (is_exit_of j) own ≡ list_any (is_exit_of j) es → inside_of j own ≡ inside_of j es
     → inside_of j (cond b (e ∷ own) own) ≡ ((is_enter_of j e && not (list_any (is_exit_of j) es)) || inside_of j es)
 inside_more j e own es true h k i = λ z. (is_enter_of j e && not (k z)) || i z
-inside_more j e own es false h k i = i ∙ sym (ap (λ b. (b && not (list_any (is_exit_of j) es)) || inside_of j es) (enters_other j e h))
+inside_more j e own es false h k i = i
+    ∙ sym (ap (λ b. (b && not (list_any (is_exit_of j) es)) || inside_of j es) (enters_other j e h))
 
 inside_own : (j : ℕ) (h : List Event) → inside_of j (filter (λ e. seat_of e == j) h) ≡ inside_of j h
 inside_own j [] = refl
-inside_own j (e ∷ es) = inside_more j e (filter (λ x. seat_of x == j) es) es (seat_of e == j) refl (leaves_own j es) (inside_own j es)
+inside_own j (e ∷ es) =
+    inside_more j e (filter (λ x. seat_of x == j) es) es (seat_of e == j) refl (leaves_own j es) (inside_own j es)
 
 -- a seat knows from its own events whether it is inside
 pub inside_by_own : (s : ℕ) (h : List Event) → is_inside s (events_of h s) ≡ is_inside s h

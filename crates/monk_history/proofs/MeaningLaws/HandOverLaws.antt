@@ -55,7 +55,8 @@ take_next [] i x h = absurd (cc)
 take_next (y ∷ ys) zero x h = let e : y ≡ x = cc in ap (λ z. z ∷ []) e
 take_next (y ∷ ys) (suc i) x h = ap (λ zs. y ∷ zs) (take_next ys i x h)
 
-pub take_more_by_one : {X : Type 0} (xs : List X) (i : ℕ) (x : X) → slice_get xs i ≡ Some x → take (i + 1) xs ≡ take i xs ++ x ∷ []
+pub take_more_by_one : {X : Type 0} (xs : List X) (i : ℕ) (x : X) → slice_get xs i ≡ Some x
+    → take (i + 1) xs ≡ take i xs ++ x ∷ []
 take_more_by_one xs i x h = let e : i + 1 ≡ suc i = omega arith in ap (λ n. take n xs) e ∙ take_next xs i x h
 
 pub legal_take : (m : Monitor) (h : List Event) (i : ℕ) → IsLegal m h → IsLegal m (take i h)
@@ -106,7 +107,8 @@ signal_chooses k w ss rs s Entry n h = let a = n.entry_signaller in let b = n.si
 signal_chooses k w ss rs s (Waiter j) n h = ap Waiter (sym (eqb-true w j (and_left _ _ h)))
 signal_chooses k w ss rs s (Signaller j) n h =
     absurd (not_above k.waiter k.signaller n.signaller_waiter (and_right _ _ (and_left _ _ h)))
-signal_chooses k w ss rs s (UntilSeat j) n h = absurd (not_without (has_conditions k.mode) n.conditions (and_left _ _ h))
+signal_chooses k w ss rs s (UntilSeat j) n h =
+    absurd (not_without (has_conditions k.mode) n.conditions (and_left _ _ h))
 
 -- the rules of immediate return where waiters go before callers
 record IsReturning (k : Rules) : Type 0 where
@@ -132,7 +134,8 @@ only_one : (w y : ℕ) → is_among w (y ∷ []) ≡ true → y ≡ w
 only_one w y h = eqb-true y w (or_nothing (y == w) h)
 
 signal_next : (k : Rules) (ws qs ss rs : List ℕ) (s w : ℕ) (x : Next) → IsBlocking k → ws ≡ []
-    → cond (is_empty qs) (is_stay (Some x)) (may_signal k (record { waiters = ws ++ take 1 qs; signallers = ss; ready = rs }) s x) ≡ true
+    → cond (is_empty qs) (is_stay (Some x))
+    (may_signal k (record { waiters = ws ++ take 1 qs; signallers = ss; ready = rs }) s x) ≡ true
     → is_among w (take 1 qs) ≡ true → x ≡ Waiter w
 signal_next k ws [] ss rs s w x n e p a = absurd (false≢true a)
 signal_next k ws (y ∷ ys) ss rs s w x n e p a =
@@ -141,7 +144,8 @@ signal_next k ws (y ∷ ys) ss rs s w x n e p a =
     ∙ ap Waiter (only_one w y a)
 
 return_next : (k : Rules) (ws ys ss rs : List ℕ) (s y : ℕ) (x : Next) → IsReturning k → ws ≡ [] → ss ≡ []
-    → may_choose k (record { waiters = ws ++ take 1 (y ∷ ys); signallers = ss ++ []; ready = rs }) s x ≡ true → x ≡ Waiter y
+    → may_choose k (record { waiters = ws ++ take 1 (y ∷ ys); signallers = ss ++ []; ready = rs }) s x ≡ true
+    → x ≡ Waiter y
 return_next k ws ys ss rs s y x n e f p =
     return_chooses k y rs s x n
     (subst (λ z. may_choose k (record { waiters = z ++ y ∷ []; signallers = []; ready = rs }) s x ≡ true) e
@@ -173,7 +177,8 @@ returned_after m t (Act s op r) n h g a = drop_all false t.waiters h
 returned_after m t (Leave s x) n h g a = drop_all (is_waiter (Some x)) t.waiters h
 returned_after m t (Wait s c x) n h g a = drop_all (is_waiter (Some x)) t.waiters h
 returned_after m t (Signal s c x) n h g a = absurd (false≢true (sym n.no_signallers ∙ a.offered))
-returned_after m t (SignalLeave s c x) n h g a = return_empties m.kind t.waiters (t.condition c) t.signallers _ s x n h g a.permitted
+returned_after m t (SignalLeave s c x) n h g a =
+    return_empties m.kind t.waiters (t.condition c) t.signallers _ s x n h g a.permitted
 returned_after m t (Until s p x) n h g a = drop_all (is_waiter (Some x)) t.waiters h
 returned_after m t (Resume s q) n h g a = drop_all false t.waiters h
 returned_after m t (SignalAll s c) n h g a = absurd (false≢true (sym n.goes_on_not ∙ a.offered))
@@ -181,26 +186,31 @@ returned_after m t (SignalWait s c d x) n h g a =
     return_empties m.kind t.waiters (t.condition c) t.signallers _ s x n h g a.permitted
 
 legal_returned : (m : Monitor) (h : List Event) → IsReturning m.kind → IsLegal m h → (situation m h).waiters ≡ []
-legal_returned m h n l = history_induction (λ z. IsLegal m z → (situation m z).waiters ≡ []) (λ k. ap (λ t. t.waiters) (situation-none m))
+legal_returned m h n l =
+    history_induction (λ z. IsLegal m z → (situation m z).waiters ≡ []) (λ k. ap (λ t. t.waiters) (situation-none m))
     (λ z e more k. let before : IsLegal m z = legal_front m z (e ∷ []) k in
     ap (λ t. t.waiters) (legal_situation-push m z e before)
-    ∙ returned_after m (situation m z) e n (more before) (legal_unsignalled m z n.no_signallers before) (legal_last m z e k)) h l
+    ∙ returned_after m (situation m z) e n (more before) (legal_unsignalled m z n.no_signallers before)
+    (legal_last m z e k)) h l
 
 -- whom an event serves is the one that it chooses
-blocking_serves : (m : Monitor) (t : Situation) (e : Event) (w : ℕ) → IsBlocking m.kind → t.waiters ≡ [] → IsAllowedIn m t e
+blocking_serves : (m : Monitor) (t : Situation) (e : Event) (w : ℕ) → IsBlocking m.kind → t.waiters ≡ []
+    → IsAllowedIn m t e
     → is_among w (serves t.condition e) ≡ true → next_of e ≡ Some (Waiter w)
 blocking_serves m t (Enter s via) w n h a g = absurd (false≢true g)
 blocking_serves m t (Act s op r) w n h a g = absurd (false≢true g)
 blocking_serves m t (Leave s x) w n h a g = absurd (false≢true g)
 blocking_serves m t (Wait s c x) w n h a g = absurd (false≢true g)
-blocking_serves m t (Signal s c x) w n h a g = ap Some (signal_next m.kind t.waiters (t.condition c) _ _ s w x n h a.permitted g)
+blocking_serves m t (Signal s c x) w n h a g =
+    ap Some (signal_next m.kind t.waiters (t.condition c) _ _ s w x n h a.permitted g)
 blocking_serves m t (SignalLeave s c x) w n h a g = absurd (false≢true (sym n.returns_not ∙ a.offered))
 blocking_serves m t (Until s p x) w n h a g = absurd (false≢true g)
 blocking_serves m t (Resume s q) w n h a g = absurd (false≢true g)
 blocking_serves m t (SignalAll s c) w n h a g = absurd (false≢true (sym n.goes_on_not ∙ a.offered))
 blocking_serves m t (SignalWait s c d x) w n h a g = absurd (false≢true (sym n.returns_not ∙ a.offered))
 
-returning_serves : (m : Monitor) (t : Situation) (e : Event) (w : ℕ) → IsReturning m.kind → t.waiters ≡ [] → t.signallers ≡ []
+returning_serves : (m : Monitor) (t : Situation) (e : Event) (w : ℕ) → IsReturning m.kind → t.waiters ≡ []
+    → t.signallers ≡ []
     → IsAllowedIn m t e → is_among w (serves t.condition e) ≡ true → next_of e ≡ Some (Waiter w)
 returning_serves m t (Enter s via) w n h f a g = absurd (false≢true g)
 returning_serves m t (Act s op r) w n h f a g = absurd (false≢true g)
@@ -236,7 +246,8 @@ handed m h i w e next l here there chosen quiet =
     let one : take (i + 1) h ≡ past ++ e ∷ [] = take_more_by_one h i e here in
     let two : take (i + 2) h ≡ take (i + 1) h ++ next ∷ [] =
     (let n : i + 2 ≡ (i + 1) + 1 = omega arith in ap (λ z. take z h) n) ∙ take_more_by_one h (i + 1) next there in
-    let due : turn (take (i + 1) h) ≡ Due w FromWaiter = ap turn one ∙ (turn-push past e ∙ ap (turn_by (seat_of e)) chosen) in
+    let due : turn (take (i + 1) h) ≡ Due w FromWaiter = ap turn one
+    ∙ (turn-push past e ∙ ap (turn_by (seat_of e)) chosen) in
     let resume : next ≡ Resume w FromWaiter =
     due_resumes w FromWaiter next (subst (λ t. fits_turn t next ≡ true) due ((l (i + 1) next there).in_turn)) in
     record {
@@ -250,7 +261,8 @@ handed m h i w e next l here there chosen quiet =
           ∙ ap (λ a. option_map_or (λ act. m.object.after (data_of m past) act.op) a (data_of m past)) quiet))));
     }
 
-by_mode : (k : Rules) (d : Mode) → IsKind k → k.mode ≡ d → (is_blocking d || (returns_at_once d && nat_lt k.entry k.waiter)) ≡ true
+by_mode : (k : Rules) (d : Mode) → IsKind k → k.mode ≡ d
+    → (is_blocking d || (returns_at_once d && nat_lt k.entry k.waiter)) ≡ true
     → IsBlocking k ⊎ IsReturning k
 by_mode k Blocking i e h = inl (blocking k i e)
 by_mode k NonBlocking i e h = absurd (false≢true h)
@@ -264,10 +276,12 @@ by_mode k ImmediateReturn i e h = inr (record {
 by_mode k Automatic i e h = absurd (false≢true h)
 
 chosen_of : (m : Monitor) (past : List Event) (e : Event) (w : ℕ) → IsLegal m past → IsAllowed m past e
-    → is_among w (serves (λ c. condition c past) e) ≡ true → IsBlocking m.kind ⊎ IsReturning m.kind → next_of e ≡ Some (Waiter w)
+    → is_among w (serves (λ c. condition c past) e) ≡ true → IsBlocking m.kind ⊎ IsReturning m.kind
+    → next_of e ≡ Some (Waiter w)
 chosen_of m past e w l a g k =
     ⊎_elim (λ n. blocking_serves m (situation m past) e w n (legal_emptied m past n l) a g)
-    (λ n. returning_serves m (situation m past) e w n (legal_returned m past n l) (legal_unsignalled m past n.no_signallers l) a g) k
+    (λ n. returning_serves m (situation m past) e w n (legal_returned m past n l)
+    (legal_unsignalled m past n.no_signallers l) a g) k
 
 pub hands_over_kinds : (k : KindName) → hands_over (rules_named k) ≡ has_hoares_rule k
 hands_over_kinds Pb = refl
@@ -281,7 +295,8 @@ hands_over_kinds Npir = refl
 hands_over_kinds Pis = refl
 hands_over_kinds Npis = refl
 
-pub hoares_rule : (m : Monitor) (h : List Event) → IsKind m.kind → hands_over m.kind ≡ true → IsLegal m h → HoaresRule m h
+pub hoares_rule : (m : Monitor) (h : List Event) → IsKind m.kind → hands_over m.kind ≡ true → IsLegal m h
+    → HoaresRule m h
 hoares_rule m h i o l n w e next here there g =
     handed m h n w e next l here there
     (chosen_of m (take n h) e w (legal_take m h n l) (l n e here) g (by_mode m.kind m.kind.mode i refl o))

@@ -65,12 +65,14 @@ drop_nobody : (b : Bool) (xs ys : List ℕ) → xs ≡ [] → ys ≡ [] → drop
 drop_nobody true xs ys h k = ap (λ z. drop 1 (z ++ ys)) h ∙ ap (drop 1) k
 drop_nobody false xs ys h k = ap (λ z. z ++ ys) h ∙ k
 
-drop_caller : (st sg : Bool) (xs : List ℕ) (s : ℕ) → xs ≡ [] → st ≡ true → drop (cond (sg || (st && true)) 1 0) (xs ++ s ∷ []) ≡ []
+drop_caller : (st sg : Bool) (xs : List ℕ) (s : ℕ) → xs ≡ [] → st ≡ true
+    → drop (cond (sg || (st && true)) 1 0) (xs ++ s ∷ []) ≡ []
 drop_caller st true xs s h k = ap (λ z. drop 1 (z ++ s ∷ [])) h
 drop_caller true false xs s h k = ap (λ z. drop 1 (z ++ s ∷ [])) h
 drop_caller false false xs s h k = absurd (false≢true k)
 
-alone_signal : (k : Rules) (o : Object) (t : Situation) (s c : ℕ) (x : Next) (b : Bool) → IsNonBlocking k → t.signallers ≡ []
+alone_signal : (k : Rules) (o : Object) (t : Situation) (s c : ℕ) (x : Next) (b : Bool) → IsNonBlocking k
+    → t.signallers ≡ []
     → cond b (is_stay (Some x))
     (may_signal k (record (queues_at o t (Signal s c x)) { signallers = t.signallers ++ cond b [] (s ∷ []) }) s x)
     ≡ true
@@ -99,7 +101,8 @@ alone_after m t (SignalWait s c d x) n h a = drop_nobody _ t.signallers [] h ref
 -- under a non-blocking kind nobody is in the signaller queue between two events
 pub legal_alone : (m : Monitor) (h : List Event) → IsNonBlocking m.kind → IsLegal m h → (situation m h).signallers ≡ []
 legal_alone m h n l =
-    legal_induction m (λ t. t.signallers ≡ []) (ap (λ t. t.signallers) (situation-none m)) (λ t e s a. alone_after m t e n s a) h l
+    legal_induction m (λ t. t.signallers ≡ []) (ap (λ t. t.signallers) (situation-none m))
+    (λ t e s a. alone_after m t e n s a) h l
 
 -- the rules of a blocking kind
 pub record IsBlocking (k : Rules) : Type 0 where
@@ -125,15 +128,18 @@ only_waiter k w ws ss rs s Stay n h = absurd (not_below k.waiter k.signaller n.s
 only_waiter k w ws ss rs s Entry n h = let a = n.entry_signaller in let b = n.signaller_waiter in
     absurd (not_equal k.waiter k.entry (omega (arith, a, b)) (and_left _ _ h))
 only_waiter k w ws ss rs s (Waiter j) n h = refl
-only_waiter k w ws ss rs s (Signaller j) n h = absurd (not_below k.waiter k.signaller n.signaller_waiter (and_right _ _ (and_left _ _ h)))
-only_waiter k w ws ss rs s (UntilSeat j) n h = absurd (not_conditions (has_conditions k.mode) n.conditions (and_left _ _ h))
+only_waiter k w ws ss rs s (Signaller j) n h =
+    absurd (not_below k.waiter k.signaller n.signaller_waiter (and_right _ _ (and_left _ _ h)))
+only_waiter k w ws ss rs s (UntilSeat j) n h =
+    absurd (not_conditions (has_conditions k.mode) n.conditions (and_left _ _ h))
 
 drop_served : (b : Bool) (y : ℕ) → b ≡ true → drop (cond b 1 0) (y ∷ []) ≡ []
 drop_served true y h = refl
 drop_served false y h = absurd (false≢true h)
 
 emptied_signal : (k : Rules) (ws qs ss rs : List ℕ) (s : ℕ) (x : Next) → IsBlocking k → ws ≡ []
-    → cond (is_empty qs) (is_stay (Some x)) (may_signal k (record { waiters = ws ++ take 1 qs; signallers = ss; ready = rs }) s x) ≡ true
+    → cond (is_empty qs) (is_stay (Some x))
+    (may_signal k (record { waiters = ws ++ take 1 qs; signallers = ss; ready = rs }) s x) ≡ true
     → drop (cond (is_waiter (Some x)) 1 0) (ws ++ take 1 qs) ≡ []
 emptied_signal k ws [] ss rs s x n e p = drop_nobody (is_waiter (Some x)) ws [] e refl
 emptied_signal k ws (y ∷ ys) ss rs s x n e p =
@@ -158,7 +164,8 @@ emptied_after m t (SignalWait s c d x) n h a = absurd (false≢true (sym n.retur
 -- under a blocking kind nobody is in the waiter queue between two events
 pub legal_emptied : (m : Monitor) (h : List Event) → IsBlocking m.kind → IsLegal m h → (situation m h).waiters ≡ []
 legal_emptied m h n l =
-    legal_induction m (λ t. t.waiters ≡ []) (ap (λ t. t.waiters) (situation-none m)) (λ t e s a. emptied_after m t e n s a) h l
+    legal_induction m (λ t. t.waiters ≡ []) (ap (λ t. t.waiters) (situation-none m))
+    (λ t e s a. emptied_after m t e n s a) h l
 
 -- where there is no signaller queue nobody is ever in it
 unsignalled_after : (m : Monitor) (t : Situation) (e : Event) → has_signaller_queue m.kind.mode ≡ false
@@ -170,4 +177,5 @@ unsignalled_after m t e n h a =
 pub legal_unsignalled : (m : Monitor) (h : List Event) → has_signaller_queue m.kind.mode ≡ false → IsLegal m h
     → (situation m h).signallers ≡ []
 legal_unsignalled m h n l =
-    legal_induction m (λ t. t.signallers ≡ []) (ap (λ t. t.signallers) (situation-none m)) (λ t e s a. unsignalled_after m t e n s a) h l
+    legal_induction m (λ t. t.signallers ≡ []) (ap (λ t. t.signallers) (situation-none m))
+    (λ t e s a. unsignalled_after m t e n s a) h l

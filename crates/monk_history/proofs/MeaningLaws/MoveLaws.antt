@@ -108,7 +108,8 @@ caller_inside n t (SignalLeave s c x) p h = goes_out (t.inside s) (s == s) (eq-e
 caller_inside n t (Until s q x) p h = stays_there (t.inside s) (s == s) (with_turn n s t p (owned_one s t.turn h))
 caller_inside n t (Resume s q) p h = stays_there (t.inside s) (s == s) (with_turn n s t p (due_one s q t.turn h))
 caller_inside n t (SignalAll s c) p h = stays_there (t.inside s) (s == s) (with_turn n s t p (owned_one s t.turn h))
-caller_inside n t (SignalWait s c d x) p h = stays_there (t.inside s) (s == s) (with_turn n s t p (owned_one s t.turn h))
+caller_inside n t (SignalWait s c d x) p h =
+    stays_there (t.inside s) (s == s) (with_turn n s t p (owned_one s t.turn h))
 
 -- before an event no other seat has the turn
 not_owned : (s j : ℕ) (t : Turn) → j ≢ s → is_owned_by s t ≡ true → has_turn j t ≡ 0
@@ -118,7 +119,8 @@ not_owned s j (Owned i) n h = ap (λ b. cond b 1 0) (ap (λ x. x == j) (eqb-true
 
 not_due : (s j : ℕ) (q : From3) (t : Turn) → j ≢ s → is_due s q t ≡ true → has_turn j t ≡ 0
 not_due s j q Open n h = refl
-not_due s j q (Due i r) n h = ap (λ b. cond b 1 0) (ap (λ x. x == j) (eqb-true i s (and_left (i == s) _ h)) ∙ not_same j s n)
+not_due s j q (Due i r) n h =
+    ap (λ b. cond b 1 0) (ap (λ x. x == j) (eqb-true i s (and_left (i == s) _ h)) ∙ not_same j s n)
 not_due s j q (Owned i) n h = absurd (false≢true h)
 
 not_open : (j : ℕ) (t : Turn) → is_open t ≡ true → has_turn j t ≡ 0
@@ -130,7 +132,8 @@ other_turn : (t : Situation) (e : Event) (j : ℕ) → j ≢ seat_of e → is_in
 other_turn t e j n = by_source (via_of e) (source_of e)
   where
     by_source : (v : Option Via) (r : Option From3)
-        → cond (is_some v) (is_open t.turn) (option_map_or (λ q. is_due (seat_of e) q t.turn) r (is_owned_by (seat_of e) t.turn)) ≡ true
+        → cond (is_some v) (is_open t.turn)
+        (option_map_or (λ q. is_due (seat_of e) q t.turn) r (is_owned_by (seat_of e) t.turn)) ≡ true
         → has_turn j t.turn ≡ 0
     by_source (Some via) r h = not_open j t.turn h
     by_source None (Some q) h = not_due (seat_of e) j q t.turn n h
@@ -146,8 +149,10 @@ turn_grants s j (Some (Signaller i)) n = refl
 turn_grants s j (Some (UntilSeat i)) n = refl
 
 -- a chosen seat stands in a queue that is chosen from, and is not the caller if that is the signaller queue
-chosen_in : (k : Rules) (q : Queues) (s j : ℕ) (x : Next) (n : ℕ) → may_choose k q s x ≡ true → chooses_seat j (Some x) ≡ true
-    → (1 ≤ times j q.waiters → 1 ≤ n) → (1 ≤ times j q.signallers → j ≢ s → 1 ≤ n) → (1 ≤ times j q.ready → 1 ≤ n) → 1 ≤ n
+chosen_in : (k : Rules) (q : Queues) (s j : ℕ) (x : Next) (n : ℕ) → may_choose k q s x ≡ true
+    → chooses_seat j (Some x) ≡ true
+    → (1 ≤ times j q.waiters → 1 ≤ n) → (1 ≤ times j q.signallers → j ≢ s → 1 ≤ n)
+    → (1 ≤ times j q.ready → 1 ≤ n) → 1 ≤ n
 chosen_in k q s j Stay n h g w f r = absurd (false≢true g)
 chosen_in k q s j Entry n h g w f r = absurd (false≢true g)
 chosen_in k q s j (Waiter i) n h g w f r =
@@ -161,8 +166,10 @@ chosen_in k q s j (UntilSeat i) n h g w f r =
     let e : i ≡ j = eqb-true i j g in
     r (subst (λ z. 1 ≤ times z q.ready) e (front_times i q.ready (and_right (not (has_conditions k.mode)) _ h)))
 
-signalled_in : (k : Rules) (q : Queues) (s j : ℕ) (x : Next) (n : ℕ) → may_signal k q s x ≡ true → chooses_seat j (Some x) ≡ true
-    → (1 ≤ times j q.waiters → 1 ≤ n) → (1 ≤ times j q.signallers → j ≢ s → 1 ≤ n) → (1 ≤ times j q.ready → 1 ≤ n) → 1 ≤ n
+signalled_in : (k : Rules) (q : Queues) (s j : ℕ) (x : Next) (n : ℕ) → may_signal k q s x ≡ true
+    → chooses_seat j (Some x) ≡ true
+    → (1 ≤ times j q.waiters → 1 ≤ n) → (1 ≤ times j q.signallers → j ≢ s → 1 ≤ n)
+    → (1 ≤ times j q.ready → 1 ≤ n) → 1 ≤ n
 signalled_in k q s j Stay n h g w f r = absurd (false≢true g)
 signalled_in k q s j Entry n h g w f r = absurd (false≢true g)
 signalled_in k q s j (Waiter i) n h g w f r = chosen_in k q s j (Waiter i) n h g w f r
@@ -176,7 +183,8 @@ in_queue_waiters m t e j a h =
       arith,
       h,
       times-append j t.waiters (serves t.condition e),
-      serves_times m.conds t.condition e j (and_right _ _ (and_left _ (fits_object m.object.codes m.object.predicates e) a.in_range)),
+      serves_times m.conds t.condition e j
+          (and_right _ _ (and_left _ (fits_object m.object.codes m.object.predicates e) a.in_range)),
     )
 
 in_queue_signallers : (m : Monitor) (t : Situation) (e : Event) (j : ℕ)
@@ -184,10 +192,12 @@ in_queue_signallers : (m : Monitor) (t : Situation) (e : Event) (j : ℕ)
 in_queue_signallers m t e j h n =
     ⊎_elim
     (λ k. omega (arith, k))
-    (λ k. absurd (n (sym (caller_signals t.condition e j (omega (arith, h, k, times-append j t.signallers (signals t.condition e)))))))
+    (λ k. absurd (n (sym (caller_signals t.condition e j
+    (omega (arith, h, k, times-append j t.signallers (signals t.condition e)))))))
     (cases_lt 0 (times j t.signallers))
 
-in_queue_ready : (m : Monitor) (t : Situation) (e : Event) (j : ℕ) → 1 ≤ times j (queues_at m.object t e).ready → 1 ≤ in_queues m.conds j t
+in_queue_ready : (m : Monitor) (t : Situation) (e : Event) (j : ℕ) → 1 ≤ times j (queues_at m.object t e).ready
+    → 1 ≤ in_queues m.conds j t
 in_queue_ready m t e j h = omega (arith, h, times_filter m.object t.state t.untils j)
 
 -- what stays names nobody
@@ -202,7 +212,8 @@ unless : (b x y : Bool) → cond b x y ≡ true → (x ≡ true → ⊥) → y �
 unless true x y h f = absurd (f h)
 unless false x y h f = h
 
-chosen_queued : (m : Monitor) (t : Situation) (e : Event) (j : ℕ) → IsAllowedIn m t e → grants j e ≡ true → 1 ≤ in_queues m.conds j t
+chosen_queued : (m : Monitor) (t : Situation) (e : Event) (j : ℕ) → IsAllowedIn m t e → grants j e ≡ true
+    → 1 ≤ in_queues m.conds j t
 chosen_queued m t e j a = one (must_stay m.object t e) (is_some (steps_back e)) (next_of e) a.permitted
   where
     one : (stays steps : Bool) (x : Option Next)
@@ -235,7 +246,8 @@ at_most false = omega arith
 pub queued_once : (m : Monitor) (h : List Event) → IsLegal m h → (s : ℕ) → in_queues m.conds s (situation m h) ≤ 1
 queued_once m h l s = omega (arith, legal_placed m h l s, at_most (is_inside s h))
 
-not_caller : (m : Monitor) (t : Situation) (e : Event) (j : ℕ) → IsPlaced m.conds t → IsAllowedIn m t e → grants j e ≡ true → j ≢ seat_of e
+not_caller : (m : Monitor) (t : Situation) (e : Event) (j : ℕ) → IsPlaced m.conds t → IsAllowedIn m t e
+    → grants j e ≡ true → j ≢ seat_of e
 not_caller m t e j p a g d =
     let q = chosen_queued m t e j a g in
     let z : in_queues m.conds j t ≡ 0 = subst (λ x. in_queues m.conds x t ≡ 0) (sym d) (caller_unqueued m t e p a) in
@@ -297,13 +309,17 @@ stands_after m h e l a =
     let p = legal_placed m h l in
     let p2 = legal_placed m (h ++ e ∷ []) (legal-push m h e l a) in
     let self = seat_of e in
-    let own : is_inside self (h ++ e ∷ []) ≡ not (is_way_out e) = inside-push self h e ∙ caller_inside m.conds t e p a.in_turn in
-    let owned : ◌≡◌ {A = ℕ} (cond (is_inside self (h ++ e ∷ [])) 1 0) (cond (not (is_way_out e)) 1 0) = ap (λ b. cond b 1 0) own in
+    let own : is_inside self (h ++ e ∷ []) ≡ not (is_way_out e) = inside-push self h e
+    ∙ caller_inside m.conds t e p a.in_turn in
+    let owned : ◌≡◌ {A = ℕ} (cond (is_inside self (h ++ e ∷ [])) 1 0) (cond (not (is_way_out e)) 1 0) =
+    ap (λ b. cond b 1 0) own in
     let kept : has_turn self u.turn ≡ cond (goes_on (next_of e)) 1 0 =
     ap (has_turn self) (turn-push h e)
     ∙ keeps_turn self (next_of e) (none_or (chooses_seat self (next_of e)) (λ g. not_caller m t e self p a g refl))
     in
-    let same = λ (j : ℕ) (n : j ≢ self). ap (λ b. cond {A = ℕ} b 1 0) (inside-push j h e ∙ other_inside j e (is_inside j h) n) in
+    let same =
+    λ (j : ℕ) (n : j ≢ self). ap (λ b. cond {A = ℕ} b 1 0)
+    (inside-push j h e ∙ other_inside j e (is_inside j h) n) in
     let turns = λ (j : ℕ) (n : j ≢ self). ap (has_turn j) (turn-push h e) ∙ turn_grants self j (next_of e) n in
     let named = λ (j : ℕ) (g : grants j e ≡ true). ap (λ b. cond {A = ℕ} b 1 0) g in
     record {

@@ -92,7 +92,8 @@ signaller_first k q s known wish n e =
     ∙ signaller_wins (nat_le k.waiter k.entry) (nat_le k.waiter k.signaller) (is_empty (inner_waiters k q))
     (waiter_choice k q) (signaller_choice q s) known wish (le_yes k.waiter k.signaller (omega (arith, b))))
 
-caller_first : (ss : List ℕ) (s : ℕ) → ss ≡ [] → cond (front (ss ++ s ∷ []) == s) Stay (Signaller (front (ss ++ s ∷ []))) ≡ Stay
+caller_first : (ss : List ℕ) (s : ℕ) → ss ≡ []
+    → cond (front (ss ++ s ∷ []) == s) Stay (Signaller (front (ss ++ s ∷ []))) ≡ Stay
 caller_first ss s e = ap (λ z. cond (front (z ++ s ∷ []) == s) Stay (Signaller (front (z ++ s ∷ [])))) e
     ∙ ap (λ b. cond b Stay (Signaller s)) (eq-eqb s s refl)
 
@@ -100,15 +101,18 @@ not_empty_push : (ss : List ℕ) (s : ℕ) → is_empty (ss ++ s ∷ []) ≡ fal
 not_empty_push [] s = refl
 not_empty_push (x ∷ xs) s = refl
 
-stay_choice : (k : Rules) (ws ss rs : List ℕ) (s : ℕ) (b : Bool) (known : Bool) (wish : Pick) → IsNonBlocking k → ss ≡ []
-    → Stay ≡ cond b Stay (choice_by k (record { waiters = ws; signallers = ss ++ cond b [] (s ∷ []); ready = rs }) s known wish)
+stay_choice : (k : Rules) (ws ss rs : List ℕ) (s : ℕ) (b : Bool) (known : Bool) (wish : Pick) → IsNonBlocking k
+    → ss ≡ []
+    → Stay ≡ cond b Stay (choice_by k
+    (record { waiters = ws; signallers = ss ++ cond b [] (s ∷ []); ready = rs }) s known wish)
 stay_choice k ws ss rs s true known wish n e = refl
 stay_choice k ws ss rs s false known wish n e =
     sym (signaller_first k (record { waiters = ws; signallers = ss ++ s ∷ []; ready = rs }) s known wish n
     (not_empty_push ss s) ∙ caller_first ss s e)
 
 -- under a non-blocking kind a signal stays
-pub signal_stays : (m : Monitor) (h : List Event) (s c : ℕ) (x : Next) (known : Bool) (wish : Pick) → IsNonBlocking m.kind → IsLegal m h
+pub signal_stays : (m : Monitor) (h : List Event) (s c : ℕ) (x : Next) (known : Bool) (wish : Pick)
+    → IsNonBlocking m.kind → IsLegal m h
     → Stay ≡ choice_of m.kind m.object (situation m h) (Signal s c x) known wish
 signal_stays m h s c x known wish n l =
     let t = situation m h in
@@ -128,7 +132,8 @@ waiter_single we se sw ws queue (y ∷ ys) other false WishEntry = refl
 waiter_single we se sw ws queue (y ∷ ys) other known WishWaiter = refl
 waiter_single we se sw ws queue (y ∷ ys) other known WishSignaller = refl
 
-single_waiter : (k : Rules) (q : Queues) (s : ℕ) (known : Bool) (wish : Pick) → has_conditions k.mode ≡ true → q.signallers ≡ []
+single_waiter : (k : Rules) (q : Queues) (s : ℕ) (known : Bool) (wish : Pick) → has_conditions k.mode ≡ true
+    → q.signallers ≡ []
     → choice_by k q s known wish ≡ single_choice FromWaiter (nat_le k.waiter k.entry) (slice_get q.waiters 0) known wish
 single_waiter k q s known wish h e =
     parts_are k q s known wish
@@ -139,7 +144,8 @@ single_waiter k q s known wish h e =
     ∙ waiter_single (nat_le k.waiter k.entry) (nat_le k.signaller k.entry) (nat_le k.signaller k.waiter)
     (nat_le k.waiter k.signaller) FromWaiter q.waiters (signaller_choice q s) known wish)
 
-single_ready : (k : Rules) (q : Queues) (s : ℕ) (known : Bool) (wish : Pick) → has_conditions k.mode ≡ false → q.signallers ≡ []
+single_ready : (k : Rules) (q : Queues) (s : ℕ) (known : Bool) (wish : Pick) → has_conditions k.mode ≡ false
+    → q.signallers ≡ []
     → choice_by k q s known wish ≡ single_choice FromUntil (nat_le k.waiter k.entry) (slice_get q.ready 0) known wish
 single_ready k q s known wish h e =
     parts_are k q s known wish
@@ -151,7 +157,8 @@ single_ready k q s known wish h e =
     (nat_le k.waiter k.signaller) FromUntil q.ready (signaller_choice q s) known wish)
 
 -- past the signallers alone, the caller not being their front
-signaller_single : (we se sw ws : Bool) (next : Next) (ss : List ℕ) (s : ℕ) (known : Bool) (wish : Pick) → is_front s ss ≡ false
+signaller_single : (we se sw ws : Bool) (next : Next) (ss : List ℕ) (s : ℕ) (known : Bool) (wish : Pick)
+    → is_front s ss ≡ false
     → parts we se sw ws true next (is_empty ss) (cond (front ss == s) Stay (Signaller (front ss))) known
     wish ≡ single_choice FromSignaller se (slice_get ss 0) known wish
 signaller_single we se sw ws next [] s true WishEntry h = refl
@@ -165,7 +172,8 @@ signaller_single we se sw ws next (y ∷ ys) s known WishSignaller h = ap (λ b.
 
 single_signaller : (k : Rules) (q : Queues) (s : ℕ) (known : Bool) (wish : Pick) → has_conditions k.mode ≡ true
     → q.waiters ≡ [] → is_front s q.signallers ≡ false
-    → choice_by k q s known wish ≡ single_choice FromSignaller (nat_le k.signaller k.entry) (slice_get q.signallers 0) known wish
+    → choice_by k q s known wish ≡ single_choice FromSignaller (nat_le k.signaller k.entry)
+    (slice_get q.signallers 0) known wish
 single_signaller k q s known wish h e f =
     parts_are k q s known wish
     ∙ ((λ i. parts (nat_le k.waiter k.entry) (nat_le k.signaller k.entry) (nat_le k.signaller k.waiter)
@@ -200,7 +208,8 @@ served_first k q s known wish n e =
     (signaller_choice q s) known wish)
     ∙ (ap (λ z. parts false (nat_le k.signaller k.entry) true false z (Waiter (front q.waiters)) (is_empty q.signallers)
     (signaller_choice q s) known wish) e
-    ∙ waiter_wins (nat_le k.signaller k.entry) (is_empty q.signallers) (Waiter (front q.waiters)) (signaller_choice q s) known wish))
+    ∙ waiter_wins (nat_le k.signaller k.entry) (is_empty q.signallers) (Waiter (front q.waiters))
+    (signaller_choice q s) known wish))
 
 -- past two queues of one priority
 equal_parts : (we : Bool) (ws ss : List ℕ) (s : ℕ) (known : Bool) (wish : Pick)
@@ -244,7 +253,8 @@ le_same : (x : ℕ) → nat_le x x ≡ true
 le_same x = le_yes x x (omega arith)
 
 equal_both : (k : Rules) (q : Queues) (s : ℕ) (known : Bool) (wish : Pick) → IsQuasiBlocking k
-    → choice_by k q s known wish ≡ equal_choice (nat_le k.waiter k.entry) (slice_get q.waiters 0) (slice_get q.signallers 0) s known wish
+    → choice_by k q s known wish ≡ equal_choice (nat_le k.waiter k.entry) (slice_get q.waiters 0)
+    (slice_get q.signallers 0) s known wish
 equal_both k q s known wish n =
     parts_are k q s known wish
     ∙ ((λ i. parts (nat_le k.waiter k.entry) (nat_le (sym n.equal i) k.entry) (nat_le (sym n.equal i) k.waiter)
@@ -298,7 +308,8 @@ ready_path m h e known wish l c a b =
 -- under a blocking kind a release that serves nobody looks at the signallers alone
 pub signaller_path : (m : Monitor) (h : List Event) (e : Event) (known : Bool) (wish : Pick) → IsBlocking m.kind
     → IsLegal m h → MayCall m h e
-    → must_stay m.object (situation m h) e ≡ false → serves (situation m h).condition e ≡ [] → signals (situation m h).condition e ≡ []
+    → must_stay m.object (situation m h) e ≡ false → serves (situation m h).condition e ≡ []
+    → signals (situation m h).condition e ≡ []
     → single_choice FromSignaller (nat_le m.kind.signaller m.kind.entry)
     (slice_get ((situation m h).signallers ++ signals (situation m h).condition e) 0) known wish ≡ choice_of m.kind
     m.object (situation m h) e known wish
@@ -329,11 +340,14 @@ served_case k ws (y ∷ ys) ss rs s known wish n e =
     (not_empty_push ws y) ∙ ap (λ z. Waiter (front (z ++ y ∷ []))) e)
 
 -- under a blocking kind a signal hands over to the seat that it serves
-pub served_path : (m : Monitor) (h : List Event) (s c : ℕ) (x : Next) (known : Bool) (wish : Pick) → IsBlocking m.kind → IsLegal m h
-    → served_choice (slice_get ((situation m h).condition c) 0) ≡ choice_of m.kind m.object (situation m h) (Signal s c x) known wish
+pub served_path : (m : Monitor) (h : List Event) (s c : ℕ) (x : Next) (known : Bool) (wish : Pick)
+    → IsBlocking m.kind → IsLegal m h
+    → served_choice (slice_get ((situation m h).condition c) 0)
+    ≡ choice_of m.kind m.object (situation m h) (Signal s c x) known wish
 served_path m h s c x known wish n l =
     let t = situation m h in
-    served_case m.kind t.waiters (t.condition c) t.signallers (ready_of m.object t.state t.untils) s known wish n (legal_emptied m h n l)
+    served_case m.kind t.waiters (t.condition c) t.signallers
+    (ready_of m.object t.state t.untils) s known wish n (legal_emptied m h n l)
 
 -- under a quasi-blocking kind waiters and signallers are of one priority
 pub equal_path : (m : Monitor) (h : List Event) (e : Event) (known : Bool) (wish : Pick) → IsQuasiBlocking m.kind

@@ -90,7 +90,8 @@ same_queues o t (SignalWait s c d x) = refl
 -- who was not ready is not ready when nobody is chosen and nobody ready joins
 some_ready : (o : Object) (d : List ℕ) (w : ℕ × ℕ) (us vs : List (ℕ × ℕ)) (b : Bool)
     → map (λ (u : ℕ × ℕ). u.0) (cond b (w ∷ filter (λ u. o.holds d u.1) us) (filter (λ u. o.holds d u.1) us)) ≡ []
-    → (map (λ (u : ℕ × ℕ). u.0) (filter (λ u. o.holds d u.1) us) ≡ [] → map (λ (u : ℕ × ℕ). u.0) (filter (λ u. o.holds d u.1) vs) ≡ [])
+    → (map (λ (u : ℕ × ℕ). u.0) (filter (λ u. o.holds d u.1) us) ≡ []
+    → map (λ (u : ℕ × ℕ). u.0) (filter (λ u. o.holds d u.1) vs) ≡ [])
     → map (λ (u : ℕ × ℕ). u.0) (cond b (w ∷ filter (λ u. o.holds d u.1) vs) (filter (λ u. o.holds d u.1) vs)) ≡ []
 some_ready o d w us vs true h f = absurd (false≢true (ap is_empty h))
 some_ready o d w us vs false h f = f h
@@ -98,7 +99,8 @@ some_ready o d w us vs false h f = f h
 none_ready : (o : Object) (d : List ℕ) (us vs : List (ℕ × ℕ)) → ready_of o d us ≡ [] → ready_of o d vs ≡ []
     → ready_of o d (filter (λ w. true) us ++ vs) ≡ []
 none_ready o d [] vs h k = k
-none_ready o d (w ∷ us) vs h k = some_ready o d w us (filter (λ u. true) us ++ vs) (o.holds d w.1) h (λ g. none_ready o d us vs g k)
+none_ready o d (w ∷ us) vs h k =
+    some_ready o d w us (filter (λ u. true) us ++ vs) (o.holds d w.1) h (λ g. none_ready o d us vs g k)
 
 joins_unready : (o : Object) (d : List ℕ) (s p : ℕ) → o.holds d p ≡ false → ready_of o d ((s, p) ∷ []) ≡ []
 joins_unready o d s p h = ap (λ b. map (λ (u : ℕ × ℕ). u.0) (cond b ((s, p) ∷ []) [])) h
@@ -131,19 +133,24 @@ ready_after o t (Enter s via) n b h = absurd (none_entry n)
 ready_after o t (Act s op r) n b h = absurd (none_entry n)
 ready_after o t (Resume s q) n b h = absurd (none_entry n)
 ready_after o t (Leave s x) n b h =
-    ap (λ y. ready_of o t.state (filter (λ w. not (is_until w.0 y)) t.untils ++ [])) n ∙ none_ready o t.state t.untils [] h refl
+    ap (λ y. ready_of o t.state (filter (λ w. not (is_until w.0 y)) t.untils ++ [])) n
+    ∙ none_ready o t.state t.untils [] h refl
 ready_after o t (Wait s c x) n b h =
-    ap (λ y. ready_of o t.state (filter (λ w. not (is_until w.0 y)) t.untils ++ [])) n ∙ none_ready o t.state t.untils [] h refl
+    ap (λ y. ready_of o t.state (filter (λ w. not (is_until w.0 y)) t.untils ++ [])) n
+    ∙ none_ready o t.state t.untils [] h refl
 ready_after o t (Signal s c x) n b h =
-    ap (λ y. ready_of o t.state (filter (λ w. not (is_until w.0 y)) t.untils ++ [])) n ∙ none_ready o t.state t.untils [] h refl
+    ap (λ y. ready_of o t.state (filter (λ w. not (is_until w.0 y)) t.untils ++ [])) n
+    ∙ none_ready o t.state t.untils [] h refl
 ready_after o t (SignalLeave s c x) n b h =
-    ap (λ y. ready_of o t.state (filter (λ w. not (is_until w.0 y)) t.untils ++ [])) n ∙ none_ready o t.state t.untils [] h refl
+    ap (λ y. ready_of o t.state (filter (λ w. not (is_until w.0 y)) t.untils ++ [])) n
+    ∙ none_ready o t.state t.untils [] h refl
 ready_after o t (Until s p x) n b h =
     ap (λ y. ready_of o t.state (filter (λ w. not (is_until w.0 y)) t.untils ++ cond (is_stay y) [] ((s, p) ∷ []))) n
     ∙ none_ready o t.state t.untils ((s, p) ∷ []) h (joins_unready o t.state s p b)
 ready_after o t (SignalAll s c) n b h = absurd (none_entry n)
 ready_after o t (SignalWait s c d x) n b h =
-    ap (λ y. ready_of o t.state (filter (λ w. not (is_until w.0 y)) t.untils ++ [])) n ∙ none_ready o t.state t.untils [] h refl
+    ap (λ y. ready_of o t.state (filter (λ w. not (is_until w.0 y)) t.untils ++ [])) n
+    ∙ none_ready o t.state t.untils [] h refl
 
 by_conditions : (b : Bool) (P : Type 0) → (b ≡ true → P) → (b ≡ false → P) → P
 by_conditions true P f g = f refl

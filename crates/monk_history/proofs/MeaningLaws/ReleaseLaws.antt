@@ -91,7 +91,8 @@ no_until : (b : Bool) → b ≡ true → not b ≡ true → ⊥
 no_until true h k = false≢true k
 no_until false h k = false≢true h
 
-serves_none : (mode : Mode) (q : ℕ → List ℕ) (e : Event) → has_conditions mode ≡ false → is_call_of mode e ≡ true → serves q e ≡ []
+serves_none : (mode : Mode) (q : ℕ → List ℕ) (e : Event) → has_conditions mode ≡ false
+    → is_call_of mode e ≡ true → serves q e ≡ []
 serves_none mode q (Enter s via) h o = refl
 serves_none mode q (Act s op r) h o = refl
 serves_none mode q (Leave s x) h o = refl
@@ -111,7 +112,8 @@ no_signallers ImmediateReturn h = refl
 no_signallers Automatic h = refl
 
 -- where there is no signaller queue nobody joins it
-pub signals_none : (mode : Mode) (q : ℕ → List ℕ) (e : Event) → has_signaller_queue mode ≡ false → is_call_of mode e ≡ true
+pub signals_none : (mode : Mode) (q : ℕ → List ℕ) (e : Event) → has_signaller_queue mode ≡ false
+    → is_call_of mode e ≡ true
     → signals q e ≡ []
 signals_none mode q (Enter s via) h o = refl
 signals_none mode q (Act s op r) h o = refl
@@ -124,7 +126,8 @@ signals_none mode q (Resume s r) h o = refl
 signals_none mode q (SignalAll s c) h o = refl
 signals_none mode q (SignalWait s c d x) h o = refl
 
-waits_until_none : (mode : Mode) (e : Event) → has_conditions mode ≡ true → is_call_of mode e ≡ true → waits_until e ≡ []
+waits_until_none : (mode : Mode) (e : Event) → has_conditions mode ≡ true → is_call_of mode e ≡ true
+    → waits_until e ≡ []
 waits_until_none mode (Enter s via) h o = refl
 waits_until_none mode (Act s op r) h o = refl
 waits_until_none mode (Leave s x) h o = refl
@@ -140,10 +143,14 @@ drop_none : (b : Bool) (xs ys : List ℕ) → xs ≡ [] → ys ≡ [] → drop (
 drop_none true xs ys h k = ap (λ z. drop 1 (z ++ ys)) h ∙ ap (drop 1) k
 drop_none false xs ys h k = ap (λ z. z ++ ys) h ∙ k
 
-sorted_after : (k : Rules) (o : Object) (t : Situation) (e : Event) → IsSorted k t → is_offered k e ≡ true → IsSorted k (after o t e)
+sorted_after : (k : Rules) (o : Object) (t : Situation) (e : Event) → IsSorted k t → is_offered k e ≡ true
+    → IsSorted k (after o t e)
 sorted_after k o t e s a = record {
-  untils = λ h. ap (λ us. filter (λ w. not (chooses e w)) us ++ waits_until e) (s.untils h) ∙ waits_until_none k.mode e h a;
-  waiters = λ h. drop_none (is_waiter (next_of e)) t.waiters (serves t.condition e) (s.waiters h) (serves_none k.mode t.condition e h a);
+  untils = λ h. ap (λ us. filter (λ w. not (chooses e w)) us ++ waits_until e) (s.untils h)
+      ∙ waits_until_none k.mode e h a;
+  waiters =
+      λ h. drop_none (is_waiter (next_of e)) t.waiters (serves t.condition e) (s.waiters h)
+      (serves_none k.mode t.condition e h a);
   signallers = λ h. drop_none (takes_signaller t.condition e) t.signallers (signals t.condition e) (s.signallers h)
       (signals_none k.mode t.condition e (no_signallers k.mode h) a);
 }
@@ -153,14 +160,16 @@ sorted_none m = subst (λ t. IsSorted m.kind t) (sym (situation-none m))
     (record { untils = λ h. refl; waiters = λ h. refl; signallers = λ h. refl })
 
 pub legal_sorted : (m : Monitor) (h : List Event) → IsLegal m h → IsSorted m.kind (situation m h)
-legal_sorted m h l = legal_induction m (IsSorted m.kind) (sorted_none m) (λ t e s a. sorted_after m.kind m.object t e s a.offered) h l
+legal_sorted m h l =
+    legal_induction m (IsSorted m.kind) (sorted_none m) (λ t e s a. sorted_after m.kind m.object t e s a.offered) h l
 
 pub sorted_queues : (k : Rules) (o : Object) (t : Situation) (e : Event) → IsSorted k t → is_offered k e ≡ true
     → IsQueuesOf k (queues_at o t e)
 sorted_queues k o t e s a = record {
   ready = λ h. ap (ready_of o t.state) (s.untils h);
   waiters = λ h. ap (λ ws. ws ++ serves t.condition e) (s.waiters h) ∙ serves_none k.mode t.condition e h a;
-  signallers = λ h. ap (λ ws. ws ++ signals t.condition e) (s.signallers h) ∙ signals_none k.mode t.condition e (no_signallers k.mode h) a;
+  signallers = λ h. ap (λ ws. ws ++ signals t.condition e) (s.signallers h)
+      ∙ signals_none k.mode t.condition e (no_signallers k.mode h) a;
 }
 
 -- who is inside is a seat
@@ -173,7 +182,8 @@ lt_of x n h = grind (arith, h)
 lt_to : (x n : ℕ) → x < n → nat_lt x n ≡ true
 lt_to x n h = grind (arith, h)
 
-pub seat_in_range : (seats conds codes predicates : ℕ) (e : Event) → is_in_range seats conds codes predicates e ≡ true → seat_of e < seats
+pub seat_in_range : (seats conds codes predicates : ℕ) (e : Event)
+    → is_in_range seats conds codes predicates e ≡ true → seat_of e < seats
 seat_in_range seats conds codes predicates e h =
     lt_of (seat_of e) seats
     (and_left (nat_lt (seat_of e) seats) _
@@ -187,11 +197,13 @@ or_either : (P : Type 0) (a b : Bool) → (a || b) ≡ true → (a ≡ true → 
 or_either P true b h f g = f refl
 or_either P false b h f g = g h
 
-seated_after : (m : Monitor) (t : Situation) (e : Event) → IsSeated m.seats t → IsAllowedIn m t e → IsSeated m.seats (after m.object t e)
+seated_after : (m : Monitor) (t : Situation) (e : Event) → IsSeated m.seats t → IsAllowedIn m t e
+    → IsSeated m.seats (after m.object t e)
 seated_after m t e s a j h =
     or_either (j < m.seats) (t.inside j && not (is_exit_of j e)) (is_enter_of j e) h
     (λ b. s j (and_left _ _ b))
-    (λ b. subst (λ x. x < m.seats) (enters_seat j e b) (seat_in_range m.seats m.conds m.object.codes m.object.predicates e a.in_range))
+    (λ b. subst (λ x. x < m.seats) (enters_seat j e b)
+    (seat_in_range m.seats m.conds m.object.codes m.object.predicates e a.in_range))
 
 seated_none : (m : Monitor) → IsSeated m.seats (situation m [])
 seated_none m = subst (λ t. IsSeated m.seats t) (sym (situation-none m)) (λ j h. absurd (false≢true h))
@@ -226,7 +238,8 @@ cond_le_one : (b : Bool) → ◌≤◌ (cond b 1 0) 1
 cond_le_one true = omega arith
 cond_le_one false = omega arith
 
-pub times_filter : (o : Object) (d : List ℕ) (us : List (ℕ × ℕ)) (j : ℕ) → times j (ready_of o d us) ≤ times j (map (λ w. w.0) us)
+pub times_filter : (o : Object) (d : List ℕ) (us : List (ℕ × ℕ)) (j : ℕ)
+    → times j (ready_of o d us) ≤ times j (map (λ w. w.0) us)
 times_filter o d [] j = omega arith
 times_filter o d (u ∷ us) j = one (o.holds d u.1) (times_filter o d us j)
   where
@@ -251,7 +264,8 @@ named_chosen : (k : Rules) (q : Queues) (s seats : ℕ) (x : Next) → IsWithin 
 named_chosen k q s seats Stay w h = refl
 named_chosen k q s seats Entry w h = refl
 named_chosen k q s seats (Waiter j) w h = named_one seats j (w.waiters j (front_times j q.waiters (and_left _ _ h)))
-named_chosen k q s seats (Signaller j) w h = named_one seats j (w.signallers j (front_times j q.signallers (and_left _ _ (and_left _ _ h))))
+named_chosen k q s seats (Signaller j) w h =
+    named_one seats j (w.signallers j (front_times j q.signallers (and_left _ _ (and_left _ _ h))))
 named_chosen k q s seats (UntilSeat j) w h = named_one seats j (w.ready j (front_times j q.ready (and_right _ _ h)))
 
 named_signalled : (k : Rules) (q : Queues) (s seats : ℕ) (x : Next) → IsWithin seats q → may_signal k q s x ≡ true
@@ -311,7 +325,8 @@ pub caller_apart : (m : Monitor) (t : Situation) (e : Event) → IsPlaced m.cond
 caller_apart m t e p = by_source (via_of e) (source_of e)
   where
     by_source : (v : Option Via) (r : Option From3)
-        → cond (is_some v) (is_open t.turn) (option_map_or (λ q. is_due (seat_of e) q t.turn) r (is_owned_by (seat_of e) t.turn)) ≡ true
+        → cond (is_some v) (is_open t.turn)
+        (option_map_or (λ q. is_due (seat_of e) q t.turn) r (is_owned_by (seat_of e) t.turn)) ≡ true
         → option_map_or (λ via. not (t.inside (seat_of e)) && may_enter m.object t via) v true ≡ true
         → IsApart m.conds (seat_of e) t
     by_source (Some via) r h k = apart_outside m.conds (seat_of e) t p (and_left _ _ k)
@@ -382,7 +397,8 @@ within_queues m t e p s r = record {
     p j,
     h,
     times-append j t.waiters (serves t.condition e),
-    serves_times m.conds t.condition e j (and_right _ _ (and_left _ (fits_object m.object.codes m.object.predicates e) r)),
+    serves_times m.conds t.condition e j
+        (and_right _ _ (and_left _ (fits_object m.object.codes m.object.predicates e) r)),
   )));
   signallers = λ j h. ⊎_elim
       (λ k. s j (some_true (t.inside j) (omega (arith, p j, k))))
@@ -401,14 +417,17 @@ pub record IsInOrder (m : Monitor) (t : Situation) : Type 0 where
   pub seated : IsSeated m.seats t
 
 pub legal_order : (m : Monitor) (h : List Event) → IsKind m.kind → IsLegal m h → IsInOrder m (situation m h)
-legal_order m h k l = record { kind = k; sorted = legal_sorted m h l; placed = legal_placed m h l; seated = legal_seated m h l }
+legal_order m h k l =
+    record { kind = k; sorted = legal_sorted m h l; placed = legal_placed m h l; seated = legal_seated m h l }
 
 -- a release that must choose
 must_choose : (m : Monitor) (t : Situation) (e : Event) (known : Bool) (wish : Pick) → IsInOrder m t → MayCallIn m t e
     → signals t.condition e ≡ []
-    → may_choose m.kind (queues_at m.object t e) (seat_of e) (choice_by m.kind (queues_at m.object t e) (seat_of e) known wish) ≡ true
+    → may_choose m.kind (queues_at m.object t e) (seat_of e)
+    (choice_by m.kind (queues_at m.object t e) (seat_of e) known wish) ≡ true
 must_choose m t e known wish i c z =
-    choice_permitted m.kind (queues_at m.object t e) (seat_of e) known wish i.kind (sorted_queues m.kind m.object t e i.sorted c.offered)
+    choice_permitted m.kind (queues_at m.object t e) (seat_of e) known wish i.kind
+    (sorted_queues m.kind m.object t e i.sorted c.offered)
     (front_absent (seat_of e) (t.signallers ++ signals t.condition e)
     (omega (
       arith,
@@ -420,7 +439,8 @@ must_choose m t e known wish i c z =
 -- the choice of a release that must choose names seats
 must_name : (m : Monitor) (t : Situation) (e : Event) (known : Bool) (wish : Pick) → IsInOrder m t → MayCallIn m t e
     → signals t.condition e ≡ []
-    → list_all (λ j. nat_lt j m.seats) (named_seat (Some (choice_by m.kind (queues_at m.object t e) (seat_of e) known wish))) ≡ true
+    → list_all (λ j. nat_lt j m.seats)
+    (named_seat (Some (choice_by m.kind (queues_at m.object t e) (seat_of e) known wish))) ≡ true
 must_name m t e known wish i c z =
     named_chosen m.kind (queues_at m.object t e) (seat_of e) m.seats _
     (within_queues m t e i.placed i.seated c.in_range) (must_choose m t e known wish i c z)
@@ -432,7 +452,8 @@ some_wait (w ∷ ws) qs h = refl
 
 served_choice : (m : Monitor) (t : Situation) (s c : ℕ) (y : Next) (known : Bool) (wish : Pick) → IsInOrder m t
     → MayCallIn m t (Signal s c y) → is_empty (t.condition c) ≡ false
-    → may_signal m.kind (queues_at m.object t (Signal s c y)) s (choice_by m.kind (queues_at m.object t (Signal s c y)) s known wish) ≡ true
+    → may_signal m.kind (queues_at m.object t (Signal s c y)) s
+    (choice_by m.kind (queues_at m.object t (Signal s c y)) s known wish) ≡ true
 served_choice m t s c y known wish i a z =
     signal_permitted m.kind (queues_at m.object t (Signal s c y)) s known wish i.kind
     (sorted_queues m.kind m.object t (Signal s c y) i.sorted a.offered)

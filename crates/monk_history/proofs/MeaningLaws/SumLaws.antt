@@ -23,11 +23,13 @@ either_side : (w : Event → ℕ) (b : Bool) (e : Event) (xs ys : List Event) (n
 either_side w true e xs ys n is = let a = sum_by-cons w e xs in omega (arith, a, is)
 either_side w false e xs ys n is = let a = sum_by-cons w e ys in omega (arith, a, is)
 
-sum_split : (w : Event → ℕ) (s : ℕ) (h : List Event) → sum_by w h ≡ sum_by w (events_of h s) + sum_by w (others_than s h)
+sum_split : (w : Event → ℕ) (s : ℕ) (h : List Event)
+    → sum_by w h ≡ sum_by w (events_of h s) + sum_by w (others_than s h)
 unfolding events_of others_than
 sum_split w s [] = refl
 sum_split w s (e ∷ es) = sum_by-cons w e es
-    ∙ either_side w (seat_of e == s) e (filter (λ x. seat_of x == s) es) (filter (λ x. not (seat_of x == s)) es) (sum_by w es)
+    ∙ either_side w (seat_of e == s) e (filter (λ x. seat_of x == s) es)
+    (filter (λ x. not (seat_of x == s)) es) (sum_by w es)
     (sum_split w s es)
 
 keeps_one : (p : Event → Bool) (b : Bool) (e : Event) (xs ys : List Event) → (b ≡ true → p e ≡ false) → filter p xs ≡ ys
@@ -40,7 +42,8 @@ others_same : (s t : ℕ) → s ≢ t → (h : List Event) → events_of (others
 unfolding events_of others_than
 others_same s t ne [] = refl
 others_same s t ne (e ∷ es) =
-    keeps_one (λ x. seat_of x == t) (seat_of e == s) e (filter (λ x. not (seat_of x == s)) es) (filter (λ x. seat_of x == t) es)
+    keeps_one (λ x. seat_of x == t) (seat_of e == s) e (filter (λ x. not (seat_of x == s)) es)
+    (filter (λ x. seat_of x == t) es)
     (λ is_s. apart (seat_of e) is_s) (others_same s t ne es)
   where
     apart : (n : ℕ) → (n == s) ≡ true → (n == t) ≡ false
@@ -55,7 +58,8 @@ drops_one p false e xs tells none = ap (λ (c : Bool). cond c (e ∷ filter p xs
 others_none : (s : ℕ) (h : List Event) → events_of (others_than s h) s ≡ []
 unfolding events_of others_than
 others_none s [] = refl
-others_none s (e ∷ es) = drops_one (λ x. seat_of x == s) (seat_of e == s) e (filter (λ x. not (seat_of x == s)) es) refl (others_none s es)
+others_none s (e ∷ es) =
+    drops_one (λ x. seat_of x == s) (seat_of e == s) e (filter (λ x. not (seat_of x == s)) es) refl (others_none s es)
 
 -- numbers that are the same one by one are the same added up
 pub same_sums : {X : Type 0} (f g : X → ℕ) (xs : List X) → All (λ x. f x ≡ g x) xs → sum_by f xs ≡ sum_by g xs
@@ -74,7 +78,8 @@ later_differ s ss apart k d within = apart zero (suc k) d (omega arith) (omega a
 rest_distinct : (s : ℕ) (ss : List ℕ) → AreDistinct (s ∷ ss) → AreDistinct ss
 rest_distinct s ss apart i j d lt within = apart (suc i) (suc j) d (omega arith) (omega arith)
 
--- the sum of a weight over a history is the sum over distinct seats of the sum over each one's events, and over the rest
+-- the sum of a weight over a history is the sum over distinct seats of the sum over each one's
+-- events, and over the rest
 pub sum_by_seats : (w : Event → ℕ) (ss : List ℕ) (h : List Event) → AreDistinct ss
     → sum_by w h ≡ sum_by (λ s. sum_by w (events_of h s)) ss + sum_by w (rest_of ss h)
 sum_by_seats w [] h apart = omega arith
@@ -102,7 +107,8 @@ first_is e es s is =
 -- nobody did anything
 nobody : (h : List Event) → ((t : ℕ) → events_of h t ≡ []) → h ≡ []
 nobody [] none = refl
-nobody (e ∷ es) none = absurd (let z = ap length (sym (first_is e es (seat_of e) refl) ∙ none (seat_of e)) in omega (arith, z))
+nobody (e ∷ es) none =
+    absurd (let z = ap length (sym (first_is e es (seat_of e) refl) ∙ none (seat_of e)) in omega (arith, z))
 
 -- where no other seat has an event, nothing is left
 pub no_rest : (ss : List ℕ) (h : List Event) → ((t : ℕ) → All (λ s. s ≢ t) ss → events_of h t ≡ []) → rest_of ss h ≡ []

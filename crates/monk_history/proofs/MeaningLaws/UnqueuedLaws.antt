@@ -1,4 +1,5 @@
--- When a seat that stands in no queue may enter, and whose turn it is by the last event: what a caller of a floor can see.
+-- When a seat that stands in no queue may enter, and whose turn it is by the last event: what a
+-- caller of a floor can see.
 use Rattle.std.proofs.Common.{◌≡◌, ℕ, ◌<◌, ◌-◌, Bool, true, false, ◌&&◌, not, List, [], ◌∷◌, ◌++◌, length, refl}
 use Rattle.std.proofs.Common.{sym, ap, subst, ◌∙◌, arith, length-append}
 use Rattle.std.specs.Prelude.{nat_lt, slice_get}
@@ -49,7 +50,8 @@ pub may_enter_first : (m : Monitor) (h : List Event) (s : ℕ) → IsLegal m h �
 may_enter_first m h s l t lt q b =
     let none : situation m h ≡ situation m [] = ap (λ x. situation m x) (none_is h b) in
     may_enter_free m h s t lt (outside m h s l t q)
-    (ap (λ (x : Situation). x.waiters) (none ∙ situation-none m)) (ap (λ (x : Situation). x.signallers) (none ∙ situation-none m))
+    (ap (λ (x : Situation). x.waiters) (none ∙ situation-none m))
+    (ap (λ (x : Situation). x.signallers) (none ∙ situation-none m))
     (ap (λ (x : Situation). ready_of m.object x.state x.untils) (none ∙ situation-none m))
 
 turn_at_none : turn_after (slice_get [] (length {A = Event} [] - 1)) ≡ turn []

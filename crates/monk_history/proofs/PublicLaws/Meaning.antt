@@ -48,7 +48,8 @@ pub use Rattle.monk_history.proofs.MeaningLaws.SumLaws.{sum_by_all_seats, sum_by
 pub use Rattle.monk_history.proofs.MeaningLaws.TestLaws.{and_left, and_right}
 -- Whose turn it is after one event more
 pub use Rattle.monk_history.proofs.MeaningLaws.TurnLaws.{turn-push}
--- A seat in no queue may enter where the turn is open: handed in once the history has begun, and free as its first event
+-- A seat in no queue may enter where the turn is open: handed in once the history has begun, and
+-- free as its first event
 pub use Rattle.monk_history.proofs.MeaningLaws.UnqueuedLaws.{may_enter_begun, may_enter_first}
 -- The turn is what the last event makes of it
 pub use Rattle.monk_history.proofs.MeaningLaws.UnqueuedLaws.{turn_at_last}

@@ -130,7 +130,8 @@ act_words a ws = decimal a.0.code ∷ decimal a.0.arg ∷ decimal a.1 ∷ ws
 three_words : (ws a b c : List Word) (x y z : Word) → ws ≡ x ∷ a → a ≡ y ∷ b → b ≡ z ∷ c → ws ≡ x ∷ y ∷ z ∷ c
 three_words ws a b c x y z e0 e1 e2 = cc
 
-pub act_takes : (ws : List Word) (x : (Op × ℕ) × List Word) → act_at ws ≡ Ok x → (ws ≡ act_words x.0 x.1) × (x.0.0.code ≤ 255)
+pub act_takes : (ws : List Word) (x : (Op × ℕ) × List Word) → act_at ws ≡ Ok x
+    → (ws ≡ act_words x.0 x.1) × (x.0.0.code ≤ 255)
     × (x.0.0.arg ≤ 2 ^ 32 - 1) × (x.0.1 ≤ 2 ^ 64 - 1)
 unfolding act_at
 act_takes ws x e =
@@ -167,12 +168,14 @@ after_act s op reply code arg fits = rw (act_again op reply code arg fits) refl
 
 -- what a line is where its verb and seat have been read
 abbrev Ends : Verb → ℕ → List Word → Event × List Word → Type 0
-Ends v s ws y = (verb_word v ∷ decimal s ∷ ws ≡ event_words y.0 ++ y.1) × EventFits y.0 × (verb_version v ≡ first_version y.0)
+Ends v s ws y = (verb_word v ∷ decimal s ∷ ws ≡ event_words y.0 ++ y.1) × EventFits y.0
+    × (verb_version v ≡ first_version y.0)
 
 abbrev behind : Verb → ℕ → List Word → List Word
 behind v s ws = verb_word v ∷ decimal s ∷ ws
 
-event_after_takes : (v : Verb) (s : ℕ) (ws : List Word) (x : Event × List Word) → s ≤ 255 → event_after v s ws ≡ Ok x → Ends v s ws x
+event_after_takes : (v : Verb) (s : ℕ) (ws : List Word) (x : Event × List Word) → s ≤ 255
+    → event_after v s ws ≡ Ok x → Ends v s ws x
 unfolding event_after
 event_after_takes verb.Enter s ws x le e =
     let b = bind_ok (one_of via_word vias ws) (λ v. Ok (Enter s v.0, v.1)) x e in
@@ -185,11 +188,13 @@ event_after_takes verb.Leave s ws x le e =
 event_after_takes verb.Wait s ws x le e =
     let b = bind_ok (cond_next_at ws) (λ n. Ok (Wait s n.0.0 n.0.1, n.1)) x e in
     let t = cond_next_takes ws b.0 b.1 in
-    subst (Ends verb.Wait s ws) (ok_is (Wait s b.0.0.0 b.0.0.1, b.0.1) x b.2) (ap (behind verb.Wait s) t.0, (le, t.1, t.2), refl)
+    subst (Ends verb.Wait s ws) (ok_is (Wait s b.0.0.0 b.0.0.1, b.0.1) x b.2)
+    (ap (behind verb.Wait s) t.0, (le, t.1, t.2), refl)
 event_after_takes verb.Signal s ws x le e =
     let b = bind_ok (cond_next_at ws) (λ n. Ok (Signal s n.0.0 n.0.1, n.1)) x e in
     let t = cond_next_takes ws b.0 b.1 in
-    subst (Ends verb.Signal s ws) (ok_is (Signal s b.0.0.0 b.0.0.1, b.0.1) x b.2) (ap (behind verb.Signal s) t.0, (le, t.1, t.2), refl)
+    subst (Ends verb.Signal s ws) (ok_is (Signal s b.0.0.0 b.0.0.1, b.0.1) x b.2)
+    (ap (behind verb.Signal s) t.0, (le, t.1, t.2), refl)
 event_after_takes verb.SignalLeave s ws x le e =
     let b = bind_ok (cond_next_at ws) (λ n. Ok (SignalLeave s n.0.0 n.0.1, n.1)) x e in
     let t = cond_next_takes ws b.0 b.1 in
@@ -198,11 +203,13 @@ event_after_takes verb.SignalLeave s ws x le e =
 event_after_takes verb.Until s ws x le e =
     let b = bind_ok (cond_next_at ws) (λ n. Ok (Until s n.0.0 n.0.1, n.1)) x e in
     let t = cond_next_takes ws b.0 b.1 in
-    subst (Ends verb.Until s ws) (ok_is (Until s b.0.0.0 b.0.0.1, b.0.1) x b.2) (ap (behind verb.Until s) t.0, (le, t.1, t.2), refl)
+    subst (Ends verb.Until s ws) (ok_is (Until s b.0.0.0 b.0.0.1, b.0.1) x b.2)
+    (ap (behind verb.Until s) t.0, (le, t.1, t.2), refl)
 event_after_takes verb.Act s ws x le e =
     let b = bind_ok (act_at ws) (λ a. Ok (Act s a.0.0 a.0.1, a.1)) x e in
     let t = act_takes ws b.0 b.1 in
-    subst (Ends verb.Act s ws) (ok_is (Act s b.0.0.0 b.0.0.1, b.0.1) x b.2) (ap (behind verb.Act s) t.0, (le, t.1, t.2, t.3), refl)
+    subst (Ends verb.Act s ws) (ok_is (Act s b.0.0.0 b.0.0.1, b.0.1) x b.2)
+    (ap (behind verb.Act s) t.0, (le, t.1, t.2, t.3), refl)
 event_after_takes verb.Resume s ws x le e =
     let b = bind_ok (one_of from_word froms ws) (λ q. Ok (Resume s q.0, q.1)) x e in
     let t = one_of_takes from_word froms ws b.0 b.1 in
@@ -210,7 +217,8 @@ event_after_takes verb.Resume s ws x le e =
 event_after_takes verb.SignalAll s ws x le e =
     let b = bind_ok (number_at 255 ws) (λ c. Ok (SignalAll s c.0, c.1)) x e in
     let t = number_takes 255 ws b.0 b.1 in
-    subst (Ends verb.SignalAll s ws) (ok_is (SignalAll s b.0.0, b.0.1) x b.2) (ap (behind verb.SignalAll s) t.0, (le, t.1), refl)
+    subst (Ends verb.SignalAll s ws) (ok_is (SignalAll s b.0.0, b.0.1) x b.2)
+    (ap (behind verb.SignalAll s) t.0, (le, t.1), refl)
 event_after_takes verb.SignalWait s ws x le e =
     let a = bind_ok (number_at 255 ws) (λ c. cond_next_at c.1 >>= λ n. Ok (SignalWait s c.0 n.0.0 n.0.1, n.1)) x e in
     let b = bind_ok (cond_next_at a.0.1) (λ n. Ok (SignalWait s a.0.0 n.0.0 n.0.1, n.1)) x a.2 in
@@ -231,7 +239,8 @@ unfolding event_at
 event_takes version ws x e =
     let a = bind_ok (one_of verb_word (verbs_of version) ws)
     (λ v. number_at 255 v.1 >>= λ s. event_after v.0 s.0 s.1 >>= λ e. end_at e.1 >>= λ z. Ok (e.0, z.1)) x e in
-    let b = bind_ok (number_at 255 a.0.1) (λ s. event_after a.0.0 s.0 s.1 >>= λ e. end_at e.1 >>= λ z. Ok (e.0, z.1)) x a.2 in
+    let b = bind_ok (number_at 255 a.0.1)
+    (λ s. event_after a.0.0 s.0 s.1 >>= λ e. end_at e.1 >>= λ z. Ok (e.0, z.1)) x a.2 in
     let c = bind_ok (event_after a.0.0 b.0.0 b.0.1) (λ e. end_at e.1 >>= λ z. Ok (e.0, z.1)) x b.2 in
     let d = bind_ok (end_at c.0.1) (λ z. Ok (c.0.0, z.1)) x c.2 in
     let verb_is = one_of_takes verb_word (verbs_of version) ws a.0 a.1 in
@@ -241,14 +250,16 @@ event_takes version ws x e =
     let none = (end_takes c.0.1 d.0 d.1).0 in
     let whole : ws ≡ event_words c.0.0 = verb_is ∙ ap (λ (v : List Word). verb_word a.0.0 ∷ v) seat_is.0 ∙ event_is.0
     ∙ ap (λ (v : List Word). event_words c.0.0 ++ v) none ∙ append-nil (event_words c.0.0) in
-    let has : nat_le (first_version c.0.0) version ≡ true = ap (λ (n : ℕ). nat_le n version) (sym event_is.2) ∙ verb_has in
+    let has : nat_le (first_version c.0.0) version ≡ true = ap (λ (n : ℕ). nat_le n version) (sym event_is.2)
+    ∙ verb_has in
     subst (λ (y : Event × List Word). (ws ≡ event_words y.0) × FitsVersion version y.0) (ok_is (c.0.0, d.0.1) x d.2)
     (whole, (event_is.1, has))
 
 next_again_last : (n : Next) → NextFits n → next_at (next_words n) ≡ Ok (n, [])
 next_again_last n fits = ap next_at (sym (append-nil (next_words n))) ∙ next_again n [] fits
 
-cond_next_again_last : (c : ℕ) (n : Next) → c ≤ 255 → NextFits n → cond_next_at (decimal c ∷ next_words n) ≡ Ok ((c, n), [])
+cond_next_again_last : (c : ℕ) (n : Next) → c ≤ 255 → NextFits n
+    → cond_next_at (decimal c ∷ next_words n) ≡ Ok ((c, n), [])
 cond_next_again_last c n le fits =
     ap (λ (v : List Word). cond_next_at (decimal c ∷ v)) (sym (append-nil (next_words n)))
     ∙ cond_next_again c n [] le fits
@@ -257,7 +268,8 @@ pub verb_of_again : (version : ℕ) (v : Verb) → nat_le (verb_version v) versi
     → with_text verb_word (verbs_of version) (verb_word v) ≡ Some v
 verb_of_again version v has = kept_again verb_word (λ u. nat_le (verb_version u) version) verbs v has (verb_again v)
 
-event_from_after : (version : ℕ) (v : Verb) (s : ℕ) (ws : List Word) (e : Event) → nat_le (verb_version v) version ≡ true
+event_from_after : (version : ℕ) (v : Verb) (s : ℕ) (ws : List Word) (e : Event)
+    → nat_le (verb_version v) version ≡ true
     → s ≤ 255 → event_after v s ws ≡ Ok (e, []) → event_at version (verb_word v ∷ decimal s ∷ ws) ≡ Ok (e, [])
 unfolding event_at
 event_from_after version v s ws e has le h =
@@ -279,15 +291,18 @@ after_leave : (s : ℕ) (n : Next) → NextFits n → event_after verb.Leave s (
 unfolding event_after
 after_leave s n fits = rw (next_again_last n fits) refl
 
-after_wait : (s c : ℕ) (n : Next) → c ≤ 255 → NextFits n → event_after verb.Wait s (decimal c ∷ next_words n) ≡ Ok (Wait s c n, [])
+after_wait : (s c : ℕ) (n : Next) → c ≤ 255 → NextFits n
+    → event_after verb.Wait s (decimal c ∷ next_words n) ≡ Ok (Wait s c n, [])
 unfolding event_after
 after_wait s c n le fits = rw (cond_next_again_last c n le fits) refl
 
-after_until : (s c : ℕ) (n : Next) → c ≤ 255 → NextFits n → event_after verb.Until s (decimal c ∷ next_words n) ≡ Ok (Until s c n, [])
+after_until : (s c : ℕ) (n : Next) → c ≤ 255 → NextFits n
+    → event_after verb.Until s (decimal c ∷ next_words n) ≡ Ok (Until s c n, [])
 unfolding event_after
 after_until s c n le fits = rw (cond_next_again_last c n le fits) refl
 
-after_signal : (s c : ℕ) (n : Next) → c ≤ 255 → NextFits n → event_after verb.Signal s (decimal c ∷ next_words n) ≡ Ok (Signal s c n, [])
+after_signal : (s c : ℕ) (n : Next) → c ≤ 255 → NextFits n
+    → event_after verb.Signal s (decimal c ∷ next_words n) ≡ Ok (Signal s c n, [])
 unfolding event_after
 after_signal s c n le fits = rw (cond_next_again_last c n le fits) refl
 
@@ -313,7 +328,8 @@ event_again version (Enter s via) fits has =
 event_again version (Leave s n) fits has =
     event_from_after version verb.Leave s (next_words n) (Leave s n) has fits.0 (after_leave s n fits.1)
 event_again version (Wait s c n) fits has =
-    event_from_after version verb.Wait s (decimal c ∷ next_words n) (Wait s c n) has fits.0 (after_wait s c n fits.1 fits.2)
+    event_from_after version verb.Wait s (decimal c ∷ next_words n) (Wait s c n) has fits.0
+    (after_wait s c n fits.1 fits.2)
 event_again version (Signal s c n) fits has =
     event_from_after version verb.Signal s (decimal c ∷ next_words n) (Signal s c n) has fits.0
     (after_signal s c n fits.1 fits.2)
@@ -324,7 +340,8 @@ event_again version (Until s c n) fits has =
     event_from_after version verb.Until s (decimal c ∷ next_words n) (Until s c n) has fits.0
     (after_until s c n fits.1 fits.2)
 event_again version (Act s op reply) fits has =
-    event_from_after version verb.Act s (decimal op.code ∷ decimal op.arg ∷ decimal reply ∷ []) (Act s op reply) has fits.0
+    event_from_after version verb.Act s (decimal op.code ∷ decimal op.arg ∷ decimal reply ∷ [])
+    (Act s op reply) has fits.0
     (after_act s op reply fits.1 fits.2 fits.3)
 event_again version (Resume s q) fits has =
     event_from_after version verb.Resume s (from_word q ∷ []) (Resume s q) has fits (after_resume s q)

@@ -38,9 +38,11 @@ pub record IsNoFirstVerb (ws : List Word) : Type 0 where
 
 -- none of those that version 2 adds, in a version that has them
 abbrev pub IsNoLaterVerb : ℕ → List Word → Type 0
-IsNoLaterVerb version ws = 2 ≤ version → (is_next (codes "signal-all") ws ≡ false) × (is_next (codes "signal-wait") ws ≡ false)
+IsNoLaterVerb version ws = 2 ≤ version
+    → (is_next (codes "signal-all") ws ≡ false) × (is_next (codes "signal-wait") ws ≡ false)
 
-no_verb : (version : ℕ) (w : Word) (ws : List Word) → IsNoFirstVerb (w ∷ ws) → IsNoLaterVerb version (w ∷ ws) → (v : Verb)
+no_verb : (version : ℕ) (w : Word) (ws : List Word) → IsNoFirstVerb (w ∷ ws) → IsNoLaterVerb version (w ∷ ws)
+    → (v : Verb)
     → nat_le (verb_version v) version ≡ true → bytes_eq w (verb_word v) ≡ false
 no_verb version w ws first later verb.Enter has = first.enter
 no_verb version w ws first later verb.Act has = first.act
@@ -60,7 +62,8 @@ verb-none version [] first later = refl
 verb-none version (w ∷ ws) first later =
     rw (none_kept verb_word (λ v. nat_le (verb_version v) version) verbs w (no_verb version w ws first later)) refl
 
-pub next-next : (n : NextWord) (ws rest : List Word) → ws ≡ next_word n ∷ rest → one_of next_word all_next_words ws ≡ Ok (n, rest)
+pub next-next : (n : NextWord) (ws rest : List Word) → ws ≡ next_word n ∷ rest
+    → one_of next_word all_next_words ws ≡ Ok (n, rest)
 next-next n ws rest is = one_of-next next_word all_next_words n ws rest (next_word_again n) is
 
 pub next-none : (ws : List Word) → is_next (codes "stay") ws ≡ false → is_next (codes "entry") ws ≡ false

@@ -25,7 +25,8 @@ onto_unended : (x : ℕ) (ls : List (List ℕ)) → (x == 10) ≡ false → Unen
 onto_unended x [] other all = (rw other refl, tt)
 onto_unended x (l ∷ ls) other all = (rw (other, all.0) refl, all.1)
 
-cut_unended : (x : ℕ) (ls : List (List ℕ)) (b : Bool) → (x == 10) ≡ b → Unended ls → Unended (cond b ([] ∷ ls) (onto_first x ls))
+cut_unended : (x : ℕ) (ls : List (List ℕ)) (b : Bool) → (x == 10) ≡ b → Unended ls
+    → Unended (cond b ([] ∷ ls) (onto_first x ls))
 cut_unended x ls true at all = (refl, all)
 cut_unended x ls false other all = onto_unended x ls other all
 
@@ -41,21 +42,25 @@ take_unended (suc n) (l ∷ ls) all = (all.0, take_unended n ls all.1)
 abbrev ended : List ℕ → List ℕ
 ended l = l ++ 10 ∷ []
 
-lines_behind : (ls : List (List ℕ)) (rest : List ℕ) → Unended ls → lines_of (flat_map ended ls ++ rest) ≡ ls ++ lines_of rest
+lines_behind : (ls : List (List ℕ)) (rest : List ℕ) → Unended ls
+    → lines_of (flat_map ended ls ++ rest) ≡ ls ++ lines_of rest
 lines_behind [] rest all = refl
 lines_behind (l ∷ ls) rest all =
     let regrouped : (flat_map ended (l ∷ ls)) ++ rest ≡ l ++ 10 ∷ (flat_map ended ls ++ rest) = simp append_assoc in
     ap lines_of regrouped ∙ (cut_at (λ b. b == 10) l 10 (flat_map ended ls ++ rest) all.0 refl
     ∙ ap (λ (x : List (List ℕ)). l ∷ x) (lines_behind ls rest all.1))
 
-pub lines_of_first : (n : ℕ) (bytes rest : List ℕ) → lines_of (first_lines n bytes ++ rest) ≡ take n (lines_of bytes) ++ lines_of rest
-lines_of_first n bytes rest = lines_behind (take n (lines_of bytes)) rest (take_unended n (lines_of bytes) (lines_unended bytes))
+pub lines_of_first : (n : ℕ) (bytes rest : List ℕ)
+    → lines_of (first_lines n bytes ++ rest) ≡ take n (lines_of bytes) ++ lines_of rest
+lines_of_first n bytes rest =
+    lines_behind (take n (lines_of bytes)) rest (take_unended n (lines_of bytes) (lines_unended bytes))
 
 -- ---- lines up to a fault
 
 -- the fault is that of the line behind so many lines of ls, the first of which has the number n; and if that line is
 -- finished, then whatever comes behind it the fault is the same
-record Stops {B : Type 0} (read : List (List ℕ) → Result B ReadFault) (n : ℕ) (ls : List (List ℕ)) (f : ReadFault) : Type 0 where
+record Stops {B : Type 0} (read : List (List ℕ) → Result B ReadFault) (n : ℕ) (ls : List (List ℕ))
+    (f : ReadFault) : Type 0 where
   pub behind : ℕ
   pub at : f.line ≡ n + behind
   pub within : behind < length ls
@@ -89,8 +94,10 @@ item_fault_line {A = A} n (Err flaw.Number) g e = sym (same_line {B = A} (number
 
 -- ---- items
 
-one_more_line : {A : Type 0} (parse : List Word → Taken A) (room n : ℕ) (l : List ℕ) (zs : List (List ℕ)) → 0 < length zs
-    → items_at parse (suc room) n (l ∷ zs) ≡ (item_line parse n l >>= λ e. items_at parse room (suc n) zs >>= λ es. Ok (e ∷ es))
+one_more_line : {A : Type 0} (parse : List Word → Taken A) (room n : ℕ) (l : List ℕ) (zs : List (List ℕ))
+    → 0 < length zs
+    → items_at parse (suc room) n (l ∷ zs)
+    ≡ (item_line parse n l >>= λ e. items_at parse room (suc n) zs >>= λ es. Ok (e ∷ es))
 one_more_line parse room n l [] some = absurd (omega arith)
 one_more_line parse room n l (z ∷ zs) some = one_line parse room n l z zs
 
@@ -103,12 +110,14 @@ unfolding items_at
 none_left parse zero n = refl
 none_left parse (suc room) n = refl
 
-last_fault : {A : Type 0} (b : Bool) (n : ℕ) (f : ReadFault) → cond b (nothing {A = A}) (Err (end_fault n)) ≡ Err f → f.line ≡ n
+last_fault : {A : Type 0} (b : Bool) (n : ℕ) (f : ReadFault)
+    → cond b (nothing {A = A}) (Err (end_fault n)) ≡ Err f → f.line ≡ n
 last_fault true n f e = absurd cc
 last_fault {A = A} false n f e = sym (same_line {B = List A} (end_fault n) f e)
 
 -- the first line has the fault
-stops_here : {A : Type 0} (parse : List Word → Taken A) (room n : ℕ) (l : List ℕ) (ls : List (List ℕ)) (f : ReadFault) → f.line ≡ n
+stops_here : {A : Type 0} (parse : List Word → Taken A) (room n : ℕ) (l : List ℕ) (ls : List (List ℕ))
+    (f : ReadFault) → f.line ≡ n
     → (0 < length ls → (y : List ℕ) (ys : List (List ℕ)) → items_at parse room n (l ∷ y ∷ ys) ≡ Err f)
     → ItemsStop parse room n (l ∷ ls) f
 stops_here parse room n l ls f at again = (
@@ -122,7 +131,8 @@ stops_here parse room n l ls f at again = (
 )
 
 -- a line behind the first one has it
-stops_later : {A : Type 0} (parse : List Word → Taken A) (room n : ℕ) (l : List ℕ) (ls : List (List ℕ)) (f : ReadFault) (x : A)
+stops_later : {A : Type 0} (parse : List Word → Taken A) (room n : ℕ) (l : List ℕ) (ls : List (List ℕ))
+    (f : ReadFault) (x : A)
     → item_line parse n l ≡ Ok x → ItemsStop parse room (suc n) ls f → ItemsStop parse (suc room) n (l ∷ ls) f
 stops_later {A = A} parse room n l ls f x read (s, before) = (
   record {
@@ -145,7 +155,8 @@ stops_later {A = A} parse room n l ls f x read (s, before) = (
 )
 
 -- what stops the lines behind the first one stops all, where that one is read
-stops_by_rest : {A : Type 0} (parse : List Word → Taken A) (room n : ℕ) (l : List ℕ) (ls : List (List ℕ)) (f : ReadFault) (x : A)
+stops_by_rest : {A : Type 0} (parse : List Word → Taken A) (room n : ℕ) (l : List ℕ) (ls : List (List ℕ))
+    (f : ReadFault) (x : A)
     (r : Result (List A) ReadFault) → item_line parse n l ≡ Ok x → items_at parse room (suc n) ls ≡ r
     → (r >>= λ es. Ok (x ∷ es)) ≡ Err f
     → ((g : ReadFault) → items_at parse room (suc n) ls ≡ Err g → ItemsStop parse room (suc n) ls g)
@@ -155,7 +166,8 @@ stops_by_rest {A = A} parse room n l ls f x (Err g) read is all deeper =
     let same : g ≡ f = same_fault {B = List A} g f all in
     stops_later parse room n l ls f x read (deeper f (is ∙ ap (λ (y : ReadFault). Err y) same))
 
-stops_by_line : {A : Type 0} (parse : List Word → Taken A) (room n : ℕ) (l : List ℕ) (ls : List (List ℕ)) (f : ReadFault)
+stops_by_line : {A : Type 0} (parse : List Word → Taken A) (room n : ℕ) (l : List ℕ) (ls : List (List ℕ))
+    (f : ReadFault)
     (r : Result A ReadFault) → item_line parse n l ≡ r → 0 < length ls
     → (r >>= λ x. items_at parse room (suc n) ls >>= λ es. Ok (x ∷ es)) ≡ Err f
     → ((g : ReadFault) → items_at parse room (suc n) ls ≡ Err g → ItemsStop parse room (suc n) ls g)
@@ -177,7 +189,8 @@ items_stop parse room n (l ∷ []) f e =
     stops_here parse room n l [] f (last_fault (length l == 0) n f (sym (last_part parse room n l) ∙ e))
     (λ more. absurd (omega (arith, more)))
 items_stop {A = A} parse zero n (l ∷ next ∷ more) f e =
-    let long : f ≡ long_fault n = sym (same_fault {B = List A} (long_fault n) f (sym (too_long parse n l next more) ∙ e)) in
+    let long : f ≡ long_fault n =
+    sym (same_fault {B = List A} (long_fault n) f (sym (too_long parse n l next more) ∙ e)) in
     stops_here parse zero n l (next ∷ more) f (ap (λ (x : ReadFault). x.line) long)
     (λ some y ys. too_long parse n l y ys ∙ ap (λ (x : ReadFault). Err x) (sym long))
 items_stop parse (suc room) n (l ∷ next ∷ more) f e =
@@ -186,14 +199,16 @@ items_stop parse (suc room) n (l ∷ next ∷ more) f e =
 
 -- ---- the header, and the items behind it
 
-header_fault_is : {H : Type 0} (head : List Word → Taken H) (l : List ℕ) (t : Taken H) (g : ReadFault) → after_header t ≡ Err g
+header_fault_is : {H : Type 0} (head : List Word → Taken H) (l : List ℕ) (t : Taken H) (g : ReadFault)
+    → after_header t ≡ Err g
     → g ≡ header_fault
 header_fault_is head l (Ok x) g e = absurd cc
 header_fault_is {H = H} head l (Err d) g e = sym (same_fault {B = H} header_fault g e)
 
 opened_line : {H A : Type 0} (head : List Word → Taken H) (parse : H → List Word → Taken A) (limit : ℕ) (l : List ℕ)
     (zs : List (List ℕ)) → 0 < length zs
-    → lines_at head parse limit (l ∷ zs) ≡ (header_line head l >>= λ h. items_at (parse h) limit 2 zs >>= λ es. Ok (h, es))
+    → lines_at head parse limit (l ∷ zs)
+    ≡ (header_line head l >>= λ h. items_at (parse h) limit 2 zs >>= λ es. Ok (h, es))
 unfolding lines_at
 opened_line head parse limit l [] some = absurd (omega arith)
 opened_line head parse limit l (z ∷ zs) some = refl
@@ -202,17 +217,22 @@ first_line : (b : Bool) (f : ReadFault) → f ≡ cond b header_fault (end_fault
 first_line true f is = ap (λ (x : ReadFault). x.line) is
 first_line false f is = ap (λ (x : ReadFault). x.line) is
 
-alone_fault : {H A : Type 0} (head : List Word → Taken H) (parse : H → List Word → Taken A) (limit : ℕ) (l : List ℕ) (f : ReadFault)
+alone_fault : {H A : Type 0} (head : List Word → Taken H) (parse : H → List Word → Taken A) (limit : ℕ)
+    (l : List ℕ) (f : ReadFault)
     → lines_at head parse limit (l ∷ []) ≡ Err f → f.line ≡ 1
 unfolding lines_at
 alone_fault {H = H} {A = A} head parse limit l f e =
-    first_line (length l == 0) f (sym (same_fault {B = H × List A} (cond (length l == 0) header_fault (end_fault 1)) f e))
+    first_line (length l == 0) f (sym
+    (same_fault {B = H × List A} (cond (length l == 0) header_fault (end_fault 1)) f e))
 
-abbrev LinesStop : {H A : Type 0} → (List Word → Taken H) → (H → List Word → Taken A) → ℕ → List (List ℕ) → ReadFault → Type 0
+abbrev LinesStop : {H A : Type 0} → (List Word → Taken H) → (H → List Word → Taken A) → ℕ → List (List ℕ)
+    → ReadFault → Type 0
 LinesStop head parse limit ls f =
-    (s : Stops (lines_at head parse limit) 1 ls f) × (0 < s.behind → IsReadBefore (lines_at head parse limit) ls s.behind)
+    (s : Stops (lines_at head parse limit) 1 ls f)
+    × (0 < s.behind → IsReadBefore (lines_at head parse limit) ls s.behind)
 
-stops_behind_header : {H A : Type 0} (head : List Word → Taken H) (parse : H → List Word → Taken A) (limit : ℕ) (l : List ℕ)
+stops_behind_header : {H A : Type 0} (head : List Word → Taken H) (parse : H → List Word → Taken A) (limit : ℕ)
+    (l : List ℕ)
     (ls : List (List ℕ)) (f : ReadFault) (h : H) → header_line head l ≡ Ok h → ItemsStop (parse h) limit 2 ls f
     → LinesStop head parse limit (l ∷ ls) f
 stops_behind_header {H = H} {A = A} head parse limit l ls f h read (s, before) = (
@@ -263,7 +283,8 @@ stops_by_items {H = H} {A = A} head parse limit l ls f h (Err g) read is all =
 
 stops_by_header : {H A : Type 0} (head : List Word → Taken H) (parse : H → List Word → Taken A) (limit : ℕ) (l : List ℕ)
     (ls : List (List ℕ)) (f : ReadFault) (r : Result H ReadFault) → header_line head l ≡ r
-    → (r >>= λ h. items_at (parse h) limit 2 ls >>= λ es. opened_with h es) ≡ Err f → LinesStop head parse limit (l ∷ ls) f
+    → (r >>= λ h. items_at (parse h) limit 2 ls >>= λ es. opened_with h es) ≡ Err f
+    → LinesStop head parse limit (l ∷ ls) f
 stops_by_header head parse limit l ls f (Ok h) read all =
     stops_by_items head parse limit l ls f h (items_at (parse h) limit 2 ls) read refl all
 stops_by_header {H = H} {A = A} head parse limit l ls f (Err g) read all =
@@ -271,7 +292,8 @@ stops_by_header {H = H} {A = A} head parse limit l ls f (Err g) read all =
     stops_at_header head parse limit l ls f (read ∙ ap (λ (y : ReadFault). Err y) same)
 
 lines_stop : {H A : Type 0} (head : List Word → Taken H) (parse : H → List Word → Taken A) (limit : ℕ) (l : List ℕ)
-    (ls : List (List ℕ)) (f : ReadFault) → lines_at head parse limit (l ∷ ls) ≡ Err f → LinesStop head parse limit (l ∷ ls) f
+    (ls : List (List ℕ)) (f : ReadFault) → lines_at head parse limit (l ∷ ls) ≡ Err f
+    → LinesStop head parse limit (l ∷ ls) f
 lines_stop head parse limit l [] f e = (
   record {
     behind = 0;
@@ -321,17 +343,20 @@ stops_in limit bytes f e =
     (subst (λ (ls : List (List ℕ)). lines_at header_at event_under limit ls ≡ Err f) part.2 e))
 
 begins_before : (limit : ℕ) (bytes : List ℕ) (f : ReadFault) (i : ℕ)
-    → (0 < i → IsReadBefore (lines_at header_at event_under limit) (lines_of bytes) i) → BeginsText limit (first_lines i bytes)
+    → (0 < i → IsReadBefore (lines_at header_at event_under limit) (lines_of bytes) i)
+    → BeginsText limit (first_lines i bytes)
 begins_before limit bytes f zero before = any_text limit
 begins_before limit bytes f (suc i) before =
     let r = before (omega arith) in
     let front = first_lines (suc i) bytes in
-    let read : text_at limit (front ++ []) ≡ Ok r.0 = ap (lines_at header_at event_under limit) (lines_of_first (suc i) bytes []) ∙ r.1 in
+    let read : text_at limit (front ++ []) ≡ Ok r.0 =
+    ap (lines_at header_at event_under limit) (lines_of_first (suc i) bytes []) ∙ r.1 in
     let found = text_read limit (front ++ []) r.0 read in
     (r.0.0, r.0.1, [], found.has_text, found.few, sym found.whole)
 
 never_with : (limit : ℕ) (bytes : List ℕ) (f : ReadFault) (i : ℕ)
-    → ((y : List ℕ) (ys : List (List ℕ)) → lines_at header_at event_under limit (take (suc i) (lines_of bytes) ++ y ∷ ys) ≡ Err f)
+    → ((y : List ℕ) (ys : List (List ℕ))
+    → lines_at header_at event_under limit (take (suc i) (lines_of bytes) ++ y ∷ ys) ≡ Err f)
     → BeginsText limit (first_lines (suc i) bytes) → ⊥
 never_with limit bytes f i again (h, es, rest, has, few, same) =
     let part = some_part (λ b. b == 10) rest in
@@ -341,14 +366,17 @@ never_with limit bytes f i again (h, es, rest, has, few, same) =
     let right : text_at limit (first_lines (suc i) bytes ++ rest) ≡ Ok (history h es) =
     ap (text_at limit) (sym same) ∙ text_again limit h es has few in cc
 
-pub fault_is_first : (limit : ℕ) (bytes : List ℕ) (f : ReadFault) → text_at limit bytes ≡ Err f → IsFirstFaulty limit bytes f.line
+pub fault_is_first : (limit : ℕ) (bytes : List ℕ) (f : ReadFault) → text_at limit bytes ≡ Err f
+    → IsFirstFaulty limit bytes f.line
 fault_is_first limit bytes f e =
     let stop = stops_in limit bytes f e in
     let s = stop.0 in
     let line : f.line ≡ suc s.behind = s.at ∙ (let same : 1 + s.behind ≡ suc s.behind = omega arith in same) in
     let before : f.line - 1 ≡ s.behind = omega (arith, line) in
     record {
-      before = subst (λ (i : ℕ). BeginsText limit (first_lines i bytes)) (sym before) (begins_before limit bytes f s.behind stop.1);
+      before =
+          subst (λ (i : ℕ). BeginsText limit (first_lines i bytes)) (sym before)
+          (begins_before limit bytes f s.behind stop.1);
       never = λ finished begins.
           never_with limit bytes f s.behind (s.again (omega (arith, line, finished)))
           (subst (λ (i : ℕ). BeginsText limit (first_lines i bytes)) line begins);

@@ -9,7 +9,8 @@ use Rattle.monk_history.specs.Text.Places.{StandsAt}
 use Rattle.monk_history.proofs.TextLaws.LineCuts.{words_of-words, no_end_in_join}
 use Rattle.monk_history.proofs.TextLaws.TextFormats.{IsFormat}
 
-module _ {A : Type 0} (words : A → List Word) (parse : List Word → Taken A) (Fits : A → Type 0) (is : IsFormat words parse Fits) where
+module _ {A : Type 0} (words : A → List Word) (parse : List Word → Taken A) (Fits : A → Type 0)
+    (is : IsFormat words parse Fits) where
   item_stands : (bytes : List ℕ) (x : A) (count : ℕ) → StandsAt bytes 0 (line (words x)) count → Fits x
       → IsReadAs parse bytes (Ok x) (drop count bytes)
   item_stands bytes x count stands fits =

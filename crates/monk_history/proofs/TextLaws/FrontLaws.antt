@@ -54,7 +54,8 @@ front_is_one p (x ∷ xs) = front_more p x (p x) (slice_split p xs) refl (front_
 first_is_one : (p : ℕ → Bool) (xs first : List ℕ) (parts : List (List ℕ)) → slice_split p xs ≡ first ∷ parts
     → list_all (λ c. not (p c)) first ≡ true
 unfolding first_of
-first_is_one p xs first parts e = ap (λ (ps : List (List ℕ)). list_all (λ c. not (p c)) (first_of ps)) (sym e) ∙ front_is_one p xs
+first_is_one p xs first parts e = ap (λ (ps : List (List ℕ)). list_all (λ c. not (p c)) (first_of ps)) (sym e)
+    ∙ front_is_one p xs
 
 pub cut_begins : (bytes line rest : List ℕ) → lines_of bytes ≡ line ∷ lines_of rest → BeginsWith bytes line rest
 cut_begins bytes line rest cut =
@@ -63,7 +64,8 @@ cut_begins bytes line rest cut =
       one = first_is_one (λ b. b == 10) bytes line (lines_of rest) cut;
       whole = sym (join_with_byte-slice_split 10 bytes)
           ∙ (ap (join_with_byte 10) (cut ∙ ap (λ (ps : List (List ℕ)). line ∷ ps) p.2)
-          ∙ ap (λ (x : List ℕ). line ++ 10 ∷ x) (ap (join_with_byte 10) (sym p.2) ∙ join_with_byte-slice_split 10 rest));
+          ∙ ap (λ (x : List ℕ). line ++ 10 ∷ x)
+          (ap (join_with_byte 10) (sym p.2) ∙ join_with_byte-slice_split 10 rest));
     }
 
 pub cut_unended : (bytes : List ℕ) → lines_of bytes ≡ bytes ∷ [] → is_unended bytes ≡ true
@@ -79,14 +81,17 @@ pub read_ok : {A : Type 0} (n : ℕ) (t : Taken A) (x : A) → Ok x ≡ taken_al
 read_ok {A = A} n (Ok y) x e = let same : x ≡ y.0 = cc in ap (λ (z : A). Ok z) same
 read_ok n (Err f) x e = absurd cc
 
-pub read_flaw : {A : Type 0} (n : ℕ) (t : Taken A) (f : Flaw) → Err f ≡ taken_alone t → Err (flaw_at f n) ≡ with_line_number n t
+pub read_flaw : {A : Type 0} (n : ℕ) (t : Taken A) (f : Flaw) → Err f ≡ taken_alone t
+    → Err (flaw_at f n) ≡ with_line_number n t
 read_flaw n (Ok y) f e = absurd cc
 read_flaw n (Err g) f e = let same : f ≡ g = cc in ap (λ (x : Flaw). Err (flaw_at x n)) same
 
 -- ---- the line of an event
 
-pub event_stands : (version : ℕ) (bytes : List ℕ) (e : Event) (count : ℕ) → StandsAt bytes 0 (line (event_words e)) count
-    → EventFits e → nat_le (first_version e) version ≡ true → IsReadAs (event_at version) bytes (Ok e) (drop count bytes)
+pub event_stands : (version : ℕ) (bytes : List ℕ) (e : Event) (count : ℕ)
+    → StandsAt bytes 0 (line (event_words e)) count
+    → EventFits e → nat_le (first_version e) version ≡ true
+    → IsReadAs (event_at version) bytes (Ok e) (drop count bytes)
 event_stands version bytes e count stands fits has =
     let words = event_are_words e fits in
     record {

@@ -35,7 +35,8 @@ object_again Book = refl
 object_again Shop = refl
 object_again Flags = refl
 
-heading_fits : (v : ℕ) (k : KindName) (s c : ℕ) (o : ObjectName) (z : ℕ) (ws : List Word) (x : Heading × List Word) → z ≤ 255
+heading_fits : (v : ℕ) (k : KindName) (s c : ℕ) (o : ObjectName) (z : ℕ) (ws : List Word)
+    (x : Heading × List Word) → z ≤ 255
     → with_rest ws (heading_of v k s c o z) ≡ Ok x → (x ≡ (heading v k s c o z, ws)) × IsHeading (heading v k s c o z)
 heading_fits v k s c o z ws x le e =
     let versioned = nat_le 1 v && nat_le v newest_version && nat_le (object_version o) v in
@@ -61,7 +62,8 @@ heading_fits v k s c o z ws x le e =
       },
     )
 
-pub first_is : (k : KindName) (s c : ℕ) (o : ObjectName) (z : ℕ) → heading_of (object_version o) k s c o z ≡ first_heading_of k s c o z
+pub first_is : (k : KindName) (s c : ℕ) (o : ObjectName) (z : ℕ)
+    → heading_of (object_version o) k s c o z ≡ first_heading_of k s c o z
 first_is k s c Buffer z = refl
 first_is k s c Book z = refl
 first_is k s c Shop z = refl
@@ -133,14 +135,16 @@ parts_same h ws fits =
     rw (
       one_of_again kind_word kinds h.kind
           (decimal h.seats ∷ decimal h.conds ∷ object_word h.object ∷ decimal h.size ∷ ws) (kind_again h.kind),
-      number_again 255 h.seats (decimal h.conds ∷ object_word h.object ∷ decimal h.size ∷ ws) (lit< tt) (omega (arith, fits.seats)),
+      number_again 255 h.seats (decimal h.conds ∷ object_word h.object ∷ decimal h.size ∷ ws) (lit< tt)
+          (omega (arith, fits.seats)),
       number_again 255 h.conds (object_word h.object ∷ decimal h.size ∷ ws) (lit< tt) (omega (arith, fits.conds)),
       one_of_again object_word objects h.object (decimal h.size ∷ ws) (object_again h.object),
       number_again 255 h.size ws (lit< tt) fits.size,
       heading_again h fits,
     ) refl
 
-pub parts_again : (v : ℕ) (h : Heading) (ws : List Word) → h.version ≡ v → IsHeading h → parts_at v (part_words h ++ ws) ≡ Ok (h, ws)
+pub parts_again : (v : ℕ) (h : Heading) (ws : List Word) → h.version ≡ v → IsHeading h
+    → parts_at v (part_words h ++ ws) ≡ Ok (h, ws)
 parts_again v h ws is fits = subst (λ (n : ℕ). parts_at n (part_words h ++ ws) ≡ Ok (h, ws)) is (parts_same h ws fits)
 
 -- ---- the whole line
@@ -154,7 +158,8 @@ at_version v = parts_at v.0 v.1 >>= at_parts
 abbrev at_name : Unit {0} × List Word → Taken Heading
 at_name m = number_at 255 m.1 >>= at_version
 
-pub header_takes : (ws : List Word) (x : Heading × List Word) → header_at ws ≡ Ok x → (ws ≡ header_words x.0) × IsHeading x.0
+pub header_takes : (ws : List Word) (x : Heading × List Word) → header_at ws ≡ Ok x
+    → (ws ≡ header_words x.0) × IsHeading x.0
 unfolding header_at
 header_takes ws x e =
     let m = bind_ok (literal_at (codes "monk") ws) at_name x e in
@@ -170,7 +175,8 @@ header_takes ws x e =
     ∙ ap (λ (w : List Word). codes "monk" ∷ w)
     (version_is ∙ ap (λ (w : Word). w ∷ v.0.1) written ∙ ap (λ (w : List Word). decimal h.0.0.version ∷ w)
     (parts_are.0 ∙ ap (λ (w : List Word). part_words h.0.0 ++ w) none)) in
-    subst (λ (y : Heading × List Word). (ws ≡ header_words y.0) × IsHeading y.0) (ok_is (h.0.0, n.0.1) x n.2) (whole, parts_are.1)
+    subst (λ (y : Heading × List Word). (ws ≡ header_words y.0) × IsHeading y.0) (ok_is (h.0.0, n.0.1) x n.2)
+    (whole, parts_are.1)
 
 pub header_again : (h : Heading) → IsHeading h → header_at (header_words h) ≡ Ok (h, [])
 unfolding header_at

@@ -31,7 +31,8 @@ events h = record {
 }
 
 -- each event fits the version where each fits and all are writable
-fit_under : (h : Heading) (es : List Event) → AllByRecursion EventFits es → is_writable h es ≡ true → AllByRecursion (EventFitsUnder h) es
+fit_under : (h : Heading) (es : List Event) → AllByRecursion EventFits es → is_writable h es ≡ true
+    → AllByRecursion (EventFitsUnder h) es
 fit_under h [] fit has = tt
 fit_under h (e ∷ es) fit has =
     let p = both (nat_le (first_version e) h.version) (is_writable h es) has in
@@ -71,7 +72,8 @@ text_read limit bytes x e =
       whole = h.whole;
     }
 
-pub text_one : (h g : Heading) (es fs : List Event) → HasText h es → HasText g fs → text h es ≡ text g fs → history h es ≡ history g fs
+pub text_one : (h g : Heading) (es fs : List Event) → HasText h es → HasText g fs → text h es ≡ text g fs
+    → history h es ≡ history g fs
 text_one h g es fs one two same =
     let is = formats.text_one header_words header_at IsHeading headers event_words event_under EventFitsUnder events h g
     es fs one.header_fits (fit_under h es one.events_fit one.writable) two.header_fits

@@ -7,12 +7,14 @@ use Rattle.monk_history.specs.Text.Faults.{end_fault, long_fault}
 use Rattle.monk_history.specs.Text.Words.{◌>>=◌, Word, Taken}
 use Rattle.monk_history.specs.Text.Lines.{LinesLeft, lines_of, item_line, header_line, items_at, items_left, lines_at, opened_at}
 
-pub some_part : (p : ℕ → Bool) (xs : List ℕ) → (first : List ℕ) × (more : List (List ℕ)) × (slice_split p xs ≡ first ∷ more)
+pub some_part : (p : ℕ → Bool) (xs : List ℕ)
+    → (first : List ℕ) × (more : List (List ℕ)) × (slice_split p xs ≡ first ∷ more)
 some_part p [] = ([], [], refl)
 some_part p (x ∷ xs) = split_one (p x) x (some_part p xs)
   where
     split_one : (b : Bool) (x : ℕ) → (first : List ℕ) × (more : List (List ℕ)) × (slice_split p xs ≡ first ∷ more)
-        → (first : List ℕ) × (more : List (List ℕ)) × (cond b ([] ∷ slice_split p xs) (onto_first x (slice_split p xs)) ≡ first ∷ more)
+        → (first : List ℕ) × (more : List (List ℕ))
+        × (cond b ([] ∷ slice_split p xs) (onto_first x (slice_split p xs)) ≡ first ∷ more)
     split_one true x h = ([], slice_split p xs, refl)
     split_one false x h = (x ∷ h.0, h.1, ap (onto_first x) h.2)
 
@@ -55,7 +57,8 @@ is_done {A = A} parse l rest n room view parts empty = rw (view, parts) (last_pa
 pub is_unfinished : {A : Type 0} → (parse : List Word → Taken A) (l : LinesLeft) (rest : List ℕ) (n room : ℕ)
     → l ≡ left_of rest n room → lines_of rest ≡ rest ∷ [] → (length rest == 0) ≡ false
     → items_left parse l ≡ Err (end_fault n)
-is_unfinished {A = A} parse l rest n room view parts some = rw (view, parts) (last_part parse room n rest ∙ rw some refl)
+is_unfinished {A = A} parse l rest n room view parts some =
+    rw (view, parts) (last_part parse room n rest ∙ rw some refl)
 
 pub is_long : {A : Type 0} → (parse : List Word → Taken A) (l : LinesLeft) (rest line after : List ℕ) (n room : ℕ)
     → l ≡ left_of rest n room → lines_of rest ≡ line ∷ lines_of after → room ≡ 0
@@ -73,7 +76,8 @@ step {A = A} parse rest line after n room parts some =
     let p = some_part (λ b. b == 10) after in
     let more : room ≡ suc (room - 1) = omega arith in
     let next : n + 1 ≡ suc n = omega arith in
-    rw (next, parts, p.2) (ap (λ k. items_at parse k n (line ∷ p.0 ∷ p.1)) more ∙ one_line parse (room - 1) n line p.0 p.1)
+    rw (next, parts, p.2) (ap (λ k. items_at parse k n (line ∷ p.0 ∷ p.1)) more
+    ∙ one_line parse (room - 1) n line p.0 p.1)
 
 pub has_fault : {A : Type 0} → (parse : List Word → Taken A) (l : LinesLeft) (rest line after : List ℕ) (n room : ℕ)
     (f : ReadFault) → l ≡ left_of rest n room → lines_of rest ≡ line ∷ lines_of after → room ≢ 0
@@ -92,7 +96,8 @@ goes_on {A = A} parse l rest line after n room e view parts some good =
 
 pub one_more : {A : Type 0} → (front : List A) (e : A) (old new total : Result (List A) ReadFault)
     → old ≡ (new >>= λ es. Ok (e ∷ es)) → with_front front old ≡ total → with_front (front ++ e ∷ []) new ≡ total
-one_more {A = A} front e old new total more so_far = sym (regroup front e new) ∙ ap (with_front front) (sym more) ∙ so_far
+one_more {A = A} front e old new total more so_far = sym (regroup front e new)
+    ∙ ap (with_front front) (sym more) ∙ so_far
 
 -- ---- the same of a loop that keeps none
 
@@ -108,7 +113,8 @@ behind_one {A = A} e old new all more h =
 
 -- ---- the first line, and the lines behind it
 
-opened_some : {H : Type 0} → (head : List Word → Taken H) (limit : ℕ) (bytes first rest : List ℕ) → lines_of bytes ≡ first ∷ lines_of rest
+opened_some : {H : Type 0} → (head : List Word → Taken H) (limit : ℕ) (bytes first rest : List ℕ)
+    → lines_of bytes ≡ first ∷ lines_of rest
     → opened_at head limit (lines_of bytes) ≡ (header_line head first >>= λ h. Ok (h, left_of rest 2 limit))
 unfolding opened_at
 opened_some {H = H} head limit bytes first rest parts =
@@ -118,15 +124,18 @@ opened_some {H = H} head limit bytes first rest parts =
 pub no_header : {H : Type 0} → (head : List Word → Taken H) (limit : ℕ) (bytes first rest : List ℕ) (f : ReadFault)
     → lines_of bytes ≡ first ∷ lines_of rest → Err f ≡ header_line head first
     → Err f ≡ opened_at head limit (lines_of bytes)
-no_header {H = H} head limit bytes first rest f parts bad = sym (opened_some head limit bytes first rest parts ∙ rw (← bad) refl)
+no_header {H = H} head limit bytes first rest f parts bad =
+    sym (opened_some head limit bytes first rest parts ∙ rw (← bad) refl)
 
 pub some_header : {H : Type 0} → (head : List Word → Taken H) (limit : ℕ) (bytes first rest : List ℕ) (h : H)
     → lines_of bytes ≡ first ∷ lines_of rest → Ok h ≡ header_line head first
     → Ok (h, left_of rest 2 limit) ≡ opened_at head limit (lines_of bytes)
-some_header {H = H} head limit bytes first rest h parts good = sym (opened_some head limit bytes first rest parts ∙ rw (← good) refl)
+some_header {H = H} head limit bytes first rest h parts good =
+    sym (opened_some head limit bytes first rest parts ∙ rw (← good) refl)
 
 -- the items behind a header that was read
-abbrev pub behind : {H A : Type 0} → (H → List Word → Taken A) → Result (H × LinesLeft) ReadFault → Result (H × List A) ReadFault
+abbrev pub behind : {H A : Type 0} → (H → List Word → Taken A) → Result (H × LinesLeft) ReadFault
+    → Result (H × List A) ReadFault
 behind parse opened = opened >>= λ x. items_left (parse x.0) x.1 >>= λ es. Ok (x.0, es)
 
 headed : {H A : Type 0} → (parse : H → List Word → Taken A) (r : Result H ReadFault) (lines : List (List ℕ)) (limit : ℕ)
@@ -145,7 +154,8 @@ lines_behind {H = H} {A = A} head parse limit (l ∷ next ∷ more) = headed par
 pub not_opened : {H A : Type 0} → (head : List Word → Taken H) (parse : H → List Word → Taken A) (limit : ℕ)
     (lines : List (List ℕ)) (f : ReadFault) → Err f ≡ opened_at head limit lines
     → lines_at head parse limit lines ≡ Err f
-not_opened {H = H} {A = A} head parse limit lines f bad = lines_behind head parse limit lines ∙ ap (behind parse) (sym bad)
+not_opened {H = H} {A = A} head parse limit lines f bad = lines_behind head parse limit lines
+    ∙ ap (behind parse) (sym bad)
 
 pub no_items : {H A : Type 0} → (head : List Word → Taken H) (parse : H → List Word → Taken A) (limit : ℕ)
     (lines : List (List ℕ)) (h : H) (left : LinesLeft) (f : ReadFault) → Ok (h, left) ≡ opened_at head limit lines

@@ -43,13 +43,15 @@ begins_with word bytes is = begins word (words_of bytes) bytes (join_with_byte-s
 
 pub is_next-other : (word bytes : List ℕ) → take (length word) bytes ≢ word → is_next word (words_of bytes) ≡ false
 is_next-other word bytes other =
-    not_true _ (λ is. let h = begins_with word bytes is in other (ap (take (length word)) h.1 ∙ take-append_seam word h.0))
+    not_true _ (λ is. let h = begins_with word bytes is in
+    other (ap (take (length word)) h.1 ∙ take-append_seam word h.0))
 
 pub is_next-longer : (word rest : List ℕ) (c : ℕ) → c ≢ 32 → is_next word (words_of (word ++ c ∷ rest)) ≡ false
 is_next-longer word rest c ne =
     not_true _ (λ is.
     let h = begins_with word (word ++ c ∷ rest) is in
-    let same : c ∷ rest ≡ h.0 = sym (drop-append_seam word (c ∷ rest)) ∙ ap (drop (length word)) h.1 ∙ drop-append_seam word h.0 in
+    let same : c ∷ rest ≡ h.0 = sym (drop-append_seam word (c ∷ rest)) ∙ ap (drop (length word)) h.1
+    ∙ drop-append_seam word h.0 in
     let some : h.0 ≢ [] = λ none. let bad : c ∷ rest ≡ [] = same ∙ none in absurd cc in
     let h2 = h.2 some in
     let first : c ∷ rest ≡ 32 ∷ h2.0 = same ∙ h2.1 in
@@ -60,8 +62,10 @@ is_next-longer word rest c ne =
 decimal-byte : (d : ℕ) → 48 ≤ d → d ≤ 57 → decimal (d - 48) ≡ d ∷ []
 decimal-byte d low high = decimal_digit (d - 48) (omega arith) ∙ ap (λ n. n ∷ []) (omega arith)
 
-pub digit-first : (d : ℕ) (line behind : List ℕ) → line ≡ d ∷ behind → IsAsciiDigit d → line ≡ decimal (d - 48) ++ behind
-digit-first d line behind is digit = is ∙ ap (λ (w : List ℕ). w ++ behind) (sym (decimal-byte d (omega arith) (omega arith)))
+pub digit-first : (d : ℕ) (line behind : List ℕ) → line ≡ d ∷ behind → IsAsciiDigit d
+    → line ≡ decimal (d - 48) ++ behind
+digit-first d line behind is digit = is
+    ∙ ap (λ (w : List ℕ). w ++ behind) (sym (decimal-byte d (omega arith) (omega arith)))
 
 last-digit : (n d : ℕ) → 48 ≤ d → d ≤ 57 → 0 < n → n < 2 ^ 59 → decimal (n * 10 + (d - 48)) ≡ decimal n ++ d ∷ []
 last-digit n d low high some lt =
@@ -80,7 +84,8 @@ digit-more n d line rest behind so_far is digit some lt =
 number-unbroken : (n : ℕ) → n < 2 ^ 64 → is_unbroken (decimal n) ≡ true
 number-unbroken n lt = no_space (decimal n) (IsWord-decimal n lt)
 
-pub number-last : (n : ℕ) (line rest : List ℕ) → line ≡ decimal n ++ rest → rest ≡ [] → n < 2 ^ 64 → words_of line ≡ decimal n ∷ []
+pub number-last : (n : ℕ) (line rest : List ℕ) → line ≡ decimal n ++ rest → rest ≡ [] → n < 2 ^ 64
+    → words_of line ≡ decimal n ∷ []
 number-last n line rest so_far none lt = ap words_of (so_far ∙ ap (λ (r : List ℕ). decimal n ++ r) none)
     ∙ words-last (decimal n) (number-unbroken n lt)
 

@@ -39,7 +39,11 @@ text-more h es i d lt =
 pub sends : (before now later : Option (List ℕ)) (page text : List ℕ) → IsOnItsWay before now page text
     → Appends now later page → IsOnItsWay before later [] text
 sends before now later page text h appends =
-    record { sent = text; got = rw h.whole (Appends-trans before now later h.sent page h.got appends); whole = sym (append-nil text) }
+    record {
+      sent = text;
+      got = rw h.whole (Appends-trans before now later h.sent page h.got appends);
+      whole = sym (append-nil text);
+    }
 
 -- ---- events of which these are left
 
@@ -74,7 +78,8 @@ fit-push : (es : List Event) (e : Event) → AllByRecursion EventFits es → Eve
 fit-push [] e fit one = (one, tt)
 fit-push (x ∷ es) e fit one = (fit.0, fit-push es e fit.1 one)
 
-pub written_more : (before now : Option (List ℕ)) (page page_after : List ℕ) (h : Heading) (old new all : List Event) (e : Event)
+pub written_more : (before now : Option (List ℕ)) (page page_after : List ℕ) (h : Heading)
+    (old new all : List Event) (e : Event)
     → old ≡ e ∷ new → page_after ≡ page ++ line (event_words e) → EventFits e → IsWritten before now page h old all
     → IsWritten before now page_after h new all
 written_more before now page page_after h old new all e is on_page fits w =

@@ -9,22 +9,27 @@ use Rattle.monk_history.specs.Text.Pieces.{IsHeadOf, PieceLeft, piece_left, item
 use Rattle.monk_history.proofs.TextLaws.FrontLaws.{lines_begin, lines_none}
 use Rattle.monk_history.proofs.TextLaws.LineSteps.{goes_on, has_fault, is_done, is_long, is_unfinished, left_of, no_header, some_header}
 
-pub piece_goes_on : {A : Type 0} → (parse : List Word → Taken A) (p : PieceLeft) (bytes line rest : List ℕ) (n room : ℕ) (e : A)
+pub piece_goes_on : {A : Type 0}
+    → (parse : List Word → Taken A) (p : PieceLeft) (bytes line rest : List ℕ) (n room : ℕ) (e : A)
     → p ≡ piece_left bytes n room → BeginsWith bytes line rest → room ≢ 0 → Ok e ≡ item_line parse n line
-    → (more : List ℕ) → items_with parse p more ≡ (items_with parse (piece_left rest (n + 1) (room - 1)) more >>= λ es. Ok (e ∷ es))
+    → (more : List ℕ)
+    → items_with parse p more ≡ (items_with parse (piece_left rest (n + 1) (room - 1)) more >>= λ es. Ok (e ∷ es))
 piece_goes_on {A = A} parse p bytes line rest n room e view begins some good more =
     rw view (goes_on parse (left_of (bytes ++ more) n room) (bytes ++ more) line (rest ++ more) n room e refl
     (lines_begin more begins) some good)
 
-pub piece_too_long : {A : Type 0} → (parse : List Word → Taken A) (p : PieceLeft) (bytes line rest : List ℕ) (n room : ℕ)
+pub piece_too_long : {A : Type 0}
+    → (parse : List Word → Taken A) (p : PieceLeft) (bytes line rest : List ℕ) (n room : ℕ)
     → p ≡ piece_left bytes n room → BeginsWith bytes line rest → room ≡ 0
     → (more : List ℕ) → items_with parse p more ≡ Err (long_fault n)
 piece_too_long {A = A} parse p bytes line rest n room view begins none more =
     rw view (is_long parse (left_of (bytes ++ more) n room) (bytes ++ more) line (rest ++ more) n room refl
     (lines_begin more begins) none)
 
-pub piece_has_fault : {A : Type 0} → (parse : List Word → Taken A) (p : PieceLeft) (bytes line rest : List ℕ) (n room : ℕ)
-    (f : ReadFault) → p ≡ piece_left bytes n room → BeginsWith bytes line rest → room ≢ 0 → Err f ≡ item_line parse n line
+pub piece_has_fault : {A : Type 0}
+    → (parse : List Word → Taken A) (p : PieceLeft) (bytes line rest : List ℕ) (n room : ℕ)
+    (f : ReadFault) → p ≡ piece_left bytes n room → BeginsWith bytes line rest → room ≢ 0
+    → Err f ≡ item_line parse n line
     → (more : List ℕ) → items_with parse p more ≡ Err f
 piece_has_fault {A = A} parse p bytes line rest n room f view begins some bad more =
     rw view (has_fault parse (left_of (bytes ++ more) n room) (bytes ++ more) line (rest ++ more) n room f refl
@@ -37,7 +42,8 @@ pub items_end : {A : Type 0} → (parse : List Word → Taken A) (bytes : List �
 items_end {A = A} parse bytes n room one empty =
     is_done parse (left_of bytes n room) bytes n room refl (lines_none bytes one) (rw empty refl)
 
-pub items_unfinished : {A : Type 0} → (parse : List Word → Taken A) (bytes : List ℕ) (n room : ℕ) → is_unended bytes ≡ true
+pub items_unfinished : {A : Type 0} → (parse : List Word → Taken A) (bytes : List ℕ) (n room : ℕ)
+    → is_unended bytes ≡ true
     → length bytes ≢ 0 → items_at parse room n (lines_of bytes) ≡ Err (end_fault n)
 items_unfinished {A = A} parse bytes n room one some =
     is_unfinished parse (left_of bytes n room) bytes n room refl (lines_none bytes one) (ne_eqb _ _ some)

@@ -10,7 +10,8 @@ use Rattle.monk_history.specs.Text.Places.{StandsAt}
 use Rattle.monk_history.proofs.TextLaws.NextWords.{digit-first, digit-more}
 
 -- one behind the other
-pub stands_then : {bytes x y : List ℕ} {p q r : ℕ} → StandsAt bytes p x q → StandsAt bytes q y r → StandsAt bytes p (x ++ y) r
+pub stands_then : {bytes x y : List ℕ} {p q r : ℕ} → StandsAt bytes p x q → StandsAt bytes q y r
+    → StandsAt bytes p (x ++ y) r
 stands_then {bytes = bytes} {x = x} {y = y} {r = r} a b =
     record {
       is = a.is ∙ (ap (λ z. x ++ z) b.is ∙ sym (append_assoc x y (drop r bytes)));
@@ -21,14 +22,16 @@ stands_then {bytes = bytes} {x = x} {y = y} {r = r} a b =
 pub stands_as : {bytes x y : List ℕ} {p q : ℕ} → StandsAt bytes p x q → x ≡ y → StandsAt bytes p y q
 stands_as {bytes = bytes} {p = p} {q = q} a same = subst (λ (z : List ℕ). StandsAt bytes p z q) same a
 
-pub byte_stands : (bytes : List ℕ) (p b : ℕ) → p < length bytes → get_or bytes p 0 ≡ b → StandsAt bytes p (b ∷ []) (p + 1)
+pub byte_stands : (bytes : List ℕ) (p b : ℕ) → p < length bytes → get_or bytes p 0 ≡ b
+    → StandsAt bytes p (b ∷ []) (p + 1)
 byte_stands bytes p b l is =
     record {
       is = drop_more bytes p 0 l ∙ ap (λ c. c ∷ drop (p + 1) bytes) is;
       within = omega arith;
     }
 
-pub two_stand : (bytes two : List ℕ) (p : ℕ) → p + 2 ≤ length bytes → get_or bytes p 0 ∷ get_or bytes (p + 1) 0 ∷ [] ≡ two
+pub two_stand : (bytes two : List ℕ) (p : ℕ) → p + 2 ≤ length bytes
+    → get_or bytes p 0 ∷ get_or bytes (p + 1) 0 ∷ [] ≡ two
     → StandsAt bytes p two (p + 2)
 two_stand bytes two p l is =
     let a = byte_stands bytes p (get_or bytes p 0) (omega arith) refl in
@@ -47,14 +50,17 @@ four_stand bytes four p l is =
     let end : p + 2 + 2 ≡ p + 4 = omega arith in
     subst (λ (q : ℕ). StandsAt bytes p four q) end (stands_as (stands_then a b) is)
 
-pub four_same : (xs ys : List ℕ) → length xs ≡ 4 → length ys ≡ 4 → ((i : ℕ) → get_or xs i 0 < 256) → ((i : ℕ) → get_or ys i 0 < 256)
+pub four_same : (xs ys : List ℕ) → length xs ≡ 4 → length ys ≡ 4 → ((i : ℕ) → get_or xs i 0 < 256)
+    → ((i : ℕ) → get_or ys i 0 < 256)
     → from_le_bytes w32 xs ≡ from_le_bytes w32 ys → xs ≡ ys
 four_same xs ys lx ly bx by_ same =
-    sym (le_bytes_4 xs (from_le_bytes w32 xs) lx bx refl) ∙ (ap (to_le_bytes w32) same ∙ le_bytes_4 ys (from_le_bytes w32 ys) ly by_ refl)
+    sym (le_bytes_4 xs (from_le_bytes w32 xs) lx bx refl)
+    ∙ (ap (to_le_bytes w32) same ∙ le_bytes_4 ys (from_le_bytes w32 ys) ly by_ refl)
 
 -- ---- numbers, digit by digit
 
-pub number_begins : (bytes : List ℕ) (p q d n : ℕ) → p < length bytes → get_or bytes p 0 ≡ d → IsAsciiDigit d → q ≡ p + 1
+pub number_begins : (bytes : List ℕ) (p q d n : ℕ) → p < length bytes → get_or bytes p 0 ≡ d → IsAsciiDigit d
+    → q ≡ p + 1
     → n ≡ d - 48 → drop p bytes ≡ decimal n ++ drop q bytes
 number_begins bytes p q d n l is digit next value =
     rw (next, value) (digit-first d (drop p bytes) (drop (p + 1) bytes)

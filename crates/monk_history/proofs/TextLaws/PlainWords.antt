@@ -34,7 +34,8 @@ event_are_words (Enter s Handed) fits = rw (decimal_word s fits) refl
 event_are_words (Leave s n) fits = rw (decimal_word s fits.0, next_are_words n fits.1) refl
 event_are_words (Wait s c n) fits = rw (decimal_word s fits.0, decimal_word c fits.1, next_are_words n fits.2) refl
 event_are_words (Signal s c n) fits = rw (decimal_word s fits.0, decimal_word c fits.1, next_are_words n fits.2) refl
-event_are_words (SignalLeave s c n) fits = rw (decimal_word s fits.0, decimal_word c fits.1, next_are_words n fits.2) refl
+event_are_words (SignalLeave s c n) fits =
+    rw (decimal_word s fits.0, decimal_word c fits.1, next_are_words n fits.2) refl
 event_are_words (Until s c n) fits = rw (decimal_word s fits.0, decimal_word c fits.1, next_are_words n fits.2) refl
 event_are_words (Act s op reply) fits =
     rw (

@@ -14,7 +14,8 @@ use Rattle.monk_history.proofs.TextLaws.LineSteps.{some_part, one_line, too_long
 use Rattle.monk_history.proofs.TextLaws.WordReaders.{bind_ok}
 
 -- how an item is written, and how it is read
-pub record IsFormat {A : Type 0} (words : A → List Word) (parse : List Word → Taken A) (Fits : A → Type 0) : Type 0 where
+pub record IsFormat {A : Type 0} (words : A → List Word) (parse : List Word → Taken A)
+    (Fits : A → Type 0) : Type 0 where
   pub takes : (ws : List Word) (x : A × List Word) → parse ws ≡ Ok x → (ws ≡ words x.0) × Fits x.0
   pub again : (x : A) → Fits x → parse (words x) ≡ Ok (x, [])
   pub plain : (x : A) → Fits x → AreWords (words x)
@@ -29,7 +30,8 @@ item_made e = Ok e
 item_is : {A : Type 0} (a b : A) → item_made a ≡ item_made b → a ≡ b
 item_is a b h = cc
 
-numbered_ok : {A : Type 0} (n : ℕ) (r : Taken A) (e : A) → with_line_number n r ≡ Ok e → (ws : List Word) × (r ≡ Ok (e, ws))
+numbered_ok : {A : Type 0} (n : ℕ) (r : Taken A) (e : A) → with_line_number n r ≡ Ok e
+    → (ws : List Word) × (r ≡ Ok (e, ws))
 numbered_ok {A = A} n (Ok x) e h = (x.1, ap (λ (y : A). taken_made y x.1) (item_is x.0 e h))
 numbered_ok n (Err f) e h = absurd cc
 
@@ -39,7 +41,8 @@ items_read es = Ok es
 items_are : {A : Type 0} (x y : List A) → items_read x ≡ items_read y → x ≡ y
 items_are x y e = cc
 
-module _ {A : Type 0} (words : A → List Word) (parse : List Word → Taken A) (Fits : A → Type 0) (format : IsFormat words parse Fits) where
+module _ {A : Type 0} (words : A → List Word) (parse : List Word → Taken A) (Fits : A → Type 0)
+    (format : IsFormat words parse Fits) where
   abbrev line_with : A → List ℕ
   line_with e = line (words e)
 
@@ -50,7 +53,8 @@ module _ {A : Type 0} (words : A → List Word) (parse : List Word → Taken A) 
   line_takes l n e h =
       let p = numbered_ok n (parse (words_of l)) e h in
       let t = format.takes (words_of l) (e, p.0) p.1 in
-      let whole : l ≡ join_with_byte 32 (words e) = sym (join_with_byte-slice_split 32 l) ∙ ap (join_with_byte 32) t.0 in
+      let whole : l ≡ join_with_byte 32 (words e) = sym (join_with_byte-slice_split 32 l)
+      ∙ ap (join_with_byte 32) t.0 in
       (ap (λ (x : List ℕ). x ++ 10 ∷ []) whole, t.1)
 
   pub items_again : (es : List A) (room n : ℕ) → AllByRecursion Fits es → length es ≤ room
@@ -127,7 +131,8 @@ module _ {H A : Type 0} (head_words : H → List Word) (head : List Word → Tak
   text_with h es = line (head_words h) ++ flat_map (λ e. line (words e)) es
 
   header_again : (h : H) → HeadFits h → header_line head (join_with_byte 32 (head_words h)) ≡ Ok h
-  header_again h fits = rw (words_of-words (head_words h) (head_format.some h) (head_format.plain h fits), head_format.again h fits) refl
+  header_again h fits =
+      rw (words_of-words (head_words h) (head_format.some h) (head_format.plain h fits), head_format.again h fits) refl
 
   -- what has a text is read from it
   pub text_again : (limit : ℕ) (h : H) (es : List A) → HeadFits h → AllByRecursion (Fits h) es → length es ≤ limit
@@ -144,7 +149,8 @@ module _ {H A : Type 0} (head_words : H → List Word) (head : List Word → Tak
   header_takes l h e =
       let p = headed_ok (head (words_of l)) h e in
       let t = head_format.takes (words_of l) (h, p.0) p.1 in
-      let whole : l ≡ join_with_byte 32 (head_words h) = sym (join_with_byte-slice_split 32 l) ∙ ap (join_with_byte 32) t.0 in
+      let whole : l ≡ join_with_byte 32 (head_words h) = sym (join_with_byte-slice_split 32 l)
+      ∙ ap (join_with_byte 32) t.0 in
       (ap (λ (x : List ℕ). x ++ 10 ∷ []) whole, t.1)
 
   -- the header and the items that were found in the bytes
@@ -157,7 +163,8 @@ module _ {H A : Type 0} (head_words : H → List Word) (head : List Word → Tak
   first_and_rest : (limit : ℕ) (bytes l next : List ℕ) (more : List (List ℕ)) (h : H) (es : List A) (g : H)
       (fs : List A) → l ++ (10 ∷ join_with_byte 10 (next ∷ more)) ≡ bytes → (l ++ 10 ∷ [] ≡ line (head_words h))
       × HeadFits h
-      → Found words (parse h) (Fits h) (formats h) limit (next ∷ more) es → pair_made h es ≡ Ok (g, fs) → IsRead limit bytes g fs
+      → Found words (parse h) (Fits h) (formats h) limit (next ∷ more) es → pair_made h es ≡ Ok (g, fs)
+      → IsRead limit bytes g fs
   first_and_rest limit bytes l next more h es g fs same t found e =
       let regrouped : l ++ (10 ∷ join_with_byte 10 (next ∷ more)) ≡ (l ++ 10 ∷ []) ++ join_with_byte 10 (next ∷ more) =
       sym (append_assoc l (10 ∷ []) (join_with_byte 10 (next ∷ more))) in
@@ -174,7 +181,8 @@ module _ {H A : Type 0} (head_words : H → List Word) (head : List Word → Tak
   lines_read limit bytes [] g fs same e = absurd cc
   lines_read limit bytes (rest ∷ []) g fs same e = absurd cc
   lines_read limit bytes (l ∷ next ∷ more) g fs same e =
-      let a = bind_ok (header_line head l) (λ h. items_at (parse h) limit 2 (next ∷ more) >>= λ es. Ok (h, es)) (g, fs) e in
+      let a = bind_ok (header_line head l) (λ h. items_at (parse h) limit 2 (next ∷ more) >>= λ es. Ok (h, es))
+      (g, fs) e in
       let b = bind_ok (items_at (parse a.0) limit 2 (next ∷ more)) (λ es. Ok (a.0, es)) (g, fs) a.2 in
       first_and_rest limit bytes l next more a.0 b.0 g fs same (header_takes l a.0 a.1)
       (items_found words (parse a.0) (Fits a.0) (formats a.0) limit 2 next more b.0 b.1) b.2

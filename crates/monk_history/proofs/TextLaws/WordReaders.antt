@@ -15,7 +15,8 @@ use Rattle.monk_history.proofs.TextLaws.NumberWords.{is_number_decimal, is_numbe
 use Rattle.monk_history.proofs.TextLaws.LineCuts.{both}
 
 -- the value of a step that did not fail
-pub bind_ok : {A B E : Type 0} (r : Result A E) (f : A → Result B E) (y : B) → (r >>= f) ≡ Ok y → (x : A) × (r ≡ Ok x) × (f x ≡ Ok y)
+pub bind_ok : {A B E : Type 0} (r : Result A E) (f : A → Result B E) (y : B) → (r >>= f) ≡ Ok y
+    → (x : A) × (r ≡ Ok x) × (f x ≡ Ok y)
 bind_ok (Ok x) f y e = (x, refl, e)
 bind_ok (Err d) f y e = absurd cc
 
@@ -32,22 +33,26 @@ ok_is x y e = cc
 
 -- ---- numbers
 
-pub number_takes : (most : ℕ) (ws : List Word) (x : ℕ × List Word) → number_at most ws ≡ Ok x → (ws ≡ decimal x.0 ∷ x.1) × (x.0 ≤ most)
+pub number_takes : (most : ℕ) (ws : List Word) (x : ℕ × List Word) → number_at most ws ≡ Ok x
+    → (ws ≡ decimal x.0 ∷ x.1) × (x.0 ≤ most)
 unfolding number_at
 number_takes most [] x e = absurd cc
 number_takes most (w ∷ ws) x e =
     let g = guard_ok (is_number most w) flaw.Number (digits_value 10 w, ws) x e in
     let p = both (bytes_eq w (decimal (digits_value 10 w))) (nat_le (digits_value 10 w) most) g.0 in
     let same : w ≡ decimal (digits_value 10 w) = (bytes_eq-Decides w (decimal (digits_value 10 w))).0 p.0 in
-    subst (λ (y : ℕ × List Word). (w ∷ ws ≡ decimal y.0 ∷ y.1) × (y.0 ≤ most)) g.1 (ap (λ (v : Word). v ∷ ws) same, leb-true _ _ p.1)
+    subst (λ (y : ℕ × List Word). (w ∷ ws ≡ decimal y.0 ∷ y.1) × (y.0 ≤ most)) g.1
+    (ap (λ (v : Word). v ∷ ws) same, leb-true _ _ p.1)
 
-pub number_again : (most n : ℕ) (ws : List Word) → most < 2 ^ 64 → n ≤ most → number_at most (decimal n ∷ ws) ≡ Ok (n, ws)
+pub number_again : (most n : ℕ) (ws : List Word) → most < 2 ^ 64 → n ≤ most
+    → number_at most (decimal n ∷ ws) ≡ Ok (n, ws)
 unfolding number_at
 number_again most n ws lt le =
     let h = is_number_decimal most n lt le in
     rw (h.0, h.1) refl
 
-pub number_refused : (most n : ℕ) (ws : List Word) → n < 2 ^ 64 → most < n → number_at most (decimal n ∷ ws) ≡ Err flaw.Number
+pub number_refused : (most n : ℕ) (ws : List Word) → n < 2 ^ 64 → most < n
+    → number_at most (decimal n ∷ ws) ≡ Err flaw.Number
 unfolding number_at
 number_refused most n ws lt great =
     rw (is_number_too_great most n lt great) refl
@@ -62,7 +67,8 @@ test_found : {A : Type 0} (b : Bool) (w u : Word) (v x : A) (rest : Option A) (w
 test_found true w u v x rest word same other e = same refl ∙ ap word (some_is v x e)
 test_found false w u v x rest word same other e = other e
 
-found_is : {A : Type 0} (word : A → Word) (values : List A) (w : Word) (x : A) → with_text word values w ≡ Some x → w ≡ word x
+found_is : {A : Type 0} (word : A → Word) (values : List A) (w : Word) (x : A)
+    → with_text word values w ≡ Some x → w ≡ word x
 found_is word [] w x e = absurd cc
 found_is word (v ∷ vs) w x e =
     test_found (bytes_eq w (word v)) w w v x (with_text word vs w) word (λ b. (bytes_eq-Decides w (word v)).0 b)
@@ -105,7 +111,8 @@ pub kept_again : {A : Type 0} (word : A → Word) (keeps : A → Bool) (values :
     → with_text word values (word x) ≡ Some x → with_text word (filter keeps values) (word x) ≡ Some x
 kept_again word keeps [] x kept e = e
 kept_again {A = A} word keeps (v ∷ vs) x kept e =
-    one_again word (word x) v x (filter keeps vs) (with_text word vs (word x)) (bytes_eq (word x) (word v)) (keeps v) refl
+    one_again word (word x) v x (filter keeps vs) (with_text word vs (word x)) (bytes_eq (word x) (word v))
+    (keeps v) refl
     (λ (is : v ≡ x). ap keeps is ∙ kept) (kept_again word keeps vs x kept) e
 
 first_kept : {A : Type 0} (keeps : A → Bool) (found : Bool) (v x : A) (more : Option A) → keeps v ≡ true
@@ -116,7 +123,8 @@ first_kept keeps false v x more kept later e = later e
 one_kept : {A : Type 0} (word : A → Word) (keeps : A → Bool) (w : Word) (v x : A) (rest : List A) (kept : Bool)
     → keeps v ≡ kept → (with_text word rest w ≡ Some x → keeps x ≡ true)
     → with_text word (cond kept (v ∷ rest) rest) w ≡ Some x → keeps x ≡ true
-one_kept word keeps w v x rest true is later e = first_kept keeps (bytes_eq w (word v)) v x (with_text word rest w) is later e
+one_kept word keeps w v x rest true is later e =
+    first_kept keeps (bytes_eq w (word v)) v x (with_text word rest w) is later e
 one_kept word keeps w v x rest false is later e = later e
 
 -- what is found among those that are kept is one of them
@@ -142,9 +150,11 @@ none_kept word keeps (v ∷ vs) w others =
 rest_kept : {A : Type 0} (o : Option A) (keeps : A → Bool) (ws : List Word) (x : A × List Word)
     → ((y : A) → o ≡ Some y → keeps y ≡ true) → with_rest ws o ≡ Ok x → keeps x.0 ≡ true
 rest_kept None keeps ws x h e = absurd cc
-rest_kept {A = A} (Some y) keeps ws x h e = subst (λ (z : A × List Word). keeps z.0 ≡ true) (ok_is (y, ws) x e) (h y refl)
+rest_kept {A = A} (Some y) keeps ws x h e =
+    subst (λ (z : A × List Word). keeps z.0 ≡ true) (ok_is (y, ws) x e) (h y refl)
 
-pub one_of_kept : {A : Type 0} (word : A → Word) (keeps : A → Bool) (values : List A) (ws : List Word) (x : A × List Word)
+pub one_of_kept : {A : Type 0} (word : A → Word) (keeps : A → Bool) (values : List A) (ws : List Word)
+    (x : A × List Word)
     → one_of word (filter keeps values) ws ≡ Ok x → keeps x.0 ≡ true
 unfolding one_of
 one_of_kept word keeps values [] x e = absurd cc

@@ -1,5 +1,5 @@
--- The acts of a history, and what they mean where the monitor guards a buffer, a book or a shop: what a reader of the history sees of
--- the object, in the words of `monk_object`
+-- The acts of a history, and what they mean where the monitor guards a buffer, a book or a shop:
+-- what a reader of the history sees of the object, in the words of `monk_object`
 use Rattle.std.specs.Prelude.{◌≡◌, ℕ, ◌+◌, ◌≤◌, ◌==◌, ◌⊎◌, Bool, false, List, [], ◌∷◌, ◌++◌, length, map, if◌then◌else◌, option_to_list}
 use Rattle.std.specs.List.{flat_map}
 use Rattle.std.specs.Option.{option_map_or}
@@ -41,7 +41,8 @@ pub record IsRunOf (m : Monitor) (h : List Event) : Type 0 where
   pub replies : answers_of m.object m.opening (ops_in h) ≡ acts_in h
   pub leads_to : state_after m.object m.opening (ops_in h) ≡ data_of m h
 
--- a buffer: the items put are those taken and then those that are there, in order, and never more than the size is there
+-- a buffer: the items put are those taken and then those that are there, in order, and never more
+-- than the size is there
 pub record IsInOrder (size : ℕ) (state : List ℕ) (acts : List Answered) : Type 0 where
   pub items : List ℕ
   pub state_is : state ≡ size ∷ items

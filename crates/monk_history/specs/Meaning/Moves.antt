@@ -10,7 +10,8 @@ use Rattle.monk_history.specs.declared.event.Event.{Event}
 
 -- whether an event puts its own seat into a queue: a wait, and a signal or an until that does not stay
 abbrev pub parks : Event → Bool
-parks e = is_some (waits_on e) || ((is_some (steps_back e) || is_some (awaited_predicate e)) && not (is_stay (next_of e)))
+parks e = is_some (waits_on e)
+    || ((is_some (steps_back e) || is_some (awaited_predicate e)) && not (is_stay (next_of e)))
 
 -- where seats stand before an event, in the situation t, and after it, in u
 pub record StandsAfter (m : Monitor) (t : Situation) (e : Event) (u : Situation) : Type 0 where
@@ -20,7 +21,8 @@ pub record StandsAfter (m : Monitor) (t : Situation) (e : Event) (u : Situation)
   pub caller_stands : standing m.conds (seat_of e) u ≡ (if is_way_out e then 0 else 1)
   -- each other seat: in as many places as before, and in one queue less if it was chosen
   pub others_stand : (j : ℕ) → j ≢ seat_of e → standing m.conds j u ≡ standing m.conds j t
-  pub others_queued : (j : ℕ) → j ≢ seat_of e → in_queues m.conds j u + (if grants j e then 1 else 0) ≡ in_queues m.conds j t
+  pub others_queued : (j : ℕ) → j ≢ seat_of e
+      → in_queues m.conds j u + (if grants j e then 1 else 0) ≡ in_queues m.conds j t
   -- the seat that it chose: another, in exactly one queue before and in none after
   pub chosen_other : (j : ℕ) → grants j e ≡ true → j ≢ seat_of e
   pub chosen_before : (j : ℕ) → grants j e ≡ true → in_queues m.conds j t ≡ 1

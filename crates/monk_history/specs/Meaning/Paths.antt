@@ -34,7 +34,8 @@ single_choice queue ties (Some j) known WishSignaller = next_from queue j
 abbrev pub staying : ℕ → ℕ → Next
 staying j s = if j == s then Stay else Signaller j
 
--- the choice past a waiter queue and a signaller queue of one priority, by their fronts and whether entry ties with them
+-- the choice past a waiter queue and a signaller queue of one priority, by their fronts and whether
+-- entry ties with them
 abbrev pub equal_choice : Bool → Option ℕ → Option ℕ → ℕ → Bool → Pick → Next
 equal_choice ties None None s known wish = Entry
 equal_choice ties (Some w) None s known WishEntry = if known && ties then Entry else Waiter w

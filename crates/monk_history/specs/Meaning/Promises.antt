@@ -83,7 +83,8 @@ NobodyComesBetween h =
 
 abbrev pub AwaitsWhatHolds : Monitor → List Event → ℕ → ℕ → ℕ → Type 0
 AwaitsWhatHolds m h i s p =
-    IsTrue (list_any (λ u. u.0 == s && u.1 == p) (untils (take i h))) × IsTrue (m.object.holds (data_of m (take (i + 1) h)) p)
+    IsTrue (list_any (λ u. u.0 == s && u.1 == p) (untils (take i h)))
+    × IsTrue (m.object.holds (data_of m (take (i + 1) h)) p)
 
 -- whoever goes on from a wait-until awaits a predicate that holds of the data
 abbrev pub ThePredicateHolds : Monitor → List Event → Type 0

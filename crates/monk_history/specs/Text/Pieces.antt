@@ -25,7 +25,8 @@ IsNextOfPiece (Ok None) old new = (more : List ℕ) → old more ≡ new more
 IsNextOfPiece (Err f) old new = (more : List ℕ) → old more ≡ Err f
 
 -- what the first line of the bytes is as a header, and what stands behind that line
-pub record IsHeadOf {H : Type 0} (parse : List Word → Taken H) (bytes : List ℕ) (read : Result H ReadFault) (rest : List ℕ) : Type 0 where
+pub record IsHeadOf {H : Type 0} (parse : List Word → Taken H) (bytes : List ℕ) (read : Result H ReadFault)
+    (rest : List ℕ) : Type 0 where
   pub line : List ℕ
   pub begins : BeginsWith bytes line rest
   pub is : read ≡ header_line parse line

@@ -1,5 +1,6 @@
-//! The event whose line stands at the front of some bytes, read with no search for the line's end, where the line is short and
-//! each of its seats, conditions, predicates and codes has at most two digits. The lines of legal histories are written so.
+//! The event whose line stands at the front of some bytes, read with no search for the line's end,
+//! where the line is short and each of its seats, conditions, predicates and codes has at most two
+//! digits. The lines of legal histories are written so.
 
 ghost use Rattle.std.specs.Prelude.{◌≡◌, ◌∷◌, [], ◌+◌, ◌≤◌, IfSome, length, codes, decimal};
 ghost use Rattle.monk_history.specs.Text.{event_words, next_words, from_word, EventFits, first_version};
@@ -17,8 +18,9 @@ pub(crate) const WINDOW: usize = 64;
 
 /// The event whose line stands at the front, and the place behind the line.
 ///
-/// `Caller` is a type that nothing here looks at. Code is made for each type, and what is called from one place alone the
-/// compiler puts there, so that a caller who names a type of its own needs no call for a line.
+/// `Caller` is a type that nothing here looks at. Code is made for each type, and what is called
+/// from one place alone the compiler puts there, so that a caller who names a type of its own needs
+/// no call for a line.
 #[inline(always)]
 pub(crate) fn event_at_front<Caller>(bytes: &[u8], version: u8) -> Option<(Event, usize)>
     requires version { 1 ≤ version }
@@ -209,7 +211,8 @@ fn until(bytes: &[u8]) -> Option<(Event, usize)>
 #[inline(always)]
 fn call_at(bytes: &[u8], place: usize) -> Option<(u8, u8, Next, usize)>
     requires { place + 20 ≤ length bytes.now }
-    ensures stands { IfSome result (λ r. StandsAt bytes.now place (line (decimal r.0 ∷ decimal r.1 ∷ next_words r.2)) r.3) }
+    ensures stands { IfSome result (λ r. StandsAt bytes.now place
+        (line (decimal r.0 ∷ decimal r.1 ∷ next_words r.2)) r.3) }
 {
     let (first, place) = short_number_at(bytes, place, b' ')?;
     let (second, place) = short_number_at(bytes, place, b' ')?;

@@ -39,7 +39,11 @@ impl Kind for Pis {
 
     ghost are_rules = { refl };
 
-    ghost is_kind = { record { entry_waiter = Prim.omega arith; entry_signaller = Prim.omega arith; fits_mode = refl } };
+    ghost is_kind = { record {
+      entry_waiter = Prim.omega arith;
+      entry_signaller = Prim.omega arith;
+      fits_mode = refl;
+    } };
 
     ghost are_named = { refl };
 }
@@ -83,7 +87,11 @@ impl Kind for Npis {
 
     ghost are_rules = { refl };
 
-    ghost is_kind = { record { entry_waiter = Prim.omega arith; entry_signaller = Prim.omega arith; fits_mode = refl } };
+    ghost is_kind = { record {
+      entry_waiter = Prim.omega arith;
+      entry_signaller = Prim.omega arith;
+      fits_mode = refl;
+    } };
 
     ghost are_named = { refl };
 }

@@ -39,7 +39,11 @@ impl Kind for Pb {
 
     ghost are_rules = { refl };
 
-    ghost is_kind = { record { entry_waiter = Prim.omega arith; entry_signaller = Prim.omega arith; fits_mode = Prim.omega arith } };
+    ghost is_kind = { record {
+      entry_waiter = Prim.omega arith;
+      entry_signaller = Prim.omega arith;
+      fits_mode = Prim.omega arith;
+    } };
 
     ghost are_named = { refl };
 }
@@ -91,7 +95,11 @@ impl Kind for Npb {
 
     ghost are_rules = { refl };
 
-    ghost is_kind = { record { entry_waiter = Prim.omega arith; entry_signaller = Prim.omega arith; fits_mode = Prim.omega arith } };
+    ghost is_kind = { record {
+      entry_waiter = Prim.omega arith;
+      entry_signaller = Prim.omega arith;
+      fits_mode = Prim.omega arith;
+    } };
 
     ghost are_named = { refl };
 }

@@ -39,7 +39,11 @@ impl Kind for Pir {
 
     ghost are_rules = { refl };
 
-    ghost is_kind = { record { entry_waiter = Prim.omega arith; entry_signaller = Prim.omega arith; fits_mode = refl } };
+    ghost is_kind = { record {
+      entry_waiter = Prim.omega arith;
+      entry_signaller = Prim.omega arith;
+      fits_mode = refl;
+    } };
 
     ghost are_named = { refl };
 }
@@ -87,7 +91,11 @@ impl Kind for Npir {
 
     ghost are_rules = { refl };
 
-    ghost is_kind = { record { entry_waiter = Prim.omega arith; entry_signaller = Prim.omega arith; fits_mode = refl } };
+    ghost is_kind = { record {
+      entry_waiter = Prim.omega arith;
+      entry_signaller = Prim.omega arith;
+      fits_mode = refl;
+    } };
 
     ghost are_named = { refl };
 }

@@ -39,7 +39,11 @@ impl Kind for Pnb {
 
     ghost are_rules = { refl };
 
-    ghost is_kind = { record { entry_waiter = Prim.omega arith; entry_signaller = Prim.omega arith; fits_mode = Prim.omega arith } };
+    ghost is_kind = { record {
+      entry_waiter = Prim.omega arith;
+      entry_signaller = Prim.omega arith;
+      fits_mode = Prim.omega arith;
+    } };
 
     ghost are_named = { refl };
 }
@@ -92,7 +96,11 @@ impl Kind for Npnb {
 
     ghost are_rules = { refl };
 
-    ghost is_kind = { record { entry_waiter = Prim.omega arith; entry_signaller = Prim.omega arith; fits_mode = Prim.omega arith } };
+    ghost is_kind = { record {
+      entry_waiter = Prim.omega arith;
+      entry_signaller = Prim.omega arith;
+      fits_mode = Prim.omega arith;
+    } };
 
     ghost are_named = { refl };
 }

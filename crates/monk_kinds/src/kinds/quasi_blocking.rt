@@ -38,7 +38,11 @@ impl Kind for Pqb {
 
     ghost are_rules = { refl };
 
-    ghost is_kind = { record { entry_waiter = Prim.omega arith; entry_signaller = Prim.omega arith; fits_mode = refl } };
+    ghost is_kind = { record {
+      entry_waiter = Prim.omega arith;
+      entry_signaller = Prim.omega arith;
+      fits_mode = refl;
+    } };
 
     ghost are_named = { refl };
 }
@@ -90,7 +94,11 @@ impl Kind for Npqb {
 
     ghost are_rules = { refl };
 
-    ghost is_kind = { record { entry_waiter = Prim.omega arith; entry_signaller = Prim.omega arith; fits_mode = refl } };
+    ghost is_kind = { record {
+      entry_waiter = Prim.omega arith;
+      entry_signaller = Prim.omega arith;
+      fits_mode = refl;
+    } };
 
     ghost are_named = { refl };
 }

@@ -65,11 +65,15 @@ record Resumer (o : Order) (items : List Item) : Type 0 where
   seat : ℕ
   may : may_resume o seat items ≡ true
 
-resumer_of : (o : Order) → IsLoose o → (items : List Item) (ws : List ℕ) → Distinct (all_seats items) → Fits o (among ws) items
+resumer_of : (o : Order) → IsLoose o → (items : List Item) (ws : List ℕ) → Distinct (all_seats items)
+    → Fits o (among ws) items
     → is_empty ws ≡ false → Resumer o items
 resumer_of o loose items [] dis f h = absurd (true≢false h)
 resumer_of o loose items (w ∷ ws) dis f h =
-    record { seat = w; may = loose_resume o loose w items (was_served_it o (among (w ∷ ws)) w items dis (among_here w ws) f) }
+    record {
+      seat = w;
+      may = loose_resume o loose w items (was_served_it o (among (w ∷ ws)) w items dis (among_here w ws) f);
+    }
 
 -- in order of arrival it is the first of its condition, of which the first service is
 front_of : (items : List Item) (c : ℕ) (cs xs : List ℕ) → Distinct (all_seats items) → services items ≡ c ∷ cs
@@ -104,38 +108,50 @@ board_with b e = record {
 
 sound_with : (b : Board) (e : Event) → Sound b → Sound (board_with b e)
 sound_with b e h = record {
-  seated = λ s. subst (λ (xs : List ℕ). times s xs + times s b.signallers + times s (until_seats b.untils) + has_turn s b.turn
+  seated =
+      λ s. subst (λ (xs : List ℕ). times s xs + times s b.signallers + times s (until_seats b.untils)
+      + has_turn s b.turn
       ≤ cond (b.inside s) 1 0) (sym (seats_with b e)) (h.seated s);
   keeps = keeps_with b e h;
 }
 
-resumer : (o : Order) (b : Board) (e : Event) → Sound b → is_empty (services (items_with b e)) ≡ false → Resumer o (items_with b e)
+resumer : (o : Order) (b : Board) (e : Event) → Sound b → is_empty (services (items_with b e)) ≡ false
+    → Resumer o (items_with b e)
 resumer o b e sound some =
     let items = items_with b e in
     let dis = distinct_with b e sound in
     ⊎_elim
-    (λ is. subst (λ (x : Order). Resumer x items) (sym is) (front_by items (services items) dis (keeps_with b e sound) refl some))
+    (λ is. subst (λ (x : Order). Resumer x items) (sym is)
+    (front_by items (services items) dis (keeps_with b e sound) refl some))
     (λ loose. let fits = firsts_fit o (board_with b e) (sound_with b e sound) in
-    resumer_of o loose items (firsts items) dis fits (empty_waiters o (firsts items) items dis fits ∙ some)) (loose_or_not o)
+    resumer_of o loose items (firsts items) dis fits (empty_waiters o (firsts items) items dis fits ∙ some))
+    (loose_or_not o)
 
 module _ (o : Order) (m : Monitor) (b : Board) (ord : Orderly m b) where
-  seat_inside : (j : ℕ) → 1 ≤ times j (all_seats b.items) + times j b.signallers + times j (until_seats b.untils) + has_turn j b.turn
+  seat_inside : (j : ℕ)
+      → 1 ≤ times j (all_seats b.items) + times j b.signallers + times j (until_seats b.untils) + has_turn j b.turn
       → j < m.seats
   seat_inside j h = ord.seats j (some_inside (b.inside j) (omega (arith, ord.sound.seated j, h)))
 
-  waiter_there : (e : Event) → is_empty (services (items_with b e)) ≡ false → Someone (λ j. may_resume o j (items_with b e)) m.seats
+  waiter_there : (e : Event) → is_empty (services (items_with b e)) ≡ false
+      → Someone (λ j. may_resume o j (items_with b e)) m.seats
   waiter_there e some =
       let r = resumer o b e ord.sound some in
       let counted = among_counted r.seat (all_seats (items_with b e))
       (resume_there o r.seat (items_with b e) (resume_served o r.seat (items_with b e) r.may)) in
-      record { seat = r.seat; may = r.may; in_range = seat_inside r.seat (omega (arith, counted, ap (times r.seat) (seats_with b e))) }
+      record {
+        seat = r.seat;
+        may = r.may;
+        in_range = seat_inside r.seat (omega (arith, counted, ap (times r.seat) (seats_with b e)));
+      }
 
   signaller_there : (e : Event) (x : Next) → MayCallIn m (sight b) e → next_of e ≡ Some x
       → signallers_with b e ≡ b.signallers → is_empty (signallers_with b e) ≡ false
       → Someone (λ j. may_go o j (signallers_with b e) && not (j == seat_of e)) m.seats
   signaller_there e x may chose none some =
       let f = first o (signallers_with b e) some in
-      let counted = among_counted f.seat b.signallers (subst (λ (xs : List ℕ). is_among f.seat xs ≡ true) none f.there) in
+      let counted =
+      among_counted f.seat b.signallers (subst (λ (xs : List ℕ). is_among f.seat xs ≡ true) none f.there) in
       let other : f.seat ≡ seat_of e → ⊥ = λ same. omega (
         arith,
         ord.sound.seated f.seat,
@@ -154,12 +170,14 @@ module _ (o : Order) (m : Monitor) (b : Board) (ord : Orderly m b) where
       → Someone (λ j. not (has_conditions m.kind.mode) && may_go o j (ready_of m.object b.state b.untils)) m.seats
   ready_there some =
       let f = first o (ready_of m.object b.state b.untils) some in
-      let counted = among_counted f.seat (until_seats b.untils) (ready_waits m.object b.state f.seat b.untils f.there) in
+      let counted =
+      among_counted f.seat (until_seats b.untils) (ready_waits m.object b.state f.seat b.untils f.there) in
       record {
         seat = f.seat;
         may = and_from (not (has_conditions m.kind.mode)) (may_go o f.seat (ready_of m.object b.state b.untils))
             (⊎_elim
-            (λ has. absurd (true≢false (ap (λ (us : List (ℕ × ℕ)). is_empty (ready_of m.object b.state us)) (sym (ord.untils has)) ∙ some)))
+            (λ has. absurd (true≢false (ap (λ (us : List (ℕ × ℕ)). is_empty (ready_of m.object b.state us))
+            (sym (ord.untils has)) ∙ some)))
             (λ has. ap not has) (cases_Bool (has_conditions m.kind.mode)))
             f.may;
         in_range = seat_inside f.seat (omega (arith, counted));
@@ -211,7 +229,8 @@ module _ (o : Order) (m : Monitor) (b : Board) (ord : Orderly m b) (s c : ℕ) (
       → Chooses (may_signal_by m.kind (board_chances o m.object b (event.Signal s c x)) s) m.seats
   signal_chooses some =
       let e = event.Signal s c x in
-      let f = first o (signallers_with b e) (joined_one b.signallers s (is_empty (unserved_in (line c b.items))) some) in
+      let f = first o (signallers_with b e)
+      (joined_one b.signallers s (is_empty (unserved_in (line c b.items))) some) in
       served_choose m.kind (board_chances o m.object b e) s m.seats
       (waiter_there o m b ord e (served_one b.items c (unserved_in (line c b.items)) some))
       (record {
@@ -219,7 +238,8 @@ module _ (o : Order) (m : Monitor) (b : Board) (ord : Orderly m b) (s c : ℕ) (
         may = f.may;
         in_range = λ ne. seat_inside o m b ord f.seat (omega (
           arith,
-          among_counted f.seat b.signallers (joined_seat b.signallers s f.seat (is_empty (unserved_in (line c b.items))) f.there ne),
+          among_counted f.seat b.signallers
+              (joined_seat b.signallers s f.seat (is_empty (unserved_in (line c b.items))) f.there ne),
         ));
       })
 
@@ -238,7 +258,8 @@ stay_or false p seats h = let f = h refl in record { choice = f.choice; may = f.
 module _ (o : Order) (m : Monitor) (b : Board) (ord : Orderly m b) where
   chosen_by : (e : Event) (p : Next → Bool) → MayCallIn m (sight b) e
       → ((x : Next) → is_right_reply m.object b.state (with_next x e) ≡ true)
-      → ((x : Next) → p x ≡ true → board_permits o m.kind m.object b (with_next x e) ≡ true) → Chooses p m.seats → Chosen o m b e
+      → ((x : Next) → p x ≡ true → board_permits o m.kind m.object b (with_next x e) ≡ true)
+      → Chooses p m.seats → Chosen o m b e
   chosen_by e p may right permits f = record {
     choice = f.choice;
     passes = record {

@@ -31,17 +31,23 @@ named_one : (seats j : ℕ) → j < seats → list_all (λ s. nat_lt s seats) (j
 named_one seats j l = grind (arith, l)
 
 module _ (k : Rules) (q : Chances) (s seats : ℕ) (offers : Offers k q s seats) where
-  chooses_waiter : q.no_waiter ≡ false → (q.no_signaller || nat_le k.signaller k.waiter) ≡ true → Chooses (may_choose_by k q s) seats
+  chooses_waiter : q.no_waiter ≡ false → (q.no_signaller || nat_le k.signaller k.waiter) ≡ true
+      → Chooses (may_choose_by k q s) seats
   chooses_waiter some first =
       let w = offers.waiter some in
-      record { choice = next.Waiter w.seat; may = and_from (q.waiter w.seat) _ w.may first; named = named_one seats w.seat w.in_range }
+      record {
+        choice = next.Waiter w.seat;
+        may = and_from (q.waiter w.seat) _ w.may first;
+        named = named_one seats w.seat w.in_range;
+      }
 
   swapped : (a b c : Bool) → (a && c) ≡ true → b ≡ true → ((a && b) && c) ≡ true
   swapped true b true h f = rw f refl
   swapped true b false h f = absurd (false≢true h)
   swapped false b c h f = absurd (false≢true h)
 
-  chooses_signaller : q.no_signaller ≡ false → (q.no_waiter || nat_le k.waiter k.signaller) ≡ true → Chooses (may_choose_by k q s) seats
+  chooses_signaller : q.no_signaller ≡ false → (q.no_waiter || nat_le k.waiter k.signaller) ≡ true
+      → Chooses (may_choose_by k q s) seats
   chooses_signaller some first =
       let w = offers.signaller some in
       record {
@@ -62,7 +68,8 @@ module _ (k : Rules) (q : Chances) (s seats : ℕ) (offers : Offers k q s seats)
   chooses_inner : q.no_waiter ≡ false → q.no_signaller ≡ false → Chooses (may_choose_by k q s) seats
   chooses_inner some more =
       ⊎_elim
-      (λ l. chooses_waiter some (or_right q.no_signaller (nat_le k.signaller k.waiter) (le-leb k.signaller k.waiter (omega (arith, l)))))
+      (λ l. chooses_waiter some (or_right q.no_signaller (nat_le k.signaller k.waiter)
+      (le-leb k.signaller k.waiter (omega (arith, l)))))
       (λ l. chooses_signaller more (or_right q.no_waiter (nat_le k.waiter k.signaller) (le-leb k.waiter k.signaller l)))
       (cases_lt k.signaller k.waiter)
 
@@ -88,7 +95,8 @@ signaller_goes k q s seats g first =
     ⊎_elim
     (λ is. record {
       choice = next.Stay;
-      may = and_from (q.signaller s) (nat_le k.waiter k.signaller) (subst (λ (j : ℕ). q.signaller j ≡ true) is g.may) first;
+      may = and_from (q.signaller s) (nat_le k.waiter k.signaller)
+          (subst (λ (j : ℕ). q.signaller j ≡ true) is g.may) first;
       named = refl;
     })
     (λ ne. record {

@@ -56,7 +56,8 @@ test_passed : (test : Bool) (b c : Board) → cond test (Some b) None ≡ Some c
 test_passed true b c h = (refl, cc)
 test_passed false b c h = absurd cc
 
-pub goes : (o : Order) (m : Monitor) (b : Board) (step : Step) (c : Board) → board_step o m b step ≡ Some c → Goes o m b step c
+pub goes : (o : Order) (m : Monitor) (b : Board) (step : Step) (c : Board) → board_step o m b step ≡ Some c
+    → Goes o m b step c
 goes o m b (Did e) c h =
     let p = test_passed (board_reason o m b e == 0) (board_after m.object b e) c h in
     record { passes = passes o m b e (eqb-true (board_reason o m b e) 0 p.0); comes = p.1 }
@@ -65,7 +66,8 @@ goes o m b (Lapsed s) c h =
     let q = and_parts (is_open b.turn) (may_lapse o s b.items) p.0 in
     record { free = q.0; may = q.1; comes = p.1 }
 
-pub sound_step : (o : Order) (m : Monitor) (b : Board) (step : Step) (c : Board) → board_step o m b step ≡ Some c → Sound b → Sound c
+pub sound_step : (o : Order) (m : Monitor) (b : Board) (step : Step) (c : Board)
+    → board_step o m b step ≡ Some c → Sound b → Sound c
 sound_step o m b (Did e) c h sound =
     let g = goes o m b (Did e) c h in subst Sound g.comes (sound_after o m b e sound g.passes)
 sound_step o m b (Lapsed s) c h sound =
@@ -100,24 +102,31 @@ pub step_ok : (o : Order) (m : Monitor) (b : Board) (e : Event) → Passes o m b
     → board_step o m b (Did e) ≡ Some (board_after m.object b e)
 step_ok o m b e p = ap (λ (n : ℕ). cond (n == 0) (Some (board_after m.object b e)) None) (reason_none o m b e p)
 
-hold_ok : (m : Monitor) (b : Board) (e : Event) (p : Pending) → MayCallIn m (sight b) e → board_hold m b e p ≡ Some (board_course b p)
+hold_ok : (m : Monitor) (b : Board) (e : Event) (p : Pending) → MayCallIn m (sight b) e
+    → board_hold m b e p ≡ Some (board_course b p)
 hold_ok m b e p c = ap (λ (n : ℕ). cond (n == 0) (Some (board_course b p)) None) (tests_from_called m (sight b) e c)
 
-one_line : (o : Order) (m : Monitor) (b : Board) (p : Pending) (l : LogLine) (x : BoardCourse) → board_behind o m b p l ≡ Some x
+one_line : (o : Order) (m : Monitor) (b : Board) (p : Pending) (l : LogLine) (x : BoardCourse)
+    → board_behind o m b p l ≡ Some x
     → board_judge_from o m (Some (board_course b p)) (l ∷ []) ≡ Some x
 unfolding board_judge_from
 one_line o m b p l x h = ap (λ (y : Option BoardCourse). board_judge_from o m y []) h
 
-two_lines : (o : Order) (m : Monitor) (b : Board) (p : Pending) (l n : LogLine) (x y : BoardCourse) → board_behind o m b p l ≡ Some x
-    → board_behind o m x.board x.pending n ≡ Some y → board_judge_from o m (Some (board_course b p)) (l ∷ n ∷ []) ≡ Some y
+two_lines : (o : Order) (m : Monitor) (b : Board) (p : Pending) (l n : LogLine) (x y : BoardCourse)
+    → board_behind o m b p l ≡ Some x
+    → board_behind o m x.board x.pending n ≡ Some y
+    → board_judge_from o m (Some (board_course b p)) (l ∷ n ∷ []) ≡ Some y
 unfolding board_judge_from
 two_lines o m b p l n x y h k =
-    ap (λ (z : Option BoardCourse). board_judge_from o m z (n ∷ [])) h ∙ ap (λ (z : Option BoardCourse). board_judge_from o m z []) k
+    ap (λ (z : Option BoardCourse). board_judge_from o m z (n ∷ [])) h
+    ∙ ap (λ (z : Option BoardCourse). board_judge_from o m z []) k
 
 -- ---- a step behind steps that are known
 
-known_leads : (o : Order) (m : Monitor) (b : Board) (l : LogLine) (step : Step) (c : Board) → board_step o m b step ≡ Some c
-    → board_line o m b l ≡ option_map board_settled (board_step o m b step) → Leads o m (Some (board_settled b)) (l ∷ []) c
+known_leads : (o : Order) (m : Monitor) (b : Board) (l : LogLine) (step : Step) (c : Board)
+    → board_step o m b step ≡ Some c
+    → board_line o m b l ≡ option_map board_settled (board_step o m b step)
+    → Leads o m (Some (board_settled b)) (l ∷ []) c
 known_leads o m b l step c taken line = record {
   to = board_settled c;
   judged = one_line o m b Settled l (board_settled c) (line ∙ ap (option_map board_settled) taken);
@@ -125,11 +134,14 @@ known_leads o m b l step c taken line = record {
 }
 
 module _ (o : Order) (m : Monitor) (b : Board) (sound : Sound b) where
-  held_at : (f : Event) (x : Next) → next_of f ≡ Some x → Passes o m b f → IsHeldTo o m b (as_called f) (board_after m.object b f)
-  held_at f x chose p = record { last = f; choice = x; chose = chose; called = refl; sound = sound; passes = p; comes = refl }
+  held_at : (f : Event) (x : Next) → next_of f ≡ Some x → Passes o m b f
+      → IsHeldTo o m b (as_called f) (board_after m.object b f)
+  held_at f x chose p =
+      record { last = f; choice = x; chose = chose; called = refl; sound = sound; passes = p; comes = refl }
 
   held_leads : (f : Event) (x : Next) (l : LogLine) → next_of f ≡ Some x → Passes o m b f
-      → board_line o m b l ≡ board_held m b (as_called f) → Leads o m (Some (board_settled b)) (l ∷ []) (board_after m.object b f)
+      → board_line o m b l ≡ board_held m b (as_called f)
+      → Leads o m (Some (board_settled b)) (l ∷ []) (board_after m.object b f)
   held_leads f x l chose p line = record {
     to = board_course b (Release (as_called f));
     judged = one_line o m b Settled l (board_course b (Release (as_called f)))
@@ -168,7 +180,9 @@ module _ (o : Order) (m : Monitor) (b : Board) (sound : Sound b) where
           in_range = p.may_call.in_range;
           offered = p.may_call.offered;
           in_turn = p.may_call.in_turn;
-          in_place = and_from (not (b.inside s)) (may_enter m.object (sight b) (board_via b)) place.0 (may_come via b.begun refl place.1);
+          in_place =
+              and_from (not (b.inside s)) (may_enter m.object (sight b) (board_via b)) place.0
+              (may_come via b.begun refl place.1);
         };
         right_reply = refl;
         permitted = refl;
@@ -177,18 +191,22 @@ module _ (o : Order) (m : Monitor) (b : Board) (sound : Sound b) where
   resume_line : (s : ℕ) (q : From3) → Passes o m b (event.Resume s q)
       → board_line o m b (Resume s) ≡ option_map board_settled (board_step o m b (Did (event.Resume s q)))
   resume_line s q p =
-      ap (λ (r : From3). option_map board_settled (board_step o m b (Did (event.Resume s r)))) (due_queue b.turn s q p.may_call.in_turn)
+      ap (λ (r : From3). option_map board_settled (board_step o m b (Did (event.Resume s r))))
+      (due_queue b.turn s q p.may_call.in_turn)
 
-  signal_line : (s c : ℕ) → returns_at_once m.kind.mode ≡ false → board_line o m b (Signal s c) ≡ board_held m b (event.Signal s c Stay)
+  signal_line : (s c : ℕ) → returns_at_once m.kind.mode ≡ false
+      → board_line o m b (Signal s c) ≡ board_held m b (event.Signal s c Stay)
   signal_line s c later =
-      ap (λ (y : Bool). cond y (board_hold m b (event.SignalLeave s c Stay) (Half s c)) (board_held m b (event.Signal s c Stay))) later
+      ap (λ (y : Bool). cond y (board_hold m b (event.SignalLeave s c Stay) (Half s c))
+      (board_held m b (event.Signal s c Stay))) later
 
   same_seat : (s : ℕ) (e : Event) → cond (s == s) (board_held m b e) None ≡ board_held m b e
   same_seat s e = ap (λ (y : Bool). cond y (board_held m b e) None) (eq-eqb s s refl)
 
   -- ---- each event
 
-  event_leads : (f : Event) → Passes o m b f → Leads o m (Some (board_settled b)) (erasure_of f) (board_after m.object b f)
+  event_leads : (f : Event) → Passes o m b f
+      → Leads o m (Some (board_settled b)) (erasure_of f) (board_after m.object b f)
   event_leads (event.Enter s via) p =
       let q = enter_passes s via p in
       known_leads o m b (Enter s) (Did (event.Enter s (board_via b))) (board_after m.object b (event.Enter s via))
@@ -206,7 +224,8 @@ module _ (o : Order) (m : Monitor) (b : Board) (sound : Sound b) where
   event_leads (event.Wait s c x) p = held_leads (event.Wait s c x) x (Wait s c) refl p refl
   event_leads (event.Until s q x) p = held_leads (event.Until s q x) x (Until s q) refl p refl
   event_leads (event.Signal s c x) p =
-      held_leads (event.Signal s c x) x (Signal s c) refl p (signal_line s c (not_at_once m.kind.mode p.may_call.offered))
+      held_leads (event.Signal s c x) x (Signal s c) refl p
+      (signal_line s c (not_at_once m.kind.mode p.may_call.offered))
   event_leads (event.SignalLeave s c x) p =
       half_leads s c (event.SignalLeave s c x) x (Leave s) refl p.may_call.offered
       (called_again m (sight b) (event.SignalLeave s c x) p.may_call) p (same_seat s (event.SignalLeave s c Stay))
@@ -215,7 +234,8 @@ module _ (o : Order) (m : Monitor) (b : Board) (sound : Sound b) where
       (half_called m (sight b) s c d (called_again m (sight b) (event.SignalWait s c d x) p.may_call)) p
       (same_seat s (event.SignalWait s c d Stay))
 
-  settled_leads : (step : Step) (c : Board) → board_step o m b step ≡ Some c → Leads o m (Some (board_settled b)) (step_lines step) c
+  settled_leads : (step : Step) (c : Board) → board_step o m b step ≡ Some c
+      → Leads o m (Some (board_settled b)) (step_lines step) c
   settled_leads (Did f) c h =
       let g = goes o m b (Did f) c h in
       subst (λ (x : Board). Leads o m (Some (board_settled b)) (erasure_of f) x) g.comes (event_leads f g.passes)
@@ -252,7 +272,8 @@ fits o m b (Lapsed s) c g = g.free
 
 -- the release is what the line tells of it
 release_told : (o : Order) (m : Monitor) (a : Board) (e : Event) (x : Next) (step : Step) → next_of e ≡ Some x → Sound a
-    → Passes o m a e → FitsTurn (turn_by (seat_of e) (next_of e)) step → board_told a (as_called e) (step_first step) ≡ e
+    → Passes o m a e → FitsTurn (turn_by (seat_of e) (next_of e)) step
+    → board_told a (as_called e) (step_first step) ≡ e
 release_told o m a e x step chose sound p turned =
     let told : board_told_next a e (step_first step) ≡ x =
     step_tells a e (seat_of e) x step (subst (λ (n : Option Next). FitsTurn (turn_by (seat_of e) n) step) chose turned)
@@ -262,7 +283,8 @@ release_told o m a e x step chose sound p turned =
 -- then the line is judged as one behind steps that are known
 release_lines : (o : Order) (m : Monitor) (a b : Board) (held e : Event) (l : LogLine) (rest : List LogLine)
     → board_told a held l ≡ e → board_step o m a (Did e) ≡ Some b
-    → board_judge_from o m (Some (board_course a (Release held))) (l ∷ rest) ≡ board_judge_from o m (Some (board_settled b)) (l ∷ rest)
+    → board_judge_from o m (Some (board_course a (Release held))) (l ∷ rest)
+    ≡ board_judge_from o m (Some (board_settled b)) (l ∷ rest)
 unfolding board_judge_from
 release_lines o m a b held e l rest told taken =
     ap (λ (y : Option Board). board_judge_from o m (board_then o m y l) rest)
@@ -273,7 +295,8 @@ release_lines o m a b held e l rest told taken =
 step_leads : (o : Order) (m : Monitor) (a : Board) (p : Pending) (b : Board) (step : Step) (c : Board) → Sound b
     → IsPendingTo o m a p b → board_step o m b step ≡ Some c → Leads o m (Some (board_course a p)) (step_lines step) c
 step_leads o m a Settled b step c sound at h =
-    subst (λ (x : Board). Leads o m (Some (board_settled x)) (step_lines step) c) (sym at) (settled_leads o m b sound step c h)
+    subst (λ (x : Board). Leads o m (Some (board_settled x)) (step_lines step) c) (sym at)
+    (settled_leads o m b sound step c h)
 step_leads o m a (Half s d) b step c sound at h = absurd at
 step_leads o m a (Release held) b step c sound at h =
     let e = at.last in
@@ -300,7 +323,8 @@ record GoesOn (o : Order) (m : Monitor) (b : Board) (step : Step) (steps : List 
   taken : board_step o m b step ≡ Some next
   more : is_some (board_from o m (Some next) steps) ≡ true
 
-goes_on : (o : Order) (m : Monitor) (b : Board) (step : Step) (steps : List Step) (x : Option Board) → board_step o m b step ≡ x
+goes_on : (o : Order) (m : Monitor) (b : Board) (step : Step) (steps : List Step) (x : Option Board)
+    → board_step o m b step ≡ x
     → is_some (board_from o m x steps) ≡ true → GoesOn o m b step steps
 unfolding board_from
 goes_on o m b step steps None is h = absurd (false≢true h)
@@ -334,7 +358,8 @@ some_before o m None more h = ap is_some (sym (none_told o m more)) ∙ h
 some_before o m (Some c) more h = refl
 
 -- a log with which the lines of such steps begin is judged to its end
-pub taken_judged : (o : Order) (m : Monitor) (log more : List LogLine) (steps : List Step) → run_lines steps ≡ log ++ more
+pub taken_judged : (o : Order) (m : Monitor) (log more : List LogLine) (steps : List Step)
+    → run_lines steps ≡ log ++ more
     → is_some (board_steps o m (opening_board m) steps) ≡ true → is_some (board_judge o m log) ≡ true
 taken_judged o m log more steps told taken =
     some_before o m (board_judge o m log) more

@@ -49,7 +49,8 @@ module _ (o : Order) (m : Monitor) (steps : List Step) (b : Board)
     }
 
     -- a release that may be called has a choice that goes on
-    release_open : (e : Event) → next_of e ≡ Some Stay → MayCallIn m (sight b) e → IsOpenIn o m (run_lines steps ++ erasure_of e)
+    release_open : (e : Event) → next_of e ≡ Some Stay → MayCallIn m (sight b) e
+        → IsOpenIn o m (run_lines steps ++ erasure_of e)
     release_open e stays may =
         let c = release_chosen o m b (orderly o m steps b taken) e stays may in
         let f = with_next c.choice e in
@@ -57,9 +58,11 @@ module _ (o : Order) (m : Monitor) (steps : List Step) (b : Board)
         record {
           steps = all;
           run = taken_run o m all (ap is_some
-              (steps-push o m (opening_board m) b (board_after m.object b f) steps (Did f) taken (step_ok o m b f c.passes)));
+              (steps-push o m (opening_board m) b (board_after m.object b f) steps (Did f) taken
+              (step_ok o m b f c.passes)));
           more = [];
-          tells = run_lines-push steps (Did f) ∙ ap (λ (ls : List LogLine). run_lines steps ++ ls) (erased_with_next c.choice e)
+          tells = run_lines-push steps (Did f)
+              ∙ ap (λ (ls : List LogLine). run_lines steps ++ ls) (erased_with_next c.choice e)
               ∙ sym (append-nil (run_lines steps ++ erasure_of e));
         }
 
@@ -80,8 +83,10 @@ judged_open_at : (o : Order) (m : Monitor) (log : List LogLine) (x : Option Boar
 judged_open_at o m log None is h = absurd (false≢true h)
 judged_open_at o m log (Some x) is h = told_open o m log x (judged_steps o m log x is)
 
-pub judged_open : (o : Order) (m : Monitor) (log : List LogLine) → is_some (board_judge o m log) ≡ true → IsOpenIn o m log
+pub judged_open : (o : Order) (m : Monitor) (log : List LogLine) → is_some (board_judge o m log) ≡ true
+    → IsOpenIn o m log
 judged_open o m log h = judged_open_at o m log (board_judge o m log) refl h
 
-pub open_judged : (o : Order) (m : Monitor) (log : List LogLine) → IsOpenIn o m log → is_some (board_judge o m log) ≡ true
+pub open_judged : (o : Order) (m : Monitor) (log : List LogLine) → IsOpenIn o m log
+    → is_some (board_judge o m log) ≡ true
 open_judged o m log x = taken_judged o m log x.more x.steps x.tells (run_taken o m x.steps x.run)

@@ -51,7 +51,8 @@ hold_if m b n p why x f false none h = absurd cc
 
 -- ---- a line
 
-hold_held : (m : Monitor) (b : Board) (e : Event) (p : Pending) (x : BoardCourse) → (MayCallIn m (sight b) e → IsHeldOver m b p)
+hold_held : (m : Monitor) (b : Board) (e : Event) (p : Pending) (x : BoardCourse)
+    → (MayCallIn m (sight b) e → IsHeldOver m b p)
     → board_hold_over m b e p ≡ Ok x → IsHeldAt m x
 hold_held m b e p x f h =
     let n = reason_before 0 m (sight b) e in
@@ -65,7 +66,8 @@ settled_held : (m : Monitor) (r : Result Board ℕ) (x : BoardCourse) → course
 settled_held m (Ok b) x h = known_held m b x h
 settled_held m (Err n) x h = no_blame m (blame_of n) x h
 
-lapse_held : (o : Order) (m : Monitor) (b : Board) (s : ℕ) (x : BoardCourse) → board_lapse_over o m b s ≡ Ok x → IsHeldAt m x
+lapse_held : (o : Order) (m : Monitor) (b : Board) (s : ℕ) (x : BoardCourse) → board_lapse_over o m b s ≡ Ok x
+    → IsHeldAt m x
 lapse_held o m b s x h =
     let why = board_lapse_blame m b s in
     either_held m (is_open b.turn && may_lapse o s b.items) (Ok (board_settled (board_lapse b s))) (Err why) x
@@ -78,7 +80,8 @@ signal_held m b s c x h =
     (hold_held m b (event.SignalLeave s c Stay) (Half s c) x (λ may. tt))
     (release_held m b (event.Signal s c Stay) x refl) h
 
-line_held : (o : Order) (m : Monitor) (b : Board) (l : LogLine) (x : BoardCourse) → board_line_over o m b l ≡ Ok x → IsHeldAt m x
+line_held : (o : Order) (m : Monitor) (b : Board) (l : LogLine) (x : BoardCourse)
+    → board_line_over o m b l ≡ Ok x → IsHeldAt m x
 line_held o m b (Enter s) x h = settled_held m (board_add o m b (event.Enter s (board_via b))) x h
 line_held o m b (Resume s) x h = settled_held m (board_add o m b (event.Resume s (due_from b.turn))) x h
 line_held o m b (Lapse s) x h = lapse_held o m b s x h
@@ -89,7 +92,8 @@ line_held o m b (Broadcast s c) x h = settled_held m (board_add o m b (event.Sig
 line_held o m b (Until s p) x h = release_held m b (event.Until s p Stay) x refl h
 line_held o m b (Act s op r) x h = settled_held m (board_add o m b (event.Act s op r)) x h
 
-half_held : (m : Monitor) (b : Board) (s c : ℕ) (l : LogLine) (x : BoardCourse) → board_half_over m b s c l ≡ Ok x → IsHeldAt m x
+half_held : (m : Monitor) (b : Board) (s c : ℕ) (l : LogLine) (x : BoardCourse)
+    → board_half_over m b s c l ≡ Ok x → IsHeldAt m x
 half_held m b s c (Enter j) x h = no_blame m (half_blame m (Enter j)) x h
 half_held m b s c (Resume j) x h = no_blame m (half_blame m (Resume j)) x h
 half_held m b s c (Lapse j) x h = no_blame m (half_blame m (Lapse j)) x h

@@ -25,7 +25,8 @@ module _ (o : Order) (k : Rules) (seats conds : ℕ) (ob : Object) (d : List ℕ
   reason_apart b e = refl
 
   settle_apart : (b : Board) (e : Event)
-      → course_by (board_add o (monitor k seats conds ob []) b e) ≡ course_by (board_add o (monitor k seats conds ob d) b e)
+      → course_by (board_add o (monitor k seats conds ob []) b e)
+      ≡ course_by (board_add o (monitor k seats conds ob d) b e)
   unfolding board_reason
   settle_apart b e = refl
 
@@ -60,9 +61,11 @@ module _ (o : Order) (k : Rules) (seats conds : ℕ) (ob : Object) (d : List ℕ
   behind_apart b (Release e) l =
       let told = board_told b e l in
       let why = board_release_blame o (monitor k seats conds ob []) b e l in
-      ap (λ (n : ℕ). cond (n == 0) (board_line_over o (monitor k seats conds ob []) (board_after ob b told) l) (Err why))
+      ap (λ (n : ℕ). cond (n == 0) (board_line_over o (monitor k seats conds ob []) (board_after ob b told) l)
+      (Err why))
       (reason_apart b told)
-      ∙ ap (λ (r : Result BoardCourse Blame). cond (board_reason o (monitor k seats conds ob d) b told == 0) r (Err why))
+      ∙ ap (λ (r : Result BoardCourse Blame). cond (board_reason o (monitor k seats conds ob d) b told == 0) r
+      (Err why))
       (line_apart (board_after ob b told) l)
 
   pub over_apart : (x : BoardCourse) (l : LogLine)

@@ -10,9 +10,11 @@ use Rattle.monk_logs.specs.declared.line.LogLine.{LogLine}
 use Rattle.monk_logs.specs.declared.order.Order.{Order}
 use Rattle.monk_logs.specs.declared.step.Step.{Step}
 
-pub run_lines-push : (steps : List Step) (step : Step) → run_lines (steps ++ step ∷ []) ≡ run_lines steps ++ step_lines step
+pub run_lines-push : (steps : List Step) (step : Step)
+    → run_lines (steps ++ step ∷ []) ≡ run_lines steps ++ step_lines step
 run_lines-push steps step =
-    flat_map-append step_lines steps (step ∷ []) ∙ ap (λ (x : List LogLine). run_lines steps ++ x) (append-nil (step_lines step))
+    flat_map-append step_lines steps (step ∷ [])
+    ∙ ap (λ (x : List LogLine). run_lines steps ++ x) (append-nil (step_lines step))
 
 pub board_from-append : (o : Order) (m : Monitor) (b : Option Board) (xs ys : List Step)
     → board_from o m b (xs ++ ys) ≡ board_from o m (board_from o m b xs) ys
@@ -26,7 +28,8 @@ unfolding board_from
 ended o m None = refl
 ended o m (Some b) = refl
 
-one_step : (o : Order) (m : Monitor) (b : Board) (step : Step) → board_from o m (Some b) (step ∷ []) ≡ board_step o m b step
+one_step : (o : Order) (m : Monitor) (b : Board) (step : Step)
+    → board_from o m (Some b) (step ∷ []) ≡ board_step o m b step
 unfolding board_from
 one_step o m b step = ended o m (board_step o m b step)
 

@@ -52,11 +52,13 @@ came_in : (seats j : ℕ) (e : Event) → seat_of e < seats → is_enter_of j e 
 came_in seats j e l h =
     subst (λ (x : ℕ). x < seats) (eqb-true (seat_of e) j (and_parts (is_some (via_of e)) (seat_of e == j) h).1) l
 
-seats_after : (o : Order) (m : Monitor) (b : Board) (e : Event) → Passes o m b e → ((j : ℕ) → b.inside j ≡ true → j < m.seats)
+seats_after : (o : Order) (m : Monitor) (b : Board) (e : Event) → Passes o m b e
+    → ((j : ℕ) → b.inside j ≡ true → j < m.seats)
     → (j : ℕ) → (board_after m.object b e).inside j ≡ true → j < m.seats
 seats_after o m b e p seats j h =
     ⊎_elim (λ k. seats j (and_parts (b.inside j) (not (is_exit_of j e)) k).0)
-    (λ k. came_in m.seats j e (seat_in_range m.seats m.conds m.object.codes m.object.predicates e p.may_call.in_range) k)
+    (λ k. came_in m.seats j e (seat_in_range m.seats m.conds m.object.codes m.object.predicates e
+    p.may_call.in_range) k)
     (or_cases (b.inside j && not (is_exit_of j e)) (is_enter_of j e) h)
 
 -- ---- a step
@@ -79,7 +81,8 @@ step_untils o m b (Lapsed s) c h has none =
     let g = goes o m b (Lapsed s) c h in
     subst (λ (x : Board). x.untils ≡ []) g.comes none
 
-orderly_step : (o : Order) (m : Monitor) (b : Board) (step : Step) (c : Board) → board_step o m b step ≡ Some c → Orderly m b → Orderly m c
+orderly_step : (o : Order) (m : Monitor) (b : Board) (step : Step) (c : Board) → board_step o m b step ≡ Some c
+    → Orderly m b → Orderly m c
 orderly_step o m b step c h ord = record {
   sound = sound_step o m b step c h ord.sound;
   seats = step_seats o m b step c h ord.seats;
@@ -88,7 +91,8 @@ orderly_step o m b step c h ord = record {
 
 -- ---- all steps
 
-orderly_at : (o : Order) (m : Monitor) (steps : List Step) (x : Option Board) (c : Board) → board_from o m x steps ≡ Some c
+orderly_at : (o : Order) (m : Monitor) (steps : List Step) (x : Option Board) (c : Board)
+    → board_from o m x steps ≡ Some c
     → ((b : Board) → x ≡ Some b → Orderly m b) → Orderly m c
 unfolding board_from
 orderly_at o m steps None c h ord = absurd cc
@@ -100,7 +104,8 @@ pub orderly_opening : (m : Monitor) → Orderly m (opening_board m)
 orderly_opening m = record { sound = sound_opening m; seats = λ j h. absurd (false≢true h); untils = λ has. refl }
 
 -- a board that steps lead to from the beginning
-pub orderly : (o : Order) (m : Monitor) (steps : List Step) (b : Board) → board_steps o m (opening_board m) steps ≡ Some b → Orderly m b
+pub orderly : (o : Order) (m : Monitor) (steps : List Step) (b : Board)
+    → board_steps o m (opening_board m) steps ≡ Some b → Orderly m b
 orderly o m steps b h =
     orderly_at o m steps (Some (opening_board m)) b h
     (λ c is. let same : opening_board m ≡ c = cc in subst (λ (x : Board). Orderly m x) same (orderly_opening m))

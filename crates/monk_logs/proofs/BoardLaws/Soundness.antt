@@ -50,8 +50,10 @@ record LeadTo (o : Order) (m : Monitor) (log : List LogLine) (b : Board) : Type 
 
 -- ---- what is added
 
-step_tells : (o : Order) (m : Monitor) (log : List LogLine) (b : Board) (step : Step) (c : Option Board) (x : BoardCourse)
-    → board_step o m b step ≡ c → option_map board_settled c ≡ Some x → LeadTo o m log b → StepsTell o m (log ++ step_lines step) x
+step_tells : (o : Order) (m : Monitor) (log : List LogLine) (b : Board) (step : Step) (c : Option Board)
+    (x : BoardCourse)
+    → board_step o m b step ≡ c → option_map board_settled c ≡ Some x → LeadTo o m log b
+    → StepsTell o m (log ++ step_lines step) x
 step_tells o m log b step None x is h lead = absurd cc
 step_tells o m log b step (Some c) x is h lead =
     let same : board_settled c ≡ x = cc in
@@ -96,7 +98,8 @@ signal_tells : (o : Order) (m : Monitor) (log : List LogLine) (b : Board) (s c :
     → cond at_once (board_hold m b (event.SignalLeave s c Stay) (Half s c))
     (board_hold m b (event.Signal s c Stay) (Release (event.Signal s c Stay))) ≡ Some x
     → LeadTo o m log b → StepsTell o m (log ++ Signal s c ∷ []) x
-signal_tells o m log b s c x true h lead = hold_tells o m log b (event.SignalLeave s c Stay) (Half s c) x h (λ may. may) lead
+signal_tells o m log b s c x true h lead =
+    hold_tells o m log b (event.SignalLeave s c Stay) (Half s c) x h (λ may. may) lead
 signal_tells o m log b s c x false h lead = release_tells o m log b (event.Signal s c Stay) x h refl lead
 
 line_tells : (o : Order) (m : Monitor) (log : List LogLine) (b : Board) (l : LogLine) (x : BoardCourse)
@@ -121,16 +124,19 @@ half_tells o m log b s c (Broadcast j d) x h lead = absurd cc
 half_tells o m log b s c (Until j p) x h lead = absurd cc
 half_tells o m log b s c (Act j op r) x h lead = absurd cc
 half_tells o m log b s c (Leave j) x h lead =
-    let p = cond_some (j == s) (board_hold m b (event.SignalLeave s c Stay) (Release (event.SignalLeave s c Stay))) x h in
+    let p = cond_some (j == s) (board_hold m b (event.SignalLeave s c Stay)
+    (Release (event.SignalLeave s c Stay))) x h in
     subst (λ (k : ℕ). StepsTell o m (log ++ Signal s c ∷ Leave k ∷ []) x) (sym (eqb-true j s p.0))
     (release_tells o m log b (event.SignalLeave s c Stay) x p.1 refl lead)
 half_tells o m log b s c (Wait j d) x h lead =
-    let p = cond_some (j == s) (board_hold m b (event.SignalWait s c d Stay) (Release (event.SignalWait s c d Stay))) x h in
+    let p = cond_some (j == s) (board_hold m b (event.SignalWait s c d Stay)
+    (Release (event.SignalWait s c d Stay))) x h in
     subst (λ (k : ℕ). StepsTell o m (log ++ Signal s c ∷ Wait k d ∷ []) x) (sym (eqb-true j s p.0))
     (release_tells o m log b (event.SignalWait s c d Stay) x p.1 refl lead)
 
 -- behind a release whose choice is told
-then_tells : (o : Order) (m : Monitor) (steps : List Step) (b : Board) (y : Next) (e : Event) (l : LogLine) (c : Option Board)
+then_tells : (o : Order) (m : Monitor) (steps : List Step) (b : Board) (y : Next) (e : Event) (l : LogLine)
+    (c : Option Board)
     (x : BoardCourse) → board_step o m b (Did (with_next y e)) ≡ c → board_then o m c l ≡ Some x
     → board_steps o m (opening_board m) steps ≡ Some b → StepsTell o m ((run_lines steps ++ erasure_of e) ++ l ∷ []) x
 then_tells o m steps b y e l None x is h taken = absurd cc
@@ -145,7 +151,11 @@ then_tells o m steps b y e l (Some c) x is h taken =
 behind_tells : (o : Order) (m : Monitor) (log : List LogLine) (b : Board) (p : Pending) (l : LogLine) (x : BoardCourse)
     → board_behind o m b p l ≡ Some x → StepsTell o m log (board_course b p) → StepsTell o m (log ++ l ∷ []) x
 behind_tells o m log b Settled l x h t =
-    line_tells o m log b l x h (record { steps = t.steps; taken = t.taken; told = sym (append-nil (run_lines t.steps)) ∙ t.told })
+    line_tells o m log b l x h (record {
+      steps = t.steps;
+      taken = t.taken;
+      told = sym (append-nil (run_lines t.steps)) ∙ t.told;
+    })
 behind_tells o m log b (Half s c) l x h t =
     subst (λ (y : List LogLine). StepsTell o m y x)
     (sym (append_assoc (run_lines t.steps) (Signal s c ∷ []) (l ∷ [])) ∙ ap (λ (y : List LogLine). y ++ l ∷ []) t.told)

@@ -43,7 +43,8 @@ settled_if : (b : Bool) (c : Board) (r : ℕ)
 settled_if true c r = refl
 settled_if false c r = refl
 
-settles : (o : Order) (m : Monitor) (b : Board) (e : Event) → board_known o m b (Did e) ≡ result_ok (board_settle o m b e)
+settles : (o : Order) (m : Monitor) (b : Board) (e : Event)
+    → board_known o m b (Did e) ≡ result_ok (board_settle o m b e)
 settles o m b e = settled_if (board_reason o m b e == 0) (board_after m.object b e) (board_reason o m b e)
 
 holds : (m : Monitor) (b : Board) (e : Event) (p : Pending) → board_hold m b e p ≡ result_ok (board_hold_over m b e p)
@@ -55,7 +56,8 @@ lapsed_if : (b : Bool) (c : Board) (why : Blame)
 lapsed_if true c why = refl
 lapsed_if false c why = refl
 
-line_same : (o : Order) (m : Monitor) (b : Board) (l : LogLine) → board_line o m b l ≡ result_ok (board_line_over o m b l)
+line_same : (o : Order) (m : Monitor) (b : Board) (l : LogLine)
+    → board_line o m b l ≡ result_ok (board_line_over o m b l)
 line_same o m b (Enter s) = settles o m b (event.Enter s (board_via b))
 line_same o m b (Resume s) = settles o m b (event.Resume s (due_from b.turn))
 line_same o m b (Lapse s) =
@@ -70,7 +72,8 @@ line_same o m b (Broadcast s c) = settles o m b (event.SignalAll s c)
 line_same o m b (Until s p) = holds m b (event.Until s p Stay) (Release (event.Until s p Stay))
 line_same o m b (Act s op r) = settles o m b (event.Act s op r)
 
-half_same : (m : Monitor) (b : Board) (s c : ℕ) (l : LogLine) → board_half m b s c l ≡ result_ok (board_half_over m b s c l)
+half_same : (m : Monitor) (b : Board) (s c : ℕ) (l : LogLine)
+    → board_half m b s c l ≡ result_ok (board_half_over m b s c l)
 half_same m b s c (Enter j) = refl
 half_same m b s c (Resume j) = refl
 half_same m b s c (Lapse j) = refl

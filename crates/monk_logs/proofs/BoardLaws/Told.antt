@@ -68,16 +68,20 @@ IsFound b e (next.Waiter j) = standing_choice b e j ≡ next.Waiter j
 IsFound b e (next.Signaller j) = standing_choice b e j ≡ next.Signaller j
 IsFound b e (next.Until j) = standing_choice b e j ≡ next.Until j
 
-due_is : (b : Board) (e : Event) (s r : ℕ) (from : From3) (x : Next) → is_due r from (turn_by s (Some x)) ≡ true → IsFound b e x
+due_is : (b : Board) (e : Event) (s r : ℕ) (from : From3) (x : Next)
+    → is_due r from (turn_by s (Some x)) ≡ true → IsFound b e x
     → standing_choice b e r ≡ x
 due_is b e s r from next.Stay h is = absurd (false≢true h)
 due_is b e s r from next.Entry h is = absurd (false≢true h)
-due_is b e s r from (next.Waiter j) h is = subst (λ (k : ℕ). standing_choice b e k ≡ next.Waiter j) (due_seat j r _ h) is
-due_is b e s r from (next.Signaller j) h is = subst (λ (k : ℕ). standing_choice b e k ≡ next.Signaller j) (due_seat j r _ h) is
+due_is b e s r from (next.Waiter j) h is =
+    subst (λ (k : ℕ). standing_choice b e k ≡ next.Waiter j) (due_seat j r _ h) is
+due_is b e s r from (next.Signaller j) h is =
+    subst (λ (k : ℕ). standing_choice b e k ≡ next.Signaller j) (due_seat j r _ h) is
 due_is b e s r from (next.Until j) h is = subst (λ (k : ℕ). standing_choice b e k ≡ next.Until j) (due_seat j r _ h) is
 
 -- whoever goes on then, the line tells what the release of seat s chose
-pub step_tells : (b : Board) (e : Event) (s : ℕ) (x : Next) (step : Step) → FitsTurn (turn_by s (Some x)) step → IsFound b e x
+pub step_tells : (b : Board) (e : Event) (s : ℕ) (x : Next) (step : Step) → FitsTurn (turn_by s (Some x)) step
+    → IsFound b e x
     → board_told_next b e (step_first step) ≡ x
 step_tells b e s x (Did (event.Enter r via)) h is = entry_is s x h
 step_tells b e s x (Did (event.Act r op y)) h is = stay_is s r x h
@@ -94,7 +98,8 @@ step_tells b e s x (Lapsed r) h is = entry_is s x h
 -- ---- a choice that was permitted, but to stay
 
 moved : (k : Rules) (stays back : Bool) (q : Chances) (s : ℕ) (x : Next)
-    → cond stays (is_stay (Some x)) (cond back (may_signal_by k q s x) (may_choose_by k q s x)) ≡ true → is_stay (Some x) ≡ false
+    → cond stays (is_stay (Some x)) (cond back (may_signal_by k q s x) (may_choose_by k q s x)) ≡ true
+    → is_stay (Some x) ≡ false
     → may_choose_by k q s x ≡ true
 moved k true back q s x h ne = absurd (false≢true (sym ne ∙ h))
 moved k false false q s x h ne = h
@@ -109,7 +114,8 @@ permitted_move : (k : Rules) (stays : Bool) (q : Chances) (e : Event) (x : Next)
 permitted_move k stays q e x h is ne =
     moved k stays (is_some (steps_back e)) q (seat_of e) x
     (subst (λ (n : Option Next). cond stays (is_stay n) (option_map_or
-    (λ y. cond (is_some (steps_back e)) (may_signal_by k q (seat_of e) y) (may_choose_by k q (seat_of e) y)) n true) ≡ true) is h) ne
+    (λ y. cond (is_some (steps_back e)) (may_signal_by k q (seat_of e) y) (may_choose_by k q (seat_of e) y)) n
+    true) ≡ true) is h) ne
 
 -- ---- who stands where
 
@@ -130,7 +136,8 @@ signalled b e j h ne =
     (or_cases (is_among j b.signallers) (is_among j (signals (sight b).condition e))
     (sym (among-append j b.signallers (signals (sight b).condition e)) ∙ h))
 
-nowhere_at : (j : ℕ) (items : List Item) (x : Option ℕ) → condition_of j items ≡ x → is_among j (all_seats items) ≡ false
+nowhere_at : (j : ℕ) (items : List Item) (x : Option ℕ) → condition_of j items ≡ x
+    → is_among j (all_seats items) ≡ false
     → is_some x ≡ false
 nowhere_at j items None is h = refl
 nowhere_at j items (Some c) is h = absurd (false≢true (sym h ∙ among_line j c items (waits_there j c items is)))
@@ -155,7 +162,8 @@ release_owns b (event.Resume s q) x h t = absurd cc
 release_owns b (event.SignalAll s c) x h t = absurd cc
 release_owns b (event.SignalWait s c d y) x h t = t
 
-pub owner_counted : (b : Board) (e : Event) (x : Next) (j : ℕ) → next_of e ≡ Some x → is_in_turn (sight b) e ≡ true → seat_of e ≡ j
+pub owner_counted : (b : Board) (e : Event) (x : Next) (j : ℕ) → next_of e ≡ Some x
+    → is_in_turn (sight b) e ≡ true → seat_of e ≡ j
     → has_turn j b.turn ≡ 1
 owner_counted b e x j h t is = owned_turn (seat_of e) j b.turn (release_owns b e x h t) ∙ counts_one (seat_of e) j is
 
@@ -166,7 +174,9 @@ module _ (o : Order) (m : Monitor) (b : Board) (e : Event) (sound : Sound b) (p 
   signaller_found j is =
       let q = board_chances o m.object b e in
       let may = permitted_move m.kind _ q e (next.Signaller j) p.permitted is refl in
-      let parts = and_parts (q.signaller j && (q.no_waiter || nat_le m.kind.waiter m.kind.signaller)) (not (j == seat_of e)) may in
+      let parts =
+      and_parts (q.signaller j && (q.no_waiter || nat_le m.kind.waiter m.kind.signaller))
+      (not (j == seat_of e)) may in
       let here = may_go_among o j (signallers_with b e) (and_parts (q.signaller j) _ parts.0).0 in
       let other : seat_of e ≡ j → ⊥ = λ same.
       false≢true (sym (not-true (j == seat_of e) parts.1) ∙ eq-eqb j (seat_of e) (sym same)) in
@@ -177,7 +187,9 @@ module _ (o : Order) (m : Monitor) (b : Board) (e : Event) (sound : Sound b) (p 
   until_found j is =
       let q = board_chances o m.object b e in
       let may = permitted_move m.kind _ q e (next.Until j) p.permitted is refl in
-      let ready = may_go_among o j (ready_of m.object b.state b.untils) (and_parts (not (has_conditions m.kind.mode)) (q.ready j) may).1 in
+      let ready =
+      may_go_among o j (ready_of m.object b.state b.untils)
+      (and_parts (not (has_conditions m.kind.mode)) (q.ready j) may).1 in
       let counted = among_counted j (until_seats b.untils) (ready_waits m.object b.state j b.untils ready) in
       let other : seat_of e ≡ j → ⊥ = λ same. omega (
         arith,
@@ -186,8 +198,16 @@ module _ (o : Order) (m : Monitor) (b : Board) (e : Event) (sound : Sound b) (p 
         counted,
         owner_counted b e (next.Until j) j is p.may_call.in_turn same,
       ) in
-      let nobody : is_among j (signallers_with b e) ≡ false = false_from_ne_true (is_among j (signallers_with b e)) (λ h.
-      omega (arith, sound.seated j, one_at_most (b.inside j), counted, among_counted j b.signallers (signalled b e j h other))) in
+      let nobody : is_among j (signallers_with b e) ≡ false =
+      false_from_ne_true (is_among j (signallers_with b e)) (λ h.
+      omega (
+        arith,
+        sound.seated j,
+        one_at_most (b.inside j),
+        counted,
+        among_counted j b.signallers
+            (signalled b e j h other),
+      )) in
       rw (waits_nowhere b e j (omega (arith, sound.seated j, one_at_most (b.inside j), counted)), nobody) refl
 
   waiter_found : (j : ℕ) → next_of e ≡ Some (next.Waiter j) → standing_choice b e j ≡ next.Waiter j

@@ -29,7 +29,8 @@ judged_fits o m n (Err why) log h = absurd (false≢true h)
 judged_fits o m n (Ok x) [] h = refl
 judged_fits o m n (Ok x) (l ∷ log) h =
     judged_fits o m (n + 1) (board_over o m x l) log
-    (ap (λ (y : Option BoardCourse). is_some (board_judge_from o m y log)) (sym (over_same o m x.board x.pending l)) ∙ h)
+    (ap (λ (y : Option BoardCourse). is_some (board_judge_from o m y log))
+    (sym (over_same o m x.board x.pending l)) ∙ h)
 
 pub fits_judged : (o : Order) (m : Monitor) (n : ℕ) (r : Result BoardCourse Blame) (log : List LogLine)
     → board_verdict_from o m n r log ≡ Fits → is_some (board_judge_from o m (result_ok r) log) ≡ true
@@ -52,7 +53,8 @@ one_line : (o : Order) (m : Monitor) (x : BoardCourse) (l : LogLine)
 unfolding board_judge_from
 one_line o m x l = ended o m (board_behind o m x.board x.pending l)
 
-pub line_leads : (o : Order) (m : Monitor) (front : List LogLine) (x : BoardCourse) (l : LogLine) (r : Result BoardCourse Blame)
+pub line_leads : (o : Order) (m : Monitor) (front : List LogLine) (x : BoardCourse) (l : LogLine)
+    (r : Result BoardCourse Blame)
     → board_judge o m front ≡ Some x → board_over o m x l ≡ r → board_judge o m (front ++ l ∷ []) ≡ result_ok r
 line_leads o m front x l r at is =
     judge-append o m (Some (board_settled (opening_board m))) front (l ∷ [])

@@ -81,7 +81,8 @@ chosen_is : (x y : Next) (e : Event) → next_of e ≡ Some Stay → next_of (wi
 chosen_is x y e h k = let same : Some y ≡ Some x = sym k ∙ next_with x e h in cc
 
 last_chosen : (m : Monitor) (past before : List Event) (e last : Event) (y : Next) → next_of e ≡ Some Stay
-    → past ++ with_next (unwished_next m.kind m.object (situation m past) e) e ∷ [] ≡ before ++ last ∷ [] → next_of last ≡ Some y
+    → past ++ with_next (unwished_next m.kind m.object (situation m past) e) e ∷ [] ≡ before ++ last ∷ []
+    → next_of last ≡ Some y
     → y ≡ unwished_next m.kind m.object (situation m before) last
 last_chosen m past before e last y stays is chose =
     let x = unwished_next m.kind m.object (situation m past) e in
@@ -98,7 +99,8 @@ release_completes : (m : Monitor) (past : List Event) (e : Event) (log : List Lo
 release_completes m past e log kind legal may stays told few all =
     let x = unwished_next m.kind m.object (situation m past) e in
     let allowed : IsAllowed m past (with_next x e) =
-    chosen_allowed m (situation m past) e false WishEntry (legal_order m past kind legal) may (release_right m past e stays) in
+    chosen_allowed m (situation m past) e false WishEntry (legal_order m past kind legal) may
+    (release_right m past e stays) in
     record {
       legal = legal-push m past (with_next x e) legal allowed;
       erases = erasure-push past (with_next x e)
@@ -136,7 +138,8 @@ settled_completes m past legal known all =
       last_choice = λ before e x is chose. let none : next_of e ≡ None = known before e is in absurd cc;
     })
 
-half_told : (m : Monitor) (past : List Event) (s c : ℕ) (log : List LogLine) → MayCall m past (event.SignalLeave s c Stay)
+half_told : (m : Monitor) (past : List Event) (s c : ℕ) (log : List LogLine)
+    → MayCall m past (event.SignalLeave s c Stay)
     → erasure past ++ Signal s c ∷ [] ≡ log
     → erasure past ++ erasure_of (event.SignalLeave s c Stay) ≡ log ++ other_half m.kind.mode log
 half_told m past s c log may told =
@@ -146,14 +149,16 @@ half_told m past s c log may told =
     (subst (λ (x : List LogLine). other_half m.kind.mode x ≡ Leave s ∷ []) told
     (signal_half m.kind.mode (erasure past) s c may.offered))
 
-tells_completes : (m : Monitor) (log : List LogLine) (past : List Event) (p : Pending) → IsKind m.kind → Tells m log past p
+tells_completes : (m : Monitor) (log : List LogLine) (past : List Event) (p : Pending) → IsKind m.kind
+    → Tells m log past p
     → Completes m log (past ++ last_events m.kind m.object (situation m past) p)
 tells_completes m log past Settled kind t =
     subst (λ (x : List LogLine). Completes m x (past ++ [])) (sym (append-nil (erasure past)) ∙ t.told)
     (settled_completes m past t.legal t.still t.handed)
 tells_completes m log past (Half s c) kind t =
     release_completes m past (event.SignalLeave s c Stay) log kind t.legal t.still refl
-    (half_told m past s c log t.still t.told) (λ last. one_more past last (Signal s c ∷ []) log t.told (omega arith)) t.handed
+    (half_told m past s c log t.still t.told)
+    (λ last. one_more past last (Signal s c ∷ []) log t.told (omega arith)) t.handed
 tells_completes m log past (Release e) kind t =
     release_completes m past e log kind t.legal t.still.0 t.still.1
     (t.told ∙ whole m log (subst (λ (x : List LogLine). other_half m.kind.mode x ≡ []) t.told
@@ -162,8 +167,10 @@ tells_completes m log past (Release e) kind t =
 
 -- ---- what is kept
 
-pub course_ends : (m : Monitor) (log : List LogLine) (t : Situation) (p : Pending) (b : Bool) (o new : Option (List Event))
-    → IsKind m.kind → IsCourse m log t p b o → new ≡ kept_with o (last_events m.kind m.object t p) → IsCompletedBy m log b new
+pub course_ends : (m : Monitor) (log : List LogLine) (t : Situation) (p : Pending) (b : Bool)
+    (o new : Option (List Event))
+    → IsKind m.kind → IsCourse m log t p b o → new ≡ kept_with o (last_events m.kind m.object t p)
+    → IsCompletedBy m log b new
 course_ends m log t p b o new kind c is =
     let more = last_events m.kind m.object t p in
     record {
@@ -194,7 +201,8 @@ still_fits m past (Release d) e still is =
     subst (λ (x : Event). fits_object m.object.codes m.object.predicates x ≡ true) same (asks_few m past d still.0)
 
 pub course_fits : (m : Monitor) (log : List LogLine) (t : Situation) (p : Pending) (b : Bool) (o : Option (List Event))
-    (codes predicates : ℕ) (e : Event) → IsCourse m log t p b o → m.object.codes ≡ codes → m.object.predicates ≡ predicates
+    (codes predicates : ℕ) (e : Event) → IsCourse m log t p b o → m.object.codes ≡ codes
+    → m.object.predicates ≡ predicates
     → last_release p ≡ Some e
     → fits_object codes predicates e ≡ true
 course_fits m log t p b o codes predicates e c few fewer is =

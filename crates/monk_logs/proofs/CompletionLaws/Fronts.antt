@@ -14,7 +14,8 @@ use Rattle.monk_logs.specs.Ending.{by_fronts}
 -- the choice of the first of the inner waiters, if there is one
 abbrev pub inner_next : Rules → Queues → Option Next
 inner_next k q =
-    cond (has_conditions k.mode) (option_map (λ j. Waiter j) (slice_get q.waiters 0)) (option_map (λ j. Until j) (slice_get q.ready 0))
+    cond (has_conditions k.mode) (option_map (λ j. Waiter j) (slice_get q.waiters 0))
+    (option_map (λ j. Until j) (slice_get q.ready 0))
 
 abbrev by_lists : Bool → List ℕ → List ℕ → List ℕ → Bool → ℕ → Next
 by_lists b ws rs ss first s =

@@ -47,7 +47,8 @@ whole_event k o (event.SignalAll s c) h = alike (returns_at_once k) []
 whole_event k o (event.SignalWait s c d x) h = alike (returns_at_once k) []
 
 -- behind an event that the mode has nothing is half told
-pub event_whole : (k : Mode) (front : List LogLine) (e : Event) → is_call_of k e ≡ true → other_half k (front ++ erasure_of e) ≡ []
+pub event_whole : (k : Mode) (front : List LogLine) (e : Event) → is_call_of k e ≡ true
+    → other_half k (front ++ erasure_of e) ≡ []
 event_whole k front e h = half_after k front (erasure_of e) ∙ whole_event k (last_or None front) e h
 
 -- behind a signal of immediate return one half is

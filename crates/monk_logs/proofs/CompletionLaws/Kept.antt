@@ -23,12 +23,14 @@ led_to now later true why h = cc
 led_to now later false why h = absurd cc
 
 -- a release and the line behind it
-pub told_kept : (o : Order) (m : Monitor) (b now : Board) (e told : Event) (l : LogLine) (old k new : Option (List Event))
+pub told_kept : (o : Order) (m : Monitor) (b now : Board) (e told : Event) (l : LogLine)
+    (old k new : Option (List Event))
     → told ≡ board_told b e l → Ok now ≡ board_chosen o m b e l → k ≡ kept_with old (told ∷ [])
     → new ≡ kept_with k (own_events now l) → new ≡ kept_with old (known_events m.object b (Release e) l)
 told_kept o m b now e told l old k new is led kept more =
     let later = board_after m.object b (board_told b e l) in
-    more ∙ ap (λ (x : Option (List Event)). kept_with x (own_events now l)) kept ∙ kept_twice old (told ∷ []) (own_events now l)
+    more ∙ ap (λ (x : Option (List Event)). kept_with x (own_events now l)) kept
+    ∙ kept_twice old (told ∷ []) (own_events now l)
     ∙ ap (λ (y : Board). kept_with old (told ∷ own_events y l))
     (led_to now later (board_reason o m b (board_told b e l) == 0) (board_release_blame o m b e l) led)
     ∙ ap (λ (x : Event). kept_with old (x ∷ own_events later l)) is

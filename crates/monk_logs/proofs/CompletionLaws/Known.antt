@@ -45,7 +45,8 @@ grows : (b : Bool) (h more : List Event) → kept_with (kept_if b h) more ≡ ke
 grows true h more = refl
 grows false h more = refl
 
-pub keeps_more : (b : Bool) (o new : Option (List Event)) (h more : List Event) → o ≡ kept_if b h → new ≡ kept_with o more
+pub keeps_more : (b : Bool) (o new : Option (List Event)) (h more : List Event) → o ≡ kept_if b h
+    → new ≡ kept_with o more
     → new ≡ kept_if b (h ++ more)
 keeps_more b o new h more k is = is ∙ ap (λ (x : Option (List Event)). kept_with x more) k ∙ grows b h more
 
@@ -68,7 +69,8 @@ course_line m front l t u p q b o new c is kept =
     adds.is ∙ ap (λ (x : Situation). c.known ++ told_events m.object x p l) c.stands in
     record {
       known = d.0.past;
-      tells = subst (λ (x : Pending). Tells m (front ++ l ∷ []) d.0.past x) (ap (λ (s : Stand). s.pending) d.2) adds.tells;
+      tells = subst (λ (x : Pending). Tells m (front ++ l ∷ []) d.0.past x)
+          (ap (λ (s : Stand). s.pending) d.2) adds.tells;
       stands = ap (λ (s : Stand). s.now) d.2;
       keeps = keeps_more b o new c.known (told_events m.object t p l) c.keeps kept ∙ ap (kept_if b) (sym more);
     }

@@ -85,7 +85,8 @@ held_apart k seats conds o d b (Release e) held = (
 -- ---- line by line
 
 -- the first so many lines led to this board, which is a situation, and these are the events that they told
-pub record OnBoard (m : Monitor) (lines : List LogLine) (i : ℕ) (b : Board) (p : Pending) (wanted : Bool) (o : Option (List Event))
+pub record OnBoard (m : Monitor) (lines : List LogLine) (i : ℕ) (b : Board) (p : Pending) (wanted : Bool)
+    (o : Option (List Event))
     : Type 0
   where
     pub there : Situation
@@ -93,7 +94,8 @@ pub record OnBoard (m : Monitor) (lines : List LogLine) (i : ℕ) (b : Board) (p
     pub so_far : verdict_from m i (Ok (stand there p)) (drop i lines) ≡ verdict_on m lines
     pub course : IsCourse m (take i lines) there p wanted o
 
-pub board_opens : (m : Monitor) (lines : List LogLine) (b : Board) (o : Option (List Event)) → b ≡ opening_board m → IsKept o []
+pub board_opens : (m : Monitor) (lines : List LogLine) (b : Board) (o : Option (List Event))
+    → b ≡ opening_board m → IsKept o []
     → OnBoard m lines 0 b Settled (is_some o) o
 board_opens m lines b o is keeps = record {
   there = opening_situation m;
@@ -107,12 +109,14 @@ record LeadsTo (m : Monitor) (b : Board) (q : Pending) (r : Result Stand Blame) 
   is : Ok (stand there q) ≡ r
   same : Same m b there
 
-leads_by : (m : Monitor) (b : Board) (q : Pending) (r : Result Stand Blame) → Matches m (Ok (board_course b q)) r → LeadsTo m b q r
+leads_by : (m : Monitor) (b : Board) (q : Pending) (r : Result Stand Blame)
+    → Matches m (Ok (board_course b q)) r → LeadsTo m b q r
 leads_by m b q (Ok s) h =
     record { there = s.now; is = ap (λ (y : Pending). Ok (stand s.now y)) h.0; same = h.1 }
 leads_by m b q (Err why) h = absurd h
 
-module _ (m : Monitor) (lines : List LogLine) (i : ℕ) (l : LogLine) (a b : Board) (p : Pending) (left : LineVerdict) (wanted : Bool)
+module _ (m : Monitor) (lines : List LogLine) (i : ℕ) (l : LogLine) (a b : Board) (p : Pending)
+    (left : LineVerdict) (wanted : Bool)
     (o : Option (List Event)) (within : i < length lines) (c : OnBoard m lines i a p wanted o) (held : IsHeldOver m a p)
     (judged : course_or b left ≡ legal_behind m a p (get_or lines i l))
   where
@@ -132,8 +136,11 @@ module _ (m : Monitor) (lines : List LogLine) (i : ℕ) (l : LogLine) (a b : Boa
         record {
           there = f.there;
           same = f.same;
-          so_far = along_more (line_over m) lines i l (stand c.there p) (Ok (stand f.there q)) (verdict_on m lines) within c.so_far f.is;
-          course = subst (λ (front : List LogLine). IsCourse m front f.there q wanted new) (sym (take_more lines i l within))
+          so_far =
+              along_more (line_over m) lines i l (stand c.there p) (Ok (stand f.there q))
+              (verdict_on m lines) within c.so_far f.is;
+          course =
+              subst (λ (front : List LogLine). IsCourse m front f.there q wanted new) (sym (take_more lines i l within))
               (course_line m (take i lines) k c.there f.there p q wanted o new c.course f.is
               (kept ∙ ap (λ (more : List Event). kept_with o more) events));
         }
@@ -146,11 +153,13 @@ module _ (m : Monitor) (lines : List LogLine) (i : ℕ) (l : LogLine) (a b : Boa
     board_misfits why fails =
         along_misfits (line_over m) lines i l (stand c.there p) why (verdict_on m lines) within c.so_far
         (misfits_by why (line_behind m c.there p (get_or lines i l))
-        (subst (λ (x : LineVerdict). Matches m (course_or b x) (line_behind m c.there p (get_or lines i l))) fails matches))
+        (subst (λ (x : LineVerdict). Matches m (course_or b x) (line_behind m c.there p (get_or lines i l)))
+        fails matches))
 
 -- ---- behind the last line
 
-module _ (m : Monitor) (lines : List LogLine) (i : ℕ) (b : Board) (p : Pending) (wanted : Bool) (o : Option (List Event))
+module _ (m : Monitor) (lines : List LogLine) (i : ℕ) (b : Board) (p : Pending) (wanted : Bool)
+    (o : Option (List Event))
     (c : OnBoard m lines i b p wanted o)
   where
     pub board_fits : length lines ≤ i → Fits ≡ verdict_on m lines

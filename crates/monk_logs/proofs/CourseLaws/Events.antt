@@ -44,7 +44,8 @@ pub via_same : (b : Bool) → cond b Free Handed ≡ cond (not b) Handed Free
 via_same true = refl
 via_same false = refl
 
-all_push : (P : Event → Type 0) (es : List Event) (e : Event) → AllByRecursion P es → P e → AllByRecursion P (es ++ e ∷ [])
+all_push : (P : Event → Type 0) (es : List Event) (e : Event) → AllByRecursion P es → P e
+    → AllByRecursion P (es ++ e ∷ [])
 all_push P [] e all one = (one, tt)
 all_push P (x ∷ xs) e all one = (all.0, all_push P xs e all.1 one)
 

@@ -9,7 +9,8 @@ use Rattle.monk_logs.specs.Erasure.{erasure_of, erasure}
 use Rattle.monk_logs.specs.declared.line.LogLine.{LogLine}
 
 pub erasure-push : (h : List Event) (e : Event) → erasure (h ++ e ∷ []) ≡ erasure h ++ erasure_of e
-erasure-push h e = flat_map-append erasure_of h (e ∷ []) ∙ ap (λ (x : List LogLine). erasure h ++ x) (append-nil (erasure_of e))
+erasure-push h e = flat_map-append erasure_of h (e ∷ [])
+    ∙ ap (λ (x : List LogLine). erasure h ++ x) (append-nil (erasure_of e))
 
 pub judge_from-append : (m : Monitor) (c : Option Course) (xs ys : List LogLine)
     → judge_from m c (xs ++ ys) ≡ judge_from m (judge_from m c xs) ys

@@ -87,8 +87,10 @@ ends_with : (past g : List Event) (e : Event) → g ≡ past ++ e ∷ [] → nex
 ends_with past g e is none = λ before x k.
     ap next_of (sym (same_from_push past before e x (sym is ∙ k)).1) ∙ none
 
-settled_tells : (m : Monitor) (past : List Event) (e : Event) (log : List LogLine) (o : Option (List Event)) (c : Course)
-    → add m past e ≡ o → option_map settled_course o ≡ Some c → next_of e ≡ None → (is_empty past ≡ false → IsNoFreeEnter e)
+settled_tells : (m : Monitor) (past : List Event) (e : Event) (log : List LogLine) (o : Option (List Event))
+    (c : Course)
+    → add m past e ≡ o → option_map settled_course o ≡ Some c → next_of e ≡ None
+    → (is_empty past ≡ false → IsNoFreeEnter e)
     → IsLegal m past → AreHandedOver past → erasure past ≡ log → Adds m (log ++ erasure_of e) past (e ∷ []) c
 settled_tells m past e log None c is h none one legal all told = absurd cc
 settled_tells m past e log (Some g) c is h none one legal all told =
@@ -111,13 +113,19 @@ held_tells m past e p c h =
     (called_from_tests m (situation m past) e q.0, q.1)
 
 release_tells : (m : Monitor) (past : List Event) (e : Event) (log : List LogLine) (c : Course)
-    → hold m past e (Release e) ≡ Some c → next_of e ≡ Some Stay → IsLegal m past → AreHandedOver past → erasure past ≡ log
+    → hold m past e (Release e) ≡ Some c → next_of e ≡ Some Stay → IsLegal m past → AreHandedOver past
+    → erasure past ≡ log
     → Adds m (log ++ erasure_of e) past [] c
 release_tells m past e log c h stays legal all told =
     let p = held_tells m past e (Release e) c h in
     subst (Adds m (log ++ erasure_of e) past []) p.1 (record {
       tells =
-          record { legal = legal; told = ap (λ (x : List LogLine). x ++ erasure_of e) told; still = (p.0, stays); handed = all };
+          record {
+            legal = legal;
+            told = ap (λ (x : List LogLine). x ++ erasure_of e) told;
+            still = (p.0, stays);
+            handed = all;
+          };
       is = sym (append-nil past);
     })
 
@@ -131,29 +139,39 @@ signal_tells m past s c log d true h legal all told =
     let p = held_tells m past (event.SignalLeave s c Stay) (Half s c) d h in
     subst (Adds m (log ++ Signal s c ∷ []) past []) p.1 (record {
       tells =
-          record { legal = legal; told = ap (λ (x : List LogLine). x ++ Signal s c ∷ []) told; still = p.0; handed = all };
+          record {
+            legal = legal;
+            told = ap (λ (x : List LogLine). x ++ Signal s c ∷ []) told;
+            still = p.0;
+            handed = all;
+          };
       is = sym (append-nil past);
     })
-signal_tells m past s c log d false h legal all told = release_tells m past (event.Signal s c Stay) log d h refl legal all told
+signal_tells m past s c log d false h legal all told =
+    release_tells m past (event.Signal s c Stay) log d h refl legal all told
 
 behind_events_tells : (m : Monitor) (past : List Event) (log : List LogLine) (l : LogLine) (c : Course)
     → behind_events m past l ≡ Some c → IsLegal m past → AreHandedOver past → erasure past ≡ log
     → Adds m (log ++ l ∷ []) past (line_events (situation m past) l) c
 behind_events_tells m past log (Enter s) c h legal all told =
     subst (λ (v : Via). Adds m (log ++ Enter s ∷ []) past (event.Enter s v ∷ []) c) (via_same (is_empty past))
-    (settled_tells m past (event.Enter s (cond (is_empty past) Free Handed)) log _ c refl h refl (handed_enter s (is_empty past))
+    (settled_tells m past (event.Enter s (cond (is_empty past) Free Handed)) log _ c refl h refl
+    (handed_enter s (is_empty past))
     legal all told)
 behind_events_tells m past log (Resume s) c h legal all told =
     let e = event.Resume s (due_from (turn past)) in
     settled_tells m past e log _ c refl h refl (λ some. no_enter e refl) legal all told
 behind_events_tells m past log (Lapse s) c h legal all told = absurd cc
-behind_events_tells m past log (Leave s) c h legal all told = release_tells m past (event.Leave s Stay) log c h refl legal all told
-behind_events_tells m past log (Wait s d) c h legal all told = release_tells m past (event.Wait s d Stay) log c h refl legal all told
+behind_events_tells m past log (Leave s) c h legal all told =
+    release_tells m past (event.Leave s Stay) log c h refl legal all told
+behind_events_tells m past log (Wait s d) c h legal all told =
+    release_tells m past (event.Wait s d Stay) log c h refl legal all told
 behind_events_tells m past log (Signal s d) c h legal all told =
     signal_tells m past s d log c (returns_at_once m.kind.mode) h legal all told
 behind_events_tells m past log (Broadcast s d) c h legal all told =
     let e = event.SignalAll s d in settled_tells m past e log _ c refl h refl (λ some. no_enter e refl) legal all told
-behind_events_tells m past log (Until s p) c h legal all told = release_tells m past (event.Until s p Stay) log c h refl legal all told
+behind_events_tells m past log (Until s p) c h legal all told =
+    release_tells m past (event.Until s p Stay) log c h refl legal all told
 behind_events_tells m past log (Act s op r) c h legal all told =
     let e = event.Act s op r in settled_tells m past e log _ c refl h refl (λ some. no_enter e refl) legal all told
 
@@ -176,7 +194,8 @@ behind_half_tells m past s c (Leave j) d h legal all =
     subst (λ (k : ℕ). Adds m (erasure past ++ Signal s c ∷ Leave k ∷ []) past [] d) (sym (eqb-true j s p.0))
     (release_tells m past (event.SignalLeave s c Stay) (erasure past) d p.1 refl legal all refl)
 behind_half_tells m past s c (Wait j x) d h legal all =
-    let p = cond_some (j == s) (hold m past (event.SignalWait s c x Stay) (Release (event.SignalWait s c x Stay))) d h in
+    let p = cond_some (j == s) (hold m past (event.SignalWait s c x Stay)
+    (Release (event.SignalWait s c x Stay))) d h in
     subst (λ (k : ℕ). Adds m (erasure past ++ Signal s c ∷ Wait k x ∷ []) past [] d) (sym (eqb-true j s p.0))
     (release_tells m past (event.SignalWait s c x Stay) (erasure past) d p.1 refl legal all refl)
 
@@ -193,7 +212,8 @@ erased_with_next x (event.SignalAll s c) = refl
 erased_with_next x (event.SignalWait s c d y) = refl
 
 then_behind_tells : (m : Monitor) (past : List Event) (x : Next) (e : Event) (log : List LogLine) (l : LogLine)
-    (o : Option (List Event)) (d : Course) → add m past (with_next x e) ≡ o → then_behind m o l ≡ Some d → next_of e ≡ Some Stay
+    (o : Option (List Event)) (d : Course) → add m past (with_next x e) ≡ o → then_behind m o l ≡ Some d
+    → next_of e ≡ Some Stay
     → IsLegal m past → AreHandedOver past → erasure past ++ erasure_of e ≡ log
     → Adds m (log ++ l ∷ []) past (with_next x e ∷ line_events (after m.object (situation m past) (with_next x e)) l) d
 then_behind_tells m past x e log l None d is h stays legal all told = absurd cc
@@ -204,7 +224,8 @@ then_behind_tells m past x e log l (Some g) d is h stays legal all told =
     ap (situation m) a.1 ∙ legal_situation-push m past f legal in
     let one = handed-push past f all (λ some. no_enter f (release_is_no_enter x e stays)) in
     let r = behind_events_tells m g log l d h a.0 (subst AreHandedOver (sym a.1) one)
-    (told_more past g f (erasure past) a.1 refl ∙ ap (λ (y : List LogLine). erasure past ++ y) (erased_with_next x e) ∙ told) in
+    (told_more past g f (erasure past) a.1 refl
+    ∙ ap (λ (y : List LogLine). erasure past ++ y) (erased_with_next x e) ∙ told) in
     record {
       tells = r.tells;
       is = r.is ∙ ap (λ (t : Situation). g ++ line_events t l) lands
@@ -259,7 +280,8 @@ release_open : (m : Monitor) (past : List Event) (e : Event) → IsKind m.kind �
 release_open m past e kind legal may stays =
     let x = choice_of m.kind m.object (situation m past) e false WishWaiter in
     let allowed : IsAllowed m past (with_next x e) =
-    chosen_allowed m (situation m past) e false WishWaiter (legal_order m past kind legal) may (release_right m past e stays) in
+    chosen_allowed m (situation m past) e false WishWaiter (legal_order m past kind legal) may
+    (release_right m past e stays) in
     record {
       history = past ++ with_next x e ∷ [];
       legal = legal-push m past (with_next x e) legal allowed;
@@ -280,10 +302,16 @@ open_front m log more o = record {
 tells_open : (m : Monitor) (log : List LogLine) (past : List Event) (pending : Pending) → IsKind m.kind
     → Tells m log past pending → IsOpen m log
 tells_open m log past Settled kind t =
-    record { history = past; legal = t.legal; more = []; erases = sym (append-nil (erasure past)) ∙ t.told ∙ sym (append-nil log) }
+    record {
+      history = past;
+      legal = t.legal;
+      more = [];
+      erases = sym (append-nil (erasure past)) ∙ t.told ∙ sym (append-nil log);
+    }
 tells_open m log past (Half s c) kind t =
     open_front m log (Leave s ∷ []) (subst (IsOpen m)
-    (sym (append_assoc (erasure past) (Signal s c ∷ []) (Leave s ∷ [])) ∙ ap (λ (x : List LogLine). x ++ Leave s ∷ []) t.told)
+    (sym (append_assoc (erasure past) (Signal s c ∷ []) (Leave s ∷ []))
+    ∙ ap (λ (x : List LogLine). x ++ Leave s ∷ []) t.told)
     (release_open m past (event.SignalLeave s c Stay) kind t.legal t.still refl))
 tells_open m log past (Release e) kind t =
     subst (IsOpen m) t.told (release_open m past e kind t.legal t.still.0 t.still.1)
@@ -293,7 +321,8 @@ nothing_before [] e h = absurd cc
 nothing_before (x ∷ before) e h = absurd cc
 
 pub tells_nothing : (m : Monitor) → Tells m [] [] Settled
-tells_nothing m = record { legal = legal_none m; told = refl; still = λ before e is. nothing_before before e is; handed = tt }
+tells_nothing m =
+    record { legal = legal_none m; told = refl; still = λ before e is. nothing_before before e is; handed = tt }
 
 tells_from : (m : Monitor) (log : List LogLine) (d : Course) → judge m log ≡ Some d → TellsAt m log d
 tells_from m log d h =

@@ -65,7 +65,8 @@ module _ (m : Monitor) (t : Situation) where
   in_range_with : (s : ℕ) (y x : Next) (waits signals object : Bool)
       → ((((nat_lt s m.seats && names_seats m y) && waits) && signals) && object) ≡ true → names_seats m x ≡ true
       → ((((nat_lt s m.seats && names_seats m x) && waits) && signals) && object) ≡ true
-  in_range_with s y x waits signals object h k = renamed (nat_lt s m.seats) (names_seats m y) (names_seats m x) waits signals object h k
+  in_range_with s y x waits signals object h k =
+      renamed (nat_lt s m.seats) (names_seats m y) (names_seats m x) waits signals object h k
 
   pub called_with : (e : Event) (x : Next) → MayCallIn m t e → names_seats m x ≡ true → MayCallIn m t (with_next x e)
   called_with (Enter s via) x a k = a
@@ -73,7 +74,12 @@ module _ (m : Monitor) (t : Situation) where
   called_with (Resume s q) x a k = a
   called_with (SignalAll s c) x a k = a
   called_with (Leave s y) x a k =
-      record { in_range = in_range_with s y x true true true a.in_range k; offered = a.offered; in_turn = a.in_turn; in_place = refl }
+      record {
+        in_range = in_range_with s y x true true true a.in_range k;
+        offered = a.offered;
+        in_turn = a.in_turn;
+        in_place = refl;
+      }
   called_with (Wait s c y) x a k = record {
     in_range = in_range_with s y x (nat_lt c m.conds) true true a.in_range k;
     offered = a.offered;
@@ -108,7 +114,8 @@ module _ (m : Monitor) (t : Situation) where
   -- as a caller knows it
   pub called_again : (e : Event) → MayCallIn m t e → MayCallIn m t (as_called e)
   called_again (Enter s via) a = a
-  called_again (Act s op r) a = record { in_range = a.in_range; offered = a.offered; in_turn = a.in_turn; in_place = a.in_place }
+  called_again (Act s op r) a =
+      record { in_range = a.in_range; offered = a.offered; in_turn = a.in_turn; in_place = a.in_place }
   called_again (Resume s q) a = a
   called_again (SignalAll s c) a = a
   called_again (Leave s y) a = called_with (Leave s y) Stay a refl

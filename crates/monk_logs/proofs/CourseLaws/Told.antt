@@ -101,7 +101,8 @@ abbrev pub permits : Rules → Object → Situation → Event → Option Next �
 permits k o t e n =
     cond (must_stay o t e) (is_stay n)
     (option_map_or
-    (λ x. cond (is_some (steps_back e)) (may_signal k (queues_at o t e) (seat_of e) x) (may_choose k (queues_at o t e) (seat_of e) x))
+    (λ x. cond (is_some (steps_back e)) (may_signal k (queues_at o t e) (seat_of e) x)
+    (may_choose k (queues_at o t e) (seat_of e) x))
     n true)
 
 both_ways : (b c d : Bool) → cond b false (cond c d d) ≡ true → d ≡ true
@@ -109,7 +110,8 @@ both_ways true c d h = absurd cc
 both_ways false true d h = h
 both_ways false false d h = h
 
-pub waiter_front : (k : Rules) (o : Object) (t : Situation) (e : Event) (j : ℕ) → permits k o t e (Some (next.Waiter j)) ≡ true
+pub waiter_front : (k : Rules) (o : Object) (t : Situation) (e : Event) (j : ℕ)
+    → permits k o t e (Some (next.Waiter j)) ≡ true
     → is_front j (queues_at o t e).waiters ≡ true
 waiter_front k o t e j h =
     and_left (is_front j (queues_at o t e).waiters) _ (both_ways (must_stay o t e) (is_some (steps_back e)) _ h)
@@ -147,7 +149,8 @@ due_is_nowhere m g e j from legal is =
     let counted : has_turn j u.turn ≡ 1 = ap (has_turn j) is ∙ turn_counts j from in
     omega (arith, at_most_one (u.inside j) (standing m.conds j u) placed, counted)
 
-no_signaller : (t : Situation) (e : Event) (j : ℕ) → next_of e ≡ Some (next.Until j) → takes_signaller t.condition e ≡ false
+no_signaller : (t : Situation) (e : Event) (j : ℕ) → next_of e ≡ Some (next.Until j)
+    → takes_signaller t.condition e ≡ false
 no_signaller t e j is =
     ap (λ (n : Option Next). is_signaller n || (is_stay n && not (is_empty (signals t.condition e)))) is
 
@@ -167,15 +170,18 @@ chosen m g e (next.Signaller j) is legal =
     (subst (λ (n : Option Next). permits m.kind m.object t e n ≡ true) is (legal_last m g e legal).permitted) in
     let nowhere = due_is_nowhere m g e j from.Signaller legal (ap (turn_by (seat_of e)) is) in
     let none : times j (drop (cond (is_waiter (next_of e)) 1 0) q.waiters) ≡ 0 = omega (arith, nowhere) in
-    let not_waiting : times j q.waiters ≡ 0 = subst (λ (n : Option Next). times j (drop (cond (is_waiter n) 1 0) q.waiters) ≡ 0) is none in
+    let not_waiting : times j q.waiters ≡ 0 =
+    subst (λ (n : Option Next). times j (drop (cond (is_waiter n) 1 0) q.waiters) ≡ 0) is none in
     rw (no_front j q.waiters not_waiting, front) refl
 chosen m g e (next.Until j) is legal =
     let t = situation m g in
     let q = queues_at m.object t e in
     let nowhere = due_is_nowhere m g e j from.Until legal (ap (turn_by (seat_of e)) is) in
     let none : times j (drop (cond (is_waiter (next_of e)) 1 0) q.waiters) ≡ 0 = omega (arith, nowhere) in
-    let not_waiting : times j q.waiters ≡ 0 = subst (λ (n : Option Next). times j (drop (cond (is_waiter n) 1 0) q.waiters) ≡ 0) is none in
-    let none_there : times j (drop (cond (takes_signaller t.condition e) 1 0) q.signallers) ≡ 0 = omega (arith, nowhere) in
+    let not_waiting : times j q.waiters ≡ 0 =
+    subst (λ (n : Option Next). times j (drop (cond (is_waiter n) 1 0) q.waiters) ≡ 0) is none in
+    let none_there : times j (drop (cond (takes_signaller t.condition e) 1 0) q.signallers) ≡ 0 =
+    omega (arith, nowhere) in
     let not_taken : takes_signaller t.condition e ≡ false = no_signaller t e j is in
     let not_signalling : times j q.signallers ≡ 0 =
     subst (λ (b : Bool). times j (drop (cond b 1 0) q.signallers) ≡ 0) not_taken none_there in

@@ -74,7 +74,8 @@ inside_turn stays f g h e (Broadcast s c) = refl
 inside_turn stays f g h e (Until s p) = refl
 inside_turn stays f g h e (Act s op r) = refl
 
-inside_place : (f g : ℕ → Bool) → ((j : ℕ) → f j ≡ g j) → (e : Event) (l : LogLine) → is_line_in_place f e l ≡ is_line_in_place g e l
+inside_place : (f g : ℕ → Bool) → ((j : ℕ) → f j ≡ g j) → (e : Event) (l : LogLine)
+    → is_line_in_place f e l ≡ is_line_in_place g e l
 inside_place f g h e (Enter s) = ap (λ (x : Bool). not (x && not (is_exit_of s e))) (h s)
 inside_place f g h e (Resume s) = refl
 inside_place f g h e (Lapse s) = refl
@@ -92,8 +93,10 @@ first_test a b c d e f x y h k l n = cc
 
 -- ---- a lapse
 
-late_without : (a b c may : Bool) → without_lapses (cond (not a) blame.Turn (cond (not b) blame.Place (cond (not c) blame.Reply
-    (cond may blame.Choice blame.Served)))) ≡ cond (not a) blame.Turn (cond (not b) blame.Place (cond (not c) blame.Reply blame.Served))
+late_without : (a b c may : Bool)
+    → without_lapses (cond (not a) blame.Turn (cond (not b) blame.Place (cond (not c) blame.Reply
+    (cond may blame.Choice blame.Served))))
+    ≡ cond (not a) blame.Turn (cond (not b) blame.Place (cond (not c) blame.Reply blame.Served))
 late_without true true true true = refl
 late_without true true true false = refl
 late_without true true false may = refl
@@ -121,7 +124,8 @@ module _ (m : Monitor) (b : Board) (t : Situation) (e : Event) (sound : Sound b)
   stands_same : (s : ℕ) → stands_in (queues_at m.object t e) s ≡ comes_back Fifo m.object (board_served b e) s
   stands_same s =
       any_same (is_among s (t.waiters ++ serves t.condition e)) (has s (queues_at m.object t e).signallers)
-      (has s (ready_of m.object t.state t.untils)) (was_served Fifo s (items_with b e)) (is_among s (signallers_with b e))
+      (has s (ready_of m.object t.state t.untils)) (was_served Fifo s (items_with b e))
+      (is_among s (signallers_with b e))
       (has s (ready_of m.object b.state b.untils))
       (served_told s (items_with b e) (t.waiters ++ serves t.condition e) (distinct_with b e sound) fit)
       (ap (λ (xs : List ℕ). is_among s xs) (sigs_same m b t e sound h)) (ap (λ (xs : List ℕ). has s xs) ready_there)
@@ -131,14 +135,17 @@ module _ (m : Monitor) (b : Board) (t : Situation) (e : Event) (sound : Sound b)
       same_truth (is_front s (t.waiters ++ serves t.condition e)) (may_resume Fifo s (items_with b e))
       (λ k. front_resume s (items_with b e) (distinct_with b e sound) (keeps_with b e sound)
       (subst (λ (xs : List ℕ). is_front s xs ≡ true) (queue_same m b t e sound h) k))
-      (λ k. subst (λ (xs : List ℕ). is_front s xs ≡ true) (sym (queue_same m b t e sound h)) (resume_front s (items_with b e) k))
+      (λ k. subst (λ (xs : List ℕ). is_front s xs ≡ true) (sym (queue_same m b t e sound h))
+      (resume_front s (items_with b e) k))
 
   front_same : (s : ℕ) → is_front_in (queues_at m.object t e) s ≡ comes_next Fifo m.object (board_served b e) s
   front_same s =
       any_same (is_front s (t.waiters ++ serves t.condition e)) (is_front s (queues_at m.object t e).signallers)
-      (is_front s (ready_of m.object t.state t.untils)) (may_resume Fifo s (items_with b e)) (is_front s (signallers_with b e))
+      (is_front s (ready_of m.object t.state t.untils)) (may_resume Fifo s (items_with b e))
+      (is_front s (signallers_with b e))
       (is_front s (ready_of m.object b.state b.untils)) (front_waits s)
-      (ap (λ (xs : List ℕ). is_front s xs) (sigs_same m b t e sound h)) (ap (λ (xs : List ℕ). is_front s xs) ready_there)
+      (ap (λ (xs : List ℕ). is_front s xs) (sigs_same m b t e sound h))
+      (ap (λ (xs : List ℕ). is_front s xs) ready_there)
 
   resume_same : (s : ℕ) → resume_blame (queues_at m.object t e) s ≡ resume_blame_on Fifo m.object (board_served b e) s
   resume_same s =
@@ -185,7 +192,8 @@ module _ (m : Monitor) (b : Board) (t : Situation) (e : Event) (sound : Sound b)
   late_same : (l : LogLine) → is_lapse l ≡ false
       → late_blame m t e l ≡ late_blame_on Fifo m (must_stay m.object (sight b) e) (board_served b e) e l
   late_same l none =
-      tests_same l (choice_blame m.kind (queues_at m.object t e) l) (choice_blame_on Fifo m.kind m.object (board_served b e) e l)
+      tests_same l (choice_blame m.kind (queues_at m.object t e) l)
+      (choice_blame_on Fifo m.kind m.object (board_served b e) e l)
       (choice_same l none)
 
   pub blame_same : (l : LogLine) → is_lapse l ≡ false → release_blame m t e l ≡ board_release_blame Fifo m b e l

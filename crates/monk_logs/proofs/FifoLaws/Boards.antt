@@ -65,24 +65,28 @@ module _ (m : Monitor) (b : Board) (t : Situation) (e : Event) (sound : Sound b)
 
   -- ---- the board follows
 
-  pub like : AreLike (chances Fifo (queues_with m.object t e (serves t.condition e))) (board_chances Fifo m.object b e) (next_of e)
+  pub like : AreLike (chances Fifo (queues_with m.object t e (serves t.condition e)))
+      (board_chances Fifo m.object b e) (next_of e)
   like = record {
     no_waiter = empty_same;
     no_signaller = ap (λ (xs : List ℕ). is_empty xs) sigs_same;
     no_ready = ap (λ (xs : List ℕ). is_empty xs) (ready_same m.object b t h.stands.state h.stands.untils);
     signaller = λ j k. subst (λ (xs : List ℕ). is_front j xs ≡ true) sigs_same k;
-    ready = λ j k. subst (λ (xs : List ℕ). is_front j xs ≡ true) (ready_same m.object b t h.stands.state h.stands.untils) k;
+    ready = λ j k. subst (λ (xs : List ℕ). is_front j xs ≡ true)
+        (ready_same m.object b t h.stands.state h.stands.untils) k;
     waiter = λ j is k. front_resume j (items_with b e) (distinct_with b e sound) (keeps_with b e sound)
         (subst (λ (xs : List ℕ). is_front j xs ≡ true) queue_same k);
   }
 
-  pub back_like : AreLike (board_chances Fifo m.object b e) (chances Fifo (queues_with m.object t e (serves t.condition e))) (next_of e)
+  pub back_like : AreLike (board_chances Fifo m.object b e)
+      (chances Fifo (queues_with m.object t e (serves t.condition e))) (next_of e)
   back_like = record {
     no_waiter = sym empty_same;
     no_signaller = ap (λ (xs : List ℕ). is_empty xs) (sym sigs_same);
     no_ready = ap (λ (xs : List ℕ). is_empty xs) (sym (ready_same m.object b t h.stands.state h.stands.untils));
     signaller = λ j k. subst (λ (xs : List ℕ). is_front j xs ≡ true) (sym sigs_same) k;
-    ready = λ j k. subst (λ (xs : List ℕ). is_front j xs ≡ true) (sym (ready_same m.object b t h.stands.state h.stands.untils)) k;
+    ready = λ j k. subst (λ (xs : List ℕ). is_front j xs ≡ true)
+        (sym (ready_same m.object b t h.stands.state h.stands.untils)) k;
     waiter = λ j is k. subst (λ (xs : List ℕ). is_front j xs ≡ true) (sym queue_same)
         (resume_front j (items_with b e) k);
   }
@@ -92,7 +96,8 @@ module _ (m : Monitor) (b : Board) (t : Situation) (e : Event) (sound : Sound b)
       ≡ served_in (board_after m.object b e).items
   waiters_after p =
       ap (λ (xs : List ℕ). apart (chosen_waiter (next_of e)) xs) queue_same
-      ∙ served_chosen (next_of e) (items_with b e) (distinct_with b e sound) (keeps_with b e sound) (may_resume_chosen Fifo m b e p)
+      ∙ served_chosen (next_of e) (items_with b e) (distinct_with b e sound) (keeps_with b e sound)
+      (may_resume_chosen Fifo m b e p)
       ∙ sym (served_came (seat_of e) (chosen_out (next_of e) (items_with b e)) (waits_on e)
       (λ c. keeps_chosen Fifo c (items_with b e) (next_of e) (distinct_with b e sound) (was_served_chosen Fifo m b e p)
       (keeps_with b e sound c)))
@@ -114,7 +119,8 @@ module _ (m : Monitor) (b : Board) (t : Situation) (e : Event) (sound : Sound b)
           permitted = permits_like m.kind (must_stay m.object (sight b) e)
               (chances Fifo (queues_with m.object t e (serves t.condition e))) (board_chances Fifo m.object b e) e
               (like m b t e sound h)
-              (subst (λ (x : Bool). permits_by m.kind x (chances Fifo (queues_with m.object t e (serves t.condition e))) e ≡ true)
+              (subst (λ (x : Bool). permits_by m.kind x
+              (chances Fifo (queues_with m.object t e (serves t.condition e))) e ≡ true)
               (stay_same Wake m.object b t e h.stands) move.permitted);
         } in
         record {
@@ -122,7 +128,8 @@ module _ (m : Monitor) (b : Board) (t : Situation) (e : Event) (sound : Sound b)
           alike = record { stands = f.stands; waiters = move.comes_to.waiters ∙ waiters_after m b t e sound h passes };
         }
 
-pub follows_in_turn : (m : Monitor) (b : Board) (t : Situation) (e : Event) (ws : List ℕ) (u : Situation) → Sound b → Alike b t
+pub follows_in_turn : (m : Monitor) (b : Board) (t : Situation) (e : Event) (ws : List ℕ) (u : Situation)
+    → Sound b → Alike b t
     → IsMove Fifo m t e ws u → FollowsInTurn m b e u
 follows_in_turn m b t e ws u sound h move =
     moved m b t e sound h u
@@ -148,7 +155,8 @@ pub record LeadsInTurn (m : Monitor) (t : Situation) (e : Event) : Type 0 where
   pub next : Situation
   pub move : IsMove Fifo m t e served next
 
-module _ (m : Monitor) (b : Board) (t : Situation) (e : Event) (sound : Sound b) (h : Alike b t) (p : Passes Fifo m b e) where
+module _ (m : Monitor) (b : Board) (t : Situation) (e : Event) (sound : Sound b) (h : Alike b t)
+    (p : Passes Fifo m b e) where
   pub leads_in_turn : LeadsInTurn m t e
   leads_in_turn = record {
     served = serves t.condition e;
@@ -157,7 +165,9 @@ module _ (m : Monitor) (b : Board) (t : Situation) (e : Event) (sound : Sound b)
       serves = serves_so t.condition e;
       may_call = call_back Wake b t (sound_distinct b sound) h.stands m e p.may_call;
       right_reply = reply_same Wake m.object b t e h.stands ∙ p.right_reply;
-      permitted = subst (λ (x : Bool). permits_by m.kind x (chances Fifo (queues_with m.object t e (serves t.condition e))) e ≡ true)
+      permitted =
+          subst (λ (x : Bool). permits_by m.kind x
+          (chances Fifo (queues_with m.object t e (serves t.condition e))) e ≡ true)
           (sym (stay_same Wake m.object b t e h.stands))
           (permits_like m.kind (must_stay m.object (sight b) e) (board_chances Fifo m.object b e)
           (chances Fifo (queues_with m.object t e (serves t.condition e))) e (back_like m b t e sound h) p.permitted);
@@ -181,7 +191,8 @@ pub record LapsesInTurn (b : Board) (s : ℕ) (u : Situation) : Type 0 where
   pub may : may_lapse Fifo s b.items ≡ true
   pub alike : Alike (board_lapse b s) u
 
-pub lapse_in_turn : (b : Board) (t : Situation) (s : ℕ) (u : Situation) → Sound b → Alike b t → IsLapse t s u → LapsesInTurn b s u
+pub lapse_in_turn : (b : Board) (t : Situation) (s : ℕ) (u : Situation) → Sound b → Alike b t → IsLapse t s u
+    → LapsesInTurn b s u
 lapse_in_turn b t s u sound h l =
     let f = lapse_follows Wake b t s u sound h.stands l in
     let may : may_lapse Fifo s b.items ≡ true = f.may in
@@ -211,7 +222,8 @@ pub record LapseInTurn (t : Situation) (s : ℕ) : Type 0 where
   pub next : Situation
   pub lapse : IsLapse t s next
 
-pub lapse_leads_in_turn : (b : Board) (t : Situation) (s : ℕ) → Alike b t → is_open b.turn ≡ true → may_lapse Fifo s b.items ≡ true
+pub lapse_leads_in_turn : (b : Board) (t : Situation) (s : ℕ) → Alike b t → is_open b.turn ≡ true
+    → may_lapse Fifo s b.items ≡ true
     → LapseInTurn t s
 lapse_leads_in_turn b t s h free may =
     let r = lapses Fifo s b.items may in

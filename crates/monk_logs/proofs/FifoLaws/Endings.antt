@@ -38,18 +38,21 @@ module _ (m : Monitor) (b : Board) (t : Situation) (e : Event) (sound : Sound b)
       ap (λ (x : Option ℕ). cond (has_conditions m.kind.mode) (option_map (λ j. next.Waiter j) x)
       (option_map (λ j. next.Until j) (slice_get (ready_of m.object b.state b.untils) 0))) first_same
       ∙ ap (λ (xs : List ℕ). cond (has_conditions m.kind.mode)
-      (option_map (λ j. next.Waiter j) (slice_get (queues_at m.object t e).waiters 0)) (option_map (λ j. next.Until j) (slice_get xs 0)))
+      (option_map (λ j. next.Waiter j) (slice_get (queues_at m.object t e).waiters 0))
+      (option_map (λ j. next.Until j) (slice_get xs 0)))
       (sym (ready_same m.object b t h.stands.state h.stands.untils))
 
   pub unwished_same : unwished_on m.kind m.object b e ≡ unwished_next m.kind m.object t e
   unwished_same =
       let q = queues_at m.object t e in
       let first = nat_le m.kind.signaller m.kind.waiter in
-      ap (λ (x : Bool). cond x next.Stay (by_fronts (inner_on m.kind m.object (board_served b e)) (slice_get (signallers_with b e) 0)
+      ap (λ (x : Bool). cond x next.Stay
+      (by_fronts (inner_on m.kind m.object (board_served b e)) (slice_get (signallers_with b e) 0)
       first (seat_of e))) (sym (stay_same Wake m.object b t e h.stands))
       ∙ ap (λ (x : Next). cond (must_stay m.object t e) next.Stay x)
       (ap (λ (x : Option Next). by_fronts x (slice_get (signallers_with b e) 0) first (seat_of e)) inner_same
-      ∙ ap (λ (xs : List ℕ). by_fronts (inner_next m.kind q) (slice_get xs 0) first (seat_of e)) (sym (sigs_same m b t e sound h))
+      ∙ ap (λ (xs : List ℕ). by_fronts (inner_next m.kind q) (slice_get xs 0) first (seat_of e))
+      (sym (sigs_same m b t e sound h))
       ∙ fronts_choose m.kind q (seat_of e))
 
 pub last_same : (m : Monitor) (b : Board) (t : Situation) (p : Pending) → Sound b → Alike b t

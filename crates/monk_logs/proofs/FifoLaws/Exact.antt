@@ -57,13 +57,16 @@ last_tells front l h =
     (or_parts (is_lapse l) false
     (or_parts (has_lapse front) (is_lapse l || false) (sym (list_any-append is_lapse front (l ∷ [])) ∙ h)).1).0
 
-none_more : (front : List LogLine) (l : LogLine) → has_lapse front ≡ false → is_lapse l ≡ false → has_lapse (front ++ l ∷ []) ≡ false
+none_more : (front : List LogLine) (l : LogLine) → has_lapse front ≡ false → is_lapse l ≡ false
+    → has_lapse (front ++ l ∷ []) ≡ false
 none_more front l h k =
-    list_any-append is_lapse front (l ∷ []) ∙ ap (λ (x : Bool). x || (is_lapse l || false)) h ∙ ap (λ (x : Bool). x || false) k
+    list_any-append is_lapse front (l ∷ []) ∙ ap (λ (x : Bool). x || (is_lapse l || false)) h
+    ∙ ap (λ (x : Bool). x || false) k
 
 -- ---- line by line
 
-stops : (m : Monitor) (b : Board) (p : Pending) (l : LogLine) (why : Blame) → legal_behind m b p l ≡ Err why → is_lapse l ≡ false
+stops : (m : Monitor) (b : Board) (p : Pending) (l : LogLine) (why : Blame) → legal_behind m b p l ≡ Err why
+    → is_lapse l ≡ false
     → board_behind_over Fifo m b p l ≡ Err why
 stops m b p (Enter s) why h none = h
 stops m b p (Resume s) why h none = h
@@ -84,7 +87,8 @@ judges m = record {
   leads = λ front x l y at is. let goes = goes_on m x.board x.pending l y is in
       (line_leads Fifo m front x l (Ok y) at.0 goes.leads, none_more front l at.1 goes.no_lapse);
   ends = λ front x l why at is opens. let none = last_tells front l (open_tells m (front ++ l ∷ []) opens) in
-      false≢true (sym (ap is_some (line_leads Fifo m front x l (Err why) at.0 (stops m x.board x.pending l why is none)))
+      false≢true (sym (ap is_some (line_leads Fifo m front x l (Err why) at.0
+      (stops m x.board x.pending l why is none)))
       ∙ open_judged Fifo m (front ++ l ∷ []) (open_run m (front ++ l ∷ []) opens));
 }
 

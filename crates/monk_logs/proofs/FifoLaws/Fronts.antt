@@ -24,7 +24,8 @@ apart_nobody (x ∷ xs) = ap (λ (ys : List ℕ). x ∷ ys) (apart_nobody xs)
 
 pub apart_absent : (ws xs : List ℕ) → ((j : ℕ) → times j xs + times j ws ≤ 1) → apart ws xs ≡ xs
 apart_absent ws xs few =
-    filter_on (among ws) (among []) xs (λ j h. none_counted j ws (omega (arith, few j, among_counted j xs h))) ∙ apart_nobody xs
+    filter_on (among ws) (among []) xs (λ j h. none_counted j ws (omega (arith, few j, among_counted j xs h)))
+    ∙ apart_nobody xs
 
 -- ---- the front goes
 
@@ -90,7 +91,8 @@ times_served (SignalWait s c d x) j xs = times_first j xs
 module _ (e : Event) (queue : ℕ → List ℕ) (c : ℕ) (few : IsFew (queue c))
     (others : (d j : ℕ) → (c ≡ d → ⊥) → times j (queue c) + times j (queue d) ≤ 1)
   where
-    here_gone : (d : ℕ) → d ≡ c → apart (served_of e (queue d)) (queue c) ≡ drop (length (served_of e (queue c))) (queue c)
+    here_gone : (d : ℕ) → d ≡ c
+        → apart (served_of e (queue d)) (queue c) ≡ drop (length (served_of e (queue c))) (queue c)
     here_gone d is = ap (λ (k : ℕ). apart (served_of e (queue k)) (queue c)) is ∙ served_gone e (queue c) few
 
     there_kept : (d : ℕ) → (c ≡ d → ⊥) → apart (served_of e (queue d)) (queue c) ≡ queue c
@@ -101,4 +103,5 @@ module _ (e : Event) (queue : ℕ → List ℕ) (c : ℕ) (few : IsFew (queue c)
         ≡ drop (length (cond (is_at c x) (served_of e (queue c)) [])) (queue c)
     condition_gone None = apart_nobody (queue c)
     condition_gone (Some d) =
-        ⊎_elim (λ is. rw (eq-eqb d c is) (here_gone d is)) (λ ne. rw (ne_eqb d c ne) (there_kept d (λ is. ne (sym is)))) (cases_eq d c)
+        ⊎_elim (λ is. rw (eq-eqb d c is) (here_gone d is))
+        (λ ne. rw (ne_eqb d c ne) (there_kept d (λ is. ne (sym is)))) (cases_eq d c)

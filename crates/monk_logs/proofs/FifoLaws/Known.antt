@@ -36,7 +36,8 @@ pub record GoesOn (m : Monitor) (b : Board) (p : Pending) (l : LogLine) (x : Boa
   pub no_lapse : is_lapse l ≡ false
   pub leads : board_behind_over Fifo m b p l ≡ Ok x
 
-pub goes_on : (m : Monitor) (b : Board) (p : Pending) (l : LogLine) (x : BoardCourse) → legal_behind m b p l ≡ Ok x → GoesOn m b p l x
+pub goes_on : (m : Monitor) (b : Board) (p : Pending) (l : LogLine) (x : BoardCourse)
+    → legal_behind m b p l ≡ Ok x → GoesOn m b p l x
 goes_on m b p (Enter s) x h = record { no_lapse = refl; leads = h }
 goes_on m b p (Resume s) x h = record { no_lapse = refl; leads = h }
 goes_on m b p (Lapse s) x h = absurd cc
@@ -61,10 +62,12 @@ own_same m b t (Act s op r) same = refl
 
 -- ---- behind a release
 
-told_same : (m : Monitor) (b : Board) (t : Situation) (e : Event) (l : LogLine) → Same m b t → next_of e ≡ Some next.Stay
+told_same : (m : Monitor) (b : Board) (t : Situation) (e : Event) (l : LogLine) → Same m b t
+    → next_of e ≡ Some next.Stay
     → is_lapse l ≡ false → board_reason Fifo m b (board_told b e l) ≡ 0 → board_told b e l ≡ told_release m.object t e l
 told_same m b t e (Enter s) same stays none h = refl
-told_same m b t e (Resume s) same stays none h = ap (λ (x : Next). with_next x e) (sym (passed_same m b t e s same stays h))
+told_same m b t e (Resume s) same stays none h =
+    ap (λ (x : Next). with_next x e) (sym (passed_same m b t e s same stays h))
 told_same m b t e (Lapse s) same stays none h = absurd (true≢false none)
 told_same m b t e (Leave s) same stays none h = refl
 told_same m b t e (Wait s c) same stays none h = refl
@@ -73,7 +76,8 @@ told_same m b t e (Broadcast s c) same stays none h = refl
 told_same m b t e (Until s p) same stays none h = refl
 told_same m b t e (Act s op r) same stays none h = refl
 
-passes_by : (n : ℕ) (r : Result BoardCourse Blame) (why : Blame) (x : BoardCourse) → cond (n == 0) r (Err why) ≡ Ok x → n ≡ 0
+passes_by : (n : ℕ) (r : Result BoardCourse Blame) (why : Blame) (x : BoardCourse)
+    → cond (n == 0) r (Err why) ≡ Ok x → n ≡ 0
 passes_by zero r why x h = refl
 passes_by (suc n) r why x h =
     let no : Err why ≡ Ok x = sym (ap (λ (b : Bool). cond b r (Err why)) (eqb-suc-zero n)) ∙ h in absurd cc
@@ -90,7 +94,8 @@ released m b t e l x same stays goes =
     ap (λ (more : List Event). f ∷ more) (own_same m (board_after m.object b f) (after m.object t f) l later)
     ∙ ap (λ (g : Event). g ∷ line_events (after m.object t g) l) (told_same m b t e l same stays goes.no_lapse free)
 
-pub known_same : (m : Monitor) (b : Board) (t : Situation) (p : Pending) (l : LogLine) (x : BoardCourse) → Same m b t → IsWritten p
+pub known_same : (m : Monitor) (b : Board) (t : Situation) (p : Pending) (l : LogLine) (x : BoardCourse)
+    → Same m b t → IsWritten p
     → legal_behind m b p l ≡ Ok x → known_events m.object b p l ≡ told_events m.object t p l
 known_same m b t Settled l x same written h = own_same m b t l same
 known_same m b t (Half s c) l x same written h = refl

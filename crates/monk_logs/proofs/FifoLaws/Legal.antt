@@ -14,7 +14,8 @@ use Rattle.monk_logs.specs.declared.step.Step.TheVariants.{Did}
 use Rattle.monk_logs.proofs.FifoLaws.Moves.{allowed_moves, move_allowed, move_leads}
 use Rattle.monk_logs.proofs.FifoLaws.Tidy.{legal_tidy}
 
-runs_legal : (m : Monitor) (h past : List Event) → IsLegal m past → Runs Fifo m (situation m past) (map Did h) → IsLegal m (past ++ h)
+runs_legal : (m : Monitor) (h past : List Event) → IsLegal m past → Runs Fifo m (situation m past) (map Did h)
+    → IsLegal m (past ++ h)
 runs_legal m [] past legal r = subst (IsLegal m) (sym (append-nil past)) legal
 runs_legal m (e ∷ h) past legal r =
     let t = situation m past in

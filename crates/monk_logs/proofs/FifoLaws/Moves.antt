@@ -84,13 +84,15 @@ module _ (k : Rules) (q : Queues) (s : ℕ) where
   same_signal (next.Signaller j) = refl
   same_signal (next.Until j) = refl
 
-  same_either : (back : Bool) (x : Next) → cond back (may_signal_by k (chances Fifo q) s x) (may_choose_by k (chances Fifo q) s x)
+  same_either : (back : Bool) (x : Next)
+      → cond back (may_signal_by k (chances Fifo q) s x) (may_choose_by k (chances Fifo q) s x)
       ≡ cond back (may_signal k q s x) (may_choose k q s x)
   same_either true x = same_signal x
   same_either false x = same_choose x
 
   same_permits : (stays back : Bool) (n : Option Next) → cond stays (is_stay n)
-      (option_map_or (λ x. cond back (may_signal_by k (chances Fifo q) s x) (may_choose_by k (chances Fifo q) s x)) n true)
+      (option_map_or (λ x. cond back (may_signal_by k (chances Fifo q) s x)
+      (may_choose_by k (chances Fifo q) s x)) n true)
       ≡ cond stays (is_stay n) (option_map_or (λ x. cond back (may_signal k q s x) (may_choose k q s x)) n true)
   same_permits true back n = refl
   same_permits false back None = refl
@@ -106,21 +108,25 @@ same_permitted k o t e ws is =
 
 waiters_gone : (k : Rules) (o : Object) (t : Situation) (e : Event) (n : Option Next) → permits k o t e n ≡ true
     → IsFew (t.waiters ++ serves t.condition e)
-    → apart (chosen_waiter n) (t.waiters ++ serves t.condition e) ≡ drop (cond (is_waiter n) 1 0) (t.waiters ++ serves t.condition e)
+    → apart (chosen_waiter n) (t.waiters ++ serves t.condition e)
+    ≡ drop (cond (is_waiter n) 1 0) (t.waiters ++ serves t.condition e)
 waiters_gone k o t e None h few = apart_nobody (t.waiters ++ serves t.condition e)
 waiters_gone k o t e (Some next.Stay) h few = apart_nobody (t.waiters ++ serves t.condition e)
 waiters_gone k o t e (Some next.Entry) h few = apart_nobody (t.waiters ++ serves t.condition e)
-waiters_gone k o t e (Some (next.Waiter j)) h few = front_gone j (t.waiters ++ serves t.condition e) (waiter_front k o t e j h) few
+waiters_gone k o t e (Some (next.Waiter j)) h few =
+    front_gone j (t.waiters ++ serves t.condition e) (waiter_front k o t e j h) few
 waiters_gone k o t e (Some (next.Signaller j)) h few = apart_nobody (t.waiters ++ serves t.condition e)
 waiters_gone k o t e (Some (next.Until j)) h few = apart_nobody (t.waiters ++ serves t.condition e)
 
 -- the caller that had joined the signallers and stays was the front
-stayer_out : (s : ℕ) (sigs : List ℕ) (first empty : Bool) → cond empty true (is_front s (sigs ++ cond empty [] (s ∷ [])) && first) ≡ true
+stayer_out : (s : ℕ) (sigs : List ℕ) (first empty : Bool)
+    → cond empty true (is_front s (sigs ++ cond empty [] (s ∷ [])) && first) ≡ true
     → IsFew (sigs ++ cond empty [] (s ∷ []))
     → apart (cond empty [] (s ∷ [])) (sigs ++ cond empty [] (s ∷ []))
     ≡ drop (cond (not (is_empty (cond empty [] (s ∷ [])))) 1 0) (sigs ++ cond empty [] (s ∷ []))
 stayer_out s sigs first true h few = apart_nobody (sigs ++ [])
-stayer_out s sigs first false h few = front_gone s (sigs ++ s ∷ []) (and_parts (is_front s (sigs ++ s ∷ [])) first h).0 few
+stayer_out s sigs first false h few =
+    front_gone s (sigs ++ s ∷ []) (and_parts (is_front s (sigs ++ s ∷ [])) first h).0 few
 
 abbrev joined : (ℕ → List ℕ) → ℕ → Option ℕ → List ℕ
 joined queue s x = option_map_or (λ c. cond (is_empty (queue c)) [] (s ∷ [])) x []
@@ -168,7 +174,8 @@ joined_few s j true = omega arith
 joined_few s j false = omega arith
 
 -- whoever joins the signallers had the turn
-signals_few : (t : Situation) (e : Event) (j : ℕ) → is_in_turn t e ≡ true → times j (signals t.condition e) ≤ has_turn j t.turn
+signals_few : (t : Situation) (e : Event) (j : ℕ) → is_in_turn t e ≡ true
+    → times j (signals t.condition e) ≤ has_turn j t.turn
 signals_few t (Enter s via) j h = omega arith
 signals_few t (Act s op r) j h = omega arith
 signals_few t (Leave s x) j h = omega arith
@@ -183,10 +190,12 @@ signals_few t (SignalWait s c d x) j h = omega arith
 -- ---- where it leads
 
 module _ (m : Monitor) (t : Situation) (e : Event) (tidy : IsTidy t) (a : IsAllowedIn m t e) where
-  condition_same : (c : ℕ) → apart (serves t.condition e) (t.condition c) ++ waiting_by c e ≡ (after m.object t e).condition c
+  condition_same : (c : ℕ)
+      → apart (serves t.condition e) (t.condition c) ++ waiting_by c e ≡ (after m.object t e).condition c
   condition_same c =
       ap (λ (xs : List ℕ). xs ++ waiting_by c e)
-      (condition_gone e t.condition c (λ j. omega (arith, tidy.once c j)) (λ d j ne. tidy.apart c d j ne) (signals_on e))
+      (condition_gone e t.condition c (λ j. omega (arith, tidy.once c j)) (λ d j ne. tidy.apart c d j ne)
+      (signals_on e))
 
   waiters_same : apart (chosen_waiter (next_of e)) (t.waiters ++ serves t.condition e) ≡ (after m.object t e).waiters
   waiters_same = waiters_gone m.kind m.object t e (next_of e) a.permitted (served_few t e (signals_on e) tidy)
@@ -195,7 +204,13 @@ module _ (m : Monitor) (t : Situation) (e : Event) (tidy : IsTidy t) (a : IsAllo
       ≡ (after m.object t e).signallers
   signallers_same =
       signallers_gone m.kind m.object t e (next_of e) a.permitted
-      (λ j. omega (arith, tidy.owner j, signals_few t e j a.in_turn, times-append j t.signallers (signals t.condition e)))
+      (λ j. omega (
+        arith,
+        tidy.owner j,
+        signals_few t e j a.in_turn,
+        times-append j t.signallers
+            (signals t.condition e),
+      ))
 
   -- an event that is allowed is a move
   pub allowed_moves : IsMove Fifo m t e (serves t.condition e) (after m.object t e)
@@ -222,7 +237,8 @@ module _ (m : Monitor) (t : Situation) (e : Event) (tidy : IsTidy t) (a : IsAllo
       (h.signallers ∙ signallers_same) h.untils h.state h.turn h.inside h.begun
 
 -- a move is allowed, and leads where the event leads
-pub move_allowed : (m : Monitor) (t : Situation) (e : Event) (ws : List ℕ) (u : Situation) → IsMove Fifo m t e ws u → IsAllowedIn m t e
+pub move_allowed : (m : Monitor) (t : Situation) (e : Event) (ws : List ℕ) (u : Situation)
+    → IsMove Fifo m t e ws u → IsAllowedIn m t e
 move_allowed m t e ws u move = record {
   in_range = move.may_call.in_range;
   offered = move.may_call.offered;
@@ -232,7 +248,8 @@ move_allowed m t e ws u move = record {
   permitted = sym (same_permitted m.kind m.object t e ws (serves_is t.condition e ws move.serves)) ∙ move.permitted;
 }
 
-pub move_leads : (m : Monitor) (t : Situation) (e : Event) (ws : List ℕ) (u : Situation) → IsTidy t → IsMove Fifo m t e ws u
+pub move_leads : (m : Monitor) (t : Situation) (e : Event) (ws : List ℕ) (u : Situation) → IsTidy t
+    → IsMove Fifo m t e ws u
     → u ≡ after m.object t e
 move_leads m t e ws u tidy move =
     after_is m t e tidy (move_allowed m t e ws u move) u

@@ -107,7 +107,8 @@ tells_by e steps log more none on (inl c) = tells_it e steps log c
 tells_by e steps log more none on (inr c) =
     tells_on e steps log c.left c.front (on c.left c.back (none_left (erasure_of e) log c.left c.front none))
 
-tells : (steps : List Step) (log more : List LogLine) → run_lines steps ≡ log ++ more → has_lapse log ≡ false → Tells steps log
+tells : (steps : List Step) (log more : List LogLine) → run_lines steps ≡ log ++ more → has_lapse log ≡ false
+    → Tells steps log
 tells steps [] more h none = tells_nothing steps
 tells [] (l ∷ log) more h none = absurd cc
 tells (Lapsed s ∷ steps) (l ∷ log) more h none = let first : Lapse s ≡ l = cc in absurd (lapse_first s l log first none)
@@ -117,7 +118,8 @@ tells (Did e ∷ steps) (l ∷ log) more h none =
 
 -- ---- what begins a run is one
 
-run_front : (o : Order) (m : Monitor) (t : Situation) (h : List Event) (later : List Step) → Runs o m t (map Did h ++ later)
+run_front : (o : Order) (m : Monitor) (t : Situation) (h : List Event) (later : List Step)
+    → Runs o m t (map Did h ++ later)
     → Runs o m t (map Did h)
 run_front o m t [] later r = tt
 run_front o m t (e ∷ h) later r =

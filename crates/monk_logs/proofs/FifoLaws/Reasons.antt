@@ -31,7 +31,8 @@ same_truth false false h k = refl
 
 -- ---- the tests
 
-first_same : (late more : ℕ) (a b c d e f : Bool) → c ≡ e → d ≡ f → late ≡ more → first_of late a b c d ≡ first_of more a b e f
+first_same : (late more : ℕ) (a b c d e f : Bool) → c ≡ e → d ≡ f → late ≡ more
+    → first_of late a b c d ≡ first_of more a b e f
 first_same late more a b c d e f h k l = cc
 
 module _ (m : Monitor) (b : Board) (t : Situation) (e : Event) (sound : Sound b) (h : Alike b t) where
@@ -52,14 +53,16 @@ module _ (m : Monitor) (b : Board) (t : Situation) (e : Event) (sound : Sound b)
   late_same =
       ap (λ (x : Bool). cond {A = ℕ} (not x) 5 (cond {A = ℕ} (not (is_permitted m.kind m.object t e)) 6 0))
       (reply_same Wake m.object b t e h.stands)
-      ∙ ap (λ (x : Bool). cond {A = ℕ} (not (is_right_reply m.object b.state e)) 5 (cond {A = ℕ} (not x) 6 0)) permits_same
+      ∙ ap (λ (x : Bool). cond {A = ℕ} (not (is_right_reply m.object b.state e)) 5 (cond {A = ℕ} (not x) 6 0))
+      permits_same
 
   turn_same : is_in_turn t e ≡ is_in_turn (sight b) e
   turn_same = ap (λ (x : Turn). fits_turn x e) h.stands.turn
 
   pub before_same : reason_before 0 m t e ≡ reason_before 0 m (sight b) e
   before_same =
-      first_same 0 0 (is_in_range m.seats m.conds m.object.codes m.object.predicates e) (is_offered m.kind e) (is_in_turn t e)
+      first_same 0 0 (is_in_range m.seats m.conds m.object.codes m.object.predicates e) (is_offered m.kind e)
+      (is_in_turn t e)
       (is_in_place m.object t e) (is_in_turn (sight b) e) (is_in_place m.object (sight b) e) turn_same
       (place_same Wake b t (sound_distinct b sound) h.stands m.object e) refl
 
@@ -81,7 +84,8 @@ pub record Same (m : Monitor) (b : Board) (t : Situation) : Type 0 where
   pub sound : Sound b
   pub alike : Alike b t
 
-pub same_reason : (m : Monitor) (b : Board) (t : Situation) (e : Event) → Same m b t → reason_in m t e ≡ board_reason Fifo m b e
+pub same_reason : (m : Monitor) (b : Board) (t : Situation) (e : Event) → Same m b t
+    → reason_in m t e ≡ board_reason Fifo m b e
 same_reason m b t e s = reason_same m b t e s.sound s.alike
 
 pub same_after : (m : Monitor) (b : Board) (t : Situation) (e : Event) → Same m b t → reason_in m t e ≡ 0

@@ -1,4 +1,5 @@
--- In order of arrival a seat that goes on tells the same choice over a board and in the situation that it is, where it was chosen
+-- In order of arrival a seat that goes on tells the same choice over a board and in the situation
+-- that it is, where it was chosen
 use Rattle.std.proofs.Common.{◌≡◌, ℕ, Bool, true, false, cond, Some, refl, sym, ap, subst, ◌∙◌}
 use Rattle.std.specs.Prelude.{is_some}
 use Rattle.monk_object.specs.Object.{Object}
@@ -61,7 +62,8 @@ chosen_seat q s true signals h = h
 chosen_seat q s false true h = h
 chosen_seat q s false false h = h
 
-module _ (m : Monitor) (b : Board) (t : Situation) (e : Event) (s : ℕ) (same : Same m b t) (stays : next_of e ≡ Some next.Stay) where
+module _ (m : Monitor) (b : Board) (t : Situation) (e : Event) (s : ℕ) (same : Same m b t)
+    (stays : next_of e ≡ Some next.Stay) where
   -- one that is allowed by the rules
   pub allowed_same : reason_in m t (with_next (chosen_from (queues_at m.object t e) s) e) ≡ 0
       → standing_choice b e s ≡ chosen_from (queues_at m.object t e) s
@@ -83,6 +85,8 @@ module _ (m : Monitor) (b : Board) (t : Situation) (e : Event) (s : ℕ) (same :
       let legal = legal-push m same.past g same.legal
       (allowed_from_reason m (situation m same.past) g (ap (λ (u : Situation). reason_in m u g) same.is ∙ allowed)) in
       let is : IsChosen (queues_at m.object t g) x =
-      subst (λ (u : Situation). IsChosen (queues_at m.object u g) x) same.is (chosen m same.past g x (next_with x e stays) legal) in
+      subst (λ (u : Situation). IsChosen (queues_at m.object u g) x) same.is
+      (chosen m same.past g x (next_with x e stays) legal) in
       ap (λ (q : Queues). chosen_from q s) (sym (queues_with m.object t x e))
-      ∙ chosen_seat (queues_at m.object t g) s (is_some (condition_of s (items_with b e))) (is_among s (signallers_with b e)) is
+      ∙ chosen_seat (queues_at m.object t g) s (is_some (condition_of s (items_with b e)))
+      (is_among s (signallers_with b e)) is

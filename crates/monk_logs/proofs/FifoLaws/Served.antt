@@ -52,7 +52,8 @@ KeepsUp items = (c : ℕ) → keeps_up 0 (line c items) ≡ true
 pub services_counted : (c : ℕ) (items : List Item) → times c (services items) ≡ services_in (line c items)
 services_counted c [] = refl
 services_counted c (Waiting s d ∷ items) =
-    ⊎_elim (λ e. rw (eq-eqb d c e) (services_counted c items)) (λ ne. rw (ne_eqb d c ne) (services_counted c items)) (cases_eq d c)
+    ⊎_elim (λ e. rw (eq-eqb d c e) (services_counted c items))
+    (λ ne. rw (ne_eqb d c ne) (services_counted c items)) (cases_eq d c)
 services_counted c (Service d ∷ items) =
     ⊎_elim (λ e. rw (eq-eqb d c e) (omega (arith, services_counted c items)))
     (λ ne. rw (ne_eqb d c ne) (omega (arith, services_counted c items))) (cases_eq d c)
@@ -92,10 +93,12 @@ abbrev pub unserved_of : List Item → ℕ → List ℕ
 unserved_of items c = unserved_in (line c items)
 
 served_given : (items : List Item) (e : Event) (x : Option ℕ)
-    → in_service (services (items ++ option_map_or (λ d. map (λ s. Service d) (served_of e (unserved_of items d))) x [])) (seats_of items)
+    → in_service (services (items
+    ++ option_map_or (λ d. map (λ s. Service d) (served_of e (unserved_of items d))) x [])) (seats_of items)
     ≡ served_in items ++ served_at (unserved_of items) x e
 served_given items e None =
-    ap (λ (xs : List Item). in_service (services xs) (seats_of items)) (append-nil items) ∙ sym (append-nil (served_in items))
+    ap (λ (xs : List Item). in_service (services xs) (seats_of items)) (append-nil items)
+    ∙ sym (append-nil (served_in items))
 served_given items e (Some d) =
     let ws = served_of e (unserved_of items d) in
     ap (λ (cs : List ℕ). in_service cs (seats_of items))
@@ -104,7 +107,8 @@ served_given items e (Some d) =
     ∙ ap (λ (n : ℕ). served_in items ++ take (length ws) (drop n (seats_of items d))) (services_counted d items)
     ∙ ap (λ (xs : List ℕ). served_in items ++ xs) (take_served e (unserved_of items d))
 
-pub served_with : (b : Board) (e : Event) → served_in (items_with b e) ≡ served_in b.items ++ serves (unserved_of b.items) e
+pub served_with : (b : Board) (e : Event)
+    → served_in (items_with b e) ≡ served_in b.items ++ serves (unserved_of b.items) e
 served_with b e =
     same_service (services (items_with b e)) (seats_of (items_with b e)) (seats_of b.items)
     (λ c. ap (λ (xs : List ℕ). take (times c (services (items_with b e))) xs) (line_with b e c))
@@ -116,7 +120,8 @@ served_with b e =
 pub resume_front : (j : ℕ) (items : List Item) → may_resume Fifo j items ≡ true → is_front j (served_in items) ≡ true
 resume_front j items h =
     let r = comes j items h in
-    ap (λ (xs : List ℕ). is_front j xs) (first_served j r.on (services items) (seats_of items) r.service r.seat) ∙ same_number j
+    ap (λ (xs : List ℕ). is_front j xs)
+    (first_served j r.on (services items) (seats_of items) r.service r.seat) ∙ same_number j
 
 front_at : (j : ℕ) (xs more : List ℕ) → 1 ≤ length xs → is_front j (take 1 xs ++ more) ≡ true → is_front j xs ≡ true
 front_at j [] more l h = absurd (omega arith)
@@ -132,7 +137,8 @@ front_of j items (c ∷ cs) dis keeps is h =
     (subst (λ (xs : List ℕ). is_front c xs ≡ true) (sym is) (same_number c)) front
 
 -- and back
-pub front_resume : (j : ℕ) (items : List Item) → Distinct (all_seats items) → KeepsUp items → is_front j (served_in items) ≡ true
+pub front_resume : (j : ℕ) (items : List Item) → Distinct (all_seats items) → KeepsUp items
+    → is_front j (served_in items) ≡ true
     → may_resume Fifo j items ≡ true
 front_resume j items dis keeps h = front_of j items (services items) dis keeps refl h
 
@@ -172,7 +178,8 @@ services_without c [] h = absurd (false≢true h)
 services_without c (Waiting s d ∷ items) h = services_without c items h
 services_without c (Service d ∷ items) h = rw h refl
 
-there_first : (j s c d : ℕ) (items : List Item) → (s ≡ j → ⊥) → is_front j (seats_of (Waiting s d ∷ items) c) ≡ true → d ≡ c → ⊥
+there_first : (j s c d : ℕ) (items : List Item) → (s ≡ j → ⊥)
+    → is_front j (seats_of (Waiting s d ∷ items) c) ≡ true → d ≡ c → ⊥
 there_first j s c d items ne h e = ne (eqb-true s j (rw (eq-eqb d c e) at h))
 
 keeps_later : (s c d : ℕ) (items : List Item) → (d ≡ c → ⊥) → keeps_up 0 (line c (Waiting s d ∷ items)) ≡ true
@@ -180,13 +187,15 @@ keeps_later : (s c d : ℕ) (items : List Item) → (d ≡ c → ⊥) → keeps_
 keeps_later s c d items ne h = rw (ne_eqb d c ne) at h
 
 services_taken : (j c : ℕ) (items : List Item) → condition_of j items ≡ Some c → is_front c (services items) ≡ true
-    → is_front j (seats_of items c) ≡ true → keeps_up 0 (line c items) ≡ true → services (taken_out j items) ≡ drop 1 (services items)
+    → is_front j (seats_of items c) ≡ true → keeps_up 0 (line c items) ≡ true
+    → services (taken_out j items) ≡ drop 1 (services items)
 services_taken j c [] h front seat keeps = absurd cc
 services_taken j c (Waiting s d ∷ items) h front seat keeps =
     ⊎_elim
     (λ e. let k : Some d ≡ Some c = rw (eq-eqb s j e) at h in
     let same : d ≡ c = cc in
-    rw (eq-eqb s j e) (services_without d items (subst (λ (x : ℕ). is_front x (services items) ≡ true) (sym same) front)))
+    rw (eq-eqb s j e) (services_without d items
+    (subst (λ (x : ℕ). is_front x (services items) ≡ true) (sym same) front)))
     (λ ne. let other = there_first j s c d items ne seat in
     rw (ne_eqb s j ne) (services_taken j c items (rw (ne_eqb s j ne) at h) front (rw (ne_eqb d c other) at seat)
     (keeps_later s c d items other keeps))) (cases_eq s j)
@@ -196,13 +205,15 @@ absent_less : (j : ℕ) (xs : List ℕ) → is_among j xs ≡ false → less j x
 absent_less j [] h = refl
 absent_less j (x ∷ xs) h =
     ⊎_elim (λ e. absurd (true≢false (sym (subst (λ (y : ℕ). is_among y (x ∷ xs) ≡ true) e (among_here x xs)) ∙ h)))
-    (λ ne. rw (ne_eqb x j ne) (ap (λ (ys : List ℕ). x ∷ ys) (absent_less j xs (rw (ne_eqb x j ne) at h)))) (cases_eq x j)
+    (λ ne. rw (ne_eqb x j ne) (ap (λ (ys : List ℕ). x ∷ ys) (absent_less j xs (rw (ne_eqb x j ne) at h))))
+    (cases_eq x j)
 
 front_less : (j : ℕ) (xs : List ℕ) → is_front j xs ≡ true → less j xs ≡ drop 1 xs
 front_less j [] h = refl
 front_less j (x ∷ xs) h = rw h refl
 
-module _ (j : ℕ) (items : List Item) (dis : Distinct (all_seats items)) (keeps : KeepsUp items) (may : may_resume Fifo j items ≡ true) where
+module _ (j : ℕ) (items : List Item) (dis : Distinct (all_seats items)) (keeps : KeepsUp items)
+    (may : may_resume Fifo j items ≡ true) where
   it : Comes j items
   it = comes j items may
 
@@ -215,14 +226,16 @@ module _ (j : ℕ) (items : List Item) (dis : Distinct (all_seats items)) (keeps
       (λ e. line_less c ∙ rw (eq-eqb it.on c e)
       (front_less j (seats_of items c) (subst (λ (x : ℕ). is_front j (seats_of items x) ≡ true) e it.seat)))
       (λ ne. line_less c ∙ rw (ne_eqb it.on c ne)
-      (absent_less j (seats_of items c) (not_elsewhere j it.on c items dis (front_among j (seats_of items it.on) it.seat) ne)))
+      (absent_less j (seats_of items c)
+      (not_elsewhere j it.on c items dis (front_among j (seats_of items it.on) it.seat) ne)))
       (cases_eq it.on c)
 
   first_of : served_in items ≡ j ∷ served_in (taken_out j items)
   first_of =
       first_served j it.on (services items) (seats_of items) it.service it.seat
       ∙ ap (λ (xs : List ℕ). j ∷ xs)
-      (sym (same_service (services (taken_out j items)) (seats_of (taken_out j items)) (first_off it.on (seats_of items))
+      (sym (same_service (services (taken_out j items)) (seats_of (taken_out j items))
+      (first_off it.on (seats_of items))
       (λ c. ap (λ (xs : List ℕ). take (times c (services (taken_out j items))) xs) (seats_left c))
       ∙ ap (λ (cs : List ℕ). in_service cs (first_off it.on (seats_of items)))
       (services_taken j it.on items it.waits it.service it.seat (keeps it.on))))
@@ -236,7 +249,8 @@ module _ (j : ℕ) (items : List Item) (dis : Distinct (all_seats items)) (keeps
       ap (λ (xs : List ℕ). apart (j ∷ []) xs) first_of
       ∙ first_out j (served_in (taken_out j items)) (served_in (taken_out j items))
       (filter_on (among (j ∷ [])) (among []) (served_in (taken_out j items))
-      (λ k m. among_one j k (apart_from k j (served_in (taken_out j items)) m gone)) ∙ apart_nobody (served_in (taken_out j items)))
+      (λ k m. among_one j k (apart_from k j (served_in (taken_out j items)) m gone))
+      ∙ apart_nobody (served_in (taken_out j items)))
 
 pub served_chosen : (n : Option Next) (items : List Item) → Distinct (all_seats items) → KeepsUp items
     → ((j : ℕ) → n ≡ Some (next.Waiter j) → may_resume Fifo j items ≡ true)
@@ -254,18 +268,21 @@ services_came : (s d : ℕ) (items : List Item) → services (items ++ Waiting s
 services_came s d items = services-append items (Waiting s d ∷ []) ∙ append-nil (services items)
 
 came_behind : (s c d : ℕ) (items : List Item) → KeepsUp items
-    → take (times c (services items)) (seats_of (items ++ Waiting s d ∷ []) c) ≡ take (times c (services items)) (seats_of items c)
+    → take (times c (services items)) (seats_of (items ++ Waiting s d ∷ []) c)
+    ≡ take (times c (services items)) (seats_of items c)
 came_behind s c d items keeps =
     ap (λ (xs : List ℕ). take (times c (services items)) xs)
     (ap seats_in (line-append c items (Waiting s d ∷ [])) ∙ seats_in-append (line c items) (line c (Waiting s d ∷ [])))
-    ∙ take-append-le (times c (services items)) (seats_of items c) (seats_in (line c (Waiting s d ∷ []))) (services_few c items keeps)
+    ∙ take-append-le (times c (services items)) (seats_of items c) (seats_in (line c (Waiting s d ∷ [])))
+    (services_few c items keeps)
 
 pub served_came : (s : ℕ) (items : List Item) (x : Option ℕ) → KeepsUp items
     → served_in (items ++ option_map_or (λ d. Waiting s d ∷ []) x []) ≡ served_in items
 served_came s items None keeps = ap served_in (append-nil items)
 served_came s items (Some d) keeps =
     ap (λ (cs : List ℕ). in_service cs (seats_of (items ++ Waiting s d ∷ []))) (services_came s d items)
-    ∙ same_service (services items) (seats_of (items ++ Waiting s d ∷ [])) (seats_of items) (λ c. came_behind s c d items keeps)
+    ∙ same_service (services items) (seats_of (items ++ Waiting s d ∷ [])) (seats_of items)
+    (λ c. came_behind s c d items keeps)
 
 -- ---- a wait runs out
 
@@ -283,20 +300,24 @@ take_without j zero xs dis h = refl
 take_without j (suc n) [] dis h = absurd (false≢true h)
 take_without j (suc n) (x ∷ xs) dis h =
     let ne = not_there j x xs (among_dropped j n xs h) dis.0 in
-    ap (λ (ys : List ℕ). take (suc n) ys) (without_there j x xs ne) ∙ ap (λ (ys : List ℕ). x ∷ ys) (take_without j n xs dis.1 h)
+    ap (λ (ys : List ℕ). take (suc n) ys) (without_there j x xs ne)
+    ∙ ap (λ (ys : List ℕ). x ∷ ys) (take_without j n xs dis.1 h)
 
 absent_without : (j : ℕ) (xs : List ℕ) → is_among j xs ≡ false → without j xs ≡ xs
 absent_without j [] h = refl
 absent_without j (x ∷ xs) h =
     ⊎_elim (λ e. absurd (true≢false (sym (subst (λ (y : ℕ). is_among y (x ∷ xs) ≡ true) e (among_here x xs)) ∙ h)))
-    (λ ne. without_there j x xs ne ∙ ap (λ (ys : List ℕ). x ∷ ys) (absent_without j xs (rw (ne_eqb x j ne) at h))) (cases_eq x j)
+    (λ ne. without_there j x xs ne
+    ∙ ap (λ (ys : List ℕ). x ∷ ys) (absent_without j xs (rw (ne_eqb x j ne) at h))) (cases_eq x j)
 
 lapse_behind : (j c : ℕ) (items : List Item) → Distinct (all_seats items) → may_lapse Fifo j items ≡ true
-    → take (services_in (line c items)) (without j (seats_of items c)) ≡ take (services_in (line c items)) (seats_of items c)
+    → take (services_in (line c items)) (without j (seats_of items c))
+    ≡ take (services_in (line c items)) (seats_of items c)
 lapse_behind j c items dis may =
     ⊎_elim
     (λ m. take_without j (services_in (line c items)) (seats_of items c) (distinct_line c items dis)
-    (ap (λ (x : Option ℕ). option_map_or (λ (d : ℕ). can_be_unserved Fifo j d items) x false) (sym (waits_only j c items dis m)) ∙ may))
+    (ap (λ (x : Option ℕ). option_map_or (λ (d : ℕ). can_be_unserved Fifo j d items) x false)
+    (sym (waits_only j c items dis m)) ∙ may))
     (λ m. ap (λ (xs : List ℕ). take (services_in (line c items)) xs) (absent_without j (seats_of items c) m))
     (cases_Bool (is_among j (seats_of items c)))
 
@@ -305,6 +326,8 @@ pub served_lapsed : (j : ℕ) (items : List Item) → Distinct (all_seats items)
 served_lapsed j items dis may =
     ap (λ (cs : List ℕ). in_service cs (seats_of (without_seat j items))) (services_lapsed j items)
     ∙ same_service (services items) (seats_of (without_seat j items)) (seats_of items)
-    (λ c. subst (λ (n : ℕ). take n (seats_of (without_seat j items) c) ≡ take n (seats_of items c)) (sym (services_counted c items))
-    (ap (λ (xs : List ℕ). take (services_in (line c items)) xs) (ap seats_in (line_lapsed j c items) ∙ seats_lapsed j (line c items))
+    (λ c. subst (λ (n : ℕ). take n (seats_of (without_seat j items) c) ≡ take n (seats_of items c))
+    (sym (services_counted c items))
+    (ap (λ (xs : List ℕ). take (services_in (line c items)) xs)
+    (ap seats_in (line_lapsed j c items) ∙ seats_lapsed j (line c items))
     ∙ lapse_behind j c items dis may))

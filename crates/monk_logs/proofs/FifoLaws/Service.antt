@@ -70,7 +70,8 @@ in_service-append (c ∷ cs) ds queue =
     ap (λ (xs : List ℕ). take 1 (queue c) ++ xs) (in_service-append cs ds (first_off c queue))
     ∙ sym (append_assoc (take 1 (queue c)) (in_service cs (first_off c queue)) (in_service ds (left_by (c ∷ cs) queue)))
 
-one_off : (c d : ℕ) (cs : List ℕ) (queue : ℕ → List ℕ) → drop (times d cs) (first_off c queue d) ≡ drop (times d (c ∷ cs)) (queue d)
+one_off : (c d : ℕ) (cs : List ℕ) (queue : ℕ → List ℕ)
+    → drop (times d cs) (first_off c queue d) ≡ drop (times d (c ∷ cs)) (queue d)
 one_off c d cs queue =
     ⊎_elim
     (λ e. rw (eq-eqb c d e) (drop-drop (times d cs) 1 (queue d)
@@ -87,7 +88,8 @@ take_next (suc n) [] = refl
 take_next n (x ∷ xs) = refl
 
 -- of one condition, one for each of ws
-served_again : (c : ℕ) (ws : List ℕ) (queue : ℕ → List ℕ) → in_service (map (λ s. c) ws) queue ≡ take (length ws) (queue c)
+served_again : (c : ℕ) (ws : List ℕ) (queue : ℕ → List ℕ)
+    → in_service (map (λ s. c) ws) queue ≡ take (length ws) (queue c)
 served_again c [] queue = refl
 served_again c (w ∷ ws) queue =
     ap (λ (xs : List ℕ). take 1 (queue c) ++ xs)

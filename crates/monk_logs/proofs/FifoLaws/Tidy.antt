@@ -51,7 +51,13 @@ times_two (suc n) c d j queue ne h k =
 tidy_from : (conds : ℕ) (t : Situation) → IsPlaced conds t → IsWithin conds t.condition → IsTidy t
 tidy_from conds t placed within = record {
   once = λ c j. omega (arith, placed j, one_at_most (t.inside j), times_at conds c j t.condition (within c));
-  apart = λ c d j ne. omega (arith, placed j, one_at_most (t.inside j), times_two conds c d j t.condition ne (within c) (within d));
+  apart = λ c d j ne. omega (
+    arith,
+    placed j,
+    one_at_most (t.inside j),
+    times_two conds c d j t.condition ne
+        (within c) (within d),
+  );
   owner = λ j. omega (arith, placed j, one_at_most (t.inside j));
 }
 
@@ -64,10 +70,12 @@ range_parts false b c d h = absurd (false≢true h)
 
 waits_within : (m : Monitor) (t : Situation) (e : Event) → IsAllowedIn m t e → is_condition m.conds (waits_on e) ≡ true
 waits_within m t e a =
-    range_parts (list_all (λ s. nat_lt s m.seats) (seat_of e ∷ named_seat (next_of e))) (is_condition m.conds (waits_on e))
+    range_parts (list_all (λ s. nat_lt s m.seats) (seat_of e ∷ named_seat (next_of e)))
+    (is_condition m.conds (waits_on e))
     (is_condition m.conds (signals_on e)) (fits_object m.object.codes m.object.predicates e) a.in_range
 
-nobody_comes : (conds c s : ℕ) (x : Option ℕ) → is_condition conds x ≡ true → conds ≤ c → cond (is_at c x) (s ∷ []) [] ≡ []
+nobody_comes : (conds c s : ℕ) (x : Option ℕ) → is_condition conds x ≡ true → conds ≤ c
+    → cond (is_at c x) (s ∷ []) [] ≡ []
 nobody_comes conds c s None h l = refl
 nobody_comes conds c s (Some d) h l =
     let less : d < conds = ltb-true d conds h in
@@ -78,13 +86,15 @@ within_after : (m : Monitor) (t : Situation) (e : Event) → IsAllowedIn m t e �
 within_after m t e a within c l =
     let none = within c l in
     ap (λ (xs : List ℕ). xs ++ waiting_by c e)
-    (drop_all (length (served_by c e (t.condition c))) (t.condition c) (omega (arith, ap (λ (xs : List ℕ). length xs) none)))
+    (drop_all (length (served_by c e (t.condition c))) (t.condition c)
+    (omega (arith, ap (λ (xs : List ℕ). length xs) none)))
     ∙ nobody_comes m.conds c (seat_of e) (waits_on e) (waits_within m t e a) l
 
 legal_within : (m : Monitor) (h : List Event) → IsLegal m h → IsWithin m.conds (situation m h).condition
 legal_within m h = history_induction (λ x. IsLegal m x → IsWithin m.conds (situation m x).condition)
     (λ l. subst (λ (t : Situation). IsWithin m.conds t.condition) (sym (situation-none m)) (λ c k. refl))
-    (λ x e more l. subst (λ (t : Situation). IsWithin m.conds t.condition) (sym (legal_situation-push m x e (legal_front m x (e ∷ []) l)))
+    (λ x e more l. subst (λ (t : Situation). IsWithin m.conds t.condition)
+    (sym (legal_situation-push m x e (legal_front m x (e ∷ []) l)))
     (within_after m (situation m x) e (legal_last m x e l) (more (legal_front m x (e ∷ []) l)))) h
 
 pub legal_tidy : (m : Monitor) (h : List Event) → IsLegal m h → IsTidy (situation m h)

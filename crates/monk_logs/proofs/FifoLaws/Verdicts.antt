@@ -50,7 +50,8 @@ Matches m (Ok x) (Err why) = ⊥
 Matches m (Err why) (Ok s) = ⊥
 Matches m (Err why) (Err because) = why ≡ because
 
-either : (m : Monitor) (b : Bool) (q r : Result BoardCourse Blame) (u v : Result Stand Blame) → Matches m q u → Matches m r v
+either : (m : Monitor) (b : Bool) (q r : Result BoardCourse Blame) (u v : Result Stand Blame) → Matches m q u
+    → Matches m r v
     → Matches m (cond b q r) (cond b u v)
 either m true q r u v h k = h
 either m false q r u v h k = k
@@ -85,10 +86,12 @@ module _ (m : Monitor) (b : Board) (t : Situation) (same : Same m b t) where
 
   line_matches : (l : LogLine) → is_lapse l ≡ false → Matches m (board_line_over Fifo m b l) (line_settled m t l)
   line_matches (Enter s) none =
-      subst (λ (x : Bool). Matches m (board_settle Fifo m b (event.Enter s (cond x Handed Free))) (line_settled m t (Enter s)))
+      subst (λ (x : Bool). Matches m (board_settle Fifo m b (event.Enter s (cond x Handed Free)))
+      (line_settled m t (Enter s)))
       same.alike.stands.begun (settles (event.Enter s (cond t.begun Handed Free)))
   line_matches (Resume s) none =
-      subst (λ (x : Turn). Matches m (board_settle Fifo m b (event.Resume s (due_from x))) (line_settled m t (Resume s)))
+      subst (λ (x : Turn). Matches m (board_settle Fifo m b (event.Resume s (due_from x)))
+      (line_settled m t (Resume s)))
       same.alike.stands.turn (settles (event.Resume s (due_from t.turn)))
   line_matches (Lapse s) none = absurd (true≢false none)
   line_matches (Leave s) none = holds (event.Leave s next.Stay) (Release (event.Leave s next.Stay)) refl
@@ -105,7 +108,8 @@ module _ (m : Monitor) (b : Board) (t : Situation) (same : Same m b t) where
   half_matches s c (Resume j) = refl
   half_matches s c (Lapse j) = refl
   half_matches s c (Leave j) =
-      either m (j == s) _ (Err _) _ (Err _) (holds (event.SignalLeave s c next.Stay) (Release (event.SignalLeave s c next.Stay)) refl) refl
+      either m (j == s) _ (Err _) _ (Err _)
+      (holds (event.SignalLeave s c next.Stay) (Release (event.SignalLeave s c next.Stay)) refl) refl
   half_matches s c (Wait j d) =
       either m (j == s) _ (Err _) _ (Err _)
       (holds (event.SignalWait s c d next.Stay) (Release (event.SignalWait s c d next.Stay)) refl) refl
@@ -116,13 +120,15 @@ module _ (m : Monitor) (b : Board) (t : Situation) (same : Same m b t) where
 
 -- ---- the line behind a release
 
-told_at : (m : Monitor) (c : Board) (u : Situation) (l : LogLine) (n : ℕ) (test : Bool) (why because : Blame) → is_lapse l ≡ false
+told_at : (m : Monitor) (c : Board) (u : Situation) (l : LogLine) (n : ℕ) (test : Bool) (why because : Blame)
+    → is_lapse l ≡ false
     → (test ≡ true → Same m c u) → why ≡ because
     → Matches m (cond test (board_line_over Fifo m c l) (Err why)) (line_then m because (cond test (Ok u) (Err n)) l)
 told_at m c u l n true why because none f h = line_matches m c u (f refl) l none
 told_at m c u l n false why because none f h = h
 
-stopped : (m : Monitor) (x : Result BoardCourse Blame) (u : Situation) (l : LogLine) (n : ℕ) (test other : Bool) (why because : Blame)
+stopped : (m : Monitor) (x : Result BoardCourse Blame) (u : Situation) (l : LogLine) (n : ℕ)
+    (test other : Bool) (why because : Blame)
     → test ≡ false → other ≡ false → why ≡ because
     → Matches m (cond test x (Err why)) (line_then m because (cond other (Ok u) (Err n)) l)
 stopped m x u l n test other why because h k e = rw (h, k) e
@@ -137,24 +143,30 @@ module _ (m : Monitor) (b : Board) (t : Situation) (e : Event) (same : Same m b 
       (Err (board_release_blame Fifo m b e l))) (line_then m (release_blame m t e l) (add_to m t f) l)
   told_so l f none =
       subst (λ (n : ℕ). Matches m (cond (n == 0) (board_line_over Fifo m (board_after m.object b f) l)
-      (Err (board_release_blame Fifo m b e l))) (line_then m (release_blame m t e l) (add_to m t f) l)) (same_reason m b t f same)
+      (Err (board_release_blame Fifo m b e l))) (line_then m (release_blame m t e l) (add_to m t f) l))
+      (same_reason m b t f same)
       (told_at m (board_after m.object b f) (after m.object t f) l (reason_in m t f) (reason_in m t f == 0)
       (board_release_blame Fifo m b e l) (release_blame m t e l) none
       (λ k. same_after m b t f same (eqb-true (reason_in m t f) 0 k)) (why_same l none))
 
   -- a seat goes on
-  told_resume : (s : ℕ) → next_of e ≡ Some next.Stay → Matches m (board_told_over Fifo m b e (Resume s)) (line_told m t e (Resume s))
+  told_resume : (s : ℕ) → next_of e ≡ Some next.Stay
+      → Matches m (board_told_over Fifo m b e (Resume s)) (line_told m t e (Resume s))
   told_resume s stays =
       let x = standing_choice b e s in
       let y = chosen_from (queues_at m.object t e) s in
       let agreed : x ≡ y → Matches m (board_told_over Fifo m b e (Resume s)) (line_told m t e (Resume s)) = λ is.
       subst (λ (z : Next). Matches m (cond (board_reason Fifo m b (with_next z e) == 0)
-      (board_line_over Fifo m (board_after m.object b (with_next z e)) (Resume s)) (Err (board_release_blame Fifo m b e (Resume s))))
+      (board_line_over Fifo m (board_after m.object b (with_next z e)) (Resume s))
+      (Err (board_release_blame Fifo m b e (Resume s))))
       (line_told m t e (Resume s))) (sym is) (told_so (Resume s) (with_next y e) refl) in
       ⊎_elim (λ k. agreed (allowed_same m b t e s same stays (eqb-true (reason_in m t (with_next y e)) 0 k)))
-      (λ k. ⊎_elim (λ i. agreed (sym (passed_same m b t e s same stays (eqb-true (board_reason Fifo m b (with_next x e)) 0 i))))
-      (λ i. stopped m (board_line_over Fifo m (board_after m.object b (with_next x e)) (Resume s)) (after m.object t (with_next y e))
-      (Resume s) (reason_in m t (with_next y e)) (board_reason Fifo m b (with_next x e) == 0) (reason_in m t (with_next y e) == 0)
+      (λ k. ⊎_elim (λ i. agreed (sym (passed_same m b t e s same stays
+      (eqb-true (board_reason Fifo m b (with_next x e)) 0 i))))
+      (λ i. stopped m (board_line_over Fifo m (board_after m.object b (with_next x e)) (Resume s))
+      (after m.object t (with_next y e))
+      (Resume s) (reason_in m t (with_next y e)) (board_reason Fifo m b (with_next x e) == 0)
+      (reason_in m t (with_next y e) == 0)
       (board_release_blame Fifo m b e (Resume s)) (release_blame m t e (Resume s)) i k (why_same (Resume s) refl))
       (cases_Bool (board_reason Fifo m b (with_next x e) == 0))) (cases_Bool (reason_in m t (with_next y e) == 0))
 
@@ -172,7 +184,8 @@ module _ (m : Monitor) (b : Board) (t : Situation) (e : Event) (same : Same m b 
 
 -- ---- each line
 
-behind_matches : (m : Monitor) (b : Board) (t : Situation) (p : Pending) (l : LogLine) → Same m b t → IsWritten p → is_lapse l ≡ false
+behind_matches : (m : Monitor) (b : Board) (t : Situation) (p : Pending) (l : LogLine) → Same m b t
+    → IsWritten p → is_lapse l ≡ false
     → Matches m (board_behind_over Fifo m b p l) (line_behind m t p l)
 behind_matches m b t Settled l same written none = line_matches m b t same l none
 behind_matches m b t (Half s c) l same written none = half_matches m b t same s c l
@@ -193,7 +206,8 @@ legal_matches m b t p (Broadcast s c) same written = behind_matches m b t p (Bro
 legal_matches m b t p (Until s q) same written = behind_matches m b t p (Until s q) same written refl
 legal_matches m b t p (Act s op r) same written = behind_matches m b t p (Act s op r) same written refl
 
-verdicts_match : (m : Monitor) (n : ℕ) (r : Result BoardCourse Blame) (q : Result Stand Blame) (log : List LogLine) → Matches m r q
+verdicts_match : (m : Monitor) (n : ℕ) (r : Result BoardCourse Blame) (q : Result Stand Blame)
+    (log : List LogLine) → Matches m r q
     → has_lapse log ≡ false → verdict_along (board_over Fifo m) n r log ≡ verdict_along (line_over m) n q log
 unfolding verdict_along
 verdicts_match m n (Err why) (Err because) log h none = ap (λ (x : Blame). Misfit n x) h
@@ -203,17 +217,20 @@ verdicts_match m n (Ok x) (Ok s) [] h none = refl
 verdicts_match m n (Ok x) (Ok s) (l ∷ log) h none =
     let p = or_parts (is_lapse l) (has_lapse log) none in
     verdicts_match m (n + 1) (board_over Fifo m x l) (line_over m s l) log
-    (subst (λ (y : Pending). Matches m (board_behind_over Fifo m x.board y l) (line_behind m s.now s.pending l)) (sym h.0)
+    (subst (λ (y : Pending). Matches m (board_behind_over Fifo m x.board y l)
+    (line_behind m s.now s.pending l)) (sym h.0)
     (behind_matches m x.board s.now s.pending l h.1 h.2 p.0)) p.1
 
-pub verdict_same : (m : Monitor) (log : List LogLine) → has_lapse log ≡ false → board_verdict Fifo m log ≡ verdict_on m log
+pub verdict_same : (m : Monitor) (log : List LogLine) → has_lapse log ≡ false
+    → board_verdict Fifo m log ≡ verdict_on m log
 verdict_same m log none = verdicts_match m 0 _ _ log (refl, same_opening m, tt) none
 
 -- the verdict over a board by the rules alone is that by how the monitor stands
 abbrev pub legal_over : Monitor → BoardCourse → LogLine → Result BoardCourse Blame
 legal_over m x l = legal_behind m x.board x.pending l
 
-legals_match : (m : Monitor) (n : ℕ) (r : Result BoardCourse Blame) (q : Result Stand Blame) (log : List LogLine) → Matches m r q
+legals_match : (m : Monitor) (n : ℕ) (r : Result BoardCourse Blame) (q : Result Stand Blame)
+    (log : List LogLine) → Matches m r q
     → verdict_along (legal_over m) n r log ≡ verdict_along (line_over m) n q log
 unfolding verdict_along
 legals_match m n (Err why) (Err because) log h = ap (λ (x : Blame). Misfit n x) h

@@ -74,7 +74,8 @@ module _ (x : Lapses) (k : KindName) (h : LogHeading) (log : List LogLine) where
       (kind_misreads x Any k h log) (λ o. wider x o (log_monitor k h) log) n)
 
 -- a log fits some order exactly where it is open in one
-pub kind_fit_open : (x : Lapses) (k : KindName) (h : LogHeading) (log : List LogLine) → is_in (fit_of x (log_monitor k h) log) ≡ true
+pub kind_fit_open : (x : Lapses) (k : KindName) (h : LogHeading) (log : List LogLine)
+    → is_in (fit_of x (log_monitor k h) log) ≡ true
     → (o : Order) × IsOpenWith x o (log_monitor k h) log
 kind_fit_open x k h log is =
     fits_open (λ o l. IsOpenWith x o (log_monitor k h) l) log (λ p. read_verdict x p (log_monitor k h) log)

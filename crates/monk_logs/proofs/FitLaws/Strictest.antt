@@ -17,14 +17,16 @@ module _ (Open : Order → List LogLine → Type 0) (log : List LogLine) (v : Or
     (fits : (o : Order) → FitsExactlyBy (Open o) log (v o))
   where
     not_open : (o : Order) (n : ℕ) (why : Blame) → v o ≡ verdict.Misfit n why → Open o log → ⊥
-    not_open o n why is opens = absurd (let same : verdict.Misfit n why ≡ verdict.Fits = sym is ∙ (fits o).1 opens in cc)
+    not_open o n why is opens =
+        absurd (let same : verdict.Misfit n why ≡ verdict.Fits = sym is ∙ (fits o).1 opens in cc)
 
     none_before : (p : Order) → is_stricter p Fifo ≡ true → Open p log → ⊥
     none_before Fifo h opens = false≢true h
     none_before Wake h opens = false≢true h
     none_before Any h opens = false≢true h
 
-    before_wake : (n : ℕ) (why : Blame) → v Fifo ≡ verdict.Misfit n why → (p : Order) → is_stricter p Wake ≡ true → Open p log → ⊥
+    before_wake : (n : ℕ) (why : Blame) → v Fifo ≡ verdict.Misfit n why → (p : Order)
+        → is_stricter p Wake ≡ true → Open p log → ⊥
     before_wake n why is Fifo h opens = not_open Fifo n why is opens
     before_wake n why is Wake h opens = false≢true h
     before_wake n why is Any h opens = false≢true h
@@ -39,7 +41,8 @@ module _ (Open : Order → List LogLine → Type 0) (log : List LogLine) (v : Or
 
     strictest_at : (f w a : LogVerdict) → v Fifo ≡ f → v Wake ≡ w → v Any ≡ a → (o : Order)
         → or_in f Fifo (or_in w Wake (last_fit a)) ≡ In o → IsStrictest (λ p. Open p log) o
-    strictest_at verdict.Fits w a is_f is_w is_a Fifo is = record { is_open = (fits Fifo).0 is_f; no_stricter = none_before }
+    strictest_at verdict.Fits w a is_f is_w is_a Fifo is =
+        record { is_open = (fits Fifo).0 is_f; no_stricter = none_before }
     strictest_at verdict.Fits w a is_f is_w is_a Wake is = absurd cc
     strictest_at verdict.Fits w a is_f is_w is_a Any is = absurd cc
     strictest_at (verdict.Misfit n why) verdict.Fits a is_f is_w is_a Fifo is = absurd cc
@@ -50,17 +53,21 @@ module _ (Open : Order → List LogLine → Type 0) (log : List LogLine) (v : Or
     strictest_at (verdict.Misfit n why) (verdict.Misfit k because) verdict.Fits is_f is_w is_a Wake is = absurd cc
     strictest_at (verdict.Misfit n why) (verdict.Misfit k because) verdict.Fits is_f is_w is_a Any is =
         record { is_open = (fits Any).0 is_a; no_stricter = before_any n k why because is_f is_w }
-    strictest_at (verdict.Misfit n why) (verdict.Misfit k because) (verdict.Misfit j since) is_f is_w is_a o is = absurd cc
+    strictest_at (verdict.Misfit n why) (verdict.Misfit k because)
+        (verdict.Misfit j since) is_f is_w is_a o is = absurd cc
 
-    found_at : (f w a : LogVerdict) → v Fifo ≡ f → v Wake ≡ w → v Any ≡ a → (o : Order) → IsStrictest (λ p. Open p log) o
+    found_at : (f w a : LogVerdict) → v Fifo ≡ f → v Wake ≡ w → v Any ≡ a → (o : Order)
+        → IsStrictest (λ p. Open p log) o
         → or_in f Fifo (or_in w Wake (last_fit a)) ≡ In o
     found_at verdict.Fits w a is_f is_w is_a Fifo s = refl
     found_at verdict.Fits w a is_f is_w is_a Wake s = absurd (s.no_stricter Fifo refl ((fits Fifo).0 is_f))
     found_at verdict.Fits w a is_f is_w is_a Any s = absurd (s.no_stricter Fifo refl ((fits Fifo).0 is_f))
     found_at (verdict.Misfit n why) w a is_f is_w is_a Fifo s = absurd (not_open Fifo n why is_f s.is_open)
     found_at (verdict.Misfit n why) verdict.Fits a is_f is_w is_a Wake s = refl
-    found_at (verdict.Misfit n why) (verdict.Misfit k because) a is_f is_w is_a Wake s = absurd (not_open Wake k because is_w s.is_open)
-    found_at (verdict.Misfit n why) verdict.Fits a is_f is_w is_a Any s = absurd (s.no_stricter Wake refl ((fits Wake).0 is_w))
+    found_at (verdict.Misfit n why) (verdict.Misfit k because) a is_f is_w is_a Wake s =
+        absurd (not_open Wake k because is_w s.is_open)
+    found_at (verdict.Misfit n why) verdict.Fits a is_f is_w is_a Any s =
+        absurd (s.no_stricter Wake refl ((fits Wake).0 is_w))
     found_at (verdict.Misfit n why) (verdict.Misfit k because) verdict.Fits is_f is_w is_a Any s = refl
     found_at (verdict.Misfit n why) (verdict.Misfit k because) (verdict.Misfit j since) is_f is_w is_a Any s =
         absurd (not_open Any j since is_a s.is_open)

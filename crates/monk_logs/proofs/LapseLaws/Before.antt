@@ -76,10 +76,12 @@ lapsed_short j zero (Some s ∷ l) h =
     ⊎_elim (λ e. absurd (no_less 0 (rw (eq-eqb s j e) at h))) (λ ne. rw (ne_eqb s j ne) refl) (cases_eq s j)
 lapsed_short j (suc n) (Some s ∷ l) h =
     ⊎_elim (λ e. absurd (no_less (suc n) (rw (eq-eqb s j e) at h)))
-    (λ ne. rw (ne_eqb s j ne) (lapsed_short j n l (less_suc n (place j (seats_in l)) (rw (ne_eqb s j ne) at h)))) (cases_eq s j)
+    (λ ne. rw (ne_eqb s j ne) (lapsed_short j n l
+    (less_suc n (place j (seats_in l)) (rw (ne_eqb s j ne) at h)))) (cases_eq s j)
 
 -- from its place on each service stands before one seat less
-pub lapsed_long : (j n : ℕ) (l : List (Option ℕ)) → Distinct (seats_in l) → is_among j (seats_in l) ≡ true → place j (seats_in l) ≤ n
+pub lapsed_long : (j n : ℕ) (l : List (Option ℕ)) → Distinct (seats_in l) → is_among j (seats_in l) ≡ true
+    → place j (seats_in l) ≤ n
     → before n (lapsed_in j l) ≡ before (suc n) l
 lapsed_long j n [] d m h = absurd (false≢true m)
 lapsed_long j n (None ∷ l) d m h = ap (λ (k : ℕ). suc k) (lapsed_long j n l d m h)
@@ -104,10 +106,12 @@ taken_short j zero (Some s ∷ l) h =
     ⊎_elim (λ e. absurd (no_less 0 (rw (eq-eqb s j e) at h))) (λ ne. rw (ne_eqb s j ne) refl) (cases_eq s j)
 taken_short j (suc n) (Some s ∷ l) h =
     ⊎_elim (λ e. absurd (no_less (suc n) (rw (eq-eqb s j e) at h)))
-    (λ ne. rw (ne_eqb s j ne) (taken_short j n l (less_suc n (place j (seats_in l)) (rw (ne_eqb s j ne) at h)))) (cases_eq s j)
+    (λ ne. rw (ne_eqb s j ne) (taken_short j n l
+    (less_suc n (place j (seats_in l)) (rw (ne_eqb s j ne) at h)))) (cases_eq s j)
 
 pub taken_long : (j n : ℕ) (l : List (Option ℕ)) → is_among j (seats_in l) ≡ true → place j (seats_in l) ≤ n
-    → before n (taken_in j l) ≡ before (place j (seats_in l)) l + ((before (suc n) l - before (place j (seats_in l)) l) - 1)
+    → before n (taken_in j l) ≡ before (place j (seats_in l)) l
+    + ((before (suc n) l - before (place j (seats_in l)) l) - 1)
 taken_long j n [] m h = absurd (false≢true m)
 taken_long j n (None ∷ l) m h = omega (arith, taken_long j n l m h)
 taken_long j n (Some s ∷ l) m h =
@@ -130,7 +134,8 @@ none_behind j n (None ∷ l) m f h = ap (λ (k : ℕ). suc k) (none_behind j n l
 none_behind j n (Some s ∷ l) m f h =
     ⊎_elim (λ e. rw (eq-eqb s j e) (none_before n l (rw (eq-eqb s j e) at f)))
     (λ ne. let k = some_more (place j (seats_in l)) n (rw (ne_eqb s j ne) at h) in
-    rw (ne_eqb s j ne, k.1) (none_behind j k.0 l (among_others j s (seats_in l) ne m) (rw (ne_eqb s j ne) at f) k.2)) (cases_eq s j)
+    rw (ne_eqb s j ne, k.1) (none_behind j k.0 l (among_others j s (seats_in l) ne m)
+    (rw (ne_eqb s j ne) at f) k.2)) (cases_eq s j)
 
 -- ---- each service has a seat of its own before it
 

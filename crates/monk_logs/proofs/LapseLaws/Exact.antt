@@ -54,7 +54,8 @@ level_kind k kind is =
     let e = eqb-true k.waiter k.entry is in
     record {
       entry = is;
-      back = le-leb k.waiter k.signaller (back_by k.mode k.entry k.waiter k.signaller kind.fits_mode kind.entry_signaller e);
+      back = le-leb k.waiter k.signaller
+          (back_by k.mode k.entry k.waiter k.signaller kind.fits_mode kind.entry_signaller e);
       down = λ h. eq-eqb k.signaller k.entry
           (between k.entry k.waiter k.signaller e kind.entry_signaller (leb-true k.signaller k.waiter h));
     }
@@ -78,10 +79,12 @@ module _ (o : Order) (m : Monitor) (b : Board) (is : Sound b) where
 
   keeps_held : (e : Event) (p : Pending) (x : BoardCourse) → IsRelease p → board_hold m b e p ≡ Some x → Keeps x
   keeps_held e p x release k =
-      subst Keeps (passed (reason_before 0 m (sight b) e) (board_course b p) x k).1 (record { sound = is; release = release })
+      subst Keeps (passed (reason_before 0 m (sight b) e) (board_course b p) x k).1
+      (record { sound = is; release = release })
 
   keeps_signal : (s c : ℕ) (x : BoardCourse) (at_once : Bool)
-      → cond at_once (board_hold m b (event.SignalLeave s c Stay) (Half s c)) (board_held m b (event.Signal s c Stay)) ≡ Some x → Keeps x
+      → cond at_once (board_hold m b (event.SignalLeave s c Stay) (Half s c))
+      (board_held m b (event.Signal s c Stay)) ≡ Some x → Keeps x
   keeps_signal s c x true k = keeps_held (event.SignalLeave s c Stay) (Half s c) x tt k
   keeps_signal s c x false k = keeps_held (event.Signal s c Stay) (Release (event.Signal s c Stay)) x refl k
 
@@ -96,7 +99,8 @@ module _ (o : Order) (m : Monitor) (b : Board) (is : Sound b) where
   keeps_line (Until s p) x k = keeps_held (event.Until s p Stay) (Release (event.Until s p Stay)) x refl k
   keeps_line (Act s op r) x k = keeps_did (event.Act s op r) x k
 
-  keeps_own : (t : Bool) (e : Event) (x : BoardCourse) → next_of e ≡ Some Stay → cond t (board_held m b e) None ≡ Some x → Keeps x
+  keeps_own : (t : Bool) (e : Event) (x : BoardCourse) → next_of e ≡ Some Stay
+      → cond t (board_held m b e) None ≡ Some x → Keeps x
   keeps_own t e x stays k = keeps_held e (Release e) x stays (cond_some t (board_held m b e) x k).1
 
   keeps_half : (s c : ℕ) (l : LogLine) (x : BoardCourse) → board_half m b s c l ≡ Some x → Keeps x
@@ -129,8 +133,10 @@ module _ (m : Monitor) (level : IsLevel m.kind) where
   GoesOn log reading = (y x : BoardCourse) → Below y x → IsRelease x.pending
       → is_some (board_judge_from Any m (Some x) reading) ≡ true → is_some (read_from Allowed Any m (Some y) log) ≡ true
 
-  below_some : (log reading : List LogLine) → GoesOn log reading → (c : Option BoardCourse) (w : BoardCourse) → Follows c w
-      → IsRelease w.pending → is_some (board_judge_from Any m (Some w) reading) ≡ true → is_some (read_from Allowed Any m c log) ≡ true
+  below_some : (log reading : List LogLine) → GoesOn log reading → (c : Option BoardCourse) (w : BoardCourse)
+      → Follows c w
+      → IsRelease w.pending → is_some (board_judge_from Any m (Some w) reading) ≡ true
+      → is_some (read_from Allowed Any m c log) ≡ true
   below_some log reading goes None w h stays k = absurd h
   below_some log reading goes (Some y) w h stays k = goes y w h stays k
 
@@ -146,7 +152,8 @@ module _ (m : Monitor) (level : IsLevel m.kind) where
   below_read [] reading reads y x h stays k = refl
   below_read (l ∷ log) [] reads y x h stays k = absurd reads
   below_read (l ∷ log) (z ∷ reading) reads y x h stays k =
-      subst (λ (c : BoardCourse). is_some (read_from Allowed Any m (board_read Allowed Any m c.board c.pending l) log) ≡ true) (sym h.is)
+      subst (λ (c : BoardCourse). is_some
+      (read_from Allowed Any m (board_read Allowed Any m c.board c.pending l) log) ≡ true) (sym h.is)
       (below_line log reading (below_read log reading reads.1)
       (board_read Allowed Any m (with_items h.items x.board) x.pending l) (board_behind Any m x.board x.pending z)
       (λ w is. (
@@ -160,7 +167,8 @@ first_of : (c d : Option BoardCourse) (x : BoardCourse) → c ≡ Some x → fir
 first_of None d x h = absurd cc
 first_of (Some y) d x h = h
 
-second_of : (c d : Option BoardCourse) (x : BoardCourse) → ((y : BoardCourse) → c ≡ Some y → ⊥) → d ≡ Some x → first_course c d ≡ Some x
+second_of : (c d : Option BoardCourse) (x : BoardCourse) → ((y : BoardCourse) → c ≡ Some y → ⊥) → d ≡ Some x
+    → first_course c d ≡ Some x
 second_of None d x never h = h
 second_of (Some y) d x never h = absurd (never y refl)
 
@@ -171,7 +179,8 @@ module _ (o : Order) (m : Monitor) (alone : IsFirstServed o ⊎ ((m.kind.waiter 
       first_of (board_behind o m b p l) (board_behind o m b p (as_lapse l)) x
       (subst (λ (y : LogLine). board_behind o m b p y ≡ Some x) (⊎_elim (λ i. i) (λ i. i ∙ same) reads) is)
 
-  one_read : (b : Board) → Sound b → (p : Pending) → IsRelease p → (l z : LogLine) (x : BoardCourse) → (z ≡ l) ⊎ (z ≡ as_lapse l)
+  one_read : (b : Board) → Sound b → (p : Pending) → IsRelease p → (l z : LogLine) (x : BoardCourse)
+      → (z ≡ l) ⊎ (z ≡ as_lapse l)
       → board_behind o m b p z ≡ Some x → board_read Allowed o m b p l ≡ Some x
   one_read b sound p stays (Enter s) z x reads is = one_plain b p (Enter s) z x refl reads is
   one_read b sound p stays (Resume s) z x (inl e) is =
@@ -231,7 +240,8 @@ read_none : (o : Order) (m : Monitor) (log : List LogLine) → is_some (read_fro
 unfolding read_from
 read_none o m log h = false≢true h
 
-read_more : (o : Order) (m : Monitor) (log : List LogLine) → ((x : BoardCourse) → is_some (read_from Allowed o m (Some x) log) ≡ true
+read_more : (o : Order) (m : Monitor) (log : List LogLine)
+    → ((x : BoardCourse) → is_some (read_from Allowed o m (Some x) log) ≡ true
     → ReadAs o m x log) → (x : BoardCourse) (l z : LogLine) → (z ≡ l) ⊎ (z ≡ as_lapse l) → (c : Option BoardCourse)
     → c ≡ board_behind o m x.board x.pending z → is_some (read_from Allowed o m c log) ≡ true → ReadAs o m x (l ∷ log)
 unfolding board_judge_from
@@ -244,7 +254,8 @@ read_more o m log goes x l z reads (Some w) is k =
       judged = subst (λ (y : Option BoardCourse). is_some (board_judge_from o m y r.reading) ≡ true) is r.judged;
     }
 
-read_as : (o : Order) (m : Monitor) (log : List LogLine) (x : BoardCourse) → is_some (read_from Allowed o m (Some x) log) ≡ true
+read_as : (o : Order) (m : Monitor) (log : List LogLine) (x : BoardCourse)
+    → is_some (read_from Allowed o m (Some x) log) ≡ true
     → ReadAs o m x log
 unfolding board_judge_from read_from
 read_as o m [] x k = record { reading = []; reads = refl; judged = refl }

@@ -40,7 +40,8 @@ waitings-append (Service c ∷ xs) ys = waitings-append xs ys
 seats_waiting : (c : ℕ) (xs : List Item) → seats_in (line c (waitings xs)) ≡ seats_in (line c xs)
 seats_waiting c [] = refl
 seats_waiting c (Waiting s d ∷ xs) =
-    ⊎_elim (λ e. rw (eq-eqb d c e) (ap (λ (l : List ℕ). s ∷ l) (seats_waiting c xs))) (λ ne. rw (ne_eqb d c ne) (seats_waiting c xs))
+    ⊎_elim (λ e. rw (eq-eqb d c e) (ap (λ (l : List ℕ). s ∷ l) (seats_waiting c xs)))
+    (λ ne. rw (ne_eqb d c ne) (seats_waiting c xs))
     (cases_eq d c)
 seats_waiting c (Service d ∷ xs) =
     ⊎_elim (λ e. rw (eq-eqb d c e) (seats_waiting c xs)) (λ ne. rw (ne_eqb d c ne) (seats_waiting c xs)) (cases_eq d c)
@@ -101,13 +102,15 @@ waitings_given : (c : ℕ) (ws : List ℕ) → waitings (map (λ s. Service c) w
 waitings_given c [] = refl
 waitings_given c (w ∷ ws) = waitings_given c ws
 
-joined_lines : (o : Order) (c : ℕ) (xs ys us ws : List Item) → FewerIn o (line c xs ++ line c us) (line c ys ++ line c ws)
+joined_lines : (o : Order) (c : ℕ) (xs ys us ws : List Item)
+    → FewerIn o (line c xs ++ line c us) (line c ys ++ line c ws)
     → FewerIn o (line c (xs ++ us)) (line c (ys ++ ws))
 joined_lines o c xs ys us ws h =
     subst (λ (l : List (Option ℕ)). FewerIn o l (line c (ys ++ ws))) (sym (line-append c xs us))
     (subst (λ (l : List (Option ℕ)). FewerIn o (line c xs ++ line c us) l) (sym (line-append c ys ws)) h)
 
-no_more : (o : Order) (c : ℕ) (xs ys us ws : List Item) → line c us ≡ [] → line c ws ≡ [] → FewerIn o (line c xs) (line c ys)
+no_more : (o : Order) (c : ℕ) (xs ys us ws : List Item) → line c us ≡ [] → line c ws ≡ []
+    → FewerIn o (line c xs) (line c ys)
     → FewerIn o (line c (xs ++ us)) (line c (ys ++ ws))
 no_more o c xs ys us ws e i h =
     joined_lines o c xs ys us ws
@@ -122,7 +125,8 @@ given_line o xs ys c d us ws h le =
     (λ e. joined_lines o c xs ys (map (λ s. Service d) us) (map (λ s. Service d) ws)
     (rw (line_given d c us e, line_given d c ws e)
     (fewer_gifts o (line c xs) (line c ys) us ws (same_line o xs ys h c) (le e) (h.fewer c))))
-    (λ ne. no_more o c xs ys (map (λ s. Service d) us) (map (λ s. Service d) ws) (line_given_other d c us ne) (line_given_other d c ws ne)
+    (λ ne. no_more o c xs ys (map (λ s. Service d) us) (map (λ s. Service d) ws) (line_given_other d c us ne)
+    (line_given_other d c ws ne)
     (h.fewer c)) (cases_eq d c)
 
 nobody_more : (xs : List Item) (d : ℕ) (us : List ℕ) → waitings (xs ++ map (λ s. Service d) us) ≡ waitings xs
@@ -139,7 +143,8 @@ given_more o xs ys None f g h le =
 given_more o xs ys (Some d) f g h le = record {
   same = nobody_more xs d (f d) ∙ (h.same ∙ sym (nobody_more ys d (g d)));
   fewer = λ c. given_line o xs ys c d (f d) (g d) h
-      (λ e. subst (λ (x : ℕ). services_in (line c xs) + length (f x) ≤ services_in (line c ys) + length (g x)) (sym e) (le c));
+      (λ e. subst (λ (x : ℕ). services_in (line c xs) + length (f x) ≤ services_in (line c ys) + length (g x))
+      (sym e) (le c));
 }
 
 one_each : (a b n m : ℕ) (p q : List ℕ) → a ≤ b → length p ≡ n - a → length q ≡ n - b
@@ -152,20 +157,27 @@ served_fewer (Enter s via) a b xs le = omega arith
 served_fewer (Act s op r) a b xs le = omega arith
 served_fewer (Leave s x) a b xs le = omega arith
 served_fewer (Wait s c x) a b xs le = omega arith
-served_fewer (Signal s c x) a b xs le = one_each a b (length xs) 0 (drop a xs) (drop b xs) le (length-drop a xs) (length-drop b xs)
-served_fewer (SignalLeave s c x) a b xs le = one_each a b (length xs) 0 (drop a xs) (drop b xs) le (length-drop a xs) (length-drop b xs)
+served_fewer (Signal s c x) a b xs le =
+    one_each a b (length xs) 0 (drop a xs) (drop b xs) le (length-drop a xs) (length-drop b xs)
+served_fewer (SignalLeave s c x) a b xs le =
+    one_each a b (length xs) 0 (drop a xs) (drop b xs) le (length-drop a xs) (length-drop b xs)
 served_fewer (Until s p x) a b xs le = omega arith
 served_fewer (Resume s q) a b xs le = omega arith
 served_fewer (SignalAll s c) a b xs le = omega (arith, length-drop a xs, length-drop b xs)
-served_fewer (SignalWait s c d x) a b xs le = one_each a b (length xs) 0 (drop a xs) (drop b xs) le (length-drop a xs) (length-drop b xs)
+served_fewer (SignalWait s c d x) a b xs le =
+    one_each a b (length xs) 0 (drop a xs) (drop b xs) le (length-drop a xs) (length-drop b xs)
 
-pub fewer_given : (o : Order) (e : Event) (xs ys : List Item) → Fewer o xs ys → Fewer o (xs ++ given_by e xs) (ys ++ given_by e ys)
+pub fewer_given : (o : Order) (e : Event) (xs ys : List Item) → Fewer o xs ys
+    → Fewer o (xs ++ given_by e xs) (ys ++ given_by e ys)
 fewer_given o e xs ys h =
-    given_more o xs ys (signals_on e) (λ c. served_of e (unserved_in (line c xs))) (λ c. served_of e (unserved_in (line c ys))) h
+    given_more o xs ys (signals_on e) (λ c. served_of e (unserved_in (line c xs)))
+    (λ c. served_of e (unserved_in (line c ys))) h
     (λ c. subst
-    (λ (l : List ℕ). services_in (line c xs) + length (served_of e (unserved_in (line c xs))) ≤ services_in (line c ys) + length
+    (λ (l : List ℕ). services_in (line c xs) + length (served_of e (unserved_in (line c xs)))
+    ≤ services_in (line c ys) + length
     (served_of e (drop (services_in (line c ys)) l))) (same_line o xs ys h c)
-    (served_fewer e (services_in (line c xs)) (services_in (line c ys)) (seats_in (line c xs)) (few_in_all o xs ys h c)))
+    (served_fewer e (services_in (line c xs)) (services_in (line c ys)) (seats_in (line c xs))
+    (few_in_all o xs ys h c)))
 
 -- ---- a seat comes to wait
 
@@ -189,7 +201,8 @@ item_came o s (Some d) xs ys h = record {
   fewer = λ c. came_line o s d c xs ys h;
 }
 
-pub fewer_came : (o : Order) (e : Event) (xs ys : List Item) → Fewer o xs ys → Fewer o (xs ++ waiting_item e) (ys ++ waiting_item e)
+pub fewer_came : (o : Order) (e : Event) (xs ys : List Item) → Fewer o xs ys
+    → Fewer o (xs ++ waiting_item e) (ys ++ waiting_item e)
 fewer_came o e xs ys h = item_came o (seat_of e) (waits_on e) xs ys h
 
 -- ---- who goes
@@ -211,10 +224,12 @@ not_there : (j : ℕ) (xs : List Item) → is_among j (all_seats xs) ≡ false �
 not_there j [] f = refl
 not_there j (Waiting s d ∷ xs) f =
     ⊎_elim (λ e. absurd (false≢true (sym f ∙ rw (eq-eqb s j e) refl)))
-    (λ ne. rw (ne_eqb s j ne) (ap (λ (l : List Item). Waiting s d ∷ l) (not_there j xs (rw (ne_eqb s j ne) at f)))) (cases_eq s j)
+    (λ ne. rw (ne_eqb s j ne) (ap (λ (l : List Item). Waiting s d ∷ l)
+    (not_there j xs (rw (ne_eqb s j ne) at f)))) (cases_eq s j)
 not_there j (Service d ∷ xs) f = not_there j xs f
 
-pub waitings_taken : (j : ℕ) (xs : List Item) → Distinct (all_seats xs) → waitings (taken_out j xs) ≡ without_seat j (waitings xs)
+pub waitings_taken : (j : ℕ) (xs : List Item) → Distinct (all_seats xs)
+    → waitings (taken_out j xs) ≡ without_seat j (waitings xs)
 waitings_taken j [] d = refl
 waitings_taken j (Waiting s c ∷ xs) d =
     ⊎_elim

@@ -20,7 +20,8 @@ FewerIn Any k l = (n : ℕ) → before n k ≤ before n l
 
 -- ---- in all
 
-pub fewer_all : (o : Order) (k l : List (Option ℕ)) → seats_in k ≡ seats_in l → FewerIn o k l → services_in k ≤ services_in l
+pub fewer_all : (o : Order) (k l : List (Option ℕ)) → seats_in k ≡ seats_in l → FewerIn o k l
+    → services_in k ≤ services_in l
 fewer_all Fifo k l e h = h
 fewer_all Wake k l e h = h
 fewer_all Any k l e h =
@@ -38,16 +39,31 @@ split (suc n) (suc m) = ⊎_elim (λ h. inl (omega arith)) (λ h. inr (omega ari
 pub fewer_gifts : (o : Order) (k l : List (Option ℕ)) (us ws : List ℕ) → seats_in k ≡ seats_in l
     → services_in k + length us ≤ services_in l + length ws → FewerIn o k l → FewerIn o (k ++ gifts us) (l ++ gifts ws)
 fewer_gifts Fifo k l us ws e le h =
-    omega (arith, services_in-append k (gifts us), services_in-append l (gifts ws), services_gifts us, services_gifts ws)
+    omega (
+      arith,
+      services_in-append k (gifts us),
+      services_in-append l
+          (gifts ws),
+      services_gifts us,
+      services_gifts ws,
+    )
 fewer_gifts Wake k l us ws e le h =
-    omega (arith, services_in-append k (gifts us), services_in-append l (gifts ws), services_gifts us, services_gifts ws)
+    omega (
+      arith,
+      services_in-append k (gifts us),
+      services_in-append l
+          (gifts ws),
+      services_gifts us,
+      services_gifts ws,
+    )
 fewer_gifts Any k l us ws e le h = λ n.
     let same : length (seats_in k) ≡ length (seats_in l) = ap (λ (xs : List ℕ). length xs) e in
     ⊎_elim
     (λ lt. omega (arith, h n, before_short n k (gifts us) lt, before_short n l (gifts ws) (omega arith)))
     (λ ge. omega (arith, before_gifts n k us ge, before_gifts n l ws (omega arith))) (split n (length (seats_in k)))
 
-pub fewer_joined : (o : Order) (k l : List (Option ℕ)) (s : ℕ) → FewerIn o k l → FewerIn o (k ++ Some s ∷ []) (l ++ Some s ∷ [])
+pub fewer_joined : (o : Order) (k l : List (Option ℕ)) (s : ℕ) → FewerIn o k l
+    → FewerIn o (k ++ Some s ∷ []) (l ++ Some s ∷ [])
 fewer_joined Fifo k l s h = omega (arith, services_in-append k (Some s ∷ []), services_in-append l (Some s ∷ []))
 fewer_joined Wake k l s h = omega (arith, services_in-append k (Some s ∷ []), services_in-append l (Some s ∷ []))
 fewer_joined Any k l s h = λ n. omega (arith, h n, before_joined n s k, before_joined n s l)
@@ -77,7 +93,8 @@ pub dropped_more : (j n m : ℕ) (xs : List ℕ) → n ≤ m → is_among j (dro
 dropped_more j zero zero xs le h = h
 dropped_more j zero (suc m) [] le h = h
 dropped_more j zero (suc m) (x ∷ xs) le h =
-    ⊎_elim (λ e. rw (eq-eqb x j e) refl) (λ ne. rw (ne_eqb x j ne) (dropped_more j zero m xs (omega arith) h)) (cases_eq x j)
+    ⊎_elim (λ e. rw (eq-eqb x j e) refl) (λ ne. rw (ne_eqb x j ne) (dropped_more j zero m xs (omega arith) h))
+    (cases_eq x j)
 dropped_more j (suc n) zero xs le h = absurd (omega arith)
 dropped_more j (suc n) (suc m) [] le h = h
 dropped_more j (suc n) (suc m) (x ∷ xs) le h = dropped_more j n m xs (omega arith) h
@@ -115,7 +132,13 @@ module _ (j : ℕ) (k l : List (Option ℕ)) (e : seats_in k ≡ seats_in l)
   all_lapsed h n =
       ⊎_elim
       (λ lt. omega (arith, h n, lapsed_short j n k lt, lapsed_short j n l (omega (arith, at))))
-      (λ ge. omega (arith, h (suc n), lapsed_long j n k d m ge, lapsed_long j n l apart_there there (omega (arith, at))))
+      (λ ge. omega (
+        arith,
+        h (suc n),
+        lapsed_long j n k d m ge,
+        lapsed_long j n l apart_there there
+            (omega (arith, at)),
+      ))
       (split n p)
 
   all_mixed : ((n : ℕ) → before n k ≤ before n l) → (n : ℕ) → before n (taken_in j k) ≤ before n (lapsed_in j l)
@@ -153,7 +176,8 @@ module _ (j : ℕ) (k l : List (Option ℕ)) (e : seats_in k ≡ seats_in l)
   fewer_lapsed_in Any h = all_lapsed h
 
   -- the first was, the second wasn't
-  pub fewer_mixed_in : (o : Order) → has_service_behind j k ≡ true → FewerIn o k l → FewerIn o (taken_in j k) (lapsed_in j l)
+  pub fewer_mixed_in : (o : Order) → has_service_behind j k ≡ true → FewerIn o k l
+      → FewerIn o (taken_in j k) (lapsed_in j l)
   fewer_mixed_in Fifo f h = omega (arith, services_taken j k f, services_lapsed j l)
   fewer_mixed_in Wake f h = omega (arith, services_taken j k f, services_lapsed j l)
   fewer_mixed_in Any f h = all_mixed h
@@ -167,15 +191,18 @@ module _ (j : ℕ) (k l : List (Option ℕ)) (e : seats_in k ≡ seats_in l)
   few f g = ⊎_elim (λ h. h) (λ le. absurd (one_more f g le)) (split (services_in k) (services_in l))
 
   -- the second was, where the first can't have been
-  pub fewer_turned_in : (o : Order) → can_be_served o j k ≡ false → can_be_served o j l ≡ true → has_service_behind j l ≡ true
+  pub fewer_turned_in : (o : Order) → can_be_served o j k ≡ false → can_be_served o j l ≡ true
+      → has_service_behind j l ≡ true
       → FewerIn o k l → FewerIn o (lapsed_in j k) (taken_in j l)
   fewer_turned_in Fifo f g b h = omega (arith, services_taken j l b, services_lapsed j k, few f g)
   fewer_turned_in Wake f g b h = omega (arith, services_taken j l b, services_lapsed j k, few f g)
   fewer_turned_in Any f g b h = all_turned f h
 
   -- who may lapse where there are more services may where there are fewer
-  pub keeps_fewer : ((n : ℕ) → before n k ≤ before n l) → keeps_up 0 (lapsed_in j l) ≡ true → keeps_up 0 (lapsed_in j k) ≡ true
-  keeps_fewer h up = keeps_from 0 (lapsed_in j k) (λ n. omega (arith, all_lapsed h n, few_before 0 n (lapsed_in j l) up))
+  pub keeps_fewer : ((n : ℕ) → before n k ≤ before n l) → keeps_up 0 (lapsed_in j l) ≡ true
+      → keeps_up 0 (lapsed_in j k) ≡ true
+  keeps_fewer h up =
+      keeps_from 0 (lapsed_in j k) (λ n. omega (arith, all_lapsed h n, few_before 0 n (lapsed_in j l) up))
 
   kept_so : keeps_up 0 k ≡ true → has_service_behind j k ≡ false → (n : ℕ) → before n (lapsed_in j k) ≤ n + 0
   kept_so up f n =

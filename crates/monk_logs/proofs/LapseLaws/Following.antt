@@ -47,7 +47,8 @@ module _ (x : Lapses) (o : Order) (k : Rules) (seats conds : ℕ) (ob : Object) 
 
 -- ---- one line more
 
-pub read_goes_on : (x : Lapses) (o : Order) (m : Monitor) (old new : List LogLine) (n : ℕ) (l : LogLine) (a b : Board) (p q : Pending)
+pub read_goes_on : (x : Lapses) (o : Order) (m : Monitor) (old new : List LogLine) (n : ℕ) (l : LogLine)
+    (a b : Board) (p q : Pending)
     (left : LineVerdict) (v : LogVerdict) → read_verdict_from x o m n (Ok (board_course a p)) old ≡ v → old ≡ l ∷ new
     → course_or b left ≡ board_read_over x o m a p l → left ≡ line.Fits q
     → read_verdict_from x o m (n + 1) (Ok (board_course b q)) new ≡ v
@@ -55,11 +56,14 @@ read_goes_on x o m old new n l a b p q left v is taken judged goes =
     along_taken (read_over x o m) n old new l (board_course a p) (Ok (board_course b q)) v is taken
     (ap (course_or b) (sym goes) ∙ judged)
 
-pub read_misfits : (x : Lapses) (o : Order) (m : Monitor) (old new : List LogLine) (n : ℕ) (l : LogLine) (a b : Board) (p : Pending)
-    (left : LineVerdict) (why : Blame) (v : LogVerdict) → read_verdict_from x o m n (Ok (board_course a p)) old ≡ v → old ≡ l ∷ new
+pub read_misfits : (x : Lapses) (o : Order) (m : Monitor) (old new : List LogLine) (n : ℕ) (l : LogLine)
+    (a b : Board) (p : Pending)
+    (left : LineVerdict) (why : Blame) (v : LogVerdict)
+    → read_verdict_from x o m n (Ok (board_course a p)) old ≡ v → old ≡ l ∷ new
     → course_or b left ≡ board_read_over x o m a p l → left ≡ line.Misfits why → Misfit (n + 1) why ≡ v
 read_misfits x o m old new n l a b p left why v is taken judged fails =
-    along_stopped (read_over x o m) n old new l (board_course a p) why v is taken (ap (course_or b) (sym fails) ∙ judged)
+    along_stopped (read_over x o m) n old new l (board_course a p) why v is taken
+    (ap (course_or b) (sym fails) ∙ judged)
 
 pub read_fits : (x : Lapses) (o : Order) (m : Monitor) (left : List LogLine) (n : ℕ) (y : BoardCourse) (v : LogVerdict)
     → read_verdict_from x o m n (Ok y) left ≡ v → left ≡ [] → Fits ≡ v
@@ -67,7 +71,8 @@ read_fits x o m left n y v is none = along_done (read_over x o m) n left y v is 
 
 -- ---- what is pending then is held
 
-first_held : (m : Monitor) (r s : Result BoardCourse Blame) → ((y : BoardCourse) → r ≡ Ok y → IsHeldOver m y.board y.pending)
+first_held : (m : Monitor) (r s : Result BoardCourse Blame)
+    → ((y : BoardCourse) → r ≡ Ok y → IsHeldOver m y.board y.pending)
     → ((y : BoardCourse) → s ≡ Ok y → IsHeldOver m y.board y.pending) → (y : BoardCourse) → first_over r s ≡ Ok y
     → IsHeldOver m y.board y.pending
 first_held m (Ok z) s f g y h = f y h
@@ -78,10 +83,12 @@ read_held : (x : Lapses) (o : Order) (m : Monitor) (b : Board) (p : Pending) (l 
     → board_read_over x o m b p l ≡ Ok y → IsHeldOver m y.board y.pending
 read_held Told o m b p l y h = behind_held o m b p l y h
 read_held Allowed o m b p l y h =
-    first_held m (board_behind_over o m b p l) (board_behind_over o m b p (as_lapse l)) (λ z is. behind_held o m b p l z is)
+    first_held m (board_behind_over o m b p l) (board_behind_over o m b p (as_lapse l))
+    (λ z is. behind_held o m b p l z is)
     (λ z is. behind_held o m b p (as_lapse l) z is) y h
 
-pub read_goes_held : (x : Lapses) (o : Order) (m : Monitor) (l : LogLine) (a b : Board) (p q : Pending) (left : LineVerdict)
+pub read_goes_held : (x : Lapses) (o : Order) (m : Monitor) (l : LogLine) (a b : Board) (p q : Pending)
+    (left : LineVerdict)
     → course_or b left ≡ board_read_over x o m a p l → left ≡ line.Fits q → IsHeldOver m b q
 read_goes_held x o m l a b p q left judged goes =
     read_held x o m a p l (board_course b q) (sym judged ∙ ap (course_or b) goes)

@@ -59,7 +59,8 @@ known_did o m b e x h =
     let p = known_if (board_reason o m b e == 0) (board_after m.object b e) x h in
     (passes o m b e (eqb-true (board_reason o m b e) 0 p.0), p.1)
 
-pub known_lapsed : (o : Order) (m : Monitor) (b : Board) (s : ℕ) (x : BoardCourse) → board_known o m b (Lapsed s) ≡ Some x
+pub known_lapsed : (o : Order) (m : Monitor) (b : Board) (s : ℕ) (x : BoardCourse)
+    → board_known o m b (Lapsed s) ≡ Some x
     → (is_open b.turn ≡ true) × (may_lapse o s b.items ≡ true) × (board_settled (board_lapse b s) ≡ x)
 known_lapsed o m b s x h =
     let p = known_if (is_open b.turn && may_lapse o s b.items) (board_lapse b s) x h in
@@ -78,7 +79,8 @@ module _ (m : Monitor) (level : IsLevel m.kind) (xs : List Item) (b : Board) (h 
     abbrev few : Board
     few = with_items xs b
 
-    known_follows : (e : Event) (x : BoardCourse) → Suits (next_of e) (items_with few e) → board_known Any m b (Did e) ≡ Some x
+    known_follows : (e : Event) (x : BoardCourse) → Suits (next_of e) (items_with few e)
+        → board_known Any m b (Did e) ≡ Some x
         → Follows (board_known Any m few (Did e)) x
     known_follows e x suits k =
         let p = known_did Any m b e x k in
@@ -98,7 +100,8 @@ module _ (m : Monitor) (level : IsLevel m.kind) (xs : List Item) (b : Board) (h 
     lapse_follows s x k =
         let p = known_lapsed Any m b s x k in
         let may = may_lapse_fewer Any s xs b.items h (sound_distinct few sound) p.1 in
-        follows_by (board_known Any m few (Lapsed s)) (board_settled (board_lapse few s)) x (lapsed_ok Any m few s p.0 may)
+        follows_by (board_known Any m few (Lapsed s)) (board_settled (board_lapse few s)) x
+        (lapsed_ok Any m few s p.0 may)
         (subst (λ (y : BoardCourse). Below (board_settled (board_lapse few s)) y) p.2 (record {
           items = without_seat s xs;
           is = refl;
@@ -107,7 +110,8 @@ module _ (m : Monitor) (level : IsLevel m.kind) (xs : List Item) (b : Board) (h 
           many = sound_lapse Any b s many p.1;
         }))
 
-    hold_follows : (e : Event) (p : Pending) (x : BoardCourse) → reason_before 0 m (sight few) e ≡ reason_before 0 m (sight b) e
+    hold_follows : (e : Event) (p : Pending) (x : BoardCourse)
+        → reason_before 0 m (sight few) e ≡ reason_before 0 m (sight b) e
         → board_hold m b e p ≡ Some x → Follows (board_hold m few e p) x
     hold_follows e p x same k =
         let q = passed (reason_before 0 m (sight b) e) (board_course b p) x k in
@@ -116,12 +120,15 @@ module _ (m : Monitor) (level : IsLevel m.kind) (xs : List Item) (b : Board) (h 
         (record { items = xs; is = refl; fewer = h; sound = sound; many = many }))
 
     signal_follows : (s c : ℕ) (x : BoardCourse) (at_once : Bool)
-        → cond at_once (board_hold m b (event.SignalLeave s c Stay) (Half s c)) (board_held m b (event.Signal s c Stay)) ≡ Some x
-        → Follows (cond at_once (board_hold m few (event.SignalLeave s c Stay) (Half s c)) (board_held m few (event.Signal s c Stay))) x
+        → cond at_once (board_hold m b (event.SignalLeave s c Stay) (Half s c))
+        (board_held m b (event.Signal s c Stay)) ≡ Some x
+        → Follows (cond at_once (board_hold m few (event.SignalLeave s c Stay) (Half s c))
+        (board_held m few (event.Signal s c Stay))) x
     signal_follows s c x true k = hold_follows (event.SignalLeave s c Stay) (Half s c) x refl k
     signal_follows s c x false k = hold_follows (event.Signal s c Stay) (Release (event.Signal s c Stay)) x refl k
 
-    pub line_follows : (l : LogLine) (x : BoardCourse) → board_line Any m b l ≡ Some x → Follows (board_line Any m few l) x
+    pub line_follows : (l : LogLine) (x : BoardCourse) → board_line Any m b l ≡ Some x
+        → Follows (board_line Any m few l) x
     line_follows (Enter s) x k = known_follows (event.Enter s (board_via b)) x tt k
     line_follows (Resume s) x k = known_follows (event.Resume s (due_from b.turn)) x tt k
     line_follows (Lapse s) x k = lapse_follows s x k
@@ -132,12 +139,14 @@ module _ (m : Monitor) (level : IsLevel m.kind) (xs : List Item) (b : Board) (h 
     line_follows (Until s p) x k = hold_follows (event.Until s p Stay) (Release (event.Until s p Stay)) x refl k
     line_follows (Act s op r) x k = known_follows (event.Act s op r) x tt k
 
-    own_follows : (t : Bool) (e : Event) (x : BoardCourse) → reason_before 0 m (sight few) e ≡ reason_before 0 m (sight b) e
+    own_follows : (t : Bool) (e : Event) (x : BoardCourse)
+        → reason_before 0 m (sight few) e ≡ reason_before 0 m (sight b) e
         → cond t (board_held m b e) None ≡ Some x → Follows (cond t (board_held m few e) None) x
     own_follows true e x same k = hold_follows e (Release e) x same k
     own_follows false e x same k = absurd cc
 
-    pub half_follows : (s c : ℕ) (l : LogLine) (x : BoardCourse) → board_half m b s c l ≡ Some x → Follows (board_half m few s c l) x
+    pub half_follows : (s c : ℕ) (l : LogLine) (x : BoardCourse) → board_half m b s c l ≡ Some x
+        → Follows (board_half m few s c l) x
     half_follows s c (Enter j) x k = absurd cc
     half_follows s c (Resume j) x k = absurd cc
     half_follows s c (Lapse j) x k = absurd cc
@@ -162,18 +171,22 @@ then_did o m b f l x h =
     let p = then_if o m (board_reason o m b f == 0) (board_after m.object b f) l x h in
     (passes o m b f (eqb-true (board_reason o m b f) 0 p.0), p.1)
 
-pub then_ok : (o : Order) (m : Monitor) (b c : Board) (f : Event) (l : LogLine) → Passes o m b f → board_after m.object b f ≡ c
+pub then_ok : (o : Order) (m : Monitor) (b c : Board) (f : Event) (l : LogLine) → Passes o m b f
+    → board_after m.object b f ≡ c
     → board_then o m (board_step o m b (Did f)) l ≡ board_line o m c l
-then_ok o m b c f l p e = ap (λ (y : Option Board). board_then o m y l) (step_ok o m b f p ∙ ap (λ (y : Board). Some y) e)
+then_ok o m b c f l p e =
+    ap (λ (y : Option Board). board_then o m y l) (step_ok o m b f p ∙ ap (λ (y : Board). Some y) e)
 
 pub then_follows : (m : Monitor) → IsLevel m.kind → (xs : List Item) (b : Board) → Fewer Any xs b.items → Sound b
-    → Sound (with_items xs b) → (f : Event) (l : LogLine) (x : BoardCourse) → Suits (next_of f) (items_with (with_items xs b) f)
+    → Sound (with_items xs b) → (f : Event) (l : LogLine) (x : BoardCourse)
+    → Suits (next_of f) (items_with (with_items xs b) f)
     → board_then Any m (board_step Any m b (Did f)) l ≡ Some x
     → Follows (board_then Any m (board_step Any m (with_items xs b) (Did f)) l) x
 then_follows m level xs b h many sound f l x suits k =
     let p = then_did Any m b f l x k in
     let r = moved m level xs b h many sound f p.0 suits in
     subst (λ (y : Option BoardCourse). Follows y x)
-    (sym (then_ok Any m (with_items xs b) (with_items (items_after xs f) (board_after m.object b f)) f l r.passes r.comes_to))
+    (sym (then_ok Any m (with_items xs b)
+    (with_items (items_after xs f) (board_after m.object b f)) f l r.passes r.comes_to))
     (line_follows m level (items_after xs f) (board_after m.object b f) r.fewer (sound_after Any m b f many p.0)
     (subst Sound r.comes_to (sound_after Any m (with_items xs b) f sound r.passes)) l x p.1)

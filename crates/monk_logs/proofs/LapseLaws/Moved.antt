@@ -64,7 +64,8 @@ module _ (m : Monitor) (level : IsLevel m.kind) (xs : List Item) (b : Board) (h 
     place_kept : (e : Event) → is_in_place m.object (sight b) e ≡ true → is_in_place m.object (sight few) e ≡ true
     place_kept (Enter s Free) k =
         let p = and_parts (not (b.inside s)) _ k in
-        let q = and_parts (is_empty (services b.items) && is_empty b.signallers) (is_empty (ready_of m.object b.state b.untils)) p.1 in
+        let q = and_parts (is_empty (services b.items) && is_empty b.signallers)
+        (is_empty (ready_of m.object b.state b.untils)) p.1 in
         let r = and_parts (is_empty (services b.items)) (is_empty b.signallers) q.0 in
         and_from (not (b.inside s)) _ p.0 (and_from (is_empty (services xs) && is_empty b.signallers) _
         (and_from (is_empty (services xs)) (is_empty b.signallers) (empty_kept r.0) r.1) q.1)
@@ -87,29 +88,42 @@ module _ (m : Monitor) (level : IsLevel m.kind) (xs : List Item) (b : Board) (h 
     permit_kept (Enter s via) suits k = k
     permit_kept (Act s op r) suits k = k
     permit_kept (Leave s x) suits k =
-        choose_kept m.kind level (items_with few (Leave s x)) (items_with b (Leave s x)) able s (b.signallers ++ []) x suits k
+        choose_kept m.kind level (items_with few (Leave s x)) (items_with b (Leave s x)) able s
+        (b.signallers ++ []) x suits k
     permit_kept (Wait s c x) suits k =
-        choose_kept m.kind level (items_with few (Wait s c x)) (items_with b (Wait s c x)) able s (b.signallers ++ []) x suits k
+        choose_kept m.kind level (items_with few (Wait s c x)) (items_with b (Wait s c x)) able s
+        (b.signallers ++ []) x suits k
     permit_kept (Signal s c x) suits k =
         signal_permit m.kind level (items_with few (Signal s c x)) (items_with b (Signal s c x)) able s b.signallers x
-        (is_empty (unserved_in (line c b.items))) (is_empty (unserved_in (line c xs))) (empty_more Any xs b.items h c) suits k
+        (is_empty (unserved_in (line c b.items))) (is_empty (unserved_in (line c xs)))
+        (empty_more Any xs b.items h c) suits k
     permit_kept (SignalLeave s c x) suits k =
-        choose_kept m.kind level (items_with few (SignalLeave s c x)) (items_with b (SignalLeave s c x)) able s (b.signallers ++ []) x
+        choose_kept m.kind level (items_with few (SignalLeave s c x)) (items_with b (SignalLeave s c x)) able s
+        (b.signallers ++ []) x
         suits k
     permit_kept (Until s p x) suits k =
-        until_kept m.kind level (items_with few (Until s p x)) (items_with b (Until s p x)) able s (b.signallers ++ []) x
+        until_kept m.kind level (items_with few (Until s p x)) (items_with b (Until s p x)) able s
+        (b.signallers ++ []) x
         (m.object.holds b.state p) suits k
     permit_kept (Resume s q) suits k = k
     permit_kept (SignalAll s c) suits k = k
     permit_kept (SignalWait s c d x) suits k =
-        choose_kept m.kind level (items_with few (SignalWait s c d x)) (items_with b (SignalWait s c d x)) able s (b.signallers ++ []) x
+        choose_kept m.kind level (items_with few (SignalWait s c d x))
+        (items_with b (SignalWait s c d x)) able s (b.signallers ++ []) x
         suits k
 
     -- who has the turn is no signaller
     owner_out : (s c : ℕ) (x : Next) → Passes Any m b (Signal s c x) → is_among s b.signallers ≡ false
     owner_out s c x p =
         none_counted s b.signallers
-        (omega (arith, many.seated s, owned_turn s s b.turn p.may_call.in_turn, counted_one s, one_at_most (b.inside s)))
+        (omega (
+          arith,
+          many.seated s,
+          owned_turn s s b.turn p.may_call.in_turn,
+          counted_one s,
+          one_at_most
+              (b.inside s),
+        ))
 
     comes_to : (e : Event) → Passes Any m b e
         → board_after m.object few e ≡ with_items (items_after xs e) (board_after m.object b e)
@@ -150,6 +164,7 @@ module _ (m : Monitor) (level : IsLevel m.kind) (xs : List Item) (b : Board) (h 
       };
       comes_to = comes_to e p;
       fewer = fewer_came Any e (chosen_out (next_of e) (items_with few e)) (chosen_out (next_of e) (items_with b e))
-          (chosen_fewer (next_of e) (items_with few e) (items_with b e) (fewer_given Any e xs b.items h) (distinct_with few e sound)
+          (chosen_fewer (next_of e) (items_with few e) (items_with b e) (fewer_given Any e xs b.items h)
+          (distinct_with few e sound)
           (keeps_with few e sound) (keeps_with b e many) suits (may_resume_chosen Any m b e p));
     }

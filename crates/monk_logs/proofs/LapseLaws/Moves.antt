@@ -57,7 +57,8 @@ Suits (Some (UntilSeat j)) items = Unit {0}
 -- ---- what may be chosen
 
 module _ (k : Rules) (level : IsLevel k) (us ws : List Item) (able : List ℕ) (s : ℕ) where
-  pub choose_kept : (sigs : List ℕ) (x : Next) → Suits (Some x) us → may_choose_by k (chances_with ws sigs able) s x ≡ true
+  pub choose_kept : (sigs : List ℕ) (x : Next) → Suits (Some x) us
+      → may_choose_by k (chances_with ws sigs able) s x ≡ true
       → may_choose_by k (chances_with us sigs able) s x ≡ true
   choose_kept sigs Stay suits h = h
   choose_kept sigs Entry suits h =
@@ -67,7 +68,8 @@ module _ (k : Rules) (level : IsLevel k) (us ws : List Item) (able : List ℕ) (
   choose_kept sigs (Signaller j) suits h =
       let p = and_parts _ (not (j == s)) h in
       and_from (is_among j sigs && (is_empty (services us) || nat_le k.waiter k.signaller)) (not (j == s))
-      (and_from (is_among j sigs) (is_empty (services us) || nat_le k.waiter k.signaller) (and_parts (is_among j sigs) _ p.0).0
+      (and_from (is_among j sigs) (is_empty (services us) || nat_le k.waiter k.signaller)
+      (and_parts (is_among j sigs) _ p.0).0
       (or_right (is_empty (services us)) (nat_le k.waiter k.signaller) level.back)) p.1
   choose_kept sigs (UntilSeat j) suits h = h
 
@@ -111,7 +113,8 @@ stays_out s (x ∷ sigs) f =
     (λ ne. rw (ne_eqb s x (λ (e : s ≡ x). ne (sym e)))
     (ap (λ (l : List ℕ). x ∷ l) (stays_out s sigs (rw (ne_eqb x s ne) at f)))) (cases_eq x s)
 
-pub signal_after : (s : ℕ) (x : Next) (sigs : List ℕ) (many few rest : Bool) → (few ≡ true → many ≡ true) → is_among s sigs ≡ false
+pub signal_after : (s : ℕ) (x : Next) (sigs : List ℕ) (many few rest : Bool) → (few ≡ true → many ≡ true)
+    → is_among s sigs ≡ false
     → cond many (is_stay (Some x)) rest ≡ true
     → apart (taken_signaller (Some x) (cond few [] (s ∷ []))) (sigs ++ cond few [] (s ∷ []))
     ≡ apart (taken_signaller (Some x) (cond many [] (s ∷ []))) (sigs ++ cond many [] (s ∷ []))

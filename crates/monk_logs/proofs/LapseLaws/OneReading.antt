@@ -1,4 +1,5 @@
--- Where signals serve in order of arrival, and where no task comes in past a waiter, no line can be read both as it stands and as a lapse
+-- Where signals serve in order of arrival, and where no task comes in past a waiter, no line can be
+-- read both as it stands and as a lapse
 use Rattle.std.proofs.Common.{◌≡◌, ℕ, suc, zero, Bool, true, false, cond, ◌&&◌, ◌||◌, ◌==◌, List, [], ◌∷◌, ◌++◌, Option, Some, None}
 use Rattle.std.proofs.Common.{refl, sym, ap, ◌∙◌, ◌⊎◌, ⊎_elim, subst, take, drop, arith}
 use Rattle.std.specs.Option.{option_map_or}
@@ -48,11 +49,17 @@ no_resume : (o : Order) (j : ℕ) (items : List Item) → ((c : ℕ) → keeps_u
     → may_resume o j items ≡ true → ⊥
 no_resume o j items up none may =
     let r = resumes o j items (resume_served o j items may) in
-    omega (arith, no_service r.on items none, services_taken j (line r.on items) (can_service o j (line r.on items) r.can (up r.on)))
+    omega (
+      arith,
+      no_service r.on items none,
+      services_taken j (line r.on items)
+          (can_service o j (line r.on items) r.can (up r.on)),
+    )
 
 -- ---- a task comes in past no waiter
 
-choose_alone : (k : Rules) → (k.waiter == k.entry) ≡ false → (q : Chances) (v : ℕ) → may_choose_by k q v Entry ≡ true → q.no_waiter ≡ true
+choose_alone : (k : Rules) → (k.waiter == k.entry) ≡ false → (q : Chances) (v : ℕ)
+    → may_choose_by k q v Entry ≡ true → q.no_waiter ≡ true
 choose_alone k never q v h =
     let p = and_parts (q.no_waiter && q.no_ready || k.waiter == k.entry) (q.no_signaller || k.signaller == k.entry) h in
     ⊎_elim (λ i. (and_parts q.no_waiter q.no_ready i).0) (λ i. absurd (false≢true (sym never ∙ i)))
@@ -63,12 +70,15 @@ stay_alone : (k : Rules) → (k.waiter == k.entry) ≡ false → (q : Chances) (
 stay_alone k never q v true h = absurd (false≢true h)
 stay_alone k never q v false h = choose_alone k never q v h
 
-entry_alone : (o : Order) (k : Rules) → (k.waiter == k.entry) ≡ false → (object : Object) (b : Board) (e : Event) → next_of e ≡ Some Stay
+entry_alone : (o : Order) (k : Rules) → (k.waiter == k.entry) ≡ false
+    → (object : Object) (b : Board) (e : Event) → next_of e ≡ Some Stay
     → board_permits o k object b (with_next Entry e) ≡ true → is_empty (services (items_with b e)) ≡ true
 entry_alone o k never object b (event.Enter s via) h p = absurd cc
 entry_alone o k never object b (event.Act s op r) h p = absurd cc
-entry_alone o k never object b (event.Leave s y) h p = choose_alone k never (board_chances o object b (event.Leave s Entry)) s p
-entry_alone o k never object b (event.Wait s c y) h p = choose_alone k never (board_chances o object b (event.Wait s c Entry)) s p
+entry_alone o k never object b (event.Leave s y) h p =
+    choose_alone k never (board_chances o object b (event.Leave s Entry)) s p
+entry_alone o k never object b (event.Wait s c y) h p =
+    choose_alone k never (board_chances o object b (event.Wait s c Entry)) s p
 entry_alone o k never object b (event.Signal s c y) h p =
     stay_alone k never (board_chances o object b (event.Signal s c Entry)) s (is_empty (unserved_in (line c b.items))) p
 entry_alone o k never object b (event.SignalLeave s c y) h p =
@@ -86,7 +96,8 @@ take_joined : (j n : ℕ) (xs ys : List ℕ) → is_among j (take n xs) ≡ true
 take_joined j zero xs ys h = absurd (false≢true h)
 take_joined j (suc n) [] ys h = absurd (false≢true h)
 take_joined j (suc n) (x ∷ xs) ys h =
-    ⊎_elim (λ e. rw (eq-eqb x j e) refl) (λ ne. rw (ne_eqb x j ne) (take_joined j n xs ys (among_others j x (take n xs) ne h)))
+    ⊎_elim (λ e. rw (eq-eqb x j e) refl)
+    (λ ne. rw (ne_eqb x j ne) (take_joined j n xs ys (among_others j x (take n xs) ne h)))
     (cases_eq x j)
 
 not_both : (j n : ℕ) (xs : List ℕ) → Distinct xs → is_among j (take n xs) ≡ true → is_among j (drop n xs) ≡ true → ⊥
@@ -139,19 +150,22 @@ never_both o is j t x ws d may lapse =
 
 -- ---- a line
 
-module _ (o : Order) (m : Monitor) (alone : IsFirstServed o ⊎ ((m.kind.waiter == m.kind.entry) ≡ false)) (b : Board) (sound : Sound b) where
+module _ (o : Order) (m : Monitor) (alone : IsFirstServed o ⊎ ((m.kind.waiter == m.kind.entry) ≡ false))
+    (b : Board) (sound : Sound b) where
   waiter_alone : (e : Event) → next_of e ≡ Some Stay → (s : ℕ) → Passes o m b (with_next Entry e)
       → may_lapse o s (items_with b e ++ waiting_item e) ≡ true → may_resume o s (items_with b e) ≡ true → ⊥
   waiter_alone e stays s p lapse may =
       ⊎_elim
       (λ is. never_both o is s (seat_of e) (waits_on e) (items_with b e)
       (subst (λ (l : List Item). Distinct (all_seats l)) (items_behind m.object b Entry e stays)
-      (sound_distinct (board_after m.object b (with_next Entry e)) (sound_after o m b (with_next Entry e) sound p))) may lapse)
+      (sound_distinct (board_after m.object b (with_next Entry e))
+      (sound_after o m b (with_next Entry e) sound p))) may lapse)
       (λ never. no_resume o s (items_with b e) (keeps_with b e sound)
       (empty_is (services (items_with b e)) (entry_alone o m.kind never m.object b e stays p.permitted)) may) alone
 
   waiter_goes : (e : Event) → next_of e ≡ Some Stay → (s : ℕ) (w i : Bool) → Passes o m b (with_next Entry e)
-      → may_lapse o s (items_with b e ++ waiting_item e) ≡ true → Passes o m b (with_next (standing w i s) e) → w ≡ true → ⊥
+      → may_lapse o s (items_with b e ++ waiting_item e) ≡ true → Passes o m b (with_next (standing w i s) e)
+      → w ≡ true → ⊥
   waiter_goes e stays s false i p lapse f is = false≢true is
   waiter_goes e stays s true i p lapse f is = waiter_alone e stays s p lapse (may_be_served o m b e s stays f)
 
@@ -171,6 +185,7 @@ module _ (o : Order) (m : Monitor) (alone : IsFirstServed o ⊎ ((m.kind.waiter 
   pub read_once : (p : Pending) → IsRelease p → (s : ℕ) (x y : BoardCourse) → board_behind o m b p (Lapse s) ≡ Some x
       → board_behind o m b p (Resume s) ≡ Some y → ⊥
   read_once Settled stays s x y k is =
-      not_due b.turn s (known_lapsed o m b s x k).0 (known_did o m b (event.Resume s (due_from b.turn)) y is).0.may_call.in_turn
+      not_due b.turn s (known_lapsed o m b s x k).0
+      (known_did o m b (event.Resume s (due_from b.turn)) y is).0.may_call.in_turn
   read_once (Half t c) stays s x y k is = absurd cc
   read_once (Release e) stays s x y k is = release_once e stays s x y k is

@@ -55,7 +55,8 @@ none_served Choice other h = refl
 
 -- what is to blame by the tests of range, of the call and of the turn, and by what comes behind these
 abbrev blame_by : Bool → Bool → Bool → Blame → Blame
-blame_by a b turn late = first_blame (cond (not a) (Some Range) (cond (not b) (Some Call) None)) (cond (not turn) TurnBlame late)
+blame_by a b turn late =
+    first_blame (cond (not a) (Some Range) (cond (not b) (Some Call) None)) (cond (not turn) TurnBlame late)
 
 abbrev resumed_by_queue : Bool → Bool → Blame
 resumed_by_queue comes next = cond (not comes) Unserved (cond (not next) OrderBlame Choice)
@@ -101,17 +102,20 @@ settled_else false c n other =
 
 module _ (o : Order) (m : Monitor) (b : Board) (s : ℕ) where
   settled_by : (free : Bool) → is_open b.turn && may_lapse o s b.items ≡ free
-      → first_over (board_line_over o m b (Resume s)) (cond free (Ok (board_settled (board_lapse b s))) (Err (board_lapse_blame m b s)))
+      → first_over (board_line_over o m b (Resume s))
+      (cond free (Ok (board_settled (board_lapse b s))) (Err (board_lapse_blame m b s)))
       ≡ board_line_over o m b (cond free (Lapse s) (Resume s))
   settled_by true is =
       let e = event.Resume s (due_from b.turn) in
-      settled_if (board_reason o m b e == 0) (board_after m.object b e) (board_reason o m b e) (board_settled (board_lapse b s))
+      settled_if (board_reason o m b e == 0) (board_after m.object b e) (board_reason o m b e)
+      (board_settled (board_lapse b s))
       (λ t. not_due b.turn s (and_parts (is_open b.turn) (may_lapse o s b.items) is).0
       (passes o m b e (eqb-true (board_reason o m b e) 0 t)).may_call.in_turn)
       ∙ sym (ap (λ (t : Bool). cond t (Ok (board_settled (board_lapse b s))) (Err (board_lapse_blame m b s))) is)
   settled_by false is =
       let e = event.Resume s (due_from b.turn) in
-      settled_else (board_reason o m b e == 0) (board_after m.object b e) (board_reason o m b e) (board_lapse_blame m b s)
+      settled_else (board_reason o m b e == 0) (board_after m.object b e) (board_reason o m b e)
+      (board_lapse_blame m b s)
 
   pub read_settled : board_read_over Allowed o m b Settled (Resume s)
       ≡ board_line_over o m b (cond (is_open b.turn && may_lapse o s b.items) (Lapse s) (Resume s))
@@ -132,16 +136,21 @@ read_half o m b t c s = ap (λ (y : Blame). Err y) (half_if (is_event_in_range m
 some_zero : (k : ℕ) → suc k ≡ 0 → ⊥
 some_zero k h = omega arith
 
-goes_first : (n : ℕ) → n ≡ 0 → (r : Result BoardCourse Blame) (x : BoardCourse) → r ≡ Ok x → (why : Blame) (q : Result BoardCourse Blame)
+goes_first : (n : ℕ) → n ≡ 0 → (r : Result BoardCourse Blame) (x : BoardCourse) → r ≡ Ok x
+    → (why : Blame) (q : Result BoardCourse Blame)
     → first_over (cond (n == 0) r (Err why)) q ≡ r
 goes_first n none r x is why q = rw (none, is) refl
 
-goes_second : (n : ℕ) → (n ≡ 0 → ⊥) → (k : ℕ) → k ≡ 0 → (r : Result BoardCourse Blame) (why : Blame) (q : Result BoardCourse Blame)
-    (x : BoardCourse) → q ≡ Ok x → (other : Blame) → first_over (cond (n == 0) r (Err why)) (cond (k == 0) q (Err other)) ≡ q
+goes_second : (n : ℕ) → (n ≡ 0 → ⊥) → (k : ℕ) → k ≡ 0
+    → (r : Result BoardCourse Blame) (why : Blame) (q : Result BoardCourse Blame)
+    (x : BoardCourse) → q ≡ Ok x → (other : Blame)
+    → first_over (cond (n == 0) r (Err why)) (cond (k == 0) q (Err other)) ≡ q
 goes_second n some k none r why q x is other = rw (ne_eqb n 0 some, none, is) refl
 
-nowhere_by : (why other : Blame) (k : ℕ) (q : Result BoardCourse Blame) (gone : Bool) → (gone ≡ true → k ≡ 0 → ⊥) → (late : Blame)
-    → (gone ≡ false → q ≡ Err late) → served_or late ≡ Unserved → either_blame why other ≡ either_blame why (cond gone Choice Served)
+nowhere_by : (why other : Blame) (k : ℕ) (q : Result BoardCourse Blame) (gone : Bool)
+    → (gone ≡ true → k ≡ 0 → ⊥) → (late : Blame)
+    → (gone ≡ false → q ≡ Err late) → served_or late ≡ Unserved
+    → either_blame why other ≡ either_blame why (cond gone Choice Served)
     → first_over (Err why) (cond (k == 0) q (Err other)) ≡ Err (either_blame why (cond gone Choice Served))
 nowhere_by why other k q true never late is unlike same =
     rw (ne_eqb k 0 (λ (e : k ≡ 0). never refl e)) (ap (λ (y : Blame). Err y) same)
@@ -150,10 +159,13 @@ nowhere_by why other zero q false never late is unlike same =
 nowhere_by why other (suc k) q false never late is unlike same =
     rw (ne_eqb (suc k) 0 (λ (e : suc k ≡ 0). some_zero k e)) (ap (λ (y : Blame). Err y) same)
 
-goes_nowhere : (n : ℕ) → (n ≡ 0 → ⊥) → (k : ℕ) (r : Result BoardCourse Blame) (why : Blame) (q : Result BoardCourse Blame) (other : Blame)
-    (gone : Bool) → (gone ≡ true → k ≡ 0 → ⊥) → (late : Blame) → (gone ≡ false → q ≡ Err late) → served_or late ≡ Unserved
+goes_nowhere : (n : ℕ) → (n ≡ 0 → ⊥)
+    → (k : ℕ) (r : Result BoardCourse Blame) (why : Blame) (q : Result BoardCourse Blame) (other : Blame)
+    (gone : Bool) → (gone ≡ true → k ≡ 0 → ⊥) → (late : Blame) → (gone ≡ false → q ≡ Err late)
+    → served_or late ≡ Unserved
     → either_blame why other ≡ either_blame why (cond gone Choice Served)
-    → first_over (cond (n == 0) r (Err why)) (cond (k == 0) q (Err other)) ≡ Err (either_blame why (cond gone Choice Served))
+    → first_over (cond (n == 0) r (Err why)) (cond (k == 0) q (Err other))
+    ≡ Err (either_blame why (cond gone Choice Served))
 goes_nowhere n some k r why q other gone never late is unlike same =
     rw (ne_eqb n 0 some) (nowhere_by why other k q gone never late is unlike same)
 
@@ -165,11 +177,14 @@ module _ (o : Order) (m : Monitor) (b : Board) (e : Event) (stays : next_of e �
   in_range : (x : Next) → named_seat (Some x) ≡ s ∷ [] → Passes o m b (with_next x e) → nat_lt s m.seats ≡ true
   in_range x names p =
       let f = with_next x e in
-      let r = subst (λ (n : Option Next). ((((nat_lt (seat_of f) m.seats && list_all (λ j. nat_lt j m.seats) (named_seat n))
+      let r = subst (λ (n : Option Next).
+      ((((nat_lt (seat_of f) m.seats && list_all (λ j. nat_lt j m.seats) (named_seat n))
       && is_condition m.conds (waits_on f)) && is_condition m.conds (signals_on f))
       && fits_object m.object.codes m.object.predicates f) ≡ true) (next_with x e stays) p.may_call.in_range in
-      let named = (and_parts (nat_lt (seat_of f) m.seats) _ (and_parts _ _ (and_parts _ _ (and_parts _ _ r).0).0).0).1 in
-      (and_parts (nat_lt s m.seats) true (subst (λ (l : List ℕ). list_all (λ j. nat_lt j m.seats) l ≡ true) names named)).0
+      let named =
+      (and_parts (nat_lt (seat_of f) m.seats) _ (and_parts _ _ (and_parts _ _ (and_parts _ _ r).0).0).0).1 in
+      (and_parts (nat_lt s m.seats) true
+      (subst (λ (l : List ℕ). list_all (λ j. nat_lt j m.seats) l ≡ true) names named)).0
 
   due : (x : Next) (q : From3) → turn_by (seat_of (with_next x e)) (Some x) ≡ Due s q → is_queue q q ≡ true
       → is_due s (due_from (after x).turn) (after x).turn ≡ true
@@ -207,7 +222,8 @@ module _ (o : Order) (m : Monitor) (b : Board) (e : Event) (stays : next_of e �
   abbrev gone : Bool
   gone = may_lapse o s (items_with b e ++ waiting_item e)
 
-  course_ok : (c : Board) (f : Event) → Passes o m c f → board_settle o m c f ≡ Ok (board_settled (board_after m.object c f))
+  course_ok : (c : Board) (f : Event) → Passes o m c f
+      → board_settle o m c f ≡ Ok (board_settled (board_after m.object c f))
   course_ok c f p = rw (reason_none o m c f p) refl
 
   resume_ok : board_reason o m b told ≡ 0 → board_line_over o m (board_after m.object b told) (Resume s)
@@ -221,7 +237,8 @@ module _ (o : Order) (m : Monitor) (b : Board) (e : Event) (stays : next_of e �
 
   -- where the release may have chosen the seat
   pub read_told_over : board_reason o m b told ≡ 0
-      → board_read_over Allowed o m b (Release e) (Resume s) ≡ board_line_over o m (board_after m.object b told) (Resume s)
+      → board_read_over Allowed o m b (Release e) (Resume s)
+      ≡ board_line_over o m (board_after m.object b told) (Resume s)
   read_told_over none =
       goes_first (board_reason o m b told) none (board_line_over o m (board_after m.object b told) (Resume s)) _
       (resume_ok none) (board_release_blame o m b e (Resume s)) (board_behind_over o m b (Release e) (Lapse s))
@@ -234,13 +251,16 @@ module _ (o : Order) (m : Monitor) (b : Board) (e : Event) (stays : next_of e �
       (Err (board_lapse_blame m (board_after m.object b entry) s))
   lapse_is =
       let c = board_after m.object b entry in
-      ap (λ (t : Bool). cond (t && may_lapse o s c.items) (Ok (board_settled (board_lapse c s))) (Err (board_lapse_blame m c s))) entry_open
-      ∙ ap (λ (items : List Item). cond (may_lapse o s items) (Ok (board_settled (board_lapse c s))) (Err (board_lapse_blame m c s)))
+      ap (λ (t : Bool). cond (t && may_lapse o s c.items) (Ok (board_settled (board_lapse c s)))
+      (Err (board_lapse_blame m c s))) entry_open
+      ∙ ap (λ (items : List Item). cond (may_lapse o s items) (Ok (board_settled (board_lapse c s)))
+      (Err (board_lapse_blame m c s)))
       (items_behind m.object b Entry e stays)
 
   -- where it may not, but may have let the seat's wait run out
   pub read_lapse_over : (board_reason o m b told ≡ 0 → ⊥) → board_reason o m b entry ≡ 0 → gone ≡ true
-      → board_read_over Allowed o m b (Release e) (Resume s) ≡ board_line_over o m (board_after m.object b entry) (Lapse s)
+      → board_read_over Allowed o m b (Release e) (Resume s)
+      ≡ board_line_over o m (board_after m.object b entry) (Lapse s)
   read_lapse_over some none may =
       goes_second (board_reason o m b told) some (board_reason o m b entry) none
       (board_line_over o m (board_after m.object b told) (Resume s)) (board_release_blame o m b e (Resume s))
@@ -259,7 +279,10 @@ module _ (o : Order) (m : Monitor) (b : Board) (e : Event) (stays : next_of e �
       (board_lapse_blame m (board_after m.object b entry) s)
       (λ out. lapse_is ∙ ap (λ (t : Bool). cond t (Ok (board_settled (board_lapse (board_after m.object b entry) s)))
       (Err (board_lapse_blame m (board_after m.object b entry) s))) out)
-      (lapse_unlike (not (nat_lt s m.seats)) (not (is_open (board_after m.object b entry).turn && (board_after m.object b entry).inside s)))
-      (early_same (is_event_in_range m (line_event m.kind.mode (Resume s))) (is_offered m.kind (line_event m.kind.mode (Resume s)))
-      (may_be_its_turn (must_stay m.object (sight b) e) b.inside e (Resume s)) (comes_back o m.object (board_served b e) s)
+      (lapse_unlike (not (nat_lt s m.seats))
+      (not (is_open (board_after m.object b entry).turn && (board_after m.object b entry).inside s)))
+      (early_same (is_event_in_range m (line_event m.kind.mode (Resume s)))
+      (is_offered m.kind (line_event m.kind.mode (Resume s)))
+      (may_be_its_turn (must_stay m.object (sight b) e) b.inside e (Resume s))
+      (comes_back o m.object (board_served b e) s)
       (comes_next o m.object (board_served b e) s) gone)

@@ -1,5 +1,5 @@
--- A line of a reading that a board takes: judged as it stands where it can be, and else as a lapse, a board with fewer services takes
--- it too
+-- A line of a reading that a board takes: judged as it stands where it can be, and else as a lapse,
+-- a board with fewer services takes it too
 use Rattle.std.proofs.Common.{◌≡◌, ℕ, Bool, true, false, cond, List, [], ◌∷◌, ◌++◌, Option, Some, None, refl, sym, ap, ◌∙◌, ◌⊎◌}
 use Rattle.std.proofs.Common.{inl, inr, ⊎_elim}
 use Rattle.std.proofs.Common.{subst}
@@ -55,7 +55,8 @@ IsRelease (Release e) = next_of e ≡ Some Stay
 
 -- ---- the first of two courses
 
-pub pick : (c d : Option BoardCourse) (x : BoardCourse) → ((y : BoardCourse) → c ≡ Some y → Below y x) → (c ≡ None → Follows d x)
+pub pick : (c d : Option BoardCourse) (x : BoardCourse) → ((y : BoardCourse) → c ≡ Some y → Below y x)
+    → (c ≡ None → Follows d x)
     → Follows (first_course c d) x
 pick None d x f g = g refl
 pick (Some y) d x f g = f y refl
@@ -76,19 +77,26 @@ goes_on false false s = refl
 
 -- a seat that waits goes on as a waiter alone
 pub goes_as_waiter : (o : Order) (m : Monitor) (b : Board) (e : Event) (s : ℕ) → Sound b → next_of e ≡ Some Stay
-    → is_among s (all_seats (items_with b e ++ waiting_item e)) ≡ true → (w i : Bool) → Passes o m b (with_next (standing w i s) e)
+    → is_among s (all_seats (items_with b e ++ waiting_item e)) ≡ true → (w i : Bool)
+    → Passes o m b (with_next (standing w i s) e)
     → w ≡ true
 goes_as_waiter o m b e s sound stays there true i p = refl
 goes_as_waiter o m b e s sound stays there false true p =
-    absurd (stands_once (board_after m.object b (with_next (Signaller s) e)) s (sound_after o m b (with_next (Signaller s) e) sound p)
-    (ap (λ (n : Option Next). has_turn s (turn_by (seat_of (with_next (Signaller s) e)) n)) (next_with (Signaller s) e stays)
+    absurd (stands_once (board_after m.object b (with_next (Signaller s) e)) s
+    (sound_after o m b (with_next (Signaller s) e) sound p)
+    (ap (λ (n : Option Next). has_turn s (turn_by (seat_of (with_next (Signaller s) e)) n))
+    (next_with (Signaller s) e stays)
     ∙ counted_one s)
-    (subst (λ (l : List Item). is_among s (all_seats l) ≡ true) (sym (items_behind m.object b (Signaller s) e stays)) there))
+    (subst (λ (l : List Item). is_among s (all_seats l) ≡ true)
+    (sym (items_behind m.object b (Signaller s) e stays)) there))
 goes_as_waiter o m b e s sound stays there false false p =
-    absurd (stands_once (board_after m.object b (with_next (UntilSeat s) e)) s (sound_after o m b (with_next (UntilSeat s) e) sound p)
-    (ap (λ (n : Option Next). has_turn s (turn_by (seat_of (with_next (UntilSeat s) e)) n)) (next_with (UntilSeat s) e stays)
+    absurd (stands_once (board_after m.object b (with_next (UntilSeat s) e)) s
+    (sound_after o m b (with_next (UntilSeat s) e) sound p)
+    (ap (λ (n : Option Next). has_turn s (turn_by (seat_of (with_next (UntilSeat s) e)) n))
+    (next_with (UntilSeat s) e stays)
     ∙ counted_one s)
-    (subst (λ (l : List Item). is_among s (all_seats l) ≡ true) (sym (items_behind m.object b (UntilSeat s) e stays)) there))
+    (subst (λ (l : List Item). is_among s (all_seats l) ≡ true)
+    (sym (items_behind m.object b (UntilSeat s) e stays)) there))
 
 pub not_due : (t : Turn) (s : ℕ) → is_open t ≡ true → is_due s (due_from t) t ≡ true → ⊥
 not_due Open s h k = false≢true k
@@ -111,7 +119,8 @@ module _ (m : Monitor) (level : IsLevel m.kind) (xs : List Item) (b : Board) (h 
 
     -- ---- a line that tells of no seat that goes on
 
-    plain_then : (e : Event) → next_of e ≡ Some Stay → (n : Next) → ((items : List Item) → Suits (Some n) items) → (l : LogLine)
+    plain_then : (e : Event) → next_of e ≡ Some Stay → (n : Next)
+        → ((items : List Item) → Suits (Some n) items) → (l : LogLine)
         (x : BoardCourse) → board_then Any m (board_step Any m b (Did (with_next n e))) l ≡ Some x
         → Follows (board_then Any m (board_step Any m few (Did (with_next n e))) l) x
     plain_then e stays n suits l x k =
@@ -131,7 +140,8 @@ module _ (m : Monitor) (level : IsLevel m.kind) (xs : List Item) (b : Board) (h 
     IsPlain (Until s p) = Unit {0}
     IsPlain (Act s op r) = Unit {0}
 
-    plain_follows : (p : Pending) → IsRelease p → (l : LogLine) → IsPlain l → (x : BoardCourse) → board_behind Any m b p l ≡ Some x
+    plain_follows : (p : Pending) → IsRelease p → (l : LogLine) → IsPlain l → (x : BoardCourse)
+        → board_behind Any m b p l ≡ Some x
         → Follows (board_behind Any m few p l) x
     plain_follows Settled stays l plain x k = line_follows m level xs b h many sound l x k
     plain_follows (Half s c) stays l plain x k = half_follows m level xs b h many sound s c l x k
@@ -141,7 +151,8 @@ module _ (m : Monitor) (level : IsLevel m.kind) (xs : List Item) (b : Board) (h 
     plain_follows (Release e) stays (Leave s) plain x k = plain_then e stays Stay (λ items. tt) (Leave s) x k
     plain_follows (Release e) stays (Wait s c) plain x k = plain_then e stays Stay (λ items. tt) (Wait s c) x k
     plain_follows (Release e) stays (Signal s c) plain x k = plain_then e stays Stay (λ items. tt) (Signal s c) x k
-    plain_follows (Release e) stays (Broadcast s c) plain x k = plain_then e stays Stay (λ items. tt) (Broadcast s c) x k
+    plain_follows (Release e) stays (Broadcast s c) plain x k =
+        plain_then e stays Stay (λ items. tt) (Broadcast s c) x k
     plain_follows (Release e) stays (Until s p) plain x k = plain_then e stays Stay (λ items. tt) (Until s p) x k
     plain_follows (Release e) stays (Act s op r) plain x k = plain_then e stays Stay (λ items. tt) (Act s op r) x k
 
@@ -153,7 +164,8 @@ module _ (m : Monitor) (level : IsLevel m.kind) (xs : List Item) (b : Board) (h 
     fewer_with : (e : Event) → Fewer Any (us e) (items_with b e)
     fewer_with e = fewer_given Any e xs b.items h
 
-    waits_few : (e : Event) (s : ℕ) → next_of e ≡ Some Stay → may_lapse Any s (board_after m.object b (with_next Entry e)).items ≡ true
+    waits_few : (e : Event) (s : ℕ) → next_of e ≡ Some Stay
+        → may_lapse Any s (board_after m.object b (with_next Entry e)).items ≡ true
         → is_among s (all_seats (us e ++ waiting_item e)) ≡ true
     waits_few e s stays may =
         subst (λ (l : List ℕ). is_among s l ≡ true)
@@ -164,7 +176,8 @@ module _ (m : Monitor) (level : IsLevel m.kind) (xs : List Item) (b : Board) (h 
 
     served_goes : (e : Event) → next_of e ≡ Some Stay → (s : ℕ) (x y : BoardCourse) (w i : Bool)
         → board_then Any m (board_step Any m b (Did (with_next Entry e))) (Lapse s) ≡ Some x
-        → board_then Any m (board_step Any m few (Did (with_next (standing w i s) e))) (Resume s) ≡ Some y → w ≡ true → Below y x
+        → board_then Any m (board_step Any m few (Did (with_next (standing w i s) e))) (Resume s) ≡ Some y
+        → w ≡ true → Below y x
     served_goes e stays s x y false i k is w = absurd (false≢true w)
     served_goes e stays s x y true i k is w =
         let p = then_did Any m b (with_next Entry e) (Lapse s) x k in
@@ -173,10 +186,12 @@ module _ (m : Monitor) (level : IsLevel m.kind) (xs : List Item) (b : Board) (h 
         let after = board_after m.object few (with_next (Waiter s) e) in
         let g = known_did Any m after (event.Resume s (due_from after.turn)) y f.1 in
         subst (λ (z : BoardCourse). Below z x) g.1
-        (subst (λ (z : BoardCourse). Below (board_settled (board_after m.object after (event.Resume s (due_from after.turn)))) z) l.2
+        (subst (λ (z : BoardCourse). Below
+        (board_settled (board_after m.object after (event.Resume s (due_from after.turn)))) z) l.2
         (served_below m level xs b h many sound e stays s (due_from after.turn) p.0 l.1 f.0 g.0))
 
-    served_read : (e : Event) → next_of e ≡ Some Stay → (s : ℕ) (x y : BoardCourse) → board_behind Any m b (Release e) (Lapse s) ≡ Some x
+    served_read : (e : Event) → next_of e ≡ Some Stay → (s : ℕ) (x y : BoardCourse)
+        → board_behind Any m b (Release e) (Lapse s) ≡ Some x
         → board_behind Any m few (Release e) (Resume s) ≡ Some y → Below y x
     served_read e stays s x y k is =
         let p = then_did Any m b (with_next Entry e) (Lapse s) x k in
@@ -201,7 +216,8 @@ module _ (m : Monitor) (level : IsLevel m.kind) (xs : List Item) (b : Board) (h 
 
     -- ---- a seat that goes on, told as it stands
 
-    same_signallers : (e : Event) → next_of e ≡ Some Stay → (n : Next) → is_stay (Some n) ≡ false → Passes Any m b (with_next n e)
+    same_signallers : (e : Event) → next_of e ≡ Some Stay → (n : Next) → is_stay (Some n) ≡ false
+        → Passes Any m b (with_next n e)
         → signallers_with few e ≡ signallers_with b e
     same_signallers (event.Enter s via) stays n goes p = absurd cc
     same_signallers (event.Act s op r) stays n goes p = absurd cc
@@ -210,7 +226,8 @@ module _ (m : Monitor) (level : IsLevel m.kind) (xs : List Item) (b : Board) (h 
     same_signallers (event.Signal s c y) stays n goes p =
         ap (λ (none : Bool). b.signallers ++ cond none [] (s ∷ []))
         (stepped s (is_empty (unserved_in (line c b.items))) (is_empty (unserved_in (line c xs))) (Some n)
-        (may_signal_by m.kind (board_chances Any m.object b (event.Signal s c n)) s n) (empty_more Any xs b.items h c) goes p.permitted)
+        (may_signal_by m.kind (board_chances Any m.object b (event.Signal s c n)) s n)
+        (empty_more Any xs b.items h c) goes p.permitted)
     same_signallers (event.SignalLeave s c y) stays n goes p = refl
     same_signallers (event.Until s q y) stays n goes p = refl
     same_signallers (event.Resume s q) stays n goes p = absurd cc
@@ -238,13 +255,16 @@ module _ (m : Monitor) (level : IsLevel m.kind) (xs : List Item) (b : Board) (h 
         (subst (λ (l : List Item). Suits (Some n) l) (sym (items_same few n e)) suits))
         (subst (λ (y : Next). board_then Any m (board_step Any m b (Did (with_next y e))) (Resume s) ≡ Some x) is k))
 
-    entry_turn : (e : Event) → next_of e ≡ Some Stay → is_open (board_after m.object few (with_next Entry e)).turn ≡ true
+    entry_turn : (e : Event) → next_of e ≡ Some Stay
+        → is_open (board_after m.object few (with_next Entry e)).turn ≡ true
     entry_turn e stays =
         ap (λ (n : Option Next). is_open (turn_by (seat_of (with_next Entry e)) n)) (next_with Entry e stays)
 
     -- where it can't have been served
-    told_lapse : (e : Event) → next_of e ≡ Some Stay → (s : ℕ) (x : BoardCourse) → standing_choice b e s ≡ Waiter s → (c : ℕ)
-        → condition_of s (us e) ≡ Some c → may_resume Any s (us e) ≡ false → board_behind Any m b (Release e) (Resume s) ≡ Some x
+    told_lapse : (e : Event) → next_of e ≡ Some Stay → (s : ℕ) (x : BoardCourse)
+        → standing_choice b e s ≡ Waiter s → (c : ℕ)
+        → condition_of s (us e) ≡ Some c → may_resume Any s (us e) ≡ false
+        → board_behind Any m b (Release e) (Resume s) ≡ Some x
         → Follows (board_behind Any m few (Release e) (Lapse s)) x
     told_lapse e stays s x is c waits never k =
         let p = then_did Any m b (with_next (Waiter s) e) (Resume s) x
@@ -254,27 +274,33 @@ module _ (m : Monitor) (level : IsLevel m.kind) (xs : List Item) (b : Board) (h 
         let l = lapsed_below m level xs b h many sound e stays s (due_from after.turn) p.0 g.0 c waits never in
         let opened = board_after m.object few (with_next Entry e) in
         follows_by (board_behind Any m few (Release e) (Lapse s)) (board_settled (board_lapse opened s)) x
-        (then_ok Any m few opened (with_next Entry e) (Lapse s) l.passes refl ∙ lapsed_ok Any m opened s (entry_turn e stays) l.may)
+        (then_ok Any m few opened (with_next Entry e) (Lapse s) l.passes refl
+        ∙ lapsed_ok Any m opened s (entry_turn e stays) l.may)
         (subst (λ (y : BoardCourse). Below (board_settled (board_lapse opened s)) y) g.1 l.below)
 
     told_none : (e : Event) → next_of e ≡ Some Stay → (s : ℕ) (y : BoardCourse) → standing_choice few e s ≡ Waiter s
         → may_resume Any s (us e) ≡ false → board_behind Any m few (Release e) (Resume s) ≡ Some y → ⊥
     told_none e stays s y is never k =
         let p = then_did Any m few (with_next (Waiter s) e) (Resume s) y
-        (subst (λ (n : Next). board_then Any m (board_step Any m few (Did (with_next n e))) (Resume s) ≡ Some y) is k) in
+        (subst (λ (n : Next). board_then Any m (board_step Any m few (Did (with_next n e))) (Resume s)
+        ≡ Some y) is k) in
         false≢true (sym never ∙ may_be_served Any m few e s stays p.0)
 
-    waiter_read : (e : Event) → next_of e ≡ Some Stay → (s : ℕ) (x : BoardCourse) (c : ℕ) → condition_of s (us e) ≡ Some c
+    waiter_read : (e : Event) → next_of e ≡ Some Stay → (s : ℕ) (x : BoardCourse) (c : ℕ)
+        → condition_of s (us e) ≡ Some c
         → board_behind Any m b (Release e) (Resume s) ≡ Some x
-        → Follows (first_course (board_behind Any m few (Release e) (Resume s)) (board_behind Any m few (Release e) (Lapse s))) x
+        → Follows (first_course (board_behind Any m few (Release e) (Resume s))
+        (board_behind Any m few (Release e) (Lapse s))) x
     waiter_read e stays s x c waits k =
-        let there : condition_of s (items_with b e) ≡ Some c = sym (same_condition Any (us e) (items_with b e) (fewer_with e) s) ∙ waits in
+        let there : condition_of s (items_with b e) ≡ Some c =
+        sym (same_condition Any (us e) (items_with b e) (fewer_with e) s) ∙ waits in
         let is : standing_choice b e s ≡ Waiter s = ap (λ (y : Option ℕ). standing
         (is_some y) (is_among s (signallers_with b e)) s) there in
         let so : standing_choice few e s ≡ Waiter s = ap (λ (y : Option ℕ). standing
         (is_some y) (is_among s (signallers_with few e)) s) waits in
         ⊎_elim
-        (λ may. first_follows (board_behind Any m few (Release e) (Resume s)) (board_behind Any m few (Release e) (Lapse s)) x
+        (λ may. first_follows (board_behind Any m few (Release e) (Resume s))
+        (board_behind Any m few (Release e) (Lapse s)) x
         (told_first e stays s x (Waiter s) is may k))
         (λ never. pick (board_behind Any m few (Release e) (Resume s)) (board_behind Any m few (Release e) (Lapse s)) x
         (λ y some. absurd (told_none e stays s y so never some)) (λ none. told_lapse e stays s x is c waits never k))
@@ -287,7 +313,8 @@ module _ (m : Monitor) (level : IsLevel m.kind) (xs : List Item) (b : Board) (h 
         (sym (same_condition Any (us e) (items_with b e) (fewer_with e) s) ∙ out)
         ∙ ap (λ (y : Bool). standing false y s) among
 
-    other_read : (e : Event) → next_of e ≡ Some Stay → (s : ℕ) (x : BoardCourse) (i : Bool) → is_among s (signallers_with b e) ≡ i
+    other_read : (e : Event) → next_of e ≡ Some Stay → (s : ℕ) (x : BoardCourse) (i : Bool)
+        → is_among s (signallers_with b e) ≡ i
         → condition_of s (us e) ≡ None → board_behind Any m b (Release e) (Resume s) ≡ Some x
         → Follows (board_behind Any m few (Release e) (Resume s)) x
     other_read e stays s x true among out k =
@@ -295,9 +322,11 @@ module _ (m : Monitor) (level : IsLevel m.kind) (xs : List Item) (b : Board) (h 
     other_read e stays s x false among out k =
         told_first e stays s x (UntilSeat s) (other_choice e s false among out) tt k
 
-    read_release : (e : Event) → next_of e ≡ Some Stay → (s : ℕ) (x : BoardCourse) (c : Option ℕ) → condition_of s (us e) ≡ c
+    read_release : (e : Event) → next_of e ≡ Some Stay → (s : ℕ) (x : BoardCourse) (c : Option ℕ)
+        → condition_of s (us e) ≡ c
         → board_behind Any m b (Release e) (Resume s) ≡ Some x
-        → Follows (first_course (board_behind Any m few (Release e) (Resume s)) (board_behind Any m few (Release e) (Lapse s))) x
+        → Follows (first_course (board_behind Any m few (Release e) (Resume s))
+        (board_behind Any m few (Release e) (Lapse s))) x
     read_release e stays s x (Some c) waits k = waiter_read e stays s x c waits k
     read_release e stays s x None out k =
         first_follows (board_behind Any m few (Release e) (Resume s)) (board_behind Any m few (Release e) (Lapse s)) x
@@ -313,7 +342,8 @@ module _ (m : Monitor) (level : IsLevel m.kind) (xs : List Item) (b : Board) (h 
 
     -- ---- a line, read so or so
 
-    plain_read : (p : Pending) → IsRelease p → (l : LogLine) → IsPlain l → as_lapse l ≡ l → (k : LogLine) → (k ≡ l) ⊎ (k ≡ as_lapse l)
+    plain_read : (p : Pending) → IsRelease p → (l : LogLine) → IsPlain l → as_lapse l ≡ l → (k : LogLine)
+        → (k ≡ l) ⊎ (k ≡ as_lapse l)
         → (x : BoardCourse) → board_behind Any m b p k ≡ Some x
         → Follows (first_course (board_behind Any m few p l) (board_behind Any m few p (as_lapse l))) x
     plain_read p stays l plain same k reads x is =
@@ -322,7 +352,8 @@ module _ (m : Monitor) (level : IsLevel m.kind) (xs : List Item) (b : Board) (h 
         (plain_follows p stays l plain x (subst (λ (y : LogLine). board_behind Any m b p y ≡ Some x) e is))
 
     pub read_follows : (p : Pending) → IsRelease p → (l k : LogLine) → (k ≡ l) ⊎ (k ≡ as_lapse l) → (x : BoardCourse)
-        → board_behind Any m b p k ≡ Some x → Follows (first_course (board_behind Any m few p l) (board_behind Any m few p (as_lapse l))) x
+        → board_behind Any m b p k ≡ Some x
+        → Follows (first_course (board_behind Any m few p l) (board_behind Any m few p (as_lapse l))) x
     read_follows p stays (Enter s) k reads x is = plain_read p stays (Enter s) tt refl k reads x is
     read_follows p stays (Resume s) k (inl e) x is = resume_read p stays s x
         (subst (λ (y : LogLine). board_behind Any m b p y ≡ Some x) e is)

@@ -36,7 +36,8 @@ use Rattle.monk_logs.proofs.OrderLaws.Sound.{sound_lapse}
 filter_joined : {X : Type 0} (p : X → Bool) (xs ys : List X) → filter p (xs ++ ys) ≡ filter p xs ++ filter p ys
 filter_joined p [] ys = refl
 filter_joined p (x ∷ xs) ys =
-    ⊎_elim (λ h. rw h (ap (λ (l : List _). x ∷ l) (filter_joined p xs ys))) (λ h. rw h (filter_joined p xs ys)) (cases_Bool (p x))
+    ⊎_elim (λ h. rw h (ap (λ (l : List _). x ∷ l) (filter_joined p xs ys))) (λ h. rw h (filter_joined p xs ys))
+    (cases_Bool (p x))
 
 not_last : (s t : ℕ) (xs : List ℕ) → Distinct (xs ++ t ∷ []) → is_among s xs ≡ true → t ≡ s → ⊥
 not_last s t [] d m e = false≢true m
@@ -46,9 +47,11 @@ not_last s t (x ∷ xs) d m e =
     (subst (λ (y : ℕ). is_among x (y ∷ []) ≡ true) (is ∙ sym e) (among_here x [])))))
     (λ ne. not_last s t xs d.1 (among_others s x xs ne m) e) (cases_eq x s)
 
-lapsed_item : (s t : ℕ) (x : Option ℕ) (ws : List Item) → Distinct (all_seats (ws ++ option_map_or (λ c. Waiting t c ∷ []) x []))
+lapsed_item : (s t : ℕ) (x : Option ℕ) (ws : List Item)
+    → Distinct (all_seats (ws ++ option_map_or (λ c. Waiting t c ∷ []) x []))
     → is_among s (all_seats ws) ≡ true
-    → without_seat s (ws ++ option_map_or (λ c. Waiting t c ∷ []) x []) ≡ without_seat s ws ++ option_map_or (λ c. Waiting t c ∷ []) x []
+    → without_seat s (ws ++ option_map_or (λ c. Waiting t c ∷ []) x []) ≡ without_seat s ws
+    ++ option_map_or (λ c. Waiting t c ∷ []) x []
 lapsed_item s t None ws d m = filter_joined (λ i. not (is_waiting_of s i)) ws []
 lapsed_item s t (Some c) ws d m =
     let ne : t ≡ s → ⊥ = not_last s t (all_seats ws) (subst Distinct (all_seats-append ws (Waiting t c ∷ [])) d) m in
@@ -57,7 +60,8 @@ lapsed_item s t (Some c) ws d m =
 pub condition_came : (j c : ℕ) (us vs : List Item) → condition_of j us ≡ Some c → condition_of j (us ++ vs) ≡ Some c
 condition_came j c [] vs h = absurd cc
 condition_came j c (Waiting s d ∷ us) vs h =
-    ⊎_elim (λ e. rw (eq-eqb s j e) (rw (eq-eqb s j e) at h)) (λ ne. rw (ne_eqb s j ne) (condition_came j c us vs (rw (ne_eqb s j ne) at h)))
+    ⊎_elim (λ e. rw (eq-eqb s j e) (rw (eq-eqb s j e) at h))
+    (λ ne. rw (ne_eqb s j ne) (condition_came j c us vs (rw (ne_eqb s j ne) at h)))
     (cases_eq s j)
 condition_came j c (Service d ∷ us) vs h = condition_came j c us vs h
 
@@ -86,14 +90,16 @@ module _ (m : Monitor) (level : IsLevel m.kind) (xs : List Item) (b : Board) (h 
     fewer_with = fewer_given Any e xs b.items h
 
     entry_suits : Suits (next_of (with_next Entry e)) (items_with few (with_next Entry e))
-    entry_suits = subst (λ (n : Option _). Suits n (items_with few (with_next Entry e))) (sym (next_with Entry e stays)) tt
+    entry_suits =
+        subst (λ (n : Option _). Suits n (items_with few (with_next Entry e))) (sym (next_with Entry e stays)) tt
 
     entered : Passes Any m b (with_next Entry e) → Moved m xs b (with_next Entry e)
     entered p = moved m level xs b h many sound (with_next Entry e) p entry_suits
 
     served_is : (c : Board) → served c ≡ with_items (taken_out s (items_with c e) ++ came)
         (board_lapse (board_after m.object c (with_next Entry e)) s)
-    served_is c = resumed m.object (board_after m.object c (with_next (Waiter s) e)) s q ∙ lapsed_same m.object c e s stays
+    served_is c = resumed m.object (board_after m.object c (with_next (Waiter s) e)) s q
+        ∙ lapsed_same m.object c e s stays
 
     served_sound : (c : Board) → Sound c → Passes Any m c (with_next (Waiter s) e)
         → Passes Any m (board_after m.object c (with_next (Waiter s) e)) (event.Resume s q) → Sound (served c)
@@ -105,16 +111,19 @@ module _ (m : Monitor) (level : IsLevel m.kind) (xs : List Item) (b : Board) (h 
     behind_entry : (c : Board) → (board_after m.object c (with_next Entry e)).items ≡ items_with c e ++ came
     behind_entry c = items_behind m.object c Entry e stays
 
-    lapsed_behind : (c : Board) → Sound c → Passes Any m c (with_next Entry e) → is_among s (all_seats (items_with c e)) ≡ true
+    lapsed_behind : (c : Board) → Sound c → Passes Any m c (with_next Entry e)
+        → is_among s (all_seats (items_with c e)) ≡ true
         → without_seat s (board_after m.object c (with_next Entry e)).items ≡ without_seat s (items_with c e) ++ came
     lapsed_behind c is p there =
         ap (without_seat s) (behind_entry c)
         ∙ lapsed_item s (seat_of e) (waits_on e) (items_with c e)
         (subst (λ (l : List Item). Distinct (all_seats l)) (behind_entry c)
-        (sound_distinct (board_after m.object c (with_next Entry e)) (sound_after Any m c (with_next Entry e) is p))) there
+        (sound_distinct (board_after m.object c (with_next Entry e))
+        (sound_after Any m c (with_next Entry e) is p))) there
 
     -- it was served where there are fewer services, and its wait ran out where there are more
-    pub served_below : Passes Any m b (with_next Entry e) → may_lapse Any s opened.items ≡ true → Passes Any m few (with_next (Waiter s) e)
+    pub served_below : Passes Any m b (with_next Entry e) → may_lapse Any s opened.items ≡ true
+        → Passes Any m few (with_next (Waiter s) e)
         → Passes Any m (board_after m.object few (with_next (Waiter s) e)) (event.Resume s q)
         → Below (board_settled (served few)) (board_settled (board_lapse opened s))
     served_below p may f r =
@@ -128,7 +137,8 @@ module _ (m : Monitor) (level : IsLevel m.kind) (xs : List Item) (b : Board) (h 
           items = taken_out s us ++ came;
           is = ap board_settled is;
           fewer = subst (λ (l : List Item). Fewer Any (taken_out s us ++ came) l) (sym (lapsed_behind b many p there))
-              (fewer_came Any e (taken_out s us) (without_seat s ws) (fewer_mixed us ws fewer_with (distinct_with few e sound)
+              (fewer_came Any e (taken_out s us) (without_seat s ws)
+              (fewer_mixed us ws fewer_with (distinct_with few e sound)
               (keeps_with few e sound) (keeps_with b e many) s (may_be_served Any m few e s stays f)));
           sound = subst Sound is (served_sound few sound f r);
           many = sound_lapse Any opened s (sound_after Any m b (with_next Entry e) many p) may;
@@ -140,13 +150,15 @@ module _ (m : Monitor) (level : IsLevel m.kind) (xs : List Item) (b : Board) (h 
       pub may : may_lapse Any s (board_after m.object few (with_next Entry e)).items ≡ true
       pub below : Below (board_settled (board_lapse (board_after m.object few (with_next Entry e)) s)) (board_settled x)
 
-    gone_keeps : (c : ℕ) → condition_of s us ≡ Some c → may_resume Any s us ≡ false → keeps_up 0 (line c (without_seat s us ++ came)) ≡ true
+    gone_keeps : (c : ℕ) → condition_of s us ≡ Some c → may_resume Any s us ≡ false
+        → keeps_up 0 (line c (without_seat s us ++ came)) ≡ true
     gone_keeps c waits never =
         keeps_item (seat_of e) c (without_seat s us) (waits_on e)
         (keeps_gone s c us (distinct_with few e sound) (keeps_with few e sound c) waits never)
 
     pub lapsed_below : Passes Any m b (with_next (Waiter s) e)
-        → Passes Any m (board_after m.object b (with_next (Waiter s) e)) (event.Resume s q) → (c : ℕ) → condition_of s us ≡ Some c
+        → Passes Any m (board_after m.object b (with_next (Waiter s) e)) (event.Resume s q) → (c : ℕ)
+        → condition_of s us ≡ Some c
         → may_resume Any s us ≡ false → Lapses (served b)
     lapsed_below p r c waits never =
         let pe = entry_passes Any m level b e s stays p in
@@ -154,9 +166,11 @@ module _ (m : Monitor) (level : IsLevel m.kind) (xs : List Item) (b : Board) (h 
         let after = board_after m.object few (with_next Entry e) in
         let there : is_among s (all_seats us) ≡ true = among_line s c us (waits_there s c us waits) in
         let gone : without_seat s after.items ≡ without_seat s us ++ came = lapsed_behind few sound t.passes there in
-        let on : condition_of s after.items ≡ Some c = ap (condition_of s) (behind_entry few) ∙ condition_came s c us came waits in
+        let on : condition_of s after.items ≡ Some c = ap (condition_of s) (behind_entry few)
+        ∙ condition_came s c us came waits in
         let may : may_lapse Any s after.items ≡ true =
-        lapse_from Any s c after.items on ∙ (ap (λ (l : List Item). keeps_up 0 (line c l)) gone ∙ gone_keeps c waits never) in
+        lapse_from Any s c after.items on
+        ∙ (ap (λ (l : List Item). keeps_up 0 (line c l)) gone ∙ gone_keeps c waits never) in
         let is : board_lapse after s ≡ with_items (without_seat s after.items) (served b) =
         ap (λ (y : Board). board_lapse y s) t.comes_to
         ∙ ap (λ (y : Board). with_items (without_seat s after.items) y) (sym (served_is b)) in
@@ -168,9 +182,11 @@ module _ (m : Monitor) (level : IsLevel m.kind) (xs : List Item) (b : Board) (h 
             is = ap board_settled is;
             fewer = subst (λ (l : List Item). Fewer Any l (served b).items) (sym gone)
                 (subst (λ (y : Board). Fewer Any (without_seat s us ++ came) y.items) (sym (served_is b))
-                (fewer_came Any e (without_seat s us) (taken_out s ws) (fewer_turned us ws fewer_with (distinct_with few e sound)
+                (fewer_came Any e (without_seat s us) (taken_out s ws)
+                (fewer_turned us ws fewer_with (distinct_with few e sound)
                 (keeps_with few e sound) (keeps_with b e many) s never (may_be_served Any m b e s stays p))));
-            sound = subst Sound is (sound_lapse Any after s (sound_after Any m few (with_next Entry e) sound t.passes) may);
+            sound = subst Sound is (sound_lapse Any after s
+                (sound_after Any m few (with_next Entry e) sound t.passes) may);
             many = served_sound b many p r;
           };
         }

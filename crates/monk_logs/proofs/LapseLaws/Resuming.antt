@@ -95,12 +95,19 @@ owned j b = record {
 
 pub resumed : (object : Object) (b : Board) (j : ℕ) (q : From3) → board_after object b (Resume j q) ≡ owned j b
 resumed object b j q =
-    rw (append-nil (b.items ++ []), append-nil b.items, kept_apart b.signallers, still_kept b.untils, same_inside b.inside) refl
+    rw (
+      append-nil (b.items ++ []),
+      append-nil b.items,
+      kept_apart b.signallers,
+      still_kept b.untils,
+      same_inside b.inside,
+    ) refl
 
 -- so it comes to the same whether it was served or not, but for the items
 pub lapsed_same : (object : Object) (b : Board) (e : Event) (j : ℕ) → next_of e ≡ Some Stay
     → owned j (board_after object b (with_next (Waiter j) e))
-    ≡ with_items (taken_out j (items_with b e) ++ waiting_item e) (board_lapse (board_after object b (with_next Entry e)) j)
+    ≡ with_items (taken_out j (items_with b e) ++ waiting_item e)
+    (board_lapse (board_after object b (with_next Entry e)) j)
 lapsed_same object b (Enter s via) j h = absurd cc
 lapsed_same object b (Act s op r) j h = absurd cc
 lapsed_same object b (Leave s y) j h = refl
@@ -116,7 +123,8 @@ lapsed_same object b (SignalWait s c d y) j h = refl
 
 -- who waits has not the turn
 pub stands_once : (b : Board) (s : ℕ) → Sound b → has_turn s b.turn ≡ 1 → is_among s (all_seats b.items) ≡ true → ⊥
-stands_once b s sound turn m = omega (arith, sound.seated s, one_at_most (b.inside s), among_counted s (all_seats b.items) m)
+stands_once b s sound turn m =
+    omega (arith, sound.seated s, one_at_most (b.inside s), among_counted s (all_seats b.items) m)
 
 -- ---- who may choose a waiter may choose entry
 
@@ -138,12 +146,15 @@ instead : (k : Rules) → IsLevel k → (q : Chances) (v j : ℕ) (stays : Bool)
 instead k level q v j true h = absurd (false≢true h)
 instead k level q v j false h = lapse_instead k level q v j h
 
-permit_entry : (o : Order) (k : Rules) → IsLevel k → (object : Object) (b : Board) (e : Event) (j : ℕ) → next_of e ≡ Some Stay
+permit_entry : (o : Order) (k : Rules) → IsLevel k → (object : Object) (b : Board) (e : Event) (j : ℕ)
+    → next_of e ≡ Some Stay
     → board_permits o k object b (with_next (Waiter j) e) ≡ true → board_permits o k object b (with_next Entry e) ≡ true
 permit_entry o k level object b (Enter s via) j h p = absurd cc
 permit_entry o k level object b (Act s op r) j h p = absurd cc
-permit_entry o k level object b (Leave s y) j h p = lapse_instead k level (board_chances o object b (Leave s (Waiter j))) s j p
-permit_entry o k level object b (Wait s c y) j h p = lapse_instead k level (board_chances o object b (Wait s c (Waiter j))) s j p
+permit_entry o k level object b (Leave s y) j h p =
+    lapse_instead k level (board_chances o object b (Leave s (Waiter j))) s j p
+permit_entry o k level object b (Wait s c y) j h p =
+    lapse_instead k level (board_chances o object b (Wait s c (Waiter j))) s j p
 permit_entry o k level object b (Signal s c y) j h p =
     instead k level (board_chances o object b (Signal s c (Waiter j))) s j (is_empty (unserved_in (line c b.items))) p
 permit_entry o k level object b (SignalLeave s c y) j h p =

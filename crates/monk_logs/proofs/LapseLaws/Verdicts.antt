@@ -54,7 +54,8 @@ one_read : (x : Lapses) (o : Order) (m : Monitor) (y : BoardCourse) (l : LogLine
 unfolding read_from
 one_read x o m y l = read_ended x o m (board_read x o m y.board y.pending l)
 
-line_leads : (x : Lapses) (o : Order) (m : Monitor) (front : List LogLine) (y : BoardCourse) (l : LogLine) (r : Result BoardCourse Blame)
+line_leads : (x : Lapses) (o : Order) (m : Monitor) (front : List LogLine) (y : BoardCourse) (l : LogLine)
+    (r : Result BoardCourse Blame)
     → judge_read x o m front ≡ Some y → read_over x o m y l ≡ r → judge_read x o m (front ++ l ∷ []) ≡ result_ok r
 line_leads x o m front y l r at is =
     read-append x o m (Some (board_settled (opening_board m))) front (l ∷ [])
@@ -82,7 +83,8 @@ front_read (l ∷ log) more (z ∷ reading) reads =
       reads = (reads.0, f.reads);
     }
 
-pub front_open : (x : Lapses) (o : Order) (m : Monitor) (log more : List LogLine) → IsOpenWith x o m (log ++ more) → IsOpenWith x o m log
+pub front_open : (x : Lapses) (o : Order) (m : Monitor) (log more : List LogLine)
+    → IsOpenWith x o m (log ++ more) → IsOpenWith x o m log
 front_open Told o m log more opens = open_front o m log more opens
 front_open Allowed o m log more opens =
     let f = front_read log more opens.reading opens.reads in
@@ -104,12 +106,14 @@ module _ (x : Lapses) (o : Order) (m : Monitor) (kind : IsKind m.kind) where
     opens = λ front y at. (lapses_exact o m kind x front).0 (ap is_some at);
     leads = λ front y l z at is. line_leads x o m front y l (Ok z) at is;
     ends = λ front y l why at is opens. false≢true
-        (sym (ap is_some (line_leads x o m front y l (Err why) at is)) ∙ (lapses_exact o m kind x (front ++ l ∷ [])).1 opens);
+        (sym (ap is_some (line_leads x o m front y l (Err why) at is))
+        ∙ (lapses_exact o m kind x (front ++ l ∷ [])).1 opens);
   }
 
   verdict_is : (log : List LogLine) → IsVerdictBy (IsOpenWith x o m) log (read_verdict x o m log)
   verdict_is log =
-      verdict_holds (IsOpenWith x o m) (read_over x o m) (IsReadTo x o m) judges [] log (board_settled (opening_board m))
+      verdict_holds (IsOpenWith x o m) (read_over x o m) (IsReadTo x o m) judges [] log
+      (board_settled (opening_board m))
       (read_ended x o m (Some (board_settled (opening_board m))))
 
   pub read_fits_exactly : (log : List LogLine) → FitsExactlyWith x o m log (read_verdict x o m log)

@@ -44,9 +44,11 @@ all_four true false c d h = absurd cc
 all_four false b c d h = absurd cc
 
 heading_fits : (s c : ℕ) (o : ObjectName) (z : ℕ) (ws : List Word) (x : LogHeading × List Word) → z ≤ 255
-    → with_rest ws (log_heading_of s c o z) ≡ Ok x → (x ≡ (log_heading s c o z, ws)) × IsLogHeading (log_heading s c o z)
+    → with_rest ws (log_heading_of s c o z) ≡ Ok x
+    → (x ≡ (log_heading s c o z, ws)) × IsLogHeading (log_heading s c o z)
 heading_fits s c o z ws x le e =
-    let m = made_takes (nat_le 1 s && nat_le s most_seats && nat_le c most_conds && nat_le 1 z) (log_heading s c o z) ws x e in
+    let m = made_takes (nat_le 1 s && nat_le s most_seats && nat_le c most_conds && nat_le 1 z)
+    (log_heading s c o z) ws x e in
     let t = all_four (nat_le 1 s) (nat_le s most_seats) (nat_le c most_conds) (nat_le 1 z) m.0 in (
       m.1,
       record {
@@ -59,7 +61,8 @@ heading_fits s c o z ws x le e =
     )
 
 -- the version is that of the logs that name the object
-of_version : (b : Bool) (ws : List Word) (h : Option LogHeading) (x : LogHeading × List Word) → with_rest ws (cond b h None) ≡ Ok x
+of_version : (b : Bool) (ws : List Word) (h : Option LogHeading) (x : LogHeading × List Word)
+    → with_rest ws (cond b h None) ≡ Ok x
     → (b ≡ true) × (with_rest ws h ≡ Ok x)
 of_version true ws h x e = (refl, e)
 of_version false ws h x e = absurd cc
@@ -70,7 +73,8 @@ small_version Book = omega arith
 small_version Shop = omega arith
 small_version Flags = omega arith
 
-all_words : (ws a b c d e f : List Word) (t u v w x y : Word) → ws ≡ t ∷ a → a ≡ u ∷ b → b ≡ v ∷ c → c ≡ w ∷ d → d ≡ x ∷ e
+all_words : (ws a b c d e f : List Word) (t u v w x y : Word) → ws ≡ t ∷ a → a ≡ u ∷ b → b ≡ v ∷ c → c ≡ w ∷ d
+    → d ≡ x ∷ e
     → e ≡ y ∷ f → f ≡ [] → ws ≡ t ∷ u ∷ v ∷ w ∷ x ∷ y ∷ []
 all_words ws a b c d e f t u v w x y e0 e1 e2 e3 e4 e5 e6 = cc
 
@@ -114,8 +118,10 @@ unfolding log_header_at
 log_header_again h fits =
     rw (
       number_again 255 (log_version h.object)
-          (decimal h.seats ∷ decimal h.conds ∷ object_word h.object ∷ decimal h.size ∷ []) (lit< tt) (small_version h.object),
-      number_again 255 h.seats (decimal h.conds ∷ object_word h.object ∷ decimal h.size ∷ []) (lit< tt) (omega (arith, fits.seats)),
+          (decimal h.seats ∷ decimal h.conds ∷ object_word h.object ∷ decimal h.size ∷ []) (lit< tt)
+          (small_version h.object),
+      number_again 255 h.seats (decimal h.conds ∷ object_word h.object ∷ decimal h.size ∷ []) (lit< tt)
+          (omega (arith, fits.seats)),
       number_again 255 h.conds (object_word h.object ∷ decimal h.size ∷ []) (lit< tt) (omega (arith, fits.conds)),
       one_of_again object_word objects h.object (decimal h.size ∷ []) (object_again h.object),
       number_again 255 h.size [] (lit< tt) fits.size,

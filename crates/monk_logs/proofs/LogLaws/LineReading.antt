@@ -34,7 +34,8 @@ Ends v s ws y = (log_verb_word v ∷ decimal s ∷ ws ≡ log_words y.0 ++ y.1) 
 abbrev behind : Verb → ℕ → List Word → List Word
 behind v s ws = log_verb_word v ∷ decimal s ∷ ws
 
-line_takes : (v : Verb) (s : ℕ) (ws : List Word) (x : LogLine × List Word) → s ≤ 255 → line_after v s ws ≡ Ok x → Ends v s ws x
+line_takes : (v : Verb) (s : ℕ) (ws : List Word) (x : LogLine × List Word) → s ≤ 255 → line_after v s ws ≡ Ok x
+    → Ends v s ws x
 unfolding line_after
 line_takes verb.Enter s ws x le e = subst (Ends verb.Enter s ws) (ok_is (Enter s, ws) x e) (refl, le)
 line_takes verb.Resume s ws x le e = subst (Ends verb.Resume s ws) (ok_is (Resume s, ws) x e) (refl, le)
@@ -51,7 +52,8 @@ line_takes verb.Signal s ws x le e =
 line_takes verb.Broadcast s ws x le e =
     let b = bind_ok (number_at 255 ws) (λ c. Ok (Broadcast s c.0, c.1)) x e in
     let t = number_takes 255 ws b.0 b.1 in
-    subst (Ends verb.Broadcast s ws) (ok_is (Broadcast s b.0.0, b.0.1) x b.2) (ap (behind verb.Broadcast s) t.0, (le, t.1))
+    subst (Ends verb.Broadcast s ws) (ok_is (Broadcast s b.0.0, b.0.1) x b.2)
+    (ap (behind verb.Broadcast s) t.0, (le, t.1))
 line_takes verb.Until s ws x le e =
     let b = bind_ok (number_at 255 ws) (λ c. Ok (Until s c.0, c.1)) x e in
     let t = number_takes 255 ws b.0 b.1 in
@@ -59,7 +61,8 @@ line_takes verb.Until s ws x le e =
 line_takes verb.Act s ws x le e =
     let b = bind_ok (act_at ws) (λ a. Ok (Act s a.0.0 a.0.1, a.1)) x e in
     let t = act_takes ws b.0 b.1 in
-    subst (Ends verb.Act s ws) (ok_is (Act s b.0.0.0 b.0.0.1, b.0.1) x b.2) (ap (behind verb.Act s) t.0, (le, t.1, t.2, t.3))
+    subst (Ends verb.Act s ws) (ok_is (Act s b.0.0.0 b.0.0.1, b.0.1) x b.2)
+    (ap (behind verb.Act s) t.0, (le, t.1, t.2, t.3))
 
 -- ---- a line
 
@@ -72,7 +75,8 @@ at_seat v s = line_after v s.0 s.1 >>= at_line
 abbrev at_verb : Verb × List Word → Taken LogLine
 at_verb v = number_at 255 v.1 >>= at_seat v.0
 
-pub log_line_takes : (ws : List Word) (x : LogLine × List Word) → log_line_at ws ≡ Ok x → (ws ≡ log_words x.0) × LineFits x.0
+pub log_line_takes : (ws : List Word) (x : LogLine × List Word) → log_line_at ws ≡ Ok x
+    → (ws ≡ log_words x.0) × LineFits x.0
 unfolding log_line_at
 log_line_takes ws x e =
     let v = bind_ok (one_of log_verb_word log_verbs ws) at_verb x e in
@@ -85,7 +89,8 @@ log_line_takes ws x e =
     let none = (end_takes l.0.1 n.0 n.1).0 in
     let whole : ws ≡ log_words l.0.0 = verb_is ∙ ap (λ (w : List Word). log_verb_word v.0.0 ∷ w) seat_is.0 ∙ line_is.0
     ∙ ap (λ (w : List Word). log_words l.0.0 ++ w) none ∙ append-nil (log_words l.0.0) in
-    subst (λ (y : LogLine × List Word). (ws ≡ log_words y.0) × LineFits y.0) (ok_is (l.0.0, n.0.1) x n.2) (whole, line_is.1)
+    subst (λ (y : LogLine × List Word). (ws ≡ log_words y.0) × LineFits y.0) (ok_is (l.0.0, n.0.1) x n.2)
+    (whole, line_is.1)
 
 from_after : (v : Verb) (s : ℕ) (ws : List Word) (l : LogLine) → s ≤ 255 → line_after v s ws ≡ Ok (l, [])
     → log_line_at (log_verb_word v ∷ decimal s ∷ ws) ≡ Ok (l, [])
@@ -108,7 +113,8 @@ log_line_again (Wait s c) fits =
 log_line_again (Signal s c) fits =
     from_after verb.Signal s (decimal c ∷ []) (Signal s c) fits.0 (rw (number_again 255 c [] (lit< tt) fits.1) refl)
 log_line_again (Broadcast s c) fits =
-    from_after verb.Broadcast s (decimal c ∷ []) (Broadcast s c) fits.0 (rw (number_again 255 c [] (lit< tt) fits.1) refl)
+    from_after verb.Broadcast s (decimal c ∷ []) (Broadcast s c) fits.0
+    (rw (number_again 255 c [] (lit< tt) fits.1) refl)
 log_line_again (Until s c) fits =
     from_after verb.Until s (decimal c ∷ []) (Until s c) fits.0 (rw (number_again 255 c [] (lit< tt) fits.1) refl)
 log_line_again (Act s op reply) fits =

@@ -16,7 +16,8 @@ use Rattle.monk_logs.proofs.LogLaws.LineReading.{log_line_takes, log_line_again}
 use Rattle.monk_logs.proofs.LogLaws.PlainLogs.{header_are_words, line_are_words}
 
 headers : IsFormat log_header_words log_header_at IsLogHeading
-headers = record { takes = log_header_takes; again = log_header_again; plain = header_are_words; some = λ h. omega arith }
+headers =
+    record { takes = log_header_takes; again = log_header_again; plain = header_are_words; some = λ h. omega arith }
 
 some_word : (l : LogLine) → 1 ≤ length (log_words l)
 some_word (Enter s) = omega arith
@@ -38,13 +39,16 @@ lines h = record { takes = log_line_takes; again = log_line_again; plain = line_
 pub log_again : (limit : ℕ) (h : LogHeading) (ls : List LogLine) → HasLogText h ls → length ls ≤ limit
     → log_at limit (log_text h ls) ≡ Ok (log h ls)
 log_again limit h ls has le =
-    formats.text_again log_header_words log_header_at IsLogHeading headers log_words line_under FitsUnder lines limit h ls
+    formats.text_again log_header_words log_header_at IsLogHeading headers log_words line_under FitsUnder lines
+    limit h ls
     has.header_fits has.lines_fit le
 
-pub log_one : (h g : LogHeading) (xs ys : List LogLine) → HasLogText h xs → HasLogText g ys → log_text h xs ≡ log_text g ys
+pub log_one : (h g : LogHeading) (xs ys : List LogLine) → HasLogText h xs → HasLogText g ys
+    → log_text h xs ≡ log_text g ys
     → log h xs ≡ log g ys
 log_one h g xs ys one two same =
-    let is = formats.text_one log_header_words log_header_at IsLogHeading headers log_words line_under FitsUnder lines h g
+    let is =
+    formats.text_one log_header_words log_header_at IsLogHeading headers log_words line_under FitsUnder lines h g
     xs ys one.header_fits one.lines_fit two.header_fits two.lines_fit same in
     ap (λ (x : LogHeading). log x xs) is.0 ∙ ap (λ (x : List LogLine). log g x) is.1
 
@@ -68,14 +72,17 @@ is_found limit bytes (Ok x) given =
 is_found limit bytes (Err e) given = tt
 
 pub is_only : (limit : ℕ) (bytes : List ℕ) (r : Result (LogHeading × Vec LogLine) ReadFault) (h : LogHeading)
-    (ls : List LogLine) → HasLogText h ls → length ls ≤ limit → bytes ≡ log_text h ls → Gives log_view r (log_at limit bytes)
+    (ls : List LogLine) → HasLogText h ls → length ls ≤ limit → bytes ≡ log_text h ls
+    → Gives log_view r (log_at limit bytes)
     → Gives log_view r (Ok (log h ls))
 is_only limit bytes r h ls has le same given =
-    subst (λ (x : Result Log ReadFault). Gives log_view r x) (ap (log_at limit) same ∙ log_again limit h ls has le) given
+    subst (λ (x : Result Log ReadFault). Gives log_view r x)
+    (ap (log_at limit) same ∙ log_again limit h ls has le) given
 
 -- ---- a line that stands at the front
 
 pub line_at_front : (h : LogHeading) (bytes : List ℕ) (r : Option (LogLine × ℕ))
     → IfSome r (λ x. StandsAt bytes 0 (line (log_words x.0)) x.1) → IfSome r (λ x. LineFits x.0)
     → IfSome r (λ x. IsAtFront (line_under h) bytes x.0 x.1)
-line_at_front h bytes r stands fits = formats.item_at_front log_words (line_under h) LineFits (lines h) bytes r stands fits
+line_at_front h bytes r stands fits =
+    formats.item_at_front log_words (line_under h) LineFits (lines h) bytes r stands fits

@@ -35,7 +35,8 @@ pub filter_both : (p q : ℕ → Bool) (xs : List ℕ) → filter p (filter q xs
 filter_both p q [] = refl
 filter_both p q (x ∷ xs) =
     ⊎_elim
-    (λ h. rw h (⊎_elim (λ k. rw k (ap (λ (ys : List ℕ). x ∷ ys) (filter_both p q xs))) (λ k. rw k (filter_both p q xs)) (cases_Bool (p x))))
+    (λ h. rw h (⊎_elim (λ k. rw k (ap (λ (ys : List ℕ). x ∷ ys) (filter_both p q xs)))
+    (λ k. rw k (filter_both p q xs)) (cases_Bool (p x))))
     (λ h. rw h (filter_both p q xs)) (cases_Bool (q x))
 
 neither : (x y : Bool) → not (x || y) ≡ (not x && not y)
@@ -69,15 +70,18 @@ pub apart_none : (j : ℕ) (xs : List ℕ) → is_among j (apart [] xs) ≡ is_a
 apart_none j xs = among_apart j [] xs ∙ and_true (is_among j xs)
 
 pub apart_it : (j : ℕ) (xs : List ℕ) → is_among j (apart (j ∷ []) xs) ≡ false
-apart_it j xs = among_apart j (j ∷ []) xs ∙ (ap (λ (x : Bool). is_among j xs && not x) (among_here j []) ∙ and_false (is_among j xs))
+apart_it j xs = among_apart j (j ∷ []) xs
+    ∙ (ap (λ (x : Bool). is_among j xs && not x) (among_here j []) ∙ and_false (is_among j xs))
 
 pub apart_other : (j k : ℕ) (xs : List ℕ) → (k ≡ j → ⊥) → is_among k (apart (j ∷ []) xs) ≡ is_among k xs
 apart_other j k xs ne =
-    among_apart k (j ∷ []) xs ∙ (ap (λ (x : Bool). is_among k xs && not x) (among_one j k ne) ∙ and_true (is_among k xs))
+    among_apart k (j ∷ []) xs
+    ∙ (ap (λ (x : Bool). is_among k xs && not x) (among_one j k ne) ∙ and_true (is_among k xs))
 
 -- ---- what signals give has no seats
 
-given_line : (c : ℕ) (x : Option ℕ) (f : ℕ → List ℕ) → seats_in (line c (option_map_or (λ d. map (λ s. Service d) (f d)) x [])) ≡ []
+given_line : (c : ℕ) (x : Option ℕ) (f : ℕ → List ℕ)
+    → seats_in (line c (option_map_or (λ d. map (λ s. Service d) (f d)) x [])) ≡ []
 given_line c None f = refl
 given_line c (Some d) f =
     ⊎_elim (λ e. ap seats_in (line_given d c (f d) e) ∙ seats_gifts (f d))
@@ -87,7 +91,8 @@ pub line_with : (b : Board) (e : Event) (c : ℕ) → seats_in (line c (items_wi
 line_with b e c =
     ap seats_in (line-append c b.items _)
     ∙ (seats_in-append (line c b.items) _
-    ∙ (ap (λ (xs : List ℕ). seats_in (line c b.items) ++ xs) (given_line c (signals_on e) (λ d. served_of e (unserved_in (line d b.items))))
+    ∙ (ap (λ (xs : List ℕ). seats_in (line c b.items) ++ xs)
+    (given_line c (signals_on e) (λ d. served_of e (unserved_in (line d b.items))))
     ∙ append-nil (seats_in (line c b.items))))
 
 -- ---- one goes on
@@ -96,7 +101,8 @@ kept_front : (p : ℕ → Bool) (x : ℕ) (xs ys : List ℕ) → filter (λ j. n
     → filter (λ j. not (p j)) (x ∷ xs) ≡ x ∷ ys
 kept_front p x xs ys h k = rw k (ap (λ (zs : List ℕ). x ∷ zs) h)
 
-left_front : (p : ℕ → Bool) (x : ℕ) (xs ys : List ℕ) → filter (λ j. not (p j)) xs ≡ ys → p x ≡ true → filter (λ j. not (p j)) (x ∷ xs) ≡ ys
+left_front : (p : ℕ → Bool) (x : ℕ) (xs ys : List ℕ) → filter (λ j. not (p j)) xs ≡ ys → p x ≡ true
+    → filter (λ j. not (p j)) (x ∷ xs) ≡ ys
 left_front p x xs ys h k = rw k h
 
 less_here : (j x : ℕ) (xs : List ℕ) → x ≡ j → less j (x ∷ xs) ≡ xs
@@ -122,31 +128,38 @@ less_rest p q j (x ∷ xs) d is a =
 
 -- who waits unserved is the same whoever goes on
 chosen_rest : (ws vs : List ℕ) (n : Option Next) (items : List Item) (c : ℕ) → Distinct (all_seats items)
-    → ((j : ℕ) → is_among j vs ≡ is_among j (apart (chosen_waiter n) ws)) → ((j : ℕ) → n ≡ Some (next.Waiter j) → is_among j ws ≡ true)
+    → ((j : ℕ) → is_among j vs ≡ is_among j (apart (chosen_waiter n) ws))
+    → ((j : ℕ) → n ≡ Some (next.Waiter j) → is_among j ws ≡ true)
     → apart vs (seats_in (line c (chosen_out n items))) ≡ apart ws (seats_in (line c items))
 chosen_rest ws vs None items c dis a is = apart_same vs ws (seats_in (line c items)) (λ j. a j ∙ apart_none j ws)
-chosen_rest ws vs (Some next.Stay) items c dis a is = apart_same vs ws (seats_in (line c items)) (λ j. a j ∙ apart_none j ws)
-chosen_rest ws vs (Some next.Entry) items c dis a is = apart_same vs ws (seats_in (line c items)) (λ j. a j ∙ apart_none j ws)
+chosen_rest ws vs (Some next.Stay) items c dis a is =
+    apart_same vs ws (seats_in (line c items)) (λ j. a j ∙ apart_none j ws)
+chosen_rest ws vs (Some next.Entry) items c dis a is =
+    apart_same vs ws (seats_in (line c items)) (λ j. a j ∙ apart_none j ws)
 chosen_rest ws vs (Some (next.Waiter j)) items c dis a is =
     ap (λ (l : List (Option ℕ)). apart vs (seats_in l)) (line_taken j c items dis)
     ∙ (ap (λ (xs : List ℕ). apart vs xs) (seats_taken j (line c items))
     ∙ less_rest (among ws) (among vs) j (seats_in (line c items)) (distinct_line c items dis) (is j refl)
     (λ k ne. sym (a k ∙ apart_other j k ws ne)))
-chosen_rest ws vs (Some (next.Signaller j)) items c dis a is = apart_same vs ws (seats_in (line c items)) (λ k. a k ∙ apart_none k ws)
-chosen_rest ws vs (Some (next.Until j)) items c dis a is = apart_same vs ws (seats_in (line c items)) (λ k. a k ∙ apart_none k ws)
+chosen_rest ws vs (Some (next.Signaller j)) items c dis a is =
+    apart_same vs ws (seats_in (line c items)) (λ k. a k ∙ apart_none k ws)
+chosen_rest ws vs (Some (next.Until j)) items c dis a is =
+    apart_same vs ws (seats_in (line c items)) (λ k. a k ∙ apart_none k ws)
 
 -- ---- one comes
 
 came_alone : (vs : List ℕ) (v c d : ℕ) → is_among v vs ≡ false
     → apart vs (seats_in (line c (Waiting v d ∷ []))) ≡ cond (is_at c (Some d)) (v ∷ []) []
 came_alone vs v c d out =
-    ⊎_elim (λ e. rw (eq-eqb d c e) (kept_front (among vs) v [] [] refl out)) (λ ne. rw (ne_eqb d c ne) refl) (cases_eq d c)
+    ⊎_elim (λ e. rw (eq-eqb d c e) (kept_front (among vs) v [] [] refl out)) (λ ne. rw (ne_eqb d c ne) refl)
+    (cases_eq d c)
 
 came_rest : (vs : List ℕ) (v c : ℕ) (items : List Item) (x : Option ℕ) → ((d : ℕ) → x ≡ Some d → is_among v vs ≡ false)
     → apart vs (seats_in (line c (items ++ option_map_or (λ d. Waiting v d ∷ []) x [])))
     ≡ apart vs (seats_in (line c items)) ++ cond (is_at c x) (v ∷ []) []
 came_rest vs v c items None out =
-    ap (λ (xs : List Item). apart vs (seats_in (line c xs))) (append-nil items) ∙ sym (append-nil (apart vs (seats_in (line c items))))
+    ap (λ (xs : List Item). apart vs (seats_in (line c xs))) (append-nil items)
+    ∙ sym (append-nil (apart vs (seats_in (line c items))))
 came_rest vs v c items (Some d) out =
     ap (λ (l : List (Option ℕ)). apart vs (seats_in l)) (line-append c items (Waiting v d ∷ []))
     ∙ (ap (λ (xs : List ℕ). apart vs xs) (seats_in-append (line c items) (line c (Waiting v d ∷ [])))
@@ -154,11 +167,13 @@ came_rest vs v c items (Some d) out =
     ∙ ap (λ (xs : List ℕ). apart vs (seats_in (line c items)) ++ xs) (came_alone vs v c d (out d refl))))
 
 -- what an event makes of a condition, where ws were served before its choice and vs are behind it
-pub condition_after : (m : Monitor) (b : Board) (e : Event) (ws vs : List ℕ) (c : ℕ) → Distinct (all_seats (items_with b e))
+pub condition_after : (m : Monitor) (b : Board) (e : Event) (ws vs : List ℕ) (c : ℕ)
+    → Distinct (all_seats (items_with b e))
     → ((j : ℕ) → is_among j vs ≡ is_among j (apart (chosen_waiter (next_of e)) ws))
     → ((j : ℕ) → next_of e ≡ Some (next.Waiter j) → is_among j ws ≡ true)
     → ((d : ℕ) → waits_on e ≡ Some d → is_among (seat_of e) vs ≡ false)
-    → apart vs (seats_in (line c (board_after m.object b e).items)) ≡ apart ws (seats_in (line c b.items)) ++ waiting_by c e
+    → apart vs (seats_in (line c (board_after m.object b e).items)) ≡ apart ws (seats_in (line c b.items))
+    ++ waiting_by c e
 condition_after m b e ws vs c dis a is out =
     came_rest vs (seat_of e) c (chosen_out (next_of e) (items_with b e)) (waits_on e) out
     ∙ ap (λ (xs : List ℕ). xs ++ waiting_by c e)
@@ -166,7 +181,8 @@ condition_after m b e ws vs c dis a is out =
 
 -- ---- who comes to wait wasn't there
 
-waits_owned : (b : Board) (e : Event) (d : ℕ) → waits_on e ≡ Some d → is_in_turn (sight b) e ≡ true → is_owned_by (seat_of e) b.turn ≡ true
+waits_owned : (b : Board) (e : Event) (d : ℕ) → waits_on e ≡ Some d → is_in_turn (sight b) e ≡ true
+    → is_owned_by (seat_of e) b.turn ≡ true
 waits_owned b (Enter v via) d h t = absurd cc
 waits_owned b (Act v op r) d h t = absurd cc
 waits_owned b (Leave v x) d h t = absurd cc
@@ -180,7 +196,15 @@ waits_owned b (SignalWait v c a x) d h t = t
 
 owner_counts : (b : Board) (v : ℕ) → Seated b → is_owned_by v b.turn ≡ true → is_among v (all_seats b.items) ≡ true → ⊥
 owner_counts b v h own m =
-    omega (arith, h v, owned_turn v v b.turn own, counts_one v v refl, among_counted v (all_seats b.items) m, one_at_most (b.inside v))
+    omega (
+      arith,
+      h v,
+      owned_turn v v b.turn own,
+      counts_one v v refl,
+      among_counted v
+          (all_seats b.items) m,
+      one_at_most (b.inside v),
+    )
 
 pub chosen_subset : (j : ℕ) (n : Option Next) (items : List Item) → is_among j (all_seats (chosen_out n items)) ≡ true
     → is_among j (all_seats items) ≡ true
@@ -196,4 +220,5 @@ pub comes_new : (b : Board) (e : Event) (d : ℕ) → Seated b → is_in_turn (s
     → is_among (seat_of e) (all_seats (chosen_out (next_of e) (items_with b e))) ≡ false
 comes_new b e d h t is =
     false_from_ne_true _ (λ m. owner_counts b (seat_of e) h (waits_owned b e d is t)
-    (subst (λ (xs : List ℕ). is_among (seat_of e) xs ≡ true) (seats_with b e) (chosen_subset (seat_of e) (next_of e) (items_with b e) m)))
+    (subst (λ (xs : List ℕ). is_among (seat_of e) xs ≡ true) (seats_with b e)
+    (chosen_subset (seat_of e) (next_of e) (items_with b e) m)))

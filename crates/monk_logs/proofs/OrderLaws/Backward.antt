@@ -36,7 +36,8 @@ use Rattle.monk_logs.proofs.OrderLaws.Unserving.{Before, unserved}
 -- ---- before somebody came
 
 came_back : (o : Order) (p : ℕ → Bool) (v : ℕ) (items : List Item) (x : Option ℕ)
-    → Fits o p (items ++ option_map_or (λ d. Waiting v d ∷ []) x []) → Fits o p items × ((d : ℕ) → x ≡ Some d → p v ≡ false)
+    → Fits o p (items ++ option_map_or (λ d. Waiting v d ∷ []) x [])
+    → Fits o p items × ((d : ℕ) → x ≡ Some d → p v ≡ false)
 came_back o p v items None f = (subst (λ (xs : List Item). Fits o p xs) (append-nil items) f, λ d h. absurd cc)
 came_back o p v items (Some d) f = let r = unjoin o p v d items f in (r.1, λ k h. r.0)
 
@@ -52,7 +53,8 @@ unchosen o vs None items dis keeps may f = f
 unchosen o vs (Some next.Stay) items dis keeps may f = f
 unchosen o vs (Some next.Entry) items dis keeps may f = f
 unchosen o vs (Some (next.Waiter j)) items dis keeps may f =
-    unchoose o (among vs) (among (j ∷ vs)) j items dis keeps (may j refl) (among_here j vs) (λ k ne. among_others_too j k vs ne) f
+    unchoose o (among vs) (among (j ∷ vs)) j items dis keeps (may j refl) (among_here j vs)
+    (λ k ne. among_others_too j k vs ne) f
 unchosen o vs (Some (next.Signaller j)) items dis keeps may f = f
 unchosen o vs (Some (next.Until j)) items dis keeps may f = f
 
@@ -69,7 +71,8 @@ not_back o vs j items dis f =
     ∙ subst (λ (xs : List ℕ). is_among j xs ≡ true) (all_seats_taken j items) (f.stand j h)))
 
 rest_back : (o : Order) (vs : List ℕ) (n : Option Next) (items : List Item) → Distinct (all_seats items)
-    → Fits o (among vs) (chosen_out n items) → (j : ℕ) → is_among j vs ≡ is_among j (apart (chosen_waiter n) (chosen_waiter n ++ vs))
+    → Fits o (among vs) (chosen_out n items) → (j : ℕ)
+    → is_among j vs ≡ is_among j (apart (chosen_waiter n) (chosen_waiter n ++ vs))
 rest_back o vs None items dis f j = sym (apart_none j vs)
 rest_back o vs (Some next.Stay) items dis f j = sym (apart_none j vs)
 rest_back o vs (Some next.Entry) items dis f j = sym (apart_none j vs)
@@ -81,8 +84,10 @@ rest_back o vs (Some (next.Waiter k)) items dis f j =
 rest_back o vs (Some (next.Signaller k)) items dis f j = sym (apart_none j vs)
 rest_back o vs (Some (next.Until k)) items dis f j = sym (apart_none j vs)
 
-chosen_back : (n : Option Next) (vs : List ℕ) (j : ℕ) → n ≡ Some (next.Waiter j) → is_among j (chosen_waiter n ++ vs) ≡ true
-chosen_back n vs j is = subst (λ (x : Option Next). is_among j (chosen_waiter x ++ vs) ≡ true) (sym is) (among_here j vs)
+chosen_back : (n : Option Next) (vs : List ℕ) (j : ℕ) → n ≡ Some (next.Waiter j)
+    → is_among j (chosen_waiter n ++ vs) ≡ true
+chosen_back n vs j is =
+    subst (λ (x : Option Next). is_among j (chosen_waiter x ++ vs) ≡ true) (sym is) (among_here j vs)
 
 -- ---- in any order
 
@@ -101,10 +106,12 @@ pub record Leads (o : Order) (m : Monitor) (b : Board) (e : Event) (vs : List �
   pub fits : Fits o (among waiters) b.items
   pub move : IsMove o m (standing b waiters) e served (standing (board_after m.object b e) vs)
 
-module _ (o : Order) (loose : IsLoose o) (m : Monitor) (b : Board) (e : Event) (vs : List ℕ) (sound : Sound b) (p : Passes o m b e)
+module _ (o : Order) (loose : IsLoose o) (m : Monitor) (b : Board) (e : Event) (vs : List ℕ) (sound : Sound b)
+    (p : Passes o m b e)
     (f : Fits o (among vs) (board_after m.object b e).items)
   where
-    behind : Fits o (among vs) (chosen_out (next_of e) (items_with b e)) × ((d : ℕ) → waits_on e ≡ Some d → is_among (seat_of e) vs ≡ false)
+    behind : Fits o (among vs) (chosen_out (next_of e) (items_with b e))
+        × ((d : ℕ) → waits_on e ≡ Some d → is_among (seat_of e) vs ≡ false)
     behind = came_back o (among vs) (seat_of e) (chosen_out (next_of e) (items_with b e)) (waits_on e) f
 
     rest : (j : ℕ) → is_among j vs ≡ is_among j (apart (chosen_waiter (next_of e)) (chosen_waiter (next_of e) ++ vs))
@@ -112,7 +119,8 @@ module _ (o : Order) (loose : IsLoose o) (m : Monitor) (b : Board) (e : Event) (
 
     fit_before : Fits o (among (chosen_waiter (next_of e) ++ vs)) (items_with b e)
     fit_before =
-        unchosen o vs (next_of e) (items_with b e) (distinct_with b e sound) (keeps_with b e sound) (was_served_chosen o m b e p) behind.0
+        unchosen o vs (next_of e) (items_with b e) (distinct_with b e sound) (keeps_with b e sound)
+        (was_served_chosen o m b e p) behind.0
 
     before : Before o b e (chosen_waiter (next_of e) ++ vs)
     before = unserved o b (chosen_waiter (next_of e) ++ vs) sound e fit_before
@@ -121,20 +129,25 @@ module _ (o : Order) (loose : IsLoose o) (m : Monitor) (b : Board) (e : Event) (
     stands = stands_so o b before.waiters before.fits
 
     fit : Fits o (among (before.waiters ++ before.served)) (items_with b e)
-    fit = fits_same o (among (chosen_waiter (next_of e) ++ vs)) (among (before.waiters ++ before.served)) (items_with b e) before.same
+    fit = fits_same o (among (chosen_waiter (next_of e) ++ vs)) (among (before.waiters ++ before.served))
+        (items_with b e) before.same
         fit_before
 
     sigs_same : signallers_with b e ≡ b.signallers ++ signals (standing b before.waiters).condition e
     sigs_same = ap (λ (xs : List ℕ). b.signallers ++ xs) (sym (signals_same o b (standing b before.waiters) e stands))
 
-    like : AreLike (board_chances o m.object b e) (chances o (queues_with m.object (standing b before.waiters) e before.served)) (next_of e)
+    like : AreLike (board_chances o m.object b e)
+        (chances o (queues_with m.object (standing b before.waiters) e before.served)) (next_of e)
     like = record {
-      no_waiter = sym (empty_waiters o (before.waiters ++ before.served) (items_with b e) (distinct_with b e sound) fit);
+      no_waiter =
+          sym (empty_waiters o (before.waiters ++ before.served) (items_with b e) (distinct_with b e sound) fit);
       no_signaller = ap (λ (xs : List ℕ). is_empty xs) sigs_same;
       no_ready = refl;
       signaller = λ j k. subst (λ (xs : List ℕ). may_go o j xs ≡ true) sigs_same k;
       ready = λ j k. k;
-      waiter = λ j is k. may_go_from o loose j (before.waiters ++ before.served) (sym (before.same j) ∙ chosen_back (next_of e) vs j is);
+      waiter =
+          λ j is k. may_go_from o loose j (before.waiters ++ before.served)
+          (sym (before.same j) ∙ chosen_back (next_of e) vs j is);
     }
 
     comes_to : IsAfter o m.object (standing b before.waiters) e before.served (standing (board_after m.object b e) vs)
@@ -142,7 +155,8 @@ module _ (o : Order) (loose : IsLoose o) (m : Monitor) (b : Board) (e : Event) (
       condition = λ c. condition_after m b e (chosen_waiter (next_of e) ++ vs) vs c (distinct_with b e sound) rest
           (chosen_back (next_of e) vs) behind.1
           ∙ ap (λ (xs : List ℕ). xs ++ waiting_by c e)
-          (apart_same (chosen_waiter (next_of e) ++ vs) (before.waiters ++ before.served) (seats_in (line c b.items)) before.same
+          (apart_same (chosen_waiter (next_of e) ++ vs) (before.waiters ++ before.served)
+          (seats_in (line c b.items)) before.same
           ∙ apart_twice before.waiters before.served (seats_in (line c b.items)));
       waiters = are_waiters o vs (apart (chosen_waiter (next_of e)) (before.waiters ++ before.served)) loose
           (λ j. rest j ∙ (among_apart j (chosen_waiter (next_of e)) (chosen_waiter (next_of e) ++ vs)

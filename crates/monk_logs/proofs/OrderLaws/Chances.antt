@@ -27,9 +27,12 @@ module _ (k : Rules) (q r : Chances) (s : ℕ) where
   choose_like : (x : Next) → AreLike q r (Some x) → may_choose_by k q s x ≡ true → may_choose_by k r s x ≡ true
   choose_like next.Stay a h = h
   choose_like next.Entry a h =
-      ap (λ (b : Bool). ((b && r.no_ready) || k.waiter == k.entry) && (r.no_signaller || k.signaller == k.entry)) (sym a.no_waiter)
-      ∙ (ap (λ (b : Bool). ((q.no_waiter && b) || k.waiter == k.entry) && (r.no_signaller || k.signaller == k.entry)) (sym a.no_ready)
-      ∙ (ap (λ (b : Bool). ((q.no_waiter && q.no_ready) || k.waiter == k.entry) && (b || k.signaller == k.entry)) (sym a.no_signaller) ∙ h))
+      ap (λ (b : Bool). ((b && r.no_ready) || k.waiter == k.entry)
+      && (r.no_signaller || k.signaller == k.entry)) (sym a.no_waiter)
+      ∙ (ap (λ (b : Bool). ((q.no_waiter && b) || k.waiter == k.entry)
+      && (r.no_signaller || k.signaller == k.entry)) (sym a.no_ready)
+      ∙ (ap (λ (b : Bool). ((q.no_waiter && q.no_ready) || k.waiter == k.entry)
+      && (b || k.signaller == k.entry)) (sym a.no_signaller) ∙ h))
   choose_like (next.Waiter j) a h =
       let p = and_parts (q.waiter j) (q.no_signaller || nat_le k.signaller k.waiter) h in
       and_from (r.waiter j) (r.no_signaller || nat_le k.signaller k.waiter) (a.waiter j refl p.0)
@@ -53,19 +56,23 @@ module _ (k : Rules) (q r : Chances) (s : ℕ) where
   signal_like (next.Signaller j) a h = choose_like (next.Signaller j) a h
   signal_like (next.Until j) a h = choose_like (next.Until j) a h
 
-  either_like : (back : Bool) (x : Next) → AreLike q r (Some x) → cond back (may_signal_by k q s x) (may_choose_by k q s x) ≡ true
+  either_like : (back : Bool) (x : Next) → AreLike q r (Some x)
+      → cond back (may_signal_by k q s x) (may_choose_by k q s x) ≡ true
       → cond back (may_signal_by k r s x) (may_choose_by k r s x) ≡ true
   either_like true x a h = signal_like x a h
   either_like false x a h = choose_like x a h
 
   next_like : (stays back : Bool) (n : Option Next) → AreLike q r n
-      → cond stays (is_stay n) (option_map_or (λ x. cond back (may_signal_by k q s x) (may_choose_by k q s x)) n true) ≡ true
-      → cond stays (is_stay n) (option_map_or (λ x. cond back (may_signal_by k r s x) (may_choose_by k r s x)) n true) ≡ true
+      → cond stays (is_stay n) (option_map_or
+      (λ x. cond back (may_signal_by k q s x) (may_choose_by k q s x)) n true) ≡ true
+      → cond stays (is_stay n) (option_map_or
+      (λ x. cond back (may_signal_by k r s x) (may_choose_by k r s x)) n true) ≡ true
   next_like true back n a h = h
   next_like false back None a h = h
   next_like false back (Some x) a h = either_like back x a h
 
-pub permits_like : (k : Rules) (stays : Bool) (q r : Chances) (e : Event) → AreLike q r (next_of e) → permits_by k stays q e ≡ true
+pub permits_like : (k : Rules) (stays : Bool) (q r : Chances) (e : Event) → AreLike q r (next_of e)
+    → permits_by k stays q e ≡ true
     → permits_by k stays r e ≡ true
 permits_like k stays q r e a h = next_like k q r (seat_of e) stays (is_some (steps_back e)) (next_of e) a h
 

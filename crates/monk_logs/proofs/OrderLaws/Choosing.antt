@@ -25,7 +25,8 @@ among_less : (j k : ℕ) (xs : List ℕ) → (k ≡ j → ⊥) → is_among k xs
 among_less j k [] ne h = h
 among_less j k (x ∷ xs) ne h =
     ⊎_elim (λ e. rw (eq-eqb x j e) (among_others k x xs (λ i. ne (sym i ∙ e)) h))
-    (λ n. rw (ne_eqb x j n) (⊎_elim (λ i. subst (λ (y : ℕ). is_among y (x ∷ less j xs) ≡ true) i (among_here x (less j xs)))
+    (λ n. rw (ne_eqb x j n) (⊎_elim
+    (λ i. subst (λ (y : ℕ). is_among y (x ∷ less j xs) ≡ true) i (among_here x (less j xs)))
     (λ i. among_later k x (less j xs) (among_less j k xs ne (among_others k x xs i h))) (cases_eq x k))) (cases_eq x j)
 
 pub less_among : (j k : ℕ) (xs : List ℕ) → is_among k (less j xs) ≡ true → is_among k xs ≡ true
@@ -51,18 +52,22 @@ resumes_from o j items (Some c) e h = record { on = c; waits = e; can = h }
 pub resumes : (o : Order) (j : ℕ) (items : List Item) → was_served o j items ≡ true → Resumes o j items
 resumes o j items h = resumes_from o j items (condition_of j items) refl h
 
-pub was_served_from : (o : Order) (j c : ℕ) (items : List Item) → condition_of j items ≡ Some c → can_be_served o j (line c items) ≡ true
+pub was_served_from : (o : Order) (j c : ℕ) (items : List Item) → condition_of j items ≡ Some c
+    → can_be_served o j (line c items) ≡ true
     → was_served o j items ≡ true
-was_served_from o j c items e h = ap (λ (x : Option ℕ). option_map_or (λ (d : ℕ). can_be_served o j (line d items)) x false) e ∙ h
+was_served_from o j c items e h =
+    ap (λ (x : Option ℕ). option_map_or (λ (d : ℕ). can_be_served o j (line d items)) x false) e ∙ h
 
-pub resume_there : (o : Order) (j : ℕ) (items : List Item) → was_served o j items ≡ true → is_among j (all_seats items) ≡ true
+pub resume_there : (o : Order) (j : ℕ) (items : List Item) → was_served o j items ≡ true
+    → is_among j (all_seats items) ≡ true
 resume_there o j items h = let r = resumes o j items h in among_line j r.on items (waits_there j r.on items r.waits)
 
 -- wherever it stands, it can be one that was served
 pub can_there : (o : Order) (j d : ℕ) (items : List Item) → Distinct (all_seats items) → was_served o j items ≡ true
     → is_among j (seats_in (line d items)) ≡ true → can_be_served o j (line d items) ≡ true
 can_there o j d items dis h m =
-    ap (λ (x : Option ℕ). option_map_or (λ (c : ℕ). can_be_served o j (line c items)) x false) (sym (waits_only j d items dis m)) ∙ h
+    ap (λ (x : Option ℕ). option_map_or (λ (c : ℕ). can_be_served o j (line c items)) x false)
+    (sym (waits_only j d items dis m)) ∙ h
 
 -- ---- who may be chosen was served
 
@@ -71,7 +76,8 @@ front_first j n [] l h = absurd (false≢true h)
 front_first j zero (x ∷ xs) l h = absurd (omega arith)
 front_first j (suc n) (x ∷ xs) l h = rw h refl
 
-served_there : (c : ℕ) (cs : List ℕ) (items : List Item) → services items ≡ cs → is_front c cs ≡ true → 1 ≤ services_in (line c items)
+served_there : (c : ℕ) (cs : List ℕ) (items : List Item) → services items ≡ cs → is_front c cs ≡ true
+    → 1 ≤ services_in (line c items)
 served_there c [] items is h = absurd (false≢true h)
 served_there c (d ∷ cs) items is h =
     service_there c cs items (is ∙ ap (λ (x : ℕ). x ∷ cs) (eqb-true d c h))
@@ -84,7 +90,8 @@ pub record Comes (j : ℕ) (items : List Item) : Type 0 where
   pub seat : is_front j (seats_in (line on items)) ≡ true
 
 comes_from : (j : ℕ) (items : List Item) (x : Option ℕ) → condition_of j items ≡ x
-    → option_map_or (λ c. is_front c (services items) && is_front j (seats_in (line c items))) x false ≡ true → Comes j items
+    → option_map_or (λ c. is_front c (services items) && is_front j (seats_in (line c items))) x false ≡ true
+    → Comes j items
 comes_from j items None e h = absurd (false≢true h)
 comes_from j items (Some c) e h =
     let p = and_parts (is_front c (services items)) (is_front j (seats_in (line c items))) h in
@@ -97,7 +104,8 @@ pub resume_served : (o : Order) (j : ℕ) (items : List Item) → may_resume o j
 resume_served Fifo j items h =
     let r = comes j items h in
     was_served_from Fifo j r.on items r.waits
-    (front_first j (services_in (line r.on items)) (seats_in (line r.on items)) (served_there r.on (services items) items refl r.service)
+    (front_first j (services_in (line r.on items)) (seats_in (line r.on items))
+    (served_there r.on (services items) items refl r.service)
     r.seat)
 resume_served Wake j items h = h
 resume_served Any j items h = h
@@ -105,21 +113,25 @@ resume_served Any j items h = h
 pub front_resumes : (j c : ℕ) (items : List Item) → condition_of j items ≡ Some c → is_front c (services items) ≡ true
     → is_front j (seats_in (line c items)) ≡ true → may_resume Fifo j items ≡ true
 front_resumes j c items e h k =
-    ap (λ (x : Option ℕ). option_map_or (λ (d : ℕ). is_front d (services items) && is_front j (seats_in (line d items))) x false) e
+    ap (λ (x : Option ℕ). option_map_or
+    (λ (d : ℕ). is_front d (services items) && is_front j (seats_in (line d items))) x false) e
     ∙ and_from (is_front c (services items)) (is_front j (seats_in (line c items))) h k
 
-resumes_at : (o p : Order) → o ≡ p → (j : ℕ) (items : List Item) → (was_served p j items ≡ true → may_resume p j items ≡ true)
+resumes_at : (o p : Order) → o ≡ p → (j : ℕ) (items : List Item)
+    → (was_served p j items ≡ true → may_resume p j items ≡ true)
     → was_served o j items ≡ true → may_resume o j items ≡ true
 resumes_at o p e j items f = subst (λ (x : Order). was_served x j items ≡ true → may_resume x j items ≡ true) (sym e) f
 
 -- where the order of services doesn't matter, who was served may be chosen
-pub loose_resume : (o : Order) → IsLoose o → (j : ℕ) (items : List Item) → was_served o j items ≡ true → may_resume o j items ≡ true
+pub loose_resume : (o : Order) → IsLoose o → (j : ℕ) (items : List Item) → was_served o j items ≡ true
+    → may_resume o j items ≡ true
 loose_resume o (inl e) j items h = resumes_at o Wake e j items (λ k. k) h
 loose_resume o (inr e) j items h = resumes_at o Any e j items (λ k. k) h
 
 -- ---- forward
 
-module _ (o : Order) (p q : ℕ → Bool) (j : ℕ) (items : List Item) (dis : Distinct (all_seats items)) (is : p j ≡ true) (out : q j ≡ false)
+module _ (o : Order) (p q : ℕ → Bool) (j : ℕ) (items : List Item) (dis : Distinct (all_seats items))
+    (is : p j ≡ true) (out : q j ≡ false)
     (a : AgreeBut j p q) (f : Fits o p items)
   where
     choose_here : (d : ℕ) → is_among j (seats_in (line d items)) ≡ true
@@ -151,7 +163,8 @@ module _ (o : Order) (p q : ℕ → Bool) (j : ℕ) (items : List Item) (dis : D
     pub choose_fits : Fits o q (taken_out j items)
     choose_fits = record { covers = λ d. (choose_line d).0; led = λ d. (choose_line d).1; stand = choose_stand }
 
-pub was_served_it : (o : Order) (p : ℕ → Bool) (j : ℕ) (items : List Item) → Distinct (all_seats items) → p j ≡ true → Fits o p items
+pub was_served_it : (o : Order) (p : ℕ → Bool) (j : ℕ) (items : List Item) → Distinct (all_seats items)
+    → p j ≡ true → Fits o p items
     → was_served o j items ≡ true
 was_served_it o p j items dis is f =
     let s = some_line j items (f.stand j is) in
@@ -169,7 +182,8 @@ module _ (o : Order) (q p : ℕ → Bool) (j : ℕ) (items : List Item) (dis : D
     taken_line d =
         subst (λ (k : List (Option ℕ)). Covers q 0 k × Led o q k) (line_taken j d items dis) (f.covers d, f.led d)
 
-    back_here : (d : ℕ) → is_among j (seats_in (line d items)) ≡ true → Covers p 0 (line d items) × Led o p (line d items)
+    back_here : (d : ℕ) → is_among j (seats_in (line d items)) ≡ true
+        → Covers p 0 (line d items) × Led o p (line d items)
     back_here d m =
         let l = line d items in
         let can = can_there o j d items dis may m in
@@ -179,11 +193,13 @@ module _ (o : Order) (q p : ℕ → Bool) (j : ℕ) (items : List Item) (dis : D
           led_back q p j l (distinct_line d items dis) is a behind o can t.1,
         )
 
-    back_there : (d : ℕ) → is_among j (seats_in (line d items)) ≡ false → Covers p 0 (line d items) × Led o p (line d items)
+    back_there : (d : ℕ) → is_among j (seats_in (line d items)) ≡ false
+        → Covers p 0 (line d items) × Led o p (line d items)
     back_there d m =
         let l = line d items in
         let agree : AgreeOn q p (seats_in l) = agree_apart j q p (seats_in l) a m in
-        let t : Covers q 0 l × Led o q l = subst (λ (k : List (Option ℕ)). Covers q 0 k × Led o q k) (unmoved j l m) (taken_line d) in
+        let t : Covers q 0 l
+        × Led o q l = subst (λ (k : List (Option ℕ)). Covers q 0 k × Led o q k) (unmoved j l m) (taken_line d) in
         (covers_agree q p 0 l agree t.0, led_agree o q p l agree t.1)
 
     back_line : (d : ℕ) → Covers p 0 (line d items) × Led o p (line d items)
@@ -193,7 +209,8 @@ module _ (o : Order) (q p : ℕ → Bool) (j : ℕ) (items : List Item) (dis : D
     back_stand k h =
         ⊎_elim (λ e. subst (λ (x : ℕ). is_among x (all_seats items) ≡ true) (sym e) (resume_there o j items may))
         (λ ne. less_among j k (all_seats items)
-        (subst (λ (xs : List ℕ). is_among k xs ≡ true) (all_seats_taken j items) (f.stand k (a k ne ∙ h)))) (cases_eq k j)
+        (subst (λ (xs : List ℕ). is_among k xs ≡ true) (all_seats_taken j items) (f.stand k (a k ne ∙ h))))
+        (cases_eq k j)
 
     pub unchoose : Fits o p items
     unchoose = record { covers = λ d. (back_line d).0; led = λ d. (back_line d).1; stand = back_stand }

@@ -37,7 +37,8 @@ module _ (o : Order) (p : ℕ → Bool) (s c : ℕ) (items : List Item) where
       ⊎_elim
       (λ e. subst (λ (k : List (Option ℕ)). Covers p 0 k × Led o p k) (sym (line_came s c d items e))
       (joined p 0 s (line d items) out (f.covers d), led_joined o p s (line d items) out (f.led d)))
-      (λ ne. subst (λ (k : List (Option ℕ)). Covers p 0 k × Led o p k) (sym (line_came_other s c d items ne)) (f.covers d, f.led d))
+      (λ ne. subst (λ (k : List (Option ℕ)). Covers p 0 k × Led o p k) (sym (line_came_other s c d items ne))
+      (f.covers d, f.led d))
       (cases_eq c d)
 
   among_came : (j : ℕ) → is_among j (all_seats items) ≡ true → is_among j (all_seats (items ++ Waiting s c ∷ [])) ≡ true
@@ -54,7 +55,8 @@ module _ (o : Order) (p : ℕ → Bool) (s c : ℕ) (items : List Item) where
 
   unjoin_here : Fits o p (items ++ Waiting s c ∷ []) → p s ≡ false
   unjoin_here f =
-      (joined_back p 0 s (line c items) (subst (λ (k : List (Option ℕ)). Covers p 0 k) (line_came s c c items refl) (f.covers c))).0
+      (joined_back p 0 s (line c items)
+      (subst (λ (k : List (Option ℕ)). Covers p 0 k) (line_came s c c items refl) (f.covers c))).0
 
   unjoin_line : Fits o p (items ++ Waiting s c ∷ []) → (d : ℕ) → Covers p 0 (line d items) × Led o p (line d items)
   unjoin_line f d =
@@ -63,7 +65,8 @@ module _ (o : Order) (p : ℕ → Bool) (s c : ℕ) (items : List Item) where
       subst (λ (k : List (Option ℕ)). Covers p 0 k × Led o p k) (line_came s c d items e) (f.covers d, f.led d) in
       let r = joined_back p 0 s (line d items) both.0 in
       (r.1, led_unjoined o p s (line d items) r.0 both.1))
-      (λ ne. subst (λ (k : List (Option ℕ)). Covers p 0 k × Led o p k) (line_came_other s c d items ne) (f.covers d, f.led d))
+      (λ ne. subst (λ (k : List (Option ℕ)). Covers p 0 k × Led o p k) (line_came_other s c d items ne)
+      (f.covers d, f.led d))
       (cases_eq c d)
 
   unjoin_stand : p s ≡ false → (j : ℕ) → p j ≡ true → is_among j (all_seats (items ++ Waiting s c ∷ [])) ≡ true
@@ -101,7 +104,8 @@ lapses_from o j items (Some c) e h = record { on = c; waits = e; can = h }
 pub lapses : (o : Order) (j : ℕ) (items : List Item) → may_lapse o j items ≡ true → MayLapse o j items
 lapses o j items h = lapses_from o j items (condition_of j items) refl h
 
-can_lapse : (o : Order) (p : ℕ → Bool) (j c : ℕ) (items : List Item) → is_among j (seats_in (line c items)) ≡ true → p j ≡ false
+can_lapse : (o : Order) (p : ℕ → Bool) (j c : ℕ) (items : List Item)
+    → is_among j (seats_in (line c items)) ≡ true → p j ≡ false
     → Fits o p items → can_be_unserved o j c items ≡ true
 can_lapse Fifo p j c items m out f = unserved_rest p j (line c items) m out (f.led c)
 can_lapse Wake p j c items m out f = unserved_rest p j (line c items) m out (f.led c)
@@ -116,19 +120,23 @@ may_lapse_it o p j c items dis m out f =
     ∙ can_lapse o p j c items m out f
 
 not_lapsed : (j : ℕ) (xs : List ℕ) → is_among j (without j xs) ≡ false
-not_lapsed j xs = among_filter (λ x. not (eqb x j)) j xs ∙ and_right (is_among j xs) (not (eqb j j)) (rw (same_number j) refl)
+not_lapsed j xs = among_filter (λ x. not (eqb x j)) j xs
+    ∙ and_right (is_among j xs) (not (eqb j j)) (rw (same_number j) refl)
 
 still_among : (j k : ℕ) (xs : List ℕ) → (k ≡ j → ⊥) → is_among k xs ≡ true → is_among k (without j xs) ≡ true
-still_among j k xs ne h = among_filter (λ x. not (eqb x j)) k xs ∙ and_from (is_among k xs) (not (eqb k j)) h (rw (ne_eqb k j ne) refl)
+still_among j k xs ne h = among_filter (λ x. not (eqb x j)) k xs
+    ∙ and_from (is_among k xs) (not (eqb k j)) h (rw (ne_eqb k j ne) refl)
 
 was_among : (j k : ℕ) (xs : List ℕ) → is_among k (without j xs) ≡ true → is_among k xs ≡ true
 was_among j k xs h = (and_parts (is_among k xs) (not (eqb k j)) (sym (among_filter (λ x. not (eqb x j)) k xs) ∙ h)).0
 
-pub lapse_fits : (o : Order) (p : ℕ → Bool) (j : ℕ) (items : List Item) → p j ≡ false → Fits o p items → Fits o p (without_seat j items)
+pub lapse_fits : (o : Order) (p : ℕ → Bool) (j : ℕ) (items : List Item) → p j ≡ false → Fits o p items
+    → Fits o p (without_seat j items)
 lapse_fits o p j items out f = record {
   covers = λ d. subst (λ (k : List (Option ℕ)). Covers p 0 k) (sym (line_lapsed j d items))
       (lapse_goes p j 0 (line d items) out (f.covers d));
-  led = λ d. subst (λ (k : List (Option ℕ)). Led o p k) (sym (line_lapsed j d items)) (led_lapsed o p j (line d items) out (f.led d));
+  led = λ d. subst (λ (k : List (Option ℕ)). Led o p k) (sym (line_lapsed j d items))
+      (led_lapsed o p j (line d items) out (f.led d));
   stand = λ k h. subst (λ (xs : List ℕ). is_among k xs ≡ true) (sym (all_seats_lapsed j items))
       (still_among j k (all_seats items) (λ e. false≢true (sym out ∙ subst (λ (x : ℕ). p x ≡ true) e h)) (f.stand k h));
 }
@@ -137,7 +145,9 @@ lapse_fits o p j items out f = record {
 pub unlapsed : (j : ℕ) (l : List (Option ℕ)) → is_among j (seats_in l) ≡ false → lapsed_in j l ≡ l
 unlapsed j [] h = refl
 unlapsed j (Some s ∷ l) h =
-    let ne : s ≡ j → ⊥ = λ e. false≢true (sym h ∙ subst (λ (x : ℕ). is_among x (s ∷ seats_in l) ≡ true) e (among_here s (seats_in l))) in
+    let ne : s ≡ j
+    → ⊥ = λ e. false≢true (sym h
+    ∙ subst (λ (x : ℕ). is_among x (s ∷ seats_in l) ≡ true) e (among_here s (seats_in l))) in
     let k : is_among j (seats_in l) ≡ false = rw (ne_eqb s j ne) at h in
     rw (ne_eqb s j ne) (ap (λ (x : List (Option ℕ)). Some s ∷ x) (unlapsed j l k))
 unlapsed j (None ∷ l) h = ap (λ (x : List (Option ℕ)). None ∷ x) (unlapsed j l h)
@@ -164,16 +174,19 @@ module _ (o : Order) (p : ℕ → Bool) (j : ℕ) (items : List Item) (dis : Dis
     can_where : (d : ℕ) → is_among j (seats_in (line d items)) ≡ true → CanLapse o j (line d items)
     can_where d m =
         can_from o j d items
-        (ap (λ (x : Option ℕ). option_map_or (λ (c : ℕ). can_be_unserved o j c items) x false) (sym (waits_only j d items dis m)) ∙ may)
+        (ap (λ (x : Option ℕ). option_map_or (λ (c : ℕ). can_be_unserved o j c items) x false)
+        (sym (waits_only j d items dis m)) ∙ may)
 
     unlapse_covers : (d : ℕ) → Covers p 0 (line d items)
     unlapse_covers d =
-        lapse_back p j 0 (line d items) unserved (subst (λ (k : List (Option ℕ)). Covers p 0 k) (line_lapsed j d items) (f.covers d))
+        lapse_back p j 0 (line d items) unserved
+        (subst (λ (k : List (Option ℕ)). Covers p 0 k) (line_lapsed j d items) (f.covers d))
 
     unlapse_led : (d : ℕ) → Led o p (line d items)
     unlapse_led d =
         let l = line d items in
-        let h : Led o p (lapsed_in j l) = subst (λ (k : List (Option ℕ)). Led o p k) (line_lapsed j d items) (f.led d) in
+        let h : Led o p (lapsed_in j l) =
+        subst (λ (k : List (Option ℕ)). Led o p k) (line_lapsed j d items) (f.led d) in
         ⊎_elim (λ m. led_unlapsed o p j l (distinct_line d items dis) (can_where d m) unserved h)
         (λ m. subst (λ (k : List (Option ℕ)). Led o p k) (unlapsed j l m) h) (cases_Bool (is_among j (seats_in l)))
 
@@ -186,7 +199,8 @@ module _ (o : Order) (p : ℕ → Bool) (j : ℕ) (items : List Item) (dis : Dis
           fits = record {
             covers = unlapse_covers;
             led = unlapse_led;
-            stand = λ k h. was_among j k (all_seats items) (subst (λ (xs : List ℕ). is_among k xs ≡ true) (all_seats_lapsed j items)
+            stand = λ k h. was_among j k (all_seats items)
+                (subst (λ (xs : List ℕ). is_among k xs ≡ true) (all_seats_lapsed j items)
                 (f.stand k h));
           };
         }

@@ -16,7 +16,8 @@ times-append s (x ∷ xs) ys = omega (arith, times-append s xs ys)
 pub times_filter : (p : ℕ → Bool) (s : ℕ) (xs : List ℕ) → times s (filter p xs) ≤ times s xs
 times_filter p s [] = omega arith
 times_filter p s (x ∷ xs) =
-    ⊎_elim (λ h. rw h (omega (arith, times_filter p s xs))) (λ h. rw h (omega (arith, times_filter p s xs))) (cases_Bool (p x))
+    ⊎_elim (λ h. rw h (omega (arith, times_filter p s xs))) (λ h. rw h (omega (arith, times_filter p s xs)))
+    (cases_Bool (p x))
 
 times_gone : (p : ℕ → Bool) (s : ℕ) (xs : List ℕ) → p s ≡ false → times s (filter p xs) ≡ 0
 times_gone p s [] h = refl
@@ -45,14 +46,16 @@ times_taken p j s xs m h =
 gone_it : (j : ℕ) → not (is_among j (j ∷ [])) ≡ false
 gone_it j = ap not (among_here j [])
 
-pub times_apart_one : (j s : ℕ) (xs : List ℕ) → is_among j xs ≡ true → times s (apart (j ∷ []) xs) + cond (eqb j s) 1 0 ≤ times s xs
+pub times_apart_one : (j s : ℕ) (xs : List ℕ) → is_among j xs ≡ true
+    → times s (apart (j ∷ []) xs) + cond (eqb j s) 1 0 ≤ times s xs
 times_apart_one j s xs m = times_taken (λ k. not (is_among k (j ∷ []))) j s xs m (gone_it j)
 
 pub times_less : (j s : ℕ) (xs : List ℕ) → is_among j xs ≡ true → times s (less j xs) + cond (eqb j s) 1 0 ≤ times s xs
 times_less j s [] m = absurd (false≢true m)
 times_less j s (x ∷ xs) m =
     ⊎_elim
-    (λ e. let same : ◌≡◌ {A = ℕ} (cond (eqb x s) 1 0) (cond (eqb j s) 1 0) = ap (λ (y : ℕ). cond {A = ℕ} (eqb y s) 1 0) e in
+    (λ e. let same : ◌≡◌ {A = ℕ} (cond (eqb x s) 1 0) (cond (eqb j s) 1 0) =
+    ap (λ (y : ℕ). cond {A = ℕ} (eqb y s) 1 0) e in
     rw (eq-eqb x j e) (omega (arith, same)))
     (λ ne. rw (ne_eqb x j ne) (omega (arith, times_less j s xs (among_others j x xs ne m)))) (cases_eq x j)
 
@@ -64,16 +67,20 @@ until_seats us = map (λ w. w.0) us
 seats_filter : (p : ℕ → Bool) (us : List (ℕ × ℕ)) → until_seats (filter (λ w. p w.0) us) ≡ filter p (until_seats us)
 seats_filter p [] = refl
 seats_filter p (w ∷ us) =
-    ⊎_elim (λ h. rw h (ap (λ (xs : List ℕ). w.0 ∷ xs) (seats_filter p us))) (λ h. rw h (seats_filter p us)) (cases_Bool (p w.0))
+    ⊎_elim (λ h. rw h (ap (λ (xs : List ℕ). w.0 ∷ xs) (seats_filter p us))) (λ h. rw h (seats_filter p us))
+    (cases_Bool (p w.0))
 
-pub times_untils : (p : ℕ → Bool) (s : ℕ) (us : List (ℕ × ℕ)) → times s (until_seats (filter (λ w. p w.0) us)) ≤ times s (until_seats us)
+pub times_untils : (p : ℕ → Bool) (s : ℕ) (us : List (ℕ × ℕ))
+    → times s (until_seats (filter (λ w. p w.0) us)) ≤ times s (until_seats us)
 times_untils p s us =
-    subst (λ (xs : List ℕ). times s xs ≤ times s (until_seats us)) (sym (seats_filter p us)) (times_filter p s (until_seats us))
+    subst (λ (xs : List ℕ). times s xs ≤ times s (until_seats us)) (sym (seats_filter p us))
+    (times_filter p s (until_seats us))
 
 pub untils_taken : (j s : ℕ) (us : List (ℕ × ℕ)) → is_among j (until_seats us) ≡ true
     → times s (until_seats (filter (λ w. not (eqb j w.0)) us)) + cond (eqb j s) 1 0 ≤ times s (until_seats us)
 untils_taken j s us m =
-    subst (λ (xs : List ℕ). times s xs + cond (eqb j s) 1 0 ≤ times s (until_seats us)) (sym (seats_filter (λ k. not (eqb j k)) us))
+    subst (λ (xs : List ℕ). times s xs + cond (eqb j s) 1 0 ≤ times s (until_seats us))
+    (sym (seats_filter (λ k. not (eqb j k)) us))
     (times_taken (λ k. not (eqb j k)) j s (until_seats us) m (ap not (same_number j)))
 
 pub ready_waits : (o : Object) (d : List ℕ) (j : ℕ) (us : List (ℕ × ℕ)) → is_among j (ready_of o d us) ≡ true
@@ -83,4 +90,5 @@ ready_waits o d j (w ∷ us) h =
     ⊎_elim
     (λ e. subst (λ (x : ℕ). is_among x (w.0 ∷ until_seats us) ≡ true) e (among_here w.0 (until_seats us)))
     (λ ne. among_later j w.0 (until_seats us) (ready_waits o d j us (⊎_elim
-    (λ k. among_others j w.0 (ready_of o d us) ne (rw k at h)) (λ k. rw k at h) (cases_Bool (o.holds d w.1))))) (cases_eq w.0 j)
+    (λ k. among_others j w.0 (ready_of o d us) ne (rw k at h)) (λ k. rw k at h) (cases_Bool (o.holds d w.1)))))
+    (cases_eq w.0 j)

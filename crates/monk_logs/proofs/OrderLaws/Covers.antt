@@ -1,4 +1,5 @@
--- Which seats of a line could be those that were served: each service has one of them before it, and each of them a service behind it
+-- Which seats of a line could be those that were served: each service has one of them before it,
+-- and each of them a service behind it
 use Rattle.std.proofs.Common.{◌≡◌, ℕ, ◌+◌, ◌≤◌, suc, zero, Bool, true, false, cond, not, eqb, List, [], ◌∷◌, ◌++◌, refl, sym, ap}
 use Rattle.std.proofs.Common.{◌∙◌, ◌⊎◌, inl, inr, ⊎_elim, arith, length, filter, subst, Option, Some, None}
 use Rattle.std.proofs.lemmas.Bool.{cases_eq, false≢true, ne_eqb, eq-eqb}
@@ -16,7 +17,8 @@ Covers p (suc n) (None ∷ l) = Covers p n l
 
 -- ---- only the seats of the line matter
 
-pub covers_agree : (p q : ℕ → Bool) (n : ℕ) (l : List (Option ℕ)) → AgreeOn p q (seats_in l) → Covers p n l → Covers q n l
+pub covers_agree : (p q : ℕ → Bool) (n : ℕ) (l : List (Option ℕ)) → AgreeOn p q (seats_in l) → Covers p n l
+    → Covers q n l
 covers_agree p q n [] a h = h
 covers_agree p q n (Some s ∷ l) a (inl h) =
     inl (sym (a s (among_here s (seats_in l))) ∙ h.0, covers_agree p q (suc n) l (agree_later p q s (seats_in l) a) h.1)
@@ -41,7 +43,8 @@ never_given p (Some s ∷ l) none (inl h) = false≢true (sym (none s (among_her
 never_given p (Some s ∷ l) none (inr h) = never_given p l (none_later p s (seats_in l) none) h.1
 never_given p (None ∷ l) none h = h
 
-less_given : (p : ℕ → Bool) (n : ℕ) (l : List (Option ℕ)) → NoneOf p (seats_in l) → Covers p (suc n) (l ++ None ∷ []) → Covers p n l
+less_given : (p : ℕ → Bool) (n : ℕ) (l : List (Option ℕ)) → NoneOf p (seats_in l)
+    → Covers p (suc n) (l ++ None ∷ []) → Covers p n l
 less_given p n [] none h = h
 less_given p n (Some s ∷ l) none (inl h) = absurd (false≢true (sym (none s (among_here s (seats_in l))) ∙ h.0))
 less_given p n (Some s ∷ l) none (inr h) = inr (h.0, less_given p n l (none_later p s (seats_in l) none) h.1)
@@ -49,7 +52,8 @@ less_given p zero (None ∷ l) none h = never_given p l none h
 less_given p (suc n) (None ∷ l) none h = less_given p n l none h
 
 -- a signal serves w
-pub served_more : (p q : ℕ → Bool) (w n : ℕ) (l : List (Option ℕ)) → Distinct (seats_in l) → is_among w (seats_in l) ≡ true
+pub served_more : (p q : ℕ → Bool) (w n : ℕ) (l : List (Option ℕ)) → Distinct (seats_in l)
+    → is_among w (seats_in l) ≡ true
     → p w ≡ false → q w ≡ true → AgreeBut w p q → Covers p n l → Covers q n (l ++ None ∷ [])
 served_more p q w n [] d m h k a c = absurd (false≢true m)
 served_more p q w n (Some s ∷ l) d m h k a (inl c) =
@@ -69,7 +73,8 @@ served_more p q w zero (None ∷ l) d m h k a c = absurd c
 served_more p q w (suc n) (None ∷ l) d m h k a c = served_more p q w n l d m h k a c
 
 -- whom it served could be the last of those that were served
-pub served_back : (q p : ℕ → Bool) (w n : ℕ) (l : List (Option ℕ)) → Distinct (seats_in l) → IsLast q w (seats_in l) → p w ≡ false
+pub served_back : (q p : ℕ → Bool) (w n : ℕ) (l : List (Option ℕ)) → Distinct (seats_in l)
+    → IsLast q w (seats_in l) → p w ≡ false
     → AgreeBut w q p → Covers q n (l ++ None ∷ []) → Covers p n l
 served_back q p w n [] d last h a c = absurd last
 served_back q p w n (Some s ∷ l) d (inl k) h a (inl c) =
@@ -102,13 +107,15 @@ taken_in j [] = []
 taken_in j (Some s ∷ l) = cond (eqb s j) (one_less l) (Some s ∷ taken_in j l)
 taken_in j (None ∷ l) = None ∷ taken_in j l
 
-one_goes : (p : ℕ → Bool) (n : ℕ) (l : List (Option ℕ)) → Covers p (suc n) l → (has_service l ≡ true) × Covers p n (one_less l)
+one_goes : (p : ℕ → Bool) (n : ℕ) (l : List (Option ℕ)) → Covers p (suc n) l
+    → (has_service l ≡ true) × Covers p n (one_less l)
 one_goes p n [] h = absurd (omega arith)
 one_goes p n (Some s ∷ l) (inl h) = let r = one_goes p (suc n) l h.1 in (r.0, inl (h.0, r.1))
 one_goes p n (Some s ∷ l) (inr h) = let r = one_goes p n l h.1 in (r.0, inr (h.0, r.1))
 one_goes p n (None ∷ l) h = (refl, h)
 
-one_back : (p : ℕ → Bool) (n : ℕ) (l : List (Option ℕ)) → has_service l ≡ true → Covers p n (one_less l) → Covers p (suc n) l
+one_back : (p : ℕ → Bool) (n : ℕ) (l : List (Option ℕ)) → has_service l ≡ true → Covers p n (one_less l)
+    → Covers p (suc n) l
 one_back p n [] is h = absurd (false≢true is)
 one_back p n (Some s ∷ l) is (inl h) = inl (h.0, one_back p (suc n) l is h.1)
 one_back p n (Some s ∷ l) is (inr h) = inr (h.0, one_back p n l is h.1)
@@ -129,7 +136,8 @@ pub record Goes (q : ℕ → Bool) (j n : ℕ) (l : List (Option ℕ)) : Type 0 
   pub behind : has_service_behind j l ≡ true
   pub covers : Covers q n (taken_in j l)
 
-goes_here : (p q : ℕ → Bool) (j s n : ℕ) (l : List (Option ℕ)) → s ≡ j → is_among s (seats_in l) ≡ false → AgreeBut j p q
+goes_here : (p q : ℕ → Bool) (j s n : ℕ) (l : List (Option ℕ)) → s ≡ j → is_among s (seats_in l) ≡ false
+    → AgreeBut j p q
     → Covers p (suc n) l → Goes q j n (Some s ∷ l)
 goes_here p q j s n l e d a c =
     let out : is_among j (seats_in l) ≡ false = subst (λ (x : ℕ). is_among x (seats_in l) ≡ false) e d in
@@ -143,7 +151,8 @@ goes_later : (q : ℕ → Bool) (j s n : ℕ) (l : List (Option ℕ)) → (s ≡
     → Covers q n (Some s ∷ taken_in j l) → Goes q j n (Some s ∷ l)
 goes_later q j s n l ne h c = record { behind = rw (ne_eqb s j ne) h; covers = rw (ne_eqb s j ne) c }
 
-pub chosen_goes : (p q : ℕ → Bool) (j n : ℕ) (l : List (Option ℕ)) → Distinct (seats_in l) → is_among j (seats_in l) ≡ true
+pub chosen_goes : (p q : ℕ → Bool) (j n : ℕ) (l : List (Option ℕ)) → Distinct (seats_in l)
+    → is_among j (seats_in l) ≡ true
     → p j ≡ true → AgreeBut j p q → Covers p n l → Goes q j n l
 chosen_goes p q j n [] d m h a c = absurd (false≢true m)
 chosen_goes p q j n (Some s ∷ l) d m h a (inl c) =
@@ -169,17 +178,20 @@ back_here q p j s n l e d h a m c =
       one_back p n l m (one_less_agree q p n l (agree_apart j q p (seats_in l) a out) c),
     )
 
-back_later : (q p : ℕ → Bool) (j s n : ℕ) (l : List (Option ℕ)) → q s ≡ p s → ((k : ℕ) → Covers q k (taken_in j l) → Covers p k l)
+back_later : (q p : ℕ → Bool) (j s n : ℕ) (l : List (Option ℕ)) → q s ≡ p s
+    → ((k : ℕ) → Covers q k (taken_in j l) → Covers p k l)
     → Covers q n (Some s ∷ taken_in j l) → Covers p n (Some s ∷ l)
 back_later q p j s n l a more (inl c) = inl (sym a ∙ c.0, more (suc n) c.1)
 back_later q p j s n l a more (inr c) = inr (sym a ∙ c.0, more n c.1)
 
-pub chosen_back : (q p : ℕ → Bool) (j n : ℕ) (l : List (Option ℕ)) → Distinct (seats_in l) → has_service_behind j l ≡ true → p j ≡ true
+pub chosen_back : (q p : ℕ → Bool) (j n : ℕ) (l : List (Option ℕ)) → Distinct (seats_in l)
+    → has_service_behind j l ≡ true → p j ≡ true
     → AgreeBut j q p → Covers q n (taken_in j l) → Covers p n l
 chosen_back q p j n [] d m h a c = absurd (false≢true m)
 chosen_back q p j n (Some s ∷ l) d m h a c =
     ⊎_elim (λ e. back_here q p j s n l e d.0 h a (rw (eq-eqb s j e) at m) (rw (eq-eqb s j e) at c))
-    (λ ne. back_later q p j s n l (a s ne) (λ k. chosen_back q p j k l d.1 (rw (ne_eqb s j ne) at m) h a) (rw (ne_eqb s j ne) at c))
+    (λ ne. back_later q p j s n l (a s ne) (λ k. chosen_back q p j k l d.1 (rw (ne_eqb s j ne) at m) h a)
+    (rw (ne_eqb s j ne) at c))
     (cases_eq s j)
 chosen_back q p j zero (None ∷ l) d m h a c = absurd c
 chosen_back q p j (suc n) (None ∷ l) d m h a c = chosen_back q p j n l d m h a c
@@ -193,7 +205,8 @@ joined p n s (Some x ∷ l) f (inr h) = inr (h.0, joined p n s l f h.1)
 joined p zero s (None ∷ l) f h = absurd h
 joined p (suc n) s (None ∷ l) f h = joined p n s l f h
 
-pub joined_back : (p : ℕ → Bool) (n s : ℕ) (l : List (Option ℕ)) → Covers p n (l ++ Some s ∷ []) → (p s ≡ false) × Covers p n l
+pub joined_back : (p : ℕ → Bool) (n s : ℕ) (l : List (Option ℕ)) → Covers p n (l ++ Some s ∷ [])
+    → (p s ≡ false) × Covers p n l
 joined_back p n s [] (inl h) = let none : suc n ≡ 0 = h.1 in absurd (omega arith)
 joined_back p n s [] (inr h) = (h.0, h.1)
 joined_back p n s (Some x ∷ l) (inl h) = let r = joined_back p (suc n) s l h.1 in (r.0, inl (h.0, r.1))
@@ -208,7 +221,8 @@ lapsed_in j [] = []
 lapsed_in j (Some s ∷ l) = cond (eqb s j) (lapsed_in j l) (Some s ∷ lapsed_in j l)
 lapsed_in j (None ∷ l) = None ∷ lapsed_in j l
 
-pub lapse_goes : (p : ℕ → Bool) (j n : ℕ) (l : List (Option ℕ)) → p j ≡ false → Covers p n l → Covers p n (lapsed_in j l)
+pub lapse_goes : (p : ℕ → Bool) (j n : ℕ) (l : List (Option ℕ)) → p j ≡ false → Covers p n l
+    → Covers p n (lapsed_in j l)
 lapse_goes p j n [] f h = h
 lapse_goes p j n (Some s ∷ l) f (inl h) =
     ⊎_elim (λ e. absurd (false≢true (sym (subst (λ (x : ℕ). p x ≡ false) (sym e) f) ∙ h.0)))
@@ -226,7 +240,8 @@ lapse_before : (p : ℕ → Bool) (j s n : ℕ) (l : List (Option ℕ)) → ((k 
 lapse_before p j s n l more (inl h) = inl (h.0, more (suc n) h.1)
 lapse_before p j s n l more (inr h) = inr (h.0, more n h.1)
 
-pub lapse_back : (p : ℕ → Bool) (j n : ℕ) (l : List (Option ℕ)) → p j ≡ false → Covers p n (lapsed_in j l) → Covers p n l
+pub lapse_back : (p : ℕ → Bool) (j n : ℕ) (l : List (Option ℕ)) → p j ≡ false → Covers p n (lapsed_in j l)
+    → Covers p n l
 lapse_back p j n [] f h = h
 lapse_back p j n (Some s ∷ l) f h =
     ⊎_elim

@@ -32,7 +32,8 @@ taken : (o : Order) (m : Monitor) (b c : Board) (test : Bool) (steps : List Step
     → is_some (board_from o m (Some c) steps) ≡ true → is_some (board_from o m (cond test (Some c) None) steps) ≡ true
 taken o m b c test steps h k = rw h k
 
-runs_taken : (o : Order) → IsLoose o → (m : Monitor) (steps : List Step) (b : Board) (t : Situation) → Sound b → Stands o b t
+runs_taken : (o : Order) → IsLoose o → (m : Monitor) (steps : List Step) (b : Board) (t : Situation) → Sound b
+    → Stands o b t
     → Runs o m t steps → is_some (board_from o m (Some b) steps) ≡ true
 unfolding board_from
 runs_taken o loose m [] b t sound h r = refl
@@ -40,7 +41,8 @@ runs_taken o loose m (Did e ∷ steps) b t sound h r =
     let f = follows o loose m b t e r.served r.next sound h r.move in
     taken o m b (board_after m.object b e) (board_reason o m b e == 0) steps
     (eq-eqb (board_reason o m b e) 0 (reason_none o m b e f.passes))
-    (runs_taken o loose m steps (board_after m.object b e) r.next (sound_after o m b e sound f.passes) f.stands r.goes_on)
+    (runs_taken o loose m steps (board_after m.object b e) r.next
+    (sound_after o m b e sound f.passes) f.stands r.goes_on)
 runs_taken o loose m (Lapsed s ∷ steps) b t sound h r =
     let f = lapse_follows o b t s r.next sound h r.lapse in
     taken o m b (board_lapse b s) (is_open b.turn && may_lapse o s b.items) steps
@@ -60,7 +62,8 @@ unfolding board_from
 none_is_none o m steps h = false≢true h
 
 went_on : (o : Order) (m : Monitor) (c : Board) (test : Bool) (steps : List Step)
-    → is_some (board_from o m (cond test (Some c) None) steps) ≡ true → (test ≡ true) × (is_some (board_from o m (Some c) steps) ≡ true)
+    → is_some (board_from o m (cond test (Some c) None) steps) ≡ true
+    → (test ≡ true) × (is_some (board_from o m (Some c) steps) ≡ true)
 went_on o m c true steps h = (refl, h)
 went_on o m c false steps h = absurd (none_is_none o m steps h)
 
@@ -76,7 +79,12 @@ taken_runs o m loose (Did e ∷ steps) b sound h =
     record {
       served = l.waiters;
       fits = l.fits;
-      runs = record { served = l.served; next = standing (board_after m.object b e) more.served; move = l.move; goes_on = more.runs };
+      runs = record {
+        served = l.served;
+        next = standing (board_after m.object b e) more.served;
+        move = l.move;
+        goes_on = more.runs;
+      };
     }
 taken_runs o m loose (Lapsed s ∷ steps) b sound h =
     let w = went_on o m (board_lapse b s) (is_open b.turn && may_lapse o s b.items) steps h in
@@ -91,7 +99,8 @@ taken_runs o m loose (Lapsed s ∷ steps) b sound h =
 
 -- ---- in order of arrival
 
-runs_taken_in_turn : (m : Monitor) (steps : List Step) (b : Board) (t : Situation) → Sound b → Alike b t → Runs Fifo m t steps
+runs_taken_in_turn : (m : Monitor) (steps : List Step) (b : Board) (t : Situation) → Sound b → Alike b t
+    → Runs Fifo m t steps
     → is_some (board_from Fifo m (Some b) steps) ≡ true
 unfolding board_from
 runs_taken_in_turn m [] b t sound h r = refl
@@ -99,7 +108,8 @@ runs_taken_in_turn m (Did e ∷ steps) b t sound h r =
     let f = follows_in_turn m b t e r.served r.next sound h r.move in
     taken Fifo m b (board_after m.object b e) (board_reason Fifo m b e == 0) steps
     (eq-eqb (board_reason Fifo m b e) 0 (reason_none Fifo m b e f.passes))
-    (runs_taken_in_turn m steps (board_after m.object b e) r.next (sound_after Fifo m b e sound f.passes) f.alike r.goes_on)
+    (runs_taken_in_turn m steps (board_after m.object b e) r.next
+    (sound_after Fifo m b e sound f.passes) f.alike r.goes_on)
 runs_taken_in_turn m (Lapsed s ∷ steps) b t sound h r =
     let f = lapse_in_turn b t s r.next sound h r.lapse in
     taken Fifo m b (board_lapse b s) (is_open b.turn && may_lapse Fifo s b.items) steps
@@ -119,7 +129,8 @@ taken_runs_in_turn m (Did e ∷ steps) b t sound h k =
       served = l.served;
       next = l.next;
       move = l.move;
-      goes_on = taken_runs_in_turn m steps (board_after m.object b e) l.next (sound_after Fifo m b e sound p) f.alike w.1;
+      goes_on =
+          taken_runs_in_turn m steps (board_after m.object b e) l.next (sound_after Fifo m b e sound p) f.alike w.1;
     }
 taken_runs_in_turn m (Lapsed s ∷ steps) b t sound h k =
     let w = went_on Fifo m (board_lapse b s) (is_open b.turn && may_lapse Fifo s b.items) steps k in
@@ -156,19 +167,24 @@ pub run_taken : (o : Order) (m : Monitor) (steps : List Step) → IsRun o m step
     → is_some (board_steps o m (opening_board m) steps) ≡ true
 run_taken o m steps r =
     ⊎_elim
-    (λ is. subst (λ (x : Order). Runs x m (opening_situation m) steps → is_some (board_from x m (Some (opening_board m)) steps) ≡ true)
+    (λ is. subst (λ (x : Order). Runs x m (opening_situation m) steps
+    → is_some (board_from x m (Some (opening_board m)) steps) ≡ true)
     (sym is) (runs_taken_in_turn m steps (opening_board m) (opening_situation m) (sound_opening m) (opening_alike m)) r)
-    (λ loose. runs_taken o loose m steps (opening_board m) (opening_situation m) (sound_opening m) (opening_stands o m) r) (loose_or_not o)
+    (λ loose. runs_taken o loose m steps (opening_board m) (opening_situation m) (sound_opening m)
+    (opening_stands o m) r) (loose_or_not o)
 
 loose_run : (o : Order) → IsLoose o → (m : Monitor) (steps : List Step)
     → is_some (board_steps o m (opening_board m) steps) ≡ true → IsRun o m steps
 loose_run o loose m steps h =
     let told = taken_runs o m loose steps (opening_board m) (sound_opening m) h in
-    subst (λ (ws : List ℕ). Runs o m (standing (opening_board m) ws) steps) (nobody_there told.served told.fits.stand) told.runs
+    subst (λ (ws : List ℕ). Runs o m (standing (opening_board m) ws) steps)
+    (nobody_there told.served told.fits.stand) told.runs
 
-pub taken_run : (o : Order) (m : Monitor) (steps : List Step) → is_some (board_steps o m (opening_board m) steps) ≡ true → IsRun o m steps
+pub taken_run : (o : Order) (m : Monitor) (steps : List Step)
+    → is_some (board_steps o m (opening_board m) steps) ≡ true → IsRun o m steps
 taken_run o m steps h =
     ⊎_elim
-    (λ is. subst (λ (x : Order). is_some (board_from x m (Some (opening_board m)) steps) ≡ true → Runs x m (opening_situation m) steps)
+    (λ is. subst (λ (x : Order). is_some (board_from x m (Some (opening_board m)) steps) ≡ true
+    → Runs x m (opening_situation m) steps)
     (sym is) (taken_runs_in_turn m steps (opening_board m) (opening_situation m) (sound_opening m) (opening_alike m)) h)
     (λ loose. loose_run o loose m steps h) (loose_or_not o)

@@ -20,7 +20,8 @@ pub record Fits (o : Order) (p : ℕ → Bool) (items : List Item) : Type 0 wher
   pub led : (c : ℕ) → Led o p (line c items)
   pub stand : (j : ℕ) → p j ≡ true → is_among j (all_seats items) ≡ true
 
-pub fits_same : (o : Order) (p q : ℕ → Bool) (items : List Item) → ((j : ℕ) → p j ≡ q j) → Fits o p items → Fits o q items
+pub fits_same : (o : Order) (p q : ℕ → Bool) (items : List Item) → ((j : ℕ) → p j ≡ q j) → Fits o p items
+    → Fits o q items
 fits_same o p q items a f = record {
   covers = λ c. covers_agree p q 0 (line c items) (λ j h. a j) (f.covers c);
   led = λ c. led_agree o p q (line c items) (λ j h. a j) (f.led c);
@@ -34,7 +35,8 @@ as_many p l h = omega (arith, covers_count p 0 l h, length-drop (services_in l) 
 -- ---- the line behind a service
 
 pub line_one : (c d : ℕ) (items : List Item) → c ≡ d → line d (items ++ Service c ∷ []) ≡ line d items ++ None ∷ []
-line_one c d items e = line-append d items (Service c ∷ []) ∙ ap (λ (l : List (Option ℕ)). line d items ++ l) (line_given c d (0 ∷ []) e)
+line_one c d items e = line-append d items (Service c ∷ [])
+    ∙ ap (λ (l : List (Option ℕ)). line d items ++ l) (line_given c d (0 ∷ []) e)
 
 pub line_one_other : (c d : ℕ) (items : List Item) → (c ≡ d → ⊥) → line d (items ++ Service c ∷ []) ≡ line d items
 line_one_other c d items ne =
@@ -47,32 +49,38 @@ all_seats_one c items = all_seats-append items (Service c ∷ []) ∙ append-nil
 pub seats_line_one : (c : ℕ) (items : List Item) → seats_in (line c (items ++ Service c ∷ [])) ≡ seats_in (line c items)
 seats_line_one c items = ap seats_in (line_one c c items refl) ∙ seats_one_more (line c items)
 
-pub not_elsewhere : (w c d : ℕ) (items : List Item) → Distinct (all_seats items) → is_among w (seats_in (line c items)) ≡ true
+pub not_elsewhere : (w c d : ℕ) (items : List Item) → Distinct (all_seats items)
+    → is_among w (seats_in (line c items)) ≡ true
     → (c ≡ d → ⊥) → is_among w (seats_in (line d items)) ≡ false
 not_elsewhere w c d items is m ne = false_from_ne_true _ (λ k. ne (one_line w c d items is m k))
 
 -- ---- a signal serves w
 
 module _ (o : Order) (p q : ℕ → Bool) (w c : ℕ) (items : List Item) (dis : Distinct (all_seats items))
-    (may : may_be_served o w (others p (line c items)) ≡ true) (is : q w ≡ true) (a : AgreeBut w p q) (f : Fits o p items)
+    (may : may_be_served o w (others p (line c items)) ≡ true) (is : q w ≡ true) (a : AgreeBut w p q)
+    (f : Fits o p items)
   where
     there : (is_among w (seats_in (line c items)) ≡ true) × (p w ≡ false)
     there = may_be_there o p w (line c items) may
 
-    serve_here : (d : ℕ) → c ≡ d → Covers q 0 (line d (items ++ Service c ∷ [])) × Led o q (line d (items ++ Service c ∷ []))
+    serve_here : (d : ℕ) → c ≡ d
+        → Covers q 0 (line d (items ++ Service c ∷ [])) × Led o q (line d (items ++ Service c ∷ []))
     serve_here d e =
         let l = line d items in
-        let m : may_be_served o w (others p l) ≡ true = subst (λ (x : ℕ). may_be_served o w (others p (line x items)) ≡ true) e may in
+        let m : may_be_served o w (others p l) ≡ true =
+        subst (λ (x : ℕ). may_be_served o w (others p (line x items)) ≡ true) e may in
         let t = may_be_there o p w l m in
         subst (λ (k : List (Option ℕ)). Covers q 0 k × Led o q k) (sym (line_one c d items e)) (
           served_more p q w 0 l (distinct_line d items dis) t.0 t.1 is a (f.covers d),
           led_served p q w l (distinct_line d items dis) o m t.1 is a (f.led d),
         )
 
-    serve_there : (d : ℕ) → (c ≡ d → ⊥) → Covers q 0 (line d (items ++ Service c ∷ [])) × Led o q (line d (items ++ Service c ∷ []))
+    serve_there : (d : ℕ) → (c ≡ d → ⊥)
+        → Covers q 0 (line d (items ++ Service c ∷ [])) × Led o q (line d (items ++ Service c ∷ []))
     serve_there d ne =
         let l = line d items in
-        let agree : AgreeOn p q (seats_in l) = agree_apart w p q (seats_in l) a (not_elsewhere w c d items dis there.0 ne) in
+        let agree : AgreeOn p q (seats_in l) =
+        agree_apart w p q (seats_in l) a (not_elsewhere w c d items dis there.0 ne) in
         subst (λ (k : List (Option ℕ)). Covers q 0 k × Led o q k) (sym (line_one_other c d items ne))
         (covers_agree p q 0 l agree (f.covers d), led_agree o p q l agree (f.led d))
 

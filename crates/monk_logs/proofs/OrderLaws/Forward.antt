@@ -53,7 +53,8 @@ pub with_it : (w : ℕ) (vs : List ℕ) → is_among w (vs ++ w ∷ []) ≡ true
 with_it w vs = among-append w vs (w ∷ []) ∙ or_right (is_among w vs) (is_among w (w ∷ [])) (among_here w [])
 
 pub with_other : (w : ℕ) (vs : List ℕ) → AgreeBut w (among vs) (among (vs ++ w ∷ []))
-with_other w vs j ne = or-false (is_among j vs) (is_among j (w ∷ [])) (among_one w j ne) ∙ sym (among-append j vs (w ∷ []))
+with_other w vs j ne = or-false (is_among j vs) (is_among j (w ∷ [])) (among_one w j ne)
+    ∙ sym (among-append j vs (w ∷ []))
 
 module _ (o : Order) (b : Board) (t : Situation) (dis : Distinct (all_seats b.items)) (h : Stands o b t) where
   none_served : (ws : List ℕ) → ws ≡ [] → Fits o (among (t.waiters ++ ws)) (b.items ++ [])
@@ -68,16 +69,20 @@ module _ (o : Order) (b : Board) (t : Situation) (dis : Distinct (all_seats b.it
       let there : may_be_served o w (others (among t.waiters) (line c b.items)) ≡ true =
       subst (λ (xs : List ℕ). may_be_served o w xs ≡ true) (h.condition c) may in
       subst (λ (xs : List ℕ). Fits o (among (t.waiters ++ xs)) (b.items ++ Service c ∷ [])) (sym e)
-      (serve_one o (among t.waiters) (among (t.waiters ++ w ∷ [])) w c b.items dis there (with_it w t.waiters) (with_other w t.waiters)
+      (serve_one o (among t.waiters) (among (t.waiters ++ w ∷ [])) w c b.items dis there (with_it w t.waiters)
+      (with_other w t.waiters)
       h.fits)
 
-  any_at : (c : ℕ) (ws queue un : List ℕ) → t.condition c ≡ queue → unserved_in (line c b.items) ≡ un → ServesAny o queue ws
+  any_at : (c : ℕ) (ws queue un : List ℕ) → t.condition c ≡ queue → unserved_in (line c b.items) ≡ un
+      → ServesAny o queue ws
       → Fits o (among (t.waiters ++ ws)) (b.items ++ map (λ s. Service c) (take 1 un))
   any_at c ws [] [] e f s = none_served ws s
   any_at c ws [] (y ∷ ys) e f s =
-      absurd (true≢false (ap (λ (xs : List ℕ). is_empty xs) (sym e) ∙ (empty_condition o b t h c ∙ ap (λ (xs : List ℕ). is_empty xs) f)))
+      absurd (true≢false (ap (λ (xs : List ℕ). is_empty xs) (sym e)
+      ∙ (empty_condition o b t h c ∙ ap (λ (xs : List ℕ). is_empty xs) f)))
   any_at c ws (x ∷ xs) [] e f s =
-      absurd (false≢true (ap (λ (ys : List ℕ). is_empty ys) (sym e) ∙ (empty_condition o b t h c ∙ ap (λ (ys : List ℕ). is_empty ys) f)))
+      absurd (false≢true (ap (λ (ys : List ℕ). is_empty ys) (sym e)
+      ∙ (empty_condition o b t h c ∙ ap (λ (ys : List ℕ). is_empty ys) f)))
   any_at c ws (x ∷ xs) (y ∷ ys) e f s =
       one_served c s.seat ws s.is_it (subst (λ (zs : List ℕ). may_be_served o s.seat zs ≡ true) (sym e) s.may_be)
 
@@ -90,9 +95,12 @@ module _ (o : Order) (b : Board) (t : Situation) (dis : Distinct (all_seats b.it
   all_served c ws e =
       let served = serve_all o (among t.waiters) c ws b.items dis (sym (e ∙ h.condition c)) h.fits in
       let many : length ws ≡ length (unserved_in (line c b.items)) =
-      ap (λ (xs : List ℕ). length xs) (e ∙ h.condition c) ∙ as_many (among t.waiters) (line c b.items) (h.fits.covers c) in
-      subst (λ (xs : List Item). Fits o (among (t.waiters ++ ws)) (b.items ++ xs)) (same_services c ws (unserved_in (line c b.items)) many)
-      (fits_same o (λ j. among t.waiters j || is_among j ws) (among (t.waiters ++ ws)) (b.items ++ map (λ s. Service c) ws)
+      ap (λ (xs : List ℕ). length xs) (e ∙ h.condition c)
+      ∙ as_many (among t.waiters) (line c b.items) (h.fits.covers c) in
+      subst (λ (xs : List Item). Fits o (among (t.waiters ++ ws)) (b.items ++ xs))
+      (same_services c ws (unserved_in (line c b.items)) many)
+      (fits_same o (λ j. among t.waiters j || is_among j ws) (among (t.waiters ++ ws))
+      (b.items ++ map (λ s. Service c) ws)
       (λ j. sym (among-append j t.waiters ws)) served)
 
   pub served : (e : Event) (ws : List ℕ) → Serves o t.condition e ws → Fits o (among (t.waiters ++ ws)) (items_with b e)
@@ -110,18 +118,24 @@ module _ (o : Order) (b : Board) (t : Situation) (dis : Distinct (all_seats b.it
 -- ---- who goes on, and who comes
 
 pub chosen_fits : (o : Order) (ws vs : List ℕ) (n : Option Next) (items : List Item) → Distinct (all_seats items)
-    → ((j : ℕ) → is_among j vs ≡ is_among j (apart (chosen_waiter n) ws)) → ((j : ℕ) → n ≡ Some (next.Waiter j) → is_among j ws ≡ true)
+    → ((j : ℕ) → is_among j vs ≡ is_among j (apart (chosen_waiter n) ws))
+    → ((j : ℕ) → n ≡ Some (next.Waiter j) → is_among j ws ≡ true)
     → Fits o (among ws) items → Fits o (among vs) (chosen_out n items)
 chosen_fits o ws vs None items dis a is f = fits_same o (among ws) (among vs) items (λ j. sym (a j ∙ apart_none j ws)) f
-chosen_fits o ws vs (Some next.Stay) items dis a is f = fits_same o (among ws) (among vs) items (λ j. sym (a j ∙ apart_none j ws)) f
-chosen_fits o ws vs (Some next.Entry) items dis a is f = fits_same o (among ws) (among vs) items (λ j. sym (a j ∙ apart_none j ws)) f
+chosen_fits o ws vs (Some next.Stay) items dis a is f =
+    fits_same o (among ws) (among vs) items (λ j. sym (a j ∙ apart_none j ws)) f
+chosen_fits o ws vs (Some next.Entry) items dis a is f =
+    fits_same o (among ws) (among vs) items (λ j. sym (a j ∙ apart_none j ws)) f
 chosen_fits o ws vs (Some (next.Waiter j)) items dis a is f =
-    choose_fits o (among ws) (among vs) j items dis (is j refl) (a j ∙ apart_it j ws) (λ k ne. sym (a k ∙ apart_other j k ws ne)) f
+    choose_fits o (among ws) (among vs) j items dis (is j refl) (a j ∙ apart_it j ws)
+    (λ k ne. sym (a k ∙ apart_other j k ws ne)) f
 chosen_fits o ws vs (Some (next.Signaller j)) items dis a is f =
     fits_same o (among ws) (among vs) items (λ k. sym (a k ∙ apart_none k ws)) f
-chosen_fits o ws vs (Some (next.Until j)) items dis a is f = fits_same o (among ws) (among vs) items (λ k. sym (a k ∙ apart_none k ws)) f
+chosen_fits o ws vs (Some (next.Until j)) items dis a is f =
+    fits_same o (among ws) (among vs) items (λ k. sym (a k ∙ apart_none k ws)) f
 
-came_fits : (o : Order) (p : ℕ → Bool) (v : ℕ) (items : List Item) (x : Option ℕ) → ((d : ℕ) → x ≡ Some d → p v ≡ false) → Fits o p items
+came_fits : (o : Order) (p : ℕ → Bool) (v : ℕ) (items : List Item) (x : Option ℕ)
+    → ((d : ℕ) → x ≡ Some d → p v ≡ false) → Fits o p items
     → Fits o p (items ++ option_map_or (λ d. Waiting v d ∷ []) x [])
 came_fits o p v items None out f = subst (λ (xs : List Item). Fits o p xs) (sym (append-nil items)) f
 came_fits o p v items (Some d) out f = join o p v d items (out d refl) f
@@ -137,7 +151,8 @@ pub record Follows (o : Order) (m : Monitor) (b : Board) (e : Event) (u : Situat
   pub passes : Passes o m b e
   pub stands : Stands o (board_after m.object b e) u
 
-module _ (o : Order) (loose : IsLoose o) (m : Monitor) (b : Board) (t : Situation) (e : Event) (ws : List ℕ) (u : Situation)
+module _ (o : Order) (loose : IsLoose o) (m : Monitor) (b : Board) (t : Situation) (e : Event) (ws : List ℕ)
+    (u : Situation)
     (sound : Sound b) (h : Stands o b t) (move : IsMove o m t e ws u)
   where
     fit : Fits o (among (t.waiters ++ ws)) (items_with b e)
@@ -166,20 +181,24 @@ module _ (o : Order) (loose : IsLoose o) (m : Monitor) (b : Board) (t : Situatio
       right_reply = sym (reply_same o m.object b t e h) ∙ move.right_reply;
       permitted = permits_like m.kind (must_stay m.object (sight b) e) (chances o (queues_with m.object t e ws))
           (board_chances o m.object b e) e like
-          (subst (λ (x : Bool). permits_by m.kind x (chances o (queues_with m.object t e ws)) e ≡ true) (stay_same o m.object b t e h)
+          (subst (λ (x : Bool). permits_by m.kind x (chances o (queues_with m.object t e ws)) e ≡ true)
+          (stay_same o m.object b t e h)
           move.permitted);
     }
 
     chosen_there : (j : ℕ) → next_of e ≡ Some (next.Waiter j) → is_among j (t.waiters ++ ws) ≡ true
     chosen_there j is =
         may_go_among o j (t.waiters ++ ws)
-        (waiter_permitted m.kind (must_stay m.object t e) (chances o (queues_with m.object t e ws)) e j move.permitted is)
+        (waiter_permitted m.kind (must_stay m.object t e)
+        (chances o (queues_with m.object t e ws)) e j move.permitted is)
 
     rest : (j : ℕ) → is_among j u.waiters ≡ is_among j (apart (chosen_waiter (next_of e)) (t.waiters ++ ws))
     rest = are_among o u.waiters (apart (chosen_waiter (next_of e)) (t.waiters ++ ws)) move.comes_to.waiters
 
     chosen_fit : Fits o (among u.waiters) (chosen_out (next_of e) (items_with b e))
-    chosen_fit = chosen_fits o (t.waiters ++ ws) u.waiters (next_of e) (items_with b e) (distinct_with b e sound) rest chosen_there fit
+    chosen_fit =
+        chosen_fits o (t.waiters ++ ws) u.waiters (next_of e) (items_with b e)
+        (distinct_with b e sound) rest chosen_there fit
 
     comer_out : (d : ℕ) → waits_on e ≡ Some d → is_among (seat_of e) u.waiters ≡ false
     comer_out d is =
@@ -191,20 +210,24 @@ module _ (o : Order) (loose : IsLoose o) (m : Monitor) (b : Board) (t : Situatio
         move.comes_to.condition c
         ∙ (ap (λ (xs : List ℕ). apart ws xs ++ waiting_by c e) (h.condition c)
         ∙ (ap (λ (xs : List ℕ). xs ++ waiting_by c e) (sym (apart_twice t.waiters ws (seats_in (line c b.items))))
-        ∙ sym (condition_after m b e (t.waiters ++ ws) u.waiters c (distinct_with b e sound) rest chosen_there comer_out)))
+        ∙ sym (condition_after m b e (t.waiters ++ ws) u.waiters c
+        (distinct_with b e sound) rest chosen_there comer_out)))
 
     move_stands : Stands o (board_after m.object b e) u
     move_stands = record {
-      fits = came_fits o (among u.waiters) (seat_of e) (chosen_out (next_of e) (items_with b e)) (waits_on e) comer_out chosen_fit;
+      fits = came_fits o (among u.waiters) (seat_of e) (chosen_out (next_of e) (items_with b e))
+          (waits_on e) comer_out chosen_fit;
       condition = condition_stands;
       signallers = move.comes_to.signallers
-          ∙ (ap (λ (xs : List ℕ). apart (taken_signaller (next_of e) xs) (t.signallers ++ signals t.condition e)) (signals_same o b t e h)
+          ∙ (ap (λ (xs : List ℕ). apart (taken_signaller (next_of e) xs)
+          (t.signallers ++ signals t.condition e)) (signals_same o b t e h)
           ∙ ap (λ (xs : List ℕ). apart (taken_signaller (next_of e) (signals (sight b).condition e)) xs) sigs_same);
       untils = move.comes_to.untils
           ∙ ap (λ (us : List (ℕ × ℕ)). filter (λ w. not (chooses e w)) us ++ waits_until e) h.untils;
       state = move.comes_to.state ∙ ap (λ (d : List ℕ). data_after m.object d e) h.state;
       turn = move.comes_to.turn;
-      inside = λ j. move.comes_to.inside j ∙ ap (λ (x : Bool). (x && not (is_exit_of j e)) || is_enter_of j e) (h.inside j);
+      inside = λ j. move.comes_to.inside j
+          ∙ ap (λ (x : Bool). (x && not (is_exit_of j e)) || is_enter_of j e) (h.inside j);
       begun = move.comes_to.begun;
     }
 

@@ -1,4 +1,5 @@
--- Each service has a seat of its own before it: what changes a line keeps that, and where it holds somebody can be told as served
+-- Each service has a seat of its own before it: what changes a line keeps that, and where it holds
+-- somebody can be told as served
 use Rattle.std.proofs.Common.{◌≡◌, ℕ, ◌+◌, ◌<◌, ◌≤◌, suc, zero, Bool, true, List, [], ◌∷◌, ◌++◌, refl, sym, ap, ◌⊎◌}
 use Rattle.std.proofs.Common.{inl, inr, ⊎_elim, arith, take, drop, length, Option, Some, None}
 use Rattle.std.proofs.lemmas.Bool.{cases_eq, false≢true, ne_eqb, eq-eqb}
@@ -43,12 +44,14 @@ keeps_given n (Some x ∷ l) h lt = keeps_given (suc n) l h (omega arith)
 keeps_given zero (None ∷ l) h lt = h
 keeps_given (suc n) (None ∷ l) h lt = keeps_given n l h (omega arith)
 
-keeps_one_less : (n : ℕ) (l : List (Option ℕ)) → keeps_up (suc n) l ≡ true → has_service l ≡ true → keeps_up n (one_less l) ≡ true
+keeps_one_less : (n : ℕ) (l : List (Option ℕ)) → keeps_up (suc n) l ≡ true → has_service l ≡ true
+    → keeps_up n (one_less l) ≡ true
 keeps_one_less n [] h is = refl
 keeps_one_less n (Some s ∷ l) h is = keeps_one_less (suc n) l h is
 keeps_one_less n (None ∷ l) h is = h
 
-pub keeps_taken : (j n : ℕ) (l : List (Option ℕ)) → keeps_up n l ≡ true → has_service_behind j l ≡ true → keeps_up n (taken_in j l) ≡ true
+pub keeps_taken : (j n : ℕ) (l : List (Option ℕ)) → keeps_up n l ≡ true → has_service_behind j l ≡ true
+    → keeps_up n (taken_in j l) ≡ true
 keeps_taken j n [] h is = refl
 keeps_taken j n (Some s ∷ l) h is =
     ⊎_elim (λ e. rw (eq-eqb s j e) (keeps_one_less n l h (rw (eq-eqb s j e) at is)))
@@ -59,16 +62,19 @@ keeps_taken j (suc n) (None ∷ l) h is = keeps_taken j n l h is
 pub services_lapsed : (j : ℕ) (l : List (Option ℕ)) → services_in (lapsed_in j l) ≡ services_in l
 services_lapsed j [] = refl
 services_lapsed j (Some s ∷ l) =
-    ⊎_elim (λ e. rw (eq-eqb s j e) (services_lapsed j l)) (λ ne. rw (ne_eqb s j ne) (services_lapsed j l)) (cases_eq s j)
+    ⊎_elim (λ e. rw (eq-eqb s j e) (services_lapsed j l)) (λ ne. rw (ne_eqb s j ne) (services_lapsed j l))
+    (cases_eq s j)
 services_lapsed j (None ∷ l) = ap (λ (k : ℕ). suc k) (services_lapsed j l)
 
 -- a seat behind the first k goes, where k of those to come are enough
-pub keeps_lapsed : (j n k : ℕ) (l : List (Option ℕ)) → Distinct (seats_in l) → keeps_up n l ≡ true → is_among j (drop k (seats_in l)) ≡ true
+pub keeps_lapsed : (j n k : ℕ) (l : List (Option ℕ)) → Distinct (seats_in l) → keeps_up n l ≡ true
+    → is_among j (drop k (seats_in l)) ≡ true
     → services_in l ≤ n + k → keeps_up n (lapsed_in j l) ≡ true
 keeps_lapsed j n k [] d h m le = refl
 keeps_lapsed j n zero (Some s ∷ l) d h m le =
     ⊎_elim (λ e. rw (eq-eqb s j e) (enough_before n (lapsed_in j l) (omega (arith, services_lapsed j l))))
-    (λ ne. rw (ne_eqb s j ne) (keeps_lapsed j (suc n) zero l d.1 h (among_others j s (seats_in l) ne m) (omega arith))) (cases_eq s j)
+    (λ ne. rw (ne_eqb s j ne) (keeps_lapsed j (suc n) zero l d.1 h (among_others j s (seats_in l) ne m)
+    (omega arith))) (cases_eq s j)
 keeps_lapsed j n (suc k) (Some s ∷ l) d h m le =
     let ne : s ≡ j → ⊥ = λ e. apart_from j s (seats_in l) (among_dropped j k (seats_in l) m) d.0 (sym e) in
     rw (ne_eqb s j ne) (keeps_lapsed j (suc n) k l d.1 h m (omega arith))
@@ -85,12 +91,14 @@ service_of_first j n (suc k) [] h e m = m
 service_of_first j n zero (Some s ∷ l) h e m = absurd (false≢true m)
 service_of_first j n (suc k) (Some s ∷ l) h e m =
     ⊎_elim (λ is. rw (eq-eqb s j is) (some_service l (omega arith)))
-    (λ ne. rw (ne_eqb s j ne) (service_of_first j (suc n) k l h (omega arith) (among_others j s (take k (seats_in l)) ne m))) (cases_eq s j)
+    (λ ne. rw (ne_eqb s j ne) (service_of_first j (suc n) k l h (omega arith)
+    (among_others j s (take k (seats_in l)) ne m))) (cases_eq s j)
 service_of_first j zero k (None ∷ l) h e m = absurd (false≢true h)
 service_of_first j (suc n) k (None ∷ l) h e m = service_of_first j n k l h (omega arith) m
 
 -- those of which p holds cover the services, where they are the first
-pub covers_first : (p : ℕ → Bool) (n m k : ℕ) (l : List (Option ℕ)) → n + k ≡ services_in l → (k ≡ 0) ⊎ (n ≡ m) → keeps_up m l ≡ true
+pub covers_first : (p : ℕ → Bool) (n m k : ℕ) (l : List (Option ℕ)) → n + k ≡ services_in l → (k ≡ 0) ⊎ (n ≡ m)
+    → keeps_up m l ≡ true
     → Leads p k (seats_in l) → Covers p n l
 covers_first p n m k [] e c h a = omega arith
 covers_first p n m zero (Some s ∷ l) e c h a = inr (a.0, covers_first p n (suc m) zero l e (inl refl) h a.1)

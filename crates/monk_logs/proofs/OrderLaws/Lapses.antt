@@ -23,7 +23,8 @@ use Rattle.monk_logs.proofs.OrderLaws.Stands.{Stands, among, standing}
 
 same_test : (x s : ℕ) → is_among x (s ∷ []) ≡ eqb x s
 same_test x s =
-    ⊎_elim (λ e. rw (eq-eqb x s e, eq-eqb s x (sym e)) refl) (λ ne. rw (ne_eqb x s ne, ne_eqb s x (λ (e : s ≡ x). ne (sym e))) refl)
+    ⊎_elim (λ e. rw (eq-eqb x s e, eq-eqb s x (sym e)) refl)
+    (λ ne. rw (ne_eqb x s ne, ne_eqb s x (λ (e : s ≡ x). ne (sym e))) refl)
     (cases_eq x s)
 
 turned : (x y : Bool) → (x && y) ≡ (y && x)
@@ -36,7 +37,8 @@ left_apart : (s : ℕ) (ws xs : List ℕ) → apart (s ∷ []) (apart ws xs) ≡
 left_apart s ws xs =
     filter_both (λ x. not (is_among x (s ∷ []))) (λ x. not (is_among x ws)) xs
     ∙ (filter_agree (λ x. not (is_among x ws) && not (is_among x (s ∷ []))) (λ x. not (eqb x s) && not (is_among x ws))
-    (λ x. ap (λ (y : Bool). not (is_among x ws) && not y) (same_test x s) ∙ turned (not (is_among x ws)) (not (eqb x s))) xs
+    (λ x. ap (λ (y : Bool). not (is_among x ws) && not y) (same_test x s)
+    ∙ turned (not (is_among x ws)) (not (eqb x s))) xs
     ∙ sym (filter_both (λ x. not (is_among x ws)) (λ x. not (eqb x s)) xs))
 
 -- the condition behind it
@@ -53,7 +55,8 @@ pub record LapseFollows (o : Order) (b : Board) (s : ℕ) (u : Situation) : Type
   pub may : may_lapse o s b.items ≡ true
   pub stands : Stands o (board_lapse b s) u
 
-module _ (o : Order) (b : Board) (t : Situation) (s : ℕ) (u : Situation) (sound : Sound b) (h : Stands o b t) (l : IsLapse t s u) where
+module _ (o : Order) (b : Board) (t : Situation) (s : ℕ) (u : Situation) (sound : Sound b) (h : Stands o b t)
+    (l : IsLapse t s u) where
   there : (is_among s (seats_in (line l.waits_on b.items)) ≡ true) × (is_among s t.waiters ≡ false)
   there =
       let r = and_parts (is_among s (seats_in (line l.waits_on b.items))) (not (is_among s t.waiters))
@@ -86,7 +89,8 @@ pub record LapseLeads (o : Order) (b : Board) (s : ℕ) (vs : List ℕ) : Type 0
   pub fits : Fits o (among vs) b.items
   pub lapse : IsLapse (standing b vs) s (standing (board_lapse b s) vs)
 
-pub lapse_leads : (o : Order) (b : Board) (s : ℕ) (vs : List ℕ) → Sound b → is_open b.turn ≡ true → may_lapse o s b.items ≡ true
+pub lapse_leads : (o : Order) (b : Board) (s : ℕ) (vs : List ℕ) → Sound b → is_open b.turn ≡ true
+    → may_lapse o s b.items ≡ true
     → Fits o (among vs) (without_seat s b.items) → LapseLeads o b s vs
 lapse_leads o b s vs sound free may f =
     let r = unlapse o (among vs) s b.items (sound_distinct b sound) may f in

@@ -15,8 +15,10 @@ Leads p (suc k) (x ∷ xs) = (p x ≡ true) × Leads p k xs
 
 pub leads_agree : (p q : ℕ → Bool) (k : ℕ) (xs : List ℕ) → AgreeOn p q xs → Leads p k xs → Leads q k xs
 leads_agree p q k [] a h = h
-leads_agree p q zero (x ∷ xs) a h = (sym (a x (among_here x xs)) ∙ h.0, leads_agree p q zero xs (agree_later p q x xs a) h.1)
-leads_agree p q (suc k) (x ∷ xs) a h = (sym (a x (among_here x xs)) ∙ h.0, leads_agree p q k xs (agree_later p q x xs a) h.1)
+leads_agree p q zero (x ∷ xs) a h =
+    (sym (a x (among_here x xs)) ∙ h.0, leads_agree p q zero xs (agree_later p q x xs a) h.1)
+leads_agree p q (suc k) (x ∷ xs) a h =
+    (sym (a x (among_here x xs)) ∙ h.0, leads_agree p q k xs (agree_later p q x xs a) h.1)
 
 -- ---- who is led
 
@@ -30,17 +32,20 @@ leads_some : (p : ℕ → Bool) (k : ℕ) (xs : List ℕ) → Leads p (suc k) xs
 leads_some p k [] h none = absurd (omega arith)
 leads_some p k (x ∷ xs) h none = false≢true (sym (none x (among_here x xs)) ∙ h.0)
 
-pub led_first : (p : ℕ → Bool) (j k : ℕ) (xs : List ℕ) → Leads p k xs → is_among j xs ≡ true → p j ≡ true → is_among j (take k xs) ≡ true
+pub led_first : (p : ℕ → Bool) (j k : ℕ) (xs : List ℕ) → Leads p k xs → is_among j xs ≡ true → p j ≡ true
+    → is_among j (take k xs) ≡ true
 led_first p j k [] h m is = absurd (false≢true m)
 led_first p j zero (x ∷ xs) h m is = absurd (leads_none p j (x ∷ xs) h m is)
 led_first p j (suc k) (x ∷ xs) h m is =
     ⊎_elim (λ e. subst (λ (y : ℕ). is_among y (x ∷ take k xs) ≡ true) e (among_here x (take k xs)))
     (λ ne. rw (ne_eqb x j ne) (led_first p j k xs h.1 (among_others j x xs ne m) is)) (cases_eq x j)
 
-keep_first : (p : ℕ → Bool) (x : ℕ) (xs : List ℕ) → p x ≡ false → filter (λ y. not (p y)) (x ∷ xs) ≡ x ∷ filter (λ y. not (p y)) xs
+keep_first : (p : ℕ → Bool) (x : ℕ) (xs : List ℕ) → p x ≡ false
+    → filter (λ y. not (p y)) (x ∷ xs) ≡ x ∷ filter (λ y. not (p y)) xs
 keep_first p x xs h = rw h refl
 
-drop_first : (p : ℕ → Bool) (x : ℕ) (xs : List ℕ) → p x ≡ true → filter (λ y. not (p y)) (x ∷ xs) ≡ filter (λ y. not (p y)) xs
+drop_first : (p : ℕ → Bool) (x : ℕ) (xs : List ℕ) → p x ≡ true
+    → filter (λ y. not (p y)) (x ∷ xs) ≡ filter (λ y. not (p y)) xs
 drop_first p x xs h = rw h refl
 
 -- the others are those behind the first k
@@ -54,10 +59,12 @@ later_only : (j x k : ℕ) (xs : List ℕ) → (x ≡ j → ⊥) → is_among j 
 later_only j x k xs ne = rw (ne_eqb x j ne) refl
 
 -- where p holds of just the first k
-pub leads_from : (p : ℕ → Bool) (k : ℕ) (xs : List ℕ) → Distinct xs → k ≤ length xs → AgreeOn p (λ j. is_among j (take k xs)) xs
+pub leads_from : (p : ℕ → Bool) (k : ℕ) (xs : List ℕ) → Distinct xs → k ≤ length xs
+    → AgreeOn p (λ j. is_among j (take k xs)) xs
     → Leads p k xs
 leads_from p k [] d le a = omega arith
-leads_from p zero (x ∷ xs) d le a = (a x (among_here x xs), leads_from p zero xs d.1 (omega arith) (agree_later p _ x xs a))
+leads_from p zero (x ∷ xs) d le a =
+    (a x (among_here x xs), leads_from p zero xs d.1 (omega arith) (agree_later p _ x xs a))
 leads_from p (suc k) (x ∷ xs) d le a = (
   a x (among_here x xs) ∙ among_here x (take k xs),
   leads_from p k xs d.1 (omega arith) (λ j h.
@@ -66,7 +73,8 @@ leads_from p (suc k) (x ∷ xs) d le a = (
 
 -- ---- a signal serves the front of the others
 
-pub leads_served : (p q : ℕ → Bool) (w k : ℕ) (xs : List ℕ) → Distinct xs → is_front w (filter (λ y. not (p y)) xs) ≡ true → p w ≡ false
+pub leads_served : (p q : ℕ → Bool) (w k : ℕ) (xs : List ℕ) → Distinct xs
+    → is_front w (filter (λ y. not (p y)) xs) ≡ true → p w ≡ false
     → q w ≡ true → AgreeBut w p q → Leads p k xs → Leads q (suc k) xs
 leads_served p q w k [] d f h is a l = absurd (false≢true f)
 leads_served p q w zero (x ∷ xs) d f h is a l =
@@ -82,10 +90,12 @@ pub record ServedLast (p : ℕ → Bool) (w k : ℕ) (xs : List ℕ) : Type 0 wh
   pub leads : Leads p k xs
   pub front : is_front w (filter (λ y. not (p y)) xs) ≡ true
 
-pub leads_unserved : (q p : ℕ → Bool) (w k : ℕ) (xs : List ℕ) → Distinct xs → IsLast q w xs → p w ≡ false → AgreeBut w q p
+pub leads_unserved : (q p : ℕ → Bool) (w k : ℕ) (xs : List ℕ) → Distinct xs → IsLast q w xs → p w ≡ false
+    → AgreeBut w q p
     → Leads q (suc k) xs → ServedLast p w k xs
 leads_unserved q p w k [] d last h a l = absurd last
-leads_unserved q p w zero (x ∷ xs) d (inl last) h a l = absurd (leads_none q w xs l.1 (last_among q w xs last) (last_passes q w xs last))
+leads_unserved q p w zero (x ∷ xs) d (inl last) h a l =
+    absurd (leads_none q w xs l.1 (last_among q w xs last) (last_passes q w xs last))
 leads_unserved q p w (suc k) (x ∷ xs) d (inl last) h a l =
     let ne : x ≡ w → ⊥ = λ e. apart_from w x xs (last_among q w xs last) d.0 (sym e) in
     let is : p x ≡ true = sym (a x ne) ∙ l.0 in
@@ -107,19 +117,27 @@ abbrev pub less : ℕ → List ℕ → List ℕ
 less j [] = []
 less j (x ∷ xs) = cond (eqb x j) xs (x ∷ less j xs)
 
-pub leads_chosen : (p q : ℕ → Bool) (j k : ℕ) (xs : List ℕ) → Distinct xs → is_among j xs ≡ true → p j ≡ true → AgreeBut j p q
+pub leads_chosen : (p q : ℕ → Bool) (j k : ℕ) (xs : List ℕ) → Distinct xs → is_among j xs ≡ true → p j ≡ true
+    → AgreeBut j p q
     → Leads p (suc k) xs → Leads q k (less j xs)
 leads_chosen p q j k [] d m is a l = absurd (false≢true m)
 leads_chosen p q j zero (x ∷ xs) d m is a l =
     ⊎_elim
-    (λ e. rw (eq-eqb x j e) (leads_agree p q zero xs (agree_apart j p q xs a (subst (λ (y : ℕ). is_among y xs ≡ false) e d.0)) l.1))
+    (λ e. rw (eq-eqb x j e) (leads_agree p q zero xs
+    (agree_apart j p q xs a (subst (λ (y : ℕ). is_among y xs ≡ false) e d.0)) l.1))
     (λ ne. absurd (leads_none p j xs l.1 (among_others j x xs ne m) is)) (cases_eq x j)
 leads_chosen p q j (suc k) (x ∷ xs) d m is a l =
     ⊎_elim
-    (λ e. rw (eq-eqb x j e) (leads_agree p q (suc k) xs (agree_apart j p q xs a (subst (λ (y : ℕ). is_among y xs ≡ false) e d.0)) l.1))
-    (λ ne. rw (ne_eqb x j ne) (sym (a x ne) ∙ l.0, leads_chosen p q j k xs d.1 (among_others j x xs ne m) is a l.1)) (cases_eq x j)
+    (λ e. rw (eq-eqb x j e) (leads_agree p q (suc k) xs
+    (agree_apart j p q xs a (subst (λ (y : ℕ). is_among y xs ≡ false) e d.0)) l.1))
+    (λ ne. rw (ne_eqb x j ne) (
+      sym (a x ne)
+          ∙ l.0,
+      leads_chosen p q j k xs d.1 (among_others j x xs ne m) is a l.1,
+    )) (cases_eq x j)
 
-pub leads_back : (q p : ℕ → Bool) (j k : ℕ) (xs : List ℕ) → Distinct xs → is_among j (take (suc k) xs) ≡ true → p j ≡ true
+pub leads_back : (q p : ℕ → Bool) (j k : ℕ) (xs : List ℕ) → Distinct xs → is_among j (take (suc k) xs) ≡ true
+    → p j ≡ true
     → AgreeBut j q p → Leads q k (less j xs) → Leads p (suc k) xs
 leads_back q p j k [] d m is a l = absurd (false≢true m)
 leads_back q p j zero (x ∷ xs) d m is a l =
@@ -178,7 +196,8 @@ none_lapsed : (p : ℕ → Bool) (j : ℕ) (xs : List ℕ) → p j ≡ false →
 none_lapsed p j [] f l = l
 none_lapsed p j (x ∷ xs) f l =
     ⊎_elim (λ e. (subst (λ (y : ℕ). p y ≡ false) (sym e) f, none_lapsed p j xs f (rw (without_here j x xs e) at l)))
-    (λ ne. let r : Leads p 0 (x ∷ without j xs) = rw (without_there j x xs ne) at l in (r.0, none_lapsed p j xs f r.1)) (cases_eq x j)
+    (λ ne. let r : Leads p 0 (x ∷ without j xs) = rw (without_there j x xs ne) at l in
+    (r.0, none_lapsed p j xs f r.1)) (cases_eq x j)
 
 pub among_dropped : (j k : ℕ) (xs : List ℕ) → is_among j (drop k xs) ≡ true → is_among j xs ≡ true
 among_dropped j zero xs h = h

@@ -46,7 +46,8 @@ may_be_there o p w l h =
 pub among_rest : (p : ℕ → Bool) (w : ℕ) (l : List (Option ℕ)) → is_among w (seats_in l) ≡ true → p w ≡ false
     → is_among w (others p l) ≡ true
 among_rest p w l h f =
-    among_filter (λ j. not (p j)) w (seats_in l) ∙ and_from (is_among w (seats_in l)) (not (p w)) h (not_from_false (p w) f)
+    among_filter (λ j. not (p j)) w (seats_in l)
+    ∙ and_from (is_among w (seats_in l)) (not (p w)) h (not_from_false (p w) f)
 
 -- ---- a service more
 
@@ -69,7 +70,8 @@ leads_less p l h =
     (subst (λ (k : ℕ). Leads p k (seats_in (l ++ None ∷ []))) (services_one_more l) h)
 
 module _ (p q : ℕ → Bool) (w : ℕ) (l : List (Option ℕ)) (d : Distinct (seats_in l)) where
-  pub led_served : (o : Order) → may_be_served o w (others p l) ≡ true → p w ≡ false → q w ≡ true → AgreeBut w p q → Led o p l
+  pub led_served : (o : Order) → may_be_served o w (others p l) ≡ true → p w ≡ false → q w ≡ true
+      → AgreeBut w p q → Led o p l
       → Led o q (l ++ None ∷ [])
   led_served Fifo m f is a h = more_leads q l (leads_served p q w (services_in l) (seats_in l) d m f is a h)
   led_served Wake m f is a h = more_leads q l (leads_served p q w (services_in l) (seats_in l) d m f is a h)
@@ -80,7 +82,8 @@ pub record LedLast (o : Order) (p : ℕ → Bool) (w : ℕ) (l : List (Option �
   pub led : Led o p l
   pub may_be : may_be_served o w (others p l) ≡ true
 
-module _ (q p : ℕ → Bool) (w : ℕ) (l : List (Option ℕ)) (d : Distinct (seats_in l)) (last : IsLast q w (seats_in l)) where
+module _ (q p : ℕ → Bool) (w : ℕ) (l : List (Option ℕ)) (d : Distinct (seats_in l))
+    (last : IsLast q w (seats_in l)) where
   pub led_unserved : (o : Order) → p w ≡ false → AgreeBut w q p → Led o q (l ++ None ∷ []) → LedLast o p w l
   led_unserved Fifo f a h =
       let r = leads_unserved q p w (services_in l) (seats_in l) d last f a (leads_less q l h) in
@@ -92,13 +95,15 @@ module _ (q p : ℕ → Bool) (w : ℕ) (l : List (Option ℕ)) (d : Distinct (s
 
 -- ---- one that was served goes on
 
-taken_leads : (p : ℕ → Bool) (j k : ℕ) (l : List (Option ℕ)) → services_in (taken_in j l) ≡ k → Leads p k (less j (seats_in l))
+taken_leads : (p : ℕ → Bool) (j k : ℕ) (l : List (Option ℕ)) → services_in (taken_in j l) ≡ k
+    → Leads p k (less j (seats_in l))
     → Leads p (services_in (taken_in j l)) (seats_in (taken_in j l))
 taken_leads p j k l e h =
     subst (λ (i : ℕ). Leads p i (seats_in (taken_in j l))) (sym e)
     (subst (λ (xs : List ℕ). Leads p k xs) (sym (seats_taken j l)) h)
 
-leads_taken : (p : ℕ → Bool) (j : ℕ) (l : List (Option ℕ)) → Leads p (services_in (taken_in j l)) (seats_in (taken_in j l))
+leads_taken : (p : ℕ → Bool) (j : ℕ) (l : List (Option ℕ))
+    → Leads p (services_in (taken_in j l)) (seats_in (taken_in j l))
     → Leads p (services_in (taken_in j l)) (less j (seats_in l))
 leads_taken p j l h = subst (λ (xs : List ℕ). Leads p (services_in (taken_in j l)) xs) (seats_taken j l) h
 
@@ -128,7 +133,8 @@ can_service Fifo j l m h = service_of_first j 0 (services_in l) l h (omega arith
 can_service Wake j l m h = service_of_first j 0 (services_in l) l h (omega arith) m
 can_service Any j l m h = m
 
-module _ (q p : ℕ → Bool) (j : ℕ) (l : List (Option ℕ)) (d : Distinct (seats_in l)) (is : p j ≡ true) (a : AgreeBut j q p)
+module _ (q p : ℕ → Bool) (j : ℕ) (l : List (Option ℕ)) (d : Distinct (seats_in l)) (is : p j ≡ true)
+    (a : AgreeBut j q p)
     (behind : has_service_behind j l ≡ true)
   where
     back_led : can_be_served Wake j l ≡ true → Leads q (services_in (taken_in j l)) (seats_in (taken_in j l))
@@ -156,20 +162,24 @@ joined_led : (p : ℕ → Bool) (s : ℕ) (l : List (Option ℕ)) → p s ≡ fa
     → Leads p (services_in (l ++ Some s ∷ [])) (seats_in (l ++ Some s ∷ []))
 joined_led p s l f h =
     subst (λ (k : ℕ). Leads p k (seats_in (l ++ Some s ∷ []))) (sym (services_joined s l))
-    (subst (λ (xs : List ℕ). Leads p (services_in l) xs) (sym (seats_joined s l)) (leads_joined p s (services_in l) (seats_in l) f h))
+    (subst (λ (xs : List ℕ). Leads p (services_in l) xs) (sym (seats_joined s l))
+    (leads_joined p s (services_in l) (seats_in l) f h))
 
 unjoined_led : (p : ℕ → Bool) (s : ℕ) (l : List (Option ℕ)) → p s ≡ false
     → Leads p (services_in (l ++ Some s ∷ [])) (seats_in (l ++ Some s ∷ [])) → Leads p (services_in l) (seats_in l)
 unjoined_led p s l f h =
-    leads_unjoined p s (services_in l) (seats_in l) f (subst (λ (xs : List ℕ). Leads p (services_in l) xs) (seats_joined s l)
+    leads_unjoined p s (services_in l) (seats_in l) f
+    (subst (λ (xs : List ℕ). Leads p (services_in l) xs) (seats_joined s l)
     (subst (λ (k : ℕ). Leads p k (seats_in (l ++ Some s ∷ []))) (services_joined s l) h))
 
-pub led_joined : (o : Order) (p : ℕ → Bool) (s : ℕ) (l : List (Option ℕ)) → p s ≡ false → Led o p l → Led o p (l ++ Some s ∷ [])
+pub led_joined : (o : Order) (p : ℕ → Bool) (s : ℕ) (l : List (Option ℕ)) → p s ≡ false → Led o p l
+    → Led o p (l ++ Some s ∷ [])
 led_joined Fifo p s l f h = joined_led p s l f h
 led_joined Wake p s l f h = joined_led p s l f h
 led_joined Any p s l f h = tt
 
-pub led_unjoined : (o : Order) (p : ℕ → Bool) (s : ℕ) (l : List (Option ℕ)) → p s ≡ false → Led o p (l ++ Some s ∷ []) → Led o p l
+pub led_unjoined : (o : Order) (p : ℕ → Bool) (s : ℕ) (l : List (Option ℕ)) → p s ≡ false
+    → Led o p (l ++ Some s ∷ []) → Led o p l
 led_unjoined Fifo p s l f h = unjoined_led p s l f h
 led_unjoined Wake p s l f h = unjoined_led p s l f h
 led_unjoined Any p s l f h = tt
@@ -180,15 +190,19 @@ lapsed_led : (p : ℕ → Bool) (j : ℕ) (l : List (Option ℕ)) → p j ≡ fa
     → Leads p (services_in (lapsed_in j l)) (seats_in (lapsed_in j l))
 lapsed_led p j l f h =
     subst (λ (k : ℕ). Leads p k (seats_in (lapsed_in j l))) (sym (services_lapsed j l))
-    (subst (λ (xs : List ℕ). Leads p (services_in l) xs) (sym (seats_lapsed j l)) (leads_lapsed p j (services_in l) (seats_in l) f h))
+    (subst (λ (xs : List ℕ). Leads p (services_in l) xs) (sym (seats_lapsed j l))
+    (leads_lapsed p j (services_in l) (seats_in l) f h))
 
-unlapsed_led : (p : ℕ → Bool) (j : ℕ) (l : List (Option ℕ)) → Distinct (seats_in l) → is_among j (unserved_in l) ≡ true → p j ≡ false
+unlapsed_led : (p : ℕ → Bool) (j : ℕ) (l : List (Option ℕ)) → Distinct (seats_in l)
+    → is_among j (unserved_in l) ≡ true → p j ≡ false
     → Leads p (services_in (lapsed_in j l)) (seats_in (lapsed_in j l)) → Leads p (services_in l) (seats_in l)
 unlapsed_led p j l d m f h =
-    leads_unlapsed p j (services_in l) (seats_in l) d m f (subst (λ (xs : List ℕ). Leads p (services_in l) xs) (seats_lapsed j l)
+    leads_unlapsed p j (services_in l) (seats_in l) d m f
+    (subst (λ (xs : List ℕ). Leads p (services_in l) xs) (seats_lapsed j l)
     (subst (λ (k : ℕ). Leads p k (seats_in (lapsed_in j l))) (services_lapsed j l) h))
 
-pub led_lapsed : (o : Order) (p : ℕ → Bool) (j : ℕ) (l : List (Option ℕ)) → p j ≡ false → Led o p l → Led o p (lapsed_in j l)
+pub led_lapsed : (o : Order) (p : ℕ → Bool) (j : ℕ) (l : List (Option ℕ)) → p j ≡ false → Led o p l
+    → Led o p (lapsed_in j l)
 led_lapsed Fifo p j l f h = lapsed_led p j l f h
 led_lapsed Wake p j l f h = lapsed_led p j l f h
 led_lapsed Any p j l f h = tt
@@ -199,7 +213,8 @@ CanLapse Fifo j l = is_among j (unserved_in l) ≡ true
 CanLapse Wake j l = is_among j (unserved_in l) ≡ true
 CanLapse Any j l = Unit {0}
 
-pub led_unlapsed : (o : Order) (p : ℕ → Bool) (j : ℕ) (l : List (Option ℕ)) → Distinct (seats_in l) → CanLapse o j l → p j ≡ false
+pub led_unlapsed : (o : Order) (p : ℕ → Bool) (j : ℕ) (l : List (Option ℕ)) → Distinct (seats_in l)
+    → CanLapse o j l → p j ≡ false
     → Led o p (lapsed_in j l) → Led o p l
 led_unlapsed Fifo p j l d m f h = unlapsed_led p j l d m f h
 led_unlapsed Wake p j l d m f h = unlapsed_led p j l d m f h

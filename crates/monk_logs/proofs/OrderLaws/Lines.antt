@@ -70,18 +70,22 @@ pub all_seats_given : (c : ℕ) (ws : List ℕ) → all_seats (map (λ s. Servic
 all_seats_given c [] = refl
 all_seats_given c (w ∷ ws) = all_seats_given c ws
 
-pub among_line : (j c : ℕ) (items : List Item) → is_among j (seats_in (line c items)) ≡ true → is_among j (all_seats items) ≡ true
+pub among_line : (j c : ℕ) (items : List Item) → is_among j (seats_in (line c items)) ≡ true
+    → is_among j (all_seats items) ≡ true
 among_line j c [] h = h
 among_line j c (Waiting s d ∷ items) h =
     ⊎_elim
     (λ e. let k : is_among j (s ∷ seats_in (line c items)) ≡ true = rw (eq-eqb d c e) at h in
     ⊎_elim (λ is. subst (λ (x : ℕ). is_among x (s ∷ all_seats items) ≡ true) is (among_here s (all_seats items)))
-    (λ ne. among_later j s (all_seats items) (among_line j c items (among_others j s (seats_in (line c items)) ne k))) (cases_eq s j))
+    (λ ne. among_later j s (all_seats items)
+    (among_line j c items (among_others j s (seats_in (line c items)) ne k))) (cases_eq s j))
     (λ ne. among_later j s (all_seats items) (among_line j c items (rw (ne_eqb d c ne) at h))) (cases_eq d c)
 among_line j c (Service d ∷ items) h =
-    ⊎_elim (λ e. among_line j c items (rw (eq-eqb d c e) at h)) (λ ne. among_line j c items (rw (ne_eqb d c ne) at h)) (cases_eq d c)
+    ⊎_elim (λ e. among_line j c items (rw (eq-eqb d c e) at h))
+    (λ ne. among_line j c items (rw (ne_eqb d c ne) at h)) (cases_eq d c)
 
-pub out_of_line : (j c : ℕ) (items : List Item) → is_among j (all_seats items) ≡ false → is_among j (seats_in (line c items)) ≡ false
+pub out_of_line : (j c : ℕ) (items : List Item) → is_among j (all_seats items) ≡ false
+    → is_among j (seats_in (line c items)) ≡ false
 out_of_line j c items h = false_from_ne_true _ (λ k. false≢true (sym h ∙ among_line j c items k))
 
 pub distinct_line : (c : ℕ) (items : List Item) → Distinct (all_seats items) → Distinct (seats_in (line c items))
@@ -90,58 +94,69 @@ distinct_line c (Waiting s b ∷ items) d =
     ⊎_elim (λ e. rw (eq-eqb b c e) (out_of_line s c items d.0, distinct_line c items d.1))
     (λ ne. rw (ne_eqb b c ne) (distinct_line c items d.1)) (cases_eq b c)
 distinct_line c (Service b ∷ items) d =
-    ⊎_elim (λ e. rw (eq-eqb b c e) (distinct_line c items d)) (λ ne. rw (ne_eqb b c ne) (distinct_line c items d)) (cases_eq b c)
+    ⊎_elim (λ e. rw (eq-eqb b c e) (distinct_line c items d))
+    (λ ne. rw (ne_eqb b c ne) (distinct_line c items d)) (cases_eq b c)
 
 -- ---- on which condition a seat waits
 
 pub some_same : (c d : ℕ) → Some c ≡ Some d → c ≡ d
 some_same c d h = cc
 
-pub waits_there : (j c : ℕ) (items : List Item) → condition_of j items ≡ Some c → is_among j (seats_in (line c items)) ≡ true
+pub waits_there : (j c : ℕ) (items : List Item) → condition_of j items ≡ Some c
+    → is_among j (seats_in (line c items)) ≡ true
 waits_there j c [] h = absurd cc
 waits_there j c (Waiting s d ∷ items) h =
     ⊎_elim
     (λ e. let same : d ≡ c = some_same d c (rw (eq-eqb s j e) at h) in
-    rw (eq-eqb d c same) (subst (λ (x : ℕ). is_among x (s ∷ seats_in (line c items)) ≡ true) e (among_here s (seats_in (line c items)))))
+    rw (eq-eqb d c same) (subst (λ (x : ℕ). is_among x (s ∷ seats_in (line c items)) ≡ true) e
+    (among_here s (seats_in (line c items)))))
     (λ ne. let more = waits_there j c items (rw (ne_eqb s j ne) at h) in
-    ⊎_elim (λ e. rw (eq-eqb d c e) (among_later j s (seats_in (line c items)) more)) (λ k. rw (ne_eqb d c k) more) (cases_eq d c))
+    ⊎_elim (λ e. rw (eq-eqb d c e) (among_later j s (seats_in (line c items)) more))
+    (λ k. rw (ne_eqb d c k) more) (cases_eq d c))
     (cases_eq s j)
 waits_there j c (Service d ∷ items) h =
     let more = waits_there j c items h in
     ⊎_elim (λ e. rw (eq-eqb d c e) more) (λ ne. rw (ne_eqb d c ne) more) (cases_eq d c)
 
-pub waits_only : (j c : ℕ) (items : List Item) → Distinct (all_seats items) → is_among j (seats_in (line c items)) ≡ true
+pub waits_only : (j c : ℕ) (items : List Item) → Distinct (all_seats items)
+    → is_among j (seats_in (line c items)) ≡ true
     → condition_of j items ≡ Some c
 waits_only j c [] d h = absurd (false≢true h)
 waits_only j c (Waiting s b ∷ items) d h =
     ⊎_elim
     (λ e. ⊎_elim (λ k. rw (eq-eqb s j e) (ap (λ (x : ℕ). Some x) k))
-    (λ k. absurd (apart_from j s (all_seats items) (among_line j c items (rw (ne_eqb b c k) at h)) d.0 (sym e))) (cases_eq b c))
+    (λ k. absurd (apart_from j s (all_seats items) (among_line j c items (rw (ne_eqb b c k) at h)) d.0
+    (sym e))) (cases_eq b c))
     (λ ne. rw (ne_eqb s j ne) (waits_only j c items d.1
-    (⊎_elim (λ k. among_others j s (seats_in (line c items)) ne (rw (eq-eqb b c k) at h)) (λ k. rw (ne_eqb b c k) at h) (cases_eq b c))))
+    (⊎_elim (λ k. among_others j s (seats_in (line c items)) ne (rw (eq-eqb b c k) at h))
+    (λ k. rw (ne_eqb b c k) at h) (cases_eq b c))))
     (cases_eq s j)
 waits_only j c (Service b ∷ items) d h =
     waits_only j c items d (⊎_elim (λ k. rw (eq-eqb b c k) at h) (λ k. rw (ne_eqb b c k) at h) (cases_eq b c))
 
-pub some_line : (j : ℕ) (items : List Item) → is_among j (all_seats items) ≡ true → (c : ℕ) × (is_among j (seats_in (line c items)) ≡ true)
+pub some_line : (j : ℕ) (items : List Item) → is_among j (all_seats items) ≡ true
+    → (c : ℕ) × (is_among j (seats_in (line c items)) ≡ true)
 some_line j [] h = absurd (false≢true h)
 some_line j (Waiting s b ∷ items) h =
     ⊎_elim
     (λ e. (
       b,
       rw (eq-eqb b b refl)
-          (subst (λ (x : ℕ). is_among x (s ∷ seats_in (line b items)) ≡ true) e (among_here s (seats_in (line b items)))),
+          (subst (λ (x : ℕ). is_among x (s ∷ seats_in (line b items)) ≡ true) e
+          (among_here s (seats_in (line b items)))),
     ))
     (λ ne. let more = some_line j items (among_others j s (all_seats items) ne h) in (
       more.0,
-      ⊎_elim (λ k. rw (eq-eqb b more.0 k) (among_later j s (seats_in (line more.0 items)) more.1)) (λ k. rw (ne_eqb b more.0 k) more.1)
+      ⊎_elim (λ k. rw (eq-eqb b more.0 k) (among_later j s (seats_in (line more.0 items)) more.1))
+          (λ k. rw (ne_eqb b more.0 k) more.1)
           (cases_eq b more.0),
     )) (cases_eq s j)
 some_line j (Service b ∷ items) h =
     let more = some_line j items h in
     (more.0, ⊎_elim (λ k. rw (eq-eqb b more.0 k) more.1) (λ k. rw (ne_eqb b more.0 k) more.1) (cases_eq b more.0))
 
-pub one_line : (j c d : ℕ) (items : List Item) → Distinct (all_seats items) → is_among j (seats_in (line c items)) ≡ true
+pub one_line : (j c d : ℕ) (items : List Item) → Distinct (all_seats items)
+    → is_among j (seats_in (line c items)) ≡ true
     → is_among j (seats_in (line d items)) ≡ true → c ≡ d
 one_line j c d items is h k = some_same c d (sym (waits_only j c items is h) ∙ waits_only j d items is k)
 
@@ -150,13 +165,15 @@ one_line j c d items is h k = some_same c d (sym (waits_only j c items is h) ∙
 pub no_service : (c : ℕ) (items : List Item) → services items ≡ [] → services_in (line c items) ≡ 0
 no_service c [] h = refl
 no_service c (Waiting s d ∷ items) h =
-    ⊎_elim (λ e. rw (eq-eqb d c e) (no_service c items h)) (λ ne. rw (ne_eqb d c ne) (no_service c items h)) (cases_eq d c)
+    ⊎_elim (λ e. rw (eq-eqb d c e) (no_service c items h)) (λ ne. rw (ne_eqb d c ne) (no_service c items h))
+    (cases_eq d c)
 no_service c (Service d ∷ items) h = absurd cc
 
 pub service_there : (c : ℕ) (cs : List ℕ) (items : List Item) → services items ≡ c ∷ cs → 1 ≤ services_in (line c items)
 service_there c cs [] h = absurd cc
 service_there c cs (Waiting s d ∷ items) h =
-    ⊎_elim (λ e. rw (eq-eqb d c e) (service_there c cs items h)) (λ ne. rw (ne_eqb d c ne) (service_there c cs items h)) (cases_eq d c)
+    ⊎_elim (λ e. rw (eq-eqb d c e) (service_there c cs items h))
+    (λ ne. rw (ne_eqb d c ne) (service_there c cs items h)) (cases_eq d c)
 service_there c cs (Service d ∷ items) h =
     let e : d ≡ c = cc in rw (eq-eqb d c e) (omega arith)
 
@@ -178,13 +195,16 @@ without_other c d (Waiting s b ∷ items) ne =
     (λ k. rw (ne_eqb b c k) (without_other c d items ne)) (cases_eq b c)
 without_other c d (Service b ∷ items) ne =
     ⊎_elim (λ k. simp (eq-eqb b d k, ne_eqb b c (λ (i : b ≡ c). ne (sym k ∙ i))))
-    (λ k. rw (ne_eqb b d k) (⊎_elim (λ i. rw (eq-eqb b c i) (ap (λ (l : List (Option ℕ)). None ∷ l) (without_other c d items ne)))
+    (λ k. rw (ne_eqb b d k) (⊎_elim
+    (λ i. rw (eq-eqb b c i) (ap (λ (l : List (Option ℕ)). None ∷ l) (without_other c d items ne)))
     (λ i. rw (ne_eqb b c i) (without_other c d items ne)) (cases_eq b c))) (cases_eq b d)
 
 pub unmoved : (j : ℕ) (l : List (Option ℕ)) → is_among j (seats_in l) ≡ false → taken_in j l ≡ l
 unmoved j [] h = refl
 unmoved j (Some s ∷ l) h =
-    let ne : s ≡ j → ⊥ = λ e. false≢true (sym h ∙ subst (λ (x : ℕ). is_among x (s ∷ seats_in l) ≡ true) e (among_here s (seats_in l))) in
+    let ne : s ≡ j
+    → ⊥ = λ e. false≢true (sym h
+    ∙ subst (λ (x : ℕ). is_among x (s ∷ seats_in l) ≡ true) e (among_here s (seats_in l))) in
     let k : is_among j (seats_in l) ≡ false = rw (ne_eqb s j ne) at h in
     rw (ne_eqb s j ne) (ap (λ (x : List (Option ℕ)). Some s ∷ x) (unmoved j l k))
 unmoved j (None ∷ l) h = ap (λ (x : List (Option ℕ)). None ∷ x) (unmoved j l h)
@@ -202,7 +222,8 @@ taken_there j c s d items ne more =
     ⊎_elim (λ k. simp (eq-eqb d c k, ne_eqb s j ne) (ap (λ (l : List (Option ℕ)). Some s ∷ l) more))
     (λ k. rw (ne_eqb d c k) more) (cases_eq d c)
 
-pub line_taken : (j c : ℕ) (items : List Item) → Distinct (all_seats items) → line c (taken_out j items) ≡ taken_in j (line c items)
+pub line_taken : (j c : ℕ) (items : List Item) → Distinct (all_seats items)
+    → line c (taken_out j items) ≡ taken_in j (line c items)
 line_taken j c [] d = refl
 line_taken j c (Waiting s b ∷ items) d =
     ⊎_elim (λ e. rw (eq-eqb s j e) (taken_here j c s b items e d.0))
@@ -214,7 +235,8 @@ line_taken j c (Service b ∷ items) d =
 pub seats_taken : (j : ℕ) (l : List (Option ℕ)) → seats_in (taken_in j l) ≡ less j (seats_in l)
 seats_taken j [] = refl
 seats_taken j (Some s ∷ l) =
-    ⊎_elim (λ e. rw (eq-eqb s j e) (seats_one_less l)) (λ ne. rw (ne_eqb s j ne) (ap (λ (xs : List ℕ). s ∷ xs) (seats_taken j l)))
+    ⊎_elim (λ e. rw (eq-eqb s j e) (seats_one_less l))
+    (λ ne. rw (ne_eqb s j ne) (ap (λ (xs : List ℕ). s ∷ xs) (seats_taken j l)))
     (cases_eq s j)
 seats_taken j (None ∷ l) = seats_taken j l
 
@@ -223,7 +245,8 @@ services_one_less [] h = absurd (false≢true h)
 services_one_less (Some s ∷ l) h = services_one_less l h
 services_one_less (None ∷ l) h = refl
 
-pub services_taken : (j : ℕ) (l : List (Option ℕ)) → has_service_behind j l ≡ true → suc (services_in (taken_in j l)) ≡ services_in l
+pub services_taken : (j : ℕ) (l : List (Option ℕ)) → has_service_behind j l ≡ true
+    → suc (services_in (taken_in j l)) ≡ services_in l
 services_taken j [] h = absurd (false≢true h)
 services_taken j (Some s ∷ l) h =
     ⊎_elim (λ e. rw (eq-eqb s j e) (services_one_less l (rw (eq-eqb s j e) at h)))
@@ -261,7 +284,8 @@ line_lapsed j c (Service d ∷ items) =
 pub seats_lapsed : (j : ℕ) (l : List (Option ℕ)) → seats_in (lapsed_in j l) ≡ without j (seats_in l)
 seats_lapsed j [] = refl
 seats_lapsed j (Some s ∷ l) =
-    ⊎_elim (λ e. rw (eq-eqb s j e) (seats_lapsed j l)) (λ ne. rw (ne_eqb s j ne) (ap (λ (xs : List ℕ). s ∷ xs) (seats_lapsed j l)))
+    ⊎_elim (λ e. rw (eq-eqb s j e) (seats_lapsed j l))
+    (λ ne. rw (ne_eqb s j ne) (ap (λ (xs : List ℕ). s ∷ xs) (seats_lapsed j l)))
     (cases_eq s j)
 seats_lapsed j (None ∷ l) = seats_lapsed j l
 

@@ -49,7 +49,8 @@ abbrev pub Distinct : List ℕ → Type 0
 Distinct [] = Unit {0}
 Distinct (x ∷ xs) = (is_among x xs ≡ false) × Distinct xs
 
-among_counts : (j x : ℕ) (xs : List ℕ) (c : Bool) → eqb x j ≡ c → (c || is_among j xs) ≡ true → (is_among j xs ≡ true → 1 ≤ times j xs)
+among_counts : (j x : ℕ) (xs : List ℕ) (c : Bool) → eqb x j ≡ c → (c || is_among j xs) ≡ true
+    → (is_among j xs ≡ true → 1 ≤ times j xs)
     → 1 ≤ cond c 1 0 + times j xs
 among_counts j x xs true e h more = omega arith
 among_counts j x xs false e h more = omega (arith, more h)

@@ -29,7 +29,8 @@ all_passed late true true false d h = absurd (omega arith)
 all_passed late true false c d h = absurd (omega arith)
 all_passed late false b c d h = absurd (omega arith)
 
-none_failed : (late : ℕ) (a b c d : Bool) → a ≡ true → b ≡ true → c ≡ true → d ≡ true → late ≡ 0 → first_of late a b c d ≡ 0
+none_failed : (late : ℕ) (a b c d : Bool) → a ≡ true → b ≡ true → c ≡ true → d ≡ true → late ≡ 0
+    → first_of late a b c d ≡ 0
 none_failed late a b c d g h i j k = rw (g, h, i, j, k) refl
 
 late_passed : (a b : Bool) → ◌≡◌ {A = ℕ} (cond (not a) 5 (cond (not b) 6 0)) 0 → (a ≡ true) × (b ≡ true)
@@ -62,7 +63,8 @@ pub reason_none : (o : Order) (m : Monitor) (b : Board) (e : Event) → Passes o
 unfolding board_reason
 reason_none o m b e p =
     none_failed (board_late_reason o m b e) (is_in_range m.seats m.conds m.object.codes m.object.predicates e)
-    (is_offered m.kind e) (is_in_turn (sight b) e) (is_in_place m.object (sight b) e) p.may_call.in_range p.may_call.offered
+    (is_offered m.kind e) (is_in_turn (sight b) e)
+    (is_in_place m.object (sight b) e) p.may_call.in_range p.may_call.offered
     p.may_call.in_turn p.may_call.in_place
     (late_none (is_right_reply m.object b.state e) (board_permits o m.kind m.object b e) p.right_reply p.permitted)
 

@@ -13,17 +13,20 @@ same_head x y xs ys h = cc
 same_tail : (x y : ℕ) (xs ys : List ℕ) → x ∷ xs ≡ y ∷ ys → xs ≡ ys
 same_tail x y xs ys h = cc
 
-rest_led : (p : ℕ → Bool) (x : ℕ) (xs : List ℕ) → p x ≡ true → filter (λ j. not (p j)) (x ∷ xs) ≡ filter (λ j. not (p j)) xs
+rest_led : (p : ℕ → Bool) (x : ℕ) (xs : List ℕ) → p x ≡ true
+    → filter (λ j. not (p j)) (x ∷ xs) ≡ filter (λ j. not (p j)) xs
 rest_led p x xs h = rw h refl
 
-rest_kept : (p : ℕ → Bool) (x : ℕ) (xs : List ℕ) → p x ≡ false → filter (λ j. not (p j)) (x ∷ xs) ≡ x ∷ filter (λ j. not (p j)) xs
+rest_kept : (p : ℕ → Bool) (x : ℕ) (xs : List ℕ) → p x ≡ false
+    → filter (λ j. not (p j)) (x ∷ xs) ≡ x ∷ filter (λ j. not (p j)) xs
 rest_kept p x xs h = rw h refl
 
 -- the front of them was there
 front_was : (p : ℕ → Bool) (w : ℕ) (ws xs : List ℕ) → filter (λ j. not (p j)) xs ≡ w ∷ ws → is_among w xs ≡ true
 front_was p w ws xs h =
     (and_parts (is_among w xs) (not (p w))
-    (sym (among_filter (λ j. not (p j)) w xs) ∙ subst (λ (ys : List ℕ). is_among w ys ≡ true) (sym h) (among_here w ws))).0
+    (sym (among_filter (λ j. not (p j)) w xs)
+    ∙ subst (λ (ys : List ℕ). is_among w ys ≡ true) (sym h) (among_here w ws))).0
 
 pub or-assoc : (x y z : Bool) → ((x || y) || z) ≡ (x || (y || z))
 or-assoc true y z = refl
@@ -33,16 +36,19 @@ pub or-false : (x y : Bool) → y ≡ false → x ≡ (x || y)
 or-false true y h = refl
 or-false false y h = sym h
 
-pub filter_on : (p q : ℕ → Bool) (xs : List ℕ) → AgreeOn p q xs → filter (λ j. not (p j)) xs ≡ filter (λ j. not (q j)) xs
+pub filter_on : (p q : ℕ → Bool) (xs : List ℕ) → AgreeOn p q xs
+    → filter (λ j. not (p j)) xs ≡ filter (λ j. not (q j)) xs
 filter_on p q [] a = refl
 filter_on p q (x ∷ xs) a =
     ⊎_elim
-    (λ h. rest_led p x xs h ∙ filter_on p q xs (agree_later p q x xs a) ∙ sym (rest_led q x xs (sym (a x (among_here x xs)) ∙ h)))
+    (λ h. rest_led p x xs h ∙ filter_on p q xs (agree_later p q x xs a)
+    ∙ sym (rest_led q x xs (sym (a x (among_here x xs)) ∙ h)))
     (λ h. rest_kept p x xs h ∙ ap (λ (ys : List ℕ). x ∷ ys) (filter_on p q xs (agree_later p q x xs a))
     ∙ sym (rest_kept q x xs (sym (a x (among_here x xs)) ∙ h))) (cases_Bool (p x))
 
 -- the others, once the first of them is served
-pub rest_after : (p q : ℕ → Bool) (w : ℕ) (ws xs : List ℕ) → Distinct xs → filter (λ j. not (p j)) xs ≡ w ∷ ws → q w ≡ true
+pub rest_after : (p q : ℕ → Bool) (w : ℕ) (ws xs : List ℕ) → Distinct xs → filter (λ j. not (p j)) xs ≡ w ∷ ws
+    → q w ≡ true
     → AgreeBut w p q → filter (λ j. not (q j)) xs ≡ ws
 rest_after p q w ws [] d h is a = absurd cc
 rest_after p q w ws (x ∷ xs) d h is a =

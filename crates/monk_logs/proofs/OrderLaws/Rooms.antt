@@ -22,14 +22,16 @@ PickedFrom items sigs us v (Waiter j) = is_among j (all_seats items) ≡ true
 PickedFrom items sigs us v (Signaller j) = is_among j sigs ≡ true
 PickedFrom items sigs us v (UntilSeat j) = is_among j (until_seats us) ≡ true
 
-pub times_items : (s : ℕ) (xs ys : List Item) → times s (all_seats (xs ++ ys)) ≡ times s (all_seats xs) + times s (all_seats ys)
+pub times_items : (s : ℕ) (xs ys : List Item)
+    → times s (all_seats (xs ++ ys)) ≡ times s (all_seats xs) + times s (all_seats ys)
 times_items s xs ys = ap (times s) (all_seats-append xs ys) ∙ times-append s (all_seats xs) (all_seats ys)
 
 until_seats-append : (us vs : List (ℕ × ℕ)) → until_seats (us ++ vs) ≡ until_seats us ++ until_seats vs
 until_seats-append [] vs = refl
 until_seats-append (u ∷ us) vs = ap (λ (xs : List ℕ). u.0 ∷ xs) (until_seats-append us vs)
 
-times_until_seats : (s : ℕ) (us vs : List (ℕ × ℕ)) → times s (until_seats (us ++ vs)) ≡ times s (until_seats us) + times s (until_seats vs)
+times_until_seats : (s : ℕ) (us vs : List (ℕ × ℕ))
+    → times s (until_seats (us ++ vs)) ≡ times s (until_seats us) + times s (until_seats vs)
 times_until_seats s us vs = ap (times s) (until_seats-append us vs) ∙ times-append s (until_seats us) (until_seats vs)
 
 times_apart : (s : ℕ) (ws xs : List ℕ) → times s (apart ws xs) ≤ times s xs
@@ -49,18 +51,22 @@ release_room items sigs us v joined Stay s h is =
     omega (
       arith,
       times_untils (λ k. true) s us,
-      subst (λ (ws : List ℕ). times s (apart ws sigs) + cond (eqb v s) 1 0 ≤ times s sigs) (sym (is refl)) (times_apart_one v s sigs h),
+      subst (λ (ws : List ℕ). times s (apart ws sigs) + cond (eqb v s) 1 0 ≤ times s sigs) (sym (is refl))
+          (times_apart_one v s sigs h),
     )
 release_room items sigs us v joined Entry s h is = omega (arith, times_untils (λ k. true) s us, times_apart s [] sigs)
 release_room items sigs us v joined (Waiter j) s h is =
     omega (arith, times_untils (λ k. true) s us, times_apart s [] sigs, taken_items j s items h)
-release_room items sigs us v joined (Signaller j) s h is = omega (arith, times_untils (λ k. true) s us, times_apart_one j s sigs h)
+release_room items sigs us v joined (Signaller j) s h is =
+    omega (arith, times_untils (λ k. true) s us, times_apart_one j s sigs h)
 release_room items sigs us v joined (UntilSeat j) s h is = omega (arith, times_apart s [] sigs, untils_taken j s us h)
 
 -- the same with those that come behind
-pub room_after : (items came : List Item) (sigs : List ℕ) (us more : List (ℕ × ℕ)) (v : ℕ) (joined : List ℕ) (x : Next) (s : ℕ)
+pub room_after : (items came : List Item) (sigs : List ℕ) (us more : List (ℕ × ℕ)) (v : ℕ) (joined : List ℕ)
+    (x : Next) (s : ℕ)
     → PickedFrom items sigs us v x → (is_stay (Some x) ≡ true → joined ≡ v ∷ [])
-    → times s (all_seats (chosen_out (Some x) items ++ came)) + times s (apart (taken_signaller (Some x) joined) sigs) + times s
+    → times s (all_seats (chosen_out (Some x) items ++ came))
+    + times s (apart (taken_signaller (Some x) joined) sigs) + times s
     (until_seats (filter (λ w. not (is_until w.0 (Some x))) us ++ more)) + has_turn s (turn_by v (Some x)) ≤ times s
     (all_seats items) + times s sigs + times s (until_seats us) + times s (all_seats came) + times s (until_seats more)
 room_after items came sigs us more v joined x s h is =
@@ -73,7 +79,8 @@ room_after items came sigs us more v joined x s h is =
 
 -- where nobody was chosen
 pub room_kept : (items came : List Item) (sigs : List ℕ) (us more : List (ℕ × ℕ)) (s : ℕ)
-    → times s (all_seats (items ++ came)) + times s (apart [] sigs) + times s (until_seats (filter (λ w. true) us ++ more)) ≤ times s
+    → times s (all_seats (items ++ came)) + times s (apart [] sigs)
+    + times s (until_seats (filter (λ w. true) us ++ more)) ≤ times s
     (all_seats items) + times s sigs + times s (until_seats us) + times s (all_seats came) + times s (until_seats more)
 room_kept items came sigs us more s =
     omega (

@@ -40,7 +40,8 @@ use Rattle.monk_logs.proofs.OrderLaws.Rooms.{PickedFrom, room_after, room_kept}
 
 abbrev pub Seated : Board → Type 0
 Seated b = (s : ℕ)
-    → times s (all_seats b.items) + times s b.signallers + times s (until_seats b.untils) + has_turn s b.turn ≤ cond (b.inside s) 1 0
+    → times s (all_seats b.items) + times s b.signallers + times s (until_seats b.untils) + has_turn s b.turn
+    ≤ cond (b.inside s) 1 0
 
 pub one_at_most : (b : Bool) → cond b 1 0 ≤ 1
 one_at_most true = omega arith
@@ -58,7 +59,8 @@ given_seats (Some c) f = all_seats_given c (f c)
 pub seats_with : (b : Board) (e : Event) → all_seats (items_with b e) ≡ all_seats b.items
 seats_with b e =
     all_seats-append b.items (given_by e b.items)
-    ∙ (ap (λ (xs : List ℕ). all_seats b.items ++ xs) (given_seats (signals_on e) (λ c. served_of e (unserved_in (line c b.items))))
+    ∙ (ap (λ (xs : List ℕ). all_seats b.items ++ xs)
+    (given_seats (signals_on e) (λ c. served_of e (unserved_in (line c b.items))))
     ∙ append-nil (all_seats b.items))
 
 with_times : (b : Board) (e : Event) (s : ℕ) → times s (all_seats (items_with b e)) ≡ times s (all_seats b.items)
@@ -73,7 +75,8 @@ owned_turn v s (Owned j) h = ap (λ (x : ℕ). cond {A = ℕ} (eqb x s) 1 0) (eq
 
 due_turn : (v s : ℕ) (q : From3) (t : Turn) → is_due v q t ≡ true → has_turn s t ≡ cond (eqb v s) 1 0
 due_turn v s q Open h = absurd (false≢true h)
-due_turn v s q (Due j r) h = ap (λ (x : ℕ). cond {A = ℕ} (eqb x s) 1 0) (eqb-true j v (and_parts (j == v) (is_queue r q) h).0)
+due_turn v s q (Due j r) h =
+    ap (λ (x : ℕ). cond {A = ℕ} (eqb x s) 1 0) (eqb-true j v (and_parts (j == v) (is_queue r q) h).0)
 due_turn v s q (Owned j) h = absurd (false≢true h)
 
 inside_still : (b : Bool) → ◌≡◌ {A = ℕ} (cond ((b && true) || false) 1 0) (cond b 1 0)
@@ -96,7 +99,8 @@ inside_new false = refl
 
 -- ---- who is chosen is there
 
-picked : (o : Order) (object : Object) (b : Board) (e : Event) (v : ℕ) (x : Next) → Picks (board_chances o object b e) v x
+picked : (o : Order) (object : Object) (b : Board) (e : Event) (v : ℕ) (x : Next)
+    → Picks (board_chances o object b e) v x
     → PickedFrom (items_with b e) (signallers_with b e) b.untils v x
 picked o object b e v Stay h = may_go_among o v (signallers_with b e) h
 picked o object b e v Entry h = tt
@@ -106,14 +110,16 @@ picked o object b e v (UntilSeat j) h = ready_waits object b.state j b.untils (m
 
 -- ---- a signal, by whether its condition is empty
 
-signal_room : (k : Rules) (q : Chances) (items : List Item) (sigs : List ℕ) (us : List (ℕ × ℕ)) (v : ℕ) (x : Next) (s : ℕ) (b : Bool)
+signal_room : (k : Rules) (q : Chances) (items : List Item) (sigs : List ℕ) (us : List (ℕ × ℕ)) (v : ℕ)
+    (x : Next) (s : ℕ) (b : Bool)
     → cond b (is_stay (Some x)) (may_signal_by k q v x) ≡ true
     → (Picks q v x → PickedFrom items (sigs ++ cond b [] (v ∷ [])) us v x)
     → times s (all_seats (chosen_out (Some x) items ++ [])) + times s
     (apart (taken_signaller (Some x) (cond b [] (v ∷ []))) (sigs ++ cond b [] (v ∷ []))) + times s
     (until_seats (filter (λ w. not (is_until w.0 (Some x))) us ++ [])) + has_turn s (turn_by v (Some x)) ≤ times s
     (all_seats items) + times s sigs + times s (until_seats us) + cond (eqb v s) 1 0
-signal_room k q items sigs us v Stay s true h p = omega (arith, room_kept items [] (sigs ++ []) us [] s, times-append s sigs [])
+signal_room k q items sigs us v Stay s true h p =
+    omega (arith, room_kept items [] (sigs ++ []) us [] s, times-append s sigs [])
 signal_room k q items sigs us v Entry s true h p = absurd (false≢true h)
 signal_room k q items sigs us v (Waiter j) s true h p = absurd (false≢true h)
 signal_room k q items sigs us v (Signaller j) s true h p = absurd (false≢true h)
@@ -127,10 +133,13 @@ signal_room k q items sigs us v x s false h p =
 
 -- ---- an until, by whether its predicate holds
 
-until_goes : (k : Rules) (q : Chances) (items : List Item) (sigs : List ℕ) (us : List (ℕ × ℕ)) (v p : ℕ) (x : Next) (s : ℕ) (c : Bool)
+until_goes : (k : Rules) (q : Chances) (items : List Item) (sigs : List ℕ) (us : List (ℕ × ℕ)) (v p : ℕ)
+    (x : Next) (s : ℕ) (c : Bool)
     → is_stay (Some x) ≡ c → c ≡ false → PickedFrom items (sigs ++ []) us v x
-    → times s (all_seats (chosen_out (Some x) items ++ [])) + times s (apart (taken_signaller (Some x) []) (sigs ++ [])) + times s
-    (until_seats (filter (λ w. not (is_until w.0 (Some x))) us ++ cond c [] ((v, p) ∷ []))) + has_turn s (turn_by v (Some x)) ≤ times s
+    → times s (all_seats (chosen_out (Some x) items ++ []))
+    + times s (apart (taken_signaller (Some x) []) (sigs ++ [])) + times s
+    (until_seats (filter (λ w. not (is_until w.0 (Some x))) us ++ cond c [] ((v, p) ∷ [])))
+    + has_turn s (turn_by v (Some x)) ≤ times s
     (all_seats items) + times s sigs + times s (until_seats us) + cond (eqb v s) 1 0
 until_goes k q items sigs us v p x s true e h f = absurd (false≢true (sym h))
 until_goes k q items sigs us v p x s false e h f =
@@ -140,12 +149,16 @@ until_goes k q items sigs us v p x s false e h f =
       times-append s sigs [],
     )
 
-until_room : (k : Rules) (q : Chances) (items : List Item) (sigs : List ℕ) (us : List (ℕ × ℕ)) (v p : ℕ) (x : Next) (s : ℕ) (b : Bool)
+until_room : (k : Rules) (q : Chances) (items : List Item) (sigs : List ℕ) (us : List (ℕ × ℕ)) (v p : ℕ)
+    (x : Next) (s : ℕ) (b : Bool)
     → cond b (is_stay (Some x)) (may_choose_by k q v x) ≡ true → (Picks q v x → PickedFrom items (sigs ++ []) us v x)
-    → times s (all_seats (chosen_out (Some x) items ++ [])) + times s (apart (taken_signaller (Some x) []) (sigs ++ [])) + times s
-    (until_seats (filter (λ w. not (is_until w.0 (Some x))) us ++ cond (is_stay (Some x)) [] ((v, p) ∷ []))) + has_turn s
+    → times s (all_seats (chosen_out (Some x) items ++ []))
+    + times s (apart (taken_signaller (Some x) []) (sigs ++ [])) + times s
+    (until_seats (filter (λ w. not (is_until w.0 (Some x))) us ++ cond (is_stay (Some x)) [] ((v, p) ∷ [])))
+    + has_turn s
     (turn_by v (Some x)) ≤ times s (all_seats items) + times s sigs + times s (until_seats us) + cond (eqb v s) 1 0
-until_room k q items sigs us v p Stay s true h f = omega (arith, room_kept items [] (sigs ++ []) us [] s, times-append s sigs [])
+until_room k q items sigs us v p Stay s true h f =
+    omega (arith, room_kept items [] (sigs ++ []) us [] s, times-append s sigs [])
 until_room k q items sigs us v p Entry s true h f = absurd (false≢true h)
 until_room k q items sigs us v p (Waiter j) s true h f = absurd (false≢true h)
 until_room k q items sigs us v p (Signaller j) s true h f = absurd (false≢true h)
@@ -160,14 +173,21 @@ module _ (b : Board) (e : Event) (s : ℕ) where
   kept : times s (all_seats (items_with b e ++ [])) + times s (apart [] (b.signallers ++ [])) + times s
       (until_seats (filter (λ w. true) b.untils ++ [])) ≤ times s (all_seats b.items) + times s b.signallers + times s
       (until_seats b.untils)
-  kept = omega (arith, room_kept (items_with b e) [] (b.signallers ++ []) b.untils [] s, times-append s b.signallers [], with_times b e s)
+  kept = omega (
+    arith,
+    room_kept (items_with b e) [] (b.signallers ++ []) b.untils
+        [] s,
+    times-append s b.signallers [],
+    with_times b e s,
+  )
 
   -- a release that must choose, with those that come to wait
   goes : (o : Order) (k : Rules) (object : Object) (came : List Item) (v : ℕ) (x : Next)
       → signallers_with b e ≡ b.signallers ++ [] → may_choose_by k (board_chances o object b e) v x ≡ true
       → times s (all_seats (chosen_out (Some x) (items_with b e) ++ came)) + times s
       (apart (taken_signaller (Some x) []) (b.signallers ++ [])) + times s
-      (until_seats (filter (λ w. not (is_until w.0 (Some x))) b.untils ++ [])) + has_turn s (turn_by v (Some x)) ≤ times s
+      (until_seats (filter (λ w. not (is_until w.0 (Some x))) b.untils ++ []))
+      + has_turn s (turn_by v (Some x)) ≤ times s
       (all_seats b.items) + times s b.signallers + times s (until_seats b.untils) + times s (all_seats came)
   goes o k object came v x is h =
       let c = chosen_by k (board_chances o object b e) v x h in
@@ -175,7 +195,8 @@ module _ (b : Board) (e : Event) (s : ℕ) where
       subst (λ (sigs : List ℕ). PickedFrom (items_with b e) sigs b.untils v x) is (picked o object b e v x c.picks) in
       omega (
         arith,
-        room_after (items_with b e) came (b.signallers ++ []) b.untils [] v [] x s f (λ k. absurd (false≢true (sym c.moves ∙ k))),
+        room_after (items_with b e) came (b.signallers ++ []) b.untils [] v [] x s f
+            (λ k. absurd (false≢true (sym c.moves ∙ k))),
         times-append s b.signallers [],
         with_times b e s,
       )
@@ -187,7 +208,8 @@ enter_seated : (o : Order) (m : Monitor) (b : Board) (v : ℕ) (via : Via) → S
 enter_seated o m b v via h p s =
     ⊎_elim
     (λ e. let out : b.inside s ≡ false =
-    subst (λ (x : ℕ). b.inside x ≡ false) e (not-true (b.inside v) (and_parts (not (b.inside v)) _ p.may_call.in_place).0) in
+    subst (λ (x : ℕ). b.inside x ≡ false) e
+    (not-true (b.inside v) (and_parts (not (b.inside v)) _ p.may_call.in_place).0) in
     omega (
       arith,
       kept b (Enter v via) s,
@@ -197,7 +219,8 @@ enter_seated o m b v via h p s =
       ap (λ (c : Bool). cond {A = ℕ} ((b.inside s && true) || c) 1 0) (eq-eqb v s e),
       inside_new (b.inside s),
     ))
-    (λ ne. omega (arith, kept b (Enter v via) s, h s, counts_none v s ne, inside_in (b.inside s) (eqb v s))) (cases_eq v s)
+    (λ ne. omega (arith, kept b (Enter v via) s, h s, counts_none v s ne, inside_in (b.inside s) (eqb v s)))
+    (cases_eq v s)
 
 act_seated : (o : Order) (m : Monitor) (b : Board) (v : ℕ) (op : Op) (r : ℕ) → Seated b → Passes o m b (Act v op r)
     → Seated (board_after m.object b (Act v op r))
@@ -226,7 +249,8 @@ leave_seated o m b v x h p s =
       inside_out (b.inside s) (eqb v s) (omega (arith, h s, own)),
     )
 
-signal_leave_seated : (o : Order) (m : Monitor) (b : Board) (v c : ℕ) (x : Next) → Seated b → Passes o m b (SignalLeave v c x)
+signal_leave_seated : (o : Order) (m : Monitor) (b : Board) (v c : ℕ) (x : Next) → Seated b
+    → Passes o m b (SignalLeave v c x)
     → Seated (board_after m.object b (SignalLeave v c x))
 signal_leave_seated o m b v c x h p s =
     let own = owned_turn v s b.turn p.may_call.in_turn in
@@ -249,7 +273,8 @@ wait_seated o m b v c x h p s =
       inside_still (b.inside s),
     )
 
-signal_wait_seated : (o : Order) (m : Monitor) (b : Board) (v c d : ℕ) (x : Next) → Seated b → Passes o m b (SignalWait v c d x)
+signal_wait_seated : (o : Order) (m : Monitor) (b : Board) (v c d : ℕ) (x : Next) → Seated b
+    → Passes o m b (SignalWait v c d x)
     → Seated (board_after m.object b (SignalWait v c d x))
 signal_wait_seated o m b v c d x h p s =
     omega (
@@ -265,7 +290,8 @@ signal_seated : (o : Order) (m : Monitor) (b : Board) (v c : ℕ) (x : Next) →
 signal_seated o m b v c x h p s =
     omega (
       arith,
-      signal_room m.kind (board_chances o m.object b (Signal v c x)) (items_with b (Signal v c x)) b.signallers b.untils v x s
+      signal_room m.kind (board_chances o m.object b (Signal v c x))
+          (items_with b (Signal v c x)) b.signallers b.untils v x s
           (is_empty (unserved_in (line c b.items))) p.permitted (picked o m.object b (Signal v c x) v x),
       with_times b (Signal v c x) s,
       h s,
@@ -278,7 +304,8 @@ until_seated : (o : Order) (m : Monitor) (b : Board) (v q : ℕ) (x : Next) → 
 until_seated o m b v q x h p s =
     omega (
       arith,
-      until_room m.kind (board_chances o m.object b (Until v q x)) (items_with b (Until v q x)) b.signallers b.untils v q x s
+      until_room m.kind (board_chances o m.object b (Until v q x))
+          (items_with b (Until v q x)) b.signallers b.untils v q x s
           (m.object.holds b.state q) p.permitted (picked o m.object b (Until v q x) v x),
       with_times b (Until v q x) s,
       h s,
@@ -286,7 +313,8 @@ until_seated o m b v q x h p s =
       inside_still (b.inside s),
     )
 
-pub seated_after : (o : Order) (m : Monitor) (b : Board) (e : Event) → Seated b → Passes o m b e → Seated (board_after m.object b e)
+pub seated_after : (o : Order) (m : Monitor) (b : Board) (e : Event) → Seated b → Passes o m b e
+    → Seated (board_after m.object b e)
 seated_after o m b (Enter v via) h p = enter_seated o m b v via h p
 seated_after o m b (Act v op r) h p = act_seated o m b v op r h p
 seated_after o m b (Leave v x) h p = leave_seated o m b v x h p

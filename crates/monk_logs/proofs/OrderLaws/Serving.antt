@@ -27,11 +27,13 @@ also_other p w j ne = or-false (p j) (eqb w j) (ne_eqb w j (λ (e : w ≡ j). ne
 also_it : (p : ℕ → Bool) (w : ℕ) → also w p w ≡ true
 also_it p w = or_right (p w) (eqb w w) (same_number w)
 
-pub distinct_one : (c : ℕ) (items : List Item) → Distinct (all_seats items) → Distinct (all_seats (items ++ Service c ∷ []))
+pub distinct_one : (c : ℕ) (items : List Item) → Distinct (all_seats items)
+    → Distinct (all_seats (items ++ Service c ∷ []))
 distinct_one c items d = subst Distinct (sym (all_seats_one c items)) d
 
 pub serve_all : (o : Order) (p : ℕ → Bool) (c : ℕ) (ws : List ℕ) (items : List Item) → Distinct (all_seats items)
-    → others p (line c items) ≡ ws → Fits o p items → Fits o (λ j. p j || is_among j ws) (items ++ map (λ s. Service c) ws)
+    → others p (line c items) ≡ ws → Fits o p items
+    → Fits o (λ j. p j || is_among j ws) (items ++ map (λ s. Service c) ws)
 serve_all o p c [] items d h f =
     subst (λ (xs : List Item). Fits o (λ j. p j || false) xs) (sym (append-nil items))
     (fits_same o p (λ j. p j || false) items (λ j. or-false (p j) false refl) f)
@@ -91,7 +93,8 @@ module _ (o : Order) (q : ℕ → Bool) (c : ℕ) (items : List Item) (dis : Dis
               (subst (λ (k : List (Option ℕ)). Led o q k) (line_one c d items e) (f.led d))).led,
         )
 
-    unserve_there : (d : ℕ) → (c ≡ d → ⊥) → Covers (but last.seat q) 0 (line d items) × Led o (but last.seat q) (line d items)
+    unserve_there : (d : ℕ) → (c ≡ d → ⊥)
+        → Covers (but last.seat q) 0 (line d items) × Led o (but last.seat q) (line d items)
     unserve_there d ne =
         let w = last.seat in
         let p = but w q in
@@ -99,7 +102,8 @@ module _ (o : Order) (q : ℕ → Bool) (c : ℕ) (items : List Item) (dis : Dis
         let agree : AgreeOn q p (seats_in l) =
         agree_apart w q p (seats_in l) (but_other q w)
         (not_elsewhere w c d items dis (last_among q w (seats_in (line c items)) last.last) ne) in (
-          covers_agree q p 0 l agree (subst (λ (k : List (Option ℕ)). Covers q 0 k) (line_one_other c d items ne) (f.covers d)),
+          covers_agree q p 0 l agree (subst (λ (k : List (Option ℕ)). Covers q 0 k)
+              (line_one_other c d items ne) (f.covers d)),
           led_agree o q p l agree (subst (λ (k : List (Option ℕ)). Led o q k) (line_one_other c d items ne) (f.led d)),
         )
 

@@ -65,7 +65,8 @@ served_few (Resume s q) queue = omega arith
 served_few (SignalAll s c) queue = omega arith
 served_few (SignalWait s c d x) queue = length-take-few 1 queue
 
-keeps_gifts : (ws : List ℕ) (l : List (Option ℕ)) → keeps_up 0 l ≡ true → services_in l + length ws ≤ length (seats_in l)
+keeps_gifts : (ws : List ℕ) (l : List (Option ℕ)) → keeps_up 0 l ≡ true
+    → services_in l + length ws ≤ length (seats_in l)
     → keeps_up 0 (l ++ gifts ws) ≡ true
 keeps_gifts [] l h le = ap (keeps_up 0) (append-nil l) ∙ h
 keeps_gifts (w ∷ ws) l h le =
@@ -84,7 +85,12 @@ line_more c items (Some d) f h le =
     line_given d c (f d) e ∙ ap (λ (y : ℕ). gifts (f y)) e in
     ap (λ (l : List (Option ℕ)). keeps_up 0 (line c items ++ l)) same
     ∙ keeps_gifts (f c) (line c items) h
-    (omega (arith, few_services 0 (line c items) h, length-drop (services_in (line c items)) (seats_in (line c items)))))
+    (omega (
+      arith,
+      few_services 0 (line c items) h,
+      length-drop (services_in (line c items))
+          (seats_in (line c items)),
+    )))
     (λ ne. ap (λ (l : List (Option ℕ)). keeps_up 0 (line c items ++ l)) (line_given_other d c (f d) ne)
     ∙ (ap (keeps_up 0) (append-nil (line c items)) ∙ h)) (cases_eq d c)
 
@@ -98,10 +104,12 @@ keeps_with b e h c =
 abbrev permits_next : Rules → Bool → Chances → Event → Option Next → Bool
 permits_next k stays q e n =
     cond stays (is_stay n)
-    (option_map_or (λ x. cond (is_some (steps_back e)) (may_signal_by k q (seat_of e) x) (may_choose_by k q (seat_of e) x)) n true)
+    (option_map_or (λ x. cond (is_some (steps_back e)) (may_signal_by k q (seat_of e) x)
+    (may_choose_by k q (seat_of e) x)) n true)
 
 waiter_picked : (k : Rules) (stays back : Bool) (q : Chances) (s j : ℕ)
-    → cond stays false (cond back (may_signal_by k q s (next.Waiter j)) (may_choose_by k q s (next.Waiter j))) ≡ true → q.waiter j ≡ true
+    → cond stays false (cond back (may_signal_by k q s (next.Waiter j)) (may_choose_by k q s (next.Waiter j)))
+    ≡ true → q.waiter j ≡ true
 waiter_picked k true back q s j h = absurd (false≢true h)
 waiter_picked k false true q s j h = signalled_by k q s (next.Waiter j) h
 waiter_picked k false false q s j h = (chosen_by k q s (next.Waiter j) h).picks
@@ -109,7 +117,8 @@ waiter_picked k false false q s j h = (chosen_by k q s (next.Waiter j) h).picks
 pub waiter_permitted : (k : Rules) (stays : Bool) (q : Chances) (e : Event) (j : ℕ) → permits_by k stays q e ≡ true
     → next_of e ≡ Some (next.Waiter j) → q.waiter j ≡ true
 waiter_permitted k stays q e j h is =
-    waiter_picked k stays (is_some (steps_back e)) q (seat_of e) j (subst (λ (n : Option Next). permits_next k stays q e n ≡ true) is h)
+    waiter_picked k stays (is_some (steps_back e)) q (seat_of e) j
+    (subst (λ (n : Option Next). permits_next k stays q e n ≡ true) is h)
 
 keeps_taken_out : (o : Order) (j c : ℕ) (items : List Item) → Distinct (all_seats items) → was_served o j items ≡ true
     → keeps_up 0 (line c items) ≡ true → keeps_up 0 (line c (taken_out j items)) ≡ true
@@ -129,7 +138,8 @@ keeps_chosen o c items (Some (next.Waiter j)) dis may h = keeps_taken_out o j c 
 keeps_chosen o c items (Some (next.Signaller j)) dis may h = h
 keeps_chosen o c items (Some (next.Until j)) dis may h = h
 
-keeps_came : (s c d : ℕ) (items : List Item) → keeps_up 0 (line c items) ≡ true → keeps_up 0 (line c (items ++ Waiting s d ∷ [])) ≡ true
+keeps_came : (s c d : ℕ) (items : List Item) → keeps_up 0 (line c items) ≡ true
+    → keeps_up 0 (line c (items ++ Waiting s d ∷ [])) ≡ true
 keeps_came s c d items h =
     ap (keeps_up 0) (line-append c items (Waiting s d ∷ []))
     ∙ ⊎_elim (λ e. rw (eq-eqb d c e) (keeps_joined 0 s (line c items) h))
@@ -148,11 +158,13 @@ pub was_served_chosen : (o : Order) (m : Monitor) (b : Board) (e : Event) → Pa
     → next_of e ≡ Some (next.Waiter j) → was_served o j (items_with b e) ≡ true
 was_served_chosen o m b e p j is = resume_served o j (items_with b e) (may_resume_chosen o m b e p j is)
 
-pub sound_after : (o : Order) (m : Monitor) (b : Board) (e : Event) → Sound b → Passes o m b e → Sound (board_after m.object b e)
+pub sound_after : (o : Order) (m : Monitor) (b : Board) (e : Event) → Sound b → Passes o m b e
+    → Sound (board_after m.object b e)
 sound_after o m b e h p = record {
   seated = seated_after o m b e h.seated p;
   keeps = λ c. keeps_item (seat_of e) c (chosen_out (next_of e) (items_with b e)) (waits_on e)
-      (keeps_chosen o c (items_with b e) (next_of e) (distinct_with b e h) (was_served_chosen o m b e p) (keeps_with b e h c));
+      (keeps_chosen o c (items_with b e) (next_of e) (distinct_with b e h) (was_served_chosen o m b e p)
+      (keeps_with b e h c));
 }
 
 -- ---- a wait that ran out
@@ -172,16 +184,20 @@ keeps_lapse : (o : Order) (j c : ℕ) (items : List Item) → Distinct (all_seat
 keeps_lapse o j c items dis may h =
     ⊎_elim
     (λ m. keeps_gone o j c items dis
-    (ap (λ (x : Option ℕ). option_map_or (λ (d : ℕ). can_be_unserved o j d items) x false) (sym (waits_only j c items dis m)) ∙ may) h)
-    (λ m. ap (keeps_up 0) (line_lapsed j c items ∙ unlapsed j (line c items) m) ∙ h) (cases_Bool (is_among j (seats_in (line c items))))
+    (ap (λ (x : Option ℕ). option_map_or (λ (d : ℕ). can_be_unserved o j d items) x false)
+    (sym (waits_only j c items dis m)) ∙ may) h)
+    (λ m. ap (keeps_up 0) (line_lapsed j c items ∙ unlapsed j (line c items) m) ∙ h)
+    (cases_Bool (is_among j (seats_in (line c items))))
 
-pub lapse_there : (o : Order) (j : ℕ) (items : List Item) → may_lapse o j items ≡ true → is_among j (all_seats items) ≡ true
+pub lapse_there : (o : Order) (j : ℕ) (items : List Item) → may_lapse o j items ≡ true
+    → is_among j (all_seats items) ≡ true
 lapse_there o j items may = let r = lapses o j items may in among_line j r.on items (waits_there j r.on items r.waits)
 
 lapse_times : (j s : ℕ) (items : List Item) → is_among j (all_seats items) ≡ true
     → times s (all_seats (without_seat j items)) + cond (eqb j s) 1 0 ≤ times s (all_seats items)
 lapse_times j s items m =
-    subst (λ (xs : List ℕ). times s xs + cond (eqb j s) 1 0 ≤ times s (all_seats items)) (sym (all_seats_lapsed j items))
+    subst (λ (xs : List ℕ). times s xs + cond (eqb j s) 1 0 ≤ times s (all_seats items))
+    (sym (all_seats_lapsed j items))
     (times_taken (λ x. not (eqb x j)) j s (all_seats items) m (ap not (same_number j)))
 
 pub sound_lapse : (o : Order) (b : Board) (s : ℕ) → Sound b → may_lapse o s b.items ≡ true → Sound (board_lapse b s)
@@ -199,12 +215,14 @@ sound_opening m = record { seated = λ s. omega arith; keeps = λ c. refl }
 abbrev pub firsts : List Item → List ℕ
 firsts items = filter (λ j. was_served Wake j items) (all_seats items)
 
-first_agree : (c : ℕ) (items : List Item) → Distinct (all_seats items) → (j : ℕ) → is_among j (seats_in (line c items)) ≡ true
+first_agree : (c : ℕ) (items : List Item) → Distinct (all_seats items) → (j : ℕ)
+    → is_among j (seats_in (line c items)) ≡ true
     → is_among j (firsts items) ≡ is_among j (take (services_in (line c items)) (seats_in (line c items)))
 first_agree c items dis j m =
     among_filter (λ k. was_served Wake k items) j (all_seats items)
     ∙ ap (λ (x : Bool). x && was_served Wake j items) (among_line j c items m)
-    ∙ ap (λ (x : Option ℕ). option_map_or (λ (d : ℕ). can_be_served Wake j (line d items)) x false) (waits_only j c items dis m)
+    ∙ ap (λ (x : Option ℕ). option_map_or (λ (d : ℕ). can_be_served Wake j (line d items)) x false)
+    (waits_only j c items dis m)
 
 led_firsts : (o : Order) (p : ℕ → Bool) (l : List (Option ℕ)) → Leads p (services_in l) (seats_in l) → Led o p l
 led_firsts Fifo p l h = h
@@ -219,7 +237,9 @@ firsts_fit o b h =
     leads_from p (services_in (line c b.items)) (seats_in (line c b.items)) (distinct_line c b.items dis)
     (omega (arith, few_services 0 (line c b.items) (h.keeps c))) (first_agree c b.items dis) in
     record {
-      covers = λ c. covers_first p 0 0 (services_in (line c b.items)) (line c b.items) (omega arith) (inr refl) (h.keeps c) (leads c);
+      covers =
+          λ c. covers_first p 0 0 (services_in (line c b.items)) (line c b.items) (omega arith) (inr refl)
+          (h.keeps c) (leads c);
       led = λ c. led_firsts o p (line c b.items) (leads c);
       stand = λ j k. (and_parts (is_among j (all_seats b.items)) (was_served Wake j b.items)
           (sym (among_filter (λ i. was_served Wake i b.items) j (all_seats b.items)) ∙ k)).0;

@@ -81,7 +81,8 @@ no_cover n (Some s ∷ l) (inr h) = no_cover n l h.1
 no_cover zero (None ∷ l) h = absurd h
 no_cover (suc n) (None ∷ l) h = ap (λ (k : ℕ). suc k) (no_cover n l h)
 
-empty_waiters_at : (o : Order) (ws cs : List ℕ) (items : List Item) → Distinct (all_seats items) → Fits o (among ws) items
+empty_waiters_at : (o : Order) (ws cs : List ℕ) (items : List Item) → Distinct (all_seats items)
+    → Fits o (among ws) items
     → services items ≡ cs → is_empty ws ≡ is_empty cs
 empty_waiters_at o [] [] items dis f is = refl
 empty_waiters_at o [] (c ∷ cs) items dis f is =
@@ -89,7 +90,8 @@ empty_waiters_at o [] (c ∷ cs) items dis f is =
 empty_waiters_at o (w ∷ ws) [] items dis f is =
     let s = some_line w items (f.stand w (among_here w ws)) in
     let l = line s.0 items in
-    let g = chosen_goes (among (w ∷ ws)) (among (w ∷ ws)) w 0 l (distinct_line s.0 items dis) s.1 (among_here w ws) (λ k ne. refl)
+    let g = chosen_goes (among (w ∷ ws)) (among (w ∷ ws)) w 0 l (distinct_line s.0 items dis) s.1
+    (among_here w ws) (λ k ne. refl)
     (f.covers s.0) in
     absurd (omega (arith, services_taken w l g.behind, no_service s.0 items is))
 empty_waiters_at o (w ∷ ws) (c ∷ cs) items dis f is = refl
@@ -106,13 +108,15 @@ empty_condition o b t h c =
 
 -- ---- the tests
 
-same_at : {X : Type 0} (f g : ℕ → X) (x : Option ℕ) (d : X) → ((c : ℕ) → f c ≡ g c) → option_map_or f x d ≡ option_map_or g x d
+same_at : {X : Type 0} (f g : ℕ → X) (x : Option ℕ) (d : X) → ((c : ℕ) → f c ≡ g c)
+    → option_map_or f x d ≡ option_map_or g x d
 same_at f g None d h = refl
 same_at f g (Some c) d h = h c
 
 same_signals : (f g : ℕ → List ℕ) (e : Event) → ((c : ℕ) → is_empty (f c) ≡ is_empty (g c)) → signals f e ≡ signals g e
 same_signals f g e h =
-    same_at (λ c. cond (is_empty (f c)) [] (seat_of e ∷ [])) (λ c. cond (is_empty (g c)) [] (seat_of e ∷ [])) (steps_back e) []
+    same_at (λ c. cond (is_empty (f c)) [] (seat_of e ∷ [])) (λ c. cond (is_empty (g c)) [] (seat_of e ∷ []))
+    (steps_back e) []
     (λ c. ap (λ (b : Bool). cond b [] (seat_of e ∷ [])) (h c))
 
 pub signals_same : (o : Order) (b : Board) (t : Situation) (e : Event) → Stands o b t
@@ -137,7 +141,8 @@ module _ (o : Order) (b : Board) (t : Situation) (dis : Distinct (all_seats b.it
   enters_same object Free =
       ap (λ (x : Bool). x && is_empty t.signallers && is_empty (ready_of object t.state t.untils))
       (empty_waiters o t.waiters b.items dis h.fits)
-      ∙ (ap (λ (xs : List ℕ). is_empty (services b.items) && is_empty xs && is_empty (ready_of object t.state t.untils)) h.signallers
+      ∙ (ap (λ (xs : List ℕ). is_empty (services b.items) && is_empty xs
+      && is_empty (ready_of object t.state t.untils)) h.signallers
       ∙ ap (λ (xs : List ℕ). is_empty (services b.items) && is_empty b.signallers && is_empty xs)
       (ready_same object b t h.state h.untils))
   enters_same object Handed = h.begun

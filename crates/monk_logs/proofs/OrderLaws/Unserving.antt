@@ -65,24 +65,29 @@ serves_it : (o : Order) (w : ℕ) (queue : List ℕ) → may_be_served o w queue
 serves_it o w [] h = absurd (false≢true (sym (nobody_may o w) ∙ h))
 serves_it o w (x ∷ xs) h = record { seat = w; is_it = refl; may_be = h }
 
-one_before : (o : Order) (items : List Item) (c : ℕ) (vs : List ℕ) → Unserved o (among vs) c items → BeforeOn o items c vs (ServesAny o)
+one_before : (o : Order) (items : List Item) (c : ℕ) (vs : List ℕ) → Unserved o (among vs) c items
+    → BeforeOn o items c vs (ServesAny o)
 one_before o items c vs u =
     let w = u.seat in
     let ws : List ℕ = filter (λ j. not (eqb w j)) vs in
     let is : (j : ℕ) → is_among j ws ≡ but w (among vs) j = λ j. among_filter (λ k. not (eqb w k)) j vs in
     let queue : others (but w (among vs)) (line c items) ≡ apart ws (seats_in (line c items)) =
-    filter_agree (λ j. not (but w (among vs) j)) (λ j. not (is_among j ws)) (λ j. ap not (sym (is j))) (seats_in (line c items)) in
+    filter_agree (λ j. not (but w (among vs) j)) (λ j. not (is_among j ws)) (λ j. ap not (sym (is j)))
+    (seats_in (line c items)) in
     record {
       waiters = ws;
       served = w ∷ [];
       fits = fits_same o (but w (among vs)) (among ws) items (λ j. sym (is j)) u.fits;
-      serves = serves_it o w (apart ws (seats_in (line c items))) (subst (λ (xs : List ℕ). may_be_served o w xs ≡ true) queue u.may_be);
+      serves =
+          serves_it o w (apart ws (seats_in (line c items)))
+          (subst (λ (xs : List ℕ). may_be_served o w xs ≡ true) queue u.may_be);
       same = λ j. ⊎_elim
           (λ k. subst (λ (x : ℕ). is_among x vs ≡ is_among x (ws ++ w ∷ [])) (sym k) (u.was ∙ sym (with_it w ws)))
           (λ ne. but_other (among vs) w j ne ∙ (sym (is j) ∙ with_other w ws j ne)) (cases_eq j w);
     }
 
-any_before : (o : Order) (items : List Item) (c : ℕ) (vs un : List ℕ) → Distinct (all_seats items) → unserved_in (line c items) ≡ un
+any_before : (o : Order) (items : List Item) (c : ℕ) (vs un : List ℕ) → Distinct (all_seats items)
+    → unserved_in (line c items) ≡ un
     → Fits o (among vs) (items ++ map (λ s. Service c) (take 1 un)) → BeforeOn o items c vs (ServesAny o)
 any_before o items c vs [] dis e f =
     let g = without_nobody o (among vs) items f in
@@ -91,7 +96,8 @@ any_before o items c vs [] dis e f =
       served = [];
       fits = g;
       serves = serves_nobody o (apart vs (seats_in (line c items)))
-          (empty_same (apart vs (seats_in (line c items))) (unserved_in (line c items)) (as_many (among vs) (line c items) (g.covers c))
+          (empty_same (apart vs (seats_in (line c items))) (unserved_in (line c items))
+          (as_many (among vs) (line c items) (g.covers c))
           ∙ ap (λ (xs : List ℕ). is_empty xs) e);
       same = same_nobody vs;
     }
@@ -103,16 +109,19 @@ nobody_there : (j : ℕ) (xs : List ℕ) → length xs ≡ 0 → is_among j xs �
 nobody_there j [] h m = false≢true m
 nobody_there j (x ∷ xs) h m = omega arith
 
-none_left : (p : ℕ → Bool) (l : List (Option ℕ)) → length (others p l) ≡ 0 → (j : ℕ) → is_among j (seats_in l) ≡ true → p j ≡ true
+none_left : (p : ℕ → Bool) (l : List (Option ℕ)) → length (others p l) ≡ 0 → (j : ℕ)
+    → is_among j (seats_in l) ≡ true → p j ≡ true
 none_left p l h j m = true_from_ne_false (p j) (λ k. nobody_there j (others p l) h (among_rest p j l m k))
 
 -- where as many services were given as seats were unserved, all are served
-all_told : (p : ℕ → Bool) (l : List (Option ℕ)) → keeps_up 0 l ≡ true → Covers p 0 (l ++ gifts (unserved_in l)) → (j : ℕ)
+all_told : (p : ℕ → Bool) (l : List (Option ℕ)) → keeps_up 0 l ≡ true → Covers p 0 (l ++ gifts (unserved_in l))
+    → (j : ℕ)
     → is_among j (seats_in l) ≡ true → p j ≡ true
 all_told p l keeps h =
     let un = unserved_in l in
     let seats : seats_in (l ++ gifts un) ≡ seats_in l =
-    seats_in-append l (gifts un) ∙ (ap (λ (xs : List ℕ). seats_in l ++ xs) (seats_gifts un) ∙ append-nil (seats_in l)) in
+    seats_in-append l (gifts un)
+    ∙ (ap (λ (xs : List ℕ). seats_in l ++ xs) (seats_gifts un) ∙ append-nil (seats_in l)) in
     none_left p l (omega (
       arith,
       covers_count p 0 (l ++ gifts un) h,
@@ -137,8 +146,10 @@ or_nothing : (x : Bool) → x ≡ (x || false)
 or_nothing true = refl
 or_nothing false = refl
 
-all_before : (o : Order) (items : List Item) (c : ℕ) (vs : List ℕ) → keeps_up 0 (line c items) ≡ true → Distinct (all_seats items)
-    → Fits o (among vs) (items ++ map (λ s. Service c) (unserved_in (line c items))) → BeforeOn o items c vs (λ queue ws. ws ≡ queue)
+all_before : (o : Order) (items : List Item) (c : ℕ) (vs : List ℕ) → keeps_up 0 (line c items) ≡ true
+    → Distinct (all_seats items)
+    → Fits o (among vs) (items ++ map (λ s. Service c) (unserved_in (line c items)))
+    → BeforeOn o items c vs (λ queue ws. ws ≡ queue)
 all_before o items c vs keeps dis f =
     let un = unserved_in (line c items) in
     let r = unserve_all o (among vs) c un items dis f in
@@ -149,7 +160,8 @@ all_before o items c vs keeps dis f =
     let told = all_told (among vs) (line c items) keeps (subst (λ (l : List (Option ℕ)). Covers (among vs) 0 l)
     (line-append c items (map (λ s. Service c) un)
     ∙ ap (λ (l : List (Option ℕ)). line c items ++ l) (line_given c c un refl)) (f.covers c)) in
-    let both : (j : ℕ) → is_among j (ws ++ apart ws seats) ≡ (is_among j ws || (is_among j seats && not (is_among j ws))) = λ j.
+    let both : (j : ℕ)
+    → is_among j (ws ++ apart ws seats) ≡ (is_among j ws || (is_among j seats && not (is_among j ws))) = λ j.
     among-append j ws (apart ws seats) ∙ ap (λ (x : Bool). is_among j ws || x) (among_apart j ws seats) in
     record {
       waiters = ws;
@@ -158,7 +170,8 @@ all_before o items c vs keeps dis f =
       serves = refl;
       same = λ j. ⊎_elim
           (λ m. told j m
-          ∙ (sym (ap (λ (x : Bool). is_among j ws || (x && not (is_among j ws))) m ∙ either_way (is_among j ws)) ∙ sym (both j)))
+          ∙ (sym (ap (λ (x : Bool). is_among j ws || (x && not (is_among j ws))) m
+          ∙ either_way (is_among j ws)) ∙ sym (both j)))
           (λ m. r.outside j m ∙ (sym (is j) ∙ (or_nothing (is_among j ws)
           ∙ (sym (ap (λ (x : Bool). is_among j ws || (x && not (is_among j ws))) m) ∙ sym (both j)))))
           (cases_Bool (is_among j seats));
@@ -166,10 +179,17 @@ all_before o items c vs keeps dis f =
 
 -- ---- each event
 
-none_before : (o : Order) (b : Board) (e : Event) (vs : List ℕ) → Serves o (λ c. apart vs (seats_in (line c b.items))) e []
+none_before : (o : Order) (b : Board) (e : Event) (vs : List ℕ)
+    → Serves o (λ c. apart vs (seats_in (line c b.items))) e []
     → Fits o (among vs) (b.items ++ []) → Before o b e vs
 none_before o b e vs s f =
-    record { waiters = vs; served = []; fits = without_nobody o (among vs) b.items f; serves = s; same = same_nobody vs }
+    record {
+      waiters = vs;
+      served = [];
+      fits = without_nobody o (among vs) b.items f;
+      serves = s;
+      same = same_nobody vs;
+    }
 
 module _ (o : Order) (b : Board) (vs : List ℕ) (sound : Sound b) where
   any_of : (c : ℕ) → Fits o (among vs) (b.items ++ map (λ s. Service c) (take 1 (unserved_in (line c b.items))))
@@ -182,13 +202,16 @@ module _ (o : Order) (b : Board) (vs : List ℕ) (sound : Sound b) where
   unserved (Leave v x) f = none_before o b (Leave v x) vs refl f
   unserved (Wait v c x) f = none_before o b (Wait v c x) vs refl f
   unserved (Signal v c x) f =
-      let r = any_of c f in record { waiters = r.waiters; served = r.served; fits = r.fits; serves = r.serves; same = r.same }
+      let r = any_of c f in
+      record { waiters = r.waiters; served = r.served; fits = r.fits; serves = r.serves; same = r.same }
   unserved (SignalLeave v c x) f =
-      let r = any_of c f in record { waiters = r.waiters; served = r.served; fits = r.fits; serves = r.serves; same = r.same }
+      let r = any_of c f in
+      record { waiters = r.waiters; served = r.served; fits = r.fits; serves = r.serves; same = r.same }
   unserved (Until v p x) f = none_before o b (Until v p x) vs refl f
   unserved (Resume v q) f = none_before o b (Resume v q) vs refl f
   unserved (SignalAll v c) f =
       let r = all_before o b.items c vs (sound.keeps c) (sound_distinct b sound) f in
       record { waiters = r.waiters; served = r.served; fits = r.fits; serves = r.serves; same = r.same }
   unserved (SignalWait v c d x) f =
-      let r = any_of c f in record { waiters = r.waiters; served = r.served; fits = r.fits; serves = r.serves; same = r.same }
+      let r = any_of c f in
+      record { waiters = r.waiters; served = r.served; fits = r.fits; serves = r.serves; same = r.same }

@@ -45,7 +45,8 @@ module _ (o w : Order) (wider : IsWider o w) where
   serves_wider condition (SignalAll v c) ws s = s
   serves_wider condition (SignalWait v c d x) ws s = any_wider (condition c) ws s
 
-  move_wider : (m : Monitor) (t : Situation) (e : Event) (ws : List ℕ) (u : Situation) → IsMove o m t e ws u → IsMove w m t e ws u
+  move_wider : (m : Monitor) (t : Situation) (e : Event) (ws : List ℕ) (u : Situation) → IsMove o m t e ws u
+      → IsMove w m t e ws u
   move_wider m t e ws u move =
       let q = queues_with m.object t e ws in
       record {
@@ -80,9 +81,11 @@ module _ (o w : Order) (wider : IsWider o w) where
     move = move_wider m t e r.served r.next r.move;
     goes_on = runs_wider m steps r.next r.goes_on;
   }
-  runs_wider m (Lapsed s ∷ steps) t r = record { next = r.next; lapse = r.lapse; goes_on = runs_wider m steps r.next r.goes_on }
+  runs_wider m (Lapsed s ∷ steps) t r =
+      record { next = r.next; lapse = r.lapse; goes_on = runs_wider m steps r.next r.goes_on }
 
-pub fifo_serves_is_wake : (condition : ℕ → List ℕ) (e : Event) (ws : List ℕ) → Serves Fifo condition e ws → Serves Wake condition e ws
+pub fifo_serves_is_wake : (condition : ℕ → List ℕ) (e : Event) (ws : List ℕ) → Serves Fifo condition e ws
+    → Serves Wake condition e ws
 fifo_serves_is_wake condition e ws s = serves_wider Fifo Wake wake_is_wider condition e ws s
 
 pub fifo_move_is_wake : (m : Monitor) (t : Situation) (e : Event) (ws : List ℕ) (u : Situation) → IsMove Fifo m t e ws u

@@ -26,7 +26,8 @@ module _ {X : Type 0} (lead : X → LogLine → Result X Blame) where
   along_end n x = refl
 
   -- with one line more done
-  pub along_more : (log : List LogLine) (i : ℕ) (l : LogLine) (x : X) (r : Result X Blame) (v : LogVerdict) → i < length log
+  pub along_more : (log : List LogLine) (i : ℕ) (l : LogLine) (x : X) (r : Result X Blame) (v : LogVerdict)
+      → i < length log
       → verdict_along lead i (Ok x) (drop i log) ≡ v → r ≡ lead x (get_or log i l)
       → verdict_along lead (i + 1) r (drop (i + 1) log) ≡ v
   along_more log i l x r v within is judged =
@@ -56,7 +57,8 @@ module _ {X : Type 0} (lead : X → LogLine → Result X Blame) where
   along_stopped n old new l x why v is taken judged =
       sym (along_err (n + 1) why new) ∙ along_taken n old new l x (Err why) v is taken judged
 
-  pub along_done : (n : ℕ) (left : List LogLine) (x : X) (v : LogVerdict) → verdict_along lead n (Ok x) left ≡ v → left ≡ []
+  pub along_done : (n : ℕ) (left : List LogLine) (x : X) (v : LogVerdict)
+      → verdict_along lead n (Ok x) left ≡ v → left ≡ []
       → Fits ≡ v
   along_done n left x v is none = sym (along_end n x) ∙ sym (ap (verdict_along lead n (Ok x)) none) ∙ is
 
@@ -83,17 +85,20 @@ pub record Judges {X : Type 0} (Open : List LogLine → Type 0) (lead : X → Lo
     (At : List LogLine → X → Type 0) : Type 0
   where
     pub opens : (front : List LogLine) (x : X) → At front x → Open front
-    pub leads : (front : List LogLine) (x : X) (l : LogLine) (y : X) → At front x → lead x l ≡ Ok y → At (front ++ l ∷ []) y
+    pub leads : (front : List LogLine) (x : X) (l : LogLine) (y : X) → At front x → lead x l ≡ Ok y
+        → At (front ++ l ∷ []) y
     pub ends : (front : List LogLine) (x : X) (l : LogLine) (why : Blame) → At front x → lead x l ≡ Err why
         → Open (front ++ l ∷ []) → ⊥
 
-module _ {X : Type 0} (Open : List LogLine → Type 0) (lead : X → LogLine → Result X Blame) (At : List LogLine → X → Type 0)
+module _ {X : Type 0} (Open : List LogLine → Type 0) (lead : X → LogLine → Result X Blame)
+    (At : List LogLine → X → Type 0)
     (judges : Judges Open lead At)
   where
     misfits_here : (front more : List LogLine) (l : LogLine) → Open front → (Open (front ++ l ∷ []) → ⊥)
         → IsFirstWithout Open (front ++ l ∷ more) (length front + 1)
     misfits_here front more l opens f =
-        let before : take (length front + 1 - 1) (front ++ l ∷ more) ≡ front = take_at front (l ∷ more) _ (omega arith) in
+        let before : take (length front + 1 - 1) (front ++ l ∷ more) ≡ front =
+        take_at front (l ∷ more) _ (omega arith) in
         let through : take (length front + 1) (front ++ l ∷ more) ≡ front ++ l ∷ [] =
         ap (take (length front + 1)) (next_line front more l) ∙ take_at (front ++ l ∷ []) more _ (one_longer front l) in
         record { open_before = subst Open (sym before) opens; not_open = λ o. f (subst Open through o) }
@@ -107,7 +112,8 @@ module _ {X : Type 0} (Open : List LogLine → Type 0) (lead : X → LogLine →
         misfits_here front more l (judges.opens front x at) (judges.ends front x l why at is)
     verdict_behind front more x l (Ok y) at is f =
         subst (λ (n : ℕ). IsVerdictBy Open (front ++ l ∷ more) (verdict_along lead n (Ok y) more)) (one_longer front l)
-        (subst (λ (log : List LogLine). IsVerdictBy Open log (verdict_along lead (length (front ++ l ∷ [])) (Ok y) more))
+        (subst (λ (log : List LogLine). IsVerdictBy Open log
+        (verdict_along lead (length (front ++ l ∷ [])) (Ok y) more))
         (sym (next_line front more l)) (f y is))
 
     pub verdict_holds : (front more : List LogLine) (x : X) → At front x

@@ -47,7 +47,8 @@ added_to : (m : Monitor) (past : List Event) (e : Event) → IsLegal m past
 added_to m past e legal =
     added_if m past e (reason_in m (situation m past) e) (reason_in m (situation m past) e == 0) legal
 
-settled_same : (m : Monitor) (o : Option (List Event)) (r : Result Situation ℕ) → option_map (situation m) o ≡ result_ok r
+settled_same : (m : Monitor) (o : Option (List Event)) (r : Result Situation ℕ)
+    → option_map (situation m) o ≡ result_ok r
     → option_map (stand_at m) (option_map settled_course o) ≡ result_ok (settled_by r)
 settled_same m None (Ok t) h = absurd cc
 settled_same m None (Err r) h = refl
@@ -59,7 +60,8 @@ settles : (m : Monitor) (past : List Event) (e : Event) → IsLegal m past
 settles m past e legal = settled_same m (add m past e) (add_to m (situation m past) e) (added_to m past e legal)
 
 held_if : (m : Monitor) (past : List Event) (p : Pending) (why : Blame) (b : Bool)
-    → option_map (stand_at m) (cond b (Some (course past p)) None) ≡ result_ok (cond b (Ok (stand (situation m past) p)) (Err why))
+    → option_map (stand_at m) (cond b (Some (course past p)) None)
+    ≡ result_ok (cond b (Ok (stand (situation m past) p)) (Err why))
 held_if m past p why true = refl
 held_if m past p why false = refl
 

@@ -62,8 +62,10 @@ line_leads m front s l at =
     ∙ ap (λ (x : Stand). result_ok (line_over m x l)) at.stands
 
 -- a log with which some legal history begins is judged to its end
-judged_on : (m : Monitor) (front more : List LogLine) (n : ℕ) (r : Result Stand Blame) (o : Option Course) → judge m front ≡ o
-    → option_map (stand_at m) o ≡ result_ok r → verdict_from m n r more ≡ Fits → is_some (judge m (front ++ more)) ≡ true
+judged_on : (m : Monitor) (front more : List LogLine) (n : ℕ) (r : Result Stand Blame) (o : Option Course)
+    → judge m front ≡ o
+    → option_map (stand_at m) o ≡ result_ok r → verdict_from m n r more ≡ Fits
+    → is_some (judge m (front ++ more)) ≡ true
 unfolding verdict_along
 judged_on m front more n (Err why) o is same h = absurd cc
 judged_on m front more n (Ok s) None is same h = absurd cc

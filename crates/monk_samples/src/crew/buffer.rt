@@ -32,7 +32,8 @@ const STRIDE: u32 = 251;
 /// A hasty seat lets others run fewer times than this before a visit.
 const MOST_TURNS: u32 = 101;
 
-/// Half of the seats put the items 1 to `rounds`, and as many take as often, in haste or not. Gives their passes back, in order.
+/// Half of the seats put the items 1 to `rounds`, and as many take as often, in haste or not. Gives
+/// their passes back, in order.
 pub(crate) fn work_buffer<K: Style, R: Threads + Wait + Sync, G: Gate>(
     rt: &R,
     alloc: Global,
@@ -43,9 +44,11 @@ pub(crate) fn work_buffer<K: Style, R: Threads + Wait + Sync, G: Gate>(
 ) -> Result<Vec<Pass<K, Buffer>>, CrewFault>
     requires ready { AreReady K.rules hall.now passes.items }
     requires sample { IsOverBuffer rota.sample }
-    ensures served { IfOk result (λ v. HaveServed K.rules buffer_meaning (G.answers gate.now) rota.sample rota.seats rota.rounds
+    ensures served { IfOk result (λ v. HaveServed K.rules buffer_meaning
+        (G.answers gate.now) rota.sample rota.seats rota.rounds
         hall.now passes.items v.items) }
-    ensures fault { IfErr result (IsFaultOfCrew K.rules buffer_meaning (G.answers gate.now) rota.sample rota.seats rota.rounds
+    ensures fault { IfErr result (IsFaultOfCrew K.rules buffer_meaning
+        (G.answers gate.now) rota.sample rota.seats rota.rounds
         passes.items) }
 {
     let (working, idle) = part_idle(passes, rota);
@@ -86,7 +89,8 @@ fn start_all<'s, E, K: Style, R: Wait + Sync, G: Gate>(
     requires sample { IsOverBuffer rota.sample }
     ensures each { IfOk result (λ v. All (λ s. (s.promise.hall.value ≡ hall.now) × (s.promise.gate.value ≡ gate.now)
         × (s.promise.rota.value ≡ rota)) v.items) }
-    ensures passes { IfOk result (λ v. map (λ s. s.promise.pass.value) v.items ≡ map (λ w. w.pass) workers.entry.items) }
+    ensures passes { IfOk result (λ v. map (λ s. s.promise.pass.value) v.items
+        ≡ map (λ w. w.pass) workers.entry.items) }
     ensures fault { IfErr result IsWantOfRoom }
 {
     let mut crew = Vec::with_capacity(alloc, workers.len())?;
@@ -191,8 +195,8 @@ fn do_round<K: Style, R: Wait>(
     }
 }
 
-/// Lets other threads run, for a while that differs from seat to seat and from round to round. So the seats of a hasty run
-/// don't fall into step, and meet in many orders.
+/// Lets other threads run, for a while that differs from seat to seat and from round to round. So
+/// the seats of a hasty run don't fall into step, and meet in many orders.
 fn let_others_run(seat: u8, round: u32) {
     let turns = (round % STRIDE * (u32::from(seat) + 1)) % STRIDE % MOST_TURNS;
     for _ in 0..turns {

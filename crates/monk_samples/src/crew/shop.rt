@@ -36,9 +36,11 @@ pub(crate) fn work_shop<K: Style, R: Threads + Wait + Sync, G: Gate>(
 ) -> Result<Vec<Pass<K, Shop>>, CrewFault>
     requires ready { AreReady K.rules hall.now passes.items }
     requires sample { rota.sample ≡ sample.Shop }
-    ensures served { IfOk result (λ v. HaveServed K.rules shop_meaning (G.answers gate.now) rota.sample rota.seats rota.rounds
+    ensures served { IfOk result (λ v. HaveServed K.rules shop_meaning
+        (G.answers gate.now) rota.sample rota.seats rota.rounds
         hall.now passes.items v.items) }
-    ensures fault { IfErr result (IsFaultOfCrew K.rules shop_meaning (G.answers gate.now) rota.sample rota.seats rota.rounds
+    ensures fault { IfErr result (IsFaultOfCrew K.rules shop_meaning
+        (G.answers gate.now) rota.sample rota.seats rota.rounds
         passes.items) }
 {
     let (working, idle) = part_idle(passes, rota);
@@ -79,7 +81,8 @@ fn start_all<'s, E, K: Style, R: Wait + Sync, G: Gate>(
     requires sample { rota.sample ≡ sample.Shop }
     ensures each { IfOk result (λ v. All (λ s. (s.promise.hall.value ≡ hall.now) × (s.promise.gate.value ≡ gate.now)
         × (s.promise.rota.value ≡ rota)) v.items) }
-    ensures passes { IfOk result (λ v. map (λ s. s.promise.pass.value) v.items ≡ map (λ w. w.pass) workers.entry.items) }
+    ensures passes { IfOk result (λ v. map (λ s. s.promise.pass.value) v.items
+        ≡ map (λ w. w.pass) workers.entry.items) }
     ensures fault { IfErr result IsWantOfRoom }
 {
     let mut crew = Vec::with_capacity(alloc, workers.len())?;

@@ -10,7 +10,8 @@ use monk_kinds::{Kind, Pick};
 use monk_object::Guarded;
 use std::sync::Wait;
 
-/// Waits until the predicate holds, with that wish, and resumes if that parked it; or leaves with fewer than three events left.
+/// Waits until the predicate holds, with that wish, and resumes if that parked it; or leaves with
+/// fewer than three events left.
 pub(crate) fn pause<K: Kind, T: Guarded, R: Wait>(
     active: Active<K, T>,
     rt: &R,
@@ -21,7 +22,8 @@ pub(crate) fn pause<K: Kind, T: Guarded, R: Wait>(
     requires mode { has_conditions K.rules.mode ≡ false }
     requires hall { active.hall ≡ hall.now.id }
     requires pred { pred < T.PREDICATES }
-    ensures { MatchResult result (λ a. HasPaused K.rules T.meaning wish active (Event.Until active.me.seat pred Next.Stay) a)
+    ensures { MatchResult result (λ a. HasPaused K.rules T.meaning wish active
+        (Event.Until active.me.seat pred Next.Stay) a)
         (λ p. HasGivenUp K.rules T.meaning for_handing_over active p) }
 {
     if active.left() < 3 {

@@ -22,7 +22,8 @@ pub(crate) fn pause<K: Kind, T: Guarded, R: Wait>(
     requires mode { has_conditions K.rules.mode ≡ true }
     requires hall { active.hall ≡ hall.now.id }
     requires cond { cond < active.me.setting.conds }
-    ensures { MatchResult result (λ a. HasPaused K.rules T.meaning wish active (Event.Wait active.me.seat cond Next.Stay) a)
+    ensures { MatchResult result (λ a. HasPaused K.rules T.meaning wish active
+        (Event.Wait active.me.seat cond Next.Stay) a)
         (λ p. HasGivenUp K.rules T.meaning for_handing_over active p) }
 {
     if active.left() < 3 {

@@ -9,8 +9,8 @@ use monk_kinds::{ImmediateReturn, Pick};
 use monk_object::Guarded;
 use std::sync::Wait;
 
-/// Signals the first condition and waits on the second, and leaves when it is back; or leaves alone with fewer than three
-/// events left.
+/// Signals the first condition and waits on the second, and leaves when it is back; or leaves alone
+/// with fewer than three events left.
 pub(crate) fn signal_wait_and_leave<K: ImmediateReturn, T: Guarded, R: Wait>(
     active: Active<K, T>,
     rt: &R,
@@ -22,7 +22,8 @@ pub(crate) fn signal_wait_and_leave<K: ImmediateReturn, T: Guarded, R: Wait>(
     requires cond { cond < active.me.setting.conds }
     requires wait_cond { wait_cond < active.me.setting.conds }
     ensures { HasGoneOut K.rules T.meaning Pick.Waiter active
-        (Event.SignalWait active.me.seat cond wait_cond Next.Stay ∷ Event.Leave active.me.seat Next.Stay ∷ []) result.0 result.1 }
+        (Event.SignalWait active.me.seat cond wait_cond Next.Stay ∷ Event.Leave active.me.seat Next.Stay ∷ [])
+        result.0 result.1 }
 {
     if active.left() < 3 {
         return (active.leave(hall, Pick::Waiter), End::Tired);

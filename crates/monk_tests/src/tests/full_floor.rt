@@ -1,5 +1,5 @@
-//! A floor with as many seats and condition variables as there can be: each queue keeps its own order, whatever joins the
-//! others meanwhile.
+//! A floor with as many seats and condition variables as there can be: each queue keeps its own
+//! order, whatever joins the others meanwhile.
 ghost use Rattle.std.specs.Prelude.{◌≡◌, ◌<◌, IfOk, IsTrue};
 ghost use Rattle.monk_tests.specs.FloorCalls.{IsSameSize, OwnsTurn};
 

@@ -188,7 +188,8 @@ fn objects_of_versions(rt: HostRuntime) -> Result<(), Fail> {
     Ok(())
 }
 
-/// Lines that version 2 has besides, or that look like one, and what is told of each in version 1 and in the later ones.
+/// Lines that version 2 has besides, or that look like one, and what is told of each in version 1
+/// and in the later ones.
 static WORDS_OF_VERSION_TWO: [(&[u8], (u8, u32), (u8, u32)); 7] = [
     (b"signal-all 0 0\n", (2, 2), (0, 1)),
     (b"signal-all x 0\n", (2, 2), (3, 2)),

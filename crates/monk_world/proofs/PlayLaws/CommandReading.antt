@@ -47,7 +47,8 @@ op_takes : (ws : List Word) (x : Op × List Word) → op_at ws ≡ Ok x → (ws 
     × (x.0.code ≤ 255) × (x.0.arg ≤ 2 ^ 32 - 1)
 unfolding op_at
 op_takes ws x e =
-    let a = bind_ok (number_at 255 ws) (λ c. number_at (2 ^ 32 - 1) c.1 >>= λ a. Ok (record { code = c.0; arg = a.0 }, a.1)) x e in
+    let a = bind_ok (number_at 255 ws)
+    (λ c. number_at (2 ^ 32 - 1) c.1 >>= λ a. Ok (record { code = c.0; arg = a.0 }, a.1)) x e in
     let b = bind_ok (number_at (2 ^ 32 - 1) a.0.1) (λ n. Ok (record { code = a.0.0; arg = n.0 }, n.1)) x a.2 in
     let t = number_takes 255 ws a.0 a.1 in
     let u = number_takes (2 ^ 32 - 1) a.0.1 b.0 b.1 in
@@ -70,13 +71,15 @@ cond_pick_takes ws x e =
 
 cond_pick_again : (c : ℕ) (p : Pick) → c ≤ 255 → cond_pick_at (decimal c ∷ pick_word p ∷ []) ≡ Ok ((c, p), [])
 unfolding cond_pick_at
-cond_pick_again c p le = rw (number_again 255 c (pick_word p ∷ []) (lit< tt) le, one_of_again pick_word picks p [] (pick_again p)) refl
+cond_pick_again c p le =
+    rw (number_again 255 c (pick_word p ∷ []) (lit< tt) le, one_of_again pick_word picks p [] (pick_again p)) refl
 
 -- ---- an action
 
 -- what a line is where its verb has been read
 abbrev Ends : Verb → List Word → Command × List Word → Type 0
-Ends v ws y = (play_verb_word v ∷ ws ≡ action_words y.0 ++ y.1) × ActionFits y.0 × (play_verb_version v ≡ command_version y.0)
+Ends v ws y = (play_verb_word v ∷ ws ≡ action_words y.0 ++ y.1) × ActionFits y.0
+    × (play_verb_version v ≡ command_version y.0)
 
 abbrev behind : Verb → List Word → List Word
 behind v ws = play_verb_word v ∷ ws
@@ -108,7 +111,8 @@ action_takes verb.Signal ws x e =
 action_takes verb.SignalLeave ws x e =
     let b = bind_ok (cond_pick_at ws) (λ c. Ok (SignalLeave c.0.0 c.0.1, c.1)) x e in
     let t = cond_pick_takes ws b.0 b.1 in
-    subst (Ends verb.SignalLeave ws) (ok_is (SignalLeave b.0.0.0 b.0.0.1, b.0.1) x b.2) (ap (behind verb.SignalLeave) t.0, t.1, refl)
+    subst (Ends verb.SignalLeave ws) (ok_is (SignalLeave b.0.0.0 b.0.0.1, b.0.1) x b.2)
+    (ap (behind verb.SignalLeave) t.0, t.1, refl)
 action_takes verb.Until ws x e =
     let b = bind_ok (cond_pick_at ws) (λ c. Ok (Until c.0.0 c.0.1, c.1)) x e in
     let t = cond_pick_takes ws b.0 b.1 in
@@ -122,7 +126,8 @@ action_takes verb.SignalWait ws x e =
     let b = bind_ok (cond_pick_at a.0.1) (λ d. Ok (SignalWait a.0.0 d.0.0 d.0.1, d.1)) x a.2 in
     let t = number_takes 255 ws a.0 a.1 in
     let u = cond_pick_takes a.0.1 b.0 b.1 in
-    let whole : ws ≡ decimal a.0.0 ∷ decimal b.0.0.0 ∷ pick_word b.0.0.1 ∷ b.0.1 = t.0 ∙ ap (λ (v : List Word). decimal a.0.0 ∷ v) u.0 in
+    let whole : ws ≡ decimal a.0.0 ∷ decimal b.0.0.0 ∷ pick_word b.0.0.1 ∷ b.0.1 = t.0
+    ∙ ap (λ (v : List Word). decimal a.0.0 ∷ v) u.0 in
     subst (Ends verb.SignalWait ws) (ok_is (SignalWait a.0.0 b.0.0.0 b.0.0.1, b.0.1) x b.2)
     (ap (behind verb.SignalWait) whole, (t.1, u.1), refl)
 
@@ -143,11 +148,13 @@ after_wait : (c : ℕ) (p : Pick) → c ≤ 255 → action_after verb.Wait (deci
 unfolding action_after
 after_wait c p le = rw (cond_pick_again c p le) refl
 
-after_signal : (c : ℕ) (p : Pick) → c ≤ 255 → action_after verb.Signal (decimal c ∷ pick_word p ∷ []) ≡ Ok (Signal c p, [])
+after_signal : (c : ℕ) (p : Pick) → c ≤ 255
+    → action_after verb.Signal (decimal c ∷ pick_word p ∷ []) ≡ Ok (Signal c p, [])
 unfolding action_after
 after_signal c p le = rw (cond_pick_again c p le) refl
 
-after_signal_leave : (c : ℕ) (p : Pick) → c ≤ 255 → action_after verb.SignalLeave (decimal c ∷ pick_word p ∷ []) ≡ Ok (SignalLeave c p, [])
+after_signal_leave : (c : ℕ) (p : Pick) → c ≤ 255
+    → action_after verb.SignalLeave (decimal c ∷ pick_word p ∷ []) ≡ Ok (SignalLeave c p, [])
 unfolding action_after
 after_signal_leave c p le = rw (cond_pick_again c p le) refl
 
@@ -162,7 +169,8 @@ after_signal_all c le = rw (number_again 255 c [] (lit< tt) le) refl
 after_signal_wait : (c d : ℕ) (p : Pick) → c ≤ 255 → d ≤ 255
     → action_after verb.SignalWait (decimal c ∷ decimal d ∷ pick_word p ∷ []) ≡ Ok (SignalWait c d p, [])
 unfolding action_after
-after_signal_wait c d p le le_too = rw (number_again 255 c (decimal d ∷ pick_word p ∷ []) (lit< tt) le, cond_pick_again d p le_too) refl
+after_signal_wait c d p le le_too =
+    rw (number_again 255 c (decimal d ∷ pick_word p ∷ []) (lit< tt) le, cond_pick_again d p le_too) refl
 
 -- ---- a command
 
@@ -194,15 +202,18 @@ command_takes version ws x e =
     let none = (end_takes c.0.1 d.0 d.1).0 in
     let whole : a.0.1 ≡ action_words c.0.0 = verb_is ∙ action_is.0
     ∙ ap (λ (v : List Word). action_words c.0.0 ++ v) none ∙ append-nil (action_words c.0.0) in
-    let has : nat_le (command_version c.0.0) version ≡ true = ap (λ (n : ℕ). nat_le n version) (sym action_is.2) ∙ verb_has in
+    let has : nat_le (command_version c.0.0) version ≡ true =
+    ap (λ (n : ℕ). nat_le n version) (sym action_is.2) ∙ verb_has in
     subst (λ (y : (ℕ × Command) × List Word). (ws ≡ command_words y.0) × FitsVersion version y.0)
     (ok_is ((a.0.0, c.0.0), d.0.1) x d.2) (
       seat_is.0 ∙ ap (λ (v : List Word). decimal a.0.0 ∷ v) whole,
       ((seat_is.1, action_is.1), has),
     )
 
-from_after : (version : ℕ) (v : Verb) (s : ℕ) (ws : List Word) (c : Command) → nat_le (play_verb_version v) version ≡ true
-    → s ≤ 255 → action_after v ws ≡ Ok (c, []) → command_at version (decimal s ∷ play_verb_word v ∷ ws) ≡ Ok ((s, c), [])
+from_after : (version : ℕ) (v : Verb) (s : ℕ) (ws : List Word) (c : Command)
+    → nat_le (play_verb_version v) version ≡ true
+    → s ≤ 255 → action_after v ws ≡ Ok (c, [])
+    → command_at version (decimal s ∷ play_verb_word v ∷ ws) ≡ Ok ((s, c), [])
 unfolding command_at
 from_after version v s ws c has le h =
     rw (
@@ -229,7 +240,8 @@ action_again n s (Wait c p) le fits has =
 action_again n s (Signal c p) le fits has =
     from_after n verb.Signal s (decimal c ∷ pick_word p ∷ []) (Signal c p) has le (after_signal c p fits)
 action_again n s (SignalLeave c p) le fits has =
-    from_after n verb.SignalLeave s (decimal c ∷ pick_word p ∷ []) (SignalLeave c p) has le (after_signal_leave c p fits)
+    from_after n verb.SignalLeave s (decimal c ∷ pick_word p ∷ []) (SignalLeave c p) has le
+    (after_signal_leave c p fits)
 action_again n s (Until c p) le fits has =
     from_after n verb.Until s (decimal c ∷ pick_word p ∷ []) (Until c p) has le (after_until c p fits)
 action_again n s (SignalAll c) le fits has =
@@ -238,5 +250,6 @@ action_again n s (SignalWait c d p) le fits has =
     from_after n verb.SignalWait s (decimal c ∷ decimal d ∷ pick_word p ∷ []) (SignalWait c d p) has le
     (after_signal_wait c d p fits.0 fits.1)
 
-pub command_again : (version : ℕ) (m : ℕ × Command) → FitsVersion version m → command_at version (command_words m) ≡ Ok (m, [])
+pub command_again : (version : ℕ) (m : ℕ × Command) → FitsVersion version m
+    → command_at version (command_words m) ≡ Ok (m, [])
 command_again version m fits = action_again version m.0 m.1 fits.0.0 fits.0.1 fits.1

@@ -43,7 +43,8 @@ at_version v = parts_at v.0 v.1 >>= at_parts
 abbrev at_name : Unit {0} × List Word → Taken PlayHead
 at_name p = number_at 255 p.1 >>= at_version
 
-pub head_takes : (ws : List Word) (x : PlayHead × List Word) → play_head_at ws ≡ Ok x → (ws ≡ head_words x.0) × HeadFits x.0
+pub head_takes : (ws : List Word) (x : PlayHead × List Word) → play_head_at ws ≡ Ok x
+    → (ws ≡ head_words x.0) × HeadFits x.0
 unfolding play_head_at
 head_takes ws x e =
     let p = bind_ok (literal_at (codes "play") ws) at_name x e in

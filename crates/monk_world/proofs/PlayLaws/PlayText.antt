@@ -43,15 +43,18 @@ fit_under h [] fit told = tt
 fit_under h (c ∷ cs) fit told =
     let p = told_both (nat_le (command_version c.1) h.header.version) _ told in ((fit.0, p.0), fit_under h cs fit.1 p.1)
 
-fit_alone : (h : PlayHead) (cs : List (ℕ × Command)) → AllByRecursion (CommandFitsUnder h) cs → AllByRecursion CommandFits cs
+fit_alone : (h : PlayHead) (cs : List (ℕ × Command)) → AllByRecursion (CommandFitsUnder h) cs
+    → AllByRecursion CommandFits cs
 fit_alone h [] fit = tt
 fit_alone h (c ∷ cs) fit = (fit.0.0, fit_alone h cs fit.1)
 
-told_under : (h : PlayHead) (cs : List (ℕ × Command)) → AllByRecursion (CommandFitsUnder h) cs → AreToldIn h.header.version cs
+told_under : (h : PlayHead) (cs : List (ℕ × Command)) → AllByRecursion (CommandFitsUnder h) cs
+    → AreToldIn h.header.version cs
 told_under h [] fit = refl
 told_under h (c ∷ cs) fit = rw (fit.0.1, told_under h cs fit.1) refl
 
-head_fits : (h : Heading) (budget : ℕ) (cs : List (ℕ × Command)) → HasPlayText h budget cs → HeadFits (play_head h budget)
+head_fits : (h : Heading) (budget : ℕ) (cs : List (ℕ × Command)) → HasPlayText h budget cs
+    → HeadFits (play_head h budget)
 head_fits h budget cs has =
     record { header_fits = has.header_fits; some_budget = has.some_budget; budget_fits = has.budget_fits }
 

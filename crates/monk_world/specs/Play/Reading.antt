@@ -1,4 +1,5 @@
--- How the first line and the commands of a play are read from the words of their lines, and the whole play from its text.
+-- How the first line and the commands of a play are read from the words of their lines, and the
+-- whole play from its text.
 use Rattle.std.specs.Prelude.{◌-◌, ◌^◌, ℕ, List, [], ◌∷◌, Option, Some, None, Result, Ok, Err, nat_le, if◌then◌else◌, codes}
 use Rattle.std.specs.Global.{Vec}
 use Rattle.monk_kinds.specs.declared.mode.Pick.{Pick}
@@ -91,7 +92,8 @@ action_after verb.Signal ws = cond_pick_at ws >>= λ c. Ok (Signal c.0.0 c.0.1, 
 action_after verb.SignalLeave ws = cond_pick_at ws >>= λ c. Ok (SignalLeave c.0.0 c.0.1, c.1)
 action_after verb.Until ws = cond_pick_at ws >>= λ c. Ok (Until c.0.0 c.0.1, c.1)
 action_after verb.SignalAll ws = number_at 255 ws >>= λ c. Ok (SignalAll c.0, c.1)
-action_after verb.SignalWait ws = number_at 255 ws >>= λ c. cond_pick_at c.1 >>= λ d. Ok (SignalWait c.0 d.0.0 d.0.1, d.1)
+action_after verb.SignalWait ws =
+    number_at 255 ws >>= λ c. cond_pick_at c.1 >>= λ d. Ok (SignalWait c.0 d.0.0 d.0.1, d.1)
 
 -- a seat, a verb of the version, what the verb wants, and no word more
 unfoldable pub command_at : ℕ → List Word → Taken (ℕ × Command)

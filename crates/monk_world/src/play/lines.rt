@@ -14,8 +14,8 @@ use monk_history::Header;
 use monk_history::lines::{CheckedLines, ReadFault};
 use std::marker::Model;
 
-/// A play's text without a fault: its header, the budget of each seat, and the commands that are not yet read. Contracts
-/// see all three as a play.
+/// A play's text without a fault: its header, the budget of each seat, and the commands that are
+/// not yet read. Contracts see all three as a play.
 ///
 /// It borrows the bytes and holds no command, so its size is constant.
 #[derive(Drop)]

@@ -22,15 +22,17 @@ pub const MOST_COMMANDS: u32 = MOST_LINES;
 ///
 /// Each line ends by one byte 10, and exactly one byte 32 separates the words of a line. The first line is
 /// `play 1 KIND SEATS CONDS OBJECT SIZE BUDGET`: what stands in the header of a history, and a budget from
-/// [`monk_history::LEAST_BUDGET`] to [`monk_history::MOST_BUDGET`]. Each further line is a seat and an action, which is one of
+/// [`monk_history::LEAST_BUDGET`] to [`monk_history::MOST_BUDGET`]. Each further line is a seat and
+/// an action, which is one of
 ///
 /// - `arrive`, `look`, `out`, `peek`, `drop`, `grant`;
 /// - `act CODE ARG`;
-/// - `leave PICK`, `wait COND PICK`, `signal COND PICK`, `signal-leave COND PICK`, `until PRED PICK`, where PICK is `entry`,
-///   `waiter` or `signaller`.
+/// - `leave PICK`, `wait COND PICK`, `signal COND PICK`, `signal-leave COND PICK`, `until PRED
+/// PICK`, where PICK is `entry`, `waiter` or `signaller`.
 ///
-/// A seat, a code, a condition and a predicate are 0 to 255, an argument 0 to 2^32 - 1; whether the header's monitor has
-/// them isn't tested here. The first line with a fault decides, and within a line the first word:
+/// A seat, a code, a condition and a predicate are 0 to 255, an argument 0 to 2^32 - 1; whether the
+/// header's monitor has them isn't tested here. The first line with a fault decides, and within a
+/// line the first word:
 ///
 /// | Fault | Line | Where |
 /// |---|---|---|

@@ -21,7 +21,8 @@ result_is g c =
 
 reason_is : (g : _) (c : In_ok-reason g)
     → c.in_ok-reason.reason ≡ reason_in
-    (monitor c.args.course.now.rules c.args.course.now.header.seats c.args.course.now.header.conds g.T.Guarded.meaning [])
+    (monitor c.args.course.now.rules c.args.course.now.header.seats c.args.course.now.header.conds
+    g.T.Guarded.meaning [])
     (replay_situation c.loop-event.course.replay (g.T.Guarded.state c.loop-event.object)) c.in-Ok-Some.event
 reason_is g c =
     reason_there c.args.course.now.rules c.args.course.now.header.seats _ c.args.course.now.header.conds
@@ -32,7 +33,8 @@ reason_is g c =
 pub returns-then-reason-ne-ALLOWED-clause-step : goal.returns-then-reason-ne-ALLOWED-clause-step
 returns-then-reason-ne-ALLOWED-clause-step g c =
     let some = goal.at.returns-then-reason-ne-ALLOWED-clause-step g c in
-    let counted = said_of_item c.next_for.result c.in-Ok-Some.event _ (result_is g some.In-Ok-Some) c.next_for.ensures.counted in
+    let counted =
+    said_of_item c.next_for.result c.in-Ok-Some.event _ (result_is g some.In-Ok-Some) c.next_for.ensures.counted in
     rw c.loop-event.invariant.header
     (piece_forbidden _ c.args.course.now.header c.loop-event.count c.in_ok-reason.reason _ c.in-Ok-Some.event
     c.loop-event.lines c.next_for.new.self _ _
@@ -46,7 +48,8 @@ returns-then-reason-ne-ALLOWED-clause-step g c =
 pub loop-event-preserved : goal.loop-event-preserved
 loop-event-preserved g c =
     let some = goal.at.loop-event-preserved g c in
-    let counted = said_of_item c.next_for.result c.in-Ok-Some.event _ (result_is g some.In-Ok-Some) c.next_for.ensures.counted in
+    let counted =
+    said_of_item c.next_for.result c.in-Ok-Some.event _ (result_is g some.In-Ok-Some) c.next_for.ensures.counted in
     record {
       so_far = λ more.
           judged_more _ c.loop-event.count c.in_ok-reason.reason _

@@ -14,13 +14,25 @@ use Rattle.std.proofs.Common.{◌∙◌}
 pub returns-then-size-greatest_size-clause-verdict : goal.returns-then-size-greatest_size-clause-verdict
 returns-then-size-greatest_size-clause-verdict c =
     let big : most c.args.header.object < c.args.header.size =
-    omega (arith, c.if-size-greatest_size.true, c.greatest_size.ensures, ap most c.object.ensures, c.size-size.ensures.value) in
+    omega (
+      arith,
+      c.if-size-greatest_size.true,
+      c.greatest_size.ensures,
+      ap most c.object.ensures,
+      c.size-size.ensures.value,
+    ) in
     λ x. owed_found c.args.header 0 TooBig x ∙ too_big_verdict c.args.header (events_from c.args.header 0 x) big
 
 pub returns-in-Ok-clause-verdict : goal.returns-in-Ok-clause-verdict
 returns-in-Ok-clause-verdict c =
     let fits : c.args.header.size ≤ most c.args.header.object =
-    omega (arith, c.if-size-greatest_size.false, c.greatest_size.ensures, ap most c.object.ensures, c.size-size.ensures.value) in
+    omega (
+      arith,
+      c.if-size-greatest_size.false,
+      c.greatest_size.ensures,
+      ap most c.object.ensures,
+      c.size-size.ensures.value,
+    ) in
     let made = c.in_ok-course.ensures in
     λ x. owed_buffer c.in_ok-course.course c.in-Ok.buffer x
     ∙ begun c.args.header c.in_ok-course.course name.Buffer c.in-Ok.buffer x made.header made.rules made.count
@@ -33,7 +45,13 @@ returns-in-Ok-clause-sound c = c.in_ok-course.ensures.sound 2
 pub returns-in-Ok-make-clause-verdict : goal.returns-in-Ok-make-clause-verdict
 returns-in-Ok-make-clause-verdict c =
     let fits : c.args.header.size ≤ most c.args.header.object =
-    omega (arith, c.if-size-greatest_size.false, c.greatest_size.ensures, ap most c.object.ensures, c.size-size.ensures.value) in
+    omega (
+      arith,
+      c.if-size-greatest_size.false,
+      c.greatest_size.ensures,
+      ap most c.object.ensures,
+      c.size-size.ensures.value,
+    ) in
     let made = c.in_ok-course.ensures in
     λ x. owed_book c.in_ok-course.course c.in-Ok-make.book x
     ∙ begun c.args.header c.in_ok-course.course name.Book c.in-Ok-make.book x made.header made.rules made.count
@@ -46,7 +64,13 @@ returns-in-Ok-make-clause-sound c = c.in_ok-course.ensures.sound 2
 pub returns-in-Ok-make-2-clause-verdict : goal.returns-in-Ok-make-2-clause-verdict
 returns-in-Ok-make-2-clause-verdict c =
     let fits : c.args.header.size ≤ most c.args.header.object =
-    omega (arith, c.if-size-greatest_size.false, c.greatest_size.ensures, ap most c.object.ensures, c.size-size.ensures.value) in
+    omega (
+      arith,
+      c.if-size-greatest_size.false,
+      c.greatest_size.ensures,
+      ap most c.object.ensures,
+      c.size-size.ensures.value,
+    ) in
     let made = c.in_ok-course.ensures in
     λ x. owed_shop c.in_ok-course.course c.in-Ok-make-2.shop x
     ∙ begun c.args.header c.in_ok-course.course name.Shop c.in-Ok-make-2.shop x made.header made.rules made.count
@@ -59,7 +83,13 @@ returns-in-Ok-make-2-clause-sound c = c.in_ok-course.ensures.sound 3
 pub returns-in-Ok-make-3-clause-verdict : goal.returns-in-Ok-make-3-clause-verdict
 returns-in-Ok-make-3-clause-verdict c =
     let fits : c.args.header.size ≤ most c.args.header.object =
-    omega (arith, c.if-size-greatest_size.false, c.greatest_size.ensures, ap most c.object.ensures, c.size-size.ensures.value) in
+    omega (
+      arith,
+      c.if-size-greatest_size.false,
+      c.greatest_size.ensures,
+      ap most c.object.ensures,
+      c.size-size.ensures.value,
+    ) in
     let made = c.in_ok-course.ensures in
     λ x. owed_flags c.in_ok-course.course c.in-Ok-make-3.flags x
     ∙ begun c.args.header c.in_ok-course.course name.Flags c.in-Ok-make-3.flags x made.header made.rules made.count

@@ -13,7 +13,9 @@ returns-clause-legal g c =
     let before = g.W.Write.contents (inner_of c.args.writer.now) in
     let after = g.W.Write.contents (inner_of c.put.new.writer) in
     let bytes = c.deref.result.now in
-    let same = subst (λ (b : List ℕ). IfSome known (λ input. b ≡ input)) (sym c.deref.ensures.value) c.in_ok-bytes.ensures.bytes in
+    let same =
+    subst (λ (b : List ℕ). IfSome known (λ input. b ≡ input))
+    (sym c.deref.ensures.value) c.in_ok-bytes.ensures.bytes in
     let given = c.in_ok-answer_to_text.field-0 in
     IfOk-weaker c.put.result _ _ (λ status put.
     zero_exactly known status (audited_known known before after status
@@ -28,7 +30,9 @@ returns-clause-forbidden g c =
     let before = g.W.Write.contents (inner_of c.args.writer.now) in
     let after = g.W.Write.contents (inner_of c.put.new.writer) in
     let bytes = c.deref.result.now in
-    let same = subst (λ (b : List ℕ). IfSome known (λ input. b ≡ input)) (sym c.deref.ensures.value) c.in_ok-bytes.ensures.bytes in
+    let same =
+    subst (λ (b : List ℕ). IfSome known (λ input. b ≡ input))
+    (sym c.deref.ensures.value) c.in_ok-bytes.ensures.bytes in
     let given = c.in_ok-answer_to_text.field-0 in
     IfOk-weaker c.put.result _ _ (λ status put.
     one_exactly known status (audited_known known before after status

@@ -10,7 +10,8 @@ pub returns-in-Ok-clause-answer : goal.returns-in-Ok-clause-answer
 returns-in-Ok-clause-answer c =
     let telling = c.in-Ok.telling in
     IfOk-weaker c.told.result _ _ (λ a told.
-    explained_told c.args.header.now c.args.events.now (telling_of telling) a.status (λ text. string_bytes a.text ≡ text)
+    explained_told c.args.header.now c.args.events.now (telling_of telling) a.status
+    (λ text. string_bytes a.text ≡ text)
     c.in-Ok.ensures.told c.in-Ok.ensures.fits told.0 told.1)
     c.told.ensures.answer
 

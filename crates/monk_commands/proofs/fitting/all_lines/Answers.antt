@@ -24,6 +24,7 @@ loop-kind-preserved c =
       c.in_ok-fits.ensures.line
           ∙ (ap (λ (page : List ℕ). page ++ fit_line h es k) c.loop-kind.invariant.0
           ∙ sym (ap (λ (l : List KindName). fit_lines h es l) taken ∙ lines_more h es ks k)),
-      fits_more h es ks k c.loop-kind.is_fit fits c.if-is_fit.is_fit c.loop-kind.invariant.1 c.in_ok-fits.ensures.fit now
+      fits_more h es ks k c.loop-kind.is_fit fits c.if-is_fit.is_fit c.loop-kind.invariant.1
+          c.in_ok-fits.ensures.fit now
           ∙ sym (ap (λ (l : List KindName). fits_some h es l) taken),
     )

@@ -14,7 +14,8 @@ invariant-loop-event g l =
       sound : IsReplayOf seats l.conds g.T.Guarded.PREDICATES l.replay;
       behind : (opening : List ℕ) (before : List Event)
           → IsLegal (monitor l.rules seats l.conds g.T.Guarded.meaning opening) (before ++ l.events)
-          → IsBehind (monitor l.rules seats l.conds g.T.Guarded.meaning opening) l.fn.replay (g.T.Guarded.state l.fn.object) before
+          → IsBehind (monitor l.rules seats l.conds g.T.Guarded.meaning opening) l.fn.replay
+          (g.T.Guarded.state l.fn.object) before
           → IsBehind (monitor l.rules seats l.conds g.T.Guarded.meaning opening) l.replay (g.T.Guarded.state l.object)
           (before ++ take l.event-index l.events);
     }

@@ -29,10 +29,12 @@ returns-clause-behind g c =
     (λ i. take (length (c.history.ensures.history i) - length (c.history-done.ensures.history i))
     (drop (length (c.history-done.ensures.history i)) (c.history.ensures.history i)))
     ∙ (ap (λ (h : List Event). take (length h - length old.history) (drop (length old.history) h)) grown
-    ∙ (ap (λ (l : List Event). take (length (old.history ++ events) - length old.history) l) (drop-append_seam old.history events)
+    ∙ (ap (λ (l : List Event). take (length (old.history ++ events) - length old.history) l)
+    (drop-append_seam old.history events)
     ∙ take_all (length (old.history ++ events) - length old.history) events short)) in
     let whole : old.history ++ told ≡ new.history = ap (λ (l : List Event). old.history ++ l) news ∙ sym grown in
-    let named : monitor c.rules_of-rules.result (seats_in c.args.replay.now) c.args.conds o old.opening ≡ monitor_of k o old =
+    let named : monitor c.rules_of-rules.result (seats_in c.args.replay.now) c.args.conds o old.opening
+    ≡ monitor_of k o old =
     (λ i. monitor (c.rules_of-rules.ensures i) (c.requires.sound.has_seats i) (c.requires.conds i) o old.opening) in
     let m = monitor c.rules_of-rules.result (seats_in c.args.replay.now) c.args.conds o old.opening in
     let state = g.T.Guarded.state c.follow.new.object in

@@ -25,6 +25,7 @@ loop-kind-preserved c =
       c.in_ok-fits.ensures.line
           ∙ (ap (λ (page : List ℕ). page ++ log_fit_line x h ls k) c.loop-kind.invariant.0
           ∙ sym (ap (λ (l : List KindName). log_fit_lines x h ls l) taken ∙ log_lines_more x h ls ks k)),
-      log_fits_more x h ls ks k c.loop-kind.is_fit fits c.if-is_fit.is_fit c.loop-kind.invariant.1 c.in_ok-fits.ensures.fit now
+      log_fits_more x h ls ks k c.loop-kind.is_fit fits c.if-is_fit.is_fit c.loop-kind.invariant.1
+          c.in_ok-fits.ensures.fit now
           ∙ sym (ap (λ (l : List KindName). fits_some_kind x h ls l) taken),
     )

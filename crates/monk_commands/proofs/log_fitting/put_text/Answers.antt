@@ -9,7 +9,8 @@ returns-clause-lines c =
     let one = c.extend_from_slice.new.self.items in
     let two = c.extend_from_slice-2.new.self.items in
     let three = c.extend_from_slice-3.new.self.items in
-    put_four (gone_line k) (waiting_words k) (inside_words k) (missed_line c.args.means.now k.missed) c.args.page.now.items one two three
+    put_four (gone_line k) (waiting_words k) (inside_words k)
+    (missed_line c.args.means.now k.missed) c.args.page.now.items one two three
     c.extend_from_slice-4.new.self.items
     (c.in_ok-extend_from_slice.ensures.items
     ∙ ap (λ (xs : List ℕ). c.args.page.now.items ++ xs) (c.as_bytes.ensures.value ∙ c.in_ok-gone.ensures.text))

@@ -6,6 +6,9 @@ use Rattle.monk_commands.proofs.recording.record_stream.Goals as goal
 
 pub returns-clause-found_legal : goal.returns-clause-found_legal
 returns-clause-found_legal g c =
-    let puts = Appends (g.W.Write.contents (inner_of c.args.writer.now)) (g.W.Write.contents (inner_of c.recorded.new.writer)) in
-    IfOk-weaker c.recorded.result _ _ (λ status a. legal_recorded c.args.kind c.args.sample c.args.seats c.args.rounds status puts a)
+    let puts =
+    Appends (g.W.Write.contents (inner_of c.args.writer.now))
+    (g.W.Write.contents (inner_of c.recorded.new.writer)) in
+    IfOk-weaker c.recorded.result _ _
+    (λ status a. legal_recorded c.args.kind c.args.sample c.args.seats c.args.rounds status puts a)
     c.recorded.ensures.answer

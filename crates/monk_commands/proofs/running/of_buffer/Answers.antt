@@ -7,4 +7,5 @@ use Rattle.monk_commands.proofs.running.of_buffer.Goals as goal
 pub returns : goal.returns
 returns c =
     let n : ℕ → List ℕ = λ i. decimal (slice_index c.args.totals.now i) in
-    IfOk-weaker c.format.result _ _ (λ text h. h ∙ two_pairs (codes "put") (codes "taken") (n 0) (n 1) (n 2) (n 3)) c.format.ensures.ok
+    IfOk-weaker c.format.result _ _
+    (λ text h. h ∙ two_pairs (codes "put") (codes "taken") (n 0) (n 1) (n 2) (n 3)) c.format.ensures.ok

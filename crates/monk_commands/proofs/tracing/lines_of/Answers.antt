@@ -25,11 +25,13 @@ loop-index-preserved g c =
     let told = get_or commands at (0, Arrive) in
     let answer = c.in_ok-answer.answer in
     let stepped = c.in_ok-answer.ensures in
-    let number : at + 1 ≡ 0 + length (take at commands) + 1 = omega (arith, length-take at commands, c.loop-index-test.true) in
+    let number : at + 1 ≡ 0 + length (take at commands) + 1 =
+    omega (arith, length-take at commands, c.loop-index-test.true) in
     let same : monitor_of k o next.floor ≡ m = stepped.same ∙ c.loop-index.invariant.same in
     let stands = stepped.behind ∙ ap (λ (x : Monitor). situation x next.floor.history) same in
     let line = c.in_ok-put_line.ensures
-    ∙ (λ i. string_bytes c.loop-index.page ++ trace_line name (c.requires.conds i) (at + 1) told answer next (stands i)) in
+    ∙ (λ i. string_bytes c.loop-index.page
+    ++ trace_line name (c.requires.conds i) (at + 1) told answer next (stands i)) in
     record {
       traced =
           subst (λ (cs : List (ℕ × Command)). AreTraced name m 0 first cs next (string_bytes c.put_line.new.page))

@@ -15,7 +15,8 @@ invariant-loop-index g l =
     let first = state_of_view l.fn.world in
     let here = state_of_view l.world in
     record {
-      traced : AreTraced l.name (monitor_of k o first.floor) 0 first (take l.index l.commands) here (string_bytes l.page);
+      traced : AreTraced l.name (monitor_of k o first.floor) 0 first (take l.index l.commands) here
+          (string_bytes l.page);
       same : monitor_of k o here.floor ≡ monitor_of k o first.floor;
       behind : IsBehind (monitor_of k o here.floor) l.replay (g.T.Guarded.state l.object) here.floor.history;
       sound : IsReplayOf here.floor.seats l.conds g.T.Guarded.PREDICATES l.replay;

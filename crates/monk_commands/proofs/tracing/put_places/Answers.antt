@@ -14,5 +14,6 @@ loop-seat-preserved g c =
     let j = c.loop-seat.seat in
     c.in_ok-put_place.ensures stands c.in_ok-stand.ensures
     ∙ (ap (λ (page : List ℕ). page ++ seat_text s stands j) c.loop-seat.invariant
-    ∙ with_seat (string_bytes c.args.page.now) (places_text s stands j) (seat_text s stands j) (places_text s stands (j + 1))
+    ∙ with_seat (string_bytes c.args.page.now) (places_text s stands j) (seat_text s stands j)
+    (places_text s stands (j + 1))
     (places_more s stands j))

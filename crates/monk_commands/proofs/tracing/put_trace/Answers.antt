@@ -16,8 +16,10 @@ lines_of-requires-clause-behind g c κs within =
     let opening = g.T.Guarded.state c.args.object in
     let h = c.args.play.0 in
     let r = c.in_ok-replay.replay in
-    let seats : c.seats-seats.result ≡ h.seats = c.seats-seats.ensures ∙ ap (λ (x : Heading). x.seats) c.header-header.ensures in
-    let conds : c.conds-conds.result ≡ h.conds = c.conds-conds.ensures ∙ ap (λ (x : Heading). x.conds) c.header-header.ensures in
+    let seats : c.seats-seats.result ≡ h.seats = c.seats-seats.ensures
+    ∙ ap (λ (x : Heading). x.seats) c.header-header.ensures in
+    let conds : c.conds-conds.result ≡ h.conds = c.conds-conds.ensures
+    ∙ ap (λ (x : Heading). x.conds) c.header-header.ensures in
     let none : replay_situation r opening ≡ situation (monitor k h.seats h.conds o opening) [] =
     c.in_ok-replay.ensures.stands k o opening ∙ (λ i. opening_situation (monitor k (seats i) (conds i) o opening))
     ∙ sym (situation-none (monitor k h.seats h.conds o opening)) in
@@ -28,4 +30,5 @@ lines_of-requires-clause-sound g c κs within =
     let seats : c.seats-seats.result ≡ c.args.play.0.seats =
     c.seats-seats.ensures ∙ ap (λ (x : Heading). x.seats) c.header-header.ensures in
     subst (λ (s : ℕ). IsReplayOf s c.conds-conds.result g.T.Guarded.PREDICATES c.in_ok-replay.replay)
-    (seats ∙ sym (ap (λ (f : FloorView). f.seats) c.requires.floor)) (c.in_ok-replay.ensures.sound g.T.Guarded.PREDICATES)
+    (seats ∙ sym (ap (λ (f : FloorView). f.seats) c.requires.floor))
+    (c.in_ok-replay.ensures.sound g.T.Guarded.PREDICATES)

@@ -10,7 +10,9 @@ use Rattle.monk_commands.proofs.tracing.trace_stream.Goals as goal
 pub returns-clause-played : goal.returns-clause-played
 returns-clause-played g c =
     let known = g.R.Read.remaining (inner_of c.args.reader.now) in
-    let puts = Appends (g.W.Write.contents (inner_of c.args.writer.now)) (g.W.Write.contents (inner_of c.play_text.new.writer)) in
+    let puts =
+    Appends (g.W.Write.contents (inner_of c.args.writer.now))
+    (g.W.Write.contents (inner_of c.play_text.new.writer)) in
     IfOk-weaker c.play_text.result _ _ (λ status a.
     zero_exactly Trace known c.deref.result.now status puts
     (subst (λ (bytes : List ℕ). IfSome known (λ input. bytes ≡ input)) (sym c.deref.ensures.value)
@@ -20,7 +22,9 @@ returns-clause-played g c =
 pub returns-clause-traced : goal.returns-clause-traced
 returns-clause-traced g c =
     let known = g.R.Read.remaining (inner_of c.args.reader.now) in
-    let puts = Appends (g.W.Write.contents (inner_of c.args.writer.now)) (g.W.Write.contents (inner_of c.play_text.new.writer)) in
+    let puts =
+    Appends (g.W.Write.contents (inner_of c.args.writer.now))
+    (g.W.Write.contents (inner_of c.play_text.new.writer)) in
     IfOk-weaker c.play_text.result _ _ (λ status a.
     reported_known Trace known c.deref.result.now status puts
     (subst (λ (bytes : List ℕ). IfSome known (λ input. bytes ≡ input)) (sym c.deref.ensures.value)

@@ -18,7 +18,9 @@ returns-clause-histories g c =
 pub returns-clause-upgraded : goal.returns-clause-upgraded
 returns-clause-upgraded g c =
     let known = g.R.Read.remaining (inner_of c.args.reader.now) in
-    let puts = Appends (g.W.Write.contents (inner_of c.args.writer.now)) (g.W.Write.contents (inner_of c.upgrade_text.new.writer)) in
+    let puts =
+    Appends (g.W.Write.contents (inner_of c.args.writer.now))
+    (g.W.Write.contents (inner_of c.upgrade_text.new.writer)) in
     IfOk-weaker c.upgrade_text.result _ _ (λ status a.
     upgraded_known known c.deref.result.now puts
     (subst (λ (bytes : List ℕ). IfSome known (λ input. bytes ≡ input)) (sym c.deref.ensures.value)
@@ -32,4 +34,5 @@ returns-clause-again g c =
 
 pub returns-clause-statuses : goal.returns-clause-statuses
 returns-clause-statuses g c =
-    IfOk-weaker c.upgrade_text.result _ _ (λ status a. statuses status c.deref.result.now a.0) c.upgrade_text.ensures.answer
+    IfOk-weaker c.upgrade_text.result _ _
+    (λ status a. statuses status c.deref.result.now a.0) c.upgrade_text.ensures.answer

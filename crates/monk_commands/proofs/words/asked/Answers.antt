@@ -5,5 +5,6 @@ use Rattle.monk_commands.proofs.words.asked.Goals as goal
 
 pub returns-in_ok-line_to_fit-in-Some-fit-default : goal.returns-in_ok-line_to_fit-in-Some-fit-default
 returns-in_ok-line_to_fit-in-Some-fit-default c =
-    asked_in (subcommand_rows_of c.args.matches.now) (codes "fit") (rows_of (found_of c.in-Some-fit-default.fit.now)) _ (search rules)
+    asked_in (subcommand_rows_of c.args.matches.now) (codes "fit")
+    (rows_of (found_of c.in-Some-fit-default.fit.now)) _ (search rules)
     (sym c.in-Some-fit-default.ensures.rows) c.in_ok-line_to_fit-in-Some-fit-default.ensures

@@ -10,7 +10,8 @@ pub returns-clause-values : goal.returns-clause-values
 returns-clause-values c =
     let found = found_of c.args.matches.now in
     let sample : first_of (codes "SAMPLE") (rows_of found) ≡ Some (sample_word c.in_ok-sample.sample) =
-    sym (first_value-rows found (codes "SAMPLE")) ∙ sym c.in_ok-get_str.ensures ∙ ap (λ (x : List ℕ). Some x) c.in_ok-sample.ensures in (
+    sym (first_value-rows found (codes "SAMPLE")) ∙ sym c.in_ok-get_str.ensures
+    ∙ ap (λ (x : List ℕ). Some x) c.in_ok-sample.ensures in (
       c.in_ok-kind.ensures,
       sample,
       number_read _ (λ bs r. ParsesUnsigned 8 10 bs r × ExplainsUnsignedError 10 bs r × HasUnsignedDigitsIfOk bs r) 8

@@ -11,9 +11,15 @@ loop-place-preserved c =
     let i = c.loop-place.place-index in
     record {
       few =
-          omega (arith, entries_few c.args.legend c.loop-place.at (get_or legend_places i Outside), c.entries_then-at.ensures);
+          omega (
+            arith,
+            entries_few c.args.legend c.loop-place.at
+                (get_or legend_places i Outside),
+            c.entries_then-at.ensures,
+          );
       left =
-          entries_left (string_bytes c.loop-place.page) (string_bytes c.put_place_entry.new.page) c.args.legend c.args.top
+          entries_left (string_bytes c.loop-place.page)
+          (string_bytes c.put_place_entry.new.page) c.args.legend c.args.top
           c.loop-place.at c.entries_then-at.result legend_places i c.loop-place-test.true c.entries_then-at.ensures
           c.in_ok-put_place_entry.ensures
           ∙ c.loop-place.invariant.left;
@@ -24,5 +30,6 @@ returns c =
     on_ok_weaker c.put_refused_entry.result
     (last_entries (string_bytes c.loop-place.page) (string_bytes c.put_hand_entry.new.page)
     (string_bytes c.put_refused_entry.new.page) _ c.args.legend c.args.top c.loop-place.at c.hands_then.result
-    c.loop-place.place-index (omega arith) c.hands_then.ensures c.loop-place.invariant.left c.in_ok-put_hand_entry.ensures)
+    c.loop-place.place-index (omega arith) c.hands_then.ensures c.loop-place.invariant.left
+    c.in_ok-put_hand_entry.ensures)
     c.put_refused_entry.ensures

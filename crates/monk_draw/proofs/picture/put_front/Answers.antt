@@ -14,7 +14,8 @@ returns c =
     (string_bytes c.args.page.now) (string_bytes c.put_ground.new.page) (string_bytes c.put_stretches.new.page)
     (string_bytes c.put_hands.new.page) (string_bytes c.put_above.new.page) c.new-legend.result
     c.put_stretches.new.legend c.put_hands.new.legend c.note_refused.new.self c.lanes_for.result
-    c.forbidden_event-wrong.result c.allowed_with-allowed.result c.end.result c.has_refused.result c.end.ensures c.lanes_for.ensures
+    c.forbidden_event-wrong.result c.allowed_with-allowed.result c.end.result c.has_refused.result
+    c.end.ensures c.lanes_for.ensures
     c.forbidden_event-wrong.ensures
     c.allowed_with-allowed.ensures.value c.new-legend.ensures c.in_ok-put_ground.ensures c.in_ok-put_stretches.ensures
     c.in_ok-put_hands.ensures.page c.in_ok-put_hands.ensures.legend

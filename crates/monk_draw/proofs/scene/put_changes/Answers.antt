@@ -34,11 +34,13 @@ loop-seat-preserved c =
     ∙ ap (λ (place : Place). moved (stays i) place c.args.x) c.place.ensures) in
     record {
       page =
-          same_stretches _ _ _ _ _ _ (ended_more stays places c.args.x i c.index-stay.result.now c.place.result at c.place.ensures)
+          same_stretches _ _ _ _ _ _ (ended_more stays places c.args.x i c.index-stay.result.now c.place.result
+          at c.place.ensures)
           (more_stretches _ _ _ _ _ _ _ _ c.loop-seat.invariant.page c.in_ok-stays.ensures.page);
       count = length-set kept i c.in_ok-stays.field-0 ∙ c.loop-seat.invariant.count;
       done =
-          done_more kept (λ s. moved (stays s) (places s) c.args.x) i c.in_ok-stays.field-0 below c.loop-seat.invariant.done
+          done_more kept (λ s. moved (stays s) (places s) c.args.x) i c.in_ok-stays.field-0 below
+          c.loop-seat.invariant.done
           now;
       rest = rest_more kept stays i c.in_ok-stays.field-0 below c.loop-seat.invariant.rest;
     }
@@ -46,6 +48,7 @@ loop-seat-preserved c =
 pub returns-clause-page : goal.returns-clause-page
 returns-clause-page c =
     let all : c.loop-seat.seat ≡ c.args.count = omega (arith, c.loop-seat.auto.seat-end, c.loop-seat-test.false) in
-    subst (λ (n : ℕ). PutsStretches (ended_below (stay_in c.args.stays.now.items) (place_in c.args.seats.now) c.args.x n)
+    subst (λ (n : ℕ). PutsStretches
+    (ended_below (stay_in c.args.stays.now.items) (place_in c.args.seats.now) c.args.x n)
     (string_bytes c.args.page.now) (string_bytes c.loop-seat.page) c.args.legend.now c.loop-seat.legend) all
     c.loop-seat.invariant.page

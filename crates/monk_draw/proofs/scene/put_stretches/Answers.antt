@@ -15,7 +15,8 @@ pub loop-column-init : goal.loop-column-init
 unfolding ended_before
 loop-column-init c = record {
   page = no_stretches _ _;
-  seats = subst (λ (h : List Event). AreAfter h c.in_ok-seats.seats) (sym (append-nil c.args.past.now)) c.in_ok-seats.ensures;
+  seats = subst (λ (h : List Event). AreAfter h c.in_ok-seats.seats)
+      (sym (append-nil c.args.past.now)) c.in_ok-seats.ensures;
   length = c.in_ok-stays.ensures.count;
   stays =
       λ s below. c.in_ok-stays.ensures.stays s below
@@ -24,7 +25,8 @@ loop-column-init c = record {
 
 pub put_changes-requires-clause-whole : goal.put_changes-requires-clause-whole
 put_changes-requires-clause-whole c =
-    (c.in_ok-follow.ensures (c.args.past.now ++ take c.loop-column.column c.args.events.now) c.loop-column.invariant.seats).whole
+    (c.in_ok-follow.ensures (c.args.past.now ++ take c.loop-column.column c.args.events.now)
+    c.loop-column.invariant.seats).whole
 
 pub loop-column-preserved : goal.loop-column-preserved
 loop-column-preserved c =
@@ -63,6 +65,7 @@ returns c =
     (λ put. same_stretches _ _ _ _ _ _
     (all_drawn c.args.count c.args.past.now c.args.events.now c.loop-column.column c.args.end c.deref.result.now
     (omega arith)
-    (λ s below. ap (λ (kept : List Stay). stay_in kept s) c.deref.ensures.value ∙ c.loop-column.invariant.stays s below))
+    (λ s below. ap (λ (kept : List Stay). stay_in kept s) c.deref.ensures.value
+    ∙ c.loop-column.invariant.stays s below))
     (more_stretches _ _ _ _ _ _ _ _ c.loop-column.invariant.page put))
     c.put_last.ensures

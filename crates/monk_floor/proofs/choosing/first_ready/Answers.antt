@@ -12,7 +12,8 @@ returns-in_default g c =
 
 pub holds-requires : goal.holds-requires
 holds-requires g c =
-    wait_all (λ (w : ℕ × ℕ). w.1 < g.T.Guarded.PREDICATES) c.args.queues.now.untils c.loop.counter (c.in-Some.seat, c.in-Some.pred)
+    wait_all (λ (w : ℕ × ℕ). w.1 < g.T.Guarded.PREDICATES) c.args.queues.now.untils c.loop.counter
+    (c.in-Some.seat, c.in-Some.pred)
     (sym c.loop.invariant.here ∙ c.in-Some.is) c.requires
 
 pub returns-then-holds : goal.returns-then-holds

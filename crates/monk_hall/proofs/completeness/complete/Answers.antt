@@ -14,7 +14,8 @@ one_more g c =
     let ps = c.args.passes.now in
     let p = c.pass-item.result in
     let made = c.made.ensures.made ∙ ap (λ (q : Token). length q.me.mine) c.pass-item.is in (
-      one_made ps n (length (events_of c.args.history.now c.args.seat)) c.loop-pass.known c.made.result p below inv.0 made,
+      one_made ps n (length (events_of c.args.history.now c.args.seat)) c.loop-pass.known c.made.result p below
+          inv.0 made,
       one_known ps n p below inv.1 (subst KnowsItsOwn c.pass-item.is c.made.ensures.told.own),
       omega (arith, below),
     )

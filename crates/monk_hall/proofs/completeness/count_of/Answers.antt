@@ -19,7 +19,8 @@ loop-event-preserved c =
           (omega (arith, is, one), omega (arith, is, low), omega (arith, below))
       | else-seat w ↦
           let is = w.count-is in
-          let one = other_counted c.args.history.now c.args.seat c.loop-event.event-index c.loop-event.count _ below inv.0
+          let one =
+          other_counted c.args.history.now c.args.seat c.loop-event.event-index c.loop-event.count _ below inv.0
           (λ same. w.if-seat.false (c.seat.ensures ∙ same)) in
           (omega (arith, is, one), omega (arith, is, low), omega (arith, below))
     ]

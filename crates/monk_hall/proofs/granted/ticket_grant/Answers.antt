@@ -16,7 +16,8 @@ store-requires g c =
     let seats : c.args.seats ≡ key.seats = c.requires.seats.0 in
     let some = c.requires.seats.1 in
     let low : c.args.number % c.args.seats < c.args.seats = mod-lt c.args.number some in
-    let next : ticket (the c.args.seat.now.me.0).place + 1 ≡ c.args.number + 1 = ap (λ (n : ℕ). n + 1) (sym passing.2) in
+    let next : ticket (the c.args.seat.now.me.0).place + 1 ≡ c.args.number + 1 =
+    ap (λ (n : ℕ). n + 1) (sym passing.2) in
     let word : place_word (ticket (the c.args.seat.now.me.0).place % key.seats) ≡ c.ticket_word-place.result =
     sym (c.ticket_word-place.ensures ∙ (λ i. place_word (passing.2 i % seats i))) in (
       c.requires.table.0,

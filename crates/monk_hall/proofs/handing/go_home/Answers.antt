@@ -22,5 +22,6 @@ seat_grant-requires-clause-back g c κs within =
 
 pub let_in-requires-clause-back : goal.let_in-requires-clause-back
 let_in-requires-clause-back g c κs within =
-    subst (λ (m : Me). IsOne m.0 × ((the m.0).place ≡ Back next.Entry (home_at (the m.0).place))) (sym c.floor_in-in-None.ensures.step)
+    subst (λ (m : Me). IsOne m.0 × ((the m.0).place ≡ Back next.Entry (home_at (the m.0).place)))
+    (sym c.floor_in-in-None.ensures.step)
     (refl, chosen_entry c.requires.released.1 (sym c.seat_called_by.ensures ∙ c.in-None.is))

@@ -51,7 +51,8 @@ split_seat-second-requires g c =
     let sized = c.hall.invariant.0.0 in
     let at_hall = sym (ap (λ h. h.id) c.hall.view_is) in
     let key = c.hall.inside.table.shared.key in (
-      c.load.ensures.0 ∙ c.join_seat.ensures.0 ∙ c.lift-first.ensures.0 ∙ ap (λ t. t.hall) c.a.view_is ∙ c.requires.0 ∙ at_hall,
+      c.load.ensures.0 ∙ c.join_seat.ensures.0 ∙ c.lift-first.ensures.0 ∙ ap (λ t. t.hall) c.a.view_is
+          ∙ c.requires.0 ∙ at_hall,
       omega arith,
       parts_again g.K.Kind.rules g.T.Guarded.meaning
           (setting_of (g.T.Guarded.state key.opening.value) key.seats key.conds key.budget) _ c.load.new.seat.me.0
@@ -62,16 +63,19 @@ pub invariant_of-a : goal.invariant_of-a
 invariant_of-a g c =
     let ia = c.a.invariant in
     let m : View = c.join_seat.new.seat.me.0 in
-    let both : m ≡ view_after_join c.lift-first.result.me.0 c.lift-other.result.me.0 = ap (λ m. m.0) c.join_seat.ensures.2 in
+    let both : m ≡ view_after_join c.lift-first.result.me.0 c.lift-other.result.me.0 =
+    ap (λ m. m.0) c.join_seat.ensures.2 in
     let va = ap (λ m. m.0) c.lift-first.ensures.1 in
     let loaded : c.load.new.seat.me.0 ≡ view_after_compare m = ap (λ m. m.0) c.load.ensures.2.0 in
     let from_a : the m ≡ record (the (top c.a.inside.badge.views))
     { steps = suc (the (top c.a.inside.badge.views)).steps } = ap the both
     ∙ ap (λ (v : View). record (the v) { steps = suc (the v).steps }) va in
     met_rests g.K.Kind.rules g.T.Guarded.meaning c.into_badge.result.table_id c.a.inside.badge.table_id
-    (top c.a.inside.badge.views) c.a.inside.number c.a.inside.left c.a.inside.calls c.a.inside.budget (the (view_after_compare m))
+    (top c.a.inside.badge.views) c.a.inside.number c.a.inside.left c.a.inside.calls c.a.inside.budget
+    (the (view_after_compare m))
     c.into_badge.result.views
-    ia.1 ia.2 (c.into_badge.ensures.0 ∙ c.split_seat-second.ensures.0 ∙ c.load.ensures.0 ∙ c.join_seat.ensures.0 ∙ c.lift-first.ensures.0)
+    ia.1 ia.2 (c.into_badge.ensures.0 ∙ c.split_seat-second.ensures.0 ∙ c.load.ensures.0
+    ∙ c.join_seat.ensures.0 ∙ c.lift-first.ensures.0)
     (ap (λ (r : SeatRecord). r.seat) from_a) (ap (λ (r : SeatRecord). r.setting) from_a)
     (ap (λ (r : SeatRecord). r.place) from_a) (ap (λ (r : SeatRecord). r.count) from_a)
     (ap (λ (r : SeatRecord). r.mine) from_a)
@@ -82,7 +86,8 @@ pub invariant_of-b : goal.invariant_of-b
 invariant_of-b g c =
     let ib = c.b.invariant in
     let m : View = c.join_seat.new.seat.me.0 in
-    let both : m ≡ view_after_join c.lift-first.result.me.0 c.lift-other.result.me.0 = ap (λ m. m.0) c.join_seat.ensures.2 in
+    let both : m ≡ view_after_join c.lift-first.result.me.0 c.lift-other.result.me.0 =
+    ap (λ m. m.0) c.join_seat.ensures.2 in
     let vb = ap (λ m. m.0) c.lift-other.ensures.1 in
     let loaded : c.load.new.seat.me.0 ≡ view_after_compare m = ap (λ m. m.0) c.load.ensures.2.0 in
     let from_b : the (tail m) ≡ the (top c.b.inside.badge.views) = ap (λ (v : View). the (tail v)) both ∙ ap the vb in
@@ -95,7 +100,8 @@ invariant_of-b g c =
     (ap (λ (r : SeatRecord). r.place) from_b) (ap (λ (r : SeatRecord). r.count) from_b)
     (ap (λ (r : SeatRecord). r.mine) from_b)
     (subst (λ (v : View). SeesTruly g.K.Kind.rules g.T.Guarded.meaning (the (tail v))) loaded c.load.ensures.2.3)
-    (c.into_badge-2.ensures.2 ∙ ap (λ (v : View). v ∷ []) (ap (λ m. m.0) c.split_seat-second.ensures.4 ∙ ap tail loaded))
+    (c.into_badge-2.ensures.2
+    ∙ ap (λ (v : View). v ∷ []) (ap (λ m. m.0) c.split_seat-second.ensures.4 ∙ ap tail loaded))
   where
     same_table : c.a.inside.badge.table_id ≡ c.b.inside.badge.table_id
     same_table = ap (λ t. t.hall) c.a.view_is ∙ c.requires.0 ∙ sym c.requires.1 ∙ sym (ap (λ t. t.hall) c.b.view_is)
@@ -103,24 +109,31 @@ invariant_of-b g c =
 pub returns-clause-first_learns : goal.returns-clause-first_learns
 returns-clause-first_learns g c =
     let m : View = c.join_seat.new.seat.me.0 in
-    let both : m ≡ view_after_join c.lift-first.result.me.0 c.lift-other.result.me.0 = ap (λ m. m.0) c.join_seat.ensures.2 in
+    let both : m ≡ view_after_join c.lift-first.result.me.0 c.lift-other.result.me.0 =
+    ap (λ m. m.0) c.join_seat.ensures.2 in
     let loaded : c.load.new.seat.me.0 ≡ view_after_compare m = ap (λ m. m.0) c.load.ensures.2.0 in
     has_learned (the m).seen (the (tail m)).seen _ _ _ c.load.ensures.2.1
-    (ap (λ (v : View). (the v).seen) both ∙ ap (λ m. (the m.0).seen) c.lift-first.ensures.1 ∙ ap (λ t. t.me.seen) c.a.view_is)
-    (ap (λ (v : View). (the (tail v)).seen) both ∙ ap (λ m. (the m.0).seen) c.lift-other.ensures.1 ∙ ap (λ t. t.me.seen) c.b.view_is)
+    (ap (λ (v : View). (the v).seen) both ∙ ap (λ m. (the m.0).seen) c.lift-first.ensures.1
+    ∙ ap (λ t. t.me.seen) c.a.view_is)
+    (ap (λ (v : View). (the (tail v)).seen) both ∙ ap (λ m. (the m.0).seen) c.lift-other.ensures.1
+    ∙ ap (λ t. t.me.seen) c.b.view_is)
     (ap (λ (vs : List View). (the (top vs)).seen)
     (c.into_badge.ensures.2 ∙ ap (λ (v : View). v ∷ []) (ap (λ m. m.0) c.split_seat-second.ensures.2 ∙ ap head loaded)))
 
 pub returns-clause-second_learns : goal.returns-clause-second_learns
 returns-clause-second_learns g c =
     let m : View = c.join_seat.new.seat.me.0 in
-    let both : m ≡ view_after_join c.lift-first.result.me.0 c.lift-other.result.me.0 = ap (λ m. m.0) c.join_seat.ensures.2 in
+    let both : m ≡ view_after_join c.lift-first.result.me.0 c.lift-other.result.me.0 =
+    ap (λ m. m.0) c.join_seat.ensures.2 in
     let loaded : c.load.new.seat.me.0 ≡ view_after_compare m = ap (λ m. m.0) c.load.ensures.2.0 in
     has_learned (the m).seen (the (tail m)).seen _ _ _ c.load.ensures.2.1
-    (ap (λ (v : View). (the v).seen) both ∙ ap (λ m. (the m.0).seen) c.lift-first.ensures.1 ∙ ap (λ t. t.me.seen) c.a.view_is)
-    (ap (λ (v : View). (the (tail v)).seen) both ∙ ap (λ m. (the m.0).seen) c.lift-other.ensures.1 ∙ ap (λ t. t.me.seen) c.b.view_is)
+    (ap (λ (v : View). (the v).seen) both ∙ ap (λ m. (the m.0).seen) c.lift-first.ensures.1
+    ∙ ap (λ t. t.me.seen) c.a.view_is)
+    (ap (λ (v : View). (the (tail v)).seen) both ∙ ap (λ m. (the m.0).seen) c.lift-other.ensures.1
+    ∙ ap (λ t. t.me.seen) c.b.view_is)
     (ap (λ (vs : List View). (the (top vs)).seen)
-    (c.into_badge-2.ensures.2 ∙ ap (λ (v : View). v ∷ []) (ap (λ m. m.0) c.split_seat-second.ensures.4 ∙ ap tail loaded)))
+    (c.into_badge-2.ensures.2
+    ∙ ap (λ (v : View). v ∷ []) (ap (λ m. m.0) c.split_seat-second.ensures.4 ∙ ap tail loaded)))
 
 pub returns-clause-told : goal.returns-clause-told
 returns-clause-told g c = ((invariant_of-a g c).1.told, (invariant_of-b g c).1.told)

@@ -20,7 +20,8 @@ pub(crate) fn left_behind_word<'a>(line: &'a [u8], word: &[u8]) -> Option<Option
 /// What a number must be below for one digit more.
 const ROOM_FOR_A_DIGIT: u64 = 1 << 59;
 
-/// The first word of the line where it is a number of no more than seventeen digits, and what is left of the line behind it.
+/// The first word of the line where it is a number of no more than seventeen digits, and what is
+/// left of the line behind it.
 #[inline(always)]
 pub(crate) fn left_behind_number(line: &[u8]) -> Option<(u64, Option<&[u8]>)>
     ensures { IfSome result (λ x. words_of line.now ≡ decimal x.0 ∷ words_left (option_copied x.1)) }
@@ -47,7 +48,8 @@ pub(crate) fn left_behind_number(line: &[u8]) -> Option<(u64, Option<&[u8]>)>
 /// What stands behind the word, where the bytes begin with it.
 #[inline(always)]
 fn behind<'a>(bytes: &'a [u8], word: &[u8]) -> Option<&'a [u8]>
-    ensures { MatchOption result (take (length word.now) bytes.now ≢ word.now) (λ rest. bytes.entry.now ≡ word.now ++ rest.now) }
+    ensures { MatchOption result (take (length word.now) bytes.now ≢ word.now)
+        (λ rest. bytes.entry.now ≡ word.now ++ rest.now) }
 {
     if bytes.len() < word.len() {
         return None;

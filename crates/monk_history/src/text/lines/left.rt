@@ -72,7 +72,8 @@ impl<'a> ItemLines<'a> {
     /// Reads the next line; `None` where the text has ended. After an error nothing is said of what is left.
     #[inline(always)]
     pub fn next<H, A: Record<H>>(&mut self, header: &H) -> Result<Option<A>, ReadFault>
-        ensures item { IsNextItem result (items_left (A.parse header.now) self.old) (items_left (A.parse header.now) self.new) }
+        ensures item { IsNextItem result (items_left (A.parse header.now) self.old)
+            (items_left (A.parse header.now) self.new) }
         ensures room { IfOk result (λ x. IfSome x (λ _. self.new.room + 1 ≡ self.old.room)) }
         ensures none { result ≡ Ok None → self.new ≡ self.old }
     {

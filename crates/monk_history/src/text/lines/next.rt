@@ -8,7 +8,8 @@ use crate::text::lines::record::Record;
 use crate::text::lines::split::split_once;
 use crate::text::lines::words::LineWords;
 
-/// The item of the first line of the bytes, or its flaw, and what stands behind that line; `None` where no line ends in them.
+/// The item of the first line of the bytes, or its flaw, and what stands behind that line; `None`
+/// where no line ends in them.
 ///
 /// It looks at no byte behind the line but those that [`Record::at_front`] looks at, and takes no memory.
 #[inline(always)]

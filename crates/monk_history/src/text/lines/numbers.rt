@@ -26,7 +26,8 @@ fn is_plain(word: &[u8]) -> bool
 
 /// The number that the digits stand for, where they are digits and it is at most `most`.
 fn value_of(digits: &[u8], most: u64) -> Option<u64>
-    ensures { SomeIff result (AllDigits 10 digits.now × (digits_value 10 digits.now ≤ most)) (digits_value 10 digits.now) }
+    ensures { SomeIff result (AllDigits 10 digits.now × (digits_value 10 digits.now ≤ most))
+        (digits_value 10 digits.now) }
 {
     let mut value = 0;
     for digit in digits {
@@ -36,7 +37,8 @@ fn value_of(digits: &[u8], most: u64) -> Option<u64>
 }
 
 fn with_digit(value: u64, digit: u8, most: u64) -> Option<u64>
-    ensures { SomeIff result ((digit_value digit < 10) × (value * 10 + digit_value digit ≤ most)) (value * 10 + digit_value digit) }
+    ensures { SomeIff result ((digit_value digit < 10) × (value * 10 + digit_value digit ≤ most))
+        (value * 10 + digit_value digit) }
 {
     if !digit.is_ascii_digit() {
         return None;

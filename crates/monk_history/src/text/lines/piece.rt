@@ -12,8 +12,8 @@ use crate::text::lines::record::{Head, Record};
 use crate::text::lines::split::split_once;
 use std::marker::Model;
 
-/// The lines that end in a piece of a text and are not yet read. Contracts see the bytes, the number of their first line,
-/// and for how many lines there is room.
+/// The lines that end in a piece of a text and are not yet read. Contracts see the bytes, the
+/// number of their first line, and for how many lines there is room.
 ///
 /// The number of a line is told from the room that is left, so that a line costs one counter.
 #[derive(Drop)]
@@ -49,10 +49,12 @@ impl<'a> PieceLines<'a> {
         }
     }
 
-    /// Reads the next line; `None` where no further line ends in the piece. After an error nothing is said of what is left.
+    /// Reads the next line; `None` where no further line ends in the piece. After an error nothing
+    /// is said of what is left.
     #[inline(always)]
     pub fn next<H, A: Record<H>>(&mut self, header: &H) -> Result<Option<A>, ReadFault>
-        ensures item { IsNextOfPiece result (items_with (A.parse header.now) self.old) (items_with (A.parse header.now) self.new) }
+        ensures item { IsNextOfPiece result (items_with (A.parse header.now) self.old)
+            (items_with (A.parse header.now) self.new) }
         ensures counted { IfOk result
             (λ x. IfSome x (λ _. (self.new.number ≡ self.old.number + 1) × (self.new.room + 1 ≡ self.old.room))) }
         ensures none { result ≡ Ok None → (self.new ≡ self.old) × (is_unended self.new.bytes ≡ true) }
@@ -64,7 +66,8 @@ impl<'a> PieceLines<'a> {
     /// compiler then puts in the place of the call. Nothing else depends on that type.
     #[inline(always)]
     pub fn next_for<H, A: Record<H>, Caller>(&mut self, header: &H) -> Result<Option<A>, ReadFault>
-        ensures item { IsNextOfPiece result (items_with (A.parse header.now) self.old) (items_with (A.parse header.now) self.new) }
+        ensures item { IsNextOfPiece result (items_with (A.parse header.now) self.old)
+            (items_with (A.parse header.now) self.new) }
         ensures counted { IfOk result
             (λ x. IfSome x (λ _. (self.new.number ≡ self.old.number + 1) × (self.new.room + 1 ≡ self.old.room))) }
         ensures none { result ≡ Ok None → (self.new ≡ self.old) × (is_unended self.new.bytes ≡ true) }

@@ -77,7 +77,8 @@ impl<'a> LineWords<'a> {
         Some(number)
     }
 
-    /// Takes a number from 0 to `most`. [`Flaw::Word`] where no word is left, [`Flaw::Number`] where it is no such number.
+    /// Takes a number from 0 to `most`. [`Flaw::Word`] where no word is left, [`Flaw::Number`]
+    /// where it is no such number.
     #[tactic(auto, using(crate::proofs::TextLaws::WordReaders::number_again, crate::proofs::TextLaws::WordReaders::number_refused))]
     #[inline(always)]
     pub fn number(&mut self, most: u64) -> Result<u64, Flaw>
@@ -134,7 +135,8 @@ impl<'a> LineWords<'a> {
 #[tactic(auto, unfolding(crate::specs::Text::Words::number_at))]
 #[inline(never)]
 fn any_number(line: Option<&[u8]>, most: u64) -> (Result<u64, Flaw>, Option<&[u8]>)
-    ensures reads { Reads result.0 (words_left (option_copied result.1)) (number_at most (words_left (option_copied line.entry))) }
+    ensures reads { Reads result.0 (words_left (option_copied result.1))
+        (number_at most (words_left (option_copied line.entry))) }
     ensures within { IfOk result.0 (λ n. n ≤ most) }
 {
     let mut words = LineWords { rest: line };

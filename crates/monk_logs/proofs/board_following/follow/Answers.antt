@@ -30,12 +30,15 @@ loop-line-preserved g c =
     let b = board_shown c.line_read.new.board (g.T.Guarded.state c.line_read.new.object) in
     let taken = ap (λ (l : List LogLine). length l) c.in-Some.ensures in
     record {
-      so_far = read_goes_on c.args.lapses c.args.order m (g.L.LineSource.left c.loop-line.lines) (g.L.LineSource.left c.next.new.self)
+      so_far =
+          read_goes_on c.args.lapses c.args.order m (g.L.LineSource.left c.loop-line.lines)
+          (g.L.LineSource.left c.next.new.self)
           c.loop-line.count c.in-Some.line a b c.loop-line.pending c.in-Fits.left c.in_ok-left.field-0 _
           c.loop-line.invariant.so_far c.in-Some.ensures c.in_ok-left.ensures.judged c.in-Fits.is;
       few = omega arith;
       sound = c.in_ok-left.ensures.sound c.in-Fits.left c.in-Fits.is;
-      held = read_goes_held c.args.lapses c.args.order m c.in-Some.line a b c.loop-line.pending c.in-Fits.left c.in_ok-left.field-0
+      held = read_goes_held c.args.lapses c.args.order m c.in-Some.line a b c.loop-line.pending c.in-Fits.left
+          c.in_ok-left.field-0
           c.in_ok-left.ensures.judged c.in-Fits.is;
     }
 
@@ -50,6 +53,8 @@ returns-in-Misfits g c =
 
 pub returns : goal.returns
 returns g c =
-    read_fits c.args.lapses c.args.order (monitor_in c.args.setting g.T.Guarded.meaning) (g.L.LineSource.left c.loop-line.lines)
-    c.loop-line.count (board_course (board_shown c.loop-line.board (g.T.Guarded.state c.loop-line.object)) c.loop-line.pending) _
+    read_fits c.args.lapses c.args.order (monitor_in c.args.setting g.T.Guarded.meaning)
+    (g.L.LineSource.left c.loop-line.lines)
+    c.loop-line.count (board_course
+    (board_shown c.loop-line.board (g.T.Guarded.state c.loop-line.object)) c.loop-line.pending) _
     c.loop-line.invariant.so_far c.in_default.ensures

@@ -15,7 +15,8 @@ invariant-loop-line g l =
     let m = monitor_in l.setting o in
     let now = board_shown l.board (g.T.Guarded.state l.object) in
     record {
-      so_far : read_verdict_from l.lapses l.order m l.count (Ok (board_course now l.pending)) (g.L.LineSource.left l.lines)
+      so_far : read_verdict_from l.lapses l.order m l.count (Ok (board_course now l.pending))
+          (g.L.LineSource.left l.lines)
           ≡ read_verdict l.lapses l.order
           (monitor l.setting.rules l.setting.seats l.setting.conds o (g.T.Guarded.state l.fn.object))
           (g.L.LineSource.left l.fn.lines);

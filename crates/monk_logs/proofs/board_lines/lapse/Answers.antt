@@ -20,7 +20,8 @@ returns-then-can_lapse-clause-judged c = λ o state.
     (sym c.can_lapse.ensures ∙ c.if-can_lapse.true))
 
 pub returns-then-can_lapse-clause-sound : goal.returns-then-can_lapse-clause-sound
-returns-then-can_lapse-clause-sound c = λ predicates is. c.lapse.ensures.sound c.args.setting.seats c.args.setting.conds predicates is
+returns-then-can_lapse-clause-sound c =
+    λ predicates is. c.lapse.ensures.sound c.args.setting.seats c.args.setting.conds predicates is
 
 pub returns-else-can_lapse-clause-judged : goal.returns-else-can_lapse-clause-judged
 unfolding lapses_by

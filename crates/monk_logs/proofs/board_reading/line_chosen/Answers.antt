@@ -23,7 +23,8 @@ pub line_settled-requires-after_bounds : goal.line_settled-requires-after_bounds
 line_settled-requires-after_bounds g c = λ lives outlives.
     let m = monitor_in c.args.setting g.T.Guarded.meaning in
     let b = board_shown c.args.board.now (g.T.Guarded.state c.args.object.now) in
-    c.in_ok-settle.ensures.sound c.args.setting.seats c.args.setting.conds m.object.codes g.T.Guarded.PREDICATES c.requires.sound
+    c.in_ok-settle.ensures.sound c.args.setting.seats c.args.setting.conds m.object.codes
+    g.T.Guarded.PREDICATES c.requires.sound
     (subst (λ (n : ℕ). fits_object m.object.codes n c.args.told ≡ true) g.T.Guarded.predicates
     (object_there m (sight b) c.args.told
     (cond (permits_by m.kind c.args.stays (chances_on c.args.order m.object b) c.args.told) 0 6) c.requires.allowed))

@@ -33,7 +33,8 @@ returns-then-served_reason-eq-ALLOWED-clause-judged g c =
     ∙ ap (λ (x : Next). with_next x c.args.event)
     (c.standing_choice.ensures state ∙ ap (λ (y : Board). choice_on y c.args.seat) served) in
     ok_same c.line_chosen.result _ _ _
-    (told_leads c.args.order m b now c.args.event c.with_next-told.result c.args.seat c.must_stay-stays.result served c.requires.release
+    (told_leads c.args.order m b now c.args.event c.with_next-told.result c.args.seat c.must_stay-stays.result
+    served c.requires.release
     c.must_stay-stays.ensures is c.served_reason.result c.served_reason.ensures c.if-served_reason-eq-ALLOWED.true)
     c.line_chosen.ensures.judged
 

@@ -18,7 +18,8 @@ returns-then-early-ne-ALLOWED-clause-done g c =
     let m = monitor_in c.args.setting o in
     let b = board_shown c.args.board.now (g.T.Guarded.state c.args.object.now) in
     not_added c.call_reason-early.result (board_reason c.args.order m b c.args.event) b (board_after o b c.args.event)
-    (early_found c.args.order m b c.args.event c.call_reason-early.result c.call_reason-early.ensures c.if-early-ne-ALLOWED.true)
+    (early_found c.args.order m b c.args.event c.call_reason-early.result c.call_reason-early.ensures
+    c.if-early-ne-ALLOWED.true)
     c.if-early-ne-ALLOWED.true
 
 pub returns-then-not-replies-clause-done : goal.returns-then-not-replies-clause-done
@@ -27,14 +28,16 @@ returns-then-not-replies-clause-done g c =
     let m = monitor_in c.args.setting o in
     let b = board_shown c.args.board.now (g.T.Guarded.state c.args.object.now) in
     not_added 5 (board_reason c.args.order m b c.args.event) b (board_after o b c.args.event)
-    (reply_found c.args.order m b c.args.event c.call_reason-early.result c.call_reason-early.ensures c.if-early-ne-ALLOWED.false
+    (reply_found c.args.order m b c.args.event c.call_reason-early.result c.call_reason-early.ensures
+    c.if-early-ne-ALLOWED.false
     (sym c.replies.ensures.reply ∙ c.if-not-replies.true)) (λ z. absurd cc)
 
 pub settle-requires : goal.settle-requires
 settle-requires g c =
     let m = monitor_in c.args.setting g.T.Guarded.meaning in
     let b = board_shown c.args.board.now (g.T.Guarded.state c.args.object.now) in
-    let sound = c.in_ok-serve.ensures.sound c.args.setting.seats c.args.setting.conds g.T.Guarded.PREDICATES c.requires.sound in
+    let sound =
+    c.in_ok-serve.ensures.sound c.args.setting.seats c.args.setting.conds g.T.Guarded.PREDICATES c.requires.sound in
     subst (λ (n : ℕ). seat_of c.args.event < n) (sym sound.rest.has_seats)
     (seat_there m (sight b) c.args.event 0 (sym c.call_reason-early.ensures ∙ c.if-early-ne-ALLOWED.false))
 
@@ -45,8 +48,10 @@ returns-clause-done g c =
     let state = g.T.Guarded.state c.args.object.now in
     let later = g.T.Guarded.state c.replies.new.object in
     let b = board_shown c.args.board.now state in
-    added 0 (board_reason c.args.order m b c.args.event) (board_shown c.settle.new.self later) (board_after o b c.args.event)
-    (act_found c.args.order m b c.args.event c.call_reason-early.result c.call_reason-early.ensures c.if-early-ne-ALLOWED.false
+    added 0 (board_reason c.args.order m b c.args.event) (board_shown c.settle.new.self later)
+    (board_after o b c.args.event)
+    (act_found c.args.order m b c.args.event c.call_reason-early.result c.call_reason-early.ensures
+    c.if-early-ne-ALLOWED.false
     c.requires.act (sym c.replies.ensures.reply ∙ c.if-not-replies.false))
     refl
     (c.in_ok-settle.ensures.moved later
@@ -55,6 +60,7 @@ returns-clause-done g c =
 
 pub returns-clause-sound : goal.returns-clause-sound
 returns-clause-sound g c =
-    c.in_ok-settle.ensures.sound c.args.setting.seats c.args.setting.conds (code_room c.args.event) g.T.Guarded.PREDICATES
+    c.in_ok-settle.ensures.sound c.args.setting.seats c.args.setting.conds
+    (code_room c.args.event) g.T.Guarded.PREDICATES
     (c.in_ok-serve.ensures.sound c.args.setting.seats c.args.setting.conds g.T.Guarded.PREDICATES c.requires.sound)
     (act_fits g.T.Guarded.PREDICATES c.args.event c.requires.act)

@@ -25,15 +25,18 @@ found g c =
     let m = monitor_in c.args.setting g.T.Guarded.meaning in
     let state = g.T.Guarded.state c.args.object.now in
     c.served_reason-reason.ensures
-    ∙ ap (λ (x : Board). served_reason c.args.order m c.must_stay-stays.result x c.args.event) (c.in_ok-serve.ensures.served state)
-    ∙ reason_is c.args.order m (board_shown c.args.board.now state) c.args.event c.must_stay-stays.result c.requires.no_act
+    ∙ ap (λ (x : Board). served_reason c.args.order m c.must_stay-stays.result x c.args.event)
+    (c.in_ok-serve.ensures.served state)
+    ∙ reason_is c.args.order m (board_shown c.args.board.now state) c.args.event c.must_stay-stays.result
+    c.requires.no_act
     c.must_stay-stays.ensures
 
 pub settle-requires : goal.settle-requires
 settle-requires g c =
     let m = monitor_in c.args.setting g.T.Guarded.meaning in
     let b = board_shown c.serve.new.self (g.T.Guarded.state c.args.object.now) in
-    let sound = c.in_ok-serve.ensures.sound c.args.setting.seats c.args.setting.conds g.T.Guarded.PREDICATES c.requires.sound in
+    let sound =
+    c.in_ok-serve.ensures.sound c.args.setting.seats c.args.setting.conds g.T.Guarded.PREDICATES c.requires.sound in
     subst (λ (n : ℕ). seat_of c.args.event < n) (sym sound.rest.has_seats)
     (seat_there m (sight b) c.args.event
     (cond (permits_by m.kind c.must_stay-stays.result (chances_on c.args.order m.object b) c.args.event) 0 6)
@@ -45,7 +48,8 @@ returns-clause-chosen g c =
     let m = monitor_in c.args.setting o in
     let state = g.T.Guarded.state c.args.object.now in
     let b = board_shown c.args.board.now state in
-    added c.served_reason-reason.result (board_reason c.args.order m b c.args.event) (board_shown c.settle.new.self state)
+    added c.served_reason-reason.result (board_reason c.args.order m b c.args.event)
+    (board_shown c.settle.new.self state)
     (board_after o b c.args.event) (found g (goal.at.returns-clause-chosen g c).After-served_reason-reason)
     c.if-reason-ne-ALLOWED.false
     (c.in_ok-settle.ensures.moved state
@@ -55,7 +59,8 @@ returns-clause-chosen g c =
 pub returns-clause-sound : goal.returns-clause-sound
 returns-clause-sound g c =
     c.in_ok-settle.ensures.sound c.args.setting.seats c.args.setting.conds _ g.T.Guarded.PREDICATES
-    (c.in_ok-serve.ensures.sound c.args.setting.seats c.args.setting.conds g.T.Guarded.PREDICATES c.requires.sound) c.requires.fits
+    (c.in_ok-serve.ensures.sound c.args.setting.seats c.args.setting.conds g.T.Guarded.PREDICATES
+    c.requires.sound) c.requires.fits
 
 pub returns-then-reason-ne-ALLOWED-clause-chosen : goal.returns-then-reason-ne-ALLOWED-clause-chosen
 returns-then-reason-ne-ALLOWED-clause-chosen g c =
@@ -63,8 +68,10 @@ returns-then-reason-ne-ALLOWED-clause-chosen g c =
     let m = monitor_in c.args.setting o in
     let state = g.T.Guarded.state c.args.object.now in
     let b = board_shown c.args.board.now state in
-    not_added c.served_reason-reason.result (board_reason c.args.order m b c.args.event) (board_shown c.serve.new.self state)
-    (board_after o b c.args.event) (found g (goal.at.returns-then-reason-ne-ALLOWED-clause-chosen g c).After-served_reason-reason)
+    not_added c.served_reason-reason.result (board_reason c.args.order m b c.args.event)
+    (board_shown c.serve.new.self state)
+    (board_after o b c.args.event) (found g
+    (goal.at.returns-then-reason-ne-ALLOWED-clause-chosen g c).After-served_reason-reason)
     c.if-reason-ne-ALLOWED.true
 
 pub returns-then-reason-ne-ALLOWED-clause-sound : goal.returns-then-reason-ne-ALLOWED-clause-sound

@@ -11,7 +11,8 @@ pub returns-then-early-ne-ALLOWED : goal.returns-then-early-ne-ALLOWED
 returns-then-early-ne-ALLOWED g c =
     let b = board_shown c.args.board.now (g.T.Guarded.state c.args.object.now) in
     reason_stops (monitor_in c.args.setting g.T.Guarded.meaning) (sight b) c.args.event
-    (cond (permits_by c.args.setting.rules c.args.stays (chances_on c.args.order g.T.Guarded.meaning b) c.args.event) 0 6)
+    (cond (permits_by c.args.setting.rules c.args.stays
+    (chances_on c.args.order g.T.Guarded.meaning b) c.args.event) 0 6)
     c.call_reason-early.result c.call_reason-early.ensures c.if-early-ne-ALLOWED.true
 
 pub returns-then-permits : goal.returns-then-permits
@@ -19,7 +20,8 @@ returns-then-permits g c =
     let b = board_shown c.args.board.now (g.T.Guarded.state c.args.object.now) in
     sym (ap (λ (x : Bool). cond x 0 6) (sym c.permits.ensures ∙ c.if-permits.true))
     ∙ sym (reason_goes (monitor_in c.args.setting g.T.Guarded.meaning) (sight b) c.args.event
-    (cond (permits_by c.args.setting.rules c.args.stays (chances_on c.args.order g.T.Guarded.meaning b) c.args.event) 0 6)
+    (cond (permits_by c.args.setting.rules c.args.stays
+    (chances_on c.args.order g.T.Guarded.meaning b) c.args.event) 0 6)
     c.call_reason-early.result c.call_reason-early.ensures c.if-early-ne-ALLOWED.false)
 
 pub returns-else-permits : goal.returns-else-permits
@@ -27,5 +29,6 @@ returns-else-permits g c =
     let b = board_shown c.args.board.now (g.T.Guarded.state c.args.object.now) in
     sym (ap (λ (x : Bool). cond x 0 6) (sym c.permits.ensures ∙ c.if-permits.false))
     ∙ sym (reason_goes (monitor_in c.args.setting g.T.Guarded.meaning) (sight b) c.args.event
-    (cond (permits_by c.args.setting.rules c.args.stays (chances_on c.args.order g.T.Guarded.meaning b) c.args.event) 0 6)
+    (cond (permits_by c.args.setting.rules c.args.stays
+    (chances_on c.args.order g.T.Guarded.meaning b) c.args.event) 0 6)
     c.call_reason-early.result c.call_reason-early.ensures c.if-early-ne-ALLOWED.false)

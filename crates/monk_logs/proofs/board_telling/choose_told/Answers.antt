@@ -59,13 +59,15 @@ returns-then-served_reason-ne-ALLOWED-clause-chosen g c =
     (c.in_ok-blame.ensures
     ∙ ap (λ (y : Board). blame_on c.args.order m c.must_stay-stays.result y c.args.event c.args.line)
     (c.in_ok-serve.ensures.served state)
-    ∙ ap (λ x. blame_on c.args.order m x (board_served b c.args.event) c.args.event c.args.line) c.must_stay-stays.ensures)
+    ∙ ap (λ x. blame_on c.args.order m x (board_served b c.args.event) c.args.event c.args.line)
+    c.must_stay-stays.ensures)
 
 pub settle-requires : goal.settle-requires
 settle-requires g c =
     let m = monitor_in c.args.setting g.T.Guarded.meaning in
     let b = board_shown c.serve.new.self (g.T.Guarded.state c.args.object.now) in
-    let sound = c.in_ok-serve.ensures.sound c.args.setting.seats c.args.setting.conds g.T.Guarded.PREDICATES c.requires.sound in
+    let sound =
+    c.in_ok-serve.ensures.sound c.args.setting.seats c.args.setting.conds g.T.Guarded.PREDICATES c.requires.sound in
     subst (λ (n : ℕ). seat_of c.with_next-told.result < n) (sym sound.rest.has_seats)
     (seat_there m (sight b) c.with_next-told.result
     (cond (permits_by m.kind c.must_stay-stays.result (chances_on c.args.order m.object b) c.with_next-told.result) 0 6)
@@ -81,10 +83,12 @@ returns-clause-chosen g c =
     let is = told g at.After-with_next-told in
     ap (λ (y : Board). Ok y)
     (c.in_ok-settle.ensures.moved state
-    ∙ told_moved o b (board_shown c.serve.new.self state) c.args.event c.with_next-told.result c.args.line c.must_stay-stays.result
+    ∙ told_moved o b (board_shown c.serve.new.self state) c.args.event c.with_next-told.result c.args.line
+    c.must_stay-stays.result
     (c.in_ok-serve.ensures.served state) is c.requires.release c.must_stay-stays.ensures)
     ∙ told_goes c.served_reason.result (board_reason c.args.order m b (board_told b c.args.event c.args.line))
-    (Ok (board_after o b (board_told b c.args.event c.args.line))) (board_release_blame c.args.order m b c.args.event c.args.line)
+    (Ok (board_after o b (board_told b c.args.event c.args.line)))
+    (board_release_blame c.args.order m b c.args.event c.args.line)
     (found g at.After-served_reason is) c.if-served_reason-ne-ALLOWED.false
 
 pub returns-clause-told : goal.returns-clause-told

@@ -21,7 +21,13 @@ loop-line-init g c =
           (board_shown c.in_ok-board.board d) (g.L.LineSource.left c.args.lines) (c.in_ok-board.ensures.stands d);
       room = omega arith;
       items = c.new-items.ensures.items ∙ sym (ap (λ (b : Board). b.items) (c.in_ok-board.ensures.stands d));
-      few = record { back = omega arith; lapsed = omega arith; passed = omega arith; entered = omega arith; left = omega arith };
+      few = record {
+        back = omega arith;
+        lapsed = omega arith;
+        passed = omega arith;
+        entered = omega arith;
+        left = omega arith;
+      };
       sound = c.in_ok-board.ensures.sound;
       held = tt;
     }
@@ -53,12 +59,16 @@ loop-line-preserved g c =
     let now = c.in_ok-take_items.ensures (g.T.Guarded.state c.line_read.new.object) in
     let taken = ap (λ (l : List LogLine). length l) c.in-Some.ensures in
     record {
-      so_far = count_goes_on m c.args.means.now (g.L.LineSource.left c.loop-line.lines) (g.L.LineSource.left c.next.new.self)
+      so_far =
+          count_goes_on m c.args.means.now (g.L.LineSource.left c.loop-line.lines) (g.L.LineSource.left c.next.new.self)
           c.loop-line.number c.in-Some.line a b c.loop-line.pending c.in-Fits.left k
-          c.in_ok-left.field-0 c.with_line-tally.result _ c.loop-line.invariant.so_far c.in-Some.ensures c.in_ok-left.ensures.judged
+          c.in_ok-left.field-0 c.with_line-tally.result _ c.loop-line.invariant.so_far c.in-Some.ensures
+          c.in_ok-left.ensures.judged
           c.in-Fits.is
-          (line_counted g.T.Guarded.meaning c.args.means.now (c.loop-line.number + 1) (board_course a c.loop-line.pending)
-          (board_course b c.in-Fits.left) c.in-Some.line k c.with_line-tally.result c.loop-line.items.items c.take_items.new.now.items
+          (line_counted g.T.Guarded.meaning c.args.means.now (c.loop-line.number + 1)
+          (board_course a c.loop-line.pending)
+          (board_course b c.in-Fits.left) c.in-Some.line k c.with_line-tally.result c.loop-line.items.items
+          c.take_items.new.now.items
           _ _ _ _ c.with_line-tally.ensures.counted
           (c.services_of-before.ensures.count ∙ ap woken_among c.deref.ensures.value) c.loop-line.invariant.items
           (c.services_of.ensures.count ∙ ap woken_among c.deref-in-Some-2.ensures.value) now
@@ -77,7 +87,9 @@ returns g c =
     c.counts-2.ensures
     ∙ ap (λ (items : List Item). counts_by k (waiting_among items) (woken_among items))
     (c.deref-2.ensures.value ∙ c.loop-line.invariant.items)
-    ∙ count_ends (monitor_in c.args.setting g.T.Guarded.meaning) c.args.means.now (g.L.LineSource.left c.loop-line.lines)
+    ∙ count_ends (monitor_in c.args.setting g.T.Guarded.meaning) c.args.means.now
+    (g.L.LineSource.left c.loop-line.lines)
     c.loop-line.number
-    (count_state (board_course (board_shown c.loop-line.board (g.T.Guarded.state c.loop-line.object)) c.loop-line.pending) k) _
+    (count_state (board_course (board_shown c.loop-line.board (g.T.Guarded.state c.loop-line.object))
+    c.loop-line.pending) k) _
     c.loop-line.invariant.so_far c.in_default.ensures

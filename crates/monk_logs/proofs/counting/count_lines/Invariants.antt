@@ -14,8 +14,10 @@ invariant-loop-line g l =
     let m = monitor_in l.setting o in
     let now = board_shown l.board (g.T.Guarded.state l.object) in
     record {
-      so_far : counts_from m l.means l.number (count_state (board_course now l.pending) l.tally) (g.L.LineSource.left l.lines)
-          ≡ counts_of (monitor l.setting.rules l.setting.seats l.setting.conds o (g.T.Guarded.state l.fn.object)) l.means
+      so_far : counts_from m l.means l.number (count_state (board_course now l.pending) l.tally)
+          (g.L.LineSource.left l.lines)
+          ≡ counts_of (monitor l.setting.rules l.setting.seats l.setting.conds o
+          (g.T.Guarded.state l.fn.object)) l.means
           (g.L.LineSource.left l.fn.lines);
       room : l.number + length (g.L.LineSource.left l.lines) ≤ most_lines;
       items : l.items.items ≡ items_now (board_course now l.pending);

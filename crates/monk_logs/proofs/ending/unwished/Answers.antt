@@ -28,5 +28,6 @@ returns g c =
     (c.inner_next-inner.ensures ∙ ap (λ (y : Board). inner_on k o y) served)
     ∙ ap (λ (x : Option ℕ). by_fronts (inner_on k o (board_served b e)) x first (seat_of e))
     (c.first_signaller-signaller.ensures state ∙ ap (λ (y : Board). slice_get y.signallers 0) served)
-    ∙ ap (λ (x : Bool). cond x Stay (by_fronts (inner_on k o (board_served b e)) (slice_get (signallers_with b e) 0) first (seat_of e)))
+    ∙ ap (λ (x : Bool). cond x Stay
+    (by_fronts (inner_on k o (board_served b e)) (slice_get (signallers_with b e) 0) first (seat_of e)))
     (sym c.if-must_stay.false ∙ c.must_stay.ensures)

@@ -5,4 +5,6 @@ use Rattle.monk_logs.specs.declared.item.Item.{Item}
 use Rattle.monk_logs.proofs.items_moves.lapse.Goals as goal
 
 pub returns : goal.returns
-returns c = filter_same _ (λ (i : Item). not (is_waiting_of c.args.seat i)) _ (λ x b f h. search rules) _ _ c.retain.ensures.filtered
+returns c =
+    filter_same _ (λ (i : Item). not (is_waiting_of c.args.seat i)) _
+    (λ x b f h. search rules) _ _ c.retain.ensures.filtered

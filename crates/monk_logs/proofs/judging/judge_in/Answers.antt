@@ -11,8 +11,10 @@ returns-clause-fits c =
     let x = c.args.lapses in
     let m = log_monitor c.args.kind c.args.header.now in
     let log = c.args.lines.now in
-    IfOk-weaker c.follow_board.result (λ (v : LogVerdict). v ≡ read_verdict x c.args.order m log) (FitsExactlyWith x c.args.order m log)
-    (λ v is. subst (FitsExactlyWith x c.args.order m log) (sym is) (kind_reads x c.args.order c.args.kind c.args.header.now log))
+    IfOk-weaker c.follow_board.result (λ (v : LogVerdict). v ≡ read_verdict x c.args.order m log)
+    (FitsExactlyWith x c.args.order m log)
+    (λ v is. subst (FitsExactlyWith x c.args.order m log) (sym is)
+    (kind_reads x c.args.order c.args.kind c.args.header.now log))
     c.follow_board.ensures.verdict
 
 pub returns-clause-misfit : goal.returns-clause-misfit
@@ -20,6 +22,8 @@ returns-clause-misfit c =
     let x = c.args.lapses in
     let m = log_monitor c.args.kind c.args.header.now in
     let log = c.args.lines.now in
-    IfOk-weaker c.follow_board.result (λ (v : LogVerdict). v ≡ read_verdict x c.args.order m log) (MisfitsExactlyWith x c.args.order m log)
-    (λ v is. subst (MisfitsExactlyWith x c.args.order m log) (sym is) (kind_misreads x c.args.order c.args.kind c.args.header.now log))
+    IfOk-weaker c.follow_board.result (λ (v : LogVerdict). v ≡ read_verdict x c.args.order m log)
+    (MisfitsExactlyWith x c.args.order m log)
+    (λ v is. subst (MisfitsExactlyWith x c.args.order m log) (sym is)
+    (kind_misreads x c.args.order c.args.kind c.args.header.now log))
     c.follow_board.ensures.verdict

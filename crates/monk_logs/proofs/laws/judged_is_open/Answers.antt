@@ -9,7 +9,8 @@ use Rattle.monk_logs.proofs.VerdictLaws.Verdicts.{open_judged}
 use Rattle.monk_logs.proofs.CourseLaws.Soundness.{judged_open}
 use Rattle.monk_logs.proofs.laws.judged_is_open.Goals as goal
 
-some_open : (m : Monitor) (log : List LogLine) (o : Option Course) → IsKind m.kind → judge m log ≡ o → is_some o ≡ true → IsOpen m log
+some_open : (m : Monitor) (log : List LogLine) (o : Option Course) → IsKind m.kind → judge m log ≡ o
+    → is_some o ≡ true → IsOpen m log
 some_open m log None kind is h = absurd cc
 some_open m log (Some d) kind is h = judged_open m log d kind is
 

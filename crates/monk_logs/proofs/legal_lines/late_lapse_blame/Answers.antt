@@ -21,5 +21,7 @@ returns g c =
     c.without_lapses.ensures
     ∙ ap (λ (why : Blame). without_lapses why)
     (c.in_ok-blame.ensures
-    ∙ ap (λ (y : Board). blame_on Fifo m c.must_stay-stays.result y c.args.event (Lapse c.args.seat)) (c.in_ok-serve.ensures.served state)
-    ∙ ap (λ (x : Bool). blame_on Fifo m x (board_served b c.args.event) c.args.event (Lapse c.args.seat)) c.must_stay-stays.ensures)
+    ∙ ap (λ (y : Board). blame_on Fifo m c.must_stay-stays.result y c.args.event (Lapse c.args.seat))
+    (c.in_ok-serve.ensures.served state)
+    ∙ ap (λ (x : Bool). blame_on Fifo m x (board_served b c.args.event) c.args.event (Lapse c.args.seat))
+    c.must_stay-stays.ensures)

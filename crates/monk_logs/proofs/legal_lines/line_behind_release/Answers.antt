@@ -28,8 +28,10 @@ returns-in_ok-add-in-Ok-clause-kept g c =
     let later = g.T.Guarded.state c.choose_told.new.object in
     let now = board_shown c.choose_told.new.board later in
     IfOk-weaker c.line_alone.result _ _
-    (λ v more left fits. told_kept Fifo m (board_shown c.args.board.now (g.T.Guarded.state c.args.object.now)) now c.args.event
-    c.in-Ok.told c.args.line (kept_events c.args.past.now) (kept_events c.add.new.self) (kept_events c.line_alone.new.past)
+    (λ v more left fits. told_kept Fifo m
+    (board_shown c.args.board.now (g.T.Guarded.state c.args.object.now)) now c.args.event
+    c.in-Ok.told c.args.line (kept_events c.args.past.now) (kept_events c.add.new.self)
+    (kept_events c.line_alone.new.past)
     (c.in_ok-told.ensures.told c.in-Ok.told c.in-Ok.is)
     (ap (λ (r : Result Event Blame). board_or now r) (sym c.in-Ok.is) ∙ c.in_ok-told.ensures.chosen)
     c.in_ok-add-in-Ok.ensures (more later))

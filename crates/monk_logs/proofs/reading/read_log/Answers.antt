@@ -7,4 +7,5 @@ returns-clause-found c = is_found MOST_LOG_LINES c.args.bytes.now c.read_lines.r
 
 pub returns-clause-only : goal.returns-clause-only
 returns-clause-only c =
-    λ h ls has le same. is_only MOST_LOG_LINES c.args.bytes.now c.read_lines.result h ls has le same c.read_lines.ensures
+    λ h ls has le same. is_only MOST_LOG_LINES c.args.bytes.now c.read_lines.result h ls has le same
+    c.read_lines.ensures

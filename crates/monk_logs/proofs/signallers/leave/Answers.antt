@@ -5,4 +5,5 @@ use Rattle.monk_logs.proofs.signallers.leave.Goals as goal
 
 pub returns : goal.returns
 returns c =
-    filter_same _ (λ (j : ℕ). not (is_among j (c.args.seat ∷ []))) _ (λ x b f h. search rules) _ _ c.retain.ensures.filtered
+    filter_same _ (λ (j : ℕ). not (is_among j (c.args.seat ∷ []))) _
+    (λ x b f h. search rules) _ _ c.retain.ensures.filtered

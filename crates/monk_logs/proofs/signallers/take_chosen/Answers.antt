@@ -8,4 +8,5 @@ use Rattle.monk_logs.proofs.signallers.take_chosen.Goals as goal
 pub returns-in-None : goal.returns-in-None
 returns-in-None c =
     let now = c.args.signallers.now.items in
-    nobody_apart now ∙ ap (λ (l : List ℕ). apart l now) (ap (λ (x : Option ℕ). just x) (sym c.in-None.is) ∙ c.chosen.ensures)
+    nobody_apart now
+    ∙ ap (λ (l : List ℕ). apart l now) (ap (λ (x : Option ℕ). just x) (sym c.in-None.is) ∙ c.chosen.ensures)

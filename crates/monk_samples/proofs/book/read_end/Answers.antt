@@ -18,15 +18,21 @@ returns-after-writes g c =
     let holds : c.holds.result ≡ last = c.holds.ensures
     ∙ ap (λ f. book_meaning.holds (data_of (monitor_of k book_meaning f) h) book.CAN_WRITE) c.in-Ok.ensures.floor in
     let is : c.if-holds.writes ≡ (last && waits) =
-    elim c.if-holds.branch [ then-holds w ↦ rw (sym holds ∙ w.if-holds.true) cc | else-holds w ↦ rw (sym holds ∙ w.if-holds.false) cc ] in
+    elim c.if-holds.branch [
+      | then-holds w ↦ rw (sym holds ∙ w.if-holds.true) cc
+      | else-holds w ↦ rw
+          (sym holds ∙ w.if-holds.false) cc
+    ] in
     let writes : (last && waits) ≡ true → next ≡ CAN_WRITE =
     λ e. elim c.if-writes.branch [ then-writes w ↦ cc | else-writes w ↦ cc ] in
     let reads : (last && waits) ≡ false → next ≡ CAN_READ =
     λ e. elim c.if-writes.branch [ then-writes w ↦ cc | else-writes w ↦ cc ] in
     visited k book_meaning c.args.pass (ends_to_read k c.args.pass.me.setting) _ a c.finish.result.0 c.finish.result.1
     c.in-Ok.ensures tt
-    (finished_by k book_meaning (last && waits) CAN_WRITE CAN_READ next a c.finish.result.0 c.finish.result.1 writes reads c.finish.ensures)
+    (finished_by k book_meaning (last && waits) CAN_WRITE CAN_READ next a c.finish.result.0 c.finish.result.1
+    writes reads c.finish.ensures)
 
 pub returns-in-Err : goal.returns-in-Err
-returns-in-Err g c = tired g.K.Kind.rules book_meaning c.args.pass (ends_to_read g.K.Kind.rules c.args.pass.me.setting) c.in-Err.pass
+returns-in-Err g c =
+    tired g.K.Kind.rules book_meaning c.args.pass (ends_to_read g.K.Kind.rules c.args.pass.me.setting) c.in-Err.pass
     c.in-Err.ensures

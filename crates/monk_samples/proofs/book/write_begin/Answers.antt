@@ -9,7 +9,8 @@ use Rattle.monk_samples.proofs.book.write_begin.Goals as goal
 pub returns-in-Ok : goal.returns-in-Ok
 returns-in-Ok g c =
     let k = g.K.Kind.rules in let a = c.in-Ok.active in
-    visited k book_meaning c.args.pass begins_to_write _ a c.leave.result Done c.in-Ok.ensures.acted.0 c.in-Ok.ensures.acted.1
+    visited k book_meaning c.args.pass begins_to_write _ a c.leave.result Done c.in-Ok.ensures.acted.0
+    c.in-Ok.ensures.acted.1
     (left k book_meaning Waiter a _ _ c.leave.result c.leave.ensures)
 
 pub returns-in-Err : goal.returns-in-Err

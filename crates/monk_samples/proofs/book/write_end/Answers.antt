@@ -13,7 +13,8 @@ returns-after-waits g c =
     let reads : b ≡ true → next ≡ CAN_READ = λ e. elim c.if-waits.branch [ then-waits w ↦ cc | else-waits w ↦ cc ] in
     let writes : b ≡ false → next ≡ CAN_WRITE = λ e. elim c.if-waits.branch [ then-waits w ↦ cc | else-waits w ↦ cc ] in
     visited k book_meaning c.args.pass (ends_to_write k) _ a c.finish.result.0 c.finish.result.1 c.in-Ok.ensures tt
-    (finished_by k book_meaning b CAN_READ CAN_WRITE next a c.finish.result.0 c.finish.result.1 reads writes c.finish.ensures)
+    (finished_by k book_meaning b CAN_READ CAN_WRITE next a c.finish.result.0 c.finish.result.1 reads writes
+    c.finish.ensures)
 
 pub returns-in-Err : goal.returns-in-Err
 returns-in-Err g c =

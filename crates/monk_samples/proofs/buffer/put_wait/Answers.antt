@@ -9,4 +9,5 @@ returns-in-Ok g c = visited_out g.K.Kind.rules buffer_meaning c.args.pass (puts_
     c.in-Ok.ensures.acted.0 c.in-Ok.ensures.acted.1 c.signal_wait_and_leave.ensures
 
 pub returns-in-Err : goal.returns-in-Err
-returns-in-Err g c = tired g.K.Kind.rules buffer_meaning c.args.pass (puts_and_waits c.args.item) c.in-Err.pass c.in-Err.ensures.acted
+returns-in-Err g c =
+    tired g.K.Kind.rules buffer_meaning c.args.pass (puts_and_waits c.args.item) c.in-Err.pass c.in-Err.ensures.acted

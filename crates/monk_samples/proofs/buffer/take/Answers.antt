@@ -17,7 +17,8 @@ took reply item told =
 pub returns-in-Ok-clause-visited : goal.returns-in-Ok-clause-visited
 returns-in-Ok-clause-visited g c =
     let told = visited_telling g.K.Kind.rules buffer_meaning c.args.pass takes c.in-Ok.reply c.in-Ok.active
-    c.finish-pass.result.0 c.finish-pass.result.1 c.in-Ok.ensures.acted.0 c.in-Ok.ensures.acted.1 c.finish-pass.ensures in
+    c.finish-pass.result.0 c.finish-pass.result.1 c.in-Ok.ensures.acted.0 c.in-Ok.ensures.acted.1
+    c.finish-pass.ensures in
     (told.0, ap items_taken told.1 ∙ took c.in-Ok.reply c.item_of.result c.item_of.ensures)
 
 pub returns-in-Err-clause-visited : goal.returns-in-Err-clause-visited

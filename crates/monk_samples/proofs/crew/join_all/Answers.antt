@@ -19,10 +19,12 @@ loop-shift-init g c =
     c.into_iter-shift-iterator.ensures.into_iter_gives.0 in (
       [],
       ap (λ xs. map (λ s. s.promise.pass.value) xs) (sym e),
-      subst (λ (qs : List Token). HaveJoined g.K.Kind.rules g.T.Guarded.meaning (g.G.Gate.answers c.args.gate.now) c.args.rota.sample
+      subst (λ (qs : List Token). HaveJoined g.K.Kind.rules g.T.Guarded.meaning
+          (g.G.Gate.answers c.args.gate.now) c.args.rota.sample
           c.args.rota.seats c.args.rota.rounds c.args.hall.now [] qs None) (sym c.in_ok-passes.ensures.items) tt,
       same_all (into_iter_items c.into_iter-shift-iterator.result) (vec_items c.args.crew)
-          (λ s. (s.promise.hall.value ≡ c.args.hall.now) × (s.promise.gate.value ≡ c.args.gate.now) × (s.promise.rota.value ≡ c.args.rota))
+          (λ s. (s.promise.hall.value ≡ c.args.hall.now) × (s.promise.gate.value ≡ c.args.gate.now)
+          × (s.promise.rota.value ≡ c.args.rota))
           e c.requires,
     )
 
@@ -32,28 +34,38 @@ loop-shift-preserved g c =
     let p = c.in-Some.shift.promise in
     let steps = c.in-Some.ensures.steps.0 in
     let from = first_of (into_iter_items c.next.new.self) (into_iter_items c.loop-shift.shift-iterator) c.in-Some.shift
-    (λ s. (s.promise.hall.value ≡ c.args.hall.now) × (s.promise.gate.value ≡ c.args.gate.now) × (s.promise.rota.value ≡ c.args.rota))
+    (λ s. (s.promise.hall.value ≡ c.args.hall.now) × (s.promise.gate.value ≡ c.args.gate.now)
+    × (s.promise.rota.value ≡ c.args.rota))
     steps inv.3 in
     let kept = c.in-Some-join.ensures in
-    let of : IsOf c.args.hall.now c.in-Some-join.pass = subst (λ (h : House). IsOf h c.in-Some-join.pass) from.0 kept.0 in
+    let of : IsOf c.args.hall.now c.in-Some-join.pass =
+    subst (λ (h : House). IsOf h c.in-Some-join.pass) from.0 kept.0 in
     let here = subst (λ gate. HasServed g.K.Kind.rules g.T.Guarded.meaning (g.G.Gate.answers gate) p.rota.value.sample
     p.rota.value.seats p.rota.value.rounds p.pass.value c.in-Some-join.pass c.in-Some-join.end) from.1 kept.1 in
-    let served = subst (λ (r : Rota). HasServed g.K.Kind.rules g.T.Guarded.meaning (g.G.Gate.answers c.args.gate.now) r.sample
+    let served =
+    subst (λ (r : Rota). HasServed g.K.Kind.rules g.T.Guarded.meaning (g.G.Gate.answers c.args.gate.now) r.sample
     r.seats r.rounds p.pass.value c.in-Some-join.pass c.in-Some-join.end) from.2 here in
-    let joined = joined_then g.K.Kind.rules g.T.Guarded.meaning (g.G.Gate.answers c.args.gate.now) c.args.rota.sample c.args.rota.seats
-    c.args.rota.rounds c.args.hall.now inv.0 (vec_items c.loop-shift.passes) p.pass.value c.in-Some-join.pass c.in-Some-join.end
+    let joined =
+    joined_then g.K.Kind.rules g.T.Guarded.meaning
+    (g.G.Gate.answers c.args.gate.now) c.args.rota.sample c.args.rota.seats
+    c.args.rota.rounds c.args.hall.now inv.0
+    (vec_items c.loop-shift.passes) p.pass.value c.in-Some-join.pass c.in-Some-join.end
     c.loop-shift.fault inv.2 of served in
-    let told = subst (λ (qs : List Token). HaveJoined g.K.Kind.rules g.T.Guarded.meaning (g.G.Gate.answers c.args.gate.now)
+    let told =
+    subst (λ (qs : List Token). HaveJoined g.K.Kind.rules g.T.Guarded.meaning (g.G.Gate.answers c.args.gate.now)
     c.args.rota.sample c.args.rota.seats c.args.rota.rounds c.args.hall.now (inv.0 ++ p.pass.value ∷ []) qs
     (fault_after c.loop-shift.fault c.in-Some-join.end)) (sym c.in_ok-push.ensures.items) joined in (
       inv.0 ++ p.pass.value ∷ [],
-      inv.1 ∙ ap (λ xs. inv.0 ++ map (λ s. s.promise.pass.value) xs) steps ∙ sym (append_assoc inv.0 (p.pass.value ∷ []) _),
-      subst (λ (fault : Option CrewFault). HaveJoined g.K.Kind.rules g.T.Guarded.meaning (g.G.Gate.answers c.args.gate.now)
+      inv.1 ∙ ap (λ xs. inv.0 ++ map (λ s. s.promise.pass.value) xs) steps
+          ∙ sym (append_assoc inv.0 (p.pass.value ∷ []) _),
+      subst (λ (fault : Option CrewFault). HaveJoined g.K.Kind.rules g.T.Guarded.meaning
+          (g.G.Gate.answers c.args.gate.now)
           c.args.rota.sample c.args.rota.seats c.args.rota.rounds c.args.hall.now (inv.0 ++ p.pass.value ∷ [])
           (vec_items c.push.new.self) fault)
           (sym c.fault_after-fault.ensures) told,
       rest_of (into_iter_items c.next.new.self) (into_iter_items c.loop-shift.shift-iterator) c.in-Some.shift
-          (λ s. (s.promise.hall.value ≡ c.args.hall.now) × (s.promise.gate.value ≡ c.args.gate.now) × (s.promise.rota.value ≡ c.args.rota))
+          (λ s. (s.promise.hall.value ≡ c.args.hall.now) × (s.promise.gate.value ≡ c.args.gate.now)
+          × (s.promise.rota.value ≡ c.args.rota))
           steps inv.3,
     )
 
@@ -63,9 +75,11 @@ returns-in-None-fault-clause-served g c =
     let rest = nil_from_length (into_iter_items c.loop-shift.shift-iterator)
     (sym c.loop-shift.shift-iterator.rest.ok.0 ∙ c.in-None.ensures.steps.0) in
     let done = inv.1 ∙ ap (λ xs. inv.0 ++ map (λ s. s.promise.pass.value) xs) rest ∙ append-nil inv.0 in
-    subst (λ (ps : List Token). HaveServed g.K.Kind.rules g.T.Guarded.meaning (g.G.Gate.answers c.args.gate.now) c.args.rota.sample
+    subst (λ (ps : List Token). HaveServed g.K.Kind.rules g.T.Guarded.meaning
+    (g.G.Gate.answers c.args.gate.now) c.args.rota.sample
     c.args.rota.seats c.args.rota.rounds c.args.hall.now ps (vec_items c.loop-shift.passes)) (sym done)
-    (subst (λ (fault : Option CrewFault). HaveJoined g.K.Kind.rules g.T.Guarded.meaning (g.G.Gate.answers c.args.gate.now)
+    (subst (λ (fault : Option CrewFault). HaveJoined g.K.Kind.rules g.T.Guarded.meaning
+    (g.G.Gate.answers c.args.gate.now)
     c.args.rota.sample c.args.rota.seats c.args.rota.rounds c.args.hall.now inv.0 (vec_items c.loop-shift.passes) fault)
     c.in-None-fault.is inv.2)
 
@@ -78,15 +92,18 @@ returns-in-Some-fault-clause-fault g c =
     let rest = nil_from_length (into_iter_items c.loop-shift.shift-iterator)
     (sym c.loop-shift.shift-iterator.rest.ok.0 ∙ c.in-None.ensures.steps.0) in
     let done = inv.1 ∙ ap (λ xs. inv.0 ++ map (λ s. s.promise.pass.value) xs) rest ∙ append-nil inv.0 in
-    subst (λ (ps : List Token). IsFaultOfCrew g.K.Kind.rules g.T.Guarded.meaning (g.G.Gate.answers c.args.gate.now) c.args.rota.sample
+    subst (λ (ps : List Token). IsFaultOfCrew g.K.Kind.rules g.T.Guarded.meaning
+    (g.G.Gate.answers c.args.gate.now) c.args.rota.sample
     c.args.rota.seats c.args.rota.rounds ps c.in-Some-fault.fault) (sym done)
-    (subst (λ (fault : Option CrewFault). HaveJoined g.K.Kind.rules g.T.Guarded.meaning (g.G.Gate.answers c.args.gate.now)
+    (subst (λ (fault : Option CrewFault). HaveJoined g.K.Kind.rules g.T.Guarded.meaning
+    (g.G.Gate.answers c.args.gate.now)
     c.args.rota.sample c.args.rota.seats c.args.rota.rounds c.args.hall.now inv.0 (vec_items c.loop-shift.passes) fault)
     c.in-Some-fault.is inv.2)
 
 pub returns-in_err-push-clause-fault : goal.returns-in_err-push-clause-fault
 returns-in_err-push-clause-fault g c =
-    if_err c.from_residual-in_err-push.result _ _ c.from_residual-in_err-push.ensures (wants_memory g.K.Kind.rules g.T.Guarded.meaning
+    if_err c.from_residual-in_err-push.result _ _ c.from_residual-in_err-push.ensures
+    (wants_memory g.K.Kind.rules g.T.Guarded.meaning
     (g.G.Gate.answers c.args.gate.now) c.args.rota.sample c.args.rota.seats c.args.rota.rounds
     (map (λ s. s.promise.pass.value) c.args.crew.items))
 

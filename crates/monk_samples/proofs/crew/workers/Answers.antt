@@ -16,7 +16,8 @@ loop-pass-init g c =
           (λ w. ((w.hall.now ≡ c.args.hall.now) × IsReady g.K.Kind.rules c.args.hall.now w.pass)
           × (w.gate.now ≡ c.args.gate.now) × (w.rota ≡ c.args.rota))
           c.in_ok-workers.ensures.items,
-      ap (λ ws. map (λ w. w.pass) ws ++ into_iter_items c.into_iter-pass-iterator.result) c.in_ok-workers.ensures.items ∙ e,
+      ap (λ ws. map (λ w. w.pass) ws ++ into_iter_items c.into_iter-pass-iterator.result)
+          c.in_ok-workers.ensures.items ∙ e,
       same_all (into_iter_items c.into_iter-pass-iterator.result) (vec_items c.args.passes)
           (IsReady g.K.Kind.rules c.args.hall.now) e c.requires,
     )
@@ -46,7 +47,8 @@ returns-clause-passes g c =
     ∙ c.loop-pass.invariant.1
 
 pub returns-in_err-workers-clause-fault : goal.returns-in_err-workers-clause-fault
-returns-in_err-workers-clause-fault g c = if_err c.from_residual.result _ (λ e. e ≡ crew.Memory) c.from_residual.ensures (λ e h. h)
+returns-in_err-workers-clause-fault g c =
+    if_err c.from_residual.result _ (λ e. e ≡ crew.Memory) c.from_residual.ensures (λ e h. h)
 
 pub returns-in_err-push-clause-fault : goal.returns-in_err-push-clause-fault
 returns-in_err-push-clause-fault g c =

@@ -26,4 +26,5 @@ returns-in-Err-pause_once-clause-acted g c =
     let k = g.K.Kind.rules in let o = g.T.Guarded.meaning in let p = c.args.pass in
     let w = Some (hasty_guard c.args.cond c.args.pred) in
     unready k o (outside p) w c.in-Err-pause_once.pass
-    (tired_since k o (outside p) w c.in-Ok.active c.in-Err-pause_once.pass c.in-Ok.ensures.came c.in-Err-pause_once.ensures)
+    (tired_since k o (outside p) w c.in-Ok.active c.in-Err-pause_once.pass c.in-Ok.ensures.came
+    c.in-Err-pause_once.ensures)

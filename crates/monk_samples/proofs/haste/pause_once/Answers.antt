@@ -11,7 +11,8 @@ use Rattle.monk_samples.proofs.haste.pause_once.Goals as goal
 
 pub returns-then-holds : goal.returns-then-holds
 returns-then-holds g c = let a = c.args.active in
-    paused_none g.K.Kind.rules g.T.Guarded.meaning (inside a) (Some (hasty_guard c.args.cond c.args.pred)) a (called_none (inside a))
+    paused_none g.K.Kind.rules g.T.Guarded.meaning (inside a) (Some (hasty_guard c.args.cond c.args.pred)) a
+    (called_none (inside a))
 
 pub returns : goal.returns
 returns g c =

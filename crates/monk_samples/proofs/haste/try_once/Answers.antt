@@ -23,4 +23,5 @@ returns-then-reply-eq0-clause-tried g c =
 pub returns-clause-tried : goal.returns-clause-tried
 returns-clause-tried g c = tried_in g.K.Kind.rules g.T.Guarded.meaning c.args.pass
     (hastily c.args.cond c.args.pred c.args.op (always c.args.next)) c.in-Ok.acted.1 c.in-Ok.acted.0
-    c.finish_by.result.0 c.finish_by.result.1 c.in-Ok.ensures.acted (some c.in-Ok.acted.1 c.if-reply-eq0.false) c.finish_by.ensures
+    c.finish_by.result.0 c.finish_by.result.1 c.in-Ok.ensures.acted
+    (some c.in-Ok.acted.1 c.if-reply-eq0.false) c.finish_by.ensures

@@ -24,7 +24,8 @@ resume-active-requires-after_bounds g c κs within =
 
 pub close-requires-after_bounds : goal.close-requires-after_bounds
 close-requires-after_bounds g c κs within =
-    c.resume-active.ensures.hall ∙ c.arrive.ensures.hall ∙ (first_is_of c.args.hall c.args.passes.items c.in_ok-first.first
+    c.resume-active.ensures.hall ∙ c.arrive.ensures.hall
+    ∙ (first_is_of c.args.hall c.args.passes.items c.in_ok-first.first
     c.in_ok-first.others.items c.in_ok-first.ensures.same c.requires.of).0
 
 pub leave-requires-after_bounds : goal.leave-requires-after_bounds
@@ -38,12 +39,14 @@ complete-requires-clause-apart g c κs within =
     let first = c.in_ok-first.first in let others = c.in_ok-first.others.items in
     subst (λ n. AreApart n c.deref-in-Ok.result.now) (sym c.seat-seat.ensures)
     (subst (λ (qs : List Token). AreApart first.me.seat qs) (sym c.deref-in-Ok.ensures.value)
-    (apart_from first others (still_differ c.args.passes.items (first ∷ others) c.in_ok-first.ensures.same c.requires.apart)))
+    (apart_from first others (still_differ c.args.passes.items
+    (first ∷ others) c.in_ok-first.ensures.same c.requires.apart)))
 
 pub complete-requires-clause-seen : goal.complete-requires-clause-seen
 complete-requires-clause-seen g c κs within =
     subst (λ (h : List Event). All (λ p. StartsWith h p.me.seen) c.deref-in-Ok.result.now) (sym c.deref.ensures.value)
-    (subst (λ (qs : List Token). All (λ p. StartsWith c.in-Ok.closed.history.items p.me.seen) qs) (sym c.deref-in-Ok.ensures.value)
+    (subst (λ (qs : List Token). All (λ p. StartsWith c.in-Ok.closed.history.items p.me.seen) qs)
+    (sym c.deref-in-Ok.ensures.value)
     (closed_begins c.in-Ok.closed.history.items c.resume-active.result.floor.history c.resume-active.result.me.seen
     c.arrive.result.me.seen c.in_ok-first.first.me.seen _ _ c.in_ok-first.others.items c.in-Ok.ensures.ended.leaves
     (ap (λ (f : FloorView). f.history) c.resume-active.ensures.floor) c.resume-active.ensures.starts
@@ -64,9 +67,13 @@ returns-in-Ok-clause-whole g c =
     let first = c.in_ok-first.first in let others = c.in_ok-first.others.items in
     let h = c.in-Ok.closed.history.items in
     let is : c.complete.result ≡ true = search rules in
-    let only = only_here h c.deref.result.now c.seat-seat.result first.me.seat others c.deref-in-Ok.result.now c.complete.result
+    let only =
+    only_here h c.deref.result.now c.seat-seat.result first.me.seat others c.deref-in-Ok.result.now
+    c.complete.result
     c.complete.ensures is c.deref.ensures.value c.seat-seat.ensures c.deref-in-Ok.ensures.value in
-    let own = closed_own h first.me.mine c.arrive.result.me.mine c.resume-active.result.me.mine _ _ c.resume-active.result.me.seat
+    let own =
+    closed_own h first.me.mine c.arrive.result.me.mine c.resume-active.result.me.mine _ _
+    c.resume-active.result.me.seat
     c.arrive.result.me.seat first.me.seat c.in-Ok.ensures.ended.own c.resume-active.ensures.mine
     (ap (λ (r : SeatRecord). r.mine) c.arrive.ensures.me) c.resume-active.ensures.seat
     (ap (λ (r : SeatRecord). r.seat) c.arrive.ensures.me) in
@@ -79,13 +86,18 @@ returns-in-Ok-clause-left g c =
     let first = c.in_ok-first.first in let others = c.in_ok-first.others.items in
     let h = c.in-Ok.closed.history.items in
     let is : c.complete.result ≡ true = search rules in
-    let only = only_here h c.deref.result.now c.seat-seat.result first.me.seat others c.deref-in-Ok.result.now c.complete.result
+    let only =
+    only_here h c.deref.result.now c.seat-seat.result first.me.seat others c.deref-in-Ok.result.now
+    c.complete.result
     c.complete.ensures is c.deref.ensures.value c.seat-seat.ensures c.deref-in-Ok.ensures.value in
     let arrived = ap (λ (r : SeatRecord). r.seat) c.arrive.ensures.me in
     let seat = c.resume-active.ensures.seat ∙ arrived in
     let came = ap (λ (f : FloorView). f.history) c.resume-active.ensures.floor in
-    let e = out_event c.arrive.result.me.seat (source_from c.arrive.result.me.place) (turn c.resume-active.result.me.seen) in
-    let own = closed_own h first.me.mine c.arrive.result.me.mine c.resume-active.result.me.mine _ _ c.resume-active.result.me.seat
+    let e = out_event c.arrive.result.me.seat (source_from c.arrive.result.me.place)
+    (turn c.resume-active.result.me.seen) in
+    let own =
+    closed_own h first.me.mine c.arrive.result.me.mine c.resume-active.result.me.mine _ _
+    c.resume-active.result.me.seat
     c.arrive.result.me.seat first.me.seat c.in-Ok.ensures.ended.own c.resume-active.ensures.mine
     (ap (λ (r : SeatRecord). r.mine) c.arrive.ensures.me) c.resume-active.ensures.seat arrived in
     left_by h c.resume-active.result.me.seen e c.args.passes.items first others c.in_ok-first.ensures.same

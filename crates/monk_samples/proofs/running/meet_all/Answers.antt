@@ -26,7 +26,8 @@ loop-pass-init g c =
       same_pass first,
       subst (AreSame []) (sym c.in_ok-others.ensures.items) tt,
       none_yet (vec_items c.in_ok-others.others) (λ p. StartsWith first.me.seen p.me.seen) c.in_ok-others.ensures.items,
-      same_all (first ∷ into_iter_items c.into_iter-pass-iterator.result) (vec_items c.args.passes) (IsOf c.args.hall.now)
+      same_all (first ∷ into_iter_items c.into_iter-pass-iterator.result) (vec_items c.args.passes)
+          (IsOf c.args.hall.now)
           (sym all) c.requires.of,
       All-cons (λ (p : Token). StartsWith first.me.seen p.me.seen) first [] (starts_here first.me.seen)
           (All-nil (λ (p : Token). StartsWith first.me.seen p.me.seen)),
@@ -49,8 +50,10 @@ loop-pass-preserved g c =
           (same_then inv.1 (vec_items c.loop-pass.others) pass c.meet.new.b inv.4 other),
       one_more (vec_items c.loop-pass.others) (vec_items c.push.new.self) c.meet.new.b
           (λ p. StartsWith c.meet.new.a.me.seen p.me.seen) c.in_ok-push.ensures.items
-          (still_begins c.meet.new.a c.loop-pass.first (vec_items c.loop-pass.others) c.meet.ensures.first_learns.0 inv.5)
-          (met_begins c.loop-pass.first c.meet.new.a pass c.meet.new.b _ _ _ c.meet.ensures.first c.meet.ensures.second),
+          (still_begins c.meet.new.a c.loop-pass.first
+          (vec_items c.loop-pass.others) c.meet.ensures.first_learns.0 inv.5)
+          (met_begins c.loop-pass.first c.meet.new.a pass c.meet.new.b _ _ _ c.meet.ensures.first
+          c.meet.ensures.second),
       All-cons (IsOf c.args.hall.now) inv.0 rest
           (All-head (IsOf c.args.hall.now) inv.0 (into_iter_items c.loop-pass.pass-iterator) inv.6)
           (rest_of rest (into_iter_items c.loop-pass.pass-iterator) pass (IsOf c.args.hall.now) steps of),
@@ -86,7 +89,8 @@ returns-clause-had_seen g c =
     (inv.2 ∙ ap (λ xs. inv.0 ∷ inv.1 ++ xs) rest ∙ ap (λ xs. inv.0 ∷ xs) (append-nil inv.1)) inv.7
 
 pub returns-in_err-others-clause-fault : goal.returns-in_err-others-clause-fault
-returns-in_err-others-clause-fault g c = if_err c.from_residual.result _ (λ e. e ≡ crew.Memory) c.from_residual.ensures (λ e h. h)
+returns-in_err-others-clause-fault g c =
+    if_err c.from_residual.result _ (λ e. e ≡ crew.Memory) c.from_residual.ensures (λ e h. h)
 
 pub returns-in_err-push-clause-fault : goal.returns-in_err-push-clause-fault
 returns-in_err-push-clause-fault g c =

@@ -16,6 +16,7 @@ returns-clause-totals g c =
 pub returns-clause-outcome : goal.returns-clause-outcome
 returns-clause-outcome g c =
     outcome_of g.K.Kind.rules g.K.Kind.NAME c.args.rota.sample c.args.rota.seats c.args.rota.rounds c.header_of.result
-    c.args.history.items c.totals_of-totals.result c.args.rota.seats_in_range.1 c.args.rota.rounds_in_range.1 g.K.Kind.are_named
+    c.args.history.items c.totals_of-totals.result c.args.rota.seats_in_range.1 c.args.rota.rounds_in_range.1
+    g.K.Kind.are_named
     c.requires c.header_of.ensures
     (c.totals_of-totals.ensures ∙ ap (totals_of c.args.rota.sample) c.deref.ensures.value)

@@ -9,7 +9,8 @@ use Rattle.monk_samples.proofs.shop.barber_turn.Goals as goal
 pub returns-in-Done : goal.returns-in-Done
 returns-in-Done g c =
     let k = g.K.Kind.rules in
-    let first = subst (λ (end : End). HasVisited k shop_meaning c.args.pass (calls ∷ []) c.act_and_finish-pass.result.0 end)
+    let first =
+    subst (λ (end : End). HasVisited k shop_meaning c.args.pass (calls ∷ []) c.act_and_finish-pass.result.0 end)
     c.in-Done.is c.act_and_finish-pass.ensures in
     visited_twice k shop_meaning c.args.pass c.act_and_finish-pass.result.0 c.finish_cut.result.0 c.finish_cut.result.1
     calls finishes first c.finish_cut.ensures

@@ -9,9 +9,11 @@ use Rattle.monk_samples.proofs.shop.sit_and_cut.Goals as goal
 pub returns-in-Done : goal.returns-in-Done
 returns-in-Done g c =
     let k = g.K.Kind.rules in
-    let first = subst (λ (end : End). HasVisited k shop_meaning c.args.pass (sits ∷ []) c.act_and_finish-pass.result.0 end)
+    let first =
+    subst (λ (end : End). HasVisited k shop_meaning c.args.pass (sits ∷ []) c.act_and_finish-pass.result.0 end)
     c.in-Done.is c.act_and_finish-pass.ensures in
-    visited_twice k shop_meaning c.args.pass c.act_and_finish-pass.result.0 c.act_and_finish.result.0 c.act_and_finish.result.1
+    visited_twice k shop_meaning c.args.pass c.act_and_finish-pass.result.0 c.act_and_finish.result.0
+    c.act_and_finish.result.1
     sits departs first c.act_and_finish.ensures
 
 pub returns-in_default : goal.returns-in_default

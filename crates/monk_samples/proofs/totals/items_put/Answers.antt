@@ -14,7 +14,8 @@ loop-event-preserved c =
     let below = c.loop-event-test.true in
     let bound = inv.1 in
     let low = c.item_put-sum.ensures.low in (
-      put_next c.loop-event.event-index c.loop-event.sum c.item_put-sum.result c.args.history.now _ below inv.0 c.item_put-sum.ensures.item,
+      put_next c.loop-event.event-index c.loop-event.sum c.item_put-sum.result c.args.history.now _ below inv.0
+          c.item_put-sum.ensures.item,
       omega (arith, bound, low),
       omega (arith, below),
     )

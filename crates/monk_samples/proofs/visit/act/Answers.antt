@@ -16,6 +16,8 @@ returns-then-left-lt2-clause-acted g c =
 pub returns-clause-acted : goal.returns-clause-acted
 returns-clause-acted g c =
     let k = g.K.Kind.rules in let o = g.T.Guarded.meaning in (
-      acted_now k o c.args.active c.args.op c.act-reply.result c.act-reply.new.self c.act-reply.ensures.done c.left.ensures.floor,
-      replied k o c.args.active c.args.active.me.seat c.args.op c.act-reply.result c.act-reply.new.self c.act-reply.ensures.done,
+      acted_now k o c.args.active c.args.op c.act-reply.result c.act-reply.new.self c.act-reply.ensures.done
+          c.left.ensures.floor,
+      replied k o c.args.active c.args.active.me.seat c.args.op c.act-reply.result c.act-reply.new.self
+          c.act-reply.ensures.done,
     )

@@ -13,5 +13,9 @@ returns-in-Ok-clause-acted g c =
     let w = Some (guard c.args.cond c.args.pred) in let f = a.floor in
     let done = c.requires.promise (data_of (monitor_of k o f) f.history) c.in-Ok.ensures.1 in
     MatchResult-weaker c.act.result c.act.ensures.acted
-    (λ r h. (acted_after k o (outside p) w c.args.op r.1 a r.0 c.in-Ok.ensures.0 h.0, subst (λ (n : ℕ). 0 < n) (sym h.1) done))
+    (λ r h. (
+      acted_after k o (outside p) w c.args.op r.1 a r.0 c.in-Ok.ensures.0 h.0,
+      subst (λ (n : ℕ). 0 < n)
+          (sym h.1) done,
+    ))
     (λ q t. unready k o (outside p) w q (tired_inside k o (outside p) w a q c.in-Ok.ensures.0 t))

@@ -15,4 +15,5 @@ returns-in-Ok g c =
 
 pub returns-in-Err : goal.returns-in-Err
 returns-in-Err g c =
-    stayed_out g.K.Kind.rules g.T.Guarded.meaning c.args.pass c.in-Err.pass (Some (guard c.args.cond c.args.pred)) c.in-Err.ensures.came
+    stayed_out g.K.Kind.rules g.T.Guarded.meaning c.args.pass c.in-Err.pass
+    (Some (guard c.args.cond c.args.pred)) c.in-Err.ensures.came

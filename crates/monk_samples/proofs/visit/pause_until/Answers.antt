@@ -10,7 +10,8 @@ use Rattle.monk_samples.proofs.visit.pause_until.Goals as goal
 
 pub loop-active-init : goal.loop-active-init
 loop-active-init g c = let a = c.args.active in
-    paused_none g.K.Kind.rules g.T.Guarded.meaning (inside a) (Some (guard c.args.cond c.args.pred)) a (called_none (inside a))
+    paused_none g.K.Kind.rules g.T.Guarded.meaning (inside a) (Some (guard c.args.cond c.args.pred)) a
+    (called_none (inside a))
 
 pub loop-active-preserved : goal.loop-active-preserved
 loop-active-preserved g c = paused_once g.K.Kind.rules g.T.Guarded.meaning (inside c.args.active)
@@ -20,5 +21,6 @@ pub returns-in-Err : goal.returns-in-Err
 returns-in-Err g c =
     let k = g.K.Kind.rules in let o = g.T.Guarded.meaning in let a = c.loop-active.active in
     let not_yet : o.holds (data_of (monitor_of k o a.floor) a.floor.history) c.args.pred ≡ false = cc in
-    left_after k o (inside c.args.active) (Some (guard c.args.cond c.args.pred)) a c.in-Err.pass c.loop-active.invariant 3 c.in-Err.ensures
+    left_after k o (inside c.args.active)
+    (Some (guard c.args.cond c.args.pred)) a c.in-Err.pass c.loop-active.invariant 3 c.in-Err.ensures
     (still_pauses k o a (guard c.args.cond c.args.pred) c.in-Err.ensures.floor not_yet)

@@ -8,4 +8,5 @@ use Rattle.monk_tell.proofs.permitted.may.Given as goal
 -- those that are permitted, of the nexts so far
 abbrev pub invariant-loop-next : goal.invariant-loop-next
 invariant-loop-next l =
-    l.may.items ≡ filter (λ x. permits l.rules (lines_of l.lines) l.stays (with_next x l.event)) (take l.next-index l.next-items)
+    l.may.items ≡ filter (λ x. permits l.rules (lines_of l.lines) l.stays (with_next x l.event))
+    (take l.next-index l.next-items)

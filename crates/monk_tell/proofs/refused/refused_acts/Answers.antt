@@ -21,14 +21,18 @@ loop-index-preserved c =
     let steps = refused_steps (take i es) in
     elim c.if-is_refused.branch [
       | then-is_refused+in_ok-note w ↦
-          let more = refused_more es i some true c.loop-index-test.true (sym c.is_refused.ensures ∙ w.if-is_refused.true) in
+          let more =
+          refused_more es i some true c.loop-index-test.true (sym c.is_refused.ensures ∙ w.if-is_refused.true) in
           let noted = w.in_ok-note.ensures.noted steps c.loop-index.invariant.0 in
-          subst (λ (r : Refused). (refused_of r ≡ told_steps (refused_steps (take (i + 1) es))) × (r.more ≤ i + 1)) (sym w.refused-is)
+          subst (λ (r : Refused). (refused_of r ≡ told_steps (refused_steps (take (i + 1) es)))
+          × (r.more ≤ i + 1)) (sym w.refused-is)
           (noted ∙ ap told_steps (sym more), omega (arith, w.note.ensures.few, c.loop-index.invariant.1))
       | else-is_refused w ↦
-          let more = refused_more es i some false c.loop-index-test.true (sym c.is_refused.ensures ∙ w.if-is_refused.false) in
+          let more =
+          refused_more es i some false c.loop-index-test.true (sym c.is_refused.ensures ∙ w.if-is_refused.false) in
           let held : refused_of c.loop-index.refused ≡ told_steps (refused_steps (take (i + 1) es)) =
           c.loop-index.invariant.0 ∙ ap told_steps (sym (more ∙ append-nil steps)) in
-          subst (λ (r : Refused). (refused_of r ≡ told_steps (refused_steps (take (i + 1) es))) × (r.more ≤ i + 1)) (sym w.refused-is)
+          subst (λ (r : Refused). (refused_of r ≡ told_steps (refused_steps (take (i + 1) es)))
+          × (r.more ≤ i + 1)) (sym w.refused-is)
           (held, omega (arith, c.loop-index.invariant.1))
     ]

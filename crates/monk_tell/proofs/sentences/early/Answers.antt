@@ -12,7 +12,8 @@ returns-in_ok-waits c =
     let t = replay_situation c.args.replay.now [] in
     let e = c.args.event in
     let seat : c.seat-seat.result ≡ seat_of e = c.seat-seat.ensures in
-    let waits = c.in_ok-waits.ensures ∙ ap (λ (n : ℕ). waits_at t.condition n c.seat-seat.result) c.conds-then-reason-eq-TURN.ensures in
+    let waits = c.in_ok-waits.ensures
+    ∙ ap (λ (n : ℕ). waits_at t.condition n c.seat-seat.result) c.conds-then-reason-eq-TURN.ensures in
     let turn = c.turn.ensures [] in
     turn_caused h.kind h.seats h.conds t c.args.reason e c.out_of_turn.result c.if-reason-eq-TURN.true
     (c.out_of_turn.ensures ∙ (λ i. out_of_turn (waits i) (turn i) c.seat-seat.result)

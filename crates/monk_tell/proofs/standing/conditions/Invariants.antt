@@ -5,4 +5,5 @@ use Rattle.monk_tell.proofs.standing.conditions.Given as goal
 
 -- the queues of the conditions so far
 abbrev pub invariant-loop-cond : goal.invariant-loop-cond
-invariant-loop-cond l = map (λ s. s.0.items) l.queues.items ≡ conditions_below (replay_situation l.replay []).condition l.cond
+invariant-loop-cond l =
+    map (λ s. s.0.items) l.queues.items ≡ conditions_below (replay_situation l.replay []).condition l.cond

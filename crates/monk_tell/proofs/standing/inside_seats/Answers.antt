@@ -16,6 +16,7 @@ loop-seat-preserved c =
           ∙ (w.in_ok-push.ensures.items ∙ (ap (λ (xs : List ℕ). xs ++ j ∷ []) c.loop-seat.invariant
           ∙ sym (inside_more inside j true (sym (c.is_inside.ensures []) ∙ w.if-is_inside.true))))
       | else-is_inside w ↦ ap (λ (v : Vec ℕ). v.items) w.inside-is
-          ∙ (c.loop-seat.invariant ∙ sym (inside_more inside j false (sym (c.is_inside.ensures []) ∙ w.if-is_inside.false)
+          ∙ (c.loop-seat.invariant
+          ∙ sym (inside_more inside j false (sym (c.is_inside.ensures []) ∙ w.if-is_inside.false)
           ∙ append-nil (inside_below inside j)))
     ]

@@ -5,7 +5,8 @@ use Rattle.monk_tell.proofs.told.tell.Goals as goal
 
 pub tell_over-requires-after_bounds : goal.tell_over-requires-after_bounds
 tell_over-requires-after_bounds c κs =
-    over_is c.args.header.now Buffer _ _ c.args.events.now c.in_ok-verdict.verdict (sym c.object.ensures ∙ c.in-Buffer.is)
+    over_is c.args.header.now Buffer _ _ c.args.events.now c.in_ok-verdict.verdict
+    (sym c.object.ensures ∙ c.in-Buffer.is)
     c.size-size.ensures.value c.in_ok-buffer-in-Buffer.ensures.made c.in_ok-verdict.ensures.verdict
 
 pub tell_over-requires-in-Book-after_bounds : goal.tell_over-requires-in-Book-after_bounds

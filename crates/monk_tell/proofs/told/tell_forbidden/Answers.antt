@@ -24,7 +24,12 @@ standing-requires-after_bounds g c κs within =
 
 pub bounds-events-before : goal.bounds-events-before
 bounds-events-before g c =
-    omega (arith, c.requires.is_step, slice_get_within c.args.events.now c.requires.before c.requires.fault c.requires.is_there)
+    omega (
+      arith,
+      c.requires.is_step,
+      slice_get_within c.args.events.now c.requires.before c.requires.fault
+          c.requires.is_there,
+    )
 
 pub blame-requires-clause-reason : goal.blame-requires-clause-reason
 blame-requires-clause-reason g c κs within =
@@ -52,4 +57,5 @@ returns g c =
     ∙ ap (λ (k : Rules). blame_of_event h.kind k h.seats h.conds o (replay_situation c.in_ok-replay.replay
     (g.T.Guarded.state c.standing.new.object)) c.args.step c.args.reason event)
     (c.rules_by_name-rules.ensures ∙ ap rules_named c.kind.ensures)
-    ∙ ap (λ (t : Situation). blame_of_event h.kind rules h.seats h.conds o t c.args.step c.args.reason event) c.in_ok-replay.ensures.stands)
+    ∙ ap (λ (t : Situation). blame_of_event h.kind rules h.seats h.conds o t c.args.step c.args.reason event)
+    c.in_ok-replay.ensures.stands)

@@ -12,5 +12,6 @@ loop-cond-preserved c =
     let found = c.has.ensures ∙ ap (λ (q : List ℕ). has s q) (c.deref.ensures.value ∙ c.in_ok-queue.ensures) in
     elim c.if-has.branch [
       | then-has w ↦ w.waits-is ∙ sym (waits_more queue cond s true (sym found ∙ w.if-has.true))
-      | else-has w ↦ w.waits-is ∙ (c.loop-cond.invariant ∙ sym (waits_more queue cond s false (sym found ∙ w.if-has.false)))
+      | else-has w ↦ w.waits-is
+          ∙ (c.loop-cond.invariant ∙ sym (waits_more queue cond s false (sym found ∙ w.if-has.false)))
     ]

@@ -1,5 +1,5 @@
-//! The releases that a mode has of its own, in two threads: one takes an item, another puts it. The members make the plain
-//! ones, which serve every mode.
+//! The releases that a mode has of its own, in two threads: one takes an item, another puts it. The
+//! members make the plain ones, which serve every mode.
 ghost use Rattle.std.specs.Prelude.{IfSome};
 ghost use Rattle.monk_tests.specs.Passes.{IsInside, IsSeat};
 

@@ -23,7 +23,8 @@ loop-event-init g c =
           ∙ sym (situation-none m);
       seats = new.seats;
       conds = new.conds;
-      preds = subst (All (λ w. w.1 < g.T.Guarded.PREDICATES)) (sym new.untils) (All-nil (λ w. w.1 < g.T.Guarded.PREDICATES));
+      preds = subst (All (λ w. w.1 < g.T.Guarded.PREDICATES)) (sym new.untils)
+          (All-nil (λ w. w.1 < g.T.Guarded.PREDICATES));
     }
 
 pub loop-event-preserved : goal.loop-event-preserved
@@ -45,5 +46,6 @@ loop-event-preserved g c =
 pub returns-clause-stands : goal.returns-clause-stands
 returns-clause-stands g c =
     c.loop-event.invariant.stands
-    ∙ ap (situation (monitor c.args.rules c.args.seats c.args.conds g.T.Guarded.meaning (g.T.Guarded.state c.args.object.now)))
+    ∙ ap (situation (monitor c.args.rules c.args.seats c.args.conds g.T.Guarded.meaning
+    (g.T.Guarded.state c.args.object.now)))
     (take_all c.loop-event.event-index c.args.events.now c.loop-event-test.false)

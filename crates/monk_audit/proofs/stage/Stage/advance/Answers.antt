@@ -48,7 +48,8 @@ pub returns-in_err-read_lines-in-Found-clause-fault : goal.returns-in_err-read_l
 returns-in_err-read_lines-in-Found-clause-fault c =
     let p = err_from_is_err_and c.from_residual-in_err-read_lines-in-Found.result
     c.from_residual-in_err-read_lines-in-Found.ensures.1 in
-    rw (p.1, p.2) (λ _. found_faulty c.args.self.now c.in-Found.header c.in-Found.count c.in-Found.field-2 c.args.bytes.now
+    rw (p.1, p.2) (λ _. found_faulty c.args.self.now c.in-Found.header c.in-Found.count c.in-Found.field-2
+    c.args.bytes.now
     c.in_err-read_lines-in-Found.field-0.0 c.in-Found.is c.in_err-read_lines-in-Found.ensures.fault)
 
 pub returns-clause-step : goal.returns-clause-step
@@ -57,7 +58,8 @@ returns-clause-step c = elim c.match-self.branch [
       rw (w.next-is, w.self-is, w.in-Opening.is) w.in_ok-open-in-Opening.ensures.step
   | in-Buffer+in_ok-judge_stage-in-Buffer w ↦
       rw (w.next-is, w.self-is)
-      (judging_step stage.Buffer buffer_meaning judges_buffer _ c.args.self.now _ w.in-Buffer.course _ w.in-Buffer.buffer _
+      (judging_step stage.Buffer buffer_meaning judges_buffer _ c.args.self.now _ w.in-Buffer.course _
+      w.in-Buffer.buffer _
       c.args.bytes.now _ w.in-Buffer.is refl w.in_ok-judge_stage-in-Buffer.ensures.sound
       w.in_ok-judge_stage-in-Buffer.ensures.step)
   | in-Book+in_ok-judge_stage-in-Book w ↦

@@ -1,4 +1,5 @@
--- `swap` meets its contract: a walk. The old seat is moved out of the place behind the pointer, and the new one written there.
+-- `swap` meets its contract: a walk. The old seat is moved out of the place behind the pointer, and
+-- the new one written there.
 use Rattle.std.proofs.Common.{List, [], ◌∷◌, ◌++◌, refl, sym, ap, ◌∙◌, subst}
 use lib.Dec.{T}
 use denote.Param.Mute.{blank}
@@ -70,17 +71,20 @@ stayed = (stay_ref (0 ∷ []) tt (plain (λ _. S)), (stay_dropped (plain (λ _. 
 pub swap_spec : {M : Type 1} → statement M
 swap_spec 𝓤 𝓛 𝓜 𝓡 wired =
     let c = f.clauses 𝓛 𝓜.mem 𝓡.returns in let W = walk_of 𝓛 f.ended stayed c in let 𝓣 = tables 𝓤 𝓛.H 𝓜 𝓡 𝓡.env in
-    proved_at 𝓛 f.ended stayed c 𝓜 𝓡 (Goes-ref 𝓛 1 0 tt (plain (λ _. S)), (Goes-blank 𝓛 1 (plain (λ _. R)) yes (λ κs x g. gone x g), tt))
+    proved_at 𝓛 f.ended stayed c 𝓜 𝓡
+    (Goes-ref 𝓛 1 0 tt (plain (λ _. S)), (Goes-blank 𝓛 1 (plain (λ _. R)) yes (λ κs x g. gone x g), tt))
     f.Key.name code.function (code.unfolded 𝓤 𝓛.H 𝓜 𝓡 wired) (λ z are.
     let κs = z.0.0 in let qs = z.0.1 in let a = z.0.3 in let m = a.0 in let b = m.ref_ptr.0 in let o = m.ref_ptr.1 in
     let h = m.now in let next = a.1.0 in
-    let two = one (lone R.mir) z.0.4.1.0 ((the_row_laws.lawful 𝓛).typed next z.0.4.1.0 are.1.0) in let u = two.0 in let tu = two.2 in
+    let two = one (lone R.mir) z.0.4.1.0 ((the_row_laws.lawful 𝓛).typed next z.0.4.1.0 are.1.0) in
+    let u = two.0 in let tu = two.2 in
     let y : W.Ghost = ((κs, qs, z.0.2, a, (mut_vals m, (u ∷ [], tt))), z.1) in
     let Goal : List Val → List Val → Type 1 = λ us vs.
     ent 𝓤 (W.pre ((κs, qs, z.0.2, a, (us, (vs, tt))), z.1))
     (WpFn 𝓤 𝓛.H 𝓣.C 𝓣.Λ code.function (us ++ (vs ++ [])) (W.post ((κs, qs, z.0.2, a, (us, (vs, tt))), z.1))) in
     subst (λ us. Goal us z.0.4.1.0) (sym are.0.0) (subst (λ vs. Goal (mut_vals m) vs) (sym two.1) (
-    qed 𝓛 (((‵ (flft κs.0 qs.0) ⊛ ‵ ftrue) ⊛ ‵ (owns (MutRef (named 0) κs.0 S ∷ R ∷ []) a (mut_vals m, (u ∷ [], tt)))) ∷ ‵ ftrue ∷ []) ∵
+    qed 𝓛 (((‵ (flft κs.0 qs.0) ⊛ ‵ ftrue) ⊛ ‵
+    (owns (MutRef (named 0) κs.0 S ∷ R ∷ []) a (mut_vals m, (u ∷ [], tt)))) ∷ ‵ ftrue ∷ []) ∵
     split ! $ split ! $ move ! (2 ∷ []) $ fsplit ! $ move ! (1 ∷ []) $ fsplit ! $ move ! (1 ∷ []) $ drop ! $
     -- [what next owns; the reference; the token; true; true]
     move ! (1 ∷ 2 ∷ 0 ∷ []) $ keep ! (0 ∷ 1 ∷ 2 ∷ []) $
@@ -99,7 +103,8 @@ swap_spec 𝓤 𝓛 𝓜 𝓡 wired =
     -- [what the old seat owns; its place; what the fields own; the handle's cell; the open borrow, in three entries;
     -- the reference's word; what next owns]
     first ! $ blocks ! $
-    sets ! (of_opd ! (load ! (through ! refl (fld ! refl (stop !))) (look_in ! 3 (sub ! 0 refl (whole !))))) refl (tt, tt) $
+    sets ! (of_opd ! (load ! (through ! refl (fld ! refl (stop !))) (look_in ! 3 (sub ! 0 refl (whole !)))))
+    refl (tt, tt) $
     sets ! (of_opd ! (get ! refl)) refl (tt, tt) $
     sets ! (of_opd ! (load ! (through ! refl (stop !)) (look ! 1 refl))) refl t $
     sets ! (of_opd ! (get ! refl)) refl tu $
@@ -111,6 +116,7 @@ swap_spec 𝓤 𝓛 𝓜 𝓡 wired =
     rewrite ! 0 (λ (p : Ptr). ‵ (lies_at R full_share p next)) (sym e) refl $ rewrite ! 3 Cell (sym word) refl $
     move ! (2 ∷ 0 ∷ []) $ fjoin ! $ move ! (2 ∷ 0 ∷ 3 ∷ 4 ∷ 5 ∷ []) $ closes ! tt S (record h { has = next }) us b o $
     returns ! (look_at ! 0 refl) $ free_all ! refl $ keep ! (0 ∷ 1 ∷ 2 ∷ 3 ∷ []) $
-    suffices ! _ (ends_at 𝓛 f.ended stayed c y v h.has (record h { has = next }, (last next, tt)) (tt, (tt, tt))) $ says ! (refl, refl) $
+    suffices ! _ (ends_at 𝓛 f.ended stayed c y v h.has (record h { has = next }, (last next, tt))
+    (tt, (tt, tt))) $ says ! (refl, refl) $
     nothing ! $ move ! (3 ∷ 0 ∷ []) $ join ! $ frame ! $ feq_i ! (List Val) (mut_vals m) (mut_vals m) refl $
     fjoin3 ! $ nothing ! $ nothing ! $ fjoin ! $ move ! (1 ∷ 0 ∷ []) $ fjoin ! $ done !)))))))))

@@ -4,5 +4,6 @@ use Rattle.monk_draw.proofs.queues.Queues.serve_all.Goals as goal
 
 pub returns-clause-rest : goal.returns-clause-rest
 returns-clause-rest c d =
-    emptied_at c.args.self.now.waiting.items c.args.cond c.clear.new.self d (omega (arith, c.ranges.cond.fits, c.requires))
+    emptied_at c.args.self.now.waiting.items c.args.cond c.clear.new.self d
+    (omega (arith, c.ranges.cond.fits, c.requires))
     c.clear.ensures.items

@@ -10,7 +10,10 @@ pub returns : goal.returns
 returns c h was =
     let left = c.args.self.now.left.items in
     after_more h c.args.event c.args.self.now _ (omega (arith, c.seat.type_inv, c.seat.ensures, c.requires.lefts))
-    (record { lefts = length-set left c.seat.result c.left_by.result ∙ c.requires.lefts; queues = c.follow.ensures.count })
+    (record {
+      lefts = length-set left c.seat.result c.left_by.result ∙ c.requires.lefts;
+      queues = c.follow.ensures.count;
+    })
     (ap (λ n. slice_set left n c.left_by.result) c.seat.ensures
     ∙ ap (λ (p : Place). slice_set left (seat_of c.args.event) p) c.left_by.ensures)
     c.in_ok-follow.ensures.moved was

@@ -10,4 +10,5 @@ returns-clause-legal g c =
     c.self.invariant.legal
 
 pub returns-clause-few : goal.returns-clause-few
-returns-clause-few g c = subst (λ (f : FloorView). length f.history ≤ f.seats * f.budget) c.self.view_is (within_budgets c.self.invariant)
+returns-clause-few g c =
+    subst (λ (f : FloorView). length f.history ≤ f.seats * f.budget) c.self.view_is (within_budgets c.self.invariant)

@@ -11,7 +11,8 @@ pub returns : goal.returns
 returns g c =
     chosen_here c.self.invariant g.K.Kind.is_kind c.args.self.now c.self.view_is c.args.event c.args.entry_known
     c.args.pick c.choose.result c.requires.call c.requires.release
-    (kept_next c.self.invariant c.args.event c.args.entry_known c.args.pick c.must_stay.result c.must_stay.ensures c.if-must_stay.false
+    (kept_next c.self.invariant c.args.event c.args.entry_known c.args.pick c.must_stay.result
+    c.must_stay.ensures c.if-must_stay.false
     _ _ _ c.choose.result c.rules_of.result c.seat.result
     c.front_waiter.ensures c.front_signaller.ensures
     c.first_ready.ensures

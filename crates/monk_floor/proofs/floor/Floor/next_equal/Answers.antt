@@ -11,5 +11,7 @@ returns g c =
     equal_here c.self.invariant g.K.Kind.is_kind c.args.self.now c.self.view_is c.args.event c.args.entry_known
     c.args.pick c.requires.call c.requires.release c.requires.mode
     c.must_stay.result c.must_stay.ensures c.if-must_stay.false
-    c.rules_of-rules.result c.front_waiter-waiter.result c.front_signaller-signaller.result c.seat.result c.equal_choice.result
-    c.rules_of-rules.ensures c.front_waiter-waiter.ensures c.front_signaller-signaller.ensures c.seat.ensures c.equal_choice.ensures
+    c.rules_of-rules.result c.front_waiter-waiter.result c.front_signaller-signaller.result c.seat.result
+    c.equal_choice.result
+    c.rules_of-rules.ensures c.front_waiter-waiter.ensures c.front_signaller-signaller.ensures c.seat.ensures
+    c.equal_choice.ensures

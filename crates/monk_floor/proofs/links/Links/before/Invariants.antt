@@ -4,4 +4,5 @@ use Rattle.monk_floor.proofs.links.Links.before.Given as goal
 
 abbrev pub invariant-loop : goal.invariant-loop
 invariant-loop l =
-    IsSought l.self-inside.next l.seat (queue_in l.self-inside.next l.self-inside.chains l.queue) l.end l.counter l.before
+    IsSought l.self-inside.next l.seat
+    (queue_in l.self-inside.next l.self-inside.chains l.queue) l.end l.counter l.before

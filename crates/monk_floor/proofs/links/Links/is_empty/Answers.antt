@@ -7,5 +7,6 @@ use Rattle.monk_floor.proofs.links.Links.is_empty.Goals as goal
 
 pub returns : goal.returns
 returns c =
-    nobody c.self.inside.next (chain_at c.self.inside.chains c.args.queue).length (chain_at c.self.inside.chains c.args.queue).first
+    nobody c.self.inside.next (chain_at c.self.inside.chains c.args.queue).length
+    (chain_at c.self.inside.chains c.args.queue).first
     ∙ sym (ap is_empty (queue_is c.self.inside.next c.self.inside.chains c.args.self.now c.self.view_is c.args.queue))

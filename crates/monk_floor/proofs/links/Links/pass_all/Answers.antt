@@ -11,7 +11,8 @@ returns-then-passed-eq0 c =
 
 pub invariant_of-self : goal.invariant_of-self
 invariant_of-self c =
-    alone_linked c.self.invariant c.args.from c.args.to c.requires.from c.requires.to c.requires.other c.if-chain-eq0.true
+    alone_linked c.self.invariant c.args.from c.args.to c.requires.from c.requires.to c.requires.other
+    c.if-chain-eq0.true
 
 pub bounds-self-inside-chain : goal.bounds-self-inside-chain
 bounds-self-inside-chain c = last_is_seat c.self.invariant c.args.to c.args.from c.requires.to c.if-chain-eq0.false

@@ -7,7 +7,8 @@ use Rattle.monk_floor.proofs.links.Links.remove.Goals as goal
 pub returns-then-eq-clause-removed : goal.returns-then-eq-clause-removed
 returns-then-eq-clause-removed c =
     removed_front c.args.queue c.args.seat c.args.self.now c.pop.new.self c.pop.result c.requires c.pop.ensures.front
-    (c.if-eq.ensures ∙ ap (λ r. option_eq nat_eq r (Some c.args.seat)) (c.front.ensures.front ∙ sym c.pop.ensures.front))
+    (c.if-eq.ensures
+    ∙ ap (λ r. option_eq nat_eq r (Some c.args.seat)) (c.front.ensures.front ∙ sym c.pop.ensures.front))
     c.pop.ensures.rest c.pop.ensures.apart
 
 pub returns-then-eq-clause-others : goal.returns-then-eq-clause-others

@@ -19,7 +19,8 @@ overflow_sub-self c =
 pub invariant_of-self : goal.invariant_of-self
 invariant_of-self c =
     unlinked_linked c.self.inside.next c.self.inside.chains c.self.invariant c.args.queue c.args.seat c.args.before
-    c.requires.queue c.args.self.now c.self.view_is c.requires.before c.self.told c.last_without.result c.last_without.ensures
+    c.requires.queue c.args.self.now c.self.view_is c.requires.before c.self.told c.last_without.result
+    c.last_without.ensures
 
 pub returns-clause-removed : goal.returns-clause-removed
 returns-clause-removed c =

@@ -7,5 +7,6 @@ use Rattle.monk_floor.proofs.queues.Queues.carry_out.Goals as goal
 pub join-requires-clause-apart : goal.join-requires-clause-apart
 join-requires-clause-apart c =
     still_apart (seat_of c.args.event) c.args.self.now c.drop_chosen.new.self (λ w. not (chooses c.args.event w))
-    c.drop_chosen.ensures.conditions c.drop_chosen.ensures.waiters c.drop_chosen.ensures.signallers c.drop_chosen.ensures.untils
+    c.drop_chosen.ensures.conditions c.drop_chosen.ensures.waiters c.drop_chosen.ensures.signallers
+    c.drop_chosen.ensures.untils
     c.requires.apart

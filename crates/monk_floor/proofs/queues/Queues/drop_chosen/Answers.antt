@@ -11,7 +11,8 @@ returns-in-Some-clause-conditions c d =
 
 pub returns-in-Some-clause-untils : goal.returns-in-Some-clause-untils
 returns-in-Some-clause-untils c =
-    wait_left c.args.event c.in-Some.seat c.self.inside.predicates c.self.inside.links c.remove.new.self c.in-Some.ensures
+    wait_left c.args.event c.in-Some.seat c.self.inside.predicates c.self.inside.links c.remove.new.self
+    c.in-Some.ensures
     c.remove.ensures.removed
     ∙ ap (λ q. filter (λ w. not (chooses c.args.event w)) q.untils) c.self.view_is
 

@@ -10,7 +10,8 @@ returns-else-takes_front-clause-conditions c d =
       | then-takes_waiter w ↦ ap (λ q. queue_at (drop 3 q.links) d) w.self-inside-is
           ∙ (others_popped 0 c.self.inside.links w.pop.new.self (omega arith) w.pop.ensures.rest d
           ∙ ap (λ q. queue_at q.conditions d) c.self.view_is)
-      | else-takes_waiter w ↦ ap (λ q. queue_at (drop 3 q.links) d) w.self-inside-is ∙ ap (λ q. queue_at q.conditions d) c.self.view_is
+      | else-takes_waiter w ↦ ap (λ q. queue_at (drop 3 q.links) d) w.self-inside-is
+          ∙ ap (λ q. queue_at q.conditions d) c.self.view_is
     ]
 
 pub returns-then-takes_front-clause-conditions : goal.returns-then-takes_front-clause-conditions
@@ -21,5 +22,6 @@ returns-then-takes_front-clause-conditions c d =
       | then-takes_waiter w ↦ ap (λ q. queue_at (drop 3 q.links) d) w.self-inside-is
           ∙ (others_popped 0 c.self.inside.links w.pop.new.self (omega arith) w.pop.ensures.rest d
           ∙ ap (λ q. queue_at q.conditions d) c.self.view_is)
-      | else-takes_waiter w ↦ ap (λ q. queue_at (drop 3 q.links) d) w.self-inside-is ∙ ap (λ q. queue_at q.conditions d) c.self.view_is
+      | else-takes_waiter w ↦ ap (λ q. queue_at (drop 3 q.links) d) w.self-inside-is
+          ∙ ap (λ q. queue_at q.conditions d) c.self.view_is
     ]

@@ -12,7 +12,8 @@ after-requires-clause-there c =
 pub returns-in_err-next : goal.returns-in_err-next
 returns-in_err-next c i pred h =
     c.from_residual.ensures
-    ∙ (none_after c.self.inside.predicates (queue_at c.self.inside.links 2) c.args.seat c.after.result c.after.ensures.next
+    ∙ (none_after c.self.inside.predicates
+    (queue_at c.self.inside.links 2) c.args.seat c.after.result c.after.ensures.next
     c.in_err-next.was i pred (ap (λ q. slice_get q.untils i) c.self.view_is ∙ h)
     ∙ ap (λ q. slice_get q.untils (i + 1)) c.self.view_is)
 

@@ -10,7 +10,8 @@ use Rattle.monk_hall.proofs.active.Active.act.Goals as goal
 
 pub invariant_of-self : goal.invariant_of-self
 invariant_of-self g c =
-    let room = subst (λ (a : Holder). length a.me.mine + 2 ≤ a.me.setting.budget) (sym c.self.view_is) c.requires.left in
+    let room =
+    subst (λ (a : Holder). length a.me.mine + 2 ≤ a.me.setting.budget) (sym c.self.view_is) c.requires.left in
     let grown = subst (λ (f : FloorView). IsGrown g.K.Kind.rules g.T.Guarded.meaning f
     (Act c.self.inside.number c.args.op c.act.result) c.act.new.self) c.deref_mut.ensures.shows c.act.ensures.grown in
     grown_holds c.self.invariant (Act c.self.inside.number c.args.op c.act.result) refl refl refl grown.allowed

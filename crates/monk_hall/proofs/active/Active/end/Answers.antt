@@ -10,7 +10,8 @@ pub returns : goal.returns
 returns g c =
     let inv = c.self.invariant in
     let shows = c.into_inner-floor.ensures in
-    let legal = subst (λ (f : FloorView). IsLegal (monitor_of g.K.Kind.rules g.T.Guarded.meaning f) f.history) (sym shows)
+    let legal =
+    subst (λ (f : FloorView). IsLegal (monitor_of g.K.Kind.rules g.T.Guarded.meaning f) f.history) (sym shows)
     inv.goes.legal in
     ended g.K.Kind.rules g.T.Guarded.meaning c.args.self c.into_inner-floor.result c.self.inside.number c.leave.result
     c.leave.new.self c.close-object.result.1.items (g.T.Guarded.state c.close-object.result.0)

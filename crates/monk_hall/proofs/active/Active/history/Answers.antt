@@ -7,7 +7,8 @@ use Rattle.monk_hall.proofs.active.Active.history.Goals as goal
 
 pub returns-clause-legal : goal.returns-clause-legal
 returns-clause-legal g c =
-    subst (λ (a : Holder). IsLegal (monitor_of g.K.Kind.rules g.T.Guarded.meaning a.floor) a.floor.history) c.self.view_is
+    subst (λ (a : Holder). IsLegal (monitor_of g.K.Kind.rules g.T.Guarded.meaning a.floor) a.floor.history)
+    c.self.view_is
     (subst (λ (f : FloorView). IsLegal (monitor_of g.K.Kind.rules g.T.Guarded.meaning f) f.history) c.deref.ensures
     c.history.ensures.legal)
 

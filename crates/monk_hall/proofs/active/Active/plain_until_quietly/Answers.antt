@@ -9,7 +9,8 @@ use Rattle.monk_hall.proofs.active.Active.plain_until_quietly.Goals as goal
 pub returns : goal.returns
 returns g c =
     let look = c.look_for_entry-known in
-    after_peeked g.K.Kind.rules g.T.Guarded.meaning (λ n. Until n c.args.pred Stay) c.args.pick home.Inner _ c.args.self look.new.self
+    after_peeked g.K.Kind.rules g.T.Guarded.meaning
+    (λ n. Until n c.args.pred Stay) c.args.pick home.Inner _ c.args.self look.new.self
     (subst (λ n. HasPeeked n c.args.self look.new.self) (ap (λ b. peeks_of (not b) c.args.pick) c.holds-chooses.ensures)
     look.ensures.peeked)
     c.go_on.result.0 _ c.go_on.result.1

@@ -9,7 +9,8 @@ leave-release-requires-clause-call g c κs within =
     let x = shown_apart c.deref_mut.ensures.shows c.of-release.ensures in
     let h = x.holds in
     let f = c.deref_mut.result.now in
-    may_leave (monitor_of g.K.Kind.rules g.T.Guarded.meaning f) f.history c.of-release.result.number (owns h) (is_near h)
+    may_leave (monitor_of g.K.Kind.rules g.T.Guarded.meaning f) f.history c.of-release.result.number (owns h)
+    (is_near h)
 
 pub returns-clause-recorded : goal.returns-clause-recorded
 returns-clause-recorded g c =
@@ -28,4 +29,5 @@ pub returns-clause-away : goal.returns-clause-away
 returns-clause-away g c =
     let f = c.deref_mut.result.now in
     let call = c.leave-release in
-    leave_goes (monitor_of g.K.Kind.rules g.T.Guarded.meaning f) f.history c.of-release.result.number call.result call.ensures.grown.allowed
+    leave_goes (monitor_of g.K.Kind.rules g.T.Guarded.meaning f) f.history c.of-release.result.number
+    call.result call.ensures.grown.allowed

@@ -11,7 +11,8 @@ signal_leave-release-requires-clause-call g c κs within =
     let x = shown_apart c.deref_mut.ensures.shows c.of-release.ensures in
     let h = x.holds in
     let f = c.deref_mut.result.now in
-    may_signal_leave (monitor_of g.K.Kind.rules g.T.Guarded.meaning f) f.history c.of-release.result.number c.args.cond (owns h) (is_near h)
+    may_signal_leave (monitor_of g.K.Kind.rules g.T.Guarded.meaning f) f.history c.of-release.result.number
+    c.args.cond (owns h) (is_near h)
     (has_cond h c.args.cond c.args.self x.was c.requires.cond)
     (ap returns_at_once (sym (ap (λ r. r.mode) g.K.Kind.are_rules)
     ∙ (g.met.K.ImmediateReturn g.world.𝓛 g.world.𝓜 g.world.𝓡 ((λ s x. x), (λ x. x), (λ x. x), λ x. x)).mode))

@@ -40,5 +40,6 @@ pub returns-clause-away : goal.returns-clause-away
 returns-clause-away g c =
     let f = c.deref_mut.result.now in
     let call = c.signal_wait-release in
-    signal_wait_goes (monitor_of g.K.Kind.rules g.T.Guarded.meaning f) f.history c.of-release.result.number c.args.cond c.args.wait_cond
+    signal_wait_goes (monitor_of g.K.Kind.rules g.T.Guarded.meaning f) f.history c.of-release.result.number
+    c.args.cond c.args.wait_cond
     call.result call.ensures.grown.allowed

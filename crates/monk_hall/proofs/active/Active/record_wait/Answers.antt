@@ -12,7 +12,8 @@ wait-release-requires-clause-call g c κs within =
     let x = shown_apart c.deref_mut.ensures.shows c.of-release.ensures in
     let h = x.holds in
     let f = c.deref_mut.result.now in
-    may_wait (monitor_of g.K.Kind.rules g.T.Guarded.meaning f) f.history c.of-release.result.number c.args.cond (owns h) (is_near h)
+    may_wait (monitor_of g.K.Kind.rules g.T.Guarded.meaning f) f.history c.of-release.result.number c.args.cond
+    (owns h) (is_near h)
     (has_cond h c.args.cond c.args.self x.was c.requires.cond)
     (ap has_conditions (sym (ap (λ r. r.mode) g.K.Kind.are_rules))
     ∙ conditional g.K.Kind.MODE

@@ -10,9 +10,11 @@ use Rattle.monk_hall.proofs.active.Active.signal_all.Goals as goal
 
 pub invariant_of-self : goal.invariant_of-self
 invariant_of-self g c =
-    let room = subst (λ (a : Holder). length a.me.mine + 2 ≤ a.me.setting.budget) (sym c.self.view_is) c.requires.left in
+    let room =
+    subst (λ (a : Holder). length a.me.mine + 2 ≤ a.me.setting.budget) (sym c.self.view_is) c.requires.left in
     let grown = subst (λ (f : FloorView). IsGrown g.K.Kind.rules g.T.Guarded.meaning f
-    (SignalAll c.self.inside.number c.args.cond) c.signal_all.new.self) c.deref_mut.ensures.shows c.signal_all.ensures.grown in
+    (SignalAll c.self.inside.number c.args.cond) c.signal_all.new.self) c.deref_mut.ensures.shows
+    c.signal_all.ensures.grown in
     grown_holds c.self.invariant (SignalAll c.self.inside.number c.args.cond) refl refl refl grown.allowed
     room c.signal_all.new.self grown.grown
 

@@ -15,7 +15,8 @@ use Rattle.monk_hall.proofs.active.Active.signal_stay.Goals as goal
 
 pub invariant_of-self : goal.invariant_of-self
 invariant_of-self g c =
-    let f = c.deref_mut.result.now in let m = monitor_of g.K.Kind.rules g.T.Guarded.meaning f in let n = c.self.inside.number in
+    let f = c.deref_mut.result.now in let m = monitor_of g.K.Kind.rules g.T.Guarded.meaning f in
+    let n = c.self.inside.number in
     let legal = subst (λ (x : FloorView). IsLegal (monitor_of g.K.Kind.rules g.T.Guarded.meaning x) x.history)
     (sym c.deref_mut.ensures.shows) c.self.invariant.goes.legal in
     let stays : c.signal.result ≡ Stay = c.signal.ensures.choice
@@ -28,8 +29,10 @@ invariant_of-self g c =
     c.signal.new.self) c.deref_mut.ensures.shows
     (subst (λ (x : Next). IsGrown g.K.Kind.rules g.T.Guarded.meaning f (Signal n c.args.cond x)
     c.signal.new.self) stays c.signal.ensures.grown) in
-    let room = subst (λ (a : Holder). length a.me.mine + 2 ≤ a.me.setting.budget) (sym c.self.view_is) c.requires.left in
-    grown_holds c.self.invariant (Signal n c.args.cond Stay) refl refl refl grown.allowed room c.signal.new.self grown.grown
+    let room =
+    subst (λ (a : Holder). length a.me.mine + 2 ≤ a.me.setting.budget) (sym c.self.view_is) c.requires.left in
+    grown_holds c.self.invariant (Signal n c.args.cond Stay) refl refl refl grown.allowed room
+    c.signal.new.self grown.grown
 
 pub returns : goal.returns
 returns g c =
@@ -50,8 +53,10 @@ returns g c =
     subst (λ (a : Holder). HasDone g.K.Kind.rules g.T.Guarded.meaning a (Signal a.me.seat c.args.cond Stay)
     (holder c.self.inside.seat.table_id r c.signal.new.self)) c.self.view_is
     (subst (λ (i : ℕ). IsGrown g.K.Kind.rules g.T.Guarded.meaning c.self.inside.floor (Signal i c.args.cond Stay)
-    c.signal.new.self → HasDone g.K.Kind.rules g.T.Guarded.meaning (holder c.self.inside.seat.table_id r c.self.inside.floor)
+    c.signal.new.self
+    → HasDone g.K.Kind.rules g.T.Guarded.meaning (holder c.self.inside.seat.table_id r c.self.inside.floor)
     (Signal r.seat c.args.cond Stay) (holder c.self.inside.seat.table_id r c.signal.new.self))
     c.self.invariant.seated.is_seat
-    (λ x. grown_does c.self.inside.seat.table_id r c.self.inside.floor c.signal.new.self (Signal r.seat c.args.cond Stay) refl
+    (λ x. grown_does c.self.inside.seat.table_id r c.self.inside.floor c.signal.new.self
+    (Signal r.seat c.args.cond Stay) refl
     c.self.invariant.goes.legal x.allowed x.grown) grown)

@@ -23,7 +23,8 @@ invariant_of-parked g c =
     let now = c.go_home-granted.new.seat in
     let gone = subst (λ (to : Home). HasGone (the c.args.self.seat.me.0) c.args.self.floor.history to (the now.me.0))
     (home_is x) c.go_home-granted.ensures.gone in
-    let left = c.left-left.ensures ∙ ap (λ (f : FloorView). left_of f.budget f.history c.args.self.number) c.deref.ensures in
+    let left = c.left-left.ensures
+    ∙ ap (λ (f : FloorView). left_of f.budget f.history c.args.self.number) c.deref.ensures in
     let rests = gone_rests x rec.holds.seated left now.table_id now.me c.go_home-granted.ensures.table gone
     c.go_home-granted.ensures.view in
     (rests.0, rests.2, sym rests.1, tt)
@@ -34,7 +35,8 @@ returns g c a call wish known rec =
     let now = c.go_home-granted.new.seat in
     let gone = subst (λ (to : Home). HasGone (the c.args.self.seat.me.0) c.args.self.floor.history to (the now.me.0))
     (home_is x) c.go_home-granted.ensures.gone in
-    let left = c.left-left.ensures ∙ ap (λ (f : FloorView). left_of f.budget f.history c.args.self.number) c.deref.ensures in
+    let left = c.left-left.ensures
+    ∙ ap (λ (f : FloorView). left_of f.budget f.history c.args.self.number) c.deref.ensures in
     let told = (gone_rests x rec.holds.seated left now.table_id now.me c.go_home-granted.ensures.table gone
     c.go_home-granted.ensures.view).0.told in
     released_of call rec.holds rec.release c.requires.away _ c.go_home-granted.ensures.table gone told _ _

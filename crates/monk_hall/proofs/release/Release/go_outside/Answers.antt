@@ -27,10 +27,12 @@ invariant_of-pass g c =
     let now = c.go_home-granted.new.seat in let view = c.into_badge.ensures in
     let gone = subst (λ (to : Home). HasGone (the c.args.self.seat.me.0) c.args.self.floor.history to (the now.me.0))
     (home_is x) c.go_home-granted.ensures.gone in
-    let left = c.left-left.ensures ∙ ap (λ (f : FloorView). left_of f.budget f.history c.args.self.number) c.deref.ensures in
+    let left = c.left-left.ensures
+    ∙ ap (λ (f : FloorView). left_of f.budget f.history c.args.self.number) c.deref.ensures in
     let rests = gone_rests x rec.holds.seated left c.into_badge.result.table_id now.me
     (view.0 ∙ c.go_home-granted.ensures.table) gone c.go_home-granted.ensures.view in
-    let views : c.into_badge.result.views ≡ (the now.me.0 ∷ []) ∷ [] = view.2 ∙ ap (λ m. m.0 ∷ []) c.go_home-granted.ensures.view in
+    let views : c.into_badge.result.views ≡ (the now.me.0 ∷ []) ∷ [] = view.2
+    ∙ ap (λ m. m.0 ∷ []) c.go_home-granted.ensures.view in
     let has = subst (λ m. IsResting g.K.Kind.rules g.T.Guarded.meaning c.into_badge.result.table_id m c.args.self.number
     c.left-left.result c.args.self.calls c.args.self.budget) c.go_home-granted.ensures.view rests.0 in
     subst (λ (vs : List View). (vs ≡ top vs ∷ [])
@@ -43,14 +45,21 @@ returns g c a call wish known rec =
     let x = has_released rec.holds rec.release c.requires.away in
     let r = the c.args.self.seat.me.0 in
     let now = c.go_home-granted.new.seat in let view = c.into_badge.ensures in
-    let gone = subst (λ (to : Home). HasGone r c.args.self.floor.history to (the now.me.0)) (home_is x) c.go_home-granted.ensures.gone in
-    let left = c.left-left.ensures ∙ ap (λ (f : FloorView). left_of f.budget f.history c.args.self.number) c.deref.ensures in
+    let gone =
+    subst (λ (to : Home). HasGone r c.args.self.floor.history to (the now.me.0))
+    (home_is x) c.go_home-granted.ensures.gone in
+    let left = c.left-left.ensures
+    ∙ ap (λ (f : FloorView). left_of f.budget f.history c.args.self.number) c.deref.ensures in
     let rests = gone_rests x rec.holds.seated left c.into_badge.result.table_id now.me
     (view.0 ∙ c.go_home-granted.ensures.table) gone c.go_home-granted.ensures.view in
-    let told = subst (λ (vs : List View). SeesTruly g.K.Kind.rules g.T.Guarded.meaning (the (top vs))) (sym view.2) rests.0.told in
-    let at_home = subst (λ (vs : List View). HasGone r c.args.self.floor.history home.Idle (the (top vs))) (sym view.2) gone in
+    let told =
+    subst (λ (vs : List View). SeesTruly g.K.Kind.rules g.T.Guarded.meaning (the (top vs)))
+    (sym view.2) rests.0.told in
+    let at_home =
+    subst (λ (vs : List View). HasGone r c.args.self.floor.history home.Idle (the (top vs))) (sym view.2) gone in
     let granted = subst
     (λ (vs : List View). IsGrantFor c.args.hall.now c.args.self.choice (the (top vs)).seen r.steps (the (top vs)).steps
     c.go_home-granted.result)
     (sym view.2) c.go_home-granted.ensures.granted in
-    released_of call rec.holds rec.release c.requires.away _ (view.0 ∙ c.go_home-granted.ensures.table) at_home told _ _ granted a rec.was
+    released_of call rec.holds rec.release c.requires.away _
+    (view.0 ∙ c.go_home-granted.ensures.table) at_home told _ _ granted a rec.was

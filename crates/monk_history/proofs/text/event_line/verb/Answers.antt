@@ -68,7 +68,8 @@ returns-then-takes-8 c =
 
 pub returns-then-takes-9 : goal.returns-then-takes-9
 returns-then-takes-9 c =
-    verb-next c.args.version verb.SignalAll c.args.words.now c.takes-else-version-lt2.new.self (omega (arith, c.if-version-lt2.false))
+    verb-next c.args.version verb.SignalAll c.args.words.now c.takes-else-version-lt2.new.self
+    (omega (arith, c.if-version-lt2.false))
     (c.takes.ensures.left c.if-takes.false ∙ c.takes-else-takes.ensures.left c.if-takes-2.false
     ∙ c.takes-else-takes-2.ensures.left c.if-takes-3.false
     ∙ c.takes-else-takes-3.ensures.left c.if-takes-4.false
@@ -80,7 +81,8 @@ returns-then-takes-9 c =
 
 pub returns-then-takes-10 : goal.returns-then-takes-10
 returns-then-takes-10 c =
-    verb-next c.args.version verb.SignalWait c.args.words.now c.takes-else-takes-9.new.self (omega (arith, c.if-version-lt2.false))
+    verb-next c.args.version verb.SignalWait c.args.words.now c.takes-else-takes-9.new.self
+    (omega (arith, c.if-version-lt2.false))
     (c.takes.ensures.left c.if-takes.false ∙ c.takes-else-takes.ensures.left c.if-takes-2.false
     ∙ c.takes-else-takes-2.ensures.left c.if-takes-3.false
     ∙ c.takes-else-takes-3.ensures.left c.if-takes-4.false
@@ -107,7 +109,8 @@ returns-then-version-lt2 c =
       leave = ap (is_next (codes "leave")) same3 ∙ sym c.takes-else-takes-2.ensures.is ∙ c.if-takes-3.false;
       wait = ap (is_next (codes "wait")) same4 ∙ sym c.takes-else-takes-3.ensures.is ∙ c.if-takes-4.false;
       signal = ap (is_next (codes "signal")) same5 ∙ sym c.takes-else-takes-4.ensures.is ∙ c.if-takes-5.false;
-      signal_leave = ap (is_next (codes "signal-leave")) same6 ∙ sym c.takes-else-takes-5.ensures.is ∙ c.if-takes-6.false;
+      signal_leave = ap (is_next (codes "signal-leave")) same6 ∙ sym c.takes-else-takes-5.ensures.is
+          ∙ c.if-takes-6.false;
       until = ap (is_next (codes "until")) same7 ∙ sym c.takes-else-takes-6.ensures.is ∙ c.if-takes-7.false;
       resume = ap (is_next (codes "resume")) same8 ∙ sym c.takes-else-takes-7.ensures.is ∙ c.if-takes-8.false;
     } (λ has. absurd (omega (arith, has, c.if-version-lt2.true)))
@@ -130,7 +133,8 @@ returns-else-takes-10 c =
       leave = ap (is_next (codes "leave")) same3 ∙ sym c.takes-else-takes-2.ensures.is ∙ c.if-takes-3.false;
       wait = ap (is_next (codes "wait")) same4 ∙ sym c.takes-else-takes-3.ensures.is ∙ c.if-takes-4.false;
       signal = ap (is_next (codes "signal")) same5 ∙ sym c.takes-else-takes-4.ensures.is ∙ c.if-takes-5.false;
-      signal_leave = ap (is_next (codes "signal-leave")) same6 ∙ sym c.takes-else-takes-5.ensures.is ∙ c.if-takes-6.false;
+      signal_leave = ap (is_next (codes "signal-leave")) same6 ∙ sym c.takes-else-takes-5.ensures.is
+          ∙ c.if-takes-6.false;
       until = ap (is_next (codes "until")) same7 ∙ sym c.takes-else-takes-6.ensures.is ∙ c.if-takes-7.false;
       resume = ap (is_next (codes "resume")) same8 ∙ sym c.takes-else-takes-7.ensures.is ∙ c.if-takes-8.false;
     } (λ has. (

@@ -11,7 +11,8 @@ loop-event-preserved g c =
     let k = g.W.Write.contents in
     let here = c.loop-event.invariant in
     let room : (has_failed c.if-room-lt-LONGEST_LINE.out ≡ false)
-    × IsOnItsWay (k (inner_of c.args.out.now)) (k (inner_of c.if-room-lt-LONGEST_LINE.out)) c.if-room-lt-LONGEST_LINE.page
+    × IsOnItsWay (k (inner_of c.args.out.now))
+    (k (inner_of c.if-room-lt-LONGEST_LINE.out)) c.if-room-lt-LONGEST_LINE.page
     (text c.args.header.now (take c.loop-event.event-index c.args.events.now)) =
     elim c.if-room-lt-LONGEST_LINE.branch [
       | then-room-lt-LONGEST_LINE+in_ok-send w ↦

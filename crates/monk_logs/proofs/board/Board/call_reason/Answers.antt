@@ -13,5 +13,6 @@ returns g c =
     c.call_reason.ensures
     ∙ ap (λ (n : ℕ). reason_before 0 (monitor c.args.setting.rules n c.args.setting.conds o [])
     (replay_situation c.args.self.now.rest state) c.args.event) c.requires.sound.rest.has_seats
-    ∙ called_same c.args.setting.seats c.args.setting.conds g.T.Guarded.PREDICATES (monitor_in c.args.setting o) c.args.self.now
+    ∙ called_same c.args.setting.seats c.args.setting.conds g.T.Guarded.PREDICATES
+    (monitor_in c.args.setting o) c.args.self.now
     state c.args.event c.requires.sound c.requires.first

@@ -15,4 +15,5 @@ pub returns-clause-sound : goal.returns-clause-sound
 returns-clause-sound c = λ seats conds predicates is.
     let is_owned = c.own.ensures.owned [] in
     sound_rest seats conds predicates c.args.self.now _ is (c.own.ensures.sound seats conds predicates is.rest)
-    (λ x. ap (λ t. t.condition x) is_owned) (ap (λ t. t.waiters) is_owned) (ap (λ t. t.signallers) is_owned) (ap (λ t. t.begun) is_owned)
+    (λ x. ap (λ t. t.condition x) is_owned) (ap (λ t. t.waiters) is_owned) (ap (λ t. t.signallers) is_owned)
+    (ap (λ t. t.begun) is_owned)

@@ -8,8 +8,10 @@ use Rattle.monk_logs.proofs.board.Board.opening.Goals as goal
 pub returns-clause-stands : goal.returns-clause-stands
 returns-clause-stands g c = λ state.
     shows c.new.result.items [] c.new-2.result.items [] (replay_situation c.in_ok-opening.field-0 state)
-    (opening_situation (monitor c.args.setting.rules c.args.setting.seats c.args.setting.conds g.T.Guarded.meaning state))
-    c.new.ensures.items c.new-2.ensures.items (c.in_ok-opening.ensures.stands c.args.setting.rules g.T.Guarded.meaning state)
+    (opening_situation (monitor c.args.setting.rules c.args.setting.seats c.args.setting.conds
+    g.T.Guarded.meaning state))
+    c.new.ensures.items c.new-2.ensures.items
+    (c.in_ok-opening.ensures.stands c.args.setting.rules g.T.Guarded.meaning state)
 
 pub returns-clause-sound : goal.returns-clause-sound
 returns-clause-sound g c =

@@ -15,7 +15,8 @@ returns-clause-moved c =
     (λ passed state. shows c.join.new.items.items
     (chosen_out (next_of c.args.event) c.args.self.now.items.items ++ waiting_item c.args.event)
     c.take_chosen-2.new.signallers.items
-    (apart (taken_signaller (next_of c.args.event) (joined_by c.args.stays c.args.event)) c.args.self.now.signallers.items)
+    (apart (taken_signaller (next_of c.args.event) (joined_by c.args.stays c.args.event))
+    c.args.self.now.signallers.items)
     (replay_situation c.pass_on.new.self state) (passed_on (replay_situation c.args.self.now.rest state) c.args.event)
     (c.in_ok-join.ensures
     ∙ ap (λ l. l ++ waiting_item c.args.event)
@@ -29,5 +30,6 @@ returns-clause-sound c =
     (λ both seats conds codes predicates is fits.
     let passed = both.0 [] in
     sound_rest seats conds predicates c.args.self.now _ is (both.1 seats conds codes predicates is.rest fits)
-    (λ x. ap (λ t. t.condition x) passed) (ap (λ t. t.waiters) passed) (ap (λ t. t.signallers) passed) (ap (λ t. t.begun) passed))
+    (λ x. ap (λ t. t.condition x) passed) (ap (λ t. t.waiters) passed) (ap (λ t. t.signallers) passed)
+    (ap (λ t. t.begun) passed))
     (on_ok_both _ _ c.pass_on.result c.pass_on.ensures.passed c.pass_on.ensures.sound)

@@ -15,14 +15,17 @@ loop-place-preserved g c = λ plain.
     elim c.if-is_set.branch [
       | then-is_set+in_ok-write w ↦ rw (w.f-is) (has_written_of_eq g.W.Write.write_str_gives _ _ _ _
           (sym (bits_more bits place true (sym c.is_set.ensures ∙ w.if-is_set.true)))
-          (has_written_append g.W.Write.write_str_gives _ _ _ _ _ so_far (w.in_ok-write.ensures.writes so_far.plain refl)))
+          (has_written_append g.W.Write.write_str_gives _ _ _ _ _ so_far
+          (w.in_ok-write.ensures.writes so_far.plain refl)))
       | else-is_set w ↦ rw (w.f-is) (has_written_of_eq g.W.Write.write_str_gives _ _ _ _
-          (sym (bits_more bits place false (sym c.is_set.ensures ∙ w.if-is_set.false) ∙ append-nil (bits_below bits place)))
+          (sym (bits_more bits place false (sym c.is_set.ensures ∙ w.if-is_set.false)
+          ∙ append-nil (bits_below bits place)))
           so_far)
     ]
 
 pub returns-clause-writes : goal.returns-clause-writes
 returns-clause-writes g c = λ plain ok.
-    let at : c.loop-place.place-counter ≡ 32 = omega (arith, c.loop-place.auto.place-counter-end, c.loop-place-test.false) in
+    let at : c.loop-place.place-counter ≡ 32 =
+    omega (arith, c.loop-place.auto.place-counter-end, c.loop-place-test.false) in
     subst (λ (n : ℕ). HasWritten g.W.Write.write_str_gives c.args.f.now (bits_below c.args.self.now.0 n) c.loop-place.f)
     at (c.loop-place.invariant plain)

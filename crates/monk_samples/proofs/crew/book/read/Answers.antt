@@ -10,18 +10,28 @@ use Rattle.monk_samples.proofs.crew.book.read.Goals as goal
 pub returns-in-Done : goal.returns-in-Done
 returns-in-Done g c =
     let k = g.K.Kind.rules in
-    let first = subst (λ (end : End). HasVisited k book_meaning c.args.pass (begins_to_read ∷ []) c.read_begin-pass.result.0 end)
+    let first =
+    subst (λ (end : End). HasVisited k book_meaning c.args.pass
+    (begins_to_read ∷ []) c.read_begin-pass.result.0 end)
     c.in-Done.is c.read_begin-pass.ensures in
-    let second = subst (λ z. HasVisited k book_meaning c.read_begin-pass.result.0 (ends_to_read k z ∷ []) c.read_end.result.0
+    let second =
+    subst (λ z. HasVisited k book_meaning c.read_begin-pass.result.0 (ends_to_read k z ∷ []) c.read_end.result.0
     c.read_end.result.1)
     first.called.went.setting c.read_end.ensures in
-    let both = visited_twice k book_meaning c.args.pass c.read_begin-pass.result.0 c.read_end.result.0 c.read_end.result.1
+    let both =
+    visited_twice k book_meaning c.args.pass c.read_begin-pass.result.0 c.read_end.result.0 c.read_end.result.1
     begins_to_read (ends_to_read k c.args.pass.me.setting) first second in
-    record { back = still_of c.args.hall.now c.args.pass c.read_end.result.0 _ both.called c.requires.0; visited = both }
+    record {
+      back = still_of c.args.hall.now c.args.pass c.read_end.result.0 _ both.called c.requires.0;
+      visited = both;
+    }
 
 pub returns-in_default : goal.returns-in_default
 returns-in_default g c =
     let k = g.K.Kind.rules in
     let once = visited_once k book_meaning c.args.pass c.read_begin-pass.result.0 c.read_begin-pass.result.1
     begins_to_read (ends_to_read k c.args.pass.me.setting) c.in_default.not-Done c.read_begin-pass.ensures in
-    record { back = still_of c.args.hall.now c.args.pass c.read_begin-pass.result.0 _ once.called c.requires.0; visited = once }
+    record {
+      back = still_of c.args.hall.now c.args.pass c.read_begin-pass.result.0 _ once.called c.requires.0;
+      visited = once;
+    }

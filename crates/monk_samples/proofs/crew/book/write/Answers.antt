@@ -10,16 +10,26 @@ use Rattle.monk_samples.proofs.crew.book.write.Goals as goal
 pub returns-in-Done : goal.returns-in-Done
 returns-in-Done g c =
     let k = g.K.Kind.rules in
-    let first = subst (λ (end : End). HasVisited k book_meaning c.args.pass (begins_to_write ∷ []) c.write_begin-pass.result.0 end)
+    let first =
+    subst (λ (end : End). HasVisited k book_meaning c.args.pass
+    (begins_to_write ∷ []) c.write_begin-pass.result.0 end)
     c.in-Done.is c.write_begin-pass.ensures in
     let second = c.write_end.ensures in
-    let both = visited_twice k book_meaning c.args.pass c.write_begin-pass.result.0 c.write_end.result.0 c.write_end.result.1
+    let both =
+    visited_twice k book_meaning c.args.pass c.write_begin-pass.result.0 c.write_end.result.0 c.write_end.result.1
     begins_to_write (ends_to_write k) first second in
-    record { back = still_of c.args.hall.now c.args.pass c.write_end.result.0 _ both.called c.requires.0; visited = both }
+    record {
+      back = still_of c.args.hall.now c.args.pass c.write_end.result.0 _ both.called c.requires.0;
+      visited = both;
+    }
 
 pub returns-in_default : goal.returns-in_default
 returns-in_default g c =
     let k = g.K.Kind.rules in
     let once = visited_once k book_meaning c.args.pass c.write_begin-pass.result.0 c.write_begin-pass.result.1
     begins_to_write (ends_to_write k) c.in_default.not-Done c.write_begin-pass.ensures in
-    record { back = still_of c.args.hall.now c.args.pass c.write_begin-pass.result.0 _ once.called c.requires.0; visited = once }
+    record {
+      back =
+          still_of c.args.hall.now c.args.pass c.write_begin-pass.result.0 _ once.called c.requires.0;
+      visited = once;
+    }

@@ -4,4 +4,5 @@ use Rattle.monk_samples.proofs.Crossing.{worker_send, buffer_send}
 use Rattle.monk_samples.proofs.crew.buffer.start.Goals as goal
 
 pub spawn_with-started-requires-send-F : goal.spawn_with-started-requires-send-F
-spawn_with-started-requires-send-F g c = λ κs h. search (sendable, crosses, worker_send, buffer_send) depth 40 fits 100000
+spawn_with-started-requires-send-F g c =
+    λ κs h. search (sendable, crosses, worker_send, buffer_send) depth 40 fits 100000

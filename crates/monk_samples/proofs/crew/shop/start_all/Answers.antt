@@ -12,9 +12,11 @@ loop-worker-init g c =
     let e : into_iter_items c.into_iter-worker-iterator.result ≡ vec_items c.args.workers =
     c.into_iter-worker-iterator.ensures.into_iter_gives.0 in (
       none_yet (vec_items c.in_ok-crew.crew)
-          (λ s. (s.promise.hall.value ≡ c.args.hall.now) × (s.promise.gate.value ≡ c.args.gate.now) × (s.promise.rota.value ≡ c.args.rota))
+          (λ s. (s.promise.hall.value ≡ c.args.hall.now) × (s.promise.gate.value ≡ c.args.gate.now)
+          × (s.promise.rota.value ≡ c.args.rota))
           c.in_ok-crew.ensures.items,
-      ap (λ ss. map (λ s. s.promise.pass.value) ss ++ map (λ w. w.pass) (into_iter_items c.into_iter-worker-iterator.result))
+      ap (λ ss. map (λ s. s.promise.pass.value) ss
+          ++ map (λ w. w.pass) (into_iter_items c.into_iter-worker-iterator.result))
           c.in_ok-crew.ensures.items ∙ ap (λ ws. map (λ w. w.pass) ws) e,
       same_all (into_iter_items c.into_iter-worker-iterator.result) (vec_items c.args.workers)
           (λ w. ((w.hall.now ≡ c.args.hall.now) × IsReady g.K.Kind.rules c.args.hall.now w.pass)
@@ -26,14 +28,18 @@ loop-worker-preserved g c =
     let inv = c.loop-worker.invariant in
     let steps = c.in-Some.ensures.steps.0 in
     let begun = c.in_ok-start.ensures in
-    let here = first_of (into_iter_items c.next.new.self) (into_iter_items c.loop-worker.worker-iterator) c.in-Some.worker
+    let here =
+    first_of (into_iter_items c.next.new.self) (into_iter_items c.loop-worker.worker-iterator) c.in-Some.worker
     (λ w. ((w.hall.now ≡ c.args.hall.now) × IsReady g.K.Kind.rules c.args.hall.now w.pass)
     × (w.gate.now ≡ c.args.gate.now) × (w.rota ≡ c.args.rota)) steps inv.2 in (
       one_more (vec_items c.loop-worker.crew) (vec_items c.push.new.self) _
-          (λ s. (s.promise.hall.value ≡ c.args.hall.now) × (s.promise.gate.value ≡ c.args.gate.now) × (s.promise.rota.value ≡ c.args.rota))
+          (λ s. (s.promise.hall.value ≡ c.args.hall.now) × (s.promise.gate.value ≡ c.args.gate.now)
+          × (s.promise.rota.value ≡ c.args.rota))
           c.in_ok-push.ensures.items inv.0 (begun.hall ∙ here.0.0, begun.gate ∙ here.1, begun.rota ∙ here.2),
-      mapped_more (vec_items c.loop-worker.crew) (vec_items c.push.new.self) _ (λ s. s.promise.pass.value) c.in_ok-push.ensures.items
-          (map (λ w. w.pass) (into_iter_items c.next.new.self)) (map (λ w. w.pass) (into_iter_items c.loop-worker.worker-iterator))
+      mapped_more (vec_items c.loop-worker.crew) (vec_items c.push.new.self) _
+          (λ s. s.promise.pass.value) c.in_ok-push.ensures.items
+          (map (λ w. w.pass) (into_iter_items c.next.new.self))
+          (map (λ w. w.pass) (into_iter_items c.loop-worker.worker-iterator))
           (ap (λ ws. map (λ w. w.pass) ws) steps
           ∙ ap (λ p. p ∷ map (λ w. w.pass) (into_iter_items c.next.new.self)) (sym begun.pass)) ∙ inv.1,
       rest_of (into_iter_items c.next.new.self) (into_iter_items c.loop-worker.worker-iterator) c.in-Some.worker
@@ -52,7 +58,8 @@ pub returns-in_err-crew-clause-fault : goal.returns-in_err-crew-clause-fault
 returns-in_err-crew-clause-fault g c = if_err c.from_residual.result _ _ c.from_residual.ensures is_memory
 
 pub returns-in_err-push-clause-fault : goal.returns-in_err-push-clause-fault
-returns-in_err-push-clause-fault g c = if_err c.from_residual-in_err-push.result _ _ c.from_residual-in_err-push.ensures is_memory
+returns-in_err-push-clause-fault g c =
+    if_err c.from_residual-in_err-push.result _ _ c.from_residual-in_err-push.ensures is_memory
 
 pub returns-in_err-start-clause-fault : goal.returns-in_err-start-clause-fault
 returns-in_err-start-clause-fault g c =

@@ -8,7 +8,8 @@ pub returns-then-left-lt3 : goal.returns-then-left-lt3
 returns-then-left-lt3 g c =
     let has = c.left.ensures.left in let few = c.if-left-lt3.true in
     let short : c.args.active.me.setting.budget < length c.args.active.me.mine + 3 = omega arith in
-    given_up g.K.Kind.rules g.T.Guarded.meaning c.args.active _ _ c.leave.result 3 c.leave.ensures short (omega arith) (omega arith)
+    given_up g.K.Kind.rules g.T.Guarded.meaning c.args.active _ _ c.leave.result 3 c.leave.ensures short
+    (omega arith) (omega arith)
 
 pub returns : goal.returns
 returns g c =
@@ -16,5 +17,6 @@ returns g c =
     let k = g.K.Kind.rules in let o = g.T.Guarded.meaning in let a = c.args.active in
     let room : length a.me.mine + 3 ≤ a.me.setting.budget = omega arith in
     paused k o c.args.wish a (Until a.me.seat c.args.pred Stay) c.go_on.result room c.left.ensures.floor
-    (went_on k o c.args.wish c.plain_until.result a (Until a.me.seat c.args.pred Stay) _ _ c.go_on.result (λ x. (refl, refl, refl))
+    (went_on k o c.args.wish c.plain_until.result a (Until a.me.seat c.args.pred Stay) _ _ c.go_on.result
+    (λ x. (refl, refl, refl))
     c.plain_until.ensures c.go_on.ensures)

@@ -9,7 +9,8 @@ pub returns-then-left-lt2 : goal.returns-then-left-lt2
 returns-then-left-lt2 g c =
     let has = c.left.ensures.left in let few = c.if-left-lt2.true in
     let short : c.args.active.me.setting.budget < length c.args.active.me.mine + 2 = omega arith in
-    given_up g.K.Kind.rules g.T.Guarded.meaning c.args.active _ _ c.leave.result 2 c.leave.ensures short (omega arith) (omega arith)
+    given_up g.K.Kind.rules g.T.Guarded.meaning c.args.active _ _ c.leave.result 2 c.leave.ensures short
+    (omega arith) (omega arith)
 
 pub returns : goal.returns
 returns g c =

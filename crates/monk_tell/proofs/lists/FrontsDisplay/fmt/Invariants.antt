@@ -7,4 +7,5 @@ use Rattle.monk_tell.proofs.lists.FrontsDisplay.fmt.Given as goal
 abbrev pub invariant-loop-front : goal.invariant-loop-front
 invariant-loop-front g l =
     IsPlainFormatter l.fn.f
-    → HasWritten g.W.Write.write_str_gives l.fn.f (fronts_text (get_or l.self.0.items 0 (Waiter, 0) ∷ take l.front-index l.rest)) l.f
+    → HasWritten g.W.Write.write_str_gives l.fn.f
+    (fronts_text (get_or l.self.0.items 0 (Waiter, 0) ∷ take l.front-index l.rest)) l.f

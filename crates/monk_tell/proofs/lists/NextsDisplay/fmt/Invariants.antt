@@ -7,4 +7,5 @@ use Rattle.monk_tell.proofs.lists.NextsDisplay.fmt.Given as goal
 abbrev pub invariant-loop-next : goal.invariant-loop-next
 invariant-loop-next g l =
     IsPlainFormatter l.fn.f
-    → HasWritten g.W.Write.write_str_gives l.fn.f (nexts_text (get_or l.self.0.items 0 Stay ∷ take l.next-index l.rest)) l.f
+    → HasWritten g.W.Write.write_str_gives l.fn.f
+    (nexts_text (get_or l.self.0.items 0 Stay ∷ take l.next-index l.rest)) l.f

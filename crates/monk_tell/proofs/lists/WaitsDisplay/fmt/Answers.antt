@@ -11,6 +11,7 @@ loop-wait-preserved g c = λ plain.
     let rest = c.in-Some.rest.now in
     let i = c.loop-wait.wait-index in
     has_written_of_eq g.W.Write.write_str_gives _ _ _ _
-    (ap (λ (l : List ℕ). commas wait_text (λ w. codes "," ++ wait_text w) (first ∷ take i rest) ++ l) (wait_written (get_or rest i (0, 0)))
+    (ap (λ (l : List ℕ). commas wait_text (λ w. codes "," ++ wait_text w) (first ∷ take i rest) ++ l)
+    (wait_written (get_or rest i (0, 0)))
     ∙ listed_more wait_text (λ w. codes "," ++ wait_text w) first rest i (0, 0) c.loop-wait-test.true)
     (has_written_append g.W.Write.write_str_gives _ _ _ _ _ so_far (c.in_ok-write-2.ensures.writes so_far.plain refl))

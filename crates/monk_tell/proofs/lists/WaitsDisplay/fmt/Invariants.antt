@@ -6,4 +6,5 @@ use Rattle.monk_tell.proofs.lists.WaitsDisplay.fmt.Given as goal
 abbrev pub invariant-loop-wait : goal.invariant-loop-wait
 invariant-loop-wait g l =
     IsPlainFormatter l.fn.f
-    → HasWritten g.W.Write.write_str_gives l.fn.f (waits_text (get_or l.self.0.items 0 (0, 0) ∷ take l.wait-index l.rest)) l.f
+    → HasWritten g.W.Write.write_str_gives l.fn.f
+    (waits_text (get_or l.self.0.items 0 (0, 0) ∷ take l.wait-index l.rest)) l.f

@@ -16,6 +16,8 @@ returns-in-Legal g c y =
     let many : c.in-Legal.count ≡ length events = eqb-true _ _ y in
     let is =
     header_made g.K.Kind.NAME size.seats size.conds 1 c.in-Some.header
-    (ap (λ n. first_heading_of n size.seats size.conds Buffer 1) (sym c.NAME.ensures) ∙ sym c.new.ensures ∙ c.in-Some.is) in
-    allowed_on g.K.Kind.rules g.K.Kind.NAME size.seats size.conds 1 c.in-Some.header c.args.floor.now c.args.event events is
+    (ap (λ n. first_heading_of n size.seats size.conds Buffer 1) (sym c.NAME.ensures) ∙ sym c.new.ensures
+    ∙ c.in-Some.is) in
+    allowed_on g.K.Kind.rules g.K.Kind.NAME size.seats size.conds 1 c.in-Some.header c.args.floor.now
+    c.args.event events is
     g.K.Kind.are_named c.requires grown (c.in_ok-count.ensures.legal.0 (c.in-Legal.is ∙ ap Legal many))

@@ -9,7 +9,8 @@ returns-clause-shows c =
     let w = c.args.self.now in
     record {
       state = λ f. ap (λ (known : ℕ → Bool). record (state_in w f) { known = known })
-          (known_stored w c.args.seat c.requires _ (slice_index_or w.known.items c.args.seat false || nat_le 2 w.unpassed)
+          (known_stored w c.args.seat c.requires _
+          (slice_index_or w.known.items c.args.seat false || nat_le 2 w.unpassed)
           (c.known_after.ensures
           ∙ ap (λ (b : Bool). b || nat_le 2 w.unpassed)
           (known_read w c.args.seat c.requires c.index-knew.result.now c.index-knew.ensures)));

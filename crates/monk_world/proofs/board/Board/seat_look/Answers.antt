@@ -22,8 +22,10 @@ returns-clause-shows c =
     record {
       state = λ f.
           ap (λ (place : ℕ → Place). record (state_in w f) {
-            world = record (world_on w)
-                { place = place; count = λ j. slice_index_or (set w.counts.items i c.count_after_seat_look.result) j 0 };
+            world = record (world_on w) {
+              place = place;
+              count = λ j. slice_index_or (set w.counts.items i c.count_after_seat_look.result) j 0;
+            };
           })
           (place_stored w i near _ (place_after_seat_look found)
           (c.place_after_seat_look.ensures ∙ ap (λ (b : Bool). place_after_seat_look b) same))
@@ -34,6 +36,7 @@ returns-clause-shows c =
                   counts;
             };
           })
-          (count_stored w i near c.count_after_seat_look.result (count_after_seat_look ((world_on w).count i) found) counts);
+          (count_stored w i near c.count_after_seat_look.result
+          (count_after_seat_look ((world_on w).count i) found) counts);
       seats = refl;
     }

@@ -13,7 +13,8 @@ returns-in_err-head-clause-only c =
 
 pub returns-clause-found : goal.returns-clause-found
 returns-clause-found c =
-    let found = play_read MOST_COMMANDS c.args.bytes.now c.in_ok-head.head c.in_ok-head.commands.items c.in_ok-head.ensures in
+    let found =
+    play_read MOST_COMMANDS c.args.bytes.now c.in_ok-head.head c.in_ok-head.commands.items c.in_ok-head.ensures in
     (found.has_text, found.few, found.whole)
 
 pub returns-clause-only : goal.returns-clause-only

@@ -60,7 +60,8 @@ returns-in-Back-Waiter-default g c =
     ∙ ap (λ (x : Next). place.Back x c.in-Back-Waiter-default.home) c.in-Back-Waiter-default.field-0-is))
     c.seat_grant.ensures.answer c.seat_grant.ensures.shows)
 
-pub seat_grant-requires-in-Back-Signaller-default-clause-called : goal.seat_grant-requires-in-Back-Signaller-default-clause-called
+pub seat_grant-requires-in-Back-Signaller-default-clause-called :
+    goal.seat_grant-requires-in-Back-Signaller-default-clause-called
 seat_grant-requires-in-Back-Signaller-default-clause-called g c =
     world.called_here g.K.Kind.rules g.T.Guarded.meaning c.self.inside.words c.self.inside.floor c.args.self.now
     c.self.view_is c.args.seat (next.Signaller c.in-Back-Signaller-default.called) c.in-Back-Signaller-default.home
@@ -92,7 +93,8 @@ returns-in-Back-Signaller-default g c =
     ∙ ap (λ (x : Next). place.Back x c.in-Back-Signaller-default.home) c.in-Back-Signaller-default.field-0-is))
     c.seat_grant-in-Back-Signaller-default.ensures.answer c.seat_grant-in-Back-Signaller-default.ensures.shows)
 
-pub seat_grant-requires-in-Back-Until-default-clause-called : goal.seat_grant-requires-in-Back-Until-default-clause-called
+pub seat_grant-requires-in-Back-Until-default-clause-called :
+    goal.seat_grant-requires-in-Back-Until-default-clause-called
 seat_grant-requires-in-Back-Until-default-clause-called g c =
     world.called_here g.K.Kind.rules g.T.Guarded.meaning c.self.inside.words c.self.inside.floor c.args.self.now
     c.self.view_is c.args.seat (next.Until c.in-Back-Until-default.called) c.in-Back-Until-default.home

@@ -10,7 +10,8 @@ pub invariant_of-self : goal.invariant_of-self
 invariant_of-self g c =
     (world.release_done g.K.Kind.rules g.T.Guarded.meaning c.self.inside.words c.self.inside.floor c.args.self.now
     c.self.view_is c.args.seat (command.Leave c.args.pick) (Leave c.args.seat next.Stay) c.args.pick home.Idle
-    c.requires refl (λ q d. d) c.knows-known.ensures c.plain_leave-next.ensures.choice c.plain_leave-next.ensures.grown.grown
+    c.requires refl (λ q d. d) c.knows-known.ensures c.plain_leave-next.ensures.choice
+    c.plain_leave-next.ensures.grown.grown
     c.floor_in.ensures.answer c.floor_in.ensures.shows).1
     c.self.inside.conds g.K.Kind.is_kind c.self.invariant c.floor_in.ensures.shows.seats
 
@@ -18,5 +19,6 @@ pub returns : goal.returns
 returns g c =
     (world.release_done g.K.Kind.rules g.T.Guarded.meaning c.self.inside.words c.self.inside.floor c.args.self.now
     c.self.view_is c.args.seat (command.Leave c.args.pick) (Leave c.args.seat next.Stay) c.args.pick home.Idle
-    c.requires refl (λ q d. d) c.knows-known.ensures c.plain_leave-next.ensures.choice c.plain_leave-next.ensures.grown.grown
+    c.requires refl (λ q d. d) c.knows-known.ensures c.plain_leave-next.ensures.choice
+    c.plain_leave-next.ensures.grown.grown
     c.floor_in.ensures.answer c.floor_in.ensures.shows).0

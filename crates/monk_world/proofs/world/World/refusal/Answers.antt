@@ -16,13 +16,15 @@ use Rattle.monk_world.specs.declared.place.Place.{Place}
 
 reach : (o : Object) (f : FloorView) (seat : ℕ) (c : Command) (conds codes predicates : ℕ) → nat_lt seat f.seats ≡ true
     → conds ≡ f.conds → o.codes ≡ codes → o.predicates ≡ predicates
-    → telling.is_command_in_range conds codes predicates c ≡ true → (nat_lt seat f.seats && is_call_in_range o f (call_of seat c)) ≡ true
+    → telling.is_command_in_range conds codes predicates c ≡ true
+    → (nat_lt seat f.seats && is_call_in_range o f (call_of seat c)) ≡ true
 reach o f seat c conds codes predicates here same_conds same_codes same_predicates fits =
     world.reaches o f seat c here (ap (λ (n : ℕ). telling.is_command_in_range n o.codes o.predicates c) (sym same_conds)
     ∙ (ap (λ (n : ℕ). telling.is_command_in_range conds n o.predicates c) same_codes
     ∙ (ap (λ (n : ℕ). telling.is_command_in_range conds codes n c) same_predicates ∙ fits)))
 
-offers : (k : Rules) (i : ℕ) (c : Command) → telling.is_command_offered k.mode c ≡ true → is_call_offered k (call_of i c) ≡ true
+offers : (k : Rules) (i : ℕ) (c : Command) → telling.is_command_offered k.mode c ≡ true
+    → is_call_offered k (call_of i c) ≡ true
 offers k i command.Arrive e = refl
 offers k i command.Look e = refl
 offers k i command.Out e = refl
@@ -40,7 +42,8 @@ offers k i (command.SignalWait cond wait_cond pick) e = e
 
 pub returns-then-not-may_be_told : goal.returns-then-not-may_be_told
 returns-then-not-may_be_told g c =
-    let told : c.may_be_told.result ≡ may_be_told (slice_index_or c.self.inside.words.places.items c.args.seat place.Idle) c.args.command =
+    let told : c.may_be_told.result
+    ≡ may_be_told (slice_index_or c.self.inside.words.places.items c.args.seat place.Idle) c.args.command =
     c.may_be_told.ensures ∙ ap (λ (p : Place). may_be_told p c.args.command) c.place.ensures in
     let s = state_of_view c.args.self.now in
     let here : nat_lt c.args.seat s.floor.seats ≡ true = grind arith in
@@ -56,7 +59,8 @@ returns-then-not-may_be_told g c =
 
 pub returns : goal.returns
 returns g c =
-    let told : c.may_be_told.result ≡ may_be_told (slice_index_or c.self.inside.words.places.items c.args.seat place.Idle) c.args.command =
+    let told : c.may_be_told.result
+    ≡ may_be_told (slice_index_or c.self.inside.words.places.items c.args.seat place.Idle) c.args.command =
     c.may_be_told.ensures ∙ ap (λ (p : Place). may_be_told p c.args.command) c.place.ensures in
     let s = state_of_view c.args.self.now in
     let here : nat_lt c.args.seat s.floor.seats ≡ true = grind arith in

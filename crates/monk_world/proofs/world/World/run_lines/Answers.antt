@@ -34,6 +34,7 @@ returns-clause-well_led g c =
     let first = state_of_view c.args.self.now in
     let last = state_of_view c.loop-told.self in
     let sound = subst (λ (v : WorldView). Sound k o (state_of_view v)) c.self.view_is c.self.invariant.sound in
-    let led = so_far_all k o first last c.loop-told.play.2 c.args.play.2 c.in_default.ensures.command c.loop-told.invariant in
+    let led =
+    so_far_all k o first last c.loop-told.play.2 c.args.play.2 c.in_default.ensures.command c.loop-told.invariant in
     let after = run_is_sound k o first led.told last g.K.Kind.is_kind sound led.is_run in
     well_led k o last after.right after.owner after.is_sound

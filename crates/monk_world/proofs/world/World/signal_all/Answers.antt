@@ -6,7 +6,8 @@ use Rattle.monk_world.proofs.world.World.signal_all.Goals as goal
 pub invariant_of-self : goal.invariant_of-self
 invariant_of-self g c =
     world.kept g.K.Kind.rules g.T.Guarded.meaning c.self.inside.words c.self.inside.floor c.args.self.now c.self.view_is
-    c.args.seat (command.SignalAll c.args.cond) _ c.self.inside.words c.plain_signal_all.new.self c.self.inside.conds g.K.Kind.is_kind
+    c.args.seat (command.SignalAll c.args.cond) _ c.self.inside.words c.plain_signal_all.new.self
+    c.self.inside.conds g.K.Kind.is_kind
     c.self.invariant c.requires refl
     (world.signal_all_goes g.K.Kind.rules g.T.Guarded.meaning c.self.inside.words c.self.inside.floor c.args.self.now
     c.self.view_is c.args.seat c.args.cond c.plain_signal_all.result _ c.plain_signal_all.new.self c.requires

@@ -11,7 +11,8 @@ invariant_of-self g c =
     (world.release_done g.K.Kind.rules g.T.Guarded.meaning c.self.inside.words c.self.inside.floor c.args.self.now
     c.self.view_is c.args.seat (command.SignalWait c.args.cond c.args.wait_cond c.args.pick)
     (SignalWait c.args.seat c.args.cond c.args.wait_cond next.Stay) c.args.pick home.Inner
-    c.requires refl (λ q d. d) c.knows-known.ensures c.plain_signal_wait-next.ensures.choice c.plain_signal_wait-next.ensures.grown.grown
+    c.requires refl (λ q d. d) c.knows-known.ensures c.plain_signal_wait-next.ensures.choice
+    c.plain_signal_wait-next.ensures.grown.grown
     c.floor_in.ensures.answer c.floor_in.ensures.shows).1
     c.self.inside.conds g.K.Kind.is_kind c.self.invariant c.floor_in.ensures.shows.seats
 
@@ -20,5 +21,6 @@ returns g c =
     (world.release_done g.K.Kind.rules g.T.Guarded.meaning c.self.inside.words c.self.inside.floor c.args.self.now
     c.self.view_is c.args.seat (command.SignalWait c.args.cond c.args.wait_cond c.args.pick)
     (SignalWait c.args.seat c.args.cond c.args.wait_cond next.Stay) c.args.pick home.Inner
-    c.requires refl (λ q d. d) c.knows-known.ensures c.plain_signal_wait-next.ensures.choice c.plain_signal_wait-next.ensures.grown.grown
+    c.requires refl (λ q d. d) c.knows-known.ensures c.plain_signal_wait-next.ensures.choice
+    c.plain_signal_wait-next.ensures.grown.grown
     c.floor_in.ensures.answer c.floor_in.ensures.shows).0

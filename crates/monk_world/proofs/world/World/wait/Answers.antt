@@ -9,14 +9,18 @@ use Rattle.monk_world.proofs.world.World.wait.Goals as goal
 pub invariant_of-self : goal.invariant_of-self
 invariant_of-self g c =
     (world.release_done g.K.Kind.rules g.T.Guarded.meaning c.self.inside.words c.self.inside.floor c.args.self.now
-    c.self.view_is c.args.seat (command.Wait c.args.cond c.args.pick) (Wait c.args.seat c.args.cond next.Stay) c.args.pick home.Inner
-    c.requires refl (λ q d. d) c.knows-known.ensures c.plain_wait-next.ensures.choice c.plain_wait-next.ensures.grown.grown
+    c.self.view_is c.args.seat (command.Wait c.args.cond c.args.pick)
+    (Wait c.args.seat c.args.cond next.Stay) c.args.pick home.Inner
+    c.requires refl (λ q d. d) c.knows-known.ensures c.plain_wait-next.ensures.choice
+    c.plain_wait-next.ensures.grown.grown
     c.floor_in.ensures.answer c.floor_in.ensures.shows).1
     c.self.inside.conds g.K.Kind.is_kind c.self.invariant c.floor_in.ensures.shows.seats
 
 pub returns : goal.returns
 returns g c =
     (world.release_done g.K.Kind.rules g.T.Guarded.meaning c.self.inside.words c.self.inside.floor c.args.self.now
-    c.self.view_is c.args.seat (command.Wait c.args.cond c.args.pick) (Wait c.args.seat c.args.cond next.Stay) c.args.pick home.Inner
-    c.requires refl (λ q d. d) c.knows-known.ensures c.plain_wait-next.ensures.choice c.plain_wait-next.ensures.grown.grown
+    c.self.view_is c.args.seat (command.Wait c.args.cond c.args.pick)
+    (Wait c.args.seat c.args.cond next.Stay) c.args.pick home.Inner
+    c.requires refl (λ q d. d) c.knows-known.ensures c.plain_wait-next.ensures.choice
+    c.plain_wait-next.ensures.grown.grown
     c.floor_in.ensures.answer c.floor_in.ensures.shows).0

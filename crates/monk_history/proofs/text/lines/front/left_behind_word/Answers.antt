@@ -4,7 +4,8 @@ use Rattle.monk_history.proofs.TextLaws.NextWords.{is_next-other}
 use Rattle.monk_history.proofs.text.lines.front.left_behind_word.Goals as goal
 
 pub returns-in_err-behind : goal.returns-in_err-behind
-returns-in_err-behind c = rw c.from_residual.ensures (is_next-other c.args.word.now c.args.line.now c.in_err-behind.ensures)
+returns-in_err-behind c =
+    rw c.from_residual.ensures (is_next-other c.args.word.now c.args.line.now c.in_err-behind.ensures)
 
 pub returns-in_err-left : goal.returns-in_err-left
 returns-in_err-left c =

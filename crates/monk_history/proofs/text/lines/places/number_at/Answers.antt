@@ -12,7 +12,8 @@ loop-count-init c =
     }
 
 pub overflow_mul-number : goal.overflow_mul-number
-overflow_mul-number c = omega (arith, digits_few c.loop-count.number c.loop-count.count c.loop-count.invariant.within (omega arith))
+overflow_mul-number c =
+    omega (arith, digits_few c.loop-count.number c.loop-count.count c.loop-count.invariant.within (omega arith))
 
 pub overflow_add-number : goal.overflow_add-number
 overflow_add-number c =
@@ -28,8 +29,10 @@ loop-count-preserved c =
     let digit = c.if-not-is_ascii_digit-2.ensures.cases in
     let few = digits_few c.loop-count.number c.loop-count.count c.loop-count.invariant.within (omega arith) in
     record {
-      so_far = number_goes_on c.args.bytes.now c.args.place (c.args.place + c.loop-count.count) _ c.loop-count.number _ _
-          c.loop-count.invariant.so_far (omega arith) refl digit c.if-number-eq0.false (omega (arith, few)) (omega arith)
+      so_far =
+          number_goes_on c.args.bytes.now c.args.place (c.args.place + c.loop-count.count) _ c.loop-count.number _ _
+          c.loop-count.invariant.so_far (omega arith) refl digit c.if-number-eq0.false (omega (arith, few))
+          (omega arith)
           (omega (arith, c.from.ensures));
       within = digits_grow c.loop-count.number c.from.result c.loop-count.count c.loop-count.invariant.within
           (omega (arith, c.from.ensures, digit));

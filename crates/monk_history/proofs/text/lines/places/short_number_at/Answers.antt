@@ -13,6 +13,7 @@ returns-clause-stands c =
     let digit = c.if-not-is_ascii_digit.ensures.cases in
     number_stands c.args.bytes.now c.args.place (c.args.place + 2) _ _ c.args.end
     (number_goes_on c.args.bytes.now c.args.place (c.args.place + 1) (c.args.place + 2) _ _ _
-    (number_begins c.args.bytes.now c.args.place (c.args.place + 1) _ _ (omega arith) refl digit refl refl) (omega arith)
+    (number_begins c.args.bytes.now c.args.place (c.args.place + 1) _ _ (omega arith) refl digit refl refl)
+    (omega arith)
     refl c.if-not-is_ascii_digit-2.ensures.cases (omega (arith, digit, c.if-first-eq48.false)) (omega (arith, digit))
     (omega arith) refl) (omega arith) c.if-bytes-place.false (omega arith)

@@ -28,7 +28,8 @@ enters : (b : Bool) (t s : ℕ) (turn : Turn)
 enters true t s turn = (via.Free, refl)
 enters false t s turn = (via.Handed, refl)
 
-one_visit : (k : Rules) (o : Object) (p q : Token) (a b : Holder) (op : Op) (reply : ℕ) (history : List Event) (state : List ℕ)
+one_visit : (k : Rules) (o : Object) (p q : Token) (a b : Holder) (op : Op) (reply : ℕ) (history : List Event)
+    (state : List ℕ)
     → HasArrived k o p q → HasEntered k o q a → HasDone k o a (Act a.me.seat op reply) b → IsEnded k o b history state
     → IsOneVisit p op history
 one_visit k o p q a b op reply history state came entered done ended =
@@ -45,7 +46,8 @@ one_visit k o p q a b op reply history state came entered done ended =
       via = by.0;
       reply = reply;
       own = sym (ap (events_of history) ends) ∙ ended.own ∙ (λ i. all i ++ Leave (ends i) Entry ∷ [])
-          ∙ append_assoc (p.me.mine ++ Enter p.me.seat by.0 ∷ []) (Act p.me.seat op reply ∷ []) (Leave p.me.seat Entry ∷ [])
+          ∙ append_assoc (p.me.mine ++ Enter p.me.seat by.0 ∷ []) (Act p.me.seat op reply ∷ [])
+          (Leave p.me.seat Entry ∷ [])
           ∙ append_assoc p.me.mine (Enter p.me.seat by.0 ∷ []) (Act p.me.seat op reply ∷ Leave p.me.seat Entry ∷ []);
     }
 

@@ -12,7 +12,8 @@ returns-in_err-header g c =
 
 pub returns-in_err-check_items : goal.returns-in_err-check_items
 returns-in_err-check_items g c =
-    let p = err_from_is_err_and c.from_residual-in_err-check_items.result c.from_residual-in_err-check_items.ensures.1 in
+    let p = err_from_is_err_and c.from_residual-in_err-check_items.result
+    c.from_residual-in_err-check_items.ensures.1 in
     rw (p.1, p.2) (sym (no_items g.H.Head.parse g.A.Record.parse c.args.limit (lines_of c.args.bytes.now)
     c.in_ok-header.header c.in_ok-header.lines c.in_err-check_items.field-0.0 c.in_ok-header.ensures
     (rw (← c.again.ensures) c.in_err-check_items.ensures.err)))

@@ -8,10 +8,12 @@ pub returns-in_default-clause-item : goal.returns-in_default-clause-item
 returns-in_default-clause-item g c = elim c.if-is_empty.branch [
   | then-is_empty w ↦ rw w.result-is
       (is_done (g.A.Record.parse c.args.header.now) c.args.self.now c.self.inside.rest.now c.self.inside.number
-      c.self.inside.room (sym c.self.view_is) (lines_none _ c.in_default.ensures) (sym c.is_empty.ensures ∙ w.if-is_empty.true))
+      c.self.inside.room (sym c.self.view_is) (lines_none _ c.in_default.ensures)
+      (sym c.is_empty.ensures ∙ w.if-is_empty.true))
   | else-is_empty w ↦ rw (w.result-is, w.at.ensures)
       (is_unfinished (g.A.Record.parse c.args.header.now) c.args.self.now c.self.inside.rest.now c.self.inside.number
-      c.self.inside.room (sym c.self.view_is) (lines_none _ c.in_default.ensures) (sym c.is_empty.ensures ∙ w.if-is_empty.false))
+      c.self.inside.room (sym c.self.view_is) (lines_none _ c.in_default.ensures)
+      (sym c.is_empty.ensures ∙ w.if-is_empty.false))
 ]
 
 pub returns-then-self-eq0-clause-item : goal.returns-then-self-eq0-clause-item
