@@ -11,7 +11,7 @@ use Rattle.monk_logs.specs.Log.{LogHeading}
 use Rattle.monk_logs.specs.Log.Reading.{Log, log, log_at}
 use Rattle.monk_logs.specs.Stand.{verdict_on}
 use Rattle.monk_logs.specs.Verdict.{FitsExactly, IsMisfit, MisfitsExactly, log_monitor}
-use Rattle.monk_logs.specs.declared.line.LogLine.{LogLine}
+use Rattle.monk_logs.specs.declared.text.line.LogLine.{LogLine}
 use Rattle.monk_logs.specs.declared.verdict.LogVerdict.{LogVerdict}
 use Rattle.monk_logs.specs.declared.verdict.LogVerdict.TheVariants.{Fits, Misfit}
 use Rattle.monk_logs.proofs.PublicLaws.{kind_fits, kind_misfits, log_again, log_read}

@@ -64,7 +64,8 @@ legal_read input (Err f) is e = absurd (omega (arith, e))
 forbidden_read : (input : List ℕ) (r : Result History ReadFault) → text_at (2 ^ 25) input ≡ r
     → (reading_answer r).status ≡ 1 → IsForbiddenText input
 forbidden_read input (Ok x) is e =
-    let j = judged_by x (ltb (most x.0.object) x.0.size) (verdict_of (named_monitor x.0) x.1) 1 refl e (omega arith) in (
+    let j =
+    judged_by x (ltb (most x.0.object) x.0.size) (verdict_of (named_monitor x.0) x.1) 1 refl e (omega arith) in (
       x.0,
       (
         x.1,

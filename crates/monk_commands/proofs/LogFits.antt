@@ -18,9 +18,9 @@ use Rattle.monk_logs.specs.Log.{LogHeading, log_text}
 use Rattle.monk_logs.specs.Log.Reading.{Log, log, log_at}
 use Rattle.monk_logs.specs.Verdict.{log_monitor}
 use Rattle.monk_logs.specs.declared.lapses.Lapses.{Lapses}
-use Rattle.monk_logs.specs.declared.line.LogLine.{LogLine}
+use Rattle.monk_logs.specs.declared.text.line.LogLine.{LogLine}
 use Rattle.monk_logs.specs.declared.order.Order.{Order}
-use Rattle.monk_logs.specs.declared.waits_for.WaitsFor.{WaitsFor}
+use Rattle.monk_logs.specs.declared.counts.waits_for.WaitsFor.{WaitsFor}
 use Rattle.monk_logs.proofs.PublicLaws.{kind_fit_open, kind_open_fit, log_again, log_read}
 use Rattle.monk_commands.specs.Answer.{too_big}
 use Rattle.monk_commands.specs.Completed.{IsLogOf}

@@ -1,5 +1,5 @@
 -- A play is played exactly where the bytes are its text, and what is written then.
-use Rattle.std.proofs.Common.{◌≡◌, ℕ, ◌≤◌, ◌^◌, ◌⊎◌, inl, inr, List, length, Option, Some, None, Result, Ok, Err}
+use Rattle.std.proofs.Common.{◌≡◌, ℕ, ◌≤◌, ◌^◌, inl, inr, List, length, Option, Some, None, Result, Ok, Err}
 use Rattle.std.proofs.Common.{refl, sym, ap, subst, ◌∙◌, arith}
 use Rattle.std.specs.Prelude.{IfSome, ◌↔◌}
 use Rattle.monk_kinds.specs.declared.mode.Rules.{Rules}
@@ -54,11 +54,6 @@ module _ (report : Report) (input : List ℕ) (status : ℕ) (Puts : List ℕ �
   exactly : IsAnswerTo report input status Puts → (status ≡ 0) ↔ IsPlayText input
   exactly a = (is_text (play_at (2 ^ 25) input) refl a, λ t. (answer_of t.0 t.1.0 t.1.1.0 t.1.1.1 a).0)
 
-  status_is : (r : Result Play ReadFault) → IsAnswer report r status Puts → (status ≡ 0) ⊎ (status ≡ 2)
-  status_is (Ok p) (inl a) = inl a.1
-  status_is (Ok p) (inr a) = inr a.1
-  status_is (Err f) a = inr a.0
-
 -- of all that a reader had
 module _ (report : Report) (known : Option (List ℕ)) (bytes : List ℕ) (status : ℕ) (Puts : List ℕ → Type 0) where
   on_known : (F : List ℕ → Type 0) → IfSome known (λ input. bytes ≡ input) → F bytes → IfSome known F
@@ -67,10 +62,6 @@ module _ (report : Report) (known : Option (List ℕ)) (bytes : List ℕ) (statu
       by : (o : Option (List ℕ)) → IfSome o (λ input. bytes ≡ input) → IfSome o F
       by None e = tt
       by (Some input) e = subst F e x
-
-  pub answer_known : IfSome known (λ input. bytes ≡ input) → IsAnswerTo report bytes status Puts
-      → IfSome known (λ input. IsAnswerTo report input status Puts)
-  answer_known same a = on_known (λ input. IsAnswerTo report input status Puts) same a
 
   pub zero_exactly : IfSome known (λ input. bytes ≡ input) → IsAnswerTo report bytes status Puts
       → IfSome known (λ input. (status ≡ 0) ↔ IsPlayText input)
@@ -84,9 +75,6 @@ module _ (report : Report) (known : Option (List ℕ)) (bytes : List ℕ) (statu
       (λ input. (h : Heading) (budget : ℕ) (cs : List (ℕ × Command)) → IsPlayOf input h budget cs
       → IsReported report h budget cs Puts) same
       (λ h budget cs t. (answer_of report bytes status Puts h budget cs t a).1)
-
-  pub status_known : IsAnswerTo report bytes status Puts → (status ≡ 0) ⊎ (status ≡ 2)
-  status_known a = status_is report bytes status Puts (play_at (2 ^ 25) bytes) a
 
 -- what a world that was made and run has come to
 pub led_to : (k : Rules) (o : Object) (opening : List ℕ) (h : Heading) (budget : ℕ) (commands : List (ℕ × Command))

@@ -16,7 +16,7 @@ use Rattle.monk_logs.specs.Log.Reading.{Log, log_at}
 use Rattle.monk_logs.specs.Stand.{verdict_on}
 use Rattle.monk_logs.specs.Verdict.{IsMisfit, log_monitor}
 use Rattle.monk_logs.specs.declared.blame.Blame.{Blame}
-use Rattle.monk_logs.specs.declared.line.LogLine.{LogLine}
+use Rattle.monk_logs.specs.declared.text.line.LogLine.{LogLine}
 use Rattle.monk_logs.specs.declared.verdict.LogVerdict.{LogVerdict}
 use Rattle.monk_logs.specs.declared.verdict.LogVerdict.TheVariants.{Fits, Misfit}
 use Rattle.monk_commands.specs.Answer.{Answer, too_big, unreadable}

@@ -19,9 +19,9 @@ use Rattle.monk_logs.specs.declared.counts.Counts.{Counts}
 use Rattle.monk_logs.specs.declared.kind_fit.Fit.{Fit}
 use Rattle.monk_logs.specs.declared.kind_fit.Fit.TheVariants.{In, Misfit}
 use Rattle.monk_logs.specs.declared.lapses.Lapses.{Lapses}
-use Rattle.monk_logs.specs.declared.line.LogLine.{LogLine}
+use Rattle.monk_logs.specs.declared.text.line.LogLine.{LogLine}
 use Rattle.monk_logs.specs.declared.order.Order.{Order}
-use Rattle.monk_logs.specs.declared.waits_for.WaitsFor.{WaitsFor}
+use Rattle.monk_logs.specs.declared.counts.waits_for.WaitsFor.{WaitsFor}
 use Rattle.monk_commands.specs.Answer.{Answer, too_big, unreadable}
 use Rattle.monk_commands.specs.Completed.{IsLogOf, misfit_words}
 use Rattle.monk_commands.specs.Fitted.{fit_of as fit_of_history}

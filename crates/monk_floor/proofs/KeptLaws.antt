@@ -181,7 +181,8 @@ module _ {m : Monitor} {budget : ℕ} {h : List Event} {capacity : ℕ} {q : Que
             (after m.object (shown_situation q state turn inside (not (is_empty h))) e)
             moved.condition moved.waiters moved.signallers moved.untils st tu ins (begun h)
             ∙ (ap (λ t. after m.object t e) kept.stands ∙ sym (legal_situation-push m h e kept.legal));
-        counts = λ s. sp s ∙ (ap (λ n. n + cond (seat_of e == s) 1 0) (kept.counts s) ∙ sym (length-events_of-push h e s));
+        counts = λ s. sp s
+            ∙ (ap (λ n. n + cond (seat_of e == s) 1 0) (kept.counts s) ∙ sym (length-events_of-push h e s));
         grants_counted = λ s. gr s
             ∙ (ap (λ n. n + cond (grants s e) 1 0) (kept.grants_counted s) ∙ sym (granted_of-push h e s));
         enters_counted = en ∙ (ap (λ n. n + cond (is_enter e) 1 0) kept.enters_counted ∙ sym (enters_of-push h e));
@@ -199,7 +200,8 @@ module _ {m : Monitor} {budget : ℕ} {h : List Event} {capacity : ℕ} {q : Que
         few = kept.few;
         low = kept.low;
         predicates = subst (All (λ (w : ℕ × ℕ). w.1 < m.object.predicates)) (sym moved.untils)
-            (joins_in_range m.object.codes m.object.predicates e q.untils (range_object m e a.in_range) kept.predicates);
+            (joins_in_range m.object.codes m.object.predicates e q.untils (range_object m e a.in_range)
+            kept.predicates);
       }
     where
       begun : (xs : List Event) → not (is_empty (xs ++ e ∷ [])) ≡ true

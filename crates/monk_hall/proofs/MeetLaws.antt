@@ -324,7 +324,8 @@ compares k o c slots id me two idle_a idle_b s h wide view small =
       keeps,
       tt,
       subst (λ (ws : List ℕ). IsHall k o c
-          record { words = ws; homes = s.homes; views = set s.views id (a2 ∷ b2 ∷ []) }) (sym (set-get_or s.words 0 0)) (
+          record { words = ws; homes = s.homes; views = set s.views id (a2 ∷ b2 ∷ []) })
+          (sym (set-get_or s.words 0 0)) (
             update (update at a.seat a2) b.seat b2,
             shown_two c s.views at h.1 id a b a2 b2 here refl refl refl
                 refl,

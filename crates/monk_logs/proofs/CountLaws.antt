@@ -14,13 +14,13 @@ use Rattle.monk_logs.specs.declared.blame.Blame.{Blame}
 use Rattle.monk_logs.specs.declared.blame.LineVerdict.{LineVerdict}
 use Rattle.monk_logs.specs.declared.blame.LineVerdict.TheVariants as line
 use Rattle.monk_logs.specs.declared.counts.Counts.{Counts}
-use Rattle.monk_logs.specs.declared.item.Item.{Item}
+use Rattle.monk_logs.specs.declared.board.item.Item.{Item}
 use Rattle.monk_logs.specs.declared.lapses.Lapses.TheVariants.{Allowed}
-use Rattle.monk_logs.specs.declared.line.LogLine.{LogLine}
+use Rattle.monk_logs.specs.declared.text.line.LogLine.{LogLine}
 use Rattle.monk_logs.specs.declared.order.Order.TheVariants.{Any}
-use Rattle.monk_logs.specs.declared.pending.Pending.{Pending}
-use Rattle.monk_logs.specs.declared.tally.Tally.{Tally}
-use Rattle.monk_logs.specs.declared.waits_for.WaitsFor.{WaitsFor}
+use Rattle.monk_logs.specs.declared.board.pending.Pending.{Pending}
+use Rattle.monk_logs.specs.declared.counts.tally.Tally.{Tally}
+use Rattle.monk_logs.specs.declared.counts.waits_for.WaitsFor.{WaitsFor}
 use Rattle.monk_logs.proofs.LapseLaws.Following.{read_apart}
 
 -- ---- one line more

@@ -6,8 +6,8 @@ use Rattle.std.proofs.Math.Dec.{eqb-suc-zero}
 use Rattle.std.proofs.lemmas.List.{append_assoc}
 use Rattle.monk_logs.specs.Items.{is_among_first}
 use Rattle.monk_logs.specs.Order.{apart, is_among}
-use Rattle.monk_logs.specs.declared.item.Item.{Item}
-use Rattle.monk_logs.specs.declared.item.Item.TheVariants.{Service}
+use Rattle.monk_logs.specs.declared.board.item.Item.{Item}
+use Rattle.monk_logs.specs.declared.board.item.Item.TheVariants.{Service}
 
 one_or : (b p q : Bool) → p ≡ q → cond b true p ≡ b || q
 one_or true p q h = refl

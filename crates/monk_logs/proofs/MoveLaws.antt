@@ -27,7 +27,7 @@ use Rattle.monk_logs.specs.Run.{taken_signaller}
 use Rattle.monk_logs.specs.declared.blame.Blame.{Blame}
 use Rattle.monk_logs.specs.declared.blame.Blame.TheVariants as blame
 use Rattle.monk_logs.specs.declared.board.Board.{Board as Kept}
-use Rattle.monk_logs.specs.declared.item.Item.{Item}
+use Rattle.monk_logs.specs.declared.board.item.Item.{Item}
 use Rattle.monk_logs.specs.declared.order.Order.{Order}
 
 -- ---- the first four tests and those behind them

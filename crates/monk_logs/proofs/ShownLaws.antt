@@ -19,7 +19,7 @@ use Rattle.monk_logs.specs.BoardCourse.{board_via}
 use Rattle.monk_logs.specs.BoardShown.{IsBoardOf, board_over, board_shown}
 use Rattle.monk_logs.specs.Items.{services}
 use Rattle.monk_logs.specs.declared.board.Board.{Board}
-use Rattle.monk_logs.specs.declared.item.Item.{Item}
+use Rattle.monk_logs.specs.declared.board.item.Item.{Item}
 
 pub on_ok_both : {T E : Type 0} (P Q : Type 0) (r : Result T E) → OnOk r P → OnOk r Q → OnOk r (P × Q)
 on_ok_both P Q (Ok x) p q = (p, q)

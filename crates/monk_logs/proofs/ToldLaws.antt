@@ -16,8 +16,8 @@ use Rattle.monk_logs.specs.BoardCourse.{BoardCourse, board_told, board_told_next
 use Rattle.monk_logs.specs.BoardMoves.{board_moved, board_served, served_reason, told_on}
 use Rattle.monk_logs.specs.BoardStand.{board_chosen, board_line_over, board_release_blame, board_told_over}
 use Rattle.monk_logs.specs.declared.blame.Blame.{Blame}
-use Rattle.monk_logs.specs.declared.line.LogLine.{LogLine}
-use Rattle.monk_logs.specs.declared.line.LogLine.TheVariants as line
+use Rattle.monk_logs.specs.declared.text.line.LogLine.{LogLine}
+use Rattle.monk_logs.specs.declared.text.line.LogLine.TheVariants as line
 use Rattle.monk_logs.specs.declared.order.Order.{Order}
 use Rattle.monk_logs.proofs.MoveLaws.{moved_is, reason_is}
 use Rattle.monk_logs.proofs.StepLaws.{no_act}

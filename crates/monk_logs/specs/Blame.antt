@@ -26,8 +26,8 @@ use Rattle.monk_logs.specs.declared.blame.Blame.TheVariants.{
   Order,
   Choice,
 }
-use Rattle.monk_logs.specs.declared.line.LogLine.{LogLine}
-use Rattle.monk_logs.specs.declared.line.LogLine.TheVariants.{Enter, Resume, Lapse, Leave, Wait, Signal, Broadcast, Until, Act}
+use Rattle.monk_logs.specs.declared.text.line.LogLine.{LogLine}
+use Rattle.monk_logs.specs.declared.text.line.LogLine.TheVariants.{Enter, Resume, Lapse, Leave, Wait, Signal, Broadcast, Until, Act}
 
 -- ---- numbers and words
 

@@ -22,11 +22,11 @@ use Rattle.monk_logs.specs.Chances.{Chances, permits_by}
 use Rattle.monk_logs.specs.Items.{line, unserved_in, services, may_resume, taken_out, may_lapse, without_seat}
 use Rattle.monk_logs.specs.Order.{apart, may_go}
 use Rattle.monk_logs.specs.Run.{taken_signaller}
-use Rattle.monk_logs.specs.declared.item.Item.{Item}
-use Rattle.monk_logs.specs.declared.item.Item.TheVariants.{Waiting, Service}
+use Rattle.monk_logs.specs.declared.board.item.Item.{Item}
+use Rattle.monk_logs.specs.declared.board.item.Item.TheVariants.{Waiting, Service}
 use Rattle.monk_logs.specs.declared.order.Order.{Order}
-use Rattle.monk_logs.specs.declared.step.Step.{Step}
-use Rattle.monk_logs.specs.declared.step.Step.TheVariants.{Did, Lapsed}
+use Rattle.monk_logs.specs.declared.board.step.Step.{Step}
+use Rattle.monk_logs.specs.declared.board.step.Step.TheVariants.{Did, Lapsed}
 
 -- how a monitor stands, as far as steps tell it: whom a signal served they don't tell
 pub record Board : Type 0 where

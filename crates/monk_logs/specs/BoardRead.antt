@@ -8,9 +8,9 @@ use Rattle.monk_logs.specs.BoardCourse.{BoardCourse, board_behind, board_settled
 use Rattle.monk_logs.specs.Lapses.{as_lapse}
 use Rattle.monk_logs.specs.declared.lapses.Lapses.{Lapses}
 use Rattle.monk_logs.specs.declared.lapses.Lapses.TheVariants.{Told, Allowed}
-use Rattle.monk_logs.specs.declared.line.LogLine.{LogLine}
+use Rattle.monk_logs.specs.declared.text.line.LogLine.{LogLine}
 use Rattle.monk_logs.specs.declared.order.Order.{Order}
-use Rattle.monk_logs.specs.declared.pending.Pending.{Pending}
+use Rattle.monk_logs.specs.declared.board.pending.Pending.{Pending}
 
 -- the first that there is
 abbrev pub first_course : Option BoardCourse → Option BoardCourse → Option BoardCourse

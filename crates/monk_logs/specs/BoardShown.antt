@@ -8,7 +8,7 @@ use Rattle.monk_logs.specs.declared.blame.Blame.{Blame}
 use Rattle.monk_logs.specs.declared.blame.LineVerdict.{LineVerdict}
 use Rattle.monk_logs.specs.declared.blame.LineVerdict.TheVariants as verdict
 use Rattle.monk_logs.specs.declared.board.Board.{Board}
-use Rattle.monk_logs.specs.declared.item.Item.{Item}
+use Rattle.monk_logs.specs.declared.board.item.Item.{Item}
 
 -- a board with these items and these signallers, and with the rest of a situation
 abbrev pub board_over : List Item → List ℕ → Situation → boards.Board

@@ -17,8 +17,8 @@ use Rattle.monk_logs.specs.Erasure.{erasure}
 use Rattle.monk_logs.specs.Kept.{kept_if}
 use Rattle.monk_logs.specs.declared.completion.Completion.{Completion}
 use Rattle.monk_logs.specs.declared.completion.Completion.TheVariants as completion
-use Rattle.monk_logs.specs.declared.line.LogLine.{LogLine}
-use Rattle.monk_logs.specs.declared.line.LogLine.TheVariants.{Enter, Resume, Lapse, Leave, Wait, Signal, Broadcast, Until, Act}
+use Rattle.monk_logs.specs.declared.text.line.LogLine.{LogLine}
+use Rattle.monk_logs.specs.declared.text.line.LogLine.TheVariants.{Enter, Resume, Lapse, Leave, Wait, Signal, Broadcast, Until, Act}
 use Rattle.monk_logs.specs.declared.verdict.LogVerdict.{LogVerdict}
 use Rattle.monk_logs.specs.declared.verdict.LogVerdict.TheVariants as verdict
 

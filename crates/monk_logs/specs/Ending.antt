@@ -14,8 +14,8 @@ use Rattle.monk_history.specs.Meaning.Untils.{ready_of}
 use Rattle.monk_logs.specs.Board.{Board, sight, signallers_with}
 use Rattle.monk_logs.specs.BoardMoves.{board_served}
 use Rattle.monk_logs.specs.Items.{first_served}
-use Rattle.monk_logs.specs.declared.pending.Pending.{Pending}
-use Rattle.monk_logs.specs.declared.pending.Pending.TheVariants.{Settled, Half, Release}
+use Rattle.monk_logs.specs.declared.board.pending.Pending.{Pending}
+use Rattle.monk_logs.specs.declared.board.pending.Pending.TheVariants.{Settled, Half, Release}
 
 -- what is chosen without a wish, by the choice of that first one, by the front of the signaller
 -- queue, and by whether waiters may go before signallers: the caller stays where it is that front

@@ -5,7 +5,7 @@ use Rattle.monk_logs.specs.ReadStand.{read_verdict}
 use Rattle.monk_logs.specs.declared.kind_fit.Fit.{Fit}
 use Rattle.monk_logs.specs.declared.kind_fit.Fit.TheVariants.{In, Misfit}
 use Rattle.monk_logs.specs.declared.lapses.Lapses.{Lapses}
-use Rattle.monk_logs.specs.declared.line.LogLine.{LogLine}
+use Rattle.monk_logs.specs.declared.text.line.LogLine.{LogLine}
 use Rattle.monk_logs.specs.declared.order.Order.{Order}
 use Rattle.monk_logs.specs.declared.order.Order.TheVariants.{Fifo, Wake, Any}
 use Rattle.monk_logs.specs.declared.verdict.LogVerdict.{LogVerdict}

@@ -3,7 +3,7 @@ use Rattle.std.specs.Prelude.{◌≡◌, List, ◌++◌}
 use Rattle.monk_history.specs.declared.event.Event.{Event}
 use Rattle.monk_history.specs.Meaning.Legal.{IsLegal}
 use Rattle.monk_history.specs.Meaning.Monitor.{Monitor}
-use Rattle.monk_logs.specs.declared.line.LogLine.{LogLine}
+use Rattle.monk_logs.specs.declared.text.line.LogLine.{LogLine}
 use Rattle.monk_logs.specs.Erasure.{erasure}
 
 -- some legal history of the monitor begins with what the log tells

@@ -5,11 +5,11 @@ use Rattle.std.specs.List.{flat_map, list_any}
 use Rattle.monk_history.specs.Meaning.Monitor.{Monitor}
 use Rattle.monk_logs.specs.Erasure.{erasure_of}
 use Rattle.monk_logs.specs.Run.{IsRun}
-use Rattle.monk_logs.specs.declared.line.LogLine.{LogLine}
-use Rattle.monk_logs.specs.declared.line.LogLine.TheVariants.{Enter, Resume, Lapse, Leave, Wait, Signal, Broadcast, Until, Act}
+use Rattle.monk_logs.specs.declared.text.line.LogLine.{LogLine}
+use Rattle.monk_logs.specs.declared.text.line.LogLine.TheVariants.{Enter, Resume, Lapse, Leave, Wait, Signal, Broadcast, Until, Act}
 use Rattle.monk_logs.specs.declared.order.Order.{Order}
-use Rattle.monk_logs.specs.declared.step.Step.{Step}
-use Rattle.monk_logs.specs.declared.step.Step.TheVariants.{Did, Lapsed}
+use Rattle.monk_logs.specs.declared.board.step.Step.{Step}
+use Rattle.monk_logs.specs.declared.board.step.Step.TheVariants.{Did, Lapsed}
 
 -- what a recorder can write down of a step, and of a run
 abbrev pub step_lines : Step → List LogLine

@@ -2,8 +2,8 @@
 use Rattle.std.specs.Prelude.{◌≡◌, Bool, List, ◌++◌, Option, Some, None, if◌then◌else◌}
 use Rattle.std.specs.Option.{option_map}
 use Rattle.monk_history.specs.declared.event.Event.{Event}
-use Rattle.monk_logs.specs.declared.past.Past.{Past}
-use Rattle.monk_logs.specs.declared.past.Past.TheVariants.{Dropped, Kept}
+use Rattle.monk_logs.specs.declared.completion.past.Past.{Past}
+use Rattle.monk_logs.specs.declared.completion.past.Past.TheVariants.{Dropped, Kept}
 
 abbrev pub kept_events : Past → Option (List Event)
 kept_events Dropped = None

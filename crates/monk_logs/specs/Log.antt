@@ -10,8 +10,8 @@ use Rattle.monk_object.specs.Names.{object_word}
 use Rattle.monk_history.specs.Limits.{most_seats, most_conds}
 use Rattle.monk_history.specs.Text.Lines.{line}
 use Rattle.monk_history.specs.Text.Words.{Word}
-use Rattle.monk_logs.specs.declared.line.LogLine.{LogLine}
-use Rattle.monk_logs.specs.declared.line.LogLine.TheVariants.{Enter, Resume, Lapse, Leave, Wait, Signal, Broadcast, Until, Act}
+use Rattle.monk_logs.specs.declared.text.line.LogLine.{LogLine}
+use Rattle.monk_logs.specs.declared.text.line.LogLine.TheVariants.{Enter, Resume, Lapse, Leave, Wait, Signal, Broadcast, Until, Act}
 
 -- a header as contracts see it
 pub record LogHeading : Type 0 where

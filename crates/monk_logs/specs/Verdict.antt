@@ -7,7 +7,7 @@ use Rattle.monk_history.specs.Meaning.Monitor.{Monitor, monitor}
 use Rattle.monk_logs.specs.Exactly.{FitsExactlyBy, IsFirstWithout, IsVerdictBy, MisfitsExactlyBy}
 use Rattle.monk_logs.specs.Fits.{IsOpen}
 use Rattle.monk_logs.specs.Log.{LogHeading}
-use Rattle.monk_logs.specs.declared.line.LogLine.{LogLine}
+use Rattle.monk_logs.specs.declared.text.line.LogLine.{LogLine}
 use Rattle.monk_logs.specs.declared.verdict.LogVerdict.{LogVerdict}
 
 -- the monitor of that kind that the first line names

@@ -3,7 +3,7 @@ use Rattle.std.specs.Prelude.{List}
 use Rattle.monk_history.specs.Meaning.Monitor.{Monitor}
 use Rattle.monk_logs.specs.Exactly.{FitsExactlyBy, IsVerdictBy, MisfitsExactlyBy}
 use Rattle.monk_logs.specs.FitsIn.{IsOpenIn}
-use Rattle.monk_logs.specs.declared.line.LogLine.{LogLine}
+use Rattle.monk_logs.specs.declared.text.line.LogLine.{LogLine}
 use Rattle.monk_logs.specs.declared.order.Order.{Order}
 use Rattle.monk_logs.specs.declared.verdict.LogVerdict.{LogVerdict}
 

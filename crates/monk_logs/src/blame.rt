@@ -3,7 +3,7 @@
 ghost use Rattle.std.specs.Prelude.{◌≡◌};
 ghost use Rattle.monk_logs.specs.Blame.{blame_number, blame_of, blame_word};
 
-use crate::pending::Pending;
+use crate::board::pending::Pending;
 use monk_audit::Verdict;
 
 /// Why a line can't be of a monitor, behind the lines before it: the first of these that applies.

@@ -9,8 +9,8 @@ ghost use Rattle.monk_logs.specs.Blame.{early_blame};
 ghost use Rattle.monk_logs.specs.Stand.{monitor_in};
 
 use crate::blame::Blame;
-use crate::line::LogLine;
 use crate::setting::Setting;
+use crate::text::line::LogLine;
 use monk_audit::{Replay, Verdict};
 use monk_history::{Event, From3, Next, Via};
 use monk_kinds::Mode;

@@ -1,5 +1,9 @@
 //! What a log becomes once its choices are known.
 
+pub mod completing;
+pub mod ending;
+pub mod past;
+
 use crate::blame::Blame;
 use monk_history::Event;
 

@@ -1,5 +1,9 @@
 //! What happens in a log, counted.
 
+pub mod counting;
+pub mod tally;
+pub mod waits_for;
+
 /// What happens in a log, counted, up to its first misfit.
 #[derive(Clone, Copy, Debug, PartialEq, Eq)]
 pub struct Counts {

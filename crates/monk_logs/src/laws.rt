@@ -5,7 +5,7 @@ ghost use Rattle.monk_kinds.specs.Kind.{IsKind};
 ghost use Rattle.monk_history.specs.declared.event.Event.{Event};
 ghost use Rattle.monk_history.specs.Meaning.Legal.{IsLegal};
 ghost use Rattle.monk_history.specs.Meaning.Monitor.{Monitor};
-ghost use Rattle.monk_logs.specs.declared.line.LogLine.{LogLine};
+ghost use Rattle.monk_logs.specs.declared.text.line.LogLine.{LogLine};
 ghost use Rattle.monk_logs.specs.Course.{judge};
 ghost use Rattle.monk_logs.specs.Fits.{IsOpen};
 ghost use Rattle.monk_logs.specs.Board.{board_steps, opening_board};
@@ -20,8 +20,8 @@ ghost use Rattle.monk_logs.specs.VerdictIn.{FitsExactlyIn, MisfitsExactlyIn};
 ghost use Rattle.monk_logs.specs.declared.lapses.Lapses.{Lapses};
 ghost use Rattle.monk_logs.specs.declared.order.Order.{Order};
 ghost use Rattle.monk_logs.specs.declared.order.Order.TheVariants.{Fifo, Wake, Any};
-ghost use Rattle.monk_logs.specs.declared.step.Step.{Step};
-ghost use Rattle.monk_logs.specs.declared.step.Step.TheVariants.{Did};
+ghost use Rattle.monk_logs.specs.declared.board.step.Step.{Step};
+ghost use Rattle.monk_logs.specs.declared.board.step.Step.TheVariants.{Did};
 ghost use Rattle.monk_logs.specs.declared.verdict.LogVerdict.TheVariants.{Fits};
 
 /// No search is needed to tell whether a log could be of a monitor of a kind, in the order of its

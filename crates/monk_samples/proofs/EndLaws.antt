@@ -63,13 +63,6 @@ module _ (k : Rules) (o : Object) (answers : ℕ → ℕ → Bool → Type 0) (s
   fault_then ps more crew.Late s = ended_then ps more Late s
   fault_then ps more crew.Busy s = s
 
-  pub fault_without : (ps : List Token) (fault : CrewFault) → IsWantOfRoom fault → Faulted ps fault
-  fault_without ps crew.Memory s = tt
-  fault_without ps crew.Thread s = tt
-  fault_without ps crew.Tired s = absurd s
-  fault_without ps crew.Late s = absurd s
-  fault_without ps crew.Busy s = absurd s
-
   pub wants_memory : (ps : List Token) (fault : CrewFault) → fault ≡ crew.Memory → Faulted ps fault
   wants_memory ps fault e = subst (Faulted ps) (sym e) tt
 

@@ -1,7 +1,7 @@
 -- How the rounds of a seat add up
-use Rattle.std.proofs.Common.{◌≡◌, ℕ, zero, suc, ◌+◌, ◌<◌, ◌≤◌, Bool, true, false, cond, nat_le}
+use Rattle.std.proofs.Common.{◌≡◌, ℕ, zero, suc, ◌+◌, ◌<◌, ◌≤◌, Bool, true, false, nat_le}
 use Rattle.std.proofs.Common.{List, [], ◌∷◌, ◌++◌}
-use Rattle.std.proofs.lemmas.Bool.{false≢true, leb-true, leb-false}
+use Rattle.std.proofs.lemmas.Bool.{leb-true, leb-false}
 use Rattle.std.proofs.Common.{append_assoc, refl, sym, ap, subst, ◌∙◌, arith}
 use Rattle.monk_kinds.specs.declared.mode.Rules.{Rules}
 use Rattle.monk_object.specs.Object.{Object}
@@ -121,13 +121,3 @@ module _ (k : Rules) (o : Object) where
         → Came rounds p m Done
     all_done n all rounds p m same most least did =
         let is : n ≡ all = omega (arith, most, least) in subst (λ x. Did x p m) (is ∙ same) did
-
--- what a round chooses
-module _ {X : Type 0} (P : X → Type 0) where
-  pub where_true : (b : Bool) (x y : X) → b ≡ true → P x → P (cond b x y)
-  where_true true x y e h = h
-  where_true false x y e h = absurd (false≢true e)
-
-  pub where_false : (b : Bool) (x y : X) → b ≡ false → P y → P (cond b x y)
-  where_false true x y e h = absurd (false≢true (sym e))
-  where_false false x y e h = h

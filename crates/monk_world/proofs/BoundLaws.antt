@@ -89,9 +89,6 @@ module _ (s : State) (b : IsBounded s) where
     sum_few s.floor.seats (λ j. comes_in (s.world.place j)) (λ j. comes_once (s.world.place j)),
   )
 
-  pub few_calls : (j : ℕ) → s.world.count j < 1073741824
-  few_calls j = omega (arith, b.counted j, b.within j, b.low, called_once (s.world.place j))
-
   -- seat i goes to p, and nothing is recorded
   pub bounded_words : (i : ℕ) → i < s.floor.seats → (w : World) (known : ℕ → Bool) (p : Place)
       → w.place ≡ update s.world.place i p

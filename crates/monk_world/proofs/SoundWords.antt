@@ -42,9 +42,6 @@ module _ (k : Rules) (o : Object) (s : State) (right : Whereabouts) (owner : ℕ
   StandsSo w right_new owner_new = Stands s.floor.seats w right_new owner_new (turn_number (turn s.floor.history))
       (is_standing k o s.floor) (is_quiet k o s.floor)
 
-  left_here : ℕ
-  left_here = left_of s.floor.budget s.floor.history i
-
   -- seat i goes to p, and the words become these
   word_step : (t n : ℕ) (tickets seats_called counts : ℕ → ℕ) (p : Place) (right_new : Whereabouts) (owner_new : ℕ → ℕ)
       → let w : World = record {
@@ -72,8 +69,9 @@ module _ (k : Rules) (o : Object) (s : State) (right : Whereabouts) (owner : ℕ
             (λ j ne a b. more j ne a (h.known j a b));
         entered = entered;
         late = at_update s.world.place i p (λ j y. stage y ≡ ticketed_stage → 1 ≤ ticket y) late (λ j _. h.late j);
-        granted_late = at_update s.world.place i p (λ j y. stage y ≡ due_stage → source y ≡ granted_source → 1 ≤ ticket y)
-            granted_late (λ j _. h.granted_late j);
+        granted_late = at_update s.world.place i p
+            (λ j y. stage y ≡ due_stage → source y ≡ granted_source → 1 ≤ ticket y) granted_late
+            (λ j _. h.granted_late j);
         left = at_update s.world.place i p (λ j y. left_at y ≤ left_of s.floor.budget s.floor.history j) left
             (λ j _. h.left j);
         outside =

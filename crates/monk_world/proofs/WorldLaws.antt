@@ -1,9 +1,8 @@
 -- From what the words and the floor did to a step of the state
 use Rattle.std.proofs.Common.{◌≡◌, ℕ, ◌+◌, ◌%◌, ◌==◌, ◌<◌, ◌≤◌, cond, Bool, true, false, List, length, [], ◌||◌, ◌&&◌}
-use Rattle.std.proofs.Common.{⊎_elim, sym, refl, ap, ◌∙◌, subst, inl, inr, arith, eq-eqb}
+use Rattle.std.proofs.Common.{⊎_elim, sym, refl, ap, ◌∙◌, subst, arith}
 use Rattle.std.specs.Prelude.{not, nat_lt, nat_le, slice_index_or, Some, None}
 use Rattle.std.proofs.lemmas.Bool.{eqb-true, cases_lt}
-use Rattle.std.proofs.lemmas.Bool.Decides.{eqb_tells}
 use Rattle.monk_kinds.specs.Kind.{IsKind}
 use Rattle.monk_kinds.specs.declared.mode.Pick.{Pick}
 use Rattle.monk_kinds.specs.declared.mode.Rules.{Rules}
@@ -16,11 +15,10 @@ use Rattle.monk_floor.specs.Making as make
 use Rattle.monk_floor.specs.declared.fault.MakeFault.TheVariants as fault
 use Rattle.monk_world.specs.Runs.{opening_state}
 use Rattle.monk_world.specs.Stands.{opening_world}
-use Rattle.monk_world.proofs.Holders.{held, called_tells}
 use Rattle.monk_world.proofs.RunLaws.{opening_is_sound}
 use Rattle.monk_history.specs.Meaning.Events.{is_stay}
 use Rattle.monk_history.specs.Meaning.Monitor.{data_of}
-use Rattle.monk_history.specs.Meaning.Reasons.{IsAllowed, is_owned_by}
+use Rattle.monk_history.specs.Meaning.Reasons.{IsAllowed}
 use Rattle.monk_history.specs.Meaning.Release.{with_next}
 use Rattle.monk_history.specs.Meaning.Turn.{turn}
 use Rattle.monk_history.specs.declared.event.Event.{Event}
@@ -32,9 +30,8 @@ use Rattle.monk_history.proofs.PublicLaws.Meaning.{legal_last}
 use Rattle.monk_floor.specs.Grown.{IsGrown}
 use Rattle.monk_floor.specs.View.{FloorView, monitor_of, empty_floor}
 use Rattle.monk_world.specs.Kept.{IsKept}
-use Rattle.monk_world.specs.Places.{stage, ticket, back_turn, turn_of_next, due_to, outside_stage, active_stage, back_stage}
+use Rattle.monk_world.specs.Places.{stage, ticket, back_turn, turn_of_next, due_to, outside_stage, active_stage}
 use Rattle.monk_world.specs.Update.{update}
-use Rattle.monk_world.specs.Sound.{left_at}
 use Rattle.monk_world.specs.State.{State, with_event}
 use Rattle.monk_world.specs.Steps.{after_arrive, after_ticket_look, after_seat_look, after_floor_out, after_floor_in}
 use Rattle.monk_world.specs.Steps.{after_drop, after_ticket_grant, after_seat_grant}
@@ -51,7 +48,7 @@ use Rattle.monk_world.specs.declared.place.Place.{Place}
 use Rattle.monk_world.specs.declared.place.Place.TheVariants.{Idle, Ticket, Due, Active, Back, Passing, Inner}
 use Rattle.monk_world.specs.declared.source.Source.{Source}
 use Rattle.monk_world.specs.declared.board.Board.{Board}
-use Rattle.monk_world.proofs.BoundLaws.{few_drawn, few_calls}
+use Rattle.monk_world.proofs.BoundLaws.{few_drawn}
 use Rattle.monk_world.proofs.DoneLaws.{IsReady, ready, kept_done}
 use Rattle.monk_world.proofs.SoundFloor.{sound_out}
 
@@ -112,10 +109,6 @@ module _ (k : Rules) (o : Object) (w : Board) (f : FloorView) (v : WorldView) (i
   pub ready_here : (c : Command) → refusal k o (state_of_view v) i c ≡ None → IsReady k o s i c
   ready_here c free = ready k o s i c (free_here c free)
 
-  pub near_here : (c : Command) (conds : ℕ) → IsKept k o w.seats conds s
-      → refusal k o (state_of_view v) i c ≡ None → i < w.seats
-  near_here c conds old free = subst (λ (n : ℕ). i < n) (sym old.seats_are) ((ready_here c free).near)
-
   abbrev Goes : Command → Answer → State → Type 0
   Goes c a t = IsDone k o s i (s.world.place i) c a t
 
@@ -147,9 +140,6 @@ module _ (k : Rules) (o : Object) (w : Board) (f : FloorView) (v : WorldView) (i
       → Shows w (after_seat_look (world_on w) i ((world_on w).seat_place i == (world_on w).count i + 1)) new
       → Goes command.Look a (state_in new f)
   seat_look_goes a new at is_a shows = at_place Inner command.Look a (state_in new f) at (is_a, shows.state f)
-
-  pub idle_peek_goes : (a : Answer) → s.world.place i ≡ Idle → a ≡ answer.Found w.unpassed → Goes command.Peek a s
-  idle_peek_goes a at is_a = at_place Idle command.Peek a s at (is_a, refl)
 
   pub active_peek_goes : (q : Source) (a : Answer) (new : Board) → s.world.place i ≡ Active q
       → a ≡ answer.Found w.unpassed
@@ -248,10 +238,6 @@ module _ (k : Rules) (o : Object) (w : Board) (f : FloorView) (v : WorldView) (i
         ap (λ (y : FloorView). state_in w y) grown,
       )
 
-  pub owns_here : (c : Command) (conds : ℕ) → IsKept k o w.seats conds s
-      → (stage (s.world.place i) == active_stage) ≡ true → is_owned_by i (turn f.history) ≡ true
-  owns_here c conds old three = ap (is_owned_by i) (old.sound.is_sound.active i (eqb-true _ _ three)) ∙ eq-eqb i i refl
-
   pub out_allowed : (q : Source) (conds : ℕ) → IsKept k o w.seats conds s
       → refusal k o (state_of_view v) i command.Out ≡ None → s.world.place i ≡ Due q
       → IsAllowed (monitor_of k o f) f.history (out_event i q (turn f.history))
@@ -260,10 +246,6 @@ module _ (k : Rules) (o : Object) (w : Board) (f : FloorView) (v : WorldView) (i
       sound_out k o s old.sound.right old.sound.owner old.sound.is_sound i
       ((ready_here command.Out free).near) q at in
       legal_last (monitor_of k o f) f.history (out_event i q (turn f.history)) out.is_sound.legal
-
-  pub out_left : (q : Source) (conds : ℕ) → IsKept k o w.seats conds s → s.world.place i ≡ Due q
-      → 0 < left_of f.budget f.history i
-  out_left q conds old at = omega (arith, old.sound.is_sound.left i, ap left_at at)
 
   at_active : (c : Command) (a : Answer) (t : State) → refusal k o (state_of_view v) i c ≡ None
       → may_be_told (s.world.place i) c ≡ (stage (s.world.place i) == active_stage)
@@ -294,9 +276,6 @@ module _ (k : Rules) (o : Object) (w : Board) (f : FloorView) (v : WorldView) (i
   pub drawn_here : (conds : ℕ) → IsKept k o w.seats conds s → w.drawn < 2147483648
   drawn_here conds old = few_drawn s old.bounded
 
-  pub behind_here : (conds : ℕ) → IsKept k o w.seats conds s → w.unpassed ≤ w.drawn
-  behind_here conds old = old.sound.is_sound.stands.keeps.tickets.behind
-
   pub ticket_here : (n conds : ℕ) → IsKept k o w.seats conds s → s.world.place i ≡ Ticket n → n < 2147483648
   ticket_here n conds old at =
       let r = old.sound.is_sound.stands.keeps in
@@ -309,28 +288,6 @@ module _ (k : Rules) (o : Object) (w : Board) (f : FloorView) (v : WorldView) (i
       let r = old.sound.is_sound.stands.keeps in
       let mine = r.tickets.passing i (ap stage at) in
       omega (arith, mine.0, ap ticket at, drawn_here conds old)
-
-  pub count_here : (conds : ℕ) → IsKept k o w.seats conds s → (j : ℕ) → (world_on w).count j < 2147483648
-  count_here conds old j = omega (arith, few_calls s old.bounded j)
-
-  pub calls_here : (conds : ℕ) → IsKept k o w.seats conds s → (j : ℕ) → (world_on w).seat_place j < 2147483648
-  calls_here conds old j =
-      let r = old.sound.is_sound.stands.keeps in
-      elim (called_tells old.sound.right j) [
-        | inl e ↦ omega (arith, (r.calls.called j e).1, few_calls s old.bounded j)
-        | inr e ↦ omega (arith, r.calls.not_called j e, few_calls s old.bounded j)
-      ]
-
-  pub some_here : (x : Next) (to : Home) (conds : ℕ) → IsKept k o w.seats conds s → s.world.place i ≡ Back x to
-      → 0 < w.unpassed
-  some_here x to conds old at =
-      let r = old.sound.is_sound.stands.keeps in
-      let four : stage (s.world.place i) ≡ back_stage = ap stage at in
-      let mine = held r i (omega arith) (omega arith) in
-      elim (eqb_tells w.unpassed 0) [
-        | inl e ↦ absurd (let a = r.holder.free.0 e.1 in cc)
-        | inr e ↦ omega (arith, e.1)
-      ]
 
   pub called_here : (x : Next) (to : Home) (j conds : ℕ) → IsKept k o w.seats conds s → s.world.place i ≡ Back x to
       → turn_of_next x ≡ due_to j → j < w.seats

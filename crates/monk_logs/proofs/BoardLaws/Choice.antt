@@ -19,8 +19,8 @@ use Rattle.monk_logs.specs.Board.{Board, board_chances, board_permits, items_wit
 use Rattle.monk_logs.specs.Chances.{may_choose_by, may_signal_by}
 use Rattle.monk_logs.specs.Items.{keeps_up, line, may_resume, seats_in, services, unserved_in}
 use Rattle.monk_logs.specs.Order.{is_among, may_go}
-use Rattle.monk_logs.specs.declared.item.Item.{Item}
-use Rattle.monk_logs.specs.declared.item.Item.TheVariants.{Service, Waiting}
+use Rattle.monk_logs.specs.declared.board.item.Item.{Item}
+use Rattle.monk_logs.specs.declared.board.item.Item.TheVariants.{Service, Waiting}
 use Rattle.monk_logs.specs.declared.order.Order.{Order}
 use Rattle.monk_logs.specs.declared.order.Order.TheVariants.{Fifo, Wake, Any}
 use Rattle.monk_logs.proofs.BoardLaws.Chooses.{Chooses, Offers, Someone, must_choose, served_choose}

@@ -23,13 +23,13 @@ use Rattle.monk_logs.specs.BoardCourse.{standing_choice}
 use Rattle.monk_logs.specs.Erasure.{erasure_of}
 use Rattle.monk_logs.specs.FitsIn.{run_lines, step_lines}
 use Rattle.monk_logs.specs.Items.{may_lapse}
-use Rattle.monk_logs.specs.declared.line.LogLine.{LogLine}
-use Rattle.monk_logs.specs.declared.line.LogLine.TheVariants.{Enter, Resume, Lapse, Leave, Wait, Signal, Broadcast, Until, Act}
+use Rattle.monk_logs.specs.declared.text.line.LogLine.{LogLine}
+use Rattle.monk_logs.specs.declared.text.line.LogLine.TheVariants.{Enter, Resume, Lapse, Leave, Wait, Signal, Broadcast, Until, Act}
 use Rattle.monk_logs.specs.declared.order.Order.{Order}
-use Rattle.monk_logs.specs.declared.pending.Pending.{Pending}
-use Rattle.monk_logs.specs.declared.pending.Pending.TheVariants.{Settled, Half, Release}
-use Rattle.monk_logs.specs.declared.step.Step.{Step}
-use Rattle.monk_logs.specs.declared.step.Step.TheVariants.{Did, Lapsed}
+use Rattle.monk_logs.specs.declared.board.pending.Pending.{Pending}
+use Rattle.monk_logs.specs.declared.board.pending.Pending.TheVariants.{Settled, Half, Release}
+use Rattle.monk_logs.specs.declared.board.step.Step.{Step}
+use Rattle.monk_logs.specs.declared.board.step.Step.TheVariants.{Did, Lapsed}
 use Rattle.monk_logs.proofs.BoardLaws.Lists.{judge-append, none_told}
 use Rattle.monk_logs.proofs.BoardLaws.Told.{FitsTurn, found, step_first, step_later, step_lines_are, step_tells}
 use Rattle.monk_logs.proofs.CourseLaws.Calls.{due_queue, half_called, named_again, not_at_once}

@@ -13,13 +13,13 @@ use Rattle.monk_logs.specs.Board.{Board, board_after, board_steps, opening_board
 use Rattle.monk_logs.specs.BoardCourse.{BoardCourse, board_judge}
 use Rattle.monk_logs.specs.Erasure.{erasure_of}
 use Rattle.monk_logs.specs.FitsIn.{IsOpenIn, run_lines}
-use Rattle.monk_logs.specs.declared.line.LogLine.{LogLine}
-use Rattle.monk_logs.specs.declared.line.LogLine.TheVariants.{Leave, Signal}
+use Rattle.monk_logs.specs.declared.text.line.LogLine.{LogLine}
+use Rattle.monk_logs.specs.declared.text.line.LogLine.TheVariants.{Leave, Signal}
 use Rattle.monk_logs.specs.declared.order.Order.{Order}
-use Rattle.monk_logs.specs.declared.pending.Pending.{Pending}
-use Rattle.monk_logs.specs.declared.pending.Pending.TheVariants.{Settled, Half, Release}
-use Rattle.monk_logs.specs.declared.step.Step.{Step}
-use Rattle.monk_logs.specs.declared.step.Step.TheVariants.{Did}
+use Rattle.monk_logs.specs.declared.board.pending.Pending.{Pending}
+use Rattle.monk_logs.specs.declared.board.pending.Pending.TheVariants.{Settled, Half, Release}
+use Rattle.monk_logs.specs.declared.board.step.Step.{Step}
+use Rattle.monk_logs.specs.declared.board.step.Step.TheVariants.{Did}
 use Rattle.monk_logs.proofs.BoardLaws.Choice.{release_chosen}
 use Rattle.monk_logs.proofs.BoardLaws.Completeness.{step_ok, taken_judged}
 use Rattle.monk_logs.proofs.BoardLaws.Lists.{run_lines-push, steps-push}

@@ -6,9 +6,9 @@ use Rattle.monk_history.specs.Meaning.Monitor.{Monitor}
 use Rattle.monk_logs.specs.Board.{Board, board_from, board_step, board_steps}
 use Rattle.monk_logs.specs.BoardCourse.{BoardCourse, board_behind, board_judge_from}
 use Rattle.monk_logs.specs.FitsIn.{run_lines, step_lines}
-use Rattle.monk_logs.specs.declared.line.LogLine.{LogLine}
+use Rattle.monk_logs.specs.declared.text.line.LogLine.{LogLine}
 use Rattle.monk_logs.specs.declared.order.Order.{Order}
-use Rattle.monk_logs.specs.declared.step.Step.{Step}
+use Rattle.monk_logs.specs.declared.board.step.Step.{Step}
 
 pub run_lines-push : (steps : List Step) (step : Step)
     → run_lines (steps ++ step ∷ []) ≡ run_lines steps ++ step_lines step

@@ -18,13 +18,13 @@ use Rattle.monk_logs.specs.BoardCourse.{board_known, board_line, board_settled, 
 use Rattle.monk_logs.specs.Course.{due_from}
 use Rattle.monk_logs.specs.Erasure.{erasure_of}
 use Rattle.monk_logs.specs.FitsIn.{run_lines, step_lines}
-use Rattle.monk_logs.specs.declared.line.LogLine.{LogLine}
-use Rattle.monk_logs.specs.declared.line.LogLine.TheVariants.{Enter, Resume, Lapse, Leave, Wait, Signal, Broadcast, Until, Act}
+use Rattle.monk_logs.specs.declared.text.line.LogLine.{LogLine}
+use Rattle.monk_logs.specs.declared.text.line.LogLine.TheVariants.{Enter, Resume, Lapse, Leave, Wait, Signal, Broadcast, Until, Act}
 use Rattle.monk_logs.specs.declared.order.Order.{Order}
-use Rattle.monk_logs.specs.declared.pending.Pending.{Pending}
-use Rattle.monk_logs.specs.declared.pending.Pending.TheVariants.{Settled, Half, Release}
-use Rattle.monk_logs.specs.declared.step.Step.{Step}
-use Rattle.monk_logs.specs.declared.step.Step.TheVariants.{Did, Lapsed}
+use Rattle.monk_logs.specs.declared.board.pending.Pending.{Pending}
+use Rattle.monk_logs.specs.declared.board.pending.Pending.TheVariants.{Settled, Half, Release}
+use Rattle.monk_logs.specs.declared.board.step.Step.{Step}
+use Rattle.monk_logs.specs.declared.board.step.Step.TheVariants.{Did, Lapsed}
 use Rattle.monk_logs.proofs.BoardLaws.Lists.{run_lines-push, steps-push}
 use Rattle.monk_logs.proofs.CourseLaws.Soundness.{cond_some, erased_with_next, rest_of}
 use Rattle.monk_logs.proofs.CourseLaws.Tests.{called_from_tests, passed}

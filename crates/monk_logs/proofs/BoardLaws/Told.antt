@@ -24,12 +24,12 @@ use Rattle.monk_logs.specs.Chances.{Chances, may_choose_by, may_signal_by, permi
 use Rattle.monk_logs.specs.FitsIn.{step_lines}
 use Rattle.monk_logs.specs.Items.{condition_of}
 use Rattle.monk_logs.specs.Order.{is_among}
-use Rattle.monk_logs.specs.declared.item.Item.{Item}
-use Rattle.monk_logs.specs.declared.line.LogLine.{LogLine}
-use Rattle.monk_logs.specs.declared.line.LogLine.TheVariants.{Lapse}
+use Rattle.monk_logs.specs.declared.board.item.Item.{Item}
+use Rattle.monk_logs.specs.declared.text.line.LogLine.{LogLine}
+use Rattle.monk_logs.specs.declared.text.line.LogLine.TheVariants.{Lapse}
 use Rattle.monk_logs.specs.declared.order.Order.{Order}
-use Rattle.monk_logs.specs.declared.step.Step.{Step}
-use Rattle.monk_logs.specs.declared.step.Step.TheVariants.{Did, Lapsed}
+use Rattle.monk_logs.specs.declared.board.step.Step.{Step}
+use Rattle.monk_logs.specs.declared.board.step.Step.TheVariants.{Did, Lapsed}
 use Rattle.monk_logs.proofs.CourseLaws.Told.{due_seat, entry_is, erased_lines, first_line, later_lines, stay_is}
 use Rattle.monk_logs.proofs.OrderLaws.Choosing.{resumes}
 use Rattle.monk_logs.proofs.OrderLaws.Counts.{counts_one, ready_waits, until_seats}

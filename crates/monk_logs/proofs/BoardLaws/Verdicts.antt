@@ -11,7 +11,7 @@ use Rattle.monk_logs.specs.BoardStand.{board_over, board_verdict, board_verdict_
 use Rattle.monk_logs.specs.FitsIn.{IsOpenIn}
 use Rattle.monk_logs.specs.VerdictIn.{FitsExactlyIn, IsVerdictIn, MisfitsExactlyIn}
 use Rattle.monk_logs.specs.declared.blame.Blame.{Blame}
-use Rattle.monk_logs.specs.declared.line.LogLine.{LogLine}
+use Rattle.monk_logs.specs.declared.text.line.LogLine.{LogLine}
 use Rattle.monk_logs.specs.declared.order.Order.{Order}
 use Rattle.monk_logs.specs.declared.verdict.LogVerdict.TheVariants.{Fits}
 use Rattle.monk_logs.proofs.BoardLaws.Exact.{judged_open, open_front, open_judged}

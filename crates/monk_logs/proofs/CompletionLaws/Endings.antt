@@ -24,10 +24,10 @@ use Rattle.monk_logs.specs.Completion.{AreHandedOver, Completes, IsCompletedBy, 
 use Rattle.monk_logs.specs.Ending.{last_release}
 use Rattle.monk_logs.specs.Erasure.{erasure_of, erasure}
 use Rattle.monk_logs.specs.Kept.{kept_with}
-use Rattle.monk_logs.specs.declared.line.LogLine.{LogLine}
-use Rattle.monk_logs.specs.declared.line.LogLine.TheVariants.{Leave, Signal}
-use Rattle.monk_logs.specs.declared.pending.Pending.{Pending}
-use Rattle.monk_logs.specs.declared.pending.Pending.TheVariants.{Settled, Half, Release}
+use Rattle.monk_logs.specs.declared.text.line.LogLine.{LogLine}
+use Rattle.monk_logs.specs.declared.text.line.LogLine.TheVariants.{Leave, Signal}
+use Rattle.monk_logs.specs.declared.board.pending.Pending.{Pending}
+use Rattle.monk_logs.specs.declared.board.pending.Pending.TheVariants.{Settled, Half, Release}
 use Rattle.monk_logs.proofs.CompletionLaws.Halves.{event_whole, never, signal_half}
 use Rattle.monk_logs.proofs.CompletionLaws.Known.{IsCourse, keeps_more}
 use Rattle.monk_logs.proofs.CourseLaws.Events.{handed-push, no_enter, release_is_no_enter}

@@ -5,7 +5,7 @@ use Rattle.monk_history.specs.Meaning.Monitor.{Monitor}
 use Rattle.monk_logs.specs.Log.{LogHeading}
 use Rattle.monk_logs.specs.Stand.{verdict_on}
 use Rattle.monk_logs.specs.Verdict.{FitsExactly, IsVerdictOn, MisfitsExactly, log_monitor}
-use Rattle.monk_logs.specs.declared.line.LogLine.{LogLine}
+use Rattle.monk_logs.specs.declared.text.line.LogLine.{LogLine}
 use Rattle.monk_logs.specs.declared.verdict.LogVerdict.{LogVerdict}
 use Rattle.monk_logs.proofs.VerdictLaws.Exactly.{fits_exactly, misfits_exactly}
 use Rattle.monk_logs.proofs.FifoLaws.Exact.{verdict_is}

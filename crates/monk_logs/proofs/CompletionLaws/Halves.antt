@@ -8,8 +8,8 @@ use Rattle.monk_history.specs.declared.event.Event.TheVariants as event
 use Rattle.monk_history.specs.Meaning.Events.{has_signaller_queue, is_call_of, returns_at_once}
 use Rattle.monk_logs.specs.Completion.{leaving, other_half}
 use Rattle.monk_logs.specs.Erasure.{erasure_of}
-use Rattle.monk_logs.specs.declared.line.LogLine.{LogLine}
-use Rattle.monk_logs.specs.declared.line.LogLine.TheVariants.{Leave, Signal}
+use Rattle.monk_logs.specs.declared.text.line.LogLine.{LogLine}
+use Rattle.monk_logs.specs.declared.text.line.LogLine.TheVariants.{Leave, Signal}
 
 last_append : (o : Option LogLine) (xs ys : List LogLine) → last_or o (xs ++ ys) ≡ last_or (last_or o xs) ys
 last_append o [] ys = refl

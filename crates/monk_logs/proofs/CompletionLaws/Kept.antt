@@ -10,9 +10,9 @@ use Rattle.monk_logs.specs.BoardLegal.{known_events, own_events}
 use Rattle.monk_logs.specs.BoardStand.{board_chosen, board_release_blame}
 use Rattle.monk_logs.specs.Kept.{kept_with}
 use Rattle.monk_logs.specs.declared.blame.Blame.{Blame}
-use Rattle.monk_logs.specs.declared.line.LogLine.{LogLine}
+use Rattle.monk_logs.specs.declared.text.line.LogLine.{LogLine}
 use Rattle.monk_logs.specs.declared.order.Order.{Order}
-use Rattle.monk_logs.specs.declared.pending.Pending.TheVariants.{Release}
+use Rattle.monk_logs.specs.declared.board.pending.Pending.TheVariants.{Release}
 
 kept_twice : (o : Option (List Event)) (a b : List Event) → kept_with (kept_with o a) b ≡ kept_with o (a ++ b)
 kept_twice None a b = refl

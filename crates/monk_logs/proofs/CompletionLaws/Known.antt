@@ -11,9 +11,9 @@ use Rattle.monk_history.proofs.PublicLaws.Meaning.{situation-none}
 use Rattle.monk_logs.specs.Course.{Course, behind}
 use Rattle.monk_logs.specs.Kept.{IsKept, kept_if, kept_with}
 use Rattle.monk_logs.specs.Stand.{Stand, stand, line_behind}
-use Rattle.monk_logs.specs.declared.line.LogLine.{LogLine}
-use Rattle.monk_logs.specs.declared.pending.Pending.{Pending}
-use Rattle.monk_logs.specs.declared.pending.Pending.TheVariants.{Settled}
+use Rattle.monk_logs.specs.declared.text.line.LogLine.{LogLine}
+use Rattle.monk_logs.specs.declared.board.pending.Pending.{Pending}
+use Rattle.monk_logs.specs.declared.board.pending.Pending.TheVariants.{Settled}
 use Rattle.monk_logs.proofs.CourseLaws.Events.{told_events}
 use Rattle.monk_logs.proofs.CourseLaws.Soundness.{Tells, behind_tells, tells_nothing}
 use Rattle.monk_logs.proofs.VerdictLaws.Standing.{line_same, stand_at}

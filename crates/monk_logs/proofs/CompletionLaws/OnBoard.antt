@@ -23,11 +23,11 @@ use Rattle.monk_logs.specs.Stand.{Stand, line_behind, line_over, stand, verdict_
 use Rattle.monk_logs.specs.declared.blame.Blame.{Blame}
 use Rattle.monk_logs.specs.declared.blame.LineVerdict.{LineVerdict}
 use Rattle.monk_logs.specs.declared.blame.LineVerdict.TheVariants as line
-use Rattle.monk_logs.specs.declared.line.LogLine.{LogLine}
-use Rattle.monk_logs.specs.declared.line.LogLine.TheVariants.{Enter, Resume, Lapse, Leave, Wait, Signal, Broadcast, Until, Act}
+use Rattle.monk_logs.specs.declared.text.line.LogLine.{LogLine}
+use Rattle.monk_logs.specs.declared.text.line.LogLine.TheVariants.{Enter, Resume, Lapse, Leave, Wait, Signal, Broadcast, Until, Act}
 use Rattle.monk_logs.specs.declared.order.Order.TheVariants.{Fifo}
-use Rattle.monk_logs.specs.declared.pending.Pending.{Pending}
-use Rattle.monk_logs.specs.declared.pending.Pending.TheVariants.{Settled, Half, Release}
+use Rattle.monk_logs.specs.declared.board.pending.Pending.{Pending}
+use Rattle.monk_logs.specs.declared.board.pending.Pending.TheVariants.{Settled, Half, Release}
 use Rattle.monk_logs.specs.declared.verdict.LogVerdict.TheVariants.{Fits, Misfit}
 use Rattle.monk_logs.proofs.BoardLaws.Held.{behind_held}
 use Rattle.monk_logs.proofs.BoardLaws.Lines.{over_apart}

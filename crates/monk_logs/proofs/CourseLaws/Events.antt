@@ -15,10 +15,10 @@ use Rattle.monk_history.specs.Meaning.Step.{after}
 use Rattle.monk_logs.specs.Completion.{AreHandedOver, IsNoFreeEnter}
 use Rattle.monk_logs.specs.Course.{due_from, told_release}
 use Rattle.monk_logs.specs.Stand.{via_now}
-use Rattle.monk_logs.specs.declared.line.LogLine.{LogLine}
-use Rattle.monk_logs.specs.declared.line.LogLine.TheVariants.{Enter, Resume, Lapse, Leave, Wait, Signal, Broadcast, Until, Act}
-use Rattle.monk_logs.specs.declared.pending.Pending.{Pending}
-use Rattle.monk_logs.specs.declared.pending.Pending.TheVariants.{Settled, Half, Release}
+use Rattle.monk_logs.specs.declared.text.line.LogLine.{LogLine}
+use Rattle.monk_logs.specs.declared.text.line.LogLine.TheVariants.{Enter, Resume, Lapse, Leave, Wait, Signal, Broadcast, Until, Act}
+use Rattle.monk_logs.specs.declared.board.pending.Pending.{Pending}
+use Rattle.monk_logs.specs.declared.board.pending.Pending.TheVariants.{Settled, Half, Release}
 
 -- its own, where each event before it is known; of a release the choice is still to come
 abbrev pub line_events : Situation → LogLine → List Event

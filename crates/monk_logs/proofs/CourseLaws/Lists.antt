@@ -6,7 +6,7 @@ use Rattle.monk_history.specs.declared.event.Event.{Event}
 use Rattle.monk_history.specs.Meaning.Monitor.{Monitor}
 use Rattle.monk_logs.specs.Course.{Course, judge_from, behind}
 use Rattle.monk_logs.specs.Erasure.{erasure_of, erasure}
-use Rattle.monk_logs.specs.declared.line.LogLine.{LogLine}
+use Rattle.monk_logs.specs.declared.text.line.LogLine.{LogLine}
 
 pub erasure-push : (h : List Event) (e : Event) → erasure (h ++ e ∷ []) ≡ erasure h ++ erasure_of e
 erasure-push h e = flat_map-append erasure_of h (e ∷ [])

@@ -29,10 +29,10 @@ use Rattle.monk_logs.specs.Course.{judge}
 use Rattle.monk_logs.specs.Course.{due_from}
 use Rattle.monk_logs.specs.Erasure.{erasure_of, erasure}
 use Rattle.monk_logs.specs.Fits.{IsOpen}
-use Rattle.monk_logs.specs.declared.line.LogLine.{LogLine}
-use Rattle.monk_logs.specs.declared.line.LogLine.TheVariants.{Enter, Resume, Lapse, Leave, Wait, Signal, Broadcast, Until, Act}
-use Rattle.monk_logs.specs.declared.pending.Pending.{Pending}
-use Rattle.monk_logs.specs.declared.pending.Pending.TheVariants.{Settled, Half, Release}
+use Rattle.monk_logs.specs.declared.text.line.LogLine.{LogLine}
+use Rattle.monk_logs.specs.declared.text.line.LogLine.TheVariants.{Enter, Resume, Lapse, Leave, Wait, Signal, Broadcast, Until, Act}
+use Rattle.monk_logs.specs.declared.board.pending.Pending.{Pending}
+use Rattle.monk_logs.specs.declared.board.pending.Pending.TheVariants.{Settled, Half, Release}
 use Rattle.monk_logs.proofs.CourseLaws.Events.{handed-push, handed_enter, line_events, no_enter, release_is_no_enter, told_events}
 use Rattle.monk_logs.proofs.CourseLaws.Events.{via_same}
 use Rattle.monk_logs.proofs.CourseLaws.Lists.{erasure-push}

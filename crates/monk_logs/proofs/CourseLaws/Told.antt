@@ -26,8 +26,8 @@ use Rattle.monk_history.specs.Meaning.Turn.{turn_by}
 use Rattle.monk_history.proofs.PublicLaws.Meaning.{and_left, legal_front, legal_last, legal_placed, legal_situation-push}
 use Rattle.monk_logs.specs.Course.{chosen_from}
 use Rattle.monk_logs.specs.Erasure.{erasure_of}
-use Rattle.monk_logs.specs.declared.line.LogLine.{LogLine}
-use Rattle.monk_logs.specs.declared.line.LogLine.TheVariants.{Enter, Resume, Leave, Wait, Signal, Broadcast, Until, Act}
+use Rattle.monk_logs.specs.declared.text.line.LogLine.{LogLine}
+use Rattle.monk_logs.specs.declared.text.line.LogLine.TheVariants.{Enter, Resume, Leave, Wait, Signal, Broadcast, Until, Act}
 
 -- ---- the first line of an event
 

@@ -18,8 +18,8 @@ use Rattle.monk_logs.specs.Completion.{unwished_next}
 use Rattle.monk_logs.specs.Ending.{by_fronts, inner_on, last_on, unwished_on}
 use Rattle.monk_logs.specs.Items.{first_served}
 use Rattle.monk_logs.specs.declared.order.Order.TheVariants.{Wake}
-use Rattle.monk_logs.specs.declared.pending.Pending.{Pending}
-use Rattle.monk_logs.specs.declared.pending.Pending.TheVariants.{Settled, Half, Release}
+use Rattle.monk_logs.specs.declared.board.pending.Pending.{Pending}
+use Rattle.monk_logs.specs.declared.board.pending.Pending.TheVariants.{Settled, Half, Release}
 use Rattle.monk_logs.proofs.CompletionLaws.Fronts.{fronts_choose, inner_next}
 use Rattle.monk_logs.proofs.CompletionLaws.Endings.{last_events}
 use Rattle.monk_logs.proofs.FifoLaws.Boards.{Alike, queue_same, sigs_same}

@@ -16,10 +16,10 @@ use Rattle.monk_logs.specs.FitsIn.{has_lapse, is_lapse}
 use Rattle.monk_logs.specs.Stand.{verdict_on}
 use Rattle.monk_logs.specs.Verdict.{IsVerdictOn}
 use Rattle.monk_logs.specs.declared.blame.Blame.{Blame}
-use Rattle.monk_logs.specs.declared.line.LogLine.{LogLine}
-use Rattle.monk_logs.specs.declared.line.LogLine.TheVariants.{Enter, Resume, Lapse, Leave, Wait, Signal, Broadcast, Until, Act}
+use Rattle.monk_logs.specs.declared.text.line.LogLine.{LogLine}
+use Rattle.monk_logs.specs.declared.text.line.LogLine.TheVariants.{Enter, Resume, Lapse, Leave, Wait, Signal, Broadcast, Until, Act}
 use Rattle.monk_logs.specs.declared.order.Order.TheVariants.{Fifo}
-use Rattle.monk_logs.specs.declared.pending.Pending.{Pending}
+use Rattle.monk_logs.specs.declared.board.pending.Pending.{Pending}
 use Rattle.monk_logs.proofs.BoardLaws.Exact.{judged_open, open_judged}
 use Rattle.monk_logs.proofs.BoardLaws.Verdicts.{judged_none, line_leads}
 use Rattle.monk_logs.proofs.FifoLaws.Known.{goes_on}

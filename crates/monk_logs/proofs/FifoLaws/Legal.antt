@@ -10,7 +10,7 @@ use Rattle.monk_history.specs.Meaning.Waiters.{serves}
 use Rattle.monk_history.proofs.PublicLaws.Meaning.{legal-push, legal_front, legal_last, legal_none, legal_situation-push, situation-none}
 use Rattle.monk_logs.specs.Run.{IsRun, Runs}
 use Rattle.monk_logs.specs.declared.order.Order.TheVariants.{Fifo}
-use Rattle.monk_logs.specs.declared.step.Step.TheVariants.{Did}
+use Rattle.monk_logs.specs.declared.board.step.Step.TheVariants.{Did}
 use Rattle.monk_logs.proofs.FifoLaws.Moves.{allowed_moves, move_allowed, move_leads}
 use Rattle.monk_logs.proofs.FifoLaws.Tidy.{legal_tidy}
 

@@ -22,8 +22,8 @@ use Rattle.monk_logs.specs.Items.{first_seat_at, first_served as first_of_all, s
 use Rattle.monk_logs.specs.Items.{without_service}
 use Rattle.monk_logs.specs.Order.{apart, is_among}
 use Rattle.monk_logs.specs.Run.{chosen_waiter}
-use Rattle.monk_logs.specs.declared.item.Item.{Item}
-use Rattle.monk_logs.specs.declared.item.Item.TheVariants.{Waiting, Service}
+use Rattle.monk_logs.specs.declared.board.item.Item.{Item}
+use Rattle.monk_logs.specs.declared.board.item.Item.TheVariants.{Waiting, Service}
 use Rattle.monk_logs.specs.declared.order.Order.TheVariants.{Fifo}
 use Rattle.monk_logs.proofs.FifoLaws.Fronts.{apart_nobody, first_out}
 use Rattle.monk_logs.proofs.FifoLaws.Service.{first_off, first_served, in_service, never_served, same_service, served_more}

@@ -27,11 +27,11 @@ use Rattle.monk_logs.specs.FitsIn.{has_lapse, is_lapse}
 use Rattle.monk_logs.specs.Stand.{Stand, add_to, hold_over, line_behind, line_half, line_over, line_settled, line_then, line_told, settle}
 use Rattle.monk_logs.specs.Stand.{settled_by, stand, verdict_on}
 use Rattle.monk_logs.specs.declared.blame.Blame.{Blame}
-use Rattle.monk_logs.specs.declared.line.LogLine.{LogLine}
-use Rattle.monk_logs.specs.declared.line.LogLine.TheVariants.{Enter, Resume, Lapse, Leave, Wait, Signal, Broadcast, Until, Act}
+use Rattle.monk_logs.specs.declared.text.line.LogLine.{LogLine}
+use Rattle.monk_logs.specs.declared.text.line.LogLine.TheVariants.{Enter, Resume, Lapse, Leave, Wait, Signal, Broadcast, Until, Act}
 use Rattle.monk_logs.specs.declared.order.Order.TheVariants.{Fifo}
-use Rattle.monk_logs.specs.declared.pending.Pending.{Pending}
-use Rattle.monk_logs.specs.declared.pending.Pending.TheVariants.{Settled, Half, Release}
+use Rattle.monk_logs.specs.declared.board.pending.Pending.{Pending}
+use Rattle.monk_logs.specs.declared.board.pending.Pending.TheVariants.{Settled, Half, Release}
 use Rattle.monk_logs.specs.declared.verdict.LogVerdict.TheVariants.{Misfit}
 use Rattle.monk_logs.proofs.FifoLaws.Blames.{blame_same, lapse_same}
 use Rattle.monk_logs.proofs.FifoLaws.Reasons.{Same, before_same, same_after, same_opening, same_reason}

@@ -21,13 +21,13 @@ use Rattle.monk_logs.specs.Course.{due_from}
 use Rattle.monk_logs.specs.Lapses.{IsOpenRead, IsOpenWith, IsReading, as_lapse}
 use Rattle.monk_logs.specs.declared.lapses.Lapses.{Lapses}
 use Rattle.monk_logs.specs.declared.lapses.Lapses.TheVariants.{Told, Allowed}
-use Rattle.monk_logs.specs.declared.line.LogLine.{LogLine}
-use Rattle.monk_logs.specs.declared.line.LogLine.TheVariants.{Enter, Resume, Lapse, Leave, Wait, Signal, Broadcast, Until, Act}
+use Rattle.monk_logs.specs.declared.text.line.LogLine.{LogLine}
+use Rattle.monk_logs.specs.declared.text.line.LogLine.TheVariants.{Enter, Resume, Lapse, Leave, Wait, Signal, Broadcast, Until, Act}
 use Rattle.monk_logs.specs.declared.order.Order.{Order}
 use Rattle.monk_logs.specs.declared.order.Order.TheVariants.{Fifo, Wake, Any}
-use Rattle.monk_logs.specs.declared.pending.Pending.{Pending}
-use Rattle.monk_logs.specs.declared.pending.Pending.TheVariants.{Settled, Half, Release}
-use Rattle.monk_logs.specs.declared.step.Step.TheVariants.{Did, Lapsed}
+use Rattle.monk_logs.specs.declared.board.pending.Pending.{Pending}
+use Rattle.monk_logs.specs.declared.board.pending.Pending.TheVariants.{Settled, Half, Release}
+use Rattle.monk_logs.specs.declared.board.step.Step.TheVariants.{Did, Lapsed}
 use Rattle.monk_logs.proofs.BoardLaws.Exact.{judged_open, open_judged}
 use Rattle.monk_logs.proofs.CourseLaws.Soundness.{cond_some}
 use Rattle.monk_logs.proofs.CourseLaws.Tests.{passed}

@@ -13,8 +13,8 @@ use Rattle.monk_logs.specs.Board.{given_by, waiting_item}
 use Rattle.monk_logs.specs.Items.{line, seats_in, services_in, unserved_in, condition_of, services, without_seat, taken_out}
 use Rattle.monk_logs.specs.Items.{without_service}
 use Rattle.monk_logs.specs.Order.{is_among}
-use Rattle.monk_logs.specs.declared.item.Item.{Item}
-use Rattle.monk_logs.specs.declared.item.Item.TheVariants.{Waiting, Service}
+use Rattle.monk_logs.specs.declared.board.item.Item.{Item}
+use Rattle.monk_logs.specs.declared.board.item.Item.TheVariants.{Waiting, Service}
 use Rattle.monk_logs.specs.declared.order.Order.{Order}
 use Rattle.monk_logs.proofs.LapseLaws.FewerIn.{FewerIn, fewer_all, fewer_gifts, fewer_joined}
 use Rattle.monk_logs.proofs.OrderLaws.Lines.{all_seats, line-append, line_given, line_given_other, no_service, service_there}

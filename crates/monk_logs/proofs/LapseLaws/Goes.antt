@@ -6,7 +6,7 @@ use Rattle.monk_logs.specs.Items.{line, seats_in, services_in, keeps_up, conditi
 use Rattle.monk_logs.specs.Items.{may_lapse}
 use Rattle.monk_logs.specs.Items.{has_service_behind, may_resume, taken_out, was_served}
 use Rattle.monk_logs.specs.Order.{is_among}
-use Rattle.monk_logs.specs.declared.item.Item.{Item}
+use Rattle.monk_logs.specs.declared.board.item.Item.{Item}
 use Rattle.monk_logs.specs.declared.order.Order.{Order}
 use Rattle.monk_logs.specs.declared.order.Order.TheVariants.{Fifo, Wake, Any}
 use Rattle.monk_logs.proofs.LapseLaws.Fewer.{Fewer, few_in_all, same_condition, same_line, same_seats, waitings, waitings_lapsed}

@@ -18,7 +18,7 @@ use Rattle.monk_logs.specs.Board.{waiting_item}
 use Rattle.monk_logs.specs.Chances.{may_signal_by}
 use Rattle.monk_logs.specs.Items.{keeps_up, line, unserved_in, may_resume, services}
 use Rattle.monk_logs.specs.Order.{is_among}
-use Rattle.monk_logs.specs.declared.item.Item.{Item}
+use Rattle.monk_logs.specs.declared.board.item.Item.{Item}
 use Rattle.monk_logs.specs.declared.order.Order.TheVariants.{Any}
 use Rattle.monk_logs.proofs.LapseLaws.Fewer.{Fewer, empty_more, fewer_came, fewer_given, no_services}
 use Rattle.monk_logs.proofs.LapseLaws.Goes.{fewer_taken}

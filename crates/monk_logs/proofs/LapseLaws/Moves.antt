@@ -13,7 +13,7 @@ use Rattle.monk_logs.specs.Chances.{Chances, may_choose_by, may_signal_by}
 use Rattle.monk_logs.specs.Items.{may_resume, services}
 use Rattle.monk_logs.specs.Order.{apart, is_among}
 use Rattle.monk_logs.specs.Run.{taken_signaller}
-use Rattle.monk_logs.specs.declared.item.Item.{Item}
+use Rattle.monk_logs.specs.declared.board.item.Item.{Item}
 use Rattle.monk_logs.specs.declared.order.Order.TheVariants.{Any}
 use Rattle.monk_logs.proofs.OrderLaws.Lists.{among-append, among_here, same_number}
 

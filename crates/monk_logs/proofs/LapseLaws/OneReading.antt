@@ -21,13 +21,13 @@ use Rattle.monk_logs.specs.Course.{due_from}
 use Rattle.monk_logs.specs.Items.{can_be_served, can_be_unserved, condition_of, keeps_up, line, may_lapse, may_resume, seats_in, services}
 use Rattle.monk_logs.specs.Items.{services_in, unserved_in}
 use Rattle.monk_logs.specs.Order.{is_among}
-use Rattle.monk_logs.specs.declared.item.Item.{Item}
-use Rattle.monk_logs.specs.declared.item.Item.TheVariants.{Waiting}
-use Rattle.monk_logs.specs.declared.line.LogLine.TheVariants.{Resume, Lapse}
+use Rattle.monk_logs.specs.declared.board.item.Item.{Item}
+use Rattle.monk_logs.specs.declared.board.item.Item.TheVariants.{Waiting}
+use Rattle.monk_logs.specs.declared.text.line.LogLine.TheVariants.{Resume, Lapse}
 use Rattle.monk_logs.specs.declared.order.Order.{Order}
 use Rattle.monk_logs.specs.declared.order.Order.TheVariants.{Fifo, Wake, Any}
-use Rattle.monk_logs.specs.declared.pending.Pending.{Pending}
-use Rattle.monk_logs.specs.declared.pending.Pending.TheVariants.{Settled, Half, Release}
+use Rattle.monk_logs.specs.declared.board.pending.Pending.{Pending}
+use Rattle.monk_logs.specs.declared.board.pending.Pending.TheVariants.{Settled, Half, Release}
 use Rattle.monk_logs.proofs.LapseLaws.Lines.{known_did, known_lapsed, then_did}
 use Rattle.monk_logs.proofs.LapseLaws.Moved.{empty_is}
 use Rattle.monk_logs.proofs.LapseLaws.Read.{IsRelease, goes_as_waiter, not_due, standing}

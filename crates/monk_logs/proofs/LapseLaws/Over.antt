@@ -31,10 +31,10 @@ use Rattle.monk_logs.specs.declared.blame.Blame.{Blame}
 use Rattle.monk_logs.specs.declared.blame.Blame.TheVariants.{Range, Call, Turn as TurnBlame, Place, Reply, Unserved, Served}
 use Rattle.monk_logs.specs.declared.blame.Blame.TheVariants.{Order as OrderBlame, Choice}
 use Rattle.monk_logs.specs.declared.lapses.Lapses.TheVariants.{Allowed}
-use Rattle.monk_logs.specs.declared.item.Item.{Item}
-use Rattle.monk_logs.specs.declared.line.LogLine.TheVariants.{Resume, Lapse}
+use Rattle.monk_logs.specs.declared.board.item.Item.{Item}
+use Rattle.monk_logs.specs.declared.text.line.LogLine.TheVariants.{Resume, Lapse}
 use Rattle.monk_logs.specs.declared.order.Order.{Order}
-use Rattle.monk_logs.specs.declared.pending.Pending.TheVariants.{Settled, Half, Release}
+use Rattle.monk_logs.specs.declared.board.pending.Pending.TheVariants.{Settled, Half, Release}
 use Rattle.monk_logs.proofs.LapseLaws.Read.{not_due, standing}
 use Rattle.monk_logs.proofs.LapseLaws.Resuming.{items_behind}
 use Rattle.monk_logs.proofs.StepLaws.{next_with}

@@ -26,14 +26,14 @@ use Rattle.monk_logs.specs.Course.{due_from}
 use Rattle.monk_logs.specs.Items.{condition_of, line, may_lapse, may_resume, unserved_in}
 use Rattle.monk_logs.specs.Lapses.{as_lapse}
 use Rattle.monk_logs.specs.Order.{is_among}
-use Rattle.monk_logs.specs.declared.item.Item.{Item}
-use Rattle.monk_logs.specs.declared.line.LogLine.{LogLine}
-use Rattle.monk_logs.specs.declared.line.LogLine.TheVariants.{Enter, Resume, Lapse, Leave, Wait, Signal, Broadcast, Until, Act}
+use Rattle.monk_logs.specs.declared.board.item.Item.{Item}
+use Rattle.monk_logs.specs.declared.text.line.LogLine.{LogLine}
+use Rattle.monk_logs.specs.declared.text.line.LogLine.TheVariants.{Enter, Resume, Lapse, Leave, Wait, Signal, Broadcast, Until, Act}
 use Rattle.monk_logs.specs.declared.order.Order.{Order}
 use Rattle.monk_logs.specs.declared.order.Order.TheVariants.{Any}
-use Rattle.monk_logs.specs.declared.pending.Pending.{Pending}
-use Rattle.monk_logs.specs.declared.pending.Pending.TheVariants.{Settled, Half, Release}
-use Rattle.monk_logs.specs.declared.step.Step.TheVariants.{Did}
+use Rattle.monk_logs.specs.declared.board.pending.Pending.{Pending}
+use Rattle.monk_logs.specs.declared.board.pending.Pending.TheVariants.{Settled, Half, Release}
+use Rattle.monk_logs.specs.declared.board.step.Step.TheVariants.{Did}
 use Rattle.monk_logs.proofs.LapseLaws.Fewer.{Fewer, empty_more, fewer_came, fewer_given, same_condition, same_seats}
 use Rattle.monk_logs.proofs.LapseLaws.Lines.{Below, Follows, follows_by, half_follows, known_did, known_lapsed, lapsed_ok}
 use Rattle.monk_logs.proofs.LapseLaws.Lines.{line_follows, then_did}

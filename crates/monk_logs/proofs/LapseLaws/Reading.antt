@@ -17,9 +17,9 @@ use Rattle.monk_logs.specs.ReadStand.{board_read_over, either_blame}
 use Rattle.monk_logs.specs.declared.blame.Blame.{Blame}
 use Rattle.monk_logs.specs.declared.blame.Blame.TheVariants.{Served, Choice}
 use Rattle.monk_logs.specs.declared.lapses.Lapses.TheVariants.{Allowed}
-use Rattle.monk_logs.specs.declared.line.LogLine.TheVariants.{Resume, Lapse}
+use Rattle.monk_logs.specs.declared.text.line.LogLine.TheVariants.{Resume, Lapse}
 use Rattle.monk_logs.specs.declared.order.Order.{Order}
-use Rattle.monk_logs.specs.declared.pending.Pending.TheVariants.{Release}
+use Rattle.monk_logs.specs.declared.board.pending.Pending.TheVariants.{Release}
 use Rattle.monk_logs.proofs.LapseLaws.Over.{read_lapse_over, read_neither_over, read_told_over}
 use Rattle.monk_logs.proofs.ToldLaws.{told_found, told_moved}
 

@@ -14,8 +14,8 @@ use Rattle.monk_logs.specs.Board.{Board, board_after, board_lapse, items_with, w
 use Rattle.monk_logs.specs.BoardCourse.{board_settled}
 use Rattle.monk_logs.specs.Items.{condition_of, is_waiting_of, keeps_up, without_seat, line, may_lapse, may_resume, taken_out}
 use Rattle.monk_logs.specs.Order.{is_among}
-use Rattle.monk_logs.specs.declared.item.Item.{Item}
-use Rattle.monk_logs.specs.declared.item.Item.TheVariants.{Waiting, Service}
+use Rattle.monk_logs.specs.declared.board.item.Item.{Item}
+use Rattle.monk_logs.specs.declared.board.item.Item.TheVariants.{Waiting, Service}
 use Rattle.monk_logs.specs.declared.order.Order.TheVariants.{Any}
 use Rattle.monk_logs.proofs.LapseLaws.Fewer.{Fewer, fewer_came, fewer_given, same_seats}
 use Rattle.monk_logs.proofs.LapseLaws.Goes.{fewer_mixed, fewer_turned, keeps_gone, lapse_from}

@@ -23,7 +23,7 @@ use Rattle.monk_logs.specs.Board.{waiting_item}
 use Rattle.monk_logs.specs.Chances.{Chances, may_choose_by}
 use Rattle.monk_logs.specs.Items.{line, may_resume, taken_out, unserved_in}
 use Rattle.monk_logs.specs.Order.{apart, is_among}
-use Rattle.monk_logs.specs.declared.item.Item.{Item}
+use Rattle.monk_logs.specs.declared.board.item.Item.{Item}
 use Rattle.monk_logs.specs.declared.order.Order.{Order}
 use Rattle.monk_logs.proofs.CourseLaws.Tests.{called_with}
 use Rattle.monk_logs.proofs.LapseLaws.Moves.{IsLevel, with_items}

@@ -14,9 +14,9 @@ use Rattle.monk_logs.specs.ReadStand.{FitsExactlyWith, MisfitsExactlyWith, board
 use Rattle.monk_logs.specs.declared.blame.Blame.{Blame}
 use Rattle.monk_logs.specs.declared.lapses.Lapses.{Lapses}
 use Rattle.monk_logs.specs.declared.lapses.Lapses.TheVariants.{Told, Allowed}
-use Rattle.monk_logs.specs.declared.line.LogLine.{LogLine}
+use Rattle.monk_logs.specs.declared.text.line.LogLine.{LogLine}
 use Rattle.monk_logs.specs.declared.order.Order.{Order}
-use Rattle.monk_logs.specs.declared.pending.Pending.{Pending}
+use Rattle.monk_logs.specs.declared.board.pending.Pending.{Pending}
 use Rattle.monk_logs.proofs.BoardLaws.Exact.{open_front}
 use Rattle.monk_logs.proofs.BoardLaws.Standing.{over_same}
 use Rattle.monk_logs.proofs.LapseLaws.Exact.{lapses_exact}

@@ -9,10 +9,10 @@ use Rattle.monk_history.proofs.PublicLaws.Texts.{act_again, act_takes}
 use Rattle.monk_history.proofs.PublicLaws.Texts.{bind_ok, ok_is, number_takes, number_again, one_of_takes, one_of_again, end_takes}
 use Rattle.monk_logs.specs.Log.{log_words, LineFits}
 use Rattle.monk_logs.specs.Log.Reading.{log_verb_word, log_verbs, line_after, log_line_at}
-use Rattle.monk_logs.specs.declared.line.LogLine.{LogLine}
-use Rattle.monk_logs.specs.declared.line.LogLine.TheVariants.{Enter, Resume, Lapse, Leave, Wait, Signal, Broadcast, Until, Act}
-use Rattle.monk_logs.specs.declared.verb.Verb.{Verb}
-use Rattle.monk_logs.specs.declared.verb.Verb.TheVariants as verb
+use Rattle.monk_logs.specs.declared.text.line.LogLine.{LogLine}
+use Rattle.monk_logs.specs.declared.text.line.LogLine.TheVariants.{Enter, Resume, Lapse, Leave, Wait, Signal, Broadcast, Until, Act}
+use Rattle.monk_logs.specs.declared.text.verb.Verb.{Verb}
+use Rattle.monk_logs.specs.declared.text.verb.Verb.TheVariants as verb
 
 verb_again : (v : Verb) → with_text log_verb_word log_verbs (log_verb_word v) ≡ Some v
 verb_again verb.Enter = refl

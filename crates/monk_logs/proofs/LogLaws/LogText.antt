@@ -9,8 +9,8 @@ use Rattle.monk_history.proofs.PublicLaws.Formats as formats
 use Rattle.monk_history.proofs.PublicLaws.Formats.{IsFormat}
 use Rattle.monk_logs.specs.Log.{LogHeading, IsLogHeading, HasLogText, LineFits, log_header_words, log_words, log_text}
 use Rattle.monk_logs.specs.Log.Reading.{Log, log, log_view, log_header_at, line_under, log_at}
-use Rattle.monk_logs.specs.declared.line.LogLine.{LogLine}
-use Rattle.monk_logs.specs.declared.line.LogLine.TheVariants.{Enter, Resume, Lapse, Leave, Wait, Signal, Broadcast, Until, Act}
+use Rattle.monk_logs.specs.declared.text.line.LogLine.{LogLine}
+use Rattle.monk_logs.specs.declared.text.line.LogLine.TheVariants.{Enter, Resume, Lapse, Leave, Wait, Signal, Broadcast, Until, Act}
 use Rattle.monk_logs.proofs.LogLaws.HeaderReading.{log_header_takes, log_header_again}
 use Rattle.monk_logs.proofs.LogLaws.LineReading.{log_line_takes, log_line_again}
 use Rattle.monk_logs.proofs.LogLaws.PlainLogs.{header_are_words, line_are_words}

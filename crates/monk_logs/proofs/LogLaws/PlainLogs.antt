@@ -2,9 +2,9 @@
 use Rattle.std.proofs.Common.{refl, arith}
 use Rattle.monk_history.proofs.PublicLaws.Texts.{AreWords, IsWord-decimal, decimal_word, object_is_word}
 use Rattle.monk_logs.specs.Log.{LogHeading, IsLogHeading, log_header_words, log_version, log_words, LineFits}
-use Rattle.monk_logs.specs.declared.line.LogLine.{LogLine}
+use Rattle.monk_logs.specs.declared.text.line.LogLine.{LogLine}
 use Rattle.monk_logs.proofs.LogLaws.HeaderReading.{small_version}
-use Rattle.monk_logs.specs.declared.line.LogLine.TheVariants.{Enter, Resume, Lapse, Leave, Wait, Signal, Broadcast, Until, Act}
+use Rattle.monk_logs.specs.declared.text.line.LogLine.TheVariants.{Enter, Resume, Lapse, Leave, Wait, Signal, Broadcast, Until, Act}
 
 pub line_are_words : (l : LogLine) → LineFits l → AreWords (log_words l)
 line_are_words (Enter s) fits = rw (decimal_word s fits) refl

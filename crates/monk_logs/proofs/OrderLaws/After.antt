@@ -17,8 +17,8 @@ use Rattle.monk_logs.specs.Board.{Board, board_after, chosen_out, items_with, si
 use Rattle.monk_logs.specs.Items.{line, seats_in, unserved_in}
 use Rattle.monk_logs.specs.Order.{is_among, apart}
 use Rattle.monk_logs.specs.Run.{chosen_waiter}
-use Rattle.monk_logs.specs.declared.item.Item.{Item}
-use Rattle.monk_logs.specs.declared.item.Item.TheVariants.{Waiting, Service}
+use Rattle.monk_logs.specs.declared.board.item.Item.{Item}
+use Rattle.monk_logs.specs.declared.board.item.Item.TheVariants.{Waiting, Service}
 use Rattle.monk_logs.proofs.OrderLaws.Choosing.{less_among}
 use Rattle.monk_logs.proofs.OrderLaws.Counts.{counts_one}
 use Rattle.monk_logs.proofs.OrderLaws.Leads.{less}

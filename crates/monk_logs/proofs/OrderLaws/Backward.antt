@@ -16,8 +16,8 @@ use Rattle.monk_logs.specs.Chances.{chances, permits_by}
 use Rattle.monk_logs.specs.Items.{line, seats_in, keeps_up, was_served}
 use Rattle.monk_logs.specs.Order.{is_among, apart, may_go}
 use Rattle.monk_logs.specs.Run.{AreWaiters, IsAfter, IsMove, chosen_waiter, queues_with, taken_signaller}
-use Rattle.monk_logs.specs.declared.item.Item.{Item}
-use Rattle.monk_logs.specs.declared.item.Item.TheVariants.{Waiting}
+use Rattle.monk_logs.specs.declared.board.item.Item.{Item}
+use Rattle.monk_logs.specs.declared.board.item.Item.TheVariants.{Waiting}
 use Rattle.monk_logs.specs.declared.order.Order.{Order}
 use Rattle.monk_logs.specs.declared.order.Order.TheVariants.{Wake, Any}
 use Rattle.monk_logs.proofs.OrderLaws.After.{among_apart, apart_it, apart_none, apart_other, apart_same, apart_twice, condition_after}

@@ -7,7 +7,7 @@ use Rattle.monk_history.specs.Meaning.Choice.{is_front}
 use Rattle.monk_logs.specs.Items.{line, seats_in, services_in, services, keeps_up, can_be_served, condition_of}
 use Rattle.monk_logs.specs.Items.{may_resume, taken_out, was_served}
 use Rattle.monk_logs.specs.Order.{is_among}
-use Rattle.monk_logs.specs.declared.item.Item.{Item}
+use Rattle.monk_logs.specs.declared.board.item.Item.{Item}
 use Rattle.monk_logs.specs.declared.order.Order.{Order}
 use Rattle.monk_logs.specs.declared.order.Order.TheVariants.{Fifo, Wake, Any}
 use Rattle.monk_logs.proofs.OrderLaws.Chances.{IsLoose}

@@ -12,8 +12,8 @@ use Rattle.monk_logs.specs.Order.{is_among}
 use Rattle.monk_logs.specs.Run.{IsRun, Runs}
 use Rattle.monk_logs.specs.declared.order.Order.{Order}
 use Rattle.monk_logs.specs.declared.order.Order.TheVariants.{Fifo, Wake, Any}
-use Rattle.monk_logs.specs.declared.step.Step.{Step}
-use Rattle.monk_logs.specs.declared.step.Step.TheVariants.{Did, Lapsed}
+use Rattle.monk_logs.specs.declared.board.step.Step.{Step}
+use Rattle.monk_logs.specs.declared.board.step.Step.TheVariants.{Did, Lapsed}
 use Rattle.monk_logs.proofs.FifoLaws.Boards.{Alike, follows_in_turn, lapse_in_turn, lapse_leads_in_turn, leads_in_turn}
 use Rattle.monk_logs.proofs.OrderLaws.Backward.{leads}
 use Rattle.monk_logs.proofs.OrderLaws.Chances.{IsLoose, loose_or_not}

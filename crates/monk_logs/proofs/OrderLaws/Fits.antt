@@ -4,8 +4,8 @@ use Rattle.std.proofs.Common.{⊎_elim, arith, subst, length, Option, None, appe
 use Rattle.std.proofs.lemmas.Bool.{cases_eq, false_from_ne_true}
 use Rattle.monk_logs.specs.Items.{line, seats_in, services_in, unserved_in}
 use Rattle.monk_logs.specs.Order.{is_among, may_be_served}
-use Rattle.monk_logs.specs.declared.item.Item.{Item}
-use Rattle.monk_logs.specs.declared.item.Item.TheVariants.{Service}
+use Rattle.monk_logs.specs.declared.board.item.Item.{Item}
+use Rattle.monk_logs.specs.declared.board.item.Item.TheVariants.{Service}
 use Rattle.monk_logs.specs.declared.order.Order.{Order}
 use Rattle.monk_logs.proofs.OrderLaws.Lists.{AgreeBut, AgreeOn, Distinct, agree_apart}
 use Rattle.monk_logs.proofs.OrderLaws.Covers.{Covers, covers_agree, covers_count, served_more}

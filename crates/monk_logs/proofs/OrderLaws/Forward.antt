@@ -21,8 +21,8 @@ use Rattle.monk_logs.specs.Chances.{chances, permits_by}
 use Rattle.monk_logs.specs.Items.{line, seats_in, unserved_in}
 use Rattle.monk_logs.specs.Order.{is_among, apart, may_be_served, may_go}
 use Rattle.monk_logs.specs.Run.{AreWaiters, IsMove, Serves, ServesAny, chosen_waiter, queues_with, taken_signaller}
-use Rattle.monk_logs.specs.declared.item.Item.{Item}
-use Rattle.monk_logs.specs.declared.item.Item.TheVariants.{Service, Waiting}
+use Rattle.monk_logs.specs.declared.board.item.Item.{Item}
+use Rattle.monk_logs.specs.declared.board.item.Item.TheVariants.{Service, Waiting}
 use Rattle.monk_logs.specs.declared.order.Order.{Order}
 use Rattle.monk_logs.specs.declared.order.Order.TheVariants.{Fifo, Wake, Any}
 use Rattle.monk_logs.proofs.OrderLaws.After.{among_one, apart_it, apart_none, apart_other, apart_twice, comes_new, condition_after}

@@ -9,7 +9,7 @@ use Rattle.monk_logs.specs.Board.{Board, board_lapse}
 use Rattle.monk_logs.specs.Items.{line, seats_in, without_seat, may_lapse}
 use Rattle.monk_logs.specs.Order.{is_among, apart}
 use Rattle.monk_logs.specs.Run.{IsLapse}
-use Rattle.monk_logs.specs.declared.item.Item.{Item}
+use Rattle.monk_logs.specs.declared.board.item.Item.{Item}
 use Rattle.monk_logs.specs.declared.order.Order.{Order}
 use Rattle.monk_logs.proofs.OrderLaws.After.{among_apart, filter_both}
 use Rattle.monk_logs.proofs.OrderLaws.Coming.{lapse_fits, may_lapse_it, unlapse}

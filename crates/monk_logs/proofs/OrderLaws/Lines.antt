@@ -5,8 +5,8 @@ use Rattle.std.proofs.lemmas.Bool.{cases_eq, false≢true, false_from_ne_true, n
 use Rattle.monk_logs.specs.Items.{line, seats_in, services_in, has_service, has_service_behind, condition_of, services, without_service}
 use Rattle.monk_logs.specs.Items.{taken_out, without_seat}
 use Rattle.monk_logs.specs.Order.{is_among}
-use Rattle.monk_logs.specs.declared.item.Item.{Item}
-use Rattle.monk_logs.specs.declared.item.Item.TheVariants.{Waiting, Service}
+use Rattle.monk_logs.specs.declared.board.item.Item.{Item}
+use Rattle.monk_logs.specs.declared.board.item.Item.TheVariants.{Waiting, Service}
 use Rattle.monk_logs.proofs.OrderLaws.Lists.{Distinct, among_here, among_later, among_others, apart_from}
 use Rattle.monk_logs.proofs.OrderLaws.Covers.{lapsed_in, one_less, seats_one_less, taken_in}
 use Rattle.monk_logs.proofs.OrderLaws.Leads.{less, without}

@@ -9,7 +9,7 @@ use Rattle.monk_history.specs.Meaning.Turn.{turn_by}
 use Rattle.monk_logs.specs.Board.{chosen_out}
 use Rattle.monk_logs.specs.Order.{is_among, apart}
 use Rattle.monk_logs.specs.Run.{taken_signaller}
-use Rattle.monk_logs.specs.declared.item.Item.{Item}
+use Rattle.monk_logs.specs.declared.board.item.Item.{Item}
 use Rattle.monk_logs.proofs.OrderLaws.Counts.{times-append, times_apart_one, times_filter, times_less, times_untils}
 use Rattle.monk_logs.proofs.OrderLaws.Counts.{until_seats, untils_taken}
 use Rattle.monk_logs.proofs.OrderLaws.Lines.{all_seats, all_seats-append, all_seats_taken}

@@ -28,8 +28,8 @@ use Rattle.monk_logs.specs.Chances.{Chances, may_signal_by, may_choose_by}
 use Rattle.monk_logs.specs.Items.{line, unserved_in}
 use Rattle.monk_logs.specs.Order.{apart}
 use Rattle.monk_logs.specs.Run.{taken_signaller}
-use Rattle.monk_logs.specs.declared.item.Item.{Item}
-use Rattle.monk_logs.specs.declared.item.Item.TheVariants.{Service, Waiting}
+use Rattle.monk_logs.specs.declared.board.item.Item.{Item}
+use Rattle.monk_logs.specs.declared.board.item.Item.TheVariants.{Service, Waiting}
 use Rattle.monk_logs.specs.declared.order.Order.{Order}
 use Rattle.monk_logs.proofs.OrderLaws.Choosing.{resume_served, resume_there}
 use Rattle.monk_logs.proofs.OrderLaws.Counts.{counts_one, counts_none, ready_waits, times-append, until_seats}

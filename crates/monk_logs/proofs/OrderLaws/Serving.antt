@@ -4,8 +4,8 @@ use Rattle.std.proofs.Common.{⊎_elim, subst, Option, append-nil, append_assoc,
 use Rattle.std.proofs.lemmas.Bool.{cases_eq, ne_eqb, and_parts, or_right}
 use Rattle.monk_logs.specs.Items.{line, seats_in}
 use Rattle.monk_logs.specs.Order.{is_among, may_be_served}
-use Rattle.monk_logs.specs.declared.item.Item.{Item}
-use Rattle.monk_logs.specs.declared.item.Item.TheVariants.{Service}
+use Rattle.monk_logs.specs.declared.board.item.Item.{Item}
+use Rattle.monk_logs.specs.declared.board.item.Item.TheVariants.{Service}
 use Rattle.monk_logs.specs.declared.order.Order.{Order}
 use Rattle.monk_logs.proofs.OrderLaws.Lists.{AgreeBut, AgreeOn, Distinct, IsLast, SomeLast, agree_apart, apart_from, find_last, last_among}
 use Rattle.monk_logs.proofs.OrderLaws.Lists.{last_passes, same_number}

@@ -20,8 +20,8 @@ use Rattle.monk_logs.specs.Chances.{Chances, may_choose_by, may_signal_by, permi
 use Rattle.monk_logs.specs.Items.{line, seats_in, services_in, unserved_in, keeps_up, without_seat, may_lapse, may_resume, taken_out}
 use Rattle.monk_logs.specs.Items.{can_be_served, can_be_unserved, was_served}
 use Rattle.monk_logs.specs.Order.{is_among}
-use Rattle.monk_logs.specs.declared.item.Item.{Item}
-use Rattle.monk_logs.specs.declared.item.Item.TheVariants.{Waiting, Service}
+use Rattle.monk_logs.specs.declared.board.item.Item.{Item}
+use Rattle.monk_logs.specs.declared.board.item.Item.TheVariants.{Waiting, Service}
 use Rattle.monk_logs.specs.declared.order.Order.{Order}
 use Rattle.monk_logs.specs.declared.order.Order.TheVariants.{Fifo, Wake, Any}
 use Rattle.monk_logs.proofs.OrderLaws.Choosing.{can_there, resume_served}

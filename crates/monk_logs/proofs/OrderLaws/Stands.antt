@@ -21,7 +21,7 @@ use Rattle.monk_history.specs.Meaning.Untils.{ready_of}
 use Rattle.monk_logs.specs.Board.{Board, sight}
 use Rattle.monk_logs.specs.Items.{line, seats_in, services_in, services, unserved_in}
 use Rattle.monk_logs.specs.Order.{is_among, apart}
-use Rattle.monk_logs.specs.declared.item.Item.{Item}
+use Rattle.monk_logs.specs.declared.board.item.Item.{Item}
 use Rattle.monk_logs.specs.declared.order.Order.{Order}
 use Rattle.monk_logs.proofs.OrderLaws.Covers.{Covers, chosen_goes}
 use Rattle.monk_logs.proofs.OrderLaws.Fits.{Fits, as_many}

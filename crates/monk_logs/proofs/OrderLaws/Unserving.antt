@@ -11,8 +11,8 @@ use Rattle.monk_logs.specs.Board.{Board, items_with}
 use Rattle.monk_logs.specs.Items.{line, seats_in, services_in, unserved_in, keeps_up}
 use Rattle.monk_logs.specs.Order.{is_among, apart, may_be_served}
 use Rattle.monk_logs.specs.Run.{Serves, ServesAny}
-use Rattle.monk_logs.specs.declared.item.Item.{Item}
-use Rattle.monk_logs.specs.declared.item.Item.TheVariants.{Service}
+use Rattle.monk_logs.specs.declared.board.item.Item.{Item}
+use Rattle.monk_logs.specs.declared.board.item.Item.TheVariants.{Service}
 use Rattle.monk_logs.specs.declared.order.Order.{Order}
 use Rattle.monk_logs.specs.declared.order.Order.TheVariants.{Fifo, Wake, Any}
 use Rattle.monk_logs.proofs.OrderLaws.After.{among_apart}

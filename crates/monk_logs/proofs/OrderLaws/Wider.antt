@@ -11,8 +11,8 @@ use Rattle.monk_logs.specs.Order.{is_among, may_be_served, may_go}
 use Rattle.monk_logs.specs.Run.{AreWaiters, IsMove, Runs, Serves, ServesAny, queues_with}
 use Rattle.monk_logs.specs.declared.order.Order.{Order}
 use Rattle.monk_logs.specs.declared.order.Order.TheVariants.{Fifo, Wake, Any}
-use Rattle.monk_logs.specs.declared.step.Step.{Step}
-use Rattle.monk_logs.specs.declared.step.Step.TheVariants.{Did, Lapsed}
+use Rattle.monk_logs.specs.declared.board.step.Step.{Step}
+use Rattle.monk_logs.specs.declared.board.step.Step.TheVariants.{Did, Lapsed}
 use Rattle.monk_logs.proofs.OrderLaws.Chances.{permits_like}
 use Rattle.monk_logs.proofs.OrderLaws.Passes.{front_among}
 

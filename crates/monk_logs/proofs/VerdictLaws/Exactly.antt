@@ -5,7 +5,7 @@ use Rattle.monk_history.specs.Meaning.Monitor.{Monitor}
 use Rattle.monk_logs.specs.Exactly.{IsFirstWithout, IsVerdictBy, FitsExactlyBy, MisfitsExactlyBy, misfit_at}
 use Rattle.monk_logs.specs.Fits.{IsOpen}
 use Rattle.monk_logs.specs.Verdict.{IsVerdictOn, FitsExactly, MisfitsExactly}
-use Rattle.monk_logs.specs.declared.line.LogLine.{LogLine}
+use Rattle.monk_logs.specs.declared.text.line.LogLine.{LogLine}
 use Rattle.monk_logs.specs.declared.verdict.LogVerdict.{LogVerdict}
 use Rattle.monk_logs.specs.declared.verdict.LogVerdict.TheVariants.{Fits, Misfit}
 use Rattle.monk_logs.proofs.CourseLaws.Soundness.{open_front}

@@ -23,10 +23,10 @@ use Rattle.monk_logs.specs.Course.{due_from, told_release}
 use Rattle.monk_logs.specs.Stand.{Stand, stand, stand_settled, add_to, settled_by, settle, hold_over}
 use Rattle.monk_logs.specs.Stand.{line_settled, line_half, line_then, line_told, line_behind}
 use Rattle.monk_logs.specs.declared.blame.Blame.{Blame}
-use Rattle.monk_logs.specs.declared.line.LogLine.{LogLine}
-use Rattle.monk_logs.specs.declared.line.LogLine.TheVariants.{Enter, Resume, Lapse, Leave, Wait, Signal, Broadcast, Until, Act}
-use Rattle.monk_logs.specs.declared.pending.Pending.{Pending}
-use Rattle.monk_logs.specs.declared.pending.Pending.TheVariants.{Settled, Half, Release}
+use Rattle.monk_logs.specs.declared.text.line.LogLine.{LogLine}
+use Rattle.monk_logs.specs.declared.text.line.LogLine.TheVariants.{Enter, Resume, Lapse, Leave, Wait, Signal, Broadcast, Until, Act}
+use Rattle.monk_logs.specs.declared.board.pending.Pending.{Pending}
+use Rattle.monk_logs.specs.declared.board.pending.Pending.TheVariants.{Settled, Half, Release}
 use Rattle.monk_logs.proofs.CourseLaws.Events.{via_same}
 use Rattle.monk_logs.proofs.CourseLaws.Soundness.{added}
 

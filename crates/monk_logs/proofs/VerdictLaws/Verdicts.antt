@@ -12,7 +12,7 @@ use Rattle.monk_logs.specs.Course.{Course, settled_course, judge, judge_from, be
 use Rattle.monk_logs.specs.Fits.{IsOpen}
 use Rattle.monk_logs.specs.Stand.{Stand, stand_settled, line_over, verdict_from, verdict_on}
 use Rattle.monk_logs.specs.declared.blame.Blame.{Blame}
-use Rattle.monk_logs.specs.declared.line.LogLine.{LogLine}
+use Rattle.monk_logs.specs.declared.text.line.LogLine.{LogLine}
 use Rattle.monk_logs.specs.declared.verdict.LogVerdict.TheVariants.{Fits}
 use Rattle.monk_logs.proofs.CourseLaws.Lists.{judge_from-append}
 use Rattle.monk_logs.proofs.CourseLaws.Soundness.{judged_legal}

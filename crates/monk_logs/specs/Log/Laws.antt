@@ -1,6 +1,6 @@
 -- What joins logs and their texts.
 use Rattle.std.specs.Prelude.{◌≡◌, List}
-use Rattle.monk_logs.specs.declared.line.LogLine.{LogLine}
+use Rattle.monk_logs.specs.declared.text.line.LogLine.{LogLine}
 use Rattle.monk_logs.specs.Log.{LogHeading, HasLogText, log_text}
 use Rattle.monk_logs.specs.Log.Reading.{log}
 

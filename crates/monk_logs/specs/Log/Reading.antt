@@ -9,10 +9,10 @@ use Rattle.monk_history.specs.Text.Lines.{lines_of, lines_at}
 use Rattle.monk_history.specs.Text.Reading.{act_at}
 use Rattle.monk_history.specs.Text.Words.{◌>>=◌, Word, Taken, number_at, one_of, literal_at, end_at, with_rest}
 use Rattle.monk_logs.specs.Log.{LogHeading, log_heading, log_version}
-use Rattle.monk_logs.specs.declared.line.LogLine.{LogLine}
-use Rattle.monk_logs.specs.declared.line.LogLine.TheVariants.{Enter, Resume, Lapse, Leave, Wait, Signal, Broadcast, Until, Act}
-use Rattle.monk_logs.specs.declared.verb.Verb.{Verb}
-use Rattle.monk_logs.specs.declared.verb.Verb.TheVariants as verb
+use Rattle.monk_logs.specs.declared.text.line.LogLine.{LogLine}
+use Rattle.monk_logs.specs.declared.text.line.LogLine.TheVariants.{Enter, Resume, Lapse, Leave, Wait, Signal, Broadcast, Until, Act}
+use Rattle.monk_logs.specs.declared.text.verb.Verb.{Verb}
+use Rattle.monk_logs.specs.declared.text.verb.Verb.TheVariants as verb
 
 -- ---- a line
 

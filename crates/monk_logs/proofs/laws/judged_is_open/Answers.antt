@@ -4,7 +4,7 @@ use Rattle.monk_kinds.specs.Kind.{IsKind}
 use Rattle.monk_history.specs.Meaning.Monitor.{Monitor}
 use Rattle.monk_logs.specs.Course.{Course, judge}
 use Rattle.monk_logs.specs.Fits.{IsOpen}
-use Rattle.monk_logs.specs.declared.line.LogLine.{LogLine}
+use Rattle.monk_logs.specs.declared.text.line.LogLine.{LogLine}
 use Rattle.monk_logs.proofs.VerdictLaws.Verdicts.{open_judged}
 use Rattle.monk_logs.proofs.CourseLaws.Soundness.{judged_open}
 use Rattle.monk_logs.proofs.laws.judged_is_open.Goals as goal

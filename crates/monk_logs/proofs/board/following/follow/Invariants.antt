@@ -1,0 +1,29 @@
+use Rattle.std.proofs.Common.{◌≡◌, ◌≤◌, ◌+◌, length}
+use Rattle.std.specs.Prelude.{Ok}
+use Rattle.monk_history.specs.Limits.{most_lines}
+use Rattle.monk_history.specs.Meaning.Monitor.{monitor}
+use Rattle.monk_logs.specs.BoardCourse.{board_course}
+use Rattle.monk_logs.specs.BoardShown.{IsBoardOf, board_shown}
+use Rattle.monk_logs.specs.BoardStand.{IsHeldOver}
+use Rattle.monk_logs.specs.ReadStand.{read_verdict, read_verdict_from}
+use Rattle.monk_logs.specs.Stand.{monitor_in}
+use Rattle.monk_logs.proofs.board.following.follow.Given as goal
+
+abbrev pub invariant-loop-line : goal.invariant-loop-line
+invariant-loop-line g l =
+    let o = g.T.Guarded.meaning in
+    let m = monitor_in l.setting o in
+    let now = board_shown l.board (g.T.Guarded.state l.object) in
+    record {
+      so_far : read_verdict_from l.lapses l.order m l.count (Ok (board_course now l.pending))
+          (g.L.LineSource.left l.lines)
+          ≡ read_verdict l.lapses l.order
+          (monitor l.setting.rules l.setting.seats l.setting.conds o (g.T.Guarded.state l.fn.object))
+          (g.L.LineSource.left l.fn.lines);
+      few : l.count + length (g.L.LineSource.left l.lines) ≤ most_lines;
+      sound : IsBoardOf l.setting.seats l.setting.conds g.T.Guarded.PREDICATES l.board;
+      held : IsHeldOver m now l.pending;
+    }
+
+abbrev pub decreases-loop-line : goal.decreases-loop-line
+decreases-loop-line g l = length (g.L.LineSource.left l.lines)

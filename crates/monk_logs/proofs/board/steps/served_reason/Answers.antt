@@ -1,0 +1,34 @@
+use Rattle.std.proofs.Common.{◌∙◌, Bool, cond, sym, ap}
+use Rattle.monk_logs.specs.Board.{sight}
+use Rattle.monk_logs.specs.BoardMoves.{chances_on}
+use Rattle.monk_logs.specs.BoardShown.{board_shown}
+use Rattle.monk_logs.specs.Chances.{permits_by}
+use Rattle.monk_logs.specs.Stand.{monitor_in}
+use Rattle.monk_logs.proofs.MoveLaws.{reason_goes, reason_stops}
+use Rattle.monk_logs.proofs.board.steps.served_reason.Goals as goal
+
+pub returns-then-early-ne-ALLOWED : goal.returns-then-early-ne-ALLOWED
+returns-then-early-ne-ALLOWED g c =
+    let b = board_shown c.args.board.now (g.T.Guarded.state c.args.object.now) in
+    reason_stops (monitor_in c.args.setting g.T.Guarded.meaning) (sight b) c.args.event
+    (cond (permits_by c.args.setting.rules c.args.stays
+    (chances_on c.args.order g.T.Guarded.meaning b) c.args.event) 0 6)
+    c.call_reason-early.result c.call_reason-early.ensures c.if-early-ne-ALLOWED.true
+
+pub returns-then-permits : goal.returns-then-permits
+returns-then-permits g c =
+    let b = board_shown c.args.board.now (g.T.Guarded.state c.args.object.now) in
+    sym (ap (λ (x : Bool). cond x 0 6) (sym c.permits.ensures ∙ c.if-permits.true))
+    ∙ sym (reason_goes (monitor_in c.args.setting g.T.Guarded.meaning) (sight b) c.args.event
+    (cond (permits_by c.args.setting.rules c.args.stays
+    (chances_on c.args.order g.T.Guarded.meaning b) c.args.event) 0 6)
+    c.call_reason-early.result c.call_reason-early.ensures c.if-early-ne-ALLOWED.false)
+
+pub returns-else-permits : goal.returns-else-permits
+returns-else-permits g c =
+    let b = board_shown c.args.board.now (g.T.Guarded.state c.args.object.now) in
+    sym (ap (λ (x : Bool). cond x 0 6) (sym c.permits.ensures ∙ c.if-permits.false))
+    ∙ sym (reason_goes (monitor_in c.args.setting g.T.Guarded.meaning) (sight b) c.args.event
+    (cond (permits_by c.args.setting.rules c.args.stays
+    (chances_on c.args.order g.T.Guarded.meaning b) c.args.event) 0 6)
+    c.call_reason-early.result c.call_reason-early.ensures c.if-early-ne-ALLOWED.false)

@@ -1,0 +1,30 @@
+use Rattle.std.proofs.Common.{◌≡◌, ◌≤◌, ◌+◌, length}
+use Rattle.monk_history.specs.Limits.{most_lines}
+use Rattle.monk_history.specs.Meaning.Monitor.{monitor}
+use Rattle.monk_logs.specs.BoardCourse.{board_course}
+use Rattle.monk_logs.specs.BoardShown.{IsBoardOf, board_shown}
+use Rattle.monk_logs.specs.BoardStand.{IsHeldOver}
+use Rattle.monk_logs.specs.Counts.{IsWithin, count_state, counts_from, counts_of, items_now}
+use Rattle.monk_logs.specs.Stand.{monitor_in}
+use Rattle.monk_logs.proofs.counts.counting.count_lines.Given as goal
+
+abbrev pub invariant-loop-line : goal.invariant-loop-line
+invariant-loop-line g l =
+    let o = g.T.Guarded.meaning in
+    let m = monitor_in l.setting o in
+    let now = board_shown l.board (g.T.Guarded.state l.object) in
+    record {
+      so_far : counts_from m l.means l.number (count_state (board_course now l.pending) l.tally)
+          (g.L.LineSource.left l.lines)
+          ≡ counts_of (monitor l.setting.rules l.setting.seats l.setting.conds o
+          (g.T.Guarded.state l.fn.object)) l.means
+          (g.L.LineSource.left l.fn.lines);
+      room : l.number + length (g.L.LineSource.left l.lines) ≤ most_lines;
+      items : l.items.items ≡ items_now (board_course now l.pending);
+      few : IsWithin l.number l.tally;
+      sound : IsBoardOf l.setting.seats l.setting.conds g.T.Guarded.PREDICATES l.board;
+      held : IsHeldOver m now l.pending;
+    }
+
+abbrev pub decreases-loop-line : goal.decreases-loop-line
+decreases-loop-line g l = length (g.L.LineSource.left l.lines)

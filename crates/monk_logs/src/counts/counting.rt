@@ -1,0 +1,189 @@
+//! What happens in a log, counted line by line over a board.
+
+ghost use Rattle.std.specs.Prelude.{◌≡◌, ◌≤◌, ◌<◌, ◌&&◌, ℕ, List, IfOk, OnOk, IsErrOf, length};
+ghost use Rattle.monk_object.specs.Names.{most};
+ghost use Rattle.monk_history.specs.Limits.{most_lines};
+ghost use Rattle.monk_history.specs.Meaning.Monitor.{monitor};
+ghost use Rattle.monk_logs.specs.BoardCourse.{board_course};
+ghost use Rattle.monk_logs.specs.BoardShown.{board_shown};
+ghost use Rattle.monk_logs.specs.Counts as tallies;
+ghost use Rattle.monk_logs.specs.Counts.{counts_of};
+ghost use Rattle.monk_logs.specs.Verdict.{log_monitor};
+
+use crate::blame::LineVerdict;
+use crate::board::Board;
+use crate::board::item::Item;
+use crate::board::items::{seats_at, services_at, services_of};
+use crate::board::items_moves::{join, serve};
+use crate::board::pending::Pending;
+use crate::board::reading::line_read;
+use crate::counts::Counts;
+use crate::counts::tally::{Tally, lets_go};
+use crate::counts::waits_for::WaitsFor;
+use crate::lapses::Lapses;
+use crate::order::Order;
+use crate::setting::Setting;
+use crate::text::header::LogHeader;
+use crate::text::kept_lines::KeptLines;
+use crate::text::line::LogLine;
+use crate::text::line_source::LineSource;
+use monk_audit::{AuditFault, rules_by_name};
+use monk_kinds::KindName;
+use monk_object::{Book, Buffer, Flags, Guarded, ObjectName, Shop};
+use std::alloc::{AllocError, Global};
+
+/// Makes the list that of the items, with what the event before has made of them, its choice aside.
+fn take_items(now: &mut Vec<Item>, board: &Board, pending: Pending) -> Result<(), AllocError>
+    ensures { OnOk result ((state : List ℕ)
+        → now.new.items ≡ tallies.items_now (board_course (board_shown board.now state) pending)) }
+{
+    now.clear();
+    now.extend_from_slice(&board.items)?;
+    if let Pending::Release(event) = pending {
+        serve(now, event)?;
+        join(now, event)?;
+    }
+    Ok(())
+}
+
+/// Whether somebody waits on the condition, and nobody whom a signal served there is still to come back.
+fn waits_unsignalled(items: &[Item], cond: u8) -> bool
+    ensures { result ≡ tallies.waits_unsignalled cond items.now }
+{
+    seats_at(items, cond) > 0 && services_at(items, cond) == 0
+}
+
+/// Whether somebody waits for a predicate that holds, and nobody was signalled who is still to come back.
+fn lacks_some_signal<T: Guarded>(object: &T, items: &[Item], means: &[WaitsFor]) -> bool
+    ensures { result ≡ tallies.lacks_some_signal T.meaning (T.state object.now) items.now means.now }
+{
+    for it in means {
+        if it.pred < T::PREDICATES && object.holds(it.pred) && waits_unsignalled(items, it.cond) {
+            return true;
+        }
+    }
+    false
+}
+
+/// Whether the line lets the monitor go with such a signal missed.
+fn misses_signal<T: Guarded>(line: LogLine, object: &T, items: &[Item], means: &[WaitsFor]) -> bool
+    ensures { result ≡ tallies.lets_go line
+        && tallies.lacks_some_signal T.meaning (T.state object.now) items.now means.now }
+{
+    lets_go(line) && lacks_some_signal(object, items, means)
+}
+
+/// Counts line by line, over the object in its opening state, up to the first misfit.
+fn count_lines<T: Guarded, L: LineSource>(
+    alloc: Global,
+    object: T,
+    setting: Setting,
+    means: &[WaitsFor],
+    lines: L,
+) -> Result<Counts, AllocError>
+    requires { length (L.left lines) ≤ most_lines }
+    ensures { IfOk result
+        (λ c. c ≡ counts_of
+        (monitor setting.rules setting.seats setting.conds T.meaning (T.state object)) means.now (L.left lines)) }
+{
+    let mut object = object;
+    let mut lines = lines;
+    let mut board = Board::opening::<T>(alloc, setting)?;
+    let mut pending = Pending::Settled;
+    let mut items = Vec::new(alloc);
+    let mut tally = Tally::NOTHING;
+    let mut number = 0;
+    while let Some(line) = lines.next() {
+        number += 1;
+        let before = services_of(&items);
+        match line_read(
+            Lapses::Allowed,
+            Order::Any,
+            setting,
+            &mut board,
+            &mut object,
+            pending,
+            line,
+        )? {
+            LineVerdict::Fits(left) => pending = left,
+            LineVerdict::Misfits(_) => return Ok(tally.counts(&items)),
+        }
+        take_items(&mut items, &board, pending)?;
+        let is_missed = misses_signal(line, &object, &items, means);
+        tally = tally.with_line(number, line, before, services_of(&items), is_missed);
+    }
+    Ok(tally.counts(&items))
+}
+
+/// Makes the object that the header names, and counts the lines.
+pub(crate) fn count_source<L: LineSource>(
+    alloc: Global,
+    header: &LogHeader,
+    lines: L,
+    kind: KindName,
+    means: &[WaitsFor],
+) -> Result<Counts, AuditFault>
+    requires { length (L.left lines) ≤ most_lines }
+    ensures counted { IfOk result (λ c. c ≡ counts_of (log_monitor kind header.now) means.now (L.left lines)) }
+    ensures made { OnOk result (header.now.size ≤ most header.now.object) }
+    ensures object { IsErrOf result AuditFault.Object → most header.now.object < header.now.size }
+    ensures too_big { most header.now.object < header.now.size → IsErrOf result AuditFault.Object }
+{
+    let setting = Setting {
+        alloc,
+        rules: rules_by_name(kind),
+        seats: header.seats(),
+        conds: header.conds(),
+    };
+    let size = header.size();
+    match header.object() {
+        ObjectName::Buffer => {
+            let buffer = Buffer::make(alloc, size)?;
+            Ok(count_lines(alloc, buffer, setting, means, lines)?)
+        }
+        ObjectName::Book => {
+            let book = Book::make(size)?;
+            Ok(count_lines(alloc, book, setting, means, lines)?)
+        }
+        ObjectName::Shop => {
+            let shop = Shop::make(size)?;
+            Ok(count_lines(alloc, shop, setting, means, lines)?)
+        }
+        ObjectName::Flags => {
+            let flags = Flags::make(size)?;
+            Ok(count_lines(alloc, flags, setting, means, lines)?)
+        }
+    }
+}
+
+/// Counts what happens in the log, read as one of a monitor of the kind over the object that its
+/// first line names, in any order ([`Order::Any`]) and with lapses allowed ([`Lapses::Allowed`]),
+/// up to its first misfit there. `means` tells what those wait for who wait on a condition.
+///
+/// # Errors
+///
+/// [`AuditFault::Object`] exactly where the size is above the object's greatest. [`AuditFault::Memory`] where a growth
+/// was refused.
+///
+/// # Cost
+///
+/// One pass. A line takes time by how many seats wait on conditions and how many signals served
+/// there, and, where it lets the monitor go, by that for each of `means`. Memory for them, the
+/// queues and the object alone.
+pub fn count(
+    alloc: Global,
+    header: &LogHeader,
+    lines: &[LogLine],
+    kind: KindName,
+    means: &[WaitsFor],
+) -> Result<Counts, AuditFault>
+    requires { length lines.now ≤ most_lines }
+    // What is counted is as it is defined line by line.
+    ensures counted { IfOk result (λ c. c ≡ counts_of (log_monitor kind header.now) means.now lines.now) }
+    // The size is refused exactly where it is above the object's greatest.
+    ensures made { OnOk result (header.now.size ≤ most header.now.object) }
+    ensures object { IsErrOf result AuditFault.Object → most header.now.object < header.now.size }
+    ensures too_big { most header.now.object < header.now.size → IsErrOf result AuditFault.Object }
+{
+    count_source(alloc, header, KeptLines { left: lines }, kind, means)
+}

@@ -1,0 +1,107 @@
+//! What is counted while a log is judged.
+
+ghost use Rattle.std.specs.Prelude.{◌≡◌, ◌+◌, ◌≤◌, ◌^◌, ℕ};
+ghost use Rattle.monk_logs.specs.Counts as tallies;
+ghost use Rattle.monk_logs.specs.Counts.{IsWithin, counts_by, one_if, waiting_among, woken_among};
+
+use crate::board::item::Item;
+use crate::board::items::{seats_of, services_of};
+use crate::counts::Counts;
+use crate::text::line::LogLine;
+
+/// What is counted while a log is judged.
+#[derive(Clone, Copy)]
+pub(crate) struct Tally {
+    /// How many seats came back that signals served.
+    pub(crate) back: u64,
+    /// How many waits ran out.
+    pub(crate) lapsed: u64,
+    /// How many entries there were while a seat that was served was still to come back.
+    pub(crate) passed: u64,
+    /// How many came in.
+    pub(crate) entered: u64,
+    /// How many left.
+    pub(crate) left: u64,
+    /// The first line with a missed signal.
+    pub(crate) missed: Option<u32>,
+}
+
+/// One more, where that is so.
+fn one_if(count: u64, is: bool) -> u64
+    requires { count ≤ 2 ^ 32 }
+    ensures { result ≡ one_if count is }
+{
+    if is { count + 1 } else { count }
+}
+
+/// Whether a seat goes on that waited.
+fn is_back(line: LogLine) -> bool
+    ensures { result ≡ tallies.is_back line }
+{
+    matches!(line, LogLine::Resume(_) | LogLine::Lapse(_))
+}
+
+/// Whether the monitor is let go.
+pub(crate) fn lets_go(line: LogLine) -> bool
+    ensures { result ≡ tallies.lets_go line }
+{
+    matches!(line, LogLine::Leave(_) | LogLine::Wait(..))
+}
+
+impl Tally {
+    /// Nothing is counted yet.
+    pub(crate) const NOTHING: Tally = Tally {
+        back: 0,
+        lapsed: 0,
+        passed: 0,
+        entered: 0,
+        left: 0,
+        missed: None,
+    };
+
+    /// With a line more, by its number, by how many seats are to come back before it and behind it,
+    /// and by whether a signal is missed there.
+    pub(crate) fn with_line(
+        self,
+        number: u32,
+        line: LogLine,
+        before: usize,
+        now: usize,
+        is_missed: bool,
+    ) -> Tally
+        requires { IsWithin (2 ^ 32) self }
+        ensures counted { result ≡ tallies.with_line number line before now is_missed self }
+        ensures within { (n : ℕ) → IsWithin n self → IsWithin (n + 1) result }
+    {
+        let comes_back = is_back(line);
+        let enters = matches!(line, LogLine::Enter(_));
+        Tally {
+            back: one_if(self.back, comes_back && now < before),
+            lapsed: one_if(self.lapsed, comes_back && now >= before),
+            passed: one_if(self.passed, enters && now != 0),
+            entered: one_if(self.entered, enters),
+            left: one_if(self.left, matches!(line, LogLine::Leave(_))),
+            missed: match self.missed {
+                None if is_missed => Some(number),
+                missed => missed,
+            },
+        }
+    }
+
+    /// What was counted, where these items stand.
+    pub(crate) fn counts(self, items: &[Item]) -> Counts
+        requires { self.back ≤ 2 ^ 32 }
+        ensures { result ≡ counts_by self (waiting_among items.now) (woken_among items.now) }
+    {
+        let woken = services_of(items);
+        Counts {
+            served: self.back + woken as u64,
+            passed: self.passed,
+            lapsed: self.lapsed,
+            waiting: seats_of(items).saturating_sub(woken) as u64,
+            woken: woken as u64,
+            inside: self.entered.saturating_sub(self.left),
+            missed: self.missed,
+        }
+    }
+}

@@ -1,0 +1,87 @@
+//! A line of a log, read from its words.
+
+ghost use Rattle.monk_history.specs.Text.Reading.{act_at};
+ghost use Rattle.monk_history.specs.Text.Words.{Reads, one_of};
+ghost use Rattle.monk_logs.specs.Log.Reading.{log_verb_word, log_verbs, line_after, log_line_at};
+
+use crate::text::header::LogHeader;
+use crate::text::line::LogLine;
+use crate::text::log_front::{WINDOW, line_at_front};
+use crate::text::verb::Verb;
+use monk_history::lines::{Flaw, LineWords, Record};
+use monk_object::Op;
+
+impl Record<LogHeader> for LogLine {
+    ghost use Rattle.std.specs.Prelude.{IfSome};
+    ghost use Rattle.monk_history.specs.Text.Lines.{IsAtFront};
+    ghost use Rattle.monk_history.specs.Text.Words.{Reads};
+    ghost use Rattle.monk_logs.specs.Log.Reading.{line_under};
+
+    ghost parse = { line_under };
+
+    fn parse(_header: &LogHeader, words: &mut LineWords<'_>) -> Result<LogLine, Flaw>
+        ensures { Reads result words.new (line_under _header.now words.old) }
+    {
+        log_line(words)
+    }
+
+    #[inline(always)]
+    fn at_front<Caller>(_header: &LogHeader, bytes: &[u8]) -> Option<(LogLine, usize)>
+        ensures { IfSome result (λ r. IsAtFront (line_under _header.now) bytes.now r.0 r.1) }
+    {
+        if bytes.len() < WINDOW {
+            return None;
+        }
+        line_at_front(bytes)
+    }
+}
+
+#[tactic(auto, unfolding(crate::specs::Log::Reading::log_line_at))]
+fn log_line(words: &mut LineWords<'_>) -> Result<LogLine, Flaw>
+    ensures { Reads result words.new (log_line_at words.old) }
+{
+    let verb = verb(words)?;
+    let seat = words.byte()?;
+    let line = line_after(words, verb, seat)?;
+    words.end()?;
+    Ok(line)
+}
+
+#[tactic(auto, unfolding(crate::specs::Log::Reading::line_after))]
+fn line_after(words: &mut LineWords<'_>, verb: Verb, seat: u8) -> Result<LogLine, Flaw>
+    ensures { Reads result words.new (line_after verb seat words.old) }
+{
+    match verb {
+        Verb::Enter => Ok(LogLine::Enter(seat)),
+        Verb::Resume => Ok(LogLine::Resume(seat)),
+        Verb::Lapse => Ok(LogLine::Lapse(seat)),
+        Verb::Leave => Ok(LogLine::Leave(seat)),
+        Verb::Wait => Ok(LogLine::Wait(seat, words.byte()?)),
+        Verb::Signal => Ok(LogLine::Signal(seat, words.byte()?)),
+        Verb::Broadcast => Ok(LogLine::Broadcast(seat, words.byte()?)),
+        Verb::Until => Ok(LogLine::Until(seat, words.byte()?)),
+        Verb::Act => {
+            let (op, reply) = act(words)?;
+            Ok(LogLine::Act(seat, op, reply))
+        }
+    }
+}
+
+/// A code, an argument and a reply.
+#[tactic(auto, unfolding(monk_history::specs::Text::Reading::act_at))]
+fn act(words: &mut LineWords<'_>) -> Result<(Op, u64), Flaw>
+    ensures { Reads result words.new (act_at words.old) }
+{
+    let code = words.byte()?;
+    let arg = words.number(u64::from(u32::MAX))? as u32;
+    let reply = words.number(u64::MAX)?;
+    Ok((Op { code, arg }, reply))
+}
+
+#[tactic(auto, unfolding(monk_history::specs::Text::Words::one_of))]
+fn verb(words: &mut LineWords<'_>) -> Result<Verb, Flaw>
+    ensures { Reads result words.new (one_of log_verb_word log_verbs words.old) }
+{
+    let word = words.next().ok_or(Flaw::Word)?;
+    Verb::of_text(word).ok_or(Flaw::Word)
+}

@@ -1,0 +1,172 @@
+//! The lines of a log's text, one after the other.
+
+ghost use Rattle.std.specs.Prelude.{◌≡◌, ◌≤◌, ◌<◌, ◌↔◌, ◌∷◌, [], ℕ, List, length, IfOk, OnOk, IsErrOf, MatchOption, None, Ok, Some};
+ghost use Rattle.monk_object.specs.Names.{most};
+ghost use Rattle.monk_history.specs.Limits.{most_lines};
+ghost use Rattle.monk_logs.specs.Counts.{counts_of};
+ghost use Rattle.monk_logs.specs.Exactly.{IsFirstWithout};
+ghost use Rattle.monk_logs.specs.Fit.{IsStrictest, fit_of, misfit_line};
+ghost use Rattle.monk_logs.specs.Lapses.{IsOpenWith};
+ghost use Rattle.monk_logs.specs.Log.{LogHeading, HasLogText, log_text};
+ghost use Rattle.monk_logs.specs.Log.Reading.{log, log_at};
+ghost use Rattle.monk_logs.specs.Verdict.{log_monitor};
+ghost use Rattle.monk_logs.specs.declared.text.line.LogLine.{LogLine};
+ghost use Rattle.monk_logs.specs.declared.order.Order.{Order};
+
+use crate::counts::Counts;
+use crate::counts::counting::count_source;
+use crate::counts::waits_for::WaitsFor;
+use crate::fitting::found_fit;
+use crate::kind_fit::Fit;
+use crate::lapses::Lapses;
+use crate::text::header::LogHeader;
+use crate::text::line::LogLine;
+use crate::text::line_source::LineSource;
+use crate::text::reading::MOST_LOG_LINES;
+use monk_audit::AuditFault;
+use monk_history::lines::{CheckedLines, ReadFault};
+use monk_kinds::KindName;
+use std::alloc::Global;
+use std::marker::Model;
+
+/// A log's text without a fault: its header, and the lines that are not yet read. Contracts see both as a log.
+///
+/// It borrows the bytes and holds no line, so its size is constant.
+#[derive(Drop)]
+pub struct LogLines<'a> {
+    lines: CheckedLines<'a, LogHeader, LogLine>,
+}
+
+impl<'a> Model for LogLines<'a> {
+    ghost use Rattle.std.specs.Prelude.{length, ◌≤◌};
+    ghost use Rattle.monk_history.specs.Limits.{most_lines};
+    ghost use Rattle.monk_logs.specs.Log.Reading.{Log, log};
+
+    ghost Value = { Log };
+
+    ghost view = { λ l. log l.lines.0 l.lines.1 };
+
+    ghost invariant = { λ l. length l.lines.1 ≤ most_lines };
+}
+
+impl<'a> LogLines<'a> {
+    /// The log that the text is of, or its first fault, as [`read_log`](crate::read_log) gives it, without the fault
+    /// `MEMORY`.
+    ///
+    /// # Cost
+    ///
+    /// One pass over the bytes, which keeps no line and takes no memory.
+    pub fn check(bytes: &'a [u8]) -> Result<LogLines<'a>, ReadFault>
+        // What is found has this text.
+        ensures found { IfOk result (λ l. HasLogText l.0 l.1 × (length l.1 ≤ most_lines)
+            × (bytes.entry.now ≡ log_text l.0 l.1)) }
+        // What has a text is found in it.
+        ensures only { (h : LogHeading) (ls : List LogLine) → HasLogText h ls → length ls ≤ most_lines
+            → bytes.entry.now ≡ log_text h ls → result ≡ Ok (log h ls) }
+        // Which fault it is.
+        ensures exact { result ≡ log_at most_lines bytes.entry.now }
+    {
+        let lines = CheckedLines::check(bytes, MOST_LOG_LINES)?;
+        Ok(LogLines { lines })
+    }
+
+    /// What stands in the first line.
+    pub fn header(&self) -> LogHeader
+        ensures { result ≡ self.now.0 }
+    {
+        self.lines.header()
+    }
+
+    /// Reads the next line; `None` where all are read. It takes no memory.
+    #[inline(always)]
+    pub fn next(&mut self) -> Option<LogLine>
+        ensures line { MatchOption result (self.old.1 ≡ []) (λ l. self.old.1 ≡ l ∷ self.new.1) }
+        ensures header { self.new.0 ≡ self.old.0 }
+        ensures none { result ≡ None → self.new ≡ self.old }
+    {
+        self.lines.next()
+    }
+
+    /// The same lines once more. Constant time.
+    pub fn again(&self) -> LogLines<'a>
+        ensures { result ≡ self.now }
+    {
+        LogLines {
+            lines: self.lines.again(),
+        }
+    }
+
+    /// What [`fit`](crate::fit) says of the log whose lines are left.
+    ///
+    /// # Errors
+    ///
+    /// Those of [`fit`](crate::fit).
+    ///
+    /// # Cost
+    ///
+    /// In each order that is tried a pass over the text that is left, up to the first misfit there.
+    /// Memory for the queues and the object alone.
+    pub fn fit(&self, alloc: Global, kind: KindName, lapses: Lapses) -> Result<Fit, AuditFault>
+        // It is an order exactly where the log is open in that order, and in no stricter one.
+        ensures strictest { IfOk result
+            (λ f. (o : Order)
+            → (f ≡ Fit.In o) ↔ IsStrictest (λ p. IsOpenWith lapses p (log_monitor kind self.now.0) self.now.1) o) }
+        // It is a line exactly where that is the first with which the log is open in no order.
+        ensures misfit { IfOk result
+            (λ f. (n : ℕ) → (misfit_line f ≡ Some n)
+            ↔ IsFirstWithout (IsOpenWith lapses Order.Any (log_monitor kind self.now.0)) self.now.1 n) }
+        // All else, and what is to blame, is as it is found line by line.
+        ensures found { IfOk result (λ f. f ≡ fit_of lapses (log_monitor kind self.now.0) self.now.1) }
+        // The size is refused exactly where it is above the object's greatest.
+        ensures made { OnOk result (self.now.0.size ≤ most self.now.0.object) }
+        ensures object { IsErrOf result AuditFault.Object → most self.now.0.object < self.now.0.size }
+        ensures too_big { most self.now.0.object < self.now.0.size → IsErrOf result AuditFault.Object }
+    {
+        let _ = &self.lines; // from here on it is known that there are few
+        found_fit(alloc, &self.header(), self, kind, lapses)
+    }
+
+    /// What [`count`](crate::count) counts in the log whose lines are left.
+    ///
+    /// # Errors
+    ///
+    /// Those of [`count`](crate::count).
+    ///
+    /// # Cost
+    ///
+    /// That of [`count`](crate::count), and the reading of the lines.
+    pub fn count(
+        &self,
+        alloc: Global,
+        kind: KindName,
+        means: &[WaitsFor],
+    ) -> Result<Counts, AuditFault>
+        // What is counted is as it is defined line by line.
+        ensures counted { IfOk result (λ c. c ≡ counts_of (log_monitor kind self.now.0) means.now self.now.1) }
+        // The size is refused exactly where it is above the object's greatest.
+        ensures made { OnOk result (self.now.0.size ≤ most self.now.0.object) }
+        ensures object { IsErrOf result AuditFault.Object → most self.now.0.object < self.now.0.size }
+        ensures too_big { most self.now.0.object < self.now.0.size → IsErrOf result AuditFault.Object }
+    {
+        count_source(alloc, &self.header(), self.again(), kind, means)
+    }
+}
+
+impl<'a> LineSource for LogLines<'a> {
+    ghost use Rattle.std.specs.Prelude.{◌≡◌, ◌∷◌, [], MatchOption};
+
+    ghost left = { λ l. l.1 };
+
+    #[inline(always)]
+    fn next(&mut self) -> Option<LogLine>
+        ensures { MatchOption result (self.old.1 ≡ []) (λ l. self.old.1 ≡ l ∷ self.new.1) }
+    {
+        LogLines::next(self)
+    }
+
+    fn again(&self) -> LogLines<'a>
+        ensures { result.1 ≡ self.now.1 }
+    {
+        LogLines::again(self)
+    }
+}
