@@ -6,6 +6,7 @@ use Rattle.monk_audit.specs.declared.stage.Stage.{Stage}
 use Rattle.monk_audit.specs.declared.text_audit.TextAudit.{TextAudit}
 use Rattle.monk_audit.specs.declared.text_verdict.TextVerdict.{TextVerdict}
 
+-- what an audit still owes, unless it has found a fault
 abbrev pub owed_by : Option ReadFault → Stage → List ℕ → List ℕ → Result TextVerdict ReadFault
 owed_by None stage held more = owed_verdict stage (held ++ more)
 owed_by (Some f) stage held more = Err f

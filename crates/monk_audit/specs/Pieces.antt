@@ -43,6 +43,7 @@ verdict_from_here o c state bytes =
 abbrev pub judged_from_here : Object → Course → List ℕ → List ℕ → Result TextVerdict ReadFault
 judged_from_here o c state bytes = verdict_from_here o c state bytes >>= λ v. Ok (Judged v)
 
+-- the verdict on the bytes that are still to come
 unfoldable pub owed_verdict : Stage → List ℕ → Result TextVerdict ReadFault
 owed_verdict Opening bytes = text_verdict bytes
 owed_verdict (Buffer c object) bytes = judged_from_here buffer_meaning c object bytes
@@ -59,6 +60,7 @@ pub record IsSoundCourse (predicates : ℕ) (c : Course) : Type 0 where
   pub preds : All (λ w. w.1 < predicates) c.replay.untils.items
   pub few : c.count ≤ 2 ^ 25
 
+-- what the stage keeps is right
 abbrev pub IsSound : Stage → Type 0
 IsSound Opening = Unit {0}
 IsSound (Buffer c object) = IsSoundCourse buffer_meaning.predicates c

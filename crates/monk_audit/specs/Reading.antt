@@ -45,6 +45,7 @@ history_verdict h = if nat_lt (most h.0.object) h.0.size then TooBig else Judged
 abbrev pub lines_verdict : Heading → Result (List Event) ReadFault → Result TextVerdict ReadFault
 lines_verdict h read = read >>= λ es. Ok (history_verdict (history h es))
 
+-- the verdict on a text
 abbrev pub text_verdict : List ℕ → Result TextVerdict ReadFault
 text_verdict bytes = text_at (2 ^ 25) bytes >>= λ h. Ok (history_verdict h)
 

@@ -14,6 +14,7 @@ fault_number Range = negsuc 3
 fault_number Memory = negsuc 4
 fault_number Closed = negsuc 9
 
+-- the number for C of where a seat stands
 abbrev pub place_number : At → ℤ
 place_number (Outside p) = pos 1
 place_number (Waiting p) = pos 2

@@ -12,6 +12,7 @@ use Rattle.monk_c.specs.declared.fault.Fault.{Fault}
 use Rattle.monk_c.specs.declared.fault.Fault.TheVariants.{NotNow, Range, Closed}
 use Rattle.monk_c.specs.declared.handle.MonkSeat.{MonkSeat}
 
+-- whether the handle has a seat that is outside
 abbrev pub has_seat_outside : Option Booked → Bool
 has_seat_outside None = false
 has_seat_outside (Some b) = is_outside b.seat.at
@@ -37,6 +38,7 @@ refusal_through None seats = Some Range
 refusal_through (Some h) (Some f) = Some f
 refusal_through (Some h) None = refusal_at (booked h.has) Arrive
 
+-- why a close is refused, if it is
 abbrev pub close_refusal : List MonkSeat → ℕ → Option Fault
 close_refusal handles by = refusal_through (slice_get handles by) (refusal_of_seats handles)
 
@@ -48,8 +50,10 @@ pub record IsClosed (old : List MonkSeat) (by : ℕ) (code : ℤ) (new : List Mo
   pub come : HasCome handle.has code last
   pub others : new ≡ slice_set old by (record handle { has = last })
 
+-- a close that is refused changes nothing, and is answered by its fault
 abbrev pub IfCloseRefused : List MonkSeat → ℕ → ℤ → List MonkSeat → Type 0
 IfCloseRefused old by code new = IfSome (close_refusal old by) (λ f. (new ≡ old) × (code ≡ fault_number f))
 
+-- a close that isn't refused closes the monitor
 abbrev pub IfClosed : List MonkSeat → ℕ → ℤ → List MonkSeat → Type 0
 IfClosed old by code new = close_refusal old by ≡ None → IsClosed old by code new

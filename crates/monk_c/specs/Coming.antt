@@ -5,6 +5,7 @@ use Rattle.monk_c.specs.Handles.{AnswersAt, booked}
 use Rattle.monk_c.specs.declared.any_seat.AnySeat.{AnySeat}
 use Rattle.monk_c.specs.declared.call.Call.TheVariants.{Arrive, Poll}
 
+-- the seat has come: it arrived, and then looked
 pub record HasCome (s : AnySeat) (code : ℤ) (t : AnySeat) : Type 0 where
   pub between : AnySeat
   pub answer : ℤ

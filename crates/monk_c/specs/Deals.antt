@@ -18,6 +18,7 @@ kind_dealt (Npir d) = kind.Npir
 kind_dealt (Pis d) = kind.Pis
 kind_dealt (Npis d) = kind.Npis
 
+-- the deal of any kind
 abbrev pub deal_in : AnyDeal → DealView
 deal_in (Pb d) = d
 deal_in (Npb d) = d

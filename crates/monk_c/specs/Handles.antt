@@ -46,12 +46,15 @@ AnswersAt call wish (Some a) code told None = ⊥
 AnswersAt call wish (Some a) code told (Some b) =
     (b.kind ≡ a.kind) × Answers (rules_named a.kind) call wish a.seat code told b.seat
 
+-- a call that isn't refused is done
 abbrev pub IfTakenAt : Call → Pick → AnySeat → ℤ → ℕ → AnySeat → Type 0
 IfTakenAt call wish s code told t = refusal_at (booked s) call ≡ None
     → AnswersAt call wish (booked s) code told (booked t)
 
+-- a call that is refused changes nothing, and is answered by its fault
 abbrev pub IfRefusedAt : Call → AnySeat → ℤ → AnySeat → Type 0
 IfRefusedAt call s code t = IfSome (refusal_at (booked s) call) (λ f. (t ≡ s) × (code ≡ fault_number f))
 
+-- a call that is refused tells no word
 abbrev pub IfUntoldAt : Call → AnySeat → ℕ → Type 0
 IfUntoldAt call s told = IfSome (refusal_at (booked s) call) (λ f. told ≡ 0)

@@ -11,6 +11,7 @@ use Rattle.monk_c.specs.Stands.{RoomView}
 abbrev pub flags_made : ℕ → ℕ
 flags_made flags = max flags 1
 
+-- the heading of a hall's history
 abbrev pub heading_for : KindName → RoomView → Heading
 heading_for k r =
     heading (object_version Flags) k r.house.setting.seats r.house.setting.conds Flags (flags_made r.flags)

@@ -25,9 +25,11 @@ waiting_at (Outside p) c = 0
 waiting_at (Waiting p) c = 0
 waiting_at (Inside a) c = length (condition c a.floor.history)
 
+-- that is how many seats wait on the condition, or why they can't be counted
 abbrev pub IsCount : Mode → SeatView → ℕ → ℤ → Type 0
 IsCount m s c code = MatchOption (look_refusal m s c) (code ≡ pos (waiting_at s.at c)) (λ f. code ≡ fault_number f)
 
+-- the same of a handle
 abbrev pub IsCountOf : Option Booked → ℕ → ℤ → Type 0
 IsCountOf None c code = code ≡ fault_number Closed
 IsCountOf (Some b) c code = IsCount (rules_named b.kind).mode b.seat c code

@@ -51,5 +51,6 @@ Answered k n old code new =
     ((code ≡ pos 0) × MadeOf {U = Unit {0}} k n old (Ok tt) new)
     ⊎ ((f : Fault) × (code ≡ fault_number f) × MadeOf {U = Unit {0}} k n old (Err f) new)
 
+-- a monitor is made as asked, or the call is refused
 abbrev pub IsMade : ℕ → ℕ → ℕ → ℕ → List MonkSeat → ℤ → List MonkSeat → Type 0
 IsMade kind conds flags budget old code new = Answered (kind_of kind) (numbers_for conds flags budget old) old code new

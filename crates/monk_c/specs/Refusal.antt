@@ -38,16 +38,19 @@ is_within conds flags (SignalWait c d) = nat_lt c conds && nat_lt d conds
 is_within conds flags (SetFlags bits) = nat_lt 0 flags && nat_lt bits (2 ^ flags)
 is_within conds flags (WaitUntil p) = nat_lt p flags
 
+-- whether the seat is outside
 abbrev pub is_outside : At → Bool
 is_outside (Outside p) = true
 is_outside (Waiting p) = false
 is_outside (Inside a) = false
 
+-- whether the seat waits
 abbrev pub is_waiting : At → Bool
 is_waiting (Outside p) = false
 is_waiting (Waiting p) = true
 is_waiting (Inside a) = false
 
+-- whether the seat is inside
 abbrev pub is_inside : At → Bool
 is_inside (Outside p) = false
 is_inside (Waiting p) = false
@@ -79,6 +82,7 @@ wants (SignalWait c d) = 3
 wants (SetFlags bits) = 2
 wants (WaitUntil p) = 3
 
+-- whether the seat has too few events left for the call
 abbrev pub is_spent : SeatRecord → Call → Bool
 is_spent me call = nat_lt me.setting.budget (length me.mine + wants call)
 

@@ -22,11 +22,13 @@ me_of (Outside p) = p.me
 me_of (Waiting p) = p.me
 me_of (Inside a) = a.me
 
+-- the table of the seat's hall
 abbrev pub table_of : At → TableId
 table_of (Outside p) = p.hall
 table_of (Waiting p) = p.hall
 table_of (Inside a) = a.hall
 
+-- a seat with its hall
 pub record SeatView : Type 0 where
   pub room : RoomView
   pub at : At
@@ -41,5 +43,6 @@ pub record Booked : Type 0 where
   pub kind : KindName
   pub seat : SeatView
 
+-- a seat with its kind
 abbrev pub booking : KindName → SeatView → Booked
 booking k s = record { kind = k; seat = s }

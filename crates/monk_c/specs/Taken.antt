@@ -28,16 +28,19 @@ abbrev pub told_word : Option Grant → ℕ
 told_word None = 0
 told_word (Some g) = g.word
 
+-- the seat is outside, with a pass of which that holds
 abbrev pub IsOutside : At → (Token → Type 0) → Type 0
 IsOutside (Outside p) f = f p
 IsOutside (Waiting p) f = ⊥
 IsOutside (Inside a) f = ⊥
 
+-- the seat waits, with a pass of which that holds
 abbrev pub IsWaiting : At → (Token → Type 0) → Type 0
 IsWaiting (Outside p) f = ⊥
 IsWaiting (Waiting p) f = f p
 IsWaiting (Inside a) f = ⊥
 
+-- the seat is inside, with a token of which that holds
 abbrev pub IsInside : At → (Holder → Type 0) → Type 0
 IsInside (Outside p) f = ⊥
 IsInside (Waiting p) f = ⊥
@@ -55,6 +58,7 @@ HasPolled k p (Inside a) = HasEntered k flags_meaning p a
 abbrev pub WentOut : Rules → House → Holder → Event → Pick → Token → ℕ → Type 0
 WentOut k h a e wish p told = (g : Option Grant) × (told ≡ told_word g) × GrantsOut k flags_meaning a e wish p h g
 
+-- the seat waits after its call, and that word was granted
 abbrev pub Parked : Rules → House → Holder → Event → Pick → Token → ℕ → Type 0
 Parked k h a e wish p told = (g : Option Grant) × (told ≡ told_word g) × GrantsInside k flags_meaning a e wish p h g
 
@@ -67,6 +71,7 @@ StayedOrParked k h a e wish (Waiting p) told =
 StayedOrParked k h a e wish (Inside b) told =
     (told ≡ 0) × HasStayed k flags_meaning a e wish (peeks_for k flags_meaning a.floor e wish) b
 
+-- the seat has set the flags
 abbrev pub HasSet : Rules → Holder → ℕ → Holder → Type 0
 HasSet k a bits b =
     (reply : ℕ) × HasDone k flags_meaning a (event.Act a.me.seat (record { code = SET; arg = bits }) reply) b
@@ -97,9 +102,11 @@ abbrev pub Answers : Rules → Call → Pick → SeatView → ℤ → ℕ → Se
 Answers k call wish a code told b =
     (b.room ≡ a.room) × (code ≡ place_number b.at) × IsTaken k a.room.house call wish a.at b.at told
 
+-- a call that isn't refused is done
 abbrev pub IfTaken : Rules → Call → Pick → SeatView → ℤ → ℕ → SeatView → Type 0
 IfTaken k call wish a code told b = refusal_of k.mode a call ≡ None → Answers k call wish a code told b
 
+-- a call that is refused changes nothing, and is answered by its fault
 abbrev pub IfRefused : Rules → Call → SeatView → ℤ → SeatView → Type 0
 IfRefused k call a code b = IfSome (refusal_of k.mode a call) (λ f. (b ≡ a) × (code ≡ fault_number f))
 

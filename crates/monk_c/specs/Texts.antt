@@ -31,10 +31,12 @@ IsTextFault (Outside p) f = f ≡ NotNow
 IsTextFault (Waiting p) f = f ≡ NotNow
 IsTextFault (Inside a) f = f ≡ Memory
 
+-- the bytes are the text of the handle's history
 abbrev pub HasTextBooked : Option Booked → List ℕ → Type 0
 HasTextBooked None bytes = ⊥
 HasTextBooked (Some b) bytes = HasTextAt b.kind b.seat.room b.seat.at bytes
 
+-- why a handle gives no text
 abbrev pub IsTextFaultOf : Option Booked → Fault → Type 0
 IsTextFaultOf None f = f ≡ Closed
 IsTextFaultOf (Some b) f = IsTextFault b.seat.at f

@@ -5,6 +5,7 @@ use Rattle.monk_c.specs.Answers.{place_number}
 use Rattle.monk_c.specs.Stands.{At, Booked, me_of}
 use Rattle.monk_c.specs.Stands.At.{Outside, Waiting, Inside}
 
+-- the number for C of where a handle's seat stands
 abbrev pub place_at : Option Booked → ℤ
 place_at None = pos 0
 place_at (Some b) = place_number b.seat.at
@@ -20,6 +21,7 @@ word_of (Outside p) = 0
 word_of (Waiting p) = waiting_word p.me
 word_of (Inside a) = 0
 
+-- the word at which a handle's seat waits
 abbrev pub word_at : Option Booked → ℕ
 word_at None = 0
 word_at (Some b) = word_of b.seat.at

@@ -10,5 +10,6 @@ abbrev pub kind_or_rejected : Option KindName → List ℕ
 kind_or_rejected (Some k) = kind_word k
 kind_or_rejected None = codes "rejected"
 
+-- the lines of an ordering: its form, and its kind
 abbrev pub ordering_lines : Ordering13 → List ℕ
 ordering_lines o = ordering_text o ++ codes "\n" ++ kind_or_rejected (ordering_kind o) ++ codes "\n"

@@ -59,6 +59,7 @@ misfit_words n why =
     codes " misfit " ++ decimal n ++ codes " " ++ decimal (blame_number why) ++ codes " " ++ blame_word why
     ++ codes "\n"
 
+-- the answer to a log that no monitor of the kind allows
 abbrev pub misfit_answer : KindName → ℕ → Blame → Answer
 misfit_answer kind n why = record { status = 1; text = kind_word kind ++ misfit_words n why }
 

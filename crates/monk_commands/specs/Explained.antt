@@ -17,9 +17,11 @@ told_answer t = record {
   text = (verdict_answer t.verdict).text ++ telling_text t;
 }
 
+-- the answer of an explanation to a history
 abbrev pub explain_answer : Heading → List Event → Answer
 explain_answer h events = if nat_lt (most h.object) h.size then too_big else told_answer (account h events)
 
+-- the answer of an explanation to what was read
 abbrev pub explain_reading : Result History ReadFault → Answer
 explain_reading (Ok h) = explain_answer h.0 h.1
 explain_reading (Err f) = unreadable f

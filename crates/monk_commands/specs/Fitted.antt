@@ -27,6 +27,7 @@ verdict_under h events k = verdict_of (named_monitor (under k h)) events
 abbrev pub is_fit : Verdict → Bool
 is_fit v = (verdict_answer v).status == 0
 
+-- the line of a kind: the verdict on the events under it
 abbrev pub fit_line : Heading → List Event → KindName → List ℕ
 fit_line h events k = kind_word k ++ codes " " ++ (verdict_answer (verdict_under h events k)).text
 
@@ -34,18 +35,22 @@ fit_line h events k = kind_word k ++ codes " " ++ (verdict_answer (verdict_under
 abbrev pub fit_lines : Heading → List Event → List KindName → List ℕ
 fit_lines h events ks = flat_map (fit_line h events) ks
 
+-- whether the events are legal under one of the kinds
 abbrev pub fits_some : Heading → List Event → List KindName → Bool
 fits_some h events ks = list_any (λ k. is_fit (verdict_under h events k)) ks
 
+-- the answer of a fit to a history
 abbrev pub fit_answer : Heading → List Event → Answer
 fit_answer h events =
     if nat_lt (most h.object) h.size then too_big
     else record { status = if fits_some h events kinds then 0 else 1; text = fit_lines h events kinds }
 
+-- the answer of a fit to what was read
 abbrev pub fit_reading : Result History ReadFault → Answer
 fit_reading (Ok h) = fit_answer h.0 h.1
 fit_reading (Err f) = unreadable f
 
+-- the answer of a fit to an input
 abbrev pub fit_of : List ℕ → Answer
 fit_of input = fit_reading (text_at (2 ^ 25) input)
 

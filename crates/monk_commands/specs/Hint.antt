@@ -27,22 +27,27 @@ text_word name.History = codes "monk"
 text_word name.Play = codes "play"
 text_word name.Log = codes "log"
 
+-- each text that a command reads, once
 abbrev pub texts : List TextName
 texts = name.History ∷ name.Play ∷ name.Log ∷ []
 
+-- the text whose first word that is
 abbrev pub text_named : Word → Option TextName
 text_named w = with_text text_word texts w
 
+-- whether the text is a history
 abbrev pub is_history : TextName → Bool
 is_history name.History = true
 is_history name.Play = false
 is_history name.Log = false
 
+-- whether the text is a play
 abbrev pub is_play : TextName → Bool
 is_play name.History = false
 is_play name.Play = true
 is_play name.Log = false
 
+-- whether the text is a log
 abbrev pub is_log : TextName → Bool
 is_log name.History = false
 is_log name.Play = false
@@ -83,6 +88,7 @@ has_mark front =
 abbrev pub is_control : ℕ → Bool
 is_control b = nat_lt b 32 && not (b == 9) && not (b == 10) && not (b == 13)
 
+-- the hint that the first bytes alone give
 abbrev pub bytes_hint : Task → List ℕ → Option Hint
 bytes_hint task front =
     if length front == 0 then Some (hint.Empty (wanted task))
@@ -102,13 +108,16 @@ begins_line byte before (b ∷ bs) = (before == 10 && b == byte) || begins_line 
 abbrev pub kind_meant : Word → Option KindName
 kind_meant w = find (λ k. str_eq_ignore_ascii_case w (kind_word k)) kinds
 
+-- the hint for a word that is no kind, by the kind that it may mean
 abbrev pub meant_hint : Option KindName → Option Hint
 meant_hint None = Some hint.NoKind
 meant_hint (Some k) = Some (hint.Capitals k)
 
+-- the hint for a word in the place of a kind
 abbrev pub kind_hint : Word → Option Hint
 kind_hint w = if is_some (with_text kind_word kinds w) then None else meant_hint (kind_meant w)
 
+-- the hint for a size, by what was read in its place
 abbrev pub taken_size_hint : ObjectName → Taken ℕ → Option Hint
 taken_size_hint o (Ok taken) = if taken.0 == 0 then Some (hint.Size o) else None
 taken_size_hint o (Err flaw.Number) = Some (hint.Size o)
@@ -118,6 +127,7 @@ taken_size_hint o (Err flaw.Word) = None
 abbrev pub size_hint : ObjectName → List Word → Option Hint
 size_hint o ws = taken_size_hint o (number_at (most o) ws)
 
+-- the hint for an object and the words after it
 abbrev pub object_hint : Option ObjectName → List Word → Option Hint
 object_hint None ws = Some hint.NoObject
 object_hint (Some o) ws = size_hint o ws
@@ -144,14 +154,17 @@ abbrev pub parts_hint : TextName → List Word → Option Hint
 parts_hint t [] = None
 parts_hint t (version ∷ ws) = if is_log t then guarded_hint ws else kinded_hint ws
 
+-- the hint for a first line that begins with the word of that text
 abbrev pub named_hint : Task → Option TextName → List Word → Option Hint
 named_hint task None ws = None
 named_hint task (Some t) ws = if reads task t then parts_hint t ws else Some (hint.Another t)
 
+-- the hint for a first line
 abbrev pub header_hint : Task → List Word → Option Hint
 header_hint task [] = None
 header_hint task (w ∷ ws) = named_hint task (text_named w) ws
 
+-- the hint for a first line that is no header
 abbrev pub no_header_hint : Task → List Word → Option Hint
 no_header_hint task [] = None
 no_header_hint task (w ∷ ws) = if is_some (text_named w) then None else Some (hint.NoHeader (wanted task))
@@ -169,12 +182,14 @@ lines_hint task front =
     else if begins_line 10 10 front then Some hint.Blank
     else no_header_hint task (first_words front)
 
+-- the hint for an input, by its first bytes
 abbrev pub hint_of : Task → List ℕ → Option Hint
 hint_of task front =
     or_else (bytes_hint task front) (or_else (header_hint task (first_words front)) (lines_hint task front))
 
 -- ---- the sentences
 
+-- what a text is called in a sentence
 abbrev pub text_called : TextName → List ℕ
 text_called name.History = codes "a history"
 text_called name.Play = codes "a play"
@@ -186,11 +201,13 @@ header_form name.History = codes "monk 1 KIND SEATS CONDS OBJECT SIZE"
 header_form name.Play = codes "play 1 KIND SEATS CONDS OBJECT SIZE BUDGET"
 header_form name.Log = codes "log 1 SEATS CONDS OBJECT SIZE"
 
+-- the commands that read such a text
 abbrev pub commands_that_read : TextName → List ℕ
 commands_that_read name.History = codes "monk audit, explain, draw, fit or upgrade"
 commands_that_read name.Play = codes "monk play or trace"
 commands_that_read name.Log = codes "monk fit or complete"
 
+-- the sentence of a hint
 abbrev pub sentence : Hint → List ℕ
 sentence (hint.Empty t) =
     codes "the input is empty: " ++ text_called t ++ codes " begins with `" ++ header_form t ++ codes "`"

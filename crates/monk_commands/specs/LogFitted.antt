@@ -28,35 +28,44 @@ use Rattle.monk_commands.specs.Fitted.{fit_of as fit_of_history}
 
 -- ---- a line for each kind
 
+-- the words of a fit
 abbrev pub fit_words : Fit → List ℕ
 fit_words (In o) = codes " fits " ++ order_word o ++ codes "\n"
 fit_words (Misfit n why) = misfit_words n why
 
+-- the strictest order in which the log fits the kind, or its first misfit
 abbrev pub log_fit : Lapses → LogHeading → List LogLine → KindName → Fit
 log_fit x h log k = fit_of x (log_monitor k h) log
 
+-- the line of a kind
 abbrev pub log_fit_line : Lapses → LogHeading → List LogLine → KindName → List ℕ
 log_fit_line x h log k = kind_word k ++ fit_words (log_fit x h log k)
 
+-- the lines of those kinds
 abbrev pub log_fit_lines : Lapses → LogHeading → List LogLine → List KindName → List ℕ
 log_fit_lines x h log ks = flat_map (log_fit_line x h log) ks
 
+-- whether the log fits one of the kinds
 abbrev pub fits_some_kind : Lapses → LogHeading → List LogLine → List KindName → Bool
 fits_some_kind x h log ks = list_any (λ k. is_in (log_fit x h log k)) ks
 
 -- ---- the counts
 
+-- the line that counts who was served, who came between, and whose wait ran out
 abbrev pub gone_line : Counts → List ℕ
 gone_line c =
     codes "served " ++ decimal c.served ++ codes " passed " ++ decimal c.passed ++ codes " lapsed "
     ++ decimal c.lapsed ++ codes "\n"
 
+-- the words that count who waits at the end
 abbrev pub waiting_words : Counts → List ℕ
 waiting_words c = codes "left waiting " ++ decimal c.waiting
 
+-- the words that count who was woken and who is inside at the end
 abbrev pub inside_words : Counts → List ℕ
 inside_words c = codes " woken " ++ decimal c.woken ++ codes " inside " ++ decimal c.inside ++ codes "\n"
 
+-- the words of the first line that was missed
 abbrev pub missed_words : Option ℕ → List ℕ
 missed_words None = codes "missed none\n"
 missed_words (Some n) = codes "missed " ++ decimal n ++ codes "\n"
@@ -70,14 +79,17 @@ missed_line (w ∷ more) missed = missed_words missed
 abbrev pub log_counts : LogHeading → List WaitsFor → List LogLine → Counts
 log_counts h means log = counts_of (log_monitor Npnb h) means log
 
+-- the lines of the counts
 abbrev pub counts_text : List WaitsFor → Counts → List ℕ
 counts_text means c = gone_line c ++ (waiting_words c ++ (inside_words c ++ missed_line means c.missed))
 
+-- the lines that count what happens in the log
 abbrev pub counts_lines : LogHeading → List WaitsFor → List LogLine → List ℕ
 counts_lines h means log = counts_text means (log_counts h means log)
 
 -- ---- an answer
 
+-- the answer of a fit to a log
 abbrev pub log_fit_answer : Lapses → List WaitsFor → LogHeading → List LogLine → Answer
 log_fit_answer x means h log =
     if nat_lt (most h.object) h.size then too_big
@@ -86,10 +98,12 @@ log_fit_answer x means h log =
       text = log_fit_lines x h log kinds ++ counts_lines h means log;
     }
 
+-- the answer of a fit to what was read as a log
 abbrev pub log_fit_reading : Lapses → List WaitsFor → Result Log ReadFault → Answer
 log_fit_reading x means (Ok l) = log_fit_answer x means l.0 l.1
 log_fit_reading x means (Err f) = unreadable f
 
+-- the answer of a fit to a log as input
 abbrev pub log_fit_of : Lapses → List WaitsFor → List ℕ → Answer
 log_fit_of x means input = log_fit_reading x means (log_at (2 ^ 25) input)
 

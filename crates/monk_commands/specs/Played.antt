@@ -28,6 +28,7 @@ pub record IsPlayOf (input : List ℕ) (h : Heading) (budget : ℕ) (commands : 
   pub whole : input ≡ playtext h budget commands
   pub size : h.size ≤ most h.object
 
+-- the input is the text of a play
 abbrev pub IsPlayText : List ℕ → Type 0
 IsPlayText input = (h : Heading) × ((budget : ℕ) × ((commands : List (ℕ × Command)) × IsPlayOf input h budget commands))
 
@@ -58,9 +59,11 @@ abbrev pub IsReported : Report → Heading → ℕ → List (ℕ × Command) →
 IsReported r h budget commands Puts =
     IsReportedBy r (rules_named h.kind) (meaning_named h.object) (opening_named h.object h.size) h budget commands Puts
 
+-- what is put is the history of the play
 abbrev pub IsPlayed : Heading → ℕ → List (ℕ × Command) → (List ℕ → Type 0) → Type 0
 IsPlayed h budget commands Puts = IsReported History h budget commands Puts
 
+-- what is put is the trace of the play
 abbrev pub IsTraced : Heading → ℕ → List (ℕ × Command) → (List ℕ → Type 0) → Type 0
 IsTraced h budget commands Puts = IsReported Trace h budget commands Puts
 

@@ -17,6 +17,7 @@ use Rattle.monk_samples.specs.declared.sample.Sample.TheVariants.{Buffer, Book, 
 abbrev pub count_line : List ℕ → ℕ → List ℕ
 count_line word n = word ++ codes " " ++ decimal n ++ codes "\n"
 
+-- a line of a word and two numbers
 abbrev pub pair_line : List ℕ → ℕ → ℕ → List ℕ
 pair_line word n m = word ++ codes " " ++ decimal n ++ codes " " ++ decimal m ++ codes "\n"
 
@@ -25,21 +26,25 @@ abbrev pub buffer_text : List ℕ → List ℕ
 buffer_text t = pair_line (codes "put") (slice_index t 0) (slice_index t 1)
     ++ pair_line (codes "taken") (slice_index t 2) (slice_index t 3) ++ codes "legal\n"
 
+-- the totals of readers and writers
 abbrev pub book_text : List ℕ → List ℕ
 book_text t = pair_line (codes "reads") (slice_index t 0) (slice_index t 1)
     ++ pair_line (codes "writes") (slice_index t 2) (slice_index t 3) ++ codes "legal\n"
 
+-- the totals of a barber's shop
 abbrev pub shop_text : List ℕ → List ℕ
 shop_text t =
     count_line (codes "sat") (slice_index t 0) ++ count_line (codes "called") (slice_index t 1)
     ++ count_line (codes "finished") (slice_index t 2) ++ count_line (codes "departed") (slice_index t 3)
     ++ codes "legal\n"
 
+-- the totals of hasty threads, with the tries that missed
 abbrev pub hasty_text : List ℕ → ℕ → List ℕ
 hasty_text t missed = pair_line (codes "put") (slice_index t 0) (slice_index t 1)
     ++ pair_line (codes "taken") (slice_index t 2) (slice_index t 3) ++ count_line (codes "missed") missed
     ++ codes "legal\n"
 
+-- the totals of a sample
 abbrev pub totals_text : Sample → List ℕ → ℕ → List ℕ
 totals_text Buffer t missed = buffer_text t
 totals_text Book t missed = book_text t
@@ -79,6 +84,7 @@ pub record IsEnd (k : KindName) (sample : Sample) (seats rounds : ℕ) (Puts : L
   pub is : end_word fault ≡ Some word
   pub told : Puts word
 
+-- the answer of a run: its totals, or how it ended without them
 abbrev pub IsRunAnswer : KindName → Sample → ℕ → ℕ → ℕ → (List ℕ → Type 0) → Type 0
 IsRunAnswer k sample seats rounds status Puts =
     ((status ≡ 0) × IsTold k sample seats rounds Puts) ⊎ ((status ≡ 1) × IsEnd k sample seats rounds Puts)

@@ -22,6 +22,7 @@ pub record IsRecorded (k : KindName) (sample : Sample) (seats rounds : ℕ) (Put
   pub has_text : HasText heading history
   pub told : Puts (text heading history)
 
+-- the answer of a record: the text of its history, or how it ended without one
 abbrev pub IsRecordAnswer : KindName → Sample → ℕ → ℕ → ℕ → (List ℕ → Type 0) → Type 0
 IsRecordAnswer k sample seats rounds status Puts =
     ((status ≡ 0) × IsRecorded k sample seats rounds Puts) ⊎ ((status ≡ 1) × IsEnd k sample seats rounds Puts)

@@ -30,6 +30,7 @@ required_rule name parser = record (new_rule name) { required = true; parser = S
 abbrev pub priority : ValueParser
 priority = Signed (pos 0) (pos 255)
 
+-- the words of `classify`
 abbrev pub classify_app : App
 classify_app = with_rule
     (with_rule (with_rule (new_app (codes "classify")) (required_rule (codes "ENTRY") priority))
@@ -39,6 +40,7 @@ classify_app = with_rule
 abbrev pub NameList : Type 0
 NameList = Bor (List (Bor Text))
 
+-- the names of a list
 abbrev pub words_in : NameList → List Text
 words_in w = map (λ x. x.now) w.now
 
@@ -54,6 +56,7 @@ sample_word Book = object_word (sample_object Book)
 sample_word Shop = object_word (sample_object Shop)
 sample_word Hasty = codes "hasty"
 
+-- each sample once
 abbrev pub every_sample : List Sample
 every_sample = Buffer ∷ Book ∷ Shop ∷ Hasty ∷ []
 
@@ -80,6 +83,7 @@ file_app name = with_rule (new_app name) (new_rule (codes "FILE"))
 abbrev pub flag_rule : Text → Rule
 flag_rule name = record (new_rule name) { long = Some name; action = Some SetTrue }
 
+-- the rule of an option that may stand several times
 abbrev pub repeated_rule : Text → Rule
 repeated_rule name = record (new_rule name) { long = Some name; action = Some Append; value_names = 1 }
 
@@ -100,6 +104,7 @@ complete_app n =
 abbrev pub IsSubcommand : Command → App → Type 0
 IsSubcommand c a = (old new : Command) → AddsSubcommand old c new → app_of new ≡ with_subcommand (app_of old) a.top
 
+-- the program without its commands
 abbrev pub bare_app : App
 bare_app =
     record (new_app (codes "monk")) {
@@ -116,6 +121,7 @@ plain_app =
     (file_app (codes "upgrade")).top) fit_app.top) (file_app (codes "trace")).top)
     (file_app (codes "explain")).top) (file_app (codes "draw")).top
 
+-- the program with its commands
 abbrev pub monk_app : KindNames → RunNames → RunNames → App
 monk_app completed run recorded =
     with_subcommand (with_subcommand (with_subcommand plain_app (complete_app completed).top)
@@ -128,10 +134,12 @@ pub record IsMonk (a : App) : Type 0 where
   pub recorded : RunNames
   pub is : a ≡ monk_app completed run recorded
 
+-- the command is `complete`
 pub record IsCompleteCommand (c : Command) : Type 0 where
   pub names : KindNames
   pub is : IsSubcommand c (complete_app names)
 
+-- the command is one that runs a sample
 pub record IsRunCommand (name : Text) (c : Command) : Type 0 where
   pub names : RunNames
   pub is : IsSubcommand c (run_app name names)

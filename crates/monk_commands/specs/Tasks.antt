@@ -15,6 +15,7 @@ use Rattle.monk_commands.specs.declared.task.Task.TheVariants.{Audit, Play, Upgr
 abbrev pub IsGiven : Answer → ℕ → (List ℕ → Type 0) → Type 0
 IsGiven answer status Puts = (status ≡ answer.status) × Puts answer.text
 
+-- the answer of a command that reads an input
 abbrev pub IsTaskAnswer : Task → List ℕ → ℕ → (List ℕ → Type 0) → Type 0
 IsTaskAnswer Audit input status Puts = IsGiven (answer_of input) status Puts
 IsTaskAnswer Play input status Puts = IsAnswerTo report.History input status Puts

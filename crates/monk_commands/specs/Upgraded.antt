@@ -6,10 +6,12 @@ use Rattle.monk_history.specs.Text.{Heading, HasText, text, upgraded_heading}
 use Rattle.monk_history.specs.Text.Reading.{History, text_at}
 use Rattle.monk_commands.specs.Answer.{Answer, unreadable}
 
+-- the answer of an upgrade to what was read
 abbrev pub upgrade_answer : Result History ReadFault → Answer
 upgrade_answer (Ok h) = record { status = 0; text = text (upgraded_heading h.0) h.1 }
 upgrade_answer (Err f) = unreadable f
 
+-- the answer of an upgrade to an input
 abbrev pub upgrade_of : List ℕ → Answer
 upgrade_of input = upgrade_answer (text_at (2 ^ 25) input)
 
@@ -19,6 +21,7 @@ pub record IsHistoryOf (input : List ℕ) (h : Heading) (events : List Event) : 
   pub few : length events ≤ 2 ^ 25
   pub whole : input ≡ text h events
 
+-- the input is the text of a history
 abbrev pub IsHistoryText : List ℕ → Type 0
 IsHistoryText input = (h : Heading) × ((events : List Event) × IsHistoryOf input h events)
 

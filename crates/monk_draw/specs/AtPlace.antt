@@ -14,6 +14,7 @@ use Rattle.monk_draw.specs.declared.place.Place.TheVariants.{Outside, Entry, Act
 abbrev pub has_wait : ℕ → ℕ → List (ℕ × ℕ) → Bool
 has_wait s p waits = list_any (λ w. (w.0 == s) && (w.1 == p)) waits
 
+-- that is where the seat stands
 abbrev pub IsAt : Place → Situation → ℕ → Type 0
 IsAt Outside t s = t.inside s ≡ false
 IsAt Entry t s = t.inside s ≡ false

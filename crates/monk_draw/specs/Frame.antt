@@ -6,6 +6,7 @@ use Rattle.monk_history.specs.Meaning.Events.{seat_of}
 use Rattle.monk_history.specs.declared.event.Event.{Event}
 use Rattle.monk_draw.specs.Layout.{column_at, lane_at, lane_of}
 
+-- a frame around a mark
 unfoldable pub frame_at : ℕ → ℕ → List ℕ
 frame_at x y =
     codes "<rect class=\"frame\" x=\""
@@ -15,11 +16,13 @@ frame_at x y =
 abbrev pub frame : ℕ → ℕ → Event → List ℕ
 frame seats column e = frame_at (column_at column - 33) (lane_at (lane_of seats (seat_of e)) - 31)
 
+-- what is forbidden, in the head of a narrow picture
 unfoldable pub near_caption : ℕ → List ℕ → List ℕ
 near_caption step reason =
     codes "<text class=\"wrong\" x=\"300\" y=\"28\">" ++ (decimal step ++ (codes " is forbidden: " ++ (reason
     ++ codes "</text>\n")))
 
+-- what is forbidden, in the head of a wide picture
 unfoldable pub far_caption : ℕ → ℕ → List ℕ → List ℕ
 far_caption x step reason =
     codes "<text class=\"wrong far\" x=\"" ++ (decimal x ++ (codes "\" y=\"28\">" ++ (decimal step
@@ -36,9 +39,11 @@ abbrev pub is_last : Option ℕ → ℕ → Bool
 is_last None last = false
 is_last (Some step) last = step == last
 
+-- the forbidden event, if it is the last one shown
 abbrev pub forbidden_event : Option ℕ → ℕ → List Event → Option Event
 forbidden_event fault last shown = if is_last fault last then slice_get shown (length shown - 1) else None
 
+-- what shows that an event is forbidden: its frame and its caption
 abbrev pub wrong : ℕ → ℕ → ℕ → List ℕ → Option Event → List ℕ
 wrong seats column step reason None = []
 wrong seats column step reason (Some e) = frame seats column e ++ caption column step reason

@@ -16,6 +16,7 @@ abbrev pub if_handed : ℕ → Via → Option ℕ
 if_handed s Free = None
 if_handed s Handed = Some s
 
+-- the seat that the event lets go on, if the event before it chose that seat
 abbrev pub handed_by : Event → Option ℕ
 handed_by (event.Enter s via) = if_handed s via
 handed_by (event.Act s op r) = None
@@ -28,6 +29,7 @@ handed_by (event.Resume s q) = None
 handed_by (event.SignalAll s c) = None
 handed_by (event.SignalWait s c d x) = None
 
+-- the same of an event that there may be
 abbrev pub handed : Option Event → Option ℕ
 handed None = None
 handed (Some e) = handed_by e
@@ -45,10 +47,12 @@ goes_on_by (Some (Until j)) after = Some j
 abbrev pub goes_on : Event → Option Event → Option ℕ
 goes_on e after = goes_on_by (next_of e) after
 
+-- how an arrow begins, with its class
 unfoldable pub arrow_class : List ℕ → List ℕ
 arrow_class class =
     codes "<path class=\"" ++ (class ++ (codes "\" marker-end=\"url(#" ++ (class ++ codes "-tip)\" ")))
 
+-- the path of an arrow
 unfoldable pub arrow_path : ℕ → ℕ → ℕ → ℕ → List ℕ
 arrow_path x leave bend tip =
     codes "d=\"M" ++ (decimal (x + 6) ++ (codes " " ++ (decimal leave ++ (codes "C" ++ (decimal (x + 40) ++ (codes " "
@@ -70,6 +74,7 @@ arrow class from to column =
 abbrev pub hand_class : ℕ → ℕ → List ℕ
 hand_class allowed column = if nat_lt column allowed then codes "hand" else codes "wish"
 
+-- the arrow to the seat that goes on, if one does
 abbrev pub hand_to : ℕ → ℕ → ℕ → ℕ → Option ℕ → List ℕ
 hand_to seats allowed column from None = []
 hand_to seats allowed column from (Some to) =

@@ -14,6 +14,7 @@ use Rattle.monk_history.specs.Text.{next_words, via_word, from_word}
 abbrev pub buffer_act : ℕ → List ℕ
 buffer_act code = if code == 0 then codes "put" else if code == 1 then codes "take" else codes "act"
 
+-- the word of an act of a book
 abbrev pub book_act : ℕ → List ℕ
 book_act code =
     if code == 0 then codes "start read"
@@ -22,6 +23,7 @@ book_act code =
     else if code == 3 then codes "end write"
     else codes "act"
 
+-- the word of an act of a barber's shop
 abbrev pub shop_act : ℕ → List ℕ
 shop_act code =
     if code == 0 then codes "sit"
@@ -30,9 +32,11 @@ shop_act code =
     else if code == 3 then codes "depart"
     else codes "act"
 
+-- the word of an act of flags
 abbrev pub flags_act : ℕ → List ℕ
 flags_act code = if code == 0 then codes "set" else codes "act"
 
+-- the word of an act
 abbrev pub act_word : ObjectName → ℕ → List ℕ
 act_word Buffer code = buffer_act code
 act_word Book code = book_act code
@@ -56,6 +60,7 @@ event_word o (SignalWait s c d n) = codes "signal, wait"
 abbrev pub next_text : Next → List ℕ
 next_text n = join_with_byte 32 (next_words n)
 
+-- an event in the words of a history
 abbrev pub event_text : Event → List ℕ
 event_text (Enter s via) = codes "enter " ++ (decimal s ++ (codes " " ++ via_word via))
 event_text (Act s op reply) =

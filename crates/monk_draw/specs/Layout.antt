@@ -9,6 +9,7 @@ left_edge = 84
 abbrev pub column_at : ℕ → ℕ
 column_at column = 122 + 76 * column
 
+-- the height at which a lane lies
 abbrev pub lane_at : ℕ → ℕ
 lane_at lane = 107 + 62 * lane
 

@@ -20,6 +20,7 @@ dot_at x y =
     codes "<g class=\"mark\" transform=\"translate(" ++ (decimal x ++ (codes " " ++ (decimal y
     ++ codes ")\"><circle r=\"4\"/>\n")))
 
+-- the dot of an event
 abbrev pub dot : View → ℕ → Event → List ℕ
 dot v column e = dot_at (column_at column) (lane_at (lane_of v.seats (seat_of e)))
 
@@ -27,6 +28,7 @@ dot v column e = dot_at (column_at column) (lane_at (lane_of v.seats (seat_of e)
 unfoldable pub crossed_dot : List ℕ
 crossed_dot = codes "<g class=\"refused\"><circle r=\"7\"/><path d=\"M-4 -4L4 4M-4 4L4 -4\"/></g>\n"
 
+-- the cross of an act that the object refused
 abbrev pub refusal : View → ℕ → Event → List ℕ
 refusal v column e = if nat_lt column v.allowed && is_refused_act e then crossed_dot else []
 
@@ -38,9 +40,11 @@ title step e = codes "<title>" ++ decimal step ++ codes ": " ++ event_text e ++ 
 unfoldable pub word_above : List ℕ → List ℕ
 word_above word = codes "<text class=\"act\" y=\"-17\">" ++ (word ++ codes "</text>\n")
 
+-- the note below a mark
 unfoldable pub note_below : Event → List ℕ
 note_below e = codes "<text class=\"note\" y=\"25\">" ++ event_note e ++ codes "</text></g>\n"
 
+-- the words at a mark
 abbrev pub words : View → Event → List ℕ
 words v e = word_above (event_word v.object e) ++ note_below e
 

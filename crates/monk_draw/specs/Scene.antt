@@ -24,6 +24,7 @@ empty_legend = record {
   refused = false;
 }
 
+-- the legend with that place
 unfoldable pub noted : Legend → Place → Legend
 noted l Outside = l
 noted l Entry = record l { entry = true }
@@ -43,10 +44,12 @@ abbrev pub hand_noted : Legend → ℕ → ℕ → Option ℕ → Legend
 hand_noted l allowed column None = l
 hand_noted l allowed column (Some to) = if nat_lt column allowed then record l { hand = true } else l
 
+-- the legend with an arrow, if one leads from that event
 unfoldable pub hand_noted_behind : Legend → ℕ → ℕ → Option Event → Option Event → Legend
 hand_noted_behind l allowed column None after = l
 hand_noted_behind l allowed column (Some e) after = hand_noted l allowed column (goes_on e after)
 
+-- the legend with the arrows of the columns below that number
 unfoldable pub hands_noted_below : Legend → ℕ → List Event → ℕ → Legend
 hands_noted_below l allowed es zero = l
 hands_noted_below l allowed es (suc column) =

@@ -19,6 +19,7 @@ use Rattle.monk_draw.specs.declared.stay.Stay.{Stay}
 abbrev pub items_of : Vec ℕ Global → List ℕ
 items_of v = v.items
 
+-- who waits on that condition
 abbrev pub queue_in : Queues → ℕ → List ℕ
 queue_in q c = seats_at items_of q.waiting.items c
 

@@ -17,6 +17,7 @@ place_class Waiter = codes "waiter"
 place_class Signaller = codes "signaller"
 place_class (Until p) = codes "until"
 
+-- whether the place is outside
 abbrev pub is_outside : Place → Bool
 is_outside Outside = true
 is_outside Entry = false
@@ -26,6 +27,7 @@ is_outside Waiter = false
 is_outside Signaller = false
 is_outside (Until p) = false
 
+-- the bar of a stretch
 unfoldable pub bar : List ℕ → ℕ → ℕ → ℕ → List ℕ
 bar class x y width =
     codes "<rect class=\"" ++ (class ++ (codes "\" x=\"" ++ (decimal x ++ (codes "\" y=\"" ++ (decimal y
@@ -35,16 +37,19 @@ bar class x y width =
 abbrev pub what_at : ℕ → ℕ → ℕ
 what_at from to = if nat_lt (to - from) 76 then from + (to - from) / 2 else from + 60
 
+-- the condition on which a stretch waits
 unfoldable pub condition_at : ℕ → ℕ → ℕ → List ℕ
 condition_at x y cond =
     codes "<text class=\"what\" x=\"" ++ (decimal x ++ (codes "\" y=\"" ++ (decimal y ++ (codes "\">c" ++ (decimal cond
     ++ codes "</text>\n")))))
 
+-- the predicate for which a stretch waits
 unfoldable pub predicate_at : ℕ → ℕ → ℕ → List ℕ
 predicate_at x y pred =
     codes "<text class=\"what\" x=\"" ++ (decimal x ++ (codes "\" y=\"" ++ (decimal y ++ (codes "\">p" ++ (decimal pred
     ++ codes "</text>\n")))))
 
+-- for what a stretch waits
 abbrev pub what : ℕ → ℕ → Place → List ℕ
 what x y Outside = []
 what x y Entry = []
@@ -61,5 +66,6 @@ stretch_text s =
     else bar (place_class s.place) s.from (lane_at s.lane - 9) (s.to - s.from)
     ++ what (what_at s.from s.to) (lane_at s.lane + 4) s.place
 
+-- the stretches
 abbrev pub stretches_text : List Stretch → List ℕ
 stretches_text drawn = flat_map stretch_text drawn

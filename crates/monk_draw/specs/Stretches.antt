@@ -47,9 +47,11 @@ ended_below stays places x (suc s) = ended_below stays places x s ++ ended s (st
 abbrev pub entry_from : ℕ → ℕ
 entry_from x = if nat_lt (x - 76) left_edge then left_edge else x - 76
 
+-- the stretch of a seat that waited for entry
 abbrev pub entry_stretch : ℕ → ℕ → ℕ → Stretch
 entry_stretch seats x s = record { lane = lane_of seats s; place = Entry; from = entry_from x; to = x }
 
+-- that stretch, if the event lets such a seat in
 abbrev pub entry_stretches : ℕ → ℕ → Option ℕ → List Stretch
 entry_stretches seats x None = []
 entry_stretches seats x (Some s) = entry_stretch seats x s ∷ []

@@ -61,16 +61,20 @@ sheet = texts ++ (shapes ++ dark)
 unfoldable pub pattern_named : List ℕ → List ℕ
 pattern_named name = codes "<pattern id=\"" ++ (name ++ codes "\" width=\"6\" height=\"6\" ")
 
+-- how a pattern is turned
 unfoldable pub pattern_turned : ℕ → List ℕ
 pattern_turned turn =
     codes "patternUnits=\"userSpaceOnUse\" patternTransform=\"rotate(" ++ (decimal turn ++ codes ")\">")
 
+-- the ground of a pattern
 unfoldable pub pattern_back : List ℕ → List ℕ
 pattern_back colour = codes "<rect class=\"back\" width=\"6\" height=\"6\" fill=\"" ++ (colour ++ codes "\"/>")
 
+-- the stripe of a pattern
 unfoldable pub pattern_stripe : List ℕ → List ℕ
 pattern_stripe colour = codes "<rect width=\"2.4\" height=\"6\" fill=\"" ++ (colour ++ codes "\"/></pattern>\n")
 
+-- the hatching of a place
 unfoldable pub hatching : List ℕ → List ℕ → List ℕ → ℕ → List ℕ
 hatching name back stripe turn =
     pattern_named name ++ (pattern_turned turn ++ (pattern_back back ++ pattern_stripe stripe))
@@ -80,15 +84,19 @@ unfoldable pub tip_named : List ℕ → List ℕ
 tip_named name =
     codes "<marker id=\"" ++ (name ++ codes "\" markerWidth=\"8\" markerHeight=\"8\" markerUnits=\"userSpaceOnUse\" ")
 
+-- how the tip of an arrow is turned
 unfoldable pub tip_turned : List ℕ
 tip_turned = codes "refX=\"6\" refY=\"4\" orient=\"auto\">"
 
+-- the shape of the tip of an arrow
 unfoldable pub tip_shape : List ℕ → List ℕ
 tip_shape name = codes "<path class=\"" ++ (name ++ codes "\" d=\"M0 0L8 4L0 8z\"/></marker>\n")
 
+-- the tip of an arrow
 unfoldable pub tip : List ℕ → List ℕ
 tip name = tip_named name ++ (tip_turned ++ tip_shape name)
 
+-- the hatchings of all places
 unfoldable pub hatchings : List ℕ
 hatchings =
     hatching (codes "entry") (codes "#eef1f4") (codes "#c3ccd5") 0
@@ -97,9 +105,11 @@ hatchings =
     ++ (hatching (codes "signaller") (codes "#efe8fb") (codes "#a78bda") 135
     ++ hatching (codes "until") (codes "#ddf3f1") (codes "#5bb8b0") 20)))
 
+-- the patterns and the tips that the picture uses
 unfoldable pub definitions : List ℕ
 definitions =
     codes "<defs>\n" ++ (hatchings ++ (tip (codes "hand-tip") ++ (tip (codes "wish-tip") ++ codes "</defs>\n")))
 
+-- what stands in front of all that is drawn
 abbrev pub style : List ℕ
 style = sheet ++ definitions

@@ -7,6 +7,7 @@ use Rattle.monk_draw.specs.Layout.{column_at, lane_at}
 abbrev pub lanes_end : ℕ → ℕ
 lanes_end columns = 84 + 76 * columns + 16
 
+-- how wide the picture is
 abbrev pub picture_width : ℕ → ℕ
 picture_width columns = if nat_lt (lanes_end columns) 744 then 760 else lanes_end columns + 16
 
@@ -14,6 +15,7 @@ picture_width columns = if nat_lt (lanes_end columns) 744 then 760 else lanes_en
 abbrev pub picture_height : ℕ → ℕ
 picture_height lanes = lane_at lanes + 70
 
+-- where the lines of the columns end
 abbrev pub columns_foot : ℕ → ℕ
 columns_foot lanes = lane_at lanes - 31
 
@@ -21,17 +23,21 @@ columns_foot lanes = lane_at lanes - 31
 unfoldable pub opening : List ℕ
 opening = codes "<svg xmlns=\"http://www.w3.org/2000/svg\" role=\"img\" "
 
+-- the size of the picture
 unfoldable pub sized : ℕ → ℕ → List ℕ
 sized width height =
     codes "viewBox=\"0 0 " ++ (decimal width ++ (codes " " ++ (decimal height ++ (codes "\" width=\"" ++ (decimal width
     ++ (codes "\" height=\"" ++ (decimal height ++ codes "\">\n")))))))
 
+-- the title of the picture
 unfoldable pub head_title : List ℕ
 head_title = codes "<title>The history of a monitor</title>\n"
 
+-- how the picture begins
 abbrev pub head : ℕ → ℕ → List ℕ
 head columns lanes = opening ++ (sized (picture_width columns) (picture_height lanes) ++ head_title)
 
+-- the ground of the picture
 unfoldable pub background : List ℕ
 background = codes "<rect class=\"background\" width=\"100%\" height=\"100%\"/>\n"
 
@@ -41,6 +47,7 @@ column_line foot x =
     codes "<line class=\"grid\" x1=\"" ++ (decimal x ++ (codes "\" x2=\"" ++ (decimal x
     ++ (codes "\" y1=\"68\" y2=\"" ++ (decimal foot ++ codes "\"/>\n")))))
 
+-- the lines of the columns below that number
 unfoldable pub columns_below : ℕ → ℕ → List ℕ
 columns_below foot zero = []
 columns_below foot (suc column) = columns_below foot column ++ column_line foot (column_at column)
@@ -51,20 +58,25 @@ rail end y =
     codes "<line class=\"rail\" x1=\"" ++ (decimal 84 ++ (codes "\" x2=\"" ++ (decimal end ++ (codes "\" y1=\""
     ++ (decimal y ++ (codes "\" y2=\"" ++ (decimal y ++ codes "\"/>\n")))))))
 
+-- the name of a seat at its lane
 unfoldable pub seat_name : ℕ → ℕ → List ℕ
 seat_name base seat =
     codes "<text x=\"16\" y=\"" ++ (decimal base ++ (codes "\">seat " ++ (decimal seat ++ codes "</text>\n")))
 
+-- the name of the lane of a seat that there isn't
 unfoldable pub no_seat_name : ℕ → List ℕ
 no_seat_name base = codes "<text x=\"16\" y=\"" ++ (decimal base ++ codes "\">no seat</text>\n")
 
+-- the name of a lane
 abbrev pub lane_name : ℕ → ℕ → List ℕ
 lane_name seats lane =
     if nat_lt lane seats then seat_name (lane_at lane + 4) lane else no_seat_name (lane_at lane + 4)
 
+-- a lane: its rail and its name
 abbrev pub lane_text : ℕ → ℕ → ℕ → List ℕ
 lane_text end seats lane = rail end (lane_at lane) ++ lane_name seats lane
 
+-- the lanes below that number
 unfoldable pub lanes_below : ℕ → ℕ → ℕ → List ℕ
 lanes_below end seats zero = []
 lanes_below end seats (suc lane) = lanes_below end seats lane ++ lane_text end seats lane

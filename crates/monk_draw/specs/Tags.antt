@@ -3,6 +3,7 @@ use Rattle.std.specs.Prelude.{ℕ, zero, suc, ◌+◌, ◌*◌, ◌%◌, ◌==�
 use Rattle.std.specs.Fmt.{decimal}
 use Rattle.monk_draw.specs.Layout.{lane_at}
 
+-- a seat's number in the picture
 unfoldable pub tag : ℕ → ℕ → ℕ → List ℕ
 tag x y seat =
     codes "<text class=\"tag\" x=\"" ++ (decimal x ++ (codes "\" y=\"" ++ (decimal y ++ (codes "\">" ++ (decimal seat
@@ -13,9 +14,11 @@ unfoldable pub tags_at : ℕ → ℕ → List ℕ
 tags_at x zero = []
 tags_at x (suc seat) = tags_at x seat ++ tag x (lane_at seat + 4) seat
 
+-- whether the column is a tenth one, at which the seats' numbers are repeated
 abbrev pub is_tenth : ℕ → Bool
 is_tenth column = nat_lt 0 column && (column % 10 == 0)
 
+-- the seats' numbers at a column, if it is a tenth one
 abbrev pub tags_of : ℕ → ℕ → List ℕ
 tags_of seats column = if is_tenth column then tags_at (84 + 76 * column) seats else []
 

@@ -16,6 +16,7 @@ shown_last (Some step) count = if nat_lt step count then step else count
 abbrev pub not_shown : ℕ → ℕ
 not_shown last = last - most_shown
 
+-- the events that are shown
 abbrev pub shown_events : Option ℕ → List Event → List Event
 shown_events fault events =
     let last = shown_last fault (length events) in

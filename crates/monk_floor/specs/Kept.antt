@@ -23,6 +23,7 @@ shown_situation q state turn inside begun = record {
   begun = begun;
 }
 
+-- what the floor keeps of its history is right
 pub record KeepsHistory (m : Monitor) (budget : ℕ) (h : List Event) (capacity : ℕ) (q : QueueLists) (state : List ℕ)
     (turn : Turn) (inside : List Bool) (spent granted : List ℕ) (entered : ℕ) : Type 0 where
   pub legal : IsLegal m h

@@ -18,9 +18,11 @@ walk next (suc n) s = s ∷ walk next n (slice_index_or next s 0)
 abbrev pub seats_of : List ℕ → Chain → List ℕ
 seats_of next chain = walk next chain.length chain.first
 
+-- the chain of an empty queue
 abbrev pub empty_chain : Chain
 empty_chain = record { first = 0; last = 0; length = 0 }
 
+-- the chain of that queue
 abbrev pub chain_at : List Chain → ℕ → Chain
 chain_at chains c = slice_index_or chains c empty_chain
 

@@ -14,6 +14,7 @@ use Rattle.monk_history.specs.declared.event.Event.{Event}
 use Rattle.monk_history.specs.declared.event.Next.{Next}
 use Rattle.monk_history.specs.declared.event.Next.TheVariants.{Stay, Entry, Waiter, Signaller, Until as UntilSeat}
 
+-- the queues of a floor, as lists
 pub record QueueLists : Type 0 where
   pub conditions : List (List ℕ)
   pub waiters : List ℕ
@@ -37,6 +38,7 @@ lists_of predicates queues = record {
   untils = waits_in predicates (queue_at queues 2);
 }
 
+-- how often the seat waits for a predicate
 abbrev pub times_in_waits : ℕ → List (ℕ × ℕ) → ℕ
 times_in_waits s untils = times s (map (λ w. w.0) untils)
 

@@ -68,6 +68,7 @@ record_after_look Inner r found =
       steps = suc r.steps;
     }
 
+-- the seat has looked whether it may come in
 pub record HasLooked (k : Rules) (o : Object) (p q : Token) : Type 0 where
   pub found : ℕ
   pub hall : q.hall ≡ p.hall
@@ -113,6 +114,7 @@ is_entry_known WishSignaller known = false
 abbrev pub peeks_of : Bool → Pick → ℕ
 peeks_of chooses wish = if chooses && wants_entry wish then 1 else 0
 
+-- how often a call looks whether somebody waits for entry
 abbrev pub peeks_for : Rules → Object → FloorView → Event → Pick → ℕ
 peeks_for k o f call wish = peeks_of (not (must_stay o (stands_of k o f) call)) wish
 
@@ -176,6 +178,7 @@ pub record HasDone (k : Rules) (o : Object) (a : Holder) (e : Event) (b : Holder
 abbrev pub GoesOut : Rules → Object → Holder → Event → Pick → Token → Type 0
 GoesOut k o a call wish p = HasReleased k o a call wish home.Idle (peeks_of true wish) p
 
+-- the release leaves the seat waiting inside
 abbrev pub ParksInside : Rules → Object → Holder → Event → Pick → Token → Type 0
 ParksInside k o a call wish p = HasReleased k o a call wish home.Inner (peeks_of true wish) p
 

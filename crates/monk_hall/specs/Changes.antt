@@ -39,6 +39,7 @@ home_at (Back x to) = to
 home_at (Passing t to) = to
 home_at Inner = home.Idle
 
+-- the choice, if one was made; else the seat stays
 abbrev pub choice_in : Option Next → Next
 choice_in None = next.Stay
 choice_in (Some x) = x

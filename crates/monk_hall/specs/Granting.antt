@@ -41,9 +41,11 @@ pub record HasGranted (k : Rules) (o : Object) (a : Holder) (call : Event) (wish
   pub released : HasReleased k o a call wish to peeks p
   pub granted : IsGrantFor h released.choice p.me.seen (a.me.steps + peeks) p.me.steps g
 
+-- the seat leaves, and that grant was made
 abbrev pub GrantsOut : Rules → Object → Holder → Event → Pick → Token → House → Option Grant → Type 0
 GrantsOut k o a call wish p h g = HasGranted k o a call wish home.Idle (peeks_of true wish) p h g
 
+-- the seat waits inside, and that grant was made
 abbrev pub GrantsInside : Rules → Object → Holder → Event → Pick → Token → House → Option Grant → Type 0
 GrantsInside k o a call wish p h g = HasGranted k o a call wish home.Inner (peeks_of true wish) p h g
 
@@ -53,6 +55,7 @@ pub record HasStayedAlone (k : Rules) (o : Object) (a : Holder) (call : Event) (
   pub stayed : HasStayed k o a call wish peeks b
   pub none : g ≡ None
 
+-- the seat stays active, or it waits inside and that grant was made
 abbrev pub StaysOrGrants : {K T : Type 0} → Rules → Object → Holder → Event → Pick → After K T → House
     → Option Grant → Type 0
 StaysOrGrants k o a call wish to h g =

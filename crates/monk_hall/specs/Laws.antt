@@ -38,6 +38,7 @@ use Rattle.monk_hall.specs.Tells.{Returns}
 use Rattle.monk_hall.specs.declared.record.SeatRecord.{SeatRecord}
 use Rattle.monk_hall.specs.declared.setting.Setting.{Setting}
 
+-- the state of a hall's table
 abbrev pub HallState : Type 0
 HallState = table.State (Option FloorView) View
 

@@ -13,6 +13,7 @@ use Rattle.monk_hall.specs.declared.setting.Setting.{Setting}
 abbrev pub tickets : ℕ → ℕ
 tickets word = word / 4294967296
 
+-- how many tickets aren't passed, in the shared word
 abbrev pub unpassed : ℕ → ℕ
 unpassed word = word % 4294967296
 
@@ -20,12 +21,15 @@ unpassed word = word % 4294967296
 abbrev pub place_word : ℕ → ℕ
 place_word i = 2 * i + 1
 
+-- the word in which that ticket's grant comes
 abbrev pub ticket_word : ℕ → ℕ → ℕ
 ticket_word seats t = place_word (t % seats)
 
+-- the word in which that seat's grant comes
 abbrev pub seat_word : ℕ → ℕ
 seat_word j = 2 * j + 2
 
+-- the word in which a seat's grant comes, by its place
 abbrev pub waiting_word_at : ℕ → ℕ → Place → ℕ
 waiting_word_at seats j Idle = seat_word j
 waiting_word_at seats j (Ticket t) = ticket_word seats t
@@ -39,6 +43,7 @@ waiting_word_at seats j Inner = seat_word j
 abbrev pub waiting_word : SeatRecord → ℕ
 waiting_word r = waiting_word_at r.setting.seats r.seat r.place
 
+-- how many words a hall has
 abbrev pub word_count : ℕ → ℕ
 word_count seats = 2 * seats + 1
 
@@ -57,5 +62,6 @@ shown_world words at = record {
 abbrev pub floor_of : Setting → List Event → FloorView
 floor_of c h = record { opening = c.opening; seats = c.seats; conds = c.conds; budget = c.budget; history = h }
 
+-- the state of the world that the words and the records show
 abbrev pub shown_state : Setting → List ℕ → (ℕ → SeatRecord) → List Event → State
 shown_state c words at h = record { world = shown_world words at; known = λ j. (at j).known; floor = floor_of c h }

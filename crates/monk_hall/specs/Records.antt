@@ -4,9 +4,11 @@ use Rattle.monk_world.specs.declared.place.Place.TheVariants.{Idle}
 use Rattle.monk_hall.specs.declared.record.SeatRecord.{SeatRecord}
 use Rattle.monk_hall.specs.declared.setting.Setting.{Setting}
 
+-- what one holder knows of the seats
 abbrev pub View : Type 0
 View = List SeatRecord
 
+-- the record is one of the view's
 abbrev pub In : SeatRecord → View → Type 0
 In r [] = ⊥
 In r (x ∷ xs) = (r ≡ x) ⊎ In r xs
@@ -26,9 +28,11 @@ abbrev pub opening_records : Setting → ℕ → ℕ → View
 opening_records c zero i = []
 opening_records c (suc n) i = opening_record c i ∷ opening_records c n (suc i)
 
+-- the view with which a hall opens
 abbrev pub first_view : Setting → View
 first_view c = opening_records c c.seats 0
 
+-- the setting of no hall
 abbrev pub no_setting : Setting
 no_setting = record { opening = []; seats = 0; conds = 0; budget = 0 }
 
@@ -37,16 +41,20 @@ abbrev pub the : View → SeatRecord
 the [] = opening_record no_setting 0
 the (r ∷ rs) = r
 
+-- the view has one record
 abbrev pub IsOne : View → Type 0
 IsOne v = v ≡ the v ∷ []
 
+-- the view's first record, if it has one
 abbrev pub head : View → View
 head [] = []
 head (r ∷ rs) = r ∷ []
 
+-- the view without its first record
 abbrev pub tail : View → View
 tail [] = []
 tail (r ∷ rs) = rs
 
+-- the view has two records
 abbrev pub IsTwo : View → Type 0
 IsTwo v = v ≡ the v ∷ the (tail v) ∷ []

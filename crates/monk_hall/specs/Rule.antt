@@ -23,6 +23,7 @@ use Rattle.monk_hall.specs.Records.{View, In, Distinct}
 use Rattle.monk_hall.specs.declared.record.SeatRecord.{SeatRecord}
 use Rattle.monk_hall.specs.declared.setting.Setting.{Setting}
 
+-- a setting by its parts
 abbrev pub setting_of : List ℕ → ℕ → ℕ → ℕ → Setting
 setting_of opening seats conds budget = record { opening = opening; seats = seats; conds = conds; budget = budget }
 
@@ -41,6 +42,7 @@ pub record CountsCalls (w : World) (h : List Event) : Type 0 where
   pub choosing : (j m : ℕ) → back_turn (w.place j) ≡ due_to m → granted_of h m ≡ w.seat_place m + 1
   pub settled : (m : ℕ) → ((j : ℕ) → back_turn (w.place j) ≢ due_to m) → granted_of h m ≡ w.seat_place m
 
+-- what stands in the slots of a hall's table
 abbrev pub Homes : Type 0
 Homes = List (maybe.Option (Option FloorView))
 
@@ -71,5 +73,6 @@ pub record IsKeptHall (k : Rules) (o : Object) (c : Setting) (words : List ℕ) 
   pub kept : IsKept k o c.seats c.conds (shown_state c words at history)
   pub told : AreTold k o c homes at (shown_world words at) past history
 
+-- the state of the table is that of a hall
 abbrev pub IsHall : Rules → Object → Setting → table.State (Option FloorView) View → Type 0
 IsHall k o c s = (at : ℕ → SeatRecord) × AreShown c s.views at × IsKeptHall k o c s.words s.homes at

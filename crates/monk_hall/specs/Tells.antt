@@ -37,9 +37,11 @@ abbrev pub TellsArrive : Me → ℕ → Me → Type 0
 TellsArrive me found new = (new ≡ (record_after_arrive (the me.0) found ∷ [], me.1))
     × (enters_of (the me.0).seen ≤ tickets found)
 
+-- what a look at a ticket's word tells
 abbrev pub TellsTicketLook : Me → ℕ → Me → Type 0
 TellsTicketLook me found new = new ≡ (record_after_ticket_look (the me.0) found ∷ [], me.1)
 
+-- what a look at a seat's own word tells
 abbrev pub TellsSeatLook : Me → ℕ → Me → Type 0
 TellsSeatLook me found new = new ≡ (record_after_seat_look (the me.0) found ∷ [], me.1)
 
@@ -71,6 +73,7 @@ TellsDrop me found new =
     (new ≡ (record_after_drop (the me.0) found ∷ [], me.1)) × (0 < unpassed found) × (unpassed found ≤ tickets found)
     × (tickets found + 1 ≡ unpassed found + enters_of (the me.0).seen)
 
+-- what a grant tells
 abbrev pub TellsGrant : Me → ℕ → Me → Type 0
 TellsGrant me found new = new ≡ (record_after_grant (the me.0) ∷ [], me.1)
 
@@ -83,6 +86,7 @@ pub record SeesTruly (k : Rules) (o : Object) (r : SeatRecord) : Type 0 where
   pub legal : IsLegal (monitor_of k o (floor_of r.setting r.seen)) r.seen
   pub own : events_of r.seen r.seat ≡ r.mine
 
+-- what a comparison of two seats tells
 abbrev pub TellsCompare : Rules → Object → Me → ℕ → Me → Type 0
 TellsCompare k o me found new = (new ≡ (view_after_compare me.0, me.1)) × AreOne (the me.0).seen (the (tail me.0)).seen
     × SeesTruly k o (the new.0) × SeesTruly k o (the (tail new.0))
@@ -122,6 +126,7 @@ pub record Returns (k : Rules) (o : Object) (r : SeatRecord) (f : FloorView) : T
   pub left : left_within to < left_of before.budget before.history r.seat
   pub grows : f ≡ with_event before (with_next choice call)
 
+-- the table has the words of that many seats
 abbrev pub IsSized : TableId → ℕ → Type 0
 IsSized z seats = (z.words ≡ word_count seats) × (z.slots ≡ 1)
 

@@ -1,9 +1,11 @@
 -- The limits: of a monitor, of the events of a seat, and of a text
 use Rattle.std.specs.Prelude.{ℕ, ◌^◌}
 
+-- the most seats of a monitor
 abbrev pub most_seats : ℕ
 most_seats = 32
 
+-- the most conditions of a monitor
 abbrev pub most_conds : ℕ
 most_conds = 8
 
@@ -19,6 +21,7 @@ all_events_version = 2
 abbrev pub least_budget : ℕ
 least_budget = 2
 
+-- the most events of one seat
 abbrev pub most_budget : ℕ
 most_budget = 1048576
 

@@ -31,6 +31,7 @@ use Rattle.monk_logs.specs.declared.text.line.LogLine.TheVariants.{Enter, Resume
 
 -- ---- numbers and words
 
+-- the number of what is to blame, from 1
 abbrev pub blame_number : Blame → ℕ
 blame_number Range = 1
 blame_number Call = 2
@@ -42,6 +43,7 @@ blame_number Served = 7
 blame_number Order = 8
 blame_number Choice = 9
 
+-- the word of what is to blame
 abbrev pub blame_word : Blame → List ℕ
 blame_word Range = codes "range"
 blame_word Call = codes "call"
@@ -83,6 +85,7 @@ line_event k (Broadcast s c) = event.SignalAll s c
 line_event k (Until s p) = event.Until s p next.Stay
 line_event k (Act s op r) = event.Act s op r
 
+-- whether each number of the event is in the monitor's range
 abbrev pub is_event_in_range : Monitor → Event → Bool
 is_event_in_range m e = is_in_range m.seats m.conds m.object.codes m.object.predicates e
 
@@ -136,6 +139,7 @@ resume_blame q s = if not (stands_in q s) then Unserved else if not (is_front_in
 abbrev pub stay_blame : Rules → Queues → ℕ → Blame
 stay_blame k q s = if nat_lt k.signaller k.waiter || is_front s q.signallers then Choice else Order
 
+-- what is wrong with the choice that a line tells, by the queues that it was made from
 abbrev pub choice_blame : Rules → Queues → LogLine → Blame
 choice_blame k q (Enter s) = Choice
 choice_blame k q (Resume s) = resume_blame q s
@@ -155,14 +159,17 @@ late_blame m t e l =
     else if not (is_right_reply m.object t.state (line_event m.kind.mode l)) then Reply
     else choice_blame m.kind (queues_at m.object t e) l
 
+-- the early blame if there is one, and else the late one
 abbrev pub first_blame : Option Blame → Blame → Blame
 first_blame None late = late
 first_blame (Some early) late = early
 
+-- what is to blame when a release and the line that tells its choice don't go together
 abbrev pub release_blame : Monitor → Situation → Event → LogLine → Blame
 release_blame m t e l = first_blame (early_blame m (line_event m.kind.mode l)) (late_blame m t e l)
 
 -- ---- behind a signal that is half told, a line that doesn't tell its other half
 
+-- what is to blame for a line that can't be the other half of a signal
 abbrev pub half_blame : Monitor → LogLine → Blame
 half_blame m l = if is_event_in_range m (line_event m.kind.mode l) then Call else Range

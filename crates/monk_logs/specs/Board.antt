@@ -38,6 +38,7 @@ pub record Board : Type 0 where
   pub inside : ℕ → Bool
   pub begun : Bool
 
+-- the board before the first line
 abbrev pub opening_board : Monitor → Board
 opening_board m = record {
   items = [];
@@ -69,12 +70,15 @@ abbrev pub given_by : Event → List Item → List Item
 given_by e items =
     option_map_or (λ c. map (λ s. Service c) (served_of e (unserved_in (line c items)))) (signals_on e) []
 
+-- the items, with what the event gives to conditions
 abbrev pub items_with : Board → Event → List Item
 items_with b e = b.items ++ given_by e b.items
 
+-- the signaller queue, with the caller if the event lets it step back
 abbrev pub signallers_with : Board → Event → List ℕ
 signallers_with b e = b.signallers ++ signals (sight b).condition e
 
+-- whom a release may choose in that order, as far as the board knows
 abbrev pub board_chances : Order → Object → Board → Event → Chances
 board_chances o object b e = record {
   no_waiter = is_empty (services (items_with b e));
@@ -85,6 +89,7 @@ board_chances o object b e = record {
   ready = λ j. may_go o j (ready_of object b.state b.untils);
 }
 
+-- whether the rules permit the choice of the event on that board
 abbrev pub board_permits : Order → Rules → Object → Board → Event → Bool
 board_permits o k object b e = permits_by k (must_stay object (sight b) e) (board_chances o object b e) e
 
@@ -95,11 +100,13 @@ board_late_reason o m b e =
     else if not (board_permits o m.kind m.object b e) then 6
     else 0
 
+-- the first reason against the event on that board, or 0
 unfoldable pub board_reason : Order → Monitor → Board → Event → ℕ
 board_reason o m b e = reason_before (board_late_reason o m b e) m (sight b) e
 
 -- ---- what it makes of a board
 
+-- the items without the seat that was chosen from the waiter queue
 abbrev pub chosen_out : Option Next → List Item → List Item
 chosen_out None items = items
 chosen_out (Some next.Stay) items = items
@@ -112,6 +119,7 @@ chosen_out (Some (next.Until j)) items = items
 abbrev pub waiting_item : Event → List Item
 waiting_item e = option_map_or (λ c. Waiting (seat_of e) c ∷ []) (waits_on e) []
 
+-- the board after an allowed event
 abbrev pub board_after : Object → Board → Event → Board
 board_after object b e = record {
   items = chosen_out (next_of e) (items_with b e) ++ waiting_item e;
@@ -142,10 +150,12 @@ abbrev pub board_step : Order → Monitor → Board → Step → Option Board
 board_step o m b (Did e) = if board_reason o m b e == 0 then Some (board_after m.object b e) else None
 board_step o m b (Lapsed s) = if is_open b.turn && may_lapse o s b.items then Some (board_lapse b s) else None
 
+-- the board after those steps; none once a step isn't allowed
 unfoldable pub board_from : Order → Monitor → Option Board → List Step → Option Board
 board_from o m None steps = None
 board_from o m (Some b) [] = Some b
 board_from o m (Some b) (step ∷ steps) = board_from o m (board_step o m b step) steps
 
+-- the board after those steps, from that board on
 abbrev pub board_steps : Order → Monitor → Board → List Step → Option Board
 board_steps o m b steps = board_from o m (Some b) steps

@@ -29,9 +29,11 @@ pub record BoardCourse : Type 0 where
   pub board : Board
   pub pending : Pending
 
+-- a board with what is still to be known
 abbrev pub board_course : Board → Pending → BoardCourse
 board_course b p = record { board = b; pending = p }
 
+-- a board of which all is known
 abbrev pub board_settled : Board → BoardCourse
 board_settled b = board_course b Settled
 
@@ -44,6 +46,7 @@ standing_choice b e j =
     else if is_among j (signallers_with b e) then next.Signaller j
     else next.Until j
 
+-- the choice that a line tells of the release before it
 abbrev pub board_told_next : Board → Event → LogLine → Next
 board_told_next b e (Enter s) = next.Entry
 board_told_next b e (Resume s) = standing_choice b e s
@@ -55,11 +58,13 @@ board_told_next b e (Broadcast s c) = next.Stay
 board_told_next b e (Until s p) = next.Stay
 board_told_next b e (Act s op r) = next.Stay
 
+-- the release, with the choice that the line tells
 abbrev pub board_told : Board → Event → LogLine → Event
 board_told b e l = with_next (board_told_next b e l) e
 
 -- ---- a line
 
+-- the course after a step of which all is known
 abbrev pub board_known : Order → Monitor → Board → Step → Option BoardCourse
 board_known o m b step = option_map board_settled (board_step o m b step)
 
@@ -67,9 +72,11 @@ board_known o m b step = option_map board_settled (board_step o m b step)
 abbrev pub board_hold : Monitor → Board → Event → Pending → Option BoardCourse
 board_hold m b e p = if reason_before 0 m (sight b) e == 0 then Some (board_course b p) else None
 
+-- the course after a release whose choice the next line tells
 abbrev pub board_held : Monitor → Board → Event → Option BoardCourse
 board_held m b e = board_hold m b e (Release e)
 
+-- how the next caller comes in: the first of all finds the monitor free
 abbrev pub board_via : Board → Via
 board_via b = if b.begun then Handed else Free
 
@@ -99,10 +106,12 @@ board_half m b s c (Broadcast j d) = None
 board_half m b s c (Until j p) = None
 board_half m b s c (Act j op r) = None
 
+-- the course after a line, if the release before it was allowed
 abbrev pub board_then : Order → Monitor → Option Board → LogLine → Option BoardCourse
 board_then o m None l = None
 board_then o m (Some b) l = board_line o m b l
 
+-- the course after a line, by what was still to be known before it
 abbrev pub board_behind : Order → Monitor → Board → Pending → LogLine → Option BoardCourse
 board_behind o m b Settled l = board_line o m b l
 board_behind o m b (Half s c) l = board_half m b s c l
@@ -116,5 +125,6 @@ board_judge_from o m None log = None
 board_judge_from o m (Some x) [] = Some x
 board_judge_from o m (Some x) (l ∷ log) = board_judge_from o m (board_behind o m x.board x.pending l) log
 
+-- the course after the whole log, from the opening board on
 abbrev pub board_judge : Order → Monitor → List LogLine → Option BoardCourse
 board_judge o m log = board_judge_from o m (Some (board_settled (opening_board m))) log

@@ -33,6 +33,7 @@ without_lapses Served = Served
 without_lapses Order = Order
 without_lapses Choice = Served
 
+-- what is to blame for a lapse, where no wait may run out
 abbrev pub legal_lapse_blame : Monitor → Board → Pending → ℕ → Blame
 legal_lapse_blame m b Settled s = lapse_blame m.seats s
 legal_lapse_blame m b (Half j c) s = half_blame m (Lapse s)
@@ -40,6 +41,7 @@ legal_lapse_blame m b (Release e) s = without_lapses (board_release_blame Fifo m
 
 -- ---- a line
 
+-- the course after a line in order of arrival, where no wait may run out
 abbrev pub legal_behind : Monitor → Board → Pending → LogLine → Result BoardCourse Blame
 legal_behind m b p (Enter s) = board_behind_over Fifo m b p (Enter s)
 legal_behind m b p (Resume s) = board_behind_over Fifo m b p (Resume s)

@@ -83,6 +83,7 @@ choice_on b j =
     else if is_among j b.signallers then next.Signaller j
     else next.Until j
 
+-- the choice that a line tells of the release before it, on the board once the release has served
 abbrev pub told_on : Board → LogLine → Next
 told_on b (Enter s) = next.Entry
 told_on b (Resume s) = choice_on b s
@@ -119,6 +120,7 @@ stay_blame_on o k b s = if nat_lt k.signaller k.waiter || may_go o s b.signaller
 abbrev pub lapse_blame_on : Order → Board → Event → ℕ → Blame
 lapse_blame_on o b e s = if may_lapse o s (b.items ++ waiting_item e) then blame.Choice else blame.Served
 
+-- what is wrong with the choice that a line tells, on the board once the release has served
 abbrev pub choice_blame_on : Order → Rules → Object → Board → Event → LogLine → Blame
 choice_blame_on o k object b e (Enter s) = blame.Choice
 choice_blame_on o k object b e (Resume s) = resume_blame_on o object b s
@@ -138,5 +140,7 @@ late_blame_on o m stays b e l =
     else if not (is_right_reply m.object b.state (line_event m.kind.mode l)) then blame.Reply
     else choice_blame_on o m.kind m.object b e l
 
+-- what is to blame when a release and the line that tells its choice don't go together, on that
+-- board
 abbrev pub blame_on : Order → Monitor → Bool → Board → Event → LogLine → Blame
 blame_on o m stays b e l = first_blame (early_blame m (line_event m.kind.mode l)) (late_blame_on o m stays b e l)

@@ -17,6 +17,7 @@ abbrev pub first_course : Option BoardCourse → Option BoardCourse → Option B
 first_course None y = y
 first_course (Some x) y = Some x
 
+-- the course after a line, which may be read as a lapse if lapses are allowed
 abbrev pub board_read : Lapses → Order → Monitor → Board → Pending → LogLine → Option BoardCourse
 board_read Told o m b p l = board_behind o m b p l
 board_read Allowed o m b p l = first_course (board_behind o m b p l) (board_behind o m b p (as_lapse l))
@@ -27,5 +28,6 @@ read_from x o m None log = None
 read_from x o m (Some y) [] = Some y
 read_from x o m (Some y) (l ∷ log) = read_from x o m (board_read x o m y.board y.pending l) log
 
+-- the course after the whole log, with lapses read as allowed
 abbrev pub judge_read : Lapses → Order → Monitor → List LogLine → Option BoardCourse
 judge_read x o m log = read_from x o m (Some (board_settled (opening_board m))) log

@@ -30,17 +30,21 @@ use Rattle.monk_logs.specs.declared.verdict.LogVerdict.{LogVerdict}
 abbrev pub board_add : Order → Monitor → Board → Event → Result Board ℕ
 board_add o m b e = if board_reason o m b e == 0 then Ok (board_after m.object b e) else Err (board_reason o m b e)
 
+-- the course of a board, or what is to blame for that reason
 abbrev pub course_by : Result Board ℕ → Result BoardCourse Blame
 course_by (Ok b) = Ok (board_settled b)
 course_by (Err reason) = Err (blame_of reason)
 
+-- the course after an event of which all is known, or what is to blame
 abbrev pub board_settle : Order → Monitor → Board → Event → Result BoardCourse Blame
 board_settle o m b e = course_by (board_add o m b e)
 
+-- the course after an event with that still to be known, or what is to blame
 abbrev pub board_hold_over : Monitor → Board → Event → Pending → Result BoardCourse Blame
 board_hold_over m b e p =
     if reason_before 0 m (sight b) e == 0 then Ok (board_course b p) else Err (blame_of (reason_before 0 m (sight b) e))
 
+-- the course after a release, or what is to blame
 abbrev pub board_release_over : Monitor → Board → Event → Result BoardCourse Blame
 board_release_over m b e = board_hold_over m b e (Release e)
 
@@ -53,6 +57,7 @@ board_lapse_blame m b s =
     else if not (is_open b.turn && b.inside s) then blame.Turn
     else blame.Served
 
+-- the course after a wait that ran out, or what is to blame
 abbrev pub board_lapse_over : Order → Monitor → Board → ℕ → Result BoardCourse Blame
 board_lapse_over o m b s =
     if is_open b.turn && may_lapse o s b.items then Ok (board_settled (board_lapse b s))
@@ -60,11 +65,13 @@ board_lapse_over o m b s =
 
 -- ---- where each event before the line is known
 
+-- the course after a signal, or what is to blame; under immediate return it is half of an event
 abbrev pub board_signal_over : Monitor → Board → ℕ → ℕ → Result BoardCourse Blame
 board_signal_over m b s c =
     if returns_at_once m.kind.mode then board_hold_over m b (event.SignalLeave s c next.Stay) (Half s c)
     else board_release_over m b (event.Signal s c next.Stay)
 
+-- the course after a line before which all was known, or what is to blame
 abbrev pub board_line_over : Order → Monitor → Board → LogLine → Result BoardCourse Blame
 board_line_over o m b (Enter s) = board_settle o m b (event.Enter s (board_via b))
 board_line_over o m b (Resume s) = board_settle o m b (event.Resume s (due_from b.turn))
@@ -78,6 +85,7 @@ board_line_over o m b (Act s op r) = board_settle o m b (event.Act s op r)
 
 -- ---- behind a signal that is half told
 
+-- the course after the line that tells the other half of a signal, or what is to blame
 abbrev pub board_half_over : Monitor → Board → ℕ → ℕ → LogLine → Result BoardCourse Blame
 board_half_over m b s c (Enter j) = Err (half_blame m (Enter j))
 board_half_over m b s c (Resume j) = Err (half_blame m (Resume j))
@@ -108,11 +116,13 @@ abbrev pub board_or : Board → Result Event Blame → Result Board Blame
 board_or b (Ok e) = Ok b
 board_or b (Err why) = Err why
 
+-- the course after a line that tells the choice of the release before it, or what is to blame
 abbrev pub board_told_over : Order → Monitor → Board → Event → LogLine → Result BoardCourse Blame
 board_told_over o m b e l =
     if board_reason o m b (board_told b e l) == 0 then board_line_over o m (board_after m.object b (board_told b e l)) l
     else Err (board_release_blame o m b e l)
 
+-- the course after a line, by what was still to be known, or what is to blame
 abbrev pub board_behind_over : Order → Monitor → Board → Pending → LogLine → Result BoardCourse Blame
 board_behind_over o m b Settled l = board_line_over o m b l
 board_behind_over o m b (Half s c) l = board_half_over m b s c l
@@ -126,6 +136,7 @@ IsHeldOver m b (Release e) = MayCallIn m (sight b) e × (next_of e ≡ Some next
 
 -- ---- a log
 
+-- the course after one more line, or what is to blame
 abbrev pub board_over : Order → Monitor → BoardCourse → LogLine → Result BoardCourse Blame
 board_over o m x l = board_behind_over o m x.board x.pending l
 
@@ -133,5 +144,6 @@ board_over o m x l = board_behind_over o m x.board x.pending l
 abbrev pub board_verdict_from : Order → Monitor → ℕ → Result BoardCourse Blame → List LogLine → LogVerdict
 board_verdict_from o m n x log = verdict_along (board_over o m) n x log
 
+-- the verdict on a log in that order, where only a `lapse` is a wait that ran out
 abbrev pub board_verdict : Order → Monitor → List LogLine → LogVerdict
 board_verdict o m log = board_verdict_from o m 0 (Ok (board_settled (opening_board m))) log

@@ -21,6 +21,7 @@ pub record Chances : Type 0 where
   pub no_ready : Bool
   pub ready : ℕ → Bool
 
+-- whom a release may choose from those queues in that order
 abbrev pub chances : Order → Queues → Chances
 chances o q = record {
   no_waiter = is_empty q.waiters;

@@ -31,6 +31,7 @@ items_behind Settled items by = items
 items_behind (Half s c) items by = items
 items_behind (Release e) items by = by e
 
+-- the items once the pending event has given its own
 abbrev pub items_now : BoardCourse → List Item
 items_now x = items_behind x.pending x.board.items (λ e. items_with x.board e ++ waiting_item e)
 
@@ -38,9 +39,11 @@ items_now x = items_behind x.pending x.board.items (λ e. items_with x.board e +
 abbrev pub woken_among : List Item → ℕ
 woken_among items = length (services items)
 
+-- how many seats were served and aren't back
 abbrev pub woken_now : BoardCourse → ℕ
 woken_now x = woken_among (items_now x)
 
+-- how many of the items are seats that wait
 abbrev pub waiting_seats : List Item → ℕ
 waiting_seats [] = 0
 waiting_seats (Waiting s c ∷ items) = suc (waiting_seats items)
@@ -50,6 +53,7 @@ waiting_seats (Service c ∷ items) = waiting_seats items
 abbrev pub waiting_among : List Item → ℕ
 waiting_among items = waiting_seats items - woken_among items
 
+-- how many seats wait unserved
 abbrev pub waiting_now : BoardCourse → ℕ
 waiting_now x = waiting_among (items_now x)
 
@@ -63,11 +67,13 @@ waits_unsignalled c items = not (is_empty (seats_in (line c items))) && services
 abbrev pub lacks_signal : Object → List ℕ → List Item → WaitsFor → Bool
 lacks_signal o state items w = nat_lt w.pred o.predicates && o.holds state w.pred && waits_unsignalled w.cond items
 
+-- whether somebody waits for a predicate that holds, on a condition that nobody signalled
 abbrev pub lacks_some_signal : Object → List ℕ → List Item → List WaitsFor → Bool
 lacks_some_signal o state items means = list_any (lacks_signal o state items) means
 
 -- ---- a line more
 
+-- whether the line is an entry
 abbrev pub is_enter : LogLine → Bool
 is_enter (Enter s) = true
 is_enter (Resume s) = false
@@ -79,6 +85,7 @@ is_enter (Broadcast s c) = false
 is_enter (Until s p) = false
 is_enter (Act s op r) = false
 
+-- whether the line is a leave
 abbrev pub is_leave : LogLine → Bool
 is_leave (Enter s) = false
 is_leave (Resume s) = false
@@ -118,6 +125,7 @@ lets_go (Act s op r) = false
 abbrev pub one_if : ℕ → Bool → ℕ
 one_if n is = if is then n + 1 else n
 
+-- the first line that was missed: the one before, or this one if it is
 abbrev pub first_missed : Option ℕ → Bool → ℕ → Option ℕ
 first_missed None is n = if is then Some n else None
 first_missed (Some before) is n = Some before
@@ -142,6 +150,7 @@ abbrev pub tally_after : Object → List WaitsFor → ℕ → BoardCourse → Lo
 tally_after o means n x l y k =
     with_line n l (woken_now x) (woken_now y) (lets_go l && lacks_some_signal o y.board.state (items_now y) means) k
 
+-- the tally before the first line
 abbrev pub nothing_tallied : Tally
 nothing_tallied = record { back = 0; lapsed = 0; passed = 0; entered = 0; left = 0; missed = None }
 
@@ -160,9 +169,11 @@ pub record Counted : Type 0 where
   pub course : BoardCourse
   pub tally : Tally
 
+-- a course with its tally
 abbrev pub count_state : BoardCourse → Tally → Counted
 count_state x k = record { course = x; tally = k }
 
+-- the course and the tally before the first line
 abbrev pub nothing_counted : Monitor → Counted
 nothing_counted m = count_state (board_settled (opening_board m)) nothing_tallied
 
@@ -178,6 +189,7 @@ counts_by k waiting woken = record {
   missed = k.missed;
 }
 
+-- the counts as they are at that place of the log
 abbrev pub counts_at : Counted → Counts
 counts_at s = counts_by s.tally (waiting_now s.course) (woken_now s.course)
 
@@ -194,5 +206,6 @@ counts_from m means n s (l ∷ log) =
     (count_state y (tally_after m.object means (n + 1) s.course l y s.tally)) log) (counts_at s)
     (read_over Allowed Any m s.course l)
 
+-- what happens in the log, counted up to its first misfit
 abbrev pub counts_of : Monitor → List WaitsFor → List LogLine → Counts
 counts_of m means log = counts_from m means 0 (nothing_counted m) log

@@ -29,9 +29,11 @@ pub record Course : Type 0 where
   pub past : List Event
   pub pending : Pending
 
+-- the events so far, with what is still to be known
 abbrev pub course : List Event → Pending → Course
 course past pending = record { past = past; pending = pending }
 
+-- the events so far, if all of them is known
 abbrev pub settled_course : List Event → Course
 settled_course past = course past Settled
 
@@ -44,6 +46,7 @@ chosen_from q j =
     else if is_front j q.signallers then next.Signaller j
     else next.Until j
 
+-- the choice that a line tells of the release before it, by the queues that it was made from
 abbrev pub told_next : Queues → LogLine → Next
 told_next q (Enter s) = next.Entry
 told_next q (Resume s) = chosen_from q s
@@ -55,6 +58,7 @@ told_next q (Broadcast s c) = next.Stay
 told_next q (Until s p) = next.Stay
 told_next q (Act s op r) = next.Stay
 
+-- the release, with the choice that the line tells
 abbrev pub told_release : Object → Situation → Event → LogLine → Event
 told_release o t e l = with_next (told_next (queues_at o t e) l) e
 
@@ -64,6 +68,7 @@ told_release o t e l = with_next (told_next (queues_at o t e) l) e
 abbrev pub add_in : Monitor → Situation → List Event → Event → Option (List Event)
 add_in m t past e = if reason_in m t e == 0 then Some (past ++ e ∷ []) else None
 
+-- the events with one more, if it is allowed
 abbrev pub add : Monitor → List Event → Event → Option (List Event)
 add m past e = add_in m (situation m past) past e
 
@@ -71,9 +76,11 @@ add m past e = add_in m (situation m past) past e
 abbrev pub hold_in : Monitor → Situation → List Event → Event → Pending → Option Course
 hold_in m t past e p = if reason_before 0 m t e == 0 then Some (course past p) else None
 
+-- the course after an event with that still to be known
 abbrev pub hold : Monitor → List Event → Event → Pending → Option Course
 hold m past e p = hold_in m (situation m past) past e p
 
+-- the course after a release whose choice the next line tells
 abbrev pub held_course : Monitor → List Event → Event → Option Course
 held_course m past e = hold m past e (Release e)
 
@@ -112,10 +119,12 @@ behind_half m past s c (Broadcast j d) = None
 behind_half m past s c (Until j p) = None
 behind_half m past s c (Act j op r) = None
 
+-- the course after a line, if the release before it was allowed
 abbrev pub then_behind : Monitor → Option (List Event) → LogLine → Option Course
 then_behind m None l = None
 then_behind m (Some past) l = behind_events m past l
 
+-- the course after a line, by what was still to be known before it
 abbrev pub behind : Monitor → List Event → Pending → LogLine → Option Course
 behind m past Settled l = behind_events m past l
 behind m past (Half s c) l = behind_half m past s c l
@@ -129,5 +138,6 @@ judge_from m None log = None
 judge_from m (Some c) [] = Some c
 judge_from m (Some c) (l ∷ log) = judge_from m (behind m c.past c.pending l) log
 
+-- the course after the whole log, from no events on
 abbrev pub judge : Monitor → List LogLine → Option Course
 judge m log = judge_from m (Some (settled_course [])) log

@@ -23,6 +23,7 @@ use Rattle.monk_logs.specs.declared.board.pending.Pending.TheVariants.{Settled, 
 abbrev pub own_or : ℕ → ℕ → Next
 own_or j s = if j == s then next.Stay else next.Signaller j
 
+-- the choice among the fronts of the queues for a log that ends with a release
 abbrev pub by_fronts : Option Next → Option ℕ → Bool → ℕ → Next
 by_fronts None None waiters_first s = next.Entry
 by_fronts None (Some j) waiters_first s = own_or j s

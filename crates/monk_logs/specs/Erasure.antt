@@ -19,5 +19,6 @@ erasure_of (event.Resume s q) = Resume s ∷ []
 erasure_of (event.SignalAll s c) = Broadcast s c ∷ []
 erasure_of (event.SignalWait s c d x) = Signal s c ∷ Wait s d ∷ []
 
+-- what a recorder writes down of a history
 abbrev pub erasure : List Event → List LogLine
 erasure h = flat_map erasure_of h

@@ -9,6 +9,8 @@ pub record IsFirstWithout (Open : List LogLine → Type 0) (log : List LogLine) 
   pub open_before : Open (take (n - 1) log)
   pub not_open : Open (take n log) → ⊥
 
+-- the verdict is exact: it fits if the log is open, and misfits at the first line with which it
+-- isn't
 abbrev pub IsVerdictBy : (List LogLine → Type 0) → List LogLine → LogVerdict → Type 0
 IsVerdictBy Open log Fits = Open log
 IsVerdictBy Open log (Misfit n why) = IsFirstWithout Open log n

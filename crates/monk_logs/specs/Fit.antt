@@ -11,6 +11,7 @@ use Rattle.monk_logs.specs.declared.order.Order.TheVariants.{Fifo, Wake, Any}
 use Rattle.monk_logs.specs.declared.verdict.LogVerdict.{LogVerdict}
 use Rattle.monk_logs.specs.declared.verdict.LogVerdict.TheVariants as verdict
 
+-- the word of an order
 abbrev pub order_word : Order → List ℕ
 order_word Fifo = codes "fifo"
 order_word Wake = codes "wake"
@@ -43,16 +44,20 @@ misfit_line (Misfit n why) = Some n
 
 -- ---- as it is found, from the strictest order on
 
+-- that order if the verdict is that the log fits, and else the other fit
 abbrev pub or_in : LogVerdict → Order → Fit → Fit
 or_in verdict.Fits o other = In o
 or_in (verdict.Misfit n why) o other = other
 
+-- the fit by the verdict in the loosest order
 abbrev pub last_fit : LogVerdict → Fit
 last_fit verdict.Fits = In Any
 last_fit (verdict.Misfit n why) = Misfit n why
 
+-- the strictest order in which the log fits, by its verdicts
 abbrev pub fit_by : (Order → LogVerdict) → Fit
 fit_by v = or_in (v Fifo) Fifo (or_in (v Wake) Wake (last_fit (v Any)))
 
+-- the strictest order in which the log could be of that monitor, or its first misfit
 abbrev pub fit_of : Lapses → Monitor → List LogLine → Fit
 fit_of x m log = fit_by (λ o. read_verdict x o m log)

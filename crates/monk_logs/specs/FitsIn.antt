@@ -16,6 +16,7 @@ abbrev pub step_lines : Step → List LogLine
 step_lines (Did e) = erasure_of e
 step_lines (Lapsed s) = Lapse s ∷ []
 
+-- what a recorder writes down of a run
 abbrev pub run_lines : List Step → List LogLine
 run_lines steps = flat_map step_lines steps
 
@@ -38,5 +39,6 @@ is_lapse (Broadcast s c) = false
 is_lapse (Until s p) = false
 is_lapse (Act s op r) = false
 
+-- whether a line tells that a wait ran out
 abbrev pub has_lapse : List LogLine → Bool
 has_lapse log = list_any is_lapse log

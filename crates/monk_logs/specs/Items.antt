@@ -19,11 +19,13 @@ line c [] = []
 line c (Waiting s d ∷ items) = if d == c then Some s ∷ line c items else line c items
 line c (Service d ∷ items) = if d == c then None ∷ line c items else line c items
 
+-- the seats among those places, in order
 abbrev pub seats_in : List (Option ℕ) → List ℕ
 seats_in [] = []
 seats_in (Some s ∷ l) = s ∷ seats_in l
 seats_in (None ∷ l) = seats_in l
 
+-- how many of those places are services
 abbrev pub services_in : List (Option ℕ) → ℕ
 services_in [] = 0
 services_in (Some s ∷ l) = services_in l
@@ -40,6 +42,7 @@ keeps_up n (Some s ∷ l) = keeps_up (suc n) l
 keeps_up zero (None ∷ l) = false
 keeps_up (suc n) (None ∷ l) = keeps_up n l
 
+-- whether one of those places is a service
 abbrev pub has_service : List (Option ℕ) → Bool
 has_service [] = false
 has_service (Some s ∷ l) = has_service l
@@ -86,6 +89,7 @@ was_served_first j items =
     option_map_or (λ c. is_front c (services items) && is_front j (seats_in (line c items)))
     (condition_of j items) false
 
+-- the first seat that waits on that condition
 abbrev pub first_seat_at : Option ℕ → List Item → Option ℕ
 first_seat_at None items = None
 first_seat_at (Some c) items = slice_get (seats_in (line c items)) 0
@@ -112,6 +116,7 @@ taken_out j [] = []
 taken_out j (Waiting s c ∷ items) = if s == j then without_service c items else Waiting s c ∷ taken_out j items
 taken_out j (Service c ∷ items) = Service c ∷ taken_out j items
 
+-- whether the item is that seat's wait
 abbrev pub is_waiting_of : ℕ → Item → Bool
 is_waiting_of j (Waiting s c) = s == j
 is_waiting_of j (Service c) = false
@@ -126,5 +131,6 @@ can_be_unserved Fifo j c items = is_among j (unserved_in (line c items))
 can_be_unserved Wake j c items = is_among j (unserved_in (line c items))
 can_be_unserved Any j c items = keeps_up 0 (line c (without_seat j items))
 
+-- whether the wait of that seat may run out
 abbrev pub may_lapse : Order → ℕ → List Item → Bool
 may_lapse o j items = option_map_or (λ c. can_be_unserved o j c items) (condition_of j items) false

@@ -5,6 +5,7 @@ use Rattle.monk_history.specs.declared.event.Event.{Event}
 use Rattle.monk_logs.specs.declared.completion.past.Past.{Past}
 use Rattle.monk_logs.specs.declared.completion.past.Past.TheVariants.{Dropped, Kept}
 
+-- the events, if they are kept
 abbrev pub kept_events : Past → Option (List Event)
 kept_events Dropped = None
 kept_events (Kept events) = Some events.items

@@ -33,6 +33,7 @@ pub record IsOpenRead (o : Order) (m : Monitor) (log : List LogLine) : Type 0 wh
   pub reads : IsReading log reading
   pub is_open : IsOpenIn o m reading
 
+-- the log is open in that order, with waits that run out as allowed
 abbrev pub IsOpenWith : Lapses → Order → Monitor → List LogLine → Type 0
 IsOpenWith Told o m log = IsOpenIn o m log
 IsOpenWith Allowed o m log = IsOpenRead o m log

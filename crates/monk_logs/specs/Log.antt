@@ -20,6 +20,7 @@ pub record LogHeading : Type 0 where
   pub object : ObjectName
   pub size : ℕ
 
+-- a heading by its parts
 abbrev pub log_heading : ℕ → ℕ → ObjectName → ℕ → LogHeading
 log_heading seats conds object size = record { seats = seats; conds = conds; object = object; size = size }
 
@@ -32,11 +33,13 @@ log_version Flags = 2
 
 -- ---- words
 
+-- the words of a log's first line
 abbrev pub log_header_words : LogHeading → List Word
 log_header_words h =
     codes "log" ∷ decimal (log_version h.object) ∷ decimal h.seats ∷ decimal h.conds ∷ object_word h.object
     ∷ decimal h.size ∷ []
 
+-- the words of a line
 abbrev pub log_words : LogLine → List Word
 log_words (Enter s) = codes "enter" ∷ decimal s ∷ []
 log_words (Resume s) = codes "resume" ∷ decimal s ∷ []
@@ -50,11 +53,13 @@ log_words (Act s op reply) = codes "act" ∷ decimal s ∷ decimal op.code ∷ d
 
 -- ---- the text
 
+-- the text of a log
 abbrev pub log_text : LogHeading → List LogLine → List ℕ
 log_text h lines = line (log_header_words h) ++ flat_map (λ l. line (log_words l)) lines
 
 -- ---- what has a text
 
+-- each number of the heading is in its range
 pub record IsLogHeading (h : LogHeading) : Type 0 where
   pub some_seat : 1 ≤ h.seats
   pub seats : h.seats ≤ most_seats
@@ -74,6 +79,7 @@ LineFits (Broadcast s c) = (s ≤ 255) × (c ≤ 255)
 LineFits (Until s p) = (s ≤ 255) × (p ≤ 255)
 LineFits (Act s op reply) = (s ≤ 255) × (op.code ≤ 255) × (op.arg ≤ 2 ^ 32 - 1) × (reply ≤ 2 ^ 64 - 1)
 
+-- a log that has a text: its header and its lines are in range
 pub record HasLogText (h : LogHeading) (lines : List LogLine) : Type 0 where
   pub header_fits : IsLogHeading h
   pub lines_fit : AllByRecursion LineFits lines

@@ -5,6 +5,7 @@ use Rattle.monk_history.specs.Meaning.Choice.{is_front}
 use Rattle.monk_logs.specs.declared.order.Order.{Order}
 use Rattle.monk_logs.specs.declared.order.Order.TheVariants.{Fifo, Wake, Any}
 
+-- whether the seat is in the queue
 abbrev pub is_among : ℕ → List ℕ → Bool
 is_among j queue = list_any (λ k. k == j) queue
 

@@ -47,12 +47,15 @@ first_over (Ok x) y = Ok x
 first_over (Err why) (Ok y) = Ok y
 first_over (Err why) (Err other) = Err (either_blame why other)
 
+-- the course after a line, which may be read as a lapse if lapses are allowed, or what is to
+-- blame
 abbrev pub board_read_over : Lapses → Order → Monitor → Board → Pending → LogLine → Result BoardCourse Blame
 board_read_over Told o m b p l = board_behind_over o m b p l
 board_read_over Allowed o m b p l = first_over (board_behind_over o m b p l) (board_behind_over o m b p (as_lapse l))
 
 -- ---- a log
 
+-- the course after one more line so read, or what is to blame
 abbrev pub read_over : Lapses → Order → Monitor → BoardCourse → LogLine → Result BoardCourse Blame
 read_over x o m y l = board_read_over x o m y.board y.pending l
 
@@ -60,6 +63,7 @@ read_over x o m y l = board_read_over x o m y.board y.pending l
 abbrev pub read_verdict_from : Lapses → Order → Monitor → ℕ → Result BoardCourse Blame → List LogLine → LogVerdict
 read_verdict_from x o m n r log = verdict_along (read_over x o m) n r log
 
+-- the verdict on a log in that order, with lapses told or allowed
 abbrev pub read_verdict : Lapses → Order → Monitor → List LogLine → LogVerdict
 read_verdict x o m log = read_verdict_from x o m 0 (Ok (board_settled (opening_board m))) log
 

@@ -61,6 +61,7 @@ queues_with object t e ws = record {
   ready = ready_of object t.state t.untils;
 }
 
+-- whether the rules permit the choice of the event in that order
 abbrev pub is_permitted_by : Order → Rules → Object → Situation → Event → List ℕ → Bool
 is_permitted_by o k object t e ws = permits_by k (must_stay object t e) (chances o (queues_with object t e ws)) e
 
@@ -136,15 +137,18 @@ pub record MovesOn (o : Order) (m : Monitor) (t : Situation) (e : Event) (Then :
   pub move : IsMove o m t e served next
   pub goes_on : Then next
 
+-- the wait of that seat runs out, and then that holds
 pub record LapsesOn (t : Situation) (s : ℕ) (Then : Situation → Type 0) : Type 0 where
   pub next : Situation
   pub lapse : IsLapse t s next
   pub goes_on : Then next
 
+-- the step is one of that monitor, and then that holds
 abbrev pub LeadsOn : Order → Monitor → Situation → Step → (Situation → Type 0) → Type 0
 LeadsOn o m t (Did e) Then = MovesOn o m t e Then
 LeadsOn o m t (Lapsed s) Then = LapsesOn t s Then
 
+-- the steps are a run of the monitor from that situation on
 abbrev pub Runs : Order → Monitor → Situation → List Step → Type 0
 Runs o m t [] = Unit {0}
 Runs o m t (step ∷ steps) = LeadsOn o m t step (λ u. Runs o m u steps)

@@ -30,9 +30,11 @@ pub record Stand : Type 0 where
   pub now : Situation
   pub pending : Pending
 
+-- a situation with what is still to be known
 abbrev pub stand : Situation → Pending → Stand
 stand t p = record { now = t; pending = p }
 
+-- a situation of which all is known
 abbrev pub stand_settled : Situation → Stand
 stand_settled t = stand t Settled
 
@@ -46,24 +48,30 @@ monitor_in s o = monitor s.rules s.seats s.conds o []
 abbrev pub add_to : Monitor → Situation → Event → Result Situation ℕ
 add_to m t e = if reason_in m t e == 0 then Ok (after m.object t e) else Err (reason_in m t e)
 
+-- the stand of a situation, or what is to blame for that reason
 abbrev pub settled_by : Result Situation ℕ → Result Stand Blame
 settled_by (Ok t) = Ok (stand_settled t)
 settled_by (Err reason) = Err (blame_of reason)
 
+-- the stand after an event of which all is known, or what is to blame
 abbrev pub settle : Monitor → Situation → Event → Result Stand Blame
 settle m t e = settled_by (add_to m t e)
 
+-- the stand after an event with that still to be known, or what is to blame
 abbrev pub hold_over : Monitor → Situation → Event → Pending → Result Stand Blame
 hold_over m t e p = if reason_before 0 m t e == 0 then Ok (stand t p) else Err (blame_of (reason_before 0 m t e))
 
+-- the stand after a release, or what is to blame
 abbrev pub release_over : Monitor → Situation → Event → Result Stand Blame
 release_over m t e = hold_over m t e (Release e)
 
 -- ---- a line
 
+-- how the next caller comes in: the first of all finds the monitor free
 abbrev pub via_now : Situation → Via
 via_now t = if t.begun then Handed else Free
 
+-- the stand after a signal, or what is to blame; under immediate return it is half of an event
 abbrev pub signal_over : Monitor → Situation → ℕ → ℕ → Result Stand Blame
 signal_over m t s c = if returns_at_once m.kind.mode then hold_over m t (event.SignalLeave s c next.Stay) (Half s c)
     else release_over m t (event.Signal s c next.Stay)
@@ -100,11 +108,13 @@ abbrev pub line_then : Monitor → Blame → Result Situation ℕ → LogLine �
 line_then m why (Err reason) l = Err why
 line_then m why (Ok t) l = line_settled m t l
 
+-- the stand after a line that tells the choice of the release before it, or what is to blame
 abbrev pub line_told : Monitor → Situation → Event → LogLine → Result Stand Blame
 line_told m t e l =
     if is_lapse l then Err (release_blame m t e l)
     else line_then m (release_blame m t e l) (add_to m t (told_release m.object t e l)) l
 
+-- the stand after a line, by what was still to be known, or what is to blame
 abbrev pub line_behind : Monitor → Situation → Pending → LogLine → Result Stand Blame
 line_behind m t Settled l = line_settled m t l
 line_behind m t (Half s c) l = line_half m t s c l
@@ -112,6 +122,7 @@ line_behind m t (Release e) l = line_told m t e l
 
 -- ---- a log
 
+-- the stand after one more line, or what is to blame
 abbrev pub line_over : Monitor → Stand → LogLine → Result Stand Blame
 line_over m s l = line_behind m s.now s.pending l
 
@@ -119,8 +130,10 @@ line_over m s l = line_behind m s.now s.pending l
 abbrev pub verdict_from : Monitor → ℕ → Result Stand Blame → List LogLine → LogVerdict
 verdict_from m n s log = verdict_along (line_over m) n s log
 
+-- the stand before the first line
 abbrev pub opening_stand : Monitor → Stand
 opening_stand m = stand_settled (opening_situation m)
 
+-- the verdict on a log in order of arrival
 abbrev pub verdict_on : Monitor → List LogLine → LogVerdict
 verdict_on m log = verdict_from m 0 (Ok (opening_stand m)) log

@@ -18,6 +18,7 @@ log_monitor kind h = monitor (rules_named kind) h.seats h.conds (meaning_named h
 abbrev pub IsMisfit : Monitor → List LogLine → ℕ → Type 0
 IsMisfit m log n = IsFirstWithout (IsOpen m) log n
 
+-- the verdict is exact by the legal histories of the monitor
 abbrev pub IsVerdictOn : Monitor → List LogLine → LogVerdict → Type 0
 IsVerdictOn m log v = IsVerdictBy (IsOpen m) log v
 

@@ -7,6 +7,7 @@ use Rattle.monk_logs.specs.declared.text.line.LogLine.{LogLine}
 use Rattle.monk_logs.specs.declared.order.Order.{Order}
 use Rattle.monk_logs.specs.declared.verdict.LogVerdict.{LogVerdict}
 
+-- the verdict is exact by the runs of the monitor in that order
 abbrev pub IsVerdictIn : Order → Monitor → List LogLine → LogVerdict → Type 0
 IsVerdictIn o m log v = IsVerdictBy (IsOpenIn o m) log v
 

@@ -3,6 +3,7 @@ use Rattle.std.specs.Prelude.{ℕ}
 use Rattle.monk_object.specs.declared.shop.Chair.{Chair}
 use Rattle.monk_object.specs.declared.shop.Chair.TheVariants.{Empty, InUse, Done}
 
+-- the number of the barber's chair in the state
 abbrev pub chair_number : Chair → ℕ
 chair_number Empty = 0
 chair_number InUse = 1

@@ -12,11 +12,13 @@ SET = 0
 abbrev pub flags_serves : ℕ → Op → Bool
 flags_serves size op = op.code == SET && nat_lt op.arg (2 ^ size)
 
+-- the state after an operation; it stays if the operation can't be done
 abbrev pub flags_after : List ℕ → Op → List ℕ
 flags_after [] op = []
 flags_after (size ∷ []) op = size ∷ []
 flags_after (size ∷ bits ∷ more) op = if flags_serves size op then size ∷ op.arg ∷ [] else size ∷ bits ∷ more
 
+-- 1 if the flags are set, and else 0
 abbrev pub flags_reply : List ℕ → Op → ℕ
 flags_reply [] op = 0
 flags_reply (size ∷ []) op = 0
@@ -28,5 +30,6 @@ flags_holds [] pred = false
 flags_holds (size ∷ []) pred = false
 flags_holds (size ∷ bits ∷ more) pred = bit_at bits pred == 1
 
+-- what flags are: their operation and their predicates
 abbrev pub flags_meaning : Object
 flags_meaning = record { codes = 1; predicates = 32; after = flags_after; reply = flags_reply; holds = flags_holds }

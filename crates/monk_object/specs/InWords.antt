@@ -22,6 +22,7 @@ abbrev pub items_in_words : List ℕ → List ℕ
 items_in_words [] = codes " empty"
 items_in_words (x ∷ xs) = spaced (x ∷ xs)
 
+-- the state of a buffer: its size and its items
 abbrev pub buffer_in_words : List ℕ → List ℕ
 buffer_in_words [] = []
 buffer_in_words (size ∷ items) = codes "buffer of " ++ (decimal size ++ (codes ":" ++ items_in_words items))

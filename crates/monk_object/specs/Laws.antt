@@ -14,12 +14,15 @@ use Rattle.monk_object.specs.declared.op.Op.{Op}
 abbrev pub state_of : ObjectName → ℕ → List Op → List ℕ
 state_of o size ops = state_after (meaning_named o) (opening_named o size) ops
 
+-- the answers to those operations, from the opening state on
 abbrev pub acts_of : ObjectName → ℕ → List Op → List Answered
 acts_of o size ops = answers_of (meaning_named o) (opening_named o size) ops
 
+-- the items of the puts that were done, in order
 abbrev pub items_put : List Answered → List ℕ
 items_put acts = map (λ act. act.op.arg) (filter (is_done PUT) acts)
 
+-- the items of the takes that were done, in order
 abbrev pub items_taken : List Answered → List ℕ
 items_taken acts = map (λ act. act.reply - 1) (filter (is_done TAKE) acts)
 
@@ -55,6 +58,7 @@ pub record LosesNoCustomer (size : ℕ) (ops : List Op) : Type 0 where
   pub finished : times_done FINISH (acts_of Shop size ops)
       ≡ times_done DEPART (acts_of Shop size ops) + (if chair == 2 then 1 else 0)
 
+-- the bits that were set, in order
 abbrev pub bits_set : List Answered → List ℕ
 bits_set acts = map (λ act. act.op.arg) (filter (is_done SET) acts)
 

@@ -22,6 +22,7 @@ answers_of o state (op ∷ ops) = record { op = op; reply = o.reply state op } �
 abbrev pub is_done : ℕ → Answered → Bool
 is_done code act = act.op.code == code && nat_lt 0 act.reply
 
+-- how many operations of that code were done
 abbrev pub times_done : ℕ → List Answered → ℕ
 times_done code acts = count_by (is_done code) acts
 

@@ -18,6 +18,7 @@ IsOf h p = (p.hall ≡ h.id) × (p.me.setting ≡ h.setting)
 abbrev pub IsReady : Rules → House → Token → Type 0
 IsReady k h p = IsOf h p × Offers k h.setting.conds 3
 
+-- each of those passes is ready to work
 abbrev pub AreReady : Rules → House → List Token → Type 0
 AreReady k h ps = All (IsReady k h) ps
 

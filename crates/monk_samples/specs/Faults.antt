@@ -7,6 +7,7 @@ use Rattle.monk_samples.specs.declared.end.End.TheVariants.{Done, Tired, Late}
 use Rattle.monk_samples.specs.declared.run_fault.RunFault.{RunFault}
 use Rattle.monk_samples.specs.declared.run_fault.RunFault.TheVariants as run
 
+-- the fault of a thread that ended so
 abbrev pub fault_of : End → Option CrewFault
 fault_of Done = None
 fault_of Tired = Some crew.Tired
@@ -17,6 +18,7 @@ abbrev pub fault_after : Option CrewFault → End → Option CrewFault
 fault_after None end = fault_of end
 fault_after (Some fault) end = Some fault
 
+-- the fault of a run by that of its crew
 abbrev pub run_fault_of : CrewFault → RunFault
 run_fault_of crew.Memory = run.Memory
 run_fault_of crew.Tired = run.Tired

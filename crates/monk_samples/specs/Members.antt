@@ -13,6 +13,7 @@ use Rattle.monk_samples.specs.Visits.{Plan, Signals, SignalsAll, SignalsAndWaits
 abbrev pub NOT_FULL : ℕ
 NOT_FULL = 0
 
+-- an item is there
 abbrev pub NOT_EMPTY : ℕ
 NOT_EMPTY = 1
 
@@ -20,6 +21,7 @@ NOT_EMPTY = 1
 abbrev pub CAN_READ : ℕ
 CAN_READ = 0
 
+-- the write may start
 abbrev pub CAN_WRITE : ℕ
 CAN_WRITE = 1
 
@@ -27,12 +29,15 @@ CAN_WRITE = 1
 abbrev pub SEAT_FREE : ℕ
 SEAT_FREE = 0
 
+-- a customer sits and waits
 abbrev pub CUSTOMER_SITS : ℕ
 CUSTOMER_SITS = 1
 
+-- the cut is done
 abbrev pub CUT_DONE : ℕ
 CUT_DONE = 2
 
+-- the visit that puts an item
 abbrev pub puts : ℕ → Plan
 puts item = when NOT_FULL HAS_ROOM (op_of PUT item) (always NOT_EMPTY)
 
@@ -40,6 +45,7 @@ puts item = when NOT_FULL HAS_ROOM (op_of PUT item) (always NOT_EMPTY)
 abbrev pub puts_and_waits : ℕ → Plan
 puts_and_waits item = when NOT_FULL HAS_ROOM (op_of PUT item) (λ h. SignalsAndWaits NOT_EMPTY NOT_FULL)
 
+-- the visit that takes an item
 abbrev pub takes : Plan
 takes = when NOT_EMPTY HAS_ITEM (op_of TAKE 0) (always NOT_FULL)
 
@@ -47,9 +53,11 @@ takes = when NOT_EMPTY HAS_ITEM (op_of TAKE 0) (always NOT_FULL)
 abbrev pub puts_hastily : ℕ → Plan
 puts_hastily item = hastily NOT_FULL HAS_ROOM (op_of PUT item) (always NOT_EMPTY)
 
+-- the visit that takes an item, with an `if` in place of a `while`
 abbrev pub takes_hastily : Plan
 takes_hastily = hastily NOT_EMPTY HAS_ITEM (op_of TAKE 0) (always NOT_FULL)
 
+-- the visit that begins a read
 abbrev pub begins_to_read : Plan
 begins_to_read = when CAN_READ book.CAN_READ (op_of START_READ 0) (always CAN_READ)
 
@@ -60,6 +68,7 @@ ends_to_read k c = at_once (op_of END_READ 0)
     then Signals CAN_WRITE
     else Signals CAN_READ)
 
+-- the visit that begins the write
 abbrev pub begins_to_write : Plan
 begins_to_write = when CAN_WRITE book.CAN_WRITE (op_of START_WRITE 0) nobody
 
@@ -73,14 +82,18 @@ abbrev pub ends_to_write_for_all : Rules → Plan
 ends_to_write_for_all k =
     at_once (op_of END_WRITE 0) (λ h. if has_waiting k CAN_READ h then SignalsAll CAN_READ else Signals CAN_WRITE)
 
+-- the visit of a customer who sits down
 abbrev pub sits : Plan
 sits = when SEAT_FREE HAS_SEAT (op_of SIT 0) (always CUSTOMER_SITS)
 
+-- the visit of a customer whose cut is done
 abbrev pub departs : Plan
 departs = when CUT_DONE IS_DONE (op_of DEPART 0) (always CUSTOMER_SITS)
 
+-- the visit of the barber who calls a customer
 abbrev pub calls : Plan
 calls = when CUSTOMER_SITS CAN_CALL (op_of CALL 0) (always SEAT_FREE)
 
+-- the visit of the barber who finishes a cut
 abbrev pub finishes : Plan
 finishes = at_once (op_of FINISH 0) (always CUT_DONE)

@@ -63,6 +63,7 @@ pub record WasSentAway (k : Rules) (o : Object) (answers : ℕ → Bool → Type
   pub done : HasDoneRounds k o answers round n p q
   pub sent_away : answers (n + 1) false
 
+-- the thread has done its rounds, or ended early for that reason
 abbrev pub HasWorked : Rules → Object → (ℕ → Bool → Type 0) → (ℕ → List Plan) → ℕ → Token → Token → End → Type 0
 HasWorked k o answers round rounds p q Done = HasDoneRounds k o answers round rounds p q
 HasWorked k o answers round rounds p q Tired = WasCutShort k o answers round rounds p q

@@ -27,6 +27,7 @@ run_setting k sample seats rounds =
 abbrev pub run_house : Rules → Sample → ℕ → ℕ → TableId → House
 run_house k sample seats rounds z = record { id = z; setting = run_setting k sample seats rounds }
 
+-- the passes with which a run begins
 abbrev pub run_passes : Rules → Sample → ℕ → ℕ → TableId → List Token
 run_passes k sample seats rounds z = tokens z (first_view (run_setting k sample seats rounds))
 

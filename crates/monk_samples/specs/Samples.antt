@@ -18,6 +18,7 @@ use Rattle.monk_samples.specs.Totals.{HasTotals, totals_of}
 use Rattle.monk_samples.specs.declared.sample.Sample.{Sample}
 use Rattle.monk_samples.specs.declared.sample.Sample.TheVariants.{Buffer, Book, Shop, Hasty}
 
+-- the object of a sample
 abbrev pub sample_object : Sample → ObjectName
 sample_object Buffer = object.Buffer
 sample_object Book = object.Book
@@ -32,9 +33,11 @@ IsOverBuffer s = (s ≡ Buffer) ⊎ (s ≡ Hasty)
 abbrev pub size : ℕ
 size = 4
 
+-- the size of the hasty sample's buffer
 abbrev pub hasty_size : ℕ
 hasty_size = 1
 
+-- the size of a sample's object
 abbrev pub size_of : Sample → ℕ
 size_of Buffer = size
 size_of Book = size
@@ -49,9 +52,11 @@ conds_of k = if has_conditions k.mode then 3 else 0
 abbrev pub budget_of : ℕ → ℕ → ℕ
 budget_of seats rounds = 64 + rounds * (40 + 32 * seats)
 
+-- the numbers of a run are in range
 abbrev pub IsInRange : ℕ → ℕ → Type 0
 IsInRange seats rounds = (2 ≤ seats) × (seats ≤ 16) × (1 ≤ rounds) × (rounds ≤ 1000)
 
+-- the heading of a run's history
 abbrev pub run_heading : KindName → Sample → ℕ → Heading
 run_heading k sample seats = heading 1 k seats (conds_of (rules_named k)) (sample_object sample) (size_of sample)
 

@@ -30,6 +30,7 @@ Offers k conds most = has_conditions k.mode ≡ true → most ≤ conds
 abbrev pub MayFinish : Rules → TableId → Holder → ℕ → Type 0
 MayFinish k hall a c = (a.hall ≡ hall) × Offers k a.me.setting.conds (c + 1)
 
+-- the seat may wait until that predicate holds
 abbrev pub MayPause : Rules → TableId → Holder → ℕ → ℕ → ℕ → Type 0
 MayPause k hall a c predicates p = MayFinish k hall a c × (p < predicates)
 
@@ -54,9 +55,11 @@ way_out k s c =
 abbrev pub for_staying : ℕ
 for_staying = 2
 
+-- how many events a seat must have left to hand the monitor over
 abbrev pub for_handing_over : ℕ
 for_handing_over = 3
 
+-- how many events a seat must have left for a call
 abbrev pub needed_for : Event → ℕ
 needed_for (Enter s via) = for_staying
 needed_for (Act s op r) = for_staying

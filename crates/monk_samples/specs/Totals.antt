@@ -19,6 +19,7 @@ count_done code h = times_done code (acts_in h)
 abbrev pub sum_put : List Event → ℕ
 sum_put h = sum (items_put (acts_in h))
 
+-- the sum of the items that were taken
 abbrev pub sum_taken : List Event → ℕ
 sum_taken h = sum (items_taken (acts_in h))
 
@@ -26,12 +27,15 @@ sum_taken h = sum (items_taken (acts_in h))
 abbrev pub refusals_in : List Answered → ℕ
 refusals_in acts = sum_by (λ a. if a.reply == 0 then 1 else 0) acts
 
+-- how many acts of a history the object refused
 abbrev pub missed_in : List Event → ℕ
 missed_in h = refusals_in (acts_in h)
 
+-- the totals of a buffer
 abbrev pub totals_of_buffer : List Event → List ℕ
 totals_of_buffer h = count_done PUT h ∷ sum_put h ∷ count_done TAKE h ∷ sum_taken h ∷ []
 
+-- the totals of a sample
 abbrev pub totals_of : Sample → List Event → List ℕ
 totals_of Buffer h = totals_of_buffer h
 totals_of Hasty h = totals_of_buffer h

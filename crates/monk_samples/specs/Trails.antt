@@ -20,6 +20,7 @@ pub record Trail : Type 0 where
 abbrev pub outside : Token → Trail
 outside p = record { hall = p.hall; seat = p.me.seat; setting = p.me.setting; seen = p.me.seen; mine = p.me.mine }
 
+-- the trail of an active seat
 abbrev pub inside : Holder → Trail
 inside a = record { hall = a.hall; seat = a.me.seat; setting = a.me.setting; seen = a.floor.history; mine = a.me.mine }
 
@@ -28,9 +29,11 @@ pub record Addition : Type 0 where
   pub before : List Event
   pub event : Event
 
+-- the history with the event that was added
 abbrev pub after : Addition → List Event
 after d = d.before ++ d.event ∷ []
 
+-- the events that were added
 abbrev pub events_in : List Addition → List Event
 events_in own = map (λ d. d.event) own
 
@@ -51,9 +54,11 @@ pub record Went (x y : Trail) (own : List Addition) : Type 0 where
 abbrev pub is_coming : Event → Bool
 is_coming e = is_some (via_of e) || is_some (source_of e)
 
+-- what was added, if it is a call and not a seat's coming in
 abbrev pub call_in : Addition → List Addition
 call_in d = if is_coming d.event then [] else d ∷ []
 
+-- what was added by calls
 abbrev pub calls_in : List Addition → List Addition
 calls_in own = flat_map call_in own
 

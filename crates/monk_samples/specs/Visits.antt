@@ -32,16 +32,20 @@ pub record Guard : Type 0 where
   pub pred : ℕ
   pub manner : Manner
 
+-- a guard whose visit waits as long as it must
 abbrev pub guard : ℕ → ℕ → Guard
 guard cond pred = record { cond = cond; pred = pred; manner = Patient }
 
+-- a guard whose visit waits once
 abbrev pub hasty_guard : ℕ → ℕ → Guard
 hasty_guard cond pred = record { cond = cond; pred = pred; manner = Hasty }
 
+-- whom a visit of that manner wishes to go on
 abbrev pub wish_of : Manner → Pick
 wish_of Patient = Waiter
 wish_of Hasty = Entry
 
+-- whom a visit with that guard wishes to go on
 abbrev pub wish_in : Option Guard → Pick
 wish_in None = Waiter
 wish_in (Some w) = wish_of w.manner
@@ -61,6 +65,7 @@ pub record Plan : Type 0 where
   pub op : Op
   pub goes_out : List Event → WayOut
 
+-- an operation by its parts
 abbrev pub op_of : ℕ → ℕ → Op
 op_of code arg = record { code = code; arg = arg }
 
@@ -72,6 +77,7 @@ when cond pred op goes_out = record { guard = Some (guard cond pred); op = op; g
 abbrev pub hastily : ℕ → ℕ → Op → (List Event → WayOut) → Plan
 hastily cond pred op goes_out = record { guard = Some (hasty_guard cond pred); op = op; goes_out = goes_out }
 
+-- the plan of a visit that waits for nothing
 abbrev pub at_once : Op → (List Event → WayOut) → Plan
 at_once op goes_out = record { guard = None; op = op; goes_out = goes_out }
 
@@ -79,6 +85,7 @@ at_once op goes_out = record { guard = None; op = op; goes_out = goes_out }
 abbrev pub always : ℕ → List Event → WayOut
 always cond h = Signals cond
 
+-- a way out that signals nobody
 abbrev pub nobody : List Event → WayOut
 nobody h = Unsignalled
 
@@ -98,6 +105,7 @@ abbrev pub AreFew : Manner → List Addition → Type 0
 AreFew Patient ds = Unit {0}
 AreFew Hasty ds = length ds ≤ 1
 
+-- the waits of a visit with that guard
 abbrev pub HasPausedFor : Rules → Object → Setting → ℕ → Option Guard → List Addition → Type 0
 HasPausedFor k o c s None ds = ds ≡ []
 HasPausedFor k o c s (Some w) ds = ArePauses k o c s w ds × AreFew w.manner ds
@@ -193,6 +201,7 @@ pub record IsMiss (k : Rules) (o : Object) (c : Setting) (s : ℕ) (v : Plan) (c
   pub acts : IsAct k o c s v.op 0 act
   pub leaves : IsCall k o (wish_in v.guard) c (Leave s Stay) leave
 
+-- those are that many tries that missed
 abbrev pub AreMisses : Rules → Object → Setting → ℕ → Plan → ℕ → List Addition → Type 0
 AreMisses k o c s v zero calls = calls ≡ []
 AreMisses k o c s v (suc n) calls = Then (AreMisses k o c s v n) (IsMiss k o c s v) calls
@@ -202,6 +211,7 @@ abbrev pub MissesIn : Manner → ℕ → Type 0
 MissesIn Patient n = n ≡ 0
 MissesIn Hasty n = Unit {0}
 
+-- how many tries of a visit may miss
 abbrev pub Misses : Option Guard → ℕ → Type 0
 Misses None n = n ≡ 0
 Misses (Some w) n = MissesIn w.manner n
@@ -213,9 +223,11 @@ pub record IsVisitTo (k : Rules) (o : Object) (c : Setting) (s : ℕ) (v : Plan)
   pub may : Misses v.guard misses
   pub tries : Then (AreMisses k o c s v misses) (IsTried k o c s v end) calls
 
+-- those calls are a whole visit
 abbrev pub IsVisit : Rules → Object → Setting → ℕ → Plan → List Addition → Type 0
 IsVisit k o c s v calls = IsVisitTo k o c s v Done calls
 
+-- those calls are a visit that ended early, since its seat was tired
 abbrev pub IsCutShort : Rules → Object → Setting → ℕ → Plan → List Addition → Type 0
 IsCutShort k o c s v calls = IsVisitTo k o c s v Tired calls
 
@@ -264,6 +276,7 @@ pub record HasTired (k : Rules) (o : Object) (x : Trail) (AreThese : List Additi
 abbrev pub IsTiredWithin : Rules → Object → Holder → Option Guard → Token → Type 0
 IsTiredWithin k o a w q = HasTired k o (inside a) (IsLeftWaiting k o a.me.setting a.me.seat w) q
 
+-- the seat is too tired for that visit, and outside
 abbrev pub IsTiredFor : Rules → Object → Token → Option Guard → Token → Type 0
 IsTiredFor k o p w q = HasTired k o (outside p) (IsUnready k o p.me.setting p.me.seat w) q
 

@@ -17,6 +17,7 @@ pub record IsSame (p q : Token) : Type 0 where
   pub setting : q.me.setting ≡ p.me.setting
   pub mine : q.me.mine ≡ p.me.mine
 
+-- the passes are the same, but for what was done
 abbrev pub AreSame : List Token → List Token → Type 0
 AreSame [] [] = Unit {0}
 AreSame [] (q ∷ qs) = ⊥

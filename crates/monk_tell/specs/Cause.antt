@@ -35,6 +35,7 @@ use Rattle.monk_tell.specs.declared.why.Why.TheVariants.{Range, Call, Turn as Aw
 
 -- ---- 1. a number that is out of range: of its seats the first, else what the call is about
 
+-- the number of a call that is out of range
 abbrev pub call_beyond : ℕ → ℕ → Event → OutOfRange
 call_beyond seats conds (Enter s via) = range.Seat s seats
 call_beyond seats conds (Act s op r) = range.Operation op.code
@@ -47,9 +48,11 @@ call_beyond seats conds (Resume s q) = range.Seat s seats
 call_beyond seats conds (SignalAll s c) = range.Condition c conds
 call_beyond seats conds (SignalWait s c d x) = range.Condition (if nat_le conds c then c else d) conds
 
+-- that seat if it is out of range, and else the other number
 abbrev pub seat_beyond : ℕ → OutOfRange → ℕ → OutOfRange
 seat_beyond seats other s = if nat_le seats s then range.Seat s seats else other
 
+-- the chosen seat if it is out of range, and else the other number
 abbrev pub chosen_beyond : ℕ → OutOfRange → Option Next → OutOfRange
 chosen_beyond seats other None = other
 chosen_beyond seats other (Some next.Stay) = other
@@ -58,6 +61,7 @@ chosen_beyond seats other (Some (next.Waiter j)) = seat_beyond seats other j
 chosen_beyond seats other (Some (next.Signaller j)) = seat_beyond seats other j
 chosen_beyond seats other (Some (next.Until j)) = seat_beyond seats other j
 
+-- the first number of an event that is out of range
 abbrev pub number_beyond : ℕ → ℕ → Event → OutOfRange
 number_beyond seats conds e =
     seat_beyond seats (chosen_beyond seats (call_beyond seats conds e) (next_of e)) (seat_of e)
@@ -69,6 +73,7 @@ unfoldable pub waits_at : (ℕ → List ℕ) → ℕ → ℕ → Option ℕ
 waits_at queue zero s = None
 waits_at queue (suc c) s = if has s (queue c) then Some c else waits_at queue c s
 
+-- why it isn't the seat's turn
 abbrev pub other_turn : Turn → ℕ → OutOfTurn
 other_turn turn.Open s = away.Open s
 other_turn (turn.Due j q) s = if j == s then away.Resumes s q else away.Due s j q
@@ -80,10 +85,12 @@ out_of_turn waits t s = option_map_or (λ c. Unsignalled s c) waits (Away (other
 
 -- ---- 4. why seat s may not enter
 
+-- why a seat may not come in that way
 abbrev pub shut_door : Via → ℕ → OutOfPlace
 shut_door Free s = place.NotFree s
 shut_door Handed s = place.FirstOfAll s
 
+-- why a seat may not enter
 abbrev pub no_entry : Bool → Option Via → ℕ → OutOfPlace
 no_entry inside via s = if inside then place.Inside s else option_map_or (λ v. shut_door v s) via (place.NotFree s)
 
@@ -93,6 +100,7 @@ no_entry inside via s = if inside then place.Inside s else option_map_or (λ v. 
 abbrev pub own_reply : Object → List ℕ → Event → Option ℕ
 own_reply o d e = option_map (λ act. o.reply d act.op) (answered_act e)
 
+-- why the reply is wrong, by the object's own
 abbrev pub other_reply : Option ℕ → Event → Why
 other_reply own e =
     option_map_or (λ act. option_map_or (λ right. Reply right act.reply) own (Stay (stay.GivesUp (seat_of e))))
@@ -118,6 +126,7 @@ signaller_yields kind k first s =
     if nat_lt k.signaller k.waiter then stay.MustYield s kind
     else option_map_or (λ j. stay.StepsBehind s j) first (stay.GivesUp s)
 
+-- why the caller may not stay active
 abbrev pub may_not_stay : KindName → Rules → Firsts → Event → Staying
 may_not_stay kind k f e =
     if is_some (steps_back e) then signaller_yields kind k f.signaller (seat_of e) else stay.GivesUp (seat_of e)
@@ -163,6 +172,7 @@ may_not_wake kind f waits s j =
 abbrev pub caller_or_none : ℕ → ℕ → Why
 caller_or_none s j = if j == s then Stay (stay.OwnSignal s) else Stay (stay.GivesUp s)
 
+-- why that seat may not go on from the signaller queue
 abbrev pub may_not_recall : KindName → Rules → Firsts → ℕ → ℕ → Why
 may_not_recall kind k f s j =
     if is_first j f.signaller
@@ -177,6 +187,7 @@ may_not_continue kind k first j =
     if has_conditions k.mode then Order (order.NoUntils kind)
     else option_map_or (λ i. Order (order.NotReady j)) first (Order order.NobodyReady)
 
+-- why that choice may not be made
 abbrev pub may_not_choose : KindName → Rules → Firsts → Option ℕ → Event → Option Next → Why
 may_not_choose kind k f waits e None = Stay (may_not_stay kind k f e)
 may_not_choose kind k f waits e (Some next.Stay) = Stay (may_not_stay kind k f e)
@@ -185,6 +196,7 @@ may_not_choose kind k f waits e (Some (next.Waiter j)) = may_not_wake kind f wai
 may_not_choose kind k f waits e (Some (next.Signaller j)) = may_not_recall kind k f (seat_of e) j
 may_not_choose kind k f waits e (Some (next.Until j)) = may_not_continue kind k f.ready j
 
+-- why the choice of the event is wrong
 abbrev pub other_choice : KindName → Rules → Firsts → Option ℕ → Bool → Event → Why
 other_choice kind k f waits stays e =
     if stays then Stay (has_to_stay e) else may_not_choose kind k f waits e (next_of e)
@@ -197,6 +209,7 @@ choice_cause kind k conds o t e =
 
 -- ---- one of the first four
 
+-- what is wrong with an event for one of the first four reasons
 abbrev pub early_cause : KindName → ℕ → ℕ → Situation → ℕ → Event → Why
 early_cause kind seats conds t reason e =
     if reason == 1 then Range (number_beyond seats conds e)

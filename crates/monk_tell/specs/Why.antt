@@ -107,6 +107,7 @@ precedence_text (ReadyBeforeEntry seat kind) =
     codes " has to go on first, since its predicate holds and " ∷ kind_word kind ∷
     codes " puts it above entry" ∷ [])
 
+-- the sentence that says why an event isn't allowed
 abbrev pub why_text : Why → List ℕ
 why_text (Range w) = out_of_range_text w
 why_text (Call kind) = concat (kind_word kind ∷ codes " monitors have no such call" ∷ [])

@@ -11,6 +11,7 @@ IsSeat z p = (p.hall ≡ z) × (p.me.setting.conds ≡ 3)
 abbrev pub IsInside : TableId → Holder → Type 0
 IsInside z a = (a.hall ≡ z) × (a.me.setting.conds ≡ 3)
 
+-- each of those passes is a seat of that table
 abbrev pub AreSeats : TableId → List Token → Type 0
 AreSeats z [] = Unit {0}
 AreSeats z (p ∷ ps) = IsSeat z p × AreSeats z ps

@@ -18,6 +18,7 @@ pub record WorldView : Type 0 where
   pub known : List Bool
   pub floor : FloorView
 
+-- the state that a world's view shows
 abbrev pub state_of_view : WorldView → State
 state_of_view v = record {
   world = record {
@@ -32,6 +33,7 @@ state_of_view v = record {
   floor = v.floor;
 }
 
+-- the view of a board over a floor
 abbrev pub view_in : Board → FloorView → WorldView
 view_in w f = record {
   drawn = w.drawn;
@@ -44,6 +46,7 @@ view_in w f = record {
   floor = f;
 }
 
+-- the state of a board over a floor
 abbrev pub state_in : Board → FloorView → State
 state_in w f = state_of_view (view_in w f)
 

@@ -7,6 +7,7 @@ use Rattle.monk_world.specs.declared.place.Place.TheVariants.{Idle, Ticket, Due,
 use Rattle.monk_world.specs.declared.source.Source.{Source}
 use Rattle.monk_world.specs.declared.source.Source.TheVariants.{Free, Granted, Called}
 
+-- 1 if the seat came in from a queue, which uses up a call to it, and else 0
 abbrev pub used_by : Source → ℕ
 used_by (Free t) = 0
 used_by (Granted t) = 0

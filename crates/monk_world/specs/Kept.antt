@@ -32,6 +32,7 @@ comes_back (Back next home) = 0
 comes_back (Passing t home) = 0
 comes_back Inner = 0
 
+-- the sum over the seats below that number
 abbrev pub sum_below : ℕ → (ℕ → ℕ) → ℕ
 sum_below zero f = 0
 sum_below (suc n) f = f n + sum_below n f

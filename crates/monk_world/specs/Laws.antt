@@ -29,6 +29,7 @@ Kept Step =
     (seats : ℕ) (w : World) (right : Whereabouts) (owner : ℕ → ℕ) (turn : ℕ) (queued : ℕ → Bool) (quiet : Bool) (i : ℕ)
     → Stands seats w right owner turn queued quiet → Step seats w right owner turn queued quiet i
 
+-- the opening world keeps all that is promised of a world
 abbrev pub OpeningStands : Type 0
 OpeningStands = (seats : ℕ) → Stands seats opening_world Nowhere (λ t. 0) open_turn (λ j. false) true
 
@@ -105,6 +106,7 @@ abbrev pub StepsStaySound : Type 0
 StepsStaySound = (k : Rules) (o : Object) (s : State) (i : ℕ) (c : Command) (a : Answer) (t : State) → IsKind k
     → Sound k o s → IsStep k o s i c a t → Sound k o t
 
+-- the opening state is sound
 abbrev pub OpeningIsSound : Type 0
 OpeningIsSound = (k : Rules) (o : Object) (opening : List ℕ) (seats conds budget : ℕ)
     → Sound k o (opening_state opening seats conds budget)
@@ -114,6 +116,7 @@ abbrev pub StepsAreAnswered : Type 0
 StepsAreAnswered = (k : Rules) (o : Object) (s : State) (i : ℕ) (c : Command)
     → (a : Answer) × (t : State) × IsStep k o s i c a t
 
+-- a step has one answer and one state after it
 abbrev pub StepsAreDetermined : Type 0
 StepsAreDetermined =
     (k : Rules) (o : Object) (s : State) (i : ℕ) (c : Command) (a b : Answer) (t u : State) → IsStep k o s i c a t

@@ -13,24 +13,31 @@ use Rattle.monk_world.specs.declared.source.Source.TheVariants.{Free, Granted, C
 abbrev pub outside_stage : ℕ
 outside_stage = 0
 
+-- it has a ticket
 abbrev pub ticketed_stage : ℕ
 ticketed_stage = 1
 
+-- it is next
 abbrev pub due_stage : ℕ
 due_stage = 2
 
+-- it is active
 abbrev pub active_stage : ℕ
 active_stage = 3
 
+-- it has called what may hand the monitor on
 abbrev pub back_stage : ℕ
 back_stage = 4
 
+-- it hands the monitor on to entry
 abbrev pub passing_stage : ℕ
 passing_stage = 5
 
+-- it waits inside
 abbrev pub inside_stage : ℕ
 inside_stage = 6
 
+-- the number of a place's stage
 abbrev pub stage : Place → ℕ
 stage Idle = outside_stage
 stage (Ticket ticket) = ticketed_stage
@@ -50,6 +57,7 @@ HoldsRight (Back next home) = Unit {0}
 HoldsRight (Passing t home) = Unit {0}
 HoldsRight Inner = ⊥
 
+-- the ticket by which a seat came in, if it did
 abbrev pub ticket_of : Source → ℕ
 ticket_of (Free ticket) = ticket
 ticket_of (Granted ticket) = ticket
@@ -69,12 +77,15 @@ ticket Inner = 0
 abbrev pub free_source : ℕ
 free_source = 1
 
+-- it came in by a granted ticket
 abbrev pub granted_source : ℕ
 granted_source = 2
 
+-- it was called from a queue
 abbrev pub called_source : ℕ
 called_source = 3
 
+-- the number of how a seat came in
 abbrev pub source_number : Source → ℕ
 source_number (Free ticket) = free_source
 source_number (Granted ticket) = granted_source
@@ -94,9 +105,11 @@ source Inner = 0
 abbrev pub open_turn : ℕ
 open_turn = 0
 
+-- the number of the turn that is due to that seat
 abbrev pub due_to : ℕ → ℕ
 due_to j = 2 * j + 1
 
+-- the number of the turn in which that seat is active
 abbrev pub owned_by : ℕ → ℕ
 owned_by j = 2 * j + 2
 
@@ -118,10 +131,12 @@ back_turn (Back next home) = turn_of_next next
 back_turn (Passing t home) = 0
 back_turn Inner = 0
 
+-- whether a seat that hands the monitor on stays inside
 abbrev pub stays_inside : Home → Bool
 stays_inside home.Idle = false
 stays_inside home.Inner = true
 
+-- whether a seat came in from a queue
 abbrev pub comes_from_queue : Source → Bool
 comes_from_queue (Free t) = false
 comes_from_queue (Granted t) = false
@@ -137,6 +152,7 @@ is_queued_at (Back next home) = stays_inside home
 is_queued_at (Passing t home) = stays_inside home
 is_queued_at Inner = true
 
+-- where a seat goes once it has handed the monitor on
 abbrev pub place_of : Home → Place
 place_of home.Idle = Idle
 place_of home.Inner = Inner

@@ -17,11 +17,13 @@ use Rattle.monk_world.specs.declared.command.Command.TheVariants.{Wait, Signal, 
 
 -- ---- words
 
+-- the word of a wish
 abbrev pub pick_word : Pick → Word
 pick_word pick.Entry = codes "entry"
 pick_word pick.Waiter = codes "waiter"
 pick_word pick.Signaller = codes "signaller"
 
+-- the words of a command, without its seat
 abbrev pub action_words : Command → List Word
 action_words Arrive = codes "arrive" ∷ []
 action_words Look = codes "look" ∷ []
@@ -42,11 +44,13 @@ action_words (SignalWait c d p) = codes "signal-wait" ∷ decimal c ∷ decimal 
 abbrev pub command_words : ℕ × Command → List Word
 command_words m = decimal m.0 ∷ action_words m.1
 
+-- the words of a play's first line
 abbrev pub play_words : Heading → ℕ → List Word
 play_words h budget = codes "play" ∷ decimal h.version ∷ (part_words h ++ decimal budget ∷ [])
 
 -- ---- the text
 
+-- the text of a play
 abbrev pub playtext : Heading → ℕ → List (ℕ × Command) → List ℕ
 playtext h budget commands = line (play_words h budget) ++ flat_map (λ m. line (command_words m)) commands
 
@@ -69,9 +73,11 @@ ActionFits (Until q p) = q ≤ 255
 ActionFits (SignalAll c) = c ≤ 255
 ActionFits (SignalWait c d p) = (c ≤ 255) × (d ≤ 255)
 
+-- each number of the command is one that a text can have
 abbrev pub CommandFits : ℕ × Command → Type 0
 CommandFits m = (m.0 ≤ 255) × ActionFits m.1
 
+-- a play that has a text: its header and its commands are in range, in that version
 pub record HasPlayText (h : Heading) (budget : ℕ) (commands : List (ℕ × Command)) : Type 0 where
   pub header_fits : IsHeading h
   pub some_budget : least_budget ≤ budget

@@ -51,6 +51,7 @@ EntersWith Inner v n = ⊥
 abbrev pub are_in_version : ℕ → List Event → Bool
 are_in_version version events = list_all (λ e. nat_le (first_version e) version) events
 
+-- the command is a step, and the history grows by it as it should
 pub record IsTaken (k : Rules) (o : Object) (s : State) (x : Recorded) (t : State) : Type 0 where
   pub is_step : IsStep k o s x.told.seat x.told.command x.told.answer t
   -- the history grows by at most one event, the seat's own; of the floor nothing else changes
@@ -72,6 +73,7 @@ IsTakenBy k o s i c a t =
     (events : List Event)
     × IsTaken k o s (record { told = record { seat = i; command = c; answer = a }; events = events }) t
 
+-- each command is such a step, one after the other
 abbrev pub IsRecorded : Rules → Object → State → List Recorded → State → Type 0
 IsRecorded k o s [] t = t ≡ s
 IsRecorded k o s (x ∷ xs) t = (u : State) × (IsTaken k o s x u) × (IsRecorded k o u xs t)
@@ -81,6 +83,7 @@ abbrev pub recorded_by : ℕ → List Recorded → List Event
 recorded_by j [] = []
 recorded_by j (x ∷ xs) = (if x.told.seat == j then x.events else []) ++ recorded_by j xs
 
+-- the command that was recorded
 abbrev pub recorded_command : Recorded → ℕ × Command
 recorded_command x = command_of x.told
 
@@ -101,10 +104,12 @@ abbrev pub KeepsVersion : State → List (ℕ × Command) → State → Type 0
 KeepsVersion s commands t = (v : ℕ) → IsTrue (are_in_version v s.floor.history) → AreToldIn v commands
     → IsTrue (are_in_version v t.floor.history)
 
+-- each step of a sound state is taken as it should be
 abbrev pub StepsAreTaken : Type 0
 StepsAreTaken = (k : Rules) (o : Object) (s : State) (i : ℕ) (c : Command) (a : Answer) (t : State) → IsKind k
     → Sound k o s → IsStep k o s i c a t → IsTakenBy k o s i c a t
 
+-- each run of a sound state is recorded as it should be
 abbrev pub RunsAreRecorded : Type 0
 RunsAreRecorded = (k : Rules) (o : Object) (s : State) (commands : List (ℕ × Command)) (t : State) → IsKind k
     → Sound k o s → IsLed k o s commands t → IsRecordedBy k o s commands t

@@ -53,6 +53,7 @@ pub record IsWellLed (k : Rules) (o : Object) (s : State) : Type 0 where
   -- whoever is due or parked can still come to the floor and leave
   pub left : (j : ℕ) → stage (s.world.place j) ≡ inside_stage → 2 ≤ left_of s.floor.budget s.floor.history j
 
+-- each run from the opening state leads to a sound state
 abbrev pub RunsAreWellLed : Type 0
 RunsAreWellLed =
     (k : Rules) (o : Object) (opening : List ℕ) (seats conds budget : ℕ) (told : List Told) (s : State)

@@ -11,6 +11,7 @@ use Rattle.monk_world.specs.declared.answer.Answer.TheVariants.{Reply, Woke, Ran
 use Rattle.monk_world.specs.declared.place.Place.{Place}
 use Rattle.monk_world.specs.declared.place.Place.TheVariants.{Idle, Ticket, Due, Active, Back, Passing, Inner}
 
+-- the words of an answer
 abbrev pub answer_words : Answer → List Word
 answer_words (Arrived ticket found) = codes "arrived" ∷ decimal ticket ∷ decimal found ∷ []
 answer_words (Looked true) = codes "looked" ∷ codes "yes" ∷ []
@@ -27,6 +28,7 @@ answer_words NoCall = codes "refused" ∷ codes "no-call" ∷ []
 answer_words NotNow = codes "refused" ∷ codes "not-now" ∷ []
 answer_words Tired = codes "refused" ∷ codes "tired" ∷ []
 
+-- the words of a place
 abbrev pub place_words : Place → List Word
 place_words Idle = codes "idle" ∷ []
 place_words (Ticket ticket) = codes "ticket" ∷ decimal ticket ∷ []
@@ -47,5 +49,6 @@ is_granted_at seats w i (Back next home) = false
 is_granted_at seats w i (Passing ticket home) = false
 is_granted_at seats w i Inner = w.seat_place i == w.count i + 1
 
+-- whether the seat's grant is there
 abbrev pub is_granted : State → ℕ → Bool
 is_granted s i = is_granted_at s.floor.seats s.world i (s.world.place i)

@@ -18,6 +18,7 @@ use Rattle.monk_world.specs.declared.home.Home.TheVariants as home
 use Rattle.monk_world.specs.declared.place.Place.{Place}
 use Rattle.monk_world.specs.declared.place.Place.TheVariants.{Idle, Ticket, Due, Active, Back, Passing, Inner}
 
+-- how many events a seat still needs inside
 abbrev pub left_within : Home → ℕ
 left_within home.Idle = 0
 left_within home.Inner = 2
@@ -32,6 +33,7 @@ left_at (Back next home) = left_within home
 left_at (Passing t home) = left_within home
 left_at Inner = 2
 
+-- the state is sound, with the right to be active there and these owners of tickets
 pub record IsSound (k : Rules) (o : Object) (s : State) (right : Whereabouts) (owner : ℕ → ℕ) : Type 0 where
   pub legal : IsLegal (monitor_of k o s.floor) s.floor.history
   pub stands : Stands s.floor.seats s.world right owner (turn_number (turn s.floor.history)) (is_standing k o s.floor)
@@ -47,6 +49,7 @@ pub record IsSound (k : Rules) (o : Object) (s : State) (right : Whereabouts) (o
   pub left : (j : ℕ) → left_at (s.world.place j) ≤ left_of s.floor.budget s.floor.history j
   pub outside : (j : ℕ) → s.floor.seats ≤ j → stage (s.world.place j) ≡ outside_stage
 
+-- the state is sound: its history is legal, and its words stand for it
 pub record Sound (k : Rules) (o : Object) (s : State) : Type 0 where
   pub right : Whereabouts
   pub owner : ℕ → ℕ

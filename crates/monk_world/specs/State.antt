@@ -18,6 +18,7 @@ pub record State : Type 0 where
   pub known : ℕ → Bool
   pub floor : FloorView
 
+-- the floor with one more event
 abbrev pub with_event : FloorView → Event → FloorView
 with_event f e = record f { history = f.history ++ e ∷ [] }
 

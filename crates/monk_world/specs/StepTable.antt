@@ -61,10 +61,12 @@ call_of i (command.SignalWait c d pick) = Some (SignalWait i c d next.Stay)
 abbrev pub command_version : Command → ℕ
 command_version c = option_map_or first_version (call_of 0 c) 1
 
+-- whether the event of the call is in range, if it has one
 abbrev pub is_call_in_range : Object → FloorView → Option Event → Bool
 is_call_in_range o f None = true
 is_call_in_range o f (Some e) = is_in_range f.seats f.conds o.codes o.predicates e
 
+-- whether the kind has the call
 abbrev pub is_call_offered : Rules → Option Event → Bool
 is_call_offered k None = true
 is_call_offered k (Some e) = is_offered k e
@@ -77,6 +79,7 @@ names_entry (next.Waiter j) = false
 names_entry (next.Signaller j) = false
 names_entry (next.Until j) = false
 
+-- whether a choice names a seat
 abbrev pub names_seat : Next → Bool
 names_seat next.Stay = false
 names_seat next.Entry = false
@@ -84,6 +87,7 @@ names_seat (next.Waiter j) = true
 names_seat (next.Signaller j) = true
 names_seat (next.Until j) = true
 
+-- whether the seat has made such a choice and still has to hand the monitor on
 abbrev pub is_back : (Next → Bool) → Place → Bool
 is_back chose Idle = false
 is_back chose (Ticket t) = false
@@ -142,6 +146,7 @@ queue_due turn.Open = FromWaiter
 queue_due (turn.Due j q) = q
 queue_due (turn.Owned j) = FromWaiter
 
+-- the event by which a seat becomes active
 abbrev pub out_event : ℕ → Source → Turn → Event
 out_event i (Free t) u = Enter i via.Free
 out_event i (Granted t) u = Enter i via.Handed
@@ -151,6 +156,7 @@ out_event i Called u = Resume i (queue_due u)
 abbrev pub release_next : Rules → Object → State → ℕ → Event → Pick → Next
 release_next k o s i e pick = choice_of k o (stands_of k o s.floor) e (s.known i) pick
 
+-- a release makes its choice, and its event is recorded
 abbrev pub IsReleased : Rules → Object → State → ℕ → Event → Pick → Home → Answer → State → Type 0
 IsReleased k o s i e pick home a t =
     (a ≡ answer.Chose (release_next k o s i e pick))
@@ -171,6 +177,7 @@ IsGranted s i (next.Signaller j) home a t = (a ≡ answer.GrantedSeat j)
 IsGranted s i (next.Until j) home a t = (a ≡ answer.GrantedSeat j)
     × (t ≡ record s { world = after_seat_grant s.world i j home })
 
+-- the monitor is handed on as it was chosen
 abbrev pub IsDropped : State → ℕ → Next → Home → Answer → State → Type 0
 IsDropped s i next.Stay home a t = ⊥
 IsDropped s i next.Entry home a t = (a ≡ answer.Found s.world.unpassed)
@@ -237,6 +244,7 @@ IsDone k o s i (Active q) (command.SignalWait c d pick) a t =
     IsReleased k o s i (SignalWait i c d next.Stay) pick home.Inner a t
 IsDone k o s i p (command.SignalWait c d pick) a t = ⊥
 
+-- the command is refused for that reason, or else done
 abbrev pub IsAnswered : Rules → Object → State → ℕ → Command → Option Answer → Answer → State → Type 0
 IsAnswered k o s i c None a t = IsDone k o s i (s.world.place i) c a t
 IsAnswered k o s i c (Some r) a t = (a ≡ r) × (t ≡ s)

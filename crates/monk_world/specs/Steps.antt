@@ -25,6 +25,7 @@ place_after_ticket_look t found = if found then Due (Granted t) else Ticket t
 abbrev pub place_after_seat_look : Bool → Place
 place_after_seat_look found = if found then Due Called else Inner
 
+-- how many grants of its own a seat has found, after a look
 abbrev pub count_after_seat_look : ℕ → Bool → ℕ
 count_after_seat_look count found = if found then count + 1 else count
 
@@ -47,6 +48,7 @@ after_arrive w i = record w {
 abbrev pub after_ticket_look : World → ℕ → ℕ → Bool → World
 after_ticket_look w i t found = record w { place = update w.place i (place_after_ticket_look t found) }
 
+-- the world after a seat has looked for its grant
 abbrev pub after_seat_look : World → ℕ → Bool → World
 after_seat_look w i found =
     record w {
@@ -80,14 +82,18 @@ after_seat_grant w i k home =
 
 -- Where the right is after a step that found this, and who owns the ticket that was drawn:
 
+-- who has the right to be active after an arrival
 abbrev pub right_after_arrive : World → Whereabouts → ℕ → Whereabouts
 right_after_arrive w right i = if w.unpassed == 0 then With i else right
 
+-- who owns each ticket after an arrival
 abbrev pub owner_after_arrive : World → (ℕ → ℕ) → ℕ → ℕ → ℕ
 owner_after_arrive w owner i = if w.unpassed == 0 then owner else update owner w.drawn i
 
+-- who has the right to be active after a look
 abbrev pub right_after_look : Whereabouts → ℕ → Bool → Whereabouts
 right_after_look right i found = if found then With i else right
 
+-- who has the right to be active after a drop
 abbrev pub right_after_drop : World → ℕ → Whereabouts
 right_after_drop w i = if w.unpassed == 1 then Nowhere else With i

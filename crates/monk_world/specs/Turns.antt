@@ -10,11 +10,13 @@ use Rattle.monk_world.specs.declared.place.Place.TheVariants as at
 use Rattle.monk_world.specs.declared.source.Source.{Source}
 use Rattle.monk_world.specs.declared.source.Source.TheVariants.{Free, Granted, Called}
 
+-- the number of a turn
 abbrev pub turn_number : Turn → ℕ
 turn_number Open = open_turn
 turn_number (Due j q) = due_to j
 turn_number (Owned j) = owned_by j
 
+-- the number of the turn in which a seat may become active
 abbrev pub turn_from : ℕ → Source → ℕ
 turn_from j (Free t) = open_turn
 turn_from j (Granted t) = open_turn

@@ -33,6 +33,7 @@ refused_from step (e ∷ es) = (if is_refused_act e then step ∷ [] else []) ++
 abbrev pub refused_steps : List Event → List ℕ
 refused_steps h = refused_from 1 h
 
+-- the operations of the acts of a history, in order
 abbrev pub ops_in : List Event → List Op
 ops_in h = map (λ act. act.op) (acts_in h)
 

@@ -13,6 +13,7 @@ events_of h s = filter (λ e. seat_of e == s) h
 abbrev pub left_of : ℕ → List Event → ℕ → ℕ
 left_of budget h s = budget - length (events_of h s)
 
+-- whether the event is an entry
 abbrev pub is_enter : Event → Bool
 is_enter e = is_some (via_of e)
 
@@ -29,6 +30,7 @@ chooses_seat s (Some (Waiter j)) = j == s
 chooses_seat s (Some (Signaller j)) = j == s
 chooses_seat s (Some (UntilSeat j)) = j == s
 
+-- whether the event chooses that seat to go on
 abbrev pub grants : ℕ → Event → Bool
 grants s e = chooses_seat s (next_of e)
 

@@ -15,6 +15,7 @@ use Rattle.monk_history.specs.declared.event.Event.{Event}
 use Rattle.monk_history.specs.declared.event.Event.TheVariants.{Resume}
 use Rattle.monk_history.specs.declared.event.From3.TheVariants.{Waiter as FromWaiter, Until as FromUntil}
 
+-- whether a signaller of that mode gives the monitor up
 abbrev pub is_blocking : Mode → Bool
 is_blocking Blocking = true
 is_blocking NonBlocking = false
@@ -53,6 +54,7 @@ puts_callers_last Npir = false
 puts_callers_last Pis = true
 puts_callers_last Npis = false
 
+-- whether the seat is one of those
 abbrev pub is_among : ℕ → List ℕ → Bool
 is_among w ss = list_any (λ s. s == w) ss
 
@@ -81,6 +83,7 @@ NobodyComesBetween h =
     (i k w : ℕ) (e x : Event) → slice_get h i ≡ Some e → slice_get h k ≡ Some x → i < k
     → IsTrue (is_served w (take i h) e) → IsTrue (is_some (via_of x)) → GoesOnBetween h w i k
 
+-- a seat waited for that predicate before the step, and the predicate holds behind it
 abbrev pub AwaitsWhatHolds : Monitor → List Event → ℕ → ℕ → ℕ → Type 0
 AwaitsWhatHolds m h i s p =
     IsTrue (list_any (λ u. u.0 == s && u.1 == p) (untils (take i h)))

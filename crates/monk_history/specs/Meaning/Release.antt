@@ -23,6 +23,7 @@ pub record MayCallIn (m : Monitor) (t : Situation) (e : Event) : Type 0 where
   pub in_turn : IsTrue (is_in_turn t e)
   pub in_place : IsTrue (is_in_place m.object t e)
 
+-- the call may be made behind that history, whatever it then chooses
 abbrev pub MayCall : Monitor → List Event → Event → Type 0
 MayCall m h e = MayCallIn m (situation m h) e
 

@@ -10,6 +10,7 @@ pub record PieceLeft : Type 0 where
   pub number : ℕ
   pub room : ℕ
 
+-- what is left of a text that is read in pieces
 abbrev pub piece_left : List ℕ → ℕ → ℕ → PieceLeft
 piece_left bytes number room = record { bytes = bytes; number = number; room = room }
 

@@ -17,10 +17,12 @@ Word = List ℕ
 abbrev pub words_of : List ℕ → List Word
 words_of line = slice_split (λ b. b == 32) line
 
+-- what was taken off the words with those that are left, or what is wrong with them
 abbrev pub Taken : Type 0 → Type 0
 Taken A = Result (A × List Word) Flaw
 
 infixl 10 ◌>>=◌
+-- goes on with what was found, unless there was a flaw
 abbrev pub ◌>>=◌ : {A B E : Type 0} → Result A E → (A → Result B E) → Result B E
 (Ok x) >>= f = f x
 (Err e) >>= f = Err e
@@ -29,6 +31,7 @@ abbrev pub ◌>>=◌ : {A B E : Type 0} → Result A E → (A → Result B E) �
 abbrev pub is_number : ℕ → Word → Bool
 is_number most w = bytes_eq w (decimal (digits_value 10 w)) && nat_le (digits_value 10 w) most
 
+-- the number that the word tells, if it is at most that
 abbrev pub number_in : ℕ → Word → Option ℕ
 number_in most w = if is_number most w then Some (digits_value 10 w) else None
 
@@ -37,6 +40,7 @@ unfoldable pub number_at : ℕ → List Word → Taken ℕ
 number_at most [] = Err flaw.Word
 number_at most (w ∷ ws) = if is_number most w then Ok (digits_value 10 w, ws) else Err flaw.Number
 
+-- what was found with the words that are left, or else a wrong word
 abbrev pub with_rest : {A : Type 0} → List Word → Option A → Taken A
 with_rest ws None = Err flaw.Word
 with_rest ws (Some x) = Ok (x, ws)

@@ -16,6 +16,7 @@ use Rattle.monk_logs.specs.declared.text.verb.Verb.TheVariants as verb
 
 -- ---- a line
 
+-- the word of a verb
 abbrev pub log_verb_word : Verb → Word
 log_verb_word verb.Enter = codes "enter"
 log_verb_word verb.Resume = codes "resume"
@@ -27,10 +28,12 @@ log_verb_word verb.Broadcast = codes "broadcast"
 log_verb_word verb.Until = codes "until"
 log_verb_word verb.Act = codes "act"
 
+-- each verb once
 abbrev pub log_verbs : List Verb
 log_verbs = verb.Enter ∷ verb.Resume ∷ verb.Lapse ∷ verb.Leave ∷ verb.Wait ∷ verb.Signal ∷ verb.Broadcast ∷ verb.Until
     ∷ verb.Act ∷ []
 
+-- the line that the words after its verb and its seat tell
 unfoldable pub line_after : Verb → ℕ → List Word → Taken LogLine
 line_after verb.Enter s ws = Ok (Enter s, ws)
 line_after verb.Resume s ws = Ok (Resume s, ws)
@@ -53,11 +56,13 @@ log_line_at ws = do
 
 -- ---- a first line
 
+-- the heading by its parts, if each is in range
 abbrev pub log_heading_of : ℕ → ℕ → ObjectName → ℕ → Option LogHeading
 log_heading_of seats conds object size =
     if nat_le 1 seats && nat_le seats most_seats && nat_le conds most_conds && nat_le 1 size
     then Some (log_heading seats conds object size) else None
 
+-- the heading that those words tell
 unfoldable pub log_header_at : List Word → Taken LogHeading
 log_header_at ws = do
   l ← literal_at (codes "log") ws
@@ -75,6 +80,7 @@ log_header_at ws = do
 abbrev pub Log : Type 0
 Log = LogHeading × List LogLine
 
+-- a log by its heading and its lines
 abbrev pub log : LogHeading → List LogLine → Log
 log h lines = (h, lines)
 

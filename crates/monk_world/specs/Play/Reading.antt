@@ -21,9 +21,11 @@ use Rattle.monk_world.specs.Play.{pick_word}
 
 -- ---- a command
 
+-- each wish once
 abbrev pub picks : List Pick
 picks = pick.Entry ∷ pick.Waiter ∷ pick.Signaller ∷ []
 
+-- the word of a verb
 abbrev pub play_verb_word : Verb → Word
 play_verb_word verb.Arrive = codes "arrive"
 play_verb_word verb.Look = codes "look"
@@ -57,10 +59,12 @@ play_verb_version verb.Until = 1
 play_verb_version verb.SignalAll = 2
 play_verb_version verb.SignalWait = 2
 
+-- each verb once
 abbrev pub play_verbs : List Verb
 play_verbs = verb.Arrive ∷ verb.Look ∷ verb.Out ∷ verb.Peek ∷ verb.Drop ∷ verb.Grant ∷ verb.Act ∷ verb.Leave ∷ verb.Wait
     ∷ verb.Signal ∷ verb.SignalLeave ∷ verb.Until ∷ verb.SignalAll ∷ verb.SignalWait ∷ []
 
+-- the verbs that a text of that version has
 abbrev pub play_verbs_of : ℕ → List Verb
 play_verbs_of version = in_version play_verb_version version play_verbs
 
@@ -78,6 +82,7 @@ cond_pick_at ws = do
   p ← one_of pick_word picks c.1
   Ok ((c.0, p.0), p.1)
 
+-- the command that the words after its verb tell
 unfoldable pub action_after : Verb → List Word → Taken Command
 action_after verb.Arrive ws = Ok (Arrive, ws)
 action_after verb.Look ws = Ok (Look, ws)
@@ -106,12 +111,15 @@ command_at version ws = do
 
 -- ---- a first line
 
+-- the head of a play by its parts
 abbrev pub play_head : Heading → ℕ → PlayHead
 play_head h budget = record { header = h; budget = budget }
 
+-- the head of a play, if its budget is enough
 abbrev pub play_head_of : Heading → ℕ → Option PlayHead
 play_head_of h budget = if nat_le least_budget budget then Some (play_head h budget) else None
 
+-- the head of a play that those words tell
 unfoldable pub play_head_at : List Word → Taken PlayHead
 play_head_at ws = do
   p ← literal_at (codes "play") ws
@@ -127,6 +135,7 @@ play_head_at ws = do
 abbrev pub Play : Type 0
 Play = Heading × ℕ × List (ℕ × Command)
 
+-- a play by its parts
 abbrev pub play : Heading → ℕ → List (ℕ × Command) → Play
 play h budget commands = (h, budget, commands)
 
@@ -138,6 +147,7 @@ play_view r = play r.0 r.1 r.2.items
 abbrev pub command_under : PlayHead → List Word → Taken (ℕ × Command)
 command_under h ws = command_at h.header.version ws
 
+-- the play that was read, or the fault
 abbrev pub play_of_reading : Result (PlayHead × List (ℕ × Command)) ReadFault → Result Play ReadFault
 play_of_reading (Ok x) = Ok (play x.0.header x.0.budget x.1)
 play_of_reading (Err e) = Err e
