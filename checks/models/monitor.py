@@ -226,9 +226,3 @@ def explained(kind, header, events):
         fronts = [(name, queue[0]) for name, queue in zip(("waiter", "signaller", "until"), monitor.queues(e)) if queue]
         lines += ["fronts:" + ",".join(f" {name} {seat}" for name, seat in fronts), "may: " + ", ".join(monitor.may(e))]
     return lines
-
-
-def any_predicate(chance, name, wrong=0.1):
-    """A predicate of the object, of many most often one of the first; seldom one that it hasn't."""
-    most = 3 if name == "flags" and chance.random() < 0.8 else PREDICATES[name]
-    return chance.randrange(most + (chance.random() < wrong))
