@@ -2,8 +2,8 @@
 
 The logs are a tree by their beginnings. Where no run of any kind begins with a log, in whichever order, none begins with what
 goes on from there, and the misfits stay where they are: of those longer logs one is tried, of random lines, and of all others
-each. No log is left out because it is another one with its seats renamed. The search (checks/logs_search.py) tells the strictest
-order in which a log fits a kind, or the line of its misfit; the model (checks/logs_board.py, checks/logs_model.py) tells the
+each. No log is left out because it is another one with its seats renamed. The search (logs_search.py) tells the strictest
+order in which a log fits a kind, or the line of its misfit; the model (logs_board.py, logs_model.py) tells the
 reason too, and the counts."""
 import os
 import random
@@ -13,7 +13,7 @@ import tempfile
 from collections import Counter
 from concurrent.futures import ThreadPoolExecutor
 
-from logs_board import ORDERS, REASONS, Course, Rules, behind, formats, opening
+from logs_board import ORDERS, REASONS, Course, Rules, behind, monitor, opening
 from logs_model import counted, text_of
 from logs_search import Search
 
@@ -30,9 +30,9 @@ def lines_over(header, acts):
     for seat in seats:
         yield from ((verb, seat) for verb in ("enter", "resume", "lapse", "leave"))
         yield from ((verb, seat, cond) for verb in ("wait", "signal", "broadcast") for cond in conds)
-        yield from (("until", seat, pred) for pred in range(formats.PREDICATES[header.object]))
+        yield from (("until", seat, pred) for pred in range(monitor.PREDICATES[header.object]))
         if acts:
-            yield from (("act", seat, code, 0, reply) for code in range(formats.CODES[header.object]) for reply in range(2))
+            yield from (("act", seat, code, 0, reply) for code in range(monitor.CODES[header.object]) for reply in range(2))
 
 
 class Way:
@@ -63,7 +63,7 @@ class Ways:
 
     def __init__(self, header, lapses):
         self.header, self.lapses = header, lapses
-        self.ways = [Way(kind, header, order, lapses) for kind in formats.KINDS for order in ORDERS]
+        self.ways = [Way(kind, header, order, lapses) for kind in monitor.KINDS for order in ORDERS]
         self.opening = [way.opening for way in self.ways]
 
     def behind(self, stands, line, step):
@@ -71,7 +71,7 @@ class Ways:
 
     def by_kind(self, stands):
         """Each kind with how the log stands under it, in each order."""
-        return [(kind, stands[at * len(ORDERS) : (at + 1) * len(ORDERS)]) for at, kind in enumerate(formats.KINDS)]
+        return [(kind, stands[at * len(ORDERS) : (at + 1) * len(ORDERS)]) for at, kind in enumerate(monitor.KINDS)]
 
     def by_search(self, stands):
         """A line for each kind, without the reason of a misfit."""
@@ -99,7 +99,7 @@ class Log:
 
     def differs(self, said, status):
         """Whether monk's answer isn't that of the search, and whether it isn't that of the model."""
-        kinds = [" ".join(line.split()[:3]) for line in said.splitlines()[: len(formats.KINDS)]]
+        kinds = [" ".join(line.split()[:3]) for line in said.splitlines()[: len(monitor.KINDS)]]
         wanted = "".join(line + "\n" for line in self.modelled + counted(self.header, self.lines))
         return (kinds, status) != (self.searched, 0 if self.fits() else 1), said != wanted
 

@@ -1,5 +1,5 @@
 #!/usr/bin/env python3
-"""Which monitors a log could be of, by a plain model: checks/logs_model.py [--lapses] [--means COND=PRED].. [FILE]
+"""Which monitors a log could be of, by a plain model: checks/models/logs_model.py [--lapses] [--means COND=PRED].. [FILE]
 
 Reads a log (docs/LOGS.md), of standard input where no FILE is named, and prints ten lines, one for each kind: the strictest
 of the orders fifo, wake and any in which it fits, or the first line with which no run of that kind begins and the first test
@@ -7,13 +7,13 @@ that this line fails. Then the counts, and for each --means a predicate that sho
 first line at which somebody waits on though it holds. With --lapses a `resume` may be a wake-up that no signal made.
 The status is 0 where a kind fits, 1 where none does, 2 where the text can't be read or the object isn't one.
 
-How it judges is told in checks/logs_board.py."""
+How it judges is told in logs_board.py."""
 import argparse
 import re
 import sys
 
 sys.dont_write_bytecode = True
-from logs_board import ANY, ORDERS, REASONS, Header, Rules, behind, formats, given, judge, line_of, opening, services, thing, waiting
+from logs_board import ANY, ORDERS, REASONS, Header, Rules, behind, given, judge, line_of, monitor, opening, services, thing, waiting
 
 # What a verb's words are behind the seat, with the most that each may be.
 BYTE = 255
@@ -65,7 +65,7 @@ def counted(header, lines, means=()):
     return said + ([f"missed {missed or 'none'}"] if means else [])
 
 
-def fitted(header, lines, lapses=False, kinds=formats.KINDS):
+def fitted(header, lines, lapses=False, kinds=monitor.KINDS):
     """A line for each kind, and whether a kind fits."""
     said = []
     for kind in kinds:
@@ -99,7 +99,7 @@ def number(word, most):
 
 def version_of(thing):
     """The version of the logs that name the object, as it is written, or None where there is no such object."""
-    return "2" if thing == "flags" else "1" if thing in formats.CODES else None
+    return "2" if thing == "flags" else "1" if thing in monitor.CODES else None
 
 
 def header_of(words):

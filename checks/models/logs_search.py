@@ -1,11 +1,11 @@
 """Whether a run begins with a log, by a plain search straight from the definitions: among all that a monitor may do, whoever is
-served and chosen. It stands on the monitor of checks/formats, which audits histories, and has no rule of how lines are judged.
+served and chosen. It stands on monitor.py, which audits histories, and has no rule of how lines are judged.
 
 A situation is what that monitor holds, as a tuple. An event is tried with each seat that it may serve, and with each seat let
 to the front of whichever queue it stands in, as the order permits; it may be done where the audit has nothing against it."""
 import itertools
 
-from logs_board import ANY, FIFO, Header, formats
+from logs_board import ANY, FIFO, Header, monitor
 
 # The words of an event that names numbers of this kind each; a release has a next behind them.
 NAMED = {
@@ -18,12 +18,12 @@ NAMED = {
     "signal-all": ("conds",),
 }
 # How many of the audit's tests come before that of the choice.
-CHOICELESS = formats.REASONS.index("choice")
+CHOICELESS = monitor.REASONS.index("choice")
 VIAS = ("free", "handed")
 SOURCES = ("waiter", "signaller", "until")
 
 
-class Situation(formats.Monitor):
+class Situation(monitor.Monitor):
     """A monitor that may serve and choose by an order of its queues."""
 
     def __init__(self, search, key):
@@ -32,7 +32,7 @@ class Situation(formats.Monitor):
         waits, waiters, signallers, untils, state, self.turn, inside, self.begun = key
         self.waits = {cond: list(queue) for cond, queue in enumerate(waits)}
         self.waiters, self.signallers, self.untils = list(waiters), list(signallers), list(untils)
-        self.thing, self.inside = formats.Thing(header.object, list(state)), set(inside)
+        self.thing, self.inside = monitor.Thing(header.object, list(state)), set(inside)
         self.order, self.first, self.to_serve = search.order, None, None
 
     def served(self, e):
@@ -61,7 +61,7 @@ class Situation(formats.Monitor):
 
 def erased(e):
     """The lines that a recorder writes of an event."""
-    name, seat, at = e[0], e[1], formats.RELEASES.get(e[0])
+    name, seat, at = e[0], e[1], monitor.RELEASES.get(e[0])
     if name == "signal-leave":
         return (("signal", seat, e[2]), ("leave", seat))
     if name == "signal-wait":
@@ -76,21 +76,21 @@ class Search:
 
     def __init__(self, kind, header, order, lapses):
         self.kind, self.header, self.order, self.lapses = kind, header, order, lapses
-        self.acts = [(code, arg) for code in range(formats.CODES[header.object]) for arg in range(2 if code == 0 else 1)]
+        self.acts = [(code, arg) for code in range(monitor.CODES[header.object]) for arg in range(2 if code == 0 else 1)]
         self.steps, self.lines = {}, {}
-        state = tuple(formats.Thing.opening(header.object, header.size))
+        state = tuple(monitor.Thing.opening(header.object, header.size))
         self.opening = frozenset([((((),) * header.conds, (), (), (), state, "open", (), False), ())])
 
     def events(self, seat, thing):
         """Each event of a seat, whether it may be done or not."""
-        ranges = {"conds": range(self.header.conds), "preds": range(formats.PREDICATES[self.header.object])}
+        ranges = {"conds": range(self.header.conds), "preds": range(monitor.PREDICATES[self.header.object])}
         nexts = [("stay",), ("entry",), *itertools.product(SOURCES, range(self.header.seats))]
         yield from (("enter", seat, via) for via in VIAS)
         yield from (("resume", seat, source) for source in SOURCES)
         yield from (("act", seat, code, arg, thing.act(code, arg)[0]) for code, arg in self.acts)
         for name, kinds in NAMED.items():
             for numbers in itertools.product(*(ranges[it] for it in kinds)):
-                yield from ((name, seat, *numbers, *then) for then in (nexts if name in formats.RELEASES else [()]))
+                yield from ((name, seat, *numbers, *then) for then in (nexts if name in monitor.RELEASES else [()]))
 
     def tries(self, here, key, e):
         """The situations to which an event leads."""

@@ -1,24 +1,10 @@
 """How a log is judged, in one pass over its lines, by the rules that docs/LOGS.md tells of boards: a plain model, which shares
 nothing with monk. That it comes to the same as the definitions is what checks/logs tries. Kinds and objects are those of
-checks/formats."""
-import importlib.machinery
-import importlib.util
-import os
-import sys
+monitor.py."""
 from collections import namedtuple
 
-sys.dont_write_bytecode = True
-TOP = os.path.dirname(os.path.dirname(os.path.abspath(__file__)))
+import monitor
 
-
-def load(name):
-    loader = importlib.machinery.SourceFileLoader(name, os.path.join(TOP, "checks", name))
-    made = importlib.util.module_from_spec(importlib.util.spec_from_loader(name, loader))
-    loader.exec_module(made)
-    return made
-
-
-formats = load("formats")
 ORDERS = FIFO, WAKE, ANY = ("fifo", "wake", "any")
 REASONS = ("range", "call", "turn", "place", "reply", "unserved", "served", "order", "choice")
 # What the call of a line is, in the words of a history; under immediate return a signal is one by which its caller leaves.
@@ -35,7 +21,7 @@ Rules = namedtuple("Rules", "kind header order lapses")
 
 
 def opening(header):
-    state = tuple(formats.Thing.opening(header.object, header.size))
+    state = tuple(monitor.Thing.opening(header.object, header.size))
     return Course(Board((), (), (), state, None, frozenset()), None, None)
 
 
@@ -111,7 +97,7 @@ def without(items, seat):
 
 
 def thing(rules, board):
-    return formats.Thing(rules.header.object, list(board.state))
+    return monitor.Thing(rules.header.object, list(board.state))
 
 
 def given(board, event):
@@ -147,7 +133,7 @@ def permits(rules, board, event, choice):
     """Whether the event may choose that: stay, entry, or a seat with its queue."""
     if must_stay(rules, board, event):
         return choice == ("stay",)
-    mode, entry, waiter, signaller = formats.KINDS[rules.kind]
+    mode, entry, waiter, signaller = monitor.KINDS[rules.kind]
     items, stand_back, able = board.items + given(board, event), board.signallers + stepped(board, event), ready(rules, board)
     no_waiter = not services(items)
     if choice == ("stay",):
@@ -199,12 +185,12 @@ def release(rules, board, event, choice):
 def early(rules, line):
     """The first of the tests of range and of the call that the line fails."""
     verb, seat, *numbers = line
-    header, (mode, *_) = rules.header, formats.KINDS[rules.kind]
-    most = {"act": formats.CODES[header.object], "until": formats.PREDICATES[header.object]}.get(verb, header.conds)
+    header, (mode, *_) = rules.header, monitor.KINDS[rules.kind]
+    most = {"act": monitor.CODES[header.object], "until": monitor.PREDICATES[header.object]}.get(verb, header.conds)
     if seat >= header.seats or any(number >= most for number in numbers[:1]):
         return "range"
     call = "signal-leave" if verb == "signal" and mode == "immediate-return" else CALLS.get(verb, verb)
-    return "call" if call in formats.MODES_OF and mode not in formats.MODES_OF[call] else None
+    return "call" if call in monitor.MODES_OF and mode not in monitor.MODES_OF[call] else None
 
 
 def is_wrong_reply(rules, board, line):
@@ -234,7 +220,7 @@ def blame_of_choice(rules, board, event, line):
         return "choice" if may_lapse(rules.order, items + waiting(event), seat) else "served"
     first = stand_back[:1] == (seat,)
     if verb != "resume":
-        mode, _, waiter, signaller = formats.KINDS[rules.kind]
+        mode, _, waiter, signaller = monitor.KINDS[rules.kind]
         return "order" if rules.order == FIFO and waiter <= signaller and not first else "choice"
     loose = WAKE if rules.order == FIFO else rules.order
     if not (is_served(loose, items, seat) or seat in stand_back or seat in able):
@@ -271,7 +257,7 @@ def settled(rules, board, line):
         return known(board._replace(state=tuple(after.state))) if reply == numbers[2] else "reply"
     if verb == "broadcast":
         return known(board._replace(items=board.items + given(board, ("signal-all", seat, *numbers))))
-    halved = verb == "signal" and formats.KINDS[rules.kind][0] == "immediate-return"
+    halved = verb == "signal" and monitor.KINDS[rules.kind][0] == "immediate-return"
     return Course(board, None, line) if halved else Course(board, line, None)
 
 

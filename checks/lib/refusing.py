@@ -3,7 +3,8 @@ import os
 import re
 import subprocess
 
-TOP = os.path.dirname(os.path.dirname(os.path.abspath(__file__)))
+HERE = os.path.dirname(os.path.abspath(__file__))
+TOP = os.path.dirname(os.path.dirname(HERE))
 
 # How the tests mark that they ask for no memory from one line on up to another (tests/marks.rt); refuse.c writes in front of
 # such a line how many requests there were before it.
@@ -17,7 +18,7 @@ class Refusing:
     def __init__(self, folder, seconds=20):
         self.library = os.path.join(folder, "refuse.so")
         self.seconds = seconds
-        source = os.path.join(TOP, "checks", "refuse.c")
+        source = os.path.join(HERE, "refuse.c")
         subprocess.run(["cc", "-shared", "-fPIC", "-O1", "-o", self.library, source, "-ldl"], check=True)
 
     def run(self, words, request=0, thread=0, **more):

@@ -1,0 +1,81 @@
+"""Random histories, most of them legal up to an event that may be wrong in any way."""
+from monitor import CODES, KINDS, NEXTS, PREDICATES, REASONS, RELEASES, VERSIONS, Monitor
+
+
+def any_predicate(chance, name, wrong=0.1):
+    """A predicate of the object, of many most often one of the first; seldom one that it hasn't."""
+    most = 3 if name == "flags" and chance.random() < 0.8 else PREDICATES[name]
+    return chance.randrange(most + (chance.random() < wrong))
+
+
+def any_event(chance, monitor, version):
+    """An event of any kind, right or wrong."""
+    seat, cond = chance.randrange(monitor.seats + (chance.random() < 0.1)), chance.randrange(max(1, monitor.conds))
+    next_ = chance.choice(NEXTS)
+    next_ = [next_] if next_ in ("stay", "entry") else [next_, chance.randrange(monitor.seats)]
+    name = monitor.thing.name
+    made = [
+        ["enter", seat, chance.choice(("free", "handed"))],
+        ["act", seat, chance.randrange(CODES[name] + (chance.random() < 0.1)), chance.randrange(9), chance.randrange(3)],
+        ["leave", seat, *next_],
+        ["wait", seat, cond, *next_],
+        ["signal", seat, cond, *next_],
+        ["signal-leave", seat, cond, *next_],
+        ["until", seat, any_predicate(chance, name), *next_],
+        ["resume", seat, chance.choice(("waiter", "signaller", "until"))],
+    ]
+    if version >= 2:
+        made += [["signal-all", seat, cond], ["signal-wait", seat, cond, chance.randrange(max(1, monitor.conds)), *next_]]
+    return [str(w) for w in chance.choice(made)]
+
+
+def right_event(chance, monitor, version):
+    """An event that is allowed, or none."""
+    if monitor.turn.startswith("due"):
+        _, seat, queue = monitor.turn.split()
+        return ["resume", seat, queue]
+    for _ in range(200):
+        e = any_event(chance, monitor, version)
+        if monitor.turn.startswith("of"):
+            e[1] = monitor.turn.split()[1]
+        if monitor.reason(e) in (5, 6):
+            if e[0] == "act":
+                e[4] = str(monitor.thing.act(int(e[2]), int(e[3]))[0])
+            else:
+                e = e[: RELEASES[e[0]]] + chance.choice(monitor.may(e)).split()
+        if not monitor.reason(e):
+            return e
+    return None
+
+
+def wrong_event(chance, monitor, version, wanted):
+    """An event that first fails that test, or none."""
+    for _ in range(100):
+        e = any_event(chance, monitor, version)
+        # in most cases it is at least of the seat whose turn it is
+        if monitor.turn.startswith("of") and chance.random() < 0.7:
+            e[1] = monitor.turn.split()[1]
+        if monitor.reason(e) == wanted:
+            return e
+    return None
+
+
+def history(chance, kind, name):
+    """A version, a header without it, and events that are legal, or up to one that fails a test chosen at random."""
+    version, seats = chance.choice(VERSIONS[name]), chance.randrange(1, 5)
+    conds = 0 if KINDS[kind][0] == "automatic" and chance.random() < 0.5 else chance.randrange(1, 4)
+    header = (seats, conds, name, chance.randrange(1, 4))
+    monitor, events = Monitor(kind, *header), []
+    wanted, long = chance.randrange(len(REASONS) + 1), chance.randrange(60)
+    for step in range(2 * long):
+        wrong = wrong_event(chance, monitor, version, wanted) if wanted and step >= long else None
+        if wrong:
+            # what stands behind the first fault is read, and changes nothing
+            events += [wrong, *(any_event(chance, monitor, version) for _ in range(chance.randrange(3)))]
+            break
+        e = right_event(chance, monitor, version)
+        if e is None:
+            break
+        events.append(e)
+        monitor.take(e)
+    return version, header, events

@@ -1,0 +1,61 @@
+// All steps as a table: closed on the screen, printed.
+
+function headOf() {
+  const conditions = (R[0].conditions || []).map((_, c) => `c${c}`);
+  const signaller = signallerRank ? ['Signaller'] : [];
+  const queues = automatic ? ['Waits until', 'Ready'] : [...conditions, 'Waiter', ...signaller];
+  return ['Step', 'What happens', 'Active', ...queues, 'Data'];
+}
+
+function turnCell(r) {
+  const [turn, seat] = r.turn.split(' ');
+  if (turn === 'open') return 'open';
+  return turn === 'of' ? seat : `${seat} next`;
+}
+
+function queueCells(r) {
+  if (automatic) {
+    const waits = r.until.map(([s, predicate]) => `${s}: ${PREDICATES[predicate]}`);
+    return [waits.join('; '), r.ready.join(', ')];
+  }
+  const signaller = signallerRank ? [r.signaller] : [];
+  return [...r.conditions, r.waiter, ...signaller].map((queue) => queue.join(', '));
+}
+
+function rowOf(r) {
+  const link = make('a', '', String(r.step));
+  link.href = `#step=${r.step}`;
+  const happens = say(r) + (r.bad ? ` Forbidden: ${r.why}.` : '');
+  const cells = [link, happens, turnCell(r), ...queueCells(r), dataWords(r.state).join(' ')];
+  const isLong = (i) => i === 1 || i === cells.length - 1 || (automatic && i === 3);
+  const tds = cells.map((cell, i) => make('td', isLong(i) ? '' : 'short', cell));
+  const line = make('tr', r.bad ? 'bad' : '', ...tds);
+  line.dataset.step = r.step;
+  return line;
+}
+
+function headCell(words) {
+  const cell = make('th', '', words);
+  cell.scope = 'col';
+  return cell;
+}
+
+function fillTable() {
+  if ($('table').firstChild) return;
+  const head = make('thead', '', make('tr', '', ...headOf().map(headCell)));
+  $('table').append(make('table', '', head, make('tbody', '', ...R.map(rowOf))));
+}
+
+function markTable() {
+  document.querySelectorAll('#table tr[data-step]').forEach((line) => {
+    const step = Number(line.dataset.step);
+    if (step === now) line.setAttribute('aria-current', 'step');
+    else line.removeAttribute('aria-current');
+    line.hidden = isHiding() && step > now;
+  });
+}
+
+$('all').addEventListener('toggle', () => {
+  fillTable();
+  markTable();
+});
