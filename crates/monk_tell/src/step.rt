@@ -72,10 +72,11 @@ impl Step {
     {
         let choice = release_choice(alloc, rules, replay, object, event)?;
         replay.carry_out(alloc, rules, object, header.conds(), event)?;
+        let standing = Standing::of(alloc, header, rules.mode, replay, object)?;
         Ok(Step {
             event: Some(event),
             choice,
-            standing: Standing::of(alloc, header, rules.mode, replay, object)?,
+            standing,
         })
     }
 }

@@ -1,10 +1,10 @@
 //! The steps of a history.
 
-ghost use Rattle.std.specs.Prelude.{◌≡◌, ◌≤◌, ◌<◌, ◌^◌, IfOk, OnOk, IsErrOf, length, map, take};
+ghost use Rattle.std.specs.Prelude.{◌≡◌, ◌≤◌, ◌<◌, ◌^◌, IfOk, OnOk, IsErrOf, length, map, min};
 ghost use Rattle.monk_kinds.specs.Names.{rules_named};
 ghost use Rattle.monk_object.specs.Names.{most};
-ghost use Rattle.monk_history.specs.Meaning.Legal.{IsLegal};
 ghost use Rattle.monk_history.specs.Meaning.Monitor.{monitor};
+ghost use Rattle.monk_audit.specs.Verdict.{IsVerdict};
 ghost use Rattle.monk_tell.specs.Steps.{allowed_events, step_of, steps_between, steps_of};
 
 use crate::step::Step;
@@ -23,26 +23,26 @@ fn allowed_events(verdict: Verdict) -> usize
     }
 }
 
-/// The steps up to the last event, which is legal with those before it, over the object in its opening state.
+/// The steps of a history with that verdict, over the object in its opening state.
 fn steps_over<T: Listed>(
     alloc: Global,
     header: &Header,
     object: T,
+    verdict: Verdict,
     events: &[Event],
     before: usize,
     last: usize,
 ) -> Result<Vec<Step>, AllocError>
-    requires last { last ≤ length events.now }
-    requires legal { IsLegal
-        (monitor (rules_named header.now.kind) header.now.seats header.now.conds T.meaning (T.state object))
-        (take last events.now) }
+    requires { IsVerdict
+        (monitor (rules_named header.now.kind) header.now.seats header.now.conds T.meaning (T.state object)) events.now verdict }
     ensures { IfOk result
         (λ v. map step_of v.items ≡ steps_of
         (monitor (rules_named header.now.kind) header.now.seats header.now.conds T.meaning (T.state object)) events.now before
-        last) }
+        (min last (allowed_events verdict))) }
 {
+    let end = last.min(allowed_events(verdict));
     let mut steps = Vec::new(alloc);
-    if before > last {
+    if before > end {
         return Ok(steps);
     }
     let mut object = object;
@@ -51,7 +51,7 @@ fn steps_over<T: Listed>(
     let past = &events[..before];
     let mut replay = Replay::after_all(alloc, &mut object, rules, seats, conds, past)?;
     steps.push(Step::opening(alloc, header, rules, &replay, &object)?)?;
-    for event in &events[before..last] {
+    for event in &events[before..end] {
         let step = Step::by(alloc, header, rules, &mut replay, &mut object, *event)?;
         steps.push(step)?;
     }
@@ -85,24 +85,23 @@ pub fn tell_steps(
     ensures too_big { most header.now.object < header.now.size → IsErrOf result AuditFault.Object }
 {
     let verdict = audit(alloc, header, events)?;
-    let last = last.min(allowed_events(verdict));
     let size = header.size();
     match header.object() {
         ObjectName::Buffer => {
             let buffer = Buffer::make(alloc, size)?;
-            Ok(steps_over(alloc, header, buffer, events, before, last)?)
+            Ok(steps_over(alloc, header, buffer, verdict, events, before, last)?)
         }
         ObjectName::Book => {
             let book = Book::make(size)?;
-            Ok(steps_over(alloc, header, book, events, before, last)?)
+            Ok(steps_over(alloc, header, book, verdict, events, before, last)?)
         }
         ObjectName::Shop => {
             let shop = Shop::make(size)?;
-            Ok(steps_over(alloc, header, shop, events, before, last)?)
+            Ok(steps_over(alloc, header, shop, verdict, events, before, last)?)
         }
         ObjectName::Flags => {
             let flags = Flags::make(size)?;
-            Ok(steps_over(alloc, header, flags, events, before, last)?)
+            Ok(steps_over(alloc, header, flags, verdict, events, before, last)?)
         }
     }
 }
