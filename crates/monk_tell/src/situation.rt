@@ -2,17 +2,17 @@
 
 ghost use Rattle.std.specs.Prelude.{◌≡◌, ◌<◌, All, IfOk, Some};
 ghost use Rattle.monk_audit.specs.Replay.{replay_situation};
-ghost use Rattle.monk_tell.specs.Words.{data_text, ranks_text, situation_text};
+ghost use Rattle.monk_tell.specs.Words.{data_text, situation_text};
 ghost use Rattle.monk_tell.specs.Told.{shown_situation, situation_of};
 
-use crate::kind_word::{kind_word, mode_word};
 use crate::lists::Numbers;
 use crate::refused::{Refused, refused_acts};
+use crate::rules::{Ranks, mode_word};
 use crate::said::SaidTurn;
 use crate::standing::Standing;
 use monk_audit::Replay;
 use monk_history::{Event, Header};
-use monk_kinds::{KindName, Mode, Rules};
+use monk_kinds::{KindName, Rules};
 use monk_object::{InWords, Listed, ObjectName};
 use std::alloc::{AllocError, Global};
 use std::fmt;
@@ -57,27 +57,6 @@ impl Situation {
     }
 }
 
-/// The priorities of the entry and waiter queues, and of the signaller queue where the kind has one: `1 1 2`.
-#[derive(Drop)]
-pub struct Ranks(pub Rules);
-
-impl fmt::Display for Ranks {
-    ghost output = { λ r. Some (ranks_text r.0) };
-
-    fn fmt<W: fmt::Write>(&self, f: &mut fmt::Formatter<W>) -> fmt::Result {
-        let Rules {
-            entry,
-            waiter,
-            signaller,
-            mode,
-        } = self.0;
-        match mode {
-            Mode::ImmediateReturn | Mode::Automatic => write!(f, "{entry} {waiter}"),
-            _ => write!(f, "{entry} {waiter} {signaller}"),
-        }
-    }
-}
-
 /// The data as numbers, and in words: ` 1 7 (buffer of 1: 7)`.
 #[derive(Drop)]
 pub struct Data<'a>(pub ObjectName, pub &'a Numbers);
@@ -101,7 +80,7 @@ impl fmt::Display for Situation {
     ghost output = { λ s. Some (situation_text (situation_of s)) };
 
     fn fmt<W: fmt::Write>(&self, f: &mut fmt::Formatter<W>) -> fmt::Result {
-        let (kind, mode) = (kind_word(self.kind), mode_word(self.rules.mode));
+        let (kind, mode) = (self.kind.as_str(), mode_word(self.rules.mode));
         let ranks = Ranks(self.rules);
         let standing = &self.standing;
         let turn = SaidTurn(standing.turn);
