@@ -44,8 +44,8 @@ impl Situation {
     ) -> Result<Situation, AllocError>
         requires { All (λ w. w.1 < T.PREDICATES) (replay_situation replay.now (T.state object.now)).untils }
         ensures { IfOk result
-            (λ s. situation_of s ≡ shown_situation header.now.kind rules header.now.seats header.now.conds header.now.object
-            T.meaning events.now (replay_situation replay.now (T.state object.now))) }
+            (λ s. situation_of s ≡ shown_situation header.now.kind rules header.now.seats header.now.conds
+            header.now.object T.meaning events.now (replay_situation replay.now (T.state object.now))) }
     {
         Ok(Situation {
             kind: header.kind(),
