@@ -1,5 +1,6 @@
 -- What a reason says of an event, and a first fault of a history
-use Rattle.std.proofs.Common.{◌≡◌, ◌≢◌, ℕ, ◌<◌, Bool, true, false, cond, not, List, [], Some, None, refl, sym, ap, subst, arith, ◌∙◌}
+use Rattle.std.proofs.Common.{◌≡◌, ◌≢◌, ℕ, Bool, true, false, cond, not, List, [], Some, None}
+use Rattle.std.proofs.Common.{refl, sym, ap, subst, ◌∙◌}
 use Rattle.std.specs.Prelude.{◌==◌}
 use Rattle.std.proofs.lemmas.Bool.{ne_eqb}
 use Rattle.monk_kinds.specs.declared.mode.Rules.{Rules}
@@ -21,25 +22,25 @@ use Rattle.monk_audit.specs.declared.verdict.Verdict.{Verdict}
 use Rattle.monk_audit.specs.Verdict.{IsVerdict, verdict_of}
 use Rattle.monk_audit.proofs.PublicLaws.{is_verdict}
 use Rattle.monk_tell.specs.Cause.{early_cause, no_entry, out_of_turn, waits_at}
-use Rattle.monk_tell.specs.Told.{Blamed, Shown, ShownQueues, ShownSteps, Account, blame_of_event}
+use Rattle.monk_tell.specs.Told.{Blamed, Shown, ShownQueues, ShownStanding, ShownSteps, Account, blame_of_event}
 use Rattle.monk_tell.specs.declared.why.Why.{Why}
 use Rattle.monk_tell.specs.declared.why.Why.TheVariants.{Place}
 
-passed_first : (b : Bool) (n k : ℕ) → cond (not b) 1 n ≡ k → 1 < k → b ≡ true
-passed_first true n k h more = refl
-passed_first false n k h more = absurd (omega (arith, h, more))
+passed_first : (b : Bool) (n k : ℕ) → cond (not b) 1 n ≡ k → k ≢ 1 → b ≡ true
+passed_first true n k h other = refl
+passed_first false n k h other = absurd (other (sym h))
 
-in_range : (m : Monitor) (t : Situation) (e : Event) (k : ℕ) → reason_in m t e ≡ k → 1 < k
+in_range : (m : Monitor) (t : Situation) (e : Event) (k : ℕ) → reason_in m t e ≡ k → k ≢ 1
     → is_in_range m.seats m.conds m.object.codes m.object.predicates e ≡ true
 unfolding reason_in
-in_range m t e k h more = passed_first (is_in_range m.seats m.conds m.object.codes m.object.predicates e) _ k h more
+in_range m t e k h other = passed_first (is_in_range m.seats m.conds m.object.codes m.object.predicates e) _ k h other
 
 -- an event that is not out of range fits the object
-pub late_fits : (m : Monitor) (t : Situation) (e : Event) (k codes predicates : ℕ) → reason_in m t e ≡ k → 1 < k
+pub in_range_fits : (m : Monitor) (t : Situation) (e : Event) (k codes predicates : ℕ) → reason_in m t e ≡ k → k ≢ 1
     → m.object.codes ≡ codes → m.object.predicates ≡ predicates → fits_object codes predicates e ≡ true
-late_fits m t e k codes predicates h more c p =
+in_range_fits m t e k codes predicates h other c p =
     sym (ap (λ (n : ℕ). fits_object n predicates e) c) ∙ sym (ap (λ (n : ℕ). fits_object m.object.codes n e) p)
-    ∙ and_right _ (fits_object m.object.codes m.object.predicates e) (in_range m t e k h more)
+    ∙ and_right _ (fits_object m.object.codes m.object.predicates e) (in_range m t e k h other)
 
 -- the opening state has no part in a reason
 pub reason_opening : (k : Rules) (seats conds : ℕ) (o : Object) (d : List ℕ) (t : Situation) (e : Event)
@@ -47,24 +48,25 @@ pub reason_opening : (k : Rules) (seats conds : ℕ) (o : Object) (d : List ℕ)
 unfolding reason_in
 reason_opening k seats conds o d t e = refl
 
-abbrev pub shown_by : KindName → Rules → Turn → List ℕ → ObjectName → List ℕ → ShownSteps → ShownQueues → Shown
-shown_by kind rules turn inside object state refused queues = record {
+abbrev pub stands_by : Turn → List ℕ → List ℕ → ShownQueues → ShownStanding
+stands_by turn inside state queues = record { turn = turn; inside = inside; state = state; queues = queues }
+
+pub same_standing : (t u : Turn) (is js ds es : List ℕ) (p q : ShownQueues) → t ≡ u → is ≡ js → ds ≡ es → p ≡ q
+    → stands_by t is ds p ≡ stands_by u js es q
+same_standing t u is js ds es p q a b c d = λ i. stands_by (a i) (b i) (c i) (d i)
+
+abbrev pub shown_by : KindName → Rules → ObjectName → ShownStanding → ShownSteps → Shown
+shown_by kind rules object standing refused = record {
   kind = kind;
   rules = rules;
-  turn = turn;
-  inside = inside;
   object = object;
-  state = state;
+  standing = standing;
   refused = refused;
-  queues = queues;
 }
 
-pub same_shown : (k l : KindName) (rules : Rules) (t u : Turn) (is js ds es : List ℕ) (n o : ObjectName)
-    (r s : ShownSteps)
-    (p q : ShownQueues) → k ≡ l → t ≡ u → is ≡ js → n ≡ o → ds ≡ es → r ≡ s → p ≡ q
-    → shown_by k rules t is n ds r p ≡ shown_by l rules u js o es s q
-same_shown k l rules t u is js ds es n o r s p q a b c d e f g =
-    λ i. shown_by (a i) rules (b i) (c i) (d i) (e i) (f i) (g i)
+pub same_shown : (k l : KindName) (rules : Rules) (n o : ObjectName) (s t : ShownStanding) (r q : ShownSteps) → k ≡ l
+    → n ≡ o → s ≡ t → r ≡ q → shown_by k rules n s r ≡ shown_by l rules o t q
+same_shown k l rules n o s t r q a b c d = λ i. shown_by (a i) rules (b i) (c i) (d i)
 
 abbrev pub told_as : Verdict → Shown → Blamed → Account
 told_as v s b = record { verdict = v; situation = s; blame = Some b }
@@ -73,17 +75,14 @@ pub same_told : (v : Verdict) (s t : Shown) (b d : Blamed) → s ≡ t → b ≡
 same_told v s t b d e f = λ i. told_as v (e i) (f i)
 
 -- the monitor over an object that was made for the header is the one that the header names
-pub made_named : (h : Heading) (o : ObjectName) (size : ℕ) (d : List ℕ) → h.object ≡ o → size ≡ h.size
-    → d ≡ opening_named o size
+pub made_named : (h : Heading) (o : ObjectName) (size : ℕ) (d : List ℕ) → h.object ≡ o → size ≡ h.size → d ≡ opening_named o size
     → monitor (rules_named h.kind) h.seats h.conds (meaning_named o) d ≡ named_monitor h
 made_named h o size d is same made =
     ap (λ (x : List ℕ). monitor (rules_named h.kind) h.seats h.conds (meaning_named o) x)
     (made ∙ ap (opening_named o) same ∙ ap (λ (x : ObjectName). opening_named x h.size) (sym is))
-    ∙ ap (λ (x : ObjectName). monitor (rules_named h.kind) h.seats h.conds (meaning_named x)
-    (opening_named h.object h.size)) (sym is)
+    ∙ ap (λ (x : ObjectName). monitor (rules_named h.kind) h.seats h.conds (meaning_named x) (opening_named h.object h.size)) (sym is)
 
-pub over_is : (h : Heading) (o : ObjectName) (size : ℕ) (d : List ℕ) (es : List Event) (v : Verdict)
-    → h.object ≡ o → size ≡ h.size
+pub over_is : (h : Heading) (o : ObjectName) (size : ℕ) (d : List ℕ) (es : List Event) (v : Verdict) → h.object ≡ o → size ≡ h.size
     → d ≡ opening_named o size → v ≡ verdict_of (named_monitor h) es
     → IsVerdict (monitor (rules_named h.kind) h.seats h.conds (meaning_named o) d) es v
 over_is h o size d es v is same made found =
@@ -94,8 +93,7 @@ abbrev pub blamed_as : ℕ → Event → Why → Blamed
 blamed_as step e why = record { step = step; event = e; reply = None; choice = None; why = why }
 
 -- what is wrong with an event that fails one of the first four tests
-pub early_blamed : (kind : KindName) (k : Rules) (seats conds : ℕ) (o : Object) (t : Situation)
-    (step reason : ℕ) (e : Event)
+pub early_blamed : (kind : KindName) (k : Rules) (seats conds : ℕ) (o : Object) (t : Situation) (step reason : ℕ) (e : Event)
     (why : Why) → reason ≢ 6 → reason ≢ 5
     → why ≡ early_cause kind seats conds t reason e
     → blamed_as step e why ≡ blame_of_event kind k seats conds o t step reason e
@@ -106,8 +104,7 @@ early_blamed kind k seats conds o t step reason e why no_choice no_reply is =
 
 -- why it is not the turn of an event's seat, and why it may not enter, as causes by their reasons
 pub turn_caused : (kind : KindName) (seats conds : ℕ) (t : Situation) (reason : ℕ) (e : Event) (why : Why) → reason ≡ 3
-    → why ≡ out_of_turn (waits_at t.condition conds (seat_of e)) t.turn (seat_of e)
-    → why ≡ early_cause kind seats conds t reason e
+    → why ≡ out_of_turn (waits_at t.condition conds (seat_of e)) t.turn (seat_of e) → why ≡ early_cause kind seats conds t reason e
 turn_caused kind seats conds t reason e why three is =
     is ∙ ap (λ (r : ℕ). early_cause kind seats conds t r e) (sym three)
 

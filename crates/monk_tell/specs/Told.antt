@@ -13,7 +13,7 @@ use Rattle.monk_history.specs.Meaning.Acts.{refused_steps}
 use Rattle.monk_history.specs.Meaning.Choice.{Queues as Lined, queues_at}
 use Rattle.monk_history.specs.Meaning.Monitor.{Monitor}
 use Rattle.monk_history.specs.Meaning.Named.{named_monitor}
-use Rattle.monk_history.specs.Meaning.Situation.{Situation as Standing, situation}
+use Rattle.monk_history.specs.Meaning.Situation.{Situation, situation}
 use Rattle.monk_history.specs.Meaning.Untils.{ready_of}
 use Rattle.monk_history.specs.declared.event.Event.{Event}
 use Rattle.monk_history.specs.declared.event.Event.TheVariants.{Enter}
@@ -33,7 +33,8 @@ use Rattle.monk_tell.specs.declared.queues.Conditions.{Conditions}
 use Rattle.monk_tell.specs.declared.queues.Queues.{Queues}
 use Rattle.monk_tell.specs.declared.queues.Queues.TheVariants.{Automatic, Returning, Explicit}
 use Rattle.monk_tell.specs.declared.refused.Refused.{Refused}
-use Rattle.monk_tell.specs.declared.situation.Situation.{Situation}
+use Rattle.monk_tell.specs.declared.situation.Situation.{Situation as ToldSituation}
+use Rattle.monk_tell.specs.declared.standing.Standing.{Standing}
 use Rattle.monk_tell.specs.declared.telling.Telling.{Telling}
 use Rattle.monk_tell.specs.declared.why.Why.{Why}
 
@@ -55,11 +56,9 @@ pub record ShownQueues : Type 0 where
   pub automatic : Option ShownUntils
   pub conditional : Option ShownConditions
 
--- the queues of an automatic kind
 abbrev pub only_untils : List (ℕ × ℕ) → List ℕ → ShownQueues
 only_untils untils ready = record { automatic = Some (record { untils = untils; ready = ready }); conditional = None }
 
--- the queues of a kind that has conditions
 abbrev pub only_conditions : List (List ℕ) → List ℕ → Option (List ℕ) → ShownQueues
 only_conditions conditions waiters signallers = record {
   automatic = None;
@@ -71,23 +70,24 @@ pub record ShownSteps : Type 0 where
   pub first : List ℕ
   pub more : ℕ
 
--- how a monitor stands, with its kind and its object
+-- whose turn it is, who is inside, the object's state, and who waits
+pub record ShownStanding : Type 0 where
+  pub turn : Turn
+  pub inside : List ℕ
+  pub state : List ℕ
+  pub queues : ShownQueues
+
 pub record Shown : Type 0 where
   pub kind : KindName
   pub rules : Rules
-  pub turn : Turn
-  pub inside : List ℕ
   pub object : ObjectName
-  pub state : List ℕ
+  pub standing : ShownStanding
   pub refused : ShownSteps
-  pub queues : ShownQueues
 
--- what a release chose from, and what it might have chosen
 pub record Chosen : Type 0 where
   pub fronts : List (From3 × ℕ)
   pub may : List Next
 
--- what is wrong with a forbidden event
 pub record Blamed : Type 0 where
   pub step : ℕ
   pub event : Event
@@ -95,7 +95,6 @@ pub record Blamed : Type 0 where
   pub choice : Option Chosen
   pub why : Why
 
--- what is told of a history
 pub record Account : Type 0 where
   pub verdict : Verdict
   pub situation : Shown
@@ -103,44 +102,41 @@ pub record Account : Type 0 where
 
 -- ---- what the types hold
 
--- the queues of the conditions
 abbrev pub condition_lists : Conditions → List (List ℕ)
 condition_lists c = map (λ s. s.0.items) c.0.items
 
--- the queues as data
 abbrev pub queues_of : Queues → ShownQueues
 queues_of (Automatic untils ready) = only_untils untils.0.items ready.0.items
 queues_of (Returning conditions waiters) = only_conditions (condition_lists conditions) waiters.0.items None
 queues_of (Explicit conditions waiters signallers) =
     only_conditions (condition_lists conditions) waiters.0.items (Some signallers.0.items)
 
--- the refused acts as data
 abbrev pub refused_of : Refused → ShownSteps
 refused_of r = record { first = r.first.0.items; more = r.more }
 
--- the situation as data
-abbrev pub situation_of : Situation → Shown
-situation_of s = record {
-  kind = s.kind;
-  rules = s.rules;
+abbrev pub standing_of : Standing → ShownStanding
+standing_of s = record {
   turn = s.turn;
   inside = s.inside.0.items;
-  object = s.object;
   state = s.data.0.items;
-  refused = refused_of s.refused;
   queues = queues_of s.queues;
 }
 
--- the choice as data
+abbrev pub situation_of : ToldSituation → Shown
+situation_of s = record {
+  kind = s.kind;
+  rules = s.rules;
+  object = s.object;
+  standing = standing_of s.standing;
+  refused = refused_of s.refused;
+}
+
 abbrev pub choice_of : Choice → Chosen
 choice_of c = record { fronts = c.fronts.0.items; may = c.may.0.items }
 
--- what is wrong, as data
 abbrev pub blame_of : Blame → Blamed
-blame_of b =
-    record { step = b.step; event = b.event; reply = b.reply; choice = option_map choice_of b.choice; why = b.why }
+blame_of b = record { step = b.step; event = b.event; reply = b.reply; choice = option_map choice_of b.choice; why = b.why }
 
--- what is told, as data
 abbrev pub telling_of : Telling → Account
 telling_of t = record { verdict = t.verdict; situation = situation_of t.situation; blame = option_map blame_of t.blame }
 
@@ -160,12 +156,11 @@ unfoldable pub conditions_below : (ℕ → List ℕ) → ℕ → List (List ℕ)
 conditions_below queue zero = []
 conditions_below queue (suc c) = conditions_below queue c ++ queue c ∷ []
 
--- the queues of a kind that has conditions, in that situation
-abbrev pub with_conditions : ℕ → Standing → Option (List ℕ) → ShownQueues
+abbrev pub with_conditions : ℕ → Situation → Option (List ℕ) → ShownQueues
 with_conditions conds t signallers = only_conditions (conditions_below t.condition conds) t.waiters signallers
 
 -- the queues that a kind of that mode has
-abbrev pub queues_shown : Mode → ℕ → Object → Standing → ShownQueues
+abbrev pub queues_shown : Mode → ℕ → Object → Situation → ShownQueues
 queues_shown Blocking conds o t = with_conditions conds t (Some t.signallers)
 queues_shown NonBlocking conds o t = with_conditions conds t (Some t.signallers)
 queues_shown QuasiBlocking conds o t = with_conditions conds t (Some t.signallers)
@@ -176,29 +171,33 @@ queues_shown AutomaticMode conds o t = only_untils t.untils (ready_of o t.state 
 abbrev pub most_told : ℕ
 most_told = 10
 
--- the steps that are told, and how many more there are
 abbrev pub told_steps : List ℕ → ShownSteps
 told_steps steps = record { first = take most_told steps; more = length steps - most_told }
 
--- how a monitor stands whose object has that name, after these events
-abbrev pub shown_standing : KindName → Rules → ℕ → ℕ → ObjectName → Object → List Event → Standing → Shown
-shown_standing kind rules seats conds name o es t = record {
-  kind = kind;
-  rules = rules;
+-- how a monitor of that mode stands, with so many seats and conditions
+abbrev pub shown_standing : Mode → ℕ → ℕ → Object → Situation → ShownStanding
+shown_standing mode seats conds o t = record {
   turn = t.turn;
   inside = inside_below t.inside seats;
-  object = name;
   state = t.state;
-  refused = told_steps (refused_steps es);
-  queues = queues_shown rules.mode conds o t;
+  queues = queues_shown mode conds o t;
 }
 
--- what the event chose from in that situation, and what it might have chosen
-abbrev pub chosen_at : Rules → Object → Standing → Event → Chosen
+-- the same with its kind, whose object has that name, and the acts of these events that the object refused
+abbrev pub shown_situation : KindName → Rules → ℕ → ℕ → ObjectName → Object → List Event → Situation → Shown
+shown_situation kind rules seats conds name o es t = record {
+  kind = kind;
+  rules = rules;
+  object = name;
+  standing = shown_standing rules.mode seats conds o t;
+  refused = told_steps (refused_steps es);
+}
+
+abbrev pub chosen_at : Rules → Object → Situation → Event → Chosen
 chosen_at k o t e = record { fronts = fronts (queues_at o t e); may = permitted_nexts k o t e }
 
 -- what is wrong with the event of that step, in this situation and for that reason
-abbrev pub blame_of_event : KindName → Rules → ℕ → ℕ → Object → Standing → ℕ → ℕ → Event → Blamed
+abbrev pub blame_of_event : KindName → Rules → ℕ → ℕ → Object → Situation → ℕ → ℕ → Event → Blamed
 blame_of_event kind k seats conds o t step reason e = record {
   step = step;
   event = e;
@@ -209,13 +208,12 @@ blame_of_event kind k seats conds o t step reason e = record {
 
 -- how the monitor stands after these events
 abbrev pub shown_after : KindName → ObjectName → Monitor → List Event → Shown
-shown_after kind name m es = shown_standing kind m.kind m.seats m.conds name m.object es (situation m es)
+shown_after kind name m es = shown_situation kind m.kind m.seats m.conds name m.object es (situation m es)
 
 -- the event of that step, counted from 1, and those before it
 abbrev pub event_at : List Event → ℕ → Event
 event_at es step = get_or es (step - 1) (Enter 0 Free)
 
--- the events before that step
 abbrev pub events_before : List Event → ℕ → List Event
 events_before es step = take (step - 1) es
 
@@ -229,6 +227,5 @@ account_by kind name m es (Forbidden step reason) = record {
       (event_at es step));
 }
 
--- what is told of a history
 abbrev pub account : Heading → List Event → Account
 account h es = account_by h.kind h.object (named_monitor h) es (verdict_of (named_monitor h) es)
