@@ -75,14 +75,17 @@ pub same_told : (v : Verdict) (s t : Shown) (b d : Blamed) → s ≡ t → b ≡
 same_told v s t b d e f = λ i. told_as v (e i) (f i)
 
 -- the monitor over an object that was made for the header is the one that the header names
-pub made_named : (h : Heading) (o : ObjectName) (size : ℕ) (d : List ℕ) → h.object ≡ o → size ≡ h.size → d ≡ opening_named o size
+pub made_named : (h : Heading) (o : ObjectName) (size : ℕ) (d : List ℕ) → h.object ≡ o → size ≡ h.size
+    → d ≡ opening_named o size
     → monitor (rules_named h.kind) h.seats h.conds (meaning_named o) d ≡ named_monitor h
 made_named h o size d is same made =
     ap (λ (x : List ℕ). monitor (rules_named h.kind) h.seats h.conds (meaning_named o) x)
     (made ∙ ap (opening_named o) same ∙ ap (λ (x : ObjectName). opening_named x h.size) (sym is))
-    ∙ ap (λ (x : ObjectName). monitor (rules_named h.kind) h.seats h.conds (meaning_named x) (opening_named h.object h.size)) (sym is)
+    ∙ ap (λ (x : ObjectName). monitor (rules_named h.kind) h.seats h.conds (meaning_named x)
+    (opening_named h.object h.size)) (sym is)
 
-pub over_is : (h : Heading) (o : ObjectName) (size : ℕ) (d : List ℕ) (es : List Event) (v : Verdict) → h.object ≡ o → size ≡ h.size
+pub over_is : (h : Heading) (o : ObjectName) (size : ℕ) (d : List ℕ) (es : List Event) (v : Verdict)
+    → h.object ≡ o → size ≡ h.size
     → d ≡ opening_named o size → v ≡ verdict_of (named_monitor h) es
     → IsVerdict (monitor (rules_named h.kind) h.seats h.conds (meaning_named o) d) es v
 over_is h o size d es v is same made found =
@@ -93,7 +96,8 @@ abbrev pub blamed_as : ℕ → Event → Why → Blamed
 blamed_as step e why = record { step = step; event = e; reply = None; choice = None; why = why }
 
 -- what is wrong with an event that fails one of the first four tests
-pub early_blamed : (kind : KindName) (k : Rules) (seats conds : ℕ) (o : Object) (t : Situation) (step reason : ℕ) (e : Event)
+pub early_blamed : (kind : KindName) (k : Rules) (seats conds : ℕ) (o : Object) (t : Situation)
+    (step reason : ℕ) (e : Event)
     (why : Why) → reason ≢ 6 → reason ≢ 5
     → why ≡ early_cause kind seats conds t reason e
     → blamed_as step e why ≡ blame_of_event kind k seats conds o t step reason e
@@ -104,7 +108,8 @@ early_blamed kind k seats conds o t step reason e why no_choice no_reply is =
 
 -- why it is not the turn of an event's seat, and why it may not enter, as causes by their reasons
 pub turn_caused : (kind : KindName) (seats conds : ℕ) (t : Situation) (reason : ℕ) (e : Event) (why : Why) → reason ≡ 3
-    → why ≡ out_of_turn (waits_at t.condition conds (seat_of e)) t.turn (seat_of e) → why ≡ early_cause kind seats conds t reason e
+    → why ≡ out_of_turn (waits_at t.condition conds (seat_of e)) t.turn (seat_of e)
+    → why ≡ early_cause kind seats conds t reason e
 turn_caused kind seats conds t reason e why three is =
     is ∙ ap (λ (r : ℕ). early_cause kind seats conds t r e) (sym three)
 

@@ -56,9 +56,11 @@ pub record ShownQueues : Type 0 where
   pub automatic : Option ShownUntils
   pub conditional : Option ShownConditions
 
+-- the queues of an automatic kind
 abbrev pub only_untils : List (ℕ × ℕ) → List ℕ → ShownQueues
 only_untils untils ready = record { automatic = Some (record { untils = untils; ready = ready }); conditional = None }
 
+-- the queues of a kind that has conditions
 abbrev pub only_conditions : List (List ℕ) → List ℕ → Option (List ℕ) → ShownQueues
 only_conditions conditions waiters signallers = record {
   automatic = None;
@@ -77,6 +79,7 @@ pub record ShownStanding : Type 0 where
   pub state : List ℕ
   pub queues : ShownQueues
 
+-- how a monitor stands, with its kind and its object
 pub record Shown : Type 0 where
   pub kind : KindName
   pub rules : Rules
@@ -84,10 +87,12 @@ pub record Shown : Type 0 where
   pub standing : ShownStanding
   pub refused : ShownSteps
 
+-- what a release chose from, and what it might have chosen
 pub record Chosen : Type 0 where
   pub fronts : List (From3 × ℕ)
   pub may : List Next
 
+-- what is wrong with a forbidden event
 pub record Blamed : Type 0 where
   pub step : ℕ
   pub event : Event
@@ -95,6 +100,7 @@ pub record Blamed : Type 0 where
   pub choice : Option Chosen
   pub why : Why
 
+-- what is told of a history
 pub record Account : Type 0 where
   pub verdict : Verdict
   pub situation : Shown
@@ -102,18 +108,22 @@ pub record Account : Type 0 where
 
 -- ---- what the types hold
 
+-- the queues of the conditions
 abbrev pub condition_lists : Conditions → List (List ℕ)
 condition_lists c = map (λ s. s.0.items) c.0.items
 
+-- the queues as data
 abbrev pub queues_of : Queues → ShownQueues
 queues_of (Automatic untils ready) = only_untils untils.0.items ready.0.items
 queues_of (Returning conditions waiters) = only_conditions (condition_lists conditions) waiters.0.items None
 queues_of (Explicit conditions waiters signallers) =
     only_conditions (condition_lists conditions) waiters.0.items (Some signallers.0.items)
 
+-- the refused acts as data
 abbrev pub refused_of : Refused → ShownSteps
 refused_of r = record { first = r.first.0.items; more = r.more }
 
+-- how the monitor stands, as data
 abbrev pub standing_of : Standing → ShownStanding
 standing_of s = record {
   turn = s.turn;
@@ -122,6 +132,7 @@ standing_of s = record {
   queues = queues_of s.queues;
 }
 
+-- the situation as data
 abbrev pub situation_of : ToldSituation → Shown
 situation_of s = record {
   kind = s.kind;
@@ -131,12 +142,16 @@ situation_of s = record {
   refused = refused_of s.refused;
 }
 
+-- the choice as data
 abbrev pub choice_of : Choice → Chosen
 choice_of c = record { fronts = c.fronts.0.items; may = c.may.0.items }
 
+-- what is wrong, as data
 abbrev pub blame_of : Blame → Blamed
-blame_of b = record { step = b.step; event = b.event; reply = b.reply; choice = option_map choice_of b.choice; why = b.why }
+blame_of b =
+    record { step = b.step; event = b.event; reply = b.reply; choice = option_map choice_of b.choice; why = b.why }
 
+-- what is told, as data
 abbrev pub telling_of : Telling → Account
 telling_of t = record { verdict = t.verdict; situation = situation_of t.situation; blame = option_map blame_of t.blame }
 
@@ -156,6 +171,7 @@ unfoldable pub conditions_below : (ℕ → List ℕ) → ℕ → List (List ℕ)
 conditions_below queue zero = []
 conditions_below queue (suc c) = conditions_below queue c ++ queue c ∷ []
 
+-- the queues of a kind that has conditions, in that situation
 abbrev pub with_conditions : ℕ → Situation → Option (List ℕ) → ShownQueues
 with_conditions conds t signallers = only_conditions (conditions_below t.condition conds) t.waiters signallers
 
@@ -171,6 +187,7 @@ queues_shown AutomaticMode conds o t = only_untils t.untils (ready_of o t.state 
 abbrev pub most_told : ℕ
 most_told = 10
 
+-- the steps that are told, and how many more there are
 abbrev pub told_steps : List ℕ → ShownSteps
 told_steps steps = record { first = take most_told steps; more = length steps - most_told }
 
@@ -193,6 +210,7 @@ shown_situation kind rules seats conds name o es t = record {
   refused = told_steps (refused_steps es);
 }
 
+-- what the event chose from in that situation, and what it might have chosen
 abbrev pub chosen_at : Rules → Object → Situation → Event → Chosen
 chosen_at k o t e = record { fronts = fronts (queues_at o t e); may = permitted_nexts k o t e }
 
@@ -214,6 +232,7 @@ shown_after kind name m es = shown_situation kind m.kind m.seats m.conds name m.
 abbrev pub event_at : List Event → ℕ → Event
 event_at es step = get_or es (step - 1) (Enter 0 Free)
 
+-- the events before that step
 abbrev pub events_before : List Event → ℕ → List Event
 events_before es step = take (step - 1) es
 
@@ -227,5 +246,6 @@ account_by kind name m es (Forbidden step reason) = record {
       (event_at es step));
 }
 
+-- what is told of a history
 abbrev pub account : Heading → List Event → Account
 account h es = account_by h.kind h.object (named_monitor h) es (verdict_of (named_monitor h) es)
