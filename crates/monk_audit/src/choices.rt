@@ -8,7 +8,7 @@ ghost use Rattle.monk_audit.specs.Settled.{permits};
 use monk_history::{Event, Next};
 use monk_kinds::{Mode, Rules};
 
-/// Whether an event may choose what it chose. Of the ready seats it is told the first.
+/// Whether an event may choose what it chose. The caller passes in the first ready seat.
 #[inline(always)]
 pub fn permits(
     rules: Rules,

@@ -14,9 +14,10 @@ use std::alloc::Global;
 ///
 /// # Errors
 ///
-/// The text's first fault, also one that stands behind a forbidden event. The memory fault where a growth was refused,
-/// which may come before a fault of a later line; never where the text has no header, or one with a size above the
-/// object's greatest, since then none is asked for.
+/// The text's first fault, also one that stands behind a forbidden event. The memory fault if a
+/// request for memory was refused, which may come before a fault of a later line; never where the
+/// text has no header, or one with a size above the object's greatest, since then none is asked
+/// for.
 ///
 /// # Cost
 ///

@@ -16,7 +16,7 @@ use monk_history::{Header, ReadFault};
 use monk_object::{Book, Buffer, Flags, Guarded, ObjectName, Shop};
 use std::alloc::Global;
 
-/// A growth was refused.
+/// A request for memory was refused.
 const MEMORY: ReadFault = ReadFault {
     number: ReadFault::MEMORY,
     line: 0,

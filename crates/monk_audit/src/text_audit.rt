@@ -12,8 +12,8 @@ use monk_history::ReadFault;
 use std::alloc::{AllocError, Global};
 use std::mem;
 
-/// The audit of a text that comes in pieces. A line is judged when it ends, and of the text no more
-/// is kept than the line that has not ended; behind the first fault nothing is.
+/// The audit of a text that comes in pieces. A line is judged when it ends, and only the unfinished
+/// line is kept; after the first fault nothing is kept.
 ///
 /// Contracts see what it owes to bytes that are still to come: what
 /// [`audit_text`](crate::audit_text) answers to the text that they complete.
@@ -41,7 +41,7 @@ impl TextAudit {
     ///
     /// # Errors
     ///
-    /// Where a growth was refused.
+    /// Where a request for memory was refused.
     ///
     /// # Cost
     ///
@@ -105,11 +105,11 @@ impl TextAudit {
         }
     }
 
-    /// What the audit found of the text that has come, where no more of it comes.
+    /// Ends the audit: what it found in the text received so far.
     ///
     /// # Errors
     ///
-    /// The text's first fault, or the memory fault where a growth was refused.
+    /// The text's first fault, or the memory fault if a request for memory was refused.
     pub fn end(self, alloc: Global) -> Result<TextVerdict, ReadFault>
         requires { IsGoingOn self }
         ensures { Gives same result (owes self []) }

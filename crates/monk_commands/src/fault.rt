@@ -4,10 +4,10 @@ ghost use Rattle.monk_commands.specs.declared.fault.StreamFault.TheVariants.{Mem
 use std::alloc::AllocError;
 use thiserror::Error;
 
-/// Why a stream gave no answer. Of what its writer had got by then nothing is said.
+/// Why a stream gave no answer. Nothing is promised about what had been written by then.
 #[derive(Clone, Copy, Debug, PartialEq, Eq, Error)]
 pub enum StreamFault {
-    /// A growth was refused: number 1.
+    /// A request for memory was refused: number 1.
     #[error("memory")]
     Memory,
     /// The reader or the writer failed, or the input was longer than a stream reads; of a run, also

@@ -176,8 +176,8 @@ fn fit_text<W: Write>(
 ///
 /// Of a log, whose first word is `log`, it writes `KIND fits ORDER`, with the strictest order in
 /// which the log could be of that kind ([`fit`](monk_logs::fit)), or `KIND misfit STEP NUMBER
-/// WORD`, the line that is the first that can't be of that kind in any order, and what is to blame.
-/// Behind these stand two lines of counts, of the log as one of NPNB in any order
+/// WORD`, the first line that can't be of that kind in any order, and the reason. Behind these
+/// stand two lines of counts, of the log as one of NPNB in any order
 /// ([`Counts`](monk_logs::Counts)): `served N passed N lapsed N` and `left waiting N woken N inside
 /// N`; and, where `means` tells what is waited for, `missed STEP` or `missed none`. The status is 0
 /// where it fits one kind at least, else 1. `lapses` and `means` are for logs alone.
@@ -187,8 +187,9 @@ fn fit_text<W: Write>(
 ///
 /// # Errors
 ///
-/// [`StreamFault::File`] where the reader or the writer failed, or where the input has more than 2^31 bytes or takes
-/// more than 2^31 reads. [`StreamFault::Memory`] where a growth was refused.
+/// [`StreamFault::File`] where the reader or the writer failed, or where the input has more than
+/// 2^31 bytes or takes more than 2^31 reads. [`StreamFault::Memory`] if a request for memory was
+/// refused.
 ///
 /// # Cost
 ///

@@ -189,8 +189,9 @@ pub(crate) fn play_text<W: Write>(
 ///
 /// # Errors
 ///
-/// [`StreamFault::File`] where the reader or the writer failed, or where the input has more than 2^31 bytes or takes
-/// more than 2^31 reads. [`StreamFault::Memory`] where a growth was refused.
+/// [`StreamFault::File`] where the reader or the writer failed, or where the input has more than
+/// 2^31 bytes or takes more than 2^31 reads. [`StreamFault::Memory`] if a request for memory was
+/// refused.
 ///
 /// # Cost
 ///

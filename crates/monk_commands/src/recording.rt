@@ -69,7 +69,8 @@ fn recorded<R: Threads + Wait + Sync, W: Write>(
 /// # Errors
 ///
 /// [`StreamFault::File`] where a thread was not started, or the writer failed.
-/// [`StreamFault::Memory`] where a growth was refused. The writer has changed only where it failed.
+/// [`StreamFault::Memory`] if a request for memory was refused. The writer has changed only where
+/// it failed.
 ///
 /// # Cost
 ///

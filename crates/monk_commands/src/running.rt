@@ -151,7 +151,8 @@ pub(crate) fn ended(alloc: Global, fault: RunFault) -> Result<Answer, StreamFaul
 /// # Errors
 ///
 /// [`StreamFault::File`] where a thread was not started, or the writer failed.
-/// [`StreamFault::Memory`] where a growth was refused. The writer has changed only where it failed.
+/// [`StreamFault::Memory`] if a request for memory was refused. The writer has changed only where
+/// it failed.
 ///
 /// # Cost
 ///

@@ -42,13 +42,14 @@ pub enum Task<'a> {
 }
 
 impl Task<'_> {
-    /// Makes it of all of the reader, by the stream that the variant names; the result is the exit status, 0 to 2.
+    /// Reads all input and runs the stream that the variant names; the result is the exit status, 0
+    /// to 2.
     ///
     /// # Errors
     ///
     /// [`StreamFault::File`] where the reader or the writer failed, or where the input has more
-    /// than 2^31 bytes or takes more than 2^31 reads. [`StreamFault::Memory`] where a growth was
-    /// refused.
+    /// than 2^31 bytes or takes more than 2^31 reads. [`StreamFault::Memory`] if a request for
+    /// memory was refused.
     ///
     /// # Cost
     ///

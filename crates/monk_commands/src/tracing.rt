@@ -260,8 +260,9 @@ pub(crate) fn put_trace<K: Kind, T: Listed, W: Write>(
 ///
 /// # Errors
 ///
-/// [`StreamFault::File`] where the reader or the writer failed, or where the input has more than 2^31 bytes or takes
-/// more than 2^31 reads. [`StreamFault::Memory`] where a growth was refused.
+/// [`StreamFault::File`] where the reader or the writer failed, or where the input has more than
+/// 2^31 bytes or takes more than 2^31 reads. [`StreamFault::Memory`] if a request for memory was
+/// refused.
 ///
 /// # Cost
 ///

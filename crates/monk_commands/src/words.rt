@@ -390,7 +390,8 @@ fn asked(alloc: Global, matches: &ArgMatches<'_>) -> Result<Option<Line>, LineFa
 /// # Errors
 ///
 /// [`LineFault::Words`] with clap's own text where the words are no command of the program, and
-/// where they ask for help or for the version. [`LineFault::Memory`] where a growth was refused.
+/// where they ask for help or for the version. [`LineFault::Memory`] if a request for memory was
+/// refused.
 pub fn line(alloc: Global, words: &[&str]) -> Result<Line, LineFault>
     ensures { IfOk result (λ l. (a : App)
         × (IsMonk a × IsAsked l (subcommand_of a (map (λ w. w.now) words.entry.now)))) }

@@ -167,7 +167,7 @@ fn put_front(
 ///
 /// # Errors
 ///
-/// `AllocError` where a growth was refused.
+/// `AllocError` if a request for memory was refused.
 ///
 /// # Cost
 ///

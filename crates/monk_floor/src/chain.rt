@@ -1,6 +1,6 @@
 ghost use Rattle.std.specs.Prelude.{◌≡◌};
 
-/// Where a queue begins and ends, and how many seats it has. Of an empty queue neither end means
+/// The first and the last seat of a queue, and its length. If the queue is empty, neither end means
 /// anything.
 #[derive(Clone, Copy)]
 pub struct Chain {

@@ -33,8 +33,8 @@ mod plain;
 
 /// The floor of a monitor of kind `K` over an object `T`: the object, the queues and the history.
 ///
-/// To contracts a floor is its object's opening state, its numbers and its history. The data, the queues, whose turn
-/// it is and who is inside are what the definitions of a history say of these.
+/// In contracts, a floor is its object's opening state, its numbers and its history. The data, the
+/// queues, the turn and who is inside are computed from these by the definitions.
 ///
 /// Making a floor reserves `seats * budget` events and the counts of the seats; the queues are links in arrays of fixed
 /// size. No later call takes memory, and the time of each is independent of how long the history is: it is constant, or
@@ -77,8 +77,8 @@ impl<K: Kind, T: Guarded> Floor<K, T> {
     /// A floor over an object, with no event yet: 1 to 32 seats, at most 8 condition variables, and 2 to 2^20 events
     /// for each seat.
     ///
-    /// The first fault that applies is answered, want of memory last; the object is dropped with it. Takes memory for
-    /// `seats * budget` events at once.
+    /// Returns the first fault that applies, lack of memory last, and then drops the object. Takes
+    /// memory for `seats * budget` events at once.
     pub fn make(
         alloc: Global,
         object: T,
@@ -238,7 +238,7 @@ impl<K: Kind, T: Guarded> Floor<K, T> {
         self.ledger.queues.waiting(cond) as u32
     }
 
-    /// How many events chose a seat from a queue. A stay is none. Constant time.
+    /// How many events chose the seat from a queue. A `stay` doesn't count. Constant time.
     pub fn granted(&self, seat: u8) -> u32
         requires { seat < self.now.seats }
         ensures { result ≡ granted_of self.now.history seat }
@@ -253,8 +253,8 @@ impl<K: Kind, T: Guarded> Floor<K, T> {
         self.ledger.entered
     }
 
-    /// Whether a queue has the seat. No queue is searched: a seat is in one exactly where it is inside and has not
-    /// the turn. Constant time.
+    /// Whether the seat is in a queue. No queue is searched: a seat is in one exactly if it is
+    /// inside and it is not its turn. Constant time.
     pub fn queued(&self, seat: u8) -> bool
         requires { seat < self.now.seats }
         ensures { result ≡ is_queued self.now.conds seat (stands_of K.rules T.meaning self.now) }

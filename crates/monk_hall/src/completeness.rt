@@ -8,10 +8,10 @@ use monk_history::Event;
 use monk_kinds::Kind;
 use monk_object::Guarded;
 
-/// Whether a history holds just what these passes' seats did, and beside it events of one seat
-/// alone: each pass's events in it are all that its seat knows as its own, and every other event is
-/// of that seat. Of a closed history and the seat that closed it, true says that it holds the calls
-/// of that seat and of these passes, each once, and nothing else.
+/// Whether a history holds exactly what these passes' seats did, plus events of one other seat: for
+/// each pass, the seat's events in it are all that the pass knows as its own, and every other event
+/// is of that one seat. Of a closed history and the seat that closed it, true says that it holds
+/// the calls of that seat and of these passes, each once, and nothing else.
 ///
 /// The passes are of other seats, each of another, and the history begins with what each has seen. A caller knows this
 /// of passes that have met the pass of the closing seat, and have been idle since.

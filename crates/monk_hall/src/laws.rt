@@ -1,5 +1,5 @@
-//! What holds of a hall's table whenever the rule holds that every step keeps, and so at every moment. Each function
-//! does nothing: its contract is the law.
+//! What holds of a hall's table whenever its rule holds. Every step preserves the rule, so this is
+//! at every moment. Each function does nothing: its contract is the law.
 ghost use Rattle.monk_hall.specs.Laws.{RightInOnePlace, ShowsWellLed, OneHasTheRight, OneIsActive, KnownWaits};
 ghost use Rattle.monk_hall.specs.Laws.{EntryWaits, ArriveSteps, TicketLookSteps, SeatLookSteps, PeekSteps};
 ghost use Rattle.monk_hall.specs.Laws.{FloorOutSteps, FloorInSteps, DropSteps, TicketGrantSteps, SeatGrantSteps};
@@ -14,18 +14,21 @@ pub fn hall_is_well_led()
     ensures led { ShowsWellLed }
 {}
 
-/// At most one seat is active, and at most one has the right: two records that say so are one.
+/// At most one seat is active, and at most one has the right: if two records say so, they are the
+/// same record.
 pub fn one_is_active()
     ensures active { OneIsActive }
     ensures right { OneHasTheRight }
 {}
 
-/// An active seat that knows of somebody at the entry is right: besides the ticket in use another is not passed on.
+/// If an active seat knows of somebody at the entry, that is true: besides the ticket in use,
+/// another is not yet passed on.
 pub fn known_entry_waits()
     ensures { KnownWaits }
 {}
 
-/// A seat goes out by entry beside somebody who could be chosen from a queue only while a ticket waits.
+/// A seat that chooses entry although somebody could be chosen from a queue does so only while a
+/// ticket waits.
 pub fn chosen_entry_waits()
     ensures { EntryWaits }
 {}

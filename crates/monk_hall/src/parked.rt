@@ -169,7 +169,8 @@ impl<K: Kind, T: Guarded> Parked<K, T> {
         }
     }
 
-    /// Abandons the seat. Its place in a queue stays, and once its turn has come the monitor stays with it for good.
+    /// Abandons the seat. It keeps its place in its queue; once its turn comes, it holds the
+    /// monitor for ever.
     pub fn give_up(self) {
         let Parked {
             seat: _,

@@ -19,5 +19,6 @@ pub struct SeatRecord {
     pub steps: u64,
 }
 
-/// What a thread's seat of the table knows: the record of one seat, of all before they are dealt, or of two that meet.
+/// What a view of the table holds: the record of one seat, of all seats before the passes are
+/// handed out, or of two seats that meet.
 pub type View = LinkedList<SeatRecord>;

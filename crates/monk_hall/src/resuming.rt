@@ -10,9 +10,9 @@ use monk_object::Guarded;
 use std::sync::Wait;
 
 impl<K: Kind, T: Guarded> Parked<K, T> {
-    /// Becomes active, and waits as long as that takes: the only call that waits. It polls, and then spins briefly and
-    /// sleeps on the word where its grant will come. What it found there before the poll is what it sleeps on, so a
-    /// grant that came after the poll keeps it awake.
+    /// Waits until the seat is active; this is the only call that waits. It polls, then spins
+    /// briefly, then sleeps on the word where its grant will come. It sleeps only while the word
+    /// still has the value from before the poll, so a grant after the poll keeps it awake.
     ///
     /// Nothing says that a grant ever comes.
     pub fn resume<R: Wait>(self, rt: &R, hall: &Hall<K, T>) -> Active<K, T>

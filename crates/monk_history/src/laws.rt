@@ -26,7 +26,7 @@ ghost use Rattle.monk_history.specs.Meaning.Standing.{IsPlaced, in_queues};
 ghost use Rattle.monk_history.specs.Meaning.Turn.{is_inside};
 ghost use Rattle.monk_history.specs.Meaning.Untils.{untils, untils_while_false, StaysWhereItHolds};
 
-/// Nothing has happened is legal, and a legal history with one allowed event more is legal.
+/// The empty history is legal, and a legal history plus one allowed event is legal.
 pub fn history_grows()
     ensures none { (m : Monitor) → IsLegal m [] }
     ensures more { (m : Monitor) (h : List Event) (e : Event) → IsLegal m h → IsAllowed m h e
@@ -39,7 +39,8 @@ pub fn event_counts()
     ensures { (h : List Event) (e : Event) → CountsAfter h e }
 {}
 
-/// A legal history has each seat inside in exactly one place, a queue or the turn, and no other seat in any.
+/// In a legal history each seat inside is in exactly one place (a queue or the turn), and no other
+/// seat is in any.
 pub fn seats_stand_once()
     ensures placed { (m : Monitor) (h : List Event) → IsLegal m h → IsPlaced m.conds (situation m h) }
     ensures queued_once { (m : Monitor) (h : List Event) → IsLegal m h → (s : ℕ)
@@ -52,8 +53,8 @@ pub fn event_moves_seats()
         → StandsAfter m (situation m h) e (situation m (h ++ e ∷ [])) }
 {}
 
-/// A seat may enter exactly where it stands at the door: past nobody who could be chosen from a queue if it is let in
-/// by a free monitor, and not as the first if it is let in by another seat.
+/// Exactly when a seat may enter. If it finds the monitor free, nobody may be there who could be
+/// chosen from a queue; if another seat lets it in, it may not be the first to come in.
 pub fn seat_enters()
     ensures free { (m : Monitor) (h : List Event) (s : ℕ)
         → IsAllowed m h (Enter s Free) ↔ (IsAtDoor m h s × IsQuiet m h) }

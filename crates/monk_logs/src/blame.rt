@@ -6,8 +6,8 @@ ghost use Rattle.monk_logs.specs.Blame.{blame_number, blame_of, blame_word};
 use crate::board::pending::Pending;
 use monk_audit::Verdict;
 
-/// Why a line can't be of a monitor, behind the lines before it: the first of these that applies.
-/// They stand in the order in which a line is tested.
+/// Why a line can't follow the lines before it: the first of these that applies. They stand in the
+/// order in which a line is tested.
 #[derive(Clone, Copy, Debug, PartialEq, Eq)]
 pub enum Blame {
     /// A seat, a condition, a predicate or a code of the line is out of range.
@@ -24,8 +24,8 @@ pub enum Blame {
     Reply,
     /// A seat goes on that waits on a condition, where no signal has served it, or until a predicate that doesn't hold.
     Unserved,
-    /// A timed wait is told to have run out, of a seat that a signal has served. No history tells
-    /// of timed waits, so each `lapse` has this reason or one before it.
+    /// A `lapse` says that a timed wait ran out, but a signal must have served that seat. `judge`
+    /// knows no lapses, so there every `lapse` has this reason or an earlier one.
     Served,
     /// A seat goes on that stands in its queue, but not at the front.
     Order,

@@ -9,7 +9,7 @@ pub mod waits_for;
 pub struct Counts {
     /// How many seats signals served: those that came back, and those that didn't yet.
     pub served: u64,
-    /// How many entries there were while a seat that was served was still to come back.
+    /// How many entries there were while a served seat had not yet come back.
     pub passed: u64,
     /// How many waits ran out.
     pub lapsed: u64,
@@ -19,8 +19,8 @@ pub struct Counts {
     pub woken: u64,
     /// How many seats are inside at the end: those that came in and didn't leave.
     pub inside: u64,
-    /// The first line by which the monitor is let go while somebody waits for a predicate that
-    /// holds, and nobody was signalled who is still to come back. The lines behind the log's first
-    /// one are counted from 1.
+    /// The first line that releases the monitor while somebody waits for a predicate that holds and
+    /// no seat that was signalled there is still to come back. The lines behind the log's first one
+    /// are counted from 1.
     pub missed: Option<u32>,
 }

@@ -53,8 +53,8 @@ pub(crate) fn found_fit<L: LineSource>(
 ///
 /// # Errors
 ///
-/// [`AuditFault::Object`] exactly where the size is above the object's greatest. [`AuditFault::Memory`] where a growth
-/// was refused.
+/// [`AuditFault::Object`] exactly where the size is above the object's greatest.
+/// [`AuditFault::Memory`] if a request for memory was refused.
 ///
 /// # Cost
 ///

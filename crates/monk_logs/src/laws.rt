@@ -32,18 +32,18 @@ pub fn judged_is_open()
     ensures { (m : Monitor) (log : List LogLine) → IsKind m.kind → IsTrue (is_some (judge m log)) ↔ IsOpen m log }
 {}
 
-/// Where any seat of a queue may be chosen, and a signal may serve any seat of its condition, whom
-/// it served is known only later, if at all. Yet one pass tells whether a monitor may do these
-/// steps: a board, which keeps who came to wait and what signals gave, takes all of them exactly
-/// where some run has them. In order of arrival too, where waits run out as well.
+/// If any seat of a queue may be chosen, and a signal may serve any seat of its condition, we learn
+/// only later whom it served, if at all. Yet one pass decides whether a monitor may take these
+/// steps: a board, which keeps who came to wait and which signals served somebody, accepts all of
+/// them exactly if some run has them. In order of arrival too, where waits run out as well.
 pub fn boards_are_exact()
     ensures { (o : Order) → (m : Monitor) → (steps : List Step)
         → IsRun o m steps ↔ IsTrue (is_some (board_steps o m (opening_board m) steps)) }
 {}
 
-/// What a monitor may do in order of arrival it may do where any seat of a queue may be chosen, and
-/// what it may do then also where a signal may serve any seat of its condition. So a log that fits
-/// one of these orders fits those behind it.
+/// Whatever a monitor may do in order of arrival, it may also do if any seat of a queue may be
+/// chosen; and whatever it may do then, it may also do if a signal may serve any seat of its
+/// condition. So a log that fits one of these orders fits those behind it.
 pub fn orders_widen()
     ensures wake { (m : Monitor) → (steps : List Step) → IsRun Fifo m steps → IsRun Wake m steps }
     ensures any { (m : Monitor) → (steps : List Step) → IsRun Wake m steps → IsRun Any m steps }
@@ -51,9 +51,9 @@ pub fn orders_widen()
     ensures any_logs { (m : Monitor) → (log : List LogLine) → IsOpenIn Wake m log → IsOpenIn Any m log }
 {}
 
-/// Whether a log could be of a monitor, in each order of its queues, one pass over its lines tells:
-/// over a board it is judged to its end exactly where some run begins with what it tells. So the
-/// first line at which that ends is the first with which no run begins.
+/// One pass over its lines decides whether a log could be of a monitor, in each order of its
+/// queues: judging over a board reaches the end exactly if some run begins with what the log tells.
+/// So the first line at which that ends is the first with which no run begins.
 pub fn orders_are_exact()
     ensures { (o : Order) → (m : Monitor) → (log : List LogLine)
         → IsTrue (is_some (board_judge o m log)) ↔ IsOpenIn o m log }

@@ -111,7 +111,7 @@ pub fn write_end<K: Style, R: Wait>(
     }
 }
 
-/// Ends its write, and lets all readers go on that wait, by one signal to all; if none waits, it
+/// Ends its write and lets all waiting readers go on, by one signal to all; if no reader waits, it
 /// lets a writer go on. For kinds whose signaller goes on.
 pub fn write_end_all<K: Style + NonBlocking, R: Wait>(
     pass: Pass<K, Book>,

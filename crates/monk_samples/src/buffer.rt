@@ -66,8 +66,9 @@ pub fn put_wait<K: Style + ImmediateReturn, R: Wait>(
     }
 }
 
-/// Takes the oldest item out of the buffer, once one is there, and lets a putter go on. Gives the item exactly where it
-/// took one: on `Done`, and where it was tired only after that.
+/// Takes the oldest item out of the buffer, once one is there, and lets a putter go on. Returns the
+/// item exactly if it took one: always on `Done`, and on `Tired` if it became tired only after the
+/// take.
 pub fn take<K: Style, R: Wait>(
     pass: Pass<K, Buffer>,
     rt: &R,

@@ -8,7 +8,7 @@ pub enum RunFault {
     /// There are to be 2 to 16 seats, and 1 to 1000 rounds: number 1.
     #[error("seats or rounds out of range")]
     Range,
-    /// A growth was refused: number 2.
+    /// A request for memory was refused: number 2.
     #[error("memory")]
     Memory,
     /// The budget of a seat is spent: number 3.

@@ -41,20 +41,20 @@ const HASTY_SIZE: u8 = 1;
 /// Runs a sample under the kind K with 2 to 16 seats, each at work for 1 to 1000 rounds in a thread
 /// of its own, and reads the totals from its history.
 ///
-/// Of a buffer, hasty or not, and a book one half of the seats does the one thing and as many do
-/// the other; an odd last seat stays idle. In a shop the first seat is the barber, who has a turn
-/// for each visit of the other seats. No worker begins before all are there, and none waits for
+/// For a buffer, hasty or not, half of the seats put and as many take; for a book, half read and as
+/// many write. With an odd number of seats the last one stays idle. In a shop the first seat is the
+/// barber, who has a turn for each visit of the other seats. No worker begins before all are there, and none waits for
 /// another to end before it begins. When all have ended, every other pass meets the first seat's,
 /// which comes in once more and closes the hall.
 ///
 /// # Errors
 ///
-/// `Range`, and nothing is started; `Memory` where a growth was refused; `Thread` where a thread was not started, and
-/// then no worker has begun; the end of the lowest seat that did not end well, `Tired` or `Late`;
-/// `Tired` where the first seat has too little left to come in once more; `Busy` where the hall
-/// can't be closed, or its history holds more than these seats did, or of a book a read or a write
-/// that was not ended. A worker that ends early may leave others waiting for good: then this does
-/// not return.
+/// `Range`, and nothing is started; `Memory` if a request for memory was refused; `Thread` where a
+/// thread was not started, and then no worker has begun; the end of the lowest seat that did not
+/// end well, `Tired` or `Late`; `Tired` where the first seat has too little left to come in once
+/// more; `Busy` where the hall can't be closed, or its history holds more than these seats did, or
+/// of a book a read or a write that was not ended. A worker that ends early may leave others
+/// waiting for good: then this does not return.
 ///
 /// # Cost
 ///

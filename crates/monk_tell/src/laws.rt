@@ -10,8 +10,8 @@ ghost use Rattle.monk_history.specs.Meaning.Events.{next_of};
 ghost use Rattle.monk_history.specs.Meaning.Situation.{Situation};
 ghost use Rattle.monk_tell.specs.Permitted.{may_be, permitted_nexts};
 
-/// Each choice that a release might have made in place of its own is told: beside stay and entry
-/// only the front of a queue is ever permitted.
+/// Every choice that a release might have made instead is listed: apart from stay and entry, only
+/// the front of a queue is ever permitted.
 pub fn only_fronts()
     ensures { (k : Rules) (o : Object) (t : Situation) (e : Event) (x : Next) → IsTrue (is_some (next_of e))
         → IsTrue (may_be k o t e x) → Contains (permitted_nexts k o t e) x }

@@ -57,7 +57,7 @@ fn until_stand(waits: &[(u8, u8)], seat: u8) -> Stand
 ///
 /// # Errors
 ///
-/// `AllocError` where a growth was refused.
+/// `AllocError` if a request for memory was refused.
 pub fn stand_of(alloc: Global, replay: &Replay, conds: u8, seat: u8) -> Result<Stand, AllocError>
     ensures { IfOk result (λ s. s ≡ stand conds (replay_situation replay.now []) seat) }
 {

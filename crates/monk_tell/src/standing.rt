@@ -68,7 +68,7 @@ fn inside_seats(alloc: Global, replay: &Replay, seats: u8) -> Result<Vec<u8>, Al
 ///
 /// # Errors
 ///
-/// `AllocError` where a growth was refused.
+/// `AllocError` if a request for memory was refused.
 pub fn data_numbers<T: Listed>(alloc: Global, object: &T) -> Result<Vec<u64>, AllocError>
     ensures { IfOk result (λ v. v.items ≡ T.state object.now) }
 {

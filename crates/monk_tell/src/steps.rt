@@ -65,8 +65,8 @@ fn steps_over<T: Listed>(
 ///
 /// # Errors
 ///
-/// [`AuditFault::Object`] exactly where the size is above the object's greatest. [`AuditFault::Memory`] where a growth
-/// was refused.
+/// [`AuditFault::Object`] exactly where the size is above the object's greatest.
+/// [`AuditFault::Memory`] if a request for memory was refused.
 ///
 /// # Cost
 ///

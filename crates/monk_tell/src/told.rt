@@ -140,8 +140,8 @@ fn tell_over<T: Listed>(
 ///
 /// # Errors
 ///
-/// [`AuditFault::Object`] exactly where the size is above the object's greatest. [`AuditFault::Memory`] where a growth
-/// was refused.
+/// [`AuditFault::Object`] exactly where the size is above the object's greatest.
+/// [`AuditFault::Memory`] if a request for memory was refused.
 ///
 /// # Cost
 ///

@@ -28,12 +28,13 @@ pub fn seat_look_keeps_the_right()
     ensures { SeatLookKeeps }
 {}
 
-/// The floor comes out to the seat that is due, whatever the event that it records makes of the turn.
+/// The floor comes out to the seat that is due, whatever the recorded event does to the turn.
 pub fn floor_out_keeps_the_right()
     ensures { FloorOutKeeps }
 {}
 
-/// While a seat is active the history grows at its will, but for the queues of the others.
+/// While a seat is active it may extend the history as it likes, as long as every other seat stays
+/// queued, or not queued, as it was.
 pub fn activity_keeps_the_right()
     ensures { ActiveKeeps }
 {}

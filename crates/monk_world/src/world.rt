@@ -29,8 +29,8 @@ use monk_object::{Guarded, Op};
 use std::alloc::Global;
 use std::marker::Model;
 
-/// A monitor of kind `K` over an object `T` as words, places and one floor. Its seats change it by atomic steps, in
-/// whatever order it is told.
+/// A monitor of kind `K` over an object `T` as words, places and one floor. Its seats change it by
+/// atomic steps, in whatever order the commands come.
 ///
 /// To contracts a world is its words, where each seat stands, and the floor's opening state, numbers and history.
 /// Every state that it is in is sound: the right to be active is in exactly one place, and the history is legal.
@@ -123,7 +123,8 @@ impl<K: Kind, T: Guarded> World<K, T> {
         }
     }
 
-    /// Whether the grant is there that a seat looks for, by its ticket or, where it is inside, by its own place.
+    /// Whether the grant that a seat waits for is there: in the place of its ticket or, if it is
+    /// inside, in its own place.
     pub fn is_granted(&self, seat: u8) -> bool
         ensures { result ≡ is_granted (state_of_view self.now) seat }
     {

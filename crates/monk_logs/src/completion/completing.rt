@@ -30,8 +30,8 @@ use std::alloc::Global;
 ///
 /// # Errors
 ///
-/// [`AuditFault::Object`] exactly where the size is above the object's greatest. [`AuditFault::Memory`] where a growth
-/// was refused.
+/// [`AuditFault::Object`] exactly where the size is above the object's greatest.
+/// [`AuditFault::Memory`] if a request for memory was refused.
 ///
 /// # Cost
 ///

@@ -41,7 +41,7 @@ pub const MOST_LOG_LINES: u32 = MOST_LINES;
 /// | [`ReadFault::NUMBER`] | its own | no decimal number, a zero in front of other digits, or one that is too great |
 /// | [`ReadFault::END`] | the last | the last line has no byte 10, whatever it holds |
 /// | [`ReadFault::LONG`] | 2^25 + 2 | that line is finished, whatever it holds |
-/// | [`ReadFault::MEMORY`] | 0 | a growth of the list of lines was refused |
+/// | [`ReadFault::MEMORY`] | 0 | a request for memory for the list of lines was refused |
 ///
 /// # Cost
 ///

@@ -41,7 +41,7 @@ pub const MOST_COMMANDS: u32 = MOST_LINES;
 /// | [`ReadFault::NUMBER`] | its own | no decimal number, a zero in front of other digits, or one that is too great |
 /// | [`ReadFault::END`] | the last | the last line has no byte 10, whatever it holds |
 /// | [`ReadFault::LONG`] | 2^25 + 2 | that line is finished, whatever it holds |
-/// | [`ReadFault::MEMORY`] | 0 | a growth of the list of commands was refused |
+/// | [`ReadFault::MEMORY`] | 0 | a request for memory for the list of commands was refused |
 ///
 /// One pass over the bytes. Memory is taken for the list of commands alone, up to twice its length while it grows.
 pub fn read_play(

@@ -37,7 +37,8 @@ impl<'a> Model for PieceLines<'a> {
 }
 
 impl<'a> PieceLines<'a> {
-    /// The lines that end in the bytes: the first of them has that number in its text, and so many may be read.
+    /// The lines that end in the bytes. `number` is the number of the first of them in its text;
+    /// `room` is how many may be read.
     pub fn of(bytes: &'a [u8], number: u32, room: u32) -> PieceLines<'a>
         requires { number + room ≤ most_lines + 2 }
         ensures { result ≡ piece_left bytes.entry.now number room }
