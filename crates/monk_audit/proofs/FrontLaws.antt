@@ -1,8 +1,8 @@
 -- Of each queue who is first is enough to tell what may be chosen
 use Rattle.std.proofs.Common.{◌≡◌, ◌≢◌, ℕ, Bool, true, false, cond, not, List, [], ◌∷◌, ◌++◌, Option, Some, None}
-use Rattle.std.proofs.Common.{eqb, refl, sym, ap, ◌∙◌}
+use Rattle.std.proofs.Common.{refl, sym, ap, ◌∙◌}
 use Rattle.std.specs.Prelude.{◌==◌, slice_get, MatchOption}
-use Rattle.std.specs.Option.{option_eq, option_map_or}
+use Rattle.std.specs.Option.{option_map_or}
 use Rattle.monk_kinds.specs.declared.mode.Rules.{Rules}
 use Rattle.monk_object.specs.Object.{Object}
 use Rattle.monk_history.specs.declared.event.Event.{Event}
@@ -11,7 +11,7 @@ use Rattle.monk_history.specs.declared.event.Event.TheVariants.{SignalAll, Signa
 use Rattle.monk_history.specs.declared.event.Next.{Next}
 use Rattle.monk_history.specs.declared.event.Next.TheVariants.{Stay, Entry, Waiter, Signaller, Until as UntilSeat}
 use Rattle.monk_history.specs.Just.{just}
-use Rattle.monk_history.specs.Meaning.Choice.{chooses_well, is_front, is_permitted, may_choose, may_signal, must_stay}
+use Rattle.monk_history.specs.Meaning.Choice.{chooses_well, is_permitted, may_choose, may_signal, must_stay}
 use Rattle.monk_history.specs.Meaning.Events.{answered_act, is_stay, next_of}
 use Rattle.monk_history.specs.Meaning.Monitor.{Monitor, data_after}
 use Rattle.monk_history.specs.Meaning.Reasons.{is_right_reply, reason_in}
@@ -119,7 +119,3 @@ allowed_said m t e n p early passes none is =
 pub refused_said : (m : Monitor) (t : Situation) (e : Event) (n : ℕ) → n ≡ early_reason m t e → n ≢ 0
     → (n == 0) ≡ (reason_in m t e == 0)
 refused_said m t e n early some = ap (λ (r : ℕ). r == 0) (early_said m t e n early some)
-
-pub front_said : (o : Option ℕ) (xs : List ℕ) (j : ℕ) → o ≡ slice_get xs 0 → option_eq eqb o (Some j) ≡ is_front j xs
-front_said o [] j h = ap (λ (x : Option ℕ). option_eq eqb x (Some j)) h
-front_said o (x ∷ xs) j h = ap (λ (y : Option ℕ). option_eq eqb y (Some j)) h

@@ -11,9 +11,8 @@ ghost use Rattle.monk_audit.specs.Replay.{IsReplayOf, has, with_turn_of, passed_
 
 use crate::inside::mark_inside;
 use crate::moves::{drop_chosen, join_untils};
-use crate::queues::first_ready;
+use crate::queues::{first_ready, is_ready};
 use crate::replay::Replay;
-use crate::replay_queues::is_ready;
 use monk_history::{Event, Turn};
 use monk_object::Guarded;
 use std::alloc::{AllocError, Global};

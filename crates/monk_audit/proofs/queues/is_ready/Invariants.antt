@@ -1,7 +1,7 @@
 use Rattle.std.proofs.Common.{◌≡◌, drop}
 use Rattle.monk_history.specs.Meaning.Untils.{ready_of}
 use Rattle.monk_audit.specs.Replay.{has}
-use Rattle.monk_audit.proofs.replay_queues.is_ready.Given as goal
+use Rattle.monk_audit.proofs.queues.is_ready.Given as goal
 
 abbrev pub invariant-loop-wait : goal.invariant-loop-wait
 invariant-loop-wait g l =
