@@ -19,19 +19,24 @@ use Rattle.monk_commands.specs.Drawn.{HasAuditStatus, IsDrawingOf, IsDrawn, IsDr
 
 -- an answer by the verdict of the audit
 pub drawn_by : (w : Option Window) (h : Heading) (es : List Event) (v : Verdict) (status : ℕ) (Puts : List ℕ → Type 0)
-    → v ≡ verdict_of (named_monitor h) es → h.size ≤ most h.object → IsDrawnBy w v h es status Puts → IsDrawn w h es status Puts
+    → v ≡ verdict_of (named_monitor h) es → h.size ≤ most h.object → IsDrawnBy w v h es status Puts
+    → IsDrawn w h es status Puts
 drawn_by w h es v status Puts is fits a = inl (fits, subst (λ (x : Verdict). IsDrawnBy w x h es status Puts) is a)
 
 -- the answer to a history that was read
-pub drawn_read : (w : Option Window) (bytes : List ℕ) (h : Heading) (es given : List Event) (status : ℕ) (Puts : List ℕ → Type 0)
-    → text_at (2 ^ 25) bytes ≡ Ok (history h es) → given ≡ es → IsDrawn w h given status Puts → IsDrawingOf w bytes status Puts
+pub drawn_read : (w : Option Window) (bytes : List ℕ) (h : Heading) (es given : List Event) (status : ℕ)
+    (Puts : List ℕ → Type 0)
+    → text_at (2 ^ 25) bytes ≡ Ok (history h es) → given ≡ es → IsDrawn w h given status Puts
+    → IsDrawingOf w bytes status Puts
 drawn_read w bytes h es given status Puts read same a =
     subst (λ (r : Result History ReadFault). IsDrawnOrRefused w r status Puts) (sym read)
     (subst (λ (l : List Event). IsDrawn w h l status Puts) same a)
 
 -- the answer to a text that is of none
-pub refused_read : (w : Option Window) (bytes : List ℕ) (f : ReadFault) (status : ℕ) (Puts : List ℕ → Type 0) (line : List ℕ)
-    → text_at (2 ^ 25) bytes ≡ Err f → status ≡ 2 → line ≡ (unreadable f).text → Puts line → IsDrawingOf w bytes status Puts
+pub refused_read : (w : Option Window) (bytes : List ℕ) (f : ReadFault) (status : ℕ) (Puts : List ℕ → Type 0)
+    (line : List ℕ)
+    → text_at (2 ^ 25) bytes ≡ Err f → status ≡ 2 → line ≡ (unreadable f).text → Puts line
+    → IsDrawingOf w bytes status Puts
 refused_read w bytes f status Puts line read two is put =
     subst (λ (r : Result History ReadFault). IsDrawnOrRefused w r status Puts) (sym read) (two, subst Puts is put)
 
@@ -76,7 +81,8 @@ few_drawn : (w : Option Window) (v : Verdict) (h : Heading) (es : List Event) (s
 few_drawn w v h es status Puts (inl a) = subst (λ n. n ≤ 2) (sym a.1.0) (few_of_verdict v)
 few_drawn w v h es status Puts (inr a) = let two : status ≡ 2 = a.1.0 in omega (arith, two)
 
-few_of_history : (w : Option Window) (h : History) (status : ℕ) (Puts : List ℕ → Type 0) → IsDrawn w h.0 h.1 status Puts → status ≤ 2
+few_of_history : (w : Option Window) (h : History) (status : ℕ) (Puts : List ℕ → Type 0)
+    → IsDrawn w h.0 h.1 status Puts → status ≤ 2
 few_of_history w h status Puts (inl a) = few_drawn w _ h.0 h.1 status Puts a.1
 few_of_history w h status Puts (inr a) = let two = a.1.0 in omega (arith, two)
 
@@ -85,7 +91,8 @@ few_of_reading : (w : Option Window) (r : Result History ReadFault) (status : �
 few_of_reading w (Ok h) status Puts a = few_of_history w h status Puts a
 few_of_reading w (Err f) status Puts a = let two = a.0 in omega (arith, two)
 
-pub few_statuses : (w : Option Window) (bytes : List ℕ) (status : ℕ) (Puts : List ℕ → Type 0) → IsDrawingOf w bytes status Puts
+pub few_statuses : (w : Option Window) (bytes : List ℕ) (status : ℕ) (Puts : List ℕ → Type 0)
+    → IsDrawingOf w bytes status Puts
     → status ≤ 2
 few_statuses w bytes status Puts a = few_of_reading w (text_at (2 ^ 25) bytes) status Puts a
 

@@ -37,7 +37,8 @@ number_read E G bits v name f only none value = go (one_text f name) refl
         record { text = t; found = sym (one_text-rows f name) ∙ e; digits = read.0.0; number = read.1 }
 
 -- the number that is read by `try_get_one`, if one is
-pub number_tried : (E : Type 0) (G : List ℕ → Result ℕ E → Type 0) (bits : ℕ) (o : Option ℕ) (r : Result (Option ℕ) E) (name : Text)
+pub number_tried : (E : Type 0) (G : List ℕ → Result ℕ E → Type 0) (bits : ℕ) (o : Option ℕ)
+    (r : Result (Option ℕ) E) (name : Text)
     (f : Found) → ((u : List ℕ) (x : Result ℕ E) → G u x → ParsesUnsigned bits 10 u x) → r ≡ Ok o
     → (one_text f name ≡ None → r ≡ Ok None) → ((t : List ℕ) → one_text f name ≡ Some t → TriesOne G t r)
     → MayHaveNumber name o (rows_of f)
@@ -51,12 +52,14 @@ number_tried E G bits o r name f only is none value = go (one_text f name) refl 
         let read = only t (Ok v) (subst (TriesOne G t) told (value t e)) in
         record { text = t; found = sym (one_text-rows f name) ∙ e; digits = read.0.0; number = read.1 }
 
-pub monk_is_simple : (completed : KindNames) (run recorded : RunNames) → is_simple (monk_app completed run recorded) ≡ true
+pub monk_is_simple : (completed : KindNames) (run recorded : RunNames)
+    → is_simple (monk_app completed run recorded) ≡ true
 unfolding clap_on_literals
 monk_is_simple completed run recorded = refl
 
 -- what a test that is exact says of what it has found
-pub found_exactly : (A : Type 0) (o : Option A) (F G : A → Type 0) → ((x : A) → (o ≡ Some x) ↔ F x) → ((x : A) → F x → G x)
+pub found_exactly : (A : Type 0) (o : Option A) (F G : A → Type 0) → ((x : A) → (o ≡ Some x) ↔ F x)
+    → ((x : A) → F x → G x)
     → IfSome o G
 found_exactly A None F G exact leads = tt
 found_exactly A (Some x) F G exact leads = leads x ((exact x).0 refl)
@@ -74,11 +77,13 @@ abbrev pub texts : List (Bor Text) → List Text
 texts words = map (λ w. w.now) words
 
 -- with the meaning of one word more
-pub meanings_more : (words : List (Bor Text)) (i : ℕ) (t : Bor Text) (ws new : List WaitsFor) (w : WaitsFor) → i < length words
+pub meanings_more : (words : List (Bor Text)) (i : ℕ) (t : Bor Text) (ws new : List WaitsFor) (w : WaitsFor)
+    → i < length words
     → AreMeanings (texts (take i words)) ws → IsMeaning (get_or words i t).now w → new ≡ ws ++ w ∷ []
     → AreMeanings (texts (take (i + 1) words)) new
 meanings_more words i t ws new w within are is more =
     subst (AreMeanings (texts (take (i + 1) words))) (sym more)
     (subst (λ (ts : List Text). AreMeanings ts (ws ++ w ∷ []))
-    (sym (ap texts (take_more words i t within) ∙ map-append (λ (x : Bor Text). x.now) (take i words) (get_or words i t ∷ [])))
+    (sym (ap texts (take_more words i t within)
+    ∙ map-append (λ (x : Bor Text). x.now) (take i words) (get_or words i t ∷ [])))
     (words_more (texts (take i words)) ws (get_or words i t).now w are is))

@@ -45,8 +45,8 @@ behind last = record { status = 2; text = codes "window " ++ (decimal last ++ co
 abbrev pub asks_behind : Option Window → Verdict → List Event → Bool
 asks_behind w v events = is_behind w (showable (forbidden_step v) (length events))
 
--- with what writing these bytes means: the picture of the events that are asked for, up to the one that the verdict forbids, is
--- written, with the verdict's status
+-- with what writing these bytes means: the picture of the events that are asked for, up to the one
+-- that the verdict forbids, is written, with the verdict's status
 abbrev pub IsPictureBy : Option Window → Verdict → Heading → List Event → ℕ → (List ℕ → Type 0) → Type 0
 IsPictureBy w v h events status Puts =
     (status ≡ (verdict_answer v).status) × Puts (picture h events w (forbidden_step v) (why_of v))

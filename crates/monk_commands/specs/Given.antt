@@ -2,5 +2,6 @@
 use Rattle.std.specs.Prelude.{◌≡◌, ℕ, List}
 use Rattle.monk_commands.specs.Answer.{Answer}
 
+-- the answer is given: its status, and its text on standard output
 abbrev pub IsGiven : Answer → ℕ → (List ℕ → Type 0) → Type 0
 IsGiven answer status Puts = (status ≡ answer.status) × Puts answer.text

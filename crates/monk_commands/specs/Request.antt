@@ -91,7 +91,8 @@ repeated_rule name = record (new_rule name) { long = Some name; action = Some Ap
 
 -- an option that takes a whole number
 abbrev pub number_rule : Text → Rule
-number_rule name = record (new_rule name) { long = Some name; parser = Some (Signed (pos 0) (pos 4294967295)); value_names = 1 }
+number_rule name =
+    record (new_rule name) { long = Some name; parser = Some (Signed (pos 0) (pos 4294967295)); value_names = 1 }
 
 -- a command of that name that takes the first and the last of the events that it shows, and a file
 abbrev pub window_app : Text → App
@@ -239,7 +240,8 @@ ValuesAre (Fit file lapses means) rows = (first_of (codes "FILE") rows ≡ optio
     × AreLapses lapses rows × AreMeanings (words_or_none (all_of (codes "means") rows)) means.items
 ValuesAre (Trace file) rows = first_of (codes "FILE") rows ≡ option_map string_bytes file
 ValuesAre (Explain file) rows = first_of (codes "FILE") rows ≡ option_map string_bytes file
-ValuesAre (Draw file window) rows = (first_of (codes "FILE") rows ≡ option_map string_bytes file) × IsWindowIn window rows
+ValuesAre (Draw file window) rows = (first_of (codes "FILE") rows ≡ option_map string_bytes file)
+    × IsWindowIn window rows
 ValuesAre (Complete kind file) rows = (first_of (codes "KIND") rows ≡ Some (kind_word kind))
     × (first_of (codes "FILE") rows ≡ option_map string_bytes file)
 ValuesAre (Run kind sample seats rounds) rows = AreRunValues kind sample seats rounds rows

@@ -12,6 +12,7 @@ use Rattle.monk_commands.specs.declared.report.Report.TheVariants as report
 use Rattle.monk_commands.specs.declared.task.Task.{Task}
 use Rattle.monk_commands.specs.declared.task.Task.TheVariants.{Audit, Play, Upgrade, Fit, Trace, Explain, Draw, Complete}
 
+-- the answer of a command that reads an input
 abbrev pub IsTaskAnswer : Task → List ℕ → ℕ → (List ℕ → Type 0) → Type 0
 IsTaskAnswer Audit input status Puts = IsGiven (answer_of input) status Puts
 IsTaskAnswer Play input status Puts = IsAnswerTo report.History input status Puts

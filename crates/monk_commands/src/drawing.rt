@@ -157,7 +157,8 @@ fn draw_text<W: Write>(
 ) -> Result<u8, StreamFault>
     requires { has_failed writer.old ≡ false }
     ensures answer { IfOk result
-        (λ status. IsDrawingOf window bytes.now status (Appends (W.contents (inner_of writer.old)) (W.contents (inner_of writer.new)))) }
+        (λ status. IsDrawingOf window bytes.now status
+        (Appends (W.contents (inner_of writer.old)) (W.contents (inner_of writer.new)))) }
     ensures file { IsErrOf result StreamFault.File → has_failed writer.new ≡ true }
     ensures memory { IsErrOf result StreamFault.Memory → writer.new ≡ writer.old }
 {
@@ -167,14 +168,16 @@ fn draw_text<W: Write>(
     }
 }
 
-/// Reads all of the reader, and writes a picture of its history, an SVG text that stands alone: a lane for each seat and a
-/// column for each event, where each seat was, and who went on by a release. The first forbidden event is framed, with
-/// its reason, and what comes behind it is not shown. Of the events up to it, or up to the end, those of the window are shown;
-/// without a window the last 200. The status is that of an audit: 0 where the history is legal, else 1.
+/// Reads all of the reader, and writes a picture of its history, an SVG text that stands alone: a
+/// lane for each seat and a column for each event, where each seat was, and who went on by a
+/// release. The first forbidden event is framed, with its reason, and what comes behind it is not
+/// shown. Of the events up to it, or up to the end, those of the window are shown; without a window
+/// the last 200. The status is that of an audit: 0 where the history is legal, else 1.
 ///
-/// Where the reader has no text of a history, the line `unreadable LINE NUMBER WORD` is written with status 2, where the
-/// size is above the object's greatest, `object` with status 2, and where the window begins behind the last event that can be
-/// shown, `window LAST` with status 2 and the number of that event, which is 0 where there is none.
+/// Where the reader has no text of a history, the line `unreadable LINE NUMBER WORD` is written
+/// with status 2, where the size is above the object's greatest, `object` with status 2, and where
+/// the window begins behind the last event that can be shown, `window LAST` with status 2 and the
+/// number of that event, which is 0 where there is none.
 ///
 /// # Errors
 ///
@@ -196,7 +199,8 @@ pub fn draw_stream<R: Read, W: Write>(
     // What is written, and its status, are the answer to what the reader had: of a history its picture, byte for byte.
     ensures answer { IfOk result
         (λ status. IfSome (R.remaining (inner_of reader.old))
-        (λ input. IsDrawingOf window input status (Appends (W.contents (inner_of writer.old)) (W.contents (inner_of writer.new))))) }
+        (λ input. IsDrawingOf window input status
+        (Appends (W.contents (inner_of writer.old)) (W.contents (inner_of writer.new))))) }
     // The status is that of an audit, unless events are asked for that can't be shown.
     ensures status { IfOk result
         (λ status. IfSome (R.remaining (inner_of reader.old)) (λ input. HasAuditStatus window input status)) }

@@ -28,8 +28,9 @@ use monk_world::{PlayLines, World};
 use std::alloc::Global;
 use std::io::{Read, Write};
 
-/// Plays the commands over the object, by the kind K, and writes the history, or a trace where there is a second object, which is
-/// as the first: a trace shows its data, since nobody sees the world's own.
+/// Plays the commands over the object, by the kind K, and writes the history, or a trace where
+/// there is a second object, which is as the first: a trace shows its data, since nobody sees the
+/// world's own.
 fn play_as<K: Kind, T: Listed, W: Write>(
     alloc: Global,
     object: T,
@@ -77,7 +78,8 @@ fn play_named<T: Listed, W: Write>(
     requires told { AreToldIn play.0.version play.2 }
     requires alike { ForSome shown (λ s. T.state s ≡ T.state object) }
     ensures played { OnOk result
-        (IsReportedBy (report_with shown) (rules_named play.entry.0.kind) T.meaning (T.state object) play.entry.0 play.entry.1 play.entry.2
+        (IsReportedBy (report_with shown) (rules_named play.entry.0.kind) T.meaning
+        (T.state object) play.entry.0 play.entry.1 play.entry.2
         (Appends (W.contents (inner_of writer.old)) (W.contents (inner_of writer.new)))) }
     ensures file { IsErrOf result StreamFault.File → has_failed writer.new ≡ true }
     ensures memory { IsErrOf result StreamFault.Memory → writer.new ≡ writer.old }
@@ -173,7 +175,8 @@ pub(crate) fn play_text<W: Write>(
 ) -> Result<u8, StreamFault>
     requires { has_failed writer.old ≡ false }
     ensures answer { IfOk result
-        (λ status. IsAnswerTo report bytes.now status (Appends (W.contents (inner_of writer.old)) (W.contents (inner_of writer.new)))) }
+        (λ status. IsAnswerTo report bytes.now status
+        (Appends (W.contents (inner_of writer.old)) (W.contents (inner_of writer.new)))) }
     ensures file { IsErrOf result StreamFault.File → has_failed writer.new ≡ true }
     ensures memory { IsErrOf result StreamFault.Memory → writer.new ≡ writer.old }
 {
@@ -196,9 +199,9 @@ pub(crate) fn play_text<W: Write>(
 ///
 /// # Cost
 ///
-/// Two passes over the text, one that looks for its first fault and one that carries out each command as it is read, in a
-/// time that doesn't grow with the history; memory for the text, and for as many events as the budget leaves to all seats
-/// together.
+/// Two passes over the text, one that looks for its first fault and one that carries out each
+/// command as it is read, in a time that doesn't grow with the history; memory for the text, and
+/// for as many events as the budget leaves to all seats together.
 pub fn play_stream<R: Read, W: Write>(
     alloc: Global,
     reader: &mut Device<R>,
@@ -210,9 +213,11 @@ pub fn play_stream<R: Read, W: Write>(
     // What is written, and its status, are the answer to what the reader had.
     ensures answer { IfOk result
         (λ status. IfSome (R.remaining (inner_of reader.old))
-        (λ input. IsAnswerTo Report.History input status (Appends (W.contents (inner_of writer.old)) (W.contents (inner_of writer.new))))) }
+        (λ input. IsAnswerTo Report.History input status
+        (Appends (W.contents (inner_of writer.old)) (W.contents (inner_of writer.new))))) }
     // The status is 0 exactly for the text of a play.
-    ensures played { IfOk result (λ status. IfSome (R.remaining (inner_of reader.old)) (λ input. (status ≡ 0) ↔ IsPlayText input)) }
+    ensures played { IfOk result (λ status. IfSome (R.remaining (inner_of reader.old))
+        (λ input. (status ≡ 0) ↔ IsPlayText input)) }
     // To a play nothing is written but the text of its history, which is legal.
     ensures history { IfOk result
         (λ status. IfSome (R.remaining (inner_of reader.old))
@@ -220,7 +225,8 @@ pub fn play_stream<R: Read, W: Write>(
         → IsPlayed h budget commands (Appends (W.contents (inner_of writer.old)) (W.contents (inner_of writer.new))))) }
     // What is written to a play, an audit finds legal.
     ensures plays_are_legal { IfOk result
-        (λ status. status ≡ 0 → IsFoundLegal (Appends (W.contents (inner_of writer.old)) (W.contents (inner_of writer.new)))) }
+        (λ status. status ≡ 0
+        → IsFoundLegal (Appends (W.contents (inner_of writer.old)) (W.contents (inner_of writer.new)))) }
     ensures statuses { IfOk result (λ status. (status ≡ 0) ⊎ (status ≡ 2)) }
     ensures all_read { OnOk result (IsAtEnd (R.remaining (inner_of reader.new))) }
 

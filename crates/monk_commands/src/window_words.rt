@@ -30,7 +30,8 @@ fn fault_of(alloc: Global, fault: WindowFault) -> LineFault {
 ///
 /// # Errors
 ///
-/// [`LineFault::Words`] with what is said of a [`WindowFault`], in one line. [`LineFault::Memory`] where a growth was refused.
+/// [`LineFault::Words`] with what is said of a [`WindowFault`], in one line. [`LineFault::Memory`]
+/// where a growth was refused.
 pub(crate) fn window_of(
     alloc: Global,
     matches: &ArgMatches<'_>,

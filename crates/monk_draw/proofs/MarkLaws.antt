@@ -52,7 +52,8 @@ marks_by es seats object before allowed last =
     marks (record { seats = seats; object = object; before = before; allowed = allowed }) 0 (slice_range es before last)
 
 -- they are those of the picture
-pub same_marks : (h : Heading) (es : List Event) (w : Option Window) (fault : Option ℕ) (seats : ℕ) (object : ObjectName)
+pub same_marks : (h : Heading) (es : List Event) (w : Option Window) (fault : Option ℕ) (seats : ℕ)
+    (object : ObjectName)
     (before allowed last : ℕ)
     → seats ≡ h.seats → object ≡ h.object → before ≡ not_shown w last
     → allowed ≡ allowed_of fault last (slice_range es before last) → last ≡ last_of w fault es
@@ -62,7 +63,8 @@ same_marks h es w fault seats object before allowed last of_seats of_object behi
     ∙ (ap (λ (o : ObjectName). marks_by es h.seats o before allowed last) of_object
     ∙ (ap (λ n. marks_by es h.seats h.object before n last) fine
     ∙ (ap (λ n. marks_by es h.seats h.object n (allowed_of fault last (slice_range es n last)) last) behind
-    ∙ ap (λ n. marks_by es h.seats h.object (not_shown w n) (allowed_of fault n (slice_range es (not_shown w n) n)) n) at)))
+    ∙ ap (λ n. marks_by es h.seats h.object (not_shown w n)
+    (allowed_of fault n (slice_range es (not_shown w n) n)) n) at)))
 
 -- a page, the marks behind it, and the end
 pub has_marks : (h : Heading) (es : List Event) (w : Option Window) (fault : Option ℕ) (seats : ℕ) (object : ObjectName)
@@ -75,5 +77,6 @@ has_marks h es w fault seats object before allowed last under marked all of_seat
   under,
   ended
       ∙ ap (λ (page : List ℕ). page ++ codes "</svg>\n")
-      (put ∙ ap (λ (m : List ℕ). under ++ m) (same_marks h es w fault seats object before allowed last of_seats of_object behind fine at)),
+      (put ∙ ap (λ (m : List ℕ). under ++ m)
+      (same_marks h es w fault seats object before allowed last of_seats of_object behind fine at)),
 )

@@ -54,7 +54,8 @@ same_front h seats past shown fault last reason lanes e allowed of_lanes of_even
 
 -- all but the marks and the end, from the texts that are put one after the other
 pub puts_front : (h : Heading) (seats : ℕ) (past shown : List Event) (fault : Option ℕ) (last : ℕ) (reason : List ℕ)
-    (old grounded stretched handed new : List ℕ) (start between with_hands legend : Legend) (lanes : ℕ) (e : Option Event)
+    (old grounded stretched handed new : List ℕ) (start between with_hands legend : Legend) (lanes : ℕ)
+    (e : Option Event)
     (allowed end : ℕ) (some : Bool)
     → end ≡ lanes_end (length shown) → lanes ≡ lanes_for seats shown → e ≡ forbidden_event fault last shown
     → allowed ≡ allowed_with e (length shown)
@@ -65,7 +66,8 @@ pub puts_front : (h : Heading) (seats : ℕ) (past shown : List Event) (fault : 
     → some ≡ list_any is_refused_act (take allowed shown) → legend ≡ refused_noted with_hands some
     → new ≡ handed ++ above seats (length shown) lanes allowed reason last e legend
     → new ≡ old ++ front h seats past shown fault last reason
-puts_front h seats past shown fault last reason old grounded stretched handed new start between with_hands legend lanes e allowed end
+puts_front h seats past shown fault last reason old grounded stretched handed new start between with_hands
+    legend lanes e allowed end
     some end_is lanes_is e_is allowed_is start_is first put third noted some_is legend_is fourth =
     let drawn = drawn_of seats past shown allowed in
     let second =
@@ -83,7 +85,8 @@ puts_front h seats past shown fault last reason old grounded stretched handed ne
     (same_front h seats past shown fault last reason lanes e allowed lanes_is e_is allowed_is)
 
 -- what stands in front of the marks is that of the events that are shown
-shown_front : (h : Heading) (es : List Event) (w : Option Window) (fault : Option ℕ) (reason : List ℕ) (seats before last : ℕ)
+shown_front : (h : Heading) (es : List Event) (w : Option Window) (fault : Option ℕ) (reason : List ℕ)
+    (seats before last : ℕ)
     → seats ≡ h.seats → before ≡ not_shown w last → last ≡ last_of w fault es
     → front h seats (take before es) (slice_range es before last) fault last reason
     ≡ front h h.seats (take (not_shown w (last_of w fault es)) es) (shown_events w fault es) fault
@@ -94,7 +97,8 @@ shown_front h es w fault reason seats before last of_seats behind at =
     ∙ ap (λ n. front h h.seats (take (not_shown w n) es) (slice_range es (not_shown w n) n) fault n reason) at)
 
 -- a page with all but the marks, the marks behind it, and the end
-pub is_picture : (h : Heading) (es : List Event) (w : Option Window) (fault : Option ℕ) (reason : List ℕ) (seats : ℕ) (object : ObjectName)
+pub is_picture : (h : Heading) (es : List Event) (w : Option Window) (fault : Option ℕ) (reason : List ℕ)
+    (seats : ℕ) (object : ObjectName)
     (before allowed last : ℕ) (empty under marked all : List ℕ)
     → seats ≡ h.seats → object ≡ h.object → before ≡ not_shown w last
     → allowed ≡ allowed_of fault last (slice_range es before last) → last ≡ last_of w fault es
@@ -102,7 +106,8 @@ pub is_picture : (h : Heading) (es : List Event) (w : Option Window) (fault : Op
     → under ≡ empty ++ front h seats (take before es) (slice_range es before last) fault last reason
     → marked ≡ under ++ marks_by es seats object before allowed last → all ≡ marked ++ codes "</svg>\n"
     → IsPicture h es w fault reason all
-is_picture h es w fault reason seats object before allowed last empty under marked all of_seats of_object behind fine at nothing
+is_picture h es w fault reason seats object before allowed last empty under marked all of_seats of_object
+    behind fine at nothing
     first put ended =
     let under_marks = front h seats (take before es) (slice_range es before last) fault last reason in
     let whole =

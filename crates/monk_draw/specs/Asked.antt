@@ -8,7 +8,8 @@ use Rattle.monk_draw.specs.declared.window_fault.WindowFault.TheVariants.{Zero, 
 abbrev pub most_asked : ℕ
 most_asked = 2000
 
--- the first and the last that are meant: where only one is told, as many events as can be asked for; where none is, none
+-- the first and the last that are meant: where only one is told, as many events as can be asked
+-- for; where none is, none
 abbrev pub numbers_meant : Option ℕ → Option ℕ → Option (ℕ × ℕ)
 numbers_meant None None = None
 numbers_meant None (Some to) = Some (to - most_asked + 1, to)

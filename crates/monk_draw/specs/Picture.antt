@@ -56,6 +56,7 @@ abbrev pub lanes_with : ℕ → Option Event → ℕ
 lanes_with seats None = seats
 lanes_with seats (Some e) = if nat_lt (seat_of e) seats then seats else seats + 1
 
+-- how many lanes the picture has: one more if its last event names a seat that there isn't
 abbrev pub lanes_for : ℕ → List Event → ℕ
 lanes_for seats shown = lanes_with seats (slice_get shown (length shown - 1))
 
@@ -87,5 +88,6 @@ picture h events w fault reason =
     (front h h.seats (take (not_shown w last) events) (shown_events w fault events) fault last reason
     ++ all_marks h events w fault) ++ codes "</svg>\n"
 
+-- these bytes are the picture of the history
 abbrev pub IsPicture : Heading → List Event → Option Window → Option ℕ → List ℕ → List ℕ → Type 0
 IsPicture h events w fault reason bytes = bytes ≡ picture h events w fault reason

@@ -32,6 +32,7 @@ not_shown (Some w) last = if nat_lt (w.from - 1) last then w.from - 1 else last
 abbrev pub last_of : Option Window → Option ℕ → List Event → ℕ
 last_of w fault events = shown_last w (showable fault (length events))
 
+-- the events that are shown
 abbrev pub shown_events : Option Window → Option ℕ → List Event → List Event
 shown_events w fault events =
     let last = last_of w fault events in

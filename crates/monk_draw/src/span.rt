@@ -45,8 +45,8 @@ pub struct Span {
 }
 
 impl Span {
-    /// Those of a window, or without one the last [`MOST_SHOWN`], of so many that can be shown. Where the window begins behind
-    /// these, none is shown.
+    /// Those of a window, or without one the last [`MOST_SHOWN`], of so many that can be shown.
+    /// Where the window begins behind these, none is shown.
     pub fn of(window: Option<Window>, count: usize) -> Span
         ensures last { result.last ≡ shown_last window count }
         ensures before { result.before ≡ not_shown window result.last }

@@ -11,5 +11,6 @@ returns-in_ok-line_to_fit-in-Some-fit-default c =
 
 pub returns-in_ok-line_to_draw-in-Some-draw-default : goal.returns-in_ok-line_to_draw-in-Some-draw-default
 returns-in_ok-line_to_draw-in-Some-draw-default c =
-    asked_in (subcommand_rows_of c.args.matches.now) (codes "draw") (rows_of (found_of c.in-Some-draw-default.draw.now)) _ (search rules)
+    asked_in (subcommand_rows_of c.args.matches.now) (codes "draw")
+    (rows_of (found_of c.in-Some-draw-default.draw.now)) _ (search rules)
     (sym c.in-Some-draw-default.ensures.rows) c.in_ok-line_to_draw-in-Some-draw-default.ensures

@@ -16,14 +16,19 @@ returns c =
     ∙ ap (λ e. allowed_with e (length (slice_range c.args.events.now before last))) c.forbidden_event.ensures in
     record {
       marks =
-          has_marks c.args.header.now c.args.events.now c.args.window c.args.forbidden c.seats_of.result c.object.result before
+          has_marks c.args.header.now c.args.events.now c.args.window c.args.forbidden c.seats_of.result
+          c.object.result before
           c.allowed_with.result last (string_bytes c.put_front.new.page) (string_bytes c.put_marks.new.page)
-          (string_bytes c.push_str.new.self) c.seats_of.ensures.value c.object.ensures c.of-before.ensures.before allowed_is last_is
+          (string_bytes c.push_str.new.self) c.seats_of.ensures.value c.object.ensures
+          c.of-before.ensures.before allowed_is last_is
           c.in_ok-put_marks.ensures c.in_ok-push_str.ensures.bytes;
       picture =
-          is_picture c.args.header.now c.args.events.now c.args.window c.args.forbidden c.args.reason.now c.seats_of.result
-          c.object.result before c.allowed_with.result last (string_bytes c.new-page.result) (string_bytes c.put_front.new.page)
-          (string_bytes c.put_marks.new.page) (string_bytes c.push_str.new.self) c.seats_of.ensures.value c.object.ensures
+          is_picture c.args.header.now c.args.events.now c.args.window c.args.forbidden c.args.reason.now
+          c.seats_of.result
+          c.object.result before c.allowed_with.result last (string_bytes c.new-page.result)
+          (string_bytes c.put_front.new.page)
+          (string_bytes c.put_marks.new.page)
+          (string_bytes c.push_str.new.self) c.seats_of.ensures.value c.object.ensures
           c.of-before.ensures.before allowed_is last_is c.new-page.ensures.bytes c.in_ok-put_front.ensures
           c.in_ok-put_marks.ensures c.in_ok-push_str.ensures.bytes;
     }
