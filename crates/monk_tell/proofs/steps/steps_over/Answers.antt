@@ -16,7 +16,7 @@ pub after_all-requires-after_bounds : goal.after_all-requires-after_bounds
 after_all-requires-after_bounds g c κs within =
     let h = c.args.header.now in
     let m = monitor (rules_named h.kind) h.seats h.conds g.T.Guarded.meaning (g.T.Guarded.state c.args.object) in
-    let few = end_allowed c.args.verdict c.args.last _ _ c.allowed_events.ensures c.min-end.ensures in
+    let few = end_allowed c.args.verdict _ _ _ c.allowed_events.ensures c.min-end.ensures in
     rw (c.rules_by_name-rules.ensures ∙ ap rules_named c.kind.ensures, c.seats-seats.ensures, c.conds-conds.ensures)
     (allowed_legal m c.args.events.now c.args.verdict c.args.before c.requires
     (omega (arith, few, c.if-before-end.false)))
@@ -26,14 +26,14 @@ slice_bounds-event-items-end g c =
     let h = c.args.header.now in
     let m = monitor (rules_named h.kind) h.seats h.conds g.T.Guarded.meaning (g.T.Guarded.state c.args.object) in
     allowed_there m c.args.events.now c.args.verdict c.min-end.result c.requires
-    (end_allowed c.args.verdict c.args.last _ _ c.allowed_events.ensures c.min-end.ensures)
+    (end_allowed c.args.verdict _ _ _ c.allowed_events.ensures c.min-end.ensures)
 
 pub by-requires-clause-allowed : goal.by-requires-clause-allowed
 by-requires-clause-allowed g c κs within =
     let h = c.args.header.now in
     let o = g.T.Guarded.meaning in
     let i = c.loop-event.event-index in
-    let few = end_allowed c.args.verdict c.args.last _ _ c.allowed_events.ensures c.min-end.ensures in
+    let few = end_allowed c.args.verdict _ _ _ c.allowed_events.ensures c.min-end.ensures in
     let at : i < c.min-end.result - c.args.before = omega (arith, c.loop-event-test.true) in
     rw (c.rules_by_name-rules.ensures ∙ ap rules_named c.kind.ensures)
     (none_against (rules_named h.kind) h.seats h.conds o (g.T.Guarded.state c.args.object) c.args.events.now
@@ -48,7 +48,7 @@ loop-event-preserved g c =
     let m = monitor (rules_named h.kind) h.seats h.conds o (g.T.Guarded.state c.args.object) in
     let i = c.loop-event.event-index in
     let n = c.args.before + i in
-    let few = end_allowed c.args.verdict c.args.last _ _ c.allowed_events.ensures c.min-end.ensures in
+    let few = end_allowed c.args.verdict _ _ _ c.allowed_events.ensures c.min-end.ensures in
     let at : i < c.min-end.result - c.args.before = omega (arith, c.loop-event-test.true) in
     let there = event_there es c.args.before c.min-end.result i (Enter 0 Free) at in
     let e = get_or (take (c.min-end.result - c.args.before) (drop c.args.before es)) i (Enter 0 Free) in
