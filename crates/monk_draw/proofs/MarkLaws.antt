@@ -9,9 +9,10 @@ use Rattle.std.specs.List.{slice_range}
 use Rattle.monk_object.specs.declared.name.ObjectName.{ObjectName}
 use Rattle.monk_history.specs.Text.{Heading}
 use Rattle.monk_draw.specs.Picture.{HasMarks, all_marks, allowed_of}
-use Rattle.monk_draw.specs.Window.{not_shown, shown_last}
+use Rattle.monk_draw.specs.Window.{last_of, not_shown}
 use Rattle.monk_draw.specs.Mark.{mark, marks}
 use Rattle.monk_draw.specs.declared.view.View.{View}
+use Rattle.monk_draw.specs.declared.window.Window.{Window}
 
 -- behind the marks of these events, the mark of one more
 pub marks_more : (v : View) (column : ℕ) (es : List Event) (e : Event)
@@ -51,27 +52,28 @@ marks_by es seats object before allowed last =
     marks (record { seats = seats; object = object; before = before; allowed = allowed }) 0 (slice_range es before last)
 
 -- they are those of the picture
-pub same_marks : (h : Heading) (es : List Event) (fault : Option ℕ) (seats : ℕ) (object : ObjectName) (before allowed last : ℕ)
-    → seats ≡ h.seats → object ≡ h.object → before ≡ not_shown last
-    → allowed ≡ allowed_of fault last (slice_range es before last) → last ≡ shown_last fault (length es)
-    → marks_by es seats object before allowed last ≡ all_marks h es fault
-same_marks h es fault seats object before allowed last of_seats of_object behind fine at =
+pub same_marks : (h : Heading) (es : List Event) (w : Option Window) (fault : Option ℕ) (seats : ℕ) (object : ObjectName)
+    (before allowed last : ℕ)
+    → seats ≡ h.seats → object ≡ h.object → before ≡ not_shown w last
+    → allowed ≡ allowed_of fault last (slice_range es before last) → last ≡ last_of w fault es
+    → marks_by es seats object before allowed last ≡ all_marks h es w fault
+same_marks h es w fault seats object before allowed last of_seats of_object behind fine at =
     ap (λ n. marks_by es n object before allowed last) of_seats
     ∙ (ap (λ (o : ObjectName). marks_by es h.seats o before allowed last) of_object
     ∙ (ap (λ n. marks_by es h.seats h.object before n last) fine
     ∙ (ap (λ n. marks_by es h.seats h.object n (allowed_of fault last (slice_range es n last)) last) behind
-    ∙ ap (λ n. marks_by es h.seats h.object (not_shown n) (allowed_of fault n (slice_range es (not_shown n) n)) n) at)))
+    ∙ ap (λ n. marks_by es h.seats h.object (not_shown w n) (allowed_of fault n (slice_range es (not_shown w n) n)) n) at)))
 
 -- a page, the marks behind it, and the end
-pub has_marks : (h : Heading) (es : List Event) (fault : Option ℕ) (seats : ℕ) (object : ObjectName)
+pub has_marks : (h : Heading) (es : List Event) (w : Option Window) (fault : Option ℕ) (seats : ℕ) (object : ObjectName)
     (before allowed last : ℕ) (under marked all : List ℕ)
-    → seats ≡ h.seats → object ≡ h.object → before ≡ not_shown last
-    → allowed ≡ allowed_of fault last (slice_range es before last) → last ≡ shown_last fault (length es)
+    → seats ≡ h.seats → object ≡ h.object → before ≡ not_shown w last
+    → allowed ≡ allowed_of fault last (slice_range es before last) → last ≡ last_of w fault es
     → marked ≡ under ++ marks_by es seats object before allowed last → all ≡ marked ++ codes "</svg>\n"
-    → HasMarks h es fault all
-has_marks h es fault seats object before allowed last under marked all of_seats of_object behind fine at put ended = (
+    → HasMarks h es w fault all
+has_marks h es w fault seats object before allowed last under marked all of_seats of_object behind fine at put ended = (
   under,
   ended
       ∙ ap (λ (page : List ℕ). page ++ codes "</svg>\n")
-      (put ∙ ap (λ (m : List ℕ). under ++ m) (same_marks h es fault seats object before allowed last of_seats of_object behind fine at)),
+      (put ∙ ap (λ (m : List ℕ). under ++ m) (same_marks h es w fault seats object before allowed last of_seats of_object behind fine at)),
 )

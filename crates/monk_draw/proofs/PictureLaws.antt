@@ -12,9 +12,10 @@ use Rattle.monk_draw.specs.Scene.{PutsStretches, all_noted, empty_legend, hands_
 use Rattle.monk_draw.specs.Stretch.{stretches_text}
 use Rattle.monk_draw.specs.Stretches.{stretches}
 use Rattle.monk_draw.specs.Surface.{lanes_end}
-use Rattle.monk_draw.specs.Window.{not_shown, shown_events, shown_last}
+use Rattle.monk_draw.specs.Window.{last_of, not_shown, shown_events}
 use Rattle.monk_draw.specs.declared.legend.Legend.{Legend}
 use Rattle.monk_draw.specs.declared.stretch.Stretch.{Stretch}
+use Rattle.monk_draw.specs.declared.window.Window.{Window}
 use Rattle.monk_draw.proofs.MarkLaws.{marks_by, same_marks}
 use Rattle.monk_draw.proofs.StretchLaws.{same_stretches}
 
@@ -82,34 +83,34 @@ puts_front h seats past shown fault last reason old grounded stretched handed ne
     (same_front h seats past shown fault last reason lanes e allowed lanes_is e_is allowed_is)
 
 -- what stands in front of the marks is that of the events that are shown
-shown_front : (h : Heading) (es : List Event) (fault : Option ℕ) (reason : List ℕ) (seats before last : ℕ)
-    → seats ≡ h.seats → before ≡ not_shown last → last ≡ shown_last fault (length es)
+shown_front : (h : Heading) (es : List Event) (w : Option Window) (fault : Option ℕ) (reason : List ℕ) (seats before last : ℕ)
+    → seats ≡ h.seats → before ≡ not_shown w last → last ≡ last_of w fault es
     → front h seats (take before es) (slice_range es before last) fault last reason
-    ≡ front h h.seats (take (not_shown (shown_last fault (length es))) es) (shown_events fault es) fault
-    (shown_last fault (length es)) reason
-shown_front h es fault reason seats before last of_seats behind at =
+    ≡ front h h.seats (take (not_shown w (last_of w fault es)) es) (shown_events w fault es) fault
+    (last_of w fault es) reason
+shown_front h es w fault reason seats before last of_seats behind at =
     ap (λ n. front h n (take before es) (slice_range es before last) fault last reason) of_seats
     ∙ (ap (λ n. front h h.seats (take n es) (slice_range es n last) fault last reason) behind
-    ∙ ap (λ n. front h h.seats (take (not_shown n) es) (slice_range es (not_shown n) n) fault n reason) at)
+    ∙ ap (λ n. front h h.seats (take (not_shown w n) es) (slice_range es (not_shown w n) n) fault n reason) at)
 
 -- a page with all but the marks, the marks behind it, and the end
-pub is_picture : (h : Heading) (es : List Event) (fault : Option ℕ) (reason : List ℕ) (seats : ℕ) (object : ObjectName)
+pub is_picture : (h : Heading) (es : List Event) (w : Option Window) (fault : Option ℕ) (reason : List ℕ) (seats : ℕ) (object : ObjectName)
     (before allowed last : ℕ) (empty under marked all : List ℕ)
-    → seats ≡ h.seats → object ≡ h.object → before ≡ not_shown last
-    → allowed ≡ allowed_of fault last (slice_range es before last) → last ≡ shown_last fault (length es)
+    → seats ≡ h.seats → object ≡ h.object → before ≡ not_shown w last
+    → allowed ≡ allowed_of fault last (slice_range es before last) → last ≡ last_of w fault es
     → empty ≡ []
     → under ≡ empty ++ front h seats (take before es) (slice_range es before last) fault last reason
     → marked ≡ under ++ marks_by es seats object before allowed last → all ≡ marked ++ codes "</svg>\n"
-    → IsPicture h es fault reason all
-is_picture h es fault reason seats object before allowed last empty under marked all of_seats of_object behind fine at nothing
+    → IsPicture h es w fault reason all
+is_picture h es w fault reason seats object before allowed last empty under marked all of_seats of_object behind fine at nothing
     first put ended =
     let under_marks = front h seats (take before es) (slice_range es before last) fault last reason in
     let whole =
-    front h h.seats (take (not_shown (shown_last fault (length es))) es) (shown_events fault es) fault
-    (shown_last fault (length es)) reason in
+    front h h.seats (take (not_shown w (last_of w fault es)) es) (shown_events w fault es) fault
+    (last_of w fault es) reason in
     ended ∙ ap (λ (page : List ℕ). page ++ codes "</svg>\n")
     (put ∙ (ap (λ (page : List ℕ). page ++ marks_by es seats object before allowed last)
     (first ∙ (ap (λ (page : List ℕ). page ++ under_marks) nothing
-    ∙ shown_front h es fault reason seats before last of_seats behind at))
+    ∙ shown_front h es w fault reason seats before last of_seats behind at))
     ∙ ap (λ (text : List ℕ). whole ++ text)
-    (same_marks h es fault seats object before allowed last of_seats of_object behind fine at)))
+    (same_marks h es w fault seats object before allowed last of_seats of_object behind fine at)))

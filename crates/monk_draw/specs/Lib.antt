@@ -1,6 +1,7 @@
 pub mod Layout
 pub mod Label
 pub mod Mark
+pub mod Asked
 pub mod Window
 pub mod Style
 pub mod Heading

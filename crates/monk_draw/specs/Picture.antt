@@ -16,9 +16,10 @@ use Rattle.monk_draw.specs.Stretches.{stretches}
 use Rattle.monk_draw.specs.Style.{style}
 use Rattle.monk_draw.specs.Surface.{background, columns_below, columns_foot, head, lanes_below, lanes_end}
 use Rattle.monk_draw.specs.Tags.{tags}
-use Rattle.monk_draw.specs.Window.{not_shown, shown_events, shown_last}
+use Rattle.monk_draw.specs.Window.{last_of, not_shown, shown_events}
 use Rattle.monk_draw.specs.declared.legend.Legend.{Legend}
 use Rattle.monk_draw.specs.declared.view.View.{View}
+use Rattle.monk_draw.specs.declared.window.Window.{Window}
 
 -- of so many events that are shown those that are allowed: all but the last, where that one is forbidden
 abbrev pub allowed_with : Option Event → ℕ → ℕ
@@ -31,24 +32,24 @@ allowed_of fault last shown = allowed_with (forbidden_event fault last shown) (l
 
 -- how a history is looked at: its seats, its object, how many events before those that are shown, and how many of these
 -- are allowed
-abbrev pub view_of : Heading → List Event → Option ℕ → View
-view_of h events fault =
-    let last = shown_last fault (length events) in
+abbrev pub view_of : Heading → List Event → Option Window → Option ℕ → View
+view_of h events w fault =
+    let last = last_of w fault events in
     record {
       seats = h.seats;
       object = h.object;
-      before = not_shown last;
-      allowed = allowed_of fault last (shown_events fault events);
+      before = not_shown w last;
+      allowed = allowed_of fault last (shown_events w fault events);
     }
 
 -- the marks of the events that are shown
-abbrev pub all_marks : Heading → List Event → Option ℕ → List ℕ
-all_marks h events fault = marks (view_of h events fault) 0 (shown_events fault events)
+abbrev pub all_marks : Heading → List Event → Option Window → Option ℕ → List ℕ
+all_marks h events w fault = marks (view_of h events w fault) 0 (shown_events w fault events)
 
 -- these bytes are a picture of the history: behind what stands under the marks come the marks, and the end
-abbrev pub HasMarks : Heading → List Event → Option ℕ → List ℕ → Type 0
-HasMarks h events fault bytes =
-    (under : List ℕ) × (bytes ≡ (under ++ all_marks h events fault) ++ codes "</svg>\n")
+abbrev pub HasMarks : Heading → List Event → Option Window → Option ℕ → List ℕ → Type 0
+HasMarks h events w fault bytes =
+    (under : List ℕ) × (bytes ≡ (under ++ all_marks h events w fault) ++ codes "</svg>\n")
 
 -- how many lanes there are: one for each seat, and one more where the event that is shown last is of no seat
 abbrev pub lanes_with : ℕ → Option Event → ℕ
@@ -80,11 +81,11 @@ front h seats past shown fault last reason =
     ++ above seats (length shown) lanes allowed reason last e (legend_of drawn allowed shown)))
 
 -- the picture: all that stands under the marks, the marks and the end
-abbrev pub picture : Heading → List Event → Option ℕ → List ℕ → List ℕ
-picture h events fault reason =
-    let last = shown_last fault (length events) in
-    (front h h.seats (take (not_shown last) events) (shown_events fault events) fault last reason
-    ++ all_marks h events fault) ++ codes "</svg>\n"
+abbrev pub picture : Heading → List Event → Option Window → Option ℕ → List ℕ → List ℕ
+picture h events w fault reason =
+    let last = last_of w fault events in
+    (front h h.seats (take (not_shown w last) events) (shown_events w fault events) fault last reason
+    ++ all_marks h events w fault) ++ codes "</svg>\n"
 
-abbrev pub IsPicture : Heading → List Event → Option ℕ → List ℕ → List ℕ → Type 0
-IsPicture h events fault reason bytes = bytes ≡ picture h events fault reason
+abbrev pub IsPicture : Heading → List Event → Option Window → Option ℕ → List ℕ → List ℕ → Type 0
+IsPicture h events w fault reason bytes = bytes ≡ picture h events w fault reason

@@ -1,22 +1,38 @@
 -- Which events of a history are shown
-use Rattle.std.specs.Prelude.{ℕ, ◌-◌, Option, Some, None, List, length, nat_lt, if◌then◌else◌}
+use Rattle.std.specs.Prelude.{ℕ, ◌-◌, Bool, false, Option, Some, None, List, length, nat_lt, if◌then◌else◌}
 use Rattle.std.specs.List.{slice_range}
 use Rattle.monk_history.specs.declared.event.Event.{Event}
+use Rattle.monk_draw.specs.declared.window.Window.{Window}
 
--- at most so many
+-- at most so many, where none are asked for
 abbrev pub most_shown : ℕ
 most_shown = 200
 
--- how many events there are up to the one that is shown last: the first that is forbidden, if one is, else the last
-abbrev pub shown_last : Option ℕ → ℕ → ℕ
+-- how many events can be shown: those up to the first that is forbidden, if one is, else all
+abbrev pub showable : Option ℕ → ℕ → ℕ
+showable None count = count
+showable (Some step) count = if nat_lt step count then step else count
+
+-- whether of so many none is asked for, though some are
+abbrev pub is_behind : Option Window → ℕ → Bool
+is_behind None count = false
+is_behind (Some w) count = nat_lt count w.from
+
+-- of so many that can be shown those up to the one that is shown last
+abbrev pub shown_last : Option Window → ℕ → ℕ
 shown_last None count = count
-shown_last (Some step) count = if nat_lt step count then step else count
+shown_last (Some w) count = if nat_lt w.to count then w.to else count
 
--- those up to it that are not shown: all but the last so many
-abbrev pub not_shown : ℕ → ℕ
-not_shown last = last - most_shown
+-- those up to it that are not shown: where none are asked for, all but the last so many
+abbrev pub not_shown : Option Window → ℕ → ℕ
+not_shown None last = last - most_shown
+not_shown (Some w) last = if nat_lt (w.from - 1) last then w.from - 1 else last
 
-abbrev pub shown_events : Option ℕ → List Event → List Event
-shown_events fault events =
-    let last = shown_last fault (length events) in
-    slice_range events (not_shown last) last
+-- the last that is shown, counted from 1
+abbrev pub last_of : Option Window → Option ℕ → List Event → ℕ
+last_of w fault events = shown_last w (showable fault (length events))
+
+abbrev pub shown_events : Option Window → Option ℕ → List Event → List Event
+shown_events w fault events =
+    let last = last_of w fault events in
+    slice_range events (not_shown w last) last

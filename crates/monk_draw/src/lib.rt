@@ -14,6 +14,7 @@ mod place;
 mod queues;
 mod scene;
 mod seats;
+mod span;
 mod stay;
 mod stretch;
 mod style;
@@ -21,6 +22,9 @@ mod surface;
 mod tags;
 mod view;
 mod window;
+mod window_fault;
 
 pub use picture::draw;
-pub use window::MOST_SHOWN;
+pub use span::{MOST_SHOWN, Span, is_behind, showable};
+pub use window::Window;
+pub use window_fault::WindowFault;

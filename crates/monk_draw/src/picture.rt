@@ -12,11 +12,12 @@ use crate::heading::put_heading;
 use crate::legend::{Legend, put_legend};
 use crate::mark::put_marks;
 use crate::scene::put_stretches;
+use crate::span::{Span, showable};
 use crate::style::put_style;
 use crate::surface::{Surface, put_background};
 use crate::tags::put_tags;
 use crate::view::View;
-use crate::window::{not_shown, shown_last};
+use crate::window::Window;
 use monk_history::{Event, Header};
 use std::alloc::{AllocError, Global};
 
@@ -162,8 +163,8 @@ fn put_front(
 /// The picture of a history as an SVG text: a lane for each seat, a column for each event, to the right.
 ///
 /// `forbidden` is the step, counted from 1, of the first event that is not allowed, and `reason` a word for why; what comes
-/// behind it is not shown. Of a longer history the last [`MOST_SHOWN`](crate::MOST_SHOWN) events up to that one, or up to the end,
-/// are shown.
+/// behind it is not shown. Of the events up to that one, or up to the end, those of the window are shown; without a window the
+/// last [`MOST_SHOWN`](crate::MOST_SHOWN). Where the window begins behind them ([`is_behind`](crate::is_behind)), none is.
 ///
 /// # Errors
 ///
@@ -171,23 +172,24 @@ fn put_front(
 ///
 /// # Cost
 ///
-/// One pass over the events, and one over the seats for each that is shown. Memory for the picture, at most some 200 kB, and
-/// some 7 kB for where the seats stand. The same of a history that isn't legal, where no seat waits twice before it goes on.
+/// One pass over the events up to the last that is shown, and one over the seats for each that is shown. Memory for the picture,
+/// some 1 kB for each event that is shown, and some 7 kB for where the seats stand. The same of a history that isn't legal, where
+/// no seat waits twice before it goes on.
 pub fn draw(
     alloc: Global,
     header: &Header,
     events: &[Event],
+    window: Option<Window>,
     forbidden: Option<u32>,
     reason: &str,
 ) -> Result<String, AllocError>
     requires few { length events.now ≤ most_lines }
     // Behind everything else stand the marks of the events that are shown, in order, and the end.
-    ensures marks { IfOk result (λ page. HasMarks header.now events.now forbidden (string_bytes page)) }
+    ensures marks { IfOk result (λ page. HasMarks header.now events.now window forbidden (string_bytes page)) }
     // Byte for byte the picture is its definition.
-    ensures picture { IfOk result (λ page. IsPicture header.now events.now forbidden reason.now (string_bytes page)) }
+    ensures picture { IfOk result (λ page. IsPicture header.now events.now window forbidden reason.now (string_bytes page)) }
 {
-    let last = shown_last(forbidden, events.len());
-    let before = not_shown(last);
+    let Span { before, last } = Span::of(window, showable(forbidden, events.len()));
     let shown = &events[before..last];
     let view = View {
         seats: seats_of(header),

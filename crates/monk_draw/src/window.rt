@@ -1,26 +1,93 @@
-//! Which events are shown.
+//! Which events are asked for.
 
-ghost use Rattle.std.specs.Prelude.{◌≡◌, ◌≤◌};
-ghost use Rattle.monk_draw.specs.Window.{not_shown, shown_last};
+ghost use Rattle.std.specs.Prelude.{◌≡◌, ◌+◌, ◌<◌, ◌≤◌, Some, IfOk, IfErr, IsSomeAnd, option_map};
+ghost use Rattle.monk_draw.specs.Asked.{most_asked, numbers_meant, window_fault};
 
-/// The most events that are shown.
-pub const MOST_SHOWN: usize = 200;
+use crate::window_fault::WindowFault;
 
-/// How many of so many events there are up to the one that is shown last: the one that is forbidden, if one is.
-pub(crate) fn shown_last(forbidden: Option<u32>, count: usize) -> usize
-    ensures last { result ≡ shown_last forbidden count }
-    ensures some { result ≤ count }
-{
-    match forbidden {
-        Some(step) if (step as usize) < count => step as usize,
-        _ => count,
+/// The events of a history from one number to another, which count from 1: at most [`Window::MOST`].
+#[derive(Clone, Copy, Debug)]
+pub struct Window {
+    from: usize,
+    to: usize,
+    ghost counted: { 0 < from },
+    ghost ordered: { from ≤ to },
+    ghost few: { to < from + most_asked },
+}
+
+impl Window {
+    ghost use Rattle.monk_draw.specs.declared.window.Window.{Window};
+
+    /// The most events that can be asked for.
+    pub const MOST: usize = 2000;
+
+    /// The events from one number to another.
+    ///
+    /// # Errors
+    ///
+    /// [`WindowFault::Zero`] where a number is 0, [`WindowFault::Backward`] where the first is above the last, and
+    /// [`WindowFault::Wide`] where they are more than [`Window::MOST`] events.
+    pub fn between(from: usize, to: usize) -> Result<Window, WindowFault>
+        ensures numbers { IfOk result (λ w. (w.from ≡ from) × (w.to ≡ to)) }
+        ensures fault { IfErr result (λ f. window_fault from to ≡ Some f) }
+    {
+        if from == 0 || to == 0 {
+            return Err(WindowFault::Zero);
+        }
+        if to < from {
+            return Err(WindowFault::Backward { from, to });
+        }
+        if Window::MOST <= to - from {
+            return Err(WindowFault::Wide { from, to });
+        }
+        Ok(Window { from, to })
+    }
+
+    /// The events that a command line asks for, which may tell either number alone, and `None` where it tells none: with `from`
+    /// alone the first [`Window::MOST`] events from there on, with `to` alone the last so many up to there.
+    ///
+    /// # Errors
+    ///
+    /// Those of [`Window::between`].
+    pub fn asked(from: Option<u32>, to: Option<u32>) -> Result<Option<Window>, WindowFault>
+        ensures numbers { IfOk result (λ asked. option_map (λ (w : Window). (w.from, w.to)) asked ≡ numbers_meant from to) }
+        ensures fault { IfErr result (λ f. IsSomeAnd (numbers_meant from to) (λ n. window_fault n.0 n.1 ≡ Some f)) }
+    {
+        match numbers_meant(from, to) {
+            Some((from, to)) => Ok(Some(Window::between(from, to)?)),
+            None => Ok(None),
+        }
+    }
+
+    /// The number of the first event, from 1.
+    pub fn from(self) -> usize
+        ensures { result ≡ self.from }
+    {
+        self.from
+    }
+
+    /// The number of the last event.
+    pub fn to(self) -> usize
+        ensures { result ≡ self.to }
+    {
+        self.to
     }
 }
 
-/// How many of those are not shown.
-pub(crate) fn not_shown(last: usize) -> usize
-    ensures before { result ≡ not_shown last }
-    ensures some { result ≤ last }
+/// The numbers that are meant, where one may be left out.
+fn numbers_meant(from: Option<u32>, to: Option<u32>) -> Option<(usize, usize)>
+    ensures { result ≡ numbers_meant from to }
 {
-    last.saturating_sub(MOST_SHOWN)
+    match (from, to) {
+        (None, None) => None,
+        (None, Some(to)) => {
+            let to = to as usize;
+            Some((to.saturating_sub(Window::MOST) + 1, to))
+        }
+        (Some(from), None) => {
+            let from = from as usize;
+            Some((from, from + Window::MOST - 1))
+        }
+        (Some(from), Some(to)) => Some((from as usize, to as usize)),
+    }
 }

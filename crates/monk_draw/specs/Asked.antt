@@ -1,0 +1,33 @@
+-- Which numbers ask for events of a history, which count from 1
+use Rattle.std.specs.Prelude.{ℕ, ◌+◌, ◌-◌, ◌==◌, Option, Some, None, List, ◌++◌, nat_lt, if◌then◌else◌, codes}
+use Rattle.std.specs.Fmt.{decimal}
+use Rattle.monk_draw.specs.declared.window_fault.WindowFault.{WindowFault}
+use Rattle.monk_draw.specs.declared.window_fault.WindowFault.TheVariants.{Zero, Backward, Wide}
+
+-- at most so many events can be asked for
+abbrev pub most_asked : ℕ
+most_asked = 2000
+
+-- the first and the last that are meant: where only one is told, as many events as can be asked for; where none is, none
+abbrev pub numbers_meant : Option ℕ → Option ℕ → Option (ℕ × ℕ)
+numbers_meant None None = None
+numbers_meant None (Some to) = Some (to - most_asked + 1, to)
+numbers_meant (Some from) None = Some (from, from + most_asked - 1)
+numbers_meant (Some from) (Some to) = Some (from, to)
+
+-- why there are no events to show from the first of these numbers to the second, if that is so
+abbrev pub window_fault : ℕ → ℕ → Option WindowFault
+window_fault from to =
+    if from == 0 then Some Zero
+    else if to == 0 then Some Zero
+    else if nat_lt to from then Some (Backward from to)
+    else if nat_lt to (from + most_asked) then None
+    else Some (Wide from to)
+
+-- what is said of it
+abbrev pub fault_text : WindowFault → List ℕ
+fault_text Zero = codes "0 is no event: they count from 1"
+fault_text (Backward from to) =
+    codes "from " ++ (decimal from ++ (codes " to " ++ (decimal to ++ codes ": the first is above the last")))
+fault_text (Wide from to) =
+    codes "from " ++ (decimal from ++ (codes " to " ++ (decimal to ++ codes ": more than 2000 events")))
