@@ -1,0 +1,46 @@
+-- The data of a page, in JSON
+use Rattle.std.specs.Prelude.{ℕ, List, length, codes, nat_le, nat_lt, ◌&&◌, if◌then◌else◌}
+use Rattle.std.specs.Option.{option_map_or}
+use Rattle.monk_kinds.specs.Names.{kind_word, rules_named}
+use Rattle.monk_object.specs.Names.{object_word}
+use Rattle.monk_audit.specs.Words.{verdict_text}
+use Rattle.monk_history.specs.Text.{Heading}
+use Rattle.monk_history.specs.declared.event.Event.{Event}
+use Rattle.monk_tell.specs.Steps.{steps_between}
+use Rattle.monk_tell.specs.Told.{Account, Blamed, account}
+use Rattle.monk_tell.specs.Words.{mode_word, ranks_text}
+use Rattle.serde_json.specs.Data.{Data, null, string, object, member, no_members}
+use Rattle.monk_page.specs.Blame.{blame_json}
+use Rattle.monk_page.specs.Json.{list_json, number_json}
+use Rattle.monk_page.specs.Kinds.{kinds_json}
+use Rattle.monk_page.specs.Step.{step_json}
+
+-- what is wrong with the forbidden event, if it is one of those behind so many events and up to the last that is shown
+abbrev pub shown_blame_json : ℕ → ℕ → Blamed → Data
+shown_blame_json before last b = if nat_lt before b.step && nat_le b.step last then blame_json b else null
+
+abbrev pub forbidden_json : ℕ → ℕ → Account → Data
+forbidden_json before last a = option_map_or (shown_blame_json before last) a.blame null
+
+abbrev pub steps_json : Heading → List Event → ℕ → ℕ → Data
+steps_json h es before last = list_json (step_json h.object) (steps_between h es before last)
+
+-- what is shown of a history: the events behind so many up to the last, and how the whole is judged
+abbrev pub page_json : Heading → List Event → ℕ → ℕ → Data
+page_json h es before last =
+    let a = account h es in
+    object (member (codes "before") (number_json before)
+    (member (codes "conditions") (number_json h.conds)
+    (member (codes "events") (number_json (length es))
+    (member (codes "forbidden") (forbidden_json before last a)
+    (member (codes "kind") (string (kind_word h.kind))
+    (member (codes "kinds") (kinds_json h es)
+    (member (codes "mode") (string (mode_word (rules_named h.kind).mode))
+    (member (codes "object") (string (object_word h.object))
+    (member (codes "page") (number_json 1)
+    (member (codes "ranks") (string (ranks_text (rules_named h.kind)))
+    (member (codes "seats") (number_json h.seats)
+    (member (codes "size") (number_json h.size)
+    (member (codes "steps") (steps_json h es before last)
+    (member (codes "verdict") (string (verdict_text a.verdict))
+    (member (codes "version") (number_json h.version) no_members)))))))))))))))
