@@ -1,10 +1,9 @@
 //! The same events under each kind.
 
-ghost use Rattle.std.specs.Prelude.{◌≡◌, ◌≤◌, ◌^◌, List, IfOk, length};
-ghost use Rattle.monk_history.specs.declared.event.Event.{Event};
-ghost use Rattle.monk_tell.specs.Told.{account, telling_of};
+ghost use Rattle.std.specs.Prelude.{◌≡◌, ◌≤◌, ◌^◌, IfOk, length};
+ghost use Rattle.monk_tell.specs.Told.{telling_of};
 ghost use Rattle.serde_json.specs.View.{view};
-ghost use Rattle.monk_page.specs.Kinds.{kind_json, kinds_json, of_kind, verdict_json};
+ghost use Rattle.monk_page.specs.Kinds.{kind_json, kinds_json, under, verdict_json};
 
 use crate::words::kind_word;
 use monk_audit::AuditFault;
@@ -14,12 +13,15 @@ use monk_tell::{Telling, tell};
 use serde_json::{Value, json};
 use std::alloc::{AllocError, Global};
 
-/// The header of that kind that is the same in all else that is judged.
-pub(crate) fn of_kind(header: &Header, kind: KindName) -> Header
-    ensures { (events : List Event) → account result events ≡ account (of_kind header.now kind) events }
+/// The header with another kind.
+pub(crate) fn under(header: &Header, kind: KindName) -> Header
+    ensures { result ≡ under kind header.now }
 {
-    let (seats, conds, object) = (header.seats(), header.conds(), header.object());
-    Header::new(kind, seats, conds, object, header.size()).unwrap_or(*header)
+    let (seats, conds) = (header.seats(), header.conds());
+    match Header::new(kind, seats, conds, header.object(), header.size()) {
+        Some(header) => header,
+        None => unreachable!(),
+    }
 }
 
 /// The verdict on a monitor of that kind, and why an event is forbidden.
@@ -35,7 +37,7 @@ fn verdict(alloc: Global, kind: KindName, telling: &Telling) -> Result<Value, Al
 }
 
 /// What an audit of the events finds if the monitor is of that kind.
-fn under(
+fn kind_value(
     alloc: Global,
     header: &Header,
     events: &[Event],
@@ -44,7 +46,7 @@ fn under(
     requires { length events.now ≤ 2 ^ 25 }
     ensures { IfOk result (λ v. view v ≡ kind_json header.now events.now kind) }
 {
-    let telling = tell(alloc, &of_kind(header, kind), events)?;
+    let telling = tell(alloc, &under(header, kind), events)?;
     Ok(verdict(alloc, kind, &telling)?)
 }
 
@@ -54,8 +56,8 @@ pub(crate) fn kinds(alloc: Global, header: &Header, events: &[Event]) -> Result<
     ensures { IfOk result (λ v. view v ≡ kinds_json header.now events.now) }
 {
     let mut values = Vec::new(alloc);
-    for kind in KindName::ALL {
-        values.push(under(alloc, header, events, kind)?)?;
+    for kind in KindName::ALL.iter() {
+        values.push(kind_value(alloc, header, events, *kind)?)?;
     }
     Ok(Value::Array(values))
 }
