@@ -1,1 +1,2 @@
 mod PlainLaws
+mod PageLaws

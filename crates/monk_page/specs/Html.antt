@@ -31,8 +31,11 @@ window_json h es w =
     let last = last_of w (forbidden_step h es) es in
     page_json h es (not_shown w last) last
 
+-- a picture and data as a page
+abbrev pub page_around : List ℕ → List ℕ → List ℕ
+page_around drawn data_text = front ++ (drawn ++ (middle ++ (data_text ++ finish)))
+
 -- the page of those events; the picture says that reason
 abbrev pub page_text : Heading → List Event → Option Window → List ℕ → List ℕ
 page_text h es w reason =
-    front ++ (picture h es w (forbidden_step h es) reason
-    ++ (middle ++ (compact_text (window_json h es w) ++ finish)))
+    page_around (picture h es w (forbidden_step h es) reason) (compact_text (window_json h es w))

@@ -4,9 +4,9 @@ use Rattle.monk_history.specs.declared.event.Event.{Event}
 use Rattle.monk_object.specs.InWords.{state_in_words}
 use Rattle.monk_object.specs.declared.name.ObjectName.{ObjectName}
 use Rattle.monk_tell.specs.Steps.{ShownStep}
-use Rattle.monk_tell.specs.Told.{ShownQueues}
+use Rattle.monk_tell.specs.Told.{ShownQueues, ShownStanding}
 use Rattle.monk_tell.specs.Words.{event_text, turn_text}
-use Rattle.serde_json.specs.Data.{Data, string, object, member, no_members}
+use Rattle.serde_json.specs.Data.{Data, string, object, Members, no_members, put}
 use Rattle.monk_page.specs.Choice.{choice_json}
 use Rattle.monk_page.specs.Json.{list_json, number_json, numbers_json, option_json, pair_json}
 
@@ -34,19 +34,21 @@ untils_json q = option_json (λ u. list_json wait_json u.untils) q.automatic
 abbrev pub ready_json : ShownQueues → Data
 ready_json q = option_json (λ u. numbers_json u.ready) q.automatic
 
+abbrev pub with_queues : ShownQueues → Members → Members
+with_queues q ms =
+    put (codes "conditions") (conditions_json q) (put (codes "ready") (ready_json q)
+    (put (codes "signaller") (signallers_json q) (put (codes "until") (untils_json q)
+    (put (codes "waiter") (waiters_json q) ms))))
+
 -- ---- all
 
--- of a monitor over the object of that name
+-- how a monitor stands over the object of that name
+abbrev pub with_standing : ObjectName → ShownStanding → Members → Members
+with_standing o s ms =
+    with_queues s.queues (put (codes "turn") (string (turn_text s.turn)) (put (codes "state") (numbers_json s.state)
+    (put (codes "inside") (numbers_json s.inside) (put (codes "data") (string (state_in_words o s.state)) ms))))
+
 abbrev pub step_json : ObjectName → ShownStep → Data
 step_json o s =
-    object (member (codes "choice") (option_json choice_json s.choice)
-    (member (codes "conditions") (conditions_json s.standing.queues)
-    (member (codes "data") (string (state_in_words o s.standing.state))
-    (member (codes "event") (option_json event_json s.event)
-    (member (codes "inside") (numbers_json s.standing.inside)
-    (member (codes "ready") (ready_json s.standing.queues)
-    (member (codes "signaller") (signallers_json s.standing.queues)
-    (member (codes "state") (numbers_json s.standing.state)
-    (member (codes "turn") (string (turn_text s.standing.turn))
-    (member (codes "until") (untils_json s.standing.queues)
-    (member (codes "waiter") (waiters_json s.standing.queues) no_members)))))))))))
+    object (with_standing o s.standing (put (codes "event") (option_json event_json s.event)
+    (put (codes "choice") (option_json choice_json s.choice) no_members)))

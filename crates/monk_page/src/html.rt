@@ -1,18 +1,19 @@
 //! A history's page.
 
-ghost use Rattle.std.specs.Prelude.{◌≡◌, ◌≤◌, ◌<◌, ◌^◌, Some, IfOk, OnOk, IsErrOf, length, string_bytes};
+ghost use Rattle.std.specs.Prelude.{◌≡◌, ◌≤◌, ◌<◌, ◌^◌, Some, IfOk, OnOk, IsErrOf, length, option_map, string_bytes};
 ghost use Rattle.monk_object.specs.Names.{most};
+ghost use Rattle.monk_tell.specs.Told.{telling_of};
 ghost use Rattle.serde_json.specs.Read.{read};
 ghost use Rattle.serde_json.specs.Written.{compact_text};
-ghost use Rattle.monk_page.specs.Html.{finish, front, middle, page_text, window_json};
+ghost use Rattle.monk_page.specs.Html.{finish, front, middle, page_around, page_text, window_json};
 
 use crate::page_data::data_text;
 use crate::template::{END, FRONT, MIDDLE};
 use monk_audit::AuditFault;
 use monk_draw::{Span, Window, draw, showable};
 use monk_history::{Event, Header};
-use monk_tell::tell;
-use std::alloc::Global;
+use monk_tell::{Telling, tell};
+use std::alloc::{AllocError, Global};
 
 #[tactic(auto, unfolding(crate::specs::Html::front))]
 fn front() -> &'static str
@@ -33,6 +34,29 @@ fn finish() -> &'static str
     ensures { result.now ≡ finish }
 {
     END
+}
+
+/// A picture and data as a page.
+fn page_around(alloc: Global, picture: &str, data: &str) -> Result<String, AllocError>
+    ensures { IfOk result (λ page. string_bytes page ≡ page_around picture.now data.now) }
+{
+    let mut page = String::new(alloc);
+    page.push_str(front())?;
+    page.push_str(picture)?;
+    page.push_str(middle())?;
+    page.push_str(data)?;
+    page.push_str(finish())?;
+    Ok(page)
+}
+
+/// The step that is forbidden, if one is.
+fn forbidden_step(telling: &Telling) -> Option<u32>
+    ensures { result ≡ option_map (λ b. b.step) (telling_of telling.now).blame }
+{
+    match &telling.blame {
+        Some(blame) => Some(blame.step),
+        None => None,
+    }
 }
 
 /// The page of a history, as one HTML text: a picture, and the data of each step that is shown, which its script reads.
@@ -66,15 +90,9 @@ pub fn page(
     ensures too_big { most header.now.object < header.now.size → IsErrOf result AuditFault.Object }
 {
     let telling = tell(alloc, header, events)?;
-    let forbidden = telling.blame.as_ref().map(|blame| blame.step);
+    let forbidden = forbidden_step(&telling);
     let span = Span::of(window, showable(forbidden, events.len()));
     let data = data_text(alloc, header, events, &telling, span)?;
     let picture = draw(alloc, header, events, window, forbidden, reason)?;
-    let mut page = String::new(alloc);
-    page.push_str(front())?;
-    page.push_str(picture.as_str())?;
-    page.push_str(middle())?;
-    page.push_str(data.as_str())?;
-    page.push_str(finish())?;
-    Ok(page)
+    Ok(page_around(alloc, picture.as_str(), data.as_str())?)
 }

@@ -1,6 +1,7 @@
 //! The same events under each kind.
 
-ghost use Rattle.std.specs.Prelude.{◌≡◌, ◌≤◌, ◌^◌, IfOk, length};
+ghost use Rattle.std.specs.Prelude.{◌≡◌, ◌≤◌, ◌<◌, ◌^◌, IfOk, IsErrOf, length};
+ghost use Rattle.monk_object.specs.Names.{most};
 ghost use Rattle.monk_tell.specs.Told.{telling_of};
 ghost use Rattle.serde_json.specs.View.{view};
 ghost use Rattle.monk_page.specs.Kinds.{kind_json, kinds_json, under, verdict_json};
@@ -44,7 +45,8 @@ fn kind_value(
     kind: KindName,
 ) -> Result<Value, AuditFault>
     requires { length events.now ≤ 2 ^ 25 }
-    ensures { IfOk result (λ v. view v ≡ kind_json header.now events.now kind) }
+    ensures json { IfOk result (λ v. view v ≡ kind_json header.now events.now kind) }
+    ensures object { IsErrOf result AuditFault.Object → most header.now.object < header.now.size }
 {
     let telling = tell(alloc, &under(header, kind), events)?;
     Ok(verdict(alloc, kind, &telling)?)
@@ -53,11 +55,13 @@ fn kind_value(
 /// The values of all kinds.
 pub(crate) fn kinds(alloc: Global, header: &Header, events: &[Event]) -> Result<Value, AuditFault>
     requires { length events.now ≤ 2 ^ 25 }
-    ensures { IfOk result (λ v. view v ≡ kinds_json header.now events.now) }
+    ensures json { IfOk result (λ v. view v ≡ kinds_json header.now events.now) }
+    ensures object { IsErrOf result AuditFault.Object → most header.now.object < header.now.size }
 {
     let mut values = Vec::new(alloc);
     for kind in KindName::ALL.iter() {
-        values.push(kind_value(alloc, header, events, *kind)?)?;
+        let value = kind_value(alloc, header, events, *kind)?;
+        serde_json::push(&mut values, value)?;
     }
     Ok(Value::Array(values))
 }

@@ -1,10 +1,11 @@
-//! Lists of numbers.
+//! Lists of numbers and of seats.
 
-ghost use Rattle.monk_page.specs.Json.{numbers_json};
+ghost use Rattle.monk_tell.specs.Told.{condition_lists};
+ghost use Rattle.monk_page.specs.Json.{list_json, numbers_json};
 ghost use Rattle.monk_page.specs.Step.{wait_json};
 
 use crate::in_json::{InJson, list};
-use monk_tell::{Numbers, Seats};
+use monk_tell::{Conditions, Numbers, Seats};
 use serde_json::{Value, json};
 use std::alloc::{AllocError, Global};
 
@@ -19,6 +20,15 @@ impl InJson for Seats {
 impl InJson for Numbers {
     ghost json = { λ n. numbers_json n.0.items };
 
+    fn value(&self, alloc: Global) -> Result<Value, AllocError> {
+        list(alloc, &self.0)
+    }
+}
+
+impl InJson for Conditions {
+    ghost json = { λ c. list_json numbers_json (condition_lists c) };
+
+    #[tactic(auto, using(crate::proofs::PageLaws::conditions_told))]
     fn value(&self, alloc: Global) -> Result<Value, AllocError> {
         list(alloc, &self.0)
     }

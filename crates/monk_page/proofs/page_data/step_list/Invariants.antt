@@ -6,4 +6,4 @@ use Rattle.monk_page.proofs.page_data.step_list.Given as goal
 
 -- the values of the steps so far
 abbrev pub invariant-loop-each : goal.invariant-loop-each
-invariant-loop-each l = map view l.values.items ≡ map (step_json l.object) (map step_of (take l.each-index l.steps))
+invariant-loop-each l = map view l.values.items ≡ map (λ s. step_json l.object (step_of s)) (take l.each-index l.steps)
