@@ -1,5 +1,6 @@
 -- What makes a page of its parts
 use Rattle.std.proofs.Common.{◌≡◌, ◌≤◌, ℕ, false, List, [], ◌∷◌, Some, map, ap, arith, refl, sym, ◌∙◌}
+use Rattle.std.proofs.Common.{Global, String, rules, string_bytes}
 use Rattle.monk_history.specs.Text.{Heading}
 use Rattle.monk_history.specs.declared.event.Event.{Event}
 use Rattle.monk_object.specs.declared.name.ObjectName.{ObjectName}
@@ -7,14 +8,19 @@ use Rattle.monk_tell.specs.Steps.{ShownStep, step_of}
 use Rattle.monk_tell.specs.Told.{condition_lists}
 use Rattle.monk_tell.specs.declared.queues.Conditions.{Conditions}
 use Rattle.monk_tell.specs.declared.step.Step.{Step}
-use Rattle.serde_json.specs.Data.{Data, array, depth}
+use Rattle.serde_json.specs.Data.{Data, array, depth, string}
 use Rattle.serde_json.specs.Read.{max_depth, read}
-use Rattle.serde_json.specs.View.{items_of}
+use Rattle.serde_json.specs.View.{items_of, view}
 use Rattle.serde_json.specs.Written.{compact_text, has_float}
+use Rattle.serde_json.specs.declared.value.Value.{String as Text, the_lemmas}
 use Rattle.monk_page.specs.Json.{list_json, numbers_json}
 use Rattle.monk_page.specs.Page.{page_json}
 use Rattle.monk_page.specs.Step.{step_json}
 use Rattle.monk_page.proofs.PlainLaws.{page_plain}
+
+-- the value of a text
+pub text_view : (s : String Global) → view (Text s) ≡ string (string_bytes s)
+text_view s = search (rules, the_lemmas)
 
 items_through : {X Y : Type 0} (f : Y → Data) (g : X → Y) (xs : List X) → items_of (map (λ x. f (g x)) xs) ≡ items_of (map f (map g xs))
 items_through f g [] = refl

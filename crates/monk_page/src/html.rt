@@ -37,14 +37,14 @@ fn finish() -> &'static str
 }
 
 /// A picture and data as a page.
-fn page_around(alloc: Global, picture: &str, data: &str) -> Result<String, AllocError>
-    ensures { IfOk result (λ page. string_bytes page ≡ page_around picture.now data.now) }
+fn page_around(alloc: Global, picture: &str, json: &str) -> Result<String, AllocError>
+    ensures { IfOk result (λ page. string_bytes page ≡ page_around picture.now json.now) }
 {
     let mut page = String::new(alloc);
     page.push_str(front())?;
     page.push_str(picture)?;
     page.push_str(middle())?;
-    page.push_str(data)?;
+    page.push_str(json)?;
     page.push_str(finish())?;
     Ok(page)
 }

@@ -161,7 +161,6 @@ fn page_data(
 }
 
 /// The same as a text, from which it can be read.
-#[tactic(auto, using(crate::proofs::PageLaws::data_is_text, crate::proofs::PageLaws::data_reads_back))]
 pub(crate) fn data_text(
     alloc: Global,
     header: &Header,
