@@ -110,3 +110,21 @@ fn size_is_too_big_for_a_page(rt: HostRuntime) -> Result<(), Fail> {
     assert!(rt; matches!(paged, Err(AuditFault::Object)));
     Ok(())
 }
+
+/// The widest window has a step for each of its events, and one before them.
+#[test]
+fn widest_window_has_each_step(rt: HostRuntime) -> Result<(), Fail> {
+    let alloc = rt.alloc();
+    let mut text = String::from_str(alloc, "monk 1 PB 2 2 buffer 1\n")?;
+    for _ in 0..1000 {
+        text.push_str("enter 0 free\nleave 0 entry\n")?;
+    }
+    let (header, events) = read(alloc, text.as_bytes())?;
+    if events.len() > 1 << 25 {
+        return Err("too many events")?;
+    }
+    let window = Window::asked(Some(1), Some(2000))?;
+    let page = page(alloc, &header, &events, window, "")?;
+    assert_eq!(rt; page.as_str().split("\"turn\":").count(), 2002);
+    Ok(())
+}
