@@ -22,14 +22,16 @@ use Rattle.monk_page.proofs.PlainLaws.{page_plain}
 pub text_view : (s : String Global) → view (Text s) ≡ string (string_bytes s)
 text_view s = search (rules, the_lemmas)
 
-items_through : {X Y : Type 0} (f : Y → Data) (g : X → Y) (xs : List X) → items_of (map (λ x. f (g x)) xs) ≡ items_of (map f (map g xs))
+items_through : {X Y : Type 0} (f : Y → Data) (g : X → Y) (xs : List X)
+    → items_of (map (λ x. f (g x)) xs) ≡ items_of (map f (map g xs))
 items_through f g [] = refl
 items_through f g (x ∷ xs) = rw (items_through f g xs) refl
 
 -- the values of steps are those of what they hold
 pub steps_told : (o : ObjectName) (xs : List Step) (told : List ShownStep) (d : Data)
     → map step_of xs ≡ told → d ≡ list_json (λ s. step_json o (step_of s)) xs → d ≡ list_json (step_json o) told
-steps_told o xs told d are e = e ∙ (ap array (items_through (step_json o) step_of xs) ∙ ap (list_json (step_json o)) are)
+steps_told o xs told d are e = e
+    ∙ (ap array (items_through (step_json o) step_of xs) ∙ ap (list_json (step_json o)) are)
 
 -- those of the conditions are those of their seats
 pub conditions_told : (c : Conditions) (d : Data) → d ≡ list_json (λ s. numbers_json s.0.items) c.0.items
@@ -37,15 +39,18 @@ pub conditions_told : (c : Conditions) (d : Data) → d ≡ list_json (λ s. num
 conditions_told c d e = e ∙ ap array (items_through numbers_json (λ s. s.0.items) c.0.items)
 
 -- the text of a page's data
-pub data_is_text : (h : Heading) (es : List Event) (before last : ℕ) (d : Data) (bytes : List ℕ) → d ≡ page_json h es before last
+pub data_is_text : (h : Heading) (es : List Event) (before last : ℕ) (d : Data) (bytes : List ℕ)
+    → d ≡ page_json h es before last
     → (has_float d ≡ false → bytes ≡ compact_text d) → bytes ≡ compact_text (page_json h es before last)
 data_is_text h es before last d bytes e writes =
     writes (ap has_float e ∙ (page_plain h es before last).no_float) ∙ ap compact_text e
 
-shallow : (h : Heading) (es : List Event) (before last : ℕ) (d : Data) → d ≡ page_json h es before last → depth d ≤ max_depth
+shallow : (h : Heading) (es : List Event) (before last : ℕ) (d : Data) → d ≡ page_json h es before last
+    → depth d ≤ max_depth
 shallow h es before last d e = omega (arith, ap depth e, (page_plain h es before last).shallow)
 
-pub data_reads_back : (h : Heading) (es : List Event) (before last : ℕ) (d : Data) (bytes : List ℕ) → d ≡ page_json h es before last
+pub data_reads_back : (h : Heading) (es : List Event) (before last : ℕ) (d : Data) (bytes : List ℕ)
+    → d ≡ page_json h es before last
     → (has_float d ≡ false → bytes ≡ compact_text d) → (depth d ≤ max_depth → read bytes ≡ Some d)
     → read (compact_text (page_json h es before last)) ≡ Some (page_json h es before last)
 data_reads_back h es before last d bytes e writes reads =

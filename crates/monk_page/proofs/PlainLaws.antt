@@ -93,22 +93,26 @@ with_member n k d (member l e ms) p q =
 within : (n : ℕ) (ms : Members) → ArePlain n ms → IsPlain (suc n) (object ms)
 within n ms q = record { no_float = q.no_floats; shallow = omega (arith, q.all_shallow) }
 
-items_plain : {X : Type 0} (n : ℕ) (f : X → Data) → ((x : X) → IsPlain n (f x)) → (xs : List X) → ItemsPlain n (items_of (map f xs))
+items_plain : {X : Type 0} (n : ℕ) (f : X → Data) → ((x : X) → IsPlain n (f x)) → (xs : List X)
+    → ItemsPlain n (items_of (map f xs))
 items_plain n f h [] = record { none_floats = refl; none_deep = omega arith }
 items_plain n f h (x ∷ xs) =
     let first = h x in
     let others = items_plain n f h xs in
     record {
-      none_floats = or_from (has_float (f x)) (items_have_float (items_of (map f xs))) first.no_float others.none_floats;
+      none_floats =
+          or_from (has_float (f x)) (items_have_float (items_of (map f xs))) first.no_float others.none_floats;
       none_deep = omega (arith, first.shallow, others.none_deep);
     }
 
-list_plain : {X : Type 0} (n : ℕ) (f : X → Data) → ((x : X) → IsPlain n (f x)) → (xs : List X) → IsPlain (suc n) (list_json f xs)
+list_plain : {X : Type 0} (n : ℕ) (f : X → Data) → ((x : X) → IsPlain n (f x)) → (xs : List X)
+    → IsPlain (suc n) (list_json f xs)
 list_plain n f h xs =
     let all = items_plain n f h xs in
     record { no_float = all.none_floats; shallow = omega (arith, all.none_deep) }
 
-option_plain : {X : Type 0} (n : ℕ) (f : X → Data) → ((x : X) → IsPlain n (f x)) → (o : Option X) → IsPlain n (option_json f o)
+option_plain : {X : Type 0} (n : ℕ) (f : X → Data) → ((x : X) → IsPlain n (f x)) → (o : Option X)
+    → IsPlain n (option_json f o)
 option_plain n f h None = null_plain n
 option_plain n f h (Some x) = h x
 
@@ -128,7 +132,8 @@ if_plain n false d p = null_plain n
 -- ---- the parts of a page
 
 front_plain : (n : ℕ) (f : From3 × ℕ) → IsPlain (suc n) (front_json f)
-front_plain n f = pair_plain n (string (from_word f.0)) (number_json f.1) (string_plain n (from_word f.0)) (number_plain n f.1)
+front_plain n f =
+    pair_plain n (string (from_word f.0)) (number_json f.1) (string_plain n (from_word f.0)) (number_plain n f.1)
 
 next_plain : (n : ℕ) (x : Next) → IsPlain n (next_json x)
 next_plain n x = string_plain n (next_text x)
@@ -137,8 +142,10 @@ choice_plain : (n : ℕ) (c : Chosen) → IsPlain (suc (suc (suc n))) (choice_js
 choice_plain n c =
     let fronts = list_plain (suc n) front_json (front_plain n) c.fronts in
     let may = list_plain (suc n) next_json (next_plain (suc n)) c.may in
-    within (suc (suc n)) (member (codes "fronts") (list_json front_json c.fronts) (member (codes "may") (list_json next_json c.may) no_members))
-    (beside (suc (suc n)) (codes "fronts") (list_json front_json c.fronts) (member (codes "may") (list_json next_json c.may) no_members) fronts
+    within (suc (suc n)) (member (codes "fronts") (list_json front_json c.fronts)
+    (member (codes "may") (list_json next_json c.may) no_members))
+    (beside (suc (suc n)) (codes "fronts") (list_json front_json c.fronts)
+    (member (codes "may") (list_json next_json c.may) no_members) fronts
     (beside (suc (suc n)) (codes "may") (list_json next_json c.may) no_members may (alone (suc (suc n)))))
 
 event_plain : (n : ℕ) (e : Event) → IsPlain n (event_json e)
@@ -206,7 +213,8 @@ verdict_plain : (k : KindName) (a : Account) → IsPlain 4 (verdict_json k a)
 verdict_plain k a =
     within 3 _ (beside 3 (codes "kind") _ _ (string_plain 3 (kind_word k))
     (beside 3 (codes "verdict") _ _ (string_plain 3 (verdict_text a.verdict))
-    (beside 3 (codes "why") _ _ (option_plain 3 (λ b. string (why_text b.why)) (λ b. string_plain 3 (why_text b.why)) a.blame)
+    (beside 3 (codes "why") _ _ (option_plain 3 (λ b. string (why_text b.why))
+    (λ b. string_plain 3 (why_text b.why)) a.blame)
     (alone 3))))
 
 kinds_plain : (h : Heading) (es : List Event) → IsPlain 5 (kinds_json h es)

@@ -17,9 +17,11 @@ use Rattle.monk_page.specs.declared.template.middle.TheConstants.{MIDDLE}
 unfoldable pub front : List ℕ
 front = FRONT.now
 
+-- what stands between the picture and the data
 unfoldable pub middle : List ℕ
 middle = MIDDLE.now
 
+-- what stands behind the data
 unfoldable pub finish : List ℕ
 finish = END.now
 

@@ -72,8 +72,9 @@ fn forbidden_step(telling: &Telling) -> Option<u32>
 ///
 /// # Cost
 ///
-/// Some passes over the events for each of the ten kinds, each as [`monk_audit::audit`] takes one; memory for the page: some
-/// 1 kB for each event that is shown, and once more as much for the data as a value.
+/// Some passes over the events for each of the ten kinds, each as [`monk_audit::audit`] takes one;
+/// memory for the page: some 1 kB for each event that is shown, and once more as much for the data
+/// as a value.
 pub fn page(
     alloc: Global,
     header: &Header,
@@ -86,7 +87,8 @@ pub fn page(
     ensures text { IfOk result (λ page. string_bytes page ≡ page_text header.now events.now window reason.now) }
     // Whoever reads the data of that text finds the value of which it is made.
     ensures reads_back { OnOk result
-        (read (compact_text (window_json header.now events.now window)) ≡ Some (window_json header.now events.now window)) }
+        (read (compact_text (window_json header.now events.now window))
+        ≡ Some (window_json header.now events.now window)) }
     ensures fits { OnOk result (header.now.size ≤ most header.now.object) }
     ensures object { IsErrOf result AuditFault.Object → most header.now.object < header.now.size }
     ensures too_big { most header.now.object < header.now.size → IsErrOf result AuditFault.Object }

@@ -21,7 +21,8 @@ fn put_standing(
     standing: &Standing,
 ) -> Result<(), AllocError>
     ensures { OnOk result
-        (members_view map.new.entries ≡ with_standing object (standing_of standing.now) (members_view map.old.entries)) }
+        (members_view map.new.entries ≡ with_standing object (standing_of standing.now)
+        (members_view map.old.entries)) }
 {
     let words = InWords {
         object,
