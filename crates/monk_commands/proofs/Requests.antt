@@ -7,10 +7,11 @@ use Rattle.clap.specs.declared.parser.matches.Found.{Found}
 use Rattle.clap.proofs.WalkLemmas.{one_text-rows}
 use Rattle.monk_commands.specs.declared.request.Line.{Line}
 use Rattle.std.specs.Prelude.{◌↔◌, IfSome, option_map}
-use Rattle.clap.specs.Words.{Row, Text, one_text, rows_of, is_simple}
+use Rattle.clap.specs.Words.{Row, Text, TriesOne, one_text, rows_of, is_simple}
 use Rattle.clap.proofs.OnLiterals.{clap_on_literals}
 use Rattle.monk_logs.specs.declared.waits_for.WaitsFor.{WaitsFor}
-use Rattle.monk_commands.specs.Request.{AreMeanings, HasNumber, IsAsked, IsMeaning, IsRead, KindNames, RunNames, monk_app}
+use Rattle.monk_commands.specs.Request.{AreMeanings, HasNumber, IsAsked, IsMeaning, IsRead, KindNames, MayHaveNumber}
+use Rattle.monk_commands.specs.Request.{RunNames, monk_app}
 
 -- what is read in the rows of a command is asked for where that command was found
 pub asked_in : (o : Option (Text × List Row)) (word : Text) (rows : List Row) (l : Line)
@@ -33,6 +34,21 @@ number_read E G bits v name f only none value = go (one_text f name) refl
     go None e = absurd (let no : Some v ≡ None = none e in cc)
     go (Some t) e =
         let read = only t (Ok v) (value t e) in
+        record { text = t; found = sym (one_text-rows f name) ∙ e; digits = read.0.0; number = read.1 }
+
+-- the number that is read by `try_get_one`, if one is
+pub number_tried : (E : Type 0) (G : List ℕ → Result ℕ E → Type 0) (bits : ℕ) (o : Option ℕ) (r : Result (Option ℕ) E) (name : Text)
+    (f : Found) → ((u : List ℕ) (x : Result ℕ E) → G u x → ParsesUnsigned bits 10 u x) → r ≡ Ok o
+    → (one_text f name ≡ None → r ≡ Ok None) → ((t : List ℕ) → one_text f name ≡ Some t → TriesOne G t r)
+    → MayHaveNumber name o (rows_of f)
+number_tried E G bits o r name f only is none value = go (one_text f name) refl o is
+  where
+    go : (x : Option Text) → one_text f name ≡ x → (n : Option ℕ) → r ≡ Ok n → MayHaveNumber name n (rows_of f)
+    go None e None told = sym (one_text-rows f name) ∙ e
+    go None e (Some v) told = absurd (let no : r ≡ Ok None = none e in cc)
+    go (Some t) e None told = absurd (subst (TriesOne G t) told (value t e))
+    go (Some t) e (Some v) told =
+        let read = only t (Ok v) (subst (TriesOne G t) told (value t e)) in
         record { text = t; found = sym (one_text-rows f name) ∙ e; digits = read.0.0; number = read.1 }
 
 pub monk_is_simple : (completed : KindNames) (run recorded : RunNames) → is_simple (monk_app completed run recorded) ≡ true

@@ -1,6 +1,7 @@
 -- The answer to a history that is drawn: a picture, with the status of its audit
-use Rattle.std.specs.Prelude.{◌≡◌, ℕ, ◌<◌, ◌≤◌, ◌^◌, ◌⊎◌, ◌==◌, List, [], Option, Some, None, Result, Ok, Err}
-use Rattle.std.specs.Prelude.{if◌then◌else◌, codes}
+use Rattle.std.specs.Prelude.{◌≡◌, ◌≢◌, ℕ, ◌<◌, ◌≤◌, ◌^◌, ◌⊎◌, ◌==◌, Bool, false, true, List, [], ◌++◌, length}
+use Rattle.std.specs.Prelude.{Option, Some, None, Result, Ok, Err, if◌then◌else◌, codes}
+use Rattle.std.specs.Fmt.{decimal}
 use Rattle.monk_object.specs.Names.{most}
 use Rattle.monk_history.specs.declared.event.Event.{Event}
 use Rattle.monk_history.specs.declared.text.fault.ReadFault.{ReadFault}
@@ -11,7 +12,10 @@ use Rattle.monk_audit.specs.Verdict.{verdict_of}
 use Rattle.monk_audit.specs.declared.verdict.Verdict.{Verdict}
 use Rattle.monk_audit.specs.declared.verdict.Verdict.TheVariants.{Legal, Forbidden}
 use Rattle.monk_draw.specs.Picture.{picture}
-use Rattle.monk_commands.specs.Answer.{too_big, unreadable, verdict_answer}
+use Rattle.monk_draw.specs.Window.{is_behind, showable}
+use Rattle.monk_draw.specs.declared.window.Window.{Window}
+use Rattle.monk_commands.specs.Answer.{Answer, answer_of, too_big, unreadable, verdict_answer}
+use Rattle.monk_commands.specs.Given.{IsGiven}
 
 -- the step that a verdict forbids
 abbrev pub forbidden_step : Verdict → Option ℕ
@@ -33,23 +37,41 @@ abbrev pub why_of : Verdict → List ℕ
 why_of (Legal n) = []
 why_of (Forbidden step reason) = why reason
 
--- with what writing these bytes means: the picture of the events up to the one that the verdict forbids is written, with
--- the verdict's status
-abbrev pub IsPictureBy : Verdict → Heading → List Event → ℕ → (List ℕ → Type 0) → Type 0
-IsPictureBy v h events status Puts =
-    (status ≡ (verdict_answer v).status) × Puts (picture h events (forbidden_step v) (why_of v))
+-- the answer where the events that are asked for are behind the last that can be shown: which one that is
+abbrev pub behind : ℕ → Answer
+behind last = record { status = 2; text = codes "window " ++ (decimal last ++ codes "\n") }
+
+-- whether they are, by a verdict
+abbrev pub asks_behind : Option Window → Verdict → List Event → Bool
+asks_behind w v events = is_behind w (showable (forbidden_step v) (length events))
+
+-- with what writing these bytes means: the picture of the events that are asked for, up to the one that the verdict forbids, is
+-- written, with the verdict's status
+abbrev pub IsPictureBy : Option Window → Verdict → Heading → List Event → ℕ → (List ℕ → Type 0) → Type 0
+IsPictureBy w v h events status Puts =
+    (status ≡ (verdict_answer v).status) × Puts (picture h events w (forbidden_step v) (why_of v))
+
+-- the answer by a verdict: this picture, unless the events that are asked for are behind those that can be shown
+abbrev pub IsDrawnBy : Option Window → Verdict → Heading → List Event → ℕ → (List ℕ → Type 0) → Type 0
+IsDrawnBy w v h events status Puts =
+    ((asks_behind w v events ≡ false) × IsPictureBy w v h events status Puts)
+    ⊎ ((asks_behind w v events ≡ true) × IsGiven (behind (showable (forbidden_step v) (length events))) status Puts)
 
 -- the answer to a history: a picture by its verdict, if the size is within the object's greatest
-abbrev pub IsDrawn : Heading → List Event → ℕ → (List ℕ → Type 0) → Type 0
-IsDrawn h events status Puts =
-    ((h.size ≤ most h.object) × IsPictureBy (verdict_of (named_monitor h) events) h events status Puts)
+abbrev pub IsDrawn : Option Window → Heading → List Event → ℕ → (List ℕ → Type 0) → Type 0
+IsDrawn w h events status Puts =
+    ((h.size ≤ most h.object) × IsDrawnBy w (verdict_of (named_monitor h) events) h events status Puts)
     ⊎ ((most h.object < h.size) × ((status ≡ 2) × Puts too_big.text))
 
 -- the same, or the answer to a text that is of none
-abbrev pub IsDrawnOrRefused : Result History ReadFault → ℕ → (List ℕ → Type 0) → Type 0
-IsDrawnOrRefused (Ok h) status Puts = IsDrawn h.0 h.1 status Puts
-IsDrawnOrRefused (Err f) status Puts = (status ≡ 2) × Puts (unreadable f).text
+abbrev pub IsDrawnOrRefused : Option Window → Result History ReadFault → ℕ → (List ℕ → Type 0) → Type 0
+IsDrawnOrRefused w (Ok h) status Puts = IsDrawn w h.0 h.1 status Puts
+IsDrawnOrRefused w (Err f) status Puts = (status ≡ 2) × Puts (unreadable f).text
 
 -- the answer to bytes
-abbrev pub IsDrawingOf : List ℕ → ℕ → (List ℕ → Type 0) → Type 0
-IsDrawingOf input status Puts = IsDrawnOrRefused (text_at (2 ^ 25) input) status Puts
+abbrev pub IsDrawingOf : Option Window → List ℕ → ℕ → (List ℕ → Type 0) → Type 0
+IsDrawingOf w input status Puts = IsDrawnOrRefused w (text_at (2 ^ 25) input) status Puts
+
+-- the status is that of an audit, or where events are asked for 2
+abbrev pub HasAuditStatus : Option Window → List ℕ → ℕ → Type 0
+HasAuditStatus w input status = (status ≡ (answer_of input).status) ⊎ ((w ≢ None) × (status ≡ 2))

@@ -56,7 +56,7 @@ reads Upgrade t = is_history t
 reads (Fit lapses means) t = not (is_play t)
 reads Trace t = is_play t
 reads Explain t = is_history t
-reads Draw t = is_history t
+reads (Draw window) t = is_history t
 reads (Complete kind) t = is_log t
 
 -- the text that it reads, a history where it reads two
@@ -67,7 +67,7 @@ wanted Upgrade = name.History
 wanted (Fit lapses means) = name.History
 wanted Trace = name.Play
 wanted Explain = name.History
-wanted Draw = name.History
+wanted (Draw window) = name.History
 wanted (Complete kind) = name.Log
 
 -- ---- by single bytes

@@ -1,5 +1,5 @@
 -- Plays that can be played, and what is answered to a play's text
-use Rattle.std.specs.Prelude.{◌≡◌, ℕ, ◌<◌, ◌≤◌, ◌^◌, ◌⊎◌, List, length, Result, Ok, Err}
+use Rattle.std.specs.Prelude.{◌≡◌, ℕ, ◌<◌, ◌≤◌, ◌^◌, ◌⊎◌, List, length, Option, Some, None, Result, Ok, Err}
 use Rattle.monk_kinds.specs.declared.mode.Rules.{Rules}
 use Rattle.monk_kinds.specs.Names.{rules_named}
 use Rattle.monk_object.specs.Object.{Object}
@@ -46,6 +46,11 @@ pub record IsLedTo (k : Rules) (o : Object) (opening : List ℕ) (h : Heading) (
 abbrev pub IsPlayedBy : Rules → Object → List ℕ → Heading → ℕ → List (ℕ × Command) → (List ℕ → Type 0) → Type 0
 IsPlayedBy k o opening h budget commands Puts =
     (events : List Event) × (IsLedTo k o opening h budget commands events × Puts (text h events))
+
+-- what is to be told of a play with these objects to show: a trace shows one
+abbrev pub report_with : {T : Type 0} → Option T → Report
+report_with None = History
+report_with (Some shown) = Trace
 
 -- the same of what is to be told of the play
 abbrev pub IsReportedBy : Report → Rules → Object → List ℕ → Heading → ℕ → List (ℕ × Command) → (List ℕ → Type 0) → Type 0

@@ -9,6 +9,8 @@ use Rattle.clap.specs.declared.builder.action.ArgAction.TheVariants.{Append, Set
 use Rattle.clap.specs.declared.builder.command.Command.{Command}
 use Rattle.clap.specs.declared.builder.value_parser.ValueParser.TheVariants.{Signed, Names}
 use Rattle.clap.specs.declared.builder.value_parser.ValueParser.{ValueParser}
+use Rattle.monk_draw.specs.Asked.{numbers_meant}
+use Rattle.monk_draw.specs.declared.window.Window.{Window}
 use Rattle.monk_kinds.specs.Names.{kind_word, kinds as monitor_kinds}
 use Rattle.monk_kinds.specs.declared.name.KindName.{KindName}
 use Rattle.monk_logs.specs.declared.lapses.Lapses.{Lapses}
@@ -82,6 +84,16 @@ flag_rule name = record (new_rule name) { long = Some name; action = Some SetTru
 abbrev pub repeated_rule : Text → Rule
 repeated_rule name = record (new_rule name) { long = Some name; action = Some Append; value_names = 1 }
 
+-- an option that takes a whole number
+abbrev pub number_rule : Text → Rule
+number_rule name = record (new_rule name) { long = Some name; parser = Some (Signed (pos 0) (pos 4294967295)); value_names = 1 }
+
+-- a command of that name that takes the first and the last of the events that it shows, and a file
+abbrev pub window_app : Text → App
+window_app name =
+    with_rule (with_rule (with_rule (new_app name) (number_rule (codes "from"))) (number_rule (codes "to")))
+    (new_rule (codes "FILE"))
+
 -- the command that takes what a log may tell, and a file
 abbrev pub fit_app : App
 fit_app =
@@ -106,7 +118,7 @@ plain_app =
     with_subcommand (with_subcommand (with_subcommand (with_subcommand (with_subcommand (with_subcommand
     (with_subcommand (with_subcommand bare_app classify_app.top) (file_app (codes "audit")).top) (file_app (codes "play")).top)
     (file_app (codes "upgrade")).top) fit_app.top) (file_app (codes "trace")).top)
-    (file_app (codes "explain")).top) (file_app (codes "draw")).top
+    (file_app (codes "explain")).top) (window_app (codes "draw")).top
 
 abbrev pub monk_app : KindNames → RunNames → RunNames → App
 monk_app completed run recorded =
@@ -137,7 +149,7 @@ command_word (Upgrade file) = codes "upgrade"
 command_word (Fit file lapses means) = codes "fit"
 command_word (Trace file) = codes "trace"
 command_word (Explain file) = codes "explain"
-command_word (Draw file) = codes "draw"
+command_word (Draw file window) = codes "draw"
 command_word (Complete kind file) = codes "complete"
 command_word (Run kind sample seats rounds) = codes "run"
 command_word (Record kind sample seats rounds) = codes "record"
@@ -148,6 +160,19 @@ pub record HasNumber (name : Text) (n : ℕ) (rows : List Row) : Type 0 where
   pub found : one_of name rows ≡ Some text
   pub digits : IsNumeral 10 (without_leading_plus text)
   pub number : n ≡ digits_value 10 (without_leading_plus text)
+
+-- the same where clap may have found none
+abbrev pub MayHaveNumber : Text → Option ℕ → List Row → Type 0
+MayHaveNumber name None rows = one_of name rows ≡ None
+MayHaveNumber name (Some n) rows = HasNumber name n rows
+
+-- the events that are asked for are those that the numbers mean which clap has found for `from` and `to`
+pub record IsWindowIn (window : Option Window) (rows : List Row) : Type 0 where
+  pub from : Option ℕ
+  pub to : Option ℕ
+  pub found_from : MayHaveNumber (codes "from") from rows
+  pub found_to : MayHaveNumber (codes "to") to rows
+  pub meant : option_map (λ (w : Window). (w.from, w.to)) window ≡ numbers_meant from to
 
 -- the flag `lapses` that clap has found, if any, says so
 pub record AreLapses (lapses : Lapses) (rows : List Row) : Type 0 where
@@ -197,7 +222,7 @@ ValuesAre (Fit file lapses means) rows = (first_of (codes "FILE") rows ≡ optio
     × AreLapses lapses rows × AreMeanings (words_or_none (all_of (codes "means") rows)) means.items
 ValuesAre (Trace file) rows = first_of (codes "FILE") rows ≡ option_map string_bytes file
 ValuesAre (Explain file) rows = first_of (codes "FILE") rows ≡ option_map string_bytes file
-ValuesAre (Draw file) rows = first_of (codes "FILE") rows ≡ option_map string_bytes file
+ValuesAre (Draw file window) rows = (first_of (codes "FILE") rows ≡ option_map string_bytes file) × IsWindowIn window rows
 ValuesAre (Complete kind file) rows = (first_of (codes "KIND") rows ≡ Some (kind_word kind))
     × (first_of (codes "FILE") rows ≡ option_map string_bytes file)
 ValuesAre (Run kind sample seats rounds) rows = AreRunValues kind sample seats rounds rows
@@ -212,7 +237,7 @@ RunIsInRange (Upgrade file) = Unit {0}
 RunIsInRange (Fit file lapses means) = Unit {0}
 RunIsInRange (Trace file) = Unit {0}
 RunIsInRange (Explain file) = Unit {0}
-RunIsInRange (Draw file) = Unit {0}
+RunIsInRange (Draw file window) = Unit {0}
 RunIsInRange (Complete kind file) = Unit {0}
 RunIsInRange (Run kind sample seats rounds) = IsInRange seats rounds
 RunIsInRange (Record kind sample seats rounds) = IsInRange seats rounds

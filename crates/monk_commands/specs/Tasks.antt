@@ -1,19 +1,16 @@
 -- What each command that reads an input answers to it
-use Rattle.std.specs.Prelude.{◌≡◌, ℕ, List}
-use Rattle.monk_commands.specs.Answer.{Answer, answer_of}
+use Rattle.std.specs.Prelude.{ℕ, List}
+use Rattle.monk_commands.specs.Answer.{answer_of}
 use Rattle.monk_commands.specs.Completed.{IsAnswerToLog}
 use Rattle.monk_commands.specs.Drawn.{IsDrawingOf}
 use Rattle.monk_commands.specs.Explained.{IsExplanationOf}
+use Rattle.monk_commands.specs.Given.{IsGiven}
 use Rattle.monk_commands.specs.LogFitted.{fit_answer_of}
 use Rattle.monk_commands.specs.Played.{IsAnswerTo}
 use Rattle.monk_commands.specs.Upgraded.{upgrade_of}
 use Rattle.monk_commands.specs.declared.report.Report.TheVariants as report
 use Rattle.monk_commands.specs.declared.task.Task.{Task}
 use Rattle.monk_commands.specs.declared.task.Task.TheVariants.{Audit, Play, Upgrade, Fit, Trace, Explain, Draw, Complete}
-
--- with what writing these bytes means: an answer's text is written, with its status
-abbrev pub IsGiven : Answer → ℕ → (List ℕ → Type 0) → Type 0
-IsGiven answer status Puts = (status ≡ answer.status) × Puts answer.text
 
 abbrev pub IsTaskAnswer : Task → List ℕ → ℕ → (List ℕ → Type 0) → Type 0
 IsTaskAnswer Audit input status Puts = IsGiven (answer_of input) status Puts
@@ -22,5 +19,5 @@ IsTaskAnswer Upgrade input status Puts = IsGiven (upgrade_of input) status Puts
 IsTaskAnswer (Fit lapses means) input status Puts = IsGiven (fit_answer_of lapses means.now input) status Puts
 IsTaskAnswer Trace input status Puts = IsAnswerTo report.Trace input status Puts
 IsTaskAnswer Explain input status Puts = IsExplanationOf input status Puts
-IsTaskAnswer Draw input status Puts = IsDrawingOf input status Puts
+IsTaskAnswer (Draw window) input status Puts = IsDrawingOf window input status Puts
 IsTaskAnswer (Complete kind) input status Puts = IsAnswerToLog kind input status Puts

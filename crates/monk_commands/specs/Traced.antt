@@ -12,6 +12,8 @@ use Rattle.monk_tell.specs.Standing.{stand, stand_text}
 use Rattle.monk_tell.specs.Words.{data_text}
 use Rattle.monk_tell.specs.declared.stand.Stand.{Stand}
 use Rattle.monk_world.specs.declared.answer.Answer.{Answer}
+use Rattle.monk_world.specs.declared.answer.Answer.TheVariants.{Arrived, Looked, Found, Now, Chose, GrantedTicket, GrantedSeat}
+use Rattle.monk_world.specs.declared.answer.Answer.TheVariants.{Reply, Woke, Range, NoCall, NotNow, Tired}
 use Rattle.monk_world.specs.declared.command.Command.{Command}
 use Rattle.monk_world.specs.Play.{command_words}
 use Rattle.monk_world.specs.Runs.{opening_state}
@@ -31,9 +33,26 @@ unfoldable pub places_text : State → (ℕ → Stand) → ℕ → List ℕ
 places_text s stands zero = []
 places_text s stands (suc j) = places_text s stands j ++ seat_text s stands j
 
+-- that the object refused an act, if the answer says so by the reply 0
+abbrev pub refusal_text : Answer → List ℕ
+refusal_text (Arrived ticket found) = []
+refusal_text (Looked right) = []
+refusal_text (Found found) = []
+refusal_text Now = []
+refusal_text (Chose next) = []
+refusal_text (GrantedTicket ticket) = []
+refusal_text (GrantedSeat seat) = []
+refusal_text (Reply reply) = if reply == 0 then codes " (refused by the object)" else []
+refusal_text (Woke served) = []
+refusal_text Range = []
+refusal_text NoCall = []
+refusal_text NotNow = []
+refusal_text Tired = []
+
 -- what a seat was told, and what it answered
 abbrev pub told_text : ℕ × Command → Answer → List ℕ
-told_text c a = join_with_byte 32 (command_words c) ++ codes " | " ++ join_with_byte 32 (answer_words a)
+told_text c a =
+    join_with_byte 32 (command_words c) ++ codes " | " ++ join_with_byte 32 (answer_words a) ++ refusal_text a
 
 -- the line of the command of that number, after which the world stands so: what stands before the places, and all of it
 unfoldable pub line_front : ℕ → ℕ × Command → Answer → State → List ℕ

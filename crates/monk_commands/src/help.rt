@@ -2,6 +2,12 @@
 
 pub(crate) const PRIORITY: &str = "A priority, 0 to 255; greater is higher";
 
+pub(crate) const FILE: &str = "The text; with none or with `-`, standard input";
+
+pub(crate) const FROM: &str = "The first event to show";
+
+pub(crate) const TO: &str = "The last event to show";
+
 /// What the help of a command says of it: what it does; then an example, its exit statuses, and the page to read.
 pub(crate) struct Help {
     pub(crate) about: &'static str,
@@ -64,7 +70,10 @@ pub(crate) static EXPLAIN: Help = Help {
 
 pub(crate) static DRAW: Help = Help {
     about: "Draws a history as a picture",
-    example: "Example: monk draw examples/hoare_handover.history\n\
+    example: "Events are numbered from 1. With neither option the picture shows the last 200, or the last 200\n\
+        up to the forbidden one; with --from alone the first 2000 from there on; with --to alone the\n\
+        last 2000 up to there; with both at most 2000.\n\
+        Example: monk draw examples/hoare_handover.history --from 4 --to 7\n\
         Status: 0 legal, 1 forbidden, 2 unreadable; 3 wrong words, 4 a failed file or no memory\n\
         Read: docs/TEXT.md",
 };

@@ -5,6 +5,7 @@
 #![tactic(auto)]
 
 mod answer;
+mod arguments;
 mod auditing;
 mod classifying;
 mod completing;
@@ -18,6 +19,8 @@ mod hint;
 mod hint_words;
 mod input;
 mod log_fitting;
+mod meaning_words;
+mod objects;
 mod playing;
 mod recording;
 mod report;
@@ -27,6 +30,7 @@ mod task;
 mod text_name;
 mod tracing;
 mod upgrading;
+mod window_words;
 mod words;
 
 pub use auditing::audit_stream;

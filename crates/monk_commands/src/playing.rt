@@ -2,6 +2,7 @@
 
 ghost use Rattle.std.specs.Prelude.{◌≡◌, ◌+◌, ◌≤◌, ◌^◌, ◌⊎◌, false, true, IfOk, OnOk, IfSome, IsErrOf, ◌↔◌, ℕ, List, None};
 ghost use Rattle.monk_floor.specs.Making.{make_refusal};
+ghost use Rattle.std.specs.Option.{ForSome};
 ghost use Rattle.std.specs.Io.KnownBytes.{Appends, IsAtEnd};
 ghost use Rattle.monk_kinds.specs.Names.{rules_named};
 ghost use Rattle.monk_object.specs.Names.{most};
@@ -10,53 +11,53 @@ ghost use Rattle.monk_history.specs.Text.Device.{inner_of, has_failed, reads_of}
 ghost use Rattle.monk_world.specs.declared.command.Command.{Command};
 ghost use Rattle.monk_world.specs.Records.{AreToldIn};
 ghost use Rattle.monk_commands.specs.Played.{IsPlayAnswer, IsAnswerTo, IsFoundLegal, IsPlayOf, IsPlayText, IsPlayed};
-ghost use Rattle.monk_commands.specs.Played.{IsReported, IsReportedBy};
+ghost use Rattle.monk_commands.specs.Played.{IsReported, IsReportedBy, report_with};
 ghost use Rattle.monk_commands.specs.Streams.{IsYoung, IsPastBound};
 
 use crate::answer::{put, too_big, unreadable};
 use crate::fault::StreamFault;
 use crate::input::read_all;
+use crate::objects::{book, buffer, flags, shop};
 use crate::report::Report;
 use crate::tracing::put_trace;
 use monk_floor::MakeFault;
 use monk_history::{Device, write};
 use monk_kinds::{Kind, KindName, Npb, Npir, Npis, Npnb, Npqb, Pb, Pir, Pis, Pnb, Pqb};
-use monk_object::{Book, Buffer, Flags, Listed, ObjectFault, ObjectName, Shop};
+use monk_object::{Listed, ObjectName};
 use monk_world::{PlayLines, World};
 use std::alloc::Global;
 use std::io::{Read, Write};
 
-/// Plays the commands over the object, by the kind K, and writes what is to be told of it. The second object is as the first: a
-/// trace shows its data, since nobody sees the world's own.
+/// Plays the commands over the object, by the kind K, and writes the history, or a trace where there is a second object, which is
+/// as the first: a trace shows its data, since nobody sees the world's own.
 fn play_as<K: Kind, T: Listed, W: Write>(
     alloc: Global,
-    report: Report,
     object: T,
-    shown: T,
+    shown: Option<T>,
     play: PlayLines<'_>,
     writer: &mut Device<W>,
 ) -> Result<(), StreamFault>
     requires works { has_failed writer.old ≡ false }
     requires in_range { make_refusal play.0.seats play.0.conds play.1 ≡ None }
     requires told { AreToldIn play.0.version play.2 }
-    requires alike { T.state shown ≡ T.state object }
+    requires alike { ForSome shown (λ s. T.state s ≡ T.state object) }
     ensures played { OnOk result
-        (IsReportedBy report K.rules T.meaning (T.state object) play.entry.0 play.entry.1 play.entry.2
+        (IsReportedBy (report_with shown) K.rules T.meaning (T.state object) play.entry.0 play.entry.1 play.entry.2
         (Appends (W.contents (inner_of writer.old)) (W.contents (inner_of writer.new)))) }
     ensures file { IsErrOf result StreamFault.File → has_failed writer.new ≡ true }
     ensures memory { IsErrOf result StreamFault.Memory → writer.new ≡ writer.old }
 {
     let header = play.header();
     match World::<K, T>::make(alloc, object, header.seats(), header.conds(), play.budget()) {
-        Ok(mut world) => match report {
-            Report::History => {
+        Ok(mut world) => match shown {
+            None => {
                 world.run_lines(play);
                 match write(&header, world.history(), writer) {
                     Ok(()) => Ok(()),
                     Err(_) => Err(StreamFault::File),
                 }
             }
-            Report::Trace => put_trace(alloc, &mut world, shown, play, writer),
+            Some(shown) => put_trace(alloc, &mut world, shown, play, writer),
         },
         Err(MakeFault::Memory) => Err(StreamFault::Memory),
         Err(_) => unreachable!(),
@@ -66,33 +67,32 @@ fn play_as<K: Kind, T: Listed, W: Write>(
 /// The same by the kind that the header names.
 fn play_named<T: Listed, W: Write>(
     alloc: Global,
-    report: Report,
     object: T,
-    shown: T,
+    shown: Option<T>,
     play: PlayLines<'_>,
     writer: &mut Device<W>,
 ) -> Result<(), StreamFault>
     requires works { has_failed writer.old ≡ false }
     requires in_range { make_refusal play.0.seats play.0.conds play.1 ≡ None }
     requires told { AreToldIn play.0.version play.2 }
-    requires alike { T.state shown ≡ T.state object }
+    requires alike { ForSome shown (λ s. T.state s ≡ T.state object) }
     ensures played { OnOk result
-        (IsReportedBy report (rules_named play.entry.0.kind) T.meaning (T.state object) play.entry.0 play.entry.1 play.entry.2
+        (IsReportedBy (report_with shown) (rules_named play.entry.0.kind) T.meaning (T.state object) play.entry.0 play.entry.1 play.entry.2
         (Appends (W.contents (inner_of writer.old)) (W.contents (inner_of writer.new)))) }
     ensures file { IsErrOf result StreamFault.File → has_failed writer.new ≡ true }
     ensures memory { IsErrOf result StreamFault.Memory → writer.new ≡ writer.old }
 {
     match play.header().kind() {
-        KindName::Pb => play_as::<Pb, T, W>(alloc, report, object, shown, play, writer),
-        KindName::Npb => play_as::<Npb, T, W>(alloc, report, object, shown, play, writer),
-        KindName::Pnb => play_as::<Pnb, T, W>(alloc, report, object, shown, play, writer),
-        KindName::Npnb => play_as::<Npnb, T, W>(alloc, report, object, shown, play, writer),
-        KindName::Pqb => play_as::<Pqb, T, W>(alloc, report, object, shown, play, writer),
-        KindName::Npqb => play_as::<Npqb, T, W>(alloc, report, object, shown, play, writer),
-        KindName::Pir => play_as::<Pir, T, W>(alloc, report, object, shown, play, writer),
-        KindName::Npir => play_as::<Npir, T, W>(alloc, report, object, shown, play, writer),
-        KindName::Pis => play_as::<Pis, T, W>(alloc, report, object, shown, play, writer),
-        KindName::Npis => play_as::<Npis, T, W>(alloc, report, object, shown, play, writer),
+        KindName::Pb => play_as::<Pb, T, W>(alloc, object, shown, play, writer),
+        KindName::Npb => play_as::<Npb, T, W>(alloc, object, shown, play, writer),
+        KindName::Pnb => play_as::<Pnb, T, W>(alloc, object, shown, play, writer),
+        KindName::Npnb => play_as::<Npnb, T, W>(alloc, object, shown, play, writer),
+        KindName::Pqb => play_as::<Pqb, T, W>(alloc, object, shown, play, writer),
+        KindName::Npqb => play_as::<Npqb, T, W>(alloc, object, shown, play, writer),
+        KindName::Pir => play_as::<Pir, T, W>(alloc, object, shown, play, writer),
+        KindName::Npir => play_as::<Npir, T, W>(alloc, object, shown, play, writer),
+        KindName::Pis => play_as::<Pis, T, W>(alloc, object, shown, play, writer),
+        KindName::Npis => play_as::<Npis, T, W>(alloc, object, shown, play, writer),
     }
 }
 
@@ -115,24 +115,28 @@ fn play_object<W: Write>(
 {
     let header = play.header();
     let size = header.size();
-    match header.object() {
-        ObjectName::Buffer => match (Buffer::make(alloc, size), Buffer::make(alloc, size)) {
-            (Ok(buffer), Ok(shown)) => play_named(alloc, report, buffer, shown, play, writer),
-            (Err(ObjectFault::Size), _) | (_, Err(ObjectFault::Size)) => unreachable!(),
-            _ => Err(StreamFault::Memory),
-        },
-        ObjectName::Book => match (Book::make(size), Book::make(size)) {
-            (Ok(book), Ok(shown)) => play_named(alloc, report, book, shown, play, writer),
-            _ => unreachable!(),
-        },
-        ObjectName::Shop => match (Shop::make(size), Shop::make(size)) {
-            (Ok(shop), Ok(shown)) => play_named(alloc, report, shop, shown, play, writer),
-            _ => unreachable!(),
-        },
-        ObjectName::Flags => match (Flags::make(size), Flags::make(size)) {
-            (Ok(flags), Ok(shown)) => play_named(alloc, report, flags, shown, play, writer),
-            _ => unreachable!(),
-        },
+    match (header.object(), report) {
+        (ObjectName::Buffer, Report::History) => {
+            play_named(alloc, buffer(alloc, size)?, None, play, writer)
+        }
+        (ObjectName::Buffer, Report::Trace) => {
+            let shown = buffer(alloc, size)?;
+            play_named(alloc, buffer(alloc, size)?, Some(shown), play, writer)
+        }
+        (ObjectName::Book, Report::History) => { play_named(alloc, book(size), None, play, writer) }
+        (ObjectName::Book, Report::Trace) => {
+            play_named(alloc, book(size), Some(book(size)), play, writer)
+        }
+        (ObjectName::Shop, Report::History) => { play_named(alloc, shop(size), None, play, writer) }
+        (ObjectName::Shop, Report::Trace) => {
+            play_named(alloc, shop(size), Some(shop(size)), play, writer)
+        }
+        (ObjectName::Flags, Report::History) => {
+            play_named(alloc, flags(size), None, play, writer)
+        }
+        (ObjectName::Flags, Report::Trace) => {
+            play_named(alloc, flags(size), Some(flags(size)), play, writer)
+        }
     }
 }
 

@@ -13,6 +13,7 @@ use crate::fitting::fit_stream;
 use crate::playing::play_stream;
 use crate::tracing::trace_stream;
 use crate::upgrading::upgrade_stream;
+use monk_draw::Window;
 use monk_history::Device;
 use monk_kinds::KindName;
 use monk_logs::{Lapses, WaitsFor};
@@ -34,8 +35,8 @@ pub enum Task<'a> {
     Trace,
     /// The verdict on a history, and why, by [`explain_stream`].
     Explain,
-    /// The picture of a history, by [`draw_stream`].
-    Draw,
+    /// The picture of a history, by [`draw_stream`]: of the events that are asked for.
+    Draw(Option<Window>),
     /// A legal history of a monitor of the kind that tells a log, by [`complete_stream`].
     Complete(KindName),
 }
@@ -81,7 +82,7 @@ impl Task<'_> {
             Task::Fit(lapses, means) => fit_stream(alloc, lapses, means, reader, writer),
             Task::Trace => trace_stream(alloc, reader, writer),
             Task::Explain => explain_stream(alloc, reader, writer),
-            Task::Draw => draw_stream(alloc, reader, writer),
+            Task::Draw(window) => draw_stream(alloc, window, reader, writer),
             Task::Complete(kind) => complete_stream(alloc, kind, reader, writer),
         }
     }

@@ -35,7 +35,9 @@ impl TextName {
         ensures { result ≡ reads task.now self }
     {
         match task {
-            Task::Audit | Task::Upgrade | Task::Explain | Task::Draw => self == TextName::History,
+            Task::Audit | Task::Upgrade | Task::Explain | Task::Draw(_) => {
+                self == TextName::History
+            }
             Task::Play | Task::Trace => self == TextName::Play,
             Task::Complete(_) => self == TextName::Log,
             Task::Fit(_, _) => self != TextName::Play,

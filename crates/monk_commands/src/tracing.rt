@@ -15,7 +15,8 @@ ghost use Rattle.monk_floor.specs.View.{empty_floor, monitor_of};
 ghost use Rattle.monk_tell.specs.Standing.{stand};
 ghost use Rattle.monk_tell.specs.declared.stand.Stand.{Stand};
 ghost use Rattle.monk_commands.specs.Following.{IsBehind};
-ghost use Rattle.monk_commands.specs.Traced.{AreTraced, data_part, line_front, places_text, seat_text, trace_line};
+ghost use Rattle.monk_commands.specs.Traced.{AreTraced, data_part, line_front, places_text, refusal_text};
+ghost use Rattle.monk_commands.specs.Traced.{seat_text, trace_line};
 
 use crate::fault::StreamFault;
 use crate::following::step_followed;
@@ -32,6 +33,16 @@ use std::alloc::{AllocError, Global};
 use std::fmt;
 use std::io::{Read, Write};
 
+/// What is said behind an answer: that the object refused an act, if it did.
+fn refusal(answer: Answer) -> &'static str
+    ensures { result.now ≡ refusal_text answer }
+{
+    match answer {
+        Answer::Reply(0) => " (refused by the object)",
+        _ => "",
+    }
+}
+
 /// What a seat was told, and what it answered.
 #[derive(Drop)]
 struct Told {
@@ -47,7 +58,12 @@ impl fmt::Display for Told {
     ghost output = { λ t. Some (told_text (t.seat, t.command) t.answer) };
 
     fn fmt<W: fmt::Write>(&self, f: &mut fmt::Formatter<W>) -> fmt::Result {
-        write!(f, "{} {} | {}", self.seat, self.command, self.answer)
+        let refusal = refusal(self.answer);
+        write!(
+            f,
+            "{} {} | {}{refusal}",
+            self.seat, self.command, self.answer
+        )
     }
 }
 

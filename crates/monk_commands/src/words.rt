@@ -1,26 +1,29 @@
 //! The program's words, read with `clap`.
 
-ghost use Rattle.std.specs.Prelude.{◌≡◌, IfOk, IfSome, Some, codes, false, if◌then◌else◌, map, option_map, string_bytes};
+ghost use Rattle.std.specs.Prelude.{◌≡◌, IfOk, IfSome, Some, codes, if◌then◌else◌, map, option_map, string_bytes};
 ghost use Rattle.monk_kinds.specs.Names.{kind_word};
-ghost use Rattle.clap.specs.Words.{App, all_of, app_of, first_of, first_value, found_of, rows_of, rule_of, subcommand_of};
+ghost use Rattle.clap.specs.Words.{App, app_of, first_of, first_value, found_of, rows_of, subcommand_of};
 ghost use Rattle.clap.specs.Words.{subcommand_rows_of, with_subcommand};
 ghost use Rattle.monk_logs.specs.declared.lapses.Lapses.{Lapses};
 ghost use Rattle.monk_samples.specs.Samples.{IsInRange};
-ghost use Rattle.monk_commands.specs.Request.{AreLapses, AreMeanings, AreRunValues, IsAsked, IsCompleteCommand, IsInDigits};
-ghost use Rattle.monk_commands.specs.Request.{IsMeaning, IsMonk, IsRead, IsRunCommand, IsSubcommand, words_or_none};
-ghost use Rattle.monk_commands.specs.Request.{bare_app, classify_app, file_app, fit_app, flag_rule, plain_app};
-ghost use Rattle.monk_commands.specs.Request.{repeated_rule, required_rule, sample_word};
+ghost use Rattle.monk_commands.specs.Request.{AreLapses, AreRunValues, IsAsked, IsCompleteCommand};
+ghost use Rattle.monk_commands.specs.Request.{IsMonk, IsRead, IsRunCommand, IsSubcommand};
+ghost use Rattle.monk_commands.specs.Request.{bare_app, classify_app, file_app, fit_app, plain_app, sample_word};
+ghost use Rattle.monk_commands.specs.Request.{window_app};
 
+use crate::arguments::{file, flag, number, repeated, required};
 use crate::help::{
-    AUDIT, CLASSIFY, COMPLETE, DRAW, EXPLAIN, FIT, Help, LAPSES, MEANS, PLAY, PRIORITY, RECORD,
-    RUN, TRACE, UPGRADE,
+    AUDIT, CLASSIFY, COMPLETE, DRAW, EXPLAIN, FIT, FROM, Help, LAPSES, MEANS, PLAY, PRIORITY,
+    RECORD, RUN, TO, TRACE, UPGRADE,
 };
+use crate::meaning_words::meanings_of;
 use crate::request::{Line, LineFault};
+use crate::window_words::window_of;
 use clap::builder::ValueParser;
 use clap::error::ErrorKind;
-use clap::{Arg, ArgAction, ArgMatches, Command, value_parser};
+use clap::{ArgMatches, Command, value_parser};
 use monk_kinds::KindName;
-use monk_logs::{Lapses, WaitsFor};
+use monk_logs::Lapses;
 use monk_object::ObjectName;
 use monk_samples::Sample;
 use std::alloc::{AllocError, Global};
@@ -53,7 +56,7 @@ fn plain<'a>(alloc: Global) -> Result<Command<'a>, AllocError>
     let program = with_fit(alloc, program)?;
     let program = with_reader(alloc, program, "trace", &TRACE)?;
     let program = with_reader(alloc, program, "explain", &EXPLAIN)?;
-    with_reader(alloc, program, "draw", &DRAW)
+    with_window(alloc, program, "draw", &DRAW)
 }
 
 /// The program without commands.
@@ -87,6 +90,17 @@ fn with_reader<'a>(
     program.subcommand(with_file(alloc, name, help)?)
 }
 
+fn with_window<'a>(
+    alloc: Global,
+    program: Command<'a>,
+    name: &'a str,
+    help: &Help,
+) -> Result<Command<'a>, AllocError>
+    ensures { IfOk result (λ c. app_of c ≡ with_subcommand (app_of program.entry) (window_app name.entry.now).top) }
+{
+    program.subcommand(showing(alloc, name, help)?)
+}
+
 fn classify<'a>(alloc: Global) -> Result<Command<'a>, AllocError>
     ensures { IfOk result (λ c. IsSubcommand c classify_app) }
 {
@@ -110,7 +124,19 @@ fn fitting<'a>(alloc: Global) -> Result<Command<'a>, AllocError>
         .after_help(FIT.example)
         .arg(flag(alloc, "lapses", LAPSES))?
         .arg(repeated(alloc, "means", MEANS, "COND=PRED"))?
-        .arg(Arg::new(alloc, "FILE").help("The text; with none, standard input"))
+        .arg(file(alloc))
+}
+
+/// A command that shows some events of a file, or of standard input where none is named.
+fn showing<'a>(alloc: Global, name: &'a str, help: &Help) -> Result<Command<'a>, AllocError>
+    ensures { IfOk result (λ c. IsSubcommand c (window_app name.entry.now)) }
+{
+    Command::new(alloc, name)
+        .about(help.about)
+        .after_help(help.example)
+        .arg(number(alloc, "from", FROM))?
+        .arg(number(alloc, "to", TO))?
+        .arg(file(alloc))
 }
 
 /// The command that takes a kind, and a file, or standard input where none is named.
@@ -122,7 +148,7 @@ fn completing<'a>(alloc: Global) -> Result<Command<'a>, AllocError>
         .about(COMPLETE.about)
         .after_help(COMPLETE.example)
         .arg(required(alloc, "KIND", "The kind of monitor", kinds))?
-        .arg(Arg::new(alloc, "FILE").help("The text; with none, standard input"))
+        .arg(file(alloc))
 }
 
 /// A command that takes a kind, a sample, and how many seats and rounds.
@@ -149,41 +175,7 @@ fn with_file<'a>(alloc: Global, name: &'a str, help: &Help) -> Result<Command<'a
     Command::new(alloc, name)
         .about(help.about)
         .after_help(help.example)
-        .arg(Arg::new(alloc, "FILE").help("The text; with none, standard input"))
-}
-
-/// A word that must stand there, and that the parser takes.
-fn required<'a>(alloc: Global, name: &'a str, help: &'a str, parser: ValueParser<'a>) -> Arg<'a>
-    ensures rule { rule_of result ≡ required_rule name.entry.now parser.entry }
-    ensures local { result.global ≡ false }
-{
-    Arg::new(alloc, name)
-        .help(help)
-        .required(true)
-        .value_parser(parser)
-}
-
-/// A flag.
-fn flag<'a>(alloc: Global, name: &'a str, help: &'a str) -> Arg<'a>
-    ensures rule { rule_of result ≡ flag_rule name.entry.now }
-    ensures local { result.global ≡ false }
-{
-    Arg::new(alloc, name)
-        .help(help)
-        .long(name)
-        .action(ArgAction::SetTrue)
-}
-
-/// An option that may stand more than once, and takes a value.
-fn repeated<'a>(alloc: Global, name: &'a str, help: &'a str, value: &'a str) -> Arg<'a>
-    ensures rule { rule_of result ≡ repeated_rule name.entry.now }
-    ensures local { result.global ≡ false }
-{
-    Arg::new(alloc, name)
-        .help(help)
-        .long(name)
-        .value_name(value)
-        .action(ArgAction::Append)
+        .arg(file(alloc))
 }
 
 fn fault_of(alloc: Global, error: &clap::Error) -> LineFault {
@@ -268,59 +260,20 @@ fn lapses_of(matches: &ArgMatches<'_>) -> Lapses
     lapses_by(matches.get_flag("lapses"))
 }
 
-fn number_of(digits: &str) -> Option<u8>
-    ensures { IfSome result (IsInDigits digits.now) }
-{
-    digits.parse().ok()
-}
-
-/// What a word `COND=PRED` says.
-fn meaning_of(word: &str) -> Option<WaitsFor>
-    ensures { IfSome result (IsMeaning word.now) }
-{
-    let (cond, pred) = word.split_once('=')?;
-    let (cond, pred) = (number_of(cond)?, number_of(pred)?);
-    Some(WaitsFor { cond, pred })
-}
-
-/// The fault of a word that is not `COND=PRED`.
-fn no_meaning(alloc: Global, word: &str) -> LineFault {
-    match format!(in alloc; "error: '{word}' is no COND=PRED, two numbers from 0 to 255") {
-        Ok(text) => LineFault::Words(text),
-        Err(_) => LineFault::Memory,
-    }
-}
-
-/// What those wait for who wait on a condition, word by word.
-fn meanings(alloc: Global, words: &[&str]) -> Result<Vec<WaitsFor>, LineFault>
-    ensures { IfOk result (λ means. AreMeanings (map (λ w. w.now) words.now) means.items) }
-{
-    let mut means = Vec::new(alloc);
-    for word in words {
-        match meaning_of(word) {
-            Some(it) => means.push(it)?,
-            None => return Err(no_meaning(alloc, word)),
-        }
-    }
-    Ok(means)
-}
-
-fn meanings_of(alloc: Global, matches: &ArgMatches<'_>) -> Result<Vec<WaitsFor>, LineFault>
-    ensures { IfOk result
-        (λ means. AreMeanings (words_or_none (all_of (codes "means") (rows_of (found_of matches.now)))) means.items) }
-{
-    match matches.get_strs("means") {
-        Some(words) => meanings(alloc, words),
-        None => Ok(Vec::new(alloc)),
-    }
-}
-
 fn line_to_fit(alloc: Global, matches: &ArgMatches<'_>) -> Result<Line, LineFault>
     ensures { IfOk result (λ l. IsRead (codes "fit") l (rows_of (found_of matches.now))) }
 {
     let file = file_of(alloc, matches)?;
     let means = meanings_of(alloc, matches)?;
     Ok(Line::Fit(file, lapses_of(matches), means))
+}
+
+fn line_to_draw(alloc: Global, matches: &ArgMatches<'_>) -> Result<Line, LineFault>
+    ensures { IfOk result (λ l. IsRead (codes "draw") l (rows_of (found_of matches.now))) }
+{
+    let file = file_of(alloc, matches)?;
+    let window = window_of(alloc, matches)?;
+    Ok(Line::Draw(file, window))
 }
 
 fn line_to_complete(alloc: Global, matches: &ArgMatches<'_>) -> Result<Option<Line>, LineFault>
@@ -361,7 +314,6 @@ fn line_to_read(
         "upgrade" => Ok(Some(Line::Upgrade(file))),
         "trace" => Ok(Some(Line::Trace(file))),
         "explain" => Ok(Some(Line::Explain(file))),
-        "draw" => Ok(Some(Line::Draw(file))),
         _ => Ok(None),
     }
 }
@@ -373,6 +325,7 @@ fn asked(alloc: Global, matches: &ArgMatches<'_>) -> Result<Option<Line>, LineFa
     match matches.subcommand() {
         Some(("classify", classify)) => Ok(priorities_of(classify)),
         Some(("fit", fit)) => Ok(Some(line_to_fit(alloc, fit)?)),
+        Some(("draw", draw)) => Ok(Some(line_to_draw(alloc, draw)?)),
         Some(("complete", complete)) => line_to_complete(alloc, complete),
         Some(("run", run)) => Ok(line_to_run(run)),
         Some(("record", record)) => Ok(line_to_record(record)),

@@ -57,7 +57,7 @@ static JOBS: [Job<'static>; 10] = [
     },
     Job {
         name: "not drawn",
-        task: Task::Draw,
+        task: Task::Draw(None),
         input: b"monk 1 PB 1 0 buffer 1\nenter 0 free\nleave +0 entry\n",
         status: 2,
         answer: b"unreadable 3 3 number\n",
@@ -233,10 +233,15 @@ fn pictures_fail_in_turn(rt: HostRuntime) -> Result<(), Fail> {
     let alloc = rt.alloc();
     let input: &[u8] = b"monk 1 PB 1 0 buffer 1\nenter 0 free\nleave 0 entry\n";
     let mut page = Vec::new(alloc);
-    let status = draw_stream(alloc, &mut Device::new(input), &mut Device::new(&mut page))?;
+    let status = draw_stream(
+        alloc,
+        None,
+        &mut Device::new(input),
+        &mut Device::new(&mut page),
+    )?;
     let job = Job {
         name: "drawn",
-        task: Task::Draw,
+        task: Task::Draw(None),
         input,
         status,
         answer: &page,

@@ -1,6 +1,7 @@
 //! Pictures of known histories.
 
 use monk_commands::draw_stream;
+use monk_draw::Window;
 use monk_history::Device;
 use std::alloc::Global;
 use std::process::Abort;
@@ -140,13 +141,22 @@ fn shows(page: &str, drawing: &Drawing<'_>) -> bool {
         && page.find(drawing.says).is_some()
 }
 
-/// Draws the text, and looks at the picture.
-fn is_drawn<R: Abort + AllocGlobal>(rt: &R, drawing: &Drawing<'_>) -> Result<bool, Fail> {
+/// Draws events of the text, and looks at the picture.
+fn is_drawn_from<R: Abort + AllocGlobal>(
+    rt: &R,
+    window: Option<Window>,
+    drawing: &Drawing<'_>,
+) -> Result<bool, Fail> {
     let alloc = rt.alloc();
     let mut page = Vec::new(alloc);
     let mut reader = Device::new(drawing.input);
-    let status = draw_stream(alloc, &mut reader, &mut Device::new(&mut page))?;
+    let status = draw_stream(alloc, window, &mut reader, &mut Device::new(&mut page))?;
     Ok(status == drawing.status && shows(str::from_utf8(&page)?, drawing))
+}
+
+/// Draws the text, and looks at the picture.
+fn is_drawn<R: Abort + AllocGlobal>(rt: &R, drawing: &Drawing<'_>) -> Result<bool, Fail> {
+    is_drawn_from(rt, None, drawing)
 }
 
 #[test]
@@ -187,5 +197,70 @@ fn long_histories_show_their_end(rt: HostRuntime) -> Result<(), Fail> {
     assert!(rt; is_drawn(&rt, &cut)?);
     cut.says = "<text class=\"wrong far\" x=\"15246\" y=\"28\">301 is forbidden: turn";
     assert!(rt; is_drawn(&rt, &cut)?);
+    Ok(())
+}
+
+/// Numbers that are told of events, how many marks the picture then has, and what is written in it.
+type Told = (Option<u32>, Option<u32>, usize, &'static str);
+
+/// Of a history of 301 events.
+static LEGAL: [Told; 6] = [
+    (Some(4), Some(7), 4, "<title>4: leave 0 entry</title>"),
+    (Some(301), Some(301), 1, "<title>301: enter 1 free</title>"),
+    (Some(300), None, 2, "<title>300: leave 0 entry</title>"),
+    (None, Some(3), 3, "<title>3: enter 0 free</title>"),
+    (Some(1), Some(2000), 301, "<title>1: enter 0 free</title>"),
+    (
+        Some(301),
+        None,
+        1,
+        "<text class=\"step\" x=\"122\" y=\"60\">301</text>\n",
+    ),
+];
+
+/// Of one whose event 301 is forbidden, with one more behind it.
+static FORBIDDEN: [Told; 2] = [
+    (
+        Some(299),
+        None,
+        3,
+        ">301 is forbidden: turn, it is not this seat's turn</text>",
+    ),
+    (Some(1), Some(300), 300, "<title>300: leave 0 entry</title>"),
+];
+
+/// Whether what the numbers ask for is drawn, with this status.
+fn are_drawn<R: Abort + AllocGlobal>(
+    rt: &R,
+    input: &[u8],
+    status: u8,
+    told: &Told,
+) -> Result<bool, Fail> {
+    let (from, to, marks, says) = *told;
+    let Ok(window) = Window::asked(from, to) else {
+        return Ok(false);
+    };
+    let drawing = Drawing {
+        input,
+        marks,
+        says,
+        status,
+    };
+    is_drawn_from(rt, window, &drawing)
+}
+
+#[test]
+fn events_that_are_asked_for_are_drawn(rt: HostRuntime) -> Result<(), Fail> {
+    let legal = visits(rt.alloc(), 150, "enter 1 free\n")?;
+    for told in LEGAL.iter() {
+        assert!(rt; are_drawn(&rt, legal.as_bytes(), 0, told)?);
+    }
+    let behind = (Some(302), None, 0, "window 301\n");
+    assert!(rt; are_drawn(&rt, legal.as_bytes(), 2, &behind)?);
+    let forbidden = visits(rt.alloc(), 150, "leave 1 entry\nenter 1 free\n")?;
+    for told in FORBIDDEN.iter() {
+        assert!(rt; are_drawn(&rt, forbidden.as_bytes(), 1, told)?);
+    }
+    assert!(rt; are_drawn(&rt, forbidden.as_bytes(), 2, &behind)?);
     Ok(())
 }

@@ -144,7 +144,7 @@ static PLAYS: [Job<'static>; 4] = [
         task: Task::Trace,
         input: b"play 3 PIS 1 0 flags 2 8\n0 arrive\n0 out\n0 act 0 3\n0 act 0 4\n0 until 1 waiter\n0 until 32 waiter\n",
         status: 0,
-        answer: b"1 | 0 arrive | arrived 0 0 | t=1 n=1 | data: 2 0 (no bit set) | due\n2 | 0 out | now | t=1 n=1 | data: 2 0 (no bit set) | active\n3 | 0 act 0 3 | replied 1 | t=1 n=1 | data: 2 3 (bits set: 0 1) | active\n4 | 0 act 0 4 | replied 0 | t=1 n=1 | data: 2 3 (bits set: 0 1) | active\n5 | 0 until 1 waiter | chose stay | t=1 n=1 | data: 2 3 (bits set: 0 1) | active\n6 | 0 until 32 waiter | refused range | t=1 n=1 | data: 2 3 (bits set: 0 1) | active\n",
+        answer: b"1 | 0 arrive | arrived 0 0 | t=1 n=1 | data: 2 0 (no bit set) | due\n2 | 0 out | now | t=1 n=1 | data: 2 0 (no bit set) | active\n3 | 0 act 0 3 | replied 1 | t=1 n=1 | data: 2 3 (bits set: 0 1) | active\n4 | 0 act 0 4 | replied 0 (refused by the object) | t=1 n=1 | data: 2 3 (bits set: 0 1) | active\n5 | 0 until 1 waiter | chose stay | t=1 n=1 | data: 2 3 (bits set: 0 1) | active\n6 | 0 until 32 waiter | refused range | t=1 n=1 | data: 2 3 (bits set: 0 1) | active\n",
     },
     Job {
         name: "flags in a play of version 2",

@@ -4,7 +4,7 @@ use std::alloc::Global;
 use std::test::Fail;
 
 /// Words, and what they ask for.
-static ASKING: [(&[&str], &str); 42] = [
+static ASKING: [(&[&str], &str); 46] = [
     (&["monk", "audit"], "Audit(None)"),
     (&["monk", "audit", "x.text"], "Audit(Some(\"x.text\"))"),
     (&["monk", "play"], "Play(None)"),
@@ -15,8 +15,24 @@ static ASKING: [(&[&str], &str); 42] = [
     (&["monk", "trace", "x.text"], "Trace(Some(\"x.text\"))"),
     (&["monk", "explain"], "Explain(None)"),
     (&["monk", "explain", "x.text"], "Explain(Some(\"x.text\"))"),
-    (&["monk", "draw"], "Draw(None)"),
-    (&["monk", "draw", "x.text"], "Draw(Some(\"x.text\"))"),
+    (&["monk", "draw"], "Draw(None, None)"),
+    (&["monk", "draw", "x.text"], "Draw(Some(\"x.text\"), None)"),
+    (
+        &["monk", "draw", "--from", "7", "--to", "2006", "x.text"],
+        "Draw(Some(\"x.text\"), Some(Window { from: 7, to: 2006 }))",
+    ),
+    (
+        &["monk", "draw", "--from", "7"],
+        "Draw(None, Some(Window { from: 7, to: 2006 }))",
+    ),
+    (
+        &["monk", "draw", "--to", "7"],
+        "Draw(None, Some(Window { from: 1, to: 7 }))",
+    ),
+    (
+        &["monk", "draw", "--to=4000"],
+        "Draw(None, Some(Window { from: 2001, to: 4000 }))",
+    ),
     (
         &["monk", "classify", "3", "0", "255"],
         "Classify(3, 0, 255)",
@@ -130,8 +146,8 @@ fn is_refused(alloc: Global, words: &[&str]) -> bool {
     }
 }
 
-/// Words that ask for nothing; of a run also a number out of range, and another kind or sample.
-static NOTHING: [&[&str]; 35] = [
+/// Words that ask for nothing; of a picture also numbers of no events, of a run a number out of range, and another kind or sample.
+static NOTHING: [&[&str]; 42] = [
     &["monk", "adit"],
     &["monk", "help"],
     &["monk", "--help"],
@@ -142,6 +158,13 @@ static NOTHING: [&[&str]; 35] = [
     &["monk", "upgrade", "a", "b"],
     &["monk", "explain", "a", "b"],
     &["monk", "draw", "a", "b"],
+    &["monk", "draw", "--from", "0"],
+    &["monk", "draw", "--to", "0"],
+    &["monk", "draw", "--from", "8", "--to", "7"],
+    &["monk", "draw", "--from", "7", "--to", "2007"],
+    &["monk", "draw", "--from", "x"],
+    &["monk", "draw", "--to", "4294967296"],
+    &["monk", "draw", "--from", "1", "--from", "2"],
     &["monk", "fit", "a", "b"],
     &["monk", "fit", "--means", "1"],
     &["monk", "fit", "--means", "0=256"],

@@ -110,7 +110,7 @@ pub(super) static JOBS: [Job<'static>; 18] = [
     },
     Job {
         name: "not_drawn",
-        task: Task::Draw,
+        task: Task::Draw(None),
         input: b"monk 1 PB 1 0 buffer 1\nenter 0 free\nstay 0\n",
         status: 2,
         answer: b"unreadable 3 2 word\n",
@@ -167,7 +167,7 @@ pub(super) fn is_drawn(rt: &HostRuntime) -> Result<bool, StreamFault> {
         begins: false,
     };
     let mut reader = Device::new(input);
-    let told = Task::Draw.stream(rt.alloc(), &mut reader, &mut Device::new(&mut picture));
+    let told = Task::Draw(None).stream(rt.alloc(), &mut reader, &mut Device::new(&mut picture));
     match told {
         Ok(status) => Ok(status == 1 && picture.begins),
         Err(fault) if picture.length == 0 => Err(fault),

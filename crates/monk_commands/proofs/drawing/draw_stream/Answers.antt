@@ -11,7 +11,7 @@ returns-clause-answer g c =
     let known = g.R.Read.remaining (inner_of c.args.reader.now) in
     let puts = Appends (g.W.Write.contents (inner_of c.args.writer.now)) (g.W.Write.contents (inner_of c.draw_text.new.writer)) in
     IfOk-weaker c.draw_text.result _ _ (λ status a.
-    drawn_known known c.deref.result.now status puts
+    drawn_known c.args.window known c.deref.result.now status puts
     (subst (λ (bytes : List ℕ). IfSome known (λ input. bytes ≡ input)) (sym c.deref.ensures.value)
     c.in_ok-bytes.ensures.bytes) a)
     c.draw_text.ensures.answer
@@ -21,7 +21,7 @@ returns-clause-status g c =
     let known = g.R.Read.remaining (inner_of c.args.reader.now) in
     let puts = Appends (g.W.Write.contents (inner_of c.args.writer.now)) (g.W.Write.contents (inner_of c.draw_text.new.writer)) in
     IfOk-weaker c.draw_text.result _ _ (λ status a.
-    status_known known c.deref.result.now status puts
+    status_known c.args.window known c.deref.result.now status puts
     (subst (λ (bytes : List ℕ). IfSome known (λ input. bytes ≡ input)) (sym c.deref.ensures.value)
     c.in_ok-bytes.ensures.bytes) a)
     c.draw_text.ensures.answer
@@ -29,4 +29,4 @@ returns-clause-status g c =
 pub returns-clause-statuses : goal.returns-clause-statuses
 returns-clause-statuses g c =
     let puts = Appends (g.W.Write.contents (inner_of c.args.writer.now)) (g.W.Write.contents (inner_of c.draw_text.new.writer)) in
-    IfOk-weaker c.draw_text.result _ _ (λ status a. few_statuses c.deref.result.now status puts a) c.draw_text.ensures.answer
+    IfOk-weaker c.draw_text.result _ _ (λ status a. few_statuses c.args.window c.deref.result.now status puts a) c.draw_text.ensures.answer

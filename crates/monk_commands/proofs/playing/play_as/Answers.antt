@@ -8,7 +8,7 @@ use Rattle.monk_world.specs.Board.{state_of_view}
 use Rattle.monk_world.specs.Runs.{opening_state}
 use Rattle.monk_world.specs.State.{State}
 use Rattle.monk_commands.specs.Traced.{AreTraced}
-use Rattle.monk_commands.specs.Played.{IsPlayedBy, IsReportedBy}
+use Rattle.monk_commands.specs.Played.{IsPlayedBy, IsReportedBy, report_with}
 use Rattle.monk_commands.specs.declared.report.Report.{Report}
 use Rattle.monk_commands.proofs.PlayExact.{led_to}
 use Rattle.monk_commands.proofs.playing.play_as.Goals as goal
@@ -22,7 +22,7 @@ returns-in-Ok-write-clause-played g c =
     let first = state_of_view c.in-Ok.world in
     let last = state_of_view c.run_lines.new.self in
     let puts = Appends (g.W.Write.contents (inner_of c.args.writer.now)) (g.W.Write.contents (inner_of c.write.new.out)) in
-    subst (λ (r : Report). IsReportedBy r k o opening play.0 play.1 play.2 puts) (sym c.in-History.is)
+    subst (λ (r : Report). IsReportedBy r k o opening play.0 play.1 play.2 puts) (sym (ap report_with c.in-None.is))
     (subst (λ (h : Heading). IsPlayedBy k o opening h play.1 play.2 puts) c.header-header.ensures
     (subst (λ (b : ℕ). IsPlayedBy k o opening c.header-header.result b play.2 puts) c.budget.ensures (
       c.history.result.now,
@@ -48,7 +48,7 @@ returns-in-Ok-clause-played g c =
     c.in-Ok.ensures.made.1 ∙ (λ i. opening_state opening (seats i) (conds i) (c.budget.ensures i)) in
     let last = state_of_view c.put_trace.new.world in
     on_ok_weaker c.put_trace.result (λ traced.
-    subst (λ (r : Report). IsReportedBy r k o opening h play.1 play.2 puts) (sym c.in-Trace.is) (
+    subst (λ (r : Report). IsReportedBy r k o opening h play.1 play.2 puts) (sym (ap report_with c.in-Some.is)) (
       last,
       (
         traced.0,
@@ -56,7 +56,7 @@ returns-in-Ok-clause-played g c =
           subst (λ (s : State). AreTraced h.object (monitor k h.seats h.conds o opening) 0 s play.2 last traced.0) first
               (subst
               (λ (d : List ℕ). AreTraced h.object (monitor k h.seats h.conds o d) 0 (state_of_view c.in-Ok.world) play.2 last traced.0)
-              c.requires.alike traced.1.0),
+              (c.requires.alike c.in-Some.shown c.in-Some.is) traced.1.0),
           traced.1.1,
         ),
       ),

@@ -7,3 +7,8 @@ pub returns-in_ok-line_to_fit-in-Some-fit-default : goal.returns-in_ok-line_to_f
 returns-in_ok-line_to_fit-in-Some-fit-default c =
     asked_in (subcommand_rows_of c.args.matches.now) (codes "fit") (rows_of (found_of c.in-Some-fit-default.fit.now)) _ (search rules)
     (sym c.in-Some-fit-default.ensures.rows) c.in_ok-line_to_fit-in-Some-fit-default.ensures
+
+pub returns-in_ok-line_to_draw-in-Some-draw-default : goal.returns-in_ok-line_to_draw-in-Some-draw-default
+returns-in_ok-line_to_draw-in-Some-draw-default c =
+    asked_in (subcommand_rows_of c.args.matches.now) (codes "draw") (rows_of (found_of c.in-Some-draw-default.draw.now)) _ (search rules)
+    (sym c.in-Some-draw-default.ensures.rows) c.in_ok-line_to_draw-in-Some-draw-default.ensures

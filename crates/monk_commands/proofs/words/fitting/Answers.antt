@@ -1,8 +1,7 @@
 use Rattle.std.proofs.Common.{rules, ◌≡◌, ◌∙◌, ap, ap₂}
 use Rattle.std.proofs.lemmas.Result.{IfOk-weaker}
 use Rattle.clap.specs.Simple.{app_of_fields}
-use Rattle.clap.specs.declared.builder.arg.Arg.{Arg}
-use Rattle.clap.specs.Words.{App, app_of, rule_of, with_rule, with_subcommand}
+use Rattle.clap.specs.Words.{App, app_of, with_rule, with_subcommand}
 use Rattle.monk_commands.specs.Request.{fit_app}
 use Rattle.monk_commands.proofs.words.fitting.Goals as goal
 
@@ -15,5 +14,5 @@ returns c =
     ∙ ap₂ with_rule (ap app_of_fields c.after_help.ensures ∙ (ap app_of_fields c.about.ensures ∙ c.new.ensures.app))
     c.flag.ensures.rule)
     c.repeated.ensures.rule)
-    (ap (λ (a : Arg). rule_of a) c.help.ensures ∙ c.new-2.ensures.rule) in
+    c.file.ensures.rule in
     adds.shape (search rules) ∙ ap (λ (a : App). with_subcommand (app_of old) a.top) is) c.arg-3.ensures

@@ -32,8 +32,3 @@ pub returns-in-explain : goal.returns-in-explain
 returns-in-explain c =
     let values = file_in (found_of c.args.matches.now) (option_map string_bytes c.in_ok-file.file) c.in_ok-file.ensures in
     record { command = sym c.in-explain.is; values = values; in_range = tt }
-
-pub returns-in-draw : goal.returns-in-draw
-returns-in-draw c =
-    let values = file_in (found_of c.args.matches.now) (option_map string_bytes c.in_ok-file.file) c.in_ok-file.ensures in
-    record { command = sym c.in-draw.is; values = values; in_range = tt }

@@ -1,7 +1,7 @@
 use Rattle.std.proofs.Common.{◌∙◌, ap, codes}
 use Rattle.std.proofs.lemmas.Result.{IfOk-weaker}
 use Rattle.clap.specs.Words.{App, with_subcommand}
-use Rattle.monk_commands.specs.Request.{classify_app, file_app, fit_app}
+use Rattle.monk_commands.specs.Request.{classify_app, file_app, fit_app, window_app}
 use Rattle.monk_commands.proofs.words.plain.Goals as goal
 
 pub returns : goal.returns
@@ -13,6 +13,6 @@ returns c =
     let fit_is = c.in_ok-program-5.ensures ∙ ap (λ (a : App). with_subcommand a fit_app.top) upgrade_is in
     let trace_is = c.in_ok-program-6.ensures ∙ ap (λ (a : App). with_subcommand a (file_app (codes "trace")).top) fit_is in
     let explain_is = c.in_ok-program-7.ensures ∙ ap (λ (a : App). with_subcommand a (file_app (codes "explain")).top) trace_is in
-    IfOk-weaker c.with_reader-6.result _ _
-    (λ r h. h ∙ ap (λ (a : App). with_subcommand a (file_app (codes "draw")).top) explain_is)
-    c.with_reader-6.ensures
+    IfOk-weaker c.with_window.result _ _
+    (λ r h. h ∙ ap (λ (a : App). with_subcommand a (window_app (codes "draw")).top) explain_is)
+    c.with_window.ensures

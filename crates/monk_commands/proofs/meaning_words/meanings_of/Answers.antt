@@ -3,7 +3,7 @@ use Rattle.std.proofs.lemmas.Result.{IfOk-weaker}
 use Rattle.clap.specs.Words.{Text, found_of}
 use Rattle.clap.proofs.WalkLemmas.{raw_values-rows}
 use Rattle.monk_commands.specs.Request.{AreMeanings, words_or_none}
-use Rattle.monk_commands.proofs.words.meanings_of.Goals as goal
+use Rattle.monk_commands.proofs.meaning_words.meanings_of.Goals as goal
 
 pub returns-in-Some : goal.returns-in-Some
 returns-in-Some c =

@@ -1,5 +1,5 @@
 use Rattle.monk_commands.proofs.Requests.{meanings_more}
-use Rattle.monk_commands.proofs.words.meanings.Goals as goal
+use Rattle.monk_commands.proofs.meaning_words.meanings.Goals as goal
 
 pub loop-word-preserved : goal.loop-word-preserved
 loop-word-preserved c =

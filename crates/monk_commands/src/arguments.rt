@@ -1,0 +1,69 @@
+//! The arguments of the commands.
+
+ghost use Rattle.std.specs.Prelude.{◌≡◌, codes, false};
+ghost use Rattle.clap.specs.Words.{new_rule, rule_of};
+ghost use Rattle.monk_commands.specs.Request.{flag_rule, number_rule, repeated_rule, required_rule};
+
+use crate::help::FILE;
+use clap::builder::ValueParser;
+use clap::{Arg, ArgAction, value_parser};
+use std::alloc::Global;
+
+/// The file that a command reads.
+pub(crate) fn file<'a>(alloc: Global) -> Arg<'a>
+    ensures rule { rule_of result ≡ new_rule (codes "FILE") }
+    ensures local { result.global ≡ false }
+{
+    Arg::new(alloc, "FILE").help(FILE)
+}
+
+/// A word that must stand there, and that the parser takes.
+pub(crate) fn required<'a>(
+    alloc: Global,
+    name: &'a str,
+    help: &'a str,
+    parser: ValueParser<'a>,
+) -> Arg<'a>
+    ensures rule { rule_of result ≡ required_rule name.entry.now parser.entry }
+    ensures local { result.global ≡ false }
+{
+    Arg::new(alloc, name)
+        .help(help)
+        .required(true)
+        .value_parser(parser)
+}
+
+/// A flag.
+pub(crate) fn flag<'a>(alloc: Global, name: &'a str, help: &'a str) -> Arg<'a>
+    ensures rule { rule_of result ≡ flag_rule name.entry.now }
+    ensures local { result.global ≡ false }
+{
+    Arg::new(alloc, name)
+        .help(help)
+        .long(name)
+        .action(ArgAction::SetTrue)
+}
+
+/// An option that may stand more than once, and takes a value.
+pub(crate) fn repeated<'a>(alloc: Global, name: &'a str, help: &'a str, value: &'a str) -> Arg<'a>
+    ensures rule { rule_of result ≡ repeated_rule name.entry.now }
+    ensures local { result.global ≡ false }
+{
+    Arg::new(alloc, name)
+        .help(help)
+        .long(name)
+        .value_name(value)
+        .action(ArgAction::Append)
+}
+
+/// An option that takes a whole number.
+pub(crate) fn number<'a>(alloc: Global, name: &'a str, help: &'a str) -> Arg<'a>
+    ensures rule { rule_of result ≡ number_rule name.entry.now }
+    ensures local { result.global ≡ false }
+{
+    Arg::new(alloc, name)
+        .help(help)
+        .long(name)
+        .value_name("N")
+        .value_parser(value_parser!(u32))
+}

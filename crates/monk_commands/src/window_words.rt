@@ -1,0 +1,46 @@
+//! The words that ask for events from one number to another.
+
+ghost use Rattle.std.specs.Prelude.{IfOk};
+ghost use Rattle.clap.specs.Words.{found_of, rows_of};
+ghost use Rattle.monk_commands.specs.Request.{IsWindowIn, MayHaveNumber};
+
+use crate::request::LineFault;
+use clap::ArgMatches;
+use monk_draw::{Window, WindowFault};
+use std::alloc::Global;
+
+/// The number that is told for a name, if one is. clap has tested that it is one, and has no contract that says so.
+fn number_of(alloc: Global, matches: &ArgMatches<'_>, name: &str) -> Result<Option<u32>, LineFault>
+    ensures { IfOk result (λ n. MayHaveNumber name.now n (rows_of (found_of matches.now))) }
+{
+    match matches.try_get_one::<u32>(name) {
+        Ok(number) => Ok(number),
+        Err(_) => Err(LineFault::Words(String::new(alloc))),
+    }
+}
+
+fn fault_of(alloc: Global, fault: WindowFault) -> LineFault {
+    match format!(in alloc; "error: {fault}") {
+        Ok(text) => LineFault::Words(text),
+        Err(_) => LineFault::Memory,
+    }
+}
+
+/// The events that are asked for, if any are.
+///
+/// # Errors
+///
+/// [`LineFault::Words`] with what is said of a [`WindowFault`], in one line. [`LineFault::Memory`] where a growth was refused.
+pub(crate) fn window_of(
+    alloc: Global,
+    matches: &ArgMatches<'_>,
+) -> Result<Option<Window>, LineFault>
+    ensures { IfOk result (λ window. IsWindowIn window (rows_of (found_of matches.now))) }
+{
+    let from = number_of(alloc, matches, "from")?;
+    let to = number_of(alloc, matches, "to")?;
+    match Window::asked(from, to) {
+        Ok(window) => Ok(window),
+        Err(fault) => Err(fault_of(alloc, fault)),
+    }
+}
