@@ -23,45 +23,49 @@ struct Page<'a> {
     says: &'static str,
 }
 
-/// The same page, of which more is said.
-const fn whole(input: &'static [u8], says: &'static str) -> Page<'static> {
+static PAGES: [Page<'static>; 9] = [
     Page {
-        input,
+        input: UNTIL,
         from: None,
         to: None,
-        says,
-    }
-}
-
-static PAGES: [Page<'static>; 9] = [
-    whole(
-        UNTIL,
-        "{\"before\":0,\"conditions\":0,\"events\":5,\"forbidden\":null,\"kind\":\"PIS\",\"kinds\":[{\"kind\":\"PB\",\"verdict\":\"forbidden 2 2 call\",\"why\":\"PB monitors have no such call\"},",
-    ),
-    whole(
-        UNTIL,
-        ",{\"kind\":\"PIS\",\"verdict\":\"legal 5\",\"why\":null},",
-    ),
-    whole(
-        UNTIL,
-        "],\"mode\":\"automatic\",\"object\":\"buffer\",\"page\":1,\"ranks\":\"1 2\",\"seats\":2,\"size\":1,\"steps\":[{\"choice\":null,\"conditions\":null,\"data\":\"",
-    ),
-    whole(
-        UNTIL,
-        "\",\"event\":\"until 0 1 entry\",\"inside\":[0],\"ready\":[],\"signaller\":null,\"state\":[1],\"turn\":\"open\",\"until\":[[0,1]],\"waiter\":null},",
-    ),
-    whole(
-        UNTIL,
-        "{\"choice\":{\"fronts\":[[\"until\",0]],\"may\":[\"until 0\"]},\"conditions\":null,",
-    ),
-    whole(
-        WHERE_SIGNALLERS_GO_ON,
-        "\"forbidden\":{\"choice\":{\"fronts\":[[\"waiter\",0],[\"signaller\",1]],\"may\":[\"stay\"]},\"event\":\"signal 1 1 waiter 0\",\"reply\":null,\"step\":6,\"why\":\"",
-    ),
-    whole(
-        WHERE_SIGNALLERS_GO_ON,
-        "\"event\":\"act 1 0 7 1\",\"inside\":[0,1],\"ready\":null,\"signaller\":[],\"state\":[1,7],\"turn\":\"of 1\",\"until\":null,\"waiter\":[]}],\"verdict\":\"forbidden 6 6 choice\",\"version\":1}",
-    ),
+        says: "{\"before\":0,\"conditions\":0,\"events\":5,\"forbidden\":null,\"kind\":\"PIS\",\"kinds\":[{\"kind\":\"PB\",\"verdict\":\"forbidden 2 2 call\",\"why\":\"PB monitors have no such call\"},",
+    },
+    Page {
+        input: UNTIL,
+        from: None,
+        to: None,
+        says: ",{\"kind\":\"PIS\",\"verdict\":\"legal 5\",\"why\":null},",
+    },
+    Page {
+        input: UNTIL,
+        from: None,
+        to: None,
+        says: "],\"mode\":\"automatic\",\"object\":\"buffer\",\"page\":1,\"ranks\":\"1 2\",\"seats\":2,\"size\":1,\"steps\":[{\"choice\":null,\"conditions\":null,\"data\":\"",
+    },
+    Page {
+        input: UNTIL,
+        from: None,
+        to: None,
+        says: "\",\"event\":\"until 0 1 entry\",\"inside\":[0],\"ready\":[],\"signaller\":null,\"state\":[1],\"turn\":\"open\",\"until\":[[0,1]],\"waiter\":null},",
+    },
+    Page {
+        input: UNTIL,
+        from: None,
+        to: None,
+        says: "{\"choice\":{\"fronts\":[[\"until\",0]],\"may\":[\"until 0\"]},\"conditions\":null,",
+    },
+    Page {
+        input: WHERE_SIGNALLERS_GO_ON,
+        from: None,
+        to: None,
+        says: "\"forbidden\":{\"choice\":{\"fronts\":[[\"waiter\",0],[\"signaller\",1]],\"may\":[\"stay\"]},\"event\":\"signal 1 1 waiter 0\",\"reply\":null,\"step\":6,\"why\":\"",
+    },
+    Page {
+        input: WHERE_SIGNALLERS_GO_ON,
+        from: None,
+        to: None,
+        says: "\"event\":\"act 1 0 7 1\",\"inside\":[0,1],\"ready\":null,\"signaller\":[],\"state\":[1,7],\"turn\":\"of 1\",\"until\":null,\"waiter\":[]}],\"verdict\":\"forbidden 6 6 choice\",\"version\":1}",
+    },
     // The forbidden event is behind the window.
     Page {
         input: WHERE_SIGNALLERS_GO_ON,
