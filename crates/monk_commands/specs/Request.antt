@@ -183,7 +183,8 @@ abbrev pub MayHaveNumber : Text → Option ℕ → List Row → Type 0
 MayHaveNumber name None rows = one_of name rows ≡ None
 MayHaveNumber name (Some n) rows = HasNumber name n rows
 
--- the events that are asked for are those that the numbers mean which clap has found for `from` and `to`, and these are fine
+-- the events that are asked for are those that the numbers mean which clap has found for `from` and
+-- `to`, and these are fine
 pub record IsWindowIn (window : Option Window) (rows : List Row) : Type 0 where
   pub from : Option ℕ
   pub to : Option ℕ

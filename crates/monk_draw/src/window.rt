@@ -41,14 +41,16 @@ impl Window {
         Ok(Window { from, to })
     }
 
-    /// The events that a command line asks for, which may tell either number alone, and `None` where it tells none: with `from`
-    /// alone the first [`Window::MOST`] events from there on, with `to` alone the last so many up to there.
+    /// The events that a command line asks for, which may tell either number alone, and `None`
+    /// where it tells none: with `from` alone the first [`Window::MOST`] events from there on, with
+    /// `to` alone the last so many up to there.
     ///
     /// # Errors
     ///
     /// Those of [`Window::between`].
     pub fn asked(from: Option<u32>, to: Option<u32>) -> Result<Option<Window>, WindowFault>
-        ensures numbers { IfOk result (λ asked. option_map (λ (w : Window). (w.from, w.to)) asked ≡ numbers_meant from to) }
+        ensures numbers { IfOk result (λ asked. option_map (λ (w : Window). (w.from, w.to)) asked
+            ≡ numbers_meant from to) }
         ensures only { OnOk result (IfSome (numbers_meant from to) (λ n. window_fault n.0 n.1 ≡ None)) }
         ensures fault { IfErr result (λ f. IsSomeAnd (numbers_meant from to) (λ n. window_fault n.0 n.1 ≡ Some f)) }
     {
