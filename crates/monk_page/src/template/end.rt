@@ -182,7 +182,7 @@ t, dots[i]] }));\n  if (fault) {\n    marks.push({ step: last, parts: [...svg.qu
 vg.getScreenCTM().inverse();\n  const { x } = new DOMPoint(event.clientX, event.clientY).matri\
 xTransform(toPicture);\n  const all = [...columns].map(([step, middle]) => [Math.abs(middle - \
 x), step]);\n  const nearest = all.reduce((best, it) => (it[0] < best[0] ? it : best), [Infini\
-ty, first]);\n  return x < Math.min(...columns.values()) - gap / 2 ? first : nearest[1];\n}\n\n\
+ty, first]);\n  return x < columns.values().next().value - gap / 2 ? first : nearest[1];\n}\n\n\
 cropPicture();\naddBand();\nconst rulers = addRulers();\nfitPicture(rulers);\ncollectMarks();\n\
 svg.addEventListener('click', (event) => show(nearestStep(event)));\naddEventListener('resize'\
 , () => {\n  fitPicture(rulers);\n  show(now);\n});\n\nfunction scrollTo(r, x) {\n  const box \
@@ -192,201 +192,205 @@ svg.addEventListener('click', (event) => show(nearestStep(event)));\naddEventLis
 arks[r.step - first - 1].parts[1];\n  const dot = mark && mark.getAttribute('transform').match\
 (/translate\\(\\S+ (\\S+)\\)/);\n  if (!dot) return;\n  const y = (Number(dot[1]) - TOP) * vie\
 w.scale;\n  if (y < box.scrollTop + 60 || y > box.scrollTop + box.clientHeight - 60) {\n    bo\
-x.scrollTop = y - box.clientHeight / 2;\n  }\n}\n\nfunction showPicture(r) {\n  const x = colu\
-mns.get(r.step);\n  const leftmost = columns.size ? Math.min(...columns.values()) : gap;\n  co\
-nst left = x === undefined ? leftmost - gap : x - gap / 2;\n  bandBox.setAttribute('x', left);\
-\n  bandBox.style.display = x === undefined ? 'none' : '';\n  const behind = r.step === last ? \
-view.w : x + gap * 0.68;\n  const from = x === undefined ? Math.max(LEFT, left + gap / 2) : be\
-hind;\n  veil.setAttribute('x', from);\n  veil.setAttribute('width', Math.max(0, view.w - from\
-));\n  marks.forEach((mark) => {\n    mark.parts.forEach((part) => part && part.classList.togg\
-le('later', mark.step > r.step));\n  });\n  scrollTo(r, x);\n}\n\n// The monitor as boxes: who \
-is active, the data, each queue, and who is outside.\n\nlet shown; // the record that is shown\
-\n\nconst hasMoved = (s) => shown.was && shown.was.at[s] !== shown.at[s] && !shown.bad;\n\nfun\
-ction token(s, place, tag) {\n  const element = make(tag || 'li', `seat ${place}${hasMoved(s) \
-? ' moved' : ''}`);\n  element.append(make('span', 'unseen', 'seat '), String(s));\n  return e\
-lement;\n}\n\nfunction box(cls, title, note, ...inside) {\n  const head = make('h3', '', title\
-);\n  if (note) head.append(make('span', 'quiet', note));\n  return make('div', `box card ${cl\
-s}`, head, ...inside);\n}\n\nfunction queueOf(seats, place) {\n  if (!seats.length) return mak\
-e('p', 'quiet', 'nobody');\n  return make('ol', 'seats', ...seats.map((s) => token(s, place)))\
-;\n}\n\nfunction entryBox(r) {\n  if (r.entry === undefined || isHiding()) {\n    return box('\
-entry', 'Entry', '', make('p', 'quiet', 'nobody known'));\n  }\n  const known = make('p', 'qui\
-et', 'known since it enters next');\n  return box('entry', 'Entry', '', make('div', '', queueO\
-f([r.entry], 'entry'), known));\n}\n\nfunction queueBox(name, r) {\n  switch (name) {\n    cas\
-e 'waiters':\n      return box('waiter', 'Waiter queue', '', queueOf(r.waiter, 'waiter'));\n    \
-case 'signallers':\n      return box('signaller', 'Signaller queue', '', queueOf(r.signaller, \
-'signaller'));\n    case 'ready':\n      return box('until', 'Ready', '', queueOf(r.ready, 'un\
-til'));\n    default:\n      return entryBox(r);\n  }\n}\n\nfunction activeWords(r) {\n  const \
-[turn, seat, from] = r.turn.split(' ');\n  if (turn === 'open') return make('p', 'quiet', 'nob\
-ody: open to whoever enters');\n  if (turn === 'of') return queueOf([Number(seat)], 'active');\
-\n  const queue = from === 'until' ? 'waits-until' : `${from} queue`;\n  const next = make('sp\
-an', '', `is next, from the ${queue}`);\n  return make('div', 'seats', token(Number(seat), fro\
-m, 'span'), next);\n}\n\nfunction topRow(r) {\n  const data = dataWords(r.state).map((words) =\
-> make('p', '', words));\n  const active = box('active half', 'Active', '', activeWords(r));\n  \
-return make('div', 'row', active, box('half', 'Data', '', ...data));\n}\n\n// The queues in th\
-e kind's order, with `>` or `=` between them.\nfunction orderRow(r) {\n  const head = make('h2\
-', '', `Who goes on at a release: ${orderWords()}`);\n  const line = make('div', 'row', head);\
-\n  ORDER.forEach(([name, rank], i) => {\n    if (i) {\n      const sign = make('span', 'rank'\
-, ORDER[i - 1][1] === rank ? '=' : '>');\n      sign.setAttribute('aria-hidden', 'true');\n      \
-line.append(sign);\n    }\n    line.append(queueBox(name, r));\n  });\n  return line;\n}\n\nfu\
-nction untilLine(r, [s, predicate]) {\n  const isTrue = r.ready.includes(s);\n  const truth = \
-make('span', `truth ${isTrue ? 'yes' : 'quiet'}`, isTrue ? 'true: ready' : 'false');\n  const \
-words = make('span', '', `until ${PREDICATES[predicate]}`);\n  return make('li', '', token(s, \
-'until', 'span'), words, truth);\n}\n\nfunction waitersRow(r) {\n  if (!automatic) {\n    cons\
-t boxes = r.conditions.map((queue, c) =>\n      box('condition', `Condition ${c}`, '', queueOf\
-(queue, 'condition')),\n    );\n    return boxes.length ? [make('div', 'row', ...boxes)] : [];\
-\n  }\n  const waits = r.until.map((wait) => untilLine(r, wait));\n  const list = waits.length \
-? make('ol', 'waits', ...waits) : make('p', 'quiet', 'nobody');\n  return [make('div', 'row', \
-box('until', 'Waits until', 'first wait first', list))];\n}\n\nfunction outsideRow(r) {\n  con\
-st out = [];\n  for (let s = 0; s < H.seats; s++) {\n    const isAtEntry = s === r.entry && !i\
-sHiding();\n    if (!r.inside.includes(s) && !isAtEntry) out.push(s);\n  }\n  return make('div\
-', 'row', box('outside', 'Outside the monitor', '', queueOf(out, 'outside')));\n}\n\nfunction \
-showBoxes(r) {\n  const parts = [topRow(r), orderRow(r), ...waitersRow(r)];\n  if (r.bad) {\n    \
-const head = `Before step ${r.step}, which can\\u2019t be: the monitor as it stands`;\n    par\
-ts.unshift(make('h2', '', head));\n  }\n  const monitor = make('div', '', ...parts);\n  monito\
-r.id = 'monitor';\n  $('boxes').replaceChildren(monitor, outsideRow(r));\n  const when = r.bad \
-? 'before' : 'after';\n  $('boxes').setAttribute('aria-label', `The monitor ${when} step ${r.s\
-tep}`);\n}\n\n// The sentence of a step, and who might have gone on.\n\nfunction candidateOf(f\
-ront, caller) {\n  const [queue, s] = front.split(' ');\n  if (queue === 'waiter') return [fro\
-nt, `seat ${s}, from the waiter queue`, waiterRank];\n  if (queue === 'until') return [front, \
-`seat ${s}, whose predicate holds`, waiterRank];\n  return s === caller\n    ? ['stay', `seat \
-${s}, by staying active`, signallerRank]\n    : [front, `seat ${s}, from the signaller queue`, \
-signallerRank];\n}\n\n// Who could go on: each candidate with its words and its priority, the \
-highest first.\nfunction candidates(r) {\n  const caller = r.words[1];\n  const found = r.fron\
-ts.map((front) => candidateOf(front, caller));\n  if (r.may.includes('stay') && !found.some(([\
-next]) => next === 'stay')) {\n    return [['stay', `seat ${caller}, by staying active`, 9]];\n  \
-}\n  found.push(['entry', 'whoever enters next', entryRank]);\n  return found.sort((a, b) => b\
-[2] - a[2]);\n}\n\nfunction takenWords(r, took) {\n  if (took === 'stay') return `seat ${r.wor\
-ds[1]} stays active`;\n  return took === 'entry' ? 'whoever enters next' : took;\n}\n\nfunctio\
-n choiceLine(r, [next, words], took) {\n  const may = r.may.includes(next);\n  const isTaken = \
-next === took;\n  const notTaken = may ? (r.bad ? 'permitted' : 'permitted too') : 'not permit\
-ted';\n  const taken = may ? 'taken' : 'taken, forbidden';\n  const filled = may ? '\\u25CF' : \
-'\\u00D7';\n  const hollow = may ? '\\u25CB' : '\\u2013';\n  const sign = make('span', 'sign', \
-isTaken ? filled : hollow);\n  sign.setAttribute('aria-hidden', 'true');\n  const how = make('\
-span', 'how', isTaken ? taken : notTaken);\n  const cls = (isTaken ? 'took ' : '') + (may ? '' \
-: 'barred');\n  return make('li', cls, sign, make('span', 'who', words), how);\n}\n\nfunction \
-showChoices(r) {\n  const area = $('choices');\n  area.replaceChildren();\n  area.hidden = !r.\
-event || (r.bad && !r.may);\n  if (area.hidden) return;\n  if (!r.may) {\n    const words = 'N\
-o choice here: this step doesn\\u2019t give the monitor up.';\n    area.append(make('p', 'quie\
-t', words));\n    return;\n  }\n  const took = nextOf(r).join(' ');\n  const all = candidates(\
-r);\n  if (!all.some(([next]) => next === took)) all.push([took, takenWords(r, took), 0]);\n  \
-area.append(make('h2', '', `Who may go on under ${H.kind}`));\n  area.append(make('ul', '', ..\
-.all.map((it) => choiceLine(r, it, took))));\n}\n\nfunction showSay(r) {\n  const line = $('sa\
-y');\n  line.replaceChildren(make('span', 'unseen', `Step ${r.step}. `), say(r));\n  if (r.bad\
-) line.append(make('span', 'bad', `Forbidden: ${r.why}.`));\n  const others = H.kinds.filter((\
-k) => k.kind !== H.kind && k.why && stepOf(k) === r.step);\n  if (others.length) {\n    const \
-names = listed(others.map((k) => k.kind));\n    line.append(make('span', 'unseen', ` ${names} \
-would forbid this step.`));\n  }\n  $('told').classList.toggle('bad', Boolean(r.bad));\n  $('l\
-ine').textContent = r.event || '';\n}\n\n// The ten kinds: what each says of the same events.\n\
-\nconst OF = {\n  PB: 'Hoare\\u2019s kind',\n  NPNB: 'Mesa\\u2019s own kind, and that of POSIX\
-, Java and Go',\n};\nlet picked = null;\n\nconst stepOf = (k) => Number(k.verdict.split(' ')[1\
-]);\n\nconst chips = H.kinds.map((k) => {\n  const isOwn = k.kind === H.kind;\n  const own = '\
-the kind of this history';\n  const cls = `chip${k.why ? ' no' : ''}${isOwn ? ' own' : ''}`;\n  \
-const words = make('span', 'unseen', isOwn ? `, ${own}` : '');\n  const chip = make('button', \
-cls, make('b', '', k.kind), make('span', ''), words);\n  chip.type = 'button';\n  if (isOwn) c\
-hip.title = own;\n  chip.addEventListener('click', () => {\n    const step = k.why ? stepOf(k) \
-: now;\n    show(step >= first && step <= last ? step : now, k);\n  });\n  $('chips').append(m\
-ake('li', '', chip));\n  return chip;\n});\n\nfunction showChip(chip, k, r) {\n  const isPast \
-= Boolean(k.why) && stepOf(k) <= r.step;\n  const isHidden = isHiding() && !isPast && r.step < \
-last;\n  chip.classList.toggle('past', isPast);\n  chip.classList.toggle('no', Boolean(k.why) \
-&& !isHidden);\n  chip.children[1].textContent = isHidden ? 'so far legal' : verdictWords(k.ve\
-rdict);\n}\n\n// The sentence of one kind, said of several.\nfunction ofMany(kind, why) {\n  r\
-eturn why\n    .replace(`${kind} puts`, 'they put')\n    .replace(`${kind} monitors have`, 'th\
-ey have')\n    .replace(`${kind} monitors`, 'their monitors');\n}\n\nfunction noteOf(kinds) {\n  \
-const [k] = kinds;\n  const names = make('b', '', listed(kinds.map((it) => it.kind)));\n  if (\
-!k.why) return make('p', '', names, ` permits all ${plural(H.events, 'event')}.`);\n  const is\
-Many = kinds.length > 1;\n  const why = isMany ? ofMany(k.kind, k.why) : k.why;\n  const forbi\
-ds = isMany ? 'forbid' : 'forbids';\n  return make('p', '', names, ` ${forbids} step ${stepOf(\
-k)}: ${why}.`);\n}\n\nfunction showKinds(r, all) {\n  const notes = new Map();\n  H.kinds.forE\
-ach((k, i) => {\n    showChip(chips[i], k, r);\n    if ((k.why && (stepOf(k) === r.step || all\
-)) || picked === k) {\n      const same = k.why ? stepOf(k) + k.why.replaceAll(k.kind, '') : '\
-';\n      notes.set(same, [...(notes.get(same) || []), k]);\n    }\n  });\n  $('notes').replac\
-eChildren(...[...notes.values()].map(noteOf));\n}\n\n// All steps as a table: closed on the sc\
-reen, printed.\n\nfunction headOf() {\n  const conditions = (R[0].conditions || []).map((_, c) \
-=> `c${c}`);\n  const signaller = signallerRank ? ['Signaller'] : [];\n  const queues = automa\
-tic ? ['Waits until', 'Ready'] : [...conditions, 'Waiter', ...signaller];\n  return ['Step', '\
-What happens', 'Active', ...queues, 'Data'];\n}\n\nfunction turnCell(r) {\n  const [turn, seat\
-] = r.turn.split(' ');\n  if (turn === 'open') return 'open';\n  return turn === 'of' ? seat : \
-`${seat} next`;\n}\n\nfunction queueCells(r) {\n  if (automatic) {\n    const waits = r.until.\
-map(([s, predicate]) => `${s}: ${PREDICATES[predicate]}`);\n    return [waits.join('; '), r.re\
-ady.join(', ')];\n  }\n  const signaller = signallerRank ? [r.signaller] : [];\n  return [...r\
-.conditions, r.waiter, ...signaller].map((queue) => queue.join(', '));\n}\n\nfunction rowOf(r) \
-{\n  const link = make('a', '', String(r.step));\n  link.href = `#step=${r.step}`;\n  const ha\
-ppens = say(r) + (r.bad ? ` Forbidden: ${r.why}.` : '');\n  const cells = [link, happens, turn\
-Cell(r), ...queueCells(r), dataWords(r.state).join(' ')];\n  const isLong = (i) => i === 1 || \
-i === cells.length - 1 || (automatic && i === 3);\n  const tds = cells.map((cell, i) => make('\
-td', isLong(i) ? '' : 'short', cell));\n  const line = make('tr', r.bad ? 'bad' : '', ...tds);\
-\n  line.dataset.step = r.step;\n  return line;\n}\n\nfunction headCell(words) {\n  const cell \
-= make('th', '', words);\n  cell.scope = 'col';\n  return cell;\n}\n\nfunction fillTable() {\n  \
-if ($('table').firstChild) return;\n  const head = make('thead', '', make('tr', '', ...headOf(\
-).map(headCell)));\n  $('table').append(make('table', '', head, make('tbody', '', ...R.map(row\
-Of))));\n}\n\nfunction markTable() {\n  document.querySelectorAll('#table tr[data-step]').forE\
-ach((line) => {\n    const step = Number(line.dataset.step);\n    if (step === now) line.setAt\
-tribute('aria-current', 'step');\n    else line.removeAttribute('aria-current');\n    line.hid\
-den = isHiding() && step > now;\n  });\n}\n\n$('all').addEventListener('toggle', () => {\n  fi\
-llTable();\n  markTable();\n});\n\n// One step is shown; slider, buttons and keys go to others\
-.\n\nlet now = first;\nlet resting;\n\nfunction showControls() {\n  $('slider').value = now;\n  \
-$('slider').setAttribute('aria-valuetext', `step ${now} of ${last}`);\n  $('count').textConten\
-t = `step ${now} of ${last}`;\n  $('back').disabled = $('first').disabled = now === first;\n  \
-$('on').disabled = $('last').disabled = now === last;\n}\n\nfunction showVerdict() {\n  const \
-[word, step, , reasonWord] = H.verdict.split(' ');\n  const isLegal = word === 'legal';\n  con\
-st forbidden = `forbidden at step ${step}: ${reasonWord}`;\n  const verdict = isLegal ? `legal\
-, ${plural(H.events, 'event')}` : forbidden;\n  $('verdict').textContent = isHiding() && now < \
-last ? '' : verdict;\n  $('verdict').className = isLegal ? '' : 'bad';\n}\n\n// The address fo\
-llows where a step is rested on: browsers refuse too many changes in a row.\nfunction followAd\
-dress() {\n  clearTimeout(resting);\n  resting = setTimeout(() => {\n    const at = new URLSea\
-rchParams(location.hash.slice(1));\n    at.set('step', now);\n    try {\n      history.replace\
-State(null, '', `#${at}`);\n    } catch (_) {\n      // a place without addresses\n    }\n  }, \
-150);\n}\n\nfunction show(step, kind) {\n  now = Math.max(first, Math.min(last, Number.isFinit\
-e(step) ? step : first));\n  picked = kind || null;\n  const r = R[now - first];\n  shown = r;\
-\n  showPicture(r);\n  showBoxes(r);\n  showChoices(r);\n  showSay(r);\n  showKinds(r);\n  mar\
-kTable();\n  showControls();\n  showVerdict();\n  followAddress();\n}\n\n$('slider').min = fir\
-st;\n$('slider').max = last;\n$('slider').addEventListener('input', (event) => show(Number(eve\
-nt.target.value)));\n$('first').addEventListener('click', () => show(first));\n$('back').addEv\
-entListener('click', () => show(now - 1));\n$('on').addEventListener('click', () => show(now + \
-1));\n$('last').addEventListener('click', () => show(last));\n$('hide').addEventListener('chan\
-ge', (event) => {\n  document.body.classList.toggle('hiding', event.target.checked);\n  show(n\
-ow, picked);\n});\n\n// PageUp and PageDown are what a presenter's remote control sends.\ncons\
-t KEYS = {\n  ArrowLeft: () => now - 1,\n  PageUp: () => now - 1,\n  ArrowRight: () => now + 1\
-,\n  PageDown: () => now + 1,\n  Home: () => first,\n  End: () => last,\n};\n\naddEventListene\
-r('keydown', (event) => {\n  const isOthers = event.altKey || event.ctrlKey || event.metaKey |\
-| event.defaultPrevented;\n  if (isOthers || event.target.id === 'slider' || !(event.key in KE\
-YS)) return;\n  event.preventDefault();\n  show(KEYS[event.key]());\n});\n\n// Light and dark: \
-as the system has it, until the button is pressed.\n\nlet dark = matchMedia('(prefers-color-sc\
-heme: dark)').matches;\nconst schemes = [...document.styleSheets]\n  .flatMap((sheet) => [...s\
-heet.cssRules])\n  .filter((rule) => rule.media && rule.media.mediaText.includes('prefers-colo\
-r-scheme'));\n\nfunction setTheme(isDark) {\n  dark = isDark;\n  schemes.forEach((rule) => (ru\
-le.media.mediaText = dark ? 'all' : 'not all'));\n  document.documentElement.style.colorScheme \
-= dark ? 'dark' : 'light';\n  $('theme').textContent = dark ? 'Light' : 'Dark';\n}\n\n$('theme\
-').textContent = dark ? 'Light' : 'Dark';\n$('theme').addEventListener('click', () => setTheme\
-(!dark));\n\n// Print: light, the picture in strips with its legend, and the table.\n\nconst A\
-CROSS = 12; // steps in a strip\nlet screenDark = null;\n\nfunction addStrip(from) {\n  const \
-width = ACROSS * gap;\n  const strip = draw('svg', { viewBox: `0 0 ${LEFT + width} ${view.h}` \
-}, $('strips'));\n  const box = `0 ${view.y} ${LEFT} ${view.h}`;\n  const names = draw('svg', \
-{ width: LEFT, height: view.h, viewBox: box }, strip);\n  draw('use', { href: '#scene' }, name\
-s);\n  const part = { x: LEFT, width, height: view.h, viewBox: `${from} ${view.y} ${width} ${v\
-iew.h}` };\n  draw('use', { href: '#scene' }, draw('svg', part, strip));\n}\n\nfunction addStr\
-ips() {\n  if ($('strips').firstChild) return;\n  const xs = [...columns.values()];\n  for (le\
-t i = 0; i < Math.max(1, xs.length); i += ACROSS) {\n    addStrip(i === 0 ? LEFT : xs[i] - gap \
-/ 2);\n  }\n  const under = view.y + view.h;\n  const high = Math.max(1, view.high - under);\n  \
-const box = `0 ${under} ${LEFT + ACROSS * gap} ${high}`;\n  draw('use', { href: '#scene' }, dr\
-aw('svg', { viewBox: box }, $('strips')));\n}\n\naddEventListener('beforeprint', () => {\n  sc\
-reenDark = dark;\n  setTheme(false);\n  fillTable();\n  $('all').open = true;\n  showKinds(R[R\
-.length - 1], true);\n  addStrips();\n});\n\naddEventListener('afterprint', () => {\n  if (scr\
-eenDark !== null) setTheme(screenDark);\n  show(now, picked);\n});\n\n// The head of the page, \
-and the step that the address names.\n\nfunction byAddress() {\n  const at = new URLSearchPara\
-ms(location.hash.slice(1));\n  if (at.has('theme')) setTheme(at.get('theme') === 'dark');\n  i\
-f (at.has('hide')) {\n    $('hide').checked = true;\n    document.body.classList.add('hiding')\
-;\n  }\n  const named = at.get('step');\n  const step = /^\\d+$/.test(named || '') ? Number(na\
-med) : H.before ? last : first;\n  show(step);\n}\n\nfunction objectWords() {\n  return {\n    \
-buffer: `a buffer of ${H.size}`,\n    book: `a book for ${plural(H.size, 'reader')}`,\n    sho\
-p: `a shop with ${plural(H.size, 'waiting chair')}`,\n    flags: plural(H.size, 'flag'),\n  }[\
-H.object];\n}\n\nfunction headWords() {\n  const kind = `${H.kind}, ${H.mode}${OF[H.kind] ? ` \
-(${OF[H.kind]})` : ''}: ${orderWords()}.`;\n  const conditions = automatic ? '' : `, ${plural(\
-H.conditions, 'condition')}`;\n  const size = `${plural(H.seats, 'seat')}${conditions}, ${obje\
-ctWords()}.`;\n  const isPart = H.before > 0 || last < H.events;\n  const shownSteps = `The pa\
-ge shows steps ${first + 1} to ${last} of ${H.events}.`;\n  return `${kind} ${size}${isPart && \
-last > first ? ` ${shownSteps}` : ''}`;\n}\n\nconst file = decodeURIComponent(location.pathnam\
-e.split('/').pop() || '').replace(/\\.html?$/, '');\nif (file) $('name').textContent = file.re\
-place(/[_-]+/g, ' ');\ndocument.title = `${$('name').textContent}: ${H.kind}`;\n$('about').tex\
-tContent = headWords();\n$('live').hidden = false;\naddEventListener('hashchange', byAddress);\
-\nbyAddress();\n})();\n</script>\n</body>\n</html>\n";
+x.scrollTop = y - box.clientHeight / 2;\n  }\n}\n\n// Hides the marks of what follows; only th\
+ose that change are touched.\nlet markedUpTo = Infinity;\nfunction hideLater(step) {\n  const \
+low = Math.min(step, markedUpTo);\n  const high = Math.max(step, markedUpTo);\n  const changed \
+= marks.filter((mark) => mark.step > low && mark.step <= high);\n  changed.forEach((mark) => {\
+\n    mark.parts.forEach((part) => part && part.classList.toggle('later', mark.step > step));\n  \
+});\n  markedUpTo = step;\n}\n\nfunction showPicture(r) {\n  const x = columns.get(r.step);\n  \
+const leftmost = columns.size ? columns.values().next().value : gap;\n  const left = x === und\
+efined ? leftmost - gap : x - gap / 2;\n  bandBox.setAttribute('x', left);\n  bandBox.style.di\
+splay = x === undefined ? 'none' : '';\n  const behind = r.step === last ? view.w : x + gap * \
+0.68;\n  const from = x === undefined ? Math.max(LEFT, left + gap / 2) : behind;\n  veil.setAt\
+tribute('x', from);\n  veil.setAttribute('width', Math.max(0, view.w - from));\n  hideLater(r.\
+step);\n  scrollTo(r, x);\n}\n\n// The monitor as boxes: who is active, the data, each queue, \
+and who is outside.\n\nlet shown; // the record that is shown\n\nconst hasMoved = (s) => shown\
+.was && shown.was.at[s] !== shown.at[s] && !shown.bad;\n\nfunction token(s, place, tag) {\n  c\
+onst element = make(tag || 'li', `seat ${place}${hasMoved(s) ? ' moved' : ''}`);\n  element.ap\
+pend(make('span', 'unseen', 'seat '), String(s));\n  return element;\n}\n\nfunction box(cls, t\
+itle, note, ...inside) {\n  const head = make('h3', '', title);\n  if (note) head.append(make(\
+'span', 'quiet', note));\n  return make('div', `box card ${cls}`, head, ...inside);\n}\n\nfunc\
+tion queueOf(seats, place) {\n  if (!seats.length) return make('p', 'quiet', 'nobody');\n  ret\
+urn make('ol', 'seats', ...seats.map((s) => token(s, place)));\n}\n\nfunction entryBox(r) {\n  \
+if (r.entry === undefined || isHiding()) {\n    return box('entry', 'Entry', '', make('p', 'qu\
+iet', 'nobody known'));\n  }\n  const known = make('p', 'quiet', 'known since it enters next')\
+;\n  return box('entry', 'Entry', '', make('div', '', queueOf([r.entry], 'entry'), known));\n}\
+\n\nfunction queueBox(name, r) {\n  switch (name) {\n    case 'waiters':\n      return box('wa\
+iter', 'Waiter queue', '', queueOf(r.waiter, 'waiter'));\n    case 'signallers':\n      return \
+box('signaller', 'Signaller queue', '', queueOf(r.signaller, 'signaller'));\n    case 'ready':\
+\n      return box('until', 'Ready', '', queueOf(r.ready, 'until'));\n    default:\n      retu\
+rn entryBox(r);\n  }\n}\n\nfunction activeWords(r) {\n  const [turn, seat, from] = r.turn.spli\
+t(' ');\n  if (turn === 'open') return make('p', 'quiet', 'nobody: open to whoever enters');\n  \
+if (turn === 'of') return queueOf([Number(seat)], 'active');\n  const queue = from === 'until' \
+? 'waits-until' : `${from} queue`;\n  const next = make('span', '', `is next, from the ${queue\
+}`);\n  return make('div', 'seats', token(Number(seat), from, 'span'), next);\n}\n\nfunction t\
+opRow(r) {\n  const data = dataWords(r.state).map((words) => make('p', '', words));\n  const a\
+ctive = box('active half', 'Active', '', activeWords(r));\n  return make('div', 'row', active, \
+box('half', 'Data', '', ...data));\n}\n\n// The queues in the kind's order, with `>` or `=` be\
+tween them.\nfunction orderRow(r) {\n  const head = make('h2', '', `Who goes on at a release: \
+${orderWords()}`);\n  const line = make('div', 'row', head);\n  ORDER.forEach(([name, rank], i\
+) => {\n    if (i) {\n      const sign = make('span', 'rank', ORDER[i - 1][1] === rank ? '=' : \
+'>');\n      sign.setAttribute('aria-hidden', 'true');\n      line.append(sign);\n    }\n    l\
+ine.append(queueBox(name, r));\n  });\n  return line;\n}\n\nfunction untilLine(r, [s, predicat\
+e]) {\n  const isTrue = r.ready.includes(s);\n  const truth = make('span', `truth ${isTrue ? '\
+yes' : 'quiet'}`, isTrue ? 'true: ready' : 'false');\n  const words = make('span', '', `until \
+${PREDICATES[predicate]}`);\n  return make('li', '', token(s, 'until', 'span'), words, truth);\
+\n}\n\nfunction waitersRow(r) {\n  if (!automatic) {\n    const boxes = r.conditions.map((queu\
+e, c) =>\n      box('condition', `Condition ${c}`, '', queueOf(queue, 'condition')),\n    );\n    \
+return boxes.length ? [make('div', 'row', ...boxes)] : [];\n  }\n  const waits = r.until.map((\
+wait) => untilLine(r, wait));\n  const list = waits.length ? make('ol', 'waits', ...waits) : m\
+ake('p', 'quiet', 'nobody');\n  return [make('div', 'row', box('until', 'Waits until', 'first \
+wait first', list))];\n}\n\nfunction outsideRow(r) {\n  const out = [];\n  for (let s = 0; s < \
+H.seats; s++) {\n    const isAtEntry = s === r.entry && !isHiding();\n    if (!r.inside.includ\
+es(s) && !isAtEntry) out.push(s);\n  }\n  return make('div', 'row', box('outside', 'Outside th\
+e monitor', '', queueOf(out, 'outside')));\n}\n\nfunction showBoxes(r) {\n  const parts = [top\
+Row(r), orderRow(r), ...waitersRow(r)];\n  if (r.bad) {\n    const head = `Before step ${r.ste\
+p}, which can\\u2019t be: the monitor as it stands`;\n    parts.unshift(make('h2', '', head));\
+\n  }\n  const monitor = make('div', '', ...parts);\n  monitor.id = 'monitor';\n  $('boxes').r\
+eplaceChildren(monitor, outsideRow(r));\n  const when = r.bad ? 'before' : 'after';\n  $('boxe\
+s').setAttribute('aria-label', `The monitor ${when} step ${r.step}`);\n}\n\n// The sentence of \
+a step, and who might have gone on.\n\nfunction candidateOf(front, caller) {\n  const [queue, \
+s] = front.split(' ');\n  if (queue === 'waiter') return [front, `seat ${s}, from the waiter q\
+ueue`, waiterRank];\n  if (queue === 'until') return [front, `seat ${s}, whose predicate holds\
+`, waiterRank];\n  return s === caller\n    ? ['stay', `seat ${s}, by staying active`, signall\
+erRank]\n    : [front, `seat ${s}, from the signaller queue`, signallerRank];\n}\n\n// Who cou\
+ld go on: each candidate with its words and its priority, the highest first.\nfunction candida\
+tes(r) {\n  const caller = r.words[1];\n  const found = r.fronts.map((front) => candidateOf(fr\
+ont, caller));\n  if (r.may.includes('stay') && !found.some(([next]) => next === 'stay')) {\n    \
+return [['stay', `seat ${caller}, by staying active`, 9]];\n  }\n  found.push(['entry', 'whoev\
+er enters next', entryRank]);\n  return found.sort((a, b) => b[2] - a[2]);\n}\n\nfunction take\
+nWords(r, took) {\n  if (took === 'stay') return `seat ${r.words[1]} stays active`;\n  return \
+took === 'entry' ? 'whoever enters next' : took;\n}\n\nfunction choiceLine(r, [next, words], t\
+ook) {\n  const may = r.may.includes(next);\n  const isTaken = next === took;\n  const notTake\
+n = may ? (r.bad ? 'permitted' : 'permitted too') : 'not permitted';\n  const taken = may ? 't\
+aken' : 'taken, forbidden';\n  const filled = may ? '\\u25CF' : '\\u00D7';\n  const hollow = m\
+ay ? '\\u25CB' : '\\u2013';\n  const sign = make('span', 'sign', isTaken ? filled : hollow);\n  \
+sign.setAttribute('aria-hidden', 'true');\n  const how = make('span', 'how', isTaken ? taken : \
+notTaken);\n  const cls = (isTaken ? 'took ' : '') + (may ? '' : 'barred');\n  return make('li\
+', cls, sign, make('span', 'who', words), how);\n}\n\nfunction showChoices(r) {\n  const area \
+= $('choices');\n  area.replaceChildren();\n  area.hidden = !r.event || (r.bad && !r.may);\n  \
+if (area.hidden) return;\n  if (!r.may) {\n    const words = 'No choice here: this step doesn\\\
+u2019t give the monitor up.';\n    area.append(make('p', 'quiet', words));\n    return;\n  }\n  \
+const took = nextOf(r).join(' ');\n  const all = candidates(r);\n  if (!all.some(([next]) => n\
+ext === took)) all.push([took, takenWords(r, took), 0]);\n  area.append(make('h2', '', `Who ma\
+y go on under ${H.kind}`));\n  area.append(make('ul', '', ...all.map((it) => choiceLine(r, it, \
+took))));\n}\n\nfunction showSay(r) {\n  const line = $('say');\n  line.replaceChildren(make('\
+span', 'unseen', `Step ${r.step}. `), say(r));\n  if (r.bad) line.append(make('span', 'bad', `\
+Forbidden: ${r.why}.`));\n  const others = H.kinds.filter((k) => k.kind !== H.kind && k.why && \
+stepOf(k) === r.step);\n  if (others.length) {\n    const names = listed(others.map((k) => k.k\
+ind));\n    line.append(make('span', 'unseen', ` ${names} would forbid this step.`));\n  }\n  \
+$('told').classList.toggle('bad', Boolean(r.bad));\n  $('line').textContent = r.event || '';\n\
+}\n\n// The ten kinds: what each says of the same events.\n\nconst OF = {\n  PB: 'Hoare\\u2019\
+s kind',\n  NPNB: 'Mesa\\u2019s own kind, and that of POSIX, Java and Go',\n};\nlet picked = n\
+ull;\n\nconst stepOf = (k) => Number(k.verdict.split(' ')[1]);\n\nconst chips = H.kinds.map((k\
+) => {\n  const isOwn = k.kind === H.kind;\n  const own = 'the kind of this history';\n  const \
+cls = `chip${k.why ? ' no' : ''}${isOwn ? ' own' : ''}`;\n  const words = make('span', 'unseen\
+', isOwn ? `, ${own}` : '');\n  const chip = make('button', cls, make('b', '', k.kind), make('\
+span', ''), words);\n  chip.type = 'button';\n  if (isOwn) chip.title = own;\n  chip.addEventL\
+istener('click', () => {\n    const step = k.why ? stepOf(k) : now;\n    show(step >= first && \
+step <= last ? step : now, k);\n  });\n  $('chips').append(make('li', '', chip));\n  return ch\
+ip;\n});\n\nfunction showChip(chip, k, r) {\n  const isPast = Boolean(k.why) && stepOf(k) <= r\
+.step;\n  const isHidden = isHiding() && !isPast && r.step < last;\n  chip.classList.toggle('p\
+ast', isPast);\n  chip.classList.toggle('no', Boolean(k.why) && !isHidden);\n  chip.children[1\
+].textContent = isHidden ? 'so far legal' : verdictWords(k.verdict);\n}\n\n// The sentence of \
+one kind, said of several.\nfunction ofMany(kind, why) {\n  return why\n    .replace(`${kind} \
+puts`, 'they put')\n    .replace(`${kind} monitors have`, 'they have')\n    .replace(`${kind} \
+monitors`, 'their monitors');\n}\n\nfunction noteOf(kinds) {\n  const [k] = kinds;\n  const na\
+mes = make('b', '', listed(kinds.map((it) => it.kind)));\n  if (!k.why) return make('p', '', n\
+ames, ` permits all ${plural(H.events, 'event')}.`);\n  const isMany = kinds.length > 1;\n  co\
+nst why = isMany ? ofMany(k.kind, k.why) : k.why;\n  const forbids = isMany ? 'forbid' : 'forb\
+ids';\n  return make('p', '', names, ` ${forbids} step ${stepOf(k)}: ${why}.`);\n}\n\nfunction \
+showKinds(r, all) {\n  const notes = new Map();\n  H.kinds.forEach((k, i) => {\n    showChip(c\
+hips[i], k, r);\n    if ((k.why && (stepOf(k) === r.step || all)) || picked === k) {\n      co\
+nst same = k.why ? stepOf(k) + k.why.replaceAll(k.kind, '') : '';\n      notes.set(same, [...(\
+notes.get(same) || []), k]);\n    }\n  });\n  $('notes').replaceChildren(...[...notes.values()\
+].map(noteOf));\n}\n\n// All steps as a table: closed on the screen, printed.\n\nfunction head\
+Of() {\n  const conditions = (R[0].conditions || []).map((_, c) => `c${c}`);\n  const signalle\
+r = signallerRank ? ['Signaller'] : [];\n  const queues = automatic ? ['Waits until', 'Ready'] \
+: [...conditions, 'Waiter', ...signaller];\n  return ['Step', 'What happens', 'Active', ...que\
+ues, 'Data'];\n}\n\nfunction turnCell(r) {\n  const [turn, seat] = r.turn.split(' ');\n  if (t\
+urn === 'open') return 'open';\n  return turn === 'of' ? seat : `${seat} next`;\n}\n\nfunction \
+queueCells(r) {\n  if (automatic) {\n    const waits = r.until.map(([s, predicate]) => `${s}: \
+${PREDICATES[predicate]}`);\n    return [waits.join('; '), r.ready.join(', ')];\n  }\n  const \
+signaller = signallerRank ? [r.signaller] : [];\n  return [...r.conditions, r.waiter, ...signa\
+ller].map((queue) => queue.join(', '));\n}\n\nfunction rowOf(r) {\n  const link = make('a', ''\
+, String(r.step));\n  link.href = `#step=${r.step}`;\n  const happens = say(r) + (r.bad ? ` Fo\
+rbidden: ${r.why}.` : '');\n  const cells = [link, happens, turnCell(r), ...queueCells(r), dat\
+aWords(r.state).join(' ')];\n  const isLong = (i) => i === 1 || i === cells.length - 1 || (aut\
+omatic && i === 3);\n  const tds = cells.map((cell, i) => make('td', isLong(i) ? '' : 'short', \
+cell));\n  const line = make('tr', r.bad ? 'bad' : '', ...tds);\n  line.dataset.step = r.step;\
+\n  return line;\n}\n\nfunction headCell(words) {\n  const cell = make('th', '', words);\n  ce\
+ll.scope = 'col';\n  return cell;\n}\n\nfunction fillTable() {\n  if ($('table').firstChild) r\
+eturn;\n  const head = make('thead', '', make('tr', '', ...headOf().map(headCell)));\n  $('tab\
+le').append(make('table', '', head, make('tbody', '', ...R.map(rowOf))));\n}\n\nfunction markT\
+able() {\n  document.querySelectorAll('#table tr[data-step]').forEach((line) => {\n    const s\
+tep = Number(line.dataset.step);\n    if (step === now) line.setAttribute('aria-current', 'ste\
+p');\n    else line.removeAttribute('aria-current');\n    line.hidden = isHiding() && step > n\
+ow;\n  });\n}\n\n$('all').addEventListener('toggle', () => {\n  fillTable();\n  markTable();\n\
+});\n\n// One step is shown; slider, buttons and keys go to others.\n\nlet now = first;\nlet r\
+esting;\n\nfunction showControls() {\n  $('slider').value = now;\n  $('slider').setAttribute('\
+aria-valuetext', `step ${now} of ${last}`);\n  $('count').textContent = `step ${now} of ${last\
+}`;\n  $('back').disabled = $('first').disabled = now === first;\n  $('on').disabled = $('last\
+').disabled = now === last;\n}\n\nfunction showVerdict() {\n  const [word, step, , reasonWord] \
+= H.verdict.split(' ');\n  const isLegal = word === 'legal';\n  const forbidden = `forbidden a\
+t step ${step}: ${reasonWord}`;\n  const verdict = isLegal ? `legal, ${plural(H.events, 'event\
+')}` : forbidden;\n  $('verdict').textContent = isHiding() && now < last ? '' : verdict;\n  $(\
+'verdict').className = isLegal ? '' : 'bad';\n}\n\n// The address follows where a step is rest\
+ed on: browsers refuse too many changes in a row.\nfunction followAddress() {\n  clearTimeout(\
+resting);\n  resting = setTimeout(() => {\n    const at = new URLSearchParams(location.hash.sl\
+ice(1));\n    at.set('step', now);\n    try {\n      history.replaceState(null, '', `#${at}`);\
+\n    } catch (_) {\n      // a place without addresses\n    }\n  }, 150);\n}\n\nfunction show\
+(step, kind) {\n  now = Math.max(first, Math.min(last, Number.isFinite(step) ? step : first));\
+\n  picked = kind || null;\n  const r = R[now - first];\n  shown = r;\n  showPicture(r);\n  sh\
+owBoxes(r);\n  showChoices(r);\n  showSay(r);\n  showKinds(r);\n  markTable();\n  showControls\
+();\n  showVerdict();\n  followAddress();\n}\n\n$('slider').min = first;\n$('slider').max = la\
+st;\n$('slider').addEventListener('input', (event) => show(Number(event.target.value)));\n$('f\
+irst').addEventListener('click', () => show(first));\n$('back').addEventListener('click', () =\
+> show(now - 1));\n$('on').addEventListener('click', () => show(now + 1));\n$('last').addEvent\
+Listener('click', () => show(last));\n$('hide').addEventListener('change', (event) => {\n  doc\
+ument.body.classList.toggle('hiding', event.target.checked);\n  show(now, picked);\n});\n\n// \
+PageUp and PageDown are what a presenter's remote control sends.\nconst KEYS = {\n  ArrowLeft: \
+() => now - 1,\n  PageUp: () => now - 1,\n  ArrowRight: () => now + 1,\n  PageDown: () => now \
++ 1,\n  Home: () => first,\n  End: () => last,\n};\n\naddEventListener('keydown', (event) => {\
+\n  const isOthers = event.altKey || event.ctrlKey || event.metaKey || event.defaultPrevented;\
+\n  if (isOthers || event.target.id === 'slider' || !(event.key in KEYS)) return;\n  event.pre\
+ventDefault();\n  show(KEYS[event.key]());\n});\n\n// Light and dark: as the system has it, un\
+til the button is pressed.\n\nlet dark = matchMedia('(prefers-color-scheme: dark)').matches;\n\
+const schemes = [...document.styleSheets]\n  .flatMap((sheet) => [...sheet.cssRules])\n  .filt\
+er((rule) => rule.media && rule.media.mediaText.includes('prefers-color-scheme'));\n\nfunction \
+setTheme(isDark) {\n  dark = isDark;\n  schemes.forEach((rule) => (rule.media.mediaText = dark \
+? 'all' : 'not all'));\n  document.documentElement.style.colorScheme = dark ? 'dark' : 'light'\
+;\n  $('theme').textContent = dark ? 'Light' : 'Dark';\n}\n\n$('theme').textContent = dark ? '\
+Light' : 'Dark';\n$('theme').addEventListener('click', () => setTheme(!dark));\n\n// Print: li\
+ght, the picture in strips with its legend, and the table.\n\nconst ACROSS = 12; // steps in a \
+strip\nlet screenDark = null;\n\nfunction addStrip(from) {\n  const width = ACROSS * gap;\n  c\
+onst strip = draw('svg', { viewBox: `0 0 ${LEFT + width} ${view.h}` }, $('strips'));\n  const \
+box = `0 ${view.y} ${LEFT} ${view.h}`;\n  const names = draw('svg', { width: LEFT, height: vie\
+w.h, viewBox: box }, strip);\n  draw('use', { href: '#scene' }, names);\n  const part = { x: L\
+EFT, width, height: view.h, viewBox: `${from} ${view.y} ${width} ${view.h}` };\n  draw('use', \
+{ href: '#scene' }, draw('svg', part, strip));\n}\n\nfunction addStrips() {\n  if ($('strips')\
+.firstChild) return;\n  const xs = [...columns.values()];\n  for (let i = 0; i < Math.max(1, x\
+s.length); i += ACROSS) {\n    addStrip(i === 0 ? LEFT : xs[i] - gap / 2);\n  }\n  const under \
+= view.y + view.h;\n  const high = Math.max(1, view.high - under);\n  const box = `0 ${under} \
+${LEFT + ACROSS * gap} ${high}`;\n  draw('use', { href: '#scene' }, draw('svg', { viewBox: box \
+}, $('strips')));\n}\n\naddEventListener('beforeprint', () => {\n  screenDark = dark;\n  setTh\
+eme(false);\n  fillTable();\n  $('all').open = true;\n  showKinds(R[R.length - 1], true);\n  a\
+ddStrips();\n});\n\naddEventListener('afterprint', () => {\n  if (screenDark !== null) setThem\
+e(screenDark);\n  show(now, picked);\n});\n\n// The head of the page, and the step that the ad\
+dress names.\n\nfunction byAddress() {\n  const at = new URLSearchParams(location.hash.slice(1\
+));\n  if (at.has('theme')) setTheme(at.get('theme') === 'dark');\n  if (at.has('hide')) {\n    \
+$('hide').checked = true;\n    document.body.classList.add('hiding');\n  }\n  const named = at\
+.get('step');\n  const step = /^\\d+$/.test(named || '') ? Number(named) : H.before ? last : f\
+irst;\n  show(step);\n}\n\nfunction objectWords() {\n  return {\n    buffer: `a buffer of ${H.\
+size}`,\n    book: `a book for ${plural(H.size, 'reader')}`,\n    shop: `a shop with ${plural(\
+H.size, 'waiting chair')}`,\n    flags: plural(H.size, 'flag'),\n  }[H.object];\n}\n\nfunction \
+headWords() {\n  const kind = `${H.kind}, ${H.mode}${OF[H.kind] ? ` (${OF[H.kind]})` : ''}: ${\
+orderWords()}.`;\n  const conditions = automatic ? '' : `, ${plural(H.conditions, 'condition')\
+}`;\n  const size = `${plural(H.seats, 'seat')}${conditions}, ${objectWords()}.`;\n  const isP\
+art = H.before > 0 || last < H.events;\n  const shownSteps = `The page shows steps ${first + 1\
+} to ${last} of ${H.events}.`;\n  return `${kind} ${size}${isPart && last > first ? ` ${shownS\
+teps}` : ''}`;\n}\n\nconst file = decodeURIComponent(location.pathname.split('/').pop() || '')\
+.replace(/\\.html?$/, '');\nif (file) $('name').textContent = file.replace(/[_-]+/g, ' ');\ndo\
+cument.title = `${$('name').textContent}: ${H.kind}`;\n$('about').textContent = headWords();\n\
+$('live').hidden = false;\naddEventListener('hashchange', byAddress);\nbyAddress();\n})();\n</\
+script>\n</body>\n</html>\n";

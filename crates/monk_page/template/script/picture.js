@@ -90,7 +90,7 @@ function nearestStep(event) {
   const { x } = new DOMPoint(event.clientX, event.clientY).matrixTransform(toPicture);
   const all = [...columns].map(([step, middle]) => [Math.abs(middle - x), step]);
   const nearest = all.reduce((best, it) => (it[0] < best[0] ? it : best), [Infinity, first]);
-  return x < Math.min(...columns.values()) - gap / 2 ? first : nearest[1];
+  return x < columns.values().next().value - gap / 2 ? first : nearest[1];
 }
 
 cropPicture();
@@ -120,9 +120,21 @@ function scrollTo(r, x) {
   }
 }
 
+// Hides the marks of what follows; only those that change are touched.
+let markedUpTo = Infinity;
+function hideLater(step) {
+  const low = Math.min(step, markedUpTo);
+  const high = Math.max(step, markedUpTo);
+  const changed = marks.filter((mark) => mark.step > low && mark.step <= high);
+  changed.forEach((mark) => {
+    mark.parts.forEach((part) => part && part.classList.toggle('later', mark.step > step));
+  });
+  markedUpTo = step;
+}
+
 function showPicture(r) {
   const x = columns.get(r.step);
-  const leftmost = columns.size ? Math.min(...columns.values()) : gap;
+  const leftmost = columns.size ? columns.values().next().value : gap;
   const left = x === undefined ? leftmost - gap : x - gap / 2;
   bandBox.setAttribute('x', left);
   bandBox.style.display = x === undefined ? 'none' : '';
@@ -130,8 +142,6 @@ function showPicture(r) {
   const from = x === undefined ? Math.max(LEFT, left + gap / 2) : behind;
   veil.setAttribute('x', from);
   veil.setAttribute('width', Math.max(0, view.w - from));
-  marks.forEach((mark) => {
-    mark.parts.forEach((part) => part && part.classList.toggle('later', mark.step > r.step));
-  });
+  hideLater(r.step);
   scrollTo(r, x);
 }
