@@ -4,7 +4,7 @@ ghost use Rattle.std.specs.Prelude.{◌≡◌, ◌<◌, ℕ, List, IfOk, All};
 ghost use Rattle.monk_history.specs.Meaning.Legal.{IsLegal};
 ghost use Rattle.monk_history.specs.Meaning.Monitor.{monitor};
 ghost use Rattle.monk_history.specs.Meaning.Situation.{situation};
-ghost use Rattle.monk_audit.specs.Replay.{replay_situation};
+ghost use Rattle.monk_audit.specs.Replay.{IsReplayOf, replay_situation};
 
 use crate::replay::Replay;
 use monk_history::{Event, Turn};
@@ -28,6 +28,7 @@ impl Replay {
             (monitor rules seats conds T.meaning (T.state object.old)) events.now) }
         ensures preds { IfOk result
             (λ r. All (λ w. w.1 < T.PREDICATES) (replay_situation r (T.state object.new)).untils) }
+        ensures sound { IfOk result (IsReplayOf seats conds T.PREDICATES) }
     {
         let mut replay = Replay::new(alloc, seats, conds)?;
         for event in events {

@@ -6,7 +6,7 @@ ghost use Rattle.monk_history.specs.Text.Device.{inner_of, has_failed};
 ghost use Rattle.monk_history.specs.Text.Faults.{memory};
 ghost use Rattle.monk_history.specs.Text.Lines.{Gives};
 ghost use Rattle.monk_audit.specs.Reading.{same, text_verdict};
-ghost use Rattle.monk_commands.specs.Answer.{answer_of, verdict_answer, reason_word, fault_word, too_big, unreadable};
+ghost use Rattle.monk_commands.specs.Answer.{answer_of, verdict_answer, fault_word, too_big, unreadable};
 
 use crate::fault::StreamFault;
 use monk_audit::{TextVerdict, Verdict};
@@ -90,33 +90,15 @@ fn fault_word(number: u8) -> &'static str
     }
 }
 
-fn reason_word(reason: u8) -> &'static str
-    ensures { result.now ≡ reason_word reason }
-{
-    match reason {
-        Verdict::RANGE => "range",
-        Verdict::CALL => "call",
-        Verdict::TURN => "turn",
-        Verdict::PLACE => "place",
-        Verdict::REPLY => "reply",
-        _ => "choice",
-    }
-}
-
 pub(crate) fn verdict_answer(alloc: Global, verdict: Verdict) -> Result<Answer, StreamFault>
     ensures answer { IfOk result (λ a. let j = verdict_answer verdict in (a.status ≡ j.status) × (string_bytes a.text ≡ j.text)) }
     ensures status { IfOk result (λ a. a.status ≤ 2) }
     ensures no_file { IsErrOf result StreamFault.File → ⊥ }
 {
-    match verdict {
-        Verdict::Legal(count) => {
-            let text = format!(in alloc; "legal {count}\n")?;
-            Ok(Answer { status: 0, text })
-        }
-        Verdict::Forbidden { step, reason } => {
-            let word = reason_word(reason);
-            let text = format!(in alloc; "forbidden {step} {reason} {word}\n")?;
-            Ok(Answer { status: 1, text })
-        }
-    }
+    let text = format!(in alloc; "{verdict}\n")?;
+    let status = match verdict {
+        Verdict::Legal(_) => 0,
+        Verdict::Forbidden { .. } => 1,
+    };
+    Ok(Answer { status, text })
 }

@@ -5,3 +5,4 @@ mod ConditionLines
 mod ChosenLaws
 mod ListLaws
 mod RefusedLaws
+mod StepLaws

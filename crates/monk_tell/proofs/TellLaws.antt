@@ -21,25 +21,25 @@ use Rattle.monk_audit.specs.declared.verdict.Verdict.{Verdict}
 use Rattle.monk_audit.specs.Verdict.{IsVerdict, verdict_of}
 use Rattle.monk_audit.proofs.PublicLaws.{is_verdict}
 use Rattle.monk_tell.specs.Cause.{early_cause, no_entry, out_of_turn, waits_at}
-use Rattle.monk_tell.specs.Told.{Blamed, Shown, ShownQueues, ShownSteps, Account, blame_of_event}
+use Rattle.monk_tell.specs.Told.{Blamed, Shown, ShownQueues, ShownStanding, ShownSteps, Account, blame_of_event}
 use Rattle.monk_tell.specs.declared.why.Why.{Why}
 use Rattle.monk_tell.specs.declared.why.Why.TheVariants.{Place}
 
-passed_first : (b : Bool) (n k : ℕ) → cond (not b) 1 n ≡ k → 1 < k → b ≡ true
-passed_first true n k h more = refl
-passed_first false n k h more = absurd (omega (arith, h, more))
+passed_first : (b : Bool) (n k : ℕ) → cond (not b) 1 n ≡ k → k ≢ 1 → b ≡ true
+passed_first true n k h other = refl
+passed_first false n k h other = absurd (other (sym h))
 
-in_range : (m : Monitor) (t : Situation) (e : Event) (k : ℕ) → reason_in m t e ≡ k → 1 < k
+in_range : (m : Monitor) (t : Situation) (e : Event) (k : ℕ) → reason_in m t e ≡ k → k ≢ 1
     → is_in_range m.seats m.conds m.object.codes m.object.predicates e ≡ true
 unfolding reason_in
-in_range m t e k h more = passed_first (is_in_range m.seats m.conds m.object.codes m.object.predicates e) _ k h more
+in_range m t e k h other = passed_first (is_in_range m.seats m.conds m.object.codes m.object.predicates e) _ k h other
 
 -- an event that is not out of range fits the object
-pub late_fits : (m : Monitor) (t : Situation) (e : Event) (k codes predicates : ℕ) → reason_in m t e ≡ k → 1 < k
+pub in_range_fits : (m : Monitor) (t : Situation) (e : Event) (k codes predicates : ℕ) → reason_in m t e ≡ k → k ≢ 1
     → m.object.codes ≡ codes → m.object.predicates ≡ predicates → fits_object codes predicates e ≡ true
-late_fits m t e k codes predicates h more c p =
+in_range_fits m t e k codes predicates h other c p =
     sym (ap (λ (n : ℕ). fits_object n predicates e) c) ∙ sym (ap (λ (n : ℕ). fits_object m.object.codes n e) p)
-    ∙ and_right _ (fits_object m.object.codes m.object.predicates e) (in_range m t e k h more)
+    ∙ and_right _ (fits_object m.object.codes m.object.predicates e) (in_range m t e k h other)
 
 -- the opening state has no part in a reason
 pub reason_opening : (k : Rules) (seats conds : ℕ) (o : Object) (d : List ℕ) (t : Situation) (e : Event)
@@ -47,22 +47,25 @@ pub reason_opening : (k : Rules) (seats conds : ℕ) (o : Object) (d : List ℕ)
 unfolding reason_in
 reason_opening k seats conds o d t e = refl
 
-abbrev pub shown_by : KindName → Rules → Turn → List ℕ → ObjectName → List ℕ → ShownSteps → ShownQueues → Shown
-shown_by kind rules turn inside object state refused queues = record {
+abbrev pub stands_by : Turn → List ℕ → List ℕ → ShownQueues → ShownStanding
+stands_by turn inside state queues = record { turn = turn; inside = inside; state = state; queues = queues }
+
+pub same_standing : (t u : Turn) (is js ds es : List ℕ) (p q : ShownQueues) → t ≡ u → is ≡ js → ds ≡ es → p ≡ q
+    → stands_by t is ds p ≡ stands_by u js es q
+same_standing t u is js ds es p q a b c d = λ i. stands_by (a i) (b i) (c i) (d i)
+
+abbrev pub shown_by : KindName → Rules → ObjectName → ShownStanding → ShownSteps → Shown
+shown_by kind rules object standing refused = record {
   kind = kind;
   rules = rules;
-  turn = turn;
-  inside = inside;
   object = object;
-  state = state;
+  standing = standing;
   refused = refused;
-  queues = queues;
 }
 
-pub same_shown : (k l : KindName) (rules : Rules) (t u : Turn) (is js ds es : List ℕ) (n o : ObjectName) (r s : ShownSteps)
-    (p q : ShownQueues) → k ≡ l → t ≡ u → is ≡ js → n ≡ o → ds ≡ es → r ≡ s → p ≡ q
-    → shown_by k rules t is n ds r p ≡ shown_by l rules u js o es s q
-same_shown k l rules t u is js ds es n o r s p q a b c d e f g = λ i. shown_by (a i) rules (b i) (c i) (d i) (e i) (f i) (g i)
+pub same_shown : (k l : KindName) (rules : Rules) (n o : ObjectName) (s t : ShownStanding) (r q : ShownSteps) → k ≡ l → n ≡ o
+    → s ≡ t → r ≡ q → shown_by k rules n s r ≡ shown_by l rules o t q
+same_shown k l rules n o s t r q a b c d = λ i. shown_by (a i) rules (b i) (c i) (d i)
 
 abbrev pub told_as : Verdict → Shown → Blamed → Account
 told_as v s b = record { verdict = v; situation = s; blame = Some b }

@@ -13,7 +13,7 @@ use Rattle.monk_history.specs.Meaning.Acts.{refused_steps}
 use Rattle.monk_history.specs.Meaning.Choice.{Queues as Lined, queues_at}
 use Rattle.monk_history.specs.Meaning.Monitor.{Monitor}
 use Rattle.monk_history.specs.Meaning.Named.{named_monitor}
-use Rattle.monk_history.specs.Meaning.Situation.{Situation as Standing, situation}
+use Rattle.monk_history.specs.Meaning.Situation.{Situation, situation}
 use Rattle.monk_history.specs.Meaning.Untils.{ready_of}
 use Rattle.monk_history.specs.declared.event.Event.{Event}
 use Rattle.monk_history.specs.declared.event.Event.TheVariants.{Enter}
@@ -33,7 +33,8 @@ use Rattle.monk_tell.specs.declared.queues.Conditions.{Conditions}
 use Rattle.monk_tell.specs.declared.queues.Queues.{Queues}
 use Rattle.monk_tell.specs.declared.queues.Queues.TheVariants.{Automatic, Returning, Explicit}
 use Rattle.monk_tell.specs.declared.refused.Refused.{Refused}
-use Rattle.monk_tell.specs.declared.situation.Situation.{Situation}
+use Rattle.monk_tell.specs.declared.situation.Situation.{Situation as ToldSituation}
+use Rattle.monk_tell.specs.declared.standing.Standing.{Standing}
 use Rattle.monk_tell.specs.declared.telling.Telling.{Telling}
 use Rattle.monk_tell.specs.declared.why.Why.{Why}
 
@@ -69,15 +70,19 @@ pub record ShownSteps : Type 0 where
   pub first : List ℕ
   pub more : ℕ
 
+-- whose turn it is, who is inside, the object's state, and who waits
+pub record ShownStanding : Type 0 where
+  pub turn : Turn
+  pub inside : List ℕ
+  pub state : List ℕ
+  pub queues : ShownQueues
+
 pub record Shown : Type 0 where
   pub kind : KindName
   pub rules : Rules
-  pub turn : Turn
-  pub inside : List ℕ
   pub object : ObjectName
-  pub state : List ℕ
+  pub standing : ShownStanding
   pub refused : ShownSteps
-  pub queues : ShownQueues
 
 pub record Chosen : Type 0 where
   pub fronts : List (From3 × ℕ)
@@ -109,16 +114,21 @@ queues_of (Explicit conditions waiters signallers) =
 abbrev pub refused_of : Refused → ShownSteps
 refused_of r = record { first = r.first.0.items; more = r.more }
 
-abbrev pub situation_of : Situation → Shown
+abbrev pub standing_of : Standing → ShownStanding
+standing_of s = record {
+  turn = s.turn;
+  inside = s.inside.0.items;
+  state = s.data.0.items;
+  queues = queues_of s.queues;
+}
+
+abbrev pub situation_of : ToldSituation → Shown
 situation_of s = record {
   kind = s.kind;
   rules = s.rules;
-  turn = s.turn;
-  inside = s.inside.0.items;
   object = s.object;
-  state = s.data.0.items;
+  standing = standing_of s.standing;
   refused = refused_of s.refused;
-  queues = queues_of s.queues;
 }
 
 abbrev pub choice_of : Choice → Chosen
@@ -146,11 +156,11 @@ unfoldable pub conditions_below : (ℕ → List ℕ) → ℕ → List (List ℕ)
 conditions_below queue zero = []
 conditions_below queue (suc c) = conditions_below queue c ++ queue c ∷ []
 
-abbrev pub with_conditions : ℕ → Standing → Option (List ℕ) → ShownQueues
+abbrev pub with_conditions : ℕ → Situation → Option (List ℕ) → ShownQueues
 with_conditions conds t signallers = only_conditions (conditions_below t.condition conds) t.waiters signallers
 
 -- the queues that a kind of that mode has
-abbrev pub queues_shown : Mode → ℕ → Object → Standing → ShownQueues
+abbrev pub queues_shown : Mode → ℕ → Object → Situation → ShownQueues
 queues_shown Blocking conds o t = with_conditions conds t (Some t.signallers)
 queues_shown NonBlocking conds o t = with_conditions conds t (Some t.signallers)
 queues_shown QuasiBlocking conds o t = with_conditions conds t (Some t.signallers)
@@ -164,24 +174,30 @@ most_told = 10
 abbrev pub told_steps : List ℕ → ShownSteps
 told_steps steps = record { first = take most_told steps; more = length steps - most_told }
 
--- how a monitor stands whose object has that name, after these events
-abbrev pub shown_standing : KindName → Rules → ℕ → ℕ → ObjectName → Object → List Event → Standing → Shown
-shown_standing kind rules seats conds name o es t = record {
-  kind = kind;
-  rules = rules;
+-- how a monitor of that mode stands, with so many seats and conditions
+abbrev pub shown_standing : Mode → ℕ → ℕ → Object → Situation → ShownStanding
+shown_standing mode seats conds o t = record {
   turn = t.turn;
   inside = inside_below t.inside seats;
-  object = name;
   state = t.state;
-  refused = told_steps (refused_steps es);
-  queues = queues_shown rules.mode conds o t;
+  queues = queues_shown mode conds o t;
 }
 
-abbrev pub chosen_at : Rules → Object → Standing → Event → Chosen
+-- the same with its kind, whose object has that name, and the acts of these events that the object refused
+abbrev pub shown_situation : KindName → Rules → ℕ → ℕ → ObjectName → Object → List Event → Situation → Shown
+shown_situation kind rules seats conds name o es t = record {
+  kind = kind;
+  rules = rules;
+  object = name;
+  standing = shown_standing rules.mode seats conds o t;
+  refused = told_steps (refused_steps es);
+}
+
+abbrev pub chosen_at : Rules → Object → Situation → Event → Chosen
 chosen_at k o t e = record { fronts = fronts (queues_at o t e); may = permitted_nexts k o t e }
 
 -- what is wrong with the event of that step, in this situation and for that reason
-abbrev pub blame_of_event : KindName → Rules → ℕ → ℕ → Object → Standing → ℕ → ℕ → Event → Blamed
+abbrev pub blame_of_event : KindName → Rules → ℕ → ℕ → Object → Situation → ℕ → ℕ → Event → Blamed
 blame_of_event kind k seats conds o t step reason e = record {
   step = step;
   event = e;
@@ -192,7 +208,7 @@ blame_of_event kind k seats conds o t step reason e = record {
 
 -- how the monitor stands after these events
 abbrev pub shown_after : KindName → ObjectName → Monitor → List Event → Shown
-shown_after kind name m es = shown_standing kind m.kind m.seats m.conds name m.object es (situation m es)
+shown_after kind name m es = shown_situation kind m.kind m.seats m.conds name m.object es (situation m es)
 
 -- the event of that step, counted from 1, and those before it
 abbrev pub event_at : List Event → ℕ → Event

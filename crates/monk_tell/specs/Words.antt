@@ -142,8 +142,8 @@ refused_text r = refused_line r.first r.more
 
 abbrev pub situation_text : Shown → List ℕ
 situation_text s =
-    kind_line s ++ (turn_line s.turn ++ (inside_line s.inside ++ (data_line s.object s.state ++ (refused_text s.refused
-    ++ queues_text s.queues))))
+    kind_line s ++ (turn_line s.standing.turn ++ (inside_line s.standing.inside ++ (data_line s.object s.standing.state
+    ++ (refused_text s.refused ++ queues_text s.standing.queues))))
 
 abbrev pub choice_text : Chosen → List ℕ
 choice_text c =

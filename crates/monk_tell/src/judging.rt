@@ -10,8 +10,7 @@ ghost use Rattle.monk_tell.specs.Told.{blame_of, blame_of_event, choice_of, chos
 use crate::blame::Blame;
 use crate::choice::Choice;
 use crate::lines::{line_up, must_stay};
-use crate::lists::{Fronts, Nexts};
-use crate::permitted::{fronts, may};
+use crate::permitted::choice_from;
 use crate::sentences::{early, wrong_choice, wrong_reply};
 use crate::waiting::still_waits;
 use crate::why::Why;
@@ -51,10 +50,7 @@ fn choice<T: Guarded>(
     let stays = must_stay(alloc, replay, object, event)?;
     let lines = line_up(alloc, replay, object, event)?;
     let waits = still_waits(alloc, replay, header.conds(), &lines.waiters, event)?;
-    let choice = Choice {
-        fronts: Fronts(fronts(alloc, &lines)?),
-        may: Nexts(may(alloc, rules, &lines, stays, event)?),
-    };
+    let choice = choice_from(alloc, rules, &lines, stays, event)?;
     Ok((
         choice,
         wrong_choice(header.kind(), rules, lines.firsts(), waits, stays, event),

@@ -24,8 +24,8 @@ pub(crate) fn kind_word(kind: KindName) -> &'static str
     }
 }
 
-/// What becomes of a seat that signals.
-pub(crate) fn mode_word(mode: Mode) -> &'static str
+/// What becomes of a seat that signals: `blocking`, and so on.
+pub fn mode_word(mode: Mode) -> &'static str
     ensures { result.now ≡ mode_word mode }
 {
     match mode {

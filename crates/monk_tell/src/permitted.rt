@@ -1,12 +1,17 @@
 //! What a release may choose.
 
 ghost use Rattle.std.specs.Prelude.{◌≡◌, IfOk, filter};
+ghost use Rattle.monk_object.specs.Object.{Object};
+ghost use Rattle.monk_history.specs.Meaning.Choice.{must_stay, queues_at};
 ghost use Rattle.monk_history.specs.Meaning.Release.{with_next};
+ghost use Rattle.monk_history.specs.Meaning.Situation.{Situation};
 ghost use Rattle.monk_audit.specs.Settled.{permits};
 ghost use Rattle.monk_tell.specs.Permitted.{candidates, fronts};
-ghost use Rattle.monk_tell.specs.Told.{lines_of};
+ghost use Rattle.monk_tell.specs.Told.{choice_of, chosen_at, lines_of};
 
+use crate::choice::Choice;
 use crate::lines::Lines;
+use crate::lists::{Fronts, Nexts};
 use monk_audit::permits;
 use monk_history::{Event, From3, Next};
 use monk_kinds::Rules;
@@ -28,7 +33,7 @@ fn with_next(event: Event, next: Next) -> Event
 }
 
 /// The first seats of the queues that aren't empty.
-pub(crate) fn fronts(alloc: Global, lines: &Lines) -> Result<Vec<(From3, u8)>, AllocError>
+fn fronts(alloc: Global, lines: &Lines) -> Result<Vec<(From3, u8)>, AllocError>
     ensures { IfOk result (λ v. v.items ≡ fronts (lines_of lines.now)) }
 {
     let mut fronts = Vec::new(alloc);
@@ -77,7 +82,7 @@ fn is_permitted(rules: Rules, lines: &Lines, stays: bool, event: Event) -> bool
 }
 
 /// What the event might have chosen.
-pub(crate) fn may(
+fn may(
     alloc: Global,
     rules: Rules,
     lines: &Lines,
@@ -95,4 +100,22 @@ pub(crate) fn may(
         }
     }
     Ok(may)
+}
+
+/// What the event chooses from and what it might choose, by its queues and by whether it must stay.
+pub(crate) fn choice_from(
+    alloc: Global,
+    rules: Rules,
+    lines: &Lines,
+    stays: bool,
+    event: Event,
+) -> Result<Choice, AllocError>
+    ensures { IfOk result
+        (λ c. (o : Object) (t : Situation) → lines_of lines.now ≡ queues_at o t event → stays ≡ must_stay o t event
+        → choice_of c ≡ chosen_at rules o t event) }
+{
+    Ok(Choice {
+        fronts: Fronts(fronts(alloc, lines)?),
+        may: Nexts(may(alloc, rules, lines, stays, event)?),
+    })
 }

@@ -7,8 +7,8 @@ ghost use Rattle.monk_tell.specs.Words.{event_text, turn_text};
 use monk_history::{Event, From3, Turn, Via};
 use std::fmt;
 
-/// The queue's name.
-pub(crate) fn queue_word(queue: From3) -> &'static str
+/// The queue's name, as a text has it: `waiter`, `signaller` or `until`.
+pub fn queue_word(queue: From3) -> &'static str
     ensures { result.now ≡ from_word queue }
 {
     match queue {
@@ -27,9 +27,9 @@ fn via_word(via: Via) -> &'static str
     }
 }
 
-/// An event as in its line of a text.
+/// An event as in its line of a text: `signal 1 1 waiter 0`.
 #[derive(Drop)]
-pub(crate) struct SaidEvent(pub Event);
+pub struct SaidEvent(pub Event);
 
 impl fmt::Display for SaidEvent {
     ghost output = { λ e. Some (event_text e.0) };
@@ -56,7 +56,7 @@ impl fmt::Display for SaidEvent {
 
 /// Whose turn it is: `open`, `due 1 waiter` or `of 1`.
 #[derive(Drop)]
-pub(crate) struct SaidTurn(pub Turn);
+pub struct SaidTurn(pub Turn);
 
 impl fmt::Display for SaidTurn {
     ghost output = { λ t. Some (turn_text t.0) };

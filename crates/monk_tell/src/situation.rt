@@ -1,17 +1,20 @@
 //! How a monitor stands.
 
-ghost use Rattle.std.specs.Prelude.{Some};
+ghost use Rattle.std.specs.Prelude.{◌≡◌, ◌<◌, All, IfOk, Some};
+ghost use Rattle.monk_audit.specs.Replay.{replay_situation};
 ghost use Rattle.monk_tell.specs.Words.{data_text, ranks_text, situation_text};
-ghost use Rattle.monk_tell.specs.Told.{situation_of};
+ghost use Rattle.monk_tell.specs.Told.{shown_situation, situation_of};
 
 use crate::kind_word::{kind_word, mode_word};
-use crate::lists::{Numbers, Seats};
-use crate::queues::Queues;
-use crate::refused::Refused;
+use crate::lists::Numbers;
+use crate::refused::{Refused, refused_acts};
 use crate::said::SaidTurn;
-use monk_history::Turn;
+use crate::standing::Standing;
+use monk_audit::Replay;
+use monk_history::{Event, Header};
 use monk_kinds::{KindName, Mode, Rules};
-use monk_object::{InWords, ObjectName};
+use monk_object::{InWords, Listed, ObjectName};
+use std::alloc::{AllocError, Global};
 use std::fmt;
 
 /// How a monitor stands after some events.
@@ -21,23 +24,42 @@ pub struct Situation {
     pub kind: KindName,
     /// Its rules.
     pub rules: Rules,
-    /// Whose turn it is.
-    pub turn: Turn,
-    /// The seats inside, also those that wait there, rising.
-    pub inside: Seats,
     /// Which object the monitor guards.
     pub object: ObjectName,
-    /// The state of the object.
-    pub data: Numbers,
+    /// Whose turn it is, who is inside, the state of the object, and who waits.
+    pub standing: Standing,
     /// The acts of the events that the object refused.
     pub refused: Refused,
-    /// Who waits inside.
-    pub queues: Queues,
 }
 
-/// The priorities of the entry and waiter queues, and of the signaller queue where the kind has one.
+impl Situation {
+    /// After the events, from their replay, with the object in the state that they led to.
+    pub(crate) fn of<T: Listed>(
+        alloc: Global,
+        header: &Header,
+        rules: Rules,
+        replay: &Replay,
+        object: &T,
+        events: &[Event],
+    ) -> Result<Situation, AllocError>
+        requires { All (λ w. w.1 < T.PREDICATES) (replay_situation replay.now (T.state object.now)).untils }
+        ensures { IfOk result
+            (λ s. situation_of s ≡ shown_situation header.now.kind rules header.now.seats header.now.conds header.now.object
+            T.meaning events.now (replay_situation replay.now (T.state object.now))) }
+    {
+        Ok(Situation {
+            kind: header.kind(),
+            rules,
+            object: header.object(),
+            standing: Standing::of(alloc, header, rules.mode, replay, object)?,
+            refused: refused_acts(alloc, events)?,
+        })
+    }
+}
+
+/// The priorities of the entry and waiter queues, and of the signaller queue where the kind has one: `1 1 2`.
 #[derive(Drop)]
-struct Ranks(Rules);
+pub struct Ranks(pub Rules);
 
 impl fmt::Display for Ranks {
     ghost output = { λ r. Some (ranks_text r.0) };
@@ -81,9 +103,10 @@ impl fmt::Display for Situation {
     fn fmt<W: fmt::Write>(&self, f: &mut fmt::Formatter<W>) -> fmt::Result {
         let (kind, mode) = (kind_word(self.kind), mode_word(self.rules.mode));
         let ranks = Ranks(self.rules);
-        let turn = SaidTurn(self.turn);
-        let data = Data(self.object, &self.data);
-        let (inside, refused, queues) = (&self.inside, &self.refused, &self.queues);
+        let standing = &self.standing;
+        let turn = SaidTurn(standing.turn);
+        let data = Data(self.object, &standing.data);
+        let (inside, refused, queues) = (&standing.inside, &self.refused, &standing.queues);
         write!(f, "kind: {kind} {mode} {ranks}\n")?;
         write!(f, "turn: {turn}\n")?;
         write!(f, "inside:{inside}\n")?;

@@ -1,20 +1,54 @@
-//! How a monitor stands, from a replay of its events.
+//! How a monitor stands: whose turn it is, and who is where.
 
 ghost use Rattle.std.specs.Prelude.{◌≡◌, ◌<◌, [], All, IfOk};
 ghost use Rattle.monk_audit.specs.Replay.{replay_situation};
 ghost use Rattle.monk_tell.specs.Told.{condition_lists, conditions_below, inside_below, queues_of, queues_shown, shown_standing};
-ghost use Rattle.monk_tell.specs.Told.{situation_of};
+ghost use Rattle.monk_tell.specs.Told.{standing_of};
 
 use crate::lines::{queue_at, ready_seats, signallers, untils, waiters};
 use crate::lists::{Numbers, Seats, Waits};
 use crate::queues::{Conditions, Queues};
-use crate::refused::refused_acts;
-use crate::situation::Situation;
 use monk_audit::Replay;
-use monk_history::{Event, Header};
-use monk_kinds::{Mode, Rules};
+use monk_history::{Header, Turn};
+use monk_kinds::Mode;
 use monk_object::Listed;
 use std::alloc::{AllocError, Global};
+
+/// How a monitor stands, whatever its kind and its object are.
+#[derive(Debug, Drop)]
+pub struct Standing {
+    /// Whose turn it is.
+    pub turn: Turn,
+    /// The seats inside, also those that wait there, rising.
+    pub inside: Seats,
+    /// The state of the object.
+    pub data: Numbers,
+    /// Who waits inside.
+    pub queues: Queues,
+}
+
+impl Standing {
+    /// From a replay, with the object in its state.
+    pub(crate) fn of<T: Listed>(
+        alloc: Global,
+        header: &Header,
+        mode: Mode,
+        replay: &Replay,
+        object: &T,
+    ) -> Result<Standing, AllocError>
+        requires { All (λ w. w.1 < T.PREDICATES) (replay_situation replay.now (T.state object.now)).untils }
+        ensures { IfOk result
+            (λ s. standing_of s ≡ shown_standing mode header.now.seats header.now.conds T.meaning
+            (replay_situation replay.now (T.state object.now))) }
+    {
+        Ok(Standing {
+            turn: replay.turn(),
+            inside: Seats(inside_seats(alloc, replay, header.seats())?),
+            data: Numbers(data_numbers(alloc, object)?),
+            queues: queues(alloc, mode, header.conds(), replay, object)?,
+        })
+    }
+}
 
 /// The seats inside, rising.
 #[tactic(auto, unfolding(crate::specs::Told::inside_below))]
@@ -81,30 +115,4 @@ fn queues<T: Listed>(
     }
     let signallers = Seats(signallers(alloc, replay)?);
     Ok(Queues::Explicit(conditions, waiters, signallers))
-}
-
-/// How the monitor stands after the events, over the object of that name.
-pub(crate) fn situation<T: Listed>(
-    alloc: Global,
-    header: &Header,
-    rules: Rules,
-    replay: &Replay,
-    object: &T,
-    events: &[Event],
-) -> Result<Situation, AllocError>
-    requires { All (λ w. w.1 < T.PREDICATES) (replay_situation replay.now (T.state object.now)).untils }
-    ensures { IfOk result
-        (λ s. situation_of s ≡ shown_standing header.now.kind rules header.now.seats header.now.conds header.now.object T.meaning
-        events.now (replay_situation replay.now (T.state object.now))) }
-{
-    Ok(Situation {
-        kind: header.kind(),
-        rules,
-        turn: replay.turn(),
-        inside: Seats(inside_seats(alloc, replay, header.seats())?),
-        object: header.object(),
-        data: Numbers(data_numbers(alloc, object)?),
-        refused: refused_acts(alloc, events)?,
-        queues: queues(alloc, rules.mode, header.conds(), replay, object)?,
-    })
 }

@@ -12,7 +12,6 @@ ghost use Rattle.monk_tell.specs.Told.{account, account_by, shown_after, situati
 
 use crate::judging::blame;
 use crate::situation::Situation;
-use crate::standing::situation;
 use crate::telling::Telling;
 use monk_audit::{AuditFault, Replay, Verdict, audit, rules_by_name};
 use monk_history::{Event, Header};
@@ -38,7 +37,7 @@ fn standing<T: Listed>(
     let rules = rules_by_name(header.kind());
     let (seats, conds) = (header.seats(), header.conds());
     let replay = Replay::after_all(alloc, object, rules, seats, conds, events)?;
-    let shown = situation(alloc, header, rules, &replay, object, events)?;
+    let shown = Situation::of(alloc, header, rules, &replay, object, events)?;
     Ok((replay, shown))
 }
 

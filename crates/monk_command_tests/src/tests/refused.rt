@@ -1,6 +1,8 @@
 //! Calls where a request for memory may be refused. `checks/fail_alloc` refuses each request in turn.
 
 mod halls;
+mod pages;
+mod steps;
 mod streams;
 
 use super::jobs::is_answered;
@@ -23,5 +25,7 @@ fn each_call(rt: HostRuntime) -> Result<(), Fail> {
     }
     begins(&rt, "drawn")?;
     assert!(rt; is_drawn(&rt)?);
+    assert!(rt; steps::steps(&rt)?);
+    assert!(rt; pages::page_of_four(&rt)?);
     Ok(())
 }

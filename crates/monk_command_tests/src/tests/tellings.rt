@@ -76,12 +76,13 @@ fn choice_is_told(rt: HostRuntime) -> Result<(), Fail> {
     let told = telling(&rt, WHERE_SIGNALLERS_GO_ON)?;
     let situation = &told.situation;
     let is_told = told.verdict == Verdict::Forbidden { step: 6, reason: 6 }
-        && situation.turn == Turn::Owned(1)
-        && are(&situation.inside, &[0, 1])
-        && situation.data.0.as_slice() == [1, 7].as_slice()
+        && situation.standing.turn == Turn::Owned(1)
+        && are(&situation.standing.inside, &[0, 1])
+        && situation.standing.data.0.as_slice() == [1, 7].as_slice()
         && situation.refused.first.0.as_slice() == [2].as_slice()
         && situation.refused.more == 0;
-    let is_why = wait_on_the_second(&situation.queues, &[0]) && blames_the_signal(&told.blame);
+    let is_why = wait_on_the_second(&situation.standing.queues, &[0])
+        && blames_the_signal(&told.blame);
     assert!(rt; is_told && is_why);
     Ok(())
 }
@@ -100,9 +101,9 @@ fn waits_until_are_told(rt: HostRuntime) -> Result<(), Fail> {
     let situation = &told.situation;
     let is_told = told.verdict == Verdict::Legal(5)
         && told.blame.is_none()
-        && situation.turn == Turn::Due(0, From3::Until)
-        && are(&situation.inside, &[0])
-        && nobody_waits(&situation.queues);
+        && situation.standing.turn == Turn::Due(0, From3::Until)
+        && are(&situation.standing.inside, &[0])
+        && nobody_waits(&situation.standing.queues);
     assert!(rt; is_told);
     Ok(())
 }

@@ -1,20 +1,20 @@
 use Rattle.std.proofs.Common.{◌∙◌, sym, [], arith}
 use Rattle.monk_history.specs.Meaning.Monitor.{monitor}
 use Rattle.monk_audit.specs.Replay.{replay_situation}
-use Rattle.monk_tell.proofs.TellLaws.{early_blamed, late_fits}
+use Rattle.monk_tell.proofs.TellLaws.{early_blamed, in_range_fits}
 use Rattle.monk_tell.proofs.judging.blame.Goals as goal
 
 pub choice-requires-clause-fits : goal.choice-requires-clause-fits
 choice-requires-clause-fits g c κs within =
-    late_fits (monitor c.args.rules c.args.header.now.seats c.args.header.now.conds g.T.Guarded.meaning [])
+    in_range_fits (monitor c.args.rules c.args.header.now.seats c.args.header.now.conds g.T.Guarded.meaning [])
     (replay_situation c.args.replay.now (g.T.Guarded.state c.args.object.now)) c.args.event 6 _ _
-    (sym c.requires.reason ∙ c.if-reason-eq-CHOICE.true) (omega arith) g.T.Guarded.codes g.T.Guarded.predicates
+    (sym c.requires.reason ∙ c.if-reason-eq-CHOICE.true) (λ one. omega (arith, one)) g.T.Guarded.codes g.T.Guarded.predicates
 
 pub own_reply-reply-requires-after_bounds : goal.own_reply-reply-requires-after_bounds
 own_reply-reply-requires-after_bounds g c κs within =
-    late_fits (monitor c.args.rules c.args.header.now.seats c.args.header.now.conds g.T.Guarded.meaning [])
+    in_range_fits (monitor c.args.rules c.args.header.now.seats c.args.header.now.conds g.T.Guarded.meaning [])
     (replay_situation c.args.replay.now (g.T.Guarded.state c.args.object.now)) c.args.event 5 _ _
-    (sym c.requires.reason ∙ c.if-reason-eq-REPLY.true) (omega arith) g.T.Guarded.codes g.T.Guarded.predicates
+    (sym c.requires.reason ∙ c.if-reason-eq-REPLY.true) (λ one. omega (arith, one)) g.T.Guarded.codes g.T.Guarded.predicates
 
 pub returns : goal.returns
 returns g c =

@@ -1,0 +1,134 @@
+//! The pages of known histories.
+
+use monk_audit::AuditFault;
+use monk_draw::Window;
+use monk_history::read;
+use monk_page::page;
+use std::test::Fail;
+
+/// A hand-over as Hoare's, of a kind whose signallers go on.
+const WHERE_SIGNALLERS_GO_ON: &[u8] =
+    b"monk 1 PNB 2 2 buffer 1\nenter 0 free\nact 0 1 0 0\nwait 0 1 entry\nenter 1 free\nact 1 0 7 1\nsignal 1 1 waiter 0\nresume 0 waiter\n";
+
+/// A seat waits until there is an item.
+const UNTIL: &[u8] =
+    b"monk 1 PIS 2 0 buffer 1\nenter 0 free\nuntil 0 1 entry\nenter 1 free\nact 1 0 5 1\nleave 1 until 0\n";
+
+/// A page, and what is written in it.
+#[derive(Clone, Copy)]
+struct Page<'a> {
+    input: &'a [u8],
+    from: Option<u32>,
+    to: Option<u32>,
+    says: &'static str,
+}
+
+static PAGES: [Page<'static>; 9] = [
+    Page {
+        input: UNTIL,
+        from: None,
+        to: None,
+        says: "{\"before\":0,\"conditions\":0,\"events\":5,\"forbidden\":null,\"kind\":\"PIS\",\"kinds\":[{\"kind\":\"PB\",\"verdict\":\"forbidden 2 2 call\",\"why\":\"PB monitors have no such call\"},",
+    },
+    Page {
+        input: UNTIL,
+        from: None,
+        to: None,
+        says: ",{\"kind\":\"PIS\",\"verdict\":\"legal 5\",\"why\":null},",
+    },
+    Page {
+        input: UNTIL,
+        from: None,
+        to: None,
+        says: "],\"mode\":\"automatic\",\"object\":\"buffer\",\"page\":1,\"ranks\":\"1 2\",\"seats\":2,\"size\":1,\"steps\":[{\"choice\":null,\"conditions\":null,\"data\":\"",
+    },
+    Page {
+        input: UNTIL,
+        from: None,
+        to: None,
+        says: "\",\"event\":\"until 0 1 entry\",\"inside\":[0],\"ready\":[],\"signaller\":null,\"state\":[1],\"turn\":\"open\",\"until\":[[0,1]],\"waiter\":null},",
+    },
+    Page {
+        input: UNTIL,
+        from: None,
+        to: None,
+        says: "{\"choice\":{\"fronts\":[[\"until\",0]],\"may\":[\"until 0\"]},\"conditions\":null,",
+    },
+    Page {
+        input: WHERE_SIGNALLERS_GO_ON,
+        from: None,
+        to: None,
+        says: "\"forbidden\":{\"choice\":{\"fronts\":[[\"waiter\",0],[\"signaller\",1]],\"may\":[\"stay\"]},\"event\":\"signal 1 1 waiter 0\",\"reply\":null,\"step\":6,\"why\":\"",
+    },
+    Page {
+        input: WHERE_SIGNALLERS_GO_ON,
+        from: None,
+        to: None,
+        says: "\"event\":\"act 1 0 7 1\",\"inside\":[0,1],\"ready\":null,\"signaller\":[],\"state\":[1,7],\"turn\":\"of 1\",\"until\":null,\"waiter\":[]}],\"verdict\":\"forbidden 6 6 choice\",\"version\":1}",
+    },
+    // The forbidden event is behind the window.
+    Page {
+        input: WHERE_SIGNALLERS_GO_ON,
+        from: Some(2),
+        to: Some(3),
+        says: "{\"before\":1,\"conditions\":2,\"events\":7,\"forbidden\":null,",
+    },
+    Page {
+        input: WHERE_SIGNALLERS_GO_ON,
+        from: Some(3),
+        to: Some(3),
+        says: "\"conditions\":[[],[0]],\"data\":\"buffer of 1: empty\",\"event\":\"wait 0 1 entry\",",
+    },
+];
+
+/// Whether the page says so, and is one.
+fn says(rt: &HostRuntime, asked: &Page<'_>) -> Result<bool, Fail> {
+    let alloc = rt.alloc();
+    let (header, events) = read(alloc, asked.input)?;
+    if events.len() > 1 << 25 {
+        return Err("too many events")?;
+    }
+    let window = Window::asked(asked.from, asked.to)?;
+    let page = page(alloc, &header, &events, window, "choice")?;
+    Ok(
+        page.as_str().starts_with("<!doctype html>")
+            && page.as_str().ends_with("</html>\n")
+            && page.as_str().find("<svg xmlns=").is_some()
+            && page.as_str().find(asked.says).is_some(),
+    )
+}
+
+#[test]
+fn pages_have_their_data(rt: HostRuntime) -> Result<(), Fail> {
+    for asked in PAGES.iter() {
+        assert!(rt; says(&rt, asked)?);
+    }
+    Ok(())
+}
+
+#[test]
+fn size_is_too_big_for_a_page(rt: HostRuntime) -> Result<(), Fail> {
+    let (header, events) = read(rt.alloc(), b"monk 1 PB 1 0 buffer 65\n")?;
+    assert!(rt; events.is_empty());
+    let paged = page(rt.alloc(), &header, &events, None, "");
+    assert!(rt; matches!(paged, Err(AuditFault::Object)));
+    Ok(())
+}
+
+/// The widest window has a step for each of its events, and one before them.
+#[test]
+fn widest_window_has_each_step(rt: HostRuntime) -> Result<(), Fail> {
+    let alloc = rt.alloc();
+    let mut text = String::from_str(alloc, "monk 1 PB 2 2 buffer 1\n")?;
+    for _ in 0..1000 {
+        text.push_str("enter 0 free\nleave 0 entry\n")?;
+    }
+    let (header, events) = read(alloc, text.as_bytes())?;
+    if events.len() > 1 << 25 {
+        return Err("too many events")?;
+    }
+    let window = Window::asked(Some(1), Some(2000))?;
+    let page = page(alloc, &header, &events, window, "")?;
+    assert_eq!(rt; page.as_str().split("\"turn\":").count(), 2002);
+    Ok(())
+}

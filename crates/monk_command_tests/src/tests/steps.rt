@@ -1,0 +1,147 @@
+//! The steps of known histories.
+
+use monk_audit::AuditFault;
+use monk_history::{Event, From3, Next, Turn, Via, read};
+use monk_tell::{Choice, Conditions, Queues, Seats, Step, tell_steps};
+use std::test::Fail;
+
+/// A hand-over as Hoare's; the last event may not enter.
+const HAND_OVER: &[u8] =
+    b"monk 1 PB 2 2 buffer 1\nenter 0 free\nwait 0 1 entry\nenter 1 free\nact 1 0 7 1\nsignal 1 1 waiter 0\nresume 0 waiter\nenter 1 free\n";
+
+/// A seat waits until there is an item.
+const UNTIL: &[u8] =
+    b"monk 1 PIS 2 0 buffer 1\nenter 0 free\nuntil 0 1 entry\nenter 1 free\nact 1 0 5 1\nleave 1 until 0\n";
+
+/// The steps from after so many events to that one.
+fn steps(rt: &HostRuntime, text: &[u8], before: usize, last: usize) -> Result<Vec<Step>, Fail> {
+    let (header, events) = read(rt.alloc(), text)?;
+    if events.len() > 1 << 25 {
+        return Err("too many events")?;
+    }
+    match tell_steps(rt.alloc(), &header, &events, before, last) {
+        Ok(steps) => Ok(steps),
+        Err(fault) => Err(fault)?,
+    }
+}
+
+/// Whether these are the seats.
+fn are(seats: &Seats, want: &[u8]) -> bool {
+    seats.0.as_slice() == want
+}
+
+/// Whether these seats wait on the second condition, and none on the first.
+fn wait_on_the_second(conditions: &Conditions, want: &[u8]) -> bool {
+    match conditions.0.as_slice() {
+        [first, second] => are(first, &[]) && are(second, want),
+        _ => false,
+    }
+}
+
+/// Whether the choice was among those first in their queues, and might be these.
+fn might_be(choice: &Option<Choice>, fronts: &[(From3, u8)], may: &[Next]) -> bool {
+    match choice {
+        Some(choice) => { choice.fronts.0.as_slice() == fronts && choice.may.0.as_slice() == may }
+        None => false,
+    }
+}
+
+/// Whether seat 0 waits on its condition, and an item is in the buffer.
+fn waits_by_an_item(step: &Step) -> bool {
+    let standing = &step.standing;
+    let waits = match &standing.queues {
+        Queues::Explicit(conditions, waiters, signallers) => {
+            wait_on_the_second(conditions, &[0]) && are(waiters, &[]) && are(signallers, &[])
+        }
+        _ => false,
+    };
+    waits
+        && step.event.is_none()
+        && step.choice.is_none()
+        && standing.turn == Turn::Owned(1)
+        && are(&standing.inside, &[0, 1])
+        && standing.data.0.as_slice() == [1, 7].as_slice()
+}
+
+/// Whether the signal has handed the monitor over.
+fn hands_over(step: &Step) -> bool {
+    let stepped_back = match &step.standing.queues {
+        Queues::Explicit(conditions, waiters, signallers) => {
+            wait_on_the_second(conditions, &[]) && are(waiters, &[]) && are(signallers, &[1])
+        }
+        _ => false,
+    };
+    stepped_back
+        && step.event == Some(Event::Signal(1, 1, Next::Waiter(0)))
+        && might_be(
+            &step.choice,
+            &[(From3::Waiter, 0), (From3::Signaller, 1)],
+            &[Next::Waiter(0)],
+        )
+        && step.standing.turn == Turn::Due(0, From3::Waiter)
+}
+
+#[test]
+fn steps_end_before_a_forbidden_event(rt: HostRuntime) -> Result<(), Fail> {
+    let told = steps(&rt, HAND_OVER, 4, 100)?;
+    let is_told = match told.as_slice() {
+        [first, signal, resume] => {
+            waits_by_an_item(first)
+                && hands_over(signal)
+                && resume.event == Some(Event::Resume(0, From3::Waiter))
+                && resume.choice.is_none()
+                && resume.standing.turn == Turn::Owned(0)
+        }
+        _ => false,
+    };
+    assert!(rt; is_told);
+    Ok(())
+}
+
+#[test]
+fn steps_end_with_the_last_asked_for(rt: HostRuntime) -> Result<(), Fail> {
+    let told = steps(&rt, HAND_OVER, 0, 1)?;
+    let is_told = match told.as_slice() {
+        [first, enter] => {
+            first.event.is_none()
+                && first.standing.turn == Turn::Open
+                && enter.event == Some(Event::Enter(0, Via::Free))
+                && are(&enter.standing.inside, &[0])
+        }
+        _ => false,
+    };
+    assert!(rt; is_told && steps(&rt, HAND_OVER, 7, 100)?.is_empty());
+    Ok(())
+}
+
+#[test]
+fn ready_seat_is_chosen(rt: HostRuntime) -> Result<(), Fail> {
+    let told = steps(&rt, UNTIL, 4, 5)?;
+    let is_told = match told.as_slice() {
+        [act, leave] => {
+            let is_ready = match &act.standing.queues {
+                Queues::Automatic(untils, ready) => {
+                    untils.0.as_slice() == [(0, 1)].as_slice() && are(ready, &[0])
+                }
+                _ => false,
+            };
+            is_ready && might_be(&leave.choice, &[(From3::Until, 0)], &[Next::Until(0)])
+        }
+        _ => false,
+    };
+    assert!(rt; is_told);
+    Ok(())
+}
+
+#[test]
+fn size_is_too_big_for_steps(rt: HostRuntime) -> Result<(), Fail> {
+    let (header, events) = read(rt.alloc(), b"monk 1 PB 1 0 buffer 65\n")?;
+    assert!(rt; events.is_empty());
+    assert!(rt;
+        matches!(
+            tell_steps(rt.alloc(), &header, &events, 0, 0),
+            Err(AuditFault::Object)
+        )
+    );
+    Ok(())
+}

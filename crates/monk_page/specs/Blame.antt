@@ -1,0 +1,16 @@
+-- What is wrong with an event, in JSON
+use Rattle.std.specs.Prelude.{codes}
+use Rattle.monk_tell.specs.Told.{Blamed}
+use Rattle.monk_tell.specs.Why.{why_text}
+use Rattle.serde_json.specs.Data.{Data, string, object, member, no_members}
+use Rattle.monk_page.specs.Choice.{choice_json}
+use Rattle.monk_page.specs.Json.{number_json, option_json}
+use Rattle.monk_page.specs.Step.{event_json}
+
+abbrev pub blame_json : Blamed → Data
+blame_json b =
+    object (member (codes "choice") (option_json choice_json b.choice)
+    (member (codes "event") (event_json b.event)
+    (member (codes "reply") (option_json number_json b.reply)
+    (member (codes "step") (number_json b.step)
+    (member (codes "why") (string (why_text b.why)) no_members)))))

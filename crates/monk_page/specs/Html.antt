@@ -1,0 +1,41 @@
+-- The text of a page: one HTML file, with a picture and its data
+use Rattle.std.specs.Prelude.{ℕ, List, ◌++◌, Option, option_map}
+use Rattle.monk_draw.specs.Picture.{picture}
+use Rattle.monk_draw.specs.Window.{last_of, not_shown}
+use Rattle.monk_draw.specs.declared.window.Window.{Window}
+use Rattle.monk_history.specs.Text.{Heading}
+use Rattle.monk_history.specs.declared.event.Event.{Event}
+use Rattle.monk_tell.specs.Told.{account}
+use Rattle.serde_json.specs.Data.{Data}
+use Rattle.serde_json.specs.Written.{compact_text}
+use Rattle.monk_page.specs.Page.{page_json}
+use Rattle.monk_page.specs.declared.template.TheConstants.{END, FRONT, MIDDLE}
+
+-- what stands before the picture, between picture and data, and behind the data: nothing here depends on what it is
+unfoldable pub front : List ℕ
+front = FRONT.now
+
+unfoldable pub middle : List ℕ
+middle = MIDDLE.now
+
+unfoldable pub finish : List ℕ
+finish = END.now
+
+-- the step that is forbidden, if one is
+abbrev pub forbidden_step : Heading → List Event → Option ℕ
+forbidden_step h es = option_map (λ b. b.step) (account h es).blame
+
+-- the data of the events of the window
+abbrev pub window_json : Heading → List Event → Option Window → Data
+window_json h es w =
+    let last = last_of w (forbidden_step h es) es in
+    page_json h es (not_shown w last) last
+
+-- a picture and data as a page
+abbrev pub page_around : List ℕ → List ℕ → List ℕ
+page_around drawn data_text = front ++ (drawn ++ (middle ++ (data_text ++ finish)))
+
+-- the page of those events; the picture says that reason
+abbrev pub page_text : Heading → List Event → Option Window → List ℕ → List ℕ
+page_text h es w reason =
+    page_around (picture h es w (forbidden_step h es) reason) (compact_text (window_json h es w))

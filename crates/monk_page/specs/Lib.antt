@@ -1,0 +1,7 @@
+pub mod Blame
+pub mod Choice
+pub mod Html
+pub mod Json
+pub mod Kinds
+pub mod Page
+pub mod Step

@@ -1,0 +1,54 @@
+-- A step of a history in JSON: the event, what it chose from, and how the monitor stands after it
+use Rattle.std.specs.Prelude.{ℕ, codes}
+use Rattle.monk_history.specs.declared.event.Event.{Event}
+use Rattle.monk_object.specs.InWords.{state_in_words}
+use Rattle.monk_object.specs.declared.name.ObjectName.{ObjectName}
+use Rattle.monk_tell.specs.Steps.{ShownStep}
+use Rattle.monk_tell.specs.Told.{ShownQueues, ShownStanding}
+use Rattle.monk_tell.specs.Words.{event_text, turn_text}
+use Rattle.serde_json.specs.Data.{Data, string, object, Members, no_members, put}
+use Rattle.monk_page.specs.Choice.{choice_json}
+use Rattle.monk_page.specs.Json.{list_json, number_json, numbers_json, option_json, pair_json}
+
+abbrev pub event_json : Event → Data
+event_json e = string (event_text e)
+
+-- a seat, and the predicate until which it waits
+abbrev pub wait_json : ℕ × ℕ → Data
+wait_json w = pair_json (number_json w.0) (number_json w.1)
+
+-- ---- who waits inside: null, where the kind has no such queue
+
+abbrev pub conditions_json : ShownQueues → Data
+conditions_json q = option_json (λ c. list_json numbers_json c.conditions) q.conditional
+
+abbrev pub waiters_json : ShownQueues → Data
+waiters_json q = option_json (λ c. numbers_json c.waiters) q.conditional
+
+abbrev pub signallers_json : ShownQueues → Data
+signallers_json q = option_json (λ c. option_json numbers_json c.signallers) q.conditional
+
+abbrev pub untils_json : ShownQueues → Data
+untils_json q = option_json (λ u. list_json wait_json u.untils) q.automatic
+
+abbrev pub ready_json : ShownQueues → Data
+ready_json q = option_json (λ u. numbers_json u.ready) q.automatic
+
+abbrev pub with_queues : ShownQueues → Members → Members
+with_queues q ms =
+    put (codes "conditions") (conditions_json q) (put (codes "ready") (ready_json q)
+    (put (codes "signaller") (signallers_json q) (put (codes "until") (untils_json q)
+    (put (codes "waiter") (waiters_json q) ms))))
+
+-- ---- all
+
+-- how a monitor stands over the object of that name
+abbrev pub with_standing : ObjectName → ShownStanding → Members → Members
+with_standing o s ms =
+    with_queues s.queues (put (codes "turn") (string (turn_text s.turn)) (put (codes "state") (numbers_json s.state)
+    (put (codes "inside") (numbers_json s.inside) (put (codes "data") (string (state_in_words o s.state)) ms))))
+
+abbrev pub step_json : ObjectName → ShownStep → Data
+step_json o s =
+    object (with_standing o s.standing (put (codes "event") (option_json event_json s.event)
+    (put (codes "choice") (option_json choice_json s.choice) no_members)))

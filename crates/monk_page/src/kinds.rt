@@ -1,0 +1,67 @@
+//! The same events under each kind.
+
+ghost use Rattle.std.specs.Prelude.{◌≡◌, ◌≤◌, ◌<◌, ◌^◌, IfOk, IsErrOf, length};
+ghost use Rattle.monk_object.specs.Names.{most};
+ghost use Rattle.monk_tell.specs.Told.{telling_of};
+ghost use Rattle.serde_json.specs.View.{view};
+ghost use Rattle.monk_page.specs.Kinds.{kind_json, kinds_json, under, verdict_json};
+
+use crate::words::kind_word;
+use monk_audit::AuditFault;
+use monk_history::{Event, Header};
+use monk_kinds::KindName;
+use monk_tell::{Telling, tell};
+use serde_json::{Value, json};
+use std::alloc::{AllocError, Global};
+
+/// The header with another kind.
+pub(crate) fn under(header: &Header, kind: KindName) -> Header
+    ensures { result ≡ under kind header.now }
+{
+    let (seats, conds) = (header.seats(), header.conds());
+    match Header::new(kind, seats, conds, header.object(), header.size()) {
+        Some(header) => header,
+        None => unreachable!(),
+    }
+}
+
+/// The verdict on a monitor of that kind, and why an event is forbidden.
+fn verdict(alloc: Global, kind: KindName, telling: &Telling) -> Result<Value, AllocError>
+    ensures { IfOk result (λ v. view v ≡ verdict_json kind (telling_of telling.now)) }
+{
+    let verdict = format!(in alloc; "{}", telling.verdict)?;
+    let why = match &telling.blame {
+        Some(blame) => Value::String(format!(in alloc; "{}", blame.why)?),
+        None => Value::Null,
+    };
+    json!(in alloc; {"kind": kind_word(kind), "verdict": verdict, "why": why})
+}
+
+/// What an audit of the events finds if the monitor is of that kind.
+fn kind_value(
+    alloc: Global,
+    header: &Header,
+    events: &[Event],
+    kind: KindName,
+) -> Result<Value, AuditFault>
+    requires { length events.now ≤ 2 ^ 25 }
+    ensures json { IfOk result (λ v. view v ≡ kind_json header.now events.now kind) }
+    ensures object { IsErrOf result AuditFault.Object → most header.now.object < header.now.size }
+{
+    let telling = tell(alloc, &under(header, kind), events)?;
+    Ok(verdict(alloc, kind, &telling)?)
+}
+
+/// The values of all kinds.
+pub(crate) fn kinds(alloc: Global, header: &Header, events: &[Event]) -> Result<Value, AuditFault>
+    requires { length events.now ≤ 2 ^ 25 }
+    ensures json { IfOk result (λ v. view v ≡ kinds_json header.now events.now) }
+    ensures object { IsErrOf result AuditFault.Object → most header.now.object < header.now.size }
+{
+    let mut values = Vec::new(alloc);
+    for kind in KindName::ALL.iter() {
+        let value = kind_value(alloc, header, events, *kind)?;
+        serde_json::push(&mut values, value)?;
+    }
+    Ok(Value::Array(values))
+}

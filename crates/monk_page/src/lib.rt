@@ -1,0 +1,17 @@
+//! A history's page: its JSON value, and the HTML text around it.
+#![tactic(auto)]
+
+mod blame;
+mod choice;
+mod event;
+mod html;
+mod in_json;
+mod kinds;
+mod lists;
+mod page_data;
+mod queues;
+mod step;
+mod template;
+mod words;
+
+pub use html::page;
