@@ -21,8 +21,8 @@ use Rattle.monk_samples.specs.Samples.{IsInRange, sample_object}
 use Rattle.monk_samples.specs.declared.sample.Sample.{Sample}
 use Rattle.monk_samples.specs.declared.sample.Sample.TheVariants.{Buffer, Book, Shop, Hasty}
 use Rattle.monk_commands.specs.declared.request.Line.{Line}
-use Rattle.monk_commands.specs.declared.request.Line.TheVariants.{Classify, Audit, Play, Upgrade, Fit, Trace, Explain, Draw, Complete}
-use Rattle.monk_commands.specs.declared.request.Line.TheVariants.{Run, Record}
+use Rattle.monk_commands.specs.declared.request.Line.TheVariants.{Classify, Audit, Play, Upgrade, Fit, Trace, Explain, Draw, Page}
+use Rattle.monk_commands.specs.declared.request.Line.TheVariants.{Complete, Run, Record}
 
 -- a word that must stand there, and that the parser takes
 abbrev pub required_rule : Text → ValueParser → Rule
@@ -116,9 +116,9 @@ bare_app = record (new_app (codes "monk")) { top = record (new_app (codes "monk"
 abbrev pub plain_app : App
 plain_app =
     with_subcommand (with_subcommand (with_subcommand (with_subcommand (with_subcommand (with_subcommand
-    (with_subcommand (with_subcommand bare_app classify_app.top) (file_app (codes "audit")).top) (file_app (codes "play")).top)
-    (file_app (codes "upgrade")).top) fit_app.top) (file_app (codes "trace")).top)
-    (file_app (codes "explain")).top) (window_app (codes "draw")).top
+    (with_subcommand (with_subcommand (with_subcommand bare_app classify_app.top) (file_app (codes "audit")).top)
+    (file_app (codes "play")).top) (file_app (codes "upgrade")).top) fit_app.top) (file_app (codes "trace")).top)
+    (file_app (codes "explain")).top) (window_app (codes "draw")).top) (window_app (codes "page")).top
 
 abbrev pub monk_app : KindNames → RunNames → RunNames → App
 monk_app completed run recorded =
@@ -150,6 +150,7 @@ command_word (Fit file lapses means) = codes "fit"
 command_word (Trace file) = codes "trace"
 command_word (Explain file) = codes "explain"
 command_word (Draw file window) = codes "draw"
+command_word (Page file window) = codes "page"
 command_word (Complete kind file) = codes "complete"
 command_word (Run kind sample seats rounds) = codes "run"
 command_word (Record kind sample seats rounds) = codes "record"
@@ -224,6 +225,7 @@ ValuesAre (Fit file lapses means) rows = (first_of (codes "FILE") rows ≡ optio
 ValuesAre (Trace file) rows = first_of (codes "FILE") rows ≡ option_map string_bytes file
 ValuesAre (Explain file) rows = first_of (codes "FILE") rows ≡ option_map string_bytes file
 ValuesAre (Draw file window) rows = (first_of (codes "FILE") rows ≡ option_map string_bytes file) × IsWindowIn window rows
+ValuesAre (Page file window) rows = (first_of (codes "FILE") rows ≡ option_map string_bytes file) × IsWindowIn window rows
 ValuesAre (Complete kind file) rows = (first_of (codes "KIND") rows ≡ Some (kind_word kind))
     × (first_of (codes "FILE") rows ≡ option_map string_bytes file)
 ValuesAre (Run kind sample seats rounds) rows = AreRunValues kind sample seats rounds rows
@@ -239,6 +241,7 @@ RunIsInRange (Fit file lapses means) = Unit {0}
 RunIsInRange (Trace file) = Unit {0}
 RunIsInRange (Explain file) = Unit {0}
 RunIsInRange (Draw file window) = Unit {0}
+RunIsInRange (Page file window) = Unit {0}
 RunIsInRange (Complete kind file) = Unit {0}
 RunIsInRange (Run kind sample seats rounds) = IsInRange seats rounds
 RunIsInRange (Record kind sample seats rounds) = IsInRange seats rounds

@@ -13,6 +13,7 @@ returns c =
     let fit_is = c.in_ok-program-5.ensures ∙ ap (λ (a : App). with_subcommand a fit_app.top) upgrade_is in
     let trace_is = c.in_ok-program-6.ensures ∙ ap (λ (a : App). with_subcommand a (file_app (codes "trace")).top) fit_is in
     let explain_is = c.in_ok-program-7.ensures ∙ ap (λ (a : App). with_subcommand a (file_app (codes "explain")).top) trace_is in
-    IfOk-weaker c.with_window.result _ _
-    (λ r h. h ∙ ap (λ (a : App). with_subcommand a (window_app (codes "draw")).top) explain_is)
-    c.with_window.ensures
+    let draw_is = c.in_ok-program-8.ensures ∙ ap (λ (a : App). with_subcommand a (window_app (codes "draw")).top) explain_is in
+    IfOk-weaker c.with_window-2.result _ _
+    (λ r h. h ∙ ap (λ (a : App). with_subcommand a (window_app (codes "page")).top) draw_is)
+    c.with_window-2.ensures
