@@ -8,7 +8,7 @@ use Rattle.std.specs.Str.{str_eq_ignore_ascii_case}
 use Rattle.monk_commands.specs.declared.hint.Hint.{Hint}
 use Rattle.monk_commands.specs.declared.hint.Hint.TheVariants as hint
 use Rattle.monk_commands.specs.declared.task.Task.{Task}
-use Rattle.monk_commands.specs.declared.task.Task.TheVariants.{Audit, Play, Upgrade, Fit, Trace, Explain, Draw, Complete}
+use Rattle.monk_commands.specs.declared.task.Task.TheVariants.{Audit, Play, Upgrade, Fit, Trace, Explain, Draw, Page, Complete}
 use Rattle.monk_commands.specs.declared.text_name.TextName.{TextName}
 use Rattle.monk_commands.specs.declared.text_name.TextName.TheVariants as name
 use Rattle.monk_history.specs.declared.text.fault.Flaw.TheVariants as flaw
@@ -62,6 +62,7 @@ reads (Fit lapses means) t = not (is_play t)
 reads Trace t = is_play t
 reads Explain t = is_history t
 reads (Draw window) t = is_history t
+reads (Page window) t = is_history t
 reads (Complete kind) t = is_log t
 
 -- the text that it reads, a history where it reads two
@@ -73,6 +74,7 @@ wanted (Fit lapses means) = name.History
 wanted Trace = name.Play
 wanted Explain = name.History
 wanted (Draw window) = name.History
+wanted (Page window) = name.History
 wanted (Complete kind) = name.Log
 
 -- ---- by single bytes
@@ -203,7 +205,7 @@ header_form name.Log = codes "log 1 SEATS CONDS OBJECT SIZE"
 
 -- the commands that read such a text
 abbrev pub commands_that_read : TextName → List ℕ
-commands_that_read name.History = codes "monk audit, explain, draw, fit or upgrade"
+commands_that_read name.History = codes "monk audit, explain, draw, page, fit or upgrade"
 commands_that_read name.Play = codes "monk play or trace"
 commands_that_read name.Log = codes "monk fit or complete"
 

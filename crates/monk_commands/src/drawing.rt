@@ -1,183 +1,28 @@
 //! The drawing stream: the text of a history in, a picture of it out.
 
-ghost use Rattle.std.specs.Prelude.{◌≡◌, ◌+◌, ◌≤◌, ◌^◌, ◌⊎◌, false, true, length, IfOk, OnOk, IfSome, IsErrOf, string_bytes};
+ghost use Rattle.std.specs.Prelude.{◌≡◌, ◌+◌, ◌≤◌, ◌^◌, ◌⊎◌, false, true, IfOk, OnOk, IfSome, IsErrOf};
 ghost use Rattle.std.specs.Io.KnownBytes.{Appends, IsAtEnd};
 ghost use Rattle.monk_history.specs.Text.Device.{inner_of, has_failed, reads_of};
-ghost use Rattle.monk_commands.specs.Answer.{verdict_answer};
-ghost use Rattle.monk_commands.specs.Drawn.{HasAuditStatus, IsDrawingOf, IsDrawn, IsDrawnBy, IsPictureBy, behind};
-ghost use Rattle.monk_commands.specs.Drawn.{forbidden_step, why, why_of};
+ghost use Rattle.monk_commands.specs.Shown.{HasAuditStatus, IsShowingOf};
 ghost use Rattle.monk_commands.specs.Streams.{IsYoung, IsPastBound};
 
-use crate::answer::{Answer, put, too_big, unreadable};
 use crate::fault::StreamFault;
 use crate::input::read_all;
-use monk_audit::{AuditFault, Verdict, audit};
-use monk_draw::{Window, draw, is_behind, showable};
-use monk_history::{Device, Event, Header, read};
+use crate::show::Show;
+use crate::showing::show_text;
+use monk_draw::Window;
+use monk_history::Device;
 use std::alloc::Global;
 use std::io::{Read, Write};
 
-/// The step that the verdict forbids.
-fn forbidden_step(verdict: Verdict) -> Option<u32>
-    ensures { result ≡ forbidden_step verdict }
-{
-    match verdict {
-        Verdict::Legal(_) => None,
-        Verdict::Forbidden { step, .. } => Some(step),
-    }
-}
-
-/// Why a step is forbidden, as a picture says it.
-fn why(reason: u8) -> &'static str
-    ensures { result.now ≡ why reason }
-{
-    match reason {
-        Verdict::RANGE => "range, a number that the monitor doesn't have",
-        Verdict::CALL => "call, this kind has no such call",
-        Verdict::TURN => "turn, it is not this seat's turn",
-        Verdict::PLACE => "place, this seat may not come in here",
-        Verdict::REPLY => "reply, the object replies otherwise",
-        _ => "choice, this kind lets another seat go on",
-    }
-}
-
-/// Why the verdict forbids one.
-fn why_of(verdict: Verdict) -> &'static str
-    ensures { result.now ≡ why_of verdict }
-{
-    match verdict {
-        Verdict::Legal(_) => "",
-        Verdict::Forbidden { reason, .. } => why(reason),
-    }
-}
-
-fn status_of(verdict: Verdict) -> u8
-    ensures { result ≡ (verdict_answer verdict).status }
-{
-    match verdict {
-        Verdict::Legal(_) => 0,
-        Verdict::Forbidden { .. } => 1,
-    }
-}
-
-/// The answer where events are asked for that are behind the last that can be shown.
-fn behind(alloc: Global, last: usize) -> Result<Answer, StreamFault>
-    ensures answer { IfOk result (λ a. (a.status ≡ (behind last).status) × (string_bytes a.text ≡ (behind last).text)) }
-    ensures no_file { IsErrOf result StreamFault.File → ⊥ }
-{
-    let text = format!(in alloc; "window {last}\n")?;
-    Ok(Answer { status: 2, text })
-}
-
-/// Writes the picture of a history on which there is this verdict.
-fn put_picture<W: Write>(
-    alloc: Global,
-    header: &Header,
-    events: &[Event],
-    window: Option<Window>,
-    verdict: Verdict,
-    writer: &mut Device<W>,
-) -> Result<u8, StreamFault>
-    requires works { has_failed writer.old ≡ false }
-    requires few { length events.now ≤ 2 ^ 25 }
-    ensures answer { IfOk result
-        (λ status. IsPictureBy window verdict header.now events.now status
-        (Appends (W.contents (inner_of writer.old)) (W.contents (inner_of writer.new)))) }
-    ensures file { IsErrOf result StreamFault.File → has_failed writer.new ≡ true }
-    ensures memory { IsErrOf result StreamFault.Memory → writer.new ≡ writer.old }
-{
-    let page = draw(
-        alloc,
-        header,
-        events,
-        window,
-        forbidden_step(verdict),
-        why_of(verdict),
-    )?;
-    match writer.write_all(page.as_bytes()) {
-        Ok(()) => Ok(status_of(verdict)),
-        Err(_) => Err(StreamFault::File),
-    }
-}
-
-/// The same, if the events that are asked for begin with one that can be shown.
-fn put_drawing<W: Write>(
-    alloc: Global,
-    header: &Header,
-    events: &[Event],
-    window: Option<Window>,
-    verdict: Verdict,
-    writer: &mut Device<W>,
-) -> Result<u8, StreamFault>
-    requires works { has_failed writer.old ≡ false }
-    requires few { length events.now ≤ 2 ^ 25 }
-    ensures answer { IfOk result
-        (λ status. IsDrawnBy window verdict header.now events.now status
-        (Appends (W.contents (inner_of writer.old)) (W.contents (inner_of writer.new)))) }
-    ensures file { IsErrOf result StreamFault.File → has_failed writer.new ≡ true }
-    ensures memory { IsErrOf result StreamFault.Memory → writer.new ≡ writer.old }
-{
-    let last = showable(forbidden_step(verdict), events.len());
-    if is_behind(window, last) {
-        put(&behind(alloc, last)?, writer)
-    } else {
-        put_picture(alloc, header, events, window, verdict, writer)
-    }
-}
-
-/// Answers a history that was read.
-fn draw_history<W: Write>(
-    alloc: Global,
-    header: &Header,
-    events: &[Event],
-    window: Option<Window>,
-    writer: &mut Device<W>,
-) -> Result<u8, StreamFault>
-    requires works { has_failed writer.old ≡ false }
-    requires few { length events.now ≤ 2 ^ 25 }
-    ensures answer { IfOk result
-        (λ status. IsDrawn window header.now events.now status
-        (Appends (W.contents (inner_of writer.old)) (W.contents (inner_of writer.new)))) }
-    ensures file { IsErrOf result StreamFault.File → has_failed writer.new ≡ true }
-    ensures memory { IsErrOf result StreamFault.Memory → writer.new ≡ writer.old }
-{
-    match audit(alloc, header, events) {
-        Ok(verdict) => put_drawing(alloc, header, events, window, verdict, writer),
-        Err(AuditFault::Memory) => Err(StreamFault::Memory),
-        Err(AuditFault::Object) => put(&too_big(alloc)?, writer),
-    }
-}
-
-/// Answers a text.
-fn draw_text<W: Write>(
-    alloc: Global,
-    bytes: &[u8],
-    window: Option<Window>,
-    writer: &mut Device<W>,
-) -> Result<u8, StreamFault>
-    requires { has_failed writer.old ≡ false }
-    ensures answer { IfOk result
-        (λ status. IsDrawingOf window bytes.now status
-        (Appends (W.contents (inner_of writer.old)) (W.contents (inner_of writer.new)))) }
-    ensures file { IsErrOf result StreamFault.File → has_failed writer.new ≡ true }
-    ensures memory { IsErrOf result StreamFault.Memory → writer.new ≡ writer.old }
-{
-    match read(alloc, bytes) {
-        Ok((header, events)) => draw_history(alloc, &header, &events, window, writer),
-        Err(fault) => put(&unreadable(alloc, fault)?, writer),
-    }
-}
-
-/// Reads all of the reader, and writes a picture of its history, an SVG text that stands alone: a
-/// lane for each seat and a column for each event, where each seat was, and who went on by a
-/// release. The first forbidden event is framed, with its reason, and what comes behind it is not
-/// shown. Of the events up to it, or up to the end, those of the window are shown; without a window
-/// the last 200. The status is that of an audit: 0 where the history is legal, else 1.
+/// Reads all of the reader, and writes a picture of its history, an SVG text that stands alone: a lane for each seat and a
+/// column for each event, where each seat was, and who went on by a release. The first forbidden event is framed, with
+/// its reason, and what comes behind it is not shown. Of the events up to it, or up to the end, those of the window are shown;
+/// without a window the last 200. The status is that of an audit: 0 where the history is legal, else 1.
 ///
-/// Where the reader has no text of a history, the line `unreadable LINE NUMBER WORD` is written
-/// with status 2, where the size is above the object's greatest, `object` with status 2, and where
-/// the window begins behind the last event that can be shown, `window LAST` with status 2 and the
-/// number of that event, which is 0 where there is none.
+/// Where the reader has no text of a history, the line `unreadable LINE NUMBER WORD` is written with status 2, where the
+/// size is above the object's greatest, `object` with status 2, and where the window begins behind the last event that can be
+/// shown, `window LAST` with status 2 and the number of that event, which is 0 where there is none.
 ///
 /// # Errors
 ///
@@ -199,7 +44,7 @@ pub fn draw_stream<R: Read, W: Write>(
     // What is written, and its status, are the answer to what the reader had: of a history its picture, byte for byte.
     ensures answer { IfOk result
         (λ status. IfSome (R.remaining (inner_of reader.old))
-        (λ input. IsDrawingOf window input status
+        (λ input. IsShowingOf Show.Picture window input status
         (Appends (W.contents (inner_of writer.old)) (W.contents (inner_of writer.new))))) }
     // The status is that of an audit, unless events are asked for that can't be shown.
     ensures status { IfOk result
@@ -214,5 +59,5 @@ pub fn draw_stream<R: Read, W: Write>(
     ensures reads { reads_of reader.new ≤ reads_of reader.old + 2 ^ 31 }
 {
     let bytes = read_all(alloc, reader)?;
-    draw_text(alloc, &bytes, window, writer)
+    show_text(alloc, Show::Picture, &bytes, window, writer)
 }

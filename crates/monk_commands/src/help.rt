@@ -78,6 +78,14 @@ pub(crate) static DRAW: Help = Help {
         Read: docs/TEXT.md",
 };
 
+pub(crate) static PAGE: Help = Help {
+    about: "Makes a page of a history: its picture, and how the monitor stands at each step",
+    example: "Events are numbered and chosen as by monk draw.\n\
+        Example: monk page examples/hoare_handover.history > page.html\n\
+        Status: 0 legal, 1 forbidden, 2 unreadable; 3 wrong words, 4 a failed file or no memory\n\
+        Read: docs/TEXT.md",
+};
+
 pub(crate) static COMPLETE: Help = Help {
     about: "Writes a history of a kind that tells a log",
     example: "Example: monk complete NPNB examples/threads_at_a_buffer.log\n\

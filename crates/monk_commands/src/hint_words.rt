@@ -85,7 +85,7 @@ fn commands_that_read(text: TextName) -> &'static str
     ensures { result.now ≡ commands_that_read text }
 {
     match text {
-        TextName::History => "monk audit, explain, draw, fit or upgrade",
+        TextName::History => "monk audit, explain, draw, page, fit or upgrade",
         TextName::Play => "monk play or trace",
         TextName::Log => "monk fit or complete",
     }

@@ -10,6 +10,7 @@ use crate::drawing::draw_stream;
 use crate::explaining::explain_stream;
 use crate::fault::StreamFault;
 use crate::fitting::fit_stream;
+use crate::paging::page_stream;
 use crate::playing::play_stream;
 use crate::tracing::trace_stream;
 use crate::upgrading::upgrade_stream;
@@ -38,6 +39,8 @@ pub enum Task<'a> {
     Explain,
     /// The picture of a history, by [`draw_stream`]: of the events that are asked for.
     Draw(Option<Window>),
+    /// The page of a history, by [`page_stream`]: of the events that are asked for.
+    Page(Option<Window>),
     /// A legal history of a monitor of the kind that tells a log, by [`complete_stream`].
     Complete(KindName),
 }
@@ -87,6 +90,7 @@ impl Task<'_> {
             Task::Trace => trace_stream(alloc, reader, writer),
             Task::Explain => explain_stream(alloc, reader, writer),
             Task::Draw(window) => draw_stream(alloc, window, reader, writer),
+            Task::Page(window) => page_stream(alloc, window, reader, writer),
             Task::Complete(kind) => complete_stream(alloc, kind, reader, writer),
         }
     }

@@ -35,7 +35,7 @@ impl TextName {
         ensures { result ≡ reads task.now self }
     {
         match task {
-            Task::Audit | Task::Upgrade | Task::Explain | Task::Draw(_) => {
+            Task::Audit | Task::Upgrade | Task::Explain | Task::Draw(_) | Task::Page(_) => {
                 self == TextName::History
             }
             Task::Play | Task::Trace => self == TextName::Play,

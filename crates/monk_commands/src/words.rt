@@ -13,7 +13,7 @@ ghost use Rattle.monk_commands.specs.Request.{window_app};
 
 use crate::arguments::{file, flag, number, repeated, required};
 use crate::help::{
-    AUDIT, CLASSIFY, COMPLETE, DRAW, EXPLAIN, FIT, FROM, Help, LAPSES, MEANS, PLAY, PRIORITY,
+    AUDIT, CLASSIFY, COMPLETE, DRAW, EXPLAIN, FIT, FROM, Help, LAPSES, MEANS, PAGE, PLAY, PRIORITY,
     RECORD, RUN, TO, TRACE, UPGRADE,
 };
 use crate::meaning_words::meanings_of;
@@ -56,7 +56,8 @@ fn plain<'a>(alloc: Global) -> Result<Command<'a>, AllocError>
     let program = with_fit(alloc, program)?;
     let program = with_reader(alloc, program, "trace", &TRACE)?;
     let program = with_reader(alloc, program, "explain", &EXPLAIN)?;
-    with_window(alloc, program, "draw", &DRAW)
+    let program = with_window(alloc, program, "draw", &DRAW)?;
+    with_window(alloc, program, "page", &PAGE)
 }
 
 /// The program without commands.
@@ -276,6 +277,14 @@ fn line_to_draw(alloc: Global, matches: &ArgMatches<'_>) -> Result<Line, LineFau
     Ok(Line::Draw(file, window))
 }
 
+fn line_to_page(alloc: Global, matches: &ArgMatches<'_>) -> Result<Line, LineFault>
+    ensures { IfOk result (λ l. IsRead (codes "page") l (rows_of (found_of matches.now))) }
+{
+    let file = file_of(alloc, matches)?;
+    let window = window_of(alloc, matches)?;
+    Ok(Line::Page(file, window))
+}
+
 fn line_to_complete(alloc: Global, matches: &ArgMatches<'_>) -> Result<Option<Line>, LineFault>
     ensures { IfOk result (λ found. IfSome found (λ l. IsRead (codes "complete") l (rows_of (found_of matches.now)))) }
 {
@@ -326,6 +335,7 @@ fn asked(alloc: Global, matches: &ArgMatches<'_>) -> Result<Option<Line>, LineFa
         Some(("classify", classify)) => Ok(priorities_of(classify)),
         Some(("fit", fit)) => Ok(Some(line_to_fit(alloc, fit)?)),
         Some(("draw", draw)) => Ok(Some(line_to_draw(alloc, draw)?)),
+        Some(("page", page)) => Ok(Some(line_to_page(alloc, page)?)),
         Some(("complete", complete)) => line_to_complete(alloc, complete),
         Some(("run", run)) => Ok(line_to_run(run)),
         Some(("record", record)) => Ok(line_to_record(record)),

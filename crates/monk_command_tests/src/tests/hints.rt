@@ -42,7 +42,7 @@ static HINTS: [Row; 14] = [
     (
         Task::Complete(KindName::Pb),
         b"monk 1 PB 2 0 buffer 1\n",
-        "this is a history: give it to monk audit, explain, draw, fit or upgrade",
+        "this is a history: give it to monk audit, explain, draw, page, fit or upgrade",
     ),
     (
         Task::Audit,

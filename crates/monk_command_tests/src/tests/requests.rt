@@ -4,7 +4,7 @@ use std::alloc::Global;
 use std::test::Fail;
 
 /// Words, and what they ask for.
-static ASKING: [(&[&str], &str); 46] = [
+static ASKING: [(&[&str], &str); 48] = [
     (&["monk", "audit"], "Audit(None)"),
     (&["monk", "audit", "x.text"], "Audit(Some(\"x.text\"))"),
     (&["monk", "play"], "Play(None)"),
@@ -29,6 +29,11 @@ static ASKING: [(&[&str], &str); 46] = [
         &["monk", "draw", "--to", "7"],
         "Draw(None, Some(Window { from: 1, to: 7 }))",
     ),
+    (
+        &["monk", "page", "--from", "7", "--to", "9", "x.text"],
+        "Page(Some(\"x.text\"), Some(Window { from: 7, to: 9 }))",
+    ),
+    (&["monk", "page"], "Page(None, None)"),
     (
         &["monk", "draw", "--to=4000"],
         "Draw(None, Some(Window { from: 2001, to: 4000 }))",
@@ -146,9 +151,8 @@ fn is_refused(alloc: Global, words: &[&str]) -> bool {
     }
 }
 
-/// Words that ask for nothing; of a picture also numbers of no events, of a run a number out of
-/// range, and another kind or sample.
-static NOTHING: [&[&str]; 42] = [
+/// Words that ask for nothing; of a picture also numbers of no events, of a run a number out of range, and another kind or sample.
+static NOTHING: [&[&str]; 44] = [
     &["monk", "adit"],
     &["monk", "help"],
     &["monk", "--help"],
@@ -159,6 +163,8 @@ static NOTHING: [&[&str]; 42] = [
     &["monk", "upgrade", "a", "b"],
     &["monk", "explain", "a", "b"],
     &["monk", "draw", "a", "b"],
+    &["monk", "page", "a", "b"],
+    &["monk", "page", "--from", "8", "--to", "7"],
     &["monk", "draw", "--from", "0"],
     &["monk", "draw", "--to", "0"],
     &["monk", "draw", "--from", "8", "--to", "7"],

@@ -1,4 +1,4 @@
--- The answer to a history that is drawn: a picture, with the status of its audit
+-- The answer to a history that is shown, by a picture or by a page: with the status of its audit
 use Rattle.std.specs.Prelude.{◌≡◌, ◌≢◌, ℕ, ◌<◌, ◌≤◌, ◌^◌, ◌⊎◌, ◌==◌, Bool, false, true, List, [], ◌++◌, length}
 use Rattle.std.specs.Prelude.{Option, Some, None, Result, Ok, Err, if◌then◌else◌, codes}
 use Rattle.std.specs.Fmt.{decimal}
@@ -14,8 +14,11 @@ use Rattle.monk_audit.specs.declared.verdict.Verdict.TheVariants.{Legal, Forbidd
 use Rattle.monk_draw.specs.Picture.{picture}
 use Rattle.monk_draw.specs.Window.{is_behind, showable}
 use Rattle.monk_draw.specs.declared.window.Window.{Window}
+use Rattle.monk_page.specs.Html.{page_text}
 use Rattle.monk_commands.specs.Answer.{Answer, answer_of, too_big, unreadable, verdict_answer}
 use Rattle.monk_commands.specs.Given.{IsGiven}
+use Rattle.monk_commands.specs.declared.show.Show.{Show}
+use Rattle.monk_commands.specs.declared.show.Show.TheVariants.{Picture, Page}
 
 -- the step that a verdict forbids
 abbrev pub forbidden_step : Verdict → Option ℕ
@@ -45,32 +48,36 @@ behind last = record { status = 2; text = codes "window " ++ (decimal last ++ co
 abbrev pub asks_behind : Option Window → Verdict → List Event → Bool
 asks_behind w v events = is_behind w (showable (forbidden_step v) (length events))
 
--- with what writing these bytes means: the picture of the events that are asked for, up to the one
--- that the verdict forbids, is written, with the verdict's status
-abbrev pub IsPictureBy : Option Window → Verdict → Heading → List Event → ℕ → (List ℕ → Type 0) → Type 0
-IsPictureBy w v h events status Puts =
-    (status ≡ (verdict_answer v).status) × Puts (picture h events w (forbidden_step v) (why_of v))
+-- what shows the events that are asked for, up to the one that the verdict forbids: a picture, or a page with it
+abbrev pub shown_text : Show → Option Window → Verdict → Heading → List Event → List ℕ
+shown_text Picture w v h events = picture h events w (forbidden_step v) (why_of v)
+shown_text Page w v h events = page_text h events w (why_of v)
 
--- the answer by a verdict: this picture, unless the events that are asked for are behind those that can be shown
-abbrev pub IsDrawnBy : Option Window → Verdict → Heading → List Event → ℕ → (List ℕ → Type 0) → Type 0
-IsDrawnBy w v h events status Puts =
-    ((asks_behind w v events ≡ false) × IsPictureBy w v h events status Puts)
+-- with what writing these bytes means: that is written, with the verdict's status
+abbrev pub IsShownBy : Show → Option Window → Verdict → Heading → List Event → ℕ → (List ℕ → Type 0) → Type 0
+IsShownBy show w v h events status Puts =
+    (status ≡ (verdict_answer v).status) × Puts (shown_text show w v h events)
+
+-- the answer by a verdict: this, unless the events that are asked for are behind those that can be shown
+abbrev pub IsAnsweredBy : Show → Option Window → Verdict → Heading → List Event → ℕ → (List ℕ → Type 0) → Type 0
+IsAnsweredBy show w v h events status Puts =
+    ((asks_behind w v events ≡ false) × IsShownBy show w v h events status Puts)
     ⊎ ((asks_behind w v events ≡ true) × IsGiven (behind (showable (forbidden_step v) (length events))) status Puts)
 
--- the answer to a history: a picture by its verdict, if the size is within the object's greatest
-abbrev pub IsDrawn : Option Window → Heading → List Event → ℕ → (List ℕ → Type 0) → Type 0
-IsDrawn w h events status Puts =
-    ((h.size ≤ most h.object) × IsDrawnBy w (verdict_of (named_monitor h) events) h events status Puts)
+-- the answer to a history: by its verdict, if the size is within the object's greatest
+abbrev pub IsShown : Show → Option Window → Heading → List Event → ℕ → (List ℕ → Type 0) → Type 0
+IsShown show w h events status Puts =
+    ((h.size ≤ most h.object) × IsAnsweredBy show w (verdict_of (named_monitor h) events) h events status Puts)
     ⊎ ((most h.object < h.size) × ((status ≡ 2) × Puts too_big.text))
 
 -- the same, or the answer to a text that is of none
-abbrev pub IsDrawnOrRefused : Option Window → Result History ReadFault → ℕ → (List ℕ → Type 0) → Type 0
-IsDrawnOrRefused w (Ok h) status Puts = IsDrawn w h.0 h.1 status Puts
-IsDrawnOrRefused w (Err f) status Puts = (status ≡ 2) × Puts (unreadable f).text
+abbrev pub IsShownOrRefused : Show → Option Window → Result History ReadFault → ℕ → (List ℕ → Type 0) → Type 0
+IsShownOrRefused show w (Ok h) status Puts = IsShown show w h.0 h.1 status Puts
+IsShownOrRefused show w (Err f) status Puts = (status ≡ 2) × Puts (unreadable f).text
 
 -- the answer to bytes
-abbrev pub IsDrawingOf : Option Window → List ℕ → ℕ → (List ℕ → Type 0) → Type 0
-IsDrawingOf w input status Puts = IsDrawnOrRefused w (text_at (2 ^ 25) input) status Puts
+abbrev pub IsShowingOf : Show → Option Window → List ℕ → ℕ → (List ℕ → Type 0) → Type 0
+IsShowingOf show w input status Puts = IsShownOrRefused show w (text_at (2 ^ 25) input) status Puts
 
 -- the status is that of an audit, or where events are asked for 2
 abbrev pub HasAuditStatus : Option Window → List ℕ → ℕ → Type 0

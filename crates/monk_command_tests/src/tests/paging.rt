@@ -1,0 +1,64 @@
+//! The pages that the command writes; what stands in them, the tests of pages say.
+
+use monk_commands::Task;
+use monk_draw::Window;
+use monk_history::Device;
+use std::process::Abort;
+use std::test::Fail;
+
+/// A text of which a page is to be made, of which events, what is written in it, and the status.
+type Row = (&'static [u8], Option<u32>, &'static str, u8);
+
+static ROWS: [Row; 6] = [
+    (
+        b"monk 1 PB 2 0 buffer 1\nenter 0 free\nact 0 1 0 0\nleave 0 entry\n",
+        None,
+        "\"verdict\":\"legal 3\"",
+        0,
+    ),
+    (
+        b"monk 1 PB 2 0 buffer 1\nenter 0 free\nact 0 1 0 0\nleave 0 entry\n",
+        Some(3),
+        "{\"before\":2,",
+        0,
+    ),
+    (
+        b"monk 1 PB 2 0 buffer 1\nenter 0 free\nenter 1 free\n",
+        None,
+        ">2 is forbidden: turn, it is not this seat's turn</text>",
+        1,
+    ),
+    (
+        b"monk 1 PB 2 0 buffer 1\nenter 0 free\n",
+        Some(2),
+        "window 1\n",
+        2,
+    ),
+    (b"monk 1 PB 2 0 buffer 65\n", None, "object\n", 2),
+    (
+        b"monk 1 PB 2 0 buffer 1\nstay 0\n",
+        None,
+        "unreadable 2 2 word\n",
+        2,
+    ),
+];
+
+/// Whether that is written.
+fn is_paged<R: Abort + AllocGlobal>(rt: &R, row: &Row) -> Result<bool, Fail> {
+    let (input, from, says, status) = *row;
+    let Ok(window) = Window::asked(from, None) else {
+        return Ok(false);
+    };
+    let mut page = Vec::new(rt.alloc());
+    let mut reader = Device::new(input);
+    let told = Task::Page(window).stream(rt.alloc(), &mut reader, &mut Device::new(&mut page))?;
+    Ok(told == status && str::from_utf8(&page)?.find(says).is_some())
+}
+
+#[test]
+fn pages_are_made_of_histories(rt: HostRuntime) -> Result<(), Fail> {
+    for row in ROWS.iter() {
+        assert!(rt; is_paged(&rt, row)?);
+    }
+    Ok(())
+}

@@ -1,0 +1,197 @@
+//! What shows a history: its picture, or its page.
+
+ghost use Rattle.std.specs.Prelude.{◌≡◌, ◌≤◌, ◌^◌, false, true, length, IfOk, IsErrOf, string_bytes};
+ghost use Rattle.std.specs.Io.KnownBytes.{Appends};
+ghost use Rattle.monk_object.specs.Names.{most};
+ghost use Rattle.monk_history.specs.Text.Device.{inner_of, has_failed};
+ghost use Rattle.monk_commands.specs.Answer.{verdict_answer};
+ghost use Rattle.monk_commands.specs.Shown.{IsAnsweredBy, IsShowingOf, IsShown, IsShownBy, behind, forbidden_step, shown_text};
+ghost use Rattle.monk_commands.specs.Shown.{why, why_of};
+
+use crate::answer::{Answer, put, too_big, unreadable};
+use crate::fault::StreamFault;
+use crate::show::Show;
+use monk_audit::{AuditFault, Verdict, audit};
+use monk_draw::{Window, draw, is_behind, showable};
+use monk_history::{Device, Event, Header, read};
+use monk_page::page;
+use std::alloc::Global;
+use std::io::Write;
+
+/// The step that the verdict forbids.
+fn forbidden_step(verdict: Verdict) -> Option<u32>
+    ensures { result ≡ forbidden_step verdict }
+{
+    match verdict {
+        Verdict::Legal(_) => None,
+        Verdict::Forbidden { step, .. } => Some(step),
+    }
+}
+
+/// Why a step is forbidden, as a picture says it.
+fn why(reason: u8) -> &'static str
+    ensures { result.now ≡ why reason }
+{
+    match reason {
+        Verdict::RANGE => "range, a number that the monitor doesn't have",
+        Verdict::CALL => "call, this kind has no such call",
+        Verdict::TURN => "turn, it is not this seat's turn",
+        Verdict::PLACE => "place, this seat may not come in here",
+        Verdict::REPLY => "reply, the object replies otherwise",
+        _ => "choice, this kind lets another seat go on",
+    }
+}
+
+/// Why the verdict forbids one.
+fn why_of(verdict: Verdict) -> &'static str
+    ensures { result.now ≡ why_of verdict }
+{
+    match verdict {
+        Verdict::Legal(_) => "",
+        Verdict::Forbidden { reason, .. } => why(reason),
+    }
+}
+
+fn status_of(verdict: Verdict) -> u8
+    ensures { result ≡ (verdict_answer verdict).status }
+{
+    match verdict {
+        Verdict::Legal(_) => 0,
+        Verdict::Forbidden { .. } => 1,
+    }
+}
+
+/// The answer where events are asked for that are behind the last that can be shown.
+fn behind(alloc: Global, last: usize) -> Result<Answer, StreamFault>
+    ensures answer { IfOk result (λ a. (a.status ≡ (behind last).status) × (string_bytes a.text ≡ (behind last).text)) }
+    ensures no_file { IsErrOf result StreamFault.File → ⊥ }
+{
+    let text = format!(in alloc; "window {last}\n")?;
+    Ok(Answer { status: 2, text })
+}
+
+/// The picture or the page of a history on which there is this verdict.
+fn shown_text(
+    alloc: Global,
+    show: Show,
+    header: &Header,
+    events: &[Event],
+    window: Option<Window>,
+    verdict: Verdict,
+) -> Result<String, StreamFault>
+    requires few { length events.now ≤ 2 ^ 25 }
+    requires fits { header.now.size ≤ most header.now.object }
+    ensures text { IfOk result (λ text. string_bytes text ≡ shown_text show window verdict header.now events.now) }
+    ensures no_file { IsErrOf result StreamFault.File → ⊥ }
+{
+    let reason = why_of(verdict);
+    match show {
+        Show::Picture => {
+            let step = forbidden_step(verdict);
+            Ok(draw(alloc, header, events, window, step, reason)?)
+        }
+        Show::Page => match page(alloc, header, events, window, reason) {
+            Ok(page) => Ok(page),
+            Err(AuditFault::Memory) => Err(StreamFault::Memory),
+            Err(AuditFault::Object) => unreachable!(),
+        },
+    }
+}
+
+/// Writes it.
+fn put_shown<W: Write>(
+    alloc: Global,
+    show: Show,
+    header: &Header,
+    events: &[Event],
+    window: Option<Window>,
+    verdict: Verdict,
+    writer: &mut Device<W>,
+) -> Result<u8, StreamFault>
+    requires works { has_failed writer.old ≡ false }
+    requires few { length events.now ≤ 2 ^ 25 }
+    requires fits { header.now.size ≤ most header.now.object }
+    ensures answer { IfOk result
+        (λ status. IsShownBy show window verdict header.now events.now status
+        (Appends (W.contents (inner_of writer.old)) (W.contents (inner_of writer.new)))) }
+    ensures file { IsErrOf result StreamFault.File → has_failed writer.new ≡ true }
+    ensures memory { IsErrOf result StreamFault.Memory → writer.new ≡ writer.old }
+{
+    let text = shown_text(alloc, show, header, events, window, verdict)?;
+    match writer.write_all(text.as_bytes()) {
+        Ok(()) => Ok(status_of(verdict)),
+        Err(_) => Err(StreamFault::File),
+    }
+}
+
+/// The same, if the events that are asked for begin with one that can be shown.
+fn put_answer<W: Write>(
+    alloc: Global,
+    show: Show,
+    header: &Header,
+    events: &[Event],
+    window: Option<Window>,
+    verdict: Verdict,
+    writer: &mut Device<W>,
+) -> Result<u8, StreamFault>
+    requires works { has_failed writer.old ≡ false }
+    requires few { length events.now ≤ 2 ^ 25 }
+    requires fits { header.now.size ≤ most header.now.object }
+    ensures answer { IfOk result
+        (λ status. IsAnsweredBy show window verdict header.now events.now status
+        (Appends (W.contents (inner_of writer.old)) (W.contents (inner_of writer.new)))) }
+    ensures file { IsErrOf result StreamFault.File → has_failed writer.new ≡ true }
+    ensures memory { IsErrOf result StreamFault.Memory → writer.new ≡ writer.old }
+{
+    let last = showable(forbidden_step(verdict), events.len());
+    if is_behind(window, last) {
+        put(&behind(alloc, last)?, writer)
+    } else {
+        put_shown(alloc, show, header, events, window, verdict, writer)
+    }
+}
+
+/// Answers a history that was read.
+fn show_history<W: Write>(
+    alloc: Global,
+    show: Show,
+    header: &Header,
+    events: &[Event],
+    window: Option<Window>,
+    writer: &mut Device<W>,
+) -> Result<u8, StreamFault>
+    requires works { has_failed writer.old ≡ false }
+    requires few { length events.now ≤ 2 ^ 25 }
+    ensures answer { IfOk result
+        (λ status. IsShown show window header.now events.now status
+        (Appends (W.contents (inner_of writer.old)) (W.contents (inner_of writer.new)))) }
+    ensures file { IsErrOf result StreamFault.File → has_failed writer.new ≡ true }
+    ensures memory { IsErrOf result StreamFault.Memory → writer.new ≡ writer.old }
+{
+    match audit(alloc, header, events) {
+        Ok(verdict) => put_answer(alloc, show, header, events, window, verdict, writer),
+        Err(AuditFault::Memory) => Err(StreamFault::Memory),
+        Err(AuditFault::Object) => put(&too_big(alloc)?, writer),
+    }
+}
+
+/// Answers a text.
+pub(crate) fn show_text<W: Write>(
+    alloc: Global,
+    show: Show,
+    bytes: &[u8],
+    window: Option<Window>,
+    writer: &mut Device<W>,
+) -> Result<u8, StreamFault>
+    requires { has_failed writer.old ≡ false }
+    ensures answer { IfOk result
+        (λ status. IsShowingOf show window bytes.now status
+        (Appends (W.contents (inner_of writer.old)) (W.contents (inner_of writer.new)))) }
+    ensures file { IsErrOf result StreamFault.File → has_failed writer.new ≡ true }
+    ensures memory { IsErrOf result StreamFault.Memory → writer.new ≡ writer.old }
+{
+    match read(alloc, bytes) {
+        Ok((header, events)) => show_history(alloc, show, &header, &events, window, writer),
+        Err(fault) => put(&unreadable(alloc, fault)?, writer),
+    }
+}
