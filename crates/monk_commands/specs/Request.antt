@@ -1,5 +1,5 @@
 -- The command line of the program, as clap sees it, and what a line asks for
-use Rattle.std.specs.Prelude.{◌≡◌, ℕ, List, [], ◌∷◌, ◌++◌, Option, Some, None, IsSomeAnd, true, map, option_map, codes, pos}
+use Rattle.std.specs.Prelude.{◌≡◌, ℕ, List, [], ◌∷◌, ◌++◌, Option, Some, None, IfSome, IsSomeAnd, true, map, option_map, codes, pos}
 use Rattle.std.specs.Prelude.{string_bytes}
 use Rattle.std.specs.Str.Parse.{IsNumeral, digits_value, without_leading_plus}
 use Rattle.std.specs.Borrow.{Bor}
@@ -9,7 +9,7 @@ use Rattle.clap.specs.declared.builder.action.ArgAction.TheVariants.{Append, Set
 use Rattle.clap.specs.declared.builder.command.Command.{Command}
 use Rattle.clap.specs.declared.builder.value_parser.ValueParser.TheVariants.{Signed, Names}
 use Rattle.clap.specs.declared.builder.value_parser.ValueParser.{ValueParser}
-use Rattle.monk_draw.specs.Asked.{numbers_meant}
+use Rattle.monk_draw.specs.Asked.{numbers_meant, window_fault}
 use Rattle.monk_draw.specs.declared.window.Window.{Window}
 use Rattle.monk_kinds.specs.Names.{kind_word, kinds as monitor_kinds}
 use Rattle.monk_kinds.specs.declared.name.KindName.{KindName}
@@ -166,13 +166,14 @@ abbrev pub MayHaveNumber : Text → Option ℕ → List Row → Type 0
 MayHaveNumber name None rows = one_of name rows ≡ None
 MayHaveNumber name (Some n) rows = HasNumber name n rows
 
--- the events that are asked for are those that the numbers mean which clap has found for `from` and `to`
+-- the events that are asked for are those that the numbers mean which clap has found for `from` and `to`, and these are fine
 pub record IsWindowIn (window : Option Window) (rows : List Row) : Type 0 where
   pub from : Option ℕ
   pub to : Option ℕ
   pub found_from : MayHaveNumber (codes "from") from rows
   pub found_to : MayHaveNumber (codes "to") to rows
   pub meant : option_map (λ (w : Window). (w.from, w.to)) window ≡ numbers_meant from to
+  pub fine : IfSome (numbers_meant from to) (λ n. window_fault n.0 n.1 ≡ None)
 
 -- the flag `lapses` that clap has found, if any, says so
 pub record AreLapses (lapses : Lapses) (rows : List Row) : Type 0 where

@@ -1,14 +1,10 @@
 //! The sentences of the hints.
 
 ghost use Rattle.std.specs.Prelude.{◌≡◌};
-ghost use Rattle.monk_kinds.specs.Names.{kind_word};
-ghost use Rattle.monk_object.specs.Names.{object_word};
 ghost use Rattle.monk_commands.specs.Hint.{commands_that_read, header_form};
 
 use crate::hint::Hint;
 use crate::text_name::TextName;
-use monk_kinds::KindName;
-use monk_object::ObjectName;
 use std::fmt;
 
 /// One sentence, without a line's end: what is odd, and what to do.
@@ -43,7 +39,7 @@ impl fmt::Display for Hint {
                 write!(
                     f,
                     "a kind has capital letters: did you mean {}?",
-                    kind_word(kind)
+                    kind.as_str()
                 )
             }
             Hint::NoKind => write!(
@@ -57,7 +53,7 @@ impl fmt::Display for Hint {
             Hint::Size(object) => write!(
                 f,
                 "the size is out of range: that of a {} is 1 to {}",
-                object_word(object),
+                object.as_str(),
                 object.greatest_size()
             ),
             Hint::Comment => write!(f, "a line begins with #: a text has no comments"),
@@ -92,33 +88,5 @@ fn commands_that_read(text: TextName) -> &'static str
         TextName::History => "monk audit, explain, draw, fit or upgrade",
         TextName::Play => "monk play or trace",
         TextName::Log => "monk fit or complete",
-    }
-}
-
-fn kind_word(kind: KindName) -> &'static str
-    ensures { result.now ≡ kind_word kind }
-{
-    match kind {
-        KindName::Pb => "PB",
-        KindName::Npb => "NPB",
-        KindName::Pnb => "PNB",
-        KindName::Npnb => "NPNB",
-        KindName::Pqb => "PQB",
-        KindName::Npqb => "NPQB",
-        KindName::Pir => "PIR",
-        KindName::Npir => "NPIR",
-        KindName::Pis => "PIS",
-        KindName::Npis => "NPIS",
-    }
-}
-
-fn object_word(object: ObjectName) -> &'static str
-    ensures { result.now ≡ object_word object }
-{
-    match object {
-        ObjectName::Buffer => "buffer",
-        ObjectName::Book => "book",
-        ObjectName::Shop => "shop",
-        ObjectName::Flags => "flags",
     }
 }

@@ -60,7 +60,7 @@ impl Span {
             Some(window) => {
                 let last = lesser(window.to(), count);
                 Span {
-                    before: lesser(window.from() - 1, last),
+                    before: lesser(window.from().saturating_sub(1), last),
                     last,
                 }
             }

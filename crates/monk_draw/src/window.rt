@@ -1,18 +1,15 @@
 //! Which events are asked for.
 
-ghost use Rattle.std.specs.Prelude.{◌≡◌, ◌+◌, ◌<◌, ◌≤◌, Some, IfOk, IfErr, IsSomeAnd, option_map};
-ghost use Rattle.monk_draw.specs.Asked.{most_asked, numbers_meant, window_fault};
+ghost use Rattle.std.specs.Prelude.{◌≡◌, None, Some, IfOk, IfErr, IfSome, IsSomeAnd, OnOk, option_map};
+ghost use Rattle.monk_draw.specs.Asked.{numbers_meant, window_fault};
 
 use crate::window_fault::WindowFault;
 
-/// The events of a history from one number to another, which count from 1: at most [`Window::MOST`].
+/// The events of a history from one number to another, which count from 1: at least one, and at most [`Window::MOST`].
 #[derive(Clone, Copy, Debug)]
 pub struct Window {
     from: usize,
     to: usize,
-    ghost counted: { 0 < from },
-    ghost ordered: { from ≤ to },
-    ghost few: { to < from + most_asked },
 }
 
 impl Window {
@@ -29,6 +26,7 @@ impl Window {
     /// [`WindowFault::Wide`] where they are more than [`Window::MOST`] events.
     pub fn between(from: usize, to: usize) -> Result<Window, WindowFault>
         ensures numbers { IfOk result (λ w. (w.from ≡ from) × (w.to ≡ to)) }
+        ensures only { OnOk result (window_fault from to ≡ None) }
         ensures fault { IfErr result (λ f. window_fault from to ≡ Some f) }
     {
         if from == 0 || to == 0 {
@@ -51,6 +49,7 @@ impl Window {
     /// Those of [`Window::between`].
     pub fn asked(from: Option<u32>, to: Option<u32>) -> Result<Option<Window>, WindowFault>
         ensures numbers { IfOk result (λ asked. option_map (λ (w : Window). (w.from, w.to)) asked ≡ numbers_meant from to) }
+        ensures only { OnOk result (IfSome (numbers_meant from to) (λ n. window_fault n.0 n.1 ≡ None)) }
         ensures fault { IfErr result (λ f. IsSomeAnd (numbers_meant from to) (λ n. window_fault n.0 n.1 ≡ Some f)) }
     {
         match numbers_meant(from, to) {

@@ -6,7 +6,6 @@ ghost use Rattle.monk_tell.specs.Told.{telling_of};
 ghost use Rattle.serde_json.specs.View.{view};
 ghost use Rattle.monk_page.specs.Kinds.{kind_json, kinds_json, under, verdict_json};
 
-use crate::words::kind_word;
 use monk_audit::AuditFault;
 use monk_history::{Event, Header};
 use monk_kinds::KindName;
@@ -34,7 +33,7 @@ fn verdict(alloc: Global, kind: KindName, telling: &Telling) -> Result<Value, Al
         Some(blame) => Value::String(format!(in alloc; "{}", blame.why)?),
         None => Value::Null,
     };
-    json!(in alloc; {"kind": kind_word(kind), "verdict": verdict, "why": why})
+    json!(in alloc; {"kind": kind.as_str(), "verdict": verdict, "why": why})
 }
 
 /// What an audit of the events finds if the monitor is of that kind.

@@ -12,6 +12,5 @@ mod page_data;
 mod queues;
 mod step;
 mod template;
-mod words;
 
 pub use html::page;

@@ -14,7 +14,6 @@ ghost use Rattle.monk_page.specs.Step.{step_json};
 use crate::in_json::InJson;
 use crate::kinds::kinds;
 use crate::step::step;
-use crate::words::{kind_word, object_word};
 use monk_audit::{AuditFault, rules_by_name};
 use monk_draw::Span;
 use monk_history::{Event, Header};
@@ -71,7 +70,7 @@ fn put_kind(alloc: Global, map: &mut Map<String, Value>, kind: KindName) -> Resu
         map,
         alloc,
         "kind",
-        Value::try_from_str(alloc, kind_word(kind))?,
+        Value::try_from_str(alloc, kind.as_str())?,
     )?;
     put(
         map,
@@ -90,7 +89,7 @@ fn put_heading(
 ) -> Result<(), AllocError>
     ensures { OnOk result (members_view map.new.entries ≡ with_heading header.now (members_view map.old.entries)) }
 {
-    let object = Value::try_from_str(alloc, object_word(header.object()))?;
+    let object = Value::try_from_str(alloc, header.object().as_str())?;
     put(map, alloc, "conditions", Value::from(header.conds()))?;
     put(map, alloc, "seats", Value::from(header.seats()))?;
     put(map, alloc, "object", object)?;

@@ -1,10 +1,10 @@
 -- The steps of a legal history, with one event more
-use Rattle.std.proofs.Common.{◌≡◌, ◌≢◌, ℕ, ◌+◌, ◌-◌, ◌<◌, ◌≤◌, Bool, cond, List, [], ◌∷◌, ◌++◌, length, map, take, drop, get_or, min}
-use Rattle.std.proofs.Common.{refl, sym, ap, subst, arith, ◌∙◌}
-use Rattle.std.specs.Prelude.{◌==◌}
+use Rattle.std.proofs.Common.{◌≡◌, ℕ, ◌+◌, ◌-◌, ◌<◌, ◌≤◌, Bool, cond, List, [], ◌∷◌, ◌++◌}
+use Rattle.std.proofs.Common.{length, map, take, drop, get_or, min}
+use Rattle.std.proofs.Common.{sym, ap, subst, arith, ◌∙◌}
 use Rattle.std.specs.List.{range_with_len}
 use Rattle.std.proofs.Math.Nat.{min-le_right}
-use Rattle.std.proofs.lemmas.Bool.{eq-eqb, ne_eqb}
+use Rattle.std.proofs.lemmas.Bool.{ne_eqb}
 use Rattle.std.proofs.lemmas.List.{get_or-drop, get_or-take, length-take-le, map-append, take-take}
 use Rattle.std.proofs.lemmas.List.FromFn.{map-range_with_len_more}
 use Rattle.std.proofs.lemmas.Option.{slice_get_within}
@@ -26,21 +26,16 @@ use Rattle.monk_tell.specs.Steps.{ShownStep, allowed_events, event_step, opening
 use Rattle.monk_tell.specs.declared.step.Step.{Step}
 use Rattle.monk_tell.proofs.TellLaws.{reason_opening}
 
--- the reason that is found against an event that is allowed
-pub none_found : (k : Rules) (seats n conds c : ℕ) (o : Object) (t : Situation) (e : Event) (r : ℕ) → n ≡ seats → c ≡ conds
-    → r ≡ reason_in (monitor k n c o []) t e → reason_in (monitor k seats conds o []) t e ≡ 0 → r ≡ 0
-none_found k seats n conds c o t e r a b found none =
-    found ∙ (ap (λ (x : ℕ). reason_in (monitor k x c o []) t e) a
-    ∙ (ap (λ (x : ℕ). reason_in (monitor k seats x o []) t e) b ∙ none))
-
 -- so many events are there, and are legal
-pub allowed_there : (m : Monitor) (es : List Event) (v : Verdict) (n : ℕ) → IsVerdict m es v → n ≤ allowed_events v → n ≤ length es
+pub allowed_there : (m : Monitor) (es : List Event) (v : Verdict) (n : ℕ) → IsVerdict m es v → n ≤ allowed_events v
+    → n ≤ length es
 allowed_there m es (Legal count) n is few = omega (arith, is.1, few)
 allowed_there m es (Forbidden step reason) n is few =
     omega (arith, few, is.is_step, slice_get_within es is.before is.fault is.is_there)
 
 -- the last step is of one of them
-pub end_allowed : (v : Verdict) (last allowed end : ℕ) → allowed ≡ allowed_events v → end ≡ min last allowed → end ≤ allowed_events v
+pub end_allowed : (v : Verdict) (last allowed end : ℕ) → allowed ≡ allowed_events v → end ≡ min last allowed
+    → end ≤ allowed_events v
 end_allowed v last allowed end is ends =
     subst (λ (n : ℕ). n ≤ allowed_events v) (sym (ends ∙ ap (min last) is)) (min-le_right last (allowed_events v))
 
@@ -55,8 +50,8 @@ allowed_legal m es (Forbidden step reason) n is few =
     legal_shorter m es n is.before (omega (arith, few, is.is_step)) is.legal_before
 
 -- against an event of them is no reason, whatever the opening state is
-pub none_against : (k : Rules) (seats conds : ℕ) (o : Object) (d : List ℕ) (es : List Event) (v : Verdict) (n : ℕ) (e : Event)
-    (t : Situation) → IsVerdict (monitor k seats conds o d) es v → n < allowed_events v
+pub none_against : (k : Rules) (seats conds : ℕ) (o : Object) (d : List ℕ) (es : List Event) (v : Verdict) (n : ℕ)
+    (e : Event) (t : Situation) → IsVerdict (monitor k seats conds o d) es v → n < allowed_events v
     → e ≡ get_or es n (Enter 0 Free) → t ≡ situation (monitor k seats conds o d) (take n es)
     → reason_in (monitor k seats conds o []) t e ≡ 0
 none_against k seats conds o d es v n e t is few there stands =
@@ -98,20 +93,13 @@ reached m es v n e t u is few there stands leads =
 -- the event at a place behind the first ones
 pub event_there : (es : List Event) (before last i : ℕ) (d : Event) → i < last - before
     → get_or (take (last - before) (drop before es)) i d ≡ get_or es (before + i) d
-event_there es before last i d within = get_or-take (last - before) (drop before es) i d within ∙ get_or-drop before es i d
+event_there es before last i d within =
+    get_or-take (last - before) (drop before es) i d within ∙ get_or-drop before es i d
 
--- the first step, and one more
-pub first_told : (m : Monitor) (es : List Event) (before : ℕ) (t : Situation) (x : Step) → t ≡ situation m (take before es)
-    → step_of x ≡ opening_step m t → map step_of (x ∷ []) ≡ map (step_after m es before) (range_with_len before 1)
-first_told m es before t x stands is = ap (λ (s : ShownStep). s ∷ []) (is ∙ (ap (opening_step m) stands ∙ sym begins))
-  where
-    begins : step_after m es before before ≡ opening_step m (situation m (take before es))
-    begins =
-        ap (λ (b : Bool). cond b (opening_step m (situation m (take before es))) (event_step m es before))
-        (eq-eqb before before refl)
-
+-- one step more
 pub step_told : (m : Monitor) (es : List Event) (before i : ℕ) (xs : List Step) (x : Step)
-    → map step_of xs ≡ map (step_after m es before) (range_with_len before (i + 1)) → step_of x ≡ event_step m es (before + i + 1)
+    → map step_of xs ≡ map (step_after m es before) (range_with_len before (i + 1))
+    → step_of x ≡ event_step m es (before + i + 1)
     → map step_of (xs ++ x ∷ []) ≡ map (step_after m es before) (range_with_len before (i + 1 + 1))
 step_told m es before i xs x told is =
     map-append step_of xs (x ∷ []) ∙ (ap (λ (ss : List ShownStep). ss ++ step_of x ∷ []) told
@@ -120,8 +108,9 @@ step_told m es before i xs x told is =
   where
     goes_on : step_after m es before (before + i + 1) ≡ event_step m es (before + i + 1)
     goes_on =
-        ap (λ (b : Bool). cond b (opening_step m (situation m (take (before + i + 1) es))) (event_step m es (before + i + 1)))
-        (ne_eqb (before + i + 1) before (λ same. omega (arith, same)))
+        let n = before + i + 1 in
+        ap (λ (b : Bool). cond b (opening_step m (situation m (take n es))) (event_step m es n))
+        (ne_eqb n before (λ same. omega (arith, same)))
 
 -- an event's step, from the situations before it and after it
 pub event_told : (m : Monitor) (es : List Event) (n : ℕ) (t u : Situation) (e : Event) → t ≡ situation m (take n es)
@@ -129,7 +118,8 @@ pub event_told : (m : Monitor) (es : List Event) (n : ℕ) (t u : Situation) (e 
 event_told m es n t u e stands there reached =
     ap (λ (x : Situation). step_by m x e u) stands ∙ (ap (λ (x : Event). step_by m (situation m (take n es)) x u) there
     ∙ (ap (λ (x : Situation). step_by m (situation m (take n es)) (get_or es n (Enter 0 Free)) x) reached
-    ∙ ap (λ (k : ℕ). step_by m (situation m (take k es)) (get_or es k (Enter 0 Free)) (situation m (take (n + 1) es))) before))
+    ∙ ap (λ (k : ℕ). step_by m (situation m (take k es)) (get_or es k (Enter 0 Free)) (situation m (take (n + 1) es)))
+    before))
   where
     before : n ≡ n + 1 - 1
     before = omega arith

@@ -1,5 +1,6 @@
 -- What a reason says of an event, and a first fault of a history
-use Rattle.std.proofs.Common.{◌≡◌, ◌≢◌, ℕ, ◌<◌, Bool, true, false, cond, not, List, [], Some, None, refl, sym, ap, subst, arith, ◌∙◌}
+use Rattle.std.proofs.Common.{◌≡◌, ◌≢◌, ℕ, Bool, true, false, cond, not, List, [], Some, None}
+use Rattle.std.proofs.Common.{refl, sym, ap, subst, ◌∙◌}
 use Rattle.std.specs.Prelude.{◌==◌}
 use Rattle.std.proofs.lemmas.Bool.{ne_eqb}
 use Rattle.monk_kinds.specs.declared.mode.Rules.{Rules}
@@ -63,8 +64,8 @@ shown_by kind rules object standing refused = record {
   refused = refused;
 }
 
-pub same_shown : (k l : KindName) (rules : Rules) (n o : ObjectName) (s t : ShownStanding) (r q : ShownSteps) → k ≡ l → n ≡ o
-    → s ≡ t → r ≡ q → shown_by k rules n s r ≡ shown_by l rules o t q
+pub same_shown : (k l : KindName) (rules : Rules) (n o : ObjectName) (s t : ShownStanding) (r q : ShownSteps) → k ≡ l
+    → n ≡ o → s ≡ t → r ≡ q → shown_by k rules n s r ≡ shown_by l rules o t q
 same_shown k l rules n o s t r q a b c d = λ i. shown_by (a i) rules (b i) (c i) (d i)
 
 abbrev pub told_as : Verdict → Shown → Blamed → Account

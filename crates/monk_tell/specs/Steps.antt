@@ -12,7 +12,8 @@ use Rattle.monk_history.specs.declared.event.Event.{Event}
 use Rattle.monk_audit.specs.Verdict.{verdict_of}
 use Rattle.monk_audit.specs.declared.verdict.Verdict.{Verdict}
 use Rattle.monk_audit.specs.declared.verdict.Verdict.TheVariants.{Legal, Forbidden}
-use Rattle.monk_tell.specs.Told.{Chosen, ShownStanding, choice_of, chosen_at, event_at, events_before, shown_standing, standing_of}
+use Rattle.monk_tell.specs.Told.{Chosen, ShownStanding, choice_of, chosen_at, event_at, events_before}
+use Rattle.monk_tell.specs.Told.{shown_standing, standing_of}
 use Rattle.monk_tell.specs.declared.step.Step.{Step}
 
 -- the event that led there, what it chose from, and how the monitor stands

@@ -2,17 +2,17 @@
 
 ghost use Rattle.std.specs.Prelude.{◌≡◌, ◌<◌, All, IfOk, Some};
 ghost use Rattle.monk_audit.specs.Replay.{replay_situation};
-ghost use Rattle.monk_tell.specs.Words.{data_text, ranks_text, situation_text};
+ghost use Rattle.monk_tell.specs.Words.{data_text, situation_text};
 ghost use Rattle.monk_tell.specs.Told.{shown_situation, situation_of};
 
-use crate::kind_word::{kind_word, mode_word};
 use crate::lists::Numbers;
 use crate::refused::{Refused, refused_acts};
+use crate::rules::{Ranks, mode_word};
 use crate::said::SaidTurn;
 use crate::standing::Standing;
 use monk_audit::Replay;
 use monk_history::{Event, Header};
-use monk_kinds::{KindName, Mode, Rules};
+use monk_kinds::{KindName, Rules};
 use monk_object::{InWords, Listed, ObjectName};
 use std::alloc::{AllocError, Global};
 use std::fmt;
@@ -44,8 +44,8 @@ impl Situation {
     ) -> Result<Situation, AllocError>
         requires { All (λ w. w.1 < T.PREDICATES) (replay_situation replay.now (T.state object.now)).untils }
         ensures { IfOk result
-            (λ s. situation_of s ≡ shown_situation header.now.kind rules header.now.seats header.now.conds header.now.object
-            T.meaning events.now (replay_situation replay.now (T.state object.now))) }
+            (λ s. situation_of s ≡ shown_situation header.now.kind rules header.now.seats header.now.conds
+            header.now.object T.meaning events.now (replay_situation replay.now (T.state object.now))) }
     {
         Ok(Situation {
             kind: header.kind(),
@@ -54,27 +54,6 @@ impl Situation {
             standing: Standing::of(alloc, header, rules.mode, replay, object)?,
             refused: refused_acts(alloc, events)?,
         })
-    }
-}
-
-/// The priorities of the entry and waiter queues, and of the signaller queue where the kind has one: `1 1 2`.
-#[derive(Drop)]
-pub struct Ranks(pub Rules);
-
-impl fmt::Display for Ranks {
-    ghost output = { λ r. Some (ranks_text r.0) };
-
-    fn fmt<W: fmt::Write>(&self, f: &mut fmt::Formatter<W>) -> fmt::Result {
-        let Rules {
-            entry,
-            waiter,
-            signaller,
-            mode,
-        } = self.0;
-        match mode {
-            Mode::ImmediateReturn | Mode::Automatic => write!(f, "{entry} {waiter}"),
-            _ => write!(f, "{entry} {waiter} {signaller}"),
-        }
     }
 }
 
@@ -101,7 +80,7 @@ impl fmt::Display for Situation {
     ghost output = { λ s. Some (situation_text (situation_of s)) };
 
     fn fmt<W: fmt::Write>(&self, f: &mut fmt::Formatter<W>) -> fmt::Result {
-        let (kind, mode) = (kind_word(self.kind), mode_word(self.rules.mode));
+        let (kind, mode) = (self.kind.as_str(), mode_word(self.rules.mode));
         let ranks = Ranks(self.rules);
         let standing = &self.standing;
         let turn = SaidTurn(standing.turn);

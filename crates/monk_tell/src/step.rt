@@ -64,7 +64,8 @@ impl Step {
             (replay_situation replay.old (T.state object.old)) event ≡ 0 }
         ensures step { IfOk result
             (λ s. step_of s ≡ step_by (monitor rules header.now.seats header.now.conds T.meaning [])
-            (replay_situation replay.old (T.state object.old)) event (replay_situation replay.new (T.state object.new))) }
+            (replay_situation replay.old (T.state object.old)) event
+            (replay_situation replay.new (T.state object.new))) }
         ensures after { OnOk result
             (replay_situation replay.new (T.state object.new) ≡ after T.meaning
             (replay_situation replay.old (T.state object.old)) event) }
@@ -92,7 +93,8 @@ fn release_choice<T: Guarded>(
     requires preds { All (λ w. w.1 < T.PREDICATES) (replay_situation replay.now (T.state object.now)).untils }
     requires fits { fits_object T.CODES T.PREDICATES event ≡ true }
     ensures { IfOk result
-        (λ c. option_map choice_of c ≡ release_choice rules T.meaning (replay_situation replay.now (T.state object.now)) event) }
+        (λ c. option_map choice_of c ≡ release_choice rules T.meaning
+        (replay_situation replay.now (T.state object.now)) event) }
 {
     if event.choice().is_none() {
         return Ok(None);

@@ -34,11 +34,12 @@ fn steps_over<T: Listed>(
     last: usize,
 ) -> Result<Vec<Step>, AllocError>
     requires { IsVerdict
-        (monitor (rules_named header.now.kind) header.now.seats header.now.conds T.meaning (T.state object)) events.now verdict }
+        (monitor (rules_named header.now.kind) header.now.seats header.now.conds T.meaning (T.state object)) events.now
+        verdict }
     ensures { IfOk result
         (λ v. map step_of v.items ≡ steps_of
-        (monitor (rules_named header.now.kind) header.now.seats header.now.conds T.meaning (T.state object)) events.now before
-        (min last (allowed_events verdict))) }
+        (monitor (rules_named header.now.kind) header.now.seats header.now.conds T.meaning (T.state object)) events.now
+        before (min last (allowed_events verdict))) }
 {
     let end = last.min(allowed_events(verdict));
     let mut steps = Vec::new(alloc);
@@ -58,9 +59,9 @@ fn steps_over<T: Listed>(
     Ok(steps)
 }
 
-/// Tells how the monitor stands after so many events (`before`), and then of each event up to the last that is asked for
-/// (`last`, counted from 1) what it chose from, and how the monitor stands after it. The steps end before the first event that
-/// is not allowed, and with the last event of a legal history. There are none where they would begin behind that.
+/// Tells how the monitor stands after so many events (`before`). Then it tells of each event up to the last that is
+/// asked for (`last`, counted from 1) what it chose from, and how the monitor stands after it. The steps end before the
+/// first event that is not allowed, or with the last event of a legal history. Behind that there are none.
 ///
 /// # Errors
 ///
@@ -69,8 +70,8 @@ fn steps_over<T: Listed>(
 ///
 /// # Cost
 ///
-/// Two passes over the events, each as [`audit`] takes one; memory for the queues, the object and the steps. A step takes time
-/// and memory by the seats, the conditions and the size of the object, whatever the number of events is.
+/// Two passes over the events, each as [`audit`] takes one; memory for the queues, the object and the steps. A step
+/// takes time and memory by the seats, the conditions and the size of the object, however many events there are.
 pub fn tell_steps(
     alloc: Global,
     header: &Header,

@@ -10,7 +10,6 @@ mod out_of_turn;
 mod precedence;
 mod staying;
 
-use crate::kind_word::kind_word;
 use crate::sentence::{Gap, Sentence};
 use monk_kinds::KindName;
 pub use out_of_place::OutOfPlace;
@@ -50,7 +49,7 @@ impl Why {
             Why::Range(found) => found.sentence(),
             Why::Call(kind) => Sentence::of_one(
                 "",
-                Gap::Word(kind_word(kind)),
+                Gap::Word(kind.as_str()),
                 " monitors have no such call",
             ),
             Why::Turn(found) => found.sentence(),

@@ -4,7 +4,6 @@ ghost use Rattle.std.specs.Prelude.{◌≡◌};
 ghost use Rattle.monk_tell.specs.Sentence.{sentence_text};
 ghost use Rattle.monk_tell.specs.Why.{precedence_text};
 
-use crate::kind_word::kind_word;
 use crate::said::queue_word;
 use crate::sentence::{Gap, Sentence};
 use monk_history::From3;
@@ -61,42 +60,42 @@ impl Precedence {
             }
             Precedence::NoUntils(kind) => Sentence::of_one(
                 "",
-                Gap::Word(kind_word(kind)),
+                Gap::Word(kind.as_str()),
                 " monitors have nobody who waits until a predicate holds",
             ),
             Precedence::WaitersFirst(seat, kind) => Sentence::of_two(
                 "waiter ",
                 Gap::number(seat),
                 " has to go on first, since ",
-                Gap::Word(kind_word(kind)),
+                Gap::Word(kind.as_str()),
                 " puts waiters above signallers",
             ),
             Precedence::SignallersFirst(seat, kind) => Sentence::of_two(
                 "signaller ",
                 Gap::number(seat),
                 " has to go on first, since ",
-                Gap::Word(kind_word(kind)),
+                Gap::Word(kind.as_str()),
                 " puts signallers above waiters",
             ),
             Precedence::WaitersBeforeEntry(seat, kind) => Sentence::of_two(
                 "waiter ",
                 Gap::number(seat),
                 " has to go on first, since ",
-                Gap::Word(kind_word(kind)),
+                Gap::Word(kind.as_str()),
                 " puts waiters above entry",
             ),
             Precedence::SignallersBeforeEntry(seat, kind) => Sentence::of_two(
                 "signaller ",
                 Gap::number(seat),
                 " has to go on first, since ",
-                Gap::Word(kind_word(kind)),
+                Gap::Word(kind.as_str()),
                 " puts signallers above entry",
             ),
             Precedence::ReadyBeforeEntry(seat, kind) => Sentence::of_two(
                 "seat ",
                 Gap::number(seat),
                 " has to go on first, since its predicate holds and ",
-                Gap::Word(kind_word(kind)),
+                Gap::Word(kind.as_str()),
                 " puts it above entry",
             ),
         }

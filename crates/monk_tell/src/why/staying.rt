@@ -4,7 +4,6 @@ ghost use Rattle.std.specs.Prelude.{◌≡◌};
 ghost use Rattle.monk_tell.specs.Sentence.{sentence_text};
 ghost use Rattle.monk_tell.specs.Why.{staying_text};
 
-use crate::kind_word::kind_word;
 use crate::sentence::{Gap, Sentence};
 use monk_kinds::KindName;
 
@@ -56,14 +55,14 @@ impl Staying {
                 "seat ",
                 Gap::number(seat),
                 " can't stay active, since ",
-                Gap::Word(kind_word(kind)),
+                Gap::Word(kind.as_str()),
                 " puts waiters above signallers",
             ),
             Staying::MustStay(seat, kind) => Sentence::of_two(
                 "seat ",
                 Gap::number(seat),
                 " has to stay active, since ",
-                Gap::Word(kind_word(kind)),
+                Gap::Word(kind.as_str()),
                 " puts signallers above waiters",
             ),
             Staying::StepsBehind(seat, other) => Sentence::of_two(

@@ -22,6 +22,7 @@ fn the_ten_kinds(rt: HostRuntime) {
 fn is_kind<K: Kind>(text: &[u8], mode: Mode, ordering: &[u8]) -> bool {
     let rules = rules_of::<K>();
     K::NAME.text() == text
+        && K::NAME.as_str().as_bytes() == text
         && KindName::of_text(text) == Some(K::NAME)
         && rules.mode == mode
         && classify(rules.entry, rules.waiter, rules.signaller).text() == ordering

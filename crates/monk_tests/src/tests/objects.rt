@@ -165,7 +165,7 @@ static NAMES: [(ObjectName, &[u8], u8); 4] = [
 #[test]
 fn names_and_greatest_sizes(rt: HostRuntime) {
     for (name, text, greatest) in NAMES.iter() {
-        assert!(rt; name.text() == *text);
+        assert!(rt; name.text() == *text && name.as_str().as_bytes() == *text);
         assert!(rt; ObjectName::of_text(text) == Some(*name));
         assert!(rt; name.greatest_size() == *greatest);
     }

@@ -10,9 +10,12 @@ use Rattle.monk_tell.proofs.steps.steps_over.Given as goal
 -- the steps so far
 abbrev pub invariant-loop-event : goal.invariant-loop-event
 invariant-loop-event g l =
-    let m = monitor (rules_named l.header.kind) l.header.seats l.header.conds g.T.Guarded.meaning (g.T.Guarded.state l.fn.object) in
+    let h = l.header in
+    let m = monitor (rules_named h.kind) h.seats h.conds g.T.Guarded.meaning (g.T.Guarded.state l.fn.object) in
     record {
-      sound : IsReplayOf l.header.seats l.header.conds g.T.Guarded.PREDICATES l.replay;
-      stands : replay_situation l.replay (g.T.Guarded.state l.object) ≡ situation m (take (l.before + l.event-index) l.events);
-      told : map step_of l.steps.items ≡ map (step_after m l.events l.before) (range_with_len l.before (l.event-index + 1));
+      sound : IsReplayOf h.seats h.conds g.T.Guarded.PREDICATES l.replay;
+      stands : replay_situation l.replay (g.T.Guarded.state l.object)
+          ≡ situation m (take (l.before + l.event-index) l.events);
+      told : map step_of l.steps.items
+          ≡ map (step_after m l.events l.before) (range_with_len l.before (l.event-index + 1));
     }

@@ -10,5 +10,5 @@ returns-clause-writes g c = λ plain ok.
     let inside = c.in_ok-write-3.ensures.writes turn.plain refl in
     let state = c.in_ok-write-4.ensures.writes inside.plain refl in
     let rest = c.write-5.ensures.writes state.plain ok in
-    rw (← c.kind_word-kind.ensures, ← c.mode_word-mode.ensures)
+    rw (← c.as_str-kind.ensures, ← c.mode_word-mode.ensures)
     (append _ _ _ _ _ kind (append _ _ _ _ _ turn (append _ _ _ _ _ inside (append _ _ _ _ _ state rest))))

@@ -4,7 +4,7 @@ use Rattle.monk_tell.proofs.why.staying.Staying.sentence.Goals as goal
 pub returns-in-MustYield : goal.returns-in-MustYield
 returns-in-MustYield c =
     c.of_two-in-MustYield.ensures
-    ∙ rw (c.in-MustYield.is, c.number-in-MustYield.ensures, c.kind_word.ensures) refl
+    ∙ rw (c.in-MustYield.is, c.number-in-MustYield.ensures, c.as_str.ensures) refl
 
 pub returns-in-StepsBehind : goal.returns-in-StepsBehind
 returns-in-StepsBehind c =
