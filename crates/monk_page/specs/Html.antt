@@ -11,13 +11,15 @@ use Rattle.serde_json.specs.Written.{compact_text}
 use Rattle.monk_page.specs.Page.{page_json}
 use Rattle.monk_page.specs.declared.template.TheConstants.{END, FRONT, MIDDLE}
 
--- what stands before the picture, between picture and data, and behind the data: nothing here depends on what it is
+-- what stands before the picture: no proof looks at what it is, and so with the other two
 unfoldable pub front : List ℕ
 front = FRONT.now
 
+-- what stands between the picture and the data
 unfoldable pub middle : List ℕ
 middle = MIDDLE.now
 
+-- what stands behind the data
 unfoldable pub finish : List ℕ
 finish = END.now
 
