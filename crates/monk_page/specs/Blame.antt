@@ -7,7 +7,7 @@ use Rattle.monk_page.specs.Choice.{choice_json}
 use Rattle.monk_page.specs.Json.{number_json, option_json}
 use Rattle.monk_page.specs.Step.{event_json}
 
--- what is wrong with a forbidden event
+-- the event with its step, what its reason adds, and the sentence
 abbrev pub blame_json : Blamed → Data
 blame_json b =
     object (member (codes "choice") (option_json choice_json b.choice)

@@ -8,15 +8,15 @@ use Rattle.monk_tell.specs.Words.{next_text}
 use Rattle.serde_json.specs.Data.{Data, string, object, member, no_members}
 use Rattle.monk_page.specs.Json.{list_json, number_json, pair_json}
 
--- a queue and the seat at its front
+-- the queue, and its first seat
 abbrev pub front_json : From3 × ℕ → Data
 front_json f = pair_json (string (from_word f.0)) (number_json f.1)
 
--- a choice, in its words
+-- a next, as a text has it
 abbrev pub next_json : Next → Data
 next_json n = string (next_text n)
 
--- what a release chose from, and what it might have chosen
+-- the fronts, and each next that is permitted
 abbrev pub choice_json : Chosen → Data
 choice_json c =
     object (member (codes "fronts") (list_json front_json c.fronts)

@@ -13,7 +13,7 @@ use Rattle.monk_page.specs.declared.template.end.TheConstants.{END}
 use Rattle.monk_page.specs.declared.template.front.TheConstants.{FRONT}
 use Rattle.monk_page.specs.declared.template.middle.TheConstants.{MIDDLE}
 
--- what stands before the picture, between picture and data, and behind the data: nothing here depends on what it is
+-- what stands before the picture: no proof looks at what it is, and so with the other two
 unfoldable pub front : List ℕ
 front = FRONT.now
 

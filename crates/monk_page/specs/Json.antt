@@ -4,7 +4,7 @@ use Rattle.std.specs.Option.{option_map_or}
 use Rattle.serde_json.specs.Data.{Data, null, number, unsigned, array}
 use Rattle.serde_json.specs.View.{items_of}
 
--- a number
+-- a whole number
 abbrev pub number_json : ℕ → Data
 number_json n = number (unsigned n)
 
@@ -16,10 +16,10 @@ list_json each xs = array (items_of (map each xs))
 abbrev pub option_json : {X : Type 0} → (X → Data) → Option X → Data
 option_json some o = option_map_or some o null
 
--- a list of numbers
+-- whole numbers, in order
 abbrev pub numbers_json : List ℕ → Data
 numbers_json ns = list_json number_json ns
 
--- a list of two
+-- an array of two
 abbrev pub pair_json : Data → Data → Data
 pair_json a b = array (items_of (a ∷ b ∷ []))

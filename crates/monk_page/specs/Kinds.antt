@@ -25,6 +25,6 @@ under k h = heading (object_version h.object) k h.seats h.conds h.object h.size
 abbrev pub kind_json : Heading → List Event → KindName → Data
 kind_json h es k = verdict_json k (account (under k h) es)
 
--- the verdict of each kind
+-- the same for each of the ten
 abbrev pub kinds_json : Heading → List Event → Data
 kinds_json h es = list_json (kind_json h es) kinds

@@ -20,22 +20,21 @@ use Rattle.monk_page.specs.Step.{step_json}
 abbrev pub shown_blame_json : ℕ → ℕ → Blamed → Data
 shown_blame_json before last b = if nat_lt before b.step && nat_le b.step last then blame_json b else null
 
--- what is wrong with the first forbidden event, if it is one of those shown
+-- the same of what is told, or null of a legal history
 abbrev pub forbidden_json : ℕ → ℕ → Account → Data
 forbidden_json before last a = option_map_or (shown_blame_json before last) a.blame null
 
--- the steps that are shown
+-- the steps behind so many events, up to the last that is shown
 abbrev pub steps_json : Heading → List Event → ℕ → ℕ → Data
 steps_json h es before last = list_json (step_json h.object) (steps_between h es before last)
 
 -- the kind, and its priorities
 abbrev pub with_kind : KindName → Members → Members
 with_kind k ms =
-    put (codes "ranks") (string (ranks_text (rules_named k)))
-    (put (codes "mode") (string (mode_word (rules_named k).mode))
+    put (codes "ranks") (string (ranks_text (rules_named k))) (put (codes "mode") (string (mode_word (rules_named k).mode))
     (put (codes "kind") (string (kind_word k)) ms))
 
--- the members, with those of the heading
+-- the parts of the heading
 abbrev pub with_heading : Heading → Members → Members
 with_heading h ms =
     with_kind h.kind (put (codes "version") (number_json h.version) (put (codes "size") (number_json h.size)

@@ -10,7 +10,7 @@ use Rattle.serde_json.specs.Data.{Data, string, object, Members, no_members, put
 use Rattle.monk_page.specs.Choice.{choice_json}
 use Rattle.monk_page.specs.Json.{list_json, number_json, numbers_json, option_json, pair_json}
 
--- an event, in its words
+-- an event, as a text has it
 abbrev pub event_json : Event → Data
 event_json e = string (event_text e)
 
@@ -20,7 +20,7 @@ wait_json w = pair_json (number_json w.0) (number_json w.1)
 
 -- ---- who waits inside: null, where the kind has no such queue
 
--- the queues of the conditions
+-- who waits on each condition
 abbrev pub conditions_json : ShownQueues → Data
 conditions_json q = option_json (λ c. list_json numbers_json c.conditions) q.conditional
 
@@ -32,15 +32,15 @@ waiters_json q = option_json (λ c. numbers_json c.waiters) q.conditional
 abbrev pub signallers_json : ShownQueues → Data
 signallers_json q = option_json (λ c. option_json numbers_json c.signallers) q.conditional
 
--- who waits until which predicate holds
+-- who waits until a predicate holds
 abbrev pub untils_json : ShownQueues → Data
 untils_json q = option_json (λ u. list_json wait_json u.untils) q.automatic
 
--- those whose predicate holds
+-- the seats whose predicate holds
 abbrev pub ready_json : ShownQueues → Data
 ready_json q = option_json (λ u. numbers_json u.ready) q.automatic
 
--- the members, with those of the queues
+-- all of them
 abbrev pub with_queues : ShownQueues → Members → Members
 with_queues q ms =
     put (codes "conditions") (conditions_json q) (put (codes "ready") (ready_json q)
@@ -55,7 +55,7 @@ with_standing o s ms =
     with_queues s.queues (put (codes "turn") (string (turn_text s.turn)) (put (codes "state") (numbers_json s.state)
     (put (codes "inside") (numbers_json s.inside) (put (codes "data") (string (state_in_words o s.state)) ms))))
 
--- a step: its event, its choice, and how the monitor stands after it
+-- the step of a monitor over that object
 abbrev pub step_json : ObjectName → ShownStep → Data
 step_json o s =
     object (with_standing o s.standing (put (codes "event") (option_json event_json s.event)
