@@ -19,20 +19,27 @@ use Rattle.monk_commands.specs.Shown.{HasAuditStatus, IsShowingOf, IsShown, IsAn
 use Rattle.monk_commands.specs.declared.show.Show.{Show}
 
 -- an answer by the verdict of the audit
-pub answered_by : (s : Show) (w : Option Window) (h : Heading) (es : List Event) (v : Verdict) (status : ℕ) (Puts : List ℕ → Type 0)
-    → v ≡ verdict_of (named_monitor h) es → h.size ≤ most h.object → IsAnsweredBy s w v h es status Puts → IsShown s w h es status Puts
-answered_by s w h es v status Puts is fits a = inl (fits, subst (λ (x : Verdict). IsAnsweredBy s w x h es status Puts) is a)
+pub answered_by : (s : Show) (w : Option Window) (h : Heading) (es : List Event) (v : Verdict) (status : ℕ)
+    (Puts : List ℕ → Type 0)
+    → v ≡ verdict_of (named_monitor h) es → h.size ≤ most h.object → IsAnsweredBy s w v h es status Puts
+    → IsShown s w h es status Puts
+answered_by s w h es v status Puts is fits a =
+    inl (fits, subst (λ (x : Verdict). IsAnsweredBy s w x h es status Puts) is a)
 
 -- the answer to a history that was read
-pub shown_read : (s : Show) (w : Option Window) (bytes : List ℕ) (h : Heading) (es given : List Event) (status : ℕ) (Puts : List ℕ → Type 0)
-    → text_at (2 ^ 25) bytes ≡ Ok (history h es) → given ≡ es → IsShown s w h given status Puts → IsShowingOf s w bytes status Puts
+pub shown_read : (s : Show) (w : Option Window) (bytes : List ℕ) (h : Heading) (es given : List Event)
+    (status : ℕ) (Puts : List ℕ → Type 0)
+    → text_at (2 ^ 25) bytes ≡ Ok (history h es) → given ≡ es → IsShown s w h given status Puts
+    → IsShowingOf s w bytes status Puts
 shown_read s w bytes h es given status Puts read same a =
     subst (λ (r : Result History ReadFault). IsShownOrRefused s w r status Puts) (sym read)
     (subst (λ (l : List Event). IsShown s w h l status Puts) same a)
 
 -- the answer to a text that is of none
-pub refused_read : (s : Show) (w : Option Window) (bytes : List ℕ) (f : ReadFault) (status : ℕ) (Puts : List ℕ → Type 0) (line : List ℕ)
-    → text_at (2 ^ 25) bytes ≡ Err f → status ≡ 2 → line ≡ (unreadable f).text → Puts line → IsShowingOf s w bytes status Puts
+pub refused_read : (s : Show) (w : Option Window) (bytes : List ℕ) (f : ReadFault) (status : ℕ)
+    (Puts : List ℕ → Type 0) (line : List ℕ)
+    → text_at (2 ^ 25) bytes ≡ Err f → status ≡ 2 → line ≡ (unreadable f).text → Puts line
+    → IsShowingOf s w bytes status Puts
 refused_read s w bytes f status Puts line read two is put =
     subst (λ (r : Result History ReadFault). IsShownOrRefused s w r status Puts) (sym read) (two, subst Puts is put)
 
@@ -45,12 +52,14 @@ behind_asked : (w : Option Window) (count : ℕ) → is_behind w count ≡ true 
 behind_asked None count is = absurd cc
 behind_asked (Some w) count is = λ none. absurd cc
 
-of_verdict : (s : Show) (w : Option Window) (v : Verdict) (h : Heading) (es : List Event) (status : ℕ) (Puts : List ℕ → Type 0)
+of_verdict : (s : Show) (w : Option Window) (v : Verdict) (h : Heading) (es : List Event) (status : ℕ)
+    (Puts : List ℕ → Type 0)
     → IsAnsweredBy s w v h es status Puts → IsAsAudited w (verdict_answer v).status status
 of_verdict s w v h es status Puts (inl a) = inl a.1.0
 of_verdict s w v h es status Puts (inr a) = inr (behind_asked w _ a.0, a.1.0)
 
-of_history : (s : Show) (w : Option Window) (h : History) (status : ℕ) (Puts : List ℕ → Type 0) → IsShown s w h.0 h.1 status Puts
+of_history : (s : Show) (w : Option Window) (h : History) (status : ℕ) (Puts : List ℕ → Type 0)
+    → IsShown s w h.0 h.1 status Puts
     → IsAsAudited w (audit_answer h).status status
 of_history s w h status Puts (inl a) =
     let small : ltb (most h.0.object) h.0.size ≡ false = le-ltb _ _ a.0 in
@@ -72,7 +81,8 @@ few_of_verdict : (v : Verdict) → (verdict_answer v).status ≤ 2
 few_of_verdict (Legal n) = omega arith
 few_of_verdict (Forbidden step reason) = omega arith
 
-few_answered : (s : Show) (w : Option Window) (v : Verdict) (h : Heading) (es : List Event) (status : ℕ) (Puts : List ℕ → Type 0)
+few_answered : (s : Show) (w : Option Window) (v : Verdict) (h : Heading) (es : List Event) (status : ℕ)
+    (Puts : List ℕ → Type 0)
     → IsAnsweredBy s w v h es status Puts → status ≤ 2
 few_answered s w v h es status Puts (inl a) = subst (λ n. n ≤ 2) (sym a.1.0) (few_of_verdict v)
 few_answered s w v h es status Puts (inr a) = let two : status ≡ 2 = a.1.0 in omega (arith, two)
@@ -87,18 +97,21 @@ few_of_reading : (s : Show) (w : Option Window) (r : Result History ReadFault) (
 few_of_reading s w (Ok h) status Puts a = few_of_history s w h status Puts a
 few_of_reading s w (Err f) status Puts a = let two = a.0 in omega (arith, two)
 
-pub few_statuses : (s : Show) (w : Option Window) (bytes : List ℕ) (status : ℕ) (Puts : List ℕ → Type 0) → IsShowingOf s w bytes status Puts
+pub few_statuses : (s : Show) (w : Option Window) (bytes : List ℕ) (status : ℕ) (Puts : List ℕ → Type 0)
+    → IsShowingOf s w bytes status Puts
     → status ≤ 2
 few_statuses s w bytes status Puts a = few_of_reading s w (text_at (2 ^ 25) bytes) status Puts a
 
 -- of what the reader had, where that is known
-pub shown_known : (s : Show) (w : Option Window) (known : Option (List ℕ)) (bytes : List ℕ) (status : ℕ) (Puts : List ℕ → Type 0)
+pub shown_known : (s : Show) (w : Option Window) (known : Option (List ℕ)) (bytes : List ℕ) (status : ℕ)
+    (Puts : List ℕ → Type 0)
     → IfSome known (λ input. bytes ≡ input) → IsShowingOf s w bytes status Puts
     → IfSome known (λ input. IsShowingOf s w input status Puts)
 shown_known s w None bytes status Puts same a = tt
 shown_known s w (Some input) bytes status Puts same a = subst (λ (x : List ℕ). IsShowingOf s w x status Puts) same a
 
-pub status_known : (s : Show) (w : Option Window) (known : Option (List ℕ)) (bytes : List ℕ) (status : ℕ) (Puts : List ℕ → Type 0)
+pub status_known : (s : Show) (w : Option Window) (known : Option (List ℕ)) (bytes : List ℕ) (status : ℕ)
+    (Puts : List ℕ → Type 0)
     → IfSome known (λ input. bytes ≡ input) → IsShowingOf s w bytes status Puts
     → IfSome known (λ input. HasAuditStatus w input status)
 status_known s w None bytes status Puts same a = tt

@@ -32,6 +32,7 @@ required_rule name parser = record (new_rule name) { required = true; parser = S
 abbrev pub priority : ValueParser
 priority = Signed (pos 0) (pos 255)
 
+-- the words of `classify`
 abbrev pub classify_app : App
 classify_app = with_rule
     (with_rule (with_rule (new_app (codes "classify")) (required_rule (codes "ENTRY") priority))
@@ -41,6 +42,7 @@ classify_app = with_rule
 abbrev pub NameList : Type 0
 NameList = Bor (List (Bor Text))
 
+-- the names of a list
 abbrev pub words_in : NameList → List Text
 words_in w = map (λ x. x.now) w.now
 
@@ -56,6 +58,7 @@ sample_word Book = object_word (sample_object Book)
 sample_word Shop = object_word (sample_object Shop)
 sample_word Hasty = codes "hasty"
 
+-- each sample once
 abbrev pub every_sample : List Sample
 every_sample = Buffer ∷ Book ∷ Shop ∷ Hasty ∷ []
 
@@ -71,7 +74,8 @@ abbrev pub run_app : Text → RunNames → App
 run_app name n =
     with_rule (with_rule (with_rule (with_rule (new_app name) (required_rule (codes "KIND") (Names n.kinds)))
     (required_rule (codes "SAMPLE") (Names n.samples)))
-    (required_rule (codes "SEATS") (Signed (pos 2) (pos 16)))) (required_rule (codes "ROUNDS") (Signed (pos 1) (pos 1000)))
+    (required_rule (codes "SEATS") (Signed (pos 2) (pos 16))))
+    (required_rule (codes "ROUNDS") (Signed (pos 1) (pos 1000)))
 
 -- a command of that name that takes a file
 abbrev pub file_app : Text → App
@@ -81,12 +85,14 @@ file_app name = with_rule (new_app name) (new_rule (codes "FILE"))
 abbrev pub flag_rule : Text → Rule
 flag_rule name = record (new_rule name) { long = Some name; action = Some SetTrue }
 
+-- the rule of an option that may stand several times
 abbrev pub repeated_rule : Text → Rule
 repeated_rule name = record (new_rule name) { long = Some name; action = Some Append; value_names = 1 }
 
 -- an option that takes a whole number
 abbrev pub number_rule : Text → Rule
-number_rule name = record (new_rule name) { long = Some name; parser = Some (Signed (pos 0) (pos 4294967295)); value_names = 1 }
+number_rule name =
+    record (new_rule name) { long = Some name; parser = Some (Signed (pos 0) (pos 4294967295)); value_names = 1 }
 
 -- a command of that name that takes the first and the last of the events that it shows, and a file
 abbrev pub window_app : Text → App
@@ -97,20 +103,27 @@ window_app name =
 -- the command that takes what a log may tell, and a file
 abbrev pub fit_app : App
 fit_app =
-    with_rule (with_rule (with_rule (new_app (codes "fit")) (flag_rule (codes "lapses"))) (repeated_rule (codes "means")))
+    with_rule (with_rule (with_rule (new_app (codes "fit")) (flag_rule (codes "lapses")))
+    (repeated_rule (codes "means")))
     (new_rule (codes "FILE"))
 
 -- the command that takes a kind, and a file
 abbrev pub complete_app : KindNames → App
 complete_app n =
-    with_rule (with_rule (new_app (codes "complete")) (required_rule (codes "KIND") (Names n.kinds))) (new_rule (codes "FILE"))
+    with_rule (with_rule (new_app (codes "complete")) (required_rule (codes "KIND") (Names n.kinds)))
+    (new_rule (codes "FILE"))
 
 -- where the command is added to another, it is a subcommand like this
 abbrev pub IsSubcommand : Command → App → Type 0
 IsSubcommand c a = (old new : Command) → AddsSubcommand old c new → app_of new ≡ with_subcommand (app_of old) a.top
 
+-- the program without its commands
 abbrev pub bare_app : App
-bare_app = record (new_app (codes "monk")) { top = record (new_app (codes "monk")).top { has_version = true; subcommand_required = true } }
+bare_app =
+    record (new_app (codes "monk")) {
+      top =
+          record (new_app (codes "monk")).top { has_version = true; subcommand_required = true };
+    }
 
 -- with the commands that take no kind, and with all
 abbrev pub plain_app : App
@@ -120,6 +133,7 @@ plain_app =
     (file_app (codes "play")).top) (file_app (codes "upgrade")).top) fit_app.top) (file_app (codes "trace")).top)
     (file_app (codes "explain")).top) (window_app (codes "draw")).top) (window_app (codes "page")).top
 
+-- the program with its commands
 abbrev pub monk_app : KindNames → RunNames → RunNames → App
 monk_app completed run recorded =
     with_subcommand (with_subcommand (with_subcommand plain_app (complete_app completed).top)
@@ -132,10 +146,12 @@ pub record IsMonk (a : App) : Type 0 where
   pub recorded : RunNames
   pub is : a ≡ monk_app completed run recorded
 
+-- the command is `complete`
 pub record IsCompleteCommand (c : Command) : Type 0 where
   pub names : KindNames
   pub is : IsSubcommand c (complete_app names)
 
+-- the command is one that runs a sample
 pub record IsRunCommand (name : Text) (c : Command) : Type 0 where
   pub names : RunNames
   pub is : IsSubcommand c (run_app name names)
@@ -167,7 +183,8 @@ abbrev pub MayHaveNumber : Text → Option ℕ → List Row → Type 0
 MayHaveNumber name None rows = one_of name rows ≡ None
 MayHaveNumber name (Some n) rows = HasNumber name n rows
 
--- the events that are asked for are those that the numbers mean which clap has found for `from` and `to`, and these are fine
+-- the events that are asked for are those that the numbers mean which clap has found for `from` and
+-- `to`, and these are fine
 pub record IsWindowIn (window : Option Window) (rows : List Row) : Type 0 where
   pub from : Option ℕ
   pub to : Option ℕ
@@ -210,7 +227,8 @@ words_or_none (Some words) = words
 -- a kind, a sample, seats and rounds are those that clap has found
 abbrev pub AreRunValues : KindName → Sample → ℕ → ℕ → List Row → Type 0
 AreRunValues kind sample seats rounds rows =
-    (first_of (codes "KIND") rows ≡ Some (kind_word kind)) × (first_of (codes "SAMPLE") rows ≡ Some (sample_word sample))
+    (first_of (codes "KIND") rows ≡ Some (kind_word kind))
+    × (first_of (codes "SAMPLE") rows ≡ Some (sample_word sample))
     × HasNumber (codes "SEATS") seats rows × HasNumber (codes "ROUNDS") rounds rows
 
 -- the values of the line are those that clap has found, in the rows of its command
@@ -224,8 +242,10 @@ ValuesAre (Fit file lapses means) rows = (first_of (codes "FILE") rows ≡ optio
     × AreLapses lapses rows × AreMeanings (words_or_none (all_of (codes "means") rows)) means.items
 ValuesAre (Trace file) rows = first_of (codes "FILE") rows ≡ option_map string_bytes file
 ValuesAre (Explain file) rows = first_of (codes "FILE") rows ≡ option_map string_bytes file
-ValuesAre (Draw file window) rows = (first_of (codes "FILE") rows ≡ option_map string_bytes file) × IsWindowIn window rows
-ValuesAre (Page file window) rows = (first_of (codes "FILE") rows ≡ option_map string_bytes file) × IsWindowIn window rows
+ValuesAre (Draw file window) rows = (first_of (codes "FILE") rows ≡ option_map string_bytes file)
+    × IsWindowIn window rows
+ValuesAre (Page file window) rows = (first_of (codes "FILE") rows ≡ option_map string_bytes file)
+    × IsWindowIn window rows
 ValuesAre (Complete kind file) rows = (first_of (codes "KIND") rows ≡ Some (kind_word kind))
     × (first_of (codes "FILE") rows ≡ option_map string_bytes file)
 ValuesAre (Run kind sample seats rounds) rows = AreRunValues kind sample seats rounds rows

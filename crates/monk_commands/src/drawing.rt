@@ -15,14 +15,16 @@ use monk_history::Device;
 use std::alloc::Global;
 use std::io::{Read, Write};
 
-/// Reads all of the reader, and writes a picture of its history, an SVG text that stands alone: a lane for each seat and a
-/// column for each event, where each seat was, and who went on by a release. The first forbidden event is framed, with
-/// its reason, and what comes behind it is not shown. Of the events up to it, or up to the end, those of the window are shown;
-/// without a window the last 200. The status is that of an audit: 0 where the history is legal, else 1.
+/// Reads all of the reader, and writes a picture of its history, an SVG text that stands alone: a
+/// lane for each seat and a column for each event, where each seat was, and who went on by a
+/// release. The first forbidden event is framed, with its reason, and what comes behind it is not
+/// shown. Of the events up to it, or up to the end, those of the window are shown; without a window
+/// the last 200. The status is that of an audit: 0 where the history is legal, else 1.
 ///
-/// Where the reader has no text of a history, the line `unreadable LINE NUMBER WORD` is written with status 2, where the
-/// size is above the object's greatest, `object` with status 2, and where the window begins behind the last event that can be
-/// shown, `window LAST` with status 2 and the number of that event, which is 0 where there is none.
+/// Where the reader has no text of a history, the line `unreadable LINE NUMBER WORD` is written
+/// with status 2, where the size is above the object's greatest, `object` with status 2, and where
+/// the window begins behind the last event that can be shown, `window LAST` with status 2 and the
+/// number of that event, which is 0 where there is none.
 ///
 /// # Errors
 ///

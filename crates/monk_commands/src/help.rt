@@ -43,16 +43,16 @@ pub(crate) static UPGRADE: Help = Help {
 };
 
 pub(crate) static FIT: Help = Help {
-    about: "Tells under which kinds a history is legal, or which a log could be of",
+    about: "Tells under which kinds a history is legal, or which kinds a log fits",
     example: "Example: monk fit examples/threads_at_a_buffer.log --means 0=0 --means 1=1\n\
         Status: 0 fits a kind, 1 fits none, 2 unreadable; 3 wrong words, 4 a failed file or no memory\n\
         Read: docs/LOGS.md",
 };
 
-pub(crate) const LAPSES: &str = "A log's `resume` may tell of a wait that ran out";
+pub(crate) const LAPSES: &str = "In a log, a `resume` may be a timed wait that ran out";
 
 pub(crate) const MEANS: &str =
-    "In a log, those who wait on the condition wait until the predicate holds";
+    "In a log, threads that wait on the condition wait for the predicate";
 
 pub(crate) static TRACE: Help = Help {
     about: "Tells what each step of a play came to",
@@ -87,7 +87,7 @@ pub(crate) static PAGE: Help = Help {
 };
 
 pub(crate) static COMPLETE: Help = Help {
-    about: "Writes a history of a kind that tells a log",
+    about: "Turns a log into a history of a given kind",
     example: "Example: monk complete NPNB examples/threads_at_a_buffer.log\n\
         Status: 0 completed, 1 a misfit, 2 unreadable; 3 wrong words, 4 a failed file or no memory\n\
         Read: docs/LOGS.md",

@@ -16,12 +16,14 @@ use std::alloc::Global;
 use std::io::{Read, Write};
 
 /// Reads all of the reader, and writes a page of its history, an HTML text that stands alone: a picture as
-/// [`draw_stream`](crate::draw_stream) draws it, and for each of its steps the event, how the monitor stands, and of a release
-/// whom it might have chosen. The events that are shown, and the status, are those of a picture.
+/// [`draw_stream`](crate::draw_stream) draws it, and for each of its steps the event, how the
+/// monitor stands, and of a release whom it might have chosen. The events that are shown, and the
+/// status, are those of a picture.
 ///
-/// Where the reader has no text of a history, the line `unreadable LINE NUMBER WORD` is written with status 2, where the
-/// size is above the object's greatest, `object` with status 2, and where the window begins behind the last event that can be
-/// shown, `window LAST` with status 2 and the number of that event, which is 0 where there is none.
+/// Where the reader has no text of a history, the line `unreadable LINE NUMBER WORD` is written
+/// with status 2, where the size is above the object's greatest, `object` with status 2, and where
+/// the window begins behind the last event that can be shown, `window LAST` with status 2 and the
+/// number of that event, which is 0 where there is none.
 ///
 /// # Errors
 ///

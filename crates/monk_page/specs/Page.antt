@@ -31,7 +31,8 @@ steps_json h es before last = list_json (step_json h.object) (steps_between h es
 -- the kind, and its priorities
 abbrev pub with_kind : KindName → Members → Members
 with_kind k ms =
-    put (codes "ranks") (string (ranks_text (rules_named k))) (put (codes "mode") (string (mode_word (rules_named k).mode))
+    put (codes "ranks") (string (ranks_text (rules_named k)))
+    (put (codes "mode") (string (mode_word (rules_named k).mode))
     (put (codes "kind") (string (kind_word k)) ms))
 
 -- the parts of the heading

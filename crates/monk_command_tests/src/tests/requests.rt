@@ -151,7 +151,8 @@ fn is_refused(alloc: Global, words: &[&str]) -> bool {
     }
 }
 
-/// Words that ask for nothing; of a picture also numbers of no events, of a run a number out of range, and another kind or sample.
+/// Words that ask for nothing; of a picture also numbers of no events, of a run a number out of
+/// range, and another kind or sample.
 static NOTHING: [&[&str]; 44] = [
     &["monk", "adit"],
     &["monk", "help"],

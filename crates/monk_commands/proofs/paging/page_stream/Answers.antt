@@ -10,7 +10,9 @@ use Rattle.monk_commands.proofs.paging.page_stream.Goals as goal
 pub returns-clause-answer : goal.returns-clause-answer
 returns-clause-answer g c =
     let known = g.R.Read.remaining (inner_of c.args.reader.now) in
-    let puts = Appends (g.W.Write.contents (inner_of c.args.writer.now)) (g.W.Write.contents (inner_of c.show_text.new.writer)) in
+    let puts =
+    Appends (g.W.Write.contents (inner_of c.args.writer.now))
+    (g.W.Write.contents (inner_of c.show_text.new.writer)) in
     IfOk-weaker c.show_text.result _ _ (λ status a.
     shown_known Page c.args.window known c.deref.result.now status puts
     (subst (λ (bytes : List ℕ). IfSome known (λ input. bytes ≡ input)) (sym c.deref.ensures.value)
@@ -20,7 +22,9 @@ returns-clause-answer g c =
 pub returns-clause-status : goal.returns-clause-status
 returns-clause-status g c =
     let known = g.R.Read.remaining (inner_of c.args.reader.now) in
-    let puts = Appends (g.W.Write.contents (inner_of c.args.writer.now)) (g.W.Write.contents (inner_of c.show_text.new.writer)) in
+    let puts =
+    Appends (g.W.Write.contents (inner_of c.args.writer.now))
+    (g.W.Write.contents (inner_of c.show_text.new.writer)) in
     IfOk-weaker c.show_text.result _ _ (λ status a.
     status_known Page c.args.window known c.deref.result.now status puts
     (subst (λ (bytes : List ℕ). IfSome known (λ input. bytes ≡ input)) (sym c.deref.ensures.value)
@@ -29,6 +33,8 @@ returns-clause-status g c =
 
 pub returns-clause-statuses : goal.returns-clause-statuses
 returns-clause-statuses g c =
-    let puts = Appends (g.W.Write.contents (inner_of c.args.writer.now)) (g.W.Write.contents (inner_of c.show_text.new.writer)) in
+    let puts =
+    Appends (g.W.Write.contents (inner_of c.args.writer.now))
+    (g.W.Write.contents (inner_of c.show_text.new.writer)) in
     IfOk-weaker c.show_text.result _ _ (λ status a. few_statuses Page c.args.window c.deref.result.now status puts a)
     c.show_text.ensures.answer

@@ -6,7 +6,9 @@ use Rattle.monk_commands.proofs.showing.show_history.Goals as goal
 
 pub returns-in-Ok-clause-answer : goal.returns-in-Ok-clause-answer
 returns-in-Ok-clause-answer g c =
-    let puts = Appends (g.W.Write.contents (inner_of c.args.writer.now)) (g.W.Write.contents (inner_of c.put_answer.new.writer)) in
+    let puts =
+    Appends (g.W.Write.contents (inner_of c.args.writer.now))
+    (g.W.Write.contents (inner_of c.put_answer.new.writer)) in
     IfOk-weaker c.put_answer.result _ _ (λ status a.
     answered_by c.args.show c.args.window c.args.header.now c.args.events.now c.in-Ok.verdict status puts
     c.in-Ok.ensures.verdict c.in-Ok.ensures.fits a)

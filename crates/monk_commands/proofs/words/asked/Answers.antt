@@ -17,5 +17,6 @@ returns-in_ok-line_to_draw-in-Some-draw-default c =
 
 pub returns-in_ok-line_to_page-in-Some-page-default : goal.returns-in_ok-line_to_page-in-Some-page-default
 returns-in_ok-line_to_page-in-Some-page-default c =
-    asked_in (subcommand_rows_of c.args.matches.now) (codes "page") (rows_of (found_of c.in-Some-page-default.page.now)) _ (search rules)
+    asked_in (subcommand_rows_of c.args.matches.now) (codes "page")
+    (rows_of (found_of c.in-Some-page-default.page.now)) _ (search rules)
     (sym c.in-Some-page-default.ensures.rows) c.in_ok-line_to_page-in-Some-page-default.ensures
