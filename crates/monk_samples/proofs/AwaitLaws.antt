@@ -1,8 +1,8 @@
 -- What holds when a seat goes on from a wait-until
-use Rattle.std.proofs.Common.{◌≡◌, ℕ, zero, suc, ◌+◌, ◌<◌, ◌≤◌, ◌==◌, ◌&&◌, ◌||◌, not, Bool, true, false, cond, Option, Some, None}
+use Rattle.std.proofs.Common.{◌≡◌, ℕ, suc, ◌+◌, ◌≤◌, ◌==◌, ◌&&◌, ◌||◌, not, Bool, true, false, cond, Option, Some, None}
 use Rattle.std.proofs.Common.{List, [], ◌∷◌, ◌++◌, length, length-append, map, take, append-nil, append_assoc}
 use Rattle.std.proofs.Common.{refl, sym, ap, subst, ◌∙◌, ◌⊎◌, inl, inr, arith, eq-eqb}
-use Rattle.std.specs.Prelude.{filter, slice_get, ◌↔◌}
+use Rattle.std.specs.Prelude.{filter, slice_get}
 use Rattle.std.specs.List.{list_any}
 use Rattle.std.specs.Option.{option_map_or}
 use Rattle.std.proofs.lemmas.Bool.{false≢true, eqb-true}
@@ -360,5 +360,6 @@ module _ (k : Rules) (o : Object) (p : ℕ) where
       → MatchAfter x (λ y. b ≡ y) (λ q. HasEntered k o q b)
       → ((m : Monitor) (h : List Event) → IsLegal m h → StaysWhereItHolds m h)
       → ((m : Monitor) (h : List Event) → IsLegal m h → ThePredicateHolds m h) → Holds k o p b
-  until_held w (Active y) a peeks b t same stays holds = subst (Holds k o p) (sym same) (stayed_held w a peeks y t stays)
+  until_held w (Active y) a peeks b t same stays holds =
+      subst (Holds k o p) (sym same) (stayed_held w a peeks y t stays)
   until_held w (Parked q) a peeks b r e stays holds = came_back_held w a peeks q b r e holds

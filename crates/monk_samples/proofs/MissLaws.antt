@@ -17,7 +17,7 @@ use Rattle.monk_hall.specs.Records.{opening_records}
 use Rattle.monk_hall.specs.Tokens.{House, Token, tokens}
 use Rattle.monk_hall.specs.declared.setting.Setting.{Setting}
 use Rattle.monk_samples.specs.Ends.{HaveServed}
-use Rattle.monk_samples.specs.Rounds.{HasServed, round_of, rounds_of, rounds_to}
+use Rattle.monk_samples.specs.Rounds.{round_of, rounds_of, rounds_to}
 use Rattle.monk_samples.specs.Totals.{missed_in}
 use Rattle.monk_samples.specs.Trails.{Addition, HasCalled, events_in, outside}
 use Rattle.monk_samples.specs.Visits.{AreMisses, AreVisits, Guard, Hasty, IsCertain, IsVisit, Manner, Misses, MissesIn, Patient, Plan}

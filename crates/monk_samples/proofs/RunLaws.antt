@@ -175,8 +175,8 @@ left_told (Ok a) (Err e) f g P same left = absurd same
 left_told (Err e) s f g P same left = tt
 
 -- a run that misses as many as its history has refused acts
-pub none_told : {A B E F X : Type 0} (r : Result A E) (s : Result B F) (n : A → ℕ) (f : A → X) (g : B → X) (count : X → ℕ)
-    (P : ℕ → Type 0) → IfOk r (λ a. n a ≡ count (f a)) → IfOk r (λ a. IsOkAnd s (λ b. g b ≡ f a))
+pub none_told : {A B E F X : Type 0} (r : Result A E) (s : Result B F) (n : A → ℕ) (f : A → X) (g : B → X)
+    (count : X → ℕ) (P : ℕ → Type 0) → IfOk r (λ a. n a ≡ count (f a)) → IfOk r (λ a. IsOkAnd s (λ b. g b ≡ f a))
     → IfOk s (λ b. P (count (g b))) → IfOk r (λ a. P (n a))
 none_told (Ok a) (Ok b) n f g count P told same none = subst P (ap count same ∙ sym told) none
 none_told (Ok a) (Err e) n f g count P told same none = absurd same

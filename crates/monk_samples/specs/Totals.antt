@@ -33,8 +33,8 @@ refusals_in acts = sum_by (λ a. if a.reply == 0 then 1 else 0) acts
 abbrev pub missed_in : List Event → ℕ
 missed_in h = refusals_in (acts_in h)
 
--- how many acts are refused where none may be: of a buffer none under any kind, since its seats look again; and in haste
--- none under an automatic kind, where whoever goes on finds its predicate true
+-- a run misses nothing over a buffer, whose seats look again; nor in haste under an automatic kind (PIS and NPIS),
+-- where whoever goes on finds its predicate true, and nobody acts before it does
 abbrev pub MissesNothing : Rules → Sample → ℕ → Type 0
 MissesNothing k Buffer missed = missed ≡ 0
 MissesNothing k Book missed = Unit {0}

@@ -1,6 +1,6 @@
 //! Visits in haste: an `if` where a `while` belongs. Under some kinds that is right, and under
 //! others what was waited for may be gone when the seat goes on.
-ghost use Rattle.std.specs.Prelude.{◌≡◌, ◌+◌, ◌<◌, ◌≤◌, true, false, [], ◌∷◌, Some, IfOk, IfErr, MatchResult, length};
+ghost use Rattle.std.specs.Prelude.{◌≡◌, ◌+◌, ◌<◌, ◌≤◌, false, [], ◌∷◌, Some, IfOk, IfErr, MatchResult, length};
 ghost use Rattle.monk_history.specs.Meaning.Events.{has_conditions};
 ghost use Rattle.monk_samples.specs.Styles.{HoldsByKind, Offers};
 ghost use Rattle.monk_samples.specs.Trails.{inside, outside};

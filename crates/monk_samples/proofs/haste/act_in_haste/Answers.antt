@@ -34,6 +34,7 @@ returns-in-Err-pause_once-clause-acted g c =
 pub returns-in-Ok-pause_once-clause-done : goal.returns-in-Ok-pause_once-clause-done
 returns-in-Ok-pause_once-clause-done g c =
     let k = g.K.Kind.rules in let o = g.T.Guarded.meaning in let b = c.in-Ok-pause_once.active in
+    let state = data_of (monitor_of k o b.floor) b.floor.history in
     acted_ok c.act.result _ _ _ (λ r h automatic. subst (λ (n : ℕ). 0 < n) (sym h.1)
-    (c.requires.promise (data_of (monitor_of k o b.floor) b.floor.history) (c.in-Ok-pause_once.ensures.holds automatic)))
+    (c.requires.promise state (c.in-Ok-pause_once.ensures.holds automatic)))
     c.act.ensures.acted

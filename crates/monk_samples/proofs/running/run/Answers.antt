@@ -80,8 +80,9 @@ returns-in-Buffer-clause-none_missed g c =
 
 pub returns-in-Hasty-clause-none_missed : goal.returns-in-Hasty-clause-none_missed
 returns-in-Hasty-clause-none_missed g c =
-    none_told c.of_run-in-Hasty.result c.run_hasty.result (λ o. o.missed) (λ o. o.history.items) (λ v. v.items) missed_in
-    (MissesNothing g.K.Kind.rules c.args.sample) c.of_run-in-Hasty.ensures.missed c.of_run-in-Hasty.ensures.same
+    none_told c.of_run-in-Hasty.result c.run_hasty.result (λ o. o.missed) (λ o. o.history.items) (λ v. v.items)
+    missed_in (MissesNothing g.K.Kind.rules c.args.sample) c.of_run-in-Hasty.ensures.missed
+    c.of_run-in-Hasty.ensures.same
     (subst (λ (s : Sample). IfOk c.run_hasty.result (λ v. MissesNothing g.K.Kind.rules s (missed_in v.items)))
     (sym c.in-Hasty.is) c.run_hasty.ensures.missed)
 
