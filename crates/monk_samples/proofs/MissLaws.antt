@@ -40,7 +40,7 @@ alone n = omega arith
 not_refused : (op : Op) (reply : ℕ) → 0 < reply → sum_by refused (record { op = op; reply = reply } ∷ []) ≡ 0
 not_refused op reply certain = alone _ ∙ by (reply == 0) refl
   where
-    by : (b : Bool) → (reply == 0) ≡ b → cond b 1 0 ≡ 0
+    by : (b : Bool) → (reply == 0) ≡ b → ◌≡◌ {A = ℕ} (cond b 1 0) 0
     by true is = absurd (omega (arith, certain, eqb-true reply 0 is))
     by false is = refl
 
