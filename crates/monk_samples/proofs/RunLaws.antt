@@ -1,5 +1,5 @@
 -- What a run rests on: lists of workers and threads, a hall's passes, and the header of a closed hall
-use Rattle.std.proofs.Common.{◌≡◌, ℕ, zero, suc, ◌+◌, ◌*◌, ◌^◌, ◌≤◌, Bool, true, false, cond, All, Result, Ok, Err}
+use Rattle.std.proofs.Common.{◌≡◌, ℕ, zero, suc, ◌+◌, ◌*◌, ◌^◌, ◌≤◌, Bool, true, cond, All, Result, Ok, Err}
 use Rattle.std.specs.Prelude.{IsErrAnd, IsOkAnd, IsTrue}
 use Rattle.std.proofs.Common.{IfErr, IfOk, List, [], ◌∷◌, ◌++◌, map, length, refl, sym, ap, subst}
 use Rattle.std.proofs.Common.{◌∙◌, arith}
