@@ -69,7 +69,7 @@ alone : (n : ℕ) → 0 + n ≡ n
 alone n = omega arith
 
 module _ (k : Rules) (o : Object) where
-  try_acts : (c : Setting) (s : ℕ) (v : Plan) (calls : List Addition) (is : IsTry k o c s v calls)
+  pub try_acts : (c : Setting) (s : ℕ) (v : Plan) (calls : List Addition) (is : IsTry k o c s v calls)
       → acts_in (events_in calls) ≡ record { op = v.op; reply = is.done.reply } ∷ []
   try_acts c s v calls is =
       ap (λ ds. acts_in (events_in ds)) is.are ∙ acts_append k o is.pauses (is.act ∷ is.out)

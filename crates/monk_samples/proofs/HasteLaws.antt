@@ -1,8 +1,10 @@
 -- What a hasty visit comes to, try by try
-use Rattle.std.proofs.Common.{◌≡◌, ℕ, suc, Option, [], ◌∷◌, ◌++◌, append_assoc}
+use Rattle.std.specs.Prelude.{IfOk, MatchResult}
+use Rattle.std.proofs.Common.{◌≡◌, ◌<◌, ℕ, suc, Bool, true, false, Result, Ok, Err, arith, Option, [], ◌∷◌, ◌++◌, append_assoc}
 use Rattle.std.proofs.Common.{refl, sym, ap, subst, ◌∙◌}
 use Rattle.monk_kinds.specs.declared.mode.Rules.{Rules}
 use Rattle.monk_object.specs.Object.{Object}
+use Rattle.monk_history.specs.Meaning.Events.{has_conditions}
 use Rattle.monk_history.specs.declared.event.Event.TheVariants.{Leave}
 use Rattle.monk_history.specs.declared.event.Next.TheVariants.{Stay}
 use Rattle.monk_hall.specs.Tokens.{Token, Holder}
@@ -10,6 +12,21 @@ use Rattle.monk_samples.specs.Asked.{IsCall}
 use Rattle.monk_samples.specs.Trails.{Addition, Trail, HasCalled, inside, outside}
 use Rattle.monk_samples.specs.Visits.{Guard, Plan, HasActed, HasMissed, HasPausedUntil, HasTired, IsLeftWaiting, IsMiss, wish_in}
 use Rattle.monk_samples.proofs.TrailLaws.{called_then}
+
+-- what an operation tells where the seat acted
+pub acted_ok : {A E : Type 0} (r : Result A E) (P R : A → Type 0) (Q : E → Type 0) → ((a : A) → P a → R a)
+    → MatchResult r P Q → IfOk r R
+acted_ok (Ok a) P R Q f h = f a h
+acted_ok (Err e) P R Q f h = tt
+
+-- an operation is refused under a kind with conditions alone
+pub signalled : (k : Rules) (reply : ℕ) → reply ≡ 0 → (has_conditions k.mode ≡ false → 0 < reply)
+    → has_conditions k.mode ≡ true
+signalled k reply none done = by (has_conditions k.mode) refl
+  where
+    by : (b : Bool) → has_conditions k.mode ≡ b → has_conditions k.mode ≡ true
+    by true is = is
+    by false is = absurd (omega (arith, none, done is))
 
 module _ (k : Rules) (o : Object) where
   -- what follows once the seat has come in
@@ -37,9 +54,9 @@ module _ (k : Rules) (o : Object) where
   pub missed_once : (p : Token) (v : Plan) (a : Holder) (q : Token) → HasActed k o (outside p) v.guard v.op 0 a
       → ((d : Addition) × HasCalled (inside a) (outside q) (d ∷ [])
       × IsCall k o (wish_in v.guard) a.me.setting (Leave a.me.seat Stay) d
-      × (d.before ≡ a.floor.history))
+      × (d.before ≡ a.floor.history)) → has_conditions k.mode ≡ true
       → HasMissed k o p v 1 q
-  missed_once p v a q s one = let seat = s.called.went.seat in let setting = s.called.went.setting in record {
+  missed_once p v a q s one signalled = let seat = s.called.went.seat in let setting = s.called.went.setting in record {
     calls = (s.pauses ++ s.act ∷ []) ++ one.0 ∷ [];
     called = called_then (outside p) (inside a) (outside q) (s.pauses ++ s.act ∷ []) (one.0 ∷ []) s.called one.1;
     are = record {
@@ -55,6 +72,7 @@ module _ (k : Rules) (o : Object) where
         paused = s.paused;
         acts = s.acts;
         leaves = rw (seat, setting) at one.2;
+        signalled = signalled;
       };
     };
   }

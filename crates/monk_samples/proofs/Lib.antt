@@ -2,6 +2,7 @@ mod TrailLaws
 mod StyleLaws
 mod ShortLaws
 mod VisitLaws
+mod AwaitLaws
 mod HasteLaws
 mod RoundLaws
 mod EndLaws
@@ -10,6 +11,7 @@ mod ShareLaws
 mod SeatSums
 mod WholeLaws
 mod MeetLaws
+mod MissLaws
 mod ProductLaws
 mod Crossing
 mod RunLaws

@@ -1,5 +1,5 @@
 -- What a run rests on: lists of workers and threads, a hall's passes, and the header of a closed hall
-use Rattle.std.proofs.Common.{◌≡◌, ℕ, zero, suc, ◌+◌, ◌*◌, ◌^◌, ◌≤◌, Bool, true, false, cond, All, Result, Ok, Err}
+use Rattle.std.proofs.Common.{◌≡◌, ℕ, zero, suc, ◌+◌, ◌*◌, ◌^◌, ◌≤◌, Bool, true, cond, All, Result, Ok, Err}
 use Rattle.std.specs.Prelude.{IsErrAnd, IsOkAnd, IsTrue}
 use Rattle.std.proofs.Common.{IfErr, IfOk, List, [], ◌∷◌, ◌++◌, map, length, refl, sym, ap, subst}
 use Rattle.std.proofs.Common.{◌∙◌, arith}
@@ -173,6 +173,18 @@ pub left_told : {A B E F X : Type 0} (r : Result A E) (s : Result B F) (f : A �
 left_told (Ok a) (Ok b) f g P same left = subst P same left
 left_told (Ok a) (Err e) f g P same left = absurd same
 left_told (Err e) s f g P same left = tt
+
+-- a run that misses as many as its history has refused acts
+pub none_told : {A B E F X : Type 0} (r : Result A E) (s : Result B F) (n : A → ℕ) (f : A → X) (g : B → X)
+    (count : X → ℕ) (P : ℕ → Type 0) → IfOk r (λ a. n a ≡ count (f a)) → IfOk r (λ a. IsOkAnd s (λ b. g b ≡ f a))
+    → IfOk s (λ b. P (count (g b))) → IfOk r (λ a. P (n a))
+none_told (Ok a) (Ok b) n f g count P told same none = subst P (ap count same ∙ sym told) none
+none_told (Ok a) (Err e) n f g count P told same none = absurd same
+none_told (Err e) s n f g count P told same none = tt
+
+pub nothing_told : {A E : Type 0} (r : Result A E) → IfOk r (λ a. Unit {0})
+nothing_told (Ok a) = tt
+nothing_told (Err e) = tt
 
 -- the fault that a run tells is its crew's
 pub crew_told : {A B E F : Type 0} (r : Result A E) (s : Result B F) (of : F → E) (P : E → Type 0)

@@ -1,5 +1,5 @@
 -- How a seat waits and signals under each mode
-use Rattle.std.specs.Prelude.{◌≡◌, ℕ, ◌+◌, ◌<◌, ◌≤◌, ◌&&◌, not, Bool, true, List, [], ◌∷◌, length, if◌then◌else◌}
+use Rattle.std.specs.Prelude.{◌≡◌, ℕ, ◌+◌, ◌<◌, ◌≤◌, ◌&&◌, not, Bool, true, false, List, [], ◌∷◌, length, if◌then◌else◌}
 use Rattle.atomic_table.specs.Seated.{TableId}
 use Rattle.monk_kinds.specs.declared.mode.Pick.{Pick}
 use Rattle.monk_kinds.specs.declared.mode.Pick.TheVariants.{Waiter}
@@ -8,11 +8,13 @@ use Rattle.monk_object.specs.Object.{Object}
 use Rattle.monk_history.specs.Meaning.Conditions.{condition}
 use Rattle.monk_history.specs.Meaning.Counts.{left_of}
 use Rattle.monk_history.specs.Meaning.Events.{has_conditions, has_signaller_queue, returns_at_once}
+use Rattle.monk_history.specs.Meaning.Monitor.{data_of}
 use Rattle.monk_history.specs.Meaning.Signallers.{is_empty}
 use Rattle.monk_history.specs.declared.event.Event.{Event}
 use Rattle.monk_history.specs.declared.event.Event.TheVariants.{Enter, Act, Leave, Wait, Signal, SignalLeave, Until, Resume}
 use Rattle.monk_history.specs.declared.event.Event.TheVariants.{SignalAll, SignalWait}
 use Rattle.monk_history.specs.declared.event.Next.TheVariants.{Stay}
+use Rattle.monk_floor.specs.View.{monitor_of}
 use Rattle.monk_hall.specs.Layout.{floor_of}
 use Rattle.monk_hall.specs.Tells.{SeesTruly}
 use Rattle.monk_hall.specs.Tokens.{Token, Holder}
@@ -93,6 +95,14 @@ pub record HasPaused (k : Rules) (o : Object) (wish : Pick) (a : Holder) (call :
   pub is : IsCall k o wish a.me.setting call pause
   pub at : pause.before ≡ a.floor.history
   pub floor : a.floor ≡ floor_of a.me.setting a.floor.history
+
+-- the predicate holds of the data that the active seat has before it
+abbrev pub Holds : Rules → Object → ℕ → Holder → Type 0
+Holds k o p a = o.holds (data_of (monitor_of k o a.floor) a.floor.history) p ≡ true
+
+-- under an automatic kind the seat finds that predicate true
+abbrev pub HoldsByKind : Rules → Object → ℕ → Holder → Type 0
+HoldsByKind k o p a = has_conditions k.mode ≡ false → Holds k o p a
 
 -- the seat is out by these calls, with that wish
 pub record HasGoneBy (k : Rules) (o : Object) (wish : Pick) (a : Holder) (calls : List Event) (p : Token) : Type 0 where

@@ -1,12 +1,14 @@
 -- The totals of a run, as its history has them
-use Rattle.std.specs.Prelude.{◌≡◌, ℕ, ◌+◌, ◌-◌, ◌*◌, ◌/◌, ◌==◌, List, [], ◌∷◌, sum, if◌then◌else◌}
+use Rattle.std.specs.Prelude.{◌≡◌, false, ℕ, ◌+◌, ◌-◌, ◌*◌, ◌/◌, ◌==◌, List, [], ◌∷◌, sum, if◌then◌else◌}
 use Rattle.std.specs.List.{sum_by}
+use Rattle.monk_kinds.specs.declared.mode.Rules.{Rules}
 use Rattle.monk_object.specs.Book.{START_READ, END_READ, START_WRITE, END_WRITE}
 use Rattle.monk_object.specs.Buffer.{PUT, TAKE}
 use Rattle.monk_object.specs.Laws.{items_put, items_taken}
 use Rattle.monk_object.specs.Runs.{Answered, times_done}
 use Rattle.monk_object.specs.Shop.{SIT, CALL, FINISH, DEPART}
 use Rattle.monk_history.specs.Meaning.Acts.{acts_in}
+use Rattle.monk_history.specs.Meaning.Events.{has_conditions}
 use Rattle.monk_history.specs.declared.event.Event.{Event}
 use Rattle.monk_samples.specs.declared.sample.Sample.{Sample}
 use Rattle.monk_samples.specs.declared.sample.Sample.TheVariants.{Buffer, Book, Shop, Hasty}
@@ -30,6 +32,14 @@ refusals_in acts = sum_by (λ a. if a.reply == 0 then 1 else 0) acts
 -- how many acts of a history the object refused
 abbrev pub missed_in : List Event → ℕ
 missed_in h = refusals_in (acts_in h)
+
+-- a run misses nothing over a buffer, whose seats look again; nor in haste under an automatic kind (PIS and NPIS),
+-- where whoever goes on finds its predicate true, and nobody acts before it does
+abbrev pub MissesNothing : Rules → Sample → ℕ → Type 0
+MissesNothing k Buffer missed = missed ≡ 0
+MissesNothing k Book missed = Unit {0}
+MissesNothing k Shop missed = Unit {0}
+MissesNothing k Hasty missed = has_conditions k.mode ≡ false → missed ≡ 0
 
 -- the totals of a buffer
 abbrev pub totals_of_buffer : List Event → List ℕ

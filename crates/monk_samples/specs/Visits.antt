@@ -5,6 +5,7 @@ use Rattle.monk_kinds.specs.declared.mode.Pick.TheVariants.{Entry, Waiter}
 use Rattle.monk_kinds.specs.declared.mode.Rules.{Rules}
 use Rattle.monk_object.specs.Object.{Object}
 use Rattle.monk_object.specs.declared.op.Op.{Op}
+use Rattle.monk_history.specs.Meaning.Events.{has_conditions}
 use Rattle.monk_history.specs.Meaning.Monitor.{data_of}
 use Rattle.monk_history.specs.declared.event.Event.{Event}
 use Rattle.monk_history.specs.declared.event.Event.TheVariants.{Act, Leave, SignalAll, SignalWait}
@@ -191,7 +192,8 @@ pub record Then (First Rest : List Addition → Type 0) (calls : List Addition) 
   pub is_first : First first
   pub is_rest : Rest rest
 
--- a try whose operation was refused, after which the seat left without a signal
+-- a try whose operation was refused, after which the seat left without a signal. Under an automatic
+-- kind there is none: whoever goes on there finds its predicate true
 pub record IsMiss (k : Rules) (o : Object) (c : Setting) (s : ℕ) (v : Plan) (calls : List Addition) : Type 0 where
   pub pauses : List Addition
   pub act : Addition
@@ -200,6 +202,7 @@ pub record IsMiss (k : Rules) (o : Object) (c : Setting) (s : ℕ) (v : Plan) (c
   pub paused : HasPausedFor k o c s v.guard pauses
   pub acts : IsAct k o c s v.op 0 act
   pub leaves : IsCall k o (wish_in v.guard) c (Leave s Stay) leave
+  pub signalled : has_conditions k.mode ≡ true
 
 -- those are that many tries that missed
 abbrev pub AreMisses : Rules → Object → Setting → ℕ → Plan → ℕ → List Addition → Type 0

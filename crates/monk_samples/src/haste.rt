@@ -1,10 +1,11 @@
 //! Visits in haste: an `if` where a `while` belongs. Under some kinds that is right, and under
 //! others what was waited for may be gone when the seat goes on.
-ghost use Rattle.std.specs.Prelude.{◌≡◌, ◌+◌, ◌<◌, ◌≤◌, [], ◌∷◌, Some, IfOk, IfErr, MatchResult, length};
-ghost use Rattle.monk_samples.specs.Styles.{Offers};
+ghost use Rattle.std.specs.Prelude.{◌≡◌, ◌+◌, ◌<◌, ◌≤◌, false, [], ◌∷◌, Some, IfOk, IfErr, MatchResult, length};
+ghost use Rattle.monk_history.specs.Meaning.Events.{has_conditions};
+ghost use Rattle.monk_samples.specs.Styles.{HoldsByKind, Offers};
 ghost use Rattle.monk_samples.specs.Trails.{inside, outside};
 ghost use Rattle.monk_samples.specs.Visits.{HasActed, HasMissed, HasPausedUntil, HasTried, HasVisited, IsTiredFor};
-ghost use Rattle.monk_samples.specs.Visits.{IsTiredWithin, always, hastily, hasty_guard};
+ghost use Rattle.monk_samples.specs.Visits.{IsTiredWithin, Promises, always, hastily, hasty_guard};
 
 use crate::end::End;
 use crate::style::Style;
@@ -29,9 +30,10 @@ fn pause_once<K: Style, T: Guarded, R: Wait>(
     requires hall { active.hall ≡ hall.now.id }
     requires cond { Offers K.rules active.me.setting.conds (cond + 1) }
     requires pred { pred < T.PREDICATES }
-    ensures { MatchResult result
+    ensures paused { MatchResult result
         (λ a. HasPausedUntil K.rules T.meaning (inside active) (Some (hasty_guard cond pred)) a)
         (λ q. IsTiredWithin K.rules T.meaning active (Some (hasty_guard cond pred)) q) }
+    ensures holds { IfOk result (λ a. HoldsByKind K.rules T.meaning pred a) }
 {
     if active.holds(pred) {
         return Ok(active);
@@ -52,9 +54,11 @@ fn act_in_haste<K: Style, T: Guarded, R: Wait>(
     requires cond { Offers K.rules pass.me.setting.conds (cond + 1) }
     requires pred { pred < T.PREDICATES }
     requires code { op.code < T.CODES }
+    requires promise { Promises T.meaning pred op }
     ensures acted { MatchResult result
         (λ r. HasActed K.rules T.meaning (outside pass) (Some (hasty_guard cond pred)) op r.1 r.0)
         (λ q. IsTiredFor K.rules T.meaning pass (Some (hasty_guard cond pred)) q) }
+    ensures done { IfOk result (λ r. has_conditions K.rules.mode ≡ false → 0 < r.1) }
     ensures room { IfOk result (λ _. length pass.me.mine + 2 ≤ pass.me.setting.budget) }
 {
     let active = match come_in(pass, rt, hall) {
@@ -88,6 +92,7 @@ fn try_once<K: Style, T: Guarded, R: Wait>(
     requires cond { Offers K.rules pass.me.setting.conds (cond + 1) }
     requires pred { pred < T.PREDICATES }
     requires code { op.code < T.CODES }
+    requires promise { Promises T.meaning pred op }
     requires next { Offers K.rules pass.me.setting.conds (next + 1) }
     ensures tried { MatchResult result
         (λ r. HasTried K.rules T.meaning pass (hastily cond pred op (always next)) r.0 r.1)
@@ -120,6 +125,7 @@ pub(crate) fn act_and_finish_in_haste<K: Style, T: Guarded, R: Wait>(
     requires cond { Offers K.rules pass.me.setting.conds (cond + 1) }
     requires pred { pred < T.PREDICATES }
     requires code { op.code < T.CODES }
+    requires promise { Promises T.meaning pred op }
     requires next { Offers K.rules pass.me.setting.conds (next + 1) }
     ensures { HasVisited K.rules T.meaning pass (hastily cond pred op (always next) ∷ []) result.0 result.1 }
 {

@@ -9,7 +9,7 @@ ghost use Rattle.monk_samples.specs.Crews.{AreReady, IsOf, IsClosed};
 ghost use Rattle.monk_samples.specs.Faults.{run_fault_of};
 ghost use Rattle.monk_samples.specs.Runs.{HasLeft, IsFaultOfRun, IsFirstSpent};
 ghost use Rattle.monk_samples.specs.Samples.{IsHistoryOf, IsInRange, IsOutcome, budget_of, conds_of, run_heading, size_of};
-ghost use Rattle.monk_samples.specs.Totals.{HasEnded, HasTotals, missed_in};
+ghost use Rattle.monk_samples.specs.Totals.{HasEnded, HasTotals, MissesNothing, missed_in};
 ghost use Rattle.monk_samples.specs.Wholes.{AreSame, HoldsOperationsOf, IsLeftBy};
 ghost use Rattle.monk_samples.specs.declared.crew_fault.CrewFault.TheVariants as crew;
 ghost use Rattle.monk_samples.specs.declared.sample.Sample.TheVariants as sample;
@@ -80,6 +80,8 @@ pub fn run<K: Style, R: Threads + Wait + Sync, G: Gate>(
     ensures totals { IfOk result (λ o. HasTotals sample seats rounds o.totals) }
     // And so many of its acts were refused.
     ensures missed { IfOk result (λ o. o.missed ≡ missed_in o.history.items) }
+    // Where a seat looks again, or nobody comes between, that is none.
+    ensures none_missed { IfOk result (λ o. MissesNothing K.rules sample o.missed) }
 {
     if !(2..=16).contains(&seats) || !(1..=1000).contains(&rounds) {
         return Err(RunFault::Range);
@@ -106,6 +108,7 @@ fn run_buffer<K: Style, R: Threads + Wait + Sync, G: Gate>(
 ) -> Result<Vec<Event>, CrewFault>
     requires { rota.sample ≡ sample.Buffer }
     ensures history { IfOk result (λ v. IsHistoryOf K.rules sample.Buffer rota.seats rota.rounds v.items) }
+    ensures missed { IfOk result (λ v. MissesNothing K.rules sample.Buffer (missed_in v.items)) }
     ensures served { IfOk result (λ v. HasLeft K.rules
         (G.answers gate.now) sample.Buffer rota.seats rota.rounds v.items) }
     ensures fault { IfErr result (λ e. IsFaultOfRun K.rules (G.answers gate.now) sample.Buffer rota.seats rota.rounds
@@ -130,6 +133,7 @@ fn run_hasty<K: Style, R: Threads + Wait + Sync, G: Gate>(
 ) -> Result<Vec<Event>, CrewFault>
     requires { rota.sample ≡ sample.Hasty }
     ensures history { IfOk result (λ v. IsHistoryOf K.rules sample.Hasty rota.seats rota.rounds v.items) }
+    ensures missed { IfOk result (λ v. MissesNothing K.rules sample.Hasty (missed_in v.items)) }
     ensures served { IfOk result (λ v. HasLeft K.rules
         (G.answers gate.now) sample.Hasty rota.seats rota.rounds v.items) }
     ensures fault { IfErr result (λ e. IsFaultOfRun K.rules (G.answers gate.now) sample.Hasty rota.seats rota.rounds

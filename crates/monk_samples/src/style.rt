@@ -1,5 +1,5 @@
-ghost use Rattle.std.specs.Prelude.{◌≡◌, ◌+◌, MatchResult};
-ghost use Rattle.monk_samples.specs.Styles.{MayFinish, MayPause, Offers, HasPaused, HasGivenUp, HasFinished};
+ghost use Rattle.std.specs.Prelude.{◌≡◌, ◌+◌, IfOk, MatchResult};
+ghost use Rattle.monk_samples.specs.Styles.{MayFinish, MayPause, Offers, HasPaused, HasGivenUp, HasFinished, HoldsByKind};
 ghost use Rattle.monk_samples.specs.Styles.{for_handing_over, has_waiting, pause_call, way_out};
 
 use crate::end::End;
@@ -45,9 +45,11 @@ pub trait Style: Kind {
         wish: Pick,
     ) -> Result<Active<Self, T>, Pass<Self, T>>
         requires { MayPause Self.rules hall.now.id active cond T.PREDICATES pred }
-        ensures { MatchResult result
+        ensures paused { MatchResult result
             (λ a. HasPaused Self.rules T.meaning wish active (pause_call Self.rules active.me.seat cond pred) a)
             (λ p. HasGivenUp Self.rules T.meaning for_handing_over active p) }
+        // Under an automatic kind nothing has changed since the predicate was found true.
+        ensures holds { IfOk result (λ a. HoldsByKind Self.rules T.meaning pred a) }
     {
         match rules_of::<Self>().mode {
             Mode::Automatic => automatic::pause(active, rt, hall, pred, wish),

@@ -1,8 +1,10 @@
-use Rattle.std.proofs.Common.{Some}
+use Rattle.std.proofs.Common.{ℕ, ◌<◌, Some, subst, sym}
 use Rattle.std.proofs.lemmas.Result.{MatchResult-weaker}
+use Rattle.monk_history.specs.Meaning.Monitor.{data_of}
+use Rattle.monk_floor.specs.View.{monitor_of}
 use Rattle.monk_samples.specs.Trails.{outside}
 use Rattle.monk_samples.specs.Visits.{hasty_guard}
-use Rattle.monk_samples.proofs.HasteLaws.{paused_since, tired_since}
+use Rattle.monk_samples.proofs.HasteLaws.{acted_ok, paused_since, tired_since}
 use Rattle.monk_samples.proofs.VisitLaws.{acted_after, stayed_out, tired_inside, unready}
 use Rattle.monk_samples.proofs.haste.act_in_haste.Goals as goal
 
@@ -16,7 +18,7 @@ returns-in-Ok-pause_once-clause-acted g c =
     let k = g.K.Kind.rules in let o = g.T.Guarded.meaning in let p = c.args.pass in
     let w = Some (hasty_guard c.args.cond c.args.pred) in
     let b = c.in-Ok-pause_once.active in
-    let s = paused_since k o (outside p) w c.in-Ok.active b c.in-Ok.ensures.came c.in-Ok-pause_once.ensures in
+    let s = paused_since k o (outside p) w c.in-Ok.active b c.in-Ok.ensures.came c.in-Ok-pause_once.ensures.paused in
     MatchResult-weaker c.act.result c.act.ensures.acted
     (λ r h. acted_after k o (outside p) w c.args.op r.1 b r.0 s h.0)
     (λ q t. unready k o (outside p) w q (tired_inside k o (outside p) w b q s t))
@@ -27,4 +29,12 @@ returns-in-Err-pause_once-clause-acted g c =
     let w = Some (hasty_guard c.args.cond c.args.pred) in
     unready k o (outside p) w c.in-Err-pause_once.pass
     (tired_since k o (outside p) w c.in-Ok.active c.in-Err-pause_once.pass c.in-Ok.ensures.came
-    c.in-Err-pause_once.ensures)
+    c.in-Err-pause_once.ensures.paused)
+
+pub returns-in-Ok-pause_once-clause-done : goal.returns-in-Ok-pause_once-clause-done
+returns-in-Ok-pause_once-clause-done g c =
+    let k = g.K.Kind.rules in let o = g.T.Guarded.meaning in let b = c.in-Ok-pause_once.active in
+    let state = data_of (monitor_of k o b.floor) b.floor.history in
+    acted_ok c.act.result _ _ _ (λ r h automatic. subst (λ (n : ℕ). 0 < n) (sym h.1)
+    (c.requires.promise state (c.in-Ok-pause_once.ensures.holds automatic)))
+    c.act.ensures.acted

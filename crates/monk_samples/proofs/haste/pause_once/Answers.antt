@@ -9,17 +9,17 @@ use Rattle.monk_samples.proofs.TrailLaws.{called_none}
 use Rattle.monk_samples.proofs.VisitLaws.{left_after, paused_first, paused_none}
 use Rattle.monk_samples.proofs.haste.pause_once.Goals as goal
 
-pub returns-then-holds : goal.returns-then-holds
-returns-then-holds g c = let a = c.args.active in
+pub returns-then-holds-clause-paused : goal.returns-then-holds-clause-paused
+returns-then-holds-clause-paused g c = let a = c.args.active in
     paused_none g.K.Kind.rules g.T.Guarded.meaning (inside a) (Some (hasty_guard c.args.cond c.args.pred)) a
     (called_none (inside a))
 
-pub returns : goal.returns
-returns g c =
+pub returns-clause-paused : goal.returns-clause-paused
+returns-clause-paused g c =
     let k = g.K.Kind.rules in let o = g.T.Guarded.meaning in let a = c.args.active in
     let w = hasty_guard c.args.cond c.args.pred in
     let not_yet : o.holds (data_of (monitor_of k o a.floor) a.floor.history) c.args.pred ≡ false = cc in
-    MatchResult-weaker c.pause_by.result c.pause_by.ensures
+    MatchResult-weaker c.pause_by.result c.pause_by.ensures.paused
     (λ b h. paused_first k o w a b h not_yet)
     (λ q t. left_after k o (inside a) (Some w) a q (paused_none k o (inside a) (Some w) a (called_none (inside a))) 3 t
     (still_pauses k o a w t.floor not_yet))

@@ -4,7 +4,7 @@ use Rattle.monk_history.specs.declared.event.Event.TheVariants.{Leave}
 use Rattle.monk_history.specs.declared.event.Next.TheVariants.{Stay}
 use Rattle.monk_samples.specs.Trails.{outside}
 use Rattle.monk_samples.specs.Visits.{HasActed, always, hastily}
-use Rattle.monk_samples.proofs.HasteLaws.{missed_once}
+use Rattle.monk_samples.proofs.HasteLaws.{missed_once, signalled}
 use Rattle.monk_samples.proofs.TrailLaws.{released}
 use Rattle.monk_samples.proofs.VisitLaws.{tried_in}
 use Rattle.monk_samples.proofs.haste.try_once.Goals as goal
@@ -19,6 +19,7 @@ returns-then-reply-eq0-clause-tried g c =
     missed_once k o p v a c.leave.result
     (subst (λ (n : ℕ). HasActed k o (outside p) v.guard v.op n a) c.if-reply-eq0.true c.in-Ok.ensures.acted)
     (released k o Entry a (Leave a.me.seat Stay) _ _ c.leave.result (λ x. (refl, refl, refl)) c.leave.ensures)
+    (signalled k c.in-Ok.acted.1 c.if-reply-eq0.true c.in-Ok.ensures.done)
 
 pub returns-clause-tried : goal.returns-clause-tried
 returns-clause-tried g c = tried_in g.K.Kind.rules g.T.Guarded.meaning c.args.pass

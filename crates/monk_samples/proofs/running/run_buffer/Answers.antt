@@ -10,6 +10,7 @@ use Rattle.monk_samples.specs.Visits.{Patient}
 use Rattle.monk_samples.specs.declared.sample.Sample.{Sample}
 use Rattle.monk_samples.specs.declared.sample.Sample.TheVariants.{Buffer}
 use Rattle.monk_samples.proofs.MeetLaws.{seats_differ}
+use Rattle.monk_samples.proofs.MissLaws.{buffer_misses}
 use Rattle.monk_samples.proofs.ProductLaws.{buffer_totals}
 use Rattle.monk_samples.proofs.RunEndLaws.{some_pass, back_of, some_back, has_left, close_fault}
 use Rattle.monk_samples.proofs.RunLaws.{history_of, if_both, if_fault, if_ok}
@@ -112,3 +113,25 @@ returns-clause-fault g c =
     (g.G.Gate.answers c.args.gate.now) Buffer c.args.rota.seats c.args.rota.rounds
     c.in_ok-hall.hall c.in_ok-hall.passes.items c.in_ok-hall.ensures.passes setting c.in_ok-passes.passes.items e
     served) c.close_by.ensures.fault
+
+pub returns-clause-missed : goal.returns-clause-missed
+returns-clause-missed g c =
+    let k = g.K.Kind.rules in let hall = c.in_ok-hall.hall in
+    let setting = c.in_ok-hall.ensures.setting
+    ∙ ap (λ (state : List ℕ). setting_of state c.args.rota.seats (conds_of k)
+    (budget_of c.args.rota.seats c.args.rota.rounds)) c.in-Ok.ensures.made in
+    let served =
+    subst (λ (s : Sample). HaveServed k buffer_meaning (g.G.Gate.answers c.args.gate.now) s c.args.rota.seats
+    c.args.rota.rounds hall c.in_ok-hall.passes.items c.in_ok-passes.passes.items) c.requires
+    c.in_ok-passes.ensures.served in
+    let made = c.in_ok-hall.ensures.passes
+    ∙ ap (λ n. tokens hall.id (opening_records hall.setting n 0)) (ap (λ (s : Setting). s.seats) setting) in
+    let all =
+    subst (λ (ps : List Token). HaveServed k buffer_meaning
+    (g.G.Gate.answers c.args.gate.now) Buffer c.args.rota.seats
+    c.args.rota.rounds hall ps c.in_ok-passes.passes.items) made served in
+    if_ok c.close_by.result _ _
+    (λ v whole. buffer_misses k (g.G.Gate.answers c.args.gate.now) c.args.rota.seats c.args.rota.rounds
+    hall.id hall.setting
+    hall v.items c.in_ok-passes.passes.items whole Buffer Patient (λ z s r. refl) all tt)
+    c.close_by.ensures.whole

@@ -2,17 +2,18 @@ use Rattle.std.proofs.Common.{arith, ◌<◌, ◌+◌, ◌≤◌, length, refl}
 use Rattle.monk_history.specs.declared.event.Event.TheVariants.{Until}
 use Rattle.monk_history.specs.declared.event.Next.TheVariants.{Stay}
 use Rattle.monk_samples.proofs.StyleLaws.{went_on, given_up, paused}
+use Rattle.monk_samples.proofs.AwaitLaws.{until_held}
 use Rattle.monk_samples.proofs.styles.automatic.pause.Goals as goal
 
-pub returns-then-left-lt3 : goal.returns-then-left-lt3
-returns-then-left-lt3 g c =
+pub returns-then-left-lt3-clause-paused : goal.returns-then-left-lt3-clause-paused
+returns-then-left-lt3-clause-paused g c =
     let has = c.left.ensures.left in let few = c.if-left-lt3.true in
     let short : c.args.active.me.setting.budget < length c.args.active.me.mine + 3 = omega arith in
     given_up g.K.Kind.rules g.T.Guarded.meaning c.args.active _ _ c.leave.result 3 c.leave.ensures short
     (omega arith) (omega arith)
 
-pub returns : goal.returns
-returns g c =
+pub returns-clause-paused : goal.returns-clause-paused
+returns-clause-paused g c =
     let has = c.left.ensures.left in let enough = c.if-left-lt3.false in
     let k = g.K.Kind.rules in let o = g.T.Guarded.meaning in let a = c.args.active in
     let room : length a.me.mine + 3 ≤ a.me.setting.budget = omega arith in
@@ -20,3 +21,9 @@ returns g c =
     (went_on k o c.args.wish c.plain_until.result a (Until a.me.seat c.args.pred Stay) _ _ c.go_on.result
     (λ x. (refl, refl, refl))
     c.plain_until.ensures c.go_on.ensures)
+
+pub returns-clause-holds : goal.returns-clause-holds
+returns-clause-holds g c =
+    until_held g.K.Kind.rules g.T.Guarded.meaning c.args.pred c.args.wish c.plain_until.result c.args.active _
+    c.go_on.result c.plain_until.ensures c.go_on.ensures (λ m h l. c.untils_were_false.ensures.each m h l)
+    (λ m h l. c.the_predicate_holds.ensures m h l)

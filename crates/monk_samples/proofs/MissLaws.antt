@@ -1,0 +1,144 @@
+-- Where no try misses, no act of a buffer is refused
+use Rattle.std.proofs.Common.{◌≡◌, ℕ, zero, suc, ◌+◌, ◌<◌, ◌/◌, ◌==◌, Bool, true, false, cond, nat_lt, Option, Some, None, List, [], ◌∷◌, ◌++◌}
+use Rattle.std.proofs.Common.{refl, sym, ap, subst, ◌∙◌, arith}
+use Rattle.std.specs.List.{sum_by}
+use Rattle.std.proofs.lemmas.Bool.{false≢true, eqb-true}
+use Rattle.std.proofs.lemmas.List.Sums.{sum_by-append}
+use Rattle.atomic_table.specs.Seated.{TableId}
+use Rattle.monk_kinds.specs.declared.mode.Rules.{Rules}
+use Rattle.monk_object.specs.Buffer.{buffer_meaning}
+use Rattle.monk_object.specs.Object.{Object}
+use Rattle.monk_object.specs.Runs.{Answered}
+use Rattle.monk_object.specs.declared.op.Op.{Op}
+use Rattle.monk_history.specs.Meaning.Acts.{acts_in}
+use Rattle.monk_history.specs.Meaning.Events.{has_conditions}
+use Rattle.monk_history.specs.declared.event.Event.{Event}
+use Rattle.monk_hall.specs.Records.{opening_records}
+use Rattle.monk_hall.specs.Tokens.{House, Token, tokens}
+use Rattle.monk_hall.specs.declared.setting.Setting.{Setting}
+use Rattle.monk_samples.specs.Ends.{HaveServed}
+use Rattle.monk_samples.specs.Rounds.{round_of, rounds_of, rounds_to}
+use Rattle.monk_samples.specs.Totals.{missed_in}
+use Rattle.monk_samples.specs.Trails.{Addition, HasCalled, events_in, outside}
+use Rattle.monk_samples.specs.Visits.{AreMisses, AreVisits, Guard, Hasty, IsCertain, IsVisit, Manner, Misses, MissesIn, Patient, Plan}
+use Rattle.monk_samples.specs.declared.end.End.TheVariants.{Done}
+use Rattle.monk_samples.specs.declared.sample.Sample.{Sample}
+use Rattle.monk_samples.proofs.DoneLaws.{own_acts, try_acts}
+use Rattle.monk_samples.proofs.SeatSums.{over}
+use Rattle.monk_samples.proofs.ShareLaws.{put_by, rounds_by, take_by}
+use Rattle.monk_samples.specs.Wholes.{HoldsOperationsOf}
+use Rattle.monk_samples.proofs.VisitLaws.{acts_append}
+use Rattle.monk_samples.proofs.WholeLaws.{shares}
+
+-- a refused act counts once
+abbrev refused : Answered → ℕ
+refused a = cond (a.reply == 0) 1 0
+
+alone : (n : ℕ) → 0 + n ≡ n
+alone n = omega arith
+
+not_refused : (op : Op) (reply : ℕ) → 0 < reply → sum_by refused (record { op = op; reply = reply } ∷ []) ≡ 0
+not_refused op reply certain = alone _ ∙ by (reply == 0) refl
+  where
+    by : (b : Bool) → (reply == 0) ≡ b → ◌≡◌ {A = ℕ} (cond b 1 0) 0
+    by true is = absurd (omega (arith, certain, eqb-true reply 0 is))
+    by false is = refl
+
+over_none : (n i : ℕ) → over (λ s. 0) n i ≡ 0
+over_none zero i = refl
+over_none (suc n) i = alone _ ∙ over_none n (suc i)
+
+module _ (k : Rules) (o : Object) where
+  -- a visit of that manner misses under no kind, or not under this one
+  abbrev pub NeverMisses : Manner → Type 0
+  NeverMisses Patient = Unit {0}
+  NeverMisses Hasty = has_conditions k.mode ≡ false
+
+  abbrev IsCarefulFor : Option Guard → Type 0
+  IsCarefulFor None = ⊥
+  IsCarefulFor (Some w) = NeverMisses w.manner
+
+  abbrev AreCareful : List Plan → Type 0
+  AreCareful [] = Unit {0}
+  AreCareful (v ∷ vs) = IsCarefulFor v.guard × AreCareful vs
+
+  careful_then : (vs ws : List Plan) → AreCareful vs → AreCareful ws → AreCareful (vs ++ ws)
+  careful_then [] ws s t = t
+  careful_then (v ∷ vs) ws s t = (s.0, careful_then vs ws s.1 t)
+
+  careful_rounds : (round : ℕ → List Plan) (n : ℕ) → ((r : ℕ) → AreCareful (round r)) → AreCareful (rounds_to round n)
+  careful_rounds round zero all = tt
+  careful_rounds round (suc n) all =
+      careful_then (rounds_to round n) (round (suc n)) (careful_rounds round n all) (all (suc n))
+
+  careful_either : (b : Bool) (m : Manner) (round : ℕ) → NeverMisses m
+      → AreCareful (cond b (put_by m round ∷ []) (take_by m ∷ []))
+  careful_either true m round never = (never, tt)
+  careful_either false m round never = (never, tt)
+
+  hasty_none : (c : Setting) (s : ℕ) (v : Plan) (n : ℕ) (calls : List Addition) → has_conditions k.mode ≡ false
+      → AreMisses k o c s v n calls → calls ≡ []
+  hasty_none c s v zero calls automatic are = are
+  hasty_none c s v (suc n) calls automatic are = absurd (false≢true (sym automatic ∙ are.is_rest.signalled))
+
+  manner_none : (c : Setting) (s : ℕ) (v : Plan) (m : Manner) (n : ℕ) (calls : List Addition) → NeverMisses m
+      → MissesIn m n → AreMisses k o c s v n calls → calls ≡ []
+  manner_none c s v Patient zero calls never may are = are
+  manner_none c s v Patient (suc n) calls never may are = absurd (omega (arith, may))
+  manner_none c s v Hasty n calls never may are = hasty_none c s v n calls never are
+
+  misses_none : (c : Setting) (s : ℕ) (v : Plan) (g : Option Guard) (n : ℕ) (calls : List Addition) → IsCarefulFor g
+      → Misses g n → AreMisses k o c s v n calls → calls ≡ []
+  misses_none c s v None n calls careful may are = absurd careful
+  misses_none c s v (Some w) n calls careful may are = manner_none c s v w.manner n calls careful may are
+
+  certainly : (g : Option Guard) (reply : ℕ) → IsCarefulFor g → IsCertain g reply → 0 < reply
+  certainly None reply careful certain = absurd careful
+  certainly (Some w) reply careful certain = certain
+
+  visit_refused : (c : Setting) (s : ℕ) (v : Plan) (calls : List Addition) → IsVisit k o c s v calls
+      → IsCarefulFor v.guard → sum_by refused (acts_in (events_in calls)) ≡ 0
+  visit_refused c s v calls is careful = let tries = is.tries in
+      ap (λ ds. sum_by refused (acts_in (events_in ds)))
+      (tries.are ∙ ap (λ ds. ds ++ tries.rest)
+      (misses_none c s v v.guard is.misses tries.first careful is.may tries.is_first))
+      ∙ ap (sum_by refused) (try_acts k o c s v tries.rest tries.is_rest)
+      ∙ not_refused v.op tries.is_rest.done.reply
+      (certainly v.guard tries.is_rest.done.reply careful tries.is_rest.done.certain)
+
+  visits_refused : (c : Setting) (s : ℕ) (vs : List Plan) (calls : List Addition)
+      → AreVisits k o c s Done vs calls → AreCareful vs → sum_by refused (acts_in (events_in calls)) ≡ 0
+  visits_refused c s [] calls are careful = ap (λ ds. sum_by refused (acts_in (events_in ds))) are
+  visits_refused c s (v ∷ vs) calls are careful =
+      ap (λ ds. sum_by refused (acts_in (events_in ds))) are.are
+      ∙ ap (sum_by refused) (acts_append k o are.first are.rest)
+      ∙ sum_by-append refused (acts_in (events_in are.first)) (acts_in (events_in are.rest))
+      ∙ (λ i. visit_refused c s v are.first are.is_first careful.0 i
+      + visits_refused c s vs are.rest are.is_rest careful.1 i)
+      ∙ alone 0
+
+  calls_refused : (p q : Token) (vs : List Plan) (calls : List Addition) → HasCalled (outside p) (outside q) calls
+      → AreVisits k o p.me.setting p.me.seat Done vs calls → AreCareful vs → p.me.mine ≡ []
+      → sum_by refused (acts_in q.me.mine) ≡ 0
+  calls_refused p q vs calls called are careful none =
+      ap (λ h. sum_by refused (acts_in h)) (called.went.mine ∙ ap (λ h. h ++ events_in called.own) none)
+      ∙ ap (sum_by refused) (own_acts called.own ∙ ap (λ ds. acts_in (events_in ds)) called.called)
+      ∙ visits_refused p.me.setting p.me.seat vs calls are careful
+
+-- a run over a buffer misses nothing, where its visits don't
+pub buffer_misses : (k : Rules) (answers : ℕ → ℕ → Bool → Type 0) (seats rounds : ℕ) (z : TableId) (c : Setting)
+    (house : House) (h : List Event) (qs : List Token) → HoldsOperationsOf h qs → (sample : Sample) (m : Manner)
+    → ((d : Setting) (seat round : ℕ) → round_of sample k d seats seat round ≡ rounds_by m seats seat round)
+    → HaveServed k buffer_meaning answers sample seats rounds house (tokens z (opening_records c seats 0)) qs
+    → NeverMisses k buffer_meaning m → missed_in h ≡ 0
+buffer_misses k answers seats rounds z c house h qs holds sample m plans served never =
+    holds refused
+    ∙ shares k buffer_meaning answers sample seats rounds house c z refused (λ s. 0)
+    (λ p q s none. calls_refused k buffer_meaning p q
+    (rounds_to (round_of sample k p.me.setting seats p.me.seat) (rounds_of sample seats rounds p.me.seat))
+    s.calls s.called s.are
+    (careful_rounds k buffer_meaning (round_of sample k p.me.setting seats p.me.seat)
+    (rounds_of sample seats rounds p.me.seat)
+    (λ r. subst (AreCareful k buffer_meaning) (sym (plans p.me.setting p.me.seat r))
+    (careful_either k buffer_meaning (nat_lt p.me.seat (seats / 2)) m r never))) none) seats 0 qs served
+    ∙ over_none seats 0
