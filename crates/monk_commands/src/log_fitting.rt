@@ -44,7 +44,8 @@ fn put_line(
     kind: KindName,
 ) -> Result<bool, StreamFault>
     requires size { found.now.log.0.size ≤ most found.now.log.0.object }
-    ensures line { OnOk result (page.new.items ≡ page.old.items ++ log_fit_line found.now.lapses found.now.log.0 found.now.log.1 kind) }
+    ensures line { OnOk result
+        (page.new.items ≡ page.old.items ++ log_fit_line found.now.lapses found.now.log.0 found.now.log.1 kind) }
     ensures fit { IfOk result (λ fits. fits ≡ is_in (log_fit found.now.lapses found.now.log.0 found.now.log.1 kind)) }
     ensures no_file { IsErrOf result StreamFault.File → ⊥ }
 {
@@ -66,8 +67,10 @@ fn put_line(
 /// A line for each kind, and whether the log fits one of them.
 fn all_lines(alloc: Global, found: &LogFits<'_>) -> Result<(Vec<u8>, bool), StreamFault>
     requires size { found.now.log.0.size ≤ most found.now.log.0.object }
-    ensures lines { IfOk result (λ r. r.0.items ≡ log_fit_lines found.now.lapses found.now.log.0 found.now.log.1 kinds) }
-    ensures fit { IfOk result (λ r. r.1 ≡ fits_some_kind found.now.lapses found.now.log.0 found.now.log.1 kinds) }
+    ensures lines { IfOk result
+        (λ r. r.0.items ≡ log_fit_lines found.now.lapses found.now.log.0 found.now.log.1 kinds) }
+    ensures fit { IfOk result
+        (λ r. r.1 ≡ fits_some_kind found.now.lapses found.now.log.0 found.now.log.1 kinds) }
     ensures no_file { IsErrOf result StreamFault.File → ⊥ }
 {
     let mut page = Vec::new(alloc);

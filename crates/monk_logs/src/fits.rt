@@ -13,6 +13,7 @@ ghost use Rattle.monk_logs.specs.declared.order.Order.{Order};
 use crate::kind_fit::Fit;
 use crate::lapses::Lapses;
 use crate::lead::{Lead, find_lead, widest_of};
+use crate::order::Order;
 use crate::text::log_lines::LogLines;
 use monk_audit::{AuditFault, rules_by_name};
 use monk_kinds::{KindName, Mode};
@@ -91,6 +92,21 @@ impl<'a> LogFits<'a> {
         }
     }
 
+    /// In which order the log was found to fit the kind.
+    fn order_of(&self, kind: KindName) -> Option<Order>
+        ensures found { (o : Order) → result ≡ Some o
+            → fit_of self.now.lapses (log_monitor kind self.now.log.0) self.now.log.1 ≡ Fit.In o }
+        ensures made { (o : Order) → result ≡ Some o → self.now.log.0.size ≤ most self.now.log.0.object }
+    {
+        let rules = rules_by_name(kind);
+        match self.lead_of(rules.mode) {
+            Some(lead) if self.lapses == Lapses::Told && lead.needs.are_met_by(rules) => {
+                Some(lead.order)
+            }
+            _ => None,
+        }
+    }
+
     /// What [`fit`](crate::fit) says of the log.
     ///
     /// # Errors
@@ -119,12 +135,9 @@ impl<'a> LogFits<'a> {
         ensures object { IsErrOf result AuditFault.Object → most self.now.log.0.object < self.now.log.0.size }
         ensures too_big { most self.now.log.0.object < self.now.log.0.size → IsErrOf result AuditFault.Object }
     {
-        let rules = rules_by_name(kind);
-        match self.lead_of(rules.mode) {
-            Some(lead) if self.lapses == Lapses::Told && lead.needs.are_met_by(rules) => {
-                Ok(Fit::In(lead.order))
-            }
-            _ => self.log.fit(alloc, kind, self.lapses),
+        match self.order_of(kind) {
+            Some(order) => Ok(Fit::In(order)),
+            None => self.log.fit(alloc, kind, self.lapses),
         }
     }
 }

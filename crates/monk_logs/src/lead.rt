@@ -12,7 +12,6 @@ use crate::lapses::Lapses;
 use crate::order::Order;
 use crate::text::header::LogHeader;
 use crate::text::line_source::LineSource;
-use crate::verdict::LogVerdict;
 use monk_audit::AuditFault;
 use monk_kinds::{Mode, Rules};
 use std::alloc::Global;
@@ -62,7 +61,7 @@ pub(crate) fn find_lead<L: LineSource>(
         Order::Fifo,
         Lapses::Told,
     )?;
-    if fifo.verdict == LogVerdict::Fits {
+    if fifo.fits() {
         let (order, needs) = (Order::Fifo, fifo.needs);
         return Ok(Some(Lead { order, needs }));
     }
@@ -74,7 +73,7 @@ pub(crate) fn find_lead<L: LineSource>(
         Order::Wake,
         Lapses::Told,
     )?;
-    if wake.verdict == LogVerdict::Fits {
+    if wake.fits() {
         let (order, needs) = (Order::Wake, wake.needs);
         return Ok(Some(Lead { order, needs }));
     }
@@ -86,7 +85,7 @@ pub(crate) fn find_lead<L: LineSource>(
         Order::Any,
         Lapses::Told,
     )?;
-    if any.verdict == LogVerdict::Fits {
+    if any.fits() {
         let (order, needs) = (Order::Any, any.needs);
         return Ok(Some(Lead { order, needs }));
     }

@@ -1,5 +1,5 @@
 -- What rules permit is what the widest permit, if they have what the choice needs
-use Rattle.std.proofs.Common.{◌≡◌, ◌∙◌, ℕ, Bool, true, false, cond, not, ◌&&◌, refl, sym, ap, ap₂}
+use Rattle.std.proofs.Common.{◌≡◌, ◌∙◌, ℕ, Bool, true, false, cond, not, ◌&&◌, refl, sym, ap}
 use Rattle.std.specs.Prelude.{◌==◌, ◌||◌, nat_le}
 use Rattle.monk_kinds.specs.declared.mode.Mode.{Mode}
 use Rattle.monk_kinds.specs.declared.mode.Mode.TheVariants.{Blocking, NonBlocking, QuasiBlocking, ImmediateReturn, Automatic}
@@ -28,7 +28,8 @@ abbrev five : Bool → Bool → Bool → Bool → Bool → Bool
 five a b c d e = a && b && c && d && e
 
 entry_split : (x y a b : Bool)
-    → ((x || a) && (y || b)) ≡ (((x || true) && (y || true)) && five (not (not x) || a) (not (not y) || b) true true true)
+    → ((x || a) && (y || b))
+    ≡ (((x || true) && (y || true)) && five (not (not x) || a) (not (not y) || b) true true true)
 entry_split true true true true = refl
 entry_split true true true false = refl
 entry_split true true false true = refl

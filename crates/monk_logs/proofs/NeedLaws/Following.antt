@@ -1,6 +1,7 @@
 -- What is found of the lines to come under rules is what is found under the widest, if the rules have
 -- what the lines need
-use Rattle.std.proofs.Common.{◌≡◌, ◌∙◌, ℕ, ◌+◌, Bool, true, false, cond, ◌&&◌, List, [], ◌∷◌, Option, Some, None, refl, sym, ap, subst}
+use Rattle.std.proofs.Common.{◌≡◌, ◌∙◌, ℕ, ◌+◌, Bool, true, false, cond, ◌&&◌, List, [], ◌∷◌, Option, Some, None}
+use Rattle.std.proofs.Common.{refl, sym, ap}
 use Rattle.std.specs.Prelude.{Result, Ok, Err}
 use Rattle.std.specs.Result.{result_ok}
 use Rattle.monk_kinds.specs.declared.mode.Rules.{Rules}
@@ -12,17 +13,15 @@ use Rattle.monk_logs.specs.BoardCourse.{BoardCourse, board_behind, board_course,
 use Rattle.monk_logs.specs.BoardShown.{course_or}
 use Rattle.monk_logs.specs.BoardStand.{IsHeldOver, board_behind_over}
 use Rattle.monk_logs.specs.Needs.{is_fits, line_needs, meets, needs_with, no_needs, told_needs, widest}
-use Rattle.monk_logs.specs.ReadStand.{board_read_over, read_over, read_verdict, read_verdict_from}
+use Rattle.monk_logs.specs.ReadStand.{read_verdict, read_verdict_from}
 use Rattle.monk_logs.specs.declared.blame.Blame.{Blame}
 use Rattle.monk_logs.specs.declared.blame.LineVerdict.{LineVerdict}
 use Rattle.monk_logs.specs.declared.blame.LineVerdict.TheVariants as line
 use Rattle.monk_logs.specs.declared.board.needs.Needs.{Needs}
 use Rattle.monk_logs.specs.declared.board.pending.Pending.{Pending}
-use Rattle.monk_logs.specs.declared.lapses.Lapses.{Lapses}
 use Rattle.monk_logs.specs.declared.lapses.Lapses.TheVariants.{Told}
 use Rattle.monk_logs.specs.declared.order.Order.{Order}
 use Rattle.monk_logs.specs.declared.text.line.LogLine.{LogLine}
-use Rattle.monk_logs.specs.declared.verdict.LogVerdict.{LogVerdict}
 use Rattle.monk_logs.proofs.BoardLaws.Standing.{over_same}
 use Rattle.monk_logs.proofs.LapseLaws.Following.{read_opens}
 use Rattle.monk_logs.proofs.NeedLaws.Choices.{and_true, meets_with, same_if}
@@ -74,8 +73,8 @@ module _ (o : Order) (k q : Rules) (seats conds : ℕ) (ob : Object) (is : wides
   leads_as b p l held =
       sym (over_same o (under k) b p l)
       ∙ behind_split o k seats conds ob [] (under q) b p l held
-      ∙ ap (λ (r : Rules). cond (meets k (told_needs ob b p l) && meets k (line_needs l)) (board_behind o (under r) b p l)
-      None) is
+      ∙ ap (λ (r : Rules). cond (meets k (told_needs ob b p l) && meets k (line_needs l))
+      (board_behind o (under r) b p l) None) is
       ∙ ap (λ (y : Option BoardCourse). cond (meets k (told_needs ob b p l) && meets k (line_needs l)) y None)
       (over_same o (under q) b p l)
 
@@ -132,4 +131,5 @@ module _ (o : Order) (k q : Rules) (seats conds : ℕ) (ob : Object) (is : wides
       → v ≡ meets k needs
   unfolding verdict_along
   need_ends left n x needs v so_far none =
-      so_far ∙ ap (λ (log : List LogLine). is_fits (read_verdict_from Told o (under k) n (Ok x) log) && meets k needs) none
+      so_far
+      ∙ ap (λ (log : List LogLine). is_fits (read_verdict_from Told o (under k) n (Ok x) log) && meets k needs) none

@@ -11,14 +11,14 @@ use Rattle.monk_history.specs.declared.event.Event.TheVariants as event
 use Rattle.monk_history.specs.declared.event.Next.{Next}
 use Rattle.monk_history.specs.declared.event.Next.TheVariants as next
 use Rattle.monk_history.specs.Meaning.Choice.{must_stay}
-use Rattle.monk_history.specs.Meaning.Events.{has_conditions, has_signaller_queue, is_call_of, is_non_blocking, next_of, returns_at_once}
+use Rattle.monk_history.specs.Meaning.Events.{has_signaller_queue, is_call_of, is_non_blocking, next_of, returns_at_once}
 use Rattle.monk_history.specs.Meaning.Monitor.{Monitor, monitor}
 use Rattle.monk_history.specs.Meaning.Reasons.{is_in_place, is_in_range, is_in_turn, is_offered, is_right_reply}
-use Rattle.monk_logs.specs.Board.{Board, board_after, board_chances, board_permits, board_reason, board_step, sight}
+use Rattle.monk_logs.specs.Board.{Board, board_after, board_chances, board_reason, board_step, sight}
 use Rattle.monk_logs.specs.BoardCourse.{BoardCourse, board_behind, board_course, board_half, board_hold, board_line, board_settled}
 use Rattle.monk_logs.specs.BoardCourse.{board_then, board_told, board_told_next, board_held}
 use Rattle.monk_logs.specs.BoardStand.{IsHeldOver}
-use Rattle.monk_logs.specs.Chances.{Chances, permits_by}
+use Rattle.monk_logs.specs.Chances.{permits_by}
 use Rattle.monk_logs.specs.Needs.{choice_needs, event_needs, line_needs, meets, step_needs, told_needs, widest, widest_mode}
 use Rattle.monk_logs.specs.declared.board.needs.Needs.{Needs}
 use Rattle.monk_logs.specs.declared.board.pending.Pending.{Pending}
@@ -118,7 +118,8 @@ module _ (o : Order) (k : Rules) (seats conds : ℕ) (ob : Object) (d : List ℕ
       let q = board_chances o ob b e in
       ap (λ (y : Bool). passes r y t p rr (permits_by k stays q e)) (wide_offers k.mode e x h)
       ∙ ap (λ (y : Bool). passes r (is_offered (widest k) e) t p rr y) (permits_split k stays q e)
-      ∙ pass_split r (is_offered (widest k) e) t p rr (permits_by (widest k) stays q e) (meets k (event_needs stays q e))
+      ∙ pass_split r (is_offered (widest k) e) t p rr (permits_by (widest k) stays q e)
+      (meets k (event_needs stays q e))
       ∙ ap (λ (n : Needs). (board_reason o wide b e == 0) && meets k n) (any_needs b e (Some x) stays h)
 
   -- ---- a line

@@ -106,7 +106,12 @@ impl<'a> LogLines<'a> {
     ///
     /// In each order that is tried a pass over the text that is left, up to the first misfit there.
     /// Memory for the queues and the object alone.
-    pub fn fit(&self, alloc: Global, kind: KindName, lapses: Lapses) -> Result<Fit, AuditFault>
+    pub(crate) fn fit(
+        &self,
+        alloc: Global,
+        kind: KindName,
+        lapses: Lapses,
+    ) -> Result<Fit, AuditFault>
         // It is an order exactly where the log is open in that order, and in no stricter one.
         ensures strictest { IfOk result
             (λ f. (o : Order)
