@@ -107,6 +107,20 @@ impl<'a> LogFits<'a> {
         }
     }
 
+    /// The strictest order in which the log fits the kind, as it was found, or as it is found now.
+    fn found_fit(&self, alloc: Global, kind: KindName) -> Result<Fit, AuditFault>
+        ensures found { IfOk result
+            (λ f. f ≡ fit_of self.now.lapses (log_monitor kind self.now.log.0) self.now.log.1) }
+        ensures made { OnOk result (self.now.log.0.size ≤ most self.now.log.0.object) }
+        ensures object { IsErrOf result AuditFault.Object → most self.now.log.0.object < self.now.log.0.size }
+        ensures too_big { most self.now.log.0.object < self.now.log.0.size → IsErrOf result AuditFault.Object }
+    {
+        match self.order_of(kind) {
+            Some(order) => Ok(Fit::In(order)),
+            None => self.log.fit(alloc, kind, self.lapses),
+        }
+    }
+
     /// What [`fit`](crate::fit) says of the log.
     ///
     /// # Errors
@@ -135,9 +149,6 @@ impl<'a> LogFits<'a> {
         ensures object { IsErrOf result AuditFault.Object → most self.now.log.0.object < self.now.log.0.size }
         ensures too_big { most self.now.log.0.object < self.now.log.0.size → IsErrOf result AuditFault.Object }
     {
-        match self.order_of(kind) {
-            Some(order) => Ok(Fit::In(order)),
-            None => self.log.fit(alloc, kind, self.lapses),
-        }
+        self.found_fit(alloc, kind)
     }
 }
