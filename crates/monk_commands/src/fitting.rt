@@ -194,9 +194,10 @@ fn fit_text<W: Write>(
 /// # Cost
 ///
 /// One pass over the text and ten over the events, with memory for the text, the events and the
-/// queues. Of a log one pass over the text that looks for its first fault, up to three for each
-/// kind, each up to the first misfit there, and one that counts; memory for the text and the queues
-/// alone.
+/// queues. Of a log one pass over the text that looks for its first fault, three for all kinds
+/// ([`LogFits`](monk_logs::LogFits)) in each order that is tried, up to three for each kind that it
+/// doesn't fit so, each up to the first misfit there, and one that counts; memory for the text and
+/// the queues alone.
 pub fn fit_stream<R: Read, W: Write>(
     alloc: Global,
     lapses: Lapses,

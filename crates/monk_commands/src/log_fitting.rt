@@ -6,6 +6,7 @@ ghost use Rattle.monk_kinds.specs.Names.{kinds};
 ghost use Rattle.monk_object.specs.Names.{most};
 ghost use Rattle.monk_history.specs.Text.Device.{inner_of, has_failed};
 ghost use Rattle.monk_logs.specs.Fit.{is_in};
+ghost use Rattle.monk_logs.specs.Leads.{read_log};
 ghost use Rattle.monk_commands.specs.LogFitted.{counts_lines, fits_some_kind, log_counts, log_fit, log_fit_answer};
 ghost use Rattle.monk_commands.specs.LogFitted.{gone_line, inside_words, log_fit_line, log_fit_lines, log_fit_of, missed_line};
 ghost use Rattle.monk_commands.specs.LogFitted.{missed_words};
@@ -17,22 +18,17 @@ use crate::fault::StreamFault;
 use monk_audit::AuditFault;
 use monk_history::Device;
 use monk_kinds::KindName;
-use monk_logs::{Counts, Fit, Lapses, LogLines, WaitsFor};
+use monk_logs::{Counts, Fit, Lapses, LogFits, LogLines, WaitsFor};
 use std::alloc::Global;
 use std::io::Write;
 
 /// The strictest order in which the log fits the kind, or why it fits in none.
-fn kind_fit(
-    alloc: Global,
-    log: &LogLines<'_>,
-    kind: KindName,
-    lapses: Lapses,
-) -> Result<Fit, StreamFault>
-    requires size { log.now.0.size ≤ most log.now.0.object }
-    ensures found { IfOk result (λ f. f ≡ log_fit lapses log.now.0 log.now.1 kind) }
+fn kind_fit(alloc: Global, found: &LogFits<'_>, kind: KindName) -> Result<Fit, StreamFault>
+    requires size { found.now.log.0.size ≤ most found.now.log.0.object }
+    ensures found { IfOk result (λ f. f ≡ log_fit found.now.lapses found.now.log.0 found.now.log.1 kind) }
     ensures no_file { IsErrOf result StreamFault.File → ⊥ }
 {
-    match log.fit(alloc, kind, lapses) {
+    match found.of_kind(alloc, kind) {
         Ok(found) => Ok(found),
         Err(AuditFault::Memory) => Err(StreamFault::Memory),
         // The size is within the object's greatest.
@@ -44,16 +40,16 @@ fn kind_fit(
 fn put_line(
     alloc: Global,
     page: &mut Vec<u8>,
-    log: &LogLines<'_>,
+    found: &LogFits<'_>,
     kind: KindName,
-    lapses: Lapses,
 ) -> Result<bool, StreamFault>
-    requires size { log.now.0.size ≤ most log.now.0.object }
-    ensures line { OnOk result (page.new.items ≡ page.old.items ++ log_fit_line lapses log.now.0 log.now.1 kind) }
-    ensures fit { IfOk result (λ fits. fits ≡ is_in (log_fit lapses log.now.0 log.now.1 kind)) }
+    requires size { found.now.log.0.size ≤ most found.now.log.0.object }
+    ensures line { OnOk result
+        (page.new.items ≡ page.old.items ++ log_fit_line found.now.lapses found.now.log.0 found.now.log.1 kind) }
+    ensures fit { IfOk result (λ fits. fits ≡ is_in (log_fit found.now.lapses found.now.log.0 found.now.log.1 kind)) }
     ensures no_file { IsErrOf result StreamFault.File → ⊥ }
 {
-    match kind_fit(alloc, log, kind, lapses)? {
+    match kind_fit(alloc, found, kind)? {
         Fit::In(order) => {
             page.extend_from_slice(kind.text())?;
             page.extend_from_slice(b" fits ")?;
@@ -69,23 +65,39 @@ fn put_line(
 }
 
 /// A line for each kind, and whether the log fits one of them.
-fn all_lines(
-    alloc: Global,
-    log: &LogLines<'_>,
-    lapses: Lapses,
-) -> Result<(Vec<u8>, bool), StreamFault>
-    requires size { log.now.0.size ≤ most log.now.0.object }
-    ensures lines { IfOk result (λ r. r.0.items ≡ log_fit_lines lapses log.now.0 log.now.1 kinds) }
-    ensures fit { IfOk result (λ r. r.1 ≡ fits_some_kind lapses log.now.0 log.now.1 kinds) }
+fn all_lines(alloc: Global, found: &LogFits<'_>) -> Result<(Vec<u8>, bool), StreamFault>
+    requires size { found.now.log.0.size ≤ most found.now.log.0.object }
+    ensures lines { IfOk result
+        (λ r. r.0.items ≡ log_fit_lines found.now.lapses found.now.log.0 found.now.log.1 kinds) }
+    ensures fit { IfOk result
+        (λ r. r.1 ≡ fits_some_kind found.now.lapses found.now.log.0 found.now.log.1 kinds) }
     ensures no_file { IsErrOf result StreamFault.File → ⊥ }
 {
     let mut page = Vec::new(alloc);
     let mut is_fit = false;
     for kind in KindName::ALL.iter() {
-        let fits = put_line(alloc, &mut page, log, *kind, lapses)?;
+        let fits = put_line(alloc, &mut page, found, *kind)?;
         is_fit = is_fit || fits;
     }
     Ok((page, is_fit))
+}
+
+/// Judges the log once for the kinds with the same conditions and signals.
+fn all_fits<'a>(
+    alloc: Global,
+    log: &LogLines<'a>,
+    lapses: Lapses,
+) -> Result<LogFits<'a>, StreamFault>
+    requires size { log.now.0.size ≤ most log.now.0.object }
+    ensures same { IfOk result (λ f. f ≡ read_log log.now lapses) }
+    ensures no_file { IsErrOf result StreamFault.File → ⊥ }
+{
+    match LogFits::find(alloc, log, lapses) {
+        Ok(found) => Ok(found),
+        Err(AuditFault::Memory) => Err(StreamFault::Memory),
+        // The size is within the object's greatest.
+        Err(AuditFault::Object) => unreachable!(),
+    }
 }
 
 /// What is counted in the log.
@@ -210,7 +222,8 @@ fn fit_log<W: Write>(
     if header.size() > header.object().greatest_size() {
         return put(&too_big(alloc)?, writer);
     }
-    let (mut page, is_fit) = all_lines(alloc, log, lapses)?;
+    let found = all_fits(alloc, log, lapses)?;
+    let (mut page, is_fit) = all_lines(alloc, &found)?;
     put_counts(alloc, &mut page, log, means)?;
     match writer.write_all(&page) {
         Ok(()) => Ok(if is_fit { 0 } else { 1 }),

@@ -14,3 +14,4 @@ mod FifoLaws
 mod CountLaws
 mod LapseLaws
 mod FitLaws
+mod NeedLaws

@@ -36,7 +36,7 @@ served_with b x (event.Resume s q) = refl
 served_with b x (event.SignalAll s c) = refl
 served_with b x (event.SignalWait s c d y) = refl
 
-stays_with : (o : Object) (b : Board) (x : Next) (e : Event)
+pub stays_with : (o : Object) (b : Board) (x : Next) (e : Event)
     → must_stay o (sight b) e ≡ must_stay o (sight b) (with_next x e)
 stays_with o b x (event.Enter s via) = refl
 stays_with o b x (event.Act s op r) = refl

@@ -27,3 +27,5 @@ pub mod Fit
 pub mod Lapses
 pub mod BoardRead
 pub mod ReadStand
+pub mod Needs
+pub mod Leads

@@ -22,6 +22,7 @@ use crate::blame::{Blame, LineVerdict};
 use crate::blaming::half_blame;
 use crate::board::Board;
 use crate::board::lines::{due_from, line_half, line_settled, via_now};
+use crate::board::needs::Needs;
 use crate::board::pending::Pending;
 use crate::board::telling::{choose_told, release_blame};
 use crate::completion::past::Past;
@@ -160,7 +161,8 @@ fn line_behind_release<T: Guarded>(
         ≡ kept_with (kept_events past.old)
         (known_events T.meaning (board_shown board.old (T.state object.old)) (Pending.Release event) line)) }
 {
-    match choose_told(Order::Fifo, setting, board, object, event, line)? {
+    let mut needs = Needs::none();
+    match choose_told(Order::Fifo, setting, board, object, &mut needs, event, line)? {
         Ok(told) => {
             past.add(told)?;
             line_alone(setting, board, object, past, line)

@@ -9,6 +9,7 @@ ghost use Rattle.monk_logs.specs.BoardStand as stands;
 ghost use Rattle.monk_logs.specs.BoardStand.{IsHeldOver};
 ghost use Rattle.monk_logs.specs.Course.{due_from};
 ghost use Rattle.monk_logs.specs.Items as lines;
+ghost use Rattle.monk_logs.specs.Needs.{needs_with, told_needs};
 ghost use Rattle.monk_logs.specs.Stand.{monitor_in, via_now};
 ghost use Rattle.monk_logs.specs.declared.blame.LineVerdict.{LineVerdict};
 ghost use Rattle.monk_logs.specs.declared.board.pending.Pending.{Pending};
@@ -17,6 +18,7 @@ use crate::blame::{Blame, LineVerdict};
 use crate::blaming::half_blame;
 use crate::board::Board;
 use crate::board::items::may_lapse;
+use crate::board::needs::Needs;
 use crate::board::pending::Pending;
 use crate::board::steps::{hold, release, settle, settle_act};
 use crate::board::telling::line_told;
@@ -213,6 +215,7 @@ pub(crate) fn line_behind<T: Guarded>(
     setting: Setting,
     board: &mut Board,
     object: &mut T,
+    needs: &mut Needs,
     pending: Pending,
     line: LogLine,
 ) -> Result<LineVerdict, AllocError>
@@ -222,6 +225,9 @@ pub(crate) fn line_behind<T: Guarded>(
         (λ v. course_or (board_shown board.new (T.state object.new)) v
         ≡ stands.board_behind_over order (monitor_in setting T.meaning)
         (board_shown board.old (T.state object.old)) pending line) }
+    ensures needs { IfOk result
+        (λ v. (left : Pending) → v ≡ LineVerdict.Fits left → needs.new ≡ needs_with
+        (told_needs T.meaning (board_shown board.old (T.state object.old)) pending line) needs.old) }
     ensures sound { IfOk result
         (λ v. (left : Pending) → v ≡ LineVerdict.Fits left
         → IsBoardOf setting.seats setting.conds T.PREDICATES board.new) }
@@ -229,6 +235,6 @@ pub(crate) fn line_behind<T: Guarded>(
     match pending {
         Pending::Settled => line_settled(order, setting, board, object, line),
         Pending::Half(seat, cond) => Ok(line_half(setting, board, object, seat, cond, line)),
-        Pending::Release(event) => line_told(order, setting, board, object, event, line),
+        Pending::Release(event) => line_told(order, setting, board, object, needs, event, line),
     }
 }

@@ -10,6 +10,7 @@ ghost use Rattle.monk_logs.specs.BoardShown.{IsBoardOf, board_shown, course_or};
 ghost use Rattle.monk_logs.specs.BoardStand as stands;
 ghost use Rattle.monk_logs.specs.BoardStand.{IsHeldOver};
 ghost use Rattle.monk_logs.specs.Items as lines;
+ghost use Rattle.monk_logs.specs.Needs.{needs_with, told_needs};
 ghost use Rattle.monk_logs.specs.ReadStand as reads;
 ghost use Rattle.monk_logs.specs.Stand.{monitor_in};
 ghost use Rattle.monk_logs.specs.declared.blame.Blame.TheVariants as blames;
@@ -24,6 +25,7 @@ use crate::board::item::Item;
 use crate::board::items::may_lapse;
 use crate::board::items_moves::join;
 use crate::board::lines::{can_lapse, line_behind, line_settled};
+use crate::board::needs::Needs;
 use crate::board::pending::Pending;
 use crate::board::steps::{ALLOWED, served_reason};
 use crate::board::telling::{release_blame, standing_choice, with_next};
@@ -199,7 +201,8 @@ fn resume_read<T: Guarded>(
         }
         Pending::Half(..) => {
             let line = LogLine::Resume(seat);
-            line_behind(order, setting, board, object, pending, line)
+            let mut needs = Needs::none();
+            line_behind(order, setting, board, object, &mut needs, pending, line)
         }
         Pending::Release(event) => resume_told(order, setting, board, object, event, seat),
     }
@@ -214,6 +217,7 @@ pub(crate) fn line_read<T: Guarded>(
     setting: Setting,
     board: &mut Board,
     object: &mut T,
+    needs: &mut Needs,
     pending: Pending,
     line: LogLine,
 ) -> Result<LineVerdict, AllocError>
@@ -223,15 +227,18 @@ pub(crate) fn line_read<T: Guarded>(
         (λ v. course_or (board_shown board.new (T.state object.new)) v
         ≡ reads.board_read_over lapses order (monitor_in setting T.meaning)
         (board_shown board.old (T.state object.old)) pending line) }
+    ensures needs { lapses ≡ Lapses.Told → IfOk result
+        (λ v. (left : Pending) → v ≡ LineVerdict.Fits left → needs.new ≡ needs_with
+        (told_needs T.meaning (board_shown board.old (T.state object.old)) pending line) needs.old) }
     ensures sound { IfOk result
         (λ v. (left : Pending) → v ≡ LineVerdict.Fits left
         → IsBoardOf setting.seats setting.conds T.PREDICATES board.new) }
 {
     match lapses {
-        Lapses::Told => line_behind(order, setting, board, object, pending, line),
+        Lapses::Told => line_behind(order, setting, board, object, needs, pending, line),
         Lapses::Allowed => match line {
             LogLine::Resume(seat) => resume_read(order, setting, board, object, pending, seat),
-            _ => line_behind(order, setting, board, object, pending, line),
+            _ => line_behind(order, setting, board, object, needs, pending, line),
         },
     }
 }

@@ -12,6 +12,7 @@ ghost use Rattle.monk_logs.specs.BoardCourse.{board_told};
 ghost use Rattle.monk_logs.specs.BoardMoves as moves;
 ghost use Rattle.monk_logs.specs.BoardShown.{IsBoardOf, board_shown, course_or};
 ghost use Rattle.monk_logs.specs.BoardStand as stands;
+ghost use Rattle.monk_logs.specs.Needs.{needs_with, step_needs};
 ghost use Rattle.monk_logs.specs.Stand.{monitor_in};
 ghost use Rattle.monk_logs.specs.declared.blame.LineVerdict.{LineVerdict};
 ghost use Rattle.monk_logs.specs.declared.board.pending.Pending.{Pending};
@@ -23,6 +24,7 @@ use crate::board::choices::{may_come_ready, may_go};
 use crate::board::items::{may_lapse, may_resume, waits, was_served};
 use crate::board::items_moves::join;
 use crate::board::lines::line_settled;
+use crate::board::needs::{Needs, event_needs};
 use crate::board::steps::{ALLOWED, served_reason};
 use crate::order::Order;
 use crate::setting::Setting;
@@ -220,6 +222,7 @@ pub(crate) fn choose_told<T: Guarded>(
     setting: Setting,
     board: &mut Board,
     object: &mut T,
+    needs: &mut Needs,
     event: Event,
     line: LogLine,
 ) -> Result<Result<Event, Blame>, AllocError>
@@ -231,6 +234,10 @@ pub(crate) fn choose_told<T: Guarded>(
         (λ r. stands.board_or (board_shown board.new (T.state object.new)) r
         ≡ stands.board_chosen order (monitor_in setting T.meaning)
         (board_shown board.old (T.state object.old)) event line) }
+    ensures needs { IfOk result
+        (λ r. (told : Event) → r ≡ Ok told → needs.new ≡ needs_with
+        (step_needs T.meaning (board_shown board.old (T.state object.old))
+        (board_told (board_shown board.old (T.state object.old)) event line)) needs.old) }
     ensures told { IfOk result
         (λ r. (told : Event) → r ≡ Ok told
         → told ≡ board_told (board_shown board.old (T.state object.old)) event line) }
@@ -244,6 +251,8 @@ pub(crate) fn choose_told<T: Guarded>(
         let blame = release_blame(order, setting, board, object, event, stays, line)?;
         return Ok(Err(blame));
     }
+    let gathered = event_needs(board, object, told, stays).with(*needs);
+    *needs = gathered;
     board.settle(setting.alloc, told, stays)?;
     Ok(Ok(told))
 }
@@ -255,6 +264,7 @@ pub(crate) fn line_told<T: Guarded>(
     setting: Setting,
     board: &mut Board,
     object: &mut T,
+    needs: &mut Needs,
     event: Event,
     line: LogLine,
 ) -> Result<LineVerdict, AllocError>
@@ -266,11 +276,15 @@ pub(crate) fn line_told<T: Guarded>(
         (λ v. course_or (board_shown board.new (T.state object.new)) v
         ≡ stands.board_told_over order (monitor_in setting T.meaning)
         (board_shown board.old (T.state object.old)) event line) }
+    ensures needs { IfOk result
+        (λ v. (left : Pending) → v ≡ LineVerdict.Fits left → needs.new ≡ needs_with
+        (step_needs T.meaning (board_shown board.old (T.state object.old))
+        (board_told (board_shown board.old (T.state object.old)) event line)) needs.old) }
     ensures sound { IfOk result
         (λ v. (left : Pending) → v ≡ LineVerdict.Fits left
         → IsBoardOf setting.seats setting.conds T.PREDICATES board.new) }
 {
-    match choose_told(order, setting, board, object, event, line)? {
+    match choose_told(order, setting, board, object, needs, event, line)? {
         Ok(_) => line_settled(order, setting, board, object, line),
         Err(blame) => Ok(LineVerdict::Misfits(blame)),
     }

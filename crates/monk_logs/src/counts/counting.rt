@@ -15,6 +15,7 @@ use crate::board::Board;
 use crate::board::item::Item;
 use crate::board::items::{seats_at, services_at, services_of};
 use crate::board::items_moves::{join, serve};
+use crate::board::needs::Needs;
 use crate::board::pending::Pending;
 use crate::board::reading::line_read;
 use crate::counts::Counts;
@@ -89,6 +90,7 @@ fn count_lines<T: Guarded, L: LineSource>(
     let mut object = object;
     let mut lines = lines;
     let mut board = Board::opening::<T>(alloc, setting)?;
+    let mut needs = Needs::none();
     let mut pending = Pending::Settled;
     let mut items = Vec::new(alloc);
     let mut tally = Tally::NOTHING;
@@ -102,6 +104,7 @@ fn count_lines<T: Guarded, L: LineSource>(
             setting,
             &mut board,
             &mut object,
+            &mut needs,
             pending,
             line,
         )? {

@@ -1,17 +1,14 @@
 //! The lines of a log's text, one after the other.
 
-ghost use Rattle.std.specs.Prelude.{◌≡◌, ◌≤◌, ◌<◌, ◌↔◌, ◌∷◌, [], ℕ, List, length, IfOk, OnOk, IsErrOf, MatchOption, None, Ok, Some};
+ghost use Rattle.std.specs.Prelude.{◌≡◌, ◌≤◌, ◌<◌, ◌∷◌, [], List, length, IfOk, OnOk, IsErrOf, MatchOption, None, Ok};
 ghost use Rattle.monk_object.specs.Names.{most};
 ghost use Rattle.monk_history.specs.Limits.{most_lines};
 ghost use Rattle.monk_logs.specs.Counts.{counts_of};
-ghost use Rattle.monk_logs.specs.Exactly.{IsFirstWithout};
-ghost use Rattle.monk_logs.specs.Fit.{IsStrictest, fit_of, misfit_line};
-ghost use Rattle.monk_logs.specs.Lapses.{IsOpenWith};
+ghost use Rattle.monk_logs.specs.Fit.{fit_of};
 ghost use Rattle.monk_logs.specs.Log.{LogHeading, HasLogText, log_text};
 ghost use Rattle.monk_logs.specs.Log.Reading.{log, log_at};
 ghost use Rattle.monk_logs.specs.Verdict.{log_monitor};
 ghost use Rattle.monk_logs.specs.declared.text.line.LogLine.{LogLine};
-ghost use Rattle.monk_logs.specs.declared.order.Order.{Order};
 
 use crate::counts::Counts;
 use crate::counts::counting::count_source;
@@ -106,16 +103,12 @@ impl<'a> LogLines<'a> {
     ///
     /// In each order that is tried a pass over the text that is left, up to the first misfit there.
     /// Memory for the queues and the object alone.
-    pub fn fit(&self, alloc: Global, kind: KindName, lapses: Lapses) -> Result<Fit, AuditFault>
-        // It is an order exactly where the log is open in that order, and in no stricter one.
-        ensures strictest { IfOk result
-            (λ f. (o : Order)
-            → (f ≡ Fit.In o) ↔ IsStrictest (λ p. IsOpenWith lapses p (log_monitor kind self.now.0) self.now.1) o) }
-        // It is a line exactly where that is the first with which the log is open in no order.
-        ensures misfit { IfOk result
-            (λ f. (n : ℕ) → (misfit_line f ≡ Some n)
-            ↔ IsFirstWithout (IsOpenWith lapses Order.Any (log_monitor kind self.now.0)) self.now.1 n) }
-        // All else, and what is to blame, is as it is found line by line.
+    pub(crate) fn fit(
+        &self,
+        alloc: Global,
+        kind: KindName,
+        lapses: Lapses,
+    ) -> Result<Fit, AuditFault>
         ensures found { IfOk result (λ f. f ≡ fit_of lapses (log_monitor kind self.now.0) self.now.1) }
         // The size is refused exactly where it is above the object's greatest.
         ensures made { OnOk result (self.now.0.size ≤ most self.now.0.object) }

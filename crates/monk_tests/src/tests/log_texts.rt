@@ -2,7 +2,7 @@
 
 use monk_audit::AuditFault;
 use monk_kinds::KindName;
-use monk_logs::{Blame, Counts, Fit, Lapses, LogLine, LogLines, Order, WaitsFor};
+use monk_logs::{Blame, Counts, Fit, Lapses, LogFits, LogLine, LogLines, Order, WaitsFor};
 use monk_object::{ObjectName, Op};
 use std::test::Fail;
 
@@ -62,8 +62,10 @@ fn a_text_is_fitted(rt: HostRuntime) -> Result<(), Fail> {
         line: 3,
         blame: Blame::Unserved,
     };
-    assert!(rt; log.fit(rt.alloc(), KindName::Npnb, Lapses::Told)? == unserved);
-    assert!(rt; log.fit(rt.alloc(), KindName::Npnb, Lapses::Allowed)? == Fit::In(Order::Fifo));
+    let told = LogFits::find(rt.alloc(), &log, Lapses::Told)?;
+    assert!(rt; told.of_kind(rt.alloc(), KindName::Npnb)? == unserved);
+    let allowed = LogFits::find(rt.alloc(), &log, Lapses::Allowed)?;
+    assert!(rt; allowed.of_kind(rt.alloc(), KindName::Npnb)? == Fit::In(Order::Fifo));
     Ok(())
 }
 
@@ -97,7 +99,8 @@ const FLAGGED: &[u8] =
 fn a_log_of_flags(rt: HostRuntime) -> Result<(), Fail> {
     let log = LogLines::check(FLAGGED)?;
     assert!(rt; log.header().object() == ObjectName::Flags);
-    assert!(rt; log.fit(rt.alloc(), KindName::Npnb, Lapses::Told)? == Fit::In(Order::Fifo));
+    let fits = LogFits::find(rt.alloc(), &log, Lapses::Told)?;
+    assert!(rt; fits.of_kind(rt.alloc(), KindName::Npnb)? == Fit::In(Order::Fifo));
     let second = [WaitsFor { cond: 0, pred: 1 }];
     assert!(rt; log.count(rt.alloc(), KindName::Npnb, &second)?.missed == Some(6));
     let first = [WaitsFor { cond: 0, pred: 0 }];
@@ -108,8 +111,10 @@ fn a_log_of_flags(rt: HostRuntime) -> Result<(), Fail> {
 #[test]
 fn too_great_an_object_of_a_text(rt: HostRuntime) -> Result<(), Fail> {
     let log = LogLines::check(b"log 1 2 1 book 33\n")?;
-    let fitted = log.fit(rt.alloc(), KindName::Pb, Lapses::Told);
-    assert!(rt; fitted == Err(AuditFault::Object));
+    let told = LogFits::find(rt.alloc(), &log, Lapses::Told);
+    assert!(rt; matches!(told, Err(AuditFault::Object)));
+    let allowed = LogFits::find(rt.alloc(), &log, Lapses::Allowed)?;
+    assert!(rt; allowed.of_kind(rt.alloc(), KindName::Pb) == Err(AuditFault::Object));
     assert!(rt; log.count(rt.alloc(), KindName::Pb, &[]) == Err(AuditFault::Object));
     Ok(())
 }

@@ -10,9 +10,9 @@ use Rattle.monk_commands.proofs.log_fitting.all_lines.Goals.{then-is_fit, else-i
 
 pub loop-kind-preserved : goal.loop-kind-preserved
 loop-kind-preserved c =
-    let x = c.args.lapses in
-    let h = c.args.log.now.0 in
-    let ls = c.args.log.now.1 in
+    let x = c.args.found.now.lapses in
+    let h = c.args.found.now.log.0 in
+    let ls = c.args.found.now.log.1 in
     let at = c.loop-kind.kind-index in
     let k = get_or kinds at Pb in
     let ks = take at kinds in

@@ -6,5 +6,6 @@ use Rattle.monk_commands.proofs.log_fitting.all_lines.Given as goal
 
 -- the lines of the kinds so far, and whether the log fits one of them
 abbrev pub invariant-loop-kind : goal.invariant-loop-kind
-invariant-loop-kind l = (vec_items l.page ≡ log_fit_lines l.lapses l.log.0 l.log.1 (take l.kind-index kinds))
-    × (l.is_fit ≡ fits_some_kind l.lapses l.log.0 l.log.1 (take l.kind-index kinds))
+invariant-loop-kind l =
+    (vec_items l.page ≡ log_fit_lines l.found.lapses l.found.log.0 l.found.log.1 (take l.kind-index kinds))
+    × (l.is_fit ≡ fits_some_kind l.found.lapses l.found.log.0 l.found.log.1 (take l.kind-index kinds))

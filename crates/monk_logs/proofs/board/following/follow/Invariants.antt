@@ -1,12 +1,15 @@
-use Rattle.std.proofs.Common.{◌≡◌, ◌≤◌, ◌+◌, length}
+use Rattle.std.proofs.Common.{◌≡◌, ◌≤◌, ◌+◌, ◌&&◌, [], length}
 use Rattle.std.specs.Prelude.{Ok}
+use Rattle.monk_kinds.specs.declared.mode.Rules.{Rules}
 use Rattle.monk_history.specs.Limits.{most_lines}
 use Rattle.monk_history.specs.Meaning.Monitor.{monitor}
 use Rattle.monk_logs.specs.BoardCourse.{board_course}
 use Rattle.monk_logs.specs.BoardShown.{IsBoardOf, board_shown}
 use Rattle.monk_logs.specs.BoardStand.{IsHeldOver}
+use Rattle.monk_logs.specs.Needs.{is_fits, meets, widest}
 use Rattle.monk_logs.specs.ReadStand.{read_verdict, read_verdict_from}
 use Rattle.monk_logs.specs.Stand.{monitor_in}
+use Rattle.monk_logs.specs.declared.lapses.Lapses.TheVariants.{Told}
 use Rattle.monk_logs.proofs.board.following.follow.Given as goal
 
 abbrev pub invariant-loop-line : goal.invariant-loop-line
@@ -23,6 +26,12 @@ invariant-loop-line g l =
       few : l.count + length (g.L.LineSource.left l.lines) ≤ most_lines;
       sound : IsBoardOf l.setting.seats l.setting.conds g.T.Guarded.PREDICATES l.board;
       held : IsHeldOver m now l.pending;
+      leads : l.lapses ≡ Told → (k : Rules) → widest k ≡ l.setting.rules
+          → is_fits (read_verdict Told l.order
+          (monitor k l.setting.seats l.setting.conds o (g.T.Guarded.state l.fn.object))
+          (g.L.LineSource.left l.fn.lines))
+          ≡ (is_fits (read_verdict_from Told l.order (monitor k l.setting.seats l.setting.conds o []) l.count
+          (Ok (board_course now l.pending)) (g.L.LineSource.left l.lines)) && meets k l.needs);
     }
 
 abbrev pub decreases-loop-line : goal.decreases-loop-line

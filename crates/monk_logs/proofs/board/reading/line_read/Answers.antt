@@ -13,3 +13,6 @@ returns-in-Told-clause-judged g c =
     ok_same c.line_behind.result _ _ _
     (ap (λ (x : Lapses). board_read_over x c.args.order m b c.args.pending c.args.line) (sym c.in-Told.is))
     c.line_behind.ensures.judged
+
+pub returns-in-Told-clause-needs : goal.returns-in-Told-clause-needs
+returns-in-Told-clause-needs g c = λ told. c.line_behind.ensures.needs

@@ -1,4 +1,4 @@
-use Rattle.std.proofs.Common.{◌≡◌, ◌<◌, ◌∙◌, ℕ, true, cond, sym, ap, subst}
+use Rattle.std.proofs.Common.{◌≡◌, ◌<◌, ◌∙◌, ℕ, true, cond, rules, sym, ap, subst}
 use Rattle.std.specs.Prelude.{Ok}
 use Rattle.monk_history.specs.declared.event.Next.{Next}
 use Rattle.monk_history.specs.Meaning.Events.{seat_of}
@@ -11,7 +11,9 @@ use Rattle.monk_logs.specs.BoardShown.{board_shown}
 use Rattle.monk_logs.specs.BoardStand.{board_release_blame}
 use Rattle.monk_logs.specs.Chances.{permits_by}
 use Rattle.monk_logs.specs.Stand.{monitor_in}
+use Rattle.monk_logs.specs.declared.order.Order.TheVariants.{Any}
 use Rattle.monk_logs.proofs.MoveLaws.{object_there, seat_there}
+use Rattle.monk_logs.proofs.NeedLaws.Told.{needs_told}
 use Rattle.monk_logs.proofs.ToldLaws.{told_found, told_goes, told_here, told_moved, told_stops}
 use Rattle.monk_logs.proofs.board.telling.choose_told.Goals as goal
 use Rattle.monk_logs.proofs.board.telling.choose_told.Goals.{After-served_reason, After-with_next-told}
@@ -106,3 +108,17 @@ returns-clause-sound g c = λ told_event is.
     (object_there m (sight b) c.with_next-told.result
     (cond (permits_by m.kind c.must_stay-stays.result (chances_on c.args.order m.object b) c.with_next-told.result) 0 6)
     (sym c.served_reason.ensures ∙ c.if-served_reason-ne-ALLOWED.false)))
+
+pub event_needs-requires : goal.event_needs-requires
+event_needs-requires g c =
+    let sound =
+    c.in_ok-serve.ensures.sound c.args.setting.seats c.args.setting.conds g.T.Guarded.PREDICATES c.requires.sound in
+    (search rules, sound.rest.preds)
+
+pub returns-clause-needs : goal.returns-clause-needs
+returns-clause-needs g c = λ told_event is.
+    let state = g.T.Guarded.state c.args.object.now in
+    needs_told g.T.Guarded.meaning (board_shown c.args.board.now state) (board_shown c.serve.new.self state)
+    c.args.event c.with_next-told.result c.args.line c.must_stay-stays.result c.event_needs.result _ _
+    (c.in_ok-serve.ensures.served state) (told g (goal.at.returns-clause-needs g c).After-with_next-told)
+    c.must_stay-stays.ensures (c.event_needs.ensures Any) c.with-gathered.ensures
