@@ -9,7 +9,7 @@ use Rattle.monk_commands.specs.declared.request.Line.{Line}
 use Rattle.std.specs.Prelude.{◌↔◌, IfSome, option_map}
 use Rattle.clap.specs.Words.{Row, Text, TriesOne, one_text, rows_of, is_simple}
 use Rattle.clap.proofs.OnLiterals.{clap_on_literals}
-use Rattle.monk_logs.specs.declared.waits_for.WaitsFor.{WaitsFor}
+use Rattle.monk_logs.specs.declared.counts.waits_for.WaitsFor.{WaitsFor}
 use Rattle.monk_commands.specs.Request.{AreMeanings, HasNumber, IsAsked, IsMeaning, IsRead, KindNames, MayHaveNumber}
 use Rattle.monk_commands.specs.Request.{RunNames, monk_app}
 

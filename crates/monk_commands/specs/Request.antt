@@ -15,7 +15,7 @@ use Rattle.monk_kinds.specs.Names.{kind_word, kinds as monitor_kinds}
 use Rattle.monk_kinds.specs.declared.name.KindName.{KindName}
 use Rattle.monk_logs.specs.declared.lapses.Lapses.{Lapses}
 use Rattle.monk_logs.specs.declared.lapses.Lapses.TheVariants.{Told, Allowed}
-use Rattle.monk_logs.specs.declared.waits_for.WaitsFor.{WaitsFor}
+use Rattle.monk_logs.specs.declared.counts.waits_for.WaitsFor.{WaitsFor}
 use Rattle.monk_object.specs.Names.{object_word}
 use Rattle.monk_samples.specs.Samples.{IsInRange, sample_object}
 use Rattle.monk_samples.specs.declared.sample.Sample.{Sample}
