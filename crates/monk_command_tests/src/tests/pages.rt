@@ -91,7 +91,7 @@ fn says(rt: &HostRuntime, asked: &Page<'_>) -> Result<bool, Fail> {
     let window = Window::asked(asked.from, asked.to)?;
     let page = page(alloc, &header, &events, window, "choice")?;
     Ok(
-        page.as_str().starts_with("<!doctype html>")
+        page.as_str().starts_with("<!DOCTYPE html>")
             && page.as_str().ends_with("</html>\n")
             && page.as_str().find("<svg xmlns=").is_some()
             && page.as_str().find(asked.says).is_some(),
