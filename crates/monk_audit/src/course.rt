@@ -13,7 +13,7 @@ ghost use Rattle.monk_audit.specs.Reading.{read_through};
 ghost use Rattle.monk_audit.specs.Replay.{replay_situation};
 
 use crate::kinds::rules_by_name;
-use crate::replay::{ALLOWED, Replay};
+use crate::replay::Replay;
 use crate::verdict::Verdict;
 use monk_history::lines::PieceLines;
 use monk_history::{Event, Header, MOST_EVENTS, ReadFault};
@@ -85,14 +85,14 @@ pub(crate) fn judge_lines<'a, T: Guarded>(
             Err(fault) => return Err(fault),
         };
         count += 1;
-        let reason = course
+        let found = course
             .replay
             .judge::<T, Course>(rules, object, conds, event)?;
-        if reason != ALLOWED {
+        if let Some(reason) = found {
             course.count = count;
             let verdict = Verdict::Forbidden {
                 step: count,
-                reason,
+                reason: reason.number(),
             };
             return Ok((Some(verdict), lines.rest()));
         }

@@ -9,7 +9,7 @@ ghost use Rattle.monk_audit.specs.Replay.{IsReplayOf, replay_situation, seats_in
 
 use crate::choices::permits;
 use crate::queues::ready_for;
-use crate::replay::{ALLOWED, Replay};
+use crate::replay::Replay;
 use monk_history::Event;
 use monk_kinds::Rules;
 use monk_object::Guarded;
@@ -44,7 +44,7 @@ impl Replay {
         ensures { result ≡ (reason_in (monitor rules (seats_in self.now) conds T.meaning [])
             (replay_situation self.now (T.state object.now)) event == 0) }
     {
-        self.early_reason(rules, object, conds, event) == ALLOWED
+        self.early_reason(rules, object, conds, event).is_none()
             && self.permits(rules, object, event)
     }
 }

@@ -1,13 +1,15 @@
 //! A replay event by event, where the events aren't all known beforehand.
 
-ghost use Rattle.std.specs.Prelude.{◌≡◌, ℕ, List, [], IfOk, OnOk};
+ghost use Rattle.std.specs.Prelude.{◌≡◌, ℕ, List, [], None, IfOk, OnOk};
 ghost use Rattle.monk_kinds.specs.declared.mode.Rules.{Rules};
 ghost use Rattle.monk_object.specs.Object.{Object};
 ghost use Rattle.monk_history.specs.Meaning.Monitor.{monitor};
 ghost use Rattle.monk_history.specs.Meaning.Reasons.{reason_before, reason_in};
 ghost use Rattle.monk_history.specs.Meaning.Step.{after, opening_situation};
+ghost use Rattle.monk_audit.specs.Reasons.{number_or_0};
 ghost use Rattle.monk_audit.specs.Replay.{IsReplayOf, replay_situation, seats_in};
 
+use crate::reason::Reason;
 use crate::replay::Replay;
 use monk_history::Event;
 use monk_kinds::Rules;
@@ -25,19 +27,25 @@ impl Replay {
         Replay::new(alloc, seats, conds)
     }
 
-    /// The first of the reasons 1 to 4 against an event, or 0. These don't ask what it chooses and
+    /// The first of the first four reasons against an event, if there is one. These don't ask what it chooses and
     /// what the object replies.
     #[inline(always)]
-    pub fn call_reason<T: Guarded>(&self, rules: Rules, object: &T, conds: u8, event: Event) -> u8
+    pub fn call_reason<T: Guarded>(
+        &self,
+        rules: Rules,
+        object: &T,
+        conds: u8,
+        event: Event,
+    ) -> Option<Reason>
         requires { IsReplayOf (seats_in self.now) conds T.PREDICATES self.now }
-        ensures { result ≡ reason_before 0 (monitor rules (seats_in self.now) conds T.meaning [])
+        ensures { number_or_0 result ≡ reason_before 0 (monitor rules (seats_in self.now) conds T.meaning [])
             (replay_situation self.now (T.state object.now)) event }
     {
         self.early_reason(rules, object, conds, event)
     }
 
-    /// Judges an event, and carries it out where no reason is against it. Gives the first reason,
-    /// or 0; where there is one, the replay is of no further use. The queues that may grow by it
+    /// Judges an event, and carries it out where no reason is against it. Gives the first
+    /// reason, if there is one; the replay is of no further use. The queues that may grow by it
     /// are the replay's own; `_alloc` says that they may.
     pub fn carry_out<T: Guarded>(
         &mut self,
@@ -46,13 +54,13 @@ impl Replay {
         object: &mut T,
         conds: u8,
         event: Event,
-    ) -> Result<u8, AllocError>
+    ) -> Result<Option<Reason>, AllocError>
         requires { IsReplayOf (seats_in self.old) conds T.PREDICATES self.old }
         ensures reason { IfOk result
-            (λ r. r ≡ reason_in (monitor rules (seats_in self.old) conds T.meaning [])
+            (λ r. number_or_0 r ≡ reason_in (monitor rules (seats_in self.old) conds T.meaning [])
             (replay_situation self.old (T.state object.old)) event) }
         ensures after { IfOk result
-            (λ r. r ≡ 0 → replay_situation self.new (T.state object.new) ≡ after T.meaning
+            (λ r. r ≡ None → replay_situation self.new (T.state object.new) ≡ after T.meaning
             (replay_situation self.old (T.state object.old)) event) }
         ensures sound { OnOk result (IsReplayOf (seats_in self.old) conds T.PREDICATES self.new) }
     {

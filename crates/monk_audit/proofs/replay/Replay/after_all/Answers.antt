@@ -9,6 +9,7 @@ use Rattle.monk_history.specs.declared.event.Event.TheVariants.{Enter}
 use Rattle.monk_history.specs.declared.event.Via.TheVariants.{Free}
 use Rattle.monk_audit.specs.Replay.{replay_situation}
 use Rattle.monk_audit.proofs.AuditLaws.{legal_take, no_reason, reason_here, stands_more}
+use Rattle.monk_audit.proofs.ReasonLaws.{none_by_number}
 use Rattle.monk_audit.proofs.replay.Replay.after_all.Goals as goal
 
 pub loop-event-init : goal.loop-event-init
@@ -37,7 +38,7 @@ loop-event-preserved g c =
     record {
       stands = stands_more m c.args.events.now c.loop-event.event-index _ _ _ c.loop-event-test.true
           (legal_take m c.args.events.now c.loop-event.event-index c.requires)
-          c.loop-event.invariant.stands (c.in_ok-judge.ensures.after none);
+          c.loop-event.invariant.stands (c.in_ok-judge.ensures.after (none_by_number _ none));
       seats = c.in_ok-judge.ensures.seats ∙ c.loop-event.invariant.seats;
       conds = c.in_ok-judge.ensures.conds ∙ c.loop-event.invariant.conds;
       preds = c.in_ok-judge.ensures.preds;

@@ -1,0 +1,37 @@
+-- The reasons against an event, by number and in words
+use Rattle.std.specs.Prelude.{ℕ, ◌==◌, List, Option, Some, None, codes, if◌then◌else◌}
+use Rattle.monk_audit.specs.declared.reason.Reason.{Reason}
+use Rattle.monk_audit.specs.declared.reason.Reason.TheVariants.{Range, Call, Turn, Place, Reply, Choice}
+
+-- the number of the test that the event fails
+abbrev pub number_of : Reason → ℕ
+number_of Range = 1
+number_of Call = 2
+number_of Turn = 3
+number_of Place = 4
+number_of Reply = 5
+number_of Choice = 6
+
+-- the number of the first test that an event fails, or 0 where it fails none
+abbrev pub number_or_0 : Option Reason → ℕ
+number_or_0 None = 0
+number_or_0 (Some reason) = number_of reason
+
+-- the reason of that number; of a number that no reason has, the last
+abbrev pub numbered : ℕ → Reason
+numbered n =
+    if n == 1 then Range
+    else if n == 2 then Call
+    else if n == 3 then Turn
+    else if n == 4 then Place
+    else if n == 5 then Reply
+    else Choice
+
+-- a reason in a word
+abbrev pub word_of : Reason → List ℕ
+word_of Range = codes "range"
+word_of Call = codes "call"
+word_of Turn = codes "turn"
+word_of Place = codes "place"
+word_of Reply = codes "reply"
+word_of Choice = codes "choice"

@@ -1,0 +1,65 @@
+//! The reasons against an event.
+
+ghost use Rattle.std.specs.Prelude.{◌≡◌};
+ghost use Rattle.monk_audit.specs.Reasons.{number_of, numbered, word_of};
+
+/// Why an event is not allowed: the first of six tests that it fails, in the order in which they are made.
+#[derive(Clone, Copy, Debug, PartialEq, Eq)]
+pub enum Reason {
+    /// A seat, a condition, a predicate or a code is out of range.
+    Range,
+    /// The kind of monitor has no such call.
+    Call,
+    /// It is not the turn of this event.
+    Turn,
+    /// The task is inside already, or may not enter in this way.
+    Place,
+    /// The reply is not the object's.
+    Reply,
+    /// The priorities don't permit what the event chose.
+    Choice,
+}
+
+impl Reason {
+    /// Its number, 1 to 6: which of the tests it is.
+    pub fn number(self) -> u8
+        ensures { result ≡ number_of self }
+    {
+        match self {
+            Reason::Range => 1,
+            Reason::Call => 2,
+            Reason::Turn => 3,
+            Reason::Place => 4,
+            Reason::Reply => 5,
+            Reason::Choice => 6,
+        }
+    }
+
+    /// The reason of that number; of a number that no reason has, the last.
+    pub fn numbered(number: u8) -> Reason
+        ensures { result ≡ numbered number }
+    {
+        match number {
+            1 => Reason::Range,
+            2 => Reason::Call,
+            3 => Reason::Turn,
+            4 => Reason::Place,
+            5 => Reason::Reply,
+            _ => Reason::Choice,
+        }
+    }
+
+    /// Its word, as in the line of an audit.
+    pub fn as_str(self) -> &'static str
+        ensures { result.now ≡ word_of self }
+    {
+        match self {
+            Reason::Range => "range",
+            Reason::Call => "call",
+            Reason::Turn => "turn",
+            Reason::Place => "place",
+            Reason::Reply => "reply",
+            Reason::Choice => "choice",
+        }
+    }
+}
