@@ -10,3 +10,5 @@ pub use Rattle.monk_audit.proofs.AuditLaws.{stands_more}
 pub use Rattle.monk_audit.proofs.VerdictLaws.{is_verdict}
 -- Whether an event may choose what it chose, of queues that are told, and of the ready seats the first
 pub use Rattle.monk_audit.proofs.NextLaws.{permits_is}
+-- The reason of a first fault, by its number
+pub use Rattle.monk_audit.proofs.ReasonLaws.{fault_again}

@@ -1,6 +1,6 @@
 -- What a reason says of an event, and a first fault of a history
 use Rattle.std.proofs.Common.{◌≡◌, ◌≢◌, ℕ, Bool, true, false, cond, not, List, [], Some, None}
-use Rattle.std.proofs.Common.{refl, sym, ap, subst, ◌∙◌}
+use Rattle.std.proofs.Common.{◌⊎◌, ◌≤◌, inl, inr, refl, sym, ap, subst, arith, ◌∙◌}
 use Rattle.std.specs.Prelude.{◌==◌}
 use Rattle.std.proofs.lemmas.Bool.{ne_eqb}
 use Rattle.monk_kinds.specs.declared.mode.Rules.{Rules}
@@ -19,6 +19,9 @@ use Rattle.monk_kinds.specs.Names.{rules_named}
 use Rattle.monk_history.specs.Text.{Heading}
 use Rattle.monk_history.specs.Meaning.Named.{named_monitor}
 use Rattle.monk_audit.specs.declared.verdict.Verdict.{Verdict}
+use Rattle.monk_audit.specs.declared.reason.Reason.{Reason}
+use Rattle.monk_audit.specs.declared.reason.Reason.TheVariants as reasons
+use Rattle.monk_audit.specs.Reasons.{number_of}
 use Rattle.monk_audit.specs.Verdict.{IsVerdict, verdict_of}
 use Rattle.monk_audit.proofs.PublicLaws.{is_verdict}
 use Rattle.monk_tell.specs.Cause.{early_cause, no_entry, out_of_turn, waits_at}
@@ -92,26 +95,17 @@ over_is h o size d es v is same made found =
     subst (λ (m : Monitor). IsVerdict m es v) (sym (made_named h o size d is same made))
     (subst (IsVerdict (named_monitor h) es) (sym found) (is_verdict (named_monitor h) es))
 
-abbrev pub blamed_as : ℕ → Event → Why → Blamed
-blamed_as step e why = record { step = step; event = e; reply = None; choice = None; why = why }
-
--- what is wrong with an event that fails one of the first four tests
-pub early_blamed : (kind : KindName) (k : Rules) (seats conds : ℕ) (o : Object) (t : Situation)
-    (step reason : ℕ) (e : Event)
-    (why : Why) → reason ≢ 6 → reason ≢ 5
-    → why ≡ early_cause kind seats conds t reason e
-    → blamed_as step e why ≡ blame_of_event kind k seats conds o t step reason e
-early_blamed kind k seats conds o t step reason e why no_choice no_reply is =
-    let choice : (reason == 6) ≡ false = ne_eqb reason 6 no_choice in
-    let reply : (reason == 5) ≡ false = ne_eqb reason 5 no_reply in
-    rw (choice, reply) (ap (blamed_as step e) is)
-
 -- why it is not the turn of an event's seat, and why it may not enter, as causes by their reasons
 pub turn_caused : (kind : KindName) (seats conds : ℕ) (t : Situation) (reason : ℕ) (e : Event) (why : Why) → reason ≡ 3
     → why ≡ out_of_turn (waits_at t.condition conds (seat_of e)) t.turn (seat_of e)
     → why ≡ early_cause kind seats conds t reason e
 turn_caused kind seats conds t reason e why three is =
     is ∙ ap (λ (r : ℕ). early_cause kind seats conds t r e) (sym three)
+
+pub at_place : (r : Reason) → (r ≡ reasons.Place) ⊎ ((r ≡ reasons.Reply) ⊎ (r ≡ reasons.Choice)) → 4 ≤ number_of r
+at_place r (inl a) = let n : number_of r ≡ 4 = ap number_of a in omega (arith, n)
+at_place r (inr (inl a)) = let n : number_of r ≡ 5 = ap number_of a in omega (arith, n)
+at_place r (inr (inr a)) = let n : number_of r ≡ 6 = ap number_of a in omega (arith, n)
 
 pub place_caused : (kind : KindName) (seats conds : ℕ) (t : Situation) (reason : ℕ) (e : Event) (why : Why) → reason ≢ 1
     → reason ≢ 2 → reason ≢ 3 → why ≡ Place (no_entry (t.inside (seat_of e)) (via_of e) (seat_of e))

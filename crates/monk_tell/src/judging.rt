@@ -3,6 +3,7 @@
 ghost use Rattle.std.specs.Prelude.{◌≡◌, ◌<◌, [], true, All, IfOk};
 ghost use Rattle.monk_history.specs.Meaning.Monitor.{monitor};
 ghost use Rattle.monk_history.specs.Meaning.Reasons.{fits_object, reason_in};
+ghost use Rattle.monk_audit.specs.Reasons.{number_of};
 ghost use Rattle.monk_audit.specs.Replay.{replay_situation};
 ghost use Rattle.monk_tell.specs.Cause.{choice_cause, own_reply};
 ghost use Rattle.monk_tell.specs.Told.{blame_of, blame_of_event, choice_of, chosen_at};
@@ -14,7 +15,7 @@ use crate::permitted::choice_from;
 use crate::sentences::{early, wrong_choice, wrong_reply};
 use crate::waiting::still_waits;
 use crate::why::Why;
-use monk_audit::{Replay, Verdict};
+use monk_audit::{Reason, Replay};
 use monk_history::{Event, Header};
 use monk_kinds::Rules;
 use monk_object::Guarded;
@@ -65,41 +66,43 @@ pub(crate) fn blame<T: Guarded>(
     replay: &Replay,
     object: &mut T,
     step: u32,
-    reason: u8,
+    reason: Reason,
     event: Event,
 ) -> Result<Blame, AllocError>
     requires preds { All (λ w. w.1 < T.PREDICATES) (replay_situation replay.now (T.state object.old)).untils }
-    requires reason { reason ≡ reason_in (monitor rules header.now.seats header.now.conds T.meaning [])
+    requires reason { number_of reason ≡ reason_in (monitor rules header.now.seats header.now.conds T.meaning [])
         (replay_situation replay.now (T.state object.old)) event }
     ensures { IfOk result
         (λ b. blame_of b ≡ blame_of_event header.now.kind rules header.now.seats header.now.conds T.meaning
-        (replay_situation replay.now (T.state object.old)) step reason event) }
+        (replay_situation replay.now (T.state object.old)) step (number_of reason) event) }
 {
-    if reason == Verdict::CHOICE {
-        let (choice, why) = choice(alloc, header, rules, replay, object, event)?;
-        return Ok(Blame {
+    match reason {
+        Reason::Choice => {
+            let (choice, why) = choice(alloc, header, rules, replay, object, event)?;
+            Ok(Blame {
+                step,
+                event,
+                reply: None,
+                choice: Some(choice),
+                why,
+            })
+        }
+        Reason::Reply => {
+            let reply = own_reply(object, event);
+            Ok(Blame {
+                step,
+                event,
+                reply,
+                choice: None,
+                why: wrong_reply(reply, event),
+            })
+        }
+        Reason::Range | Reason::Call | Reason::Turn | Reason::Place => Ok(Blame {
             step,
             event,
             reply: None,
-            choice: Some(choice),
-            why,
-        });
-    }
-    if reason == Verdict::REPLY {
-        let reply = own_reply(object, event);
-        return Ok(Blame {
-            step,
-            event,
-            reply,
             choice: None,
-            why: wrong_reply(reply, event),
-        });
+            why: early(alloc, header, replay, reason, event)?,
+        }),
     }
-    Ok(Blame {
-        step,
-        event,
-        reply: None,
-        choice: None,
-        why: early(alloc, header, replay, reason, event)?,
-    })
 }

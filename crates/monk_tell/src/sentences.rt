@@ -2,6 +2,7 @@
 
 ghost use Rattle.std.specs.Prelude.{◌≡◌, [], IfOk};
 ghost use Rattle.monk_history.specs.Meaning.Events.{seat_of, via_of};
+ghost use Rattle.monk_audit.specs.Reasons.{number_of};
 ghost use Rattle.monk_audit.specs.Replay.{replay_situation};
 ghost use Rattle.monk_tell.specs.Cause.{behind_first, call_beyond, caller_or_none, chosen_beyond, early_cause, has_to_stay};
 ghost use Rattle.monk_tell.specs.Cause.{is_first, may_not_admit, may_not_choose, may_not_continue, may_not_recall};
@@ -11,7 +12,7 @@ ghost use Rattle.monk_tell.specs.Cause.{other_turn, out_of_turn, signaller_yield
 use crate::firsts::Firsts;
 use crate::waiting::waits_at;
 use crate::why::{OutOfPlace, OutOfRange, OutOfTurn, Precedence, Staying, Why};
-use monk_audit::{Replay, Verdict};
+use monk_audit::{Reason, Replay};
 use monk_history::{Event, From3, Header, Next, Turn, Via};
 use monk_kinds::{KindName, Mode, Rules};
 use std::alloc::{AllocError, Global};
@@ -100,22 +101,23 @@ pub(crate) fn early(
     alloc: Global,
     header: &Header,
     replay: &Replay,
-    reason: u8,
+    reason: Reason,
     event: Event,
 ) -> Result<Why, AllocError>
     ensures { IfOk result (λ w. w ≡ early_cause header.now.kind header.now.seats header.now.conds
-        (replay_situation replay.now []) reason event) }
+        (replay_situation replay.now []) (number_of reason) event) }
 {
     let seat = event.seat();
-    if reason == Verdict::RANGE {
-        Ok(Why::Range(number_beyond(header.seats(), header.conds(), event)))
-    } else if reason == Verdict::CALL {
-        Ok(Why::Call(header.kind()))
-    } else if reason == Verdict::TURN {
-        let waits = waits_at(alloc, replay, header.conds(), seat)?;
-        Ok(out_of_turn(waits, replay.turn(), seat))
-    } else {
-        Ok(Why::Place(no_entry(replay.is_inside(seat), event)))
+    match reason {
+        Reason::Range => Ok(Why::Range(number_beyond(header.seats(), header.conds(), event))),
+        Reason::Call => Ok(Why::Call(header.kind())),
+        Reason::Turn => {
+            let waits = waits_at(alloc, replay, header.conds(), seat)?;
+            Ok(out_of_turn(waits, replay.turn(), seat))
+        }
+        Reason::Place | Reason::Reply | Reason::Choice => {
+            Ok(Why::Place(no_entry(replay.is_inside(seat), event)))
+        }
     }
 }
 

@@ -13,7 +13,7 @@ ghost use Rattle.monk_tell.specs.Told.{account, account_by, shown_after, situati
 use crate::judging::blame;
 use crate::situation::Situation;
 use crate::telling::Telling;
-use monk_audit::{AuditFault, Replay, Verdict, audit, rules_by_name};
+use monk_audit::{AuditFault, Reason, Replay, Verdict, audit, rules_by_name};
 use monk_history::{Event, Header};
 use monk_object::{Book, Buffer, Flags, Listed, ObjectName, Shop};
 use std::alloc::{AllocError, Global};
@@ -98,7 +98,7 @@ fn tell_forbidden<T: Listed>(
         &replay,
         &mut object,
         step,
-        reason,
+        Reason::numbered(reason),
         event,
     )?;
     Ok(Telling {

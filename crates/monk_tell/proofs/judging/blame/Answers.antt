@@ -1,26 +1,20 @@
-use Rattle.std.proofs.Common.{◌∙◌, sym, [], arith}
+use Rattle.std.proofs.Common.{◌∙◌, ap, sym, [], arith}
 use Rattle.monk_history.specs.Meaning.Monitor.{monitor}
+use Rattle.monk_audit.specs.Reasons.{number_of}
 use Rattle.monk_audit.specs.Replay.{replay_situation}
-use Rattle.monk_tell.proofs.TellLaws.{early_blamed, in_range_fits}
+use Rattle.monk_tell.proofs.TellLaws.{in_range_fits}
 use Rattle.monk_tell.proofs.judging.blame.Goals as goal
 
 pub choice-requires-clause-fits : goal.choice-requires-clause-fits
 choice-requires-clause-fits g c κs within =
     in_range_fits (monitor c.args.rules c.args.header.now.seats c.args.header.now.conds g.T.Guarded.meaning [])
     (replay_situation c.args.replay.now (g.T.Guarded.state c.args.object.now)) c.args.event 6 _ _
-    (sym c.requires.reason ∙ c.if-reason-eq-CHOICE.true) (λ one. omega (arith, one))
+    (sym c.requires.reason ∙ ap number_of c.in-Choice.is) (λ one. omega (arith, one))
     g.T.Guarded.codes g.T.Guarded.predicates
 
 pub own_reply-reply-requires-after_bounds : goal.own_reply-reply-requires-after_bounds
 own_reply-reply-requires-after_bounds g c κs within =
     in_range_fits (monitor c.args.rules c.args.header.now.seats c.args.header.now.conds g.T.Guarded.meaning [])
     (replay_situation c.args.replay.now (g.T.Guarded.state c.args.object.now)) c.args.event 5 _ _
-    (sym c.requires.reason ∙ c.if-reason-eq-REPLY.true) (λ one. omega (arith, one))
+    (sym c.requires.reason ∙ ap number_of c.in-Reply.is) (λ one. omega (arith, one))
     g.T.Guarded.codes g.T.Guarded.predicates
-
-pub returns : goal.returns
-returns g c =
-    let h = c.args.header.now in
-    let t = replay_situation c.args.replay.now (g.T.Guarded.state c.args.object.now) in
-    early_blamed h.kind c.args.rules h.seats h.conds g.T.Guarded.meaning t c.args.step c.args.reason c.args.event
-    c.in_ok-early.field-0 c.if-reason-eq-CHOICE.false c.if-reason-eq-REPLY.false c.in_ok-early.ensures

@@ -7,7 +7,9 @@ use Rattle.monk_history.specs.Meaning.Legal.{IsLegal}
 use Rattle.monk_history.specs.Meaning.Monitor.{monitor}
 use Rattle.monk_history.specs.Meaning.Reasons.{reason_in}
 use Rattle.monk_history.specs.Meaning.Situation.{situation}
+use Rattle.monk_audit.specs.Reasons.{number_of}
 use Rattle.monk_audit.specs.Replay.{replay_situation}
+use Rattle.monk_audit.proofs.PublicLaws.{fault_again}
 use Rattle.monk_history.specs.Meaning.Situation.{Situation}
 use Rattle.monk_kinds.specs.declared.mode.Rules.{Rules}
 use Rattle.monk_audit.specs.declared.verdict.Verdict.TheVariants.{Forbidden}
@@ -41,7 +43,8 @@ blame-requires-clause-reason g c κs within =
     ap (λ (n : ℕ). get_or c.args.events.now n (Enter 0 Free)) (sym at)
     ∙ get_or_from_slice_get c.args.events.now c.requires.before c.requires.fault (Enter 0 Free) c.requires.is_there in
     rw (c.rules_by_name-rules.ensures ∙ ap rules_named c.kind.ensures, c.in_ok-replay.ensures.stands, there)
-    (sym c.requires.applies ∙ ap (λ (n : ℕ). reason_in m (situation m (take n c.args.events.now)) c.requires.fault) at
+    (ap number_of c.numbered.ensures ∙ fault_again _ _ _ _ c.requires
+    ∙ sym c.requires.applies ∙ ap (λ (n : ℕ). reason_in m (situation m (take n c.args.events.now)) c.requires.fault) at
     ∙ reason_opening rules c.args.header.now.seats c.args.header.now.conds o (g.T.Guarded.state c.args.object)
     (situation m (take (c.args.step - 1) c.args.events.now)) c.requires.fault)
 
@@ -54,6 +57,9 @@ returns g c =
     let event = get_or c.args.events.now (c.args.step - 1) (Enter 0 Free) in
     same_told (Forbidden c.args.step c.args.reason) _ _ _ _ c.in_ok-replay.ensures.shown
     (c.in_ok-blame.ensures
+    ∙ ap (λ (r : ℕ). blame_of_event h.kind c.rules_by_name-rules.result h.seats h.conds o
+    (replay_situation c.in_ok-replay.replay (g.T.Guarded.state c.standing.new.object)) c.args.step r event)
+    (ap number_of c.numbered.ensures ∙ fault_again _ _ _ _ c.requires)
     ∙ ap (λ (k : Rules). blame_of_event h.kind k h.seats h.conds o (replay_situation c.in_ok-replay.replay
     (g.T.Guarded.state c.standing.new.object)) c.args.step c.args.reason event)
     (c.rules_by_name-rules.ensures ∙ ap rules_named c.kind.ensures)
