@@ -3,12 +3,10 @@
 -- What a verdict says of a history
 pub use Rattle.monk_audit.proofs.AuditLaws.{is_fault, is_legal}
 -- The events before one of a legal history are legal, and against it is no reason
-pub use Rattle.monk_audit.proofs.AuditLaws.{legal_take, no_reason, reason_here}
+pub use Rattle.monk_audit.proofs.AuditLaws.{legal_take, no_reason}
 -- How a monitor stands after one event more of a history
 pub use Rattle.monk_audit.proofs.AuditLaws.{stands_more}
 -- The verdict that every history has
 pub use Rattle.monk_audit.proofs.VerdictLaws.{is_verdict}
--- Whether an event may choose what it chose, of queues that are told, and of the ready seats the first
-pub use Rattle.monk_audit.proofs.NextLaws.{permits_is}
 -- The reason of a first fault, by its number
 pub use Rattle.monk_audit.proofs.ReasonLaws.{fault_again}

@@ -1,5 +1,5 @@
 -- What a reason says of an event, and a first fault of a history
-use Rattle.std.proofs.Common.{◌≡◌, ◌≢◌, ℕ, Bool, true, false, cond, not, List, [], Some, None}
+use Rattle.std.proofs.Common.{◌≡◌, ◌≢◌, ℕ, Bool, true, false, cond, not, List, [], Some}
 use Rattle.std.proofs.Common.{◌⊎◌, ◌≤◌, inl, inr, refl, sym, ap, subst, arith, ◌∙◌}
 use Rattle.std.specs.Prelude.{◌==◌}
 use Rattle.std.proofs.lemmas.Bool.{ne_eqb}
@@ -25,7 +25,7 @@ use Rattle.monk_audit.specs.Reasons.{number_of}
 use Rattle.monk_audit.specs.Verdict.{IsVerdict, verdict_of}
 use Rattle.monk_audit.proofs.PublicLaws.{is_verdict}
 use Rattle.monk_tell.specs.Cause.{early_cause, no_entry, out_of_turn, waits_at}
-use Rattle.monk_tell.specs.Told.{Blamed, Shown, ShownQueues, ShownStanding, ShownSteps, Account, blame_of_event}
+use Rattle.monk_tell.specs.Told.{Blamed, Shown, ShownQueues, ShownStanding, ShownSteps, Account}
 use Rattle.monk_tell.specs.declared.why.Why.{Why}
 use Rattle.monk_tell.specs.declared.why.Why.TheVariants.{Place}
 

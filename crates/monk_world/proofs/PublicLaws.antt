@@ -21,6 +21,6 @@ pub use Rattle.monk_world.proofs.RunLaws.{well_led}
 -- A step with the floor, which lets the history grow by one event, keeps a state sound
 pub use Rattle.monk_world.proofs.SoundFloor.{stays}
 -- From tests to facts, and back
-pub use Rattle.monk_world.proofs.TestLaws.{names_chosen, some_above}
+pub use Rattle.monk_world.proofs.TestLaws.{names_chosen}
 -- From what the words and the floor did to a step of the state
 pub use Rattle.monk_world.proofs.WorldLaws.{active_is, opening_kept}

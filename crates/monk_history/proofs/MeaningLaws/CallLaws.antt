@@ -3,7 +3,7 @@ use Rattle.std.proofs.Common.{◌≡◌, ℕ, ◌+◌, ◌<◌, Bool, true, fals
 use Rattle.std.specs.Prelude.{nat_lt}
 use Rattle.monk_history.specs.Meaning.Monitor.{Monitor, data_of}
 use Rattle.monk_history.specs.Meaning.Situation.{Situation, situation}
-use Rattle.monk_history.specs.Meaning.Events.{has_conditions, has_signaller_queue, returns_at_once, is_non_blocking}
+use Rattle.monk_history.specs.Meaning.Events.{has_conditions, has_signaller_queue, returns_at_once}
 use Rattle.monk_history.specs.Meaning.Turn.{turn, is_inside}
 use Rattle.monk_history.specs.Meaning.Signallers.{is_empty}
 use Rattle.monk_history.specs.Meaning.Untils.{untils, ready_of}
@@ -12,7 +12,7 @@ use Rattle.monk_history.specs.Meaning.Reasons.{is_owned_by, is_open}
 use Rattle.monk_history.specs.Meaning.Standing.{has_turn, in_queues, is_queued, IsPlaced}
 use Rattle.monk_history.specs.Meaning.Release.{MayCall}
 use Rattle.monk_history.specs.declared.event.Event.{Event}
-use Rattle.monk_history.specs.declared.event.Event.TheVariants.{Enter, Leave, Wait, Signal, SignalLeave, Until, SignalAll, SignalWait}
+use Rattle.monk_history.specs.declared.event.Event.TheVariants.{Enter, Leave, Wait, Signal, SignalLeave, Until, SignalWait}
 use Rattle.monk_history.specs.declared.event.Next.TheVariants.{Stay}
 use Rattle.monk_history.specs.declared.event.Turn.{Turn}
 use Rattle.monk_history.specs.declared.event.Turn.TheVariants.{Open, Owned}
@@ -77,17 +77,6 @@ may_signal_on m h s c t l k o =
 pub may_signal_leave : (m : Monitor) (h : List Event) (s c : ℕ) → turn h ≡ Owned s → s < m.seats → c < m.conds
     → returns_at_once m.kind.mode ≡ true → MayCall m h (SignalLeave s c Stay)
 may_signal_leave m h s c t l k o =
-    record {
-      in_range = seat_then _ _ (lt_is s m.seats l) (lt_is c m.conds k);
-      offered = o;
-      in_turn =
-          owned s (turn h) t;
-      in_place = refl;
-    }
-
-pub may_signal_all : (m : Monitor) (h : List Event) (s c : ℕ) → turn h ≡ Owned s → s < m.seats → c < m.conds
-    → is_non_blocking m.kind.mode ≡ true → MayCall m h (SignalAll s c)
-may_signal_all m h s c t l k o =
     record {
       in_range = seat_then _ _ (lt_is s m.seats l) (lt_is c m.conds k);
       offered = o;

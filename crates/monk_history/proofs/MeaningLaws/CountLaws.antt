@@ -64,11 +64,6 @@ length_total n (x ∷ xs) h =
     (λ l. absurd (omega (arith, h x l, times_self x xs)))
     (cases_lt x n)
 
--- a list in which each seat stands at most once, one of them not at all, is shorter than there are seats
-pub length_few : (n i : ℕ) (xs : List ℕ) → i < n → ((s : ℕ) → n ≤ s → times s xs ≡ 0) → ((s : ℕ) → times s xs ≤ 1)
-    → times i xs ≡ 0 → length xs < n
-length_few n i xs l h few none = omega (arith, length_total n xs h, total_rest n 1 i (λ s. times s xs) l few)
-
 filter_one : (b : Bool) (e : Event) (es ds : List Event) → cond b (e ∷ (es ++ ds)) (es ++ ds) ≡ cond b (e ∷ es) es ++ ds
 filter_one true e es ds = refl
 filter_one false e es ds = refl

@@ -1,6 +1,6 @@
 -- A call that may be made, with the choice by the wish rules, is allowed; and who stands in the queues
 use Rattle.std.proofs.Common.{◌≡◌, ℕ, ◌+◌, ◌<◌, ◌≤◌, zero, suc, Bool, true, false, cond, ◌&&◌, ◌||◌, not, ◌==◌, Option, Some, None}
-use Rattle.std.proofs.Common.{List, [], ◌∷◌, ◌++◌, length, take, drop, refl, sym, ap, subst, ◌∙◌, arith, map, ⊎_elim}
+use Rattle.std.proofs.Common.{List, [], ◌∷◌, ◌++◌, take, drop, refl, sym, ap, subst, ◌∙◌, arith, map, ⊎_elim}
 use Rattle.std.specs.Prelude.{filter, nat_lt, is_some}
 use Rattle.std.specs.Option.{option_map_or}
 use Rattle.std.specs.List.{list_all}
@@ -43,7 +43,6 @@ use Rattle.monk_history.proofs.MeaningLaws.StepLaws.{situation-none, legal_situa
 use Rattle.monk_history.proofs.MeaningLaws.TestLaws.{and_left, and_right}
 use Rattle.monk_history.proofs.MeaningLaws.WishLaws.{IsQueuesOf, choice_permitted, signal_permitted}
 use Rattle.monk_history.proofs.MeaningLaws.StandingLaws.{times-append, times_served, legal_placed}
-use Rattle.monk_history.proofs.MeaningLaws.CountLaws.{length_few}
 
 -- what holds of the situation before any event, and is kept by what is allowed, holds of each legal history
 pub legal_induction : (m : Monitor) (P : Situation → Type 0) → P (situation m [])
@@ -332,40 +331,6 @@ caller_apart m t e p = by_source (via_of e) (source_of e)
     by_source (Some via) r h k = apart_outside m.conds (seat_of e) t p (and_left _ _ k)
     by_source None (Some q) h k = apart_turn m.conds (seat_of e) t p (due_once (seat_of e) q t.turn h)
     by_source None None h k = apart_turn m.conds (seat_of e) t p (owned_once (seat_of e) t.turn h)
-
--- no queue is full
-pub record HasRoom (seats conds : ℕ) (t : Situation) : Type 0 where
-  pub conditions : (c : ℕ) → c < conds → length (t.condition c) < seats
-  pub waiters : length t.waiters < seats
-  pub signallers : length t.signallers < seats
-  pub untils : length t.untils < seats
-
-outside_none : (b : Bool) (P : Type 0) → (b ≡ true → ⊥) → ◌≡◌ {A = ℕ} (cond b 1 0) 0
-outside_none true P h = absurd (h refl)
-outside_none false P h = refl
-
-far_none : (seats s : ℕ) (t : Situation) → IsSeated seats t → seats ≤ s → ◌≡◌ {A = ℕ} (cond (t.inside s) 1 0) 0
-far_none seats s t i l = outside_none (t.inside s) (Unit {0}) (λ b. let k = i s b in omega (arith, k, l))
-
-length_seats : (us : List (ℕ × ℕ)) → length (map (λ w. w.0) us) ≡ length us
-length_seats [] = refl
-length_seats (u ∷ us) = ap suc (length_seats us)
-
-pub room_for : (m : Monitor) (t : Situation) (i : ℕ) → i < m.seats → IsPlaced m.conds t → IsSeated m.seats t
-    → IsApart m.conds i t → HasRoom m.seats m.conds t
-room_for m t i l p s a = record {
-  conditions = λ c k. length_few m.seats i (t.condition c) l
-      (λ j n. omega (arith, p j, far_none m.seats j t s n, times_le_conditions m.conds j c t.condition k))
-      (λ j. omega (arith, p j, cond_le_one (t.inside j), times_le_conditions m.conds j c t.condition k))
-      (omega (arith, a.conditions, times_le_conditions m.conds i c t.condition k));
-  waiters = length_few m.seats i t.waiters l (λ j n. omega (arith, p j, far_none m.seats j t s n))
-      (λ j. omega (arith, p j, cond_le_one (t.inside j))) a.waiters;
-  signallers = length_few m.seats i t.signallers l (λ j n. omega (arith, p j, far_none m.seats j t s n))
-      (λ j. omega (arith, p j, cond_le_one (t.inside j))) a.signallers;
-  untils = subst (λ n. n < m.seats) (length_seats t.untils)
-      (length_few m.seats i (map (λ w. w.0) t.untils) l (λ j n. omega (arith, p j, far_none m.seats j t s n))
-      (λ j. omega (arith, p j, cond_le_one (t.inside j))) a.untils);
-}
 
 -- whoever stands in a queue of a release is a seat
 pub serves_times : (n : ℕ) (q : ℕ → List ℕ) (e : Event) (j : ℕ) → is_condition n (signals_on e) ≡ true

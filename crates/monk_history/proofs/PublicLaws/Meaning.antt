@@ -4,8 +4,8 @@
 -- The acts of a legal history are a run of its object, so that the laws of the object hold of them
 pub use Rattle.monk_history.proofs.MeaningLaws.ActLaws.{excludes, in_order, serves_each}
 -- What a caller knows of the turn lets it call; and who is queued
-pub use Rattle.monk_history.proofs.MeaningLaws.CallLaws.{may_enter_free, may_enter_handed, may_leave}
-pub use Rattle.monk_history.proofs.MeaningLaws.CallLaws.{may_signal_all, may_signal_leave, may_signal_on}
+pub use Rattle.monk_history.proofs.MeaningLaws.CallLaws.{may_leave}
+pub use Rattle.monk_history.proofs.MeaningLaws.CallLaws.{may_signal_leave, may_signal_on}
 pub use Rattle.monk_history.proofs.MeaningLaws.CallLaws.{may_signal_wait, may_until, may_wait}
 pub use Rattle.monk_history.proofs.MeaningLaws.CallLaws.{queued_is}
 -- A condition's queue after one event more
@@ -25,15 +25,15 @@ pub use Rattle.monk_history.proofs.MeaningLaws.LegalLaws.{legal_front, legal_las
 -- What a mode does to the choice
 pub use Rattle.monk_history.proofs.MeaningLaws.ModeLaws.{blocking, non_blocking}
 -- Where seats stand after one event more, and what is counted
-pub use Rattle.monk_history.proofs.MeaningLaws.MoveLaws.{caller_unqueued, counts_after, queued_once, stands_after}
+pub use Rattle.monk_history.proofs.MeaningLaws.MoveLaws.{caller_unqueued, counts_after, stands_after}
 -- The choice along the path of a mode is the choice by the wish rules
 pub use Rattle.monk_history.proofs.MeaningLaws.PathLaws.{equal_path, quasi_blocking, ready_path, served_path}
 pub use Rattle.monk_history.proofs.MeaningLaws.PathLaws.{signal_stays, signaller_path, waiter_path}
 -- Entry is chosen past nobody, unless somebody is known to wait for it
 pub use Rattle.monk_history.proofs.MeaningLaws.QuietLaws.{quiet_after}
 -- A call that may be made, with the choice by the wish rules, is allowed; and who stands in the queues
-pub use Rattle.monk_history.proofs.MeaningLaws.ReleaseLaws.{HasRoom, IsInOrder, IsSeated, caller_apart}
-pub use Rattle.monk_history.proofs.MeaningLaws.ReleaseLaws.{chosen_allowed, legal_order, legal_seated, room_for}
+pub use Rattle.monk_history.proofs.MeaningLaws.ReleaseLaws.{IsInOrder, IsSeated}
+pub use Rattle.monk_history.proofs.MeaningLaws.ReleaseLaws.{chosen_allowed, legal_order, legal_seated}
 pub use Rattle.monk_history.proofs.MeaningLaws.ReleaseLaws.{seat_in_range, times_le_conditions}
 -- The front of the signaller queue
 pub use Rattle.monk_history.proofs.MeaningLaws.SignallerLaws.{front_is_taken}
@@ -42,7 +42,7 @@ pub use Rattle.monk_history.proofs.MeaningLaws.StandingLaws.{legal_placed}
 -- The situation after one event more
 pub use Rattle.monk_history.proofs.MeaningLaws.StepLaws.{joins_in_range, legal_situation-push, same_situation, situation-none}
 -- The sum of a weight over a history, seat by seat
-pub use Rattle.monk_history.proofs.MeaningLaws.SumLaws.{AreDistinct, length-sum_by, no_rest, rest_has, rest_of, same_sums}
+pub use Rattle.monk_history.proofs.MeaningLaws.SumLaws.{AreDistinct, length-sum_by, rest_has, rest_of, same_sums}
 pub use Rattle.monk_history.proofs.MeaningLaws.SumLaws.{sum_by_all_seats, sum_by_seats}
 -- Tests joined, and fronts of queues
 pub use Rattle.monk_history.proofs.MeaningLaws.TestLaws.{and_left, and_right}

@@ -1,7 +1,7 @@
 -- What other crates may cite of the words and lines of a text.
 
 -- The words of an act are what is read as one, and the act that they say is read again.
-pub use Rattle.monk_history.proofs.TextLaws.EventReading.{act_words, act_again, act_takes}
+pub use Rattle.monk_history.proofs.TextLaws.EventReading.{act_again, act_takes}
 -- What is read as a header is how it is written, and a header that is written is read again.
 pub use Rattle.monk_history.proofs.TextLaws.HeaderReading.{object_again, parts_again, parts_take}
 -- The laws of the text of a history: what is read has that text, and what has a text is read from it.
