@@ -1,5 +1,5 @@
 -- What is counted of the lines to come, one line after the other
-use Rattle.std.proofs.Common.{◌≡◌, ℕ, ◌+◌, Bool, List, [], ◌∷◌, refl, sym, ap, ◌∙◌}
+use Rattle.std.proofs.Common.{◌≡◌, ℕ, ◌+◌, Bool, true, false, List, [], ◌∷◌, refl, sym, ap, ◌∙◌}
 use Rattle.std.specs.Prelude.{◌&&◌, Result, Ok, Err}
 use Rattle.monk_kinds.specs.declared.mode.Rules.{Rules}
 use Rattle.monk_object.specs.Object.{Object}
@@ -8,13 +8,12 @@ use Rattle.monk_logs.specs.Board.{Board, opening_board}
 use Rattle.monk_logs.specs.BoardCourse.{BoardCourse, board_course, board_settled}
 use Rattle.monk_logs.specs.BoardShown.{course_or}
 use Rattle.monk_logs.specs.Counts.{Counted, count_state, counts_at, counts_from, counts_of, items_now, lacks_some_signal, lets_go}
-use Rattle.monk_logs.specs.Counts.{nothing_tallied, tally_after, then_or, with_line, woken_among, woken_now}
+use Rattle.monk_logs.specs.Counts.{nothing_tallied, tally_after, then_or, with_line, woken_now}
 use Rattle.monk_logs.specs.ReadStand.{board_read_over, read_over}
 use Rattle.monk_logs.specs.declared.blame.Blame.{Blame}
 use Rattle.monk_logs.specs.declared.blame.LineVerdict.{LineVerdict}
 use Rattle.monk_logs.specs.declared.blame.LineVerdict.TheVariants as line
 use Rattle.monk_logs.specs.declared.counts.Counts.{Counts}
-use Rattle.monk_logs.specs.declared.board.item.Item.{Item}
 use Rattle.monk_logs.specs.declared.lapses.Lapses.TheVariants.{Allowed}
 use Rattle.monk_logs.specs.declared.text.line.LogLine.{LogLine}
 use Rattle.monk_logs.specs.declared.order.Order.TheVariants.{Any}
@@ -71,20 +70,21 @@ module _ (m : Monitor) (means : List WaitsFor) where
       → counts_at s ≡ v
   count_ends left n s v is none = sym (from_end n s) ∙ sym (ap (counts_from m means n s) none) ∙ is
 
--- ---- what is counted of a line, by the items before it and behind it
+-- ---- what is counted of a line, by who waits before it and behind it
+
+-- of two things the one that is open decides
+pub where_so : (a x : Bool) → a ≡ true → x ≡ (a && x)
+where_so true x h = refl
+where_so false x h = absurd cc
 
 pub line_counted : (o : Object) (means : List WaitsFor) (n : ℕ) (x y : BoardCourse) (l : LogLine) (k t : Tally)
-    (old new seen : List Item)
-    (before after : ℕ) (missed : Bool) → t ≡ with_line n l before after missed k → before ≡ woken_among old
-    → old ≡ items_now x
-    → after ≡ woken_among new → new ≡ items_now y
-    → missed ≡ (lets_go l && lacks_some_signal o y.board.state seen means) → seen ≡ new
+    (before after : ℕ) (missed : Bool) → t ≡ with_line n l before after missed k → before ≡ woken_now x
+    → after ≡ woken_now y → missed ≡ (lets_go l && lacks_some_signal o y.board.state (items_now y) means)
     → t ≡ tally_after o means n x l y k
-line_counted o means n x y l k t old new seen before after missed is b from a to m at =
-    is ∙ ap (λ (w : ℕ). with_line n l w after missed k) (b ∙ ap woken_among from)
-    ∙ ap (λ (w : ℕ). with_line n l (woken_now x) w missed k) (a ∙ ap woken_among to)
-    ∙ ap (λ (w : Bool). with_line n l (woken_now x) (woken_now y) w k)
-    (m ∙ ap (λ (items : List Item). lets_go l && lacks_some_signal o y.board.state items means) (at ∙ to))
+line_counted o means n x y l k t before after missed is b a m =
+    is ∙ ap (λ (w : ℕ). with_line n l w after missed k) b
+    ∙ ap (λ (w : ℕ). with_line n l (woken_now x) w missed k) a
+    ∙ ap (λ (w : Bool). with_line n l (woken_now x) (woken_now y) w k) m
 
 -- ---- the opening state of the object has no part in what is counted from a board
 

@@ -15,3 +15,4 @@ mod CountLaws
 mod LapseLaws
 mod FitLaws
 mod NeedLaws
+mod WaiterLaws

@@ -15,6 +15,7 @@ ghost use Rattle.monk_logs.specs.BoardMoves.{board_moved, board_served};
 ghost use Rattle.monk_logs.specs.BoardShown.{IsBoardOf, board_shown};
 ghost use Rattle.monk_logs.specs.Stand.{monitor_in};
 
+pub mod by_pending;
 pub mod choices;
 pub mod following;
 pub mod item;

@@ -2,6 +2,7 @@
 
 pub mod counting;
 pub mod tally;
+pub mod waiters;
 pub mod waits_for;
 
 /// What happens in a log, counted, up to its first misfit.

@@ -1,7 +1,6 @@
 //! What the items of a board tell of a condition, and of a seat that waits there.
 
 ghost use Rattle.std.specs.Prelude.{◌≡◌, ◌≤◌, drop, is_some, length, slice_get};
-ghost use Rattle.monk_logs.specs.Counts.{waiting_seats};
 ghost use Rattle.monk_logs.specs.Items as lines;
 ghost use Rattle.monk_logs.specs.Items.{has_service_behind, keeps_up, without_seat, line, seats_in, services, services_in, unserved_in};
 ghost use Rattle.monk_logs.specs.Order.{is_among};
@@ -271,19 +270,6 @@ pub(crate) fn services_of(items: &[Item]) -> usize
     let mut count = 0;
     for item in items {
         if matches!(*item, Item::Service(_)) {
-            count += 1;
-        }
-    }
-    count
-}
-
-/// How many seats stand among the items.
-pub(crate) fn seats_of(items: &[Item]) -> usize
-    ensures { result ≡ waiting_seats items.now }
-{
-    let mut count = 0;
-    for item in items {
-        if matches!(*item, Item::Waiting(..)) {
             count += 1;
         }
     }

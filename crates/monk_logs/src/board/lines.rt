@@ -6,22 +6,16 @@ ghost use Rattle.monk_history.specs.Meaning.Reasons.{is_open};
 ghost use Rattle.monk_audit.specs.Replay.{replay_situation};
 ghost use Rattle.monk_logs.specs.BoardShown.{IsBoardOf, board_shown, course_or};
 ghost use Rattle.monk_logs.specs.BoardStand as stands;
-ghost use Rattle.monk_logs.specs.BoardStand.{IsHeldOver};
 ghost use Rattle.monk_logs.specs.Course.{due_from};
 ghost use Rattle.monk_logs.specs.Items as lines;
-ghost use Rattle.monk_logs.specs.Needs.{needs_with, told_needs};
 ghost use Rattle.monk_logs.specs.Stand.{monitor_in, via_now};
-ghost use Rattle.monk_logs.specs.declared.blame.LineVerdict.{LineVerdict};
-ghost use Rattle.monk_logs.specs.declared.board.pending.Pending.{Pending};
 
 use crate::blame::{Blame, LineVerdict};
 use crate::blaming::half_blame;
 use crate::board::Board;
 use crate::board::items::may_lapse;
-use crate::board::needs::Needs;
 use crate::board::pending::Pending;
 use crate::board::steps::{hold, release, settle, settle_act};
-use crate::board::telling::line_told;
 use crate::order::Order;
 use crate::setting::Setting;
 use crate::text::line::LogLine;
@@ -205,36 +199,5 @@ pub(crate) fn line_half<T: Guarded>(
             release(setting, board, object, event)
         }
         _ => LineVerdict::Misfits(half_blame(setting, &board.rest, object, line)),
-    }
-}
-
-/// A line of a log, by what is still to be known of the last event before it.
-#[inline(always)]
-pub(crate) fn line_behind<T: Guarded>(
-    order: Order,
-    setting: Setting,
-    board: &mut Board,
-    object: &mut T,
-    needs: &mut Needs,
-    pending: Pending,
-    line: LogLine,
-) -> Result<LineVerdict, AllocError>
-    requires sound { IsBoardOf setting.seats setting.conds T.PREDICATES board.old }
-    requires held { IsHeldOver (monitor_in setting T.meaning) (board_shown board.old (T.state object.old)) pending }
-    ensures judged { IfOk result
-        (λ v. course_or (board_shown board.new (T.state object.new)) v
-        ≡ stands.board_behind_over order (monitor_in setting T.meaning)
-        (board_shown board.old (T.state object.old)) pending line) }
-    ensures needs { IfOk result
-        (λ v. (left : Pending) → v ≡ LineVerdict.Fits left → needs.new ≡ needs_with
-        (told_needs T.meaning (board_shown board.old (T.state object.old)) pending line) needs.old) }
-    ensures sound { IfOk result
-        (λ v. (left : Pending) → v ≡ LineVerdict.Fits left
-        → IsBoardOf setting.seats setting.conds T.PREDICATES board.new) }
-{
-    match pending {
-        Pending::Settled => line_settled(order, setting, board, object, line),
-        Pending::Half(seat, cond) => Ok(line_half(setting, board, object, seat, cond, line)),
-        Pending::Release(event) => line_told(order, setting, board, object, needs, event, line),
     }
 }

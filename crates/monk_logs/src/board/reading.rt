@@ -21,10 +21,11 @@ ghost use Rattle.monk_logs.specs.declared.board.pending.Pending.{Pending};
 
 use crate::blame::{Blame, LineVerdict};
 use crate::board::Board;
+use crate::board::by_pending::line_behind;
 use crate::board::item::Item;
 use crate::board::items::may_lapse;
 use crate::board::items_moves::join;
-use crate::board::lines::{can_lapse, line_behind, line_settled};
+use crate::board::lines::{can_lapse, line_settled};
 use crate::board::needs::Needs;
 use crate::board::pending::Pending;
 use crate::board::steps::{ALLOWED, served_reason};

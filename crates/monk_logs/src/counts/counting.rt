@@ -13,13 +13,14 @@ ghost use Rattle.monk_logs.specs.Verdict.{log_monitor};
 use crate::blame::LineVerdict;
 use crate::board::Board;
 use crate::board::item::Item;
-use crate::board::items::{seats_at, services_at, services_of};
+use crate::board::items::{seats_at, services_at};
 use crate::board::items_moves::{join, serve};
 use crate::board::needs::Needs;
 use crate::board::pending::Pending;
 use crate::board::reading::line_read;
 use crate::counts::Counts;
 use crate::counts::tally::{Tally, lets_go};
+use crate::counts::waiters::Waiters;
 use crate::counts::waits_for::WaitsFor;
 use crate::lapses::Lapses;
 use crate::order::Order;
@@ -66,12 +67,25 @@ fn lacks_some_signal<T: Guarded>(object: &T, items: &[Item], means: &[WaitsFor])
     false
 }
 
-/// Whether the line lets the monitor go with such a signal missed.
-fn misses_signal<T: Guarded>(line: LogLine, object: &T, items: &[Item], means: &[WaitsFor]) -> bool
-    ensures { result ≡ tallies.lets_go line
-        && tallies.lacks_some_signal T.meaning (T.state object.now) items.now means.now }
+/// Whether the line, behind which the board stands so, lets the monitor go with such a signal
+/// missed. The list is for the items that stand then.
+fn misses_signal<T: Guarded>(
+    line: LogLine,
+    object: &T,
+    board: &Board,
+    pending: Pending,
+    items: &mut Vec<Item>,
+    means: &[WaitsFor],
+) -> Result<bool, AllocError>
+    ensures { IfOk result
+        (λ r. r ≡ (tallies.lets_go line && tallies.lacks_some_signal T.meaning (T.state object.now)
+        (tallies.items_now (board_course (board_shown board.now (T.state object.now)) pending)) means.now)) }
 {
-    lets_go(line) && lacks_some_signal(object, items, means)
+    if means.is_empty() || !lets_go(line) {
+        return Ok(false);
+    }
+    take_items(items, board, pending)?;
+    Ok(lacks_some_signal(object, items, means))
 }
 
 /// Counts line by line, over the object in its opening state, up to the first misfit.
@@ -93,11 +107,11 @@ fn count_lines<T: Guarded, L: LineSource>(
     let mut needs = Needs::none();
     let mut pending = Pending::Settled;
     let mut items = Vec::new(alloc);
+    let mut waiters = Waiters::now(&board, pending);
     let mut tally = Tally::NOTHING;
     let mut number = 0;
     while let Some(line) = lines.next() {
         number += 1;
-        let before = services_of(&items);
         match line_read(
             Lapses::Allowed,
             Order::Any,
@@ -109,13 +123,14 @@ fn count_lines<T: Guarded, L: LineSource>(
             line,
         )? {
             LineVerdict::Fits(left) => pending = left,
-            LineVerdict::Misfits(_) => return Ok(tally.counts(&items)),
+            LineVerdict::Misfits(_) => return Ok(tally.counts(waiters)),
         }
-        take_items(&mut items, &board, pending)?;
-        let is_missed = misses_signal(line, &object, &items, means);
-        tally = tally.with_line(number, line, before, services_of(&items), is_missed);
+        let is_missed = misses_signal(line, &object, &board, pending, &mut items, means)?;
+        let now = Waiters::now(&board, pending);
+        tally = tally.with_line(number, line, waiters.woken, now.woken, is_missed);
+        waiters = now;
     }
-    Ok(tally.counts(&items))
+    Ok(tally.counts(waiters))
 }
 
 /// Makes the object that the header names, and counts the lines.

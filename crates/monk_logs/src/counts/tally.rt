@@ -1,12 +1,11 @@
 //! What is counted while a log is judged.
 
-ghost use Rattle.std.specs.Prelude.{◌≡◌, ◌+◌, ◌≤◌, ◌^◌, ℕ};
+ghost use Rattle.std.specs.Prelude.{◌≡◌, ◌+◌, ◌-◌, ◌≤◌, ◌<◌, ◌^◌, ℕ};
 ghost use Rattle.monk_logs.specs.Counts as tallies;
-ghost use Rattle.monk_logs.specs.Counts.{IsWithin, counts_by, one_if, waiting_among, woken_among};
+ghost use Rattle.monk_logs.specs.Counts.{IsWithin, counts_by, one_if};
 
-use crate::board::item::Item;
-use crate::board::items::{seats_of, services_of};
 use crate::counts::Counts;
+use crate::counts::waiters::Waiters;
 use crate::text::line::LogLine;
 
 /// What is counted while a log is judged.
@@ -88,18 +87,19 @@ impl Tally {
         }
     }
 
-    /// What was counted, where these items stand.
-    pub(crate) fn counts(self, items: &[Item]) -> Counts
-        requires { self.back ≤ 2 ^ 32 }
-        ensures { result ≡ counts_by self (waiting_among items.now) (woken_among items.now) }
+    /// What was counted, where so many wait.
+    pub(crate) fn counts(self, waiters: Waiters) -> Counts
+        requires back { self.back ≤ 2 ^ 32 }
+        requires woken { waiters.woken < 2 ^ 63 }
+        ensures { result ≡ counts_by self (waiters.seats - waiters.woken) waiters.woken }
     {
-        let woken = services_of(items);
+        let woken = waiters.woken as u64;
         Counts {
-            served: self.back + woken as u64,
+            served: self.back + woken,
             passed: self.passed,
             lapsed: self.lapsed,
-            waiting: seats_of(items).saturating_sub(woken) as u64,
-            woken: woken as u64,
+            waiting: waiters.seats.saturating_sub(waiters.woken) as u64,
+            woken,
             inside: self.entered.saturating_sub(self.left),
             missed: self.missed,
         }

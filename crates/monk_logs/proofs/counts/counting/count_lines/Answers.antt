@@ -1,10 +1,8 @@
-use Rattle.std.proofs.Common.{ap, sym, ◌∙◌, ◌+◌, List, arith, length}
-use Rattle.monk_logs.specs.Board.{Board}
+use Rattle.std.proofs.Common.{ap, ℕ, ◌∙◌, ◌+◌, ◌-◌, List, arith, length}
 use Rattle.monk_logs.specs.BoardCourse.{board_course}
 use Rattle.monk_logs.specs.BoardShown.{board_shown}
-use Rattle.monk_logs.specs.Counts.{count_state, counts_by, waiting_among, woken_among}
+use Rattle.monk_logs.specs.Counts.{count_state, counts_by, items_now, waiting_seats}
 use Rattle.monk_logs.specs.Stand.{monitor_in}
-use Rattle.monk_logs.specs.declared.board.item.Item.{Item}
 use Rattle.monk_logs.specs.declared.order.Order.TheVariants.{Any}
 use Rattle.monk_logs.specs.declared.lapses.Lapses.TheVariants.{Allowed}
 use Rattle.monk_logs.specs.declared.text.line.LogLine.{LogLine}
@@ -20,7 +18,9 @@ loop-line-init g c =
       so_far = count_opens k.rules k.seats k.conds g.T.Guarded.meaning d c.args.means.now
           (board_shown c.in_ok-board.board d) (g.L.LineSource.left c.args.lines) (c.in_ok-board.ensures.stands d);
       room = omega arith;
-      items = c.new-items.ensures.items ∙ sym (ap (λ (b : Board). b.items) (c.in_ok-board.ensures.stands d));
+      seats = c.now-waiters.ensures.seats d;
+      woken = c.now-waiters.ensures.woken d;
+      small = c.now-waiters.ensures.small;
       few = record {
         back = omega arith;
         lapsed = omega arith;
@@ -41,8 +41,11 @@ pub returns-in-Misfits : goal.returns-in-Misfits
 returns-in-Misfits g c =
     let k = c.loop-line.tally in
     c.counts.ensures
-    ∙ ap (λ (items : List Item). counts_by k (waiting_among items) (woken_among items))
-    (c.deref-in-Misfits.ensures.value ∙ c.loop-line.invariant.items)
+    ∙ ap (λ (seats : ℕ). counts_by k (seats - c.loop-line.waiters.woken) c.loop-line.waiters.woken)
+    c.loop-line.invariant.seats
+    ∙ ap (λ (woken : ℕ). counts_by k (waiting_seats (items_now (board_course
+    (board_shown c.loop-line.board (g.T.Guarded.state c.loop-line.object)) c.loop-line.pending)) - woken) woken)
+    c.loop-line.invariant.woken
     ∙ count_misfits (monitor_in c.args.setting g.T.Guarded.meaning) c.args.means.now
     (g.L.LineSource.left c.loop-line.lines) (g.L.LineSource.left c.next.new.self) c.loop-line.number c.in-Some.line
     (board_shown c.loop-line.board (g.T.Guarded.state c.loop-line.object))
@@ -56,7 +59,6 @@ loop-line-preserved g c =
     let a = board_shown c.loop-line.board (g.T.Guarded.state c.loop-line.object) in
     let b = board_shown c.line_read.new.board (g.T.Guarded.state c.line_read.new.object) in
     let k = c.loop-line.tally in
-    let now = c.in_ok-take_items.ensures (g.T.Guarded.state c.line_read.new.object) in
     let taken = ap (λ (l : List LogLine). length l) c.in-Some.ensures in
     record {
       so_far =
@@ -67,14 +69,14 @@ loop-line-preserved g c =
           c.in-Fits.is
           (line_counted g.T.Guarded.meaning c.args.means.now (c.loop-line.number + 1)
           (board_course a c.loop-line.pending)
-          (board_course b c.in-Fits.left) c.in-Some.line k c.with_line-tally.result c.loop-line.items.items
-          c.take_items.new.now.items
-          _ _ _ _ c.with_line-tally.ensures.counted
-          (c.services_of-before.ensures.count ∙ ap woken_among c.deref.ensures.value) c.loop-line.invariant.items
-          (c.services_of.ensures.count ∙ ap woken_among c.deref-in-Some-2.ensures.value) now
-          c.misses_signal-is_missed.ensures c.deref-in-Some.ensures.value);
+          (board_course b c.in-Fits.left) c.in-Some.line k c.with_line-tally.result
+          _ _ _ c.with_line-tally.ensures.counted c.loop-line.invariant.woken
+          (c.now-now.ensures.woken (g.T.Guarded.state c.line_read.new.object))
+          c.in_ok-is_missed.ensures);
       room = omega arith;
-      items = now;
+      seats = c.now-now.ensures.seats (g.T.Guarded.state c.line_read.new.object);
+      woken = c.now-now.ensures.woken (g.T.Guarded.state c.line_read.new.object);
+      small = c.now-now.ensures.small;
       few = c.with_line-tally.ensures.within c.loop-line.number c.loop-line.invariant.few;
       sound = c.in_ok-left.ensures.sound c.in-Fits.left c.in-Fits.is;
       held = read_goes_held Allowed Any m c.in-Some.line a b c.loop-line.pending c.in-Fits.left c.in_ok-left.field-0
@@ -85,8 +87,11 @@ pub returns : goal.returns
 returns g c =
     let k = c.loop-line.tally in
     c.counts-2.ensures
-    ∙ ap (λ (items : List Item). counts_by k (waiting_among items) (woken_among items))
-    (c.deref-2.ensures.value ∙ c.loop-line.invariant.items)
+    ∙ ap (λ (seats : ℕ). counts_by k (seats - c.loop-line.waiters.woken) c.loop-line.waiters.woken)
+    c.loop-line.invariant.seats
+    ∙ ap (λ (woken : ℕ). counts_by k (waiting_seats (items_now (board_course
+    (board_shown c.loop-line.board (g.T.Guarded.state c.loop-line.object)) c.loop-line.pending)) - woken) woken)
+    c.loop-line.invariant.woken
     ∙ count_ends (monitor_in c.args.setting g.T.Guarded.meaning) c.args.means.now
     (g.L.LineSource.left c.loop-line.lines)
     c.loop-line.number

@@ -1,10 +1,10 @@
-use Rattle.std.proofs.Common.{◌≡◌, ◌≤◌, ◌+◌, length}
+use Rattle.std.proofs.Common.{◌≡◌, ◌≤◌, ◌<◌, ◌+◌, ◌^◌, length}
 use Rattle.monk_history.specs.Limits.{most_lines}
 use Rattle.monk_history.specs.Meaning.Monitor.{monitor}
 use Rattle.monk_logs.specs.BoardCourse.{board_course}
 use Rattle.monk_logs.specs.BoardShown.{IsBoardOf, board_shown}
 use Rattle.monk_logs.specs.BoardStand.{IsHeldOver}
-use Rattle.monk_logs.specs.Counts.{IsWithin, count_state, counts_from, counts_of, items_now}
+use Rattle.monk_logs.specs.Counts.{IsWithin, count_state, counts_from, counts_of, items_now, waiting_seats, woken_now}
 use Rattle.monk_logs.specs.Stand.{monitor_in}
 use Rattle.monk_logs.proofs.counts.counting.count_lines.Given as goal
 
@@ -20,7 +20,9 @@ invariant-loop-line g l =
           (g.T.Guarded.state l.fn.object)) l.means
           (g.L.LineSource.left l.fn.lines);
       room : l.number + length (g.L.LineSource.left l.lines) ≤ most_lines;
-      items : l.items.items ≡ items_now (board_course now l.pending);
+      seats : l.waiters.seats ≡ waiting_seats (items_now (board_course now l.pending));
+      woken : l.waiters.woken ≡ woken_now (board_course now l.pending);
+      small : l.waiters.woken < 2 ^ 63;
       few : IsWithin l.number l.tally;
       sound : IsBoardOf l.setting.seats l.setting.conds g.T.Guarded.PREDICATES l.board;
       held : IsHeldOver m now l.pending;

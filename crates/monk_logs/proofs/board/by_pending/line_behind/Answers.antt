@@ -3,7 +3,7 @@ use Rattle.std.proofs.lemmas.Result.{IfOk-weaker}
 use Rattle.monk_logs.specs.BoardShown.{board_shown}
 use Rattle.monk_logs.specs.Needs.{needs_with, told_needs}
 use Rattle.monk_logs.specs.declared.board.pending.Pending.{Pending}
-use Rattle.monk_logs.proofs.board.lines.line_behind.Goals as goal
+use Rattle.monk_logs.proofs.board.by_pending.line_behind.Goals as goal
 
 pub returns-in-Settled-clause-needs : goal.returns-in-Settled-clause-needs
 returns-in-Settled-clause-needs g c =
