@@ -85,7 +85,7 @@ impl<K: Kind, T: Guarded> Active<K, T> {
         ensures away { is_stay (Some result.choice) ≡ false }
     {
         let mut release = Release::of(self);
-        release.choice = release.floor.leave(release.number, pick, known);
+        release.choice = release.floor.leave(release.numbers.seat, pick, known);
         release
     }
 }
@@ -170,7 +170,8 @@ impl<K: NonBlocking, T: Guarded> Active<K, T> {
         requires left { length self.old.me.mine + 2 ≤ self.old.me.setting.budget }
         ensures { HasDone K.rules T.meaning self.old (Event.Signal self.old.me.seat cond Next.Stay) self.new }
     {
-        self.floor.signal(self.number, cond, Pick::Signaller, false);
+        self.floor
+            .signal(self.numbers.seat, cond, Pick::Signaller, false);
     }
 
     /// Signals all who wait on a condition variable, and goes on. They become waiters in the order
@@ -181,7 +182,7 @@ impl<K: NonBlocking, T: Guarded> Active<K, T> {
         ensures done { HasDone K.rules T.meaning self.old (Event.SignalAll self.old.me.seat cond) self.new }
         ensures woke { result ≡ length (condition cond self.old.floor.history) }
     {
-        self.floor.signal_all(self.number, cond)
+        self.floor.signal_all(self.numbers.seat, cond)
     }
 }
 
@@ -269,7 +270,7 @@ impl<K: ImmediateReturn, T: Guarded> Active<K, T> {
         let mut release = Release::of(self);
         release.choice = release
             .floor
-            .signal_wait(release.number, cond, wait_cond, pick, known);
+            .signal_wait(release.numbers.seat, cond, wait_cond, pick, known);
         release
     }
 }

@@ -11,7 +11,7 @@ signal_wait-release-requires-clause-call g c κs within =
     let x = shown_apart c.deref_mut.ensures.shows c.of-release.ensures in
     let h = x.holds in
     let f = c.deref_mut.result.now in
-    may_signal_wait (monitor_of g.K.Kind.rules g.T.Guarded.meaning f) f.history c.of-release.result.number
+    may_signal_wait (monitor_of g.K.Kind.rules g.T.Guarded.meaning f) f.history c.of-release.result.numbers.seat
     c.args.cond c.args.wait_cond (owns h) (is_near h)
     (has_cond h c.args.cond c.args.self x.was c.requires.cond)
     (has_cond h c.args.wait_cond c.args.self x.was c.requires.wait_cond)
@@ -40,6 +40,6 @@ pub returns-clause-away : goal.returns-clause-away
 returns-clause-away g c =
     let f = c.deref_mut.result.now in
     let call = c.signal_wait-release in
-    signal_wait_goes (monitor_of g.K.Kind.rules g.T.Guarded.meaning f) f.history c.of-release.result.number
+    signal_wait_goes (monitor_of g.K.Kind.rules g.T.Guarded.meaning f) f.history c.of-release.result.numbers.seat
     c.args.cond c.args.wait_cond
     call.result call.ensures.grown.allowed
