@@ -1,5 +1,5 @@
 -- What a release is, as its caller knows it, by what it says of itself
-use Rattle.std.proofs.Common.{◌≡◌, ℕ, true, false, true≢false, not, List, Some, None, refl, sym, ap, ◌∙◌}
+use Rattle.std.proofs.Common.{◌≡◌, ℕ, true, true≢false, not, List, Some, None, refl, sym, ap, ◌∙◌}
 use Rattle.monk_kinds.specs.declared.mode.Mode.{Mode}
 use Rattle.monk_kinds.specs.declared.mode.Mode.TheVariants.{Blocking, ImmediateReturn}
 use Rattle.monk_object.specs.Object.{Object}

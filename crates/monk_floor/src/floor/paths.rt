@@ -19,6 +19,7 @@ use monk_kinds::{
 use monk_object::Guarded;
 
 /// The condition that an event signals, if its seat steps back into the signaller queue.
+#[inline(always)]
 fn signalled(event: Event) -> Option<u8>
     ensures { result ≡ steps_back event }
 {
@@ -132,6 +133,7 @@ impl<K: Kind, T: Guarded> Floor<K, T> {
     }
 
     /// What a release under a blocking kind chooses.
+    #[inline(always)]
     fn next_blocking(&self, event: Event, entry_known: bool, pick: Pick) -> Next
         requires mode { K.rules.mode ≡ Mode.Blocking }
         requires call { MayCallOn K.rules T.meaning self.now event }
@@ -145,6 +147,7 @@ impl<K: Kind, T: Guarded> Floor<K, T> {
     }
 
     /// What a release under a non-blocking kind chooses.
+    #[inline(always)]
     fn next_non_blocking(&self, event: Event, entry_known: bool, pick: Pick) -> Next
         requires mode { K.rules.mode ≡ Mode.NonBlocking }
         requires call { MayCallOn K.rules T.meaning self.now event }
@@ -158,6 +161,7 @@ impl<K: Kind, T: Guarded> Floor<K, T> {
     }
 
     /// What a release chooses, by the path of the mode.
+    #[inline(always)]
     fn next_past(&self, event: Event, entry_known: bool, pick: Pick) -> Next
         requires call { MayCallOn K.rules T.meaning self.now event }
         requires release { next_of event ≡ Some Next.Stay }
@@ -173,6 +177,7 @@ impl<K: Kind, T: Guarded> Floor<K, T> {
     }
 
     /// Takes a release, as its caller knows it, by the path of the mode.
+    #[inline(always)]
     fn release(&mut self, call: Event, pick: Pick, entry_known: bool) -> Next
         requires call { MayCallOn K.rules T.meaning self.old call }
         requires release { next_of call ≡ Some Next.Stay }

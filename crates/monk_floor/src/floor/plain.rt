@@ -15,6 +15,7 @@ use monk_object::Guarded;
 
 impl<K: Kind, T: Guarded> Floor<K, T> {
     /// Takes a release, as its caller knows it, by the general scheduler step.
+    #[inline(always)]
     fn plain_release(&mut self, call: Event, pick: Pick, entry_known: bool) -> Next
         requires call { MayCallOn K.rules T.meaning self.old call }
         requires release { next_of call ≡ Some Next.Stay }
