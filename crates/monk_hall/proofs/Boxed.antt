@@ -12,6 +12,6 @@ pub shown_apart : {K T : Type 0} {k : Rules} {o : Object} {a : Holder} {r : Rele
     → IsApart k o a r → IsApart k o a (record r { floor = f })
 shown_apart {k = k} {o = o} {a = a} {r = r} same x = record {
   holds =
-      subst (λ (g : FloorView). IsHolding k o r.seat.table_id r.seat.me r.number r.calls r.budget g) (sym same) x.holds;
+      subst (λ (g : FloorView). IsHolding k o r.seat.table_id r.seat.me r.numbers g) (sym same) x.holds;
   was = subst (λ (g : FloorView). holder r.seat.table_id (the r.seat.me.0) g ≡ a) (sym same) x.was;
 }

@@ -1,5 +1,5 @@
 -- Where no seat is in a queue, every queue is empty, and a leave lets the entry in
-use Rattle.std.proofs.Common.{◌≡◌, ℕ, zero, suc, ◌+◌, ◌*◌, ◌==◌, ◌<◌, ◌≤◌, ◌⊎◌, cond, Bool, true, false, nat_lt, ◌&&◌}
+use Rattle.std.proofs.Common.{◌≡◌, ℕ, zero, suc, ◌*◌, ◌==◌, ◌<◌, ◌≤◌, ◌⊎◌, cond, Bool, true, false, nat_lt, ◌&&◌}
 use Rattle.std.proofs.Common.{List, [], ◌∷◌, ◌++◌, map, length, sym, refl, ap, ◌∙◌, subst, inl, inr, arith, eq-eqb}
 use Rattle.std.proofs.lemmas.List.{nil_from_length}
 use Rattle.monk_kinds.specs.declared.mode.Pick.TheVariants.{Entry as WishEntry}

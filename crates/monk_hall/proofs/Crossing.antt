@@ -29,6 +29,7 @@ use Rattle.monk_hall.specs.contracts.boxed_floor.BoxedFloor.TheInside as BoxedFl
 use Rattle.monk_hall.specs.contracts.record.SeatRecord as SeatRecord
 use Rattle.monk_hall.specs.contracts.rule.HallRule as HallRule
 use Rattle.monk_hall.specs.contracts.rule.HallRuleTableRuleOptionBoxedFloorViewSetup.TheImpl as RuleImpl
+use Rattle.monk_hall.specs.contracts.seat_numbers.SeatNumbers as SeatNumbers
 use Rattle.monk_hall.specs.contracts.setup.Setup as Setup
 use Rattle.monk_hall.specs.contracts.hall.Hall as Hall
 use Rattle.monk_hall.specs.contracts.hall.Hall.TheInside as HallInside
@@ -103,11 +104,14 @@ pub hall_sync : (K T : RattleType) (k : Kind.Ghosts K.Denot) (t : Guarded.Ghosts
     → IsSync (Hall.the_row K T k t)
 hall_sync K T k t sk st = view_sync (HallInside.the_row K T k t) _ _ _ _ (hall_inside K T k t sk st)
 
+numbers_send : IsSend (SeatNumbers.the_field).row
+numbers_send = search sendable depth 20
+
 pass_inside : (K T : RattleType) (k : Kind.Ghosts K.Denot) (t : Guarded.Ghosts T.Denot) → IsSend K → IsSend T
     → IsSend (PassInside.the_row K T k t)
 pass_inside K T k t sk st =
     let all : AllSend (shape (PassInside.the_type K T k t)).fields =
-    (badge_send _, (search sendable, (search sendable, (search sendable, (search sendable, (search sendable, tt)))))) in
+    (badge_send _, (search sendable, (numbers_send, (search sendable, tt)))) in
     recorded_send _ _ _ ((PassInside.the_type K T k t).to_one) (struct_send (shape (PassInside.the_type K T k t)) all)
 
 pub pass_send : (K T : RattleType) (k : Kind.Ghosts K.Denot) (t : Guarded.Ghosts T.Denot) → IsSend K → IsSend T
@@ -142,7 +146,7 @@ pub active_send : (K T : RattleType) (k : Kind.Ghosts K.Denot) (t : Guarded.Ghos
 active_send K T k t sk st =
     let floor : IsSend (BoxedFloor.the_row K T k t) = boxed_floor_send K T k t sk st in
     let all : AllSend (shape (ActiveInside.the_type K T k t)).fields =
-    (seat_send _ _ (option_send _ floor), (search sendable, (search sendable, (search sendable, (floor, tt))))) in
+    (seat_send _ _ (option_send _ floor), (numbers_send, (floor, tt))) in
     view_send (ActiveInside.the_row K T k t) _ _ _ _
     (recorded_send _ _ _ ((ActiveInside.the_type K T k t).to_one)
     (struct_send (shape (ActiveInside.the_type K T k t)) all))
@@ -151,10 +155,8 @@ pub parked_send : (K T : RattleType) (k : Kind.Ghosts K.Denot) (t : Guarded.Ghos
     → IsSend (Parked.the_row K T k t)
 parked_send K T k t sk st =
     let floor : IsSend (BoxedFloor.the_row K T k t) = boxed_floor_send K T k t sk st in
-    let all : AllSend (shape (ParkedInside.the_type K T k t)).fields = (
-      seat_send _ _ (option_send _ floor),
-      (search sendable, (search sendable, (search sendable, (search sendable, (place_send, tt))))),
-    ) in
+    let all : AllSend (shape (ParkedInside.the_type K T k t)).fields =
+    (seat_send _ _ (option_send _ floor), (numbers_send, (search sendable, (place_send, tt)))) in
     view_send (ParkedInside.the_row K T k t) _ _ _ _
     (recorded_send _ _ _ ((ParkedInside.the_type K T k t).to_one)
     (struct_send (shape (ParkedInside.the_type K T k t)) all))

@@ -1,5 +1,5 @@
 -- A release goes home with the floor, and the right is handed on
-use Rattle.std.proofs.Common.{◌≡◌, ◌≢◌, ℕ, ◌+◌, ◌-◌, ◌≤◌, true, false, true≢false, List, [], ◌∷◌, ◌++◌, length, Option}
+use Rattle.std.proofs.Common.{◌≡◌, ℕ, ◌-◌, ◌≤◌, false, true≢false, List, [], ◌∷◌, ◌++◌, length, Option}
 use Rattle.std.proofs.Common.{Some, None, refl, sym, ap, subst, ◌∙◌, arith}
 use Rattle.std.specs.List.{last_or}
 use Rattle.atomic_table.specs.Seated.{TableId}
@@ -25,6 +25,7 @@ use Rattle.monk_hall.specs.Layout.{floor_of}
 use Rattle.monk_hall.specs.Records.{the}
 use Rattle.monk_hall.specs.Tells.{Me}
 use Rattle.monk_hall.specs.Tokens.{IsSeated, IsResting}
+use Rattle.monk_hall.specs.declared.seat_numbers.SeatNumbers.{SeatNumbers}
 use Rattle.monk_hall.proofs.Releasing.{back_is, said}
 use Rattle.monk_hall.proofs.TokenLaws.{own_longer}
 
@@ -80,11 +81,11 @@ module _ {k : Rules} {o : Object} {z : TableId} {me : Me} {choice : Next} {to : 
   home_is x = ap home_at (back_place x)
 
   -- what the seat knows then
-  pub gone_rests : (x : HasRecordedRelease k o z me choice to f) → {number calls budget left : ℕ}
-      → IsSeated z (the me.0) number calls budget → left ≡ left_of f.budget f.history number
+  pub gone_rests : (x : HasRecordedRelease k o z me choice to f) → {numbers : SeatNumbers} {left : ℕ}
+      → IsSeated z (the me.0) numbers → left ≡ left_of f.budget f.history numbers.seat
       → (y : TableId) (new : Me) → y ≡ z → HasGone (the me.0) f.history to (the new.0) → new ≡ (the new.0 ∷ [], [])
-      → IsResting k o y new number left calls budget × ((the new.0).place ≡ place_of to) × (left_within to ≤ left)
-  gone_rests x {number} {calls} {budget} {left} s rest y new same gone is =
+      → IsResting k o y new numbers left × ((the new.0).place ≡ place_of to) × (left_within to ≤ left)
+  gone_rests x {numbers} {left} s rest y new same gone is =
       let r = the me.0 in let ret = x.returns in let e = with_next ret.choice ret.call in let w =
       record (record_after_floor_in r f.history) { place = place_of to; steps = gone.steps } in
       let seat = (said r.seat ret.to ret.call ret.choice ret.release).seat in
@@ -97,7 +98,7 @@ module _ {k : Rules} {o : Object} {z : TableId} {me : Me} {choice : Next} {to : 
       let left_is : left ≡ f.budget - length mine = rest
       ∙ ap (λ n. f.budget - length (events_of h n)) (sym s.is_seat) in
       let to_is = ap left_within x.is_to in
-      let rests : IsResting k o z (w ∷ [], []) number left calls budget = record {
+      let rests : IsResting k o z (w ∷ [], []) numbers left = record {
         one = refl;
         free = refl;
         seated =
@@ -111,8 +112,8 @@ module _ {k : Rules} {o : Object} {z : TableId} {me : Me} {choice : Next} {to : 
           own = refl;
         };
       } in (
-        subst (λ a. IsResting k o a new number left calls budget) (sym same)
-            (subst (λ m. IsResting k o z m number left calls budget) (sym (is ∙ ap (λ v. (v ∷ [], [])) gone.is)) rests),
+        subst (λ a. IsResting k o a new numbers left) (sym same)
+            (subst (λ m. IsResting k o z m numbers left) (sym (is ∙ ap (λ v. (v ∷ [], [])) gone.is)) rests),
         ap (λ v. v.place) gone.is,
         omega arith,
       )

@@ -1,19 +1,33 @@
--- What the bounds on a kind say of its mode
-use Rattle.std.proofs.Common.{◌≡◌, ◌≢◌, true, refl}
+-- What the bounds on a kind say of the mode that its rules have
+use Rattle.std.proofs.Common.{◌≡◌, ◌≢◌, true, false, refl, sym, ap, ◌∙◌}
 use Rattle.monk_kinds.specs.declared.mode.Mode.{Mode}
 use Rattle.monk_kinds.specs.declared.mode.Mode.TheVariants.{Blocking, NonBlocking, QuasiBlocking, ImmediateReturn, Automatic}
-use Rattle.monk_history.specs.Meaning.Events.{has_conditions, has_signaller_queue}
+use Rattle.monk_kinds.specs.declared.mode.Rules.{Rules}
+use Rattle.monk_history.specs.Meaning.Events.{has_conditions, has_signaller_queue, returns_at_once}
 
-pub conditional : (m : Mode) → m ≢ Automatic → has_conditions m ≡ true
-conditional Blocking n = refl
-conditional NonBlocking n = refl
-conditional QuasiBlocking n = refl
-conditional ImmediateReturn n = refl
-conditional Automatic n = absurd (n refl)
+conditions_of : (m : Mode) → m ≢ Automatic → has_conditions m ≡ true
+conditions_of Blocking n = refl
+conditions_of NonBlocking n = refl
+conditions_of QuasiBlocking n = refl
+conditions_of ImmediateReturn n = refl
+conditions_of Automatic n = absurd (n refl)
 
-pub explicit : (m : Mode) → m ≢ Automatic → m ≢ ImmediateReturn → has_signaller_queue m ≡ true
-explicit Blocking n i = refl
-explicit NonBlocking n i = refl
-explicit QuasiBlocking n i = refl
-explicit ImmediateReturn n i = absurd (i refl)
-explicit Automatic n i = absurd (n refl)
+signallers_of : (m : Mode) → m ≢ Automatic → m ≢ ImmediateReturn → has_signaller_queue m ≡ true
+signallers_of Blocking n i = refl
+signallers_of NonBlocking n i = refl
+signallers_of QuasiBlocking n i = refl
+signallers_of ImmediateReturn n i = absurd (i refl)
+signallers_of Automatic n i = absurd (n refl)
+
+pub conditional : (k : Rules) (m : Mode) → m ≡ k.mode → m ≢ Automatic → has_conditions k.mode ≡ true
+conditional k m is n = ap has_conditions (sym is) ∙ conditions_of m n
+
+pub explicit : (k : Rules) (m : Mode) → m ≡ k.mode → m ≢ Automatic → m ≢ ImmediateReturn
+    → has_signaller_queue k.mode ≡ true
+explicit k m is n i = ap has_signaller_queue (sym is) ∙ signallers_of m n i
+
+pub immediate : (k : Rules) (m : Mode) → m ≡ k.mode → m ≡ ImmediateReturn → returns_at_once k.mode ≡ true
+immediate k m is e = ap returns_at_once (sym is ∙ e)
+
+pub automatic : (k : Rules) (m : Mode) → m ≡ k.mode → m ≡ Automatic → has_conditions k.mode ≡ false
+automatic k m is e = ap has_conditions (sym is ∙ e)

@@ -1,5 +1,5 @@
 -- Two idle seats' views are put together, and both records learn the longer history
-use Rattle.std.proofs.Common.{◌≡◌, ◌≢◌, ℕ, suc, ◌+◌, ◌-◌, ◌<◌, ◌≤◌, ◌⊎◌, ◌==◌, Bool, true, false, cond, nat_le, List}
+use Rattle.std.proofs.Common.{◌≡◌, ◌≢◌, ℕ, suc, ◌+◌, ◌<◌, ◌≤◌, ◌⊎◌, ◌==◌, Bool, true, false, cond, nat_le, List}
 use Rattle.std.proofs.Common.{[], ◌∷◌, ◌++◌, length, set, sym, refl, ap, ◌∙◌, subst, inl, inr, ⊎_elim, arith}
 use Rattle.std.proofs.Common.{append-nil, length-append}
 use Rattle.std.specs.Prelude.{Option}
@@ -12,7 +12,6 @@ use mathlib.Core.Path.{Path}
 use lib.ListN.{get_elem?}
 use Rattle.atomic_table.proofs.Lists.{at_set, set_here, set_else}
 use Rattle.atomic_table.specs.Table.{keeps, Allows, Joins, Splits}
-use Rattle.atomic_table.specs.Table as table
 use Rattle.monk_kinds.specs.declared.mode.Rules.{Rules}
 use Rattle.monk_object.specs.Object.{Object}
 use Rattle.monk_history.specs.Meaning.Counts.{events_of}
@@ -41,6 +40,7 @@ use Rattle.monk_hall.specs.Tells.{Me, AreOne, TellsCompare, SeesTruly}
 use Rattle.monk_hall.specs.Tokens.{IsResting, top}
 use Rattle.monk_hall.specs.declared.record.SeatRecord.{SeatRecord}
 use Rattle.monk_hall.specs.declared.setting.Setting.{Setting}
+use Rattle.monk_hall.specs.declared.seat_numbers.SeatNumbers.{SeatNumbers}
 use Rattle.monk_hall.proofs.Dealing.{shown_moved}
 use Rattle.monk_hall.proofs.Seats.{is_at, is_desk, is_near, is_setting, long, only}
 use Rattle.monk_hall.proofs.Stored.{field_stays}
@@ -490,14 +490,14 @@ has_learned a b x y g one is_x is_y is_longer =
     (subst (StartsWith g) is_x long.first, subst (StartsWith g) is_y long.second)
 
 -- a seat that has met another rests as before
-pub met_rests : (k : Rules) (o : Object) (y z : TableId) (v : View) (number left calls budget : ℕ) (r : SeatRecord)
-    (views : List View) → IsResting k o z (v, []) number left calls budget → (the v).place ≡ Idle → y ≡ z
+pub met_rests : (k : Rules) (o : Object) (y z : TableId) (v : View) (numbers : SeatNumbers) (left : ℕ) (r : SeatRecord)
+    (views : List View) → IsResting k o z (v, []) numbers left → (the v).place ≡ Idle → y ≡ z
     → r.seat ≡ (the v).seat → r.setting ≡ (the v).setting → r.place ≡ (the v).place → r.count ≡ (the v).count
     → r.mine ≡ (the v).mine → SeesTruly k o r → views ≡ (r ∷ []) ∷ []
-    → (views ≡ top views ∷ []) × IsResting k o y (top views, []) number left calls budget
+    → (views ≡ top views ∷ []) × IsResting k o y (top views, []) numbers left
     × ((the (top views)).place ≡ Idle)
-met_rests k o y z v number left calls budget r views old idle table seat setting place count mine truly are =
-    subst (λ (vs : List View). (vs ≡ top vs ∷ []) × IsResting k o y (top vs, []) number left calls budget
+met_rests k o y z v numbers left r views old idle table seat setting place count mine truly are =
+    subst (λ (vs : List View). (vs ≡ top vs ∷ []) × IsResting k o y (top vs, []) numbers left
     × ((the (top vs)).place ≡ Idle)) (sym are) (
       refl,
       record {
@@ -505,7 +505,7 @@ met_rests k o y z v number left calls budget r views old idle table seat setting
         free = refl;
         seated = record {
           is_seat = seat ∙ old.seated.is_seat;
-          near = subst (λ (x : Setting). number < x.seats) (sym setting) old.seated.near;
+          near = subst (λ (x : Setting). numbers.seat < x.seats) (sym setting) old.seated.near;
           sized = ap (λ (x : TableId). x.words) table ∙ old.seated.sized
               ∙ ap (λ (x : Setting). word_count x.seats) (sym setting);
           counted = old.seated.counted ∙ sym count;

@@ -41,6 +41,7 @@ use Rattle.monk_hall.specs.Records.{the}
 use Rattle.monk_hall.specs.Tells.{Me, TellsPeek, IsReleaseTo, SeesTruly}
 use Rattle.monk_hall.specs.Tokens.{Token, Holder, House, IsHolding, with_own, holder}
 use Rattle.monk_hall.specs.declared.record.SeatRecord.{SeatRecord}
+use Rattle.monk_hall.specs.declared.seat_numbers.SeatNumbers.{SeatNumbers}
 use Rattle.monk_hall.proofs.Private.{own_event}
 use Rattle.monk_hall.proofs.Releasing.{said}
 use Rattle.monk_hall.proofs.TokenLaws.{grown_holds}
@@ -125,9 +126,9 @@ chosen_as_known {k} {o} {r} {f} {call} {wish} {known} x = let t = stands_of k o 
     (is_entry_known wish r.known)
     (λ free. ap (λ b. choice_by k (queues_at o t call) (seat_of call) b wish) (x.known_is free))
 
-module _ {k : Rules} {o : Object} {z : TableId} {me : Me} {number calls budget : ℕ} {f : FloorView} {call : Event}
+module _ {k : Rules} {o : Object} {z : TableId} {me : Me} {numbers : SeatNumbers} {f : FloorView} {call : Event}
     {wish : Pick} {known : Bool} {choice : Next} {to : Home} {g : FloorView} where
-  pub has_released : IsHolding k o z me number calls budget f → IsRelease k o (the me.0) f call wish known choice to g
+  pub has_released : IsHolding k o z me numbers f → IsRelease k o (the me.0) f call wish known choice to g
       → is_stay (Some choice) ≡ false → HasRecordedRelease k o z me choice to g
   has_released h x away = record {
     one = h.one;
@@ -156,7 +157,7 @@ module _ {k : Rules} {o : Object} {z : TableId} {me : Me} {number calls budget :
     allowed = x.is_grown.allowed;
   }
 
-  pub released : IsHolding k o z me number calls budget f → IsRelease k o (the me.0) f call wish known choice to g
+  pub released : IsHolding k o z me numbers f → IsRelease k o (the me.0) f call wish known choice to g
       → is_stay (Some choice) ≡ false
       → (p : Token) → p.hall ≡ z → HasGone (the me.0) g.history to p.me → SeesTruly k o p.me
       → HasReleased k o (holder z (the me.0) f) call wish to 0 p
@@ -221,21 +222,21 @@ module _ {k : Rules} {o : Object} where
       }
 
 -- what the active seat may do
-module _ {k : Rules} {o : Object} {z : TableId} {me : Me} {number calls budget : ℕ} {f : FloorView} where
-  pub owns : IsHolding k o z me number calls budget f → turn f.history ≡ Owned number
+module _ {k : Rules} {o : Object} {z : TableId} {me : Me} {numbers : SeatNumbers} {f : FloorView} where
+  pub owns : IsHolding k o z me numbers f → turn f.history ≡ Owned numbers.seat
   owns h = h.goes.owned ∙ ap Owned h.seated.is_seat
 
-  pub is_near : IsHolding k o z me number calls budget f → number < f.seats
+  pub is_near : IsHolding k o z me numbers f → numbers.seat < f.seats
   is_near h = subst (λ n. n < f.seats) h.seated.is_seat h.goes.near
 
-  pub has_left : IsHolding k o z me number calls budget f → (n : ℕ)
+  pub has_left : IsHolding k o z me numbers f → (n : ℕ)
       → length (events_of f.history (the me.0).seat) + n < (the me.0).setting.budget
       → n < left_of f.budget f.history (the me.0).seat
   has_left h n more = let b = ap (λ (y : FloorView). y.budget) h.goes.is_floor in omega arith
 
   -- what is told of a release with the active seat's own number
   pub released_of : {wish : Pick} {known : Bool} {choice : Next} {to : Home} {g : FloorView} → (call : ℕ → Event)
-      → IsHolding k o z me number calls budget f → IsRelease k o (the me.0) f (call number) wish known choice to g
+      → IsHolding k o z me numbers f → IsRelease k o (the me.0) f (call numbers.seat) wish known choice to g
       → is_stay (Some choice) ≡ false
       → (p : Token) → p.hall ≡ z → HasGone (the me.0) g.history to p.me → SeesTruly k o p.me
       → (y : House) (granted : Option Grant)
@@ -250,29 +251,29 @@ module _ {k : Rules} {o : Object} {z : TableId} {me : Me} {number calls budget :
         granted = subst (λ n. IsGrantFor y choice p.me.seen n p.me.steps granted) (plus_none (the me.0).steps) for;
       }))
 
-  pub leaves : IsHolding k o z me number calls budget f → (wish : Pick) (known : Bool) (choice : Next) (g : FloorView)
+  pub leaves : IsHolding k o z me numbers f → (wish : Pick) (known : Bool) (choice : Next) (g : FloorView)
       → (a : Holder) → holder z (the me.0) f ≡ a → known ≡ is_entry_known wish a.me.known
-      → choice ≡ choice_of k o (stands_of k o f) (Leave number next.Stay) known wish
-      → IsGrown k o f (Leave number choice) g
-      → IsRelease k o (the me.0) f (Leave number next.Stay) wish known choice home.Idle g
+      → choice ≡ choice_of k o (stands_of k o f) (Leave numbers.seat next.Stay) known wish
+      → IsGrown k o f (Leave numbers.seat choice) g
+      → IsRelease k o (the me.0) f (Leave numbers.seat next.Stay) wish known choice home.Idle g
   leaves h wish known choice g a is reads chosen grows = record {
     release = (sym h.seated.is_seat, refl);
-    may = may_leave (monitor_of k o f) f.history number (owns h) (is_near h);
+    may = may_leave (monitor_of k o f) f.history numbers.seat (owns h) (is_near h);
     left = has_left h 0 (let l = h.left in omega arith);
     known_is = λ _. reads ∙ ap (λ (b : Holder). is_entry_known wish b.me.known) (sym is);
     chosen = chosen;
     is_grown = grows;
   }
 
-  pub waits : IsHolding k o z me number calls budget f → (c : ℕ) → c < f.conds → has_conditions k.mode ≡ true
+  pub waits : IsHolding k o z me numbers f → (c : ℕ) → c < f.conds → has_conditions k.mode ≡ true
       → (wish : Pick) (known : Bool) (choice : Next) (g : FloorView) → (a : Holder) → holder z (the me.0) f ≡ a
       → length a.me.mine + 3 ≤ a.me.setting.budget → known ≡ is_entry_known wish a.me.known
-      → choice ≡ choice_of k o (stands_of k o f) (Wait number c next.Stay) known wish
-      → IsGrown k o f (Wait number c choice) g
-      → IsRelease k o (the me.0) f (Wait number c next.Stay) wish known choice home.Inner g
+      → choice ≡ choice_of k o (stands_of k o f) (Wait numbers.seat c next.Stay) known wish
+      → IsGrown k o f (Wait numbers.seat c choice) g
+      → IsRelease k o (the me.0) f (Wait numbers.seat c next.Stay) wish known choice home.Inner g
   waits h c low has wish known choice g a is room reads chosen grows = record {
     release = (sym h.seated.is_seat, refl);
-    may = may_wait (monitor_of k o f) f.history number c (owns h) (is_near h) low has;
+    may = may_wait (monitor_of k o f) f.history numbers.seat c (owns h) (is_near h) low has;
     left = has_left h 2 (let more =
         subst (λ (b : Holder). length b.me.mine + 3 ≤ b.me.setting.budget) (sym is) room in omega arith);
     known_is = λ _. reads ∙ ap (λ (b : Holder). is_entry_known wish b.me.known) (sym is);
@@ -280,16 +281,17 @@ module _ {k : Rules} {o : Object} {z : TableId} {me : Me} {number calls budget :
     is_grown = grows;
   }
 
-  pub signals : IsHolding k o z me number calls budget f → (c : ℕ) → c < f.conds → has_signaller_queue k.mode ≡ true
+  pub signals : IsHolding k o z me numbers f → (c : ℕ) → c < f.conds → has_signaller_queue k.mode ≡ true
       → (wish : Pick) (known : Bool) (choice : Next) (g : FloorView) → (a : Holder) → holder z (the me.0) f ≡ a
       → length a.me.mine + 3 ≤ a.me.setting.budget
-      → (must_stay o (stands_of k o f) (Signal number c next.Stay) ≡ false → known ≡ is_entry_known wish a.me.known)
-      → choice ≡ choice_of k o (stands_of k o f) (Signal number c next.Stay) known wish
-      → IsGrown k o f (Signal number c choice) g
-      → IsRelease k o (the me.0) f (Signal number c next.Stay) wish known choice home.Inner g
+      → (must_stay o (stands_of k o f) (Signal numbers.seat c next.Stay) ≡ false
+      → known ≡ is_entry_known wish a.me.known)
+      → choice ≡ choice_of k o (stands_of k o f) (Signal numbers.seat c next.Stay) known wish
+      → IsGrown k o f (Signal numbers.seat c choice) g
+      → IsRelease k o (the me.0) f (Signal numbers.seat c next.Stay) wish known choice home.Inner g
   signals h c low has wish known choice g a is room reads chosen grows = record {
     release = (sym h.seated.is_seat, refl);
-    may = may_signal_on (monitor_of k o f) f.history number c (owns h) (is_near h) low has;
+    may = may_signal_on (monitor_of k o f) f.history numbers.seat c (owns h) (is_near h) low has;
     left = has_left h 2 (let more =
         subst (λ (b : Holder). length b.me.mine + 3 ≤ b.me.setting.budget) (sym is) room in omega arith);
     known_is = λ free. reads free ∙ ap (λ (b : Holder). is_entry_known wish b.me.known) (sym is);
@@ -297,32 +299,32 @@ module _ {k : Rules} {o : Object} {z : TableId} {me : Me} {number calls budget :
     is_grown = grows;
   }
 
-  pub signals_and_leaves : IsHolding k o z me number calls budget f → (c : ℕ) → c < f.conds
+  pub signals_and_leaves : IsHolding k o z me numbers f → (c : ℕ) → c < f.conds
       → returns_at_once k.mode ≡ true
       → (wish : Pick) (known : Bool) (choice : Next) (g : FloorView) → (a : Holder) → holder z (the me.0) f ≡ a
       → known ≡ is_entry_known wish a.me.known
-      → choice ≡ choice_of k o (stands_of k o f) (SignalLeave number c next.Stay) known wish
-      → IsGrown k o f (SignalLeave number c choice) g
-      → IsRelease k o (the me.0) f (SignalLeave number c next.Stay) wish known choice home.Idle g
+      → choice ≡ choice_of k o (stands_of k o f) (SignalLeave numbers.seat c next.Stay) known wish
+      → IsGrown k o f (SignalLeave numbers.seat c choice) g
+      → IsRelease k o (the me.0) f (SignalLeave numbers.seat c next.Stay) wish known choice home.Idle g
   signals_and_leaves h c low has wish known choice g a is reads chosen grows = record {
     release = (sym h.seated.is_seat, refl);
-    may = may_signal_leave (monitor_of k o f) f.history number c (owns h) (is_near h) low has;
+    may = may_signal_leave (monitor_of k o f) f.history numbers.seat c (owns h) (is_near h) low has;
     left = has_left h 0 (let l = h.left in omega arith);
     known_is = λ _. reads ∙ ap (λ (b : Holder). is_entry_known wish b.me.known) (sym is);
     chosen = chosen;
     is_grown = grows;
   }
 
-  pub signals_and_waits : IsHolding k o z me number calls budget f → (c d : ℕ) → c < f.conds → d < f.conds
+  pub signals_and_waits : IsHolding k o z me numbers f → (c d : ℕ) → c < f.conds → d < f.conds
       → returns_at_once k.mode ≡ true → (wish : Pick) (known : Bool) (choice : Next) (g : FloorView)
       → (a : Holder) → holder z (the me.0) f ≡ a
       → length a.me.mine + 3 ≤ a.me.setting.budget → known ≡ is_entry_known wish a.me.known
-      → choice ≡ choice_of k o (stands_of k o f) (SignalWait number c d next.Stay) known wish
-      → IsGrown k o f (SignalWait number c d choice) g
-      → IsRelease k o (the me.0) f (SignalWait number c d next.Stay) wish known choice home.Inner g
+      → choice ≡ choice_of k o (stands_of k o f) (SignalWait numbers.seat c d next.Stay) known wish
+      → IsGrown k o f (SignalWait numbers.seat c d choice) g
+      → IsRelease k o (the me.0) f (SignalWait numbers.seat c d next.Stay) wish known choice home.Inner g
   signals_and_waits h c d low low_too has wish known choice g a is room reads chosen grows = record {
     release = (sym h.seated.is_seat, refl);
-    may = may_signal_wait (monitor_of k o f) f.history number c d (owns h) (is_near h) low low_too has;
+    may = may_signal_wait (monitor_of k o f) f.history numbers.seat c d (owns h) (is_near h) low low_too has;
     left = has_left h 2 (let more =
         subst (λ (b : Holder). length b.me.mine + 3 ≤ b.me.setting.budget) (sym is) room in omega arith);
     known_is = λ _. reads ∙ ap (λ (b : Holder). is_entry_known wish b.me.known) (sym is);
@@ -330,17 +332,18 @@ module _ {k : Rules} {o : Object} {z : TableId} {me : Me} {number calls budget :
     is_grown = grows;
   }
 
-  pub waits_until : IsHolding k o z me number calls budget f → (p : ℕ) → p < o.predicates
+  pub waits_until : IsHolding k o z me numbers f → (p : ℕ) → p < o.predicates
       → not (has_conditions k.mode) ≡ true
       → (wish : Pick) (known : Bool) (choice : Next) (g : FloorView) → (a : Holder) → holder z (the me.0) f ≡ a
       → length a.me.mine + 3 ≤ a.me.setting.budget
-      → (must_stay o (stands_of k o f) (Until number p next.Stay) ≡ false → known ≡ is_entry_known wish a.me.known)
-      → choice ≡ choice_of k o (stands_of k o f) (Until number p next.Stay) known wish
-      → IsGrown k o f (Until number p choice) g
-      → IsRelease k o (the me.0) f (Until number p next.Stay) wish known choice home.Inner g
+      → (must_stay o (stands_of k o f) (Until numbers.seat p next.Stay) ≡ false
+      → known ≡ is_entry_known wish a.me.known)
+      → choice ≡ choice_of k o (stands_of k o f) (Until numbers.seat p next.Stay) known wish
+      → IsGrown k o f (Until numbers.seat p choice) g
+      → IsRelease k o (the me.0) f (Until numbers.seat p next.Stay) wish known choice home.Inner g
   waits_until h p low has wish known choice g a is room reads chosen grows = record {
     release = (sym h.seated.is_seat, refl);
-    may = may_until (monitor_of k o f) f.history number p (owns h) (is_near h) low has;
+    may = may_until (monitor_of k o f) f.history numbers.seat p (owns h) (is_near h) low has;
     left = has_left h 2 (let more =
         subst (λ (b : Holder). length b.me.mine + 3 ≤ b.me.setting.budget) (sym is) room in omega arith);
     known_is = λ free. reads free ∙ ap (λ (b : Holder). is_entry_known wish b.me.known) (sym is);
@@ -350,16 +353,16 @@ module _ {k : Rules} {o : Object} {z : TableId} {me : Me} {number calls budget :
 
   -- whoever may park inside has room for the way back
   pub room_inside : {call : Event} {wish : Pick} {known : Bool} {choice : Next} {g : FloorView}
-      → IsHolding k o z me number calls budget f → IsRelease k o (the me.0) f call wish known choice home.Inner g
+      → IsHolding k o z me numbers f → IsRelease k o (the me.0) f call wish known choice home.Inner g
       → length (events_of f.history (the me.0).seat) + 2 ≤ (the me.0).setting.budget
   room_inside h x = let b = ap (λ (y : FloorView). y.budget) h.goes.is_floor in let l = x.left in omega arith
 
   -- a release that stays
   pub stays_holding : (call : Event) {wish : Pick} {known : Bool} {choice : Next} {to : Home} {g : FloorView}
-      → IsHolding k o z me number calls budget f → IsRelease k o (the me.0) f call wish known choice to g
+      → IsHolding k o z me numbers f → IsRelease k o (the me.0) f call wish known choice to g
       → is_stay (Some choice) ≡ true
       → length (events_of f.history (the me.0).seat) + 2 ≤ (the me.0).setting.budget
-      → IsHolding k o z me number calls budget g
+      → IsHolding k o z me numbers g
   stays_holding call {wish} {known} {choice} {to} {g} h x stays room =
       let s = said (the me.0).seat to call choice x.release in let n = h.seated.is_seat in
       grown_holds h (with_next choice call) (s.seat ∙ n)
@@ -367,13 +370,13 @@ module _ {k : Rules} {o : Object} {z : TableId} {me : Me} {number calls budget :
       (never_enters (the me.0).seat to call choice x.release) x.is_grown.allowed room g x.is_grown.grown
 
   pub stayed : (call : ℕ → Event) {wish : Pick} {known : Bool} {choice : Next} {to : Home} {g : FloorView}
-      → IsHolding k o z me number calls budget f → IsRelease k o (the me.0) f (call number) wish known choice to g
+      → IsHolding k o z me numbers f → IsRelease k o (the me.0) f (call numbers.seat) wish known choice to g
       → is_stay (Some choice) ≡ true
       → (a : Holder) → holder z (the me.0) f ≡ a → HasStayed k o a (call a.me.seat) wish 0 (holder z (the me.0) g)
   stayed call {wish} {known} {choice} {to} {g} h x stays a is =
-      let r = the me.0 in let same = stay_is choice stays in let e = with_next next.Stay (call number) in
-      let grows = x.is_grown.grown ∙ ap (λ y. with_event f (with_next y (call number))) same in
-      let seat = (said r.seat to (call number) next.Stay x.release).seat in
+      let r = the me.0 in let same = stay_is choice stays in let e = with_next next.Stay (call numbers.seat) in
+      let grows = x.is_grown.grown ∙ ap (λ y. with_event f (with_next y (call numbers.seat))) same in
+      let seat = (said r.seat to (call numbers.seat) next.Stay x.release).seat in
       subst (λ (b : Holder). HasStayed k o b (call b.me.seat) wish 0 (holder z r g)) is
       (subst (λ n. HasStayed k o (holder z r f) (call n) wish 0 (holder z r g)) (sym h.seated.is_seat) record {
         chosen = sym same ∙ chosen_as_known x;
@@ -391,7 +394,8 @@ module _ {k : Rules} {o : Object} {z : TableId} {me : Me} {number calls budget :
             });
         remembers = record { knew = λ knew. knew; unlooked = λ _. refl };
         legal = subst (λ (y : FloorView). IsLegal (monitor_of k o y) y.history) (sym x.is_grown.grown)
-            (legal-push (monitor_of k o f) f.history (with_next choice (call number)) h.goes.legal x.is_grown.allowed);
+            (legal-push (monitor_of k o f) f.history (with_next choice (call numbers.seat)) h.goes.legal
+            x.is_grown.allowed);
         own = refl;
         floor = h.goes.is_floor;
       })
@@ -464,18 +468,18 @@ peeked_none n a e = subst (λ m. HasPeeked m a a) (sym e)
           λ i. record a { me = record a.me { looks = plus_none a.me.looks i; steps = plus_none a.me.steps i } };
     }
 
-module _ {k : Rules} {o : Object} {z : TableId} {me : Me} {number calls budget : ℕ} {f : FloorView} where
-  pub has_cond : IsHolding k o z me number calls budget f → (c : ℕ) (a : Holder) → holder z (the me.0) f ≡ a
+module _ {k : Rules} {o : Object} {z : TableId} {me : Me} {numbers : SeatNumbers} {f : FloorView} where
+  pub has_cond : IsHolding k o z me numbers f → (c : ℕ) (a : Holder) → holder z (the me.0) f ≡ a
       → c < a.me.setting.conds → c < f.conds
   has_cond h c a is low = let b = ap (λ (y : FloorView). y.conds) h.goes.is_floor in let here =
       subst (λ (x : Holder). c < x.me.setting.conds) (sym is) low in omega arith
 
 -- what is known where there is something to choose, of the floor in its hands
-pub must_known : {k : Rules} {o : Object} {z : TableId} {me : Me} {number calls budget : ℕ} {f : FloorView}
-    → IsHolding k o z me number calls budget f → (a : Holder) → holder z (the me.0) f ≡ a
+pub must_known : {k : Rules} {o : Object} {z : TableId} {me : Me} {numbers : SeatNumbers} {f : FloorView}
+    → IsHolding k o z me numbers f → (a : Holder) → holder z (the me.0) f ≡ a
     → (call : ℕ → Event) {R : Type 0}
     → (must_stay o (stands_of k o a.floor) (call a.me.seat) ≡ false → R)
-    → must_stay o (stands_of k o f) (call number) ≡ false → R
+    → must_stay o (stands_of k o f) (call numbers.seat) ≡ false → R
 must_known {k} {o} {f = f} h a is call told free =
     told ((λ i. must_stay o (stands_of k o (sym is i).floor) (call (sym is i).me.seat))
     ∙ ap (λ n. must_stay o (stands_of k o f) (call n)) h.seated.is_seat ∙ free)

@@ -1,5 +1,5 @@
 -- What tokens keep from step to step
-use Rattle.std.proofs.Common.{◌≡◌, ℕ, suc, ◌+◌, ◌-◌, ◌<◌, ◌≤◌, ◌==◌, Bool, true, false, cond, List, [], ◌∷◌, ◌++◌}
+use Rattle.std.proofs.Common.{◌≡◌, ℕ, suc, ◌+◌, ◌<◌, ◌≤◌, ◌==◌, Bool, true, false, cond, List, [], ◌∷◌, ◌++◌}
 use Rattle.std.proofs.Common.{length, length-append, append-nil, append_assoc, None, refl, sym, ap, subst, ◌∙◌, arith}
 use Rattle.atomic_table.specs.Seated.{TableId}
 use Rattle.monk_kinds.specs.declared.mode.Rules.{Rules}
@@ -31,6 +31,7 @@ use Rattle.monk_hall.specs.Records.{View, the}
 use Rattle.monk_hall.specs.Tells.{Me, TellsArrive, SeesTruly}
 use Rattle.monk_hall.specs.Tokens.{Token, Holder, IsResting, IsHolding, IsWaiting, with_own, holder}
 use Rattle.monk_hall.specs.declared.record.SeatRecord.{SeatRecord}
+use Rattle.monk_hall.specs.declared.seat_numbers.SeatNumbers.{SeatNumbers}
 
 -- a seat's own event is one more of its own
 pub own_longer : (h : List Event) (e : Event) (s : ℕ) → seat_of e ≡ s
@@ -80,7 +81,7 @@ module _ {k : Rules} {o : Object} where
     own = (λ i. events_of (seen i) (seat i)) ∙ (t.own ∙ sym mine);
   }
 
-  pub rests_moved : {z : TableId} {me : Me} {number left calls budget : ℕ} → IsResting k o z me number left calls budget
+  pub rests_moved : {z : TableId} {me : Me} {numbers : SeatNumbers} {left : ℕ} → IsResting k o z me numbers left
       → (p : Place) (known : Bool) (count looks steps now : ℕ) → now ≡ count
       → IsResting k o z (
         record (the me.0) {
@@ -92,7 +93,7 @@ module _ {k : Rules} {o : Object} where
               steps;
         } ∷ [],
         me.1,
-      ) number left now budget
+      ) (record numbers { calls = now }) left
   rests_moved {z} {me} x p known count looks steps now counts = record {
     one = refl;
     free = x.free;
@@ -127,13 +128,13 @@ module _ {k : Rules} {o : Object} where
         let two = x.left in let b = ap (λ y. y.budget) x.is_floor in omega arith;
   }
 
-  pub came_in : {z : TableId} {me : Me} {number left calls budget : ℕ} → IsResting k o z me number left calls budget
+  pub came_in : {z : TableId} {me : Me} {numbers : SeatNumbers} {left : ℕ} → IsResting k o z me numbers left
       → (f g : FloorView) → Finds k o (the me.0) f
       → g ≡ with_event f (out_event (the me.0).seat (source_from (the me.0).place) (turn f.history))
-      → IsHolding k o z (record_after_floor_out (the me.0) f.history ∷ [], (0, None) ∷ []) number calls budget g
-  came_in {z} {me} {number} {left} {calls} {budget} x f g finds grows =
+      → IsHolding k o z (record_after_floor_out (the me.0) f.history ∷ [], (0, None) ∷ []) numbers g
+  came_in {z} {me} {numbers} {left} x f g finds grows =
       let r = the me.0 in let e = out_event r.seat (source_from r.place) (turn f.history) in
-      subst (λ y. IsHolding k o z (record_after_floor_out r f.history ∷ [], (0, None) ∷ []) number calls budget
+      subst (λ y. IsHolding k o z (record_after_floor_out r f.history ∷ [], (0, None) ∷ []) numbers
       y) (sym grows) record {
         one = refl;
         out = refl;
@@ -179,33 +180,33 @@ module _ {k : Rules} {o : Object} where
       }
 
   -- a step leaves the seat of the same table, and its view is this
-  pub rests_at : {z : TableId} {me : Me} {number left calls budget : ℕ} → IsResting k o z me number left calls budget
-      → (y : TableId) (new : Me) → y ≡ z → new ≡ me → IsResting k o y new number left calls budget
-  rests_at {z} {me} {number} {left} {calls} {budget} x y new same is =
-      subst (λ a. IsResting k o a new number left calls budget) (sym same)
-      (subst (λ m. IsResting k o z m number left calls budget) (sym is) x)
+  pub rests_at : {z : TableId} {me : Me} {numbers : SeatNumbers} {left : ℕ} → IsResting k o z me numbers left
+      → (y : TableId) (new : Me) → y ≡ z → new ≡ me → IsResting k o y new numbers left
+  rests_at {z} {me} {numbers} {left} x y new same is =
+      subst (λ a. IsResting k o a new numbers left) (sym same)
+      (subst (λ m. IsResting k o z m numbers left) (sym is) x)
 
   -- an idle seat has drawn a ticket
-  pub arrival_rests : {z : TableId} {v : View} {number left calls budget : ℕ}
-      → IsResting k o z (v, []) number left calls budget
+  pub arrival_rests : {z : TableId} {v : View} {numbers : SeatNumbers} {left : ℕ}
+      → IsResting k o z (v, []) numbers left
       → (me : Me) → me.0 ≡ v → me.1 ≡ []
       → (y : TableId) (new : Me) (found : ℕ) (p : Place) → y ≡ z
       → new ≡ (record_after_arrive (the me.0) found ∷ [], me.1) → length (the v).mine + 2 ≤ (the v).setting.budget
       → p ≡ place_after_arrive (tickets found) (unpassed found)
-      → IsResting k o y new number left calls budget × (2 ≤ left) × (p ≡ (the new.0).place) × IsWaiting p
-  arrival_rests {z} {v} {number} {left} {calls} {budget} x me view free y new found p same is two at =
+      → IsResting k o y new numbers left × (2 ≤ left) × (p ≡ (the new.0).place) × IsWaiting p
+  arrival_rests {z} {v} {numbers} {left} x me view free y new found p same is two at =
       let r = the v in let spent = x.spent in
       let drawn : new ≡ (record_after_arrive r found ∷ [], []) = is
       ∙ (λ i. (record_after_arrive (the (view i)) found ∷ [], free i)) in (
         rests_at (rests_moved x (place_after_arrive (tickets found) (unpassed found)) r.known r.count r.looks
-            (suc r.steps) calls x.seated.counted) y new same drawn,
+            (suc r.steps) numbers.calls x.seated.counted) y new same drawn,
         omega arith,
         at ∙ sym (ap (λ m. (the m.0).place) drawn),
         subst IsWaiting (sym at) (arrived_waits (tickets found) (unpassed found)),
       )
 
-  pub arrival : {z : TableId} {v : View} {number left calls budget : ℕ}
-      → IsResting k o z (v, []) number left calls budget → (me : Me)
+  pub arrival : {z : TableId} {v : View} {numbers : SeatNumbers} {left : ℕ}
+      → IsResting k o z (v, []) numbers left → (me : Me)
       → me.0 ≡ v → me.1 ≡ []
       → (y : TableId) (new : Me) (found : ℕ) → y ≡ z → TellsArrive me found new
       → HasArrived k o (token z (the v)) (token y (the new.0))
@@ -221,29 +222,29 @@ module _ {k : Rules} {o : Object} where
       }
 
   -- a seat with a ticket has looked for it
-  pub ticket_look_rests : {z : TableId} {me : Me} {number left calls budget : ℕ}
-      → IsResting k o z me number left calls budget
+  pub ticket_look_rests : {z : TableId} {me : Me} {numbers : SeatNumbers} {left : ℕ}
+      → IsResting k o z me numbers left
       → (t found : ℕ) → (the me.0).place ≡ Ticket t → (y : TableId) (new : Me) (p : Place)
       → y ≡ z → new ≡ (record_after_ticket_look (the me.0) found ∷ [], me.1)
       → p ≡ place_after_ticket_look t (found == t + 1)
-      → IsResting k o y new number left calls budget × (p ≡ (the new.0).place) × IsWaiting p
-  ticket_look_rests {z} {me} {number} {left} {calls} {budget} x t found at y new p same is looks =
+      → IsResting k o y new numbers left × (p ≡ (the new.0).place) × IsWaiting p
+  ticket_look_rests {z} {me} {numbers} {left} x t found at y new p same is looks =
       let r = the me.0 in let n = Rattle.monk_world.specs.Places.ticket r.place in (
         rests_at (rests_moved x (place_after_ticket_look n (found == n + 1)) r.known r.count (suc r.looks) (suc r.steps)
-            calls x.seated.counted) y new same is,
+            numbers.calls x.seated.counted) y new same is,
         looks ∙ sym (ap (λ q. place_after_ticket_look (Rattle.monk_world.specs.Places.ticket q)
             (found == Rattle.monk_world.specs.Places.ticket q + 1)) at) ∙ sym (ap (λ m. (the m.0).place) is),
         subst IsWaiting (sym looks) (looked_waits t (found == t + 1)),
       )
 
   -- a parked seat has looked for its call
-  pub call_look_rests : {z : TableId} {me : Me} {number left calls budget : ℕ}
-      → IsResting k o z me number left calls budget
+  pub call_look_rests : {z : TableId} {me : Me} {numbers : SeatNumbers} {left : ℕ}
+      → IsResting k o z me numbers left
       → (found : ℕ) → (y : TableId) (new : Me) (p : Place) (b : Bool) (now : ℕ)
-      → y ≡ z → new ≡ (record_after_seat_look (the me.0) found ∷ [], me.1) → b ≡ (found == calls + 1)
-      → p ≡ place_after_seat_look b → now ≡ count_after_seat_look calls (found == calls + 1)
-      → IsResting k o y new number left now budget × (p ≡ (the new.0).place) × IsWaiting p
-  call_look_rests {z} {me} {number} {left} {calls} {budget} x found y new p b now same is says looks counts =
+      → y ≡ z → new ≡ (record_after_seat_look (the me.0) found ∷ [], me.1) → b ≡ (found == numbers.calls + 1)
+      → p ≡ place_after_seat_look b → now ≡ count_after_seat_look numbers.calls (found == numbers.calls + 1)
+      → IsResting k o y new (record numbers { calls = now }) left × (p ≡ (the new.0).place) × IsWaiting p
+  call_look_rests {z} {me} {numbers} {left} x found y new p b now same is says looks counts =
       let r = the me.0 in let e = x.seated.counted in (
         rests_at (rests_moved x (place_after_seat_look (found == r.count + 1)) r.known
             (count_after_seat_look r.count (found == r.count + 1)) (suc r.looks) (suc r.steps) now
@@ -253,25 +254,25 @@ module _ {k : Rules} {o : Object} where
       )
 
   -- the floor has come out to a seat that was due, and its event is recorded
-  out_is : {z : TableId} {me : Me} {number left calls budget : ℕ} → IsResting k o z me number left calls budget
+  out_is : {z : TableId} {me : Me} {numbers : SeatNumbers} {left : ℕ} → IsResting k o z me numbers left
       → (f g : FloorView) (q : Source) → (the me.0).place ≡ Due q
-      → g ≡ with_event f (out_event number q (turn f.history))
+      → g ≡ with_event f (out_event numbers.seat q (turn f.history))
       → g ≡ with_event f (out_event (the me.0).seat (source_from (the me.0).place) (turn f.history))
   out_is x f g q at grows = grows
       ∙ (λ i. with_event f (out_event (sym x.seated.is_seat i) (sym (ap source_from at) i) (turn f.history)))
 
-  pub entry_holds : {z : TableId} {me : Me} {number left calls budget : ℕ} → IsResting k o z me number left calls budget
+  pub entry_holds : {z : TableId} {me : Me} {numbers : SeatNumbers} {left : ℕ} → IsResting k o z me numbers left
       → (f g : FloorView) (q : Source) → Finds k o (the me.0) f → (the me.0).place ≡ Due q
-      → g ≡ with_event f (out_event number q (turn f.history)) → (y : TableId) (new : Me) → y ≡ z
+      → g ≡ with_event f (out_event numbers.seat q (turn f.history)) → (y : TableId) (new : Me) → y ≡ z
       → new ≡ (record_after_floor_out (the me.0) f.history ∷ [], (0, None) ∷ [])
-      → IsHolding k o y new number calls budget g
-  entry_holds {z} {me} {number} {left} {calls} {budget} x f g q finds at grows y new same is =
-      subst (λ a. IsHolding k o a new number calls budget g) (sym same)
-      (subst (λ m. IsHolding k o z m number calls budget g) (sym is) (came_in x f g finds (out_is x f g q at grows)))
+      → IsHolding k o y new numbers g
+  entry_holds {z} {me} {numbers} {left} x f g q finds at grows y new same is =
+      subst (λ a. IsHolding k o a new numbers g) (sym same)
+      (subst (λ m. IsHolding k o z m numbers g) (sym is) (came_in x f g finds (out_is x f g q at grows)))
 
-  pub entry : {z : TableId} {me : Me} {number left calls budget : ℕ} → IsResting k o z me number left calls budget
+  pub entry : {z : TableId} {me : Me} {numbers : SeatNumbers} {left : ℕ} → IsResting k o z me numbers left
       → (f g : FloorView) (q : Source) → Finds k o (the me.0) f → (the me.0).place ≡ Due q
-      → g ≡ with_event f (out_event number q (turn f.history)) → (y : TableId) (new : Me) → y ≡ z
+      → g ≡ with_event f (out_event numbers.seat q (turn f.history)) → (y : TableId) (new : Me) → y ≡ z
       → new ≡ (record_after_floor_out (the me.0) f.history ∷ [], (0, None) ∷ [])
       → HasEntered k o (token z (the me.0)) (holder y (the new.0) g)
   entry {z} {me} x f g q finds at grows y new same is =
@@ -368,15 +369,15 @@ module _ {k : Rules} {o : Object} where
     within = let more = own_longer f.history e r.seat seat in omega arith;
   }
 
-  pub grown_holds : {z : TableId} {me : Me} {number calls budget : ℕ} {f : FloorView}
-      → IsHolding k o z me number calls budget f
-      → (e : Event) → seat_of e ≡ number → turn_by (seat_of e) (next_of e) ≡ Owned number
+  pub grown_holds : {z : TableId} {me : Me} {numbers : SeatNumbers} {f : FloorView}
+      → IsHolding k o z me numbers f
+      → (e : Event) → seat_of e ≡ numbers.seat → turn_by (seat_of e) (next_of e) ≡ Owned numbers.seat
       → is_enter e ≡ false → IsAllowed (monitor_of k o f) f.history e
       → length (events_of f.history (the me.0).seat) + 2 ≤ (the me.0).setting.budget → (g : FloorView)
-      → g ≡ with_event f e → IsHolding k o z me number calls budget g
-  grown_holds {z} {me} {number} {calls} {budget} {f} x e seat keeps enters allowed room g grows = let n =
+      → g ≡ with_event f e → IsHolding k o z me numbers g
+  grown_holds {z} {me} {numbers} {f} x e seat keeps enters allowed room g grows = let n =
       x.seated.is_seat in
-      subst (λ y. IsHolding k o z me number calls budget y) (sym grows) record {
+      subst (λ y. IsHolding k o z me numbers y) (sym grows) record {
         one = x.one;
         out = x.out;
         active = x.active;

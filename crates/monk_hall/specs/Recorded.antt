@@ -35,16 +35,16 @@ pub record IsRelease (k : Rules) (o : Object) (r : SeatRecord) (f : FloorView) (
 
 -- the active seat `a`, taken apart, with nothing recorded yet
 pub record IsApart {K T : Type 0} (k : Rules) (o : Object) (a : Holder) (r : Release K T) : Type 0 where
-  pub holds : IsHolding k o r.seat.table_id r.seat.me r.number r.calls r.budget r.floor
+  pub holds : IsHolding k o r.seat.table_id r.seat.me r.numbers r.floor
   pub was : holder r.seat.table_id (the r.seat.me.0) r.floor ≡ a
 
 -- the active seat `a`, taken apart, with this call recorded in its floor
 pub record HasRecorded {K T : Type 0} (k : Rules) (o : Object) (a : Holder) (call : ℕ → Event) (wish : Pick)
     (known : Bool) (to : Home) (r : Release K T) : Type 0 where
   pub before : FloorView
-  pub holds : IsHolding k o r.seat.table_id r.seat.me r.number r.calls r.budget before
+  pub holds : IsHolding k o r.seat.table_id r.seat.me r.numbers before
   pub was : holder r.seat.table_id (the r.seat.me.0) before ≡ a
-  pub release : IsRelease k o (the r.seat.me.0) before (call r.number) wish known r.choice to r.floor
+  pub release : IsRelease k o (the r.seat.me.0) before (call r.numbers.seat) wish known r.choice to r.floor
 
 -- it has some release recorded, which leads there
 pub record IsRecorded {K T : Type 0} (k : Rules) (o : Object) (to : Home) (r : Release K T) : Type 0 where

@@ -13,6 +13,7 @@ use Rattle.monk_hall.specs.Layout.{word_count}
 use Rattle.monk_hall.specs.Records.{View, IsOne, the}
 use Rattle.monk_hall.specs.Tells.{Me, SeesTruly}
 use Rattle.monk_hall.specs.declared.record.SeatRecord.{SeatRecord}
+use Rattle.monk_hall.specs.declared.seat_numbers.SeatNumbers.{SeatNumbers}
 use Rattle.monk_hall.specs.declared.setting.Setting.{Setting}
 
 -- a hall: which table it is, and what was fixed when it was made
@@ -49,29 +50,29 @@ with_own r f = record r { mine = events_of f.history r.seat }
 abbrev pub holder : TableId → SeatRecord → FloorView → Holder
 holder z r f = record { hall = z; me = with_own r f; floor = f }
 
--- the numbers that a token stores are those of its seat
-pub record IsSeated (z : TableId) (r : SeatRecord) (number calls budget : ℕ) : Type 0 where
-  pub is_seat : r.seat ≡ number
-  pub near : number < r.setting.seats
+-- the numbers that a token keeps are those of its seat
+pub record IsSeated (z : TableId) (r : SeatRecord) (numbers : SeatNumbers) : Type 0 where
+  pub is_seat : r.seat ≡ numbers.seat
+  pub near : numbers.seat < r.setting.seats
   pub sized : z.words ≡ word_count r.setting.seats
-  pub counted : calls ≡ r.count
-  pub budgeted : budget ≡ r.setting.budget
+  pub counted : numbers.calls ≡ r.count
+  pub budgeted : numbers.budget ≡ r.setting.budget
 
 -- a seat without the floor, and with so many events left
-pub record IsResting (k : Rules) (o : Object) (z : TableId) (me : Me) (number left calls budget : ℕ) : Type 0 where
+pub record IsResting (k : Rules) (o : Object) (z : TableId) (me : Me) (numbers : SeatNumbers) (left : ℕ) : Type 0 where
   pub one : IsOne me.0
   pub free : me.1 ≡ []
-  pub seated : IsSeated z (the me.0) number calls budget
+  pub seated : IsSeated z (the me.0) numbers
   pub spent : left + length (the me.0).mine ≡ (the me.0).setting.budget
   pub told : SeesTruly k o (the me.0)
 
 -- a seat with the floor, from which it can still go out
-pub record IsHolding (k : Rules) (o : Object) (z : TableId) (me : Me) (number calls budget : ℕ)
+pub record IsHolding (k : Rules) (o : Object) (z : TableId) (me : Me) (numbers : SeatNumbers)
     (f : FloorView) : Type 0 where
   pub one : IsOne me.0
   pub out : me.1 ≡ (0, None) ∷ []
   pub active : stage (the me.0).place ≡ active_stage
-  pub seated : IsSeated z (the me.0) number calls budget
+  pub seated : IsSeated z (the me.0) numbers
   pub goes : GoesOn k o (the me.0) f
   pub left : length (events_of f.history (the me.0).seat) < (the me.0).setting.budget
 

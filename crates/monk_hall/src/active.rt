@@ -9,6 +9,7 @@ ghost use Rattle.monk_hall.specs.Layout.{floor_of};
 
 use crate::boxed_floor::BoxedFloor;
 use crate::rule::TableSeat;
+use crate::seat_numbers::SeatNumbers;
 use monk_history::Event;
 use monk_kinds::Kind;
 use monk_object::{Guarded, Op};
@@ -18,9 +19,7 @@ use std::marker::Model;
 /// release.
 pub struct Active<K: Kind, T: Guarded> {
     pub(crate) seat: TableSeat<K, T>,
-    pub(crate) number: u8,
-    pub(crate) calls: u64,
-    pub(crate) budget: u32,
+    pub(crate) numbers: SeatNumbers,
     pub(crate) floor: BoxedFloor<K, T>,
 }
 
@@ -32,7 +31,7 @@ impl<K: Kind, T: Guarded> Model for Active<K, T> {
 
     ghost view = { λ a. record { hall = a.seat.table_id; me = with_own (the a.seat.me.0) a.floor; floor = a.floor } };
 
-    ghost invariant = { λ a. IsHolding K.rules T.meaning a.seat.table_id a.seat.me a.number a.calls a.budget a.floor };
+    ghost invariant = { λ a. IsHolding K.rules T.meaning a.seat.table_id a.seat.me a.numbers a.floor };
 }
 
 impl<K: Kind, T: Guarded> Active<K, T> {
@@ -40,7 +39,7 @@ impl<K: Kind, T: Guarded> Active<K, T> {
     pub fn seat(&self) -> u8
         ensures { result ≡ self.now.me.seat }
     {
-        self.number
+        self.numbers.seat
     }
 
     /// How many events its seat has left of its budget: one at least. Its floor has the numbers of the hall.
@@ -49,7 +48,7 @@ impl<K: Kind, T: Guarded> Active<K, T> {
         ensures some { 1 ≤ result }
         ensures floor { self.now.floor ≡ floor_of self.now.me.setting self.now.floor.history }
     {
-        self.floor.left(self.number)
+        self.floor.left(self.numbers.seat)
     }
 
     /// The history up to now, which is legal. The seat's events in it are its own.
@@ -85,6 +84,6 @@ impl<K: Kind, T: Guarded> Active<K, T> {
         ensures done { HasDone K.rules T.meaning self.old (Event.Act self.old.me.seat op result) self.new }
         ensures within { result ≤ T.greatest_reply }
     {
-        self.floor.act(self.number, op)
+        self.floor.act(self.numbers.seat, op)
     }
 }

@@ -55,13 +55,11 @@ impl<K: Kind, T: Guarded> Active<K, T> {
     {
         let Active {
             seat: _,
-            number,
-            calls: _,
-            budget: _,
+            numbers,
             floor,
         } = self;
         let mut floor = floor.into_inner();
-        floor.leave(number, Pick::Entry, false);
+        floor.leave(numbers.seat, Pick::Entry, false);
         let (object, history) = floor.close();
         Closed { object, history }
     }

@@ -29,6 +29,7 @@ mod release;
 mod releases;
 mod resuming;
 mod rule;
+mod seat_numbers;
 mod setting;
 mod setup;
 mod steps;

@@ -12,6 +12,7 @@ use crate::hall::Hall;
 use crate::pass::Pass;
 use crate::plays::Deal;
 use crate::rule::{SharedTable, TableSeat};
+use crate::seat_numbers::SeatNumbers;
 use crate::setup::Setup;
 use atomic_table::{Refused, Table};
 use monk_floor::{Floor, MakeFault};
@@ -122,12 +123,15 @@ fn fresh_pass<K: Kind, T: Guarded>(seat: TableSeat<K, T>, number: u8, budget: u3
     requires numbers { (number < (the seat.me.0).setting.seats) × (budget ≡ (the seat.me.0).setting.budget) }
     ensures { result ≡ record { hall = seat.table_id; me = opening_record (the seat.me.0).setting number } }
 {
+    let numbers = SeatNumbers {
+        seat: number,
+        calls: 0,
+        budget,
+    };
     Pass {
         badge: seat.into_badge(),
         of: PhantomData,
-        number,
+        numbers,
         left: budget,
-        calls: 0,
-        budget,
     }
 }

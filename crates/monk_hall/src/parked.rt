@@ -9,6 +9,7 @@ use crate::places::{
     count_after_seat_look, is_called, place_after_seat_look, place_after_ticket_look,
 };
 use crate::rule::TableSeat;
+use crate::seat_numbers::SeatNumbers;
 use crate::steps;
 use monk_kinds::Kind;
 use monk_object::Guarded;
@@ -19,10 +20,8 @@ use std::marker::Model;
 /// active now. It can't be dropped: it is polled or resumed, or given up.
 pub struct Parked<K: Kind, T: Guarded> {
     pub(crate) seat: TableSeat<K, T>,
-    pub(crate) number: u8,
+    pub(crate) numbers: SeatNumbers,
     pub(crate) left: u32,
-    pub(crate) calls: u64,
-    pub(crate) budget: u32,
     pub(crate) place: Place,
 }
 
@@ -35,7 +34,7 @@ impl<K: Kind, T: Guarded> Model for Parked<K, T> {
 
     ghost view = { λ p. record { hall = p.seat.table_id; me = the p.seat.me.0 } };
 
-    ghost invariant = { λ p. IsResting K.rules T.meaning p.seat.table_id p.seat.me p.number p.left p.calls p.budget
+    ghost invariant = { λ p. IsResting K.rules T.meaning p.seat.table_id p.seat.me p.numbers p.left
         × (2 ≤ p.left) × (p.place ≡ (the p.seat.me.0).place) × IsWaiting p.place };
 }
 
@@ -44,7 +43,7 @@ impl<K: Kind, T: Guarded> Parked<K, T> {
     pub fn seat(&self) -> u8
         ensures { result ≡ self.now.me.seat }
     {
-        self.number
+        self.numbers.seat
     }
 
     /// How many events its seat has left of its budget.
@@ -101,19 +100,15 @@ impl<K: Kind, T: Guarded> Parked<K, T> {
     {
         let Parked {
             mut seat,
-            number,
+            numbers,
             left,
-            calls,
-            budget,
             place: _,
         } = self;
         let found = steps::ticket_look(&hall.table.shared, &mut seat, hall.seats, ticket);
         Parked {
             seat,
-            number,
+            numbers,
             left,
-            calls,
-            budget,
             place: place_after_ticket_look(ticket, found),
         }
     }
@@ -126,20 +121,20 @@ impl<K: Kind, T: Guarded> Parked<K, T> {
     {
         let Parked {
             mut seat,
-            number,
+            numbers,
             left,
-            calls,
-            budget,
             place: _,
         } = self;
-        let found = steps::seat_look(&hall.table.shared, &mut seat, number);
+        let found = steps::seat_look(&hall.table.shared, &mut seat, numbers.seat);
         Parked {
             seat,
-            number,
+            numbers: SeatNumbers {
+                seat: numbers.seat,
+                calls: count_after_seat_look(numbers.calls, found),
+                budget: numbers.budget,
+            },
             left,
-            calls: count_after_seat_look(calls, found),
-            budget,
-            place: place_after_seat_look(is_called(calls, found)),
+            place: place_after_seat_look(is_called(numbers.calls, found)),
         }
     }
 
@@ -152,19 +147,15 @@ impl<K: Kind, T: Guarded> Parked<K, T> {
     {
         let Parked {
             mut seat,
-            number,
+            numbers,
             left: _,
-            calls,
-            budget,
             place: _,
         } = self;
         let mut floor = steps::floor_out(&hall.table.shared, &mut seat);
-        record_entry(&mut floor, number, source);
+        record_entry(&mut floor, numbers.seat, source);
         Active {
             seat,
-            number,
-            calls,
-            budget,
+            numbers,
             floor,
         }
     }
@@ -174,10 +165,8 @@ impl<K: Kind, T: Guarded> Parked<K, T> {
     pub fn give_up(self) {
         let Parked {
             seat: _,
-            number: _,
+            numbers: _,
             left: _,
-            calls: _,
-            budget: _,
             place: _,
         } = self;
     }

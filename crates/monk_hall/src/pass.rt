@@ -7,6 +7,7 @@ use crate::parked::Parked;
 use crate::places::place_after_arrive;
 use crate::record::View;
 use crate::rule::TableSeat;
+use crate::seat_numbers::SeatNumbers;
 use crate::steps;
 use atomic_table::Badge;
 use monk_kinds::Kind;
@@ -18,10 +19,8 @@ use std::marker::{Model, PhantomData};
 pub struct Pass<K: Kind, T: Guarded> {
     pub(crate) badge: Badge<View>,
     pub(crate) of: PhantomData<(K, T)>,
-    pub(crate) number: u8,
+    pub(crate) numbers: SeatNumbers,
     pub(crate) left: u32,
-    pub(crate) calls: u64,
-    pub(crate) budget: u32,
 }
 
 impl<K: Kind, T: Guarded> Model for Pass<K, T> {
@@ -35,7 +34,7 @@ impl<K: Kind, T: Guarded> Model for Pass<K, T> {
     ghost view = { λ p. record { hall = p.badge.table_id; me = the (top p.badge.views) } };
 
     ghost invariant = { λ p. (p.badge.views ≡ top p.badge.views ∷ [])
-        × IsResting K.rules T.meaning p.badge.table_id (top p.badge.views, []) p.number p.left p.calls p.budget
+        × IsResting K.rules T.meaning p.badge.table_id (top p.badge.views, []) p.numbers p.left
         × ((the (top p.badge.views)).place ≡ Idle) };
 }
 
@@ -44,7 +43,7 @@ impl<K: Kind, T: Guarded> Pass<K, T> {
     pub fn seat(&self) -> u8
         ensures { result ≡ self.now.me.seat }
     {
-        self.number
+        self.numbers.seat
     }
 
     /// How many events its seat has left of its budget. What the seat has seen is legal, with its own events those that
@@ -61,7 +60,7 @@ impl<K: Kind, T: Guarded> Pass<K, T> {
         ensures made { result ≡ length self.now.me.mine }
         ensures told { SeesTruly K.rules T.meaning self.now.me }
     {
-        self.budget - self.left
+        self.numbers.budget - self.left
     }
 
     /// Comes to the monitor: draws a ticket, in one step. The event of the enter is recorded when the seat becomes
@@ -74,19 +73,15 @@ impl<K: Kind, T: Guarded> Pass<K, T> {
         let Pass {
             badge,
             of: _,
-            number,
+            numbers,
             left,
-            calls,
-            budget,
         } = self;
         let mut seat: TableSeat<K, T> = badge.into_seat();
         let found = steps::arrive(&hall.table.shared, &mut seat);
         Parked {
             seat,
-            number,
+            numbers,
             left,
-            calls,
-            budget,
             place: place_after_arrive(found),
         }
     }

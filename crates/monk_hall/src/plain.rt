@@ -1,6 +1,6 @@
 //! The releases that not every kind has, for code that is generic over every kind: whether the kind has a call is a
 //! condition of the call in place of a bound, and the floor takes the general scheduler step. Each has the contract of
-//! the call without `plain_`.
+//! the call without `plain_`, which is made of it.
 ghost use Rattle.std.specs.Prelude.{◌≡◌, ◌+◌, ◌<◌, ◌≤◌, true, false, not, length, Some};
 ghost use Rattle.monk_history.specs.Meaning.Choice.{must_stay};
 ghost use Rattle.monk_history.specs.Meaning.Events.{has_conditions, has_signaller_queue, is_stay, returns_at_once};
@@ -74,7 +74,9 @@ impl<K: Kind, T: Guarded> Active<K, T> {
         ensures away { is_stay (Some result.choice) ≡ false }
     {
         let mut release = Release::of(self);
-        release.choice = release.floor.plain_wait(release.number, cond, pick, known);
+        release.choice = release
+            .floor
+            .plain_wait(release.numbers.seat, cond, pick, known);
         release
     }
 
@@ -121,7 +123,7 @@ impl<K: Kind, T: Guarded> Active<K, T> {
         let mut release = Release::of(self);
         release.choice = release
             .floor
-            .plain_signal(release.number, cond, pick, known);
+            .plain_signal(release.numbers.seat, cond, pick, known);
         release
     }
 
@@ -167,7 +169,7 @@ impl<K: Kind, T: Guarded> Active<K, T> {
         let mut release = Release::of(self);
         release.choice = release
             .floor
-            .plain_signal_leave(release.number, cond, pick, known);
+            .plain_signal_leave(release.numbers.seat, cond, pick, known);
         release
     }
 
@@ -212,7 +214,9 @@ impl<K: Kind, T: Guarded> Active<K, T> {
             (λ n. Event.Until n pred Next.Stay) pick known home.Inner result }
     {
         let mut release = Release::of(self);
-        release.choice = release.floor.plain_until(release.number, pred, pick, known);
+        release.choice = release
+            .floor
+            .plain_until(release.numbers.seat, pred, pick, known);
         release
     }
 }

@@ -13,6 +13,7 @@ use crate::handing::{go_home, is_stay};
 use crate::parked::Parked;
 use crate::pass::Pass;
 use crate::rule::TableSeat;
+use crate::seat_numbers::SeatNumbers;
 use monk_history::Next;
 use monk_kinds::Kind;
 use monk_object::Guarded;
@@ -23,9 +24,7 @@ use std::marker::PhantomData;
 /// on. The floor has yet to go home, unless the seat stays.
 pub struct Release<K: Kind, T: Guarded> {
     pub(crate) seat: TableSeat<K, T>,
-    pub(crate) number: u8,
-    pub(crate) calls: u64,
-    pub(crate) budget: u32,
+    pub(crate) numbers: SeatNumbers,
     pub(crate) floor: BoxedFloor<K, T>,
     pub(crate) choice: Next,
 }
@@ -37,16 +36,12 @@ impl<K: Kind, T: Guarded> Release<K, T> {
     {
         let Active {
             seat,
-            number,
-            calls,
-            budget,
+            numbers,
             floor,
         } = active;
         Release {
             seat,
-            number,
-            calls,
-            budget,
+            numbers,
             floor,
             choice: Next::Stay,
         }
@@ -61,21 +56,17 @@ impl<K: Kind, T: Guarded> Release<K, T> {
     {
         let Release {
             mut seat,
-            number,
-            calls,
-            budget,
+            numbers,
             floor,
             choice,
         } = self;
-        let left = floor.left(number);
+        let left = floor.left(numbers.seat);
         let granted = go_home(hall, &mut seat, floor, choice);
         let pass = Pass {
             badge: seat.into_badge(),
             of: PhantomData,
-            number,
+            numbers,
             left,
-            calls,
-            budget,
         };
         (pass, granted)
     }
@@ -89,20 +80,16 @@ impl<K: Kind, T: Guarded> Release<K, T> {
     {
         let Release {
             mut seat,
-            number,
-            calls,
-            budget,
+            numbers,
             floor,
             choice,
         } = self;
-        let left = floor.left(number);
+        let left = floor.left(numbers.seat);
         let granted = go_home(hall, &mut seat, floor, choice);
         let parked = Parked {
             seat,
-            number,
+            numbers,
             left,
-            calls,
-            budget,
             place: Place::Inner,
         };
         (parked, granted)
@@ -117,17 +104,13 @@ impl<K: Kind, T: Guarded> Release<K, T> {
         if is_stay(self.choice) {
             let Release {
                 seat,
-                number,
-                calls,
-                budget,
+                numbers,
                 floor,
                 choice: _,
             } = self;
             let active = Active {
                 seat,
-                number,
-                calls,
-                budget,
+                numbers,
                 floor,
             };
             return (After::Active(active), None);

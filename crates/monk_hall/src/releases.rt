@@ -85,18 +85,15 @@ impl<K: Kind, T: Guarded> Active<K, T> {
         ensures away { is_stay (Some result.choice) ≡ false }
     {
         let mut release = Release::of(self);
-        release.choice = release.floor.leave(release.number, pick, known);
+        release.choice = release.floor.leave(release.numbers.seat, pick, known);
         release
     }
 }
 
 impl<K: Conditional, T: Guarded> Active<K, T> {
-    ghost use Rattle.std.specs.Prelude.{◌≡◌, ◌+◌, ◌<◌, ◌≤◌, false, Some, length};
-    ghost use Rattle.monk_history.specs.Meaning.Events.{is_stay};
-    ghost use Rattle.monk_world.specs.declared.home.Home.TheVariants as home;
-    ghost use Rattle.monk_hall.specs.Calls.{ParksInside, is_entry_known};
+    ghost use Rattle.std.specs.Prelude.{◌≡◌, ◌+◌, ◌<◌, ◌≤◌, length};
+    ghost use Rattle.monk_hall.specs.Calls.{ParksInside};
     ghost use Rattle.monk_hall.specs.Granting.{GrantsInside};
-    ghost use Rattle.monk_hall.specs.Recorded.{HasRecorded};
 
     /// Waits on a condition variable until it is signalled, in at most four steps. The seat is parked inside. The
     /// scheduler step and the wish are as at `leave`.
@@ -122,33 +119,14 @@ impl<K: Conditional, T: Guarded> Active<K, T> {
         ensures { GrantsInside K.rules T.meaning self
             (Event.Wait self.me.seat cond Next.Stay) pick result.0 hall.now result.1 }
     {
-        let mut active = self;
-        let known = active.look_for_entry(hall, true, pick);
-        active.record_wait(cond, pick, known).go_inside(hall)
-    }
-
-    fn record_wait(self, cond: u8, pick: Pick, known: bool) -> Release<K, T>
-        requires cond { cond < self.me.setting.conds }
-        requires left { length self.me.mine + 3 ≤ self.me.setting.budget }
-        requires known { known ≡ is_entry_known pick self.me.known }
-        ensures table { result.seat.table_id ≡ self.hall }
-        ensures recorded { HasRecorded K.rules T.meaning self
-            (λ n. Event.Wait n cond Next.Stay) pick known home.Inner result }
-        ensures away { is_stay (Some result.choice) ≡ false }
-    {
-        let mut release = Release::of(self);
-        release.choice = release.floor.wait(release.number, cond, pick, known);
-        release
+        self.plain_wait_quietly(hall, cond, pick)
     }
 }
 
 impl<K: Explicit, T: Guarded> Active<K, T> {
     ghost use Rattle.std.specs.Prelude.{◌≡◌, ◌+◌, ◌<◌, ◌≤◌, length};
-    ghost use Rattle.monk_world.specs.declared.home.Home.TheVariants as home;
     ghost use Rattle.monk_hall.specs.AfterCalls.{StaysOrParks};
-    ghost use Rattle.monk_hall.specs.Calls.{KnowsForChoice};
     ghost use Rattle.monk_hall.specs.Granting.{StaysOrGrants};
-    ghost use Rattle.monk_hall.specs.Recorded.{HasRecorded};
 
     /// Signals a condition variable, in at most four steps. The first that waits on it becomes a waiter and the caller
     /// a signaller, and the scheduler step chooses among all of them; the wish is as at `leave`.
@@ -177,23 +155,7 @@ impl<K: Explicit, T: Guarded> Active<K, T> {
         ensures { StaysOrGrants K.rules T.meaning self
             (Event.Signal self.me.seat cond Next.Stay) pick result.0 hall.now result.1 }
     {
-        let chooses = self.serves(cond);
-        let mut active = self;
-        let known = active.look_for_entry(hall, chooses, pick);
-        active.record_signal(cond, pick, known).go_on(hall)
-    }
-
-    fn record_signal(self, cond: u8, pick: Pick, known: bool) -> Release<K, T>
-        requires cond { cond < self.me.setting.conds }
-        requires left { length self.me.mine + 3 ≤ self.me.setting.budget }
-        requires known { KnowsForChoice K.rules T.meaning self (Event.Signal self.me.seat cond Next.Stay) pick known }
-        ensures table { result.seat.table_id ≡ self.hall }
-        ensures recorded { HasRecorded K.rules T.meaning self
-            (λ n. Event.Signal n cond Next.Stay) pick known home.Inner result }
-    {
-        let mut release = Release::of(self);
-        release.choice = release.floor.signal(release.number, cond, pick, known);
-        release
+        self.plain_signal_quietly(hall, cond, pick)
     }
 }
 
@@ -208,7 +170,8 @@ impl<K: NonBlocking, T: Guarded> Active<K, T> {
         requires left { length self.old.me.mine + 2 ≤ self.old.me.setting.budget }
         ensures { HasDone K.rules T.meaning self.old (Event.Signal self.old.me.seat cond Next.Stay) self.new }
     {
-        self.floor.signal(self.number, cond, Pick::Signaller, false);
+        self.floor
+            .signal(self.numbers.seat, cond, Pick::Signaller, false);
     }
 
     /// Signals all who wait on a condition variable, and goes on. They become waiters in the order
@@ -219,7 +182,7 @@ impl<K: NonBlocking, T: Guarded> Active<K, T> {
         ensures done { HasDone K.rules T.meaning self.old (Event.SignalAll self.old.me.seat cond) self.new }
         ensures woke { result ≡ length (condition cond self.old.floor.history) }
     {
-        self.floor.signal_all(self.number, cond)
+        self.floor.signal_all(self.numbers.seat, cond)
     }
 }
 
@@ -253,26 +216,7 @@ impl<K: ImmediateReturn, T: Guarded> Active<K, T> {
         ensures { GrantsOut K.rules T.meaning self
             (Event.SignalLeave self.me.seat cond Next.Stay) pick result.0 hall.now result.1 }
     {
-        let mut active = self;
-        let known = active.look_for_entry(hall, true, pick);
-        active
-            .record_signal_leave(cond, pick, known)
-            .go_outside(hall)
-    }
-
-    fn record_signal_leave(self, cond: u8, pick: Pick, known: bool) -> Release<K, T>
-        requires cond { cond < self.me.setting.conds }
-        requires known { known ≡ is_entry_known pick self.me.known }
-        ensures table { result.seat.table_id ≡ self.hall }
-        ensures recorded { HasRecorded K.rules T.meaning self
-            (λ n. Event.SignalLeave n cond Next.Stay) pick known home.Idle result }
-        ensures away { is_stay (Some result.choice) ≡ false }
-    {
-        let mut release = Release::of(self);
-        release.choice = release
-            .floor
-            .signal_leave(release.number, cond, pick, known);
-        release
+        self.plain_signal_leave_quietly(hall, cond, pick)
     }
 
     /// Signals the first condition variable and then waits on the second, in at most four steps.
@@ -326,18 +270,15 @@ impl<K: ImmediateReturn, T: Guarded> Active<K, T> {
         let mut release = Release::of(self);
         release.choice = release
             .floor
-            .signal_wait(release.number, cond, wait_cond, pick, known);
+            .signal_wait(release.numbers.seat, cond, wait_cond, pick, known);
         release
     }
 }
 
 impl<K: Automatic, T: Guarded> Active<K, T> {
     ghost use Rattle.std.specs.Prelude.{◌≡◌, ◌+◌, ◌<◌, ◌≤◌, length};
-    ghost use Rattle.monk_world.specs.declared.home.Home.TheVariants as home;
     ghost use Rattle.monk_hall.specs.AfterCalls.{StaysOrParks};
-    ghost use Rattle.monk_hall.specs.Calls.{KnowsForChoice};
     ghost use Rattle.monk_hall.specs.Granting.{StaysOrGrants};
-    ghost use Rattle.monk_hall.specs.Recorded.{HasRecorded};
 
     /// Waits until a predicate holds of the data, in at most four steps. Where it holds at once the seat stays active
     /// and takes no step; else it is parked inside until it is chosen among those whose predicate holds. The scheduler
@@ -364,22 +305,6 @@ impl<K: Automatic, T: Guarded> Active<K, T> {
         ensures { StaysOrGrants K.rules T.meaning self
             (Event.Until self.me.seat pred Next.Stay) pick result.0 hall.now result.1 }
     {
-        let chooses = !self.holds(pred);
-        let mut active = self;
-        let known = active.look_for_entry(hall, chooses, pick);
-        active.record_until(pred, pick, known).go_on(hall)
-    }
-
-    fn record_until(self, pred: u8, pick: Pick, known: bool) -> Release<K, T>
-        requires pred { pred < T.PREDICATES }
-        requires left { length self.me.mine + 3 ≤ self.me.setting.budget }
-        requires known { KnowsForChoice K.rules T.meaning self (Event.Until self.me.seat pred Next.Stay) pick known }
-        ensures table { result.seat.table_id ≡ self.hall }
-        ensures recorded { HasRecorded K.rules T.meaning self
-            (λ n. Event.Until n pred Next.Stay) pick known home.Inner result }
-    {
-        let mut release = Release::of(self);
-        release.choice = release.floor.until(release.number, pred, pick, known);
-        release
+        self.plain_until_quietly(hall, pred, pick)
     }
 }

@@ -44,7 +44,7 @@ impl<K: Kind, T: Guarded> Parked<K, T> {
     {
         match self.place {
             Place::Ticket(ticket) => ticket_word(hall.seats, ticket),
-            _ => seat_word(self.number),
+            _ => seat_word(self.numbers.seat),
         }
     }
 

@@ -17,21 +17,6 @@ use monk_history::{Event, From3, Next};
 use monk_kinds::Rules;
 use std::alloc::{AllocError, Global};
 
-/// The event with this choice, if it is a release.
-fn with_next(event: Event, next: Next) -> Event
-    ensures { result ≡ with_next next event }
-{
-    match event {
-        Event::Leave(seat, _) => Event::Leave(seat, next),
-        Event::Wait(seat, cond, _) => Event::Wait(seat, cond, next),
-        Event::Signal(seat, cond, _) => Event::Signal(seat, cond, next),
-        Event::SignalLeave(seat, cond, _) => Event::SignalLeave(seat, cond, next),
-        Event::Until(seat, pred, _) => Event::Until(seat, pred, next),
-        Event::SignalWait(seat, cond, other, _) => Event::SignalWait(seat, cond, other, next),
-        _ => event,
-    }
-}
-
 /// The first seats of the queues that aren't empty.
 fn fronts(alloc: Global, lines: &Lines) -> Result<Vec<(From3, u8)>, AllocError>
     ensures { IfOk result (λ v. v.items ≡ fronts (lines_of lines.now)) }
@@ -96,7 +81,7 @@ fn may(
     let nexts = candidates(alloc, lines)?;
     let mut may = Vec::new(alloc);
     for next in &nexts {
-        if is_permitted(rules, lines, stays, with_next(event, *next)) {
+        if is_permitted(rules, lines, stays, event.with_next(*next)) {
             may.push(*next)?;
         }
     }

@@ -1,10 +1,11 @@
 //! The releases by the path of each mode: only the queues that the mode can have anybody in are asked.
-ghost use Rattle.std.specs.Prelude.{◌≡◌, ◌<◌, Bool, true, false, length};
+ghost use Rattle.std.specs.Prelude.{◌≡◌, ◌<◌, Bool, true, false, length, Some};
 ghost use Rattle.monk_kinds.specs.declared.mode.Pick.{Pick};
 ghost use Rattle.monk_history.specs.Meaning.Conditions.{condition};
 ghost use Rattle.monk_history.specs.Meaning.Counts.{left_of};
-ghost use Rattle.monk_history.specs.Meaning.Events.{has_conditions};
+ghost use Rattle.monk_history.specs.Meaning.Events.{has_conditions, next_of, seat_of, steps_back};
 ghost use Rattle.monk_history.specs.Meaning.Paths.{keeps_signallers};
+ghost use Rattle.monk_history.specs.Meaning.Release.{with_next};
 ghost use Rattle.monk_floor.specs.Chosen.{IsChosen, HasChosen};
 ghost use Rattle.monk_floor.specs.Grown.{IsGrown};
 ghost use Rattle.monk_floor.specs.Releases.{MayCallOn, IsReplyless, MakesNoSignaller, ServesNobody};
@@ -16,6 +17,17 @@ use monk_kinds::{
     Automatic, Conditional, Explicit, ImmediateReturn, Kind, Mode, NonBlocking, Pick, rules_of,
 };
 use monk_object::Guarded;
+
+/// The condition that an event signals, if its seat steps back into the signaller queue.
+#[inline(always)]
+fn signalled(event: Event) -> Option<u8>
+    ensures { result ≡ steps_back event }
+{
+    match event {
+        Event::Signal(_, cond, _) => Some(cond),
+        _ => None,
+    }
+}
 
 impl<K: Kind, T: Guarded> Floor<K, T> {
     /// Past the waiter queue alone, under a kind that keeps nobody in the signaller queue.
@@ -120,19 +132,61 @@ impl<K: Kind, T: Guarded> Floor<K, T> {
         Next::Stay
     }
 
-    /// What a leave or a wait chooses, by the path of the mode.
+    /// What a release under a blocking kind chooses.
+    #[inline(always)]
+    fn next_blocking(&self, event: Event, entry_known: bool, pick: Pick) -> Next
+        requires mode { K.rules.mode ≡ Mode.Blocking }
+        requires call { MayCallOn K.rules T.meaning self.now event }
+        requires release { next_of event ≡ Some Next.Stay }
+        ensures { IsChosen K.rules T.meaning self.now event entry_known pick result }
+    {
+        match signalled(event) {
+            Some(cond) => self.next_served(event.seat(), cond),
+            None => self.next_signaller(event, entry_known, pick),
+        }
+    }
+
+    /// What a release under a non-blocking kind chooses.
+    #[inline(always)]
+    fn next_non_blocking(&self, event: Event, entry_known: bool, pick: Pick) -> Next
+        requires mode { K.rules.mode ≡ Mode.NonBlocking }
+        requires call { MayCallOn K.rules T.meaning self.now event }
+        requires release { next_of event ≡ Some Next.Stay }
+        ensures { IsChosen K.rules T.meaning self.now event entry_known pick result }
+    {
+        match signalled(event) {
+            Some(cond) => self.next_staying(event.seat(), cond),
+            None => self.next_waiter(event, entry_known, pick),
+        }
+    }
+
+    /// What a release chooses, by the path of the mode.
+    #[inline(always)]
     fn next_past(&self, event: Event, entry_known: bool, pick: Pick) -> Next
         requires call { MayCallOn K.rules T.meaning self.now event }
-        requires release { ServesNobody T.meaning event }
+        requires release { next_of event ≡ Some Next.Stay }
         ensures { IsChosen K.rules T.meaning self.now event entry_known pick result }
     {
         match rules_of::<K>().mode {
-            Mode::Blocking => self.next_signaller(event, entry_known, pick),
-            Mode::NonBlocking => self.next_waiter(event, entry_known, pick),
+            Mode::Blocking => self.next_blocking(event, entry_known, pick),
+            Mode::NonBlocking => self.next_non_blocking(event, entry_known, pick),
             Mode::QuasiBlocking => self.next_equal(event, entry_known, pick),
             Mode::ImmediateReturn => self.next_waiter(event, entry_known, pick),
             Mode::Automatic => self.next_ready(event, entry_known, pick),
         }
+    }
+
+    /// Takes a release, as its caller knows it, by the path of the mode.
+    #[inline(always)]
+    fn release(&mut self, call: Event, pick: Pick, entry_known: bool) -> Next
+        requires call { MayCallOn K.rules T.meaning self.old call }
+        requires release { next_of call ≡ Some Next.Stay }
+        requires left { 0 < left_of self.old.budget self.old.history (seat_of call) }
+        ensures { HasChosen K.rules T.meaning self.old (λ n. with_next n call) entry_known pick result self.new }
+    {
+        let next = self.next_past(call, entry_known, pick);
+        self.append(call.with_next(next));
+        next
     }
 
     /// The active seat leaves the monitor: `plain_leave` by the path of the mode. Constant time;
@@ -143,9 +197,7 @@ impl<K: Kind, T: Guarded> Floor<K, T> {
         requires left { 0 < left_of self.old.budget self.old.history seat }
         ensures { HasChosen K.rules T.meaning self.old (Event.Leave seat) entry_known pick result self.new }
     {
-        let next = self.next_past(Event::Leave(seat, Next::Stay), entry_known, pick);
-        self.append(Event::Leave(seat, next));
-        next
+        self.release(Event::Leave(seat, Next::Stay), pick, entry_known)
     }
 }
 
@@ -156,28 +208,11 @@ impl<K: Conditional, T: Guarded> Floor<K, T> {
         requires left { 0 < left_of self.old.budget self.old.history seat }
         ensures { HasChosen K.rules T.meaning self.old (Event.Wait seat cond) entry_known pick result self.new }
     {
-        let next = self.next_past(Event::Wait(seat, cond, Next::Stay), entry_known, pick);
-        self.append(Event::Wait(seat, cond, next));
-        next
+        self.release(Event::Wait(seat, cond, Next::Stay), pick, entry_known)
     }
 }
 
 impl<K: Explicit, T: Guarded> Floor<K, T> {
-    /// What a signal chooses, by the path of the mode.
-    fn next_signal(&self, seat: u8, cond: u8, entry_known: bool, pick: Pick) -> Next
-        requires call { MayCallOn K.rules T.meaning self.now (Event.Signal seat cond Next.Stay) }
-        ensures { IsChosen K.rules T.meaning self.now (Event.Signal seat cond Next.Stay) entry_known pick result }
-    {
-        match rules_of::<K>().mode {
-            Mode::Blocking => self.next_served(seat, cond),
-            Mode::NonBlocking => self.next_staying(seat, cond),
-            Mode::QuasiBlocking => {
-                self.next_equal(Event::Signal(seat, cond, Next::Stay), entry_known, pick)
-            }
-            Mode::ImmediateReturn | Mode::Automatic => unreachable!(),
-        }
-    }
-
     /// The active seat signals a condition variable: `plain_signal` by the path of the mode.
     ///
     /// Under a non-blocking kind it stays, and no queue is asked. Under a blocking kind it hands over to the seat that
@@ -187,9 +222,7 @@ impl<K: Explicit, T: Guarded> Floor<K, T> {
         requires left { 0 < left_of self.old.budget self.old.history seat }
         ensures { HasChosen K.rules T.meaning self.old (Event.Signal seat cond) entry_known pick result self.new }
     {
-        let next = self.next_signal(seat, cond, entry_known, pick);
-        self.append(Event::Signal(seat, cond, next));
-        next
+        self.release(Event::Signal(seat, cond, Next::Stay), pick, entry_known)
     }
 }
 
@@ -214,13 +247,8 @@ impl<K: ImmediateReturn, T: Guarded> Floor<K, T> {
         requires left { 0 < left_of self.old.budget self.old.history seat }
         ensures { HasChosen K.rules T.meaning self.old (Event.SignalLeave seat cond) entry_known pick result self.new }
     {
-        let next = self.next_waiter(
-            Event::SignalLeave(seat, cond, Next::Stay),
-            entry_known,
-            pick,
-        );
-        self.append(Event::SignalLeave(seat, cond, next));
-        next
+        let call = Event::SignalLeave(seat, cond, Next::Stay);
+        self.release(call, pick, entry_known)
     }
 
     /// The active seat signals the first condition variable and then waits on the second: `plain_signal_wait` by the
@@ -238,13 +266,8 @@ impl<K: ImmediateReturn, T: Guarded> Floor<K, T> {
         ensures { HasChosen K.rules T.meaning self.old
             (Event.SignalWait seat cond wait_cond) entry_known pick result self.new }
     {
-        let next = self.next_waiter(
-            Event::SignalWait(seat, cond, wait_cond, Next::Stay),
-            entry_known,
-            pick,
-        );
-        self.append(Event::SignalWait(seat, cond, wait_cond, next));
-        next
+        let call = Event::SignalWait(seat, cond, wait_cond, Next::Stay);
+        self.release(call, pick, entry_known)
     }
 }
 
@@ -256,8 +279,6 @@ impl<K: Automatic, T: Guarded> Floor<K, T> {
         requires left { 0 < left_of self.old.budget self.old.history seat }
         ensures { HasChosen K.rules T.meaning self.old (Event.Until seat pred) entry_known pick result self.new }
     {
-        let next = self.next_ready(Event::Until(seat, pred, Next::Stay), entry_known, pick);
-        self.append(Event::Until(seat, pred, next));
-        next
+        self.release(Event::Until(seat, pred, Next::Stay), pick, entry_known)
     }
 }

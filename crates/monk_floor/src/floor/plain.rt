@@ -1,7 +1,9 @@
 //! The calls by the general scheduler step, which serve any kind that has them.
-ghost use Rattle.std.specs.Prelude.{◌≡◌, ◌<◌, length};
+ghost use Rattle.std.specs.Prelude.{◌≡◌, ◌<◌, length, Some};
 ghost use Rattle.monk_history.specs.Meaning.Conditions.{condition};
 ghost use Rattle.monk_history.specs.Meaning.Counts.{left_of};
+ghost use Rattle.monk_history.specs.Meaning.Events.{next_of, seat_of};
+ghost use Rattle.monk_history.specs.Meaning.Release.{with_next};
 ghost use Rattle.monk_floor.specs.Chosen.{HasChosen};
 ghost use Rattle.monk_floor.specs.Grown.{IsGrown};
 ghost use Rattle.monk_floor.specs.Releases.{MayCallOn};
@@ -12,6 +14,19 @@ use monk_kinds::{Kind, Pick};
 use monk_object::Guarded;
 
 impl<K: Kind, T: Guarded> Floor<K, T> {
+    /// Takes a release, as its caller knows it, by the general scheduler step.
+    #[inline(always)]
+    fn plain_release(&mut self, call: Event, pick: Pick, entry_known: bool) -> Next
+        requires call { MayCallOn K.rules T.meaning self.old call }
+        requires release { next_of call ≡ Some Next.Stay }
+        requires left { 0 < left_of self.old.budget self.old.history (seat_of call) }
+        ensures { HasChosen K.rules T.meaning self.old (λ n. with_next n call) entry_known pick result self.new }
+    {
+        let next = self.next_by(call, entry_known, pick);
+        self.append(call.with_next(next));
+        next
+    }
+
     /// The active seat leaves the monitor, by the general scheduler step.
     ///
     /// The step chooses who goes on, among the queues as they are after the release's own moves. The front of the
@@ -28,9 +43,7 @@ impl<K: Kind, T: Guarded> Floor<K, T> {
         requires left { 0 < left_of self.old.budget self.old.history seat }
         ensures { HasChosen K.rules T.meaning self.old (Event.Leave seat) entry_known pick result self.new }
     {
-        let next = self.next_by(Event::Leave(seat, Next::Stay), entry_known, pick);
-        self.append(Event::Leave(seat, next));
-        next
+        self.plain_release(Event::Leave(seat, Next::Stay), pick, entry_known)
     }
 
     /// The active seat waits on a condition variable, by the general scheduler step. It joins the back of that
@@ -40,9 +53,7 @@ impl<K: Kind, T: Guarded> Floor<K, T> {
         requires left { 0 < left_of self.old.budget self.old.history seat }
         ensures { HasChosen K.rules T.meaning self.old (Event.Wait seat cond) entry_known pick result self.new }
     {
-        let next = self.next_by(Event::Wait(seat, cond, Next::Stay), entry_known, pick);
-        self.append(Event::Wait(seat, cond, next));
-        next
+        self.plain_release(Event::Wait(seat, cond, Next::Stay), pick, entry_known)
     }
 
     /// The active seat signals a condition variable, by the general scheduler step. The first that waits on it joins
@@ -54,9 +65,7 @@ impl<K: Kind, T: Guarded> Floor<K, T> {
         requires left { 0 < left_of self.old.budget self.old.history seat }
         ensures { HasChosen K.rules T.meaning self.old (Event.Signal seat cond) entry_known pick result self.new }
     {
-        let next = self.next_by(Event::Signal(seat, cond, Next::Stay), entry_known, pick);
-        self.append(Event::Signal(seat, cond, next));
-        next
+        self.plain_release(Event::Signal(seat, cond, Next::Stay), pick, entry_known)
     }
 
     /// The active seat signals a condition variable and leaves the monitor, by the general scheduler step. It leaves
@@ -66,13 +75,8 @@ impl<K: Kind, T: Guarded> Floor<K, T> {
         requires left { 0 < left_of self.old.budget self.old.history seat }
         ensures { HasChosen K.rules T.meaning self.old (Event.SignalLeave seat cond) entry_known pick result self.new }
     {
-        let next = self.next_by(
-            Event::SignalLeave(seat, cond, Next::Stay),
-            entry_known,
-            pick,
-        );
-        self.append(Event::SignalLeave(seat, cond, next));
-        next
+        let call = Event::SignalLeave(seat, cond, Next::Stay);
+        self.plain_release(call, pick, entry_known)
     }
 
     /// The active seat signals the first condition variable and then waits on the second, by the general scheduler
@@ -92,13 +96,8 @@ impl<K: Kind, T: Guarded> Floor<K, T> {
         ensures { HasChosen K.rules T.meaning self.old
             (Event.SignalWait seat cond wait_cond) entry_known pick result self.new }
     {
-        let next = self.next_by(
-            Event::SignalWait(seat, cond, wait_cond, Next::Stay),
-            entry_known,
-            pick,
-        );
-        self.append(Event::SignalWait(seat, cond, wait_cond, next));
-        next
+        let call = Event::SignalWait(seat, cond, wait_cond, Next::Stay);
+        self.plain_release(call, pick, entry_known)
     }
 
     /// The active seat signals all who wait on a condition variable, and goes on. They join the
@@ -122,8 +121,6 @@ impl<K: Kind, T: Guarded> Floor<K, T> {
         requires left { 0 < left_of self.old.budget self.old.history seat }
         ensures { HasChosen K.rules T.meaning self.old (Event.Until seat pred) entry_known pick result self.new }
     {
-        let next = self.next_by(Event::Until(seat, pred, Next::Stay), entry_known, pick);
-        self.append(Event::Until(seat, pred, next));
-        next
+        self.plain_release(Event::Until(seat, pred, Next::Stay), pick, entry_known)
     }
 }

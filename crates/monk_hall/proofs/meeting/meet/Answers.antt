@@ -71,7 +71,7 @@ invariant_of-a g c =
     { steps = suc (the (top c.a.inside.badge.views)).steps } = ap the both
     ∙ ap (λ (v : View). record (the v) { steps = suc (the v).steps }) va in
     met_rests g.K.Kind.rules g.T.Guarded.meaning c.into_badge.result.table_id c.a.inside.badge.table_id
-    (top c.a.inside.badge.views) c.a.inside.number c.a.inside.left c.a.inside.calls c.a.inside.budget
+    (top c.a.inside.badge.views) c.a.inside.numbers c.a.inside.left
     (the (view_after_compare m))
     c.into_badge.result.views
     ia.1 ia.2 (c.into_badge.ensures.0 ∙ c.split_seat-second.ensures.0 ∙ c.load.ensures.0
@@ -92,7 +92,7 @@ invariant_of-b g c =
     let loaded : c.load.new.seat.me.0 ≡ view_after_compare m = ap (λ m. m.0) c.load.ensures.2.0 in
     let from_b : the (tail m) ≡ the (top c.b.inside.badge.views) = ap (λ (v : View). the (tail v)) both ∙ ap the vb in
     met_rests g.K.Kind.rules g.T.Guarded.meaning c.into_badge-2.result.table_id c.b.inside.badge.table_id
-    (top c.b.inside.badge.views) c.b.inside.number c.b.inside.left c.b.inside.calls c.b.inside.budget
+    (top c.b.inside.badge.views) c.b.inside.numbers c.b.inside.left
     (the (tail (view_after_compare m))) c.into_badge-2.result.views
     ib.1 ib.2 (c.into_badge-2.ensures.0 ∙ c.split_seat-second.ensures.3 ∙ c.load.ensures.0 ∙ c.join_seat.ensures.0
     ∙ c.lift-first.ensures.0 ∙ same_table)

@@ -13,8 +13,9 @@ invariant_of-self g c =
     let room =
     subst (λ (a : Holder). length a.me.mine + 2 ≤ a.me.setting.budget) (sym c.self.view_is) c.requires.left in
     let grown = subst (λ (f : FloorView). IsGrown g.K.Kind.rules g.T.Guarded.meaning f
-    (Act c.self.inside.number c.args.op c.act.result) c.act.new.self) c.deref_mut.ensures.shows c.act.ensures.grown in
-    grown_holds c.self.invariant (Act c.self.inside.number c.args.op c.act.result) refl refl refl grown.allowed
+    (Act c.self.inside.numbers.seat c.args.op c.act.result) c.act.new.self) c.deref_mut.ensures.shows
+    c.act.ensures.grown in
+    grown_holds c.self.invariant (Act c.self.inside.numbers.seat c.args.op c.act.result) refl refl refl grown.allowed
     room c.act.new.self grown.grown
 
 pub returns-clause-done : goal.returns-clause-done
@@ -28,4 +29,5 @@ returns-clause-done g c =
     n (λ grown. grown_does c.self.inside.seat.table_id r f c.act.new.self (Act r.seat c.args.op c.act.result) refl
     c.self.invariant.goes.legal grown.allowed grown.grown)
     (subst (λ (x : FloorView). IsGrown g.K.Kind.rules g.T.Guarded.meaning x
-    (Act c.self.inside.number c.args.op c.act.result) c.act.new.self) c.deref_mut.ensures.shows c.act.ensures.grown))
+    (Act c.self.inside.numbers.seat c.args.op c.act.result) c.act.new.self) c.deref_mut.ensures.shows
+    c.act.ensures.grown))

@@ -13,7 +13,8 @@ returns g c =
     let legal =
     subst (λ (f : FloorView). IsLegal (monitor_of g.K.Kind.rules g.T.Guarded.meaning f) f.history) (sym shows)
     inv.goes.legal in
-    ended g.K.Kind.rules g.T.Guarded.meaning c.args.self c.into_inner-floor.result c.self.inside.number c.leave.result
+    ended g.K.Kind.rules g.T.Guarded.meaning c.args.self c.into_inner-floor.result c.self.inside.numbers.seat
+    c.leave.result
     c.leave.new.self c.close-object.result.1.items (g.T.Guarded.state c.close-object.result.0)
     (sym (ap (λ (a : Holder). a.floor) c.self.view_is) ∙ sym shows)
     (sym (ap (λ (a : Holder). a.me.seat) c.self.view_is) ∙ inv.seated.is_seat)

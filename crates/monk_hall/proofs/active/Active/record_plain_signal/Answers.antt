@@ -11,7 +11,7 @@ plain_signal-release-requires-clause-call g c κs within =
     let x = shown_apart c.deref_mut.ensures.shows c.of-release.ensures in
     let h = x.holds in
     let f = c.deref_mut.result.now in
-    may_signal_on (monitor_of g.K.Kind.rules g.T.Guarded.meaning f) f.history c.of-release.result.number
+    may_signal_on (monitor_of g.K.Kind.rules g.T.Guarded.meaning f) f.history c.of-release.result.numbers.seat
     c.args.cond (owns h) (is_near h)
     (has_cond h c.args.cond c.args.self x.was c.requires.cond)
     (c.requires.mode)

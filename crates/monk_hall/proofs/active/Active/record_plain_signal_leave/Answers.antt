@@ -9,7 +9,7 @@ plain_signal_leave-release-requires-clause-call g c κs within =
     let x = shown_apart c.deref_mut.ensures.shows c.of-release.ensures in
     let h = x.holds in
     let f = c.deref_mut.result.now in
-    may_signal_leave (monitor_of g.K.Kind.rules g.T.Guarded.meaning f) f.history c.of-release.result.number
+    may_signal_leave (monitor_of g.K.Kind.rules g.T.Guarded.meaning f) f.history c.of-release.result.numbers.seat
     c.args.cond (owns h) (is_near h)
     (has_cond h c.args.cond c.args.self x.was c.requires.cond)
     (c.requires.mode)
@@ -33,5 +33,6 @@ pub returns-clause-away : goal.returns-clause-away
 returns-clause-away g c =
     let f = c.deref_mut.result.now in
     let call = c.plain_signal_leave-release in
-    signal_leave_goes (monitor_of g.K.Kind.rules g.T.Guarded.meaning f) f.history c.of-release.result.number c.args.cond
+    signal_leave_goes (monitor_of g.K.Kind.rules g.T.Guarded.meaning f) f.history c.of-release.result.numbers.seat
+    c.args.cond
     call.result call.ensures.grown.allowed

@@ -12,7 +12,7 @@ plain_until-release-requires-clause-call g c κs within =
     let x = shown_apart c.deref_mut.ensures.shows c.of-release.ensures in
     let h = x.holds in
     let f = c.deref_mut.result.now in
-    may_until (monitor_of g.K.Kind.rules g.T.Guarded.meaning f) f.history c.of-release.result.number
+    may_until (monitor_of g.K.Kind.rules g.T.Guarded.meaning f) f.history c.of-release.result.numbers.seat
     c.args.pred (owns h) (is_near h)
     (subst (λ n. c.args.pred < n) (sym g.T.Guarded.predicates) c.requires.pred)
     (ap not c.requires.mode)

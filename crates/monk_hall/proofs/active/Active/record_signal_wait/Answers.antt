@@ -1,5 +1,5 @@
-use Rattle.std.proofs.Common.{sym, ap, ◌∙◌}
-use Rattle.monk_history.specs.Meaning.Events.{returns_at_once}
+use Rattle.std.proofs.Common.{ap}
+use Rattle.monk_hall.proofs.KindLaws.{immediate}
 use Rattle.monk_history.proofs.PublicLaws.Meaning.{may_signal_wait}
 use Rattle.monk_floor.specs.View.{monitor_of}
 use Rattle.monk_hall.proofs.Boxed.{shown_apart}
@@ -11,12 +11,12 @@ signal_wait-release-requires-clause-call g c κs within =
     let x = shown_apart c.deref_mut.ensures.shows c.of-release.ensures in
     let h = x.holds in
     let f = c.deref_mut.result.now in
-    may_signal_wait (monitor_of g.K.Kind.rules g.T.Guarded.meaning f) f.history c.of-release.result.number
+    may_signal_wait (monitor_of g.K.Kind.rules g.T.Guarded.meaning f) f.history c.of-release.result.numbers.seat
     c.args.cond c.args.wait_cond (owns h) (is_near h)
     (has_cond h c.args.cond c.args.self x.was c.requires.cond)
     (has_cond h c.args.wait_cond c.args.self x.was c.requires.wait_cond)
-    (ap returns_at_once (sym (ap (λ r. r.mode) g.K.Kind.are_rules)
-    ∙ (g.met.K.ImmediateReturn g.world.𝓛 g.world.𝓜 g.world.𝓡 ((λ s x. x), (λ x. x), (λ x. x), λ x. x)).mode))
+    (immediate g.K.Kind.rules g.K.Kind.MODE (ap (λ r. r.mode) g.K.Kind.are_rules)
+    (g.met.K.ImmediateReturn g.world.𝓛 g.world.𝓜 g.world.𝓡 ((λ s x. x), (λ x. x), (λ x. x), λ x. x)).mode)
 
 pub returns-clause-recorded : goal.returns-clause-recorded
 returns-clause-recorded g c =
@@ -30,8 +30,8 @@ returns-clause-recorded g c =
       release = signals_and_waits h c.args.cond c.args.wait_cond
           (has_cond h c.args.cond c.args.self x.was c.requires.cond)
           (has_cond h c.args.wait_cond c.args.self x.was c.requires.wait_cond)
-          (ap returns_at_once (sym (ap (λ r. r.mode) g.K.Kind.are_rules)
-          ∙ (g.met.K.ImmediateReturn g.world.𝓛 g.world.𝓜 g.world.𝓡 ((λ s x. x), (λ x. x), (λ x. x), λ x. x)).mode))
+          (immediate g.K.Kind.rules g.K.Kind.MODE (ap (λ r. r.mode) g.K.Kind.are_rules)
+          (g.met.K.ImmediateReturn g.world.𝓛 g.world.𝓜 g.world.𝓡 ((λ s x. x), (λ x. x), (λ x. x), λ x. x)).mode)
           c.args.pick c.args.known call.result call.new.self c.args.self x.was c.requires.left (c.requires.known)
           call.ensures.choice call.ensures.grown;
     }
@@ -40,6 +40,6 @@ pub returns-clause-away : goal.returns-clause-away
 returns-clause-away g c =
     let f = c.deref_mut.result.now in
     let call = c.signal_wait-release in
-    signal_wait_goes (monitor_of g.K.Kind.rules g.T.Guarded.meaning f) f.history c.of-release.result.number
+    signal_wait_goes (monitor_of g.K.Kind.rules g.T.Guarded.meaning f) f.history c.of-release.result.numbers.seat
     c.args.cond c.args.wait_cond
     call.result call.ensures.grown.allowed

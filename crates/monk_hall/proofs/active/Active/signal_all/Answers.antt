@@ -13,9 +13,9 @@ invariant_of-self g c =
     let room =
     subst (λ (a : Holder). length a.me.mine + 2 ≤ a.me.setting.budget) (sym c.self.view_is) c.requires.left in
     let grown = subst (λ (f : FloorView). IsGrown g.K.Kind.rules g.T.Guarded.meaning f
-    (SignalAll c.self.inside.number c.args.cond) c.signal_all.new.self) c.deref_mut.ensures.shows
+    (SignalAll c.self.inside.numbers.seat c.args.cond) c.signal_all.new.self) c.deref_mut.ensures.shows
     c.signal_all.ensures.grown in
-    grown_holds c.self.invariant (SignalAll c.self.inside.number c.args.cond) refl refl refl grown.allowed
+    grown_holds c.self.invariant (SignalAll c.self.inside.numbers.seat c.args.cond) refl refl refl grown.allowed
     room c.signal_all.new.self grown.grown
 
 pub returns-clause-done : goal.returns-clause-done
@@ -28,5 +28,6 @@ returns-clause-done g c =
     (SignalAll r.seat c.args.cond) (holder c.self.inside.seat.table_id r c.signal_all.new.self))
     n (λ grown. grown_does c.self.inside.seat.table_id r f c.signal_all.new.self (SignalAll r.seat c.args.cond) refl
     c.self.invariant.goes.legal grown.allowed grown.grown)
-    (subst (λ (x : FloorView). IsGrown g.K.Kind.rules g.T.Guarded.meaning x (SignalAll c.self.inside.number c.args.cond)
+    (subst (λ (x : FloorView). IsGrown g.K.Kind.rules g.T.Guarded.meaning x
+    (SignalAll c.self.inside.numbers.seat c.args.cond)
     c.signal_all.new.self) c.deref_mut.ensures.shows c.signal_all.ensures.grown))

@@ -1,16 +1,8 @@
-use Rattle.std.proofs.Common.{true}
-use Rattle.monk_history.specs.declared.event.Event.TheVariants.{SignalLeave}
-use Rattle.monk_history.specs.declared.event.Next.TheVariants.{Stay}
-use Rattle.monk_world.specs.declared.home.Home.TheVariants as home
-use Rattle.monk_hall.specs.Calls.{peeks_of}
-use Rattle.monk_hall.proofs.ReleaseLaws.{released_after}
+use Rattle.std.proofs.Common.{ap}
+use Rattle.monk_hall.proofs.KindLaws.{immediate}
 use Rattle.monk_hall.proofs.active.Active.signal_leave_quietly.Goals as goal
 
-pub returns : goal.returns
-returns g c =
-    let look = c.look_for_entry-known in
-    released_after g.K.Kind.rules g.T.Guarded.meaning (λ n. SignalLeave n c.args.cond Stay) c.args.pick home.Idle
-    (peeks_of true c.args.pick) c.args.self look.new.self look.ensures.peeked
-    c.go_outside.result.0 _ c.go_outside.result.1
-    (c.go_outside.ensures look.new.self (λ n. SignalLeave n c.args.cond Stay) c.args.pick
-    look.result c.record_signal_leave.ensures.recorded)
+pub plain_signal_leave_quietly-requires-clause-mode : goal.plain_signal_leave_quietly-requires-clause-mode
+plain_signal_leave_quietly-requires-clause-mode g c κs within =
+    immediate g.K.Kind.rules g.K.Kind.MODE (ap (λ r. r.mode) g.K.Kind.are_rules)
+    (g.met.K.ImmediateReturn g.world.𝓛 g.world.𝓜 g.world.𝓡 ((λ s x. x), (λ x. x), (λ x. x), λ x. x)).mode

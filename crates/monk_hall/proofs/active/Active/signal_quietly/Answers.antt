@@ -1,18 +1,9 @@
-use Rattle.std.proofs.Common.{ap, subst}
-use Rattle.monk_history.specs.declared.event.Event.TheVariants.{Signal}
-use Rattle.monk_history.specs.declared.event.Next.TheVariants.{Stay}
-use Rattle.monk_world.specs.declared.home.Home.TheVariants as home
-use Rattle.monk_hall.specs.Calls.{HasPeeked, peeks_of}
-use Rattle.monk_hall.proofs.ReleaseLaws.{after_peeked}
+use Rattle.std.proofs.Common.{ap}
+use Rattle.monk_hall.proofs.KindLaws.{explicit}
 use Rattle.monk_hall.proofs.active.Active.signal_quietly.Goals as goal
 
-pub returns : goal.returns
-returns g c =
-    let look = c.look_for_entry-known in
-    after_peeked g.K.Kind.rules g.T.Guarded.meaning
-    (λ n. Signal n c.args.cond Stay) c.args.pick home.Inner _ c.args.self look.new.self
-    (subst (λ n. HasPeeked n c.args.self look.new.self)
-    (ap (λ b. peeks_of b c.args.pick) c.serves-chooses.ensures) look.ensures.peeked)
-    c.go_on.result.0 _ c.go_on.result.1
-    (c.go_on.ensures look.new.self (λ n. Signal n c.args.cond Stay) c.args.pick look.result
-    c.record_signal.ensures.recorded)
+pub plain_signal_quietly-requires-clause-mode : goal.plain_signal_quietly-requires-clause-mode
+plain_signal_quietly-requires-clause-mode g c κs within =
+    explicit g.K.Kind.rules g.K.Kind.MODE (ap (λ r. r.mode) g.K.Kind.are_rules)
+    (g.met.K.Conditional g.world.𝓛 g.world.𝓜 g.world.𝓡 ((λ s x. x), (λ x. x), (λ x. x), λ x. x)).not_automatic
+    (g.met.K.Explicit g.world.𝓛 g.world.𝓜 g.world.𝓡 ((λ s x. x), (λ x. x), (λ x. x), λ x. x)).not_immediate

@@ -16,7 +16,7 @@ use Rattle.monk_hall.proofs.active.Active.signal_stay.Goals as goal
 pub invariant_of-self : goal.invariant_of-self
 invariant_of-self g c =
     let f = c.deref_mut.result.now in let m = monitor_of g.K.Kind.rules g.T.Guarded.meaning f in
-    let n = c.self.inside.number in
+    let n = c.self.inside.numbers.seat in
     let legal = subst (λ (x : FloorView). IsLegal (monitor_of g.K.Kind.rules g.T.Guarded.meaning x) x.history)
     (sym c.deref_mut.ensures.shows) c.self.invariant.goes.legal in
     let stays : c.signal.result ≡ Stay = c.signal.ensures.choice
@@ -37,7 +37,7 @@ invariant_of-self g c =
 pub returns : goal.returns
 returns g c =
     let f = c.deref_mut.result.now in let m = monitor_of g.K.Kind.rules g.T.Guarded.meaning f in let n =
-    c.self.inside.number in let r = the c.self.inside.seat.me.0 in
+    c.self.inside.numbers.seat in let r = the c.self.inside.seat.me.0 in
     let legal = subst (λ (x : FloorView). IsLegal (monitor_of g.K.Kind.rules g.T.Guarded.meaning x) x.history)
     (sym c.deref_mut.ensures.shows) c.self.invariant.goes.legal in
     let stays : c.signal.result ≡ Stay = c.signal.ensures.choice

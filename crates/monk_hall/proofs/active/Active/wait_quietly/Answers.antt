@@ -1,16 +1,8 @@
-use Rattle.std.proofs.Common.{true}
-use Rattle.monk_history.specs.declared.event.Event.TheVariants.{Wait}
-use Rattle.monk_history.specs.declared.event.Next.TheVariants.{Stay}
-use Rattle.monk_world.specs.declared.home.Home.TheVariants as home
-use Rattle.monk_hall.specs.Calls.{peeks_of}
-use Rattle.monk_hall.proofs.ReleaseLaws.{released_after}
+use Rattle.std.proofs.Common.{ap}
+use Rattle.monk_hall.proofs.KindLaws.{conditional}
 use Rattle.monk_hall.proofs.active.Active.wait_quietly.Goals as goal
 
-pub returns : goal.returns
-returns g c =
-    let look = c.look_for_entry-known in
-    released_after g.K.Kind.rules g.T.Guarded.meaning (λ n. Wait n c.args.cond Stay) c.args.pick home.Inner
-    (peeks_of true c.args.pick) c.args.self look.new.self look.ensures.peeked
-    c.go_inside.result.0 _ c.go_inside.result.1
-    (c.go_inside.ensures look.new.self (λ n. Wait n c.args.cond Stay) c.args.pick look.result
-    c.record_wait.ensures.recorded)
+pub plain_wait_quietly-requires-clause-mode : goal.plain_wait_quietly-requires-clause-mode
+plain_wait_quietly-requires-clause-mode g c κs within =
+    conditional g.K.Kind.rules g.K.Kind.MODE (ap (λ r. r.mode) g.K.Kind.are_rules)
+    (g.met.K.Conditional g.world.𝓛 g.world.𝓜 g.world.𝓡 ((λ s x. x), (λ x. x), (λ x. x), λ x. x)).not_automatic

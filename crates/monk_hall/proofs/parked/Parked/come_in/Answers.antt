@@ -13,7 +13,7 @@ pub invariant_of-result : goal.invariant_of-result
 invariant_of-result g c =
     let out = c.floor_out-floor in
     let entered = subst (λ (f : FloorView). c.record_entry.new.floor
-    ≡ with_event f (out_event c.self.inside.number c.args.source (turn f.history))) c.deref_mut.ensures.shows
+    ≡ with_event f (out_event c.self.inside.numbers.seat c.args.source (turn f.history))) c.deref_mut.ensures.shows
     c.record_entry.ensures in
     entry_holds c.self.invariant.0 out.result c.record_entry.new.floor c.args.source out.ensures.finds
     (ap (λ (p : Token). p.me.place) c.self.view_is ∙ c.requires.due) entered out.new.seat.table_id
@@ -23,7 +23,7 @@ pub returns-clause-entered : goal.returns-clause-entered
 returns-clause-entered g c =
     let out = c.floor_out-floor in
     let entered = subst (λ (f : FloorView). c.record_entry.new.floor
-    ≡ with_event f (out_event c.self.inside.number c.args.source (turn f.history))) c.deref_mut.ensures.shows
+    ≡ with_event f (out_event c.self.inside.numbers.seat c.args.source (turn f.history))) c.deref_mut.ensures.shows
     c.record_entry.ensures in
     subst (λ (p : Token). HasEntered g.K.Kind.rules g.T.Guarded.meaning p
     (holder out.new.seat.table_id (the out.new.seat.me.0) c.record_entry.new.floor)) c.self.view_is

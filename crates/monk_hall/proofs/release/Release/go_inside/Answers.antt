@@ -24,7 +24,7 @@ invariant_of-parked g c =
     let gone = subst (λ (to : Home). HasGone (the c.args.self.seat.me.0) c.args.self.floor.history to (the now.me.0))
     (home_is x) c.go_home-granted.ensures.gone in
     let left = c.left-left.ensures
-    ∙ ap (λ (f : FloorView). left_of f.budget f.history c.args.self.number) c.deref.ensures in
+    ∙ ap (λ (f : FloorView). left_of f.budget f.history c.args.self.numbers.seat) c.deref.ensures in
     let rests = gone_rests x rec.holds.seated left now.table_id now.me c.go_home-granted.ensures.table gone
     c.go_home-granted.ensures.view in
     (rests.0, rests.2, sym rests.1, tt)
@@ -36,7 +36,7 @@ returns g c a call wish known rec =
     let gone = subst (λ (to : Home). HasGone (the c.args.self.seat.me.0) c.args.self.floor.history to (the now.me.0))
     (home_is x) c.go_home-granted.ensures.gone in
     let left = c.left-left.ensures
-    ∙ ap (λ (f : FloorView). left_of f.budget f.history c.args.self.number) c.deref.ensures in
+    ∙ ap (λ (f : FloorView). left_of f.budget f.history c.args.self.numbers.seat) c.deref.ensures in
     let told = (gone_rests x rec.holds.seated left now.table_id now.me c.go_home-granted.ensures.table gone
     c.go_home-granted.ensures.view).0.told in
     released_of call rec.holds rec.release c.requires.away _ c.go_home-granted.ensures.table gone told _ _

@@ -6,7 +6,7 @@ pub invariant_of-active : goal.invariant_of-active
 invariant_of-active g c =
     let known = c.requires.recorded in
     let x = known.recorded in
-    stays_holding (known.call c.args.self.number) x.holds x.release (sym c.is_stay.ensures ∙ c.if-is_stay.true)
+    stays_holding (known.call c.args.self.numbers.seat) x.holds x.release (sym c.is_stay.ensures ∙ c.if-is_stay.true)
     (room_inside x.holds x.release)
 
 pub returns-then-is_stay : goal.returns-then-is_stay

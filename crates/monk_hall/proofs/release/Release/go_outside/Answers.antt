@@ -28,16 +28,16 @@ invariant_of-pass g c =
     let gone = subst (λ (to : Home). HasGone (the c.args.self.seat.me.0) c.args.self.floor.history to (the now.me.0))
     (home_is x) c.go_home-granted.ensures.gone in
     let left = c.left-left.ensures
-    ∙ ap (λ (f : FloorView). left_of f.budget f.history c.args.self.number) c.deref.ensures in
+    ∙ ap (λ (f : FloorView). left_of f.budget f.history c.args.self.numbers.seat) c.deref.ensures in
     let rests = gone_rests x rec.holds.seated left c.into_badge.result.table_id now.me
     (view.0 ∙ c.go_home-granted.ensures.table) gone c.go_home-granted.ensures.view in
     let views : c.into_badge.result.views ≡ (the now.me.0 ∷ []) ∷ [] = view.2
     ∙ ap (λ m. m.0 ∷ []) c.go_home-granted.ensures.view in
-    let has = subst (λ m. IsResting g.K.Kind.rules g.T.Guarded.meaning c.into_badge.result.table_id m c.args.self.number
-    c.left-left.result c.args.self.calls c.args.self.budget) c.go_home-granted.ensures.view rests.0 in
+    let has = subst (λ m. IsResting g.K.Kind.rules g.T.Guarded.meaning c.into_badge.result.table_id m
+    c.args.self.numbers c.left-left.result) c.go_home-granted.ensures.view rests.0 in
     subst (λ (vs : List View). (vs ≡ top vs ∷ [])
-    × IsResting g.K.Kind.rules g.T.Guarded.meaning c.into_badge.result.table_id (top vs, []) c.args.self.number
-    c.left-left.result c.args.self.calls c.args.self.budget × ((the (top vs)).place ≡ Idle)) (sym views)
+    × IsResting g.K.Kind.rules g.T.Guarded.meaning c.into_badge.result.table_id (top vs, []) c.args.self.numbers
+    c.left-left.result × ((the (top vs)).place ≡ Idle)) (sym views)
     (refl, has, rests.1)
 
 pub returns : goal.returns
@@ -49,7 +49,7 @@ returns g c a call wish known rec =
     subst (λ (to : Home). HasGone r c.args.self.floor.history to (the now.me.0))
     (home_is x) c.go_home-granted.ensures.gone in
     let left = c.left-left.ensures
-    ∙ ap (λ (f : FloorView). left_of f.budget f.history c.args.self.number) c.deref.ensures in
+    ∙ ap (λ (f : FloorView). left_of f.budget f.history c.args.self.numbers.seat) c.deref.ensures in
     let rests = gone_rests x rec.holds.seated left c.into_badge.result.table_id now.me
     (view.0 ∙ c.go_home-granted.ensures.table) gone c.go_home-granted.ensures.view in
     let told =

@@ -1,0 +1,40 @@
+use Rattle.std.proofs.Common.{◌<◌, ◌++◌, ◌∷◌, [], ap, sym, subst, ◌∙◌}
+use Rattle.monk_history.specs.Meaning.Counts.{left_of}
+use Rattle.monk_history.specs.Meaning.Events.{seat_of}
+use Rattle.monk_history.specs.Meaning.Monitor.{data_after}
+use Rattle.monk_history.specs.Meaning.Reasons.{IsAllowed}
+use Rattle.monk_history.specs.Meaning.Release.{choice_of}
+use Rattle.monk_history.specs.declared.event.Event.{Event}
+use Rattle.monk_floor.specs.View.{monitor_of, stands_of}
+use Rattle.monk_floor.proofs.CallLaws.{as_it_was, keeps_data, same_seat}
+use Rattle.monk_floor.proofs.floor.Floor.release.Goals as goal
+
+pub append-requires-clause-allowed : goal.append-requires-clause-allowed
+append-requires-clause-allowed g c κs within =
+    subst (λ (e : Event). IsAllowed (monitor_of g.K.Kind.rules g.T.Guarded.meaning c.args.self.now)
+    c.args.self.now.history e) (sym c.with_next.ensures) c.next_past-next.ensures.allowed
+
+pub append-requires-clause-left : goal.append-requires-clause-left
+append-requires-clause-left g c κs within =
+    subst (λ s. 0 < left_of c.args.self.now.budget c.args.self.now.history s)
+    (sym (ap seat_of c.with_next.ensures ∙ same_seat c.args.call c.next_past-next.result)) c.requires.left
+
+pub append-requires-clause-still : goal.append-requires-clause-still
+append-requires-clause-still g c κs within d =
+    ap (data_after g.T.Guarded.meaning d) c.with_next.ensures
+    ∙ keeps_data g.T.Guarded.meaning c.args.call c.next_past-next.result c.requires.release d
+
+pub returns : goal.returns
+returns g c =
+    let old = c.args.self.now in
+    record {
+      choice = c.next_past-next.ensures.choice
+          ∙ ap (λ (e : Event). choice_of g.K.Kind.rules g.T.Guarded.meaning
+          (stands_of g.K.Kind.rules g.T.Guarded.meaning old) e c.args.entry_known c.args.pick)
+          (sym (as_it_was c.args.call c.requires.release));
+      grown = record {
+        allowed = c.next_past-next.ensures.allowed;
+        grown = c.append.ensures
+            ∙ ap (λ (e : Event). record old { history = old.history ++ e ∷ [] }) c.with_next.ensures;
+      };
+    }
