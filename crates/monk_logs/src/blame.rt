@@ -72,13 +72,13 @@ impl Blame {
     pub(crate) fn of_reason(reason: u8) -> Blame
         ensures { result ≡ blame_of reason }
     {
-        match reason {
-            Verdict::RANGE => Blame::Range,
-            Verdict::CALL => Blame::Call,
-            Verdict::TURN => Blame::Turn,
-            Verdict::PLACE => Blame::Place,
-            Verdict::REPLY => Blame::Reply,
-            _ => Blame::Choice,
+        match Reason::numbered(reason) {
+            Reason::Range => Blame::Range,
+            Reason::Call => Blame::Call,
+            Reason::Turn => Blame::Turn,
+            Reason::Place => Blame::Place,
+            Reason::Reply => Blame::Reply,
+            Reason::Choice => Blame::Choice,
         }
     }
 }

@@ -55,9 +55,9 @@ pub(crate) fn early_blame<T: Guarded>(
     ensures { result ≡ early_blame (monitor_in setting T.meaning) event }
 {
     match replay.call_reason(setting.rules, object, setting.conds, event) {
-        Verdict::RANGE => Some(Blame::Range),
-        Verdict::CALL => Some(Blame::Call),
-        _ => None,
+        Some(Reason::Range) => Some(Blame::Range),
+        Some(Reason::Call) => Some(Blame::Call),
+        Some(Reason::Turn | Reason::Place | Reason::Reply | Reason::Choice) | None => None,
     }
 }
 

@@ -74,8 +74,13 @@ impl Board {
         ensures { result ≡ reason_before 0 (monitor_in setting T.meaning)
             (sight (board_shown self.now (T.state object.now))) event }
     {
-        self.rest
-            .call_reason(setting.rules, object, setting.conds, event)
+        let found = self
+            .rest
+            .call_reason(setting.rules, object, setting.conds, event);
+        match found {
+            Some(reason) => reason.number(),
+            None => 0,
+        }
     }
 
     /// Whether nobody waits unserved on the condition.

@@ -47,7 +47,7 @@ pub(crate) fn served_reason<T: Guarded>(
     if permits(order, setting.rules, board, object, event, stays) {
         ALLOWED
     } else {
-        Verdict::CHOICE
+        Reason::Choice.number()
     }
 }
 
@@ -101,7 +101,7 @@ fn act<T: Guarded>(
         return Ok(early);
     }
     if !replies(object, event) {
-        return Ok(Verdict::REPLY);
+        return Ok(Reason::Reply.number());
     }
     board.serve(event)?;
     board.settle(setting.alloc, event, false)?;
